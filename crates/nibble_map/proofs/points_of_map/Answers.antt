@@ -1,0 +1,5 @@
+use Rattle.nibble_map.proofs.Edits.{points_of_map}
+use Rattle.nibble_map.proofs.points_of_map.Goals as goal
+
+pub returns : goal.returns
+returns g c = points_of_map _

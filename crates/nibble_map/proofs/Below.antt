@@ -8,7 +8,7 @@ use Rattle.nibble_map.specs.Lists.{is_prefix}
 use Rattle.nibble_map.specs.Maps.{NibbleMap, below}
 use Rattle.nibble_map.specs.Laws.{EditsBelow}
 use Rattle.nibble_map.proofs.Bridge.{alike, tied}
-use Rattle.nibble_map.proofs.Rising.{same}
+use Rattle.nibble_map.proofs.Sorted.{same}
 
 at : (t : List ℕ → Bool) (q e : List ℕ) → T (t e) → T (eq_by_cmp (slice_cmp nat_cmp) q e) → T (t q)
 at t q e h b = subst (λ l. T (t l)) (sym (same q e (tied _ b))) h

@@ -1,150 +1,144 @@
--- Insertions and removals, entry by entry.
-use Rattle.std.proofs.Common.{◌≡◌, ℕ, ◌≢◌, ◌↔◌, ◌⊎◌, inl, inr, Bool, true, false, cond, T, List, [], ◌∷◌, Option, Some, None, refl, sym, ap, ◌∙◌, subst, nat_cmp, is_lt, is_eq, unwrap_or, is_some}
-use Rattle.std.specs.Ordering.{eq_by_cmp}
-use Rattle.std.specs.Cmp.{tied_itself}
-use Rattle.std.specs.Cmp.Lexicographic.{slice_cmp}
-use Rattle.std.proofs.lemmas.Cmp.{nat_list_cmp_total}
-use Rattle.std.specs.FinMap as map
-use Rattle.std.specs.FinMap.{find, is_sorted}
-use Rattle.std.specs.FinMap.Entries.{below_all}
-use Rattle.nibble_map.specs.Lists.{Has, Lists, is_prefix}
-use Rattle.nibble_map.specs.Stored as stored
-use Rattle.nibble_map.specs.Stored.{IsSetAt, IsCutAt}
-use Rattle.nibble_map.specs.Maps.{IsPoint, IsReached, IsStored, NibbleMap}
-use Rattle.nibble_map.specs.Laws.{PointsOfMap, SwapsOfMap}
-use Rattle.nibble_map.proofs.Bridge.{first, second, above, tied, entries-retain_keys, insert_swap, found_swap, remove_swap, find_swap}
-use Rattle.nibble_map.proofs.Rising.{same, rising_of_sorted, sorted_of_rising, has_any, any_has}
+-- What one change of a node makes of the entries.
+use Rattle.std.proofs.Common.{◌≡◌, ℕ, suc, ◌≤◌, ◌≢◌, ◌⊎◌, ◌↔◌, List, [], ◌∷◌, ◌++◌, Option, Some, None, refl, ap, sym, subst, ◌∙◌, inl, inr, append_assoc, append-nil, arith}
+use Rattle.nibble_map.specs.Trees.{Forest, bare, grow, IsShaped, first}
+use Rattle.nibble_map.proofs.Cut.{cancel, cons_head}
+use Rattle.nibble_map.proofs.Shape.{Under, Under-headed, headed}
+use Rattle.nibble_map.proofs.Stems.{no_cons}
 
-same_Some : {A : Type 0} (x y : A) → Some x ≡ Some y → x ≡ y
-same_Some x y e = ap (λ o. unwrap_or o x) e
+-- the entry w stands at x, seen from the forest's place
+abbrev pub Holds : {P : Type 0} → Forest P → List ℕ → P → Type 0
+Holds bare x w = ⊥
+Holds (grow f o kids others) x w = Under f (λ y. ((y ≡ []) × (o ≡ Some w)) ⊎ Holds kids y w) x ⊎ Holds others x w
 
-not_None : {A : Type 0} (x : A) → None ≡ Some x → ⊥
-not_None x e = subst T (sym (ap is_some e)) tt
+-- the same in one tree
+abbrev pub Bears : {P : Type 0} → List ℕ → Option P → Forest P → List ℕ → P → Type 0
+Bears f o kids x w = Under f (λ y. ((y ≡ []) × (o ≡ Some w)) ⊎ Holds kids y w) x
 
-same_options : {A : Type 0} (o p : Option A) → ((w : A) → o ≡ Some w → p ≡ Some w) → ((w : A) → p ≡ Some w → o ≡ Some w) → o ≡ p
-same_options None None f g = refl
-same_options None (Some x) f g = g x refl
-same_options (Some x) p f g = sym (f x refl)
+-- at r, E' has what C says; elsewhere it has what E has
+abbrev pub Changes : {P : Type 0} → (List ℕ → P → Type 0) → (List ℕ → P → Type 0) → List ℕ → (P → Type 0) → Type 0
+Changes {P} E E' r C = (x : List ℕ) (w : P) → E' x w ↔ (((x ≡ r) × C w) ⊎ ((x ≢ r) × E x w))
 
-module _ {P : Type 0} where
-  before_has : (x y : List ℕ) (w : P) (es : List (List ℕ × P)) → T (below_all (slice_cmp nat_cmp) y es) → Has es (x, w) → T (is_lt (slice_cmp nat_cmp y x))
-  before_has x y w [] h i = absurd i
-  before_has x y w (e ∷ es) h (inl q) = subst (λ (z : List ℕ × P). T (is_lt (slice_cmp nat_cmp y z.0))) (sym q) (first _ _ h)
-  before_has x y w (e ∷ es) h (inr i) = before_has x y w es (second _ _ h) i
+pub Holds-headed : {P : Type 0} (low : ℕ) (k : Forest P) (x : List ℕ) (w : P) → IsShaped low k → Holds k x w → (a : ℕ) × (v : List ℕ) × (x ≡ a ∷ v) × (low ≤ a)
+Holds-headed low bare x w s i = absurd i
+Holds-headed low (grow f o kids others) x w s (inl u) = let r = Under-headed f _ x s.0 u in (first f, r.0, r.1, s.1)
+Holds-headed low (grow f o kids others) x w s (inr i) = let r = Holds-headed (suc (first f)) others x w s.4 i in (r.0, r.1, r.2, omega (arith, s.1, r.3))
 
-  found_has : (x : List ℕ) (w : P) (es : List (List ℕ × P)) → T (is_sorted (slice_cmp nat_cmp) es) → Has es (x, w) → find (slice_cmp nat_cmp) x es ≡ Some w
-  found_has x w [] h i = absurd i
-  found_has x w (e ∷ es) h (inl q) = ap (λ r. cond (is_eq r) (Some e.1) (find (slice_cmp nat_cmp) x es)) (ap (λ (z : List ℕ × P). slice_cmp nat_cmp x z.0) (sym q) ∙ tied_itself nat_list_cmp_total x) ∙ ap (λ (z : List ℕ × P). Some z.1) (sym q)
-  found_has x w (e ∷ es) h (inr i) =
-      ap (λ r. cond (is_eq r) (Some e.1) (find (slice_cmp nat_cmp) x es)) (above _ nat_list_cmp_total e.0 x (before_has x e.0 w es (first _ _ h) i)) ∙ found_has x w es (second _ _ h) i
+pub none_here : {P : Type 0} (low : ℕ) (k : Forest P) (w : P) → IsShaped low k → Holds k [] w → ⊥
+none_here low k w s h = let r = Holds-headed low k [] w s h in no_cons [] r.0 r.1 (sym r.2)
 
-  has_found : (x : List ℕ) (w : P) (es : List (List ℕ × P)) → find (slice_cmp nat_cmp) x es ≡ Some w → Has es (x, w)
-  has_found x w [] f = absurd (not_None w f)
-  has_found x w (e ∷ es) f = by (eq_by_cmp (slice_cmp nat_cmp) x e.0) refl f (has_found x w es)
-    where
-      by : (b : Bool) → eq_by_cmp (slice_cmp nat_cmp) x e.0 ≡ b → cond b (Some e.1) (find (slice_cmp nat_cmp) x es) ≡ Some w → (find (slice_cmp nat_cmp) x es ≡ Some w → Has es (x, w)) → Has (e ∷ es) (x, w)
-      by true t k later = inl (λ i. (same x e.0 (tied _ (subst T (sym t) tt)) i, sym (same_Some _ _ k) i))
-      by false t k later = inr (later k)
+-- a node without a pair and with one child bears what the two joined bear: split and merge
+pub merged : {P : Type 0} (f g : List ℕ) (p : Option P) (ls : Forest P) (x : List ℕ) (w : P) → Bears f None (grow g p ls bare) x w ↔ Bears (f ++ g) p ls x w
+merged f g p ls x w = (to, from)
+  where
+    to : Bears f None (grow g p ls bare) x w → Bears (f ++ g) p ls x w
+    to (y, e, inl n) = absurd (let i : None ≡ Some w = n.1 in cc i)
+    to (y, e, inr (inl (z, e', h))) = (z, e ∙ ap (λ v. f ++ v) e' ∙ sym (append_assoc f g z), h)
+    to (y, e, inr (inr h)) = absurd h
 
-  has_get : (m : NibbleMap P) (x : List ℕ) (w : P) → Has (map.entries m) (x, w) ↔ (map.get m x ≡ Some w)
-  has_get m x w = (λ i. map.get-entries m x ∙ found_has x w _ (map.entries_sorted m) i, λ e. has_found x w _ (sym (map.get-entries m x) ∙ e))
+    from : Bears (f ++ g) p ls x w → Bears f None (grow g p ls bare) x w
+    from (z, e, h) = (g ++ z, e ∙ append_assoc f g z, inr (inl (z, refl, h)))
 
-  -- a map that answers v at e, and otherwise as m does
-  at_insert : (x e : List ℕ) (v w : P) (o : Option P) → (cond (eq_by_cmp (slice_cmp nat_cmp) x e) (Some v) o ≡ Some w) ↔ (((x ≡ e) × (w ≡ v)) ⊎ ((x ≢ e) × (o ≡ Some w)))
-  at_insert x e v w o = by (eq_by_cmp (slice_cmp nat_cmp) x e) refl
-    where
-      by : (b : Bool) → eq_by_cmp (slice_cmp nat_cmp) x e ≡ b → (cond b (Some v) o ≡ Some w) ↔ (((x ≡ e) × (w ≡ v)) ⊎ ((x ≢ e) × (o ≡ Some w)))
-      by true t = let q : x ≡ e = same x e (tied _ (subst T (sym t) tt)) in (λ k. inl (q, sym (same_Some _ _ k)), λ s. elim s [ inl k ↦ ap (λ z. Some z) (sym k.1) | inr k ↦ absurd (k.0 q) ])
-      by false t =
-          let n : x ≢ e = (λ q. subst T (ap (λ l. eq_by_cmp (slice_cmp nat_cmp) x l) q ∙ t) (subst (λ r. T (is_eq r)) (sym (tied_itself nat_list_cmp_total x)) tt)) in
-          (λ k. inr (n, k), λ s. elim s [ inl k ↦ absurd (n k.0) | inr k ↦ k.1 ])
+-- a node's own pair
+pub own : {P : Type 0} (f : List ℕ) (o o' : Option P) (kids : Forest P) → IsShaped 0 kids → Changes (Bears f o kids) (Bears f o' kids) f (λ w. o' ≡ Some w)
+own {P} f o o' kids s x w = (to, from)
+  where
+    to : Bears f o' kids x w → ((x ≡ f) × (o' ≡ Some w)) ⊎ ((x ≢ f) × Bears f o kids x w)
+    to (y, e, inl n) = inl (e ∙ ap (λ v. f ++ v) n.0 ∙ append-nil f, n.1)
+    to (y, e, inr h) = inr ((λ i. none_here 0 kids w s (subst (λ v. Holds kids v w) (cancel f y [] (sym e ∙ i ∙ sym (append-nil f))) h)), (y, e, inr h))
 
-  at_remove : (x e : List ℕ) (w : P) (o : Option P) → (cond (eq_by_cmp (slice_cmp nat_cmp) x e) None o ≡ Some w) ↔ ((x ≢ e) × (o ≡ Some w))
-  at_remove x e w o = by (eq_by_cmp (slice_cmp nat_cmp) x e) refl
-    where
-      by : (b : Bool) → eq_by_cmp (slice_cmp nat_cmp) x e ≡ b → (cond b None o ≡ Some w) ↔ ((x ≢ e) × (o ≡ Some w))
-      by true t = let q : x ≡ e = same x e (tied _ (subst T (sym t) tt)) in (λ k. absurd (not_None w k), λ k. absurd (k.0 q))
-      by false t =
-          let n : x ≢ e = (λ q. subst T (ap (λ l. eq_by_cmp (slice_cmp nat_cmp) x l) q ∙ t) (subst (λ r. T (is_eq r)) (sym (tied_itself nat_list_cmp_total x)) tt)) in
-          (λ k. (n, k), λ k. k.1)
+    from : (((x ≡ f) × (o' ≡ Some w)) ⊎ ((x ≢ f) × Bears f o kids x w)) → Bears f o' kids x w
+    from (inl n) = ([], n.0 ∙ sym (append-nil f), inl (refl, n.1))
+    from (inr (n, (y, e, inl m))) = absurd (n (e ∙ ap (λ v. f ++ v) m.0 ∙ append-nil f))
+    from (inr (n, (y, e, inr h))) = (y, e, inr h)
 
-  get_insert : (m : NibbleMap P) (e : List ℕ) (v : P) (x : List ℕ) (w : P) → (map.get (map.insert m e v) x ≡ Some w) ↔ (((x ≡ e) × (w ≡ v)) ⊎ ((x ≢ e) × Has (map.entries m) (x, w)))
-  get_insert m e v x w =
-      let a = at_insert x e v w (map.get m x) in
-      let g = map.get-insert nat_list_cmp_total m e v x in
-      let h = has_get m x w in
-      (λ k. elim (a.0 (sym g ∙ k)) [ inl s ↦ inl s | inr s ↦ inr (s.0, h.1 s.1) ], λ s. g ∙ a.1 (elim s [ inl k ↦ inl k | inr k ↦ inr (k.0, h.0 k.1) ]))
+-- a change among the children
+pub lifted : {P : Type 0} (f : List ℕ) (o : Option P) (kids kids' : Forest P) (r : List ℕ) (C : P → Type 0) → r ≢ [] →
+    Changes (Holds kids) (Holds kids') r C → Changes (Bears f o kids) (Bears f o kids') (f ++ r) C
+lifted f o kids kids' r C n c x w = (to, from)
+  where
+    to : Bears f o kids' x w → ((x ≡ f ++ r) × C w) ⊎ ((x ≢ f ++ r) × Bears f o kids x w)
+    to (y, e, inl m) = inr ((λ i. n (sym (cancel f y r (sym e ∙ i)) ∙ m.0)), (y, e, inl m))
+    to (y, e, inr h) = elim ((c y w).0 h) [
+      | inl k ↦ inl (e ∙ ap (λ v. f ++ v) k.0, k.1)
+      | inr k ↦ inr ((λ i. k.0 (cancel f y r (sym e ∙ i))), (y, e, inr k.1))
+    ]
 
-  get_remove : (m : NibbleMap P) (e x : List ℕ) (w : P) → (map.get (map.remove m e) x ≡ Some w) ↔ ((x ≢ e) × Has (map.entries m) (x, w))
-  get_remove m e x w =
-      let a = at_remove x e w (map.get m x) in
-      let g = map.get-remove nat_list_cmp_total m e x in
-      let h = has_get m x w in
-      (λ k. let s = a.0 (sym g ∙ k) in (s.0, h.1 s.1), λ s. g ∙ a.1 (s.0, h.0 s.1))
+    from : (((x ≡ f ++ r) × C w) ⊎ ((x ≢ f ++ r) × Bears f o kids x w)) → Bears f o kids' x w
+    from (inl k) = (r, k.0, inr ((c r w).1 (inl (refl, k.1))))
+    from (inr (m, (y, e, inl k))) = (y, e, inl k)
+    from (inr (m, (y, e, inr h))) = (y, e, inr ((c y w).1 (inr ((λ i. m (e ∙ ap (λ v. f ++ v) i)), h))))
 
-  set_at : (m : NibbleMap P) (e : List ℕ) (v : P) → IsSetAt (map.entries m) e v (map.entries (map.insert m e v))
-  set_at m e v = record {
-    rising = rising_of_sorted _ (map.entries_sorted (map.insert m e v));
-    exactly = λ x w. let h = has_get (map.insert m e v) x w in let g = get_insert m e v x w in (λ i. g.0 (h.0 i), λ s. h.1 (g.1 s));
-  }
+-- a change in the first tree, at a list that begins as its fragment does
+pub in_tree : {P : Type 0} (f : List ℕ) (o : Option P) (kids : Forest P) (g : List ℕ) (p : Option P) (ls others : Forest P) (b : ℕ) (r : List ℕ) (C : P → Type 0) →
+    IsShaped (suc b) others → Changes (Bears f o kids) (Bears g p ls) (b ∷ r) C →
+    Changes (Holds (grow f o kids others)) (Holds (grow g p ls others)) (b ∷ r) C
+in_tree f o kids g p ls others b r C s c x w = (to, from)
+  where
+    apart : Holds others x w → x ≢ b ∷ r
+    apart h i = let a = Holds-headed (suc b) others x w s h in omega (arith, cons_head (sym i ∙ a.2), a.3)
 
-  cut_at : (m : NibbleMap P) (e : List ℕ) → IsCutAt (map.entries m) e (map.entries (map.remove m e))
-  cut_at m e = record {
-    rising = rising_of_sorted _ (map.entries_sorted (map.remove m e));
-    exactly = λ x w. let h = has_get (map.remove m e) x w in let g = get_remove m e x w in (λ i. g.0 (h.0 i), λ s. h.1 (g.1 s));
-  }
+    to : Holds (grow g p ls others) x w → ((x ≡ b ∷ r) × C w) ⊎ ((x ≢ b ∷ r) × Holds (grow f o kids others) x w)
+    to (inl h) = elim ((c x w).0 h) [ inl k ↦ inl k | inr k ↦ inr (k.0, inl k.1) ]
+    to (inr h) = inr (apart h, inr h)
 
-  insert_is : (m n : NibbleMap P) (e : List ℕ) (v : P) → IsSetAt (map.entries m) e v (map.entries n) → n ≡ map.insert m e v
-  insert_is m n e v s = map.same_map nat_list_cmp_total same n (map.insert m e v) (λ x. same_options _ _
-      (λ w k. (get_insert m e v x w).1 ((s.exactly x w).0 ((has_get n x w).1 k)))
-      (λ w k. (has_get n x w).0 ((s.exactly x w).1 ((get_insert m e v x w).0 k))))
+    from : (((x ≡ b ∷ r) × C w) ⊎ ((x ≢ b ∷ r) × Holds (grow f o kids others) x w)) → Holds (grow g p ls others) x w
+    from (inl k) = inl ((c x w).1 (inl k))
+    from (inr (n, inl h)) = inl ((c x w).1 (inr (n, h)))
+    from (inr (n, inr h)) = inr h
 
-  remove_is : (m n : NibbleMap P) (e : List ℕ) → IsCutAt (map.entries m) e (map.entries n) → n ≡ map.remove m e
-  remove_is m n e s = map.same_map nat_list_cmp_total same n (map.remove m e) (λ x. same_options _ _
-      (λ w k. (get_remove m e x w).1 ((s.exactly x w).0 ((has_get n x w).1 k)))
-      (λ w k. (has_get n x w).0 ((s.exactly x w).1 ((get_remove m e x w).0 k))))
+-- a change in the others, at a list that begins otherwise
+pub in_others : {P : Type 0} (f : List ℕ) (o : Option P) (kids others others' : Forest P) (b : ℕ) (r : List ℕ) (C : P → Type 0) →
+    f ≢ [] → first f ≢ b → Changes (Holds others) (Holds others') (b ∷ r) C →
+    Changes (Holds (grow f o kids others)) (Holds (grow f o kids others')) (b ∷ r) C
+in_others f o kids others others' b r C n ne c x w = (to, from)
+  where
+    apart : Bears f o kids x w → x ≢ b ∷ r
+    apart h i = let a = Under-headed f _ x n h in ne (cons_head (sym a.1 ∙ i))
 
-  stored_lists : (m : NibbleMap P) → Lists (IsStored m) (map.keys m)
-  stored_lists m = record {
-    rising = rising_of_sorted _ (map.entries_sorted m);
-    exactly = λ p. (λ i. subst T (sym (map.contains_key-keys m p)) (any_has p _ i), λ t. has_any p _ (subst T (map.contains_key-keys m p) t));
-  }
+    to : Holds (grow f o kids others') x w → ((x ≡ b ∷ r) × C w) ⊎ ((x ≢ b ∷ r) × Holds (grow f o kids others) x w)
+    to (inl h) = inr (apart h, inl h)
+    to (inr h) = elim ((c x w).0 h) [ inl k ↦ inl k | inr k ↦ inr (k.0, inr k.1) ]
 
-module _ {P : Type 0} (m : NibbleMap P) where
-  held : (e : List ℕ) → stored.IsStored (map.entries m) e ↔ IsStored m e
-  held e = (stored_lists m).exactly e
+    from : (((x ≡ b ∷ r) × C w) ⊎ ((x ≢ b ∷ r) × Holds (grow f o kids others) x w)) → Holds (grow f o kids others') x w
+    from (inl k) = inr ((c x w).1 (inl k))
+    from (inr (m, inl h)) = inl h
+    from (inr (m, inr h)) = inr ((c x w).1 (inr (m, h)))
 
-  reached : (p : List ℕ) → IsReached m p → stored.IsReached (map.entries m) p
-  reached p (e, h, i) = (e, (held e).1 h, i)
+-- a new leaf
+pub new_leaf : {P : Type 0} (k : Forest P) (b : ℕ) (r : List ℕ) (v : P) → IsShaped (suc b) k →
+    Changes (Holds k) (Holds (grow (b ∷ r) (Some v) bare k)) (b ∷ r) (λ w. w ≡ v)
+new_leaf {P} k b r v s x w = (to, from)
+  where
+    same : {c d : P} → Some c ≡ Some d → d ≡ c
+    same e = cc
 
-  reaches : (p : List ℕ) → stored.IsReached (map.entries m) p → IsReached m p
-  reaches p (e, h, i) = (e, (held e).0 h, i)
+    to : Holds (grow (b ∷ r) (Some v) bare k) x w → ((x ≡ b ∷ r) × (w ≡ v)) ⊎ ((x ≢ b ∷ r) × Holds k x w)
+    to (inl (y, e, inl m)) = inl (e ∙ ap (λ u. b ∷ (r ++ u)) m.0 ∙ append-nil (b ∷ r), same m.1)
+    to (inl (y, e, inr h)) = absurd h
+    to (inr h) = inr ((λ i. let a = Holds-headed (suc b) k x w s h in omega (arith, cons_head (sym i ∙ a.2), a.3)), h)
 
-  point : (p : List ℕ) → IsPoint m p → stored.IsPoint (map.entries m) p
-  point p (inl e) = inl e
-  point p (inr (inl h)) = inr (inl ((held p).1 h))
-  point p (inr (inr (a, b, n, r, s))) = inr (inr (a, b, n, reached _ r, reached _ s))
+    from : (((x ≡ b ∷ r) × (w ≡ v)) ⊎ ((x ≢ b ∷ r) × Holds k x w)) → Holds (grow (b ∷ r) (Some v) bare k) x w
+    from (inl m) = inl ([], m.0 ∙ sym (append-nil (b ∷ r)), inl (refl, ap (λ c. Some c) (sym m.1)))
+    from (inr m) = inr m.1
 
-  points : (p : List ℕ) → stored.IsPoint (map.entries m) p → IsPoint m p
-  points p (inl e) = inl e
-  points p (inr (inl h)) = inr (inl ((held p).0 h))
-  points p (inr (inr (a, b, n, r, s))) = inr (inr (a, b, n, reaches _ r, reaches _ s))
+-- a leaf taken away
+pub no_leaf : {P : Type 0} (f : List ℕ) (o : Option P) (others : Forest P) → f ≢ [] → IsShaped (suc (first f)) others →
+    Changes (Holds (grow f o bare others)) (Holds others) f (λ w. ⊥)
+no_leaf f o others n s x w = (to, from)
+  where
+    to : Holds others x w → ((x ≡ f) × ⊥) ⊎ ((x ≢ f) × Holds (grow f o bare others) x w)
+    to h = inr ((λ i. let a = Holds-headed (suc (first f)) others x w s h in let c = headed f n in omega (arith, cons_head (sym c.1 ∙ sym i ∙ a.2), a.3)), inr h)
 
-pub points_of_map : (P : Type 0) → PointsOfMap P
-points_of_map P = record {
-  stored_lists = stored_lists;
-  point_is = λ m p. (point m p, points m p);
-  walk_is = λ m p. entries-retain_keys _ nat_list_cmp_total same m (is_prefix p);
-  set_at = set_at;
-  cut_at = cut_at;
-  insert_is = insert_is;
-  remove_is = remove_is;
-}
+    from : (((x ≡ f) × ⊥) ⊎ ((x ≢ f) × Holds (grow f o bare others) x w)) → Holds others x w
+    from (inl m) = absurd m.1
+    from (inr (m, inl (y, e, inl k))) = absurd (m (e ∙ ap (λ u. f ++ u) k.0 ∙ append-nil f))
+    from (inr (m, inl (y, e, inr h))) = absurd h
+    from (inr (m, inr h)) = h
 
-pub swaps_of_map : (P : Type 0) → SwapsOfMap P
-swaps_of_map P = record {
-  inserted = λ p was x old new g h s. insert_swap _ nat_list_cmp_total p was x old new s (sorted_of_rising old g) (sorted_of_rising new h);
-  old_pair = λ p was x old new g h s. map.get-from_sorted _ old p (sorted_of_rising old g) ∙ found_swap _ nat_list_cmp_total same p was x old new s (sorted_of_rising old g) (sorted_of_rising new h);
-  removed = λ p x old new g s. remove_swap _ nat_list_cmp_total same p x old new s (sorted_of_rising old g);
-  removed_pair = λ p x old new g s. map.get-from_sorted _ old p (sorted_of_rising old g) ∙ find_swap _ nat_list_cmp_total p x old new s (sorted_of_rising old g);
-}
+-- a change between lists that bear the same
+pub Changes-same : {P : Type 0} (D E E' F : List ℕ → P → Type 0) (r : List ℕ) (C : P → Type 0) →
+    ((x : List ℕ) (w : P) → D x w ↔ E x w) → Changes E E' r C → ((x : List ℕ) (w : P) → E' x w ↔ F x w) → Changes D F r C
+Changes-same D E E' F r C h c k x w = (
+  (λ i. elim ((c x w).0 ((k x w).1 i)) [ inl m ↦ inl m | inr m ↦ inr (m.0, (h x w).1 m.1) ]),
+  (λ i. (k x w).0 ((c x w).1 (elim i [ inl m ↦ inl m | inr m ↦ inr (m.0, (h x w).0 m.1) ]))),
+)

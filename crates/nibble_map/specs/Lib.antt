@@ -5,3 +5,7 @@ pub mod Queries
 pub mod Maps
 pub mod Laws
 pub mod Swaps
+pub mod Trees
+pub mod Canonical
+pub mod Computed
+pub mod Rows

@@ -1,5 +1,5 @@
 -- The finite map that a trie is seen as, and what is said of it.
-use Rattle.std.specs.Prelude.{ℕ, T, List, Option, Some, None, ◌≡◌, ◌≢◌, ◌⊎◌, ◌∷◌, ◌++◌, []}
+use Rattle.std.specs.Prelude.{ℕ, T, List, Option, ◌≡◌, ◌≢◌, ◌⊎◌, ◌∷◌, ◌++◌, []}
 use Rattle.std.specs.Coded.{Coded, coded_ℕ, coded_list, coded×}
 use Rattle.std.specs.Option.{option_map}
 use Rattle.std.specs.Ordering.{nat_cmp}

@@ -1,4 +1,4 @@
-use Rattle.nibble_map.proofs.Edits.{points_of_map}
+use Rattle.nibble_map.proofs.MapEdits.{points_of_map}
 use Rattle.nibble_map.proofs.points_of_map.Goals as goal
 
 pub returns : goal.returns

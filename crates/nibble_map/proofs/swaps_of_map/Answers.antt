@@ -1,4 +1,4 @@
-use Rattle.nibble_map.proofs.Edits.{swaps_of_map}
+use Rattle.nibble_map.proofs.MapEdits.{swaps_of_map}
 use Rattle.nibble_map.proofs.swaps_of_map.Goals as goal
 
 pub returns : goal.returns

@@ -1,8 +1,11 @@
 pub mod Lists
 pub mod Nibbles
+pub mod Points
+pub mod Answers
 pub mod Stored
 pub mod Queries
 pub mod Maps
+pub mod MapQueries
 pub mod Laws
 pub mod Swaps
 pub mod Trees

@@ -6,7 +6,6 @@ pub mod Stored
 pub mod Queries
 pub mod Maps
 pub mod MapQueries
-pub mod Laws
 pub mod Swaps
 pub mod Trees
 pub mod Canonical

@@ -3,5 +3,6 @@
 #![tactic(auto)]
 
 pub mod map_laws;
+pub mod query_laws;
 pub mod tree_laws;
 pub mod worked_rows;

@@ -46,7 +46,7 @@ pub fn row_seven()
     ensures nine_a { raw_descendant nine (nibbles (codes "a")) ≡ Some (nibbles (codes "abc")) }
     ensures nine_abc { raw_descendant nine (nibbles (codes "abc")) ≡ Some (nibbles (codes "abc")) }
     ensures nine_abca { raw_descendant nine (nibbles (codes "abca")) ≡ Some (nibbles (codes "abcaaaa")) }
-    ensures seventeen { raw_ancestor seventeen (nibbles (codes "abd")) ≡ Some (6 ∷ (1 ∷ (6 ∷ (2 ∷ (6 ∷ []))))) }
+    ensures seventeen { raw_ancestor seventeen (nibbles (codes "abd")) ≡ 6 ∷ (1 ∷ (6 ∷ (2 ∷ (6 ∷ [])))) }
     ensures its_kids { length (kids seventeen (6 ∷ (1 ∷ (6 ∷ (2 ∷ (6 ∷ [])))))) ≡ 3 }
     ensures part { fragment seven (nibbles (codes "abc")) ≡ 3 ∷ [] }
 {}

@@ -96,7 +96,7 @@ module _ (S : List ℕ → Type 0) where
   not_empty : (p z : List ℕ) (a : ℕ) (u : List ℕ) → p ≡ z ++ a ∷ u → p ≢ []
   not_empty p z a u e i = let k = ap length e ∙ length-append z (a ∷ u) in let j = ap length i in omega (arith, k, j)
 
-  reached_past : (p z : List ℕ) (a : ℕ) (u : List ℕ) → p ≡ z ++ a ∷ u → IsPoint S p → IsReached S p
+  pub reached_past : (p z : List ℕ) (a : ℕ) (u : List ℕ) → p ≡ z ++ a ∷ u → IsPoint S p → IsReached S p
   reached_past p z a u e h = elim (point_reached p h) [ inl i ↦ absurd (not_empty p z a u e i) | inr r ↦ r ]
 
   -- the shortest point at or below e leads to each of them

@@ -17,7 +17,7 @@ use Rattle.nibble_map.specs.Swaps.{Swaps, entry}
 use Rattle.nibble_map.proofs.Bridge.{first, second, above, tied, entries-remove, entries-retain_keys, insert_swap, found_swap, remove_swap, find_swap}
 use Rattle.nibble_map.proofs.Sorted.{same, rising_of_sorted, sorted_of_rising, has_any, any_has}
 
-same_Some : {A : Type 0} (x y : A) → Some x ≡ Some y → x ≡ y
+pub same_Some : {A : Type 0} (x y : A) → Some x ≡ Some y → x ≡ y
 same_Some x y e = ap (λ o. unwrap_or o x) e
 
 not_None : {A : Type 0} (x : A) → None ≡ Some x → ⊥

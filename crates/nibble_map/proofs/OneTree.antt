@@ -1,5 +1,5 @@
 -- A map has one canonical tree.
-use Rattle.std.proofs.Common.{◌≡◌, ℕ, ◌≤◌, ◌*◌, ◌↔◌, List, [], ◌∷◌, length, max, Option, Some, None, option_map, refl, sym, ap, subst, ◌∙◌, inl, inr, nat_cmp}
+use Rattle.std.proofs.Common.{◌≡◌, ℕ, ◌≤◌, ◌*◌, ◌↔◌, List, [], ◌∷◌, length, max, Option, Some, None, option_map, refl, sym, ap, subst, ◌∙◌, inl, nat_cmp}
 use Rattle.std.specs.List.{cons_option}
 use Rattle.std.specs.Cmp.Lexicographic.{slice_cmp}
 use Rattle.std.specs.FinMap as map
@@ -130,15 +130,6 @@ cons_first x y xs ys e = cc
 
 cons_rest : {A : Type 0} (x y : A) (xs ys : List A) → x ∷ xs ≡ y ∷ ys → xs ≡ ys
 cons_rest x y xs ys e = cc
-
-paths_of_parts : {P : Type 0} (ns ks : List (Node P)) → parts_of ns ≡ parts_of ks → paths ns ≡ paths ks
-paths_of_parts [] [] e = refl
-paths_of_parts [] (k ∷ ks) e = absurd (let i : [] ≡ (k.path, k.fragment) ∷ parts_of ks = e in cc i)
-paths_of_parts (n ∷ ns) [] e = absurd (let i : (n.path, n.fragment) ∷ parts_of ns ≡ [] = e in cc i)
-paths_of_parts (n ∷ ns) (k ∷ ks) e = joined (ap (λ (z : List ℕ × List ℕ). z.0) (cons_first _ _ _ _ e)) (paths_of_parts ns ks (cons_rest _ _ _ _ e))
-  where
-    joined : {xs ys : List (List ℕ)} → n.path ≡ k.path → xs ≡ ys → n.path ∷ xs ≡ k.path ∷ ys
-    joined i j = cc
 
 -- a first pair isn't among later nodes' pairs
 not_later : {P : Type 0} (n : Node P) (ns : List (Node P)) (p : List ℕ) (v : P) (es : List (List ℕ × P)) → IsRising (paths (n ∷ ns)) → n.path ≡ p → entries ns ≡ (p, v) ∷ es → ⊥

@@ -1,7 +1,7 @@
 //! Laws of points and of the answers of queries.
 
 ghost use Rattle.nibble_map.specs.Computed as computed;
-ghost use Rattle.nibble_map.specs.Lists.{IsPrefix, IsStrictPrefix, Lists};
+ghost use Rattle.nibble_map.specs.Lists.{Counts, IsPrefix, IsStrictPrefix, Lists};
 ghost use Rattle.nibble_map.specs.MapQueries as map_queries;
 ghost use Rattle.nibble_map.specs.Maps as maps;
 ghost use Rattle.nibble_map.specs.Maps.{NibbleMap, IsStored};
@@ -48,10 +48,13 @@ pub fn answers_are_unique<P>()
     ensures compared { (m : NibbleMap P) (e : List ℕ) (j k : ℕ) → map_queries.IsCompared m e j → map_queries.IsCompared m e k → j ≡ k }
 {}
 
-/// The slow lists of points and of prefixes are those of the definitions, and so is the slow test of a point.
+/// The slow lists of points and of prefixes are those of the definitions, and so are their sizes and the slow test of a
+/// point.
 pub fn computed_points<P>()
     ensures points { (m : List (List ℕ × P)) → Lists (stored.IsPoint m) (computed.points m) }
     ensures prefixes { (m : List (List ℕ × P)) → Lists (stored.IsStem m) (computed.prefixes m) }
+    ensures nodes { (m : List (List ℕ × P)) → Counts (stored.IsPoint m) (computed.footprint m).0 }
+    ensures nibbles { (m : List (List ℕ × P)) → Counts (stored.IsStem m) (computed.footprint m).1 }
     ensures is_point { (m : List (List ℕ × P)) (p : List ℕ) → stored.IsPoint m p ↔ IsTrue (computed.is_point m p) }
 {}
 

@@ -5,7 +5,7 @@ use Rattle.std.specs.Cmp.Lexicographic.{slice_cmp}
 use Rattle.std.specs.FinMap as map
 use Rattle.std.proofs.lemmas.Cmp.{nat_list_cmp_total}
 use Rattle.std.proofs.lemmas.List.{length-map}
-use Rattle.nibble_map.specs.Answers.{IsFragment}
+use Rattle.nibble_map.specs.Answers.{IsFragment, IsLongest, IsShortest}
 use Rattle.nibble_map.specs.Canonical.{IsCanonical}
 use Rattle.nibble_map.specs.Lists.{Has, Each, IsBefore, IsRising, Lists, Counts}
 use Rattle.nibble_map.specs.MapQueries as map_queries
@@ -17,7 +17,7 @@ use Rattle.nibble_map.proofs.Canonical.{full_iff_points}
 use Rattle.nibble_map.proofs.Fragments.{tree_fragments}
 use Rattle.nibble_map.proofs.Full.{shaped}
 use Rattle.nibble_map.proofs.MapEdits.{held, insert_is, remove_is}
-use Rattle.nibble_map.proofs.Moves.{Within, point_moves, stem_moves, lists_moves, fragment_moves, compared_moves}
+use Rattle.nibble_map.proofs.Moves.{Within, point_moves, stem_moves, lists_moves, longest_moves, shortest_moves, fragment_moves, compared_moves}
 use Rattle.nibble_map.proofs.Points.{tree_points}
 use Rattle.nibble_map.proofs.Same.{same_parts}
 use Rattle.nibble_map.proofs.Sizes.{nodes_bound}
@@ -80,6 +80,12 @@ module _ {P : Type 0} (t : Tree P) (m : NibbleMap P) (c : IsCanonical t m) where
       moved : (ns : List (Node P)) → Each (λ n. IsFragment (stored.IsStored (entries (nodes t))) n.path n.fragment) ns → Each (λ n. map_queries.IsFragment m n.path n.fragment) ns
       moved [] h = tt
       moved (n ∷ ns) h = (fragment_moves _ _ (map_of_tree t m c.pairs) (tree_of_map t m c.pairs) n.path n.fragment h.0, moved ns h.1)
+
+  pub nearest_above : (e p : List ℕ) → IsLongest (Has (paths (nodes t))) e p ↔ map_queries.IsRawAncestor m e p
+  nearest_above e p = (longest_moves _ _ (λ x. (c.exact.exactly x).0) (λ x. (c.exact.exactly x).1) e p, longest_moves _ _ (λ x. (c.exact.exactly x).1) (λ x. (c.exact.exactly x).0) e p)
+
+  pub nearest_below : (e p : List ℕ) → IsShortest (Has (paths (nodes t))) e p ↔ map_queries.IsRawDescendant m e (Some p)
+  nearest_below e p = (shortest_moves _ _ (λ x. (c.exact.exactly x).0) (λ x. (c.exact.exactly x).1) e p, shortest_moves _ _ (λ x. (c.exact.exactly x).1) (λ x. (c.exact.exactly x).0) e p)
 
   pub search_count : (e : List ℕ) → map_queries.IsCompared m e (walked t.kids e)
   search_count e = compared_moves _ _ (map_of_tree t m c.pairs) (tree_of_map t m c.pairs) e _ (tree_compared t (canonical_shaped t m c) e)

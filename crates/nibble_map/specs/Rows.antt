@@ -26,8 +26,8 @@ abbrev pub removed : List ℕ → Entries → Entries
 removed e m = where_key (slice_cmp nat_cmp) (λ x. not (same e x)) m
 
 -- the number at a list
-abbrev pub value_at : List ℕ → Entries → Option ℕ
-value_at e m = finite.find (slice_cmp nat_cmp) e m
+abbrev pub number_at : List ℕ → Entries → Option ℕ
+number_at e m = finite.find (slice_cmp nat_cmp) e m
 
 -- the numbers in the order of the walk
 abbrev pub values : Entries → List ℕ

@@ -8,7 +8,7 @@ ghost use Rattle.nibble_map.specs.Maps.{NibbleMap, IsStored};
 ghost use Rattle.nibble_map.specs.Queries as queries;
 ghost use Rattle.nibble_map.specs.Stored as stored;
 ghost use Rattle.std.specs.FinMap as map;
-ghost use Rattle.std.specs.Prelude.{◌↔◌, ◌≡◌, IsTrue, List, Option, Some, ℕ};
+ghost use Rattle.std.specs.Prelude.{[], ◌↔◌, ◌≡◌, IsTrue, List, Option, Some, ℕ};
 
 /// The points of a map and the prefixes of its stored lists are those of its entries.
 pub fn points_by_entries<P>()
@@ -72,6 +72,11 @@ pub fn computed_answers<P>()
 pub fn points_answer_themselves<P>()
     ensures raw_ancestor { (m : NibbleMap P) (p : List ℕ) → maps.IsPoint m p → (a : List ℕ) → map_queries.IsRawAncestor m p a ↔ (a ≡ p) }
     ensures raw_descendant { (m : NibbleMap P) (p : List ℕ) → maps.IsPoint m p → (a : Option (List ℕ)) → map_queries.IsRawDescendant m p a ↔ (a ≡ Some p) }
+{}
+
+/// A path is a leaf exactly where it has no kids.
+pub fn leaves_have_no_kids<P>()
+    ensures { (m : NibbleMap P) (p : List ℕ) → map_queries.IsLeaf m p ↔ map_queries.AreKids m p [] }
 {}
 
 /// Each stored list strictly below a path is at or below exactly one of the path's kids.

@@ -1,17 +1,32 @@
 //! Worked rows: small maps with their points, prefixes, answers, counts and walks, computed from the definitions.
 
-ghost use Rattle.nibble_map.specs.Computed.{ancestor, compared, footprint, fragment, is_point, kids, raw_ancestor, raw_descendant};
+ghost use Rattle.nibble_map.specs.Computed.{ancestor, compared, footprint, fragment, is_point, kids, points, raw_ancestor, raw_descendant};
 ghost use Rattle.nibble_map.specs.Maps.{NibbleMap};
 ghost use Rattle.nibble_map.specs.Nibbles.{nibbles};
 ghost use Rattle.nibble_map.specs.Queries.{below};
-ghost use Rattle.nibble_map.specs.Rows.{inserted, insert_all, removed, value_at, values, text, nothing, nested_texts, a_abc_abd, abc_abd, ab_and_a_half, abc_abcdef, aba_abb_abc_z, abcz_abca, two_bytes, signed_bytes, low_bytes_first, umlauts, wow_hella_hellb, odd_nibbles, letters_a, long_twins, short_and_long};
+ghost use Rattle.nibble_map.specs.Rows.{inserted, insert_all, removed, number_at, values, text, nothing, nested_texts, a_abc_abd, abc_abd, ab_and_a_half, abc_abcdef, aba_abb_abc_z, abcz_abca, two_bytes, signed_bytes, low_bytes_first, umlauts, wow_hella_hellb, odd_nibbles, letters_a, long_twins, short_and_long};
 ghost use Rattle.std.specs.FinMap as map;
-ghost use Rattle.std.specs.Prelude.{[], ◌++◌, ◌∷◌, ◌≡◌, codes, false, length, List, None, Some, sum, take, true, ℕ};
+ghost use Rattle.std.specs.Prelude.{[], ◌++◌, ◌∷◌, ◌≡◌, codes, false, length, List, map as each, None, Some, sum, take, true, ℕ};
 
 /// The rows' lists of entries are those of maps after insertions and removals.
 pub fn rows_are_maps()
     ensures inserted { (m : NibbleMap ℕ) (es : List (List ℕ × ℕ)) → map.entries (insert_all m es) ≡ inserted (map.entries m) es }
     ensures removed { (m : NibbleMap ℕ) (e : List ℕ) → map.entries (map.remove m e) ≡ removed e (map.entries m) }
+{}
+
+/// The tree that the page of definitions draws.
+pub fn drawn_tree()
+    ensures points { points a_abc_abd ≡ [] ∷ nibbles (codes "a") ∷ ab_and_a_half ∷ nibbles (codes "abc") ∷ nibbles (codes "abd") ∷ [] }
+    ensures fragments { each (fragment a_abc_abd) (points a_abc_abd) ≡ [] ∷ (6 ∷ 1 ∷ []) ∷ (6 ∷ 2 ∷ 6 ∷ []) ∷ (3 ∷ []) ∷ (4 ∷ []) ∷ [] }
+    ensures above_abe { ancestor a_abc_abd (nibbles (codes "abe")) ≡ Some (nibbles (codes "a")) }
+    ensures point_above_abe { raw_ancestor a_abc_abd (nibbles (codes "abe")) ≡ ab_and_a_half }
+    ensures point_below_ab { raw_descendant a_abc_abd (nibbles (codes "ab")) ≡ Some ab_and_a_half }
+    ensures ab { is_point a_abc_abd (nibbles (codes "ab")) ≡ false }
+    ensures kids_of_a { kids a_abc_abd (nibbles (codes "a")) ≡ ab_and_a_half ∷ [] }
+    ensures kids_of_the_parting { kids a_abc_abd ab_and_a_half ≡ nibbles (codes "abc") ∷ nibbles (codes "abd") ∷ [] }
+    ensures search_for_abe { compared a_abc_abd (nibbles (codes "abe")) ≡ 5 }
+    ensures search_for_b { compared a_abc_abd (nibbles (codes "b")) ≡ 2 }
+    ensures without_abd { each (fragment (removed (nibbles (codes "abd")) a_abc_abd)) (points (removed (nibbles (codes "abd")) a_abc_abd)) ≡ [] ∷ (6 ∷ 1 ∷ []) ∷ (6 ∷ 2 ∷ 6 ∷ 3 ∷ []) ∷ [] }
 {}
 
 /// The empty map has the empty list as its one point.
@@ -39,16 +54,16 @@ pub fn nested_texts_have_ten_points()
     ensures top { is_point nested_texts [] ≡ true }
     ensures half_byte { is_point nested_texts (6 ∷ []) ≡ true }
     ensures byte_and_half { is_point nested_texts (6 ∷ 1 ∷ 6 ∷ []) ≡ true }
-    ensures top_value { value_at [] nested_texts ≡ None }
-    ensures half_byte_value { value_at (6 ∷ []) nested_texts ≡ None }
-    ensures byte_and_half_value { value_at (6 ∷ 1 ∷ 6 ∷ []) nested_texts ≡ None }
+    ensures top_value { number_at [] nested_texts ≡ None }
+    ensures half_byte_value { number_at (6 ∷ []) nested_texts ≡ None }
+    ensures byte_and_half_value { number_at (6 ∷ 1 ∷ 6 ∷ []) nested_texts ≡ None }
 {}
 
 /// A place within a fragment is no point, and a parting is one, with all that lies below it.
 pub fn inside_a_fragment_is_no_point()
     ensures inside { is_point nested_texts (nibbles (codes "abc")) ≡ false }
     ensures parting { is_point nested_texts (6 ∷ []) ≡ true }
-    ensures no_value { value_at (6 ∷ []) nested_texts ≡ None }
+    ensures no_value { number_at (6 ∷ []) nested_texts ≡ None }
     ensures below_parting { length (below nested_texts (6 ∷ [])) ≡ 7 }
 {}
 
@@ -58,7 +73,7 @@ pub fn searches_of_nested_texts()
     ensures far_off { compared nested_texts (nibbles (codes "nonexistant")) ≡ 1 }
     ensures beside { compared nested_texts (nibbles (codes "acbg")) ≡ 8 }
     ensures stored { compared nested_texts (nibbles (codes "abcd")) ≡ 8 }
-    ensures stored_value { value_at (nibbles (codes "abcd")) nested_texts ≡ Some 17 }
+    ensures stored_value { number_at (nibbles (codes "abcd")) nested_texts ≡ Some 17 }
     ensures empty { compared nested_texts [] ≡ 0 }
 {}
 
@@ -66,13 +81,13 @@ pub fn searches_of_nested_texts()
 pub fn nearest_of_nested_texts()
     ensures above_empty { ancestor nested_texts [] ≡ None }
     ensures above_abcdefg { ancestor nested_texts (nibbles (codes "abcdefg")) ≡ Some (nibbles (codes "abcdef")) }
-    ensures abcdef { value_at (nibbles (codes "abcdef")) nested_texts ≡ Some 18 }
+    ensures abcdef { number_at (nibbles (codes "abcdef")) nested_texts ≡ Some 18 }
     ensures above_abcde { ancestor nested_texts (nibbles (codes "abcde")) ≡ Some (nibbles (codes "abcd")) }
     ensures above_aauksdjk { ancestor nested_texts (nibbles (codes "aauksdjk")) ≡ Some (nibbles (codes "a")) }
-    ensures a { value_at (nibbles (codes "a")) nested_texts ≡ Some 15 }
+    ensures a { number_at (nibbles (codes "a")) nested_texts ≡ Some 15 }
     ensures below_abcdefgh { raw_descendant nested_texts (nibbles (codes "abcdefgh")) ≡ Some (nibbles (codes "abcdefgh")) }
     ensures below_abcdefg { raw_descendant nested_texts (nibbles (codes "abcdefg")) ≡ Some (nibbles (codes "abcdefgh")) }
-    ensures abcdefgh { value_at (nibbles (codes "abcdefgh")) nested_texts ≡ Some 19 }
+    ensures abcdefgh { number_at (nibbles (codes "abcdefgh")) nested_texts ≡ Some 19 }
     ensures below_acbg { raw_descendant nested_texts (nibbles (codes "acbg")) ≡ None }
 {}
 
@@ -80,8 +95,8 @@ pub fn nearest_of_nested_texts()
 pub fn ancestor_passes_over_a_parting()
     ensures footprint { footprint a_abc_abd ≡ (5, 7) }
     ensures ancestor { ancestor a_abc_abd (nibbles (codes "abe")) ≡ Some (nibbles (codes "a")) }
-    ensures absent { value_at (nibbles (codes "ab")) a_abc_abd ≡ None }
-    ensures stored { value_at (nibbles (codes "abc")) a_abc_abd ≡ Some 2 }
+    ensures absent { number_at (nibbles (codes "ab")) a_abc_abd ≡ None }
+    ensures stored { number_at (nibbles (codes "abc")) a_abc_abd ≡ Some 2 }
 {}
 
 /// A removal takes the parting above with it, and a removal of an absent list takes nothing.
@@ -106,7 +121,7 @@ pub fn bytes_share_a_half()
     ensures first { fragment two_bytes (15 ∷ 1 ∷ []) ≡ 1 ∷ [] }
     ensures second { fragment two_bytes (15 ∷ 2 ∷ []) ≡ 2 ∷ [] }
     ensures removed { removed (15 ∷ []) two_bytes ≡ two_bytes }
-    ensures no_value { value_at (15 ∷ []) two_bytes ≡ None }
+    ensures no_value { number_at (15 ∷ []) two_bytes ≡ None }
     ensures below { length (below two_bytes (15 ∷ [])) ≡ 2 }
 {}
 
@@ -139,7 +154,7 @@ pub fn walks_go_by_the_lists()
 
 /// The empty text comes and goes, and adds no point.
 pub fn empty_text_comes_and_goes()
-    ensures comes { value_at [] (inserted nested_texts (text [] 99 ∷ [])) ≡ Some 99 }
+    ensures comes { number_at [] (inserted nested_texts (text [] 99 ∷ [])) ≡ Some 99 }
     ensures goes { footprint (removed [] (inserted nested_texts (text [] 99 ∷ []))) ≡ (10, 38) }
     ensures alone { footprint (inserted [] (text [] 1 ∷ [])) ≡ (1, 0) }
     ensures gone { footprint (removed [] (inserted [] (text [] 1 ∷ []))) ≡ (1, 0) }
@@ -166,7 +181,7 @@ pub fn umlauts_are_two_bytes()
 /// The longest point above a text that isn't stored is where its neighbours part.
 pub fn neighbours_of_hello()
     ensures below { length (below wow_hella_hellb (raw_ancestor wow_hella_hellb (nibbles (codes "hello")))) ≡ 2 }
-    ensures no_value { value_at (raw_ancestor wow_hella_hellb (nibbles (codes "hello"))) wow_hella_hellb ≡ None }
+    ensures no_value { number_at (raw_ancestor wow_hella_hellb (nibbles (codes "hello"))) wow_hella_hellb ≡ None }
 {}
 
 /// Texts of digits share their high half; an object's names make a map of texts.
@@ -214,7 +229,7 @@ pub fn long_texts_part_late()
 /// A parting's own path, while the texts below it are removed one by one and one comes back.
 pub fn emptied_parting()
     ensures point { is_point abc_abd ab_and_a_half ≡ true }
-    ensures no_value { value_at ab_and_a_half abc_abd ≡ None }
+    ensures no_value { number_at ab_and_a_half abc_abd ≡ None }
     ensures own_fragment { fragment abc_abd ab_and_a_half ≡ ab_and_a_half }
     ensures below { length (below (removed (nibbles (codes "abc")) abc_abd) ab_and_a_half) ≡ 1 }
     ensures child { kids (removed (nibbles (codes "abc")) abc_abd) ab_and_a_half ≡ nibbles (codes "abd") ∷ [] }

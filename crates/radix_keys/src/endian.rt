@@ -1,10 +1,11 @@
 //! Integers as keys: their bytes, and wrappers that fix the order of the bytes.
 ghost use Rattle.std.specs.Prelude.{◌≡◌, ℕ, FitsSigned, ◌<◌, ◌^◌, List, length, slice_index, true, refl};
 ghost use Rattle.std.specs.Int.{w8, w16, w32, w64, to_be_bytes};
-ghost use Rattle.std.specs.Cmp.{on_per, on_equiv};
 ghost use Rattle.std.proofs.Common.{lit<};
 ghost use Rattle.radix_keys.specs.Distinct.{unsigned-distinct, signed-distinct};
 ghost use Rattle.radix_keys.specs.Integers.{signed_bytes};
+
+use std::marker::Model;
 
 /// An integer whose bytes can be a key.
 ///
@@ -248,17 +249,25 @@ pub struct BigEndian<T> {
     value: T,
 }
 
+impl<T> Model for BigEndian<T> {
+    ghost Value = { T };
+
+    ghost view = { λ w. w.value };
+
+    ghost inverse = { λ x. record { value = x } };
+}
+
 impl<T: KeyInt> BigEndian<T> {
     /// The integer that the wrapper was made from.
     pub fn value(&self) -> T
-        ensures { result ≡ self.now.value }
+        ensures { result ≡ self.now }
     {
         self.value
     }
 }
 
 impl<T: KeyInt> From<T> for BigEndian<T> {
-    ghost from_gives = { λ x w. w.value ≡ x };
+    ghost from_gives = { λ x w. w ≡ x };
 
     fn from(value: T) -> BigEndian<T> {
         BigEndian { value }
@@ -266,9 +275,9 @@ impl<T: KeyInt> From<T> for BigEndian<T> {
 }
 
 impl<T: KeyInt> PartialEq for BigEndian<T> {
-    ghost eq = { λ a b. T.eq a.value b.value };
+    ghost eq = { T.eq };
 
-    ghost laws = { on_per (λ w. w.value) T.PartialEq.laws };
+    ghost laws = { T.PartialEq.laws };
 
     fn eq(&self, other: &BigEndian<T>) -> bool {
         self.value == other.value
@@ -276,7 +285,7 @@ impl<T: KeyInt> PartialEq for BigEndian<T> {
 }
 
 impl<T: KeyInt> Eq for BigEndian<T> {
-    ghost laws = { on_equiv (λ w. w.value) T.Eq.laws };
+    ghost laws = { T.Eq.laws };
 }
 
 /// An integer that is encoded with its lowest byte first.
@@ -285,17 +294,25 @@ pub struct LittleEndian<T> {
     value: T,
 }
 
+impl<T> Model for LittleEndian<T> {
+    ghost Value = { T };
+
+    ghost view = { λ w. w.value };
+
+    ghost inverse = { λ x. record { value = x } };
+}
+
 impl<T: KeyInt> LittleEndian<T> {
     /// The integer that the wrapper was made from.
     pub fn value(&self) -> T
-        ensures { result ≡ self.now.value }
+        ensures { result ≡ self.now }
     {
         self.value
     }
 }
 
 impl<T: KeyInt> From<T> for LittleEndian<T> {
-    ghost from_gives = { λ x w. w.value ≡ x };
+    ghost from_gives = { λ x w. w ≡ x };
 
     fn from(value: T) -> LittleEndian<T> {
         LittleEndian { value }
@@ -303,9 +320,9 @@ impl<T: KeyInt> From<T> for LittleEndian<T> {
 }
 
 impl<T: KeyInt> PartialEq for LittleEndian<T> {
-    ghost eq = { λ a b. T.eq a.value b.value };
+    ghost eq = { T.eq };
 
-    ghost laws = { on_per (λ w. w.value) T.PartialEq.laws };
+    ghost laws = { T.PartialEq.laws };
 
     fn eq(&self, other: &LittleEndian<T>) -> bool {
         self.value == other.value
@@ -313,5 +330,5 @@ impl<T: KeyInt> PartialEq for LittleEndian<T> {
 }
 
 impl<T: KeyInt> Eq for LittleEndian<T> {
-    ghost laws = { on_equiv (λ w. w.value) T.Eq.laws };
+    ghost laws = { T.Eq.laws };
 }

@@ -263,13 +263,13 @@ impl TrieKey for isize {
 }
 
 impl<T: KeyInt> TrieKey for BigEndian<T> {
-    ghost encoding = { λ w. nibbles (T.bytes w.value) };
+    ghost encoding = { λ w. nibbles (T.bytes w) };
 
-    ghost is_light = { λ w. IsShort (nibbles (T.bytes w.value)) };
+    ghost is_light = { λ w. IsShort (nibbles (T.bytes w)) };
 
-    ghost is_value = { λ w. T.is_value w.value };
+    ghost is_value = { λ w. T.is_value w };
 
-    ghost distinct = { λ x y p q e. T.distinct x.value y.value p q (nibbles-injective _ _ e) };
+    ghost distinct = { λ x y p q e. T.distinct x y p q (nibbles-injective _ _ e) };
 
     ghost light_is_short = { λ _ h. h };
 
@@ -279,13 +279,13 @@ impl<T: KeyInt> TrieKey for BigEndian<T> {
 }
 
 impl<T: KeyInt> TrieKey for LittleEndian<T> {
-    ghost encoding = { λ w. nibbles (reverse (T.bytes w.value)) };
+    ghost encoding = { λ w. nibbles (reverse (T.bytes w)) };
 
-    ghost is_light = { λ w. IsShort (nibbles (reverse (T.bytes w.value))) };
+    ghost is_light = { λ w. IsShort (nibbles (reverse (T.bytes w))) };
 
-    ghost is_value = { λ w. T.is_value w.value };
+    ghost is_value = { λ w. T.is_value w };
 
-    ghost distinct = { λ x y p q e. T.distinct x.value y.value p q (reverse-injective _ _ (nibbles-injective _ _ e)) };
+    ghost distinct = { λ x y p q e. T.distinct x y p q (reverse-injective _ _ (nibbles-injective _ _ e)) };
 
     ghost light_is_short = { λ _ h. h };
 

@@ -6,8 +6,8 @@ use Rattle.radix_keys.proofs.keys.integers.LittleEndianTrieKey.encode.Goals as g
 
 pub returns-in_err-push-clause-light : goal.returns-in_err-push-clause-light
 returns-in_err-push-clause-light g c = λ short.
-    let v = g.T.KeyInt.bytes c.args.self.now.value in
-    let n : length v ≡ g.T.KeyInt.WIDTH = g.met.T.KeyInt.bytes_len c.args.self.now.value in
+    let v = g.T.KeyInt.bytes c.args.self.now in
+    let n : length v ≡ g.T.KeyInt.WIDTH = g.met.T.KeyInt.bytes_len c.args.self.now in
     let same = ap (λ x. length (take c.loop-i.i (reverse (g.T.KeyInt.bytes x)))) c.value-value.ensures in
     let refused : false ≡ true = c.in_err-push.ensures.succeeds
     (omega (

@@ -4,6 +4,8 @@
 pub mod endian;
 pub mod keys;
 pub mod nibbles;
+#[cfg(test)]
+mod tests;
 
 pub use endian::{BigEndian, KeyInt, LittleEndian};
 pub use keys::TrieKey;

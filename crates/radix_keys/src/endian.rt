@@ -11,10 +11,13 @@ use std::marker::Model;
 ///
 /// Two values within the type's bounds with equal bytes are equal.
 pub trait KeyInt: Copy + Eq {
+    // The width in bytes.
     ghost WIDTH: { ℕ };
 
+    // The bytes of a value, the highest first.
     ghost bytes: { Self → List ℕ };
 
+    // Whether a number is within the type's bounds.
     ghost is_value: { Self → Type 0 };
 
     /// The width in bytes, at least 1.
@@ -49,7 +52,7 @@ impl KeyInt for u8 {
     const WIDTH: usize = 1;
 
     fn byte(&self, i: usize) -> u8 {
-        let value = *self;
+        let value: u8 = *self;
         value.to_be_bytes()[i]
     }
 }
@@ -70,7 +73,7 @@ impl KeyInt for u16 {
     const WIDTH: usize = 2;
 
     fn byte(&self, i: usize) -> u8 {
-        let value = *self;
+        let value: u16 = *self;
         value.to_be_bytes()[i]
     }
 }
@@ -91,7 +94,7 @@ impl KeyInt for u32 {
     const WIDTH: usize = 4;
 
     fn byte(&self, i: usize) -> u8 {
-        let value = *self;
+        let value: u32 = *self;
         value.to_be_bytes()[i]
     }
 }
@@ -112,7 +115,7 @@ impl KeyInt for u64 {
     const WIDTH: usize = 8;
 
     fn byte(&self, i: usize) -> u8 {
-        let value = *self;
+        let value: u64 = *self;
         value.to_be_bytes()[i]
     }
 }
@@ -133,7 +136,7 @@ impl KeyInt for usize {
     const WIDTH: usize = 8;
 
     fn byte(&self, i: usize) -> u8 {
-        let value = *self;
+        let value: usize = *self;
         value.to_be_bytes()[i]
     }
 }
@@ -154,7 +157,7 @@ impl KeyInt for i8 {
     const WIDTH: usize = 1;
 
     fn byte(&self, i: usize) -> u8 {
-        let value = *self;
+        let value: i8 = *self;
         value.to_be_bytes()[i]
     }
 }
@@ -175,7 +178,7 @@ impl KeyInt for i16 {
     const WIDTH: usize = 2;
 
     fn byte(&self, i: usize) -> u8 {
-        let value = *self;
+        let value: i16 = *self;
         value.to_be_bytes()[i]
     }
 }
@@ -196,7 +199,7 @@ impl KeyInt for i32 {
     const WIDTH: usize = 4;
 
     fn byte(&self, i: usize) -> u8 {
-        let value = *self;
+        let value: i32 = *self;
         value.to_be_bytes()[i]
     }
 }
@@ -217,7 +220,7 @@ impl KeyInt for i64 {
     const WIDTH: usize = 8;
 
     fn byte(&self, i: usize) -> u8 {
-        let value = *self;
+        let value: i64 = *self;
         value.to_be_bytes()[i]
     }
 }
@@ -238,7 +241,7 @@ impl KeyInt for isize {
     const WIDTH: usize = 8;
 
     fn byte(&self, i: usize) -> u8 {
-        let value = *self;
+        let value: isize = *self;
         value.to_be_bytes()[i]
     }
 }

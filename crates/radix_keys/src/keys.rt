@@ -16,13 +16,13 @@ mod integers;
 /// whether it is a value of its type. It proves that two values of the type with equal encodings
 /// are equal, and that a light key has at most 32 nibbles.
 pub trait TrieKey: Eq {
-    /// The nibbles of the key.
+    // The nibbles of the key.
     ghost encoding: { Self → List ℕ };
 
-    /// Whether `encode` of the key takes no memory.
+    // Whether `encode` of the key takes no memory.
     ghost is_light: { Self → Type 0 };
 
-    /// Whether the key is a value of its type, as an integer within its bounds is.
+    // Whether the key is a value of its type, as an integer within its bounds is.
     ghost is_value: { Self → Type 0 };
 
     /// The encoding of the key.
@@ -149,7 +149,7 @@ impl<T: TrieKey> TrieKey for &T {
     ghost light_is_short = { λ x h. T.light_is_short x.now h };
 
     fn encode(&self, alloc: Global) -> Result<Nibblet, Memory> {
-        T::encode(*self, alloc)
+        (**self).encode(alloc)
     }
 }
 

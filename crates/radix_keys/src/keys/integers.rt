@@ -325,9 +325,9 @@ fn encode_integer<T: KeyInt>(alloc: Global, x: &T) -> Result<Nibblet, Memory>
     ensures value { OnOk result (T.is_value x.now) }
     ensures light { IsShort (nibbles (T.bytes x.now)) → IsOk result }
 {
-    let mut out = SmallVec::new(alloc);
-    push_bytes(&mut out, x)?;
-    Ok(Nibblet::from_small(out))
+    let mut bytes = SmallVec::new(alloc);
+    push_bytes(&mut bytes, x)?;
+    Ok(Nibblet::from_small(bytes))
 }
 
 /// Appends the bytes of an integer, the highest first.

@@ -1,2 +1,5 @@
+pub mod Cutting
+pub mod Items
 pub mod NibblesOfBytes
+pub mod Order
 pub mod Packing

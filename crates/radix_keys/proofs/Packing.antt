@@ -8,7 +8,7 @@ use Rattle.std.specs.Cmp.Lexicographic.{pointwise}
 use Rattle.std.specs.List.{refill}
 use Rattle.nibble_map.specs.Nibbles.{nibbles}
 use Rattle.radix_keys.specs.Distinct.{nibbles-injective}
-use Rattle.radix_keys.specs.Packing.{unpacked, IsPadded}
+use Rattle.radix_keys.specs.Packing.{unpacked, IsPadded, IsPacked}
 use Rattle.radix_keys.proofs.NibblesOfBytes.{length-nibbles, nibbles-append, get_or-nibbles_even, get_or-nibbles_odd}
 
 -- the count of an odd list is odd, and two nibbles share a byte
@@ -23,6 +23,19 @@ is_even-count bs true e = cc
 pub length-bytes : (bs : List ℕ) (odd : Bool) → IsPadded bs odd → (length (unpacked bs odd) + 1) / 2 ≡ length bs
 length-bytes bs false p = omega (arith, is_even-count bs false refl)
 length-bytes bs true p = omega (arith, is_odd-count bs true p refl)
+
+-- the same of a kept list, whose bytes and flag the invariant names
+pub count-bytes : {capacity : ℕ} {bs : List ℕ} {odd : Bool} {xs : List ℕ} → IsPacked capacity bs odd → unpacked bs odd ≡ xs
+    → (length xs + 1) / 2 ≡ length bs
+count-bytes {capacity} {bs} {odd} {xs} p e = omega (arith, ap length e, length-bytes bs odd p.padded)
+
+pub count-odd : {capacity : ℕ} {bs : List ℕ} {odd : Bool} {xs : List ℕ} → IsPacked capacity bs odd → unpacked bs odd ≡ xs → odd ≡ true
+    → length xs + 1 ≡ 2 * length bs
+count-odd {capacity} {bs} {odd} {xs} p e f = omega (arith, ap length e, is_odd-count bs odd p.padded f)
+
+pub count-even : {capacity : ℕ} {bs : List ℕ} {odd : Bool} {xs : List ℕ} → IsPacked capacity bs odd → unpacked bs odd ≡ xs → odd ≡ false
+    → length xs ≡ 2 * length bs
+count-even {capacity} {bs} {odd} {xs} p e f = omega (arith, ap length e, is_even-count bs odd f)
 
 -- the nibble at i is half of the byte at i / 2
 get_or-unpacked : (bs : List ℕ) (odd : Bool) (i : ℕ) → IsPadded bs odd → i < length (unpacked bs odd)
@@ -57,16 +70,16 @@ push-even bs false n e lt =
     unpacked-append_half bs (n * 16) ∙ ap (λ h. nibbles bs ++ h ∷ []) half
 
 -- the last byte's place
-last-byte : (bs : List ℕ) → 0 < length bs → bs ≡ take (length bs - 1) bs ++ get_or bs (length bs - 1) 0 ∷ []
+pub last-byte : (bs : List ℕ) → 0 < length bs → bs ≡ take (length bs - 1) bs ++ get_or bs (length bs - 1) 0 ∷ []
 last-byte bs lt =
     sym (take_all (length bs - 1 + 1) bs (omega arith)) ∙ take_more bs (length bs - 1) 0 (omega arith)
 
-set-last : (bs : List ℕ) (y : ℕ) → 0 < length bs → set bs (length bs - 1) y ≡ take (length bs - 1) bs ++ y ∷ []
+pub set-last : (bs : List ℕ) (y : ℕ) → 0 < length bs → set bs (length bs - 1) y ≡ take (length bs - 1) bs ++ y ∷ []
 set-last bs y lt =
     sym (take_all (length bs - 1 + 1) (set bs (length bs - 1) y) (omega (arith, length-set bs (length bs - 1) y)))
     ∙ take_more_set bs (length bs - 1) y (omega arith)
 
-refill-set : (xs : List ℕ) (i y : ℕ) → refill (length xs) xs (set xs i y) ≡ set xs i y
+pub refill-set : (xs : List ℕ) (i y : ℕ) → refill (length xs) xs (set xs i y) ≡ set xs i y
 refill-set xs i y =
     rw (drop_all (length (set xs i y)) xs (omega (arith, length-set xs i y)), append-nil)
     (take_all (length xs) (set xs i y) (omega (arith, length-set xs i y)))

@@ -1,2 +1,4 @@
 pub mod Distinct
+pub mod Integers
+pub mod Order
 pub mod Packing

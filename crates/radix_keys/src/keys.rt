@@ -1,10 +1,14 @@
 //! Keys of a trie, and their encodings.
 ghost use Rattle.std.specs.Prelude.{◌≡◌, ℕ, ◌%◌, List, length, true, string_bytes, IsOk, IfOk, OnOk, IfErr};
+ghost use Rattle.std.proofs.lemmas.Slice.Eq.{bytes_eq-Decides};
 ghost use Rattle.nibble_map.specs.Nibbles.{nibbles, IsShort};
-ghost use Rattle.radix_keys.specs.Distinct.{text-distinct};
+ghost use Rattle.radix_keys.specs.Distinct.{bytes-distinct};
+ghost use Rattle.radix_keys.specs.Order.{KeepsByteOrder};
 
 use crate::nibbles::{BytesError, Memory, Nibblet};
 use std::alloc::Global;
+
+mod integers;
 
 /// A value that is encoded as a list of nibbles, its place in a trie.
 ///
@@ -12,13 +16,13 @@ use std::alloc::Global;
 /// whether it is a value of its type. It proves that two values of the type with equal encodings
 /// are equal, and that a light key has at most 32 nibbles.
 pub trait TrieKey: Eq {
-    /// The nibbles of the key.
+    // The nibbles of the key.
     ghost encoding: { Self → List ℕ };
 
-    /// Whether `encode` of the key takes no memory.
+    // Whether `encode` of the key takes no memory.
     ghost is_light: { Self → Type 0 };
 
-    /// Whether the key is a value of its type, as an integer within its bounds is.
+    // Whether the key is a value of its type, as an integer within its bounds is.
     ghost is_value: { Self → Type 0 };
 
     /// The encoding of the key.
@@ -55,11 +59,18 @@ impl TrieKey for String {
 
     ghost is_value = { λ _. Unit {0} };
 
-    ghost distinct = { λ x y _ _ e. text-distinct (string_bytes x) (string_bytes y) e };
+    ghost distinct = { λ x y _ _ e. bytes-distinct (string_bytes x) (string_bytes y) e };
 
     ghost light_is_short = { λ _ h. h };
 
-    fn encode(&self, alloc: Global) -> Result<Nibblet, Memory> {
+    /// The nibbles of the text's bytes. The smaller text has the smaller encoding.
+    #[tactic(auto, using(crate::proofs::Order::byte_order))]
+    fn encode(&self, alloc: Global) -> Result<Nibblet, Memory>
+        ensures ok { IfOk result (λ v. v ≡ nibbles (string_bytes self.now)) }
+        ensures value { OnOk result (Unit {0}) }
+        ensures light { IsShort (nibbles (string_bytes self.now)) → IsOk result }
+        ensures order { KeepsByteOrder }
+    {
         Nibblet::from_slice(alloc, self.as_bytes())
     }
 }
@@ -71,11 +82,18 @@ impl TrieKey for &str {
 
     ghost is_value = { λ _. Unit {0} };
 
-    ghost distinct = { λ x y _ _ e. text-distinct x.now y.now e };
+    ghost distinct = { λ x y _ _ e. bytes-distinct x.now y.now e };
 
     ghost light_is_short = { λ _ h. h };
 
-    fn encode(&self, alloc: Global) -> Result<Nibblet, Memory> {
+    /// The nibbles of the text's bytes. The smaller text has the smaller encoding.
+    #[tactic(auto, using(crate::proofs::Order::byte_order))]
+    fn encode(&self, alloc: Global) -> Result<Nibblet, Memory>
+        ensures ok { IfOk result (λ v. v ≡ nibbles self.now.now) }
+        ensures value { OnOk result (Unit {0}) }
+        ensures light { IsShort (nibbles self.now.now) → IsOk result }
+        ensures order { KeepsByteOrder }
+    {
         Nibblet::from_slice(alloc, self.as_bytes())
     }
 }
@@ -87,11 +105,66 @@ impl TrieKey for &[u8] {
 
     ghost is_value = { λ _. Unit {0} };
 
-    ghost distinct = { λ x y _ _ e. text-distinct x.now y.now e };
+    ghost distinct = { λ x y _ _ e. bytes-distinct x.now y.now e };
 
     ghost light_is_short = { λ _ h. h };
 
-    fn encode(&self, alloc: Global) -> Result<Nibblet, Memory> {
+    /// The nibbles of the bytes. The smaller list of bytes has the smaller encoding.
+    #[tactic(auto, using(crate::proofs::Order::byte_order))]
+    fn encode(&self, alloc: Global) -> Result<Nibblet, Memory>
+        ensures ok { IfOk result (λ v. v ≡ nibbles self.now.now) }
+        ensures value { OnOk result (Unit {0}) }
+        ensures light { IsShort (nibbles self.now.now) → IsOk result }
+        ensures order { KeepsByteOrder }
+    {
         Nibblet::from_slice(alloc, *self)
+    }
+}
+
+impl TrieKey for Nibblet {
+    ghost encoding = { λ v. v };
+
+    ghost is_light = { IsShort };
+
+    ghost is_value = { λ _. Unit {0} };
+
+    ghost distinct = { λ x y _ _ e. (bytes_eq-Decides x y).1 e };
+
+    ghost light_is_short = { λ _ h. h };
+
+    fn encode(&self, _alloc: Global) -> Result<Nibblet, Memory> {
+        self.clone()
+    }
+}
+
+impl<T: TrieKey> TrieKey for &T {
+    ghost encoding = { λ r. T.encoding r.now };
+
+    ghost is_light = { λ r. T.is_light r.now };
+
+    ghost is_value = { λ r. T.is_value r.now };
+
+    ghost distinct = { λ x y p q e. T.distinct x.now y.now p q e };
+
+    ghost light_is_short = { λ x h. T.light_is_short x.now h };
+
+    fn encode(&self, alloc: Global) -> Result<Nibblet, Memory> {
+        (**self).encode(alloc)
+    }
+}
+
+impl<T: TrieKey> TrieKey for &mut T {
+    ghost encoding = { λ r. T.encoding r.now };
+
+    ghost is_light = { λ r. T.is_light r.now };
+
+    ghost is_value = { λ r. T.is_value r.now };
+
+    ghost distinct = { λ x y p q e. T.distinct x.now y.now p q e };
+
+    ghost light_is_short = { λ x h. T.light_is_short x.now h };
+
+    fn encode(&self, alloc: Global) -> Result<Nibblet, Memory> {
+        T::encode(*self, alloc)
     }
 }

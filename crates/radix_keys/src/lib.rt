@@ -1,8 +1,12 @@
 //! Keys of a radix trie: lists of nibbles, and what a key is encoded as.
 #![tactic(auto)]
 
+pub mod endian;
 pub mod keys;
 pub mod nibbles;
+#[cfg(test)]
+mod tests;
 
+pub use endian::{BigEndian, KeyInt, LittleEndian};
 pub use keys::TrieKey;
 pub use nibbles::{BytesError, Memory, NibbleVec, Nibblet};

@@ -3,6 +3,7 @@ ghost use Rattle.std.specs.Prelude.{◌≡◌, ℕ, ◌+◌, ◌*◌, ◌/◌, �
 ghost use Rattle.std.specs.Cmp.{partial_equiv_from_equiv};
 ghost use Rattle.std.specs.Cmp.Lexicographic.{pointwise, nat_list_eq_equiv};
 ghost use Rattle.nibble_map.specs.Nibbles.{nibbles, IsShort};
+ghost use Rattle.smallvec.specs.SmallVec.{HasRoomFor};
 
 use smallvec::SmallVec;
 use std::alloc::{AllocError, AllocFailed, Global};
@@ -73,18 +74,14 @@ impl NibbleVec {
     }
 
     /// The nibbles of the bytes of a small vector.
-    pub(crate) fn from_small(bytes: SmallVec<u8, 16>) -> Result<NibbleVec, Memory>
+    pub(crate) fn from_small(bytes: SmallVec<u8, 16>) -> NibbleVec
         requires { 16 ≤ bytes.capacity }
-        ensures ok { IfOk result (λ v. v ≡ nibbles bytes.items) }
-        ensures succeeds { IsShort (nibbles bytes.items) → IsOk result }
+        ensures { result ≡ nibbles bytes.items }
     {
-        if bytes.len() > usize::MAX / 2 {
-            return Err(Memory);
-        }
-        Ok(NibbleVec {
+        NibbleVec {
             bytes,
             is_odd: false,
-        })
+        }
     }
 
     /// The nibbles of the bytes, the high half of each byte first.
@@ -106,14 +103,14 @@ impl NibbleVec {
 
         // A small vector has room for its inline bytes.
         let _ = small.spilled();
-        NibbleVec::from_small(small)
+        Ok(NibbleVec::from_small(small))
     }
 
     /// The count of nibbles.
     pub fn len(&self) -> usize
         ensures { result ≡ length self.now }
     {
-        let halves = self.bytes.len() * 2;
+        let halves = self.bytes.as_slice().len() * 2;
         if self.is_odd { halves - 1 } else { halves }
     }
 
@@ -149,11 +146,142 @@ impl NibbleVec {
             self.is_odd = false;
             return Ok(());
         }
-        if self.bytes.len() >= usize::MAX / 2 {
-            return Err(Memory);
-        }
         self.bytes.push(n * 16)?;
         self.is_odd = true;
+        Ok(())
+    }
+
+    /// The same list.
+    ///
+    /// Never refused for at most 32 nibbles.
+    pub fn clone(&self) -> Result<NibbleVec, Memory>
+        ensures ok { IfOk result (λ v. v ≡ self.now) }
+        ensures succeeds { IsShort self.now → IsOk result }
+    {
+        let bytes = SmallVec::from_slice(*self.bytes.allocator(), self.bytes.as_slice())?;
+        let _ = bytes.spilled();
+        Ok(NibbleVec {
+            bytes,
+            is_odd: self.is_odd,
+        })
+    }
+
+    /// Keeps the first `i` nibbles, at most all, and hands out the rest.
+    ///
+    /// Never refused where the rest has at most 32 nibbles. After a refusal the list is as before.
+    pub fn split(&mut self, i: usize) -> Result<NibbleVec, Memory>
+        requires { i ≤ length self.old }
+        ensures kept { OnOk result (self.new ≡ take i self.old) }
+        ensures rest { IfOk result (λ r. r ≡ drop i self.old) }
+        ensures err { OnErr result (self.new ≡ self.old) }
+        ensures succeeds { IsShort (drop i self.old) → IsOk result }
+    {
+        let rest = self.tail(i)?;
+        self.truncate(i);
+        Ok(rest)
+    }
+
+    /// The list followed by the other.
+    ///
+    /// Never refused where the two have at most 32 nibbles together. A refusal hands the list back.
+    pub fn join(self, other: &NibbleVec) -> Result<NibbleVec, NibbleVec>
+        ensures ok { IfOk result (λ v. v ≡ self ++ other.now) }
+        ensures err { IfErr result (λ v. v ≡ self) }
+        ensures succeeds { IsShort (self ++ other.now) → IsOk result }
+    {
+        let mut joined = self;
+        match joined.append(other) {
+            Ok(()) => Ok(joined),
+            Err(_) => Err(joined),
+        }
+    }
+
+    /// The nibbles from `i` on.
+    fn tail(&self, i: usize) -> Result<NibbleVec, Memory>
+        requires { i ≤ length self.now }
+        ensures ok { IfOk result (λ r. r ≡ drop i self.now) }
+        ensures succeeds { IsShort (drop i self.now) → IsOk result }
+    {
+        if i % 2 == 1 {
+            return self.tail_shifted(i);
+        }
+        let bytes = SmallVec::from_slice(*self.bytes.allocator(), &self.bytes.as_slice()[i / 2..])?;
+        let _ = bytes.spilled();
+        Ok(NibbleVec {
+            bytes,
+            is_odd: self.is_odd,
+        })
+    }
+
+    /// The nibbles from an odd place on.
+    fn tail_shifted(&self, i: usize) -> Result<NibbleVec, Memory>
+        requires within { i ≤ length self.now }
+        requires odd { i % 2 ≡ 1 }
+        ensures ok { IfOk result (λ r. r ≡ drop i self.now) }
+        ensures succeeds { IsShort (drop i self.now) → IsOk result }
+    {
+        let count = self.len() - i;
+        let mut rest = SmallVec::with_capacity(*self.bytes.allocator(), count.div_ceil(2))?;
+        let bytes = self.bytes.as_slice();
+        let last = push_shifted(&mut rest, bytes[i / 2] % 16, &bytes[i / 2 + 1..]);
+        if self.is_odd {
+            return Ok(NibbleVec::from_small(rest));
+        }
+        rest.push_reserved(last * 16);
+        Ok(NibbleVec {
+            bytes: rest,
+            is_odd: true,
+        })
+    }
+
+    /// Keeps the first `i` nibbles.
+    fn truncate(&mut self, i: usize)
+        requires { i ≤ length self.old }
+        ensures { self.new ≡ take i self.old }
+    {
+        let whole = i / 2;
+        if i % 2 == 0 {
+            self.bytes.truncate(whole);
+            self.is_odd = false;
+        } else {
+            self.bytes.truncate(whole + 1);
+            let byte = self.bytes[whole];
+            self.bytes[whole] = byte - byte % 16;
+            self.is_odd = true;
+        }
+    }
+
+    /// Appends the nibbles of another list.
+    fn append(&mut self, other: &NibbleVec) -> Result<(), Memory>
+        ensures ok { OnOk result (self.new ≡ self.old ++ other.now) }
+        ensures err { OnErr result (self.new ≡ self.old) }
+        ensures succeeds { IsShort (self.old ++ other.now) → IsOk result }
+    {
+        if self.is_odd {
+            return self.append_shifted(other);
+        }
+        self.bytes.extend_from_slice(other.bytes.as_slice())?;
+        self.is_odd = other.is_odd;
+        Ok(())
+    }
+
+    /// Appends the nibbles of another list to an odd one.
+    fn append_shifted(&mut self, other: &NibbleVec) -> Result<(), Memory>
+        requires { length self.old % 2 ≡ 1 }
+        ensures ok { OnOk result (self.new ≡ self.old ++ other.now) }
+        ensures err { OnErr result (self.new ≡ self.old) }
+        ensures succeeds { IsShort (self.old ++ other.now) → IsOk result }
+    {
+        self.bytes.reserve(other.len() / 2)?;
+        let end = self.bytes.len() - 1;
+        let high = self.bytes[end] / 16;
+        self.bytes.truncate(end);
+        let last = push_shifted(&mut self.bytes, high, other.bytes.as_slice());
+        if other.is_odd {
+            self.is_odd = false;
+            return Ok(());
+        }
+        self.bytes.push_reserved(last * 16);
         Ok(())
     }
 
@@ -171,21 +299,23 @@ impl NibbleVec {
             Err(_) => Err(BytesError::Memory),
         }
     }
+}
 
-    /// The same list.
-    ///
-    /// Never refused for at most 32 nibbles.
-    pub fn clone(&self) -> Result<NibbleVec, Memory>
-        ensures ok { IfOk result (λ v. v ≡ self.now) }
-        ensures succeeds { IsShort self.now → IsOk result }
-    {
-        let bytes = SmallVec::from_slice(*self.bytes.allocator(), self.bytes.as_slice())?;
-        let _ = bytes.spilled();
-        Ok(NibbleVec {
-            bytes,
-            is_odd: self.is_odd,
-        })
+/// Appends the nibble `high` and the nibbles of the bytes but the last, which it answers.
+fn push_shifted(out: &mut SmallVec<u8, 16>, high: u8, bytes: &[u8]) -> u8
+    requires half { high < 16 }
+    requires room { HasRoomFor out.old (length bytes.now) }
+    ensures nibbles { nibbles out.new.items ++ result ∷ [] ≡ nibbles out.old.items ++ high ∷ nibbles bytes.now }
+    ensures count { length out.new.items ≡ length out.old.items + length bytes.now }
+    ensures half { result < 16 }
+    ensures capacity { out.new.capacity ≡ out.old.capacity }
+{
+    let mut half = high;
+    for byte in bytes {
+        out.push_reserved(half * 16 + byte / 16);
+        half = byte % 16;
     }
+    half
 }
 
 impl PartialEq for NibbleVec {

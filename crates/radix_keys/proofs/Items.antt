@@ -1,0 +1,44 @@
+-- Keys that are encoded item by item.
+use Rattle.std.proofs.Common.{◌≡◌, ℕ, zero, suc, ◌+◌, ◌-◌, ◌<◌, ◌≤◌, List, [], ◌∷◌, ◌++◌, length, get_or, take, drop, reverse, flat_map, All, arith, sym, ◌∙◌, ap}
+use Rattle.std.proofs.lemmas.Grind.{flat_map-append}
+use Rattle.std.proofs.lemmas.List.{append-nil, get_or-reverse, length-append, length-reverse, length-take-le, take_more, take-append-drop}
+use Rattle.std.proofs.lemmas.List.Elements.{All-append}
+
+-- one more item of a list that is encoded item by item
+pub flat-more : {X : Type 0} (f : X → List ℕ) (xs : List X) (i : ℕ) (x : X) → i < length xs → x ≡ get_or xs i x
+    → flat_map f (take (i + 1) xs) ≡ flat_map f (take i xs) ++ f x
+flat-more f xs i x lt e =
+    rw (take_more xs i x lt, ← e) (flat_map-append f (take i xs) (x ∷ []) ∙ ap (λ t. flat_map f (take i xs) ++ t) (append-nil (f x)))
+
+pub flat-room : {X : Type 0} (f : X → List ℕ) (xs : List X) (i : ℕ) (x : X) → i < length xs → x ≡ get_or xs i x
+    → length (flat_map f (take i xs)) + length (f x) ≤ length (flat_map f xs)
+flat-room f xs i x lt e =
+    let whole : flat_map f xs ≡ flat_map f (take (i + 1) xs) ++ flat_map f (drop (i + 1) xs) =
+    ap (flat_map f) (sym (take-append-drop (i + 1) xs)) ∙ flat_map-append f (take (i + 1) xs) (drop (i + 1) xs) in
+    omega (
+      arith,
+      ap length whole,
+      ap length (flat-more f xs i x lt e),
+      length-append (flat_map f (take (i + 1) xs)) (flat_map f (drop (i + 1) xs)),
+      length-append (flat_map f (take i xs)) (f x),
+    )
+
+pub all-one : {X : Type 0} (P : X → Type 0) (x : X) → P x → All P (x ∷ [])
+all-one P x here zero d h = here
+all-one P x here (suc k) d h = absurd (omega arith)
+
+pub all-more : {X : Type 0} (P : X → Type 0) (xs : List X) (i : ℕ) (x : X) → i < length xs → x ≡ get_or xs i x
+    → All P (take i xs) → P x → All P (take (i + 1) xs)
+all-more P xs i x lt e all here =
+    rw (take_more xs i x lt, ← e) (All-append P (take i xs) (x ∷ []) all (all-one P x here))
+
+-- one more byte, from the end
+pub reverse-more : (xs : List ℕ) (n i : ℕ) → length xs ≡ n → i < n
+    → take (i + 1) (reverse xs) ≡ take i (reverse xs) ++ get_or xs (n - 1 - i) 0 ∷ []
+reverse-more xs n i e lt =
+    take_more (reverse xs) i 0 (omega (arith, length-reverse xs))
+    ∙ ap (λ t. take i (reverse xs) ++ t ∷ []) (get_or-reverse xs i 0 (omega arith))
+    ∙ ap (λ m. take i (reverse xs) ++ get_or xs (m - 1 - i) 0 ∷ []) e
+
+pub length-take-reverse : (xs : List ℕ) (i : ℕ) → i ≤ length xs → length (take i (reverse xs)) ≡ i
+length-take-reverse xs i le = length-take-le i (reverse xs) (omega (arith, length-reverse xs))

@@ -1,0 +1,101 @@
+-- Encodings keep the order of keys.
+use Rattle.std.proofs.Common.{◌≡◌, ◌⊎◌, inl, inr, ℕ, zero, suc, ◌+◌, ◌*◌, ◌/◌, ◌%◌, ◌^◌, ◌<◌, ◌≤◌, List, [], ◌∷◌, ℤ, pos, negsuc, FitsSigned, refl, arith, sym, ap, lit≤}
+use Rattle.std.proofs.Math.Nat.{mul-le-mul_right, suc-mul, mod-lt, mod-eq_of_lt}
+use Rattle.std.specs.Cmp.{nat_cmp_is}
+use Rattle.std.specs.Int.{Width, w8, w16, w32, w64, w128, byte_len, byte_at, bytes_high_first, to_be_bytes, cast_unsigned}
+use Rattle.std.specs.declared.cmp.Ordering.TheVariants.{Less, Equal, Greater}
+use Rattle.nibble_map.specs.Nibbles.{nibbles}
+use Rattle.radix_keys.specs.Distinct.{pow-256-pos, digits-suc, cast_unsigned-below}
+use Rattle.radix_keys.specs.Integers.{unsigned_key}
+use Rattle.radix_keys.specs.Order.{Precedes, SignedPrecedes, KeepsByteOrder, KeepsUnsignedOrder, KeepsSignedOrder}
+use mir.Val.{bits, hbits}
+
+three_ways : (x y : ℕ) → (x < y) ⊎ ((x ≡ y) ⊎ (y < x))
+three_ways zero zero = inr (inl refl)
+three_ways zero (suc y) = inl (omega arith)
+three_ways (suc x) zero = inr (inr (omega arith))
+three_ways (suc x) (suc y) = elim (three_ways x y) [
+  | inl lt ↦ inl (omega arith)
+  | inr (inl same) ↦ inr (inl (ap suc same))
+  | inr (inr gt) ↦ inr (inr (omega arith))
+]
+
+before-head : (x y : ℕ) (xs ys : List ℕ) → x < y → Precedes (x ∷ xs) (y ∷ ys)
+before-head x y xs ys lt = rw (sym (nat_cmp_is x y Less lt)) refl
+
+before-tail : (x y : ℕ) (xs ys : List ℕ) → x ≡ y → Precedes xs ys → Precedes (x ∷ xs) (y ∷ ys)
+before-tail x y xs ys e lt = rw (sym (nat_cmp_is x y Equal e)) lt
+
+nibbles_order : (xs ys : List ℕ) → Precedes xs ys → Precedes (nibbles xs) (nibbles ys)
+nibbles_order [] [] h = cc
+nibbles_order [] (y ∷ ys) h = refl
+nibbles_order (x ∷ xs) [] h = cc
+nibbles_order (x ∷ xs) (y ∷ ys) h =
+    let a = (x % 16) ∷ nibbles xs in
+    let b = (y % 16) ∷ nibbles ys in
+    elim (three_ways x y) [
+      | inl lt ↦ elim (three_ways (x / 16) (y / 16)) [
+        | inl high ↦ before-head (x / 16) (y / 16) a b high
+        | inr (inl same) ↦ before-tail (x / 16) (y / 16) a b same (before-head (x % 16) (y % 16) (nibbles xs) (nibbles ys) (omega arith))
+        | inr (inr high) ↦ absurd (omega arith)
+      ]
+      | inr (inl same) ↦
+          let rest : Precedes xs ys = rw (sym (nat_cmp_is x y Equal same)) at h in
+          before-tail (x / 16) (y / 16) a b (ap (λ t. t / 16) same)
+          (before-tail (x % 16) (y % 16) (nibbles xs) (nibbles ys) (ap (λ t. t % 16) same) (nibbles_order xs ys rest))
+      | inr (inr gt) ↦ let wrong : Greater ≡ Less = rw (sym (nat_cmp_is x y Greater gt)) at h in cc
+    ]
+
+-- two numbers in base P differ first in the high digit, or in what is below it
+digits : (P a b r s : ℕ) → r < P → s < P → a * P + r < b * P + s → (a < b) ⊎ ((a ≡ b) × (r < s))
+digits P a b r s p q h = elim (three_ways a b) [
+  | inl lt ↦ inl lt
+  | inr (inl same) ↦ let e = ap (λ t. t * P) same in inr (same, omega arith)
+  | inr (inr gt) ↦ let m : suc b * P ≤ a * P = mul-le-mul_right P gt in absurd (omega (arith, m, suc-mul b P))
+]
+
+bytes_order : (k m n : ℕ) → m % 256 ^ k < n % 256 ^ k → Precedes (bytes_high_first k m) (bytes_high_first k n)
+bytes_order zero m n h = absurd (omega arith)
+bytes_order (suc k) m n h =
+    elim (digits (256 ^ k) (byte_at k m) (byte_at k n) (m % 256 ^ k) (n % 256 ^ k) (mod-lt m (pow-256-pos k)) (mod-lt n (pow-256-pos k))
+    (omega (arith, digits-suc k m, digits-suc k n))) [
+      | inl lt ↦ before-head (byte_at k m) (byte_at k n) (bytes_high_first k m) (bytes_high_first k n) lt
+      | inr p ↦ before-tail (byte_at k m) (byte_at k n) (bytes_high_first k m) (bytes_high_first k n) p.0 (bytes_order k m n p.1)
+    ]
+
+pub byte_order : KeepsByteOrder
+byte_order = record { precedes = nibbles_order }
+
+number_order : (w : Width) (m n : ℕ) → m < n → n < 256 ^ byte_len w → Precedes (unsigned_key w m) (unsigned_key w n)
+number_order w m n lt below =
+    nibbles_order (to_be_bytes w m) (to_be_bytes w n) (bytes_order (byte_len w) m n
+    (omega (arith, mod-eq_of_lt {n = m} {m = 256 ^ byte_len w} (omega arith), mod-eq_of_lt {n = n} {m = 256 ^ byte_len w} below)))
+
+pub unsigned_order : (w : Width) → KeepsUnsignedOrder w
+unsigned_order w = record { precedes = number_order w }
+
+-- the bounds of a signed number are half of those of an unsigned one
+halves : (w : Width) → 2 * 2 ^ hbits w ≤ 2 ^ bits w
+halves w8 = lit≤ tt
+halves w16 = lit≤ tt
+halves w32 = lit≤ tt
+halves w64 = lit≤ tt
+halves w128 = lit≤ tt
+
+cast_order : (w : Width) (x y : ℤ) → FitsSigned w x → FitsSigned w y → SignedPrecedes x y → cast_unsigned w x < cast_unsigned w y
+cast_order w (pos m) (pos n) p q h = h
+cast_order w (pos m) (negsuc n) p q h = omega (arith, halves w, p.sfits, q.sfits)
+cast_order w (negsuc m) (pos n) p q h = absurd h
+cast_order w (negsuc m) (negsuc n) p q h = omega (arith, halves w, p.sfits, q.sfits)
+
+whole_bytes : (w : Width) → 256 ^ byte_len w ≡ 2 ^ bits w
+whole_bytes w8 = refl
+whole_bytes w16 = refl
+whole_bytes w32 = refl
+whole_bytes w64 = refl
+whole_bytes w128 = refl
+
+pub signed_order : (w : Width) → KeepsSignedOrder w
+signed_order w = record {
+  precedes = λ x y p q h. number_order w (cast_unsigned w x) (cast_unsigned w y) (cast_order w x y p q h) (cast_unsigned-below w y (whole_bytes w) q);
+}

@@ -1,0 +1,337 @@
+//! Integers as keys: their bytes, and wrappers that fix the order of the bytes.
+ghost use Rattle.std.specs.Prelude.{◌≡◌, ℕ, FitsSigned, ◌<◌, ◌^◌, List, length, slice_index, true, refl};
+ghost use Rattle.std.specs.Int.{w8, w16, w32, w64, to_be_bytes};
+ghost use Rattle.std.proofs.Common.{lit<};
+ghost use Rattle.radix_keys.specs.Distinct.{unsigned-distinct, signed-distinct};
+ghost use Rattle.radix_keys.specs.Integers.{signed_bytes};
+
+use std::marker::Model;
+
+/// An integer whose bytes can be a key.
+///
+/// Two values within the type's bounds with equal bytes are equal.
+pub trait KeyInt: Copy + Eq {
+    // The width in bytes.
+    ghost WIDTH: { ℕ };
+
+    // The bytes of a value, the highest first.
+    ghost bytes: { Self → List ℕ };
+
+    // Whether a number is within the type's bounds.
+    ghost is_value: { Self → Type 0 };
+
+    /// The width in bytes, at least 1.
+    const WIDTH: usize;
+
+    /// The byte at the index `i`, which is below the width. Byte 0 is the highest.
+    fn byte(&self, i: usize) -> u8
+        requires { i < WIDTH }
+        ensures byte { result ≡ slice_index (bytes self.now) i }
+        ensures value { is_value self.now };
+
+    ghost width_positive: { 0 < WIDTH };
+
+    ghost bytes_len: { (x : Self) → length (bytes x) ≡ WIDTH };
+
+    ghost distinct: { (x y : Self) → is_value x → is_value y → bytes x ≡ bytes y → Self.eq x y ≡ true };
+}
+
+impl KeyInt for u8 {
+    ghost WIDTH = { 1 };
+
+    ghost bytes = { to_be_bytes w8 };
+
+    ghost is_value = { λ n. n < 2 ^ 8 };
+
+    ghost width_positive = { lit< tt };
+
+    ghost bytes_len = { λ _. refl };
+
+    ghost distinct = { unsigned-distinct w8 };
+
+    const WIDTH: usize = 1;
+
+    fn byte(&self, i: usize) -> u8 {
+        let value: u8 = *self;
+        value.to_be_bytes()[i]
+    }
+}
+
+impl KeyInt for u16 {
+    ghost WIDTH = { 2 };
+
+    ghost bytes = { to_be_bytes w16 };
+
+    ghost is_value = { λ n. n < 2 ^ 16 };
+
+    ghost width_positive = { lit< tt };
+
+    ghost bytes_len = { λ _. refl };
+
+    ghost distinct = { unsigned-distinct w16 };
+
+    const WIDTH: usize = 2;
+
+    fn byte(&self, i: usize) -> u8 {
+        let value: u16 = *self;
+        value.to_be_bytes()[i]
+    }
+}
+
+impl KeyInt for u32 {
+    ghost WIDTH = { 4 };
+
+    ghost bytes = { to_be_bytes w32 };
+
+    ghost is_value = { λ n. n < 2 ^ 32 };
+
+    ghost width_positive = { lit< tt };
+
+    ghost bytes_len = { λ _. refl };
+
+    ghost distinct = { unsigned-distinct w32 };
+
+    const WIDTH: usize = 4;
+
+    fn byte(&self, i: usize) -> u8 {
+        let value: u32 = *self;
+        value.to_be_bytes()[i]
+    }
+}
+
+impl KeyInt for u64 {
+    ghost WIDTH = { 8 };
+
+    ghost bytes = { to_be_bytes w64 };
+
+    ghost is_value = { λ n. n < 2 ^ 64 };
+
+    ghost width_positive = { lit< tt };
+
+    ghost bytes_len = { λ _. refl };
+
+    ghost distinct = { unsigned-distinct w64 };
+
+    const WIDTH: usize = 8;
+
+    fn byte(&self, i: usize) -> u8 {
+        let value: u64 = *self;
+        value.to_be_bytes()[i]
+    }
+}
+
+impl KeyInt for usize {
+    ghost WIDTH = { 8 };
+
+    ghost bytes = { to_be_bytes w64 };
+
+    ghost is_value = { λ n. n < 2 ^ 64 };
+
+    ghost width_positive = { lit< tt };
+
+    ghost bytes_len = { λ _. refl };
+
+    ghost distinct = { unsigned-distinct w64 };
+
+    const WIDTH: usize = 8;
+
+    fn byte(&self, i: usize) -> u8 {
+        let value: usize = *self;
+        value.to_be_bytes()[i]
+    }
+}
+
+impl KeyInt for i8 {
+    ghost WIDTH = { 1 };
+
+    ghost bytes = { signed_bytes w8 };
+
+    ghost is_value = { FitsSigned w8 };
+
+    ghost width_positive = { lit< tt };
+
+    ghost bytes_len = { λ _. refl };
+
+    ghost distinct = { signed-distinct w8 refl };
+
+    const WIDTH: usize = 1;
+
+    fn byte(&self, i: usize) -> u8 {
+        let value: i8 = *self;
+        value.to_be_bytes()[i]
+    }
+}
+
+impl KeyInt for i16 {
+    ghost WIDTH = { 2 };
+
+    ghost bytes = { signed_bytes w16 };
+
+    ghost is_value = { FitsSigned w16 };
+
+    ghost width_positive = { lit< tt };
+
+    ghost bytes_len = { λ _. refl };
+
+    ghost distinct = { signed-distinct w16 refl };
+
+    const WIDTH: usize = 2;
+
+    fn byte(&self, i: usize) -> u8 {
+        let value: i16 = *self;
+        value.to_be_bytes()[i]
+    }
+}
+
+impl KeyInt for i32 {
+    ghost WIDTH = { 4 };
+
+    ghost bytes = { signed_bytes w32 };
+
+    ghost is_value = { FitsSigned w32 };
+
+    ghost width_positive = { lit< tt };
+
+    ghost bytes_len = { λ _. refl };
+
+    ghost distinct = { signed-distinct w32 refl };
+
+    const WIDTH: usize = 4;
+
+    fn byte(&self, i: usize) -> u8 {
+        let value: i32 = *self;
+        value.to_be_bytes()[i]
+    }
+}
+
+impl KeyInt for i64 {
+    ghost WIDTH = { 8 };
+
+    ghost bytes = { signed_bytes w64 };
+
+    ghost is_value = { FitsSigned w64 };
+
+    ghost width_positive = { lit< tt };
+
+    ghost bytes_len = { λ _. refl };
+
+    ghost distinct = { signed-distinct w64 refl };
+
+    const WIDTH: usize = 8;
+
+    fn byte(&self, i: usize) -> u8 {
+        let value: i64 = *self;
+        value.to_be_bytes()[i]
+    }
+}
+
+impl KeyInt for isize {
+    ghost WIDTH = { 8 };
+
+    ghost bytes = { signed_bytes w64 };
+
+    ghost is_value = { FitsSigned w64 };
+
+    ghost width_positive = { lit< tt };
+
+    ghost bytes_len = { λ _. refl };
+
+    ghost distinct = { signed-distinct w64 refl };
+
+    const WIDTH: usize = 8;
+
+    fn byte(&self, i: usize) -> u8 {
+        let value: isize = *self;
+        value.to_be_bytes()[i]
+    }
+}
+
+/// An integer that is encoded with its highest byte first.
+#[derive(Clone, Copy)]
+pub struct BigEndian<T> {
+    value: T,
+}
+
+impl<T> Model for BigEndian<T> {
+    ghost Value = { T };
+
+    ghost view = { λ w. w.value };
+
+    ghost inverse = { λ x. record { value = x } };
+}
+
+impl<T: KeyInt> BigEndian<T> {
+    /// The integer that the wrapper was made from.
+    pub fn value(&self) -> T
+        ensures { result ≡ self.now }
+    {
+        self.value
+    }
+}
+
+impl<T: KeyInt> From<T> for BigEndian<T> {
+    ghost from_gives = { λ x w. w ≡ x };
+
+    fn from(value: T) -> BigEndian<T> {
+        BigEndian { value }
+    }
+}
+
+impl<T: KeyInt> PartialEq for BigEndian<T> {
+    ghost eq = { T.eq };
+
+    ghost laws = { T.PartialEq.laws };
+
+    fn eq(&self, other: &BigEndian<T>) -> bool {
+        self.value == other.value
+    }
+}
+
+impl<T: KeyInt> Eq for BigEndian<T> {
+    ghost laws = { T.Eq.laws };
+}
+
+/// An integer that is encoded with its lowest byte first.
+#[derive(Clone, Copy)]
+pub struct LittleEndian<T> {
+    value: T,
+}
+
+impl<T> Model for LittleEndian<T> {
+    ghost Value = { T };
+
+    ghost view = { λ w. w.value };
+
+    ghost inverse = { λ x. record { value = x } };
+}
+
+impl<T: KeyInt> LittleEndian<T> {
+    /// The integer that the wrapper was made from.
+    pub fn value(&self) -> T
+        ensures { result ≡ self.now }
+    {
+        self.value
+    }
+}
+
+impl<T: KeyInt> From<T> for LittleEndian<T> {
+    ghost from_gives = { λ x w. w ≡ x };
+
+    fn from(value: T) -> LittleEndian<T> {
+        LittleEndian { value }
+    }
+}
+
+impl<T: KeyInt> PartialEq for LittleEndian<T> {
+    ghost eq = { T.eq };
+
+    ghost laws = { T.PartialEq.laws };
+
+    fn eq(&self, other: &LittleEndian<T>) -> bool {
+        self.value == other.value
+    }
+}
+
+impl<T: KeyInt> Eq for LittleEndian<T> {
+    ghost laws = { T.Eq.laws };
+}

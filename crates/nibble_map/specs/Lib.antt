@@ -9,3 +9,6 @@ pub mod Trees
 pub mod Canonical
 pub mod Computed
 pub mod Rows
+pub mod Masks
+pub mod Kept
+pub mod Alters

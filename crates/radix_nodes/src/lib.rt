@@ -1,0 +1,7 @@
+//! The nodes of the trie.
+#![tactic(auto)]
+
+pub mod fragments;
+pub mod nibbles;
+pub mod traversal;
+pub mod trie_node;

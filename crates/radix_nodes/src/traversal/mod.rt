@@ -1,0 +1,6 @@
+//! Walks down the nodes.
+
+pub mod compare;
+pub mod insert;
+pub mod remove;
+pub mod step;

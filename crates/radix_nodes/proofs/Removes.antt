@@ -16,7 +16,7 @@ use Rattle.radix_nodes.proofs.Steps.{is_at}
 use Rattle.nibble_map.proofs.KeptKids.{set_same}
 use Rattle.nibble_map.proofs.KeptEdits.{kid_alters, node_kid}
 use Rattle.std.specs.Vec.{with_item}
-use Rattle.radix_nodes.specs.declared.nibbles.Memory.{Memory}
+use Rattle.radix_keys.specs.declared.nibbles.Memory.{Memory}
 use Rattle.nibble_map.proofs.KeptCuts.{pair_goes, leaf_goes, root_kid, merged_kid, remove_full}
 
 pub if_ok : {A E : Type 0} (P Q : A → Type 0) (r : Result A E) → IfOk r P → ((a : A) → P a → Q a) → IfOk r Q

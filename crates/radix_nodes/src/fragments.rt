@@ -2,7 +2,7 @@
 ghost use Rattle.std.specs.Prelude.{◌≡◌, ◌-◌, ◌≤◌, ◌++◌, length, take, drop, IfOk, IsOk};
 ghost use Rattle.nibble_map.specs.Nibbles.{IsShort};
 
-use crate::nibbles::{Memory, Nibblet};
+use radix_keys::{Memory, Nibblet};
 use std::alloc::Global;
 
 // The nibbles from place `from` up to place `to`.
@@ -40,8 +40,9 @@ pub fn joined(first: &Nibblet, second: &Nibblet) -> Result<Nibblet, Memory>
     ensures made { IfOk result (λ r. r ≡ first.now ++ second.now) }
     ensures succeeds { IsShort (first.now ++ second.now) → IsOk result }
 {
-    match first.clone()?.join(second) {
-        Ok(both) => Ok(both),
-        Err(_) => Err(Memory),
+    let mut both = first.clone()?;
+    for i in 0..second.len() {
+        both.push(second.get(i))?;
     }
+    Ok(both)
 }

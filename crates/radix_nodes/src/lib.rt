@@ -2,6 +2,5 @@
 #![tactic(auto)]
 
 pub mod fragments;
-pub mod nibbles;
 pub mod traversal;
 pub mod trie_node;

@@ -1,7 +1,7 @@
 //! The comparison of nibbles.
 ghost use Rattle.std.specs.Prelude.{◌≡◌, ◌≢◌, ◌+◌, ◌<◌, ◌≤◌, ◌⊎◌, length, take, drop, slice_index};
 
-use crate::nibbles::Nibblet;
+use radix_keys::Nibblet;
 
 /// How far a fragment and a query agree, and how many nibbles were compared for that.
 #[derive(Clone, Copy)]

@@ -5,7 +5,7 @@ ghost use Rattle.nibble_map.specs.Kept.{IsTreePlaced, firsts, leaf};
 ghost use Rattle.radix_nodes.specs.Nodes.{tree_of, fragment_of, IsUpper, EditOutcome, ReplaceOutcome, SetOutcome};
 
 use crate::fragments::{head, tail};
-use crate::nibbles::{Memory, Nibblet};
+use radix_keys::{Memory, Nibblet};
 use crate::traversal::compare::compare;
 use crate::trie_node::links::{link, lower};
 use crate::trie_node::mask::{beside, mark, place};
@@ -155,10 +155,8 @@ fn grow_split<K: Drop, V: Drop>(
     let rest = tail(&node.fragment, alloc, n)?;
     let mask = mark(0, rest.get(0));
     let mut children = Vec::new(alloc);
-    let Ok(()) = children.reserve(2) else {
-        return Err(Memory);
-    };
-    match Box::new(
+    children.reserve(2)?;
+    let upper = Box::new(
         alloc,
         TrieNode {
             fragment,
@@ -166,10 +164,8 @@ fn grow_split<K: Drop, V: Drop>(
             mask,
             children,
         },
-    ) {
-        Ok(upper) => Ok((upper, rest)),
-        Err(_) => Err(Memory),
-    }
+    )?;
+    Ok((upper, rest))
 }
 
 // The node in `slot` parts from the key after n nibbles of its fragment: a new node stands in its place, with the pair, or with a

@@ -4,7 +4,7 @@ ghost use Rattle.nibble_map.specs.Kept.{IsTreePlaced, IsAt, none};
 ghost use Rattle.radix_nodes.specs.Nodes.{tree_of, fragment_of, out_of, unboxed, CutOutcome, RootOutcome};
 
 use crate::fragments::joined;
-use crate::nibbles::{Memory, Nibblet};
+use radix_keys::{Memory, Nibblet};
 use crate::traversal::step::step;
 use crate::trie_node::links::{absorb, take_pair, unlink};
 use crate::trie_node::{KeyValue, TrieNode, has_pair, is_end};

@@ -3,7 +3,7 @@ ghost use Rattle.std.specs.Prelude.{◌≡◌, ◌≤◌, length, IfSome};
 ghost use Rattle.nibble_map.specs.Kept.{IsTreePlaced};
 ghost use Rattle.radix_nodes.specs.Nodes.{tree_of, IsStep};
 
-use crate::nibbles::Nibblet;
+use radix_keys::Nibblet;
 use crate::traversal::compare::compare;
 use crate::trie_node::TrieNode;
 use crate::trie_node::mask::place;

@@ -6,7 +6,7 @@ ghost use Rattle.radix_nodes.specs.Nodes.{tree_of, out_of, unboxed};
 pub mod links;
 pub mod mask;
 
-use crate::nibbles::Nibblet;
+use radix_keys::Nibblet;
 use std::alloc::Global;
 
 /// A key and the value that stands at its list of nibbles.

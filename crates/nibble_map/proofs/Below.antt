@@ -6,7 +6,6 @@ use Rattle.std.proofs.lemmas.Cmp.{nat_list_cmp_total}
 use Rattle.std.specs.FinMap as map
 use Rattle.nibble_map.specs.Lists.{is_prefix}
 use Rattle.nibble_map.specs.Maps.{NibbleMap, below}
-use Rattle.nibble_map.specs.Laws.{EditsBelow}
 use Rattle.nibble_map.proofs.Bridge.{alike, tied}
 use Rattle.nibble_map.proofs.Sorted.{same}
 
@@ -14,7 +13,7 @@ at : (t : List ℕ → Bool) (q e : List ℕ) → T (t e) → T (eq_by_cmp (slic
 at t q e h b = subst (λ l. T (t l)) (sym (same q e (tied _ b))) h
 
 module _ {P : Type 0} where
-  kept : (m : NibbleMap P) (t : List ℕ → Bool) (q : List ℕ) → map.get (map.retain_keys m t) q ≡ cond (t q) (map.get m q) None
+  pub kept : (m : NibbleMap P) (t : List ℕ → Bool) (q : List ℕ) → map.get (map.retain_keys m t) q ≡ cond (t q) (map.get m q) None
   kept m t q = map.get-retain_keys m t q (alike (slice_cmp nat_cmp) same t q)
 
   -- a test t at q, and an entry at e that q may be; b is whether it is
@@ -38,21 +37,21 @@ module _ {P : Type 0} where
   twice false true o = refl
   twice false false o = refl
 
-  insert_inside : (m : NibbleMap P) (p e : List ℕ) (v : P) → T (is_prefix p e) → below (map.insert m e v) p ≡ map.insert (below m p) e v
+  pub insert_inside : (m : NibbleMap P) (p e : List ℕ) (v : P) → T (is_prefix p e) → below (map.insert m e v) p ≡ map.insert (below m p) e v
   insert_inside m p e v h = map.same_map nat_list_cmp_total same _ _ (λ q. kept _ (is_prefix p) q ∙ ap (λ o. cond (is_prefix p q) o None) (map.get-insert nat_list_cmp_total m e v q)
       ∙ inside (is_prefix p q) (eq_by_cmp (slice_cmp nat_cmp) q e) (Some v) (map.get m q) (at (is_prefix p) q e h)
       ∙ ap (cond (eq_by_cmp (slice_cmp nat_cmp) q e) (Some v)) (sym (kept m (is_prefix p) q)) ∙ sym (map.get-insert nat_list_cmp_total (below m p) e v q))
 
-  insert_outside : (m : NibbleMap P) (p e : List ℕ) (v : P) → T (not (is_prefix p e)) → below (map.insert m e v) p ≡ below m p
+  pub insert_outside : (m : NibbleMap P) (p e : List ℕ) (v : P) → T (not (is_prefix p e)) → below (map.insert m e v) p ≡ below m p
   insert_outside m p e v h = map.same_map nat_list_cmp_total same _ _ (λ q. kept _ (is_prefix p) q ∙ ap (λ o. cond (is_prefix p q) o None) (map.get-insert nat_list_cmp_total m e v q)
       ∙ outside (is_prefix p q) (eq_by_cmp (slice_cmp nat_cmp) q e) (Some v) (map.get m q) (at (λ l. not (is_prefix p l)) q e h) ∙ sym (kept m (is_prefix p) q))
 
-  remove_below : (m : NibbleMap P) (p e : List ℕ) → below (map.remove m e) p ≡ map.remove (below m p) e
+  pub remove_below : (m : NibbleMap P) (p e : List ℕ) → below (map.remove m e) p ≡ map.remove (below m p) e
   remove_below m p e = map.same_map nat_list_cmp_total same _ _ (λ q. kept _ (is_prefix p) q ∙ ap (λ o. cond (is_prefix p q) o None) (map.get-remove nat_list_cmp_total m e q)
       ∙ cut (is_prefix p q) (eq_by_cmp (slice_cmp nat_cmp) q e) (map.get m q)
       ∙ ap (cond (eq_by_cmp (slice_cmp nat_cmp) q e) None) (sym (kept m (is_prefix p) q)) ∙ sym (map.get-remove nat_list_cmp_total (below m p) e q))
 
-  below_below : (m : NibbleMap P) (p q : List ℕ) → below (below m p) q ≡ map.retain_keys m (λ e. is_prefix p e && is_prefix q e)
+  pub below_below : (m : NibbleMap P) (p q : List ℕ) → below (below m p) q ≡ map.retain_keys m (λ e. is_prefix p e && is_prefix q e)
   below_below m p q = map.same_map nat_list_cmp_total same _ _ (λ x. kept _ (is_prefix q) x ∙ ap (λ o. cond (is_prefix q x) o None) (kept m (is_prefix p) x)
       ∙ twice (is_prefix p x) (is_prefix q x) (map.get m x) ∙ sym (kept m (λ e. is_prefix p e && is_prefix q e) x))
 
@@ -60,8 +59,5 @@ module _ {P : Type 0} where
   true_at true h o = refl
   true_at false h o = absurd h
 
-  get_below : (m : NibbleMap P) (p e : List ℕ) → T (is_prefix p e) → map.get (below m p) e ≡ map.get m e
+  pub get_below : (m : NibbleMap P) (p e : List ℕ) → T (is_prefix p e) → map.get (below m p) e ≡ map.get m e
   get_below m p e h = kept m (is_prefix p) e ∙ true_at _ h _
-
-pub edits_below : (P : Type 0) → EditsBelow P
-edits_below P = record { insert_inside = insert_inside; insert_outside = insert_outside; remove_below = remove_below; below_below = below_below; get_below = get_below }

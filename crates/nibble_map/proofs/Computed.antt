@@ -1,114 +1,59 @@
--- The slow functions give what the relations say.
-use Rattle.std.proofs.Common.{◌≡◌, ℕ, ◌≢◌, ◌⊎◌, List, [], ◌∷◌, ◌++◌, map, filter, filter_map, flat_map, Option, Some, None, Bool, cond, not, ◌||◌, eqb, true, false, refl, ap, sym, subst, ◌∙◌, inl, inr, append_assoc, append-nil, arith, eq-eqb, ne_eqb}
+-- The slow lists of points and prefixes hold what the relations say.
+use Rattle.std.proofs.Common.{◌≡◌, ℕ, ◌≢◌, ◌⊎◌, ◌↔◌, List, [], ◌∷◌, ◌++◌, filter, filter_map, flat_map, Option, Some, None, Bool, cond, not, ◌||◌, eqb, true, false, refl, ap, sym, subst, ◌∙◌, inl, inr, append_assoc, append-nil, eq-eqb, ne_eqb, T, is_some, is_eq, nat_cmp, Ordering, map}
+use Rattle.std.specs.Bool.{⊤}
+use Rattle.std.specs.Cmp.{tied_itself}
+use Rattle.std.specs.Cmp.Lexicographic.{slice_cmp}
+use Rattle.std.specs.FinMap.{find, is_sorted}
+use Rattle.std.specs.FinMap.Entries.{is_some-find, is_sorted-put, find-put}
 use Rattle.std.specs.List.{list_any, cons_option}
-use Rattle.std.proofs.lemmas.Bool.{cases_eq, cases_Bool, cases_order, lt-ltb, le-ltb}
+use Rattle.std.proofs.lemmas.Bool.{cases_eq, cases_Bool}
+use Rattle.std.proofs.lemmas.Cmp.{nat_list_cmp_total}
 use Rattle.nibble_map.specs.Lists.{IsPrefix, IsBefore, Has, IsRising, Lists}
 use Rattle.nibble_map.specs.Stored.{stored, IsReached, IsPoint, IsStem}
-use Rattle.nibble_map.specs.Computed.{same, is_before, put, gather, fronts, prefixes, next_after, nexts, is_point, points}
+use Rattle.nibble_map.specs.Computed.{same, gathered, fronts, prefixes, next_after, nexts, is_point, points}
+use Rattle.nibble_map.proofs.Bridge.{tied}
 use Rattle.nibble_map.proofs.Cut.{cons_head, cons_tail}
 use Rattle.nibble_map.proofs.Members.{Has-left, Has-right, Has-cases}
 use Rattle.nibble_map.proofs.Rising.{Each-from_has}
-use Rattle.nibble_map.proofs.Stems.{before_trans, no_cons}
+use Rattle.nibble_map.proofs.Sorted.{same as one, has_any, any_has, rising_of_sorted}
+use Rattle.nibble_map.proofs.Stems.{no_cons}
 use Rattle.nibble_map.proofs.Unique.{Each-has}
 
-abbrev Placing : List ℕ → List ℕ → Type 0
-Placing p q = (IsBefore p q × (is_before p q ≡ true) × (same p q ≡ false))
-    ⊎ (((p ≡ q) × (is_before p q ≡ false) × (same p q ≡ true)) ⊎ (IsBefore q p × (is_before p q ≡ false) × (same p q ≡ false)))
+abbrev R : List ℕ → List ℕ → Ordering
+R = slice_cmp nat_cmp
 
--- how two lists stand
-order : (p q : List ℕ) → Placing p q
-order [] [] = inr (inl (refl, refl, refl))
-order [] (b ∷ q) = inl (tt, refl, refl)
-order (a ∷ p) [] = inr (inr (tt, refl, refl))
-order (a ∷ p) (b ∷ q) =
-    elim (cases_order a b) [
-      | inl e ↦ elim (order p q) [
-        | inl h ↦ inl (inr (e, h.0), rw (le-ltb a b (omega (arith, e)), eq-eqb a b e) h.1, rw (eq-eqb a b e) h.2)
-        | inr k ↦ elim k [
-          | inl h ↦ inr (inl (both e h.0, rw (le-ltb a b (omega (arith, e)), eq-eqb a b e) h.1, rw (eq-eqb a b e) h.2))
-          | inr h ↦ inr (inr (inr (sym e, h.0), rw (le-ltb a b (omega (arith, e)), eq-eqb a b e) h.1, rw (eq-eqb a b e) h.2))
-        ]
-      ]
-      | inr k ↦ elim k [
-        | inl l ↦ inl (inl l, rw (lt-ltb a b l) refl, rw (ne_eqb a b (λ e. omega (arith, l, e))) refl)
-        | inr l ↦ inr (inr (inl l, rw (le-ltb a b (omega (arith, l)), ne_eqb a b (λ e. omega (arith, l, e))) refl, rw (ne_eqb a b (λ e. omega (arith, l, e))) refl))
-      ]
-    ]
+pub same_is : (p q : List ℕ) → same p q ≡ true → p ≡ q
+same_is p q h = one p q (tied _ (subst T (sym h) tt))
+
+pub same_itself : (p : List ℕ) → same p p ≡ true
+same_itself p = ap is_eq (tied_itself nat_list_cmp_total p)
+
+-- gathered lists
+listed : (x : List ℕ) (es : List (List ℕ × ⊤)) → Has (stored es) x ↔ T (is_some (find R x es))
+listed x es = ((λ h. subst T (sym (is_some-find R x es)) (any_has x (stored es) h)), (λ t. has_any x (stored es) (subst T (is_some-find R x es) t)))
+
+gathered_sorted : (ps : List (List ℕ)) → T (is_sorted R (gathered ps))
+gathered_sorted [] = tt
+gathered_sorted (p ∷ ps) = is_sorted-put R nat_list_cmp_total p tt (gathered ps) (gathered_sorted ps)
+
+gathered_has : (ps : List (List ℕ)) (x : List ℕ) → Has (stored (gathered ps)) x → Has ps x
+gathered_has [] x h = absurd h
+gathered_has (p ∷ ps) x h =
+    by (same x p) refl (subst (λ o. T (is_some o)) (find-put R nat_list_cmp_total x p tt (gathered ps)) ((listed x (gathered (p ∷ ps))).0 h)) (gathered_has ps x)
   where
-    both : a ≡ b → p ≡ q → a ∷ p ≡ b ∷ q
-    both e h = cc
+    by : (b : Bool) → same x p ≡ b → T (is_some (cond b (Some tt) (find R x (gathered ps)))) → (Has (stored (gathered ps)) x → Has ps x) → Has (p ∷ ps) x
+    by true e t later = inl (same_is x p e)
+    by false e t later = inr (later ((listed x (gathered ps)).1 t))
 
-same_is : (p q : List ℕ) → same p q ≡ true → p ≡ q
-same_is p q h = elim (order p q) [
-  | inl k ↦ absurd (let i : false ≡ true = sym k.2 ∙ h in cc i)
-  | inr m ↦ elim m [ inl k ↦ k.0 | inr k ↦ absurd (let i : false ≡ true = sym k.2 ∙ h in cc i) ]
-]
-
-same_itself : (p : List ℕ) → same p p ≡ true
-same_itself [] = refl
-same_itself (a ∷ p) = rw (eq-eqb a a refl) (same_itself p)
-
-put_is : (p q : List ℕ) (qs : List (List ℕ)) →
-    (IsBefore p q × (put p (q ∷ qs) ≡ p ∷ (q ∷ qs))) ⊎ (((p ≡ q) × (put p (q ∷ qs) ≡ q ∷ qs)) ⊎ (IsBefore q p × (put p (q ∷ qs) ≡ q ∷ put p qs)))
-put_is p q qs = elim (order p q) [
-  | inl k ↦ inl (k.0, rw k.1 refl)
-  | inr m ↦ elim m [ inl k ↦ inr (inl (k.0, rw (k.1, k.2) refl)) | inr k ↦ inr (inr (k.0, rw (k.1, k.2) refl)) ]
-]
-
-put_has : (p : List ℕ) (qs : List (List ℕ)) (x : List ℕ) → Has (put p qs) x → (x ≡ p) ⊎ Has qs x
-put_has p [] x h = h
-put_has p (q ∷ qs) x h = elim (put_is p q qs) [
-  | inl k ↦ subst (λ l. Has l x) k.1 h
-  | inr m ↦ elim m [
-    | inl k ↦ inr (subst (λ l. Has l x) k.1 h)
-    | inr k ↦ elim (let i : Has (q ∷ put p qs) x = subst (λ l. Has l x) k.1 h in i) [
-      | inl e ↦ inr (inl e)
-      | inr j ↦ elim (put_has p qs x j) [ inl e ↦ inl e | inr i ↦ inr (inr i) ]
-    ]
-  ]
-]
-
-has_put : (p : List ℕ) (qs : List (List ℕ)) (x : List ℕ) → (x ≡ p) ⊎ Has qs x → Has (put p qs) x
-has_put p [] x h = h
-has_put p (q ∷ qs) x h = elim (put_is p q qs) [
-  | inl k ↦ subst (λ l. Has l x) (sym k.1) h
-  | inr m ↦ elim m [
-    | inl k ↦ subst (λ l. Has l x) (sym k.1) (elim h [ inl e ↦ inl (e ∙ k.0) | inr i ↦ i ])
-    | inr k ↦ subst (λ l. Has l x) (sym k.1) (elim h [
-      | inl e ↦ inr (has_put p qs x (inl e))
-      | inr i ↦ elim i [ inl e ↦ inl e | inr j ↦ inr (has_put p qs x (inr j)) ]
-    ])
-  ]
-]
-
-put_rises : (p : List ℕ) (qs : List (List ℕ)) → IsRising qs → IsRising (put p qs)
-put_rises p [] h = (tt, tt)
-put_rises p (q ∷ qs) h = elim (put_is p q qs) [
-  | inl k ↦ subst IsRising (sym k.1) ((k.0, Each-from_has (IsBefore p) qs (λ x i. before_trans p q x k.0 (Each-has (IsBefore q) qs x h.0 i))), h)
-  | inr m ↦ elim m [
-    | inl k ↦ subst IsRising (sym k.1) h
-    | inr k ↦ subst IsRising (sym k.1) (
-      Each-from_has (IsBefore q) (put p qs) (λ x i. elim (put_has p qs x i) [
-        | inl e ↦ subst (IsBefore q) (sym e) k.0
-        | inr j ↦ Each-has (IsBefore q) qs x h.0 j
-      ]),
-      put_rises p qs h.1,
-    )
-  ]
-]
-
-gather_rises : (ps : List (List ℕ)) → IsRising (gather ps)
-gather_rises [] = tt
-gather_rises (p ∷ ps) = put_rises p (gather ps) (gather_rises ps)
-
-gather_has : (ps : List (List ℕ)) (x : List ℕ) → Has (gather ps) x → Has ps x
-gather_has [] x h = h
-gather_has (p ∷ ps) x h = elim (put_has p (gather ps) x h) [ inl e ↦ inl e | inr i ↦ inr (gather_has ps x i) ]
-
-has_gather : (ps : List (List ℕ)) (x : List ℕ) → Has ps x → Has (gather ps) x
-has_gather [] x h = h
-has_gather (p ∷ ps) x (inl e) = has_put p (gather ps) x (inl e)
-has_gather (p ∷ ps) x (inr i) = has_put p (gather ps) x (inr (has_gather ps x i))
+has_gathered : (ps : List (List ℕ)) (x : List ℕ) → Has ps x → Has (stored (gathered ps)) x
+has_gathered [] x h = absurd h
+has_gathered (p ∷ ps) x h =
+    (listed x (gathered (p ∷ ps))).1 (subst (λ o. T (is_some o)) (sym (find-put R nat_list_cmp_total x p tt (gathered ps))) (by (same x p) refl h (has_gathered ps x)))
+  where
+    by : (b : Bool) → same x p ≡ b → (x ≡ p) ⊎ Has ps x → (Has ps x → Has (stored (gathered ps)) x) → T (is_some (cond b (Some tt) (find R x (gathered ps))))
+    by true e k later = tt
+    by false e (inl i) later = absurd (let j : false ≡ true = sym e ∙ subst (λ l. same x l ≡ true) i (same_itself x) in cc j)
+    by false e (inr k) later = (listed x (gathered ps)).0 (later k)
 
 map_has : (a : ℕ) (ps : List (List ℕ)) (x : List ℕ) → Has (map (λ q. a ∷ q) ps) x → (y : List ℕ) × (x ≡ a ∷ y) × Has ps y
 map_has a [] x h = absurd h
@@ -148,13 +93,13 @@ has_spread (d ∷ es) x e (inl i) n p = Has-left (fronts d) _ x (has_fronts d x 
 has_spread (d ∷ es) x e (inr h) n p = Has-right (fronts d) _ x (has_spread es x e h n p)
 
 pub prefixes_list : {P : Type 0} (m : List (List ℕ × P)) → Lists (IsStem m) (prefixes m)
-prefixes_list m = record { rising = gather_rises (flat_map fronts (stored m)); exactly = λ p. (to p, from p) }
+prefixes_list m = record { rising = rising_of_sorted _ (gathered_sorted (flat_map fronts (stored m))); exactly = λ p. (to p, from p) }
   where
     to : (p : List ℕ) → Has (prefixes m) p → IsStem m p
-    to p h = let r = spread_has (stored m) p (gather_has (flat_map fronts (stored m)) p h) in (r.2, (r.0, r.1, r.3))
+    to p h = let r = spread_has (stored m) p (gathered_has (flat_map fronts (stored m)) p h) in (r.2, (r.0, r.1, r.3))
 
     from : (p : List ℕ) → IsStem m p → Has (prefixes m) p
-    from p (n, (e, i, q)) = has_gather (flat_map fronts (stored m)) p (has_spread (stored m) p e i n q)
+    from p (n, (e, i, q)) = has_gathered (flat_map fronts (stored m)) p (has_spread (stored m) p e i n q)
 
 next_is : (p e : List ℕ) (a : ℕ) → next_after p e ≡ Some a → IsPrefix (p ++ a ∷ []) e
 next_is [] [] a h = absurd (let i : None ≡ Some a = h in cc i)
@@ -193,14 +138,14 @@ has_nexts p (d ∷ es) a e (inr h) q = later (next_after p d) (has_nexts p es a 
     later None h = h
     later (Some b) h = inr h
 
-any_is : {A : Type 0} (t : A → Bool) (xs : List A) → list_any t xs ≡ true → (x : A) × Has xs x × (t x ≡ true)
+pub any_is : {A : Type 0} (t : A → Bool) (xs : List A) → list_any t xs ≡ true → (x : A) × Has xs x × (t x ≡ true)
 any_is t [] h = absurd (let i : false ≡ true = h in cc i)
 any_is t (x ∷ xs) h = elim (cases_Bool (t x)) [
   | inl e ↦ (x, inl refl, e)
   | inr e ↦ let r = any_is t xs (rw e at h) in (r.0, inr r.1, r.2)
 ]
 
-is_any : {A : Type 0} (t : A → Bool) (xs : List A) (x : A) → Has xs x → t x ≡ true → list_any t xs ≡ true
+pub is_any : {A : Type 0} (t : A → Bool) (xs : List A) (x : A) → Has xs x → t x ≡ true → list_any t xs ≡ true
 is_any t [] x h e = absurd h
 is_any t (y ∷ xs) x (inl i) e = rw (ap t (sym i) ∙ e) refl
 is_any t (y ∷ xs) x (inr h) e = or_true (t y) (is_any t xs x h e)
@@ -242,7 +187,7 @@ true_is_point m p (inr (inr (a, b, n, (e, i, q), (e', i', q')))) = or_right (sam
     (is_any (λ c. list_any (λ d. not (eqb c d)) (nexts m p)) (nexts m p) a (has_nexts p (stored m) a e i q)
     (is_any (λ d. not (eqb a d)) (nexts m p) b (has_nexts p (stored m) b e' i' q') (rw (ne_eqb a b n) refl))))
 
-filter_has : (t : List ℕ → Bool) (xs : List (List ℕ)) (x : List ℕ) → Has (filter t xs) x → Has xs x × (t x ≡ true)
+pub filter_has : (t : List ℕ → Bool) (xs : List (List ℕ)) (x : List ℕ) → Has (filter t xs) x → Has xs x × (t x ≡ true)
 filter_has t [] x h = absurd h
 filter_has t (y ∷ xs) x h = elim (cases_Bool (t y)) [
   | inr e ↦ let r = filter_has t xs x (rw e at h) in (inr r.0, r.1)
@@ -252,7 +197,7 @@ filter_has t (y ∷ xs) x h = elim (cases_Bool (t y)) [
   ]
 ]
 
-has_filter : (t : List ℕ → Bool) (xs : List (List ℕ)) (x : List ℕ) → Has xs x → t x ≡ true → Has (filter t xs) x
+pub has_filter : (t : List ℕ → Bool) (xs : List (List ℕ)) (x : List ℕ) → Has xs x → t x ≡ true → Has (filter t xs) x
 has_filter t [] x h e = absurd h
 has_filter t (y ∷ xs) x (inl i) e = rw (ap t (sym i) ∙ e) (inl i)
 has_filter t (y ∷ xs) x (inr h) e = kept (t y) (has_filter t xs x h e)
@@ -261,7 +206,7 @@ has_filter t (y ∷ xs) x (inr h) e = kept (t y) (has_filter t xs x h e)
     kept true h = inr h
     kept false h = h
 
-filter_rises : (t : List ℕ → Bool) (xs : List (List ℕ)) → IsRising xs → IsRising (filter t xs)
+pub filter_rises : (t : List ℕ → Bool) (xs : List (List ℕ)) → IsRising xs → IsRising (filter t xs)
 filter_rises t [] h = tt
 filter_rises t (x ∷ xs) h = kept (t x) (filter_rises t xs h.1)
   where

@@ -7,11 +7,12 @@ use Rattle.std.proofs.lemmas.Cmp.{nat_list_cmp_total}
 use Rattle.std.specs.FinMap as map
 use Rattle.std.specs.FinMap.{find, is_sorted}
 use Rattle.std.specs.FinMap.Entries.{below_all}
-use Rattle.nibble_map.specs.Lists.{Has, Lists, is_prefix}
+use Rattle.nibble_map.specs.Lists.{Has, IsRising, Lists, is_prefix}
 use Rattle.nibble_map.specs.Stored as stored
 use Rattle.nibble_map.specs.Stored.{IsSetAt, IsCutAt}
-use Rattle.nibble_map.specs.Maps.{IsPoint, IsReached, IsStored, NibbleMap}
-use Rattle.nibble_map.specs.Laws.{PointsOfMap, SwapsOfMap}
+use Rattle.nibble_map.specs.Maps.{IsStored, NibbleMap, walk}
+use Rattle.nibble_map.specs.Queries as queries
+use Rattle.nibble_map.specs.Swaps.{Swaps, entry}
 use Rattle.nibble_map.proofs.Bridge.{first, second, above, tied, entries-retain_keys, insert_swap, found_swap, remove_swap, find_swap}
 use Rattle.nibble_map.proofs.Sorted.{same, rising_of_sorted, sorted_of_rising, has_any, any_has}
 
@@ -46,7 +47,7 @@ module _ {P : Type 0} where
       by true t k later = inl (λ i. (same x e.0 (tied _ (subst T (sym t) tt)) i, sym (same_Some _ _ k) i))
       by false t k later = inr (later k)
 
-  has_get : (m : NibbleMap P) (x : List ℕ) (w : P) → Has (map.entries m) (x, w) ↔ (map.get m x ≡ Some w)
+  pub has_get : (m : NibbleMap P) (x : List ℕ) (w : P) → Has (map.entries m) (x, w) ↔ (map.get m x ≡ Some w)
   has_get m x w = (λ i. map.get-entries m x ∙ found_has x w _ (map.entries_sorted m) i, λ e. has_found x w _ (sym (map.get-entries m x) ∙ e))
 
   -- a map that answers v at e, and otherwise as m does
@@ -82,69 +83,54 @@ module _ {P : Type 0} where
       let h = has_get m x w in
       (λ k. let s = a.0 (sym g ∙ k) in (s.0, h.1 s.1), λ s. g ∙ a.1 (s.0, h.0 s.1))
 
-  set_at : (m : NibbleMap P) (e : List ℕ) (v : P) → IsSetAt (map.entries m) e v (map.entries (map.insert m e v))
+  pub set_at : (m : NibbleMap P) (e : List ℕ) (v : P) → IsSetAt (map.entries m) e v (map.entries (map.insert m e v))
   set_at m e v = record {
     rising = rising_of_sorted _ (map.entries_sorted (map.insert m e v));
     exactly = λ x w. let h = has_get (map.insert m e v) x w in let g = get_insert m e v x w in (λ i. g.0 (h.0 i), λ s. h.1 (g.1 s));
   }
 
-  cut_at : (m : NibbleMap P) (e : List ℕ) → IsCutAt (map.entries m) e (map.entries (map.remove m e))
+  pub cut_at : (m : NibbleMap P) (e : List ℕ) → IsCutAt (map.entries m) e (map.entries (map.remove m e))
   cut_at m e = record {
     rising = rising_of_sorted _ (map.entries_sorted (map.remove m e));
     exactly = λ x w. let h = has_get (map.remove m e) x w in let g = get_remove m e x w in (λ i. g.0 (h.0 i), λ s. h.1 (g.1 s));
   }
 
-  insert_is : (m n : NibbleMap P) (e : List ℕ) (v : P) → IsSetAt (map.entries m) e v (map.entries n) → n ≡ map.insert m e v
+  pub insert_is : (m n : NibbleMap P) (e : List ℕ) (v : P) → IsSetAt (map.entries m) e v (map.entries n) → n ≡ map.insert m e v
   insert_is m n e v s = map.same_map nat_list_cmp_total same n (map.insert m e v) (λ x. same_options _ _
       (λ w k. (get_insert m e v x w).1 ((s.exactly x w).0 ((has_get n x w).1 k)))
       (λ w k. (has_get n x w).0 ((s.exactly x w).1 ((get_insert m e v x w).0 k))))
 
-  remove_is : (m n : NibbleMap P) (e : List ℕ) → IsCutAt (map.entries m) e (map.entries n) → n ≡ map.remove m e
+  pub remove_is : (m n : NibbleMap P) (e : List ℕ) → IsCutAt (map.entries m) e (map.entries n) → n ≡ map.remove m e
   remove_is m n e s = map.same_map nat_list_cmp_total same n (map.remove m e) (λ x. same_options _ _
       (λ w k. (get_remove m e x w).1 ((s.exactly x w).0 ((has_get n x w).1 k)))
       (λ w k. (has_get n x w).0 ((s.exactly x w).1 ((get_remove m e x w).0 k))))
 
-  stored_lists : (m : NibbleMap P) → Lists (IsStored m) (map.keys m)
+  pub stored_lists : (m : NibbleMap P) → Lists (IsStored m) (map.keys m)
   stored_lists m = record {
     rising = rising_of_sorted _ (map.entries_sorted m);
     exactly = λ p. (λ i. subst T (sym (map.contains_key-keys m p)) (any_has p _ i), λ t. has_any p _ (subst T (map.contains_key-keys m p) t));
   }
 
-module _ {P : Type 0} (m : NibbleMap P) where
-  held : (e : List ℕ) → stored.IsStored (map.entries m) e ↔ IsStored m e
-  held e = (stored_lists m).exactly e
+  pub held : (m : NibbleMap P) (e : List ℕ) → stored.IsStored (map.entries m) e ↔ IsStored m e
+  held m e = (stored_lists m).exactly e
 
-  reached : (p : List ℕ) → IsReached m p → stored.IsReached (map.entries m) p
-  reached p (e, h, i) = (e, (held e).1 h, i)
+  pub walk_is : (m : NibbleMap P) (p : List ℕ) → walk m p ≡ queries.below (map.entries m) p
+  walk_is m p = entries-retain_keys _ nat_list_cmp_total same m (is_prefix p)
 
-  reaches : (p : List ℕ) → stored.IsReached (map.entries m) p → IsReached m p
-  reaches p (e, h, i) = (e, (held e).0 h, i)
+-- one entry swapped in a rising list of entries
+module _ {P : Type 0} (p : List ℕ) where
+  pub swap_inserted : (was : Option P) (x : P) (old new : List (List ℕ × P)) → IsRising (stored.stored old) → IsRising (stored.stored new)
+      → Swaps (entry p was) (entry p (Some x)) old new → map.from_sorted {R = slice_cmp nat_cmp} new ≡ map.insert (map.from_sorted old) p x
+  swap_inserted was x old new g h s = insert_swap _ nat_list_cmp_total p was x old new s (sorted_of_rising old g) (sorted_of_rising new h)
 
-  point : (p : List ℕ) → IsPoint m p → stored.IsPoint (map.entries m) p
-  point p (inl e) = inl e
-  point p (inr (inl h)) = inr (inl ((held p).1 h))
-  point p (inr (inr (a, b, n, r, s))) = inr (inr (a, b, n, reached _ r, reached _ s))
+  pub swap_over : (was : Option P) (x : P) (old new : List (List ℕ × P)) → IsRising (stored.stored old) → IsRising (stored.stored new)
+      → Swaps (entry p was) (entry p (Some x)) old new → map.get (map.from_sorted {R = slice_cmp nat_cmp} old) p ≡ was
+  swap_over was x old new g h s = map.get-from_sorted _ old p (sorted_of_rising old g) ∙ found_swap _ nat_list_cmp_total same p was x old new s (sorted_of_rising old g) (sorted_of_rising new h)
 
-  points : (p : List ℕ) → stored.IsPoint (map.entries m) p → IsPoint m p
-  points p (inl e) = inl e
-  points p (inr (inl h)) = inr (inl ((held p).0 h))
-  points p (inr (inr (a, b, n, r, s))) = inr (inr (a, b, n, reaches _ r, reaches _ s))
+  pub swap_removed : (x : P) (old new : List (List ℕ × P)) → IsRising (stored.stored old)
+      → Swaps (entry p (Some x)) (entry p None) old new → map.from_sorted {R = slice_cmp nat_cmp} new ≡ map.remove (map.from_sorted old) p
+  swap_removed x old new g s = remove_swap _ nat_list_cmp_total same p x old new s (sorted_of_rising old g)
 
-pub points_of_map : (P : Type 0) → PointsOfMap P
-points_of_map P = record {
-  stored_lists = stored_lists;
-  point_is = λ m p. (point m p, points m p);
-  walk_is = λ m p. entries-retain_keys _ nat_list_cmp_total same m (is_prefix p);
-  set_at = set_at;
-  cut_at = cut_at;
-  insert_is = insert_is;
-  remove_is = remove_is;
-}
-
-pub swaps_of_map : (P : Type 0) → SwapsOfMap P
-swaps_of_map P = record {
-  inserted = λ p was x old new g h s. insert_swap _ nat_list_cmp_total p was x old new s (sorted_of_rising old g) (sorted_of_rising new h);
-  old_pair = λ p was x old new g h s. map.get-from_sorted _ old p (sorted_of_rising old g) ∙ found_swap _ nat_list_cmp_total same p was x old new s (sorted_of_rising old g) (sorted_of_rising new h);
-  removed = λ p x old new g s. remove_swap _ nat_list_cmp_total same p x old new s (sorted_of_rising old g);
-  removed_pair = λ p x old new g s. map.get-from_sorted _ old p (sorted_of_rising old g) ∙ find_swap _ nat_list_cmp_total p x old new s (sorted_of_rising old g);
-}
+  pub swap_from : (x : P) (old new : List (List ℕ × P)) → IsRising (stored.stored old)
+      → Swaps (entry p (Some x)) (entry p None) old new → map.get (map.from_sorted {R = slice_cmp nat_cmp} old) p ≡ Some x
+  swap_from x old new g s = map.get-from_sorted _ old p (sorted_of_rising old g) ∙ find_swap _ nat_list_cmp_total p x old new s (sorted_of_rising old g)

@@ -1,9 +1,11 @@
 pub mod Lists
 pub mod Nibbles
+pub mod Points
+pub mod Answers
 pub mod Stored
 pub mod Queries
 pub mod Maps
-pub mod Laws
+pub mod MapQueries
 pub mod Swaps
 pub mod Trees
 pub mod Canonical

@@ -1,15 +1,14 @@
--- The finite map that a trie is seen as, and what is said of it.
-use Rattle.std.specs.Prelude.{ℕ, T, List, Option, ◌≡◌, ◌≢◌, ◌⊎◌, ◌∷◌, ◌++◌, []}
+-- The finite map that a trie is seen as, and its points.
+use Rattle.std.specs.Prelude.{ℕ, T, List, Option, Some, None, map as each}
 use Rattle.std.specs.Coded.{Coded, coded_ℕ, coded_list, coded×}
 use Rattle.std.specs.Option.{option_map}
 use Rattle.std.specs.Ordering.{nat_cmp}
 use Rattle.std.specs.Cmp.Lexicographic.{slice_cmp}
 use Rattle.std.specs.FinMap as map
-use Rattle.nibble_map.specs.Lists.{IsPrefix, is_prefix}
-use Rattle.nibble_map.specs.Stored as stored
-use Rattle.nibble_map.specs.Queries as queries
+use Rattle.nibble_map.specs.Lists.{is_prefix}
+use Rattle.nibble_map.specs.Points as points
 
--- a map from lists of nibbles
+-- a map from lists of nibbles, in their lexicographic order
 abbrev pub NibbleMap : Type 0 → Type 0
 NibbleMap P = map.FinMap (slice_cmp nat_cmp) P
 
@@ -20,9 +19,22 @@ PairMap K V = NibbleMap (K × V)
 abbrev pub pair_map_code : {K V : Type 0} → Coded K → Coded V → Coded (PairMap K V)
 pair_map_code k v = map.code (coded_list coded_ℕ) (coded× k v)
 
--- the value at e
-abbrev pub value_at : {K V : Type 0} → PairMap K V → List ℕ → Option V
-value_at m e = option_map (λ p. p.1) (map.get m e)
+module _ {K V : Type 0} where
+  -- the value at e
+  abbrev pub value_at : PairMap K V → List ℕ → Option V
+  value_at m e = option_map (λ p. p.1) (map.get m e)
+
+  abbrev pub set_value : PairMap K V → List ℕ → V → Option (K × V) → PairMap K V
+  set_value m e w None = m
+  set_value m e w (Some p) = map.insert m e (p.0, w)
+
+  -- the map with w as the value at e, where it has one
+  abbrev pub with_value : PairMap K V → List ℕ → V → PairMap K V
+  with_value m e w = set_value m e w (map.get m e)
+
+  -- the map without its keys: each list's value alone
+  abbrev pub values_of : PairMap K V → NibbleMap V
+  values_of m = map.from_sorted (each (λ e. (e.0, e.1.1)) (map.entries m))
 
 module _ {P : Type 0} where
   -- the map holds a pair at e
@@ -37,23 +49,14 @@ module _ {P : Type 0} where
   abbrev pub walk : NibbleMap P → List ℕ → List (List ℕ × P)
   walk m p = map.entries (below m p)
 
-  -- some stored list has the prefix p
   abbrev pub IsReached : NibbleMap P → List ℕ → Type 0
-  IsReached m p = (e : List ℕ) × IsStored m e × IsPrefix p e
+  IsReached m p = points.IsReached (IsStored m) p
 
-  -- stored lists part at p: some go on by a and some by b
   abbrev pub IsParting : NibbleMap P → List ℕ → Type 0
-  IsParting m p = (a : ℕ) × (b : ℕ) × (a ≢ b) × IsReached m (p ++ a ∷ []) × IsReached m (p ++ b ∷ [])
+  IsParting m p = points.IsParting (IsStored m) p
 
-  -- the points of a map: the empty list, the stored lists, and where stored lists part
   abbrev pub IsPoint : NibbleMap P → List ℕ → Type 0
-  IsPoint m p = (p ≡ []) ⊎ (IsStored m p ⊎ IsParting m p)
+  IsPoint m p = points.IsPoint (IsStored m) p
 
   abbrev pub IsStem : NibbleMap P → List ℕ → Type 0
-  IsStem m p = stored.IsStem (map.entries m) p
-
-  abbrev pub IsAncestor : NibbleMap P → List ℕ → Option (List ℕ) → Type 0
-  IsAncestor m e a = queries.IsAncestor (map.entries m) e a
-
-  abbrev pub IsRawDescendant : NibbleMap P → List ℕ → Option (List ℕ) → Type 0
-  IsRawDescendant m e a = queries.IsRawDescendant (map.entries m) e a
+  IsStem m p = points.IsStem (IsStored m) p

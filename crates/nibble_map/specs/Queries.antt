@@ -1,50 +1,32 @@
--- The answers of a map's queries.
-use Rattle.std.specs.Prelude.{◌≡◌, ℕ, ◌+◌, ◌≤◌, ◌≢◌, ◌⊎◌, List, [], ◌∷◌, ◌++◌, length, filter, Option, MatchOption}
-use Rattle.nibble_map.specs.Lists.{IsPrefix, is_prefix, Lists}
-use Rattle.nibble_map.specs.Stored.{IsStored, IsPoint, IsStem}
+-- The answers of queries over a rising list of entries.
+use Rattle.std.specs.Prelude.{ℕ, List, filter, Option}
+use Rattle.nibble_map.specs.Lists.{is_prefix}
+use Rattle.nibble_map.specs.Stored.{IsStored}
+use Rattle.nibble_map.specs.Answers as answers
+pub use Rattle.nibble_map.specs.Answers.{IsLongest, IsShortest}
 
--- p is the longest list of S that is a prefix of e
-pub record IsLongest (S : List ℕ → Type 0) (e p : List ℕ) : Type 0 where
-  pub member : S p
-  pub above : IsPrefix p e
-  pub longest : (q : List ℕ) → S q → IsPrefix q e → length q ≤ length p
+module _ {P : Type 0} where
+  -- the entries whose lists have the prefix p, in order
+  abbrev pub below : List (List ℕ × P) → List ℕ → List (List ℕ × P)
+  below m p = filter (λ e. is_prefix p e.0) m
 
--- p is the shortest list of S that e is a prefix of
-pub record IsShortest (S : List ℕ → Type 0) (e p : List ℕ) : Type 0 where
-  pub member : S p
-  pub below : IsPrefix e p
-  pub shortest : (q : List ℕ) → S q → IsPrefix e q → length p ≤ length q
+  abbrev pub IsAncestor : List (List ℕ × P) → List ℕ → Option (List ℕ) → Type 0
+  IsAncestor m e a = answers.IsAncestor (IsStored m) e a
 
--- the part of the map whose lists have the prefix p; it is its own ordered walk, since a map's entries rise
-abbrev pub below : {P : Type 0} → List (List ℕ × P) → List ℕ → List (List ℕ × P)
-below m p = filter (λ e. is_prefix p e.0) m
+  abbrev pub IsRawAncestor : List (List ℕ × P) → List ℕ → List ℕ → Type 0
+  IsRawAncestor m e p = answers.IsRawAncestor (IsStored m) e p
 
--- the answer is the longest stored list that is a prefix of e, or none where there is none
-abbrev pub IsAncestor : {P : Type 0} → List (List ℕ × P) → List ℕ → Option (List ℕ) → Type 0
-IsAncestor m e a = MatchOption a ((p : List ℕ) → IsStored m p → IsPrefix p e → ⊥) (λ p. IsLongest (IsStored m) e p)
+  abbrev pub IsRawDescendant : List (List ℕ × P) → List ℕ → Option (List ℕ) → Type 0
+  IsRawDescendant m e a = answers.IsRawDescendant (IsStored m) e a
 
--- the answer is the longest point that is a prefix of e
-abbrev pub IsRawAncestor : {P : Type 0} → List (List ℕ × P) → List ℕ → List ℕ → Type 0
-IsRawAncestor m e p = IsLongest (IsPoint m) e p
+  abbrev pub IsFragment : List (List ℕ × P) → List ℕ → List ℕ → Type 0
+  IsFragment m p f = answers.IsFragment (IsStored m) p f
 
--- the answer is the shortest point that e is a prefix of, or none where there is none
-abbrev pub IsRawDescendant : {P : Type 0} → List (List ℕ × P) → List ℕ → Option (List ℕ) → Type 0
-IsRawDescendant m e a = MatchOption a ((p : List ℕ) → IsPoint m p → IsPrefix e p → ⊥) (λ p. IsShortest (IsPoint m) e p)
+  abbrev pub IsKid : List (List ℕ × P) → List ℕ → List ℕ → Type 0
+  IsKid m p q = answers.IsKid (IsStored m) p q
 
--- f is what the point p has beyond the longest point strictly above it; empty for the empty list
-abbrev pub IsFragment : {P : Type 0} → List (List ℕ × P) → List ℕ → List ℕ → Type 0
-IsFragment m p f = ((p ≡ []) × (f ≡ [])) ⊎ ((q : List ℕ) × IsLongest (λ x. IsPoint m x × (x ≢ p)) p q × (p ≡ q ++ f))
+  abbrev pub AreKids : List (List ℕ × P) → List ℕ → List (List ℕ) → Type 0
+  AreKids m p qs = answers.AreKids (IsStored m) p qs
 
--- q is the shortest point with the prefix p and one nibble more
-abbrev pub IsKid : {P : Type 0} → List (List ℕ × P) → List ℕ → List ℕ → Type 0
-IsKid m p q = (a : ℕ) × IsShortest (IsPoint m) (p ++ a ∷ []) q
-
--- the kids of p, by rising nibble
-abbrev pub AreKids : {P : Type 0} → List (List ℕ × P) → List ℕ → List (List ℕ) → Type 0
-AreKids m p qs = Lists (IsKid m p) qs
-
--- n nibbles are compared in a search for e: those of the longest prefix of e that is empty or a prefix of a stored list, and one more
--- where that prefix isn't e and isn't a point
-abbrev pub IsCompared : {P : Type 0} → List (List ℕ × P) → List ℕ → ℕ → Type 0
-IsCompared m e n = (p : List ℕ) × IsLongest (λ x. (x ≡ []) ⊎ IsStem m x) e p
-    × ((((p ≡ e) ⊎ IsPoint m p) × (n ≡ length p)) ⊎ ((p ≢ e) × (IsPoint m p → ⊥) × (n ≡ length p + 1)))
+  abbrev pub IsCompared : List (List ℕ × P) → List ℕ → ℕ → Type 0
+  IsCompared m e n = answers.IsCompared (IsStored m) e n

@@ -1,24 +1,34 @@
--- Worked examples.
-use Rattle.std.specs.Prelude.{ℕ, List, [], ◌∷◌, codes}
-use Rattle.nibble_map.specs.Computed.{entered}
+-- Worked examples: small maps, by their entries.
+use Rattle.std.specs.Prelude.{ℕ, not, List, [], ◌∷◌, codes}
+use Rattle.std.specs.Ordering.{nat_cmp}
+use Rattle.std.specs.Cmp.Lexicographic.{slice_cmp}
+use Rattle.std.specs.FinMap.{put}
+use Rattle.std.specs.FinMap.Entries.{where_key}
+use Rattle.nibble_map.specs.Computed.{same}
 use Rattle.nibble_map.specs.Nibbles.{nibbles}
 
-abbrev pub text : List (List ℕ × ℕ) → List (List ℕ × ℕ)
-text [] = []
-text (e ∷ m) = entered (nibbles e.0) e.1 (text m)
+-- the entries of a map after each of these insertions
+abbrev pub inserted : List (List ℕ × ℕ) → List (List ℕ × ℕ)
+inserted [] = []
+inserted (e ∷ es) = put (slice_cmp nat_cmp) e.0 e.1 (inserted es)
+
+-- the entries but the one at e
+abbrev pub removed : List ℕ → List (List ℕ × ℕ) → List (List ℕ × ℕ)
+removed e m = where_key (slice_cmp nat_cmp) (λ x. not (same e x)) m
+
+-- an insertion of a text
+abbrev pub text : List ℕ → ℕ → List ℕ × ℕ
+text s v = (nibbles s, v)
 
 abbrev pub test : List (List ℕ × ℕ)
-test = text ((codes "abcdefgh", 19) ∷ ((codes "abcdef", 18) ∷ ((codes "abcd", 17) ∷ ((codes "ab", 16) ∷ ((codes "a", 15) ∷ ((codes "acbdef", 30) ∷ ((codes "bcdefgh", 29) ∷ [])))))))
+test = inserted (text (codes "abcdefgh") 19 ∷ (text (codes "abcdef") 18 ∷ (text (codes "abcd") 17 ∷ (text (codes "ab") 16 ∷ (text (codes "a") 15 ∷ (text (codes "acbdef") 30 ∷ (text (codes "bcdefgh") 29 ∷ [])))))))
 
 -- a 1, abc 2, abd 3
 abbrev pub seven : List (List ℕ × ℕ)
-seven = text ((codes "a", 1) ∷ ((codes "abc", 2) ∷ ((codes "abd", 3) ∷ [])))
+seven = inserted (text (codes "a") 1 ∷ (text (codes "abc") 2 ∷ (text (codes "abd") 3 ∷ [])))
 
 abbrev pub seventeen : List (List ℕ × ℕ)
-seventeen = text ((codes "z", 2) ∷ ((codes "aba", 5) ∷ ((codes "abb", 6) ∷ ((codes "abc", 50) ∷ []))))
+seventeen = inserted (text (codes "z") 2 ∷ (text (codes "aba") 5 ∷ (text (codes "abb") 6 ∷ (text (codes "abc") 50 ∷ []))))
 
 abbrev pub nine : List (List ℕ × ℕ)
-nine = text ((codes "abczzzz", 1) ∷ ((codes "abcaaaa", 2) ∷ []))
-
-abbrev pub word : List ℕ → List ℕ
-word s = nibbles s
+nine = inserted (text (codes "abczzzz") 1 ∷ (text (codes "abcaaaa") 2 ∷ []))

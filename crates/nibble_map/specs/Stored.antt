@@ -1,30 +1,28 @@
--- What is said of a map from lists of nibbles: its entries rise by their lists.
-use Rattle.std.specs.Prelude.{◌≡◌, ℕ, ◌≢◌, ◌⊎◌, ◌↔◌, List, [], ◌∷◌, ◌++◌, map}
-use Rattle.nibble_map.specs.Lists.{IsPrefix, IsRising, Has}
+-- A map from lists of nibbles by its entries, which rise by their lists: stored lists, points, and the edits of one entry.
+use Rattle.std.specs.Prelude.{◌≡◌, ℕ, ◌≢◌, ◌⊎◌, ◌↔◌, List, map}
+use Rattle.nibble_map.specs.Lists.{IsRising, Has}
+use Rattle.nibble_map.specs.Points as points
 
 -- the lists that the map holds
 abbrev pub stored : {P : Type 0} → List (List ℕ × P) → List (List ℕ)
 stored m = map (λ e. e.0) m
 
--- the map holds a pair at e
-abbrev pub IsStored : {P : Type 0} → List (List ℕ × P) → List ℕ → Type 0
-IsStored m e = Has (stored m) e
+module _ {P : Type 0} where
+  -- the map holds a pair at e
+  abbrev pub IsStored : List (List ℕ × P) → List ℕ → Type 0
+  IsStored m e = Has (stored m) e
 
--- some stored list has the prefix p
-abbrev pub IsReached : {P : Type 0} → List (List ℕ × P) → List ℕ → Type 0
-IsReached m p = (e : List ℕ) × IsStored m e × IsPrefix p e
+  abbrev pub IsReached : List (List ℕ × P) → List ℕ → Type 0
+  IsReached m p = points.IsReached (IsStored m) p
 
--- stored lists part at p: some go on by a and some by b
-abbrev pub IsParting : {P : Type 0} → List (List ℕ × P) → List ℕ → Type 0
-IsParting m p = (a : ℕ) × (b : ℕ) × (a ≢ b) × IsReached m (p ++ a ∷ []) × IsReached m (p ++ b ∷ [])
+  abbrev pub IsParting : List (List ℕ × P) → List ℕ → Type 0
+  IsParting m p = points.IsParting (IsStored m) p
 
--- the points of a map: the empty list, the stored lists, and where stored lists part
-abbrev pub IsPoint : {P : Type 0} → List (List ℕ × P) → List ℕ → Type 0
-IsPoint m p = (p ≡ []) ⊎ (IsStored m p ⊎ IsParting m p)
+  abbrev pub IsPoint : List (List ℕ × P) → List ℕ → Type 0
+  IsPoint m p = points.IsPoint (IsStored m) p
 
--- the non-empty prefixes of stored lists
-abbrev pub IsStem : {P : Type 0} → List (List ℕ × P) → List ℕ → Type 0
-IsStem m p = (p ≢ []) × IsReached m p
+  abbrev pub IsStem : List (List ℕ × P) → List ℕ → Type 0
+  IsStem m p = points.IsStem (IsStored m) p
 
 -- n is m with v at e
 pub record IsSetAt {P : Type 0} (m : List (List ℕ × P)) (e : List ℕ) (v : P) (n : List (List ℕ × P)) : Type 0 where

@@ -1,5 +1,0 @@
-use Rattle.nibble_map.proofs.Same.{same_parts}
-use Rattle.nibble_map.proofs.alike.Goals as goal
-
-pub returns : goal.returns
-returns g c = same_parts

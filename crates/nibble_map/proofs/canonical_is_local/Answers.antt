@@ -1,5 +1,0 @@
-use Rattle.nibble_map.proofs.Canonical.{local_canonical, canonical_local}
-use Rattle.nibble_map.proofs.canonical_is_local.Goals as goal
-
-pub returns : goal.returns
-returns g c = record { to = local_canonical; from = canonical_local }

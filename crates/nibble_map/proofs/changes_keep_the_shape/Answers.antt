@@ -1,5 +1,0 @@
-use Rattle.nibble_map.proofs.Steps.{inserted, removed}
-use Rattle.nibble_map.proofs.changes_keep_the_shape.Goals as goal
-
-pub returns : goal.returns
-returns g c = record { set = inserted; cut = removed }

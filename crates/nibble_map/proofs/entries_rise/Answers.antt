@@ -1,5 +1,0 @@
-use Rattle.nibble_map.proofs.Unique.{tree_entries_rise}
-use Rattle.nibble_map.proofs.entries_rise.Goals as goal
-
-pub returns : goal.returns
-returns g c = tree_entries_rise

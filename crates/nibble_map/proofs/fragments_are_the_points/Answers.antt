@@ -1,5 +1,0 @@
-use Rattle.nibble_map.proofs.Fragments.{tree_fragments}
-use Rattle.nibble_map.proofs.fragments_are_the_points.Goals as goal
-
-pub returns : goal.returns
-returns g c = tree_fragments

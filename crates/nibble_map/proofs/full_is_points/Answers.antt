@@ -1,5 +1,0 @@
-use Rattle.nibble_map.proofs.Canonical.{full_iff_points}
-use Rattle.nibble_map.proofs.full_is_points.Goals as goal
-
-pub returns : goal.returns
-returns g c = full_iff_points

@@ -1,0 +1,5 @@
+use Rattle.nibble_map.proofs.MapEdits.{stored_lists, held, walk_is}
+use Rattle.nibble_map.proofs.map_laws.entries_tell_the_map.Goals as goal
+
+pub returns : goal.returns
+returns g c = record { keys = stored_lists; stored = λ m e. ((held m e).1, (held m e).0); walk = walk_is }

@@ -1,5 +1,0 @@
-use Rattle.nibble_map.proofs.Stems.{tree_nibbles}
-use Rattle.nibble_map.proofs.nibbles_are_prefixes.Goals as goal
-
-pub returns : goal.returns
-returns g c = tree_nibbles

@@ -1,5 +1,0 @@
-use Rattle.nibble_map.proofs.Sizes.{nodes_bound}
-use Rattle.nibble_map.proofs.nodes_are_few.Goals as goal
-
-pub returns : goal.returns
-returns g c = nodes_bound

@@ -1,5 +1,0 @@
-use Rattle.nibble_map.proofs.Points.{tree_points}
-use Rattle.nibble_map.proofs.paths_are_points.Goals as goal
-
-pub returns : goal.returns
-returns g c = tree_points

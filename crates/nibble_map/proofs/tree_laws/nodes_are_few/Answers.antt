@@ -1,0 +1,5 @@
+use Rattle.nibble_map.proofs.Sizes.{nodes_bound}
+use Rattle.nibble_map.proofs.tree_laws.nodes_are_few.Goals as goal
+
+pub returns : goal.returns
+returns g c = nodes_bound

@@ -1,0 +1,31 @@
+-- The answers of queries over the finite map, and when two maps are the same.
+use Rattle.std.specs.Prelude.{◌≡◌, ℕ, ◌↔◌, List, Option, Some, Bool, IsTrue}
+use Rattle.nibble_map.specs.Answers as answers
+use Rattle.nibble_map.specs.Maps.{NibbleMap, PairMap, IsStored, value_at}
+
+module _ {P : Type 0} where
+  abbrev pub IsAncestor : NibbleMap P → List ℕ → Option (List ℕ) → Type 0
+  IsAncestor m e a = answers.IsAncestor (IsStored m) e a
+
+  abbrev pub IsRawAncestor : NibbleMap P → List ℕ → List ℕ → Type 0
+  IsRawAncestor m e p = answers.IsRawAncestor (IsStored m) e p
+
+  abbrev pub IsRawDescendant : NibbleMap P → List ℕ → Option (List ℕ) → Type 0
+  IsRawDescendant m e a = answers.IsRawDescendant (IsStored m) e a
+
+  abbrev pub IsFragment : NibbleMap P → List ℕ → List ℕ → Type 0
+  IsFragment m p f = answers.IsFragment (IsStored m) p f
+
+  abbrev pub IsKid : NibbleMap P → List ℕ → List ℕ → Type 0
+  IsKid m p q = answers.IsKid (IsStored m) p q
+
+  abbrev pub AreKids : NibbleMap P → List ℕ → List (List ℕ) → Type 0
+  AreKids m p qs = answers.AreKids (IsStored m) p qs
+
+  abbrev pub IsCompared : NibbleMap P → List ℕ → ℕ → Type 0
+  IsCompared m e n = answers.IsCompared (IsStored m) e n
+
+-- the same stored lists, and at each the values equal by `eq`, the value type's own `==`
+pub record IsSame {K V : Type 0} (eq : V → V → Bool) (m n : PairMap K V) : Type 0 where
+  pub same_lists : (e : List ℕ) → IsStored m e ↔ IsStored n e
+  pub same_values : (e : List ℕ) (v w : V) → value_at m e ≡ Some v → value_at n e ≡ Some w → IsTrue (eq v w)

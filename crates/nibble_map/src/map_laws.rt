@@ -1,0 +1,71 @@
+//! Laws of the finite map from nibble lists: its entries, its edits, its values alone.
+
+ghost use Rattle.nibble_map.specs.Lists.{IsRising, Lists, is_prefix};
+ghost use Rattle.nibble_map.specs.Maps.{NibbleMap, PairMap, IsStored, below, walk, value_at, with_value, values_of};
+ghost use Rattle.nibble_map.specs.Queries as queries;
+ghost use Rattle.nibble_map.specs.Stored as stored;
+ghost use Rattle.nibble_map.specs.Swaps.{Swaps, entry};
+ghost use Rattle.std.specs.Cmp.Lexicographic.{slice_cmp};
+ghost use Rattle.std.specs.FinMap as map;
+ghost use Rattle.std.specs.Ordering.{nat_cmp};
+ghost use Rattle.std.specs.Prelude.{◌&&◌, ◌↔◌, ◌≡◌, ◌≢◌, map as each, not, List, None, Option, Some, T, ℕ};
+
+/// What a map holds, by its list of entries: the keys are the stored lists in rising order, and the walk below a
+/// path is the entries below it.
+pub fn entries_tell_the_map<P>()
+    ensures keys { (m : NibbleMap P) → Lists (IsStored m) (map.keys m) }
+    ensures stored { (m : NibbleMap P) (e : List ℕ) → IsStored m e ↔ stored.IsStored (map.entries m) e }
+    ensures walk { (m : NibbleMap P) (p : List ℕ) → walk m p ≡ queries.below (map.entries m) p }
+{}
+
+/// An insertion sets one entry, a removal cuts one, and nothing else does.
+pub fn edits_by_entries<P>()
+    ensures set { (m : NibbleMap P) (e : List ℕ) (v : P) → stored.IsSetAt (map.entries m) e v (map.entries (map.insert m e v)) }
+    ensures cut { (m : NibbleMap P) (e : List ℕ) → stored.IsCutAt (map.entries m) e (map.entries (map.remove m e)) }
+    ensures inserted { (m n : NibbleMap P) (e : List ℕ) (v : P) → stored.IsSetAt (map.entries m) e v (map.entries n) → n ≡ map.insert m e v }
+    ensures removed { (m n : NibbleMap P) (e : List ℕ) → stored.IsCutAt (map.entries m) e (map.entries n) → n ≡ map.remove m e }
+{}
+
+/// One entry swapped in a rising list of entries is the map's insertion or removal, and tells the pair that was there.
+pub fn edits_by_swaps<P>()
+    ensures inserted { (p : List ℕ) (was : Option P) (x : P) (old new : List (List ℕ × P)) → IsRising (stored.stored old) → IsRising (stored.stored new)
+        → Swaps (entry p was) (entry p (Some x)) old new → map.from_sorted {R = slice_cmp nat_cmp} new ≡ map.insert (map.from_sorted old) p x }
+    ensures inserted_over { (p : List ℕ) (was : Option P) (x : P) (old new : List (List ℕ × P)) → IsRising (stored.stored old) → IsRising (stored.stored new)
+        → Swaps (entry p was) (entry p (Some x)) old new → map.get (map.from_sorted {R = slice_cmp nat_cmp} old) p ≡ was }
+    ensures removed { (p : List ℕ) (x : P) (old new : List (List ℕ × P)) → IsRising (stored.stored old)
+        → Swaps (entry p (Some x)) (entry p None) old new → map.from_sorted {R = slice_cmp nat_cmp} new ≡ map.remove (map.from_sorted old) p }
+    ensures removed_from { (p : List ℕ) (x : P) (old new : List (List ℕ × P)) → IsRising (stored.stored old)
+        → Swaps (entry p (Some x)) (entry p None) old new → map.get (map.from_sorted {R = slice_cmp nat_cmp} old) p ≡ Some x }
+{}
+
+/// What an edit does to the part of a map below a path, and what a smaller part holds.
+pub fn edits_below_a_path<P>()
+    ensures insert_inside { (m : NibbleMap P) (p e : List ℕ) (v : P) → T (is_prefix p e) → below (map.insert m e v) p ≡ map.insert (below m p) e v }
+    ensures insert_outside { (m : NibbleMap P) (p e : List ℕ) (v : P) → T (not (is_prefix p e)) → below (map.insert m e v) p ≡ below m p }
+    ensures remove { (m : NibbleMap P) (p e : List ℕ) → below (map.remove m e) p ≡ map.remove (below m p) e }
+    ensures twice { (m : NibbleMap P) (p q : List ℕ) → below (below m p) q ≡ map.retain_keys m (λ e. is_prefix p e && is_prefix q e) }
+    ensures get { (m : NibbleMap P) (p e : List ℕ) → T (is_prefix p e) → map.get (below m p) e ≡ map.get m e }
+{}
+
+/// The map without its keys answers each list's value, and follows the edits of the map.
+pub fn values_follow_the_map<K, V>()
+    ensures entries { (m : PairMap K V) → map.entries (values_of m) ≡ each (λ e. (e.0, e.1.1)) (map.entries m) }
+    ensures len { (m : PairMap K V) → map.len (values_of m) ≡ map.len m }
+    ensures get { (m : PairMap K V) (e : List ℕ) → map.get (values_of m) e ≡ value_at m e }
+    ensures stored { (m : PairMap K V) (e : List ℕ) → IsStored (values_of m) e ↔ IsStored m e }
+    ensures empty { values_of {K = K} {V = V} map.empty ≡ map.empty }
+    ensures insert { (m : PairMap K V) (e : List ℕ) (p : K × V) → values_of (map.insert m e p) ≡ map.insert (values_of m) e p.1 }
+    ensures remove { (m : PairMap K V) (e : List ℕ) → values_of (map.remove m e) ≡ map.remove (values_of m) e }
+    ensures below { (m : PairMap K V) (p : List ℕ) → values_of (below m p) ≡ below (values_of m) p }
+{}
+
+/// A value written at a stored list changes that value alone; at an absent list nothing changes.
+pub fn one_value_changes<K, V>()
+    ensures absent { (m : PairMap K V) (e : List ℕ) (w : V) → map.get m e ≡ None → with_value m e w ≡ m }
+    ensures stored { (m : PairMap K V) (e : List ℕ) (w : V) (p : K × V) → map.get m e ≡ Some p → with_value m e w ≡ map.insert m e (p.0, w) }
+    ensures here { (m : PairMap K V) (e : List ℕ) (w : V) (p : K × V) → map.get m e ≡ Some p → map.get (with_value m e w) e ≡ Some (p.0, w) }
+    ensures elsewhere { (m : PairMap K V) (e : List ℕ) (w : V) (q : List ℕ) → q ≢ e → map.get (with_value m e w) q ≡ map.get m q }
+    ensures same_lists { (m : PairMap K V) (e : List ℕ) (w : V) (q : List ℕ) → IsStored (with_value m e w) q ↔ IsStored m q }
+    ensures len { (m : PairMap K V) (e : List ℕ) (w : V) → map.len (with_value m e w) ≡ map.len m }
+    ensures values { (m : PairMap K V) (e : List ℕ) (w : V) (p : K × V) → map.get m e ≡ Some p → values_of (with_value m e w) ≡ map.insert (values_of m) e w }
+{}

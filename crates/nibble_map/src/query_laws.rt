@@ -1,0 +1,37 @@
+//! Laws of points and of the answers of queries.
+
+ghost use Rattle.nibble_map.specs.MapQueries as map_queries;
+ghost use Rattle.nibble_map.specs.Maps as maps;
+ghost use Rattle.nibble_map.specs.Maps.{NibbleMap, IsStored};
+ghost use Rattle.nibble_map.specs.Queries as queries;
+ghost use Rattle.nibble_map.specs.Stored as stored;
+ghost use Rattle.std.specs.FinMap as map;
+ghost use Rattle.std.specs.Prelude.{◌↔◌, List, Option, ℕ};
+
+/// The points of a map and the prefixes of its stored lists are those of its entries.
+pub fn points_by_entries<P>()
+    ensures reached { (m : NibbleMap P) (p : List ℕ) → maps.IsReached m p ↔ stored.IsReached (map.entries m) p }
+    ensures parting { (m : NibbleMap P) (p : List ℕ) → maps.IsParting m p ↔ stored.IsParting (map.entries m) p }
+    ensures point { (m : NibbleMap P) (p : List ℕ) → maps.IsPoint m p ↔ stored.IsPoint (map.entries m) p }
+    ensures stem { (m : NibbleMap P) (p : List ℕ) → maps.IsStem m p ↔ stored.IsStem (map.entries m) p }
+{}
+
+/// The answers of a map's queries are those of its entries.
+pub fn answers_by_entries<P>()
+    ensures ancestor { (m : NibbleMap P) (e : List ℕ) (a : Option (List ℕ)) → map_queries.IsAncestor m e a ↔ queries.IsAncestor (map.entries m) e a }
+    ensures raw_ancestor { (m : NibbleMap P) (e p : List ℕ) → map_queries.IsRawAncestor m e p ↔ queries.IsRawAncestor (map.entries m) e p }
+    ensures raw_descendant { (m : NibbleMap P) (e : List ℕ) (a : Option (List ℕ)) → map_queries.IsRawDescendant m e a ↔ queries.IsRawDescendant (map.entries m) e a }
+    ensures fragment { (m : NibbleMap P) (p f : List ℕ) → map_queries.IsFragment m p f ↔ queries.IsFragment (map.entries m) p f }
+    ensures kids { (m : NibbleMap P) (p : List ℕ) (qs : List (List ℕ)) → map_queries.AreKids m p qs ↔ queries.AreKids (map.entries m) p qs }
+    ensures compared { (m : NibbleMap P) (e : List ℕ) (n : ℕ) → map_queries.IsCompared m e n ↔ queries.IsCompared (map.entries m) e n }
+{}
+
+/// Two maps with the same stored lists have the same points and answers, whatever their pairs.
+pub fn stored_lists_decide<P, Q>()
+    ensures point { (m : NibbleMap P) (n : NibbleMap Q) → ((e : List ℕ) → IsStored m e ↔ IsStored n e) → (p : List ℕ) → maps.IsPoint m p → maps.IsPoint n p }
+    ensures raw_descendant { (m : NibbleMap P) (n : NibbleMap Q) → ((e : List ℕ) → IsStored m e ↔ IsStored n e) → (e : List ℕ) (a : Option (List ℕ)) → map_queries.IsRawDescendant m e a → map_queries.IsRawDescendant n e a }
+    ensures raw_ancestor { (m : NibbleMap P) (n : NibbleMap Q) → ((e : List ℕ) → IsStored m e ↔ IsStored n e) → (e p : List ℕ) → map_queries.IsRawAncestor m e p → map_queries.IsRawAncestor n e p }
+    ensures fragment { (m : NibbleMap P) (n : NibbleMap Q) → ((e : List ℕ) → IsStored m e ↔ IsStored n e) → (p f : List ℕ) → map_queries.IsFragment m p f → map_queries.IsFragment n p f }
+    ensures kids { (m : NibbleMap P) (n : NibbleMap Q) → ((e : List ℕ) → IsStored m e ↔ IsStored n e) → (p : List ℕ) (qs : List (List ℕ)) → map_queries.AreKids m p qs → map_queries.AreKids n p qs }
+    ensures compared { (m : NibbleMap P) (n : NibbleMap Q) → ((e : List ℕ) → IsStored m e ↔ IsStored n e) → (e : List ℕ) (k : ℕ) → map_queries.IsCompared m e k → map_queries.IsCompared n e k }
+{}

@@ -16,3 +16,4 @@ pub mod Kept
 pub mod Alters
 pub mod KeptPaths
 pub mod Agreement
+pub mod KeptSizes

@@ -1,5 +1,5 @@
 -- What a search below a child tells of the node.
-use Rattle.std.proofs.Common.{◌≡◌, ◌≢◌, ◌⊎◌, ℕ, zero, suc, ◌+◌, ◌-◌, ◌<◌, ◌≤◌, List, [], ◌∷◌, ◌++◌, length, get_or, take, drop, slice_index, Option, Some, None, MatchOption, IsSome, refl, ap, sym, subst, ◌∙◌, arith, inl, append-nil, drop-drop}
+use Rattle.std.proofs.Common.{◌≡◌, ◌≢◌, ◌⊎◌, ℕ, zero, suc, ◌+◌, ◌-◌, ◌<◌, ◌≤◌, List, [], ◌∷◌, ◌++◌, length, get_or, take, drop, slice_index, Option, Some, None, MatchOption, IsSome, refl, ap, sym, subst, ◌∙◌, arith, inl, append-nil, append_assoc, drop-drop}
 use Rattle.std.proofs.lemmas.List.{length-append, length-drop}
 use Rattle.std.proofs.Math.Seq.{drop-length}
 use Rattle.std.specs.declared.boxed.Box.{Box}
@@ -13,11 +13,11 @@ use Rattle.nibble_map.specs.Kept.{Tree, IsAt, IsTreePlaced, firsts, plain}
 use Rattle.nibble_map.specs.KeptPaths.{IsNodeAt, IsPath, IsHeld, IsStuck}
 use Rattle.nibble_map.proofs.KeptKids.{at_placed}
 use Rattle.nibble_map.proofs.KeptPaths.{begins, kid_down, kid_up, stuck_free}
-use Rattle.nibble_map.proofs.KeptSearch.{longest_here, longest_kid, held_longest, held_none, held_longest_kid, held_longest_own, held_none_kid, shortest_here, shortest_kid, none_kid, none_gap, take_past, stuck_end, walked_end, gap_walked, kid_walked}
-use Rattle.nibble_map.proofs.Agreement.{agrees_along, agrees_short}
+use Rattle.nibble_map.proofs.KeptSearch.{longest_here, longest_kid, held_longest, held_none, held_longest_kid, held_longest_own, held_none_kid, shortest_here, shortest_kid, none_kid, none_gap, none_parted, shortest_inside, take_past, stuck_end, walked_end, gap_walked, kid_walked}
+use Rattle.nibble_map.proofs.Agreement.{agrees_along, agrees_short, agrees_ends}
 use Rattle.radix_nodes.specs.declared.trie_node.KeyValue.{KeyValue}
 use Rattle.radix_nodes.specs.declared.trie_node.TrieNode.{TrieNode, out-TrieNode}
-use Rattle.radix_nodes.specs.Nodes.{tree_of, fragment_of, unboxed, IsMet, IsStep, IsDeepest, on_way}
+use Rattle.radix_nodes.specs.Nodes.{tree_of, fragment_of, unboxed, IsMet, IsStep, IsDeepest, IsNearest, on_way}
 use Rattle.radix_nodes.specs.declared.traversal.compare.Agreement.{Agreement}
 use Rattle.radix_nodes.proofs.Nodes.{fragment_out}
 use Rattle.radix_nodes.proofs.Steps.{drop_some, first_drop, step_kid, is_at, met_step, met_stuck, held_here, free_here}
@@ -191,3 +191,81 @@ module _ {K V : Type 0} where
     none_below free bare q d p =
         held_none_kid (tree_of n) (tree_of m) i (drop depth key) h (at n m key depth i next h s b is em) (some n m key depth i next h s b is em) (start n m key depth i next h s b is em) (none_rest free) (free_own n h bare) q d
         (lower_path n (drop depth key) q p)
+
+-- the nearest at or below
+module _ {K V : Type 0} where
+  pub nearest_here : (n : TrieNode K V) (key : List ℕ) (depth k : ℕ) → depth ≡ length key → k ≡ length (fragment_of n) → IsNearest (tree_of n) (tree_of n) (fragment_of n ++ drop depth key) k
+  nearest_here n key depth k e ek =
+      let f = (tree_of n).fragment in
+      let p : fragment_of n ++ drop depth key ≡ f ++ [] = ap (λ g. g ++ drop depth key) (sym (fragment_out n)) ∙ ap (λ d. f ++ drop d key) e ∙ ap (λ r. f ++ r) (drop-length key) in
+      let past : drop k f ≡ [] = ap (λ g. drop k g) (fragment_out n) ∙ ap (λ d. drop d (fragment_of n)) ek ∙ drop-length (fragment_of n) in
+      let x : (fragment_of n ++ drop depth key) ++ drop k f ≡ f = ap (λ r. (fragment_of n ++ drop depth key) ++ r) past ∙ append-nil (fragment_of n ++ drop depth key) ∙ p ∙ append-nil f in
+      record {
+        within = let l = ap length (fragment_out n) in omega (arith, l, ek);
+        node = inl (x, refl);
+        shortest = subst (λ y. IsShortest (IsPath (tree_of n)) (fragment_of n ++ drop depth key) y) (sym x) (subst (λ q. IsShortest (IsPath (tree_of n)) q f) (sym p) (shortest_here (tree_of n)));
+      }
+
+  module _ (n : TrieNode K V) (key : List ℕ) (depth : ℕ) (h : IsTreePlaced (tree_of n)) where
+    higher : (rest q : List ℕ) → IsPrefix (fragment_of n ++ rest) q → IsPrefix ((tree_of n).fragment ++ rest) q
+    higher rest q p = subst (λ f. IsPrefix (f ++ rest) q) (sym (fragment_out n)) p
+
+    pub nearest_none : depth < length key → bit_of (slice_index key depth) (firsts (tree_of n).kids) ≡ 0 → (q : List ℕ) → IsPath (tree_of n) q → IsPrefix (fragment_of n ++ drop depth key) q → ⊥
+    nearest_none lt e q d p =
+        none_gap (tree_of n) (drop depth key) h (drop_some key depth lt) (ap (λ y. bit_of y (firsts (tree_of n).kids)) (first_drop key depth) ∙ e) q d (higher (drop depth key) q p)
+
+    module _ (m : TrieNode K V) (i : ℕ) (a : Agreement) (lt : depth < length key) (met : IsMet n key depth i a) (b : Box (TrieNode K V) Global)
+        (is : get_or (out-TrieNode K V n).children.items i b ≡ b) (em : m ≡ b.value) where
+      at_kid : IsAt i (tree_of n).kids (tree_of m)
+      at_kid = kid n key depth h m i a lt met b is em
+
+      agree : Agrees (tree_of m).fragment (drop depth key) a.same a.compared
+      agree = met.agrees (tree_of m) at_kid
+
+      begun : first (drop depth key) ≡ first (tree_of m).fragment
+      begun = first_drop key depth ∙ sym (met.start (tree_of m) at_kid)
+
+      lifted : (u : Tree (KeyValue K V)) (k : ℕ) → IsNearest (tree_of m) u (drop depth key) k → IsNearest (tree_of n) u (fragment_of n ++ drop depth key) k
+      lifted u k d =
+          let rest = drop depth key in
+          let x : (tree_of n).fragment ++ (rest ++ drop k u.fragment) ≡ (fragment_of n ++ rest) ++ drop k u.fragment =
+          sym (append_assoc (tree_of n).fragment rest (drop k u.fragment)) ∙ ap (λ f. (f ++ rest) ++ drop k u.fragment) (fragment_out n) in
+          record {
+            within = d.within;
+            node = subst (λ y. IsNodeAt (tree_of n) y u) x (kid_down (tree_of n) (tree_of m) i h at_kid (rest ++ drop k u.fragment) u d.node);
+            shortest = subst (λ y. IsShortest (IsPath (tree_of n)) (fragment_of n ++ rest) y) x
+                (subst (λ f. IsShortest (IsPath (tree_of n)) (f ++ rest) ((tree_of n).fragment ++ (rest ++ drop k u.fragment))) (fragment_out n)
+                (shortest_kid (tree_of n) (tree_of m) i rest h at_kid (drop_some key depth lt) begun (rest ++ drop k u.fragment) d.shortest));
+          }
+
+      pub nearest_inside : depth + a.same ≡ length key → IsNearest (tree_of n) (tree_of m) (fragment_of n ++ drop depth key) a.same
+      nearest_inside e =
+          let f = (tree_of m).fragment in let rest = drop depth key in
+          let l = length-drop depth key in
+          let x : rest ++ drop a.same f ≡ f = agrees_ends f rest a.same a.compared agree (omega (arith, l, e, lt)) in
+          lifted (tree_of m) a.same record {
+            within = agree.within;
+            node = inl (x, refl);
+            shortest = subst (λ y. IsShortest (IsPath (tree_of m)) rest y) (sym x) (shortest_inside (tree_of m) rest (drop a.same f) (sym x));
+          }
+
+      none_up : ((q : List ℕ) → IsPath (tree_of m) q → IsPrefix (drop depth key) q → ⊥) → (q : List ℕ) → IsPath (tree_of n) q → IsPrefix (fragment_of n ++ drop depth key) q → ⊥
+      none_up free q d p = none_kid (tree_of n) (tree_of m) i (drop depth key) h at_kid (drop_some key depth lt) begun free q d (higher (drop depth key) q p)
+
+      pub nearest_parted : a.same ≢ length (fragment_of m) → depth + a.same ≢ length key → (q : List ℕ) → IsPath (tree_of n) q → IsPrefix (fragment_of n ++ drop depth key) q → ⊥
+      nearest_parted e g =
+          let w = agree.within in let f = ap length (fragment_out m) in let s : a.same ≢ length (tree_of m).fragment = λ z. e (z ∙ f) in
+          let v = agree.inside in let l = length-drop depth key in
+          let t : a.same ≢ length (drop depth key) = λ z. g (omega (arith, z, l, lt)) in
+          none_up (none_parted (tree_of m) (drop depth key) a.same a.compared agree (omega (arith, w, s)) (omega (arith, v, t)))
+
+      rest_whole : a.same ≡ length (fragment_of m) → fragment_of m ++ drop (depth + a.same) key ≡ drop depth key
+      rest_whole e = whole n m key depth i (depth + a.same) h (met_down n key depth h m i a lt met b is em e) b is em
+
+      pub nearest_up : a.same ≡ length (fragment_of m) → (u : Tree (KeyValue K V)) (k : ℕ) → IsNearest (tree_of m) u (fragment_of m ++ drop (depth + a.same) key) k →
+          IsNearest (tree_of n) u (fragment_of n ++ drop depth key) k
+      nearest_up e u k d = lifted u k (subst (λ r. IsNearest (tree_of m) u r k) (rest_whole e) d)
+
+      pub nearest_free : a.same ≡ length (fragment_of m) → ((q : List ℕ) → IsPath (tree_of m) q → IsPrefix (fragment_of m ++ drop (depth + a.same) key) q → ⊥) →
+          (q : List ℕ) → IsPath (tree_of n) q → IsPrefix (fragment_of n ++ drop depth key) q → ⊥
+      nearest_free e free = none_up (λ q d p. free q d (subst (λ r. IsPrefix r q) (sym (rest_whole e)) p))

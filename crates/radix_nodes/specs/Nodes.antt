@@ -11,8 +11,8 @@ use Rattle.radix_nodes.specs.declared.trie_node.TrieNode.{TrieNode, out-TrieNode
 use Rattle.radix_nodes.specs.declared.trie_node.TrieNode.TheOpen.{TrieNode-F}
 use Rattle.radix_nodes.specs.declared.trie_node.TrieNode.TheFolds.{fold-TrieNode}
 use Rattle.nibble_map.specs.Kept.{Tree, Kids, join, IsAt}
-use Rattle.nibble_map.specs.KeptPaths.{IsNodeAt, IsHeld, reach}
-use Rattle.nibble_map.specs.Answers.{IsLongest}
+use Rattle.nibble_map.specs.KeptPaths.{IsNodeAt, IsPath, IsHeld, reach}
+use Rattle.nibble_map.specs.Answers.{IsLongest, IsShortest}
 use Rattle.nibble_map.specs.Agreement.{Agrees}
 use Rattle.nibble_map.specs.Masks.{marked}
 use Rattle.radix_nodes.specs.declared.traversal.compare.Agreement.{Agreement}
@@ -99,3 +99,9 @@ pub record IsDeepest {P : Type 0} (S : List ℕ → Type 0) (t u : Tree P) (key 
   pub inside : end ≤ length key
   pub node : IsNodeAt t (on_way t.fragment key depth end) u
   pub longest : IsLongest S (t.fragment ++ drop depth key) (on_way t.fragment key depth end)
+
+-- u is a node of t, and its path, which goes on from p by what its fragment has after so many nibbles, is the shortest that does
+pub record IsNearest {P : Type 0} (t u : Tree P) (p : List ℕ) (covered : ℕ) : Type 0 where
+  pub within : covered ≤ length u.fragment
+  pub node : IsNodeAt t (p ++ drop covered u.fragment) u
+  pub shortest : IsShortest (IsPath t) p (p ++ drop covered u.fragment)

@@ -5,4 +5,5 @@ pub mod find;
 pub mod insert;
 pub mod queries;
 pub mod remove;
+pub mod size;
 pub mod step;

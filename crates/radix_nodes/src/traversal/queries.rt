@@ -2,10 +2,9 @@
 //! node with the fragment f stands at `depth`.
 ghost use Rattle.std.specs.Prelude.{◌≡◌, ◌≤◌, ◌++◌, length, drop, MatchOption};
 ghost use Rattle.nibble_map.specs.Lists.{IsPrefix};
-ghost use Rattle.nibble_map.specs.Answers.{IsLongest, IsShortest};
 ghost use Rattle.nibble_map.specs.Kept.{IsTreePlaced};
 ghost use Rattle.nibble_map.specs.KeptPaths.{IsNodeAt, IsPath, IsHeld};
-ghost use Rattle.radix_nodes.specs.Nodes.{tree_of, fragment_of, on_way, IsDeepest};
+ghost use Rattle.radix_nodes.specs.Nodes.{tree_of, fragment_of, IsDeepest, IsNearest};
 
 use crate::traversal::step::{meet, step};
 use crate::trie_node::{TrieNode, has_pair};
@@ -46,5 +45,34 @@ pub fn deepest_pair<'a, K, V>(
         Some((node, depth))
     } else {
         None
+    }
+}
+
+/// The node with the shortest path that the key begins, and how many nibbles of its fragment lie within the key: its path is the
+/// key, and then the rest of the fragment.
+pub fn shortest<'a, K, V>(
+    node: &'a TrieNode<K, V>,
+    key: &Nibblet,
+    depth: usize,
+) -> Option<(&'a TrieNode<K, V>, usize)>
+    requires depth { depth ≤ length key.now }
+    requires placed { IsTreePlaced (tree_of node.now) }
+    ensures { MatchOption result ((q : _) → IsPath (tree_of node.now) q → IsPrefix (fragment_of node.now ++ drop depth key.now) q → ⊥) (λ r. IsNearest (tree_of node.now) (tree_of r.0.now) (fragment_of node.now ++ drop depth key.now) r.1) }
+{
+    if depth == key.len() {
+        return Some((node, node.fragment.len()));
+    }
+    match meet(node, key, depth) {
+        Some((i, agreement)) => {
+            let child = &node.children[i];
+            if agreement.same == child.fragment.len() {
+                shortest(child, key, depth + agreement.same)
+            } else if depth + agreement.same == key.len() {
+                Some((child, agreement.same))
+            } else {
+                None
+            }
+        }
+        None => None,
     }
 }

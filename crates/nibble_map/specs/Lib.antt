@@ -11,3 +11,9 @@ pub mod Trees
 pub mod Canonical
 pub mod Computed
 pub mod Rows
+pub mod Masks
+pub mod Kept
+pub mod Alters
+pub mod KeptPaths
+pub mod Agreement
+pub mod KeptSizes

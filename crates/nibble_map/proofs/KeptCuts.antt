@@ -1,0 +1,138 @@
+-- Each step of a removal.
+use Rattle.std.proofs.Common.{◌≡◌, ◌≢◌, ℕ, zero, suc, ◌+◌, ◌<◌, ◌≤◌, ◌^◌, cond, ◌==◌, List, [], ◌∷◌, ◌++◌, length, Option, Some, None, refl, ap, sym, subst, ◌∙◌, arith, inl, inr, append_assoc, append-nil}
+use Rattle.std.proofs.lemmas.List.{length-append}
+use Rattle.std.proofs.lemmas.Bool.Decides.{eqb_tells}
+use Rattle.nibble_map.specs.Trees.{IsFull, first}
+use Rattle.nibble_map.specs.Swaps.{Swaps, entry}
+use Rattle.nibble_map.specs.Masks.{bit_of}
+use Rattle.nibble_map.specs.Kept.{Tree, Kids, none, more, IsAt, plain, firsts, IsPlaced, IsTreePlaced, IsTreeFull, entries_in, entries_at, nodes_in, nibbles_in, remove_kid, without_pair, without_kid, IsOne, merged_into, merged}
+use Rattle.nibble_map.specs.Alters.{AltersKid, AltersRoot, AltersNode, CutsRoot}
+use Rattle.nibble_map.proofs.Masks.{cleared_is, bit_before, eqb_other}
+use Rattle.nibble_map.proofs.KeptKids.{swaps_after, placed_rises, at_after}
+
+module _ {P : Type 0} where
+  pub placed_from : (low lower : ℕ) (k : Kids P) → lower ≤ low → IsPlaced low k → IsPlaced lower k
+  placed_from low lower none l h = tt
+  placed_from low lower (more f o m kids others) l h = (h.0, omega (arith, l, h.1), h.2, h.3, h.4)
+
+  -- a child goes
+  pub remove_placed : (low i : ℕ) (k : Kids P) → IsPlaced low k → IsPlaced low (remove_kid i k)
+  remove_placed low i none h = tt
+  remove_placed low zero (more f o m kids others) h = placed_from (suc (first f)) low others (omega (arith, h.1)) h.4
+  remove_placed low (suc i) (more f o m kids others) h = (h.0, h.1, h.2, h.3, remove_placed (suc (first f)) i others h.4)
+
+  pub remove_bits : (low i : ℕ) (k : Kids P) (t : Tree P) (n : ℕ) → IsAt i k t → IsPlaced low k → bit_of n (firsts (remove_kid i k)) ≡ cond (first t.fragment == n) 0 (bit_of n (firsts k))
+  remove_bits low i none t n a h = absurd a
+  remove_bits low zero (more f o m kids others) t n a h =
+      subst (λ (t : Tree P). bit_of n (firsts others) ≡ cond (first t.fragment == n) 0 (bit_of n (first f ∷ firsts others))) (sym a)
+      (elim (eqb_tells (first f) n) [
+        | inl e ↦ rw e.0 (bit_before (firsts others) (suc (first f)) n (placed_rises (suc (first f)) others h.4) (omega (arith, e.1)))
+        | inr e ↦ rw e.0 refl
+      ])
+  remove_bits low (suc i) (more f o m kids others) t n a h =
+      let l = at_after (suc (first f)) i others t a h.4 in
+      let r = remove_bits (suc (first f)) i others t n a h.4 in
+      elim (eqb_tells (first f) n) [
+        | inl e ↦ rw (e.0, eqb_other (first t.fragment) n (λ z. omega (arith, z, e.1, l))) refl
+        | inr e ↦ rw e.0 r
+      ]
+
+  pub remove_full : (i : ℕ) (k : Kids P) → IsFull (plain k) → IsFull (plain (remove_kid i k))
+  remove_full i none h = h
+  remove_full zero (more f o m kids others) h = h.2
+  remove_full (suc i) (more f o m kids others) h = (h.0, h.1, remove_full i others h.2)
+
+  pub remove_swaps : (i : ℕ) (k : Kids P) (t : Tree P) (q : List ℕ) → IsAt i k t → Swaps (entries_at q t) [] (entries_in q k) (entries_in q (remove_kid i k))
+  remove_swaps i none t q a = absurd a
+  remove_swaps zero (more f o m kids others) t q a = record { before = []; after = entries_in q others; was = ap (λ t. entries_at q t ++ entries_in q others) (sym a); is = refl }
+  remove_swaps (suc i) (more f o m kids others) t q a =
+      swaps_after (entry (q ++ f) o ++ entries_in (q ++ f) kids) (entries_at q t) [] _ _ (remove_swaps i others t q a)
+
+  pub remove_nodes : (i : ℕ) (k : Kids P) (t : Tree P) → IsAt i k t → nodes_in (remove_kid i k) + suc (nodes_in t.kids) ≡ nodes_in k
+  remove_nodes i none t a = absurd a
+  remove_nodes zero (more f o m kids others) t a = let g = ap (λ (t : Tree P). nodes_in t.kids) a in omega (arith, g)
+  remove_nodes (suc i) (more f o m kids others) t a = omega (arith, remove_nodes i others t a)
+
+  pub remove_nibbles : (i : ℕ) (k : Kids P) (t : Tree P) → IsAt i k t → nibbles_in (remove_kid i k) + (length t.fragment + nibbles_in t.kids) ≡ nibbles_in k
+  remove_nibbles i none t a = absurd a
+  remove_nibbles zero (more f o m kids others) t a = let g = ap (λ (t : Tree P). length t.fragment + nibbles_in t.kids) a in omega (arith, g)
+  remove_nibbles (suc i) (more f o m kids others) t a = omega (arith, remove_nibbles i others t a)
+
+  -- at the root and below it
+  pub pair_goes : (t : Tree P) (x : P) → t.pair ≡ Some x → IsTreePlaced t → CutsRoot t.fragment x 0 0 t (without_pair t)
+  pair_goes t x is h = record {
+    fragment = refl;
+    below = λ f. f;
+    alters = record {
+      start = refl;
+      some = λ s. s;
+      placed = h;
+      swaps = λ q. record { before = []; after = entries_in (q ++ t.fragment) t.kids; was = ap (λ o. entry (q ++ t.fragment) o ++ entries_in (q ++ t.fragment) t.kids) is; is = refl };
+      nodes = refl;
+      nibbles = refl;
+    };
+  }
+
+  pub leaf_goes : (t u : Tree P) (i y : ℕ) (x : P) → IsAt i t.kids u → u.pair ≡ Some x → u.kids ≡ none → first u.fragment ≡ y → y < 16 → t.mask < 2 ^ 16 → IsTreePlaced t →
+      CutsRoot (t.fragment ++ u.fragment) x 1 (length u.fragment) t (without_kid i y t)
+  leaf_goes t u i y x a is bare_ start low fits h = record {
+    fragment = refl;
+    below = λ f. remove_full i t.kids f;
+    alters = record {
+      start = refl;
+      some = λ s. s;
+      placed = ((λ n. cleared_is t.mask y n (firsts t.kids) low fits h.0 ∙ sym (rw (← start) (remove_bits 0 i t.kids u n a h.1))), remove_placed 0 i t.kids h.1);
+      swaps = λ q. subst (λ l. Swaps l [] (entries_at q t) (entries_at q (without_kid i y t))) (leaf_entries q)
+          (swaps_after (entry (q ++ t.fragment) t.pair) _ _ _ _ (remove_swaps i t.kids u (q ++ t.fragment) a));
+      nodes = let e = remove_nodes i t.kids u a in let z = ap nodes_in bare_ in omega (arith, e, z);
+      nibbles = let e = remove_nibbles i t.kids u a in let z = ap nibbles_in bare_ in omega (arith, e, z);
+    };
+  }
+    where
+      leaf_entries : (q : List ℕ) → entries_at (q ++ t.fragment) u ≡ (q ++ (t.fragment ++ u.fragment), x) ∷ []
+      leaf_entries q =
+          ap (λ o. entry ((q ++ t.fragment) ++ u.fragment) o ++ entries_in ((q ++ t.fragment) ++ u.fragment) u.kids) is
+          ∙ ap (λ k. ((q ++ t.fragment) ++ u.fragment, x) ∷ entries_in ((q ++ t.fragment) ++ u.fragment) k) bare_
+          ∙ ap (λ p. (p, x) ∷ []) (append_assoc q t.fragment u.fragment)
+
+  -- a change of a root, as that of a child which it leaves full
+  pub root_kid : (p : List ℕ) (was now : Option P) (n m k l : ℕ) (old new : Tree P) → AltersRoot p was now n m k l old new → (IsTreeFull old → IsTreeFull new) → AltersKid p was now n m k l old new
+  root_kid p was now n m k l old new r full = record { full = full; alters = r.alters }
+
+  -- and then the only child takes its node's place
+  pub merged_kid : (p : List ℕ) (was now : Option P) (n m k l : ℕ) (old mid : Tree P) → AltersRoot p was now n m k l old mid → mid.pair ≡ None → IsOne mid.kids → old.fragment ≢ [] →
+      AltersKid p was now n (suc m) k l old (merged mid)
+  merged_kid p was now n m k l old mid r unpaired one top = go mid.kids refl one
+    where
+      start : (f g : List ℕ) → f ≢ [] → first (f ++ g) ≡ first f
+      start [] g s = absurd (s refl)
+      start (a ∷ f) g s = refl
+
+      joined : (f g : List ℕ) → f ≢ [] → f ++ g ≢ []
+      joined [] g s = absurd (s refl)
+      joined (a ∷ f) g s = λ e. (let i : a ∷ (f ++ g) ≡ [] = e in cc i)
+
+      kept : mid.fragment ≢ []
+      kept e = top (sym r.fragment ∙ e)
+
+      go : (ks : Kids P) → mid.kids ≡ ks → IsOne ks → AltersKid p was now n (suc m) k l old (merged_into mid.fragment ks)
+      go none e o = absurd o
+      go (more g p2 m2 ls (more a b c d others)) e o = absurd o
+      go (more g o2 m2 ls none) e o =
+          let placed = subst (λ ks. IsPlaced 0 ks) e r.alters.placed.1 in
+          let entries : (q : List ℕ) → entries_at q mid ≡ entries_at q (merged_into mid.fragment (more g o2 m2 ls none)) = λ q.
+          ap (λ o. entry (q ++ mid.fragment) o ++ entries_in (q ++ mid.fragment) mid.kids) unpaired
+          ∙ ap (λ ks. entries_in (q ++ mid.fragment) ks) e
+          ∙ append-nil (entry ((q ++ mid.fragment) ++ g) o2 ++ entries_in ((q ++ mid.fragment) ++ g) ls)
+          ∙ ap (λ path. entry path o2 ++ entries_in path ls) (append_assoc q mid.fragment g) in
+          record {
+            full = λ f. (let b = subst (λ ks. IsFull (plain ks)) e (r.below f.1) in (b.0, b.1));
+            alters = record {
+              start = start mid.fragment g kept ∙ ap first r.fragment;
+              some = λ s. joined mid.fragment g kept;
+              placed = (placed.2, placed.3);
+              swaps = λ q. subst (λ es. Swaps (entry (q ++ p) was) (entry (q ++ p) now) (entries_at q old) es) (entries q) (r.alters.swaps q);
+              nodes = let z = ap nodes_in e in omega (arith, z, r.alters.nodes);
+              nibbles = let z = ap nibbles_in e in let a = length-append mid.fragment g in let b = ap length r.fragment in omega (arith, z, a, b, r.alters.nibbles);
+            };
+          }

@@ -1,0 +1,5 @@
+pub mod Nodes
+pub mod Steps
+pub mod Removes
+pub mod Searches
+pub mod Sizes

@@ -1,0 +1,37 @@
+//! The comparison of nibbles.
+ghost use Rattle.std.specs.Prelude.{◌≡◌, ◌≢◌, ◌+◌, ◌<◌, ◌≤◌, ◌⊎◌, ◌^◌, length, take, drop, slice_index};
+
+use radix_keys::Nibblet;
+
+/// How far a fragment and a query agree, and how many nibbles were compared for that.
+#[derive(Clone, Copy)]
+pub struct Agreement {
+    pub same: usize,
+    pub compared: usize,
+}
+
+/// Compares a fragment with the query from `depth` on. Nothing else compares nibbles.
+pub fn compare(fragment: &Nibblet, query: &Nibblet, depth: usize) -> Agreement
+    requires { depth ≤ length query.now }
+    ensures within { result.same ≤ length fragment.now }
+    ensures inside { depth + result.same ≤ length query.now }
+    ensures fits { depth + result.same < 2 ^ 64 }
+    ensures same { take result.same fragment.now ≡ take result.same (drop depth query.now) }
+    ensures apart { result.same < length fragment.now → depth + result.same < length query.now → slice_index fragment.now result.same ≢ slice_index query.now (depth + result.same) }
+    ensures ended { (result.same ≡ length fragment.now) ⊎ (depth + result.same ≡ length query.now) → result.compared ≡ result.same }
+    ensures parted { result.same < length fragment.now → depth + result.same < length query.now → result.compared ≡ result.same + 1 }
+{
+    let most = fragment.len().min(query.len() - depth);
+    for same in 0..most {
+        if fragment.get(same) != query.get(depth + same) {
+            return Agreement {
+                same,
+                compared: same + 1,
+            };
+        }
+    }
+    Agreement {
+        same: most,
+        compared: most,
+    }
+}

@@ -1,0 +1,189 @@
+//! Removal. All that may fail comes first, so a refusal leaves the tree as it was.
+ghost use Rattle.std.specs.Prelude.{◌≡◌, ◌≢◌, ◌+◌, ◌<◌, ◌≤◌, ◌⊎◌, [], ◌++◌, length, drop, IfOk, OnErr, IsSome, MatchOption, MatchBool, Some, None, vec_len};
+ghost use Rattle.nibble_map.specs.Kept.{IsTreePlaced, IsAt, none};
+ghost use Rattle.radix_nodes.specs.Nodes.{tree_of, fragment_of, out_of, unboxed, CutOutcome, RootOutcome};
+
+use crate::fragments::joined;
+use radix_keys::{Memory, Nibblet};
+use crate::traversal::step::step;
+use crate::trie_node::links::{absorb, take_pair, unlink};
+use crate::trie_node::{KeyValue, TrieNode, has_pair, is_end};
+
+/// What a removal took, and how many nodes and nibbles of fragments went.
+#[derive(Drop)]
+pub struct Taken<K, V> {
+    pub pair: KeyValue<K, V>,
+    pub nodes: usize,
+    pub nibbles: usize,
+}
+
+// The fragment of the node joined with that of its child at place i.
+fn joined_with<K, V>(node: &TrieNode<K, V>, i: usize) -> Result<Nibblet, Memory>
+    requires within { i < vec_len (out_of node.now).children }
+    requires placed { IsTreePlaced (tree_of node.now) }
+    ensures made { IfOk result (λ f. (u : _) → IsAt i (tree_of node.now).kids u → f ≡ fragment_of node.now ++ u.fragment) }
+    ensures long { OnErr result ((u : _) → IsAt i (tree_of node.now).kids u → 32 < length (fragment_of node.now) + length u.fragment) }
+{
+    joined(&node.fragment, &node.children[i].fragment)
+}
+
+// Takes the pair of a node with children. What may fail comes first.
+fn take_here<K: Drop, V: Drop>(
+    node: &mut TrieNode<K, V>,
+) -> Result<Option<Taken<K, V>>, Memory>
+    requires placed { IsTreePlaced (tree_of node.old) }
+    requires some { fragment_of node.old ≢ [] }
+    requires inner { 0 < vec_len (out_of node.old).children }
+    ensures { CutOutcome result (fragment_of node.old) (tree_of node.old) (tree_of node.new) }
+{
+    if !has_pair(node) {
+        return Ok(None);
+    }
+    if node.children.len() == 1 {
+        let joined = match joined_with(node, 0) {
+            Ok(joined) => joined,
+            Err(e) => return Err(e),
+        };
+        match take_pair(&mut node.pair) {
+            Some(pair) => {
+                absorb(node, joined);
+                Ok(Some(Taken {
+                    pair,
+                    nodes: 1,
+                    nibbles: 0,
+                }))
+            }
+            None => Ok(None),
+        }
+    } else {
+        match take_pair(&mut node.pair) {
+            Some(pair) => Ok(Some(Taken {
+                pair,
+                nodes: 0,
+                nibbles: 0,
+            })),
+            None => Ok(None),
+        }
+    }
+}
+
+// The pair of a leaf that was taken out.
+fn make_taken<K: Drop, V: Drop>(leaf: Box<TrieNode<K, V>>, nodes: usize) -> Option<Taken<K, V>>
+    ensures { MatchOption result (unboxed (out_of leaf.value).pair ≡ None) (λ t. (unboxed (out_of leaf.value).pair ≡ Some t.pair) × (t.nodes ≡ nodes) × (t.nibbles ≡ length (fragment_of leaf.value))) }
+{
+    let TrieNode {
+        fragment,
+        pair,
+        mask: _,
+        children: _,
+    } = Box::into_inner(leaf);
+    let nibbles = fragment.len();
+    match pair {
+        Some(b) => Some(Taken {
+            pair: Box::into_inner(b),
+            nodes,
+            nibbles,
+        }),
+        None => None,
+    }
+}
+
+// Whether a node is left without a pair and with one child once one goes.
+fn leaves_one<K, V>(node: &TrieNode<K, V>) -> bool
+    requires { 0 < vec_len (out_of node.now).children }
+    ensures { MatchBool result (((out_of node.now).pair ≡ None) × (vec_len (out_of node.now).children ≡ 2)) (IsSome (unboxed (out_of node.now).pair) ⊎ (vec_len (out_of node.now).children ≢ 2)) }
+{
+    match &node.pair {
+        Some(_) => false,
+        None => node.children.len() == 2,
+    }
+}
+
+// Takes the pair of the leaf at i away, with the leaf. What may fail comes first.
+fn take_leaf<K: Drop, V: Drop>(
+    node: &mut TrieNode<K, V>,
+    i: usize,
+) -> Result<Option<Taken<K, V>>, Memory>
+    requires within { i < vec_len (out_of node.old).children }
+    requires placed { IsTreePlaced (tree_of node.old) }
+    requires some { fragment_of node.old ≢ [] }
+    requires leaf { (u : _) → IsAt i (tree_of node.old).kids u → u.kids ≡ none }
+    ensures { (u : _) → IsAt i (tree_of node.old).kids u → CutOutcome result (fragment_of node.old ++ u.fragment) (tree_of node.old) (tree_of node.new) }
+{
+    if !has_pair(&node.children[i]) {
+        return Ok(None);
+    }
+    if leaves_one(node) {
+        let joined = match joined_with(node, 1 - i) {
+            Ok(joined) => joined,
+            Err(e) => return Err(e),
+        };
+        let leaf = unlink(node, i);
+        absorb(node, joined);
+        Ok(make_taken(leaf, 2))
+    } else {
+        let leaf = unlink(node, i);
+        Ok(make_taken(leaf, 1))
+    }
+}
+
+/// Takes the pair at the key's place at or below a node that stands at `depth` and isn't the root.
+pub fn take<K: Drop, V: Drop>(
+    node: &mut TrieNode<K, V>,
+    key: &Nibblet,
+    depth: usize,
+) -> Result<Option<Taken<K, V>>, Memory>
+    requires depth { depth ≤ length key.now }
+    requires placed { IsTreePlaced (tree_of node.old) }
+    requires some { fragment_of node.old ≢ [] }
+    requires inner { depth ≡ length key.now → 0 < vec_len (out_of node.old).children }
+    ensures { CutOutcome result (fragment_of node.old ++ drop depth key.now) (tree_of node.old) (tree_of node.new) }
+{
+    if depth == key.len() {
+        return take_here(node);
+    }
+    match step(node, key, depth) {
+        Some((i, next)) => {
+            if next == key.len() && is_end(&node.children[i]) {
+                take_leaf(node, i)
+            } else {
+                take(&mut node.children[i], key, next)
+            }
+        }
+        None => Ok(None),
+    }
+}
+
+/// Takes the pair at the key's place at or below the root, which stays whatever it is left with.
+pub fn take_root<K: Drop, V: Drop>(
+    node: &mut TrieNode<K, V>,
+    key: &Nibblet,
+) -> Result<Option<Taken<K, V>>, Memory>
+    requires { IsTreePlaced (tree_of node.old) }
+    ensures { RootOutcome result (fragment_of node.old ++ key.now) (tree_of node.old) (tree_of node.new) }
+{
+    if key.len() == 0 {
+        return match take_pair(&mut node.pair) {
+            Some(pair) => Ok(Some(Taken {
+                pair,
+                nodes: 0,
+                nibbles: 0,
+            })),
+            None => Ok(None),
+        };
+    }
+    match step(node, key, 0) {
+        Some((i, next)) => {
+            if next == key.len() && is_end(&node.children[i]) {
+                if !has_pair(&node.children[i]) {
+                    return Ok(None);
+                }
+                let leaf = unlink(node, i);
+                Ok(make_taken(leaf, 1))
+            } else {
+                take(&mut node.children[i], key, next)
+            }
+        }
+        None => Ok(None),
+    }
+}

@@ -1,0 +1,85 @@
+//! Linking and unlinking of nodes: none of these takes memory.
+ghost use Rattle.std.specs.Prelude.{◌≡◌, ◌+◌, ◌<◌, ◌≤◌, ◌^◌, ℕ, None, vec_len};
+ghost use Rattle.nibble_map.specs.Trees.{first};
+ghost use Rattle.nibble_map.specs.Kept.{IsTreePlaced, IsAt, with_new_kid, without_kid, lowered, merged};
+ghost use Rattle.radix_nodes.specs.Nodes.{tree_of, fragment_of, out_of, unboxed, IsUpper, HasRoom};
+
+use radix_keys::Nibblet;
+use crate::trie_node::mask::{mark, unmark};
+use crate::trie_node::{KeyValue, TrieNode};
+use std::mem;
+
+/// Puts a child at place i, where there is room.
+pub fn link<K, V>(node: &mut TrieNode<K, V>, i: usize, child: Box<TrieNode<K, V>>, nibble: u8)
+    requires room { HasRoom 1 node.old }
+    requires within { i ≤ vec_len (out_of node.old).children }
+    requires nibble { nibble < 16 }
+    ensures { tree_of node.new ≡ with_new_kid i nibble (tree_of child.value) (tree_of node.old) }
+{
+    node.children.insert(i, child).unwrap();
+    node.mask = mark(node.mask, nibble);
+}
+
+/// Takes the child at place i out.
+pub fn unlink<K, V>(node: &mut TrieNode<K, V>, i: usize) -> Box<TrieNode<K, V>>
+    requires within { i < vec_len (out_of node.old).children }
+    requires placed { IsTreePlaced (tree_of node.old) }
+    ensures child { IsAt i (tree_of node.old).kids (tree_of result.value) }
+    ensures tree { tree_of node.new ≡ without_kid i (first (tree_of result.value).fragment) (tree_of node.old) }
+    ensures nibble { first (tree_of result.value).fragment < 16 }
+    ensures fits { (out_of node.old).mask < 2 ^ 16 }
+    ensures same { (out_of node.new).pair ≡ (out_of node.old).pair }
+    ensures less { vec_len (out_of node.new).children + 1 ≡ vec_len (out_of node.old).children }
+{
+    let child = node.children.remove(i);
+    node.mask = unmark(node.mask, child.fragment.get(0));
+    child
+}
+
+/// Puts `upper` in the place of the node in `slot`, which becomes its child with the fragment `tail`.
+pub fn lower<K: Drop, V: Drop>(
+    slot: &mut Box<TrieNode<K, V>>,
+    upper: Box<TrieNode<K, V>>,
+    tail: Nibblet,
+)
+    requires { IsUpper (fragment_of upper.value) tail upper.value }
+    ensures tree { tree_of slot.new.value ≡ lowered (fragment_of upper.value) tail (tree_of slot.old.value) }
+    ensures room { HasRoom 1 slot.new.value }
+    ensures one { vec_len (out_of slot.new.value).children ≡ 1 }
+{
+    let mut below = mem::replace(slot, upper);
+    below.fragment = tail;
+    slot.children.push(below).unwrap();
+}
+
+/// The node's only child takes its place, with the two fragments joined.
+pub fn absorb<K: Drop, V: Drop>(node: &mut TrieNode<K, V>, fragment: Nibblet)
+    requires one { vec_len (out_of node.old).children ≡ 1 }
+    requires joined { fragment ≡ (merged (tree_of node.old)).fragment }
+    ensures { tree_of node.new ≡ merged (tree_of node.old) }
+{
+    let only = node.children.remove(0);
+    let TrieNode {
+        fragment: _,
+        pair,
+        mask,
+        children,
+    } = Box::into_inner(only);
+    *node = TrieNode {
+        fragment,
+        pair,
+        mask,
+        children,
+    };
+}
+
+/// Takes a pair out of its box.
+pub fn take_pair<K, V>(at: &mut Option<Box<KeyValue<K, V>>>) -> Option<KeyValue<K, V>>
+    ensures was { result ≡ unboxed at.old }
+    ensures none { at.new ≡ None }
+{
+    match at.take() {
+        Some(b) => Some(Box::into_inner(b)),
+        None => None,
+    }
+}

@@ -1,0 +1,60 @@
+//! Nodes.
+ghost use Rattle.std.specs.Prelude.{◌≡◌, ◌<◌, IsSome, None, MatchBool, vec_len};
+ghost use Rattle.nibble_map.specs.Kept.{empty};
+ghost use Rattle.radix_nodes.specs.Nodes.{tree_of, out_of, unboxed};
+
+pub mod links;
+pub mod mask;
+
+use radix_keys::Nibblet;
+use std::alloc::Global;
+
+/// A key and the value that stands at its list of nibbles.
+#[derive(Drop)]
+pub struct KeyValue<K, V> {
+    pub key: K,
+    pub value: V,
+}
+
+/// A node of the trie. Its path is the fragments from the root down to it, joined. Bit n of the mask is set exactly where the
+/// fragment of a child begins with the nibble n, and the children rise by that nibble, so the child for n stands at the count of
+/// set bits below bit n.
+#[derive(Drop)]
+pub struct TrieNode<K, V> {
+    pub fragment: Nibblet,
+    pub pair: Option<Box<KeyValue<K, V>>>,
+    pub mask: u16,
+    pub children: Vec<Box<TrieNode<K, V>>>,
+}
+
+impl<K, V> TrieNode<K, V> {
+    /// A node with an empty fragment, no pair and no child.
+    #[tactic(auto, using(crate::proofs::Nodes::new_is))]
+    pub fn new(alloc: Global) -> TrieNode<K, V>
+        ensures { tree_of result ≡ empty }
+    {
+        TrieNode {
+            fragment: Nibblet::new(alloc),
+            pair: None,
+            mask: 0,
+            children: Vec::new(alloc),
+        }
+    }
+}
+
+/// Whether the node has a pair.
+pub fn has_pair<K, V>(node: &TrieNode<K, V>) -> bool
+    ensures { MatchBool result (IsSome (unboxed (out_of node.now).pair)) (unboxed (out_of node.now).pair ≡ None) }
+{
+    match &node.pair {
+        Some(_) => true,
+        None => false,
+    }
+}
+
+/// Whether the node has no child.
+pub fn is_end<K, V>(node: &TrieNode<K, V>) -> bool
+    ensures { MatchBool result (vec_len (out_of node.now).children ≡ 0) (0 < vec_len (out_of node.now).children) }
+{
+    node.children.len() == 0
+}

@@ -1,0 +1,7 @@
+//! Tests that cross crates: worked examples of the trie, and calls whose growths of memory are refused.
+#![tactic(auto)]
+
+#[cfg(test)]
+mod map_calls;
+#[cfg(test)]
+mod refused_growths;

@@ -1,14 +1,14 @@
 //! Laws of points and of the answers of queries.
 
 ghost use Rattle.nibble_map.specs.Computed as computed;
-ghost use Rattle.nibble_map.specs.Lists.{Lists};
+ghost use Rattle.nibble_map.specs.Lists.{IsPrefix, IsStrictPrefix, Lists};
 ghost use Rattle.nibble_map.specs.MapQueries as map_queries;
 ghost use Rattle.nibble_map.specs.Maps as maps;
 ghost use Rattle.nibble_map.specs.Maps.{NibbleMap, IsStored};
 ghost use Rattle.nibble_map.specs.Queries as queries;
 ghost use Rattle.nibble_map.specs.Stored as stored;
 ghost use Rattle.std.specs.FinMap as map;
-ghost use Rattle.std.specs.Prelude.{◌↔◌, ◌≡◌, IsTrue, List, Option, ℕ};
+ghost use Rattle.std.specs.Prelude.{◌↔◌, ◌≡◌, IsTrue, List, Option, Some, ℕ};
 
 /// The points of a map and the prefixes of its stored lists are those of its entries.
 pub fn points_by_entries<P>()
@@ -63,4 +63,16 @@ pub fn computed_answers<P>()
     ensures fragment { (m : List (List ℕ × P)) (p f : List ℕ) → queries.IsFragment m p f ↔ (f ≡ computed.fragment m p) }
     ensures kids { (m : List (List ℕ × P)) (p : List ℕ) (qs : List (List ℕ)) → queries.AreKids m p qs ↔ (qs ≡ computed.kids m p) }
     ensures compared { (m : List (List ℕ × P)) (e : List ℕ) (k : ℕ) → queries.IsCompared m e k ↔ (k ≡ computed.compared m e) }
+{}
+
+/// Where the query is a point, the longest point above it and the shortest below it are that point.
+pub fn points_answer_themselves<P>()
+    ensures raw_ancestor { (m : NibbleMap P) (p : List ℕ) → maps.IsPoint m p → (a : List ℕ) → map_queries.IsRawAncestor m p a ↔ (a ≡ p) }
+    ensures raw_descendant { (m : NibbleMap P) (p : List ℕ) → maps.IsPoint m p → (a : Option (List ℕ)) → map_queries.IsRawDescendant m p a ↔ (a ≡ Some p) }
+{}
+
+/// Each stored list strictly below a path is at or below exactly one of the path's kids.
+pub fn one_kid_leads_to_each_list<P>()
+    ensures { (m : NibbleMap P) (p e : List ℕ) → IsStored m e → IsStrictPrefix p e
+        → (q : List ℕ) × map_queries.IsKid m p q × IsPrefix q e × ((r : List ℕ) → map_queries.IsKid m p r → IsPrefix r e → r ≡ q) }
 {}

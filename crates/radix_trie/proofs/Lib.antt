@@ -1,1 +1,3 @@
-pub mod Places
+pub mod Shown
+pub mod Sizes
+pub mod Changes

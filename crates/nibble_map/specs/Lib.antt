@@ -14,3 +14,5 @@ pub mod Rows
 pub mod Masks
 pub mod Kept
 pub mod Alters
+pub mod KeptPaths
+pub mod Agreement

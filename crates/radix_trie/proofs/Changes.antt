@@ -1,10 +1,11 @@
 -- What a change of the root's tree does to the map, and to what the trie keeps.
-use Rattle.std.proofs.Common.{◌≡◌, ℕ, suc, ◌+◌, ◌-◌, ◌*◌, ◌≤◌, ◌<◌, ◌^◌, List, [], ◌∷◌, ◌++◌, map, length, max, Option, Some, None, option_map, refl, ap, sym, subst, ◌∙◌, arith}
+use Rattle.std.proofs.Common.{◌≡◌, ℕ, suc, ◌+◌, ◌-◌, ◌*◌, ◌≤◌, ◌<◌, ◌^◌, List, [], ◌∷◌, ◌++◌, map, length, max, Option, Some, None, option_map, refl, ap, sym, subst, ◌∙◌, arith, drop}
 use Rattle.std.proofs.Math.Nat.{mul-le-mul_right}
 use Rattle.std.proofs.lemmas.List.{map-append, length-append}
 use Rattle.std.specs.FinMap as fin
-use Rattle.nibble_map.specs.Alters.{AltersRoot}
+use Rattle.nibble_map.specs.Alters.{AltersRoot, Edits, CutsRoot}
 use Rattle.nibble_map.specs.Kept.{Tree, entries_at, nodes_in, nibbles_in}
+use Rattle.nibble_map.specs.KeptPaths.{IsHeld}
 use Rattle.nibble_map.specs.Lists.{Counts}
 use Rattle.nibble_map.specs.Maps.{PairMap, value_at}
 use Rattle.nibble_map.specs.Stored.{IsStem}
@@ -14,7 +15,11 @@ use Rattle.nibble_map.proofs.MapEdits.{swap_inserted, swap_over, swap_removed, s
 use Rattle.nibble_map.proofs.Sizes.{nodes_bound}
 use Rattle.nibble_map.proofs.Stems.{tree_nibbles}
 use Rattle.radix_nodes.specs.declared.trie_node.KeyValue.{KeyValue}
-use Rattle.radix_trie.specs.Roots.{pair_of, shown, entries_of, map_of, AllKeyed, IsKept}
+use Rattle.radix_nodes.specs.declared.trie_node.TrieNode.{TrieNode}
+use Rattle.radix_nodes.specs.Nodes.{tree_of, fragment_of}
+use Rattle.radix_nodes.proofs.Nodes.{fragment_out}
+use Rattle.radix_trie.specs.Pairs.{pair_of}
+use Rattle.radix_trie.specs.Roots.{shown, entries_of, map_of, AllKeyed, IsKept}
 use Rattle.radix_trie.proofs.Shown.{row_of, row_entry, shaped, entries_shown, entries_rise, nodes_shown, nibbles_shown}
 use Rattle.radix_trie.proofs.Sizes.{stems_bound}
 
@@ -114,3 +119,106 @@ module _ {K V : Type 0} (enc : K → List ℕ) where
     nibbles_within small =
         let most : count ≤ 2 ^ 64 - 1 = omega arith in
         omega (arith, nibbles_fit, mul-le-mul_right (2 ^ 64 - 1) most)
+
+module _ {K V : Type 0} where
+  -- a list below the root's own path
+  pub at_root : (root : TrieNode K V) (list q : List ℕ) → (tree_of root).fragment ≡ [] → list ≡ q → fragment_of root ++ list ≡ q
+  at_root root list q top is = ap (λ f. f ++ list) (sym (fragment_out root) ∙ top) ∙ is
+
+  pub removed_at : (root : TrieNode K V) (new : Tree (KeyValue K V)) (list q : List ℕ) (x : KeyValue K V) (m l : ℕ) → (tree_of root).fragment ≡ [] → list ≡ q
+      → CutsRoot (fragment_of root ++ list) x m l (tree_of root) new → CutsRoot q x m l (tree_of root) new
+  removed_at root new list q x m l top is a = subst (λ p. CutsRoot p x m l (tree_of root) new) (at_root root list q top is) a
+
+  pub inserted_at : (root : TrieNode K V) (new : Tree (KeyValue K V)) (list q : List ℕ) (x : KeyValue K V) (was : Option (KeyValue K V)) (n k : ℕ)
+      → (tree_of root).fragment ≡ [] → list ≡ q → Edits (fragment_of root ++ drop 0 list) x was n k (tree_of root) new
+      → AltersRoot q was (Some x) n 0 k 0 (tree_of root) new
+  inserted_at root new list q x was n k top is e = subst (λ p. AltersRoot p was (Some x) n 0 k 0 (tree_of root) new) (at_root root list q top is) e.root
+
+  pub unheld_at : (root : TrieNode K V) (list q : List ℕ) → (tree_of root).fragment ≡ [] → list ≡ q → (IsHeld (tree_of root) (fragment_of root ++ list) → ⊥)
+      → IsHeld (tree_of root) q → ⊥
+  unheld_at root list q top is apart = subst (λ p. IsHeld (tree_of root) p → ⊥) (at_root root list q top is) apart
+
+  pub held_at : (root : TrieNode K V) (list q : List ℕ) → (tree_of root).fragment ≡ [] → list ≡ q → IsHeld (tree_of root) (fragment_of root ++ list)
+      → IsHeld (tree_of root) q
+  held_at root list q top is h = subst (IsHeld (tree_of root)) (at_root root list q top is) h
+
+-- what a removal from the root does, once it has taken a pair
+module _ {K V : Type 0} (enc : K → List ℕ) (root : TrieNode K V) (new : Tree (KeyValue K V)) (count nodes nibbles : ℕ) (list q : List ℕ) (x : KeyValue K V) (m l : ℕ)
+  (kept : IsKept enc (tree_of root) count nodes nibbles) (is : list ≡ q) (cut : CutsRoot (fragment_of root ++ list) x m l (tree_of root) new) where
+  at_q : CutsRoot q x m l (tree_of root) new
+  at_q = removed_at root new list q x m l kept.top is cut
+
+  pub taken_value : value_at (map_of (tree_of root)) q ≡ Some x.value
+  taken_value = ap (option_map (λ p. p.1)) (cut_found enc (tree_of root) new count nodes nibbles q x m l kept at_q)
+
+  pub taken_map : map_of new ≡ fin.remove (map_of (tree_of root)) q
+  taken_map = cut_removes enc (tree_of root) new count nodes nibbles q x m l kept at_q
+
+  counted : suc (length (entries_of new)) ≡ count
+  counted =
+      let s = swaps-length _ _ _ _ (change enc (tree_of root) new count nodes nibbles q (Some x) None 0 m 0 l kept at_q) in
+      omega (arith, s, kept.counted)
+
+  pub taken_some : 1 ≤ count
+  taken_some = omega (arith, counted)
+
+  pub taken_nodes : m ≤ nodes
+  taken_nodes = omega (arith, at_q.alters.nodes, kept.noded)
+
+  pub taken_nibbles : l ≤ nibbles
+  taken_nibbles = let s = ap length at_q.fragment in omega (arith, s, at_q.alters.nibbles, kept.nibbled)
+
+  pub taken_kept : IsKept enc new (count - 1) (nodes - m) (nibbles - l)
+  taken_kept =
+      kept_after enc (tree_of root) new count nodes nibbles q (Some x) None 0 m 0 l kept at_q (count - 1) tt (omega (arith, counted))
+      (nodes - m) (nibbles - l) (omega (arith, taken_nodes)) (omega (arith, taken_nibbles))
+
+-- what an insertion at the root does, once it is carried out
+module _ {K V : Type 0} (enc : K → List ℕ) (root : TrieNode K V) (new : Tree (KeyValue K V)) (count nodes nibbles : ℕ) (list q : List ℕ) (x : KeyValue K V)
+  (was : Option (KeyValue K V)) (n k : ℕ) (kept : IsKept enc (tree_of root) count nodes nibbles) (is : list ≡ q)
+  (edit : Edits (fragment_of root ++ drop 0 list) x was n k (tree_of root) new) where
+  put_at : AltersRoot q was (Some x) n 0 k 0 (tree_of root) new
+  put_at = inserted_at root new list q x was n k kept.top is edit
+
+  pub put_value : value_at (map_of (tree_of root)) q ≡ option_map (λ y. y.value) was
+  put_value = ap (option_map (λ p. p.1)) (edit_found enc (tree_of root) new count nodes nibbles q x was n k kept put_at) ∙ twice was
+    where
+      twice : (o : Option (KeyValue K V)) → option_map (λ (p : K × V). p.1) (option_map pair_of o) ≡ option_map (λ (y : KeyValue K V). y.value) o
+      twice None = refl
+      twice (Some y) = refl
+
+  pub put_map : map_of new ≡ fin.insert (map_of (tree_of root)) q (pair_of x)
+  put_map = edit_inserts enc (tree_of root) new count nodes nibbles q x was n k kept put_at
+
+  after : (m : ℕ) → q ≡ enc x.key → length q < 2 ^ 64 → m + length (entry q (option_map pair_of was)) ≡ count + 1 → IsKept enc new m (nodes + n) (nibbles + k)
+  after m keyed fits counted =
+      kept_after enc (tree_of root) new count nodes nibbles q was (Some x) n 0 k 0 kept put_at m (keyed, fits, tt) counted
+      (nodes + n) (nibbles + k) (omega arith) (omega arith)
+
+  pub put_over : (y : KeyValue K V) → was ≡ Some y → q ≡ enc x.key → length q < 2 ^ 64 → IsKept enc new count (nodes + n) (nibbles + k)
+  put_over y w keyed fits = after count keyed fits (ap (λ o. count + length (entry q (option_map pair_of o))) w)
+
+  pub put_added : was ≡ None → q ≡ enc x.key → length q < 2 ^ 64 → IsKept enc new (count + 1) (nodes + n) (nibbles + k)
+  put_added w keyed fits = let same = ap (λ o. count + 1 + length (entry q (option_map pair_of o))) w in after (count + 1) keyed fits (omega (arith, same))
+
+  -- where there is room for a pair more, unless one is replaced
+  some_count : (o : Option (KeyValue K V)) → was ≡ o → q ≡ enc x.key → length q < 2 ^ 64 → count < 2 ^ 64 → (was ≡ None → count + 1 < 2 ^ 64)
+      → (m : ℕ) × (m < 2 ^ 64) × IsKept enc new m (nodes + n) (nibbles + k)
+  some_count None w keyed fits small room = (count + 1, room w, put_added w keyed fits)
+  some_count (Some y) w keyed fits small room = (count, small, put_over y w keyed fits)
+
+  pub put_nodes_fit : q ≡ enc x.key → length q < 2 ^ 64 → count < 2 ^ 64 → (was ≡ None → count + 1 < 2 ^ 64) → nodes + n < 2 ^ 128
+  put_nodes_fit keyed fits small room =
+      let r = some_count was refl keyed fits small room in
+      let most = r.1 in
+      let few = nodes_fit enc new r.0 (nodes + n) (nibbles + k) r.2 in
+      omega arith
+
+  pub put_nibbles_fit : q ≡ enc x.key → length q < 2 ^ 64 → count < 2 ^ 64 → (was ≡ None → count + 1 < 2 ^ 64) → nibbles + k < 2 ^ 128
+  put_nibbles_fit keyed fits small room =
+      let r = some_count was refl keyed fits small room in
+      nibbles_within enc new r.0 (nodes + n) (nibbles + k) r.2 r.1
+
+  -- what stood at the list tells whether one stood there
+  pub put_absent : was ≡ None → fin.get (map_of (tree_of root)) q ≡ None
+  put_absent w = edit_found enc (tree_of root) new count nodes nibbles q x was n k kept put_at ∙ ap (option_map pair_of) w

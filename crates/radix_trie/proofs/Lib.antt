@@ -1,3 +1,4 @@
 pub mod Shown
 pub mod Sizes
 pub mod Changes
+pub mod Held

@@ -17,7 +17,8 @@ use Rattle.nibble_map.proofs.OneTree.{canonical_of_entries, node_count, nibble_c
 use Rattle.nibble_map.proofs.Sorted.{sorted_of_rising}
 use Rattle.nibble_map.proofs.Unique.{tree_entries_rise}
 use Rattle.radix_nodes.specs.declared.trie_node.KeyValue.{KeyValue}
-use Rattle.radix_trie.specs.Roots.{pair_of, shown_kids, shown, entries_of, map_of, AllKeyed, IsRoot, IsKept}
+use Rattle.radix_trie.specs.Pairs.{pair_of}
+use Rattle.radix_trie.specs.Roots.{shown_kids, shown, entries_of, map_of, AllKeyed, IsRoot, IsKept}
 
 module _ {K V : Type 0} where
   abbrev pub row_of : List ℕ × KeyValue K V → List ℕ × (K × V)

@@ -7,11 +7,9 @@ use Rattle.nibble_map.specs.Maps.{PairMap}
 use Rattle.nibble_map.specs.Trees as trees
 use Rattle.nibble_map.specs.Trees.{Forest, bare, grow}
 use Rattle.radix_nodes.specs.declared.trie_node.KeyValue.{KeyValue}
+use Rattle.radix_trie.specs.Pairs.{pair_of}
 
 module _ {K V : Type 0} where
-  abbrev pub pair_of : KeyValue K V → K × V
-  pair_of x = (x.key, x.value)
-
   -- children as plain data, without masks
   abbrev pub shown_kids : Kids (KeyValue K V) → Forest (K × V)
   shown_kids none = bare

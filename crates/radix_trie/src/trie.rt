@@ -1,12 +1,14 @@
 //! The trie, as a map.
-ghost use Rattle.std.specs.Prelude.{◌≡◌, ◌≢◌, ◌↔◌, ◌<◌, ◌^◌, ℕ, List, length, None, IsTrue, IsOk, IfOk, OnOk, IfErr, OnErr, IsErrAnd, option_copied};
+ghost use Rattle.std.specs.Prelude.{◌≡◌, ◌≢◌, ◌↔◌, ◌<◌, ◌^◌, ℕ, List, length, None, IsTrue, IsOk, IfOk, OnOk, IfErr, OnErr, IsErrAnd, option_copied, option_map};
 ghost use Rattle.std.specs.FinMap as map;
 ghost use Rattle.nibble_map.specs.Lists.{Counts};
 ghost use Rattle.nibble_map.specs.Maps.{IsStored, IsPoint, IsStem, value_at};
 ghost use Rattle.nibble_map.specs.Nibbles.{IsShort};
 ghost use Rattle.radix_nodes.specs.Nodes.{tree_of};
+ghost use Rattle.radix_trie.specs.Pairs.{pair_of};
 
 use radix_keys::{Memory, Nibblet, TrieKey};
+use radix_nodes::traversal::find::find;
 use radix_nodes::traversal::insert::put;
 use radix_nodes::traversal::remove::take_root;
 use radix_nodes::trie_node::{KeyValue, TrieNode};
@@ -109,6 +111,51 @@ impl<K: TrieKey, V> Trie<K, V> {
         (self.nodes, self.nibbles)
     }
 
+    /// The pair at a list.
+    pub(crate) fn pair_at(&self, list: &Nibblet) -> Option<&KeyValue<K, V>>
+        ensures { option_map (λ p. pair_of p.now) result ≡ map.get self.now list.now }
+    {
+        match find(self.root(), list, 0) {
+            Some(node) => match &node.pair {
+                Some(pair) => Some(&**pair),
+                None => None,
+            },
+            None => None,
+        }
+    }
+
+    /// The value that is stored at the key's encoding, if there is one.
+    ///
+    /// The key may be of another type than the stored keys: its encoding alone decides. The one
+    /// refusal is that of memory for the encoding, which a light key never meets.
+    pub fn get<Q: TrieKey>(&self, key: &Q) -> Result<Option<&V>, Memory>
+        ensures value { IfOk result (λ found. option_copied found ≡ value_at self.now (Q.encoding key.now)) }
+        ensures light { Q.is_light key.now → IsOk result }
+    {
+        let list = key.encode(self.alloc)?;
+        Ok(self.at(&list))
+    }
+
+    /// The value at a list.
+    pub(crate) fn at(&self, list: &Nibblet) -> Option<&V>
+        ensures { option_copied result ≡ value_at self.now list.now }
+    {
+        match self.pair_at(list) {
+            Some(pair) => Some(&pair.value),
+            None => None,
+        }
+    }
+
+    /// Whether as many pairs are stored as can be counted, and none at this list.
+    fn has_no_room_for(&self, list: &Nibblet) -> bool
+        ensures { IsTrue result ↔ ((map.len self.now ≡ usize.MAX) × (map.get self.now list.now ≡ None)) }
+    {
+        if self.len() < usize::MAX {
+            return false;
+        }
+        self.pair_at(list).is_none()
+    }
+
     /// The root, the canonical tree of the map.
     pub(crate) fn root(&self) -> &TrieNode<K, V>
         ensures { IsRoot K.encoding self.now (tree_of result.now) }
@@ -151,12 +198,20 @@ impl<K: TrieKey + Drop, V: Drop> Trie<K, V> {
 
         ensures handed_back { IfErr result (λ e. (e.key ≡ key) × (e.value ≡ value)) }
         ensures unchanged { OnErr result (self.new ≡ self.old) }
+
+        ensures light_stored { K.is_light key → IsStored self.old (K.encoding key) → IsOk result }
+        ensures full_at_limit { IfErr result (λ e. e.why ≡ InsertWhy.Full → map.len self.old ≡ usize.MAX) }
+        ensures full_absent { IfErr result (λ e. e.why ≡ InsertWhy.Full → map.get self.old (K.encoding key) ≡ None) }
+        // At the limit an absent key is refused, and a light one as Full.
+        ensures limit { map.len self.old ≡ usize.MAX → map.get self.old (K.encoding key) ≡ None
+            → IsErrAnd result (λ e. K.is_light key → e.why ≡ InsertWhy.Full) }
+        ensures inside { IfErr result (λ e. e.why ≢ InsertWhy.Outside) }
     {
         let list = match encoding_of(self.alloc, &key) {
             Ok(list) => list,
             Err(_) => return Err(refused(InsertWhy::Memory, KeyValue { key, value })),
         };
-        if self.length == usize::MAX {
+        if self.has_no_room_for(&list) {
             return Err(refused(InsertWhy::Full, KeyValue { key, value }));
         }
         let change = match put(
@@ -188,6 +243,9 @@ impl<K: TrieKey + Drop, V: Drop> Trie<K, V> {
         ensures old_value { IfOk result (λ old. old ≡ value_at self.old (Q.encoding key.now)) }
         ensures removed { OnOk result (self.new ≡ map.remove self.old (Q.encoding key.now)) }
         ensures unchanged { OnErr result (self.new ≡ self.old) }
+
+        ensures light_absent { Q.is_light key.now → map.get self.old (Q.encoding key.now) ≡ None → IsOk result }
+        ensures light_short { Q.is_light key.now → ((e : List ℕ) → IsStored self.old e → IsShort e) → IsOk result }
     {
         let list = key.encode(self.alloc)?;
         match take_root(&mut self.root, &list) {

@@ -78,3 +78,11 @@ agrees_short (a ∷ f) (b ∷ r) zero c g h l = rw (ne_eqb a b (h.apart l (omega
 agrees_short (a ∷ f) (b ∷ r) (suc n) zero g h l = absurd (omega (arith, one_more a b f r n zero h))
 agrees_short (a ∷ f) (b ∷ r) (suc n) (suc c) g h l =
     rw (eq-eqb a b (cons_head h.alike)) (ap suc (agrees_short f r n c g (less a b f r n c h) (omega (arith, l))))
+
+-- lists that part don't begin one list
+pub agrees_part : (f r : List ℕ) (n c : ℕ) (y z : List ℕ) → Agrees f r n c → n < length f → n < length r → f ++ y ≡ r ++ z → ⊥
+agrees_part [] r n c y z h l m e = omega (arith, l)
+agrees_part (a ∷ f) [] n c y z h l m e = omega (arith, m)
+agrees_part (a ∷ f) (b ∷ r) zero c y z h l m e = h.apart l m (cons_head e)
+agrees_part (a ∷ f) (b ∷ r) (suc n) zero y z h l m e = omega (arith, one_more a b f r n zero h)
+agrees_part (a ∷ f) (b ∷ r) (suc n) (suc c) y z h l m e = agrees_part f r n c y z (less a b f r n c h) (omega (arith, l)) (omega (arith, m)) (cons_tail e)

@@ -1,5 +1,5 @@
 -- What a node stands for.
-use Rattle.std.specs.Prelude.{◌≡◌, ℕ, ◌+◌, ◌≤◌, ◌<◌, ◌^◌, vec_len, length, drop, slice_index, ◌++◌, List, [], map, Option, Some, None, Result, Ok, Err}
+use Rattle.std.specs.Prelude.{◌≡◌, ℕ, ◌+◌, ◌≤◌, ◌<◌, ◌^◌, vec_len, length, take, drop, ◌-◌, slice_index, ◌++◌, List, [], map, Option, Some, None, Result, Ok, Err}
 use Rattle.std.specs.Vec.{vec_capacity}
 use Rattle.std.specs.declared.boxed.Box.{Box}
 use Rattle.std.specs.declared.alloc.Global.{Global}
@@ -11,7 +11,8 @@ use Rattle.radix_nodes.specs.declared.trie_node.TrieNode.{TrieNode, out-TrieNode
 use Rattle.radix_nodes.specs.declared.trie_node.TrieNode.TheOpen.{TrieNode-F}
 use Rattle.radix_nodes.specs.declared.trie_node.TrieNode.TheFolds.{fold-TrieNode}
 use Rattle.nibble_map.specs.Kept.{Tree, Kids, join, IsAt}
-use Rattle.nibble_map.specs.KeptPaths.{IsHeld, reach}
+use Rattle.nibble_map.specs.KeptPaths.{IsNodeAt, IsHeld, reach}
+use Rattle.nibble_map.specs.Answers.{IsLongest}
 use Rattle.nibble_map.specs.Agreement.{Agrees}
 use Rattle.nibble_map.specs.Masks.{marked}
 use Rattle.radix_nodes.specs.declared.traversal.compare.Agreement.{Agreement}
@@ -87,3 +88,14 @@ pub record IsStep {K V : Type 0} (n : TrieNode K V) (key : List ℕ) (depth i ne
   pub further : depth < next
   pub inside : next ≤ length key
   pub path : (u : Tree (KeyValue K V)) → IsAt i (tree_of n).kids u → u.fragment ++ drop next key ≡ drop depth key
+
+-- the path on the way to a key that ends before its nibble at `end`, from a node with the fragment f that stands at `depth`
+abbrev pub on_way : List ℕ → List ℕ → ℕ → ℕ → List ℕ
+on_way f key depth end = f ++ take (end - depth) (drop depth key)
+
+-- u is a node of t, its path is the longest of S that begins the key, and ends before the key's nibble at `end`
+pub record IsDeepest {P : Type 0} (S : List ℕ → Type 0) (t u : Tree P) (key : List ℕ) (depth end : ℕ) : Type 0 where
+  pub further : depth ≤ end
+  pub inside : end ≤ length key
+  pub node : IsNodeAt t (on_way t.fragment key depth end) u
+  pub longest : IsLongest S (t.fragment ++ drop depth key) (on_way t.fragment key depth end)

@@ -1,5 +1,5 @@
 //! A step down to a child.
-ghost use Rattle.std.specs.Prelude.{◌≡◌, ◌<◌, drop, length, slice_index, MatchOption};
+ghost use Rattle.std.specs.Prelude.{◌≡◌, ◌<◌, ◌≤◌, drop, length, slice_index, MatchOption};
 ghost use Rattle.nibble_map.specs.Masks.{bit_of};
 ghost use Rattle.nibble_map.specs.Kept.{IsTreePlaced, firsts};
 ghost use Rattle.nibble_map.specs.KeptPaths.{IsStuck};
@@ -28,10 +28,13 @@ pub fn meet<K, V>(node: &TrieNode<K, V>, key: &Nibblet, depth: usize) -> Option<
 /// The child that the key goes on to, and how many nibbles lie behind it then. None: no node below has a path that the key goes on
 /// from.
 pub fn step<K, V>(node: &TrieNode<K, V>, key: &Nibblet, depth: usize) -> Option<(usize, usize)>
-    requires depth { depth < length key.now }
+    requires depth { depth ≤ length key.now }
     requires placed { IsTreePlaced (tree_of node.now) }
     ensures { MatchOption result (IsStuck (tree_of node.now) (drop depth key.now)) (λ s. IsStep node.now key.now depth s.0 s.1) }
 {
+    if depth == key.len() {
+        return None;
+    }
     match meet(node, key, depth) {
         Some((i, agreement)) => {
             if agreement.same == node.children[i].fragment.len() {

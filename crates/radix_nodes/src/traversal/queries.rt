@@ -1,0 +1,50 @@
+//! The nodes that are nearest to a key. `on_way f key depth end` is the path that ends with the key's nibble before `end`, where a
+//! node with the fragment f stands at `depth`.
+ghost use Rattle.std.specs.Prelude.{◌≡◌, ◌≤◌, ◌++◌, length, drop, MatchOption};
+ghost use Rattle.nibble_map.specs.Lists.{IsPrefix};
+ghost use Rattle.nibble_map.specs.Answers.{IsLongest, IsShortest};
+ghost use Rattle.nibble_map.specs.Kept.{IsTreePlaced};
+ghost use Rattle.nibble_map.specs.KeptPaths.{IsNodeAt, IsPath, IsHeld};
+ghost use Rattle.radix_nodes.specs.Nodes.{tree_of, fragment_of, on_way, IsDeepest};
+
+use crate::traversal::step::{meet, step};
+use crate::trie_node::{TrieNode, has_pair};
+use radix_keys::Nibblet;
+
+/// The node with the longest path that begins the key, and how many nibbles of the key that is.
+pub fn deepest<'a, K, V>(
+    node: &'a TrieNode<K, V>,
+    key: &Nibblet,
+    depth: usize,
+) -> (&'a TrieNode<K, V>, usize)
+    requires depth { depth ≤ length key.now }
+    requires placed { IsTreePlaced (tree_of node.now) }
+    ensures { IsDeepest (IsPath (tree_of node.now)) (tree_of node.now) (tree_of result.0.now) key.now depth result.1 }
+{
+    match step(node, key, depth) {
+        Some((i, next)) => deepest(&node.children[i], key, next),
+        None => (node, depth),
+    }
+}
+
+/// The node with the longest path that begins the key and holds a pair, and how many nibbles of the key that is.
+pub fn deepest_pair<'a, K, V>(
+    node: &'a TrieNode<K, V>,
+    key: &Nibblet,
+    depth: usize,
+) -> Option<(&'a TrieNode<K, V>, usize)>
+    requires depth { depth ≤ length key.now }
+    requires placed { IsTreePlaced (tree_of node.now) }
+    ensures { MatchOption result ((q : _) → IsHeld (tree_of node.now) q → IsPrefix q (fragment_of node.now ++ drop depth key.now) → ⊥) (λ r. IsDeepest (IsHeld (tree_of node.now)) (tree_of node.now) (tree_of r.0.now) key.now depth r.1) }
+{
+    if let Some((i, next)) = step(node, key, depth) {
+        if let Some(found) = deepest_pair(&node.children[i], key, next) {
+            return Some(found);
+        }
+    }
+    if has_pair(node) {
+        Some((node, depth))
+    } else {
+        None
+    }
+}

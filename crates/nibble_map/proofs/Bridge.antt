@@ -34,14 +34,6 @@ pub above : {K : Type 0} (R : K → K → Ordering) → IsTotalOrder R → (q p 
 above R o q p h = o.antisymm p q ∙ ap ordering_reverse (less _ h)
 
 module _ {K X : Type 0} (R : K → K → Ordering) (o : IsTotalOrder R) where
-  pub below_less : (q p : K) (es : List (K × X)) → R q p ≡ Less → T (below_all R p es) → T (below_all R q es)
-  below_less q p [] l h = tt
-  below_less q p (e ∷ es) l h = both _ _ (subst (λ r. T (is_lt r)) (sym (o.trans q p e.0 l (less _ (first _ _ h)))) tt) (below_less q p es l (second _ _ h))
-
-  pub find_below : (q : K) (es : List (K × X)) → T (below_all R q es) → find R q es ≡ None
-  find_below q [] h = refl
-  find_below q (e ∷ es) h = ap (λ r. cond (is_eq r) (Some e.1) (find R q es)) (less _ (first _ _ h)) ∙ find_below q es (second _ _ h)
-
   below_mid : (q : K) (before : List (K × X)) (p : K) (x : X) (after : List (K × X)) → T (below_all R q (before ++ (p, x) ∷ after)) → R p q ≡ Greater
   below_mid q [] p x after h = above R o q p (first _ _ h)
   below_mid q (e ∷ es) p x after h = below_mid q es p x after (second _ _ h)

@@ -12,7 +12,7 @@ use Rattle.nibble_map.specs.Lists.{IsPrefix, IsBefore, Has, IsRising, Lists}
 use Rattle.nibble_map.specs.Stored.{stored, IsReached, IsPoint, IsStem}
 use Rattle.nibble_map.specs.Computed.{same, gathered, fronts, prefixes, next_after, nexts, is_point, points}
 use Rattle.nibble_map.proofs.Bridge.{tied}
-use Rattle.nibble_map.proofs.Cut.{cons_head, cons_tail}
+use Rattle.nibble_map.proofs.Cut.{cons_head, cons_tail, cons_same}
 use Rattle.nibble_map.proofs.Members.{Has-left, Has-right, Has-cases}
 use Rattle.nibble_map.proofs.Rising.{Each-from_has}
 use Rattle.nibble_map.proofs.Sorted.{same as one, has_any, any_has, rising_of_sorted}
@@ -106,12 +106,9 @@ next_is [] [] a h = absurd (let i : None ≡ Some a = h in cc i)
 next_is [] (b ∷ e) a h = (e, ap (λ c. c ∷ e) (let i : Some b ≡ Some a = h in cc))
 next_is (c ∷ p) [] a h = absurd (let i : None ≡ Some a = h in cc i)
 next_is (c ∷ p) (b ∷ e) a h = elim (cases_eq c b) [
-  | inl i ↦ let r = next_is p e a (rw (eq-eqb c b i) at h) in (r.0, both (sym i) r.1)
+  | inl i ↦ let r = next_is p e a (rw (eq-eqb c b i) at h) in (r.0, cons_same (sym i) r.1)
   | inr n ↦ absurd (let i : None ≡ Some a = rw (ne_eqb c b n) at h in cc i)
 ]
-  where
-    both : {d d' : ℕ} {u v : List ℕ} → d ≡ d' → u ≡ v → d ∷ u ≡ d' ∷ v
-    both x y = cc
 
 is_next : (p e : List ℕ) (a : ℕ) → IsPrefix (p ++ a ∷ []) e → next_after p e ≡ Some a
 is_next [] [] a (r, e) = absurd (no_cons [] a r (sym e))

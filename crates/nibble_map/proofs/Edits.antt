@@ -2,7 +2,7 @@
 use Rattle.std.proofs.Common.{◌≡◌, ℕ, suc, ◌≤◌, ◌≢◌, ◌⊎◌, ◌↔◌, List, [], ◌∷◌, ◌++◌, Option, Some, None, refl, ap, sym, subst, ◌∙◌, inl, inr, append_assoc, append-nil, arith}
 use Rattle.nibble_map.specs.Trees.{Forest, bare, grow, IsShaped, first}
 use Rattle.nibble_map.proofs.Cut.{cancel, cons_head}
-use Rattle.nibble_map.proofs.Shape.{Under, Under-headed, headed}
+use Rattle.nibble_map.proofs.Shape.{Under, Under-headed}
 use Rattle.nibble_map.proofs.Stems.{no_cons}
 
 -- the entry w stands at x, seen from the forest's place
@@ -120,20 +120,6 @@ new_leaf {P} k b r v s x w = (to, from)
     from : (((x ≡ b ∷ r) × (w ≡ v)) ⊎ ((x ≢ b ∷ r) × Holds k x w)) → Holds (grow (b ∷ r) (Some v) bare k) x w
     from (inl m) = inl ([], m.0 ∙ sym (append-nil (b ∷ r)), inl (refl, ap (λ c. Some c) (sym m.1)))
     from (inr m) = inr m.1
-
--- a leaf taken away
-pub no_leaf : {P : Type 0} (f : List ℕ) (o : Option P) (others : Forest P) → f ≢ [] → IsShaped (suc (first f)) others →
-    Changes (Holds (grow f o bare others)) (Holds others) f (λ w. ⊥)
-no_leaf f o others n s x w = (to, from)
-  where
-    to : Holds others x w → ((x ≡ f) × ⊥) ⊎ ((x ≢ f) × Holds (grow f o bare others) x w)
-    to h = inr ((λ i. let a = Holds-headed (suc (first f)) others x w s h in let c = headed f n in omega (arith, cons_head (sym c.1 ∙ sym i ∙ a.2), a.3)), inr h)
-
-    from : (((x ≡ f) × ⊥) ⊎ ((x ≢ f) × Holds (grow f o bare others) x w)) → Holds others x w
-    from (inl m) = absurd m.1
-    from (inr (m, inl (y, e, inl k))) = absurd (m (e ∙ ap (λ u. f ++ u) k.0 ∙ append-nil f))
-    from (inr (m, inl (y, e, inr h))) = absurd h
-    from (inr (m, inr h)) = h
 
 -- a change between lists that bear the same
 pub Changes-same : {P : Type 0} (D E E' F : List ℕ → P → Type 0) (r : List ℕ) (C : P → Type 0) →

@@ -1,5 +1,5 @@
 -- A node's fragment is what its path has beyond the longest point strictly above it.
-use Rattle.std.proofs.Common.{◌≡◌, ℕ, suc, ◌≤◌, ◌≢◌, ◌⊎◌, List, [], ◌∷◌, ◌++◌, length, refl, ap, sym, subst, ◌∙◌, inl, inr, append_assoc, append-nil, length-append, arith}
+use Rattle.std.proofs.Common.{◌≡◌, ℕ, suc, ◌≤◌, ◌≢◌, ◌⊎◌, List, [], ◌∷◌, ◌++◌, length, refl, ap, sym, subst, ◌∙◌, inl, inr, append_assoc, append-nil, arith}
 use Rattle.nibble_map.specs.Lists.{IsPrefix, Has, Each}
 use Rattle.nibble_map.specs.Stored.{IsPoint}
 use Rattle.nibble_map.specs.Queries.{IsFragment}
@@ -7,6 +7,7 @@ use Rattle.nibble_map.specs.Trees.{Forest, bare, grow, Tree, Node, nodes, nodes_
 use Rattle.nibble_map.proofs.Cut.{cancel, cons_head}
 use Rattle.nibble_map.proofs.Shape.{Under, At, At-headed, Under-headed}
 use Rattle.nibble_map.proofs.Members.{Has-cases, at_path, path_at}
+use Rattle.nibble_map.proofs.Parted.{prefix_length}
 use Rattle.nibble_map.proofs.Points.{path_point, point_path}
 use Rattle.nibble_map.proofs.Rising.{Each-from_has}
 
@@ -80,9 +81,6 @@ node_step q (grow f o kids others) n (inr h) =
       | inr k ↦ let r = node_step q others n k in (r.0, r.1, inr (inr r.2))
     ]
 
-pub longer_or_same : (z y : List ℕ) → IsPrefix z y → length z ≤ length y
-longer_or_same z y (r, e) = let a = ap length e in let b = length-append z r in omega (arith, a, b)
-
 not_whole : (y g : List ℕ) → g ≢ [] → y ≢ y ++ g
 not_whole y g n e = n (sym (cancel y [] g (append-nil y ∙ e)))
 
@@ -97,7 +95,7 @@ node_fragment t s n (inr h) = go (node_step [] t.kids n h)
     above : (x y : List ℕ) → ((z : List ℕ) → At t.kids z → z ≢ x → IsPrefix z x → IsPrefix z y) → (z : List ℕ) → z ≢ x → IsPrefix z x →
         Has (paths (nodes t)) z → length z ≤ length y
     above x y g z n p (inl e) = let a = ap length e in omega (arith, a)
-    above x y g z n p (inr h) = let r = path_at [] t.kids z h in longer_or_same z y (g z (subst (At t.kids) (sym r.1) r.2) n p)
+    above x y g z n p (inr h) = let r = path_at [] t.kids z h in prefix_length z y (g z (subst (At t.kids) (sym r.1) r.2) n p)
 
     go : Under [] (λ x. Step t.kids x n.fragment) n.path → IsFragment (entries (nodes t)) n.path n.fragment
     go (x, e, h) =

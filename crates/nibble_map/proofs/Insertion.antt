@@ -29,10 +29,6 @@ some_is v w = (inner, λ e. ap (λ c. Some c) (sym e))
     inner : Some v ≡ Some w → w ≡ v
     inner e = cc
 
-pub from_first : (f : List ℕ) (b : ℕ) → f ≢ [] → first f ≡ b → (c : List ℕ) × (f ≡ b ∷ c)
-from_first [] b n e = absurd (n refl)
-from_first (a ∷ f) b n e = (f, ap (λ d. d ∷ f) e)
-
 -- two trees in order, of which one is a new leaf
 beside : {P : Type 0} (x : ℕ) (u : List ℕ) (o : Option P) (kids : Forest P) (y : ℕ) (t : List ℕ) (v : P) → x ≢ y → IsShaped 0 (grow (x ∷ u) o kids bare) →
     (k' : Forest P) × IsShaped 0 k' × Changes (Holds (grow (x ∷ u) o kids bare)) (Holds k') (y ∷ t) (λ w. w ≡ v) × AreMany k'

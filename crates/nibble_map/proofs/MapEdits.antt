@@ -12,11 +12,12 @@ use Rattle.nibble_map.specs.Stored as stored
 use Rattle.nibble_map.specs.Stored.{IsSetAt, IsCutAt}
 use Rattle.nibble_map.specs.Maps.{IsStored, NibbleMap, walk}
 use Rattle.nibble_map.specs.Queries as queries
+use Rattle.nibble_map.specs.Rows.{insert_all, inserted, removed}
 use Rattle.nibble_map.specs.Swaps.{Swaps, entry}
-use Rattle.nibble_map.proofs.Bridge.{first, second, above, tied, entries-retain_keys, insert_swap, found_swap, remove_swap, find_swap}
+use Rattle.nibble_map.proofs.Bridge.{first, second, above, tied, entries-remove, entries-retain_keys, insert_swap, found_swap, remove_swap, find_swap}
 use Rattle.nibble_map.proofs.Sorted.{same, rising_of_sorted, sorted_of_rising, has_any, any_has}
 
-same_Some : {A : Type 0} (x y : A) → Some x ≡ Some y → x ≡ y
+pub same_Some : {A : Type 0} (x y : A) → Some x ≡ Some y → x ≡ y
 same_Some x y e = ap (λ o. unwrap_or o x) e
 
 not_None : {A : Type 0} (x : A) → None ≡ Some x → ⊥
@@ -134,3 +135,11 @@ module _ {P : Type 0} (p : List ℕ) where
   pub swap_from : (x : P) (old new : List (List ℕ × P)) → IsRising (stored.stored old)
       → Swaps (entry p (Some x)) (entry p None) old new → map.get (map.from_sorted {R = slice_cmp nat_cmp} old) p ≡ Some x
   swap_from x old new g s = map.get-from_sorted _ old p (sorted_of_rising old g) ∙ find_swap _ nat_list_cmp_total p x old new s (sorted_of_rising old g)
+
+-- entries as the worked rows compute them
+pub entries_inserted : (m : NibbleMap ℕ) (es : List (List ℕ × ℕ)) → map.entries (insert_all m es) ≡ inserted (map.entries m) es
+entries_inserted m [] = refl
+entries_inserted m (e ∷ es) = entries_inserted (map.insert m e.0 e.1) es ∙ ap (λ l. inserted l es) (map.entries-insert nat_list_cmp_total m e.0 e.1)
+
+pub entries_removed : (m : NibbleMap ℕ) (e : List ℕ) → map.entries (map.remove m e) ≡ removed e (map.entries m)
+entries_removed m e = entries-remove _ nat_list_cmp_total same m e

@@ -1,18 +1,17 @@
 -- Where the query is a point; and the one child that leads to a stored list.
-use Rattle.std.proofs.Common.{◌≡◌, ℕ, ◌≤◌, ◌↔◌, List, [], ◌∷◌, ◌++◌, length, Option, Some, None, refl, sym, ap, subst, ◌∙◌, inl, inr, append_assoc, append-nil}
+use Rattle.std.proofs.Common.{◌≡◌, ℕ, ◌↔◌, List, [], ◌∷◌, ◌++◌, Option, Some, None, sym, ap, subst, ◌∙◌, inl, inr, append_assoc}
 use Rattle.std.specs.FinMap as map
 use Rattle.nibble_map.specs.Lists.{IsPrefix, IsStrictPrefix}
 use Rattle.nibble_map.specs.Points.{IsPoint}
-use Rattle.nibble_map.specs.Answers.{IsLongest, IsShortest, IsRawAncestor, IsRawDescendant}
+use Rattle.nibble_map.specs.Answers.{IsShortest, IsRawAncestor, IsRawDescendant}
 use Rattle.nibble_map.specs.Computed.{raw_descendant}
 use Rattle.nibble_map.specs.Maps.{NibbleMap, IsStored}
-use Rattle.nibble_map.specs.MapQueries.{IsKid}
-use Rattle.nibble_map.specs.Stored as stored
+use Rattle.nibble_map.specs.MapQueries.{IsKid, AreKids, IsLeaf}
 use Rattle.nibble_map.proofs.ComputedAnswers.{raw_descendant_is}
 use Rattle.nibble_map.proofs.Cut.{cancel, cons_head}
 use Rattle.nibble_map.proofs.MapEdits.{held}
 use Rattle.nibble_map.proofs.Moves.{raw_descendant_moves}
-use Rattle.nibble_map.proofs.Parted.{prefix_itself, prefix_length, longest_unique, raw_descendant_unique, shortest_leads, shortest_unique}
+use Rattle.nibble_map.proofs.Parted.{prefix_itself, prefix_length, prefix_through, reached_past, longest_unique, raw_descendant_unique, shortest_leads, shortest_unique}
 
 module _ (S : List ℕ → Type 0) (p : List ℕ) (point : IsPoint S p) where
   pub own_ancestor : (a : List ℕ) → IsRawAncestor S p a ↔ (a ≡ p)
@@ -26,6 +25,14 @@ module _ (S : List ℕ → Type 0) (p : List ℕ) (point : IsPoint S p) where
     where
       own : IsRawDescendant S p (Some p)
       own = record { member = point; below = prefix_itself p; shortest = λ q h i. prefix_length p q i }
+
+-- a kid has a stored list at or below it
+kid_leads : (S : List ℕ → Type 0) (p q : List ℕ) (a : ℕ) → IsShortest (IsPoint S) (p ++ a ∷ []) q → (e : List ℕ) × S e × IsStrictPrefix p e
+kid_leads S p q a l =
+    let b = l.below in
+    let r = reached_past S q p a b.0 (b.1 ∙ append_assoc p (a ∷ []) b.0) l.member in
+    let k = prefix_through (p ++ a ∷ []) q r.0 b r.2 in
+    (r.0, r.1, (a, k.0, k.1 ∙ append_assoc p (a ∷ []) k.0))
 
 module _ {P : Type 0} (m : NibbleMap P) (p e : List ℕ) (h : IsStored m e) where
   step : (a : ℕ) (rest : List ℕ) → e ≡ p ++ a ∷ rest → IsPrefix (p ++ a ∷ []) e
@@ -53,3 +60,9 @@ module _ {P : Type 0} (m : NibbleMap P) (p e : List ℕ) (h : IsStored m e) wher
           let s = k.below in
           let n = cons_head (cancel p (b ∷ (s.0 ++ t)) (a ∷ rest) (sym (append_assoc p (b ∷ []) (s.0 ++ t)) ∙ sym (append_assoc (p ++ b ∷ []) s.0 t) ∙ ap (λ v. v ++ t) (sym s.1) ∙ sym j ∙ i)) in
           shortest_unique (IsStored m) (p ++ a ∷ []) r q (subst (λ c. IsShortest (IsPoint (IsStored m)) (p ++ c ∷ []) r) n k) l
+
+pub leaf_has_no_kids : {P : Type 0} (m : NibbleMap P) (p : List ℕ) → IsLeaf m p ↔ AreKids m p []
+leaf_has_no_kids m p = (
+  (λ h. record { rising = tt; exactly = λ q. ((λ k. absurd k), (λ k. let r = kid_leads (IsStored m) p q k.0 k.1 in absurd (h r.0 r.1 r.2))) }),
+  (λ k e h s. let q = one_kid m p e h s in (k.exactly q.0).1 q.1),
+)

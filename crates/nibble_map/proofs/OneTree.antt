@@ -1,11 +1,11 @@
 -- A map has one canonical tree.
-use Rattle.std.proofs.Common.{◌≡◌, ℕ, ◌≤◌, ◌*◌, ◌↔◌, List, [], ◌∷◌, length, max, Option, Some, None, option_map, refl, sym, ap, subst, ◌∙◌, inl, inr, nat_cmp}
+use Rattle.std.proofs.Common.{◌≡◌, ℕ, ◌≤◌, ◌*◌, ◌↔◌, List, [], ◌∷◌, length, max, Option, Some, None, option_map, refl, sym, ap, subst, ◌∙◌, inl, nat_cmp}
 use Rattle.std.specs.List.{cons_option}
 use Rattle.std.specs.Cmp.Lexicographic.{slice_cmp}
 use Rattle.std.specs.FinMap as map
 use Rattle.std.proofs.lemmas.Cmp.{nat_list_cmp_total}
 use Rattle.std.proofs.lemmas.List.{length-map}
-use Rattle.nibble_map.specs.Answers.{IsFragment}
+use Rattle.nibble_map.specs.Answers.{IsFragment, IsLongest, IsShortest}
 use Rattle.nibble_map.specs.Canonical.{IsCanonical}
 use Rattle.nibble_map.specs.Lists.{Has, Each, IsBefore, IsRising, Lists, Counts}
 use Rattle.nibble_map.specs.MapQueries as map_queries
@@ -17,7 +17,7 @@ use Rattle.nibble_map.proofs.Canonical.{full_iff_points}
 use Rattle.nibble_map.proofs.Fragments.{tree_fragments}
 use Rattle.nibble_map.proofs.Full.{shaped}
 use Rattle.nibble_map.proofs.MapEdits.{held, insert_is, remove_is}
-use Rattle.nibble_map.proofs.Moves.{Within, point_moves, stem_moves, lists_moves, fragment_moves, compared_moves}
+use Rattle.nibble_map.proofs.Moves.{Within, point_moves, stem_moves, lists_moves, longest_moves, shortest_moves, fragment_moves, compared_moves}
 use Rattle.nibble_map.proofs.Points.{tree_points}
 use Rattle.nibble_map.proofs.Same.{same_parts}
 use Rattle.nibble_map.proofs.Sizes.{nodes_bound}
@@ -81,6 +81,12 @@ module _ {P : Type 0} (t : Tree P) (m : NibbleMap P) (c : IsCanonical t m) where
       moved [] h = tt
       moved (n ∷ ns) h = (fragment_moves _ _ (map_of_tree t m c.pairs) (tree_of_map t m c.pairs) n.path n.fragment h.0, moved ns h.1)
 
+  pub nearest_above : (e p : List ℕ) → IsLongest (Has (paths (nodes t))) e p ↔ map_queries.IsRawAncestor m e p
+  nearest_above e p = (longest_moves _ _ (λ x. (c.exact.exactly x).0) (λ x. (c.exact.exactly x).1) e p, longest_moves _ _ (λ x. (c.exact.exactly x).1) (λ x. (c.exact.exactly x).0) e p)
+
+  pub nearest_below : (e p : List ℕ) → IsShortest (Has (paths (nodes t))) e p ↔ map_queries.IsRawDescendant m e (Some p)
+  nearest_below e p = (shortest_moves _ _ (λ x. (c.exact.exactly x).0) (λ x. (c.exact.exactly x).1) e p, shortest_moves _ _ (λ x. (c.exact.exactly x).1) (λ x. (c.exact.exactly x).0) e p)
+
   pub search_count : (e : List ℕ) → map_queries.IsCompared m e (walked t.kids e)
   search_count e = compared_moves _ _ (map_of_tree t m c.pairs) (tree_of_map t m c.pairs) e _ (tree_compared t (canonical_shaped t m c) e)
 
@@ -130,15 +136,6 @@ cons_first x y xs ys e = cc
 
 cons_rest : {A : Type 0} (x y : A) (xs ys : List A) → x ∷ xs ≡ y ∷ ys → xs ≡ ys
 cons_rest x y xs ys e = cc
-
-paths_of_parts : {P : Type 0} (ns ks : List (Node P)) → parts_of ns ≡ parts_of ks → paths ns ≡ paths ks
-paths_of_parts [] [] e = refl
-paths_of_parts [] (k ∷ ks) e = absurd (let i : [] ≡ (k.path, k.fragment) ∷ parts_of ks = e in cc i)
-paths_of_parts (n ∷ ns) [] e = absurd (let i : (n.path, n.fragment) ∷ parts_of ns ≡ [] = e in cc i)
-paths_of_parts (n ∷ ns) (k ∷ ks) e = joined (ap (λ (z : List ℕ × List ℕ). z.0) (cons_first _ _ _ _ e)) (paths_of_parts ns ks (cons_rest _ _ _ _ e))
-  where
-    joined : {xs ys : List (List ℕ)} → n.path ≡ k.path → xs ≡ ys → n.path ∷ xs ≡ k.path ∷ ys
-    joined i j = cc
 
 -- a first pair isn't among later nodes' pairs
 not_later : {P : Type 0} (n : Node P) (ns : List (Node P)) (p : List ℕ) (v : P) (es : List (List ℕ × P)) → IsRising (paths (n ∷ ns)) → n.path ≡ p → entries ns ≡ (p, v) ∷ es → ⊥

@@ -1,22 +1,19 @@
 -- Two lists: one leads to the other, or they part; and what that makes of longest and shortest members.
-use Rattle.std.proofs.Common.{◌≡◌, ℕ, ◌+◌, ◌≤◌, ◌≢◌, ◌⊎◌, ◌&&◌, Bool, true, false, eqb, List, [], ◌∷◌, ◌++◌, length, Option, Some, None, refl, ap, sym, subst, ◌∙◌, inl, inr, append_assoc, append-nil, length-append, arith, eq-eqb, ne_eqb}
+use Rattle.std.proofs.Common.{◌≡◌, ℕ, ◌+◌, ◌≤◌, ◌≢◌, ◌⊎◌, true, false, List, [], ◌∷◌, ◌++◌, length, Option, Some, None, refl, ap, sym, subst, ◌∙◌, inl, inr, append_assoc, append-nil, length-append, arith, eq-eqb, ne_eqb}
 use Rattle.std.proofs.lemmas.Bool.{cases_eq}
 use Rattle.nibble_map.specs.Lists.{IsPrefix, is_prefix}
 use Rattle.nibble_map.specs.Points.{IsReached, IsParting, IsPoint}
 use Rattle.nibble_map.specs.Answers.{IsLongest, IsShortest, IsAncestor, IsRawDescendant, IsFragment, IsCompared}
-use Rattle.nibble_map.proofs.Cut.{cancel, cons_head, cons_tail}
+use Rattle.nibble_map.proofs.Cut.{cancel, cons_head, cons_tail, cons_same}
 
 -- the test of a prefix
 pub prefix_of : (p e : List ℕ) → is_prefix p e ≡ true → IsPrefix p e
 prefix_of [] e h = (e, refl)
 prefix_of (a ∷ p) [] h = absurd (let i : false ≡ true = h in cc i)
 prefix_of (a ∷ p) (b ∷ e) h = elim (cases_eq a b) [
-  | inl i ↦ let r = prefix_of p e (rw (eq-eqb a b i) at h) in (r.0, joined (sym i) r.1)
+  | inl i ↦ let r = prefix_of p e (rw (eq-eqb a b i) at h) in (r.0, cons_same (sym i) r.1)
   | inr n ↦ absurd (let i : false ≡ true = rw (ne_eqb a b n) at h in cc i)
 ]
-  where
-    joined : {c d : ℕ} {u v : List ℕ} → c ≡ d → u ≡ v → c ∷ u ≡ d ∷ v
-    joined i j = cc
 
 pub is_prefix_true : (p e : List ℕ) → IsPrefix p e → is_prefix p e ≡ true
 is_prefix_true [] e h = refl
@@ -38,10 +35,7 @@ same_length [] [] p h k e = refl
 same_length [] (b ∷ y) p h k e = absurd (omega arith)
 same_length (a ∷ x) [] p h k e = absurd (omega arith)
 same_length (a ∷ x) (b ∷ y) [] (r, h) k e = absurd (let i : [] ≡ a ∷ (x ++ r) = h in cc i)
-same_length (a ∷ x) (b ∷ y) (c ∷ p) (r, h) (t, k) e = both (sym (cons_head h) ∙ cons_head k) (same_length x y p (r, cons_tail h) (t, cons_tail k) (omega arith))
-  where
-    both : a ≡ b → x ≡ y → a ∷ x ≡ b ∷ y
-    both i j = cc
+same_length (a ∷ x) (b ∷ y) (c ∷ p) (r, h) (t, k) e = cons_same (sym (cons_head h) ∙ cons_head k) (same_length x y p (r, cons_tail h) (t, cons_tail k) (omega arith))
 
 pub prefix_same : (x y : List ℕ) → IsPrefix x y → length y ≤ length x → x ≡ y
 prefix_same x y h l = let k = prefix_length x y h in same_length x y y h (prefix_itself y) (omega (arith, l, k))
@@ -61,25 +55,19 @@ split (c ∷ x) (d ∷ y) =
     elim (cases_eq c d) [
       | inr n ↦ inr (inr ([], c, d, record { apart = n; left = x; right = y; left_is = refl; right_is = refl }))
       | inl e ↦ elim (split x y) [
-        | inl h ↦ inl (h.0, joined (sym e) h.1)
+        | inl h ↦ inl (h.0, cons_same (sym e) h.1)
         | inr k ↦ elim k [
-          | inl h ↦ inr (inl (h.0, joined e h.1))
-          | inr h ↦ inr (inr (c ∷ h.0, h.1, h.2, record { apart = h.3.apart; left = h.3.left; right = h.3.right; left_is = joined refl h.3.left_is; right_is = joined (sym e) h.3.right_is }))
+          | inl h ↦ inr (inl (h.0, cons_same e h.1))
+          | inr h ↦ inr (inr (c ∷ h.0, h.1, h.2, record { apart = h.3.apart; left = h.3.left; right = h.3.right; left_is = cons_same refl h.3.left_is; right_is = cons_same (sym e) h.3.right_is }))
         ]
       ]
     ]
-  where
-    joined : {m n : ℕ} {u v : List ℕ} → m ≡ n → u ≡ v → m ∷ u ≡ n ∷ v
-    joined i j = cc
 
 -- what leads to both leads to where they part
 pub common : (e z : List ℕ) (a b : ℕ) (u v : List ℕ) → a ≢ b → IsPrefix e (z ++ a ∷ u) → IsPrefix e (z ++ b ∷ v) → IsPrefix e z
 common [] z a b u v n h k = (z, refl)
 common (d ∷ e) [] a b u v n h k = absurd (n (cons_head h.1 ∙ sym (cons_head k.1)))
-common (d ∷ e) (c ∷ z) a b u v n h k = let r = common e z a b u v n (h.0, cons_tail h.1) (k.0, cons_tail k.1) in (r.0, joined (cons_head h.1) r.1)
-  where
-    joined : {w : List ℕ} → c ≡ d → z ≡ w → c ∷ z ≡ d ∷ w
-    joined i j = cc
+common (d ∷ e) (c ∷ z) a b u v n h k = let r = common e z a b u v n (h.0, cons_tail h.1) (k.0, cons_tail k.1) in (r.0, cons_same (cons_head h.1) r.1)
 
 module _ (S : List ℕ → Type 0) where
   pub point_reached : (p : List ℕ) → IsPoint S p → (p ≡ []) ⊎ IsReached S p

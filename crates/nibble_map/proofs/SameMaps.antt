@@ -1,16 +1,13 @@
 -- When two maps are the same under the value type's own `==`.
-use Rattle.std.proofs.Common.{◌≡◌, ℕ, ◌↔◌, List, [], ◌∷◌, map as each, Option, Some, None, Bool, T, true, false, is_some, option_map, refl, sym, ap, subst, ◌∙◌, inl, inr}
+use Rattle.std.proofs.Common.{◌≡◌, ℕ, ◌↔◌, List, [], ◌∷◌, Option, Some, None, Bool, T, is_some, option_map, refl, sym, ap, subst, ◌∙◌, inl, inr}
 use Rattle.std.specs.Prelude.{IsTrue}
 use Rattle.std.specs.FinMap as map
-use Rattle.nibble_map.specs.Lists.{Has, Each, IsBefore, IsRising}
+use Rattle.nibble_map.specs.Lists.{Has, IsBefore, IsRising}
 use Rattle.nibble_map.specs.Maps.{PairMap, IsStored, value_at}
 use Rattle.nibble_map.specs.MapQueries.{IsSame, AreSame}
 use Rattle.nibble_map.specs.Stored.{stored}
-use Rattle.nibble_map.proofs.MapEdits.{stored_lists, has_get}
+use Rattle.nibble_map.proofs.MapEdits.{same_Some, stored_lists, has_get}
 use Rattle.nibble_map.proofs.Unique.{rising_unique, Each-has, before_not_itself}
-
-same_Some : {A : Type 0} (x y : A) → Some x ≡ Some y → x ≡ y
-same_Some x y e = cc
 
 module _ {K V : Type 0} (eq : V → V → Bool) where
   -- a stored list has a value
@@ -41,8 +38,8 @@ module _ {K V : Type 0} (eq : V → V → Bool) where
   same_transitive h m n o s r = record {
     same_lists = λ e. ((λ t. (r.same_lists e).0 ((s.same_lists e).0 t)), (λ t. (s.same_lists e).1 ((r.same_lists e).1 t)));
     same_values = λ e v w i j.
-      let k = held_value n e ((s.same_lists e).0 (value_held m e v i)) in
-      h v k.0 w (s.same_values e v k.0 i k.1) (r.same_values e k.0 w k.1 j);
+        let k = held_value n e ((s.same_lists e).0 (value_held m e v i)) in
+        h v k.0 w (s.same_values e v k.0 i k.1) (r.same_values e k.0 w k.1 j);
   }
 
   -- entry by entry
@@ -110,7 +107,7 @@ module _ {K V : Type 0} (eq : V → V → Bool) where
           (λ t. ((stored_lists m).exactly e).0 (subst (λ l. Has l e) (sym (same_keys _ _ s)) (((stored_lists n).exactly e).1 t))),
         );
         same_values = λ e v w i j.
-          let p = paired m e v i in
-          let q = paired n e w j in
-          subst (λ x. IsTrue (eq x w)) p.2 (subst (λ x. IsTrue (eq p.0.1 x)) q.2 (same_at _ _ (stored_lists m).rising (stored_lists n).rising s e p.0 q.0 ((has_get m e p.0).1 p.1) ((has_get n e q.0).1 q.1)));
+            let p = paired m e v i in
+            let q = paired n e w j in
+            subst (λ x. IsTrue (eq x w)) p.2 (subst (λ x. IsTrue (eq p.0.1 x)) q.2 (same_at _ _ (stored_lists m).rising (stored_lists n).rising s e p.0 q.0 ((has_get m e p.0).1 p.1) ((has_get n e q.0).1 q.1)));
       }

@@ -1,13 +1,13 @@
 -- Insertion and removal in a shaped tree, by its entries.
 use Rattle.std.proofs.Common.{◌≡◌, ℕ, ◌≢◌, ◌⊎◌, ◌↔◌, List, [], ◌∷◌, ◌++◌, Option, Some, None, option_map, refl, ap, sym, subst, ◌∙◌, inl, inr, append_assoc, append-nil, arith}
 use Rattle.std.specs.List.{cons_option}
-use Rattle.nibble_map.specs.Lists.{IsBefore, Has, IsRising}
-use Rattle.nibble_map.specs.Stored.{stored, IsSetAt, IsCutAt}
+use Rattle.nibble_map.specs.Lists.{Has}
+use Rattle.nibble_map.specs.Stored.{IsSetAt, IsCutAt}
 use Rattle.nibble_map.specs.Trees.{Forest, bare, grow, Tree, nodes, nodes_below, entries, IsShaped}
 use Rattle.nibble_map.proofs.Members.{Has-left, Has-right, Has-cases, entries-append}
 use Rattle.nibble_map.proofs.Shape.{Under}
-use Rattle.nibble_map.proofs.Stems.{before_trans, no_cons}
-use Rattle.nibble_map.proofs.Unique.{Each-has, before_not_itself, tree_entries_rise}
+use Rattle.nibble_map.proofs.Stems.{no_cons}
+use Rattle.nibble_map.proofs.Unique.{tree_entries_rise}
 use Rattle.nibble_map.proofs.Edits.{Holds, Changes, none_here}
 use Rattle.nibble_map.proofs.Insertion.{enter}
 use Rattle.nibble_map.proofs.Removal.{take_out}
@@ -61,43 +61,6 @@ tree_entry {P} t x w = (
   where
     from_root : Under [] (λ y. Holds t.kids y w) x → Holds t.kids x w
     from_root (y, e, h) = subst (λ v. Holds t.kids v w) (sym e) h
-
--- one map for each set of entries
-pub one_map : {P : Type 0} (m n : List (List ℕ × P)) → IsRising (stored m) → IsRising (stored n) →
-    ((x : List ℕ) (w : P) → Has m (x, w) → Has n (x, w)) → ((x : List ℕ) (w : P) → Has n (x, w) → Has m (x, w)) → m ≡ n
-one_map [] [] h k to from = refl
-one_map [] (y ∷ ys) h k to from = absurd (from y.0 y.1 (inl refl))
-one_map (x ∷ xs) [] h k to from = absurd (to x.0 x.1 (inl refl))
-one_map {P} (x ∷ xs) (y ∷ ys) h k to from = both (one_map xs ys h.1 k.1 to_tail from_tail)
-  where
-    held : (zs : List (List ℕ × P)) (z : List ℕ) (w : P) → Has zs (z, w) → Has (stored zs) z
-    held [] z w i = i
-    held (v ∷ zs) z w (inl e) = inl (ap (λ q. q.0) e)
-    held (v ∷ zs) z w (inr i) = inr (held zs z w i)
-
-    same : x ≡ y
-    same = elim (to x.0 x.1 (inl refl)) [
-      | inl e ↦ e
-      | inr i ↦ elim (from y.0 y.1 (inl refl)) [
-        | inl e ↦ sym e
-        | inr j ↦ absurd (before_not_itself x.0 (before_trans x.0 y.0 x.0 (Each-has (IsBefore x.0) (stored xs) y.0 h.0 (held xs y.0 y.1 j)) (Each-has (IsBefore y.0) (stored ys) x.0 k.0 (held ys x.0 x.1 i))))
-      ]
-    ]
-
-    to_tail : (z : List ℕ) (w : P) → Has xs (z, w) → Has ys (z, w)
-    to_tail z w i = elim (to z w (inr i)) [
-      | inl e ↦ absurd (before_not_itself x.0 (subst (IsBefore x.0) (ap (λ q. q.0) e ∙ sym (ap (λ q. q.0) same)) (Each-has (IsBefore x.0) (stored xs) z h.0 (held xs z w i))))
-      | inr j ↦ j
-    ]
-
-    from_tail : (z : List ℕ) (w : P) → Has ys (z, w) → Has xs (z, w)
-    from_tail z w i = elim (from z w (inr i)) [
-      | inl e ↦ absurd (before_not_itself y.0 (subst (IsBefore y.0) (ap (λ q. q.0) e ∙ ap (λ q. q.0) same) (Each-has (IsBefore y.0) (stored ys) z k.0 (held ys z w i))))
-      | inr j ↦ j
-    ]
-
-    both : xs ≡ ys → x ∷ xs ≡ y ∷ ys
-    both e = rw (same, e) refl
 
 -- a change of the root's pair
 root_changed : {P : Type 0} (t : Tree P) → IsShaped 0 t.kids → (o : Option P) (x : List ℕ) (w : P) →

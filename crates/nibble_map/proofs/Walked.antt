@@ -5,12 +5,12 @@ use Rattle.nibble_map.specs.Lists.{IsPrefix}
 use Rattle.nibble_map.specs.Stored.{IsPoint, IsStem}
 use Rattle.nibble_map.specs.Queries.{IsLongest, IsCompared}
 use Rattle.nibble_map.specs.Trees.{Forest, bare, grow, Tree, nodes, entries, first, IsShaped, along, walked}
-use Rattle.nibble_map.proofs.Cut.{cancel, cons_head, cons_tail}
+use Rattle.nibble_map.proofs.Cut.{cancel, cons_head, cons_same}
 use Rattle.nibble_map.proofs.Shape.{At, At-headed, Under-headed, headed}
 use Rattle.nibble_map.proofs.Members.{at_path, path_at}
 use Rattle.nibble_map.proofs.Points.{path_point, point_path}
 use Rattle.nibble_map.proofs.Stems.{Stem, Stem-headed, no_cons, stem_at, at_stem, tree_stems}
-use Rattle.nibble_map.proofs.Fragments.{longer_or_same}
+use Rattle.nibble_map.proofs.Parted.{common, prefix_length}
 
 -- what `along` meets
 abbrev pub Whole : List ℕ → List ℕ → (List ℕ → ℕ) → Type 0
@@ -28,10 +28,10 @@ along_says (a ∷ f) [] g = inr (inl (a, f, refl, refl))
 along_says (a ∷ f) (b ∷ r) g =
     elim (cases_eq a b) [
       | inl e ↦ let v = here e in elim (along_says f r g) [
-        | inl h ↦ inl (h.0, both e h.1, v ∙ ap suc h.2 ∙ omega arith)
+        | inl h ↦ inl (h.0, cons_same (sym e) h.1, v ∙ ap suc h.2 ∙ omega arith)
         | inr k ↦ elim k [
-          | inl h ↦ inr (inl (h.0, h.1, both' e h.2, v ∙ ap suc h.3))
-          | inr h ↦ inr (inr (a ∷ h.0, h.1, h.2, h.3, h.4, ap (λ l. a ∷ l) h.5, both e h.6, h.7, v ∙ ap suc h.8 ∙ omega arith))
+          | inl h ↦ inr (inl (h.0, h.1, cons_same e h.2, v ∙ ap suc h.3))
+          | inr h ↦ inr (inr (a ∷ h.0, h.1, h.2, h.3, h.4, ap (λ l. a ∷ l) h.5, cons_same (sym e) h.6, h.7, v ∙ ap suc h.8 ∙ omega arith))
         ]
       ]
       | inr n ↦ inr (inr ([], a, f, b, r, refl, refl, n, rw (ne_eqb a b n) (omega arith)))
@@ -40,16 +40,8 @@ along_says (a ∷ f) (b ∷ r) g =
     here : a ≡ b → along (a ∷ f) (b ∷ r) g ≡ suc (along f r g)
     here e = rw (eq-eqb a b e) refl
 
-    both : {u v : List ℕ} → a ≡ b → u ≡ v → b ∷ u ≡ a ∷ v
-    both e h = cc
-
-    both' : {u v : List ℕ} → a ≡ b → u ≡ v → a ∷ u ≡ b ∷ v
-    both' e h = cc
-
 fork : (z c : List ℕ) (x : ℕ) (u : List ℕ) (y : ℕ) (v : List ℕ) → x ≢ y → IsPrefix z (c ++ x ∷ u) → IsPrefix z (c ++ y ∷ v) → length z ≤ length c
-fork [] c x u y v n h k = omega arith
-fork (d ∷ z) [] x u y v n h k = absurd (n (cons_head h.1 ∙ sym (cons_head k.1)))
-fork (d ∷ z) (e ∷ c) x u y v n h k = let i = fork z c x u y v n (h.0, cons_tail h.1) (k.0, cons_tail k.1) in omega arith
+fork z c x u y v n h k = prefix_length z c (common z c x y u v n h k)
 
 lead : (z : List ℕ) (b : ℕ) (r : List ℕ) (a : ℕ) (w : List ℕ) → z ≡ a ∷ w → IsPrefix z (b ∷ r) → b ≡ a
 lead z b r a w e (t, k) = cons_head (k ∙ ap (λ l. l ++ t) e)
@@ -63,7 +55,7 @@ empty_short : (z : List ℕ) (n : ℕ) → z ≡ [] → length z ≤ n
 empty_short z n e = let a = ap length e in omega (arith, a)
 
 at_once : {P : Type 0} (k : Forest P) → Seen k [] 0
-at_once k = ([], record { member = inl refl; above = ([], refl); longest = λ z h p. longer_or_same z [] p }, inl (inl refl, refl))
+at_once k = ([], record { member = inl refl; above = ([], refl); longest = λ z h p. prefix_length z [] p }, inl (inl refl, refl))
 
 -- no tree begins with b
 past : {P : Type 0} (low : ℕ) (f : List ℕ) (o : Option P) (kids others : Forest P) (b : ℕ) (r : List ℕ) (n : ℕ) → IsShaped low (grow f o kids others) →
@@ -115,7 +107,7 @@ deeper low f o kids others b r rest n s eq e (p, l, c) = (
 
     longest : (z : List ℕ) → (z ≡ []) ⊎ Stem (grow f o kids others) z → IsPrefix z (b ∷ r) → length z ≤ length (f ++ p)
     longest z (inl i) q = empty_short z (length (f ++ p)) i
-    longest z (inr (inl (m, t))) q = let i = longer_or_same z f t in omega (arith, i, size p)
+    longest z (inr (inl (m, t))) q = let i = prefix_length z f t in omega (arith, i, size p)
     longest z (inr (inr (inl (y, i, h)))) (t, k) =
         let j = l.longest y (inr h) (t, cancel f rest (y ++ t) (sym e ∙ k ∙ ap (λ v. v ++ t) i ∙ append_assoc f y t)) in
         omega (arith, ap length i, size y, size p, j)
@@ -140,7 +132,7 @@ deeper low f o kids others b r rest n s eq e (p, l, c) = (
 inside : {P : Type 0} (f : List ℕ) (o : Option P) (kids others : Forest P) (b : ℕ) (r : List ℕ) (a : ℕ) (u : List ℕ) → f ≡ (b ∷ r) ++ a ∷ u →
     Seen (grow f o kids others) (b ∷ r) (length (b ∷ r))
 inside f o kids others b r a u e =
-    (b ∷ r, record { member = inr (inl (no_cons [] b r, (a ∷ u, e))); above = ([], sym (append-nil (b ∷ r))); longest = λ z h p. longer_or_same z (b ∷ r) p }, inl (inl refl, refl))
+    (b ∷ r, record { member = inr (inl (no_cons [] b r, (a ∷ u, e))); above = ([], sym (append-nil (b ∷ r))); longest = λ z h p. prefix_length z (b ∷ r) p }, inl (inl refl, refl))
 
 -- what is searched for parts from a fragment
 forked : {P : Type 0} (low : ℕ) (f : List ℕ) (o : Option P) (kids others : Forest P) (b : ℕ) (r c : List ℕ) (x : ℕ) (u : List ℕ) (y : ℕ) (v : List ℕ) → IsShaped low (grow f o kids others) →

@@ -1,8 +1,10 @@
 -- The answers of queries over the finite map, and when two maps are the same.
 use Rattle.std.specs.Prelude.{◌≡◌, ℕ, ◌↔◌, List, [], ◌∷◌, Option, Some, Bool, IsTrue, ⊤}
+use Rattle.nibble_map.specs.Lists.{IsStrictPrefix}
 use Rattle.nibble_map.specs.Answers as answers
 use Rattle.nibble_map.specs.Maps.{NibbleMap, PairMap, IsStored, value_at}
 
+-- the words of `Answers`, of the lists that the map holds
 module _ {P : Type 0} where
   abbrev pub IsAncestor : NibbleMap P → List ℕ → Option (List ℕ) → Type 0
   IsAncestor m e a = answers.IsAncestor (IsStored m) e a
@@ -24,6 +26,10 @@ module _ {P : Type 0} where
 
   abbrev pub IsCompared : NibbleMap P → List ℕ → ℕ → Type 0
   IsCompared m e n = answers.IsCompared (IsStored m) e n
+
+-- no stored list is strictly below p
+abbrev pub IsLeaf : {P : Type 0} → NibbleMap P → List ℕ → Type 0
+IsLeaf m p = (e : List ℕ) → IsStored m e → IsStrictPrefix p e → ⊥
 
 -- the same stored lists, and at each the values equal by `eq`, the value type's own `==`
 pub record IsSame {K V : Type 0} (eq : V → V → Bool) (m n : PairMap K V) : Type 0 where

@@ -49,6 +49,7 @@ module _ {P : Type 0} where
   abbrev pub walk : NibbleMap P → List ℕ → List (List ℕ × P)
   walk m p = map.entries (below m p)
 
+  -- the words of `Points`, of the lists that the map holds
   abbrev pub IsReached : NibbleMap P → List ℕ → Type 0
   IsReached m p = points.IsReached (IsStored m) p
 

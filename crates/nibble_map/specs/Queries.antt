@@ -10,6 +10,7 @@ module _ {P : Type 0} where
   abbrev pub below : List (List ℕ × P) → List ℕ → List (List ℕ × P)
   below m p = filter (λ e. is_prefix p e.0) m
 
+  -- the words of `Answers`, of the lists of the entries
   abbrev pub IsAncestor : List (List ℕ × P) → List ℕ → Option (List ℕ) → Type 0
   IsAncestor m e a = answers.IsAncestor (IsStored m) e a
 

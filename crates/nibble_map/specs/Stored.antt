@@ -12,6 +12,7 @@ module _ {P : Type 0} where
   abbrev pub IsStored : List (List ℕ × P) → List ℕ → Type 0
   IsStored m e = Has (stored m) e
 
+  -- the words of `Points`, of the lists of the entries
   abbrev pub IsReached : List (List ℕ × P) → List ℕ → Type 0
   IsReached m p = points.IsReached (IsStored m) p
 

@@ -1,12 +1,13 @@
 //! Laws of a map's canonical tree: which trees are canonical, what they tell of the map, and that a map has one.
 
+ghost use Rattle.nibble_map.specs.Answers.{IsLongest, IsShortest};
 ghost use Rattle.nibble_map.specs.Canonical.{IsCanonical};
-ghost use Rattle.nibble_map.specs.Lists.{Counts, Each};
-ghost use Rattle.nibble_map.specs.MapQueries.{IsFragment, IsCompared};
+ghost use Rattle.nibble_map.specs.Lists.{Counts, Each, Has};
+ghost use Rattle.nibble_map.specs.MapQueries.{IsFragment, IsRawAncestor, IsRawDescendant, IsCompared};
 ghost use Rattle.nibble_map.specs.Maps.{NibbleMap, IsStored, IsPoint, IsStem};
-ghost use Rattle.nibble_map.specs.Trees.{Tree, nodes, entries, nibbles_in, IsShaped, IsPlaced, IsFull, walked, parts_of};
+ghost use Rattle.nibble_map.specs.Trees.{Tree, nodes, paths, entries, nibbles_in, IsShaped, IsPlaced, IsFull, walked, parts_of};
 ghost use Rattle.std.specs.FinMap as map;
-ghost use Rattle.std.specs.Prelude.{length, List, max, None, ◌*◌, ◌↔◌, ◌≡◌, ◌≤◌, ℕ};
+ghost use Rattle.std.specs.Prelude.{length, List, max, None, Some, ◌*◌, ◌↔◌, ◌≡◌, ◌≤◌, ℕ};
 
 /// A tree whose children stand at their places is the canonical tree of its pairs' map exactly where each node but the
 /// root has a pair or two children: the local shape is the set of points.
@@ -16,12 +17,15 @@ pub fn full_trees_are_canonical<P>()
 {}
 
 /// A map's canonical tree has a node for each point and a nibble for each non-empty prefix of a stored list; it has at
-/// most two nodes a pair, or one; its fragments are the points', and its search compares as many nibbles as the map says.
+/// most two nodes a pair, or one; its fragments are the points'; its paths answer queries for the nearest point; and its
+/// search compares as many nibbles as the map says.
 pub fn canonical_trees_tell_the_map<P>()
     ensures nodes { (t : Tree P) (m : NibbleMap P) → IsCanonical t m → Counts (IsPoint m) (length (nodes t)) }
     ensures nibbles { (t : Tree P) (m : NibbleMap P) → IsCanonical t m → Counts (IsStem m) (nibbles_in (nodes t)) }
     ensures few { (t : Tree P) (m : NibbleMap P) → IsCanonical t m → length (nodes t) ≤ max 1 (2 * map.len m) }
     ensures fragments { (t : Tree P) (m : NibbleMap P) → IsCanonical t m → Each (λ n. IsFragment m n.path n.fragment) (nodes t) }
+    ensures raw_ancestor { (t : Tree P) (m : NibbleMap P) → IsCanonical t m → (e p : List ℕ) → IsLongest (Has (paths (nodes t))) e p ↔ IsRawAncestor m e p }
+    ensures raw_descendant { (t : Tree P) (m : NibbleMap P) → IsCanonical t m → (e p : List ℕ) → IsShortest (Has (paths (nodes t))) e p ↔ IsRawDescendant m e (Some p) }
     ensures compared { (t : Tree P) (m : NibbleMap P) → IsCanonical t m → (e : List ℕ) → IsCompared m e (walked t.kids e) }
 {}
 

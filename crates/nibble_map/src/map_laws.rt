@@ -9,13 +9,14 @@ ghost use Rattle.nibble_map.specs.Swaps.{Swaps, entry};
 ghost use Rattle.std.specs.Cmp.Lexicographic.{slice_cmp};
 ghost use Rattle.std.specs.FinMap as map;
 ghost use Rattle.std.specs.Ordering.{nat_cmp};
-ghost use Rattle.std.specs.Prelude.{◌&&◌, ◌↔◌, ◌≡◌, ◌≢◌, map as each, not, Bool, IsTrue, List, None, Option, Some, T, ℕ};
+ghost use Rattle.std.specs.Prelude.{[], ◌&&◌, ◌↔◌, ◌≡◌, ◌≢◌, map as each, not, Bool, IsTrue, List, None, Option, Some, T, ℕ};
 
 /// What a map holds, by its list of entries: the keys are the stored lists in rising order, and the walk below a
 /// path is the entries below it.
 pub fn entries_tell_the_map<P>()
     ensures keys { (m : NibbleMap P) → Lists (IsStored m) (map.keys m) }
     ensures stored { (m : NibbleMap P) (e : List ℕ) → IsStored m e ↔ stored.IsStored (map.entries m) e }
+    ensures empty { map.from_sorted {X = P} {R = slice_cmp nat_cmp} [] ≡ map.empty }
     ensures walk { (m : NibbleMap P) (p : List ℕ) → walk m p ≡ queries.below (map.entries m) p }
 {}
 
@@ -69,6 +70,11 @@ pub fn one_value_changes<K, V>()
     ensures same_lists { (m : PairMap K V) (e : List ℕ) (w : V) (q : List ℕ) → IsStored (with_value m e w) q ↔ IsStored m q }
     ensures len { (m : PairMap K V) (e : List ℕ) (w : V) → map.len (with_value m e w) ≡ map.len m }
     ensures values { (m : PairMap K V) (e : List ℕ) (w : V) (p : K × V) → map.get m e ≡ Some p → values_of (with_value m e w) ≡ map.insert (values_of m) e w }
+{}
+
+/// The removal of a list that isn't stored changes nothing.
+pub fn absent_list_is_not_removed<P>()
+    ensures { (m : NibbleMap P) (e : List ℕ) → map.get m e ≡ None → map.remove m e ≡ m }
 {}
 
 /// The removal of a list that an insertion added gives the map back.

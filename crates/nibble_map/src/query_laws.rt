@@ -1,14 +1,14 @@
 //! Laws of points and of the answers of queries.
 
 ghost use Rattle.nibble_map.specs.Computed as computed;
-ghost use Rattle.nibble_map.specs.Lists.{IsPrefix, IsStrictPrefix, Lists};
+ghost use Rattle.nibble_map.specs.Lists.{Counts, IsPrefix, IsStrictPrefix, Lists};
 ghost use Rattle.nibble_map.specs.MapQueries as map_queries;
 ghost use Rattle.nibble_map.specs.Maps as maps;
 ghost use Rattle.nibble_map.specs.Maps.{NibbleMap, IsStored};
 ghost use Rattle.nibble_map.specs.Queries as queries;
 ghost use Rattle.nibble_map.specs.Stored as stored;
 ghost use Rattle.std.specs.FinMap as map;
-ghost use Rattle.std.specs.Prelude.{◌↔◌, ◌≡◌, IsTrue, List, Option, Some, ℕ};
+ghost use Rattle.std.specs.Prelude.{[], ◌↔◌, ◌≡◌, IsTrue, List, Option, Some, ℕ};
 
 /// The points of a map and the prefixes of its stored lists are those of its entries.
 pub fn points_by_entries<P>()
@@ -48,10 +48,13 @@ pub fn answers_are_unique<P>()
     ensures compared { (m : NibbleMap P) (e : List ℕ) (j k : ℕ) → map_queries.IsCompared m e j → map_queries.IsCompared m e k → j ≡ k }
 {}
 
-/// The slow lists of points and of prefixes are those of the definitions, and so is the slow test of a point.
+/// The slow lists of points and of prefixes are those of the definitions, and so are their sizes and the slow test of a
+/// point.
 pub fn computed_points<P>()
     ensures points { (m : List (List ℕ × P)) → Lists (stored.IsPoint m) (computed.points m) }
     ensures prefixes { (m : List (List ℕ × P)) → Lists (stored.IsStem m) (computed.prefixes m) }
+    ensures nodes { (m : List (List ℕ × P)) → Counts (stored.IsPoint m) (computed.footprint m).0 }
+    ensures nibbles { (m : List (List ℕ × P)) → Counts (stored.IsStem m) (computed.footprint m).1 }
     ensures is_point { (m : List (List ℕ × P)) (p : List ℕ) → stored.IsPoint m p ↔ IsTrue (computed.is_point m p) }
 {}
 
@@ -69,6 +72,11 @@ pub fn computed_answers<P>()
 pub fn points_answer_themselves<P>()
     ensures raw_ancestor { (m : NibbleMap P) (p : List ℕ) → maps.IsPoint m p → (a : List ℕ) → map_queries.IsRawAncestor m p a ↔ (a ≡ p) }
     ensures raw_descendant { (m : NibbleMap P) (p : List ℕ) → maps.IsPoint m p → (a : Option (List ℕ)) → map_queries.IsRawDescendant m p a ↔ (a ≡ Some p) }
+{}
+
+/// A path is a leaf exactly where it has no kids.
+pub fn leaves_have_no_kids<P>()
+    ensures { (m : NibbleMap P) (p : List ℕ) → map_queries.IsLeaf m p ↔ map_queries.AreKids m p [] }
 {}
 
 /// Each stored list strictly below a path is at or below exactly one of the path's kids.

@@ -22,6 +22,12 @@ pub fn nibbles_are_prefixes<V>()
     ensures { (t : Tree V) → IsShaped 0 t.kids → Counts (IsStem (entries (nodes t))) (nibbles_in (nodes t)) }
 {}
 
+/// The local shape is that children stand at their places and each node but the root is full.
+pub fn shape_is_place_and_fullness<V>()
+    ensures parts { (low : ℕ) (kids : Forest V) → IsShaped low kids → IsPlaced low kids × IsFull kids }
+    ensures whole { (low : ℕ) (kids : Forest V) → IsPlaced low kids → IsFull kids → IsShaped low kids }
+{}
+
 /// Of a tree whose children stand at their places: each node but the root is full exactly where the paths are the points.
 pub fn full_is_points<V>()
     ensures { (t : Tree V) → IsPlaced 0 t.kids → IsFull t.kids ↔ Lists (IsPoint (entries (nodes t))) (paths (nodes t)) }
@@ -44,7 +50,7 @@ pub fn entries_rise<V>()
 {}
 
 /// A set has one rising list and one count.
-pub fn one_list<V>()
+pub fn a_set_has_one_list<V>()
     ensures points { (m : List (List ℕ × V)) (xs ys : List (List ℕ)) → Lists (IsPoint m) xs → Lists (IsPoint m) ys → xs ≡ ys }
     ensures prefixes { (m : List (List ℕ × V)) (i j : ℕ) → Counts (IsStem m) i → Counts (IsStem m) j → i ≡ j }
 {}
@@ -61,7 +67,7 @@ pub fn changes_keep_the_shape<V>()
 {}
 
 /// Two shaped trees with the same stored lists have the same paths and fragments.
-pub fn alike<V, W>()
+pub fn equal_lists_give_equal_trees<V, W>()
     ensures { (t : Tree V) (u : Tree W) → IsShaped 0 t.kids → IsShaped 0 u.kids →
         ((e : List ℕ) → IsStored (entries (nodes t)) e ↔ IsStored (entries (nodes u)) e) → parts_of (nodes t) ≡ parts_of (nodes u) }
 {}

@@ -1,5 +1,13 @@
+use Rattle.std.proofs.Common.{refl}
+use Rattle.nibble_map.specs.Computed.{points, prefixes}
 use Rattle.nibble_map.proofs.Computed.{points_list, prefixes_list, is_point_true, true_is_point}
 use Rattle.nibble_map.proofs.query_laws.computed_points.Goals as goal
 
 pub returns : goal.returns
-returns g c = record { points = points_list; prefixes = prefixes_list; is_point = λ m p. (true_is_point m p, is_point_true m p) }
+returns g c = record {
+  points = points_list;
+  prefixes = prefixes_list;
+  nodes = λ m. record { list = points m; lists = points_list m; length_is = refl };
+  nibbles = λ m. record { list = prefixes m; lists = prefixes_list m; length_is = refl };
+  is_point = λ m p. (true_is_point m p, is_point_true m p);
+}

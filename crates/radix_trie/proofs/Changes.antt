@@ -1,11 +1,11 @@
 -- What a change of the root's tree does to the map, and to what the trie keeps.
-use Rattle.std.proofs.Common.{◌≡◌, ℕ, suc, ◌+◌, ◌-◌, ◌*◌, ◌≤◌, ◌<◌, ◌^◌, List, [], ◌∷◌, ◌++◌, map, length, max, Option, Some, None, option_map, refl, ap, sym, subst, ◌∙◌, arith, drop}
+use Rattle.std.proofs.Common.{◌≡◌, ◌⊎◌, inl, inr, Bool, true, false, ℕ, zero, suc, ◌+◌, ◌-◌, ◌*◌, ◌≤◌, ◌<◌, ◌^◌, List, [], ◌∷◌, ◌++◌, map, length, max, Option, Some, None, option_map, refl, ap, sym, subst, ◌∙◌, arith, drop}
 use Rattle.std.proofs.Math.Nat.{mul-le-mul_right}
 use Rattle.std.proofs.lemmas.List.{map-append, length-append}
 use Rattle.std.specs.FinMap as fin
 use Rattle.nibble_map.specs.Alters.{AltersRoot, Edits, CutsRoot}
 use Rattle.nibble_map.specs.Kept.{Tree, entries_at, nodes_in, nibbles_in}
-use Rattle.nibble_map.specs.KeptPaths.{IsHeld}
+use Rattle.nibble_map.specs.KeptPaths.{IsHeld, IsNodeAt}
 use Rattle.nibble_map.specs.Lists.{Counts}
 use Rattle.nibble_map.specs.Maps.{PairMap, value_at}
 use Rattle.nibble_map.specs.Stored.{IsStem}
@@ -142,6 +142,16 @@ module _ {K V : Type 0} where
       → IsHeld (tree_of root) q
   held_at root list q top is h = subst (IsHeld (tree_of root)) (at_root root list q top is) h
 
+module _ {K V : Type 0} where
+  -- nodes below the root by their whole path
+  pub node_at_root : (root : TrieNode K V) (list : List ℕ) (u : Tree (KeyValue K V)) → (tree_of root).fragment ≡ []
+      → IsNodeAt (tree_of root) (fragment_of root ++ drop 0 list) u → IsNodeAt (tree_of root) list u
+  node_at_root root list u top i = subst (λ p. IsNodeAt (tree_of root) p u) (at_root root list list top refl) i
+
+  pub no_node_at_root : (root : TrieNode K V) (list : List ℕ) → (tree_of root).fragment ≡ []
+      → ((u : Tree (KeyValue K V)) → IsNodeAt (tree_of root) (fragment_of root ++ drop 0 list) u → ⊥) → (u : Tree (KeyValue K V)) → IsNodeAt (tree_of root) list u → ⊥
+  no_node_at_root root list top apart = subst (λ p. (u : Tree (KeyValue K V)) → IsNodeAt (tree_of root) p u → ⊥) (at_root root list list top refl) apart
+
 -- what a removal from the root does, once it has taken a pair
 module _ {K V : Type 0} (enc : K → List ℕ) (root : TrieNode K V) (new : Tree (KeyValue K V)) (count nodes nibbles : ℕ) (list q : List ℕ) (x : KeyValue K V) (m l : ℕ)
   (kept : IsKept enc (tree_of root) count nodes nibbles) (is : list ≡ q) (cut : CutsRoot (fragment_of root ++ list) x m l (tree_of root) new) where
@@ -222,3 +232,17 @@ module _ {K V : Type 0} (enc : K → List ℕ) (root : TrieNode K V) (new : Tree
   -- what stood at the list tells whether one stood there
   pub put_absent : was ≡ None → fin.get (map_of (tree_of root)) q ≡ None
   put_absent w = edit_found enc (tree_of root) new count nodes nibbles q x was n k kept put_at ∙ ap (option_map pair_of) w
+
+
+either_le : (m n : ℕ) → (m ≤ n) ⊎ (n < m)
+either_le zero n = inl (omega arith)
+either_le (suc m) zero = inr (omega arith)
+either_le (suc m) (suc n) = elim (either_le m n) [ inl h ↦ inl (omega arith) | inr h ↦ inr (omega arith) ]
+
+-- where it is false that all counts are in use and the list is absent, an absent list can be counted
+pub room_for : (full absent : Type 0) (b : Bool) (count : ℕ) → b ≡ false → (full × absent → b ≡ true) → (count ≡ 2 ^ 64 - 1 → full) → count < 2 ^ 64 → absent
+    → count + 1 < 2 ^ 64
+room_for full absent b count off on is small here = elim (either_le (count + 1) (2 ^ 64 - 1)) [
+  | inl le ↦ omega arith
+  | inr lt ↦ (let clash : false ≡ true = sym off ∙ on (is (omega arith), here) in cc)
+]

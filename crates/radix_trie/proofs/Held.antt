@@ -1,21 +1,23 @@
 -- What a kept root holds is what its map stores.
-use Rattle.std.proofs.Common.{◌≡◌, ℕ, zero, suc, ◌+◌, ◌≤◌, ◌<◌, max, ◌⊎◌, inl, inr, ◌↔◌, List, [], ◌∷◌, ◌++◌, map, length, Option, Some, None, IsSome, T, is_some, refl, ap, sym, subst, ◌∙◌, arith, append_assoc}
+use Rattle.std.proofs.Common.{◌≡◌, ℕ, zero, suc, ◌+◌, ◌≤◌, ◌<◌, max, ◌⊎◌, inl, inr, ◌↔◌, List, [], ◌∷◌, ◌++◌, map, length, Option, Some, None, IsSome, option_map, T, is_some, refl, ap, sym, subst, ◌∙◌, arith, append_assoc}
 use Rattle.std.proofs.lemmas.List.{length-append, map-append}
 use Rattle.std.proofs.lemmas.Simd.{map-map}
 use Rattle.std.specs.FinMap as fin
 use Rattle.nibble_map.specs.Kept.{Tree, Kids, none, more, plain, IsPlaced, IsTreePlaced, IsFullBelow, entries_in, entries_at}
-use Rattle.nibble_map.specs.KeptPaths.{IsHeld, reach}
+use Rattle.nibble_map.specs.KeptPaths.{IsHeld, IsNodeAt, reach}
 use Rattle.nibble_map.specs.Lists.{Has}
 use Rattle.nibble_map.specs.Maps.{PairMap, IsStored}
 use Rattle.nibble_map.specs.Nibbles.{IsShort}
 use Rattle.nibble_map.specs.Stored as stored
 use Rattle.nibble_map.specs.Swaps.{entry}
 use Rattle.nibble_map.specs.Trees.{AreMany, IsFull, first}
-use Rattle.nibble_map.proofs.MapEdits.{held}
+use Rattle.nibble_map.proofs.KeptOne.{node_unique}
+use Rattle.nibble_map.proofs.KeptPaths.{has_node, node_has}
+use Rattle.nibble_map.proofs.MapEdits.{held, has_get}
 use Rattle.nibble_map.proofs.Members.{Has-left, Has-right}
 use Rattle.radix_nodes.specs.declared.trie_node.KeyValue.{KeyValue}
 use Rattle.radix_trie.specs.Pairs.{pair_of}
-use Rattle.radix_trie.specs.Roots.{entries_of, map_of, IsKept}
+use Rattle.radix_trie.specs.Roots.{entries_of, map_of, IsKept, IsRoot}
 use Rattle.radix_trie.proofs.Shown.{row_of, entries_shown, entries_of_map}
 
 three_ways : (m n : ℕ) → (m ≤ n) ⊎ (n ≤ m)
@@ -114,3 +116,42 @@ module _ {K V : Type 0} (enc : K → List ℕ) (t : Tree (KeyValue K V)) (count 
           let few = short r.0 (held_stored r.0 below) in
           let most = r.2 in
           omega arith
+
+-- the pair at a node is the map's
+module _ {K V : Type 0} (enc : K → List ℕ) (m : PairMap K V) (t : Tree (KeyValue K V)) (root : IsRoot enc m t) where
+  root_rows : fin.entries m ≡ map row_of (entries_at [] t)
+  root_rows = sym root.canonical.pairs ∙ entries_shown t root.top
+
+  row_has : (es : List (List ℕ × KeyValue K V)) (q : List ℕ) (x : KeyValue K V) → Has es (q, x) → Has (map row_of es) (q, pair_of x)
+  row_has [] q x h = absurd h
+  row_has (e ∷ es) q x (inl i) = inl (ap row_of i)
+  row_has (e ∷ es) q x (inr h) = inr (row_has es q x h)
+
+  has_row : (es : List (List ℕ × KeyValue K V)) (q : List ℕ) (p : K × V) → Has (map row_of es) (q, p) → (x : KeyValue K V) × Has es (q, x) × (p ≡ pair_of x)
+  has_row [] q p h = absurd h
+  has_row (e ∷ es) q p (inl i) = (e.1, inl (ap (λ z. (z.0, e.1)) i), ap (λ z. z.1) i)
+  has_row (e ∷ es) q p (inr h) = let r = has_row es q p h in (r.0, inr r.1, r.2)
+
+  got_node : (q : List ℕ) (p : K × V) → fin.get m q ≡ Some p → (u : Tree (KeyValue K V)) × (x : KeyValue K V) × IsNodeAt t q u × (u.pair ≡ Some x) × (p ≡ pair_of x)
+  got_node q p e =
+      let r = has_row (entries_at [] t) q p (subst (λ es. Has es (q, p)) root_rows ((has_get m q p).1 e)) in
+      let n = has_node t q r.0 r.1 in
+      (n.0, r.0, n.1, n.2, r.2)
+
+  pub node_get : (q : List ℕ) (u : Tree (KeyValue K V)) → IsNodeAt t q u → option_map pair_of u.pair ≡ fin.get m q
+  node_get q u i = by u.pair refl (fin.get m q) refl
+    where
+      by : (o : Option (KeyValue K V)) → u.pair ≡ o → (r : Option (K × V)) → fin.get m q ≡ r → option_map pair_of u.pair ≡ fin.get m q
+      by (Some x) e r f = ap (option_map pair_of) e ∙ sym ((has_get m q (pair_of x)).0 (subst (λ es. Has es (q, pair_of x)) (sym root_rows) (row_has (entries_at [] t) q x (node_has t q u x i e))))
+      by None e None f = ap (option_map pair_of) e ∙ sym f
+      by None e (Some p) f =
+          let n = got_node q p f in
+          let clash : None ≡ Some n.1 = sym e ∙ ap (λ (v : Tree (KeyValue K V)). v.pair) (node_unique t q u n.0 root.masked i n.2) ∙ n.3 in
+          cc
+
+  pub no_node_get : (q : List ℕ) → ((u : Tree (KeyValue K V)) → IsNodeAt t q u → ⊥) → fin.get m q ≡ None
+  no_node_get q apart = by (fin.get m q) refl
+    where
+      by : (r : Option (K × V)) → fin.get m q ≡ r → fin.get m q ≡ None
+      by None f = f
+      by (Some p) f = let n = got_node q p f in absurd (apart n.0 n.2)

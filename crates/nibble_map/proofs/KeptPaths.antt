@@ -24,7 +24,7 @@ pub begins : (f y : List ℕ) → f ≢ [] → first (f ++ y) ≡ first f
 begins [] y n = absurd (n refl)
 begins (a ∷ f) y n = refl
 
-shorter : (f x : List ℕ) → f ++ x ≡ f → x ≡ []
+pub shorter : (f x : List ℕ) → f ++ x ≡ f → x ≡ []
 shorter f x e = cancel f x [] (e ∙ sym (append-nil f))
 
 prefix_headed : (x rest w : List ℕ) (a b : ℕ) → x ≡ a ∷ w → IsPrefix x rest → first rest ≡ b → a ≡ b

@@ -1,1 +1,4 @@
-pub mod Places
+pub mod Shown
+pub mod Sizes
+pub mod Changes
+pub mod Held

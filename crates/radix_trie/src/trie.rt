@@ -1,13 +1,19 @@
 //! The trie, as a map.
-ghost use Rattle.std.specs.Prelude.{◌≡◌, ◌≢◌, ◌↔◌, ℕ, T, None, Some, IsTrue, IsOk, IfOk, OnOk, IfErr, OnErr, IsErrAnd, position, option_copied};
+ghost use Rattle.std.specs.Prelude.{◌≡◌, ◌≢◌, ◌↔◌, ◌<◌, ◌^◌, ℕ, List, length, None, IsTrue, IsOk, IfOk, OnOk, IfErr, OnErr, IsErrAnd, option_copied, option_map};
 ghost use Rattle.std.specs.FinMap as map;
-ghost use Rattle.nibble_map.specs.Maps.{IsStored, value_at};
-ghost use Rattle.radix_trie.specs.Rows.{is_at};
+ghost use Rattle.nibble_map.specs.Lists.{Counts};
+ghost use Rattle.nibble_map.specs.Maps.{IsStored, IsPoint, IsStem, value_at};
+ghost use Rattle.nibble_map.specs.Nibbles.{IsShort};
+ghost use Rattle.radix_nodes.specs.Nodes.{tree_of};
+ghost use Rattle.radix_trie.specs.Pairs.{pair_of};
 
 use radix_keys::{Memory, Nibblet, TrieKey};
+use radix_nodes::traversal::find::find;
+use radix_nodes::traversal::insert::put;
+use radix_nodes::traversal::remove::take_root;
+use radix_nodes::trie_node::{KeyValue, TrieNode};
 use std::alloc::Global;
 use std::marker::Model;
-use std::mem;
 
 /// Why an insertion was refused.
 #[derive(Clone, Copy, PartialEq, Eq, Debug)]
@@ -28,21 +34,16 @@ pub struct InsertError<K, V> {
     pub value: V,
 }
 
-/// A stored pair, beside its key's encoding.
-#[derive(Drop)]
-struct Row<K, V> {
-    list: Nibblet,
-    key: K,
-    value: V,
-}
-
 /// A map from keys to values, told apart by the keys' encodings.
 ///
 /// A contract sees it as the finite map from each stored encoding, a list of nibbles, to the pair
 /// of the key and the value that are stored there.
 #[derive(Drop)]
 pub struct Trie<K: TrieKey, V> {
-    rows: Vec<Row<K, V>>,
+    root: TrieNode<K, V>,
+    length: usize,
+    nodes: u128,
+    nibbles: u128,
     alloc: Global,
 }
 
@@ -54,43 +55,73 @@ impl<K: TrieKey, V> Model for Trie<K, V> {
 
     ghost coded = { pair_map_code K.code V.code };
 
-    ghost use Rattle.radix_trie.specs.Rows.{entries_of, AreRows};
+    ghost use Rattle.radix_nodes.specs.Nodes.{tree_of};
+    ghost use Rattle.radix_trie.specs.Roots.{map_of, IsKept};
 
-    ghost view = { λ t. map.from_entries (entries_of t.rows.items) };
+    ghost view = { λ t. map_of (tree_of t.root) };
 
-    ghost invariant = { λ t. AreRows K.encoding t.rows.items };
-}
-
-/// Where the row of this encoding stands.
-fn place_of<K, V>(rows: &[Row<K, V>], list: &Nibblet) -> Option<usize>
-    ensures { result ≡ position (is_at list.now) rows.now }
-{
-    rows.iter().position(|row| row.list == *list)
+    ghost invariant = { λ t. IsKept K.encoding (tree_of t.root) t.length t.nodes t.nibbles };
 }
 
 impl<K: TrieKey, V> Trie<K, V> {
+    ghost use Rattle.radix_trie.specs.Roots.{IsRoot};
+
     /// The empty trie. It takes no memory.
     pub fn new(alloc: Global) -> Self
         ensures { result ≡ map.empty }
     {
         Trie {
-            rows: Vec::new(alloc),
+            root: TrieNode::new(alloc),
+            length: 0,
+            nodes: 1,
+            nibbles: 0,
             alloc,
         }
+    }
+
+    /// The empty trie, as `new` makes it.
+    pub fn default(alloc: Global) -> Self
+        ensures { result ≡ map.empty }
+    {
+        Trie::new(alloc)
     }
 
     /// The count of pairs.
     pub fn len(&self) -> usize
         ensures { result ≡ map.len self.now }
     {
-        self.rows.len()
+        self.length
     }
 
     /// Whether there is no pair.
     pub fn is_empty(&self) -> bool
         ensures { IsTrue result ↔ (map.len self.now ≡ 0) }
     {
-        self.rows.is_empty()
+        self.length == 0
+    }
+
+    /// The count of nodes, the root among them, and the count of nibbles of all their fragments.
+    ///
+    /// Whatever the history, these are the count of the map's points, and the count of the distinct
+    /// non-empty prefixes of the stored encodings.
+    pub fn footprint(&self) -> (u128, u128)
+        ensures nodes { Counts (IsPoint self.now) result.0 }
+        ensures nibbles { Counts (IsStem self.now) result.1 }
+    {
+        (self.nodes, self.nibbles)
+    }
+
+    /// The pair at a list.
+    pub(crate) fn pair_at(&self, list: &Nibblet) -> Option<&KeyValue<K, V>>
+        ensures { option_map (λ p. pair_of p.now) result ≡ map.get self.now list.now }
+    {
+        match find(self.root(), list, 0) {
+            Some(node) => match &node.pair {
+                Some(pair) => Some(&**pair),
+                None => None,
+            },
+            None => None,
+        }
     }
 
     /// The value that is stored at the key's encoding, if there is one.
@@ -106,14 +137,52 @@ impl<K: TrieKey, V> Trie<K, V> {
     }
 
     /// The value at a list.
-    fn at(&self, list: &Nibblet) -> Option<&V>
+    pub(crate) fn at(&self, list: &Nibblet) -> Option<&V>
         ensures { option_copied result ≡ value_at self.now list.now }
     {
-        match place_of(&self.rows, list) {
-            Some(place) => Some(&self.rows[place].value),
+        match self.pair_at(list) {
+            Some(pair) => Some(&pair.value),
             None => None,
         }
     }
+
+    /// Whether as many pairs are stored as can be counted, and none at this list.
+    fn has_no_room_for(&self, list: &Nibblet) -> bool
+        ensures { IsTrue result ↔ ((map.len self.now ≡ usize.MAX) × (map.get self.now list.now ≡ None)) }
+    {
+        if self.len() < usize::MAX {
+            return false;
+        }
+        self.pair_at(list).is_none()
+    }
+
+    /// The root, the canonical tree of the map.
+    pub(crate) fn root(&self) -> &TrieNode<K, V>
+        ensures { IsRoot K.encoding self.now (tree_of result.now) }
+    {
+        &self.root
+    }
+}
+
+/// The key's encoding. Its count of nibbles is within `usize`.
+fn encoding_of<Q: TrieKey>(alloc: Global, key: &Q) -> Result<Nibblet, Memory>
+    ensures ok { IfOk result (λ list. list ≡ Q.encoding key.now) }
+    ensures fits { IfOk result (λ list. length list < 2 ^ 64) }
+    ensures light { Q.is_light key.now → IsOk result }
+{
+    let list = key.encode(alloc)?;
+    let _nibbles = list.len();
+    Ok(list)
+}
+
+/// The refusal that hands a pair back.
+fn refused<K, V>(why: InsertWhy, pair: KeyValue<K, V>) -> InsertError<K, V>
+    ensures why { result.why ≡ why }
+    ensures key { result.key ≡ pair.key }
+    ensures value { result.value ≡ pair.value }
+{
+    let KeyValue { key, value } = pair;
+    InsertError { why, key, value }
 }
 
 impl<K: TrieKey + Drop, V: Drop> Trie<K, V> {
@@ -138,56 +207,56 @@ impl<K: TrieKey + Drop, V: Drop> Trie<K, V> {
             → IsErrAnd result (λ e. K.is_light key → e.why ≡ InsertWhy.Full) }
         ensures inside { IfErr result (λ e. e.why ≢ InsertWhy.Outside) }
     {
-        let list = match key.encode(self.alloc) {
+        let list = match encoding_of(self.alloc, &key) {
             Ok(list) => list,
-            Err(_) => return Err(InsertError {
-                why: InsertWhy::Memory,
-                key,
-                value,
-            }),
+            Err(_) => return Err(refused(InsertWhy::Memory, KeyValue { key, value })),
         };
-        match place_of(&self.rows, &list) {
-            Some(place) => {
-                let row = mem::replace(&mut self.rows[place], Row { list, key, value });
-                Ok(Some(row.value))
+        if self.has_no_room_for(&list) {
+            return Err(refused(InsertWhy::Full, KeyValue { key, value }));
+        }
+        let change = match put(
+            &mut self.root,
+            self.alloc,
+            &list,
+            0,
+            KeyValue { key, value },
+        ) {
+            Ok(change) => change,
+            Err(pair) => return Err(refused(InsertWhy::Memory, pair)),
+        };
+        self.nodes += change.nodes as u128;
+        self.nibbles += change.nibbles as u128;
+        match change.was {
+            Some(pair) => Ok(Some(pair.value)),
+            None => {
+                self.length += 1;
+                Ok(None)
             }
-            None => self.add(Row { list, key, value }),
         }
     }
 
-    /// Adds a row, where no row has its list yet.
-    fn add(&mut self, row: Row<K, V>) -> Result<Option<V>, InsertError<K, V>>
-        requires keyed { row.list ≡ K.encoding row.key }
-        requires absent { map.get self.old row.list ≡ None }
-        ensures old_value { IfOk result (λ old. old ≡ value_at self.old row.list) }
-        ensures added { OnOk result (self.new ≡ map.insert self.old row.list (row.key, row.value)) }
-        ensures handed_back { IfErr result (λ e. (e.key ≡ row.key) × (e.value ≡ row.value)) }
+    /// Takes the pair at the key's encoding away, and answers its value.
+    ///
+    /// Where none is stored there, nothing changes. The one refusal is that of memory, for the
+    /// encoding or for joining two fragments; it leaves the trie as it was.
+    pub fn remove<Q: TrieKey>(&mut self, key: &Q) -> Result<Option<V>, Memory>
+        ensures old_value { IfOk result (λ old. old ≡ value_at self.old (Q.encoding key.now)) }
+        ensures removed { OnOk result (self.new ≡ map.remove self.old (Q.encoding key.now)) }
         ensures unchanged { OnErr result (self.new ≡ self.old) }
-        ensures full_at_limit { IfErr result (λ e. e.why ≡ InsertWhy.Full → map.len self.old ≡ usize.MAX) }
-        ensures full_absent { IfErr result (λ e. e.why ≡ InsertWhy.Full → map.get self.old row.list ≡ None) }
-        ensures limit { map.len self.old ≡ usize.MAX → IsErrAnd result (λ e. e.why ≡ InsertWhy.Full) }
-        ensures inside { IfErr result (λ e. e.why ≢ InsertWhy.Outside) }
-    {
-        if self.len() == usize::MAX {
-            return Err(refused(InsertWhy::Full, row));
-        }
-        if let Err(failed) = self.rows.push(row) {
-            return Err(refused(InsertWhy::Memory, failed.value));
-        }
-        Ok(None)
-    }
-}
 
-/// The refusal that hands a row's key and value back.
-fn refused<K, V>(why: InsertWhy, row: Row<K, V>) -> InsertError<K, V>
-    ensures why { result.why ≡ why }
-    ensures key { result.key ≡ row.key }
-    ensures value { result.value ≡ row.value }
-{
-    let Row {
-        list: _,
-        key,
-        value,
-    } = row;
-    InsertError { why, key, value }
+        ensures light_absent { Q.is_light key.now → map.get self.old (Q.encoding key.now) ≡ None → IsOk result }
+        ensures light_short { Q.is_light key.now → ((e : List ℕ) → IsStored self.old e → IsShort e) → IsOk result }
+    {
+        let list = key.encode(self.alloc)?;
+        match take_root(&mut self.root, &list) {
+            Ok(Some(taken)) => {
+                self.length -= 1;
+                self.nodes -= taken.nodes as u128;
+                self.nibbles -= taken.nibbles as u128;
+                Ok(Some(taken.pair.value))
+            }
+            Ok(None) => Ok(None),
+            Err(refusal) => Err(refusal),
+        }
+    }
 }

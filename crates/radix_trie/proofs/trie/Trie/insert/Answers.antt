@@ -1,52 +1,116 @@
-use Rattle.std.proofs.Common.{◌≡◌, ap, sym, ◌∙◌, Some, None, position, refl}
+use Rattle.std.proofs.Common.{◌≡◌, ℕ, ◌+◌, ◌<◌, ◌^◌, ◌-◌, ap, sym, ◌∙◌, refl, arith, Some, None, length, List, subst, drop, rules}
 use Rattle.std.specs.Option.{option_map}
 use Rattle.std.specs.FinMap as map
-use Rattle.radix_trie.specs.Rows.{is_at}
-use Rattle.radix_trie.proofs.Places.{not_both, not_stored, first_at, get_at, get_none, set_rows, set_map}
+use Rattle.radix_nodes.specs.declared.trie_node.KeyValue.{KeyValue}
+use Rattle.radix_nodes.specs.Nodes.{tree_of}
+use Rattle.radix_trie.proofs.Changes.{put_value, put_map, put_over, put_added, put_nodes_fit, put_nibbles_fit, put_absent, unheld_at, room_for}
+use Rattle.radix_trie.proofs.Shown.{kept_len}
+use Rattle.radix_trie.proofs.Held.{stored_held}
 use Rattle.radix_trie.proofs.trie.Trie.insert.Goals as goal
 
-pub invariant_of-self : goal.invariant_of-self
-invariant_of-self g c =
-    let rows = c.self.inside.rows.items in
-    let found : position (is_at c.in-Ok.list) rows ≡ Some c.in-Some.place = rw (← c.deref.ensures.value) (sym c.in-Some.ensures) in
-    rw c.replace-row.ensures.after
-    (set_rows g.K.TrieKey.encoding rows c.in-Ok.list c.in-Some.place c.index_mut.result.now _ (first_at rows _ _ _ found) refl c.in-Ok.ensures.ok c.self.invariant)
+pub returns-in-Err-put-clause-light_stored : goal.returns-in-Err-put-clause-light_stored
+returns-in-Err-put-clause-light_stored g c = λ _ stored.
+    let root = c.self.inside.root in
+    let here = stored_held g.K.TrieKey.encoding (tree_of root) _ _ _ c.self.invariant (g.K.TrieKey.encoding c.args.key) (rw c.self.view_is stored) in
+    absurd (unheld_at root (drop 0 c.in-Ok.list) _ c.self.invariant.top c.in-Ok.ensures.ok c.in-Err-put.ensures.2 here)
 
-pub add-requires-clause-absent : goal.add-requires-clause-absent
-add-requires-clause-absent g c =
-    rw (← c.self.view_is) (get_none c.self.inside.rows.items c.in-Ok.list (rw (← c.deref.ensures.value) (sym c.in-None.ensures)))
+pub overflow_add-self : goal.overflow_add-self
+overflow_add-self g c =
+    let change = c.in-Ok-put.change in
+    let q = g.K.TrieKey.encoding c.args.key in
+    let x : KeyValue g.row.K.Denot g.row.V.Denot = record { key = c.args.key; value = c.args.value } in
+    let fits : length q < 2 ^ 64 = subst (λ (l : List ℕ). length l < 2 ^ 64) c.in-Ok.ensures.ok c.in-Ok.ensures.fits in
+    let small : c.self.inside.length < 2 ^ 64 = search rules in
+    let len = kept_len g.K.TrieKey.encoding (tree_of c.self.inside.root) _ _ _ c.self.invariant in
+    let absent : change.was ≡ None → map.get c.args.self.now c.in-Ok.list ≡ None =
+    λ w. rw (← c.self.view_is, c.in-Ok.ensures.ok)
+    (put_absent g.K.TrieKey.encoding c.self.inside.root _ _ _ _ c.in-Ok.list q x change.was change.nodes change.nibbles c.self.invariant c.in-Ok.ensures.ok c.in-Ok-put.ensures w) in
+    let room : change.was ≡ None → c.self.inside.length + 1 < 2 ^ 64 =
+    λ w. room_for (map.len c.args.self.now ≡ 2 ^ 64 - 1) (map.get c.args.self.now c.in-Ok.list ≡ None) c.has_no_room_for.result c.self.inside.length
+    c.if-has_no_room_for.false c.has_no_room_for.ensures.1 (λ e. rw (← c.self.view_is) (len ∙ e)) small (absent w) in
+    let fit = put_nodes_fit g.K.TrieKey.encoding c.self.inside.root _ _ _ _ c.in-Ok.list q x change.was change.nodes change.nibbles
+    c.self.invariant c.in-Ok.ensures.ok c.in-Ok-put.ensures refl fits small room in
+    omega (arith, fit)
+
+pub overflow_add-self-2 : goal.overflow_add-self-2
+overflow_add-self-2 g c =
+    let change = c.in-Ok-put.change in
+    let q = g.K.TrieKey.encoding c.args.key in
+    let x : KeyValue g.row.K.Denot g.row.V.Denot = record { key = c.args.key; value = c.args.value } in
+    let fits : length q < 2 ^ 64 = subst (λ (l : List ℕ). length l < 2 ^ 64) c.in-Ok.ensures.ok c.in-Ok.ensures.fits in
+    let small : c.self.inside.length < 2 ^ 64 = search rules in
+    let len = kept_len g.K.TrieKey.encoding (tree_of c.self.inside.root) _ _ _ c.self.invariant in
+    let absent : change.was ≡ None → map.get c.args.self.now c.in-Ok.list ≡ None =
+    λ w. rw (← c.self.view_is, c.in-Ok.ensures.ok)
+    (put_absent g.K.TrieKey.encoding c.self.inside.root _ _ _ _ c.in-Ok.list q x change.was change.nodes change.nibbles c.self.invariant c.in-Ok.ensures.ok c.in-Ok-put.ensures w) in
+    let room : change.was ≡ None → c.self.inside.length + 1 < 2 ^ 64 =
+    λ w. room_for (map.len c.args.self.now ≡ 2 ^ 64 - 1) (map.get c.args.self.now c.in-Ok.list ≡ None) c.has_no_room_for.result c.self.inside.length
+    c.if-has_no_room_for.false c.has_no_room_for.ensures.1 (λ e. rw (← c.self.view_is) (len ∙ e)) small (absent w) in
+    let fit = put_nibbles_fit g.K.TrieKey.encoding c.self.inside.root _ _ _ _ c.in-Ok.list q x change.was change.nodes change.nibbles
+    c.self.invariant c.in-Ok.ensures.ok c.in-Ok-put.ensures refl fits small room in
+    omega (arith, fit)
+
+pub overflow_add-self-in-None : goal.overflow_add-self-in-None
+overflow_add-self-in-None g c =
+    let change = c.in-Ok-put.change in
+    let q = g.K.TrieKey.encoding c.args.key in
+    let x : KeyValue g.row.K.Denot g.row.V.Denot = record { key = c.args.key; value = c.args.value } in
+    let fits : length q < 2 ^ 64 = subst (λ (l : List ℕ). length l < 2 ^ 64) c.in-Ok.ensures.ok c.in-Ok.ensures.fits in
+    let small : c.self.inside.length < 2 ^ 64 = search rules in
+    let len = kept_len g.K.TrieKey.encoding (tree_of c.self.inside.root) _ _ _ c.self.invariant in
+    let absent : change.was ≡ None → map.get c.args.self.now c.in-Ok.list ≡ None =
+    λ w. rw (← c.self.view_is, c.in-Ok.ensures.ok)
+    (put_absent g.K.TrieKey.encoding c.self.inside.root _ _ _ _ c.in-Ok.list q x change.was change.nodes change.nibbles c.self.invariant c.in-Ok.ensures.ok c.in-Ok-put.ensures w) in
+    let room : change.was ≡ None → c.self.inside.length + 1 < 2 ^ 64 =
+    λ w. room_for (map.len c.args.self.now ≡ 2 ^ 64 - 1) (map.get c.args.self.now c.in-Ok.list ≡ None) c.has_no_room_for.result c.self.inside.length
+    c.if-has_no_room_for.false c.has_no_room_for.ensures.1 (λ e. rw (← c.self.view_is) (len ∙ e)) small (absent w) in
+    let fit = room c.in-None.is in
+    omega (arith, fit)
+
+pub invariant_of-self-in-Some : goal.invariant_of-self-in-Some
+invariant_of-self-in-Some g c =
+    let change = c.in-Ok-put.change in
+    let q = g.K.TrieKey.encoding c.args.key in
+    let fits : length q < 2 ^ 64 = subst (λ (l : List ℕ). length l < 2 ^ 64) c.in-Ok.ensures.ok c.in-Ok.ensures.fits in
+    put_over g.K.TrieKey.encoding c.self.inside.root _ _ _ _ c.in-Ok.list q (record { key = c.args.key; value = c.args.value }) change.was change.nodes change.nibbles
+    c.self.invariant c.in-Ok.ensures.ok c.in-Ok-put.ensures c.in-Some.pair c.in-Some.is refl fits
 
 pub returns-in-Some-clause-old_value : goal.returns-in-Some-clause-old_value
 returns-in-Some-clause-old_value g c =
-    let rows = c.self.inside.rows.items in
-    let found : position (is_at c.in-Ok.list) rows ≡ Some c.in-Some.place = rw (← c.deref.ensures.value) (sym c.in-Some.ensures) in
-    rw (← c.self.view_is, ← c.in-Ok.ensures.ok)
-    (ap (λ r. Some r.value) (c.replace-row.ensures.value ∙ c.index_mut.ensures.value)
-    ∙ sym (ap (option_map (λ p. p.1)) (get_at rows c.in-Ok.list c.in-Some.place c.index_mut.result.now (first_at rows _ _ _ found))))
+    let change = c.in-Ok-put.change in
+    let q = g.K.TrieKey.encoding c.args.key in
+    rw (← c.self.view_is)
+    (ap (λ p. Some p.value) c.in-Some.pair-is ∙ ap (option_map (λ y. y.value)) (sym c.in-Some.is)
+    ∙ sym (put_value g.K.TrieKey.encoding c.self.inside.root _ _ _ _ c.in-Ok.list q (record { key = c.args.key; value = c.args.value }) change.was change.nodes change.nibbles
+    c.self.invariant c.in-Ok.ensures.ok c.in-Ok-put.ensures))
 
 pub returns-in-Some-clause-stored : goal.returns-in-Some-clause-stored
 returns-in-Some-clause-stored g c =
-    let rows = c.self.inside.rows.items in
-    let found : position (is_at c.in-Ok.list) rows ≡ Some c.in-Some.place = rw (← c.deref.ensures.value) (sym c.in-Some.ensures) in
-    rw (← c.self.view_is, ← c.in-Ok.ensures.ok, c.replace-row.ensures.after)
-    (set_map rows c.in-Ok.list c.in-Some.place c.index_mut.result.now _ (first_at rows _ _ _ found) refl)
+    let change = c.in-Ok-put.change in
+    rw (← c.self.view_is)
+    (put_map g.K.TrieKey.encoding c.self.inside.root _ _ _ _ c.in-Ok.list (g.K.TrieKey.encoding c.args.key) (record { key = c.args.key; value = c.args.value }) change.was
+    change.nodes change.nibbles c.self.invariant c.in-Ok.ensures.ok c.in-Ok-put.ensures)
 
-pub returns-in-Some-clause-limit : goal.returns-in-Some-clause-limit
-returns-in-Some-clause-limit g c = λ _ none.
-    let rows = c.self.inside.rows.items in
-    let found : position (is_at c.in-Ok.list) rows ≡ Some c.in-Some.place = rw (← c.deref.ensures.value) (sym c.in-Some.ensures) in
-    let some = get_at rows c.in-Ok.list c.in-Some.place c.index_mut.result.now (first_at rows _ _ _ found) in
-    let none_here : map.get c.args.self.now c.in-Ok.list ≡ None = rw c.in-Ok.ensures.ok none in
-    not_both _ _ (rw (← c.self.view_is) at none_here) some
+pub invariant_of-self-in-None : goal.invariant_of-self-in-None
+invariant_of-self-in-None g c =
+    let change = c.in-Ok-put.change in
+    let q = g.K.TrieKey.encoding c.args.key in
+    let fits : length q < 2 ^ 64 = subst (λ (l : List ℕ). length l < 2 ^ 64) c.in-Ok.ensures.ok c.in-Ok.ensures.fits in
+    put_added g.K.TrieKey.encoding c.self.inside.root _ _ _ _ c.in-Ok.list q (record { key = c.args.key; value = c.args.value }) change.was change.nodes change.nibbles
+    c.self.invariant c.in-Ok.ensures.ok c.in-Ok-put.ensures c.in-None.is refl fits
 
-pub returns-in-None-clause-old_value : goal.returns-in-None-clause-old_value
-returns-in-None-clause-old_value g c = rw (← c.in-Ok.ensures.ok) c.add.ensures.old_value
+pub returns-clause-old_value : goal.returns-clause-old_value
+returns-clause-old_value g c =
+    let change = c.in-Ok-put.change in
+    let q = g.K.TrieKey.encoding c.args.key in
+    rw (← c.self.view_is)
+    (ap (option_map (λ y. y.value)) (sym c.in-None.is)
+    ∙ sym (put_value g.K.TrieKey.encoding c.self.inside.root _ _ _ _ c.in-Ok.list q (record { key = c.args.key; value = c.args.value }) change.was change.nodes change.nibbles
+    c.self.invariant c.in-Ok.ensures.ok c.in-Ok-put.ensures))
 
-pub returns-in-None-clause-light_stored : goal.returns-in-None-clause-light_stored
-returns-in-None-clause-light_stored g c = λ _ stored.
-    let none = get_none c.self.inside.rows.items c.in-Ok.list (rw (← c.deref.ensures.value) (sym c.in-None.ensures)) in
-    let here : map.get c.args.self.now (g.K.TrieKey.encoding c.args.key) ≡ None = rw (← c.self.view_is, ← c.in-Ok.ensures.ok) none in
-    absurd (not_stored _ here stored)
-
-pub returns-in-None-clause-full_absent : goal.returns-in-None-clause-full_absent
-returns-in-None-clause-full_absent g c = rw (← c.in-Ok.ensures.ok) c.add.ensures.full_absent
+pub returns-clause-stored : goal.returns-clause-stored
+returns-clause-stored g c =
+    let change = c.in-Ok-put.change in
+    rw (← c.self.view_is)
+    (put_map g.K.TrieKey.encoding c.self.inside.root _ _ _ _ c.in-Ok.list (g.K.TrieKey.encoding c.args.key) (record { key = c.args.key; value = c.args.value }) change.was
+    change.nodes change.nibbles c.self.invariant c.in-Ok.ensures.ok c.in-Ok-put.ensures)

@@ -1,0 +1,8 @@
+use Rattle.radix_trie.proofs.Shown.{kept_points, kept_stems}
+use Rattle.radix_trie.proofs.trie.Trie.footprint.Goals as goal
+
+pub returns-clause-nodes : goal.returns-clause-nodes
+returns-clause-nodes g c = rw (← c.self.view_is) (kept_points g.K.TrieKey.encoding _ _ _ _ c.self.invariant)
+
+pub returns-clause-nibbles : goal.returns-clause-nibbles
+returns-clause-nibbles g c = rw (← c.self.view_is) (kept_stems g.K.TrieKey.encoding _ _ _ _ c.self.invariant)

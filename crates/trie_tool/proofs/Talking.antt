@@ -6,13 +6,23 @@ use Rattle.std.proofs.lemmas.List.Sums.{fold-append}
 use Rattle.std.proofs.lemmas.Grind.{flat_map-append}
 use Rattle.std.proofs.lemmas.Bool.Decides.{eqb_tells}
 use Rattle.trie_tool.specs.Request.{Pairs}
-use Rattle.trie_tool.specs.Talk.{Cut, cut, cut_at, Talk, talk_of, talk, talk_whole, after_line, after_turn, turn, last_line}
+use Rattle.std.proofs.lemmas.List.Elements.{All-head, All-tail}
+use Rattle.trie_tool.specs.Talk.{HasNoFeed, Cut, cut, cut_at, Talk, talk_of, talk, talk_whole, after_line, after_turn, turn, last_line}
 use Rattle.trie_tool.specs.declared.fault.ToolError.{ToolError}
 use Rattle.trie_tool.specs.declared.fault.ToolError.TheVariants.{Read, Write, BadLine, Memory}
 use Rattle.trie_tool.specs.Session.{Breaks}
 
 abbrev pub uncut : Cut
 uncut = record { lines = []; rest = [] }
+
+abbrev fed_cut : Cut → Cut
+fed_cut d = record { lines = d.lines ++ d.rest ∷ []; rest = [] }
+
+abbrev kept_cut : Cut → ℕ → Cut
+kept_cut d y = record { lines = d.lines; rest = d.rest ++ y ∷ [] }
+
+not_feed : (x : ℕ) → x ≢ 10 → (x == 10) ≡ false
+not_feed x other = elim (eqb_tells x 10) [ inl same ↦ absurd (other same.1) | inr differs ↦ differs.0 ]
 
 abbrev pub unsaid : Talk
 unsaid = record { answers = []; pairs = []; is_bad = false }
@@ -42,6 +52,21 @@ talk-fed b some = ap (λ (c : Cut). talk_of c.lines) (cut-fed b) ∙ ap (λ (ls 
 
 pub talk-unfed : (b : List ℕ) → (cut b).rest ≡ [] → talk b ≡ talk_whole b
 talk-unfed b none = ap (λ (l : List ℕ). talk_of ((cut b).lines ++ last_line l)) none ∙ ap talk_of (append-nil (cut b).lines)
+
+-- bytes with no line feed go on with the last line
+folds_free : (c : Cut) (l : List ℕ) → HasNoFeed l → fold cut_at c l ≡ record { lines = c.lines; rest = c.rest ++ l }
+folds_free c [] free = ap (λ (r : List ℕ). let d : Cut = record { lines = c.lines; rest = r } in d) (sym (append-nil c.rest))
+folds_free c (x ∷ l) free =
+    ap (λ (d : Cut). fold cut_at d l) (ap (λ (v : Bool). if v then fed_cut c else kept_cut c x) (not_feed x (All-head (λ y. y ≢ 10) x l free)))
+    ∙ folds_free (kept_cut c x) l (All-tail (λ y. y ≢ 10) x l free)
+    ∙ ap (λ (r : List ℕ). let d : Cut = record { lines = c.lines; rest = r } in d) (append_assoc c.rest (x ∷ []) l)
+
+pub cut-kept : (b l : List ℕ) → HasNoFeed l → cut (b ++ l) ≡ record { lines = (cut b).lines; rest = (cut b).rest ++ l }
+unfolding cut
+cut-kept b l free = fold-append cut_at uncut b l ∙ folds_free (cut b) l free
+
+pub talk_whole-kept : (b l : List ℕ) → HasNoFeed l → talk_whole (b ++ l) ≡ talk_whole b
+talk_whole-kept b l free = ap (λ (c : Cut). talk_of c.lines) (cut-kept b l free)
 
 -- u goes on from t
 pub record Extends (t u : Talk) : Type 0 where
@@ -137,12 +162,6 @@ joins_at c x = elim (eqb_tells x 10) [
       ap joined (ap (λ (v : Bool). if v then fed_cut c else kept_cut c x) other.0)
       ∙ sym (append_assoc (flat_map (λ l. l ++ 10 ∷ []) c.lines) c.rest (x ∷ []))
 ]
-  where
-    fed_cut : Cut → Cut
-    fed_cut d = record { lines = d.lines ++ d.rest ∷ []; rest = [] }
-
-    kept_cut : Cut → ℕ → Cut
-    kept_cut d y = record { lines = d.lines; rest = d.rest ++ y ∷ [] }
 
 joins_on : (c : Cut) (xs : List ℕ) → joined (fold cut_at c xs) ≡ joined c ++ xs
 joins_on c [] = sym (append-nil (joined c))

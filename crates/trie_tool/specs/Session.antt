@@ -1,45 +1,71 @@
 -- Where a session stands in the bytes that it has heard.
-use Rattle.std.specs.Prelude.{◌≡◌, ℕ, ◌+◌, ⊤, List, Option, None, IsTrue, IsFalse, Result, Ok, Err, length}
+use Rattle.std.specs.Prelude.{◌≡◌, ℕ, ⊤, List, [], ◌++◌, Option, Some, None, IsTrue, IsFalse, Result, Ok, Err, length}
 use Rattle.std.specs.Io.KnownBytes.{Appends}
 use Rattle.trie_tool.specs.declared.fault.ToolError.{ToolError}
 use Rattle.trie_tool.specs.declared.fault.ToolError.TheVariants.{Read, Write, BadLine, Memory}
+use Rattle.trie_tool.specs.declared.conversation.Conversation.{Conversation}
 use Rattle.trie_tool.specs.declared.session.Session.{Session}
 use Rattle.trie_tool.specs.Command.{pairs_of}
 use Rattle.trie_tool.specs.Request.{Pairs}
 use Rattle.trie_tool.specs.Serve.{IsBeginning, IsSomeAnswers}
 use Rattle.trie_tool.specs.Talk.{Talk, cut, talk, talk_whole, said, turn, number_of_bad, counted}
 
--- all whole lines of b are answered, and the bytes after them are kept
-pub record IsAt (b : List ℕ) (first held : Option (List ℕ)) (s : Session) : Type 0 where
-  pub rest : s.line.items ≡ (cut b).rest
-  pub pairs : pairs_of s.store ≡ (talk_whole b).pairs
-  pub good : IsFalse (talk_whole b).is_bad
-  pub count : s.count ≡ counted (length (talk_whole b).answers)
-  pub appended : Appends first held (said (talk_whole b))
+-- the line's answer was put behind the others
+abbrev pub Takes : List ℕ → Conversation → Conversation → Type 0
+Takes line c d = (a : List ℕ) × (turn line (pairs_of c.store) ≡ Some (a, pairs_of d.store)) × (d.answers.items ≡ c.answers.items ++ a)
 
--- why a talk t stops with o written
+-- why the line of this number gets no answer
+abbrev pub IsRefusal : ToolError → (line : List ℕ) → Pairs → (number : ℕ) → Type 0
+IsRefusal Read line m number = ⊥
+IsRefusal Write line m number = ⊥
+IsRefusal (BadLine n) line m number = (turn line m ≡ None) × (n ≡ number)
+IsRefusal Memory line m number = ⊤
+
+-- all whole lines of b are answered; of the answers, some were sent and the others wait
+pub record IsTold (b sent : List ℕ) (c : Conversation) : Type 0 where
+  pub pairs : pairs_of c.store ≡ (talk_whole b).pairs
+  pub good : IsFalse (talk_whole b).is_bad
+  pub count : c.count ≡ counted (length (talk_whole b).answers)
+  pub said_is : said (talk_whole b) ≡ sent ++ c.answers.items
+
+-- and the bytes after them are kept
+pub record IsAt (b sent : List ℕ) (s : Session) : Type 0 where
+  pub rest : s.open_line.items ≡ (cut b).rest
+  pub told : IsTold b sent s.conversation
+
+-- why a talk t stops with o answered
 abbrev pub Breaks : ToolError → Talk → List ℕ → Type 0
 Breaks Read t o = ⊥
 Breaks Write t o = IsBeginning o t
 Breaks (BadLine n) t o = IsTrue t.is_bad × (n ≡ number_of_bad t) × (o ≡ said t)
 Breaks Memory t o = IsSomeAnswers o t
 
-pub record Stops (e : ToolError) (t : Talk) (first held : Option (List ℕ)) : Type 0 where
+-- the lines of b were answered, up to a fault
+abbrev pub Goes : {U : Type 0} → Result U ToolError → (b sent : List ℕ) → Session → Type 0
+Goes (Ok _) b sent s = IsAt b sent s
+Goes (Err e) b sent s = Breaks e (talk_whole b) (sent ++ s.conversation.answers.items)
+
+-- all answers were sent
+pub record IsClear (b sent : List ℕ) (s : Session) : Type 0 where
+  pub at : IsAt b sent s
+  pub none_waits : s.conversation.answers.items ≡ []
+
+-- and their answers were written, up to a fault
+abbrev pub Sent : {U : Type 0} → Result U ToolError → (b sent : List ℕ) → Session → Type 0
+Sent (Ok _) b sent s = IsClear b sent s
+Sent (Err e) b sent s = Breaks e (talk_whole b) sent
+
+pub record Sends {U : Type 0} (r : Result U ToolError) (b sent : List ℕ) (held held' : Option (List ℕ)) (s : Session) : Type 0 where
   pub written : List ℕ
-  pub appended : Appends first held written
-  pub why : Breaks e t written
+  pub appended : Appends held held' written
+  pub why : Sent r b (sent ++ written) s
 
-abbrev pub Goes : {U : Type 0} → Result U ToolError → (b : List ℕ) (first held : Option (List ℕ)) → Session → Type 0
-Goes (Ok _) b first held s = IsAt b first held s
-Goes (Err e) b first held s = Stops e (talk_whole b) first held
+-- at the end of the input
+abbrev pub IsDone : {U : Type 0} → Result U ToolError → (b sent : List ℕ) → Type 0
+IsDone (Ok _) b sent = IsFalse (talk b).is_bad × (sent ≡ said (talk b))
+IsDone (Err e) b sent = Breaks e (talk b) sent
 
-abbrev pub Finishes : {U : Type 0} → Result U ToolError → (b : List ℕ) (first held : Option (List ℕ)) → Type 0
-Finishes (Ok _) b first held = IsFalse (talk b).is_bad × Appends first held (said (talk b))
-Finishes (Err e) b first held = Stops e (talk b) first held
-
--- why a line gets no answer
-abbrev pub IsRefusal : ToolError → (line : List ℕ) → Pairs → (before : ℕ) → Type 0
-IsRefusal Read line m before = ⊥
-IsRefusal Write line m before = ⊥
-IsRefusal (BadLine n) line m before = (turn line m ≡ None) × (n ≡ counted (before + 1))
-IsRefusal Memory line m before = ⊤
+pub record Finishes {U : Type 0} (r : Result U ToolError) (b sent : List ℕ) (held held' : Option (List ℕ)) : Type 0 where
+  pub written : List ℕ
+  pub appended : Appends held held' written
+  pub why : IsDone r b (sent ++ written)

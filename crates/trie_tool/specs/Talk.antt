@@ -1,7 +1,11 @@
 -- What is answered to a text, up to its first bad line.
-use Rattle.std.specs.Prelude.{ℕ, ◌+◌, ◌-◌, ◌^◌, min, Bool, true, false, ◌==◌, if◌then◌else◌, List, [], ◌∷◌, ◌++◌, length, Option, Some, None, option_map, fold}
-use Rattle.std.specs.List.{concat}
+use Rattle.std.specs.Prelude.{◌≢◌, ℕ, ◌+◌, ◌-◌, ◌^◌, min, Bool, true, false, ◌==◌, if◌then◌else◌, List, [], ◌∷◌, ◌++◌, length, Option, Some, None, option_map, fold}
+use Rattle.std.specs.List.{All, concat}
 use Rattle.trie_tool.specs.Request.{request_of, Pairs, answer_to, pairs_after}
+
+-- no byte is a line feed
+abbrev pub HasNoFeed : List ℕ → Type 0
+HasNoFeed bytes = All (λ byte. byte ≢ 10) bytes
 
 -- a text's lines that a line feed ends, and the bytes after the last line feed
 pub record Cut : Type 0 where

@@ -1,4 +1,4 @@
-use Rattle.trie_tool.proofs.Standing.{Heard}
+use Rattle.trie_tool.proofs.Serving.{Heard}
 use Rattle.trie_tool.proofs.engine.serve.Given as goal
 
 abbrev pub invariant-loop : goal.invariant-loop

@@ -1,0 +1,2 @@
+pub mod NibblesOfBytes
+pub mod Packing

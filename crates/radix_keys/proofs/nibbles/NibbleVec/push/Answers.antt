@@ -1,0 +1,23 @@
+use Rattle.std.proofs.Common.{◌≡◌, arith, ap, length, true, false}
+use Rattle.radix_keys.proofs.Packing.{is_even-count, push-even, push-odd}
+use Rattle.radix_keys.proofs.nibbles.NibbleVec.push.Goals as goal
+
+pub returns-then-self-clause-ok : goal.returns-then-self-clause-ok
+returns-then-self-clause-ok c =
+    rw (← c.self.view_is, c.deref_mut.ensures.value, c.len-last.ensures.value)
+    (push-odd c.self.inside.bytes.items c.self.inside.is_odd c.args.n c.if-self.true c.self.invariant.padded c.requires)
+
+pub returns-then-len-clause-succeeds : goal.returns-then-len-clause-succeeds
+returns-then-len-clause-succeeds c =
+    λ lt. absurd (omega (arith, ap length c.self.view_is, is_even-count c.self.inside.bytes.items c.self.inside.is_odd c.if-self.false))
+
+pub returns-in_err-push-clause-succeeds : goal.returns-in_err-push-clause-succeeds
+returns-in_err-push-clause-succeeds c = λ lt.
+    let refused : false ≡ true = c.in_err-push.ensures.succeeds
+    (omega (arith, ap length c.self.view_is, is_even-count c.self.inside.bytes.items c.self.inside.is_odd c.if-self.false)) in
+    cc
+
+pub returns-clause-ok : goal.returns-clause-ok
+returns-clause-ok c =
+    rw (← c.self.view_is, c.in_ok-push.ensures.ok)
+    (push-even c.self.inside.bytes.items c.self.inside.is_odd c.args.n c.if-self.false c.requires)

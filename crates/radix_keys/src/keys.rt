@@ -1,0 +1,97 @@
+//! Keys of a trie, and their encodings.
+ghost use Rattle.std.specs.Prelude.{◌≡◌, ℕ, ◌%◌, List, length, true, string_bytes, IsOk, IfOk, OnOk, IfErr};
+ghost use Rattle.nibble_map.specs.Nibbles.{nibbles, IsShort};
+ghost use Rattle.radix_keys.specs.Distinct.{text-distinct};
+
+use crate::nibbles::{BytesError, Memory, Nibblet};
+use std::alloc::Global;
+
+/// A value that is encoded as a list of nibbles, its place in a trie.
+///
+/// An implementation names three meanings of a key: its encoding, whether it is light, and
+/// whether it is a value of its type. It proves that two values of the type with equal encodings
+/// are equal, and that a light key has at most 32 nibbles.
+pub trait TrieKey: Eq {
+    /// The nibbles of the key.
+    ghost encoding: { Self → List ℕ };
+
+    /// Whether `encode` of the key takes no memory.
+    ghost is_light: { Self → Type 0 };
+
+    /// Whether the key is a value of its type, as an integer within its bounds is.
+    ghost is_value: { Self → Type 0 };
+
+    /// The encoding of the key.
+    ///
+    /// Never refused for a light key.
+    fn encode(&self, alloc: Global) -> Result<Nibblet, Memory>
+        ensures ok { IfOk result (λ v. v ≡ encoding self.now) }
+        ensures value { OnOk result (is_value self.now) }
+        ensures light { is_light self.now → IsOk result };
+
+    /// The encoding of the key as bytes, two nibbles to a byte and the first in the high half.
+    ///
+    /// Odd is answered only where the count of nibbles is odd, and always there for a light key.
+    fn encode_bytes(&self, alloc: Global) -> Result<Vec<u8>, BytesError>
+        ensures ok { IfOk result (λ v. nibbles v.items ≡ encoding self.now) }
+        ensures odd { IfErr result (λ e. e ≡ BytesError.Odd → length (encoding self.now) % 2 ≡ 1) }
+        ensures light_odd { is_light self.now → length (encoding self.now) % 2 ≡ 1 → result ≡ Err BytesError.Odd }
+    {
+        match self.encode(alloc) {
+            Ok(list) => list.to_bytes(alloc),
+            Err(_) => Err(BytesError::Memory),
+        }
+    }
+
+    ghost distinct: { (x y : Self) → is_value x → is_value y → encoding x ≡ encoding y → Self.eq x y ≡ true };
+
+    ghost light_is_short: { (x : Self) → is_light x → IsShort (encoding x) };
+}
+
+impl TrieKey for String {
+    ghost encoding = { λ s. nibbles (string_bytes s) };
+
+    ghost is_light = { λ s. IsShort (nibbles (string_bytes s)) };
+
+    ghost is_value = { λ _. Unit {0} };
+
+    ghost distinct = { λ x y _ _ e. text-distinct (string_bytes x) (string_bytes y) e };
+
+    ghost light_is_short = { λ _ h. h };
+
+    fn encode(&self, alloc: Global) -> Result<Nibblet, Memory> {
+        Nibblet::from_slice(alloc, self.as_bytes())
+    }
+}
+
+impl TrieKey for &str {
+    ghost encoding = { λ s. nibbles s.now };
+
+    ghost is_light = { λ s. IsShort (nibbles s.now) };
+
+    ghost is_value = { λ _. Unit {0} };
+
+    ghost distinct = { λ x y _ _ e. text-distinct x.now y.now e };
+
+    ghost light_is_short = { λ _ h. h };
+
+    fn encode(&self, alloc: Global) -> Result<Nibblet, Memory> {
+        Nibblet::from_slice(alloc, self.as_bytes())
+    }
+}
+
+impl TrieKey for &[u8] {
+    ghost encoding = { λ s. nibbles s.now };
+
+    ghost is_light = { λ s. IsShort (nibbles s.now) };
+
+    ghost is_value = { λ _. Unit {0} };
+
+    ghost distinct = { λ x y _ _ e. text-distinct x.now y.now e };
+
+    ghost light_is_short = { λ _ h. h };
+
+    fn encode(&self, alloc: Global) -> Result<Nibblet, Memory> {
+        Nibblet::from_slice(alloc, *self)
+    }
+}

@@ -1,11 +1,12 @@
 -- How far a conversation over a reader and a writer has come.
 use Rattle.std.proofs.Common.{◌≡◌, ℕ, List, [], ◌++◌, take, refl, sym, ap, subst, ◌∙◌, inl, inr, append-nil, Option, Result, Ok, Err}
+use Rattle.std.specs.FinMap as map
 use Rattle.std.specs.Io.KnownBytes.{Appends, Consumes, IsAtEnd, Keeps}
 use Rattle.std.proofs.KnownBytes.{Appends-trans, Appends-nil, Consumes-nil, Consumes-trans, Consumes-kept}
 use Rattle.trie_tool.specs.declared.fault.ToolError.{ToolError}
 use Rattle.trie_tool.specs.declared.fault.ToolError.TheVariants.{Read, Write, BadLine, Memory}
 use Rattle.trie_tool.specs.declared.session.Session.{Session}
-use Rattle.trie_tool.specs.Command.{pairs_of}
+use Rattle.trie_tool.specs.Values.{values_of}
 use Rattle.trie_tool.specs.Serve.{Outcome, Stopped, Served}
 use Rattle.trie_tool.specs.Session.{IsAt, IsClear, Breaks, Sends, Finishes, IsDone}
 use Rattle.trie_tool.specs.Talk.{Talk, cut, talk_of, talk, talk_whole, said}
@@ -19,14 +20,14 @@ pub record Heard (unread unread' held held' : Option (List ℕ)) (s : Session) :
   pub clear : IsClear read written s
 
 -- a new session has heard nothing
-at_start : (s : Session) → s.open_line.items ≡ [] → pairs_of s.conversation.store ≡ [] → s.conversation.answers.items ≡ [] → s.conversation.count ≡ 0 → IsClear [] [] s
+at_start : (s : Session) → s.open_line.items ≡ [] → values_of s.conversation.numbers ≡ map.empty → s.conversation.answers.items ≡ [] → s.conversation.count ≡ 0 → IsClear [] [] s
 unfolding cut talk_of
-at_start s line pairs answers count = record { at = record { rest = line; told = record { pairs = pairs; good = refl; count = count; said_is = sym answers } }; none_waits = answers }
+at_start s line numbers answers count = record { at = record { rest = line; told = record { numbers = numbers; good = refl; count = count; said_is = sym answers } }; none_waits = answers }
 
-pub heard_nothing : (unread held : Option (List ℕ)) (s : Session) → s.open_line.items ≡ [] → pairs_of s.conversation.store ≡ [] → s.conversation.answers.items ≡ [] → s.conversation.count ≡ 0
+pub heard_nothing : (unread held : Option (List ℕ)) (s : Session) → s.open_line.items ≡ [] → values_of s.conversation.numbers ≡ map.empty → s.conversation.answers.items ≡ [] → s.conversation.count ≡ 0
     → Heard unread unread held held s
-heard_nothing unread held s line pairs answers count =
-    record { read = []; written = []; consumed = Consumes-nil _; appended = Appends-nil _; clear = at_start s line pairs answers count }
+heard_nothing unread held s line numbers answers count =
+    record { read = []; written = []; consumed = Consumes-nil _; appended = Appends-nil _; clear = at_start s line numbers answers count }
 
 -- no room for the buffer
 pub no_buffer : {U : Type 0} (r : Result U ToolError) (unread held : Option (List ℕ)) → r ≡ Err Memory → Served unread unread held held r

@@ -7,8 +7,8 @@ use Rattle.trie_tool.specs.declared.fault.ToolError.{ToolError}
 use Rattle.trie_tool.specs.declared.fault.ToolError.TheVariants.{Read, Write, BadLine, Memory}
 use Rattle.trie_tool.specs.declared.conversation.Conversation.{Conversation}
 use Rattle.trie_tool.specs.declared.session.Session.{Session}
-use Rattle.trie_tool.specs.Command.{pairs_of}
-use Rattle.trie_tool.specs.Request.{Pairs}
+use Rattle.trie_tool.specs.Values.{values_of}
+use Rattle.trie_tool.specs.Request.{Numbers}
 use Rattle.trie_tool.specs.Serve.{IsBeginning}
 use Rattle.trie_tool.specs.Talk.{Talk, Cut, HasNoFeed, cut, talk_of, talk, talk_whole, said, turn, after_turn, counted}
 use Rattle.trie_tool.specs.Session.{IsTold, IsAt, IsClear, Takes, IsRefusal, Breaks, Goes, Sent, Sends, IsDone, Finishes}
@@ -19,26 +19,26 @@ counted-next : (k n : ℕ) → k ≡ counted n → counted (k + 1) ≡ counted (
 counted-next k n e = omega arith
 
 -- the talk after a line feed, where the talk was good
-turned : (b : List ℕ) (line : List ℕ) (m : Pairs) → line ≡ (cut b).rest → m ≡ (talk_whole b).pairs → IsFalse (talk_whole b).is_bad
+turned : (b : List ℕ) (line : List ℕ) (m : Numbers) → line ≡ (cut b).rest → m ≡ (talk_whole b).numbers → IsFalse (talk_whole b).is_bad
     → talk_whole (b ++ 10 ∷ []) ≡ after_turn (talk_whole b) (turn line m)
 turned b line m l p good =
     talk_whole-fed b
-    ∙ ap (λ (v : Bool). if v then talk_whole b else after_turn (talk_whole b) (turn (cut b).rest (talk_whole b).pairs)) good
-    ∙ ap (λ (x : List ℕ). after_turn (talk_whole b) (turn x (talk_whole b).pairs)) (sym l)
-    ∙ ap (λ (x : Pairs). after_turn (talk_whole b) (turn line x)) (sym p)
+    ∙ ap (λ (v : Bool). if v then talk_whole b else after_turn (talk_whole b) (turn (cut b).rest (talk_whole b).numbers)) good
+    ∙ ap (λ (x : List ℕ). after_turn (talk_whole b) (turn x (talk_whole b).numbers)) (sym l)
+    ∙ ap (λ (x : Numbers). after_turn (talk_whole b) (turn line x)) (sym p)
 
 -- bytes of a line that goes on
 pub told-kept : (b l sent : List ℕ) (c : Conversation) → HasNoFeed l → IsTold b sent c → IsTold (b ++ l) sent c
 told-kept b l sent c free told =
     let same = talk_whole-kept b l free in
     record {
-      pairs = told.pairs ∙ sym (ap (λ (t : Talk). t.pairs) same);
+      numbers = told.numbers ∙ sym (ap (λ (t : Talk). t.numbers) same);
       good = ap (λ (t : Talk). t.is_bad) same ∙ told.good;
       count = told.count ∙ sym (ap (λ (t : Talk). counted (length t.answers)) same);
       said_is = ap said same ∙ told.said_is;
     }
 
-said-more : (t : Talk) (a : List ℕ) (m : Pairs) → said (after_turn t (Some (a, m))) ≡ said t ++ a
+said-more : (t : Talk) (a : List ℕ) (m : Numbers) → said (after_turn t (Some (a, m))) ≡ said t ++ a
 said-more t a m = concat-append t.answers (a ∷ []) ∙ ap (λ (l : List ℕ). said t ++ l) (append-nil a)
 
 -- a line that was answered
@@ -47,13 +47,13 @@ pub told-turn : (b sent line : List ℕ) (c d : Conversation) → line ≡ (cut 
 told-turn b sent line c d ends told takes count =
     let t = talk_whole b in
     let a : List ℕ = takes.0 in
-    let next : talk_whole (b ++ 10 ∷ []) ≡ after_turn t (Some (a, pairs_of d.store)) = turned b line _ ends told.pairs told.good ∙ ap (after_turn t) takes.1 in
+    let next : talk_whole (b ++ 10 ∷ []) ≡ after_turn t (Some (a, values_of d.numbers)) = turned b line _ ends told.numbers told.good ∙ ap (after_turn t) takes.1 in
     record {
-      pairs = sym (ap (λ (u : Talk). u.pairs) next);
+      numbers = sym (ap (λ (u : Talk). u.numbers) next);
       good = ap (λ (u : Talk). u.is_bad) next;
       count = count ∙ counted-next c.count (length t.answers) told.count ∙ sym (ap (λ (u : Talk). counted (length u.answers)) next ∙ ap counted (length-append t.answers (a ∷ [])));
       said_is =
-        ap said next ∙ said-more t a (pairs_of d.store) ∙ ap (λ (l : List ℕ). l ++ a) told.said_is
+        ap said next ∙ said-more t a (values_of d.numbers) ∙ ap (λ (l : List ℕ). l ++ a) told.said_is
         ∙ append_assoc sent c.answers.items a ∙ ap (λ (l : List ℕ). sent ++ l) (sym takes.2);
     }
 
@@ -64,18 +64,18 @@ out_of_memory b more sent c told =
     Breaks-lift Memory t _ _ (Extends-heard b more) (t.answers, [], sym (append-nil t.answers), sym told.said_is)
 
 -- a line that got no answer
-refused_line : (b sent line : List ℕ) (c : Conversation) (e : ToolError) → line ≡ (cut b).rest → IsTold b sent c → IsRefusal e line (pairs_of c.store) (counted (c.count + 1))
+refused_line : (b sent line : List ℕ) (c : Conversation) (e : ToolError) → line ≡ (cut b).rest → IsTold b sent c → IsRefusal e line (values_of c.numbers) (counted (c.count + 1))
     → Breaks e (talk_whole (b ++ 10 ∷ [])) (sent ++ c.answers.items)
 refused_line b sent line c Read ends told why = absurd why
 refused_line b sent line c Write ends told why = absurd why
 refused_line b sent line c Memory ends told why = out_of_memory b (10 ∷ []) sent c told
 refused_line b sent line c (BadLine n) ends told why =
     let t = talk_whole b in
-    let next : talk_whole (b ++ 10 ∷ []) ≡ record t { is_bad = true } = turned b line _ ends told.pairs told.good ∙ ap (after_turn t) why.0 in
+    let next : talk_whole (b ++ 10 ∷ []) ≡ record t { is_bad = true } = turned b line _ ends told.numbers told.good ∙ ap (after_turn t) why.0 in
     subst (λ (u : Talk). Breaks (BadLine n) u (sent ++ c.answers.items)) (sym next)
     (refl, why.1 ∙ counted-next c.count (length t.answers) told.count, sym told.said_is)
 
-pub refused : (b sent line : List ℕ) (c d : Conversation) (e : ToolError) → line ≡ (cut b).rest → IsTold b sent c → IsRefusal e line (pairs_of c.store) (counted (c.count + 1))
+pub refused : (b sent line : List ℕ) (c d : Conversation) (e : ToolError) → line ≡ (cut b).rest → IsTold b sent c → IsRefusal e line (values_of c.numbers) (counted (c.count + 1))
     → d.answers.items ≡ c.answers.items → Breaks e (talk_whole (b ++ 10 ∷ [])) (sent ++ d.answers.items)
 refused b sent line c d e ends told why same =
     subst (λ (a : List ℕ). Breaks e (talk_whole (b ++ 10 ∷ [])) (sent ++ a)) (sym same) (refused_line b sent line c e ends told why)
@@ -90,7 +90,7 @@ rest-fed b = ap (λ (c : Cut). c.rest) (cut-fed b)
 pub turn_goes : {U : Type 0} (r : Result U ToolError) (b sent line : List ℕ) (c : Conversation) (s : Session)
     → line ≡ (cut b).rest → IsTold b sent c
     → OnOk r (Takes line c s.conversation) → OnOk r (s.conversation.count ≡ counted (c.count + 1)) → OnOk r (s.open_line.items ≡ [])
-    → IfErr r (λ e. IsRefusal e line (pairs_of c.store) (counted (c.count + 1))) → OnErr r (s.conversation.answers.items ≡ c.answers.items)
+    → IfErr r (λ e. IsRefusal e line (values_of c.numbers) (counted (c.count + 1))) → OnErr r (s.conversation.answers.items ≡ c.answers.items)
     → Goes r (b ++ 10 ∷ []) sent s
 turn_goes (Ok u) b sent line c s ends told takes count clear why same =
     record { rest = clear ∙ sym (rest-fed b); told = told-turn b sent line c s.conversation ends told takes count }
@@ -126,13 +126,13 @@ sent_part r q b sent held held' s s' goes part fault =
 
 -- the answers were written
 sent_is : {U : Type 0} (r : Result U ToolError) (b sent : List ℕ) (s s' : Session) → Goes r b sent s
-    → s'.open_line ≡ s.open_line → s'.conversation.store ≡ s.conversation.store → s'.conversation.count ≡ s.conversation.count → s'.conversation.answers.items ≡ []
+    → s'.open_line ≡ s.open_line → s'.conversation.numbers ≡ s.conversation.numbers → s'.conversation.count ≡ s.conversation.count → s'.conversation.answers.items ≡ []
     → Sent r b (sent ++ s.conversation.answers.items) s'
-sent_is (Ok u) b sent s s' at line store count clear = record {
+sent_is (Ok u) b sent s s' at line numbers count clear = record {
   at = record {
     rest = ap (λ (v : Vec ℕ Global). v.items) line ∙ at.rest;
     told = record {
-      pairs = ap pairs_of store ∙ at.told.pairs;
+      numbers = ap values_of numbers ∙ at.told.numbers;
       good = at.told.good;
       count = count ∙ at.told.count;
       said_is = at.told.said_is ∙ sym (append-nil _) ∙ ap (λ (l : List ℕ). (sent ++ s.conversation.answers.items) ++ l) (sym clear);
@@ -140,13 +140,13 @@ sent_is (Ok u) b sent s s' at line store count clear = record {
   };
   none_waits = clear;
 }
-sent_is (Err e) b sent s s' why line store count clear = why
+sent_is (Err e) b sent s s' why line numbers count clear = why
 
 pub sent_all : {U : Type 0} (r : Result U ToolError) (b sent : List ℕ) (held held' : Option (List ℕ)) (s s' : Session) → Goes r b sent s → Appends held held' s.conversation.answers.items
-    → s'.open_line ≡ s.open_line → s'.conversation.store ≡ s.conversation.store → s'.conversation.count ≡ s.conversation.count → s'.conversation.answers.items ≡ []
+    → s'.open_line ≡ s.open_line → s'.conversation.numbers ≡ s.conversation.numbers → s'.conversation.count ≡ s.conversation.count → s'.conversation.answers.items ≡ []
     → Sends r b sent held held' s'
-sent_all r b sent held held' s s' goes all line store count clear =
-    record { written = s.conversation.answers.items; appended = all; why = sent_is r b sent s s' goes line store count clear }
+sent_all r b sent held held' s s' goes all line numbers count clear =
+    record { written = s.conversation.answers.items; appended = all; why = sent_is r b sent s s' goes line numbers count clear }
 
 -- at the end of the input
 done : {U : Type 0} (r : Result U ToolError) (a b sent : List ℕ) (s : Session) → talk_whole a ≡ talk b → Sent r a sent s → IsDone r b sent

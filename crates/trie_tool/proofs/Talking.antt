@@ -1,11 +1,12 @@
 -- How a talk goes on as more is heard.
 use Rattle.std.proofs.Common.{◌≡◌, ◌≢◌, ℕ, Bool, true, false, inl, inr, List, [], ◌∷◌, ◌++◌, fold, ◌==◌, refl, sym, ap, subst, ◌∙◌, Option, None, Some, IsTrue, IsFalse, append_assoc, append-nil, true≢false, if◌then◌else◌}
+use Rattle.std.specs.FinMap as map
 use Rattle.std.specs.List.{concat, flat_map}
 use Rattle.std.proofs.lemmas.List.Folds.{concat-append}
 use Rattle.std.proofs.lemmas.List.Sums.{fold-append}
 use Rattle.std.proofs.lemmas.Grind.{flat_map-append}
 use Rattle.std.proofs.lemmas.Bool.Decides.{eqb_tells}
-use Rattle.trie_tool.specs.Request.{Pairs}
+use Rattle.trie_tool.specs.Request.{Numbers}
 use Rattle.std.proofs.lemmas.List.Elements.{All-head, All-tail}
 use Rattle.trie_tool.specs.Talk.{HasNoFeed, Cut, cut, cut_at, Talk, talk_of, talk, talk_whole, after_line, after_turn, turn, last_line}
 use Rattle.trie_tool.specs.declared.fault.ToolError.{ToolError}
@@ -25,7 +26,7 @@ not_feed : (x : ℕ) → x ≢ 10 → (x == 10) ≡ false
 not_feed x other = elim (eqb_tells x 10) [ inl same ↦ absurd (other same.1) | inr differs ↦ differs.0 ]
 
 abbrev pub unsaid : Talk
-unsaid = record { answers = []; pairs = []; is_bad = false }
+unsaid = record { answers = []; numbers = map.empty; is_bad = false }
 
 pub cut-onto : (b : List ℕ) (x : ℕ) → cut (b ++ x ∷ []) ≡ cut_at (cut b) x
 unfolding cut
@@ -84,15 +85,15 @@ Extends-trans t u v p q = record {
   stays = λ bad. q.stays (subst (λ (w : Talk). IsTrue w.is_bad) (sym (p.stays bad)) bad) ∙ p.stays bad;
 }
 
-Extends-turn : (t : Talk) (o : Option (List ℕ × Pairs)) → IsFalse t.is_bad → Extends t (after_turn t o)
+Extends-turn : (t : Talk) (o : Option (List ℕ × Numbers)) → IsFalse t.is_bad → Extends t (after_turn t o)
 Extends-turn t None good = record { more = []; answers = sym (append-nil t.answers); stays = λ bad. absurd (true≢false (sym bad ∙ good)) }
 Extends-turn t (Some (a, m)) good = record { more = a ∷ []; answers = refl; stays = λ bad. absurd (true≢false (sym bad ∙ good)) }
 
 Extends-line : (t : Talk) (l : List ℕ) → Extends t (after_line t l)
 Extends-line t l =
-    elim t.is_bad as (λ v. t.is_bad ≡ v → Extends t (if v then t else after_turn t (turn l t.pairs))) [
+    elim t.is_bad as (λ v. t.is_bad ≡ v → Extends t (if v then t else after_turn t (turn l t.numbers))) [
       | true ↦ λ _. Extends-refl t
-      | false ↦ λ good. Extends-turn t (turn l t.pairs) good
+      | false ↦ λ good. Extends-turn t (turn l t.numbers) good
     ] refl
 
 pub Extends-lines : (t : Talk) (ls : List (List ℕ)) → Extends t (fold after_line t ls)

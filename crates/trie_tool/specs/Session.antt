@@ -5,17 +5,17 @@ use Rattle.trie_tool.specs.declared.fault.ToolError.{ToolError}
 use Rattle.trie_tool.specs.declared.fault.ToolError.TheVariants.{Read, Write, BadLine, Memory}
 use Rattle.trie_tool.specs.declared.conversation.Conversation.{Conversation}
 use Rattle.trie_tool.specs.declared.session.Session.{Session}
-use Rattle.trie_tool.specs.Command.{pairs_of}
-use Rattle.trie_tool.specs.Request.{Pairs}
+use Rattle.trie_tool.specs.Values.{values_of}
+use Rattle.trie_tool.specs.Request.{Numbers}
 use Rattle.trie_tool.specs.Serve.{IsBeginning, IsSomeAnswers}
 use Rattle.trie_tool.specs.Talk.{Talk, cut, talk, talk_whole, said, turn, number_of_bad, counted}
 
 -- the line's answer was put behind the others
 abbrev pub Takes : List ℕ → Conversation → Conversation → Type 0
-Takes line c d = (a : List ℕ) × (turn line (pairs_of c.store) ≡ Some (a, pairs_of d.store)) × (d.answers.items ≡ c.answers.items ++ a)
+Takes line c d = (a : List ℕ) × (turn line (values_of c.numbers) ≡ Some (a, values_of d.numbers)) × (d.answers.items ≡ c.answers.items ++ a)
 
 -- why the line of this number gets no answer
-abbrev pub IsRefusal : ToolError → (line : List ℕ) → Pairs → (number : ℕ) → Type 0
+abbrev pub IsRefusal : ToolError → (line : List ℕ) → Numbers → (number : ℕ) → Type 0
 IsRefusal Read line m number = ⊥
 IsRefusal Write line m number = ⊥
 IsRefusal (BadLine n) line m number = (turn line m ≡ None) × (n ≡ number)
@@ -23,7 +23,7 @@ IsRefusal Memory line m number = ⊤
 
 -- all whole lines of b are answered; of the answers, some were sent and the others wait
 pub record IsTold (b sent : List ℕ) (c : Conversation) : Type 0 where
-  pub pairs : pairs_of c.store ≡ (talk_whole b).pairs
+  pub numbers : values_of c.numbers ≡ (talk_whole b).numbers
   pub good : IsFalse (talk_whole b).is_bad
   pub count : c.count ≡ counted (length (talk_whole b).answers)
   pub said_is : said (talk_whole b) ≡ sent ++ c.answers.items

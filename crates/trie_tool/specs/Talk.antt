@@ -1,7 +1,8 @@
 -- What is answered to a text, up to its first bad line.
 use Rattle.std.specs.Prelude.{◌≢◌, ℕ, ◌+◌, ◌-◌, ◌^◌, min, Bool, true, false, ◌==◌, if◌then◌else◌, List, [], ◌∷◌, ◌++◌, length, Option, Some, None, option_map, fold}
+use Rattle.std.specs.FinMap as map
 use Rattle.std.specs.List.{All, concat}
-use Rattle.trie_tool.specs.Request.{request_of, Pairs, answer_to, pairs_after}
+use Rattle.trie_tool.specs.Request.{request_of, Numbers, answer_to, numbers_after}
 
 -- no byte is a line feed
 abbrev pub HasNoFeed : List ℕ → Type 0
@@ -28,23 +29,23 @@ last_line (b ∷ bs) = (b ∷ bs) ∷ []
 -- the answers, one for each line before the first bad one, and the map after them
 pub record Talk : Type 0 where
   pub answers : List (List ℕ)
-  pub pairs : Pairs
+  pub numbers : Numbers
   pub is_bad : Bool
 
 -- an answer and the map after it, or nothing at a bad line; an empty line is passed over
-abbrev pub turn : List ℕ → Pairs → Option (List ℕ × Pairs)
+abbrev pub turn : List ℕ → Numbers → Option (List ℕ × Numbers)
 turn [] m = Some ([], m)
-turn (b ∷ bs) m = option_map (λ r. (answer_to r m, pairs_after r m)) (request_of (b ∷ bs))
+turn (b ∷ bs) m = option_map (λ r. (answer_to r m, numbers_after r m)) (request_of (b ∷ bs))
 
-abbrev pub after_turn : Talk → Option (List ℕ × Pairs) → Talk
+abbrev pub after_turn : Talk → Option (List ℕ × Numbers) → Talk
 after_turn t None = record t { is_bad = true }
-after_turn t (Some (answer, m)) = record { answers = t.answers ++ answer ∷ []; pairs = m; is_bad = false }
+after_turn t (Some (answer, m)) = record { answers = t.answers ++ answer ∷ []; numbers = m; is_bad = false }
 
 abbrev pub after_line : Talk → List ℕ → Talk
-after_line t line = if t.is_bad then t else after_turn t (turn line t.pairs)
+after_line t line = if t.is_bad then t else after_turn t (turn line t.numbers)
 
 unfoldable pub talk_of : List (List ℕ) → Talk
-talk_of lines = fold after_line (record { answers = []; pairs = []; is_bad = false }) lines
+talk_of lines = fold after_line (record { answers = []; numbers = map.empty; is_bad = false }) lines
 
 -- the whole lines alone
 abbrev pub talk_whole : List ℕ → Talk

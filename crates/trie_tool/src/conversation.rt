@@ -1,54 +1,34 @@
 //! What is answered to one line after another.
 ghost use Rattle.std.specs.Prelude.{◌≡◌, ◌+◌, [], IfOk, OnOk, OnErr, IfErr, Some, string_bytes};
-ghost use Rattle.trie_tool.specs.Command.{request, pairs_of};
-ghost use Rattle.trie_tool.specs.Request.{answer_to, pairs_after};
+ghost use Rattle.std.specs.FinMap as map;
 ghost use Rattle.trie_tool.specs.Session.{IsRefusal, Takes};
 ghost use Rattle.trie_tool.specs.Talk.{counted, turn};
+ghost use Rattle.trie_tool.specs.Values.{values_of};
 
-use crate::command::{Command, parse};
+use crate::answers::answer;
+use crate::command::parse;
 use crate::fault::ToolError;
-use crate::store::Store;
-use std::alloc::{AllocError, Global};
+use crate::numbers::{Numbers, no_numbers};
+use std::alloc::Global;
 
-/// The pairs so far, the answers that aren't written yet, and the count of lines.
+/// The trie of numbers, the answers that aren't written yet, and the count of lines.
 #[derive(Drop)]
 pub struct Conversation {
     alloc: Global,
-    store: Store,
+    numbers: Numbers,
     answers: Vec<u8>,
     count: u64,
-}
-
-/// Carries out a command, and gives its whole answer.
-fn answer(alloc: Global, store: &mut Store, command: Command<'_>) -> Result<String, AllocError>
-    ensures text { IfOk result (λ a. string_bytes a ≡ answer_to (request command.entry) (pairs_of store.old)) }
-    ensures pairs { OnOk result (pairs_of store.new ≡ pairs_after (request command.entry) (pairs_of store.old)) }
-{
-    match command {
-        Command::Insert(key, number) => match store.insert(alloc, key, number)? {
-            None => String::from_str(alloc, "new\n"),
-            Some(old) => format!(in alloc; "old {old}\n"),
-        },
-        Command::Get(key) => match store.get(key) {
-            None => String::from_str(alloc, "none\n"),
-            Some(value) => format!(in alloc; "{value}\n"),
-        },
-        Command::Len => {
-            let count = store.len();
-            format!(in alloc; "{count}\n")
-        }
-    }
 }
 
 /// The whole answer to the line of this number; an empty line has an empty answer.
 fn reply(
     alloc: Global,
-    store: &mut Store,
+    numbers: &mut Numbers,
     line: &[u8],
     number: u64,
 ) -> Result<String, ToolError>
-    ensures answer { IfOk result (λ a. turn line.now (pairs_of store.old) ≡ Some (string_bytes a, pairs_of store.new)) }
-    ensures refused { IfErr result (λ e. IsRefusal e line.now (pairs_of store.old) number) }
+    ensures answer { IfOk result (λ a. turn line.now (values_of numbers.old) ≡ Some (string_bytes a, values_of numbers.new)) }
+    ensures refused { IfErr result (λ e. IsRefusal e line.now (values_of numbers.old) number) }
 {
     if line.is_empty() {
         return Ok(String::new(alloc));
@@ -56,18 +36,18 @@ fn reply(
     let Some(command) = parse(line) else {
         return Err(ToolError::BadLine(number));
     };
-    answer(alloc, store, command).map_err(|_| ToolError::Memory)
+    answer(alloc, numbers, command).map_err(|_| ToolError::Memory)
 }
 
 impl Conversation {
     pub fn new(alloc: Global) -> Conversation
-        ensures pairs { pairs_of result.store ≡ [] }
+        ensures numbers { values_of result.numbers ≡ map.empty }
         ensures answers { result.answers.items ≡ [] }
         ensures count { result.count ≡ 0 }
     {
         Conversation {
             alloc,
-            store: Store::new(alloc),
+            numbers: no_numbers(alloc),
             answers: Vec::new(alloc),
             count: 0,
         }
@@ -83,7 +63,7 @@ impl Conversation {
     /// Forgets the answers, which have been written.
     pub fn clear(&mut self)
         ensures answers { self.new.answers.items ≡ [] }
-        ensures store { self.new.store ≡ self.old.store }
+        ensures numbers { self.new.numbers ≡ self.old.numbers }
         ensures count { self.new.count ≡ self.old.count }
     {
         self.answers.clear();
@@ -93,11 +73,11 @@ impl Conversation {
     pub fn take_turn(&mut self, line: &[u8]) -> Result<(), ToolError>
         ensures answered { OnOk result (Takes line.now self.old self.new) }
         ensures count { OnOk result (self.new.count ≡ counted (self.old.count + 1)) }
-        ensures refused { IfErr result (λ e. IsRefusal e line.now (pairs_of self.old.store) (counted (self.old.count + 1))) }
+        ensures refused { IfErr result (λ e. IsRefusal e line.now (values_of self.old.numbers) (counted (self.old.count + 1))) }
         ensures unchanged { OnErr result (self.new.answers.items ≡ self.old.answers.items) }
     {
         let number = self.count.saturating_add(1);
-        let text = reply(self.alloc, &mut self.store, line, number)?;
+        let text = reply(self.alloc, &mut self.numbers, line, number)?;
         if self.answers.extend_from_slice(text.as_bytes()).is_err() {
             return Err(ToolError::Memory);
         }

@@ -1,8 +1,9 @@
 //! A conversation over the bytes of one read after another.
 ghost use Rattle.std.specs.Prelude.{◌≡◌, ℕ, List, [], ◌∷◌, ◌++◌};
-ghost use Rattle.trie_tool.specs.Command.{pairs_of};
+ghost use Rattle.std.specs.FinMap as map;
 ghost use Rattle.trie_tool.specs.Session.{IsAt, Goes, Sends, Finishes};
 ghost use Rattle.trie_tool.specs.Talk.{HasNoFeed, talk, talk_whole};
+ghost use Rattle.trie_tool.specs.Values.{values_of};
 
 use crate::conversation::Conversation;
 use crate::fault::ToolError;
@@ -21,7 +22,7 @@ pub struct Session {
 impl Session {
     pub fn new(alloc: Global) -> Session
         ensures line { result.open_line.items ≡ [] }
-        ensures pairs { pairs_of result.conversation.store ≡ [] }
+        ensures numbers { values_of result.conversation.numbers ≡ map.empty }
         ensures answers { result.conversation.answers.items ≡ [] }
         ensures count { result.conversation.count ≡ 0 }
     {

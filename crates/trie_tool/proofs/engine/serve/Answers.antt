@@ -4,7 +4,7 @@ use Rattle.trie_tool.proofs.Serving.{heard_nothing, no_buffer, failed, ended, he
 use Rattle.trie_tool.proofs.engine.serve.Goals as goal
 
 pub loop-init : goal.loop-init
-loop-init g c = heard_nothing _ _ _ c.new-session.ensures.line c.new-session.ensures.pairs c.new-session.ensures.answers c.new-session.ensures.count
+loop-init g c = heard_nothing _ _ _ c.new-session.ensures.line c.new-session.ensures.numbers c.new-session.ensures.answers c.new-session.ensures.count
 
 pub returns-in-Err : goal.returns-in-Err
 returns-in-Err g c = failed _ _ _ _ _ _ _ c.loop.invariant c.in-Err.ensures.bytes refl

@@ -53,8 +53,8 @@ told-turn b sent line c d ends told takes count =
       good = ap (λ (u : Talk). u.is_bad) next;
       count = count ∙ counted-next c.count (length t.answers) told.count ∙ sym (ap (λ (u : Talk). counted (length u.answers)) next ∙ ap counted (length-append t.answers (a ∷ [])));
       said_is =
-        ap said next ∙ said-more t a (values_of d.numbers) ∙ ap (λ (l : List ℕ). l ++ a) told.said_is
-        ∙ append_assoc sent c.answers.items a ∙ ap (λ (l : List ℕ). sent ++ l) (sym takes.2);
+          ap said next ∙ said-more t a (values_of d.numbers) ∙ ap (λ (l : List ℕ). l ++ a) told.said_is
+          ∙ append_assoc sent c.answers.items a ∙ ap (λ (l : List ℕ). sent ++ l) (sym takes.2);
     }
 
 -- no room
@@ -110,12 +110,13 @@ beginning (Err Memory) b sent s why =
     (concat why.1, ap concat why.2 ∙ concat-append why.0 why.1 ∙ ap (λ (l : List ℕ). l ++ concat why.1) (sym why.3))
 
 shorter : (sent a : List ℕ) (k : ℕ) (t : Talk) → IsBeginning (sent ++ a) t → IsBeginning (sent ++ take k a) t
-shorter sent a k t begins =
-    (drop k a ++ begins.0,
-    begins.1
-    ∙ ap (λ (l : List ℕ). (sent ++ l) ++ begins.0) (sym (take-append-drop k a))
-    ∙ ap (λ (l : List ℕ). l ++ begins.0) (sym (append_assoc sent (take k a) (drop k a)))
-    ∙ append_assoc (sent ++ take k a) (drop k a) begins.0)
+shorter sent a k t begins = (
+  drop k a ++ begins.0,
+  begins.1
+      ∙ ap (λ (l : List ℕ). (sent ++ l) ++ begins.0) (sym (take-append-drop k a))
+      ∙ ap (λ (l : List ℕ). l ++ begins.0) (sym (append_assoc sent (take k a) (drop k a)))
+      ∙ append_assoc (sent ++ take k a) (drop k a) begins.0,
+)
 
 -- a write that failed
 pub sent_part : {U V : Type 0} (r : Result U ToolError) (q : Result V ToolError) (b sent : List ℕ) (held held' : Option (List ℕ)) (s s' : Session) → Goes r b sent s
@@ -150,9 +151,10 @@ sent_all r b sent held held' s s' goes all line numbers count clear =
 
 -- at the end of the input
 done : {U : Type 0} (r : Result U ToolError) (a b sent : List ℕ) (s : Session) → talk_whole a ≡ talk b → Sent r a sent s → IsDone r b sent
-done (Ok u) a b sent s same clear =
-    (sym (ap (λ (t : Talk). t.is_bad) same) ∙ clear.at.told.good,
-    sym (append-nil sent) ∙ ap (λ (l : List ℕ). sent ++ l) (sym clear.none_waits) ∙ sym clear.at.told.said_is ∙ ap said same)
+done (Ok u) a b sent s same clear = (
+  sym (ap (λ (t : Talk). t.is_bad) same) ∙ clear.at.told.good,
+  sym (append-nil sent) ∙ ap (λ (l : List ℕ). sent ++ l) (sym clear.none_waits) ∙ sym clear.at.told.said_is ∙ ap said same,
+)
 done (Err e) a b sent s same why = subst (λ (t : Talk). Breaks e t sent) same why
 
 pub finished : {U : Type 0} (r : Result U ToolError) (a b sent : List ℕ) (held held' : Option (List ℕ)) (s : Session) → talk_whole a ≡ talk b → Sends r a sent held held' s → Finishes r b sent held held'

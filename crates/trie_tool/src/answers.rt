@@ -35,11 +35,7 @@ fn len_answer(alloc: Global, count: usize) -> Result<String, AllocError>
 }
 
 /// Carries out a command, and gives its whole answer.
-pub fn answer(
-    alloc: Global,
-    numbers: &mut Numbers,
-    command: Command<'_>,
-) -> Result<String, Memory>
+pub fn answer(alloc: Global, numbers: &mut Numbers, command: Command<'_>) -> Result<String, Memory>
     ensures text { IfOk result (λ a. string_bytes a ≡ answer_to (request command.entry) (values_of numbers.old)) }
     ensures numbers { OnOk result (values_of numbers.new ≡ numbers_after (request command.entry) (values_of numbers.old)) }
 {

@@ -8,13 +8,15 @@ pub loop-line-preserved : goal.loop-line-preserved
 loop-line-preserved c =
     let before = c.loop-line.invariant.heard in
     let line : List ℕ = c.in-Some.line.now in
-    record { heard = (
-      (before.0 ++ line) ++ 10 ∷ [],
-      cut_on before.0 line c.in-Some.after.now ∙ ap (λ (l : List ℕ). before.0 ++ l) (sym c.in-Some.ensures.parts) ∙ before.1,
-      λ b sent at.
-        let grouped : (b ++ before.0) ++ line ++ 10 ∷ [] ≡ b ++ ((before.0 ++ line) ++ 10 ∷ []) = simp append_assoc in
-        subst (λ (l : List ℕ). IsAt l sent c.end_line.new.self) grouped (c.in_ok-end_line.ensures (b ++ before.0) sent (before.2 b sent at) c.in-Some.ensures.line),
-    ) }
+    record {
+      heard = (
+        (before.0 ++ line) ++ 10 ∷ [],
+        cut_on before.0 line c.in-Some.after.now ∙ ap (λ (l : List ℕ). before.0 ++ l) (sym c.in-Some.ensures.parts) ∙ before.1,
+        λ b sent at.
+            let grouped : (b ++ before.0) ++ line ++ 10 ∷ [] ≡ b ++ ((before.0 ++ line) ++ 10 ∷ []) = simp append_assoc in
+            subst (λ (l : List ℕ). IsAt l sent c.end_line.new.self) grouped (c.in_ok-end_line.ensures (b ++ before.0) sent (before.2 b sent at) c.in-Some.ensures.line),
+      );
+    }
 
 pub returns-in_err-end_line : goal.returns-in_err-end_line
 returns-in_err-end_line c = λ b sent at.

@@ -1,5 +1,5 @@
 -- A result with another error.
-use Rattle.std.proofs.Common.{◌≡◌, Result, Ok, Err, IfOk, MatchResult, subst, sym, refl, IsTrue}
+use Rattle.std.proofs.Common.{◌≡◌, Result, Ok, Err, IfOk, MatchResult, subst, sym}
 use Rattle.std.specs.Result.{is_ok}
 
 pub same_value : {A E D : Type 0} (r : Result A E) (q : Result A D) (P : A → Type 0) (Q : E → Type 0) → MatchResult r (λ x. q ≡ Ok x) Q → is_ok q ≡ is_ok r → IfOk r P → IfOk q P

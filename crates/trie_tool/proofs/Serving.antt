@@ -9,7 +9,7 @@ use Rattle.trie_tool.specs.declared.session.Session.{Session}
 use Rattle.trie_tool.specs.Values.{values_of}
 use Rattle.trie_tool.specs.Serve.{Outcome, Stopped, Served}
 use Rattle.trie_tool.specs.Session.{IsAt, IsClear, Breaks, Sends, Finishes, IsDone}
-use Rattle.trie_tool.specs.Talk.{Talk, cut, talk_of, talk, talk_whole, said}
+use Rattle.trie_tool.specs.Talk.{cut, talk_of, talk, talk_whole}
 use Rattle.trie_tool.proofs.Talking.{Extends-last, Breaks-lift}
 
 pub record Heard (unread unread' held held' : Option (List ℕ)) (s : Session) : Type 0 where

@@ -1,5 +1,5 @@
 -- Where a session stands after each of its steps.
-use Rattle.std.proofs.Common.{◌≡◌, ◌≢◌, ℕ, ◌+◌, Bool, true, List, [], ◌∷◌, ◌++◌, length, take, drop, refl, sym, ap, subst, ◌∙◌, Option, Some, IsFalse, append_assoc, append-nil, arith, Result, Ok, Err, OnOk, OnErr, IfErr, Vec, Global, length-append, take-append-drop, if◌then◌else◌}
+use Rattle.std.proofs.Common.{◌≡◌, ℕ, ◌+◌, Bool, true, List, [], ◌∷◌, ◌++◌, length, take, drop, refl, sym, ap, subst, ◌∙◌, Option, Some, IsFalse, append_assoc, append-nil, arith, Result, Ok, Err, OnOk, OnErr, IfErr, Vec, Global, length-append, take-append-drop, if◌then◌else◌}
 use Rattle.std.proofs.lemmas.List.Folds.{concat-append}
 use Rattle.std.specs.List.{concat}
 use Rattle.std.specs.Io.KnownBytes.{Appends}
@@ -10,9 +10,9 @@ use Rattle.trie_tool.specs.declared.session.Session.{Session}
 use Rattle.trie_tool.specs.Values.{values_of}
 use Rattle.trie_tool.specs.Request.{Numbers}
 use Rattle.trie_tool.specs.Serve.{IsBeginning}
-use Rattle.trie_tool.specs.Talk.{Talk, Cut, HasNoFeed, cut, talk_of, talk, talk_whole, said, turn, after_turn, counted}
-use Rattle.trie_tool.specs.Session.{IsTold, IsAt, IsClear, Takes, IsRefusal, Breaks, Goes, Sent, Sends, IsDone, Finishes}
-use Rattle.trie_tool.proofs.Talking.{talk_whole-fed, talk_whole-kept, talk-fed, talk-unfed, cut-fed, cut-kept, Extends, Extends-heard, Breaks-lift}
+use Rattle.trie_tool.specs.Talk.{Talk, Cut, HasNoFeed, cut, talk, talk_whole, said, turn, after_turn, counted}
+use Rattle.trie_tool.specs.Session.{IsTold, Takes, IsRefusal, Breaks, Goes, Sent, Sends, IsDone, Finishes}
+use Rattle.trie_tool.proofs.Talking.{talk_whole-fed, talk_whole-kept, cut-fed, cut-kept, Extends-heard, Breaks-lift}
 
 -- the count stays at the largest number
 counted-next : (k n : ℕ) → k ≡ counted n → counted (k + 1) ≡ counted (n + 1)

@@ -1,8 +1,7 @@
 -- The map without its keys.
-use Rattle.std.proofs.Common.{◌≡◌, ℕ, ◌≢◌, ◌↔◌, Bool, true, false, cond, T, List, [], ◌∷◌, length, Option, Some, None, is_some, option_map, refl, sym, ap, ◌∙◌, subst, nat_cmp, is_eq, ◌&&◌, is_lt, ◌+◌, map as each}
+use Rattle.std.proofs.Common.{◌≡◌, ℕ, Bool, true, false, cond, T, List, [], ◌∷◌, length, Option, Some, option_map, refl, sym, ap, ◌∙◌, subst, nat_cmp, ◌&&◌, is_lt, map as each}
 use Rattle.std.proofs.lemmas.List.{length-map}
 use Rattle.std.specs.Ordering.{eq_by_cmp}
-use Rattle.std.specs.Cmp.{tied_itself}
 use Rattle.std.specs.Cmp.Lexicographic.{slice_cmp}
 use Rattle.std.proofs.lemmas.Cmp.{nat_list_cmp_total}
 use Rattle.std.specs.FinMap as map
@@ -10,7 +9,6 @@ use Rattle.std.specs.FinMap.{find, is_sorted}
 use Rattle.std.specs.FinMap.Entries.{below_all}
 use Rattle.nibble_map.specs.Maps.{PairMap, value_at}
 use Rattle.trie_tool.specs.Values.{values_of}
-use Rattle.nibble_map.proofs.Bridge.{tied}
 use Rattle.nibble_map.proofs.Sorted.{same}
 
 map_cond : {A B : Type 0} (f : A → B) (b : Bool) (x y : Option A) → option_map f (cond b x y) ≡ cond b (option_map f x) (option_map f y)

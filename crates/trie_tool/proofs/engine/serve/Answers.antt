@@ -1,6 +1,6 @@
-use Rattle.std.proofs.Common.{◌≡◌, ◌<◌, [], refl, rules, length}
-use Rattle.std.proofs.KnownBytes.{Consumes-nil, Keeps-refl}
-use Rattle.trie_tool.proofs.Serving.{heard_nothing, no_buffer, failed, ended, heard_more, broken, took_none}
+use Rattle.std.proofs.Common.{◌≡◌, ◌<◌, refl, rules, length}
+use Rattle.std.proofs.KnownBytes.{Keeps-refl}
+use Rattle.trie_tool.proofs.Serving.{heard_nothing, failed, ended, heard_more, broken, took_none}
 use Rattle.trie_tool.proofs.engine.serve.Goals as goal
 
 pub loop-init : goal.loop-init

@@ -1,4 +1,4 @@
-use Rattle.std.proofs.Common.{◌≡◌, ◌++◌, ◌∷◌, [], ◌∙◌, List, ℕ, refl, rules, sym}
+use Rattle.std.proofs.Common.{◌≡◌, ◌++◌, ◌∷◌, [], ◌∙◌, List, ℕ, rules, sym}
 use Rattle.trie_tool.proofs.Standing.{always, turn_goes, nothing_in, rest-kept, rest-fed, told-kept, told-turn, refused, Goes-err, Goes-lift}
 use Rattle.trie_tool.proofs.session.Session.end_line.Goals as goal
 

@@ -1,4 +1,4 @@
-use Rattle.std.proofs.Common.{◌≡◌, ◌++◌, ◌∙◌, ap, List, ℕ, rules}
+use Rattle.std.proofs.Common.{◌≡◌, ◌++◌, ◌∙◌, rules}
 use Rattle.trie_tool.proofs.Standing.{out_of_memory, told-kept, rest-kept}
 use Rattle.trie_tool.proofs.session.Session.keep.Goals as goal
 

@@ -1,6 +1,6 @@
 use Rattle.std.proofs.Common.{ℕ, List, take, rules, subst}
 use Rattle.std.specs.Io.KnownBytes.{Appends}
-use Rattle.trie_tool.proofs.Standing.{sent_part, sent_all}
+use Rattle.trie_tool.proofs.Standing.{sent_part}
 use Rattle.trie_tool.proofs.session.Session.send.Goals as goal
 
 pub returns-in_err-write_out : goal.returns-in_err-write_out

@@ -1,0 +1,126 @@
+-- What the parts of a line are.
+use Rattle.std.proofs.Common.{◌≡◌, ℕ, ◌+◌, ◌-◌, ◌^◌, ◌<◌, ◌≤◌, Bool, true, false, inl, inr, get_or, List, [], ◌∷◌, length, take, drop, refl, sym, ap, ◌∙◌, Option, None, Some, arith, Result, Ok, Err, ◌==◌, ◌&&◌, nat_lt, if◌then◌else◌, not, length-drop, get_or-drop, option_map, bytes_eq, codes, ◌||◌, cond}
+use Rattle.std.specs.Str.{all_ascii_digits}
+use Rattle.std.specs.Str.Parse.{digits_value, ParsesUnsigned}
+use Rattle.std.specs.Result.{OkIff, result_ok}
+use Rattle.std.proofs.lemmas.Str.Parse.{IsNumeralModel, numerals_by_value, tells_all_ascii_digits, parse_digits}
+use Rattle.std.proofs.lemmas.Bool.Decides.{nat_tests}
+use Rattle.std.specs.Char.{is_ascii_digit}
+use Rattle.std.specs.List.{list_all, suffix_len, position_or_len, before_first, after_first, before_last, after_last}
+use Rattle.std.specs.Str.{NoCharPasses, is_utf8, IsUtf8}
+use Rattle.std.specs.Str.Pattern.{RFindsChar, HasCharAt}
+use Rattle.std.proofs.lemmas.Str.Pattern.{NoCharPasses-char}
+use Rattle.std.proofs.lemmas.Bool.Decides.{eqb_tells}
+use Rattle.std.proofs.lemmas.List.Sums.{suffix_len_is}
+use Rattle.std.proofs.lemmas.List.Elements.{All-from_get_or}
+use Rattle.std.proofs.lemmas.Str.{is_utf8-from_IsUtf8, IsUtf8-from_is_utf8}
+use Rattle.std.proofs.lemmas.List.Folds.{list_any_at, list_any_none}
+use Rattle.trie_tool.specs.Request.{number_of, is_space, has_space, insert_of, keyed_request, worded_request, request_of, Request, Insert, Len}
+
+own : IsNumeralModel (λ ds. all_ascii_digits ds ≡ true) (digits_value 10)
+own = numerals_by_value _ tells_all_ascii_digits
+
+nothing : (a b : Bool) (v : ℕ) → None ≡ (if a && false && b then Some v else None)
+nothing a b v = elim a as (λ x. None ≡ (if x && false && b then Some v else None)) [ true ↦ refl | false ↦ refl ]
+
+-- no byte from j on is a space
+not_space_in : (s : List ℕ) (j k : ℕ) → NoCharPasses (λ d. d == 32) (drop j s) → j ≤ k → k < length s → is_space (get_or s k 0) ≡ false
+not_space_in s j k none low high =
+    let away = NoCharPasses-char 32 (drop j s) (k - j) none (omega arith) (omega (arith, length-drop j s)) in
+    let there : get_or (drop j s) (k - j) 0 ≡ get_or s k 0 = get_or-drop j s (k - j) 0 ∙ ap (λ (n : ℕ). get_or s n 0) (let e : j + (k - j) ≡ k = omega arith in e) in
+    elim (eqb_tells (get_or s k 0) 32) [ inl same ↦ absurd (away (there ∙ same.1)) | inr differs ↦ differs.0 ]
+
+number_is : {E : Type 0} (r : Result ℕ E) (bs : List ℕ) (v : ℕ) → OkIff r ((0 < length bs) × (v < 2 ^ 64)) v
+    → result_ok r ≡ (if nat_lt 0 (length bs) && true && nat_lt v (2 ^ 64) then Some v else None)
+number_is (Ok x) bs v h = grind (arith, nat_tests)
+number_is (Err e) bs v h = grind (arith, nat_tests)
+
+pub number_read : {E : Type 0} (r : Result ℕ E) (bs : List ℕ) → ParsesUnsigned 64 10 bs r → all_ascii_digits bs ≡ true → result_ok r ≡ number_of bs
+number_read r bs parsed digits =
+    number_is r bs (digits_value 10 bs) (parse_digits own 64 bs r parsed digits)
+    ∙ ap (λ (d : Bool). if nat_lt 0 (length bs) && d && nat_lt (digits_value 10 bs) (2 ^ 64) then Some (digits_value 10 bs) else None) (sym digits)
+
+pub digits_same : (bs : List ℕ) → list_all is_ascii_digit bs ≡ all_ascii_digits bs
+digits_same [] = refl
+digits_same (c ∷ cs) = ap (λ (b : Bool). is_ascii_digit c && b) (digits_same cs)
+
+pub not_number : (bs : List ℕ) → all_ascii_digits bs ≡ false → None ≡ number_of bs
+not_number bs bad =
+    nothing (nat_lt 0 (length bs)) (nat_lt (digits_value 10 bs) (2 ^ 64)) (digits_value 10 bs)
+    ∙ ap (λ (d : Bool). if nat_lt 0 (length bs) && d && nat_lt (digits_value 10 bs) (2 ^ 64) then Some (digits_value 10 bs) else None) (sym bad)
+
+-- a key and a number around the last space
+position_is : (c : ℕ) (s : List ℕ) (p : ℕ × ℕ) → RFindsChar c s (Some p) → HasCharAt c s p.0 p.1
+position_is c s p found = found.1
+
+pub split_last : (s front back : List ℕ) (i j : ℕ) → RFindsChar 32 s (Some (i, j)) → front ≡ take i s → back ≡ drop j s → length back + j ≡ length s
+    → (has_space s ≡ true) × (before_last is_space s ≡ front) × (after_last is_space s ≡ back)
+split_last s front back i j found f b fits =
+    let next : j ≡ i + 1 = found.1.ends in
+    let here : get_or s i 0 ≡ 32 = found.1.byte (omega arith) in
+    let within : i < length s = omega arith in
+    let here-is : is_space (get_or s i 0) ≡ true = ap is_space here in
+    let tail : suffix_len (λ x. not (is_space x)) s ≡ length s - j =
+    suffix_len_is (λ x. not (is_space x)) s j 0 (omega arith)
+    (λ k low high. ap not (not_space_in s j k found.0 low high))
+    (λ some. ap (λ (n : ℕ). not (is_space (get_or s n 0))) (let e : j - 1 ≡ i = omega arith in e) ∙ ap not here-is) in (
+      list_any_at is_space s i 0 within here-is,
+      ap (λ (n : ℕ). take (length s - n - 1) s) tail ∙ ap (λ (n : ℕ). take n s) (let e : length s - (length s - j) - 1 ≡ i = omega arith in e) ∙ sym f,
+      ap (λ (n : ℕ). drop (length s - n) s) tail ∙ ap (λ (n : ℕ). drop n s) (let e : length s - (length s - j) ≡ j = omega arith in e) ∙ sym b,
+    )
+
+no_space : (s : List ℕ) → NoCharPasses (λ d. d == 32) s → has_space s ≡ false
+no_space s none = list_any_none is_space s (All-from_get_or (λ x. is_space x ≡ false) s 0 (λ i within. not_space i within))
+  where
+    not_space : (i : ℕ) → i < length s → is_space (get_or s i 0) ≡ false
+    not_space i within = elim (eqb_tells (get_or s i 0) 32) [ inl same ↦ absurd (NoCharPasses-char 32 s i none (omega arith) within same.1) | inr differs ↦ differs.0 ]
+
+pub no_insertion : (s : List ℕ) → NoCharPasses (λ d. d == 32) s → None ≡ insert_of s
+no_insertion s none = sym (ap (λ (h : Bool). if h then option_map (λ n. Insert (before_last is_space s) n) (number_of (after_last is_space s)) else None) (no_space s none))
+
+pub insertion_is : (s front back : List ℕ) (i j : ℕ) → RFindsChar 32 s (Some (i, j)) → front ≡ take i s → back ≡ drop j s → length back + j ≡ length s
+    → option_map (λ n. Insert front n) (number_of back) ≡ insert_of s
+insertion_is s front back i j found f b fits =
+    let parts = split_last s front back i j found f b fits in
+    sym (ap (λ (h : Bool). if h then option_map (λ n. Insert (before_last is_space s) n) (number_of (after_last is_space s)) else None) parts.0
+    ∙ ap (λ (l : List ℕ). option_map (λ n. Insert l n) (number_of (after_last is_space s))) parts.1
+    ∙ ap (λ (l : List ℕ). option_map (λ n. Insert front n) (number_of l)) parts.2)
+
+has_space_yes : (s : List ℕ) → position_or_len is_space s < length s → has_space s ≡ true
+has_space_yes [] lt = absurd (omega arith)
+has_space_yes (x ∷ xs) lt =
+    elim (is_space x) as (λ v. cond (not v) (1 + position_or_len is_space xs) 0 < length (x ∷ xs) → (v || has_space xs) ≡ true) [
+      | true ↦ λ _. refl
+      | false ↦ λ l. has_space_yes xs (omega arith)
+    ] lt
+
+has_space_no : (s : List ℕ) → position_or_len is_space s ≡ length s → has_space s ≡ false
+has_space_no [] e = refl
+has_space_no (x ∷ xs) e =
+    elim (is_space x) as (λ v. cond (not v) (1 + position_or_len is_space xs) 0 ≡ length (x ∷ xs) → (v || has_space xs) ≡ false) [
+      | true ↦ λ l. absurd (omega arith)
+      | false ↦ λ l. has_space_no xs (omega arith)
+    ] e
+
+abbrev worded_by : List ℕ → Bool → Option Request
+worded_by s h = if h then keyed_request (before_first is_space s) (after_first is_space s) else (if bytes_eq s (codes "len") then Some Len else None)
+
+pub with_space : (s word rest : List ℕ) → position_or_len is_space s < length s → word ≡ before_first is_space s → rest ≡ after_first is_space s
+    → keyed_request word rest ≡ worded_request s
+with_space s word rest lt w r =
+    sym (ap (worded_by s) (has_space_yes s lt) ∙ ap (λ (l : List ℕ). keyed_request l (after_first is_space s)) (sym w) ∙ ap (λ (l : List ℕ). keyed_request word l) (sym r))
+
+pub without_space : (s : List ℕ) → position_or_len is_space s ≡ length s → (if bytes_eq s (codes "len") then Some Len else None) ≡ worded_request s
+without_space s e = sym (ap (worded_by s) (has_space_no s e))
+
+pub is_text : (s : List ℕ) → IsUtf8 s → worded_request s ≡ request_of s
+unfolding request_of
+is_text s text = sym (ap (λ (t : Bool). if t then worded_request s else None) (is_utf8-from_IsUtf8 s text))
+
+pub no_text : (s : List ℕ) → ¬ (IsUtf8 s) → None ≡ request_of s
+unfolding request_of
+no_text s wrong =
+    elim (is_utf8 s) as (λ v. is_utf8 s ≡ v → None ≡ (if v then worded_request s else None)) [
+      | true ↦ λ yes. absurd (wrong (IsUtf8-from_is_utf8 s yes))
+      | false ↦ λ _. refl
+    ] refl

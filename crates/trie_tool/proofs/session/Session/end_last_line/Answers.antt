@@ -1,0 +1,13 @@
+use Rattle.std.proofs.Common.{◌≢◌, [], ◌++◌, ◌∷◌, ◌∙◌, ap, append-nil, List, ℕ, rules, sym}
+use Rattle.trie_tool.specs.Talk.{talk_whole}
+use Rattle.trie_tool.proofs.Standing.{nothing_in, no_feed}
+use Rattle.trie_tool.proofs.Talking.{talk-fed, talk-unfed}
+use Rattle.trie_tool.proofs.session.Session.end_last_line.Goals as goal
+
+pub returns-then-is_empty : goal.returns-then-is_empty
+returns-then-is_empty c = λ b sent at. (b, sym (talk-unfed b (sym at.rest ∙ nothing_in _ (search rules))), at)
+
+pub returns : goal.returns
+returns c = λ b sent at.
+    let some : c.args.self.now.open_line.items ≢ [] = search rules in
+    (b ++ [] ++ 10 ∷ [], ap (λ (l : List ℕ). talk_whole (l ++ 10 ∷ [])) (append-nil b) ∙ talk-fed b (λ none. some (at.rest ∙ none)), c.end_line.ensures b sent at no_feed)

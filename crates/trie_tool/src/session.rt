@@ -1,0 +1,114 @@
+//! A conversation over the bytes of one read after another.
+ghost use Rattle.std.specs.Prelude.{◌≡◌, ℕ, List, [], ◌∷◌, ◌++◌};
+ghost use Rattle.std.specs.FinMap as map;
+ghost use Rattle.trie_tool.specs.Session.{IsAt, Goes, Sends, Finishes};
+ghost use Rattle.trie_tool.specs.Talk.{HasNoFeed, talk, talk_whole};
+ghost use Rattle.trie_tool.specs.Values.{values_of};
+
+use crate::conversation::Conversation;
+use crate::fault::ToolError;
+use crate::lines::first_line;
+use crate::output::write_out;
+use std::alloc::Global;
+use std::io::Write;
+
+/// A conversation, and the bytes after the last line feed.
+#[derive(Drop)]
+pub struct Session {
+    conversation: Conversation,
+    open_line: Vec<u8>,
+}
+
+impl Session {
+    pub fn new(alloc: Global) -> Session
+        ensures line { result.open_line.items ≡ [] }
+        ensures numbers { values_of result.conversation.numbers ≡ map.empty }
+        ensures answers { result.conversation.answers.items ≡ [] }
+        ensures count { result.conversation.count ≡ 0 }
+    {
+        Session {
+            conversation: Conversation::new(alloc),
+            open_line: Vec::new(alloc),
+        }
+    }
+
+    /// Keeps bytes of a line that hasn't ended.
+    fn keep(&mut self, bytes: &[u8]) -> Result<(), ToolError>
+        ensures { (b sent : List ℕ) → IsAt b sent self.old → HasNoFeed bytes.now
+            → Goes result (b ++ bytes.now) sent self.new }
+    {
+        if self.open_line.extend_from_slice(bytes).is_err() {
+            return Err(ToolError::Memory);
+        }
+        Ok(())
+    }
+
+    /// Answers the line that these bytes end.
+    fn end_line(&mut self, bytes: &[u8]) -> Result<(), ToolError>
+        ensures { (b sent : List ℕ) → IsAt b sent self.old → HasNoFeed bytes.now
+            → Goes result (b ++ bytes.now ++ 10 ∷ []) sent self.new }
+    {
+        if self.open_line.is_empty() {
+            return self.conversation.take_turn(bytes);
+        }
+        self.keep(bytes)?;
+        self.conversation.take_turn(self.open_line.as_slice())?;
+        self.open_line.clear();
+        Ok(())
+    }
+
+    /// Answers the bytes after the last line feed, where there are any, as a line.
+    fn end_last_line(&mut self) -> Result<(), ToolError>
+        ensures { (b sent : List ℕ) → IsAt b sent self.old
+            → (whole : List ℕ) × (talk_whole whole ≡ talk b) × Goes result whole sent self.new }
+    {
+        if self.open_line.is_empty() {
+            return Ok(());
+        }
+        self.end_line(b"")
+    }
+
+    /// Answers each line that ends among these bytes, and keeps what stands after them.
+    fn take_turns(&mut self, bytes: &[u8]) -> Result<(), ToolError>
+        ensures { (b sent : List ℕ) → IsAt b sent self.old → Goes result (b ++ bytes.now) sent self.new }
+    {
+        let mut rest = bytes;
+        while let Some((line, after)) = first_line(rest) {
+            self.end_line(line)?;
+            rest = after;
+        }
+        self.keep(rest)
+    }
+
+    /// Writes the answers that were made, also those before a fault.
+    fn send<W: Write>(
+        &mut self,
+        outcome: Result<(), ToolError>,
+        writer: &mut W,
+    ) -> Result<(), ToolError>
+        ensures { (b sent : List ℕ) → Goes outcome b sent self.old
+            → Sends result b sent (W.contents writer.old) (W.contents writer.new) self.new }
+    {
+        write_out(writer, self.conversation.answers())?;
+        self.conversation.clear();
+        outcome
+    }
+
+    /// Hears more bytes, and writes the answers to the lines that end among them.
+    pub fn hear<W: Write>(&mut self, bytes: &[u8], writer: &mut W) -> Result<(), ToolError>
+        ensures { (b sent : List ℕ) → IsAt b sent self.old
+            → Sends result (b ++ bytes.now) sent (W.contents writer.old) (W.contents writer.new) self.new }
+    {
+        let outcome = self.take_turns(bytes);
+        self.send(outcome, writer)
+    }
+
+    /// Answers what stands after the last line feed.
+    pub fn finish<W: Write>(&mut self, writer: &mut W) -> Result<(), ToolError>
+        ensures { (b sent : List ℕ) → IsAt b sent self.old
+            → Finishes result b sent (W.contents writer.old) (W.contents writer.new) }
+    {
+        let outcome = self.end_last_line();
+        self.send(outcome, writer)
+    }
+}

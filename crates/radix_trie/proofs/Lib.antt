@@ -1,1 +1,3 @@
 pub mod Places
+mod Walks
+mod WalkRows

@@ -1,0 +1,7 @@
+//! Walks over the pairs of a trie, in the order of the encodings.
+
+mod halves;
+mod walk;
+
+pub use halves::{Keys, Values};
+pub use walk::Iter;

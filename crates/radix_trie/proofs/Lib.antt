@@ -1,3 +1,4 @@
 pub mod Places
 mod Walks
 mod WalkRows
+mod Present

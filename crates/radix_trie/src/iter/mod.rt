@@ -1,5 +1,6 @@
 //! Walks over the pairs of a trie, in the order of the encodings.
 
+mod children;
 mod halves;
 mod walk;
 

@@ -2,3 +2,7 @@ pub mod Shown
 pub mod Sizes
 pub mod Changes
 pub mod Held
+pub mod Places
+mod Walks
+mod WalkRows
+mod Present

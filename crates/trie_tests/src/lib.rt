@@ -5,3 +5,5 @@
 mod map_calls;
 #[cfg(test)]
 mod refused_growths;
+#[cfg(test)]
+mod walk_callers;

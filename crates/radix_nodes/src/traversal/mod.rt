@@ -2,6 +2,7 @@
 
 pub mod compare;
 pub mod find;
+pub mod height;
 pub mod insert;
 pub mod queries;
 pub mod remove;

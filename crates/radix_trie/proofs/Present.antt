@@ -1,0 +1,36 @@
+-- Items behind options: all of them are there.
+use Rattle.std.proofs.Common.{◌≡◌, ◌≤◌, List, [], ◌∷◌, ◌++◌, length, Option, Some, None, ap, sym, subst, ◌∙◌, arith}
+use Rattle.std.proofs.lemmas.List.{length-append}
+use Rattle.std.proofs.lemmas.List.Elements.{filter_map-append}
+use Rattle.std.specs.Iterator.{YieldsFirst}
+use Rattle.std.specs.Prelude.{slice_get}
+use Rattle.std.specs.List.{remove}
+use Rattle.radix_trie.specs.Present.{present}
+
+module _ {A : Type 0} where
+  pub present-push : (old new : List (Option A)) (x : A) → new ≡ old ++ Some x ∷ [] → present new ≡ present old ++ x ∷ []
+  present-push old new x is = ap present is ∙ filter_map-append (λ o. o) old (Some x ∷ [])
+
+  pub all-push : (old new : List (Option A)) (x : A) → new ≡ old ++ Some x ∷ [] → length (present old) ≡ length old → length (present new) ≡ length new
+  all-push old new x is all =
+      omega (arith, all, ap length (present-push old new x is), ap length is, length-append (present old) (x ∷ []), length-append old (Some x ∷ []))
+
+  few : (xs : List (Option A)) → length (present xs) ≤ length xs
+  few [] = omega arith
+  few (None ∷ xs) = omega (arith, few xs)
+  few (Some x ∷ xs) = omega (arith, few xs)
+
+  -- the first one is taken out
+  pub all-rest : (old new : List (Option A)) (o : Option A) → Some o ≡ slice_get old 0 → new ≡ remove old 0
+      → length (present old) ≡ length old → length (present new) ≡ length new
+  all-rest [] new o first is all = absurd (cc)
+  all-rest (None ∷ xs) new o first is all = absurd (omega (arith, few xs, all))
+  all-rest (Some x ∷ xs) new o first is all = subst (λ ys. length (present ys) ≡ length ys) (sym is) (omega (arith, all))
+
+  pub first_taken : (old new : List (Option A)) (o : Option A) → Some o ≡ slice_get old 0 → new ≡ remove old 0
+      → length (present old) ≡ length old → YieldsFirst (λ s. s) (present old) o (present new)
+  first_taken [] new o first is all = absurd (cc)
+  first_taken (None ∷ xs) new o first is all = absurd (omega (arith, few xs, all))
+  first_taken (Some x ∷ xs) new o first is all =
+      let same : o ≡ Some x = cc in
+      subst (λ p. YieldsFirst (λ s. s) (x ∷ present xs) p (present new)) (sym same) (ap (λ ys. x ∷ present ys) (sym is))

@@ -1,0 +1,14 @@
+use Rattle.std.proofs.Common.{◌≡◌, None, vec_capacity}
+use Rattle.radix_trie.specs.Walks.{pending, rows_of, HasRoom}
+use Rattle.radix_trie.proofs.Walks.{turns_left}
+use Rattle.radix_trie.proofs.iter.walk.IterIterator.next.Given as goal
+
+abbrev pub invariant-loop-nodes : goal.invariant-loop-nodes
+invariant-loop-nodes g l = record {
+  no_first : l.self-inside.first ≡ None;
+  same : pending (rows_of l.self-inside.stack.items) ≡ l.fn.self;
+  room : HasRoom (vec_capacity l.self-inside.stack) 0 (rows_of l.self-inside.stack.items);
+}
+
+abbrev pub decreases-loop-nodes : goal.decreases-loop-nodes
+decreases-loop-nodes g l = turns_left (rows_of l.self-inside.stack.items)

@@ -1,0 +1,58 @@
+-- What a walk gives, and the room that it needs.
+use Rattle.std.specs.Prelude.{ℕ, suc, ◌+◌, ◌≤◌, List, [], ◌∷◌, ◌++◌, map, Option, Some, None, Box, ⊤}
+use Rattle.std.specs.Borrow.{Bor}
+use Rattle.std.specs.declared.alloc.Global.{Global}
+use Rattle.nibble_map.specs.Kept.{Tree, Kids, none, more, entries_in, entries_at}
+use Rattle.radix_nodes.specs.declared.trie_node.KeyValue.{KeyValue}
+use Rattle.radix_nodes.specs.declared.trie_node.TrieNode.{TrieNode}
+use Rattle.radix_nodes.specs.Heights.{height_in}
+use Rattle.radix_nodes.specs.Nodes.{kids_of}
+
+-- what a `(&K, &V)` points to
+abbrev pub deref_pair : {K V : Type 0} → Bor K × Bor V → K × V
+deref_pair p = (p.0.now, p.1.now)
+
+module _ {K V : Type 0} where
+  abbrev pub parts_of : KeyValue K V → K × V
+  parts_of p = (p.key, p.value)
+
+  -- the pairs of entries, without their paths
+  abbrev pub pairs_of : List (List ℕ × KeyValue K V) → List (K × V)
+  pairs_of es = map (λ e. parts_of e.1) es
+
+  -- the pairs at and below a node, in the nodes' order: its own first, then those of one child after another
+  abbrev pub pairs_in : Tree (KeyValue K V) → List (K × V)
+  pairs_in t = pairs_of (entries_at [] t)
+
+  -- the same of several nodes
+  abbrev pub pairs_in_all : Kids (KeyValue K V) → List (K × V)
+  pairs_in_all kids = pairs_of (entries_in [] kids)
+
+  -- the pair at a node, if there is one
+  abbrev pub own_pair : Option (KeyValue K V) → List (K × V)
+  own_pair None = []
+  own_pair (Some p) = parts_of p ∷ []
+
+  abbrev pub first_pair : Option (Bor (KeyValue K V)) → List (K × V)
+  first_pair None = []
+  first_pair (Some p) = parts_of p.now ∷ []
+
+  -- the rows of a stack
+  abbrev pub rows_of : List (Bor (List (Box (TrieNode K V) Global))) → List (Kids (KeyValue K V))
+  rows_of rs = map (λ r. kids_of r.now) rs
+
+  -- what a stack has left: its last row comes first
+  abbrev pub pending : List (Kids (KeyValue K V)) → List (K × V)
+  pending [] = []
+  pending (r ∷ rs) = pending rs ++ pairs_in_all r
+
+module _ {P : Type 0} where
+  -- the rows with one more, if it isn't empty
+  abbrev pub with_row : List (Kids P) → Kids P → List (Kids P)
+  with_row rs none = rs
+  with_row rs (more f o m kids others) = rs ++ more f o m kids others ∷ []
+
+  -- a stack of the capacity `most` has room for all that comes of its rows, of which the first stands at i
+  abbrev pub HasRoom : ℕ → ℕ → List (Kids P) → Type 0
+  HasRoom most i [] = ⊤
+  HasRoom most i (r ∷ rs) = (i + height_in r ≤ most) × HasRoom most (suc i) rs

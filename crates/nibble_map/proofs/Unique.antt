@@ -56,7 +56,7 @@ pub Counts-unique : (S : List ℕ → Type 0) (m n : ℕ) → Counts S m → Cou
 Counts-unique S m n h k = sym h.length_is ∙ ap length (Lists-unique S h.list k.list h.lists k.lists) ∙ k.length_is
 
 -- a tree's entries rise
-stored_path : {P : Type 0} (ns : List (Node P)) (x : List ℕ) → Has (stored (entries ns)) x → Has (paths ns) x
+pub stored_path : {P : Type 0} (ns : List (Node P)) (x : List ℕ) → Has (stored (entries ns)) x → Has (paths ns) x
 stored_path [] x h = h
 stored_path (n ∷ ns) x h = elim (stored_cases n.path n.pair (entries ns) x h) [ inl k ↦ inl k.0 | inr k ↦ inr (stored_path ns x k) ]
 

@@ -122,3 +122,11 @@ module _ {K V : Type 0} where
 
 pub values_empty : (K V : Type 0) → values_of {K = K} {V = V} map.empty ≡ map.empty
 values_empty K V = map.empty_of_len _ (values_len map.empty ∙ map.len-empty _ (K × V))
+
+pub removed_again : {P : Type 0} (m : NibbleMap P) (e : List ℕ) (v : P) → map.get m e ≡ None → map.remove (map.insert m e v) e ≡ m
+removed_again m e v none = map.same_map nat_list_cmp_total same _ _ (λ q. map.get-remove nat_list_cmp_total (map.insert m e v) e q
+    ∙ ap (cond (eq_by_cmp (slice_cmp nat_cmp) q e) None) (map.get-insert nat_list_cmp_total m e v q) ∙ by q (eq_by_cmp (slice_cmp nat_cmp) q e) refl)
+  where
+    by : (q : List ℕ) (b : Bool) → eq_by_cmp (slice_cmp nat_cmp) q e ≡ b → cond b None (cond b (Some v) (map.get m q)) ≡ map.get m q
+    by q true t = sym (ap (map.get m) (same q e (tied _ (subst T (sym t) tt))) ∙ none)
+    by q false t = refl

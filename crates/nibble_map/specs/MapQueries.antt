@@ -1,5 +1,5 @@
 -- The answers of queries over the finite map, and when two maps are the same.
-use Rattle.std.specs.Prelude.{◌≡◌, ℕ, ◌↔◌, List, Option, Some, Bool, IsTrue}
+use Rattle.std.specs.Prelude.{◌≡◌, ℕ, ◌↔◌, List, [], ◌∷◌, Option, Some, Bool, IsTrue, ⊤}
 use Rattle.nibble_map.specs.Answers as answers
 use Rattle.nibble_map.specs.Maps.{NibbleMap, PairMap, IsStored, value_at}
 
@@ -29,3 +29,10 @@ module _ {P : Type 0} where
 pub record IsSame {K V : Type 0} (eq : V → V → Bool) (m n : PairMap K V) : Type 0 where
   pub same_lists : (e : List ℕ) → IsStored m e ↔ IsStored n e
   pub same_values : (e : List ℕ) (v w : V) → value_at m e ≡ Some v → value_at n e ≡ Some w → IsTrue (eq v w)
+
+-- the same of two lists of entries, entry by entry
+abbrev pub AreSame : {K V : Type 0} → (V → V → Bool) → List (List ℕ × (K × V)) → List (List ℕ × (K × V)) → Type 0
+AreSame eq [] [] = ⊤
+AreSame eq [] (d ∷ ds) = ⊥
+AreSame eq (e ∷ es) [] = ⊥
+AreSame eq (e ∷ es) (d ∷ ds) = (e.0 ≡ d.0) × IsTrue (eq e.1.1 d.1.1) × AreSame eq es ds

@@ -2,6 +2,7 @@
 //! The definitions stand in `specs/`; each law is a function with an empty body, whose contract is the law.
 #![tactic(auto)]
 
+pub mod canonical_laws;
 pub mod map_laws;
 pub mod query_laws;
 pub mod tree_laws;

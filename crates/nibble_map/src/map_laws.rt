@@ -1,6 +1,7 @@
 //! Laws of the finite map from nibble lists: its entries, its edits, its values alone.
 
 ghost use Rattle.nibble_map.specs.Lists.{IsRising, Lists, is_prefix};
+ghost use Rattle.nibble_map.specs.MapQueries.{AreSame, IsSame};
 ghost use Rattle.nibble_map.specs.Maps.{NibbleMap, PairMap, IsStored, below, walk, value_at, with_value, values_of};
 ghost use Rattle.nibble_map.specs.Queries as queries;
 ghost use Rattle.nibble_map.specs.Stored as stored;
@@ -8,7 +9,7 @@ ghost use Rattle.nibble_map.specs.Swaps.{Swaps, entry};
 ghost use Rattle.std.specs.Cmp.Lexicographic.{slice_cmp};
 ghost use Rattle.std.specs.FinMap as map;
 ghost use Rattle.std.specs.Ordering.{nat_cmp};
-ghost use Rattle.std.specs.Prelude.{◌&&◌, ◌↔◌, ◌≡◌, ◌≢◌, map as each, not, List, None, Option, Some, T, ℕ};
+ghost use Rattle.std.specs.Prelude.{◌&&◌, ◌↔◌, ◌≡◌, ◌≢◌, map as each, not, Bool, IsTrue, List, None, Option, Some, T, ℕ};
 
 /// What a map holds, by its list of entries: the keys are the stored lists in rising order, and the walk below a
 /// path is the entries below it.
@@ -68,4 +69,17 @@ pub fn one_value_changes<K, V>()
     ensures same_lists { (m : PairMap K V) (e : List ℕ) (w : V) (q : List ℕ) → IsStored (with_value m e w) q ↔ IsStored m q }
     ensures len { (m : PairMap K V) (e : List ℕ) (w : V) → map.len (with_value m e w) ≡ map.len m }
     ensures values { (m : PairMap K V) (e : List ℕ) (w : V) (p : K × V) → map.get m e ≡ Some p → values_of (with_value m e w) ≡ map.insert (values_of m) e w }
+{}
+
+/// The removal of a list that an insertion added gives the map back.
+pub fn removal_undoes_insertion<P>()
+    ensures { (m : NibbleMap P) (e : List ℕ) (v : P) → map.get m e ≡ None → map.remove (map.insert m e v) e ≡ m }
+{}
+
+/// Being the same map goes both ways and on where the value type's `==` does, and is seen entry by entry.
+pub fn sameness_follows_the_values<K, V>()
+    ensures reflexive { (eq : V → V → Bool) → ((v : V) → IsTrue (eq v v)) → (m : PairMap K V) → IsSame eq m m }
+    ensures symmetric { (eq : V → V → Bool) → ((v w : V) → IsTrue (eq v w) → IsTrue (eq w v)) → (m n : PairMap K V) → IsSame eq m n → IsSame eq n m }
+    ensures transitive { (eq : V → V → Bool) → ((u v w : V) → IsTrue (eq u v) → IsTrue (eq v w) → IsTrue (eq u w)) → (m n o : PairMap K V) → IsSame eq m n → IsSame eq n o → IsSame eq m o }
+    ensures entries { (eq : V → V → Bool) (m n : PairMap K V) → IsSame eq m n ↔ AreSame eq (map.entries m) (map.entries n) }
 {}

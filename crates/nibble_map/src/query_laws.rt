@@ -1,12 +1,14 @@
 //! Laws of points and of the answers of queries.
 
+ghost use Rattle.nibble_map.specs.Computed as computed;
+ghost use Rattle.nibble_map.specs.Lists.{IsPrefix, IsStrictPrefix, Lists};
 ghost use Rattle.nibble_map.specs.MapQueries as map_queries;
 ghost use Rattle.nibble_map.specs.Maps as maps;
 ghost use Rattle.nibble_map.specs.Maps.{NibbleMap, IsStored};
 ghost use Rattle.nibble_map.specs.Queries as queries;
 ghost use Rattle.nibble_map.specs.Stored as stored;
 ghost use Rattle.std.specs.FinMap as map;
-ghost use Rattle.std.specs.Prelude.{◌↔◌, List, Option, ℕ};
+ghost use Rattle.std.specs.Prelude.{◌↔◌, ◌≡◌, IsTrue, List, Option, Some, ℕ};
 
 /// The points of a map and the prefixes of its stored lists are those of its entries.
 pub fn points_by_entries<P>()
@@ -34,4 +36,43 @@ pub fn stored_lists_decide<P, Q>()
     ensures fragment { (m : NibbleMap P) (n : NibbleMap Q) → ((e : List ℕ) → IsStored m e ↔ IsStored n e) → (p f : List ℕ) → map_queries.IsFragment m p f → map_queries.IsFragment n p f }
     ensures kids { (m : NibbleMap P) (n : NibbleMap Q) → ((e : List ℕ) → IsStored m e ↔ IsStored n e) → (p : List ℕ) (qs : List (List ℕ)) → map_queries.AreKids m p qs → map_queries.AreKids n p qs }
     ensures compared { (m : NibbleMap P) (n : NibbleMap Q) → ((e : List ℕ) → IsStored m e ↔ IsStored n e) → (e : List ℕ) (k : ℕ) → map_queries.IsCompared m e k → map_queries.IsCompared n e k }
+{}
+
+/// Each query has one answer.
+pub fn answers_are_unique<P>()
+    ensures ancestor { (m : NibbleMap P) (e : List ℕ) (a b : Option (List ℕ)) → map_queries.IsAncestor m e a → map_queries.IsAncestor m e b → a ≡ b }
+    ensures raw_ancestor { (m : NibbleMap P) (e p q : List ℕ) → map_queries.IsRawAncestor m e p → map_queries.IsRawAncestor m e q → p ≡ q }
+    ensures raw_descendant { (m : NibbleMap P) (e : List ℕ) (a b : Option (List ℕ)) → map_queries.IsRawDescendant m e a → map_queries.IsRawDescendant m e b → a ≡ b }
+    ensures fragment { (m : NibbleMap P) (p f g : List ℕ) → map_queries.IsFragment m p f → map_queries.IsFragment m p g → f ≡ g }
+    ensures kids { (m : NibbleMap P) (p : List ℕ) (qs rs : List (List ℕ)) → map_queries.AreKids m p qs → map_queries.AreKids m p rs → qs ≡ rs }
+    ensures compared { (m : NibbleMap P) (e : List ℕ) (j k : ℕ) → map_queries.IsCompared m e j → map_queries.IsCompared m e k → j ≡ k }
+{}
+
+/// The slow lists of points and of prefixes are those of the definitions, and so is the slow test of a point.
+pub fn computed_points<P>()
+    ensures points { (m : List (List ℕ × P)) → Lists (stored.IsPoint m) (computed.points m) }
+    ensures prefixes { (m : List (List ℕ × P)) → Lists (stored.IsStem m) (computed.prefixes m) }
+    ensures is_point { (m : List (List ℕ × P)) (p : List ℕ) → stored.IsPoint m p ↔ IsTrue (computed.is_point m p) }
+{}
+
+/// A slow answer is the one answer of its relation.
+pub fn computed_answers<P>()
+    ensures ancestor { (m : List (List ℕ × P)) (e : List ℕ) (a : Option (List ℕ)) → queries.IsAncestor m e a ↔ (a ≡ computed.ancestor m e) }
+    ensures raw_ancestor { (m : List (List ℕ × P)) (e p : List ℕ) → queries.IsRawAncestor m e p ↔ (p ≡ computed.raw_ancestor m e) }
+    ensures raw_descendant { (m : List (List ℕ × P)) (e : List ℕ) (a : Option (List ℕ)) → queries.IsRawDescendant m e a ↔ (a ≡ computed.raw_descendant m e) }
+    ensures fragment { (m : List (List ℕ × P)) (p f : List ℕ) → queries.IsFragment m p f ↔ (f ≡ computed.fragment m p) }
+    ensures kids { (m : List (List ℕ × P)) (p : List ℕ) (qs : List (List ℕ)) → queries.AreKids m p qs ↔ (qs ≡ computed.kids m p) }
+    ensures compared { (m : List (List ℕ × P)) (e : List ℕ) (k : ℕ) → queries.IsCompared m e k ↔ (k ≡ computed.compared m e) }
+{}
+
+/// Where the query is a point, the longest point above it and the shortest below it are that point.
+pub fn points_answer_themselves<P>()
+    ensures raw_ancestor { (m : NibbleMap P) (p : List ℕ) → maps.IsPoint m p → (a : List ℕ) → map_queries.IsRawAncestor m p a ↔ (a ≡ p) }
+    ensures raw_descendant { (m : NibbleMap P) (p : List ℕ) → maps.IsPoint m p → (a : Option (List ℕ)) → map_queries.IsRawDescendant m p a ↔ (a ≡ Some p) }
+{}
+
+/// Each stored list strictly below a path is at or below exactly one of the path's kids.
+pub fn one_kid_leads_to_each_list<P>()
+    ensures { (m : NibbleMap P) (p e : List ℕ) → IsStored m e → IsStrictPrefix p e
+        → (q : List ℕ) × map_queries.IsKid m p q × IsPrefix q e × ((r : List ℕ) → map_queries.IsKid m p r → IsPrefix r e → r ≡ q) }
 {}

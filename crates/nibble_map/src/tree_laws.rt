@@ -1,7 +1,6 @@
 //! Laws of the tree of fragments: the local shape is the set of points.
 
 ghost use Rattle.nibble_map.specs.Canonical.{IsCanonicalAt, IsLocal};
-ghost use Rattle.nibble_map.specs.Computed.{points, prefixes};
 ghost use Rattle.nibble_map.specs.Lists.{Lists, Counts, Each, IsRising};
 ghost use Rattle.nibble_map.specs.Queries.{IsFragment, IsCompared};
 ghost use Rattle.nibble_map.specs.Stored.{IsStored, IsPoint, IsStem, stored, IsSetAt, IsCutAt};
@@ -53,12 +52,6 @@ pub fn one_list<V>()
 /// A search's count of compared nibbles.
 pub fn count_is_compared<V>()
     ensures { (t : Tree V) → IsShaped 0 t.kids → (e : List ℕ) → IsCompared (entries (nodes t)) e (walked t.kids e) }
-{}
-
-/// The slow lists of points and prefixes are those of the definitions.
-pub fn slow_lists<V>()
-    ensures points { (m : List (List ℕ × V)) → Lists (IsPoint m) (points m) }
-    ensures prefixes { (m : List (List ℕ × V)) → Lists (IsStem m) (prefixes m) }
 {}
 
 /// An entry can be set in a shaped tree, and taken out of it, so that it stays shaped.

@@ -1,0 +1,5 @@
+use Rattle.nibble_map.proofs.OneTree.{node_count, nibble_count, few_nodes, fragments_are, search_count}
+use Rattle.nibble_map.proofs.canonical_laws.canonical_trees_tell_the_map.Goals as goal
+
+pub returns : goal.returns
+returns g c = record { nodes = node_count; nibbles = nibble_count; few = few_nodes; fragments = fragments_are; compared = search_count }

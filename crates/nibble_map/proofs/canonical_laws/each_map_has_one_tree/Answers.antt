@@ -1,0 +1,5 @@
+use Rattle.nibble_map.proofs.OneTree.{has_tree, one_tree}
+use Rattle.nibble_map.proofs.canonical_laws.each_map_has_one_tree.Goals as goal
+
+pub returns : goal.returns
+returns g c = record { one = has_tree; only = one_tree }

@@ -1,0 +1,5 @@
+use Rattle.nibble_map.proofs.OneKid.{own_ancestor, own_descendant}
+use Rattle.nibble_map.proofs.query_laws.points_answer_themselves.Goals as goal
+
+pub returns : goal.returns
+returns g c = record { raw_ancestor = λ m. own_ancestor _; raw_descendant = λ m. own_descendant _ }

@@ -13,4 +13,5 @@ pub mod Computed
 pub mod Rows
 pub mod Masks
 pub mod Kept
+pub mod KeptSame
 pub mod Alters

@@ -334,7 +334,7 @@ module _ {P K V : Type 0} (row : P → K × V) (eq : V → V → Bool) where
     kids_same (test row eq) 0 0 k l s s' (
       λ x i. stored_kid row p l s' n en (plain k) s x i ((h.same_lists x).0 (kid_stored row o k s m em x i)),
       λ x i. stored_kid row o k s m em (plain l) s' x i ((h.same_lists x).1 (kid_stored row p l s' n en x i)),
-      λ x v w i j. h.same_values x _ _ (kid_value row o k s m em x v i) (kid_value row p l s' n en x w j)
+      λ x v w i j. h.same_values x _ _ (kid_value row o k s m em x v i) (kid_value row p l s' n en x w j),
     ),
   )
 

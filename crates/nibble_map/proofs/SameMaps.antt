@@ -1,8 +1,8 @@
 -- When two maps are the same under the value type's own `==`.
-use Rattle.std.proofs.Common.{◌≡◌, ℕ, ◌↔◌, List, [], ◌∷◌, Option, Some, None, Bool, T, is_some, option_map, refl, sym, ap, subst, ◌∙◌, inl, inr}
+use Rattle.std.proofs.Common.{◌≡◌, ℕ, ◌↔◌, List, [], ◌∷◌, map as each, Option, Some, None, Bool, T, true, false, is_some, option_map, refl, sym, ap, subst, ◌∙◌, inl, inr}
 use Rattle.std.specs.Prelude.{IsTrue}
 use Rattle.std.specs.FinMap as map
-use Rattle.nibble_map.specs.Lists.{Has, IsBefore, IsRising}
+use Rattle.nibble_map.specs.Lists.{Has, Each, IsBefore, IsRising}
 use Rattle.nibble_map.specs.Maps.{PairMap, IsStored, value_at}
 use Rattle.nibble_map.specs.MapQueries.{IsSame, AreSame}
 use Rattle.nibble_map.specs.Stored.{stored}

@@ -3,4 +3,5 @@
 pub mod compare;
 pub mod insert;
 pub mod remove;
+pub mod same;
 pub mod step;

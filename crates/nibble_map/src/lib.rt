@@ -5,5 +5,6 @@
 pub mod canonical_laws;
 pub mod map_laws;
 pub mod query_laws;
+pub mod same_laws;
 pub mod tree_laws;
 pub mod worked_rows;

@@ -3,3 +3,4 @@ pub mod Steps
 pub mod Removes
 pub mod Searches
 pub mod Sizes
+pub mod SameNodes

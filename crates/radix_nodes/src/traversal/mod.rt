@@ -7,4 +7,5 @@ pub mod insert;
 pub mod queries;
 pub mod remove;
 pub mod size;
+pub mod same;
 pub mod step;

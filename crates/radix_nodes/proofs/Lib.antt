@@ -3,3 +3,5 @@ pub mod Steps
 pub mod Removes
 pub mod Searches
 pub mod Sizes
+pub mod Lent
+pub mod Lending

@@ -3,6 +3,7 @@
 pub mod compare;
 pub mod find;
 pub mod insert;
+pub mod lend;
 pub mod queries;
 pub mod remove;
 pub mod size;

@@ -99,11 +99,11 @@ module _ (K V : RattleType) where
       LendsSo node_box (the_row K V) s r (λ b w. IfSome r (λ x. Replaces path (tree_of x.now) (tree_of w) (tree_of s.now.value) (tree_of b.value)))
       (λ b. KeepsNode r path (tree_of s.now.value) (tree_of b.value))
 
-  -- the same of the value at the path
-  abbrev pub LendsValue : MutBor (Box (TrieNode K.Denot V.Denot) Global) → List ℕ → Option (MutBor V.Denot) → Fml
+  -- the node ends with the last value written through r at the path, and at `None` as it was
+  abbrev pub LendsValue : MutBor (TrieNode K.Denot V.Denot) → List ℕ → Option (MutBor V.Denot) → Fml
   LendsValue s path r =
-      LendsSo node_box V s r (λ b w. IfSome r (λ x. Revalues path x.now w (tree_of s.now.value) (tree_of b.value)) × IsLike (tree_of s.now.value) (tree_of b.value))
-      (λ b. KeepsValue r path (tree_of s.now.value) (tree_of b.value))
+      LendsSo (the_row K V) V s r (λ n w. IfSome r (λ x. Revalues path x.now w (tree_of s.now) (tree_of n)) × IsLike (tree_of s.now) (tree_of n))
+      (λ n. KeepsValue r path (tree_of s.now) (tree_of n))
 
   abbrev pub LendsChildBox : MutBor (TrieNode K.Denot V.Denot) → ℕ → MutBor (Box (TrieNode K.Denot V.Denot) Global) → Fml
   LendsChildBox s i r = Lends (the_row K V) node_box s r (with_child s.now i)

@@ -92,18 +92,22 @@ pub fn pair_value<K, V>(pair: &mut Option<Box<KeyValue<K, V>>>) -> Option<&mut V
     }
 }
 
-/// The value at the key's place, for writing.
-pub fn value_below_mut<'a, K, V>(
-    top: &'a mut Box<TrieNode<K, V>>,
+/// The value at the key's place, for writing: None exactly where no pair stands there.
+pub fn value_at_mut<'a, K, V>(
+    root: &'a mut TrieNode<K, V>,
     key: &Nibblet,
-    depth: usize,
 ) -> Option<&'a mut V>
-    requires depth { depth ≤ length key.now }
-    requires placed { IsTreePlaced (tree_of top.old.value) }
-    ensures* writes_back { sem 𝓛 (LendsValue K.row V.row top.entry (fragment_of top.old.value ++ drop depth key.now) result) }
+    requires { IsTreePlaced (tree_of root.old) }
+    ensures* writes_back { sem 𝓛 (LendsValue K.row V.row root.entry (fragment_of root.old ++ key.now) result) }
 {
-    match node_below_mut(top, key, depth) {
-        Some(node) => pair_value(&mut node.pair),
+    if key.len() == 0 {
+        return pair_value(&mut root.pair);
+    }
+    match step(root, key, 0) {
+        Some((i, next)) => match node_below_mut(child_box(root, i), key, next) {
+            Some(node) => pair_value(&mut node.pair),
+            None => None,
+        },
         None => None,
     }
 }

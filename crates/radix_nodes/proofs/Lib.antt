@@ -4,3 +4,5 @@ pub mod Removes
 pub mod Searches
 pub mod Sizes
 pub mod SameNodes
+pub mod Lent
+pub mod Lending

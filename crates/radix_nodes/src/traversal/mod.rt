@@ -4,6 +4,7 @@ pub mod compare;
 pub mod find;
 pub mod height;
 pub mod insert;
+pub mod lend;
 pub mod queries;
 pub mod remove;
 pub mod size;

@@ -1,3 +1,4 @@
 pub mod Nodes
 pub mod Steps
 pub mod Removes
+pub mod FewKids

@@ -6,3 +6,4 @@ pub mod Sizes
 pub mod SameNodes
 pub mod Lent
 pub mod Lending
+pub mod FewKids

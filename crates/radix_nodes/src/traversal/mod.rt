@@ -1,5 +1,6 @@
 //! Walks down the nodes.
 
+pub mod children;
 pub mod compare;
 pub mod find;
 pub mod height;

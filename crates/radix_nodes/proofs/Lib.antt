@@ -2,3 +2,4 @@ pub mod Nodes
 pub mod Steps
 pub mod Removes
 pub mod SameNodes
+pub mod CopiedNodes

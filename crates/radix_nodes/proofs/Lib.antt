@@ -7,3 +7,4 @@ pub mod SameNodes
 pub mod Lent
 pub mod Lending
 pub mod FewKids
+pub mod CopiedNodes

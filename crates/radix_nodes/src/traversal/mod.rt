@@ -4,6 +4,7 @@ pub mod children;
 pub mod compare;
 pub mod find;
 pub mod height;
+pub mod copied;
 pub mod insert;
 pub mod lend;
 pub mod queries;

@@ -190,3 +190,27 @@ module _ {P : Type 0} where
   at_reach i none c a = absurd a
   at_reach zero (more f o m kids others) c a = let e = ap (λ (t : Tree P). length t.fragment + reach t.kids) a in omega (arith, e)
   at_reach (suc i) (more f o m kids others) c a = omega (arith, at_reach i others c a)
+
+  -- a path leads to one node
+  one_kid : (low : ℕ) (k : Kids P) (x : List ℕ) (u v : Tree P) → IsPlaced low k → IsKidAt k x u → IsKidAt k x v → u ≡ v
+  one_kid low none x u v h i j = absurd i
+  one_kid low (more f o m kids others) x u v h (inl i) (inl j) = i.1 ∙ sym j.1
+  one_kid low (more f o m kids others) x u v h (inl i) (inr (inl j)) = absurd (no_kid_here kids v h.3 (subst (λ y. IsKidAt kids y v) (shorter f j.0 (sym j.1 ∙ i.0)) j.2))
+  one_kid low (more f o m kids others) x u v h (inr (inl i)) (inl j) = absurd (no_kid_here kids u h.3 (subst (λ y. IsKidAt kids y u) (shorter f i.0 (sym i.1 ∙ j.0)) i.2))
+  one_kid low (more f o m kids others) x u v h (inr (inl i)) (inr (inl j)) =
+      one_kid 0 kids i.0 u v h.3 i.2 (subst (λ y. IsKidAt kids y v) (cancel f j.0 i.0 (sym j.1 ∙ i.1)) j.2)
+  one_kid low (more f o m kids others) x u v h (inr (inr i)) (inr (inr j)) = one_kid (suc (first f)) others x u v h.4 i j
+  one_kid low (more f o m kids others) x u v h (inl i) (inr (inr j)) =
+      let r = kid_headed (suc (first f)) others x v h.4 j in absurd (let a = ap first i.0 in let b = ap first r.2 in omega (arith, a, b, r.3))
+  one_kid low (more f o m kids others) x u v h (inr (inr i)) (inl j) =
+      let r = kid_headed (suc (first f)) others x u h.4 i in absurd (let a = ap first j.0 in let b = ap first r.2 in omega (arith, a, b, r.3))
+  one_kid low (more f o m kids others) x u v h (inr (inl i)) (inr (inr j)) =
+      let r = kid_headed (suc (first f)) others x v h.4 j in absurd (let a = ap first i.1 ∙ begins f i.0 h.0 in let b = ap first r.2 in omega (arith, a, b, r.3))
+  one_kid low (more f o m kids others) x u v h (inr (inr i)) (inr (inl j)) =
+      let r = kid_headed (suc (first f)) others x u h.4 i in absurd (let a = ap first j.1 ∙ begins f j.0 h.0 in let b = ap first r.2 in omega (arith, a, b, r.3))
+
+  pub one_node : (t : Tree P) (x : List ℕ) (u v : Tree P) → IsTreePlaced t → IsNodeAt t x u → IsNodeAt t x v → u ≡ v
+  one_node t x u v h (inl i) (inl j) = i.1 ∙ sym j.1
+  one_node t x u v h (inl i) (inr j) = absurd (no_kid_here t.kids v h.1 (subst (λ y. IsKidAt t.kids y v) (shorter t.fragment j.0 (sym j.1 ∙ i.0)) j.2))
+  one_node t x u v h (inr i) (inl j) = absurd (no_kid_here t.kids u h.1 (subst (λ y. IsKidAt t.kids y u) (shorter t.fragment i.0 (sym i.1 ∙ j.0)) i.2))
+  one_node t x u v h (inr i) (inr j) = one_kid 0 t.kids i.0 u v h.1 i.2 (subst (λ y. IsKidAt t.kids y v) (cancel t.fragment j.0 i.0 (sym j.1 ∙ i.1)) j.2)

@@ -1,6 +1,8 @@
 -- When two kept trees are alike, and when one is a copy of another.
-use Rattle.std.specs.Prelude.{◌≡◌, ℕ, ◌&&◌, Bool, true, false, List, [], ◌∷◌, map, nat_eq, Option, Some, None, ⊤}
+use Rattle.std.specs.Prelude.{◌≡◌, ◌↔◌, ℕ, ◌&&◌, Bool, true, false, List, [], ◌∷◌, map, nat_eq, Option, Some, None, ⊤}
 use Rattle.std.specs.Cmp.Lexicographic.{pointwise}
+use Rattle.std.specs.FinMap as fin
+use Rattle.nibble_map.specs.Maps.{NibbleMap, IsStored}
 use Rattle.nibble_map.specs.Kept.{Tree, Kids, none, more, IsTreePlaced, IsFullBelow, entries_at}
 
 -- a root: its fragment is empty, the children are at their places, and each node below has a pair or two children
@@ -61,3 +63,12 @@ module _ {P : Type 0} (R : P → P → Type 0) where
   AreEntryCopies [] (d ∷ ds) = ⊥
   AreEntryCopies (e ∷ es) [] = ⊥
   AreEntryCopies (e ∷ es) (d ∷ ds) = (d.0 ≡ e.0) × R e.1 d.1 × AreEntryCopies es ds
+
+-- y's key and value are clones of x's, as their types' own `clone` gives them
+abbrev pub IsPairClone : {K V : Type 0} → (K → K → Type 0) → (V → V → Type 0) → K × V → K × V → Type 0
+IsPairClone is_key_clone is_value_clone x y = is_key_clone x.0 y.0 × is_value_clone x.1 y.1
+
+-- the same stored lists, and R holds of the pairs at each
+pub record IsMapCopy {P : Type 0} (R : P → P → Type 0) (m n : NibbleMap P) : Type 0 where
+  pub same_lists : (e : List ℕ) → IsStored m e ↔ IsStored n e
+  pub copied_pairs : (e : List ℕ) (x y : P) → fin.get m e ≡ Some x → fin.get n e ≡ Some y → R x y

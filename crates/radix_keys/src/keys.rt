@@ -67,7 +67,7 @@ impl TrieKey for String {
     #[tactic(auto, using(crate::proofs::Order::byte_order))]
     fn encode(&self, alloc: Global) -> Result<Nibblet, Memory>
         ensures ok { IfOk result (λ v. v ≡ nibbles (string_bytes self.now)) }
-        ensures value { OnOk result (Unit {0}) }
+        ensures value { OnOk result (⟦<String as TrieKey>⟧.is_value self.now) }
         ensures light { IsShort (nibbles (string_bytes self.now)) → IsOk result }
         ensures order { KeepsByteOrder }
     {
@@ -90,7 +90,7 @@ impl TrieKey for &str {
     #[tactic(auto, using(crate::proofs::Order::byte_order))]
     fn encode(&self, alloc: Global) -> Result<Nibblet, Memory>
         ensures ok { IfOk result (λ v. v ≡ nibbles self.now.now) }
-        ensures value { OnOk result (Unit {0}) }
+        ensures value { OnOk result (⟦<&'static str as TrieKey>⟧.is_value self.now) }
         ensures light { IsShort (nibbles self.now.now) → IsOk result }
         ensures order { KeepsByteOrder }
     {
@@ -113,7 +113,7 @@ impl TrieKey for &[u8] {
     #[tactic(auto, using(crate::proofs::Order::byte_order))]
     fn encode(&self, alloc: Global) -> Result<Nibblet, Memory>
         ensures ok { IfOk result (λ v. v ≡ nibbles self.now.now) }
-        ensures value { OnOk result (Unit {0}) }
+        ensures value { OnOk result (⟦<&'static [u8] as TrieKey>⟧.is_value self.now) }
         ensures light { IsShort (nibbles self.now.now) → IsOk result }
         ensures order { KeepsByteOrder }
     {

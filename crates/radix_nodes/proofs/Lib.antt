@@ -4,3 +4,7 @@ pub mod Removes
 pub mod Searches
 pub mod Sizes
 pub mod SameNodes
+pub mod Lent
+pub mod Lending
+pub mod FewKids
+pub mod CopiedNodes

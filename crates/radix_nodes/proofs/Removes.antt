@@ -219,12 +219,12 @@ module _ {K V : Type 0} where
   pub no_kids : (n : TrieNode K V) → length (out-TrieNode K V n).children.items ≡ 0 → (tree_of n).kids ≡ none
   no_kids n e = kids_out n ∙ end_kids _ e
 
-  kid_new : (n : TrieNode K V) (i : ℕ) (b' : Box (TrieNode K V) Global) → let o = out-TrieNode K V n in
+  pub kid_new : (n : TrieNode K V) (i : ℕ) (b' : Box (TrieNode K V) Global) → let o = out-TrieNode K V n in
       tree_of (roll-TrieNode K V record { fragment = o.fragment; pair = o.pair; mask = o.mask; children = with_item o.children i b' }) ≡ with_kid i (tree_of b'.value) (tree_of n)
   kid_new n i b' = kids_are n _ ∙ ap (λ k. record { fragment = (tree_of n).fragment; pair = (tree_of n).pair; mask = (tree_of n).mask; kids = k })
       (kids_set (out-TrieNode K V n).children.items i b' ∙ ap (set_kid i (tree_of b'.value)) (sym (kids_out n)))
 
-  kid_kept : (n : TrieNode K V) (i : ℕ) (b b' : Box (TrieNode K V) Global) → let o = out-TrieNode K V n in
+  pub kid_kept : (n : TrieNode K V) (i : ℕ) (b b' : Box (TrieNode K V) Global) → let o = out-TrieNode K V n in
       IsTreePlaced (tree_of n) → i < length o.children.items → get_or o.children.items i b ≡ b → tree_of b'.value ≡ tree_of b.value →
       tree_of (roll-TrieNode K V record { fragment = o.fragment; pair = o.pair; mask = o.mask; children = with_item o.children i b' }) ≡ tree_of n
   kid_kept n i b b' h lt at e =

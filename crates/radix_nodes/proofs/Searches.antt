@@ -71,7 +71,7 @@ module _ {K V : Type 0} where
     start : first (drop depth key) ≡ first (tree_of m).fragment
     start = ap first (sym path) ∙ begins (tree_of m).fragment (drop next key) (at_placed 0 i (tree_of n).kids (tree_of m) at h.1).0
 
-    whole : fragment_of m ++ drop next key ≡ drop depth key
+    pub whole : fragment_of m ++ drop next key ≡ drop depth key
     whole = ap (λ f. f ++ drop next key) (sym (fragment_out m)) ∙ path
 
     pub found_up : (u : Tree (KeyValue K V)) → IsNodeAt (tree_of m) (fragment_of m ++ drop next key) u → IsNodeAt (tree_of n) (fragment_of n ++ drop depth key) u

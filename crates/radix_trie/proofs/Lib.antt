@@ -2,7 +2,6 @@ pub mod Shown
 pub mod Sizes
 pub mod Changes
 pub mod Held
-pub mod Places
 mod Walks
 mod WalkRows
 mod Present

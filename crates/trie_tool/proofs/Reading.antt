@@ -15,7 +15,7 @@ use Rattle.std.proofs.lemmas.List.Sums.{suffix_len_is}
 use Rattle.std.proofs.lemmas.List.Elements.{All-from_get_or}
 use Rattle.std.proofs.lemmas.Str.{is_utf8-from_IsUtf8, IsUtf8-from_is_utf8}
 use Rattle.std.proofs.lemmas.List.Folds.{list_any_at, list_any_none}
-use Rattle.trie_tool.specs.Request.{number_of, is_space, has_space, insert_of, keyed_request, worded_request, request_of, Request, Insert, Len}
+use Rattle.trie_tool.specs.Request.{number_of, is_space, has_space, insert_of, keyed_request, lone_request, worded_request, request_of, Request, Insert, Len}
 
 own : IsNumeralModel (λ ds. all_ascii_digits ds ≡ true) (digits_value 10)
 own = numerals_by_value _ tells_all_ascii_digits
@@ -103,14 +103,14 @@ has_space_no (x ∷ xs) e =
     ] e
 
 abbrev worded_by : List ℕ → Bool → Option Request
-worded_by s h = if h then keyed_request (before_first is_space s) (after_first is_space s) else (if bytes_eq s (codes "len") then Some Len else None)
+worded_by s h = if h then keyed_request (before_first is_space s) (after_first is_space s) else lone_request s
 
 pub with_space : (s word rest : List ℕ) → position_or_len is_space s < length s → word ≡ before_first is_space s → rest ≡ after_first is_space s
     → keyed_request word rest ≡ worded_request s
 with_space s word rest lt w r =
     sym (ap (worded_by s) (has_space_yes s lt) ∙ ap (λ (l : List ℕ). keyed_request l (after_first is_space s)) (sym w) ∙ ap (λ (l : List ℕ). keyed_request word l) (sym r))
 
-pub without_space : (s : List ℕ) → position_or_len is_space s ≡ length s → (if bytes_eq s (codes "len") then Some Len else None) ≡ worded_request s
+pub without_space : (s : List ℕ) → position_or_len is_space s ≡ length s → lone_request s ≡ worded_request s
 without_space s e = sym (ap (worded_by s) (has_space_no s e))
 
 pub is_text : (s : List ℕ) → IsUtf8 s → worded_request s ≡ request_of s

@@ -1,10 +1,12 @@
 -- What the code's commands stand for.
 use Rattle.trie_tool.specs.declared.command.Command.{Command}
-use Rattle.trie_tool.specs.declared.command.Command.TheVariants.{Insert, Get, Len}
+use Rattle.trie_tool.specs.declared.command.Command.TheVariants.{Insert, Get, Remove, Len, Foot}
 use Rattle.trie_tool.specs.Request as asked
 use Rattle.trie_tool.specs.Request.{Request}
 
 abbrev pub request : Command → Request
 request (Insert key number) = asked.Insert key.now number
 request (Get key) = asked.Get key.now
+request (Remove key) = asked.Remove key.now
 request Len = asked.Len
+request Foot = asked.Foot

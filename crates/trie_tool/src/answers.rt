@@ -1,7 +1,7 @@
 //! Carrying out a command, and the whole answer to it.
 ghost use Rattle.std.specs.Prelude.{◌≡◌, ◌++◌, ◌∷◌, [], IfOk, OnOk, string_bytes, decimal};
 ghost use Rattle.trie_tool.specs.Command.{request};
-ghost use Rattle.trie_tool.specs.Request.{answer_to, numbers_after, insert_answer, get_answer};
+ghost use Rattle.trie_tool.specs.Request.{answer_to, numbers_after, insert_answer, get_answer, foot_answer};
 ghost use Rattle.nibble_map.specs.Maps.{values_of};
 
 use crate::command::Command;
@@ -34,6 +34,16 @@ fn len_answer(alloc: Global, count: usize) -> Result<String, AllocError>
     format!(in alloc; "{count}\n")
 }
 
+fn foot_answer(alloc: Global, points: u128, prefixes: u128) -> Result<String, AllocError>
+    ensures { IfOk result (λ a. string_bytes a ≡ foot_answer (points, prefixes)) }
+{
+    let mut text = format!(in alloc; "{points}")?;
+    text.push_str(" ")?;
+    let second = format!(in alloc; "{prefixes}\n")?;
+    text.push_str(second.as_str())?;
+    Ok(text)
+}
+
 /// Carries out a command, and gives its whole answer.
 pub fn answer(alloc: Global, numbers: &mut Numbers, command: Command<'_>) -> Result<String, Memory>
     ensures text { IfOk result (λ a. string_bytes a ≡ answer_to (request command.entry) (values_of numbers.old)) }
@@ -44,7 +54,12 @@ pub fn answer(alloc: Global, numbers: &mut Numbers, command: Command<'_>) -> Res
             insert_answer(alloc, numbers::insert(alloc, numbers, key, number)?)?
         }
         Command::Get(key) => get_answer(alloc, numbers::get(numbers, key)?)?,
+        Command::Remove(key) => get_answer(alloc, numbers::remove(numbers, key)?)?,
         Command::Len => len_answer(alloc, numbers::len(numbers))?,
+        Command::Foot => {
+            let (points, prefixes) = numbers::footprint(numbers);
+            foot_answer(alloc, points, prefixes)?
+        }
     };
     Ok(text)
 }

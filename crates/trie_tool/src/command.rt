@@ -1,6 +1,6 @@
 //! Reading a line as a command.
 ghost use Rattle.std.specs.Prelude.{◌≡◌, option_map, IfSome, MatchOption, None, Some};
-ghost use Rattle.trie_tool.specs.Request.{request_of, worded_request, keyed_request, number_of, insert_of};
+ghost use Rattle.trie_tool.specs.Request.{request_of, worded_request, keyed_request, lone_request, number_of, insert_of};
 ghost use Rattle.trie_tool.specs.Command.{request};
 ghost use Rattle.std.specs.List.{list_all};
 ghost use Rattle.std.specs.Char.{is_ascii_digit};
@@ -9,7 +9,9 @@ ghost use Rattle.std.specs.Char.{is_ascii_digit};
 pub enum Command<'a> {
     Insert(&'a str, u64),
     Get(&'a str),
+    Remove(&'a str),
     Len,
+    Foot,
 }
 
 fn all_digits(text: &str) -> bool
@@ -45,6 +47,20 @@ fn keyed<'a>(word: &str, rest: &'a str) -> Option<Command<'a>>
         Some(Command::Get(rest))
     } else if word == "insert" {
         insertion(rest)
+    } else if word == "remove" {
+        Some(Command::Remove(rest))
+    } else {
+        None
+    }
+}
+
+fn lone<'a>(word: &str) -> Option<Command<'a>>
+    ensures { option_map request result ≡ lone_request word.now }
+{
+    if word == "len" {
+        Some(Command::Len)
+    } else if word == "foot" {
+        Some(Command::Foot)
     } else {
         None
     }
@@ -56,13 +72,7 @@ fn worded(text: &str) -> Option<Command<'_>>
 {
     match text.split_once(' ') {
         Some((word, rest)) => keyed(word, rest),
-        None => {
-            if text == "len" {
-                Some(Command::Len)
-            } else {
-                None
-            }
-        }
+        None => lone(text),
     }
 }
 

@@ -1,6 +1,6 @@
 //! Laws of the definitions, and worked lines.
 ghost use Rattle.std.specs.Prelude.{◌≡◌, ℕ, List, [], ◌∷◌, ◌++◌, Some, None, IsTrue, IsFalse, codes, flat_map};
-ghost use Rattle.trie_tool.specs.Request.{request_of, Insert, Get, Len};
+ghost use Rattle.trie_tool.specs.Request.{request_of, Insert, Get, Len, Remove, Foot};
 ghost use Rattle.trie_tool.specs.Talk.{cut, talk, said, number_of_bad};
 
 /// Cutting loses no byte: the lines, each with its line feed, and the bytes after them are the text.
@@ -16,7 +16,10 @@ pub fn worked_lines()
     ensures empty_key { request_of (codes "insert  5") ≡ Some (Insert [] 5) }
     ensures get { request_of (codes "get a b") ≡ Some (Get (codes "a b")) }
     ensures get_empty { request_of (codes "get ") ≡ Some (Get []) }
+    ensures remove { request_of (codes "remove a b") ≡ Some (Remove (codes "a b")) }
     ensures len { request_of (codes "len") ≡ Some Len }
+    ensures foot { request_of (codes "foot") ≡ Some Foot }
+    ensures foot_and_space { request_of (codes "foot ") ≡ None }
     ensures no_value { request_of (codes "insert x") ≡ None }
     ensures sign { request_of (codes "insert x +5") ≡ None }
     ensures capital { request_of (codes "Len") ≡ None }

@@ -1,6 +1,7 @@
 //! The trie of numbers, each at the key of a text.
 ghost use Rattle.std.specs.Prelude.{◌≡◌, IfOk, OnOk, OnErr};
 ghost use Rattle.std.specs.FinMap as map;
+ghost use Rattle.nibble_map.specs.Computed.{footprint};
 ghost use Rattle.nibble_map.specs.Nibbles.{nibbles};
 ghost use Rattle.nibble_map.specs.Maps.{values_of};
 
@@ -36,6 +37,21 @@ pub fn get(numbers: &Numbers, key: &str) -> Result<Option<u64>, Memory>
     ensures { IfOk result (λ found. found ≡ map.get (values_of numbers.now) (nibbles key.now)) }
 {
     Ok(numbers.get(&key)?.copied())
+}
+
+/// Takes the number at this key away. After a refusal the trie is as before.
+pub fn remove(numbers: &mut Numbers, key: &str) -> Result<Option<u64>, Memory>
+    ensures old_number { IfOk result (λ old. old ≡ map.get (values_of numbers.old) (nibbles key.now)) }
+    ensures removed { OnOk result (values_of numbers.new ≡ map.remove (values_of numbers.old) (nibbles key.now)) }
+{
+    numbers.remove(&key)
+}
+
+/// The count of points, and the count of distinct non-empty prefixes of the keys' nibbles.
+pub fn footprint(numbers: &Numbers) -> (u128, u128)
+    ensures { result ≡ footprint (map.entries (values_of numbers.now)) }
+{
+    numbers.footprint()
 }
 
 /// The count of numbers.

@@ -60,3 +60,15 @@ returns-clause-too_large c = refl
 pub returns-clause-no_text : goal.returns-clause-no_text
 unfolding request_of is_utf8 chars encode
 returns-clause-no_text c = refl
+
+pub returns-clause-remove : goal.returns-clause-remove
+unfolding request_of is_utf8 chars encode
+returns-clause-remove c = refl
+
+pub returns-clause-foot : goal.returns-clause-foot
+unfolding request_of is_utf8 chars encode
+returns-clause-foot c = refl
+
+pub returns-clause-foot_and_space : goal.returns-clause-foot_and_space
+unfolding request_of is_utf8 chars encode
+returns-clause-foot_and_space c = refl

@@ -107,11 +107,12 @@ module _ {K V : Type 0} where
       ∙ ap (λ x. (own_pair o ++ pairs_of (entries_in (q ++ f) kids)) ++ x) (anywhere p q others)
       ∙ sym (split q f o m kids others)
 
-  pub pairs_in-node : (t : Tree (KeyValue K V)) → pairs_in t ≡ own_pair t.pair ++ pairs_in_all t.kids
-  pairs_in-node t =
-      append-pairs (entry t.fragment t.pair) (entries_in t.fragment t.kids)
-      ∙ ap (λ x. x ++ pairs_of (entries_in t.fragment t.kids)) (entry-pairs t.fragment t.pair)
-      ∙ ap (λ x. own_pair t.pair ++ x) (anywhere t.fragment [] t.kids)
+  -- a node's own pair, and those below it: the path above makes no difference
+  pub pairs_at : (q : List ℕ) (t : Tree (KeyValue K V)) → pairs_of (entries_at q t) ≡ own_pair t.pair ++ pairs_in_all t.kids
+  pairs_at q t =
+      append-pairs (entry (q ++ t.fragment) t.pair) (entries_in (q ++ t.fragment) t.kids)
+      ∙ ap (λ x. x ++ pairs_of (entries_in (q ++ t.fragment) t.kids)) (entry-pairs (q ++ t.fragment) t.pair)
+      ∙ ap (λ x. own_pair t.pair ++ x) (anywhere (q ++ t.fragment) [] t.kids)
 
   pending-push : (rs : List (Kids (KeyValue K V))) (r : Kids (KeyValue K V)) → pending (rs ++ r ∷ []) ≡ pairs_in_all r ++ pending rs
   pending-push [] r = sym (append-nil (pairs_in_all r))
@@ -124,7 +125,7 @@ module _ {K V : Type 0} where
   pub start_pairs : (t : Tree (KeyValue K V)) (rows : List (Kids (KeyValue K V))) → rows ≡ with_row [] t.kids
       → own_pair t.pair ++ pending rows ≡ pairs_in t
   start_pairs t rows is =
-      ap (λ x. own_pair t.pair ++ x) (ap pending is ∙ pending-with_row [] t.kids ∙ append-nil (pairs_in_all t.kids)) ∙ sym (pairs_in-node t)
+      ap (λ x. own_pair t.pair ++ x) (ap pending is ∙ pending-with_row [] t.kids ∙ append-nil (pairs_in_all t.kids)) ∙ sym (pairs_at [] t)
 
   -- a turn, as above
   module _ (old rs : List (Kids (KeyValue K V))) (r : Kids (KeyValue K V)) (top : old ≡ rs ++ r ∷ []) where
@@ -138,7 +139,7 @@ module _ {K V : Type 0} where
         let below = pairs_in_all t.kids in
         let beside = pairs_in_all others in
         ap pending top ∙ pending-push rs r
-        ∙ ap (λ x. x ++ pending rs) (ap pairs_in_all is ∙ append-pairs (entries_at [] t) (entries_in [] others) ∙ ap (λ x. x ++ beside) (pairs_in-node t))
+        ∙ ap (λ x. x ++ pending rs) (ap pairs_in_all is ∙ append-pairs (entries_at [] t) (entries_in [] others) ∙ ap (λ x. x ++ beside) (pairs_at [] t))
         ∙ append_assoc (own ++ below) beside (pending rs)
         ∙ append_assoc own below (beside ++ pending rs)
         ∙ ap (λ x. own ++ (below ++ x)) (sym (pending-with_row rs others))

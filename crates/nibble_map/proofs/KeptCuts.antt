@@ -8,7 +8,7 @@ use Rattle.nibble_map.specs.Masks.{bit_of}
 use Rattle.nibble_map.specs.Kept.{Tree, Kids, none, more, IsAt, plain, firsts, IsPlaced, IsTreePlaced, IsTreeFull, entries_in, entries_at, nodes_in, nibbles_in, remove_kid, without_pair, without_kid, IsOne, merged_into, merged}
 use Rattle.nibble_map.specs.Alters.{AltersKid, AltersRoot, AltersNode, CutsRoot}
 use Rattle.nibble_map.proofs.Masks.{cleared_is, bit_before, eqb_other}
-use Rattle.nibble_map.proofs.KeptKids.{swaps_after, placed_rises}
+use Rattle.nibble_map.proofs.KeptKids.{swaps_after, placed_rises, at_after}
 
 module _ {P : Type 0} where
   pub placed_from : (low lower : ℕ) (k : Kids P) → lower ≤ low → IsPlaced low k → IsPlaced lower k
@@ -20,11 +20,6 @@ module _ {P : Type 0} where
   remove_placed low i none h = tt
   remove_placed low zero (more f o m kids others) h = placed_from (suc (first f)) low others (omega (arith, h.1)) h.4
   remove_placed low (suc i) (more f o m kids others) h = (h.0, h.1, h.2, h.3, remove_placed (suc (first f)) i others h.4)
-
-  at_after : (low i : ℕ) (k : Kids P) (t : Tree P) → IsAt i k t → IsPlaced low k → low ≤ first t.fragment
-  at_after low i none t a h = absurd a
-  at_after low zero (more f o m kids others) t a h = subst (λ (t : Tree P). low ≤ first t.fragment) (sym a) h.1
-  at_after low (suc i) (more f o m kids others) t a h = omega (arith, h.1, at_after (suc (first f)) i others t a h.4)
 
   pub remove_bits : (low i : ℕ) (k : Kids P) (t : Tree P) (n : ℕ) → IsAt i k t → IsPlaced low k → bit_of n (firsts (remove_kid i k)) ≡ cond (first t.fragment == n) 0 (bit_of n (firsts k))
   remove_bits low i none t n a h = absurd a

@@ -1,5 +1,5 @@
 -- One child is written, or comes.
-use Rattle.std.proofs.Common.{◌≡◌, ◌≢◌, ℕ, zero, suc, ◌+◌, ◌≤◌, cond, ◌==◌, Bool, true, false, List, [], ◌∷◌, ◌++◌, length, refl, ap, sym, subst, ◌∙◌, arith, inl, inr, append_assoc}
+use Rattle.std.proofs.Common.{◌≡◌, ◌≢◌, ℕ, zero, suc, ◌+◌, ◌≤◌, ◌<◌, cond, ◌==◌, Bool, true, false, List, [], ◌∷◌, ◌++◌, length, refl, ap, sym, subst, ◌∙◌, arith, inl, inr, append_assoc}
 use Rattle.std.proofs.lemmas.Bool.{le-ltb}
 use Rattle.std.proofs.lemmas.Bool.Decides.{eqb_tells, leb_tells}
 use Rattle.nibble_map.specs.Trees.{AreMany, IsFull, first}
@@ -40,6 +40,12 @@ module _ {P : Type 0} where
   at_placed low zero (more f o m kids others) t a h =
       subst (λ t. (t.fragment ≢ []) × IsTreePlaced t) (sym a) (h.0, (h.2, h.3))
   at_placed low (suc i) (more f o m kids others) t a h = at_placed (suc (first f)) i others t a h.4
+
+  -- and begins no lower than the first
+  pub at_after : (low i : ℕ) (k : Kids P) (t : Tree P) → IsAt i k t → IsPlaced low k → low ≤ first t.fragment
+  at_after low i none t a h = absurd a
+  at_after low zero (more f o m kids others) t a h = subst (λ (t : Tree P). low ≤ first t.fragment) (sym a) h.1
+  at_after low (suc i) (more f o m kids others) t a h = omega (arith, h.1, at_after (suc (first f)) i others t a h.4)
 
   -- a child is written
   pub set_firsts : (i : ℕ) (k : Kids P) (t u : Tree P) → IsAt i k t → first u.fragment ≡ first t.fragment → firsts (set_kid i u k) ≡ firsts k
@@ -157,3 +163,15 @@ module _ {P : Type 0} where
   set_same i none t a = refl
   set_same zero (more f o m kids others) t a = ap (λ t. front t others) a
   set_same (suc i) (more f o m kids others) t a = ap (λ k. more f o m kids k) (set_same i others t a)
+
+  -- only one child is at i
+  pub at_same : (i : ℕ) (k : Kids P) (t u : Tree P) → IsAt i k t → IsAt i k u → u ≡ t
+  at_same i none t u a b = absurd a
+  at_same zero (more f o m kids others) t u a b = b ∙ sym a
+  at_same (suc i) (more f o m kids others) t u a b = at_same i others t u a b
+
+  -- and one is where there are so many
+  pub some_at : (i : ℕ) (k : Kids P) → i < length (firsts k) → (u : Tree P) × IsAt i k u
+  some_at i none l = absurd (omega (arith, l))
+  some_at zero (more f o m kids others) l = (record { fragment = f; pair = o; mask = m; kids = kids }, refl)
+  some_at (suc i) (more f o m kids others) l = some_at i others (omega (arith, l))

@@ -14,3 +14,6 @@ pub mod Rows
 pub mod Masks
 pub mod Kept
 pub mod Alters
+pub mod KeptPaths
+pub mod Agreement
+pub mod KeptSizes

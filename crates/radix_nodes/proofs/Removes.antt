@@ -1,5 +1,5 @@
 -- The steps of a removal, at nodes.
-use Rattle.std.proofs.Common.{◌≡◌, ◌≢◌, ◌⊎◌, ℕ, zero, suc, ◌-◌, ◌<◌, List, [], ◌∷◌, ◌++◌, length, get_or, Option, Some, None, IsSome, refl, ap, sym, subst, ◌∙◌, arith, inl, inr, Result, Ok, Err, IfOk, Vec, ◌^◌, MatchOption}
+use Rattle.std.proofs.Common.{◌≡◌, ◌≢◌, ◌⊎◌, ℕ, zero, suc, ◌+◌, ◌-◌, ◌<◌, ◌≤◌, List, [], ◌∷◌, ◌++◌, length, get_or, Option, Some, None, IsSome, refl, ap, sym, subst, ◌∙◌, arith, inl, inr, Result, Ok, Err, IfOk, IsOk, OnErr, false, true, Vec, ◌^◌, MatchOption}
 use Rattle.std.specs.declared.boxed.Box.{Box}
 use Rattle.std.specs.declared.alloc.Global.{Global}
 use Rattle.std.specs.List.{remove}
@@ -12,8 +12,12 @@ use Rattle.nibble_map.specs.Alters.{Cuts, CutsRoot}
 use Rattle.radix_nodes.specs.Nodes.{unboxed, tree_of, kids_of, fragment_of, CutOutcome, RootOutcome}
 use Rattle.radix_nodes.specs.declared.traversal.remove.Taken.{Taken}
 use Rattle.radix_nodes.proofs.Nodes.{tree_roll, tree_out, pair_is, mask_is, kids_are, kids_set, kids_out, pair_out, mask_out, fragment_out}
-use Rattle.radix_nodes.proofs.Steps.{is_at}
-use Rattle.nibble_map.proofs.KeptKids.{set_same}
+use Rattle.radix_nodes.proofs.Steps.{is_at, kid_held, kid_free}
+use Rattle.std.proofs.lemmas.Bool.Decides.{leb_tells}
+use Rattle.nibble_map.specs.Nibbles.{IsShort}
+use Rattle.nibble_map.specs.KeptPaths.{reach}
+use Rattle.nibble_map.proofs.KeptPaths.{at_reach}
+use Rattle.nibble_map.proofs.KeptKids.{set_same, at_same, some_at}
 use Rattle.nibble_map.proofs.KeptEdits.{kid_alters, node_kid}
 use Rattle.std.specs.Vec.{with_item}
 use Rattle.radix_keys.specs.declared.nibbles.Memory.{Memory}
@@ -22,6 +26,11 @@ use Rattle.nibble_map.proofs.KeptCuts.{pair_goes, leaf_goes, root_kid, merged_ki
 pub if_ok : {A E : Type 0} (P Q : A → Type 0) (r : Result A E) → IfOk r P → ((a : A) → P a → Q a) → IfOk r Q
 if_ok P Q (Ok a) h f = f a h
 if_ok P Q (Err e) h f = h
+
+-- what is refused is long
+pub refused : {A E : Type 0} {Q : Type 0} (r : Result A E) (xs : List ℕ) → (IsShort xs → IsOk r) → (32 < length xs → Q) → OnErr r Q
+refused (Ok a) xs h f = tt
+refused (Err e) xs h f = f (elim (leb_tells (length xs) 32) [ inl l ↦ absurd (let i : false ≡ true = h l.1 in cc i) | inr l ↦ omega (arith, l.1) ])
 
 pub some_not : {A : Type 0} (o : Option A) → IsSome o → o ≢ None
 some_not None s = cc
@@ -33,11 +42,6 @@ same_at (x ∷ xs) zero a b lt p q = sym p ∙ q
 same_at (x ∷ xs) (suc i) a b lt p q = same_at xs i a b (omega (arith, lt)) p q
 
 module _ {P : Type 0} where
-  pub at_same : (i : ℕ) (k : Kids P) (t u : Tree P) → IsAt i k t → IsAt i k u → u ≡ t
-  at_same i none t u a b = absurd a
-  at_same zero (more f o m kids others) t u a b = b ∙ sym a
-  at_same (suc i) (more f o m kids others) t u a b = at_same i others t u a b
-
   pub merged_fragment : (q f : List ℕ) (k : Kids P) → IsOne k → ((u : Tree P) → IsAt 0 k u → f ≡ q ++ u.fragment) → f ≡ (merged_into q k).fragment
   merged_fragment q f none o h = absurd o
   merged_fragment q f (more g p m kids none) o h = h (record { fragment = g; pair = p; mask = m; kids = kids }) refl
@@ -107,6 +111,11 @@ module _ {K V : Type 0} where
       tree_of (roll-TrieNode K V (let x = out-TrieNode K V n in record { fragment = x.fragment; pair = o; mask = x.mask; children = x.children })) ≡ without_pair (tree_of n)
   unpaired n o e = pair_is n o ∙ ap (λ p. record { fragment = (tree_of n).fragment; pair = unboxed p; mask = (tree_of n).mask; kids = (tree_of n).kids }) e
 
+  pub unpaired_same : (n : TrieNode K V) (o : Option (Box (KeyValue K V) Global)) → o ≡ None → unboxed (out-TrieNode K V n).pair ≡ None →
+      tree_of (roll-TrieNode K V (let x = out-TrieNode K V n in record { fragment = x.fragment; pair = o; mask = x.mask; children = x.children })) ≡ tree_of n
+  unpaired_same n o e bare =
+      unpaired n o e ∙ ap (λ p. record { fragment = (tree_of n).fragment; pair = p; mask = (tree_of n).mask; kids = (tree_of n).kids }) (sym (pair_out n ∙ bare))
+
   module _ (n : TrieNode K V) (x : KeyValue K V) (held : Some x ≡ unboxed (out-TrieNode K V n).pair) (h : IsTreePlaced (tree_of n)) where
     is : (tree_of n).pair ≡ Some x
     is = pair_out n ∙ sym held
@@ -147,6 +156,15 @@ module _ {K V : Type 0} where
   pub firsts_are : (n : TrieNode K V) → length (firsts (tree_of n).kids) ≡ length (out-TrieNode K V n).children.items
   firsts_are n = ap (λ k. length (firsts k)) (kids_out n) ∙ kids_length _
 
+  -- what was refused is longer than a path's longest
+  pub long_path : (n : TrieNode K V) (i : ℕ) → i < length (out-TrieNode K V n).children.items →
+      ((u : Tree (KeyValue K V)) → IsAt i (tree_of n).kids u → 32 < length (fragment_of n) + length u.fragment) → 32 < length (tree_of n).fragment + reach (tree_of n).kids
+  long_path n i lt h =
+      let s = some_at i (tree_of n).kids (let f = firsts_are n in omega (arith, lt, f)) in
+      let r = at_reach i (tree_of n).kids s.0 s.1 in
+      let e = ap length (fragment_out n) in
+      omega (arith, h s.0 s.1, r, e)
+
   -- a leaf that was taken out, by what was made of it
   module _ (n leaf : TrieNode K V) (i : ℕ) (u : Tree (KeyValue K V)) (h : IsTreePlaced (tree_of n)) (fits : (out-TrieNode K V n).mask < 2 ^ 16) (at : IsAt i (tree_of n).kids (tree_of leaf)) (asked : IsAt i (tree_of n).kids u)
       (ends : u.kids ≡ none) (y : ℕ) (start : first (tree_of leaf).fragment ≡ y) (low : y < 16) where
@@ -184,6 +202,11 @@ module _ {K V : Type 0} where
       own (inr l) (inl s) = inl s
       own (inr l) (inr m) = inr (many_removed i (tree_of n).kids m (λ e. l (sym (firsts_are n) ∙ e)))
 
+  -- the path of the child at i
+  pub leaf_path : (n : TrieNode K V) (i : ℕ) (b : Box (TrieNode K V) Global) (u : Tree (KeyValue K V)) → IsTreePlaced (tree_of n) → i < length (out-TrieNode K V n).children.items →
+      get_or (out-TrieNode K V n).children.items i b ≡ b → IsAt i (tree_of n).kids u → fragment_of n ++ u.fragment ≡ fragment_of n ++ fragment_of b.value
+  leaf_path n i b u h lt at a = ap (λ (t : Tree (KeyValue K V)). fragment_of n ++ t.fragment) (child_is n i b u h lt at a) ∙ ap (λ f. fragment_of n ++ f) (fragment_out b.value)
+
   pub held : (n leaf : TrieNode K V) (i : ℕ) (b : Box (TrieNode K V) Global) → IsTreePlaced (tree_of n) → i < length (out-TrieNode K V n).children.items → get_or (out-TrieNode K V n).children.items i b ≡ b →
       IsAt i (tree_of n).kids (tree_of leaf) → IsSome (unboxed (out-TrieNode K V b.value).pair) → unboxed (out-TrieNode K V leaf).pair ≢ None
   held n leaf i b h lt at is s e =
@@ -196,37 +219,41 @@ module _ {K V : Type 0} where
   pub no_kids : (n : TrieNode K V) → length (out-TrieNode K V n).children.items ≡ 0 → (tree_of n).kids ≡ none
   no_kids n e = kids_out n ∙ end_kids _ e
 
-  kid_new : (n : TrieNode K V) (i : ℕ) (b' : Box (TrieNode K V) Global) → let o = out-TrieNode K V n in
+  pub kid_new : (n : TrieNode K V) (i : ℕ) (b' : Box (TrieNode K V) Global) → let o = out-TrieNode K V n in
       tree_of (roll-TrieNode K V record { fragment = o.fragment; pair = o.pair; mask = o.mask; children = with_item o.children i b' }) ≡ with_kid i (tree_of b'.value) (tree_of n)
   kid_new n i b' = kids_are n _ ∙ ap (λ k. record { fragment = (tree_of n).fragment; pair = (tree_of n).pair; mask = (tree_of n).mask; kids = k })
       (kids_set (out-TrieNode K V n).children.items i b' ∙ ap (set_kid i (tree_of b'.value)) (sym (kids_out n)))
 
-  kid_kept : (n : TrieNode K V) (i : ℕ) (b b' : Box (TrieNode K V) Global) → let o = out-TrieNode K V n in
+  pub kid_kept : (n : TrieNode K V) (i : ℕ) (b b' : Box (TrieNode K V) Global) → let o = out-TrieNode K V n in
       IsTreePlaced (tree_of n) → i < length o.children.items → get_or o.children.items i b ≡ b → tree_of b'.value ≡ tree_of b.value →
       tree_of (roll-TrieNode K V record { fragment = o.fragment; pair = o.pair; mask = o.mask; children = with_item o.children i b' }) ≡ tree_of n
   kid_kept n i b b' h lt at e =
       kid_new n i b' ∙ ap (λ t. with_kid i t (tree_of n)) e
       ∙ ap (λ k. record { fragment = (tree_of n).fragment; pair = (tree_of n).pair; mask = (tree_of n).mask; kids = k }) (set_same i (tree_of n).kids (tree_of b.value) (is_at n i b h lt at))
 
+  reach_below : (n : TrieNode K V) (i : ℕ) (b : Box (TrieNode K V) Global) → IsTreePlaced (tree_of n) → i < length (out-TrieNode K V n).children.items → get_or (out-TrieNode K V n).children.items i b ≡ b →
+      length (tree_of b.value).fragment + reach (tree_of b.value).kids ≤ reach (tree_of n).kids
+  reach_below n i b h lt at = at_reach i (tree_of n).kids (tree_of b.value) (is_at n i b h lt at)
+
   pub kid_cut : (n : TrieNode K V) (i : ℕ) (b b' : Box (TrieNode K V) Global) (r : Result (Option (Taken K V)) Memory) (p path : List ℕ) →
       let o = out-TrieNode K V n in
-      IsTreePlaced (tree_of n) → i < length o.children.items → get_or o.children.items i b ≡ b → path ≡ o.fragment ++ p → CutOutcome r p (tree_of b.value) (tree_of b'.value) →
+      IsTreePlaced (tree_of n) → i < length o.children.items → get_or o.children.items i b ≡ b → path ≡ o.fragment ++ p → p ≢ [] → first p ≡ first (fragment_of b.value) → CutOutcome r p (tree_of b.value) (tree_of b'.value) →
       CutOutcome r path (tree_of n) (tree_of (roll-TrieNode K V record { fragment = o.fragment; pair = o.pair; mask = o.mask; children = with_item o.children i b' }))
-  kid_cut n i b b' (Ok (Some t)) p path h lt at ep s =
+  kid_cut n i b b' (Ok (Some t)) p path h lt at ep some start s =
       let e = kid_alters (tree_of n) (tree_of b.value) (tree_of b'.value) i p (Some t.pair) None 0 t.nodes 0 t.nibbles h (is_at n i b h lt at) s in
       rw (kid_new n i b', ep, ← fragment_out n) (node_kid _ _ _ _ _ _ _ _ _ e)
-  kid_cut n i b b' (Ok None) p path h lt at ep s = kid_kept n i b b' h lt at s
-  kid_cut n i b b' (Err x) p path h lt at ep s = kid_kept n i b b' h lt at s
+  kid_cut n i b b' (Ok None) p path h lt at ep some start s = (kid_kept n i b b' h lt at s.0, kid_free n i b h p path lt at ep some start s.1)
+  kid_cut n i b b' (Err x) p path h lt at ep some start s = (kid_kept n i b b' h lt at s.0, kid_held n i b h p path lt at ep s.1, (let r = reach_below n i b h lt at in omega (arith, r, s.2)))
 
   pub kid_root : (n : TrieNode K V) (i : ℕ) (b b' : Box (TrieNode K V) Global) (r : Result (Option (Taken K V)) Memory) (p path : List ℕ) →
       let o = out-TrieNode K V n in
-      IsTreePlaced (tree_of n) → i < length o.children.items → get_or o.children.items i b ≡ b → path ≡ o.fragment ++ p → CutOutcome r p (tree_of b.value) (tree_of b'.value) →
+      IsTreePlaced (tree_of n) → i < length o.children.items → get_or o.children.items i b ≡ b → path ≡ o.fragment ++ p → p ≢ [] → first p ≡ first (fragment_of b.value) → CutOutcome r p (tree_of b.value) (tree_of b'.value) →
       RootOutcome r path (tree_of n) (tree_of (roll-TrieNode K V record { fragment = o.fragment; pair = o.pair; mask = o.mask; children = with_item o.children i b' }))
-  kid_root n i b b' (Ok (Some t)) p path h lt at ep s =
+  kid_root n i b b' (Ok (Some t)) p path h lt at ep some start s =
       let e = kid_alters (tree_of n) (tree_of b.value) (tree_of b'.value) i p (Some t.pair) None 0 t.nodes 0 t.nibbles h (is_at n i b h lt at) s in
       rw (kid_new n i b', ep, ← fragment_out n) e.root
-  kid_root n i b b' (Ok None) p path h lt at ep s = kid_kept n i b b' h lt at s
-  kid_root n i b b' (Err x) p path h lt at ep s = kid_kept n i b b' h lt at s
+  kid_root n i b b' (Ok None) p path h lt at ep some start s = (kid_kept n i b b' h lt at s.0, kid_free n i b h p path lt at ep some start s.1)
+  kid_root n i b b' (Err x) p path h lt at ep some start s = (kid_kept n i b b' h lt at s.0, kid_held n i b h p path lt at ep s.1, (let r = reach_below n i b h lt at in omega (arith, r, s.2)))
 
   pub pair_root : (n : TrieNode K V) (x : KeyValue K V) (t' : Tree (KeyValue K V)) (path : List ℕ) → Some x ≡ unboxed (out-TrieNode K V n).pair → IsTreePlaced (tree_of n) → t' ≡ without_pair (tree_of n) →
       path ≡ fragment_of n → CutsRoot path x 0 0 (tree_of n) t'

@@ -1,7 +1,7 @@
 -- The steps of an insertion, at nodes.
-use Rattle.std.proofs.Common.{◌≡◌, ◌≢◌, ℕ, zero, suc, ◌+◌, ◌-◌, ◌<◌, ◌≤◌, List, [], ◌∷◌, ◌++◌, length, get_or, take, drop, slice_index, Option, Some, None, refl, ap, sym, subst, ◌∙◌, arith, append-nil, Result, Ok, Err, drop-drop}
-use Rattle.std.proofs.lemmas.List.{length-drop, length-take, take-append-drop}
-use Rattle.std.proofs.Math.Seq.{take-length}
+use Rattle.std.proofs.Common.{◌≡◌, ◌≢◌, ◌⊎◌, ℕ, zero, suc, ◌+◌, ◌-◌, ◌<◌, ◌≤◌, ◌^◌, List, [], ◌∷◌, ◌++◌, length, get_or, take, drop, slice_index, Option, Some, None, IsSome, false, true, refl, ap, sym, subst, ◌∙◌, arith, inl, inr, append-nil, append_assoc, Result, Ok, Err, drop-drop}
+use Rattle.std.proofs.lemmas.List.{get_or-drop, length-drop, length-take, length-append, take-append-drop}
+use Rattle.std.proofs.Math.Seq.{take-length, drop-length}
 use Rattle.std.specs.declared.boxed.Box.{Box}
 use Rattle.std.specs.declared.alloc.Global.{Global}
 use Rattle.std.specs.Vec.{with_item}
@@ -9,12 +9,19 @@ use Rattle.nibble_map.specs.Trees.{first}
 use Rattle.radix_nodes.specs.declared.trie_node.KeyValue.{KeyValue}
 use Rattle.radix_nodes.specs.declared.traversal.insert.Change.{Change}
 use Rattle.radix_nodes.specs.declared.trie_node.TrieNode.{TrieNode, out-TrieNode, roll-TrieNode}
-use Rattle.nibble_map.specs.Masks.{IsPlaceOf, IsMask, IsRisingFrom}
+use Rattle.nibble_map.specs.Lists.{IsPrefix}
+use Rattle.nibble_map.specs.Masks.{IsPlaceOf, IsMask, IsRisingFrom, bit_of}
+use Rattle.nibble_map.specs.KeptPaths.{IsNodeAt, IsHeld, IsStuck}
+use Rattle.nibble_map.specs.Agreement.{Agrees}
+use Rattle.nibble_map.proofs.Agreement.{agrees_some, agrees_whole, agrees_off}
+use Rattle.radix_nodes.specs.declared.traversal.compare.Agreement.{Agreement}
+use Rattle.nibble_map.proofs.Cut.{cancel}
+use Rattle.nibble_map.proofs.KeptPaths.{begins, own_free, own_held, held_node, held_up, held_down, stuck_unheld, stuck_gap, stuck_kid}
 use Rattle.nibble_map.specs.Kept.{Tree, IsAt, set_kid, firsts, IsTreePlaced, with_pair, with_kid, with_new_kid, leaf, lowered}
 use Rattle.nibble_map.specs.Alters.{Replaces, Edits}
-use Rattle.radix_nodes.specs.Nodes.{unboxed, tree_of, kids_of, fragment_of, EditOutcome, ReplaceOutcome, SetOutcome}
+use Rattle.radix_nodes.specs.Nodes.{unboxed, tree_of, kids_of, fragment_of, IsMet, IsStep, EditOutcome, ReplaceOutcome, SetOutcome}
 use Rattle.radix_nodes.proofs.Nodes.{pair_is, kids_are, kids_at, kids_set, kids_out, pair_out, mask_out, fragment_out}
-use Rattle.nibble_map.proofs.KeptKids.{placed_rises, at_placed, at_first, set_same}
+use Rattle.nibble_map.proofs.KeptKids.{at_same, placed_rises, at_placed, at_first, set_same}
 use Rattle.nibble_map.proofs.Masks.{rank_within, rank_most}
 use Rattle.nibble_map.proofs.KeptEdits.{pair_edits, kid_alters, node_kid, leaf_edits, split_here, split_leaf}
 
@@ -50,6 +57,20 @@ pub split_some : (f key : List ℕ) (depth n y : ℕ) → f ≢ [] → first f �
 split_some [] key depth n y s e k l apart = absurd (s refl)
 split_some (a ∷ f) key depth zero y s e k l apart = absurd (apart (omega arith) (omega (arith, l)) (e ∙ k ∙ ap (slice_index key) (let i : depth ≡ depth + 0 = omega arith in i)))
 split_some (a ∷ f) key depth (suc n) y s e k l apart = omega arith
+
+pub joined_some : (f y : List ℕ) → f ≢ [] → f ++ y ≢ []
+joined_some [] y n = absurd (n refl)
+joined_some (a ∷ f) y n = λ e. (let i : a ∷ (f ++ y) ≡ [] = e in cc i)
+
+pub take_first : (f : List ℕ) (n : ℕ) → 0 < n → first (take n f) ≡ first f
+take_first f zero l = absurd (omega (arith, l))
+take_first [] (suc n) l = refl
+take_first (a ∷ f) (suc n) l = refl
+
+-- a node's path begins with the tree's fragment
+begun : {P : Type 0} (t : Tree P) (p : List ℕ) (u : Tree P) → IsNodeAt t p u → IsPrefix t.fragment p
+begun t p u (inl d) = ([], d.0 ∙ sym (append-nil t.fragment))
+begun t p u (inr d) = (d.0, d.1)
 
 module _ {K V : Type 0} where
   -- a leaf comes
@@ -94,7 +115,29 @@ module _ {K V : Type 0} where
     s.0,
     pair_is n at ∙ ap (λ p. record { fragment = (tree_of n).fragment; pair = unboxed p; mask = (tree_of n).mask; kids = (tree_of n).kids }) s.1
         ∙ ap (λ p. record { fragment = (tree_of n).fragment; pair = p; mask = (tree_of n).mask; kids = (tree_of n).kids }) (sym (pair_out n)),
+    λ d. own_free (tree_of n) h (pair_out n ∙ s.2) (subst (λ p. IsHeld (tree_of n) p) (ap (λ r. (out-TrieNode K V n).fragment ++ r) end ∙ append-nil _ ∙ sym (fragment_out n)) d),
   )
+
+  -- a leaf can't come: nothing is held there
+  pub gap_free : (n : TrieNode K V) (key : List ℕ) (depth i : ℕ) → IsTreePlaced (tree_of n) → depth < length key → IsPlaceOf (slice_index key depth) (firsts (tree_of n).kids) (Err i) →
+      IsHeld (tree_of n) (fragment_of n ++ drop depth key) → ⊥
+  gap_free n key depth i h lt at d =
+      stuck_unheld (tree_of n) (drop depth key) (drop_some key depth lt)
+      (stuck_gap (tree_of n) (drop depth key) h (ap (λ y. bit_of y (firsts (tree_of n).kids)) (first_drop key depth) ∙ at.0))
+      (subst (λ f. IsHeld (tree_of n) (f ++ drop depth key)) (sym (fragment_out n)) d)
+
+  -- nothing is held where a list parts from a fragment
+  pub parted_free : (n : TrieNode K V) (key : List ℕ) (depth k : ℕ) → k < length (fragment_of n) →
+      (depth < length key → slice_index (fragment_of n) k ≢ slice_index key depth) → IsHeld (tree_of n) (take k (fragment_of n) ++ drop depth key) → ⊥
+  parted_free n key depth k lt apart d =
+      let f = fragment_of n in
+      let r = held_node (tree_of n) _ d in
+      let z = begun (tree_of n) _ r.0 r.2 in
+      let whole : take k f ++ drop depth key ≡ take k f ++ (drop k f ++ z.0) = z.1 ∙ ap (λ g. g ++ z.0) (fragment_out n ∙ sym (take-append-drop k f)) ∙ append_assoc (take k f) (drop k f) z.0 in
+      let rest : drop depth key ≡ drop k f ++ z.0 = cancel (take k f) (drop depth key) (drop k f ++ z.0) whole in
+      let size = ap length rest in
+      let a = length-drop depth key in let b = length-drop k f in let c = length-append (drop k f) z.0 in
+      apart (omega (arith, size, a, b, c, lt)) (sym (first_drop f k) ∙ sym (begins (drop k f) z.0 (drop_some f k lt)) ∙ ap first (sym rest) ∙ first_drop key depth)
 
   pub edit_replaces : (r : Result (Change K V) (KeyValue K V)) (x : KeyValue K V) (p : List ℕ) (old new : Tree (KeyValue K V)) → EditOutcome r x p old new → ReplaceOutcome r x p old new
   edit_replaces (Ok change) x p old new e = node_kid _ _ _ _ _ _ _ _ _ e
@@ -108,11 +151,22 @@ module _ {K V : Type 0} where
     pub is_at : i < length items → get_or items i b ≡ b → IsAt i (tree_of n).kids (tree_of b.value)
     is_at lt at = subst (λ k. IsAt i k (tree_of b.value)) (sym (kids_out n)) (kids_at items i b lt at)
 
+    -- what the child holds, and what it lacks
+    pub kid_held : (p path : List ℕ) → i < length items → get_or items i b ≡ b → path ≡ fragment_of n ++ p → IsHeld (tree_of b.value) p → IsHeld (tree_of n) path
+    kid_held p path lt at ep d =
+        subst (λ q. IsHeld (tree_of n) q) (sym (ep ∙ ap (λ f. f ++ p) (sym (fragment_out n)))) (held_down (tree_of n) (tree_of b.value) i h (is_at lt at) p d)
+
+    pub kid_free : (p path : List ℕ) → i < length items → get_or items i b ≡ b → path ≡ fragment_of n ++ p → p ≢ [] → first p ≡ first (fragment_of b.value) →
+        (IsHeld (tree_of b.value) p → ⊥) → IsHeld (tree_of n) path → ⊥
+    kid_free p path lt at ep some start free d =
+        free (held_up (tree_of n) (tree_of b.value) i h (is_at lt at) p some (start ∙ ap first (sym (fragment_out b.value)))
+        (subst (λ q. IsHeld (tree_of n) q) (ep ∙ ap (λ f. f ++ p) (sym (fragment_out n))) d))
+
     pub kid_step : (r : Result (Change K V) (KeyValue K V)) (b' : Box (TrieNode K V) Global) (x : KeyValue K V) (p path : List ℕ) →
         let o = out-TrieNode K V n in
-        i < length items → get_or items i b ≡ b → path ≡ o.fragment ++ p → ReplaceOutcome r x p (tree_of b.value) (tree_of b'.value) →
+        i < length items → get_or items i b ≡ b → path ≡ o.fragment ++ p → p ≢ [] → first p ≡ first (fragment_of b.value) → ReplaceOutcome r x p (tree_of b.value) (tree_of b'.value) →
         EditOutcome r x path (tree_of n) (tree_of (roll-TrieNode K V record { fragment = o.fragment; pair = o.pair; mask = o.mask; children = with_item o.children i b' }))
-    kid_step (Ok change) b' x p path lt at ep s =
+    kid_step (Ok change) b' x p path lt at ep some start s =
         let e = kid_alters (tree_of n) (tree_of b.value) (tree_of b'.value) i p change.was (Some x) change.nodes 0 change.nibbles 0 h (is_at lt at) s in
         rw (new b', ep, ← fragment_out n) e
       where
@@ -120,10 +174,11 @@ module _ {K V : Type 0} where
             tree_of (roll-TrieNode K V record { fragment = o.fragment; pair = o.pair; mask = o.mask; children = with_item o.children i b' }) ≡ with_kid i (tree_of b'.value) (tree_of n)
         new b' = kids_are n _ ∙ ap (λ k. record { fragment = (tree_of n).fragment; pair = (tree_of n).pair; mask = (tree_of n).mask; kids = k })
             (kids_set items i b' ∙ ap (set_kid i (tree_of b'.value)) (sym (kids_out n)))
-    kid_step (Err y) b' x p path lt at ep s = (
+    kid_step (Err y) b' x p path lt at ep some start s = (
       s.0,
       kids_are n _ ∙ ap (λ k. record { fragment = (tree_of n).fragment; pair = (tree_of n).pair; mask = (tree_of n).mask; kids = k })
           (kids_set items i b' ∙ ap (λ t. set_kid i t (kids_of items)) s.1 ∙ ap (λ k. set_kid i (tree_of b.value) k) (sym (kids_out n)) ∙ set_same i (tree_of n).kids (tree_of b.value) (is_at lt at)),
+      kid_free p path lt at ep some start s.2,
     )
 
     pub kid_placed : i < length items → get_or items i b ≡ b → (fragment_of b.value ≢ []) × IsTreePlaced (tree_of b.value)
@@ -156,3 +211,107 @@ module _ {K V : Type 0} where
   pub looked : (n : TrieNode K V) (y : ℕ) (r : Result ℕ ℕ) → IsTreePlaced (tree_of n) → ((xs : List ℕ) → IsMask (out-TrieNode K V n).mask xs → IsRisingFrom 0 xs → IsPlaceOf y xs r) →
       IsPlaceOf y (firsts (tree_of n).kids) r
   looked n y r h f = f (firsts (tree_of n).kids) (subst (λ m. IsMask m (firsts (tree_of n).kids)) (mask_out n) h.0) (placed_rises 0 _ h.1)
+
+slice_drop : (xs : List ℕ) (d i : ℕ) → slice_index (drop d xs) i ≡ slice_index xs (d + i)
+slice_drop xs d i = get_or-drop d xs i 0
+
+-- what a comparison tells, of the fragment and what is left of the key
+pub agreed : (f key : List ℕ) (depth same compared : ℕ) → depth ≤ length key → same ≤ length f → depth + same ≤ length key → take same f ≡ take same (drop depth key) →
+    (same < length f → depth + same < length key → slice_index f same ≢ slice_index key (depth + same)) →
+    ((same ≡ length f) ⊎ (depth + same ≡ length key) → compared ≡ same) →
+    (same < length f → depth + same < length key → compared ≡ same + 1) → Agrees f (drop depth key) same compared
+agreed f key depth same compared most within inside alike apart ended parted =
+    let l = length-drop depth key in
+    record {
+      within = within;
+      inside = omega (arith, l, inside, most);
+      alike = alike;
+      apart = λ a b e. apart a (omega (arith, l, b)) (e ∙ slice_drop key depth same);
+      ended = λ e. ended (elim e [ inl z ↦ inl z | inr z ↦ inr (omega (arith, l, z, most)) ]);
+      parted = λ a b. parted a (omega (arith, l, b));
+    }
+
+module _ {K V : Type 0} (n : TrieNode K V) (key : List ℕ) (depth i : ℕ) (h : IsTreePlaced (tree_of n)) where
+  abbrev boxes : List (Box (TrieNode K V) Global)
+  boxes = (out-TrieNode K V n).children.items
+
+  pub met : (y : ℕ) (b : Box (TrieNode K V) Global) (a : Agreement) → y ≡ slice_index key depth → IsPlaceOf y (firsts (tree_of n).kids) (Ok i) → get_or boxes i b ≡ b → depth + a.same < 2 ^ 64 →
+      Agrees (fragment_of b.value) (drop depth key) a.same a.compared → IsMet n key depth i a
+  met y b a ey at is small ag =
+      let lt = kid_within n i y h at in
+      record {
+        within = omega (arith, lt, (out-TrieNode K V n).children.ok.0);
+        fits = small;
+        start = λ u v. ap (λ (t : Tree (KeyValue K V)). first t.fragment) (only u v lt) ∙ ap first (fragment_out b.value) ∙ kid_first n i b h y lt is at ∙ ey;
+        agrees = λ u v. subst (λ f. Agrees f (drop depth key) a.same a.compared) (sym (ap (λ (t : Tree (KeyValue K V)). t.fragment) (only u v lt) ∙ fragment_out b.value)) ag;
+      }
+    where
+      only : (u : Tree (KeyValue K V)) → IsAt i (tree_of n).kids u → i < length boxes → u ≡ tree_of b.value
+      only u v lt = at_same i (tree_of n).kids (tree_of b.value) u (is_at n i b h lt is) v
+
+  module _ (a : Agreement) (b : Box (TrieNode K V) Global) (m : IsMet n key depth i a) (lt : depth < length key) (is : get_or boxes i b ≡ b) where
+    kid : IsAt i (tree_of n).kids (tree_of b.value)
+    kid = is_at n i b h (omega (arith, m.within, (out-TrieNode K V n).children.ok.0)) is
+
+    agrees : Agrees (tree_of b.value).fragment (drop depth key) a.same a.compared
+    agrees = m.agrees (tree_of b.value) kid
+
+    met_fits : depth + a.same ≤ length key
+    met_fits = let l = length-drop depth key in omega (arith, l, agrees.inside, lt)
+
+    -- the whole fragment
+    pub met_step : a.same ≡ length (fragment_of b.value) → IsStep n key depth i (depth + a.same)
+    met_step e =
+        let whole : a.same ≡ length (tree_of b.value).fragment = e ∙ ap length (sym (fragment_out b.value)) in
+        let start : first (tree_of b.value).fragment ≡ first (drop depth key) = m.start (tree_of b.value) kid ∙ sym (first_drop key depth) in
+        let some = agrees_some (tree_of b.value).fragment (drop depth key) a.same a.compared agrees (at_placed 0 i (tree_of n).kids (tree_of b.value) kid h.1).0 (drop_some key depth lt) start in
+        record {
+          within = m.within;
+          further = omega (arith, some);
+          inside = met_fits;
+          path = λ u v. ap (λ (t : Tree (KeyValue K V)). t.fragment ++ drop (depth + a.same) key) (at_same i (tree_of n).kids (tree_of b.value) u kid v)
+              ∙ ap (λ r. (tree_of b.value).fragment ++ r) (sym (drop-drop a.same depth key))
+              ∙ agrees_whole (tree_of b.value).fragment (drop depth key) a.same a.compared agrees whole;
+        }
+
+    pub met_stuck : a.same ≢ length (fragment_of b.value) → IsStuck (tree_of n) (drop depth key)
+    met_stuck e =
+        stuck_kid (tree_of n) (tree_of b.value) i (drop depth key) h kid (first_drop key depth ∙ sym (m.start (tree_of b.value) kid))
+        (agrees_off (tree_of b.value).fragment (drop depth key) a.same a.compared agrees
+        (let w = agrees.within in let f = ap length (fragment_out b.value) in let s : a.same ≢ length (tree_of b.value).fragment = λ z. e (z ∙ f) in omega (arith, w, s)))
+
+  -- no child begins so
+  pub none_stuck : bit_of (slice_index key depth) (firsts (tree_of n).kids) ≡ 0 → IsStuck (tree_of n) (drop depth key)
+  none_stuck e = stuck_gap (tree_of n) (drop depth key) h (ap (λ y. bit_of y (firsts (tree_of n).kids)) (first_drop key depth) ∙ e)
+
+  -- nothing is held where a key can't go
+  pub stuck_lacks : depth < length key → IsStuck (tree_of n) (drop depth key) → IsHeld (tree_of n) (fragment_of n ++ drop depth key) → ⊥
+  stuck_lacks lt s d =
+      stuck_unheld (tree_of n) (drop depth key) (drop_some key depth lt) s (subst (λ f. IsHeld (tree_of n) (f ++ drop depth key)) (sym (fragment_out n)) d)
+
+  -- the child that a key goes on to
+  module _ (next : ℕ) (b : Box (TrieNode K V) Global) (s : IsStep n key depth i next) (is : get_or boxes i b ≡ b) where
+    pub step_within : i < length boxes
+    step_within = omega (arith, s.within, (out-TrieNode K V n).children.ok.0)
+
+    pub step_kid : IsAt i (tree_of n).kids (tree_of b.value)
+    step_kid = is_at n i b h step_within is
+
+    pub step_path : fragment_of b.value ++ drop next key ≡ drop depth key
+    step_path = ap (λ f. f ++ drop next key) (sym (fragment_out b.value)) ∙ s.path (tree_of b.value) step_kid
+
+    pub step_end : next ≡ length key → fragment_of b.value ≡ drop depth key
+    step_end e =
+        sym (append-nil (fragment_of b.value)) ∙ ap (λ r. fragment_of b.value ++ r) (sym (ap (λ d. drop d key) e ∙ drop-length key)) ∙ step_path
+
+-- a node's own pair
+module _ {K V : Type 0} (n : TrieNode K V) where
+  pub free_here : IsTreePlaced (tree_of n) → unboxed (out-TrieNode K V n).pair ≡ None → IsHeld (tree_of n) (fragment_of n) → ⊥
+  free_here h e d = own_free (tree_of n) h (pair_out n ∙ e) (subst (λ p. IsHeld (tree_of n) p) (sym (fragment_out n)) d)
+
+  pub held_here : IsSome (unboxed (out-TrieNode K V n).pair) → IsHeld (tree_of n) (fragment_of n)
+  held_here s = subst (λ p. IsHeld (tree_of n) p) (fragment_out n) (go (tree_of n).pair refl (subst (λ o. IsSome o) (sym (pair_out n)) s))
+    where
+      go : (o : Option (KeyValue K V)) → (tree_of n).pair ≡ o → IsSome o → IsHeld (tree_of n) (tree_of n).fragment
+      go None e s = absurd (let i : false ≡ true = s in cc i)
+      go (Some v) e s = own_held (tree_of n) v e

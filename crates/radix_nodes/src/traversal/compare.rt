@@ -1,5 +1,5 @@
 //! The comparison of nibbles.
-ghost use Rattle.std.specs.Prelude.{◌≡◌, ◌≢◌, ◌+◌, ◌<◌, ◌≤◌, ◌⊎◌, length, take, drop, slice_index};
+ghost use Rattle.std.specs.Prelude.{◌≡◌, ◌≢◌, ◌+◌, ◌<◌, ◌≤◌, ◌⊎◌, ◌^◌, length, take, drop, slice_index};
 
 use radix_keys::Nibblet;
 
@@ -15,6 +15,7 @@ pub fn compare(fragment: &Nibblet, query: &Nibblet, depth: usize) -> Agreement
     requires { depth ≤ length query.now }
     ensures within { result.same ≤ length fragment.now }
     ensures inside { depth + result.same ≤ length query.now }
+    ensures fits { depth + result.same < 2 ^ 64 }
     ensures same { take result.same fragment.now ≡ take result.same (drop depth query.now) }
     ensures apart { result.same < length fragment.now → depth + result.same < length query.now → slice_index fragment.now result.same ≢ slice_index query.now (depth + result.same) }
     ensures ended { (result.same ≡ length fragment.now) ⊎ (depth + result.same ≡ length query.now) → result.compared ≡ result.same }

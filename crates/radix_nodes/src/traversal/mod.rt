@@ -2,7 +2,10 @@
 
 pub mod children;
 pub mod compare;
-pub mod height;
+pub mod find;
 pub mod insert;
+pub mod lend;
+pub mod queries;
 pub mod remove;
+pub mod size;
 pub mod step;

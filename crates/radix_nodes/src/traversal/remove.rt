@@ -1,5 +1,5 @@
 //! Removal. All that may fail comes first, so a refusal leaves the tree as it was.
-ghost use Rattle.std.specs.Prelude.{◌≡◌, ◌≢◌, ◌<◌, ◌≤◌, ◌⊎◌, [], ◌++◌, length, drop, IfOk, IsSome, MatchOption, MatchBool, Some, None, vec_len};
+ghost use Rattle.std.specs.Prelude.{◌≡◌, ◌≢◌, ◌+◌, ◌<◌, ◌≤◌, ◌⊎◌, [], ◌++◌, length, drop, IfOk, OnErr, IsSome, MatchOption, MatchBool, Some, None, vec_len};
 ghost use Rattle.nibble_map.specs.Kept.{IsTreePlaced, IsAt, none};
 ghost use Rattle.radix_nodes.specs.Nodes.{tree_of, fragment_of, out_of, unboxed, CutOutcome, RootOutcome};
 
@@ -21,7 +21,8 @@ pub struct Taken<K, V> {
 fn joined_with<K, V>(node: &TrieNode<K, V>, i: usize) -> Result<Nibblet, Memory>
     requires within { i < vec_len (out_of node.now).children }
     requires placed { IsTreePlaced (tree_of node.now) }
-    ensures { IfOk result (λ f. (u : _) → IsAt i (tree_of node.now).kids u → f ≡ fragment_of node.now ++ u.fragment) }
+    ensures made { IfOk result (λ f. (u : _) → IsAt i (tree_of node.now).kids u → f ≡ fragment_of node.now ++ u.fragment) }
+    ensures long { OnErr result ((u : _) → IsAt i (tree_of node.now).kids u → 32 < length (fragment_of node.now) + length u.fragment) }
 {
     joined(&node.fragment, &node.children[i].fragment)
 }
@@ -35,7 +36,7 @@ fn take_here<K: Drop, V: Drop>(
     requires inner { 0 < vec_len (out_of node.old).children }
     ensures { CutOutcome result (fragment_of node.old) (tree_of node.old) (tree_of node.new) }
 {
-    if node.pair.is_none() {
+    if !has_pair(node) {
         return Ok(None);
     }
     if node.children.len() == 1 {

@@ -1,32 +1,48 @@
 //! A step down to a child.
-ghost use Rattle.std.specs.Prelude.{◌≡◌, ◌≤◌, length, IfSome};
-ghost use Rattle.nibble_map.specs.Kept.{IsTreePlaced};
-ghost use Rattle.radix_nodes.specs.Nodes.{tree_of, IsStep};
+ghost use Rattle.std.specs.Prelude.{◌≡◌, ◌<◌, ◌≤◌, drop, length, slice_index, MatchOption};
+ghost use Rattle.nibble_map.specs.Masks.{bit_of};
+ghost use Rattle.nibble_map.specs.Kept.{IsTreePlaced, firsts};
+ghost use Rattle.nibble_map.specs.KeptPaths.{IsStuck};
+ghost use Rattle.radix_nodes.specs.Nodes.{tree_of, IsMet, IsStep};
 
-use radix_keys::Nibblet;
-use crate::traversal::compare::compare;
+use crate::traversal::compare::{Agreement, compare};
 use crate::trie_node::TrieNode;
 use crate::trie_node::mask::place;
+use radix_keys::Nibblet;
 
-/// The child that the key goes on to, and how many nibbles lie behind it then.
+/// The child that begins with the key's next nibble, and how far its fragment agrees with the key from `depth` on.
+pub fn meet<K, V>(node: &TrieNode<K, V>, key: &Nibblet, depth: usize) -> Option<(usize, Agreement)>
+    requires depth { depth < length key.now }
+    requires placed { IsTreePlaced (tree_of node.now) }
+    ensures { MatchOption result (bit_of (slice_index key.now depth) (firsts (tree_of node.now).kids) ≡ 0) (λ met. IsMet node.now key.now depth met.0 met.1) }
+{
+    match place(node.mask, key.get(depth)) {
+        Ok(i) => {
+            let agreement = compare(&node.children[i].fragment, key, depth);
+            Some((i, agreement))
+        }
+        Err(_) => None,
+    }
+}
+
+/// The child that the key goes on to, and how many nibbles lie behind it then. None: no node below has a path that the key goes on
+/// from.
 pub fn step<K, V>(node: &TrieNode<K, V>, key: &Nibblet, depth: usize) -> Option<(usize, usize)>
     requires depth { depth ≤ length key.now }
     requires placed { IsTreePlaced (tree_of node.now) }
-    ensures { IfSome result (λ s. IsStep node.now key.now depth s.0 s.1) }
+    ensures { MatchOption result (IsStuck (tree_of node.now) (drop depth key.now)) (λ s. IsStep node.now key.now depth s.0 s.1) }
 {
     if depth == key.len() {
         return None;
     }
-    match place(node.mask, key.get(depth)) {
-        Ok(i) => {
-            let child = &node.children[i];
-            let n = compare(&child.fragment, key, depth).same;
-            if n == child.fragment.len() {
-                Some((i, depth + n))
+    match meet(node, key, depth) {
+        Some((i, agreement)) => {
+            if agreement.same == node.children[i].fragment.len() {
+                Some((i, depth + agreement.same))
             } else {
                 None
             }
         }
-        Err(_) => None,
+        None => None,
     }
 }

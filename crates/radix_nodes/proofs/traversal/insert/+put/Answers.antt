@@ -1,10 +1,11 @@
-use Rattle.std.proofs.Common.{◌≡◌, ◌≢◌, ◌+◌, ◌<◌, ◌∙◌, ◌++◌, take, drop, sym, ap, subst, length, slice_index, arith, Ok, Err}
+use Rattle.std.proofs.Common.{◌≡◌, ◌≢◌, ◌+◌, ◌<◌, ◌≤◌, ◌∙◌, ◌++◌, take, drop, sym, ap, subst, length, slice_index, arith, Ok, Err}
 use Rattle.std.proofs.Math.Seq.{drop-length}
 use Rattle.nibble_map.specs.Masks.{IsPlaceOf}
 use Rattle.nibble_map.specs.Kept.{firsts, IsTreePlaced}
 use Rattle.radix_nodes.specs.Nodes.{tree_of, fragment_of, EditOutcome}
 use Rattle.radix_nodes.specs.declared.trie_node.TrieNode.{out-TrieNode}
-use Rattle.radix_nodes.proofs.Steps.{set_step, kid_step, kid_placed, kid_first, kid_within, looked, edit_replaces, path_down, path_part, split_some, length_some}
+use Rattle.nibble_map.proofs.KeptPaths.{begins}
+use Rattle.radix_nodes.proofs.Steps.{set_step, kid_step, kid_placed, kid_first, kid_within, looked, edit_replaces, joined_some, take_first, take_some, path_down, path_part, split_some, length_some}
 use Rattle.radix_nodes.proofs.traversal.insert.+put.Goals as goal
 
 pub returns-then-depth-len : goal.returns-then-depth-len
@@ -70,10 +71,12 @@ returns-then-n-len g t c =
     let len : n ≡ length (fragment_of b.value) = c.if-n-len.true ∙ c.len-in-Ok.ensures ∙ ap (λ m. length (fragment_of m)) c.deref-in-Ok.ensures in
     let same = subst (λ m. take n (fragment_of m) ≡ take n (drop depth key)) c.deref.ensures c.compare-n.ensures.same in
     let path = path_down (fragment_of b.value) key depth n len same in
+    let some = (kid_placed node c.in-Ok.i b c.requires.placed lt is).0 in
     let rest = drop (depth + n) key in
     let below = subst (λ m. EditOutcome c.put.result c.args.pair (fragment_of m ++ rest) (tree_of m) (tree_of c.put.new.node)) c.deref_mut.ensures.value c.put.ensures in
     kid_step node c.in-Ok.i b c.requires.placed c.put.result _ c.args.pair (fragment_of b.value ++ rest) (fragment_of node ++ drop depth key) lt is
     (ap (λ p. fragment_of node ++ p) (sym path))
+    (joined_some (fragment_of b.value) rest some) (begins (fragment_of b.value) rest some)
     (edit_replaces c.put.result c.args.pair _ _ _ below)
 
 pub returns-else-n-len : goal.returns-else-n-len
@@ -87,6 +90,16 @@ returns-else-n-len g t c =
     let lt = kid_within node c.in-Ok.i c.get.result c.requires.placed at in
     let is = sym c.index_mut-child.ensures.value in
     let same = subst (λ m. take n (fragment_of m) ≡ take n (drop depth key)) c.deref.ensures c.compare-n.ensures.same in
+    let rest = drop (depth + n) key in
+    let len : c.len-in-Ok.result ≡ length (fragment_of b.value) = c.len-in-Ok.ensures ∙ ap (λ m. length (fragment_of m)) c.deref-in-Ok.ensures in
+    let most : n ≤ length (fragment_of b.value) = subst (λ m. n ≤ length (fragment_of m)) c.deref.ensures c.compare-n.ensures.within in
+    let within : n < length (fragment_of b.value) = omega (arith, most, len, c.if-n-len.false) in
+    let positive : 0 < n = split_some (fragment_of b.value) key depth n c.get.result (kid_placed node c.in-Ok.i b c.requires.placed lt is).0
+    (kid_first node c.in-Ok.i b c.requires.placed c.get.result lt is at) c.get.ensures.value (omega (arith, c.requires.depth, c.if-depth-len.false, c.len.ensures))
+    (subst (λ m. n < length (fragment_of m) → depth + n < length key → slice_index (fragment_of m) n ≢ slice_index key (depth + n)) c.deref.ensures c.compare-n.ensures.apart) in
+    let part = take_some (fragment_of b.value) n positive within in
     kid_step node c.in-Ok.i b c.requires.placed c.split_and_put.result c.split_and_put.new.slot c.args.pair (take n (fragment_of b.value) ++ drop (depth + n) key) (fragment_of node ++ drop depth key) lt is
     (ap (λ p. fragment_of node ++ p) (sym (path_part (fragment_of b.value) key depth n same)))
+    (joined_some (take n (fragment_of b.value)) rest part)
+    (begins (take n (fragment_of b.value)) rest part ∙ take_first (fragment_of b.value) n positive)
     c.split_and_put.ensures

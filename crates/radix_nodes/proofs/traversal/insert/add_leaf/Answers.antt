@@ -2,14 +2,14 @@ use Rattle.std.proofs.Common.{sym, ap, refl, arith, ◌-◌}
 use Rattle.radix_nodes.specs.declared.trie_node.TrieNode.{out-TrieNode, out-roll-TrieNode}
 use Rattle.radix_nodes.specs.Nodes.{tree_of, fragment_of}
 use Rattle.radix_nodes.proofs.Nodes.{kids_kept, fragment_out}
-use Rattle.radix_nodes.proofs.Steps.{leaf_step, gap_within}
+use Rattle.radix_nodes.proofs.Steps.{leaf_step, gap_within, gap_free}
 use Rattle.radix_nodes.proofs.traversal.insert.add_leaf.Goals as goal
 
 pub returns-in_default : goal.returns-in_default
-returns-in_default g c = (refl, kids_kept c.args.node.now c.reserve.new.self c.in_default.ensures.items)
+returns-in_default g c = (refl, kids_kept c.args.node.now c.reserve.new.self c.in_default.ensures.items, gap_free c.args.node.now c.args.key.now c.args.depth c.args.i c.requires.placed c.requires.depth c.requires.gap)
 
 pub returns-in-Err : goal.returns-in-Err
-returns-in-Err g c = (c.in-Err.ensures.back, kids_kept c.args.node.now c.reserve.new.self c.in-Ok.ensures.items)
+returns-in-Err g c = (c.in-Err.ensures.back, kids_kept c.args.node.now c.reserve.new.self c.in-Ok.ensures.items, gap_free c.args.node.now c.args.key.now c.args.depth c.args.i c.requires.placed c.requires.depth c.requires.gap)
 
 pub link-requires-clause-within : goal.link-requires-clause-within
 link-requires-clause-within g c =

@@ -1,11 +1,11 @@
-use Rattle.std.proofs.Common.{◌<◌, ◌∙◌, ◌∷◌, [], sym, ap, subst, take, drop, arith, ◌-◌, Err, Some}
+use Rattle.std.proofs.Common.{◌<◌, ◌∙◌, ◌∷◌, [], refl, sym, ap, subst, take, drop, arith, ◌-◌, Err, Some}
 use Rattle.std.proofs.Math.Seq.{drop-length}
 use Rattle.nibble_map.specs.Trees.{first}
 use Rattle.nibble_map.specs.Masks.{IsPlaceOf}
 use Rattle.nibble_map.specs.Kept.{with_pair}
 use Rattle.radix_nodes.specs.Nodes.{tree_of, fragment_of}
 use Rattle.radix_nodes.proofs.Nodes.{pair_is, fragment_out}
-use Rattle.radix_nodes.proofs.Steps.{here_step, beside_step}
+use Rattle.radix_nodes.proofs.Steps.{here_step, beside_step, parted_free}
 use Rattle.radix_nodes.proofs.traversal.insert.split_and_put.Goals as goal
 
 pub returns-in-Ok-new : goal.returns-in-Ok-new
@@ -46,3 +46,12 @@ returns-in-Ok-make_leaf g c =
     (ap (λ n. tree_of n) c.deref_mut-else-depth-len.ensures.value ∙ c.lower-else-depth-len.ensures.tree)
     c.link.ensures
     (ap (λ l. l - c.args.depth) c.len-else-depth-len.ensures)
+
+pub returns-in_default : goal.returns-in_default
+returns-in_default g c = (refl, refl, parted_free c.args.slot.now.value c.args.key.now c.args.depth c.args.n c.requires.within c.requires.apart)
+
+pub returns-in-Err : goal.returns-in-Err
+returns-in-Err g c = (c.in-Err.ensures.value_returned, refl, parted_free c.args.slot.now.value c.args.key.now c.args.depth c.args.n c.requires.within c.requires.apart)
+
+pub returns-in-Err-make_leaf : goal.returns-in-Err-make_leaf
+returns-in-Err-make_leaf g c = (c.in-Err-make_leaf.ensures.back, refl, parted_free c.args.slot.now.value c.args.key.now c.args.depth c.args.n c.requires.within c.requires.apart)

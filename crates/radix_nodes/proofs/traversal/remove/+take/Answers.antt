@@ -1,10 +1,11 @@
-use Rattle.std.proofs.Common.{◌≡◌, ◌≢◌, ◌<◌, ◌++◌, ◌∙◌, sym, ap, subst, arith, length, drop, append-nil, vec_len, []}
+use Rattle.std.proofs.Common.{◌≡◌, ◌≢◌, ◌<◌, ◌++◌, ◌∙◌, refl, sym, ap, subst, arith, length, drop, append-nil, vec_len, []}
 use Rattle.std.proofs.Math.Seq.{drop-length}
 use Rattle.radix_nodes.specs.declared.trie_node.TrieNode.{out-TrieNode}
 use Rattle.nibble_map.specs.Kept.{IsTreePlaced}
 use Rattle.radix_nodes.specs.Nodes.{tree_of, fragment_of, CutOutcome}
 use Rattle.radix_nodes.proofs.Nodes.{fragment_out}
-use Rattle.radix_nodes.proofs.Steps.{kid_placed, is_at}
+use Rattle.radix_nodes.proofs.Steps.{kid_placed, is_at, joined_some, stuck_lacks}
+use Rattle.nibble_map.proofs.KeptPaths.{begins}
 use Rattle.radix_nodes.proofs.Removes.{child_is, no_kids, kid_cut, same_at}
 use Rattle.radix_nodes.proofs.traversal.remove.+take.Goals.{else-next-len-via-then-next-len+else-is_end, else-next-len-via-else-next-len}
 use Rattle.radix_nodes.proofs.traversal.remove.+take.Goals as goal
@@ -17,7 +18,7 @@ take_leaf-requires-clause-leaf g t c u a =
     let o = (out n).children.ok.0 in
     let o' = (out b.value).children.ok.0 in
     let none' = subst (λ m. vec_len (out m).children ≡ 0) c.deref.ensures c.if-is_end.ensures in
-    ap (λ t. t.kids) (child_is n c.in-Some.i b u c.requires.placed (omega (arith, c.in-Some.ensures.0, o)) (sym c.index.ensures) a) ∙ no_kids b.value (omega (arith, none', o'))
+    ap (λ t. t.kids) (child_is n c.in-Some.i b u c.requires.placed (omega (arith, c.in-Some.ensures.within, o)) (sym c.index.ensures) a) ∙ no_kids b.value (omega (arith, none', o'))
 
 pub take-requires : goal.take-requires
 take-requires g t c =
@@ -25,7 +26,7 @@ take-requires g t c =
     let n = c.args.node.now in
     let b = c.index_mut.result.now in
     let o = (out n).children.ok.0 in
-    let lt : c.in-Some.i < length (out n).children.items = omega (arith, c.in-Some.ensures.0, o) in
+    let lt : c.in-Some.i < length (out n).children.items = omega (arith, c.in-Some.ensures.within, o) in
     let kid = kid_placed n c.in-Some.i b c.requires.placed lt (sym c.index_mut.ensures.value) in
     let placed : IsTreePlaced (tree_of c.deref_mut.result.now) = subst (λ m. IsTreePlaced (tree_of m)) (sym c.deref_mut.ensures.value) kid.1 in
     let some : fragment_of c.deref_mut.result.now ≢ [] = subst (λ m. fragment_of m ≢ []) (sym c.deref_mut.ensures.value) kid.0 in
@@ -37,7 +38,7 @@ take-requires g t c =
           w.if-is_end.ensures
       | else-next-len-via-else-next-len w ↦ absurd (w.if-next-len.false (e ∙ sym c.len-in-Some.ensures))
     ] in
-    λ κs l. (omega (arith, c.decreases, c.in-Some.ensures.1, c.in-Some.ensures.2), (l.0, (l.1, (c.in-Some.ensures.2, (placed, (some, inner))))))
+    λ κs l. (omega (arith, c.decreases, c.in-Some.ensures.further, c.in-Some.ensures.inside), (l.0, (l.1, (c.in-Some.ensures.inside, (placed, (some, inner))))))
 
 pub returns-then-is_end : goal.returns-then-is_end
 returns-then-is_end g t c =
@@ -45,10 +46,10 @@ returns-then-is_end g t c =
     let b = c.index.result.now in
     let key = c.args.key.now in
     let o = (out-TrieNode g.row.K.Denot g.row.V.Denot n).children.ok.0 in
-    let at = is_at n c.in-Some.i b c.requires.placed (omega (arith, c.in-Some.ensures.0, o)) (sym c.index.ensures) in
+    let at = is_at n c.in-Some.i b c.requires.placed (omega (arith, c.in-Some.ensures.within, o)) (sym c.index.ensures) in
     let f = (tree_of b.value).fragment in
     let end : f ≡ drop c.args.depth key =
-    sym (append-nil f) ∙ ap (λ r. f ++ r) (sym (ap (λ d. drop d key) (c.if-next-len.true ∙ c.len-in-Some.ensures) ∙ drop-length key)) ∙ c.in-Some.ensures.3 (tree_of b.value) at in
+    sym (append-nil f) ∙ ap (λ r. f ++ r) (sym (ap (λ d. drop d key) (c.if-next-len.true ∙ c.len-in-Some.ensures) ∙ drop-length key)) ∙ c.in-Some.ensures.path (tree_of b.value) at in
     subst (λ p. CutOutcome c.take_leaf.result (fragment_of n ++ p) (tree_of n) (tree_of c.take_leaf.new.node)) end (c.take_leaf.ensures (tree_of b.value) at)
 
 pub returns-else-next-len : goal.returns-else-next-len
@@ -57,10 +58,16 @@ returns-else-next-len g t c =
     let b = c.index_mut.result.now in
     let key = c.args.key.now in
     let o = (out-TrieNode g.row.K.Denot g.row.V.Denot n).children.ok.0 in
-    let lt : c.in-Some.i < length (out-TrieNode g.row.K.Denot g.row.V.Denot n).children.items = omega (arith, c.in-Some.ensures.0, o) in
+    let lt : c.in-Some.i < length (out-TrieNode g.row.K.Denot g.row.V.Denot n).children.items = omega (arith, c.in-Some.ensures.within, o) in
     let is = sym c.index_mut.ensures.value in
     let at = is_at n c.in-Some.i b c.requires.placed lt is in
     let rest = drop c.in-Some.next key in
-    let path : fragment_of b.value ++ rest ≡ drop c.args.depth key = ap (λ f. f ++ rest) (sym (fragment_out b.value)) ∙ c.in-Some.ensures.3 (tree_of b.value) at in
+    let path : fragment_of b.value ++ rest ≡ drop c.args.depth key = ap (λ f. f ++ rest) (sym (fragment_out b.value)) ∙ c.in-Some.ensures.path (tree_of b.value) at in
     let below = subst (λ m. CutOutcome c.take.result (fragment_of m ++ rest) (tree_of m) (tree_of c.take.new.node)) c.deref_mut.ensures.value c.take.ensures in
-    kid_cut n c.in-Some.i b _ c.take.result (fragment_of b.value ++ rest) (fragment_of n ++ drop c.args.depth key) c.requires.placed lt is (ap (λ p. fragment_of n ++ p) (sym path)) below
+    let some = (kid_placed n c.in-Some.i b c.requires.placed lt is).0 in
+    kid_cut n c.in-Some.i b _ c.take.result (fragment_of b.value ++ rest) (fragment_of n ++ drop c.args.depth key) c.requires.placed lt is (ap (λ p. fragment_of n ++ p) (sym path))
+    (joined_some (fragment_of b.value) rest some) (begins (fragment_of b.value) rest some) below
+
+pub returns-in-None : goal.returns-in-None
+returns-in-None g t c =
+    (refl, stuck_lacks c.args.node.now c.args.key.now c.args.depth 0 c.requires.placed (omega (arith, c.requires.depth, c.if-depth-len.false, c.len.ensures)) c.in-None.ensures)

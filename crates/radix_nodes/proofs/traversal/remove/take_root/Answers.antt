@@ -1,4 +1,5 @@
-use Rattle.std.proofs.Common.{◌≡◌, ◌≢◌, ◌<◌, ◌++◌, ◌∙◌, sym, ap, subst, refl, arith, length, drop, append-nil, vec_len, [], IsSome}
+use Rattle.std.proofs.Common.{◌≡◌, ◌≢◌, ◌<◌, ◌++◌, ◌∙◌, sym, ap, subst, refl, arith, length, drop, append-nil, vec_len, [], IsSome, None}
+use Rattle.nibble_map.specs.KeptPaths.{IsHeld}
 use Rattle.std.proofs.lemmas.List.{nil_from_length}
 use Rattle.std.proofs.Math.Seq.{drop-length}
 use Rattle.nibble_map.specs.Trees.{first}
@@ -6,8 +7,9 @@ use Rattle.radix_nodes.specs.declared.trie_node.TrieNode.{out-TrieNode}
 use Rattle.nibble_map.specs.Kept.{IsTreePlaced}
 use Rattle.radix_nodes.specs.Nodes.{tree_of, fragment_of, unboxed, CutOutcome}
 use Rattle.radix_nodes.proofs.Nodes.{fragment_out}
-use Rattle.radix_nodes.proofs.Steps.{kid_placed, is_at}
-use Rattle.radix_nodes.proofs.Removes.{child_is, no_kids, kid_root, pair_root, leaf_root, unpaired, held}
+use Rattle.radix_nodes.proofs.Steps.{kid_placed, kid_free, is_at, joined_some, stuck_lacks, step_within, step_end, free_here}
+use Rattle.nibble_map.proofs.KeptPaths.{begins}
+use Rattle.radix_nodes.proofs.Removes.{child_is, no_kids, kid_root, pair_root, leaf_root, unpaired, unpaired_same, held}
 use Rattle.radix_nodes.proofs.traversal.remove.take_root.Goals as goal
 
 pub returns-in-Some : goal.returns-in-Some
@@ -21,14 +23,14 @@ take-requires-clause-placed g c =
     let n = c.args.node.now in
     let o = (out-TrieNode g.row.K.Denot g.row.V.Denot n).children.ok.0 in
     subst (λ m. IsTreePlaced (tree_of m)) (sym c.deref_mut.ensures.value)
-    (kid_placed n c.in-Some-step.i c.index_mut.result.now c.requires (omega (arith, c.in-Some-step.ensures.0, o)) (sym c.index_mut.ensures.value)).1
+    (kid_placed n c.in-Some-step.i c.index_mut.result.now c.requires (omega (arith, c.in-Some-step.ensures.within, o)) (sym c.index_mut.ensures.value)).1
 
 pub take-requires-clause-some : goal.take-requires-clause-some
 take-requires-clause-some g c =
     let n = c.args.node.now in
     let o = (out-TrieNode g.row.K.Denot g.row.V.Denot n).children.ok.0 in
     subst (λ m. fragment_of m ≢ []) (sym c.deref_mut.ensures.value)
-    (kid_placed n c.in-Some-step.i c.index_mut.result.now c.requires (omega (arith, c.in-Some-step.ensures.0, o)) (sym c.index_mut.ensures.value)).0
+    (kid_placed n c.in-Some-step.i c.index_mut.result.now c.requires (omega (arith, c.in-Some-step.ensures.within, o)) (sym c.index_mut.ensures.value)).0
 
 pub returns-else-not-has_pair : goal.returns-else-not-has_pair
 returns-else-not-has_pair g c =
@@ -39,14 +41,14 @@ returns-else-not-has_pair g c =
     let i = c.in-Some-step.i in
     let o = (out n).children.ok.0 in
     let o' = (out b.value).children.ok.0 in
-    let lt : i < length (out n).children.items = omega (arith, c.in-Some-step.ensures.0, o) in
+    let lt : i < length (out n).children.items = omega (arith, c.in-Some-step.ensures.within, o) in
     let leaf = c.unlink-leaf.result.value in
     let at = c.unlink-leaf.ensures.child in
     let none' = subst (λ m. vec_len (out m).children ≡ 0) c.deref.ensures c.if-is_end.ensures in
     let ends = ap (λ t. t.kids) (child_is n i b (tree_of leaf) c.requires lt (sym c.index.ensures) at) ∙ no_kids b.value (omega (arith, none', o')) in
     let has = held n leaf i c.index-then-is_end.result.now c.requires lt (sym c.index-then-is_end.ensures) at (subst (λ m. IsSome (unboxed (out m).pair)) c.deref-then-is_end.ensures c.if-not-has_pair.ensures) in
     let f = (tree_of leaf).fragment in
-    let end : f ≡ key = sym (append-nil f) ∙ ap (λ r. f ++ r) (sym (ap (λ d. drop d key) (c.if-next-len.true ∙ c.len-in-Some-step.ensures) ∙ drop-length key)) ∙ c.in-Some-step.ensures.3 (tree_of leaf) at in
+    let end : f ≡ key = sym (append-nil f) ∙ ap (λ r. f ++ r) (sym (ap (λ d. drop d key) (c.if-next-len.true ∙ c.len-in-Some-step.ensures) ∙ drop-length key)) ∙ c.in-Some-step.ensures.path (tree_of leaf) at in
     leaf_root n leaf i (first f) c.make_taken.result _ (fragment_of n ++ key) c.requires c.unlink-leaf.ensures.fits at ends refl c.unlink-leaf.ensures.nibble has c.make_taken.ensures c.unlink-leaf.ensures.tree
     (ap (λ k. fragment_of n ++ k) (sym end))
 
@@ -56,10 +58,37 @@ returns-else-next-len g c =
     let b = c.index_mut.result.now in
     let key = c.args.key.now in
     let o = (out-TrieNode g.row.K.Denot g.row.V.Denot n).children.ok.0 in
-    let lt : c.in-Some-step.i < length (out-TrieNode g.row.K.Denot g.row.V.Denot n).children.items = omega (arith, c.in-Some-step.ensures.0, o) in
+    let lt : c.in-Some-step.i < length (out-TrieNode g.row.K.Denot g.row.V.Denot n).children.items = omega (arith, c.in-Some-step.ensures.within, o) in
     let is = sym c.index_mut.ensures.value in
     let at = is_at n c.in-Some-step.i b c.requires lt is in
     let rest = drop c.in-Some-step.next key in
-    let path : fragment_of b.value ++ rest ≡ key = ap (λ f. f ++ rest) (sym (fragment_out b.value)) ∙ c.in-Some-step.ensures.3 (tree_of b.value) at in
+    let path : fragment_of b.value ++ rest ≡ key = ap (λ f. f ++ rest) (sym (fragment_out b.value)) ∙ c.in-Some-step.ensures.path (tree_of b.value) at in
     let below = subst (λ m. CutOutcome c.take.result (fragment_of m ++ rest) (tree_of m) (tree_of c.take.new.node)) c.deref_mut.ensures.value c.take.ensures in
-    kid_root n c.in-Some-step.i b _ c.take.result (fragment_of b.value ++ rest) (fragment_of n ++ key) c.requires lt is (ap (λ p. fragment_of n ++ p) (sym path)) below
+    let some = (kid_placed n c.in-Some-step.i b c.requires lt is).0 in
+    kid_root n c.in-Some-step.i b _ c.take.result (fragment_of b.value ++ rest) (fragment_of n ++ key) c.requires lt is (ap (λ p. fragment_of n ++ p) (sym path))
+    (joined_some (fragment_of b.value) rest some) (begins (fragment_of b.value) rest some) below
+
+pub returns-in-None : goal.returns-in-None
+returns-in-None g c =
+    let n = c.args.node.now in
+    let bare = sym c.in-None.ensures.was in
+    let own : fragment_of n ++ c.args.key.now ≡ fragment_of n = ap (λ k. fragment_of n ++ k) (nil_from_length c.args.key.now (sym c.len.ensures ∙ c.if-len-eq0.true)) ∙ append-nil (fragment_of n) in
+    (unpaired_same n c.take_pair.new.at c.take_pair.ensures.none bare, λ d. free_here n c.requires bare (subst (λ p. IsHeld (tree_of n) p) own d))
+
+pub returns-then-not-has_pair : goal.returns-then-not-has_pair
+returns-then-not-has_pair g c =
+    let n = c.args.node.now in
+    let b = c.index-then-is_end.result.now in
+    let i = c.in-Some-step.i in
+    let is = sym c.index-then-is_end.ensures in
+    let s = c.in-Some-step.ensures in
+    let key = c.args.key.now in
+    let lt = step_within n key 0 i c.requires c.in-Some-step.next b s is in
+    let end = step_end n key 0 i c.requires c.in-Some-step.next b s is (c.if-next-len.true ∙ c.len-in-Some-step.ensures) in
+    let kid = kid_placed n i b c.requires lt is in
+    let bare = subst (λ m. unboxed (out-TrieNode g.row.K.Denot g.row.V.Denot m).pair ≡ None) c.deref-then-is_end.ensures c.if-not-has_pair.ensures in
+    (refl, kid_free n i b c.requires (fragment_of b.value) (fragment_of n ++ key) lt is (ap (λ k. fragment_of n ++ k) (sym end)) kid.0 refl (free_here b.value kid.1 bare))
+
+pub returns-in-None-step : goal.returns-in-None-step
+returns-in-None-step g c =
+    (refl, stuck_lacks c.args.node.now c.args.key.now 0 0 c.requires (omega (arith, c.if-len-eq0.false, c.len.ensures)) c.in-None-step.ensures)

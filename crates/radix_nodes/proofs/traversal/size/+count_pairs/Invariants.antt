@@ -1,0 +1,12 @@
+use Rattle.std.proofs.Common.{◌≡◌, ◌+◌, [], length, drop}
+use Rattle.nibble_map.specs.Kept.{entries_at, nodes_in}
+use Rattle.nibble_map.specs.KeptSizes.{pairs_in}
+use Rattle.radix_nodes.specs.Nodes.{tree_of, kids_of}
+use Rattle.radix_nodes.proofs.traversal.size.+count_pairs.Given as goal
+
+abbrev pub invariant-loop-child : goal.invariant-loop-child
+invariant-loop-child g l =
+    l.count + pairs_in (kids_of (drop l.child-index l.child-items)) ≡ length (entries_at [] (tree_of l.node))
+
+abbrev pub decreases-count_pairs : goal.decreases-count_pairs
+decreases-count_pairs g l = nodes_in (tree_of l.node.now).kids

@@ -1,0 +1,115 @@
+-- What a tree ends as, once a reference that was lent out of it has ended.
+use Rattle.std.specs.Prelude.{◌≡◌, List, ℕ, [], Option, Some, None, MatchOption, ⊤, map}
+use Rattle.std.specs.Option.{IfSome}
+use Rattle.std.specs.Borrow.{Fml, RattleType, MutBor, Lends, LendsIf, LendsSo}
+use Rattle.std.specs.declared.boxed.Box.{Box}
+use Rattle.std.specs.declared.alloc.Global.{Global}
+use Rattle.std.specs.contracts.boxed.Box.{the_row as box_row}
+use Rattle.std.specs.contracts.option.Option.{the_row as option_row}
+use Rattle.std.specs.contracts.alloc.Global.{the_row as global_row}
+use Rattle.std.specs.contracts.impls.GlobalAllocator.TheImpl.{ghosts as global_ghosts}
+use Rattle.std.specs.Vec.{with_item}
+use Rattle.std.specs.Box.{with_value}
+use Rattle.nibble_map.specs.Kept.{Tree, IsTreePlaced, IsFullBelow, entries_at, nodes_in, nibbles_in}
+use Rattle.nibble_map.specs.KeptPaths.{IsNodeAt, IsHeld}
+use Rattle.nibble_map.specs.Alters.{AltersNode}
+use Rattle.radix_nodes.specs.contracts.trie_node.KeyValue.{the_row as pair_row}
+use Rattle.radix_nodes.specs.contracts.trie_node.TrieNode.{the_row}
+use Rattle.radix_nodes.specs.declared.trie_node.KeyValue.{KeyValue}
+use Rattle.radix_nodes.specs.declared.trie_node.TrieNode.{TrieNode, out-TrieNode, roll-TrieNode}
+use Rattle.radix_nodes.specs.Nodes.{tree_of}
+
+abbrev pub OnNone : {A : Type 0} → Option A → Type 0 → Type 0
+OnNone r P = MatchOption r P (λ x. ⊤)
+
+module _ {K V : Type 0} where
+  -- both hold no pair, or pairs of one key
+  abbrev pub IsSameKey : Option (KeyValue K V) → Option (KeyValue K V) → Type 0
+  IsSameKey None None = ⊤
+  IsSameKey None (Some y) = ⊥
+  IsSameKey (Some x) None = ⊥
+  IsSameKey (Some x) (Some y) = x.key ≡ y.key
+
+  -- w is u but for the value of its own pair
+  pub record IsRevalued (u w : Tree (KeyValue K V)) : Type 0 where
+    pub fragment : w.fragment ≡ u.fragment
+    pub mask : w.mask ≡ u.mask
+    pub kids : w.kids ≡ u.kids
+    pub key : IsSameKey u.pair w.pair
+
+  -- u stood at the path, and w stands there: where only the value differs, that is all that changes
+  pub record Replaces (path : List ℕ) (u w old new : Tree (KeyValue K V)) : Type 0 where
+    pub node : IsNodeAt old path u
+    pub alters : IsRevalued u w → AltersNode path u.pair w.pair 0 0 0 0 old new
+
+  -- the value v stood at the path, and w stands there under the same key
+  pub record Revalues (path : List ℕ) (v w : V) (old new : Tree (KeyValue K V)) : Type 0 where
+    pub key : K
+    pub alters : AltersNode path (Some (record { key = key; value = v })) (Some (record { key = key; value = w })) 0 0 0 0 old new
+
+  abbrev pub keyed : List ℕ × KeyValue K V → List ℕ × K
+  keyed e = (e.0, e.1.key)
+
+  -- the entries without their values
+  abbrev pub keys_of : List (List ℕ × KeyValue K V) → List (List ℕ × K)
+  keys_of es = map keyed es
+
+  -- the two differ in values at most
+  pub record IsLike (old new : Tree (KeyValue K V)) : Type 0 where
+    pub fragment : new.fragment ≡ old.fragment
+    pub placed : IsTreePlaced old → IsTreePlaced new
+    pub below : IsFullBelow old → IsFullBelow new
+    pub keys : (q : List ℕ) → keys_of (entries_at q new) ≡ keys_of (entries_at q old)
+    pub nodes : nodes_in new.kids ≡ nodes_in old.kids
+    pub nibbles : nibbles_in new.kids ≡ nibbles_in old.kids
+
+  -- and in no value
+  pub record IsKept (old new : Tree (KeyValue K V)) : Type 0 where
+    pub like : IsLike old new
+    pub same : (q : List ℕ) → entries_at q new ≡ entries_at q old
+
+  abbrev pub write_value : Option (Box (KeyValue K V) Global) → V → Option (Box (KeyValue K V) Global)
+  write_value None w = None
+  write_value (Some b) w = Some (with_value b (record { key = b.value.key; value = w }))
+
+  -- what is lent of a pair is its value, and nothing where there is none
+  abbrev pub IsLentPair : Option (MutBor V) → Option (Box (KeyValue K V) Global) → Type 0
+  IsLentPair None None = ⊤
+  IsLentPair None (Some b) = ⊥
+  IsLentPair (Some x) None = ⊥
+  IsLentPair (Some x) (Some b) = x.now ≡ b.value.value
+
+  abbrev pub with_child : TrieNode K V → ℕ → Box (TrieNode K V) Global → TrieNode K V
+  with_child n i b = let o = out-TrieNode K V n in roll-TrieNode K V record { fragment = o.fragment; pair = o.pair; mask = o.mask; children = with_item o.children i b }
+
+  -- the tree stays, and had no node at the path where none was lent
+  abbrev pub KeepsNode : {A : Type 0} → Option A → List ℕ → Tree (KeyValue K V) → Tree (KeyValue K V) → Type 0
+  KeepsNode r path old new = (new ≡ old) × OnNone r ((u : Tree (KeyValue K V)) → IsNodeAt old path u → ⊥)
+
+  abbrev pub KeepsValue : {A : Type 0} → Option A → List ℕ → Tree (KeyValue K V) → Tree (KeyValue K V) → Type 0
+  KeepsValue r path old new = IsKept old new × OnNone r (IsHeld old path → ⊥)
+
+module _ (K V : RattleType) where
+  abbrev pub node_box : RattleType
+  node_box = box_row (the_row K V) global_row global_ghosts
+
+  -- the node in the box ends with what is written through r in the place of the node at the path, and at `None` as it was
+  abbrev pub LendsNode : MutBor (Box (TrieNode K.Denot V.Denot) Global) → List ℕ → Option (MutBor (TrieNode K.Denot V.Denot)) → Fml
+  LendsNode s path r =
+      LendsSo node_box (the_row K V) s r (λ b w. IfSome r (λ x. Replaces path (tree_of x.now) (tree_of w) (tree_of s.now.value) (tree_of b.value)))
+      (λ b. KeepsNode r path (tree_of s.now.value) (tree_of b.value))
+
+  -- the node ends with the last value written through r at the path, and at `None` as it was
+  abbrev pub LendsValue : MutBor (TrieNode K.Denot V.Denot) → List ℕ → Option (MutBor V.Denot) → Fml
+  LendsValue s path r =
+      LendsSo (the_row K V) V s r (λ n w. IfSome r (λ x. Revalues path x.now w (tree_of s.now) (tree_of n)) × IsLike (tree_of s.now) (tree_of n))
+      (λ n. KeepsValue r path (tree_of s.now) (tree_of n))
+
+  abbrev pub LendsChildBox : MutBor (TrieNode K.Denot V.Denot) → ℕ → MutBor (Box (TrieNode K.Denot V.Denot) Global) → Fml
+  LendsChildBox s i r = Lends (the_row K V) node_box s r (with_child s.now i)
+
+  abbrev pub LendsUnboxed : MutBor (Box (TrieNode K.Denot V.Denot) Global) → MutBor (TrieNode K.Denot V.Denot) → Fml
+  LendsUnboxed s r = Lends node_box (the_row K V) s r (with_value s.now)
+
+  abbrev pub LendsPair : MutBor (Option (Box (KeyValue K.Denot V.Denot) Global)) → Option (MutBor V.Denot) → Fml
+  LendsPair s r = LendsIf (option_row (box_row (pair_row K V) global_row global_ghosts)) V s r (λ w. write_value s.now w) s.now

@@ -1,0 +1,113 @@
+//! Lending out of the tree.
+ghost use Rattle.std.specs.Prelude.{◌≡◌, ◌<◌, ◌≤◌, ◌++◌, length, drop, slice_index_or, vec_len};
+ghost use Rattle.std.specs.Borrow.{sem};
+ghost use Rattle.nibble_map.specs.Kept.{IsTreePlaced};
+ghost use Rattle.nibble_map.specs.KeptPaths.{IsStuck};
+ghost use Rattle.radix_nodes.specs.Nodes.{tree_of, fragment_of, out_of, IsStep};
+ghost use Rattle.radix_nodes.specs.Lending.{LendsChildBox, LendsUnboxed, LendsPair, LendsNode, LendsValue, IsLentPair};
+
+use crate::traversal::step::step;
+use crate::trie_node::{KeyValue, TrieNode};
+use radix_keys::Nibblet;
+
+fn child_box<K, V>(node: &mut TrieNode<K, V>, i: usize) -> &mut Box<TrieNode<K, V>>
+    requires { i < vec_len (out_of node.old).children }
+    ensures* writes_back { sem 𝓛 (LendsChildBox K.row V.row node.entry i result) }
+    ensures value { result.now ≡ slice_index_or (out_of node.old).children.items i result.now }
+{
+    &mut node.children[i]
+}
+
+fn unbox<K, V>(b: &mut Box<TrieNode<K, V>>) -> &mut TrieNode<K, V>
+    ensures* writes_back { sem 𝓛 (LendsUnboxed K.row V.row b.entry result) }
+    ensures value { result.now ≡ b.old.value }
+{
+    &mut **b
+}
+
+// The child that the key goes on to, and how many nibbles lie behind it then: `depth` where there is none. The box is handed back,
+// since a borrow of the node would end the one that goes on.
+fn look<'a, K, V>(
+    top: &'a mut Box<TrieNode<K, V>>,
+    key: &Nibblet,
+    depth: usize,
+) -> (&'a mut Box<TrieNode<K, V>>, usize, usize)
+    requires depth { depth ≤ length key.now }
+    requires placed { IsTreePlaced (tree_of top.old.value) }
+    ensures same_reference { result.0.ghost_name ≡ top.entry.ghost_name }
+    ensures same { result.0.now ≡ top.old }
+    ensures within { (depth ≤ result.2) × (result.2 ≤ length key.now) }
+    ensures step { depth < result.2 → IsStep top.old.value key.now depth result.1 result.2 }
+    ensures stuck { result.2 ≡ depth → IsStuck (tree_of top.old.value) (drop depth key.now) }
+{
+    match step(&**top, key, depth) {
+        Some((i, next)) => (top, i, next),
+        None => (top, 0, depth),
+    }
+}
+
+// The node in the box, where the key ends there.
+fn here<'a, K, V>(
+    top: &'a mut Box<TrieNode<K, V>>,
+    key: &Nibblet,
+    depth: usize,
+) -> Option<&'a mut TrieNode<K, V>>
+    requires depth { depth ≤ length key.now }
+    requires placed { IsTreePlaced (tree_of top.old.value) }
+    requires stuck { IsStuck (tree_of top.old.value) (drop depth key.now) }
+    ensures* writes_back { sem 𝓛 (LendsNode K.row V.row top.entry (fragment_of top.old.value ++ drop depth key.now) result) }
+{
+    if depth == key.len() {
+        Some(unbox(top))
+    } else {
+        None
+    }
+}
+
+/// The node at the key's place, for writing.
+pub fn node_below_mut<'a, K, V>(
+    top: &'a mut Box<TrieNode<K, V>>,
+    key: &Nibblet,
+    depth: usize,
+) -> Option<&'a mut TrieNode<K, V>>
+    requires depth { depth ≤ length key.now }
+    requires placed { IsTreePlaced (tree_of top.old.value) }
+    ensures* writes_back { sem 𝓛 (LendsNode K.row V.row top.entry (fragment_of top.old.value ++ drop depth key.now) result) }
+{
+    let (top, i, next) = look(top, key, depth);
+    if next == depth {
+        return here(top, key, depth);
+    }
+    node_below_mut(child_box(unbox(top), i), key, next)
+}
+
+/// The value of a pair, for writing.
+pub fn pair_value<K, V>(pair: &mut Option<Box<KeyValue<K, V>>>) -> Option<&mut V>
+    ensures* writes_back { sem 𝓛 (LendsPair K.row V.row pair.entry result) }
+    ensures value { IsLentPair result pair.old }
+{
+    match pair {
+        Some(b) => Some(&mut b.value),
+        None => None,
+    }
+}
+
+/// The value at the key's place, for writing: None exactly where no pair stands there.
+pub fn value_at_mut<'a, K, V>(
+    root: &'a mut TrieNode<K, V>,
+    key: &Nibblet,
+) -> Option<&'a mut V>
+    requires { IsTreePlaced (tree_of root.old) }
+    ensures* writes_back { sem 𝓛 (LendsValue K.row V.row root.entry (fragment_of root.old ++ key.now) result) }
+{
+    if key.len() == 0 {
+        return pair_value(&mut root.pair);
+    }
+    match step(root, key, 0) {
+        Some((i, next)) => match node_below_mut(child_box(root, i), key, next) {
+            Some(node) => pair_value(&mut node.pair),
+            None => None,
+        },
+        None => None,
+    }
+}

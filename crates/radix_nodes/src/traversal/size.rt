@@ -1,0 +1,35 @@
+//! How much a node holds.
+ghost use Rattle.std.specs.Prelude.{◌≡◌, ◌<◌, ◌≤◌, ◌^◌, [], suc, length, MatchOption};
+ghost use Rattle.nibble_map.specs.Kept.{entries_at};
+ghost use Rattle.nibble_map.specs.KeptSizes.{levels};
+ghost use Rattle.radix_nodes.specs.Nodes.{tree_of};
+
+use crate::trie_node::{TrieNode, has_pair};
+
+/// How many pairs stand at and below the node.
+#[tactic(auto, using(crate::proofs::Sizes::pairs_out, crate::proofs::Sizes::pairs_next, crate::proofs::Sizes::own_some, crate::proofs::Sizes::own_none))]
+pub fn count_pairs<K, V>(node: &TrieNode<K, V>) -> usize
+    requires { length (entries_at [] (tree_of node.now)) < 2 ^ 64 }
+    ensures { result ≡ length (entries_at [] (tree_of node.now)) }
+{
+    let mut count: usize = if has_pair(node) { 1 } else { 0 };
+    for child in &node.children {
+        count += count_pairs(child);
+    }
+    count
+}
+
+/// How many nodes stand on the longest way down from the node, with it. None: no `usize` can say it.
+#[tactic(auto, using(crate::proofs::Sizes::levels_out, crate::proofs::Sizes::levels_next))]
+pub fn height<K, V>(node: &TrieNode<K, V>) -> Option<usize>
+    ensures { MatchOption result (2 ^ 64 ≤ suc (levels (tree_of node.now).kids)) (λ h. h ≡ suc (levels (tree_of node.now).kids)) }
+{
+    let mut most: usize = 0;
+    for child in &node.children {
+        let under = height(child)?;
+        if most < under {
+            most = under;
+        }
+    }
+    most.checked_add(1)
+}

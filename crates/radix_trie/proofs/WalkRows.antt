@@ -3,9 +3,9 @@ use Rattle.std.proofs.Common.{◌≡◌, ◌<◌, List, [], ◌∷◌, ◌++◌,
 use Rattle.std.proofs.lemmas.List.{map-append, length-map}
 use Rattle.std.specs.Prelude.{MatchOption, IsSomeAnd}
 use Rattle.nibble_map.specs.Kept.{Kids, none}
+use Rattle.nibble_map.specs.KeptSizes.{levels}
 use Rattle.radix_nodes.specs.declared.trie_node.KeyValue.{KeyValue}
 use Rattle.radix_nodes.specs.declared.trie_node.TrieNode.{TrieNode, out-TrieNode}
-use Rattle.radix_nodes.specs.Heights.{height_in}
 use Rattle.radix_nodes.specs.Nodes.{kids_of, tree_of, unboxed}
 use Rattle.radix_nodes.proofs.Nodes.{kids_out, pair_out}
 use Rattle.radix_trie.specs.Walks.{parts_of, first_pair, own_pair, rows_of, with_row}
@@ -21,10 +21,10 @@ module _ {K V : Type 0} where
   pub length_rows : (rs : List (Bor (Row K V))) → length (rows_of rs) ≡ length rs
   length_rows rs = length-map rs (λ (q : Bor (Row K V)). kids_of q.now)
 
-  -- a row with a node has a height
-  pub height-some : (bs : Row K V) → 0 < length bs → 0 < height_in (kids_of bs)
-  height-some [] lt = absurd (omega arith)
-  height-some (b ∷ bs) lt = omega arith
+  -- a row with a node has a level
+  pub levels-some : (bs : Row K V) → 0 < length bs → 0 < levels (kids_of bs)
+  levels-some [] lt = absurd (omega arith)
+  levels-some (b ∷ bs) lt = omega arith
 
   pub row_pushed : (rs new : List (Bor (Row K V))) (r : Bor (Row K V)) → new ≡ rs ++ r ∷ [] → 0 < length r.now
       → rows_of new ≡ with_row (rows_of rs) (kids_of r.now)

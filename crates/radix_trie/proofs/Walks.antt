@@ -1,12 +1,12 @@
 -- The equations of a walk: over the rows of its stack, as plain data.
 use Rattle.std.proofs.Common.{◌≡◌, ℕ, suc, ◌+◌, ◌*◌, ◌<◌, ◌≤◌, List, [], ◌∷◌, ◌++◌, length, refl, ap, sym, subst, ◌∙◌, append_assoc, append-nil, length-append, arith, Option, Some, None}
-use Rattle.std.proofs.lemmas.List.{map-append}
+use Rattle.std.proofs.lemmas.List.{map-append, length-map}
 use Rattle.std.specs.Bool.{⊤}
 use Rattle.std.specs.Iterator.{MakesProgress, item_count}
 use Rattle.nibble_map.specs.Kept.{Tree, Kids, none, more, front, entries_in, entries_at, nodes_in}
+use Rattle.nibble_map.specs.KeptSizes.{levels}
 use Rattle.nibble_map.specs.Swaps.{entry}
 use Rattle.radix_nodes.specs.declared.trie_node.KeyValue.{KeyValue}
-use Rattle.radix_nodes.specs.Heights.{height_in}
 use Rattle.radix_trie.specs.Walks.{parts_of, own_pair, pairs_of, pairs_in, pairs_in_all, pending, with_row, HasRoom}
 
 -- an item lowers what is left
@@ -33,27 +33,27 @@ module _ {P : Type 0} where
   length-with_row rs (more f o m kids others) = omega (arith, length-append rs (more f o m kids others ∷ []))
 
   room-push : (most i : ℕ) (rs : List (Kids P)) (r : Kids P) → HasRoom most i rs
-      → i + length rs + height_in r ≤ most → HasRoom most i (rs ++ r ∷ [])
+      → i + length rs + levels r ≤ most → HasRoom most i (rs ++ r ∷ [])
   room-push most i [] r h fits = (omega arith, tt)
   room-push most i (q ∷ rs) r h fits = (h.0, room-push most (suc i) rs r h.1 (omega arith))
 
   room-pop : (most i : ℕ) (rs : List (Kids P)) (r : Kids P) → HasRoom most i (rs ++ r ∷ [])
-      → HasRoom most i rs × (i + length rs + height_in r ≤ most)
+      → HasRoom most i rs × (i + length rs + levels r ≤ most)
   room-pop most i [] r h = (tt, omega arith)
   room-pop most i (q ∷ rs) r h = let p = room-pop most (suc i) rs r h.1 in ((h.0, p.0), omega (arith, p.1))
 
-  pub room-with_row : (most : ℕ) (rs : List (Kids P)) (r : Kids P) → HasRoom most 0 rs → length rs + height_in r ≤ most
+  pub room-with_row : (most : ℕ) (rs : List (Kids P)) (r : Kids P) → HasRoom most 0 rs → length rs + levels r ≤ most
       → HasRoom most 0 (with_row rs r)
   room-with_row most rs none h fits = h
   room-with_row most rs (more f o m kids others) h fits = room-push most 0 rs (more f o m kids others) h (omega arith)
 
   -- the first row of a walk
-  pub start_room : (most : ℕ) (rows : List (Kids P)) (kids : Kids P) → rows ≡ with_row [] kids → height_in kids ≤ most → HasRoom most 0 rows
+  pub start_room : (most : ℕ) (rows : List (Kids P)) (kids : Kids P) → rows ≡ with_row [] kids → levels kids ≤ most → HasRoom most 0 rows
   start_room most rows kids is fits = subst (HasRoom most 0) (sym is) (room-with_row most [] kids tt (omega arith))
 
   -- a turn, at a stack of the rows `old`, of which the last one is taken off
   module _ (most : ℕ) (old rs : List (Kids P)) (r : Kids P) (top : old ≡ rs ++ r ∷ []) where
-    abbrev popped : HasRoom most 0 old → HasRoom most 0 rs × (0 + length rs + height_in r ≤ most)
+    abbrev popped : HasRoom most 0 old → HasRoom most 0 rs × (0 + length rs + levels r ≤ most)
     popped h = room-pop most 0 rs r (subst (HasRoom most 0) top h)
 
     -- the row was used up
@@ -65,13 +65,13 @@ module _ {P : Type 0} where
 
     -- the row had the node t, and then `others`
     module _ (t : Tree P) (others : Kids P) (is : r ≡ front t others) where
-      abbrev tall : height_in r ≡ height_in (front t others)
-      tall = ap height_in is
+      abbrev tall : levels r ≡ levels (front t others)
+      tall = ap levels is
 
-      pub others_fit : HasRoom most 0 old → length rs + height_in others ≤ most
+      pub others_fit : HasRoom most 0 old → length rs + levels others ≤ most
       others_fit h = omega (arith, (popped h).1, tall)
 
-      pub kids_fit : HasRoom most 0 old → length (with_row rs others) + height_in t.kids ≤ most
+      pub kids_fit : HasRoom most 0 old → length (with_row rs others) + levels t.kids ≤ most
       kids_fit h = omega (arith, (popped h).1, tall, length-with_row rs others)
 
       module _ (new : List (Kids P)) (now : new ≡ with_row (with_row rs others) t.kids) where
@@ -98,6 +98,9 @@ module _ {K V : Type 0} where
       ∙ ap (λ x. x ++ pairs_of (entries_in q others)) (append-pairs (entry (q ++ f) o) (entries_in (q ++ f) kids)
       ∙ ap (λ x. x ++ pairs_of (entries_in (q ++ f) kids)) (entry-pairs (q ++ f) o))
 
+  pub length_pairs : (es : List (List ℕ × KeyValue K V)) → length (pairs_of es) ≡ length es
+  length_pairs es = length-map es (λ e. parts_of e.1)
+
   -- the pairs don't depend on the path above
   anywhere : (p q : List ℕ) (kids : Kids (KeyValue K V)) → pairs_of (entries_in p kids) ≡ pairs_of (entries_in q kids)
   anywhere p q none = refl
@@ -107,11 +110,12 @@ module _ {K V : Type 0} where
       ∙ ap (λ x. (own_pair o ++ pairs_of (entries_in (q ++ f) kids)) ++ x) (anywhere p q others)
       ∙ sym (split q f o m kids others)
 
-  pub pairs_in-node : (t : Tree (KeyValue K V)) → pairs_in t ≡ own_pair t.pair ++ pairs_in_all t.kids
-  pairs_in-node t =
-      append-pairs (entry t.fragment t.pair) (entries_in t.fragment t.kids)
-      ∙ ap (λ x. x ++ pairs_of (entries_in t.fragment t.kids)) (entry-pairs t.fragment t.pair)
-      ∙ ap (λ x. own_pair t.pair ++ x) (anywhere t.fragment [] t.kids)
+  -- a node's own pair, and those below it: the path above makes no difference
+  pub pairs_at : (q : List ℕ) (t : Tree (KeyValue K V)) → pairs_of (entries_at q t) ≡ own_pair t.pair ++ pairs_in_all t.kids
+  pairs_at q t =
+      append-pairs (entry (q ++ t.fragment) t.pair) (entries_in (q ++ t.fragment) t.kids)
+      ∙ ap (λ x. x ++ pairs_of (entries_in (q ++ t.fragment) t.kids)) (entry-pairs (q ++ t.fragment) t.pair)
+      ∙ ap (λ x. own_pair t.pair ++ x) (anywhere (q ++ t.fragment) [] t.kids)
 
   pending-push : (rs : List (Kids (KeyValue K V))) (r : Kids (KeyValue K V)) → pending (rs ++ r ∷ []) ≡ pairs_in_all r ++ pending rs
   pending-push [] r = sym (append-nil (pairs_in_all r))
@@ -124,7 +128,7 @@ module _ {K V : Type 0} where
   pub start_pairs : (t : Tree (KeyValue K V)) (rows : List (Kids (KeyValue K V))) → rows ≡ with_row [] t.kids
       → own_pair t.pair ++ pending rows ≡ pairs_in t
   start_pairs t rows is =
-      ap (λ x. own_pair t.pair ++ x) (ap pending is ∙ pending-with_row [] t.kids ∙ append-nil (pairs_in_all t.kids)) ∙ sym (pairs_in-node t)
+      ap (λ x. own_pair t.pair ++ x) (ap pending is ∙ pending-with_row [] t.kids ∙ append-nil (pairs_in_all t.kids)) ∙ sym (pairs_at [] t)
 
   -- a turn, as above
   module _ (old rs : List (Kids (KeyValue K V))) (r : Kids (KeyValue K V)) (top : old ≡ rs ++ r ∷ []) where
@@ -138,7 +142,7 @@ module _ {K V : Type 0} where
         let below = pairs_in_all t.kids in
         let beside = pairs_in_all others in
         ap pending top ∙ pending-push rs r
-        ∙ ap (λ x. x ++ pending rs) (ap pairs_in_all is ∙ append-pairs (entries_at [] t) (entries_in [] others) ∙ ap (λ x. x ++ beside) (pairs_in-node t))
+        ∙ ap (λ x. x ++ pending rs) (ap pairs_in_all is ∙ append-pairs (entries_at [] t) (entries_in [] others) ∙ ap (λ x. x ++ beside) (pairs_at [] t))
         ∙ append_assoc (own ++ below) beside (pending rs)
         ∙ append_assoc own below (beside ++ pending rs)
         ∙ ap (λ x. own ++ (below ++ x)) (sym (pending-with_row rs others))

@@ -3,9 +3,9 @@ use Rattle.std.specs.Prelude.{ℕ, suc, ◌+◌, ◌≤◌, List, [], ◌∷◌,
 use Rattle.std.specs.Borrow.{Bor}
 use Rattle.std.specs.declared.alloc.Global.{Global}
 use Rattle.nibble_map.specs.Kept.{Tree, Kids, none, more, entries_in, entries_at}
+use Rattle.nibble_map.specs.KeptSizes.{levels}
 use Rattle.radix_nodes.specs.declared.trie_node.KeyValue.{KeyValue}
 use Rattle.radix_nodes.specs.declared.trie_node.TrieNode.{TrieNode}
-use Rattle.radix_nodes.specs.Heights.{height_in}
 use Rattle.radix_nodes.specs.Nodes.{kids_of}
 
 -- what a `(&K, &V)` points to
@@ -55,4 +55,4 @@ module _ {P : Type 0} where
   -- a stack of the capacity `most` has room for all that comes of its rows, of which the first stands at i
   abbrev pub HasRoom : ℕ → ℕ → List (Kids P) → Type 0
   HasRoom most i [] = ⊤
-  HasRoom most i (r ∷ rs) = (i + height_in r ≤ most) × HasRoom most (suc i) rs
+  HasRoom most i (r ∷ rs) = (i + levels r ≤ most) × HasRoom most (suc i) rs

@@ -1,12 +1,13 @@
 //! The ordered walk over keys and values.
 ghost use Rattle.std.specs.Prelude.{◌≡◌, ◌+◌, ◌<◌, ◌≤◌, ◌^◌, [], IfOk, length, vec_capacity};
 ghost use Rattle.std.specs.Iterator.{YieldsFirstBy, item_count};
-ghost use Rattle.radix_nodes.specs.Heights.{height_in};
+ghost use Rattle.nibble_map.specs.Kept.{entries_at};
+ghost use Rattle.nibble_map.specs.KeptSizes.{levels};
 ghost use Rattle.radix_nodes.specs.Nodes.{kids_of, tree_of};
 ghost use Rattle.radix_trie.specs.Walks.{deref_pair, first_pair, own_pair, pairs_in, rows_of, with_row};
 
 use radix_keys::Memory;
-use radix_nodes::traversal::height::height;
+use radix_nodes::traversal::size::height;
 use radix_nodes::trie_node::{KeyValue, TrieNode};
 use std::alloc::Global;
 use std::iter::FusedIterator;
@@ -49,14 +50,15 @@ impl<'a, K, V> Iter<'a, K, V> {
 
     /// The walk over the pairs at and below a node. All memory that it needs is taken here.
     pub(crate) fn over(alloc: Global, node: &'a TrieNode<K, V>) -> Result<Iter<'a, K, V>, Memory>
-        requires { length (pairs_in (tree_of node.now)) < 2 ^ 64 }
+        requires { length (entries_at [] (tree_of node.now)) < 2 ^ 64 }
         ensures pairs { IfOk result (λ walk. walk ≡ pairs_in (tree_of node.now)) }
         ensures countable { IfOk result (λ walk. length walk < 2 ^ 64) }
     {
         let Some(height) = height(node) else {
             return Err(Memory);
         };
-        let mut stack = Vec::with_capacity(alloc, height)?;
+        // A row for each level below the node.
+        let mut stack = Vec::with_capacity(alloc, height - 1)?;
         push_row(&mut stack, &node.children);
         Ok(Iter {
             first: pair_at(node),
@@ -107,7 +109,7 @@ fn parts<K, V>(pair: &KeyValue<K, V>) -> (&K, &V)
 
 /// Puts a row on the stack, where there is room, if it isn't empty.
 fn push_row<'a, K, V>(stack: &mut Vec<&'a [Box<TrieNode<K, V>>]>, row: &'a [Box<TrieNode<K, V>>])
-    requires { length (rows_of stack.old.items) + height_in (kids_of row.now) ≤ vec_capacity stack.old }
+    requires { length (rows_of stack.old.items) + levels (kids_of row.now) ≤ vec_capacity stack.old }
     ensures rows { rows_of stack.new.items ≡ with_row (rows_of stack.old.items) (kids_of row.now) }
     ensures capacity { vec_capacity stack.new ≡ vec_capacity stack.old }
 {

@@ -1,12 +1,12 @@
 use Rattle.std.proofs.Common.{◌<◌, arith, length}
 use Rattle.std.proofs.lemmas.Bool.Decides.{nat_tests}
-use Rattle.radix_trie.proofs.WalkRows.{height-some, length_rows, row_pushed}
+use Rattle.radix_trie.proofs.WalkRows.{levels-some, length_rows, row_pushed}
 use Rattle.radix_trie.proofs.iter.walk.push_row.Goals as goal
 
 pub push_reserved-requires : goal.push_reserved-requires
 push_reserved-requires g c =
     let some : 0 < length c.args.row.now = grind (arith, nat_tests) in
-    omega (arith, height-some c.args.row.now some, length_rows c.args.stack.now.items)
+    omega (arith, levels-some c.args.row.now some, length_rows c.args.stack.now.items)
 
 pub returns-then-not-is_empty-clause-rows : goal.returns-then-not-is_empty-clause-rows
 returns-then-not-is_empty-clause-rows g c =

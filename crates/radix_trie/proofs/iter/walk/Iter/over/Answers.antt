@@ -1,20 +1,21 @@
-use Rattle.std.proofs.Common.{[], arith, ap, sym, subst, ◌∙◌, ◌++◌, ◌<◌, ◌^◌, length}
-use Rattle.radix_nodes.specs.Heights.{height_in}
+use Rattle.std.proofs.Common.{[], arith, ap, ◌∙◌, ◌++◌, length}
+use Rattle.nibble_map.specs.Kept.{entries_at}
+use Rattle.nibble_map.specs.KeptSizes.{levels}
 use Rattle.radix_nodes.specs.Nodes.{kids_of, tree_of}
 use Rattle.radix_trie.specs.Walks.{pending, rows_of, with_row}
-use Rattle.radix_trie.proofs.Walks.{start_room, start_pairs}
+use Rattle.radix_trie.proofs.Walks.{length_pairs, start_room, start_pairs}
 use Rattle.radix_trie.proofs.WalkRows.{row_kids}
 use Rattle.radix_trie.proofs.iter.walk.Iter.over.Goals as goal
 
 pub push_row-requires : goal.push_row-requires
 push_row-requires g c =
-    omega (arith, ap (λ x. length (rows_of x)) c.in_ok-stack.ensures.items, ap height_in (row_kids c.args.node.now _ c.deref.ensures.value), c.in_ok-stack.ensures.exact, c.in-Some.ensures.levels)
+    omega (arith, ap (λ x. length (rows_of x)) c.in_ok-stack.ensures.items, ap levels (row_kids c.args.node.now _ c.deref.ensures.value), c.in_ok-stack.ensures.exact, c.in-Some.ensures)
 
 pub invariant_of-result : goal.invariant_of-result
 invariant_of-result g c =
     let rows = c.push_row.ensures.rows ∙ ap (λ x. with_row (rows_of x) (kids_of c.deref.result.now)) c.in_ok-stack.ensures.items
     ∙ ap (with_row []) (row_kids c.args.node.now _ c.deref.ensures.value) in
-    start_room _ _ _ rows (omega (arith, c.push_row.ensures.capacity, c.in_ok-stack.ensures.exact, c.in-Some.ensures.levels))
+    start_room _ _ _ rows (omega (arith, c.push_row.ensures.capacity, c.in_ok-stack.ensures.exact, c.in-Some.ensures))
 
 pub returns-clause-pairs : goal.returns-clause-pairs
 returns-clause-pairs g c =
@@ -23,4 +24,4 @@ returns-clause-pairs g c =
     ap (λ x. x ++ pending (rows_of c.push_row.new.stack.items)) c.pair_at.ensures ∙ start_pairs (tree_of c.args.node.now) _ rows
 
 pub returns-clause-countable : goal.returns-clause-countable
-returns-clause-countable g c = subst (λ n. n < 2 ^ 64) (sym (ap length (returns-clause-pairs g c))) c.requires
+returns-clause-countable g c = omega (arith, ap length (returns-clause-pairs g c), length_pairs (entries_at [] (tree_of c.args.node.now)), c.requires)

@@ -1,5 +1,5 @@
 use Rattle.std.proofs.Common.{◌++◌, ◌∷◌, length, arith, sym, ap, ◌∙◌}
-use Rattle.radix_nodes.specs.Heights.{height_in}
+use Rattle.nibble_map.specs.KeptSizes.{levels}
 use Rattle.radix_nodes.specs.Nodes.{kids_of, tree_of}
 use Rattle.radix_trie.specs.Walks.{deref_pair, first_pair, own_pair, pending, rows_of}
 use Rattle.radix_trie.proofs.Walks.{item_progress, end_room, end_falls, end_pairs, others_fit, kids_fit, node_room, node_falls, node_pairs}
@@ -23,7 +23,7 @@ push_row-requires-in-Some-split_first g c =
       ap length c.push_row.ensures.rows,
       c.push_row.ensures.capacity,
       c.pop.ensures.capacity,
-      ap height_in kids,
+      ap levels kids,
       kids_fit _ _ _ _ (row_popped _ _ _ c.in-Some-pop.ensures.items) _ _ (ap kids_of c.in-Some-split_first.ensures.cases.0) c.loop-nodes.invariant.room,
     )
 

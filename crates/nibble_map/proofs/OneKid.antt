@@ -1,17 +1,12 @@
 -- Where the query is a point; and the one child that leads to a stored list.
-use Rattle.std.proofs.Common.{◌≡◌, ℕ, ◌≤◌, ◌↔◌, List, [], ◌∷◌, ◌++◌, length, Option, Some, None, refl, sym, ap, subst, ◌∙◌, inl, inr, append_assoc, append-nil}
+use Rattle.std.proofs.Common.{◌≡◌, ℕ, ◌↔◌, List, [], ◌∷◌, ◌++◌, Option, Some, None, sym, ap, subst, ◌∙◌, inl, inr, append_assoc}
 use Rattle.std.specs.FinMap as map
 use Rattle.nibble_map.specs.Lists.{IsPrefix, IsStrictPrefix}
 use Rattle.nibble_map.specs.Points.{IsPoint}
-use Rattle.nibble_map.specs.Answers.{IsLongest, IsShortest, IsRawAncestor, IsRawDescendant}
+use Rattle.nibble_map.specs.Answers.{IsShortest, IsRawAncestor, IsRawDescendant}
 use Rattle.nibble_map.specs.Computed.{raw_descendant}
 use Rattle.nibble_map.specs.Maps.{NibbleMap, IsStored}
-<<<<<<< HEAD
 use Rattle.nibble_map.specs.MapQueries.{IsKid, AreKids, IsLeaf}
-=======
-use Rattle.nibble_map.specs.MapQueries.{IsKid}
-use Rattle.nibble_map.specs.Stored as stored
->>>>>>> 3c775565dcdaef9aeec99592f5f28129359e57b8
 use Rattle.nibble_map.proofs.ComputedAnswers.{raw_descendant_is}
 use Rattle.nibble_map.proofs.Cut.{cancel, cons_head}
 use Rattle.nibble_map.proofs.MapEdits.{held}

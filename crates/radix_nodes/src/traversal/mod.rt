@@ -3,7 +3,6 @@
 pub mod children;
 pub mod compare;
 pub mod find;
-pub mod height;
 pub mod copied;
 pub mod insert;
 pub mod lend;

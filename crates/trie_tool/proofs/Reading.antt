@@ -1,21 +1,21 @@
 -- What the parts of a line are.
-use Rattle.std.proofs.Common.{◌≡◌, ℕ, ◌+◌, ◌-◌, ◌^◌, ◌<◌, ◌≤◌, Bool, true, false, inl, inr, get_or, List, [], ◌∷◌, length, take, drop, refl, sym, ap, ◌∙◌, Option, None, Some, arith, Result, Ok, Err, ◌==◌, ◌&&◌, nat_lt, if◌then◌else◌, not, length-drop, get_or-drop, option_map, bytes_eq, codes, ◌||◌, cond}
+use Rattle.std.proofs.Common.{◌≡◌, ℕ, ◌+◌, ◌-◌, ◌^◌, ◌<◌, ◌≤◌, Bool, true, false, inl, inr, get_or, List, [], ◌∷◌, length, take, drop, refl, sym, ap, ◌∙◌, None, Some, arith, Result, Ok, Err, ◌==◌, ◌&&◌, nat_lt, if◌then◌else◌, not, length-drop, get_or-drop, option_map}
 use Rattle.std.specs.Str.{all_ascii_digits}
 use Rattle.std.specs.Str.Parse.{digits_value, ParsesUnsigned}
 use Rattle.std.specs.Result.{OkIff, result_ok}
 use Rattle.std.proofs.lemmas.Str.Parse.{IsNumeralModel, numerals_by_value, tells_all_ascii_digits, parse_digits}
 use Rattle.std.proofs.lemmas.Bool.Decides.{nat_tests}
 use Rattle.std.specs.Char.{is_ascii_digit}
-use Rattle.std.specs.List.{list_all, suffix_len, position_or_len, before_first, after_first, before_last, after_last}
+use Rattle.std.specs.List.{list_all, suffix_len, before_last, after_last}
 use Rattle.std.specs.Str.{NoCharPasses, is_utf8, IsUtf8}
-use Rattle.std.specs.Str.Pattern.{RFindsChar, HasCharAt}
+use Rattle.std.specs.Str.Pattern.{RFindsChar}
 use Rattle.std.proofs.lemmas.Str.Pattern.{NoCharPasses-char}
 use Rattle.std.proofs.lemmas.Bool.Decides.{eqb_tells}
 use Rattle.std.proofs.lemmas.List.Sums.{suffix_len_is}
 use Rattle.std.proofs.lemmas.List.Elements.{All-from_get_or}
 use Rattle.std.proofs.lemmas.Str.{is_utf8-from_IsUtf8, IsUtf8-from_is_utf8}
 use Rattle.std.proofs.lemmas.List.Folds.{list_any_at, list_any_none}
-use Rattle.trie_tool.specs.Request.{number_of, is_space, has_space, insert_of, keyed_request, lone_request, worded_request, request_of, Request, Insert, Len}
+use Rattle.trie_tool.specs.Request.{number_of, is_space, has_space, insert_of, worded_request, request_of, Insert}
 
 own : IsNumeralModel (λ ds. all_ascii_digits ds ≡ true) (digits_value 10)
 own = numerals_by_value _ tells_all_ascii_digits
@@ -50,9 +50,6 @@ not_number bs bad =
     ∙ ap (λ (d : Bool). if nat_lt 0 (length bs) && d && nat_lt (digits_value 10 bs) (2 ^ 64) then Some (digits_value 10 bs) else None) (sym bad)
 
 -- a key and a number around the last space
-position_is : (c : ℕ) (s : List ℕ) (p : ℕ × ℕ) → RFindsChar c s (Some p) → HasCharAt c s p.0 p.1
-position_is c s p found = found.1
-
 pub split_last : (s front back : List ℕ) (i j : ℕ) → RFindsChar 32 s (Some (i, j)) → front ≡ take i s → back ≡ drop j s → length back + j ≡ length s
     → (has_space s ≡ true) × (before_last is_space s ≡ front) × (after_last is_space s ≡ back)
 split_last s front back i j found f b fits =
@@ -85,33 +82,6 @@ insertion_is s front back i j found f b fits =
     sym (ap (λ (h : Bool). if h then option_map (λ n. Insert (before_last is_space s) n) (number_of (after_last is_space s)) else None) parts.0
     ∙ ap (λ (l : List ℕ). option_map (λ n. Insert l n) (number_of (after_last is_space s))) parts.1
     ∙ ap (λ (l : List ℕ). option_map (λ n. Insert front n) (number_of l)) parts.2)
-
-has_space_yes : (s : List ℕ) → position_or_len is_space s < length s → has_space s ≡ true
-has_space_yes [] lt = absurd (omega arith)
-has_space_yes (x ∷ xs) lt =
-    elim (is_space x) as (λ v. cond (not v) (1 + position_or_len is_space xs) 0 < length (x ∷ xs) → (v || has_space xs) ≡ true) [
-      | true ↦ λ _. refl
-      | false ↦ λ l. has_space_yes xs (omega arith)
-    ] lt
-
-has_space_no : (s : List ℕ) → position_or_len is_space s ≡ length s → has_space s ≡ false
-has_space_no [] e = refl
-has_space_no (x ∷ xs) e =
-    elim (is_space x) as (λ v. cond (not v) (1 + position_or_len is_space xs) 0 ≡ length (x ∷ xs) → (v || has_space xs) ≡ false) [
-      | true ↦ λ l. absurd (omega arith)
-      | false ↦ λ l. has_space_no xs (omega arith)
-    ] e
-
-abbrev worded_by : List ℕ → Bool → Option Request
-worded_by s h = if h then keyed_request (before_first is_space s) (after_first is_space s) else lone_request s
-
-pub with_space : (s word rest : List ℕ) → position_or_len is_space s < length s → word ≡ before_first is_space s → rest ≡ after_first is_space s
-    → keyed_request word rest ≡ worded_request s
-with_space s word rest lt w r =
-    sym (ap (worded_by s) (has_space_yes s lt) ∙ ap (λ (l : List ℕ). keyed_request l (after_first is_space s)) (sym w) ∙ ap (λ (l : List ℕ). keyed_request word l) (sym r))
-
-pub without_space : (s : List ℕ) → position_or_len is_space s ≡ length s → lone_request s ≡ worded_request s
-without_space s e = sym (ap (worded_by s) (has_space_no s e))
 
 pub is_text : (s : List ℕ) → IsUtf8 s → worded_request s ≡ request_of s
 unfolding request_of

@@ -29,12 +29,6 @@ pub heard_nothing : (unread held : Option (List ℕ)) (s : Session) → s.open_l
 heard_nothing unread held s line numbers answers count =
     record { read = []; written = []; consumed = Consumes-nil _; appended = Appends-nil _; clear = at_start s line numbers answers count }
 
--- no room for the buffer
-pub no_buffer : {U : Type 0} (r : Result U ToolError) (unread held : Option (List ℕ)) → r ≡ Err Memory → Served unread unread held held r
-no_buffer r unread held same =
-    subst (λ (q : Result _ ToolError). Served unread unread held held q) (sym same)
-    (record { read = []; written = []; consumed = Consumes-nil _; appended = Appends-nil _; outcome = ([], (talk []).answers, refl, refl) })
-
 -- it ends where the reader fails
 pub failed : {U : Type 0} (r : Result U ToolError) (unread unread' unread'' held held' : Option (List ℕ)) (s : Session)
     → Heard unread unread' held held' s → Keeps unread' unread'' → r ≡ Err Read → Served unread unread'' held held' r

@@ -1,5 +1,5 @@
 -- Where a session stands after each of its steps.
-use Rattle.std.proofs.Common.{◌≡◌, ℕ, ◌+◌, Bool, true, List, [], ◌∷◌, ◌++◌, length, take, drop, refl, sym, ap, subst, ◌∙◌, Option, Some, IsFalse, append_assoc, append-nil, arith, Result, Ok, Err, OnOk, OnErr, IfErr, Vec, Global, length-append, take-append-drop, if◌then◌else◌}
+use Rattle.std.proofs.Common.{◌≡◌, ℕ, ◌+◌, Bool, true, List, [], ◌∷◌, ◌++◌, length, take, drop, refl, sym, ap, subst, ◌∙◌, Option, Some, IsFalse, append_assoc, append-nil, arith, Result, Ok, Err, OnOk, OnErr, IfErr, length-append, take-append-drop, if◌then◌else◌}
 use Rattle.std.proofs.lemmas.List.Folds.{concat-append}
 use Rattle.std.specs.List.{concat}
 use Rattle.std.specs.Io.KnownBytes.{Appends}
@@ -124,30 +124,6 @@ pub sent_part : {U V : Type 0} (r : Result U ToolError) (q : Result V ToolError)
 sent_part r q b sent held held' s s' goes part fault =
     subst (λ (x : Result _ ToolError). Sends x b sent held held' s') (sym fault)
     (record { written = take part.0 s.conversation.answers.items; appended = part.1; why = shorter sent _ part.0 (talk_whole b) (beginning r b sent s goes) })
-
--- the answers were written
-sent_is : {U : Type 0} (r : Result U ToolError) (b sent : List ℕ) (s s' : Session) → Goes r b sent s
-    → s'.open_line ≡ s.open_line → s'.conversation.numbers ≡ s.conversation.numbers → s'.conversation.count ≡ s.conversation.count → s'.conversation.answers.items ≡ []
-    → Sent r b (sent ++ s.conversation.answers.items) s'
-sent_is (Ok u) b sent s s' at line numbers count clear = record {
-  at = record {
-    rest = ap (λ (v : Vec ℕ Global). v.items) line ∙ at.rest;
-    told = record {
-      numbers = ap values_of numbers ∙ at.told.numbers;
-      good = at.told.good;
-      count = count ∙ at.told.count;
-      said_is = at.told.said_is ∙ sym (append-nil _) ∙ ap (λ (l : List ℕ). (sent ++ s.conversation.answers.items) ++ l) (sym clear);
-    };
-  };
-  none_waits = clear;
-}
-sent_is (Err e) b sent s s' why line numbers count clear = why
-
-pub sent_all : {U : Type 0} (r : Result U ToolError) (b sent : List ℕ) (held held' : Option (List ℕ)) (s s' : Session) → Goes r b sent s → Appends held held' s.conversation.answers.items
-    → s'.open_line ≡ s.open_line → s'.conversation.numbers ≡ s.conversation.numbers → s'.conversation.count ≡ s.conversation.count → s'.conversation.answers.items ≡ []
-    → Sends r b sent held held' s'
-sent_all r b sent held held' s s' goes all line numbers count clear =
-    record { written = s.conversation.answers.items; appended = all; why = sent_is r b sent s s' goes line numbers count clear }
 
 -- at the end of the input
 done : {U : Type 0} (r : Result U ToolError) (a b sent : List ℕ) (s : Session) → talk_whole a ≡ talk b → Sent r a sent s → IsDone r b sent

@@ -1,5 +1,6 @@
 //! Walks down the nodes.
 
+pub mod change;
 pub mod compare;
 pub mod find;
 pub mod insert;

@@ -5,3 +5,4 @@ pub mod Searches
 pub mod Sizes
 pub mod Lent
 pub mod Lending
+pub mod Soundness

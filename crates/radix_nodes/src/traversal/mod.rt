@@ -1,6 +1,7 @@
 //! Walks down the nodes.
 
 pub mod change;
+pub mod checker;
 pub mod compare;
 pub mod find;
 pub mod insert;

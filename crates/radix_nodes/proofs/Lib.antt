@@ -8,3 +8,4 @@ pub mod Lent
 pub mod Lending
 pub mod FewKids
 pub mod CopiedNodes
+pub mod Soundness

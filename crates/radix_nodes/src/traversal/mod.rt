@@ -1,6 +1,8 @@
 //! Walks down the nodes.
 
 pub mod children;
+pub mod change;
+pub mod checker;
 pub mod compare;
 pub mod find;
 pub mod copied;

@@ -1,0 +1,73 @@
+use Rattle.std.proofs.Common.{rules, ◌≡◌, ◌++◌, cond, true, false, ◌<◌, ◌≤◌, ◌∙◌, get_or, ap, sym, subst, length, arith}
+use Rattle.nibble_map.specs.Kept.{nodes_in}
+use Rattle.radix_nodes.specs.declared.trie_node.TrieNode.{out-TrieNode}
+use Rattle.radix_nodes.specs.Nodes.{tree_of, fragment_of}
+use Rattle.radix_nodes.specs.Soundness.{pairs_of, test_of}
+use Rattle.radix_nodes.proofs.Sizes.{child_fewer}
+use Rattle.radix_nodes.proofs.Soundness.{child_pairs, next_pairs, ends_start, ends_kid, goes_on, starts_empty, starts_low, starts_next}
+use Rattle.nibble_map.specs.Trees.{first}
+use Rattle.radix_nodes.proofs.traversal.checker.+test.Goals as goal
+
+pub test-requires : goal.test-requires
+test-requires g t c =
+    let n = c.args.node.now in
+    let m = c.deref-in-loop-child-2.result.now in
+    let items = c.deref-child-items.ensures.value in
+    let i = c.loop-child.child-index in
+    let b = c.child-item.result in
+    let lt : i < length (out-TrieNode g.row.K.Denot g.row.V.Denot n).children.items = subst (λ xs. i < length xs) items c.loop-child-test.true in
+    let at = ap (λ xs. get_or xs i b) (sym items) ∙ sym c.child-item.is in
+    let nodes : nodes_in (tree_of m).kids < nodes_in (tree_of n).kids = subst (λ k. nodes_in (tree_of k).kids < nodes_in (tree_of n).kids) (sym c.deref-in-loop-child-2.ensures) (child_fewer n i b lt at).0 in
+    let pairs : pairs_of m ≤ pairs_of n = subst (λ k. pairs_of k ≤ pairs_of n) (sym c.deref-in-loop-child-2.ensures) (child_pairs n i b lt at) in
+    λ κs l. (omega (arith, c.decreases, nodes), (l.0, (l.1, omega (arith, pairs, c.requires))))
+
+pub returns-then-len-eq0-clause-answer : goal.returns-then-len-eq0-clause-answer
+returns-then-len-eq0-clause-answer g t c =
+    let b = c.child-item.result in
+    let e = g.K.TrieKey.encoding in
+    let p = c.args.prefix.now ++ fragment_of c.args.node.now in
+    let mask = (out-TrieNode g.row.K.Denot g.row.V.Denot c.args.node.now).mask in
+    let none : length (fragment_of b.value) ≡ 0 = ap (λ k. length (fragment_of k)) (sym c.deref.ensures) ∙ sym c.len.ensures ∙ c.if-len-eq0.true in
+    ends_start c.deref-child-items.result.now c.loop-child.child-index b c.loop-child-test.true c.child-item.is e p c.loop-child.low c.loop-child.seen mask _ c.loop-child.invariant.1 (starts_empty c.loop-child.low (fragment_of b.value) none)
+
+pub returns-then-nibble-low-clause-answer : goal.returns-then-nibble-low-clause-answer
+returns-then-nibble-low-clause-answer g t c =
+    let b = c.child-item.result in
+    let e = g.K.TrieKey.encoding in
+    let p = c.args.prefix.now ++ fragment_of c.args.node.now in
+    let mask = (out-TrieNode g.row.K.Denot g.row.V.Denot c.args.node.now).mask in
+    let y = c.get-nibble.ensures.value ∙ ap (λ k. first (fragment_of k)) c.deref-in-loop-child.ensures in
+    ends_start c.deref-child-items.result.now c.loop-child.child-index b c.loop-child-test.true c.child-item.is e p c.loop-child.low c.loop-child.seen mask _ c.loop-child.invariant.1
+    (starts_low c.loop-child.low c.get-nibble.result (fragment_of b.value) y c.if-nibble-low.true)
+
+pub returns-then-not-sound-clause-answer : goal.returns-then-not-sound-clause-answer
+returns-then-not-sound-clause-answer g t c =
+    let b = c.child-item.result in
+    let e = g.K.TrieKey.encoding in
+    let p = c.args.prefix.now ++ fragment_of c.args.node.now in
+    let mask = (out-TrieNode g.row.K.Denot g.row.V.Denot c.args.node.now).mask in
+    let made : c.in_ok-path.path ≡ p = c.in_ok-path.ensures.made in
+    let unsound : c.in_ok-sound.sound ≡ false = search rules in
+    let own : test_of e p b.value ≡ false = ap (λ k. test_of e p k) (sym c.deref-in-loop-child-2.ensures) ∙ ap (λ q. test_of e q c.deref-in-loop-child-2.result.now) (sym made) ∙ sym c.in_ok-sound.ensures.answer ∙ unsound in
+    ends_kid c.deref-child-items.result.now c.loop-child.child-index b c.loop-child-test.true c.child-item.is e p c.loop-child.low c.loop-child.seen mask _ c.loop-child.invariant.1 own
+
+pub loop-child-preserved : goal.loop-child-preserved
+loop-child-preserved g t c =
+    let b = c.child-item.result in
+    let e = g.K.TrieKey.encoding in
+    let p = c.args.prefix.now ++ fragment_of c.args.node.now in
+    let mask = (out-TrieNode g.row.K.Denot g.row.V.Denot c.args.node.now).mask in
+    let items = c.deref-child-items.result.now in
+    let i = c.loop-child.child-index in
+    let made : c.in_ok-path.path ≡ p = c.in_ok-path.ensures.made in
+    let sound : c.in_ok-sound.sound ≡ true = search rules in
+    let own : test_of e p b.value ≡ true = ap (λ k. test_of e p k) (sym c.deref-in-loop-child-2.ensures) ∙ ap (λ q. test_of e q c.deref-in-loop-child-2.result.now) (sym made) ∙ sym c.in_ok-sound.ensures.answer ∙ sound in
+    let size : c.in_ok-sound.size ≡ pairs_of b.value = c.in_ok-sound.ensures.count ∙ ap (λ s. cond s (pairs_of c.deref-in-loop-child-2.result.now) 0) sound ∙ ap (λ k. pairs_of k) c.deref-in-loop-child-2.ensures in
+    let y = c.get-nibble.ensures.value ∙ ap (λ k. first (fragment_of k)) c.deref-in-loop-child.ensures in
+    let some : 0 < length (fragment_of b.value) = (let l = ap (λ k. length (fragment_of k)) c.deref.ensures in omega (arith, l, c.len.ensures, c.if-len-eq0.false)) in
+    let next = next_pairs items i b c.loop-child-test.true c.child-item.is in
+    (
+      omega (arith, c.loop-child.invariant.0, next, size),
+      goes_on items i b c.loop-child-test.true c.child-item.is e p c.loop-child.low c.loop-child.seen mask _ c.loop-child.invariant.1 c.get-nibble.result y
+      (starts_next c.loop-child.low c.get-nibble.result (fragment_of b.value) some y (omega (arith, c.if-nibble-low.false)) c.get-nibble.ensures.nibble) own,
+    )

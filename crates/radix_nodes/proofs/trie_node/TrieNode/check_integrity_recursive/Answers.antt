@@ -1,0 +1,21 @@
+use Rattle.std.proofs.Common.{◌≡◌, ◌<◌, ◌^◌, ◌↔◌, ◌∙◌, IsTrue, cond, ap, sym, subst, length}
+use Rattle.nibble_map.specs.Kept.{entries_at}
+use Rattle.radix_nodes.specs.Nodes.{tree_of}
+use Rattle.radix_nodes.specs.Soundness.{IsCanonicalAt}
+use Rattle.radix_nodes.proofs.Removes.{if_ok}
+use Rattle.radix_nodes.proofs.Soundness.{decided, pairs_at}
+use Rattle.radix_nodes.proofs.trie_node.TrieNode.check_integrity_recursive.Goals as goal
+
+pub test-requires : goal.test-requires
+test-requires g c = subst (λ k. k < 2 ^ 64) (pairs_at c.args.prefix.now c.args.self.now) c.requires
+
+pub returns-clause-answer : goal.returns-clause-answer
+returns-clause-answer g c =
+    let n = c.args.self.now in
+    let e = g.K.TrieKey.encoding in
+    if_ok _ _ c.test.result c.test.ensures.answer (λ r is. subst (λ b. IsTrue b ↔ IsCanonicalAt e c.args.prefix.now (tree_of n)) (sym is) (decided e c.args.prefix.now n))
+
+pub returns-clause-count : goal.returns-clause-count
+returns-clause-count g c =
+    let n = c.args.self.now in
+    if_ok _ _ c.test.result c.test.ensures.count (λ r is. is ∙ ap (λ k. cond r.0 k 0) (sym (pairs_at c.args.prefix.now n)))

@@ -5,3 +5,5 @@ pub mod Held
 mod Walks
 mod WalkRows
 mod Present
+mod Roots
+mod Equal

@@ -162,6 +162,11 @@ impl<K: TrieKey, V> Trie<K, V> {
     {
         &self.root
     }
+
+    /// The allocator that the nodes come from.
+    pub(crate) fn alloc(&self) -> Global {
+        self.alloc
+    }
 }
 
 /// The key's encoding. Its count of nibbles is within `usize`.

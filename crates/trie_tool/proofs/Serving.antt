@@ -6,7 +6,7 @@ use Rattle.std.proofs.KnownBytes.{Appends-trans, Appends-nil, Consumes-nil, Cons
 use Rattle.trie_tool.specs.declared.fault.ToolError.{ToolError}
 use Rattle.trie_tool.specs.declared.fault.ToolError.TheVariants.{Read, Write, BadLine, Memory}
 use Rattle.trie_tool.specs.declared.session.Session.{Session}
-use Rattle.trie_tool.specs.Values.{values_of}
+use Rattle.nibble_map.specs.Maps.{values_of}
 use Rattle.trie_tool.specs.Serve.{Outcome, Stopped, Served}
 use Rattle.trie_tool.specs.Session.{IsAt, IsClear, Breaks, Sends, Finishes, IsDone}
 use Rattle.trie_tool.specs.Talk.{cut, talk_of, talk, talk_whole}

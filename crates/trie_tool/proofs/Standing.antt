@@ -7,7 +7,7 @@ use Rattle.trie_tool.specs.declared.fault.ToolError.{ToolError}
 use Rattle.trie_tool.specs.declared.fault.ToolError.TheVariants.{Read, Write, BadLine, Memory}
 use Rattle.trie_tool.specs.declared.conversation.Conversation.{Conversation}
 use Rattle.trie_tool.specs.declared.session.Session.{Session}
-use Rattle.trie_tool.specs.Values.{values_of}
+use Rattle.nibble_map.specs.Maps.{values_of}
 use Rattle.trie_tool.specs.Request.{Numbers}
 use Rattle.trie_tool.specs.Serve.{IsBeginning}
 use Rattle.trie_tool.specs.Talk.{Talk, Cut, HasNoFeed, cut, talk, talk_whole, said, turn, after_turn, counted}

@@ -2,7 +2,7 @@
 ghost use Rattle.std.specs.Prelude.{◌≡◌, ◌++◌, ◌∷◌, [], IfOk, OnOk, string_bytes, decimal};
 ghost use Rattle.trie_tool.specs.Command.{request};
 ghost use Rattle.trie_tool.specs.Request.{answer_to, numbers_after, insert_answer, get_answer};
-ghost use Rattle.trie_tool.specs.Values.{values_of};
+ghost use Rattle.nibble_map.specs.Maps.{values_of};
 
 use crate::command::Command;
 use crate::numbers;

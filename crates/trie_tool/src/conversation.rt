@@ -3,7 +3,7 @@ ghost use Rattle.std.specs.Prelude.{◌≡◌, ◌+◌, [], IfOk, OnOk, OnErr, I
 ghost use Rattle.std.specs.FinMap as map;
 ghost use Rattle.trie_tool.specs.Session.{IsRefusal, Takes};
 ghost use Rattle.trie_tool.specs.Talk.{counted, turn};
-ghost use Rattle.trie_tool.specs.Values.{values_of};
+ghost use Rattle.nibble_map.specs.Maps.{values_of};
 
 use crate::answers::answer;
 use crate::command::parse;

@@ -2,7 +2,7 @@
 ghost use Rattle.std.specs.Prelude.{◌≡◌, IfOk, OnOk, OnErr};
 ghost use Rattle.std.specs.FinMap as map;
 ghost use Rattle.nibble_map.specs.Nibbles.{nibbles};
-ghost use Rattle.trie_tool.specs.Values.{values_of};
+ghost use Rattle.nibble_map.specs.Maps.{values_of};
 
 use radix_trie::{Memory, Trie};
 use std::alloc::Global;

@@ -3,7 +3,7 @@ ghost use Rattle.std.specs.Prelude.{◌≡◌, ℕ, List, [], ◌∷◌, ◌++�
 ghost use Rattle.std.specs.FinMap as map;
 ghost use Rattle.trie_tool.specs.Session.{IsAt, Goes, Sends, Finishes};
 ghost use Rattle.trie_tool.specs.Talk.{HasNoFeed, talk, talk_whole};
-ghost use Rattle.trie_tool.specs.Values.{values_of};
+ghost use Rattle.nibble_map.specs.Maps.{values_of};
 
 use crate::conversation::Conversation;
 use crate::fault::ToolError;

@@ -1,6 +1,6 @@
 use Rattle.std.proofs.Common.{◌∙◌, sym}
 use Rattle.nibble_map.specs.Nibbles.{nibbles}
-use Rattle.trie_tool.proofs.Values.{values_get}
+use Rattle.nibble_map.proofs.Values.{values_get}
 use Rattle.trie_tool.proofs.numbers.get.Goals as goal
 
 pub returns : goal.returns

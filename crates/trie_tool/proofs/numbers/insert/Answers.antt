@@ -2,9 +2,9 @@ use Rattle.std.proofs.Common.{◌≡◌, ◌∙◌, ap, sym, ℕ, List, Option, 
 use Rattle.std.proofs.lemmas.Result.{IfOk-weaker}
 use Rattle.std.specs.FinMap as map
 use Rattle.nibble_map.specs.Nibbles.{nibbles}
-use Rattle.trie_tool.specs.Values.{values_of}
+use Rattle.nibble_map.specs.Maps.{values_of}
 use Rattle.trie_tool.proofs.Errors.{same_value}
-use Rattle.trie_tool.proofs.Values.{values_get, values_insert}
+use Rattle.nibble_map.proofs.Values.{values_get, values_insert}
 use Rattle.trie_tool.proofs.numbers.insert.Goals as goal
 
 pub returns-clause-old_number : goal.returns-clause-old_number

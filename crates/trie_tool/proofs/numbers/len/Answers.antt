@@ -1,5 +1,5 @@
 use Rattle.std.proofs.Common.{◌∙◌, sym}
-use Rattle.trie_tool.proofs.Values.{values_len}
+use Rattle.nibble_map.proofs.Values.{values_len}
 use Rattle.trie_tool.proofs.numbers.len.Goals as goal
 
 pub returns : goal.returns

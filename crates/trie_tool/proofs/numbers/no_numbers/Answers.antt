@@ -1,6 +1,6 @@
 use Rattle.std.proofs.Common.{◌∙◌, ap}
-use Rattle.trie_tool.specs.Values.{values_of}
-use Rattle.trie_tool.proofs.Values.{values_empty}
+use Rattle.nibble_map.specs.Maps.{values_of}
+use Rattle.nibble_map.proofs.Values.{values_empty}
 use Rattle.trie_tool.proofs.numbers.no_numbers.Goals as goal
 
 pub returns : goal.returns

@@ -1,8 +1,9 @@
 -- When two kept trees are alike, and when one is a copy of another.
 use Rattle.std.specs.Prelude.{◌≡◌, ◌↔◌, ℕ, ◌&&◌, Bool, true, false, List, [], ◌∷◌, map, nat_eq, Option, Some, None, ⊤}
 use Rattle.std.specs.Cmp.Lexicographic.{pointwise}
+use Rattle.std.specs.Ordering.{on, eq_of_both}
 use Rattle.std.specs.FinMap as fin
-use Rattle.nibble_map.specs.Maps.{NibbleMap, IsStored}
+use Rattle.nibble_map.specs.Maps.{NibbleMap, PairMap, IsStored}
 use Rattle.nibble_map.specs.Kept.{Tree, Kids, none, more, IsTreePlaced, IsFullBelow, entries_at}
 
 -- a root: its fragment is empty, the children are at their places, and each node below has a pair or two children
@@ -34,6 +35,14 @@ module _ {P : Type 0} (eq : P → P → Bool) where
   -- masks aren't compared, since the children's fragments tell them
   abbrev pub same_tree : Tree P → Tree P → Bool
   same_tree t u = pointwise nat_eq t.fragment u.fragment && (same_pair t.pair u.pair && same_kids t.kids u.kids)
+
+-- whether two lists of rows hold the same lists in the same order, and equal values at each
+abbrev pub same_rows : {K V : Type 0} → (V → V → Bool) → List (List ℕ × (K × V)) → List (List ℕ × (K × V)) → Bool
+same_rows eq = pointwise (eq_of_both (on (λ e. e.0) (pointwise nat_eq)) (on (λ e. e.1.1) eq))
+
+-- whether two maps are the same, as a test
+abbrev pub same_maps : {K V : Type 0} → (V → V → Bool) → PairMap K V → PairMap K V → Bool
+same_maps eq m n = same_rows eq (fin.entries m) (fin.entries n)
 
 module _ {P : Type 0} (R : P → P → Type 0) where
   -- neither has a pair, or R holds of the two

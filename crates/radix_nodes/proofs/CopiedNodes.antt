@@ -1,14 +1,31 @@
 -- Copies of children, one by one.
-use Rattle.std.proofs.Common.{◌≡◌, ℕ, ◌+◌, ◌<◌, ◌≤◌, List, [], ◌∷◌, ◌++◌, length, get_or, take, ap, sym, subst, ◌∙◌}
+use Rattle.std.proofs.Common.{◌≡◌, ℕ, ◌+◌, ◌<◌, ◌≤◌, List, [], ◌∷◌, ◌++◌, length, get_or, take, None, false, true, true≢false, refl, ap, sym, subst, ◌∙◌}
 use Rattle.std.proofs.lemmas.List.{take_more, take_all}
 use Rattle.std.specs.declared.boxed.Box.{Box}
 use Rattle.std.specs.declared.alloc.Global.{Global}
+use Rattle.nibble_map.specs.Kept.{none}
 use Rattle.nibble_map.specs.KeptSame.{IsPairCopy, AreKidCopies, IsCopy}
 use Rattle.radix_nodes.specs.declared.trie_node.KeyValue.{KeyValue}
 use Rattle.radix_nodes.specs.declared.trie_node.TrieNode.{TrieNode, roll-TrieNode}
 use Rattle.radix_nodes.specs.declared.trie_node.TrieNode.TheOpen.{TrieNode-F}
 use Rattle.radix_nodes.specs.Nodes.{tree_of, kids_of, out_of, unboxed}
-use Rattle.radix_nodes.proofs.Nodes.{tree_out, tree_roll}
+use Rattle.radix_nodes.proofs.Nodes.{tree_out, tree_roll, kids_out, pair_out}
+
+-- a call that succeeds gives no refusal
+pub not_ok : {A : Type 0} → false ≡ true → A
+not_ok e = absurd (true≢false (sym e))
+
+module _ {K V : Type 0} (n : TrieNode K V) where
+  -- a node without children or without a pair, as its fields say it
+  pub no_boxes : (tree_of n).kids ≡ none → length (out_of n).children.items ≡ 0
+  no_boxes e = by (out_of n).children.items (sym (kids_out n) ∙ e)
+    where
+      by : (bs : List (Box (TrieNode K V) Global)) → kids_of bs ≡ none → length bs ≡ 0
+      by [] e = refl
+      by (b ∷ bs) e = absurd (let i : kids_of (b ∷ bs) ≡ none = e in cc i)
+
+  pub no_pair : (tree_of n).pair ≡ None → unboxed (out_of n).pair ≡ None
+  no_pair e = sym (pair_out n) ∙ e
 
 module _ {K V : Type 0} (R : KeyValue K V → KeyValue K V → Type 0) where
   abbrev Boxes : Type 0

@@ -68,6 +68,19 @@ module _ {K V : Type 0} where
     pub like : IsLike old new
     pub same : (q : List ℕ) → entries_at q new ≡ entries_at q old
 
+  -- the value at the path became one that `did` allows, and else only values may differ
+  pub record Changes (did : V → V → Type 0) (path : List ℕ) (old new : Tree (KeyValue K V)) : Type 0 where
+    pub before : V
+    pub after : V
+    pub done : did before after
+    pub revalues : Revalues path before after old new
+    pub like : IsLike old new
+
+  -- with the closure handed back, nothing stands at the path and nothing changed
+  abbrev pub ChangeOutcome : {F : Type 0} → Option F → F → (V → V → Type 0) → List ℕ → Tree (KeyValue K V) → Tree (KeyValue K V) → Type 0
+  ChangeOutcome None f did path old new = Changes did path old new
+  ChangeOutcome (Some g) f did path old new = (g ≡ f) × IsKept old new × (IsHeld old path → ⊥)
+
   abbrev pub write_value : Option (Box (KeyValue K V) Global) → V → Option (Box (KeyValue K V) Global)
   write_value None w = None
   write_value (Some b) w = Some (with_value b (record { key = b.value.key; value = w }))

@@ -1,6 +1,7 @@
 //! Walks down the nodes.
 
 pub mod children;
+pub mod change;
 pub mod compare;
 pub mod find;
 pub mod height;

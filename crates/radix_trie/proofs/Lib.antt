@@ -6,4 +6,3 @@ mod Walks
 mod WalkRows
 mod Present
 mod Roots
-mod Equal

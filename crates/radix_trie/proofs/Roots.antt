@@ -5,6 +5,7 @@ use Rattle.std.specs.FinMap as fin
 use Rattle.nibble_map.specs.Answers as answers
 use Rattle.nibble_map.specs.Kept.{Tree, Kids, none, more, plain, IsFullBelow, entries_at}
 use Rattle.nibble_map.specs.KeptPaths.{IsNodeAt}
+use Rattle.nibble_map.specs.KeptSame.{IsFullRoot}
 use Rattle.nibble_map.specs.Lists.{Has}
 use Rattle.nibble_map.specs.MapQueries as map_queries
 use Rattle.nibble_map.specs.Maps.{PairMap, IsStored, value_at}
@@ -73,3 +74,6 @@ module _ {K V : Type 0} (enc : K → List ℕ) (m : PairMap K V) (t : Tree (KeyV
   pub found_count : (q : List ℕ) (n : ℕ) → queries.IsCompared (entries_at [] t) q n → map_queries.IsCompared m q n
   found_count = compared_moves (stored.IsStored (entries_at [] t)) (IsStored m)
       (λ e h. (held m e).0 (subst (λ ks. Has ks e) (sym lists_same) h)) (λ e h. subst (λ ks. Has ks e) lists_same ((held m e).1 h))
+
+  pub root_is_full : IsFullRoot t
+  root_is_full = record { top = root.top; placed = root.masked; full = root_full }

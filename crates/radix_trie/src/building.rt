@@ -1,5 +1,5 @@
 //! Tries built from pairs.
-ghost use Rattle.std.specs.Prelude.{◌≡◌, IfOk, IfErr};
+ghost use Rattle.std.specs.Prelude.{◌≡◌, ◌↔◌, IfOk, IfErr};
 ghost use Rattle.std.specs.FinMap as map;
 ghost use Rattle.std.specs.Iterator.{IsFinite};
 ghost use Rattle.std.specs.Iterator.Runs.{SomeRun, WholeRun};
@@ -44,7 +44,7 @@ impl<K: TrieKey + Drop, V: Drop> Trie<K, V> {
 
 /// The refusal of a build by that of an insertion.
 fn why_not_built<K: Drop, V: Drop>(error: InsertError<K, V>) -> BuildError
-    ensures { result ≡ BuildError.Full → error.why ≡ InsertWhy.Full }
+    ensures { (result ≡ BuildError.Full) ↔ (error.why ≡ InsertWhy.Full) }
 {
     match error.why {
         InsertWhy::Full => BuildError::Full,

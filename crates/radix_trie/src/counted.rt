@@ -20,7 +20,7 @@ impl<K: TrieKey, V> Trie<K, V> {
         ensures at_most_once { IfOk result (λ r. r.1 ≤ length (Q.encoding key.now)) }
         ensures light { Q.is_light key.now → IsOk result }
     {
-        let list = key.encode(self.alloc())?;
+        let list = key.encode(self.allocator())?;
         let (found, compared) = find_counted(self.root(), &list);
         Ok((value_in(found), compared))
     }

@@ -8,6 +8,5 @@ pub mod iter;
 mod trie;
 
 pub use building::BuildError;
-pub use equality::equal_maps_are_same;
 pub use radix_keys::{BytesError, Memory, NibbleVec, Nibblet, TrieKey};
 pub use trie::{InsertError, InsertWhy, Trie};

@@ -163,8 +163,8 @@ impl<K: TrieKey, V> Trie<K, V> {
         &self.root
     }
 
-    /// The allocator that the nodes come from.
-    pub(crate) fn alloc(&self) -> Global {
+    /// The allocator that the trie's memory comes from.
+    pub(crate) fn allocator(&self) -> Global {
         self.alloc
     }
 }

@@ -20,5 +20,5 @@ returns-in-Err-clause-full_at_limit g c = λ full.
     let ran = subst (λ s. Yields steps s c.loop-key.yielded c.loop-key.key-iterator) c.into_iter-key-iterator.ensures.into_iter_gives c.loop-key.yielded_by in (
       run steps c.args.iter c.loop-key.yielded false (c.loop-key.key-iterator, ran, λ e. never e),
       refl,
-      ap map.len (sym c.loop-key.invariant.built) ∙ c.in-Err.ensures.full_at_limit (c.why_not_built.ensures full),
+      ap map.len (sym c.loop-key.invariant.built) ∙ c.in-Err.ensures.full_at_limit (c.why_not_built.ensures.0 full),
     )

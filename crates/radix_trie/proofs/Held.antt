@@ -20,7 +20,7 @@ use Rattle.radix_trie.specs.Pairs.{pair_of}
 use Rattle.radix_trie.specs.Roots.{entries_of, map_of, IsKept, IsRoot}
 use Rattle.radix_trie.proofs.Shown.{row_of, entries_shown, entries_of_map}
 
-three_ways : (m n : ℕ) → (m ≤ n) ⊎ (n ≤ m)
+pub three_ways : (m n : ℕ) → (m ≤ n) ⊎ (n ≤ m)
 three_ways zero n = inl (omega arith)
 three_ways (suc m) zero = inr (omega arith)
 three_ways (suc m) (suc n) = elim (three_ways m n) [ inl h ↦ inl (omega arith) | inr h ↦ inr (omega arith) ]
@@ -119,7 +119,7 @@ module _ {K V : Type 0} (enc : K → List ℕ) (t : Tree (KeyValue K V)) (count 
 
 -- the pair at a node is the map's
 module _ {K V : Type 0} (enc : K → List ℕ) (m : PairMap K V) (t : Tree (KeyValue K V)) (root : IsRoot enc m t) where
-  root_rows : fin.entries m ≡ map row_of (entries_at [] t)
+  pub root_rows : fin.entries m ≡ map row_of (entries_at [] t)
   root_rows = sym root.canonical.pairs ∙ entries_shown t root.top
 
   row_has : (es : List (List ℕ × KeyValue K V)) (q : List ℕ) (x : KeyValue K V) → Has es (q, x) → Has (map row_of es) (q, pair_of x)

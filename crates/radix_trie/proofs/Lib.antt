@@ -5,3 +5,4 @@ pub mod Held
 mod Walks
 mod WalkRows
 mod Present
+mod Roots

@@ -1,8 +1,12 @@
 //! A radix trie: a map from keys to values that goes by the nibbles of the keys' encodings.
 #![tactic(auto)]
 
+mod building;
+mod counted;
+mod equality;
 pub mod iter;
 mod trie;
 
+pub use building::BuildError;
 pub use radix_keys::{BytesError, Memory, NibbleVec, Nibblet, TrieKey};
 pub use trie::{InsertError, InsertWhy, Trie};

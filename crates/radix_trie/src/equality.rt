@@ -1,0 +1,24 @@
+//! Equality of tries.
+ghost use Rattle.std.specs.Prelude.{◌≡◌, ◌↔◌, IsTrue};
+ghost use Rattle.nibble_map.specs.KeptSame.{same_maps};
+ghost use Rattle.nibble_map.specs.MapQueries.{IsSame};
+ghost use Rattle.nibble_map.proofs.SameTests.{maps_per};
+
+use crate::trie::Trie;
+use radix_keys::TrieKey;
+use radix_nodes::traversal::same::same;
+
+/// Two tries are equal where they store the same encodings, and at each encoding equal values. Keys with one encoding
+/// aren't told apart. It walks the two trees side by side, and takes no memory.
+impl<K: TrieKey, V: PartialEq> PartialEq for Trie<K, V> {
+    ghost eq = { same_maps V.eq };
+
+    ghost laws = { maps_per V.eq V.laws };
+
+    fn eq(&self, other: &Trie<K, V>) -> bool
+        ensures computed { result ≡ same_maps V.eq self.now other.now }
+        ensures same { IsTrue result ↔ IsSame V.eq self.now other.now }
+    {
+        same(self.root(), other.root())
+    }
+}

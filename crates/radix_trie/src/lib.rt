@@ -2,7 +2,12 @@
 #![tactic(auto)]
 
 pub mod iter;
+mod place;
+mod subtrie;
 mod trie;
+mod trie_common;
 
 pub use radix_keys::{BytesError, Memory, NibbleVec, Nibblet, TrieKey};
+pub use subtrie::{SubTrie, SubTrieError, SubTrieResult};
 pub use trie::{InsertError, InsertWhy, Trie};
+pub use trie_common::TrieCommon;

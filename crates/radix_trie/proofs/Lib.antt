@@ -2,6 +2,9 @@ pub mod Shown
 pub mod Sizes
 pub mod Changes
 pub mod Held
+pub mod Paths
+pub mod Parts
+pub mod Places
 mod Walks
 mod WalkRows
 mod Present

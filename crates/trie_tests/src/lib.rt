@@ -2,6 +2,8 @@
 #![tactic(auto)]
 
 #[cfg(test)]
+mod bits;
+#[cfg(test)]
 mod map_calls;
 #[cfg(test)]
 mod refused_growths;

@@ -11,9 +11,9 @@ use Rattle.radix_nodes.specs.Nodes.{kids_of, tree_of}
 -- x isn't a number of the list that has no bit at 16 or above
 first_low : (x : ℕ) (xs : List ℕ) → ((n : ℕ) → 16 ≤ n → bit_of n (x ∷ xs) ≡ 0) → x < 16
 first_low x xs none = elim (leb_tells 16 x) [
-    | inl t ↦ elim (eqb_tells x x) [ inl u ↦ (let h = none x t.1 in absurd (omega (arith, sym (ap (λ b. cond b 1 (bit_of x xs)) u.0) ∙ h))) | inr u ↦ absurd (u.1 refl) ]
-    | inr t ↦ omega (arith, t.1)
-  ]
+  | inl t ↦ elim (eqb_tells x x) [ inl u ↦ (let h = none x t.1 in absurd (omega (arith, sym (ap (λ b. cond b 1 (bit_of x xs)) u.0) ∙ h))) | inr u ↦ absurd (u.1 refl) ]
+  | inr t ↦ omega (arith, t.1)
+]
 
 rest_low : (x n : ℕ) (xs : List ℕ) → x < 16 → 16 ≤ n → bit_of n (x ∷ xs) ≡ 0 → bit_of n xs ≡ 0
 rest_low x n xs low high h = elim (eqb_tells x n) [ inl t ↦ absurd (omega (arith, t.1)) | inr t ↦ sym (ap (λ b. cond b 1 (bit_of n xs)) t.0) ∙ h ]

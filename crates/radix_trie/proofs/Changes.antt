@@ -55,7 +55,7 @@ module _ {K V : Type 0} (enc : K → List ℕ) where
 
   -- a change at p of a kept root
   module _ (old new : Tree (KeyValue K V)) (count nodes nibbles : ℕ) (p : List ℕ) (was now : Option (KeyValue K V)) (n m k l : ℕ)
-    (kept : IsKept enc old count nodes nibbles) (a : AltersRoot p was now n m k l old new) where
+      (kept : IsKept enc old count nodes nibbles) (a : AltersRoot p was now n m k l old new) where
     pub change : Swaps (entry p (option_map pair_of was)) (entry p (option_map pair_of now)) (entries_of old) (entries_of new)
     change =
         let rows = swaps-map row_of _ _ _ _ (a.alters.swaps []) in
@@ -79,7 +79,7 @@ module _ {K V : Type 0} (enc : K → List ℕ) where
 
   -- an insertion over what stood at p
   module _ (old new : Tree (KeyValue K V)) (count nodes nibbles : ℕ) (p : List ℕ) (x : KeyValue K V) (was : Option (KeyValue K V)) (n k : ℕ)
-    (kept : IsKept enc old count nodes nibbles) (a : AltersRoot p was (Some x) n 0 k 0 old new) where
+      (kept : IsKept enc old count nodes nibbles) (a : AltersRoot p was (Some x) n 0 k 0 old new) where
     pub edit_inserts : map_of new ≡ fin.insert (map_of old) p (pair_of x)
     edit_inserts =
         swap_inserted p (option_map pair_of was) (pair_of x) (entries_of old) (entries_of new)
@@ -92,7 +92,7 @@ module _ {K V : Type 0} (enc : K → List ℕ) where
 
   -- a removal of what stood at p
   module _ (old new : Tree (KeyValue K V)) (count nodes nibbles : ℕ) (p : List ℕ) (x : KeyValue K V) (m l : ℕ)
-    (kept : IsKept enc old count nodes nibbles) (a : AltersRoot p (Some x) None 0 m 0 l old new) where
+      (kept : IsKept enc old count nodes nibbles) (a : AltersRoot p (Some x) None 0 m 0 l old new) where
     pub cut_removes : map_of new ≡ fin.remove (map_of old) p
     cut_removes =
         swap_removed p (pair_of x) (entries_of old) (entries_of new) (entries_rise old kept.masked kept.full)
@@ -154,7 +154,7 @@ module _ {K V : Type 0} where
 
 -- what a removal from the root does, once it has taken a pair
 module _ {K V : Type 0} (enc : K → List ℕ) (root : TrieNode K V) (new : Tree (KeyValue K V)) (count nodes nibbles : ℕ) (list q : List ℕ) (x : KeyValue K V) (m l : ℕ)
-  (kept : IsKept enc (tree_of root) count nodes nibbles) (is : list ≡ q) (cut : CutsRoot (fragment_of root ++ list) x m l (tree_of root) new) where
+    (kept : IsKept enc (tree_of root) count nodes nibbles) (is : list ≡ q) (cut : CutsRoot (fragment_of root ++ list) x m l (tree_of root) new) where
   at_q : CutsRoot q x m l (tree_of root) new
   at_q = removed_at root new list q x m l kept.top is cut
 
@@ -185,8 +185,8 @@ module _ {K V : Type 0} (enc : K → List ℕ) (root : TrieNode K V) (new : Tree
 
 -- what an insertion at the root does, once it is carried out
 module _ {K V : Type 0} (enc : K → List ℕ) (root : TrieNode K V) (new : Tree (KeyValue K V)) (count nodes nibbles : ℕ) (list q : List ℕ) (x : KeyValue K V)
-  (was : Option (KeyValue K V)) (n k : ℕ) (kept : IsKept enc (tree_of root) count nodes nibbles) (is : list ≡ q)
-  (edit : Edits (fragment_of root ++ drop 0 list) x was n k (tree_of root) new) where
+    (was : Option (KeyValue K V)) (n k : ℕ) (kept : IsKept enc (tree_of root) count nodes nibbles) (is : list ≡ q)
+    (edit : Edits (fragment_of root ++ drop 0 list) x was n k (tree_of root) new) where
   put_at : AltersRoot q was (Some x) n 0 k 0 (tree_of root) new
   put_at = inserted_at root new list q x was n k kept.top is edit
 
@@ -232,7 +232,6 @@ module _ {K V : Type 0} (enc : K → List ℕ) (root : TrieNode K V) (new : Tree
   -- what stood at the list tells whether one stood there
   pub put_absent : was ≡ None → fin.get (map_of (tree_of root)) q ≡ None
   put_absent w = edit_found enc (tree_of root) new count nodes nibbles q x was n k kept put_at ∙ ap (option_map pair_of) w
-
 
 either_le : (m n : ℕ) → (m ≤ n) ⊎ (n < m)
 either_le zero n = inl (omega arith)

@@ -159,19 +159,19 @@ module _ {P : Type 0} where
     kept_at low q (more f o m kids others) x u h (inr (inl i)) lead pre =
         kept_parts _ _ _ _ _ _
         (own_cut (q ++ f) o (λ b. let r = lead f _ (inl (refl, refl)) b in
-            let over = shorter f (i.0 ++ r.0) (sym (r.1 ∙ ap (λ y. y ++ r.0) i.1 ∙ append_assoc f i.0 r.0)) in
-            no_kid_here kids u h.3 (subst (λ y. IsKidAt kids y u) (front_nil i.0 r.0 over) i.2)))
+        let over = shorter f (i.0 ++ r.0) (sym (r.1 ∙ ap (λ y. y ++ r.0) i.1 ∙ append_assoc f i.0 r.0)) in
+        no_kid_here kids u h.3 (subst (λ y. IsKidAt kids y u) (front_nil i.0 r.0 over) i.2)))
         (kept_at 0 (q ++ f) kids i.0 u h.3 i.2
-            (λ y w d b. prefix_below f i.0 y (subst (λ z. IsPrefix z (f ++ y)) i.1 (lead (f ++ y) w (inr (inl (y, refl, d))) (subst (IsPrefix p) (append_assoc q f y) b))))
-            (subst (IsPrefix p) (ap (λ y. q ++ y) i.1 ∙ sym (append_assoc q f i.0)) pre))
+        (λ y w d b. prefix_below f i.0 y (subst (λ z. IsPrefix z (f ++ y)) i.1 (lead (f ++ y) w (inr (inl (y, refl, d))) (subst (IsPrefix p) (append_assoc q f y) b))))
+        (subst (IsPrefix p) (ap (λ y. q ++ y) i.1 ∙ sym (append_assoc q f i.0)) pre))
         (none_kept q others (λ y w d b. let r = lead y w (inr (inr d)) b in parted f others y w x r.0 h.0 h.4 d (sym r.1) (first_same f x i.0 r.0 h.0 i.1)))
         ∙ append-nil _ ∙ ap (λ y. at_and_below y u) (append_assoc q f i.0 ∙ ap (λ y. q ++ y) (sym i.1))
     kept_at low q (more f o m kids others) x u h (inr (inr i)) lead pre =
         kept_parts _ _ _ _ _ _
         (own_cut (q ++ f) o (λ b. let r = lead f _ (inl (refl, refl)) b in
-            let l = first_low (suc (first f)) others x u r.0 h.4 i in let e = ap first r.1 in omega (arith, l, e)))
+        let l = first_low (suc (first f)) others x u r.0 h.4 i in let e = ap first r.1 in omega (arith, l, e)))
         (none_kept (q ++ f) kids (λ y w d b. let r = lead (f ++ y) w (inr (inl (y, refl, d))) (subst (IsPrefix p) (append_assoc q f y) b) in
-            let l = first_low (suc (first f)) others x u r.0 h.4 i in let e = sym (begins f y h.0) ∙ ap first r.1 in omega (arith, l, e)))
+        let l = first_low (suc (first f)) others x u r.0 h.4 i in let e = sym (begins f y h.0) ∙ ap first r.1 in omega (arith, l, e)))
         (kept_at (suc (first f)) q others x u h.4 i (λ y w d b. lead y w (inr (inr d)) b) pre)
 
     -- of a whole tree: those at and below the node whose path leads to them
@@ -187,8 +187,8 @@ module _ {P : Type 0} where
         filter-append _ (entry t.fragment t.pair) (entries_in t.fragment t.kids)
         ∙ ap (λ es. es ++ kept (entries_in t.fragment t.kids))
         (own_cut t.fragment t.pair (λ b. let r = lead t.fragment t (inl (refl, refl)) b in
-            let over = shorter t.fragment (i.0 ++ r.0) (sym (r.1 ∙ ap (λ y. y ++ r.0) i.1 ∙ append_assoc t.fragment i.0 r.0)) in
-            no_kid_here t.kids u h.1 (subst (λ y. IsKidAt t.kids y u) (front_nil i.0 r.0 over) i.2)))
+        let over = shorter t.fragment (i.0 ++ r.0) (sym (r.1 ∙ ap (λ y. y ++ r.0) i.1 ∙ append_assoc t.fragment i.0 r.0)) in
+        no_kid_here t.kids u h.1 (subst (λ y. IsKidAt t.kids y u) (front_nil i.0 r.0 over) i.2)))
         ∙ kept_at 0 t.fragment t.kids i.0 u h.1 i.2
         (λ y w d b. prefix_below t.fragment i.0 y (subst (λ z. IsPrefix z (t.fragment ++ y)) i.1 (lead (t.fragment ++ y) w (inr (y, refl, d)) b)))
         (subst (IsPrefix p) i.1 pre)

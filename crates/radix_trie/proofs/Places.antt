@@ -201,12 +201,15 @@ module _ {K V : Type 0} (enc : K → List ℕ) (m : PairMap K V) where
       let f = (tree_of r.now).fragment in
       let all = whole ∙ ap length (sym (fragment_out r.now)) in
       let same : p ≡ p ++ drop n f = sym (ap (λ y. p ++ y) (all_dropped f n all) ∙ append-nil p) in
-      let s : IsShortest (IsPath at.0) p p = record { member = (tree_of r.now, at.2); below = prefix_itself p; shortest = λ q _ i. prefix_length p q i } in
-      (at.0, at.1, record {
-        within = omega (arith, all);
-        node = subst (λ y. IsNodeAt at.0 y (tree_of r.now)) same at.2;
-        shortest = subst (IsShortest (IsPath at.0) p) same s;
-      })
+      let s : IsShortest (IsPath at.0) p p = record { member = (tree_of r.now, at.2); below = prefix_itself p; shortest = λ q _ i. prefix_length p q i } in (
+        at.0,
+        at.1,
+        record {
+          within = omega (arith, all);
+          node = subst (λ y. IsNodeAt at.0 y (tree_of r.now)) same at.2;
+          shortest = subst (IsShortest (IsPath at.0) p) same s;
+        },
+      )
 
 module _ {K V : Type 0} where
   own_pointed : (o : Option (Box (KeyValue K V) Global)) (r : Option (Bor (KeyValue K V)))
@@ -238,7 +241,7 @@ module _ {K V : Type 0} where
 
 -- where a node stands at the path, a leaf is a node without children
 module _ {K V : Type 0} (enc : K → List ℕ) (m : PairMap K V) (p : List ℕ) (found : Option (Bor (TrieNode K V) × ℕ)) (place : IsPlace enc m p found)
-  (r : Bor (TrieNode K V)) (n : ℕ) (is : found ≡ Some (r, n)) (whole : n ≡ length (fragment_of r.now)) where
+    (r : Bor (TrieNode K V)) (n : ℕ) (is : found ≡ Some (r, n)) (whole : n ≡ length (fragment_of r.now)) where
   pub leaf_tells : (b : Bool) → MatchBool b (vec_len (out-TrieNode K V r.now).children ≡ 0) (0 < vec_len (out-TrieNode K V r.now).children) → IsTrue b ↔ IsLeaf m p
   leaf_tells true e = (λ _. leaf_here enc m p found place r n is whole (no_kids r.now (let ok = (out-TrieNode K V r.now).children.ok.0 in omega (arith, e, ok))), λ _. refl)
   leaf_tells false e =

@@ -6,3 +6,5 @@ mod Walks
 mod WalkRows
 mod Present
 mod Roots
+mod Written
+mod Copies

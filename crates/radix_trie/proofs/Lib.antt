@@ -9,3 +9,5 @@ mod Walks
 mod WalkRows
 mod Present
 mod Roots
+mod Written
+mod Copies

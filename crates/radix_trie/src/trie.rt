@@ -1,15 +1,20 @@
 //! The trie, as a map.
-ghost use Rattle.std.specs.Prelude.{◌≡◌, ◌≢◌, ◌↔◌, ◌<◌, ◌^◌, ℕ, List, length, None, IsTrue, IsOk, IfOk, OnOk, IfErr, OnErr, IsErrAnd, option_copied, option_map};
+ghost use Rattle.std.specs.Prelude.{◌≡◌, ◌≢◌, ◌↔◌, ◌<◌, ◌^◌, ℕ, List, length, true, false, None, IsTrue, IsOk, IfOk, OnOk, IfErr, OnErr, IsErrAnd, MatchOption, option_copied, option_map};
+ghost use Rattle.std.specs.Fn.{FnOnceReturnsAtMut, FnOnceTakesAtMut};
+ghost use Rattle.std.specs.Option.{ForSome};
 ghost use Rattle.std.specs.FinMap as map;
+ghost use Rattle.nibble_map.specs.KeptSame.{IsMapCopy, IsPairClone};
 ghost use Rattle.nibble_map.specs.Lists.{Counts};
-ghost use Rattle.nibble_map.specs.Maps.{IsStored, IsPoint, IsStem, value_at};
+ghost use Rattle.nibble_map.specs.Maps.{IsStored, IsPoint, IsStem, value_at, with_value};
 ghost use Rattle.nibble_map.specs.Nibbles.{IsShort};
 ghost use Rattle.radix_nodes.specs.Nodes.{tree_of};
 ghost use Rattle.radix_trie.specs.Pairs.{pair_of};
 
 use radix_keys::{Memory, Nibblet, TrieKey};
+use radix_nodes::traversal::copied::copied;
 use radix_nodes::traversal::find::find;
 use radix_nodes::traversal::insert::put;
+use radix_nodes::traversal::lend::value_at_mut;
 use radix_nodes::traversal::remove::take_root;
 use radix_nodes::trie_node::{KeyValue, TrieNode};
 use std::alloc::Global;
@@ -216,16 +221,30 @@ impl<K: TrieKey + Drop, V: Drop> Trie<K, V> {
             Ok(list) => list,
             Err(_) => return Err(refused(InsertWhy::Memory, KeyValue { key, value })),
         };
-        if self.has_no_room_for(&list) {
-            return Err(refused(InsertWhy::Full, KeyValue { key, value }));
+        self.put_at(&list, KeyValue { key, value })
+    }
+
+    /// What `insert` does, with the key's encoding in hand.
+    fn put_at(
+        &mut self,
+        list: &Nibblet,
+        pair: KeyValue<K, V>,
+    ) -> Result<Option<V>, InsertError<K, V>>
+        requires encoding { list.now ≡ K.encoding pair.key }
+        requires fits { length list.now < 2 ^ 64 }
+        ensures old_value { IfOk result (λ old. old ≡ value_at self.old list.now) }
+        ensures stored { OnOk result (self.new ≡ map.insert self.old list.now (pair.key, pair.value)) }
+        ensures handed_back { IfErr result (λ e. (e.key ≡ pair.key) × (e.value ≡ pair.value)) }
+        ensures unchanged { OnErr result (self.new ≡ self.old) }
+        ensures refused_absent { OnErr result (map.get self.old list.now ≡ None) }
+        ensures full_at_limit { IfErr result (λ e. e.why ≡ InsertWhy.Full → map.len self.old ≡ usize.MAX) }
+        ensures limit { map.len self.old ≡ usize.MAX → map.get self.old list.now ≡ None → IsErrAnd result (λ e. e.why ≡ InsertWhy.Full) }
+        ensures inside { IfErr result (λ e. e.why ≢ InsertWhy.Outside) }
+    {
+        if self.has_no_room_for(list) {
+            return Err(refused(InsertWhy::Full, pair));
         }
-        let change = match put(
-            &mut self.root,
-            self.alloc,
-            &list,
-            0,
-            KeyValue { key, value },
-        ) {
+        let change = match put(&mut self.root, self.alloc, list, 0, pair) {
             Ok(change) => change,
             Err(pair) => return Err(refused(InsertWhy::Memory, pair)),
         };
@@ -238,6 +257,70 @@ impl<K: TrieKey + Drop, V: Drop> Trie<K, V> {
                 Ok(None)
             }
         }
+    }
+
+    /// Calls the closure once on the value at a list. False: there is none, and nothing changed.
+    fn change_at<F: Fn(&mut V)>(&mut self, list: &Nibblet, f: F) -> bool
+        requires callable { ForSome (value_at self.old list.now) (FnOnceTakesAtMut F.FnOnce f) }
+        ensures { MatchOption (value_at self.old list.now) ((result ≡ false) × (self.new ≡ self.old))
+            (λ v. (result ≡ true) × (w : V) × FnOnceReturnsAtMut F.FnOnce f v tt w × (self.new ≡ with_value self.old list.now w)) }
+    {
+        match value_at_mut(&mut self.root, list) {
+            Some(value) => {
+                f(value);
+                true
+            }
+            None => false,
+        }
+    }
+
+    /// Changes the value at the key's encoding by one call of the closure, or stores the default where there is none.
+    ///
+    /// Where a value is stored, its key stays, and the key and the default that were handed in are dropped. Where none is, the
+    /// closure isn't called. The closure has to be callable on a stored value alone. The refusals are those of `insert`, in its
+    /// order, and come before the closure's call: the trie is as before then, and the error holds the very key and default.
+    pub fn map_with_default<F: Fn(&mut V)>(
+        &mut self,
+        key: K,
+        f: F,
+        default: V,
+    ) -> Result<(), InsertError<K, V>>
+        requires callable { ForSome (value_at self.old (K.encoding key)) (FnOnceTakesAtMut F.FnOnce f) }
+        ensures mapped { OnOk result (MatchOption (value_at self.old (K.encoding key)) (self.new ≡ map.insert self.old (K.encoding key) (key, default))
+            (λ v. (w : V) × FnOnceReturnsAtMut F.FnOnce f v tt w × (self.new ≡ with_value self.old (K.encoding key) w))) }
+
+        ensures handed_back { IfErr result (λ e. (e.key ≡ key) × (e.value ≡ default)) }
+        ensures unchanged { OnErr result (self.new ≡ self.old) }
+
+        ensures light_stored { K.is_light key → IsStored self.old (K.encoding key) → IsOk result }
+        ensures full_at_limit { IfErr result (λ e. e.why ≡ InsertWhy.Full → map.len self.old ≡ usize.MAX) }
+        ensures full_absent { IfErr result (λ e. e.why ≡ InsertWhy.Full → map.get self.old (K.encoding key) ≡ None) }
+        // At the limit an absent key is refused, and a light one as Full.
+        ensures limit { map.len self.old ≡ usize.MAX → map.get self.old (K.encoding key) ≡ None
+            → IsErrAnd result (λ e. K.is_light key → e.why ≡ InsertWhy.Full) }
+        ensures inside { IfErr result (λ e. e.why ≢ InsertWhy.Outside) }
+    {
+        let list = match encoding_of(self.alloc, &key) {
+            Ok(list) => list,
+            Err(_) => return Err(refused(
+                InsertWhy::Memory,
+                KeyValue {
+                    key,
+                    value: default,
+                },
+            )),
+        };
+        if self.change_at(&list, f) {
+            return Ok(());
+        }
+        self.put_at(
+            &list,
+            KeyValue {
+                key,
+                value: default,
+            },
+        )?;
+        Ok(())
     }
 
     /// Takes the pair at the key's encoding away, and answers its value.
@@ -263,5 +346,25 @@ impl<K: TrieKey + Drop, V: Drop> Trie<K, V> {
             Ok(None) => Ok(None),
             Err(refusal) => Err(refusal),
         }
+    }
+}
+
+impl<K: TrieKey + Clone, V: Clone> Trie<K, V> {
+    /// A trie with the same encodings, each with a clone of its key and of its value.
+    ///
+    /// Clones of keys have to keep their encodings. The one refusal is that of memory, for the nodes or in a clone of a
+    /// key or a value; it drops what was copied. The trie without pairs is copied without memory.
+    pub fn clone(&self) -> Result<Trie<K, V>, Memory>
+        requires same_encoding { (key copy : K) → K.is_clone key copy → K.encoding copy ≡ K.encoding key }
+        ensures copy { IfOk result (λ copy. IsMapCopy (IsPairClone K.is_clone V.is_clone) self.now copy) }
+        ensures light { map.len self.now ≡ 0 → IsOk result }
+    {
+        Ok(Trie {
+            root: copied(&self.root, self.alloc)?,
+            length: self.length,
+            nodes: self.nodes,
+            nibbles: self.nibbles,
+            alloc: self.alloc,
+        })
     }
 }

@@ -1,6 +1,5 @@
-use Rattle.std.proofs.Common.{◌≡◌, ◌∙◌, ◌↔◌, sym, subst}
+use Rattle.std.proofs.Common.{◌∙◌, ◌↔◌, sym, subst}
 use Rattle.std.specs.Prelude.{IsTrue}
-use Rattle.nibble_map.specs.KeptSame.{same_maps}
 use Rattle.nibble_map.specs.MapQueries.{IsSame}
 use Rattle.nibble_map.proofs.SameTests.{maps_tell, tree_test}
 use Rattle.radix_trie.specs.Pairs.{pair_of}

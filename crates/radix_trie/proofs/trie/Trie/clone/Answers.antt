@@ -1,0 +1,27 @@
+use Rattle.std.proofs.Common.{◌≡◌, ◌≤◌, ap, sym, ◌∙◌, arith, length}
+use Rattle.std.specs.FinMap as map
+use Rattle.nibble_map.proofs.KeptSame.{never}
+use Rattle.radix_nodes.specs.Nodes.{tree_of, fragment_of}
+use Rattle.radix_nodes.proofs.Nodes.{fragment_out}
+use Rattle.radix_trie.specs.Roots.{map_of}
+use Rattle.radix_trie.proofs.Copies.{copy_kept, copy_map, no_pair, no_child}
+use Rattle.radix_trie.proofs.Shown.{kept_len}
+use Rattle.radix_trie.proofs.trie.Trie.clone.Goals as goal
+
+pub returns-in_err-copied-clause-light : goal.returns-in_err-copied-clause-light
+returns-in_err-copied-clause-light g c = λ nothing.
+    let enc = g.K.TrieKey.encoding in
+    let root = c.self.inside.root in
+    let none : map.len (map_of (tree_of root)) ≡ 0 = rw c.self.view_is nothing in
+    let empty = sym (kept_len enc (tree_of root) _ _ _ c.self.invariant) ∙ none in
+    let short : length (fragment_of root) ≤ 32 = omega (arith, ap length (sym (fragment_out root) ∙ c.self.invariant.top)) in
+    never (c.in_err-copied.ensures.light (no_pair enc (tree_of root) _ _ _ c.self.invariant empty) (no_child enc (tree_of root) _ _ _ c.self.invariant empty) short)
+
+pub invariant_of-result : goal.invariant_of-result
+invariant_of-result g c =
+    copy_kept g.K.TrieKey.encoding g.K.Clone.is_clone g.V.Clone.is_clone c.requires.same_encoding _ _ _ _ _ c.self.invariant c.in_ok-copied.ensures.copy
+
+pub returns-clause-copy : goal.returns-clause-copy
+returns-clause-copy g c =
+    rw (← c.self.view_is)
+    (copy_map g.K.TrieKey.encoding g.K.Clone.is_clone g.V.Clone.is_clone c.requires.same_encoding _ _ _ _ _ c.self.invariant c.in_ok-copied.ensures.copy)

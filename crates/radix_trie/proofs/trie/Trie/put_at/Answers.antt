@@ -1,0 +1,114 @@
+use Rattle.std.proofs.Common.{◌≡◌, ℕ, ◌+◌, ◌<◌, ◌^◌, ◌-◌, ap, sym, ◌∙◌, refl, arith, Some, None, length, List, subst, drop, rules}
+use Rattle.std.specs.Option.{option_map}
+use Rattle.std.specs.FinMap as map
+use Rattle.radix_nodes.specs.declared.trie_node.KeyValue.{KeyValue}
+use Rattle.radix_nodes.specs.Nodes.{tree_of}
+use Rattle.radix_trie.proofs.Changes.{put_value, put_map, put_over, put_added, put_nodes_fit, put_nibbles_fit, put_absent, unheld_at, room_for}
+use Rattle.radix_trie.proofs.Shown.{kept_len}
+use Rattle.radix_trie.proofs.Held.{unheld_none}
+use Rattle.radix_trie.proofs.trie.Trie.put_at.Goals as goal
+
+pub returns-in-Err-clause-refused_absent : goal.returns-in-Err-clause-refused_absent
+returns-in-Err-clause-refused_absent g c =
+    let root = c.self.inside.root in
+    rw (← c.self.view_is) (unheld_none g.K.TrieKey.encoding (tree_of root) _ _ _ c.self.invariant c.args.list.now
+    (unheld_at root (drop 0 c.args.list.now) c.args.list.now c.self.invariant.top refl c.in-Err.ensures.2))
+
+pub overflow_add-self : goal.overflow_add-self
+overflow_add-self g c =
+    let change = c.in-Ok.change in
+    let q = g.K.TrieKey.encoding c.args.pair.key in
+    let x : KeyValue g.row.K.Denot g.row.V.Denot = c.args.pair in
+    let fits : length q < 2 ^ 64 = subst (λ (l : List ℕ). length l < 2 ^ 64) c.requires.encoding c.requires.fits in
+    let small : c.self.inside.length < 2 ^ 64 = search rules in
+    let len = kept_len g.K.TrieKey.encoding (tree_of c.self.inside.root) _ _ _ c.self.invariant in
+    let absent : change.was ≡ None → map.get c.args.self.now c.args.list.now ≡ None =
+    λ w. rw (← c.self.view_is, c.requires.encoding)
+    (put_absent g.K.TrieKey.encoding c.self.inside.root _ _ _ _ c.args.list.now q x change.was change.nodes change.nibbles c.self.invariant c.requires.encoding c.in-Ok.ensures w) in
+    let room : change.was ≡ None → c.self.inside.length + 1 < 2 ^ 64 =
+    λ w. room_for (map.len c.args.self.now ≡ 2 ^ 64 - 1) (map.get c.args.self.now c.args.list.now ≡ None) c.has_no_room_for.result c.self.inside.length
+    c.if-has_no_room_for.false c.has_no_room_for.ensures.1 (λ e. rw (← c.self.view_is) (len ∙ e)) small (absent w) in
+    let fit = put_nodes_fit g.K.TrieKey.encoding c.self.inside.root _ _ _ _ c.args.list.now q x change.was change.nodes change.nibbles
+    c.self.invariant c.requires.encoding c.in-Ok.ensures refl fits small room in
+    omega (arith, fit)
+
+pub overflow_add-self-2 : goal.overflow_add-self-2
+overflow_add-self-2 g c =
+    let change = c.in-Ok.change in
+    let q = g.K.TrieKey.encoding c.args.pair.key in
+    let x : KeyValue g.row.K.Denot g.row.V.Denot = c.args.pair in
+    let fits : length q < 2 ^ 64 = subst (λ (l : List ℕ). length l < 2 ^ 64) c.requires.encoding c.requires.fits in
+    let small : c.self.inside.length < 2 ^ 64 = search rules in
+    let len = kept_len g.K.TrieKey.encoding (tree_of c.self.inside.root) _ _ _ c.self.invariant in
+    let absent : change.was ≡ None → map.get c.args.self.now c.args.list.now ≡ None =
+    λ w. rw (← c.self.view_is, c.requires.encoding)
+    (put_absent g.K.TrieKey.encoding c.self.inside.root _ _ _ _ c.args.list.now q x change.was change.nodes change.nibbles c.self.invariant c.requires.encoding c.in-Ok.ensures w) in
+    let room : change.was ≡ None → c.self.inside.length + 1 < 2 ^ 64 =
+    λ w. room_for (map.len c.args.self.now ≡ 2 ^ 64 - 1) (map.get c.args.self.now c.args.list.now ≡ None) c.has_no_room_for.result c.self.inside.length
+    c.if-has_no_room_for.false c.has_no_room_for.ensures.1 (λ e. rw (← c.self.view_is) (len ∙ e)) small (absent w) in
+    let fit = put_nibbles_fit g.K.TrieKey.encoding c.self.inside.root _ _ _ _ c.args.list.now q x change.was change.nodes change.nibbles
+    c.self.invariant c.requires.encoding c.in-Ok.ensures refl fits small room in
+    omega (arith, fit)
+
+pub overflow_add-self-in-None : goal.overflow_add-self-in-None
+overflow_add-self-in-None g c =
+    let change = c.in-Ok.change in
+    let q = g.K.TrieKey.encoding c.args.pair.key in
+    let x : KeyValue g.row.K.Denot g.row.V.Denot = c.args.pair in
+    let fits : length q < 2 ^ 64 = subst (λ (l : List ℕ). length l < 2 ^ 64) c.requires.encoding c.requires.fits in
+    let small : c.self.inside.length < 2 ^ 64 = search rules in
+    let len = kept_len g.K.TrieKey.encoding (tree_of c.self.inside.root) _ _ _ c.self.invariant in
+    let absent : change.was ≡ None → map.get c.args.self.now c.args.list.now ≡ None =
+    λ w. rw (← c.self.view_is, c.requires.encoding)
+    (put_absent g.K.TrieKey.encoding c.self.inside.root _ _ _ _ c.args.list.now q x change.was change.nodes change.nibbles c.self.invariant c.requires.encoding c.in-Ok.ensures w) in
+    let room : change.was ≡ None → c.self.inside.length + 1 < 2 ^ 64 =
+    λ w. room_for (map.len c.args.self.now ≡ 2 ^ 64 - 1) (map.get c.args.self.now c.args.list.now ≡ None) c.has_no_room_for.result c.self.inside.length
+    c.if-has_no_room_for.false c.has_no_room_for.ensures.1 (λ e. rw (← c.self.view_is) (len ∙ e)) small (absent w) in
+    let fit = room c.in-None.is in
+    omega (arith, fit)
+
+pub invariant_of-self-in-Some : goal.invariant_of-self-in-Some
+invariant_of-self-in-Some g c =
+    let change = c.in-Ok.change in
+    let q = g.K.TrieKey.encoding c.args.pair.key in
+    let fits : length q < 2 ^ 64 = subst (λ (l : List ℕ). length l < 2 ^ 64) c.requires.encoding c.requires.fits in
+    put_over g.K.TrieKey.encoding c.self.inside.root _ _ _ _ c.args.list.now q c.args.pair change.was change.nodes change.nibbles
+    c.self.invariant c.requires.encoding c.in-Ok.ensures c.in-Some.pair c.in-Some.is refl fits
+
+pub returns-in-Some-clause-old_value : goal.returns-in-Some-clause-old_value
+returns-in-Some-clause-old_value g c =
+    let change = c.in-Ok.change in
+    rw (← c.self.view_is)
+    (ap (λ p. Some p.value) c.in-Some.pair-is ∙ ap (option_map (λ y. y.value)) (sym c.in-Some.is)
+    ∙ sym (put_value g.K.TrieKey.encoding c.self.inside.root _ _ _ _ c.args.list.now c.args.list.now c.args.pair change.was change.nodes change.nibbles
+    c.self.invariant refl c.in-Ok.ensures))
+
+pub returns-in-Some-clause-stored : goal.returns-in-Some-clause-stored
+returns-in-Some-clause-stored g c =
+    let change = c.in-Ok.change in
+    rw (← c.self.view_is)
+    (put_map g.K.TrieKey.encoding c.self.inside.root _ _ _ _ c.args.list.now c.args.list.now c.args.pair change.was
+    change.nodes change.nibbles c.self.invariant refl c.in-Ok.ensures)
+
+pub invariant_of-self-in-None : goal.invariant_of-self-in-None
+invariant_of-self-in-None g c =
+    let change = c.in-Ok.change in
+    let q = g.K.TrieKey.encoding c.args.pair.key in
+    let fits : length q < 2 ^ 64 = subst (λ (l : List ℕ). length l < 2 ^ 64) c.requires.encoding c.requires.fits in
+    put_added g.K.TrieKey.encoding c.self.inside.root _ _ _ _ c.args.list.now q c.args.pair change.was change.nodes change.nibbles
+    c.self.invariant c.requires.encoding c.in-Ok.ensures c.in-None.is refl fits
+
+pub returns-in-None-clause-old_value : goal.returns-in-None-clause-old_value
+returns-in-None-clause-old_value g c =
+    let change = c.in-Ok.change in
+    rw (← c.self.view_is)
+    (ap (option_map (λ y. y.value)) (sym c.in-None.is)
+    ∙ sym (put_value g.K.TrieKey.encoding c.self.inside.root _ _ _ _ c.args.list.now c.args.list.now c.args.pair change.was change.nodes change.nibbles
+    c.self.invariant refl c.in-Ok.ensures))
+
+pub returns-in-None-clause-stored : goal.returns-in-None-clause-stored
+returns-in-None-clause-stored g c =
+    let change = c.in-Ok.change in
+    rw (← c.self.view_is)
+    (put_map g.K.TrieKey.encoding c.self.inside.root _ _ _ _ c.args.list.now c.args.list.now c.args.pair change.was
+    change.nodes change.nibbles c.self.invariant refl c.in-Ok.ensures)

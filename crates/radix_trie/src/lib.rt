@@ -8,10 +8,8 @@ pub mod iter;
 mod place;
 mod subtrie;
 mod trie;
-mod trie_common;
 
 pub use building::BuildError;
 pub use radix_keys::{BytesError, Memory, NibbleVec, Nibblet, TrieKey};
 pub use subtrie::{SubTrie, SubTrieError, SubTrieResult};
 pub use trie::{InsertError, InsertWhy, Trie};
-pub use trie_common::TrieCommon;

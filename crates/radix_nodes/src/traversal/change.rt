@@ -10,11 +10,7 @@ use crate::trie_node::TrieNode;
 use radix_keys::Nibblet;
 
 /// Calls the closure once, on the value at the key's place. Where no pair stands there nothing changes, and the closure comes back.
-pub fn change<K, V, F: FnOnce(&mut V)>(
-    root: &mut TrieNode<K, V>,
-    key: &Nibblet,
-    f: F,
-) -> Option<F>
+pub fn change<K, V, F: FnOnce(&mut V)>(root: &mut TrieNode<K, V>, key: &Nibblet, f: F) -> Option<F>
     requires placed { IsTreePlaced (tree_of root.old) }
     requires callable { F.IsAlwaysCallable f }
     ensures { ChangeOutcome result f (λ v w. FnOnceReturnsAtMut F.FnOnce f v tt w) (fragment_of root.old ++ key.now) (tree_of root.old) (tree_of root.new) }

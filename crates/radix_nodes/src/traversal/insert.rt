@@ -5,11 +5,11 @@ ghost use Rattle.nibble_map.specs.Kept.{IsTreePlaced, firsts, leaf};
 ghost use Rattle.radix_nodes.specs.Nodes.{tree_of, fragment_of, IsUpper, EditOutcome, ReplaceOutcome, SetOutcome};
 
 use crate::fragments::{head, tail};
-use radix_keys::{Memory, Nibblet};
 use crate::traversal::compare::compare;
 use crate::trie_node::links::{link, lower};
 use crate::trie_node::mask::{beside, mark, place};
 use crate::trie_node::{KeyValue, TrieNode};
+use radix_keys::{Memory, Nibblet};
 use std::alloc::Global;
 use std::mem;
 

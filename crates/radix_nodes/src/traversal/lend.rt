@@ -93,10 +93,7 @@ pub fn pair_value<K, V>(pair: &mut Option<Box<KeyValue<K, V>>>) -> Option<&mut V
 }
 
 /// The value at the key's place, for writing: None exactly where no pair stands there.
-pub fn value_at_mut<'a, K, V>(
-    root: &'a mut TrieNode<K, V>,
-    key: &Nibblet,
-) -> Option<&'a mut V>
+pub fn value_at_mut<'a, K, V>(root: &'a mut TrieNode<K, V>, key: &Nibblet) -> Option<&'a mut V>
     requires { IsTreePlaced (tree_of root.old) }
     ensures* writes_back { sem 𝓛 (LendsValue K.row V.row root.entry (fragment_of root.old ++ key.now) result) }
 {

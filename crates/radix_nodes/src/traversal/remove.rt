@@ -4,10 +4,10 @@ ghost use Rattle.nibble_map.specs.Kept.{IsTreePlaced, IsAt, none};
 ghost use Rattle.radix_nodes.specs.Nodes.{tree_of, fragment_of, out_of, unboxed, CutOutcome, RootOutcome};
 
 use crate::fragments::joined;
-use radix_keys::{Memory, Nibblet};
 use crate::traversal::step::step;
 use crate::trie_node::links::{absorb, take_pair, unlink};
 use crate::trie_node::{KeyValue, TrieNode, has_pair, is_end};
+use radix_keys::{Memory, Nibblet};
 
 /// What a removal took, and how many nodes and nibbles of fragments went.
 #[derive(Drop)]
@@ -28,9 +28,7 @@ fn joined_with<K, V>(node: &TrieNode<K, V>, i: usize) -> Result<Nibblet, Memory>
 }
 
 // Takes the pair of a node with children. What may fail comes first.
-fn take_here<K: Drop, V: Drop>(
-    node: &mut TrieNode<K, V>,
-) -> Result<Option<Taken<K, V>>, Memory>
+fn take_here<K: Drop, V: Drop>(node: &mut TrieNode<K, V>) -> Result<Option<Taken<K, V>>, Memory>
     requires placed { IsTreePlaced (tree_of node.old) }
     requires some { fragment_of node.old ≢ [] }
     requires inner { 0 < vec_len (out_of node.old).children }

@@ -4,9 +4,9 @@ ghost use Rattle.nibble_map.specs.Trees.{first};
 ghost use Rattle.nibble_map.specs.Kept.{IsTreePlaced, IsAt, with_new_kid, without_kid, lowered, merged};
 ghost use Rattle.radix_nodes.specs.Nodes.{tree_of, fragment_of, out_of, unboxed, IsUpper, HasRoom};
 
-use radix_keys::Nibblet;
 use crate::trie_node::mask::{mark, unmark};
 use crate::trie_node::{KeyValue, TrieNode};
+use radix_keys::Nibblet;
 use std::mem;
 
 /// Puts a child at place i, where there is room.

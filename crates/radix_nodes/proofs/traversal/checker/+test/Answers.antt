@@ -65,9 +65,8 @@ loop-child-preserved g t c =
     let size : c.in_ok-sound.size ≡ pairs_of b.value = c.in_ok-sound.ensures.count ∙ ap (λ s. cond s (pairs_of c.deref-in-loop-child-2.result.now) 0) sound ∙ ap (λ k. pairs_of k) c.deref-in-loop-child-2.ensures in
     let y = c.get-nibble.ensures.value ∙ ap (λ k. first (fragment_of k)) c.deref-in-loop-child.ensures in
     let some : 0 < length (fragment_of b.value) = (let l = ap (λ k. length (fragment_of k)) c.deref.ensures in omega (arith, l, c.len.ensures, c.if-len-eq0.false)) in
-    let next = next_pairs items i b c.loop-child-test.true c.child-item.is in
-    (
+    let next = next_pairs items i b c.loop-child-test.true c.child-item.is in (
       omega (arith, c.loop-child.invariant.0, next, size),
       goes_on items i b c.loop-child-test.true c.child-item.is e p c.loop-child.low c.loop-child.seen mask _ c.loop-child.invariant.1 c.get-nibble.result y
-      (starts_next c.loop-child.low c.get-nibble.result (fragment_of b.value) some y (omega (arith, c.if-nibble-low.false)) c.get-nibble.ensures.nibble) own,
+          (starts_next c.loop-child.low c.get-nibble.result (fragment_of b.value) some y (omega (arith, c.if-nibble-low.false)) c.get-nibble.ensures.nibble) own,
     )

@@ -244,7 +244,6 @@ unfolding tables_of
     move ! (2 ∷ []) $ pick ! (λ ws₃. split ! $ drop ! $ split ! $ move ! (1 ∷ []) $ heard ! _ (λ boxed.
     -- [how the node follows the child's box; that box; the tokens but the nibbles'; how the box follows the node; the nibbles' token; the nibbles]
     move ! (2 ∷ []) $ split ! $ move ! (5 ∷ 1 ∷ []) $ join ! $ move ! (1 ∷ 0 ∷ []) $ join ! $ move ! (2 ∷ 4 ∷ 0 ∷ []) $
-    
     let lt : p.1 < length (out-TrieNode K.Denot V.Denot n.now).children.items = subst (λ (k : ℕ). p.1 < k) (out-TrieNode K.Denot V.Denot n.now).children.ok.0 step.within in
     use3 𝓛 (raw (Self.pre (at x p.2))) (asks x p.2 is₂.1 said.1 (kid_placed n.now p.1 x.now placedₙ lt (sym boxed)).1) $
     calls_from ! fm (raw (Self.pre (at x p.2))) (Self.args (at x p.2)) (Self.post (at x p.2))

@@ -56,9 +56,11 @@ returns-then-not-has_pair g c u a =
     let lt : c.args.i < length (out n).children.items = omega (arith, c.requires.within, (out n).children.ok.0) in
     let is = sym c.index.ensures in
     let kid = kid_placed n c.args.i b c.requires.placed lt is in
-    let path = leaf_path n c.args.i b u c.requires.placed lt is a in
-    (refl, kid_free n c.args.i b c.requires.placed (fragment_of b.value) _ lt is path kid.0 refl
-    (free_here b.value kid.1 (subst (λ m. unboxed (out m).pair ≡ None) c.deref.ensures c.if-not-has_pair.ensures)))
+    let path = leaf_path n c.args.i b u c.requires.placed lt is a in (
+      refl,
+      kid_free n c.args.i b c.requires.placed (fragment_of b.value) _ lt is path kid.0 refl
+          (free_here b.value kid.1 (subst (λ m. unboxed (out m).pair ≡ None) c.deref.ensures c.if-not-has_pair.ensures)),
+    )
 
 pub returns-in-Err : goal.returns-in-Err
 returns-in-Err g c u a =
@@ -68,8 +70,7 @@ returns-in-Err g c u a =
     let o = (out n).children.ok.0 in
     let lt : c.args.i < length (out n).children.items = omega (arith, c.requires.within, o) in
     let is = sym c.index.ensures in
-    let path = leaf_path n c.args.i b u c.requires.placed lt is a in
-    (
+    let path = leaf_path n c.args.i b u c.requires.placed lt is a in (
       refl,
       kid_held n c.args.i b c.requires.placed (fragment_of b.value) _ lt is path (held_here b.value (subst (λ m. IsSome (unboxed (out m).pair)) c.deref.ensures c.if-not-has_pair.ensures)),
       long_path n (1 - c.args.i) (omega (arith, o, c.if-leaves_one.ensures.1)) c.in-Err.ensures.long,

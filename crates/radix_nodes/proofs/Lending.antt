@@ -1,26 +1,24 @@
 -- What a write to a lent node, or to its value, does to the tree above it.
-use Rattle.std.proofs.Common.{◌≡◌, ℕ, ◌+◌, ◌<◌, List, [], ◌∷◌, ◌++◌, length, get_or, drop, map, Option, Some, None, IsSome, MutBor, refl, sym, ap, subst, ◌∙◌, arith, inl, inr, append-nil}
+use Rattle.std.proofs.Common.{◌≡◌, ℕ, List, [], ◌∷◌, ◌++◌, length, get_or, drop, Option, Some, None, IsSome, MutBor, refl, sym, ap, subst, ◌∙◌, arith, inl, inr, append-nil}
 use Rattle.std.proofs.lemmas.List.{map-append}
 use Rattle.std.proofs.Math.Seq.{drop-length}
 use Rattle.std.specs.Option.{IfSome}
 use Rattle.std.specs.declared.boxed.Box.{Box}
 use Rattle.std.specs.declared.alloc.Global.{Global}
 use Rattle.nibble_map.specs.Swaps.{Swaps, entry}
-use Rattle.nibble_map.specs.Trees.{AreMany, first}
-use Rattle.nibble_map.specs.Masks.{IsMask}
-use Rattle.nibble_map.specs.Kept.{Tree, Kids, IsAt, plain, firsts, IsPlaced, IsTreePlaced, IsTreeFull, entries_at, entries_in, nodes_in, nibbles_in, with_kid}
-use Rattle.nibble_map.specs.KeptPaths.{IsNodeAt, IsHeld, IsStuck}
-use Rattle.nibble_map.specs.Alters.{Alters, AltersNode}
+use Rattle.nibble_map.specs.Kept.{Tree, Kids, IsAt, IsTreePlaced, entries_at, entries_in}
+use Rattle.nibble_map.specs.KeptPaths.{IsNodeAt, IsHeld}
+use Rattle.nibble_map.specs.Alters.{AltersNode}
 use Rattle.nibble_map.proofs.KeptEdits.{kid_alters, node_kid}
-use Rattle.nibble_map.proofs.KeptPaths.{kid_down, node_held, held_node, one_node}
+use Rattle.nibble_map.proofs.KeptPaths.{held_node, one_node}
 use Rattle.radix_nodes.specs.declared.trie_node.KeyValue.{KeyValue}
 use Rattle.radix_nodes.specs.declared.trie_node.TrieNode.{TrieNode, out-TrieNode, roll-TrieNode}
 use Rattle.radix_nodes.specs.Nodes.{tree_of, fragment_of, unboxed, IsStep}
-use Rattle.radix_nodes.specs.Lending.{IsSameKey, IsRevalued, Replaces, Revalues, keyed, keys_of, IsLike, IsKept, KeepsNode, KeepsValue, OnNone, write_value, IsLentPair, with_child}
+use Rattle.radix_nodes.specs.Lending.{IsSameKey, IsRevalued, Replaces, Revalues, keyed, keys_of, IsLike, IsKept, KeepsNode, OnNone, write_value, IsLentPair, with_child}
 use Rattle.radix_nodes.proofs.Nodes.{pair_is, pair_out, fragment_out}
 use Rattle.radix_nodes.proofs.Removes.{kid_new, kid_kept}
-use Rattle.radix_nodes.proofs.Steps.{is_at, step_kid}
-use Rattle.radix_nodes.proofs.Searches.{node_here, stuck_absent, found_up, found_down, whole}
+use Rattle.radix_nodes.proofs.Steps.{step_kid}
+use Rattle.radix_nodes.proofs.Searches.{node_here, found_up, found_down, whole}
 
 pub if_some : {A : Type 0} (r : Option A) {P Q : A → Type 0} → ((x : A) → P x → Q x) → IfSome r P → IfSome r Q
 if_some None f p = p

@@ -1,5 +1,5 @@
 -- What a search below a child tells of the node.
-use Rattle.std.proofs.Common.{◌≡◌, ◌≢◌, ◌⊎◌, ℕ, zero, suc, ◌+◌, ◌-◌, ◌<◌, ◌≤◌, List, [], ◌∷◌, ◌++◌, length, get_or, take, drop, slice_index, Option, Some, None, MatchOption, IsSome, refl, ap, sym, subst, ◌∙◌, arith, inl, append-nil, append_assoc, drop-drop}
+use Rattle.std.proofs.Common.{◌≡◌, ◌≢◌, ℕ, ◌+◌, ◌-◌, ◌<◌, ◌≤◌, List, [], ◌++◌, length, get_or, take, drop, slice_index, Option, Some, None, MatchOption, IsSome, refl, ap, sym, subst, ◌∙◌, arith, inl, append-nil, append_assoc, drop-drop}
 use Rattle.std.proofs.lemmas.List.{length-append, length-drop}
 use Rattle.std.proofs.Math.Seq.{drop-length}
 use Rattle.std.specs.declared.boxed.Box.{Box}

@@ -1,11 +1,10 @@
 -- A node's sizes by its fields.
-use Rattle.std.proofs.Common.{◌≡◌, ℕ, suc, ◌+◌, ◌<◌, ◌≤◌, max, List, [], length, get_or, drop, drop-cons, add-one, Option, Some, None, IsSome, false, true, refl, ap, sym, subst, ◌∙◌, arith}
+use Rattle.std.proofs.Common.{◌≡◌, ℕ, suc, ◌+◌, ◌<◌, ◌≤◌, max, List, [], length, get_or, drop, drop-cons, add-one, Option, Some, None, IsSome, false, true, refl, ap, sym, subst, arith}
 use Rattle.std.specs.declared.boxed.Box.{Box}
 use Rattle.std.specs.declared.alloc.Global.{Global}
-use Rattle.nibble_map.specs.Kept.{Tree, IsAt, entries_at, nodes_in}
+use Rattle.nibble_map.specs.Kept.{IsAt, entries_at, nodes_in}
 use Rattle.nibble_map.specs.KeptSizes.{own_count, pairs_in, levels}
 use Rattle.nibble_map.proofs.KeptSizes.{pairs_count, fewer_nodes, fewer_pairs}
-use Rattle.radix_nodes.specs.declared.trie_node.KeyValue.{KeyValue}
 use Rattle.radix_nodes.specs.declared.trie_node.TrieNode.{TrieNode, out-TrieNode}
 use Rattle.radix_nodes.specs.Nodes.{tree_of, kids_of, unboxed}
 use Rattle.radix_nodes.proofs.Nodes.{pair_out, kids_out, kids_at}

@@ -1,5 +1,5 @@
 -- The test of a node says whether it is canonical.
-use Rattle.std.proofs.Common.{◌≡◌, ◌≢◌, ◌⊎◌, ◌↔◌, ℕ, suc, ◌+◌, ◌<◌, ◌≤◌, ◌==◌, nat_lt, nat_eq, cond, Bool, true, false, ◌&&◌, List, [], ◌∷◌, ◌++◌, length, get_or, drop, drop-cons, add-one, map, is_some, IsSome, Some, None, Option, refl, ap, sym, subst, ◌∙◌, arith, inl, inr}
+use Rattle.std.proofs.Common.{◌≡◌, ◌≢◌, ◌⊎◌, ◌↔◌, ℕ, suc, ◌+◌, ◌<◌, ◌≤◌, ◌==◌, nat_lt, cond, Bool, true, false, ◌&&◌, List, [], ◌∷◌, ◌++◌, length, get_or, drop, drop-cons, add-one, is_some, IsSome, Some, None, Option, refl, ap, sym, subst, ◌∙◌, arith, inl, inr}
 use Rattle.std.specs.Bool.{Decides}
 use Rattle.std.specs.Int.{bit_at, w16}
 use Rattle.std.specs.declared.boxed.Box.{Box}
@@ -14,8 +14,7 @@ use Rattle.nibble_map.specs.Swaps.{entry}
 use Rattle.nibble_map.specs.Trees.{AreMany, IsFull, first}
 use Rattle.nibble_map.specs.Trees as trees
 use Rattle.nibble_map.specs.Masks.{IsMask, bit_of, marked}
-use Rattle.nibble_map.specs.Canonical as forest
-use Rattle.nibble_map.specs.Kept.{Tree, Kids, none, more, plain, firsts, IsPlaced, IsTreePlaced, entries_in, entries_at}
+use Rattle.nibble_map.specs.Kept.{Tree, Kids, none, more, plain, firsts, IsPlaced, entries_in, entries_at}
 use Rattle.nibble_map.proofs.Canonical.{local_canonical, canonical_local}
 use Rattle.radix_nodes.specs.declared.trie_node.KeyValue.{KeyValue}
 use Rattle.radix_nodes.specs.declared.trie_node.TrieNode.{TrieNode, out-TrieNode}

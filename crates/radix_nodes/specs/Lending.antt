@@ -1,5 +1,5 @@
 -- What a tree ends as, once a reference that was lent out of it has ended.
-use Rattle.std.specs.Prelude.{◌≡◌, List, ℕ, [], Option, Some, None, MatchOption, ⊤, map}
+use Rattle.std.specs.Prelude.{◌≡◌, List, ℕ, Option, Some, None, MatchOption, ⊤, map}
 use Rattle.std.specs.Option.{IfSome}
 use Rattle.std.specs.Borrow.{Fml, RattleType, MutBor, Lends, LendsIf, LendsSo}
 use Rattle.std.specs.declared.boxed.Box.{Box}

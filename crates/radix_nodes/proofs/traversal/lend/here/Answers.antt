@@ -1,4 +1,4 @@
-use Rattle.std.proofs.Common.{◌≡◌, ◌++◌, ◌∙◌, refl, sym, subst, drop, arith}
+use Rattle.std.proofs.Common.{◌++◌, ◌∙◌, refl, sym, subst, drop, arith}
 use Rattle.radix_nodes.specs.Lending.{Replaces}
 use Rattle.radix_nodes.specs.Nodes.{tree_of, fragment_of}
 use Rattle.radix_nodes.proofs.Lending.{own_replaced}

@@ -1,4 +1,4 @@
-use Rattle.std.proofs.Common.{◌≡◌, ◌∙◌, ap, sym, subst, arith, Ok, Err, drop}
+use Rattle.std.proofs.Common.{◌∙◌, ap, sym, subst, arith, Ok, Err, drop}
 use Rattle.nibble_map.specs.Masks.{bit_of}
 use Rattle.nibble_map.specs.Kept.{firsts}
 use Rattle.nibble_map.specs.Agreement.{Agrees}

@@ -1,4 +1,4 @@
-use Rattle.std.proofs.Common.{◌≡◌, ◌∙◌, ap, sym, arith, length}
+use Rattle.std.proofs.Common.{◌∙◌, ap, sym, arith, length}
 use Rattle.radix_nodes.specs.Nodes.{fragment_of}
 use Rattle.radix_nodes.proofs.Steps.{met_step, met_stuck, none_stuck}
 use Rattle.radix_nodes.proofs.Searches.{end_stuck}

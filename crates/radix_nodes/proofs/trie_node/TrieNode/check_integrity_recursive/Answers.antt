@@ -1,5 +1,4 @@
-use Rattle.std.proofs.Common.{◌≡◌, ◌<◌, ◌^◌, ◌↔◌, ◌∙◌, IsTrue, cond, ap, sym, subst, length}
-use Rattle.nibble_map.specs.Kept.{entries_at}
+use Rattle.std.proofs.Common.{◌<◌, ◌^◌, ◌↔◌, ◌∙◌, IsTrue, cond, ap, sym, subst}
 use Rattle.radix_nodes.specs.Nodes.{tree_of}
 use Rattle.radix_nodes.specs.Soundness.{IsCanonicalAt}
 use Rattle.radix_nodes.proofs.Removes.{if_ok}

@@ -2,7 +2,8 @@ pub mod Shown
 pub mod Sizes
 pub mod Changes
 pub mod Held
-pub mod Places
+pub mod Paths
+pub mod Opened
 mod Walks
 mod WalkRows
 mod Present

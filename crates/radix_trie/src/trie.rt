@@ -162,6 +162,11 @@ impl<K: TrieKey, V> Trie<K, V> {
     {
         &self.root
     }
+
+    /// The allocator that the trie's memory comes from.
+    pub(crate) fn allocator(&self) -> Global {
+        self.alloc
+    }
 }
 
 /// The key's encoding. Its count of nibbles is within `usize`.

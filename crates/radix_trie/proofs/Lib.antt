@@ -4,6 +4,10 @@ pub mod Changes
 pub mod Held
 pub mod Paths
 pub mod Opened
+pub mod Steps
+pub mod Above
+pub mod Parts
+pub mod Places
 mod Walks
 mod WalkRows
 mod Present

@@ -113,6 +113,14 @@ module _ {K V : Type 0} where
       ∙ ap (λ x. x ++ pairs_of (entries_in t.fragment t.kids)) (entry-pairs t.fragment t.pair)
       ∙ ap (λ x. own_pair t.pair ++ x) (anywhere t.fragment [] t.kids)
 
+  -- the same pairs at and below a node, whatever its path
+  pub pairs_at : (q : List ℕ) (t : Tree (KeyValue K V)) → pairs_of (entry q t.pair ++ entries_in q t.kids) ≡ pairs_in t
+  pairs_at q t =
+      append-pairs (entry q t.pair) (entries_in q t.kids)
+      ∙ ap (λ x. x ++ pairs_of (entries_in q t.kids)) (entry-pairs q t.pair)
+      ∙ ap (λ x. own_pair t.pair ++ x) (anywhere q [] t.kids)
+      ∙ sym (pairs_in-node t)
+
   pending-push : (rs : List (Kids (KeyValue K V))) (r : Kids (KeyValue K V)) → pending (rs ++ r ∷ []) ≡ pairs_in_all r ++ pending rs
   pending-push [] r = sym (append-nil (pairs_in_all r))
   pending-push (q ∷ rs) r = ap (λ x. x ++ pairs_in_all q) (pending-push rs r) ∙ append_assoc (pairs_in_all r) (pending rs) (pairs_in_all q)

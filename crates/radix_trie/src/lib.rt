@@ -1,13 +1,17 @@
 //! A radix trie: a map from keys to values that goes by the nibbles of the keys' encodings.
 #![tactic(auto)]
 
-mod inside;
+mod commands;
 pub mod iter;
 mod opens;
+mod place;
+mod subtrie;
 mod subtrie_mut;
 mod trie;
 
 pub use radix_keys::{BytesError, Memory, NibbleVec, Nibblet, TrieKey};
+pub use commands::{Command, Reply, ViewCommand, run};
 pub use opens::OpenError;
-pub use subtrie_mut::{SubTrieError, SubTrieMut, SubTrieResult};
+pub use subtrie::{SubTrie, SubTrieError, SubTrieResult};
+pub use subtrie_mut::SubTrieMut;
 pub use trie::{InsertError, InsertWhy, Trie};

@@ -1,26 +1,15 @@
 //! Views for writing.
 ghost use Rattle.std.specs.FinMap as map;
-ghost use Rattle.std.specs.Prelude.{◌≡◌, ◌≢◌, ℕ, List, None, IsOk, IfOk, OnOk, IfErr, OnErr, IsErrAnd, Err, option_copied};
+ghost use Rattle.std.specs.Prelude.{◌≡◌, ◌≢◌, ◌↔◌, ℕ, List, None, IsTrue, IsOk, IfOk, OnOk, IfErr, OnErr, IsErrAnd, Err, option_copied};
 ghost use Rattle.nibble_map.specs.Lists.{IsPrefix};
 ghost use Rattle.nibble_map.specs.Maps.{IsStored, value_at};
 ghost use Rattle.nibble_map.specs.Nibbles.{IsShort};
 ghost use Rattle.radix_trie.specs.WriteViews.{map_behind, path_of, prefix_of, lender_of, SameView};
 
-use crate::inside::begins;
+use crate::place::{Place, begins};
+use crate::subtrie::{SubTrieError, SubTrieResult};
 use crate::trie::{InsertError, InsertWhy, Trie};
-use radix_keys::{Nibblet, TrieKey};
-
-/// Why a call of a view was refused.
-#[derive(Clone, Copy, PartialEq, Eq, Debug)]
-pub enum SubTrieError {
-    /// A growth of memory was refused.
-    Memory,
-    /// The view's path isn't a prefix of the key's encoding.
-    Outside,
-}
-
-/// What a view answers of a key.
-pub type SubTrieResult<T> = Result<Option<T>, SubTrieError>;
+use radix_keys::{Memory, Nibblet, TrieKey};
 
 /// A view for writing: a trie, and a path in it, at which a point stood when the view was made.
 ///
@@ -45,6 +34,19 @@ impl<K: TrieKey, V, P: Drop> Drop for SubTrieMut<'_, K, V, P> {
     }
 }
 
+impl<K: TrieKey, V> Trie<K, V> {
+    /// Whether a path begins the key's encoding.
+    ///
+    /// The one refusal is that of memory for the encoding, which a light key never meets.
+    fn is_inside<Q: TrieKey>(&self, path: &Nibblet, key: &Q) -> Result<bool, Memory>
+        ensures inside { IfOk result (λ b. IsTrue b ↔ IsPrefix path.now (Q.encoding key.now)) }
+        ensures light { Q.is_light key.now → IsOk result }
+    {
+        let list = key.encode(self.allocator())?;
+        Ok(begins(path, &list))
+    }
+}
+
 impl<'a, K: TrieKey, V> SubTrieMut<'a, K, V> {
     /// The view of a trie at a path, with the path's fragment.
     pub(crate) fn at(trie: &'a mut Trie<K, V>, path: Nibblet, prefix: Nibblet) -> Self
@@ -61,6 +63,14 @@ impl<'a, K: TrieKey, V> SubTrieMut<'a, K, V> {
         ensures { result.now ≡ path_of self.now }
     {
         &self.path
+    }
+
+    /// The place of the view's path.
+    pub(crate) fn place(&self) -> Place<'_, '_, K, V>
+        ensures map { result.map ≡ map_behind self.now }
+        ensures path { result.path ≡ path_of self.now }
+    {
+        Place::find(self.trie, &self.path)
     }
 
     /// The value that the trie holds at the key's encoding, if there is one. Outside where the view's path isn't a prefix
@@ -101,6 +111,7 @@ impl<'a, K: TrieKey + Drop, V: Drop> SubTrieMut<'a, K, V> {
 
         ensures outside { IfErr result (λ e. e.why ≡ InsertWhy.Outside → IsPrefix (path_of self.old) (K.encoding key) → ⊥) }
         ensures light_outside { K.is_light key → (IsPrefix (path_of self.old) (K.encoding key) → ⊥) → IsErrAnd result (λ e. e.why ≡ InsertWhy.Outside) }
+        ensures light_memory { K.is_light key → IfErr result (λ e. e.why ≡ InsertWhy.Memory → IsPrefix (path_of self.old) (K.encoding key)) }
         ensures light_stored { K.is_light key → IsPrefix (path_of self.old) (K.encoding key) → IsStored (map_behind self.old) (K.encoding key) → IsOk result }
         ensures full_at_limit { IfErr result (λ e. e.why ≡ InsertWhy.Full → map.len (map_behind self.old) ≡ usize.MAX) }
         ensures full_absent { IfErr result (λ e. e.why ≡ InsertWhy.Full → map.get (map_behind self.old) (K.encoding key) ≡ None) }
@@ -141,6 +152,7 @@ impl<'a, K: TrieKey + Drop, V: Drop> SubTrieMut<'a, K, V> {
 
         ensures outside { result ≡ Err SubTrieError.Outside → IsPrefix (path_of self.old) (Q.encoding key.now) → ⊥ }
         ensures light_outside { Q.is_light key.now → (IsPrefix (path_of self.old) (Q.encoding key.now) → ⊥) → result ≡ Err SubTrieError.Outside }
+        ensures light_memory { Q.is_light key.now → result ≡ Err SubTrieError.Memory → IsPrefix (path_of self.old) (Q.encoding key.now) }
         ensures light_absent { Q.is_light key.now → IsPrefix (path_of self.old) (Q.encoding key.now) → map.get (map_behind self.old) (Q.encoding key.now) ≡ None → IsOk result }
         ensures light_short { Q.is_light key.now → IsPrefix (path_of self.old) (Q.encoding key.now) → ((e : List ℕ) → IsStored (map_behind self.old) e → IsShort e) → IsOk result }
     {

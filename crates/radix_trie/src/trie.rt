@@ -156,16 +156,16 @@ impl<K: TrieKey, V> Trie<K, V> {
         self.pair_at(list).is_none()
     }
 
+    /// What the trie takes its memory from.
+    pub(crate) fn allocator(&self) -> Global {
+        self.alloc
+    }
+
     /// The root, the canonical tree of the map.
     pub(crate) fn root(&self) -> &TrieNode<K, V>
         ensures { IsRoot K.encoding self.now (tree_of result.now) }
     {
         &self.root
-    }
-
-    /// The allocator that the trie's memory comes from.
-    pub(crate) fn allocator(&self) -> Global {
-        self.alloc
     }
 }
 

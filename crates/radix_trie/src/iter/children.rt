@@ -1,63 +1,67 @@
-//! The children of a node, handed out one after another.
+//! The children of a path, handed out one after another.
 ghost use Rattle.std.specs.Prelude.{◌≡◌, ◌<◌, [], ◌∷◌, ◌++◌, length};
 ghost use Rattle.std.specs.Iterator.{YieldsFirst, item_count};
 
+use crate::subtrie::SubTrie;
 use arrayvec::ArrayVec;
+use radix_keys::TrieKey;
 use std::iter::FusedIterator;
 use std::marker::Model;
 
-/// At most sixteen items, handed out in the order in which they came, the first one first.
+/// At most sixteen views, one for each child of a path, by rising nibble.
 ///
-/// `next` takes no memory, and goes on answering `None` after the end. A contract sees the list of the items that are
+/// `next` takes no memory, and goes on answering `None` after the end. A contract sees the list of the views that are
 /// left.
 #[derive(Drop)]
-pub struct Children<T> {
+pub struct Children<'a, K: TrieKey, V> {
     /// Options, since an `ArrayVec` begins with defaults. Each of them is a `Some`.
-    items: ArrayVec<Option<T>, 16>,
+    items: ArrayVec<Option<SubTrie<'a, K, V>>, 16>,
 }
 
-impl<T> Model for Children<T> {
+impl<'a, K: TrieKey, V> Model for Children<'a, K, V> {
     ghost use Rattle.std.specs.Prelude.{◌≡◌, List, length};
     ghost use Rattle.radix_trie.specs.Present.{present};
+    ghost use Rattle.radix_trie.specs.Views.{ReadView, read_view_code};
+    ghost use Rattle.std.specs.Coded.{coded_list};
 
-    ghost Value = { List T };
+    ghost Value = { List (ReadView K V) };
+
+    ghost coded = { coded_list (read_view_code K.code V.code) };
 
     ghost view = { λ a. present a.items.items };
 
     ghost invariant = { λ a. length (present a.items.items) ≡ length a.items.items };
 }
 
-impl<T> Children<T> {
-    /// No item.
-    pub(crate) fn new() -> Children<T>
+impl<'a, K: TrieKey, V> Children<'a, K, V> {
+    /// No view.
+    pub(crate) fn new() -> Children<'a, K, V>
         ensures { result ≡ [] }
     {
         Children {
             items: ArrayVec::new(),
         }
     }
-}
 
-impl<T: Drop> Children<T> {
-    /// One item more, after the others.
-    pub(crate) fn push(&mut self, item: T)
+    /// One view more, after the others.
+    pub(crate) fn push(&mut self, child: SubTrie<'a, K, V>)
         requires { length self.old < 16 }
-        ensures { self.new ≡ self.old ++ item ∷ [] }
+        ensures { self.new ≡ self.old ++ child.entry ∷ [] }
     {
-        self.items.push(Some(item));
+        self.items.push(Some(child));
     }
 }
 
-impl<T: Drop> Iterator for Children<T> {
-    type Item = T;
+impl<'a, K: TrieKey, V> Iterator for Children<'a, K, V> {
+    type Item = SubTrie<'a, K, V>;
 
     ghost next_gives = { YieldsFirst (λ s. s) };
 
     ghost remaining = { item_count (λ s. s) };
 
-    fn next(&mut self) -> Option<T> {
+    fn next(&mut self) -> Option<SubTrie<'a, K, V>> {
         self.items.pop_at(0)?
     }
 }
 
-impl<T: Drop> FusedIterator for Children<T> {}
+impl<'a, K: TrieKey, V> FusedIterator for Children<'a, K, V> {}

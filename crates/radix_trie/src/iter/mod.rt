@@ -4,5 +4,6 @@ mod children;
 mod halves;
 mod walk;
 
+pub use children::Children;
 pub use halves::{Keys, Values};
 pub use walk::Iter;

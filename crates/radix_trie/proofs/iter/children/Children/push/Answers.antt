@@ -6,4 +6,4 @@ pub invariant_of-self : goal.invariant_of-self
 invariant_of-self g c = all-push _ _ _ c.push.ensures.items c.self.invariant
 
 pub returns : goal.returns
-returns g c = present-push _ _ _ c.push.ensures.items ∙ ap (λ x. x ++ c.args.item ∷ []) c.self.view_is
+returns g c = present-push _ _ _ c.push.ensures.items ∙ ap (λ x. x ++ c.args.child ∷ []) c.self.view_is

@@ -1,0 +1,27 @@
+-- Where a path stands in the tree of a trie.
+use Rattle.std.specs.Prelude.{◌≡◌, ℕ, List, [], ◌∷◌, ◌++◌, Option, MatchOption, ⊤}
+use Rattle.std.specs.Borrow.{Bor}
+use Rattle.nibble_map.specs.Kept.{Tree, Kids, none, more}
+use Rattle.nibble_map.specs.KeptPaths.{IsNodeAt, IsPath}
+use Rattle.nibble_map.specs.Lists.{IsPrefix}
+use Rattle.nibble_map.specs.Maps.{PairMap}
+use Rattle.radix_nodes.specs.declared.trie_node.KeyValue.{KeyValue}
+use Rattle.radix_nodes.specs.declared.trie_node.TrieNode.{TrieNode}
+use Rattle.radix_nodes.specs.Nodes.{tree_of, IsNearest}
+use Rattle.radix_trie.specs.Roots.{IsRoot}
+use Rattle.radix_trie.specs.Views.{ReadView}
+
+module _ {K V : Type 0} where
+  -- u is the node at p in the map's tree
+  abbrev pub IsNodeOf : (K → List ℕ) → PairMap K V → List ℕ → Tree (KeyValue K V) → Type 0
+  IsNodeOf enc m p u = (t : Tree (KeyValue K V)) × IsRoot enc m t × IsNodeAt t p u
+
+  -- what was found is the node with the shortest path that p begins, and how many nibbles of its fragment lie within p
+  abbrev pub IsPlace : (K → List ℕ) → PairMap K V → List ℕ → Option (Bor (TrieNode K V) × ℕ) → Type 0
+  IsPlace enc m p found = (t : Tree (KeyValue K V)) × IsRoot enc m t
+      × MatchOption found ((q : List ℕ) → IsPath t q → IsPrefix p q → ⊥) (λ r. IsNearest t (tree_of r.0.now) p r.1)
+
+  -- the views at some children of a node at p
+  abbrev pub kid_views : PairMap K V → List ℕ → Kids (KeyValue K V) → List (ReadView K V)
+  kid_views m p none = []
+  kid_views m p (more f o k kids others) = record { map = m; path = p ++ f } ∷ kid_views m p others

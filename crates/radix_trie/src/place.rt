@@ -1,0 +1,138 @@
+//! Where a path stands in a trie: what is stored at it and below it.
+ghost use Rattle.std.specs.Prelude.{◌≡◌, ◌<◌, ◌^◌, ◌↔◌, IsTrue, IsOk, IfOk, length, option_map};
+ghost use Rattle.std.specs.FinMap as finite;
+ghost use Rattle.nibble_map.specs.Lists.{IsPrefix};
+ghost use Rattle.nibble_map.specs.Maps.{below};
+ghost use Rattle.nibble_map.specs.MapQueries.{IsLeaf};
+ghost use Rattle.radix_nodes.specs.Nodes.{tree_of};
+ghost use Rattle.radix_trie.specs.Pairs.{pair_of};
+ghost use Rattle.radix_trie.specs.Views.{pairs_below};
+
+use crate::iter::Iter;
+use crate::trie::Trie;
+use radix_keys::{Memory, Nibblet, TrieKey};
+use radix_nodes::traversal::compare::compare;
+use radix_nodes::traversal::queries::shortest;
+use radix_nodes::traversal::size::count_pairs;
+use radix_nodes::trie_node::{KeyValue, TrieNode, is_end};
+use std::marker::Model;
+
+/// A path in a trie, a point or not, and what stands at and below it. A contract sees it as the map of the whole trie
+/// and the path.
+#[derive(Drop)]
+pub(crate) struct Place<'a, 'p, K: TrieKey, V> {
+    trie: &'a Trie<K, V>,
+    path: &'p Nibblet,
+    /// The node with the shortest path that the path begins, and how many nibbles of its fragment lie within the path.
+    found: Option<(&'a TrieNode<K, V>, usize)>,
+}
+
+impl<'a, 'p, K: TrieKey, V> Model for Place<'a, 'p, K, V> {
+    ghost use Rattle.radix_trie.specs.Views.{ReadView, read_view_code};
+
+    ghost Value = { ReadView K V };
+
+    ghost coded = { read_view_code K.code V.code };
+
+    ghost use Rattle.radix_trie.specs.Places.{IsPlace};
+
+    ghost view = { λ s. record { map = s.trie.now; path = s.path.now } };
+
+    ghost invariant = { λ s. IsPlace K.encoding s.trie.now s.path.now s.found };
+}
+
+impl<'a, 'p, K: TrieKey, V> Place<'a, 'p, K, V> {
+    ghost use Rattle.radix_trie.specs.Places.{IsNodeOf};
+
+    /// The place of any path.
+    pub(crate) fn find(trie: &'a Trie<K, V>, path: &'p Nibblet) -> Place<'a, 'p, K, V>
+        ensures map { result.map ≡ trie.now }
+        ensures path { result.path ≡ path.now }
+    {
+        Place {
+            trie,
+            path,
+            found: shortest(trie.root(), path, 0),
+        }
+    }
+
+    /// The place of a point, at its node.
+    pub(crate) fn at(
+        trie: &'a Trie<K, V>,
+        node: &'a TrieNode<K, V>,
+        path: &'p Nibblet,
+    ) -> Place<'a, 'p, K, V>
+        requires { IsNodeOf K.encoding trie.now path.now (tree_of node.now) }
+        ensures map { result.map ≡ trie.now }
+        ensures path { result.path ≡ path.now }
+    {
+        Place {
+            trie,
+            path,
+            found: Some((node, node.fragment.len())),
+        }
+    }
+
+    /// The pair that is stored at the path.
+    pub(crate) fn pair(&self) -> Option<&'a KeyValue<K, V>>
+        ensures { option_map (λ p. pair_of p.now) result ≡ finite.get self.now.map self.now.path }
+    {
+        match self.found {
+            Some((node, covered)) => {
+                if covered == node.fragment.len() {
+                    node.pair.as_deref()
+                } else {
+                    None
+                }
+            }
+            None => None,
+        }
+    }
+
+    /// The count of pairs at and below the path.
+    pub(crate) fn len(&self) -> usize
+        ensures { result ≡ finite.len (below self.now.map self.now.path) }
+    {
+        // All pairs are within `usize`.
+        let _pairs = self.trie.len();
+        match self.found {
+            Some((node, _)) => count_pairs(node),
+            None => 0,
+        }
+    }
+
+    /// Whether no pair is strictly below the path.
+    pub(crate) fn is_leaf(&self) -> bool
+        ensures { IsTrue result ↔ IsLeaf self.now.map self.now.path }
+    {
+        match self.found {
+            Some((node, covered)) => {
+                if covered == node.fragment.len() {
+                    is_end(node)
+                } else {
+                    false
+                }
+            }
+            None => true,
+        }
+    }
+
+    /// The walk over the pairs at and below the path. All memory that it needs is taken here.
+    pub(crate) fn iter(&self) -> Result<Iter<'a, K, V>, Memory>
+        ensures walk { IfOk result (λ pairs. pairs ≡ pairs_below self.now.map self.now.path) }
+        ensures countable { IfOk result (λ pairs. length pairs < 2 ^ 64) }
+    {
+        let _pairs = self.trie.len();
+        match self.found {
+            Some((node, _)) => Iter::over(self.trie.allocator(), node),
+            None => Ok(Iter::empty(self.trie.allocator())),
+        }
+    }
+}
+
+/// Whether a path begins a list.
+pub(crate) fn begins(path: &Nibblet, list: &Nibblet) -> bool
+    ensures { IsTrue result ↔ IsPrefix path.now list.now }
+{
+    compare(path, list, 0).same == path.len()
+}

@@ -1,0 +1,99 @@
+//! Views for reading.
+ghost use Rattle.std.specs.Prelude.{◌≡◌, ◌≢◌, Err, IfOk, OnOk, IsOk, option_copied};
+ghost use Rattle.nibble_map.specs.Lists.{IsPrefix};
+ghost use Rattle.nibble_map.specs.Maps.{value_at};
+ghost use Rattle.radix_nodes.specs.Nodes.{tree_of};
+
+use crate::place::{Place, begins};
+use crate::trie::Trie;
+use radix_keys::{Memory, Nibblet, TrieKey};
+use radix_nodes::trie_node::TrieNode;
+use std::marker::Model;
+
+/// Why a view answers no pair.
+#[derive(Clone, Copy, PartialEq, Eq, Debug)]
+pub enum SubTrieError {
+    /// A growth of memory was refused, or a nibble count would pass `usize::MAX`.
+    Memory,
+    /// The view's path isn't a prefix of the key's encoding.
+    Outside,
+}
+
+/// What a view answers for a key.
+pub type SubTrieResult<T> = Result<Option<T>, SubTrieError>;
+
+/// A view for reading: a point of a trie, which doesn't change while the view lives.
+///
+/// A contract sees it as the map of the whole trie and the view's path in it.
+#[derive(Drop)]
+pub struct SubTrie<'a, K: TrieKey, V> {
+    trie: &'a Trie<K, V>,
+    /// The node at the path.
+    node: &'a TrieNode<K, V>,
+    path: Nibblet,
+}
+
+impl<'a, K: TrieKey, V> Model for SubTrie<'a, K, V> {
+    ghost use Rattle.radix_trie.specs.Views.{ReadView, read_view_code};
+
+    ghost Value = { ReadView K V };
+
+    ghost coded = { read_view_code K.code V.code };
+
+    ghost use Rattle.radix_nodes.specs.Nodes.{tree_of};
+    ghost use Rattle.radix_trie.specs.Places.{IsNodeOf};
+
+    ghost view = { λ s. record { map = s.trie.now; path = s.path } };
+
+    ghost invariant = { λ s. IsNodeOf K.encoding s.trie.now s.path (tree_of s.node.now) };
+}
+
+impl<'a, K: TrieKey, V> SubTrie<'a, K, V> {
+    ghost use Rattle.radix_trie.specs.Places.{IsNodeOf};
+
+    /// The view at a node of the trie.
+    pub(crate) fn new(
+        trie: &'a Trie<K, V>,
+        node: &'a TrieNode<K, V>,
+        path: Nibblet,
+    ) -> SubTrie<'a, K, V>
+        requires { IsNodeOf K.encoding trie.now path (tree_of node.now) }
+        ensures map { result.map ≡ trie.now }
+        ensures path { result.path ≡ path }
+    {
+        SubTrie { trie, node, path }
+    }
+
+    /// The whole path, of which the last part is the view's fragment.
+    pub fn path(&self) -> &Nibblet
+        ensures { result.now ≡ self.now.path }
+    {
+        &self.path
+    }
+
+    /// The value that is stored at the key's encoding, if there is one, where the view's path is a prefix of the
+    /// encoding; else `Outside`. The one other refusal is that of memory for the encoding, which a light key never
+    /// meets.
+    pub fn get<Q: TrieKey>(&self, key: &Q) -> SubTrieResult<&V>
+        ensures value { IfOk result (λ found. option_copied found ≡ value_at self.now.map (Q.encoding key.now)) }
+        ensures inside { OnOk result (IsPrefix self.now.path (Q.encoding key.now)) }
+        ensures outside { result ≡ Err SubTrieError.Outside → IsPrefix self.now.path (Q.encoding key.now) → ⊥ }
+        ensures light { Q.is_light key.now → result ≢ Err SubTrieError.Memory }
+    {
+        let Ok(list) = key.encode(self.trie.allocator()) else {
+            return Err(SubTrieError::Memory);
+        };
+        if !begins(&self.path, &list) {
+            return Err(SubTrieError::Outside);
+        }
+        Ok(self.trie.at(&list))
+    }
+
+    /// The place of the view's path.
+    pub(crate) fn place(&self) -> Place<'a, '_, K, V>
+        ensures map { result.map ≡ self.now.map }
+        ensures path { result.path ≡ self.now.path }
+    {
+        Place::at(self.trie, self.node, &self.path)
+    }
+}

@@ -3,6 +3,9 @@ pub mod Sizes
 pub mod Changes
 pub mod Held
 pub mod Paths
+pub mod Opened
+pub mod Steps
+pub mod Above
 pub mod Parts
 pub mod Places
 mod Walks

@@ -4,12 +4,18 @@
 mod building;
 mod counted;
 mod equality;
+mod commands;
 pub mod iter;
+mod opens;
 mod place;
 mod subtrie;
+mod subtrie_mut;
 mod trie;
 
 pub use building::BuildError;
 pub use radix_keys::{BytesError, Memory, NibbleVec, Nibblet, TrieKey};
+pub use commands::{Command, Reply, ViewCommand, run};
+pub use opens::OpenError;
 pub use subtrie::{SubTrie, SubTrieError, SubTrieResult};
+pub use subtrie_mut::SubTrieMut;
 pub use trie::{InsertError, InsertWhy, Trie};

@@ -1,0 +1,87 @@
+-- What each command answers, and the map that it leaves.
+use Rattle.std.specs.FinMap as map
+use Rattle.std.specs.Prelude.{◌≡◌, ◌⊎◌, ℕ, ◌^◌, ◌-◌, List, [], ◌∷◌, ◌++◌, Option, Some, None}
+use Rattle.nibble_map.specs.Lists.{IsPrefix}
+use Rattle.nibble_map.specs.MapQueries.{IsAncestor}
+use Rattle.nibble_map.specs.Maps.{PairMap, IsPoint, IsStored, below, value_at}
+use Rattle.nibble_map.specs.Nibbles.{IsShort}
+use Rattle.radix_trie.specs.declared.commands.Command.{Command}
+use Rattle.radix_trie.specs.declared.commands.Command.TheVariants as outer
+use Rattle.radix_trie.specs.declared.commands.Reply.{Reply}
+use Rattle.radix_trie.specs.declared.commands.Reply.TheVariants.{Old, Found, Number, Closed, Replies, Outside, Refused}
+use Rattle.radix_trie.specs.declared.commands.ViewCommand.{ViewCommand}
+use Rattle.radix_trie.specs.declared.commands.ViewCommand.TheVariants as inner
+
+module _ {K V : Type 0} where
+  -- the value at a list, if there is a list
+  abbrev pub value_of : PairMap K V → Option (List ℕ) → Option V
+  value_of m None = None
+  value_of m (Some e) = value_at m e
+
+  -- v is the value of the longest stored list that is a prefix of e, or None where there is none
+  abbrev pub IsValueAbove : PairMap K V → List ℕ → Option V → Type 0
+  IsValueAbove m e v = (a : Option (List ℕ)) × IsAncestor m e a × (v ≡ value_of m a)
+
+  -- the reply is r, and the map stays
+  abbrev pub Stays : PairMap K V → Reply V → PairMap K V → Reply V → Type 0
+  Stays m r n is = (r ≡ is) × (n ≡ m)
+
+-- enc is the keys' encoding, and light says which of them are light
+module _ {K V : Type 0} (enc : K → List ℕ) (light : K → Type 0) where
+  -- the calls of a map
+
+  -- The pair is stored. At 2 ^ 64 - 1 pairs it takes an old one's place.
+  abbrev pub Inserts : PairMap K V → K → V → Reply V → PairMap K V → Type 0
+  Inserts m k v r n = (r ≡ Old (value_at m (enc k))) × (n ≡ map.insert m (enc k) (k, v)) × (map.len m ≡ 2 ^ 64 - 1 → map.get m (enc k) ≡ None → ⊥)
+
+  abbrev pub Removes : PairMap K V → K → Reply V → PairMap K V → Type 0
+  Removes m k r n = (r ≡ Old (value_at m (enc k))) × (n ≡ map.remove m (enc k))
+
+  abbrev pub Gets : PairMap K V → K → Reply V → PairMap K V → Type 0
+  Gets m k r n = Stays m r n (Found (value_at m (enc k)))
+
+  -- where they may be refused
+
+  abbrev pub MayRefuseInsert : PairMap K V → K → Type 0
+  MayRefuseInsert m k = light k → IsStored m (enc k) → ⊥
+
+  abbrev pub MayRefuseRemove : PairMap K V → K → Type 0
+  MayRefuseRemove m k = light k → (map.get m (enc k) ≡ None) ⊎ ((e : List ℕ) → IsStored m e → IsShort e) → ⊥
+
+  -- one command in a view at the path p
+  module _ (p : List ℕ) where
+    -- p isn't a prefix of the key's encoding, and nothing changes
+    abbrev pub IsOutside : PairMap K V → K → Reply V → PairMap K V → Type 0
+    IsOutside m k r n = Stays m r n Outside × (IsPrefix p (enc k) → ⊥)
+
+    abbrev pub ViewStep : PairMap K V → ViewCommand K V → Reply V → PairMap K V → Type 0
+    ViewStep m (inner.Insert k v) r n =
+        (IsPrefix p (enc k) × Inserts m k v r n) ⊎ (IsOutside m k r n ⊎ (Stays m r n Refused × (light k → IsPrefix p (enc k)) × MayRefuseInsert m k))
+    ViewStep m (inner.Remove k) r n =
+        (IsPrefix p (enc k) × Removes m k r n) ⊎ (IsOutside m k r n ⊎ (Stays m r n Refused × (light k → IsPrefix p (enc k)) × MayRefuseRemove m k))
+    ViewStep m (inner.Get k) r n = (IsPrefix p (enc k) × Gets m k r n) ⊎ (IsOutside m k r n ⊎ (Stays m r n Refused × (light k → ⊥)))
+    ViewStep m inner.Len r n = Stays m r n (Number (map.len (below m p)))
+
+    -- one reply to each command, in order, from each map to the next
+    pub data ViewSteps (m : PairMap K V) : List (ViewCommand K V) → List (Reply V) → PairMap K V → Type 0 where
+      view_start : ViewSteps m [] [] m
+      then_view : {cs : List (ViewCommand K V)} {rs : List (Reply V)} {n : PairMap K V} (c : ViewCommand K V) (r : Reply V) (o : PairMap K V)
+          → ViewSteps m cs rs n → ViewStep n c r o → ViewSteps m (cs ++ c ∷ []) (rs ++ r ∷ []) o
+
+  -- one command
+  abbrev pub Step : PairMap K V → Command K V → Reply V → PairMap K V → Type 0
+  Step m (outer.Insert k v) r n = Inserts m k v r n ⊎ (Stays m r n Refused × MayRefuseInsert m k)
+  Step m (outer.Remove k) r n = Removes m k r n ⊎ (Stays m r n Refused × MayRefuseRemove m k)
+  Step m (outer.Get k) r n = Gets m k r n ⊎ (Stays m r n Refused × (light k → ⊥))
+  Step m (outer.Ancestor k) r n = ((v : Option V) × IsValueAbove m (enc k) v × Stays m r n (Found v)) ⊎ (Stays m r n Refused × (light k → ⊥))
+  Step m outer.Len r n = Stays m r n (Number (map.len m))
+  Step m (outer.Within k cs) r n =
+      (IsPoint m (enc k) × (rs : _) × (r ≡ Replies rs) × ViewSteps (enc k) m cs.items rs.items n)
+      ⊎ ((Stays m r n Closed × (IsPoint m (enc k) → ⊥))
+      ⊎ (Stays m r n Refused × (light k → (IsPoint m (enc k) → ⊥) ⊎ (cs.items ≡ []) → ⊥)))
+
+  -- one reply to each command, in order, from each map to the next
+  pub data Steps (m : PairMap K V) : List (Command K V) → List (Reply V) → PairMap K V → Type 0 where
+    at_start : Steps m [] [] m
+    then_step : {cs : List (Command K V)} {rs : List (Reply V)} {n : PairMap K V} (c : Command K V) (r : Reply V) (o : PairMap K V)
+        → Steps m cs rs n → Step n c r o → Steps m (cs ++ c ∷ []) (rs ++ r ∷ []) o

@@ -1,0 +1,18 @@
+-- What a trie ends as, once what was lent of it has ended.
+use Rattle.std.specs.Prelude.{◌≡◌, Result}
+use Rattle.std.specs.Borrow.{Fml, RattleType, MutBor, RestsIfErr}
+use Rattle.nibble_map.specs.Maps.{PairMap}
+use Rattle.radix_keys.specs.declared.keys.TrieKey as keys
+use Rattle.radix_keys.specs.declared.nibbles.NibbleVec.{NibbleVec}
+use Rattle.radix_trie.specs.contracts.trie.Trie.{the_row}
+use Rattle.radix_trie.specs.declared.subtrie_mut.SubTrieMut.{SubTrieMut}
+use Rattle.radix_trie.specs.WriteViews.{lender_of}
+use Rattle.std.specs.declared.cmp.PartialEq as eqs
+
+module _ (K V : RattleType) (key : keys.Ghosts K.Denot) (eq : eqs.Ghosts K.Denot) where
+  abbrev pub trie_row : RattleType
+  trie_row = the_row K V key eq
+
+  -- the trie ends as the view's trie does, and at `Err` it stays as it is
+  abbrev pub rests_if_err : MutBor (PairMap K.Denot V.Denot) → {E : Type 0} → Result (SubTrieMut K.Denot V.Denot NibbleVec) E → Fml
+  rests_if_err t r = RestsIfErr trie_row t lender_of r (λ n. n ≡ t.now)

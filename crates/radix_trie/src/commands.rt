@@ -1,0 +1,249 @@
+//! Lists of commands, and what they answer.
+ghost use Rattle.std.specs.Prelude.{◌≡◌, ◌≤◌, [], length, vec_capacity, IfOk, IsOk, OnErr, option_copied};
+ghost use Rattle.radix_trie.specs.Commands.{IsValueAbove, Step, Steps, ViewStep, ViewSteps};
+ghost use Rattle.radix_trie.specs.WriteViews.{map_behind, path_of, SameView};
+
+use crate::opens::OpenError;
+use crate::subtrie::SubTrieError;
+use crate::subtrie_mut::SubTrieMut;
+use crate::trie::{InsertError, InsertWhy, Trie};
+use radix_keys::{Memory, Nibblet, TrieKey};
+use radix_nodes::traversal::queries::deepest_pair;
+
+/// A call of a trie.
+#[derive(Drop)]
+pub enum Command<K, V> {
+    /// Stores a pair.
+    Insert(K, V),
+    /// Takes the pair at a key's encoding away.
+    Remove(K),
+    /// Looks the value at a key's encoding up.
+    Get(K),
+    /// Looks the value of the longest stored list up that is a prefix of a key's encoding.
+    Ancestor(K),
+    /// Counts the pairs.
+    Len,
+    /// Opens a view for writing at a key's encoding, and runs commands in it.
+    Within(K, Vec<ViewCommand<K, V>>),
+}
+
+/// A call of a view for writing.
+#[derive(Drop)]
+pub enum ViewCommand<K, V> {
+    /// Stores a pair.
+    Insert(K, V),
+    /// Takes the pair at a key's encoding away.
+    Remove(K),
+    /// Looks the value at a key's encoding up.
+    Get(K),
+    /// Counts the pairs at and below the view's path.
+    Len,
+}
+
+/// What a command answers.
+#[derive(Drop)]
+pub enum Reply<V> {
+    /// Of `Insert` and `Remove`: the value that was stored.
+    Old(Option<V>),
+    /// Of `Get` and `Ancestor`: the value that is stored.
+    Found(Option<V>),
+    /// Of `Len`: a count of pairs.
+    Number(usize),
+    /// Of `Within`: no point stands at the key's encoding.
+    Closed,
+    /// Of `Within`: the replies in the view, one to each of its commands.
+    Replies(Vec<Reply<V>>),
+    /// Of a command in a view: the view's path isn't a prefix of the key's encoding, and nothing has changed.
+    Outside,
+    /// No memory, or no room for one more pair, and nothing has changed.
+    Refused,
+}
+
+/// Runs the commands in order, and answers one reply to each.
+///
+/// A refused command answers `Refused` and changes nothing, and the run goes on. The list of replies is reserved first: the
+/// one refusal of `run` itself is that of memory for it. Then no command is run and the trie is as before.
+pub fn run<K: TrieKey + Drop, V: Copy>(
+    trie: &mut Trie<K, V>,
+    commands: Vec<Command<K, V>>,
+) -> Result<Vec<Reply<V>>, Memory>
+    ensures steps { IfOk result (λ replies. Steps K.encoding K.is_light trie.old commands.items replies.items trie.new) }
+    ensures unchanged { OnErr result (trie.new ≡ trie.old) }
+{
+    let Ok(mut replies) = Vec::with_capacity(trie.allocator(), commands.len()) else {
+        return Err(Memory);
+    };
+    for command in commands {
+        let reply = step(trie, command);
+        replies.push_reserved(reply);
+    }
+    Ok(replies)
+}
+
+/// Runs one command.
+fn step<K: TrieKey + Drop, V: Copy>(trie: &mut Trie<K, V>, command: Command<K, V>) -> Reply<V>
+    ensures { Step K.encoding K.is_light trie.old command result trie.new }
+{
+    match command {
+        Command::Insert(key, value) => insert(trie, key, value),
+        Command::Remove(key) => remove(trie, &key),
+        Command::Get(key) => get(trie, &key),
+        Command::Ancestor(key) => ancestor(trie, &key),
+        Command::Len => Reply::Number(trie.len()),
+        Command::Within(key, list) => within(trie, &key, list),
+    }
+}
+
+fn insert<K: TrieKey + Drop, V: Copy>(trie: &mut Trie<K, V>, key: K, value: V) -> Reply<V>
+    ensures { Step K.encoding K.is_light trie.old (Command.Insert key value) result trie.new }
+{
+    match trie.insert(key, value) {
+        Ok(old) => Reply::Old(old),
+        Err(error) => {
+            let InsertError {
+                why: _,
+                key: _,
+                value: _,
+            } = error;
+            Reply::Refused
+        }
+    }
+}
+
+fn remove<K: TrieKey + Drop, V: Copy>(trie: &mut Trie<K, V>, key: &K) -> Reply<V>
+    ensures { Step K.encoding K.is_light trie.old (Command.Remove key.now) result trie.new }
+{
+    match trie.remove(key) {
+        Ok(old) => Reply::Old(old),
+        Err(_) => Reply::Refused,
+    }
+}
+
+fn get<K: TrieKey, V: Copy>(trie: &Trie<K, V>, key: &K) -> Reply<V>
+    ensures { Step K.encoding K.is_light trie.now (Command.Get key.now) result trie.now }
+{
+    match trie.get(key) {
+        Ok(found) => Reply::Found(found.copied()),
+        Err(_) => Reply::Refused,
+    }
+}
+
+fn ancestor<K: TrieKey, V: Copy>(trie: &Trie<K, V>, key: &K) -> Reply<V>
+    ensures { Step K.encoding K.is_light trie.now (Command.Ancestor key.now) result trie.now }
+{
+    match key.encode(trie.allocator()) {
+        Ok(list) => Reply::Found(value_above(trie, &list).copied()),
+        Err(_) => Reply::Refused,
+    }
+}
+
+/// The value of the longest stored list that is a prefix of a list.
+fn value_above<'t, K: TrieKey, V>(trie: &'t Trie<K, V>, list: &Nibblet) -> Option<&'t V>
+    ensures { IsValueAbove trie.now list.now (option_copied result) }
+{
+    let (node, _) = deepest_pair(trie.root(), list, 0)?;
+    match &node.pair {
+        Some(pair) => Some(&pair.value),
+        None => None,
+    }
+}
+
+/// Opens the view, reserves its replies, and runs its commands.
+fn within<K: TrieKey + Drop, V: Copy>(
+    trie: &mut Trie<K, V>,
+    key: &K,
+    list: Vec<ViewCommand<K, V>>,
+) -> Reply<V>
+    ensures { Step K.encoding K.is_light trie.old (Command.Within key.now list) result trie.new }
+{
+    let alloc = trie.allocator();
+    match trie.open_mut(key) {
+        Ok(mut view) => {
+            let Ok(mut replies) = Vec::with_capacity(alloc, list.len()) else {
+                return Reply::Refused;
+            };
+            run_view(&mut view, list, &mut replies);
+            Reply::Replies(replies)
+        }
+        Err(OpenError::Closed) => Reply::Closed,
+        Err(OpenError::Memory) => Reply::Refused,
+    }
+}
+
+/// Runs the commands in the view, and adds one reply to each.
+fn run_view<K: TrieKey + Drop, V: Copy>(
+    view: &mut SubTrieMut<'_, K, V>,
+    list: Vec<ViewCommand<K, V>>,
+    replies: &mut Vec<Reply<V>>,
+)
+    requires room { length list.items ≤ vec_capacity replies.old }
+    requires empty { replies.old.items ≡ [] }
+    ensures same_view { SameView view.old view.new }
+    ensures steps { ViewSteps K.encoding K.is_light (path_of view.old) (map_behind view.old) list.items replies.new.items (map_behind view.new) }
+{
+    for command in list {
+        let reply = view_step(view, command);
+        replies.push_reserved(reply);
+    }
+}
+
+/// Runs one command in the view.
+fn view_step<K: TrieKey + Drop, V: Copy>(
+    view: &mut SubTrieMut<'_, K, V>,
+    command: ViewCommand<K, V>,
+) -> Reply<V>
+    ensures same_view { SameView view.old view.new }
+    ensures step { ViewStep K.encoding K.is_light (path_of view.old) (map_behind view.old) command result (map_behind view.new) }
+{
+    match command {
+        ViewCommand::Insert(key, value) => view_insert(view, key, value),
+        ViewCommand::Remove(key) => view_remove(view, &key),
+        ViewCommand::Get(key) => view_get(view, &key),
+        ViewCommand::Len => Reply::Number(view.place().len()),
+    }
+}
+
+fn view_insert<K: TrieKey + Drop, V: Copy>(
+    view: &mut SubTrieMut<'_, K, V>,
+    key: K,
+    value: V,
+) -> Reply<V>
+    ensures same_view { SameView view.old view.new }
+    ensures step { ViewStep K.encoding K.is_light (path_of view.old) (map_behind view.old) (ViewCommand.Insert key value) result (map_behind view.new) }
+{
+    match view.insert(key, value) {
+        Ok(old) => Reply::Old(old),
+        Err(error) => {
+            let InsertError {
+                why,
+                key: _,
+                value: _,
+            } = error;
+            match why {
+                InsertWhy::Outside => Reply::Outside,
+                InsertWhy::Memory | InsertWhy::Full => Reply::Refused,
+            }
+        }
+    }
+}
+
+fn view_remove<K: TrieKey + Drop, V: Copy>(view: &mut SubTrieMut<'_, K, V>, key: &K) -> Reply<V>
+    ensures same_view { SameView view.old view.new }
+    ensures step { ViewStep K.encoding K.is_light (path_of view.old) (map_behind view.old) (ViewCommand.Remove key.now) result (map_behind view.new) }
+{
+    match view.remove(key) {
+        Ok(old) => Reply::Old(old),
+        Err(SubTrieError::Outside) => Reply::Outside,
+        Err(SubTrieError::Memory) => Reply::Refused,
+    }
+}
+
+fn view_get<K: TrieKey, V: Copy>(view: &SubTrieMut<'_, K, V>, key: &K) -> Reply<V>
+    ensures { ViewStep K.encoding K.is_light (path_of view.now) (map_behind view.now) (ViewCommand.Get key.now) result (map_behind view.now) }
+{
+    match view.get(key) {
+        Ok(found) => Reply::Found(found.copied()),
+        Err(SubTrieError::Outside) => Reply::Outside,
+        Err(SubTrieError::Memory) => Reply::Refused,
+    }
+}

@@ -1,0 +1,169 @@
+//! Views for writing.
+ghost use Rattle.std.specs.FinMap as map;
+ghost use Rattle.std.specs.Prelude.{◌≡◌, ◌≢◌, ◌↔◌, ℕ, List, None, IsTrue, IsOk, IfOk, OnOk, IfErr, OnErr, IsErrAnd, Err, option_copied};
+ghost use Rattle.nibble_map.specs.Lists.{IsPrefix};
+ghost use Rattle.nibble_map.specs.Maps.{IsStored, value_at};
+ghost use Rattle.nibble_map.specs.Nibbles.{IsShort};
+ghost use Rattle.radix_trie.specs.WriteViews.{map_behind, path_of, prefix_of, lender_of, SameView};
+
+use crate::place::{Place, begins};
+use crate::subtrie::{SubTrieError, SubTrieResult};
+use crate::trie::{InsertError, InsertWhy, Trie};
+use radix_keys::{Memory, Nibblet, TrieKey};
+
+/// A view for writing: a trie, and a path in it, at which a point stood when the view was made.
+///
+/// Its calls are the trie's own, for the keys whose encodings the path is a prefix of. It stays usable where its path is no
+/// longer a point, as after the removal of its own pair.
+// The parameter `P` lets a caller's proof follow the trie past the view's end; it is always `Nibblet`.
+pub struct SubTrieMut<'a, K: TrieKey, V, P = Nibblet> {
+    trie: &'a mut Trie<K, V>,
+    path: P,
+    prefix: P,
+}
+
+impl<K: TrieKey, V, P: Drop> Drop for SubTrieMut<'_, K, V, P> {
+    fn drop(self)
+        ensures { self.exit.0.now ≡ self.entry.trie.now }
+    {
+        let SubTrieMut {
+            trie: _,
+            path: _,
+            prefix: _,
+        } = self;
+    }
+}
+
+impl<K: TrieKey, V> Trie<K, V> {
+    /// Whether a path begins the key's encoding.
+    ///
+    /// The one refusal is that of memory for the encoding, which a light key never meets.
+    fn is_inside<Q: TrieKey>(&self, path: &Nibblet, key: &Q) -> Result<bool, Memory>
+        ensures inside { IfOk result (λ b. IsTrue b ↔ IsPrefix path.now (Q.encoding key.now)) }
+        ensures light { Q.is_light key.now → IsOk result }
+    {
+        let list = key.encode(self.allocator())?;
+        Ok(begins(path, &list))
+    }
+}
+
+impl<'a, K: TrieKey, V> SubTrieMut<'a, K, V> {
+    /// The view of a trie at a path, with the path's fragment.
+    pub(crate) fn at(trie: &'a mut Trie<K, V>, path: Nibblet, prefix: Nibblet) -> Self
+        ensures map { map_behind result ≡ trie.entry.now }
+        ensures path { path_of result ≡ path }
+        ensures prefix { prefix_of result ≡ prefix }
+        ensures same_reference { lender_of result ≡ trie.entry.ghost_name }
+    {
+        SubTrieMut { trie, path, prefix }
+    }
+
+    /// The whole path.
+    pub fn path(&self) -> &Nibblet
+        ensures { result.now ≡ path_of self.now }
+    {
+        &self.path
+    }
+
+    /// The place of the view's path.
+    pub(crate) fn place(&self) -> Place<'_, '_, K, V>
+        ensures map { result.map ≡ map_behind self.now }
+        ensures path { result.path ≡ path_of self.now }
+    {
+        Place::find(self.trie, &self.path)
+    }
+
+    /// The value that the trie holds at the key's encoding, if there is one. Outside where the view's path isn't a prefix
+    /// of the encoding.
+    ///
+    /// The one other refusal is that of memory for the encoding, which a light key never meets.
+    pub fn get<Q: TrieKey>(&self, key: &Q) -> SubTrieResult<&V>
+        ensures value { IfOk result (λ found. option_copied found ≡ value_at (map_behind self.now) (Q.encoding key.now)) }
+        ensures inside { OnOk result (IsPrefix (path_of self.now) (Q.encoding key.now)) }
+        ensures outside { result ≡ Err SubTrieError.Outside → IsPrefix (path_of self.now) (Q.encoding key.now) → ⊥ }
+        ensures light { Q.is_light key.now → result ≢ Err SubTrieError.Memory }
+    {
+        let Ok(list) = key.encode(self.trie.allocator()) else {
+            return Err(SubTrieError::Memory);
+        };
+        if !begins(&self.path, &list) {
+            return Err(SubTrieError::Outside);
+        }
+        Ok(self.trie.at(&list))
+    }
+}
+
+impl<'a, K: TrieKey + Drop, V: Drop> SubTrieMut<'a, K, V> {
+    /// Stores the pair at the key's encoding, as `Trie::insert` does. Outside where the view's path isn't a prefix of the
+    /// encoding.
+    ///
+    /// After a refusal the trie is as before, and the error holds the very key and value. The refusals, in the order in
+    /// which they are decided: memory for the encoding; Outside; `Full`, where `usize::MAX` pairs are stored and the
+    /// encoding isn't among them; memory for the change, which a stored encoding never takes.
+    pub fn insert(&mut self, key: K, value: V) -> Result<Option<V>, InsertError<K, V>>
+        ensures same_view { SameView self.old self.new }
+        ensures inside { OnOk result (IsPrefix (path_of self.old) (K.encoding key)) }
+        ensures old_value { IfOk result (λ old. old ≡ value_at (map_behind self.old) (K.encoding key)) }
+        ensures stored { OnOk result (map_behind self.new ≡ map.insert (map_behind self.old) (K.encoding key) (key, value)) }
+
+        ensures handed_back { IfErr result (λ e. (e.key ≡ key) × (e.value ≡ value)) }
+        ensures unchanged { OnErr result (map_behind self.new ≡ map_behind self.old) }
+
+        ensures outside { IfErr result (λ e. e.why ≡ InsertWhy.Outside → IsPrefix (path_of self.old) (K.encoding key) → ⊥) }
+        ensures light_outside { K.is_light key → (IsPrefix (path_of self.old) (K.encoding key) → ⊥) → IsErrAnd result (λ e. e.why ≡ InsertWhy.Outside) }
+        ensures light_memory { K.is_light key → IfErr result (λ e. e.why ≡ InsertWhy.Memory → IsPrefix (path_of self.old) (K.encoding key)) }
+        ensures light_stored { K.is_light key → IsPrefix (path_of self.old) (K.encoding key) → IsStored (map_behind self.old) (K.encoding key) → IsOk result }
+        ensures full_at_limit { IfErr result (λ e. e.why ≡ InsertWhy.Full → map.len (map_behind self.old) ≡ usize.MAX) }
+        ensures full_absent { IfErr result (λ e. e.why ≡ InsertWhy.Full → map.get (map_behind self.old) (K.encoding key) ≡ None) }
+        ensures full_inside { IfErr result (λ e. e.why ≡ InsertWhy.Full → IsPrefix (path_of self.old) (K.encoding key)) }
+        // At the limit an absent key is refused, and a light one inside as Full.
+        ensures limit { map.len (map_behind self.old) ≡ usize.MAX → map.get (map_behind self.old) (K.encoding key) ≡ None
+            → IsErrAnd result (λ e. K.is_light key → IsPrefix (path_of self.old) (K.encoding key) → e.why ≡ InsertWhy.Full) }
+    {
+        let Ok(inside) = self.trie.is_inside(&self.path, &key) else {
+            return Err(InsertError {
+                why: InsertWhy::Memory,
+                key,
+                value,
+            });
+        };
+        if !inside {
+            return Err(InsertError {
+                why: InsertWhy::Outside,
+                key,
+                value,
+            });
+        }
+        self.trie.insert(key, value)
+    }
+
+    /// Takes the pair at the key's encoding away, as `Trie::remove` does. Outside where the view's path isn't a prefix of
+    /// the encoding.
+    ///
+    /// The one other refusal is that of memory, for the encoding or for joining two fragments. After a refusal the trie is
+    /// as before.
+    pub fn remove<Q: TrieKey>(&mut self, key: &Q) -> SubTrieResult<V>
+        ensures same_view { SameView self.old self.new }
+        ensures inside { OnOk result (IsPrefix (path_of self.old) (Q.encoding key.now)) }
+        ensures old_value { IfOk result (λ old. old ≡ value_at (map_behind self.old) (Q.encoding key.now)) }
+        ensures removed { OnOk result (map_behind self.new ≡ map.remove (map_behind self.old) (Q.encoding key.now)) }
+
+        ensures unchanged { OnErr result (map_behind self.new ≡ map_behind self.old) }
+
+        ensures outside { result ≡ Err SubTrieError.Outside → IsPrefix (path_of self.old) (Q.encoding key.now) → ⊥ }
+        ensures light_outside { Q.is_light key.now → (IsPrefix (path_of self.old) (Q.encoding key.now) → ⊥) → result ≡ Err SubTrieError.Outside }
+        ensures light_memory { Q.is_light key.now → result ≡ Err SubTrieError.Memory → IsPrefix (path_of self.old) (Q.encoding key.now) }
+        ensures light_absent { Q.is_light key.now → IsPrefix (path_of self.old) (Q.encoding key.now) → map.get (map_behind self.old) (Q.encoding key.now) ≡ None → IsOk result }
+        ensures light_short { Q.is_light key.now → IsPrefix (path_of self.old) (Q.encoding key.now) → ((e : List ℕ) → IsStored (map_behind self.old) e → IsShort e) → IsOk result }
+    {
+        match self.trie.is_inside(&self.path, key) {
+            Ok(true) => {}
+            Ok(false) => return Err(SubTrieError::Outside),
+            Err(_) => return Err(SubTrieError::Memory),
+        }
+        match self.trie.remove(key) {
+            Ok(old) => Ok(old),
+            Err(_) => Err(SubTrieError::Memory),
+        }
+    }
+}

@@ -2,9 +2,9 @@
 #![tactic(auto)]
 
 mod building;
+mod commands;
 mod counted;
 mod equality;
-mod commands;
 pub mod iter;
 mod opens;
 mod place;
@@ -13,9 +13,9 @@ mod subtrie_mut;
 mod trie;
 
 pub use building::BuildError;
-pub use radix_keys::{BytesError, Memory, NibbleVec, Nibblet, TrieKey};
 pub use commands::{Command, Reply, ViewCommand, run};
 pub use opens::OpenError;
+pub use radix_keys::{BytesError, Memory, NibbleVec, Nibblet, TrieKey};
 pub use subtrie::{SubTrie, SubTrieError, SubTrieResult};
 pub use subtrie_mut::SubTrieMut;
 pub use trie::{InsertError, InsertWhy, Trie};

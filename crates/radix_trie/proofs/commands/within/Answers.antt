@@ -3,10 +3,13 @@ use Rattle.radix_trie.proofs.Steps.{moved}
 use Rattle.radix_trie.proofs.commands.within.Goals as goal
 
 pub returns-in_default : goal.returns-in_default
-returns-in_default g c = inr (inr ((refl, search rules), λ _ o. elim o [
-  | inl closed ↦ closed (c.in-Ok.ensures.point refl)
-  | inr none ↦ (let empty = c.in_default.ensures.succeeds (omega (arith, c.len.ensures, c.args.list.ok.0, ap length none)) in cc empty)
-]))
+returns-in_default g c = inr (inr (
+  (refl, search rules),
+  λ _ o. elim o [
+    | inl closed ↦ closed (c.in-Ok.ensures.point refl)
+    | inr none ↦ (let empty = c.in_default.ensures.succeeds (omega (arith, c.len.ensures, c.args.list.ok.0, ap length none)) in cc empty)
+  ],
+))
 
 pub returns-in-Ok : goal.returns-in-Ok
 returns-in-Ok g c =

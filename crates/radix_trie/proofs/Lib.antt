@@ -5,6 +5,7 @@ pub mod Held
 pub mod Paths
 pub mod Parts
 pub mod Places
+pub mod ChildViews
 mod Walks
 mod WalkRows
 mod Present

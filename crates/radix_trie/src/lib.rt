@@ -3,6 +3,7 @@
 
 pub mod iter;
 mod place;
+mod queries;
 mod subtrie;
 mod trie;
 mod trie_common;

@@ -1,19 +1,22 @@
 //! What tries and views have in common.
-ghost use Rattle.std.specs.Prelude.{◌≡◌, ◌<◌, ◌^◌, ◌↔◌, ℕ, List, IsTrue, IsOk, IfOk, length, map as each, option_copied, option_map};
+ghost use Rattle.std.specs.Prelude.{◌≡◌, ◌<◌, ◌^◌, ◌↔◌, ℕ, List, [], IsTrue, IsOk, IfOk, length, map as each, option_copied, option_map};
 ghost use Rattle.std.specs.FinMap as finite;
-ghost use Rattle.nibble_map.specs.Lists.{Each};
-ghost use Rattle.nibble_map.specs.MapQueries.{AreKids, IsKid, IsLeaf};
+ghost use Rattle.nibble_map.specs.MapQueries.{IsFragment, IsLeaf};
 ghost use Rattle.nibble_map.specs.Maps.{PairMap, below, value_at};
 ghost use Rattle.nibble_map.specs.Nibbles.{IsShort};
-ghost use Rattle.radix_trie.specs.Views.{pairs_below, paths_of};
+ghost use Rattle.radix_trie.specs.Views.{pairs_below};
 
-use crate::iter::{Children, Iter, Keys, Values};
+use crate::iter::{Iter, Keys, Values};
+use crate::place::Place;
+use crate::subtrie::SubTrie;
+use crate::trie::Trie;
 use radix_keys::{Memory, Nibblet, TrieKey};
 
 /// What a trie and its views answer, by the map of the trie and a path in it. The path of a trie is the empty list.
 ///
-/// What comes from a trie or a view for reading lasts as long as the trie's borrow.
-pub trait TrieCommon<'a, K: TrieKey, V>: Sized {
+/// What comes from a trie or a view for reading lasts as long as the trie's borrow. `children` is a call of each of these
+/// types, and none of the trait.
+pub trait TrieCommon<'a, K: TrieKey + 'a, V: 'a>: Sized {
     /// The map of the whole trie.
     ghost map: { Self → PairMap K V };
 
@@ -60,16 +63,101 @@ pub trait TrieCommon<'a, K: TrieKey, V>: Sized {
         ensures walk { IfOk result (λ values. values ≡ each (λ p. p.1) (pairs_below (map self) (path self))) }
         ensures countable { IfOk result (λ values. length values < 2 ^ 64) };
 
-    /// For each nibble in rising order, the view at the shortest point that goes on from the path by it, with its whole
-    /// path. It takes no memory where each of these paths has at most 32 nibbles.
-    fn children(self) -> Result<Children<'a, K, V>, Memory>
-        ensures kids { IfOk result (λ children. AreKids (map self) (path self) (paths_of children)) }
-        ensures same_map { IfOk result (λ children. Each (λ c. c.map ≡ map self) children) }
-        ensures short { ((q : List ℕ) → IsKid (map self) (path self) q → IsShort q) → IsOk result };
-
     /// The fragment, what the path has beyond the longest point strictly above it. It takes no memory where the fragment
     /// has at most 32 nibbles.
     fn prefix(self) -> Result<Nibblet, Memory>
         ensures fragment { IfOk result (λ f. is_prefix self f) }
         ensures short { ((f : List ℕ) → is_prefix self f → IsShort f) → IsOk result };
+}
+
+impl<'a, K: TrieKey, V> TrieCommon<'a, K, V> for &'a Trie<K, V> {
+    ghost map = { λ t. t.now };
+
+    ghost path = { λ t. [] };
+
+    ghost is_prefix = { λ t. IsFragment t.now [] };
+
+    fn key(self) -> Option<&'a K> {
+        let top = Nibblet::new(self.allocator());
+        Place::find(self, &top).key()
+    }
+
+    fn value(self) -> Option<&'a V> {
+        let top = Nibblet::new(self.allocator());
+        Place::find(self, &top).value()
+    }
+
+    fn len(self) -> usize {
+        Trie::len(self)
+    }
+
+    fn is_empty(self) -> bool {
+        TrieCommon::len(self) == 0
+    }
+
+    fn is_leaf(self) -> bool {
+        let top = Nibblet::new(self.allocator());
+        Place::find(self, &top).is_leaf()
+    }
+
+    fn iter(self) -> Result<Iter<'a, K, V>, Memory> {
+        let top = Nibblet::new(self.allocator());
+        Place::find(self, &top).iter()
+    }
+
+    fn keys(self) -> Result<Keys<'a, K, V>, Memory> {
+        Ok(Keys::new(TrieCommon::iter(self)?))
+    }
+
+    fn values(self) -> Result<Values<'a, K, V>, Memory> {
+        Ok(Values::new(TrieCommon::iter(self)?))
+    }
+
+    fn prefix(self) -> Result<Nibblet, Memory> {
+        Ok(Nibblet::new(self.allocator()))
+    }
+}
+
+impl<'a, 'b, K: TrieKey, V> TrieCommon<'a, K, V> for &'b SubTrie<'a, K, V> {
+    ghost map = { λ s. s.now.map };
+
+    ghost path = { λ s. s.now.path };
+
+    ghost is_prefix = { λ s. IsFragment s.now.map s.now.path };
+
+    fn key(self) -> Option<&'a K> {
+        self.place().key()
+    }
+
+    fn value(self) -> Option<&'a V> {
+        self.place().value()
+    }
+
+    fn len(self) -> usize {
+        self.place().len()
+    }
+
+    fn is_empty(self) -> bool {
+        self.place().len() == 0
+    }
+
+    fn is_leaf(self) -> bool {
+        self.place().is_leaf()
+    }
+
+    fn iter(self) -> Result<Iter<'a, K, V>, Memory> {
+        self.place().iter()
+    }
+
+    fn keys(self) -> Result<Keys<'a, K, V>, Memory> {
+        Ok(Keys::new(self.place().iter()?))
+    }
+
+    fn values(self) -> Result<Values<'a, K, V>, Memory> {
+        Ok(Values::new(self.place().iter()?))
+    }
+
+    fn prefix(self) -> Result<Nibblet, Memory> {
+        self.fragment()
+    }
 }

@@ -8,6 +8,7 @@ pub mod Steps
 pub mod Above
 pub mod Parts
 pub mod Places
+pub mod ChildViews
 mod Walks
 mod WalkRows
 mod Present

@@ -1,6 +1,7 @@
 -- What stands at and below a path, by the node that is nearest to it.
-use Rattle.std.proofs.Common.{◌≡◌, ◌≢◌, ◌⊎◌, inl, inr, ◌↔◌, Bool, true, false, ℕ, zero, suc, ◌+◌, ◌-◌, ◌≤◌, ◌<◌, ◌^◌, List, [], ◌∷◌, ◌++◌, map, filter, drop, length, Option, Some, None, option_map, refl, ap, sym, subst, ◌∙◌, append_assoc, append-nil, arith, Bor, Box, Global, eqb-true, eq-eqb}
-use Rattle.std.proofs.lemmas.List.{length-append, length-map, length-drop}
+use Rattle.std.proofs.Common.{◌≡◌, ◌≢◌, ◌⊎◌, inl, inr, ◌↔◌, Bool, true, false, ℕ, zero, suc, ◌+◌, ◌-◌, ◌≤◌, ◌<◌, ◌^◌, List, [], ◌∷◌, ◌++◌, map, filter, drop, length, Option, Some, None, option_map, refl, ap, sym, subst, ◌∙◌, append_assoc, append-nil, arith, Bor, Box, Global, take, get_or, slice_index, eqb-true, eq-eqb}
+use Rattle.std.proofs.lemmas.List.{length-append, length-map, length-drop, take_more, get_or-drop}
+use Rattle.std.proofs.lemmas.Cmp.{nat_list_cmp_total}
 use Rattle.std.proofs.lemmas.Simd.{map-map}
 use Rattle.std.proofs.Math.Seq.{drop-length}
 use Rattle.std.specs.FinMap as fin
@@ -11,14 +12,16 @@ use Rattle.nibble_map.specs.Kept.{Tree, Kids, none, more, IsPlaced, IsTreePlaced
 use Rattle.nibble_map.specs.KeptPaths.{IsKidAt, IsNodeAt, IsPath}
 use Rattle.nibble_map.specs.Lists.{IsPrefix, IsStrictPrefix, is_prefix}
 use Rattle.nibble_map.specs.MapQueries.{IsLeaf}
-use Rattle.nibble_map.specs.Maps.{PairMap, IsStored, IsPoint, below, walk}
+use Rattle.nibble_map.specs.Maps.{NibbleMap, PairMap, IsStored, IsPoint, below, walk}
 use Rattle.nibble_map.specs.Swaps.{entry}
 use Rattle.nibble_map.specs.Trees.{first}
 use Rattle.nibble_map.proofs.Agreement.{agrees_whole, agrees_off}
+use Rattle.nibble_map.proofs.Below.{get_below}
 use Rattle.nibble_map.proofs.MapEdits.{walk_is}
 use Rattle.nibble_map.proofs.Moves.{shortest_moves}
 use Rattle.nibble_map.proofs.Parted.{shortest_leads, reached_past, prefix_itself, prefix_length}
 use Rattle.nibble_map.proofs.Shape.{headed}
+use Rattle.nibble_map.proofs.Sorted.{same}
 use Rattle.radix_nodes.specs.declared.trie_node.KeyValue.{KeyValue}
 use Rattle.radix_nodes.specs.declared.trie_node.TrieNode.{TrieNode, out-TrieNode}
 use Rattle.radix_nodes.specs.Nodes.{IsNearest, tree_of, fragment_of, unboxed}
@@ -63,6 +66,19 @@ below_it zero zero le part = absurd (part refl)
 below_it zero (suc b) le part = omega arith
 below_it (suc a) zero le part = absurd (omega arith)
 below_it (suc a) (suc b) le part = let lt = below_it a b (omega arith) (λ e. part (ap suc e)) in omega (arith, lt)
+
+-- one item more of what a list has from a place on
+pub part_more : (xs : List ℕ) (from i : ℕ) → from ≤ i → i < length xs → take (i + 1 - from) (drop from xs) ≡ take (i - from) (drop from xs) ++ slice_index xs i ∷ []
+part_more xs from i le lt =
+    let n : i + 1 - from ≡ i - from + 1 = omega arith in
+    let at : from + (i - from) ≡ i = omega arith in
+    ap (λ k. take k (drop from xs)) n
+    ∙ take_more (drop from xs) (i - from) 0 (let d = length-drop from xs in omega (arith, d))
+    ∙ ap (λ x. take (i - from) (drop from xs) ++ x ∷ []) (get_or-drop from xs (i - from) 0 ∙ ap (λ k. get_or xs k 0) at)
+
+-- all of a map is below the empty list
+pub below_nil : {P : Type 0} (m : NibbleMap P) → below m [] ≡ m
+below_nil m = fin.same_map nat_list_cmp_total same (below m []) m (λ e. get_below m [] e tt)
 
 -- at a node of the map's tree
 module _ {K V : Type 0} (enc : K → List ℕ) (m : PairMap K V) (t : Tree (KeyValue K V)) (root : IsRoot enc m t) where

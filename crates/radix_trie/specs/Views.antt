@@ -1,8 +1,8 @@
 -- What clauses see of a view for reading.
-use Rattle.std.specs.Prelude.{ℕ, List, [], ◌∷◌, ◌++◌, map as each}
+use Rattle.std.specs.Prelude.{ℕ, List, Option, Some, None, map as each}
 use Rattle.std.proofs.Common.{refl}
 use Rattle.std.specs.Coded.{Coded, code_by, coded_list, coded_ℕ, coded×}
-use Rattle.nibble_map.specs.Maps.{PairMap, pair_map_code, walk}
+use Rattle.nibble_map.specs.Maps.{PairMap, pair_map_code, value_at, walk}
 
 -- the map of the trie, and the view's path in it
 pub record ReadView (K V : Type 0) : Type 0 where
@@ -16,6 +16,11 @@ module _ {K V : Type 0} where
   -- the paths of views
   abbrev pub paths_of : List (ReadView K V) → List (List ℕ)
   paths_of views = each (λ v. v.path) views
+
+  -- the value at the list, if there is one
+  abbrev pub ancestor_value : PairMap K V → Option (List ℕ) → Option V
+  ancestor_value m None = None
+  ancestor_value m (Some e) = value_at m e
 
   -- the pairs at and below a path, in the order of their lists
   abbrev pub pairs_below : PairMap K V → List ℕ → List (K × V)

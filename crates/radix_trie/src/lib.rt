@@ -8,6 +8,7 @@ mod equality;
 pub mod iter;
 mod opens;
 mod place;
+mod queries;
 mod subtrie;
 mod subtrie_mut;
 mod trie;

@@ -1,14 +1,17 @@
 //! Where a path stands in a trie: what is stored at it and below it.
-ghost use Rattle.std.specs.Prelude.{◌≡◌, ◌<◌, ◌^◌, ◌↔◌, IsTrue, IsOk, IfOk, length, option_map};
+ghost use Rattle.std.specs.Prelude.{◌≡◌, ◌<◌, ◌≤◌, ◌^◌, ◌++◌, ◌↔◌, ℕ, List, IsTrue, IsOk, IfOk, drop, length, option_copied, option_map};
 ghost use Rattle.std.specs.FinMap as finite;
-ghost use Rattle.nibble_map.specs.Lists.{IsPrefix};
-ghost use Rattle.nibble_map.specs.Maps.{below};
-ghost use Rattle.nibble_map.specs.MapQueries.{IsLeaf};
+ghost use Rattle.nibble_map.specs.Lists.{Each, IsPrefix};
+ghost use Rattle.nibble_map.specs.Maps.{below, value_at};
+ghost use Rattle.nibble_map.specs.MapQueries.{AreKids, IsKid, IsLeaf};
+ghost use Rattle.nibble_map.specs.Nibbles.{IsShort};
 ghost use Rattle.radix_nodes.specs.Nodes.{tree_of};
 ghost use Rattle.radix_trie.specs.Pairs.{pair_of};
-ghost use Rattle.radix_trie.specs.Views.{pairs_below};
+ghost use Rattle.radix_trie.specs.Places.{IsNodeOf, kid_views};
+ghost use Rattle.radix_trie.specs.Views.{pairs_below, paths_of};
 
-use crate::iter::Iter;
+use crate::iter::{Children, Iter};
+use crate::subtrie::SubTrie;
 use crate::trie::Trie;
 use radix_keys::{Memory, Nibblet, TrieKey};
 use radix_nodes::traversal::compare::compare;
@@ -42,8 +45,6 @@ impl<'a, 'p, K: TrieKey, V> Model for Place<'a, 'p, K, V> {
 }
 
 impl<'a, 'p, K: TrieKey, V> Place<'a, 'p, K, V> {
-    ghost use Rattle.radix_trie.specs.Places.{IsNodeOf};
-
     /// The place of any path.
     pub(crate) fn find(trie: &'a Trie<K, V>, path: &'p Nibblet) -> Place<'a, 'p, K, V>
         ensures map { result.map ≡ trie.now }
@@ -89,6 +90,26 @@ impl<'a, 'p, K: TrieKey, V> Place<'a, 'p, K, V> {
         }
     }
 
+    /// The key that is stored at the path.
+    pub(crate) fn key(&self) -> Option<&'a K>
+        ensures { option_copied result ≡ option_map (λ p. p.0) (finite.get self.now.map self.now.path) }
+    {
+        match self.pair() {
+            Some(pair) => Some(&pair.key),
+            None => None,
+        }
+    }
+
+    /// The value that is stored at the path.
+    pub(crate) fn value(&self) -> Option<&'a V>
+        ensures { option_copied result ≡ value_at self.now.map self.now.path }
+    {
+        match self.pair() {
+            Some(pair) => Some(&pair.value),
+            None => None,
+        }
+    }
+
     /// The count of pairs at and below the path.
     pub(crate) fn len(&self) -> usize
         ensures { result ≡ finite.len (below self.now.map self.now.path) }
@@ -128,6 +149,59 @@ impl<'a, 'p, K: TrieKey, V> Place<'a, 'p, K, V> {
             None => Ok(Iter::empty(self.trie.allocator())),
         }
     }
+
+    /// For each nibble in rising order, the view at the shortest point that goes on from the path by it.
+    pub(crate) fn children(&self) -> Result<Children<'a, K, V>, Memory>
+        ensures kids { IfOk result (λ children. AreKids self.now.map self.now.path (paths_of children)) }
+        ensures same_map { IfOk result (λ children. Each (λ c. c.map ≡ self.now.map) children) }
+        ensures short { ((q : List ℕ) → IsKid self.now.map self.now.path q → IsShort q) → IsOk result }
+    {
+        match self.found {
+            Some((node, covered)) => {
+                if covered == node.fragment.len() {
+                    return children_of(self.trie, node, self.path);
+                }
+                let mut children = Children::new();
+                let whole = extended(self.path, &node.fragment, covered)?;
+                children.push(SubTrie::new(self.trie, node, whole));
+                Ok(children)
+            }
+            None => Ok(Children::new()),
+        }
+    }
+}
+
+/// The views at the children of the node at a path.
+fn children_of<'a, K: TrieKey, V>(
+    trie: &'a Trie<K, V>,
+    node: &'a TrieNode<K, V>,
+    path: &Nibblet,
+) -> Result<Children<'a, K, V>, Memory>
+    requires { IsNodeOf K.encoding trie.now path.now (tree_of node.now) }
+    ensures views { IfOk result (λ children. children ≡ kid_views trie.now path.now (tree_of node.now).kids) }
+    ensures short { Each IsShort (paths_of (kid_views trie.now path.now (tree_of node.now).kids)) → IsOk result }
+{
+    // Sixteen bits, so no more children.
+    let _mask = node.mask;
+    let mut children = Children::new();
+    for child in &node.children {
+        let whole = extended(path, &child.fragment, 0)?;
+        children.push(SubTrie::new(trie, child, whole));
+    }
+    Ok(children)
+}
+
+/// A path, and then what a fragment has from a place on.
+pub(crate) fn extended(path: &Nibblet, fragment: &Nibblet, from: usize) -> Result<Nibblet, Memory>
+    requires { from ≤ length fragment.now }
+    ensures made { IfOk result (λ r. r ≡ path.now ++ drop from fragment.now) }
+    ensures short { IsShort (path.now ++ drop from fragment.now) → IsOk result }
+{
+    let mut whole = path.clone()?;
+    for i in from..fragment.len() {
+        whole.push(fragment.get(i))?;
+    }
+    Ok(whole)
 }
 
 /// Whether a path begins a list.

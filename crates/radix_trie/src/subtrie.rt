@@ -1,9 +1,13 @@
 //! Views for reading.
-ghost use Rattle.std.specs.Prelude.{◌≡◌, ◌≢◌, Err, IfOk, OnOk, IsOk, option_copied};
-ghost use Rattle.nibble_map.specs.Lists.{IsPrefix};
+ghost use Rattle.std.specs.Prelude.{◌≡◌, ◌≢◌, ℕ, List, Err, IfOk, OnOk, IsOk, option_copied};
+ghost use Rattle.nibble_map.specs.Lists.{Each, IsPrefix};
+ghost use Rattle.nibble_map.specs.MapQueries.{AreKids, IsFragment, IsKid};
 ghost use Rattle.nibble_map.specs.Maps.{value_at};
+ghost use Rattle.nibble_map.specs.Nibbles.{IsShort};
 ghost use Rattle.radix_nodes.specs.Nodes.{tree_of};
+ghost use Rattle.radix_trie.specs.Views.{paths_of};
 
+use crate::iter::Children;
 use crate::place::{Place, begins};
 use crate::trie::Trie;
 use radix_keys::{Memory, Nibblet, TrieKey};
@@ -87,6 +91,24 @@ impl<'a, K: TrieKey, V> SubTrie<'a, K, V> {
             return Err(SubTrieError::Outside);
         }
         Ok(self.trie.at(&list))
+    }
+
+    /// For each nibble in rising order, the view at the shortest point that goes on from the path by it, with its whole
+    /// path. It takes no memory where each of these paths has at most 32 nibbles.
+    pub fn children(&self) -> Result<Children<'a, K, V>, Memory>
+        ensures kids { IfOk result (λ children. AreKids self.now.map self.now.path (paths_of children)) }
+        ensures same_map { IfOk result (λ children. Each (λ c. c.map ≡ self.now.map) children) }
+        ensures short { ((q : List ℕ) → IsKid self.now.map self.now.path q → IsShort q) → IsOk result }
+    {
+        self.place().children()
+    }
+
+    /// The fragment of the view's point.
+    pub(crate) fn fragment(&self) -> Result<Nibblet, Memory>
+        ensures fragment { IfOk result (λ f. IsFragment self.now.map self.now.path f) }
+        ensures short { ((f : List ℕ) → IsFragment self.now.map self.now.path f → IsShort f) → IsOk result }
+    {
+        self.node.fragment.clone()
     }
 
     /// The place of the view's path.

@@ -121,11 +121,14 @@ module _ {K V : Type 0} (enc : K → List ℕ) (m : PairMap K V) (t : Tree (KeyV
   -- at a node
   module _ (u : Tree (KeyValue K V)) (at : IsNodeAt t p u) (placed : IsTreePlaced u) where
     views_kid : (i : ℕ) (c : Tree (KeyValue K V)) → IsAt i u.kids c → IsKid m p (p ++ c.fragment)
-    views_kid i c is = (first c.fragment, record {
-      member = node_point enc m t root (p ++ c.fragment) c (node_down t p u c.fragment c at (direct_kid i u.kids c is));
-      below = (h.0, ap (λ f. p ++ f) h.1 ∙ sym (further p (first c.fragment) h.0));
-      shortest = least;
-    })
+    views_kid i c is = (
+      first c.fragment,
+      record {
+        member = node_point enc m t root (p ++ c.fragment) c (node_down t p u c.fragment c at (direct_kid i u.kids c is));
+        below = (h.0, ap (λ f. p ++ f) h.1 ∙ sym (further p (first c.fragment) h.0));
+        shortest = least;
+      },
+    )
       where
         h : (w : List ℕ) × (c.fragment ≡ first c.fragment ∷ w)
         h = headed c.fragment (at_placed 0 i u.kids c is placed.1).0
@@ -175,11 +178,14 @@ module _ {K V : Type 0} (enc : K → List ℕ) (m : PairMap K V) (t : Tree (KeyV
   -- at the way to a node strictly below
   module _ (x : List ℕ) (near : IsShortest (IsPath t) p x) (strict : IsStrictPrefix p x) where
     own_kid : IsKid m p x
-    own_kid = (strict.0, record {
-      member = (shortest_point enc m t root p x near).member;
-      below = (strict.1, strict.2 ∙ sym (further p strict.0 strict.1));
-      shortest = λ y point pre. (shortest_point enc m t root p x near).shortest y point (prefix_through p (p ++ strict.0 ∷ []) y (strict.0 ∷ [], refl) pre);
-    })
+    own_kid = (
+      strict.0,
+      record {
+        member = (shortest_point enc m t root p x near).member;
+        below = (strict.1, strict.2 ∙ sym (further p strict.0 strict.1));
+        shortest = λ y point pre. (shortest_point enc m t root p x near).shortest y point (prefix_through p (p ++ strict.0 ∷ []) y (strict.0 ∷ [], refl) pre);
+      },
+    )
 
     only_kid : (q : List ℕ) → IsKid m p q → q ≡ x
     only_kid q (b, s) =

@@ -12,6 +12,7 @@ mod queries;
 mod subtrie;
 mod subtrie_mut;
 mod trie;
+mod trie_common;
 
 pub use building::BuildError;
 pub use commands::{Command, Reply, ViewCommand, run};
@@ -20,3 +21,4 @@ pub use radix_keys::{BytesError, Memory, NibbleVec, Nibblet, TrieKey};
 pub use subtrie::{SubTrie, SubTrieError, SubTrieResult};
 pub use subtrie_mut::SubTrieMut;
 pub use trie::{InsertError, InsertWhy, Trie};
+pub use trie_common::TrieCommon;

@@ -27,9 +27,12 @@ new-requires g c =
     let kid = direct_kid c.loop-child.child-index (tree_of n).kids (tree_of b.value) at in
     let down = node_down c.requires.0 c.args.path.now (tree_of n) (tree_of b.value).fragment (tree_of b.value) c.requires.2 kid in
     let path : c.args.path.now ++ (tree_of b.value).fragment ≡ c.in_ok-whole.whole =
-    ap (λ f. c.args.path.now ++ f) (fragment_out b.value ∙ ap fragment_of (sym c.deref.ensures)) ∙ sym c.in_ok-whole.ensures.made in
-    (c.requires.0, c.requires.1, subst (λ y. IsNodeAt c.requires.0 y (tree_of c.deref-in-loop-child.result.now)) path
-        (subst (λ k. IsNodeAt c.requires.0 (c.args.path.now ++ (tree_of b.value).fragment) (tree_of k)) (sym c.deref-in-loop-child.ensures) down))
+    ap (λ f. c.args.path.now ++ f) (fragment_out b.value ∙ ap fragment_of (sym c.deref.ensures)) ∙ sym c.in_ok-whole.ensures.made in (
+      c.requires.0,
+      c.requires.1,
+      subst (λ y. IsNodeAt c.requires.0 y (tree_of c.deref-in-loop-child.result.now)) path
+          (subst (λ k. IsNodeAt c.requires.0 (c.args.path.now ++ (tree_of b.value).fragment) (tree_of k)) (sym c.deref-in-loop-child.ensures) down),
+    )
 
 pub push-requires : goal.push-requires
 push-requires g c =

@@ -11,9 +11,11 @@ use Rattle.radix_trie.proofs.Places.{not_both, whole_or_inside}
 use Rattle.radix_trie.proofs.place.Place.children.Goals as goal
 
 pub children_of-requires : goal.children_of-requires
-children_of-requires g c =
-    (omega arith, node_here g.K.TrieKey.encoding c.self.inside.trie.now c.self.inside.path.now c.self.inside.found c.self.invariant c.in-Some.node c.in-Some.covered c.in-Some.is
-        (c.if-covered-len.true ∙ c.len.ensures))
+children_of-requires g c = (
+  omega arith,
+  node_here g.K.TrieKey.encoding c.self.inside.trie.now c.self.inside.path.now c.self.inside.found c.self.invariant c.in-Some.node c.in-Some.covered c.in-Some.is
+      (c.if-covered-len.true ∙ c.len.ensures),
+)
 
 pub returns-then-covered-len-clause-kids : goal.returns-then-covered-len-clause-kids
 returns-then-covered-len-clause-kids g c =
@@ -48,7 +50,7 @@ returns-in_err-whole-in-Some-clause-short g c =
     (λ e. c.if-covered-len.false (e ∙ sym c.len.ensures)) in
     rw (← c.self.view_is)
     (λ short. absurd (not_both (c.in_err-whole-in-Some.ensures.short
-        (past_short g.K.TrieKey.encoding c.self.inside.trie.now c.self.inside.path.now c.self.inside.found c.self.invariant c.in-Some.node c.in-Some.covered c.in-Some.is lt short))))
+    (past_short g.K.TrieKey.encoding c.self.inside.trie.now c.self.inside.path.now c.self.inside.found c.self.invariant c.in-Some.node c.in-Some.covered c.in-Some.is lt short))))
 
 pub new-requires : goal.new-requires
 new-requires g c =

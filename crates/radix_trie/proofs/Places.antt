@@ -26,7 +26,7 @@ use Rattle.radix_nodes.specs.declared.trie_node.KeyValue.{KeyValue}
 use Rattle.radix_nodes.specs.declared.trie_node.TrieNode.{TrieNode, out-TrieNode}
 use Rattle.radix_nodes.specs.Nodes.{IsNearest, tree_of, fragment_of, unboxed}
 use Rattle.radix_nodes.proofs.Nodes.{fragment_out, kids_out, pair_out}
-use Rattle.radix_nodes.specs.Heights.{height_in}
+use Rattle.nibble_map.specs.KeptSizes.{levels}
 use Rattle.radix_trie.specs.Pairs.{pair_of}
 use Rattle.radix_trie.specs.Places.{IsNodeOf, IsPlace}
 use Rattle.radix_trie.specs.Roots.{IsRoot}
@@ -37,8 +37,8 @@ use Rattle.radix_trie.proofs.Held.{node_get, no_node_get}
 use Rattle.radix_trie.proofs.Parts.{true_false, kept, node_placed, node_kept, free_kept, node_down, node_up}
 use Rattle.radix_trie.proofs.Paths.{node_point, point_node}
 use Rattle.radix_trie.proofs.Shown.{row_of, entries_shown}
-use Rattle.radix_trie.proofs.WalkRows.{row_none, height-some}
-use Rattle.radix_trie.proofs.Walks.{pairs_at}
+use Rattle.radix_trie.proofs.WalkRows.{row_none, levels-some}
+use Rattle.radix_trie.proofs.Walks.{pairs_of_node}
 
 pub not_both : false ≡ true → ⊥
 not_both e = cc e
@@ -98,7 +98,7 @@ module _ {K V : Type 0} (enc : K → List ℕ) (m : PairMap K V) (t : Tree (KeyV
 
   pub pairs_found : (p x : List ℕ) (u : Tree (KeyValue K V)) → IsNodeAt t x u → IsShortest (IsPath t) p x → pairs_in u ≡ pairs_below m p
   pairs_found p x u i s =
-      sym (ap (map (λ e. e.1)) (walk_below p x u i s) ∙ map-map (λ e. e.1) row_of (entry x u.pair ++ entries_in x u.kids) ∙ pairs_at x u)
+      sym (ap (map (λ e. e.1)) (walk_below p x u i s) ∙ map-map (λ e. e.1) row_of (entry x u.pair ++ entries_in x u.kids) ∙ pairs_of_node x u)
 
   pub no_pairs : (p : List ℕ) → ((q : List ℕ) → IsPath t q → IsPrefix p q → ⊥) → walk m p ≡ []
   no_pairs p apart = rows p ∙ ap (map row_of) (free_kept p t (λ y w i. apart y (w, i)))
@@ -167,17 +167,11 @@ module _ {K V : Type 0} (enc : K → List ℕ) (m : PairMap K V) (p : List ℕ) 
     len_here =
         sym (length-map (entries_at [] (tree_of r.now)) _) ∙ ap length pairs_here ∙ length-map (walk m p) (λ e. e.1) ∙ sym (fin.len-entries (below m p))
 
-    abbrev parts_below : List ℕ × KeyValue K V → K × V
-    parts_below e = parts_of e.1
-
     pub few_here : fin.len m < 2 ^ 64 → length (entries_at [] (tree_of r.now)) < 2 ^ 64
     few_here small =
         let some = ap length (walk_is m p) in
         let few = fewer (λ e. is_prefix p e.0) (fin.entries m) in
         omega (arith, small, len_here, fin.len-entries (below m p), some, few, fin.len-entries m)
-
-    pub few_pairs : fin.len m < 2 ^ 64 → length (pairs_in (tree_of r.now)) < 2 ^ 64
-    few_pairs small = let few = few_here small in let same = length-map (entries_at [] (tree_of r.now)) parts_below in omega (arith, few, same)
 
     pub inside_no_leaf : n < length (fragment_of r.now) → IsLeaf m p → ⊥
     inside_no_leaf lt = strictly_below enc m tree place.1 p (ends r.now n) (tree_of r.now) nearest_of.node (past lt)
@@ -243,7 +237,7 @@ module _ {K V : Type 0} where
   pub no_kids : (n : TrieNode K V) → length (out-TrieNode K V n).children.items ≡ 0 → (tree_of n).kids ≡ none
   no_kids n e = kids_out n ∙ row_none (out-TrieNode K V n).children.items e
 
-  first_kid : (low : ℕ) (k : Kids (KeyValue K V)) → IsPlaced low k → 0 < height_in k → (x : List ℕ) × (w : Tree (KeyValue K V)) × (x ≢ []) × IsKidAt k x w
+  first_kid : (low : ℕ) (k : Kids (KeyValue K V)) → IsPlaced low k → 0 < levels k → (x : List ℕ) × (w : Tree (KeyValue K V)) × (x ≢ []) × IsKidAt k x w
   first_kid low none h lt = absurd (omega arith)
   first_kid low (more f o m kids others) h lt = (f, record { fragment = f; pair = o; mask = m; kids = kids }, h.0, inl (refl, refl))
 
@@ -251,8 +245,8 @@ module _ {K V : Type 0} where
   pub some_kid : (n : TrieNode K V) → IsTreePlaced (tree_of n) → 0 < length (out-TrieNode K V n).children.items
       → (x : List ℕ) × (w : Tree (KeyValue K V)) × (x ≢ []) × IsKidAt (tree_of n).kids x w
   some_kid n h lt =
-      let tall = height-some (out-TrieNode K V n).children.items lt in
-      let e = ap height_in (kids_out n) in
+      let tall = levels-some (out-TrieNode K V n).children.items lt in
+      let e = ap levels (kids_out n) in
       first_kid 0 (tree_of n).kids h.1 (omega (arith, tall, e))
 
 -- where a node stands at the path, a leaf is a node without children

@@ -118,12 +118,12 @@ module _ {K V : Type 0} where
       ∙ ap (λ x. own_pair t.pair ++ x) (anywhere (q ++ t.fragment) [] t.kids)
 
   -- the same pairs at and below a node, whatever its path
-  pub pairs_at : (q : List ℕ) (t : Tree (KeyValue K V)) → pairs_of (entry q t.pair ++ entries_in q t.kids) ≡ pairs_in t
-  pairs_at q t =
+  pub pairs_of_node : (q : List ℕ) (t : Tree (KeyValue K V)) → pairs_of (entry q t.pair ++ entries_in q t.kids) ≡ pairs_in t
+  pairs_of_node q t =
       append-pairs (entry q t.pair) (entries_in q t.kids)
       ∙ ap (λ x. x ++ pairs_of (entries_in q t.kids)) (entry-pairs q t.pair)
       ∙ ap (λ x. own_pair t.pair ++ x) (anywhere q [] t.kids)
-      ∙ sym (pairs_in-node t)
+      ∙ sym (pairs_at [] t)
 
   pending-push : (rs : List (Kids (KeyValue K V))) (r : Kids (KeyValue K V)) → pending (rs ++ r ∷ []) ≡ pairs_in_all r ++ pending rs
   pending-push [] r = sym (append-nil (pairs_in_all r))

@@ -1,11 +1,11 @@
 use Rattle.std.proofs.Common.{◌≡◌, ◌<◌, ◌^◌, sym, ap, ◌∙◌, rules, arith, length}
-use Rattle.radix_trie.proofs.Places.{few_pairs, pairs_here, pairs_free}
+use Rattle.radix_trie.proofs.Places.{few_here, pairs_here, pairs_free}
 use Rattle.radix_trie.proofs.place.Place.iter.Goals as goal
 
 pub over-requires : goal.over-requires
 over-requires g c =
     let small : c.len-pairs.result < 2 ^ 64 = search rules in
-    few_pairs g.K.TrieKey.encoding c.self.inside.trie.now c.self.inside.path.now c.self.inside.found c.self.invariant _ _ c.in-Some.is (omega (arith, small, c.len-pairs.ensures))
+    few_here g.K.TrieKey.encoding c.self.inside.trie.now c.self.inside.path.now c.self.inside.found c.self.invariant _ _ c.in-Some.is (omega (arith, small, c.len-pairs.ensures))
 
 pub returns-in-Some-clause-walk : goal.returns-in-Some-clause-walk
 returns-in-Some-clause-walk g c =

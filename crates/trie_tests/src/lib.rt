@@ -4,8 +4,12 @@
 #[cfg(test)]
 mod bits;
 #[cfg(test)]
+mod commands;
+#[cfg(test)]
 mod map_calls;
 #[cfg(test)]
 mod refused_growths;
 #[cfg(test)]
 mod walk_callers;
+#[cfg(test)]
+mod write_views;

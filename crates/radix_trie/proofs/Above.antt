@@ -13,9 +13,9 @@ use Rattle.radix_nodes.specs.declared.trie_node.KeyValue.{KeyValue}
 use Rattle.radix_nodes.specs.declared.trie_node.TrieNode.{TrieNode}
 use Rattle.radix_nodes.specs.Nodes.{tree_of, fragment_of, on_way, IsDeepest}
 use Rattle.radix_nodes.proofs.Nodes.{fragment_out}
-use Rattle.radix_trie.specs.Commands.{IsValueAbove}
 use Rattle.radix_trie.specs.Pairs.{pair_of}
 use Rattle.radix_trie.specs.Roots.{IsRoot}
+use Rattle.radix_trie.specs.Views.{IsValueAbove}
 use Rattle.radix_trie.proofs.Held.{node_get}
 use Rattle.radix_trie.proofs.Shown.{row_of, entries_shown}
 

@@ -2,7 +2,6 @@
 use Rattle.std.specs.FinMap as map
 use Rattle.std.specs.Prelude.{◌≡◌, ◌⊎◌, ℕ, ◌^◌, ◌-◌, List, [], ◌∷◌, ◌++◌, Option, Some, None}
 use Rattle.nibble_map.specs.Lists.{IsPrefix}
-use Rattle.nibble_map.specs.MapQueries.{IsAncestor}
 use Rattle.nibble_map.specs.Maps.{PairMap, IsPoint, IsStored, below, value_at}
 use Rattle.nibble_map.specs.Nibbles.{IsShort}
 use Rattle.radix_trie.specs.declared.commands.Command.{Command}
@@ -11,17 +10,9 @@ use Rattle.radix_trie.specs.declared.commands.Reply.{Reply}
 use Rattle.radix_trie.specs.declared.commands.Reply.TheVariants.{Old, Found, Number, Closed, Replies, Outside, Refused}
 use Rattle.radix_trie.specs.declared.commands.ViewCommand.{ViewCommand}
 use Rattle.radix_trie.specs.declared.commands.ViewCommand.TheVariants as inner
+use Rattle.radix_trie.specs.Views.{IsValueAbove}
 
 module _ {K V : Type 0} where
-  -- the value at a list, if there is a list
-  abbrev pub value_of : PairMap K V → Option (List ℕ) → Option V
-  value_of m None = None
-  value_of m (Some e) = value_at m e
-
-  -- v is the value of the longest stored list that is a prefix of e, or None where there is none
-  abbrev pub IsValueAbove : PairMap K V → List ℕ → Option V → Type 0
-  IsValueAbove m e v = (a : Option (List ℕ)) × IsAncestor m e a × (v ≡ value_of m a)
-
   -- the reply is r, and the map stays
   abbrev pub Stays : PairMap K V → Reply V → PairMap K V → Reply V → Type 0
   Stays m r n is = (r ≡ is) × (n ≡ m)

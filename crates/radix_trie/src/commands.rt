@@ -1,14 +1,13 @@
 //! Lists of commands, and what they answer.
 ghost use Rattle.std.specs.Prelude.{◌≡◌, ◌≤◌, [], length, vec_capacity, IfOk, IsOk, OnErr, option_copied};
-ghost use Rattle.radix_trie.specs.Commands.{IsValueAbove, Step, Steps, ViewStep, ViewSteps};
+ghost use Rattle.radix_trie.specs.Commands.{Step, Steps, ViewStep, ViewSteps};
 ghost use Rattle.radix_trie.specs.WriteViews.{map_behind, path_of, SameView};
 
 use crate::opens::OpenError;
 use crate::subtrie::SubTrieError;
 use crate::subtrie_mut::SubTrieMut;
 use crate::trie::{InsertError, InsertWhy, Trie};
-use radix_keys::{Memory, Nibblet, TrieKey};
-use radix_nodes::traversal::queries::deepest_pair;
+use radix_keys::{Memory, TrieKey};
 
 /// A call of a trie.
 #[derive(Drop)]
@@ -131,20 +130,9 @@ fn get<K: TrieKey, V: Copy>(trie: &Trie<K, V>, key: &K) -> Reply<V>
 fn ancestor<K: TrieKey, V: Copy>(trie: &Trie<K, V>, key: &K) -> Reply<V>
     ensures { Step K.encoding K.is_light trie.now (Command.Ancestor key.now) result trie.now }
 {
-    match key.encode(trie.allocator()) {
-        Ok(list) => Reply::Found(value_above(trie, &list).copied()),
+    match trie.get_ancestor_value(key) {
+        Ok(found) => Reply::Found(found.copied()),
         Err(_) => Reply::Refused,
-    }
-}
-
-/// The value of the longest stored list that is a prefix of a list.
-fn value_above<'t, K: TrieKey, V>(trie: &'t Trie<K, V>, list: &Nibblet) -> Option<&'t V>
-    ensures { IsValueAbove trie.now list.now (option_copied result) }
-{
-    let (node, _) = deepest_pair(trie.root(), list, 0)?;
-    match &node.pair {
-        Some(pair) => Some(&pair.value),
-        None => None,
     }
 }
 

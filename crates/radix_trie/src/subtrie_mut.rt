@@ -1,6 +1,6 @@
 //! Views for writing.
 ghost use Rattle.std.specs.FinMap as map;
-ghost use Rattle.std.specs.Prelude.{◌≡◌, ◌≢◌, ◌↔◌, ℕ, List, None, IsTrue, IsOk, IfOk, OnOk, IfErr, OnErr, IsErrAnd, Err, option_copied};
+ghost use Rattle.std.specs.Prelude.{◌≡◌, ◌≢◌, ℕ, List, None, IsOk, IfOk, OnOk, IfErr, OnErr, IsErrAnd, Err, option_copied};
 ghost use Rattle.nibble_map.specs.Lists.{IsPrefix};
 ghost use Rattle.nibble_map.specs.Maps.{IsStored, value_at};
 ghost use Rattle.nibble_map.specs.Nibbles.{IsShort};
@@ -8,8 +8,9 @@ ghost use Rattle.radix_trie.specs.WriteViews.{map_behind, path_of, prefix_of, le
 
 use crate::place::{Place, begins};
 use crate::subtrie::{SubTrieError, SubTrieResult};
-use crate::trie::{InsertError, InsertWhy, Trie};
-use radix_keys::{Memory, Nibblet, TrieKey};
+use crate::trie::{InsertError, InsertWhy, Trie, encoding_of, refused};
+use radix_keys::{Nibblet, TrieKey};
+use radix_nodes::trie_node::KeyValue;
 
 /// A view for writing: a trie, and a path in it, at which a point stood when the view was made.
 ///
@@ -31,19 +32,6 @@ impl<K: TrieKey, V, P: Drop> Drop for SubTrieMut<'_, K, V, P> {
             path: _,
             prefix: _,
         } = self;
-    }
-}
-
-impl<K: TrieKey, V> Trie<K, V> {
-    /// Whether a path begins the key's encoding.
-    ///
-    /// The one refusal is that of memory for the encoding, which a light key never meets.
-    fn is_inside<Q: TrieKey>(&self, path: &Nibblet, key: &Q) -> Result<bool, Memory>
-        ensures inside { IfOk result (λ b. IsTrue b ↔ IsPrefix path.now (Q.encoding key.now)) }
-        ensures light { Q.is_light key.now → IsOk result }
-    {
-        let list = key.encode(self.allocator())?;
-        Ok(begins(path, &list))
     }
 }
 
@@ -120,21 +108,14 @@ impl<'a, K: TrieKey + Drop, V: Drop> SubTrieMut<'a, K, V> {
         ensures limit { map.len (map_behind self.old) ≡ usize.MAX → map.get (map_behind self.old) (K.encoding key) ≡ None
             → IsErrAnd result (λ e. K.is_light key → IsPrefix (path_of self.old) (K.encoding key) → e.why ≡ InsertWhy.Full) }
     {
-        let Ok(inside) = self.trie.is_inside(&self.path, &key) else {
-            return Err(InsertError {
-                why: InsertWhy::Memory,
-                key,
-                value,
-            });
+        let pair = KeyValue { key, value };
+        let Ok(list) = encoding_of(self.trie.allocator(), &pair.key) else {
+            return Err(refused(InsertWhy::Memory, pair));
         };
-        if !inside {
-            return Err(InsertError {
-                why: InsertWhy::Outside,
-                key,
-                value,
-            });
+        if !begins(&self.path, &list) {
+            return Err(refused(InsertWhy::Outside, pair));
         }
-        self.trie.insert(key, value)
+        self.trie.put_at(&list, pair)
     }
 
     /// Takes the pair at the key's encoding away, as `Trie::remove` does. Outside where the view's path isn't a prefix of
@@ -156,12 +137,13 @@ impl<'a, K: TrieKey + Drop, V: Drop> SubTrieMut<'a, K, V> {
         ensures light_absent { Q.is_light key.now → IsPrefix (path_of self.old) (Q.encoding key.now) → map.get (map_behind self.old) (Q.encoding key.now) ≡ None → IsOk result }
         ensures light_short { Q.is_light key.now → IsPrefix (path_of self.old) (Q.encoding key.now) → ((e : List ℕ) → IsStored (map_behind self.old) e → IsShort e) → IsOk result }
     {
-        match self.trie.is_inside(&self.path, key) {
-            Ok(true) => {}
-            Ok(false) => return Err(SubTrieError::Outside),
-            Err(_) => return Err(SubTrieError::Memory),
+        let Ok(list) = key.encode(self.trie.allocator()) else {
+            return Err(SubTrieError::Memory);
+        };
+        if !begins(&self.path, &list) {
+            return Err(SubTrieError::Outside);
         }
-        match self.trie.remove(key) {
+        match self.trie.take_at(&list) {
             Ok(old) => Ok(old),
             Err(_) => Err(SubTrieError::Memory),
         }

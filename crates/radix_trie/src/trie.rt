@@ -175,7 +175,7 @@ impl<K: TrieKey, V> Trie<K, V> {
 }
 
 /// The key's encoding. Its count of nibbles is within `usize`.
-fn encoding_of<Q: TrieKey>(alloc: Global, key: &Q) -> Result<Nibblet, Memory>
+pub(crate) fn encoding_of<Q: TrieKey>(alloc: Global, key: &Q) -> Result<Nibblet, Memory>
     ensures ok { IfOk result (λ list. list ≡ Q.encoding key.now) }
     ensures fits { IfOk result (λ list. length list < 2 ^ 64) }
     ensures light { Q.is_light key.now → IsOk result }
@@ -186,7 +186,7 @@ fn encoding_of<Q: TrieKey>(alloc: Global, key: &Q) -> Result<Nibblet, Memory>
 }
 
 /// The refusal that hands a pair back.
-fn refused<K, V>(why: InsertWhy, pair: KeyValue<K, V>) -> InsertError<K, V>
+pub(crate) fn refused<K, V>(why: InsertWhy, pair: KeyValue<K, V>) -> InsertError<K, V>
     ensures why { result.why ≡ why }
     ensures key { result.key ≡ pair.key }
     ensures value { result.value ≡ pair.value }
@@ -225,7 +225,7 @@ impl<K: TrieKey + Drop, V: Drop> Trie<K, V> {
     }
 
     /// What `insert` does, with the key's encoding in hand.
-    fn put_at(
+    pub(crate) fn put_at(
         &mut self,
         list: &Nibblet,
         pair: KeyValue<K, V>,
@@ -336,7 +336,18 @@ impl<K: TrieKey + Drop, V: Drop> Trie<K, V> {
         ensures light_short { Q.is_light key.now → ((e : List ℕ) → IsStored self.old e → IsShort e) → IsOk result }
     {
         let list = key.encode(self.alloc)?;
-        match take_root(&mut self.root, &list) {
+        self.take_at(&list)
+    }
+
+    /// What `remove` does, with the key's encoding in hand.
+    pub(crate) fn take_at(&mut self, list: &Nibblet) -> Result<Option<V>, Memory>
+        ensures old_value { IfOk result (λ old. old ≡ value_at self.old list.now) }
+        ensures removed { OnOk result (self.new ≡ map.remove self.old list.now) }
+        ensures unchanged { OnErr result (self.new ≡ self.old) }
+        ensures absent { map.get self.old list.now ≡ None → IsOk result }
+        ensures short { ((e : List ℕ) → IsStored self.old e → IsShort e) → IsOk result }
+    {
+        match take_root(&mut self.root, list) {
             Ok(Some(taken)) => {
                 self.length -= 1;
                 self.nodes -= taken.nodes as u128;

@@ -7,48 +7,48 @@ use Rattle.std.proofs.lemmas.Cmp.{nat_list_cmp_total}
 use Rattle.radix_trie.specs.Roots.{map_of}
 use Rattle.radix_trie.proofs.Changes.{taken_value, taken_map, taken_some, taken_nodes, taken_nibbles, taken_kept, unheld_at, held_at}
 use Rattle.radix_trie.proofs.Held.{unheld_none, none_unheld, short_reach}
-use Rattle.radix_trie.proofs.trie.Trie.remove.Goals as goal
+use Rattle.radix_trie.proofs.trie.Trie.take_at.Goals as goal
 
 pub overflow_sub-self : goal.overflow_sub-self
 overflow_sub-self g c =
     let cut = rw c.in-Ok-Some.field-0-is at c.in-Ok-Some.ensures in
-    taken_some g.K.TrieKey.encoding c.self.inside.root _ _ _ _ _ _ _ _ _ c.self.invariant c.in_ok-list.ensures.ok cut
+    taken_some g.K.TrieKey.encoding c.self.inside.root _ _ _ _ _ _ _ _ _ c.self.invariant refl cut
 
 pub invariant_of-self : goal.invariant_of-self
 invariant_of-self g c =
     let cut = rw c.in-Ok-Some.field-0-is at c.in-Ok-Some.ensures in
-    taken_kept g.K.TrieKey.encoding c.self.inside.root _ _ _ _ _ _ _ _ _ c.self.invariant c.in_ok-list.ensures.ok cut
+    taken_kept g.K.TrieKey.encoding c.self.inside.root _ _ _ _ _ _ _ _ _ c.self.invariant refl cut
 
 pub returns-in-Ok-Some-clause-old_value : goal.returns-in-Ok-Some-clause-old_value
 returns-in-Ok-Some-clause-old_value g c =
     let cut = rw c.in-Ok-Some.field-0-is at c.in-Ok-Some.ensures in
-    rw (← c.self.view_is) (sym (taken_value g.K.TrieKey.encoding c.self.inside.root _ _ _ _ _ _ _ _ _ c.self.invariant c.in_ok-list.ensures.ok cut))
+    rw (← c.self.view_is) (sym (taken_value g.K.TrieKey.encoding c.self.inside.root _ _ _ _ _ _ _ _ _ c.self.invariant refl cut))
 
 pub returns-in-Ok-Some-clause-removed : goal.returns-in-Ok-Some-clause-removed
 returns-in-Ok-Some-clause-removed g c =
     let cut = rw c.in-Ok-Some.field-0-is at c.in-Ok-Some.ensures in
-    rw (← c.self.view_is) (taken_map g.K.TrieKey.encoding c.self.inside.root _ _ _ _ _ _ _ _ _ c.self.invariant c.in_ok-list.ensures.ok cut)
+    rw (← c.self.view_is) (taken_map g.K.TrieKey.encoding c.self.inside.root _ _ _ _ _ _ _ _ _ c.self.invariant refl cut)
 
 pub returns-in-Ok-None-clause-old_value : goal.returns-in-Ok-None-clause-old_value
 returns-in-Ok-None-clause-old_value g c =
     let cut = rw c.in-Ok-None.field-0-is at c.in-Ok-None.ensures in
-    let absent = unheld_none g.K.TrieKey.encoding (tree_of c.self.inside.root) _ _ _ c.self.invariant (g.Q.TrieKey.encoding c.args.key.now)
-    (unheld_at c.self.inside.root c.in_ok-list.list _ c.self.invariant.top c.in_ok-list.ensures.ok cut.1) in
+    let absent = unheld_none g.K.TrieKey.encoding (tree_of c.self.inside.root) _ _ _ c.self.invariant c.args.list.now
+    (unheld_at c.self.inside.root c.args.list.now _ c.self.invariant.top refl cut.1) in
     rw (← c.self.view_is) (sym (ap (option_map (λ p. p.1)) absent))
 
 pub returns-in-Ok-None-clause-removed : goal.returns-in-Ok-None-clause-removed
 returns-in-Ok-None-clause-removed g c =
     let cut = rw c.in-Ok-None.field-0-is at c.in-Ok-None.ensures in
-    let absent = unheld_none g.K.TrieKey.encoding (tree_of c.self.inside.root) _ _ _ c.self.invariant (g.Q.TrieKey.encoding c.args.key.now)
-    (unheld_at c.self.inside.root c.in_ok-list.list _ c.self.invariant.top c.in_ok-list.ensures.ok cut.1) in
+    let absent = unheld_none g.K.TrieKey.encoding (tree_of c.self.inside.root) _ _ _ c.self.invariant c.args.list.now
+    (unheld_at c.self.inside.root c.args.list.now _ c.self.invariant.top refl cut.1) in
     rw (← c.self.view_is) (ap map_of cut.0 ∙ sym (remove_absent _ nat_list_cmp_total same _ _ absent))
 
-pub returns-clause-light_absent : goal.returns-clause-light_absent
-returns-clause-light_absent g c = λ _ absent.
-    let here = none_unheld g.K.TrieKey.encoding (tree_of c.self.inside.root) _ _ _ c.self.invariant (g.Q.TrieKey.encoding c.args.key.now) (rw c.self.view_is absent) in
-    absurd (here (held_at c.self.inside.root c.in_ok-list.list _ c.self.invariant.top c.in_ok-list.ensures.ok c.in-Err.ensures.1))
+pub returns-in-Err-clause-absent : goal.returns-in-Err-clause-absent
+returns-in-Err-clause-absent g c = λ absent.
+    let here = none_unheld g.K.TrieKey.encoding (tree_of c.self.inside.root) _ _ _ c.self.invariant c.args.list.now (rw c.self.view_is absent) in
+    absurd (here (held_at c.self.inside.root c.args.list.now _ c.self.invariant.top refl c.in-Err.ensures.1))
 
-pub returns-clause-light_short : goal.returns-clause-light_short
-returns-clause-light_short g c = λ _ short.
+pub returns-in-Err-clause-short : goal.returns-in-Err-clause-short
+returns-in-Err-clause-short g c = λ short.
     let few = short_reach g.K.TrieKey.encoding (tree_of c.self.inside.root) _ _ _ c.self.invariant (rw c.self.view_is short) in
     absurd (let more = c.in-Err.ensures.2 in omega arith)

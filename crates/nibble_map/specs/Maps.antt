@@ -32,9 +32,9 @@ module _ {K V : Type 0} where
   abbrev pub with_value : PairMap K V → List ℕ → V → PairMap K V
   with_value m e w = set_value m e w (map.get m e)
 
-  -- the map without its keys: each list's value alone
-  abbrev pub values_of : PairMap K V → NibbleMap V
-  values_of m = map.from_sorted (each (λ e. (e.0, e.1.1)) (map.entries m))
+-- the map with each list's f in place of what it holds there
+abbrev pub mapped : {P Q : Type 0} → (P → Q) → NibbleMap P → NibbleMap Q
+mapped f m = map.from_sorted (each (λ e. (e.0, f e.1)) (map.entries m))
 
 module _ {P : Type 0} where
   -- the map holds a pair at e

@@ -1,15 +1,15 @@
-//! Laws of the finite map from nibble lists: its entries, its edits, its values alone.
+//! Laws of the finite map from nibble lists: its entries, its edits, other values in their place.
 
 ghost use Rattle.nibble_map.specs.Lists.{IsRising, Lists, is_prefix};
 ghost use Rattle.nibble_map.specs.MapQueries.{AreSame, IsSame};
-ghost use Rattle.nibble_map.specs.Maps.{NibbleMap, PairMap, IsStored, below, walk, value_at, with_value, values_of};
+ghost use Rattle.nibble_map.specs.Maps.{NibbleMap, PairMap, IsStored, below, walk, with_value, mapped};
 ghost use Rattle.nibble_map.specs.Queries as queries;
 ghost use Rattle.nibble_map.specs.Stored as stored;
 ghost use Rattle.nibble_map.specs.Swaps.{Swaps, entry};
 ghost use Rattle.std.specs.Cmp.Lexicographic.{slice_cmp};
 ghost use Rattle.std.specs.FinMap as map;
 ghost use Rattle.std.specs.Ordering.{nat_cmp};
-ghost use Rattle.std.specs.Prelude.{[], ◌&&◌, ◌↔◌, ◌≡◌, ◌≢◌, map as each, not, Bool, IsTrue, List, None, Option, Some, T, ℕ};
+ghost use Rattle.std.specs.Prelude.{[], ◌&&◌, ◌↔◌, ◌≡◌, ◌≢◌, map as each, not, Bool, IsTrue, List, None, Option, Some, T, option_map, ℕ};
 
 /// What a map holds, by its list of entries: the keys are the stored lists in rising order, and the walk below a
 /// path is the entries below it.
@@ -49,16 +49,16 @@ pub fn edits_below_a_path<P>()
     ensures get { (m : NibbleMap P) (p e : List ℕ) → T (is_prefix p e) → map.get (below m p) e ≡ map.get m e }
 {}
 
-/// The map without its keys answers each list's value, and follows the edits of the map.
-pub fn values_follow_the_map<K, V>()
-    ensures entries { (m : PairMap K V) → map.entries (values_of m) ≡ each (λ e. (e.0, e.1.1)) (map.entries m) }
-    ensures len { (m : PairMap K V) → map.len (values_of m) ≡ map.len m }
-    ensures get { (m : PairMap K V) (e : List ℕ) → map.get (values_of m) e ≡ value_at m e }
-    ensures stored { (m : PairMap K V) (e : List ℕ) → IsStored (values_of m) e ↔ IsStored m e }
-    ensures empty { values_of {K = K} {V = V} map.empty ≡ map.empty }
-    ensures insert { (m : PairMap K V) (e : List ℕ) (p : K × V) → values_of (map.insert m e p) ≡ map.insert (values_of m) e p.1 }
-    ensures remove { (m : PairMap K V) (e : List ℕ) → values_of (map.remove m e) ≡ map.remove (values_of m) e }
-    ensures below { (m : PairMap K V) (p : List ℕ) → values_of (below m p) ≡ below (values_of m) p }
+/// The map with f of what it holds answers so at each list, and follows the edits of the map.
+pub fn mapped_follows_the_map<P, Q>()
+    ensures entries { (f : P → Q) (m : NibbleMap P) → map.entries (mapped f m) ≡ each (λ e. (e.0, f e.1)) (map.entries m) }
+    ensures len { (f : P → Q) (m : NibbleMap P) → map.len (mapped f m) ≡ map.len m }
+    ensures get { (f : P → Q) (m : NibbleMap P) (e : List ℕ) → map.get (mapped f m) e ≡ option_map f (map.get m e) }
+    ensures stored { (f : P → Q) (m : NibbleMap P) (e : List ℕ) → IsStored (mapped f m) e ↔ IsStored m e }
+    ensures empty { (f : P → Q) → mapped f map.empty ≡ map.empty }
+    ensures insert { (f : P → Q) (m : NibbleMap P) (e : List ℕ) (p : P) → mapped f (map.insert m e p) ≡ map.insert (mapped f m) e (f p) }
+    ensures remove { (f : P → Q) (m : NibbleMap P) (e : List ℕ) → mapped f (map.remove m e) ≡ map.remove (mapped f m) e }
+    ensures below { (f : P → Q) (m : NibbleMap P) (p : List ℕ) → mapped f (below m p) ≡ below (mapped f m) p }
 {}
 
 /// A value written at a stored list changes that value alone; at an absent list nothing changes.
@@ -69,7 +69,6 @@ pub fn one_value_changes<K, V>()
     ensures elsewhere { (m : PairMap K V) (e : List ℕ) (w : V) (q : List ℕ) → q ≢ e → map.get (with_value m e w) q ≡ map.get m q }
     ensures same_lists { (m : PairMap K V) (e : List ℕ) (w : V) (q : List ℕ) → IsStored (with_value m e w) q ↔ IsStored m q }
     ensures len { (m : PairMap K V) (e : List ℕ) (w : V) → map.len (with_value m e w) ≡ map.len m }
-    ensures values { (m : PairMap K V) (e : List ℕ) (w : V) (p : K × V) → map.get m e ≡ Some p → values_of (with_value m e w) ≡ map.insert (values_of m) e w }
 {}
 
 /// The removal of a list that isn't stored changes nothing.

@@ -8,7 +8,7 @@ ghost use Rattle.nibble_map.specs.Maps.{NibbleMap, IsStored};
 ghost use Rattle.nibble_map.specs.Queries as queries;
 ghost use Rattle.nibble_map.specs.Stored as stored;
 ghost use Rattle.std.specs.FinMap as map;
-ghost use Rattle.std.specs.Prelude.{[], ◌↔◌, ◌≡◌, IsTrue, List, Option, Some, ℕ};
+ghost use Rattle.std.specs.Prelude.{[], ◌↔◌, ◌≡◌, IsTrue, List, None, Option, Some, ℕ};
 
 /// The points of a map and the prefixes of its stored lists are those of its entries.
 pub fn points_by_entries<P>()
@@ -83,4 +83,10 @@ pub fn leaves_have_no_kids<P>()
 pub fn one_kid_leads_to_each_list<P>()
     ensures { (m : NibbleMap P) (p e : List ℕ) → IsStored m e → IsStrictPrefix p e
         → (q : List ℕ) × map_queries.IsKid m p q × IsPrefix q e × ((r : List ℕ) → map_queries.IsKid m p r → IsPrefix r e → r ≡ q) }
+{}
+
+/// The pairs at and below a list are those at and below the shortest point that it begins, or none where there is none.
+pub fn descendants_hold_all_below<P>()
+    ensures some { (m : NibbleMap P) (e q : List ℕ) → map_queries.IsRawDescendant m e (Some q) → maps.below m e ≡ maps.below m q }
+    ensures none { (m : NibbleMap P) (e : List ℕ) → map_queries.IsRawDescendant m e None → maps.below m e ≡ map.empty }
 {}

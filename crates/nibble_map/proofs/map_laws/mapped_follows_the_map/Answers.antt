@@ -1,0 +1,14 @@
+use Rattle.nibble_map.proofs.Mapped.{mapped_entries, mapped_len, mapped_get, mapped_stored, mapped_empty, mapped_insert, mapped_remove, mapped_below}
+use Rattle.nibble_map.proofs.map_laws.mapped_follows_the_map.Goals as goal
+
+pub returns : goal.returns
+returns g c = record {
+  entries = mapped_entries;
+  len = mapped_len;
+  get = mapped_get;
+  stored = mapped_stored;
+  empty = mapped_empty;
+  insert = mapped_insert;
+  remove = mapped_remove;
+  below = mapped_below;
+}

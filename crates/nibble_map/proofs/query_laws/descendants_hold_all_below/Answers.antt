@@ -1,0 +1,5 @@
+use Rattle.nibble_map.proofs.Descendant.{below_descendant, below_nothing}
+use Rattle.nibble_map.proofs.query_laws.descendants_hold_all_below.Goals as goal
+
+pub returns : goal.returns
+returns g c = record { some = below_descendant; none = below_nothing }

@@ -13,6 +13,7 @@ mod subtrie;
 mod subtrie_mut;
 mod trie;
 mod trie_common;
+mod write_common;
 
 pub use building::BuildError;
 pub use commands::{Command, Reply, ViewCommand, run};

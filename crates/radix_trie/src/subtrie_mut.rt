@@ -1,15 +1,18 @@
 //! Views for writing.
 ghost use Rattle.std.specs.FinMap as map;
 ghost use Rattle.std.specs.Prelude.{◌≡◌, ◌≢◌, ℕ, List, None, IsOk, IfOk, OnOk, IfErr, OnErr, IsErrAnd, Err, option_copied};
-ghost use Rattle.nibble_map.specs.Lists.{IsPrefix};
+ghost use Rattle.nibble_map.specs.Lists.{Each, IsPrefix};
+ghost use Rattle.nibble_map.specs.MapQueries.{AreKids, IsKid};
 ghost use Rattle.nibble_map.specs.Maps.{IsStored, value_at};
 ghost use Rattle.nibble_map.specs.Nibbles.{IsShort};
+ghost use Rattle.radix_trie.specs.Views.{paths_of};
 ghost use Rattle.radix_trie.specs.WriteViews.{map_behind, path_of, prefix_of, lender_of, SameView};
 
+use crate::iter::Children;
 use crate::place::{Place, begins};
 use crate::subtrie::{SubTrieError, SubTrieResult};
 use crate::trie::{InsertError, InsertWhy, Trie, encoding_of, refused};
-use radix_keys::{Nibblet, TrieKey};
+use radix_keys::{Memory, Nibblet, TrieKey};
 use radix_nodes::trie_node::KeyValue;
 
 /// A view for writing: a trie, and a path in it, at which a point stood when the view was made.
@@ -59,6 +62,35 @@ impl<'a, K: TrieKey, V> SubTrieMut<'a, K, V> {
         ensures path { result.path ≡ path_of self.now }
     {
         Place::find(self.trie, &self.path)
+    }
+
+    /// For each nibble in rising order, the view for reading at the shortest point that goes on from the path by it, with
+    /// its whole path. It takes no memory where each of these paths has at most 32 nibbles.
+    pub fn children(&self) -> Result<Children<'_, K, V>, Memory>
+        ensures kids { IfOk result (λ children. AreKids (map_behind self.now) (path_of self.now) (paths_of children)) }
+        ensures same_map { IfOk result (λ children. Each (λ c. c.map ≡ map_behind self.now) children) }
+        ensures short { ((q : List ℕ) → IsKid (map_behind self.now) (path_of self.now) q → IsShort q) → IsOk result }
+    {
+        self.place().children()
+    }
+
+    /// The path's fragment when the view was made.
+    pub(crate) fn fragment(&self) -> Result<Nibblet, Memory>
+        ensures fragment { IfOk result (λ f. f ≡ prefix_of self.now) }
+        ensures short { IsShort (prefix_of self.now) → IsOk result }
+    {
+        self.prefix.clone()
+    }
+
+    /// The trie, the path, and the path's fragment when the view was made. The view is spent: its reference for writing
+    /// becomes one for reading.
+    pub(crate) fn into_parts(self) -> (&'a Trie<K, V>, Nibblet, Nibblet)
+        ensures map { result.0.now ≡ map_behind self.entry }
+        ensures path { result.1 ≡ path_of self.entry }
+        ensures prefix { result.2 ≡ prefix_of self.entry }
+    {
+        let SubTrieMut { trie, path, prefix } = self;
+        (trie, path, prefix)
     }
 
     /// The value that the trie holds at the key's encoding, if there is one. Outside where the view's path isn't a prefix

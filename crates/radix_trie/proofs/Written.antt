@@ -1,5 +1,5 @@
 -- What a value that is written in its place does to the map, and to what the trie keeps.
-use Rattle.std.proofs.Common.{◌≡◌, ℕ, suc, ◌<◌, ◌^◌, List, [], ◌∷◌, ◌++◌, map, length, Option, Some, None, option_map, MatchOption, MutBor, refl, ap, sym, subst, ◌∙◌}
+use Rattle.std.proofs.Common.{◌≡◌, ◌⊎◌, inl, ℕ, suc, ◌<◌, ◌^◌, List, [], ◌∷◌, ◌++◌, map, length, Option, Some, option_map, MatchOption, MutBor, refl, ap, sym, subst, ◌∙◌}
 use Rattle.std.proofs.lemmas.List.{length-map}
 use Rattle.std.specs.FinMap as fin
 use Rattle.std.specs.Option.{IfSome}
@@ -18,8 +18,9 @@ use Rattle.radix_trie.proofs.Shown.{row_of, entries_shown}
 pub match_some : {A : Type 0} (o : Option A) (x : A) (P : Type 0) (Q : A → Type 0) → o ≡ Some x → Q x → MatchOption o P Q
 match_some o x P Q e q = rw e q
 
-pub match_none : {A : Type 0} (o : Option A) (P : Type 0) (Q : A → Type 0) → o ≡ None → P → MatchOption o P Q
-match_none o P Q e p = rw e p
+-- the same name with two functions that agree at each value
+pub same_after : {N A B C : Type 0} (n : N) (f g : A → B) → ((w : A) → f w ≡ g w) → ◌≡◌ {A = (N × (A → B)) ⊎ C} (inl (n, f)) (inl (n, g))
+same_after n f g e = λ i. inl (n, λ w. e w i)
 
 module _ {K V : Type 0} where
   -- what was written through the reference to the value at a list below the root

@@ -1,7 +1,7 @@
 -- What a trie ends as, once what was lent of it has ended.
-use Rattle.std.specs.Prelude.{◌≡◌, Result}
-use Rattle.std.specs.Borrow.{Fml, RattleType, MutBor, RestsIfErr}
-use Rattle.nibble_map.specs.Maps.{PairMap}
+use Rattle.std.specs.Prelude.{◌≡◌, ℕ, List, Option, Result}
+use Rattle.std.specs.Borrow.{Fml, RattleType, MutBor, LendsIf, LendsIfOk, RestsIfErr}
+use Rattle.nibble_map.specs.Maps.{PairMap, with_value}
 use Rattle.radix_keys.specs.declared.keys.TrieKey as keys
 use Rattle.radix_keys.specs.declared.nibbles.NibbleVec.{NibbleVec}
 use Rattle.radix_trie.specs.contracts.trie.Trie.{the_row}
@@ -16,3 +16,12 @@ module _ (K V : RattleType) (key : keys.Ghosts K.Denot) (eq : eqs.Ghosts K.Denot
   -- the trie ends as the view's trie does, and at `Err` it stays as it is
   abbrev pub rests_if_err : MutBor (PairMap K.Denot V.Denot) → {E : Type 0} → Result (SubTrieMut K.Denot V.Denot NibbleVec) E → Fml
   rests_if_err t r = RestsIfErr trie_row t lender_of r (λ n. n ≡ t.now)
+
+  module _ (t : MutBor (PairMap K.Denot V.Denot)) (e : List ℕ) where
+    -- the trie ends with the last value written through r at e, and at `None` it stays as it is
+    abbrev pub lends_at : Option (MutBor V.Denot) → Fml
+    lends_at r = LendsIf trie_row V t r (with_value t.now e) t.now
+
+    -- the same, at `Ok` and at `Err`
+    abbrev pub lends_if_ok : {E : Type 0} → Result (MutBor V.Denot) E → Fml
+    lends_if_ok r = LendsIfOk trie_row V t r (with_value t.now e) t.now

@@ -6,6 +6,7 @@ mod commands;
 mod counted;
 mod equality;
 pub mod iter;
+mod lends;
 mod opens;
 mod place;
 mod queries;
@@ -17,8 +18,11 @@ mod write_common;
 
 pub use building::BuildError;
 pub use commands::{Command, Reply, ViewCommand, run};
+pub use lends::FindError;
 pub use opens::OpenError;
-pub use radix_keys::{BytesError, Memory, NibbleVec, Nibblet, TrieKey};
+pub use radix_keys::{
+    BigEndian, BytesError, KeyInt, LittleEndian, Memory, NibbleVec, Nibblet, TrieKey,
+};
 pub use subtrie::{SubTrie, SubTrieError, SubTrieResult};
 pub use subtrie_mut::SubTrieMut;
 pub use trie::{InsertError, InsertWhy, Trie};

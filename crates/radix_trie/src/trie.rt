@@ -1,13 +1,15 @@
 //! The trie, as a map.
+ghost use Rattle.std.specs.Borrow.{sem};
 ghost use Rattle.std.specs.Prelude.{◌≡◌, ◌≢◌, ◌↔◌, ◌<◌, ◌^◌, ℕ, List, length, true, false, None, IsTrue, IsOk, IfOk, OnOk, IfErr, OnErr, IsErrAnd, MatchOption, option_copied, option_map};
 ghost use Rattle.std.specs.Fn.{FnOnceReturnsAtMut, FnOnceTakesAtMut};
-ghost use Rattle.std.specs.Option.{ForSome};
+ghost use Rattle.std.specs.Option.{ForSome, option_copied_mut};
 ghost use Rattle.std.specs.FinMap as map;
 ghost use Rattle.nibble_map.specs.KeptSame.{IsMapCopy, IsPairClone};
 ghost use Rattle.nibble_map.specs.Lists.{Counts};
 ghost use Rattle.nibble_map.specs.Maps.{IsStored, IsPoint, IsStem, value_at, with_value};
 ghost use Rattle.nibble_map.specs.Nibbles.{IsShort};
 ghost use Rattle.radix_nodes.specs.Nodes.{tree_of};
+ghost use Rattle.radix_trie.specs.Lends.{lends_at};
 ghost use Rattle.radix_trie.specs.Pairs.{pair_of};
 
 use radix_keys::{Memory, Nibblet, TrieKey};
@@ -151,6 +153,17 @@ impl<K: TrieKey, V> Trie<K, V> {
         }
     }
 
+    /// The value at a list of nibbles, for writing, if one is stored there. It takes no memory.
+    pub fn at_mut(&mut self, list: &Nibblet) -> Option<&mut V>
+        ensures* writes_back { sem 𝓛 (lends_at K.row V.row K.TrieKey.own K.PartialEq.own self.entry list.now result) }
+        ensures value { option_copied_mut result ≡ value_at self.old list.now }
+    {
+        match value_at_mut(&mut self.root, list) {
+            Some(value) => Some(value),
+            None => None,
+        }
+    }
+
     /// Whether as many pairs are stored as can be counted, and none at this list.
     fn has_no_room_for(&self, list: &Nibblet) -> bool
         ensures { IsTrue result ↔ ((map.len self.now ≡ usize.MAX) × (map.get self.now list.now ≡ None)) }
@@ -265,7 +278,7 @@ impl<K: TrieKey + Drop, V: Drop> Trie<K, V> {
         ensures { MatchOption (value_at self.old list.now) ((result ≡ false) × (self.new ≡ self.old))
             (λ v. (result ≡ true) × (w : V) × FnOnceReturnsAtMut F.FnOnce f v tt w × (self.new ≡ with_value self.old list.now w)) }
     {
-        match value_at_mut(&mut self.root, list) {
+        match self.at_mut(list) {
             Some(value) => {
                 f(value);
                 true

@@ -106,18 +106,6 @@ module _ {K X : Type 0} (R : K → K → Ordering) (o : IsTotalOrder R) where
     pub entries-remove : (m : FinMap R X) (p : K) → entries (remove m p) ≡ others p (entries m)
     entries-remove m p = ap entries (remove_is m p) ∙ entries-retain_keys m _
 
-  -- a new value at p keeps the order
-  below_revalued : (q : K) (before : List (K × X)) (p : K) (w x : X) (after : List (K × X)) → T (below_all R q (before ++ (p, w) ∷ after)) → T (below_all R q (before ++ (p, x) ∷ after))
-  below_revalued q [] p w x after h = h
-  below_revalued q (e ∷ es) p w x after h = both _ _ (first _ _ h) (below_revalued q es p w x after (second _ _ h))
-
-  sorted_revalued : (before : List (K × X)) (p : K) (w x : X) (after : List (K × X)) → IsSortedList (before ++ (p, w) ∷ after) → IsSortedList (before ++ (p, x) ∷ after)
-  sorted_revalued [] p w x after h = h
-  sorted_revalued (e ∷ es) p w x after h = both _ _ (below_revalued e.0 es p w x after (first _ _ h)) (sorted_revalued es p w x after (second _ _ h))
-
-  pub sorted_swap : (p : K) (w x : X) (old new : List (K × X)) → Swaps ((p, w) ∷ []) ((p, x) ∷ []) old new → IsSortedList old → IsSortedList new
-  sorted_swap p w x old new s g = subst IsSortedList (sym s.is) (sorted_revalued s.before p w x s.after (subst IsSortedList s.was g))
-
   -- the map's answers
   pub insert_put : (p : K) (x : X) (old new : List (K × X)) → put R p x old ≡ new → IsSortedList old → from_sorted {R = R} new ≡ insert (from_sorted old) p x
   insert_put p x old new e g = same_entries_map _ _

@@ -1,16 +1,16 @@
 -- The slow answers are those of the relations.
-use Rattle.std.proofs.Common.{◌≡◌, ℕ, suc, ◌+◌, ◌≤◌, ◌≢◌, ◌⊎◌, ◌↔◌, ◌&&◌, ◌||◌, List, [], ◌∷◌, ◌++◌, filter, filter_map, Option, Some, None, Bool, cond, not, eqb, leb, length, drop, true, false, refl, ap, sym, subst, ◌∙◌, inl, inr, append_assoc, append-nil, length-append, arith, eq-eqb, unwrap_or}
+use Rattle.std.proofs.Common.{◌≡◌, ℕ, suc, ◌+◌, ◌≤◌, ◌≢◌, ◌⊎◌, ◌↔◌, ◌&&◌, ◌||◌, List, [], ◌∷◌, ◌++◌, filter, filter_map, Option, Some, None, Bool, cond, not, eqb, leb, length, drop, true, false, refl, ap, sym, subst, ◌∙◌, inl, inr, append_assoc, length-append, arith, eq-eqb, unwrap_or}
 use Rattle.std.specs.Prelude.{MatchOption}
 use Rattle.std.specs.List.{cons_option}
 use Rattle.std.proofs.Math.Seq.{drop-nil, drop-append_seam}
 use Rattle.std.proofs.lemmas.Bool.{cases_Bool, cases_order, le-leb, lt-leb, eqb-true}
-use Rattle.nibble_map.specs.Lists.{IsPrefix, IsBefore, is_prefix, Has, IsRising, Lists}
+use Rattle.nibble_map.specs.Lists.{IsPrefix, IsBefore, is_prefix, Has, IsRising}
 use Rattle.nibble_map.specs.Stored.{stored, IsStored, IsReached, IsPoint, IsStem}
 use Rattle.nibble_map.specs.Queries.{IsLongest, IsShortest, IsAncestor, IsRawAncestor, IsRawDescendant, IsFragment, IsKid, AreKids, IsCompared}
 use Rattle.nibble_map.specs.Computed.{same, prefixes, points, is_point, longer, longest, shorter, shortest, ancestor, raw_ancestor, raw_descendant, parent, fragment, steps, kids, met, compared}
 use Rattle.nibble_map.proofs.Computed.{same_is, same_itself, is_point_true, true_is_point, prefixes_list, points_list, filter_has, has_filter, filter_rises}
-use Rattle.nibble_map.proofs.Parted.{prefix_of, is_prefix_true, prefix_itself, prefix_same, prefix_length, prefix_through, point_reached, reached_past, shortest_unique}
-use Rattle.nibble_map.proofs.Rising.{Each-from_has, before_under}
+use Rattle.nibble_map.proofs.Parted.{prefix_of, is_prefix_true, prefix_through, reached_past, shortest_unique}
+use Rattle.nibble_map.proofs.Rising.{Each-from_has}
 use Rattle.nibble_map.proofs.Stems.{no_cons}
 use Rattle.nibble_map.proofs.Unique.{Each-has}
 

@@ -1,5 +1,5 @@
 -- A path leads to one node.
-use Rattle.std.proofs.Common.{◌≡◌, ℕ, suc, ◌+◌, ◌≤◌, List, [], ◌∷◌, ◌++◌, refl, ap, sym, subst, ◌∙◌, arith, inl, inr}
+use Rattle.std.proofs.Common.{◌≡◌, ℕ, suc, List, ap, sym, subst, ◌∙◌, arith, inl, inr}
 use Rattle.nibble_map.specs.Trees.{first}
 use Rattle.nibble_map.specs.Kept.{Tree, Kids, none, more, IsPlaced, IsTreePlaced}
 use Rattle.nibble_map.specs.KeptPaths.{IsKidAt, IsNodeAt}

@@ -1,15 +1,14 @@
 -- Nodes by their paths, seen from a node and from its child.
-use Rattle.std.proofs.Common.{◌≡◌, ◌≢◌, ◌⊎◌, ℕ, zero, suc, ◌+◌, ◌<◌, ◌≤◌, max, cond, ◌==◌, List, [], ◌∷◌, ◌++◌, length, map, Option, Some, None, refl, ap, sym, subst, ◌∙◌, arith, inl, inr, append_assoc, append-nil, eq-eqb}
+use Rattle.std.proofs.Common.{◌≡◌, ◌≢◌, ℕ, zero, suc, ◌+◌, ◌≤◌, cond, ◌==◌, List, [], ◌∷◌, ◌++◌, length, Option, Some, None, refl, ap, sym, subst, ◌∙◌, arith, inl, inr, append_assoc, append-nil, eq-eqb}
 use Rattle.std.proofs.lemmas.Bool.Decides.{eqb_tells}
-use Rattle.std.proofs.lemmas.List.{length-append}
 use Rattle.nibble_map.specs.Lists.{Has, IsPrefix}
-use Rattle.nibble_map.specs.Stored.{stored, IsStored}
+use Rattle.nibble_map.specs.Stored.{IsStored}
 use Rattle.nibble_map.specs.Swaps.{entry}
 use Rattle.nibble_map.specs.Trees.{first}
 use Rattle.nibble_map.specs.Masks.{bit_of}
 use Rattle.nibble_map.specs.Kept.{Tree, Kids, none, more, IsAt, firsts, IsPlaced, IsTreePlaced, entries_in, entries_at}
-use Rattle.nibble_map.specs.KeptPaths.{IsKidAt, IsNodeAt, IsPath, IsHeld, IsStuck, reach}
-use Rattle.nibble_map.proofs.Cut.{cancel, cons_head}
+use Rattle.nibble_map.specs.KeptPaths.{IsKidAt, IsNodeAt, IsHeld, IsStuck, reach}
+use Rattle.nibble_map.proofs.Cut.{cancel}
 use Rattle.nibble_map.proofs.Shape.{headed}
 use Rattle.nibble_map.proofs.Members.{Has-left, Has-right, Has-cases}
 use Rattle.nibble_map.proofs.KeptKids.{at_after}

@@ -1,17 +1,11 @@
 -- The plain data of a kept tree and the tree of fragments.
-use Rattle.std.proofs.Common.{◌≡◌, ℕ, suc, ◌*◌, ◌≤◌, List, [], ◌∷◌, ◌++◌, length, Option, Some, None, ap, sym, subst, ◌∙◌, refl, arith}
-use Rattle.std.proofs.lemmas.List.{length-append, length-map}
+use Rattle.std.proofs.Common.{◌≡◌, ℕ, suc, List, [], ◌∷◌, ◌++◌, Option, Some, None, ap, sym, subst, ◌∙◌, refl}
 use Rattle.std.proofs.lemmas.List.Elements.{filter_map-append}
-use Rattle.nibble_map.specs.Lists.{IsRising, Lists, Counts}
-use Rattle.nibble_map.specs.Stored.{stored, IsPoint}
 use Rattle.nibble_map.specs.Swaps.{entry}
 use Rattle.nibble_map.specs.Trees as trees
 use Rattle.nibble_map.specs.Trees.{IsShaped, first, nodes_below, walked}
-use Rattle.nibble_map.specs.Kept.{Tree, Kids, none, more, plain, IsPlaced, IsTreePlaced, IsFullBelow, entries_in, entries_at, nodes_in}
-use Rattle.nibble_map.proofs.Unique.{tree_entries_rise}
-use Rattle.nibble_map.proofs.Points.{tree_points}
+use Rattle.nibble_map.specs.Kept.{Tree, Kids, none, more, plain, IsPlaced, IsTreePlaced, IsFullBelow, entries_in, entries_at}
 use Rattle.nibble_map.specs.Queries.{IsCompared}
-use Rattle.nibble_map.proofs.Sizes.{nodes_bound}
 use Rattle.nibble_map.proofs.Walked.{tree_compared}
 
 module _ {P : Type 0} where
@@ -29,12 +23,6 @@ module _ {P : Type 0} where
       ap (λ es. (q ++ f, x) ∷ es) (filter_map-append _ (nodes_below (q ++ f) (plain kids)) (nodes_below q (plain others))
       ∙ (λ i. entries_below (q ++ f) kids i ++ entries_below q others i))
 
-  pub nodes_length : (q : List ℕ) (k : Kids P) → length (nodes_below q (plain k)) ≡ nodes_in k
-  nodes_length q none = refl
-  nodes_length q (more f o m kids others) =
-      let a = length-append (nodes_below (q ++ f) (plain kids)) (nodes_below q (plain others)) in
-      let b = nodes_length (q ++ f) kids in let c = nodes_length q others in omega (arith, a, b, c)
-
   abbrev pub points_tree : Tree P → trees.Tree P
   points_tree t = record { top = t.pair; kids = plain t.kids }
 
@@ -44,22 +32,6 @@ module _ {P : Type 0} where
       go : (o : Option P) → trees.entries (trees.nodes (record { top = o; kids = plain t.kids })) ≡ entry [] o ++ entries_in [] t.kids
       go None = entries_below [] t.kids
       go (Some x) = ap (λ es. ([], x) ∷ es) (entries_below [] t.kids)
-
-  pub entries_rise : (t : Tree P) → t.fragment ≡ [] → IsTreePlaced t → IsFullBelow t → IsRising (stored (entries_at [] t))
-  entries_rise t e h f = subst (λ es. IsRising (stored es)) (entries_same t e) (tree_entries_rise (points_tree t) (shaped 0 t.kids h.1 f))
-
-  -- the nodes are the points
-  pub nodes_are_points : (t : Tree P) → t.fragment ≡ [] → IsTreePlaced t → IsFullBelow t → Counts (IsPoint (entries_at [] t)) (suc (nodes_in t.kids))
-  nodes_are_points t e h f = record {
-    list = trees.paths (trees.nodes (points_tree t));
-    lists = subst (λ es. Lists (IsPoint es) (trees.paths (trees.nodes (points_tree t)))) (entries_same t e) (tree_points (points_tree t) (shaped 0 t.kids h.1 f));
-    length_is = length-map (trees.nodes (points_tree t)) (λ n. n.path) ∙ ap suc (nodes_length [] t.kids);
-  }
-
-  pub nodes_few : (t : Tree P) → t.fragment ≡ [] → IsTreePlaced t → IsFullBelow t → nodes_in t.kids ≤ 2 * length (entries_at [] t)
-  nodes_few t e h f =
-      let few = nodes_bound (points_tree t) (shaped 0 t.kids h.1 f) in
-      let a = nodes_length [] t.kids in let b = ap length (entries_same t e) in omega (arith, few, a, b)
 
   -- what a search compares
   pub searched : (t : Tree P) → t.fragment ≡ [] → IsTreePlaced t → IsFullBelow t → (e : List ℕ) → IsCompared (entries_at [] t) e (walked (plain t.kids) e)

@@ -1,18 +1,18 @@
 -- The longest and the shortest paths of a kept tree, from a child's to its parent's.
-use Rattle.std.proofs.Common.{◌≡◌, ◌≢◌, ◌⊎◌, ℕ, zero, suc, ◌+◌, ◌-◌, ◌<◌, ◌≤◌, cond, eqb, List, [], ◌∷◌, ◌++◌, length, take, drop, Some, None, IsSome, refl, ap, sym, subst, ◌∙◌, arith, inl, inr, append_assoc, append-nil, eq-eqb, ne_eqb}
+use Rattle.std.proofs.Common.{◌≡◌, ◌≢◌, ◌⊎◌, ℕ, zero, suc, ◌+◌, ◌<◌, ◌≤◌, List, [], ◌∷◌, ◌++◌, length, take, refl, ap, sym, subst, ◌∙◌, arith, inl, inr, append_assoc, append-nil, eq-eqb, ne_eqb}
 use Rattle.std.proofs.lemmas.List.{length-append}
 use Rattle.std.proofs.lemmas.Bool.Decides.{eqb_tells}
 use Rattle.nibble_map.specs.Lists.{IsPrefix}
 use Rattle.nibble_map.specs.Answers.{IsLongest, IsShortest}
 use Rattle.nibble_map.specs.Agreement.{Agrees}
-use Rattle.nibble_map.specs.Trees.{Forest, first, along, walked}
+use Rattle.nibble_map.specs.Trees.{first, along, walked}
 use Rattle.nibble_map.specs.Masks.{bit_of}
 use Rattle.nibble_map.specs.Kept.{Tree, Kids, none, more, plain, IsAt, firsts, IsPlaced, IsTreePlaced}
-use Rattle.nibble_map.specs.KeptPaths.{IsKidAt, IsNodeAt, IsPath, IsHeld, IsStuck}
-use Rattle.nibble_map.proofs.Cut.{cancel, cons_head, cons_tail}
+use Rattle.nibble_map.specs.KeptPaths.{IsPath, IsHeld, IsStuck}
+use Rattle.nibble_map.proofs.Cut.{cancel}
 use Rattle.nibble_map.proofs.Agreement.{agrees_part}
 use Rattle.nibble_map.proofs.KeptKids.{at_after}
-use Rattle.nibble_map.proofs.KeptPaths.{begins, kid_headed, at_up, kid_down, held_node, node_held, held_down, stuck_gap}
+use Rattle.nibble_map.proofs.KeptPaths.{begins, kid_headed, at_up, kid_down, held_node, node_held, held_down}
 
 pub prefix_below : (f x r : List ℕ) → IsPrefix (f ++ x) (f ++ r) → IsPrefix x r
 prefix_below f x r p = (p.0, cancel f r (x ++ p.0) (p.1 ∙ append_assoc f x p.0))

@@ -100,13 +100,6 @@ rank_most (x ∷ xs) y = elim (leb_tells (suc x) y) [
   | inr u ↦ rw u.0 (omega arith)
 ]
 
--- beside one number
-pub beside_after : (a y : ℕ) → a < y → IsPlaceOf y (a ∷ []) (Err 1)
-beside_after a y l = (rw (eqb_other a y (λ e. omega (arith, e, l))) refl, rw (lt-ltb a y l) refl)
-
-pub beside_before : (a y : ℕ) → a ≢ y → y ≤ a → IsPlaceOf y (a ∷ []) (Err 0)
-beside_before a y n l = (rw (eqb_other a y n) refl, rw (le-ltb a y l) refl)
-
 -- a mask with a bit cleared is that of a list without that number
 pub cleared_is : (m y n : ℕ) (xs : List ℕ) → y < 16 → m < 2 ^ 16 → IsMask m xs → bit_at (cleared m y) n ≡ cond (y == n) 0 (bit_of n xs)
 cleared_is m y n xs low fits is = elim (eqb_tells y n) [

@@ -1,5 +1,5 @@
 -- Points and answers depend on the stored lists alone.
-use Rattle.std.proofs.Common.{◌≡◌, ℕ, ◌≢◌, ◌⊎◌, ◌↔◌, List, [], Option, Some, None, inl, inr}
+use Rattle.std.proofs.Common.{ℕ, List, Option, Some, None, inl, inr}
 use Rattle.nibble_map.specs.Lists.{Lists}
 use Rattle.nibble_map.specs.Points.{IsReached, IsParting, IsPoint, IsStem}
 use Rattle.nibble_map.specs.Answers.{IsLongest, IsShortest, IsAncestor, IsRawAncestor, IsRawDescendant, IsFragment, IsKid, AreKids, IsCompared}

@@ -1,5 +1,5 @@
 -- A map has one canonical tree.
-use Rattle.std.proofs.Common.{◌≡◌, ℕ, ◌≤◌, ◌*◌, ◌↔◌, List, [], ◌∷◌, length, max, Option, Some, None, option_map, refl, sym, ap, subst, ◌∙◌, inl, inr, nat_cmp}
+use Rattle.std.proofs.Common.{◌≡◌, ℕ, ◌≤◌, ◌*◌, ◌↔◌, List, [], ◌∷◌, length, max, Option, Some, None, option_map, refl, sym, ap, subst, ◌∙◌, inl, nat_cmp}
 use Rattle.std.specs.List.{cons_option}
 use Rattle.std.specs.Cmp.Lexicographic.{slice_cmp}
 use Rattle.std.specs.FinMap as map

@@ -1,7 +1,7 @@
 -- Trees with the same stored lists have the same paths and fragments.
-use Rattle.std.proofs.Common.{◌≡◌, ℕ, ◌≢◌, ◌↔◌, List, [], ◌∷◌, ◌++◌, length, refl, ap, sym, subst, ◌∙◌, inl, inr, arith}
-use Rattle.nibble_map.specs.Lists.{IsPrefix, Each}
-use Rattle.nibble_map.specs.Stored.{IsStored, IsPoint}
+use Rattle.std.proofs.Common.{◌≡◌, ℕ, ◌↔◌, List, [], ◌∷◌, refl, sym, subst}
+use Rattle.nibble_map.specs.Lists.{Each}
+use Rattle.nibble_map.specs.Stored.{IsStored}
 use Rattle.nibble_map.specs.Queries.{IsFragment}
 use Rattle.nibble_map.specs.Trees.{Tree, Node, nodes, paths, entries, IsShaped, parts_of}
 use Rattle.nibble_map.proofs.Moves.{point_moves, fragment_moves}

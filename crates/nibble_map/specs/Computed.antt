@@ -1,5 +1,5 @@
 -- The same by slow functions over a map's entries, for worked rows.
-use Rattle.std.specs.Prelude.{ℕ, ◌+◌, suc, Bool, cond, not, ◌&&◌, ◌||◌, eqb, leb, List, [], ◌∷◌, ◌++◌, map, length, drop, filter, filter_map, flat_map, Option, Some, None, unwrap_or, ⊤}
+use Rattle.std.specs.Prelude.{ℕ, ◌+◌, suc, Bool, cond, not, ◌&&◌, ◌||◌, eqb, leb, List, [], ◌∷◌, map, length, drop, filter, filter_map, flat_map, Option, Some, None, unwrap_or, ⊤}
 use Rattle.std.specs.List.{list_any}
 use Rattle.std.specs.Ordering.{nat_cmp, eq_by_cmp}
 use Rattle.std.specs.Cmp.Lexicographic.{slice_cmp}

@@ -110,7 +110,7 @@ next_is (c ∷ p) (b ∷ e) a h = elim (cases_eq c b) [
   | inr n ↦ absurd (let i : None ≡ Some a = rw (ne_eqb c b n) at h in cc i)
 ]
 
-is_next : (p e : List ℕ) (a : ℕ) → IsPrefix (p ++ a ∷ []) e → next_after p e ≡ Some a
+pub is_next : (p e : List ℕ) (a : ℕ) → IsPrefix (p ++ a ∷ []) e → next_after p e ≡ Some a
 is_next [] [] a (r, e) = absurd (no_cons [] a r (sym e))
 is_next [] (b ∷ e) a (r, k) = ap (λ c. Some c) (cons_head k)
 is_next (c ∷ p) [] a (r, k) = absurd (no_cons [] c ((p ++ a ∷ []) ++ r) (sym k))

@@ -24,7 +24,7 @@ abbrev pub Stem : {P : Type 0} → Forest P → List ℕ → Type 0
 Stem bare x = ⊥
 Stem (grow f o kids others) x = ((x ≢ []) × IsPrefix x f) ⊎ (Under f (Stem kids) x ⊎ Stem others x)
 
-run_length : (q f : List ℕ) → length (run q f) ≡ length f
+pub run_length : (q f : List ℕ) → length (run q f) ≡ length f
 run_length q [] = refl
 run_length q (a ∷ f) = ap suc (run_length (q ++ a ∷ []) f)
 
@@ -44,14 +44,14 @@ pub no_cons : (z : List ℕ) (d : ℕ) (w : List ℕ) → z ++ d ∷ w ≡ [] �
 no_cons [] d w e = cc
 no_cons (v ∷ z) d w e = cc
 
-run_gives : (q f p : List ℕ) → Has (run q f) p → (x : List ℕ) × (p ≡ q ++ x) × (x ≢ []) × IsPrefix x f
+pub run_gives : (q f p : List ℕ) → Has (run q f) p → (x : List ℕ) × (p ≡ q ++ x) × (x ≢ []) × IsPrefix x f
 run_gives q [] p h = absurd h
 run_gives q (a ∷ f) p (inl e) = (a ∷ [], e, no_cons [] a [], (f, refl))
 run_gives q (a ∷ f) p (inr h) =
     let r = run_gives (q ++ a ∷ []) f p h in
     (a ∷ r.0, r.1 ∙ append_assoc q (a ∷ []) r.0, no_cons [] a r.0, (r.3.0, ap (λ l. a ∷ l) r.3.1))
 
-gives_run : (q f x : List ℕ) → x ≢ [] → IsPrefix x f → Has (run q f) (q ++ x)
+pub gives_run : (q f x : List ℕ) → x ≢ [] → IsPrefix x f → Has (run q f) (q ++ x)
 gives_run q f [] n r = absurd (n refl)
 gives_run q [] (a ∷ x) n (r, e) = absurd (no_cons [] a (x ++ r) (sym e))
 gives_run q (b ∷ f) (a ∷ []) n (r, e) = inl (ap (λ c. q ++ c ∷ []) (sym (cons_head e)))
@@ -121,7 +121,7 @@ Stem-headed low (grow f o kids others) x s (inl (n, (r, e))) = by_x x n e
     by_x [] n e = absurd (n refl)
     by_x (a ∷ x) n e = (a, x, refl, subst (λ g. low ≤ first g) e s.1)
 
-run_rising : (q f : List ℕ) → IsRising (run q f)
+pub run_rising : (q f : List ℕ) → IsRising (run q f)
 run_rising q [] = tt
 run_rising q (a ∷ f) = (Each-from_has (IsBefore (q ++ a ∷ [])) (run (q ++ a ∷ []) f) later, run_rising (q ++ a ∷ []) f)
   where
@@ -143,7 +143,7 @@ before_past [] [] a w = tt
 before_past [] (b ∷ r) a w = tt
 before_past (b ∷ x) r a w = inr (refl, before_past x r a w)
 
-before_past_of : (f x r : List ℕ) (a : ℕ) (w : List ℕ) → f ≡ x ++ r → IsBefore x (f ++ a ∷ w)
+pub before_past_of : (f x r : List ℕ) (a : ℕ) (w : List ℕ) → f ≡ x ++ r → IsBefore x (f ++ a ∷ w)
 before_past_of f x r a w e = rw e (before_past x r a w)
 
 stems_rising : {P : Type 0} (low : ℕ) (q : List ℕ) (k : Forest P) → IsShaped low k → IsRising (stems q k)

@@ -1,5 +1,5 @@
 -- Worked examples: small maps from nibble lists to numbers, by their entries.
-use Rattle.std.specs.Prelude.{ℕ, not, List, [], ◌∷◌, ◌++◌, codes, map, replicate, Option}
+use Rattle.std.specs.Prelude.{ℕ, zero, suc, not, List, [], ◌∷◌, ◌++◌, codes, map, replicate, Option}
 use Rattle.std.specs.Ordering.{nat_cmp}
 use Rattle.std.specs.Cmp.Lexicographic.{slice_cmp}
 use Rattle.std.specs.FinMap as finite
@@ -95,3 +95,8 @@ long_twins = inserted [] (text (letters_a 15 ++ 98 ∷ []) 1 ∷ text (letters_a
 
 abbrev pub short_and_long : Entries
 short_and_long = inserted [] (text (codes "ab") 1 ∷ text (letters_a 17) 2 ∷ [])
+
+-- n texts in turn, each with one letter more: a, aa, aaa, ..
+abbrev pub chain : ℕ → Entries
+chain zero = []
+chain (suc n) = chain n ++ text (letters_a (suc n)) (suc n) ∷ []

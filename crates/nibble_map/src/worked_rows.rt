@@ -4,9 +4,9 @@ ghost use Rattle.nibble_map.specs.Computed.{ancestor, compared, footprint, fragm
 ghost use Rattle.nibble_map.specs.Maps.{NibbleMap};
 ghost use Rattle.nibble_map.specs.Nibbles.{nibbles};
 ghost use Rattle.nibble_map.specs.Queries.{below};
-ghost use Rattle.nibble_map.specs.Rows.{inserted, insert_all, removed, number_at, values, text, nothing, nested_texts, a_abc_abd, abc_abd, ab_and_a_half, abc_abcdef, aba_abb_abc_z, abcz_abca, two_bytes, signed_bytes, low_bytes_first, umlauts, wow_hella_hellb, odd_nibbles, letters_a, long_twins, short_and_long};
+ghost use Rattle.nibble_map.specs.Rows.{inserted, insert_all, removed, number_at, values, text, nothing, nested_texts, a_abc_abd, abc_abd, ab_and_a_half, abc_abcdef, aba_abb_abc_z, abcz_abca, two_bytes, signed_bytes, low_bytes_first, umlauts, wow_hella_hellb, odd_nibbles, letters_a, long_twins, short_and_long, chain};
 ghost use Rattle.std.specs.FinMap as map;
-ghost use Rattle.std.specs.Prelude.{[], ◌++◌, ◌∷◌, ◌≡◌, codes, false, length, List, map as each, None, Some, sum, take, true, ℕ};
+ghost use Rattle.std.specs.Prelude.{[], ◌++◌, ◌∷◌, ◌≡◌, ◌*◌, suc, codes, false, length, List, map as each, None, Some, sum, take, true, ℕ};
 
 /// The rows' lists of entries are those of maps after insertions and removals.
 pub fn rows_are_maps()
@@ -247,6 +247,15 @@ pub fn odd_nibbles_partition()
     ensures compared { compared odd_nibbles (1 ∷ 2 ∷ 5 ∷ []) ≡ 2 }
     ensures absent { removed (1 ∷ 2 ∷ []) odd_nibbles ≡ odd_nibbles }
     ensures removed { footprint (removed (1 ∷ 2 ∷ 4 ∷ []) odd_nibbles) ≡ (4, 5) }
+{}
+
+/// A chain of n texts, each with one letter more, has the empty list and the texts as its points, and a prefix for each nibble of
+/// the longest: 1,001 points and 2,000 prefixes of 1,000 texts.
+pub fn chain_of_texts()
+    ensures inserted { (n : ℕ) → inserted [] (chain n) ≡ chain n }
+    ensures points { (n : ℕ) → points (chain n) ≡ [] ∷ each (λ e. e.0) (chain n) }
+    ensures footprint { (n : ℕ) → footprint (chain n) ≡ (suc n, 2 * n) }
+    ensures thousand { footprint (chain 1000) ≡ (1001, 2000) }
 {}
 
 /// The first two of the nested texts' walk.

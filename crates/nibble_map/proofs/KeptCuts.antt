@@ -5,8 +5,9 @@ use Rattle.std.proofs.lemmas.Bool.Decides.{eqb_tells}
 use Rattle.nibble_map.specs.Trees.{IsFull, first}
 use Rattle.nibble_map.specs.Swaps.{Swaps, entry}
 use Rattle.nibble_map.specs.Masks.{bit_of}
-use Rattle.nibble_map.specs.Kept.{Tree, Kids, none, more, IsAt, plain, firsts, IsPlaced, IsTreePlaced, IsTreeFull, entries_in, entries_at, nodes_in, nibbles_in, remove_kid, without_pair, without_kid, IsOne, merged_into, merged}
-use Rattle.nibble_map.specs.Alters.{AltersKid, AltersRoot, AltersNode, CutsRoot}
+use Rattle.nibble_map.specs.Kept.{Tree, Kids, none, more, IsAt, plain, firsts, IsPlaced, IsTreePlaced, IsTreeFull, entries_in, entries_at, nodes_in, nibbles_in}
+use Rattle.nibble_map.specs.KeptEdits.{remove_kid, without_pair, without_kid, IsOne, merged_into, merged}
+use Rattle.nibble_map.specs.Alters.{AltersKid, AltersRoot, CutsRoot}
 use Rattle.nibble_map.proofs.Masks.{cleared_is, bit_before, eqb_other}
 use Rattle.nibble_map.proofs.KeptKids.{swaps_after, placed_rises, at_after}
 

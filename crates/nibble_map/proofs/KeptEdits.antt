@@ -4,7 +4,8 @@ use Rattle.std.proofs.lemmas.List.{length-append}
 use Rattle.nibble_map.specs.Trees.{AreMany, IsFull, first}
 use Rattle.nibble_map.specs.Swaps.{Swaps, entry}
 use Rattle.nibble_map.specs.Masks.{IsMask, IsPlaceOf, marked}
-use Rattle.nibble_map.specs.Kept.{Tree, Kids, none, more, IsAt, insert_kid, plain, firsts, IsPlaced, IsTreePlaced, entries_in, entries_at, with_pair, with_kid, with_new_kid, leaf, lowered}
+use Rattle.nibble_map.specs.Kept.{Tree, Kids, none, more, IsAt, plain, firsts, IsPlaced, IsTreePlaced, entries_in, entries_at}
+use Rattle.nibble_map.specs.KeptEdits.{insert_kid, with_pair, with_kid, with_new_kid, leaf, lowered}
 use Rattle.nibble_map.specs.Alters.{AltersKid, AltersNode, Replaces, Edits}
 use Rattle.nibble_map.proofs.Masks.{marked_is, none_is_mask}
 use Rattle.nibble_map.proofs.KeptKids.{swaps_after, set_firsts, set_placed, set_full, set_many, set_swaps, set_nodes, set_nibbles, at_placed, insert_bits, insert_placed, insert_full, insert_many, insert_swaps, insert_nodes, insert_nibbles}

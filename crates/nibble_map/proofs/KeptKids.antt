@@ -5,7 +5,8 @@ use Rattle.std.proofs.lemmas.Bool.Decides.{eqb_tells, leb_tells}
 use Rattle.nibble_map.specs.Trees.{AreMany, IsFull, first}
 use Rattle.nibble_map.specs.Swaps.{Swaps, entry}
 use Rattle.nibble_map.specs.Masks.{IsRisingFrom, bit_of, rank}
-use Rattle.nibble_map.specs.Kept.{Tree, Kids, none, more, front, IsAt, set_kid, insert_kid, plain, firsts, IsPlaced, IsTreePlaced, IsTreeFull, entries_in, entries_at, nodes_in, nibbles_in}
+use Rattle.nibble_map.specs.Kept.{Tree, Kids, none, more, front, IsAt, plain, firsts, IsPlaced, IsTreePlaced, IsTreeFull, entries_in, entries_at, nodes_in, nibbles_in}
+use Rattle.nibble_map.specs.KeptEdits.{set_kid, insert_kid}
 use Rattle.nibble_map.proofs.Masks.{bit_before}
 
 module _ {A : Type 0} where

@@ -13,6 +13,7 @@ pub mod Computed
 pub mod Rows
 pub mod Masks
 pub mod Kept
+pub mod KeptEdits
 pub mod KeptSame
 pub mod Alters
 pub mod KeptPaths

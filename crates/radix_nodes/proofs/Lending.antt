@@ -14,7 +14,8 @@ use Rattle.nibble_map.proofs.KeptPaths.{held_node, one_node}
 use Rattle.radix_nodes.specs.declared.trie_node.KeyValue.{KeyValue}
 use Rattle.radix_nodes.specs.declared.trie_node.TrieNode.{TrieNode, out-TrieNode, roll-TrieNode}
 use Rattle.radix_nodes.specs.Nodes.{tree_of, fragment_of, unboxed, IsStep}
-use Rattle.radix_nodes.specs.Lending.{IsSameKey, IsRevalued, Replaces, Revalues, keyed, keys_of, IsLike, IsKept, KeepsNode, OnNone, write_value, IsLentPair, with_child}
+use Rattle.radix_nodes.specs.Lending.{IsSameKey, IsRevalued, Replaces, Revalues, keyed, keys_of, IsLike, IsKept, KeepsNode, OnNone}
+use Rattle.radix_nodes.specs.Loans.{write_value, IsLentPair, with_child}
 use Rattle.radix_nodes.proofs.Nodes.{pair_is, pair_out, fragment_out}
 use Rattle.radix_nodes.proofs.Removes.{kid_new, kid_kept}
 use Rattle.radix_nodes.proofs.Steps.{step_kid}

@@ -9,7 +9,8 @@ use Rattle.radix_nodes.specs.declared.trie_node.KeyValue.{KeyValue}
 use Rattle.radix_nodes.specs.declared.trie_node.TrieNode.{TrieNode, out-TrieNode, roll-TrieNode, out-roll-TrieNode}
 use Rattle.radix_nodes.specs.declared.trie_node.TrieNode.TheOpen.{TrieNode-F}
 use Rattle.radix_nodes.specs.declared.trie_node.TrieNode.TheFolds.{fold-roll-TrieNode, fold_out-TrieNode}
-use Rattle.nibble_map.specs.Kept.{Tree, none, join, front, IsAt, set_kid, insert_kid, empty, with_new_kid, lowered, leaf}
+use Rattle.nibble_map.specs.Kept.{Tree, none, join, front, IsAt}
+use Rattle.nibble_map.specs.KeptEdits.{set_kid, insert_kid, empty, with_new_kid, lowered, leaf}
 use Rattle.nibble_map.specs.Masks.{marked}
 use Rattle.nibble_map.specs.Trees.{first}
 use Rattle.radix_nodes.specs.Nodes.{unboxed, tree_of, tree_step, kids_of, fragment_of, IsUpper}

@@ -7,7 +7,8 @@ use Rattle.nibble_map.specs.Trees.{AreMany, first}
 use Rattle.radix_nodes.specs.declared.trie_node.KeyValue.{KeyValue}
 use Rattle.radix_nodes.specs.declared.trie_node.TrieNode.{TrieNode, out-TrieNode, roll-TrieNode, out-roll-TrieNode}
 use Rattle.nibble_map.specs.Masks.{cleared}
-use Rattle.nibble_map.specs.Kept.{Tree, Kids, none, more, front, plain, IsAt, IsOne, IsTreePlaced, IsTreeFull, remove_kid, without_pair, without_kid, merged, merged_into, firsts, set_kid, with_kid}
+use Rattle.nibble_map.specs.Kept.{Tree, Kids, none, more, front, plain, IsAt, IsTreePlaced, IsTreeFull, firsts}
+use Rattle.nibble_map.specs.KeptEdits.{IsOne, remove_kid, without_pair, without_kid, merged, merged_into, set_kid, with_kid}
 use Rattle.nibble_map.specs.Alters.{Cuts, CutsRoot}
 use Rattle.radix_nodes.specs.Nodes.{unboxed, tree_of, kids_of, fragment_of, CutOutcome, RootOutcome}
 use Rattle.radix_nodes.specs.declared.traversal.remove.Taken.{Taken}

@@ -17,7 +17,8 @@ use Rattle.nibble_map.proofs.Agreement.{agrees_some, agrees_whole, agrees_off}
 use Rattle.radix_nodes.specs.declared.traversal.compare.Agreement.{Agreement}
 use Rattle.nibble_map.proofs.Cut.{cancel}
 use Rattle.nibble_map.proofs.KeptPaths.{begins, own_free, own_held, held_node, held_up, held_down, stuck_unheld, stuck_gap, stuck_kid}
-use Rattle.nibble_map.specs.Kept.{Tree, IsAt, set_kid, firsts, IsTreePlaced, with_pair, with_kid, with_new_kid, leaf, lowered}
+use Rattle.nibble_map.specs.Kept.{Tree, IsAt, firsts, IsTreePlaced}
+use Rattle.nibble_map.specs.KeptEdits.{set_kid, with_pair, with_kid, with_new_kid, leaf, lowered}
 use Rattle.nibble_map.specs.Alters.{Replaces, Edits}
 use Rattle.radix_nodes.specs.Nodes.{unboxed, tree_of, kids_of, fragment_of, IsMet, IsStep, EditOutcome, ReplaceOutcome, SetOutcome}
 use Rattle.radix_nodes.proofs.Nodes.{pair_is, kids_are, kids_at, kids_set, kids_out, pair_out, mask_out, fragment_out}

@@ -4,7 +4,7 @@ ghost use Rattle.std.specs.Borrow.{sem};
 ghost use Rattle.nibble_map.specs.Kept.{IsTreePlaced};
 ghost use Rattle.nibble_map.specs.KeptPaths.{IsStuck};
 ghost use Rattle.radix_nodes.specs.Nodes.{tree_of, fragment_of, out_of, IsStep};
-ghost use Rattle.radix_nodes.specs.Lending.{LendsChildBox, LendsUnboxed, LendsPair, LendsNode, LendsValue, IsLentPair};
+ghost use Rattle.radix_nodes.specs.Loans.{LendsChildBox, LendsUnboxed, LendsPair, LendsNode, LendsValue, IsLentPair};
 
 use crate::traversal::step::step;
 use crate::trie_node::{KeyValue, TrieNode};

@@ -1,6 +1,6 @@
 //! Nodes.
 ghost use Rattle.std.specs.Prelude.{◌≡◌, ◌<◌, IsSome, None, MatchBool, vec_len};
-ghost use Rattle.nibble_map.specs.Kept.{empty};
+ghost use Rattle.nibble_map.specs.KeptEdits.{empty};
 ghost use Rattle.radix_nodes.specs.Nodes.{tree_of, out_of, unboxed};
 
 pub mod links;

@@ -2,7 +2,7 @@ use Rattle.std.proofs.Common.{◌<◌, ◌∙◌, ◌∷◌, [], refl, sym, ap, 
 use Rattle.std.proofs.Math.Seq.{drop-length}
 use Rattle.nibble_map.specs.Trees.{first}
 use Rattle.nibble_map.specs.Masks.{IsPlaceOf}
-use Rattle.nibble_map.specs.Kept.{with_pair}
+use Rattle.nibble_map.specs.KeptEdits.{with_pair}
 use Rattle.radix_nodes.specs.Nodes.{tree_of, fragment_of}
 use Rattle.radix_nodes.proofs.Nodes.{pair_is, fragment_out}
 use Rattle.radix_nodes.proofs.Steps.{here_step, beside_step, parted_free}

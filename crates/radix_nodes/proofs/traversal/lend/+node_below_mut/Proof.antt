@@ -58,7 +58,8 @@ use Rattle.radix_keys.proofs.nibbles.NibbleVec.TheLaws.{the_row_laws as list_law
 use Rattle.radix_nodes.proofs.Lending.{if_some, child_replaced, child_kept}
 use Rattle.radix_nodes.proofs.Steps.{kid_placed}
 use Rattle.radix_nodes.specs.Nodes.{tree_of, fragment_of, IsStep}
-use Rattle.radix_nodes.specs.Lending.{LendsChildBox, LendsUnboxed, LendsNode, Replaces, KeepsNode, node_box, with_child}
+use Rattle.radix_nodes.specs.Lending.{Replaces, KeepsNode}
+use Rattle.radix_nodes.specs.Loans.{LendsChildBox, LendsUnboxed, LendsNode, node_box, with_child}
 use Rattle.radix_nodes.specs.declared.trie_node.TrieNode.{TrieNode, out-TrieNode}
 use Rattle.radix_nodes.specs.contracts.trie_node.TrieNode.{the_row}
 use Rattle.radix_nodes.specs.contracts.traversal.lend.node_below_mut as f

@@ -4,7 +4,8 @@ use Rattle.nibble_map.specs.Kept.{Tree}
 use Rattle.nibble_map.specs.KeptPaths.{IsNodeAt}
 use Rattle.radix_nodes.specs.declared.trie_node.TrieNode.{TrieNode, out-TrieNode}
 use Rattle.radix_nodes.specs.declared.trie_node.KeyValue.{KeyValue}
-use Rattle.radix_nodes.specs.Lending.{Replaces, OnNone, with_child}
+use Rattle.radix_nodes.specs.Lending.{Replaces, OnNone}
+use Rattle.radix_nodes.specs.Loans.{with_child}
 use Rattle.radix_nodes.specs.Nodes.{tree_of, fragment_of}
 use Rattle.radix_nodes.proofs.Lending.{own_replaced, child_replaced, child_kept, value_like, value_written, value_kept, lacks, none_lacks, unchanged}
 use Rattle.radix_nodes.proofs.Steps.{kid_placed, stuck_lacks}

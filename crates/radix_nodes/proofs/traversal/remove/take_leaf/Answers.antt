@@ -2,7 +2,7 @@ use Rattle.std.proofs.Common.{◌++◌, ◌∙◌, ◌⊎◌, ◌≢◌, ◌≡�
 use Rattle.radix_nodes.proofs.Steps.{kid_placed, kid_free, kid_held, free_here, held_here}
 use Rattle.nibble_map.specs.Trees.{first}
 use Rattle.radix_nodes.specs.declared.trie_node.TrieNode.{out-TrieNode}
-use Rattle.nibble_map.specs.Kept.{IsOne, merged, remove_kid}
+use Rattle.nibble_map.specs.KeptEdits.{IsOne, merged, remove_kid}
 use Rattle.radix_nodes.specs.Nodes.{tree_of, fragment_of, unboxed}
 use Rattle.radix_nodes.proofs.Nodes.{fragment_out, pair_out}
 use Rattle.radix_nodes.proofs.Removes.{merged_fragment, long_path, leaf_path, one_kid, other_at, firsts_are, held, leaf_cut, leaf_cut_merged, kept_full}

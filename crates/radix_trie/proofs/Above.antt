@@ -1,57 +1,67 @@
--- The value of the nearest pair above a list.
-use Rattle.std.proofs.Common.{◌≡◌, ℕ, List, [], ◌++◌, drop, map, Option, Some, None, option_map, refl, ap, sym, subst, ◌∙◌}
-use Rattle.std.proofs.lemmas.Simd.{map-map}
-use Rattle.std.specs.FinMap as fin
+-- The nearest pair, and the nearest point, above a list.
+use Rattle.std.proofs.Common.{◌≡◌, ℕ, ◌-◌, List, ◌++◌, drop, take, None, option_map, Some, refl, ap, subst, ◌∙◌, sym, arith}
 use Rattle.nibble_map.specs.Answers.{IsLongest}
-use Rattle.nibble_map.specs.Kept.{entries_at}
-use Rattle.nibble_map.specs.KeptPaths.{IsHeld}
+use Rattle.nibble_map.specs.Kept.{Tree, entries_at}
+use Rattle.nibble_map.specs.KeptPaths.{IsHeld, IsNodeAt, IsPath}
 use Rattle.nibble_map.specs.Lists.{Has, IsPrefix}
-use Rattle.nibble_map.specs.Maps.{PairMap, IsStored}
-use Rattle.nibble_map.specs.Stored as stored
+use Rattle.nibble_map.specs.Maps.{PairMap, IsPoint, IsStored}
 use Rattle.nibble_map.proofs.MapEdits.{held}
+use Rattle.nibble_map.proofs.Moves.{longest_moves}
 use Rattle.radix_nodes.specs.declared.trie_node.KeyValue.{KeyValue}
 use Rattle.radix_nodes.specs.declared.trie_node.TrieNode.{TrieNode}
 use Rattle.radix_nodes.specs.Nodes.{tree_of, fragment_of, on_way, IsDeepest}
 use Rattle.radix_nodes.proofs.Nodes.{fragment_out}
-use Rattle.radix_trie.specs.Pairs.{pair_of}
+use Rattle.radix_trie.specs.Places.{IsNodeOf}
 use Rattle.radix_trie.specs.Roots.{IsRoot}
 use Rattle.radix_trie.specs.Views.{IsValueAbove}
 use Rattle.radix_trie.proofs.Held.{node_get}
-use Rattle.radix_trie.proofs.Shown.{row_of, entries_shown}
-
-value_of_pair : {K V : Type 0} (o : Option (KeyValue K V)) → option_map (λ x. x.value) o ≡ option_map (λ p. p.1) (option_map pair_of o)
-value_of_pair None = refl
-value_of_pair (Some x) = refl
+use Rattle.radix_trie.proofs.Paths.{node_point, point_node}
+use Rattle.radix_trie.proofs.Roots.{lists_same, value_of}
 
 module _ {K V : Type 0} (enc : K → List ℕ) (m : PairMap K V) (root : TrieNode K V) (list : List ℕ) (is : IsRoot enc m (tree_of root)) where
-  lists_same : stored.stored (fin.entries m) ≡ stored.stored (entries_at [] (tree_of root))
-  lists_same = ap stored.stored (sym is.canonical.pairs ∙ entries_shown (tree_of root) is.top) ∙ map-map (λ e. e.0) row_of (entries_at [] (tree_of root))
+  abbrev tree : Tree (KeyValue K V)
+  tree = tree_of root
 
-  to_held : (e : List ℕ) → IsStored m e → IsHeld (tree_of root) e
-  to_held e h = subst (λ ks. Has ks e) lists_same ((held m e).1 h)
+  to_held : (e : List ℕ) → IsStored m e → IsHeld tree e
+  to_held e h = subst (λ ks. Has ks e) (lists_same enc m tree is) ((held m e).1 h)
 
-  to_stored : (e : List ℕ) → IsHeld (tree_of root) e → IsStored m e
-  to_stored e h = (held m e).0 (subst (λ ks. Has ks e) (sym lists_same) h)
+  to_stored : (e : List ℕ) → IsHeld tree e → IsStored m e
+  to_stored e h = (held m e).0 (subst (λ ks. Has ks e) (sym (lists_same enc m tree is)) h)
 
-  whole : (tree_of root).fragment ++ drop 0 list ≡ list
-  whole = ap (λ f. f ++ list) is.top
+  whole : fragment_of root ++ drop 0 list ≡ list
+  whole = ap (λ f. f ++ list) (sym (fragment_out root) ∙ is.top)
 
-  pub none_above : ((q : List ℕ) → IsHeld (tree_of root) q → IsPrefix q (fragment_of root ++ drop 0 list) → ⊥) → IsValueAbove m list None
-  none_above apart = (
-    None,
-    (λ q s a. apart q (to_held q s) (subst (λ f. IsPrefix q (f ++ drop 0 list)) (fragment_out root) (subst (IsPrefix q) (sym whole) a))),
-    refl,
-  )
+  -- what is found on the way to the list stands after its first nibbles
+  module _ (S : List ℕ → Type 0) (u : Tree (KeyValue K V)) (end : ℕ) (d : IsDeepest S tree u list 0 end) where
+    way : on_way tree.fragment list 0 end ≡ take end list
+    way = ap (λ f. f ++ take (end - 0) list) is.top ∙ ap (λ n. take n list) (omega arith)
 
-  pub value_above : (node : TrieNode K V) (end : ℕ) → IsDeepest (IsHeld (tree_of root)) (tree_of root) (tree_of node) list 0 end
-      → IsValueAbove m list (option_map (λ x. x.value) (tree_of node).pair)
-  value_above node end d =
-      let p = on_way (tree_of root).fragment list 0 end in (
-        Some p,
-        record {
-          member = to_stored p d.longest.member;
-          above = subst (IsPrefix p) whole d.longest.above;
-          longest = λ q s a. d.longest.longest q (to_held q s) (subst (IsPrefix q) (sym whole) a);
-        },
-        value_of_pair (tree_of node).pair ∙ ap (option_map (λ x. x.1)) (node_get enc m (tree_of root) is p (tree_of node) d.node),
-      )
+    here : IsNodeAt tree (take end list) u
+    here = subst (λ y. IsNodeAt tree y u) way d.node
+
+    pub way_node : IsNodeOf enc m (take end list) u
+    way_node = (tree, is, here)
+
+    longest : IsLongest S list (take end list)
+    longest = subst (IsLongest S list) way (subst (λ e. IsLongest S e (on_way tree.fragment list 0 end)) (ap (λ f. f ++ list) is.top) d.longest)
+
+  module _ (u : Tree (KeyValue K V)) (end : ℕ) where
+    pub longest_stored : IsDeepest (IsHeld tree) tree u list 0 end → IsLongest (IsStored m) list (take end list)
+    longest_stored d = longest_moves (IsHeld tree) (IsStored m) to_stored to_held list (take end list) (longest (IsHeld tree) u end d)
+
+    pub longest_point : IsDeepest (IsPath tree) tree u list 0 end → IsLongest (IsPoint m) list (take end list)
+    longest_point d =
+        longest_moves (IsPath tree) (IsPoint m) (λ q h. node_point enc m tree is q h.0 h.1) (point_node enc m tree is) list (take end list) (longest (IsPath tree) u end d)
+
+    pub value_above : IsDeepest (IsHeld tree) tree u list 0 end → IsValueAbove m list (option_map (λ x. x.value) u.pair)
+    value_above d = (
+      Some (take end list),
+      longest_stored d,
+      value_of u.pair ∙ ap (option_map (λ x. x.1)) (node_get enc m tree is (take end list) u (here (IsHeld tree) u end d)),
+    )
+
+  pub none_stored : ((q : List ℕ) → IsHeld tree q → IsPrefix q (fragment_of root ++ drop 0 list) → ⊥) → (q : List ℕ) → IsStored m q → IsPrefix q list → ⊥
+  none_stored apart q s a = apart q (to_held q s) (subst (IsPrefix q) (sym whole) a)
+
+  pub none_above : ((q : List ℕ) → IsHeld tree q → IsPrefix q (fragment_of root ++ drop 0 list) → ⊥) → IsValueAbove m list None
+  none_above apart = (None, none_stored apart, refl)

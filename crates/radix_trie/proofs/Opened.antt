@@ -9,6 +9,7 @@ use Rattle.radix_nodes.specs.declared.trie_node.KeyValue.{KeyValue}
 use Rattle.radix_nodes.specs.declared.trie_node.TrieNode.{TrieNode}
 use Rattle.radix_nodes.specs.Nodes.{tree_of, fragment_of}
 use Rattle.radix_nodes.proofs.Nodes.{fragment_out}
+use Rattle.radix_trie.specs.Places.{IsNodeOf}
 use Rattle.radix_trie.specs.Roots.{IsRoot}
 use Rattle.radix_trie.proofs.Changes.{node_at_root, no_node_at_root}
 use Rattle.radix_trie.proofs.Paths.{node_point, point_node, node_fragment}
@@ -21,6 +22,10 @@ module _ {K V : Type 0} (enc : K → List ℕ) (m : PairMap K V) (root : TrieNod
   pub found_point : (o : Option (Bor (TrieNode K V))) → Found o → MatchOption o (IsPoint m list → ⊥) (λ _. IsPoint m list)
   found_point None apart = λ p. (let n = point_node enc m (tree_of root) is list p in no_node_at_root root list is.top apart n.0 n.1)
   found_point (Some n) here = node_point enc m (tree_of root) is list (tree_of n.now) (node_at_root root list (tree_of n.now) is.top here)
+
+  pub found_node : (o : Option (Bor (TrieNode K V))) → Found o → IfSome o (λ n. IsNodeOf enc m list (tree_of n.now))
+  found_node None apart = tt
+  found_node (Some n) here = (tree_of root, is, node_at_root root list (tree_of n.now) is.top here)
 
   pub found_fragment : (o : Option (Bor (TrieNode K V))) → Found o → IfSome o (λ n. IsFragment m list (fragment_of n.now))
   found_fragment None apart = tt

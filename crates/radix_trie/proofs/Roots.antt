@@ -53,7 +53,7 @@ module _ {K V : Type 0} where
   full_hidden none h = h
   full_hidden (more f o m kids others) h = (elim h.0 [ inl s ↦ inl (some_hidden o s) | inr a ↦ inr (many_hidden kids a) ], full_hidden kids h.1, full_hidden others h.2)
 
-  value_of : (o : Option (KeyValue K V)) → option_map (λ p. p.value) o ≡ option_map (λ (p : K × V). p.1) (option_map pair_of o)
+  pub value_of : (o : Option (KeyValue K V)) → option_map (λ p. p.value) o ≡ option_map (λ (p : K × V). p.1) (option_map pair_of o)
   value_of None = refl
   value_of (Some x) = refl
 
@@ -68,7 +68,7 @@ module _ {K V : Type 0} (enc : K → List ℕ) (m : PairMap K V) (t : Tree (KeyV
   found_value read q None r apart is = is ∙ sym (ap (option_map (λ p. p.1)) (no_node_get enc m t root q apart))
   found_value read q (Some n) r at is = is ∙ value_of (read n).pair ∙ ap (option_map (λ p. p.1)) (node_get enc m t root q (read n) at)
 
-  lists_same : stored.stored (fin.entries m) ≡ stored.stored (entries_at [] t)
+  pub lists_same : stored.stored (fin.entries m) ≡ stored.stored (entries_at [] t)
   lists_same = ap stored.stored (root_rows enc m t root) ∙ map-map (λ e. e.0) row_of (entries_at [] t)
 
   pub found_count : (q : List ℕ) (n : ℕ) → queries.IsCompared (entries_at [] t) q n → map_queries.IsCompared m q n

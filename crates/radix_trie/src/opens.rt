@@ -3,8 +3,9 @@ ghost use Rattle.std.specs.Borrow.{sem};
 ghost use Rattle.std.specs.Prelude.{◌≡◌, ◌↔◌, IsTrue, IsOk, IfOk, IfErr, IfSome, MatchOption};
 ghost use Rattle.nibble_map.specs.MapQueries.{IsFragment};
 ghost use Rattle.nibble_map.specs.Maps.{IsPoint};
-ghost use Rattle.radix_nodes.specs.Nodes.{fragment_of};
+ghost use Rattle.radix_nodes.specs.Nodes.{fragment_of, tree_of};
 ghost use Rattle.radix_trie.specs.Lends.{rests_if_err};
+ghost use Rattle.radix_trie.specs.Places.{IsNodeOf};
 ghost use Rattle.radix_trie.specs.WriteViews.{map_behind, path_of, prefix_of, lender_of};
 
 use crate::subtrie_mut::SubTrieMut;
@@ -26,6 +27,7 @@ impl<K: TrieKey, V> Trie<K, V> {
     /// The node of the point at a list, if one stands there.
     pub(crate) fn node_at(&self, list: &Nibblet) -> Option<&TrieNode<K, V>>
         ensures point { MatchOption result (IsPoint self.now list.now → ⊥) (λ _. IsPoint self.now list.now) }
+        ensures node { IfSome result (λ node. IsNodeOf K.encoding self.now list.now (tree_of node.now)) }
         ensures fragment { IfSome result (λ node. IsFragment self.now list.now (fragment_of node.now)) }
     {
         find(self.root(), list, 0)

@@ -1,9 +1,9 @@
 //! Where a path stands in a trie: what is stored at it and below it.
-ghost use Rattle.std.specs.Prelude.{◌≡◌, ◌<◌, ◌≤◌, ◌^◌, ◌++◌, ◌↔◌, ℕ, List, IsTrue, IsOk, IfOk, drop, length, option_copied, option_map};
+ghost use Rattle.std.specs.Prelude.{◌≡◌, ◌<◌, ◌≤◌, ◌^◌, ◌++◌, ◌↔◌, ℕ, List, Some, IsTrue, IsOk, IfOk, IfSome, drop, length, option_copied, option_map};
 ghost use Rattle.std.specs.FinMap as finite;
 ghost use Rattle.nibble_map.specs.Lists.{Each, IsPrefix};
 ghost use Rattle.nibble_map.specs.Maps.{below, value_at};
-ghost use Rattle.nibble_map.specs.MapQueries.{AreKids, IsKid, IsLeaf};
+ghost use Rattle.nibble_map.specs.MapQueries.{AreKids, IsKid, IsLeaf, IsRawDescendant};
 ghost use Rattle.nibble_map.specs.Nibbles.{IsShort};
 ghost use Rattle.radix_nodes.specs.Nodes.{tree_of};
 ghost use Rattle.radix_trie.specs.Pairs.{pair_of};
@@ -147,6 +147,21 @@ impl<'a, 'p, K: TrieKey, V> Place<'a, 'p, K, V> {
         match self.found {
             Some((node, _)) => Iter::over(self.trie.allocator(), node),
             None => Ok(Iter::empty(self.trie.allocator())),
+        }
+    }
+
+    /// The view at the shortest point that the path is a prefix of, or None where there is none.
+    pub(crate) fn nearest(&self) -> Result<Option<SubTrie<'a, K, V>>, Memory>
+        ensures nearest { IfOk result (λ o. IsRawDescendant self.now.map self.now.path (option_map (λ view. view.path) o)) }
+        ensures same_map { IfOk result (λ o. IfSome o (λ view. view.map ≡ self.now.map)) }
+        ensures short { ((p : List ℕ) → IsRawDescendant self.now.map self.now.path (Some p) → IsShort p) → IsOk result }
+    {
+        match self.found {
+            Some((node, covered)) => {
+                let whole = extended(self.path, &node.fragment, covered)?;
+                Ok(Some(SubTrie::new(self.trie, node, whole)))
+            }
+            None => Ok(None),
         }
     }
 

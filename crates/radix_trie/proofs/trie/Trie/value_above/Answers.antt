@@ -12,10 +12,10 @@ pub returns-in-Some : goal.returns-in-Some
 returns-in-Some g c =
     subst (IsValueAbove c.args.self.now c.args.list.now)
     (ap (option_map (λ x. x.value)) (pair_out c.in_ok-node.node.now) ∙ ap (λ o. option_map (λ x. x.value) (unboxed o)) c.in-Some.is ∙ ap (λ x. Some x.value) (sym c.deref.ensures))
-    (value_above g.K.TrieKey.encoding _ _ _ c.root.ensures c.in_ok-node.node.now c.in_ok-node.field-0-1 c.in_ok-node.ensures)
+    (value_above g.K.TrieKey.encoding _ _ _ c.root.ensures _ c.in_ok-node.field-0-1 c.in_ok-node.ensures)
 
 pub returns-in-None : goal.returns-in-None
 returns-in-None g c =
     subst (IsValueAbove c.args.self.now c.args.list.now)
     (ap (option_map (λ x. x.value)) (pair_out c.in_ok-node.node.now) ∙ ap (λ o. option_map (λ x. x.value) (unboxed o)) c.in-None.is)
-    (value_above g.K.TrieKey.encoding _ _ _ c.root.ensures c.in_ok-node.node.now c.in_ok-node.field-0-1 c.in_ok-node.ensures)
+    (value_above g.K.TrieKey.encoding _ _ _ c.root.ensures _ c.in_ok-node.field-0-1 c.in_ok-node.ensures)

@@ -16,3 +16,5 @@ mod Present
 mod Roots
 mod Written
 mod Copies
+mod Texts
+mod Objects

@@ -14,6 +14,7 @@ mod subtrie;
 mod subtrie_mut;
 mod trie;
 mod trie_common;
+mod trie_json;
 mod write_common;
 
 pub use building::BuildError;
@@ -27,3 +28,4 @@ pub use subtrie::{SubTrie, SubTrieError, SubTrieResult};
 pub use subtrie_mut::SubTrieMut;
 pub use trie::{InsertError, InsertWhy, Trie};
 pub use trie_common::TrieCommon;
+pub use trie_json::{JsonError, from_value, to_value};

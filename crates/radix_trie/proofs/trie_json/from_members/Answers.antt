@@ -1,0 +1,27 @@
+use Rattle.std.proofs.Common.{rules, ◌≡◌, ◌∙◌, ap, sym, subst}
+use Rattle.std.specs.FinMap as fin
+use Rattle.serde_json.specs.Data.{no_members}
+use Rattle.serde_json.specs.View.{members_view}
+use Rattle.radix_trie.specs.Json.{pairs_of}
+use Rattle.radix_trie.proofs.Objects.{put_all, put_all_is, put_inserted, texts_inserted, texts_empty, members_empty}
+use Rattle.radix_trie.proofs.Texts.{encoding, AreTexts}
+use Rattle.radix_trie.proofs.trie_json.from_members.Goals as goal
+
+pub loop-key-init : goal.loop-key-init
+loop-key-init c =
+    let none = members_empty c.new-trie.result c.new-trie.ensures in
+    let whole : put_all c.into_iter-key-iterator.result no_members ≡ members_view c.args.members.now.entries = search (rules, put_all_is) in
+    record { texts = texts_empty c.new-trie.result c.new-trie.ensures; rest = ap (put_all c.into_iter-key-iterator.result) none ∙ whole }
+
+pub loop-key-preserved : goal.loop-key-preserved
+loop-key-preserved c =
+    let key = c.in_ok-clone.field-0 in
+    let value = c.in_ok-clone-2.field-0 in
+    let old = c.loop-key.trie in
+    let stored : c.insert.new.self ≡ fin.insert old (encoding key) (key, value) = search rules in
+    let inserted = put_inserted key value old c.loop-key.invariant.texts in
+    let next : put_all c.loop-key.key-iterator (members_view (pairs_of old)) ≡ put_all c.next.new.self (members_view (pairs_of c.insert.new.self)) = search rules in
+    record {
+      texts = subst (λ m. AreTexts (fin.entries m)) (sym stored) (texts_inserted key value old c.loop-key.invariant.texts);
+      rest = sym next ∙ c.loop-key.invariant.rest;
+    }

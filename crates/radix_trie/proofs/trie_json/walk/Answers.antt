@@ -1,0 +1,12 @@
+use Rattle.std.proofs.Common.{◌≡◌, map, ap, subst, IfOk}
+use Rattle.std.specs.FinMap as fin
+use Rattle.radix_trie.proofs.Places.{below_nil}
+use Rattle.radix_trie.proofs.Texts.{keyed_texts, texts_rise}
+use Rattle.radix_trie.proofs.trie_json.walk.Goals as goal
+
+pub returns-clause-pairs : goal.returns-clause-pairs
+returns-clause-pairs c = subst (λ ps. IfOk c.iter.result (λ it. it ≡ ps)) (ap (λ m. map (λ e. e.1) (fin.entries m)) (below_nil c.args.trie.now)) c.iter.ensures.walk
+
+pub returns-clause-rising : goal.returns-clause-rising
+returns-clause-rising c =
+    texts_rise (fin.entries c.args.trie.now) (fin.entries_sorted c.args.trie.now) (keyed_texts (fin.entries c.args.trie.now) c.root-root.ensures.keyed)

@@ -1,0 +1,45 @@
+//! Floats in a JSON value.
+ghost use Rattle.std.specs.Prelude.{◌≡◌};
+ghost use Rattle.serde_json.specs.View.{view, items_view, members_view};
+ghost use Rattle.serde_json.specs.Written.{has_float, items_have_float, members_have_float};
+
+use serde_json::{Map, Value};
+
+/// Whether a float stands somewhere in a value.
+#[cycle(floats)]
+pub(crate) fn holds_float(value: &Value) -> bool
+    ensures { result ≡ has_float (view value.now) }
+{
+    match value {
+        Value::Null | Value::Bool(_) | Value::String(_) => false,
+        Value::Number(number) => number.is_f64(),
+        Value::Array(items) => items_hold_float(items),
+        Value::Object(members) => members_hold_float(members),
+    }
+}
+
+/// Whether a float stands somewhere in one of the items.
+#[cycle(floats)]
+fn items_hold_float(items: &Vec<Value>) -> bool
+    ensures { result ≡ items_have_float (items_view items.now.items) }
+{
+    for item in items {
+        if holds_float(item) {
+            return true;
+        }
+    }
+    false
+}
+
+/// Whether a float stands somewhere in one of the members.
+#[cycle(floats)]
+pub(crate) fn members_hold_float(members: &Map<String, Value>) -> bool
+    ensures { result ≡ members_have_float (members_view members.now.entries) }
+{
+    for (_, member) in members.iter() {
+        if holds_float(member) {
+            return true;
+        }
+    }
+    false
+}

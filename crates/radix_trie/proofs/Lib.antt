@@ -9,6 +9,7 @@ pub mod Above
 pub mod Parts
 pub mod Places
 pub mod ChildViews
+pub mod Keyed
 pub mod Nearest
 mod Walks
 mod WalkRows

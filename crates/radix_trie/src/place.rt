@@ -2,7 +2,7 @@
 ghost use Rattle.std.specs.Prelude.{◌≡◌, ◌<◌, ◌≤◌, ◌^◌, ◌++◌, ◌↔◌, ℕ, List, Some, IsTrue, IsOk, IfOk, IfSome, drop, length, option_copied, option_map};
 ghost use Rattle.std.specs.FinMap as finite;
 ghost use Rattle.nibble_map.specs.Lists.{Each, IsPrefix};
-ghost use Rattle.nibble_map.specs.Maps.{below, value_at};
+ghost use Rattle.nibble_map.specs.Maps.{below, value_at, walk};
 ghost use Rattle.nibble_map.specs.MapQueries.{AreKids, IsKid, IsLeaf, IsRawDescendant};
 ghost use Rattle.nibble_map.specs.Nibbles.{IsShort};
 ghost use Rattle.radix_nodes.specs.Nodes.{tree_of};
@@ -141,6 +141,7 @@ impl<'a, 'p, K: TrieKey, V> Place<'a, 'p, K, V> {
     /// The walk over the pairs at and below the path. All memory that it needs is taken here.
     pub(crate) fn iter(&self) -> Result<Iter<'a, K, V>, Memory>
         ensures walk { IfOk result (λ pairs. pairs ≡ pairs_below self.now.map self.now.path) }
+        ensures keyed { Each (λ e. e.0 ≡ K.encoding e.1.0) (walk self.now.map self.now.path) }
         ensures countable { IfOk result (λ pairs. length pairs < 2 ^ 64) }
     {
         let _pairs = self.trie.len();

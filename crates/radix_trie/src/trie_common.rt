@@ -1,8 +1,9 @@
 //! What tries and views have in common.
 ghost use Rattle.std.specs.Prelude.{◌≡◌, ◌<◌, ◌^◌, ◌↔◌, ℕ, List, [], IsTrue, IsOk, IfOk, length, map as each, option_copied, option_map};
 ghost use Rattle.std.specs.FinMap as finite;
+ghost use Rattle.nibble_map.specs.Lists.{Each};
 ghost use Rattle.nibble_map.specs.MapQueries.{IsFragment, IsLeaf};
-ghost use Rattle.nibble_map.specs.Maps.{PairMap, below, value_at};
+ghost use Rattle.nibble_map.specs.Maps.{PairMap, below, value_at, walk};
 ghost use Rattle.nibble_map.specs.Nibbles.{IsShort};
 ghost use Rattle.radix_trie.specs.Views.{pairs_below};
 
@@ -51,6 +52,7 @@ pub trait TrieCommon<'a, K: TrieKey + 'a, V: 'a>: Sized {
     /// All memory that the walk needs is taken here: its `next` takes none.
     fn iter(self) -> Result<Iter<'a, K, V>, Memory>
         ensures walk { IfOk result (λ pairs. pairs ≡ pairs_below (map self) (path self)) }
+        ensures keyed { Each (λ e. e.0 ≡ K.encoding e.1.0) (walk (map self) (path self)) }
         ensures countable { IfOk result (λ pairs. length pairs < 2 ^ 64) };
 
     /// The keys of that walk.

@@ -1,5 +1,6 @@
 use Rattle.std.proofs.Common.{◌≡◌, ◌<◌, ◌^◌, sym, ap, ◌∙◌, rules, arith, length}
 use Rattle.radix_trie.proofs.Places.{few_here, pairs_here, pairs_free}
+use Rattle.radix_trie.proofs.Keyed.{keyed_walk}
 use Rattle.radix_trie.proofs.place.Place.iter.Goals as goal
 
 pub over-requires : goal.over-requires
@@ -15,3 +16,11 @@ pub returns-in-None-clause-walk : goal.returns-in-None-clause-walk
 returns-in-None-clause-walk g c =
     rw (← c.self.view_is)
     (c.empty.ensures ∙ pairs_free g.K.TrieKey.encoding c.self.inside.trie.now c.self.inside.path.now c.self.inside.found c.self.invariant c.in-None.is)
+
+pub returns-in-Some-clause-keyed : goal.returns-in-Some-clause-keyed
+returns-in-Some-clause-keyed g c =
+    rw (← c.self.view_is) (keyed_walk g.K.TrieKey.encoding c.self.inside.trie.now c.self.inside.path.now c.self.inside.found c.self.invariant)
+
+pub returns-in-None-clause-keyed : goal.returns-in-None-clause-keyed
+returns-in-None-clause-keyed g c =
+    rw (← c.self.view_is) (keyed_walk g.K.TrieKey.encoding c.self.inside.trie.now c.self.inside.path.now c.self.inside.found c.self.invariant)

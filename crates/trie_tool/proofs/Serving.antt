@@ -6,7 +6,7 @@ use Rattle.std.proofs.KnownBytes.{Appends-trans, Appends-nil, Consumes-nil, Cons
 use Rattle.trie_tool.specs.declared.fault.ToolError.{ToolError}
 use Rattle.trie_tool.specs.declared.fault.ToolError.TheVariants.{Read, Write, BadLine, Memory}
 use Rattle.trie_tool.specs.declared.session.Session.{Session}
-use Rattle.nibble_map.specs.Maps.{values_of}
+use Rattle.trie_tool.specs.Numbers.{texts_of}
 use Rattle.trie_tool.specs.Serve.{Outcome, Stopped, Served}
 use Rattle.trie_tool.specs.Session.{IsAt, IsClear, Breaks, Sends, Finishes, IsDone}
 use Rattle.trie_tool.specs.Talk.{cut, talk_of, talk, talk_whole}
@@ -20,11 +20,11 @@ pub record Heard (unread unread' held held' : Option (List ℕ)) (s : Session) :
   pub clear : IsClear read written s
 
 -- a new session has heard nothing
-at_start : (s : Session) → s.open_line.items ≡ [] → values_of s.conversation.numbers ≡ map.empty → s.conversation.answers.items ≡ [] → s.conversation.count ≡ 0 → IsClear [] [] s
+at_start : (s : Session) → s.open_line.items ≡ [] → texts_of s.conversation.numbers ≡ map.empty → s.conversation.answers.items ≡ [] → s.conversation.count ≡ 0 → IsClear [] [] s
 unfolding cut talk_of
 at_start s line numbers answers count = record { at = record { rest = line; told = record { numbers = numbers; good = refl; count = count; said_is = sym answers } }; none_waits = answers }
 
-pub heard_nothing : (unread held : Option (List ℕ)) (s : Session) → s.open_line.items ≡ [] → values_of s.conversation.numbers ≡ map.empty → s.conversation.answers.items ≡ [] → s.conversation.count ≡ 0
+pub heard_nothing : (unread held : Option (List ℕ)) (s : Session) → s.open_line.items ≡ [] → texts_of s.conversation.numbers ≡ map.empty → s.conversation.answers.items ≡ [] → s.conversation.count ≡ 0
     → Heard unread unread held held s
 heard_nothing unread held s line numbers answers count =
     record { read = []; written = []; consumed = Consumes-nil _; appended = Appends-nil _; clear = at_start s line numbers answers count }

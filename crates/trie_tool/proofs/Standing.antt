@@ -7,7 +7,7 @@ use Rattle.trie_tool.specs.declared.fault.ToolError.{ToolError}
 use Rattle.trie_tool.specs.declared.fault.ToolError.TheVariants.{Read, Write, BadLine, Memory}
 use Rattle.trie_tool.specs.declared.conversation.Conversation.{Conversation}
 use Rattle.trie_tool.specs.declared.session.Session.{Session}
-use Rattle.nibble_map.specs.Maps.{values_of}
+use Rattle.trie_tool.specs.Numbers.{texts_of}
 use Rattle.trie_tool.specs.Request.{Numbers}
 use Rattle.trie_tool.specs.Serve.{IsBeginning}
 use Rattle.trie_tool.specs.Talk.{Talk, Cut, HasNoFeed, cut, talk, talk_whole, said, turn, after_turn, counted}
@@ -47,13 +47,13 @@ pub told-turn : (b sent line : List ℕ) (c d : Conversation) → line ≡ (cut 
 told-turn b sent line c d ends told takes count =
     let t = talk_whole b in
     let a : List ℕ = takes.0 in
-    let next : talk_whole (b ++ 10 ∷ []) ≡ after_turn t (Some (a, values_of d.numbers)) = turned b line _ ends told.numbers told.good ∙ ap (after_turn t) takes.1 in
+    let next : talk_whole (b ++ 10 ∷ []) ≡ after_turn t (Some (a, texts_of d.numbers)) = turned b line _ ends told.numbers told.good ∙ ap (after_turn t) takes.1 in
     record {
       numbers = sym (ap (λ (u : Talk). u.numbers) next);
       good = ap (λ (u : Talk). u.is_bad) next;
       count = count ∙ counted-next c.count (length t.answers) told.count ∙ sym (ap (λ (u : Talk). counted (length u.answers)) next ∙ ap counted (length-append t.answers (a ∷ [])));
       said_is =
-          ap said next ∙ said-more t a (values_of d.numbers) ∙ ap (λ (l : List ℕ). l ++ a) told.said_is
+          ap said next ∙ said-more t a (texts_of d.numbers) ∙ ap (λ (l : List ℕ). l ++ a) told.said_is
           ∙ append_assoc sent c.answers.items a ∙ ap (λ (l : List ℕ). sent ++ l) (sym takes.2);
     }
 
@@ -64,7 +64,7 @@ out_of_memory b more sent c told =
     Breaks-lift Memory t _ _ (Extends-heard b more) (t.answers, [], sym (append-nil t.answers), sym told.said_is)
 
 -- a line that got no answer
-refused_line : (b sent line : List ℕ) (c : Conversation) (e : ToolError) → line ≡ (cut b).rest → IsTold b sent c → IsRefusal e line (values_of c.numbers) (counted (c.count + 1))
+refused_line : (b sent line : List ℕ) (c : Conversation) (e : ToolError) → line ≡ (cut b).rest → IsTold b sent c → IsRefusal e line (texts_of c.numbers) (counted (c.count + 1))
     → Breaks e (talk_whole (b ++ 10 ∷ [])) (sent ++ c.answers.items)
 refused_line b sent line c Read ends told why = absurd why
 refused_line b sent line c Write ends told why = absurd why
@@ -75,7 +75,7 @@ refused_line b sent line c (BadLine n) ends told why =
     subst (λ (u : Talk). Breaks (BadLine n) u (sent ++ c.answers.items)) (sym next)
     (refl, why.1 ∙ counted-next c.count (length t.answers) told.count, sym told.said_is)
 
-pub refused : (b sent line : List ℕ) (c d : Conversation) (e : ToolError) → line ≡ (cut b).rest → IsTold b sent c → IsRefusal e line (values_of c.numbers) (counted (c.count + 1))
+pub refused : (b sent line : List ℕ) (c d : Conversation) (e : ToolError) → line ≡ (cut b).rest → IsTold b sent c → IsRefusal e line (texts_of c.numbers) (counted (c.count + 1))
     → d.answers.items ≡ c.answers.items → Breaks e (talk_whole (b ++ 10 ∷ [])) (sent ++ d.answers.items)
 refused b sent line c d e ends told why same =
     subst (λ (a : List ℕ). Breaks e (talk_whole (b ++ 10 ∷ [])) (sent ++ a)) (sym same) (refused_line b sent line c e ends told why)
@@ -90,7 +90,7 @@ rest-fed b = ap (λ (c : Cut). c.rest) (cut-fed b)
 pub turn_goes : {U : Type 0} (r : Result U ToolError) (b sent line : List ℕ) (c : Conversation) (s : Session)
     → line ≡ (cut b).rest → IsTold b sent c
     → OnOk r (Takes line c s.conversation) → OnOk r (s.conversation.count ≡ counted (c.count + 1)) → OnOk r (s.open_line.items ≡ [])
-    → IfErr r (λ e. IsRefusal e line (values_of c.numbers) (counted (c.count + 1))) → OnErr r (s.conversation.answers.items ≡ c.answers.items)
+    → IfErr r (λ e. IsRefusal e line (texts_of c.numbers) (counted (c.count + 1))) → OnErr r (s.conversation.answers.items ≡ c.answers.items)
     → Goes r (b ++ 10 ∷ []) sent s
 turn_goes (Ok u) b sent line c s ends told takes count clear why same =
     record { rest = clear ∙ sym (rest-fed b); told = told-turn b sent line c s.conversation ends told takes count }

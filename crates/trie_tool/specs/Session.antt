@@ -5,14 +5,14 @@ use Rattle.trie_tool.specs.declared.fault.ToolError.{ToolError}
 use Rattle.trie_tool.specs.declared.fault.ToolError.TheVariants.{Read, Write, BadLine, Memory}
 use Rattle.trie_tool.specs.declared.conversation.Conversation.{Conversation}
 use Rattle.trie_tool.specs.declared.session.Session.{Session}
-use Rattle.nibble_map.specs.Maps.{values_of}
+use Rattle.trie_tool.specs.Numbers.{texts_of}
 use Rattle.trie_tool.specs.Request.{Numbers}
 use Rattle.trie_tool.specs.Serve.{IsBeginning, IsSomeAnswers}
 use Rattle.trie_tool.specs.Talk.{Talk, cut, talk, talk_whole, said, turn, number_of_bad, counted}
 
 -- the line's answer was put behind the others
 abbrev pub Takes : List ℕ → Conversation → Conversation → Type 0
-Takes line c d = (a : List ℕ) × (turn line (values_of c.numbers) ≡ Some (a, values_of d.numbers)) × (d.answers.items ≡ c.answers.items ++ a)
+Takes line c d = (a : List ℕ) × (turn line (texts_of c.numbers) ≡ Some (a, texts_of d.numbers)) × (d.answers.items ≡ c.answers.items ++ a)
 
 -- why the line of this number gets no answer
 abbrev pub IsRefusal : ToolError → (line : List ℕ) → Numbers → (number : ℕ) → Type 0
@@ -23,7 +23,7 @@ IsRefusal Memory line m number = ⊤
 
 -- all whole lines of b are answered; of the answers, some were sent and the others wait
 pub record IsTold (b sent : List ℕ) (c : Conversation) : Type 0 where
-  pub numbers : values_of c.numbers ≡ (talk_whole b).numbers
+  pub numbers : texts_of c.numbers ≡ (talk_whole b).numbers
   pub good : IsFalse (talk_whole b).is_bad
   pub count : c.count ≡ counted (length (talk_whole b).answers)
   pub said_is : said (talk_whole b) ≡ sent ++ c.answers.items

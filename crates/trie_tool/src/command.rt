@@ -10,8 +10,11 @@ pub enum Command<'a> {
     Insert(&'a str, u64),
     Get(&'a str),
     Remove(&'a str),
+    Ancestor(&'a str),
+    Below(&'a str),
     Len,
     Foot,
+    Json,
 }
 
 fn all_digits(text: &str) -> bool
@@ -49,6 +52,10 @@ fn keyed<'a>(word: &str, rest: &'a str) -> Option<Command<'a>>
         insertion(rest)
     } else if word == "remove" {
         Some(Command::Remove(rest))
+    } else if word == "ancestor" {
+        Some(Command::Ancestor(rest))
+    } else if word == "below" {
+        Some(Command::Below(rest))
     } else {
         None
     }
@@ -61,6 +68,8 @@ fn lone<'a>(word: &str) -> Option<Command<'a>>
         Some(Command::Len)
     } else if word == "foot" {
         Some(Command::Foot)
+    } else if word == "json" {
+        Some(Command::Json)
     } else {
         None
     }

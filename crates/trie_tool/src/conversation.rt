@@ -3,7 +3,7 @@ ghost use Rattle.std.specs.Prelude.{◌≡◌, ◌+◌, [], IfOk, OnOk, OnErr, I
 ghost use Rattle.std.specs.FinMap as map;
 ghost use Rattle.trie_tool.specs.Session.{IsRefusal, Takes};
 ghost use Rattle.trie_tool.specs.Talk.{counted, turn};
-ghost use Rattle.nibble_map.specs.Maps.{values_of};
+ghost use Rattle.trie_tool.specs.Numbers.{texts_of};
 
 use crate::answers::answer;
 use crate::command::parse;
@@ -27,8 +27,8 @@ fn reply(
     line: &[u8],
     number: u64,
 ) -> Result<String, ToolError>
-    ensures answer { IfOk result (λ a. turn line.now (values_of numbers.old) ≡ Some (string_bytes a, values_of numbers.new)) }
-    ensures refused { IfErr result (λ e. IsRefusal e line.now (values_of numbers.old) number) }
+    ensures answer { IfOk result (λ a. turn line.now (texts_of numbers.old) ≡ Some (string_bytes a, texts_of numbers.new)) }
+    ensures refused { IfErr result (λ e. IsRefusal e line.now (texts_of numbers.old) number) }
 {
     if line.is_empty() {
         return Ok(String::new(alloc));
@@ -41,7 +41,7 @@ fn reply(
 
 impl Conversation {
     pub fn new(alloc: Global) -> Conversation
-        ensures numbers { values_of result.numbers ≡ map.empty }
+        ensures numbers { texts_of result.numbers ≡ map.empty }
         ensures answers { result.answers.items ≡ [] }
         ensures count { result.count ≡ 0 }
     {
@@ -73,7 +73,7 @@ impl Conversation {
     pub fn take_turn(&mut self, line: &[u8]) -> Result<(), ToolError>
         ensures answered { OnOk result (Takes line.now self.old self.new) }
         ensures count { OnOk result (self.new.count ≡ counted (self.old.count + 1)) }
-        ensures refused { IfErr result (λ e. IsRefusal e line.now (values_of self.old.numbers) (counted (self.old.count + 1))) }
+        ensures refused { IfErr result (λ e. IsRefusal e line.now (texts_of self.old.numbers) (counted (self.old.count + 1))) }
         ensures unchanged { OnErr result (self.new.answers.items ≡ self.old.answers.items) }
     {
         let number = self.count.saturating_add(1);

@@ -1,6 +1,6 @@
 //! Laws of the definitions, and worked lines.
 ghost use Rattle.std.specs.Prelude.{◌≡◌, ℕ, List, [], ◌∷◌, ◌++◌, Some, None, IsTrue, IsFalse, codes, flat_map};
-ghost use Rattle.trie_tool.specs.Request.{request_of, Insert, Get, Len, Remove, Foot};
+ghost use Rattle.trie_tool.specs.Request.{request_of, Insert, Get, Len, Remove, Foot, Ancestor, Below, Json};
 ghost use Rattle.trie_tool.specs.Talk.{cut, talk, said, number_of_bad};
 
 /// Cutting loses no byte: the lines, each with its line feed, and the bytes after them are the text.
@@ -17,8 +17,13 @@ pub fn worked_lines()
     ensures get { request_of (codes "get a b") ≡ Some (Get (codes "a b")) }
     ensures get_empty { request_of (codes "get ") ≡ Some (Get []) }
     ensures remove { request_of (codes "remove a b") ≡ Some (Remove (codes "a b")) }
+    ensures ancestor { request_of (codes "ancestor abe") ≡ Some (Ancestor (codes "abe")) }
+    ensures below { request_of (codes "below a b") ≡ Some (Below (codes "a b")) }
+    ensures below_all { request_of (codes "below ") ≡ Some (Below []) }
+    ensures below_and_no_space { request_of (codes "below") ≡ None }
     ensures len { request_of (codes "len") ≡ Some Len }
     ensures foot { request_of (codes "foot") ≡ Some Foot }
+    ensures json { request_of (codes "json") ≡ Some Json }
     ensures foot_and_space { request_of (codes "foot ") ≡ None }
     ensures no_value { request_of (codes "insert x") ≡ None }
     ensures sign { request_of (codes "insert x +5") ≡ None }

@@ -3,7 +3,7 @@ ghost use Rattle.std.specs.Prelude.{◌≡◌, ℕ, List, [], ◌∷◌, ◌++�
 ghost use Rattle.std.specs.FinMap as map;
 ghost use Rattle.trie_tool.specs.Session.{IsAt, Goes, Sends, Finishes};
 ghost use Rattle.trie_tool.specs.Talk.{HasNoFeed, talk, talk_whole};
-ghost use Rattle.nibble_map.specs.Maps.{values_of};
+ghost use Rattle.trie_tool.specs.Numbers.{texts_of};
 
 use crate::conversation::Conversation;
 use crate::fault::ToolError;
@@ -22,7 +22,7 @@ pub struct Session {
 impl Session {
     pub fn new(alloc: Global) -> Session
         ensures line { result.open_line.items ≡ [] }
-        ensures numbers { values_of result.conversation.numbers ≡ map.empty }
+        ensures numbers { texts_of result.conversation.numbers ≡ map.empty }
         ensures answers { result.conversation.answers.items ≡ [] }
         ensures count { result.conversation.count ≡ 0 }
     {

@@ -72,3 +72,23 @@ returns-clause-foot c = refl
 pub returns-clause-foot_and_space : goal.returns-clause-foot_and_space
 unfolding request_of is_utf8 chars encode
 returns-clause-foot_and_space c = refl
+
+pub returns-clause-ancestor : goal.returns-clause-ancestor
+unfolding request_of is_utf8 chars encode
+returns-clause-ancestor c = refl
+
+pub returns-clause-below : goal.returns-clause-below
+unfolding request_of is_utf8 chars encode
+returns-clause-below c = refl
+
+pub returns-clause-below_all : goal.returns-clause-below_all
+unfolding request_of is_utf8 chars encode
+returns-clause-below_all c = refl
+
+pub returns-clause-below_and_no_space : goal.returns-clause-below_and_no_space
+unfolding request_of is_utf8 chars encode
+returns-clause-below_and_no_space c = refl
+
+pub returns-clause-json : goal.returns-clause-json
+unfolding request_of is_utf8 chars encode
+returns-clause-json c = refl

@@ -1,0 +1,71 @@
+-- The object of the texts and their numbers, built by insertions.
+use Rattle.std.proofs.Common.{◌≡◌, ℕ, List, [], ◌∷◌, map as each, fold, refl, ap, ◌∙◌, sym, subst, string_bytes, String}
+use Rattle.std.specs.FinMap as map
+use Rattle.std.specs.declared.alloc.Global.{Global}
+use Rattle.serde_json.specs.Data.{Data, Members, no_members, member, number, unsigned}
+use Rattle.serde_json.specs.View.{view, members_view}
+use Rattle.serde_json.specs.declared.value.Value.{Value}
+use Rattle.nibble_map.specs.Lists.{Each}
+use Rattle.nibble_map.specs.Maps.{PairMap, mapped, walk}
+use Rattle.nibble_map.specs.Nibbles.{nibbles}
+use Rattle.nibble_map.proofs.Mapped.{mapped_empty, mapped_entries}
+use Rattle.radix_trie.specs.Json.{pairs_of}
+use Rattle.radix_trie.specs.Views.{pairs_below}
+use Rattle.radix_trie.proofs.Places.{below_nil}
+use Rattle.trie_tool.specs.Numbers.{datum, data_of, text, texts_of}
+use Rattle.trie_tool.specs.Request.{members}
+use Rattle.trie_tool.proofs.Rebuilt.{put_rows, rebuilt}
+
+-- a text's bytes, and its number as JSON
+abbrev as_datum : List ℕ × ℕ → List ℕ × Data
+as_datum p = (p.0, number (unsigned p.1))
+
+abbrev pub target : PairMap (String Global) ℕ → PairMap (List ℕ) Data
+target m = mapped as_datum (texts_of m)
+
+-- each number put in at its text
+abbrev pub put_numbers : List (String Global × ℕ) → PairMap (List ℕ) Data → PairMap (List ℕ) Data
+put_numbers [] m = m
+put_numbers (p ∷ ps) m = put_numbers ps (map.insert m (nibbles (string_bytes p.0)) (string_bytes p.0, number (unsigned p.1)))
+
+abbrev text_row : List ℕ × (String Global × ℕ) → List ℕ × (List ℕ × ℕ)
+text_row e = (e.0, text e.1)
+
+abbrev datum_row : List ℕ × (List ℕ × ℕ) → List ℕ × (List ℕ × Data)
+datum_row e = (e.0, as_datum e.1)
+
+put_keyed : (es : List (List ℕ × (String Global × ℕ))) → Each (λ e. e.0 ≡ nibbles (string_bytes e.1.0)) es → (m : PairMap (List ℕ) Data)
+    → put_numbers (each (λ e. e.1) es) m ≡ put_rows m (each datum_row (each text_row es))
+put_keyed [] h m = refl
+put_keyed (e ∷ es) h m =
+    ap (λ l. put_numbers (each (λ d. d.1) es) (map.insert m l (as_datum (text e.1)))) (sym h.0)
+    ∙ put_keyed es h.1 (map.insert m e.0 (as_datum (text e.1)))
+
+pub all_put : (m : PairMap (String Global) ℕ) → Each (λ e. e.0 ≡ nibbles (string_bytes e.1.0)) (walk m []) → put_numbers (pairs_below m []) map.empty ≡ target m
+all_put m h =
+    put_keyed (walk m []) h map.empty
+    ∙ ap (λ n. put_rows map.empty (each datum_row (each text_row (map.entries n)))) (below_nil m)
+    ∙ ap (λ es. put_rows map.empty (each datum_row es)) (sym (mapped_entries text m))
+    ∙ ap (put_rows map.empty) (sym (mapped_entries as_datum (texts_of m)))
+    ∙ rebuilt (target m)
+
+abbrev data_members : List (List ℕ × Data) → Members
+data_members [] = no_members
+data_members (p ∷ ps) = member p.0 p.1 (data_members ps)
+
+view_members : (es : List (List ℕ × (String Global × Value))) → members_view (each (λ e. e.1) es) ≡ data_members (each (λ (d : List ℕ × (List ℕ × Data)). d.1) (each (λ e. (e.0, datum e.1)) es))
+view_members [] = refl
+view_members (e ∷ es) = ap (member (string_bytes e.1.0) (view e.1.1)) (view_members es)
+
+number_members : (es : List (List ℕ × (List ℕ × ℕ))) → data_members (each (λ (d : List ℕ × (List ℕ × Data)). d.1) (each datum_row es)) ≡ members (each (λ e. e.1) es)
+number_members [] = refl
+number_members (e ∷ es) = ap (member e.1.0 (number (unsigned e.1.1))) (number_members es)
+
+-- the same data, the same object
+pub members_are : (m : PairMap (String Global) ℕ) (values : PairMap (String Global) Value) → data_of values ≡ target m → members_view (pairs_of values) ≡ members (map.values (texts_of m))
+members_are m values same =
+    view_members (map.entries values)
+    ∙ ap (λ es. data_members (each (λ (d : List ℕ × (List ℕ × Data)). d.1) es)) (sym (mapped_entries datum values))
+    ∙ ap (λ n. data_members (each (λ (d : List ℕ × (List ℕ × Data)). d.1) (map.entries n))) same
+    ∙ ap (λ es. data_members (each (λ (d : List ℕ × (List ℕ × Data)). d.1) es)) (mapped_entries as_datum (texts_of m))
+    ∙ number_members (map.entries (texts_of m))

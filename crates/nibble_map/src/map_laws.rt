@@ -9,7 +9,7 @@ ghost use Rattle.nibble_map.specs.Swaps.{Swaps, entry};
 ghost use Rattle.std.specs.Cmp.Lexicographic.{slice_cmp};
 ghost use Rattle.std.specs.FinMap as map;
 ghost use Rattle.std.specs.Ordering.{nat_cmp};
-ghost use Rattle.std.specs.Prelude.{[], ◌&&◌, ◌↔◌, ◌≡◌, ◌≢◌, map as each, not, Bool, IsTrue, List, None, Option, Some, T, option_map, ℕ};
+ghost use Rattle.std.specs.Prelude.{[], ◌&&◌, ◌↔◌, ◌≡◌, ◌≢◌, map as each, fold, not, Bool, IsTrue, List, None, Option, Some, T, option_map, ℕ};
 
 /// What a map holds, by its list of entries: the keys are the stored lists in rising order, and the walk below a
 /// path is the entries below it.
@@ -59,6 +59,11 @@ pub fn mapped_follows_the_map<P, Q>()
     ensures insert { (f : P → Q) (m : NibbleMap P) (e : List ℕ) (p : P) → mapped f (map.insert m e p) ≡ map.insert (mapped f m) e (f p) }
     ensures remove { (f : P → Q) (m : NibbleMap P) (e : List ℕ) → mapped f (map.remove m e) ≡ map.remove (mapped f m) e }
     ensures below { (f : P → Q) (m : NibbleMap P) (p : List ℕ) → mapped f (below m p) ≡ below (mapped f m) p }
+{}
+
+/// The entries of a map, inserted one after another, give the map.
+pub fn entries_rebuild_the_map<P>()
+    ensures { (m : NibbleMap P) → fold (λ n e. map.insert n e.0 e.1) map.empty (map.entries m) ≡ m }
 {}
 
 /// A value written at a stored list changes that value alone; at an absent list nothing changes.

@@ -14,7 +14,7 @@ use Rattle.radix_trie.specs.Views.{pairs_below}
 use Rattle.radix_trie.proofs.Places.{below_nil}
 use Rattle.trie_tool.specs.Numbers.{datum, data_of, text, texts_of}
 use Rattle.trie_tool.specs.Request.{members}
-use Rattle.trie_tool.proofs.Rebuilt.{put_rows, rebuilt}
+use Rattle.nibble_map.proofs.Rebuilt.{put_rows, rebuilt}
 
 -- a text's bytes, and its number as JSON
 abbrev as_datum : List ℕ × ℕ → List ℕ × Data

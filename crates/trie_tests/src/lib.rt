@@ -8,8 +8,14 @@ mod commands;
 #[cfg(test)]
 mod map_calls;
 #[cfg(test)]
+mod queries;
+#[cfg(test)]
 mod refused_growths;
 #[cfg(test)]
+mod views;
+#[cfg(test)]
 mod walk_callers;
+#[cfg(test)]
+mod walks;
 #[cfg(test)]
 mod write_views;

@@ -33,7 +33,7 @@ fn put_within<K: TrieKey + Drop, V: Drop>(
 }
 
 /// A trie of the pairs.
-fn texts(alloc: Global, pairs: &[(&'static str, u64)]) -> Texts {
+pub fn texts(alloc: Global, pairs: &[(&'static str, u64)]) -> Texts {
     let mut trie = Trie::new(alloc);
     for (key, value) in pairs {
         let _ = trie.insert(*key, *value);
@@ -42,7 +42,7 @@ fn texts(alloc: Global, pairs: &[(&'static str, u64)]) -> Texts {
 }
 
 /// The list of the nibbles.
-fn list<const N: usize>(alloc: Global, nibbles: [u8; N]) -> Nibblet {
+pub fn list<const N: usize>(alloc: Global, nibbles: [u8; N]) -> Nibblet {
     let mut list = Nibblet::new(alloc);
     for nibble in nibbles {
         if nibble < 16 {

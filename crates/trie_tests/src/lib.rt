@@ -4,7 +4,13 @@
 #[cfg(test)]
 mod bits;
 #[cfg(test)]
+mod building;
+#[cfg(test)]
 mod commands;
+#[cfg(test)]
+mod equality;
+#[cfg(test)]
+mod json;
 #[cfg(test)]
 mod map_calls;
 #[cfg(test)]

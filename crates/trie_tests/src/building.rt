@@ -1,0 +1,64 @@
+//! Tries built from pairs, and copies of tries.
+
+use radix_trie::{Memory, Trie};
+
+type Texts = Trie<&'static str, u64>;
+
+/// Seven texts, with beginnings in common.
+const SEVEN: [(&str, u64); 7] = [
+    ("abcdefgh", 19),
+    ("abcdef", 18),
+    ("abcd", 17),
+    ("ab", 16),
+    ("a", 15),
+    ("acbdef", 30),
+    ("bcdefgh", 29),
+];
+
+/// Of two pairs with one key the later one stays.
+#[test]
+fn later_pair_wins(rt: HostRuntime) -> Result<(), Memory> {
+    let pairs = [("a", 1), ("b", 2), ("a", 3)];
+    let Ok(trie) = Trie::from_iter(rt.alloc(), pairs.into_iter()) else {
+        assert!(rt; false);
+        return Ok(());
+    };
+    let trie: Texts = trie;
+    assert_eq!(rt; trie.len(), 2);
+    assert_eq!(rt; trie.get(&"a")?.copied(), Some(3));
+    assert_eq!(rt; trie.get(&"b")?.copied(), Some(2));
+    Ok(())
+}
+
+/// A trie of a vector's pairs.
+#[test]
+fn built_from_a_vector(rt: HostRuntime) -> Result<(), Memory> {
+    let pairs = vec![in rt.alloc(); ("test", 10), ("hello", 12)]?;
+    let Ok(trie) = Trie::from_iter(rt.alloc(), pairs.into_iter()) else {
+        assert!(rt; false);
+        return Ok(());
+    };
+    let trie: Texts = trie;
+    assert_eq!(rt; trie.get(&"test")?.copied(), Some(10));
+    assert_eq!(rt; trie.get(&"hello")?.copied(), Some(12));
+    assert_eq!(rt; trie.len(), 2);
+    Ok(())
+}
+
+/// A clone is equal until one of the two is written, and again when both are.
+#[test]
+fn clone_stands_alone(rt: HostRuntime) -> Result<(), Memory> {
+    let Ok(built) = Trie::from_iter(rt.alloc(), SEVEN.into_iter()) else {
+        assert!(rt; false);
+        return Ok(());
+    };
+    let mut trie: Texts = built;
+    let mut copy = trie.clone()?;
+    assert!(rt; trie == copy);
+    assert_eq!(rt; trie.insert("abc", 22).ok(), Some(None));
+    assert!(rt; trie != copy);
+    assert_eq!(rt; copy.len(), 7);
+    assert_eq!(rt; copy.insert("abc", 22).ok(), Some(None));
+    assert!(rt; trie == copy);
+    Ok(())
+}

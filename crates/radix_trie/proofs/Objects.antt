@@ -1,21 +1,23 @@
 -- An object that is built member by member, and a trie that is built from an object.
-use Rattle.std.proofs.Common.{◌≡◌, ℕ, List, [], ◌∷◌, ◌++◌, map, length, String, Global, Ordering, Less, Equal, Greater, nat_cmp, string_bytes, string_cmp, refl, sym, ◌∙◌, ap, subst, append_assoc, arith}
+use Rattle.std.proofs.Common.{◌≡◌, ℕ, List, [], ◌∷◌, ◌++◌, map, length, cond, is_eq, Option, Some, option_map, String, Global, Ordering, Less, Equal, Greater, nat_cmp, string_bytes, string_cmp, refl, sym, ◌∙◌, ap, subst, append_assoc, arith}
 use Rattle.std.proofs.lemmas.Cmp.{nat_list_cmp_total}
 use Rattle.std.proofs.lemmas.List.{append-nil}
 use Rattle.std.specs.Cmp.Lexicographic.{slice_cmp}
 use Rattle.std.specs.FinMap as fin
-use Rattle.std.specs.FinMap.{put}
+use Rattle.std.specs.FinMap.{find, put}
 use Rattle.std.specs.FinMap.Entries.{by_order}
 use Rattle.std.specs.List.Sorted.{IsStrictlySortedBy}
 use Rattle.std.specs.Map.{keys_of}
 use Rattle.std.specs.Ordering.{match_ordering}
-use Rattle.serde_json.specs.Data.{Members, no_members, member, put as with_member}
+use Rattle.serde_json.specs.Data.{Data, Members, no_members, member, put as with_member}
+use Rattle.serde_json.specs.Find.{get, get_member}
 use Rattle.serde_json.specs.View.{view, members_view}
 use Rattle.serde_json.specs.declared.value.Value.{Value}
 use Rattle.serde_json.proofs.Views.{put_last}
-use Rattle.nibble_map.specs.Maps.{PairMap}
+use Rattle.nibble_map.specs.Maps.{PairMap, value_at}
+use Rattle.nibble_map.specs.Nibbles.{nibbles}
 use Rattle.nibble_map.proofs.Sorted.{same}
-use Rattle.radix_trie.specs.Json.{pairs_of}
+use Rattle.radix_trie.specs.Json.{object_of, pairs_of}
 use Rattle.radix_trie.proofs.Texts.{encoding, nibbles_cmp, AreTexts}
 
 abbrev Pairs : Type 0
@@ -106,3 +108,20 @@ module _ (m : PairMap (String Global) Value) (is : m ≡ fin.empty) where
   -- the empty trie has the empty object
   pub members_empty : members_view (pairs_of m) ≡ no_members
   members_empty = ap (λ es. members_view (pairs_in es)) no_entries
+
+found_by : (o : Ordering) (p : String Global × Value) (rest : Option (String Global × Value)) (d : Option Data) → option_map view (option_map (λ q. q.1) rest) ≡ d
+    → option_map view (option_map (λ q. q.1) (cond (is_eq o) (Some p) rest)) ≡ match_ordering o d (Some (view p.1)) d
+found_by Less p rest d e = e
+found_by Equal p rest d e = refl
+found_by Greater p rest d e = e
+
+found_row : (text : List ℕ) (es : Rows) → AreTexts es → option_map view (option_map (λ q. q.1) (find (slice_cmp nat_cmp) (nibbles text) es)) ≡ get_member text (members_view (pairs_in es))
+found_row text [] h = refl
+found_row text (e ∷ es) h =
+    let rest = find (slice_cmp nat_cmp) (nibbles text) es in
+    ap (λ o. option_map view (option_map (λ q. q.1) (cond (is_eq o) (Some e.1) rest))) (ap (slice_cmp nat_cmp (nibbles text)) h.0 ∙ nibbles_cmp text (string_bytes e.1.0))
+    ∙ found_by (slice_cmp nat_cmp text (string_bytes e.1.0)) e.1 rest _ (found_row text es h.1)
+
+-- the value at a text is the object's member of that name
+pub member_is : (m : PairMap (String Global) Value) → AreTexts (fin.entries m) → (text : List ℕ) → get text (object_of m) ≡ option_map view (value_at m (nibbles text))
+member_is m texts text = sym (ap (λ o. option_map view (option_map (λ q. q.1) o)) (fin.get-entries m (nibbles text)) ∙ found_row text (fin.entries m) texts)

@@ -1,10 +1,13 @@
 //! Tries of texts to and from JSON.
-ghost use Rattle.std.specs.Prelude.{◌≡◌, ◌≢◌, ◌↔◌, IsTrue, IsFalse, IfOk, OnOk, IfErr};
+ghost use Rattle.std.specs.Prelude.{◌≡◌, ◌≢◌, ◌↔◌, ℕ, List, IsTrue, IsFalse, option_map, IfOk, OnOk, IfErr};
 ghost use Rattle.std.specs.FinMap as map;
 ghost use Rattle.std.specs.List.Sorted.{IsStrictlySortedBy};
 ghost use Rattle.std.specs.Map.{keys_of};
 ghost use Rattle.std.specs.String.{string_cmp};
+ghost use Rattle.nibble_map.specs.Maps.{value_at};
+ghost use Rattle.nibble_map.specs.Nibbles.{nibbles};
 ghost use Rattle.serde_json.specs.Data.{null};
+ghost use Rattle.serde_json.specs.Find.{get, get_member};
 ghost use Rattle.serde_json.specs.View.{view, members_view};
 ghost use Rattle.serde_json.specs.Written.{has_float, members_have_float};
 ghost use Rattle.radix_trie.specs.Json.{object_of, pairs_of, read_as, IsOtherKind};
@@ -54,6 +57,7 @@ impl From<AllocError> for JsonError {
 fn walk(trie: &Trie<String, Value>) -> Result<Iter<'_, String, Value>, Memory>
     ensures pairs { IfOk result (λ pairs. pairs ≡ pairs_of trie.now) }
     ensures rising { IsStrictlySortedBy string_cmp (keys_of (pairs_of trie.now)) }
+    ensures members { (name : List ℕ) → get name (object_of trie.now) ≡ option_map view (value_at trie.now (nibbles name)) }
 {
     // Its contract has it that each pair stands at its text's encoding.
     let _root = trie.root();
@@ -67,6 +71,7 @@ fn walk(trie: &Trie<String, Value>) -> Result<Iter<'_, String, Value>, Memory>
 #[tactic(auto, using(crate::proofs::Objects::put_all_is))]
 pub fn to_value(alloc: Global, trie: &Trie<String, Value>) -> Result<Value, JsonError>
     ensures object { IfOk result (λ value. view value ≡ object_of trie.now) }
+    ensures members { IfOk result (λ value. (name : List ℕ) → get name (view value) ≡ option_map view (value_at trie.now (nibbles name))) }
     ensures no_float { OnOk result (IsFalse (has_float (object_of trie.now))) }
     ensures float { IfErr result (λ e. e ≡ JsonError.Float → IsTrue (has_float (object_of trie.now))) }
     ensures any_kind { IfErr result (λ e. e ≢ JsonError.Kind) }
@@ -89,6 +94,7 @@ pub fn to_value(alloc: Global, trie: &Trie<String, Value>) -> Result<Value, Json
 /// nor an object; a float somewhere in it; memory.
 pub fn from_value(alloc: Global, value: &Value) -> Result<Trie<String, Value>, JsonError>
     ensures object { IfOk result (λ trie. object_of trie ≡ read_as (view value.now)) }
+    ensures members { IfOk result (λ trie. (name : List ℕ) → option_map view (value_at trie (nibbles name)) ≡ get name (view value.now)) }
     ensures null { view value.now ≡ null → result ≡ Ok map.empty }
     ensures kind { (result ≡ Err JsonError.Kind) ↔ IsOtherKind (view value.now) }
     ensures float { (result ≡ Err JsonError.Float) ↔ ((¬ IsOtherKind (view value.now)) × IsTrue (has_float (view value.now))) }
@@ -105,7 +111,8 @@ fn from_members(
     alloc: Global,
     members: &Map<String, Value>,
 ) -> Result<Trie<String, Value>, JsonError>
-    ensures members { IfOk result (λ trie. members_view (pairs_of trie) ≡ members_view members.now.entries) }
+    ensures object { IfOk result (λ trie. members_view (pairs_of trie) ≡ members_view members.now.entries) }
+    ensures members { IfOk result (λ trie. (name : List ℕ) → option_map view (value_at trie (nibbles name)) ≡ get_member name (members_view members.now.entries)) }
     ensures no_float { OnOk result (IsFalse (members_have_float (members_view members.now.entries))) }
     ensures float { (result ≡ Err JsonError.Float) ↔ IsTrue (members_have_float (members_view members.now.entries)) }
     ensures any_kind { IfErr result (λ e. e ≢ JsonError.Kind) }

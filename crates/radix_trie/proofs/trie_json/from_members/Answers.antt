@@ -1,9 +1,10 @@
 use Rattle.std.proofs.Common.{rules, ◌≡◌, ◌∙◌, ap, sym, subst}
 use Rattle.std.specs.FinMap as fin
 use Rattle.serde_json.specs.Data.{no_members}
+use Rattle.serde_json.specs.Find.{get_member}
 use Rattle.serde_json.specs.View.{members_view}
 use Rattle.radix_trie.specs.Json.{pairs_of}
-use Rattle.radix_trie.proofs.Objects.{put_all, put_all_is, put_inserted, texts_inserted, texts_empty, members_empty}
+use Rattle.radix_trie.proofs.Objects.{member_is, put_all, put_all_is, put_inserted, texts_inserted, texts_empty, members_empty}
 use Rattle.radix_trie.proofs.Texts.{encoding, AreTexts}
 use Rattle.radix_trie.proofs.trie_json.from_members.Goals as goal
 
@@ -25,3 +26,8 @@ loop-key-preserved c =
       texts = subst (λ m. AreTexts (fin.entries m)) (sym stored) (texts_inserted key value old c.loop-key.invariant.texts);
       rest = sym next ∙ c.loop-key.invariant.rest;
     }
+
+pub returns-clause-members : goal.returns-clause-members
+returns-clause-members c = λ name.
+    let whole : members_view (pairs_of c.loop-key.trie) ≡ members_view c.args.members.now.entries = search rules in
+    sym (member_is c.loop-key.trie c.loop-key.invariant.texts name) ∙ ap (get_member name) whole

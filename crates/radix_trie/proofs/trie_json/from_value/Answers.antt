@@ -1,12 +1,19 @@
 use Rattle.std.proofs.Common.{rules, ◌≡◌, ◌∙◌, ap, sym}
 use Rattle.serde_json.specs.Data.{null, object}
+use Rattle.serde_json.specs.Find.{get}
 use Rattle.serde_json.specs.View.{view}
 use Rattle.serde_json.specs.declared.value.Value.{the_lemmas}
 use Rattle.radix_trie.specs.Json.{read_as}
-use Rattle.radix_trie.proofs.Objects.{members_empty}
+use Rattle.radix_trie.proofs.Objects.{member_is, members_empty, texts_empty}
 use Rattle.radix_trie.proofs.trie_json.from_value.Goals as goal
 
 pub returns-in-Null-clause-object : goal.returns-in-Null-clause-object
 returns-in-Null-clause-object c =
     let is : view c.args.value.now ≡ null = search (rules, the_lemmas) in
     ap object (members_empty c.new.result c.new.ensures) ∙ sym (ap read_as is)
+
+pub returns-in-Null-clause-members : goal.returns-in-Null-clause-members
+returns-in-Null-clause-members c = λ name.
+    let is : view c.args.value.now ≡ null = search (rules, the_lemmas) in
+    let trie = c.new.result in
+    sym (member_is trie (texts_empty trie c.new.ensures) name) ∙ ap (λ ms. get name (object ms)) (members_empty trie c.new.ensures) ∙ sym (ap (get name) is)

@@ -1,5 +1,6 @@
 use Rattle.std.proofs.Common.{◌≡◌, map, ap, subst, IfOk}
 use Rattle.std.specs.FinMap as fin
+use Rattle.radix_trie.proofs.Objects.{member_is}
 use Rattle.radix_trie.proofs.Places.{below_nil}
 use Rattle.radix_trie.proofs.Texts.{keyed_texts, texts_rise}
 use Rattle.radix_trie.proofs.trie_json.walk.Goals as goal
@@ -10,3 +11,6 @@ returns-clause-pairs c = subst (λ ps. IfOk c.iter.result (λ it. it ≡ ps)) (a
 pub returns-clause-rising : goal.returns-clause-rising
 returns-clause-rising c =
     texts_rise (fin.entries c.args.trie.now) (fin.entries_sorted c.args.trie.now) (keyed_texts (fin.entries c.args.trie.now) c.root-root.ensures.keyed)
+
+pub returns-clause-members : goal.returns-clause-members
+returns-clause-members c = member_is c.args.trie.now (keyed_texts (fin.entries c.args.trie.now) c.root-root.ensures.keyed)

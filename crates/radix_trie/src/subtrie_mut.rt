@@ -1,5 +1,6 @@
 //! Views for writing.
 ghost use Rattle.std.specs.FinMap as map;
+ghost use Rattle.std.specs.Option.{option_copied_mut};
 ghost use Rattle.std.specs.Prelude.{◌≡◌, ◌≢◌, ℕ, List, None, IsOk, IfOk, OnOk, IfErr, OnErr, IsErrAnd, Err, option_copied};
 ghost use Rattle.nibble_map.specs.Lists.{Each, IsPrefix};
 ghost use Rattle.nibble_map.specs.MapQueries.{AreKids, IsKid};
@@ -72,6 +73,21 @@ impl<'a, K: TrieKey, V> SubTrieMut<'a, K, V> {
         ensures short { ((q : List ℕ) → IsKid (map_behind self.now) (path_of self.now) q → IsShort q) → IsOk result }
     {
         self.place().children()
+    }
+
+    /// The value at the path, for writing, if one is stored there. It takes no memory.
+    ///
+    /// What the view is once the value has been written no contract can tell; where that matters, open the trie's value by
+    /// `Trie::at_mut` at the path.
+    pub fn value_mut(&mut self) -> Option<&mut V>
+        ensures { option_copied_mut result ≡ value_at (map_behind self.old) (path_of self.old) }
+    {
+        let SubTrieMut {
+            trie,
+            path,
+            prefix: _,
+        } = self;
+        trie.at_mut(path)
     }
 
     /// The path's fragment when the view was made.

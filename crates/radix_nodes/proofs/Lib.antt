@@ -1,6 +1,7 @@
 pub mod Nodes
 pub mod Steps
 pub mod Removes
+pub mod Placed
 pub mod Searches
 pub mod Sizes
 pub mod SameNodes
@@ -9,3 +10,4 @@ pub mod Lending
 pub mod FewKids
 pub mod CopiedNodes
 pub mod Soundness
+pub mod Counted

@@ -2,5 +2,7 @@
 #![tactic(auto)]
 
 pub mod fragments;
+#[cfg(test)]
+mod tests;
 pub mod traversal;
 pub mod trie_node;

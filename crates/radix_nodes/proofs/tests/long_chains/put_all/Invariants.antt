@@ -1,0 +1,6 @@
+use Rattle.nibble_map.specs.Kept.{IsTreePlaced}
+use Rattle.radix_nodes.specs.Nodes.{tree_of}
+use Rattle.radix_nodes.proofs.tests.long_chains.put_all.Given as goal
+
+abbrev pub invariant-loop-key : goal.invariant-loop-key
+invariant-loop-key g l = IsTreePlaced (tree_of l.root)

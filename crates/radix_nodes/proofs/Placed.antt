@@ -1,5 +1,5 @@
 -- After an insertion or a removal the children stand at their places, whether it was refused or not.
-use Rattle.std.proofs.Common.{◌≡◌, List, ℕ, Option, Some, None, Result, Ok, Err, sym, subst}
+use Rattle.std.proofs.Common.{List, ℕ, Option, Some, None, Result, Ok, Err, sym, subst}
 use Rattle.nibble_map.specs.Kept.{Tree, IsTreePlaced}
 use Rattle.radix_keys.specs.declared.nibbles.Memory.{Memory}
 use Rattle.radix_nodes.specs.declared.trie_node.KeyValue.{KeyValue}

@@ -8,7 +8,7 @@ use Rattle.nibble_map.specs.Masks.{bit_of}
 use Rattle.nibble_map.specs.Kept.{Tree, Kids, none, more, IsAt, plain, firsts, IsPlaced, IsTreePlaced, IsTreeFull, entries_in, entries_at, nodes_in, nibbles_in}
 use Rattle.nibble_map.specs.KeptEdits.{remove_kid, without_pair, without_kid, IsOne, merged_into, merged}
 use Rattle.nibble_map.specs.Alters.{AltersKid, AltersRoot, CutsRoot}
-use Rattle.nibble_map.proofs.Masks.{cleared_is, bit_before, eqb_other}
+use Rattle.nibble_map.proofs.Masks.{cleared_is, cleared_lt, bit_before, eqb_other}
 use Rattle.nibble_map.proofs.KeptKids.{swaps_after, placed_rises, at_after}
 
 module _ {P : Type 0} where
@@ -74,15 +74,15 @@ module _ {P : Type 0} where
     };
   }
 
-  pub leaf_goes : (t u : Tree P) (i y : ℕ) (x : P) → IsAt i t.kids u → u.pair ≡ Some x → u.kids ≡ none → first u.fragment ≡ y → y < 16 → t.mask < 2 ^ 16 → IsTreePlaced t →
+  pub leaf_goes : (t u : Tree P) (i y : ℕ) (x : P) → IsAt i t.kids u → u.pair ≡ Some x → u.kids ≡ none → first u.fragment ≡ y → y < 16 → IsTreePlaced t →
       CutsRoot (t.fragment ++ u.fragment) x 1 (length u.fragment) t (without_kid i y t)
-  leaf_goes t u i y x a is bare_ start low fits h = record {
+  leaf_goes t u i y x a is bare_ start low h = record {
     fragment = refl;
     below = λ f. remove_full i t.kids f;
     alters = record {
       start = refl;
       some = λ s. s;
-      placed = ((λ n. cleared_is t.mask y n (firsts t.kids) low fits h.0 ∙ sym (rw (← start) (remove_bits 0 i t.kids u n a h.1))), remove_placed 0 i t.kids h.1);
+      placed = ((cleared_lt t.mask y h.0.0, λ n. cleared_is t.mask y n (firsts t.kids) low h.0 ∙ sym (rw (← start) (remove_bits 0 i t.kids u n a h.1))), remove_placed 0 i t.kids h.1);
       swaps = λ q. subst (λ l. Swaps l [] (entries_at q t) (entries_at q (without_kid i y t))) (leaf_entries q)
           (swaps_after (entry (q ++ t.fragment) t.pair) _ _ _ _ (remove_swaps i t.kids u (q ++ t.fragment) a));
       nodes = let e = remove_nodes i t.kids u a in let z = ap nodes_in bare_ in omega (arith, e, z);

@@ -7,7 +7,7 @@ use Rattle.nibble_map.specs.Masks.{IsMask, IsPlaceOf, marked}
 use Rattle.nibble_map.specs.Kept.{Tree, Kids, none, more, IsAt, plain, firsts, IsPlaced, IsTreePlaced, entries_in, entries_at}
 use Rattle.nibble_map.specs.KeptEdits.{insert_kid, with_pair, with_kid, with_new_kid, leaf, lowered}
 use Rattle.nibble_map.specs.Alters.{AltersKid, AltersNode, Replaces, Edits}
-use Rattle.nibble_map.proofs.Masks.{marked_is, none_is_mask}
+use Rattle.nibble_map.proofs.Masks.{marked_is, marked_lt, none_is_mask}
 use Rattle.nibble_map.proofs.KeptKids.{swaps_after, set_firsts, set_placed, set_full, set_many, set_swaps, set_nodes, set_nibbles, at_placed, insert_bits, insert_placed, insert_full, insert_many, insert_swaps, insert_nodes, insert_nibbles}
 
 module _ {P : Type 0} where
@@ -65,7 +65,7 @@ module _ {P : Type 0} where
       Edits (t.fragment ++ f) x None 1 (length f) t (with_new_kid i (first f) (leaf f x) t)
   leaf_edits t x f i h s low at =
       let u : Tree P = leaf f x in
-      let mask : IsMask (marked t.mask (first f)) (firsts (insert_kid i u t.kids)) = λ n. marked_is t.mask (first f) n (firsts t.kids) low h.0 ∙ sym (insert_bits i t.kids u n) in
+      let mask : IsMask (marked t.mask (first f)) (firsts (insert_kid i u t.kids)) = (marked_lt t.mask (first f) h.0.0, λ n. marked_is t.mask (first f) n (firsts t.kids) low h.0 ∙ sym (insert_bits i t.kids u n)) in
       let placed : IsPlaced 0 (insert_kid i u t.kids) = subst (λ j. IsPlaced 0 (insert_kid j u t.kids)) (sym at.1) (insert_placed 0 (first f) t.kids u refl s (none_is_mask, tt) (omega arith) at.0 h.1) in
       record {
         full = λ g. (elim g.0 [ inl s ↦ inl s | inr m ↦ inr (insert_many i t.kids u (no_many t.kids m)) ], insert_full i t.kids u (inl refl, tt) g.1);
@@ -87,7 +87,7 @@ module _ {P : Type 0} where
   -- a node put above
   module _ (t : Tree P) (f g : List ℕ) (cut : t.fragment ≡ f ++ g) (top : f ≢ []) (end : g ≢ []) (low : first g < 16) (h : IsTreePlaced t) where
     pub lowered_placed : IsTreePlaced (lowered f g t)
-    lowered_placed = ((λ n. marked_is 0 (first g) n [] low none_is_mask), (end, omega arith, h.0, h.1, tt))
+    lowered_placed = ((marked_lt 0 (first g) (omega arith), λ n. marked_is 0 (first g) n [] low none_is_mask), (end, omega arith, h.0, h.1, tt))
 
     lowered_entries : (q : List ℕ) → entries_at q (lowered f g t) ≡ entries_at q t
     lowered_entries q =

@@ -27,7 +27,7 @@ few_rising low (x ∷ xs) rises within none =
 module _ {P : Type 0} where
   few_kids : (t : Tree P) → t.mask < 2 ^ 16 → IsTreePlaced t → length (firsts t.kids) ≤ 16
   few_kids t fits placed =
-      let few = few_rising 0 (firsts t.kids) (placed_rises 0 t.kids placed.1) (omega arith) (λ n big. sym (placed.0 n) ∙ bit_at_above t.mask 16 n fits big) in
+      let few = few_rising 0 (firsts t.kids) (placed_rises 0 t.kids placed.1) (omega arith) (λ n big. sym (placed.0.1 n) ∙ bit_at_above t.mask 16 n fits big) in
       omega (arith, few)
 
 module _ {K V : Type 0} where

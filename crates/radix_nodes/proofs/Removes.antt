@@ -1,5 +1,5 @@
 -- The steps of a removal, at nodes.
-use Rattle.std.proofs.Common.{◌≡◌, ◌≢◌, ◌⊎◌, ℕ, zero, suc, ◌+◌, ◌-◌, ◌<◌, ◌≤◌, List, [], ◌∷◌, ◌++◌, length, get_or, Option, Some, None, IsSome, refl, ap, sym, subst, ◌∙◌, arith, inl, inr, Result, Ok, Err, IfOk, IsOk, OnErr, false, true, Vec, ◌^◌, MatchOption}
+use Rattle.std.proofs.Common.{◌≡◌, ◌≢◌, ◌⊎◌, ℕ, zero, suc, ◌+◌, ◌-◌, ◌<◌, ◌≤◌, List, [], ◌∷◌, ◌++◌, length, get_or, Option, Some, None, IsSome, refl, ap, sym, subst, ◌∙◌, arith, inl, inr, Result, Ok, Err, IfOk, IsOk, OnErr, false, true, Vec, MatchOption}
 use Rattle.std.specs.declared.boxed.Box.{Box}
 use Rattle.std.specs.declared.alloc.Global.{Global}
 use Rattle.std.specs.List.{remove}
@@ -167,14 +167,14 @@ module _ {K V : Type 0} where
       omega (arith, h s.0 s.1, r, e)
 
   -- a leaf that was taken out, by what was made of it
-  module _ (n leaf : TrieNode K V) (i : ℕ) (u : Tree (KeyValue K V)) (h : IsTreePlaced (tree_of n)) (fits : (out-TrieNode K V n).mask < 2 ^ 16) (at : IsAt i (tree_of n).kids (tree_of leaf)) (asked : IsAt i (tree_of n).kids u)
+  module _ (n leaf : TrieNode K V) (i : ℕ) (u : Tree (KeyValue K V)) (h : IsTreePlaced (tree_of n)) (at : IsAt i (tree_of n).kids (tree_of leaf)) (asked : IsAt i (tree_of n).kids u)
       (ends : u.kids ≡ none) (y : ℕ) (start : first (tree_of leaf).fragment ≡ y) (low : y < 16) where
     same : u ≡ tree_of leaf
     same = at_same i (tree_of n).kids (tree_of leaf) u at asked
 
     goes : (x : KeyValue K V) → unboxed (out-TrieNode K V leaf).pair ≡ Some x →
         CutsRoot ((tree_of n).fragment ++ (tree_of leaf).fragment) x 1 (length (tree_of leaf).fragment) (tree_of n) (without_kid i y (tree_of n))
-    goes x e = leaf_goes (tree_of n) (tree_of leaf) i y x at (pair_out leaf ∙ e) (ap (λ (t : Tree (KeyValue K V)). t.kids) (sym same) ∙ ends) start low (subst (λ m. m < 2 ^ 16) (sym (mask_out n)) fits) h
+    goes x e = leaf_goes (tree_of n) (tree_of leaf) i y x at (pair_out leaf ∙ e) (ap (λ (t : Tree (KeyValue K V)). t.kids) (sym same) ∙ ends) start low h
 
     pub leaf_cut : (r : Option (Taken K V)) (t' : Tree (KeyValue K V)) → unboxed (out-TrieNode K V leaf).pair ≢ None →
         MatchOption r (unboxed (out-TrieNode K V leaf).pair ≡ None) (λ t. (unboxed (out-TrieNode K V leaf).pair ≡ Some t.pair) × (t.nodes ≡ 1) × (t.nibbles ≡ length (fragment_of leaf))) →
@@ -260,11 +260,11 @@ module _ {K V : Type 0} where
       path ≡ fragment_of n → CutsRoot path x 0 0 (tree_of n) t'
   pair_root n x t' path held h et ep = rw (et, ep, ← fragment_out n) (pair_goes (tree_of n) x (pair_out n ∙ sym held) h)
 
-  pub leaf_root : (n leaf : TrieNode K V) (i y : ℕ) (r : Option (Taken K V)) (t' : Tree (KeyValue K V)) (path : List ℕ) → IsTreePlaced (tree_of n) → (out-TrieNode K V n).mask < 2 ^ 16 →
+  pub leaf_root : (n leaf : TrieNode K V) (i y : ℕ) (r : Option (Taken K V)) (t' : Tree (KeyValue K V)) (path : List ℕ) → IsTreePlaced (tree_of n) →
       IsAt i (tree_of n).kids (tree_of leaf) → (tree_of leaf).kids ≡ none → first (tree_of leaf).fragment ≡ y → y < 16 → unboxed (out-TrieNode K V leaf).pair ≢ None →
       MatchOption r (unboxed (out-TrieNode K V leaf).pair ≡ None) (λ t. (unboxed (out-TrieNode K V leaf).pair ≡ Some t.pair) × (t.nodes ≡ 1) × (t.nibbles ≡ length (fragment_of leaf))) →
       t' ≡ without_kid i y (tree_of n) → path ≡ fragment_of n ++ (tree_of leaf).fragment → RootOutcome (Ok r) path (tree_of n) t'
-  leaf_root n leaf i y None t' path h fits at ends start low has m et ep = absurd (has m)
-  leaf_root n leaf i y (Some t) t' path h fits at ends start low has m et ep =
+  leaf_root n leaf i y None t' path h at ends start low has m et ep = absurd (has m)
+  leaf_root n leaf i y (Some t) t' path h at ends start low has m et ep =
       rw (et, m.1, m.2, ep, ← fragment_out n, ← fragment_out leaf)
-      (leaf_goes (tree_of n) (tree_of leaf) i y t.pair at (pair_out leaf ∙ m.0) ends start low (subst (λ m. m < 2 ^ 16) (sym (mask_out n)) fits) h)
+      (leaf_goes (tree_of n) (tree_of leaf) i y t.pair at (pair_out leaf ∙ m.0) ends start low h)

@@ -1,5 +1,5 @@
 -- The test of a node says whether it is canonical.
-use Rattle.std.proofs.Common.{◌≡◌, ◌≢◌, ◌⊎◌, ◌↔◌, ℕ, suc, ◌+◌, ◌<◌, ◌≤◌, ◌==◌, nat_lt, cond, Bool, true, false, ◌&&◌, List, [], ◌∷◌, ◌++◌, length, get_or, drop, drop-cons, add-one, is_some, IsSome, Some, None, Option, refl, ap, sym, subst, ◌∙◌, arith, inl, inr}
+use Rattle.std.proofs.Common.{◌≡◌, ◌≢◌, ◌⊎◌, ◌↔◌, ℕ, suc, ◌+◌, ◌^◌, ◌<◌, ◌≤◌, ◌==◌, nat_lt, cond, Bool, true, false, ◌&&◌, List, [], ◌∷◌, ◌++◌, length, get_or, drop, drop-cons, add-one, is_some, IsSome, Some, None, Option, refl, ap, sym, subst, ◌∙◌, arith, inl, inr}
 use Rattle.std.specs.Bool.{Decides}
 use Rattle.std.specs.Int.{bit_at, w16}
 use Rattle.std.specs.declared.boxed.Box.{Box}
@@ -16,10 +16,11 @@ use Rattle.nibble_map.specs.Trees as trees
 use Rattle.nibble_map.specs.Masks.{IsMask, bit_of, marked}
 use Rattle.nibble_map.specs.Kept.{Tree, Kids, none, more, plain, firsts, IsPlaced, entries_in, entries_at}
 use Rattle.nibble_map.proofs.Canonical.{local_canonical, canonical_local}
+use Rattle.nibble_map.proofs.Masks.{marked_lt, mask_small}
 use Rattle.radix_nodes.specs.declared.trie_node.KeyValue.{KeyValue}
 use Rattle.radix_nodes.specs.declared.trie_node.TrieNode.{TrieNode, out-TrieNode}
 use Rattle.radix_nodes.specs.Nodes.{tree_of, kids_of, fragment_of, unboxed}
-use Rattle.radix_nodes.specs.Soundness.{AreNibbles, IsCanonicalAt, key_test, form_test, starts, own_test, kids_test, node_test, test_of, tests_of, pairs_of, pairs_of_all}
+use Rattle.radix_nodes.specs.Soundness.{IsCanonicalAt, key_test, form_test, starts, own_test, kids_test, node_test, test_of, tests_of, pairs_of, pairs_of_all}
 use Rattle.std.specs.Prelude.{vec_len}
 use Rattle.nibble_map.specs.KeptSizes.{own_count, pairs_in}
 use Rattle.nibble_map.proofs.KeptSizes.{pairs_count}
@@ -37,8 +38,11 @@ mixed seen n (x ∷ xs) = cond (x == n) 1 (mixed seen n xs)
 
 -- numbers below 16, rising or not
 abbrev AreSmall : List ℕ → Type 0
-AreSmall [] = Unit {0}
-AreSmall (x ∷ xs) = (x < 16) × AreSmall xs
+AreSmall xs = Each (λ x. x < 16) xs
+
+with_bits_lt : (xs : List ℕ) (seen : ℕ) → seen < 2 ^ 16 → with_bits seen xs < 2 ^ 16
+with_bits_lt [] seen fits = fits
+with_bits_lt (x ∷ xs) seen fits = with_bits_lt xs (marked seen x) (marked_lt seen x fits)
 
 mixed_same : (seen x : ℕ) (xs : List ℕ) → x < 16 → mixed (marked seen x) x xs ≡ 1
 mixed_same seen x [] l = bit_at_set_same w16 seen x l
@@ -63,8 +67,8 @@ mixed_zero n (x ∷ xs) = ap (cond (x == n) 1) (mixed_zero n xs)
 
 mask_is : (mask : ℕ) (xs : List ℕ) → AreSmall xs → (with_bits 0 xs ≡ mask) ↔ IsMask mask xs
 mask_is mask xs h = (
-  λ e n. ap (λ m. bit_at m n) (sym e) ∙ with_bits_at xs 0 n h ∙ mixed_zero n xs,
-  λ is. same_from_bits (with_bits 0 xs) mask (λ n. with_bits_at xs 0 n h ∙ mixed_zero n xs ∙ sym (is n)),
+  λ e. (subst (λ m. m < 2 ^ 16) e (with_bits_lt xs 0 (omega arith)), λ n. ap (λ m. bit_at m n) (sym e) ∙ with_bits_at xs 0 n h ∙ mixed_zero n xs),
+  λ is. same_from_bits (with_bits 0 xs) mask (λ n. with_bits_at xs 0 n h ∙ mixed_zero n xs ∙ sym (is.1 n)),
 )
 
 Each-left : {A : Type 0} (P : A → Type 0) (xs ys : List A) → Each P (xs ++ ys) → Each P xs × Each P ys
@@ -110,13 +114,9 @@ module _ {K V : Type 0} where
         Decides (own_test e path f o (length (firsts k))) (Keyed (entry path o) × ((path ≡ []) ⊎ ((f ≢ []) × (IsSome o ⊎ AreMany (plain k)))))
     own_is path f o k = Decides-and _ _ (key_is path o) (form_is path f o k)
 
-    small : (k : Kids (KeyValue K V)) → AreNibbles k → AreSmall (firsts k)
-    small none h = tt
-    small (more f o m kids others) h = (h.0, small others h.2)
-
     -- what is said of children
     abbrev Sound : List ℕ → ℕ → Kids (KeyValue K V) → Type 0
-    Sound p low k = IsPlaced low k × (IsFull (plain k) × (AreNibbles k × Keyed (entries_in p k)))
+    Sound p low k = IsPlaced low k × (IsFull (plain k) × (AreSmall (firsts k) × Keyed (entries_in p k)))
 
     filled : (p f : List ℕ) (o : Option (KeyValue K V)) (k : Kids (KeyValue K V)) → f ≢ [] → (p ++ f ≡ []) ⊎ ((f ≢ []) × (IsSome o ⊎ AreMany (plain k))) → IsSome o ⊎ AreMany (plain k)
     filled p f o k s (inl z) = absurd (s (tail_nil p f z))
@@ -141,10 +141,10 @@ module _ {K V : Type 0} where
             Sound p low (more f o m kids others) × (with_bits seen (firsts (more f o m kids others)) ≡ mask)
         to h =
             let own = h.1.0.0 in let below = h.1.0.1.0 in let beside = h.1.1.0 in
-            let is = (mask_is m (firsts kids) (small kids below.1.1.0)).0 h.1.0.1.1 in (
+            let is = (mask_is m (firsts kids) below.1.1.0).0 h.1.0.1.1 in (
               (
                 (h.0.0, h.0.1.0, is, below.0, subst (λ n. IsPlaced n others) next beside.0),
-                ((filled p f o kids h.0.0 own.1, below.1.0, beside.1.0), ((h.0.1.1, below.1.1.0, beside.1.1.0), Each-join _ (entry (p ++ f) o ++ entries_in (p ++ f) kids) (entries_in p others) (Each-join _ (entry (p ++ f) o) (entries_in (p ++ f) kids) own.0 below.1.1.1) beside.1.1.1)),
+                ((filled p f o kids h.0.0 own.1, below.1.0, beside.1.0), ((h.0.1.1, beside.1.1.0), Each-join _ (entry (p ++ f) o ++ entries_in (p ++ f) kids) (entries_in p others) (Each-join _ (entry (p ++ f) o) (entries_in (p ++ f) kids) own.0 below.1.1.1) beside.1.1.1)),
               ),
               h.1.1.1,
             )
@@ -155,15 +155,16 @@ module _ {K V : Type 0} where
             × (Sound p (first f + 1) others × (with_bits (marked seen (first f)) (firsts others) ≡ mask)))
         from h =
             let placed = h.0.0 in let full = h.0.1.0 in let low_ = h.0.1.1.0 in
+            let small = mask_small m (firsts kids) placed.2 in
             let cut = Each-left _ (entry (p ++ f) o ++ entries_in (p ++ f) kids) (entries_in p others) h.0.1.1.1 in
             let part = Each-left _ (entry (p ++ f) o) (entries_in (p ++ f) kids) cut.0 in (
               (placed.0, (placed.1, low_.0)),
               (
                 (
                   (part.0, inr (placed.0, full.0)),
-                  ((placed.3, (full.1, (low_.1, part.1))), (mask_is m (firsts kids) (small kids low_.1)).1 placed.2),
+                  ((placed.3, (full.1, (small, part.1))), (mask_is m (firsts kids) small).1 placed.2),
                 ),
-                ((subst (λ n. IsPlaced n others) (sym next) placed.4, (full.2, (low_.2, cut.1))), h.1),
+                ((subst (λ n. IsPlaced n others) (sym next) placed.4, (full.2, (low_.1, cut.1))), h.1),
               ),
             )
 
@@ -180,8 +181,7 @@ module _ {K V : Type 0} where
         to h =
             let s = h.1.0 in record {
               keyed = Each-join _ (entry (q ++ t.fragment) t.pair) (entries_in (q ++ t.fragment) t.kids) h.0.0 s.1.1.1;
-              nibbles = s.1.1.0;
-              placed = ((mask_is t.mask (firsts t.kids) (small t.kids s.1.1.0)).0 h.1.1, s.0);
+              placed = ((mask_is t.mask (firsts t.kids) s.1.1.0).0 h.1.1, s.0);
               points = local_canonical q t.fragment t.pair (plain t.kids) (plain_placed 0 t.kids s.0, s.1.0, h.0.1);
             }
 
@@ -190,7 +190,8 @@ module _ {K V : Type 0} where
         from h =
             let part = Each-left _ (entry (q ++ t.fragment) t.pair) (entries_in (q ++ t.fragment) t.kids) h.keyed in
             let l = canonical_local q t.fragment t.pair (plain t.kids) h.points in
-            ((part.0, l.2), ((h.placed.1, (l.1, (h.nibbles, part.1))), (mask_is t.mask (firsts t.kids) (small t.kids h.nibbles)).1 h.placed.0))
+            let small = mask_small t.mask (firsts t.kids) h.placed.0 in
+            ((part.0, l.2), ((h.placed.1, (l.1, (small, part.1))), (mask_is t.mask (firsts t.kids) small).1 h.placed.0))
 
 pub unboxed_some : {K V : Type 0} (o : Option (Box (KeyValue K V) Global)) → is_some (unboxed o) ≡ is_some o
 unboxed_some None = refl

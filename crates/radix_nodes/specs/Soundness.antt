@@ -1,5 +1,5 @@
 -- Which nodes are canonical below a path, and the same as a test.
-use Rattle.std.specs.Prelude.{◌≡◌, ℕ, ◌+◌, ◌<◌, Bool, true, false, not, ◌&&◌, ◌||◌, ◌==◌, nat_lt, nat_eq, List, [], ◌∷◌, ◌++◌, length, Option, Some, None, is_some, ⊤}
+use Rattle.std.specs.Prelude.{◌≡◌, ℕ, ◌+◌, ◌<◌, Bool, true, false, not, ◌&&◌, ◌||◌, ◌==◌, nat_lt, nat_eq, List, [], ◌∷◌, ◌++◌, length, Option, Some, None, is_some}
 use Rattle.std.specs.Cmp.Lexicographic.{pointwise}
 use Rattle.nibble_map.specs.Lists.{Each}
 use Rattle.nibble_map.specs.Trees.{first}
@@ -19,16 +19,10 @@ starts low [] = false
 starts low (x ∷ xs) = not (nat_lt x low) && nat_lt x 16
 
 module _ {K V : Type 0} where
-  -- each child begins with one of the sixteen nibbles
-  abbrev pub AreNibbles : Kids (KeyValue K V) → Type 0
-  AreNibbles none = ⊤
-  AreNibbles (more f o m kids others) = (first f < 16) × AreNibbles kids × AreNibbles others
-
   -- A node below the path q: each pair's key has its path as its encoding; each child stands at the place that its first nibble
   -- names, and the masks name these; the paths are the points of the pairs.
   pub record IsCanonicalAt (encoding : K → List ℕ) (q : List ℕ) (t : Tree (KeyValue K V)) : Type 0 where
     pub keyed : Each (λ e. encoding e.1.key ≡ e.0) (entries_at q t)
-    pub nibbles : AreNibbles t.kids
     pub placed : IsTreePlaced t
     pub points : forest.IsCanonicalAt q t.fragment t.pair (plain t.kids)
 

@@ -1,5 +1,5 @@
 //! Linking and unlinking of nodes: none of these takes memory.
-ghost use Rattle.std.specs.Prelude.{◌≡◌, ◌+◌, ◌<◌, ◌≤◌, ◌^◌, ℕ, None, vec_len};
+ghost use Rattle.std.specs.Prelude.{◌≡◌, ◌+◌, ◌<◌, ◌≤◌, ℕ, None, vec_len};
 ghost use Rattle.nibble_map.specs.Trees.{first};
 ghost use Rattle.nibble_map.specs.Kept.{IsTreePlaced, IsAt};
 ghost use Rattle.nibble_map.specs.KeptEdits.{with_new_kid, without_kid, lowered, merged};
@@ -28,7 +28,6 @@ pub fn unlink<K, V>(node: &mut TrieNode<K, V>, i: usize) -> Box<TrieNode<K, V>>
     ensures child { IsAt i (tree_of node.old).kids (tree_of result.value) }
     ensures tree { tree_of node.new ≡ without_kid i (first (tree_of result.value).fragment) (tree_of node.old) }
     ensures nibble { first (tree_of result.value).fragment < 16 }
-    ensures fits { (out_of node.old).mask < 2 ^ 16 }
     ensures same { (out_of node.new).pair ≡ (out_of node.old).pair }
     ensures less { vec_len (out_of node.new).children + 1 ≡ vec_len (out_of node.old).children }
 {

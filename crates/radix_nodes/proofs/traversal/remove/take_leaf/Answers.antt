@@ -33,7 +33,7 @@ returns-in-Ok g c u a =
     let one : IsOne (remove_kid c.args.i (tree_of n).kids) = subst (λ t. IsOne t.kids) c.unlink-leaf.ensures.tree (one_kid c.unlink-leaf.new.node (omega (arith, two, less, o'))) in
     let has = held n leaf c.args.i c.index.result.now c.requires.placed (omega (arith, c.requires.within, o)) (sym c.index.ensures) c.unlink-leaf.ensures.child
     (subst (λ m. IsSome (unboxed (out m).pair)) c.deref.ensures c.if-not-has_pair.ensures) in
-    leaf_cut_merged n leaf c.args.i u c.requires.placed c.unlink-leaf.ensures.fits c.unlink-leaf.ensures.child a (c.requires.leaf u a) (first (tree_of leaf).fragment) refl c.unlink-leaf.ensures.nibble
+    leaf_cut_merged n leaf c.args.i u c.requires.placed c.unlink-leaf.ensures.child a (c.requires.leaf u a) (first (tree_of leaf).fragment) refl c.unlink-leaf.ensures.nibble
     c.make_taken.result (tree_of c.absorb.new.node) has c.make_taken.ensures (pair_out n ∙ ap unboxed c.if-leaves_one.ensures.0) one c.requires.some (c.absorb.ensures ∙ ap merged c.unlink-leaf.ensures.tree)
 
 pub returns-else-leaves_one : goal.returns-else-leaves_one
@@ -44,7 +44,7 @@ returns-else-leaves_one g c u a =
     let leaf = c.unlink-leaf-else-leaves_one.result.value in
     let has = held n leaf c.args.i c.index.result.now c.requires.placed (omega (arith, c.requires.within, o)) (sym c.index.ensures) c.unlink-leaf-else-leaves_one.ensures.child
     (subst (λ m. IsSome (unboxed (out m).pair)) c.deref.ensures c.if-not-has_pair.ensures) in
-    leaf_cut n leaf c.args.i u c.requires.placed c.unlink-leaf-else-leaves_one.ensures.fits c.unlink-leaf-else-leaves_one.ensures.child a (c.requires.leaf u a) (first (tree_of leaf).fragment) refl c.unlink-leaf-else-leaves_one.ensures.nibble
+    leaf_cut n leaf c.args.i u c.requires.placed c.unlink-leaf-else-leaves_one.ensures.child a (c.requires.leaf u a) (first (tree_of leaf).fragment) refl c.unlink-leaf-else-leaves_one.ensures.nibble
     c.make_taken-else-leaves_one.result (tree_of c.unlink-leaf-else-leaves_one.new.node) has c.make_taken-else-leaves_one.ensures
     (kept_full n c.args.i (first (tree_of leaf).fragment) (subst (λ k. IsSome (unboxed (out n).pair) ⊎ (k ≢ 2)) o c.if-leaves_one.ensures)) c.unlink-leaf-else-leaves_one.ensures.tree
 

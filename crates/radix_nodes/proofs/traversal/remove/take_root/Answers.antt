@@ -49,7 +49,7 @@ returns-else-not-has_pair g c =
     let has = held n leaf i c.index-then-is_end.result.now c.requires lt (sym c.index-then-is_end.ensures) at (subst (λ m. IsSome (unboxed (out m).pair)) c.deref-then-is_end.ensures c.if-not-has_pair.ensures) in
     let f = (tree_of leaf).fragment in
     let end : f ≡ key = sym (append-nil f) ∙ ap (λ r. f ++ r) (sym (ap (λ d. drop d key) (c.if-next-len.true ∙ c.len-in-Some-step.ensures) ∙ drop-length key)) ∙ c.in-Some-step.ensures.path (tree_of leaf) at in
-    leaf_root n leaf i (first f) c.make_taken.result _ (fragment_of n ++ key) c.requires c.unlink-leaf.ensures.fits at ends refl c.unlink-leaf.ensures.nibble has c.make_taken.ensures c.unlink-leaf.ensures.tree
+    leaf_root n leaf i (first f) c.make_taken.result _ (fragment_of n ++ key) c.requires at ends refl c.unlink-leaf.ensures.nibble has c.make_taken.ensures c.unlink-leaf.ensures.tree
     (ap (λ k. fragment_of n ++ k) (sym end))
 
 pub returns-else-next-len : goal.returns-else-next-len

@@ -73,7 +73,7 @@ module _ {P : Type 0} where
   pub few_kids : (t : Tree P) → IsTreePlaced t → t.mask < 2 ^ 16 → length (firsts t.kids) ≤ 16
   few_kids t h fits =
       zero_more (few_rising 0 (firsts t.kids) (placed_rises 0 t.kids h.1) (λ n i. elim (leb_tells 16 n) [
-        | inl big ↦ (let none_above = bit_at_above t.mask 16 n fits (omega arith) in let named = h.0 n in absurd (omega (arith, none_above, named, i)))
+        | inl big ↦ (let none_above = bit_at_above t.mask 16 n fits (omega arith) in let named = h.0.1 n in absurd (omega (arith, none_above, named, i)))
         | inr small ↦ omega arith
       ]) (omega arith))
     where

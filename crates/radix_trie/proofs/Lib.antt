@@ -19,3 +19,4 @@ mod Written
 mod Copies
 mod Texts
 mod Objects
+mod Checked

@@ -5,6 +5,7 @@ mod building;
 mod commands;
 mod counted;
 mod equality;
+mod integrity;
 pub mod iter;
 mod lends;
 mod opens;

@@ -35,7 +35,11 @@ fn child_answers_for_keys_below(rt: HostRuntime) {
         return;
     };
     for (key, value) in [("abcdef", 18), ("abcdefgh", 19)] {
-        assert_eq!(rt; child.get(&key).map(|found| found.copied()), Ok(Some(value)), "{key}");
+        assert_eq!(rt;
+            child.get(&key).map(|found| found.copied()),
+            Ok(Some(value)),
+            "{key}"
+        );
     }
     assert_eq!(rt; child.get(&"abcd"), Err(SubTrieError::Outside));
     assert!(rt; children.next().is_none());

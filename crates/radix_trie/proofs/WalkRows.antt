@@ -8,7 +8,8 @@ use Rattle.radix_nodes.specs.declared.trie_node.KeyValue.{KeyValue}
 use Rattle.radix_nodes.specs.declared.trie_node.TrieNode.{TrieNode, out-TrieNode}
 use Rattle.radix_nodes.specs.Nodes.{kids_of, tree_of, unboxed}
 use Rattle.radix_nodes.proofs.Nodes.{kids_out, pair_out}
-use Rattle.radix_trie.specs.Walks.{parts_of, first_pair, own_pair, rows_of, with_row}
+use Rattle.radix_trie.specs.Pairs.{pair_of}
+use Rattle.radix_trie.specs.Walks.{first_pair, own_pair, rows_of, with_row}
 
 abbrev Row : Type 0 → Type 0 → Type 0
 Row K V = List (Box (TrieNode K V) Global)
@@ -54,7 +55,7 @@ module _ {K V : Type 0} where
       → MatchOption o (r ≡ None) (λ b. IsSomeAnd r (λ p. p.now ≡ b.value)) → first_pair r ≡ own_pair (unboxed o)
   pointed None r is = ap first_pair is
   pointed (Some b) None is = absurd is
-  pointed (Some b) (Some p) is = ap (λ x. parts_of x ∷ []) is
+  pointed (Some b) (Some p) is = ap (λ x. pair_of x ∷ []) is
 
   -- the pair that is pointed to is the node's own
   pub pair_pointed : (n : TrieNode K V) (r : Option (Bor (KeyValue K V)))

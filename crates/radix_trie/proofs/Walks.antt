@@ -7,7 +7,8 @@ use Rattle.nibble_map.specs.Kept.{Tree, Kids, none, more, front, entries_in, ent
 use Rattle.nibble_map.specs.KeptSizes.{levels}
 use Rattle.nibble_map.specs.Swaps.{entry}
 use Rattle.radix_nodes.specs.declared.trie_node.KeyValue.{KeyValue}
-use Rattle.radix_trie.specs.Walks.{parts_of, own_pair, pairs_of, pairs_in, pairs_in_all, pending, with_row, HasRoom}
+use Rattle.radix_trie.specs.Pairs.{pair_of}
+use Rattle.radix_trie.specs.Walks.{own_pair, pairs_of, pairs_in, pairs_in_all, pending, with_row, HasRoom}
 
 -- an item lowers what is left
 pub item_progress : {X A : Type 0} (s t : List X) (x : X) (r : A) → s ≡ x ∷ t
@@ -89,7 +90,7 @@ module _ {K V : Type 0} where
   entry-pairs q (Some x) = refl
 
   append-pairs : (xs ys : List (List ℕ × KeyValue K V)) → pairs_of (xs ++ ys) ≡ pairs_of xs ++ pairs_of ys
-  append-pairs xs ys = map-append (λ e. parts_of e.1) xs ys
+  append-pairs xs ys = map-append (λ e. pair_of e.1) xs ys
 
   split : (q f : List ℕ) (o : Option (KeyValue K V)) (m : ℕ) (kids others : Kids (KeyValue K V))
       → pairs_of (entries_in q (more f o m kids others)) ≡ (own_pair o ++ pairs_of (entries_in (q ++ f) kids)) ++ pairs_of (entries_in q others)
@@ -99,7 +100,7 @@ module _ {K V : Type 0} where
       ∙ ap (λ x. x ++ pairs_of (entries_in (q ++ f) kids)) (entry-pairs (q ++ f) o))
 
   pub length_pairs : (es : List (List ℕ × KeyValue K V)) → length (pairs_of es) ≡ length es
-  length_pairs es = length-map es (λ e. parts_of e.1)
+  length_pairs es = length-map es (λ e. pair_of e.1)
 
   -- the pairs don't depend on the path above
   anywhere : (p q : List ℕ) (kids : Kids (KeyValue K V)) → pairs_of (entries_in p kids) ≡ pairs_of (entries_in q kids)

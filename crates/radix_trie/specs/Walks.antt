@@ -7,18 +7,16 @@ use Rattle.nibble_map.specs.KeptSizes.{levels}
 use Rattle.radix_nodes.specs.declared.trie_node.KeyValue.{KeyValue}
 use Rattle.radix_nodes.specs.declared.trie_node.TrieNode.{TrieNode}
 use Rattle.radix_nodes.specs.Nodes.{kids_of}
+use Rattle.radix_trie.specs.Pairs.{pair_of}
 
 -- what a `(&K, &V)` points to
 abbrev pub deref_pair : {K V : Type 0} → Bor K × Bor V → K × V
 deref_pair p = (p.0.now, p.1.now)
 
 module _ {K V : Type 0} where
-  abbrev pub parts_of : KeyValue K V → K × V
-  parts_of p = (p.key, p.value)
-
   -- the pairs of entries, without their paths
   abbrev pub pairs_of : List (List ℕ × KeyValue K V) → List (K × V)
-  pairs_of es = map (λ e. parts_of e.1) es
+  pairs_of es = map (λ e. pair_of e.1) es
 
   -- the pairs at and below a node, in the nodes' order: its own first, then those of one child after another
   abbrev pub pairs_in : Tree (KeyValue K V) → List (K × V)
@@ -31,11 +29,11 @@ module _ {K V : Type 0} where
   -- the pair at a node, if there is one
   abbrev pub own_pair : Option (KeyValue K V) → List (K × V)
   own_pair None = []
-  own_pair (Some p) = parts_of p ∷ []
+  own_pair (Some p) = pair_of p ∷ []
 
   abbrev pub first_pair : Option (Bor (KeyValue K V)) → List (K × V)
   first_pair None = []
-  first_pair (Some p) = parts_of p.now ∷ []
+  first_pair (Some p) = pair_of p.now ∷ []
 
   -- the rows of a stack
   abbrev pub rows_of : List (Bor (List (Box (TrieNode K V) Global))) → List (Kids (KeyValue K V))

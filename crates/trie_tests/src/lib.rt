@@ -12,11 +12,21 @@ mod equality;
 #[cfg(test)]
 mod json;
 #[cfg(test)]
+mod lent_values;
+#[cfg(test)]
 mod map_calls;
 #[cfg(test)]
 mod queries;
 #[cfg(test)]
 mod refused_growths;
+#[cfg(test)]
+mod small_lists;
+#[cfg(test)]
+mod topics;
+#[cfg(test)]
+mod uses;
+#[cfg(test)]
+mod view_answers;
 #[cfg(test)]
 mod views;
 #[cfg(test)]

@@ -1,6 +1,8 @@
 //! The trie as a map.
 
-use radix_trie::Trie;
+use crate::queries::{SAMPLE, Texts, sample};
+use crate::write_views::texts;
+use radix_trie::{LittleEndian, Nibblet, Trie};
 use std::alloc::AllocError;
 
 /// A key that is inserted twice stands once, with the second value.
@@ -27,6 +29,14 @@ fn absent_keys_have_no_value(rt: HostRuntime) {
     }
 }
 
+#[test]
+fn sample_lacks_other_keys(rt: HostRuntime) {
+    let trie = sample(rt.alloc());
+    for key in ["nonexistant", ""] {
+        assert_eq!(rt; trie.get(&key), Ok(None), "{key}");
+    }
+}
+
 /// A query of another type finds the pair that its encoding has.
 #[test]
 fn query_of_another_type(rt: HostRuntime) -> Result<(), AllocError> {
@@ -37,4 +47,178 @@ fn query_of_another_type(rt: HostRuntime) -> Result<(), AllocError> {
     assert_eq!(rt; trie.get(&"/boot/lol").ok().flatten().copied(), Some(7));
     assert_eq!(rt; trie.get(&bytes).ok().flatten().copied(), Some(7));
     Ok(())
+}
+
+#[test]
+fn query_by_a_number(rt: HostRuntime) {
+    let trie = texts(rt.alloc(), &[("a", 1)]);
+    assert_eq!(rt; trie.get(&0x61u8).ok().flatten().copied(), Some(1));
+}
+
+/// Texts whose bytes aren't all letters of ASCII.
+#[test]
+fn accented_text(rt: HostRuntime) {
+    let trie = texts(rt.alloc(), &[("bär", 1), ("bären", 2)]);
+    assert_eq!(rt; trie.get(&"bär").ok().flatten().copied(), Some(1));
+}
+
+/// After each insertion the nodes are as they should be, and at the end each key has its value.
+#[test]
+fn sample_is_inserted(rt: HostRuntime) {
+    let mut trie: Texts = Trie::new(rt.alloc());
+    for (key, value) in SAMPLE {
+        assert_eq!(rt; trie.insert(key, value).ok(), Some(None), "{key}");
+        assert_eq!(rt; trie.check_integrity(), Ok(true));
+    }
+    assert_eq!(rt; trie.len(), 7);
+    assert_eq!(rt; trie.footprint(), (10, 38));
+    for (key, value) in SAMPLE {
+        assert_eq!(rt;
+            trie.get(&key).ok().flatten().copied(),
+            Some(value),
+            "{key}"
+        );
+    }
+}
+
+/// After each removal the nodes are as they should be, and at the end nothing is left.
+#[test]
+fn sample_is_removed(rt: HostRuntime) {
+    let mut trie = sample(rt.alloc());
+    for (key, value) in SAMPLE {
+        assert_eq!(rt; trie.remove(&key), Ok(Some(value)), "{key}");
+        assert_eq!(rt; trie.check_integrity(), Ok(true));
+    }
+    for (key, _) in SAMPLE {
+        assert_eq!(rt; trie.get(&key), Ok(None), "{key}");
+    }
+    assert_eq!(rt; trie.footprint(), (1, 0));
+}
+
+/// A removal of one of two keys with a common beginning.
+#[test]
+fn one_of_two_is_removed(rt: HostRuntime) {
+    let mut trie = texts(rt.alloc(), &[("HELL", 66), ("HELLO", 77)]);
+    assert_eq!(rt; trie.remove(&"HELLO"), Ok(Some(77)));
+    assert_eq!(rt; trie.get(&"HELL").ok().flatten().copied(), Some(66));
+}
+
+/// The removal of an absent key changes nothing, wherever the key leaves the tree.
+#[test]
+fn absent_keys_are_not_removed(rt: HostRuntime) {
+    let mut trie = texts(rt.alloc(), &[("acab", 1)]);
+    for key in ["abc", "acaba", "a", ""] {
+        assert_eq!(rt; trie.remove(&key), Ok(None), "{key}");
+        assert_eq!(rt; trie.len(), 1);
+    }
+    assert_eq!(rt; trie.insert("acaz", 2).ok(), Some(None));
+    for key in ["acb", "acaca", "aca"] {
+        assert_eq!(rt; trie.remove(&key), Ok(None), "{key}");
+        assert_eq!(rt; trie.len(), 2);
+    }
+}
+
+#[test]
+fn empty_key_in_the_sample(rt: HostRuntime) {
+    let mut trie = sample(rt.alloc());
+    assert_eq!(rt; trie.insert("", 99).ok(), Some(None));
+    assert_eq!(rt; trie.get(&"").ok().flatten().copied(), Some(99));
+    assert_eq!(rt; trie.remove(&""), Ok(Some(99)));
+    assert_eq!(rt; trie.footprint(), (10, 38));
+}
+
+/// The root stays when the last of its children goes.
+#[test]
+fn root_outlives_its_children(rt: HostRuntime) {
+    let mut trie = texts(rt.alloc(), &[("a", 1), ("p", 2)]);
+    assert_eq!(rt; trie.remove(&"a"), Ok(Some(1)));
+    assert_eq!(rt; trie.len(), 1);
+    assert_eq!(rt; trie.get_counted(&"q"), Ok((None, 2)));
+    assert_eq!(rt; trie.remove(&"p"), Ok(Some(2)));
+    assert_eq!(rt; trie.len(), 0);
+}
+
+/// A removal leaves no node that the map doesn't ask for.
+#[test]
+fn removal_merges_upward(rt: HostRuntime) {
+    let mut trie = texts(rt.alloc(), &[("a", 1), ("abc", 2), ("abd", 3)]);
+    assert_eq!(rt; trie.footprint(), (5, 7));
+    assert_eq!(rt; trie.get_counted(&"abd"), Ok((Some(&3), 6)));
+    assert_eq!(rt; trie.remove(&"abd"), Ok(Some(3)));
+    assert_eq!(rt; trie.footprint(), (3, 6));
+    assert_eq!(rt; trie.get_counted(&"abd"), Ok((None, 6)));
+    assert_eq!(rt; trie.remove(&"ab"), Ok(None));
+    assert_eq!(rt; trie.footprint(), (3, 6));
+}
+
+#[test]
+fn compared_nibbles_in_the_sample(rt: HostRuntime) {
+    let trie = sample(rt.alloc());
+    for (key, compared) in [("abcde", 10), ("nonexistant", 1), ("acbg", 8), ("", 0)] {
+        assert_eq!(rt; trie.get_counted(&key), Ok((None, compared)), "{key}");
+    }
+    assert_eq!(rt; trie.get_counted(&"abcd"), Ok((Some(&17), 8)));
+}
+
+#[test]
+fn compared_nibbles_of_two_keys(rt: HostRuntime) {
+    let trie = texts(rt.alloc(), &[("abc", 1), ("abd", 2)]);
+    for (key, compared) in [("ab", 4), ("abe", 5), ("ac", 4), ("x", 0)] {
+        assert_eq!(rt; trie.get_counted(&key), Ok((None, compared)), "{key}");
+    }
+    assert_eq!(rt; trie.get_counted(&"abd"), Ok((Some(&2), 6)));
+}
+
+/// Keys that part inside their first byte, and a list of that one nibble.
+#[test]
+fn single_bytes(rt: HostRuntime) {
+    let mut trie: Trie<u8, u64> = Trie::new(rt.alloc());
+    assert_eq!(rt; trie.insert(0xf1, 1).ok(), Some(None));
+    assert_eq!(rt; trie.remove(&0xf2u8), Ok(None));
+    assert_eq!(rt; trie.insert(0xf2, 2).ok(), Some(None));
+    let mut parting = Nibblet::new(rt.alloc());
+    assert!(rt; parting.push(15).is_ok());
+    assert_eq!(rt; trie.remove(&parting), Ok(None));
+    assert_eq!(rt; trie.len(), 2);
+    assert_eq!(rt; trie.footprint(), (4, 3));
+}
+
+#[test]
+fn wide_number_keys(rt: HostRuntime) {
+    let mut trie: Trie<u64, u64> = Trie::new(rt.alloc());
+    for key in [0xff, 0xdeadbeef] {
+        assert_eq!(rt; trie.insert(key, key).ok(), Some(None));
+        assert_eq!(rt; trie.check_integrity(), Ok(true));
+    }
+    assert_eq!(rt; trie.len(), 2);
+}
+
+#[test]
+fn little_endian_keys(rt: HostRuntime) {
+    let mut trie: Trie<LittleEndian<u16>, u64> = Trie::new(rt.alloc());
+    for key in [256, 2] {
+        assert_eq!(rt; trie.insert(LittleEndian::from(key), 1).ok(), Some(None));
+    }
+    assert_eq!(rt; trie.footprint(), (4, 7));
+}
+
+#[test]
+fn empty_trie(rt: HostRuntime) {
+    let trie: Texts = Trie::default(rt.alloc());
+    assert_eq!(rt; trie.footprint(), (1, 0));
+    assert_eq!(rt; trie.len(), 0);
+    assert_eq!(rt; trie.get(&""), Ok(None));
+    assert_eq!(rt; trie.check_integrity(), Ok(true));
+}
+
+/// A stored value is mapped in its place, and an absent key gets the default.
+#[test]
+fn mapped_or_stored(rt: HostRuntime) {
+    let mut trie = sample(rt.alloc());
+    let one_more = |value: &mut u64| *value = value.wrapping_add(1);
+    assert!(rt; trie.map_with_default("abcd", one_more, 42).is_ok());
+    assert_eq!(rt; trie.get(&"abcd").ok().flatten().copied(), Some(18));
+    assert!(rt; trie.map_with_default("zzz", one_more, 42).is_ok());
+    assert_eq!(rt; trie.get(&"zzz").ok().flatten().copied(), Some(42));
+    assert_eq!(rt; trie.len(), 8);
 }

@@ -4,7 +4,8 @@
 //! command runs them with growth 1 refused, then growth 2, and so on. What is refused leaves all as it was, hands back
 //! what it was given, and succeeds when it is tried again, since one growth alone is refused.
 
-use radix_trie::{InsertError, InsertWhy, Memory, Trie};
+use radix_trie::{Command, InsertError, InsertWhy, Memory, Reply, Trie, ViewCommand, run};
+use std::alloc::{AllocError, Global};
 use std::process::Abort;
 
 type Texts = Trie<&'static str, u64>;
@@ -60,4 +61,56 @@ fn heavy_keys(rt: HostRuntime) {
     insert_absent(&rt, &mut trie, "aaaaaaaaaaaaaaaac", 2);
     assert_eq!(rt; found(&trie, "aaaaaaaaaaaaaaaab"), Ok(Some(1)));
     assert_eq!(rt; trie.len(), 2);
+}
+
+/// A run that stores one pair in a view.
+fn commands(alloc: Global) -> Result<Vec<Command<&'static str, u64>>, AllocError> {
+    let inner = vec![in alloc; ViewCommand::Insert("abc", 3), ViewCommand::Len]?;
+    Ok(vec![in alloc; Command::Within("", inner), Command::Len]?)
+}
+
+/// Runs it. Where memory for the commands is refused, they are made once more; where memory for the list of replies is,
+/// no command has run, and a second run answers.
+fn ran(rt: &impl Abort, alloc: Global, trie: &mut Texts) -> Vec<Reply<u64>> {
+    for _ in 0..2 {
+        if let Ok(commands) = commands(alloc) {
+            match run(trie, commands) {
+                Ok(replies) => return replies,
+                Err(_) => assert!(rt; trie.is_empty()),
+            }
+        }
+    }
+    assert!(rt; false);
+    Vec::new(alloc)
+}
+
+/// A refused command answers Refused and changes nothing, and the run goes on.
+#[test]
+fn run_goes_on(rt: HostRuntime) {
+    let mut trie = Trie::new(rt.alloc());
+    let replies = ran(&rt, rt.alloc(), &mut trie);
+    assert_eq!(rt; replies.len(), 2);
+    let stored = match &replies[0] {
+        Reply::Refused => 0,
+        Reply::Replies(inner) => {
+            assert_eq!(rt; inner.len(), 2);
+            let stored = match &inner[0] {
+                Reply::Refused => 0,
+                reply => {
+                    assert!(rt; matches!(reply, Reply::Old(None)));
+                    1
+                }
+            };
+            assert!(rt; matches!(&inner[1], Reply::Number(count) if *count == stored));
+            stored
+        }
+        _ => {
+            assert!(rt; false);
+            0
+        }
+    };
+    assert!(rt; matches!(&replies[1], Reply::Number(count) if *count == stored));
+    assert_eq!(rt; trie.len(), stored);
+    let value = if stored == 1 { Some(3) } else { None };
+    assert_eq!(rt; found(&trie, "abc"), Ok(value));
 }

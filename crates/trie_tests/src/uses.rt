@@ -1,0 +1,111 @@
+//! Three uses of a trie: the longest stored prefix of an address, the words that a beginning may become, and a setting
+//! that a path inherits. What each answers is proved of it.
+ghost use Rattle.std.specs.Prelude.{◌≡◌, IfOk, IsOk, Option, map, option_copied, unwrap_or};
+ghost use Rattle.radix_trie.specs.Views.{IsValueAbove, pairs_below};
+
+use crate::bits::Bits;
+use crate::write_views::texts;
+use radix_trie::iter::Values;
+use radix_trie::{Memory, Trie, TrieCommon, TrieKey};
+use std::alloc::Global;
+
+/// Where the longest stored prefix of an address leads.
+fn next_hop<V: Copy>(table: &Trie<Bits, V>, address: &Bits) -> Result<Option<V>, Memory>
+    ensures hop { IfOk result (λ hop. IsValueAbove table.now (⟦<Bits as TrieKey>⟧.encoding address.now) hop) }
+{
+    Ok(table.get_ancestor_value(address)?.copied())
+}
+
+/// The values of all words that begin so, in the words' order.
+fn completions<K: TrieKey, V: Copy, Q: TrieKey>(
+    alloc: Global,
+    words: &Trie<K, V>,
+    beginning: &Q,
+) -> Result<Vec<V>, Memory>
+    ensures { IfOk result (λ all. all.items ≡ map (λ p. p.1) (pairs_below words.now (Q.encoding beginning.now))) }
+{
+    match words.get_raw_descendant(beginning)? {
+        Some(view) => collected(alloc, TrieCommon::values(&view)?),
+        None => Ok(Vec::new(alloc)),
+    }
+}
+
+/// The values that a walk gives.
+fn collected<K, V: Copy>(alloc: Global, values: Values<'_, K, V>) -> Result<Vec<V>, Memory>
+    ensures { IfOk result (λ all. all.items ≡ values.entry) }
+{
+    Ok(values.copied().collect(alloc)?)
+}
+
+/// The setting at the nearest stored path at or above a path, or the default where none is stored.
+fn inherited<K: TrieKey, V: Copy, Q: TrieKey>(
+    settings: &Trie<K, V>,
+    path: &Q,
+    default: V,
+) -> Result<V, Memory>
+    ensures nearest { IfOk result (λ v. (found : Option V) × IsValueAbove settings.now (Q.encoding path.now) found × (v ≡ unwrap_or found default)) }
+    ensures light { Q.is_light path.now → IsOk result }
+{
+    Ok(
+        settings
+            .get_ancestor_value(path)?
+            .copied()
+            .unwrap_or(default),
+    )
+}
+
+/// Routes to networks of 8, 16 and 24 bits, each inside the one before.
+#[test]
+fn longest_prefix_of_an_address(rt: HostRuntime) -> Result<(), Memory> {
+    let alloc = rt.alloc();
+    let mut table: Trie<Bits, u32> = Trie::new(alloc);
+    for (network, bits, hop) in [
+        (0x0a00_0000, 8, 1),
+        (0x0a01_0000, 16, 2),
+        (0x0a01_0200, 24, 3),
+    ] {
+        assert!(rt; table.insert(Bits::of(alloc, network, bits)?, hop).is_ok());
+    }
+    for (address, hop) in [
+        (0x0a01_0203, Some(3)),
+        (0x0a01_0303, Some(2)),
+        (0x0a02_0203, Some(1)),
+        (0x0b01_0203, None),
+    ] {
+        let address = Bits::of(alloc, address, 32)?;
+        assert_eq!(rt; next_hop(&table, &address), Ok(hop));
+    }
+    Ok(())
+}
+
+#[test]
+fn words_with_a_beginning(rt: HostRuntime) {
+    let words = texts(
+        rt.alloc(),
+        &[("tea", 1), ("ten", 2), ("team", 3), ("to", 4), ("inn", 5)],
+    );
+    match completions(rt.alloc(), &words, &"te") {
+        Ok(values) => assert_eq!(rt; values.as_slice(), [1, 3, 2].as_slice()),
+        Err(_) => assert!(rt; false),
+    }
+    match completions(rt.alloc(), &words, &"x") {
+        Ok(values) => assert!(rt; values.is_empty()),
+        Err(_) => assert!(rt; false),
+    }
+}
+
+#[test]
+fn setting_of_the_nearest_folder(rt: HostRuntime) {
+    let settings = texts(
+        rt.alloc(),
+        &[("/", 80), ("/home/", 100), ("/home/ada/", 120)],
+    );
+    for (path, width) in [
+        ("/home/ada/notes", 120),
+        ("/home/bob/notes", 100),
+        ("/etc/passwd", 80),
+        ("relative", 72),
+    ] {
+        assert_eq!(rt; inherited(&settings, &path, 72), Ok(width), "{path}");
+    }
+}

@@ -35,7 +35,7 @@ impl<K: TrieKey, V> Trie<K, V> {
 
     /// The view at the longest stored list that is a prefix of the key's encoding, or None where there is none.
     ///
-    /// The one refusal is that of memory for the encoding, which a light key never meets.
+    /// The one refusal is that of memory for the encoding and the path, which a light key never meets.
     pub fn get_ancestor<Q: TrieKey>(&self, key: &Q) -> Result<Option<SubTrie<'_, K, V>>, Memory>
         ensures nearest { IfOk result (λ o. IsAncestor self.now (Q.encoding key.now) (option_map (λ view. view.path) o)) }
         ensures same_map { IfOk result (λ o. IfSome o (λ view. view.map ≡ self.now)) }
@@ -50,7 +50,7 @@ impl<K: TrieKey, V> Trie<K, V> {
 
     /// The view at the longest point that is a prefix of the key's encoding. There is always one, the empty list at least.
     ///
-    /// The one refusal is that of memory for the encoding, which a light key never meets.
+    /// The one refusal is that of memory for the encoding and the path, which a light key never meets.
     pub fn get_raw_ancestor<Q: TrieKey>(&self, key: &Q) -> Result<SubTrie<'_, K, V>, Memory>
         ensures nearest { IfOk result (λ view. IsRawAncestor self.now (Q.encoding key.now) view.path) }
         ensures same_map { IfOk result (λ view. view.map ≡ self.now) }

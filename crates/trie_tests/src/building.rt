@@ -1,19 +1,7 @@
 //! Tries built from pairs, and copies of tries.
 
 use radix_trie::{Memory, Trie};
-
-type Texts = Trie<&'static str, u64>;
-
-/// Seven texts, with beginnings in common.
-const SEVEN: [(&str, u64); 7] = [
-    ("abcdefgh", 19),
-    ("abcdef", 18),
-    ("abcd", 17),
-    ("ab", 16),
-    ("a", 15),
-    ("acbdef", 30),
-    ("bcdefgh", 29),
-];
+use trie_samples::{SAMPLE, Texts};
 
 /// Of two pairs with one key the later one stays.
 #[test]
@@ -48,7 +36,7 @@ fn built_from_a_vector(rt: HostRuntime) -> Result<(), Memory> {
 /// A clone is equal until one of the two is written, and again when both are.
 #[test]
 fn clone_stands_alone(rt: HostRuntime) -> Result<(), Memory> {
-    let Ok(built) = Trie::from_iter(rt.alloc(), SEVEN.into_iter()) else {
+    let Ok(built) = Trie::from_iter(rt.alloc(), SAMPLE.into_iter()) else {
         assert!(rt; false);
         return Ok(());
     };

@@ -2,8 +2,7 @@
 
 use radix_trie::{Command, Memory, Nibblet, Reply, Trie, ViewCommand, run};
 use std::alloc::{AllocError, Global};
-
-type Texts = Trie<&'static str, u64>;
+use trie_samples::{Texts, list};
 
 type Texted = Command<&'static str, u64>;
 
@@ -88,17 +87,17 @@ fn look_ups_and_removals(rt: HostRuntime) -> Result<(), AllocError> {
 #[test]
 fn run_at_an_odd_path(rt: HostRuntime) -> Result<(), Memory> {
     let alloc = rt.alloc();
-    let parting = nibbles(alloc, [6, 1, 6, 2, 6])?;
+    let parting = list(alloc, [6, 1, 6, 2, 6]);
     let inner = vec![in alloc;
-        ViewCommand::Remove(nibbles(alloc, [6, 1, 6, 2, 6, 3])?),
-        ViewCommand::Remove(nibbles(alloc, [6, 1, 6, 2, 6, 4])?),
+        ViewCommand::Remove(list(alloc, [6, 1, 6, 2, 6, 3])),
+        ViewCommand::Remove(list(alloc, [6, 1, 6, 2, 6, 4])),
         ViewCommand::Len,
-        ViewCommand::Insert(nibbles(alloc, [7, 8])?, 1),
-        ViewCommand::Insert(nibbles(alloc, [6, 1, 6, 2, 6, 3])?, 3),
+        ViewCommand::Insert(list(alloc, [7, 8]), 1),
+        ViewCommand::Insert(list(alloc, [6, 1, 6, 2, 6, 3]), 3),
     ]?;
     let commands = vec![in alloc;
-        Command::Insert(nibbles(alloc, [6, 1, 6, 2, 6, 3])?, 1),
-        Command::Insert(nibbles(alloc, [6, 1, 6, 2, 6, 4])?, 2),
+        Command::Insert(list(alloc, [6, 1, 6, 2, 6, 3]), 1),
+        Command::Insert(list(alloc, [6, 1, 6, 2, 6, 4]), 2),
         Command::Within(parting, inner),
     ]?;
     let mut trie: Trie<Nibblet, u64> = Trie::new(alloc);
@@ -117,15 +116,4 @@ fn run_at_an_odd_path(rt: HostRuntime) -> Result<(), Memory> {
     }
     assert_eq!(rt; trie.footprint(), (2, 6));
     Ok(())
-}
-
-/// The list of the nibbles.
-fn nibbles<const N: usize>(alloc: Global, nibbles: [u8; N]) -> Result<Nibblet, Memory> {
-    let mut list = Nibblet::new(alloc);
-    for nibble in nibbles {
-        if nibble < 16 {
-            list.push(nibble)?;
-        }
-    }
-    Ok(list)
 }

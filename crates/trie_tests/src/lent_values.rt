@@ -2,10 +2,9 @@
 ghost use Rattle.std.specs.Prelude.{◌≡◌, OnErr, OnOk};
 ghost use Rattle.nibble_map.specs.Maps.{with_value};
 
-use crate::queries::sample;
-use crate::write_views::texts;
 use radix_trie::{FindError, Nibblet, Trie, TrieKey};
 use std::alloc::{AllocError, Global};
+use trie_samples::{sample, texts};
 
 /// Writes the value at a key.
 fn write<K: TrieKey, V: Drop>(trie: &mut Trie<K, V>, key: &K, value: V) -> Result<(), FindError>

@@ -1,8 +1,6 @@
-//! Tests that cross crates: worked examples of the trie, and calls whose growths of memory are refused.
+//! Tests of the trie as a map, and of calls whose growths of memory are refused.
 #![tactic(auto)]
 
-#[cfg(test)]
-mod bits;
 #[cfg(test)]
 mod building;
 #[cfg(test)]
@@ -16,22 +14,6 @@ mod lent_values;
 #[cfg(test)]
 mod map_calls;
 #[cfg(test)]
-mod queries;
-#[cfg(test)]
 mod refused_growths;
 #[cfg(test)]
 mod small_lists;
-#[cfg(test)]
-mod topics;
-#[cfg(test)]
-mod uses;
-#[cfg(test)]
-mod view_answers;
-#[cfg(test)]
-mod views;
-#[cfg(test)]
-mod walk_callers;
-#[cfg(test)]
-mod walks;
-#[cfg(test)]
-mod write_views;

@@ -1,9 +1,8 @@
 //! The trie as a map.
 
-use crate::queries::{SAMPLE, Texts, sample};
-use crate::write_views::texts;
-use radix_trie::{LittleEndian, Nibblet, Trie};
+use radix_trie::Trie;
 use std::alloc::AllocError;
+use trie_samples::{SAMPLE, Texts, sample, texts};
 
 /// A key that is inserted twice stands once, with the second value.
 #[test]
@@ -53,13 +52,6 @@ fn query_of_another_type(rt: HostRuntime) -> Result<(), AllocError> {
 fn query_by_a_number(rt: HostRuntime) {
     let trie = texts(rt.alloc(), &[("a", 1)]);
     assert_eq!(rt; trie.get(&0x61u8).ok().flatten().copied(), Some(1));
-}
-
-/// Texts whose bytes aren't all letters of ASCII.
-#[test]
-fn accented_text(rt: HostRuntime) {
-    let trie = texts(rt.alloc(), &[("bär", 1), ("bären", 2)]);
-    assert_eq!(rt; trie.get(&"bär").ok().flatten().copied(), Some(1));
 }
 
 /// After each insertion the nodes are as they should be, and at the end each key has its value.
@@ -169,20 +161,6 @@ fn compared_nibbles_of_two_keys(rt: HostRuntime) {
     assert_eq!(rt; trie.get_counted(&"abd"), Ok((Some(&2), 6)));
 }
 
-/// Keys that part inside their first byte, and a list of that one nibble.
-#[test]
-fn single_bytes(rt: HostRuntime) {
-    let mut trie: Trie<u8, u64> = Trie::new(rt.alloc());
-    assert_eq!(rt; trie.insert(0xf1, 1).ok(), Some(None));
-    assert_eq!(rt; trie.remove(&0xf2u8), Ok(None));
-    assert_eq!(rt; trie.insert(0xf2, 2).ok(), Some(None));
-    let mut parting = Nibblet::new(rt.alloc());
-    assert!(rt; parting.push(15).is_ok());
-    assert_eq!(rt; trie.remove(&parting), Ok(None));
-    assert_eq!(rt; trie.len(), 2);
-    assert_eq!(rt; trie.footprint(), (4, 3));
-}
-
 #[test]
 fn wide_number_keys(rt: HostRuntime) {
     let mut trie: Trie<u64, u64> = Trie::new(rt.alloc());
@@ -191,15 +169,6 @@ fn wide_number_keys(rt: HostRuntime) {
         assert_eq!(rt; trie.check_integrity(), Ok(true));
     }
     assert_eq!(rt; trie.len(), 2);
-}
-
-#[test]
-fn little_endian_keys(rt: HostRuntime) {
-    let mut trie: Trie<LittleEndian<u16>, u64> = Trie::new(rt.alloc());
-    for key in [256, 2] {
-        assert_eq!(rt; trie.insert(LittleEndian::from(key), 1).ok(), Some(None));
-    }
-    assert_eq!(rt; trie.footprint(), (4, 7));
 }
 
 #[test]

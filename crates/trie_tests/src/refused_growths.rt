@@ -7,8 +7,7 @@
 use radix_trie::{Command, InsertError, InsertWhy, Memory, Reply, Trie, ViewCommand, run};
 use std::alloc::{AllocError, Global};
 use std::process::Abort;
-
-type Texts = Trie<&'static str, u64>;
+use trie_samples::Texts;
 
 /// The value at a key. Where memory for the encoding is refused, a second look finds it.
 fn found(trie: &Texts, key: &'static str) -> Result<Option<u64>, Memory> {

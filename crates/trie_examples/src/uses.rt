@@ -4,10 +4,10 @@ ghost use Rattle.std.specs.Prelude.{◌≡◌, IfOk, IsOk, Option, map, option_c
 ghost use Rattle.radix_trie.specs.Views.{IsValueAbove, pairs_below};
 
 use crate::bits::Bits;
-use crate::write_views::texts;
 use radix_trie::iter::Values;
 use radix_trie::{Memory, Trie, TrieCommon, TrieKey};
 use std::alloc::Global;
+use trie_samples::texts;
 
 /// Where the longest stored prefix of an address leads.
 fn next_hop<V: Copy>(table: &Trie<Bits, V>, address: &Bits) -> Result<Option<V>, Memory>

@@ -1,38 +1,8 @@
 //! The views at a key's point, and at the nearest points above and below a key.
 
-use crate::write_views::{list, texts};
-use radix_trie::{SubTrie, SubTrieError, Trie, TrieCommon, TrieKey};
+use radix_trie::{SubTrieError, Trie, TrieCommon};
 use std::alloc::{AllocError, Global};
-
-pub(crate) type Texts = Trie<&'static str, u64>;
-
-/// The sample's pairs, in the order in which they are inserted.
-pub(crate) const SAMPLE: [(&'static str, u64); 7] = [
-    ("abcdefgh", 19),
-    ("abcdef", 18),
-    ("abcd", 17),
-    ("ab", 16),
-    ("a", 15),
-    ("acbdef", 30),
-    ("bcdefgh", 29),
-];
-
-/// The sample trie.
-pub(crate) fn sample(alloc: Global) -> Texts {
-    texts(alloc, &SAMPLE)
-}
-
-/// Whether the view's path is the key's encoding.
-pub(crate) fn stands_at<K: TrieKey, V, Q: TrieKey>(
-    alloc: Global,
-    view: &SubTrie<'_, K, V>,
-    key: &Q,
-) -> bool {
-    match key.encode(alloc) {
-        Ok(list) => *view.path() == list,
-        Err(_) => false,
-    }
-}
+use trie_samples::{SAMPLE, Texts, list, sample, stands_at, texts};
 
 /// The nearest value above a key.
 fn above(trie: &Texts, key: &'static str) -> Option<u64> {

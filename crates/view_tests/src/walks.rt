@@ -1,8 +1,7 @@
 //! Ordered walks.
 
-use crate::queries::{sample, stands_at};
-use crate::write_views::texts;
 use radix_trie::{LittleEndian, Trie, TrieCommon};
+use trie_samples::{sample, stands_at, texts};
 
 /// The sample's pairs in the order of their keys.
 #[test]

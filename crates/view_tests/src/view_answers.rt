@@ -1,10 +1,9 @@
 //! What views for writing answer of their paths, points or not, lent and spent.
 
-use crate::queries::{Texts, sample};
-use crate::write_views::{list, texts};
-use radix_trie::{Memory, Nibblet, SubTrie, SubTrieMut, Trie, TrieCommon};
+use radix_trie::{Memory, SubTrieMut, Trie, TrieCommon};
 use std::alloc::{AllocError, Global};
 use std::process::Abort;
+use trie_samples::{Texts, list, sample, texts};
 
 type View<'a> = SubTrieMut<'a, &'static str, u64>;
 

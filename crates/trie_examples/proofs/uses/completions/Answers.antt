@@ -4,7 +4,7 @@ use Rattle.std.specs.FinMap as finite
 use Rattle.nibble_map.proofs.Bridge.{from_sorted_none}
 use Rattle.nibble_map.proofs.Descendant.{below_descendant, below_nothing}
 use Rattle.radix_trie.specs.Views.{pairs_below}
-use Rattle.trie_tests.proofs.uses.completions.Goals as goal
+use Rattle.trie_examples.proofs.uses.completions.Goals as goal
 
 pub returns-in_ok-values-in-Some : goal.returns-in_ok-values-in-Some
 returns-in_ok-values-in-Some g c =

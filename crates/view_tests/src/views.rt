@@ -1,8 +1,7 @@
 //! Views for reading: what they hand out, and their children.
 
-use crate::queries::{Texts, sample, stands_at};
-use crate::write_views::{list, texts};
 use radix_trie::{Nibblet, SubTrie, SubTrieError, Trie, TrieCommon};
+use trie_samples::{Texts, list, sample, texts};
 
 /// The value at the view of a key, which lasts longer than the view.
 fn value_of<'t>(trie: &'t Texts, key: &'static str) -> Option<&'t u64> {

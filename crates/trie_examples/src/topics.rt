@@ -6,8 +6,7 @@ ghost use Rattle.nibble_map.specs.Maps.{below};
 use radix_trie::iter::Children;
 use radix_trie::{OpenError, SubTrieError, Trie, TrieCommon, TrieKey};
 use std::alloc::{AllocError, Global};
-
-type Topics = Trie<&'static str, u64>;
+use trie_samples::{Texts, texts};
 
 /// Closes a topic: takes it away, and leaves the topics below it. Answers how many these are.
 fn close<K: TrieKey + Drop, V: Drop>(topics: &mut Trie<K, V>, topic: &K) -> Result<usize, OpenError>
@@ -35,18 +34,17 @@ fn sizes<K: TrieKey, V>(
 }
 
 /// Topics of a forum, each with its count of messages.
-fn forum(alloc: Global) -> Topics {
-    let mut topics = Trie::new(alloc);
-    for (topic, messages) in [
-        ("music", 4),
-        ("music/rock", 20),
-        ("music/rock/live", 7),
-        ("music/jazz", 9),
-        ("sport/chess", 3),
-    ] {
-        let _ = topics.insert(topic, messages);
-    }
-    topics
+fn forum(alloc: Global) -> Texts {
+    texts(
+        alloc,
+        &[
+            ("music", 4),
+            ("music/rock", 20),
+            ("music/rock/live", 7),
+            ("music/jazz", 9),
+            ("sport/chess", 3),
+        ],
+    )
 }
 
 /// One branch is closed topic by topic, and the others stay.

@@ -2,10 +2,8 @@
 ghost use Rattle.std.specs.FinMap as map;
 ghost use Rattle.std.specs.Prelude.{◌≡◌, IfOk, OnErr, IsTrue, IsFalse};
 
-use radix_trie::{InsertError, InsertWhy, Nibblet, OpenError, SubTrieError, Trie, TrieKey};
-use std::alloc::Global;
-
-type Texts = Trie<&'static str, u64>;
+use radix_trie::{InsertError, InsertWhy, OpenError, SubTrieError, Trie, TrieKey};
+use trie_samples::{list, texts};
 
 /// Stores a pair through a view at a key. False: no point stands there.
 fn put_within<K: TrieKey + Drop, V: Drop>(
@@ -30,26 +28,6 @@ fn put_within<K: TrieKey + Drop, V: Drop>(
             value,
         }),
     }
-}
-
-/// A trie of the pairs.
-pub fn texts(alloc: Global, pairs: &[(&'static str, u64)]) -> Texts {
-    let mut trie = Trie::new(alloc);
-    for (key, value) in pairs {
-        let _ = trie.insert(*key, *value);
-    }
-    trie
-}
-
-/// The list of the nibbles.
-pub fn list<const N: usize>(alloc: Global, nibbles: [u8; N]) -> Nibblet {
-    let mut list = Nibblet::new(alloc);
-    for nibble in nibbles {
-        if nibble < 16 {
-            let _ = list.push(nibble);
-        }
-    }
-    list
 }
 
 /// Why an insertion was refused, and what it handed back.

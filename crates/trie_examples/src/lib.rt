@@ -1,0 +1,11 @@
+//! Examples of the trie's uses. What each answers is proved of it, and it is run as a test.
+#![tactic(auto)]
+
+#[cfg(test)]
+mod bits;
+#[cfg(test)]
+mod topics;
+#[cfg(test)]
+mod uses;
+#[cfg(test)]
+mod walk_callers;

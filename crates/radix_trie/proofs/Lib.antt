@@ -16,6 +16,7 @@ mod WalkRows
 mod Present
 mod Roots
 mod Written
+mod ViewParts
 mod Copies
 mod Texts
 mod Objects

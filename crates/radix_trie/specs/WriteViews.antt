@@ -1,7 +1,7 @@
 -- What clauses see of a view for writing.
 use Rattle.std.specs.Prelude.{◌≡◌, ℕ, List}
 use Rattle.std.specs.Borrow.{GName}
-use Rattle.nibble_map.specs.Maps.{PairMap}
+use Rattle.nibble_map.specs.Maps.{PairMap, with_value}
 use Rattle.radix_keys.specs.declared.nibbles.NibbleVec.{NibbleVec}
 use Rattle.radix_trie.specs.declared.subtrie_mut.SubTrieMut.{SubTrieMut}
 
@@ -20,6 +20,10 @@ module _ {K V : Type 0} where
   -- the name of the view's reference to the trie
   abbrev pub lender_of : SubTrieMut K V NibbleVec → GName
   lender_of v = v.trie.ghost_name
+
+  -- v, with the value w at its path
+  abbrev pub with_own_value : SubTrieMut K V NibbleVec → V → SubTrieMut K V NibbleVec
+  with_own_value v w = record v { trie = record v.trie { now = with_value (map_behind v) (path_of v) w } }
 
   -- w is v, but for the trie's map
   pub record SameView (v w : SubTrieMut K V NibbleVec) : Type 0 where

@@ -1,4 +1,5 @@
 //! Views for writing.
+ghost use Rattle.std.specs.Borrow.{sem};
 ghost use Rattle.std.specs.FinMap as map;
 ghost use Rattle.std.specs.Option.{option_copied_mut};
 ghost use Rattle.std.specs.Prelude.{◌≡◌, ◌≢◌, ℕ, List, None, IsOk, IfOk, OnOk, IfErr, OnErr, IsErrAnd, Err, option_copied};
@@ -6,6 +7,7 @@ ghost use Rattle.nibble_map.specs.Lists.{Each, IsPrefix};
 ghost use Rattle.nibble_map.specs.MapQueries.{AreKids, IsKid};
 ghost use Rattle.nibble_map.specs.Maps.{IsStored, value_at};
 ghost use Rattle.nibble_map.specs.Nibbles.{IsShort};
+ghost use Rattle.radix_trie.specs.Lends.{lends_behind, lends_own};
 ghost use Rattle.radix_trie.specs.Views.{paths_of};
 ghost use Rattle.radix_trie.specs.WriteViews.{map_behind, path_of, prefix_of, lender_of, SameView};
 
@@ -15,6 +17,17 @@ use crate::subtrie::{SubTrieError, SubTrieResult};
 use crate::trie::{InsertError, InsertWhy, Trie, encoding_of, refused};
 use radix_keys::{Memory, Nibblet, TrieKey};
 use radix_nodes::trie_node::KeyValue;
+
+/// The value that the trie behind a reference holds at a list, for writing.
+fn value_behind<'s, 'a, K: TrieKey, V>(
+    trie: &'s mut &'a mut Trie<K, V>,
+    list: &'s Nibblet,
+) -> Option<&'s mut V>
+    ensures* writes_back { sem 𝓛 (lends_behind K.row V.row K.TrieKey.own K.PartialEq.own trie.entry list.now result) }
+    ensures value { option_copied_mut result ≡ value_at trie.old.now list.now }
+{
+    trie.at_mut(list)
+}
 
 /// A view for writing: a trie, and a path in it, at which a point stood when the view was made.
 ///
@@ -77,17 +90,12 @@ impl<'a, K: TrieKey, V> SubTrieMut<'a, K, V> {
 
     /// The value at the path, for writing, if one is stored there. It takes no memory.
     ///
-    /// What the view is once the value has been written no contract can tell; where that matters, open the trie's value by
-    /// `Trie::at_mut` at the path.
+    /// Once the value has been written, the view's map has it at the path, and all else is as before.
     pub fn value_mut(&mut self) -> Option<&mut V>
-        ensures { option_copied_mut result ≡ value_at (map_behind self.old) (path_of self.old) }
+        ensures* writes_back { sem 𝓛 (lends_own K.row V.row K.TrieKey.own K.PartialEq.own self.entry result) }
+        ensures value { option_copied_mut result ≡ value_at (map_behind self.old) (path_of self.old) }
     {
-        let SubTrieMut {
-            trie,
-            path,
-            prefix: _,
-        } = self;
-        trie.at_mut(path)
+        value_behind(&mut self.trie, &self.path)
     }
 
     /// The path's fragment when the view was made.

@@ -1,6 +1,7 @@
 //! Views for writing: what they change, and what they leave when their paths are no longer points.
 ghost use Rattle.std.specs.FinMap as map;
-ghost use Rattle.std.specs.Prelude.{◌≡◌, IfOk, OnErr, IsTrue, IsFalse};
+ghost use Rattle.std.specs.Prelude.{◌≡◌, IfOk, OnOk, OnErr, IsTrue, IsFalse};
+ghost use Rattle.nibble_map.specs.Maps.{with_value};
 
 use radix_trie::{InsertError, InsertWhy, OpenError, SubTrieError, Trie, TrieKey};
 use trie_samples::{list, texts};
@@ -27,6 +28,26 @@ fn put_within<K: TrieKey + Drop, V: Drop>(
             key,
             value,
         }),
+    }
+}
+
+/// Writes the value at a key through a view.
+fn write_within<K: TrieKey, V: Drop>(
+    trie: &mut Trie<K, V>,
+    at: &K,
+    value: V,
+) -> Result<(), OpenError>
+    ensures written { OnOk result (trie.new ≡ with_value trie.old (K.encoding at.now) value) }
+    ensures unchanged { OnErr result (trie.new ≡ trie.old) }
+{
+    match trie.open_mut(at) {
+        Ok(mut view) => {
+            if let Some(place) = view.value_mut() {
+                *place = value;
+            }
+            Ok(())
+        }
+        Err(error) => Err(error),
     }
 }
 
@@ -143,4 +164,16 @@ fn stored_through_a_view(rt: HostRuntime) {
     );
     assert_eq!(rt; trie.get(&"hello!").ok().flatten().copied(), Some(2));
     assert_eq!(rt; trie.len(), 2);
+}
+
+/// A value is written in its place through a view, and nothing else changes.
+#[test]
+fn written_through_a_view(rt: HostRuntime) {
+    let mut trie = texts(rt.alloc(), &[("abc", 1), ("abd", 2)]);
+    assert_eq!(rt; write_within(&mut trie, &"abd", 9), Ok(()));
+    assert_eq!(rt; write_within(&mut trie, &"ab", 9), Err(OpenError::Closed));
+    for (key, value) in [("abc", 1), ("abd", 9)] {
+        assert_eq!(rt; trie.get(&key).ok().flatten().copied(), Some(value), "{key}");
+    }
+    assert_eq!(rt; trie.footprint(), (4, 7));
 }

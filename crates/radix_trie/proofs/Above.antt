@@ -1,7 +1,7 @@
 -- The nearest pair, and the nearest point, above a list.
 use Rattle.std.proofs.Common.{◌≡◌, ℕ, ◌-◌, List, ◌++◌, drop, take, None, option_map, Some, refl, ap, subst, ◌∙◌, sym, arith}
 use Rattle.nibble_map.specs.Answers.{IsLongest}
-use Rattle.nibble_map.specs.Kept.{Tree, entries_at}
+use Rattle.nibble_map.specs.Kept.{Tree}
 use Rattle.nibble_map.specs.KeptPaths.{IsHeld, IsNodeAt, IsPath}
 use Rattle.nibble_map.specs.Lists.{Has, IsPrefix}
 use Rattle.nibble_map.specs.Maps.{PairMap, IsPoint, IsStored}

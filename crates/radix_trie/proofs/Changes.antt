@@ -1,16 +1,15 @@
 -- What a change of the root's tree does to the map, and to what the trie keeps.
-use Rattle.std.proofs.Common.{◌≡◌, ◌⊎◌, inl, inr, Bool, true, false, ℕ, zero, suc, ◌+◌, ◌-◌, ◌*◌, ◌≤◌, ◌<◌, ◌^◌, List, [], ◌∷◌, ◌++◌, map, length, max, Option, Some, None, option_map, refl, ap, sym, subst, ◌∙◌, arith, drop}
+use Rattle.std.proofs.Common.{◌≡◌, ◌⊎◌, inl, inr, Bool, true, false, ℕ, zero, suc, ◌+◌, ◌-◌, ◌*◌, ◌≤◌, ◌<◌, ◌^◌, List, [], ◌∷◌, ◌++◌, map, length, Option, Some, None, option_map, refl, ap, sym, subst, ◌∙◌, arith, drop}
 use Rattle.std.proofs.Math.Nat.{mul-le-mul_right}
 use Rattle.std.proofs.lemmas.List.{map-append, length-append}
 use Rattle.std.specs.FinMap as fin
 use Rattle.nibble_map.specs.Alters.{AltersRoot, Edits, CutsRoot}
-use Rattle.nibble_map.specs.Kept.{Tree, entries_at, nodes_in, nibbles_in}
+use Rattle.nibble_map.specs.Kept.{Tree, entries_at}
 use Rattle.nibble_map.specs.KeptPaths.{IsHeld, IsNodeAt}
 use Rattle.nibble_map.specs.Lists.{Counts}
-use Rattle.nibble_map.specs.Maps.{PairMap, value_at}
+use Rattle.nibble_map.specs.Maps.{value_at}
 use Rattle.nibble_map.specs.Stored.{IsStem}
 use Rattle.nibble_map.specs.Swaps.{Swaps, entry}
-use Rattle.nibble_map.specs.Trees as trees
 use Rattle.nibble_map.proofs.MapEdits.{swap_inserted, swap_over, swap_removed, swap_from}
 use Rattle.nibble_map.proofs.Sizes.{nodes_bound}
 use Rattle.nibble_map.proofs.Stems.{tree_nibbles}

@@ -1,26 +1,25 @@
 -- The views at a path's children: they are the map's kids.
-use Rattle.std.proofs.Common.{◌≡◌, ◌≢◌, ◌⊎◌, inl, inr, ◌↔◌, ℕ, zero, suc, ◌+◌, ◌≤◌, ◌<◌, ◌^◌, List, [], ◌∷◌, ◌++◌, drop, get_or, length, Some, None, refl, ap, sym, subst, ◌∙◌, append_assoc, append-nil, arith, Box, Global, Bor, Option, eq-eqb}
+use Rattle.std.proofs.Common.{◌≡◌, ◌≢◌, inl, inr, ℕ, zero, suc, ◌+◌, ◌≤◌, ◌<◌, ◌^◌, List, [], ◌∷◌, ◌++◌, drop, get_or, length, Some, None, refl, ap, sym, subst, ◌∙◌, append_assoc, append-nil, arith, Box, Global, Bor, Option, eq-eqb}
 use Rattle.std.proofs.lemmas.List.{length-append, at_drop_more}
 use Rattle.std.proofs.lemmas.Nat.Bits.{bit_at_above}
-use Rattle.std.specs.Int.{bit_at}
 use Rattle.std.proofs.lemmas.Bool.Decides.{eqb_tells, leb_tells}
 use Rattle.nibble_map.specs.Answers.{IsShortest}
-use Rattle.nibble_map.specs.Kept.{Tree, Kids, none, more, IsAt, IsPlaced, IsTreePlaced, firsts, front}
+use Rattle.nibble_map.specs.Kept.{Tree, Kids, none, more, IsAt, IsPlaced, IsTreePlaced, firsts}
 use Rattle.nibble_map.specs.KeptPaths.{IsKidAt, IsNodeAt, IsPath}
-use Rattle.nibble_map.specs.Lists.{Each, Has, IsBefore, IsPrefix, IsRising, IsStrictPrefix, Lists}
+use Rattle.nibble_map.specs.Lists.{Each, Has, IsBefore, IsPrefix, IsRising, IsStrictPrefix}
 use Rattle.nibble_map.specs.MapQueries.{AreKids, IsKid}
 use Rattle.nibble_map.specs.Maps.{PairMap, IsPoint}
-use Rattle.nibble_map.specs.Masks.{IsMask, IsRisingFrom, bit_of}
+use Rattle.nibble_map.specs.Masks.{IsRisingFrom, bit_of}
 use Rattle.nibble_map.specs.Nibbles.{IsShort}
 use Rattle.nibble_map.specs.Trees.{first}
 use Rattle.nibble_map.proofs.Cut.{cancel, cons_head}
-use Rattle.nibble_map.proofs.KeptKids.{at_after, at_placed, placed_rises}
-use Rattle.nibble_map.proofs.KeptPaths.{at_down, at_up, begins}
+use Rattle.nibble_map.proofs.KeptKids.{at_placed, placed_rises}
+use Rattle.nibble_map.proofs.KeptPaths.{at_down, at_up}
 use Rattle.nibble_map.proofs.Parted.{prefix_same, prefix_through}
 use Rattle.nibble_map.proofs.Shape.{headed}
 use Rattle.radix_nodes.specs.declared.trie_node.KeyValue.{KeyValue}
 use Rattle.radix_nodes.specs.declared.trie_node.TrieNode.{TrieNode, out-TrieNode}
-use Rattle.radix_nodes.specs.Nodes.{kids_of, tree_of, IsNearest, fragment_of}
+use Rattle.radix_nodes.specs.Nodes.{kids_of, tree_of, fragment_of}
 use Rattle.radix_nodes.proofs.Nodes.{fragment_out, kids_at, kids_out, mask_out}
 use Rattle.radix_trie.specs.Places.{IsNodeOf, IsPlace, kid_views}
 use Rattle.radix_trie.specs.Roots.{IsRoot}

@@ -1,23 +1,23 @@
 -- What a kept root holds is what its map stores.
-use Rattle.std.proofs.Common.{◌≡◌, ℕ, zero, suc, ◌+◌, ◌≤◌, ◌<◌, max, ◌⊎◌, inl, inr, ◌↔◌, List, [], ◌∷◌, ◌++◌, map, length, Option, Some, None, IsSome, option_map, T, is_some, refl, ap, sym, subst, ◌∙◌, arith, append_assoc}
+use Rattle.std.proofs.Common.{◌≡◌, ℕ, zero, suc, ◌+◌, ◌≤◌, ◌<◌, ◌⊎◌, inl, inr, List, [], ◌∷◌, ◌++◌, map, length, Option, Some, None, IsSome, option_map, T, is_some, refl, ap, sym, subst, ◌∙◌, arith}
 use Rattle.std.proofs.lemmas.List.{length-append, map-append}
 use Rattle.std.proofs.lemmas.Simd.{map-map}
 use Rattle.std.specs.FinMap as fin
-use Rattle.nibble_map.specs.Kept.{Tree, Kids, none, more, plain, IsPlaced, IsTreePlaced, IsFullBelow, entries_in, entries_at}
+use Rattle.nibble_map.specs.Kept.{Tree, Kids, none, more, plain, IsPlaced, entries_in, entries_at}
 use Rattle.nibble_map.specs.KeptPaths.{IsHeld, IsNodeAt, reach}
 use Rattle.nibble_map.specs.Lists.{Has}
 use Rattle.nibble_map.specs.Maps.{PairMap, IsStored}
 use Rattle.nibble_map.specs.Nibbles.{IsShort}
 use Rattle.nibble_map.specs.Stored as stored
 use Rattle.nibble_map.specs.Swaps.{entry}
-use Rattle.nibble_map.specs.Trees.{AreMany, IsFull, first}
+use Rattle.nibble_map.specs.Trees.{IsFull, first}
 use Rattle.nibble_map.proofs.KeptOne.{node_unique}
 use Rattle.nibble_map.proofs.KeptPaths.{has_node, node_has}
 use Rattle.nibble_map.proofs.MapEdits.{held, has_get}
 use Rattle.nibble_map.proofs.Members.{Has-left, Has-right}
 use Rattle.radix_nodes.specs.declared.trie_node.KeyValue.{KeyValue}
 use Rattle.radix_trie.specs.Pairs.{pair_of}
-use Rattle.radix_trie.specs.Roots.{entries_of, map_of, IsKept, IsRoot}
+use Rattle.radix_trie.specs.Roots.{map_of, IsKept, IsRoot}
 use Rattle.radix_trie.proofs.Shown.{row_of, entries_shown, entries_of_map}
 
 pub three_ways : (m n : ℕ) → (m ≤ n) ⊎ (n ≤ m)

@@ -1,5 +1,5 @@
 -- The nearest point below a path, by what is found for the path.
-use Rattle.std.proofs.Common.{◌≡◌, ℕ, List, ◌++◌, drop, Option, Some, None, ap, subst}
+use Rattle.std.proofs.Common.{◌≡◌, ℕ, List, ◌++◌, drop, Option, Some, None, subst}
 use Rattle.std.specs.Borrow.{Bor}
 use Rattle.nibble_map.specs.Answers.{IsShortest}
 use Rattle.nibble_map.specs.Lists.{IsPrefix}

@@ -1,5 +1,5 @@
 -- What a look-up of a point finds.
-use Rattle.std.proofs.Common.{◌≡◌, ℕ, List, ◌++◌, drop, Option, Some, None, MatchOption, IfSome, subst}
+use Rattle.std.proofs.Common.{ℕ, List, ◌++◌, drop, Option, Some, None, MatchOption, IfSome, subst}
 use Rattle.std.specs.Borrow.{Bor}
 use Rattle.nibble_map.specs.KeptPaths.{IsNodeAt}
 use Rattle.nibble_map.specs.MapQueries.{IsFragment}

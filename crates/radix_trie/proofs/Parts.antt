@@ -1,5 +1,5 @@
 -- The part of a tree at and below one of its nodes.
-use Rattle.std.proofs.Common.{◌≡◌, ◌≢◌, ◌⊎◌, inl, inr, Bool, true, false, ℕ, zero, suc, ◌+◌, ◌≤◌, List, [], ◌∷◌, ◌++◌, filter, length, Option, Some, None, refl, ap, sym, subst, ◌∙◌, append_assoc, append-nil, arith}
+use Rattle.std.proofs.Common.{◌≡◌, ◌≢◌, ◌⊎◌, inl, inr, Bool, true, false, ℕ, suc, ◌≤◌, List, [], ◌∷◌, ◌++◌, filter, Option, Some, None, refl, ap, sym, subst, ◌∙◌, append_assoc, append-nil, arith}
 use Rattle.std.proofs.lemmas.List.Elements.{filter-append}
 use Rattle.nibble_map.specs.Kept.{Tree, Kids, none, more, IsPlaced, IsTreePlaced, entries_in, entries_at}
 use Rattle.nibble_map.specs.KeptPaths.{IsKidAt, IsNodeAt}
@@ -8,8 +8,8 @@ use Rattle.nibble_map.specs.Swaps.{entry}
 use Rattle.nibble_map.specs.Trees.{first}
 use Rattle.nibble_map.proofs.Cut.{cancel}
 use Rattle.nibble_map.proofs.KeptPaths.{begins, shorter, kid_headed, no_kid_here, has_node}
-use Rattle.nibble_map.proofs.KeptSearch.{prefix_below, prefix_above}
-use Rattle.nibble_map.proofs.Parted.{prefix_of, is_prefix_true, prefix_itself, prefix_through}
+use Rattle.nibble_map.proofs.KeptSearch.{prefix_below}
+use Rattle.nibble_map.proofs.Parted.{prefix_of, is_prefix_true, prefix_through}
 
 rest_nil : (x z : List ℕ) → x ++ z ≡ [] → z ≡ []
 rest_nil [] z e = e

@@ -1,5 +1,5 @@
 -- The nodes of a kept root are the points of its map, each with its point's fragment.
-use Rattle.std.proofs.Common.{◌≡◌, ◌⊎◌, inl, inr, ◌↔◌, ℕ, ◌+◌, ◌≤◌, List, [], ◌∷◌, ◌++◌, map, length, option_map, refl, ap, sym, subst, ◌∙◌, append_assoc, append-nil, arith}
+use Rattle.std.proofs.Common.{◌≡◌, inl, inr, ℕ, List, [], ◌∷◌, ◌++◌, length, option_map, refl, ap, sym, subst, ◌∙◌, append_assoc, arith}
 use Rattle.std.proofs.lemmas.List.{length-append}
 use Rattle.nibble_map.specs.Kept.{Tree, Kids, none, more}
 use Rattle.nibble_map.specs.KeptPaths.{IsKidAt, IsNodeAt, IsPath}

@@ -31,7 +31,7 @@ use Rattle.radix_trie.specs.Pairs.{pair_of}
 use Rattle.radix_trie.specs.Places.{IsNodeOf, IsPlace}
 use Rattle.radix_trie.specs.Roots.{IsRoot}
 use Rattle.radix_trie.specs.Views.{pairs_below}
-use Rattle.radix_trie.specs.Walks.{pairs_of, pairs_in}
+use Rattle.radix_trie.specs.Walks.{pairs_in}
 use Rattle.radix_trie.proofs.Changes.{at_root}
 use Rattle.radix_trie.proofs.Held.{node_get, no_node_get}
 use Rattle.radix_trie.proofs.Parts.{true_false, kept, node_placed, node_kept, free_kept, node_down, node_up}

@@ -1,5 +1,5 @@
 -- A kept root as plain data: its entries, nodes and nibbles, and the map that it stands for.
-use Rattle.std.proofs.Common.{◌≡◌, ℕ, suc, ◌+◌, ◌≤◌, ◌*◌, ◌⊎◌, inl, inr, List, [], ◌∷◌, ◌++◌, map, length, max, Option, Some, None, IsSome, option_map, refl, ap, sym, append_assoc, subst, ◌∙◌, arith, nat_cmp}
+use Rattle.std.proofs.Common.{◌≡◌, ℕ, suc, inl, inr, List, [], ◌∷◌, ◌++◌, map, length, Option, Some, None, IsSome, option_map, refl, ap, sym, append_assoc, subst, ◌∙◌, arith, nat_cmp}
 use Rattle.std.proofs.lemmas.List.{map-append, length-append}
 use Rattle.std.proofs.lemmas.List.Elements.{filter_map-append}
 use Rattle.std.proofs.lemmas.List.Sums.{sum_by-append, sum_by-cons}
@@ -8,12 +8,12 @@ use Rattle.std.specs.FinMap as fin
 use Rattle.nibble_map.specs.Canonical.{IsCanonical}
 use Rattle.nibble_map.specs.Kept.{Tree, Kids, none, more, plain, IsPlaced, IsTreePlaced, IsFullBelow, entries_in, entries_at, nodes_in, nibbles_in}
 use Rattle.nibble_map.specs.Lists.{IsRising, Counts}
-use Rattle.nibble_map.specs.Maps.{PairMap, IsPoint, IsStem}
+use Rattle.nibble_map.specs.Maps.{IsPoint, IsStem}
 use Rattle.nibble_map.specs.Stored.{stored}
 use Rattle.nibble_map.specs.Swaps.{entry}
 use Rattle.nibble_map.specs.Trees as trees
 use Rattle.nibble_map.specs.Trees.{Forest, AreMany, IsFull, IsShaped, first, nodes_below}
-use Rattle.nibble_map.proofs.OneTree.{canonical_of_entries, node_count, nibble_count, few_nodes}
+use Rattle.nibble_map.proofs.OneTree.{canonical_of_entries, node_count, nibble_count}
 use Rattle.nibble_map.proofs.Sorted.{sorted_of_rising}
 use Rattle.nibble_map.proofs.Unique.{tree_entries_rise}
 use Rattle.radix_nodes.specs.declared.trie_node.KeyValue.{KeyValue}

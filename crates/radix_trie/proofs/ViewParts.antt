@@ -5,13 +5,13 @@ use Prim.Native.Nat.{ℕ, ◌+◌}
 use mathlib.Core.List.{List, [], ◌∷◌}
 use seplogic.Ra.Ura.{Ura}
 use base.Fraction.{full_share}
-use base.Fml.{Lft, GName, Share, Fml, ftrue, fobs, fbor, flft, fobor, fauth, fseps, Incl-refl}
-use base.Logic.{SProp, ent, sep, ex, wand, all_e, apply∗, id⊢}
+use base.Fml.{Lft, GName, Share, Fml, ftrue, fobs, fbor, flft, fseps, Incl-refl}
+use base.Logic.{SProp, ent, sep, ex, wand, all_e, apply∗}
 use mir.Syntax.{named, Sym}
 use mir.Val.{Val, vptr}
 use prog.Memory.{size, align, up}
 use types.Logic.{Logic, sem}
-use types.Kit.{‵, raw, ◌⊛◌, some, later, ◌$◌, ◌∵◌, !, qed, by, move, keep, drop, use1, use2, split, split3, join, pick, show, fsplit, fsplit3, fjoin, fjoin3, feq_i, group, updating, rewrite, await, now as at_once, done}
+use types.Kit.{‵, raw, ◌⊛◌, some, later, ◌$◌, ◌∵◌, !, qed, move, keep, use1, use2, split, split3, join, pick, show, fsplit, fjoin, fjoin3, feq_i, group, updating, rewrite, await, now as at_once, done}
 use types.SemTy.{Body}
 use types.Mut.{open_ref}
 use types.Follow.{takes_beside}
@@ -20,7 +20,6 @@ use denote.RattleType.{RattleType, Denots}
 use denote.Memory.{part_at, part_of, mem, lone, hidden_shr}
 use denote.Laws.{Lawfuls}
 use denote.Ref.{MutRef, ShrRef, Bor, MutBor, mut_Lawful}
-use denote.Steps.{nothing}
 use denote.Follow.{follows}
 use denote.Struct.Struct.{Struct}
 use denote.Struct.Members.{Member, rows_of, parts_at}

@@ -1,5 +1,5 @@
 -- Where a path stands in the tree of a trie.
-use Rattle.std.specs.Prelude.{◌≡◌, ℕ, List, [], ◌∷◌, ◌++◌, Option, MatchOption, ⊤}
+use Rattle.std.specs.Prelude.{ℕ, List, [], ◌∷◌, ◌++◌, Option, MatchOption}
 use Rattle.std.specs.Borrow.{Bor}
 use Rattle.nibble_map.specs.Kept.{Tree, Kids, none, more}
 use Rattle.nibble_map.specs.KeptPaths.{IsNodeAt, IsPath}

@@ -1,5 +1,5 @@
 -- What a trie's root stands for, and what a trie keeps.
-use Rattle.std.specs.Prelude.{◌≡◌, ℕ, suc, ◌<◌, ◌^◌, List, [], ◌∷◌, length, Option, option_map}
+use Rattle.std.specs.Prelude.{◌≡◌, ℕ, suc, ◌<◌, ◌^◌, List, [], ◌∷◌, length, option_map}
 use Rattle.std.specs.FinMap as map
 use Rattle.nibble_map.specs.Canonical.{IsCanonical}
 use Rattle.nibble_map.specs.Kept.{Tree, Kids, none, more, IsTreePlaced, IsFullBelow, nodes_in, nibbles_in}

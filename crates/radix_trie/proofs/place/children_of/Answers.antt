@@ -1,4 +1,4 @@
-use Rattle.std.proofs.Common.{◌≡◌, ◌<◌, ◌≤◌, ◌^◌, ◌++◌, ◌∷◌, [], ap, sym, subst, ◌∙◌, refl, arith, rules, length, List, append-nil}
+use Rattle.std.proofs.Common.{◌≡◌, ◌<◌, ◌^◌, ◌++◌, ◌∷◌, [], ap, sym, subst, ◌∙◌, arith, rules, length}
 use Rattle.std.proofs.lemmas.List.{length-append}
 use Rattle.nibble_map.specs.KeptPaths.{IsNodeAt}
 use Rattle.nibble_map.specs.Nibbles.{IsShort}

@@ -1,10 +1,8 @@
-use Rattle.std.proofs.Common.{◌≡◌, ◌∷◌, ◌++◌, [], ap, sym, subst, ◌∙◌, refl, arith, List, ℕ}
+use Rattle.std.proofs.Common.{◌≡◌, ◌∷◌, ◌++◌, [], ap, sym, subst, ◌∙◌, arith}
 use Rattle.std.proofs.lemmas.Result.{IfOk-weaker}
-use Rattle.nibble_map.specs.Lists.{Each, Has}
-use Rattle.nibble_map.specs.MapQueries.{AreKids, IsKid}
-use Rattle.nibble_map.specs.Nibbles.{IsShort}
-use Rattle.radix_nodes.specs.Nodes.{tree_of, fragment_of}
-use Rattle.radix_trie.specs.Places.{kid_views}
+use Rattle.nibble_map.specs.Lists.{Each}
+use Rattle.nibble_map.specs.MapQueries.{AreKids}
+use Rattle.radix_nodes.specs.Nodes.{tree_of}
 use Rattle.radix_trie.specs.Views.{ReadView, paths_of}
 use Rattle.radix_trie.proofs.ChildViews.{node_here, node_past, kids_past, kids_free, kids_here, short_here, views_map, past_short}
 use Rattle.radix_trie.proofs.Places.{not_both, whole_or_inside}

@@ -1,4 +1,4 @@
-use Rattle.std.proofs.Common.{◌≡◌, ◌<◌, ◌^◌, sym, ap, ◌∙◌, rules, arith, length}
+use Rattle.std.proofs.Common.{◌<◌, ◌^◌, ◌∙◌, rules, arith}
 use Rattle.radix_trie.proofs.Places.{few_here, pairs_here, pairs_free}
 use Rattle.radix_trie.proofs.Keyed.{keyed_walk}
 use Rattle.radix_trie.proofs.place.Place.iter.Goals as goal

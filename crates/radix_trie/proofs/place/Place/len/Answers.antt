@@ -1,4 +1,4 @@
-use Rattle.std.proofs.Common.{◌≡◌, ◌<◌, ◌^◌, sym, ◌∙◌, rules, arith}
+use Rattle.std.proofs.Common.{◌<◌, ◌^◌, ◌∙◌, rules, arith}
 use Rattle.radix_trie.proofs.Places.{few_here, len_here, len_free}
 use Rattle.radix_trie.proofs.place.Place.len.Goals as goal
 

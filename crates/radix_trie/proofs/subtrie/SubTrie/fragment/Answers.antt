@@ -1,4 +1,4 @@
-use Rattle.std.proofs.Common.{◌≡◌, ap, sym, subst, ◌∙◌, List, ℕ}
+use Rattle.std.proofs.Common.{sym, subst}
 use Rattle.std.proofs.lemmas.Result.{IfOk-weaker}
 use Rattle.nibble_map.specs.MapQueries.{IsFragment}
 use Rattle.radix_nodes.specs.Nodes.{tree_of, fragment_of}

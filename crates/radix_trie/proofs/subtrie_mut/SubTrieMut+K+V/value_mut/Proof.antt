@@ -4,16 +4,12 @@ use Prim.Native.Nat.{ℕ}
 use mathlib.Core.List.{List, [], ◌∷◌}
 use mir.Syntax.{named, Fn, a_type, dcons, dnil}
 use mir.MapTy.{inst_fn}
-use mir.Val.{Val, vptr}
-use base.Logic.{ent, sep, emp, id⊢}
-use base.Fml.{Fml, Lft, GName, ftrue, flft, fobs, fbor, Incl-trans}
+use base.Logic.{emp, id⊢}
+use base.Fml.{Lft, GName, ftrue, flft}
 use prog.Wp.{Tables, WpFn}
-use types.Logic.{sem}
-use types.Kit.{Item, ‵, raw, ◌⊛◌, some, later, ◌$◌, ◌∵◌, !, qed, move, keep, drop, use0, use1, use2, use3, split, split3, join, fsplit, fsplit3, fjoin, feq_l, pick, await, rewrite, suffices, frame, done}
-use types.Part.{whole}
-use types.SemTy.{Body}
+use types.Kit.{Item, ‵, raw, ◌⊛◌, some, later, ◌$◌, ◌∵◌, !, qed, move, keep, drop, use0, use1, use2, use3, split, split3, join, fsplit3, fjoin, feq_l, pick, await, suffices, frame, done}
 use types.Run.{enter, addr, stop, fld, no_more, and_then, returns}
-use types.ByLocal.{alloc_all, pass_all, free_all, look_at, get, through, sets, lands_as, env}
+use types.ByLocal.{alloc_all, pass_all, free_all, look_at, get, through, sets, lands_as}
 use contract.Monad.{fact, fact_i}
 use contract.BorrowLft.{◌⊑◌, ⊑_static}
 use contract.Lifetimes.{Lfts}
@@ -22,7 +18,6 @@ use sound.WpLaws.{WpFn-mono}
 use denote.RattleType.{RattleType}
 use denote.Exit.{no}
 use denote.Laws.{Is, shows}
-use denote.Memory.{mem}
 use denote.Ref.{NamedLft, Bor, MutBor, MutRef, ShrRef, mut_vals, mut_Tells, shr_vals}
 use denote.Signature.{plain, mut_ref_to, named_lft}
 use denote.Steps.{nothing, peeks, heard}
@@ -33,7 +28,7 @@ use denote.Param.{param, bounded}
 use denote.Param.Laws.{Laws, of_field, row_shared, param_laws}
 use denote.Param.Shared.{mut_ref_shared}
 use denote.Triple.Call.{calls_at}
-use denote.Triple.Clauses.{lasts, Ended, closing}
+use denote.Triple.Clauses.{lasts, Ended}
 use denote.Triple.Spec.{triple_of}
 use denote.Triple.Table.{entered, framed}
 use denote.Triple.Walked.{Stays, stay_dropped, walk_of, ends_at, walked, walk_Meets, Goes-spent_ref}
@@ -43,12 +38,8 @@ use Rattle.std.specs.contracts.option.Option.{the_row as option_row}
 use Rattle.std.proofs.option.Option.TheLaws.{the_row_laws as option_laws}
 use Rattle.nibble_map.specs.Maps.{PairMap, value_at, with_value}
 use Rattle.radix_keys.specs.contracts.nibbles.NibbleVec.{the_row as list_row}
-use Rattle.radix_keys.proofs.nibbles.NibbleVec.TheLaws.{the_row_laws as list_laws}
-use Rattle.radix_keys.specs.declared.keys.TrieKey as keys
 use Rattle.radix_keys.specs.declared.nibbles.NibbleVec.{NibbleVec}
 use Rattle.radix_nodes.proofs.Lent.{if_then}
-use Rattle.std.specs.declared.cmp.PartialEq as eqs
-use Rattle.std.specs.declared.cmp.Eq as equal
 use Rattle.radix_trie.proofs.ViewParts as parts
 use Rattle.radix_trie.specs.Lends.{lends_own, lends_behind}
 use Rattle.radix_trie.specs.declared.subtrie_mut.SubTrieMut.{SubTrieMut}

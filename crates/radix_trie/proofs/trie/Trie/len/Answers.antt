@@ -1,5 +1,4 @@
-use Rattle.std.proofs.Common.{ap, sym, ◌∙◌}
-use Rattle.std.specs.FinMap as map
+use Rattle.std.proofs.Common.{sym}
 use Rattle.radix_trie.proofs.Shown.{kept_len}
 use Rattle.radix_trie.proofs.trie.Trie.len.Goals as goal
 

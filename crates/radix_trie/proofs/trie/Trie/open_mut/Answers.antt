@@ -1,6 +1,5 @@
 use Rattle.std.proofs.Common.{ap, sym, ◌∙◌, refl, subst}
 use Rattle.nibble_map.specs.MapQueries.{IsFragment}
-use Rattle.nibble_map.specs.Maps.{IsPoint}
 use mathlib.Core.Option as maybe
 use Rattle.radix_trie.proofs.trie.Trie.open_mut.Goals as goal
 

@@ -1,5 +1,5 @@
-use Rattle.std.proofs.Common.{◌≡◌, ap, sym, ◌∙◌, Some, None, option_map}
-use Rattle.radix_nodes.specs.Nodes.{tree_of, unboxed}
+use Rattle.std.proofs.Common.{ap, sym, ◌∙◌, Some, option_map}
+use Rattle.radix_nodes.specs.Nodes.{unboxed}
 use Rattle.radix_nodes.proofs.Nodes.{pair_out}
 use Rattle.radix_trie.specs.Pairs.{pair_of}
 use Rattle.radix_trie.proofs.Changes.{node_at_root, no_node_at_root}

@@ -1,7 +1,5 @@
 use Rattle.std.proofs.Common.{sym, subst}
-use Rattle.nibble_map.specs.MapQueries.{IsFragment}
 use Rattle.nibble_map.specs.Maps.{IsPoint}
-use Rattle.radix_trie.proofs.Paths.{short_fragment}
 use Rattle.radix_trie.proofs.trie.Trie.place_of.Goals as goal
 
 pub returns-in_default-clause-point : goal.returns-in_default-clause-point

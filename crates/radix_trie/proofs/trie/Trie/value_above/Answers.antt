@@ -1,4 +1,4 @@
-use Rattle.std.proofs.Common.{ap, sym, subst, ◌∙◌, Some, None, option_map}
+use Rattle.std.proofs.Common.{ap, sym, subst, ◌∙◌, Some, option_map}
 use Rattle.radix_nodes.specs.Nodes.{unboxed}
 use Rattle.radix_nodes.proofs.Nodes.{pair_out}
 use Rattle.radix_trie.specs.Views.{IsValueAbove}

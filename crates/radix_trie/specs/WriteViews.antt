@@ -5,11 +5,19 @@ use Rattle.nibble_map.specs.Maps.{PairMap, with_value}
 use Rattle.radix_keys.specs.declared.nibbles.NibbleVec.{NibbleVec}
 use Rattle.radix_trie.specs.declared.subtrie_mut.SubTrieMut.{SubTrieMut}
 
-module _ {K V : Type 0} where
+module _ {K V P : Type 0} where
   -- the map of the trie that the view writes
-  abbrev pub map_behind : SubTrieMut K V NibbleVec → PairMap K V
+  abbrev pub map_behind : SubTrieMut K V P → PairMap K V
   map_behind v = v.trie.now
 
+  -- the path, and its fragment when the view was made, as they are kept
+  abbrev pub kept_path : SubTrieMut K V P → P
+  kept_path v = v.path
+
+  abbrev pub kept_prefix : SubTrieMut K V P → P
+  kept_prefix v = v.prefix
+
+module _ {K V : Type 0} where
   abbrev pub path_of : SubTrieMut K V NibbleVec → List ℕ
   path_of v = v.path
 

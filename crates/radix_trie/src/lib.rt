@@ -26,7 +26,7 @@ pub use radix_keys::{
     BigEndian, BytesError, KeyInt, LittleEndian, Memory, NibbleVec, Nibblet, TrieKey,
 };
 pub use subtrie::{SubTrie, SubTrieError, SubTrieResult};
-pub use subtrie_mut::SubTrieMut;
+pub use subtrie_mut::{PathList, SubTrieMut};
 pub use trie::{InsertError, InsertWhy, Trie};
 pub use trie_common::TrieCommon;
 pub use trie_json::{JsonError, from_value, to_value};

@@ -2,14 +2,14 @@
 ghost use Rattle.std.specs.Borrow.{sem};
 ghost use Rattle.std.specs.FinMap as map;
 ghost use Rattle.std.specs.Option.{option_copied_mut};
-ghost use Rattle.std.specs.Prelude.{◌≡◌, ◌≢◌, ℕ, List, None, IsOk, IfOk, OnOk, IfErr, OnErr, IsErrAnd, Err, option_copied};
+ghost use Rattle.std.specs.Prelude.{◌≡◌, ◌≢◌, ◌↔◌, ℕ, List, None, IsTrue, IsOk, IfOk, OnOk, IfErr, OnErr, IsErrAnd, Err, option_copied};
 ghost use Rattle.nibble_map.specs.Lists.{Each, IsPrefix};
-ghost use Rattle.nibble_map.specs.MapQueries.{AreKids, IsKid};
-ghost use Rattle.nibble_map.specs.Maps.{IsStored, value_at};
+ghost use Rattle.nibble_map.specs.MapQueries.{AreKids, IsKid, IsLeaf};
+ghost use Rattle.nibble_map.specs.Maps.{IsStored, below, value_at};
 ghost use Rattle.nibble_map.specs.Nibbles.{IsShort};
 ghost use Rattle.radix_trie.specs.Lends.{lends_behind, lends_own};
 ghost use Rattle.radix_trie.specs.Views.{paths_of};
-ghost use Rattle.radix_trie.specs.WriteViews.{map_behind, path_of, prefix_of, lender_of, SameView};
+ghost use Rattle.radix_trie.specs.WriteViews.{map_behind, kept_path, kept_prefix, path_of, prefix_of, lender_of, SameView};
 
 use crate::iter::Children;
 use crate::place::{Place, begins};
@@ -35,9 +35,35 @@ fn value_behind<'s, 'a, K: TrieKey, V>(
 /// longer a point, as after the removal of its own pair.
 // The parameter `P` lets a caller's proof follow the trie past the view's end; it is always `Nibblet`.
 pub struct SubTrieMut<'a, K: TrieKey, V, P = Nibblet> {
-    trie: &'a mut Trie<K, V>,
-    path: P,
-    prefix: P,
+    pub(crate) trie: &'a mut Trie<K, V>,
+    pub(crate) path: P,
+    pub(crate) prefix: P,
+}
+
+/// What a view for writing keeps its path as: always a `Nibblet`.
+pub trait PathList: Drop {
+    /// The path.
+    ghost list: { Self → List ℕ };
+
+    /// The path.
+    fn nibbles(&self) -> &Nibblet
+        ensures { result.now ≡ list self.now };
+
+    /// The path, and nothing of it is left.
+    fn into_nibbles(self) -> Nibblet
+        ensures { result ≡ list self };
+}
+
+impl PathList for Nibblet {
+    ghost list = { λ n. n };
+
+    fn nibbles(&self) -> &Nibblet {
+        self
+    }
+
+    fn into_nibbles(self) -> Nibblet {
+        self
+    }
 }
 
 impl<K: TrieKey, V, P: Drop> Drop for SubTrieMut<'_, K, V, P> {
@@ -106,17 +132,6 @@ impl<'a, K: TrieKey, V> SubTrieMut<'a, K, V> {
         self.prefix.clone()
     }
 
-    /// The trie, the path, and the path's fragment when the view was made. The view is spent: its reference for writing
-    /// becomes one for reading.
-    pub(crate) fn into_parts(self) -> (&'a Trie<K, V>, Nibblet, Nibblet)
-        ensures map { result.0.now ≡ map_behind self.entry }
-        ensures path { result.1 ≡ path_of self.entry }
-        ensures prefix { result.2 ≡ prefix_of self.entry }
-    {
-        let SubTrieMut { trie, path, prefix } = self;
-        (trie, path, prefix)
-    }
-
     /// The value that the trie holds at the key's encoding, if there is one. Outside where the view's path isn't a prefix
     /// of the encoding.
     ///
@@ -134,6 +149,60 @@ impl<'a, K: TrieKey, V> SubTrieMut<'a, K, V> {
             return Err(SubTrieError::Outside);
         }
         Ok(self.trie.at(&list))
+    }
+}
+
+impl<'a, K: TrieKey, V, P: PathList> SubTrieMut<'a, K, V, P> {
+    /// The trie and the path. The view is spent: its reference for writing becomes one for reading.
+    pub(crate) fn into_parts(self) -> (&'a Trie<K, V>, P)
+        ensures map { result.0.now ≡ map_behind self.entry }
+        ensures path { result.1 ≡ kept_path self.entry }
+    {
+        let SubTrieMut {
+            trie,
+            path,
+            prefix: _,
+        } = self;
+        (trie, path)
+    }
+
+    /// The count of pairs at and below the path. The view is spent.
+    pub(crate) fn count(self) -> usize
+        ensures count { result ≡ map.len (below (map_behind self.entry) (P.list (kept_path self.entry))) }
+        ensures kept { self.exit.0.now ≡ map_behind self.entry }
+    {
+        let SubTrieMut {
+            trie,
+            path,
+            prefix: _,
+        } = self;
+        Place::find(trie, path.nibbles()).len()
+    }
+
+    /// Whether no pair is strictly below the path. The view is spent.
+    pub(crate) fn ends(self) -> bool
+        ensures leaf { IsTrue result ↔ IsLeaf (map_behind self.entry) (P.list (kept_path self.entry)) }
+        ensures kept { self.exit.0.now ≡ map_behind self.entry }
+    {
+        let SubTrieMut {
+            trie,
+            path,
+            prefix: _,
+        } = self;
+        Place::find(trie, path.nibbles()).is_leaf()
+    }
+
+    /// The path's fragment when the view was made. The view is spent.
+    pub(crate) fn into_prefix(self) -> Nibblet
+        ensures prefix { result ≡ P.list (kept_prefix self.entry) }
+        ensures kept { self.exit.0.now ≡ map_behind self.entry }
+    {
+        let SubTrieMut {
+            trie: _,
+            path: _,
+            prefix,
+        } = self;
+        prefix.into_nibbles()
     }
 }
 

@@ -1,65 +1,78 @@
 //! What views for writing have in common with tries and views for reading.
-ghost use Rattle.radix_trie.specs.WriteViews.{map_behind, path_of, prefix_of};
-ghost use Rattle.std.specs.Prelude.{◌≡◌};
+ghost use Rattle.std.specs.FinMap as finite;
+ghost use Rattle.std.specs.Prelude.{◌≡◌, ◌↔◌, ℕ, List, IsTrue, IsOk, IfOk};
+ghost use Rattle.nibble_map.specs.MapQueries.{IsLeaf};
+ghost use Rattle.nibble_map.specs.Maps.{below};
+ghost use Rattle.nibble_map.specs.Nibbles.{IsShort};
+ghost use Rattle.radix_trie.specs.WriteViews.{map_behind, kept_path, kept_prefix, path_of, prefix_of};
 
 use crate::iter::{Iter, Keys, Values};
 use crate::place::Place;
-use crate::subtrie_mut::SubTrieMut;
+use crate::subtrie_mut::{PathList, SubTrieMut};
 use crate::trie_common::TrieCommon;
 use radix_keys::{Memory, Nibblet, TrieKey};
 
 // The view is spent: its reference for writing becomes one for reading, so what is handed out lasts as long as the
-// trie's borrow.
-impl<'a, K: TrieKey, V> TrieCommon<'a, K, V> for SubTrieMut<'a, K, V> {
+// trie's borrow. Where nothing is handed out, the trie is known to stay as it is (`kept`).
+impl<'a, K: TrieKey, V, P: PathList> TrieCommon<'a, K, V> for SubTrieMut<'a, K, V, P> {
     ghost map = { map_behind };
 
-    ghost path = { path_of };
+    ghost path = { λ v. P.list (kept_path v) };
 
-    ghost is_prefix = { λ v f. f ≡ prefix_of v };
+    ghost is_prefix = { λ v f. f ≡ P.list (kept_prefix v) };
 
     fn key(self) -> Option<&'a K> {
-        let (trie, path, _prefix) = self.into_parts();
-        Place::find(trie, &path).key()
+        let (trie, path) = self.into_parts();
+        Place::find(trie, path.nibbles()).key()
     }
 
     fn value(self) -> Option<&'a V> {
-        let (trie, path, _prefix) = self.into_parts();
-        Place::find(trie, &path).value()
+        let (trie, path) = self.into_parts();
+        Place::find(trie, path.nibbles()).value()
     }
 
-    fn len(self) -> usize {
-        let (trie, path, _prefix) = self.into_parts();
-        Place::find(trie, &path).len()
+    fn len(self) -> usize
+        ensures value { result ≡ finite.len (below (map_behind self.entry) (P.list (kept_path self.entry))) }
+        ensures kept { self.exit.0.now ≡ map_behind self.entry }
+    {
+        self.count()
     }
 
-    fn is_empty(self) -> bool {
-        let (trie, path, _prefix) = self.into_parts();
-        Place::find(trie, &path).len() == 0
+    fn is_empty(self) -> bool
+        ensures value { IsTrue result ↔ (finite.len (below (map_behind self.entry) (P.list (kept_path self.entry))) ≡ 0) }
+        ensures kept { self.exit.0.now ≡ map_behind self.entry }
+    {
+        self.count() == 0
     }
 
-    fn is_leaf(self) -> bool {
-        let (trie, path, _prefix) = self.into_parts();
-        Place::find(trie, &path).is_leaf()
+    fn is_leaf(self) -> bool
+        ensures value { IsTrue result ↔ IsLeaf (map_behind self.entry) (P.list (kept_path self.entry)) }
+        ensures kept { self.exit.0.now ≡ map_behind self.entry }
+    {
+        self.ends()
     }
 
     fn iter(self) -> Result<Iter<'a, K, V>, Memory> {
-        let (trie, path, _prefix) = self.into_parts();
-        Place::find(trie, &path).iter()
+        let (trie, path) = self.into_parts();
+        Place::find(trie, path.nibbles()).iter()
     }
 
     fn keys(self) -> Result<Keys<'a, K, V>, Memory> {
-        let (trie, path, _prefix) = self.into_parts();
-        Ok(Keys::new(Place::find(trie, &path).iter()?))
+        let (trie, path) = self.into_parts();
+        Ok(Keys::new(Place::find(trie, path.nibbles()).iter()?))
     }
 
     fn values(self) -> Result<Values<'a, K, V>, Memory> {
-        let (trie, path, _prefix) = self.into_parts();
-        Ok(Values::new(Place::find(trie, &path).iter()?))
+        let (trie, path) = self.into_parts();
+        Ok(Values::new(Place::find(trie, path.nibbles()).iter()?))
     }
 
-    fn prefix(self) -> Result<Nibblet, Memory> {
-        let (_trie, _path, prefix) = self.into_parts();
-        Ok(prefix)
+    fn prefix(self) -> Result<Nibblet, Memory>
+        ensures fragment { IfOk result (λ f. f ≡ P.list (kept_prefix self.entry)) }
+        ensures short { ((f : List ℕ) → (f ≡ P.list (kept_prefix self.entry)) → IsShort f) → IsOk result }
+        ensures kept { self.exit.0.now ≡ map_behind self.entry }
+    {
+        Ok(self.into_prefix())
     }
 }
 

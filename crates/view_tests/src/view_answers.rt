@@ -1,6 +1,9 @@
 //! What views for writing answer of their paths, points or not, lent and spent.
+ghost use Rattle.std.specs.FinMap as finite;
+ghost use Rattle.std.specs.Prelude.{◌≡◌, IfOk};
+ghost use Rattle.nibble_map.specs.Maps.{below};
 
-use radix_trie::{Memory, SubTrieMut, Trie, TrieCommon};
+use radix_trie::{Memory, OpenError, SubTrieMut, Trie, TrieCommon, TrieKey};
 use std::alloc::{AllocError, Global};
 use std::process::Abort;
 use trie_samples::{Texts, list, sample, texts};
@@ -24,6 +27,25 @@ fn lengths(rt: &impl Abort, alloc: Global, view: &View<'_>) -> Vec<(usize, usize
         Err(_) => assert!(rt; false),
     }
     lengths
+}
+
+/// How many pairs are at and below a key's encoding. The view is spent, and the trie stays as it is.
+fn counted<K: TrieKey, V>(trie: &mut Trie<K, V>, at: &K) -> Result<usize, OpenError>
+    ensures count { IfOk result (λ n. n ≡ finite.len (below trie.old (K.encoding at.now))) }
+    ensures unchanged { trie.new ≡ trie.old }
+{
+    match trie.open_mut(at) {
+        Ok(view) => Ok(view.len()),
+        Err(error) => Err(error),
+    }
+}
+
+#[test]
+fn pairs_in_a_spent_view(rt: HostRuntime) {
+    let mut trie = sample(rt.alloc());
+    assert_eq!(rt; counted(&mut trie, &"ab"), Ok(4));
+    assert_eq!(rt; counted(&mut trie, &"abc"), Err(OpenError::Closed));
+    assert_eq!(rt; trie.footprint(), (10, 38));
 }
 
 /// The view's own pair is removed: its path is no point, and every call is defined there. What the path had as its

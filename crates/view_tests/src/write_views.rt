@@ -173,7 +173,11 @@ fn written_through_a_view(rt: HostRuntime) {
     assert_eq!(rt; write_within(&mut trie, &"abd", 9), Ok(()));
     assert_eq!(rt; write_within(&mut trie, &"ab", 9), Err(OpenError::Closed));
     for (key, value) in [("abc", 1), ("abd", 9)] {
-        assert_eq!(rt; trie.get(&key).ok().flatten().copied(), Some(value), "{key}");
+        assert_eq!(rt;
+            trie.get(&key).ok().flatten().copied(),
+            Some(value),
+            "{key}"
+        );
     }
     assert_eq!(rt; trie.footprint(), (4, 7));
 }

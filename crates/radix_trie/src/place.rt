@@ -122,6 +122,16 @@ impl<'a, 'p, K: TrieKey, V> Place<'a, 'p, K, V> {
         }
     }
 
+    /// Whether no pair is at or below the path. No pair is counted.
+    pub(crate) fn is_empty(&self) -> bool
+        ensures { IsTrue result ↔ (finite.len (below self.now.map self.now.path) ≡ 0) }
+    {
+        match self.pair() {
+            Some(_) => false,
+            None => self.is_leaf(),
+        }
+    }
+
     /// Whether no pair is strictly below the path.
     pub(crate) fn is_leaf(&self) -> bool
         ensures { IsTrue result ↔ IsLeaf self.now.map self.now.path }

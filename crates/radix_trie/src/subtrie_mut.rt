@@ -179,6 +179,19 @@ impl<'a, K: TrieKey, V, P: PathList> SubTrieMut<'a, K, V, P> {
         Place::find(trie, path.nibbles()).len()
     }
 
+    /// Whether no pair is at or below the path. The view is spent.
+    pub(crate) fn is_bare(self) -> bool
+        ensures bare { IsTrue result ↔ (map.len (below (map_behind self.entry) (P.list (kept_path self.entry))) ≡ 0) }
+        ensures kept { self.exit.0.now ≡ map_behind self.entry }
+    {
+        let SubTrieMut {
+            trie,
+            path,
+            prefix: _,
+        } = self;
+        Place::find(trie, path.nibbles()).is_empty()
+    }
+
     /// Whether no pair is strictly below the path. The view is spent.
     pub(crate) fn ends(self) -> bool
         ensures leaf { IsTrue result ↔ IsLeaf (map_behind self.entry) (P.list (kept_path self.entry)) }

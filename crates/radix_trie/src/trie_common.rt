@@ -140,7 +140,7 @@ impl<'a, 'b, K: TrieKey, V> TrieCommon<'a, K, V> for &'b SubTrie<'a, K, V> {
     }
 
     fn is_empty(self) -> bool {
-        self.place().len() == 0
+        self.place().is_empty()
     }
 
     fn is_leaf(self) -> bool {

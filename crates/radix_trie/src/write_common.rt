@@ -42,7 +42,7 @@ impl<'a, K: TrieKey, V, P: PathList> TrieCommon<'a, K, V> for SubTrieMut<'a, K, 
         ensures value { IsTrue result ↔ (finite.len (below (map_behind self.entry) (P.list (kept_path self.entry))) ≡ 0) }
         ensures kept { self.exit.0.now ≡ map_behind self.entry }
     {
-        self.count() == 0
+        self.is_bare()
     }
 
     fn is_leaf(self) -> bool
@@ -96,7 +96,7 @@ impl<'a, 'b, K: TrieKey, V> TrieCommon<'b, K, V> for &'b SubTrieMut<'a, K, V> {
     }
 
     fn is_empty(self) -> bool {
-        self.place().len() == 0
+        self.place().is_empty()
     }
 
     fn is_leaf(self) -> bool {

@@ -1,5 +1,5 @@
 -- A node has at most sixteen children.
-use Rattle.std.proofs.Common.{◌≡◌, ℕ, suc, ◌+◌, ◌<◌, ◌≤◌, ◌^◌, cond, List, [], ◌∷◌, length, refl, ap, sym, ◌∙◌, arith, inl, inr, Box, Global}
+use Rattle.std.proofs.Common.{◌≡◌, ℕ, suc, ◌+◌, ◌<◌, ◌≤◌, cond, List, [], ◌∷◌, length, refl, ap, sym, ◌∙◌, arith, inl, inr, Box, Global}
 use Rattle.std.proofs.lemmas.Bool.Decides.{eqb_tells, leb_tells}
 use Rattle.std.proofs.lemmas.Nat.Bits.{bit_at_above}
 use Rattle.nibble_map.specs.Kept.{Tree, firsts, IsTreePlaced}
@@ -25,9 +25,9 @@ few_rising low (x ∷ xs) rises within none =
     omega (arith, few_rising (suc x) xs rises.1 (omega arith) (λ n big. rest_low x n xs high big (none n big)), rises.0)
 
 module _ {P : Type 0} where
-  few_kids : (t : Tree P) → t.mask < 2 ^ 16 → IsTreePlaced t → length (firsts t.kids) ≤ 16
-  few_kids t fits placed =
-      let few = few_rising 0 (firsts t.kids) (placed_rises 0 t.kids placed.1) (omega arith) (λ n big. sym (placed.0.1 n) ∙ bit_at_above t.mask 16 n fits big) in
+  few_kids : (t : Tree P) → IsTreePlaced t → length (firsts t.kids) ≤ 16
+  few_kids t placed =
+      let few = few_rising 0 (firsts t.kids) (placed_rises 0 t.kids placed.1) (omega arith) (λ n big. sym (placed.0.1 n) ∙ bit_at_above t.mask 16 n placed.0.0 big) in
       omega (arith, few)
 
 module _ {K V : Type 0} where
@@ -35,6 +35,5 @@ module _ {K V : Type 0} where
   length_firsts [] = refl
   length_firsts (b ∷ bs) = omega (arith, length_firsts bs)
 
-  pub few_children : (n : TrieNode K V) (bs : List (Box (TrieNode K V) Global)) → kids_of bs ≡ (tree_of n).kids → (tree_of n).mask < 2 ^ 16
-      → IsTreePlaced (tree_of n) → length bs ≤ 16
-  few_children n bs is fits placed = omega (arith, few_kids (tree_of n) fits placed, length_firsts bs, ap (λ k. length (firsts k)) is)
+  pub few_children : (n : TrieNode K V) (bs : List (Box (TrieNode K V) Global)) → kids_of bs ≡ (tree_of n).kids → IsTreePlaced (tree_of n) → length bs ≤ 16
+  few_children n bs is placed = omega (arith, few_kids (tree_of n) placed, length_firsts bs, ap (λ k. length (firsts k)) is)

@@ -1,46 +1,29 @@
 -- The views at a path's children: they are the map's kids.
-use Rattle.std.proofs.Common.{◌≡◌, ◌≢◌, inl, inr, ℕ, zero, suc, ◌+◌, ◌≤◌, ◌<◌, ◌^◌, List, [], ◌∷◌, ◌++◌, drop, get_or, length, Some, None, refl, ap, sym, subst, ◌∙◌, append_assoc, append-nil, arith, Box, Global, Bor, Option, eq-eqb}
+use Rattle.std.proofs.Common.{◌≡◌, ◌≢◌, inl, inr, ℕ, zero, suc, ◌+◌, ◌≤◌, ◌<◌, List, [], ◌∷◌, ◌++◌, drop, get_or, length, Some, None, refl, ap, sym, subst, ◌∙◌, append_assoc, append-nil, arith, Box, Global, Bor, Option}
 use Rattle.std.proofs.lemmas.List.{length-append, at_drop_more}
-use Rattle.std.proofs.lemmas.Nat.Bits.{bit_at_above}
-use Rattle.std.proofs.lemmas.Bool.Decides.{eqb_tells, leb_tells}
 use Rattle.nibble_map.specs.Answers.{IsShortest}
-use Rattle.nibble_map.specs.Kept.{Tree, Kids, none, more, IsAt, IsPlaced, IsTreePlaced, firsts}
+use Rattle.nibble_map.specs.Kept.{Tree, Kids, none, more, IsAt, IsPlaced, IsTreePlaced}
 use Rattle.nibble_map.specs.KeptPaths.{IsKidAt, IsNodeAt, IsPath}
 use Rattle.nibble_map.specs.Lists.{Each, Has, IsBefore, IsPrefix, IsRising, IsStrictPrefix}
 use Rattle.nibble_map.specs.MapQueries.{AreKids, IsKid}
 use Rattle.nibble_map.specs.Maps.{PairMap, IsPoint}
-use Rattle.nibble_map.specs.Masks.{IsRisingFrom, bit_of}
 use Rattle.nibble_map.specs.Nibbles.{IsShort}
 use Rattle.nibble_map.specs.Trees.{first}
 use Rattle.nibble_map.proofs.Cut.{cancel, cons_head}
-use Rattle.nibble_map.proofs.KeptKids.{at_placed, placed_rises}
+use Rattle.nibble_map.proofs.KeptKids.{at_placed}
 use Rattle.nibble_map.proofs.KeptPaths.{at_down, at_up}
 use Rattle.nibble_map.proofs.Parted.{prefix_same, prefix_through}
 use Rattle.nibble_map.proofs.Shape.{headed}
 use Rattle.radix_nodes.specs.declared.trie_node.KeyValue.{KeyValue}
 use Rattle.radix_nodes.specs.declared.trie_node.TrieNode.{TrieNode, out-TrieNode}
 use Rattle.radix_nodes.specs.Nodes.{kids_of, tree_of, fragment_of}
-use Rattle.radix_nodes.proofs.Nodes.{fragment_out, kids_at, kids_out, mask_out}
+use Rattle.radix_nodes.proofs.Nodes.{fragment_out, kids_at, kids_out}
 use Rattle.radix_trie.specs.Places.{IsNodeOf, IsPlace, kid_views}
 use Rattle.radix_trie.specs.Roots.{IsRoot}
 use Rattle.radix_trie.specs.Views.{ReadView, paths_of}
 use Rattle.radix_trie.proofs.Parts.{node_down, node_up}
 use Rattle.radix_trie.proofs.Paths.{node_point, point_node}
 use Rattle.radix_trie.proofs.Places.{nearest_of, free_of, found_placed, here, past, path_leads, shortest_point}
-
--- a rising list from `low` on, all of it below 16
-few_rising : (low : ℕ) (xs : List ℕ) → IsRisingFrom low xs → ((n : ℕ) → bit_of n xs ≡ 1 → n < 16) → low ≤ 16 → low + length xs ≤ 16
-few_rising low [] h b le = omega arith
-few_rising low (x ∷ xs) h b le =
-    let own = b x (own_bit x xs) in
-    let rest = few_rising (suc x) xs h.1 (λ n i. b n (later_bit n x xs i)) (omega arith) in
-    omega (arith, rest, h.0)
-  where
-    own_bit : (x : ℕ) (xs : List ℕ) → bit_of x (x ∷ xs) ≡ 1
-    own_bit x xs = rw (eq-eqb x x refl) refl
-
-    later_bit : (n x : ℕ) (xs : List ℕ) → bit_of n xs ≡ 1 → bit_of n (x ∷ xs) ≡ 1
-    later_bit n x xs i = elim (eqb_tells x n) [ inl t ↦ rw t.0 refl | inr t ↦ rw t.0 i ]
 
 before_more : (p f g : List ℕ) → IsBefore f g → IsBefore (p ++ f) (p ++ g)
 before_more [] f g h = h
@@ -68,16 +51,6 @@ module _ {P : Type 0} where
   longer : (c : Tree P) (x : List ℕ) (u : Tree P) → IsNodeAt c x u → IsPrefix c.fragment x
   longer c x u (inl h) = ([], h.0 ∙ sym (append-nil c.fragment))
   longer c x u (inr h) = (h.0, h.1)
-
-  pub few_kids : (t : Tree P) → IsTreePlaced t → t.mask < 2 ^ 16 → length (firsts t.kids) ≤ 16
-  few_kids t h fits =
-      zero_more (few_rising 0 (firsts t.kids) (placed_rises 0 t.kids h.1) (λ n i. elim (leb_tells 16 n) [
-        | inl big ↦ (let none_above = bit_at_above t.mask 16 n fits (omega arith) in let named = h.0.1 n in absurd (omega (arith, none_above, named, i)))
-        | inr small ↦ omega arith
-      ]) (omega arith))
-    where
-      zero_more : {n : ℕ} → 0 + n ≤ 16 → n ≤ 16
-      zero_more le = omega (arith, le)
 
 module _ {K V : Type 0} (m : PairMap K V) (p : List ℕ) where
   views_later : (low : ℕ) (k : Kids (KeyValue K V)) (f : List ℕ) → IsPlaced (suc low) k → f ≢ [] → first f ≡ low → Each (IsBefore (p ++ f)) (paths_of (kid_views m p k))
@@ -255,13 +228,3 @@ module _ {K V : Type 0} where
       ∙ ap (λ w. old ++ w ∷ rest) (λ n. record { map = map n; path = path n })
       ∙ ap (λ c. old ++ kid_views m p (kids_of (c ∷ drop (i + 1) items))) is
       ∙ ap (λ vs. old ++ vs) (sym (at_drop_more (λ bs. kid_views m p (kids_of bs)) items i b lt))
-
-  firsts_count : (bs : List (Box (TrieNode K V) Global)) → length (firsts (kids_of bs)) ≡ length bs
-  firsts_count [] = refl
-  firsts_count (b ∷ bs) = ap suc (firsts_count bs)
-
-  pub few_children : (node : TrieNode K V) → IsTreePlaced (tree_of node) → (out-TrieNode K V node).mask < 2 ^ 16 → length (out-TrieNode K V node).children.items ≤ 16
-  few_children node h fits =
-      let few = few_kids (tree_of node) h (subst (λ k. k < 2 ^ 16) (sym (mask_out node)) fits) in
-      let same = ap (λ k. length (firsts k)) (kids_out node) ∙ firsts_count (out-TrieNode K V node).children.items in
-      omega (arith, few, same)

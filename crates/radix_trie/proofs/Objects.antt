@@ -17,7 +17,7 @@ use Rattle.serde_json.proofs.Views.{put_last}
 use Rattle.nibble_map.specs.Maps.{PairMap, value_at}
 use Rattle.nibble_map.specs.Nibbles.{nibbles}
 use Rattle.nibble_map.proofs.Sorted.{same}
-use Rattle.radix_trie.specs.Json.{object_of, pairs_of}
+use Rattle.radix_trie.specs.Json.{object_of}
 use Rattle.radix_trie.proofs.Texts.{encoding, nibbles_cmp, AreTexts}
 
 abbrev Pairs : Type 0
@@ -88,7 +88,7 @@ module _ (k : String Global) (v : Value) where
 
   module _ (m : PairMap (String Global) Value) (texts : AreTexts (fin.entries m)) where
     -- what is inserted into a trie is put into its object
-    pub put_inserted : members_view (pairs_of (fin.insert m (encoding k) (k, v))) ≡ with_member (string_bytes k) (view v) (members_view (pairs_of m))
+    pub put_inserted : members_view (fin.values (fin.insert m (encoding k) (k, v))) ≡ with_member (string_bytes k) (view v) (members_view (fin.values m))
     put_inserted = ap (λ es. members_view (pairs_in es)) (fin.entries-insert nat_list_cmp_total m (encoding k) (k, v)) ∙ put_row (fin.entries m) texts
 
     pub texts_inserted : AreTexts (fin.entries (fin.insert m (encoding k) (k, v)))
@@ -106,7 +106,7 @@ module _ (m : PairMap (String Global) Value) (is : m ≡ fin.empty) where
   texts_empty = subst AreTexts (sym no_entries) tt
 
   -- the empty trie has the empty object
-  pub members_empty : members_view (pairs_of m) ≡ no_members
+  pub members_empty : members_view (fin.values m) ≡ no_members
   members_empty = ap (λ es. members_view (pairs_in es)) no_entries
 
 found_by : (o : Ordering) (p : String Global × Value) (rest : Option (String Global × Value)) (d : Option Data) → option_map view (option_map (λ q. q.1) rest) ≡ d

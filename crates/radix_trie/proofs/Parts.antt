@@ -116,6 +116,16 @@ module _ {P : Type 0} where
   node_placed t x u h (inl i) = subst IsTreePlaced (sym i.1) h
   node_placed t x u h (inr i) = kid_placed 0 t.kids i.0 u h.1 i.2
 
+  -- what stands at a list that goes on from a node's path stands so in the node's own tree
+  module _ (t u : Tree P) (p : List ℕ) (at : IsNodeAt t p u) where
+    pub from_node : (rest : List ℕ) (w : Tree P) → IsNodeAt u (u.fragment ++ rest) w → IsNodeAt t (p ++ rest) w
+    from_node rest w (inl d) = rw (shorter u.fragment rest d.0, append-nil p, d.1) at
+    from_node rest w (inr d) = rw (cancel u.fragment rest d.0 d.1) (node_down t p u d.0 w at d.2)
+
+    pub none_from_node : IsTreePlaced t → (rest : List ℕ) → ((w : Tree P) → IsNodeAt u (u.fragment ++ rest) w → ⊥) → (w : Tree P) → IsNodeAt t (p ++ rest) w → ⊥
+    none_from_node placed [] apart w d = apart u (inl (append-nil u.fragment, refl))
+    none_from_node placed (a ∷ rest) apart w d = apart w (inr (a ∷ rest, refl, node_up t p u (a ∷ rest) w placed (λ e. cc e) at d))
+
   -- the entries whose lists p begins
   module _ (p : List ℕ) where
     abbrev pub kept : List (List ℕ × P) → List (List ℕ × P)

@@ -8,11 +8,11 @@ use Rattle.std.specs.List.{AllByRecursion}
 use Rattle.std.specs.List.Sorted.{IsStrictlySortedBy}
 use Rattle.std.specs.Map.{keys_of}
 use Rattle.std.specs.Ordering.{ordering_reverse}
+use Rattle.nibble_map.specs.Lists.{Each}
 use Rattle.nibble_map.specs.Nibbles.{nibbles}
 use Rattle.nibble_map.proofs.Bridge.{first, second, less}
 use Rattle.nibble_map.proofs.Sorted.{same}
 use Rattle.radix_keys.proofs.Order.{byte_order}
-use Rattle.radix_trie.specs.Roots.{AllKeyed}
 
 abbrev pub encoding : String Global → List ℕ
 encoding s = nibbles (string_bytes s)
@@ -30,12 +30,7 @@ nibbles_cmp a b = by (slice_cmp nat_cmp a b) refl
 module _ {V : Type 0} where
   -- each pair stands at its text's encoding
   abbrev pub AreTexts : List (List ℕ × (String Global × V)) → Type 0
-  AreTexts [] = Unit {0}
-  AreTexts (e ∷ es) = (e.0 ≡ encoding e.1.0) × AreTexts es
-
-  pub keyed_texts : (es : List (List ℕ × (String Global × V))) → AllKeyed encoding es → AreTexts es
-  keyed_texts [] h = tt
-  keyed_texts (e ∷ es) h = (h.0, keyed_texts es h.2)
+  AreTexts es = Each (λ e. e.0 ≡ encoding e.1.0) es
 
   above_all : (t : String Global) (es : List (List ℕ × (String Global × V))) → T (below_all (slice_cmp nat_cmp) (encoding t) es) → AreTexts es
       → AllByRecursion (λ k. string_cmp t k ≡ Less) (keys_of (map (λ e. e.1) es))

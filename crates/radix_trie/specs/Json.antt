@@ -1,5 +1,5 @@
 -- A map of texts to JSON values, as JSON.
-use Rattle.std.specs.Prelude.{List, String, map as each}
+use Rattle.std.specs.Prelude.{String}
 use Rattle.std.specs.FinMap as map
 use Rattle.std.specs.declared.alloc.Global.{Global}
 use Rattle.nibble_map.specs.Maps.{PairMap}
@@ -7,13 +7,9 @@ use Rattle.serde_json.specs.Data.{Data, null, boolean, number, string, array, ob
 use Rattle.serde_json.specs.View.{members_view}
 use Rattle.serde_json.specs.declared.value.Value.{Value}
 
--- the pairs of a map, in order
-abbrev pub pairs_of : PairMap (String Global) Value → List (String Global × Value)
-pairs_of m = each (λ e. e.1) (map.entries m)
-
 -- the object whose members are the map's texts and values
 abbrev pub object_of : PairMap (String Global) Value → Data
-object_of m = object (members_view (pairs_of m))
+object_of m = object (members_view (map.values m))
 
 -- neither null nor an object
 abbrev pub IsOtherKind : Data → Type 0

@@ -207,8 +207,6 @@ fn children_of<'a, K: TrieKey, V>(
     ensures views { IfOk result (λ children. children ≡ kid_views trie.now path.now (tree_of node.now).kids) }
     ensures short { Each IsShort (paths_of (kid_views trie.now path.now (tree_of node.now).kids)) → IsOk result }
 {
-    // Sixteen bits, so no more children.
-    let _mask = node.mask;
     let mut children = Children::new();
     for child in &node.children {
         let whole = extended(path, &child.fragment, 0)?;

@@ -1,17 +1,20 @@
 //! Views for reading.
-ghost use Rattle.std.specs.Prelude.{◌≡◌, ◌≢◌, ℕ, List, Err, IfOk, OnOk, IsOk, option_copied};
+ghost use Rattle.std.specs.Prelude.{◌≡◌, ◌≢◌, ℕ, List, Err, IfOk, OnOk, IsOk, option_copied, option_map};
+ghost use Rattle.std.specs.FinMap as map;
 ghost use Rattle.nibble_map.specs.Lists.{Each, IsPrefix};
 ghost use Rattle.nibble_map.specs.MapQueries.{AreKids, IsFragment, IsKid};
 ghost use Rattle.nibble_map.specs.Maps.{value_at};
 ghost use Rattle.nibble_map.specs.Nibbles.{IsShort};
 ghost use Rattle.radix_nodes.specs.Nodes.{tree_of};
+ghost use Rattle.radix_trie.specs.Pairs.{pair_of};
 ghost use Rattle.radix_trie.specs.Views.{paths_of};
 
 use crate::iter::Children;
 use crate::place::{Place, begins};
 use crate::trie::Trie;
 use radix_keys::{Memory, Nibblet, TrieKey};
-use radix_nodes::trie_node::TrieNode;
+use radix_nodes::traversal::find::find;
+use radix_nodes::trie_node::{KeyValue, TrieNode};
 use std::marker::Model;
 
 /// Why a view answers no pair.
@@ -90,7 +93,21 @@ impl<'a, K: TrieKey, V> SubTrie<'a, K, V> {
         if !begins(&self.path, &list) {
             return Err(SubTrieError::Outside);
         }
-        Ok(self.trie.at(&list))
+        match self.pair_at(&list) {
+            Some(pair) => Ok(Some(&pair.value)),
+            None => Ok(None),
+        }
+    }
+
+    /// The pair at a list that the path begins. The search goes on from the view's node.
+    fn pair_at(&self, list: &Nibblet) -> Option<&'a KeyValue<K, V>>
+        requires { IsPrefix self.now.path list.now }
+        ensures { option_map (λ p. pair_of p.now) result ≡ map.get self.now.map list.now }
+    {
+        match find(self.node, list, self.path.len()) {
+            Some(node) => node.pair.as_deref(),
+            None => None,
+        }
     }
 
     /// For each nibble in rising order, the view at the shortest point that goes on from the path by it, with its whole

@@ -1,10 +1,10 @@
 -- The code's map and the map of texts have the same points and prefixes, and so the same counts of them.
-use Rattle.std.proofs.Common.{◌≡◌, ℕ, List, length, refl, sym, ◌∙◌, String}
+use Rattle.std.proofs.Common.{◌≡◌, ℕ, List, length, refl, String}
 use Rattle.std.specs.FinMap as map
 use Rattle.std.specs.declared.alloc.Global.{Global}
-use Rattle.nibble_map.specs.Computed.{points, prefixes, footprint}
-use Rattle.nibble_map.specs.Lists.{Lists, Counts}
-use Rattle.nibble_map.specs.Maps.{PairMap, IsStored, IsPoint, IsStem}
+use Rattle.nibble_map.specs.Computed.{points, prefixes}
+use Rattle.nibble_map.specs.Lists.{Counts}
+use Rattle.nibble_map.specs.Maps.{PairMap, IsPoint, IsStem}
 use Rattle.nibble_map.specs.Stored as stored
 use Rattle.nibble_map.proofs.Computed.{points_list, prefixes_list}
 use Rattle.nibble_map.proofs.Moves.{Within, point_moves, stem_moves, lists_moves}

@@ -1,16 +1,15 @@
 -- The texts above and below a key.
-use Rattle.std.proofs.Common.{◌≡◌, ℕ, List, [], ◌∷◌, Option, Some, None, map as each, length, refl, ap, ◌∙◌, sym, string_bytes, String}
+use Rattle.std.proofs.Common.{◌≡◌, ℕ, List, [], ◌∷◌, Option, Some, None, map as each, length, refl, ap, ◌∙◌, sym, String}
 use Rattle.std.proofs.lemmas.List.{length-map}
 use Rattle.std.specs.FinMap as map
 use Rattle.std.specs.declared.alloc.Global.{Global}
 use Rattle.nibble_map.specs.Computed.{ancestor}
 use Rattle.nibble_map.specs.MapQueries.{IsRawDescendant}
-use Rattle.nibble_map.specs.Maps.{PairMap, IsStored, below, value_at}
+use Rattle.nibble_map.specs.Maps.{PairMap, below}
 use Rattle.nibble_map.specs.Stored as stored
 use Rattle.nibble_map.proofs.Bridge.{from_sorted_none}
 use Rattle.nibble_map.proofs.ComputedAnswers.{ancestor_is}
 use Rattle.nibble_map.proofs.Descendant.{below_descendant, below_nothing}
-use Rattle.nibble_map.proofs.MapEdits.{held}
 use Rattle.nibble_map.proofs.Mapped.{mapped_below, mapped_entries}
 use Rattle.nibble_map.proofs.Moves.{ancestor_moves}
 use Rattle.nibble_map.proofs.Parted.{ancestor_unique}

@@ -1,5 +1,5 @@
 -- The object of the texts and their numbers, built by insertions.
-use Rattle.std.proofs.Common.{◌≡◌, ℕ, List, [], ◌∷◌, map as each, fold, refl, ap, ◌∙◌, sym, subst, string_bytes, String}
+use Rattle.std.proofs.Common.{◌≡◌, ℕ, List, [], ◌∷◌, map as each, refl, ap, ◌∙◌, sym, string_bytes, String}
 use Rattle.std.specs.FinMap as map
 use Rattle.std.specs.declared.alloc.Global.{Global}
 use Rattle.serde_json.specs.Data.{Data, Members, no_members, member, number, unsigned}
@@ -8,8 +8,7 @@ use Rattle.serde_json.specs.declared.value.Value.{Value}
 use Rattle.nibble_map.specs.Lists.{Each}
 use Rattle.nibble_map.specs.Maps.{PairMap, mapped, walk}
 use Rattle.nibble_map.specs.Nibbles.{nibbles}
-use Rattle.nibble_map.proofs.Mapped.{mapped_empty, mapped_entries}
-use Rattle.radix_trie.specs.Json.{pairs_of}
+use Rattle.nibble_map.proofs.Mapped.{mapped_entries}
 use Rattle.radix_trie.specs.Views.{pairs_below}
 use Rattle.radix_trie.proofs.Places.{below_nil}
 use Rattle.trie_tool.specs.Numbers.{datum, data_of, text, texts_of}
@@ -62,7 +61,7 @@ number_members [] = refl
 number_members (e ∷ es) = ap (member e.1.0 (number (unsigned e.1.1))) (number_members es)
 
 -- the same data, the same object
-pub members_are : (m : PairMap (String Global) ℕ) (values : PairMap (String Global) Value) → data_of values ≡ target m → members_view (pairs_of values) ≡ members (map.values (texts_of m))
+pub members_are : (m : PairMap (String Global) ℕ) (values : PairMap (String Global) Value) → data_of values ≡ target m → members_view (map.values values) ≡ members (map.values (texts_of m))
 members_are m values same =
     view_members (map.entries values)
     ∙ ap (λ es. data_members (each (λ (d : List ℕ × (List ℕ × Data)). d.1) es)) (sym (mapped_entries datum values))

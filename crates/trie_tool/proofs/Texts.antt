@@ -1,5 +1,5 @@
 -- The map of texts and numbers follows the code's trie.
-use Rattle.std.proofs.Common.{◌≡◌, ℕ, List, Option, option_map, None, Some, refl, ap, ◌∙◌, sym, string_bytes, String}
+use Rattle.std.proofs.Common.{◌≡◌, ℕ, List, Option, option_map, None, Some, refl, ap, ◌∙◌, String}
 use Rattle.std.specs.FinMap as map
 use Rattle.std.specs.declared.alloc.Global.{Global}
 use Rattle.nibble_map.specs.Maps.{PairMap, IsStored, value_at}

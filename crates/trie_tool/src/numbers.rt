@@ -5,7 +5,6 @@ ghost use Rattle.nibble_map.specs.Computed.{ancestor, footprint};
 ghost use Rattle.nibble_map.specs.Nibbles.{nibbles};
 ghost use Rattle.nibble_map.specs.Maps.{value_at};
 ghost use Rattle.trie_tool.specs.Numbers.{data_of, texts_of};
-ghost use Rattle.radix_trie.specs.Json.{pairs_of};
 ghost use Rattle.radix_trie.specs.Views.{value_of};
 ghost use Rattle.serde_json.specs.Data.{number, unsigned};
 ghost use Rattle.serde_json.specs.View.{members_view};
@@ -88,7 +87,7 @@ fn put_json(values: &mut Trie<String, Value>, key: &String, count: u64) -> Resul
 
 /// The same texts, each with its number as JSON.
 pub fn as_json(alloc: Global, numbers: &Numbers) -> Result<Trie<String, Value>, Memory>
-    ensures { IfOk result (λ values. members_view (pairs_of values) ≡ members (map.values (texts_of numbers.now))) }
+    ensures { IfOk result (λ values. members_view (map.values values) ≡ members (map.values (texts_of numbers.now))) }
 {
     let mut values = Trie::new(alloc);
     for (key, number) in TrieCommon::iter(numbers)? {

@@ -11,7 +11,5 @@ pub fn children<K, V>(node: &TrieNode<K, V>) -> &[Box<TrieNode<K, V>>]
     ensures kids { kids_of result.now ≡ (tree_of node.now).kids }
     ensures few { length result.now ≤ 16 }
 {
-    // It names each child by one of its sixteen bits.
-    let _mask = node.mask;
     &node.children
 }

@@ -10,7 +10,7 @@ ghost use Rattle.serde_json.specs.Data.{null};
 ghost use Rattle.serde_json.specs.Find.{get, get_member};
 ghost use Rattle.serde_json.specs.View.{view, members_view};
 ghost use Rattle.serde_json.specs.Written.{has_float, members_have_float};
-ghost use Rattle.radix_trie.specs.Json.{object_of, pairs_of, read_as, IsOtherKind};
+ghost use Rattle.radix_trie.specs.Json.{object_of, read_as, IsOtherKind};
 
 mod floats;
 
@@ -55,12 +55,10 @@ impl From<AllocError> for JsonError {
 
 /// The walk over a trie of texts. In the order of the encodings the texts rise too.
 fn walk(trie: &Trie<String, Value>) -> Result<Iter<'_, String, Value>, Memory>
-    ensures pairs { IfOk result (λ pairs. pairs ≡ pairs_of trie.now) }
-    ensures rising { IsStrictlySortedBy string_cmp (keys_of (pairs_of trie.now)) }
+    ensures pairs { IfOk result (λ pairs. pairs ≡ map.values trie.now) }
+    ensures rising { IsStrictlySortedBy string_cmp (keys_of (map.values trie.now)) }
     ensures members { (name : List ℕ) → get name (object_of trie.now) ≡ option_map view (value_at trie.now (nibbles name)) }
 {
-    // Its contract has it that each pair stands at its text's encoding.
-    let _root = trie.root();
     trie.iter()
 }
 
@@ -111,7 +109,7 @@ fn from_members(
     alloc: Global,
     members: &Map<String, Value>,
 ) -> Result<Trie<String, Value>, JsonError>
-    ensures object { IfOk result (λ trie. members_view (pairs_of trie) ≡ members_view members.now.entries) }
+    ensures object { IfOk result (λ trie. members_view (map.values trie) ≡ members_view members.now.entries) }
     ensures members { IfOk result (λ trie. (name : List ℕ) → option_map view (value_at trie (nibbles name)) ≡ get_member name (members_view members.now.entries)) }
     ensures no_float { OnOk result (IsFalse (members_have_float (members_view members.now.entries))) }
     ensures float { (result ≡ Err JsonError.Float) ↔ IsTrue (members_have_float (members_view members.now.entries)) }

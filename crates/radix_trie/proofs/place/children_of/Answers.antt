@@ -1,4 +1,4 @@
-use Rattle.std.proofs.Common.{◌≡◌, ◌<◌, ◌^◌, ◌++◌, ◌∷◌, [], ap, sym, subst, ◌∙◌, arith, rules, length}
+use Rattle.std.proofs.Common.{◌≡◌, ◌++◌, ◌∷◌, [], ap, sym, subst, ◌∙◌, arith, length}
 use Rattle.std.proofs.lemmas.List.{length-append}
 use Rattle.nibble_map.specs.KeptPaths.{IsNodeAt}
 use Rattle.nibble_map.specs.Nibbles.{IsShort}
@@ -6,7 +6,8 @@ use Rattle.radix_nodes.specs.declared.trie_node.TrieNode.{out-TrieNode}
 use Rattle.radix_nodes.specs.Nodes.{tree_of, kids_of, fragment_of}
 use Rattle.radix_nodes.proofs.Nodes.{fragment_out, kids_out}
 use Rattle.radix_trie.specs.Places.{kid_views}
-use Rattle.radix_trie.proofs.ChildViews.{child_at, views_more, few_children, view_short, direct_kid}
+use Rattle.radix_nodes.proofs.FewKids.{few_children}
+use Rattle.radix_trie.proofs.ChildViews.{child_at, views_more, view_short, direct_kid}
 use Rattle.radix_trie.proofs.Parts.{node_down, node_placed}
 use Rattle.radix_trie.proofs.Places.{not_both}
 use Rattle.radix_trie.proofs.place.children_of.Goals as goal
@@ -37,8 +38,7 @@ new-requires g c =
 pub push-requires : goal.push-requires
 push-requires g c =
     let n = c.args.node.now in
-    let small : (out-TrieNode g.row.K.Denot g.row.V.Denot n).mask < 2 ^ 16 = search rules in
-    let few = few_children n (node_placed c.requires.0 c.args.path.now (tree_of n) c.requires.1.masked c.requires.2) small in
+    let few = few_children n (out-TrieNode g.row.K.Denot g.row.V.Denot n).children.items (sym (kids_out n)) (node_placed c.requires.0 c.args.path.now (tree_of n) c.requires.1.masked c.requires.2) in
     (omega arith, omega (arith, few, c.loop-child.invariant.count, c.loop-child-test.true, ap length c.deref-child-items.ensures.value))
 
 pub loop-child-preserved : goal.loop-child-preserved

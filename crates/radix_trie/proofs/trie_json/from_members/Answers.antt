@@ -3,7 +3,6 @@ use Rattle.std.specs.FinMap as fin
 use Rattle.serde_json.specs.Data.{no_members}
 use Rattle.serde_json.specs.Find.{get_member}
 use Rattle.serde_json.specs.View.{members_view}
-use Rattle.radix_trie.specs.Json.{pairs_of}
 use Rattle.radix_trie.proofs.Objects.{member_is, put_all, put_all_is, put_inserted, texts_inserted, texts_empty, members_empty}
 use Rattle.radix_trie.proofs.Texts.{encoding, AreTexts}
 use Rattle.radix_trie.proofs.trie_json.from_members.Goals as goal
@@ -21,7 +20,7 @@ loop-key-preserved c =
     let old = c.loop-key.trie in
     let stored : c.insert.new.self ≡ fin.insert old (encoding key) (key, value) = search rules in
     let inserted = put_inserted key value old c.loop-key.invariant.texts in
-    let next : put_all c.loop-key.key-iterator (members_view (pairs_of old)) ≡ put_all c.next.new.self (members_view (pairs_of c.insert.new.self)) = search rules in
+    let next : put_all c.loop-key.key-iterator (members_view (fin.values old)) ≡ put_all c.next.new.self (members_view (fin.values c.insert.new.self)) = search rules in
     record {
       texts = subst (λ m. AreTexts (fin.entries m)) (sym stored) (texts_inserted key value old c.loop-key.invariant.texts);
       rest = sym next ∙ c.loop-key.invariant.rest;
@@ -29,5 +28,5 @@ loop-key-preserved c =
 
 pub returns-clause-members : goal.returns-clause-members
 returns-clause-members c = λ name.
-    let whole : members_view (pairs_of c.loop-key.trie) ≡ members_view c.args.members.now.entries = search rules in
+    let whole : members_view (fin.values c.loop-key.trie) ≡ members_view c.args.members.now.entries = search rules in
     sym (member_is c.loop-key.trie c.loop-key.invariant.texts name) ∙ ap (get_member name) whole

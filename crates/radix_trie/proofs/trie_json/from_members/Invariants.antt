@@ -1,7 +1,6 @@
 use Rattle.std.proofs.Common.{◌≡◌}
 use Rattle.std.specs.FinMap as fin
 use Rattle.serde_json.specs.View.{members_view}
-use Rattle.radix_trie.specs.Json.{pairs_of}
 use Rattle.radix_trie.proofs.Objects.{put_all}
 use Rattle.radix_trie.proofs.Texts.{AreTexts}
 use Rattle.radix_trie.proofs.trie_json.from_members.Given as goal
@@ -9,5 +8,5 @@ use Rattle.radix_trie.proofs.trie_json.from_members.Given as goal
 abbrev pub invariant-loop-key : goal.invariant-loop-key
 invariant-loop-key l = record {
   texts : AreTexts (fin.entries l.trie);
-  rest : put_all l.key-iterator (members_view (pairs_of l.trie)) ≡ members_view l.members.entries;
+  rest : put_all l.key-iterator (members_view (fin.values l.trie)) ≡ members_view l.members.entries;
 }

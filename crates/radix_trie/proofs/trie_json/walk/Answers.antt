@@ -2,7 +2,7 @@ use Rattle.std.proofs.Common.{◌≡◌, map, ap, subst, IfOk}
 use Rattle.std.specs.FinMap as fin
 use Rattle.radix_trie.proofs.Objects.{member_is}
 use Rattle.radix_trie.proofs.Places.{below_nil}
-use Rattle.radix_trie.proofs.Texts.{keyed_texts, texts_rise}
+use Rattle.radix_trie.proofs.Texts.{texts_rise}
 use Rattle.radix_trie.proofs.trie_json.walk.Goals as goal
 
 pub returns-clause-pairs : goal.returns-clause-pairs
@@ -10,7 +10,10 @@ returns-clause-pairs c = subst (λ ps. IfOk c.iter.result (λ it. it ≡ ps)) (a
 
 pub returns-clause-rising : goal.returns-clause-rising
 returns-clause-rising c =
-    texts_rise (fin.entries c.args.trie.now) (fin.entries_sorted c.args.trie.now) (keyed_texts (fin.entries c.args.trie.now) c.root-root.ensures.keyed)
+    let keyed = rw (below_nil c.args.trie.now) at c.iter.ensures.keyed in
+    texts_rise (fin.entries c.args.trie.now) (fin.entries_sorted c.args.trie.now) keyed
 
 pub returns-clause-members : goal.returns-clause-members
-returns-clause-members c = member_is c.args.trie.now (keyed_texts (fin.entries c.args.trie.now) c.root-root.ensures.keyed)
+returns-clause-members c =
+    let keyed = rw (below_nil c.args.trie.now) at c.iter.ensures.keyed in
+    member_is c.args.trie.now keyed

@@ -3,7 +3,7 @@ use Rattle.std.specs.Fmt.{digits}
 use Rattle.std.specs.Option.{IfSome}
 use Rattle.nibble_map.specs.MapQueries.{IsRawDescendant}
 use Rattle.nibble_map.specs.Nibbles.{nibbles}
-use Rattle.radix_trie.specs.Views.{ReadView, pairs_below}
+use Rattle.radix_trie.specs.Views.{pairs_below}
 use Rattle.trie_tool.specs.Numbers.{text}
 use Rattle.trie_tool.specs.Request.{below_answer}
 use Rattle.trie_tool.proofs.Nearest.{no_rows, pairs_counted, rows_below}

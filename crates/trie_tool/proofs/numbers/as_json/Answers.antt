@@ -1,9 +1,8 @@
 use Rattle.std.proofs.Common.{◌≡◌, [], ◌∙◌, ap, rules, sym}
-use Rattle.std.specs.FinMap as map
 use Rattle.nibble_map.proofs.Mapped.{mapped_empty}
 use Rattle.radix_trie.specs.Views.{pairs_below}
 use Rattle.trie_tool.specs.Numbers.{data_of, datum}
-use Rattle.trie_tool.proofs.Objects.{all_put, members_are, put_numbers, target}
+use Rattle.trie_tool.proofs.Objects.{all_put, members_are, put_numbers}
 use Rattle.trie_tool.proofs.numbers.as_json.Goals as goal
 
 pub loop-key-init : goal.loop-key-init

@@ -8,6 +8,7 @@ use Rattle.nibble_map.specs.Lists.{IsBefore, IsPrefix, Has, IsRising, Lists}
 use Rattle.nibble_map.specs.Nibbles.{nibbles}
 use Rattle.nibble_map.specs.Rows.{Entries, inserted, text, letters_a, chain}
 use Rattle.nibble_map.specs.Stored.{stored, IsReached, IsPoint, IsStem}
+use Rattle.nibble_map.proofs.Cut.{no_cons}
 use Rattle.nibble_map.proofs.Bridge.{put_mid}
 use Rattle.nibble_map.proofs.Computed.{is_next, points_list, prefixes_list}
 use Rattle.nibble_map.proofs.MapEdits.{same_Some}
@@ -16,7 +17,7 @@ use Rattle.nibble_map.proofs.Parted.{prefix_through}
 use Rattle.nibble_map.proofs.Rising.{Each-from_has, IsRising-append}
 use Rattle.nibble_map.proofs.Shape.{headed}
 use Rattle.nibble_map.proofs.Sorted.{sorted_of_rising}
-use Rattle.nibble_map.proofs.Stems.{run, run_length, run_gives, gives_run, run_rising, no_cons, before_past_of}
+use Rattle.nibble_map.proofs.Stems.{run, run_length, run_gives, gives_run, run_rising, before_past_of}
 use Rattle.nibble_map.proofs.Unique.{Lists-unique}
 
 -- the list of n letters

@@ -12,11 +12,10 @@ use Rattle.nibble_map.specs.Lists.{IsPrefix, IsBefore, Has, IsRising, Lists}
 use Rattle.nibble_map.specs.Stored.{stored, IsReached, IsPoint, IsStem}
 use Rattle.nibble_map.specs.Computed.{same, gathered, fronts, prefixes, next_after, nexts, is_point, points}
 use Rattle.nibble_map.proofs.Bridge.{tied}
-use Rattle.nibble_map.proofs.Cut.{cons_head, cons_tail, cons_same}
+use Rattle.nibble_map.proofs.Cut.{cons_head, cons_tail, cons_same, no_cons}
 use Rattle.nibble_map.proofs.Members.{Has-left, Has-right, Has-cases}
 use Rattle.nibble_map.proofs.Rising.{Each-from_has}
 use Rattle.nibble_map.proofs.Sorted.{same as one, has_any, any_has, rising_of_sorted}
-use Rattle.nibble_map.proofs.Stems.{no_cons}
 use Rattle.nibble_map.proofs.Unique.{Each-has}
 
 abbrev R : List ℕ → List ℕ → Ordering

@@ -8,10 +8,10 @@ use Rattle.nibble_map.specs.Lists.{IsPrefix, IsBefore, is_prefix, Has, IsRising}
 use Rattle.nibble_map.specs.Stored.{stored, IsStored, IsReached, IsPoint, IsStem}
 use Rattle.nibble_map.specs.Queries.{IsLongest, IsShortest, IsAncestor, IsRawAncestor, IsRawDescendant, IsFragment, IsKid, AreKids, IsCompared}
 use Rattle.nibble_map.specs.Computed.{same, prefixes, points, is_point, longer, longest, shorter, shortest, ancestor, raw_ancestor, raw_descendant, parent, fragment, steps, kids, met, compared}
+use Rattle.nibble_map.proofs.Cut.{no_cons}
 use Rattle.nibble_map.proofs.Computed.{same_is, same_itself, is_point_true, true_is_point, prefixes_list, points_list, filter_has, has_filter, filter_rises}
 use Rattle.nibble_map.proofs.Parted.{prefix_of, is_prefix_true, prefix_through, reached_past, shortest_unique}
 use Rattle.nibble_map.proofs.Rising.{Each-from_has}
-use Rattle.nibble_map.proofs.Stems.{no_cons}
 use Rattle.nibble_map.proofs.Unique.{Each-has}
 
 no_test : (b : Bool) → b ≡ true → b ≡ false → ⊥

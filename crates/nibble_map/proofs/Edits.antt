@@ -1,9 +1,8 @@
 -- What one change of a node makes of the entries.
 use Rattle.std.proofs.Common.{◌≡◌, ℕ, suc, ◌≤◌, ◌≢◌, ◌⊎◌, ◌↔◌, List, [], ◌∷◌, ◌++◌, Option, Some, None, refl, ap, sym, subst, ◌∙◌, inl, inr, append_assoc, append-nil, arith}
 use Rattle.nibble_map.specs.Trees.{Forest, bare, grow, IsShaped, first}
-use Rattle.nibble_map.proofs.Cut.{cancel, cons_head}
+use Rattle.nibble_map.proofs.Cut.{cancel, cons_head, no_cons}
 use Rattle.nibble_map.proofs.Shape.{Under, Under-headed}
-use Rattle.nibble_map.proofs.Stems.{no_cons}
 
 -- the entry w stands at x, seen from the forest's place
 abbrev pub Holds : {P : Type 0} → Forest P → List ℕ → P → Type 0

@@ -8,7 +8,7 @@ use Rattle.nibble_map.proofs.Cut.{cancel, cons_head}
 use Rattle.nibble_map.proofs.Shape.{Under, At, At-headed, Under-headed}
 use Rattle.nibble_map.proofs.Members.{Has-cases, at_path, path_at}
 use Rattle.nibble_map.proofs.Parted.{prefix_length}
-use Rattle.nibble_map.proofs.Points.{path_point, point_path}
+use Rattle.nibble_map.proofs.Points.{path_point, point_path, at_point}
 use Rattle.nibble_map.proofs.Rising.{Each-from_has}
 
 -- a node at x has the fragment g
@@ -88,10 +88,6 @@ pub node_fragment : {P : Type 0} (t : Tree P) → IsShaped 0 t.kids → (n : Nod
 node_fragment t s n (inl e) = inl (ap (λ v. v.path) e, ap (λ v. v.fragment) e)
 node_fragment t s n (inr h) = go (node_step [] t.kids n h)
   where
-    at_point : (y : List ℕ) → ((y ≡ []) ⊎ At t.kids y) → IsPoint (entries (nodes t)) y
-    at_point y (inl e) = inl e
-    at_point y (inr a) = path_point t s y (inr (at_path [] t.kids y (y, refl, a)))
-
     above : (x y : List ℕ) → ((z : List ℕ) → At t.kids z → z ≢ x → IsPrefix z x → IsPrefix z y) → (z : List ℕ) → z ≢ x → IsPrefix z x →
         Has (paths (nodes t)) z → length z ≤ length y
     above x y g z n p (inl e) = let a = ap length e in omega (arith, a)
@@ -103,7 +99,7 @@ node_fragment t s n (inr h) = go (node_step [] t.kids n h)
         inr (
           r.0,
           record {
-            member = (at_point r.0 r.1.2, λ i. not_whole r.0 n.fragment r.1.1 (i ∙ r.1.0));
+            member = (at_point t s r.0 r.1.2, λ i. not_whole r.0 n.fragment r.1.1 (i ∙ r.1.0));
             above = (n.fragment, r.1.0);
             longest = λ z i p. above n.path r.0 r.1.3 z i.1 p (point_path t s z i.0);
           },

@@ -2,8 +2,7 @@
 use Rattle.std.proofs.Common.{◌≡◌, ℕ, suc, ◌≤◌, ◌≢◌, ◌⊎◌, ◌↔◌, List, [], ◌∷◌, ◌++◌, Option, Some, None, IsSome, refl, ap, sym, subst, ◌∙◌, inl, inr, append-nil, arith}
 use Rattle.std.proofs.lemmas.Bool.{cases_order}
 use Rattle.nibble_map.specs.Trees.{Forest, bare, grow, AreMany, IsShaped, first}
-use Rattle.nibble_map.proofs.Cut.{cons_head}
-use Rattle.nibble_map.proofs.Stems.{no_cons}
+use Rattle.nibble_map.proofs.Cut.{cons_head, no_cons}
 use Rattle.nibble_map.proofs.Walked.{Whole, Within, Forked, along_says}
 use Rattle.nibble_map.proofs.Edits.{Holds, Bears, Changes, merged, own, lifted, in_tree, in_others, new_leaf, Changes-same}
 
@@ -23,7 +22,7 @@ saying E E' r C D h c x w = (
   (λ i. (c x w).1 (elim i [ inl m ↦ inl (m.0, (h w).1 m.1) | inr m ↦ inr m ])),
 )
 
-some_is : {P : Type 0} (v w : P) → (Some v ≡ Some w) ↔ (w ≡ v)
+pub some_is : {P : Type 0} (v w : P) → (Some v ≡ Some w) ↔ (w ≡ v)
 some_is v w = (inner, λ e. ap (λ c. Some c) (sym e))
   where
     inner : Some v ≡ Some w → w ≡ v

@@ -6,9 +6,9 @@ use Rattle.nibble_map.specs.Trees.{IsFull, first}
 use Rattle.nibble_map.specs.Swaps.{Swaps, entry}
 use Rattle.nibble_map.specs.Masks.{bit_of}
 use Rattle.nibble_map.specs.Kept.{Tree, Kids, none, more, IsAt, plain, firsts, IsPlaced, IsTreePlaced, IsTreeFull, entries_in, entries_at, nodes_in, nibbles_in}
-use Rattle.nibble_map.specs.KeptEdits.{remove_kid, without_pair, without_kid, IsOne, merged_into, merged}
-use Rattle.nibble_map.specs.Alters.{AltersKid, AltersRoot, CutsRoot}
-use Rattle.nibble_map.proofs.Masks.{cleared_is, cleared_lt, bit_before, eqb_other}
+use Rattle.nibble_map.specs.KeptEdits.{remove_kid, without_pair, without_kid, IsOne, merged_into, merged, empty}
+use Rattle.nibble_map.specs.Alters.{Run, entry_at, all_of, AltersKid, AltersRoot, CutsRoot, PrunesRoot}
+use Rattle.nibble_map.proofs.Masks.{cleared_is, cleared_lt, bit_before, eqb_other, none_is_mask}
 use Rattle.nibble_map.proofs.KeptKids.{swaps_after, placed_rises, at_after}
 
 module _ {P : Type 0} where
@@ -74,36 +74,62 @@ module _ {P : Type 0} where
     };
   }
 
-  pub leaf_goes : (t u : Tree P) (i y : ℕ) (x : P) → IsAt i t.kids u → u.pair ≡ Some x → u.kids ≡ none → first u.fragment ≡ y → y < 16 → IsTreePlaced t →
-      CutsRoot (t.fragment ++ u.fragment) x 1 (length u.fragment) t (without_kid i y t)
-  leaf_goes t u i y x a is bare_ start low h = record {
+  -- a child goes, with all below it
+  pub kid_goes : (t u : Tree P) (i y : ℕ) → IsAt i t.kids u → first u.fragment ≡ y → y < 16 → IsTreePlaced t →
+      PrunesRoot t.fragment u (suc (nodes_in u.kids)) (length u.fragment + nibbles_in u.kids) t (without_kid i y t)
+  kid_goes t u i y a start low h = record {
     fragment = refl;
     below = λ f. remove_full i t.kids f;
     alters = record {
       start = refl;
       some = λ s. s;
       placed = ((cleared_lt t.mask y h.0.0, λ n. cleared_is t.mask y n (firsts t.kids) low h.0 ∙ sym (rw (← start) (remove_bits 0 i t.kids u n a h.1))), remove_placed 0 i t.kids h.1);
-      swaps = λ q. subst (λ l. Swaps l [] (entries_at q t) (entries_at q (without_kid i y t))) (leaf_entries q)
-          (swaps_after (entry (q ++ t.fragment) t.pair) _ _ _ _ (remove_swaps i t.kids u (q ++ t.fragment) a));
-      nodes = let e = remove_nodes i t.kids u a in let z = ap nodes_in bare_ in omega (arith, e, z);
-      nibbles = let e = remove_nibbles i t.kids u a in let z = ap nibbles_in bare_ in omega (arith, e, z);
+      swaps = λ q. swaps_after (entry (q ++ t.fragment) t.pair) _ _ _ _ (remove_swaps i t.kids u (q ++ t.fragment) a);
+      nodes = let e = remove_nodes i t.kids u a in omega (arith, e);
+      nibbles = let e = remove_nibbles i t.kids u a in omega (arith, e);
     };
   }
+
+  -- all that goes with a leaf is its one entry, its node and its fragment
+  pub leaf_run : (R : Run P → ℕ → ℕ → Type 0) (s : List ℕ) (u : Tree P) (x : P) (n : ℕ) → u.pair ≡ Some x → u.kids ≡ none →
+      R (all_of s u) (n + nodes_in u.kids) (length u.fragment + nibbles_in u.kids) → R (entry_at (s ++ u.fragment) (Some x)) n (length u.fragment)
+  leaf_run R s u x n is ends r =
+      let run : all_of s u ≡ entry_at (s ++ u.fragment) (Some x) = λ i q. entry_here q i in
+      let nodes : n + nodes_in u.kids ≡ n = (let z = ap nodes_in ends in omega (arith, z)) in
+      let nibbles : length u.fragment + nibbles_in u.kids ≡ length u.fragment = (let z = ap nibbles_in ends in omega (arith, z)) in
+      subst (λ g. R g n (length u.fragment)) run
+      (subst (λ k. R (all_of s u) k (length u.fragment)) nodes
+      (subst (λ k. R (all_of s u) (n + nodes_in u.kids) k) nibbles r))
     where
-      leaf_entries : (q : List ℕ) → entries_at (q ++ t.fragment) u ≡ (q ++ (t.fragment ++ u.fragment), x) ∷ []
-      leaf_entries q =
-          ap (λ o. entry ((q ++ t.fragment) ++ u.fragment) o ++ entries_in ((q ++ t.fragment) ++ u.fragment) u.kids) is
-          ∙ ap (λ k. ((q ++ t.fragment) ++ u.fragment, x) ∷ entries_in ((q ++ t.fragment) ++ u.fragment) k) bare_
-          ∙ ap (λ p. (p, x) ∷ []) (append_assoc q t.fragment u.fragment)
+      entry_here : (q : List ℕ) → entries_at (q ++ s) u ≡ (q ++ (s ++ u.fragment), x) ∷ []
+      entry_here q =
+          ap (λ o. entry ((q ++ s) ++ u.fragment) o ++ entries_in ((q ++ s) ++ u.fragment) u.kids) is
+          ∙ ap (λ k. ((q ++ s) ++ u.fragment, x) ∷ entries_in ((q ++ s) ++ u.fragment) k) ends
+          ∙ ap (λ p. (p, x) ∷ []) (append_assoc q s u.fragment)
+
+  -- all goes from a root
+  pub all_goes : (t : Tree P) → t.fragment ≡ [] → PrunesRoot [] t (nodes_in t.kids) (nibbles_in t.kids) t empty
+  all_goes t top = record {
+    fragment = sym top;
+    below = λ f. tt;
+    alters = record {
+      start = ap first (sym top);
+      some = λ s. absurd (s top);
+      placed = (none_is_mask, tt);
+      swaps = λ q. record { before = []; after = []; was = ap (λ p. entries_at p t) (sym (append-nil q)) ∙ sym (append-nil (entries_at (q ++ []) t)); is = refl };
+      nodes = omega arith;
+      nibbles = let e = ap length top in omega (arith, e);
+    };
+  }
 
   -- a change of a root, as that of a child which it leaves full
-  pub root_kid : (p : List ℕ) (was now : Option P) (n m k l : ℕ) (old new : Tree P) → AltersRoot p was now n m k l old new → (IsTreeFull old → IsTreeFull new) → AltersKid p was now n m k l old new
-  root_kid p was now n m k l old new r full = record { full = full; alters = r.alters }
+  pub root_kid : (gone come : Run P) (n m k l : ℕ) (old new : Tree P) → AltersRoot gone come n m k l old new → (IsTreeFull old → IsTreeFull new) → AltersKid gone come n m k l old new
+  root_kid gone come n m k l old new r full = record { full = full; alters = r.alters }
 
   -- and then the only child takes its node's place
-  pub merged_kid : (p : List ℕ) (was now : Option P) (n m k l : ℕ) (old mid : Tree P) → AltersRoot p was now n m k l old mid → mid.pair ≡ None → IsOne mid.kids → old.fragment ≢ [] →
-      AltersKid p was now n (suc m) k l old (merged mid)
-  merged_kid p was now n m k l old mid r unpaired one top = go mid.kids refl one
+  pub merged_kid : (gone come : Run P) (n m k l : ℕ) (old mid : Tree P) → AltersRoot gone come n m k l old mid → mid.pair ≡ None → IsOne mid.kids → old.fragment ≢ [] →
+      AltersKid gone come n (suc m) k l old (merged mid)
+  merged_kid gone come n m k l old mid r unpaired one top = go mid.kids refl one
     where
       start : (f g : List ℕ) → f ≢ [] → first (f ++ g) ≡ first f
       start [] g s = absurd (s refl)
@@ -116,7 +142,7 @@ module _ {P : Type 0} where
       kept : mid.fragment ≢ []
       kept e = top (sym r.fragment ∙ e)
 
-      go : (ks : Kids P) → mid.kids ≡ ks → IsOne ks → AltersKid p was now n (suc m) k l old (merged_into mid.fragment ks)
+      go : (ks : Kids P) → mid.kids ≡ ks → IsOne ks → AltersKid gone come n (suc m) k l old (merged_into mid.fragment ks)
       go none e o = absurd o
       go (more g p2 m2 ls (more a b c d others)) e o = absurd o
       go (more g o2 m2 ls none) e o =
@@ -132,7 +158,7 @@ module _ {P : Type 0} where
               start = start mid.fragment g kept ∙ ap first r.fragment;
               some = λ s. joined mid.fragment g kept;
               placed = (placed.2, placed.3);
-              swaps = λ q. subst (λ es. Swaps (entry (q ++ p) was) (entry (q ++ p) now) (entries_at q old) es) (entries q) (r.alters.swaps q);
+              swaps = λ q. subst (λ es. Swaps (gone q) (come q) (entries_at q old) es) (entries q) (r.alters.swaps q);
               nodes = let z = ap nodes_in e in omega (arith, z, r.alters.nodes);
               nibbles = let z = ap nibbles_in e in let a = length-append mid.fragment g in let b = ap length r.fragment in omega (arith, z, a, b, r.alters.nibbles);
             };

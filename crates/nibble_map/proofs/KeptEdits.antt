@@ -6,7 +6,7 @@ use Rattle.nibble_map.specs.Swaps.{Swaps, entry}
 use Rattle.nibble_map.specs.Masks.{IsMask, IsPlaceOf, marked}
 use Rattle.nibble_map.specs.Kept.{Tree, Kids, none, more, IsAt, plain, firsts, IsPlaced, IsTreePlaced, entries_in, entries_at}
 use Rattle.nibble_map.specs.KeptEdits.{insert_kid, with_pair, with_kid, with_new_kid, leaf, lowered}
-use Rattle.nibble_map.specs.Alters.{AltersKid, AltersNode, Replaces, Edits}
+use Rattle.nibble_map.specs.Alters.{Run, entry_at, all_of, none_of, AltersKid, AltersNode, Replaces, Edits, Prunes}
 use Rattle.nibble_map.proofs.Masks.{marked_is, marked_lt, none_is_mask}
 use Rattle.nibble_map.proofs.KeptKids.{swaps_after, set_firsts, set_placed, set_full, set_many, set_swaps, set_nodes, set_nibbles, at_placed, insert_bits, insert_placed, insert_full, insert_many, insert_swaps, insert_nodes, insert_nibbles}
 
@@ -30,9 +30,9 @@ module _ {P : Type 0} where
   }
 
   -- a child is written
-  pub kid_alters : (t u v : Tree P) (i : ℕ) (p : List ℕ) (was now : Option P) (n m k l : ℕ) → IsTreePlaced t → IsAt i t.kids u → AltersKid p was now n m k l u v →
-      AltersNode (t.fragment ++ p) was now n m k l t (with_kid i v t)
-  kid_alters t u v i p was now n m k l h a r =
+  pub kid_alters : (t u v : Tree P) (i : ℕ) (gone come : Run P) (n m k l : ℕ) → IsTreePlaced t → IsAt i t.kids u → AltersKid gone come n m k l u v →
+      AltersNode (λ q. gone (q ++ t.fragment)) (λ q. come (q ++ t.fragment)) n m k l t (with_kid i v t)
+  kid_alters t u v i gone come n m k l h a r =
       let full = λ (f : IsFull (plain t.kids)). set_full i t.kids u v a r.full f in
       let at = at_placed 0 i t.kids u a h.1 in
       let s = r.alters in
@@ -45,17 +45,34 @@ module _ {P : Type 0} where
             start = refl;
             some = λ z. z;
             placed = (subst (λ xs. IsMask t.mask xs) (sym (set_firsts i t.kids u v a s.start)) h.0, set_placed 0 i t.kids u v a s.start (s.some at.0) s.placed h.1);
-            swaps = λ q. subst (λ path. Swaps (entry path was) (entry path now) (entries_at q t) (entries_at q (with_kid i v t))) (append_assoc q t.fragment p)
-                (swaps_after (entry (q ++ t.fragment) t.pair) _ _ _ _ (set_swaps i t.kids u v _ _ (q ++ t.fragment) a (s.swaps (q ++ t.fragment))));
+            swaps = λ q. swaps_after (entry (q ++ t.fragment) t.pair) _ _ _ _ (set_swaps i t.kids u v _ _ (q ++ t.fragment) a (s.swaps (q ++ t.fragment)));
             nodes = set_nodes i t.kids u v n m a s.nodes;
             nibbles = omega (arith, set_nibbles i t.kids u v k l a s.nibbles);
           };
         };
       }
 
+  entry_below : (f p : List ℕ) (o : Option P) → (λ (q : List ℕ). entry_at p o (q ++ f)) ≡ entry_at (f ++ p) o
+  entry_below f p o = λ i q. entry (append_assoc q f p i) o
+
+  -- one entry of a child is written
+  pub kid_entry : (t u v : Tree P) (i : ℕ) (p : List ℕ) (was now : Option P) (n m k l : ℕ) → IsTreePlaced t → IsAt i t.kids u → AltersKid (entry_at p was) (entry_at p now) n m k l u v →
+      AltersNode (entry_at (t.fragment ++ p) was) (entry_at (t.fragment ++ p) now) n m k l t (with_kid i v t)
+  kid_entry t u v i p was now n m k l h a r =
+      subst (λ come. AltersNode (entry_at (t.fragment ++ p) was) come n m k l t (with_kid i v t)) (entry_below t.fragment p now)
+      (subst (λ gone. AltersNode gone (λ q. entry_at p now (q ++ t.fragment)) n m k l t (with_kid i v t)) (entry_below t.fragment p was)
+      (kid_alters t u v i (entry_at p was) (entry_at p now) n m k l h a r))
+
+  -- a branch of a child is cut
+  pub kid_pruned : (t u v b : Tree P) (i : ℕ) (s : List ℕ) (n k : ℕ) → IsTreePlaced t → IsAt i t.kids u → Prunes s b n k u v →
+      AltersNode (all_of (t.fragment ++ s) b) none_of 0 n 0 k t (with_kid i v t)
+  kid_pruned t u v b i s n k h a r =
+      let below : (λ (q : List ℕ). all_of s b (q ++ t.fragment)) ≡ all_of (t.fragment ++ s) b = λ j q. entries_at (append_assoc q t.fragment s j) b in
+      subst (λ gone. AltersNode gone none_of 0 n 0 k t (with_kid i v t)) below (kid_alters t u v i (all_of s b) none_of 0 n 0 k h a r)
+
   -- a change of a node that may be a root, as that of a child
-  pub node_kid : (p : List ℕ) (was now : Option P) (n m k l : ℕ) (old new : Tree P) → AltersNode p was now n m k l old new → AltersKid p was now n m k l old new
-  node_kid p was now n m k l old new e = record { full = e.full; alters = e.root.alters }
+  pub node_kid : (gone come : Run P) (n m k l : ℕ) (old new : Tree P) → AltersNode gone come n m k l old new → AltersKid gone come n m k l old new
+  node_kid gone come n m k l old new e = record { full = e.full; alters = e.root.alters }
 
   no_many : (k : Kids P) → AreMany (plain k) → k ≢ none
   no_many k m e = subst (λ k. AreMany (plain k)) e m

@@ -8,16 +8,13 @@ use Rattle.nibble_map.specs.Trees.{first}
 use Rattle.nibble_map.specs.Masks.{bit_of}
 use Rattle.nibble_map.specs.Kept.{Tree, Kids, none, more, IsAt, firsts, IsPlaced, IsTreePlaced, entries_in, entries_at}
 use Rattle.nibble_map.specs.KeptPaths.{IsKidAt, IsNodeAt, IsHeld, IsStuck, reach}
-use Rattle.nibble_map.proofs.Cut.{cancel}
+use Rattle.nibble_map.proofs.Cut.{cancel, no_cons}
 use Rattle.nibble_map.proofs.Shape.{headed}
-use Rattle.nibble_map.proofs.Members.{Has-left, Has-right, Has-cases}
+use Rattle.nibble_map.proofs.Members.{Has-left, Has-right, Has-cases, entry-Has}
 use Rattle.nibble_map.proofs.KeptKids.{at_after}
 
 one_either : (a b n : ℕ) → a ≡ b → cond (a == b) 1 n ≡ 1
 one_either a b n e = rw (eq-eqb a b e) refl
-
-no_cons_nil : {a : ℕ} {w : List ℕ} → a ∷ w ≡ [] → ⊥
-no_cons_nil e = cc e
 
 pub begins : (f y : List ℕ) → f ≢ [] → first (f ++ y) ≡ first f
 begins [] y n = absurd (n refl)
@@ -43,7 +40,7 @@ module _ {P : Type 0} where
       (r.0, r.1, r.2, omega (arith, h.1, r.3), (elim (eqb_tells (first f) r.0) [ inl e ↦ rw e.0 refl | inr e ↦ rw e.0 r.4 ]))
 
   pub no_kid_here : (k : Kids P) (u : Tree P) → IsPlaced 0 k → IsKidAt k [] u → ⊥
-  no_kid_here k u h i = let r = kid_headed 0 k [] u h i in no_cons_nil (sym r.2)
+  no_kid_here k u h i = let r = kid_headed 0 k [] u h i in no_cons [] r.0 r.1 (sym r.2)
 
   -- what stands below a child
   pub at_down : (i : ℕ) (k : Kids P) (c : Tree P) (x : List ℕ) (u : Tree P) → IsAt i k c → IsNodeAt c x u → IsKidAt k x u
@@ -96,9 +93,6 @@ module _ {P : Type 0} where
         ]
         | inr e ↦ (let r = has_kid q others p v e in (r.0, r.1, r.2, inr (inr r.3), r.4))
       ]
-
-  entry-Has : (p : List ℕ) (o : Option P) (v : P) → o ≡ Some v → Has (entry p o) (p, v)
-  entry-Has p o v e = subst (λ o. Has (entry p o) (p, v)) (sym e) (inl refl)
 
   kid_has : (q : List ℕ) (k : Kids P) (x : List ℕ) (u : Tree P) (v : P) → IsKidAt k x u → u.pair ≡ Some v → Has (entries_in q k) (q ++ x, v)
   kid_has q none x u v i e = absurd i

@@ -14,7 +14,7 @@ use Rattle.nibble_map.specs.Swaps.{entry}
 use Rattle.nibble_map.specs.Trees.{Forest, grow, nodes, nodes_below, entries, IsShaped, IsFull, first}
 use Rattle.nibble_map.proofs.Cut.{cancel, cons_head}
 use Rattle.nibble_map.proofs.MapEdits.{has_get, held}
-use Rattle.nibble_map.proofs.Members.{Has-left, Has-right, Has-cases, entries-append}
+use Rattle.nibble_map.proofs.Members.{Has-left, Has-right, Has-cases, entries-append, Has-stored, entry-Has}
 use Rattle.nibble_map.proofs.Parted.{prefix_same, prefix_length}
 use Rattle.nibble_map.proofs.SameMaps.{same_by_entries}
 use Rattle.nibble_map.proofs.Sorted.{sorted_of_rising}
@@ -154,13 +154,6 @@ module _ {P : Type 0} where
   holds_in (more f o m kids others) x v (inl (y, e, inr i)) = inl (y, e, inr (holds_in kids y v i))
   holds_in (more f o m kids others) x v (inr i) = inr (holds_in others x v i)
 
-  entry_has : (p : List ℕ) (o : Option P) (v : P) → o ≡ Some v → Has (entry p o) (p, v)
-  entry_has p None v e = never (is_some None v e)
-  entry_has p (Some x) v e = inl (λ i. (p, sym (some_same x v e) i))
-    where
-      some_same : (x v : P) → Some x ≡ Some v → x ≡ v
-      some_same x v e = cc
-
   has_entry : (q p : List ℕ) (o : Option P) (v : P) → Has (entry p o) (q, v) → (q ≡ p) × (o ≡ Some v)
   has_entry q p None v h = absurd h
   has_entry q p (Some x) v (inl e) = (ap (λ (z : List ℕ × P). z.0) e, ap (λ (z : List ℕ × P). Some z.1) (sym e))
@@ -169,7 +162,7 @@ module _ {P : Type 0} where
   holds_has : (q : List ℕ) (k : Kids P) (x : List ℕ) (v : P) → Holds k x v → Has (entries_in q k) (q ++ x, v)
   holds_has q none x v h = absurd h
   holds_has q (more f o m kids others) x v (inl (y, e, inl n)) =
-      Has-left _ _ _ (Has-left _ _ _ (subst (λ p. Has (entry (q ++ f) o) (p, v)) (ap (λ z. q ++ z) (sym (append-nil f) ∙ ap (λ z. f ++ z) (sym n.0) ∙ sym e)) (entry_has (q ++ f) o v n.1)))
+      Has-left _ _ _ (Has-left _ _ _ (subst (λ p. Has (entry (q ++ f) o) (p, v)) (ap (λ z. q ++ z) (sym (append-nil f) ∙ ap (λ z. f ++ z) (sym n.0) ∙ sym e)) (entry-Has (q ++ f) o v n.1)))
   holds_has q (more f o m kids others) x v (inl (y, e, inr h)) =
       Has-left _ _ _ (Has-right (entry (q ++ f) o) _ _ (subst (λ p. Has (entries_in (q ++ f) kids) (p, v)) (append_assoc q f y ∙ ap (λ z. q ++ z) (sym e)) (holds_has (q ++ f) kids y v h)))
   holds_has q (more f o m kids others) x v (inr h) = Has-right (entry (q ++ f) o ++ entries_in (q ++ f) kids) _ _ (holds_has q others x v h)
@@ -262,7 +255,7 @@ module _ {P K V : Type 0} (row : P → K × V) where
   stored_rows [] = refl
   stored_rows (e ∷ es) = ap (λ l. e.0 ∷ l) (stored_rows es)
 
-  has_row : (es : List (List ℕ × P)) (x : List ℕ) (v : P) → Has es (x, v) → Has (rows_by row es) (x, row v)
+  pub has_row : (es : List (List ℕ × P)) (x : List ℕ) (v : P) → Has es (x, v) → Has (rows_by row es) (x, row v)
   has_row [] x v h = h
   has_row (e ∷ es) x v (inl i) = inl (ap (λ (z : List ℕ × P). (z.0, row z.1)) i)
   has_row (e ∷ es) x v (inr h) = inr (has_row es x v h)
@@ -282,21 +275,16 @@ module _ {P K V : Type 0} (row : P → K × V) where
     value_is x v h = ap (option_map (λ z. z.1)) ((has_get m x (row v)).0 (subst (λ es. Has es (x, row v)) (sym pairs) (has_row _ x v h)))
 
     top_value : (v : P) → o ≡ Some v → value_at m [] ≡ Some (row v).1
-    top_value v e = value_is [] v (Has-left _ _ _ (entry_has [] o v e))
+    top_value v e = value_is [] v (Has-left _ _ _ (entry-Has [] o v e))
 
     kid_value : (x : List ℕ) (v : P) → Holds k x v → value_at m x ≡ Some (row v).1
     kid_value x v h = value_is x v (Has-right (entry [] o) _ _ (holds_has [] k x v h))
 
     stored_by : (x : List ℕ) (v : P) → Has (entries_with o k) (x, v) → IsStored m x
-    stored_by x v h = (held m x).0 (subst (λ es. Has (stored es) x) (sym pairs) (subst (λ l. Has l x) (sym (stored_rows (entries_with o k))) (listed (entries_with o k) x v h)))
-      where
-        listed : (es : List (List ℕ × P)) (x : List ℕ) (v : P) → Has es (x, v) → Has (stored es) x
-        listed [] x v h = h
-        listed (e ∷ es) x v (inl i) = inl (ap (λ (z : List ℕ × P). z.0) i)
-        listed (e ∷ es) x v (inr h) = inr (listed es x v h)
+    stored_by x v h = (held m x).0 (subst (λ es. Has (stored es) x) (sym pairs) (subst (λ l. Has l x) (sym (stored_rows (entries_with o k))) (Has-stored (entries_with o k) x v h)))
 
     top_stored : IsSome o → IsStored m []
-    top_stored i = let r = some_is o i in stored_by [] r.0 (Has-left _ _ _ (entry_has [] o r.0 r.1))
+    top_stored i = let r = some_is o i in stored_by [] r.0 (Has-left _ _ _ (entry-Has [] o r.0 r.1))
 
     kid_stored : (x : List ℕ) → In (plain k) x → IsStored m x
     kid_stored x i = let r = in_holds k x i in stored_by x r.0 (Has-right (entry [] o) _ _ (holds_has [] k x r.0 r.1))

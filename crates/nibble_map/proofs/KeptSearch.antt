@@ -9,7 +9,7 @@ use Rattle.nibble_map.specs.Trees.{first, along, walked}
 use Rattle.nibble_map.specs.Masks.{bit_of}
 use Rattle.nibble_map.specs.Kept.{Tree, Kids, none, more, plain, IsAt, firsts, IsPlaced, IsTreePlaced}
 use Rattle.nibble_map.specs.KeptPaths.{IsPath, IsHeld, IsStuck}
-use Rattle.nibble_map.proofs.Cut.{cancel}
+use Rattle.nibble_map.proofs.Cut.{cancel, length-nil}
 use Rattle.nibble_map.proofs.Agreement.{agrees_part}
 use Rattle.nibble_map.proofs.KeptKids.{at_after}
 use Rattle.nibble_map.proofs.KeptPaths.{begins, kid_headed, at_up, kid_down, held_node, node_held, held_down}
@@ -145,11 +145,7 @@ module _ {P : Type 0} where
     up_past : (q : List ℕ) → IsPath t q → IsPrefix (t.fragment ++ rest) q → (y : List ℕ) × (q ≡ t.fragment ++ y) × IsPath c y
     up_past q (u, inl e) p =
         let l = ap length (sym e.0 ∙ p.1) in let m = length-append (t.fragment ++ rest) p.0 in let n = length-append t.fragment rest in
-        absurd (some (empty rest (omega (arith, l, m, n))))
-      where
-        empty : (r : List ℕ) → length r ≡ 0 → r ≡ []
-        empty [] e = refl
-        empty (x ∷ r) e = absurd (omega (arith, e))
+        absurd (some (length-nil rest (omega (arith, l, m, n))))
     up_past q (u, inr e) p =
         let s = prefix_below t.fragment rest e.0 (subst (λ z. IsPrefix (t.fragment ++ rest) z) e.1 p) in
         (e.0, e.1, (u, at_up 0 i t.kids c e.0 u h.1 a e.2 (rest_same e.0 rest s.0 some s.1 ∙ start)))
@@ -165,11 +161,7 @@ module _ {P : Type 0} where
   pub none_gap : (t : Tree P) (rest : List ℕ) → IsTreePlaced t → rest ≢ [] → bit_of (first rest) (firsts t.kids) ≡ 0 → (q : List ℕ) → IsPath t q → IsPrefix (t.fragment ++ rest) q → ⊥
   none_gap t rest h some b q (u, inl e) p =
       let l = ap length (sym e.0 ∙ p.1) in let m = length-append (t.fragment ++ rest) p.0 in let n = length-append t.fragment rest in
-      some (empty rest (omega (arith, l, m, n)))
-    where
-      empty : (r : List ℕ) → length r ≡ 0 → r ≡ []
-      empty [] e = refl
-      empty (x ∷ r) e = absurd (omega (arith, e))
+      some (length-nil rest (omega (arith, l, m, n)))
   none_gap t rest h some b q (u, inr e) p =
       let s = prefix_below t.fragment rest e.0 (subst (λ z. IsPrefix (t.fragment ++ rest) z) e.1 p) in
       let r = kid_headed 0 t.kids e.0 u h.1 e.2 in

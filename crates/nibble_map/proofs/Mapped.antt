@@ -62,7 +62,8 @@ module _ {P Q : Type 0} (f : P → Q) where
       ∙ map_cond f (eq_by_cmp (slice_cmp nat_cmp) q e) None (map.get m q)
       ∙ ap (cond (eq_by_cmp (slice_cmp nat_cmp) q e) None) (sym (mapped_get m q)) ∙ sym (map.get-remove nat_list_cmp_total (mapped f m) e q))
 
-  pub mapped_below : (m : NibbleMap P) (p : List ℕ) → mapped f (below m p) ≡ below (mapped f m) p
-  mapped_below m p = map.same_map nat_list_cmp_total same _ _ (λ q. mapped_get _ q ∙ ap (option_map f) (kept m (is_prefix p) q)
-      ∙ map_cond f (is_prefix p q) (map.get m q) None
-      ∙ ap (λ o. cond (is_prefix p q) o None) (sym (mapped_get m q)) ∙ sym (kept (mapped f m) (is_prefix p) q))
+  -- the lists of a test
+  pub mapped_retained : (m : NibbleMap P) (t : List ℕ → Bool) → mapped f (map.retain_keys m t) ≡ map.retain_keys (mapped f m) t
+  mapped_retained m t = map.same_map nat_list_cmp_total same _ _ (λ q. mapped_get _ q ∙ ap (option_map f) (kept m t q)
+      ∙ map_cond f (t q) (map.get m q) None
+      ∙ ap (λ o. cond (t q) o None) (sym (mapped_get m q)) ∙ sym (kept (mapped f m) t q))

@@ -1,8 +1,9 @@
 -- The lists of paths and of stored lists, by what they hold.
-use Rattle.std.proofs.Common.{◌≡◌, ℕ, ◌⊎◌, List, [], ◌∷◌, ◌++◌, Option, Some, None, IsSome, option_map, false, true, refl, ap, sym, ◌∙◌, inl, inr, append_assoc, append-nil}
+use Rattle.std.proofs.Common.{◌≡◌, ℕ, ◌⊎◌, List, [], ◌∷◌, ◌++◌, Option, Some, None, IsSome, option_map, false, true, refl, ap, sym, subst, ◌∙◌, inl, inr, append_assoc, append-nil}
 use Rattle.std.specs.List.{cons_option}
 use Rattle.std.proofs.lemmas.List.{map-append}
 use Rattle.std.proofs.lemmas.List.Elements.{filter_map-append}
+use Rattle.nibble_map.specs.Swaps.{entry}
 use Rattle.nibble_map.specs.Lists.{Has}
 use Rattle.nibble_map.specs.Stored.{stored, IsStored}
 use Rattle.nibble_map.specs.Trees.{Forest, bare, grow, Node, nodes_below, paths, entries}
@@ -21,6 +22,15 @@ pub Has-cases : {A : Type 0} (xs ys : List A) (x : A) → Has (xs ++ ys) x → H
 Has-cases [] ys x h = inr h
 Has-cases (z ∷ xs) ys x (inl e) = inl (inl e)
 Has-cases (z ∷ xs) ys x (inr h) = elim (Has-cases xs ys x h) [ inl k ↦ inl (inr k) | inr k ↦ inr k ]
+
+-- a pair's list is among the stored ones
+pub Has-stored : {P : Type 0} (es : List (List ℕ × P)) (x : List ℕ) (v : P) → Has es (x, v) → Has (stored es) x
+Has-stored [] x v h = h
+Has-stored (e ∷ es) x v (inl i) = inl (ap (λ z. z.0) i)
+Has-stored (e ∷ es) x v (inr h) = inr (Has-stored es x v h)
+
+pub entry-Has : {P : Type 0} (p : List ℕ) (o : Option P) (v : P) → o ≡ Some v → Has (entry p o) (p, v)
+entry-Has p o v e = subst (λ o. Has (entry p o) (p, v)) (sym e) (inl refl)
 
 pub paths-append : {P : Type 0} (xs ys : List (Node P)) → paths (xs ++ ys) ≡ paths xs ++ paths ys
 paths-append [] ys = refl

@@ -3,7 +3,7 @@ use Rattle.std.proofs.Common.{◌≡◌, ℕ, ◌⊎◌, List, [], ◌∷◌, �
 use Rattle.nibble_map.specs.Lists.{IsBefore, Has, Lists}
 use Rattle.nibble_map.specs.Stored.{IsStored, IsParting, IsPoint}
 use Rattle.nibble_map.specs.Trees.{Tree, nodes, nodes_below, paths, entries, IsShaped}
-use Rattle.nibble_map.proofs.Shape.{In, Parts, Parts-more, Parts-later, At-headed, at_gives, in_gives, parts_give}
+use Rattle.nibble_map.proofs.Shape.{At, In, Parts, Parts-more, Parts-later, At-headed, at_gives, in_gives, parts_give}
 use Rattle.nibble_map.proofs.Members.{path_at, at_path, stored_in, in_stored, later_stored, stored_cases}
 use Rattle.nibble_map.proofs.Rising.{rising, Each-from_has}
 
@@ -29,6 +29,10 @@ path_point t s p (inr h) = inr (let r = path_at [] t.kids p h in
       | inl i ↦ inl (kid_stored t p i)
       | inr q ↦ inr (parts_parting _ p (Parts-more (In t.kids) (IsStored (entries (nodes t))) p (kid_stored t) q))
     ])
+
+pub at_point : {P : Type 0} (t : Tree P) → IsShaped 0 t.kids → (y : List ℕ) → ((y ≡ []) ⊎ At t.kids y) → IsPoint (entries (nodes t)) y
+at_point t s y (inl e) = inl e
+at_point t s y (inr a) = path_point t s y (inr (at_path [] t.kids y (y, refl, a)))
 
 pub point_path : {P : Type 0} (t : Tree P) → IsShaped 0 t.kids → (p : List ℕ) → IsPoint (entries (nodes t)) p → Has (paths (nodes t)) p
 point_path t s p (inl e) = inl e

@@ -17,10 +17,11 @@ module _ {P : Type 0} where
   absent q (e ∷ es) h =
       ap (λ o. cond (is_eq o) (Some e.1) (find (slice_cmp nat_cmp) q es)) (less _ (first _ _ h)) ∙ absent q es (second _ _ h)
 
+  -- the map with rows inserted one after another
   abbrev pub put_rows : NibbleMap P → List (List ℕ × P) → NibbleMap P
   put_rows m es = fold (λ n e. map.insert n e.0 e.1) m es
 
-  put_get : (es : List (List ℕ × P)) (m : NibbleMap P) (q : List ℕ) → T (is_sorted (slice_cmp nat_cmp) es)
+  pub put_get : (es : List (List ℕ × P)) (m : NibbleMap P) (q : List ℕ) → T (is_sorted (slice_cmp nat_cmp) es)
       → map.get (put_rows m es) q ≡ cond (is_some (find (slice_cmp nat_cmp) q es)) (find (slice_cmp nat_cmp) q es) (map.get m q)
   put_get [] m q h = refl
   put_get (e ∷ es) m q h =
@@ -35,7 +36,7 @@ module _ {P : Type 0} where
           ap (λ o. cond (is_some o) o (Some e.1)) none
       by false t = refl
 
-  itself : (o : Option P) → cond (is_some o) o None ≡ o
+  pub itself : (o : Option P) → cond (is_some o) o None ≡ o
   itself None = refl
   itself (Some x) = refl
 

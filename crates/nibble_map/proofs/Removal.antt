@@ -3,8 +3,8 @@ use Rattle.std.proofs.Common.{◌≡◌, ℕ, suc, ◌≤◌, ◌≢◌, ◌⊎�
 use Rattle.std.specs.Prelude.{⊤}
 use Rattle.std.proofs.lemmas.Bool.{cases_order}
 use Rattle.nibble_map.specs.Trees.{Forest, bare, grow, AreMany, IsShaped, first}
-use Rattle.nibble_map.proofs.Cut.{cancel, cons_head}
-use Rattle.nibble_map.proofs.Stems.{no_cons}
+use Rattle.nibble_map.proofs.KeptPaths.{begins}
+use Rattle.nibble_map.proofs.Cut.{cancel, cons_head, no_cons, append-some}
 use Rattle.nibble_map.proofs.Walked.{Whole, Within, Forked, along_says}
 use Rattle.nibble_map.proofs.Edits.{Holds, Bears, Changes, merged, own, lifted, in_tree, in_others, Changes-same, Holds-headed}
 use Rattle.nibble_map.proofs.Insertion.{at_list, saying}
@@ -35,14 +35,6 @@ lower : {P : Type 0} (low more : ℕ) (k : Forest P) → low ≤ more → IsShap
 lower low more bare l s = tt
 lower low more (grow f o kids others) l s = (s.0, omega (arith, l, s.1), s.2, s.3, s.4)
 
-first_longer : (f g : List ℕ) → f ≢ [] → first (f ++ g) ≡ first f
-first_longer [] g n = absurd (n refl)
-first_longer (a ∷ f) g n = refl
-
-full_longer : (f g : List ℕ) → f ≢ [] → f ++ g ≢ []
-full_longer [] g n = absurd (n refl)
-full_longer (a ∷ f) g n = no_cons [] a (f ++ g)
-
 -- a node that has no pair now: it goes, or is merged with its one child, or stays
 settle : {P : Type 0} (E : List ℕ → P → Type 0) (b : ℕ) (r : List ℕ) (f : List ℕ) (kids : Forest P) → f ≢ [] → first f ≡ b → IsShaped 0 kids →
     Changes E (Bears f None kids) (b ∷ r) (λ w. ⊥) → Pruned E b r
@@ -56,7 +48,7 @@ settle E b r f (grow g p ls bare) n e s c =
       f ++ g,
       p,
       ls,
-      (full_longer f g n, first_longer f g n ∙ e, s.2, s.3),
+      (append-some f g n, begins f g n ∙ e, s.2, s.3),
       Changes-same E E (Bears f None (grow g p ls bare)) (Bears (f ++ g) p ls) (b ∷ r) (λ w. ⊥) (λ x w. ((λ h. h), (λ h. h))) c (λ x w. merged f g p ls x w),
     )
 settle E b r f (grow g p ls (grow h q ms others)) n e s c = inr (f, None, grow g p ls (grow h q ms others), (n, e, inr tt, s), c)

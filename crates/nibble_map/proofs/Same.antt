@@ -4,6 +4,7 @@ use Rattle.nibble_map.specs.Lists.{Each}
 use Rattle.nibble_map.specs.Stored.{IsStored}
 use Rattle.nibble_map.specs.Queries.{IsFragment}
 use Rattle.nibble_map.specs.Trees.{Tree, Node, nodes, paths, entries, IsShaped, parts_of}
+use Rattle.nibble_map.proofs.Cut.{cons_tail, cons_head}
 use Rattle.nibble_map.proofs.Moves.{point_moves, fragment_moves}
 use Rattle.nibble_map.proofs.Parted.{fragment_unique}
 use Rattle.nibble_map.proofs.Points.{tree_points}
@@ -24,22 +25,16 @@ zipped : {P Q : Type 0} (m : List (List ℕ × P)) (n : List (List ℕ × Q)) �
 zipped m n to from [] [] e h k = refl
 zipped m n to from [] (b ∷ ks) e h k = absurd (let i : [] ≡ b.path ∷ paths ks = e in cc i)
 zipped m n to from (a ∷ ns) [] e h k = absurd (let i : a.path ∷ paths ns ≡ [] = e in cc i)
-zipped m n to from (a ∷ ns) (b ∷ ks) e h k = both (zipped m n to from ns ks (tails e) h.1 k.1)
+zipped m n to from (a ∷ ns) (b ∷ ks) e h k = both (zipped m n to from ns ks (cons_tail e) h.1 k.1)
   where
-    tails : {x y : List ℕ} {xs ys : List (List ℕ)} → x ∷ xs ≡ y ∷ ys → xs ≡ ys
-    tails i = cc
-
-    heads : {x y : List ℕ} {xs ys : List (List ℕ)} → x ∷ xs ≡ y ∷ ys → x ≡ y
-    heads i = cc
-
     fragments : a.fragment ≡ b.fragment
-    fragments = fragment_unique (IsStored n) a.path a.fragment b.fragment (fragment_moves (IsStored m) (IsStored n) to from a.path a.fragment h.0) (subst (λ v. IsFragment n v b.fragment) (sym (heads e)) k.0)
+    fragments = fragment_unique (IsStored n) a.path a.fragment b.fragment (fragment_moves (IsStored m) (IsStored n) to from a.path a.fragment h.0) (subst (λ v. IsFragment n v b.fragment) (sym (cons_head e)) k.0)
 
     pair : {x y u v : List ℕ} → x ≡ y → u ≡ v → Path (List ℕ × List ℕ) (x, u) (y, v)
     pair i j = λ d. (i d, j d)
 
     both : parts_of ns ≡ parts_of ks → parts_of (a ∷ ns) ≡ parts_of (b ∷ ks)
-    both i = rw (pair (heads e) fragments, i) refl
+    both i = rw (pair (cons_head e) fragments, i) refl
 
 pub same_parts : {P Q : Type 0} (t : Tree P) (u : Tree Q) → IsShaped 0 t.kids → IsShaped 0 u.kids →
     ((e : List ℕ) → IsStored (entries (nodes t)) e ↔ IsStored (entries (nodes u)) e) → parts_of (nodes t) ≡ parts_of (nodes u)

@@ -6,6 +6,7 @@ use Rattle.nibble_map.specs.Lists.{Has, IsBefore, IsRising}
 use Rattle.nibble_map.specs.Maps.{PairMap, IsStored, value_at}
 use Rattle.nibble_map.specs.MapQueries.{IsSame, AreSame}
 use Rattle.nibble_map.specs.Stored.{stored}
+use Rattle.nibble_map.proofs.Cut.{cons_tail, cons_head}
 use Rattle.nibble_map.proofs.MapEdits.{same_Some, stored_lists, has_get}
 use Rattle.nibble_map.proofs.Unique.{rising_unique, Each-has, before_not_itself}
 
@@ -49,13 +50,7 @@ module _ {K V : Type 0} (eq : V → V → Bool) where
   are_same [] (d ∷ ds) r i h = absurd (let j : [] ≡ d.0 ∷ stored ds = i in cc j)
   are_same (e ∷ es) [] r i h = absurd (let j : e.0 ∷ stored es ≡ [] = i in cc j)
   are_same (e ∷ es) (d ∷ ds) r i h =
-      (heads i, h e.0 e.1 d.1 (inl refl) (inl (λ k. (heads i k, d.1))), are_same es ds r.1 (tails i) (λ x p q a b. h x p q (inr a) (inr b)))
-    where
-      heads : {x y : List ℕ} {xs ys : List (List ℕ)} → x ∷ xs ≡ y ∷ ys → x ≡ y
-      heads j = cc
-
-      tails : {x y : List ℕ} {xs ys : List (List ℕ)} → x ∷ xs ≡ y ∷ ys → xs ≡ ys
-      tails j = cc
+      (cons_head i, h e.0 e.1 d.1 (inl refl) (inl (λ k. (cons_head i k, d.1))), are_same es ds r.1 (cons_tail i) (λ x p q a b. h x p q (inr a) (inr b)))
 
   same_keys : (es ds : List (List ℕ × (K × V))) → AreSame eq es ds → stored es ≡ stored ds
   same_keys [] [] s = refl

@@ -13,7 +13,7 @@ use Rattle.nibble_map.proofs.KeptSame.{both, never, entries_agree}
 use Rattle.nibble_map.proofs.SameMaps.{same_by_entries}
 
 -- two tests that pass together
-same_answer : (a b : Bool) → (a ≡ true → b ≡ true) → (b ≡ true → a ≡ true) → a ≡ b
+pub same_answer : (a b : Bool) → (a ≡ true → b ≡ true) → (b ≡ true → a ≡ true) → a ≡ b
 same_answer true b f g = sym (f refl)
 same_answer false true f g = g refl
 same_answer false false f g = refl

@@ -1,7 +1,7 @@
 -- The local shape of a forest makes its paths the places where its entries are or part, seen from the forest's own place.
 use Rattle.std.proofs.Common.{◌≡◌, ℕ, suc, ◌≤◌, ◌≢◌, ◌⊎◌, List, [], ◌∷◌, ◌++◌, Option, IsSome, refl, sym, subst, ◌∙◌, inl, inr, append_assoc, arith}
 use Rattle.nibble_map.specs.Trees.{Forest, bare, grow, AreMany, IsShaped, first}
-use Rattle.nibble_map.proofs.Cut.{cut, cancel, cons_head}
+use Rattle.nibble_map.proofs.Cut.{cut, cancel, cons_head, no_cons}
 
 -- x is f followed by a list of which C holds
 abbrev pub Under : List ℕ → (List ℕ → Type 0) → List ℕ → Type 0
@@ -142,10 +142,6 @@ pub Parts-later : {P : Type 0} (o : Option P) (kids : Forest P) (y : List ℕ) �
     Parts (λ z. ((z ≡ []) × IsSome o) ⊎ In kids z) y → Parts (In kids) y
 Parts-later o kids y (a, b, ne, (x, h), (x', k)) = (a, b, ne, (x, later a x h), (x', later b x' k))
   where
-    no_cons : (z : List ℕ) (d : ℕ) (w : List ℕ) → z ++ d ∷ w ≡ [] → ⊥
-    no_cons [] d w e = cc
-    no_cons (v ∷ z) d w e = cc
-
     later : (d : ℕ) (w : List ℕ) → ((y ++ d ∷ w ≡ []) × IsSome o) ⊎ In kids (y ++ d ∷ w) → In kids (y ++ d ∷ w)
     later d w (inl n) = absurd (no_cons y d w n.0)
     later d w (inr i) = i

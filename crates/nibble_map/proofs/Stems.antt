@@ -4,7 +4,7 @@ use Rattle.std.proofs.lemmas.List.Sums.{sum_by-append, sum_by-cons}
 use Rattle.nibble_map.specs.Lists.{IsBefore, IsPrefix, Has, IsRising, Lists, Counts}
 use Rattle.nibble_map.specs.Stored.{IsStored, IsStem}
 use Rattle.nibble_map.specs.Trees.{Forest, bare, grow, Tree, nodes, nodes_below, entries, nibbles_in, first, IsShaped}
-use Rattle.nibble_map.proofs.Cut.{cut, cons_head, cons_tail}
+use Rattle.nibble_map.proofs.Cut.{cut, cons_head, cons_tail, no_cons}
 use Rattle.nibble_map.proofs.Shape.{Under, In, filled, headed}
 use Rattle.nibble_map.proofs.Members.{Has-left, Has-right, Has-cases}
 use Rattle.nibble_map.proofs.Points.{top_cases, kid_stored}
@@ -39,10 +39,6 @@ stems_length q (grow f o kids others) =
     let g = sum_by-cons (λ n. length n.fragment) (record { path = q ++ f; fragment = f; pair = o }) (nodes_below (q ++ f) kids ++ nodes_below q others) in
     let h = sum_by-append (λ n. length n.fragment) (nodes_below (q ++ f) kids) (nodes_below q others) in
     omega (arith, a, b, c, d, e, g, h)
-
-pub no_cons : (z : List ℕ) (d : ℕ) (w : List ℕ) → z ++ d ∷ w ≡ [] → ⊥
-no_cons [] d w e = cc
-no_cons (v ∷ z) d w e = cc
 
 pub run_gives : (q f p : List ℕ) → Has (run q f) p → (x : List ℕ) × (p ≡ q ++ x) × (x ≢ []) × IsPrefix x f
 run_gives q [] p h = absurd h

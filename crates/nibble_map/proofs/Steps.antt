@@ -4,12 +4,12 @@ use Rattle.std.specs.List.{cons_option}
 use Rattle.nibble_map.specs.Lists.{Has}
 use Rattle.nibble_map.specs.Stored.{IsSetAt, IsCutAt}
 use Rattle.nibble_map.specs.Trees.{Forest, bare, grow, Tree, nodes, nodes_below, entries, IsShaped}
+use Rattle.nibble_map.proofs.Cut.{no_cons}
 use Rattle.nibble_map.proofs.Members.{Has-left, Has-right, Has-cases, entries-append}
 use Rattle.nibble_map.proofs.Shape.{Under}
-use Rattle.nibble_map.proofs.Stems.{no_cons}
 use Rattle.nibble_map.proofs.Unique.{tree_entries_rise}
 use Rattle.nibble_map.proofs.Edits.{Holds, Changes, none_here}
-use Rattle.nibble_map.proofs.Insertion.{enter}
+use Rattle.nibble_map.proofs.Insertion.{enter, some_is}
 use Rattle.nibble_map.proofs.Removal.{take_out}
 
 put_has : {P : Type 0} (p : List ℕ) (o : Option P) (ms : List (List ℕ × P)) (x : List ℕ) (w : P) →
@@ -24,11 +24,8 @@ put_has {P} p (Some v) ms x w = (to, from)
     pair : {a b : List ℕ} {c d : P} → a ≡ b → c ≡ d → Path (List ℕ × P) (a, c) (b, d)
     pair e h = λ i. (e i, h i)
 
-    value : Some v ≡ Some w → w ≡ v
-    value e = cc
-
     from : (((x ≡ p) × (Some v ≡ Some w)) ⊎ Has ms (x, w)) → Has ((p, v) ∷ ms) (x, w)
-    from (inl m) = inl (pair m.0 (value m.1))
+    from (inl m) = inl (pair m.0 ((some_is v w).0 m.1))
     from (inr h) = inr h
 
 pub entry_in : {P : Type 0} (q : List ℕ) (k : Forest P) (p : List ℕ) (w : P) → Has (entries (nodes_below q k)) (p, w) → Under q (λ x. Holds k x w) p
@@ -91,12 +88,6 @@ kids_changed {P} t k b r C c x w = (to, from)
     from : (((x ≡ b ∷ r) × C w) ⊎ ((x ≢ b ∷ r) × Has (entries (nodes t)) (x, w))) → Has (entries (nodes record { top = t.top; kids = k })) (x, w)
     from (inl m) = (tree_entry record { top = t.top; kids = k } x w).1 (inr ((c x w).1 (inl m)))
     from (inr (n, h)) = (tree_entry record { top = t.top; kids = k } x w).1 (elim ((tree_entry t x w).0 h) [ inl m ↦ inl m | inr q ↦ inr ((c x w).1 (inr (n, q))) ])
-
-some_is : {P : Type 0} (v w : P) → (Some v ≡ Some w) ↔ (w ≡ v)
-some_is v w = (inner, λ e. ap (λ c. Some c) (sym e))
-  where
-    inner : Some v ≡ Some w → w ≡ v
-    inner e = cc
 
 never : {P : Type 0} (w : P) → (None ≡ Some w) → ⊥
 never w e = cc e

@@ -5,11 +5,11 @@ use Rattle.nibble_map.specs.Lists.{IsPrefix}
 use Rattle.nibble_map.specs.Stored.{IsPoint, IsStem}
 use Rattle.nibble_map.specs.Queries.{IsLongest, IsCompared}
 use Rattle.nibble_map.specs.Trees.{Forest, bare, grow, Tree, nodes, entries, first, IsShaped, along, walked}
-use Rattle.nibble_map.proofs.Cut.{cancel, cons_head, cons_same}
+use Rattle.nibble_map.proofs.Cut.{cancel, cons_head, cons_same, no_cons}
 use Rattle.nibble_map.proofs.Shape.{At, At-headed, Under-headed, headed}
 use Rattle.nibble_map.proofs.Members.{at_path, path_at}
-use Rattle.nibble_map.proofs.Points.{path_point, point_path}
-use Rattle.nibble_map.proofs.Stems.{Stem, Stem-headed, no_cons, stem_at, at_stem, tree_stems}
+use Rattle.nibble_map.proofs.Points.{path_point, point_path, at_point}
+use Rattle.nibble_map.proofs.Stems.{Stem, Stem-headed, stem_at, at_stem, tree_stems}
 use Rattle.nibble_map.proofs.Parted.{common, prefix_length}
 
 -- what `along` meets
@@ -196,10 +196,6 @@ tree_compared t s e = moved (walked_sees 0 t.kids e s)
     of_stem : (x : List ℕ) → IsStem (entries (nodes t)) x → Stem t.kids x
     of_stem x h = let r = stem_at [] t.kids x (((tree_stems t s).exactly x).1 h) in subst (Stem t.kids) (sym r.1) r.2
 
-    point_of : (x : List ℕ) → ((x ≡ []) ⊎ At t.kids x) → IsPoint (entries (nodes t)) x
-    point_of x (inl i) = inl i
-    point_of x (inr a) = path_point t s x (inr (at_path [] t.kids x (x, refl, a)))
-
     of_point : (x : List ℕ) → IsPoint (entries (nodes t)) x → (x ≡ []) ⊎ At t.kids x
     of_point x h = elim (point_path t s x h) [ inl i ↦ inl i | inr k ↦ inr (let r = path_at [] t.kids x k in subst (At t.kids) (sym r.1) r.2) ]
 
@@ -212,7 +208,7 @@ tree_compared t s e = moved (walked_sees 0 t.kids e s)
         longest = λ z h q. l.longest z (elim h [ inl i ↦ inl i | inr k ↦ inr (of_stem z k) ]) q;
       },
       elim c [
-        | inl h ↦ inl (elim h.0 [ inl i ↦ inl i | inr k ↦ inr (point_of p k) ], h.1)
+        | inl h ↦ inl (elim h.0 [ inl i ↦ inl i | inr k ↦ inr (at_point t s p k) ], h.1)
         | inr h ↦ inr (h.0, (λ k. h.1 (of_point p k)), h.2)
       ],
     )

@@ -44,30 +44,30 @@ same_rows eq = pointwise (eq_of_both (on (λ e. e.0) (pointwise nat_eq)) (on (λ
 abbrev pub same_maps : {K V : Type 0} → (V → V → Bool) → PairMap K V → PairMap K V → Bool
 same_maps eq m n = same_rows eq (fin.entries m) (fin.entries n)
 
-module _ {P : Type 0} (R : P → P → Type 0) where
+module _ {P Q : Type 0} (R : P → Q → Type 0) where
   -- neither has a pair, or R holds of the two
-  abbrev pub IsPairCopy : Option P → Option P → Type 0
+  abbrev pub IsPairCopy : Option P → Option Q → Type 0
   IsPairCopy None None = ⊤
   IsPairCopy None (Some y) = ⊥
   IsPairCopy (Some x) None = ⊥
   IsPairCopy (Some x) (Some y) = R x y
 
   -- the same fragments, masks and children, and R holds of each pair and its copy
-  abbrev pub AreKidCopies : Kids P → Kids P → Type 0
+  abbrev pub AreKidCopies : Kids P → Kids Q → Type 0
   AreKidCopies none none = ⊤
   AreKidCopies none (more g p n ls rest) = ⊥
   AreKidCopies (more f o m kids others) none = ⊥
   AreKidCopies (more f o m kids others) (more g p n ls rest) =
       (g ≡ f) × (n ≡ m) × IsPairCopy o p × AreKidCopies kids ls × AreKidCopies others rest
 
-  pub record IsCopy (t u : Tree P) : Type 0 where
+  pub record IsCopy (t : Tree P) (u : Tree Q) : Type 0 where
     pub fragment : u.fragment ≡ t.fragment
     pub mask : u.mask ≡ t.mask
     pub pair : IsPairCopy t.pair u.pair
     pub kids : AreKidCopies t.kids u.kids
 
   -- the same lists in the same order, and R holds of the pairs at each
-  abbrev pub AreEntryCopies : List (List ℕ × P) → List (List ℕ × P) → Type 0
+  abbrev pub AreEntryCopies : List (List ℕ × P) → List (List ℕ × Q) → Type 0
   AreEntryCopies [] [] = ⊤
   AreEntryCopies [] (d ∷ ds) = ⊥
   AreEntryCopies (e ∷ es) [] = ⊥
@@ -78,6 +78,6 @@ abbrev pub IsPairClone : {K V : Type 0} → (K → K → Type 0) → (V → V �
 IsPairClone is_key_clone is_value_clone x y = is_key_clone x.0 y.0 × is_value_clone x.1 y.1
 
 -- the same stored lists, and R holds of the pairs at each
-pub record IsMapCopy {P : Type 0} (R : P → P → Type 0) (m n : NibbleMap P) : Type 0 where
+pub record IsMapCopy {P Q : Type 0} (R : P → Q → Type 0) (m : NibbleMap P) (n : NibbleMap Q) : Type 0 where
   pub same_lists : (e : List ℕ) → IsStored m e ↔ IsStored n e
-  pub copied_pairs : (e : List ℕ) (x y : P) → fin.get m e ≡ Some x → fin.get n e ≡ Some y → R x y
+  pub copied_pairs : (e : List ℕ) (x : P) (y : Q) → fin.get m e ≡ Some x → fin.get n e ≡ Some y → R x y

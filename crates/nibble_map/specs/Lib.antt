@@ -19,3 +19,4 @@ pub mod Alters
 pub mod KeptPaths
 pub mod Agreement
 pub mod KeptSizes
+pub mod Turned

@@ -1,5 +1,5 @@
 -- The finite map that a trie is seen as, and its points.
-use Rattle.std.specs.Prelude.{ℕ, T, List, Option, Some, None, map as each}
+use Rattle.std.specs.Prelude.{ℕ, T, not, List, Option, Some, None, map as each}
 use Rattle.std.specs.Coded.{Coded, coded_ℕ, coded_list, coded×}
 use Rattle.std.specs.Option.{option_map}
 use Rattle.std.specs.Ordering.{nat_cmp}
@@ -45,7 +45,11 @@ module _ {P : Type 0} where
   abbrev pub below : NibbleMap P → List ℕ → NibbleMap P
   below m p = map.retain_keys m (is_prefix p)
 
-  -- its ordered walk
+  -- the part of the map whose lists haven't the prefix p
+  abbrev pub without_below : NibbleMap P → List ℕ → NibbleMap P
+  without_below m p = map.retain_keys m (λ e. not (is_prefix p e))
+
+  -- the ordered walk of what is below p
   abbrev pub walk : NibbleMap P → List ℕ → List (List ℕ × P)
   walk m p = map.entries (below m p)
 

@@ -7,4 +7,5 @@ pub mod map_laws;
 pub mod query_laws;
 pub mod same_laws;
 pub mod tree_laws;
+pub mod turned_laws;
 pub mod worked_rows;

@@ -1,15 +1,15 @@
 //! Laws of the finite map from nibble lists: its entries, its edits, other values in their place.
 
-ghost use Rattle.nibble_map.specs.Lists.{IsRising, Lists, is_prefix};
+ghost use Rattle.nibble_map.specs.Lists.{IsPrefix, IsRising, Lists, is_prefix};
 ghost use Rattle.nibble_map.specs.MapQueries.{AreSame, IsSame};
-ghost use Rattle.nibble_map.specs.Maps.{NibbleMap, PairMap, IsStored, below, walk, with_value, mapped};
+ghost use Rattle.nibble_map.specs.Maps.{NibbleMap, PairMap, IsPoint, IsStem, IsStored, below, without_below, walk, with_value, mapped};
 ghost use Rattle.nibble_map.specs.Queries as queries;
 ghost use Rattle.nibble_map.specs.Stored as stored;
 ghost use Rattle.nibble_map.specs.Swaps.{Swaps, entry};
 ghost use Rattle.std.specs.Cmp.Lexicographic.{slice_cmp};
 ghost use Rattle.std.specs.FinMap as map;
 ghost use Rattle.std.specs.Ordering.{nat_cmp};
-ghost use Rattle.std.specs.Prelude.{[], ◌&&◌, ◌↔◌, ◌≡◌, ◌≢◌, map as each, fold, not, Bool, IsTrue, List, None, Option, Some, T, option_map, ℕ};
+ghost use Rattle.std.specs.Prelude.{[], ◌&&◌, ◌+◌, ◌↔◌, ◌≡◌, ◌≢◌, map as each, cond, filter, fold, not, Bool, IsTrue, List, None, Option, Some, T, option_map, ℕ};
 
 /// What a map holds, by its list of entries: the keys are the stored lists in rising order, and the walk below a
 /// path is the entries below it.
@@ -59,11 +59,55 @@ pub fn mapped_follows_the_map<P, Q>()
     ensures insert { (f : P → Q) (m : NibbleMap P) (e : List ℕ) (p : P) → mapped f (map.insert m e p) ≡ map.insert (mapped f m) e (f p) }
     ensures remove { (f : P → Q) (m : NibbleMap P) (e : List ℕ) → mapped f (map.remove m e) ≡ map.remove (mapped f m) e }
     ensures below { (f : P → Q) (m : NibbleMap P) (p : List ℕ) → mapped f (below m p) ≡ below (mapped f m) p }
+    ensures rest { (f : P → Q) (m : NibbleMap P) (p : List ℕ) →
+        mapped f (without_below m p) ≡ without_below (mapped f m) p }
 {}
 
 /// The entries of a map, inserted one after another, give the map.
 pub fn entries_rebuild_the_map<P>()
     ensures { (m : NibbleMap P) → fold (λ n e. map.insert n e.0 e.1) map.empty (map.entries m) ≡ m }
+{}
+
+/// What is left of a map without all below a path: the lists that haven't the prefix, with the pairs that they had. What was
+/// taken, put back, makes the map.
+pub fn rest_of_a_map<P>()
+    ensures get { (m : NibbleMap P) (p e : List ℕ) →
+        map.get (without_below m p) e ≡ cond (is_prefix p e) None (map.get m e) }
+    ensures stored { (m : NibbleMap P) (p e : List ℕ) → IsStored (without_below m p) e →
+        IsStored m e × (IsPrefix p e → ⊥) }
+    ensures elsewhere { (m : NibbleMap P) (p e : List ℕ) → IsStored m e → (IsPrefix p e → ⊥) →
+        IsStored (without_below m p) e }
+    ensures below { (m : NibbleMap P) (p : List ℕ) → below (without_below m p) p ≡ map.empty }
+    ensures put_back { (m : NibbleMap P) (p : List ℕ) →
+        fold (λ n e. map.insert n e.0 e.1) (without_below m p) (walk m p) ≡ m }
+    ensures len { (m : NibbleMap P) (p : List ℕ) →
+        map.len (without_below m p) + map.len (below m p) ≡ map.len m }
+    ensures nothing { (m : NibbleMap P) (p : List ℕ) → map.len (below m p) ≡ 0 →
+        without_below m p ≡ m }
+{}
+
+/// The points and prefixes of what is left: none is new, those neither above nor below the path stay, and of those at and
+/// below it the empty list alone.
+pub fn points_of_the_rest<P>()
+    ensures point_before { (m : NibbleMap P) (p q : List ℕ) →
+        IsPoint (without_below m p) q → IsPoint m q }
+    ensures point_apart { (m : NibbleMap P) (p q : List ℕ) →
+        (IsPrefix q p → ⊥) → (IsPrefix p q → ⊥) → IsPoint m q → IsPoint (without_below m p) q }
+    ensures point_below { (m : NibbleMap P) (p q : List ℕ) →
+        IsPrefix p q → IsPoint (without_below m p) q → q ≡ [] }
+    ensures stem_before { (m : NibbleMap P) (p q : List ℕ) →
+        IsStem (without_below m p) q → IsStem m q }
+    ensures stem_apart { (m : NibbleMap P) (p q : List ℕ) →
+        (IsPrefix q p → ⊥) → (IsPrefix p q → ⊥) → IsStem m q → IsStem (without_below m p) q }
+    ensures stem_below { (m : NibbleMap P) (p q : List ℕ) →
+        IsPrefix p q → IsStem (without_below m p) q → ⊥ }
+{}
+
+/// A run cut from a rising list of entries, of all whose lists have a prefix, leaves the map without what is below it.
+pub fn rest_by_swaps<P>()
+    ensures { (p : List ℕ) (gone old new : List (List ℕ × P)) → IsRising (stored.stored old) →
+        Swaps gone [] old new → filter (λ e. is_prefix p e.0) old ≡ gone →
+        map.from_sorted {R = slice_cmp nat_cmp} new ≡ without_below (map.from_sorted old) p }
 {}
 
 /// A value written at a stored list changes that value alone; at an absent list nothing changes.

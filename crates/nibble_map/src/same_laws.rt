@@ -43,3 +43,8 @@ pub fn copies_keep_the_map<P, K: Clone, V: Clone>()
     ensures { (row : P → K × V) (t u : Tree P) → IsFullRoot t → IsCopy (λ x y. IsPairClone K.is_clone V.is_clone (row x) (row y)) t u
         → IsMapCopy (IsPairClone K.is_clone V.is_clone) (map.from_sorted (rows_of row t)) (map.from_sorted (rows_of row u)) }
 {}
+
+/// A copy of a map whose clones are the values themselves is that map.
+pub fn plain_copies_are_the_map<K, V>()
+    ensures { (m copy : PairMap K V) → IsMapCopy (IsPairClone (λ x y. y ≡ x) (λ x y. y ≡ x)) m copy → copy ≡ m }
+{}

@@ -2,7 +2,7 @@
 
 ghost use Rattle.nibble_map.specs.Computed.{ancestor, compared, footprint, fragment, is_point, kids, points, raw_ancestor, raw_descendant};
 ghost use Rattle.nibble_map.specs.Maps.{NibbleMap};
-ghost use Rattle.nibble_map.specs.Nibbles.{nibbles};
+ghost use Rattle.nibble_map.specs.Nibbles.{nibbles, IsShort};
 ghost use Rattle.nibble_map.specs.Queries.{below};
 ghost use Rattle.nibble_map.specs.Rows.{inserted, insert_all, removed, number_at, values, text, nothing, nested_texts, a_abc_abd, abc_abd, ab_and_a_half, abc_abcdef, aba_abb_abc_z, abcz_abca, two_bytes, signed_bytes, low_bytes_first, umlauts, wow_hella_hellb, odd_nibbles, letters_a, long_twins, short_and_long, chain};
 ghost use Rattle.std.specs.FinMap as map;
@@ -261,4 +261,10 @@ pub fn chain_of_texts()
 /// The first two of the nested texts' walk.
 pub fn walk_begins_with_the_shortest()
     ensures { take 2 nested_texts ≡ text (codes "a") 15 ∷ text (codes "ab") 16 ∷ [] }
+{}
+
+/// A list of 32 nibbles is short, and one of 33 is not.
+pub fn short_lists_end_at_32()
+    ensures short { IsShort (nibbles (letters_a 16)) }
+    ensures long { IsShort (0 ∷ nibbles (letters_a 16)) → ⊥ }
 {}

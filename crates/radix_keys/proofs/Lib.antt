@@ -3,3 +3,4 @@ pub mod Items
 pub mod NibblesOfBytes
 pub mod Order
 pub mod Packing
+pub mod AscendingOrder

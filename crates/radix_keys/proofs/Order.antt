@@ -10,7 +10,8 @@ use Rattle.radix_keys.specs.Integers.{unsigned_key}
 use Rattle.radix_keys.specs.Order.{Precedes, SignedPrecedes, KeepsByteOrder, KeepsUnsignedOrder, KeepsSignedOrder}
 use mir.Val.{bits, hbits}
 
-three_ways : (x y : ℕ) → (x < y) ⊎ ((x ≡ y) ⊎ (y < x))
+-- which of two numbers is the greater
+pub three_ways : (x y : ℕ) → (x < y) ⊎ ((x ≡ y) ⊎ (y < x))
 three_ways zero zero = inr (inl refl)
 three_ways zero (suc y) = inl (omega arith)
 three_ways (suc x) zero = inr (inr (omega arith))

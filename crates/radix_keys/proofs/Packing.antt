@@ -10,6 +10,7 @@ use Rattle.nibble_map.specs.Nibbles.{nibbles}
 use Rattle.radix_keys.specs.Distinct.{nibbles-injective}
 use Rattle.radix_keys.specs.Packing.{unpacked, IsPadded, IsPacked}
 use Rattle.radix_keys.proofs.NibblesOfBytes.{length-nibbles, nibbles-append, get_or-nibbles_even, get_or-nibbles_odd}
+use Rattle.nibble_map.proofs.SameTests.{same_answer}
 
 -- the count of an odd list is odd, and two nibbles share a byte
 pub is_odd-count : (bs : List ℕ) (odd : Bool) → IsPadded bs odd → odd ≡ true → length (unpacked bs odd) + 1 ≡ 2 * length bs
@@ -124,16 +125,10 @@ same-flag a b true true p q e = refl
 same-flag a b false true p q e = absurd (omega (arith, ap length e, is_even-count a false refl, is_odd-count b true q refl))
 same-flag a b true false p q e = absurd (omega (arith, ap length e, is_odd-count a true p refl, is_even-count b false refl))
 
-same-truth : (r s : Bool) → (r ≡ true → s ≡ true) → (s ≡ true → r ≡ true) → r ≡ s
-same-truth false false f b = refl
-same-truth true true f b = refl
-same-truth false true f b = b refl
-same-truth true false f b = sym (f refl)
-
 -- where the flags agree the bytes decide
 eq-bytes : (a b : List ℕ) (odd : Bool) → IsPadded a odd → IsPadded b odd
     → pointwise nat_eq a b ≡ pointwise nat_eq (unpacked a odd) (unpacked b odd)
-eq-bytes a b odd p q = same-truth (pointwise nat_eq a b) (pointwise nat_eq (unpacked a odd) (unpacked b odd))
+eq-bytes a b odd p q = same_answer (pointwise nat_eq a b) (pointwise nat_eq (unpacked a odd) (unpacked b odd))
     (λ s. (bytes_eq-Decides (unpacked a odd) (unpacked b odd)).1 (ap (λ t. unpacked t odd) ((bytes_eq-Decides a b).0 s)))
     (λ s. (bytes_eq-Decides a b).1 (same-bytes a b odd p q ((bytes_eq-Decides (unpacked a odd) (unpacked b odd)).0 s)))
 
@@ -147,7 +142,7 @@ eq-same_flag a b true true p q e = eq-bytes a b true p q
 -- and where they don't the lists differ
 pub eq-other_flag : (a b : List ℕ) (g h : Bool) → IsPadded a g → IsPadded b h → beq g h ≡ false
     → beq g h ≡ pointwise nat_eq (unpacked a g) (unpacked b h)
-eq-other_flag a b g h p q e = same-truth (beq g h) (pointwise nat_eq (unpacked a g) (unpacked b h))
+eq-other_flag a b g h p q e = same_answer (beq g h) (pointwise nat_eq (unpacked a g) (unpacked b h))
     (λ s. cc)
     (λ s. flags g h (same-flag a b g h p q ((bytes_eq-Decides (unpacked a g) (unpacked b h)).0 s)))
   where

@@ -335,3 +335,48 @@ impl<T: KeyInt> PartialEq for LittleEndian<T> {
 impl<T: KeyInt> Eq for LittleEndian<T> {
     ghost laws = { T.Eq.laws };
 }
+
+/// A signed integer that is encoded so that the smaller number comes first.
+#[derive(Clone, Copy)]
+pub struct Ascending<T> {
+    value: T,
+}
+
+impl<T> Model for Ascending<T> {
+    ghost Value = { T };
+
+    ghost view = { λ w. w.value };
+
+    ghost inverse = { λ x. record { value = x } };
+}
+
+impl<T: KeyInt> Ascending<T> {
+    /// The integer that the wrapper was made from.
+    pub fn value(&self) -> T
+        ensures { result ≡ self.now }
+    {
+        self.value
+    }
+}
+
+impl<T: KeyInt> From<T> for Ascending<T> {
+    ghost from_gives = { λ x w. w ≡ x };
+
+    fn from(value: T) -> Ascending<T> {
+        Ascending { value }
+    }
+}
+
+impl<T: KeyInt> PartialEq for Ascending<T> {
+    ghost eq = { T.eq };
+
+    ghost laws = { T.PartialEq.laws };
+
+    fn eq(&self, other: &Ascending<T>) -> bool {
+        self.value == other.value
+    }
+}
+
+impl<T: KeyInt> Eq for Ascending<T> {
+    ghost laws = { T.Eq.laws };
+}

@@ -8,7 +8,10 @@ ghost use Rattle.radix_keys.specs.Order.{KeepsByteOrder};
 use crate::nibbles::{BytesError, Memory, Nibblet};
 use std::alloc::Global;
 
+mod ascending;
 mod integers;
+
+pub use ascending::KeySigned;
 
 /// A value that is encoded as a list of nibbles, its place in a trie.
 ///

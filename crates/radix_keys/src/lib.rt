@@ -7,6 +7,6 @@ pub mod nibbles;
 #[cfg(test)]
 mod tests;
 
-pub use endian::{BigEndian, KeyInt, LittleEndian};
-pub use keys::TrieKey;
+pub use endian::{Ascending, BigEndian, KeyInt, LittleEndian};
+pub use keys::{KeySigned, TrieKey};
 pub use nibbles::{BytesError, Memory, NibbleVec, Nibblet};

@@ -158,12 +158,7 @@ impl NibbleVec {
         ensures ok { IfOk result (λ v. v ≡ self.now) }
         ensures succeeds { IsShort self.now → IsOk result }
     {
-        let bytes = SmallVec::from_slice(*self.bytes.allocator(), self.bytes.as_slice())?;
-        let _ = bytes.spilled();
-        Ok(NibbleVec {
-            bytes,
-            is_odd: self.is_odd,
-        })
+        Ok(Clone::clone(self)?)
     }
 
     /// Keeps the first `i` nibbles, at most all, and hands out the rest.
@@ -179,6 +174,23 @@ impl NibbleVec {
         let rest = self.tail(i)?;
         self.truncate(i);
         Ok(rest)
+    }
+
+    /// Keeps the first `i` nibbles, at most all. It takes no memory.
+    pub fn truncate(&mut self, i: usize)
+        requires { i ≤ length self.old }
+        ensures { self.new ≡ take i self.old }
+    {
+        let whole = i / 2;
+        if i % 2 == 0 {
+            self.bytes.truncate(whole);
+            self.is_odd = false;
+        } else {
+            self.bytes.truncate(whole + 1);
+            let byte = self.bytes[whole];
+            self.bytes[whole] = byte - byte % 16;
+            self.is_odd = true;
+        }
     }
 
     /// The list followed by the other.
@@ -232,23 +244,6 @@ impl NibbleVec {
             bytes: rest,
             is_odd: true,
         })
-    }
-
-    /// Keeps the first `i` nibbles.
-    fn truncate(&mut self, i: usize)
-        requires { i ≤ length self.old }
-        ensures { self.new ≡ take i self.old }
-    {
-        let whole = i / 2;
-        if i % 2 == 0 {
-            self.bytes.truncate(whole);
-            self.is_odd = false;
-        } else {
-            self.bytes.truncate(whole + 1);
-            let byte = self.bytes[whole];
-            self.bytes[whole] = byte - byte % 16;
-            self.is_odd = true;
-        }
     }
 
     /// Appends the nibbles of another list.
@@ -316,6 +311,26 @@ fn push_shifted(out: &mut SmallVec<u8, 16>, high: u8, bytes: &[u8]) -> u8
         half = byte % 16;
     }
     half
+}
+
+// The same list, for code that is generic over `Clone`, such as a trie's own `clone`.
+impl Clone for NibbleVec {
+    ghost is_clone = { λ list copy. copy ≡ list };
+
+    ghost is_infallible = { IsShort };
+
+    fn clone(&self) -> Result<NibbleVec, AllocError> {
+        match SmallVec::from_slice(*self.bytes.allocator(), self.bytes.as_slice()) {
+            Ok(bytes) => {
+                let _ = bytes.spilled();
+                Ok(NibbleVec {
+                    bytes,
+                    is_odd: self.is_odd,
+                })
+            }
+            Err(refused) => Err(refused),
+        }
+    }
 }
 
 impl PartialEq for NibbleVec {

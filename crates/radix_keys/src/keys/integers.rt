@@ -331,7 +331,7 @@ fn encode_integer<T: KeyInt>(alloc: Global, x: &T) -> Result<Nibblet, Memory>
 }
 
 /// Appends the bytes of an integer, the highest first.
-fn push_bytes<T: KeyInt>(out: &mut SmallVec<u8, 16>, x: &T) -> Result<(), Memory>
+pub(super) fn push_bytes<T: KeyInt>(out: &mut SmallVec<u8, 16>, x: &T) -> Result<(), Memory>
     requires { 16 ≤ out.old.capacity }
     ensures ok { OnOk result (out.new.items ≡ out.old.items ++ T.bytes x.now) }
     ensures value { OnOk result (T.is_value x.now) }

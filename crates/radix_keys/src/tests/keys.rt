@@ -44,6 +44,27 @@ fn wrappers(rt: HostRuntime) {
 }
 
 #[test]
+fn ascending_integers(rt: HostRuntime) {
+    let a = rt.alloc();
+    assert!(rt; encodes(a, &Ascending::from(-2i8), "7e"));
+    assert!(rt; encodes(a, &Ascending::from(-1i8), "7f"));
+    assert!(rt; encodes(a, &Ascending::from(0i8), "80"));
+    assert!(rt; encodes(a, &Ascending::from(1i8), "81"));
+    assert!(rt; encodes(a, &Ascending::from(-1isize), "7fffffffffffffff"));
+}
+
+#[test]
+fn ascending_bounds(rt: HostRuntime) {
+    let a = rt.alloc();
+    assert!(rt; encodes(a, &Ascending::from(i16::MIN), "0000"));
+    assert!(rt; encodes(a, &Ascending::from(-2i16), "7ffe"));
+    assert!(rt; encodes(a, &Ascending::from(i16::MAX), "ffff"));
+    assert!(rt; encodes(a, &Ascending::from(i32::MIN), "00000000"));
+    assert!(rt; encodes(a, &Ascending::from(i64::MAX), "ffffffffffffffff"));
+    assert!(rt; Ascending::from(-2i16).value() == -2);
+}
+
+#[test]
 fn vectors(rt: HostRuntime) {
     let a = rt.alloc();
     if let Ok(words) = Vec::from_slice(a, &[1u16, 258]) {

@@ -29,6 +29,20 @@ fn a_list_is_split(rt: HostRuntime) -> Result<(), Fail> {
 }
 
 #[test]
+fn a_list_is_cut_short(rt: HostRuntime) -> Result<(), Fail> {
+    let a = rt.alloc();
+    for (count, kept) in [(0, ""), (1, "1"), (3, "123"), (4, "1234")] {
+        let mut cut = list(a, &[1, 2, 3, 4])?;
+        assert!(rt; count <= cut.len());
+        cut.truncate(count);
+        assert!(rt; reads(&cut, kept), "to {count}");
+        cut.push(5)?;
+        assert!(rt; cut.get(count) == 5, "to {count}");
+    }
+    Ok(())
+}
+
+#[test]
 fn lists_are_joined(rt: HostRuntime) -> Result<(), Fail> {
     let a = rt.alloc();
     for (front, back, whole) in [

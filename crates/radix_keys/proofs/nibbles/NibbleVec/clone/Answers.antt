@@ -1,9 +1,0 @@
-use Rattle.std.proofs.Common.{◌≡◌, arith, ap, length, true, false}
-use Rattle.radix_keys.proofs.Packing.{length-bytes}
-use Rattle.radix_keys.proofs.nibbles.NibbleVec.clone.Goals as goal
-
-pub returns-in_err-bytes-clause-succeeds : goal.returns-in_err-bytes-clause-succeeds
-returns-in_err-bytes-clause-succeeds c = λ short.
-    let refused : false ≡ true = c.in_err-bytes.ensures.succeeds
-    (omega (arith, ap length c.self.view_is, ap length c.as_slice.ensures, length-bytes c.self.inside.bytes.items c.self.inside.is_odd c.self.invariant.padded)) in
-    cc

@@ -7,6 +7,7 @@ use Rattle.nibble_map.specs.Masks.{IsRisingFrom, bit_of}
 use Rattle.nibble_map.proofs.KeptKids.{placed_rises}
 use Rattle.radix_nodes.specs.declared.trie_node.TrieNode.{TrieNode}
 use Rattle.radix_nodes.specs.Nodes.{kids_of, tree_of}
+use Rattle.radix_nodes.proofs.Steps.{firsts_length}
 
 -- x isn't a number of the list that has no bit at 16 or above
 first_low : (x : ℕ) (xs : List ℕ) → ((n : ℕ) → 16 ≤ n → bit_of n (x ∷ xs) ≡ 0) → x < 16
@@ -31,9 +32,5 @@ module _ {P : Type 0} where
       omega (arith, few)
 
 module _ {K V : Type 0} where
-  length_firsts : (bs : List (Box (TrieNode K V) Global)) → length (firsts (kids_of bs)) ≡ length bs
-  length_firsts [] = refl
-  length_firsts (b ∷ bs) = omega (arith, length_firsts bs)
-
   pub few_children : (n : TrieNode K V) (bs : List (Box (TrieNode K V) Global)) → kids_of bs ≡ (tree_of n).kids → IsTreePlaced (tree_of n) → length bs ≤ 16
-  few_children n bs is placed = omega (arith, few_kids (tree_of n) placed, length_firsts bs, ap (λ k. length (firsts k)) is)
+  few_children n bs is placed = omega (arith, few_kids (tree_of n) placed, firsts_length bs, ap (λ k. length (firsts k)) is)

@@ -8,8 +8,8 @@ use Rattle.std.specs.declared.alloc.Global.{Global}
 use Rattle.nibble_map.specs.Swaps.{Swaps, entry}
 use Rattle.nibble_map.specs.Kept.{Tree, Kids, IsAt, IsTreePlaced, entries_at, entries_in}
 use Rattle.nibble_map.specs.KeptPaths.{IsNodeAt, IsHeld}
-use Rattle.nibble_map.specs.Alters.{AltersNode}
-use Rattle.nibble_map.proofs.KeptEdits.{kid_alters, node_kid}
+use Rattle.nibble_map.specs.Alters.{AltersNode, Rewrites}
+use Rattle.nibble_map.proofs.KeptEdits.{kid_entry, node_kid}
 use Rattle.nibble_map.proofs.KeptPaths.{held_node, one_node}
 use Rattle.radix_nodes.specs.declared.trie_node.KeyValue.{KeyValue}
 use Rattle.radix_nodes.specs.declared.trie_node.TrieNode.{TrieNode, out-TrieNode, roll-TrieNode}
@@ -39,7 +39,7 @@ module _ {K V : Type 0} where
   -- a node itself gets another value
   revalued : (f : List ℕ) (o p : Option (KeyValue K V)) (m : ℕ) (k : Kids (KeyValue K V)) → IsSameKey o p →
       let u : Tree (KeyValue K V) = record { fragment = f; pair = o; mask = m; kids = k } in let w : Tree (KeyValue K V) = record { fragment = f; pair = p; mask = m; kids = k } in
-      IsTreePlaced u → AltersNode f o p 0 0 0 0 u w
+      IsTreePlaced u → Rewrites f o p u w
   revalued f o p m k e h = record {
     full = λ g. (elim g.0 [ inl s ↦ inl (same_some o p e s) | inr a ↦ inr a ], g.1);
     root = record {
@@ -56,9 +56,9 @@ module _ {K V : Type 0} where
     };
   }
 
-  revalued_alters : (u w : Tree (KeyValue K V)) → IsTreePlaced u → IsRevalued u w → AltersNode u.fragment u.pair w.pair 0 0 0 0 u w
+  revalued_alters : (u w : Tree (KeyValue K V)) → IsTreePlaced u → IsRevalued u w → Rewrites u.fragment u.pair w.pair u w
   revalued_alters u w h r =
-      subst (λ t. AltersNode u.fragment u.pair w.pair 0 0 0 0 u t)
+      subst (λ t. Rewrites u.fragment u.pair w.pair u t)
       (sym (rebuilt w.fragment w.mask w.kids r.fragment r.mask r.kids))
       (revalued u.fragment u.pair w.pair u.mask u.kids r.key h)
     where
@@ -69,7 +69,7 @@ module _ {K V : Type 0} where
   pub own_replaced : (n w : TrieNode K V) (key : List ℕ) (depth : ℕ) → depth ≡ length key → IsTreePlaced (tree_of n) → Replaces (fragment_of n ++ drop depth key) (tree_of n) (tree_of w) (tree_of n) (tree_of w)
   own_replaced n w key depth e h =
       let d : IsNodeAt (tree_of n) (fragment_of n ++ drop depth key) (tree_of n) = node_here n key depth e in
-      record { node = d; alters = λ r. subst (λ p. AltersNode p (tree_of n).pair (tree_of w).pair 0 0 0 0 (tree_of n) (tree_of w)) (at d) (revalued_alters (tree_of n) (tree_of w) h r) }
+      record { node = d; alters = λ r. subst (λ p. Rewrites p (tree_of n).pair (tree_of w).pair (tree_of n) (tree_of w)) (at d) (revalued_alters (tree_of n) (tree_of w) h r) }
     where
       at : IsNodeAt (tree_of n) (fragment_of n ++ drop depth key) (tree_of n) → (tree_of n).fragment ≡ fragment_of n ++ drop depth key
       at d = fragment_out n ∙ sym (append-nil (fragment_of n)) ∙ ap (λ r. fragment_of n ++ r) (sym (ended e))
@@ -91,10 +91,10 @@ module _ {K V : Type 0} where
     child_replaced b' u w r = record {
       node = found_up n b.value key depth i next h s b is refl u r.node;
       alters = λ v.
-          let below = subst (λ p. AltersNode p u.pair w.pair 0 0 0 0 (tree_of b.value) (tree_of b'.value)) path (r.alters v) in
-          let e = kid_alters (tree_of n) (tree_of b.value) (tree_of b'.value) i (drop depth key) u.pair w.pair 0 0 0 0 h at (node_kid _ _ _ _ _ _ _ _ _ below) in
-          subst (λ f. AltersNode (f ++ drop depth key) u.pair w.pair 0 0 0 0 (tree_of n) (tree_of (with_child n i b'))) (fragment_out n)
-          (subst (λ t. AltersNode ((tree_of n).fragment ++ drop depth key) u.pair w.pair 0 0 0 0 (tree_of n) t) (sym (kid_new n i b')) e);
+          let below = subst (λ p. Rewrites p u.pair w.pair (tree_of b.value) (tree_of b'.value)) path (r.alters v) in
+          let e = kid_entry (tree_of n) (tree_of b.value) (tree_of b'.value) i (drop depth key) u.pair w.pair 0 0 0 0 h at (node_kid _ _ _ _ _ _ _ _ below) in
+          subst (λ f. Rewrites (f ++ drop depth key) u.pair w.pair (tree_of n) (tree_of (with_child n i b'))) (fragment_out n)
+          (subst (λ t. Rewrites ((tree_of n).fragment ++ drop depth key) u.pair w.pair (tree_of n) t) (sym (kid_new n i b')) e);
     }
 
     pub child_kept : {A : Type 0} (r : Option A) (b' : Box (TrieNode K V) Global) → KeepsNode r (fragment_of b.value ++ drop next key) (tree_of b.value) (tree_of b'.value) →
@@ -117,7 +117,7 @@ module _ {K V : Type 0} where
       ∙ ap (λ ks. keys_of s.before ++ ks) (map-append keyed (entry p now) s.after ∙ ap (λ ks. ks ++ keys_of s.after) (sym (keys_entry p was now e)) ∙ sym (map-append keyed (entry p was) s.after))
       ∙ sym (map-append keyed s.before (entry p was ++ s.after)) ∙ ap keys_of (sym s.was)
 
-  like_of : (p : List ℕ) (was now : Option (KeyValue K V)) (old new : Tree (KeyValue K V)) → IsSameKey was now → AltersNode p was now 0 0 0 0 old new → IsLike old new
+  like_of : (p : List ℕ) (was now : Option (KeyValue K V)) (old new : Tree (KeyValue K V)) → IsSameKey was now → Rewrites p was now old new → IsLike old new
   like_of p was now old new e a =
       let c = a.root.alters in
       let f = ap length a.root.fragment in
@@ -130,7 +130,7 @@ module _ {K V : Type 0} where
         nibbles = omega (arith, c.nibbles, f);
       }
 
-  kept_of : (p : List ℕ) (was : Option (KeyValue K V)) (old new : Tree (KeyValue K V)) → IsSameKey was was → AltersNode p was was 0 0 0 0 old new → IsKept old new
+  kept_of : (p : List ℕ) (was : Option (KeyValue K V)) (old new : Tree (KeyValue K V)) → IsSameKey was was → Rewrites p was was old new → IsKept old new
   kept_of p was old new e a = record { like = like_of p was was old new e a; same = λ q. (let s = a.root.alters.swaps q in s.is ∙ sym s.was) }
 
   itself : (o : Option (KeyValue K V)) → IsSameKey o o
@@ -157,10 +157,10 @@ module _ {K V : Type 0} where
       key = subst (λ p. IsSameKey (tree_of n).pair p) (sym written_pair) (subst (λ p. IsSameKey p (unboxed o)) (sym (pair_out n)) e);
     }
 
-    changed : IsSameKey (unboxed (out-TrieNode K V n).pair) (unboxed o) → Replaces path (tree_of n) (tree_of written) old new → AltersNode path (unboxed (out-TrieNode K V n).pair) (unboxed o) 0 0 0 0 old new
+    changed : IsSameKey (unboxed (out-TrieNode K V n).pair) (unboxed o) → Replaces path (tree_of n) (tree_of written) old new → Rewrites path (unboxed (out-TrieNode K V n).pair) (unboxed o) old new
     changed e r =
-        subst (λ p. AltersNode path p (unboxed o) 0 0 0 0 old new) (pair_out n)
-        (subst (λ p. AltersNode path (tree_of n).pair p 0 0 0 0 old new) written_pair (r.alters (revalues e)))
+        subst (λ p. Rewrites path p (unboxed o) old new) (pair_out n)
+        (subst (λ p. Rewrites path (tree_of n).pair p old new) written_pair (r.alters (revalues e)))
 
   pub value_like : (n : TrieNode K V) (path : List ℕ) (old new : Tree (KeyValue K V)) (w : V) →
       Replaces path (tree_of n) (tree_of (written n path old new (write_value (out-TrieNode K V n).pair w))) old new → IsLike old new
@@ -173,11 +173,11 @@ module _ {K V : Type 0} where
   value_written n at old new None w is s = tt
   value_written n path old new (Some x) w is s = go (out-TrieNode K V n).pair is (changed n path old new (write_value (out-TrieNode K V n).pair w) (written_key (out-TrieNode K V n).pair w) s)
     where
-      go : (o : Option (Box (KeyValue K V) Global)) → IsLentPair (Some x) o → AltersNode path (unboxed o) (unboxed (write_value o w)) 0 0 0 0 old new → Revalues path x.now w old new
+      go : (o : Option (Box (KeyValue K V) Global)) → IsLentPair (Some x) o → Rewrites path (unboxed o) (unboxed (write_value o w)) old new → Revalues path x.now w old new
       go None e a = absurd e
       go (Some b) e a = record {
         key = b.value.key;
-        alters = subst (λ v. AltersNode path (Some (record { key = b.value.key; value = v })) (Some (record { key = b.value.key; value = w })) 0 0 0 0 old new) (sym e) a;
+        alters = subst (λ v. Rewrites path (Some (record { key = b.value.key; value = v })) (Some (record { key = b.value.key; value = w })) old new) (sym e) a;
       }
 
   pub value_kept : (n : TrieNode K V) (path : List ℕ) (old new : Tree (KeyValue K V)) → Replaces path (tree_of n) (tree_of (written n path old new (out-TrieNode K V n).pair)) old new → IsKept old new

@@ -4,6 +4,9 @@ pub mod Removes
 pub mod Placed
 pub mod Searches
 pub mod Sizes
+pub mod Pairs
+pub mod Drains
+pub mod Branches
 pub mod SameNodes
 pub mod Lent
 pub mod Lending
@@ -11,3 +14,4 @@ pub mod FewKids
 pub mod CopiedNodes
 pub mod Soundness
 pub mod Counted
+pub mod AscendingNodes

@@ -7,9 +7,9 @@ use Rattle.nibble_map.specs.Trees.{AreMany, first}
 use Rattle.radix_nodes.specs.declared.trie_node.KeyValue.{KeyValue}
 use Rattle.radix_nodes.specs.declared.trie_node.TrieNode.{TrieNode, out-TrieNode, roll-TrieNode, out-roll-TrieNode}
 use Rattle.nibble_map.specs.Masks.{cleared}
-use Rattle.nibble_map.specs.Kept.{Tree, Kids, none, more, front, plain, IsAt, IsTreePlaced, IsTreeFull, firsts}
+use Rattle.nibble_map.specs.Kept.{Tree, Kids, none, more, front, plain, IsAt, IsTreePlaced, IsTreeFull, firsts, nodes_in, nibbles_in}
 use Rattle.nibble_map.specs.KeptEdits.{IsOne, remove_kid, without_pair, without_kid, merged, merged_into, set_kid, with_kid}
-use Rattle.nibble_map.specs.Alters.{Cuts, CutsRoot}
+use Rattle.nibble_map.specs.Alters.{none_of, AltersKid, AltersRoot, Cuts, CutsRoot, Prunes, PrunesRoot}
 use Rattle.radix_nodes.specs.Nodes.{unboxed, tree_of, kids_of, fragment_of, CutOutcome, RootOutcome}
 use Rattle.radix_nodes.specs.declared.traversal.remove.Taken.{Taken}
 use Rattle.radix_nodes.proofs.Nodes.{tree_roll, tree_out, pair_is, mask_is, kids_are, kids_set, kids_out, pair_out, mask_out, fragment_out}
@@ -19,10 +19,10 @@ use Rattle.nibble_map.specs.Nibbles.{IsShort}
 use Rattle.nibble_map.specs.KeptPaths.{reach}
 use Rattle.nibble_map.proofs.KeptPaths.{at_reach}
 use Rattle.nibble_map.proofs.KeptKids.{set_same, at_same, some_at}
-use Rattle.nibble_map.proofs.KeptEdits.{kid_alters, node_kid}
+use Rattle.nibble_map.proofs.KeptEdits.{kid_entry, node_kid}
 use Rattle.std.specs.Vec.{with_item}
 use Rattle.radix_keys.specs.declared.nibbles.Memory.{Memory}
-use Rattle.nibble_map.proofs.KeptCuts.{pair_goes, leaf_goes, root_kid, merged_kid, remove_full}
+use Rattle.nibble_map.proofs.KeptCuts.{pair_goes, leaf_run, root_kid, merged_kid, remove_full}
 
 pub if_ok : {A E : Type 0} (P Q : A → Type 0) (r : Result A E) → IfOk r P → ((a : A) → P a → Q a) → IfOk r Q
 if_ok P Q (Ok a) h f = f a h
@@ -125,12 +125,12 @@ module _ {K V : Type 0} where
         Cuts (fragment_of n) x 1 0 (tree_of n) t'
     merged_cut t' e top et =
         subst (λ f. Cuts f x 1 0 (tree_of n) t') (fragment_out n) (subst (λ t. Cuts (tree_of n).fragment x 1 0 (tree_of n) t) (sym et)
-        (merged_kid _ (Some x) None 0 0 0 0 (tree_of n) (without_pair (tree_of n)) (pair_goes (tree_of n) x is h) refl (one_kid n e) (λ z. top (sym (fragment_out n) ∙ z))))
+        (merged_kid _ _ 0 0 0 0 (tree_of n) (without_pair (tree_of n)) (pair_goes (tree_of n) x is h) refl (one_kid n e) (λ z. top (sym (fragment_out n) ∙ z))))
 
     pub pair_cut : (t' : Tree (KeyValue K V)) → 1 < length (out-TrieNode K V n).children.items → t' ≡ without_pair (tree_of n) → Cuts (fragment_of n) x 0 0 (tree_of n) t'
     pair_cut t' e et =
         subst (λ f. Cuts f x 0 0 (tree_of n) t') (fragment_out n) (subst (λ t. Cuts (tree_of n).fragment x 0 0 (tree_of n) t) (sym et)
-        (root_kid _ (Some x) None 0 0 0 0 (tree_of n) (without_pair (tree_of n)) (pair_goes (tree_of n) x is h) (λ f. (inr (many_kids n e), f.1))))
+        (root_kid _ _ 0 0 0 0 (tree_of n) (without_pair (tree_of n)) (pair_goes (tree_of n) x is h) (λ f. (inr (many_kids n e), f.1))))
 
 module _ {P : Type 0} where
   pub many_removed : (i : ℕ) (k : Kids P) → AreMany (plain k) → length (firsts k) ≢ 2 → AreMany (plain (remove_kid i k))
@@ -166,33 +166,27 @@ module _ {K V : Type 0} where
       let e = ap length (fragment_out n) in
       omega (arith, h s.0 s.1, r, e)
 
-  -- a leaf that was taken out, by what was made of it
-  module _ (n leaf : TrieNode K V) (i : ℕ) (u : Tree (KeyValue K V)) (h : IsTreePlaced (tree_of n)) (at : IsAt i (tree_of n).kids (tree_of leaf)) (asked : IsAt i (tree_of n).kids u)
-      (ends : u.kids ≡ none) (y : ℕ) (start : first (tree_of leaf).fragment ≡ y) (low : y < 16) where
-    same : u ≡ tree_of leaf
-    same = at_same i (tree_of n).kids (tree_of leaf) u at asked
+  -- a leaf that was cut off, by what was made of it
+  module _ (old new : Tree (KeyValue K V)) (s : List ℕ) (leaf : TrieNode K V) (nodes : ℕ) (ends : (tree_of leaf).kids ≡ none) (has : unboxed (out-TrieNode K V leaf).pair ≢ None) where
+    abbrev LeafTaken : Option (Taken K V) → Type 0
+    LeafTaken r = MatchOption r (unboxed (out-TrieNode K V leaf).pair ≡ None)
+        (λ t. (unboxed (out-TrieNode K V leaf).pair ≡ Some t.pair) × (t.nodes ≡ nodes) × (t.nibbles ≡ length (fragment_of leaf)))
 
-    goes : (x : KeyValue K V) → unboxed (out-TrieNode K V leaf).pair ≡ Some x →
-        CutsRoot ((tree_of n).fragment ++ (tree_of leaf).fragment) x 1 (length (tree_of leaf).fragment) (tree_of n) (without_kid i y (tree_of n))
-    goes x e = leaf_goes (tree_of n) (tree_of leaf) i y x at (pair_out leaf ∙ e) (ap (λ (t : Tree (KeyValue K V)). t.kids) (sym same) ∙ ends) start low h
+    pub leaf_cut : (r : Option (Taken K V)) → LeafTaken r →
+        Prunes s (tree_of leaf) (nodes + nodes_in (tree_of leaf).kids) (length (tree_of leaf).fragment + nibbles_in (tree_of leaf).kids) old new →
+        CutOutcome (Ok r) (s ++ (tree_of leaf).fragment) old new
+    leaf_cut None m cut = absurd (has m)
+    leaf_cut (Some t) m cut =
+        rw (m.1, m.2, ← fragment_out leaf)
+        (leaf_run (λ gone n k. AltersKid gone none_of 0 n 0 k old new) s (tree_of leaf) t.pair nodes (pair_out leaf ∙ m.0) ends cut)
 
-    pub leaf_cut : (r : Option (Taken K V)) (t' : Tree (KeyValue K V)) → unboxed (out-TrieNode K V leaf).pair ≢ None →
-        MatchOption r (unboxed (out-TrieNode K V leaf).pair ≡ None) (λ t. (unboxed (out-TrieNode K V leaf).pair ≡ Some t.pair) × (t.nodes ≡ 1) × (t.nibbles ≡ length (fragment_of leaf))) →
-        (IsTreeFull (tree_of n) → IsTreeFull (without_kid i y (tree_of n))) → t' ≡ without_kid i y (tree_of n) →
-        CutOutcome (Ok r) (fragment_of n ++ u.fragment) (tree_of n) t'
-    leaf_cut None t' held m full et = absurd (held m)
-    leaf_cut (Some t) t' held m full et =
-        let e = root_kid _ (Some t.pair) None 0 1 0 _ (tree_of n) (without_kid i y (tree_of n)) (goes t.pair m.0) full in
-        rw (et, m.1, m.2, ← fragment_out n, same, ← fragment_out leaf) e
-
-    pub leaf_cut_merged : (r : Option (Taken K V)) (t' : Tree (KeyValue K V)) → unboxed (out-TrieNode K V leaf).pair ≢ None →
-        MatchOption r (unboxed (out-TrieNode K V leaf).pair ≡ None) (λ t. (unboxed (out-TrieNode K V leaf).pair ≡ Some t.pair) × (t.nodes ≡ 2) × (t.nibbles ≡ length (fragment_of leaf))) →
-        (tree_of n).pair ≡ None → IsOne (remove_kid i (tree_of n).kids) → fragment_of n ≢ [] → t' ≡ merged (without_kid i y (tree_of n)) →
-        CutOutcome (Ok r) (fragment_of n ++ u.fragment) (tree_of n) t'
-    leaf_cut_merged None t' held m bare_ one top et = absurd (held m)
-    leaf_cut_merged (Some t) t' held m bare_ one top et =
-        let e = merged_kid _ (Some t.pair) None 0 1 0 _ (tree_of n) (without_kid i y (tree_of n)) (goes t.pair m.0) bare_ one (λ z. top (sym (fragment_out n) ∙ z)) in
-        rw (et, m.1, m.2, ← fragment_out n, same, ← fragment_out leaf) e
+    pub leaf_root : (r : Option (Taken K V)) → LeafTaken r →
+        PrunesRoot s (tree_of leaf) (nodes + nodes_in (tree_of leaf).kids) (length (tree_of leaf).fragment + nibbles_in (tree_of leaf).kids) old new →
+        RootOutcome (Ok r) (s ++ (tree_of leaf).fragment) old new
+    leaf_root None m cut = absurd (has m)
+    leaf_root (Some t) m cut =
+        rw (m.1, m.2, ← fragment_out leaf)
+        (leaf_run (λ gone n k. AltersRoot gone none_of 0 n 0 k old new) s (tree_of leaf) t.pair nodes (pair_out leaf ∙ m.0) ends cut)
 
   pub kept_full : (n : TrieNode K V) (i y : ℕ) → IsSome (unboxed (out-TrieNode K V n).pair) ⊎ (length (out-TrieNode K V n).children.items ≢ 2) → IsTreeFull (tree_of n) → IsTreeFull (without_kid i y (tree_of n))
   kept_full n i y c f = (own c f.0, remove_full i (tree_of n).kids f.1)
@@ -241,8 +235,8 @@ module _ {K V : Type 0} where
       IsTreePlaced (tree_of n) → i < length o.children.items → get_or o.children.items i b ≡ b → path ≡ o.fragment ++ p → p ≢ [] → first p ≡ first (fragment_of b.value) → CutOutcome r p (tree_of b.value) (tree_of b'.value) →
       CutOutcome r path (tree_of n) (tree_of (roll-TrieNode K V record { fragment = o.fragment; pair = o.pair; mask = o.mask; children = with_item o.children i b' }))
   kid_cut n i b b' (Ok (Some t)) p path h lt at ep some start s =
-      let e = kid_alters (tree_of n) (tree_of b.value) (tree_of b'.value) i p (Some t.pair) None 0 t.nodes 0 t.nibbles h (is_at n i b h lt at) s in
-      rw (kid_new n i b', ep, ← fragment_out n) (node_kid _ _ _ _ _ _ _ _ _ e)
+      let e = kid_entry (tree_of n) (tree_of b.value) (tree_of b'.value) i p (Some t.pair) None 0 t.nodes 0 t.nibbles h (is_at n i b h lt at) s in
+      rw (kid_new n i b', ep, ← fragment_out n) (node_kid _ _ _ _ _ _ _ _ e)
   kid_cut n i b b' (Ok None) p path h lt at ep some start s = (kid_kept n i b b' h lt at s.0, kid_free n i b h p path lt at ep some start s.1)
   kid_cut n i b b' (Err x) p path h lt at ep some start s = (kid_kept n i b b' h lt at s.0, kid_held n i b h p path lt at ep s.1, (let r = reach_below n i b h lt at in omega (arith, r, s.2)))
 
@@ -251,7 +245,7 @@ module _ {K V : Type 0} where
       IsTreePlaced (tree_of n) → i < length o.children.items → get_or o.children.items i b ≡ b → path ≡ o.fragment ++ p → p ≢ [] → first p ≡ first (fragment_of b.value) → CutOutcome r p (tree_of b.value) (tree_of b'.value) →
       RootOutcome r path (tree_of n) (tree_of (roll-TrieNode K V record { fragment = o.fragment; pair = o.pair; mask = o.mask; children = with_item o.children i b' }))
   kid_root n i b b' (Ok (Some t)) p path h lt at ep some start s =
-      let e = kid_alters (tree_of n) (tree_of b.value) (tree_of b'.value) i p (Some t.pair) None 0 t.nodes 0 t.nibbles h (is_at n i b h lt at) s in
+      let e = kid_entry (tree_of n) (tree_of b.value) (tree_of b'.value) i p (Some t.pair) None 0 t.nodes 0 t.nibbles h (is_at n i b h lt at) s in
       rw (kid_new n i b', ep, ← fragment_out n) e.root
   kid_root n i b b' (Ok None) p path h lt at ep some start s = (kid_kept n i b b' h lt at s.0, kid_free n i b h p path lt at ep some start s.1)
   kid_root n i b b' (Err x) p path h lt at ep some start s = (kid_kept n i b b' h lt at s.0, kid_held n i b h p path lt at ep s.1, (let r = reach_below n i b h lt at in omega (arith, r, s.2)))
@@ -259,12 +253,3 @@ module _ {K V : Type 0} where
   pub pair_root : (n : TrieNode K V) (x : KeyValue K V) (t' : Tree (KeyValue K V)) (path : List ℕ) → Some x ≡ unboxed (out-TrieNode K V n).pair → IsTreePlaced (tree_of n) → t' ≡ without_pair (tree_of n) →
       path ≡ fragment_of n → CutsRoot path x 0 0 (tree_of n) t'
   pair_root n x t' path held h et ep = rw (et, ep, ← fragment_out n) (pair_goes (tree_of n) x (pair_out n ∙ sym held) h)
-
-  pub leaf_root : (n leaf : TrieNode K V) (i y : ℕ) (r : Option (Taken K V)) (t' : Tree (KeyValue K V)) (path : List ℕ) → IsTreePlaced (tree_of n) →
-      IsAt i (tree_of n).kids (tree_of leaf) → (tree_of leaf).kids ≡ none → first (tree_of leaf).fragment ≡ y → y < 16 → unboxed (out-TrieNode K V leaf).pair ≢ None →
-      MatchOption r (unboxed (out-TrieNode K V leaf).pair ≡ None) (λ t. (unboxed (out-TrieNode K V leaf).pair ≡ Some t.pair) × (t.nodes ≡ 1) × (t.nibbles ≡ length (fragment_of leaf))) →
-      t' ≡ without_kid i y (tree_of n) → path ≡ fragment_of n ++ (tree_of leaf).fragment → RootOutcome (Ok r) path (tree_of n) t'
-  leaf_root n leaf i y None t' path h at ends start low has m et ep = absurd (has m)
-  leaf_root n leaf i y (Some t) t' path h at ends start low has m et ep =
-      rw (et, m.1, m.2, ep, ← fragment_out n, ← fragment_out leaf)
-      (leaf_goes (tree_of n) (tree_of leaf) i y t.pair at (pair_out leaf ∙ m.0) ends start low h)

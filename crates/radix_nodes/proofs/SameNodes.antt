@@ -18,7 +18,7 @@ false_middle : (p q r : Bool) → q ≡ false → (p && (q && r)) ≡ false
 false_middle true q r e = ap (λ b. b && r) e
 false_middle false q r e = refl
 
-false_after : (p : Bool) → (p && false) ≡ false
+pub false_after : (p : Bool) → (p && false) ≡ false
 false_after true = refl
 false_after false = refl
 

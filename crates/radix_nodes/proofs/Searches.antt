@@ -20,7 +20,7 @@ use Rattle.radix_nodes.specs.declared.trie_node.TrieNode.{TrieNode, out-TrieNode
 use Rattle.radix_nodes.specs.Nodes.{tree_of, fragment_of, unboxed, IsMet, IsStep, IsDeepest, IsNearest, on_way}
 use Rattle.radix_nodes.specs.declared.traversal.compare.Agreement.{Agreement}
 use Rattle.radix_nodes.proofs.Nodes.{fragment_out}
-use Rattle.radix_nodes.proofs.Steps.{drop_some, first_drop, step_kid, is_at, met_step, met_stuck, held_here, free_here}
+use Rattle.radix_nodes.proofs.Steps.{drop_some, first_drop, step_kid, is_at, met_step, met_stuck, held_here, free_here, met_fits}
 
 pub match_up : {A : Type 0} {P Q : A → Type 0} {X Y : Type 0} (r : Option A) → (X → Y) → ((a : A) → P a → Q a) → MatchOption r X P → MatchOption r Y Q
 match_up None f g h = f h
@@ -154,7 +154,7 @@ module _ {K V : Type 0} (n : TrieNode K V) (key : List ℕ) (depth : ℕ) (h : I
     met_off e = met_stuck n key depth i h a b met lt is (λ z. e (z ∙ ap (λ k. length (fragment_of k)) (sym em)))
 
     pub met_inside : depth + a.same ≤ length key
-    met_inside = let l = length-drop depth key in omega (arith, l, agrees.inside, lt)
+    met_inside = met_fits n key depth i h a b met lt is
 
 -- a node's own pair as the answer
 module _ {K V : Type 0} where

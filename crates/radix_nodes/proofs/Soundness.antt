@@ -15,6 +15,8 @@ use Rattle.nibble_map.specs.Trees.{AreMany, IsFull, first}
 use Rattle.nibble_map.specs.Trees as trees
 use Rattle.nibble_map.specs.Masks.{IsMask, bit_of, marked}
 use Rattle.nibble_map.specs.Kept.{Tree, Kids, none, more, plain, firsts, IsPlaced, entries_in, entries_at}
+use Rattle.nibble_map.proofs.Rising.{Each-append}
+use Rattle.nibble_map.proofs.Cut.{append-nil_rest}
 use Rattle.nibble_map.proofs.Canonical.{local_canonical, canonical_local}
 use Rattle.nibble_map.proofs.Masks.{marked_lt, mask_small}
 use Rattle.radix_nodes.specs.declared.trie_node.KeyValue.{KeyValue}
@@ -24,6 +26,8 @@ use Rattle.radix_nodes.specs.Soundness.{IsCanonicalAt, key_test, form_test, star
 use Rattle.std.specs.Prelude.{vec_len}
 use Rattle.nibble_map.specs.KeptSizes.{own_count, pairs_in}
 use Rattle.nibble_map.proofs.KeptSizes.{pairs_count}
+use Rattle.radix_nodes.proofs.SameNodes.{false_after}
+use Rattle.radix_nodes.proofs.Steps.{firsts_length}
 use Rattle.radix_nodes.proofs.Sizes.{child_fewer}
 use Rattle.radix_nodes.proofs.Nodes.{tree_out, pair_out, kids_out, fragment_out}
 
@@ -75,10 +79,6 @@ Each-left : {A : Type 0} (P : A → Type 0) (xs ys : List A) → Each P (xs ++ y
 Each-left P [] ys h = (tt, h)
 Each-left P (x ∷ xs) ys h = let r = Each-left P xs ys h.1 in ((h.0, r.0), r.1)
 
-Each-join : {A : Type 0} (P : A → Type 0) (xs ys : List A) → Each P xs → Each P ys → Each P (xs ++ ys)
-Each-join P [] ys h k = k
-Each-join P (x ∷ xs) ys h k = (h.0, Each-join P xs ys h.1 k)
-
 nil_is : (xs : List ℕ) → Decides (length xs == 0) (xs ≡ [])
 nil_is [] = (λ _. refl, λ _. refl)
 nil_is (x ∷ xs) = Decides-like _ (λ e. absurd (omega arith)) (λ e. cc) (Decides-eqb (length (x ∷ xs)) 0)
@@ -119,11 +119,7 @@ module _ {K V : Type 0} where
     Sound p low k = IsPlaced low k × (IsFull (plain k) × (AreSmall (firsts k) × Keyed (entries_in p k)))
 
     filled : (p f : List ℕ) (o : Option (KeyValue K V)) (k : Kids (KeyValue K V)) → f ≢ [] → (p ++ f ≡ []) ⊎ ((f ≢ []) × (IsSome o ⊎ AreMany (plain k))) → IsSome o ⊎ AreMany (plain k)
-    filled p f o k s (inl z) = absurd (s (tail_nil p f z))
-      where
-        tail_nil : (p f : List ℕ) → p ++ f ≡ [] → f ≡ []
-        tail_nil [] f z = z
-        tail_nil (a ∷ p) f z = (let i : a ∷ (p ++ f) ≡ [] = z in cc i)
+    filled p f o k s (inl z) = absurd (s (append-nil_rest p f z))
     filled p f o k s (inr h) = h.1
 
     kids_is : (p : List ℕ) (low seen mask : ℕ) (k : Kids (KeyValue K V)) → Decides (kids_test e p low seen mask k) (Sound p low k × (with_bits seen (firsts k) ≡ mask))
@@ -144,7 +140,7 @@ module _ {K V : Type 0} where
             let is = (mask_is m (firsts kids) below.1.1.0).0 h.1.0.1.1 in (
               (
                 (h.0.0, h.0.1.0, is, below.0, subst (λ n. IsPlaced n others) next beside.0),
-                ((filled p f o kids h.0.0 own.1, below.1.0, beside.1.0), ((h.0.1.1, beside.1.1.0), Each-join _ (entry (p ++ f) o ++ entries_in (p ++ f) kids) (entries_in p others) (Each-join _ (entry (p ++ f) o) (entries_in (p ++ f) kids) own.0 below.1.1.1) beside.1.1.1)),
+                ((filled p f o kids h.0.0 own.1, below.1.0, beside.1.0), ((h.0.1.1, beside.1.1.0), Each-append _ (entry (p ++ f) o ++ entries_in (p ++ f) kids) (entries_in p others) (Each-append _ (entry (p ++ f) o) (entries_in (p ++ f) kids) own.0 below.1.1.1) beside.1.1.1)),
               ),
               h.1.1.1,
             )
@@ -180,7 +176,7 @@ module _ {K V : Type 0} where
             × (Sound (q ++ t.fragment) 0 t.kids × (with_bits 0 (firsts t.kids) ≡ t.mask)) → IsCanonicalAt e q t
         to h =
             let s = h.1.0 in record {
-              keyed = Each-join _ (entry (q ++ t.fragment) t.pair) (entries_in (q ++ t.fragment) t.kids) h.0.0 s.1.1.1;
+              keyed = Each-append _ (entry (q ++ t.fragment) t.pair) (entries_in (q ++ t.fragment) t.kids) h.0.0 s.1.1.1;
               placed = ((mask_is t.mask (firsts t.kids) s.1.1.0).0 h.1.1, s.0);
               points = local_canonical q t.fragment t.pair (plain t.kids) (plain_placed 0 t.kids s.0, s.1.0, h.0.1);
             }
@@ -196,10 +192,6 @@ module _ {K V : Type 0} where
 pub unboxed_some : {K V : Type 0} (o : Option (Box (KeyValue K V) Global)) → is_some (unboxed o) ≡ is_some o
 unboxed_some None = refl
 unboxed_some (Some b) = refl
-
-firsts_length : {K V : Type 0} (bs : List (Box (TrieNode K V) Global)) → length (firsts (kids_of bs)) ≡ length bs
-firsts_length [] = refl
-firsts_length (b ∷ bs) = ap suc (firsts_length bs)
 
 module _ {K V : Type 0} where
   -- the test by a node's fields
@@ -259,11 +251,7 @@ module _ {K V : Type 0} where
     ends_start s = sym (sym are ∙ next_test bs i b lt at e p low seen mask ∙ ap (λ z. z && (test_of e p b.value && tests_of e p (first (fragment_of b.value) + 1) (marked seen (first (fragment_of b.value))) mask (drop (i + 1) bs))) s)
 
     pub ends_kid : test_of e p b.value ≡ false → false ≡ r
-    ends_kid s = sym (sym are ∙ next_test bs i b lt at e p low seen mask ∙ ap (λ z. starts low (fragment_of b.value) && (z && tests_of e p (first (fragment_of b.value) + 1) (marked seen (first (fragment_of b.value))) mask (drop (i + 1) bs))) s ∙ never (starts low (fragment_of b.value)))
-      where
-        never : (x : Bool) → (x && false) ≡ false
-        never true = refl
-        never false = refl
+    ends_kid s = sym (sym are ∙ next_test bs i b lt at e p low seen mask ∙ ap (λ z. starts low (fragment_of b.value) && (z && tests_of e p (first (fragment_of b.value) + 1) (marked seen (first (fragment_of b.value))) mask (drop (i + 1) bs))) s ∙ false_after (starts low (fragment_of b.value)))
 
     pub goes_on : (y : ℕ) → y ≡ first (fragment_of b.value) → starts low (fragment_of b.value) ≡ true → test_of e p b.value ≡ true → tests_of e p (y + 1) (marked seen y) mask (drop (i + 1) bs) ≡ r
     goes_on y ey s k =

@@ -24,7 +24,7 @@ use Rattle.radix_nodes.specs.Nodes.{unboxed, tree_of, kids_of, fragment_of, IsMe
 use Rattle.radix_nodes.proofs.Nodes.{pair_is, kids_are, kids_at, kids_set, kids_out, pair_out, mask_out, fragment_out}
 use Rattle.nibble_map.proofs.KeptKids.{at_same, placed_rises, at_placed, at_first, set_same}
 use Rattle.nibble_map.proofs.Masks.{rank_within, rank_most}
-use Rattle.nibble_map.proofs.KeptEdits.{pair_edits, kid_alters, node_kid, leaf_edits, split_here, split_leaf}
+use Rattle.nibble_map.proofs.KeptEdits.{pair_edits, kid_entry, node_kid, leaf_edits, split_here, split_leaf}
 
 pub first_drop : (xs : List ℕ) (d : ℕ) → first (drop d xs) ≡ slice_index xs d
 first_drop [] zero = refl
@@ -141,7 +141,7 @@ module _ {K V : Type 0} where
       apart (omega (arith, size, a, b, c, lt)) (sym (first_drop f k) ∙ sym (begins (drop k f) z.0 (drop_some f k lt)) ∙ ap first (sym rest) ∙ first_drop key depth)
 
   pub edit_replaces : (r : Result (Change K V) (KeyValue K V)) (x : KeyValue K V) (p : List ℕ) (old new : Tree (KeyValue K V)) → EditOutcome r x p old new → ReplaceOutcome r x p old new
-  edit_replaces (Ok change) x p old new e = node_kid _ _ _ _ _ _ _ _ _ e
+  edit_replaces (Ok change) x p old new e = node_kid _ _ _ _ _ _ _ _ e
   edit_replaces (Err y) x p old new e = e
 
   -- a node's child
@@ -168,7 +168,7 @@ module _ {K V : Type 0} where
         i < length items → get_or items i b ≡ b → path ≡ o.fragment ++ p → p ≢ [] → first p ≡ first (fragment_of b.value) → ReplaceOutcome r x p (tree_of b.value) (tree_of b'.value) →
         EditOutcome r x path (tree_of n) (tree_of (roll-TrieNode K V record { fragment = o.fragment; pair = o.pair; mask = o.mask; children = with_item o.children i b' }))
     kid_step (Ok change) b' x p path lt at ep some start s =
-        let e = kid_alters (tree_of n) (tree_of b.value) (tree_of b'.value) i p change.was (Some x) change.nodes 0 change.nibbles 0 h (is_at lt at) s in
+        let e = kid_entry (tree_of n) (tree_of b.value) (tree_of b'.value) i p change.was (Some x) change.nodes 0 change.nibbles 0 h (is_at lt at) s in
         rw (new b', ep, ← fragment_out n) e
       where
         new : (b' : Box (TrieNode K V) Global) → let o = out-TrieNode K V n in
@@ -192,7 +192,7 @@ module _ {K V : Type 0} where
         ap first (sym (fragment_out b.value))
         ∙ at_first 0 y (tree_of n).kids (tree_of b.value) (placed_rises 0 _ h.1) p.0 (subst (λ j. IsAt j (tree_of n).kids (tree_of b.value)) p.1 (is_at lt at))
 
-  firsts_length : (bs : List (Box (TrieNode K V) Global)) → length (firsts (kids_of bs)) ≡ length bs
+  pub firsts_length : (bs : List (Box (TrieNode K V) Global)) → length (firsts (kids_of bs)) ≡ length bs
   firsts_length [] = refl
   firsts_length (b ∷ bs) = ap suc (firsts_length bs)
 
@@ -257,7 +257,7 @@ module _ {K V : Type 0} (n : TrieNode K V) (key : List ℕ) (depth i : ℕ) (h :
     agrees : Agrees (tree_of b.value).fragment (drop depth key) a.same a.compared
     agrees = m.agrees (tree_of b.value) kid
 
-    met_fits : depth + a.same ≤ length key
+    pub met_fits : depth + a.same ≤ length key
     met_fits = let l = length-drop depth key in omega (arith, l, agrees.inside, lt)
 
     -- the whole fragment

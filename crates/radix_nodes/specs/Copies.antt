@@ -1,7 +1,6 @@
 -- What a copy of a pair is.
-use Rattle.nibble_map.specs.KeptSame.{IsPairClone}
 use Rattle.radix_nodes.specs.declared.trie_node.KeyValue.{KeyValue}
 
--- y's key and value are clones of x's, as their types' own `clone` gives them
-abbrev pub IsKeyValueClone : {K V : Type 0} → (K → K → Type 0) → (V → V → Type 0) → KeyValue K V → KeyValue K V → Type 0
-IsKeyValueClone is_key_clone is_value_clone x y = IsPairClone is_key_clone is_value_clone (x.key, x.value) (y.key, y.value)
+-- y's key is a copy of x's, and y's value a clone of x's, as its type's own `clone` gives it
+abbrev pub IsKeyValueCopy : {K L V : Type 0} → (K → L → Type 0) → (V → V → Type 0) → KeyValue K V → KeyValue L V → Type 0
+IsKeyValueCopy is_key_copy is_value_clone x y = is_key_copy x.key y.key × is_value_clone x.value y.value

@@ -2,7 +2,7 @@
 use Rattle.std.specs.Prelude.{◌≡◌, List, ℕ, Option, Some, None, MatchOption, ⊤, map}
 use Rattle.nibble_map.specs.Kept.{Tree, IsTreePlaced, IsFullBelow, entries_at, nodes_in, nibbles_in}
 use Rattle.nibble_map.specs.KeptPaths.{IsNodeAt, IsHeld}
-use Rattle.nibble_map.specs.Alters.{AltersNode}
+use Rattle.nibble_map.specs.Alters.{Rewrites}
 use Rattle.radix_nodes.specs.declared.trie_node.KeyValue.{KeyValue}
 
 abbrev pub OnNone : {A : Type 0} → Option A → Type 0 → Type 0
@@ -26,12 +26,12 @@ module _ {K V : Type 0} where
   -- u stood at the path, and w stands there: where only the value differs, that is all that changes
   pub record Replaces (path : List ℕ) (u w old new : Tree (KeyValue K V)) : Type 0 where
     pub node : IsNodeAt old path u
-    pub alters : IsRevalued u w → AltersNode path u.pair w.pair 0 0 0 0 old new
+    pub alters : IsRevalued u w → Rewrites path u.pair w.pair old new
 
   -- the value v stood at the path, and w stands there under the same key
   pub record Revalues (path : List ℕ) (v w : V) (old new : Tree (KeyValue K V)) : Type 0 where
     pub key : K
-    pub alters : AltersNode path (Some (record { key = key; value = v })) (Some (record { key = key; value = w })) 0 0 0 0 old new
+    pub alters : Rewrites path (Some (record { key = key; value = v })) (Some (record { key = key; value = w })) old new
 
   abbrev pub keyed : List ℕ × KeyValue K V → List ℕ × K
   keyed e = (e.0, e.1.key)
@@ -53,19 +53,6 @@ module _ {K V : Type 0} where
   pub record IsKept (old new : Tree (KeyValue K V)) : Type 0 where
     pub like : IsLike old new
     pub same : (q : List ℕ) → entries_at q new ≡ entries_at q old
-
-  -- the value at the path became one that `did` allows, and else only values may differ
-  pub record Changes (did : V → V → Type 0) (path : List ℕ) (old new : Tree (KeyValue K V)) : Type 0 where
-    pub before : V
-    pub after : V
-    pub done : did before after
-    pub revalues : Revalues path before after old new
-    pub like : IsLike old new
-
-  -- with the closure handed back, nothing stands at the path and nothing changed
-  abbrev pub ChangeOutcome : {F : Type 0} → Option F → F → (V → V → Type 0) → List ℕ → Tree (KeyValue K V) → Tree (KeyValue K V) → Type 0
-  ChangeOutcome None f did path old new = Changes did path old new
-  ChangeOutcome (Some g) f did path old new = (g ≡ f) × IsKept old new × (IsHeld old path → ⊥)
 
   -- the tree stays, and had no node at the path where none was lent
   abbrev pub KeepsNode : {A : Type 0} → Option A → List ℕ → Tree (KeyValue K V) → Tree (KeyValue K V) → Type 0

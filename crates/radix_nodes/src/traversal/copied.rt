@@ -3,24 +3,51 @@ ghost use Rattle.std.specs.Prelude.{◌≡◌, IfOk, IsOk, None};
 ghost use Rattle.nibble_map.specs.Kept.{none};
 ghost use Rattle.nibble_map.specs.Nibbles.{IsShort};
 ghost use Rattle.nibble_map.specs.KeptSame.{IsPairCopy, IsCopy};
-ghost use Rattle.radix_nodes.specs.Copies.{IsKeyValueClone};
+ghost use Rattle.radix_nodes.specs.Copies.{IsKeyValueCopy};
 ghost use Rattle.radix_nodes.specs.Nodes.{tree_of, fragment_of, unboxed};
 
 use crate::trie_node::{KeyValue, TrieNode};
-use radix_keys::Memory;
+use radix_keys::{Ascending, KeySigned, Memory};
 use std::alloc::Global;
 
-// A clone of the key and of the value, where there is a pair.
-fn copied_pair<K: Clone, V: Clone>(
+/// A key that can be made from another key, of the same type or of one that it wraps.
+pub trait CopyOf<K>: Drop {
+    // Whether a key is what is made of another.
+    ghost is_copy: { K → Self → Type 0 };
+
+    /// The key that is made of another. The one refusal is that of memory.
+    fn copy_of(key: &K) -> Result<Self, Memory>
+        ensures { IfOk result (λ copy. is_copy key.now copy) };
+}
+
+impl<K: Clone> CopyOf<K> for K {
+    ghost is_copy = { K.is_clone };
+
+    fn copy_of(key: &K) -> Result<K, Memory> {
+        Ok(key.clone()?)
+    }
+}
+
+impl<T: KeySigned> CopyOf<T> for Ascending<T> {
+    ghost is_copy = { λ x y. y ≡ x };
+
+    fn copy_of(key: &T) -> Result<Ascending<T>, Memory> {
+        Ok(Ascending::from(*key))
+    }
+}
+
+// A copy of the key and a clone of the value, where there is a pair.
+pub(super) fn copied_pair<K, L: CopyOf<K>, V: Clone>(
     pair: &Option<Box<KeyValue<K, V>>>,
     alloc: Global,
-) -> Result<Option<Box<KeyValue<K, V>>>, Memory>
-    ensures copy { IfOk result (λ copy. IsPairCopy (IsKeyValueClone K.is_clone V.is_clone) (unboxed pair.now) (unboxed copy)) }
+) -> Result<Option<Box<KeyValue<L, V>>>, Memory>
+    ensures copy { IfOk result (λ copy. IsPairCopy (IsKeyValueCopy L.is_copy V.is_clone)
+        (unboxed pair.now) (unboxed copy)) }
     ensures light { unboxed pair.now ≡ None → IsOk result }
 {
     match pair {
         Some(b) => {
-            let key = b.key.clone()?;
+            let key = L::copy_of(&b.key)?;
             let value = b.value.clone()?;
             Ok(Some(Box::new(alloc, KeyValue { key, value })?))
         }
@@ -28,14 +55,17 @@ fn copied_pair<K: Clone, V: Clone>(
     }
 }
 
-/// A copy of a node and all below it: the same fragments, masks and children, with a clone of each key and of each value. A refused
-/// growth drops what was copied. A node with no pair, no child and at most 32 nibbles is copied without memory.
-pub fn copied<K: Clone, V: Clone>(
+/// A copy of a node and all below it: the same fragments, masks and children, with a copy of each
+/// key and a clone of each value. A refused growth drops what was copied. A node with no pair, no
+/// child and at most 32 nibbles is copied without memory.
+pub fn copied<K, L: CopyOf<K>, V: Clone>(
     node: &TrieNode<K, V>,
     alloc: Global,
-) -> Result<TrieNode<K, V>, Memory>
-    ensures copy { IfOk result (λ copy. IsCopy (IsKeyValueClone K.is_clone V.is_clone) (tree_of node.now) (tree_of copy)) }
-    ensures light { (tree_of node.now).pair ≡ None → (tree_of node.now).kids ≡ none → IsShort (fragment_of node.now) → IsOk result }
+) -> Result<TrieNode<L, V>, Memory>
+    ensures copy { IfOk result (λ copy. IsCopy (IsKeyValueCopy L.is_copy V.is_clone)
+        (tree_of node.now) (tree_of copy)) }
+    ensures light { (tree_of node.now).pair ≡ None → (tree_of node.now).kids ≡ none
+        → IsShort (fragment_of node.now) → IsOk result }
 {
     let mut children = Vec::with_capacity(alloc, node.children.len())?;
     for i in 0..node.children.len() {

@@ -1,13 +1,15 @@
 //! Walks down the nodes.
 
-pub mod change;
+pub mod ascending;
 pub mod checker;
-pub mod children;
 pub mod compare;
 pub mod copied;
+pub mod cut;
+pub mod drain;
 pub mod find;
 pub mod insert;
 pub mod lend;
+pub mod prune;
 pub mod queries;
 pub mod remove;
 pub mod same;

@@ -1,11 +1,11 @@
 //! Removal. All that may fail comes first, so a refusal leaves the tree as it was.
-ghost use Rattle.std.specs.Prelude.{◌≡◌, ◌≢◌, ◌+◌, ◌<◌, ◌≤◌, ◌⊎◌, [], ◌++◌, length, drop, IfOk, OnErr, IsSome, MatchOption, MatchBool, Some, None, vec_len};
+ghost use Rattle.std.specs.Prelude.{◌≡◌, ◌≢◌, ◌<◌, ◌≤◌, [], ◌++◌, length, drop, MatchOption, Some, None, vec_len};
 ghost use Rattle.nibble_map.specs.Kept.{IsTreePlaced, IsAt, none};
 ghost use Rattle.radix_nodes.specs.Nodes.{tree_of, fragment_of, out_of, unboxed, CutOutcome, RootOutcome};
 
-use crate::fragments::joined;
+use crate::traversal::cut::{Branch, cut_child, cut_root_child, joined_with};
 use crate::traversal::step::step;
-use crate::trie_node::links::{absorb, take_pair, unlink};
+use crate::trie_node::links::{absorb, take_pair};
 use crate::trie_node::{KeyValue, TrieNode, has_pair, is_end};
 use radix_keys::{Memory, Nibblet};
 
@@ -15,16 +15,6 @@ pub struct Taken<K, V> {
     pub pair: KeyValue<K, V>,
     pub nodes: usize,
     pub nibbles: usize,
-}
-
-// The fragment of the node joined with that of its child at place i.
-fn joined_with<K, V>(node: &TrieNode<K, V>, i: usize) -> Result<Nibblet, Memory>
-    requires within { i < vec_len (out_of node.now).children }
-    requires placed { IsTreePlaced (tree_of node.now) }
-    ensures made { IfOk result (λ f. (u : _) → IsAt i (tree_of node.now).kids u → f ≡ fragment_of node.now ++ u.fragment) }
-    ensures long { OnErr result ((u : _) → IsAt i (tree_of node.now).kids u → 32 < length (fragment_of node.now) + length u.fragment) }
-{
-    joined(&node.fragment, &node.children[i].fragment)
 }
 
 // Takes the pair of a node with children. What may fail comes first.
@@ -65,16 +55,17 @@ fn take_here<K: Drop, V: Drop>(node: &mut TrieNode<K, V>) -> Result<Option<Taken
     }
 }
 
-// The pair of a leaf that was taken out.
-fn make_taken<K: Drop, V: Drop>(leaf: Box<TrieNode<K, V>>, nodes: usize) -> Option<Taken<K, V>>
-    ensures { MatchOption result (unboxed (out_of leaf.value).pair ≡ None) (λ t. (unboxed (out_of leaf.value).pair ≡ Some t.pair) × (t.nodes ≡ nodes) × (t.nibbles ≡ length (fragment_of leaf.value))) }
+// The pair of a leaf that was cut off.
+fn make_taken<K: Drop, V: Drop>(leaf: Branch<K, V>) -> Option<Taken<K, V>>
+    ensures { MatchOption result (unboxed (out_of leaf.top.value).pair ≡ None) (λ t. (unboxed (out_of leaf.top.value).pair ≡ Some t.pair) × (t.nodes ≡ leaf.nodes) × (t.nibbles ≡ length (fragment_of leaf.top.value))) }
 {
+    let Branch { top, nodes } = leaf;
     let TrieNode {
         fragment,
         pair,
         mask: _,
         children: _,
-    } = Box::into_inner(leaf);
+    } = Box::into_inner(top);
     let nibbles = fragment.len();
     match pair {
         Some(b) => Some(Taken {
@@ -86,18 +77,7 @@ fn make_taken<K: Drop, V: Drop>(leaf: Box<TrieNode<K, V>>, nodes: usize) -> Opti
     }
 }
 
-// Whether a node is left without a pair and with one child once one goes.
-fn leaves_one<K, V>(node: &TrieNode<K, V>) -> bool
-    requires { 0 < vec_len (out_of node.now).children }
-    ensures { MatchBool result (((out_of node.now).pair ≡ None) × (vec_len (out_of node.now).children ≡ 2)) (IsSome (unboxed (out_of node.now).pair) ⊎ (vec_len (out_of node.now).children ≢ 2)) }
-{
-    match &node.pair {
-        Some(_) => false,
-        None => node.children.len() == 2,
-    }
-}
-
-// Takes the pair of the leaf at i away, with the leaf. What may fail comes first.
+// Takes the pair of the leaf at i away, with the leaf.
 fn take_leaf<K: Drop, V: Drop>(
     node: &mut TrieNode<K, V>,
     i: usize,
@@ -111,17 +91,9 @@ fn take_leaf<K: Drop, V: Drop>(
     if !has_pair(&node.children[i]) {
         return Ok(None);
     }
-    if leaves_one(node) {
-        let joined = match joined_with(node, 1 - i) {
-            Ok(joined) => joined,
-            Err(e) => return Err(e),
-        };
-        let leaf = unlink(node, i);
-        absorb(node, joined);
-        Ok(make_taken(leaf, 2))
-    } else {
-        let leaf = unlink(node, i);
-        Ok(make_taken(leaf, 1))
+    match cut_child(node, i) {
+        Ok(leaf) => Ok(make_taken(leaf)),
+        Err(e) => Err(e),
     }
 }
 
@@ -176,8 +148,7 @@ pub fn take_root<K: Drop, V: Drop>(
                 if !has_pair(&node.children[i]) {
                     return Ok(None);
                 }
-                let leaf = unlink(node, i);
-                Ok(make_taken(leaf, 1))
+                Ok(make_taken(cut_root_child(node, i)))
             } else {
                 take(&mut node.children[i], key, next)
             }

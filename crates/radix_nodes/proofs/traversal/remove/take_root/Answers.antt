@@ -42,15 +42,15 @@ returns-else-not-has_pair g c =
     let o = (out n).children.ok.0 in
     let o' = (out b.value).children.ok.0 in
     let lt : i < length (out n).children.items = omega (arith, c.in-Some-step.ensures.within, o) in
-    let leaf = c.unlink-leaf.result.value in
-    let at = c.unlink-leaf.ensures.child in
+    let leaf = c.cut_root_child.result.top.value in
+    let at = c.cut_root_child.ensures.child in
     let none' = subst (λ m. vec_len (out m).children ≡ 0) c.deref.ensures c.if-is_end.ensures in
     let ends = ap (λ t. t.kids) (child_is n i b (tree_of leaf) c.requires lt (sym c.index.ensures) at) ∙ no_kids b.value (omega (arith, none', o')) in
     let has = held n leaf i c.index-then-is_end.result.now c.requires lt (sym c.index-then-is_end.ensures) at (subst (λ m. IsSome (unboxed (out m).pair)) c.deref-then-is_end.ensures c.if-not-has_pair.ensures) in
     let f = (tree_of leaf).fragment in
     let end : f ≡ key = sym (append-nil f) ∙ ap (λ r. f ++ r) (sym (ap (λ d. drop d key) (c.if-next-len.true ∙ c.len-in-Some-step.ensures) ∙ drop-length key)) ∙ c.in-Some-step.ensures.path (tree_of leaf) at in
-    leaf_root n leaf i (first f) c.make_taken.result _ (fragment_of n ++ key) c.requires at ends refl c.unlink-leaf.ensures.nibble has c.make_taken.ensures c.unlink-leaf.ensures.tree
-    (ap (λ k. fragment_of n ++ k) (sym end))
+    let cut = leaf_root (tree_of n) (tree_of c.cut_root_child.new.root) (tree_of n).fragment leaf c.cut_root_child.result.nodes ends has c.make_taken.result c.make_taken.ensures c.cut_root_child.ensures.cut in
+    rw (← fragment_out n, ← end) cut
 
 pub returns-else-next-len : goal.returns-else-next-len
 returns-else-next-len g c =

@@ -4,7 +4,7 @@ use Rattle.radix_nodes.specs.declared.trie_node.TrieNode.{out-TrieNode}
 use Rattle.radix_nodes.specs.Nodes.{fragment_of}
 use Rattle.radix_nodes.proofs.Nodes.{fragment_out}
 use Rattle.radix_nodes.proofs.Removes.{if_ok, refused, child_is}
-use Rattle.radix_nodes.proofs.traversal.remove.joined_with.Goals as goal
+use Rattle.radix_nodes.proofs.traversal.cut.joined_with.Goals as goal
 
 pub returns-clause-made : goal.returns-clause-made
 returns-clause-made g c =

@@ -1,0 +1,14 @@
+use Rattle.std.proofs.Common.{take}
+use Rattle.nibble_map.specs.Kept.{Kids}
+use Rattle.nibble_map.specs.KeptSame.{AreKidCopies}
+use Rattle.nibble_map.specs.Turned.{append, turned_half}
+use Rattle.radix_nodes.specs.Copies.{IsKeyValueCopy}
+use Rattle.radix_nodes.specs.Nodes.{out_of, kids_of}
+use Rattle.radix_nodes.specs.declared.trie_node.KeyValue.{KeyValue}
+use Rattle.radix_nodes.proofs.traversal.ascending.push_half.Given as goal
+
+-- the children before i that are in the half are copied
+abbrev pub invariant-loop-i : goal.invariant-loop-i
+invariant-loop-i g l =
+    (k : Kids (KeyValue g.row.K.Denot g.row.V.Denot)) → AreKidCopies (IsKeyValueCopy g.L.CopyOf.is_copy g.V.Clone.is_clone) k (kids_of l.initial.copies.items) →
+    AreKidCopies (IsKeyValueCopy g.L.CopyOf.is_copy g.V.Clone.is_clone) (append k (turned_half l.high (kids_of (take l.i (out_of l.node).children.items)))) (kids_of l.copies.items)

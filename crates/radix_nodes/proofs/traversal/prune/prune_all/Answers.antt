@@ -1,0 +1,18 @@
+use Rattle.std.proofs.Common.{◌≡◌, ◌+◌, ◌∙◌, [], length, sym, ap, subst, arith}
+use Rattle.nibble_map.specs.Kept.{nodes_in, nibbles_in}
+use Rattle.nibble_map.specs.KeptEdits.{empty}
+use Rattle.nibble_map.specs.Alters.{PrunesRoot}
+use Rattle.nibble_map.proofs.KeptCuts.{all_goes}
+use Rattle.radix_nodes.specs.Nodes.{tree_of, fragment_of}
+use Rattle.radix_nodes.proofs.Nodes.{fragment_out}
+use Rattle.radix_nodes.proofs.traversal.prune.prune_all.Goals as goal
+
+pub returns-clause-cut : goal.returns-clause-cut
+returns-clause-cut g c =
+    let n = c.args.root.now in
+    let is : tree_of c.replace-branch.new.dest ≡ empty = ap tree_of c.replace-branch.ensures.after ∙ c.new.ensures in
+    let nodes : c.drain-drained.result.nodes ≡ nodes_in (tree_of n).kids = c.drain-drained.ensures.nodes ∙ ap (λ m. nodes_in (tree_of m).kids) c.replace-branch.ensures.value in
+    let e = ap (λ m. length (tree_of m).fragment + nibbles_in (tree_of m).kids) c.replace-branch.ensures.value in
+    let top = ap length (fragment_out n ∙ c.requires.top) in
+    let nibbles : c.drain-drained.result.nibbles ≡ nibbles_in (tree_of n).kids = omega (arith, c.drain-drained.ensures.nibbles, e, top) in
+    rw (nodes, nibbles, is) (all_goes (tree_of n) (fragment_out n ∙ c.requires.top))

@@ -1,0 +1,18 @@
+use Rattle.std.proofs.Common.{◌∙◌, sym, ap, subst}
+use Rattle.nibble_map.proofs.KeptKids.{at_same}
+use Rattle.radix_nodes.specs.Nodes.{tree_of}
+use Rattle.radix_nodes.specs.Pairs.{pairs_in}
+use Rattle.radix_nodes.proofs.Branches.{small_kid}
+use Rattle.radix_nodes.proofs.traversal.prune.prune_child.Goals as goal
+
+pub emptied-requires-clause-small : goal.emptied-requires-clause-small
+emptied-requires-clause-small g c = small_kid (tree_of c.args.node.now) (tree_of c.in-Ok.branch.top.value) c.args.i c.in-Ok.ensures.child c.requires.small
+
+pub returns-in-Ok-clause-cut : goal.returns-in-Ok-clause-cut
+returns-in-Ok-clause-cut g c u a =
+    let same = at_same c.args.i (tree_of c.args.node.now).kids (tree_of c.in-Ok.branch.top.value) u c.in-Ok.ensures.child a in
+    rw (same, c.emptied.ensures.nodes, c.emptied.ensures.nibbles) c.in-Ok.ensures.cut
+
+pub returns-in-Ok-clause-pairs : goal.returns-in-Ok-clause-pairs
+returns-in-Ok-clause-pairs g c u a =
+    c.emptied.ensures.pairs ∙ ap pairs_in (sym (at_same c.args.i (tree_of c.args.node.now).kids (tree_of c.in-Ok.branch.top.value) u c.in-Ok.ensures.child a))

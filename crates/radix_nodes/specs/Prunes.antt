@@ -1,0 +1,67 @@
+-- What a cut of all that is at and below a path answers, and does to a tree.
+use Rattle.std.specs.Prelude.{◌≡◌, ℕ, ◌+◌, ◌<◌, ◌^◌, List, [], ◌++◌, length, drop, Option, Some, None, Result, Ok, Err}
+use Rattle.nibble_map.specs.Alters.{Prunes, PrunesRoot}
+use Rattle.nibble_map.specs.Kept.{Tree, IsAt, entries_at, nodes_in, nibbles_in}
+use Rattle.nibble_map.specs.KeptPaths.{IsPath}
+use Rattle.nibble_map.specs.Lists.{IsPrefix}
+use Rattle.radix_keys.specs.declared.nibbles.Memory.{Memory}
+use Rattle.radix_nodes.specs.Nodes.{tree_of, IsNearest}
+use Rattle.radix_nodes.specs.Pairs.{pairs_in}
+use Rattle.radix_nodes.specs.declared.traversal.cut.Branch.{Branch}
+use Rattle.radix_nodes.specs.declared.traversal.prune.Pruned.{Pruned}
+use Rattle.radix_nodes.specs.declared.trie_node.KeyValue.{KeyValue}
+
+-- what a tree holds can be counted
+pub record IsSmall {P : Type 0} (t : Tree P) : Type 0 where
+  pub pairs : length (entries_at [] t) < 2 ^ 64
+  pub nodes : nodes_in t.kids + 2 < 2 ^ 128
+  pub nibbles : length t.fragment + nibbles_in t.kids < 2 ^ 128
+
+-- u, the node of t whose path is the shortest that p begins, hangs below path s
+pub record IsBranch {P : Type 0} (t u : Tree P) (p s : List ℕ) : Type 0 where
+  pub covered : ℕ
+  pub nearest : IsNearest t u p covered
+  pub path : s ++ u.fragment ≡ p ++ drop covered u.fragment
+
+module _ {K V : Type 0} where
+  abbrev pub branch_of : Branch K V → Tree (KeyValue K V)
+  branch_of b = tree_of b.top.value
+
+  -- how many nodes went with a branch, and how many nibbles of fragments
+  abbrev pub nodes_gone : Branch K V → ℕ
+  nodes_gone b = b.nodes + nodes_in (branch_of b).kids
+
+  abbrev pub nibbles_gone : Branch K V → ℕ
+  nibbles_gone b = length (branch_of b).fragment + nibbles_in (branch_of b).kids
+
+  -- the branch was cut off a node, or off the root
+  abbrev pub CutsBranch : Branch K V → Tree (KeyValue K V) → Tree (KeyValue K V) → Type 0
+  CutsBranch b old new = Prunes old.fragment (branch_of b) (nodes_gone b) (nibbles_gone b) old new
+
+  abbrev pub CutsRootBranch : Branch K V → Tree (KeyValue K V) → Tree (KeyValue K V) → Type 0
+  CutsRootBranch b old new = PrunesRoot old.fragment (branch_of b) (nodes_gone b) (nibbles_gone b) old new
+
+  -- the child at i was taken with all below it, from a node or from the root
+  abbrev pub PrunesChild : ℕ → Pruned K V → Tree (KeyValue K V) → Tree (KeyValue K V) → Type 0
+  PrunesChild i c old new = (u : Tree (KeyValue K V)) → IsAt i old.kids u → Prunes old.fragment u c.nodes c.nibbles old new
+
+  abbrev pub PrunesRootChild : ℕ → Pruned K V → Tree (KeyValue K V) → Tree (KeyValue K V) → Type 0
+  PrunesRootChild i c old new = (u : Tree (KeyValue K V)) → IsAt i old.kids u → PrunesRoot old.fragment u c.nodes c.nibbles old new
+
+  -- and its pairs are those
+  abbrev pub HoldsChild : ℕ → Pruned K V → Tree (KeyValue K V) → Type 0
+  HoldsChild i c old = (u : Tree (KeyValue K V)) → IsAt i old.kids u → c.pairs.items ≡ pairs_in u
+
+  -- all that stands at and below p is taken; or nothing stands there; it is refused only where a path stands there
+  abbrev pub PruneOutcome : Result (Option (Pruned K V)) Memory → List ℕ → Tree (KeyValue K V) → Tree (KeyValue K V) → Type 0
+  PruneOutcome (Ok (Some c)) p old new =
+      (u : Tree (KeyValue K V)) × (s : List ℕ) × IsBranch old u p s × Prunes s u c.nodes c.nibbles old new × (c.pairs.items ≡ pairs_in u)
+  PruneOutcome (Ok None) p old new = (new ≡ old) × ((q : List ℕ) → IsPath old q → IsPrefix p q → ⊥)
+  PruneOutcome (Err e) p old new = (new ≡ old) × (q : List ℕ) × IsPath old q × IsPrefix p q
+
+  -- the same from the root
+  abbrev pub PruneRootOutcome : Result (Option (Pruned K V)) Memory → List ℕ → Tree (KeyValue K V) → Tree (KeyValue K V) → Type 0
+  PruneRootOutcome (Ok (Some c)) p old new =
+      (u : Tree (KeyValue K V)) × (s : List ℕ) × IsBranch old u p s × PrunesRoot s u c.nodes c.nibbles old new × (c.pairs.items ≡ pairs_in u)
+  PruneRootOutcome (Ok None) p old new = (new ≡ old) × ((q : List ℕ) → IsPath old q → IsPrefix p q → ⊥)
+  PruneRootOutcome (Err e) p old new = (new ≡ old) × (q : List ℕ) × IsPath old q × IsPrefix p q

@@ -1,0 +1,54 @@
+//! The pairs of a branch that was cut off, moved out of its nodes.
+ghost use Rattle.std.specs.Prelude.{◌≡◌, ◌+◌, ◌≤◌, ◌++◌, [], length, vec_len, vec_capacity};
+ghost use Rattle.nibble_map.specs.Kept.{entries_at, nodes_in, nibbles_in};
+ghost use Rattle.radix_nodes.specs.Nodes.{tree_of, unboxed};
+ghost use Rattle.radix_nodes.specs.Pairs.{own_pair, pairs_in};
+ghost use Rattle.radix_nodes.specs.Prunes.{IsSmall};
+
+use crate::trie_node::{KeyValue, TrieNode};
+
+/// What went with the pairs: how many nodes below the branch's own, and how many nibbles of all fragments.
+#[derive(Clone, Copy)]
+pub struct Drained {
+    pub nodes: u128,
+    pub nibbles: u128,
+}
+
+// Puts the pair at the end of a list that has room for it.
+fn put_pair<K: Drop, V: Drop>(pair: Option<Box<KeyValue<K, V>>>, list: &mut Vec<(K, V)>)
+    requires room { length (own_pair (unboxed pair)) + vec_len list.old ≤ vec_capacity list.old }
+    ensures pairs { list.new.items ≡ list.old.items ++ own_pair (unboxed pair) }
+    ensures capacity { vec_capacity list.new ≡ vec_capacity list.old }
+{
+    if let Some(pair) = pair {
+        let KeyValue { key, value } = Box::into_inner(pair);
+        list.push_reserved((key, value));
+    }
+}
+
+/// Moves the pairs at and below a node to the end of a list that has room for them: the node's own first, then those of one child
+/// after another.
+pub fn drain<K: Drop, V: Drop>(node: TrieNode<K, V>, list: &mut Vec<(K, V)>) -> Drained
+    requires room { vec_len list.old + length (entries_at [] (tree_of node)) ≤ vec_capacity list.old }
+    requires small { IsSmall (tree_of node) }
+    ensures pairs { list.new.items ≡ list.old.items ++ pairs_in (tree_of node) }
+    ensures capacity { vec_capacity list.new ≡ vec_capacity list.old }
+    ensures nodes { result.nodes ≡ nodes_in (tree_of node).kids }
+    ensures nibbles { result.nibbles ≡ length (tree_of node).fragment + nibbles_in (tree_of node).kids }
+{
+    let TrieNode {
+        fragment,
+        pair,
+        mask: _,
+        children,
+    } = node;
+    let mut nodes: u128 = 0;
+    let mut nibbles: u128 = fragment.len() as u128;
+    put_pair(pair, list);
+    for child in children {
+        let below = drain(Box::into_inner(child), list);
+        nodes += below.nodes + 1;
+        nibbles += below.nibbles;
+    }
+    Drained { nodes, nibbles }
+}

@@ -1,0 +1,183 @@
+//! All pairs at and below a path are taken out. What may fail comes first, so a refusal leaves the tree as it was.
+ghost use Rattle.std.specs.Prelude.{◌≡◌, ◌≢◌, ◌+◌, ◌<◌, ◌≤◌, ◌++◌, [], length, drop, IfOk, IsOk, OnErr, vec_len, vec_capacity};
+ghost use Rattle.nibble_map.specs.Alters.{PrunesRoot};
+ghost use Rattle.nibble_map.specs.Kept.{IsTreePlaced, IsAt, entries_at};
+ghost use Rattle.radix_nodes.specs.Nodes.{tree_of, fragment_of, out_of};
+ghost use Rattle.radix_nodes.specs.Pairs.{pairs_in};
+ghost use Rattle.radix_nodes.specs.Prunes.{IsSmall, branch_of, nodes_gone, nibbles_gone, HoldsChild, PrunesChild, PrunesRootChild, PruneOutcome, PruneRootOutcome};
+
+use crate::traversal::cut::{Branch, cut_child, cut_root_child};
+use crate::traversal::drain::drain;
+use crate::traversal::size::count_pairs;
+use crate::traversal::step::meet;
+use crate::trie_node::TrieNode;
+use radix_keys::{Memory, Nibblet};
+use std::alloc::Global;
+use std::mem;
+
+/// What was taken: the pairs in the order of their lists, and how many nodes and nibbles of fragments went.
+#[derive(Drop)]
+pub struct Pruned<K, V> {
+    pub pairs: Vec<(K, V)>,
+    pub nodes: u128,
+    pub nibbles: u128,
+}
+
+// Room for the pairs at and below the child at place i. Where there is none it takes no memory.
+fn room_for<K: Drop, V: Drop>(
+    node: &TrieNode<K, V>,
+    alloc: Global,
+    i: usize,
+) -> Result<Vec<(K, V)>, Memory>
+    requires within { i < vec_len (out_of node.now).children }
+    requires placed { IsTreePlaced (tree_of node.now) }
+    requires small { IsSmall (tree_of node.now) }
+    ensures empty { IfOk result (λ list. list.items ≡ []) }
+    ensures room { IfOk result (λ list. (u : _) → IsAt i (tree_of node.now).kids u →
+        length (entries_at [] u) ≤ vec_capacity list) }
+{
+    Ok(Vec::with_capacity(alloc, count_pairs(&node.children[i]))?)
+}
+
+// The pairs of a branch that was cut off, and how much went.
+fn emptied<K: Drop, V: Drop>(branch: Branch<K, V>, list: Vec<(K, V)>) -> Pruned<K, V>
+    requires empty { list.items ≡ [] }
+    requires room { length (entries_at [] (branch_of branch)) ≤ vec_capacity list }
+    requires small { IsSmall (branch_of branch) }
+    requires few { branch.nodes ≤ 2 }
+    ensures pairs { result.pairs.items ≡ pairs_in (branch_of branch) }
+    ensures nodes { result.nodes ≡ nodes_gone branch }
+    ensures nibbles { result.nibbles ≡ nibbles_gone branch }
+{
+    let Branch { top, nodes } = branch;
+    let mut pairs = list;
+    let drained = drain(Box::into_inner(top), &mut pairs);
+    Pruned {
+        pairs,
+        nodes: drained.nodes + nodes as u128,
+        nibbles: drained.nibbles,
+    }
+}
+
+// Takes the child at place i with all below it.
+fn prune_child<K: Drop, V: Drop>(
+    node: &mut TrieNode<K, V>,
+    alloc: Global,
+    i: usize,
+) -> Result<Pruned<K, V>, Memory>
+    requires within { i < vec_len (out_of node.old).children }
+    requires placed { IsTreePlaced (tree_of node.old) }
+    requires some { fragment_of node.old ≢ [] }
+    requires small { IsSmall (tree_of node.old) }
+    ensures cut { IfOk result (λ c. PrunesChild i c (tree_of node.old) (tree_of node.new)) }
+    ensures pairs { IfOk result (λ c. HoldsChild i c (tree_of node.old)) }
+    ensures unchanged { OnErr result (tree_of node.new ≡ tree_of node.old) }
+{
+    let list = room_for(node, alloc, i)?;
+    match cut_child(node, i) {
+        Ok(branch) => Ok(emptied(branch, list)),
+        Err(e) => Err(e),
+    }
+}
+
+// The same of the root.
+fn prune_root_child<K: Drop, V: Drop>(
+    root: &mut TrieNode<K, V>,
+    alloc: Global,
+    i: usize,
+) -> Result<Pruned<K, V>, Memory>
+    requires within { i < vec_len (out_of root.old).children }
+    requires placed { IsTreePlaced (tree_of root.old) }
+    requires small { IsSmall (tree_of root.old) }
+    ensures cut { IfOk result (λ c. PrunesRootChild i c (tree_of root.old) (tree_of root.new)) }
+    ensures pairs { IfOk result (λ c. HoldsChild i c (tree_of root.old)) }
+    ensures unchanged { OnErr result (tree_of root.new ≡ tree_of root.old) }
+{
+    let list = room_for(root, alloc, i)?;
+    let branch = cut_root_child(root, i);
+    Ok(emptied(branch, list))
+}
+
+/// Takes all pairs at and below the key's place, which lies below a node that stands at `depth` and isn't the root.
+pub fn prune<K: Drop, V: Drop>(
+    node: &mut TrieNode<K, V>,
+    alloc: Global,
+    key: &Nibblet,
+    depth: usize,
+) -> Result<Option<Pruned<K, V>>, Memory>
+    requires depth { depth < length key.now }
+    requires placed { IsTreePlaced (tree_of node.old) }
+    requires some { fragment_of node.old ≢ [] }
+    requires small { IsSmall (tree_of node.old) }
+    ensures { PruneOutcome result (fragment_of node.old ++ drop depth key.now)
+        (tree_of node.old) (tree_of node.new) }
+{
+    match meet(node, key, depth) {
+        Some((i, agreement)) => {
+            let next = depth + agreement.same;
+            if next == key.len() {
+                match prune_child(node, alloc, i) {
+                    Ok(pruned) => Ok(Some(pruned)),
+                    Err(e) => Err(e),
+                }
+            } else if agreement.same == node.children[i].fragment.len() {
+                prune(&mut node.children[i], alloc, key, next)
+            } else {
+                Ok(None)
+            }
+        }
+        None => Ok(None),
+    }
+}
+
+/// The same from the root, where the key isn't empty.
+pub fn prune_root<K: Drop, V: Drop>(
+    root: &mut TrieNode<K, V>,
+    alloc: Global,
+    key: &Nibblet,
+) -> Result<Option<Pruned<K, V>>, Memory>
+    requires some { 0 < length key.now }
+    requires placed { IsTreePlaced (tree_of root.old) }
+    requires small { IsSmall (tree_of root.old) }
+    ensures { PruneRootOutcome result (fragment_of root.old ++ key.now)
+        (tree_of root.old) (tree_of root.new) }
+{
+    match meet(root, key, 0) {
+        Some((i, agreement)) => {
+            if agreement.same == key.len() {
+                match prune_root_child(root, alloc, i) {
+                    Ok(pruned) => Ok(Some(pruned)),
+                    Err(e) => Err(e),
+                }
+            } else if agreement.same == root.children[i].fragment.len() {
+                prune(&mut root.children[i], alloc, key, agreement.same)
+            } else {
+                Ok(None)
+            }
+        }
+        None => Ok(None),
+    }
+}
+
+/// Takes all pairs of a root, which is left empty.
+pub fn prune_all<K: Drop, V: Drop>(
+    root: &mut TrieNode<K, V>,
+    alloc: Global,
+) -> Result<Pruned<K, V>, Memory>
+    requires top { fragment_of root.old ≡ [] }
+    requires small { IsSmall (tree_of root.old) }
+    ensures cut { IfOk result (λ c.
+        PrunesRoot [] (tree_of root.old) c.nodes c.nibbles (tree_of root.old) (tree_of root.new)) }
+    ensures pairs { IfOk result (λ c. c.pairs.items ≡ pairs_in (tree_of root.old)) }
+    ensures unchanged { OnErr result (tree_of root.new ≡ tree_of root.old) }
+    ensures none { length (entries_at [] (tree_of root.old)) ≡ 0 → IsOk result }
+{
+    let mut pairs = Vec::with_capacity(alloc, count_pairs(root))?;
+    let branch = mem::replace(root, TrieNode::new(alloc));
+    let drained = drain(branch, &mut pairs);
+    Ok(Pruned {
+        pairs,
+        nodes: drained.nodes,
+        nibbles: drained.nibbles,
+    })
+}

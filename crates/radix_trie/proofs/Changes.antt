@@ -3,11 +3,11 @@ use Rattle.std.proofs.Common.{◌≡◌, ◌⊎◌, inl, inr, Bool, true, false,
 use Rattle.std.proofs.Math.Nat.{mul-le-mul_right}
 use Rattle.std.proofs.lemmas.List.{map-append, length-append}
 use Rattle.std.specs.FinMap as fin
-use Rattle.nibble_map.specs.Alters.{AltersRoot, Edits, CutsRoot}
+use Rattle.nibble_map.specs.Alters.{Run, entry_at, AltersRoot, Edits, CutsRoot}
 use Rattle.nibble_map.specs.Kept.{Tree, entries_at}
 use Rattle.nibble_map.specs.KeptPaths.{IsHeld, IsNodeAt}
 use Rattle.nibble_map.specs.Lists.{Counts}
-use Rattle.nibble_map.specs.Maps.{value_at}
+use Rattle.nibble_map.specs.Maps.{PairMap, value_at}
 use Rattle.nibble_map.specs.Stored.{IsStem}
 use Rattle.nibble_map.specs.Swaps.{Swaps, entry}
 use Rattle.nibble_map.proofs.MapEdits.{swap_inserted, swap_over, swap_removed, swap_from}
@@ -17,9 +17,9 @@ use Rattle.radix_nodes.specs.declared.trie_node.KeyValue.{KeyValue}
 use Rattle.radix_nodes.specs.declared.trie_node.TrieNode.{TrieNode}
 use Rattle.radix_nodes.specs.Nodes.{tree_of, fragment_of}
 use Rattle.radix_nodes.proofs.Nodes.{fragment_out}
-use Rattle.radix_trie.specs.Pairs.{pair_of}
+use Rattle.radix_nodes.specs.Pairs.{pair_of}
 use Rattle.radix_trie.specs.Roots.{shown, entries_of, map_of, AllKeyed, IsKept}
-use Rattle.radix_trie.proofs.Shown.{row_of, row_entry, shaped, entries_shown, entries_rise, nodes_shown, nibbles_shown}
+use Rattle.radix_trie.proofs.Shown.{kept_len, row_of, row_entry, shaped, entries_shown, entries_rise, nodes_shown, nibbles_shown}
 use Rattle.radix_trie.proofs.Sizes.{stems_bound}
 
 swaps-map : {A B : Type 0} (f : A → B) (l r old new : List A) → Swaps l r old new → Swaps (map f l) (map f r) (map f old) (map f new)
@@ -52,33 +52,55 @@ module _ {K V : Type 0} (enc : K → List ℕ) where
       let a = keyed_parts s.before (l ++ s.after) (subst (AllKeyed enc) s.was h) in
       subst (AllKeyed enc) (sym s.is) (keyed_append s.before (r ++ s.after) a.0 (keyed_append r s.after k (keyed_parts l s.after a.1).1))
 
-  -- a change at p of a kept root
-  module _ (old new : Tree (KeyValue K V)) (count nodes nibbles : ℕ) (p : List ℕ) (was now : Option (KeyValue K V)) (n m k l : ℕ)
-      (kept : IsKept enc old count nodes nibbles) (a : AltersRoot p was now n m k l old new) where
-    pub change : Swaps (entry p (option_map pair_of was)) (entry p (option_map pair_of now)) (entries_of old) (entries_of new)
-    change =
-        let rows = swaps-map row_of _ _ _ _ (a.alters.swaps []) in
-        let left = subst (λ es. Swaps es (map row_of (entry p now)) (map row_of (entries_at [] old)) (map row_of (entries_at [] new))) (row_entry p was) rows in
-        let both = subst (λ es. Swaps (entry p (option_map pair_of was)) es (map row_of (entries_at [] old)) (map row_of (entries_at [] new))) (row_entry p now) left in
-        let from = subst (λ es. Swaps (entry p (option_map pair_of was)) (entry p (option_map pair_of now)) es (map row_of (entries_at [] new))) (sym (entries_shown old kept.top)) both in
-        subst (Swaps (entry p (option_map pair_of was)) (entry p (option_map pair_of now)) (entries_of old)) (sym (entries_shown new (a.fragment ∙ kept.top))) from
+  -- a run of a kept root's entries goes, and another comes
+  module _ (old new : Tree (KeyValue K V)) (count nodes nibbles : ℕ) (gone come : Run (KeyValue K V)) (n m k l : ℕ)
+      (kept : IsKept enc old count nodes nibbles) (a : AltersRoot gone come n m k l old new) where
+    abbrev was_rows : List (List ℕ × (K × V))
+    was_rows = map row_of (gone [])
 
-    pub kept_after : (count' : ℕ) → AllKeyed enc (entry p (option_map pair_of now))
-        → count' + length (entry p (option_map pair_of was)) ≡ count + length (entry p (option_map pair_of now))
+    abbrev now_rows : List (List ℕ × (K × V))
+    now_rows = map row_of (come [])
+
+    pub run_change : Swaps was_rows now_rows (entries_of old) (entries_of new)
+    run_change =
+        let rows = swaps-map row_of _ _ _ _ (a.alters.swaps []) in
+        let from = subst (λ es. Swaps was_rows now_rows es (map row_of (entries_at [] new))) (sym (entries_shown old kept.top)) rows in
+        subst (Swaps was_rows now_rows (entries_of old)) (sym (entries_shown new (a.fragment ∙ kept.top))) from
+
+    pub run_count : length (entries_of new) + length was_rows ≡ count + length now_rows
+    run_count = let s = swaps-length _ _ _ _ run_change in omega (arith, s, kept.counted)
+
+    pub run_kept : (count' : ℕ) → AllKeyed enc now_rows → count' + length was_rows ≡ count + length now_rows
         → (nodes' nibbles' : ℕ) → nodes' + m ≡ nodes + n → nibbles' + l ≡ nibbles + k → IsKept enc new count' nodes' nibbles'
-    kept_after count' keyed counted nodes' nibbles' noded nibbled = record {
+    run_kept count' keyed counted nodes' nibbles' noded nibbled = record {
       top = a.fragment ∙ kept.top;
       masked = a.alters.placed;
       full = a.below kept.full;
-      keyed = keyed_swap _ _ _ _ change kept.keyed keyed;
-      counted = let s = swaps-length _ _ _ _ change in omega (arith, s, counted, kept.counted);
+      keyed = keyed_swap _ _ _ _ run_change kept.keyed keyed;
+      counted = omega (arith, run_count, counted);
       noded = omega (arith, a.alters.nodes, noded, kept.noded);
       nibbled = let s = ap length a.fragment in omega (arith, s, a.alters.nibbles, nibbled, kept.nibbled);
     }
 
+  -- a change at p of a kept root
+  module _ (old new : Tree (KeyValue K V)) (count nodes nibbles : ℕ) (p : List ℕ) (was now : Option (KeyValue K V)) (n m k l : ℕ)
+      (kept : IsKept enc old count nodes nibbles) (a : AltersRoot (entry_at p was) (entry_at p now) n m k l old new) where
+    pub change : Swaps (entry p (option_map pair_of was)) (entry p (option_map pair_of now)) (entries_of old) (entries_of new)
+    change =
+        subst (λ es. Swaps (entry p (option_map pair_of was)) es (entries_of old) (entries_of new)) (row_entry p now)
+        (subst (λ es. Swaps es (map row_of (entry p now)) (entries_of old) (entries_of new)) (row_entry p was)
+        (run_change old new count nodes nibbles (entry_at p was) (entry_at p now) n m k l kept a))
+
+    pub kept_after : (count' : ℕ) → AllKeyed enc (entry p (option_map pair_of now))
+        → count' + length (entry p (option_map pair_of was)) ≡ count + length (entry p (option_map pair_of now))
+        → (nodes' nibbles' : ℕ) → nodes' + m ≡ nodes + n → nibbles' + l ≡ nibbles + k → IsKept enc new count' nodes' nibbles'
+    kept_after count' keyed counted =
+        run_kept old new count nodes nibbles (entry_at p was) (entry_at p now) n m k l kept a count' (subst (AllKeyed enc) (sym (row_entry p now)) keyed)
+        (let x = ap length (row_entry p was) in let y = ap length (row_entry p now) in omega (arith, x, y, counted))
+
   -- an insertion over what stood at p
   module _ (old new : Tree (KeyValue K V)) (count nodes nibbles : ℕ) (p : List ℕ) (x : KeyValue K V) (was : Option (KeyValue K V)) (n k : ℕ)
-      (kept : IsKept enc old count nodes nibbles) (a : AltersRoot p was (Some x) n 0 k 0 old new) where
+      (kept : IsKept enc old count nodes nibbles) (a : AltersRoot (entry_at p was) (entry_at p (Some x)) n 0 k 0 old new) where
     pub edit_inserts : map_of new ≡ fin.insert (map_of old) p (pair_of x)
     edit_inserts =
         swap_inserted p (option_map pair_of was) (pair_of x) (entries_of old) (entries_of new)
@@ -91,7 +113,7 @@ module _ {K V : Type 0} (enc : K → List ℕ) where
 
   -- a removal of what stood at p
   module _ (old new : Tree (KeyValue K V)) (count nodes nibbles : ℕ) (p : List ℕ) (x : KeyValue K V) (m l : ℕ)
-      (kept : IsKept enc old count nodes nibbles) (a : AltersRoot p (Some x) None 0 m 0 l old new) where
+      (kept : IsKept enc old count nodes nibbles) (a : CutsRoot p x m l old new) where
     pub cut_removes : map_of new ≡ fin.remove (map_of old) p
     cut_removes =
         swap_removed p (pair_of x) (entries_of old) (entries_of new) (entries_rise old kept.masked kept.full)
@@ -130,8 +152,8 @@ module _ {K V : Type 0} where
 
   pub inserted_at : (root : TrieNode K V) (new : Tree (KeyValue K V)) (list q : List ℕ) (x : KeyValue K V) (was : Option (KeyValue K V)) (n k : ℕ)
       → (tree_of root).fragment ≡ [] → list ≡ q → Edits (fragment_of root ++ drop 0 list) x was n k (tree_of root) new
-      → AltersRoot q was (Some x) n 0 k 0 (tree_of root) new
-  inserted_at root new list q x was n k top is e = subst (λ p. AltersRoot p was (Some x) n 0 k 0 (tree_of root) new) (at_root root list q top is) e.root
+      → AltersRoot (entry_at q was) (entry_at q (Some x)) n 0 k 0 (tree_of root) new
+  inserted_at root new list q x was n k top is e = subst (λ p. AltersRoot (entry_at p was) (entry_at p (Some x)) n 0 k 0 (tree_of root) new) (at_root root list q top is) e.root
 
   pub unheld_at : (root : TrieNode K V) (list q : List ℕ) → (tree_of root).fragment ≡ [] → list ≡ q → (IsHeld (tree_of root) (fragment_of root ++ list) → ⊥)
       → IsHeld (tree_of root) q → ⊥
@@ -182,11 +204,24 @@ module _ {K V : Type 0} (enc : K → List ℕ) (root : TrieNode K V) (new : Tree
       kept_after enc (tree_of root) new count nodes nibbles q (Some x) None 0 m 0 l kept at_q (count - 1) tt (omega (arith, counted))
       (nodes - m) (nibbles - l) (omega (arith, taken_nodes)) (omega (arith, taken_nibbles))
 
+either_le : (m n : ℕ) → (m ≤ n) ⊎ (n < m)
+either_le zero n = inl (omega arith)
+either_le (suc m) zero = inr (omega arith)
+either_le (suc m) (suc n) = elim (either_le m n) [ inl h ↦ inl (omega arith) | inr h ↦ inr (omega arith) ]
+
+-- where it is false that all counts are in use and the list is absent, an absent list can be counted
+room_for : (full absent : Type 0) (b : Bool) (count : ℕ) → b ≡ false → (full × absent → b ≡ true) → (count ≡ 2 ^ 64 - 1 → full) → count < 2 ^ 64 → absent
+    → count + 1 < 2 ^ 64
+room_for full absent b count off on is small here = elim (either_le (count + 1) (2 ^ 64 - 1)) [
+  | inl le ↦ omega arith
+  | inr lt ↦ (let clash : false ≡ true = sym off ∙ on (is (omega arith), here) in cc)
+]
+
 -- what an insertion at the root does, once it is carried out
 module _ {K V : Type 0} (enc : K → List ℕ) (root : TrieNode K V) (new : Tree (KeyValue K V)) (count nodes nibbles : ℕ) (list q : List ℕ) (x : KeyValue K V)
     (was : Option (KeyValue K V)) (n k : ℕ) (kept : IsKept enc (tree_of root) count nodes nibbles) (is : list ≡ q)
     (edit : Edits (fragment_of root ++ drop 0 list) x was n k (tree_of root) new) where
-  put_at : AltersRoot q was (Some x) n 0 k 0 (tree_of root) new
+  put_at : AltersRoot (entry_at q was) (entry_at q (Some x)) n 0 k 0 (tree_of root) new
   put_at = inserted_at root new list q x was n k kept.top is edit
 
   pub put_value : value_at (map_of (tree_of root)) q ≡ option_map (λ y. y.value) was
@@ -216,31 +251,35 @@ module _ {K V : Type 0} (enc : K → List ℕ) (root : TrieNode K V) (new : Tree
   some_count None w keyed fits small room = (count + 1, room w, put_added w keyed fits)
   some_count (Some y) w keyed fits small room = (count, small, put_over y w keyed fits)
 
-  pub put_nodes_fit : q ≡ enc x.key → length q < 2 ^ 64 → count < 2 ^ 64 → (was ≡ None → count + 1 < 2 ^ 64) → nodes + n < 2 ^ 128
+  put_nodes_fit : q ≡ enc x.key → length q < 2 ^ 64 → count < 2 ^ 64 → (was ≡ None → count + 1 < 2 ^ 64) → nodes + n < 2 ^ 128
   put_nodes_fit keyed fits small room =
       let r = some_count was refl keyed fits small room in
       let most = r.1 in
       let few = nodes_fit enc new r.0 (nodes + n) (nibbles + k) r.2 in
       omega arith
 
-  pub put_nibbles_fit : q ≡ enc x.key → length q < 2 ^ 64 → count < 2 ^ 64 → (was ≡ None → count + 1 < 2 ^ 64) → nibbles + k < 2 ^ 128
+  put_nibbles_fit : q ≡ enc x.key → length q < 2 ^ 64 → count < 2 ^ 64 → (was ≡ None → count + 1 < 2 ^ 64) → nibbles + k < 2 ^ 128
   put_nibbles_fit keyed fits small room =
       let r = some_count was refl keyed fits small room in
       nibbles_within enc new r.0 (nodes + n) (nibbles + k) r.2 r.1
 
   -- what stood at the list tells whether one stood there
-  pub put_absent : was ≡ None → fin.get (map_of (tree_of root)) q ≡ None
+  put_absent : was ≡ None → fin.get (map_of (tree_of root)) q ≡ None
   put_absent w = edit_found enc (tree_of root) new count nodes nibbles q x was n k kept put_at ∙ ap (option_map pair_of) w
 
-either_le : (m n : ℕ) → (m ≤ n) ⊎ (n < m)
-either_le zero n = inl (omega arith)
-either_le (suc m) zero = inr (omega arith)
-either_le (suc m) (suc n) = elim (either_le m n) [ inl h ↦ inl (omega arith) | inr h ↦ inr (omega arith) ]
+  -- the counts after it are within their types, where it is false that all counts of pairs are in use and the list is absent
+  pub put_fits : q ≡ enc x.key → length list < 2 ^ 64 → count < 2 ^ 64 → (m : PairMap K V) → map_of (tree_of root) ≡ m
+      → (full : Bool) → full ≡ false → ((fin.len m ≡ 2 ^ 64 - 1) × (fin.get m list ≡ None) → full ≡ true)
+      → (nodes + n < 2 ^ 128) × (nibbles + k < 2 ^ 128) × (was ≡ None → count + 1 < 2 ^ 64)
+  put_fits keyed fits small m view full off on = (put_nodes_fit keyed short small room, put_nibbles_fit keyed short small room, room)
+    where
+      short : length q < 2 ^ 64
+      short = subst (λ (l : List ℕ). length l < 2 ^ 64) is fits
 
--- where it is false that all counts are in use and the list is absent, an absent list can be counted
-pub room_for : (full absent : Type 0) (b : Bool) (count : ℕ) → b ≡ false → (full × absent → b ≡ true) → (count ≡ 2 ^ 64 - 1 → full) → count < 2 ^ 64 → absent
-    → count + 1 < 2 ^ 64
-room_for full absent b count off on is small here = elim (either_le (count + 1) (2 ^ 64 - 1)) [
-  | inl le ↦ omega arith
-  | inr lt ↦ (let clash : false ≡ true = sym off ∙ on (is (omega arith), here) in cc)
-]
+      absent : was ≡ None → fin.get m list ≡ None
+      absent w = ap (fin.get m) is ∙ ap (λ o. fin.get o q) (sym view) ∙ put_absent w
+
+      room : was ≡ None → count + 1 < 2 ^ 64
+      room w =
+          room_for (fin.len m ≡ 2 ^ 64 - 1) (fin.get m list ≡ None) full count off on
+          (λ e. ap fin.len (sym view) ∙ kept_len enc (tree_of root) count nodes nibbles kept ∙ e) small (absent w)

@@ -9,6 +9,7 @@ use Rattle.nibble_map.specs.MapQueries.{AreKids, IsKid}
 use Rattle.nibble_map.specs.Maps.{PairMap, IsPoint}
 use Rattle.nibble_map.specs.Nibbles.{IsShort}
 use Rattle.nibble_map.specs.Trees.{first}
+use Rattle.nibble_map.proofs.Rising.{before_under}
 use Rattle.nibble_map.proofs.Cut.{cancel, cons_head}
 use Rattle.nibble_map.proofs.KeptKids.{at_placed}
 use Rattle.nibble_map.proofs.KeptPaths.{at_down, at_up}
@@ -24,10 +25,6 @@ use Rattle.radix_trie.specs.Views.{ReadView, paths_of}
 use Rattle.radix_trie.proofs.Parts.{node_down, node_up}
 use Rattle.radix_trie.proofs.Paths.{node_point, point_node}
 use Rattle.radix_trie.proofs.Places.{nearest_of, free_of, found_placed, here, past, path_leads, shortest_point}
-
-before_more : (p f g : List ℕ) → IsBefore f g → IsBefore (p ++ f) (p ++ g)
-before_more [] f g h = h
-before_more (a ∷ p) f g h = inr (refl, before_more p f g h)
 
 lower_before : (f g : List ℕ) → f ≢ [] → g ≢ [] → first f < first g → IsBefore f g
 lower_before [] g n m lt = absurd (n refl)
@@ -56,7 +53,7 @@ module _ {K V : Type 0} (m : PairMap K V) (p : List ℕ) where
   views_later : (low : ℕ) (k : Kids (KeyValue K V)) (f : List ℕ) → IsPlaced (suc low) k → f ≢ [] → first f ≡ low → Each (IsBefore (p ++ f)) (paths_of (kid_views m p k))
   views_later low none f h n e = tt
   views_later low (more g o k kids others) f h n e =
-      (before_more p f g (lower_before f g n h.0 (omega (arith, h.1, e))), views_later low others f (placed_less (suc low) (suc (first g)) others (omega (arith, h.1)) h.4) n e)
+      (before_under p f g (lower_before f g n h.0 (omega (arith, h.1, e))), views_later low others f (placed_less (suc low) (suc (first g)) others (omega (arith, h.1)) h.4) n e)
     where
       placed_less : (low high : ℕ) (k : Kids (KeyValue K V)) → low ≤ high → IsPlaced high k → IsPlaced low k
       placed_less low high none le h = tt

@@ -8,16 +8,16 @@ use Rattle.nibble_map.specs.Swaps.{entry}
 use Rattle.nibble_map.specs.Trees.{AreMany, IsFull}
 use Rattle.nibble_map.proofs.KeptSame.{never}
 use Rattle.nibble_map.proofs.KeptCopies.{root_copied, tree_nodes, tree_nibbles, tree_entries, root_map_copied}
-use Rattle.radix_nodes.specs.Copies.{IsKeyValueClone}
+use Rattle.radix_nodes.specs.Copies.{IsKeyValueCopy}
 use Rattle.radix_nodes.specs.declared.trie_node.KeyValue.{KeyValue}
-use Rattle.radix_trie.specs.Pairs.{pair_of}
+use Rattle.radix_nodes.specs.Pairs.{pair_of}
 use Rattle.radix_trie.specs.Roots.{map_of, AllKeyed, IsKept}
 use Rattle.radix_trie.proofs.Shown.{row_of, entries_shown}
 
 module _ {K V : Type 0} (enc : K → List ℕ) (is_key_clone : K → K → Type 0) (is_value_clone : V → V → Type 0)
     (same : (x y : K) → is_key_clone x y → enc y ≡ enc x) where
   abbrev Copied : KeyValue K V → KeyValue K V → Type 0
-  Copied = IsKeyValueClone is_key_clone is_value_clone
+  Copied = IsKeyValueCopy is_key_clone is_value_clone
 
   copies_keyed : (es ds : List (List ℕ × KeyValue K V)) → AreEntryCopies Copied es ds → AllKeyed enc (map row_of es) → AllKeyed enc (map row_of ds)
   copies_keyed [] [] c h = tt

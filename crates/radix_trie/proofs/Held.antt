@@ -11,12 +11,11 @@ use Rattle.nibble_map.specs.Nibbles.{IsShort}
 use Rattle.nibble_map.specs.Stored as stored
 use Rattle.nibble_map.specs.Swaps.{entry}
 use Rattle.nibble_map.specs.Trees.{IsFull, first}
-use Rattle.nibble_map.proofs.KeptOne.{node_unique}
-use Rattle.nibble_map.proofs.KeptPaths.{has_node, node_has}
+use Rattle.nibble_map.proofs.KeptPaths.{has_node, node_has, one_node}
 use Rattle.nibble_map.proofs.MapEdits.{held, has_get}
 use Rattle.nibble_map.proofs.Members.{Has-left, Has-right}
 use Rattle.radix_nodes.specs.declared.trie_node.KeyValue.{KeyValue}
-use Rattle.radix_trie.specs.Pairs.{pair_of}
+use Rattle.radix_nodes.specs.Pairs.{pair_of}
 use Rattle.radix_trie.specs.Roots.{map_of, IsKept, IsRoot}
 use Rattle.radix_trie.proofs.Shown.{row_of, entries_shown, entries_of_map}
 
@@ -146,7 +145,7 @@ module _ {K V : Type 0} (enc : K → List ℕ) (m : PairMap K V) (t : Tree (KeyV
       by None e None f = ap (option_map pair_of) e ∙ sym f
       by None e (Some p) f =
           let n = got_node q p f in
-          let clash : None ≡ Some n.1 = sym e ∙ ap (λ (v : Tree (KeyValue K V)). v.pair) (node_unique t q u n.0 root.masked i n.2) ∙ n.3 in
+          let clash : None ≡ Some n.1 = sym e ∙ ap (λ (v : Tree (KeyValue K V)). v.pair) (one_node t q u n.0 root.masked i n.2) ∙ n.3 in
           cc
 
   pub no_node_get : (q : List ℕ) → ((u : Tree (KeyValue K V)) → IsNodeAt t q u → ⊥) → fin.get m q ≡ None

@@ -8,8 +8,10 @@ pub mod Steps
 pub mod Above
 pub mod Parts
 pub mod Places
+pub mod Prunings
 pub mod ChildViews
 pub mod Keyed
+mod KeyedMaps
 pub mod Nearest
 mod Walks
 mod WalkRows
@@ -18,6 +20,7 @@ mod Roots
 mod Written
 mod ViewParts
 mod Copies
+mod AscendingTries
 mod Texts
 mod Objects
 mod Checked

@@ -1,5 +1,5 @@
 -- An object that is built member by member, and a trie that is built from an object.
-use Rattle.std.proofs.Common.{◌≡◌, ℕ, List, [], ◌∷◌, ◌++◌, map, length, cond, is_eq, Option, Some, option_map, String, Global, Ordering, Less, Equal, Greater, nat_cmp, string_bytes, string_cmp, refl, sym, ◌∙◌, ap, subst, append_assoc, arith}
+use Rattle.std.proofs.Common.{◌≡◌, ℕ, ◌+◌, ◌≤◌, Bool, true, false, List, [], ◌∷◌, ◌++◌, map, length, cond, is_eq, Option, Some, option_map, String, Global, Ordering, Less, Equal, Greater, nat_cmp, string_bytes, string_cmp, refl, sym, ◌∙◌, ap, subst, append_assoc, arith}
 use Rattle.std.proofs.lemmas.Cmp.{nat_list_cmp_total}
 use Rattle.std.proofs.lemmas.List.{append-nil}
 use Rattle.std.specs.Cmp.Lexicographic.{slice_cmp}
@@ -16,6 +16,7 @@ use Rattle.serde_json.specs.declared.value.Value.{Value}
 use Rattle.serde_json.proofs.Views.{put_last}
 use Rattle.nibble_map.specs.Maps.{PairMap, value_at}
 use Rattle.nibble_map.specs.Nibbles.{nibbles}
+use Rattle.nibble_map.proofs.Cut.{length-nil}
 use Rattle.nibble_map.proofs.Sorted.{same}
 use Rattle.radix_trie.specs.Json.{object_of}
 use Rattle.radix_trie.proofs.Texts.{encoding, nibbles_cmp, AreTexts}
@@ -94,13 +95,17 @@ module _ (k : String Global) (v : Value) where
     pub texts_inserted : AreTexts (fin.entries (fin.insert m (encoding k) (k, v)))
     texts_inserted = subst AreTexts (sym (fin.entries-insert nat_list_cmp_total m (encoding k) (k, v))) (texts_row (fin.entries m) texts)
 
-no_rows : (es : Rows) → length es ≡ 0 → es ≡ []
-no_rows [] e = refl
-no_rows (x ∷ es) e = absurd (omega arith)
+-- an insertion adds at most one
+pub len-insert-le : (m : PairMap (String Global) Value) (e : List ℕ) (p : String Global × Value) → fin.len (fin.insert m e p) ≤ fin.len m + 1
+len-insert-le m e p = rw (fin.len-insert nat_list_cmp_total m e p) (by (fin.contains_key m e))
+  where
+    by : (b : Bool) → cond b (fin.len m) (fin.len m + 1) ≤ fin.len m + 1
+    by true = omega arith
+    by false = omega arith
 
 module _ (m : PairMap (String Global) Value) (is : m ≡ fin.empty) where
   no_entries : fin.entries m ≡ []
-  no_entries = no_rows (fin.entries m) (sym (fin.len-entries m) ∙ ap fin.len is ∙ fin.len-empty _ _)
+  no_entries = length-nil (fin.entries m) (sym (fin.len-entries m) ∙ ap fin.len is ∙ fin.len-empty _ _)
 
   pub texts_empty : AreTexts (fin.entries m)
   texts_empty = subst AreTexts (sym no_entries) tt

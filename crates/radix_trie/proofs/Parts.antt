@@ -1,19 +1,21 @@
 -- The part of a tree at and below one of its nodes.
-use Rattle.std.proofs.Common.{◌≡◌, ◌≢◌, ◌⊎◌, inl, inr, Bool, true, false, ℕ, suc, ◌≤◌, List, [], ◌∷◌, ◌++◌, filter, Option, Some, None, refl, ap, sym, subst, ◌∙◌, append_assoc, append-nil, arith}
+use Rattle.std.proofs.Common.{◌≡◌, ◌≢◌, ◌⊎◌, inl, inr, Bool, true, false, ℕ, zero, suc, ◌<◌, ◌≤◌, List, [], ◌∷◌, ◌++◌, filter, Option, Some, None, refl, ap, sym, subst, ◌∙◌, append_assoc, append-nil, arith}
 use Rattle.std.proofs.lemmas.List.Elements.{filter-append}
 use Rattle.nibble_map.specs.Kept.{Tree, Kids, none, more, IsPlaced, IsTreePlaced, entries_in, entries_at}
 use Rattle.nibble_map.specs.KeptPaths.{IsKidAt, IsNodeAt}
 use Rattle.nibble_map.specs.Lists.{Has, IsPrefix, is_prefix}
 use Rattle.nibble_map.specs.Swaps.{entry}
 use Rattle.nibble_map.specs.Trees.{first}
-use Rattle.nibble_map.proofs.Cut.{cancel}
+use Rattle.nibble_map.proofs.Cut.{cancel, append-nil_rest}
 use Rattle.nibble_map.proofs.KeptPaths.{begins, shorter, kid_headed, no_kid_here, has_node}
 use Rattle.nibble_map.proofs.KeptSearch.{prefix_below}
 use Rattle.nibble_map.proofs.Parted.{prefix_of, is_prefix_true, prefix_through}
 
-rest_nil : (x z : List ℕ) → x ++ z ≡ [] → z ≡ []
-rest_nil [] z e = e
-rest_nil (a ∷ x) z e = cc e
+pub le-cases : (m n : ℕ) → m ≤ n → (m ≡ n) ⊎ (m < n)
+le-cases zero zero h = inl refl
+le-cases zero (suc n) h = inr (omega arith)
+le-cases (suc m) zero h = absurd (omega arith)
+le-cases (suc m) (suc n) h = elim (le-cases m n (omega arith)) [ inl i ↦ inl (ap suc i) | inr l ↦ inr (omega arith) ]
 
 front_nil : (x z : List ℕ) → x ++ z ≡ [] → x ≡ []
 front_nil [] z e = refl
@@ -78,7 +80,7 @@ module _ {P : Type 0} where
   kid_up low (more f o m kids others) x u z w h n (inl i) (inr (inr d)) =
       absurd (parted f others (x ++ z) w x z h.0 h.4 d refl (first_same f x [] z h.0 (i.0 ∙ sym (append-nil f))))
   kid_up low (more f o m kids others) x u z w h n (inr (inl i)) (inl d) =
-      absurd (n (rest_nil i.0 z (shorter f (i.0 ++ z) (sym (ap (λ y. y ++ z) i.1 ∙ append_assoc f i.0 z) ∙ d.0))))
+      absurd (n (append-nil_rest i.0 z (shorter f (i.0 ++ z) (sym (ap (λ y. y ++ z) i.1 ∙ append_assoc f i.0 z) ∙ d.0))))
   kid_up low (more f o m kids others) x u z w h n (inr (inl i)) (inr (inl d)) =
       let same = cancel f (i.0 ++ z) d.0 (sym (ap (λ y. y ++ z) i.1 ∙ append_assoc f i.0 z) ∙ d.1) in
       kid_up 0 kids i.0 u z w h.3 n i.2 (subst (λ y. IsKidAt kids y w) (sym same) d.2)
@@ -101,7 +103,7 @@ module _ {P : Type 0} where
       let below : IsKidAt t.kids z w = subst (λ y. IsKidAt t.kids y w) (sym (cancel t.fragment z d.0 (ap (λ y. y ++ z) (sym i.0) ∙ d.1))) d.2 in
       subst (λ (v : Tree P). IsKidAt v.kids z w) (sym i.1) below
   node_up t x u z w h n (inr i) (inl d) =
-      absurd (n (rest_nil i.0 z (shorter t.fragment (i.0 ++ z) (sym (ap (λ y. y ++ z) i.1 ∙ append_assoc t.fragment i.0 z) ∙ d.0))))
+      absurd (n (append-nil_rest i.0 z (shorter t.fragment (i.0 ++ z) (sym (ap (λ y. y ++ z) i.1 ∙ append_assoc t.fragment i.0 z) ∙ d.0))))
   node_up t x u z w h n (inr i) (inr d) =
       let same = cancel t.fragment (i.0 ++ z) d.0 (sym (ap (λ y. y ++ z) i.1 ∙ append_assoc t.fragment i.0 z) ∙ d.1) in
       kid_up 0 t.kids i.0 u z w h.1 n i.2 (subst (λ y. IsKidAt t.kids y w) (sym same) d.2)

@@ -9,16 +9,12 @@ use Rattle.nibble_map.specs.Maps.{PairMap, IsPoint}
 use Rattle.nibble_map.specs.Nibbles.{IsShort}
 use Rattle.nibble_map.specs.Trees as trees
 use Rattle.nibble_map.specs.Trees.{nodes, nodes_below, paths}
+use Rattle.nibble_map.proofs.Unique.{Each-has}
 use Rattle.nibble_map.proofs.Members.{Has-left, Has-right, Has-cases, paths-append}
 use Rattle.nibble_map.proofs.OneTree.{fragments_are}
 use Rattle.radix_nodes.specs.declared.trie_node.KeyValue.{KeyValue}
-use Rattle.radix_trie.specs.Pairs.{pair_of}
+use Rattle.radix_nodes.specs.Pairs.{pair_of}
 use Rattle.radix_trie.specs.Roots.{shown_kids, shown, IsRoot}
-
-each_at : {A : Type 0} (P : A → Type 0) (xs : List A) (x : A) → Each P xs → Has xs x → P x
-each_at P [] x e h = absurd h
-each_at P (y ∷ ys) x e (inl i) = subst P (sym i) e.0
-each_at P (y ∷ ys) x e (inr h) = each_at P ys x e.1 h
 
 has_path : {P : Type 0} (ns : List (trees.Node P)) (n : trees.Node P) → Has ns n → Has (paths ns) n.path
 has_path [] n h = absurd h
@@ -72,7 +68,7 @@ module _ {K V : Type 0} (enc : K → List ℕ) (m : PairMap K V) (t : Tree (KeyV
 
   pub node_fragment : (q : List ℕ) (u : Tree (KeyValue K V)) → IsNodeAt t q u → IsFragment m q u.fragment
   node_fragment q u h =
-      each_at (λ (n : trees.Node (K × V)). IsFragment m n.path n.fragment) (nodes (shown t)) (node_of q u) (fragments_are (shown t) m root.canonical) (node_in t q u root.top h)
+      Each-has (λ (n : trees.Node (K × V)). IsFragment m n.path n.fragment) (nodes (shown t)) (node_of q u) (fragments_are (shown t) m root.canonical) (node_in t q u root.top h)
 
   -- a fragment is no longer than its path
   pub short_fragment : (q f : List ℕ) → IsFragment m q f → IsShort q → IsShort f

@@ -15,6 +15,7 @@ use Rattle.nibble_map.specs.MapQueries.{IsLeaf}
 use Rattle.nibble_map.specs.Maps.{NibbleMap, PairMap, IsStored, IsPoint, below, walk}
 use Rattle.nibble_map.specs.Swaps.{entry}
 use Rattle.nibble_map.specs.Trees.{first}
+use Rattle.nibble_map.proofs.Cut.{no_cons}
 use Rattle.nibble_map.proofs.Agreement.{agrees_whole, agrees_off}
 use Rattle.nibble_map.proofs.Below.{get_below}
 use Rattle.nibble_map.proofs.MapEdits.{walk_is}
@@ -27,23 +28,24 @@ use Rattle.radix_nodes.specs.declared.trie_node.TrieNode.{TrieNode, out-TrieNode
 use Rattle.radix_nodes.specs.Nodes.{IsNearest, tree_of, fragment_of, unboxed}
 use Rattle.radix_nodes.proofs.Nodes.{fragment_out, kids_out, pair_out}
 use Rattle.nibble_map.specs.KeptSizes.{levels}
-use Rattle.radix_trie.specs.Pairs.{pair_of}
+use Rattle.radix_nodes.specs.Pairs.{pair_of}
 use Rattle.radix_trie.specs.Places.{IsNodeOf, IsPlace}
 use Rattle.radix_trie.specs.Roots.{IsRoot}
 use Rattle.radix_trie.specs.Views.{pairs_below}
-use Rattle.radix_trie.specs.Walks.{pairs_in}
+use Rattle.radix_nodes.specs.Pairs.{pairs_in}
 use Rattle.radix_trie.proofs.Changes.{at_root}
 use Rattle.radix_trie.proofs.Held.{node_get, no_node_get}
-use Rattle.radix_trie.proofs.Parts.{true_false, kept, node_placed, node_kept, free_kept, node_down, node_up}
+use Rattle.radix_trie.proofs.Parts.{true_false, kept, node_placed, node_kept, free_kept, node_down, node_up, le-cases}
 use Rattle.radix_trie.proofs.Paths.{node_point, point_node}
 use Rattle.radix_trie.proofs.Shown.{row_of, entries_shown}
 use Rattle.radix_trie.proofs.WalkRows.{row_none, levels-some}
-use Rattle.radix_trie.proofs.Walks.{pairs_of_node}
+use Rattle.radix_nodes.proofs.Pairs.{pairs_of_node}
 
 pub not_both : false ≡ true → ⊥
 not_both e = cc e
 
-kept_first : {A B : Type 0} (test : B → Bool) (f : A → B) (xs : List A) → filter test (map f xs) ≡ map f (filter (λ x. test (f x)) xs)
+-- a test of what f makes
+pub kept_first : {A B : Type 0} (test : B → Bool) (f : A → B) (xs : List A) → filter test (map f xs) ≡ map f (filter (λ x. test (f x)) xs)
 kept_first test f [] = refl
 kept_first test f (x ∷ xs) = elim (true_false (test (f x))) [
   | inl e ↦ rw e (ap (λ ys. f x ∷ ys) (kept_first test f xs))
@@ -112,11 +114,8 @@ module _ {K V : Type 0} (enc : K → List ℕ) (m : PairMap K V) (t : Tree (KeyV
   end_leaf p u i end e stored s =
       let r = point_node enc m t root e (inr (inl stored)) in
       let at : IsNodeAt t (p ++ s.0 ∷ s.1) r.0 = subst (λ y. IsNodeAt t y r.0) s.2 r.1 in
-      let kid = node_up t p u (s.0 ∷ s.1) r.0 root.masked (λ z. some_nil z) i at in
+      let kid = node_up t p u (s.0 ∷ s.1) r.0 root.masked (no_cons [] s.0 s.1) i at in
       subst (λ k. IsKidAt k (s.0 ∷ s.1) r.0) end kid
-    where
-      some_nil : {a : ℕ} {w : List ℕ} → a ∷ w ≡ [] → ⊥
-      some_nil z = cc z
 
   pub more_no_leaf : (p : List ℕ) (u : Tree (KeyValue K V)) → IsNodeAt t p u → (x : List ℕ) (w : Tree (KeyValue K V)) → x ≢ [] → IsKidAt u.kids x w → IsLeaf m p → ⊥
   more_no_leaf p u i x w some k =
@@ -262,14 +261,8 @@ module _ {K V : Type 0} (enc : K → List ℕ) (m : PairMap K V) (p : List ℕ) 
 -- a path begins a list where they agree in all of the path
 pub begins_tells : (p e : List ℕ) (same compared count : ℕ) → count ≡ length p → Agrees p e same compared → IsTrue (nat_eq same count) ↔ IsPrefix p e
 begins_tells p e same compared count is agree =
-    (λ t. (drop same e, sym (agrees_whole p e same compared agree (eqb-true same count t ∙ is))), λ i. eq-eqb same count (all i (least same (length p) agree.within) ∙ sym is))
+    (λ t. (drop same e, sym (agrees_whole p e same compared agree (eqb-true same count t ∙ is))), λ i. eq-eqb same count (all i (le-cases same (length p) agree.within) ∙ sym is))
   where
-    least : (a b : ℕ) → a ≤ b → (a ≡ b) ⊎ (a < b)
-    least zero zero le = inl refl
-    least zero (suc b) le = inr (omega arith)
-    least (suc a) zero le = absurd (omega arith)
-    least (suc a) (suc b) le = elim (least a b (omega arith)) [ inl e ↦ inl (ap suc e) | inr lt ↦ inr (omega arith) ]
-
     all : IsPrefix p e → (same ≡ length p) ⊎ (same < length p) → same ≡ length p
     all i (inl d) = d
     all i (inr lt) = absurd (agrees_off p e same compared agree lt i)

@@ -17,8 +17,9 @@ use Rattle.nibble_map.proofs.Moves.{compared_moves}
 use Rattle.nibble_map.proofs.OneTree.{full_is_canonical}
 use Rattle.nibble_map.proofs.Parted.{prefix_length, prefix_same}
 use Rattle.radix_nodes.specs.declared.trie_node.KeyValue.{KeyValue}
-use Rattle.radix_trie.specs.Pairs.{pair_of}
+use Rattle.radix_nodes.specs.Pairs.{pair_of}
 use Rattle.radix_trie.specs.Roots.{shown_kids, shown, IsRoot}
+use Rattle.radix_trie.proofs.Parts.{le-cases}
 use Rattle.radix_trie.proofs.Held.{three_ways, root_rows, node_get, no_node_get}
 use Rattle.radix_trie.proofs.Shown.{row_of}
 
@@ -27,17 +28,11 @@ pub compared_once : (S : List ℕ → Type 0) (e : List ℕ) (n : ℕ) → answe
 compared_once S e n (p, l, inl h) = let a = prefix_length p e l.above in omega (arith, a, h.1)
 compared_once S e n (p, l, inr h) = elim (three_ways (length e) (length p)) [
   | inl le ↦ absurd (h.0 (prefix_same p e l.above le))
-  | inr le ↦ elim (apart (length p) (length e) le) [
+  | inr le ↦ elim (le-cases (length p) (length e) le) [
     | inl same ↦ absurd (h.0 (prefix_same p e l.above (omega (arith, same))))
     | inr less ↦ omega (arith, less, h.2)
   ]
 ]
-  where
-    apart : (m n : ℕ) → m ≤ n → (m ≡ n) ⊎ (m < n)
-    apart zero zero h = inl refl
-    apart zero (suc n) h = inr (omega arith)
-    apart (suc m) zero h = absurd (omega arith)
-    apart (suc m) (suc n) h = elim (apart m n (omega arith)) [ inl i ↦ inl (ap suc i) | inr l ↦ inr (omega arith) ]
 
 module _ {K V : Type 0} where
   some_hidden : (o : Option (KeyValue K V)) → IsSome (option_map pair_of o) → IsSome o

@@ -1,5 +1,5 @@
 -- A kept root as plain data: its entries, nodes and nibbles, and the map that it stands for.
-use Rattle.std.proofs.Common.{◌≡◌, ℕ, suc, inl, inr, List, [], ◌∷◌, ◌++◌, map, length, Option, Some, None, IsSome, option_map, refl, ap, sym, append_assoc, subst, ◌∙◌, arith, nat_cmp}
+use Rattle.std.proofs.Common.{◌≡◌, ℕ, suc, ◌*◌, ◌≤◌, max, inl, inr, List, [], ◌∷◌, ◌++◌, map, length, Option, Some, None, IsSome, option_map, refl, ap, sym, append_assoc, subst, ◌∙◌, arith, nat_cmp}
 use Rattle.std.proofs.lemmas.List.{map-append, length-append}
 use Rattle.std.proofs.lemmas.List.Elements.{filter_map-append}
 use Rattle.std.proofs.lemmas.List.Sums.{sum_by-append, sum_by-cons}
@@ -13,11 +13,11 @@ use Rattle.nibble_map.specs.Stored.{stored}
 use Rattle.nibble_map.specs.Swaps.{entry}
 use Rattle.nibble_map.specs.Trees as trees
 use Rattle.nibble_map.specs.Trees.{Forest, AreMany, IsFull, IsShaped, first, nodes_below}
-use Rattle.nibble_map.proofs.OneTree.{canonical_of_entries, node_count, nibble_count}
+use Rattle.nibble_map.proofs.OneTree.{canonical_of_entries, node_count, nibble_count, few_nodes}
 use Rattle.nibble_map.proofs.Sorted.{sorted_of_rising}
 use Rattle.nibble_map.proofs.Unique.{tree_entries_rise}
 use Rattle.radix_nodes.specs.declared.trie_node.KeyValue.{KeyValue}
-use Rattle.radix_trie.specs.Pairs.{pair_of}
+use Rattle.radix_nodes.specs.Pairs.{pair_of}
 use Rattle.radix_trie.specs.Roots.{shown_kids, shown, entries_of, map_of, AllKeyed, IsRoot, IsKept}
 
 module _ {K V : Type 0} where
@@ -111,6 +111,9 @@ module _ {K V : Type 0} where
 
     pub kept_points : Counts (IsPoint (map_of t)) nodes
     kept_points = subst (Counts (IsPoint (map_of t))) (nodes_shown t ∙ kept.noded) (node_count (shown t) (map_of t) kept_canonical)
+
+    pub kept_few : nodes ≤ max 1 (2 * fin.len (map_of t))
+    kept_few = subst (λ n. n ≤ max 1 (2 * fin.len (map_of t))) (nodes_shown t ∙ kept.noded) (few_nodes (shown t) (map_of t) kept_canonical)
 
     pub kept_stems : Counts (IsStem (map_of t)) nibbles
     kept_stems = subst (Counts (IsStem (map_of t))) (nibbles_shown t ∙ kept.nibbled) (nibble_count (shown t) (map_of t) kept_canonical)

@@ -8,8 +8,9 @@ use Rattle.radix_nodes.specs.declared.trie_node.KeyValue.{KeyValue}
 use Rattle.radix_nodes.specs.declared.trie_node.TrieNode.{TrieNode, out-TrieNode}
 use Rattle.radix_nodes.specs.Nodes.{kids_of, tree_of, unboxed}
 use Rattle.radix_nodes.proofs.Nodes.{kids_out, pair_out}
-use Rattle.radix_trie.specs.Pairs.{pair_of}
-use Rattle.radix_trie.specs.Walks.{first_pair, own_pair, rows_of, with_row}
+use Rattle.radix_nodes.specs.Pairs.{pair_of}
+use Rattle.radix_trie.specs.Walks.{first_pair, rows_of, with_row}
+use Rattle.radix_nodes.specs.Pairs.{own_pair}
 
 abbrev Row : Type 0 → Type 0 → Type 0
 Row K V = List (Box (TrieNode K V) Global)

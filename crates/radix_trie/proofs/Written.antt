@@ -3,7 +3,7 @@ use Rattle.std.proofs.Common.{◌≡◌, ◌⊎◌, inl, ℕ, suc, ◌<◌, ◌^
 use Rattle.std.proofs.lemmas.List.{length-map}
 use Rattle.std.specs.FinMap as fin
 use Rattle.std.specs.Option.{IfSome}
-use Rattle.nibble_map.specs.Alters.{AltersRoot}
+use Rattle.nibble_map.specs.Alters.{entry_at, AltersRoot}
 use Rattle.nibble_map.specs.Kept.{Tree, entries_at}
 use Rattle.nibble_map.specs.Maps.{value_at, with_value, set_value}
 use Rattle.radix_nodes.specs.declared.trie_node.KeyValue.{KeyValue}
@@ -69,7 +69,7 @@ module _ {K V : Type 0} (enc : K → List ℕ) where
         ap fin.from_sorted (entries_shown new (k.like.fragment ∙ kept.top) ∙ ap (map row_of) (k.same []) ∙ sym (entries_shown old kept.top))
 
     module _ (q : List ℕ) (v w : V) (r : Revalues q v w old new) where
-      changed : AltersRoot q (Some (record { key = r.key; value = v })) (Some (record { key = r.key; value = w })) 0 0 0 0 old new
+      changed : AltersRoot (entry_at q (Some (record { key = r.key; value = v }))) (entry_at q (Some (record { key = r.key; value = w }))) 0 0 0 0 old new
       changed = r.alters.root
 
       found : fin.get (map_of old) q ≡ Some (r.key, v)

@@ -1,21 +1,25 @@
 -- What each command answers, and the map that it leaves.
 use Rattle.std.specs.FinMap as map
-use Rattle.std.specs.Prelude.{◌≡◌, ◌⊎◌, ℕ, ◌^◌, ◌-◌, List, [], ◌∷◌, ◌++◌, Option, None}
+use Rattle.std.specs.Prelude.{◌≡◌, ◌⊎◌, ℕ, ◌^◌, ◌-◌, List, [], ◌∷◌, ◌++◌, Option, None, Vec, map as each}
 use Rattle.nibble_map.specs.Lists.{IsPrefix}
-use Rattle.nibble_map.specs.Maps.{PairMap, IsPoint, IsStored, below, value_at}
+use Rattle.nibble_map.specs.Maps.{PairMap, IsPoint, IsStored, below, without_below, value_at}
 use Rattle.nibble_map.specs.Nibbles.{IsShort}
 use Rattle.radix_trie.specs.declared.commands.Command.{Command}
 use Rattle.radix_trie.specs.declared.commands.Command.TheVariants as outer
 use Rattle.radix_trie.specs.declared.commands.Reply.{Reply}
-use Rattle.radix_trie.specs.declared.commands.Reply.TheVariants.{Old, Found, Number, Closed, Replies, Outside, Refused}
+use Rattle.radix_trie.specs.declared.commands.Reply.TheVariants.{Old, Gone, Found, Number, Closed, Replies, Outside, Refused}
 use Rattle.radix_trie.specs.declared.commands.ViewCommand.{ViewCommand}
 use Rattle.radix_trie.specs.declared.commands.ViewCommand.TheVariants as inner
-use Rattle.radix_trie.specs.Views.{IsValueAbove}
+use Rattle.radix_trie.specs.Views.{IsValueAbove, pairs_below}
 
 module _ {K V : Type 0} where
   -- the reply is r, and the map stays
   abbrev pub Stays : PairMap K V → Reply V → PairMap K V → Reply V → Type 0
   Stays m r n is = (r ≡ is) × (n ≡ m)
+
+  -- the values at and below a path, in the order of their lists
+  abbrev pub values_below : PairMap K V → List ℕ → List V
+  values_below m p = each (λ x. x.1) (pairs_below m p)
 
 -- enc is the keys' encoding, and light says which of them are light
 module _ {K V : Type 0} (enc : K → List ℕ) (light : K → Type 0) where
@@ -28,6 +32,9 @@ module _ {K V : Type 0} (enc : K → List ℕ) (light : K → Type 0) where
   abbrev pub Removes : PairMap K V → K → Reply V → PairMap K V → Type 0
   Removes m k r n = (r ≡ Old (value_at m (enc k))) × (n ≡ map.remove m (enc k))
 
+  abbrev pub RemovesBelow : PairMap K V → K → Reply V → PairMap K V → Type 0
+  RemovesBelow m k r n = (vs : _) × (r ≡ Gone vs) × (vs.items ≡ values_below m (enc k)) × (n ≡ without_below m (enc k))
+
   abbrev pub Gets : PairMap K V → K → Reply V → PairMap K V → Type 0
   Gets m k r n = Stays m r n (Found (value_at m (enc k)))
 
@@ -38,6 +45,9 @@ module _ {K V : Type 0} (enc : K → List ℕ) (light : K → Type 0) where
 
   abbrev pub MayRefuseRemove : PairMap K V → K → Type 0
   MayRefuseRemove m k = light k → (map.get m (enc k) ≡ None) ⊎ ((e : List ℕ) → IsStored m e → IsShort e) → ⊥
+
+  abbrev pub MayRefuseBelow : PairMap K V → K → Type 0
+  MayRefuseBelow m k = light k → map.len (below m (enc k)) ≡ 0 → ⊥
 
   -- one command in a view at the path p
   module _ (p : List ℕ) where
@@ -50,6 +60,8 @@ module _ {K V : Type 0} (enc : K → List ℕ) (light : K → Type 0) where
         (IsPrefix p (enc k) × Inserts m k v r n) ⊎ (IsOutside m k r n ⊎ (Stays m r n Refused × (light k → IsPrefix p (enc k)) × MayRefuseInsert m k))
     ViewStep m (inner.Remove k) r n =
         (IsPrefix p (enc k) × Removes m k r n) ⊎ (IsOutside m k r n ⊎ (Stays m r n Refused × (light k → IsPrefix p (enc k)) × MayRefuseRemove m k))
+    ViewStep m (inner.RemovePrefix k) r n =
+        (IsPrefix p (enc k) × RemovesBelow m k r n) ⊎ (IsOutside m k r n ⊎ (Stays m r n Refused × (light k → IsPrefix p (enc k)) × MayRefuseBelow m k))
     ViewStep m (inner.Get k) r n = (IsPrefix p (enc k) × Gets m k r n) ⊎ (IsOutside m k r n ⊎ (Stays m r n Refused × (light k → ⊥)))
     ViewStep m inner.Len r n = Stays m r n (Number (map.len (below m p)))
 
@@ -63,6 +75,7 @@ module _ {K V : Type 0} (enc : K → List ℕ) (light : K → Type 0) where
   abbrev pub Step : PairMap K V → Command K V → Reply V → PairMap K V → Type 0
   Step m (outer.Insert k v) r n = Inserts m k v r n ⊎ (Stays m r n Refused × MayRefuseInsert m k)
   Step m (outer.Remove k) r n = Removes m k r n ⊎ (Stays m r n Refused × MayRefuseRemove m k)
+  Step m (outer.RemovePrefix k) r n = RemovesBelow m k r n ⊎ (Stays m r n Refused × MayRefuseBelow m k)
   Step m (outer.Get k) r n = Gets m k r n ⊎ (Stays m r n Refused × (light k → ⊥))
   Step m (outer.Ancestor k) r n = ((v : Option V) × IsValueAbove m (enc k) v × Stays m r n (Found v)) ⊎ (Stays m r n Refused × (light k → ⊥))
   Step m outer.Len r n = Stays m r n (Number (map.len m))

@@ -7,7 +7,7 @@ use Rattle.nibble_map.specs.Maps.{PairMap}
 use Rattle.nibble_map.specs.Trees as trees
 use Rattle.nibble_map.specs.Trees.{Forest, bare, grow}
 use Rattle.radix_nodes.specs.declared.trie_node.KeyValue.{KeyValue}
-use Rattle.radix_trie.specs.Pairs.{pair_of}
+use Rattle.radix_nodes.specs.Pairs.{pair_of}
 
 module _ {K V : Type 0} where
   -- children as plain data, without masks

@@ -2,35 +2,18 @@
 use Rattle.std.specs.Prelude.{ℕ, suc, ◌+◌, ◌≤◌, List, [], ◌∷◌, ◌++◌, map, Option, Some, None, Box, ⊤}
 use Rattle.std.specs.Borrow.{Bor}
 use Rattle.std.specs.declared.alloc.Global.{Global}
-use Rattle.nibble_map.specs.Kept.{Tree, Kids, none, more, entries_in, entries_at}
+use Rattle.nibble_map.specs.Kept.{Kids, none, more}
 use Rattle.nibble_map.specs.KeptSizes.{levels}
 use Rattle.radix_nodes.specs.declared.trie_node.KeyValue.{KeyValue}
 use Rattle.radix_nodes.specs.declared.trie_node.TrieNode.{TrieNode}
 use Rattle.radix_nodes.specs.Nodes.{kids_of}
-use Rattle.radix_trie.specs.Pairs.{pair_of}
+use Rattle.radix_nodes.specs.Pairs.{pair_of, pairs_in_all}
 
 -- what a `(&K, &V)` points to
 abbrev pub deref_pair : {K V : Type 0} → Bor K × Bor V → K × V
 deref_pair p = (p.0.now, p.1.now)
 
 module _ {K V : Type 0} where
-  -- the pairs of entries, without their paths
-  abbrev pub pairs_of : List (List ℕ × KeyValue K V) → List (K × V)
-  pairs_of es = map (λ e. pair_of e.1) es
-
-  -- the pairs at and below a node, in the nodes' order: its own first, then those of one child after another
-  abbrev pub pairs_in : Tree (KeyValue K V) → List (K × V)
-  pairs_in t = pairs_of (entries_at [] t)
-
-  -- the same of several nodes
-  abbrev pub pairs_in_all : Kids (KeyValue K V) → List (K × V)
-  pairs_in_all kids = pairs_of (entries_in [] kids)
-
-  -- the pair at a node, if there is one
-  abbrev pub own_pair : Option (KeyValue K V) → List (K × V)
-  own_pair None = []
-  own_pair (Some p) = pair_of p ∷ []
-
   abbrev pub first_pair : Option (Bor (KeyValue K V)) → List (K × V)
   first_pair None = []
   first_pair (Some p) = pair_of p.now ∷ []

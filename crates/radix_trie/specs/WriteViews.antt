@@ -10,6 +10,10 @@ module _ {K V P : Type 0} where
   abbrev pub map_behind : SubTrieMut K V P → PairMap K V
   map_behind v = v.trie.now
 
+  -- the name of the view's reference to the trie
+  abbrev pub lender_of : SubTrieMut K V P → GName
+  lender_of v = v.trie.ghost_name
+
   -- the path, and its fragment when the view was made, as they are kept
   abbrev pub kept_path : SubTrieMut K V P → P
   kept_path v = v.path
@@ -24,10 +28,6 @@ module _ {K V : Type 0} where
   -- the fragment of the view's path when the view was made
   abbrev pub prefix_of : SubTrieMut K V NibbleVec → List ℕ
   prefix_of v = v.prefix
-
-  -- the name of the view's reference to the trie
-  abbrev pub lender_of : SubTrieMut K V NibbleVec → GName
-  lender_of v = v.trie.ghost_name
 
   -- v, with the value w at its path
   abbrev pub with_own_value : SubTrieMut K V NibbleVec → V → SubTrieMut K V NibbleVec

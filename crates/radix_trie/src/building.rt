@@ -1,9 +1,8 @@
 //! Tries built from pairs.
-ghost use Rattle.std.specs.Prelude.{◌≡◌, ◌↔◌, IfOk, IfErr};
-ghost use Rattle.std.specs.FinMap as map;
+ghost use Rattle.std.specs.Prelude.{◌≡◌, ◌≢◌, ◌↔◌, IfOk, IfErr};
 ghost use Rattle.std.specs.Iterator.{IsFinite};
 ghost use Rattle.std.specs.Iterator.Runs.{SomeRun, WholeRun};
-ghost use Rattle.radix_trie.specs.Building.{pairs_in_order};
+ghost use Rattle.radix_trie.specs.Building.{pairs_in_order, IsOneTooMany};
 
 use crate::trie::{InsertError, InsertWhy, Trie};
 use radix_keys::TrieKey;
@@ -29,8 +28,10 @@ impl<K: TrieKey + Drop, V: Drop> Trie<K, V> {
     ) -> Result<Trie<K, V>, BuildError>
         requires can { I.can_next iter }
         requires ends { IsFinite (I.remaining iter) }
-        ensures pairs { IfOk result (λ trie. WholeRun I.next_gives iter (λ p. trie ≡ pairs_in_order K.encoding p.items)) }
-        ensures full_at_limit { IfErr result (λ e. e ≡ BuildError.Full → SomeRun I.next_gives iter (λ p. map.len (pairs_in_order K.encoding p.items) ≡ usize.MAX)) }
+        ensures pairs { IfOk result (λ trie.
+            WholeRun I.next_gives iter (λ p. trie ≡ pairs_in_order K.encoding p.items)) }
+        ensures full { IfErr result (λ e. e ≡ BuildError.Full
+            → SomeRun I.next_gives iter (λ p. IsOneTooMany K.encoding p.items)) }
     {
         let mut trie = Trie::new(alloc);
         for (key, value) in iter {
@@ -42,12 +43,14 @@ impl<K: TrieKey + Drop, V: Drop> Trie<K, V> {
     }
 }
 
-/// The refusal of a build by that of an insertion.
+/// The refusal of a build by that of an insertion into a trie, where no key is outside.
 fn why_not_built<K: Drop, V: Drop>(error: InsertError<K, V>) -> BuildError
+    requires { error.why ≢ InsertWhy.Outside }
     ensures { (result ≡ BuildError.Full) ↔ (error.why ≡ InsertWhy.Full) }
 {
     match error.why {
         InsertWhy::Full => BuildError::Full,
-        InsertWhy::Memory | InsertWhy::Outside => BuildError::Memory,
+        InsertWhy::Memory => BuildError::Memory,
+        InsertWhy::Outside => unreachable!(),
     }
 }

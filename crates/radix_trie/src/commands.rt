@@ -1,13 +1,16 @@
 //! Lists of commands, and what they answer.
-ghost use Rattle.std.specs.Prelude.{◌≡◌, ◌≤◌, [], length, vec_capacity, IfOk, IsOk, OnErr, option_copied};
-ghost use Rattle.radix_trie.specs.Commands.{Step, Steps, ViewStep, ViewSteps};
+ghost use Rattle.std.specs.Prelude.{◌≡◌, ◌+◌, ◌≤◌, ◌++◌, [], length, map as each, vec_len, vec_capacity, IfOk, IsOk, OnOk, OnErr, option_copied};
+ghost use Rattle.std.specs.FinMap as map;
+ghost use Rattle.nibble_map.specs.Maps.{below, without_below};
+ghost use Rattle.radix_trie.specs.Commands.{Step, Steps, ViewStep, ViewSteps, values_below};
 ghost use Rattle.radix_trie.specs.WriteViews.{map_behind, path_of, SameView};
 
 use crate::opens::OpenError;
+use crate::place::{Place, begins};
 use crate::subtrie::SubTrieError;
 use crate::subtrie_mut::SubTrieMut;
 use crate::trie::{InsertError, InsertWhy, Trie};
-use radix_keys::{Memory, TrieKey};
+use radix_keys::{Memory, Nibblet, TrieKey};
 
 /// A call of a trie.
 #[derive(Drop)]
@@ -16,6 +19,8 @@ pub enum Command<K, V> {
     Insert(K, V),
     /// Takes the pair at a key's encoding away.
     Remove(K),
+    /// Takes all pairs at and below a key's place away.
+    RemovePrefix(K),
     /// Looks the value at a key's encoding up.
     Get(K),
     /// Looks the value of the longest stored list up that is a prefix of a key's encoding.
@@ -33,6 +38,8 @@ pub enum ViewCommand<K, V> {
     Insert(K, V),
     /// Takes the pair at a key's encoding away.
     Remove(K),
+    /// Takes all pairs at and below a key's place away.
+    RemovePrefix(K),
     /// Looks the value at a key's encoding up.
     Get(K),
     /// Counts the pairs at and below the view's path.
@@ -44,6 +51,8 @@ pub enum ViewCommand<K, V> {
 pub enum Reply<V> {
     /// Of `Insert` and `Remove`: the value that was stored.
     Old(Option<V>),
+    /// Of `RemovePrefix`: the values that were taken, in the order of their keys' encodings.
+    Gone(Vec<V>),
     /// Of `Get` and `Ancestor`: the value that is stored.
     Found(Option<V>),
     /// Of `Len`: a count of pairs.
@@ -86,6 +95,7 @@ fn step<K: TrieKey + Drop, V: Copy>(trie: &mut Trie<K, V>, command: Command<K, V
     match command {
         Command::Insert(key, value) => insert(trie, key, value),
         Command::Remove(key) => remove(trie, &key),
+        Command::RemovePrefix(key) => remove_prefix(trie, &key),
         Command::Get(key) => get(trie, &key),
         Command::Ancestor(key) => ancestor(trie, &key),
         Command::Len => Reply::Number(trie.len()),
@@ -114,6 +124,51 @@ fn remove<K: TrieKey + Drop, V: Copy>(trie: &mut Trie<K, V>, key: &K) -> Reply<V
 {
     match trie.remove(key) {
         Ok(old) => Reply::Old(old),
+        Err(_) => Reply::Refused,
+    }
+}
+
+/// Moves the values of pairs to the end of a list that has room for them.
+fn move_values<K: Drop, V: Copy>(pairs: Vec<(K, V)>, values: &mut Vec<V>)
+    requires room { vec_len values.old + length pairs.items ≤ vec_capacity values.old }
+    ensures { values.new.items ≡ values.old.items ++ each (λ x. x.1) pairs.items }
+{
+    for (_, value) in pairs {
+        values.push_reserved(value);
+    }
+}
+
+/// Takes all pairs at and below a list away, and answers their values. The room for these is reserved before the trie changes.
+fn take_values<K: TrieKey + Drop, V: Copy>(
+    trie: &mut Trie<K, V>,
+    list: &Nibblet,
+) -> Result<Vec<V>, Memory>
+    ensures values { IfOk result (λ values. values.items ≡ values_below trie.old list.now) }
+    ensures removed { OnOk result (trie.new ≡ without_below trie.old list.now) }
+    ensures unchanged { OnErr result (trie.new ≡ trie.old) }
+    ensures none { map.len (below trie.old list.now) ≡ 0 → IsOk result }
+{
+    let count = Place::find(trie, list).len();
+    let Ok(mut values) = Vec::with_capacity(trie.allocator(), count) else {
+        return Err(Memory);
+    };
+    match trie.prune_at(list) {
+        Ok(gone) => {
+            move_values(gone, &mut values);
+            Ok(values)
+        }
+        Err(refusal) => Err(refusal),
+    }
+}
+
+fn remove_prefix<K: TrieKey + Drop, V: Copy>(trie: &mut Trie<K, V>, key: &K) -> Reply<V>
+    ensures { Step K.encoding K.is_light trie.old (Command.RemovePrefix key.now) result trie.new }
+{
+    let Ok(list) = key.encode(trie.allocator()) else {
+        return Reply::Refused;
+    };
+    match take_values(trie, &list) {
+        Ok(values) => Reply::Gone(values),
         Err(_) => Reply::Refused,
     }
 }
@@ -186,6 +241,7 @@ fn view_step<K: TrieKey + Drop, V: Copy>(
     match command {
         ViewCommand::Insert(key, value) => view_insert(view, key, value),
         ViewCommand::Remove(key) => view_remove(view, &key),
+        ViewCommand::RemovePrefix(key) => view_remove_prefix(view, &key),
         ViewCommand::Get(key) => view_get(view, &key),
         ViewCommand::Len => Reply::Number(view.place().len()),
     }
@@ -223,6 +279,26 @@ fn view_remove<K: TrieKey + Drop, V: Copy>(view: &mut SubTrieMut<'_, K, V>, key:
         Ok(old) => Reply::Old(old),
         Err(SubTrieError::Outside) => Reply::Outside,
         Err(SubTrieError::Memory) => Reply::Refused,
+    }
+}
+
+fn view_remove_prefix<K: TrieKey + Drop, V: Copy>(
+    view: &mut SubTrieMut<'_, K, V>,
+    key: &K,
+) -> Reply<V>
+    ensures same_view { SameView view.old view.new }
+    ensures step { ViewStep K.encoding K.is_light (path_of view.old) (map_behind view.old)
+        (ViewCommand.RemovePrefix key.now) result (map_behind view.new) }
+{
+    let Ok(list) = key.encode(view.trie.allocator()) else {
+        return Reply::Refused;
+    };
+    if !begins(&view.path, &list) {
+        return Reply::Outside;
+    }
+    match take_values(view.trie, &list) {
+        Ok(values) => Reply::Gone(values),
+        Err(_) => Reply::Refused,
     }
 }
 

@@ -7,6 +7,7 @@ mod counted;
 mod equality;
 mod integrity;
 pub mod iter;
+mod key_laws;
 mod lends;
 mod opens;
 mod place;
@@ -20,10 +21,12 @@ mod write_common;
 
 pub use building::BuildError;
 pub use commands::{Command, Reply, ViewCommand, run};
+pub use key_laws::stored_keys_are_equal;
 pub use lends::FindError;
 pub use opens::OpenError;
 pub use radix_keys::{
-    BigEndian, BytesError, KeyInt, LittleEndian, Memory, NibbleVec, Nibblet, TrieKey,
+    Ascending, BigEndian, BytesError, KeyInt, KeySigned, LittleEndian, Memory, NibbleVec, Nibblet,
+    TrieKey,
 };
 pub use subtrie::{SubTrie, SubTrieError, SubTrieResult};
 pub use subtrie_mut::{PathList, SubTrieMut};

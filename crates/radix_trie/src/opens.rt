@@ -1,6 +1,6 @@
 //! What opens a view for writing.
 ghost use Rattle.std.specs.Borrow.{sem};
-ghost use Rattle.std.specs.Prelude.{◌≡◌, ◌↔◌, IsTrue, IsOk, IfOk, IfErr, IfSome, MatchOption};
+ghost use Rattle.std.specs.Prelude.{◌≡◌, IsOk, IfOk, IfErr, IfSome, MatchOption};
 ghost use Rattle.nibble_map.specs.MapQueries.{IsFragment};
 ghost use Rattle.nibble_map.specs.Maps.{IsPoint};
 ghost use Rattle.radix_nodes.specs.Nodes.{fragment_of, tree_of};
@@ -31,13 +31,6 @@ impl<K: TrieKey, V> Trie<K, V> {
         ensures fragment { IfSome result (λ node. IsFragment self.now list.now (fragment_of node.now)) }
     {
         find(self.root(), list, 0)
-    }
-
-    /// Whether a point stands at a list.
-    pub(crate) fn is_point(&self, list: &Nibblet) -> bool
-        ensures { IsTrue result ↔ IsPoint self.now list.now }
-    {
-        self.node_at(list).is_some()
     }
 
     /// The key's encoding and the fragment of the point there, if one stands there.

@@ -6,7 +6,7 @@ ghost use Rattle.nibble_map.specs.Maps.{below, value_at, walk};
 ghost use Rattle.nibble_map.specs.MapQueries.{AreKids, IsKid, IsLeaf, IsRawDescendant};
 ghost use Rattle.nibble_map.specs.Nibbles.{IsShort};
 ghost use Rattle.radix_nodes.specs.Nodes.{tree_of};
-ghost use Rattle.radix_trie.specs.Pairs.{pair_of};
+ghost use Rattle.radix_nodes.specs.Pairs.{pair_of};
 ghost use Rattle.radix_trie.specs.Places.{IsNodeOf, kid_views};
 ghost use Rattle.radix_trie.specs.Views.{pairs_below, paths_of};
 

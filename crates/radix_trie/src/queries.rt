@@ -35,7 +35,8 @@ impl<K: TrieKey, V> Trie<K, V> {
 
     /// The view at the longest stored list that is a prefix of the key's encoding, or None where there is none.
     ///
-    /// The one refusal is that of memory for the encoding and the path, which a light key never meets.
+    /// The one refusal is that of memory for the encoding, which a light key never meets: the view's path is the encoding
+    /// cut short.
     pub fn get_ancestor<Q: TrieKey>(&self, key: &Q) -> Result<Option<SubTrie<'_, K, V>>, Memory>
         ensures nearest { IfOk result (λ o. IsAncestor self.now (Q.encoding key.now) (option_map (λ view. view.path) o)) }
         ensures same_map { IfOk result (λ o. IfSome o (λ view. view.map ≡ self.now)) }
@@ -45,12 +46,13 @@ impl<K: TrieKey, V> Trie<K, V> {
         let Some((node, depth)) = deepest_pair(self.root(), &list, 0) else {
             return Ok(None);
         };
-        Ok(Some(self.view_within(node, list, depth)?))
+        Ok(Some(self.view_within(node, list, depth)))
     }
 
     /// The view at the longest point that is a prefix of the key's encoding. There is always one, the empty list at least.
     ///
-    /// The one refusal is that of memory for the encoding and the path, which a light key never meets.
+    /// The one refusal is that of memory for the encoding, which a light key never meets: the view's path is the encoding
+    /// cut short.
     pub fn get_raw_ancestor<Q: TrieKey>(&self, key: &Q) -> Result<SubTrie<'_, K, V>, Memory>
         ensures nearest { IfOk result (λ view. IsRawAncestor self.now (Q.encoding key.now) view.path) }
         ensures same_map { IfOk result (λ view. view.map ≡ self.now) }
@@ -58,7 +60,7 @@ impl<K: TrieKey, V> Trie<K, V> {
     {
         let list = key.encode(self.allocator())?;
         let (node, depth) = deepest(self.root(), &list, 0);
-        self.view_within(node, list, depth)
+        Ok(self.view_within(node, list, depth))
     }
 
     /// The view at the node that stands after the first nibbles of a list, so many of them.
@@ -67,16 +69,15 @@ impl<K: TrieKey, V> Trie<K, V> {
         node: &'a TrieNode<K, V>,
         list: Nibblet,
         depth: usize,
-    ) -> Result<SubTrie<'a, K, V>, Memory>
+    ) -> SubTrie<'a, K, V>
         requires within { depth ≤ length list }
         requires node { IsNodeOf K.encoding self.now (take depth list) (tree_of node.now) }
-        ensures path { IfOk result (λ view. view.path ≡ take depth list) }
-        ensures same_map { IfOk result (λ view. view.map ≡ self.now) }
-        ensures short { IsShort (drop depth list) → IsOk result }
+        ensures path { result.path ≡ take depth list }
+        ensures same_map { result.map ≡ self.now }
     {
         let mut path = list;
-        path.split(depth)?;
-        Ok(SubTrie::new(self, node, path))
+        path.truncate(depth);
+        SubTrie::new(self, node, path)
     }
 
     /// The value of the longest stored list that is a prefix of the key's encoding, or None where there is none.

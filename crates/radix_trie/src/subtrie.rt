@@ -6,7 +6,7 @@ ghost use Rattle.nibble_map.specs.MapQueries.{AreKids, IsFragment, IsKid};
 ghost use Rattle.nibble_map.specs.Maps.{value_at};
 ghost use Rattle.nibble_map.specs.Nibbles.{IsShort};
 ghost use Rattle.radix_nodes.specs.Nodes.{tree_of};
-ghost use Rattle.radix_trie.specs.Pairs.{pair_of};
+ghost use Rattle.radix_nodes.specs.Pairs.{pair_of};
 ghost use Rattle.radix_trie.specs.Views.{paths_of};
 
 use crate::iter::Children;

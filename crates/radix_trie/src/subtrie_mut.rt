@@ -5,10 +5,10 @@ ghost use Rattle.std.specs.Option.{option_copied_mut};
 ghost use Rattle.std.specs.Prelude.{◌≡◌, ◌≢◌, ◌↔◌, ℕ, List, None, IsTrue, IsOk, IfOk, OnOk, IfErr, OnErr, IsErrAnd, Err, option_copied};
 ghost use Rattle.nibble_map.specs.Lists.{Each, IsPrefix};
 ghost use Rattle.nibble_map.specs.MapQueries.{AreKids, IsKid, IsLeaf};
-ghost use Rattle.nibble_map.specs.Maps.{IsStored, below, value_at};
+ghost use Rattle.nibble_map.specs.Maps.{IsStored, below, value_at, without_below};
 ghost use Rattle.nibble_map.specs.Nibbles.{IsShort};
 ghost use Rattle.radix_trie.specs.Lends.{lends_behind, lends_own};
-ghost use Rattle.radix_trie.specs.Views.{paths_of};
+ghost use Rattle.radix_trie.specs.Views.{pairs_below, paths_of};
 ghost use Rattle.radix_trie.specs.WriteViews.{map_behind, kept_path, kept_prefix, path_of, prefix_of, lender_of, SameView};
 
 use crate::iter::Children;
@@ -114,6 +114,21 @@ impl<'a, K: TrieKey, V> SubTrieMut<'a, K, V> {
         self.place().children()
     }
 
+    /// The views that `children` hands out, for as long as the trie's borrow. The view is spent.
+    ///
+    /// It takes no memory where each of their paths has at most 32 nibbles.
+    pub fn into_children(self) -> Result<Children<'a, K, V>, Memory>
+        ensures kids { IfOk result (λ children.
+            AreKids (map_behind self.entry) (path_of self.entry) (paths_of children)) }
+        ensures same_map { IfOk result (λ children.
+            Each (λ c. c.map ≡ map_behind self.entry) children) }
+        ensures short { ((q : List ℕ) → IsKid (map_behind self.entry) (path_of self.entry) q
+            → IsShort q) → IsOk result }
+    {
+        let (trie, path) = self.into_parts();
+        Place::find(trie, &path).children()
+    }
+
     /// The value at the path, for writing, if one is stored there. It takes no memory.
     ///
     /// Once the value has been written, the view's map has it at the path, and all else is as before.
@@ -153,6 +168,23 @@ impl<'a, K: TrieKey, V> SubTrieMut<'a, K, V> {
 }
 
 impl<'a, K: TrieKey, V, P: PathList> SubTrieMut<'a, K, V, P> {
+    /// The reference to the trie that the view was made of, for as long as the trie's borrow. The view is spent, and
+    /// the trie is as the view leaves it.
+    ///
+    /// The calls of `TrieCommon` spend a view too, and hand out what lasts as long; but a caller of this one goes on
+    /// knowing what the trie is.
+    pub fn into_trie(self) -> &'a mut Trie<K, V>
+        ensures same_reference { result.ghost_name ≡ lender_of self.entry }
+        ensures map { result.now ≡ map_behind self.entry }
+    {
+        let SubTrieMut {
+            trie,
+            path: _,
+            prefix: _,
+        } = self;
+        trie
+    }
+
     /// The trie and the path. The view is spent: its reference for writing becomes one for reading.
     pub(crate) fn into_parts(self) -> (&'a Trie<K, V>, P)
         ensures map { result.0.now ≡ map_behind self.entry }
@@ -231,6 +263,7 @@ impl<'a, K: TrieKey + Drop, V: Drop> SubTrieMut<'a, K, V> {
         ensures inside { OnOk result (IsPrefix (path_of self.old) (K.encoding key)) }
         ensures old_value { IfOk result (λ old. old ≡ value_at (map_behind self.old) (K.encoding key)) }
         ensures stored { OnOk result (map_behind self.new ≡ map.insert (map_behind self.old) (K.encoding key) (key, value)) }
+        ensures is_value { OnOk result (K.is_value key) }
 
         ensures handed_back { IfErr result (λ e. (e.key ≡ key) × (e.value ≡ value)) }
         ensures unchanged { OnErr result (map_behind self.new ≡ map_behind self.old) }
@@ -254,6 +287,39 @@ impl<'a, K: TrieKey + Drop, V: Drop> SubTrieMut<'a, K, V> {
             return Err(refused(InsertWhy::Outside, pair));
         }
         self.trie.put_at(&list, pair)
+    }
+
+    /// Takes all pairs at and below the key's place away, as `Trie::remove_prefix` does. Outside where the view's path isn't a
+    /// prefix of the key's encoding, and then nothing changes.
+    pub fn remove_prefix<Q: TrieKey>(&mut self, key: &Q) -> Result<Vec<(K, V)>, SubTrieError>
+        ensures same_view { SameView self.old self.new }
+        ensures inside { OnOk result (IsPrefix (path_of self.old) (Q.encoding key.now)) }
+        ensures pairs { IfOk result (λ gone.
+            gone.items ≡ pairs_below (map_behind self.old) (Q.encoding key.now)) }
+        ensures removed { OnOk result
+            (map_behind self.new ≡ without_below (map_behind self.old) (Q.encoding key.now)) }
+
+        ensures unchanged { OnErr result (map_behind self.new ≡ map_behind self.old) }
+        ensures outside { result ≡ Err SubTrieError.Outside →
+            IsPrefix (path_of self.old) (Q.encoding key.now) → ⊥ }
+
+        ensures light_outside { Q.is_light key.now →
+            (IsPrefix (path_of self.old) (Q.encoding key.now) → ⊥) →
+            result ≡ Err SubTrieError.Outside }
+        ensures light_none { Q.is_light key.now →
+            IsPrefix (path_of self.old) (Q.encoding key.now) →
+            map.len (below (map_behind self.old) (Q.encoding key.now)) ≡ 0 → IsOk result }
+    {
+        let Ok(list) = key.encode(self.trie.allocator()) else {
+            return Err(SubTrieError::Memory);
+        };
+        if !begins(&self.path, &list) {
+            return Err(SubTrieError::Outside);
+        }
+        match self.trie.prune_at(&list) {
+            Ok(gone) => Ok(gone),
+            Err(_) => Err(SubTrieError::Memory),
+        }
     }
 
     /// Takes the pair at the key's encoding away, as `Trie::remove` does. Outside where the view's path isn't a prefix of

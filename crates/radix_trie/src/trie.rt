@@ -1,26 +1,30 @@
 //! The trie, as a map.
 ghost use Rattle.std.specs.Borrow.{sem};
-ghost use Rattle.std.specs.Prelude.{◌≡◌, ◌≢◌, ◌↔◌, ◌<◌, ◌^◌, ℕ, List, length, true, false, None, IsTrue, IsOk, IfOk, OnOk, IfErr, OnErr, IsErrAnd, MatchOption, option_copied, option_map};
+ghost use Rattle.std.specs.Prelude.{[], ◌≡◌, ◌≢◌, ◌↔◌, ◌*◌, ◌<◌, ◌≤◌, ◌^◌, ℕ, List, length, max, true, false, None, IsTrue, IsOk, IfOk, OnOk, IfErr, OnErr, IsErrAnd, MatchOption, option_copied, option_map};
 ghost use Rattle.std.specs.Fn.{FnOnceReturnsAtMut, FnOnceTakesAtMut};
 ghost use Rattle.std.specs.Option.{ForSome, option_copied_mut};
 ghost use Rattle.std.specs.FinMap as map;
 ghost use Rattle.nibble_map.specs.KeptSame.{IsMapCopy, IsPairClone};
 ghost use Rattle.nibble_map.specs.Lists.{Counts};
-ghost use Rattle.nibble_map.specs.Maps.{IsStored, IsPoint, IsStem, value_at, with_value};
+ghost use Rattle.nibble_map.specs.Maps.{IsStored, IsPoint, IsStem, below, value_at, with_value, without_below};
 ghost use Rattle.nibble_map.specs.Nibbles.{IsShort};
 ghost use Rattle.radix_nodes.specs.Nodes.{tree_of};
 ghost use Rattle.radix_trie.specs.Lends.{lends_at};
-ghost use Rattle.radix_trie.specs.Pairs.{pair_of};
+ghost use Rattle.radix_trie.specs.Views.{pairs_below};
+ghost use Rattle.radix_nodes.specs.Pairs.{pair_of};
 
 use radix_keys::{Memory, Nibblet, TrieKey};
 use radix_nodes::traversal::copied::copied;
 use radix_nodes::traversal::find::find;
 use radix_nodes::traversal::insert::put;
 use radix_nodes::traversal::lend::value_at_mut;
+use radix_nodes::traversal::prune::{prune_all, prune_root};
 use radix_nodes::traversal::remove::take_root;
 use radix_nodes::trie_node::{KeyValue, TrieNode};
 use std::alloc::Global;
 use std::marker::Model;
+
+mod ascending;
 
 /// Why an insertion was refused.
 #[derive(Clone, Copy, PartialEq, Eq, Debug)]
@@ -110,10 +114,11 @@ impl<K: TrieKey, V> Trie<K, V> {
     /// The count of nodes, the root among them, and the count of nibbles of all their fragments.
     ///
     /// Whatever the history, these are the count of the map's points, and the count of the distinct
-    /// non-empty prefixes of the stored encodings.
+    /// non-empty prefixes of the stored encodings. There are at most two nodes a pair, or the root alone.
     pub fn footprint(&self) -> (u128, u128)
         ensures nodes { Counts (IsPoint self.now) result.0 }
         ensures nibbles { Counts (IsStem self.now) result.1 }
+        ensures few { result.0 ≤ max 1 (2 * map.len self.now) }
     {
         (self.nodes, self.nibbles)
     }
@@ -137,6 +142,7 @@ impl<K: TrieKey, V> Trie<K, V> {
     /// refusal is that of memory for the encoding, which a light key never meets.
     pub fn get<Q: TrieKey>(&self, key: &Q) -> Result<Option<&V>, Memory>
         ensures value { IfOk result (λ found. option_copied found ≡ value_at self.now (Q.encoding key.now)) }
+        ensures is_value { OnOk result (Q.is_value key.now) }
         ensures light { Q.is_light key.now → IsOk result }
     {
         let list = key.encode(self.alloc)?;
@@ -191,6 +197,7 @@ impl<K: TrieKey, V> Trie<K, V> {
 pub(crate) fn encoding_of<Q: TrieKey>(alloc: Global, key: &Q) -> Result<Nibblet, Memory>
     ensures ok { IfOk result (λ list. list ≡ Q.encoding key.now) }
     ensures fits { IfOk result (λ list. length list < 2 ^ 64) }
+    ensures is_value { OnOk result (Q.is_value key.now) }
     ensures light { Q.is_light key.now → IsOk result }
 {
     let list = key.encode(alloc)?;
@@ -218,6 +225,7 @@ impl<K: TrieKey + Drop, V: Drop> Trie<K, V> {
     pub fn insert(&mut self, key: K, value: V) -> Result<Option<V>, InsertError<K, V>>
         ensures old_value { IfOk result (λ old. old ≡ value_at self.old (K.encoding key)) }
         ensures stored { OnOk result (self.new ≡ map.insert self.old (K.encoding key) (key, value)) }
+        ensures is_value { OnOk result (K.is_value key) }
 
         ensures handed_back { IfErr result (λ e. (e.key ≡ key) × (e.value ≡ value)) }
         ensures unchanged { OnErr result (self.new ≡ self.old) }
@@ -301,6 +309,7 @@ impl<K: TrieKey + Drop, V: Drop> Trie<K, V> {
         requires callable { ForSome (value_at self.old (K.encoding key)) (FnOnceTakesAtMut F.FnOnce f) }
         ensures mapped { OnOk result (MatchOption (value_at self.old (K.encoding key)) (self.new ≡ map.insert self.old (K.encoding key) (key, default))
             (λ v. (w : V) × FnOnceReturnsAtMut F.FnOnce f v tt w × (self.new ≡ with_value self.old (K.encoding key) w))) }
+        ensures is_value { OnOk result (K.is_value key) }
 
         ensures handed_back { IfErr result (λ e. (e.key ≡ key) × (e.value ≡ default)) }
         ensures unchanged { OnErr result (self.new ≡ self.old) }
@@ -368,6 +377,60 @@ impl<K: TrieKey + Drop, V: Drop> Trie<K, V> {
                 Ok(Some(taken.pair.value))
             }
             Ok(None) => Ok(None),
+            Err(refusal) => Err(refusal),
+        }
+    }
+
+    /// Takes all pairs at and below the key's place away, and answers them in the order of their encodings.
+    ///
+    /// The key needn't be stored, nor be a point. Where nothing stands there nothing changes, and the answer is empty. The one
+    /// refusal is that of memory, for the encoding, the list of pairs, or for joining two fragments; it leaves the trie as it was.
+    pub fn remove_prefix<Q: TrieKey>(&mut self, key: &Q) -> Result<Vec<(K, V)>, Memory>
+        ensures pairs { IfOk result (λ gone. gone.items ≡ pairs_below self.old (Q.encoding key.now)) }
+        ensures removed { OnOk result (self.new ≡ without_below self.old (Q.encoding key.now)) }
+        ensures unchanged { OnErr result (self.new ≡ self.old) }
+        ensures light_none { Q.is_light key.now → map.len (below self.old (Q.encoding key.now)) ≡ 0 → IsOk result }
+    {
+        let list = key.encode(self.alloc)?;
+        self.prune_at(&list)
+    }
+
+    /// What `remove_prefix` does, with the key's encoding in hand.
+    pub(crate) fn prune_at(&mut self, list: &Nibblet) -> Result<Vec<(K, V)>, Memory>
+        ensures pairs { IfOk result (λ gone. gone.items ≡ pairs_below self.old list.now) }
+        ensures removed { OnOk result (self.new ≡ without_below self.old list.now) }
+        ensures unchanged { OnErr result (self.new ≡ self.old) }
+        ensures none { map.len (below self.old list.now) ≡ 0 → IsOk result }
+    {
+        if list.len() == 0 {
+            return self.prune_whole();
+        }
+        match prune_root(&mut self.root, self.alloc, list) {
+            Ok(Some(pruned)) => {
+                self.length -= pruned.pairs.len();
+                self.nodes -= pruned.nodes;
+                self.nibbles -= pruned.nibbles;
+                Ok(pruned.pairs)
+            }
+            Ok(None) => Ok(Vec::new(self.alloc)),
+            Err(refusal) => Err(refusal),
+        }
+    }
+
+    // The same of all pairs.
+    fn prune_whole(&mut self) -> Result<Vec<(K, V)>, Memory>
+        ensures pairs { IfOk result (λ gone. gone.items ≡ pairs_below self.old []) }
+        ensures removed { OnOk result (self.new ≡ without_below self.old []) }
+        ensures unchanged { OnErr result (self.new ≡ self.old) }
+        ensures none { map.len (below self.old []) ≡ 0 → IsOk result }
+    {
+        match prune_all(&mut self.root, self.alloc) {
+            Ok(pruned) => {
+                self.length -= pruned.pairs.len();
+                self.nodes -= pruned.nodes;
+                self.nibbles -= pruned.nibbles;
+                Ok(pruned.pairs)
+            }
             Err(refusal) => Err(refusal),
         }
     }

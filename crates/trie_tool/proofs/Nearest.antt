@@ -4,13 +4,14 @@ use Rattle.std.proofs.lemmas.List.{length-map}
 use Rattle.std.specs.FinMap as map
 use Rattle.std.specs.declared.alloc.Global.{Global}
 use Rattle.nibble_map.specs.Computed.{ancestor}
+use Rattle.nibble_map.specs.Lists.{is_prefix}
 use Rattle.nibble_map.specs.MapQueries.{IsRawDescendant}
 use Rattle.nibble_map.specs.Maps.{PairMap, below}
 use Rattle.nibble_map.specs.Stored as stored
 use Rattle.nibble_map.proofs.Bridge.{from_sorted_none}
 use Rattle.nibble_map.proofs.ComputedAnswers.{ancestor_is}
 use Rattle.nibble_map.proofs.Descendant.{below_descendant, below_nothing}
-use Rattle.nibble_map.proofs.Mapped.{mapped_below, mapped_entries}
+use Rattle.nibble_map.proofs.Mapped.{mapped_retained, mapped_entries}
 use Rattle.nibble_map.proofs.Moves.{ancestor_moves}
 use Rattle.nibble_map.proofs.Parted.{ancestor_unique}
 use Rattle.radix_trie.specs.Views.{IsValueAbove, pairs_below, value_of}
@@ -33,8 +34,9 @@ alone [] = refl
 alone (e ∷ es) = ap (λ l. text e.1 ∷ l) (alone es)
 
 module _ (m : PairMap (String Global) ℕ) (e : List ℕ) where
-  walk_is : pairs_below (texts_of m) e ≡ each text (each (λ e. e.1) (map.entries (below m e)))
-  walk_is = ap (λ n. each (λ e. e.1) (map.entries n)) (sym (mapped_below text m e)) ∙ ap (each (λ e. e.1)) (mapped_entries text (below m e)) ∙ alone (map.entries (below m e))
+  -- the pairs below, as texts
+  pub walk_is : pairs_below (texts_of m) e ≡ each text (each (λ e. e.1) (map.entries (below m e)))
+  walk_is = ap (λ n. each (λ e. e.1) (map.entries n)) (sym (mapped_retained text m (is_prefix e))) ∙ ap (each (λ e. e.1)) (mapped_entries text (below m e)) ∙ alone (map.entries (below m e))
 
   pub rows_below : (q : List ℕ) → IsRawDescendant m e (Some q) → each text (pairs_below m q) ≡ pairs_below (texts_of m) e
   rows_below q is = ap (λ n. each text (each (λ e. e.1) (map.entries n))) (sym (below_descendant m e q is)) ∙ sym walk_is

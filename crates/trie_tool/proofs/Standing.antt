@@ -137,10 +137,6 @@ pub finished : {U : Type 0} (r : Result U ToolError) (a b sent : List ℕ) (held
 finished r a b sent held held' s same sends =
     record { written = sends.written; appended = sends.appended; why = done r a b (sent ++ sends.written) s same sends.why }
 
-pub nothing_in : (xs : List ℕ) → length xs ≡ 0 → xs ≡ []
-nothing_in [] none = refl
-nothing_in (x ∷ xs) none = absurd (omega arith)
-
 pub Goes-err : {U : Type 0} (r : Result U ToolError) (e : ToolError) (b sent : List ℕ) (s : Session)
     → r ≡ Err e → Breaks e (talk_whole b) (sent ++ s.conversation.answers.items) → Goes r b sent s
 Goes-err r e b sent s same why = subst (λ (q : Result _ ToolError). Goes q b sent s) (sym same) why

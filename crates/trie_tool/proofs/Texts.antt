@@ -1,12 +1,13 @@
 -- The map of texts and numbers follows the code's trie.
-use Rattle.std.proofs.Common.{◌≡◌, ℕ, List, Option, option_map, None, Some, refl, ap, ◌∙◌, String}
+use Rattle.std.proofs.Common.{◌≡◌, ℕ, List, Option, option_map, None, Some, not, refl, ap, ◌∙◌, String}
 use Rattle.std.specs.FinMap as map
 use Rattle.std.specs.declared.alloc.Global.{Global}
-use Rattle.nibble_map.specs.Maps.{PairMap, IsStored, value_at}
+use Rattle.nibble_map.specs.Lists.{is_prefix}
+use Rattle.nibble_map.specs.Maps.{PairMap, IsStored, value_at, without_below}
 use Rattle.nibble_map.specs.Stored as stored
 use Rattle.nibble_map.proofs.MapEdits.{held}
 use Rattle.nibble_map.proofs.Moves.{Within}
-use Rattle.nibble_map.proofs.Mapped.{mapped_len, mapped_get, mapped_stored, mapped_empty, mapped_insert, mapped_remove}
+use Rattle.nibble_map.proofs.Mapped.{mapped_len, mapped_get, mapped_stored, mapped_empty, mapped_insert, mapped_remove, mapped_retained}
 use Rattle.trie_tool.specs.Numbers.{text, texts_of}
 
 number_kept : (o : Option (String Global × ℕ)) → option_map (λ p. p.1) (option_map text o) ≡ option_map (λ p. p.1) o
@@ -34,3 +35,6 @@ texts_insert m e p = mapped_insert text m e p
 
 pub texts_remove : (m : PairMap (String Global) ℕ) (e : List ℕ) → texts_of (map.remove m e) ≡ map.remove (texts_of m) e
 texts_remove m e = mapped_remove text m e
+
+pub texts_rest : (m : PairMap (String Global) ℕ) (e : List ℕ) → texts_of (without_below m e) ≡ without_below (texts_of m) e
+texts_rest m e = mapped_retained text m (λ q. not (is_prefix e q))

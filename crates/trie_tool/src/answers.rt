@@ -1,7 +1,7 @@
 //! Carrying out a command, and the whole answer to it.
 ghost use Rattle.std.specs.Prelude.{◌≡◌, ◌++◌, ◌∷◌, [], IfOk, OnOk, length, map as each, string_bytes, decimal};
 ghost use Rattle.trie_tool.specs.Command.{request};
-ghost use Rattle.trie_tool.specs.Request.{answer_to, numbers_after, insert_answer, get_answer, foot_answer, below_answer, json_answer};
+ghost use Rattle.trie_tool.specs.Request.{answer_to, numbers_after, insert_answer, get_answer, foot_answer, below_answer, json_answer, row};
 ghost use Rattle.radix_trie.specs.Views.{pairs_below};
 ghost use Rattle.std.specs.FinMap as map;
 ghost use Rattle.nibble_map.specs.Nibbles.{nibbles};
@@ -48,18 +48,38 @@ fn foot_answer(alloc: Global, points: u128, prefixes: u128) -> Result<String, Al
     Ok(text)
 }
 
+/// Adds a text, a space and its number.
+fn add_row(alloc: Global, rows: &mut String, key: &String, number: u64) -> Result<(), AllocError>
+    ensures { OnOk result
+        (string_bytes rows.new ≡ string_bytes rows.old ++ row (text (key.now, number))) }
+{
+    rows.push_str(key.as_str())?;
+    let rest = format!(in alloc; " {number}\n")?;
+    rows.push_str(rest.as_str())
+}
+
 /// How many texts the walk has, and then each of them with its number.
 fn rows(alloc: Global, count: usize, walk: Iter<'_, String, u64>) -> Result<String, AllocError>
     requires { count ≡ length walk }
     ensures { IfOk result (λ a. string_bytes a ≡ below_answer (each text walk.entry)) }
 {
-    let mut text = format!(in alloc; "{count}\n")?;
+    let mut rows = format!(in alloc; "{count}\n")?;
     for (key, number) in walk {
-        text.push_str(key.as_str())?;
-        let rest = format!(in alloc; " {number}\n")?;
-        text.push_str(rest.as_str())?;
+        add_row(alloc, &mut rows, key, *number)?;
     }
-    Ok(text)
+    Ok(rows)
+}
+
+/// How many texts went, and then each of them with its number.
+fn gone_answer(alloc: Global, gone: &[(String, u64)]) -> Result<String, AllocError>
+    ensures { IfOk result (λ a. string_bytes a ≡ below_answer (each text gone.now)) }
+{
+    let count = gone.len();
+    let mut rows = format!(in alloc; "{count}\n")?;
+    for (key, number) in gone {
+        add_row(alloc, &mut rows, key, *number)?;
+    }
+    Ok(rows)
 }
 
 /// The texts that begin with the key, and their numbers.
@@ -101,6 +121,7 @@ pub fn answer(alloc: Global, numbers: &mut Numbers, command: Command<'_>) -> Res
         Command::Remove(key) => get_answer(alloc, numbers::remove(numbers, key)?)?,
         Command::Ancestor(key) => get_answer(alloc, numbers::ancestor(numbers, key)?)?,
         Command::Below(key) => below_answer(alloc, numbers, key)?,
+        Command::Prune(key) => gone_answer(alloc, &numbers::prune(numbers, key)?)?,
         Command::Len => len_answer(alloc, numbers::len(numbers))?,
         Command::Foot => {
             let (points, prefixes) = numbers::footprint(numbers);

@@ -12,6 +12,7 @@ pub enum Command<'a> {
     Remove(&'a str),
     Ancestor(&'a str),
     Below(&'a str),
+    Prune(&'a str),
     Len,
     Foot,
     Json,
@@ -56,6 +57,8 @@ fn keyed<'a>(word: &str, rest: &'a str) -> Option<Command<'a>>
         Some(Command::Ancestor(rest))
     } else if word == "below" {
         Some(Command::Below(rest))
+    } else if word == "prune" {
+        Some(Command::Prune(rest))
     } else {
         None
     }

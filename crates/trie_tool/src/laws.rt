@@ -1,6 +1,6 @@
 //! Laws of the definitions, and worked lines.
 ghost use Rattle.std.specs.Prelude.{◌≡◌, ℕ, List, [], ◌∷◌, ◌++◌, Some, None, IsTrue, IsFalse, codes, flat_map};
-ghost use Rattle.trie_tool.specs.Request.{request_of, Insert, Get, Len, Remove, Foot, Ancestor, Below, Json};
+ghost use Rattle.trie_tool.specs.Request.{request_of, Insert, Get, Len, Remove, Foot, Ancestor, Below, Prune, Json};
 ghost use Rattle.trie_tool.specs.Talk.{cut, talk, said, number_of_bad};
 
 /// Cutting loses no byte: the lines, each with its line feed, and the bytes after them are the text.
@@ -20,6 +20,8 @@ pub fn worked_lines()
     ensures ancestor { request_of (codes "ancestor abe") ≡ Some (Ancestor (codes "abe")) }
     ensures below { request_of (codes "below a b") ≡ Some (Below (codes "a b")) }
     ensures below_all { request_of (codes "below ") ≡ Some (Below []) }
+    ensures prune { request_of (codes "prune a b") ≡ Some (Prune (codes "a b")) }
+    ensures prune_all { request_of (codes "prune ") ≡ Some (Prune []) }
     ensures below_and_no_space { request_of (codes "below") ≡ None }
     ensures len { request_of (codes "len") ≡ Some Len }
     ensures foot { request_of (codes "foot") ≡ Some Foot }

@@ -1,11 +1,11 @@
 //! The trie of texts and their numbers.
-ghost use Rattle.std.specs.Prelude.{◌≡◌, IfOk, OnOk, OnErr, string_bytes};
+ghost use Rattle.std.specs.Prelude.{◌≡◌, map as each, IfOk, OnOk, OnErr, string_bytes};
 ghost use Rattle.std.specs.FinMap as map;
 ghost use Rattle.nibble_map.specs.Computed.{ancestor, footprint};
 ghost use Rattle.nibble_map.specs.Nibbles.{nibbles};
-ghost use Rattle.nibble_map.specs.Maps.{value_at};
-ghost use Rattle.trie_tool.specs.Numbers.{data_of, texts_of};
-ghost use Rattle.radix_trie.specs.Views.{value_of};
+ghost use Rattle.nibble_map.specs.Maps.{value_at, without_below};
+ghost use Rattle.trie_tool.specs.Numbers.{data_of, text, texts_of};
+ghost use Rattle.radix_trie.specs.Views.{pairs_below, value_of};
 ghost use Rattle.serde_json.specs.Data.{number, unsigned};
 ghost use Rattle.serde_json.specs.View.{members_view};
 ghost use Rattle.trie_tool.specs.Request.{members};
@@ -58,6 +58,17 @@ pub fn remove(numbers: &mut Numbers, key: &str) -> Result<Option<u64>, Memory>
     ensures removed { OnOk result (texts_of numbers.new ≡ map.remove (texts_of numbers.old) (nibbles key.now)) }
 {
     numbers.remove(&key)
+}
+
+/// Takes all texts that begin with the key away, with their numbers, in order. After a refusal the trie is as before.
+pub fn prune(numbers: &mut Numbers, key: &str) -> Result<Vec<(String, u64)>, Memory>
+    ensures gone { IfOk result (λ gone.
+        each text gone.items ≡ pairs_below (texts_of numbers.old) (nibbles key.now)) }
+    ensures removed { OnOk result
+        (texts_of numbers.new ≡ without_below (texts_of numbers.old) (nibbles key.now)) }
+    ensures unchanged { OnErr result (numbers.new ≡ numbers.old) }
+{
+    numbers.remove_prefix(&key)
 }
 
 /// The count of points, and the count of distinct non-empty prefixes of the keys' nibbles.

@@ -4,7 +4,8 @@ ghost use Rattle.std.specs.Iterator.{YieldsFirstBy, item_count};
 ghost use Rattle.nibble_map.specs.Kept.{entries_at};
 ghost use Rattle.nibble_map.specs.KeptSizes.{levels};
 ghost use Rattle.radix_nodes.specs.Nodes.{kids_of, tree_of};
-ghost use Rattle.radix_trie.specs.Walks.{deref_pair, first_pair, own_pair, pairs_in, rows_of, with_row};
+ghost use Rattle.radix_nodes.specs.Pairs.{own_pair, pairs_in};
+ghost use Rattle.radix_trie.specs.Walks.{deref_pair, first_pair, rows_of, with_row};
 
 use radix_keys::Memory;
 use radix_nodes::traversal::size::height;

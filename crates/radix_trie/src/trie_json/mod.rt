@@ -1,5 +1,5 @@
 //! Tries of texts to and from JSON.
-ghost use Rattle.std.specs.Prelude.{◌≡◌, ◌≢◌, ◌↔◌, ℕ, List, IsTrue, IsFalse, option_map, IfOk, OnOk, IfErr};
+ghost use Rattle.std.specs.Prelude.{◌≡◌, ◌≢◌, ◌↔◌, ◌<◌, ℕ, List, IsTrue, IsFalse, option_map, string_bytes, IfOk, OnOk, IfErr};
 ghost use Rattle.std.specs.FinMap as map;
 ghost use Rattle.std.specs.List.Sorted.{IsStrictlySortedBy};
 ghost use Rattle.std.specs.Map.{keys_of};
@@ -15,7 +15,7 @@ ghost use Rattle.radix_trie.specs.Json.{object_of, read_as, IsOtherKind};
 mod floats;
 
 use crate::iter::Iter;
-use crate::trie::Trie;
+use crate::trie::{InsertWhy, Trie};
 use crate::trie_common::TrieCommon;
 use floats::{holds_float, members_hold_float};
 use radix_keys::Memory;
@@ -118,12 +118,27 @@ fn from_members(
     if members_hold_float(members) {
         return Err(JsonError::Float);
     }
+    // The members can be counted, so that there is room for each that is left.
+    let _count = members.len();
     let mut trie = Trie::new(alloc);
     for (key, member) in members.iter() {
-        // An object has fewer members than `Full` is about.
-        if trie.insert(key.clone()?, member.clone()?).is_err() {
-            return Err(JsonError::Memory);
-        }
+        store(&mut trie, key.clone()?, member.clone()?)?;
     }
     Ok(trie)
+}
+
+/// Stores a member in a trie that has room for it. The one refusal is that of memory.
+fn store(trie: &mut Trie<String, Value>, key: String, member: Value) -> Result<(), JsonError>
+    requires room { map.len trie.old < usize.MAX }
+    ensures stored { OnOk result
+        (trie.new ≡ map.insert trie.old (nibbles (string_bytes key)) (key, member)) }
+    ensures memory { IfErr result (λ e. e ≡ JsonError.Memory) }
+{
+    match trie.insert(key, member) {
+        Ok(_) => Ok(()),
+        Err(refused) => match refused.why {
+            InsertWhy::Memory => Err(JsonError::Memory),
+            InsertWhy::Full | InsertWhy::Outside => unreachable!(),
+        },
+    }
 }

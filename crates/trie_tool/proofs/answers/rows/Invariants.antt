@@ -4,4 +4,4 @@ use Rattle.trie_tool.specs.Request.{row, below_answer}
 use Rattle.trie_tool.proofs.answers.rows.Given as goal
 
 abbrev pub invariant-loop-key : goal.invariant-loop-key
-invariant-loop-key l = string_bytes l.text ++ flat_map row (each text l.key-iterator) ≡ below_answer (each text l.fn.walk)
+invariant-loop-key l = string_bytes l.rows ++ flat_map row (each text l.key-iterator) ≡ below_answer (each text l.fn.walk)

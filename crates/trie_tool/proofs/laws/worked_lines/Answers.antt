@@ -85,6 +85,14 @@ pub returns-clause-below_all : goal.returns-clause-below_all
 unfolding request_of is_utf8 chars encode
 returns-clause-below_all c = refl
 
+pub returns-clause-prune : goal.returns-clause-prune
+unfolding request_of is_utf8 chars encode
+returns-clause-prune c = refl
+
+pub returns-clause-prune_all : goal.returns-clause-prune_all
+unfolding request_of is_utf8 chars encode
+returns-clause-prune_all c = refl
+
 pub returns-clause-below_and_no_space : goal.returns-clause-below_and_no_space
 unfolding request_of is_utf8 chars encode
 returns-clause-below_and_no_space c = refl

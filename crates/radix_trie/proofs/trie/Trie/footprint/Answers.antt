@@ -1,4 +1,4 @@
-use Rattle.radix_trie.proofs.Shown.{kept_points, kept_stems}
+use Rattle.radix_trie.proofs.Shown.{kept_few, kept_points, kept_stems}
 use Rattle.radix_trie.proofs.trie.Trie.footprint.Goals as goal
 
 pub returns-clause-nodes : goal.returns-clause-nodes
@@ -6,3 +6,6 @@ returns-clause-nodes g c = rw (← c.self.view_is) (kept_points g.K.TrieKey.enco
 
 pub returns-clause-nibbles : goal.returns-clause-nibbles
 returns-clause-nibbles g c = rw (← c.self.view_is) (kept_stems g.K.TrieKey.encoding _ _ _ _ c.self.invariant)
+
+pub returns-clause-few : goal.returns-clause-few
+returns-clause-few g c = rw (← c.self.view_is) (kept_few g.K.TrieKey.encoding _ _ _ _ c.self.invariant)

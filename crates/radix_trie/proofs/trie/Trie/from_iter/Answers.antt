@@ -1,9 +1,8 @@
-use Rattle.std.proofs.Common.{◌≡◌, false, refl, ap, sym, ◌∙◌, subst}
+use Rattle.std.proofs.Common.{◌≡◌, [], ◌∷◌, ◌++◌, None, false, refl, ap, sym, ◌∙◌, subst}
 use Rattle.std.specs.FinMap as map
 use Rattle.std.specs.Iterator.{Yields}
 use Rattle.std.proofs.iter.runs.Consumers.{total_runs}
-use Rattle.std.proofs.iter.runs.Made.{run}
-use Rattle.nibble_map.proofs.KeptSame.{never}
+use Rattle.std.proofs.iter.runs.Made.{run, to_item}
 use Rattle.radix_trie.specs.Building.{pairs_in_order}
 use Rattle.radix_trie.proofs.trie.Trie.from_iter.Goals as goal
 
@@ -14,11 +13,21 @@ returns-clause-pairs g c =
     total_runs steps c.args.iter (Unit {0}) (λ xs. c.loop-key.trie ≡ pairs_in_order g.K.TrieKey.encoding xs)
     (c.loop-key.yielded, (λ _. (c.next.new.self, (c.loop-key.key-iterator, ran, c.in-None.ensures.steps))), c.loop-key.invariant.built) tt
 
-pub returns-in-Err-clause-full_at_limit : goal.returns-in-Err-clause-full_at_limit
-returns-in-Err-clause-full_at_limit g c = λ full.
+pub returns-in-Err-clause-full : goal.returns-in-Err-clause-full
+returns-in-Err-clause-full g c = λ full.
     let steps = g.I.Iterator.next_gives in
-    let ran = subst (λ s. Yields steps s c.loop-key.yielded c.loop-key.key-iterator) c.into_iter-key-iterator.ensures.into_iter_gives c.loop-key.yielded_by in (
-      run steps c.args.iter c.loop-key.yielded false (c.loop-key.key-iterator, ran, λ e. never e),
+    let enc = g.K.TrieKey.encoding in
+    let others = c.loop-key.yielded in
+    let last : g.row.K.Denot × g.row.V.Denot = (c.in-Some.key, c.in-Some.value) in
+    let ran = subst (λ s. Yields steps s others c.loop-key.key-iterator) c.into_iter-key-iterator.ensures.into_iter_gives c.loop-key.yielded_by in
+    let why = c.why_not_built.ensures.0 full in (
+      run steps c.args.iter (others ++ last ∷ []) false (to_item steps c.args.iter c.next.new.self others last (c.loop-key.key-iterator, ran, c.in-Some.ensures.steps)),
       refl,
-      ap map.len (sym c.loop-key.invariant.built) ∙ c.in-Err.ensures.full_at_limit (c.why_not_built.ensures.0 full),
+      (
+        others,
+        last,
+        refl,
+        ap map.len (sym c.loop-key.invariant.built) ∙ c.in-Err.ensures.full_at_limit why,
+        subst (λ m. map.get m (enc last.0) ≡ None) c.loop-key.invariant.built (c.in-Err.ensures.full_absent why),
+      ),
     )

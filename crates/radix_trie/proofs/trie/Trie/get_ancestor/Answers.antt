@@ -15,5 +15,5 @@ view_within-requires g c = record {
 
 pub returns-clause-nearest : goal.returns-clause-nearest
 returns-clause-nearest g c =
-    rw (c.in_ok-view_within.ensures.path, ← c.in_ok-list.ensures.ok)
+    rw (c.view_within.ensures.path, ← c.in_ok-list.ensures.ok)
     (longest_stored g.K.TrieKey.encoding c.args.self.now c.root.result.now c.in_ok-list.list c.root.ensures (tree_of c.in-Some.node.now) c.in-Some.depth c.in-Some.ensures)

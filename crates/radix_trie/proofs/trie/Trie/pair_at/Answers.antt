@@ -1,7 +1,7 @@
 use Rattle.std.proofs.Common.{ap, sym, ◌∙◌, Some, option_map}
 use Rattle.radix_nodes.specs.Nodes.{unboxed}
 use Rattle.radix_nodes.proofs.Nodes.{pair_out}
-use Rattle.radix_trie.specs.Pairs.{pair_of}
+use Rattle.radix_nodes.specs.Pairs.{pair_of}
 use Rattle.radix_trie.proofs.Changes.{node_at_root, no_node_at_root}
 use Rattle.radix_trie.proofs.Held.{node_get, no_node_get}
 use Rattle.radix_trie.proofs.trie.Trie.pair_at.Goals as goal

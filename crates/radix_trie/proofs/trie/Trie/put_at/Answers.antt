@@ -3,7 +3,7 @@ use Rattle.std.specs.Option.{option_map}
 use Rattle.std.specs.FinMap as map
 use Rattle.radix_nodes.specs.declared.trie_node.KeyValue.{KeyValue}
 use Rattle.radix_nodes.specs.Nodes.{tree_of}
-use Rattle.radix_trie.proofs.Changes.{put_value, put_map, put_over, put_added, put_nodes_fit, put_nibbles_fit, put_absent, unheld_at, room_for}
+use Rattle.radix_trie.proofs.Changes.{put_value, put_map, put_over, put_added, put_fits, unheld_at}
 use Rattle.radix_trie.proofs.Shown.{kept_len}
 use Rattle.radix_trie.proofs.Held.{unheld_none}
 use Rattle.radix_trie.proofs.trie.Trie.put_at.Goals as goal
@@ -17,55 +17,29 @@ returns-in-Err-clause-refused_absent g c =
 pub overflow_add-self : goal.overflow_add-self
 overflow_add-self g c =
     let change = c.in-Ok.change in
-    let q = g.K.TrieKey.encoding c.args.pair.key in
-    let x : KeyValue g.row.K.Denot g.row.V.Denot = c.args.pair in
-    let fits : length q < 2 ^ 64 = subst (λ (l : List ℕ). length l < 2 ^ 64) c.requires.encoding c.requires.fits in
     let small : c.self.inside.length < 2 ^ 64 = search rules in
-    let len = kept_len g.K.TrieKey.encoding (tree_of c.self.inside.root) _ _ _ c.self.invariant in
-    let absent : change.was ≡ None → map.get c.args.self.now c.args.list.now ≡ None =
-    λ w. rw (← c.self.view_is, c.requires.encoding)
-    (put_absent g.K.TrieKey.encoding c.self.inside.root _ _ _ _ c.args.list.now q x change.was change.nodes change.nibbles c.self.invariant c.requires.encoding c.in-Ok.ensures w) in
-    let room : change.was ≡ None → c.self.inside.length + 1 < 2 ^ 64 =
-    λ w. room_for (map.len c.args.self.now ≡ 2 ^ 64 - 1) (map.get c.args.self.now c.args.list.now ≡ None) c.has_no_room_for.result c.self.inside.length
-    c.if-has_no_room_for.false c.has_no_room_for.ensures.1 (λ e. rw (← c.self.view_is) (len ∙ e)) small (absent w) in
-    let fit = put_nodes_fit g.K.TrieKey.encoding c.self.inside.root _ _ _ _ c.args.list.now q x change.was change.nodes change.nibbles
-    c.self.invariant c.requires.encoding c.in-Ok.ensures refl fits small room in
-    omega (arith, fit)
+    let fit = put_fits g.K.TrieKey.encoding c.self.inside.root _ _ _ _ c.args.list.now _ c.args.pair change.was change.nodes change.nibbles
+    c.self.invariant c.requires.encoding c.in-Ok.ensures refl c.requires.fits small
+    c.args.self.now c.self.view_is c.has_no_room_for.result c.if-has_no_room_for.false c.has_no_room_for.ensures.1 in
+    omega (arith, fit.0)
 
 pub overflow_add-self-2 : goal.overflow_add-self-2
 overflow_add-self-2 g c =
     let change = c.in-Ok.change in
-    let q = g.K.TrieKey.encoding c.args.pair.key in
-    let x : KeyValue g.row.K.Denot g.row.V.Denot = c.args.pair in
-    let fits : length q < 2 ^ 64 = subst (λ (l : List ℕ). length l < 2 ^ 64) c.requires.encoding c.requires.fits in
     let small : c.self.inside.length < 2 ^ 64 = search rules in
-    let len = kept_len g.K.TrieKey.encoding (tree_of c.self.inside.root) _ _ _ c.self.invariant in
-    let absent : change.was ≡ None → map.get c.args.self.now c.args.list.now ≡ None =
-    λ w. rw (← c.self.view_is, c.requires.encoding)
-    (put_absent g.K.TrieKey.encoding c.self.inside.root _ _ _ _ c.args.list.now q x change.was change.nodes change.nibbles c.self.invariant c.requires.encoding c.in-Ok.ensures w) in
-    let room : change.was ≡ None → c.self.inside.length + 1 < 2 ^ 64 =
-    λ w. room_for (map.len c.args.self.now ≡ 2 ^ 64 - 1) (map.get c.args.self.now c.args.list.now ≡ None) c.has_no_room_for.result c.self.inside.length
-    c.if-has_no_room_for.false c.has_no_room_for.ensures.1 (λ e. rw (← c.self.view_is) (len ∙ e)) small (absent w) in
-    let fit = put_nibbles_fit g.K.TrieKey.encoding c.self.inside.root _ _ _ _ c.args.list.now q x change.was change.nodes change.nibbles
-    c.self.invariant c.requires.encoding c.in-Ok.ensures refl fits small room in
-    omega (arith, fit)
+    let fit = put_fits g.K.TrieKey.encoding c.self.inside.root _ _ _ _ c.args.list.now _ c.args.pair change.was change.nodes change.nibbles
+    c.self.invariant c.requires.encoding c.in-Ok.ensures refl c.requires.fits small
+    c.args.self.now c.self.view_is c.has_no_room_for.result c.if-has_no_room_for.false c.has_no_room_for.ensures.1 in
+    omega (arith, fit.1)
 
 pub overflow_add-self-in-None : goal.overflow_add-self-in-None
 overflow_add-self-in-None g c =
     let change = c.in-Ok.change in
-    let q = g.K.TrieKey.encoding c.args.pair.key in
-    let x : KeyValue g.row.K.Denot g.row.V.Denot = c.args.pair in
-    let fits : length q < 2 ^ 64 = subst (λ (l : List ℕ). length l < 2 ^ 64) c.requires.encoding c.requires.fits in
     let small : c.self.inside.length < 2 ^ 64 = search rules in
-    let len = kept_len g.K.TrieKey.encoding (tree_of c.self.inside.root) _ _ _ c.self.invariant in
-    let absent : change.was ≡ None → map.get c.args.self.now c.args.list.now ≡ None =
-    λ w. rw (← c.self.view_is, c.requires.encoding)
-    (put_absent g.K.TrieKey.encoding c.self.inside.root _ _ _ _ c.args.list.now q x change.was change.nodes change.nibbles c.self.invariant c.requires.encoding c.in-Ok.ensures w) in
-    let room : change.was ≡ None → c.self.inside.length + 1 < 2 ^ 64 =
-    λ w. room_for (map.len c.args.self.now ≡ 2 ^ 64 - 1) (map.get c.args.self.now c.args.list.now ≡ None) c.has_no_room_for.result c.self.inside.length
-    c.if-has_no_room_for.false c.has_no_room_for.ensures.1 (λ e. rw (← c.self.view_is) (len ∙ e)) small (absent w) in
-    let fit = room c.in-None.is in
-    omega (arith, fit)
+    let fit = put_fits g.K.TrieKey.encoding c.self.inside.root _ _ _ _ c.args.list.now _ c.args.pair change.was change.nodes change.nibbles
+    c.self.invariant c.requires.encoding c.in-Ok.ensures refl c.requires.fits small
+    c.args.self.now c.self.view_is c.has_no_room_for.result c.if-has_no_room_for.false c.has_no_room_for.ensures.1 in
+    omega (arith, fit.2 c.in-None.is)
 
 pub invariant_of-self-in-Some : goal.invariant_of-self-in-Some
 invariant_of-self-in-Some g c =

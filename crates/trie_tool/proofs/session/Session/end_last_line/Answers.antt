@@ -1,11 +1,12 @@
 use Rattle.std.proofs.Common.{◌≢◌, [], ◌++◌, ◌∷◌, ◌∙◌, ap, append-nil, List, ℕ, rules, sym}
 use Rattle.trie_tool.specs.Talk.{talk_whole}
-use Rattle.trie_tool.proofs.Standing.{nothing_in, no_feed}
+use Rattle.trie_tool.proofs.Standing.{no_feed}
 use Rattle.trie_tool.proofs.Talking.{talk-fed, talk-unfed}
 use Rattle.trie_tool.proofs.session.Session.end_last_line.Goals as goal
+use Rattle.nibble_map.proofs.Cut.{length-nil}
 
 pub returns-then-is_empty : goal.returns-then-is_empty
-returns-then-is_empty c = λ b sent at. (b, sym (talk-unfed b (sym at.rest ∙ nothing_in _ (search rules))), at)
+returns-then-is_empty c = λ b sent at. (b, sym (talk-unfed b (sym at.rest ∙ length-nil _ (search rules))), at)
 
 pub returns : goal.returns
 returns c = λ b sent at.

@@ -1,11 +1,12 @@
 use Rattle.std.proofs.Common.{◌≡◌, ◌++◌, ◌∷◌, [], ◌∙◌, List, ℕ, rules, sym}
-use Rattle.trie_tool.proofs.Standing.{always, turn_goes, nothing_in, rest-kept, rest-fed, told-kept, told-turn, refused, Goes-err, Goes-lift}
+use Rattle.trie_tool.proofs.Standing.{always, turn_goes, rest-kept, rest-fed, told-kept, told-turn, refused, Goes-err, Goes-lift}
 use Rattle.trie_tool.proofs.session.Session.end_line.Goals as goal
+use Rattle.nibble_map.proofs.Cut.{length-nil}
 
 pub returns-then-is_empty : goal.returns-then-is_empty
 returns-then-is_empty c = λ b sent at free.
     let line : List ℕ = c.args.bytes.now in
-    let none : c.args.self.now.open_line.items ≡ [] = nothing_in _ (search rules) in
+    let none : c.args.self.now.open_line.items ≡ [] = length-nil _ (search rules) in
     let ends = rest-kept b line [] free (sym none ∙ at.rest) in
     turn_goes c.take_turn.result (b ++ line) sent line _ _ ends (told-kept b line sent _ free at.told)
     c.take_turn.ensures.answered c.take_turn.ensures.count (always c.take_turn.result _ none) c.take_turn.ensures.refused c.take_turn.ensures.unchanged

@@ -1,0 +1,21 @@
+use Rattle.std.proofs.Common.{sym, subst}
+use Rattle.radix_trie.specs.Keys.{IsKeyed}
+use Rattle.radix_trie.proofs.KeyedMaps.{keyed_empty, keyed_inserted, keyed_removed, keyed_written}
+use Rattle.radix_trie.proofs.key_laws.stored_keys_are_equal.Goals as goal
+
+pub returns-clause-equal : goal.returns-clause-equal
+returns-clause-equal g c = λ m k p keyed is at.
+    let stored = keyed (g.K.TrieKey.encoding k) p at in
+    g.met.K.TrieKey.distinct p.0 k stored.1 is (sym stored.0)
+
+pub returns-clause-empty : goal.returns-clause-empty
+returns-clause-empty g c = λ m e. subst (IsKeyed g.K.TrieKey.encoding g.K.TrieKey.is_value) (sym e) (keyed_empty g.K.TrieKey.encoding g.K.TrieKey.is_value)
+
+pub returns-clause-inserted : goal.returns-clause-inserted
+returns-clause-inserted g c = λ m k v keyed is. keyed_inserted g.K.TrieKey.encoding g.K.TrieKey.is_value m k v keyed is
+
+pub returns-clause-removed : goal.returns-clause-removed
+returns-clause-removed g c = λ m e keyed. keyed_removed g.K.TrieKey.encoding g.K.TrieKey.is_value m e keyed
+
+pub returns-clause-written : goal.returns-clause-written
+returns-clause-written g c = λ m e v keyed. keyed_written g.K.TrieKey.encoding g.K.TrieKey.is_value m e v keyed

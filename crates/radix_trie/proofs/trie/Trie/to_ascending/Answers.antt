@@ -1,0 +1,40 @@
+use Rattle.std.proofs.Common.{◌≡◌, ◌≤◌, ◌∙◌, ap, sym, arith, length}
+use Rattle.std.specs.FinMap as map
+use Rattle.nibble_map.specs.Nibbles.{nibbles}
+use Rattle.nibble_map.specs.Turned.{turned}
+use Rattle.nibble_map.proofs.KeptSame.{never}
+use Rattle.radix_keys.specs.AscendingKeys.{turned_bytes}
+use Rattle.radix_keys.proofs.AscendingOrder.{nibbles-turned}
+use Rattle.radix_nodes.specs.Nodes.{tree_of, fragment_of}
+use Rattle.radix_nodes.proofs.Nodes.{fragment_out}
+use Rattle.radix_trie.specs.Roots.{map_of}
+use Rattle.radix_trie.proofs.AscendingTries.{wrapped_kept, wrapped_map, wrapped_footprint}
+use Rattle.radix_trie.proofs.Copies.{no_pair, no_child}
+use Rattle.radix_trie.proofs.Shown.{kept_len}
+use Rattle.radix_trie.proofs.trie.Trie.to_ascending.Goals as goal
+
+pub returns-in_err-turned_copy-clause-light : goal.returns-in_err-turned_copy-clause-light
+returns-in_err-turned_copy-clause-light g c = λ nothing.
+    let enc = g.T.TrieKey.encoding in
+    let root = c.self.inside.root in
+    let none : map.len (map_of (tree_of root)) ≡ 0 = rw c.self.view_is nothing in
+    let empty = sym (kept_len enc (tree_of root) _ _ _ c.self.invariant) ∙ none in
+    let short : length (fragment_of root) ≤ 32 = omega (arith, ap length (sym (fragment_out root) ∙ c.self.invariant.top)) in
+    never (c.in_err-turned_copy.ensures.light (no_pair enc (tree_of root) _ _ _ c.self.invariant empty) (no_child enc (tree_of root) _ _ _ c.self.invariant empty) short)
+
+pub invariant_of-result : goal.invariant_of-result
+invariant_of-result g c =
+    wrapped_kept g.T.TrieKey.encoding (λ k. nibbles (turned_bytes (g.T.KeyInt.bytes k))) g.V.Clone.is_clone (λ k. nibbles-turned _ ∙ ap turned (sym (g.met.T.KeySigned.plain k)))
+    _ _ _ _ _ c.self.invariant c.in_ok-turned_copy.ensures.copy
+
+pub returns-clause-moved : goal.returns-clause-moved
+returns-clause-moved g c =
+    rw (← c.self.view_is)
+    (wrapped_map g.T.TrieKey.encoding (λ k. nibbles (turned_bytes (g.T.KeyInt.bytes k))) g.V.Clone.is_clone (λ k. nibbles-turned _ ∙ ap turned (sym (g.met.T.KeySigned.plain k)))
+    _ _ _ _ _ c.self.invariant c.in_ok-turned_copy.ensures.copy)
+
+pub returns-clause-footprint : goal.returns-clause-footprint
+returns-clause-footprint g c =
+    rw (← c.self.view_is)
+    (wrapped_footprint g.T.TrieKey.encoding (λ k. nibbles (turned_bytes (g.T.KeyInt.bytes k))) g.V.Clone.is_clone (λ k. nibbles-turned _ ∙ ap turned (sym (g.met.T.KeySigned.plain k)))
+    _ _ _ _ _ c.self.invariant c.in_ok-turned_copy.ensures.copy)

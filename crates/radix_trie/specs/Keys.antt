@@ -1,0 +1,8 @@
+-- Maps whose keys are told apart by their encodings.
+use Rattle.std.specs.Prelude.{◌≡◌, ℕ, List, Some}
+use Rattle.std.specs.FinMap as map
+use Rattle.nibble_map.specs.Maps.{PairMap}
+
+-- each stored key stands at its encoding, and is a value of its type, as `is` says
+abbrev pub IsKeyed : {K V : Type 0} → (K → List ℕ) → (K → Type 0) → PairMap K V → Type 0
+IsKeyed {K} {V} enc is m = (e : List ℕ) (p : K × V) → map.get m e ≡ Some p → (e ≡ enc p.0) × is p.0

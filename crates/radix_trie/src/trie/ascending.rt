@@ -1,0 +1,33 @@
+//! The trie of keys in ascending order that a trie of plain signed keys becomes.
+ghost use Rattle.std.specs.Prelude.{◌≡◌, IsOk, IfOk};
+ghost use Rattle.std.specs.FinMap as map;
+ghost use Rattle.nibble_map.specs.KeptSame.{IsPairClone};
+ghost use Rattle.nibble_map.specs.Turned.{IsTurnedCopy, IsSameFootprint};
+
+use crate::trie::Trie;
+use radix_keys::{Ascending, KeySigned, Memory};
+use radix_nodes::traversal::ascending::turned_copy;
+
+impl<T: KeySigned, V: Clone> Trie<T, V> {
+    /// The trie of the same keys in ascending order: the wrapper of each key, with a clone of its
+    /// value, and nothing else.
+    ///
+    /// The trie itself stays as it is, and the new one has as many nodes and nibbles. The one
+    /// refusal is that of memory, for the nodes or in a clone of a value; it drops what was built.
+    /// The trie without pairs is moved without memory.
+    pub fn to_ascending(&self) -> Result<Trie<Ascending<T>, V>, Memory>
+        // Each list comes with its highest bit turned over, as the wrapper's encoding has it.
+        ensures moved { IfOk result (λ moved.
+            IsTurnedCopy (IsPairClone (λ x y. y ≡ x) V.is_clone) self.now moved) }
+        ensures footprint { IfOk result (λ moved. IsSameFootprint self.now moved) }
+        ensures light { map.len self.now ≡ 0 → IsOk result }
+    {
+        Ok(Trie {
+            root: turned_copy(&self.root, self.alloc)?,
+            length: self.length,
+            nodes: self.nodes,
+            nibbles: self.nibbles,
+            alloc: self.alloc,
+        })
+    }
+}

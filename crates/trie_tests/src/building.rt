@@ -1,7 +1,7 @@
 //! Tries built from pairs, and copies of tries.
 
-use radix_trie::{Memory, Trie};
-use trie_samples::{SAMPLE, Texts};
+use radix_trie::{Memory, Nibblet, Trie};
+use trie_samples::{SAMPLE, Texts, list};
 
 /// Of two pairs with one key the later one stays.
 #[test]
@@ -48,5 +48,22 @@ fn clone_stands_alone(rt: HostRuntime) -> Result<(), Memory> {
     assert_eq!(rt; copy.len(), 7);
     assert_eq!(rt; copy.insert("abc", 22).ok(), Some(None));
     assert!(rt; trie == copy);
+    Ok(())
+}
+
+/// A trie of nibble lists is cloned.
+#[test]
+fn clone_of_nibble_lists(rt: HostRuntime) -> Result<(), Memory> {
+    let mut trie: Trie<Nibblet, u64> = Trie::new(rt.alloc());
+    assert_eq!(rt;
+        trie.insert(list(rt.alloc(), [1, 2, 3]), 1).ok(),
+        Some(None)
+    );
+    assert_eq!(rt; trie.insert(list(rt.alloc(), [1, 2]), 2).ok(), Some(None));
+    let copy = trie.clone()?;
+    assert!(rt; trie == copy);
+    assert_eq!(rt; trie.remove(&list(rt.alloc(), [1, 2])), Ok(Some(2)));
+    assert_eq!(rt; copy.get(&list(rt.alloc(), [1, 2]))?.copied(), Some(2));
+    assert_eq!(rt; copy.len(), 2);
     Ok(())
 }

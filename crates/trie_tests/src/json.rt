@@ -114,14 +114,29 @@ fn other_kinds_are_refused(rt: HostRuntime) {
 
 /// A float anywhere in an object is refused.
 #[test]
-fn floats_are_refused(rt: HostRuntime) -> Result<(), JsonError> {
+fn floats_are_refused(rt: HostRuntime) {
     for text in ["{\"a\":1.5}", "{\"a\":[{\"b\":1.5}]}", "{\"a\":[[[0.0]]]}"] {
         let refusal = trie_of(rt.alloc(), text).err();
         assert_eq!(rt; refusal, Some(JsonError::Float), "{text}");
     }
-    let trie = trie_of_two(rt.alloc(), ("a", "1.5"), ("b", "1"))?;
-    assert_eq!(rt; trie.len(), 2);
-    let refusal = to_value(rt.alloc(), &trie).err();
-    assert_eq!(rt; refusal, Some(JsonError::Float));
+}
+
+/// A float isn't written, whatever its form and however deep it stands in a value.
+#[test]
+fn floats_are_not_written(rt: HostRuntime) -> Result<(), JsonError> {
+    for text in [
+        "1.5",
+        "-0.0",
+        "1e300",
+        "[1.5]",
+        "[[[0.0]]]",
+        "{\"b\":1.5}",
+        "[{\"b\":[-2.5e-3]}]",
+    ] {
+        let trie = trie_of_two(rt.alloc(), ("a", text), ("b", "1"))?;
+        assert_eq!(rt; trie.len(), 2);
+        let refusal = to_value(rt.alloc(), &trie).err();
+        assert_eq!(rt; refusal, Some(JsonError::Float), "{text}");
+    }
     Ok(())
 }

@@ -1,4 +1,4 @@
-//! Tests of the trie as a map, and of calls whose growths of memory are refused.
+//! Tests of the trie as a map.
 #![tactic(auto)]
 
 #[cfg(test)]
@@ -13,7 +13,5 @@ mod json;
 mod lent_values;
 #[cfg(test)]
 mod map_calls;
-#[cfg(test)]
-mod refused_growths;
 #[cfg(test)]
 mod small_lists;

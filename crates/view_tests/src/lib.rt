@@ -2,7 +2,11 @@
 #![tactic(auto)]
 
 #[cfg(test)]
+mod optional_views;
+#[cfg(test)]
 mod queries;
+#[cfg(test)]
+mod spent_views;
 #[cfg(test)]
 mod view_answers;
 #[cfg(test)]

@@ -1,10 +1,8 @@
-//! Calls with a growth of memory refused.
-//!
-//! Each test passes as it stands, and also where one growth of it is refused, whichever one: the repository's test
-//! command runs them with growth 1 refused, then growth 2, and so on. What is refused leaves all as it was, hands back
-//! what it was given, and succeeds when it is tried again, since one growth alone is refused.
+//! Insertions, runs, and tries of keys in ascending order.
 
-use radix_trie::{Command, InsertError, InsertWhy, Memory, Reply, Trie, ViewCommand, run};
+use radix_trie::{
+    Ascending, Command, InsertError, InsertWhy, Memory, Reply, Trie, ViewCommand, run,
+};
 use std::alloc::{AllocError, Global};
 use std::process::Abort;
 use trie_samples::Texts;
@@ -112,4 +110,52 @@ fn run_goes_on(rt: HostRuntime) {
     assert_eq!(rt; trie.len(), stored);
     let value = if stored == 1 { Some(3) } else { None };
     assert_eq!(rt; found(&trie, "abc"), Ok(value));
+}
+
+/// The trie of the wrapped keys. Where memory for it is refused, the trie stays as it was, and a second try makes it.
+fn moved(rt: &impl Abort, trie: &Trie<i8, u64>) -> Option<Trie<Ascending<i8>, u64>> {
+    let (len, footprint) = (trie.len(), trie.footprint());
+    let first = trie.to_ascending();
+    assert_eq!(rt; trie.len(), len);
+    assert_eq!(rt; trie.footprint(), footprint);
+    match first {
+        Ok(moved) => Some(moved),
+        Err(_) => trie.to_ascending().ok(),
+    }
+}
+
+/// One pair, so that the growths of the move are among the first.
+#[test]
+fn one_moved_key(rt: HostRuntime) {
+    let mut trie: Trie<i8, u64> = Trie::new(rt.alloc());
+    if trie.insert(-1, 6).is_err() {
+        assert_eq!(rt; trie.insert(-1, 6).ok(), Some(None));
+    }
+    let Some(moved) = moved(&rt, &trie) else {
+        assert!(rt; false);
+        return;
+    };
+    assert_eq!(rt; moved.get(&0x7fu8).ok().flatten().copied(), Some(6));
+    assert_eq!(rt; trie.get(&-1i8).ok().flatten().copied(), Some(6));
+    assert_eq!(rt; moved.footprint(), (2, 2));
+}
+
+/// Keys on both sides of 0.
+#[test]
+fn moved_keys(rt: HostRuntime) {
+    let mut trie: Trie<i8, u64> = Trie::new(rt.alloc());
+    for (key, value) in [(-2i8, 5), (-1, 6), (0, 7), (1, 8)] {
+        if trie.insert(key, value).is_err() {
+            assert_eq!(rt; trie.insert(key, value).ok(), Some(None));
+        }
+    }
+    let Some(moved) = moved(&rt, &trie) else {
+        assert!(rt; false);
+        return;
+    };
+    for (byte, value) in [(0x7eu8, 5), (0x7f, 6), (0x80, 7), (0x81, 8)] {
+        assert_eq!(rt; moved.get(&byte).ok().flatten().copied(), Some(value));
+    }
+    assert_eq!(rt; moved.footprint(), (7, 6));
+    assert_eq!(rt; trie.len(), 4);
 }

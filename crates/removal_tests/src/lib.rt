@@ -1,0 +1,7 @@
+//! Tests of the removal of all pairs below a prefix.
+#![tactic(auto)]
+
+#[cfg(test)]
+mod many;
+#[cfg(test)]
+mod rows;

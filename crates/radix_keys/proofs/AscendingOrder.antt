@@ -1,12 +1,12 @@
 -- The order of signed keys with the highest bit turned over.
-use Rattle.std.proofs.Common.{◌≡◌, inl, inr, ℕ, zero, suc, ◌+◌, ◌-◌, ◌*◌, ◌/◌, ◌%◌, ◌^◌, ◌<◌, ◌≤◌, List, [], ◌∷◌, ℤ, pos, negsuc, FitsSigned, refl, arith, sym, ap, subst, ◌∙◌}
+use Rattle.std.proofs.Common.{◌≡◌, inl, inr, ℕ, zero, suc, ◌+◌, ◌-◌, ◌*◌, ◌/◌, ◌%◌, ◌^◌, ◌<◌, ◌≤◌, ◌<ℤ◌, List, [], ◌∷◌, ℤ, pos, negsuc, FitsSigned, refl, arith, sym, ap, subst, ◌∙◌}
+use Rattle.std.proofs.Math.Facts.{ltb_yes}
 use Rattle.std.proofs.Math.Nat.{mul-le-mul_right, suc-mul, mod-lt, add-mul-div_right, add-mul-mod_self_right, div-mul-le_self}
 use Rattle.std.proofs.lemmas.Nat.Bits.{and_pow}
 use Rattle.std.specs.Int.{Width, w8, w16, w32, w64, w128, byte_len, byte_at, bytes_high_first, to_be_bytes, cast_unsigned}
 use Rattle.std.specs.Int.Bits.{bit_xor, bit_and, xor_add_and}
 use Rattle.nibble_map.specs.Nibbles.{nibbles}
-use Rattle.nibble_map.specs.Turned.{turned}
-use Rattle.radix_keys.specs.AscendingKeys.{turned_bytes, ascending_key, IsLess, KeepsAscendingOrder}
+use Rattle.radix_keys.specs.AscendingKeys.{turned_bytes, ascending_key, KeepsAscendingOrder}
 use Rattle.radix_keys.specs.Distinct.{pow-256-pos, digits-suc, byte_at-is}
 use Rattle.radix_keys.specs.Integers.{signed_bytes, unsigned_key}
 use Rattle.radix_keys.specs.Order.{Precedes}
@@ -110,12 +110,12 @@ offset_bytes w (negsuc m) p =
     subst (λ l. turned_bytes (bytes_high_first l (cast_unsigned w (negsuc m))) ≡ bytes_high_first l n) (sym s.len)
     (ap (λ c. turned_bytes (bytes_high_first (suc s.k) c)) cast ∙ down)
 
-offset_order : (w : Width) (a b : ℤ) → FitsSigned w a → FitsSigned w b → IsLess a b → offset w a < offset w b
+offset_order : (w : Width) (a b : ℤ) → FitsSigned w a → FitsSigned w b → a <ℤ b → offset w a < offset w b
 unfolding offset
-offset_order w (pos m) (pos n) p q h = omega (arith, h)
-offset_order w (pos m) (negsuc n) p q h = absurd h
+offset_order w (pos m) (pos n) p q h = omega (arith, ltb_yes h.lt)
+offset_order w (pos m) (negsuc n) p q h = absurd h.lt
 offset_order w (negsuc m) (pos n) p q h = omega (arith, p.sfits)
-offset_order w (negsuc m) (negsuc n) p q h = omega (arith, h, p.sfits, q.sfits)
+offset_order w (negsuc m) (negsuc n) p q h = omega (arith, ltb_yes h.lt, p.sfits, q.sfits)
 
 offset_within : (w : Width) (z : ℤ) → FitsSigned w z → offset w z < 256 ^ byte_len w
 unfolding offset
@@ -132,19 +132,7 @@ ascending_order w = record {
 
 -- the same of keys, by their bytes and their numbers
 pub keys_rise : {X : Type 0} (w : Width) (bytes : X → List ℕ) (number : X → ℤ) (ok : X → Type 0) → ((x : X) → ok x → FitsSigned w (number x)) → ((x : X) → ok x → bytes x ≡ signed_bytes w (number x))
-    → (x y : X) → ok x → ok y → IsLess (number x) (number y) → Precedes (nibbles (turned_bytes (bytes x))) (nibbles (turned_bytes (bytes y)))
+    → (x y : X) → ok x → ok y → number x <ℤ number y → Precedes (nibbles (turned_bytes (bytes x))) (nibbles (turned_bytes (bytes y)))
 keys_rise w bytes number ok within two x y p q h =
     subst (λ l. Precedes (nibbles (turned_bytes l)) (nibbles (turned_bytes (bytes y)))) (sym (two x p))
     (subst (λ l. Precedes (ascending_key w (number x)) (nibbles (turned_bytes l))) (sym (two y q)) ((ascending_order w).precedes (number x) (number y) (within x p) (within y q) h))
-
--- in nibbles the highest bit of the first one is turned over
-pub nibbles-turned : (v : List ℕ) → nibbles (turned_bytes v) ≡ turned (nibbles v)
-nibbles-turned [] = refl
-nibbles-turned (x ∷ v) =
-    let a : bit_and x 128 ≡ x / 128 % 2 * 128 = and_pow x 7 in
-    let b = xor_add_and x 128 in
-    let c : bit_and (x / 16) 8 ≡ x / 16 / 8 % 2 * 8 = and_pow (x / 16) 3 in
-    let d = xor_add_and (x / 16) 8 in
-    let high : bit_xor x 128 / 16 ≡ bit_xor (x / 16) 8 = omega (arith, a, b, c, d) in
-    let low : bit_xor x 128 % 16 ≡ x % 16 = omega (arith, a, b) in
-    λ i. high i ∷ (low i ∷ nibbles v)

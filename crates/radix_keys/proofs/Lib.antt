@@ -3,4 +3,5 @@ pub mod Items
 pub mod NibblesOfBytes
 pub mod Order
 pub mod Packing
+pub mod Turning
 pub mod AscendingOrder

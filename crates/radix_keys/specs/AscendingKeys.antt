@@ -2,7 +2,7 @@
 use Rattle.std.proofs.Common.{refl, ap, sym, ◌∙◌}
 use Rattle.std.specs.Int.{Width}
 use Rattle.std.specs.Int.Bits.{bit_xor, xor_assoc, xor_self, xor_zero_r}
-use Rattle.std.specs.Prelude.{ℕ, ℤ, pos, negsuc, ◌≡◌, ◌<◌, List, [], ◌∷◌, FitsSigned}
+use Rattle.std.specs.Prelude.{ℕ, ℤ, ◌≡◌, ◌<ℤ◌, List, [], ◌∷◌, FitsSigned}
 use Rattle.nibble_map.specs.Nibbles.{nibbles}
 use Rattle.radix_keys.specs.Integers.{signed_bytes}
 use Rattle.radix_keys.specs.Order.{Precedes}
@@ -16,16 +16,9 @@ turned_bytes (x ∷ xs) = bit_xor x 128 ∷ xs
 abbrev pub ascending_key : Width → ℤ → List ℕ
 ascending_key w z = nibbles (turned_bytes (signed_bytes w z))
 
--- the order of numbers
-abbrev pub IsLess : ℤ → ℤ → Type 0
-IsLess (pos m) (pos n) = m < n
-IsLess (pos m) (negsuc n) = ⊥
-IsLess (negsuc m) (pos n) = Unit {0}
-IsLess (negsuc m) (negsuc n) = n < m
-
 -- of two numbers within the type's bounds the smaller has the smaller encoding
 pub record KeepsAscendingOrder (w : Width) : Type 0 where
-  pub precedes : (a b : ℤ) → FitsSigned w a → FitsSigned w b → IsLess a b → Precedes (ascending_key w a) (ascending_key w b)
+  pub precedes : (a b : ℤ) → FitsSigned w a → FitsSigned w b → a <ℤ b → Precedes (ascending_key w a) (ascending_key w b)
 
 pub turned_bytes-injective : (a b : List ℕ) → turned_bytes a ≡ turned_bytes b → a ≡ b
 turned_bytes-injective [] [] e = refl

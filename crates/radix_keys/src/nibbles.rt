@@ -3,6 +3,7 @@ ghost use Rattle.std.specs.Prelude.{◌≡◌, ℕ, ◌+◌, ◌*◌, ◌/◌, �
 ghost use Rattle.std.specs.Cmp.{partial_equiv_from_equiv};
 ghost use Rattle.std.specs.Cmp.Lexicographic.{pointwise, nat_list_eq_equiv};
 ghost use Rattle.nibble_map.specs.Nibbles.{nibbles, IsShort};
+ghost use Rattle.nibble_map.specs.Turned.{turned};
 ghost use Rattle.smallvec.specs.SmallVec.{HasRoomFor};
 
 use smallvec::SmallVec;
@@ -191,6 +192,14 @@ impl NibbleVec {
             self.bytes[whole] = byte - byte % 16;
             self.is_odd = true;
         }
+    }
+
+    /// Turns the highest bit of the first nibble over. It takes no memory.
+    pub fn turn_over(&mut self)
+        requires { 0 < length self.old }
+        ensures { self.new ≡ turned self.old }
+    {
+        self.bytes[0] ^= 0x80;
     }
 
     /// The list followed by the other.

@@ -62,13 +62,16 @@ module _ {K V : Type 0} (high : Bool) (xs : List (Box (TrieNode K V) Global)) (i
         (subst (λ zs. AreKidCopies R (append k (turned_half high (kids_of (take i xs)))) (kids_of zs)) (sym e) copied)
 
 module _ {K L V : Type 0} (R : KeyValue K V → KeyValue L V → Type 0) where
+  pub copied_fragment : (child : TrieNode K V) (copy : TrieNode L V) → IsCopy R (tree_of child) (tree_of copy) → fragment_of copy ≡ fragment_of child
+  copied_fragment child copy c = sym (fragment_out copy) ∙ c.fragment ∙ fragment_out child
+
   -- a copy gets another fragment
-  pub child_turned : (child : TrieNode K V) (copy : TrieNode L V) (f : List ℕ) → f ≡ turned (fragment_of child) → IsCopy R (tree_of child) (tree_of copy) →
+  pub child_turned : (child : TrieNode K V) (copy : TrieNode L V) (f : List ℕ) → f ≡ turned (fragment_of copy) → IsCopy R (tree_of child) (tree_of copy) →
       IsCopy R (turned_tree (tree_of child)) (tree_of (roll-TrieNode L V record { fragment = f; pair = (out_of copy).pair; mask = (out_of copy).mask; children = (out_of copy).children }))
   child_turned child copy f e c =
       let is = tree_roll _ ∙ ap (λ (t : Tree (KeyValue L V)). record { fragment = f; pair = t.pair; mask = t.mask; kids = t.kids }) (sym (tree_out copy)) in
       subst (IsCopy R (turned_tree (tree_of child))) (sym is)
-      (record { fragment = e ∙ ap turned (sym (fragment_out child)); mask = c.mask; pair = c.pair; kids = c.kids })
+      (record { fragment = e ∙ ap turned (sym (fragment_out copy) ∙ c.fragment); mask = c.mask; pair = c.pair; kids = c.kids })
 
   pub nothing_copied : (new : List (Box (TrieNode L V) Global)) → new ≡ [] → AreKidCopies R none (kids_of new)
   nothing_copied new e = subst (λ zs. AreKidCopies R none (kids_of zs)) (sym e) tt

@@ -1,7 +1,6 @@
 //! Parts of lists of nibbles.
-ghost use Rattle.std.specs.Prelude.{◌≡◌, ◌-◌, ◌<◌, ◌≤◌, ◌++◌, length, take, drop, IfOk, IsOk};
+ghost use Rattle.std.specs.Prelude.{◌≡◌, ◌-◌, ◌≤◌, ◌++◌, length, take, drop, IfOk, IsOk};
 ghost use Rattle.nibble_map.specs.Nibbles.{IsShort};
-ghost use Rattle.nibble_map.specs.Turned.{turned};
 
 use radix_keys::{Memory, Nibblet};
 use std::alloc::Global;
@@ -46,14 +45,4 @@ pub fn joined(first: &Nibblet, second: &Nibblet) -> Result<Nibblet, Memory>
         both.push(second.get(i))?;
     }
     Ok(both)
-}
-
-/// The list with the highest bit of its first nibble turned over.
-pub fn turned_over(list: &Nibblet, alloc: Global) -> Result<Nibblet, Memory>
-    requires { 0 < length list.now }
-    ensures { IfOk result (λ r. r ≡ turned list.now) }
-{
-    let mut first = Nibblet::new(alloc);
-    first.push(list.get(0) ^ 8)?;
-    joined(&first, &tail(list, alloc, 1)?)
 }

@@ -1,9 +1,9 @@
 //! Signed integers as keys in ascending order.
-ghost use Rattle.std.specs.Prelude.{◌≡◌, ℤ, FitsSigned, IsOk, IfOk, OnOk, refl};
+ghost use Rattle.std.specs.Prelude.{◌≡◌, ◌<ℤ◌, ℤ, FitsSigned, IsOk, IfOk, OnOk, refl};
 ghost use Rattle.std.specs.Int.{Width, w8, w16, w32, w64, byte_len};
 ghost use Rattle.nibble_map.specs.Nibbles.{nibbles, IsShort};
 ghost use Rattle.nibble_map.specs.Turned.{turned};
-ghost use Rattle.radix_keys.specs.AscendingKeys.{IsLess, turned_bytes, turned_bytes-injective};
+ghost use Rattle.radix_keys.specs.AscendingKeys.{turned_bytes, turned_bytes-injective};
 ghost use Rattle.radix_keys.specs.Distinct.{nibbles-injective};
 ghost use Rattle.radix_keys.specs.Integers.{signed_bytes};
 ghost use Rattle.radix_keys.specs.Order.{Precedes};
@@ -128,13 +128,14 @@ impl<T: KeySigned> TrieKey for Ascending<T> {
         ensures turned { (x : T)
             → nibbles (turned_bytes (T.KeyInt.bytes x)) ≡ turned (T.TrieKey.encoding x) }
         ensures order { (x y : T) → T.KeyInt.is_value x → T.KeyInt.is_value y
-            → IsLess (T.number x) (T.number y)
+            → T.number x <ℤ T.number y
             → Precedes (nibbles (turned_bytes (T.KeyInt.bytes x)))
             (nibbles (turned_bytes (T.KeyInt.bytes y))) }
     {
         let mut bytes = SmallVec::new(alloc);
         push_bytes(&mut bytes, &self.value())?;
-        bytes[0] ^= 0x80;
-        Ok(Nibblet::from_small(bytes))
+        let mut list = Nibblet::from_small(bytes);
+        list.turn_over();
+        Ok(list)
     }
 }

@@ -8,7 +8,6 @@ ghost use Rattle.radix_nodes.specs.Copies.{IsKeyValueCopy};
 ghost use Rattle.radix_nodes.specs.Nodes.{tree_of, fragment_of, kids_of};
 ghost use Rattle.radix_nodes.specs.declared.trie_node.KeyValue.{KeyValue};
 
-use crate::fragments::turned_over;
 use crate::traversal::copied::{CopyOf, copied, copied_pair};
 use crate::trie_node::TrieNode;
 use radix_keys::Memory;
@@ -31,7 +30,7 @@ fn turned_child<K, L: CopyOf<K>, V: Clone>(
         (turned_tree (tree_of child.now)) (tree_of copy)) }
 {
     let mut copy = copied(child, alloc)?;
-    copy.fragment = turned_over(&child.fragment, alloc)?;
+    copy.fragment.turn_over();
     Ok(copy)
 }
 

@@ -4,7 +4,7 @@ use Rattle.nibble_map.specs.Nibbles.{nibbles}
 use Rattle.nibble_map.specs.Turned.{turned}
 use Rattle.nibble_map.proofs.KeptSame.{never}
 use Rattle.radix_keys.specs.AscendingKeys.{turned_bytes}
-use Rattle.radix_keys.proofs.AscendingOrder.{nibbles-turned}
+use Rattle.radix_keys.proofs.Turning.{nibbles-turned}
 use Rattle.radix_nodes.specs.Nodes.{tree_of, fragment_of}
 use Rattle.radix_nodes.proofs.Nodes.{fragment_out}
 use Rattle.radix_trie.specs.Roots.{map_of}

@@ -217,8 +217,10 @@ impl NibbleVec {
         }
     }
 
-    /// The nibbles from `i` on.
-    fn tail(&self, i: usize) -> Result<NibbleVec, Memory>
+    /// The nibbles from `i` on, which is at most the count.
+    ///
+    /// Never refused where these are at most 32.
+    pub fn tail(&self, i: usize) -> Result<NibbleVec, Memory>
         requires { i ≤ length self.now }
         ensures ok { IfOk result (λ r. r ≡ drop i self.now) }
         ensures succeeds { IsShort (drop i self.now) → IsOk result }

@@ -5,7 +5,6 @@ ghost use Rattle.nibble_map.specs.Kept.{IsTreePlaced, firsts};
 ghost use Rattle.nibble_map.specs.KeptEdits.{leaf};
 ghost use Rattle.radix_nodes.specs.Nodes.{tree_of, fragment_of, IsUpper, EditOutcome, ReplaceOutcome, SetOutcome};
 
-use crate::fragments::{head, tail};
 use crate::traversal::compare::compare;
 use crate::trie_node::links::{link, lower};
 use crate::trie_node::mask::{beside, mark, place};
@@ -91,7 +90,7 @@ fn make_leaf<K: Drop, V: Drop>(
     ensures made { IfOk result (λ b. tree_of b.value ≡ leaf (drop depth key.now) pair) }
     ensures back { IfErr result (λ x. x ≡ pair) }
 {
-    let Ok(fragment) = tail(key, alloc, depth) else {
+    let Ok(fragment) = key.tail(depth) else {
         return Err(pair);
     };
     let Ok(mut leaf) = Box::new(
@@ -152,8 +151,8 @@ fn grow_split<K: Drop, V: Drop>(
     requires { n < length (fragment_of node.now) }
     ensures { IfOk result (λ grown. IsUpper (take n (fragment_of node.now)) (drop n (fragment_of node.now)) grown.0.value × (grown.1 ≡ drop n (fragment_of node.now))) }
 {
-    let fragment = head(&node.fragment, alloc, n)?;
-    let rest = tail(&node.fragment, alloc, n)?;
+    let mut fragment = node.fragment.clone()?;
+    let rest = fragment.split(n)?;
     let mask = mark(0, rest.get(0));
     let mut children = Vec::new(alloc);
     children.reserve(2)?;

@@ -7,7 +7,7 @@ pub returns-in-Ok-new-2-clause-made : goal.returns-in-Ok-new-2-clause-made
 returns-in-Ok-new-2-clause-made g c =
     let made = ap (out-TrieNode g.row.K.Denot g.row.V.Denot) (c.deref_mut.ensures.value ∙ c.in-Ok-new.ensures.ok) ∙ out-roll-TrieNode g.row.K.Denot g.row.V.Denot _ in
     leaf_tree c.deref_mut.result.now c.in-Ok-new-2.b _ c.args.pair
-    (ap (λ o. o.fragment) made ∙ c.in-Ok.ensures)
+    (ap (λ o. o.fragment) made ∙ c.in-Ok.ensures.ok)
     (ap (λ o. o.mask) made)
     (ap (λ o. o.children.items) made ∙ c.new.ensures.items)
     c.in-Ok-new-2.ensures.ok

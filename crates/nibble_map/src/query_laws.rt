@@ -12,40 +12,68 @@ ghost use Rattle.std.specs.Prelude.{[], ◌↔◌, ◌≡◌, IsTrue, List, None
 
 /// The points of a map and the prefixes of its stored lists are those of its entries.
 pub fn points_by_entries<P>()
-    ensures reached { (m : NibbleMap P) (p : List ℕ) → maps.IsReached m p ↔ stored.IsReached (map.entries m) p }
-    ensures parting { (m : NibbleMap P) (p : List ℕ) → maps.IsParting m p ↔ stored.IsParting (map.entries m) p }
-    ensures point { (m : NibbleMap P) (p : List ℕ) → maps.IsPoint m p ↔ stored.IsPoint (map.entries m) p }
-    ensures stem { (m : NibbleMap P) (p : List ℕ) → maps.IsStem m p ↔ stored.IsStem (map.entries m) p }
+    ensures reached { (m : NibbleMap P) (p : List ℕ)
+        → maps.IsReached m p ↔ stored.IsReached (map.entries m) p }
+    ensures parting { (m : NibbleMap P) (p : List ℕ)
+        → maps.IsParting m p ↔ stored.IsParting (map.entries m) p }
+    ensures point { (m : NibbleMap P) (p : List ℕ)
+        → maps.IsPoint m p ↔ stored.IsPoint (map.entries m) p }
+    ensures stem { (m : NibbleMap P) (p : List ℕ)
+        → maps.IsStem m p ↔ stored.IsStem (map.entries m) p }
 {}
 
 /// The answers of a map's queries are those of its entries.
 pub fn answers_by_entries<P>()
-    ensures ancestor { (m : NibbleMap P) (e : List ℕ) (a : Option (List ℕ)) → map_queries.IsAncestor m e a ↔ queries.IsAncestor (map.entries m) e a }
-    ensures raw_ancestor { (m : NibbleMap P) (e p : List ℕ) → map_queries.IsRawAncestor m e p ↔ queries.IsRawAncestor (map.entries m) e p }
-    ensures raw_descendant { (m : NibbleMap P) (e : List ℕ) (a : Option (List ℕ)) → map_queries.IsRawDescendant m e a ↔ queries.IsRawDescendant (map.entries m) e a }
-    ensures fragment { (m : NibbleMap P) (p f : List ℕ) → map_queries.IsFragment m p f ↔ queries.IsFragment (map.entries m) p f }
-    ensures kids { (m : NibbleMap P) (p : List ℕ) (qs : List (List ℕ)) → map_queries.AreKids m p qs ↔ queries.AreKids (map.entries m) p qs }
-    ensures compared { (m : NibbleMap P) (e : List ℕ) (n : ℕ) → map_queries.IsCompared m e n ↔ queries.IsCompared (map.entries m) e n }
+    ensures ancestor { (m : NibbleMap P) (e : List ℕ) (a : Option (List ℕ))
+        → map_queries.IsAncestor m e a ↔ queries.IsAncestor (map.entries m) e a }
+    ensures raw_ancestor { (m : NibbleMap P) (e p : List ℕ) → map_queries.IsRawAncestor m e p
+        ↔ queries.IsRawAncestor (map.entries m) e p }
+    ensures raw_descendant { (m : NibbleMap P) (e : List ℕ) (a : Option (List ℕ))
+        → map_queries.IsRawDescendant m e a ↔ queries.IsRawDescendant (map.entries m) e a }
+    ensures fragment { (m : NibbleMap P) (p f : List ℕ)
+        → map_queries.IsFragment m p f ↔ queries.IsFragment (map.entries m) p f }
+    ensures kids { (m : NibbleMap P) (p : List ℕ) (qs : List (List ℕ))
+        → map_queries.AreKids m p qs ↔ queries.AreKids (map.entries m) p qs }
+    ensures compared { (m : NibbleMap P) (e : List ℕ) (n : ℕ)
+        → map_queries.IsCompared m e n ↔ queries.IsCompared (map.entries m) e n }
 {}
 
 /// Two maps with the same stored lists have the same points and answers, whatever their pairs.
 pub fn stored_lists_decide<P, Q>()
-    ensures point { (m : NibbleMap P) (n : NibbleMap Q) → ((e : List ℕ) → IsStored m e ↔ IsStored n e) → (p : List ℕ) → maps.IsPoint m p → maps.IsPoint n p }
-    ensures raw_descendant { (m : NibbleMap P) (n : NibbleMap Q) → ((e : List ℕ) → IsStored m e ↔ IsStored n e) → (e : List ℕ) (a : Option (List ℕ)) → map_queries.IsRawDescendant m e a → map_queries.IsRawDescendant n e a }
-    ensures raw_ancestor { (m : NibbleMap P) (n : NibbleMap Q) → ((e : List ℕ) → IsStored m e ↔ IsStored n e) → (e p : List ℕ) → map_queries.IsRawAncestor m e p → map_queries.IsRawAncestor n e p }
-    ensures fragment { (m : NibbleMap P) (n : NibbleMap Q) → ((e : List ℕ) → IsStored m e ↔ IsStored n e) → (p f : List ℕ) → map_queries.IsFragment m p f → map_queries.IsFragment n p f }
-    ensures kids { (m : NibbleMap P) (n : NibbleMap Q) → ((e : List ℕ) → IsStored m e ↔ IsStored n e) → (p : List ℕ) (qs : List (List ℕ)) → map_queries.AreKids m p qs → map_queries.AreKids n p qs }
-    ensures compared { (m : NibbleMap P) (n : NibbleMap Q) → ((e : List ℕ) → IsStored m e ↔ IsStored n e) → (e : List ℕ) (k : ℕ) → map_queries.IsCompared m e k → map_queries.IsCompared n e k }
+    ensures point { (m : NibbleMap P) (n : NibbleMap Q)
+        → ((e : List ℕ) → IsStored m e ↔ IsStored n e) → (p : List ℕ) → maps.IsPoint m p
+        → maps.IsPoint n p }
+    ensures raw_descendant { (m : NibbleMap P) (n : NibbleMap Q)
+        → ((e : List ℕ) → IsStored m e ↔ IsStored n e) → (e : List ℕ) (a : Option (List ℕ))
+        → map_queries.IsRawDescendant m e a → map_queries.IsRawDescendant n e a }
+    ensures raw_ancestor { (m : NibbleMap P) (n : NibbleMap Q)
+        → ((e : List ℕ) → IsStored m e ↔ IsStored n e) → (e p : List ℕ)
+        → map_queries.IsRawAncestor m e p → map_queries.IsRawAncestor n e p }
+    ensures fragment { (m : NibbleMap P) (n : NibbleMap Q)
+        → ((e : List ℕ) → IsStored m e ↔ IsStored n e) → (p f : List ℕ)
+        → map_queries.IsFragment m p f → map_queries.IsFragment n p f }
+    ensures kids { (m : NibbleMap P) (n : NibbleMap Q)
+        → ((e : List ℕ) → IsStored m e ↔ IsStored n e) → (p : List ℕ) (qs : List (List ℕ))
+        → map_queries.AreKids m p qs → map_queries.AreKids n p qs }
+    ensures compared { (m : NibbleMap P) (n : NibbleMap Q)
+        → ((e : List ℕ) → IsStored m e ↔ IsStored n e) → (e : List ℕ) (k : ℕ)
+        → map_queries.IsCompared m e k → map_queries.IsCompared n e k }
 {}
 
 /// Each query has one answer.
 pub fn answers_are_unique<P>()
-    ensures ancestor { (m : NibbleMap P) (e : List ℕ) (a b : Option (List ℕ)) → map_queries.IsAncestor m e a → map_queries.IsAncestor m e b → a ≡ b }
-    ensures raw_ancestor { (m : NibbleMap P) (e p q : List ℕ) → map_queries.IsRawAncestor m e p → map_queries.IsRawAncestor m e q → p ≡ q }
-    ensures raw_descendant { (m : NibbleMap P) (e : List ℕ) (a b : Option (List ℕ)) → map_queries.IsRawDescendant m e a → map_queries.IsRawDescendant m e b → a ≡ b }
-    ensures fragment { (m : NibbleMap P) (p f g : List ℕ) → map_queries.IsFragment m p f → map_queries.IsFragment m p g → f ≡ g }
-    ensures kids { (m : NibbleMap P) (p : List ℕ) (qs rs : List (List ℕ)) → map_queries.AreKids m p qs → map_queries.AreKids m p rs → qs ≡ rs }
-    ensures compared { (m : NibbleMap P) (e : List ℕ) (j k : ℕ) → map_queries.IsCompared m e j → map_queries.IsCompared m e k → j ≡ k }
+    ensures ancestor { (m : NibbleMap P) (e : List ℕ) (a b : Option (List ℕ))
+        → map_queries.IsAncestor m e a → map_queries.IsAncestor m e b → a ≡ b }
+    ensures raw_ancestor { (m : NibbleMap P) (e p q : List ℕ) → map_queries.IsRawAncestor m e p
+        → map_queries.IsRawAncestor m e q → p ≡ q }
+    ensures raw_descendant { (m : NibbleMap P) (e : List ℕ) (a b : Option (List ℕ))
+        → map_queries.IsRawDescendant m e a → map_queries.IsRawDescendant m e b → a ≡ b }
+    ensures fragment { (m : NibbleMap P) (p f g : List ℕ) → map_queries.IsFragment m p f
+        → map_queries.IsFragment m p g → f ≡ g }
+    ensures kids { (m : NibbleMap P) (p : List ℕ) (qs rs : List (List ℕ))
+        → map_queries.AreKids m p qs → map_queries.AreKids m p rs → qs ≡ rs }
+    ensures compared { (m : NibbleMap P) (e : List ℕ) (j k : ℕ) → map_queries.IsCompared m e j
+        → map_queries.IsCompared m e k → j ≡ k }
 {}
 
 /// The slow lists of points and of prefixes are those of the definitions, and so are their sizes and the slow test of a
@@ -55,23 +83,32 @@ pub fn computed_points<P>()
     ensures prefixes { (m : List (List ℕ × P)) → Lists (stored.IsStem m) (computed.prefixes m) }
     ensures nodes { (m : List (List ℕ × P)) → Counts (stored.IsPoint m) (computed.footprint m).0 }
     ensures nibbles { (m : List (List ℕ × P)) → Counts (stored.IsStem m) (computed.footprint m).1 }
-    ensures is_point { (m : List (List ℕ × P)) (p : List ℕ) → stored.IsPoint m p ↔ IsTrue (computed.is_point m p) }
+    ensures is_point { (m : List (List ℕ × P)) (p : List ℕ)
+        → stored.IsPoint m p ↔ IsTrue (computed.is_point m p) }
 {}
 
 /// A slow answer is the one answer of its relation.
 pub fn computed_answers<P>()
-    ensures ancestor { (m : List (List ℕ × P)) (e : List ℕ) (a : Option (List ℕ)) → queries.IsAncestor m e a ↔ (a ≡ computed.ancestor m e) }
-    ensures raw_ancestor { (m : List (List ℕ × P)) (e p : List ℕ) → queries.IsRawAncestor m e p ↔ (p ≡ computed.raw_ancestor m e) }
-    ensures raw_descendant { (m : List (List ℕ × P)) (e : List ℕ) (a : Option (List ℕ)) → queries.IsRawDescendant m e a ↔ (a ≡ computed.raw_descendant m e) }
-    ensures fragment { (m : List (List ℕ × P)) (p f : List ℕ) → queries.IsFragment m p f ↔ (f ≡ computed.fragment m p) }
-    ensures kids { (m : List (List ℕ × P)) (p : List ℕ) (qs : List (List ℕ)) → queries.AreKids m p qs ↔ (qs ≡ computed.kids m p) }
-    ensures compared { (m : List (List ℕ × P)) (e : List ℕ) (k : ℕ) → queries.IsCompared m e k ↔ (k ≡ computed.compared m e) }
+    ensures ancestor { (m : List (List ℕ × P)) (e : List ℕ) (a : Option (List ℕ))
+        → queries.IsAncestor m e a ↔ (a ≡ computed.ancestor m e) }
+    ensures raw_ancestor { (m : List (List ℕ × P)) (e p : List ℕ)
+        → queries.IsRawAncestor m e p ↔ (p ≡ computed.raw_ancestor m e) }
+    ensures raw_descendant { (m : List (List ℕ × P)) (e : List ℕ) (a : Option (List ℕ))
+        → queries.IsRawDescendant m e a ↔ (a ≡ computed.raw_descendant m e) }
+    ensures fragment { (m : List (List ℕ × P)) (p f : List ℕ)
+        → queries.IsFragment m p f ↔ (f ≡ computed.fragment m p) }
+    ensures kids { (m : List (List ℕ × P)) (p : List ℕ) (qs : List (List ℕ))
+        → queries.AreKids m p qs ↔ (qs ≡ computed.kids m p) }
+    ensures compared { (m : List (List ℕ × P)) (e : List ℕ) (k : ℕ)
+        → queries.IsCompared m e k ↔ (k ≡ computed.compared m e) }
 {}
 
 /// Where the query is a point, the longest point above it and the shortest below it are that point.
 pub fn points_answer_themselves<P>()
-    ensures raw_ancestor { (m : NibbleMap P) (p : List ℕ) → maps.IsPoint m p → (a : List ℕ) → map_queries.IsRawAncestor m p a ↔ (a ≡ p) }
-    ensures raw_descendant { (m : NibbleMap P) (p : List ℕ) → maps.IsPoint m p → (a : Option (List ℕ)) → map_queries.IsRawDescendant m p a ↔ (a ≡ Some p) }
+    ensures raw_ancestor { (m : NibbleMap P) (p : List ℕ) → maps.IsPoint m p → (a : List ℕ)
+        → map_queries.IsRawAncestor m p a ↔ (a ≡ p) }
+    ensures raw_descendant { (m : NibbleMap P) (p : List ℕ) → maps.IsPoint m p
+        → (a : Option (List ℕ)) → map_queries.IsRawDescendant m p a ↔ (a ≡ Some p) }
 {}
 
 /// A path is a leaf exactly where it has no kids.
@@ -82,11 +119,14 @@ pub fn leaves_have_no_kids<P>()
 /// Each stored list strictly below a path is at or below exactly one of the path's kids.
 pub fn one_kid_leads_to_each_list<P>()
     ensures { (m : NibbleMap P) (p e : List ℕ) → IsStored m e → IsStrictPrefix p e
-        → (q : List ℕ) × map_queries.IsKid m p q × IsPrefix q e × ((r : List ℕ) → map_queries.IsKid m p r → IsPrefix r e → r ≡ q) }
+        → (q : List ℕ) × map_queries.IsKid m p q × IsPrefix q e
+        × ((r : List ℕ) → map_queries.IsKid m p r → IsPrefix r e → r ≡ q) }
 {}
 
 /// The pairs at and below a list are those at and below the shortest point that it begins, or none where there is none.
 pub fn descendants_hold_all_below<P>()
-    ensures some { (m : NibbleMap P) (e q : List ℕ) → map_queries.IsRawDescendant m e (Some q) → maps.below m e ≡ maps.below m q }
-    ensures none { (m : NibbleMap P) (e : List ℕ) → map_queries.IsRawDescendant m e None → maps.below m e ≡ map.empty }
+    ensures some { (m : NibbleMap P) (e q : List ℕ) → map_queries.IsRawDescendant m e (Some q)
+        → maps.below m e ≡ maps.below m q }
+    ensures none { (m : NibbleMap P) (e : List ℕ) → map_queries.IsRawDescendant m e None
+        → maps.below m e ≡ map.empty }
 {}

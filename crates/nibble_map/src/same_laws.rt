@@ -12,20 +12,29 @@ ghost use Rattle.std.specs.Prelude.{◌↔◌, ◌≡◌, Bool, IsTrue, List, �
 
 /// Two roots are alike under an `==` of values exactly where they store the same lists, and at each list values that are equal under it.
 pub fn same_trees_are_same_maps<P, K, V>()
-    ensures entries { (row : P → K × V) (eq : V → V → Bool) (t u : Tree P) → IsFullRoot t → IsFullRoot u
-        → IsTrue (same_tree (λ x y. eq (row x).1 (row y).1) t u) ↔ AreSame eq (rows_of row t) (rows_of row u) }
-    ensures maps { (row : P → K × V) (eq : V → V → Bool) (t u : Tree P) → IsFullRoot t → IsFullRoot u
-        → IsTrue (same_tree (λ x y. eq (row x).1 (row y).1) t u) ↔ IsSame eq (map.from_sorted (rows_of row t)) (map.from_sorted (rows_of row u)) }
-    ensures entries_of_map { (row : P → K × V) (t : Tree P) → IsFullRoot t → map.entries (map.from_sorted {R = slice_cmp nat_cmp} (rows_of row t)) ≡ rows_of row t }
+    ensures entries { (row : P → K × V) (eq : V → V → Bool) (t u : Tree P) → IsFullRoot t
+        → IsFullRoot u
+        → IsTrue (same_tree (λ x y. eq (row x).1 (row y).1) t u)
+        ↔ AreSame eq (rows_of row t) (rows_of row u) }
+    ensures maps { (row : P → K × V) (eq : V → V → Bool) (t u : Tree P) → IsFullRoot t
+        → IsFullRoot u
+        → IsTrue (same_tree (λ x y. eq (row x).1 (row y).1) t u)
+        ↔ IsSame eq (map.from_sorted (rows_of row t)) (map.from_sorted (rows_of row u)) }
+    ensures entries_of_map { (row : P → K × V) (t : Tree P) → IsFullRoot t
+        → map.entries (map.from_sorted {R = slice_cmp nat_cmp} (rows_of row t)) ≡ rows_of row t }
 {}
 
 /// The test of two trees answers what the test of their maps answers, and that test tells whether the maps are the same. It is symmetric
 /// and transitive where the value type's `==` is.
 pub fn sameness_is_computed<P, K, V>()
-    ensures trees { (row : P → K × V) (eq : V → V → Bool) (t u : Tree P) (m n : PairMap K V) → IsFullRoot t → IsFullRoot u
-        → map.entries m ≡ rows_of row t → map.entries n ≡ rows_of row u → same_tree (λ x y. eq (row x).1 (row y).1) t u ≡ same_maps eq m n }
-    ensures maps { (eq : V → V → Bool) (m n : PairMap K V) → IsTrue (same_maps eq m n) ↔ IsSame eq m n }
-    ensures laws { (eq : V → V → Bool) → IsPartialEquivalence eq → IsPartialEquivalence (same_maps {K = K} eq) }
+    ensures trees { (row : P → K × V) (eq : V → V → Bool) (t u : Tree P) (m n : PairMap K V)
+        → IsFullRoot t → IsFullRoot u
+        → map.entries m ≡ rows_of row t → map.entries n ≡ rows_of row u
+        → same_tree (λ x y. eq (row x).1 (row y).1) t u ≡ same_maps eq m n }
+    ensures maps { (eq : V → V → Bool) (m n : PairMap K V)
+        → IsTrue (same_maps eq m n) ↔ IsSame eq m n }
+    ensures laws { (eq : V → V → Bool) → IsPartialEquivalence eq
+        → IsPartialEquivalence (same_maps {K = K} eq) }
 {}
 
 /// A copy of a tree has its shape: it stands at its places and is full where the tree is, and has as many nodes and nibbles.
@@ -34,17 +43,22 @@ pub fn copies_keep_the_shape<P: Clone>()
     ensures full { (t u : Tree P) → IsCopy P.is_clone t u → IsTreeFull t → IsTreeFull u }
     ensures root { (t u : Tree P) → IsCopy P.is_clone t u → IsFullRoot t → IsFullRoot u }
     ensures nodes { (t u : Tree P) → IsCopy P.is_clone t u → nodes_in u.kids ≡ nodes_in t.kids }
-    ensures nibbles { (t u : Tree P) → IsCopy P.is_clone t u → nibbles_in u.kids ≡ nibbles_in t.kids }
-    ensures entries { (t u : Tree P) → IsCopy P.is_clone t u → (q : List ℕ) → AreEntryCopies P.is_clone (entries_at q t) (entries_at q u) }
+    ensures nibbles { (t u : Tree P) → IsCopy P.is_clone t u → nibbles_in u.kids
+        ≡ nibbles_in t.kids }
+    ensures entries { (t u : Tree P) → IsCopy P.is_clone t u → (q : List ℕ)
+        → AreEntryCopies P.is_clone (entries_at q t) (entries_at q u) }
 {}
 
 /// The map of a copied root stores the same lists, each with a clone of its key and of its value.
 pub fn copies_keep_the_map<P, K: Clone, V: Clone>()
-    ensures { (row : P → K × V) (t u : Tree P) → IsFullRoot t → IsCopy (λ x y. IsPairClone K.is_clone V.is_clone (row x) (row y)) t u
-        → IsMapCopy (IsPairClone K.is_clone V.is_clone) (map.from_sorted (rows_of row t)) (map.from_sorted (rows_of row u)) }
+    ensures { (row : P → K × V) (t u : Tree P) → IsFullRoot t
+        → IsCopy (λ x y. IsPairClone K.is_clone V.is_clone (row x) (row y)) t u
+        → IsMapCopy (IsPairClone K.is_clone V.is_clone) (map.from_sorted (rows_of row t))
+        (map.from_sorted (rows_of row u)) }
 {}
 
 /// A copy of a map whose clones are the values themselves is that map.
 pub fn plain_copies_are_the_map<K, V>()
-    ensures { (m copy : PairMap K V) → IsMapCopy (IsPairClone (λ x y. y ≡ x) (λ x y. y ≡ x)) m copy → copy ≡ m }
+    ensures { (m copy : PairMap K V) → IsMapCopy (IsPairClone (λ x y. y ≡ x) (λ x y. y ≡ x)) m copy
+        → copy ≡ m }
 {}

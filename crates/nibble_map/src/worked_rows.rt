@@ -10,23 +10,30 @@ ghost use Rattle.std.specs.Prelude.{[], ◌++◌, ◌∷◌, ◌≡◌, ◌*◌,
 
 /// The rows' lists of entries are those of maps after insertions and removals.
 pub fn rows_are_maps()
-    ensures inserted { (m : NibbleMap ℕ) (es : List (List ℕ × ℕ)) → map.entries (insert_all m es) ≡ inserted (map.entries m) es }
-    ensures removed { (m : NibbleMap ℕ) (e : List ℕ) → map.entries (map.remove m e) ≡ removed e (map.entries m) }
+    ensures inserted { (m : NibbleMap ℕ) (es : List (List ℕ × ℕ)) → map.entries (insert_all m es)
+        ≡ inserted (map.entries m) es }
+    ensures removed { (m : NibbleMap ℕ) (e : List ℕ) → map.entries (map.remove m e)
+        ≡ removed e (map.entries m) }
 {}
 
 /// The tree that the page of definitions draws.
 pub fn drawn_tree()
-    ensures points { points a_abc_abd ≡ [] ∷ nibbles (codes "a") ∷ ab_and_a_half ∷ nibbles (codes "abc") ∷ nibbles (codes "abd") ∷ [] }
-    ensures fragments { each (fragment a_abc_abd) (points a_abc_abd) ≡ [] ∷ (6 ∷ 1 ∷ []) ∷ (6 ∷ 2 ∷ 6 ∷ []) ∷ (3 ∷ []) ∷ (4 ∷ []) ∷ [] }
+    ensures points { points a_abc_abd ≡ [] ∷ nibbles (codes "a") ∷ ab_and_a_half ∷
+        nibbles (codes "abc") ∷ nibbles (codes "abd") ∷ [] }
+    ensures fragments { each (fragment a_abc_abd) (points a_abc_abd)
+        ≡ [] ∷ (6 ∷ 1 ∷ []) ∷ (6 ∷ 2 ∷ 6 ∷ []) ∷ (3 ∷ []) ∷ (4 ∷ []) ∷ [] }
     ensures above_abe { ancestor a_abc_abd (nibbles (codes "abe")) ≡ Some (nibbles (codes "a")) }
     ensures point_above_abe { raw_ancestor a_abc_abd (nibbles (codes "abe")) ≡ ab_and_a_half }
     ensures point_below_ab { raw_descendant a_abc_abd (nibbles (codes "ab")) ≡ Some ab_and_a_half }
     ensures ab { is_point a_abc_abd (nibbles (codes "ab")) ≡ false }
     ensures kids_of_a { kids a_abc_abd (nibbles (codes "a")) ≡ ab_and_a_half ∷ [] }
-    ensures kids_of_the_parting { kids a_abc_abd ab_and_a_half ≡ nibbles (codes "abc") ∷ nibbles (codes "abd") ∷ [] }
+    ensures kids_of_the_parting { kids a_abc_abd ab_and_a_half
+        ≡ nibbles (codes "abc") ∷ nibbles (codes "abd") ∷ [] }
     ensures search_for_abe { compared a_abc_abd (nibbles (codes "abe")) ≡ 5 }
     ensures search_for_b { compared a_abc_abd (nibbles (codes "b")) ≡ 2 }
-    ensures without_abd { each (fragment (removed (nibbles (codes "abd")) a_abc_abd)) (points (removed (nibbles (codes "abd")) a_abc_abd)) ≡ [] ∷ (6 ∷ 1 ∷ []) ∷ (6 ∷ 2 ∷ 6 ∷ 3 ∷ []) ∷ [] }
+    ensures without_abd { each (fragment (removed (nibbles (codes "abd")) a_abc_abd))
+        (points (removed (nibbles (codes "abd")) a_abc_abd))
+        ≡ [] ∷ (6 ∷ 1 ∷ []) ∷ (6 ∷ 2 ∷ 6 ∷ 3 ∷ []) ∷ [] }
 {}
 
 /// The empty map has the empty list as its one point.
@@ -41,7 +48,8 @@ pub fn empty_map_has_one_point()
 
 /// A second insertion at a text replaces its number.
 pub fn haskell_is_replaced()
-    ensures { inserted [] (text (codes "haskell") 18 ∷ text (codes "haskell") 36 ∷ []) ≡ text (codes "haskell") 36 ∷ [] }
+    ensures { inserted [] (text (codes "haskell") 18 ∷ text (codes "haskell") 36 ∷ [])
+        ≡ text (codes "haskell") 36 ∷ [] }
 {}
 
 /// Points of the nested texts, some of them with no number.
@@ -80,13 +88,18 @@ pub fn searches_of_nested_texts()
 /// The nearest stored list above, and the nearest point below, among the nested texts.
 pub fn nearest_of_nested_texts()
     ensures above_empty { ancestor nested_texts [] ≡ None }
-    ensures above_abcdefg { ancestor nested_texts (nibbles (codes "abcdefg")) ≡ Some (nibbles (codes "abcdef")) }
+    ensures above_abcdefg { ancestor nested_texts (nibbles (codes "abcdefg"))
+        ≡ Some (nibbles (codes "abcdef")) }
     ensures abcdef { number_at (nibbles (codes "abcdef")) nested_texts ≡ Some 18 }
-    ensures above_abcde { ancestor nested_texts (nibbles (codes "abcde")) ≡ Some (nibbles (codes "abcd")) }
-    ensures above_aauksdjk { ancestor nested_texts (nibbles (codes "aauksdjk")) ≡ Some (nibbles (codes "a")) }
+    ensures above_abcde { ancestor nested_texts (nibbles (codes "abcde"))
+        ≡ Some (nibbles (codes "abcd")) }
+    ensures above_aauksdjk { ancestor nested_texts (nibbles (codes "aauksdjk"))
+        ≡ Some (nibbles (codes "a")) }
     ensures a { number_at (nibbles (codes "a")) nested_texts ≡ Some 15 }
-    ensures below_abcdefgh { raw_descendant nested_texts (nibbles (codes "abcdefgh")) ≡ Some (nibbles (codes "abcdefgh")) }
-    ensures below_abcdefg { raw_descendant nested_texts (nibbles (codes "abcdefg")) ≡ Some (nibbles (codes "abcdefgh")) }
+    ensures below_abcdefgh { raw_descendant nested_texts (nibbles (codes "abcdefgh"))
+        ≡ Some (nibbles (codes "abcdefgh")) }
+    ensures below_abcdefg { raw_descendant nested_texts (nibbles (codes "abcdefg"))
+        ≡ Some (nibbles (codes "abcdefgh")) }
     ensures abcdefgh { number_at (nibbles (codes "abcdefgh")) nested_texts ≡ Some 19 }
     ensures below_acbg { raw_descendant nested_texts (nibbles (codes "acbg")) ≡ None }
 {}
@@ -102,14 +115,17 @@ pub fn ancestor_passes_over_a_parting()
 /// A removal takes the parting above with it, and a removal of an absent list takes nothing.
 pub fn removal_merges_upward()
     ensures removed { footprint (removed (nibbles (codes "abd")) a_abc_abd) ≡ (3, 6) }
-    ensures absent { footprint (removed (nibbles (codes "ab")) (removed (nibbles (codes "abd")) a_abc_abd)) ≡ (3, 6) }
+    ensures absent { footprint
+        (removed (nibbles (codes "ab")) (removed (nibbles (codes "abd")) a_abc_abd)) ≡ (3, 6) }
 {}
 
 /// The nearest point below a place within a fragment is the fragment's end.
 pub fn descendants_within_fragments()
     ensures within { raw_descendant abcz_abca (nibbles (codes "a")) ≡ Some (nibbles (codes "abc")) }
-    ensures at_the_point { raw_descendant abcz_abca (nibbles (codes "abc")) ≡ Some (nibbles (codes "abc")) }
-    ensures below { raw_descendant abcz_abca (nibbles (codes "abca")) ≡ Some (nibbles (codes "abcaaaa")) }
+    ensures at_the_point { raw_descendant abcz_abca (nibbles (codes "abc"))
+        ≡ Some (nibbles (codes "abc")) }
+    ensures below { raw_descendant abcz_abca (nibbles (codes "abca"))
+        ≡ Some (nibbles (codes "abcaaaa")) }
 {}
 
 /// Two bytes with the same high half: a point of one nibble, and two below it.
@@ -127,22 +143,32 @@ pub fn bytes_share_a_half()
 
 /// The longer of two texts leaves the part below the shorter.
 pub fn longer_text_leaves()
-    ensures { length (below (removed (nibbles (codes "abcdef")) abc_abcdef) (nibbles (codes "abc"))) ≡ 1 }
+    ensures { length (below (removed (nibbles (codes "abcdef")) abc_abcdef) (nibbles (codes "abc")))
+        ≡ 1 }
 {}
 
 /// A path whose pair is removed is no point, and still has what is below it.
 pub fn path_outlives_its_pair()
-    ensures own_fragment { fragment abc_abcdef (nibbles (codes "abc")) ≡ 6 ∷ 1 ∷ 6 ∷ 2 ∷ 6 ∷ 3 ∷ [] }
-    ensures no_point { is_point (removed (nibbles (codes "abc")) abc_abcdef) (nibbles (codes "abc")) ≡ false }
-    ensures below { length (below (removed (nibbles (codes "abc")) abc_abcdef) (nibbles (codes "abc"))) ≡ 1 }
-    ensures child { kids (removed (nibbles (codes "abc")) abc_abcdef) (nibbles (codes "abc")) ≡ nibbles (codes "abcdef") ∷ [] }
-    ensures fragment { length (fragment (removed (nibbles (codes "abc")) abc_abcdef) (nibbles (codes "abcdef"))) ≡ 12 }
-    ensures footprint { footprint (inserted (removed (nibbles (codes "abc")) abc_abcdef) (text (codes "abc") 9 ∷ [])) ≡ (3, 12) }
+    ensures own_fragment { fragment abc_abcdef (nibbles (codes "abc"))
+        ≡ 6 ∷ 1 ∷ 6 ∷ 2 ∷ 6 ∷ 3 ∷ [] }
+    ensures no_point { is_point (removed (nibbles (codes "abc")) abc_abcdef) (nibbles (codes "abc"))
+        ≡ false }
+    ensures below { length
+        (below (removed (nibbles (codes "abc")) abc_abcdef) (nibbles (codes "abc"))) ≡ 1 }
+    ensures child { kids (removed (nibbles (codes "abc")) abc_abcdef) (nibbles (codes "abc"))
+        ≡ nibbles (codes "abcdef") ∷ [] }
+    ensures fragment { length
+        (fragment (removed (nibbles (codes "abc")) abc_abcdef) (nibbles (codes "abcdef"))) ≡ 12 }
+    ensures footprint { footprint
+        (inserted (removed (nibbles (codes "abc")) abc_abcdef) (text (codes "abc") 9 ∷ []))
+        ≡ (3, 12) }
 {}
 
 /// A longer text joins, and the shorter gets another number.
 pub fn longer_text_joins()
-    ensures { values (below (inserted [] (text (codes "abc") 3 ∷ text (codes "abcdef") 6 ∷ text (codes "abc") 9 ∷ [])) (nibbles (codes "abc"))) ≡ 9 ∷ 6 ∷ [] }
+    ensures { values
+        (below (inserted [] (text (codes "abc") 3 ∷ text (codes "abcdef") 6 ∷ text (codes "abc") 9 ∷
+        [])) (nibbles (codes "abc"))) ≡ 9 ∷ 6 ∷ [] }
 {}
 
 /// Walks go by the lists: signed bytes from 0 on, then the negative ones; numbers with the low byte first by that byte.
@@ -168,26 +194,33 @@ pub fn one_text_has_two_points()
 /// The children of a parting, and what their numbers come to.
 pub fn children_of_a_parting()
     ensures path { raw_ancestor aba_abb_abc_z (nibbles (codes "abd")) ≡ ab_and_a_half }
-    ensures children { kids aba_abb_abc_z ab_and_a_half ≡ nibbles (codes "aba") ∷ nibbles (codes "abb") ∷ nibbles (codes "abc") ∷ [] }
+    ensures children { kids aba_abb_abc_z ab_and_a_half
+        ≡ nibbles (codes "aba") ∷ nibbles (codes "abb") ∷ nibbles (codes "abc") ∷ [] }
     ensures sum { sum (values (below aba_abb_abc_z ab_and_a_half)) ≡ 61 }
 {}
 
 /// Texts go by their bytes, so a letter of two bytes is two of them.
 pub fn umlauts_are_two_bytes()
-    ensures path { raw_descendant umlauts (nibbles (98 ∷ 195 ∷ 164 ∷ [])) ≡ Some (nibbles (98 ∷ 195 ∷ 164 ∷ 114 ∷ [])) }
+    ensures path { raw_descendant umlauts (nibbles (98 ∷ 195 ∷ 164 ∷ []))
+        ≡ Some (nibbles (98 ∷ 195 ∷ 164 ∷ 114 ∷ [])) }
     ensures walk { values (below umlauts (nibbles (98 ∷ 195 ∷ 164 ∷ 114 ∷ []))) ≡ 1 ∷ 2 ∷ [] }
 {}
 
 /// The longest point above a text that isn't stored is where its neighbours part.
 pub fn neighbours_of_hello()
-    ensures below { length (below wow_hella_hellb (raw_ancestor wow_hella_hellb (nibbles (codes "hello")))) ≡ 2 }
-    ensures no_value { number_at (raw_ancestor wow_hella_hellb (nibbles (codes "hello"))) wow_hella_hellb ≡ None }
+    ensures below { length
+        (below wow_hella_hellb (raw_ancestor wow_hella_hellb (nibbles (codes "hello")))) ≡ 2 }
+    ensures no_value { number_at (raw_ancestor wow_hella_hellb (nibbles (codes "hello")))
+        wow_hella_hellb ≡ None }
 {}
 
 /// Texts of digits share their high half; an object's names make a map of texts.
 pub fn names_of_objects()
-    ensures digits { footprint (inserted [] (text (codes "1") 2 ∷ text (codes "3") 4 ∷ [])) ≡ (4, 3) }
-    ensures nested { footprint (inserted [] (text (codes "a") 0 ∷ text (codes "ab") 0 ∷ text (codes "abc") 0 ∷ [])) ≡ (4, 6) }
+    ensures digits { footprint (inserted [] (text (codes "1") 2 ∷ text (codes "3") 4 ∷ []))
+        ≡ (4, 3) }
+    ensures nested { footprint
+        (inserted [] (text (codes "a") 0 ∷ text (codes "ab") 0 ∷ text (codes "abc") 0 ∷ []))
+        ≡ (4, 6) }
 {}
 
 /// Three insertions and a removal leave two texts that part.
@@ -207,8 +240,11 @@ pub fn searches_of_two_texts()
 /// A search tells whether a parting is left where a text was removed.
 pub fn searches_after_removals()
     ensures before { compared a_abc_abd (nibbles (codes "abd")) ≡ 6 }
-    ensures after { compared (removed (nibbles (codes "abd")) a_abc_abd) (nibbles (codes "abd")) ≡ 6 }
-    ensures left_alone { compared (removed (nibbles (codes "a")) (inserted [] (text (codes "a") 1 ∷ text (codes "p") 2 ∷ []))) (nibbles (codes "q")) ≡ 2 }
+    ensures after { compared (removed (nibbles (codes "abd")) a_abc_abd) (nibbles (codes "abd"))
+        ≡ 6 }
+    ensures left_alone { compared
+        (removed (nibbles (codes "a")) (inserted [] (text (codes "a") 1 ∷ text (codes "p") 2 ∷ [])))
+        (nibbles (codes "q")) ≡ 2 }
 {}
 
 /// The points nearest to places beside two texts that part within a byte.
@@ -220,7 +256,8 @@ pub fn nearest_of_two_texts()
 
 /// Long texts that part late, before and after a removal.
 pub fn long_texts_part_late()
-    ensures twin_removed { footprint (removed (nibbles (letters_a 15 ++ 98 ∷ [])) long_twins) ≡ (2, 32) }
+    ensures twin_removed { footprint (removed (nibbles (letters_a 15 ++ 98 ∷ [])) long_twins)
+        ≡ (2, 32) }
     ensures short_and_long { footprint short_and_long ≡ (4, 35) }
     ensures short_removed { footprint (removed (nibbles (codes "ab")) short_and_long) ≡ (2, 34) }
     ensures one_left { footprint (removed (nibbles (codes "abc")) abc_abd) ≡ (2, 6) }
@@ -232,12 +269,16 @@ pub fn emptied_parting()
     ensures no_value { number_at ab_and_a_half abc_abd ≡ None }
     ensures own_fragment { fragment abc_abd ab_and_a_half ≡ ab_and_a_half }
     ensures below { length (below (removed (nibbles (codes "abc")) abc_abd) ab_and_a_half) ≡ 1 }
-    ensures child { kids (removed (nibbles (codes "abc")) abc_abd) ab_and_a_half ≡ nibbles (codes "abd") ∷ [] }
-    ensures fragment { length (fragment (removed (nibbles (codes "abc")) abc_abd) (nibbles (codes "abd"))) ≡ 6 }
-    ensures emptied { removed (nibbles (codes "abd")) (removed (nibbles (codes "abc")) abc_abd) ≡ nothing }
+    ensures child { kids (removed (nibbles (codes "abc")) abc_abd) ab_and_a_half
+        ≡ nibbles (codes "abd") ∷ [] }
+    ensures fragment { length
+        (fragment (removed (nibbles (codes "abc")) abc_abd) (nibbles (codes "abd"))) ≡ 6 }
+    ensures emptied { removed (nibbles (codes "abd")) (removed (nibbles (codes "abc")) abc_abd)
+        ≡ nothing }
     ensures no_child { kids nothing ab_and_a_half ≡ [] }
     ensures back { footprint (inserted nothing (text (codes "abc") 3 ∷ [])) ≡ (2, 6) }
-    ensures no_point { is_point (inserted nothing (text (codes "abc") 3 ∷ [])) ab_and_a_half ≡ false }
+    ensures no_point { is_point (inserted nothing (text (codes "abc") 3 ∷ [])) ab_and_a_half
+        ≡ false }
 {}
 
 /// Lists with an odd number of nibbles are as good as others.

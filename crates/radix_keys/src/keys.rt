@@ -42,7 +42,8 @@ pub trait TrieKey: Eq {
     fn encode_bytes(&self, alloc: Global) -> Result<Vec<u8>, BytesError>
         ensures ok { IfOk result (λ v. nibbles v.items ≡ encoding self.now) }
         ensures odd { IfErr result (λ e. e ≡ BytesError.Odd → length (encoding self.now) % 2 ≡ 1) }
-        ensures light_odd { is_light self.now → length (encoding self.now) % 2 ≡ 1 → result ≡ Err BytesError.Odd }
+        ensures light_odd { is_light self.now → length (encoding self.now) % 2 ≡ 1
+            → result ≡ Err BytesError.Odd }
     {
         match self.encode(alloc) {
             Ok(list) => list.to_bytes(alloc),

@@ -311,7 +311,8 @@ impl NibbleVec {
 fn push_shifted(out: &mut SmallVec<u8, 16>, high: u8, bytes: &[u8]) -> u8
     requires half { high < 16 }
     requires room { HasRoomFor out.old (length bytes.now) }
-    ensures nibbles { nibbles out.new.items ++ result ∷ [] ≡ nibbles out.old.items ++ high ∷ nibbles bytes.now }
+    ensures nibbles { nibbles out.new.items ++ result ∷ [] ≡ nibbles out.old.items
+        ++ high ∷ nibbles bytes.now }
     ensures count { length out.new.items ≡ length out.old.items + length bytes.now }
     ensures half { result < 16 }
     ensures capacity { out.new.capacity ≡ out.old.capacity }

@@ -75,7 +75,8 @@ pub fn run<K: TrieKey + Drop, V: Copy>(
     trie: &mut Trie<K, V>,
     commands: Vec<Command<K, V>>,
 ) -> Result<Vec<Reply<V>>, Memory>
-    ensures steps { IfOk result (λ replies. Steps K.encoding K.is_light trie.old commands.items replies.items trie.new) }
+    ensures steps { IfOk result
+        (λ replies. Steps K.encoding K.is_light trie.old commands.items replies.items trie.new) }
     ensures unchanged { OnErr result (trie.new ≡ trie.old) }
 {
     let Ok(mut replies) = Vec::with_capacity(trie.allocator(), commands.len()) else {
@@ -222,7 +223,8 @@ fn run_view<K: TrieKey + Drop, V: Copy>(
     requires room { length list.items ≤ vec_capacity replies.old }
     requires empty { replies.old.items ≡ [] }
     ensures same_view { SameView view.old view.new }
-    ensures steps { ViewSteps K.encoding K.is_light (path_of view.old) (map_behind view.old) list.items replies.new.items (map_behind view.new) }
+    ensures steps { ViewSteps K.encoding K.is_light (path_of view.old)
+        (map_behind view.old) list.items replies.new.items (map_behind view.new) }
 {
     for command in list {
         let reply = view_step(view, command);
@@ -236,7 +238,8 @@ fn view_step<K: TrieKey + Drop, V: Copy>(
     command: ViewCommand<K, V>,
 ) -> Reply<V>
     ensures same_view { SameView view.old view.new }
-    ensures step { ViewStep K.encoding K.is_light (path_of view.old) (map_behind view.old) command result (map_behind view.new) }
+    ensures step { ViewStep K.encoding K.is_light (path_of view.old) (map_behind view.old) command
+        result (map_behind view.new) }
 {
     match command {
         ViewCommand::Insert(key, value) => view_insert(view, key, value),
@@ -253,7 +256,8 @@ fn view_insert<K: TrieKey + Drop, V: Copy>(
     value: V,
 ) -> Reply<V>
     ensures same_view { SameView view.old view.new }
-    ensures step { ViewStep K.encoding K.is_light (path_of view.old) (map_behind view.old) (ViewCommand.Insert key value) result (map_behind view.new) }
+    ensures step { ViewStep K.encoding K.is_light (path_of view.old) (map_behind view.old)
+        (ViewCommand.Insert key value) result (map_behind view.new) }
 {
     match view.insert(key, value) {
         Ok(old) => Reply::Old(old),
@@ -273,7 +277,8 @@ fn view_insert<K: TrieKey + Drop, V: Copy>(
 
 fn view_remove<K: TrieKey + Drop, V: Copy>(view: &mut SubTrieMut<'_, K, V>, key: &K) -> Reply<V>
     ensures same_view { SameView view.old view.new }
-    ensures step { ViewStep K.encoding K.is_light (path_of view.old) (map_behind view.old) (ViewCommand.Remove key.now) result (map_behind view.new) }
+    ensures step { ViewStep K.encoding K.is_light (path_of view.old) (map_behind view.old)
+        (ViewCommand.Remove key.now) result (map_behind view.new) }
 {
     match view.remove(key) {
         Ok(old) => Reply::Old(old),
@@ -303,7 +308,8 @@ fn view_remove_prefix<K: TrieKey + Drop, V: Copy>(
 }
 
 fn view_get<K: TrieKey, V: Copy>(view: &SubTrieMut<'_, K, V>, key: &K) -> Reply<V>
-    ensures { ViewStep K.encoding K.is_light (path_of view.now) (map_behind view.now) (ViewCommand.Get key.now) result (map_behind view.now) }
+    ensures { ViewStep K.encoding K.is_light (path_of view.now) (map_behind view.now)
+        (ViewCommand.Get key.now) result (map_behind view.now) }
 {
     match view.get(key) {
         Ok(found) => Reply::Found(found.copied()),

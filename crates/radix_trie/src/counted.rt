@@ -15,7 +15,8 @@ impl<K: TrieKey, V> Trie<K, V> {
     ///
     /// No nibble is compared twice. The one refusal is that of memory for the encoding, which a light key never meets.
     pub fn get_counted<Q: TrieKey>(&self, key: &Q) -> Result<(Option<&V>, usize), Memory>
-        ensures value { IfOk result (λ r. option_copied r.0 ≡ value_at self.now (Q.encoding key.now)) }
+        ensures value { IfOk result
+            (λ r. option_copied r.0 ≡ value_at self.now (Q.encoding key.now)) }
         ensures count { IfOk result (λ r. IsCompared self.now (Q.encoding key.now) r.1) }
         ensures at_most_once { IfOk result (λ r. r.1 ≤ length (Q.encoding key.now)) }
         ensures light { Q.is_light key.now → IsOk result }
@@ -28,7 +29,8 @@ impl<K: TrieKey, V> Trie<K, V> {
 
 /// The value in a node, if there is one.
 fn value_in<K, V>(found: Option<&TrieNode<K, V>>) -> Option<&V>
-    ensures { MatchOption found.entry (option_copied result ≡ None) (λ node. option_copied result ≡ option_map (λ p. p.value) (tree_of node.now).pair) }
+    ensures { MatchOption found.entry (option_copied result ≡ None)
+        (λ node. option_copied result ≡ option_map (λ p. p.value) (tree_of node.now).pair) }
 {
     match &found?.pair {
         Some(pair) => Some(&pair.value),

@@ -20,7 +20,8 @@ pub enum FindError {
 impl<K: TrieKey, V> Trie<K, V> {
     /// The value at the empty list, for writing, if one is stored there. It takes no memory.
     pub fn value_mut(&mut self) -> Option<&mut V>
-        ensures* writes_back { sem 𝓛 (lends_at K.row V.row K.TrieKey.own K.PartialEq.own self.entry [] result) }
+        ensures* writes_back { sem 𝓛
+            (lends_at K.row V.row K.TrieKey.own K.PartialEq.own self.entry [] result) }
         ensures value { option_copied_mut result ≡ value_at self.old [] }
     {
         let top = Nibblet::new(self.allocator());
@@ -32,9 +33,13 @@ impl<K: TrieKey, V> Trie<K, V> {
     /// The one other refusal is that of memory for the encoding, which a light key never meets. A refusal leaves the trie
     /// as it was. A caller learns from this call what the trie ends as, which `get_mut` can't tell.
     pub fn find_mut<Q: TrieKey>(&mut self, key: &Q) -> Result<&mut V, FindError>
-        ensures* writes_back { sem 𝓛 (lends_if_ok K.row V.row K.TrieKey.own K.PartialEq.own self.entry (Q.encoding key.now) result) }
-        ensures value { IfOk result (λ value. value_at self.old (Q.encoding key.now) ≡ Some value.now) }
-        ensures absent { IfErr result (λ e. e ≡ FindError.Absent → value_at self.old (Q.encoding key.now) ≡ None) }
+        ensures* writes_back { sem 𝓛
+            (lends_if_ok K.row V.row K.TrieKey.own K.PartialEq.own self.entry
+            (Q.encoding key.now) result) }
+        ensures value { IfOk result (λ value. value_at self.old (Q.encoding key.now)
+            ≡ Some value.now) }
+        ensures absent { IfErr result (λ e. e ≡ FindError.Absent
+            → value_at self.old (Q.encoding key.now) ≡ None) }
         ensures light { Q.is_light key.now → IfErr result (λ e. e ≡ FindError.Absent) }
     {
         let list = match key.encode(self.allocator()) {
@@ -53,7 +58,8 @@ impl<K: TrieKey, V> Trie<K, V> {
     /// What the trie is once the value has been written no contract can tell through this result; where that matters,
     /// take `find_mut`.
     pub fn get_mut<Q: TrieKey>(&mut self, key: &Q) -> Result<Option<&mut V>, Memory>
-        ensures value { IfOk result (λ found. option_copied_mut found ≡ value_at self.old (Q.encoding key.now)) }
+        ensures value { IfOk result (λ found. option_copied_mut found
+            ≡ value_at self.old (Q.encoding key.now)) }
         ensures light { Q.is_light key.now → IsOk result }
     {
         let list = key.encode(self.allocator())?;

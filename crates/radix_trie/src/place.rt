@@ -14,6 +14,7 @@ use crate::iter::{Children, Iter};
 use crate::subtrie::SubTrie;
 use crate::trie::Trie;
 use radix_keys::{Memory, Nibblet, TrieKey};
+use radix_nodes::fragments::joined;
 use radix_nodes::traversal::compare::compare;
 use radix_nodes::traversal::queries::shortest;
 use radix_nodes::traversal::size::count_pairs;
@@ -92,7 +93,8 @@ impl<'a, 'p, K: TrieKey, V> Place<'a, 'p, K, V> {
 
     /// The key that is stored at the path.
     pub(crate) fn key(&self) -> Option<&'a K>
-        ensures { option_copied result ≡ option_map (λ p. p.0) (finite.get self.now.map self.now.path) }
+        ensures { option_copied result
+            ≡ option_map (λ p. p.0) (finite.get self.now.map self.now.path) }
     {
         match self.pair() {
             Some(pair) => Some(&pair.key),
@@ -163,9 +165,11 @@ impl<'a, 'p, K: TrieKey, V> Place<'a, 'p, K, V> {
 
     /// The view at the shortest point that the path is a prefix of, or None where there is none.
     pub(crate) fn nearest(&self) -> Result<Option<SubTrie<'a, K, V>>, Memory>
-        ensures nearest { IfOk result (λ o. IsRawDescendant self.now.map self.now.path (option_map (λ view. view.path) o)) }
+        ensures nearest { IfOk result
+            (λ o. IsRawDescendant self.now.map self.now.path (option_map (λ view. view.path) o)) }
         ensures same_map { IfOk result (λ o. IfSome o (λ view. view.map ≡ self.now.map)) }
-        ensures short { ((p : List ℕ) → IsRawDescendant self.now.map self.now.path (Some p) → IsShort p) → IsOk result }
+        ensures short { ((p : List ℕ) → IsRawDescendant self.now.map self.now.path (Some p)
+            → IsShort p) → IsOk result }
     {
         match self.found {
             Some((node, covered)) => {
@@ -178,9 +182,11 @@ impl<'a, 'p, K: TrieKey, V> Place<'a, 'p, K, V> {
 
     /// For each nibble in rising order, the view at the shortest point that goes on from the path by it.
     pub(crate) fn children(&self) -> Result<Children<'a, K, V>, Memory>
-        ensures kids { IfOk result (λ children. AreKids self.now.map self.now.path (paths_of children)) }
+        ensures kids { IfOk result
+            (λ children. AreKids self.now.map self.now.path (paths_of children)) }
         ensures same_map { IfOk result (λ children. Each (λ c. c.map ≡ self.now.map) children) }
-        ensures short { ((q : List ℕ) → IsKid self.now.map self.now.path q → IsShort q) → IsOk result }
+        ensures short { ((q : List ℕ) → IsKid self.now.map self.now.path q → IsShort q)
+            → IsOk result }
     {
         match self.found {
             Some((node, covered)) => {
@@ -204,8 +210,10 @@ fn children_of<'a, K: TrieKey, V>(
     path: &Nibblet,
 ) -> Result<Children<'a, K, V>, Memory>
     requires { IsNodeOf K.encoding trie.now path.now (tree_of node.now) }
-    ensures views { IfOk result (λ children. children ≡ kid_views trie.now path.now (tree_of node.now).kids) }
-    ensures short { Each IsShort (paths_of (kid_views trie.now path.now (tree_of node.now).kids)) → IsOk result }
+    ensures views { IfOk result
+        (λ children. children ≡ kid_views trie.now path.now (tree_of node.now).kids) }
+    ensures short { Each IsShort (paths_of (kid_views trie.now path.now (tree_of node.now).kids))
+        → IsOk result }
 {
     let mut children = Children::new();
     for child in &node.children {
@@ -221,11 +229,7 @@ pub(crate) fn extended(path: &Nibblet, fragment: &Nibblet, from: usize) -> Resul
     ensures made { IfOk result (λ r. r ≡ path.now ++ drop from fragment.now) }
     ensures short { IsShort (path.now ++ drop from fragment.now) → IsOk result }
 {
-    let mut whole = path.clone()?;
-    for i in from..fragment.len() {
-        whole.push(fragment.get(i))?;
-    }
-    Ok(whole)
+    joined(path, &fragment.tail(from)?)
 }
 
 /// Whether a path begins a list.

@@ -21,7 +21,9 @@ impl<K: TrieKey, V> Trie<K, V> {
     ///
     /// The one refusal is that of memory for the path, which a light key never meets.
     pub fn subtrie<Q: TrieKey>(&self, key: &Q) -> Result<Option<SubTrie<'_, K, V>>, Memory>
-        ensures point { IfOk result (λ o. MatchOption o (IsPoint self.now (Q.encoding key.now) → ⊥) (λ _. IsPoint self.now (Q.encoding key.now))) }
+        ensures point { IfOk result
+            (λ o. MatchOption o (IsPoint self.now (Q.encoding key.now) → ⊥)
+            (λ _. IsPoint self.now (Q.encoding key.now))) }
         ensures path { IfOk result (λ o. IfSome o (λ view. view.path ≡ Q.encoding key.now)) }
         ensures same_map { IfOk result (λ o. IfSome o (λ view. view.map ≡ self.now)) }
         ensures light { Q.is_light key.now → IsOk result }
@@ -38,7 +40,8 @@ impl<K: TrieKey, V> Trie<K, V> {
     /// The one refusal is that of memory for the encoding, which a light key never meets: the view's path is the encoding
     /// cut short.
     pub fn get_ancestor<Q: TrieKey>(&self, key: &Q) -> Result<Option<SubTrie<'_, K, V>>, Memory>
-        ensures nearest { IfOk result (λ o. IsAncestor self.now (Q.encoding key.now) (option_map (λ view. view.path) o)) }
+        ensures nearest { IfOk result
+            (λ o. IsAncestor self.now (Q.encoding key.now) (option_map (λ view. view.path) o)) }
         ensures same_map { IfOk result (λ o. IfSome o (λ view. view.map ≡ self.now)) }
         ensures light { Q.is_light key.now → IsOk result }
     {
@@ -54,7 +57,8 @@ impl<K: TrieKey, V> Trie<K, V> {
     /// The one refusal is that of memory for the encoding, which a light key never meets: the view's path is the encoding
     /// cut short.
     pub fn get_raw_ancestor<Q: TrieKey>(&self, key: &Q) -> Result<SubTrie<'_, K, V>, Memory>
-        ensures nearest { IfOk result (λ view. IsRawAncestor self.now (Q.encoding key.now) view.path) }
+        ensures nearest { IfOk result
+            (λ view. IsRawAncestor self.now (Q.encoding key.now) view.path) }
         ensures same_map { IfOk result (λ view. view.map ≡ self.now) }
         ensures light { Q.is_light key.now → IsOk result }
     {
@@ -84,7 +88,8 @@ impl<K: TrieKey, V> Trie<K, V> {
     ///
     /// The one refusal is that of memory for the encoding, which a light key never meets.
     pub fn get_ancestor_value<Q: TrieKey>(&self, key: &Q) -> Result<Option<&V>, Memory>
-        ensures value { IfOk result (λ found. IsValueAbove self.now (Q.encoding key.now) (option_copied found)) }
+        ensures value { IfOk result
+            (λ found. IsValueAbove self.now (Q.encoding key.now) (option_copied found)) }
         ensures light { Q.is_light key.now → IsOk result }
     {
         let list = key.encode(self.allocator())?;
@@ -99,9 +104,13 @@ impl<K: TrieKey, V> Trie<K, V> {
         &self,
         key: &Q,
     ) -> Result<Option<SubTrie<'_, K, V>>, Memory>
-        ensures nearest { IfOk result (λ o. IsRawDescendant self.now (Q.encoding key.now) (option_map (λ view. view.path) o)) }
+        ensures nearest { IfOk result
+            (λ o. IsRawDescendant self.now (Q.encoding key.now)
+            (option_map (λ view. view.path) o)) }
         ensures same_map { IfOk result (λ o. IfSome o (λ view. view.map ≡ self.now)) }
-        ensures short { Q.is_light key.now → ((p : List ℕ) → IsRawDescendant self.now (Q.encoding key.now) (Some p) → IsShort p) → IsOk result }
+        ensures short { Q.is_light key.now
+            → ((p : List ℕ) → IsRawDescendant self.now (Q.encoding key.now) (Some p) → IsShort p)
+            → IsOk result }
     {
         let list = key.encode(self.allocator())?;
         Place::find(self, &list).nearest()

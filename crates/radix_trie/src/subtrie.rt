@@ -82,9 +82,11 @@ impl<'a, K: TrieKey, V> SubTrie<'a, K, V> {
     /// encoding; else `Outside`. The one other refusal is that of memory for the encoding, which a light key never
     /// meets.
     pub fn get<Q: TrieKey>(&self, key: &Q) -> SubTrieResult<&V>
-        ensures value { IfOk result (λ found. option_copied found ≡ value_at self.now.map (Q.encoding key.now)) }
+        ensures value { IfOk result
+            (λ found. option_copied found ≡ value_at self.now.map (Q.encoding key.now)) }
         ensures inside { OnOk result (IsPrefix self.now.path (Q.encoding key.now)) }
-        ensures outside { result ≡ Err SubTrieError.Outside → IsPrefix self.now.path (Q.encoding key.now) → ⊥ }
+        ensures outside { result ≡ Err SubTrieError.Outside
+            → IsPrefix self.now.path (Q.encoding key.now) → ⊥ }
         ensures light { Q.is_light key.now → result ≢ Err SubTrieError.Memory }
     {
         let Ok(list) = key.encode(self.trie.allocator()) else {
@@ -113,9 +115,11 @@ impl<'a, K: TrieKey, V> SubTrie<'a, K, V> {
     /// For each nibble in rising order, the view at the shortest point that goes on from the path by it, with its whole
     /// path. It takes no memory where each of these paths has at most 32 nibbles.
     pub fn children(&self) -> Result<Children<'a, K, V>, Memory>
-        ensures kids { IfOk result (λ children. AreKids self.now.map self.now.path (paths_of children)) }
+        ensures kids { IfOk result
+            (λ children. AreKids self.now.map self.now.path (paths_of children)) }
         ensures same_map { IfOk result (λ children. Each (λ c. c.map ≡ self.now.map) children) }
-        ensures short { ((q : List ℕ) → IsKid self.now.map self.now.path q → IsShort q) → IsOk result }
+        ensures short { ((q : List ℕ) → IsKid self.now.map self.now.path q → IsShort q)
+            → IsOk result }
     {
         self.place().children()
     }
@@ -123,7 +127,8 @@ impl<'a, K: TrieKey, V> SubTrie<'a, K, V> {
     /// The fragment of the view's point.
     pub(crate) fn fragment(&self) -> Result<Nibblet, Memory>
         ensures fragment { IfOk result (λ f. IsFragment self.now.map self.now.path f) }
-        ensures short { ((f : List ℕ) → IsFragment self.now.map self.now.path f → IsShort f) → IsOk result }
+        ensures short { ((f : List ℕ) → IsFragment self.now.map self.now.path f → IsShort f)
+            → IsOk result }
     {
         self.node.fragment.clone()
     }

@@ -23,7 +23,8 @@ fn value_behind<'s, 'a, K: TrieKey, V>(
     trie: &'s mut &'a mut Trie<K, V>,
     list: &'s Nibblet,
 ) -> Option<&'s mut V>
-    ensures* writes_back { sem 𝓛 (lends_behind K.row V.row K.TrieKey.own K.PartialEq.own trie.entry list.now result) }
+    ensures* writes_back { sem 𝓛
+        (lends_behind K.row V.row K.TrieKey.own K.PartialEq.own trie.entry list.now result) }
     ensures value { option_copied_mut result ≡ value_at trie.old.now list.now }
 {
     trie.at_mut(list)
@@ -107,9 +108,12 @@ impl<'a, K: TrieKey, V> SubTrieMut<'a, K, V> {
     /// For each nibble in rising order, the view for reading at the shortest point that goes on from the path by it, with
     /// its whole path. It takes no memory where each of these paths has at most 32 nibbles.
     pub fn children(&self) -> Result<Children<'_, K, V>, Memory>
-        ensures kids { IfOk result (λ children. AreKids (map_behind self.now) (path_of self.now) (paths_of children)) }
-        ensures same_map { IfOk result (λ children. Each (λ c. c.map ≡ map_behind self.now) children) }
-        ensures short { ((q : List ℕ) → IsKid (map_behind self.now) (path_of self.now) q → IsShort q) → IsOk result }
+        ensures kids { IfOk result
+            (λ children. AreKids (map_behind self.now) (path_of self.now) (paths_of children)) }
+        ensures same_map { IfOk result
+            (λ children. Each (λ c. c.map ≡ map_behind self.now) children) }
+        ensures short { ((q : List ℕ) → IsKid (map_behind self.now) (path_of self.now) q
+            → IsShort q) → IsOk result }
     {
         self.place().children()
     }
@@ -133,8 +137,10 @@ impl<'a, K: TrieKey, V> SubTrieMut<'a, K, V> {
     ///
     /// Once the value has been written, the view's map has it at the path, and all else is as before.
     pub fn value_mut(&mut self) -> Option<&mut V>
-        ensures* writes_back { sem 𝓛 (lends_own K.row V.row K.TrieKey.own K.PartialEq.own self.entry result) }
-        ensures value { option_copied_mut result ≡ value_at (map_behind self.old) (path_of self.old) }
+        ensures* writes_back { sem 𝓛
+            (lends_own K.row V.row K.TrieKey.own K.PartialEq.own self.entry result) }
+        ensures value { option_copied_mut result
+            ≡ value_at (map_behind self.old) (path_of self.old) }
     {
         value_behind(&mut self.trie, &self.path)
     }
@@ -152,9 +158,11 @@ impl<'a, K: TrieKey, V> SubTrieMut<'a, K, V> {
     ///
     /// The one other refusal is that of memory for the encoding, which a light key never meets.
     pub fn get<Q: TrieKey>(&self, key: &Q) -> SubTrieResult<&V>
-        ensures value { IfOk result (λ found. option_copied found ≡ value_at (map_behind self.now) (Q.encoding key.now)) }
+        ensures value { IfOk result
+            (λ found. option_copied found ≡ value_at (map_behind self.now) (Q.encoding key.now)) }
         ensures inside { OnOk result (IsPrefix (path_of self.now) (Q.encoding key.now)) }
-        ensures outside { result ≡ Err SubTrieError.Outside → IsPrefix (path_of self.now) (Q.encoding key.now) → ⊥ }
+        ensures outside { result ≡ Err SubTrieError.Outside
+            → IsPrefix (path_of self.now) (Q.encoding key.now) → ⊥ }
         ensures light { Q.is_light key.now → result ≢ Err SubTrieError.Memory }
     {
         let Ok(list) = key.encode(self.trie.allocator()) else {
@@ -200,7 +208,8 @@ impl<'a, K: TrieKey, V, P: PathList> SubTrieMut<'a, K, V, P> {
 
     /// The count of pairs at and below the path. The view is spent.
     pub(crate) fn count(self) -> usize
-        ensures count { result ≡ map.len (below (map_behind self.entry) (P.list (kept_path self.entry))) }
+        ensures count { result
+            ≡ map.len (below (map_behind self.entry) (P.list (kept_path self.entry))) }
         ensures kept { self.exit.0.now ≡ map_behind self.entry }
     {
         let SubTrieMut {
@@ -213,7 +222,8 @@ impl<'a, K: TrieKey, V, P: PathList> SubTrieMut<'a, K, V, P> {
 
     /// Whether no pair is at or below the path. The view is spent.
     pub(crate) fn is_bare(self) -> bool
-        ensures bare { IsTrue result ↔ (map.len (below (map_behind self.entry) (P.list (kept_path self.entry))) ≡ 0) }
+        ensures bare { IsTrue result
+            ↔ (map.len (below (map_behind self.entry) (P.list (kept_path self.entry))) ≡ 0) }
         ensures kept { self.exit.0.now ≡ map_behind self.entry }
     {
         let SubTrieMut {
@@ -226,7 +236,8 @@ impl<'a, K: TrieKey, V, P: PathList> SubTrieMut<'a, K, V, P> {
 
     /// Whether no pair is strictly below the path. The view is spent.
     pub(crate) fn ends(self) -> bool
-        ensures leaf { IsTrue result ↔ IsLeaf (map_behind self.entry) (P.list (kept_path self.entry)) }
+        ensures leaf { IsTrue result
+            ↔ IsLeaf (map_behind self.entry) (P.list (kept_path self.entry)) }
         ensures kept { self.exit.0.now ≡ map_behind self.entry }
     {
         let SubTrieMut {
@@ -261,23 +272,35 @@ impl<'a, K: TrieKey + Drop, V: Drop> SubTrieMut<'a, K, V> {
     pub fn insert(&mut self, key: K, value: V) -> Result<Option<V>, InsertError<K, V>>
         ensures same_view { SameView self.old self.new }
         ensures inside { OnOk result (IsPrefix (path_of self.old) (K.encoding key)) }
-        ensures old_value { IfOk result (λ old. old ≡ value_at (map_behind self.old) (K.encoding key)) }
-        ensures stored { OnOk result (map_behind self.new ≡ map.insert (map_behind self.old) (K.encoding key) (key, value)) }
+        ensures old_value { IfOk result
+            (λ old. old ≡ value_at (map_behind self.old) (K.encoding key)) }
+        ensures stored { OnOk result
+            (map_behind self.new ≡ map.insert (map_behind self.old) (K.encoding key) (key, value)) }
         ensures is_value { OnOk result (K.is_value key) }
 
         ensures handed_back { IfErr result (λ e. (e.key ≡ key) × (e.value ≡ value)) }
         ensures unchanged { OnErr result (map_behind self.new ≡ map_behind self.old) }
 
-        ensures outside { IfErr result (λ e. e.why ≡ InsertWhy.Outside → IsPrefix (path_of self.old) (K.encoding key) → ⊥) }
-        ensures light_outside { K.is_light key → (IsPrefix (path_of self.old) (K.encoding key) → ⊥) → IsErrAnd result (λ e. e.why ≡ InsertWhy.Outside) }
-        ensures light_memory { K.is_light key → IfErr result (λ e. e.why ≡ InsertWhy.Memory → IsPrefix (path_of self.old) (K.encoding key)) }
-        ensures light_stored { K.is_light key → IsPrefix (path_of self.old) (K.encoding key) → IsStored (map_behind self.old) (K.encoding key) → IsOk result }
-        ensures full_at_limit { IfErr result (λ e. e.why ≡ InsertWhy.Full → map.len (map_behind self.old) ≡ usize.MAX) }
-        ensures full_absent { IfErr result (λ e. e.why ≡ InsertWhy.Full → map.get (map_behind self.old) (K.encoding key) ≡ None) }
-        ensures full_inside { IfErr result (λ e. e.why ≡ InsertWhy.Full → IsPrefix (path_of self.old) (K.encoding key)) }
+        ensures outside { IfErr result (λ e. e.why ≡ InsertWhy.Outside
+            → IsPrefix (path_of self.old) (K.encoding key) → ⊥) }
+        ensures light_outside { K.is_light key → (IsPrefix (path_of self.old) (K.encoding key) → ⊥)
+            → IsErrAnd result (λ e. e.why ≡ InsertWhy.Outside) }
+        ensures light_memory { K.is_light key
+            → IfErr result (λ e. e.why ≡ InsertWhy.Memory
+            → IsPrefix (path_of self.old) (K.encoding key)) }
+        ensures light_stored { K.is_light key → IsPrefix (path_of self.old) (K.encoding key)
+            → IsStored (map_behind self.old) (K.encoding key) → IsOk result }
+        ensures full_at_limit { IfErr result (λ e. e.why ≡ InsertWhy.Full
+            → map.len (map_behind self.old) ≡ usize.MAX) }
+        ensures full_absent { IfErr result (λ e. e.why ≡ InsertWhy.Full
+            → map.get (map_behind self.old) (K.encoding key) ≡ None) }
+        ensures full_inside { IfErr result (λ e. e.why ≡ InsertWhy.Full
+            → IsPrefix (path_of self.old) (K.encoding key)) }
         // At the limit an absent key is refused, and a light one inside as Full.
-        ensures limit { map.len (map_behind self.old) ≡ usize.MAX → map.get (map_behind self.old) (K.encoding key) ≡ None
-            → IsErrAnd result (λ e. K.is_light key → IsPrefix (path_of self.old) (K.encoding key) → e.why ≡ InsertWhy.Full) }
+        ensures limit { map.len (map_behind self.old) ≡ usize.MAX
+            → map.get (map_behind self.old) (K.encoding key) ≡ None
+            → IsErrAnd result (λ e. K.is_light key → IsPrefix (path_of self.old) (K.encoding key)
+            → e.why ≡ InsertWhy.Full) }
     {
         let pair = KeyValue { key, value };
         let Ok(list) = encoding_of(self.trie.allocator(), &pair.key) else {
@@ -330,16 +353,24 @@ impl<'a, K: TrieKey + Drop, V: Drop> SubTrieMut<'a, K, V> {
     pub fn remove<Q: TrieKey>(&mut self, key: &Q) -> SubTrieResult<V>
         ensures same_view { SameView self.old self.new }
         ensures inside { OnOk result (IsPrefix (path_of self.old) (Q.encoding key.now)) }
-        ensures old_value { IfOk result (λ old. old ≡ value_at (map_behind self.old) (Q.encoding key.now)) }
-        ensures removed { OnOk result (map_behind self.new ≡ map.remove (map_behind self.old) (Q.encoding key.now)) }
+        ensures old_value { IfOk result
+            (λ old. old ≡ value_at (map_behind self.old) (Q.encoding key.now)) }
+        ensures removed { OnOk result
+            (map_behind self.new ≡ map.remove (map_behind self.old) (Q.encoding key.now)) }
 
         ensures unchanged { OnErr result (map_behind self.new ≡ map_behind self.old) }
 
-        ensures outside { result ≡ Err SubTrieError.Outside → IsPrefix (path_of self.old) (Q.encoding key.now) → ⊥ }
-        ensures light_outside { Q.is_light key.now → (IsPrefix (path_of self.old) (Q.encoding key.now) → ⊥) → result ≡ Err SubTrieError.Outside }
-        ensures light_memory { Q.is_light key.now → result ≡ Err SubTrieError.Memory → IsPrefix (path_of self.old) (Q.encoding key.now) }
-        ensures light_absent { Q.is_light key.now → IsPrefix (path_of self.old) (Q.encoding key.now) → map.get (map_behind self.old) (Q.encoding key.now) ≡ None → IsOk result }
-        ensures light_short { Q.is_light key.now → IsPrefix (path_of self.old) (Q.encoding key.now) → ((e : List ℕ) → IsStored (map_behind self.old) e → IsShort e) → IsOk result }
+        ensures outside { result ≡ Err SubTrieError.Outside
+            → IsPrefix (path_of self.old) (Q.encoding key.now) → ⊥ }
+        ensures light_outside { Q.is_light key.now
+            → (IsPrefix (path_of self.old) (Q.encoding key.now) → ⊥)
+            → result ≡ Err SubTrieError.Outside }
+        ensures light_memory { Q.is_light key.now → result ≡ Err SubTrieError.Memory
+            → IsPrefix (path_of self.old) (Q.encoding key.now) }
+        ensures light_absent { Q.is_light key.now → IsPrefix (path_of self.old) (Q.encoding key.now)
+            → map.get (map_behind self.old) (Q.encoding key.now) ≡ None → IsOk result }
+        ensures light_short { Q.is_light key.now → IsPrefix (path_of self.old) (Q.encoding key.now)
+            → ((e : List ℕ) → IsStored (map_behind self.old) e → IsShort e) → IsOk result }
     {
         let Ok(list) = key.encode(self.trie.allocator()) else {
             return Err(SubTrieError::Memory);

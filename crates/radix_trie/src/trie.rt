@@ -141,7 +141,8 @@ impl<K: TrieKey, V> Trie<K, V> {
     /// The key may be of another type than the stored keys: its encoding alone decides. The one
     /// refusal is that of memory for the encoding, which a light key never meets.
     pub fn get<Q: TrieKey>(&self, key: &Q) -> Result<Option<&V>, Memory>
-        ensures value { IfOk result (λ found. option_copied found ≡ value_at self.now (Q.encoding key.now)) }
+        ensures value { IfOk result
+            (λ found. option_copied found ≡ value_at self.now (Q.encoding key.now)) }
         ensures is_value { OnOk result (Q.is_value key.now) }
         ensures light { Q.is_light key.now → IsOk result }
     {
@@ -161,7 +162,8 @@ impl<K: TrieKey, V> Trie<K, V> {
 
     /// The value at a list of nibbles, for writing, if one is stored there. It takes no memory.
     pub fn at_mut(&mut self, list: &Nibblet) -> Option<&mut V>
-        ensures* writes_back { sem 𝓛 (lends_at K.row V.row K.TrieKey.own K.PartialEq.own self.entry list.now result) }
+        ensures* writes_back { sem 𝓛
+            (lends_at K.row V.row K.TrieKey.own K.PartialEq.own self.entry list.now result) }
         ensures value { option_copied_mut result ≡ value_at self.old list.now }
     {
         match value_at_mut(&mut self.root, list) {
@@ -172,7 +174,8 @@ impl<K: TrieKey, V> Trie<K, V> {
 
     /// Whether as many pairs are stored as can be counted, and none at this list.
     fn has_no_room_for(&self, list: &Nibblet) -> bool
-        ensures { IsTrue result ↔ ((map.len self.now ≡ usize.MAX) × (map.get self.now list.now ≡ None)) }
+        ensures { IsTrue result
+            ↔ ((map.len self.now ≡ usize.MAX) × (map.get self.now list.now ≡ None)) }
     {
         if self.len() < usize::MAX {
             return false;
@@ -224,15 +227,18 @@ impl<K: TrieKey + Drop, V: Drop> Trie<K, V> {
     /// among them; memory for the change, which a stored encoding never takes.
     pub fn insert(&mut self, key: K, value: V) -> Result<Option<V>, InsertError<K, V>>
         ensures old_value { IfOk result (λ old. old ≡ value_at self.old (K.encoding key)) }
-        ensures stored { OnOk result (self.new ≡ map.insert self.old (K.encoding key) (key, value)) }
+        ensures stored { OnOk result
+            (self.new ≡ map.insert self.old (K.encoding key) (key, value)) }
         ensures is_value { OnOk result (K.is_value key) }
 
         ensures handed_back { IfErr result (λ e. (e.key ≡ key) × (e.value ≡ value)) }
         ensures unchanged { OnErr result (self.new ≡ self.old) }
 
         ensures light_stored { K.is_light key → IsStored self.old (K.encoding key) → IsOk result }
-        ensures full_at_limit { IfErr result (λ e. e.why ≡ InsertWhy.Full → map.len self.old ≡ usize.MAX) }
-        ensures full_absent { IfErr result (λ e. e.why ≡ InsertWhy.Full → map.get self.old (K.encoding key) ≡ None) }
+        ensures full_at_limit { IfErr result (λ e. e.why ≡ InsertWhy.Full → map.len self.old
+            ≡ usize.MAX) }
+        ensures full_absent { IfErr result (λ e. e.why ≡ InsertWhy.Full
+            → map.get self.old (K.encoding key) ≡ None) }
         // At the limit an absent key is refused, and a light one as Full.
         ensures limit { map.len self.old ≡ usize.MAX → map.get self.old (K.encoding key) ≡ None
             → IsErrAnd result (λ e. K.is_light key → e.why ≡ InsertWhy.Full) }
@@ -254,12 +260,15 @@ impl<K: TrieKey + Drop, V: Drop> Trie<K, V> {
         requires encoding { list.now ≡ K.encoding pair.key }
         requires fits { length list.now < 2 ^ 64 }
         ensures old_value { IfOk result (λ old. old ≡ value_at self.old list.now) }
-        ensures stored { OnOk result (self.new ≡ map.insert self.old list.now (pair.key, pair.value)) }
+        ensures stored { OnOk result
+            (self.new ≡ map.insert self.old list.now (pair.key, pair.value)) }
         ensures handed_back { IfErr result (λ e. (e.key ≡ pair.key) × (e.value ≡ pair.value)) }
         ensures unchanged { OnErr result (self.new ≡ self.old) }
         ensures refused_absent { OnErr result (map.get self.old list.now ≡ None) }
-        ensures full_at_limit { IfErr result (λ e. e.why ≡ InsertWhy.Full → map.len self.old ≡ usize.MAX) }
-        ensures limit { map.len self.old ≡ usize.MAX → map.get self.old list.now ≡ None → IsErrAnd result (λ e. e.why ≡ InsertWhy.Full) }
+        ensures full_at_limit { IfErr result (λ e. e.why ≡ InsertWhy.Full → map.len self.old
+            ≡ usize.MAX) }
+        ensures limit { map.len self.old ≡ usize.MAX → map.get self.old list.now ≡ None
+            → IsErrAnd result (λ e. e.why ≡ InsertWhy.Full) }
         ensures inside { IfErr result (λ e. e.why ≢ InsertWhy.Outside) }
     {
         if self.has_no_room_for(list) {
@@ -283,8 +292,10 @@ impl<K: TrieKey + Drop, V: Drop> Trie<K, V> {
     /// Calls the closure once on the value at a list. False: there is none, and nothing changed.
     fn change_at<F: Fn(&mut V)>(&mut self, list: &Nibblet, f: F) -> bool
         requires callable { ForSome (value_at self.old list.now) (FnOnceTakesAtMut F.FnOnce f) }
-        ensures { MatchOption (value_at self.old list.now) ((result ≡ false) × (self.new ≡ self.old))
-            (λ v. (result ≡ true) × (w : V) × FnOnceReturnsAtMut F.FnOnce f v tt w × (self.new ≡ with_value self.old list.now w)) }
+        ensures { MatchOption (value_at self.old list.now)
+            ((result ≡ false) × (self.new ≡ self.old))
+            (λ v. (result ≡ true) × (w : V) × FnOnceReturnsAtMut F.FnOnce f v tt w
+            × (self.new ≡ with_value self.old list.now w)) }
     {
         match self.at_mut(list) {
             Some(value) => {
@@ -306,17 +317,23 @@ impl<K: TrieKey + Drop, V: Drop> Trie<K, V> {
         f: F,
         default: V,
     ) -> Result<(), InsertError<K, V>>
-        requires callable { ForSome (value_at self.old (K.encoding key)) (FnOnceTakesAtMut F.FnOnce f) }
-        ensures mapped { OnOk result (MatchOption (value_at self.old (K.encoding key)) (self.new ≡ map.insert self.old (K.encoding key) (key, default))
-            (λ v. (w : V) × FnOnceReturnsAtMut F.FnOnce f v tt w × (self.new ≡ with_value self.old (K.encoding key) w))) }
+        requires callable { ForSome (value_at self.old (K.encoding key))
+            (FnOnceTakesAtMut F.FnOnce f) }
+        ensures mapped { OnOk result
+            (MatchOption (value_at self.old (K.encoding key))
+            (self.new ≡ map.insert self.old (K.encoding key) (key, default))
+            (λ v. (w : V) × FnOnceReturnsAtMut F.FnOnce f v tt w
+            × (self.new ≡ with_value self.old (K.encoding key) w))) }
         ensures is_value { OnOk result (K.is_value key) }
 
         ensures handed_back { IfErr result (λ e. (e.key ≡ key) × (e.value ≡ default)) }
         ensures unchanged { OnErr result (self.new ≡ self.old) }
 
         ensures light_stored { K.is_light key → IsStored self.old (K.encoding key) → IsOk result }
-        ensures full_at_limit { IfErr result (λ e. e.why ≡ InsertWhy.Full → map.len self.old ≡ usize.MAX) }
-        ensures full_absent { IfErr result (λ e. e.why ≡ InsertWhy.Full → map.get self.old (K.encoding key) ≡ None) }
+        ensures full_at_limit { IfErr result (λ e. e.why ≡ InsertWhy.Full → map.len self.old
+            ≡ usize.MAX) }
+        ensures full_absent { IfErr result (λ e. e.why ≡ InsertWhy.Full
+            → map.get self.old (K.encoding key) ≡ None) }
         // At the limit an absent key is refused, and a light one as Full.
         ensures limit { map.len self.old ≡ usize.MAX → map.get self.old (K.encoding key) ≡ None
             → IsErrAnd result (λ e. K.is_light key → e.why ≡ InsertWhy.Full) }
@@ -354,8 +371,10 @@ impl<K: TrieKey + Drop, V: Drop> Trie<K, V> {
         ensures removed { OnOk result (self.new ≡ map.remove self.old (Q.encoding key.now)) }
         ensures unchanged { OnErr result (self.new ≡ self.old) }
 
-        ensures light_absent { Q.is_light key.now → map.get self.old (Q.encoding key.now) ≡ None → IsOk result }
-        ensures light_short { Q.is_light key.now → ((e : List ℕ) → IsStored self.old e → IsShort e) → IsOk result }
+        ensures light_absent { Q.is_light key.now → map.get self.old (Q.encoding key.now) ≡ None
+            → IsOk result }
+        ensures light_short { Q.is_light key.now → ((e : List ℕ) → IsStored self.old e → IsShort e)
+            → IsOk result }
     {
         let list = key.encode(self.alloc)?;
         self.take_at(&list)
@@ -386,10 +405,12 @@ impl<K: TrieKey + Drop, V: Drop> Trie<K, V> {
     /// The key needn't be stored, nor be a point. Where nothing stands there nothing changes, and the answer is empty. The one
     /// refusal is that of memory, for the encoding, the list of pairs, or for joining two fragments; it leaves the trie as it was.
     pub fn remove_prefix<Q: TrieKey>(&mut self, key: &Q) -> Result<Vec<(K, V)>, Memory>
-        ensures pairs { IfOk result (λ gone. gone.items ≡ pairs_below self.old (Q.encoding key.now)) }
+        ensures pairs { IfOk result
+            (λ gone. gone.items ≡ pairs_below self.old (Q.encoding key.now)) }
         ensures removed { OnOk result (self.new ≡ without_below self.old (Q.encoding key.now)) }
         ensures unchanged { OnErr result (self.new ≡ self.old) }
-        ensures light_none { Q.is_light key.now → map.len (below self.old (Q.encoding key.now)) ≡ 0 → IsOk result }
+        ensures light_none { Q.is_light key.now → map.len (below self.old (Q.encoding key.now)) ≡ 0
+            → IsOk result }
     {
         let list = key.encode(self.alloc)?;
         self.prune_at(&list)
@@ -442,8 +463,10 @@ impl<K: TrieKey + Clone, V: Clone> Trie<K, V> {
     /// Clones of keys have to keep their encodings. The one refusal is that of memory, for the nodes or in a clone of a
     /// key or a value; it drops what was copied. The trie without pairs is copied without memory.
     pub fn clone(&self) -> Result<Trie<K, V>, Memory>
-        requires same_encoding { (key copy : K) → K.is_clone key copy → K.encoding copy ≡ K.encoding key }
-        ensures copy { IfOk result (λ copy. IsMapCopy (IsPairClone K.is_clone V.is_clone) self.now copy) }
+        requires same_encoding { (key copy : K) → K.is_clone key copy → K.encoding copy
+            ≡ K.encoding key }
+        ensures copy { IfOk result
+            (λ copy. IsMapCopy (IsPairClone K.is_clone V.is_clone) self.now copy) }
         ensures light { map.len self.now ≡ 0 → IsOk result }
     {
         Ok(Trie {

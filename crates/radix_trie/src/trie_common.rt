@@ -29,7 +29,8 @@ pub trait TrieCommon<'a, K: TrieKey + 'a, V: 'a>: Sized {
 
     /// The key that is stored at the path.
     fn key(self) -> Option<&'a K>
-        ensures { option_copied result ≡ option_map (λ p. p.0) (finite.get (map self) (path self)) };
+        ensures { option_copied result
+            ≡ option_map (λ p. p.0) (finite.get (map self) (path self)) };
 
     /// The value that is stored at the path.
     fn value(self) -> Option<&'a V>
@@ -57,12 +58,14 @@ pub trait TrieCommon<'a, K: TrieKey + 'a, V: 'a>: Sized {
 
     /// The keys of that walk.
     fn keys(self) -> Result<Keys<'a, K, V>, Memory>
-        ensures walk { IfOk result (λ keys. keys ≡ each (λ p. p.0) (pairs_below (map self) (path self))) }
+        ensures walk { IfOk result
+            (λ keys. keys ≡ each (λ p. p.0) (pairs_below (map self) (path self))) }
         ensures countable { IfOk result (λ keys. length keys < 2 ^ 64) };
 
     /// The values of that walk.
     fn values(self) -> Result<Values<'a, K, V>, Memory>
-        ensures walk { IfOk result (λ values. values ≡ each (λ p. p.1) (pairs_below (map self) (path self))) }
+        ensures walk { IfOk result
+            (λ values. values ≡ each (λ p. p.1) (pairs_below (map self) (path self))) }
         ensures countable { IfOk result (λ values. length values < 2 ^ 64) };
 
     /// The fragment, what the path has beyond the longest point strictly above it. It takes no memory where the fragment

@@ -32,21 +32,24 @@ impl<'a, K: TrieKey, V, P: PathList> TrieCommon<'a, K, V> for SubTrieMut<'a, K, 
     }
 
     fn len(self) -> usize
-        ensures value { result ≡ finite.len (below (map_behind self.entry) (P.list (kept_path self.entry))) }
+        ensures value { result
+            ≡ finite.len (below (map_behind self.entry) (P.list (kept_path self.entry))) }
         ensures kept { self.exit.0.now ≡ map_behind self.entry }
     {
         self.count()
     }
 
     fn is_empty(self) -> bool
-        ensures value { IsTrue result ↔ (finite.len (below (map_behind self.entry) (P.list (kept_path self.entry))) ≡ 0) }
+        ensures value { IsTrue result
+            ↔ (finite.len (below (map_behind self.entry) (P.list (kept_path self.entry))) ≡ 0) }
         ensures kept { self.exit.0.now ≡ map_behind self.entry }
     {
         self.is_bare()
     }
 
     fn is_leaf(self) -> bool
-        ensures value { IsTrue result ↔ IsLeaf (map_behind self.entry) (P.list (kept_path self.entry)) }
+        ensures value { IsTrue result
+            ↔ IsLeaf (map_behind self.entry) (P.list (kept_path self.entry)) }
         ensures kept { self.exit.0.now ≡ map_behind self.entry }
     {
         self.ends()
@@ -69,7 +72,8 @@ impl<'a, K: TrieKey, V, P: PathList> TrieCommon<'a, K, V> for SubTrieMut<'a, K, 
 
     fn prefix(self) -> Result<Nibblet, Memory>
         ensures fragment { IfOk result (λ f. f ≡ P.list (kept_prefix self.entry)) }
-        ensures short { ((f : List ℕ) → (f ≡ P.list (kept_prefix self.entry)) → IsShort f) → IsOk result }
+        ensures short { ((f : List ℕ) → (f ≡ P.list (kept_prefix self.entry)) → IsShort f)
+            → IsOk result }
         ensures kept { self.exit.0.now ≡ map_behind self.entry }
     {
         Ok(self.into_prefix())

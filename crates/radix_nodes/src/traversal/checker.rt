@@ -17,8 +17,10 @@ impl<K: TrieKey, V> TrieNode<K, V> {
         prefix: &Nibblet,
     ) -> Result<(bool, usize), Memory>
         requires { length (entries_at prefix.now (tree_of self.now)) < 2 ^ 64 }
-        ensures answer { IfOk result (λ r. IsTrue r.0 ↔ IsCanonicalAt K.encoding prefix.now (tree_of self.now)) }
-        ensures count { IfOk result (λ r. r.1 ≡ cond r.0 (length (entries_at prefix.now (tree_of self.now))) 0) }
+        ensures answer { IfOk result
+            (λ r. IsTrue r.0 ↔ IsCanonicalAt K.encoding prefix.now (tree_of self.now)) }
+        ensures count { IfOk result
+            (λ r. r.1 ≡ cond r.0 (length (entries_at prefix.now (tree_of self.now))) 0) }
     {
         test(self, alloc, prefix)
     }
@@ -44,7 +46,9 @@ fn has_key<K: TrieKey, V>(
 // Whether the node may be left at the path with what it has.
 #[tactic(auto, using(crate::proofs::Soundness::unboxed_some))]
 fn has_form<K, V>(node: &TrieNode<K, V>, path: &Nibblet) -> bool
-    ensures { result ≡ form_test path.now (out_of node.now).fragment (unboxed (out_of node.now).pair) (vec_len (out_of node.now).children) }
+    ensures { result
+        ≡ form_test path.now (out_of node.now).fragment (unboxed (out_of node.now).pair)
+        (vec_len (out_of node.now).children) }
 {
     path.is_empty()
         || (!node.fragment.is_empty() && (node.pair.is_some() || node.children.len() > 1))

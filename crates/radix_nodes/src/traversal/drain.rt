@@ -29,12 +29,14 @@ fn put_pair<K: Drop, V: Drop>(pair: Option<Box<KeyValue<K, V>>>, list: &mut Vec<
 /// Moves the pairs at and below a node to the end of a list that has room for them: the node's own first, then those of one child
 /// after another.
 pub fn drain<K: Drop, V: Drop>(node: TrieNode<K, V>, list: &mut Vec<(K, V)>) -> Drained
-    requires room { vec_len list.old + length (entries_at [] (tree_of node)) ≤ vec_capacity list.old }
+    requires room { vec_len list.old + length (entries_at [] (tree_of node))
+        ≤ vec_capacity list.old }
     requires small { IsSmall (tree_of node) }
     ensures pairs { list.new.items ≡ list.old.items ++ pairs_in (tree_of node) }
     ensures capacity { vec_capacity list.new ≡ vec_capacity list.old }
     ensures nodes { result.nodes ≡ nodes_in (tree_of node).kids }
-    ensures nibbles { result.nibbles ≡ length (tree_of node).fragment + nibbles_in (tree_of node).kids }
+    ensures nibbles { result.nibbles
+        ≡ length (tree_of node).fragment + nibbles_in (tree_of node).kids }
 {
     let TrieNode {
         fragment,

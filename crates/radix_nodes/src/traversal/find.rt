@@ -18,7 +18,10 @@ pub fn find<'a, K, V>(
 ) -> Option<&'a TrieNode<K, V>>
     requires depth { depth ≤ length key.now }
     requires placed { IsTreePlaced (tree_of node.now) }
-    ensures { MatchOption result ((u : _) → IsNodeAt (tree_of node.now) (fragment_of node.now ++ drop depth key.now) u → ⊥) (λ n. IsNodeAt (tree_of node.now) (fragment_of node.now ++ drop depth key.now) (tree_of n.now)) }
+    ensures { MatchOption result
+        ((u : _) → IsNodeAt (tree_of node.now) (fragment_of node.now ++ drop depth key.now) u → ⊥)
+        (λ n. IsNodeAt (tree_of node.now) (fragment_of node.now ++ drop depth key.now)
+        (tree_of n.now)) }
 {
     if depth == key.len() {
         return Some(node);
@@ -37,7 +40,10 @@ fn search<'a, K, V>(
 ) -> (Option<&'a TrieNode<K, V>>, usize)
     requires depth { depth ≤ length key.now }
     requires placed { IsTreePlaced (tree_of node.now) }
-    ensures found { MatchOption result.0 ((u : _) → IsNodeAt (tree_of node.now) (fragment_of node.now ++ drop depth key.now) u → ⊥) (λ n. IsNodeAt (tree_of node.now) (fragment_of node.now ++ drop depth key.now) (tree_of n.now)) }
+    ensures found { MatchOption result.0
+        ((u : _) → IsNodeAt (tree_of node.now) (fragment_of node.now ++ drop depth key.now) u → ⊥)
+        (λ n. IsNodeAt (tree_of node.now) (fragment_of node.now ++ drop depth key.now)
+        (tree_of n.now)) }
     ensures count { result.1 ≡ walked (plain (tree_of node.now).kids) (drop depth key.now) }
 {
     if depth == key.len() {
@@ -65,7 +71,8 @@ pub fn find_counted<'a, K, V>(
     requires top { fragment_of root.now ≡ [] }
     requires placed { IsTreePlaced (tree_of root.now) }
     requires full { IsFullBelow (tree_of root.now) }
-    ensures found { MatchOption result.0 ((u : _) → IsNodeAt (tree_of root.now) key.now u → ⊥) (λ n. IsNodeAt (tree_of root.now) key.now (tree_of n.now)) }
+    ensures found { MatchOption result.0 ((u : _) → IsNodeAt (tree_of root.now) key.now u → ⊥)
+        (λ n. IsNodeAt (tree_of root.now) key.now (tree_of n.now)) }
     ensures count { IsCompared (entries_at [] (tree_of root.now)) key.now result.1 }
 {
     search(root, key, 0)

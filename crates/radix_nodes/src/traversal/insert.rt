@@ -32,7 +32,8 @@ pub fn put<K: Drop, V: Drop>(
 ) -> Result<Change<K, V>, KeyValue<K, V>>
     requires depth { depth ≤ length key.now }
     requires placed { IsTreePlaced (tree_of node.old) }
-    ensures { EditOutcome result pair (fragment_of node.old ++ drop depth key.now) (tree_of node.old) (tree_of node.new) }
+    ensures { EditOutcome result pair (fragment_of node.old ++ drop depth key.now)
+        (tree_of node.old) (tree_of node.new) }
 {
     if depth == key.len() {
         return set_pair(&mut node.pair, alloc, pair);
@@ -125,7 +126,8 @@ fn add_leaf<K: Drop, V: Drop>(
     requires depth { depth < length key.now }
     requires placed { IsTreePlaced (tree_of node.old) }
     requires gap { IsPlaceOf (slice_index key.now depth) (firsts (tree_of node.old).kids) (Err i) }
-    ensures { EditOutcome result pair (fragment_of node.old ++ drop depth key.now) (tree_of node.old) (tree_of node.new) }
+    ensures { EditOutcome result pair (fragment_of node.old ++ drop depth key.now)
+        (tree_of node.old) (tree_of node.new) }
 {
     let Ok(()) = node.children.reserve(1) else {
         return Err(pair);
@@ -149,7 +151,9 @@ fn grow_split<K: Drop, V: Drop>(
     alloc: Global,
 ) -> Result<(Box<TrieNode<K, V>>, Nibblet), Memory>
     requires { n < length (fragment_of node.now) }
-    ensures { IfOk result (λ grown. IsUpper (take n (fragment_of node.now)) (drop n (fragment_of node.now)) grown.0.value × (grown.1 ≡ drop n (fragment_of node.now))) }
+    ensures { IfOk result
+        (λ grown. IsUpper (take n (fragment_of node.now)) (drop n (fragment_of node.now))
+        grown.0.value × (grown.1 ≡ drop n (fragment_of node.now))) }
 {
     let mut fragment = node.fragment.clone()?;
     let rest = fragment.split(n)?;
@@ -181,9 +185,11 @@ fn split_and_put<K: Drop, V: Drop>(
     requires some { 0 < n }
     requires within { n < length (fragment_of slot.old.value) }
     requires depth { depth ≤ length key.now }
-    requires apart { depth < length key.now → slice_index (fragment_of slot.old.value) n ≢ slice_index key.now depth }
+    requires apart { depth < length key.now → slice_index (fragment_of slot.old.value) n
+        ≢ slice_index key.now depth }
     requires placed { IsTreePlaced (tree_of slot.old.value) }
-    ensures { ReplaceOutcome result pair (take n (fragment_of slot.old.value) ++ drop depth key.now) (tree_of slot.old.value) (tree_of slot.new.value) }
+    ensures { ReplaceOutcome result pair (take n (fragment_of slot.old.value) ++ drop depth key.now)
+        (tree_of slot.old.value) (tree_of slot.new.value) }
 {
     let Ok((upper, tail)) = grow_split(slot, n, alloc) else {
         return Err(pair);

@@ -55,7 +55,8 @@ fn here<'a, K, V>(
     requires depth { depth ≤ length key.now }
     requires placed { IsTreePlaced (tree_of top.old.value) }
     requires stuck { IsStuck (tree_of top.old.value) (drop depth key.now) }
-    ensures* writes_back { sem 𝓛 (LendsNode K.row V.row top.entry (fragment_of top.old.value ++ drop depth key.now) result) }
+    ensures* writes_back { sem 𝓛
+        (LendsNode K.row V.row top.entry (fragment_of top.old.value ++ drop depth key.now) result) }
 {
     if depth == key.len() {
         Some(unbox(top))
@@ -72,7 +73,8 @@ pub fn node_below_mut<'a, K, V>(
 ) -> Option<&'a mut TrieNode<K, V>>
     requires depth { depth ≤ length key.now }
     requires placed { IsTreePlaced (tree_of top.old.value) }
-    ensures* writes_back { sem 𝓛 (LendsNode K.row V.row top.entry (fragment_of top.old.value ++ drop depth key.now) result) }
+    ensures* writes_back { sem 𝓛
+        (LendsNode K.row V.row top.entry (fragment_of top.old.value ++ drop depth key.now) result) }
 {
     let (top, i, next) = look(top, key, depth);
     if next == depth {
@@ -95,7 +97,8 @@ pub fn pair_value<K, V>(pair: &mut Option<Box<KeyValue<K, V>>>) -> Option<&mut V
 /// The value at the key's place, for writing: None exactly where no pair stands there.
 pub fn value_at_mut<'a, K, V>(root: &'a mut TrieNode<K, V>, key: &Nibblet) -> Option<&'a mut V>
     requires { IsTreePlaced (tree_of root.old) }
-    ensures* writes_back { sem 𝓛 (LendsValue K.row V.row root.entry (fragment_of root.old ++ key.now) result) }
+    ensures* writes_back { sem 𝓛
+        (LendsValue K.row V.row root.entry (fragment_of root.old ++ key.now) result) }
 {
     if key.len() == 0 {
         return pair_value(&mut root.pair);

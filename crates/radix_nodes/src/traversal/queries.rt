@@ -18,7 +18,8 @@ pub fn deepest<'a, K, V>(
 ) -> (&'a TrieNode<K, V>, usize)
     requires depth { depth ≤ length key.now }
     requires placed { IsTreePlaced (tree_of node.now) }
-    ensures { IsDeepest (IsPath (tree_of node.now)) (tree_of node.now) (tree_of result.0.now) key.now depth result.1 }
+    ensures { IsDeepest (IsPath (tree_of node.now)) (tree_of node.now)
+        (tree_of result.0.now) key.now depth result.1 }
 {
     match step(node, key, depth) {
         Some((i, next)) => deepest(&node.children[i], key, next),
@@ -34,7 +35,10 @@ pub fn deepest_pair<'a, K, V>(
 ) -> Option<(&'a TrieNode<K, V>, usize)>
     requires depth { depth ≤ length key.now }
     requires placed { IsTreePlaced (tree_of node.now) }
-    ensures { MatchOption result ((q : _) → IsHeld (tree_of node.now) q → IsPrefix q (fragment_of node.now ++ drop depth key.now) → ⊥) (λ r. IsDeepest (IsHeld (tree_of node.now)) (tree_of node.now) (tree_of r.0.now) key.now depth r.1) }
+    ensures { MatchOption result ((q : _) → IsHeld (tree_of node.now) q
+        → IsPrefix q (fragment_of node.now ++ drop depth key.now) → ⊥)
+        (λ r. IsDeepest (IsHeld (tree_of node.now)) (tree_of node.now) (tree_of r.0.now) key.now
+        depth r.1) }
 {
     if let Some((i, next)) = step(node, key, depth) {
         if let Some(found) = deepest_pair(&node.children[i], key, next) {
@@ -57,7 +61,10 @@ pub fn shortest<'a, K, V>(
 ) -> Option<(&'a TrieNode<K, V>, usize)>
     requires depth { depth ≤ length key.now }
     requires placed { IsTreePlaced (tree_of node.now) }
-    ensures { MatchOption result ((q : _) → IsPath (tree_of node.now) q → IsPrefix (fragment_of node.now ++ drop depth key.now) q → ⊥) (λ r. IsNearest (tree_of node.now) (tree_of r.0.now) (fragment_of node.now ++ drop depth key.now) r.1) }
+    ensures { MatchOption result ((q : _) → IsPath (tree_of node.now) q
+        → IsPrefix (fragment_of node.now ++ drop depth key.now) q → ⊥)
+        (λ r. IsNearest (tree_of node.now) (tree_of r.0.now)
+        (fragment_of node.now ++ drop depth key.now) r.1) }
 {
     if depth == key.len() {
         return Some((node, node.fragment.len()));

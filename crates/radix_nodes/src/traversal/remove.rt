@@ -57,7 +57,9 @@ fn take_here<K: Drop, V: Drop>(node: &mut TrieNode<K, V>) -> Result<Option<Taken
 
 // The pair of a leaf that was cut off.
 fn make_taken<K: Drop, V: Drop>(leaf: Branch<K, V>) -> Option<Taken<K, V>>
-    ensures { MatchOption result (unboxed (out_of leaf.top.value).pair ≡ None) (λ t. (unboxed (out_of leaf.top.value).pair ≡ Some t.pair) × (t.nodes ≡ leaf.nodes) × (t.nibbles ≡ length (fragment_of leaf.top.value))) }
+    ensures { MatchOption result (unboxed (out_of leaf.top.value).pair ≡ None)
+        (λ t. (unboxed (out_of leaf.top.value).pair ≡ Some t.pair) × (t.nodes ≡ leaf.nodes)
+        × (t.nibbles ≡ length (fragment_of leaf.top.value))) }
 {
     let Branch { top, nodes } = leaf;
     let TrieNode {
@@ -86,7 +88,9 @@ fn take_leaf<K: Drop, V: Drop>(
     requires placed { IsTreePlaced (tree_of node.old) }
     requires some { fragment_of node.old ≢ [] }
     requires leaf { (u : _) → IsAt i (tree_of node.old).kids u → u.kids ≡ none }
-    ensures { (u : _) → IsAt i (tree_of node.old).kids u → CutOutcome result (fragment_of node.old ++ u.fragment) (tree_of node.old) (tree_of node.new) }
+    ensures { (u : _) → IsAt i (tree_of node.old).kids u
+        → CutOutcome result (fragment_of node.old ++ u.fragment) (tree_of node.old)
+        (tree_of node.new) }
 {
     if !has_pair(&node.children[i]) {
         return Ok(None);
@@ -107,7 +111,8 @@ pub fn take<K: Drop, V: Drop>(
     requires placed { IsTreePlaced (tree_of node.old) }
     requires some { fragment_of node.old ≢ [] }
     requires inner { depth ≡ length key.now → 0 < vec_len (out_of node.old).children }
-    ensures { CutOutcome result (fragment_of node.old ++ drop depth key.now) (tree_of node.old) (tree_of node.new) }
+    ensures { CutOutcome result (fragment_of node.old ++ drop depth key.now) (tree_of node.old)
+        (tree_of node.new) }
 {
     if depth == key.len() {
         return take_here(node);
@@ -130,7 +135,8 @@ pub fn take_root<K: Drop, V: Drop>(
     key: &Nibblet,
 ) -> Result<Option<Taken<K, V>>, Memory>
     requires { IsTreePlaced (tree_of node.old) }
-    ensures { RootOutcome result (fragment_of node.old ++ key.now) (tree_of node.old) (tree_of node.new) }
+    ensures { RootOutcome result (fragment_of node.old ++ key.now) (tree_of node.old)
+        (tree_of node.new) }
 {
     if key.len() == 0 {
         return match take_pair(&mut node.pair) {

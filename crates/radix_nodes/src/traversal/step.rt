@@ -14,7 +14,9 @@ use radix_keys::Nibblet;
 pub fn meet<K, V>(node: &TrieNode<K, V>, key: &Nibblet, depth: usize) -> Option<(usize, Agreement)>
     requires depth { depth < length key.now }
     requires placed { IsTreePlaced (tree_of node.now) }
-    ensures { MatchOption result (bit_of (slice_index key.now depth) (firsts (tree_of node.now).kids) ≡ 0) (λ met. IsMet node.now key.now depth met.0 met.1) }
+    ensures { MatchOption result
+        (bit_of (slice_index key.now depth) (firsts (tree_of node.now).kids) ≡ 0)
+        (λ met. IsMet node.now key.now depth met.0 met.1) }
 {
     match place(node.mask, key.get(depth)) {
         Ok(i) => {
@@ -30,7 +32,8 @@ pub fn meet<K, V>(node: &TrieNode<K, V>, key: &Nibblet, depth: usize) -> Option<
 pub fn step<K, V>(node: &TrieNode<K, V>, key: &Nibblet, depth: usize) -> Option<(usize, usize)>
     requires depth { depth ≤ length key.now }
     requires placed { IsTreePlaced (tree_of node.now) }
-    ensures { MatchOption result (IsStuck (tree_of node.now) (drop depth key.now)) (λ s. IsStep node.now key.now depth s.0 s.1) }
+    ensures { MatchOption result (IsStuck (tree_of node.now) (drop depth key.now))
+        (λ s. IsStep node.now key.now depth s.0 s.1) }
 {
     if depth == key.len() {
         return None;

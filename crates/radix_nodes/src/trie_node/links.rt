@@ -26,7 +26,8 @@ pub fn unlink<K, V>(node: &mut TrieNode<K, V>, i: usize) -> Box<TrieNode<K, V>>
     requires within { i < vec_len (out_of node.old).children }
     requires placed { IsTreePlaced (tree_of node.old) }
     ensures child { IsAt i (tree_of node.old).kids (tree_of result.value) }
-    ensures tree { tree_of node.new ≡ without_kid i (first (tree_of result.value).fragment) (tree_of node.old) }
+    ensures tree { tree_of node.new
+        ≡ without_kid i (first (tree_of result.value).fragment) (tree_of node.old) }
     ensures nibble { first (tree_of result.value).fragment < 16 }
     ensures same { (out_of node.new).pair ≡ (out_of node.old).pair }
     ensures less { vec_len (out_of node.new).children + 1 ≡ vec_len (out_of node.old).children }
@@ -43,7 +44,8 @@ pub fn lower<K: Drop, V: Drop>(
     tail: Nibblet,
 )
     requires { IsUpper (fragment_of upper.value) tail upper.value }
-    ensures tree { tree_of slot.new.value ≡ lowered (fragment_of upper.value) tail (tree_of slot.old.value) }
+    ensures tree { tree_of slot.new.value
+        ≡ lowered (fragment_of upper.value) tail (tree_of slot.old.value) }
     ensures room { HasRoom 1 slot.new.value }
     ensures one { vec_len (out_of slot.new.value).children ≡ 1 }
 {

@@ -44,7 +44,8 @@ impl<K, V> TrieNode<K, V> {
 
 /// Whether the node has a pair.
 pub fn has_pair<K, V>(node: &TrieNode<K, V>) -> bool
-    ensures { MatchBool result (IsSome (unboxed (out_of node.now).pair)) (unboxed (out_of node.now).pair ≡ None) }
+    ensures { MatchBool result (IsSome (unboxed (out_of node.now).pair))
+        (unboxed (out_of node.now).pair ≡ None) }
 {
     match &node.pair {
         Some(_) => true,
@@ -54,7 +55,8 @@ pub fn has_pair<K, V>(node: &TrieNode<K, V>) -> bool
 
 /// Whether the node has no child.
 pub fn is_end<K, V>(node: &TrieNode<K, V>) -> bool
-    ensures { MatchBool result (vec_len (out_of node.now).children ≡ 0) (0 < vec_len (out_of node.now).children) }
+    ensures { MatchBool result (vec_len (out_of node.now).children ≡ 0)
+        (0 < vec_len (out_of node.now).children) }
 {
     node.children.len() == 0
 }

@@ -57,7 +57,8 @@ impl From<AllocError> for JsonError {
 fn walk(trie: &Trie<String, Value>) -> Result<Iter<'_, String, Value>, Memory>
     ensures pairs { IfOk result (λ pairs. pairs ≡ map.values trie.now) }
     ensures rising { IsStrictlySortedBy string_cmp (keys_of (map.values trie.now)) }
-    ensures members { (name : List ℕ) → get name (object_of trie.now) ≡ option_map view (value_at trie.now (nibbles name)) }
+    ensures members { (name : List ℕ) → get name (object_of trie.now)
+        ≡ option_map view (value_at trie.now (nibbles name)) }
 {
     trie.iter()
 }
@@ -69,9 +70,11 @@ fn walk(trie: &Trie<String, Value>) -> Result<Iter<'_, String, Value>, Memory>
 #[tactic(auto, using(crate::proofs::Objects::put_all_is))]
 pub fn to_value(alloc: Global, trie: &Trie<String, Value>) -> Result<Value, JsonError>
     ensures object { IfOk result (λ value. view value ≡ object_of trie.now) }
-    ensures members { IfOk result (λ value. (name : List ℕ) → get name (view value) ≡ option_map view (value_at trie.now (nibbles name))) }
+    ensures members { IfOk result (λ value. (name : List ℕ) → get name (view value)
+        ≡ option_map view (value_at trie.now (nibbles name))) }
     ensures no_float { OnOk result (IsFalse (has_float (object_of trie.now))) }
-    ensures float { IfErr result (λ e. e ≡ JsonError.Float → IsTrue (has_float (object_of trie.now))) }
+    ensures float { IfErr result (λ e. e ≡ JsonError.Float
+        → IsTrue (has_float (object_of trie.now))) }
     ensures any_kind { IfErr result (λ e. e ≢ JsonError.Kind) }
 {
     for (_, value) in walk(trie)? {
@@ -92,10 +95,12 @@ pub fn to_value(alloc: Global, trie: &Trie<String, Value>) -> Result<Value, Json
 /// nor an object; a float somewhere in it; memory.
 pub fn from_value(alloc: Global, value: &Value) -> Result<Trie<String, Value>, JsonError>
     ensures object { IfOk result (λ trie. object_of trie ≡ read_as (view value.now)) }
-    ensures members { IfOk result (λ trie. (name : List ℕ) → option_map view (value_at trie (nibbles name)) ≡ get name (view value.now)) }
+    ensures members { IfOk result (λ trie. (name : List ℕ)
+        → option_map view (value_at trie (nibbles name)) ≡ get name (view value.now)) }
     ensures null { view value.now ≡ null → result ≡ Ok map.empty }
     ensures kind { (result ≡ Err JsonError.Kind) ↔ IsOtherKind (view value.now) }
-    ensures float { (result ≡ Err JsonError.Float) ↔ ((¬ IsOtherKind (view value.now)) × IsTrue (has_float (view value.now))) }
+    ensures float { (result ≡ Err JsonError.Float)
+        ↔ ((¬ IsOtherKind (view value.now)) × IsTrue (has_float (view value.now))) }
 {
     match value {
         Value::Null => Ok(Trie::new(alloc)),
@@ -109,10 +114,15 @@ fn from_members(
     alloc: Global,
     members: &Map<String, Value>,
 ) -> Result<Trie<String, Value>, JsonError>
-    ensures object { IfOk result (λ trie. members_view (map.values trie) ≡ members_view members.now.entries) }
-    ensures members { IfOk result (λ trie. (name : List ℕ) → option_map view (value_at trie (nibbles name)) ≡ get_member name (members_view members.now.entries)) }
-    ensures no_float { OnOk result (IsFalse (members_have_float (members_view members.now.entries))) }
-    ensures float { (result ≡ Err JsonError.Float) ↔ IsTrue (members_have_float (members_view members.now.entries)) }
+    ensures object { IfOk result (λ trie. members_view (map.values trie)
+        ≡ members_view members.now.entries) }
+    ensures members { IfOk result (λ trie. (name : List ℕ)
+        → option_map view (value_at trie (nibbles name))
+        ≡ get_member name (members_view members.now.entries)) }
+    ensures no_float { OnOk result
+        (IsFalse (members_have_float (members_view members.now.entries))) }
+    ensures float { (result ≡ Err JsonError.Float)
+        ↔ IsTrue (members_have_float (members_view members.now.entries)) }
     ensures any_kind { IfErr result (λ e. e ≢ JsonError.Kind) }
 {
     if members_hold_float(members) {

@@ -10,6 +10,7 @@ use Rattle.nibble_map.specs.KeptEdits.{remove_kid, without_pair, without_kid, Is
 use Rattle.nibble_map.specs.Alters.{Run, entry_at, all_of, AltersKid, AltersRoot, CutsRoot, PrunesRoot}
 use Rattle.nibble_map.proofs.Masks.{cleared_is, cleared_lt, bit_before, eqb_other, none_is_mask}
 use Rattle.nibble_map.proofs.KeptKids.{swaps_after, placed_rises, at_after}
+use Rattle.nibble_map.proofs.Cut.{append-some, first-append}
 
 module _ {P : Type 0} where
   pub placed_from : (low lower : ℕ) (k : Kids P) → lower ≤ low → IsPlaced low k → IsPlaced lower k
@@ -131,14 +132,6 @@ module _ {P : Type 0} where
       AltersKid gone come n (suc m) k l old (merged mid)
   merged_kid gone come n m k l old mid r unpaired one top = go mid.kids refl one
     where
-      start : (f g : List ℕ) → f ≢ [] → first (f ++ g) ≡ first f
-      start [] g s = absurd (s refl)
-      start (a ∷ f) g s = refl
-
-      joined : (f g : List ℕ) → f ≢ [] → f ++ g ≢ []
-      joined [] g s = absurd (s refl)
-      joined (a ∷ f) g s = λ e. (let i : a ∷ (f ++ g) ≡ [] = e in cc i)
-
       kept : mid.fragment ≢ []
       kept e = top (sym r.fragment ∙ e)
 
@@ -155,8 +148,8 @@ module _ {P : Type 0} where
           record {
             full = λ f. (let b = subst (λ ks. IsFull (plain ks)) e (r.below f.1) in (b.0, b.1));
             alters = record {
-              start = start mid.fragment g kept ∙ ap first r.fragment;
-              some = λ s. joined mid.fragment g kept;
+              start = first-append mid.fragment g kept ∙ ap first r.fragment;
+              some = λ s. append-some mid.fragment g kept;
               placed = (placed.2, placed.3);
               swaps = λ q. subst (λ es. Swaps (gone q) (come q) (entries_at q old) es) (entries q) (r.alters.swaps q);
               nodes = let z = ap nodes_in e in omega (arith, z, r.alters.nodes);

@@ -8,7 +8,7 @@ use Rattle.nibble_map.specs.Trees.{first}
 use Rattle.nibble_map.specs.Masks.{bit_of}
 use Rattle.nibble_map.specs.Kept.{Tree, Kids, none, more, IsAt, firsts, IsPlaced, IsTreePlaced, entries_in, entries_at}
 use Rattle.nibble_map.specs.KeptPaths.{IsKidAt, IsNodeAt, IsHeld, IsStuck, reach}
-use Rattle.nibble_map.proofs.Cut.{cancel, no_cons}
+use Rattle.nibble_map.proofs.Cut.{cancel, no_cons, first-append}
 use Rattle.nibble_map.proofs.Shape.{headed}
 use Rattle.nibble_map.proofs.Members.{Has-left, Has-right, Has-cases, entry-Has}
 use Rattle.nibble_map.proofs.KeptKids.{at_after}
@@ -16,18 +16,17 @@ use Rattle.nibble_map.proofs.KeptKids.{at_after}
 one_either : (a b n : ℕ) → a ≡ b → cond (a == b) 1 n ≡ 1
 one_either a b n e = rw (eq-eqb a b e) refl
 
-pub begins : (f y : List ℕ) → f ≢ [] → first (f ++ y) ≡ first f
-begins [] y n = absurd (n refl)
-begins (a ∷ f) y n = refl
-
 pub shorter : (f x : List ℕ) → f ++ x ≡ f → x ≡ []
 shorter f x e = cancel f x [] (e ∙ sym (append-nil f))
 
 prefix_headed : (x rest w : List ℕ) (a b : ℕ) → x ≡ a ∷ w → IsPrefix x rest → first rest ≡ b → a ≡ b
 prefix_headed x rest w a b e p i = sym (ap first (p.1 ∙ ap (λ z. z ++ p.0) e)) ∙ i
 
+pub none_some : {P : Type 0} {v : P} → None ≡ Some v → ⊥
+none_some e = cc e
+
 module _ {P : Type 0} where
-  -- a path below begins with the first nibble of a child
+  -- a path below first-append with the first nibble of a child
   pub kid_headed : (low : ℕ) (k : Kids P) (x : List ℕ) (u : Tree P) → IsPlaced low k → IsKidAt k x u →
       (a : ℕ) × (w : List ℕ) × (x ≡ a ∷ w) × (low ≤ a) × (bit_of a (firsts k) ≡ 1)
   kid_headed low none x u h i = absurd i
@@ -50,7 +49,7 @@ module _ {P : Type 0} where
       elim (subst (λ t. IsNodeAt t x u) a h) [ inl e ↦ inl e | inr e ↦ inr (inl e) ]
   at_down (suc i) (more f o m kids others) c x u a h = inr (inr (at_down i others c x u a h))
 
-  -- a path that begins as a child's fragment does stands below that child
+  -- a path that first-append as a child's fragment does stands below that child
   pub at_up : (low i : ℕ) (k : Kids P) (c : Tree P) (x : List ℕ) (u : Tree P) → IsPlaced low k → IsAt i k c → IsKidAt k x u → first x ≡ first c.fragment → IsNodeAt c x u
   at_up low i none c x u h a d e = absurd a
   at_up low zero (more f o m kids others) c x u h a (inl d) e = subst (λ t. IsNodeAt t x u) (sym a) (inl d)
@@ -61,7 +60,7 @@ module _ {P : Type 0} where
   at_up low (suc i) (more f o m kids others) c x u h a (inl d) e =
       absurd (let z = ap first d.0 in let y = at_after (suc (first f)) i others c a h.4 in omega (arith, z, y, e))
   at_up low (suc i) (more f o m kids others) c x u h a (inr (inl d)) e =
-      absurd (let z = ap first d.1 ∙ begins f d.0 h.0 in let y = at_after (suc (first f)) i others c a h.4 in omega (arith, z, y, e))
+      absurd (let z = ap first d.1 ∙ first-append f d.0 h.0 in let y = at_after (suc (first f)) i others c a h.4 in omega (arith, z, y, e))
   at_up low (suc i) (more f o m kids others) c x u h a (inr (inr d)) e = at_up (suc (first f)) i others c x u h.4 a d e
 
   -- the node's own path
@@ -145,9 +144,6 @@ module _ {P : Type 0} where
       let r = held_node t t.fragment d in
       let z = own_node t r.0 h r.2 in
       none_some (sym e ∙ ap (λ (t : Tree P). t.pair) (sym z) ∙ r.3)
-    where
-      none_some : {v : P} → None ≡ Some v → ⊥
-      none_some e = cc e
 
   pub own_held : (t : Tree P) (v : P) → t.pair ≡ Some v → IsHeld t t.fragment
   own_held t v e = node_held t t.fragment t v (inl (refl, refl)) e
@@ -160,7 +156,7 @@ module _ {P : Type 0} where
   pub stuck_unheld : (t : Tree P) (rest : List ℕ) → rest ≢ [] → IsStuck t rest → IsHeld t (t.fragment ++ rest) → ⊥
   stuck_unheld t rest s k d = let r = held_node t _ d in stuck_free t rest s k r.0 r.2
 
-  -- no child begins so
+  -- no child first-append so
   pub stuck_gap : (t : Tree P) (rest : List ℕ) → IsTreePlaced t → bit_of (first rest) (firsts t.kids) ≡ 0 → IsStuck t rest
   stuck_gap t rest h b x u d p =
       let r = kid_headed 0 t.kids x u h.1 d in
@@ -198,9 +194,9 @@ module _ {P : Type 0} where
   one_kid low (more f o m kids others) x u v h (inr (inr i)) (inl j) =
       let r = kid_headed (suc (first f)) others x u h.4 i in absurd (let a = ap first j.0 in let b = ap first r.2 in omega (arith, a, b, r.3))
   one_kid low (more f o m kids others) x u v h (inr (inl i)) (inr (inr j)) =
-      let r = kid_headed (suc (first f)) others x v h.4 j in absurd (let a = ap first i.1 ∙ begins f i.0 h.0 in let b = ap first r.2 in omega (arith, a, b, r.3))
+      let r = kid_headed (suc (first f)) others x v h.4 j in absurd (let a = ap first i.1 ∙ first-append f i.0 h.0 in let b = ap first r.2 in omega (arith, a, b, r.3))
   one_kid low (more f o m kids others) x u v h (inr (inr i)) (inr (inl j)) =
-      let r = kid_headed (suc (first f)) others x u h.4 i in absurd (let a = ap first j.1 ∙ begins f j.0 h.0 in let b = ap first r.2 in omega (arith, a, b, r.3))
+      let r = kid_headed (suc (first f)) others x u h.4 i in absurd (let a = ap first j.1 ∙ first-append f j.0 h.0 in let b = ap first r.2 in omega (arith, a, b, r.3))
 
   pub one_node : (t : Tree P) (x : List ℕ) (u v : Tree P) → IsTreePlaced t → IsNodeAt t x u → IsNodeAt t x v → u ≡ v
   one_node t x u v h (inl i) (inl j) = i.1 ∙ sym j.1

@@ -9,10 +9,10 @@ use Rattle.nibble_map.specs.Trees.{first, along, walked}
 use Rattle.nibble_map.specs.Masks.{bit_of}
 use Rattle.nibble_map.specs.Kept.{Tree, Kids, none, more, plain, IsAt, firsts, IsPlaced, IsTreePlaced}
 use Rattle.nibble_map.specs.KeptPaths.{IsPath, IsHeld, IsStuck}
-use Rattle.nibble_map.proofs.Cut.{cancel, length-nil}
+use Rattle.nibble_map.proofs.Cut.{cancel, length-nil, first-append}
 use Rattle.nibble_map.proofs.Agreement.{agrees_part}
 use Rattle.nibble_map.proofs.KeptKids.{at_after}
-use Rattle.nibble_map.proofs.KeptPaths.{begins, kid_headed, at_up, kid_down, held_node, node_held, held_down}
+use Rattle.nibble_map.proofs.KeptPaths.{kid_headed, at_up, kid_down, held_node, node_held, held_down}
 
 pub prefix_below : (f x r : List ℕ) → IsPrefix (f ++ x) (f ++ r) → IsPrefix x r
 prefix_below f x r p = (p.0, cancel f r (x ++ p.0) (p.1 ∙ append_assoc f x p.0))
@@ -50,7 +50,7 @@ head_same : (y rest z : List ℕ) (a : ℕ) (w : List ℕ) → y ≡ a ∷ w →
 head_same y rest z a w e p = ap first e ∙ sym (ap first (p ∙ ap (λ v. v ++ z) e))
 
 rest_same : (y rest z : List ℕ) → rest ≢ [] → y ≡ rest ++ z → first y ≡ first rest
-rest_same y rest z s p = ap first p ∙ begins rest z s
+rest_same y rest z s p = ap first p ∙ first-append rest z s
 
 module _ {P : Type 0} where
   own : (t : Tree P) → IsPath t t.fragment
@@ -157,7 +157,7 @@ module _ {P : Type 0} where
     none_kid free q d p =
         let r = up_past q d p in free r.0 r.2 (prefix_below t.fragment rest r.0 (subst (λ z. IsPrefix (t.fragment ++ rest) z) r.1 p))
 
-  -- no child begins so
+  -- no child first-append so
   pub none_gap : (t : Tree P) (rest : List ℕ) → IsTreePlaced t → rest ≢ [] → bit_of (first rest) (firsts t.kids) ≡ 0 → (q : List ℕ) → IsPath t q → IsPrefix (t.fragment ++ rest) q → ⊥
   none_gap t rest h some b q (u, inl e) p =
       let l = ap length (sym e.0 ∙ p.1) in let m = length-append (t.fragment ++ rest) p.0 in let n = length-append t.fragment rest in

@@ -3,8 +3,7 @@ use Rattle.std.proofs.Common.{◌≡◌, ℕ, suc, ◌≤◌, ◌≢◌, ◌⊎�
 use Rattle.std.specs.Prelude.{⊤}
 use Rattle.std.proofs.lemmas.Bool.{cases_order}
 use Rattle.nibble_map.specs.Trees.{Forest, bare, grow, AreMany, IsShaped, first}
-use Rattle.nibble_map.proofs.KeptPaths.{begins}
-use Rattle.nibble_map.proofs.Cut.{cancel, cons_head, no_cons, append-some}
+use Rattle.nibble_map.proofs.Cut.{cancel, cons_head, no_cons, append-some, first-append}
 use Rattle.nibble_map.proofs.Walked.{Whole, Within, Forked, along_says}
 use Rattle.nibble_map.proofs.Edits.{Holds, Bears, Changes, merged, own, lifted, in_tree, in_others, Changes-same, Holds-headed}
 use Rattle.nibble_map.proofs.Insertion.{at_list, saying}
@@ -48,7 +47,7 @@ settle E b r f (grow g p ls bare) n e s c =
       f ++ g,
       p,
       ls,
-      (append-some f g n, begins f g n ∙ e, s.2, s.3),
+      (append-some f g n, first-append f g n ∙ e, s.2, s.3),
       Changes-same E E (Bears f None (grow g p ls bare)) (Bears (f ++ g) p ls) (b ∷ r) (λ w. ⊥) (λ x w. ((λ h. h), (λ h. h))) c (λ x w. merged f g p ls x w),
     )
 settle E b r f (grow g p ls (grow h q ms others)) n e s c = inr (f, None, grow g p ls (grow h q ms others), (n, e, inr tt, s), c)

@@ -16,6 +16,7 @@ use Rattle.nibble_map.specs.Turned.{turned, in_half, turned_half, append, turned
 use Rattle.nibble_map.proofs.KeptCuts.{placed_from}
 use Rattle.nibble_map.proofs.KeptSizes.{pairs_count}
 use Rattle.nibble_map.proofs.Masks.{bit_before, mask_small}
+use Rattle.nibble_map.proofs.KeptKids.{placed_rises}
 
 pub turned-turned : (e : List ℕ) → turned (turned e) ≡ e
 turned-turned [] = refl
@@ -155,10 +156,6 @@ same_bit x y n k a b to from e = elim (eqb_tells x n) [
 ]
 
 module _ {P : Type 0} where
-  placed_rises : (low : ℕ) (k : Kids P) → IsPlaced low k → IsRisingFrom low (firsts k)
-  placed_rises low none h = tt
-  placed_rises low (more f o m kids others) h = (h.1, placed_rises (suc (first f)) others h.4)
-
   high_bit : (n low : ℕ) (k : Kids P) → n < 8 → Each (λ x. x < 16) (firsts k) → IsPlaced low k → bit_of n (firsts (turned_half true k)) ≡ bit_of (n + 8) (firsts k)
   high_bit n low none lt small h = refl
   high_bit n low (more f o m kids others) lt small h = let r = high_bit n (suc (first f)) others lt small.1 h.4 in elim (half_of (first f)) [

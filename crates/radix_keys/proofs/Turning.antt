@@ -8,6 +8,7 @@ use Rattle.radix_keys.specs.AscendingKeys.{turned_bytes}
 use Rattle.std.specs.List.{refill}
 use Rattle.radix_keys.specs.Packing.{unpacked}
 use Rattle.radix_keys.proofs.Packing.{refill-set}
+use Rattle.nibble_map.proofs.Turned.{length-turned}
 
 -- in nibbles the highest bit of the first one is turned over
 pub nibbles-turned : (v : List ℕ) → nibbles (turned_bytes v) ≡ turned (nibbles v)
@@ -30,10 +31,6 @@ take-turned : (n : ℕ) (xs : List ℕ) → take n (turned xs) ≡ turned (take 
 take-turned zero xs = refl
 take-turned (suc n) [] = refl
 take-turned (suc n) (x ∷ xs) = refl
-
-length-turned : (xs : List ℕ) → length (turned xs) ≡ length xs
-length-turned [] = refl
-length-turned (x ∷ xs) = refl
 
 -- the same of a packed list
 packed-turned : (bs : List ℕ) (odd : Bool) → unpacked (turned_bytes bs) odd ≡ turned (unpacked bs odd)

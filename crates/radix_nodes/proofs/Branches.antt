@@ -25,7 +25,7 @@ use Rattle.radix_nodes.proofs.Removes.{kid_new, kid_kept}
 use Rattle.nibble_map.proofs.Agreement.{agrees_ends}
 use Rattle.nibble_map.proofs.KeptPaths.{kid_down}
 use Rattle.std.proofs.lemmas.List.{length-drop}
-use Rattle.radix_nodes.proofs.Searches.{whole, met_down, met_inside, nearest_up, nearest_inside, nearest_free, nearest_parted, nearest_none}
+use Rattle.radix_nodes.proofs.Searches.{met_down, met_inside, nearest_up, nearest_inside, nearest_free, nearest_parted, nearest_none, met_whole}
 use Rattle.radix_nodes.specs.declared.traversal.prune.Pruned.{Pruned}
 use Rattle.radix_nodes.specs.Prunes.{IsSmall, IsBranch, PruneOutcome, PruneRootOutcome}
 
@@ -114,9 +114,6 @@ module _ {K V : Type 0} where
         let within = met_inside n key depth h m i a lt met b is em in
         (further, omega (arith, within, part))
 
-    below_whole : a.same ≡ length (fragment_of m) → fragment_of m ++ drop (depth + a.same) key ≡ drop depth key
-    below_whole e = whole n m key depth i (depth + a.same) h (met_down n key depth h m i a lt met b is em e) b is em
-
     -- one below it
     pub branch_below : a.same ≡ length (fragment_of m) → (u : Tree (KeyValue K V)) (s : List ℕ) → IsBranch (tree_of m) u (fragment_of m ++ drop (depth + a.same) key) s
         → IsBranch (tree_of n) u goal_path (fragment_of n ++ s)
@@ -126,7 +123,7 @@ module _ {K V : Type 0} where
         record {
           covered = d.covered;
           nearest = nearest_up n key depth h m i a lt met b is em e u d.covered d.nearest;
-          path = append_assoc f s u.fragment ∙ ap (λ z. f ++ z) (d.path ∙ ap (λ r. r ++ left) (below_whole e)) ∙ sym (append_assoc f (drop depth key) left);
+          path = append_assoc f s u.fragment ∙ ap (λ z. f ++ z) (d.path ∙ ap (λ r. r ++ left) (met_whole n key depth h m i a lt met b is em e)) ∙ sym (append_assoc f (drop depth key) left);
         }
 
     -- what a cut below the child does to the node
@@ -148,7 +145,7 @@ module _ {K V : Type 0} where
           let f = fragment_of n in (
             (tree_of n).fragment ++ q,
             (p.0, kid_down (tree_of n) (tree_of m) i h at_m q p.0 p.1),
-            (i2.0, ap (λ g. g ++ q) (fragment_out n) ∙ ap (λ z. f ++ z) (i2.1 ∙ ap (λ r. r ++ i2.0) (below_whole e)) ∙ sym (append_assoc f (drop depth key) i2.0)),
+            (i2.0, ap (λ g. g ++ q) (fragment_out n) ∙ ap (λ z. f ++ z) (i2.1 ∙ ap (λ r. r ++ i2.0) (met_whole n key depth h m i a lt met b is em e)) ∙ sym (append_assoc f (drop depth key) i2.0)),
           )
 
       pub prune_up : (r : Result (Option (Pruned K V)) Memory) → PruneOutcome r (fragment_of m ++ drop (depth + a.same) key) (tree_of m) (tree_of b'.value) → PruneOutcome r goal_path (tree_of n) new

@@ -13,7 +13,7 @@ use Rattle.nibble_map.specs.Alters.{none_of, AltersKid, AltersRoot, Cuts, CutsRo
 use Rattle.radix_nodes.specs.Nodes.{unboxed, tree_of, kids_of, fragment_of, CutOutcome, RootOutcome}
 use Rattle.radix_nodes.specs.declared.traversal.remove.Taken.{Taken}
 use Rattle.radix_nodes.proofs.Nodes.{tree_roll, tree_out, pair_is, mask_is, kids_are, kids_set, kids_out, pair_out, mask_out, fragment_out}
-use Rattle.radix_nodes.proofs.Steps.{is_at, kid_held, kid_free}
+use Rattle.radix_nodes.proofs.Steps.{is_at, kid_held, kid_free, firsts_length}
 use Rattle.std.proofs.lemmas.Bool.Decides.{leb_tells}
 use Rattle.nibble_map.specs.Nibbles.{IsShort}
 use Rattle.nibble_map.specs.KeptPaths.{reach}
@@ -150,12 +150,8 @@ module _ {P : Type 0} where
   other_at i (more f o b kids (more g p c ls (more h q d ms others))) u l lt a = absurd (omega (arith, l))
 
 module _ {K V : Type 0} where
-  kids_length : (bs : List (Box (TrieNode K V) Global)) → length (firsts (kids_of bs)) ≡ length bs
-  kids_length [] = refl
-  kids_length (b ∷ bs) = ap suc (kids_length bs)
-
   pub firsts_are : (n : TrieNode K V) → length (firsts (tree_of n).kids) ≡ length (out-TrieNode K V n).children.items
-  firsts_are n = ap (λ k. length (firsts k)) (kids_out n) ∙ kids_length _
+  firsts_are n = ap (λ k. length (firsts k)) (kids_out n) ∙ firsts_length _
 
   -- what was refused is longer than a path's longest
   pub long_path : (n : TrieNode K V) (i : ℕ) → i < length (out-TrieNode K V n).children.items →
@@ -207,12 +203,12 @@ module _ {K V : Type 0} where
   held n leaf i b h lt at is s e =
       some_not _ s (sym (pair_out b.value) ∙ ap (λ (t : Tree (KeyValue K V)). t.pair) (sym (child_is n i b (tree_of leaf) h lt at is)) ∙ pair_out leaf ∙ e)
 
-  end_kids : (bs : List (Box (TrieNode K V) Global)) → length bs ≡ 0 → kids_of bs ≡ none
-  end_kids [] e = refl
-  end_kids (b ∷ bs) e = absurd (omega (arith, e))
+  pub kids_none : (bs : List (Box (TrieNode K V) Global)) → length bs ≡ 0 → kids_of bs ≡ none
+  kids_none [] e = refl
+  kids_none (b ∷ bs) e = absurd (omega (arith, e))
 
   pub no_kids : (n : TrieNode K V) → length (out-TrieNode K V n).children.items ≡ 0 → (tree_of n).kids ≡ none
-  no_kids n e = kids_out n ∙ end_kids _ e
+  no_kids n e = kids_out n ∙ kids_none _ e
 
   pub kid_new : (n : TrieNode K V) (i : ℕ) (b' : Box (TrieNode K V) Global) → let o = out-TrieNode K V n in
       tree_of (roll-TrieNode K V record { fragment = o.fragment; pair = o.pair; mask = o.mask; children = with_item o.children i b' }) ≡ with_kid i (tree_of b'.value) (tree_of n)

@@ -12,7 +12,7 @@ use Rattle.nibble_map.specs.Trees.{first, along, walked}
 use Rattle.nibble_map.specs.Kept.{Tree, IsAt, IsTreePlaced, firsts, plain}
 use Rattle.nibble_map.specs.KeptPaths.{IsNodeAt, IsPath, IsHeld, IsStuck}
 use Rattle.nibble_map.proofs.KeptKids.{at_placed}
-use Rattle.nibble_map.proofs.KeptPaths.{begins, kid_down, kid_up, stuck_free}
+use Rattle.nibble_map.proofs.KeptPaths.{kid_down, kid_up, stuck_free}
 use Rattle.nibble_map.proofs.KeptSearch.{longest_here, longest_kid, held_longest, held_none, held_longest_kid, held_longest_own, held_none_kid, shortest_here, shortest_kid, none_kid, none_gap, none_parted, shortest_inside, take_past, stuck_end, walked_end, gap_walked, kid_walked}
 use Rattle.nibble_map.proofs.Agreement.{agrees_along, agrees_short, agrees_ends}
 use Rattle.radix_nodes.specs.declared.trie_node.KeyValue.{KeyValue}
@@ -21,6 +21,7 @@ use Rattle.radix_nodes.specs.Nodes.{tree_of, fragment_of, unboxed, IsMet, IsStep
 use Rattle.radix_nodes.specs.declared.traversal.compare.Agreement.{Agreement}
 use Rattle.radix_nodes.proofs.Nodes.{fragment_out}
 use Rattle.radix_nodes.proofs.Steps.{drop_some, first_drop, step_kid, is_at, met_step, met_stuck, held_here, free_here, met_fits}
+use Rattle.nibble_map.proofs.Cut.{first-append}
 
 pub match_up : {A : Type 0} {P Q : A → Type 0} {X Y : Type 0} (r : Option A) → (X → Y) → ((a : A) → P a → Q a) → MatchOption r X P → MatchOption r Y Q
 match_up None f g h = f h
@@ -69,7 +70,7 @@ module _ {K V : Type 0} where
     some = drop_some key depth (let a = s.further in let b = s.inside in omega (arith, a, b))
 
     start : first (drop depth key) ≡ first (tree_of m).fragment
-    start = ap first (sym path) ∙ begins (tree_of m).fragment (drop next key) (at_placed 0 i (tree_of n).kids (tree_of m) at h.1).0
+    start = ap first (sym path) ∙ first-append (tree_of m).fragment (drop next key) (at_placed 0 i (tree_of n).kids (tree_of m) at h.1).0
 
     pub whole : fragment_of m ++ drop next key ≡ drop depth key
     whole = ap (λ f. f ++ drop next key) (sym (fragment_out m)) ∙ path
@@ -149,6 +150,9 @@ module _ {K V : Type 0} (n : TrieNode K V) (key : List ℕ) (depth : ℕ) (h : I
 
     pub met_down : a.same ≡ length (fragment_of m) → IsStep n key depth i (depth + a.same)
     met_down e = met_step n key depth i h a b met lt is (e ∙ ap (λ k. length (fragment_of k)) em)
+
+    pub met_whole : a.same ≡ length (fragment_of m) → fragment_of m ++ drop (depth + a.same) key ≡ drop depth key
+    met_whole e = whole n m key depth i (depth + a.same) h (met_down e) b is em
 
     pub met_off : a.same ≢ length (fragment_of m) → IsStuck (tree_of n) (drop depth key)
     met_off e = met_stuck n key depth i h a b met lt is (λ z. e (z ∙ ap (λ k. length (fragment_of k)) (sym em)))
@@ -259,13 +263,10 @@ module _ {K V : Type 0} where
           let t : a.same ≢ length (drop depth key) = λ z. g (omega (arith, z, l, lt)) in
           none_up (none_parted (tree_of m) (drop depth key) a.same a.compared agree (omega (arith, w, s)) (omega (arith, v, t)))
 
-      rest_whole : a.same ≡ length (fragment_of m) → fragment_of m ++ drop (depth + a.same) key ≡ drop depth key
-      rest_whole e = whole n m key depth i (depth + a.same) h (met_down n key depth h m i a lt met b is em e) b is em
-
       pub nearest_up : a.same ≡ length (fragment_of m) → (u : Tree (KeyValue K V)) (k : ℕ) → IsNearest (tree_of m) u (fragment_of m ++ drop (depth + a.same) key) k →
           IsNearest (tree_of n) u (fragment_of n ++ drop depth key) k
-      nearest_up e u k d = lifted u k (subst (λ r. IsNearest (tree_of m) u r k) (rest_whole e) d)
+      nearest_up e u k d = lifted u k (subst (λ r. IsNearest (tree_of m) u r k) (met_whole n key depth h m i a lt met b is em e) d)
 
       pub nearest_free : a.same ≡ length (fragment_of m) → ((q : List ℕ) → IsPath (tree_of m) q → IsPrefix (fragment_of m ++ drop (depth + a.same) key) q → ⊥) →
           (q : List ℕ) → IsPath (tree_of n) q → IsPrefix (fragment_of n ++ drop depth key) q → ⊥
-      nearest_free e free = none_up (λ q d p. free q d (subst (λ r. IsPrefix r q) (sym (rest_whole e)) p))
+      nearest_free e free = none_up (λ q d p. free q d (subst (λ r. IsPrefix r q) (sym (met_whole n key depth h m i a lt met b is em e)) p))

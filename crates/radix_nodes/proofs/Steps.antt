@@ -15,8 +15,8 @@ use Rattle.nibble_map.specs.KeptPaths.{IsNodeAt, IsHeld, IsStuck}
 use Rattle.nibble_map.specs.Agreement.{Agrees}
 use Rattle.nibble_map.proofs.Agreement.{agrees_some, agrees_whole, agrees_off}
 use Rattle.radix_nodes.specs.declared.traversal.compare.Agreement.{Agreement}
-use Rattle.nibble_map.proofs.Cut.{cancel}
-use Rattle.nibble_map.proofs.KeptPaths.{begins, own_free, own_held, held_node, held_up, held_down, stuck_unheld, stuck_gap, stuck_kid}
+use Rattle.nibble_map.proofs.Cut.{cancel, first-append}
+use Rattle.nibble_map.proofs.KeptPaths.{own_free, own_held, held_node, held_up, held_down, stuck_unheld, stuck_gap, stuck_kid}
 use Rattle.nibble_map.specs.Kept.{Tree, IsAt, firsts, IsTreePlaced}
 use Rattle.nibble_map.specs.KeptEdits.{set_kid, with_pair, with_kid, with_new_kid, leaf, lowered}
 use Rattle.nibble_map.specs.Alters.{Replaces, Edits}
@@ -59,16 +59,12 @@ split_some [] key depth n y s e k l apart = absurd (s refl)
 split_some (a ∷ f) key depth zero y s e k l apart = absurd (apart (omega arith) (omega (arith, l)) (e ∙ k ∙ ap (slice_index key) (let i : depth ≡ depth + 0 = omega arith in i)))
 split_some (a ∷ f) key depth (suc n) y s e k l apart = omega arith
 
-pub joined_some : (f y : List ℕ) → f ≢ [] → f ++ y ≢ []
-joined_some [] y n = absurd (n refl)
-joined_some (a ∷ f) y n = λ e. (let i : a ∷ (f ++ y) ≡ [] = e in cc i)
-
 pub take_first : (f : List ℕ) (n : ℕ) → 0 < n → first (take n f) ≡ first f
 take_first f zero l = absurd (omega (arith, l))
 take_first [] (suc n) l = refl
 take_first (a ∷ f) (suc n) l = refl
 
--- a node's path begins with the tree's fragment
+-- a node's path first-append with the tree's fragment
 begun : {P : Type 0} (t : Tree P) (p : List ℕ) (u : Tree P) → IsNodeAt t p u → IsPrefix t.fragment p
 begun t p u (inl d) = ([], d.0 ∙ sym (append-nil t.fragment))
 begun t p u (inr d) = (d.0, d.1)
@@ -138,7 +134,7 @@ module _ {K V : Type 0} where
       let rest : drop depth key ≡ drop k f ++ z.0 = cancel (take k f) (drop depth key) (drop k f ++ z.0) whole in
       let size = ap length rest in
       let a = length-drop depth key in let b = length-drop k f in let c = length-append (drop k f) z.0 in
-      apart (omega (arith, size, a, b, c, lt)) (sym (first_drop f k) ∙ sym (begins (drop k f) z.0 (drop_some f k lt)) ∙ ap first (sym rest) ∙ first_drop key depth)
+      apart (omega (arith, size, a, b, c, lt)) (sym (first_drop f k) ∙ sym (first-append (drop k f) z.0 (drop_some f k lt)) ∙ ap first (sym rest) ∙ first_drop key depth)
 
   pub edit_replaces : (r : Result (Change K V) (KeyValue K V)) (x : KeyValue K V) (p : List ℕ) (old new : Tree (KeyValue K V)) → EditOutcome r x p old new → ReplaceOutcome r x p old new
   edit_replaces (Ok change) x p old new e = node_kid _ _ _ _ _ _ _ _ e
@@ -281,7 +277,7 @@ module _ {K V : Type 0} (n : TrieNode K V) (key : List ℕ) (depth i : ℕ) (h :
         (agrees_off (tree_of b.value).fragment (drop depth key) a.same a.compared agrees
         (let w = agrees.within in let f = ap length (fragment_out b.value) in let s : a.same ≢ length (tree_of b.value).fragment = λ z. e (z ∙ f) in omega (arith, w, s)))
 
-  -- no child begins so
+  -- no child first-append so
   pub none_stuck : bit_of (slice_index key depth) (firsts (tree_of n).kids) ≡ 0 → IsStuck (tree_of n) (drop depth key)
   none_stuck e = stuck_gap (tree_of n) (drop depth key) h (ap (λ y. bit_of y (firsts (tree_of n).kids)) (first_drop key depth) ∙ e)
 

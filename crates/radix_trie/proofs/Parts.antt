@@ -6,8 +6,8 @@ use Rattle.nibble_map.specs.KeptPaths.{IsKidAt, IsNodeAt}
 use Rattle.nibble_map.specs.Lists.{Has, IsPrefix, is_prefix}
 use Rattle.nibble_map.specs.Swaps.{entry}
 use Rattle.nibble_map.specs.Trees.{first}
-use Rattle.nibble_map.proofs.Cut.{cancel, append-nil_rest}
-use Rattle.nibble_map.proofs.KeptPaths.{begins, shorter, kid_headed, no_kid_here, has_node}
+use Rattle.nibble_map.proofs.Cut.{cancel, append-nil_rest, first-append}
+use Rattle.nibble_map.proofs.KeptPaths.{shorter, kid_headed, no_kid_here, has_node, none_some}
 use Rattle.nibble_map.proofs.KeptSearch.{prefix_below}
 use Rattle.nibble_map.proofs.Parted.{prefix_of, is_prefix_true, prefix_through}
 
@@ -33,15 +33,15 @@ pub true_false : (b : Bool) → (b ≡ true) ⊎ (b ≡ false)
 true_false true = inl refl
 true_false false = inr refl
 
--- what begins with f
+-- what first-append with f
 first_same : (f x y z : List ℕ) → f ≢ [] → x ≡ f ++ y → first (x ++ z) ≡ first f
-first_same f x y z n e = ap (λ w. first (w ++ z)) e ∙ ap first (append_assoc f y z) ∙ begins f (y ++ z) n
+first_same f x y z n e = ap (λ w. first (w ++ z)) e ∙ ap first (append_assoc f y z) ∙ first-append f (y ++ z) n
 
 pub no_prefix : (p e : List ℕ) → (IsPrefix p e → ⊥) → is_prefix p e ≡ false
 no_prefix p e apart = elim (true_false (is_prefix p e)) [ inl i ↦ absurd (apart (prefix_of p e i)) | inr i ↦ i ]
 
 module _ {P : Type 0} where
-  -- a path below begins as those of its child do
+  -- a path below first-append as those of its child do
   first_low : (low : ℕ) (k : Kids P) (x : List ℕ) (u : Tree P) (z : List ℕ) → IsPlaced low k → IsKidAt k x u → low ≤ first (x ++ z)
   first_low low k x u z h i = let r = kid_headed low k x u h i in let e = ap (λ y. first (y ++ z)) r.2 in omega (arith, e, r.3)
 
@@ -49,12 +49,9 @@ module _ {P : Type 0} where
   has_kid : (q : List ℕ) (k : Kids P) (p : List ℕ) (v : P) → Has (entries_in q k) (p, v) → (x : List ℕ) × (u : Tree P) × (p ≡ q ++ x) × IsKidAt k x u
   has_kid q k p v h =
       let r = has_node (record { fragment = q; pair = None; mask = 0; kids = k }) p v h in
-      elim r.1 [ inl e ↦ absurd (free (sym (ap (λ (t : Tree P). t.pair) e.1) ∙ r.2)) | inr e ↦ (e.0, r.0, e.1, e.2) ]
-    where
-      free : {v : P} → None ≡ Some v → ⊥
-      free e = cc e
+      elim r.1 [ inl e ↦ absurd (none_some (sym (ap (λ (t : Tree P). t.pair) e.1) ∙ r.2)) | inr e ↦ (e.0, r.0, e.1, e.2) ]
 
-  -- no path both begins with f and stands among the children after it
+  -- no path both first-append with f and stands among the children after it
   parted : (f : List ℕ) (others : Kids P) (y : List ℕ) (w : Tree P) (x z : List ℕ) → f ≢ [] → IsPlaced (suc (first f)) others → IsKidAt others y w
       → x ++ z ≡ y → first (x ++ z) ≡ first f → ⊥
   parted f others y w x z n h i e same =
@@ -89,7 +86,7 @@ module _ {P : Type 0} where
   kid_up low (more f o m kids others) x u z w h n (inr (inr i)) (inl d) =
       absurd (let l = first_low (suc (first f)) others x u z h.4 i in let e = ap first d.0 in omega (arith, l, e))
   kid_up low (more f o m kids others) x u z w h n (inr (inr i)) (inr (inl d)) =
-      absurd (let l = first_low (suc (first f)) others x u z h.4 i in let e = ap first d.1 ∙ begins f d.0 h.0 in omega (arith, l, e))
+      absurd (let l = first_low (suc (first f)) others x u z h.4 i in let e = ap first d.1 ∙ first-append f d.0 h.0 in omega (arith, l, e))
   kid_up low (more f o m kids others) x u z w h n (inr (inr i)) (inr (inr d)) = kid_up (suc (first f)) others x u z w h.4 n i d
 
   pub node_down : (t : Tree P) (x : List ℕ) (u : Tree P) (z : List ℕ) (w : Tree P) → IsNodeAt t x u → IsKidAt u.kids z w → IsNodeAt t (x ++ z) w
@@ -128,12 +125,12 @@ module _ {P : Type 0} where
     none_from_node placed [] apart w d = apart u (inl (append-nil u.fragment, refl))
     none_from_node placed (a ∷ rest) apart w d = apart w (inr (a ∷ rest, refl, node_up t p u (a ∷ rest) w placed (λ e. cc e) at d))
 
-  -- the entries whose lists p begins
+  -- the entries whose lists p first-append
   module _ (p : List ℕ) where
     abbrev pub kept : List (List ℕ × P) → List (List ℕ × P)
     kept es = filter (λ e. is_prefix p e.0) es
 
-    -- x leads to each path that p begins
+    -- x leads to each path that p first-append
     abbrev Leads : List ℕ → Kids P → List ℕ → Type 0
     Leads q k x = (y : List ℕ) (w : Tree P) → IsKidAt k y w → IsPrefix p (q ++ y) → IsPrefix x y
 
@@ -183,7 +180,7 @@ module _ {P : Type 0} where
         (own_cut (q ++ f) o (λ b. let r = lead f _ (inl (refl, refl)) b in
         let l = first_low (suc (first f)) others x u r.0 h.4 i in let e = ap first r.1 in omega (arith, l, e)))
         (none_kept (q ++ f) kids (λ y w d b. let r = lead (f ++ y) w (inr (inl (y, refl, d))) (subst (IsPrefix p) (append_assoc q f y) b) in
-        let l = first_low (suc (first f)) others x u r.0 h.4 i in let e = sym (begins f y h.0) ∙ ap first r.1 in omega (arith, l, e)))
+        let l = first_low (suc (first f)) others x u r.0 h.4 i in let e = sym (first-append f y h.0) ∙ ap first r.1 in omega (arith, l, e)))
         (kept_at (suc (first f)) q others x u h.4 i (λ y w d b. lead y w (inr (inr d)) b) pre)
 
     -- of a whole tree: those at and below the node whose path leads to them

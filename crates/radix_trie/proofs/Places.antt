@@ -38,8 +38,9 @@ use Rattle.radix_trie.proofs.Held.{node_get, no_node_get}
 use Rattle.radix_trie.proofs.Parts.{true_false, kept, node_placed, node_kept, free_kept, node_down, node_up, le-cases}
 use Rattle.radix_trie.proofs.Paths.{node_point, point_node}
 use Rattle.radix_trie.proofs.Shown.{row_of, entries_shown}
-use Rattle.radix_trie.proofs.WalkRows.{row_none, levels-some}
+use Rattle.radix_trie.proofs.WalkRows.{levels-some}
 use Rattle.radix_nodes.proofs.Pairs.{pairs_of_node}
+use Rattle.radix_nodes.proofs.Removes.{no_kids}
 
 pub not_both : false ≡ true → ⊥
 not_both e = cc e
@@ -232,9 +233,6 @@ module _ {K V : Type 0} where
       → MatchOption (out-TrieNode K V n).pair (r ≡ None) (λ b. IsSomeAnd r (λ p. p.now ≡ b.value))
       → option_map (λ (p : Bor (KeyValue K V)). pair_of p.now) r ≡ option_map pair_of (tree_of n).pair
   own_shown n r is = own_pointed (out-TrieNode K V n).pair r is ∙ ap (option_map pair_of) (sym (pair_out n))
-
-  pub no_kids : (n : TrieNode K V) → length (out-TrieNode K V n).children.items ≡ 0 → (tree_of n).kids ≡ none
-  no_kids n e = kids_out n ∙ row_none (out-TrieNode K V n).children.items e
 
   first_kid : (low : ℕ) (k : Kids (KeyValue K V)) → IsPlaced low k → 0 < levels k → (x : List ℕ) × (w : Tree (KeyValue K V)) × (x ≢ []) × IsKidAt k x w
   first_kid low none h lt = absurd (omega arith)

@@ -48,10 +48,6 @@ module _ {K V : Type 0} where
       second ∙ ap (λ x. with_row x (kids_of kids)) first
       ∙ ap (with_row (with_row (rows_of rs) (kids_of others))) (row_kids t kids is ∙ ap (λ x. (tree_of x).kids) at)
 
-  pub row_none : (bs : Row K V) → length bs ≡ 0 → kids_of bs ≡ none
-  row_none [] e = refl
-  row_none (b ∷ bs) e = absurd (omega (arith, e))
-
   pointed : (o : Option (Box (KeyValue K V) Global)) (r : Option (Bor (KeyValue K V)))
       → MatchOption o (r ≡ None) (λ b. IsSomeAnd r (λ p. p.now ≡ b.value)) → first_pair r ≡ own_pair (unboxed o)
   pointed None r is = ap first_pair is

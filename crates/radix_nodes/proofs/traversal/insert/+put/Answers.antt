@@ -4,9 +4,9 @@ use Rattle.nibble_map.specs.Masks.{IsPlaceOf}
 use Rattle.nibble_map.specs.Kept.{firsts, IsTreePlaced}
 use Rattle.radix_nodes.specs.Nodes.{tree_of, fragment_of, EditOutcome}
 use Rattle.radix_nodes.specs.declared.trie_node.TrieNode.{out-TrieNode}
-use Rattle.nibble_map.proofs.KeptPaths.{begins}
-use Rattle.radix_nodes.proofs.Steps.{set_step, kid_step, kid_placed, kid_first, kid_within, looked, edit_replaces, joined_some, take_first, take_some, path_down, path_part, split_some, length_some}
+use Rattle.radix_nodes.proofs.Steps.{set_step, kid_step, kid_placed, kid_first, kid_within, looked, edit_replaces, take_first, take_some, path_down, path_part, split_some, length_some}
 use Rattle.radix_nodes.proofs.traversal.insert.+put.Goals as goal
+use Rattle.nibble_map.proofs.Cut.{first-append, append-some}
 
 pub returns-then-depth-len : goal.returns-then-depth-len
 returns-then-depth-len g t c =
@@ -76,7 +76,7 @@ returns-then-n-len g t c =
     let below = subst (λ m. EditOutcome c.put.result c.args.pair (fragment_of m ++ rest) (tree_of m) (tree_of c.put.new.node)) c.deref_mut.ensures.value c.put.ensures in
     kid_step node c.in-Ok.i b c.requires.placed c.put.result _ c.args.pair (fragment_of b.value ++ rest) (fragment_of node ++ drop depth key) lt is
     (ap (λ p. fragment_of node ++ p) (sym path))
-    (joined_some (fragment_of b.value) rest some) (begins (fragment_of b.value) rest some)
+    (append-some (fragment_of b.value) rest some) (first-append (fragment_of b.value) rest some)
     (edit_replaces c.put.result c.args.pair _ _ _ below)
 
 pub returns-else-n-len : goal.returns-else-n-len
@@ -100,6 +100,6 @@ returns-else-n-len g t c =
     let part = take_some (fragment_of b.value) n positive within in
     kid_step node c.in-Ok.i b c.requires.placed c.split_and_put.result c.split_and_put.new.slot c.args.pair (take n (fragment_of b.value) ++ drop (depth + n) key) (fragment_of node ++ drop depth key) lt is
     (ap (λ p. fragment_of node ++ p) (sym (path_part (fragment_of b.value) key depth n same)))
-    (joined_some (take n (fragment_of b.value)) rest part)
-    (begins (take n (fragment_of b.value)) rest part ∙ take_first (fragment_of b.value) n positive)
+    (append-some (take n (fragment_of b.value)) rest part)
+    (first-append (take n (fragment_of b.value)) rest part ∙ take_first (fragment_of b.value) n positive)
     c.split_and_put.ensures

@@ -4,11 +4,11 @@ use Rattle.radix_nodes.specs.declared.trie_node.TrieNode.{out-TrieNode}
 use Rattle.nibble_map.specs.Kept.{IsTreePlaced}
 use Rattle.radix_nodes.specs.Nodes.{tree_of, fragment_of, CutOutcome}
 use Rattle.radix_nodes.proofs.Nodes.{fragment_out}
-use Rattle.radix_nodes.proofs.Steps.{kid_placed, is_at, joined_some, stuck_lacks}
-use Rattle.nibble_map.proofs.KeptPaths.{begins}
+use Rattle.radix_nodes.proofs.Steps.{kid_placed, is_at, stuck_lacks}
 use Rattle.radix_nodes.proofs.Removes.{child_is, no_kids, kid_cut, same_at}
 use Rattle.radix_nodes.proofs.traversal.remove.+take.Goals.{else-next-len-via-then-next-len+else-is_end, else-next-len-via-else-next-len}
 use Rattle.radix_nodes.proofs.traversal.remove.+take.Goals as goal
+use Rattle.nibble_map.proofs.Cut.{first-append, append-some}
 
 pub take_leaf-requires-clause-leaf : goal.take_leaf-requires-clause-leaf
 take_leaf-requires-clause-leaf g t c u a =
@@ -66,7 +66,7 @@ returns-else-next-len g t c =
     let below = subst (λ m. CutOutcome c.take.result (fragment_of m ++ rest) (tree_of m) (tree_of c.take.new.node)) c.deref_mut.ensures.value c.take.ensures in
     let some = (kid_placed n c.in-Some.i b c.requires.placed lt is).0 in
     kid_cut n c.in-Some.i b _ c.take.result (fragment_of b.value ++ rest) (fragment_of n ++ drop c.args.depth key) c.requires.placed lt is (ap (λ p. fragment_of n ++ p) (sym path))
-    (joined_some (fragment_of b.value) rest some) (begins (fragment_of b.value) rest some) below
+    (append-some (fragment_of b.value) rest some) (first-append (fragment_of b.value) rest some) below
 
 pub returns-in-None : goal.returns-in-None
 returns-in-None g t c =

@@ -7,10 +7,10 @@ use Rattle.radix_nodes.specs.declared.trie_node.TrieNode.{out-TrieNode}
 use Rattle.nibble_map.specs.Kept.{IsTreePlaced}
 use Rattle.radix_nodes.specs.Nodes.{tree_of, fragment_of, unboxed, CutOutcome}
 use Rattle.radix_nodes.proofs.Nodes.{fragment_out}
-use Rattle.radix_nodes.proofs.Steps.{kid_placed, kid_free, is_at, joined_some, stuck_lacks, step_within, step_end, free_here}
-use Rattle.nibble_map.proofs.KeptPaths.{begins}
+use Rattle.radix_nodes.proofs.Steps.{kid_placed, kid_free, is_at, stuck_lacks, step_within, step_end, free_here}
 use Rattle.radix_nodes.proofs.Removes.{child_is, no_kids, kid_root, pair_root, leaf_root, unpaired, unpaired_same, held}
 use Rattle.radix_nodes.proofs.traversal.remove.take_root.Goals as goal
+use Rattle.nibble_map.proofs.Cut.{first-append, append-some}
 
 pub returns-in-Some : goal.returns-in-Some
 returns-in-Some g c =
@@ -66,7 +66,7 @@ returns-else-next-len g c =
     let below = subst (λ m. CutOutcome c.take.result (fragment_of m ++ rest) (tree_of m) (tree_of c.take.new.node)) c.deref_mut.ensures.value c.take.ensures in
     let some = (kid_placed n c.in-Some-step.i b c.requires lt is).0 in
     kid_root n c.in-Some-step.i b _ c.take.result (fragment_of b.value ++ rest) (fragment_of n ++ key) c.requires lt is (ap (λ p. fragment_of n ++ p) (sym path))
-    (joined_some (fragment_of b.value) rest some) (begins (fragment_of b.value) rest some) below
+    (append-some (fragment_of b.value) rest some) (first-append (fragment_of b.value) rest some) below
 
 pub returns-in-None : goal.returns-in-None
 returns-in-None g c =

@@ -4,8 +4,9 @@ use Rattle.radix_nodes.specs.Nodes.{kids_of, tree_of}
 use Rattle.radix_trie.specs.Walks.{deref_pair, first_pair, pending, rows_of}
 use Rattle.radix_nodes.specs.Pairs.{own_pair}
 use Rattle.radix_trie.proofs.Walks.{item_progress, end_room, end_falls, end_pairs, others_fit, kids_fit, node_room, node_falls, node_pairs}
-use Rattle.radix_trie.proofs.WalkRows.{row_kids, row_none, row_popped, two_rows}
+use Rattle.radix_trie.proofs.WalkRows.{row_kids, row_popped, two_rows}
 use Rattle.radix_trie.proofs.iter.walk.IterIterator.next.Goals as goal
+use Rattle.radix_nodes.proofs.Removes.{kids_none}
 
 pub push_row-requires : goal.push_row-requires
 push_row-requires g c =
@@ -74,6 +75,6 @@ loop-nodes-preserved g c =
     let top = row_popped _ _ _ c.in-Some-pop.ensures.items in
     record {
       no_first = c.loop-nodes.invariant.no_first;
-      same = sym (end_pairs _ _ _ top (row_none _ c.in_default-split_first.ensures.cases)) ∙ c.loop-nodes.invariant.same;
+      same = sym (end_pairs _ _ _ top (kids_none _ c.in_default-split_first.ensures.cases)) ∙ c.loop-nodes.invariant.same;
       room = end_room _ _ _ _ top _ c.pop.ensures.capacity c.loop-nodes.invariant.room;
     }

@@ -1,14 +1,13 @@
 -- A node's fragment is what its path has beyond the longest point strictly above it.
 use Rattle.std.proofs.Common.{◌≡◌, ℕ, suc, ◌≤◌, ◌≢◌, ◌⊎◌, List, [], ◌∷◌, ◌++◌, length, refl, ap, sym, subst, ◌∙◌, inl, inr, append_assoc, append-nil, arith}
 use Rattle.nibble_map.specs.Lists.{IsPrefix, Has, Each}
-use Rattle.nibble_map.specs.Stored.{IsPoint}
 use Rattle.nibble_map.specs.Queries.{IsFragment}
 use Rattle.nibble_map.specs.Trees.{Forest, bare, grow, Tree, Node, nodes, nodes_below, entries, paths, first, IsShaped}
 use Rattle.nibble_map.proofs.Cut.{cancel, cons_head}
 use Rattle.nibble_map.proofs.Shape.{Under, At, At-headed, Under-headed}
-use Rattle.nibble_map.proofs.Members.{Has-cases, at_path, path_at}
+use Rattle.nibble_map.proofs.Members.{Has-cases, path_at}
 use Rattle.nibble_map.proofs.Parted.{prefix_length}
-use Rattle.nibble_map.proofs.Points.{path_point, point_path, at_point}
+use Rattle.nibble_map.proofs.Points.{point_path, at_point}
 use Rattle.nibble_map.proofs.Rising.{Each-from_has}
 
 -- a node at x has the fragment g

@@ -7,8 +7,7 @@ use Rattle.std.proofs.lemmas.Cmp.{nat_list_cmp_total}
 use Rattle.std.specs.FinMap as map
 use Rattle.std.specs.FinMap.{find, is_sorted}
 use Rattle.std.specs.FinMap.Entries.{below_all}
-use Rattle.nibble_map.specs.Lists.{is_prefix}
-use Rattle.nibble_map.specs.Maps.{NibbleMap, IsStored, mapped, below}
+use Rattle.nibble_map.specs.Maps.{NibbleMap, IsStored, mapped}
 use Rattle.nibble_map.proofs.Sorted.{same}
 use Rattle.nibble_map.proofs.Below.{kept}
 

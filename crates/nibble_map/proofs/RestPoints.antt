@@ -1,7 +1,7 @@
 -- The points and prefixes of a map without what is below a path.
-use Rattle.std.proofs.Common.{◌≡◌, ℕ, ◌⊎◌, List, [], ◌∷◌, ◌++◌, inl, inr, refl, sym, ◌∙◌}
+use Rattle.std.proofs.Common.{◌≡◌, ℕ, ◌⊎◌, List, [], ◌∷◌, ◌++◌, inl, inr, refl, sym}
 use Rattle.nibble_map.specs.Lists.{IsPrefix}
-use Rattle.nibble_map.specs.Maps.{NibbleMap, IsStored, IsReached, IsPoint, IsStem, without_below}
+use Rattle.nibble_map.specs.Maps.{NibbleMap, IsReached, IsPoint, IsStem, without_below}
 use Rattle.nibble_map.proofs.Parted.{prefix_through}
 use Rattle.nibble_map.proofs.Without.{stored_without, without_stored}
 

@@ -9,7 +9,7 @@ use Rattle.std.specs.Int.Bits.{bit_xor, bit_and, xor_add_and, xor_assoc, xor_sel
 use Rattle.nibble_map.specs.Kept.{Tree, Kids, none, more, plain, firsts, IsPlaced, IsTreePlaced, entries_in, entries_at, nodes_in, nibbles_in}
 use Rattle.nibble_map.specs.KeptSizes.{own_count, pairs_in}
 use Rattle.nibble_map.specs.Lists.{Each}
-use Rattle.nibble_map.specs.Masks.{IsRisingFrom, bit_of}
+use Rattle.nibble_map.specs.Masks.{bit_of}
 use Rattle.nibble_map.specs.Swaps.{entry}
 use Rattle.nibble_map.specs.Trees.{IsFull, first}
 use Rattle.nibble_map.specs.Turned.{turned, in_half, turned_half, append, turned_kids, turned_root}

@@ -7,8 +7,8 @@ use Rattle.nibble_map.specs.Queries.{IsLongest, IsCompared}
 use Rattle.nibble_map.specs.Trees.{Forest, bare, grow, Tree, nodes, entries, first, IsShaped, along, walked}
 use Rattle.nibble_map.proofs.Cut.{cancel, cons_head, cons_same, no_cons}
 use Rattle.nibble_map.proofs.Shape.{At, At-headed, Under-headed, headed}
-use Rattle.nibble_map.proofs.Members.{at_path, path_at}
-use Rattle.nibble_map.proofs.Points.{path_point, point_path, at_point}
+use Rattle.nibble_map.proofs.Members.{path_at}
+use Rattle.nibble_map.proofs.Points.{point_path, at_point}
 use Rattle.nibble_map.proofs.Stems.{Stem, Stem-headed, stem_at, at_stem, tree_stems}
 use Rattle.nibble_map.proofs.Parted.{common, prefix_length}
 

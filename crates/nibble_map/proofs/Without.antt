@@ -1,5 +1,5 @@
 -- The map without what is below a path.
-use Rattle.std.proofs.Common.{◌≡◌, ℕ, zero, suc, ◌+◌, ◌≤◌, ◌<◌, ◌⊎◌, inl, inr, Bool, true, false, cond, not, T, List, [], ◌∷◌, ◌++◌, filter, length, is_some, Option, Some, None, refl, sym, ap, ◌∙◌, subst, arith, nat_cmp, append-nil}
+use Rattle.std.proofs.Common.{◌≡◌, ℕ, suc, ◌+◌, ◌≤◌, ◌⊎◌, inl, inr, Bool, true, false, cond, not, T, List, [], ◌∷◌, ◌++◌, filter, length, is_some, Option, None, refl, sym, ap, ◌∙◌, subst, arith, nat_cmp}
 use Rattle.std.proofs.lemmas.List.{length-append}
 use Rattle.std.proofs.lemmas.List.Elements.{filter-append}
 use Rattle.std.specs.Cmp.Lexicographic.{slice_cmp}
@@ -8,7 +8,6 @@ use Rattle.std.specs.FinMap as map
 use Rattle.std.specs.FinMap.{is_sorted}
 use Rattle.std.specs.FinMap.Entries.{is_sorted-where_key}
 use Rattle.nibble_map.specs.Lists.{IsRising, IsPrefix, is_prefix}
-use Rattle.std.specs.FinMap.{find}
 use Rattle.nibble_map.specs.Maps.{NibbleMap, IsStored, below, without_below, walk}
 use Rattle.nibble_map.specs.Stored.{stored}
 use Rattle.nibble_map.specs.Swaps.{Swaps}

@@ -1,5 +1,5 @@
 -- What a change does to a tree: a run of entries goes, and another comes in its place.
-use Rattle.std.specs.Prelude.{◌≡◌, ℕ, ◌+◌, ◌≢◌, List, [], ◌++◌, length, Option, Some, None}
+use Rattle.std.specs.Prelude.{◌≡◌, ℕ, ◌+◌, ◌≢◌, List, [], ◌++◌, length, Option, Some}
 use Rattle.nibble_map.specs.Trees.{first}
 use Rattle.nibble_map.specs.Swaps.{Swaps, entry}
 use Rattle.nibble_map.specs.Kept.{Tree, IsTreePlaced, IsTreeFull, IsFullBelow, entries_at, nodes_in, nibbles_in}

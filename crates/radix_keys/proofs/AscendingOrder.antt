@@ -1,5 +1,5 @@
 -- The order of signed keys with the highest bit turned over.
-use Rattle.std.proofs.Common.{◌≡◌, inl, inr, ℕ, zero, suc, ◌+◌, ◌-◌, ◌*◌, ◌/◌, ◌%◌, ◌^◌, ◌<◌, ◌≤◌, ◌<ℤ◌, List, [], ◌∷◌, ℤ, pos, negsuc, FitsSigned, refl, arith, sym, ap, subst, ◌∙◌}
+use Rattle.std.proofs.Common.{◌≡◌, inl, inr, ℕ, zero, suc, ◌+◌, ◌-◌, ◌*◌, ◌/◌, ◌%◌, ◌^◌, ◌<◌, ◌≤◌, ◌<ℤ◌, List, ◌∷◌, ℤ, pos, negsuc, FitsSigned, refl, arith, sym, ap, subst, ◌∙◌}
 use Rattle.std.proofs.Math.Facts.{ltb_yes}
 use Rattle.std.proofs.Math.Nat.{mul-le-mul_right, suc-mul, mod-lt, add-mul-div_right, add-mul-mod_self_right, div-mul-le_self}
 use Rattle.std.proofs.lemmas.Nat.Bits.{and_pow}

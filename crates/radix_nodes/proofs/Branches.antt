@@ -1,15 +1,14 @@
 -- A branch that is cut, seen from the nodes above it.
-use Rattle.std.proofs.Common.{◌≡◌, ◌≢◌, ◌⊎◌, ℕ, zero, suc, ◌+◌, ◌<◌, ◌≤◌, ◌^◌, List, [], ◌∷◌, ◌++◌, length, get_or, drop, Option, Some, None, IsSome, Result, Ok, Err, IfOk, refl, ap, sym, subst, ◌∙◌, arith, inl, inr, append_assoc}
+use Rattle.std.proofs.Common.{◌≡◌, ◌≢◌, ℕ, zero, suc, ◌+◌, ◌<◌, ◌≤◌, List, [], ◌∷◌, ◌++◌, length, get_or, drop, Option, Some, None, Result, Ok, Err, refl, ap, sym, subst, ◌∙◌, arith, append_assoc}
 use Rattle.std.specs.declared.boxed.Box.{Box}
 use Rattle.std.specs.declared.alloc.Global.{Global}
 use Rattle.std.specs.Vec.{with_item}
 use Rattle.nibble_map.specs.Agreement.{Agrees}
-use Rattle.nibble_map.specs.Kept.{Tree, Kids, none, more, IsAt, IsTreePlaced, IsTreeFull, entries_at, nodes_in, nibbles_in}
-use Rattle.nibble_map.specs.KeptEdits.{IsOne, remove_kid, without_kid, merged, with_kid}
-use Rattle.nibble_map.specs.KeptPaths.{IsPath, IsNodeAt}
+use Rattle.nibble_map.specs.Kept.{Tree, Kids, none, more, IsAt, IsTreePlaced, IsTreeFull, nodes_in, nibbles_in}
+use Rattle.nibble_map.specs.KeptEdits.{IsOne, remove_kid, without_kid, merged}
+use Rattle.nibble_map.specs.KeptPaths.{IsPath}
 use Rattle.nibble_map.specs.Lists.{IsPrefix}
 use Rattle.nibble_map.specs.Trees.{first}
-use Rattle.nibble_map.proofs.KeptKids.{at_same, set_same}
 use Rattle.nibble_map.proofs.KeptSizes.{fewer_nodes, fewer_pairs, pairs_count}
 use Rattle.nibble_map.specs.Alters.{Prunes, PrunesRoot, AltersNode, all_of, none_of}
 use Rattle.nibble_map.proofs.KeptCuts.{kid_goes, merged_kid, root_kid}
@@ -18,14 +17,14 @@ use Rattle.radix_keys.specs.declared.nibbles.Memory.{Memory}
 use Rattle.radix_nodes.specs.declared.trie_node.KeyValue.{KeyValue}
 use Rattle.radix_nodes.specs.declared.trie_node.TrieNode.{TrieNode, out-TrieNode, roll-TrieNode}
 use Rattle.radix_nodes.specs.declared.traversal.compare.Agreement.{Agreement}
-use Rattle.radix_nodes.specs.Nodes.{tree_of, fragment_of, unboxed, IsMet, IsNearest}
-use Rattle.radix_nodes.proofs.Nodes.{fragment_out, pair_out}
+use Rattle.radix_nodes.specs.Nodes.{tree_of, fragment_of, IsMet}
+use Rattle.radix_nodes.proofs.Nodes.{fragment_out}
 use Rattle.radix_nodes.proofs.Steps.{is_at}
 use Rattle.radix_nodes.proofs.Removes.{kid_new, kid_kept}
 use Rattle.nibble_map.proofs.Agreement.{agrees_ends}
 use Rattle.nibble_map.proofs.KeptPaths.{kid_down}
 use Rattle.std.proofs.lemmas.List.{length-drop}
-use Rattle.radix_nodes.proofs.Searches.{met_down, met_inside, nearest_up, nearest_inside, nearest_free, nearest_parted, nearest_none, met_whole}
+use Rattle.radix_nodes.proofs.Searches.{met_down, met_inside, nearest_up, nearest_inside, nearest_free, met_whole}
 use Rattle.radix_nodes.specs.declared.traversal.prune.Pruned.{Pruned}
 use Rattle.radix_nodes.specs.Prunes.{IsSmall, IsBranch, PruneOutcome, PruneRootOutcome}
 

@@ -1,14 +1,12 @@
 -- The pairs of a branch, one child after another.
-use Rattle.std.proofs.Common.{◌≡◌, ℕ, suc, ◌+◌, ◌<◌, ◌≤◌, ◌^◌, List, [], ◌∷◌, ◌++◌, map, length, Option, Some, None, refl, ap, sym, subst, ◌∙◌, arith, append_assoc, append-nil}
-use Rattle.std.proofs.lemmas.List.{map-append, length-append, length-map}
+use Rattle.std.proofs.Common.{◌≡◌, ℕ, ◌+◌, ◌<◌, ◌≤◌, List, [], ◌∷◌, ◌++◌, length, Option, ap, sym, ◌∙◌, arith, append_assoc, append-nil}
+use Rattle.std.proofs.lemmas.List.{length-append}
 use Rattle.std.specs.declared.boxed.Box.{Box}
 use Rattle.std.specs.declared.alloc.Global.{Global}
-use Rattle.nibble_map.specs.Kept.{Tree, Kids, none, more, IsAt, IsTreePlaced, entries_in, entries_at, nodes_in, nibbles_in}
-use Rattle.nibble_map.specs.Swaps.{entry}
-use Rattle.nibble_map.proofs.KeptSizes.{fewer_nodes, fewer_pairs, pairs_count}
+use Rattle.nibble_map.specs.Kept.{Tree, entries_in, entries_at, nodes_in, nibbles_in}
 use Rattle.radix_nodes.specs.declared.trie_node.KeyValue.{KeyValue}
 use Rattle.radix_nodes.specs.declared.trie_node.TrieNode.{TrieNode, out-TrieNode}
-use Rattle.radix_nodes.specs.Nodes.{tree_of, kids_of, fragment_of, unboxed}
+use Rattle.radix_nodes.specs.Nodes.{tree_of, kids_of, unboxed}
 use Rattle.radix_nodes.proofs.Nodes.{pair_out, kids_out, fragment_out}
 use Rattle.radix_nodes.specs.Pairs.{own_pair, pairs_in, pairs_in_all}
 use Rattle.radix_nodes.specs.Prunes.{IsSmall}

@@ -8,7 +8,7 @@ use Rattle.std.specs.declared.alloc.Global.{Global}
 use Rattle.nibble_map.specs.Swaps.{Swaps, entry}
 use Rattle.nibble_map.specs.Kept.{Tree, Kids, IsAt, IsTreePlaced, entries_at, entries_in}
 use Rattle.nibble_map.specs.KeptPaths.{IsNodeAt, IsHeld}
-use Rattle.nibble_map.specs.Alters.{AltersNode, Rewrites}
+use Rattle.nibble_map.specs.Alters.{Rewrites}
 use Rattle.nibble_map.proofs.KeptEdits.{kid_entry, node_kid}
 use Rattle.nibble_map.proofs.KeptPaths.{held_node, one_node}
 use Rattle.radix_nodes.specs.declared.trie_node.KeyValue.{KeyValue}

@@ -1,5 +1,5 @@
 -- The pairs of nodes, by their fields.
-use Rattle.std.proofs.Common.{◌≡◌, ℕ, List, [], ◌∷◌, ◌++◌, length, Option, Some, None, refl, ap, sym, ◌∙◌}
+use Rattle.std.proofs.Common.{◌≡◌, ℕ, List, [], ◌++◌, length, Option, Some, None, refl, ap, sym, ◌∙◌}
 use Rattle.std.proofs.lemmas.List.{map-append, length-map}
 use Rattle.nibble_map.specs.Kept.{Tree, Kids, none, more, entries_in, entries_at}
 use Rattle.nibble_map.specs.Swaps.{entry}

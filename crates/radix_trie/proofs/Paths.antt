@@ -3,7 +3,7 @@ use Rattle.std.proofs.Common.{◌≡◌, inl, inr, ℕ, List, [], ◌∷◌, ◌
 use Rattle.std.proofs.lemmas.List.{length-append}
 use Rattle.nibble_map.specs.Kept.{Tree, Kids, none, more}
 use Rattle.nibble_map.specs.KeptPaths.{IsKidAt, IsNodeAt, IsPath}
-use Rattle.nibble_map.specs.Lists.{Has, Each}
+use Rattle.nibble_map.specs.Lists.{Has}
 use Rattle.nibble_map.specs.MapQueries.{IsFragment}
 use Rattle.nibble_map.specs.Maps.{PairMap, IsPoint}
 use Rattle.nibble_map.specs.Nibbles.{IsShort}

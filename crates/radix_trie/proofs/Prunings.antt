@@ -1,5 +1,5 @@
 -- What a cut of a whole branch does to the map, and to what the trie keeps.
-use Rattle.std.proofs.Common.{◌≡◌, ◌≢◌, ℕ, suc, ◌+◌, ◌-◌, ◌*◌, ◌≤◌, ◌<◌, ◌^◌, List, [], ◌∷◌, ◌++◌, T, is_some, map, filter, drop, length, refl, ap, sym, subst, ◌∙◌, arith, append-nil}
+use Rattle.std.proofs.Common.{◌≡◌, ℕ, ◌+◌, ◌-◌, ◌≤◌, ◌<◌, ◌^◌, List, [], ◌∷◌, ◌++◌, T, is_some, map, filter, drop, length, refl, ap, sym, subst, ◌∙◌, arith, append-nil}
 use Rattle.std.proofs.lemmas.List.{length-map}
 use Rattle.std.specs.FinMap as fin
 use Rattle.nibble_map.specs.Kept.{Tree, entries_at, entries_in}
@@ -19,7 +19,7 @@ use Rattle.radix_nodes.specs.declared.trie_node.TrieNode.{TrieNode}
 use Rattle.radix_nodes.specs.Nodes.{tree_of, fragment_of, IsNearest}
 use Rattle.radix_nodes.proofs.Nodes.{fragment_out}
 use Rattle.radix_nodes.proofs.Searches.{nearest_here}
-use Rattle.radix_trie.specs.Roots.{entries_of, map_of, AllKeyed, IsRoot, IsKept}
+use Rattle.radix_trie.specs.Roots.{entries_of, map_of, IsRoot, IsKept}
 use Rattle.radix_trie.specs.Views.{pairs_below}
 use Rattle.radix_trie.proofs.Changes.{run_change, run_count, run_kept, nodes_fit, nibbles_within}
 use Rattle.radix_trie.proofs.Parts.{node_kept}

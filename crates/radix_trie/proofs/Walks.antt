@@ -1,11 +1,9 @@
 -- The equations of a walk: over the rows of its stack, as plain data.
-use Rattle.std.proofs.Common.{◌≡◌, ℕ, suc, ◌+◌, ◌*◌, ◌<◌, ◌≤◌, List, [], ◌∷◌, ◌++◌, length, refl, ap, sym, subst, ◌∙◌, append_assoc, append-nil, length-append, arith, Option, Some, None}
-use Rattle.std.proofs.lemmas.List.{map-append, length-map}
+use Rattle.std.proofs.Common.{◌≡◌, ℕ, suc, ◌+◌, ◌*◌, ◌<◌, ◌≤◌, List, [], ◌∷◌, ◌++◌, length, refl, ap, sym, subst, ◌∙◌, append_assoc, append-nil, length-append, arith, Some}
 use Rattle.std.specs.Bool.{⊤}
 use Rattle.std.specs.Iterator.{MakesProgress, item_count}
 use Rattle.nibble_map.specs.Kept.{Tree, Kids, none, more, front, entries_in, entries_at, nodes_in}
 use Rattle.nibble_map.specs.KeptSizes.{levels}
-use Rattle.nibble_map.specs.Swaps.{entry}
 use Rattle.radix_nodes.specs.declared.trie_node.KeyValue.{KeyValue}
 use Rattle.radix_nodes.specs.Pairs.{own_pair, pairs_in, pairs_in_all}
 use Rattle.radix_nodes.proofs.Pairs.{append-pairs, pairs_at}

@@ -1,9 +1,9 @@
-use Rattle.std.proofs.Common.{◌≡◌, ◌<◌, ◌∙◌, true, false, ap, sym, subst, arith, length, refl}
+use Rattle.std.proofs.Common.{◌<◌, ◌∙◌, ap, sym, subst, arith, length}
 use Rattle.nibble_map.specs.KeptSame.{IsCopy}
 use Rattle.nibble_map.specs.Trees.{first}
 use Rattle.nibble_map.specs.Turned.{in_half, turned_tree}
 use Rattle.radix_nodes.specs.Copies.{IsKeyValueCopy}
-use Rattle.radix_nodes.specs.Nodes.{tree_of, fragment_of, kids_of, out_of}
+use Rattle.radix_nodes.specs.Nodes.{tree_of, fragment_of, out_of}
 use Rattle.radix_nodes.proofs.AscendingNodes.{half_taken, half_left, none_pushed, all_pushed}
 use Rattle.radix_nodes.proofs.CopiedNodes.{no_boxes}
 use Rattle.radix_nodes.proofs.Steps.{kid_placed, length_some}

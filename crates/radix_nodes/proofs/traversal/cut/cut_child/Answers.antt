@@ -1,4 +1,4 @@
-use Rattle.std.proofs.Common.{◌++◌, ◌∙◌, ◌⊎◌, ◌≢◌, ◌≡◌, ◌<◌, ◌-◌, length, IsSome, sym, ap, subst, arith}
+use Rattle.std.proofs.Common.{◌++◌, ◌∙◌, ◌⊎◌, ◌≢◌, ◌-◌, IsSome, sym, ap, subst, arith}
 use Rattle.nibble_map.specs.Trees.{first}
 use Rattle.nibble_map.specs.KeptEdits.{IsOne, merged, remove_kid}
 use Rattle.radix_nodes.specs.declared.trie_node.TrieNode.{out-TrieNode}

@@ -1,10 +1,7 @@
-use Rattle.std.proofs.Common.{rules, ◌≡◌, ◌+◌, ◌<◌, ◌≤◌, ◌∙◌, ◌++◌, [], ap, sym, subst, length, vec_len, vec_capacity, arith, refl}
+use Rattle.std.proofs.Common.{rules, ◌+◌, ◌<◌, ◌≤◌, ◌∙◌, ◌++◌, [], ap, sym, subst, length, vec_capacity, arith}
 use Rattle.std.proofs.lemmas.Grind.{common_steps}
-use Rattle.std.specs.Vec.Iter.{into_iter_items}
 use Rattle.nibble_map.specs.Kept.{entries_at, nodes_in, nibbles_in}
-use Rattle.radix_nodes.specs.declared.trie_node.TrieNode.{out-TrieNode}
-use Rattle.radix_nodes.specs.Nodes.{tree_of, fragment_of}
-use Rattle.radix_nodes.proofs.Nodes.{fragment_out}
+use Rattle.radix_nodes.specs.Nodes.{tree_of}
 use Rattle.radix_nodes.specs.Pairs.{pairs_in}
 use Rattle.radix_nodes.specs.Prunes.{IsSmall}
 use Rattle.radix_nodes.proofs.Drains.{Left, left_start, left_next, left_room, left_small, left_fewer, left_noded, left_nibbled, left_end, start_room}

@@ -1,9 +1,8 @@
-use Rattle.std.proofs.Common.{◌≡◌, ◌+◌, ◌∙◌, [], length, sym, ap, subst, arith}
+use Rattle.std.proofs.Common.{◌≡◌, ◌+◌, ◌∙◌, length, ap, arith}
 use Rattle.nibble_map.specs.Kept.{nodes_in, nibbles_in}
 use Rattle.nibble_map.specs.KeptEdits.{empty}
-use Rattle.nibble_map.specs.Alters.{PrunesRoot}
 use Rattle.nibble_map.proofs.KeptCuts.{all_goes}
-use Rattle.radix_nodes.specs.Nodes.{tree_of, fragment_of}
+use Rattle.radix_nodes.specs.Nodes.{tree_of}
 use Rattle.radix_nodes.proofs.Nodes.{fragment_out}
 use Rattle.radix_nodes.proofs.traversal.prune.prune_all.Goals as goal
 

@@ -1,4 +1,4 @@
-use Rattle.std.proofs.Common.{◌≡◌, ◌<◌, ◌≤◌, ◌∙◌, [], length, sym, ap, subst, arith, vec_capacity}
+use Rattle.std.proofs.Common.{[], length, sym, ap, arith}
 use Rattle.nibble_map.specs.Kept.{entries_at}
 use Rattle.radix_nodes.specs.declared.trie_node.TrieNode.{out-TrieNode}
 use Rattle.radix_nodes.specs.Nodes.{tree_of}

@@ -2,7 +2,6 @@ use Rattle.std.proofs.Common.{◌≡◌, ◌≢◌, ◌<◌, ◌++◌, ◌∙◌
 use Rattle.nibble_map.specs.KeptPaths.{IsHeld}
 use Rattle.std.proofs.lemmas.List.{nil_from_length}
 use Rattle.std.proofs.Math.Seq.{drop-length}
-use Rattle.nibble_map.specs.Trees.{first}
 use Rattle.radix_nodes.specs.declared.trie_node.TrieNode.{out-TrieNode}
 use Rattle.nibble_map.specs.Kept.{IsTreePlaced}
 use Rattle.radix_nodes.specs.Nodes.{tree_of, fragment_of, unboxed, CutOutcome}

@@ -24,7 +24,7 @@ pub struct Pruned<K, V> {
 }
 
 // Room for the pairs at and below the child at place i. Where there is none it takes no memory.
-fn room_for<K: Drop, V: Drop>(
+fn room_for<K, V>(
     node: &TrieNode<K, V>,
     alloc: Global,
     i: usize,

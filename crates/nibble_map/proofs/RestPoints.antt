@@ -1,25 +1,14 @@
 -- The points and prefixes of a map without what is below a path.
-use Rattle.std.proofs.Common.{◌≡◌, ℕ, ◌⊎◌, List, [], ◌∷◌, ◌++◌, inl, inr, refl, sym}
+use Rattle.std.proofs.Common.{◌≡◌, ℕ, ◌⊎◌, List, [], ◌∷◌, ◌++◌, inl, inr, refl, sym, ◌∙◌}
 use Rattle.nibble_map.specs.Lists.{IsPrefix}
 use Rattle.nibble_map.specs.Maps.{NibbleMap, IsReached, IsPoint, IsStem, without_below}
+use Rattle.nibble_map.proofs.Cut.{cut}
 use Rattle.nibble_map.proofs.Parted.{prefix_through}
 use Rattle.nibble_map.proofs.Without.{stored_without, without_stored}
 
 -- of two prefixes of one list one is a prefix of the other
 nested : (p q e : List ℕ) → IsPrefix p e → IsPrefix q e → IsPrefix p q ⊎ IsPrefix q p
-nested [] q e i j = inl (q, refl)
-nested (a ∷ p) [] e i j = inr (a ∷ p, refl)
-nested (a ∷ p) (b ∷ q) [] (r, h) j = absurd (let i : [] ≡ a ∷ (p ++ r) = h in cc i)
-nested (a ∷ p) (b ∷ q) (c ∷ e) (r, h) (t, k) =
-    let f : c ∷ e ≡ a ∷ (p ++ r) = h in
-    let g : c ∷ e ≡ b ∷ (q ++ t) = k in
-    let same : a ≡ b = cc (f, g) in
-    let rest : e ≡ p ++ r = cc f in
-    let other : e ≡ q ++ t = cc g in
-    elim (nested p q e (r, rest) (t, other)) [
-      | inl x ↦ inl (x.0, (let tail = x.1 in λ i. sym same i ∷ tail i))
-      | inr x ↦ inr (x.0, (let tail = x.1 in λ i. same i ∷ tail i))
-    ]
+nested p q e (r, h) (t, k) = elim (cut p r q t (sym h ∙ k)) [ inl c ↦ inl (c.0, c.1) | inr c ↦ inr (c.0 ∷ c.1, c.2) ]
 
 module _ {P : Type 0} (m : NibbleMap P) (p : List ℕ) where
   reached_without : (q : List ℕ) → IsReached (without_below m p) q → IsReached m q

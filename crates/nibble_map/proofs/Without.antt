@@ -2,6 +2,7 @@
 use Rattle.std.proofs.Common.{◌≡◌, ℕ, suc, ◌+◌, ◌≤◌, ◌⊎◌, inl, inr, Bool, true, false, cond, not, T, List, [], ◌∷◌, ◌++◌, filter, length, is_some, Option, None, refl, sym, ap, ◌∙◌, subst, arith, nat_cmp}
 use Rattle.std.proofs.lemmas.List.{length-append}
 use Rattle.std.proofs.lemmas.List.Elements.{filter-append}
+use Rattle.std.proofs.lemmas.List.Filters.{length-filter_both}
 use Rattle.std.specs.Cmp.Lexicographic.{slice_cmp}
 use Rattle.std.proofs.lemmas.Cmp.{nat_list_cmp_total}
 use Rattle.std.specs.FinMap as map
@@ -31,8 +32,7 @@ module _ {A : Type 0} (t : A → Bool) where
       go false e = inr e
 
   fewer : (xs : List A) → length (filter t xs) ≤ length xs
-  fewer [] = omega arith
-  fewer (x ∷ xs) = elim (split_test x) [ inl e ↦ rw e (omega (arith, fewer xs)) | inr e ↦ rw e (omega (arith, fewer xs)) ]
+  fewer xs = omega (arith, length-filter_both t (λ x. not (t x)) (λ x. refl) xs)
 
   -- what is kept is kept again
   filter_again : (xs : List A) → filter t (filter t xs) ≡ filter t xs
@@ -75,10 +75,6 @@ module _ {A : Type 0} (t : A → Bool) where
       ∙ (let mid = filter-append (λ x. not (t x)) gone s.after ∙ ap (λ r. r ++ filter (λ x. not (t x)) s.after) (all_others gone again) in λ i. front i ++ (mid ∙ back) i)
       ∙ sym s.is
 
-parts_length : {A : Type 0} (t : A → Bool) (xs : List A) → length (filter (λ x. not (t x)) xs) + length (filter t xs) ≡ length xs
-parts_length t [] = refl
-parts_length t (x ∷ xs) = elim (split_test t x) [ inl e ↦ rw e (omega (arith, parts_length t xs)) | inr e ↦ rw e (omega (arith, parts_length t xs)) ]
-
 module _ {P : Type 0} (p : List ℕ) where
   -- the entries left where the run of all below p goes
   pub run_cut : (gone old new : List (List ℕ × P)) → IsRising (stored old) → Swaps gone [] old new → filter (λ e. is_prefix p e.0) old ≡ gone
@@ -105,7 +101,7 @@ module _ {P : Type 0} (p : List ℕ) where
       let a = map.len-entries (without_below m p) in let b = map.len-entries (below m p) in let c = map.len-entries m in
       let d = ap length (entries-retain_keys _ nat_list_cmp_total same m (λ e. not (is_prefix p e))) in
       let e = ap length (entries-retain_keys _ nat_list_cmp_total same m (is_prefix p)) in
-      let f = parts_length (λ (e : List ℕ × P). is_prefix p e.0) (map.entries m) in
+      let f = length-filter_both (λ (e : List ℕ × P). is_prefix p e.0) (λ e. not (is_prefix p e.0)) (λ e. refl) (map.entries m) in
       omega (arith, a, b, c, d, e, f)
 
   -- where nothing is below p nothing changes

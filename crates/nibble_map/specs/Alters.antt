@@ -20,7 +20,8 @@ module _ {P : Type 0} where
   abbrev pub none_of : Run P
   none_of q = []
 
--- `gone` goes and `come` comes in its place; n nodes and k nibbles of fragments come, m nodes and l nibbles go
+-- `gone` goes and `come` comes in its place; n nodes and k nibbles of fragments come, m nodes and l
+-- nibbles go
 pub record Alters {P : Type 0} (gone come : Run P) (n m k l : ℕ) (old new : Tree P) : Type 0 where
   -- the parent's mask stays
   pub start : first new.fragment ≡ first old.fragment
@@ -29,21 +30,25 @@ pub record Alters {P : Type 0} (gone come : Run P) (n m k l : ℕ) (old new : Tr
   -- whatever path q leads to the tree
   pub swaps : (q : List ℕ) → Swaps (gone q) (come q) (entries_at q old) (entries_at q new)
   pub nodes : nodes_in new.kids + m ≡ nodes_in old.kids + n
-  pub nibbles : length new.fragment + nibbles_in new.kids + l ≡ length old.fragment + nibbles_in old.kids + k
+  pub nibbles : length new.fragment + nibbles_in new.kids + l
+      ≡ length old.fragment + nibbles_in old.kids + k
 
 -- the same of a child, which keeps a pair or two children
-pub record AltersKid {P : Type 0} (gone come : Run P) (n m k l : ℕ) (old new : Tree P) : Type 0 where
+pub record AltersKid {P : Type 0} (gone come : Run P) (n m k l : ℕ) (old new : Tree P) :
+    Type 0 where
   pub full : IsTreeFull old → IsTreeFull new
   pub alters : Alters gone come n m k l old new
 
 -- the same of a root, which keeps its fragment and may be left with neither a pair nor two children
-pub record AltersRoot {P : Type 0} (gone come : Run P) (n m k l : ℕ) (old new : Tree P) : Type 0 where
+pub record AltersRoot {P : Type 0} (gone come : Run P) (n m k l : ℕ) (old new : Tree P) :
+    Type 0 where
   pub fragment : new.fragment ≡ old.fragment
   pub below : IsFullBelow old → IsFullBelow new
   pub alters : Alters gone come n m k l old new
 
 -- the same of a node that may be the one or the other
-pub record AltersNode {P : Type 0} (gone come : Run P) (n m k l : ℕ) (old new : Tree P) : Type 0 where
+pub record AltersNode {P : Type 0} (gone come : Run P) (n m k l : ℕ) (old new : Tree P) :
+    Type 0 where
   pub full : IsTreeFull old → IsTreeFull new
   pub root : AltersRoot gone come n m k l old new
 

@@ -25,11 +25,14 @@ IsRawAncestor S e p = IsLongest (IsPoint S) e p
 
 -- the answer is the shortest point that e is a prefix of, or none where there is none
 abbrev pub IsRawDescendant : (List ℕ → Type 0) → List ℕ → Option (List ℕ) → Type 0
-IsRawDescendant S e a = MatchOption a ((p : List ℕ) → IsPoint S p → IsPrefix e p → ⊥) (λ p. IsShortest (IsPoint S) e p)
+IsRawDescendant S e a =
+    MatchOption a ((p : List ℕ) → IsPoint S p → IsPrefix e p → ⊥) (λ p. IsShortest (IsPoint S) e p)
 
 -- f is what the point p has beyond the longest point strictly above it; empty for the empty list
 abbrev pub IsFragment : (List ℕ → Type 0) → List ℕ → List ℕ → Type 0
-IsFragment S p f = ((p ≡ []) × (f ≡ [])) ⊎ ((q : List ℕ) × IsLongest (λ x. IsPoint S x × (x ≢ p)) p q × (p ≡ q ++ f))
+IsFragment S p f =
+    ((p ≡ []) × (f ≡ []))
+    ⊎ ((q : List ℕ) × IsLongest (λ x. IsPoint S x × (x ≢ p)) p q × (p ≡ q ++ f))
 
 -- q is the shortest point with the prefix p and one nibble more
 abbrev pub IsKid : (List ℕ → Type 0) → List ℕ → List ℕ → Type 0
@@ -39,8 +42,9 @@ IsKid S p q = (a : ℕ) × IsShortest (IsPoint S) (p ++ a ∷ []) q
 abbrev pub AreKids : (List ℕ → Type 0) → List ℕ → List (List ℕ) → Type 0
 AreKids S p qs = Lists (IsKid S p) qs
 
--- n nibbles are compared in a search for e: those of the longest prefix of e that is empty or a prefix of a stored list, and one more
--- where that prefix isn't e and isn't a point
+-- n nibbles are compared in a search for e: those of the longest prefix of e that is empty or a
+-- prefix of a stored list, and one more where that prefix isn't e and isn't a point
 abbrev pub IsCompared : (List ℕ → Type 0) → List ℕ → ℕ → Type 0
 IsCompared S e n = (p : List ℕ) × IsLongest (λ x. (x ≡ []) ⊎ IsStem S x) e p
-    × ((((p ≡ e) ⊎ IsPoint S p) × (n ≡ length p)) ⊎ ((p ≢ e) × (IsPoint S p → ⊥) × (n ≡ length p + 1)))
+    × ((((p ≡ e) ⊎ IsPoint S p) × (n ≡ length p))
+    ⊎ ((p ≢ e) × (IsPoint S p → ⊥) × (n ≡ length p + 1)))

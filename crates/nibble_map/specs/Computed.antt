@@ -54,7 +54,9 @@ module _ {P : Type 0} where
   nexts m p = filter_map (next_after p) (stored m)
 
   abbrev pub is_point : List (List ℕ × P) → List ℕ → Bool
-  is_point m p = same p [] || (list_any (same p) (stored m) || list_any (λ a. list_any (λ b. not (eqb a b)) (nexts m p)) (nexts m p))
+  is_point m p =
+      same p [] || (list_any (same p) (stored m)
+      || list_any (λ a. list_any (λ b. not (eqb a b)) (nexts m p)) (nexts m p))
 
   abbrev pub points : List (List ℕ × P) → List (List ℕ)
   points m = filter (is_point m) ([] ∷ prefixes m)
@@ -74,7 +76,8 @@ module _ {P : Type 0} where
 
   -- the longest point strictly above p
   abbrev pub parent : List (List ℕ × P) → List ℕ → List ℕ
-  parent m p = unwrap_or (longest (filter (λ q. is_prefix q p) (filter (λ q. not (same q p)) (points m)))) []
+  parent m p = unwrap_or
+      (longest (filter (λ q. is_prefix q p) (filter (λ q. not (same q p)) (points m)))) []
 
   abbrev pub fragment : List (List ℕ × P) → List ℕ → List ℕ
   fragment m p = drop (length (parent m p)) p

@@ -4,7 +4,8 @@ use Rattle.nibble_map.specs.Trees.{Forest, bare, grow, AreMany, IsFull, first}
 use Rattle.nibble_map.specs.Masks.{IsMask}
 use Rattle.nibble_map.specs.Swaps.{entry}
 
--- children in order: none, or a first one, with its fragment, pair, mask and own children, and the others
+-- children in order: none, or a first one, with its fragment, pair, mask and own children, and the
+-- others
 pub data Kids (P : Type 0) : Type 0 where
   none : Kids P
   more : List ℕ → Option P → ℕ → Kids P → Kids P → Kids P
@@ -30,7 +31,8 @@ module _ {P : Type 0} where
   abbrev pub IsPlaced : ℕ → Kids P → Type 0
   IsPlaced low none = ⊤
   IsPlaced low (more f o m kids others) =
-      (f ≢ []) × (low ≤ first f) × IsMask m (firsts kids) × IsPlaced 0 kids × IsPlaced (suc (first f)) others
+      (f ≢ []) × (low ≤ first f) × IsMask m (firsts kids) × IsPlaced 0 kids
+      × IsPlaced (suc (first f)) others
 
   abbrev pub IsTreePlaced : Tree P → Type 0
   IsTreePlaced t = IsMask t.mask (firsts t.kids) × IsPlaced 0 t.kids
@@ -45,7 +47,8 @@ module _ {P : Type 0} where
 
   abbrev pub entries_in : List ℕ → Kids P → List (List ℕ × P)
   entries_in q none = []
-  entries_in q (more f o m kids others) = entry (q ++ f) o ++ entries_in (q ++ f) kids ++ entries_in q others
+  entries_in q (more f o m kids others) = entry (q ++ f) o ++ entries_in (q ++ f) kids
+      ++ entries_in q others
 
   -- the pairs of a tree that hangs below path q
   abbrev pub entries_at : List ℕ → Tree P → List (List ℕ × P)
@@ -69,5 +72,6 @@ module _ {P : Type 0} where
   -- the child at i is t
   abbrev pub IsAt : ℕ → Kids P → Tree P → Type 0
   IsAt i none t = ⊥
-  IsAt zero (more f o m kids others) t = t ≡ record { fragment = f; pair = o; mask = m; kids = kids }
+  IsAt zero (more f o m kids others) t =
+      t ≡ record { fragment = f; pair = o; mask = m; kids = kids }
   IsAt (suc i) (more f o m kids others) t = IsAt i others t

@@ -19,18 +19,31 @@ module _ {P : Type 0} where
   with_pair x t = record { fragment = t.fragment; pair = Some x; mask = t.mask; kids = t.kids }
 
   abbrev pub with_kid : ℕ → Tree P → Tree P → Tree P
-  with_kid i k t = record { fragment = t.fragment; pair = t.pair; mask = t.mask; kids = set_kid i k t.kids }
+  with_kid i k t =
+      record { fragment = t.fragment; pair = t.pair; mask = t.mask; kids = set_kid i k t.kids }
 
   abbrev pub leaf : List ℕ → P → Tree P
   leaf f x = record { fragment = f; pair = Some x; mask = 0; kids = none }
 
   -- a new child at i, which begins with y
   abbrev pub with_new_kid : ℕ → ℕ → Tree P → Tree P → Tree P
-  with_new_kid i y k t = record { fragment = t.fragment; pair = t.pair; mask = marked t.mask y; kids = insert_kid i k t.kids }
+  with_new_kid i y k t =
+      record {
+        fragment = t.fragment;
+        pair = t.pair;
+        mask = marked t.mask y;
+        kids = insert_kid i k t.kids;
+      }
 
   -- a node with the fragment f above t, to which the fragment g is left
   abbrev pub lowered : List ℕ → List ℕ → Tree P → Tree P
-  lowered f g t = record { fragment = f; pair = None; mask = marked 0 (first g); kids = more g t.pair t.mask t.kids none }
+  lowered f g t =
+      record {
+        fragment = f;
+        pair = None;
+        mask = marked 0 (first g);
+        kids = more g t.pair t.mask t.kids none;
+      }
 
   abbrev pub empty : Tree P
   empty = record { fragment = []; pair = None; mask = 0; kids = none }
@@ -45,7 +58,13 @@ module _ {P : Type 0} where
 
   -- the child at i, which began with y, is gone
   abbrev pub without_kid : ℕ → ℕ → Tree P → Tree P
-  without_kid i y t = record { fragment = t.fragment; pair = t.pair; mask = cleared t.mask y; kids = remove_kid i t.kids }
+  without_kid i y t =
+      record {
+        fragment = t.fragment;
+        pair = t.pair;
+        mask = cleared t.mask y;
+        kids = remove_kid i t.kids;
+      }
 
   abbrev pub IsOne : Kids P → Type 0
   IsOne none = ⊥
@@ -54,7 +73,8 @@ module _ {P : Type 0} where
 
   abbrev pub merged_into : List ℕ → Kids P → Tree P
   merged_into q none = record { fragment = q; pair = None; mask = 0; kids = none }
-  merged_into q (more f o m kids others) = record { fragment = q ++ f; pair = o; mask = m; kids = kids }
+  merged_into q (more f o m kids others) =
+      record { fragment = q ++ f; pair = o; mask = m; kids = kids }
 
   -- a node's first child in its place
   abbrev pub merged : Tree P → Tree P

@@ -14,7 +14,8 @@ module _ {P : Type 0} where
 
   -- u is the node at path x
   abbrev pub IsNodeAt : Tree P → List ℕ → Tree P → Type 0
-  IsNodeAt t x u = ((x ≡ t.fragment) × (u ≡ t)) ⊎ ((y : List ℕ) × (x ≡ t.fragment ++ y) × IsKidAt t.kids y u)
+  IsNodeAt t x u = ((x ≡ t.fragment) × (u ≡ t))
+      ⊎ ((y : List ℕ) × (x ≡ t.fragment ++ y) × IsKidAt t.kids y u)
 
   -- a node stands at path x
   abbrev pub IsPath : Tree P → List ℕ → Type 0

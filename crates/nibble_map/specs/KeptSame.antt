@@ -6,7 +6,8 @@ use Rattle.std.specs.FinMap as fin
 use Rattle.nibble_map.specs.Maps.{NibbleMap, PairMap, IsStored}
 use Rattle.nibble_map.specs.Kept.{Tree, Kids, none, more, IsTreePlaced, IsFullBelow, entries_at}
 
--- a root: its fragment is empty, the children are at their places, and each node below has a pair or two children
+-- a root: its fragment is empty, the children are at their places, and each node below has a pair
+-- or two children
 pub record IsFullRoot {P : Type 0} (t : Tree P) : Type 0 where
   pub top : t.fragment ≡ []
   pub placed : IsTreePlaced t
@@ -34,10 +35,12 @@ module _ {P : Type 0} (eq : P → P → Bool) where
 
   -- masks aren't compared, since the children's fragments tell them
   abbrev pub same_tree : Tree P → Tree P → Bool
-  same_tree t u = pointwise nat_eq t.fragment u.fragment && (same_pair t.pair u.pair && same_kids t.kids u.kids)
+  same_tree t u = pointwise nat_eq t.fragment u.fragment
+      && (same_pair t.pair u.pair && same_kids t.kids u.kids)
 
 -- whether two lists of rows hold the same lists in the same order, and equal values at each
-abbrev pub same_rows : {K V : Type 0} → (V → V → Bool) → List (List ℕ × (K × V)) → List (List ℕ × (K × V)) → Bool
+abbrev pub same_rows : {K V : Type 0} → (V → V → Bool) → List (List ℕ × (K × V))
+    → List (List ℕ × (K × V)) → Bool
 same_rows eq = pointwise (eq_of_both (on (λ e. e.0) (pointwise nat_eq)) (on (λ e. e.1.1) eq))
 
 -- whether two maps are the same, as a test
@@ -74,10 +77,13 @@ module _ {P Q : Type 0} (R : P → Q → Type 0) where
   AreEntryCopies (e ∷ es) (d ∷ ds) = (d.0 ≡ e.0) × R e.1 d.1 × AreEntryCopies es ds
 
 -- y's key and value are clones of x's, as their types' own `clone` gives them
-abbrev pub IsPairClone : {K V : Type 0} → (K → K → Type 0) → (V → V → Type 0) → K × V → K × V → Type 0
+abbrev pub IsPairClone : {K V : Type 0} → (K → K → Type 0) → (V → V → Type 0) → K × V
+    → K × V → Type 0
 IsPairClone is_key_clone is_value_clone x y = is_key_clone x.0 y.0 × is_value_clone x.1 y.1
 
 -- the same stored lists, and R holds of the pairs at each
-pub record IsMapCopy {P Q : Type 0} (R : P → Q → Type 0) (m : NibbleMap P) (n : NibbleMap Q) : Type 0 where
+pub record IsMapCopy {P Q : Type 0} (R : P → Q → Type 0) (m : NibbleMap P) (n : NibbleMap Q) :
+    Type 0 where
   pub same_lists : (e : List ℕ) → IsStored m e ↔ IsStored n e
-  pub copied_pairs : (e : List ℕ) (x : P) (y : Q) → fin.get m e ≡ Some x → fin.get n e ≡ Some y → R x y
+  pub copied_pairs : (e : List ℕ) (x : P) (y : Q) → fin.get m e ≡ Some x
+      → fin.get n e ≡ Some y → R x y

@@ -34,10 +34,12 @@ IsLeaf m p = (e : List ℕ) → IsStored m e → IsStrictPrefix p e → ⊥
 -- the same stored lists, and at each the values equal by `eq`, the value type's own `==`
 pub record IsSame {K V : Type 0} (eq : V → V → Bool) (m n : PairMap K V) : Type 0 where
   pub same_lists : (e : List ℕ) → IsStored m e ↔ IsStored n e
-  pub same_values : (e : List ℕ) (v w : V) → value_at m e ≡ Some v → value_at n e ≡ Some w → IsTrue (eq v w)
+  pub same_values : (e : List ℕ) (v w : V) → value_at m e ≡ Some v → value_at n e ≡ Some w
+      → IsTrue (eq v w)
 
 -- the same of two lists of entries, entry by entry
-abbrev pub AreSame : {K V : Type 0} → (V → V → Bool) → List (List ℕ × (K × V)) → List (List ℕ × (K × V)) → Type 0
+abbrev pub AreSame : {K V : Type 0} → (V → V → Bool) → List (List ℕ × (K × V))
+    → List (List ℕ × (K × V)) → Type 0
 AreSame eq [] [] = ⊤
 AreSame eq [] (d ∷ ds) = ⊥
 AreSame eq (e ∷ es) [] = ⊥

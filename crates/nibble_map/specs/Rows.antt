@@ -42,7 +42,10 @@ nothing = []
 
 -- seven texts, most of them prefixes of one another
 abbrev pub nested_texts : Entries
-nested_texts = inserted [] (text (codes "abcdefgh") 19 ∷ text (codes "abcdef") 18 ∷ text (codes "abcd") 17 ∷ text (codes "ab") 16 ∷ text (codes "a") 15 ∷ text (codes "acbdef") 30 ∷ text (codes "bcdefgh") 29 ∷ [])
+nested_texts =
+    inserted [] (text (codes "abcdefgh") 19 ∷ text (codes "abcdef") 18 ∷ text (codes "abcd") 17 ∷
+    text (codes "ab") 16 ∷ text (codes "a") 15 ∷ text (codes "acbdef") 30 ∷
+    text (codes "bcdefgh") 29 ∷ [])
 
 abbrev pub a_abc_abd : Entries
 a_abc_abd = inserted [] (text (codes "a") 1 ∷ text (codes "abc") 2 ∷ text (codes "abd") 3 ∷ [])
@@ -58,7 +61,9 @@ abbrev pub abc_abcdef : Entries
 abc_abcdef = inserted [] (text (codes "abc") 3 ∷ text (codes "abcdef") 6 ∷ [])
 
 abbrev pub aba_abb_abc_z : Entries
-aba_abb_abc_z = inserted [] (text (codes "z") 2 ∷ text (codes "aba") 5 ∷ text (codes "abb") 6 ∷ text (codes "abc") 50 ∷ [])
+aba_abb_abc_z =
+    inserted [] (text (codes "z") 2 ∷ text (codes "aba") 5 ∷ text (codes "abb") 6 ∷
+    text (codes "abc") 50 ∷ [])
 
 abbrev pub abcz_abca : Entries
 abcz_abca = inserted [] (text (codes "abczzzz") 1 ∷ text (codes "abcaaaa") 2 ∷ [])
@@ -69,7 +74,8 @@ two_bytes = inserted [] (text (241 ∷ []) 1 ∷ text (242 ∷ []) 2 ∷ [])
 
 -- the signed bytes -2, -1, 0 and 1, in this order with 1, 2, 3 and 4
 abbrev pub signed_bytes : Entries
-signed_bytes = inserted [] (text (254 ∷ []) 1 ∷ text (255 ∷ []) 2 ∷ text (0 ∷ []) 3 ∷ text (1 ∷ []) 4 ∷ [])
+signed_bytes =
+    inserted [] (text (254 ∷ []) 1 ∷ text (255 ∷ []) 2 ∷ text (0 ∷ []) 3 ∷ text (1 ∷ []) 4 ∷ [])
 
 -- 256 and 2 as two bytes, the low one first
 abbrev pub low_bytes_first : Entries
@@ -77,14 +83,18 @@ low_bytes_first = inserted [] (text (0 ∷ 1 ∷ []) 256 ∷ text (2 ∷ 0 ∷ [
 
 -- bär and bären
 abbrev pub umlauts : Entries
-umlauts = inserted [] (text (98 ∷ 195 ∷ 164 ∷ 114 ∷ []) 1 ∷ text (98 ∷ 195 ∷ 164 ∷ 114 ∷ 101 ∷ 110 ∷ []) 2 ∷ [])
+umlauts = inserted []
+    (text (98 ∷ 195 ∷ 164 ∷ 114 ∷ []) 1 ∷ text (98 ∷ 195 ∷ 164 ∷ 114 ∷ 101 ∷ 110 ∷ []) 2 ∷ [])
 
 abbrev pub wow_hella_hellb : Entries
-wow_hella_hellb = inserted [] (text (codes "wow") 0 ∷ text (codes "hella") 1 ∷ text (codes "hellb") 2 ∷ [])
+wow_hella_hellb =
+    inserted [] (text (codes "wow") 0 ∷ text (codes "hella") 1 ∷ text (codes "hellb") 2 ∷ [])
 
 -- lists that are no whole bytes
 abbrev pub odd_nibbles : Entries
-odd_nibbles = inserted [] (([], 0) ∷ (1 ∷ [], 1) ∷ (1 ∷ 2 ∷ 3 ∷ [], 2) ∷ (1 ∷ 2 ∷ 3 ∷ 4 ∷ 5 ∷ [], 3) ∷ (1 ∷ 2 ∷ 4 ∷ [], 4) ∷ [])
+odd_nibbles = inserted []
+    (([], 0) ∷ (1 ∷ [], 1) ∷ (1 ∷ 2 ∷ 3 ∷ [], 2) ∷ (1 ∷ 2 ∷ 3 ∷ 4 ∷ 5 ∷ [], 3) ∷
+    (1 ∷ 2 ∷ 4 ∷ [], 4) ∷ [])
 
 -- n times the letter a
 abbrev pub letters_a : ℕ → List ℕ

@@ -1,4 +1,5 @@
--- A map from lists of nibbles by its entries, which rise by their lists: stored lists, points, and the edits of one entry.
+-- A map from lists of nibbles by its entries, which rise by their lists: stored lists, points, and
+-- the edits of one entry.
 use Rattle.std.specs.Prelude.{◌≡◌, ℕ, ◌≢◌, ◌⊎◌, ◌↔◌, List, map}
 use Rattle.nibble_map.specs.Lists.{IsRising, Has}
 use Rattle.nibble_map.specs.Points as points
@@ -26,11 +27,14 @@ module _ {P : Type 0} where
   IsStem m p = points.IsStem (IsStored m) p
 
 -- n is m with v at e
-pub record IsSetAt {P : Type 0} (m : List (List ℕ × P)) (e : List ℕ) (v : P) (n : List (List ℕ × P)) : Type 0 where
+pub record IsSetAt {P : Type 0} (m : List (List ℕ × P)) (e : List ℕ) (v : P)
+    (n : List (List ℕ × P)) : Type 0 where
   pub rising : IsRising (stored n)
-  pub exactly : (x : List ℕ) (w : P) → Has n (x, w) ↔ (((x ≡ e) × (w ≡ v)) ⊎ ((x ≢ e) × Has m (x, w)))
+  pub exactly : (x : List ℕ) (w : P)
+      → Has n (x, w) ↔ (((x ≡ e) × (w ≡ v)) ⊎ ((x ≢ e) × Has m (x, w)))
 
 -- n is m with nothing at e
-pub record IsCutAt {P : Type 0} (m : List (List ℕ × P)) (e : List ℕ) (n : List (List ℕ × P)) : Type 0 where
+pub record IsCutAt {P : Type 0} (m : List (List ℕ × P)) (e : List ℕ) (n : List (List ℕ × P)) :
+    Type 0 where
   pub rising : IsRising (stored n)
   pub exactly : (x : List ℕ) (w : P) → Has n (x, w) ↔ ((x ≢ e) × Has m (x, w))

@@ -14,10 +14,12 @@ turned [] = []
 turned (a ∷ e) = bit_xor a 8 ∷ e
 
 -- n stores the turned lists of m and no other, and R holds of the pairs at each
-pub record IsTurnedCopy {P Q : Type 0} (R : P → Q → Type 0) (m : NibbleMap P) (n : NibbleMap Q) : Type 0 where
+pub record IsTurnedCopy {P Q : Type 0} (R : P → Q → Type 0) (m : NibbleMap P) (n : NibbleMap Q) :
+    Type 0 where
   pub turned_lists : (e : List ℕ) → IsStored m e ↔ IsStored n (turned e)
   pub only_turned : (e : List ℕ) → IsStored n e ↔ IsStored m (turned e)
-  pub copied_pairs : (e : List ℕ) (x : P) (y : Q) → fin.get m e ≡ Some x → fin.get n (turned e) ≡ Some y → R x y
+  pub copied_pairs : (e : List ℕ) (x : P) (y : Q) → fin.get m e ≡ Some x
+      → fin.get n (turned e) ≡ Some y → R x y
 
 -- the maps have as many points, and their stored lists as many non-empty prefixes
 pub record IsSameFootprint {P Q : Type 0} (m : NibbleMap P) (n : NibbleMap Q) : Type 0 where
@@ -31,13 +33,15 @@ in_half false x = ltb x 8
 
 module _ {P : Type 0} where
   abbrev pub turned_tree : Tree P → Tree P
-  turned_tree t = record { fragment = turned t.fragment; pair = t.pair; mask = t.mask; kids = t.kids }
+  turned_tree t =
+      record { fragment = turned t.fragment; pair = t.pair; mask = t.mask; kids = t.kids }
 
   -- the children whose first nibble is in a half, with that nibble turned over
   abbrev pub turned_half : Bool → Kids P → Kids P
   turned_half high none = none
   turned_half high (more f o m kids others) =
-      cond (in_half high (first f)) (more (turned f) o m kids (turned_half high others)) (turned_half high others)
+      cond (in_half high (first f)) (more (turned f) o m kids (turned_half high others))
+      (turned_half high others)
 
   abbrev pub append : Kids P → Kids P → Kids P
   append none l = l
@@ -48,4 +52,10 @@ module _ {P : Type 0} where
 
   -- a root with each child's first nibble turned over, and the children in their new order
   abbrev pub turned_root : Tree P → Tree P
-  turned_root t = record { fragment = t.fragment; pair = t.pair; mask = rotate_left w16 t.mask 8; kids = turned_kids t.kids }
+  turned_root t =
+      record {
+        fragment = t.fragment;
+        pair = t.pair;
+        mask = rotate_left w16 t.mask 8;
+        kids = turned_kids t.kids;
+      }

@@ -18,7 +18,8 @@ ascending_key w z = nibbles (turned_bytes (signed_bytes w z))
 
 -- of two numbers within the type's bounds the smaller has the smaller encoding
 pub record KeepsAscendingOrder (w : Width) : Type 0 where
-  pub precedes : (a b : ℤ) → FitsSigned w a → FitsSigned w b → a <ℤ b → Precedes (ascending_key w a) (ascending_key w b)
+  pub precedes : (a b : ℤ) → FitsSigned w a → FitsSigned w b → a <ℤ b
+      → Precedes (ascending_key w a) (ascending_key w b)
 
 pub turned_bytes-injective : (a b : List ℕ) → turned_bytes a ≡ turned_bytes b → a ≡ b
 turned_bytes-injective [] [] e = refl

@@ -24,8 +24,10 @@ pub record KeepsByteOrder : Type 0 where
 
 -- of two numbers within the type's bounds the smaller has the smaller encoding
 pub record KeepsUnsignedOrder (w : Width) : Type 0 where
-  pub precedes : (a b : ℕ) → a < b → b < 256 ^ byte_len w → Precedes (unsigned_key w a) (unsigned_key w b)
+  pub precedes : (a b : ℕ) → a < b → b < 256 ^ byte_len w
+      → Precedes (unsigned_key w a) (unsigned_key w b)
 
 -- of two signed numbers within the type's bounds the one that comes first has the smaller encoding
 pub record KeepsSignedOrder (w : Width) : Type 0 where
-  pub precedes : (a b : ℤ) → FitsSigned w a → FitsSigned w b → SignedPrecedes a b → Precedes (signed_key w a) (signed_key w b)
+  pub precedes : (a b : ℤ) → FitsSigned w a → FitsSigned w b → SignedPrecedes a b
+      → Precedes (signed_key w a) (signed_key w b)

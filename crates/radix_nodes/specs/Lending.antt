@@ -31,7 +31,8 @@ module _ {K V : Type 0} where
   -- the value v stood at the path, and w stands there under the same key
   pub record Revalues (path : List ℕ) (v w : V) (old new : Tree (KeyValue K V)) : Type 0 where
     pub key : K
-    pub alters : Rewrites path (Some (record { key = key; value = v })) (Some (record { key = key; value = w })) old new
+    pub alters : Rewrites path (Some (record { key = key; value = v }))
+        (Some (record { key = key; value = w })) old new
 
   abbrev pub keyed : List ℕ × KeyValue K V → List ℕ × K
   keyed e = (e.0, e.1.key)
@@ -55,8 +56,11 @@ module _ {K V : Type 0} where
     pub same : (q : List ℕ) → entries_at q new ≡ entries_at q old
 
   -- the tree stays, and had no node at the path where none was lent
-  abbrev pub KeepsNode : {A : Type 0} → Option A → List ℕ → Tree (KeyValue K V) → Tree (KeyValue K V) → Type 0
-  KeepsNode r path old new = (new ≡ old) × OnNone r ((u : Tree (KeyValue K V)) → IsNodeAt old path u → ⊥)
+  abbrev pub KeepsNode : {A : Type 0} → Option A → List ℕ → Tree (KeyValue K V)
+      → Tree (KeyValue K V) → Type 0
+  KeepsNode r path old new =
+      (new ≡ old) × OnNone r ((u : Tree (KeyValue K V)) → IsNodeAt old path u → ⊥)
 
-  abbrev pub KeepsValue : {A : Type 0} → Option A → List ℕ → Tree (KeyValue K V) → Tree (KeyValue K V) → Type 0
+  abbrev pub KeepsValue : {A : Type 0} → Option A → List ℕ → Tree (KeyValue K V)
+      → Tree (KeyValue K V) → Type 0
   KeepsValue r path old new = IsKept old new × OnNone r (IsHeld old path → ⊥)

@@ -25,7 +25,12 @@ module _ {K : Type 0} {V : Type 0} where
   unboxed (Some b) = Some b.value
 
   abbrev pub tree_step : TrieNode-F K V (Tree (KeyValue K V)) → Tree (KeyValue K V)
-  tree_step x = record { fragment = x.fragment; pair = unboxed x.pair; mask = x.mask; kids = join (map (λ b. b.value) x.children.items) }
+  tree_step x = record {
+    fragment = x.fragment;
+    pair = unboxed x.pair;
+    mask = x.mask;
+    kids = join (map (λ b. b.value) x.children.items);
+  }
 
   unfoldable pub tree_of : TrieNode K V → Tree (KeyValue K V)
   tree_of = fold-TrieNode K V (Tree (KeyValue K V)) tree_step
@@ -46,61 +51,80 @@ module _ {K : Type 0} {V : Type 0} where
   -- a node with the fragment f and nothing else, ready to stand above one with the fragment g
   abbrev pub IsUpper : List ℕ → List ℕ → TrieNode K V → Type 0
   IsUpper f g n = let x = out-TrieNode K V n in
-      (x.fragment ≡ f) × (x.pair ≡ None) × (x.mask ≡ marked 0 (first g)) × (x.children.items ≡ []) × HasRoom 2 n × (first g < 16)
+      (x.fragment ≡ f) × (x.pair ≡ None) × (x.mask ≡ marked 0 (first g)) × (x.children.items ≡ [])
+      × HasRoom 2 n × (first g < 16)
 
-  -- what an insertion of x at p answers, and does to a tree: it is refused only where p holds nothing, and hands x back then
-  abbrev pub EditOutcome : Result (Change K V) (KeyValue K V) → KeyValue K V → List ℕ → Tree (KeyValue K V) → Tree (KeyValue K V) → Type 0
+  -- what an insertion of x at p answers, and does to a tree: it is refused only where p holds
+  -- nothing, and hands x back then
+  abbrev pub EditOutcome : Result (Change K V) (KeyValue K V) → KeyValue K V → List ℕ
+      → Tree (KeyValue K V) → Tree (KeyValue K V) → Type 0
   EditOutcome (Ok put) x p old new = Edits p x put.was put.nodes put.nibbles old new
   EditOutcome (Err y) x p old new = (y ≡ x) × (new ≡ old) × (IsHeld old p → ⊥)
 
-  abbrev pub ReplaceOutcome : Result (Change K V) (KeyValue K V) → KeyValue K V → List ℕ → Tree (KeyValue K V) → Tree (KeyValue K V) → Type 0
+  abbrev pub ReplaceOutcome : Result (Change K V) (KeyValue K V) → KeyValue K V → List ℕ
+      → Tree (KeyValue K V) → Tree (KeyValue K V) → Type 0
   ReplaceOutcome (Ok put) x p old new = Replaces p x put.was put.nodes put.nibbles old new
   ReplaceOutcome (Err y) x p old new = (y ≡ x) × (new ≡ old) × (IsHeld old p → ⊥)
 
   -- the same of one place for a pair
-  abbrev pub SetOutcome : Result (Change K V) (KeyValue K V) → KeyValue K V → Option (Box (KeyValue K V) Global) → Option (Box (KeyValue K V) Global) → Type 0
-  SetOutcome (Ok put) x old new = (unboxed old ≡ put.was) × (unboxed new ≡ Some x) × (put.nodes ≡ 0) × (put.nibbles ≡ 0)
+  abbrev pub SetOutcome : Result (Change K V) (KeyValue K V) → KeyValue K V
+      → Option (Box (KeyValue K V) Global) → Option (Box (KeyValue K V) Global) → Type 0
+  SetOutcome (Ok put) x old new = (unboxed old ≡ put.was) × (unboxed new ≡ Some x) × (put.nodes ≡ 0)
+      × (put.nibbles ≡ 0)
   SetOutcome (Err y) x old new = (y ≡ x) × (new ≡ old) × (unboxed old ≡ None)
 
-  -- what a removal of the pair at p answers, and does to a tree: None where p holds nothing; it is refused only where p holds a pair
-  -- and a path at or below the tree's own has more than 32 nibbles
-  abbrev pub CutOutcome : Result (Option (Taken K V)) Memory → List ℕ → Tree (KeyValue K V) → Tree (KeyValue K V) → Type 0
+  -- what a removal of the pair at p answers, and does to a tree: None where p holds nothing; it is
+  -- refused only where p holds a pair and a path at or below the tree's own has more than 32
+  -- nibbles
+  abbrev pub CutOutcome : Result (Option (Taken K V)) Memory → List ℕ → Tree (KeyValue K V)
+      → Tree (KeyValue K V) → Type 0
   CutOutcome (Ok (Some t)) p old new = Cuts p t.pair t.nodes t.nibbles old new
   CutOutcome (Ok None) p old new = (new ≡ old) × (IsHeld old p → ⊥)
-  CutOutcome (Err e) p old new = (new ≡ old) × IsHeld old p × (32 < length old.fragment + reach old.kids)
+  CutOutcome (Err e) p old new = (new ≡ old) × IsHeld old p
+      × (32 < length old.fragment + reach old.kids)
 
   -- the same at the root, of the paths below it
-  abbrev pub RootOutcome : Result (Option (Taken K V)) Memory → List ℕ → Tree (KeyValue K V) → Tree (KeyValue K V) → Type 0
+  abbrev pub RootOutcome : Result (Option (Taken K V)) Memory → List ℕ → Tree (KeyValue K V)
+      → Tree (KeyValue K V) → Type 0
   RootOutcome (Ok (Some t)) p old new = CutsRoot p t.pair t.nodes t.nibbles old new
   RootOutcome (Ok None) p old new = (new ≡ old) × (IsHeld old p → ⊥)
   RootOutcome (Err e) p old new = (new ≡ old) × IsHeld old p × (32 < reach old.kids)
 
--- the child at i begins with the key's nibble at `depth`, and agrees with the key from there on so far
-pub record IsMet {K V : Type 0} (n : TrieNode K V) (key : List ℕ) (depth i : ℕ) (a : Agreement) : Type 0 where
+-- the child at i begins with the key's nibble at `depth`, and agrees with the key from there on so
+-- far
+pub record IsMet {K V : Type 0} (n : TrieNode K V) (key : List ℕ) (depth i : ℕ) (a : Agreement) :
+    Type 0 where
   pub within : i < vec_len (out-TrieNode K V n).children
   pub fits : depth + a.same < 2 ^ 64
-  pub start : (u : Tree (KeyValue K V)) → IsAt i (tree_of n).kids u → first u.fragment ≡ slice_index key depth
-  pub agrees : (u : Tree (KeyValue K V)) → IsAt i (tree_of n).kids u → Agrees u.fragment (drop depth key) a.same a.compared
+  pub start : (u : Tree (KeyValue K V)) → IsAt i (tree_of n).kids u
+      → first u.fragment ≡ slice_index key depth
+  pub agrees : (u : Tree (KeyValue K V)) → IsAt i (tree_of n).kids u
+      → Agrees u.fragment (drop depth key) a.same a.compared
 
 -- the key goes on to the child at i, and then has `next` nibbles behind it
 pub record IsStep {K V : Type 0} (n : TrieNode K V) (key : List ℕ) (depth i next : ℕ) : Type 0 where
   pub within : i < vec_len (out-TrieNode K V n).children
   pub further : depth < next
   pub inside : next ≤ length key
-  pub path : (u : Tree (KeyValue K V)) → IsAt i (tree_of n).kids u → u.fragment ++ drop next key ≡ drop depth key
+  pub path : (u : Tree (KeyValue K V)) → IsAt i (tree_of n).kids u → u.fragment ++ drop next key
+      ≡ drop depth key
 
--- the path on the way to a key that ends before its nibble at `end`, from a node with the fragment f that stands at `depth`
+-- the path on the way to a key that ends before its nibble at `end`, from a node with the fragment
+-- f that stands at `depth`
 abbrev pub on_way : List ℕ → List ℕ → ℕ → ℕ → List ℕ
 on_way f key depth end = f ++ take (end - depth) (drop depth key)
 
--- u is a node of t, its path is the longest of S that begins the key, and ends before the key's nibble at `end`
-pub record IsDeepest {P : Type 0} (S : List ℕ → Type 0) (t u : Tree P) (key : List ℕ) (depth end : ℕ) : Type 0 where
+-- u is a node of t, its path is the longest of S that begins the key, and ends before the key's
+-- nibble at `end`
+pub record IsDeepest {P : Type 0} (S : List ℕ → Type 0) (t u : Tree P) (key : List ℕ)
+    (depth end : ℕ) : Type 0 where
   pub further : depth ≤ end
   pub inside : end ≤ length key
   pub node : IsNodeAt t (on_way t.fragment key depth end) u
   pub longest : IsLongest S (t.fragment ++ drop depth key) (on_way t.fragment key depth end)
 
--- u is a node of t, and its path, which goes on from p by what its fragment has after so many nibbles, is the shortest that does
+-- u is a node of t, and its path, which goes on from p by what its fragment has after so many
+-- nibbles, is the shortest that does
 pub record IsNearest {P : Type 0} (t u : Tree P) (p : List ℕ) (covered : ℕ) : Type 0 where
   pub within : covered ≤ length u.fragment
   pub node : IsNodeAt t (p ++ drop covered u.fragment) u

@@ -11,7 +11,8 @@ module _ {K V : Type 0} where
   abbrev pub pairs_of : List (List ℕ × KeyValue K V) → List (K × V)
   pairs_of es = map (λ e. pair_of e.1) es
 
-  -- the pairs at and below a node, in the nodes' order: its own first, then those of one child after another
+  -- the pairs at and below a node, in the nodes' order: its own first, then those of one child
+  -- after another
   abbrev pub pairs_in : Tree (KeyValue K V) → List (K × V)
   pairs_in t = pairs_of (entries_at [] t)
 

@@ -39,29 +39,38 @@ module _ {K V : Type 0} where
   CutsBranch b old new = Prunes old.fragment (branch_of b) (nodes_gone b) (nibbles_gone b) old new
 
   abbrev pub CutsRootBranch : Branch K V → Tree (KeyValue K V) → Tree (KeyValue K V) → Type 0
-  CutsRootBranch b old new = PrunesRoot old.fragment (branch_of b) (nodes_gone b) (nibbles_gone b) old new
+  CutsRootBranch b old new =
+      PrunesRoot old.fragment (branch_of b) (nodes_gone b) (nibbles_gone b) old new
 
   -- the child at i was taken with all below it, from a node or from the root
   abbrev pub PrunesChild : ℕ → Pruned K V → Tree (KeyValue K V) → Tree (KeyValue K V) → Type 0
-  PrunesChild i c old new = (u : Tree (KeyValue K V)) → IsAt i old.kids u → Prunes old.fragment u c.nodes c.nibbles old new
+  PrunesChild i c old new = (u : Tree (KeyValue K V)) → IsAt i old.kids u
+      → Prunes old.fragment u c.nodes c.nibbles old new
 
   abbrev pub PrunesRootChild : ℕ → Pruned K V → Tree (KeyValue K V) → Tree (KeyValue K V) → Type 0
-  PrunesRootChild i c old new = (u : Tree (KeyValue K V)) → IsAt i old.kids u → PrunesRoot old.fragment u c.nodes c.nibbles old new
+  PrunesRootChild i c old new = (u : Tree (KeyValue K V)) → IsAt i old.kids u
+      → PrunesRoot old.fragment u c.nodes c.nibbles old new
 
   -- and its pairs are those
   abbrev pub HoldsChild : ℕ → Pruned K V → Tree (KeyValue K V) → Type 0
   HoldsChild i c old = (u : Tree (KeyValue K V)) → IsAt i old.kids u → c.pairs.items ≡ pairs_in u
 
-  -- all that stands at and below p is taken; or nothing stands there; it is refused only where a path stands there
-  abbrev pub PruneOutcome : Result (Option (Pruned K V)) Memory → List ℕ → Tree (KeyValue K V) → Tree (KeyValue K V) → Type 0
+  -- all that stands at and below p is taken; or nothing stands there; it is refused only where a
+  -- path stands there
+  abbrev pub PruneOutcome : Result (Option (Pruned K V)) Memory → List ℕ → Tree (KeyValue K V)
+      → Tree (KeyValue K V) → Type 0
   PruneOutcome (Ok (Some c)) p old new =
-      (u : Tree (KeyValue K V)) × (s : List ℕ) × IsBranch old u p s × Prunes s u c.nodes c.nibbles old new × (c.pairs.items ≡ pairs_in u)
+      (u : Tree (KeyValue K V)) × (s : List ℕ) × IsBranch old u p s
+      × Prunes s u c.nodes c.nibbles old new × (c.pairs.items ≡ pairs_in u)
   PruneOutcome (Ok None) p old new = (new ≡ old) × ((q : List ℕ) → IsPath old q → IsPrefix p q → ⊥)
   PruneOutcome (Err e) p old new = (new ≡ old) × (q : List ℕ) × IsPath old q × IsPrefix p q
 
   -- the same from the root
-  abbrev pub PruneRootOutcome : Result (Option (Pruned K V)) Memory → List ℕ → Tree (KeyValue K V) → Tree (KeyValue K V) → Type 0
+  abbrev pub PruneRootOutcome : Result (Option (Pruned K V)) Memory → List ℕ → Tree (KeyValue K V)
+      → Tree (KeyValue K V) → Type 0
   PruneRootOutcome (Ok (Some c)) p old new =
-      (u : Tree (KeyValue K V)) × (s : List ℕ) × IsBranch old u p s × PrunesRoot s u c.nodes c.nibbles old new × (c.pairs.items ≡ pairs_in u)
-  PruneRootOutcome (Ok None) p old new = (new ≡ old) × ((q : List ℕ) → IsPath old q → IsPrefix p q → ⊥)
+      (u : Tree (KeyValue K V)) × (s : List ℕ) × IsBranch old u p s
+      × PrunesRoot s u c.nodes c.nibbles old new × (c.pairs.items ≡ pairs_in u)
+  PruneRootOutcome (Ok None) p old new =
+      (new ≡ old) × ((q : List ℕ) → IsPath old q → IsPrefix p q → ⊥)
   PruneRootOutcome (Err e) p old new = (new ≡ old) × (q : List ℕ) × IsPath old q × IsPrefix p q

@@ -19,9 +19,11 @@ starts low [] = false
 starts low (x ∷ xs) = not (nat_lt x low) && nat_lt x 16
 
 module _ {K V : Type 0} where
-  -- A node below the path q: each pair's key has its path as its encoding; each child stands at the place that its first nibble
-  -- names, and the masks name these; the paths are the points of the pairs.
-  pub record IsCanonicalAt (encoding : K → List ℕ) (q : List ℕ) (t : Tree (KeyValue K V)) : Type 0 where
+  -- A node below the path q: each pair's key has its path as its encoding; each child stands at the
+  -- place that its first nibble names, and the masks name these; the paths are the points of the
+  -- pairs.
+  pub record IsCanonicalAt (encoding : K → List ℕ) (q : List ℕ) (t : Tree (KeyValue K V)) :
+      Type 0 where
     pub keyed : Each (λ e. encoding e.1.key ≡ e.0) (entries_at q t)
     pub placed : IsTreePlaced t
     pub points : forest.IsCanonicalAt q t.fragment t.pair (plain t.kids)
@@ -37,24 +39,29 @@ module _ {K V : Type 0} where
       (length path == 0) || (not (length fragment == 0) && (is_some pair || nat_lt 1 count))
 
   abbrev pub own_test : (K → List ℕ) → List ℕ → List ℕ → Option (KeyValue K V) → ℕ → Bool
-  own_test encoding path fragment pair count = key_test encoding path pair && form_test path fragment pair count
+  own_test encoding path fragment pair count = key_test encoding path pair
+      && form_test path fragment pair count
 
   -- the children that are left, where those before begin below `low` and have the bits of `seen`
   abbrev pub kids_test : (K → List ℕ) → List ℕ → ℕ → ℕ → ℕ → Kids (KeyValue K V) → Bool
   kids_test encoding p low seen mask none = seen == mask
   kids_test encoding p low seen mask (more f o m kids others) =
-      starts low f && ((own_test encoding (p ++ f) f o (length (firsts kids)) && kids_test encoding (p ++ f) 0 0 m kids)
+      starts low f &&
+      ((own_test encoding (p ++ f) f o (length (firsts kids))
+      && kids_test encoding (p ++ f) 0 0 m kids)
       && kids_test encoding p (first f + 1) (marked seen (first f)) mask others)
 
   abbrev pub node_test : (K → List ℕ) → List ℕ → Tree (KeyValue K V) → Bool
   node_test encoding q t =
-      own_test encoding (q ++ t.fragment) t.fragment t.pair (length (firsts t.kids)) && kids_test encoding (q ++ t.fragment) 0 0 t.mask t.kids
+      own_test encoding (q ++ t.fragment) t.fragment t.pair (length (firsts t.kids))
+      && kids_test encoding (q ++ t.fragment) 0 0 t.mask t.kids
 
   -- the same of a node, and of a list of children; how many pairs they hold
   unfoldable pub test_of : (K → List ℕ) → List ℕ → TrieNode K V → Bool
   test_of encoding q n = node_test encoding q (tree_of n)
 
-  unfoldable pub tests_of : (K → List ℕ) → List ℕ → ℕ → ℕ → ℕ → List (Box (TrieNode K V) Global) → Bool
+  unfoldable pub tests_of : (K → List ℕ) → List ℕ → ℕ → ℕ → ℕ
+      → List (Box (TrieNode K V) Global) → Bool
   tests_of encoding p low seen mask bs = kids_test encoding p low seen mask (kids_of bs)
 
   unfoldable pub pairs_of : TrieNode K V → ℕ

@@ -7,8 +7,10 @@ use Rattle.nibble_map.specs.Maps.{PairMap}
 abbrev pub pairs_in_order : {K V : Type 0} → (K → List ℕ) → List (K × V) → PairMap K V
 pairs_in_order enc ps = fold (λ m p. map.insert m (enc p.0) p) map.empty ps
 
--- the pairs end with one whose encoding isn't among the others', and they have as many encodings as can be counted
+-- the pairs end with one whose encoding isn't among the others', and they have as many encodings as
+-- can be counted
 abbrev pub IsOneTooMany : {K V : Type 0} → (K → List ℕ) → List (K × V) → Type 0
 IsOneTooMany {K} {V} enc ps =
     (others : List (K × V)) × (last : K × V) × (ps ≡ others ++ last ∷ [])
-    × (map.len (pairs_in_order enc others) ≡ 2 ^ 64 - 1) × (map.get (pairs_in_order enc others) (enc last.0) ≡ None)
+    × (map.len (pairs_in_order enc others) ≡ 2 ^ 64 - 1)
+    × (map.get (pairs_in_order enc others) (enc last.0) ≡ None)

@@ -27,13 +27,15 @@ module _ {K V : Type 0} (enc : K → List ℕ) (light : K → Type 0) where
 
   -- The pair is stored. At 2 ^ 64 - 1 pairs it takes an old one's place.
   abbrev pub Inserts : PairMap K V → K → V → Reply V → PairMap K V → Type 0
-  Inserts m k v r n = (r ≡ Old (value_at m (enc k))) × (n ≡ map.insert m (enc k) (k, v)) × (map.len m ≡ 2 ^ 64 - 1 → map.get m (enc k) ≡ None → ⊥)
+  Inserts m k v r n = (r ≡ Old (value_at m (enc k))) × (n ≡ map.insert m (enc k) (k, v))
+      × (map.len m ≡ 2 ^ 64 - 1 → map.get m (enc k) ≡ None → ⊥)
 
   abbrev pub Removes : PairMap K V → K → Reply V → PairMap K V → Type 0
   Removes m k r n = (r ≡ Old (value_at m (enc k))) × (n ≡ map.remove m (enc k))
 
   abbrev pub RemovesBelow : PairMap K V → K → Reply V → PairMap K V → Type 0
-  RemovesBelow m k r n = (vs : _) × (r ≡ Gone vs) × (vs.items ≡ values_below m (enc k)) × (n ≡ without_below m (enc k))
+  RemovesBelow m k r n = (vs : _) × (r ≡ Gone vs) × (vs.items ≡ values_below m (enc k))
+      × (n ≡ without_below m (enc k))
 
   abbrev pub Gets : PairMap K V → K → Reply V → PairMap K V → Type 0
   Gets m k r n = Stays m r n (Found (value_at m (enc k)))
@@ -44,7 +46,8 @@ module _ {K V : Type 0} (enc : K → List ℕ) (light : K → Type 0) where
   MayRefuseInsert m k = light k → IsStored m (enc k) → ⊥
 
   abbrev pub MayRefuseRemove : PairMap K V → K → Type 0
-  MayRefuseRemove m k = light k → (map.get m (enc k) ≡ None) ⊎ ((e : List ℕ) → IsStored m e → IsShort e) → ⊥
+  MayRefuseRemove m k = light k
+      → (map.get m (enc k) ≡ None) ⊎ ((e : List ℕ) → IsStored m e → IsShort e) → ⊥
 
   abbrev pub MayRefuseBelow : PairMap K V → K → Type 0
   MayRefuseBelow m k = light k → map.len (below m (enc k)) ≡ 0 → ⊥
@@ -57,27 +60,39 @@ module _ {K V : Type 0} (enc : K → List ℕ) (light : K → Type 0) where
 
     abbrev pub ViewStep : PairMap K V → ViewCommand K V → Reply V → PairMap K V → Type 0
     ViewStep m (inner.Insert k v) r n =
-        (IsPrefix p (enc k) × Inserts m k v r n) ⊎ (IsOutside m k r n ⊎ (Stays m r n Refused × (light k → IsPrefix p (enc k)) × MayRefuseInsert m k))
+        (IsPrefix p (enc k) × Inserts m k v r n)
+        ⊎ (IsOutside m k r n
+        ⊎ (Stays m r n Refused × (light k → IsPrefix p (enc k)) × MayRefuseInsert m k))
     ViewStep m (inner.Remove k) r n =
-        (IsPrefix p (enc k) × Removes m k r n) ⊎ (IsOutside m k r n ⊎ (Stays m r n Refused × (light k → IsPrefix p (enc k)) × MayRefuseRemove m k))
+        (IsPrefix p (enc k) × Removes m k r n)
+        ⊎ (IsOutside m k r n
+        ⊎ (Stays m r n Refused × (light k → IsPrefix p (enc k)) × MayRefuseRemove m k))
     ViewStep m (inner.RemovePrefix k) r n =
-        (IsPrefix p (enc k) × RemovesBelow m k r n) ⊎ (IsOutside m k r n ⊎ (Stays m r n Refused × (light k → IsPrefix p (enc k)) × MayRefuseBelow m k))
-    ViewStep m (inner.Get k) r n = (IsPrefix p (enc k) × Gets m k r n) ⊎ (IsOutside m k r n ⊎ (Stays m r n Refused × (light k → ⊥)))
+        (IsPrefix p (enc k) × RemovesBelow m k r n)
+        ⊎ (IsOutside m k r n
+        ⊎ (Stays m r n Refused × (light k → IsPrefix p (enc k)) × MayRefuseBelow m k))
+    ViewStep m (inner.Get k) r n = (IsPrefix p (enc k) × Gets m k r n)
+        ⊎ (IsOutside m k r n ⊎ (Stays m r n Refused × (light k → ⊥)))
     ViewStep m inner.Len r n = Stays m r n (Number (map.len (below m p)))
 
     -- one reply to each command, in order, from each map to the next
-    pub data ViewSteps (m : PairMap K V) : List (ViewCommand K V) → List (Reply V) → PairMap K V → Type 0 where
+    pub data ViewSteps (m : PairMap K V) : List (ViewCommand K V) → List (Reply V) → PairMap K V
+        → Type 0 where
       view_start : ViewSteps m [] [] m
-      then_view : {cs : List (ViewCommand K V)} {rs : List (Reply V)} {n : PairMap K V} (c : ViewCommand K V) (r : Reply V) (o : PairMap K V)
+      then_view : {cs : List (ViewCommand K V)} {rs : List (Reply V)} {n : PairMap K V}
+          (c : ViewCommand K V) (r : Reply V) (o : PairMap K V)
           → ViewSteps m cs rs n → ViewStep n c r o → ViewSteps m (cs ++ c ∷ []) (rs ++ r ∷ []) o
 
   -- one command
   abbrev pub Step : PairMap K V → Command K V → Reply V → PairMap K V → Type 0
   Step m (outer.Insert k v) r n = Inserts m k v r n ⊎ (Stays m r n Refused × MayRefuseInsert m k)
   Step m (outer.Remove k) r n = Removes m k r n ⊎ (Stays m r n Refused × MayRefuseRemove m k)
-  Step m (outer.RemovePrefix k) r n = RemovesBelow m k r n ⊎ (Stays m r n Refused × MayRefuseBelow m k)
+  Step m (outer.RemovePrefix k) r n =
+      RemovesBelow m k r n ⊎ (Stays m r n Refused × MayRefuseBelow m k)
   Step m (outer.Get k) r n = Gets m k r n ⊎ (Stays m r n Refused × (light k → ⊥))
-  Step m (outer.Ancestor k) r n = ((v : Option V) × IsValueAbove m (enc k) v × Stays m r n (Found v)) ⊎ (Stays m r n Refused × (light k → ⊥))
+  Step m (outer.Ancestor k) r n =
+      ((v : Option V) × IsValueAbove m (enc k) v × Stays m r n (Found v))
+      ⊎ (Stays m r n Refused × (light k → ⊥))
   Step m outer.Len r n = Stays m r n (Number (map.len m))
   Step m (outer.Within k cs) r n =
       (IsPoint m (enc k) × (rs : _) × (r ≡ Replies rs) × ViewSteps (enc k) m cs.items rs.items n)
@@ -85,7 +100,9 @@ module _ {K V : Type 0} (enc : K → List ℕ) (light : K → Type 0) where
       ⊎ (Stays m r n Refused × (light k → (IsPoint m (enc k) → ⊥) ⊎ (cs.items ≡ []) → ⊥)))
 
   -- one reply to each command, in order, from each map to the next
-  pub data Steps (m : PairMap K V) : List (Command K V) → List (Reply V) → PairMap K V → Type 0 where
+  pub data Steps (m : PairMap K V) : List (Command K V) → List (Reply V) → PairMap K V
+      → Type 0 where
     at_start : Steps m [] [] m
-    then_step : {cs : List (Command K V)} {rs : List (Reply V)} {n : PairMap K V} (c : Command K V) (r : Reply V) (o : PairMap K V)
+    then_step : {cs : List (Command K V)} {rs : List (Reply V)} {n : PairMap K V} (c : Command K V)
+        (r : Reply V) (o : PairMap K V)
         → Steps m cs rs n → Step n c r o → Steps m (cs ++ c ∷ []) (rs ++ r ∷ []) o

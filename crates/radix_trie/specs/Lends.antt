@@ -18,19 +18,25 @@ module _ (K V : RattleType) (key : keys.Ghosts K.Denot) (eq : eqs.Ghosts K.Denot
   trie_row = the_row K V key eq
 
   -- the trie ends as the view's trie does, and at `Err` it stays as it is
-  abbrev pub rests_if_err : MutBor (PairMap K.Denot V.Denot) → {E : Type 0} → Result (SubTrieMut K.Denot V.Denot NibbleVec) E → Fml
+  abbrev pub rests_if_err : MutBor (PairMap K.Denot V.Denot) → {E : Type 0}
+      → Result (SubTrieMut K.Denot V.Denot NibbleVec) E → Fml
   rests_if_err t r = RestsIfErr trie_row t lender_of r (λ n. n ≡ t.now)
 
   abbrev pub view_row : RattleType
   view_row = view.the_row (record { mir = named 1; lft = [] }) K V nibble_vec.the_row key eq
 
-  -- the view ends with the last value written through r at its path, and at `None` it stays as it is
-  abbrev pub lends_own : MutBor (SubTrieMut K.Denot V.Denot NibbleVec) → Option (MutBor V.Denot) → Fml
+  -- the view ends with the last value written through r at its path, and at `None` it stays as it
+  -- is
+  abbrev pub lends_own : MutBor (SubTrieMut K.Denot V.Denot NibbleVec)
+      → Option (MutBor V.Denot) → Fml
   lends_own v r = LendsIf view_row V v r (with_own_value v.now) v.now
 
   -- the trie behind the reference ends so, with that value at e
-  abbrev pub lends_behind : MutBor (MutBor (PairMap K.Denot V.Denot)) → List ℕ → Option (MutBor V.Denot) → Fml
-  lends_behind t e r = LendsIf (MutRef (named 1) [] trie_row) V t r (λ w. record t.now { now = with_value t.now.now e w }) t.now
+  abbrev pub lends_behind : MutBor (MutBor (PairMap K.Denot V.Denot)) → List ℕ
+      → Option (MutBor V.Denot) → Fml
+  lends_behind t e r =
+      LendsIf (MutRef (named 1) [] trie_row) V t r
+      (λ w. record t.now { now = with_value t.now.now e w }) t.now
 
   module _ (t : MutBor (PairMap K.Denot V.Denot)) (e : List ℕ) where
     -- the trie ends with the last value written through r at e, and at `None` it stays as it is

@@ -16,10 +16,13 @@ module _ {K V : Type 0} where
   abbrev pub IsNodeOf : (K → List ℕ) → PairMap K V → List ℕ → Tree (KeyValue K V) → Type 0
   IsNodeOf enc m p u = (t : Tree (KeyValue K V)) × IsRoot enc m t × IsNodeAt t p u
 
-  -- what was found is the node with the shortest path that p begins, and how many nibbles of its fragment lie within p
-  abbrev pub IsPlace : (K → List ℕ) → PairMap K V → List ℕ → Option (Bor (TrieNode K V) × ℕ) → Type 0
+  -- what was found is the node with the shortest path that p begins, and how many nibbles of its
+  -- fragment lie within p
+  abbrev pub IsPlace : (K → List ℕ) → PairMap K V → List ℕ
+      → Option (Bor (TrieNode K V) × ℕ) → Type 0
   IsPlace enc m p found = (t : Tree (KeyValue K V)) × IsRoot enc m t
-      × MatchOption found ((q : List ℕ) → IsPath t q → IsPrefix p q → ⊥) (λ r. IsNearest t (tree_of r.0.now) p r.1)
+      × MatchOption found ((q : List ℕ) → IsPath t q → IsPrefix p q → ⊥)
+      (λ r. IsNearest t (tree_of r.0.now) p r.1)
 
   -- the views at some children of a node at p
   abbrev pub kid_views : PairMap K V → List ℕ → Kids (KeyValue K V) → List (ReadView K V)

@@ -13,7 +13,8 @@ module _ {K V : Type 0} where
   -- children as plain data, without masks
   abbrev pub shown_kids : Kids (KeyValue K V) → Forest (K × V)
   shown_kids none = bare
-  shown_kids (more f o m kids others) = grow f (option_map pair_of o) (shown_kids kids) (shown_kids others)
+  shown_kids (more f o m kids others) =
+      grow f (option_map pair_of o) (shown_kids kids) (shown_kids others)
 
   -- the tree of fragments that a kept root is
   abbrev pub shown : Tree (KeyValue K V) → trees.Tree (K × V)
@@ -31,16 +32,20 @@ abbrev pub AllKeyed : {K V : Type 0} → (K → List ℕ) → List (List ℕ × 
 AllKeyed enc [] = Unit {0}
 AllKeyed enc (e ∷ es) = (e.0 ≡ enc e.1.0) × (length e.0 < 2 ^ 64) × AllKeyed enc es
 
--- The kept root is the canonical tree of the map: its pairs are the map's, each at its key's encoding, its paths are the map's
--- points, each once and in order, and each mask names the children.
-pub record IsRoot {K V : Type 0} (enc : K → List ℕ) (m : PairMap K V) (t : Tree (KeyValue K V)) : Type 0 where
+-- The kept root is the canonical tree of the map: its pairs are the map's, each at its key's
+-- encoding, its paths are the map's points, each once and in order, and each mask names the
+-- children.
+pub record IsRoot {K V : Type 0} (enc : K → List ℕ) (m : PairMap K V) (t : Tree (KeyValue K V)) :
+    Type 0 where
   pub top : t.fragment ≡ []
   pub masked : IsTreePlaced t
   pub keyed : AllKeyed enc (map.entries m)
   pub canonical : IsCanonical (shown t) m
 
--- what every trie keeps of its root, and of its counts of pairs, of nodes, and of the fragments' nibbles
-pub record IsKept {K V : Type 0} (enc : K → List ℕ) (t : Tree (KeyValue K V)) (count nodes nibbles : ℕ) : Type 0 where
+-- what every trie keeps of its root, and of its counts of pairs, of nodes, and of the fragments'
+-- nibbles
+pub record IsKept {K V : Type 0} (enc : K → List ℕ) (t : Tree (KeyValue K V))
+    (count nodes nibbles : ℕ) : Type 0 where
   pub top : t.fragment ≡ []
   pub masked : IsTreePlaced t
   pub full : IsFullBelow t

@@ -11,7 +11,9 @@ pub record ReadView (K V : Type 0) : Type 0 where
   pub path : List ℕ
 
 abbrev pub read_view_code : {K V : Type 0} → Coded K → Coded V → Coded (ReadView K V)
-read_view_code {K} {V} k v = code_by (PairMap K V × List ℕ) (coded× (pair_map_code k v) (coded_list coded_ℕ)) (λ r. (r.map, r.path)) (λ p. record { map = p.0; path = p.1 }) (λ _. refl)
+read_view_code {K} {V} k v =
+    code_by (PairMap K V × List ℕ) (coded× (pair_map_code k v) (coded_list coded_ℕ))
+    (λ r. (r.map, r.path)) (λ p. record { map = p.0; path = p.1 }) (λ _. refl)
 
 module _ {K V : Type 0} where
   -- the paths of views

@@ -33,7 +33,8 @@ module _ {P : Type 0} where
   with_row rs none = rs
   with_row rs (more f o m kids others) = rs ++ more f o m kids others ∷ []
 
-  -- a stack of the capacity `most` has room for all that comes of its rows, of which the first stands at i
+  -- a stack of the capacity `most` has room for all that comes of its rows, of which the first
+  -- stands at i
   abbrev pub HasRoom : ℕ → ℕ → List (Kids P) → Type 0
   HasRoom most i [] = ⊤
   HasRoom most i (r ∷ rs) = (i + levels r ≤ most) × HasRoom most (suc i) rs

@@ -31,7 +31,8 @@ module _ {K V : Type 0} where
 
   -- v, with the value w at its path
   abbrev pub with_own_value : SubTrieMut K V NibbleVec → V → SubTrieMut K V NibbleVec
-  with_own_value v w = record v { trie = record v.trie { now = with_value (map_behind v) (path_of v) w } }
+  with_own_value v w =
+      record v { trie = record v.trie { now = with_value (map_behind v) (path_of v) w } }
 
   -- w is v, but for the trie's map
   pub record SameView (v w : SubTrieMut K V NibbleVec) : Type 0 where

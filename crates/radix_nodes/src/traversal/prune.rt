@@ -24,11 +24,7 @@ pub struct Pruned<K, V> {
 }
 
 // Room for the pairs at and below the child at place i. Where there is none it takes no memory.
-fn room_for<K, V>(
-    node: &TrieNode<K, V>,
-    alloc: Global,
-    i: usize,
-) -> Result<Vec<(K, V)>, Memory>
+fn room_for<K, V>(node: &TrieNode<K, V>, alloc: Global, i: usize) -> Result<Vec<(K, V)>, Memory>
     requires within { i < vec_len (out_of node.now).children }
     requires placed { IsTreePlaced (tree_of node.now) }
     requires small { IsSmall (tree_of node.now) }

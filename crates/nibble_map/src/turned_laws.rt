@@ -1,32 +1,10 @@
-//! Laws of lists whose first nibble is turned over, and of trees and maps that hold them.
+//! The law of lists whose first nibble is turned over.
 
-ghost use Rattle.nibble_map.specs.Kept.{Tree, IsTreePlaced, IsFullBelow, nodes_in, nibbles_in};
-ghost use Rattle.nibble_map.specs.KeptSame.{IsFullRoot, IsMapCopy, IsPairClone, rows_of};
-ghost use Rattle.nibble_map.specs.Maps.{PairMap};
-ghost use Rattle.nibble_map.specs.Turned.{turned, turned_root, IsTurnedCopy};
-ghost use Rattle.std.specs.FinMap as map;
+ghost use Rattle.nibble_map.specs.Turned.{turned};
 ghost use Rattle.std.specs.Prelude.{◌≡◌, List, ℕ, length};
 
 /// Turned over twice, a list is itself again, and its count of nibbles stays.
 pub fn turning_undoes_itself()
     ensures twice { (e : List ℕ) → turned (turned e) ≡ e }
     ensures count { (e : List ℕ) → length (turned e) ≡ length e }
-{}
-
-/// A root whose children's first nibbles are turned over stands at its places and is full where the
-/// root is, and has as many nodes and nibbles.
-pub fn turning_keeps_the_shape<P>()
-    ensures placed { (t : Tree P) → IsTreePlaced t → IsTreePlaced (turned_root t) }
-    ensures full { (t : Tree P) → IsTreePlaced t → IsFullBelow t → IsFullBelow (turned_root t) }
-    ensures nodes { (t : Tree P) → nodes_in (turned_root t).kids ≡ nodes_in t.kids }
-    ensures nibbles { (t : Tree P) → nibbles_in (turned_root t).kids ≡ nibbles_in t.kids }
-{}
-
-/// Where the map of a turned root is copied, the copy stores the turned lists of the root's own map,
-/// each with a clone of its key and of its value.
-pub fn turned_roots_hold_turned_lists<P, K: Clone, V: Clone>()
-    ensures { (row : P → K × V) (t : Tree P) (n : PairMap K V) → IsFullRoot t
-        → IsMapCopy (IsPairClone K.is_clone V.is_clone)
-        (map.from_sorted (rows_of row (turned_root t))) n
-        → IsTurnedCopy (IsPairClone K.is_clone V.is_clone) (map.from_sorted (rows_of row t)) n }
 {}

@@ -1,7 +1,5 @@
-pub mod Cutting
-pub mod Items
-pub mod NibblesOfBytes
-pub mod Order
-pub mod Packing
-pub mod Turning
-pub mod AscendingOrder
+-- The lemmas, in the order in which they are read.
+-- Packed lists of nibbles: their bytes, and how they are cut, joined and turned.
+pub mod NibbleLemmas
+-- Encodings of keys: their order, and keys that are encoded item by item.
+pub mod KeyLemmas

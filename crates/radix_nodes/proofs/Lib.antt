@@ -1,17 +1,13 @@
-pub mod Nodes
-pub mod Steps
-pub mod Removes
-pub mod Placed
-pub mod Searches
-pub mod Sizes
-pub mod Pairs
-pub mod Drains
-pub mod Branches
-pub mod SameNodes
-pub mod Lent
-pub mod Lending
-pub mod FewKids
-pub mod CopiedNodes
-pub mod Soundness
-pub mod Counted
-pub mod AscendingNodes
+-- The lemmas, in the order in which they are read.
+-- From nodes to plain trees, field by field.
+pub mod NodeLemmas
+-- What an insertion, a removal and a cut do at nodes.
+pub mod EditLemmas
+-- What a search below a child tells of the node.
+pub mod SearchLemmas
+-- What is lent of a node, and what a write to it does to the tree above.
+pub mod LendingLemmas
+-- Nodes that are alike, copies of nodes, and copies with their first nibbles turned over.
+pub mod CopyLemmas
+-- The test of a node says whether it is canonical.
+pub mod CheckerLemmas

@@ -1,8 +1,8 @@
 -- What a tree ends as, once a reference that was lent out of it has ended.
 use Rattle.std.specs.Prelude.{◌≡◌, List, ℕ, Option, Some, None, MatchOption, ⊤, map}
-use Rattle.nibble_map.specs.Kept.{Tree, IsTreePlaced, IsFullBelow, entries_at, nodes_in, nibbles_in}
-use Rattle.nibble_map.specs.KeptPaths.{IsNodeAt, IsHeld}
-use Rattle.nibble_map.specs.Alters.{Rewrites}
+use Rattle.masked_tree.specs.Tree.{Tree, IsTreePlaced, IsFullBelow, entries_at, nodes_in, nibbles_in}
+use Rattle.masked_tree.specs.Paths.{IsNodeAt, IsHeld}
+use Rattle.masked_tree.specs.Alters.{Rewrites}
 use Rattle.radix_nodes.specs.declared.trie_node.KeyValue.{KeyValue}
 
 abbrev pub OnNone : {A : Type 0} → Option A → Type 0 → Type 0

@@ -10,14 +10,14 @@ use Rattle.radix_keys.specs.declared.nibbles.Memory.{Memory}
 use Rattle.radix_nodes.specs.declared.trie_node.TrieNode.{TrieNode, out-TrieNode}
 use Rattle.radix_nodes.specs.declared.trie_node.TrieNode.TheOpen.{TrieNode-F}
 use Rattle.radix_nodes.specs.declared.trie_node.TrieNode.TheFolds.{fold-TrieNode}
-use Rattle.nibble_map.specs.Kept.{Tree, Kids, join, IsAt}
-use Rattle.nibble_map.specs.KeptPaths.{IsNodeAt, IsPath, IsHeld, reach}
+use Rattle.masked_tree.specs.Tree.{Tree, Kids, join, IsAt}
+use Rattle.masked_tree.specs.Paths.{IsNodeAt, IsPath, IsHeld, reach}
 use Rattle.nibble_map.specs.Answers.{IsLongest, IsShortest}
-use Rattle.nibble_map.specs.Agreement.{Agrees}
-use Rattle.nibble_map.specs.Masks.{marked}
+use Rattle.masked_tree.specs.Agreement.{Agrees}
+use Rattle.masked_tree.specs.Mask.{marked}
 use Rattle.radix_nodes.specs.declared.traversal.compare.Agreement.{Agreement}
 use Rattle.nibble_map.specs.Trees.{first}
-use Rattle.nibble_map.specs.Alters.{Replaces, Edits, Cuts, CutsRoot}
+use Rattle.masked_tree.specs.Alters.{Replaces, Edits, Cuts, CutsRoot}
 
 module _ {K : Type 0} {V : Type 0} where
   abbrev pub unboxed : Option (Box (KeyValue K V) Global) → Option (KeyValue K V)

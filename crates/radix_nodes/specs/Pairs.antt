@@ -1,6 +1,6 @@
 -- The pairs that nodes keep.
 use Rattle.std.specs.Prelude.{ℕ, List, [], ◌∷◌, map, Option, Some, None}
-use Rattle.nibble_map.specs.Kept.{Tree, Kids, entries_in, entries_at}
+use Rattle.masked_tree.specs.Tree.{Tree, Kids, entries_in, entries_at}
 use Rattle.radix_nodes.specs.declared.trie_node.KeyValue.{KeyValue}
 
 module _ {K V : Type 0} where

@@ -1,8 +1,8 @@
 -- What a cut of all that is at and below a path answers, and does to a tree.
 use Rattle.std.specs.Prelude.{◌≡◌, ℕ, ◌+◌, ◌<◌, ◌^◌, List, [], ◌++◌, length, drop, Option, Some, None, Result, Ok, Err}
-use Rattle.nibble_map.specs.Alters.{Prunes, PrunesRoot}
-use Rattle.nibble_map.specs.Kept.{Tree, IsAt, entries_at, nodes_in, nibbles_in}
-use Rattle.nibble_map.specs.KeptPaths.{IsPath}
+use Rattle.masked_tree.specs.Alters.{Prunes, PrunesRoot}
+use Rattle.masked_tree.specs.Tree.{Tree, IsAt, entries_at, nodes_in, nibbles_in}
+use Rattle.masked_tree.specs.Paths.{IsPath}
 use Rattle.nibble_map.specs.Lists.{IsPrefix}
 use Rattle.radix_keys.specs.declared.nibbles.Memory.{Memory}
 use Rattle.radix_nodes.specs.Nodes.{tree_of, IsNearest}

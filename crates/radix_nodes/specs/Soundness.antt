@@ -3,12 +3,12 @@ use Rattle.std.specs.Prelude.{◌≡◌, ℕ, ◌+◌, Bool, true, false, not, �
 use Rattle.std.specs.Cmp.Lexicographic.{pointwise}
 use Rattle.nibble_map.specs.Lists.{Each}
 use Rattle.nibble_map.specs.Trees.{first}
-use Rattle.nibble_map.specs.Masks.{marked}
+use Rattle.masked_tree.specs.Mask.{marked}
 use Rattle.nibble_map.specs.Canonical as forest
-use Rattle.nibble_map.specs.Kept.{Tree, Kids, none, more, plain, firsts, IsTreePlaced, entries_at}
+use Rattle.masked_tree.specs.Tree.{Tree, Kids, none, more, plain, firsts, IsTreePlaced, entries_at}
 use Rattle.std.specs.declared.boxed.Box.{Box}
 use Rattle.std.specs.declared.alloc.Global.{Global}
-use Rattle.nibble_map.specs.KeptSizes.{pairs_in}
+use Rattle.masked_tree.specs.Sizes.{pairs_in}
 use Rattle.radix_nodes.specs.declared.trie_node.KeyValue.{KeyValue}
 use Rattle.radix_nodes.specs.declared.trie_node.TrieNode.{TrieNode}
 use Rattle.radix_nodes.specs.Nodes.{tree_of, kids_of}

@@ -1,26 +1,15 @@
-pub mod Shown
-pub mod Sizes
-pub mod Changes
-pub mod Held
-pub mod Paths
-pub mod Opened
-pub mod Steps
-pub mod Above
-pub mod Parts
-pub mod Places
-pub mod Prunings
-pub mod ChildViews
-pub mod Keyed
-mod KeyedMaps
-pub mod Nearest
-mod Walks
-mod WalkRows
-mod Present
-mod Roots
-mod Written
-mod ViewParts
-mod Copies
-mod AscendingTries
-mod Texts
-mod Objects
-mod Checked
+-- The lemmas, in the order in which they are read.
+-- A kept root: what it holds, how large it is, and which map it stands for.
+pub mod RootLemmas
+-- What a change of the tree does to the map, and to what the trie keeps.
+pub mod ChangeLemmas
+-- What stands at and below a path, and above it.
+pub mod PathLemmas
+-- The walk: the rows of its stack, and the pairs that it gives.
+pub mod WalkLemmas
+-- A view for writing that is lent: its parts.
+pub mod ViewLemmas
+-- Objects and tries that are built of each other, and the order of texts.
+pub mod JsonLemmas
+-- Steps over no command, and steps between equal maps.
+pub mod CommandLemmas

@@ -1,8 +1,8 @@
 -- Where a path stands in the tree of a trie.
 use Rattle.std.specs.Prelude.{ℕ, List, [], ◌∷◌, ◌++◌, Option, MatchOption}
 use Rattle.std.specs.Borrow.{Bor}
-use Rattle.nibble_map.specs.Kept.{Tree, Kids, none, more}
-use Rattle.nibble_map.specs.KeptPaths.{IsNodeAt, IsPath}
+use Rattle.masked_tree.specs.Tree.{Tree, Kids, none, more}
+use Rattle.masked_tree.specs.Paths.{IsNodeAt, IsPath}
 use Rattle.nibble_map.specs.Lists.{IsPrefix}
 use Rattle.nibble_map.specs.Maps.{PairMap}
 use Rattle.radix_nodes.specs.declared.trie_node.KeyValue.{KeyValue}

@@ -2,7 +2,7 @@
 use Rattle.std.specs.Prelude.{◌≡◌, ℕ, suc, ◌<◌, ◌^◌, List, [], ◌∷◌, length, option_map}
 use Rattle.std.specs.FinMap as map
 use Rattle.nibble_map.specs.Canonical.{IsCanonical}
-use Rattle.nibble_map.specs.Kept.{Tree, Kids, none, more, IsTreePlaced, IsFullBelow, nodes_in, nibbles_in}
+use Rattle.masked_tree.specs.Tree.{Tree, Kids, none, more, IsTreePlaced, IsFullBelow, nodes_in, nibbles_in}
 use Rattle.nibble_map.specs.Maps.{PairMap}
 use Rattle.nibble_map.specs.Trees as trees
 use Rattle.nibble_map.specs.Trees.{Forest, bare, grow}

@@ -2,8 +2,8 @@
 use Rattle.std.specs.Prelude.{ℕ, suc, ◌+◌, ◌≤◌, List, [], ◌∷◌, ◌++◌, map, Option, Some, None, Box, ⊤}
 use Rattle.std.specs.Borrow.{Bor}
 use Rattle.std.specs.declared.alloc.Global.{Global}
-use Rattle.nibble_map.specs.Kept.{Kids, none, more}
-use Rattle.nibble_map.specs.KeptSizes.{levels}
+use Rattle.masked_tree.specs.Tree.{Kids, none, more}
+use Rattle.masked_tree.specs.Sizes.{levels}
 use Rattle.radix_nodes.specs.declared.trie_node.KeyValue.{KeyValue}
 use Rattle.radix_nodes.specs.declared.trie_node.TrieNode.{TrieNode}
 use Rattle.radix_nodes.specs.Nodes.{kids_of}

@@ -1,8 +1,8 @@
 //! Equality of tries.
 ghost use Rattle.std.specs.Prelude.{◌≡◌, ◌↔◌, IsTrue};
-ghost use Rattle.nibble_map.specs.KeptSame.{same_maps};
+ghost use Rattle.nibble_map.specs.Copies.{same_maps};
 ghost use Rattle.nibble_map.specs.MapQueries.{IsSame};
-ghost use Rattle.nibble_map.proofs.SameTests.{maps_per};
+ghost use Rattle.nibble_map.proofs.MapLemmas.SameTests.{maps_per};
 
 use crate::trie::Trie;
 use radix_keys::TrieKey;

@@ -4,7 +4,7 @@ ghost use Rattle.std.specs.Prelude.{[], ◌≡◌, ◌≢◌, ◌↔◌, ◌*◌
 ghost use Rattle.std.specs.Fn.{FnOnceReturnsAtMut, FnOnceTakesAtMut};
 ghost use Rattle.std.specs.Option.{ForSome, option_copied_mut};
 ghost use Rattle.std.specs.FinMap as map;
-ghost use Rattle.nibble_map.specs.KeptSame.{IsMapCopy, IsPairClone};
+ghost use Rattle.nibble_map.specs.Copies.{IsMapCopy, IsPairClone};
 ghost use Rattle.nibble_map.specs.Lists.{Counts};
 ghost use Rattle.nibble_map.specs.Maps.{IsStored, IsPoint, IsStem, below, value_at, with_value, without_below};
 ghost use Rattle.nibble_map.specs.Nibbles.{IsShort};

@@ -6,9 +6,9 @@ use Rattle.nibble_map.specs.Computed.{points, prefixes}
 use Rattle.nibble_map.specs.Lists.{Counts}
 use Rattle.nibble_map.specs.Maps.{PairMap, IsPoint, IsStem}
 use Rattle.nibble_map.specs.Stored as stored
-use Rattle.nibble_map.proofs.Computed.{points_list, prefixes_list}
-use Rattle.nibble_map.proofs.Moves.{Within, point_moves, stem_moves, lists_moves}
-use Rattle.nibble_map.proofs.Unique.{Counts-unique}
+use Rattle.nibble_map.proofs.ComputedLemmas.Points.{points_list, prefixes_list}
+use Rattle.nibble_map.proofs.PointLemmas.Moves.{Within, point_moves, stem_moves, lists_moves}
+use Rattle.nibble_map.proofs.ListLemmas.Unique.{Counts-unique}
 use Rattle.trie_tool.specs.Numbers.{texts_of}
 use Rattle.trie_tool.proofs.Texts.{listed, unlisted}
 

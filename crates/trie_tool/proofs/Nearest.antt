@@ -8,12 +8,12 @@ use Rattle.nibble_map.specs.Lists.{is_prefix}
 use Rattle.nibble_map.specs.MapQueries.{IsRawDescendant}
 use Rattle.nibble_map.specs.Maps.{PairMap, below}
 use Rattle.nibble_map.specs.Stored as stored
-use Rattle.nibble_map.proofs.Bridge.{from_sorted_none}
-use Rattle.nibble_map.proofs.ComputedAnswers.{ancestor_is}
-use Rattle.nibble_map.proofs.Descendant.{below_descendant, below_nothing}
-use Rattle.nibble_map.proofs.Mapped.{mapped_retained, mapped_entries}
-use Rattle.nibble_map.proofs.Moves.{ancestor_moves}
-use Rattle.nibble_map.proofs.Parted.{ancestor_unique}
+use Rattle.nibble_map.proofs.MapLemmas.Bridge.{from_sorted_none}
+use Rattle.nibble_map.proofs.ComputedLemmas.Answers.{ancestor_is}
+use Rattle.nibble_map.proofs.PointLemmas.Descendant.{below_descendant, below_nothing}
+use Rattle.nibble_map.proofs.MapLemmas.Mapped.{mapped_retained, mapped_entries}
+use Rattle.nibble_map.proofs.PointLemmas.Moves.{ancestor_moves}
+use Rattle.nibble_map.proofs.ListLemmas.Parted.{ancestor_unique}
 use Rattle.radix_trie.specs.Views.{IsValueAbove, pairs_below, value_of}
 use Rattle.trie_tool.specs.Numbers.{text, texts_of}
 use Rattle.trie_tool.proofs.Texts.{listed, unlisted, texts_value}

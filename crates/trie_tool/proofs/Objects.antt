@@ -8,12 +8,12 @@ use Rattle.serde_json.specs.declared.value.Value.{Value}
 use Rattle.nibble_map.specs.Lists.{Each}
 use Rattle.nibble_map.specs.Maps.{PairMap, mapped, walk}
 use Rattle.nibble_map.specs.Nibbles.{nibbles}
-use Rattle.nibble_map.proofs.Mapped.{mapped_entries}
+use Rattle.nibble_map.proofs.MapLemmas.Mapped.{mapped_entries}
 use Rattle.radix_trie.specs.Views.{pairs_below}
-use Rattle.radix_trie.proofs.Places.{below_nil}
+use Rattle.radix_trie.proofs.PathLemmas.Places.{below_nil}
 use Rattle.trie_tool.specs.Numbers.{datum, data_of, text, texts_of}
 use Rattle.trie_tool.specs.Request.{members}
-use Rattle.nibble_map.proofs.Rebuilt.{put_rows, rebuilt}
+use Rattle.nibble_map.proofs.MapLemmas.Rebuilt.{put_rows, rebuilt}
 
 -- a text's bytes, and its number as JSON
 abbrev as_datum : List ℕ × ℕ → List ℕ × Data

@@ -5,9 +5,9 @@ use Rattle.std.specs.declared.alloc.Global.{Global}
 use Rattle.nibble_map.specs.Lists.{is_prefix}
 use Rattle.nibble_map.specs.Maps.{PairMap, IsStored, value_at, without_below}
 use Rattle.nibble_map.specs.Stored as stored
-use Rattle.nibble_map.proofs.MapEdits.{held}
-use Rattle.nibble_map.proofs.Moves.{Within}
-use Rattle.nibble_map.proofs.Mapped.{mapped_len, mapped_get, mapped_stored, mapped_empty, mapped_insert, mapped_remove, mapped_retained}
+use Rattle.nibble_map.proofs.MapLemmas.Edits.{held}
+use Rattle.nibble_map.proofs.PointLemmas.Moves.{Within}
+use Rattle.nibble_map.proofs.MapLemmas.Mapped.{mapped_len, mapped_get, mapped_stored, mapped_empty, mapped_insert, mapped_remove, mapped_retained}
 use Rattle.trie_tool.specs.Numbers.{text, texts_of}
 
 number_kept : (o : Option (String Global × ℕ)) → option_map (λ p. p.1) (option_map text o) ≡ option_map (λ p. p.1) o

@@ -7,7 +7,7 @@ use super::*;
 type Node = TrieNode<Nibblet, ()>;
 
 /// A node.
-#[tactic(auto, using(crate::proofs::Counted::pairs_rolled))]
+#[tactic(auto, using(crate::proofs::NodeLemmas::Counts::pairs_rolled))]
 fn node(
     alloc: Global,
     fragment: &[u8],
@@ -34,7 +34,7 @@ fn node(
 }
 
 /// Nodes without children, each with a fragment and a key.
-#[tactic(auto, using(crate::proofs::Counted::pairs_pushed, crate::proofs::Counted::pairs_none))]
+#[tactic(auto, using(crate::proofs::NodeLemmas::Counts::pairs_pushed, crate::proofs::NodeLemmas::Counts::pairs_none))]
 fn leaves(alloc: Global, leaves: &[(&[u8], &[u8])]) -> Result<Vec<Box<Node>>, Memory>
     ensures { IfOk result (λ bs. pairs_of_all bs.items ≤ length leaves.now) }
 {
@@ -47,7 +47,7 @@ fn leaves(alloc: Global, leaves: &[(&[u8], &[u8])]) -> Result<Vec<Box<Node>>, Me
 }
 
 /// What the check says of a node at a path.
-#[tactic(auto, using(crate::proofs::Soundness::pairs_at))]
+#[tactic(auto, using(crate::proofs::CheckerLemmas::pairs_at))]
 fn checked(
     alloc: Global,
     path: &[u8],

@@ -1,5 +1,5 @@
 //! A long way down: lists each of which is the one before and one nibble more.
-ghost use Rattle.nibble_map.specs.Kept.{IsTreePlaced};
+ghost use Rattle.masked_tree.specs.Tree.{IsTreePlaced};
 ghost use Rattle.radix_nodes.specs.Nodes.{tree_of};
 
 use super::*;
@@ -26,7 +26,7 @@ fn ones(alloc: Global, length: usize) -> Result<Nibblet, Memory> {
 }
 
 /// Puts all lists, the shortest first: each comes with one node and one nibble.
-#[tactic(auto, using(crate::proofs::Placed::edit_placed))]
+#[tactic(auto, using(crate::proofs::EditLemmas::Placed::edit_placed))]
 fn put_all(rt: &impl Abort, root: &mut Node, alloc: Global) -> Result<(), Memory>
     requires { IsTreePlaced (tree_of root.old) }
     ensures { IsTreePlaced (tree_of root.new) }
@@ -57,7 +57,7 @@ fn find_all(rt: &impl Abort, root: &Node, alloc: Global) -> Result<(), Memory>
 }
 
 /// Takes a list, which goes with one node and so many nibbles.
-#[tactic(auto, using(crate::proofs::Placed::root_placed))]
+#[tactic(auto, using(crate::proofs::EditLemmas::Placed::root_placed))]
 fn take_one(
     rt: &impl Abort,
     root: &mut Node,

@@ -2,7 +2,7 @@
 //!
 //! Each test passes as it stands, and also where one growth of it is refused, whichever one: the tree is as before then, node for
 //! node, what was handed in comes back, and a second try succeeds.
-ghost use Rattle.nibble_map.specs.Kept.{IsTreePlaced};
+ghost use Rattle.masked_tree.specs.Tree.{IsTreePlaced};
 ghost use Rattle.radix_nodes.specs.Nodes.{tree_of};
 
 use super::*;
@@ -67,7 +67,7 @@ fn list_of(alloc: Global, key: &'static str) -> Result<Nibblet, Memory> {
 }
 
 /// Inserts a pair whose key is absent, and tries again where memory is refused: until then the tree has the shapes of `before`.
-#[tactic(auto, using(crate::proofs::Placed::edit_placed))]
+#[tactic(auto, using(crate::proofs::EditLemmas::Placed::edit_placed))]
 fn insert(
     rt: &impl Abort,
     root: &mut Node,
@@ -94,7 +94,7 @@ fn insert(
 }
 
 /// Removes the pair of a key, and tries again where memory is refused.
-#[tactic(auto, using(crate::proofs::Placed::root_placed))]
+#[tactic(auto, using(crate::proofs::EditLemmas::Placed::root_placed))]
 fn remove(
     rt: &impl Abort,
     root: &mut Node,

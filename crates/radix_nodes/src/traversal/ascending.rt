@@ -1,9 +1,9 @@
 //! A copy of a root for keys that turn the highest bit of their encodings over.
 ghost use Rattle.std.specs.Prelude.{◌≡◌, ◌<◌, length, IfOk, OnOk, IsOk, None};
-ghost use Rattle.nibble_map.specs.Kept.{Kids, none, IsTreePlaced};
-ghost use Rattle.nibble_map.specs.KeptSame.{AreKidCopies, IsCopy};
+ghost use Rattle.masked_tree.specs.Tree.{Kids, none, IsTreePlaced};
+ghost use Rattle.masked_tree.specs.Same.{AreKidCopies, IsCopy};
 ghost use Rattle.nibble_map.specs.Nibbles.{IsShort};
-ghost use Rattle.nibble_map.specs.Turned.{append, in_half, turned_half, turned_root, turned_tree};
+ghost use Rattle.masked_tree.specs.Turned.{append, in_half, turned_half, turned_root, turned_tree};
 ghost use Rattle.radix_nodes.specs.Copies.{IsKeyValueCopy};
 ghost use Rattle.radix_nodes.specs.Nodes.{tree_of, fragment_of, kids_of};
 ghost use Rattle.radix_nodes.specs.declared.trie_node.KeyValue.{KeyValue};

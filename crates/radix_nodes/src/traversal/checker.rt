@@ -1,6 +1,6 @@
 //! The check of nodes, broken ones too.
 ghost use Rattle.std.specs.Prelude.{◌≡◌, ◌<◌, ◌^◌, ◌↔◌, ◌++◌, length, cond, IfOk, IsTrue, vec_len};
-ghost use Rattle.nibble_map.specs.Kept.{entries_at};
+ghost use Rattle.masked_tree.specs.Tree.{entries_at};
 ghost use Rattle.radix_nodes.specs.Nodes.{tree_of, out_of, unboxed};
 ghost use Rattle.radix_nodes.specs.Soundness.{IsCanonicalAt, key_test, form_test, test_of, pairs_of};
 
@@ -44,7 +44,7 @@ fn has_key<K: TrieKey, V>(
 }
 
 // Whether the node may be left at the path with what it has.
-#[tactic(auto, using(crate::proofs::Soundness::unboxed_some))]
+#[tactic(auto, using(crate::proofs::CheckerLemmas::unboxed_some))]
 fn has_form<K, V>(node: &TrieNode<K, V>, path: &Nibblet) -> bool
     ensures { result
         ≡ form_test path.now (out_of node.now).fragment (unboxed (out_of node.now).pair)
@@ -55,7 +55,7 @@ fn has_form<K, V>(node: &TrieNode<K, V>, path: &Nibblet) -> bool
 }
 
 // The check as a test.
-#[tactic(auto, using(crate::proofs::Soundness::test_out, crate::proofs::Soundness::pairs_out, crate::proofs::Soundness::next_test, crate::proofs::Soundness::next_pairs, crate::proofs::Soundness::tests_end, crate::proofs::Soundness::pairs_end, crate::proofs::Sizes::own_some, crate::proofs::Sizes::own_none))]
+#[tactic(auto, using(crate::proofs::CheckerLemmas::test_out, crate::proofs::CheckerLemmas::pairs_out, crate::proofs::CheckerLemmas::next_test, crate::proofs::CheckerLemmas::next_pairs, crate::proofs::CheckerLemmas::tests_end, crate::proofs::CheckerLemmas::pairs_end, crate::proofs::NodeLemmas::Sizes::own_some, crate::proofs::NodeLemmas::Sizes::own_none))]
 fn test<K: TrieKey, V>(
     node: &TrieNode<K, V>,
     alloc: Global,

@@ -1,8 +1,8 @@
 //! A copy of a tree.
 ghost use Rattle.std.specs.Prelude.{◌≡◌, IfOk, IsOk, None};
-ghost use Rattle.nibble_map.specs.Kept.{none};
+ghost use Rattle.masked_tree.specs.Tree.{none};
 ghost use Rattle.nibble_map.specs.Nibbles.{IsShort};
-ghost use Rattle.nibble_map.specs.KeptSame.{IsPairCopy, IsCopy};
+ghost use Rattle.masked_tree.specs.Same.{IsPairCopy, IsCopy};
 ghost use Rattle.radix_nodes.specs.Copies.{IsKeyValueCopy};
 ghost use Rattle.radix_nodes.specs.Nodes.{tree_of, fragment_of, unboxed};
 

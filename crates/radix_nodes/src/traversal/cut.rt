@@ -1,7 +1,7 @@
 //! A child is cut off with all below it. What may fail comes first, so a refusal leaves the tree as it was.
 ghost use Rattle.std.specs.Prelude.{◌≡◌, ◌≢◌, ◌+◌, ◌<◌, ◌≤◌, ◌⊎◌, [], ◌++◌, length, IfOk, OnErr, IsSome, MatchBool, None, vec_len};
-ghost use Rattle.nibble_map.specs.Kept.{IsTreePlaced, IsAt};
-ghost use Rattle.nibble_map.specs.KeptPaths.{reach};
+ghost use Rattle.masked_tree.specs.Tree.{IsTreePlaced, IsAt};
+ghost use Rattle.masked_tree.specs.Paths.{reach};
 ghost use Rattle.radix_nodes.specs.Nodes.{tree_of, fragment_of, out_of, unboxed};
 ghost use Rattle.radix_nodes.specs.Prunes.{branch_of, CutsBranch, CutsRootBranch};
 

@@ -1,6 +1,6 @@
 //! The pairs of a branch that was cut off, moved out of its nodes.
 ghost use Rattle.std.specs.Prelude.{◌≡◌, ◌+◌, ◌≤◌, ◌++◌, [], length, vec_len, vec_capacity};
-ghost use Rattle.nibble_map.specs.Kept.{entries_at, nodes_in, nibbles_in};
+ghost use Rattle.masked_tree.specs.Tree.{entries_at, nodes_in, nibbles_in};
 ghost use Rattle.radix_nodes.specs.Nodes.{tree_of, unboxed};
 ghost use Rattle.radix_nodes.specs.Pairs.{own_pair, pairs_in};
 ghost use Rattle.radix_nodes.specs.Prunes.{IsSmall};

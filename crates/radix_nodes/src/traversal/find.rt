@@ -2,8 +2,8 @@
 ghost use Rattle.std.specs.Prelude.{◌≡◌, ◌≤◌, ◌++◌, [], length, drop, MatchOption};
 ghost use Rattle.nibble_map.specs.Queries.{IsCompared};
 ghost use Rattle.nibble_map.specs.Trees.{walked};
-ghost use Rattle.nibble_map.specs.Kept.{IsTreePlaced, IsFullBelow, entries_at, plain};
-ghost use Rattle.nibble_map.specs.KeptPaths.{IsNodeAt};
+ghost use Rattle.masked_tree.specs.Tree.{IsTreePlaced, IsFullBelow, entries_at, plain};
+ghost use Rattle.masked_tree.specs.Paths.{IsNodeAt};
 ghost use Rattle.radix_nodes.specs.Nodes.{tree_of, fragment_of};
 
 use crate::traversal::step::{meet, step};

@@ -1,8 +1,8 @@
 //! Insertion. All that may fail comes first, so a refusal leaves the tree as it was.
 ghost use Rattle.std.specs.Prelude.{◌≡◌, ◌≢◌, ◌<◌, ◌≤◌, [], ◌++◌, ℕ, length, take, drop, slice_index, IfOk, IfErr, Err};
-ghost use Rattle.nibble_map.specs.Masks.{IsPlaceOf};
-ghost use Rattle.nibble_map.specs.Kept.{IsTreePlaced, firsts};
-ghost use Rattle.nibble_map.specs.KeptEdits.{leaf};
+ghost use Rattle.masked_tree.specs.Mask.{IsPlaceOf};
+ghost use Rattle.masked_tree.specs.Tree.{IsTreePlaced, firsts};
+ghost use Rattle.masked_tree.specs.Edits.{leaf};
 ghost use Rattle.radix_nodes.specs.Nodes.{tree_of, fragment_of, IsUpper, EditOutcome, ReplaceOutcome, SetOutcome};
 
 use crate::traversal::compare::compare;

@@ -1,8 +1,8 @@
 //! Lending out of the tree.
 ghost use Rattle.std.specs.Prelude.{◌≡◌, ◌<◌, ◌≤◌, ◌++◌, length, drop, slice_index_or, vec_len};
 ghost use Rattle.std.specs.Borrow.{sem};
-ghost use Rattle.nibble_map.specs.Kept.{IsTreePlaced};
-ghost use Rattle.nibble_map.specs.KeptPaths.{IsStuck};
+ghost use Rattle.masked_tree.specs.Tree.{IsTreePlaced};
+ghost use Rattle.masked_tree.specs.Paths.{IsStuck};
 ghost use Rattle.radix_nodes.specs.Nodes.{tree_of, fragment_of, out_of, IsStep};
 ghost use Rattle.radix_nodes.specs.Loans.{LendsChildBox, LendsUnboxed, LendsPair, LendsNode, LendsValue, IsLentPair};
 

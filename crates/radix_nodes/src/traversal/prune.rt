@@ -1,7 +1,7 @@
 //! All pairs at and below a path are taken out. What may fail comes first, so a refusal leaves the tree as it was.
 ghost use Rattle.std.specs.Prelude.{◌≡◌, ◌≢◌, ◌+◌, ◌<◌, ◌≤◌, ◌++◌, [], length, drop, IfOk, IsOk, OnErr, vec_len, vec_capacity};
-ghost use Rattle.nibble_map.specs.Alters.{PrunesRoot};
-ghost use Rattle.nibble_map.specs.Kept.{IsTreePlaced, IsAt, entries_at};
+ghost use Rattle.masked_tree.specs.Alters.{PrunesRoot};
+ghost use Rattle.masked_tree.specs.Tree.{IsTreePlaced, IsAt, entries_at};
 ghost use Rattle.radix_nodes.specs.Nodes.{tree_of, fragment_of, out_of};
 ghost use Rattle.radix_nodes.specs.Pairs.{pairs_in};
 ghost use Rattle.radix_nodes.specs.Prunes.{IsSmall, branch_of, nodes_gone, nibbles_gone, HoldsChild, PrunesChild, PrunesRootChild, PruneOutcome, PruneRootOutcome};

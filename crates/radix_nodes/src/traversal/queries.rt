@@ -2,8 +2,8 @@
 //! node with the fragment f stands at `depth`.
 ghost use Rattle.std.specs.Prelude.{◌≡◌, ◌≤◌, ◌++◌, length, drop, MatchOption};
 ghost use Rattle.nibble_map.specs.Lists.{IsPrefix};
-ghost use Rattle.nibble_map.specs.Kept.{IsTreePlaced};
-ghost use Rattle.nibble_map.specs.KeptPaths.{IsNodeAt, IsPath, IsHeld};
+ghost use Rattle.masked_tree.specs.Tree.{IsTreePlaced};
+ghost use Rattle.masked_tree.specs.Paths.{IsNodeAt, IsPath, IsHeld};
 ghost use Rattle.radix_nodes.specs.Nodes.{tree_of, fragment_of, IsDeepest, IsNearest};
 
 use crate::traversal::step::{meet, step};

@@ -1,6 +1,6 @@
 //! Removal. All that may fail comes first, so a refusal leaves the tree as it was.
 ghost use Rattle.std.specs.Prelude.{◌≡◌, ◌≢◌, ◌<◌, ◌≤◌, [], ◌++◌, length, drop, MatchOption, Some, None, vec_len};
-ghost use Rattle.nibble_map.specs.Kept.{IsTreePlaced, IsAt, none};
+ghost use Rattle.masked_tree.specs.Tree.{IsTreePlaced, IsAt, none};
 ghost use Rattle.radix_nodes.specs.Nodes.{tree_of, fragment_of, out_of, unboxed, CutOutcome, RootOutcome};
 
 use crate::traversal::cut::{Branch, cut_child, cut_root_child, joined_with};

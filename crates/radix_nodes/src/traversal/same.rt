@@ -1,6 +1,6 @@
 //! Equality of two trees, side by side, without memory.
 ghost use Rattle.std.specs.Prelude.{◌≡◌};
-ghost use Rattle.nibble_map.specs.KeptSame.{same_pair, same_tree};
+ghost use Rattle.masked_tree.specs.Same.{same_pair, same_tree};
 ghost use Rattle.radix_nodes.specs.Nodes.{tree_of, unboxed};
 ghost use Rattle.radix_nodes.specs.SameValues.{same_values};
 

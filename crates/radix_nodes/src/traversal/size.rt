@@ -1,13 +1,13 @@
 //! How much a node holds.
 ghost use Rattle.std.specs.Prelude.{◌≡◌, ◌<◌, ◌≤◌, ◌^◌, [], suc, length, MatchOption};
-ghost use Rattle.nibble_map.specs.Kept.{entries_at};
-ghost use Rattle.nibble_map.specs.KeptSizes.{levels};
+ghost use Rattle.masked_tree.specs.Tree.{entries_at};
+ghost use Rattle.masked_tree.specs.Sizes.{levels};
 ghost use Rattle.radix_nodes.specs.Nodes.{tree_of};
 
 use crate::trie_node::{TrieNode, has_pair};
 
 /// How many pairs stand at and below the node.
-#[tactic(auto, using(crate::proofs::Sizes::pairs_out, crate::proofs::Sizes::pairs_next, crate::proofs::Sizes::own_some, crate::proofs::Sizes::own_none))]
+#[tactic(auto, using(crate::proofs::NodeLemmas::Sizes::pairs_out, crate::proofs::NodeLemmas::Sizes::pairs_next, crate::proofs::NodeLemmas::Sizes::own_some, crate::proofs::NodeLemmas::Sizes::own_none))]
 pub fn count_pairs<K, V>(node: &TrieNode<K, V>) -> usize
     requires { length (entries_at [] (tree_of node.now)) < 2 ^ 64 }
     ensures { result ≡ length (entries_at [] (tree_of node.now)) }
@@ -20,7 +20,7 @@ pub fn count_pairs<K, V>(node: &TrieNode<K, V>) -> usize
 }
 
 /// How many nodes stand on the longest way down from the node, with it. None: no `usize` can say it.
-#[tactic(auto, using(crate::proofs::Sizes::levels_out, crate::proofs::Sizes::levels_next))]
+#[tactic(auto, using(crate::proofs::NodeLemmas::Sizes::levels_out, crate::proofs::NodeLemmas::Sizes::levels_next))]
 pub fn height<K, V>(node: &TrieNode<K, V>) -> Option<usize>
     ensures { MatchOption result (2 ^ 64 ≤ suc (levels (tree_of node.now).kids))
         (λ h. h ≡ suc (levels (tree_of node.now).kids)) }

@@ -1,8 +1,8 @@
 //! A step down to a child.
 ghost use Rattle.std.specs.Prelude.{◌≡◌, ◌<◌, ◌≤◌, drop, length, slice_index, MatchOption};
-ghost use Rattle.nibble_map.specs.Masks.{bit_of};
-ghost use Rattle.nibble_map.specs.Kept.{IsTreePlaced, firsts};
-ghost use Rattle.nibble_map.specs.KeptPaths.{IsStuck};
+ghost use Rattle.masked_tree.specs.Mask.{bit_of};
+ghost use Rattle.masked_tree.specs.Tree.{IsTreePlaced, firsts};
+ghost use Rattle.masked_tree.specs.Paths.{IsStuck};
 ghost use Rattle.radix_nodes.specs.Nodes.{tree_of, IsMet, IsStep};
 
 use crate::traversal::compare::{Agreement, compare};

@@ -1,8 +1,8 @@
 //! Linking and unlinking of nodes: none of these takes memory.
 ghost use Rattle.std.specs.Prelude.{◌≡◌, ◌+◌, ◌<◌, ◌≤◌, ℕ, None, vec_len};
 ghost use Rattle.nibble_map.specs.Trees.{first};
-ghost use Rattle.nibble_map.specs.Kept.{IsTreePlaced, IsAt};
-ghost use Rattle.nibble_map.specs.KeptEdits.{with_new_kid, without_kid, lowered, merged};
+ghost use Rattle.masked_tree.specs.Tree.{IsTreePlaced, IsAt};
+ghost use Rattle.masked_tree.specs.Edits.{with_new_kid, without_kid, lowered, merged};
 ghost use Rattle.radix_nodes.specs.Nodes.{tree_of, fragment_of, out_of, unboxed, IsUpper, HasRoom};
 
 use crate::trie_node::mask::{mark, unmark};

@@ -1,6 +1,6 @@
 //! Masks of sixteen bits, one for each nibble.
 ghost use Rattle.std.specs.Prelude.{◌≡◌, ◌≢◌, ◌<◌, ◌∷◌, [], List, ℕ, Err};
-ghost use Rattle.nibble_map.specs.Masks.{IsMask, IsRisingFrom, IsPlaceOf, marked, cleared};
+ghost use Rattle.masked_tree.specs.Mask.{IsMask, IsRisingFrom, IsPlaceOf, marked, cleared};
 
 /// Where the child that begins with a nibble stands, or else would stand.
 pub fn place(mask: u16, nibble: u8) -> Result<usize, usize>

@@ -1,6 +1,6 @@
 //! Nodes.
 ghost use Rattle.std.specs.Prelude.{◌≡◌, ◌<◌, IsSome, None, MatchBool, vec_len};
-ghost use Rattle.nibble_map.specs.KeptEdits.{empty};
+ghost use Rattle.masked_tree.specs.Edits.{empty};
 ghost use Rattle.radix_nodes.specs.Nodes.{tree_of, out_of, unboxed};
 
 pub mod links;
@@ -29,7 +29,7 @@ pub struct TrieNode<K, V> {
 
 impl<K, V> TrieNode<K, V> {
     /// A node with an empty fragment, no pair and no child.
-    #[tactic(auto, using(crate::proofs::Nodes::new_is))]
+    #[tactic(auto, using(crate::proofs::NodeLemmas::Nodes::new_is))]
     pub fn new(alloc: Global) -> TrieNode<K, V>
         ensures { tree_of result ≡ empty }
     {

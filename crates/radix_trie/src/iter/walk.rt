@@ -1,8 +1,8 @@
 //! The ordered walk over keys and values.
 ghost use Rattle.std.specs.Prelude.{◌≡◌, ◌+◌, ◌<◌, ◌≤◌, ◌^◌, [], IfOk, length, vec_capacity};
 ghost use Rattle.std.specs.Iterator.{YieldsFirstBy, item_count};
-ghost use Rattle.nibble_map.specs.Kept.{entries_at};
-ghost use Rattle.nibble_map.specs.KeptSizes.{levels};
+ghost use Rattle.masked_tree.specs.Tree.{entries_at};
+ghost use Rattle.masked_tree.specs.Sizes.{levels};
 ghost use Rattle.radix_nodes.specs.Nodes.{kids_of, tree_of};
 ghost use Rattle.radix_nodes.specs.Pairs.{own_pair, pairs_in};
 ghost use Rattle.radix_trie.specs.Walks.{deref_pair, first_pair, rows_of, with_row};

@@ -1,7 +1,7 @@
 //! The trie of keys in ascending order that a trie of plain signed keys becomes.
 ghost use Rattle.std.specs.Prelude.{◌≡◌, IsOk, IfOk};
 ghost use Rattle.std.specs.FinMap as map;
-ghost use Rattle.nibble_map.specs.KeptSame.{IsPairClone};
+ghost use Rattle.nibble_map.specs.Copies.{IsPairClone};
 ghost use Rattle.nibble_map.specs.Turned.{IsTurnedCopy, IsSameFootprint};
 
 use crate::trie::Trie;

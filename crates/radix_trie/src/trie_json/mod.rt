@@ -67,7 +67,7 @@ fn walk(trie: &Trie<String, Value>) -> Result<Iter<'_, String, Value>, Memory>
 ///
 /// The refusals, in the order in which they are decided: memory for the walk; a float somewhere in a value; memory for the
 /// object.
-#[tactic(auto, using(crate::proofs::Objects::put_all_is))]
+#[tactic(auto, using(crate::proofs::JsonLemmas::Objects::put_all_is))]
 pub fn to_value(alloc: Global, trie: &Trie<String, Value>) -> Result<Value, JsonError>
     ensures object { IfOk result (λ value. view value ≡ object_of trie.now) }
     ensures members { IfOk result (λ value. (name : List ℕ) → get name (view value)

@@ -1,4 +1,4 @@
-use Rattle.nibble_map.proofs.OneTree.{node_count, nibble_count, few_nodes, fragments_are, nearest_above, nearest_below, search_count}
+use Rattle.nibble_map.proofs.TreeLemmas.OneTree.{node_count, nibble_count, few_nodes, fragments_are, nearest_above, nearest_below, search_count}
 use Rattle.nibble_map.proofs.canonical_laws.canonical_trees_tell_the_map.Goals as goal
 
 pub returns : goal.returns

@@ -1,4 +1,4 @@
-use Rattle.nibble_map.proofs.OneTree.{has_tree, one_tree}
+use Rattle.nibble_map.proofs.TreeLemmas.OneTree.{has_tree, one_tree}
 use Rattle.nibble_map.proofs.canonical_laws.each_map_has_one_tree.Goals as goal
 
 pub returns : goal.returns

@@ -1,4 +1,4 @@
-use Rattle.nibble_map.proofs.OneTree.{canonical_inserted, canonical_removed, undone}
+use Rattle.nibble_map.proofs.TreeLemmas.OneTree.{canonical_inserted, canonical_removed, undone}
 use Rattle.nibble_map.proofs.canonical_laws.edits_keep_the_tree_canonical.Goals as goal
 
 pub returns : goal.returns

@@ -1,4 +1,4 @@
-use Rattle.nibble_map.proofs.OneTree.{full_is_canonical, canonical_of_entries}
+use Rattle.nibble_map.proofs.TreeLemmas.OneTree.{full_is_canonical, canonical_of_entries}
 use Rattle.nibble_map.proofs.canonical_laws.full_trees_are_canonical.Goals as goal
 
 pub returns : goal.returns

@@ -1,6 +1,6 @@
 use Rattle.std.proofs.lemmas.Cmp.{nat_list_cmp_total}
-use Rattle.nibble_map.proofs.Bridge.{remove_absent}
-use Rattle.nibble_map.proofs.Sorted.{same}
+use Rattle.nibble_map.proofs.MapLemmas.Bridge.{remove_absent}
+use Rattle.nibble_map.proofs.ListLemmas.Sorted.{same}
 use Rattle.nibble_map.proofs.map_laws.absent_list_is_not_removed.Goals as goal
 
 pub returns : goal.returns

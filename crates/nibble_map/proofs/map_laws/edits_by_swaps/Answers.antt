@@ -1,4 +1,4 @@
-use Rattle.nibble_map.proofs.MapEdits.{swap_inserted, swap_over, swap_removed, swap_from}
+use Rattle.nibble_map.proofs.MapLemmas.Edits.{swap_inserted, swap_over, swap_removed, swap_from}
 use Rattle.nibble_map.proofs.map_laws.edits_by_swaps.Goals as goal
 
 pub returns : goal.returns

@@ -1,5 +1,5 @@
-use Rattle.nibble_map.proofs.Bridge.{from_sorted_none}
-use Rattle.nibble_map.proofs.MapEdits.{stored_lists, held, walk_is}
+use Rattle.nibble_map.proofs.MapLemmas.Bridge.{from_sorted_none}
+use Rattle.nibble_map.proofs.MapLemmas.Edits.{stored_lists, held, walk_is}
 use Rattle.nibble_map.proofs.map_laws.entries_tell_the_map.Goals as goal
 
 pub returns : goal.returns

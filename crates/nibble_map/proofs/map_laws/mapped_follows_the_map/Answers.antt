@@ -1,6 +1,6 @@
 use Rattle.std.proofs.Common.{not}
 use Rattle.nibble_map.specs.Lists.{is_prefix}
-use Rattle.nibble_map.proofs.Mapped.{mapped_entries, mapped_len, mapped_get, mapped_stored, mapped_empty, mapped_insert, mapped_remove, mapped_retained}
+use Rattle.nibble_map.proofs.MapLemmas.Mapped.{mapped_entries, mapped_len, mapped_get, mapped_stored, mapped_empty, mapped_insert, mapped_remove, mapped_retained}
 use Rattle.nibble_map.proofs.map_laws.mapped_follows_the_map.Goals as goal
 
 pub returns : goal.returns

@@ -1,4 +1,4 @@
-use Rattle.nibble_map.proofs.Values.{with_absent, with_stored, with_here, with_elsewhere, with_same_lists, with_len}
+use Rattle.nibble_map.proofs.MapLemmas.Values.{with_absent, with_stored, with_here, with_elsewhere, with_same_lists, with_len}
 use Rattle.nibble_map.proofs.map_laws.one_value_changes.Goals as goal
 
 pub returns : goal.returns

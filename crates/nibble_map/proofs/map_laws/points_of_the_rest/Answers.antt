@@ -1,4 +1,4 @@
-use Rattle.nibble_map.proofs.RestPoints.{point_before, point_apart, point_below, stem_before, stem_apart, stem_below}
+use Rattle.nibble_map.proofs.PointLemmas.Rest.{point_before, point_apart, point_below, stem_before, stem_apart, stem_below}
 use Rattle.nibble_map.proofs.map_laws.points_of_the_rest.Goals as goal
 
 pub returns : goal.returns

@@ -1,4 +1,4 @@
-use Rattle.nibble_map.proofs.Values.{removed_again}
+use Rattle.nibble_map.proofs.MapLemmas.Values.{removed_again}
 use Rattle.nibble_map.proofs.map_laws.removal_undoes_insertion.Goals as goal
 
 pub returns : goal.returns

@@ -1,4 +1,4 @@
-use Rattle.nibble_map.proofs.Without.{run_cut}
+use Rattle.nibble_map.proofs.MapLemmas.Without.{run_cut}
 use Rattle.nibble_map.proofs.map_laws.rest_by_swaps.Goals as goal
 
 pub returns : goal.returns

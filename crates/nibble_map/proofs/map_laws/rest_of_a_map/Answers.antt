@@ -1,4 +1,4 @@
-use Rattle.nibble_map.proofs.Without.{get_without, stored_without, without_stored, below_without, put_back, len_without, nothing_below}
+use Rattle.nibble_map.proofs.MapLemmas.Without.{get_without, stored_without, without_stored, below_without, put_back, len_without, nothing_below}
 use Rattle.nibble_map.proofs.map_laws.rest_of_a_map.Goals as goal
 
 pub returns : goal.returns

@@ -1,4 +1,4 @@
-use Rattle.nibble_map.proofs.SameMaps.{same_reflexive, same_symmetric, same_transitive, same_by_entries}
+use Rattle.nibble_map.proofs.MapLemmas.Same.{same_reflexive, same_symmetric, same_transitive, same_by_entries}
 use Rattle.nibble_map.proofs.map_laws.sameness_follows_the_values.Goals as goal
 
 pub returns : goal.returns

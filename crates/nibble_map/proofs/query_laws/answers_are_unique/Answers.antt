@@ -1,5 +1,5 @@
-use Rattle.nibble_map.proofs.Parted.{ancestor_unique, longest_unique, raw_descendant_unique, fragment_unique, compared_unique}
-use Rattle.nibble_map.proofs.Unique.{Lists-unique}
+use Rattle.nibble_map.proofs.ListLemmas.Parted.{ancestor_unique, longest_unique, raw_descendant_unique, fragment_unique, compared_unique}
+use Rattle.nibble_map.proofs.ListLemmas.Unique.{Lists-unique}
 use Rattle.nibble_map.proofs.query_laws.answers_are_unique.Goals as goal
 
 pub returns : goal.returns

@@ -1,5 +1,5 @@
-use Rattle.nibble_map.proofs.MapEdits.{held}
-use Rattle.nibble_map.proofs.Moves.{ancestor_moves, raw_ancestor_moves, raw_descendant_moves, fragment_moves, kids_moves, compared_moves}
+use Rattle.nibble_map.proofs.MapLemmas.Edits.{held}
+use Rattle.nibble_map.proofs.PointLemmas.Moves.{ancestor_moves, raw_ancestor_moves, raw_descendant_moves, fragment_moves, kids_moves, compared_moves}
 use Rattle.nibble_map.proofs.query_laws.answers_by_entries.Goals as goal
 
 pub returns : goal.returns

@@ -1,7 +1,7 @@
 use Rattle.std.proofs.Common.{◌≡◌, ◌↔◌, sym, subst}
-use Rattle.nibble_map.proofs.ComputedAnswers.{ancestor_is, raw_ancestor_is, raw_descendant_is, fragment_is, kids_are, compared_is}
-use Rattle.nibble_map.proofs.Parted.{ancestor_unique, longest_unique, raw_descendant_unique, fragment_unique, compared_unique}
-use Rattle.nibble_map.proofs.Unique.{Lists-unique}
+use Rattle.nibble_map.proofs.ComputedLemmas.Answers.{ancestor_is, raw_ancestor_is, raw_descendant_is, fragment_is, kids_are, compared_is}
+use Rattle.nibble_map.proofs.ListLemmas.Parted.{ancestor_unique, longest_unique, raw_descendant_unique, fragment_unique, compared_unique}
+use Rattle.nibble_map.proofs.ListLemmas.Unique.{Lists-unique}
 use Rattle.nibble_map.proofs.query_laws.computed_answers.Goals as goal
 
 -- a relation that holds of one answer alone

@@ -1,6 +1,6 @@
 use Rattle.std.proofs.Common.{refl}
 use Rattle.nibble_map.specs.Computed.{points, prefixes}
-use Rattle.nibble_map.proofs.Computed.{points_list, prefixes_list, is_point_true, true_is_point}
+use Rattle.nibble_map.proofs.ComputedLemmas.Points.{points_list, prefixes_list, is_point_true, true_is_point}
 use Rattle.nibble_map.proofs.query_laws.computed_points.Goals as goal
 
 pub returns : goal.returns

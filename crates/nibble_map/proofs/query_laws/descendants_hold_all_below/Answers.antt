@@ -1,4 +1,4 @@
-use Rattle.nibble_map.proofs.Descendant.{below_descendant, below_nothing}
+use Rattle.nibble_map.proofs.PointLemmas.Descendant.{below_descendant, below_nothing}
 use Rattle.nibble_map.proofs.query_laws.descendants_hold_all_below.Goals as goal
 
 pub returns : goal.returns

@@ -1,4 +1,4 @@
-use Rattle.nibble_map.proofs.OneKid.{one_kid}
+use Rattle.nibble_map.proofs.PointLemmas.OneKid.{one_kid}
 use Rattle.nibble_map.proofs.query_laws.one_kid_leads_to_each_list.Goals as goal
 
 pub returns : goal.returns

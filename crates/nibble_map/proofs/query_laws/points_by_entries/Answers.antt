@@ -1,5 +1,5 @@
-use Rattle.nibble_map.proofs.MapEdits.{held}
-use Rattle.nibble_map.proofs.Moves.{reached_moves, parting_moves, point_moves, stem_moves}
+use Rattle.nibble_map.proofs.MapLemmas.Edits.{held}
+use Rattle.nibble_map.proofs.PointLemmas.Moves.{reached_moves, parting_moves, point_moves, stem_moves}
 use Rattle.nibble_map.proofs.query_laws.points_by_entries.Goals as goal
 
 pub returns : goal.returns

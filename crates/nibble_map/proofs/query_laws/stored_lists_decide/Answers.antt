@@ -1,4 +1,4 @@
-use Rattle.nibble_map.proofs.Moves.{point_moves, raw_ancestor_moves, raw_descendant_moves, fragment_moves, kids_moves, compared_moves}
+use Rattle.nibble_map.proofs.PointLemmas.Moves.{point_moves, raw_ancestor_moves, raw_descendant_moves, fragment_moves, kids_moves, compared_moves}
 use Rattle.nibble_map.proofs.query_laws.stored_lists_decide.Goals as goal
 
 pub returns : goal.returns

@@ -1,5 +1,5 @@
 use Rattle.nibble_map.specs.Stored.{IsPoint, IsStem}
-use Rattle.nibble_map.proofs.Unique.{Lists-unique, Counts-unique}
+use Rattle.nibble_map.proofs.ListLemmas.Unique.{Lists-unique, Counts-unique}
 use Rattle.nibble_map.proofs.tree_laws.a_set_has_one_list.Goals as goal
 
 pub returns : goal.returns

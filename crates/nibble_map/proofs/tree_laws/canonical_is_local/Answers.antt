@@ -1,4 +1,4 @@
-use Rattle.nibble_map.proofs.Canonical.{local_canonical, canonical_local}
+use Rattle.nibble_map.proofs.TreeLemmas.Canonical.{local_canonical, canonical_local}
 use Rattle.nibble_map.proofs.tree_laws.canonical_is_local.Goals as goal
 
 pub returns : goal.returns

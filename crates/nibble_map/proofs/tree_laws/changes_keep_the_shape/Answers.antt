@@ -1,4 +1,4 @@
-use Rattle.nibble_map.proofs.Steps.{inserted, removed}
+use Rattle.nibble_map.proofs.TreeLemmas.Steps.{inserted, removed}
 use Rattle.nibble_map.proofs.tree_laws.changes_keep_the_shape.Goals as goal
 
 pub returns : goal.returns

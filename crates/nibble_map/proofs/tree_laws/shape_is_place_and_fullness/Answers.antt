@@ -1,5 +1,5 @@
-use Rattle.nibble_map.proofs.Full.{shaped}
-use Rattle.nibble_map.proofs.OneTree.{shaped_parts}
+use Rattle.nibble_map.proofs.TreeLemmas.Full.{shaped}
+use Rattle.nibble_map.proofs.TreeLemmas.OneTree.{shaped_parts}
 use Rattle.nibble_map.proofs.tree_laws.shape_is_place_and_fullness.Goals as goal
 
 pub returns : goal.returns

@@ -1,4 +1,4 @@
-use Rattle.nibble_map.proofs.Chain.{chain_inserted, points_are, footprint_is}
+use Rattle.nibble_map.proofs.PointLemmas.Chain.{chain_inserted, points_are, footprint_is}
 use Rattle.nibble_map.proofs.worked_rows.chain_of_texts.Goals as goal
 
 pub returns : goal.returns

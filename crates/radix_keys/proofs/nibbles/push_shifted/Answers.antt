@@ -1,7 +1,7 @@
 use Rattle.std.proofs.Common.{◌+◌, ◌*◌, ◌/◌, ◌%◌, ◌++◌, [], ◌∷◌, take, get_or, length, arith, sym, ◌∙◌, ap, append_assoc}
 use Rattle.std.proofs.lemmas.List.{take_more, length-append}
 use Rattle.nibble_map.specs.Nibbles.{nibbles}
-use Rattle.radix_keys.proofs.NibblesOfBytes.{nibbles-append, nibbles-append_shifted}
+use Rattle.radix_keys.proofs.NibbleLemmas.Bytes.{nibbles-append, nibbles-append_shifted}
 use Rattle.radix_keys.proofs.nibbles.push_shifted.Goals as goal
 
 pub loop-byte-preserved : goal.loop-byte-preserved

@@ -1,7 +1,7 @@
 use Rattle.std.proofs.Common.{rules, arith}
 use Rattle.std.proofs.lemmas.Grind.{common_steps}
 use Rattle.radix_trie.specs.Commands.{then_step}
-use Rattle.radix_trie.proofs.Steps.{steps_at_start}
+use Rattle.radix_trie.proofs.CommandLemmas.{steps_at_start}
 use Rattle.radix_trie.proofs.commands.run.Goals as goal
 
 pub loop-command-init : goal.loop-command-init

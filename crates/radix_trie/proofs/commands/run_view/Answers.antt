@@ -1,7 +1,7 @@
 use Rattle.std.proofs.Common.{rules, arith, refl, ◌∙◌}
 use Rattle.std.proofs.lemmas.Grind.{common_steps}
 use Rattle.radix_trie.specs.Commands.{then_view}
-use Rattle.radix_trie.proofs.Steps.{view_steps_at_start}
+use Rattle.radix_trie.proofs.CommandLemmas.{view_steps_at_start}
 use Rattle.radix_trie.proofs.commands.run_view.Goals as goal
 
 pub loop-command-init : goal.loop-command-init

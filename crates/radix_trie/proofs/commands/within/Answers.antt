@@ -1,5 +1,5 @@
 use Rattle.std.proofs.Common.{rules, refl, inl, inr, arith, ap, length}
-use Rattle.radix_trie.proofs.Steps.{moved}
+use Rattle.radix_trie.proofs.CommandLemmas.{moved}
 use Rattle.radix_trie.proofs.commands.within.Goals as goal
 
 pub returns-in_default : goal.returns-in_default

@@ -1,6 +1,6 @@
 use Rattle.std.proofs.Common.{◌≡◌, MatchOption, Some, None, option_map, ap, sym, subst, ◌∙◌}
 use Rattle.radix_nodes.specs.Nodes.{tree_of, unboxed}
-use Rattle.radix_nodes.proofs.Nodes.{pair_out}
+use Rattle.radix_nodes.proofs.NodeLemmas.Nodes.{pair_out}
 use Rattle.radix_trie.proofs.counted.value_in.Goals as goal
 
 pub returns-in-Some : goal.returns-in-Some

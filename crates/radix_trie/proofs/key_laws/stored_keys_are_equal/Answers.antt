@@ -1,6 +1,6 @@
 use Rattle.std.proofs.Common.{sym, subst}
 use Rattle.radix_trie.specs.Keys.{IsKeyed}
-use Rattle.radix_trie.proofs.KeyedMaps.{keyed_empty, keyed_inserted, keyed_removed, keyed_written}
+use Rattle.radix_trie.proofs.ChangeLemmas.Keyed.{keyed_empty, keyed_inserted, keyed_removed, keyed_written}
 use Rattle.radix_trie.proofs.key_laws.stored_keys_are_equal.Goals as goal
 
 pub returns-clause-equal : goal.returns-clause-equal

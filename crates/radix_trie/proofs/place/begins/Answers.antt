@@ -1,6 +1,6 @@
 use Rattle.std.proofs.Common.{arith}
-use Rattle.radix_nodes.proofs.Steps.{agreed}
-use Rattle.radix_trie.proofs.Places.{begins_tells}
+use Rattle.radix_nodes.proofs.EditLemmas.Insertion.{agreed}
+use Rattle.radix_trie.proofs.PathLemmas.Places.{begins_tells}
 use Rattle.radix_trie.proofs.place.begins.Goals as goal
 
 pub returns : goal.returns

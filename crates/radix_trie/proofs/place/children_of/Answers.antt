@@ -1,15 +1,15 @@
 use Rattle.std.proofs.Common.{◌≡◌, ◌++◌, ◌∷◌, [], ap, sym, subst, ◌∙◌, arith, length}
 use Rattle.std.proofs.lemmas.List.{length-append}
-use Rattle.nibble_map.specs.KeptPaths.{IsNodeAt}
+use Rattle.masked_tree.specs.Paths.{IsNodeAt}
 use Rattle.nibble_map.specs.Nibbles.{IsShort}
 use Rattle.radix_nodes.specs.declared.trie_node.TrieNode.{out-TrieNode}
 use Rattle.radix_nodes.specs.Nodes.{tree_of, kids_of, fragment_of}
-use Rattle.radix_nodes.proofs.Nodes.{fragment_out, kids_out}
+use Rattle.radix_nodes.proofs.NodeLemmas.Nodes.{fragment_out, kids_out}
 use Rattle.radix_trie.specs.Places.{kid_views}
-use Rattle.radix_nodes.proofs.FewKids.{few_children}
-use Rattle.radix_trie.proofs.ChildViews.{child_at, views_more, view_short, direct_kid}
-use Rattle.radix_trie.proofs.Parts.{node_down, node_placed}
-use Rattle.radix_trie.proofs.Places.{not_both}
+use Rattle.radix_nodes.proofs.NodeLemmas.FewChildren.{few_children}
+use Rattle.radix_trie.proofs.PathLemmas.ChildViews.{child_at, views_more, view_short, direct_kid}
+use Rattle.radix_trie.proofs.PathLemmas.Parts.{node_down, node_placed}
+use Rattle.radix_trie.proofs.PathLemmas.Places.{not_both}
 use Rattle.radix_trie.proofs.place.children_of.Goals as goal
 
 pub loop-child-init : goal.loop-child-init

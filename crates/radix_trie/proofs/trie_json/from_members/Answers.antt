@@ -3,8 +3,8 @@ use Rattle.std.specs.FinMap as fin
 use Rattle.serde_json.specs.Data.{no_members}
 use Rattle.serde_json.specs.Find.{get_member}
 use Rattle.serde_json.specs.View.{members_view}
-use Rattle.radix_trie.proofs.Objects.{len-insert-le, member_is, put_all, put_all_is, put_inserted, texts_inserted, texts_empty, members_empty}
-use Rattle.radix_trie.proofs.Texts.{encoding, AreTexts}
+use Rattle.radix_trie.proofs.JsonLemmas.Objects.{len-insert-le, member_is, put_all, put_all_is, put_inserted, texts_inserted, texts_empty, members_empty}
+use Rattle.radix_trie.proofs.JsonLemmas.Texts.{encoding, AreTexts}
 use Rattle.radix_trie.proofs.trie_json.from_members.Goals as goal
 
 pub loop-key-init : goal.loop-key-init

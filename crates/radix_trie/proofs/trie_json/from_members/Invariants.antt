@@ -1,8 +1,8 @@
 use Rattle.std.proofs.Common.{◌≡◌, ◌+◌, ◌≤◌, length}
 use Rattle.std.specs.FinMap as fin
 use Rattle.serde_json.specs.View.{members_view}
-use Rattle.radix_trie.proofs.Objects.{put_all}
-use Rattle.radix_trie.proofs.Texts.{AreTexts}
+use Rattle.radix_trie.proofs.JsonLemmas.Objects.{put_all}
+use Rattle.radix_trie.proofs.JsonLemmas.Texts.{AreTexts}
 use Rattle.radix_trie.proofs.trie_json.from_members.Given as goal
 
 abbrev pub invariant-loop-key : goal.invariant-loop-key

@@ -4,7 +4,7 @@ use Rattle.serde_json.specs.Find.{get}
 use Rattle.serde_json.specs.View.{view}
 use Rattle.serde_json.specs.declared.value.Value.{the_lemmas}
 use Rattle.radix_trie.specs.Json.{read_as}
-use Rattle.radix_trie.proofs.Objects.{member_is, members_empty, texts_empty}
+use Rattle.radix_trie.proofs.JsonLemmas.Objects.{member_is, members_empty, texts_empty}
 use Rattle.radix_trie.proofs.trie_json.from_value.Goals as goal
 
 pub returns-in-Null-clause-object : goal.returns-in-Null-clause-object

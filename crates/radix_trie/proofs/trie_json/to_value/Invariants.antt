@@ -2,7 +2,7 @@ use Rattle.std.proofs.Common.{◌≡◌}
 use Rattle.std.specs.FinMap as fin
 use Rattle.serde_json.specs.View.{members_view}
 use Rattle.serde_json.specs.Written.{members_have_float}
-use Rattle.radix_trie.proofs.Objects.{put_all}
+use Rattle.radix_trie.proofs.JsonLemmas.Objects.{put_all}
 use Rattle.radix_trie.proofs.trie_json.to_value.Given as goal
 
 abbrev pub invariant-loop-value : goal.invariant-loop-value

@@ -1,8 +1,8 @@
 use Rattle.std.proofs.Common.{◌≡◌, map, ap, subst, IfOk}
 use Rattle.std.specs.FinMap as fin
-use Rattle.radix_trie.proofs.Objects.{member_is}
-use Rattle.radix_trie.proofs.Places.{below_nil}
-use Rattle.radix_trie.proofs.Texts.{texts_rise}
+use Rattle.radix_trie.proofs.JsonLemmas.Objects.{member_is}
+use Rattle.radix_trie.proofs.PathLemmas.Places.{below_nil}
+use Rattle.radix_trie.proofs.JsonLemmas.Texts.{texts_rise}
 use Rattle.radix_trie.proofs.trie_json.walk.Goals as goal
 
 pub returns-clause-pairs : goal.returns-clause-pairs

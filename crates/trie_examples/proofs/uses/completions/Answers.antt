@@ -1,8 +1,8 @@
 use Rattle.std.proofs.Common.{◌≡◌, [], ap, sym, ◌∙◌, map}
 use Rattle.std.proofs.lemmas.Result.{IfOk-weaker}
 use Rattle.std.specs.FinMap as finite
-use Rattle.nibble_map.proofs.Bridge.{from_sorted_none}
-use Rattle.nibble_map.proofs.Descendant.{below_descendant, below_nothing}
+use Rattle.nibble_map.proofs.MapLemmas.Bridge.{from_sorted_none}
+use Rattle.nibble_map.proofs.PointLemmas.Descendant.{below_descendant, below_nothing}
 use Rattle.radix_trie.specs.Views.{pairs_below}
 use Rattle.trie_examples.proofs.uses.completions.Goals as goal
 

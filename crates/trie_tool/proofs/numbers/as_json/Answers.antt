@@ -1,5 +1,5 @@
 use Rattle.std.proofs.Common.{◌≡◌, [], ◌∙◌, ap, rules, sym}
-use Rattle.nibble_map.proofs.Mapped.{mapped_empty}
+use Rattle.nibble_map.proofs.MapLemmas.Mapped.{mapped_empty}
 use Rattle.radix_trie.specs.Views.{pairs_below}
 use Rattle.trie_tool.specs.Numbers.{data_of, datum}
 use Rattle.trie_tool.proofs.Objects.{all_put, members_are, put_numbers}

@@ -3,7 +3,7 @@ use Rattle.std.specs.FinMap as map
 use Rattle.serde_json.specs.Data.{Data, number, unsigned}
 use Rattle.serde_json.specs.View.{view}
 use Rattle.nibble_map.specs.Nibbles.{nibbles}
-use Rattle.nibble_map.proofs.Mapped.{mapped_insert}
+use Rattle.nibble_map.proofs.MapLemmas.Mapped.{mapped_insert}
 use Rattle.trie_tool.specs.Numbers.{data_of, datum}
 use Rattle.trie_tool.proofs.numbers.put_json.Goals as goal
 

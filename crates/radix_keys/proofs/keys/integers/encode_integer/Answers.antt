@@ -1,5 +1,5 @@
 use Rattle.std.proofs.Common.{arith, ap, ◌≡◌, true, false, length}
-use Rattle.radix_keys.proofs.NibblesOfBytes.{length-nibbles}
+use Rattle.radix_keys.proofs.NibbleLemmas.Bytes.{length-nibbles}
 use Rattle.radix_keys.proofs.keys.integers.encode_integer.Goals as goal
 
 pub returns-in_err-push_bytes-clause-light : goal.returns-in_err-push_bytes-clause-light

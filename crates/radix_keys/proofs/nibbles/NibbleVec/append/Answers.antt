@@ -1,7 +1,7 @@
 use Rattle.std.proofs.Common.{◌≡◌, arith, ap, length, true, false}
 use Rattle.std.proofs.lemmas.List.{length-append}
-use Rattle.radix_keys.proofs.Packing.{count-bytes, count-odd, count-even}
-use Rattle.radix_keys.proofs.Cutting.{append-even}
+use Rattle.radix_keys.proofs.NibbleLemmas.Packing.{count-bytes, count-odd, count-even}
+use Rattle.radix_keys.proofs.NibbleLemmas.Cutting.{append-even}
 use Rattle.radix_keys.proofs.nibbles.NibbleVec.append.Goals as goal
 
 pub append_shifted-requires : goal.append_shifted-requires

@@ -1,8 +1,8 @@
 use Rattle.std.proofs.Common.{◌≡◌, ◌-◌, ◌/◌, ◌++◌, [], ◌∷◌, arith, ap, length, get_or, take, true, false, lit<, refl}
 use Rattle.std.proofs.lemmas.List.{length-append}
 use Rattle.nibble_map.specs.Nibbles.{nibbles}
-use Rattle.radix_keys.proofs.Packing.{count-bytes, count-even}
-use Rattle.radix_keys.proofs.Cutting.{append-odd_odd, append-odd_even, flag-odd}
+use Rattle.radix_keys.proofs.NibbleLemmas.Packing.{count-bytes, count-even}
+use Rattle.radix_keys.proofs.NibbleLemmas.Cutting.{append-odd_odd, append-odd_even, flag-odd}
 use Rattle.radix_keys.proofs.nibbles.NibbleVec.append_shifted.Goals as goal
 
 pub returns-in_err-reserve-clause-succeeds : goal.returns-in_err-reserve-clause-succeeds

@@ -1,5 +1,5 @@
 use Rattle.std.proofs.Common.{◌≡◌, arith, true, false}
-use Rattle.radix_keys.proofs.NibblesOfBytes.{length-nibbles}
+use Rattle.radix_keys.proofs.NibbleLemmas.Bytes.{length-nibbles}
 use Rattle.radix_keys.proofs.nibbles.NibbleVec.from_slice.Goals as goal
 
 pub returns-in_err-small-clause-succeeds : goal.returns-in_err-small-clause-succeeds

@@ -1,5 +1,5 @@
 use Rattle.std.proofs.Common.{arith, ap, length}
-use Rattle.radix_keys.proofs.Packing.{length-bytes, get_or-unpacked_even, get_or-unpacked_odd}
+use Rattle.radix_keys.proofs.NibbleLemmas.Packing.{length-bytes, get_or-unpacked_even, get_or-unpacked_odd}
 use Rattle.radix_keys.proofs.nibbles.NibbleVec.get.Goals as goal
 
 pub bounds-as_slice-i : goal.bounds-as_slice-i

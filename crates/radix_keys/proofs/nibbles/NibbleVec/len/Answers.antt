@@ -1,5 +1,5 @@
 use Rattle.std.proofs.Common.{arith, ap, length}
-use Rattle.radix_keys.proofs.Packing.{count-odd, count-even}
+use Rattle.radix_keys.proofs.NibbleLemmas.Packing.{count-odd, count-even}
 use Rattle.radix_keys.proofs.nibbles.NibbleVec.len.Goals as goal
 
 pub returns-then-self : goal.returns-then-self

@@ -1,5 +1,5 @@
 use Rattle.std.proofs.Common.{◌≡◌, arith, true, false}
-use Rattle.radix_keys.proofs.Packing.{count-even, push-even, push-odd}
+use Rattle.radix_keys.proofs.NibbleLemmas.Packing.{count-even, push-even, push-odd}
 use Rattle.radix_keys.proofs.nibbles.NibbleVec.push.Goals as goal
 
 pub returns-then-self-clause-ok : goal.returns-then-self-clause-ok

@@ -1,7 +1,7 @@
 use Rattle.std.proofs.Common.{◌≡◌, ◌/◌, arith, ap, length, true, false}
 use Rattle.std.proofs.lemmas.List.{length-drop, take_rest}
-use Rattle.radix_keys.proofs.Packing.{count-bytes}
-use Rattle.radix_keys.proofs.Cutting.{padded-drop, drop-even}
+use Rattle.radix_keys.proofs.NibbleLemmas.Packing.{count-bytes}
+use Rattle.radix_keys.proofs.NibbleLemmas.Cutting.{padded-drop, drop-even}
 use Rattle.radix_keys.proofs.nibbles.NibbleVec.tail.Goals as goal
 
 pub slice_bounds-from_slice-count : goal.slice_bounds-from_slice-count

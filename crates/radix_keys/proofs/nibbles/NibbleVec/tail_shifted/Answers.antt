@@ -1,8 +1,8 @@
 use Rattle.std.proofs.Common.{◌≡◌, ◌+◌, ◌/◌, ◌%◌, [], ◌∷◌, ◌++◌, arith, ap, length, get_or, drop, lit<, refl, ◌∙◌}
 use Rattle.std.proofs.lemmas.List.{length-drop, take_rest}
 use Rattle.nibble_map.specs.Nibbles.{nibbles}
-use Rattle.radix_keys.proofs.Packing.{count-bytes, count-even}
-use Rattle.radix_keys.proofs.Cutting.{drop-odd_odd, drop-odd_even}
+use Rattle.radix_keys.proofs.NibbleLemmas.Packing.{count-bytes, count-even}
+use Rattle.radix_keys.proofs.NibbleLemmas.Cutting.{drop-odd_odd, drop-odd_even}
 use Rattle.radix_keys.proofs.nibbles.NibbleVec.tail_shifted.Goals as goal
 
 pub bounds-bytes-i : goal.bounds-bytes-i

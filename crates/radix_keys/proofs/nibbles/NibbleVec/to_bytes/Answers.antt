@@ -1,5 +1,5 @@
 use Rattle.std.proofs.Common.{length, arith, ap}
-use Rattle.radix_keys.proofs.Packing.{is_odd-count, is_even-count}
+use Rattle.radix_keys.proofs.NibbleLemmas.Packing.{is_odd-count, is_even-count}
 use Rattle.radix_keys.proofs.nibbles.NibbleVec.to_bytes.Goals as goal
 
 pub returns-then-self-clause-odd : goal.returns-then-self-clause-odd

@@ -1,7 +1,7 @@
 use Rattle.std.proofs.Common.{◌≡◌, ◌+◌, ◌<◌, ◌≤◌, ◌-◌, ◌/◌, ◌%◌, arith, ap, length, get_or, take, ◌∙◌}
 use Rattle.std.proofs.lemmas.List.{get_or-take}
-use Rattle.radix_keys.proofs.Packing.{count-bytes}
-use Rattle.radix_keys.proofs.Cutting.{padded-append, set-cut, take-even, take-odd}
+use Rattle.radix_keys.proofs.NibbleLemmas.Packing.{count-bytes}
+use Rattle.radix_keys.proofs.NibbleLemmas.Cutting.{padded-append, set-cut, take-even, take-odd}
 use Rattle.radix_keys.proofs.nibbles.NibbleVec.truncate.Goals as goal
 
 pub bounds-deref-whole : goal.bounds-deref-whole

@@ -1,6 +1,6 @@
 use Rattle.std.proofs.Common.{◌∙◌, ap}
 use Rattle.nibble_map.specs.Turned.{turned}
-use Rattle.radix_keys.proofs.Turning.{unpacked-turned}
+use Rattle.radix_keys.proofs.NibbleLemmas.Turning.{unpacked-turned}
 use Rattle.radix_keys.proofs.nibbles.NibbleVec.turn_over.Goals as goal
 
 pub returns : goal.returns

@@ -1,5 +1,5 @@
 use Rattle.std.proofs.Common.{◌≡◌, arith, ap, length, true, false}
-use Rattle.radix_keys.proofs.Packing.{length-bytes}
+use Rattle.radix_keys.proofs.NibbleLemmas.Packing.{length-bytes}
 use Rattle.radix_keys.proofs.nibbles.NibbleVecClone.clone.Goals as goal
 
 pub returns-in-Err : goal.returns-in-Err

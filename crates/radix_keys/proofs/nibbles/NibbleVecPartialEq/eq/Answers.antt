@@ -1,4 +1,4 @@
-use Rattle.radix_keys.proofs.Packing.{eq-same_flag, eq-other_flag}
+use Rattle.radix_keys.proofs.NibbleLemmas.Packing.{eq-same_flag, eq-other_flag}
 use Rattle.radix_keys.proofs.nibbles.NibbleVecPartialEq.eq.Goals as goal
 
 pub returns-then-self-other : goal.returns-then-self-other

@@ -1,4 +1,4 @@
-use Rattle.nibble_map.specs.Kept.{IsTreePlaced}
+use Rattle.masked_tree.specs.Tree.{IsTreePlaced}
 use Rattle.radix_nodes.specs.Nodes.{tree_of}
 use Rattle.radix_nodes.proofs.tests.long_chains.take_from_the_end.Given as goal
 

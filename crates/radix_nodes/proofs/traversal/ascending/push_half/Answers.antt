@@ -1,12 +1,12 @@
 use Rattle.std.proofs.Common.{◌<◌, ◌∙◌, ap, sym, subst, arith, length}
-use Rattle.nibble_map.specs.KeptSame.{IsCopy}
+use Rattle.masked_tree.specs.Same.{IsCopy}
 use Rattle.nibble_map.specs.Trees.{first}
-use Rattle.nibble_map.specs.Turned.{in_half, turned_tree}
+use Rattle.masked_tree.specs.Turned.{in_half, turned_tree}
 use Rattle.radix_nodes.specs.Copies.{IsKeyValueCopy}
 use Rattle.radix_nodes.specs.Nodes.{tree_of, fragment_of, out_of}
-use Rattle.radix_nodes.proofs.AscendingNodes.{half_taken, half_left, none_pushed, all_pushed}
-use Rattle.radix_nodes.proofs.CopiedNodes.{no_boxes}
-use Rattle.radix_nodes.proofs.Steps.{kid_placed, length_some}
+use Rattle.radix_nodes.proofs.CopyLemmas.Turned.{half_taken, half_left, none_pushed, all_pushed}
+use Rattle.radix_nodes.proofs.CopyLemmas.Copies.{no_boxes}
+use Rattle.radix_nodes.proofs.EditLemmas.Insertion.{kid_placed, length_some}
 use Rattle.radix_nodes.proofs.traversal.ascending.push_half.Goals.{then-is_in_half+in_ok-copy+in_ok-new+in_ok-push, else-is_in_half}
 use Rattle.radix_nodes.proofs.traversal.ascending.push_half.Goals as goal
 

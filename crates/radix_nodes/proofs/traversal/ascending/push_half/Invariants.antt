@@ -1,7 +1,7 @@
 use Rattle.std.proofs.Common.{take}
-use Rattle.nibble_map.specs.Kept.{Kids}
-use Rattle.nibble_map.specs.KeptSame.{AreKidCopies}
-use Rattle.nibble_map.specs.Turned.{append, turned_half}
+use Rattle.masked_tree.specs.Tree.{Kids}
+use Rattle.masked_tree.specs.Same.{AreKidCopies}
+use Rattle.masked_tree.specs.Turned.{append, turned_half}
 use Rattle.radix_nodes.specs.Copies.{IsKeyValueCopy}
 use Rattle.radix_nodes.specs.Nodes.{out_of, kids_of}
 use Rattle.radix_nodes.specs.declared.trie_node.KeyValue.{KeyValue}

@@ -1,6 +1,6 @@
 use Rattle.std.proofs.Common.{◌<◌, length, subst, sym}
 use Rattle.radix_nodes.specs.Copies.{IsKeyValueCopy}
-use Rattle.radix_nodes.proofs.AscendingNodes.{child_turned, copied_fragment}
+use Rattle.radix_nodes.proofs.CopyLemmas.Turned.{child_turned, copied_fragment}
 use Rattle.radix_nodes.proofs.traversal.ascending.turned_child.Goals as goal
 
 pub turn_over-requires : goal.turn_over-requires

@@ -1,11 +1,11 @@
 use Rattle.std.proofs.Common.{arith, true}
-use Rattle.nibble_map.specs.Kept.{none}
-use Rattle.nibble_map.specs.Turned.{turned_half}
-use Rattle.nibble_map.proofs.KeptSame.{never}
+use Rattle.masked_tree.specs.Tree.{none}
+use Rattle.masked_tree.specs.Turned.{turned_half}
+use Rattle.nibble_map.proofs.MapLemmas.SameTests.{never}
 use Rattle.radix_nodes.specs.Copies.{IsKeyValueCopy}
 use Rattle.radix_nodes.specs.Nodes.{tree_of, out_of}
-use Rattle.radix_nodes.proofs.AscendingNodes.{root_turned, nothing_copied}
-use Rattle.radix_nodes.proofs.CopiedNodes.{no_boxes, no_pair}
+use Rattle.radix_nodes.proofs.CopyLemmas.Turned.{root_turned, nothing_copied}
+use Rattle.radix_nodes.proofs.CopyLemmas.Copies.{no_boxes, no_pair}
 use Rattle.radix_nodes.proofs.traversal.ascending.turned_copy.Goals as goal
 
 pub returns-in_err-children-clause-light : goal.returns-in_err-children-clause-light

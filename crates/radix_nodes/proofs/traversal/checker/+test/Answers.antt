@@ -1,10 +1,10 @@
 use Rattle.std.proofs.Common.{rules, ◌≡◌, ◌++◌, cond, true, false, ◌<◌, ◌≤◌, ◌∙◌, get_or, ap, sym, subst, length, arith}
-use Rattle.nibble_map.specs.Kept.{nodes_in}
+use Rattle.masked_tree.specs.Tree.{nodes_in}
 use Rattle.radix_nodes.specs.declared.trie_node.TrieNode.{out-TrieNode}
 use Rattle.radix_nodes.specs.Nodes.{tree_of, fragment_of}
 use Rattle.radix_nodes.specs.Soundness.{pairs_of, test_of}
-use Rattle.radix_nodes.proofs.Sizes.{child_fewer}
-use Rattle.radix_nodes.proofs.Soundness.{child_pairs, next_pairs, ends_start, ends_kid, goes_on, starts_empty, starts_low, starts_next}
+use Rattle.radix_nodes.proofs.NodeLemmas.Sizes.{child_fewer}
+use Rattle.radix_nodes.proofs.CheckerLemmas.{child_pairs, next_pairs, ends_start, ends_kid, goes_on, starts_empty, starts_low, starts_next}
 use Rattle.nibble_map.specs.Trees.{first}
 use Rattle.radix_nodes.proofs.traversal.checker.+test.Goals as goal
 

@@ -1,5 +1,5 @@
 use Rattle.std.proofs.Common.{◌≡◌, ◌+◌, ◌++◌, drop}
-use Rattle.nibble_map.specs.Kept.{nodes_in}
+use Rattle.masked_tree.specs.Tree.{nodes_in}
 use Rattle.radix_nodes.specs.declared.trie_node.TrieNode.{out-TrieNode}
 use Rattle.radix_nodes.specs.Nodes.{tree_of, fragment_of}
 use Rattle.radix_nodes.specs.Soundness.{test_of, tests_of, pairs_of, pairs_of_all}

@@ -1,9 +1,9 @@
 use Rattle.std.proofs.Common.{arith, refl}
 use Rattle.radix_nodes.specs.Copies.{IsKeyValueCopy}
 use Rattle.radix_nodes.specs.Nodes.{out_of}
-use Rattle.radix_nodes.proofs.CopiedNodes.{none_copied, one_more, node_copied, no_boxes, no_pair}
+use Rattle.radix_nodes.proofs.CopyLemmas.Copies.{none_copied, one_more, node_copied, no_boxes, no_pair}
 use Rattle.radix_nodes.proofs.traversal.copied.+copied.Goals as goal
-use Rattle.nibble_map.proofs.KeptSame.{never}
+use Rattle.nibble_map.proofs.MapLemmas.SameTests.{never}
 
 pub loop-i-init : goal.loop-i-init
 loop-i-init g t c = none_copied (IsKeyValueCopy g.L.CopyOf.is_copy g.V.Clone.is_clone) (out_of c.args.node.now).children.items c.in_ok-children.children.items c.in_ok-children.ensures.items

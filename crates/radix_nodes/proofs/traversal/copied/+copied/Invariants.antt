@@ -1,7 +1,7 @@
 use Rattle.std.proofs.Common.{take}
 use Rattle.radix_nodes.specs.Copies.{IsKeyValueCopy}
 use Rattle.radix_nodes.specs.Nodes.{out_of}
-use Rattle.radix_nodes.proofs.CopiedNodes.{AreCopied}
+use Rattle.radix_nodes.proofs.CopyLemmas.Copies.{AreCopied}
 use Rattle.radix_nodes.proofs.traversal.copied.+copied.Given as goal
 
 -- the children before i are copied

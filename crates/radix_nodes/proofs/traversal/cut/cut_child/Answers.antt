@@ -1,11 +1,11 @@
 use Rattle.std.proofs.Common.{◌++◌, ◌∙◌, ◌⊎◌, ◌≢◌, ◌-◌, IsSome, sym, ap, subst, arith}
 use Rattle.nibble_map.specs.Trees.{first}
-use Rattle.nibble_map.specs.KeptEdits.{IsOne, merged, remove_kid}
+use Rattle.masked_tree.specs.Edits.{IsOne, merged, remove_kid}
 use Rattle.radix_nodes.specs.declared.trie_node.TrieNode.{out-TrieNode}
 use Rattle.radix_nodes.specs.Nodes.{tree_of, unboxed}
-use Rattle.radix_nodes.proofs.Branches.{branch_cut, branch_merged}
-use Rattle.radix_nodes.proofs.Nodes.{fragment_out, pair_out}
-use Rattle.radix_nodes.proofs.Removes.{merged_fragment, long_path, one_kid, other_at, firsts_are, kept_full}
+use Rattle.radix_nodes.proofs.EditLemmas.Branches.{branch_cut, branch_merged}
+use Rattle.radix_nodes.proofs.NodeLemmas.Nodes.{fragment_out, pair_out}
+use Rattle.radix_nodes.proofs.EditLemmas.Removal.{merged_fragment, long_path, one_kid, other_at, firsts_are, kept_full}
 use Rattle.radix_nodes.proofs.traversal.cut.cut_child.Goals as goal
 
 pub absorb-requires-clause-joined : goal.absorb-requires-clause-joined

@@ -1,5 +1,5 @@
 use Rattle.radix_nodes.specs.Nodes.{tree_of}
-use Rattle.radix_nodes.proofs.Branches.{branch_root}
+use Rattle.radix_nodes.proofs.EditLemmas.Branches.{branch_root}
 use Rattle.radix_nodes.proofs.traversal.cut.cut_root_child.Goals as goal
 
 pub returns-clause-cut : goal.returns-clause-cut

@@ -2,8 +2,8 @@ use Rattle.std.proofs.Common.{◌++◌, ◌∙◌, sym, ap, arith, length}
 use Rattle.std.proofs.lemmas.List.{length-append}
 use Rattle.radix_nodes.specs.declared.trie_node.TrieNode.{out-TrieNode}
 use Rattle.radix_nodes.specs.Nodes.{fragment_of}
-use Rattle.radix_nodes.proofs.Nodes.{fragment_out}
-use Rattle.radix_nodes.proofs.Removes.{if_ok, refused, child_is}
+use Rattle.radix_nodes.proofs.NodeLemmas.Nodes.{fragment_out}
+use Rattle.radix_nodes.proofs.EditLemmas.Removal.{if_ok, refused, child_is}
 use Rattle.radix_nodes.proofs.traversal.cut.joined_with.Goals as goal
 
 pub returns-clause-made : goal.returns-clause-made

@@ -1,10 +1,10 @@
 use Rattle.std.proofs.Common.{rules, ◌+◌, ◌<◌, ◌≤◌, ◌∙◌, ◌++◌, [], ap, sym, subst, length, vec_capacity, arith}
 use Rattle.std.proofs.lemmas.Grind.{common_steps}
-use Rattle.nibble_map.specs.Kept.{entries_at, nodes_in, nibbles_in}
+use Rattle.masked_tree.specs.Tree.{entries_at, nodes_in, nibbles_in}
 use Rattle.radix_nodes.specs.Nodes.{tree_of}
 use Rattle.radix_nodes.specs.Pairs.{pairs_in}
 use Rattle.radix_nodes.specs.Prunes.{IsSmall}
-use Rattle.radix_nodes.proofs.Drains.{Left, left_start, left_next, left_room, left_small, left_fewer, left_noded, left_nibbled, left_end, start_room}
+use Rattle.radix_nodes.proofs.EditLemmas.Drains.{Left, left_start, left_next, left_room, left_small, left_fewer, left_noded, left_nibbled, left_end, start_room}
 use Rattle.radix_nodes.proofs.traversal.drain.+drain.Goals as goal
 
 pub put_pair-requires : goal.put_pair-requires

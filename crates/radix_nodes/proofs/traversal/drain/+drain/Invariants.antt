@@ -1,8 +1,8 @@
 use Rattle.std.proofs.Common.{◌≡◌, length, vec_capacity}
 use Rattle.std.specs.Vec.Iter.{into_iter_items, into_iter_len}
-use Rattle.nibble_map.specs.Kept.{nodes_in}
+use Rattle.masked_tree.specs.Tree.{nodes_in}
 use Rattle.radix_nodes.specs.Nodes.{tree_of}
-use Rattle.radix_nodes.proofs.Drains.{Left}
+use Rattle.radix_nodes.proofs.EditLemmas.Drains.{Left}
 use Rattle.radix_nodes.proofs.traversal.drain.+drain.Given as goal
 
 abbrev pub decreases-drain : goal.decreases-drain

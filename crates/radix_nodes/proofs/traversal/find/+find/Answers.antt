@@ -1,5 +1,5 @@
 use Rattle.std.proofs.Common.{◌∙◌, sym, arith}
-use Rattle.radix_nodes.proofs.Searches.{match_up, node_here, stuck_absent, down_placed, found_up, found_down}
+use Rattle.radix_nodes.proofs.SearchLemmas.{match_up, node_here, stuck_absent, down_placed, found_up, found_down}
 use Rattle.radix_nodes.proofs.traversal.find.+find.Goals as goal
 
 pub returns-then-depth-len : goal.returns-then-depth-len

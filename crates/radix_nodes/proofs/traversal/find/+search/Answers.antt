@@ -1,9 +1,9 @@
 use Rattle.std.proofs.Common.{◌+◌, ◌<◌, ◌∙◌, length, drop, ap, sym, arith}
 use Rattle.std.proofs.lemmas.List.{length-drop}
-use Rattle.nibble_map.proofs.KeptSearch.{walked_most}
+use Rattle.masked_tree.proofs.PathLemmas.Search.{walked_most}
 use Rattle.radix_nodes.specs.Nodes.{tree_of, fragment_of}
-use Rattle.radix_nodes.proofs.Steps.{none_stuck}
-use Rattle.radix_nodes.proofs.Searches.{match_up, node_here, stuck_absent, down_placed, found_up, found_down, count_end, count_none, count_step, count_stop, met_down, met_off, met_same, met_inside}
+use Rattle.radix_nodes.proofs.EditLemmas.Insertion.{none_stuck}
+use Rattle.radix_nodes.proofs.SearchLemmas.{match_up, node_here, stuck_absent, down_placed, found_up, found_down, count_end, count_none, count_step, count_stop, met_down, met_off, met_same, met_inside}
 use Rattle.radix_nodes.proofs.traversal.find.+search.Goals as goal
 
 pub returns-then-depth-len-clause-found : goal.returns-then-depth-len-clause-found

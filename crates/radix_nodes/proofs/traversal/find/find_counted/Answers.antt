@@ -1,11 +1,11 @@
 use Rattle.std.proofs.Common.{◌∙◌, ◌++◌, [], ap, sym, subst}
-use Rattle.nibble_map.specs.KeptPaths.{IsNodeAt}
+use Rattle.masked_tree.specs.Paths.{IsNodeAt}
 use Rattle.nibble_map.specs.Queries.{IsCompared}
-use Rattle.nibble_map.specs.Kept.{entries_at}
-use Rattle.nibble_map.proofs.KeptPoints.{searched}
+use Rattle.masked_tree.specs.Tree.{entries_at}
+use Rattle.masked_tree.proofs.TreeLemmas.Points.{searched}
 use Rattle.radix_nodes.specs.Nodes.{tree_of}
-use Rattle.radix_nodes.proofs.Nodes.{fragment_out}
-use Rattle.radix_nodes.proofs.Searches.{match_up}
+use Rattle.radix_nodes.proofs.NodeLemmas.Nodes.{fragment_out}
+use Rattle.radix_nodes.proofs.SearchLemmas.{match_up}
 use Rattle.radix_nodes.proofs.traversal.find.find_counted.Goals as goal
 
 pub returns-clause-found : goal.returns-clause-found

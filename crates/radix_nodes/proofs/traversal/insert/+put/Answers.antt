@@ -1,12 +1,12 @@
 use Rattle.std.proofs.Common.{◌≡◌, ◌≢◌, ◌+◌, ◌<◌, ◌≤◌, ◌∙◌, ◌++◌, take, drop, sym, ap, subst, length, slice_index, arith, Ok, Err}
 use Rattle.std.proofs.Math.Seq.{drop-length}
-use Rattle.nibble_map.specs.Masks.{IsPlaceOf}
-use Rattle.nibble_map.specs.Kept.{firsts, IsTreePlaced}
+use Rattle.masked_tree.specs.Mask.{IsPlaceOf}
+use Rattle.masked_tree.specs.Tree.{firsts, IsTreePlaced}
 use Rattle.radix_nodes.specs.Nodes.{tree_of, fragment_of, EditOutcome}
 use Rattle.radix_nodes.specs.declared.trie_node.TrieNode.{out-TrieNode}
-use Rattle.radix_nodes.proofs.Steps.{set_step, kid_step, kid_placed, kid_first, kid_within, looked, edit_replaces, take_first, take_some, path_down, path_part, split_some, length_some}
+use Rattle.radix_nodes.proofs.EditLemmas.Insertion.{set_step, kid_step, kid_placed, kid_first, kid_within, looked, edit_replaces, take_first, take_some, path_down, path_part, split_some, length_some}
 use Rattle.radix_nodes.proofs.traversal.insert.+put.Goals as goal
-use Rattle.nibble_map.proofs.Cut.{first-append, append-some}
+use Rattle.nibble_map.proofs.ListLemmas.Cut.{first-append, append-some}
 
 pub returns-then-depth-len : goal.returns-then-depth-len
 returns-then-depth-len g t c =

@@ -1,8 +1,8 @@
 use Rattle.std.proofs.Common.{sym, ap, refl, arith, ◌-◌}
 use Rattle.radix_nodes.specs.declared.trie_node.TrieNode.{out-TrieNode, out-roll-TrieNode}
 use Rattle.radix_nodes.specs.Nodes.{tree_of, fragment_of}
-use Rattle.radix_nodes.proofs.Nodes.{kids_kept, fragment_out}
-use Rattle.radix_nodes.proofs.Steps.{leaf_step, gap_within, gap_free}
+use Rattle.radix_nodes.proofs.NodeLemmas.Nodes.{kids_kept, fragment_out}
+use Rattle.radix_nodes.proofs.EditLemmas.Insertion.{leaf_step, gap_within, gap_free}
 use Rattle.radix_nodes.proofs.traversal.insert.add_leaf.Goals as goal
 
 pub returns-in_default : goal.returns-in_default

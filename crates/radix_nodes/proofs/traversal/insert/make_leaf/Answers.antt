@@ -1,6 +1,6 @@
 use Rattle.std.proofs.Common.{◌∙◌, ap}
 use Rattle.radix_nodes.specs.declared.trie_node.TrieNode.{out-TrieNode, out-roll-TrieNode}
-use Rattle.radix_nodes.proofs.Nodes.{leaf_tree}
+use Rattle.radix_nodes.proofs.NodeLemmas.Nodes.{leaf_tree}
 use Rattle.radix_nodes.proofs.traversal.insert.make_leaf.Goals as goal
 
 pub returns-in-Ok-new-2-clause-made : goal.returns-in-Ok-new-2-clause-made

@@ -1,11 +1,11 @@
 use Rattle.std.proofs.Common.{◌<◌, ◌∙◌, ◌∷◌, [], refl, sym, ap, subst, take, drop, arith, ◌-◌, Err, Some}
 use Rattle.std.proofs.Math.Seq.{drop-length}
 use Rattle.nibble_map.specs.Trees.{first}
-use Rattle.nibble_map.specs.Masks.{IsPlaceOf}
-use Rattle.nibble_map.specs.KeptEdits.{with_pair}
+use Rattle.masked_tree.specs.Mask.{IsPlaceOf}
+use Rattle.masked_tree.specs.Edits.{with_pair}
 use Rattle.radix_nodes.specs.Nodes.{tree_of, fragment_of}
-use Rattle.radix_nodes.proofs.Nodes.{pair_is, fragment_out}
-use Rattle.radix_nodes.proofs.Steps.{here_step, beside_step, parted_free}
+use Rattle.radix_nodes.proofs.NodeLemmas.Nodes.{pair_is, fragment_out}
+use Rattle.radix_nodes.proofs.EditLemmas.Insertion.{here_step, beside_step, parted_free}
 use Rattle.radix_nodes.proofs.traversal.insert.split_and_put.Goals as goal
 
 pub returns-in-Ok-new : goal.returns-in-Ok-new

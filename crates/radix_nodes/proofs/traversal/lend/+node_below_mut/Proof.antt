@@ -50,13 +50,13 @@ use Rattle.std.specs.declared.alloc.Global.{Global}
 use Rattle.std.specs.contracts.option.Option.{the_row as option_row}
 use Rattle.std.proofs.option.Option.TheLaws.{the_row_laws as option_laws}
 use Rattle.std.proofs.VecSteps.Shapes.{after}
-use Rattle.radix_nodes.proofs.Lent.{so_then, apart_above, tied}
-use Rattle.nibble_map.specs.Kept.{IsTreePlaced}
-use Rattle.nibble_map.specs.KeptPaths.{IsStuck}
+use Rattle.radix_nodes.proofs.LendingLemmas.Lent.{so_then, apart_above, tied}
+use Rattle.masked_tree.specs.Tree.{IsTreePlaced}
+use Rattle.masked_tree.specs.Paths.{IsStuck}
 use Rattle.radix_keys.specs.contracts.nibbles.NibbleVec.{the_row as list_row}
 use Rattle.radix_keys.proofs.nibbles.NibbleVec.TheLaws.{the_row_laws as list_laws}
-use Rattle.radix_nodes.proofs.Lending.{if_some, child_replaced, child_kept}
-use Rattle.radix_nodes.proofs.Steps.{kid_placed}
+use Rattle.radix_nodes.proofs.LendingLemmas.Writes.{if_some, child_replaced, child_kept}
+use Rattle.radix_nodes.proofs.EditLemmas.Insertion.{kid_placed}
 use Rattle.radix_nodes.specs.Nodes.{tree_of, fragment_of, IsStep}
 use Rattle.radix_nodes.specs.Lending.{Replaces, KeepsNode}
 use Rattle.radix_nodes.specs.Loans.{LendsChildBox, LendsUnboxed, LendsNode, node_box, with_child}

@@ -1,8 +1,8 @@
 use Rattle.std.proofs.Common.{◌++◌, ◌∙◌, refl, sym, subst, drop, arith}
 use Rattle.radix_nodes.specs.Lending.{Replaces}
 use Rattle.radix_nodes.specs.Nodes.{tree_of, fragment_of}
-use Rattle.radix_nodes.proofs.Lending.{own_replaced}
-use Rattle.radix_nodes.proofs.Searches.{stuck_absent}
+use Rattle.radix_nodes.proofs.LendingLemmas.Writes.{own_replaced}
+use Rattle.radix_nodes.proofs.SearchLemmas.{stuck_absent}
 use Rattle.radix_nodes.proofs.traversal.lend.here.Goals as goal
 
 pub returns-then-depth-len : goal.returns-then-depth-len

@@ -1,14 +1,14 @@
 use Rattle.std.proofs.Common.{◌≡◌, ◌++◌, ◌∙◌, refl, sym, drop, subst, length, Option, MutBor, arith}
 use Rattle.std.specs.Option.{IfSome}
-use Rattle.nibble_map.specs.Kept.{Tree}
-use Rattle.nibble_map.specs.KeptPaths.{IsNodeAt}
+use Rattle.masked_tree.specs.Tree.{Tree}
+use Rattle.masked_tree.specs.Paths.{IsNodeAt}
 use Rattle.radix_nodes.specs.declared.trie_node.TrieNode.{TrieNode, out-TrieNode}
 use Rattle.radix_nodes.specs.declared.trie_node.KeyValue.{KeyValue}
 use Rattle.radix_nodes.specs.Lending.{Replaces, OnNone}
 use Rattle.radix_nodes.specs.Loans.{with_child}
 use Rattle.radix_nodes.specs.Nodes.{tree_of, fragment_of}
-use Rattle.radix_nodes.proofs.Lending.{own_replaced, child_replaced, child_kept, value_like, value_written, value_kept, lacks, none_lacks, unchanged}
-use Rattle.radix_nodes.proofs.Steps.{kid_placed, stuck_lacks}
+use Rattle.radix_nodes.proofs.LendingLemmas.Writes.{own_replaced, child_replaced, child_kept, value_like, value_written, value_kept, lacks, none_lacks, unchanged}
+use Rattle.radix_nodes.proofs.EditLemmas.Insertion.{kid_placed, stuck_lacks}
 use Rattle.radix_nodes.proofs.traversal.lend.value_at_mut.Goals as goal
 
 pub returns-then-len-eq0 : goal.returns-then-len-eq0

@@ -1,12 +1,12 @@
 use Rattle.std.proofs.Common.{◌≡◌, ◌≢◌, ◌+◌, ◌<◌, ◌++◌, ◌∙◌, [], refl, sym, ap, subst, arith, length, drop}
-use Rattle.nibble_map.specs.Kept.{IsTreePlaced}
+use Rattle.masked_tree.specs.Tree.{IsTreePlaced}
 use Rattle.radix_nodes.specs.declared.trie_node.TrieNode.{out-TrieNode}
 use Rattle.radix_nodes.specs.Nodes.{tree_of, fragment_of}
-use Rattle.radix_nodes.proofs.Removes.{same_at}
-use Rattle.radix_nodes.proofs.Steps.{kid_placed, is_at}
-use Rattle.radix_nodes.proofs.Searches.{nearest_none, nearest_parted}
+use Rattle.radix_nodes.proofs.EditLemmas.Removal.{same_at}
+use Rattle.radix_nodes.proofs.EditLemmas.Insertion.{kid_placed, is_at}
+use Rattle.radix_nodes.proofs.SearchLemmas.{nearest_none, nearest_parted}
 use Rattle.radix_nodes.specs.Prunes.{IsSmall, PruneOutcome}
-use Rattle.radix_nodes.proofs.Branches.{item_at, small_kid, branch_child, goes_on, prune_up}
+use Rattle.radix_nodes.proofs.EditLemmas.Branches.{item_at, small_kid, branch_child, goes_on, prune_up}
 use Rattle.radix_nodes.proofs.traversal.prune.+prune.Goals as goal
 
 pub prune-requires : goal.prune-requires

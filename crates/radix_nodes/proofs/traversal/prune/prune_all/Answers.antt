@@ -1,9 +1,9 @@
 use Rattle.std.proofs.Common.{◌≡◌, ◌+◌, ◌∙◌, length, ap, arith}
-use Rattle.nibble_map.specs.Kept.{nodes_in, nibbles_in}
-use Rattle.nibble_map.specs.KeptEdits.{empty}
-use Rattle.nibble_map.proofs.KeptCuts.{all_goes}
+use Rattle.masked_tree.specs.Tree.{nodes_in, nibbles_in}
+use Rattle.masked_tree.specs.Edits.{empty}
+use Rattle.masked_tree.proofs.EditLemmas.Removal.{all_goes}
 use Rattle.radix_nodes.specs.Nodes.{tree_of}
-use Rattle.radix_nodes.proofs.Nodes.{fragment_out}
+use Rattle.radix_nodes.proofs.NodeLemmas.Nodes.{fragment_out}
 use Rattle.radix_nodes.proofs.traversal.prune.prune_all.Goals as goal
 
 pub returns-clause-cut : goal.returns-clause-cut

@@ -1,8 +1,8 @@
 use Rattle.std.proofs.Common.{◌∙◌, sym, ap}
-use Rattle.nibble_map.proofs.KeptKids.{at_same}
+use Rattle.masked_tree.proofs.TreeLemmas.Children.{at_same}
 use Rattle.radix_nodes.specs.Nodes.{tree_of}
 use Rattle.radix_nodes.specs.Pairs.{pairs_in}
-use Rattle.radix_nodes.proofs.Branches.{small_kid}
+use Rattle.radix_nodes.proofs.EditLemmas.Branches.{small_kid}
 use Rattle.radix_nodes.proofs.traversal.prune.prune_child.Goals as goal
 
 pub emptied-requires-clause-small : goal.emptied-requires-clause-small

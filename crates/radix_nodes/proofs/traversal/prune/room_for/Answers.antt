@@ -1,9 +1,9 @@
 use Rattle.std.proofs.Common.{[], length, sym, ap, arith}
-use Rattle.nibble_map.specs.Kept.{entries_at}
+use Rattle.masked_tree.specs.Tree.{entries_at}
 use Rattle.radix_nodes.specs.declared.trie_node.TrieNode.{out-TrieNode}
 use Rattle.radix_nodes.specs.Nodes.{tree_of}
-use Rattle.radix_nodes.proofs.Removes.{child_is}
-use Rattle.radix_nodes.proofs.Sizes.{child_fewer}
+use Rattle.radix_nodes.proofs.EditLemmas.Removal.{child_is}
+use Rattle.radix_nodes.proofs.NodeLemmas.Sizes.{child_fewer}
 use Rattle.radix_nodes.proofs.traversal.prune.room_for.Goals as goal
 
 pub count_pairs-requires : goal.count_pairs-requires

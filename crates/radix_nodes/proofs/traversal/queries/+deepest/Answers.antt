@@ -1,6 +1,6 @@
 use Rattle.std.proofs.Common.{sym, arith}
 use Rattle.radix_nodes.specs.Nodes.{tree_of}
-use Rattle.radix_nodes.proofs.Searches.{deepest_here, down_placed, deepest_down}
+use Rattle.radix_nodes.proofs.SearchLemmas.{deepest_here, down_placed, deepest_down}
 use Rattle.radix_nodes.proofs.traversal.queries.+deepest.Goals as goal
 
 pub deepest-requires : goal.deepest-requires

@@ -1,6 +1,6 @@
 use Rattle.std.proofs.Common.{sym, arith}
 use Rattle.radix_nodes.specs.Nodes.{tree_of}
-use Rattle.radix_nodes.proofs.Searches.{down_placed, deepest_held, own_deepest, own_below, own_none, none_below}
+use Rattle.radix_nodes.proofs.SearchLemmas.{down_placed, deepest_held, own_deepest, own_below, own_none, none_below}
 use Rattle.radix_nodes.proofs.traversal.queries.+deepest_pair.Goals.{in-Some+in_default-deepest_pair, in_default}
 use Rattle.radix_nodes.proofs.traversal.queries.+deepest_pair.Goals as goal
 

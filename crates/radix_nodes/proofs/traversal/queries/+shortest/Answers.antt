@@ -1,6 +1,6 @@
 use Rattle.std.proofs.Common.{◌+◌, ◌<◌, ◌∙◌, length, ap, sym, arith}
 use Rattle.radix_nodes.specs.Nodes.{tree_of, fragment_of}
-use Rattle.radix_nodes.proofs.Searches.{match_up, down_placed, met_down, nearest_here, nearest_none, nearest_inside, nearest_parted, nearest_up, nearest_free}
+use Rattle.radix_nodes.proofs.SearchLemmas.{match_up, down_placed, met_down, nearest_here, nearest_none, nearest_inside, nearest_parted, nearest_up, nearest_free}
 use Rattle.radix_nodes.proofs.traversal.queries.+shortest.Goals as goal
 
 pub returns-then-depth-len : goal.returns-then-depth-len

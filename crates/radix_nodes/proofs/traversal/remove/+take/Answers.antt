@@ -1,14 +1,14 @@
 use Rattle.std.proofs.Common.{◌≡◌, ◌≢◌, ◌<◌, ◌++◌, ◌∙◌, refl, sym, ap, subst, arith, length, drop, append-nil, vec_len, []}
 use Rattle.std.proofs.Math.Seq.{drop-length}
 use Rattle.radix_nodes.specs.declared.trie_node.TrieNode.{out-TrieNode}
-use Rattle.nibble_map.specs.Kept.{IsTreePlaced}
+use Rattle.masked_tree.specs.Tree.{IsTreePlaced}
 use Rattle.radix_nodes.specs.Nodes.{tree_of, fragment_of, CutOutcome}
-use Rattle.radix_nodes.proofs.Nodes.{fragment_out}
-use Rattle.radix_nodes.proofs.Steps.{kid_placed, is_at, stuck_lacks}
-use Rattle.radix_nodes.proofs.Removes.{child_is, no_kids, kid_cut, same_at}
+use Rattle.radix_nodes.proofs.NodeLemmas.Nodes.{fragment_out}
+use Rattle.radix_nodes.proofs.EditLemmas.Insertion.{kid_placed, is_at, stuck_lacks}
+use Rattle.radix_nodes.proofs.EditLemmas.Removal.{child_is, no_kids, kid_cut, same_at}
 use Rattle.radix_nodes.proofs.traversal.remove.+take.Goals.{else-next-len-via-then-next-len+else-is_end, else-next-len-via-else-next-len}
 use Rattle.radix_nodes.proofs.traversal.remove.+take.Goals as goal
-use Rattle.nibble_map.proofs.Cut.{first-append, append-some}
+use Rattle.nibble_map.proofs.ListLemmas.Cut.{first-append, append-some}
 
 pub take_leaf-requires-clause-leaf : goal.take_leaf-requires-clause-leaf
 take_leaf-requires-clause-leaf g t c u a =

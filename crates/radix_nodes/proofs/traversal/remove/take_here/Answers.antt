@@ -1,10 +1,10 @@
 use Rattle.std.proofs.Common.{◌++◌, ◌∙◌, refl, sym, ap, arith}
-use Rattle.radix_nodes.proofs.Steps.{free_here, held_here}
+use Rattle.radix_nodes.proofs.EditLemmas.Insertion.{free_here, held_here}
 use Rattle.radix_nodes.specs.declared.trie_node.TrieNode.{out-TrieNode}
-use Rattle.nibble_map.specs.KeptEdits.{merged}
+use Rattle.masked_tree.specs.Edits.{merged}
 use Rattle.radix_nodes.specs.Nodes.{tree_of}
-use Rattle.radix_nodes.proofs.Nodes.{fragment_out}
-use Rattle.radix_nodes.proofs.Removes.{merged_fragment, long_path, one_kid, unpaired, merged_cut, pair_cut}
+use Rattle.radix_nodes.proofs.NodeLemmas.Nodes.{fragment_out}
+use Rattle.radix_nodes.proofs.EditLemmas.Removal.{merged_fragment, long_path, one_kid, unpaired, merged_cut, pair_cut}
 use Rattle.radix_nodes.proofs.traversal.remove.take_here.Goals as goal
 
 pub absorb-requires-clause-joined : goal.absorb-requires-clause-joined

@@ -1,10 +1,10 @@
 use Rattle.std.proofs.Common.{◌∙◌, ◌≡◌, ◌<◌, length, None, IsSome, sym, ap, subst, refl, arith}
-use Rattle.nibble_map.proofs.KeptKids.{at_same}
+use Rattle.masked_tree.proofs.TreeLemmas.Children.{at_same}
 use Rattle.radix_nodes.specs.declared.trie_node.TrieNode.{out-TrieNode}
 use Rattle.radix_nodes.specs.Nodes.{tree_of, fragment_of, unboxed}
-use Rattle.radix_nodes.proofs.Nodes.{fragment_out}
-use Rattle.radix_nodes.proofs.Steps.{kid_placed, kid_free, kid_held, free_here, held_here}
-use Rattle.radix_nodes.proofs.Removes.{leaf_path, held, leaf_cut}
+use Rattle.radix_nodes.proofs.NodeLemmas.Nodes.{fragment_out}
+use Rattle.radix_nodes.proofs.EditLemmas.Insertion.{kid_placed, kid_free, kid_held, free_here, held_here}
+use Rattle.radix_nodes.proofs.EditLemmas.Removal.{leaf_path, held, leaf_cut}
 use Rattle.radix_nodes.proofs.traversal.remove.take_leaf.Goals as goal
 
 pub returns-in-Ok : goal.returns-in-Ok

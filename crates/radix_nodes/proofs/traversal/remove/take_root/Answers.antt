@@ -1,15 +1,15 @@
 use Rattle.std.proofs.Common.{◌≡◌, ◌≢◌, ◌<◌, ◌++◌, ◌∙◌, sym, ap, subst, refl, arith, length, drop, append-nil, vec_len, [], IsSome, None}
-use Rattle.nibble_map.specs.KeptPaths.{IsHeld}
+use Rattle.masked_tree.specs.Paths.{IsHeld}
 use Rattle.std.proofs.lemmas.List.{nil_from_length}
 use Rattle.std.proofs.Math.Seq.{drop-length}
 use Rattle.radix_nodes.specs.declared.trie_node.TrieNode.{out-TrieNode}
-use Rattle.nibble_map.specs.Kept.{IsTreePlaced}
+use Rattle.masked_tree.specs.Tree.{IsTreePlaced}
 use Rattle.radix_nodes.specs.Nodes.{tree_of, fragment_of, unboxed, CutOutcome}
-use Rattle.radix_nodes.proofs.Nodes.{fragment_out}
-use Rattle.radix_nodes.proofs.Steps.{kid_placed, kid_free, is_at, stuck_lacks, step_within, step_end, free_here}
-use Rattle.radix_nodes.proofs.Removes.{child_is, no_kids, kid_root, pair_root, leaf_root, unpaired, unpaired_same, held}
+use Rattle.radix_nodes.proofs.NodeLemmas.Nodes.{fragment_out}
+use Rattle.radix_nodes.proofs.EditLemmas.Insertion.{kid_placed, kid_free, is_at, stuck_lacks, step_within, step_end, free_here}
+use Rattle.radix_nodes.proofs.EditLemmas.Removal.{child_is, no_kids, kid_root, pair_root, leaf_root, unpaired, unpaired_same, held}
 use Rattle.radix_nodes.proofs.traversal.remove.take_root.Goals as goal
-use Rattle.nibble_map.proofs.Cut.{first-append, append-some}
+use Rattle.nibble_map.proofs.ListLemmas.Cut.{first-append, append-some}
 
 pub returns-in-Some : goal.returns-in-Some
 returns-in-Some g c =

@@ -1,7 +1,7 @@
 use Rattle.std.proofs.Common.{arith, ◌∙◌, sym}
 use Rattle.radix_nodes.specs.Nodes.{out_of}
 use Rattle.radix_nodes.specs.SameValues.{same_values}
-use Rattle.radix_nodes.proofs.SameNodes.{fragments_differ, pairs_differ, children_differ, all_same, lengths_differ, child_decides, all_agree, from_not, to_not}
+use Rattle.radix_nodes.proofs.CopyLemmas.Same.{fragments_differ, pairs_differ, children_differ, all_same, lengths_differ, child_decides, all_agree, from_not, to_not}
 use Rattle.radix_nodes.proofs.traversal.same.+same.Goals as goal
 
 pub returns-then-ne : goal.returns-then-ne

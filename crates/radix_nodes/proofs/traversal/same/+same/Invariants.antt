@@ -1,7 +1,7 @@
 use Rattle.std.proofs.Common.{◌≡◌, drop}
 use Rattle.radix_nodes.specs.Nodes.{out_of}
 use Rattle.radix_nodes.specs.SameValues.{same_values}
-use Rattle.radix_nodes.proofs.SameNodes.{same_boxes}
+use Rattle.radix_nodes.proofs.CopyLemmas.Same.{same_boxes}
 use Rattle.radix_nodes.proofs.traversal.same.+same.Given as goal
 
 -- what is left of the children decides

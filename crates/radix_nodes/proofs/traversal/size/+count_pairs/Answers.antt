@@ -1,8 +1,8 @@
 use Rattle.std.proofs.Common.{◌<◌, ◌≤◌, ◌∙◌, [], get_or, ap, sym, subst, length, arith}
-use Rattle.nibble_map.specs.Kept.{entries_at, nodes_in}
+use Rattle.masked_tree.specs.Tree.{entries_at, nodes_in}
 use Rattle.radix_nodes.specs.declared.trie_node.TrieNode.{out-TrieNode}
 use Rattle.radix_nodes.specs.Nodes.{tree_of}
-use Rattle.radix_nodes.proofs.Sizes.{child_fewer}
+use Rattle.radix_nodes.proofs.NodeLemmas.Sizes.{child_fewer}
 use Rattle.radix_nodes.proofs.traversal.size.+count_pairs.Goals as goal
 
 pub count_pairs-count-requires : goal.count_pairs-count-requires

@@ -1,6 +1,6 @@
 use Rattle.std.proofs.Common.{◌≡◌, ◌+◌, [], length, drop}
-use Rattle.nibble_map.specs.Kept.{entries_at, nodes_in}
-use Rattle.nibble_map.specs.KeptSizes.{pairs_in}
+use Rattle.masked_tree.specs.Tree.{entries_at, nodes_in}
+use Rattle.masked_tree.specs.Sizes.{pairs_in}
 use Rattle.radix_nodes.specs.Nodes.{tree_of, kids_of}
 use Rattle.radix_nodes.proofs.traversal.size.+count_pairs.Given as goal
 

@@ -1,5 +1,5 @@
 use Rattle.std.proofs.Common.{◌≡◌, max, drop}
-use Rattle.nibble_map.specs.KeptSizes.{levels}
+use Rattle.masked_tree.specs.Sizes.{levels}
 use Rattle.radix_nodes.specs.Nodes.{tree_of, kids_of}
 use Rattle.radix_nodes.proofs.traversal.size.+height.Given as goal
 

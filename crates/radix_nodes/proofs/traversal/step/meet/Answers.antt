@@ -1,10 +1,10 @@
 use Rattle.std.proofs.Common.{◌∙◌, ap, sym, subst, arith, Ok, Err, drop}
-use Rattle.nibble_map.specs.Masks.{bit_of}
-use Rattle.nibble_map.specs.Kept.{firsts}
-use Rattle.nibble_map.specs.Agreement.{Agrees}
+use Rattle.masked_tree.specs.Mask.{bit_of}
+use Rattle.masked_tree.specs.Tree.{firsts}
+use Rattle.masked_tree.specs.Agreement.{Agrees}
 use Rattle.radix_nodes.specs.declared.trie_node.TrieNode.{out-TrieNode}
 use Rattle.radix_nodes.specs.Nodes.{tree_of, fragment_of}
-use Rattle.radix_nodes.proofs.Steps.{agreed, kid_within, looked, met}
+use Rattle.radix_nodes.proofs.EditLemmas.Insertion.{agreed, kid_within, looked, met}
 use Rattle.radix_nodes.proofs.traversal.step.meet.Goals as goal
 
 pub index-requires : goal.index-requires

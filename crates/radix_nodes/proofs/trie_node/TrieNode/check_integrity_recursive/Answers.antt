@@ -1,8 +1,8 @@
 use Rattle.std.proofs.Common.{◌<◌, ◌^◌, ◌↔◌, ◌∙◌, IsTrue, cond, ap, sym, subst}
 use Rattle.radix_nodes.specs.Nodes.{tree_of}
 use Rattle.radix_nodes.specs.Soundness.{IsCanonicalAt}
-use Rattle.radix_nodes.proofs.Removes.{if_ok}
-use Rattle.radix_nodes.proofs.Soundness.{decided, pairs_at}
+use Rattle.radix_nodes.proofs.EditLemmas.Removal.{if_ok}
+use Rattle.radix_nodes.proofs.CheckerLemmas.{decided, pairs_at}
 use Rattle.radix_nodes.proofs.trie_node.TrieNode.check_integrity_recursive.Goals as goal
 
 pub test-requires : goal.test-requires

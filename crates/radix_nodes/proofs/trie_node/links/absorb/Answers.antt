@@ -1,6 +1,6 @@
 use Rattle.std.proofs.Common.{◌∙◌, sym}
 use Rattle.radix_nodes.specs.declared.trie_node.TrieNode.{out-TrieNode}
-use Rattle.radix_nodes.proofs.Removes.{absorbed_tree}
+use Rattle.radix_nodes.proofs.EditLemmas.Removal.{absorbed_tree}
 use Rattle.radix_nodes.proofs.trie_node.links.absorb.Goals as goal
 
 pub returns : goal.returns

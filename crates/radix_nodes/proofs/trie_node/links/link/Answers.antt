@@ -1,4 +1,4 @@
-use Rattle.radix_nodes.proofs.Nodes.{linked}
+use Rattle.radix_nodes.proofs.NodeLemmas.Nodes.{linked}
 use Rattle.radix_nodes.proofs.trie_node.links.link.Goals as goal
 
 pub returns : goal.returns

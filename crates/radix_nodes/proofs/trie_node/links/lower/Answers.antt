@@ -1,7 +1,7 @@
 use Rattle.std.proofs.Common.{◌≡◌, ◌∙◌, sym, ap, subst, refl}
-use Rattle.nibble_map.specs.KeptEdits.{lowered}
+use Rattle.masked_tree.specs.Edits.{lowered}
 use Rattle.radix_nodes.specs.Nodes.{IsUpper, fragment_of, tree_of}
-use Rattle.radix_nodes.proofs.Nodes.{lower_tree}
+use Rattle.radix_nodes.proofs.NodeLemmas.Nodes.{lower_tree}
 use Rattle.radix_nodes.proofs.trie_node.links.lower.Goals as goal
 
 pub returns-clause-tree : goal.returns-clause-tree

@@ -2,9 +2,9 @@ use Rattle.std.proofs.Common.{◌<◌, ◌∙◌, sym, ap, subst, arith, length}
 use Rattle.nibble_map.specs.Trees.{first}
 use Rattle.radix_nodes.specs.declared.trie_node.TrieNode.{out-TrieNode}
 use Rattle.radix_nodes.specs.Nodes.{fragment_of}
-use Rattle.radix_nodes.proofs.Nodes.{fragment_out}
-use Rattle.radix_nodes.proofs.Steps.{kid_placed, is_at, length_some}
-use Rattle.radix_nodes.proofs.Removes.{unlinked}
+use Rattle.radix_nodes.proofs.NodeLemmas.Nodes.{fragment_out}
+use Rattle.radix_nodes.proofs.EditLemmas.Insertion.{kid_placed, is_at, length_some}
+use Rattle.radix_nodes.proofs.EditLemmas.Removal.{unlinked}
 use Rattle.radix_nodes.proofs.trie_node.links.unlink.Goals as goal
 
 pub get-requires : goal.get-requires

@@ -1,4 +1,4 @@
-use Rattle.nibble_map.proofs.Masks.{place_absent, place_present}
+use Rattle.masked_tree.proofs.MaskLemmas.{place_absent, place_present}
 use Rattle.radix_nodes.proofs.trie_node.mask.place.Goals as goal
 
 pub returns-then-mask-bit-eq0 : goal.returns-then-mask-bit-eq0

@@ -1,10 +1,11 @@
 use Rattle.std.proofs.Common.{◌∙◌, ◌↔◌, sym, subst}
 use Rattle.std.specs.Prelude.{IsTrue}
 use Rattle.nibble_map.specs.MapQueries.{IsSame}
-use Rattle.nibble_map.proofs.SameTests.{maps_tell, tree_test}
+use Rattle.nibble_map.proofs.MapLemmas.SameTests.{maps_tell}
+use Rattle.masked_tree.proofs.SameLemmas.Tests.{tree_test}
 use Rattle.radix_nodes.specs.Pairs.{pair_of}
-use Rattle.radix_trie.proofs.Held.{root_rows}
-use Rattle.radix_trie.proofs.Roots.{root_is_full}
+use Rattle.radix_trie.proofs.RootLemmas.Held.{root_rows}
+use Rattle.radix_trie.proofs.RootLemmas.Roots.{root_is_full}
 use Rattle.radix_trie.proofs.equality.TriePartialEq.eq.Goals as goal
 
 pub returns-clause-computed : goal.returns-clause-computed

@@ -1,4 +1,4 @@
-use Rattle.radix_trie.proofs.WalkRows.{pair_pointed}
+use Rattle.radix_trie.proofs.WalkLemmas.Rows.{pair_pointed}
 use Rattle.radix_trie.proofs.iter.walk.pair_at.Goals as goal
 
 pub returns : goal.returns

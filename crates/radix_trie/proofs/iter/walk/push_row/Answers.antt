@@ -1,6 +1,6 @@
 use Rattle.std.proofs.Common.{◌<◌, arith, length}
 use Rattle.std.proofs.lemmas.Bool.Decides.{nat_tests}
-use Rattle.radix_trie.proofs.WalkRows.{levels-some, length_rows, row_pushed}
+use Rattle.radix_trie.proofs.WalkLemmas.Rows.{levels-some, length_rows, row_pushed}
 use Rattle.radix_trie.proofs.iter.walk.push_row.Goals as goal
 
 pub push_reserved-requires : goal.push_reserved-requires

@@ -1,4 +1,4 @@
-use Rattle.radix_trie.proofs.Places.{point_place}
+use Rattle.radix_trie.proofs.PathLemmas.Places.{point_place}
 use Rattle.radix_trie.proofs.place.Place.at.Goals as goal
 
 pub invariant_of-result : goal.invariant_of-result

@@ -4,8 +4,8 @@ use Rattle.nibble_map.specs.Lists.{Each}
 use Rattle.nibble_map.specs.MapQueries.{AreKids}
 use Rattle.radix_nodes.specs.Nodes.{tree_of}
 use Rattle.radix_trie.specs.Views.{ReadView, paths_of}
-use Rattle.radix_trie.proofs.ChildViews.{node_here, node_past, kids_past, kids_free, kids_here, short_here, views_map, past_short}
-use Rattle.radix_trie.proofs.Places.{not_both, whole_or_inside}
+use Rattle.radix_trie.proofs.PathLemmas.ChildViews.{node_here, node_past, kids_past, kids_free, kids_here, short_here, views_map, past_short}
+use Rattle.radix_trie.proofs.PathLemmas.Places.{not_both, whole_or_inside}
 use Rattle.radix_trie.proofs.place.Place.children.Goals as goal
 
 pub children_of-requires : goal.children_of-requires

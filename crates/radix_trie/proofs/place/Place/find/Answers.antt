@@ -1,4 +1,4 @@
-use Rattle.radix_trie.proofs.Places.{found_place}
+use Rattle.radix_trie.proofs.PathLemmas.Places.{found_place}
 use Rattle.radix_trie.proofs.place.Place.find.Goals as goal
 
 pub invariant_of-result : goal.invariant_of-result

@@ -1,6 +1,6 @@
 use Rattle.std.proofs.Common.{sym, ◌∙◌}
-use Rattle.nibble_map.proofs.Descendant.{bare, bare_held, bare_leaf}
-use Rattle.radix_trie.proofs.Places.{not_both}
+use Rattle.nibble_map.proofs.PointLemmas.Descendant.{bare, bare_held, bare_leaf}
+use Rattle.radix_trie.proofs.PathLemmas.Places.{not_both}
 use Rattle.radix_trie.proofs.place.Place.is_empty.Goals as goal
 
 pub returns-in-Some : goal.returns-in-Some

@@ -1,5 +1,5 @@
 use Rattle.std.proofs.Common.{sym, ◌∙◌, refl}
-use Rattle.radix_trie.proofs.Places.{inside_no_leaf, leaf_free, whole_or_inside, leaf_tells, not_both}
+use Rattle.radix_trie.proofs.PathLemmas.Places.{inside_no_leaf, leaf_free, whole_or_inside, leaf_tells, not_both}
 use Rattle.radix_trie.proofs.place.Place.is_leaf.Goals as goal
 
 pub returns-then-covered-len : goal.returns-then-covered-len

@@ -1,6 +1,6 @@
 use Rattle.std.proofs.Common.{◌<◌, ◌^◌, ◌∙◌, rules, arith}
-use Rattle.radix_trie.proofs.Places.{few_here, pairs_here, pairs_free}
-use Rattle.radix_trie.proofs.Keyed.{keyed_walk}
+use Rattle.radix_trie.proofs.PathLemmas.Places.{few_here, pairs_here, pairs_free}
+use Rattle.radix_trie.proofs.WalkLemmas.Keyed.{keyed_walk}
 use Rattle.radix_trie.proofs.place.Place.iter.Goals as goal
 
 pub over-requires : goal.over-requires

@@ -1,5 +1,5 @@
 use Rattle.std.proofs.Common.{◌<◌, ◌^◌, ◌∙◌, rules, arith}
-use Rattle.radix_trie.proofs.Places.{few_here, len_here, len_free}
+use Rattle.radix_trie.proofs.PathLemmas.Places.{few_here, len_here, len_free}
 use Rattle.radix_trie.proofs.place.Place.len.Goals as goal
 
 pub count_pairs-requires : goal.count_pairs-requires

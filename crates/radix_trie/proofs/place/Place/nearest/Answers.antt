@@ -1,8 +1,8 @@
 use Rattle.std.proofs.Common.{ap, arith, length}
-use Rattle.radix_nodes.proofs.Nodes.{fragment_out}
-use Rattle.radix_trie.proofs.ChildViews.{node_past}
-use Rattle.radix_trie.proofs.Nearest.{nearest_point, no_point}
-use Rattle.radix_trie.proofs.Places.{nearest_of, not_both}
+use Rattle.radix_nodes.proofs.NodeLemmas.Nodes.{fragment_out}
+use Rattle.radix_trie.proofs.PathLemmas.ChildViews.{node_past}
+use Rattle.radix_trie.proofs.PathLemmas.Nearest.{nearest_point, no_point}
+use Rattle.radix_trie.proofs.PathLemmas.Places.{nearest_of, not_both}
 use Rattle.radix_trie.proofs.place.Place.nearest.Goals as goal
 
 pub extended-requires : goal.extended-requires

@@ -1,5 +1,5 @@
 use Rattle.std.proofs.Common.{sym, ◌∙◌}
-use Rattle.radix_trie.proofs.Places.{pair_here, pair_inside, pair_free, own_shown, whole_or_inside}
+use Rattle.radix_trie.proofs.PathLemmas.Places.{pair_here, pair_inside, pair_free, own_shown, whole_or_inside}
 use Rattle.radix_trie.proofs.place.Place.pair.Goals as goal
 
 pub returns-then-covered-len : goal.returns-then-covered-len

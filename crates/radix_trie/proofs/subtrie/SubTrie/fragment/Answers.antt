@@ -2,8 +2,8 @@ use Rattle.std.proofs.Common.{sym, subst}
 use Rattle.std.proofs.lemmas.Result.{IfOk-weaker}
 use Rattle.nibble_map.specs.MapQueries.{IsFragment}
 use Rattle.radix_nodes.specs.Nodes.{tree_of, fragment_of}
-use Rattle.radix_nodes.proofs.Nodes.{fragment_out}
-use Rattle.radix_trie.proofs.Paths.{node_fragment}
+use Rattle.radix_nodes.proofs.NodeLemmas.Nodes.{fragment_out}
+use Rattle.radix_trie.proofs.RootLemmas.Paths.{node_fragment}
 use Rattle.radix_trie.proofs.subtrie.SubTrie.fragment.Goals as goal
 
 pub returns-clause-fragment : goal.returns-clause-fragment

@@ -1,13 +1,13 @@
 use Rattle.std.proofs.Common.{◌≡◌, ◌++◌, ℕ, List, ap, sym, subst, ◌∙◌, length, drop}
 use Rattle.std.proofs.Math.Seq.{drop-append_seam}
-use Rattle.nibble_map.specs.KeptPaths.{IsNodeAt}
+use Rattle.masked_tree.specs.Paths.{IsNodeAt}
 use Rattle.nibble_map.specs.Lists.{IsPrefix}
 use Rattle.radix_nodes.specs.declared.trie_node.TrieNode.{TrieNode}
 use Rattle.radix_nodes.specs.Nodes.{tree_of, fragment_of}
-use Rattle.radix_nodes.proofs.Nodes.{fragment_out}
-use Rattle.radix_trie.proofs.Held.{node_get, no_node_get}
-use Rattle.radix_trie.proofs.Parts.{node_placed, from_node, none_from_node}
-use Rattle.radix_trie.proofs.Places.{own_shown}
+use Rattle.radix_nodes.proofs.NodeLemmas.Nodes.{fragment_out}
+use Rattle.radix_trie.proofs.RootLemmas.Held.{node_get, no_node_get}
+use Rattle.radix_trie.proofs.PathLemmas.Parts.{node_placed, from_node, none_from_node}
+use Rattle.radix_trie.proofs.PathLemmas.Places.{own_shown}
 use Rattle.radix_trie.proofs.subtrie.SubTrie.pair_at.Goals as goal
 
 -- where the search goes on from

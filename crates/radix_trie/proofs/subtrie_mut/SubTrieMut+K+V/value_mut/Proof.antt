@@ -39,8 +39,8 @@ use Rattle.std.proofs.option.Option.TheLaws.{the_row_laws as option_laws}
 use Rattle.nibble_map.specs.Maps.{PairMap, value_at, with_value}
 use Rattle.radix_keys.specs.contracts.nibbles.NibbleVec.{the_row as list_row}
 use Rattle.radix_keys.specs.declared.nibbles.NibbleVec.{NibbleVec}
-use Rattle.radix_nodes.proofs.Lent.{if_then}
-use Rattle.radix_trie.proofs.ViewParts as parts
+use Rattle.radix_nodes.proofs.LendingLemmas.Lent.{if_then}
+use Rattle.radix_trie.proofs.ViewLemmas as parts
 use Rattle.radix_trie.specs.Lends.{lends_own, lends_behind}
 use Rattle.radix_trie.specs.declared.subtrie_mut.SubTrieMut.{SubTrieMut}
 use Rattle.radix_trie.specs.contracts.subtrie_mut.SubTrieMut.{the_row}

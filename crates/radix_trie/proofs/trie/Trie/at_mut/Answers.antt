@@ -1,11 +1,11 @@
 use Rattle.std.proofs.Common.{◌≡◌, None, Option, option_map, MutBor, ap, inr, sym, refl, subst, ◌∙◌, ◌++◌}
 use Rattle.nibble_map.specs.Maps.{value_at}
-use Rattle.nibble_map.specs.KeptPaths.{IsHeld}
+use Rattle.masked_tree.specs.Paths.{IsHeld}
 use Rattle.radix_nodes.specs.Lending.{OnNone, Revalues}
 use Rattle.radix_nodes.specs.Nodes.{tree_of, fragment_of}
-use Rattle.radix_trie.proofs.Changes.{unheld_at}
-use Rattle.radix_trie.proofs.Held.{unheld_none}
-use Rattle.radix_trie.proofs.Written.{same_after, like_kept, kept_map, revalued_at, revalued_from, revalued_map}
+use Rattle.radix_trie.proofs.ChangeLemmas.Changes.{unheld_at}
+use Rattle.radix_trie.proofs.RootLemmas.Held.{unheld_none}
+use Rattle.radix_trie.proofs.ChangeLemmas.Written.{same_after, like_kept, kept_map, revalued_at, revalued_from, revalued_map}
 use Rattle.radix_trie.proofs.trie.Trie.at_mut.Goals as goal
 
 pub invariant_of-self-lent : goal.invariant_of-self-lent

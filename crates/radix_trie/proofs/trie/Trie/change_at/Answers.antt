@@ -1,7 +1,7 @@
 use Rattle.std.proofs.Common.{◌≡◌, Some, ap, sym, refl, ◌∙◌}
 use Rattle.std.specs.Option.{option_copied_mut}
 use Rattle.nibble_map.specs.Maps.{value_at}
-use Rattle.radix_trie.proofs.Written.{match_some}
+use Rattle.radix_trie.proofs.ChangeLemmas.Written.{match_some}
 use Rattle.radix_trie.proofs.trie.Trie.change_at.Goals as goal
 
 pub returns-in-Some : goal.returns-in-Some

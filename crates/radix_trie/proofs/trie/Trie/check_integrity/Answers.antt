@@ -1,9 +1,9 @@
 use Rattle.std.proofs.Common.{◌≡◌, ◌<◌, ◌^◌, true, false, cond, length, arith, ap, sym, subst, ◌∙◌}
 use Rattle.std.proofs.lemmas.Bool.{eq-eqb}
-use Rattle.nibble_map.specs.Kept.{entries_at}
+use Rattle.masked_tree.specs.Tree.{entries_at}
 use Rattle.radix_nodes.specs.Nodes.{tree_of}
 use Rattle.radix_nodes.specs.Soundness.{IsCanonicalAt}
-use Rattle.radix_trie.proofs.Checked.{root_canonical_at, root_count}
+use Rattle.radix_trie.proofs.RootLemmas.Checked.{root_canonical_at, root_count}
 use Rattle.radix_trie.proofs.trie.Trie.check_integrity.Goals.{then-sound, else-sound}
 use Rattle.radix_trie.proofs.trie.Trie.check_integrity.Goals as goal
 

@@ -1,11 +1,11 @@
 use Rattle.std.proofs.Common.{◌≡◌, ◌≤◌, ap, sym, ◌∙◌, arith, length}
 use Rattle.std.specs.FinMap as map
-use Rattle.nibble_map.proofs.KeptSame.{never}
+use Rattle.nibble_map.proofs.MapLemmas.SameTests.{never}
 use Rattle.radix_nodes.specs.Nodes.{tree_of, fragment_of}
-use Rattle.radix_nodes.proofs.Nodes.{fragment_out}
+use Rattle.radix_nodes.proofs.NodeLemmas.Nodes.{fragment_out}
 use Rattle.radix_trie.specs.Roots.{map_of}
-use Rattle.radix_trie.proofs.Copies.{copy_kept, copy_map, no_pair, no_child}
-use Rattle.radix_trie.proofs.Shown.{kept_len}
+use Rattle.radix_trie.proofs.ChangeLemmas.Copies.{copy_kept, copy_map, no_pair, no_child}
+use Rattle.radix_trie.proofs.RootLemmas.Shown.{kept_len}
 use Rattle.radix_trie.proofs.trie.Trie.clone.Goals as goal
 
 pub returns-in_err-copied-clause-light : goal.returns-in_err-copied-clause-light

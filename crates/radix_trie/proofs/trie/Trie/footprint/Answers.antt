@@ -1,4 +1,4 @@
-use Rattle.radix_trie.proofs.Shown.{kept_few, kept_points, kept_stems}
+use Rattle.radix_trie.proofs.RootLemmas.Shown.{kept_few, kept_points, kept_stems}
 use Rattle.radix_trie.proofs.trie.Trie.footprint.Goals as goal
 
 pub returns-clause-nodes : goal.returns-clause-nodes

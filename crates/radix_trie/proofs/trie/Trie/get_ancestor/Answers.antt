@@ -1,6 +1,6 @@
-use Rattle.nibble_map.specs.KeptPaths.{IsHeld}
+use Rattle.masked_tree.specs.Paths.{IsHeld}
 use Rattle.radix_nodes.specs.Nodes.{tree_of}
-use Rattle.radix_trie.proofs.Above.{longest_stored, none_stored, way_node}
+use Rattle.radix_trie.proofs.PathLemmas.Above.{longest_stored, none_stored, way_node}
 use Rattle.radix_trie.proofs.trie.Trie.get_ancestor.Goals as goal
 
 pub returns-in_default-clause-nearest : goal.returns-in_default-clause-nearest

@@ -2,8 +2,8 @@ use Rattle.std.proofs.Common.{◌≡◌, ◌≤◌, length, option_copied, sym, 
 use Rattle.nibble_map.specs.MapQueries.{IsCompared}
 use Rattle.nibble_map.specs.Maps.{IsStored, value_at}
 use Rattle.radix_nodes.specs.Nodes.{tree_of}
-use Rattle.radix_nodes.proofs.Nodes.{fragment_out}
-use Rattle.radix_trie.proofs.Roots.{compared_once, root_full, found_value, found_count}
+use Rattle.radix_nodes.proofs.NodeLemmas.Nodes.{fragment_out}
+use Rattle.radix_trie.proofs.RootLemmas.Roots.{compared_once, root_full, found_value, found_count}
 use Rattle.radix_trie.proofs.trie.Trie.get_counted.Goals as goal
 
 pub find_counted-compared-requires-clause-top : goal.find_counted-compared-requires-clause-top

@@ -2,7 +2,7 @@ use Rattle.std.proofs.Common.{sym, subst}
 use Rattle.nibble_map.specs.Answers.{IsLongest}
 use Rattle.nibble_map.specs.Maps.{IsPoint}
 use Rattle.radix_nodes.specs.Nodes.{tree_of}
-use Rattle.radix_trie.proofs.Above.{longest_point}
+use Rattle.radix_trie.proofs.PathLemmas.Above.{longest_point}
 use Rattle.radix_trie.proofs.trie.Trie.get_raw_ancestor.Goals as goal
 
 pub returns-clause-nearest : goal.returns-clause-nearest

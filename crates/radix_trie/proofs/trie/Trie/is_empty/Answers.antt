@@ -1,6 +1,6 @@
 use Rattle.std.proofs.Common.{◌≡◌, sym, ◌∙◌, eqb-true, eq-eqb}
 use Rattle.std.specs.FinMap as map
-use Rattle.radix_trie.proofs.Shown.{kept_len}
+use Rattle.radix_trie.proofs.RootLemmas.Shown.{kept_len}
 use Rattle.radix_trie.proofs.trie.Trie.is_empty.Goals as goal
 
 pub returns : goal.returns

@@ -1,5 +1,5 @@
 use Rattle.std.proofs.Common.{sym}
-use Rattle.radix_trie.proofs.Shown.{kept_len}
+use Rattle.radix_trie.proofs.RootLemmas.Shown.{kept_len}
 use Rattle.radix_trie.proofs.trie.Trie.len.Goals as goal
 
 pub returns : goal.returns

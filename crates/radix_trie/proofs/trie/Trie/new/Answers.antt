@@ -1,6 +1,6 @@
 use Rattle.std.proofs.Common.{ap, ◌∙◌, nat_cmp}
 use Rattle.std.specs.Cmp.Lexicographic.{slice_cmp}
-use Rattle.nibble_map.proofs.Bridge.{from_sorted_none}
+use Rattle.nibble_map.proofs.MapLemmas.Bridge.{from_sorted_none}
 use Rattle.radix_trie.specs.Roots.{map_of}
 use Rattle.radix_trie.proofs.trie.Trie.new.Goals as goal
 

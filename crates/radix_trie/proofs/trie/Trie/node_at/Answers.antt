@@ -1,4 +1,4 @@
-use Rattle.radix_trie.proofs.Opened.{found_point, found_node, found_fragment}
+use Rattle.radix_trie.proofs.PathLemmas.Opened.{found_point, found_node, found_fragment}
 use Rattle.radix_trie.proofs.trie.Trie.node_at.Goals as goal
 
 pub returns-clause-point : goal.returns-clause-point

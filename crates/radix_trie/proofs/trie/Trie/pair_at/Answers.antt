@@ -1,9 +1,9 @@
 use Rattle.std.proofs.Common.{ap, sym, ◌∙◌, Some, option_map}
 use Rattle.radix_nodes.specs.Nodes.{unboxed}
-use Rattle.radix_nodes.proofs.Nodes.{pair_out}
+use Rattle.radix_nodes.proofs.NodeLemmas.Nodes.{pair_out}
 use Rattle.radix_nodes.specs.Pairs.{pair_of}
-use Rattle.radix_trie.proofs.Changes.{node_at_root, no_node_at_root}
-use Rattle.radix_trie.proofs.Held.{node_get, no_node_get}
+use Rattle.radix_trie.proofs.ChangeLemmas.Changes.{node_at_root, no_node_at_root}
+use Rattle.radix_trie.proofs.RootLemmas.Held.{node_get, no_node_get}
 use Rattle.radix_trie.proofs.trie.Trie.pair_at.Goals as goal
 
 pub returns-in-Some-pair : goal.returns-in-Some-pair

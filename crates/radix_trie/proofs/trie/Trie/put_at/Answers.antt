@@ -1,8 +1,8 @@
 use Rattle.std.proofs.Common.{ℕ, ◌<◌, ◌^◌, ap, sym, ◌∙◌, refl, arith, Some, length, List, subst, drop, rules}
 use Rattle.std.specs.Option.{option_map}
 use Rattle.radix_nodes.specs.Nodes.{tree_of}
-use Rattle.radix_trie.proofs.Changes.{put_value, put_map, put_over, put_added, put_fits, unheld_at}
-use Rattle.radix_trie.proofs.Held.{unheld_none}
+use Rattle.radix_trie.proofs.ChangeLemmas.Changes.{put_value, put_map, put_over, put_added, put_fits, unheld_at}
+use Rattle.radix_trie.proofs.RootLemmas.Held.{unheld_none}
 use Rattle.radix_trie.proofs.trie.Trie.put_at.Goals as goal
 
 pub returns-in-Err-clause-refused_absent : goal.returns-in-Err-clause-refused_absent

@@ -1,4 +1,4 @@
-use Rattle.radix_trie.proofs.Shown.{kept_root}
+use Rattle.radix_trie.proofs.RootLemmas.Shown.{kept_root}
 use Rattle.radix_trie.proofs.trie.Trie.root.Goals as goal
 
 pub returns : goal.returns

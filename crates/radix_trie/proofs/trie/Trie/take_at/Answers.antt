@@ -1,12 +1,12 @@
 use Rattle.std.proofs.Common.{ap, sym, ◌∙◌, refl, arith}
 use Rattle.std.specs.Option.{option_map}
 use Rattle.radix_nodes.specs.Nodes.{tree_of}
-use Rattle.nibble_map.proofs.Bridge.{remove_absent}
-use Rattle.nibble_map.proofs.Sorted.{same}
+use Rattle.nibble_map.proofs.MapLemmas.Bridge.{remove_absent}
+use Rattle.nibble_map.proofs.ListLemmas.Sorted.{same}
 use Rattle.std.proofs.lemmas.Cmp.{nat_list_cmp_total}
 use Rattle.radix_trie.specs.Roots.{map_of}
-use Rattle.radix_trie.proofs.Changes.{taken_value, taken_map, taken_some, taken_kept, unheld_at, held_at}
-use Rattle.radix_trie.proofs.Held.{unheld_none, none_unheld, short_reach}
+use Rattle.radix_trie.proofs.ChangeLemmas.Changes.{taken_value, taken_map, taken_some, taken_kept, unheld_at, held_at}
+use Rattle.radix_trie.proofs.RootLemmas.Held.{unheld_none, none_unheld, short_reach}
 use Rattle.radix_trie.proofs.trie.Trie.take_at.Goals as goal
 
 pub overflow_sub-self : goal.overflow_sub-self

@@ -2,15 +2,15 @@ use Rattle.std.proofs.Common.{◌≡◌, ◌≤◌, ◌∙◌, ap, sym, arith, l
 use Rattle.std.specs.FinMap as map
 use Rattle.nibble_map.specs.Nibbles.{nibbles}
 use Rattle.nibble_map.specs.Turned.{turned}
-use Rattle.nibble_map.proofs.KeptSame.{never}
+use Rattle.nibble_map.proofs.MapLemmas.SameTests.{never}
 use Rattle.radix_keys.specs.AscendingKeys.{turned_bytes}
-use Rattle.radix_keys.proofs.Turning.{nibbles-turned}
+use Rattle.radix_keys.proofs.NibbleLemmas.Turning.{nibbles-turned}
 use Rattle.radix_nodes.specs.Nodes.{tree_of, fragment_of}
-use Rattle.radix_nodes.proofs.Nodes.{fragment_out}
+use Rattle.radix_nodes.proofs.NodeLemmas.Nodes.{fragment_out}
 use Rattle.radix_trie.specs.Roots.{map_of}
-use Rattle.radix_trie.proofs.AscendingTries.{wrapped_kept, wrapped_map, wrapped_footprint}
-use Rattle.radix_trie.proofs.Copies.{no_pair, no_child}
-use Rattle.radix_trie.proofs.Shown.{kept_len}
+use Rattle.radix_trie.proofs.ChangeLemmas.Turned.{wrapped_kept, wrapped_map, wrapped_footprint}
+use Rattle.radix_trie.proofs.ChangeLemmas.Copies.{no_pair, no_child}
+use Rattle.radix_trie.proofs.RootLemmas.Shown.{kept_len}
 use Rattle.radix_trie.proofs.trie.Trie.to_ascending.Goals as goal
 
 pub returns-in_err-turned_copy-clause-light : goal.returns-in_err-turned_copy-clause-light

@@ -1,8 +1,8 @@
 use Rattle.std.proofs.Common.{ap, sym, subst, ◌∙◌, Some, option_map}
 use Rattle.radix_nodes.specs.Nodes.{unboxed}
-use Rattle.radix_nodes.proofs.Nodes.{pair_out}
+use Rattle.radix_nodes.proofs.NodeLemmas.Nodes.{pair_out}
 use Rattle.radix_trie.specs.Views.{IsValueAbove}
-use Rattle.radix_trie.proofs.Above.{none_above, value_above}
+use Rattle.radix_trie.proofs.PathLemmas.Above.{none_above, value_above}
 use Rattle.radix_trie.proofs.trie.Trie.value_above.Goals as goal
 
 pub returns-in_err-node : goal.returns-in_err-node

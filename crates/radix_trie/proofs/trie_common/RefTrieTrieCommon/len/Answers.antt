@@ -1,6 +1,6 @@
 use Rattle.std.proofs.Common.{ap, sym, ◌∙◌}
 use Rattle.std.specs.FinMap as finite
-use Rattle.radix_trie.proofs.Places.{below_nil}
+use Rattle.radix_trie.proofs.PathLemmas.Places.{below_nil}
 use Rattle.radix_trie.proofs.trie_common.RefTrieTrieCommon.len.Goals as goal
 
 pub returns : goal.returns

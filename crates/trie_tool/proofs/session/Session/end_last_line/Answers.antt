@@ -3,7 +3,7 @@ use Rattle.trie_tool.specs.Talk.{talk_whole}
 use Rattle.trie_tool.proofs.Standing.{no_feed}
 use Rattle.trie_tool.proofs.Talking.{talk-fed, talk-unfed}
 use Rattle.trie_tool.proofs.session.Session.end_last_line.Goals as goal
-use Rattle.nibble_map.proofs.Cut.{length-nil}
+use Rattle.nibble_map.proofs.ListLemmas.Cut.{length-nil}
 
 pub returns-then-is_empty : goal.returns-then-is_empty
 returns-then-is_empty c = λ b sent at. (b, sym (talk-unfed b (sym at.rest ∙ length-nil _ (search rules))), at)

@@ -1,7 +1,7 @@
 use Rattle.std.proofs.Common.{◌≡◌, ◌++◌, ◌∷◌, [], ◌∙◌, List, ℕ, rules, sym}
 use Rattle.trie_tool.proofs.Standing.{always, turn_goes, rest-kept, rest-fed, told-kept, told-turn, refused, Goes-err, Goes-lift}
 use Rattle.trie_tool.proofs.session.Session.end_line.Goals as goal
-use Rattle.nibble_map.proofs.Cut.{length-nil}
+use Rattle.nibble_map.proofs.ListLemmas.Cut.{length-nil}
 
 pub returns-then-is_empty : goal.returns-then-is_empty
 returns-then-is_empty c = λ b sent at free.

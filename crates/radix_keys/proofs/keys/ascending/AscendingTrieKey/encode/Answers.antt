@@ -1,7 +1,7 @@
 use Rattle.std.proofs.Common.{◌∙◌, ap, sym}
 use Rattle.nibble_map.specs.Turned.{turned}
-use Rattle.radix_keys.proofs.AscendingOrder.{keys_rise}
-use Rattle.radix_keys.proofs.Turning.{nibbles-turned}
+use Rattle.radix_keys.proofs.KeyLemmas.Ascending.{keys_rise}
+use Rattle.radix_keys.proofs.NibbleLemmas.Turning.{nibbles-turned}
 use Rattle.radix_keys.proofs.keys.ascending.AscendingTrieKey.encode.Goals as goal
 
 pub returns-clause-turned : goal.returns-clause-turned

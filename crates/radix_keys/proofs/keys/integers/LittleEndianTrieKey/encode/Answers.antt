@@ -1,6 +1,6 @@
 use Rattle.std.proofs.Common.{◌≡◌, ◌<◌, ◌++◌, [], ◌∷◌, arith, ap, true, false, length, reverse, take, sym, ◌∙◌}
-use Rattle.radix_keys.proofs.NibblesOfBytes.{length-nibbles}
-use Rattle.radix_keys.proofs.Items.{reverse-more, length-take-reverse}
+use Rattle.radix_keys.proofs.NibbleLemmas.Bytes.{length-nibbles}
+use Rattle.radix_keys.proofs.KeyLemmas.Items.{reverse-more, length-take-reverse}
 use Rattle.std.proofs.lemmas.List.{length-reverse}
 use Rattle.radix_keys.proofs.keys.integers.LittleEndianTrieKey.encode.Goals as goal
 

@@ -1,6 +1,6 @@
 use Rattle.std.proofs.Common.{arith, ap, ◌≡◌, true, false, length, flat_map, ◌∙◌, ◌++◌, sym}
-use Rattle.radix_keys.proofs.NibblesOfBytes.{length-nibbles}
-use Rattle.radix_keys.proofs.Items.{flat-more, flat-room, all-more}
+use Rattle.radix_keys.proofs.NibbleLemmas.Bytes.{length-nibbles}
+use Rattle.radix_keys.proofs.KeyLemmas.Items.{flat-more, flat-room, all-more}
 use Rattle.radix_keys.proofs.keys.integers.VecTrieKey.encode.Goals as goal
 
 pub returns-in_err-push_bytes-clause-light : goal.returns-in_err-push_bytes-clause-light

@@ -1,5 +1,5 @@
 use Rattle.std.proofs.Common.{◌++◌, ◌∷◌, [], ap, ◌∙◌}
-use Rattle.radix_trie.proofs.Present.{present-push, all-push}
+use Rattle.radix_trie.proofs.PathLemmas.Present.{present-push, all-push}
 use Rattle.radix_trie.proofs.iter.children.Children.push.Goals as goal
 
 pub invariant_of-self : goal.invariant_of-self

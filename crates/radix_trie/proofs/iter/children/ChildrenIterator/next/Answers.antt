@@ -1,7 +1,7 @@
 use Rattle.std.proofs.Common.{subst}
 use Rattle.std.specs.Iterator.{YieldsFirst}
 use Rattle.radix_trie.specs.Present.{present}
-use Rattle.radix_trie.proofs.Present.{all-rest, first_taken}
+use Rattle.radix_trie.proofs.PathLemmas.Present.{all-rest, first_taken}
 use Rattle.radix_trie.proofs.iter.children.ChildrenIterator.next.Goals as goal
 
 pub invariant_of-self-2 : goal.invariant_of-self-2

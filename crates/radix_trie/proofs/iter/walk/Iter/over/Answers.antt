@@ -1,11 +1,11 @@
 use Rattle.std.proofs.Common.{[], arith, ap, ◌∙◌, ◌++◌, length}
-use Rattle.nibble_map.specs.Kept.{entries_at}
-use Rattle.nibble_map.specs.KeptSizes.{levels}
+use Rattle.masked_tree.specs.Tree.{entries_at}
+use Rattle.masked_tree.specs.Sizes.{levels}
 use Rattle.radix_nodes.specs.Nodes.{kids_of, tree_of}
 use Rattle.radix_trie.specs.Walks.{pending, rows_of, with_row}
-use Rattle.radix_nodes.proofs.Pairs.{length_pairs}
-use Rattle.radix_trie.proofs.Walks.{start_room, start_pairs}
-use Rattle.radix_trie.proofs.WalkRows.{row_kids}
+use Rattle.radix_nodes.proofs.NodeLemmas.Pairs.{length_pairs}
+use Rattle.radix_trie.proofs.WalkLemmas.Walks.{start_room, start_pairs}
+use Rattle.radix_trie.proofs.WalkLemmas.Rows.{row_kids}
 use Rattle.radix_trie.proofs.iter.walk.Iter.over.Goals as goal
 
 pub push_row-requires : goal.push_row-requires

@@ -1,12 +1,12 @@
 use Rattle.std.proofs.Common.{◌++◌, ◌∷◌, length, arith, sym, ap, ◌∙◌}
-use Rattle.nibble_map.specs.KeptSizes.{levels}
+use Rattle.masked_tree.specs.Sizes.{levels}
 use Rattle.radix_nodes.specs.Nodes.{kids_of, tree_of}
 use Rattle.radix_trie.specs.Walks.{deref_pair, first_pair, pending, rows_of}
 use Rattle.radix_nodes.specs.Pairs.{own_pair}
-use Rattle.radix_trie.proofs.Walks.{item_progress, end_room, end_falls, end_pairs, others_fit, kids_fit, node_room, node_falls, node_pairs}
-use Rattle.radix_trie.proofs.WalkRows.{row_kids, row_popped, two_rows}
+use Rattle.radix_trie.proofs.WalkLemmas.Walks.{item_progress, end_room, end_falls, end_pairs, others_fit, kids_fit, node_room, node_falls, node_pairs}
+use Rattle.radix_trie.proofs.WalkLemmas.Rows.{row_kids, row_popped, two_rows}
 use Rattle.radix_trie.proofs.iter.walk.IterIterator.next.Goals as goal
-use Rattle.radix_nodes.proofs.Removes.{kids_none}
+use Rattle.radix_nodes.proofs.EditLemmas.Removal.{kids_none}
 
 pub push_row-requires : goal.push_row-requires
 push_row-requires g c =

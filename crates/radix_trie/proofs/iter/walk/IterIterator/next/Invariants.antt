@@ -1,6 +1,6 @@
 use Rattle.std.proofs.Common.{◌≡◌, None, vec_capacity}
 use Rattle.radix_trie.specs.Walks.{pending, rows_of, HasRoom}
-use Rattle.radix_trie.proofs.Walks.{turns_left}
+use Rattle.radix_trie.proofs.WalkLemmas.Walks.{turns_left}
 use Rattle.radix_trie.proofs.iter.walk.IterIterator.next.Given as goal
 
 abbrev pub invariant-loop-nodes : goal.invariant-loop-nodes

@@ -1,0 +1,3 @@
+-- Each step of an insertion and of a removal.
+pub mod Insertion
+pub mod Removal

@@ -1,0 +1,3 @@
+-- Trees whose children's first nibbles are turned over.
+pub mod Trees
+pub mod Maps

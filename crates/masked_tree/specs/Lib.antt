@@ -1,0 +1,9 @@
+pub mod Mask
+pub mod Tree
+pub mod Edits
+pub mod Alters
+pub mod Paths
+pub mod Agreement
+pub mod Sizes
+pub mod Same
+pub mod Turned

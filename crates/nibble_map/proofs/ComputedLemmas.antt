@@ -1,0 +1,3 @@
+-- The computed versions are the answers.
+pub mod Points
+pub mod Answers

@@ -1,0 +1,5 @@
+-- Packed lists of nibbles: their bytes, and how they are cut, joined and turned.
+pub mod Bytes
+pub mod Packing
+pub mod Cutting
+pub mod Turning

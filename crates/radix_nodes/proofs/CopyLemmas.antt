@@ -1,0 +1,4 @@
+-- Nodes that are alike, copies of nodes, and copies with their first nibbles turned over.
+pub mod Same
+pub mod Copies
+pub mod Turned

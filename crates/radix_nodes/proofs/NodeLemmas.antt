@@ -1,0 +1,6 @@
+-- From nodes to plain trees, field by field.
+pub mod Nodes
+pub mod Pairs
+pub mod Sizes
+pub mod Counts
+pub mod FewChildren

@@ -1,0 +1,3 @@
+-- Objects and tries that are built of each other, and the order of texts.
+pub mod Texts
+pub mod Objects

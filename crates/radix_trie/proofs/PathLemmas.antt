@@ -1,0 +1,8 @@
+-- What stands at and below a path, and above it.
+pub mod Parts
+pub mod Places
+pub mod Opened
+pub mod Above
+pub mod Nearest
+pub mod ChildViews
+pub mod Present

@@ -1,0 +1,21 @@
+-- The nearest point below a path, by what is found for the path.
+use Rattle.std.proofs.Common.{◌≡◌, ℕ, List, ◌++◌, drop, Option, Some, None, subst}
+use Rattle.std.specs.Borrow.{Bor}
+use Rattle.nibble_map.specs.Answers.{IsShortest}
+use Rattle.nibble_map.specs.Lists.{IsPrefix}
+use Rattle.nibble_map.specs.Maps.{PairMap, IsPoint}
+use Rattle.radix_nodes.specs.declared.trie_node.TrieNode.{TrieNode}
+use Rattle.radix_nodes.specs.Nodes.{tree_of, fragment_of}
+use Rattle.radix_nodes.proofs.NodeLemmas.Nodes.{fragment_out}
+use Rattle.radix_trie.specs.Places.{IsPlace}
+use Rattle.radix_trie.proofs.RootLemmas.Paths.{point_node}
+use Rattle.radix_trie.proofs.PathLemmas.Places.{free_of, nearest_of, shortest_point}
+
+module _ {K V : Type 0} (enc : K → List ℕ) (m : PairMap K V) (p : List ℕ) (found : Option (Bor (TrieNode K V) × ℕ)) (place : IsPlace enc m p found) where
+  pub nearest_point : (r : Bor (TrieNode K V)) (n : ℕ) → found ≡ Some (r, n) → IsShortest (IsPoint m) p (p ++ drop n (fragment_of r.now))
+  nearest_point r n is =
+      subst (λ f. IsShortest (IsPoint m) p (p ++ drop n f)) (fragment_out r.now)
+      (shortest_point enc m place.0 place.1 p (p ++ drop n (tree_of r.now).fragment) (nearest_of enc m p found place r n is).shortest)
+
+  pub no_point : found ≡ None → (q : List ℕ) → IsPoint m q → IsPrefix p q → ⊥
+  no_point e q point = free_of enc m p found place e q (point_node enc m place.0 place.1 q point)

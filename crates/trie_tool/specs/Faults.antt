@@ -1,5 +1,5 @@
 -- What the program tells of a fault, and its exit status.
-use Rattle.std.specs.Prelude.{ℕ, Bool, true, false, ◌==◌, List, [], ◌∷◌, ◌++◌, codes, decimal, Result, Ok, Err}
+use Rattle.std.specs.Prelude.{ℕ, Bool, true, false, ◌==◌, ◌&&◌, nat_lt, length, List, [], ◌∷◌, ◌++◌, codes, decimal, Result, Ok, Err}
 use Rattle.trie_tool.specs.declared.fault.ToolError.{ToolError}
 use Rattle.trie_tool.specs.declared.fault.ToolError.TheVariants.{Read, Write, BadLine, Memory}
 
@@ -40,7 +40,7 @@ tells_write (Err Write) = true
 tells_write (Err (BadLine n)) = false
 tells_write (Err Memory) = false
 
--- a write failed, or took no byte
-abbrev pub took_none : {E : Type 0} → Result ℕ E → Bool
-took_none (Ok n) = n == 0
-took_none (Err _) = true
+-- a write of these bytes failed, or took none of them
+abbrev pub took_none : {E : Type 0} → List ℕ → Result ℕ E → Bool
+took_none bytes (Ok n) = n == 0 && nat_lt 0 (length bytes)
+took_none bytes (Err _) = true

@@ -43,7 +43,7 @@ impl<R: Read> WatchedReader<R> {
     }
 }
 
-/// A writer, and whether a write has failed or took no byte.
+/// A writer, and whether a write has failed or took none of its bytes.
 #[derive(Drop)]
 pub struct WatchedWriter<W> {
     writer: W,
@@ -66,10 +66,14 @@ impl<W: Write> WatchedWriter<W> {
         ensures bound { WritesAtMost result buffer.now }
         ensures bytes { WriteAppends (W.contents self.old.writer) (W.contents self.new.writer)
             result buffer.now }
-        ensures noted { self.new.has_failed ≡ (self.old.has_failed || took_none result) }
+        ensures noted { self.new.has_failed ≡ (self.old.has_failed || took_none buffer.now result) }
     {
         let outcome = self.writer.write(buffer);
-        self.has_failed = self.has_failed || matches!(outcome, Ok(0) | Err(_));
+        self.has_failed = self.has_failed
+            || match &outcome {
+                Ok(count) => *count == 0 && !buffer.is_empty(),
+                Err(_) => true,
+            };
         outcome
     }
 }

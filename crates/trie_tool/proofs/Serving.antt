@@ -1,15 +1,16 @@
 -- How far a conversation over a reader and a writer has come.
-use Rattle.std.proofs.Common.{◌≡◌, ℕ, List, [], ◌++◌, take, refl, sym, ap, subst, ◌∙◌, inl, inr, append-nil, Option, Result, Ok, Err}
+use Rattle.std.proofs.Common.{◌≡◌, ℕ, List, [], ◌++◌, take, refl, sym, ap, subst, ◌∙◌, inl, inr, append-nil, Option, Result, Ok, Err, IsTrue, IsFalse, true≢false}
 use Rattle.std.specs.FinMap as map
 use Rattle.std.specs.Io.KnownBytes.{Appends, Consumes, IsAtEnd, Keeps}
 use Rattle.std.proofs.KnownBytes.{Appends-trans, Appends-nil, Consumes-nil, Consumes-trans, Consumes-kept}
 use Rattle.trie_tool.specs.declared.fault.ToolError.{ToolError}
 use Rattle.trie_tool.specs.declared.fault.ToolError.TheVariants.{Read, Write, BadLine, Memory}
 use Rattle.trie_tool.specs.declared.session.Session.{Session}
+use Rattle.trie_tool.specs.Faults.{tells_read}
 use Rattle.trie_tool.specs.Numbers.{texts_of}
 use Rattle.trie_tool.specs.Serve.{Outcome, Stopped, Served}
 use Rattle.trie_tool.specs.Session.{IsAt, IsClear, Breaks, Sends, Finishes, IsDone}
-use Rattle.trie_tool.specs.Talk.{cut, talk_of, talk, talk_whole}
+use Rattle.trie_tool.specs.Talk.{Talk, cut, talk_of, talk, talk_whole}
 use Rattle.trie_tool.proofs.Talking.{Extends-last, Breaks-lift}
 
 pub record Heard (unread unread' held held' : Option (List ℕ)) (s : Session) : Type 0 where
@@ -106,3 +107,29 @@ broken r q e unread unread' unread'' held held' held'' s s' bytes h took same ou
 
 pub took_none : (u v : Option (List ℕ)) (n : ℕ) (buffer : List ℕ) → n ≡ 0 → Consumes u v (take n buffer) → Consumes u v []
 took_none u v n buffer none took = subst (λ (k : ℕ). Consumes u v (take k buffer)) none took
+
+breaks_unread : {U : Type 0} (q : Result U ToolError) (e : ToolError) (t : Talk) (o : List ℕ) → q ≡ Err e → Breaks e t o → IsFalse (tells_read q)
+breaks_unread q Read t o same why = absurd why
+breaks_unread q Write t o same why = ap tells_read same
+breaks_unread q (BadLine n) t o same why = ap tells_read same
+breaks_unread q Memory t o same why = ap tells_read same
+
+-- no fault among the lines of a chunk is the reader's
+pub broken_unread : {U V : Type 0} (r : Result U ToolError) (q : Result V ToolError) (e : ToolError) (unread unread' held held' held'' : Option (List ℕ)) (s s' : Session) (bytes : List ℕ)
+    → Heard unread unread' held held' s → r ≡ Err e → q ≡ Err e
+    → ((b sent : List ℕ) → IsAt b sent s → Sends r (b ++ bytes) sent held' held'' s') → IsFalse (tells_read q)
+broken_unread r q e unread unread' held held' held'' s s' bytes h same out hears =
+    let sends = subst (λ (p : Result _ ToolError). Sends p (h.read ++ bytes) h.written held' held'' s') same (hears h.read h.written h.clear.at) in
+    breaks_unread q e _ _ out sends.why
+
+done_unread : {U : Type 0} (r : Result U ToolError) (b o : List ℕ) → IsDone r b o → IsFalse (tells_read r)
+done_unread (Ok u) b o done = refl
+done_unread {U} (Err e) b o why = breaks_unread {U = U} (Err e) e _ _ refl why
+
+-- and none at the end of the input
+pub ended_unread : {U : Type 0} (r : Result U ToolError) (unread unread' held held' held'' : Option (List ℕ)) (s : Session)
+    → Heard unread unread' held held' s → ((b sent : List ℕ) → IsAt b sent s → Finishes r b sent held' held'') → IsFalse (tells_read r)
+ended_unread r unread unread' held held' held'' s h finishes = done_unread r _ _ (finishes h.read h.written h.clear.at).why
+
+pub unread_absurd : {U A : Type 0} (r : Result U ToolError) → IsFalse (tells_read r) → IsTrue (tells_read r) → A
+unread_absurd r untold told = absurd (true≢false (sym told ∙ untold))

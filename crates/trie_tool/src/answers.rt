@@ -84,7 +84,8 @@ fn gone_answer(alloc: Global, gone: &[(String, u64)]) -> Result<String, AllocErr
 
 /// The texts that begin with the key, and their numbers.
 fn below_answer(alloc: Global, numbers: &Numbers, key: &str) -> Result<String, Memory>
-    ensures { IfOk result (λ a. string_bytes a ≡ below_answer (pairs_below (texts_of numbers.now) (nibbles key.now))) }
+    ensures { IfOk result (λ a. string_bytes a
+        ≡ below_answer (pairs_below (texts_of numbers.now) (nibbles key.now))) }
 {
     match numbers.get_raw_descendant(&key)? {
         Some(view) => {
@@ -110,8 +111,10 @@ fn json_answer(alloc: Global, numbers: &Numbers) -> Result<String, Memory>
 
 /// Carries out a command, and gives its whole answer.
 pub fn answer(alloc: Global, numbers: &mut Numbers, command: Command<'_>) -> Result<String, Memory>
-    ensures text { IfOk result (λ a. string_bytes a ≡ answer_to (request command.entry) (texts_of numbers.old)) }
-    ensures numbers { OnOk result (texts_of numbers.new ≡ numbers_after (request command.entry) (texts_of numbers.old)) }
+    ensures text { IfOk result (λ a. string_bytes a
+        ≡ answer_to (request command.entry) (texts_of numbers.old)) }
+    ensures numbers { OnOk result (texts_of numbers.new
+        ≡ numbers_after (request command.entry) (texts_of numbers.old)) }
 {
     let text = match command {
         Command::Insert(key, number) => {

@@ -27,7 +27,8 @@ fn reply(
     line: &[u8],
     number: u64,
 ) -> Result<String, ToolError>
-    ensures answer { IfOk result (λ a. turn line.now (texts_of numbers.old) ≡ Some (string_bytes a, texts_of numbers.new)) }
+    ensures answer { IfOk result (λ a. turn line.now (texts_of numbers.old)
+        ≡ Some (string_bytes a, texts_of numbers.new)) }
     ensures refused { IfErr result (λ e. IsRefusal e line.now (texts_of numbers.old) number) }
 {
     if line.is_empty() {
@@ -73,7 +74,8 @@ impl Conversation {
     pub fn take_turn(&mut self, line: &[u8]) -> Result<(), ToolError>
         ensures answered { OnOk result (Takes line.now self.old self.new) }
         ensures count { OnOk result (self.new.count ≡ counted (self.old.count + 1)) }
-        ensures refused { IfErr result (λ e. IsRefusal e line.now (texts_of self.old.numbers) (counted (self.old.count + 1))) }
+        ensures refused { IfErr result (λ e. IsRefusal e line.now (texts_of self.old.numbers)
+            (counted (self.old.count + 1))) }
         ensures unchanged { OnErr result (self.new.answers.items ≡ self.old.answers.items) }
     {
         let number = self.count.saturating_add(1);

@@ -5,7 +5,8 @@ ghost use Rattle.trie_tool.specs.Talk.{cut, talk, said, number_of_bad};
 
 /// Cutting loses no byte: the lines, each with its line feed, and the bytes after them are the text.
 pub fn lines_join()
-    ensures { (bytes : List ℕ) → flat_map (λ line. line ++ 10 ∷ []) (cut bytes).lines ++ (cut bytes).rest ≡ bytes }
+    ensures { (bytes : List ℕ)
+        → flat_map (λ line. line ++ 10 ∷ []) (cut bytes).lines ++ (cut bytes).rest ≡ bytes }
 {}
 
 /// What some lines ask for.
@@ -31,17 +32,22 @@ pub fn worked_lines()
     ensures sign { request_of (codes "insert x +5") ≡ None }
     ensures capital { request_of (codes "Len") ≡ None }
     ensures len_and_space { request_of (codes "len ") ≡ None }
-    ensures largest { request_of (codes "insert k 18446744073709551615") ≡ Some (Insert (codes "k") 18446744073709551615) }
+    ensures largest { request_of (codes "insert k 18446744073709551615")
+        ≡ Some (Insert (codes "k") 18446744073709551615) }
     ensures too_large { request_of (codes "insert k 18446744073709551616") ≡ None }
     ensures no_text { request_of (103 ∷ 101 ∷ 116 ∷ 32 ∷ 255 ∷ []) ≡ None }
 {}
 
 /// Worked runs: a value is replaced, a bad line ends the run after a skipped line, nothing is read.
 pub fn worked_runs()
-    ensures value_is_replaced { said (talk (codes "insert haskell 18\ninsert haskell 36\nget haskell\nlen\n")) ≡ codes "new\nold 18\n36\n1\n" }
-    ensures bad_line_ends_it { said (talk (codes "insert a b 007\n\nget a b\ninsert x\nlen")) ≡ codes "new\n7\n" }
+    ensures value_is_replaced { said
+        (talk (codes "insert haskell 18\ninsert haskell 36\nget haskell\nlen\n"))
+        ≡ codes "new\nold 18\n36\n1\n" }
+    ensures bad_line_ends_it { said (talk (codes "insert a b 007\n\nget a b\ninsert x\nlen"))
+        ≡ codes "new\n7\n" }
     ensures bad_line { IsTrue (talk (codes "insert a b 007\n\nget a b\ninsert x\nlen")).is_bad }
-    ensures bad_line_number { number_of_bad (talk (codes "insert a b 007\n\nget a b\ninsert x\nlen")) ≡ 4 }
+    ensures bad_line_number { number_of_bad
+        (talk (codes "insert a b 007\n\nget a b\ninsert x\nlen")) ≡ 4 }
     ensures empty_input { said (talk []) ≡ [] }
     ensures empty_input_is_good { IsFalse (talk []).is_bad }
 {}

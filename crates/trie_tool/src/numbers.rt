@@ -30,8 +30,10 @@ pub fn insert(
     key: &str,
     number: u64,
 ) -> Result<Option<u64>, Memory>
-    ensures old_number { IfOk result (λ old. old ≡ value_at (texts_of numbers.old) (nibbles key.now)) }
-    ensures stored { OnOk result (texts_of numbers.new ≡ map.insert (texts_of numbers.old) (nibbles key.now) (key.now, number)) }
+    ensures old_number { IfOk result
+        (λ old. old ≡ value_at (texts_of numbers.old) (nibbles key.now)) }
+    ensures stored { OnOk result (texts_of numbers.new
+        ≡ map.insert (texts_of numbers.old) (nibbles key.now) (key.now, number)) }
     ensures unchanged { OnErr result (numbers.new ≡ numbers.old) }
 {
     let key = String::from_str(alloc, key)?;
@@ -47,15 +49,18 @@ pub fn get(numbers: &Numbers, key: &str) -> Result<Option<u64>, Memory>
 
 /// The number at the longest stored text that the key begins with.
 pub fn ancestor(numbers: &Numbers, key: &str) -> Result<Option<u64>, Memory>
-    ensures { IfOk result (λ found. found ≡ value_of (texts_of numbers.now) (ancestor (map.entries (texts_of numbers.now)) (nibbles key.now))) }
+    ensures { IfOk result (λ found. found ≡ value_of (texts_of numbers.now)
+        (ancestor (map.entries (texts_of numbers.now)) (nibbles key.now))) }
 {
     Ok(numbers.get_ancestor_value(&key)?.copied())
 }
 
 /// Takes the number at this key away. After a refusal the trie is as before.
 pub fn remove(numbers: &mut Numbers, key: &str) -> Result<Option<u64>, Memory>
-    ensures old_number { IfOk result (λ old. old ≡ value_at (texts_of numbers.old) (nibbles key.now)) }
-    ensures removed { OnOk result (texts_of numbers.new ≡ map.remove (texts_of numbers.old) (nibbles key.now)) }
+    ensures old_number { IfOk result
+        (λ old. old ≡ value_at (texts_of numbers.old) (nibbles key.now)) }
+    ensures removed { OnOk result (texts_of numbers.new
+        ≡ map.remove (texts_of numbers.old) (nibbles key.now)) }
 {
     numbers.remove(&key)
 }
@@ -87,7 +92,9 @@ pub fn len(numbers: &Numbers) -> usize
 
 /// Stores the number as JSON at this text. After a refusal the trie is as before.
 fn put_json(values: &mut Trie<String, Value>, key: &String, count: u64) -> Result<(), Memory>
-    ensures stored { OnOk result (data_of values.new ≡ map.insert (data_of values.old) (nibbles (string_bytes key.now)) (string_bytes key.now, number (unsigned count))) }
+    ensures stored { OnOk result (data_of values.new
+        ≡ map.insert (data_of values.old) (nibbles (string_bytes key.now))
+        (string_bytes key.now, number (unsigned count))) }
     ensures unchanged { OnErr result (values.new ≡ values.old) }
 {
     match values.insert(key.clone()?, Value::from(count)) {
@@ -98,7 +105,8 @@ fn put_json(values: &mut Trie<String, Value>, key: &String, count: u64) -> Resul
 
 /// The same texts, each with its number as JSON.
 pub fn as_json(alloc: Global, numbers: &Numbers) -> Result<Trie<String, Value>, Memory>
-    ensures { IfOk result (λ values. members_view (map.values values) ≡ members (map.values (texts_of numbers.now))) }
+    ensures { IfOk result (λ values. members_view (map.values values)
+        ≡ members (map.values (texts_of numbers.now))) }
 {
     let mut values = Trie::new(alloc);
     for (key, number) in TrieCommon::iter(numbers)? {

@@ -4,4 +4,8 @@ use Rattle.trie_tool.proofs.output.write_out.Goals as goal
 
 pub loop-written-preserved : goal.loop-written-preserved
 loop-written-preserved g c =
-    (search rules, Appends-step _ _ _ _ _ _ _ c.split_at.ensures.back c.loop-written.invariant.1 c.in-Ok.ensures.bytes)
+    record {
+      within = search rules;
+      appended = Appends-step _ _ _ _ _ _ _ c.split_at.ensures.back c.loop-written.invariant.appended c.in-Ok.ensures.bytes;
+      good = search rules;
+    }

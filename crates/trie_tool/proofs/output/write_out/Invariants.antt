@@ -1,11 +1,15 @@
-use Rattle.std.proofs.Common.{◌≤◌, ◌-◌, length, take}
+use Rattle.std.proofs.Common.{◌≡◌, ◌≤◌, ◌-◌, length, take}
 use Rattle.std.specs.Io.KnownBytes.{Appends}
 use Rattle.trie_tool.proofs.output.write_out.Given as goal
 
 abbrev pub invariant-loop-written : goal.invariant-loop-written
-invariant-loop-written g l =
-    (l.written ≤ length l.bytes)
-    × Appends (g.W.Write.contents l.initial.writer) (g.W.Write.contents l.writer) (take l.written l.bytes)
+invariant-loop-written g l = record {
+  within : l.written ≤ length l.bytes;
+  appended :
+      Appends (g.W.Write.contents l.initial.writer.writer) (g.W.Write.contents l.writer.writer)
+      (take l.written l.bytes);
+  good : l.writer.has_failed ≡ l.initial.writer.has_failed;
+}
 
 abbrev pub decreases-loop-written : goal.decreases-loop-written
 decreases-loop-written g l = length l.bytes - l.written

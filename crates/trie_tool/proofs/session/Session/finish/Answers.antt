@@ -1,7 +1,7 @@
 use Rattle.trie_tool.proofs.Standing.{finished}
 use Rattle.trie_tool.proofs.session.Session.finish.Goals as goal
 
-pub returns : goal.returns
-returns g c = λ b sent at.
-    let ends = c.end_last_line-outcome.ensures b sent at in
-    finished _ ends.0 b sent _ _ _ ends.1 (c.send.ensures ends.0 sent ends.2)
+pub returns-clause-sent : goal.returns-clause-sent
+returns-clause-sent g c = λ b sent at.
+    let ends = c.end_last_line-outcome.ensures.answered b sent at in
+    finished _ ends.0 b sent _ _ _ ends.1 (c.send.ensures.sent ends.0 sent ends.2)

@@ -14,12 +14,12 @@ loop-line-preserved c =
         cut_on before.0 line c.in-Some.after.now ∙ ap (λ (l : List ℕ). before.0 ++ l) (sym c.in-Some.ensures.parts) ∙ before.1,
         λ b sent at.
             let grouped : (b ++ before.0) ++ line ++ 10 ∷ [] ≡ b ++ ((before.0 ++ line) ++ 10 ∷ []) = simp append_assoc in
-            subst (λ (l : List ℕ). IsAt l sent c.end_line.new.self) grouped (c.in_ok-end_line.ensures (b ++ before.0) sent (before.2 b sent at) c.in-Some.ensures.line),
+            subst (λ (l : List ℕ). IsAt l sent c.end_line.new.self) grouped (c.in_ok-end_line.ensures.answered (b ++ before.0) sent (before.2 b sent at) c.in-Some.ensures.line),
       );
     }
 
-pub returns-in_err-end_line : goal.returns-in_err-end_line
-returns-in_err-end_line c = λ b sent at.
+pub returns-in_err-end_line-clause-answered : goal.returns-in_err-end_line-clause-answered
+returns-in_err-end_line-clause-answered c = λ b sent at.
     let before = c.loop-line.invariant.heard in
     let line : List ℕ = c.in-Some.line.now in
     let after : List ℕ = c.in-Some.after.now in
@@ -28,11 +28,11 @@ returns-in_err-end_line c = λ b sent at.
     cut_on (b ++ before.0) line after ∙ append_assoc b before.0 (line ++ 10 ∷ after) ∙ ap (λ (l : List ℕ). b ++ l) (ap (λ (l : List ℕ). before.0 ++ l) (sym c.in-Some.ensures.parts) ∙ before.1) in
     Goes-err _ e _ sent _ (search rules)
     (subst (λ (l : List ℕ). Breaks e (talk_whole l) (sent ++ c.end_line.new.self.conversation.answers.items)) whole
-    (Goes-lift e _ after _ (c.in_err-end_line.ensures (b ++ before.0) sent (before.2 b sent at) c.in-Some.ensures.line)))
+    (Goes-lift e _ after _ (c.in_err-end_line.ensures.answered (b ++ before.0) sent (before.2 b sent at) c.in-Some.ensures.line)))
 
-pub returns : goal.returns
-returns c = λ b sent at.
+pub returns-clause-answered : goal.returns-clause-answered
+returns-clause-answered c = λ b sent at.
     let before = c.loop-line.invariant.heard in
     let whole : (b ++ before.0) ++ c.loop-line.rest.now ≡ b ++ c.args.bytes.now =
     append_assoc b before.0 c.loop-line.rest.now ∙ ap (λ (l : List ℕ). b ++ l) before.1 in
-    subst (λ (l : List ℕ). Goes c.keep.result l sent c.keep.new.self) whole (c.keep.ensures (b ++ before.0) sent (before.2 b sent at) c.in_default.ensures.none)
+    subst (λ (l : List ℕ). Goes c.keep.result l sent c.keep.new.self) whole (c.keep.ensures.kept (b ++ before.0) sent (before.2 b sent at) c.in_default.ensures.none)

@@ -1,6 +1,6 @@
 //! Three uses of a trie: the longest stored prefix of an address, the words that a beginning may become, and a setting
 //! that a path inherits. What each answers is proved of it.
-ghost use Rattle.std.specs.Prelude.{◌≡◌, IfOk, IsOk, Option, map, option_copied, unwrap_or};
+ghost use Rattle.std.specs.Prelude.{◌≡◌, IfOk, IsOk, Option, map, unwrap_or};
 ghost use Rattle.radix_trie.specs.Views.{IsValueAbove, pairs_below};
 
 use crate::bits::Bits;

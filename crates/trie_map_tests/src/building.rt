@@ -2,7 +2,7 @@
 
 use crate::calls::{Call, check, check_calls};
 use radix_trie::{Memory, Nibblet, Trie};
-use std::alloc::{AllocError, Global};
+use std::alloc::Global;
 use std::process::Abort;
 use trie_samples::{SAMPLE, Texts, list, texts};
 

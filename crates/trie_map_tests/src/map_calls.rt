@@ -2,7 +2,6 @@
 
 use crate::calls::{Call, check, check_calls, has_value};
 use radix_trie::{Memory, Trie};
-use std::alloc::AllocError;
 use std::process::Abort;
 use trie_samples::{SAMPLE, Texts, texts};
 

@@ -9,7 +9,6 @@ ghost use Rattle.radix_trie.specs.Views.{paths_of};
 use radix_trie::iter::{Children, Keys, Values};
 use radix_trie::{InsertError, InsertWhy, Memory, OpenError, Trie, TrieCommon, TrieKey};
 use std::alloc::{AllocError, Global};
-use std::process::Abort;
 use trie_samples::{SAMPLE, Texts, list, texts};
 
 /// Stores a pair through a view at a key, and counts all pairs of the trie that the view hands back.

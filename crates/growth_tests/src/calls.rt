@@ -1,22 +1,10 @@
 //! Insertions, runs, and tries of keys in ascending order.
 
-use radix_trie::{
-    Ascending, Command, InsertError, InsertWhy, Memory, Reply, Trie, ViewCommand, run,
-};
+use crate::stored::found;
+use radix_trie::{Ascending, Command, InsertError, InsertWhy, Reply, Trie, ViewCommand, run};
 use std::alloc::{AllocError, Global};
 use std::process::Abort;
 use trie_samples::Texts;
-
-/// The value at a key. Where memory for the encoding is refused, a second look finds it.
-fn found(trie: &Texts, key: &'static str) -> Result<Option<u64>, Memory> {
-    let first = trie.get(&key);
-    let second = if first.is_err() {
-        trie.get(&key)
-    } else {
-        first
-    };
-    Ok(second?.copied())
-}
 
 /// Inserts an absent key, and tries again where memory is refused.
 fn insert_absent(rt: &impl Abort, trie: &mut Texts, key: &'static str, value: u64) {

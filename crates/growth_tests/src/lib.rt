@@ -9,3 +9,5 @@
 mod calls;
 #[cfg(test)]
 mod removals;
+#[cfg(test)]
+mod stored;

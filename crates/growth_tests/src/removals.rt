@@ -1,34 +1,12 @@
 //! Removals of all pairs below a prefix.
 
-use radix_trie::{Command, Memory, Reply, SubTrieError, Trie, run};
+use crate::stored::{Pairs, check_pairs, stored};
+use radix_trie::{Command, Reply, SubTrieError, run};
 use std::alloc::{AllocError, Global};
 use std::process::Abort;
 use trie_samples::{SAMPLE, Texts};
 
-type Pairs<'a> = &'a [(&'static str, u64)];
-
 const LONG: &'static str = "aaaaaaaaaaaaaaaaa";
-
-/// The trie of the pairs. Where memory for a pair is refused it is inserted once more.
-fn stored(alloc: Global, pairs: Pairs<'_>) -> Texts {
-    let mut trie = Trie::new(alloc);
-    for (key, value) in pairs {
-        if trie.insert(*key, *value).is_err() {
-            let _ = trie.insert(*key, *value);
-        }
-    }
-    trie
-}
-
-/// The trie holds these pairs and no other. Where memory for a key's encoding is refused, a second look finds it.
-fn check_pairs(rt: &impl Abort, trie: &Texts, pairs: Pairs<'_>) {
-    assert_eq!(rt; trie.len(), pairs.len());
-    for (key, value) in pairs {
-        let first = trie.get(key);
-        let found = if first.is_err() { trie.get(key) } else { first };
-        assert_eq!(rt; found, Ok(Some(value)), "{key}");
-    }
-}
 
 /// Takes all below a key away. Where memory is refused all is as before, and the second call succeeds.
 fn check_removal(

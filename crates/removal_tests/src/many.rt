@@ -6,28 +6,46 @@ use std::process::Abort;
 /// The numbers below 2000, each under itself.
 fn numbers(rt: &impl Abort, trie: &mut Trie<u16, u64>) {
     for number in 0..2000 {
-        let inserted = trie.insert(number, number as u64);
-        assert_eq!(rt; inserted.ok(), Some(None));
+        assert!(rt; matches!(trie.insert(number, number as u64), Ok(None)));
     }
 }
 
+/// Whether these are so many numbers in order from one on, each under itself.
+fn are_numbers(gone: &[(u16, u64)], first: u16, count: usize) -> bool {
+    let mut wanted = first;
+    for (key, value) in gone {
+        if *key != wanted || *value != wanted as u64 {
+            return false;
+        }
+        wanted = wanted.saturating_add(1);
+    }
+    gone.len() == count
+}
+
 /// The numbers from 1024 to 1279 share their first byte, and go in order.
+fn check_byte(rt: &impl Abort, trie: &mut Trie<u16, u64>) -> Result<(), Memory> {
+    let gone = trie.remove_prefix(&4u8)?;
+    assert!(rt; are_numbers(gone.as_slice(), 1024, 256));
+    assert!(rt; trie.len() == 1744);
+    assert!(rt; trie.get(&1023u16)? == Some(&1023));
+    assert!(rt; trie.get(&1024u16)? == None);
+    assert!(rt; trie.check_integrity()?);
+    Ok(())
+}
+
 #[test]
 fn a_byte_of_numbers(rt: HostRuntime) -> Result<(), Memory> {
     let mut trie = Trie::new(rt.alloc());
     numbers(&rt, &mut trie);
-    let gone = trie.remove_prefix(&4u8)?;
-    assert_eq!(rt; gone.len(), 256);
-    let mut wanted: u16 = 1024;
-    for (key, value) in gone {
-        assert_eq!(rt; key, wanted);
-        assert_eq!(rt; value, wanted as u64);
-        wanted = wanted.saturating_add(1);
-    }
-    assert_eq!(rt; trie.len(), 1744);
-    assert_eq!(rt; trie.get(&1023u16), Ok(Some(&1023)));
-    assert_eq!(rt; trie.get(&1024u16), Ok(None));
-    assert_eq!(rt; trie.check_integrity(), Ok(true));
+    check_byte(&rt, &mut trie)
+}
+
+/// All of them go below the empty prefix.
+fn check_all(rt: &impl Abort, trie: &mut Trie<u16, u64>) -> Result<(), Memory> {
+    let gone = trie.remove_prefix(&"")?;
+    assert!(rt; are_numbers(gone.as_slice(), 0, 2000));
+    assert!(rt; trie.is_empty());
+    assert!(rt; trie.footprint() == (1, 0));
     Ok(())
 }
 
@@ -37,10 +55,7 @@ fn two_thousand(rt: HostRuntime) -> Result<(), Memory> {
     let mut trie = Trie::new(rt.alloc());
     for _ in 0..2 {
         numbers(&rt, &mut trie);
-        let gone = trie.remove_prefix(&"")?;
-        assert_eq!(rt; gone.len(), 2000);
-        assert!(rt; trie.is_empty());
-        assert_eq!(rt; trie.footprint(), (1, 0));
+        check_all(&rt, &mut trie)?;
     }
     Ok(())
 }

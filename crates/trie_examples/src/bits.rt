@@ -1,5 +1,4 @@
 //! A key type of a caller's own: the beginning of an address, with one nibble for each bit.
-ghost use Rattle.std.specs.Prelude.{◌≡◌};
 ghost use Rattle.std.proofs.lemmas.Slice.Eq.{bytes_eq-Decides};
 ghost use Rattle.nibble_map.specs.Nibbles.{IsShort};
 

@@ -1,12 +1,13 @@
 //! Three uses of a trie: the longest stored prefix of an address, the words that a beginning may become, and a setting
 //! that a path inherits. What each answers is proved of it.
-ghost use Rattle.std.specs.Prelude.{◌≡◌, IfOk, IsOk, Option, map, option_copied, unwrap_or};
+ghost use Rattle.std.specs.Prelude.{◌≡◌, IfOk, IsOk, Option, map, unwrap_or};
 ghost use Rattle.radix_trie.specs.Views.{IsValueAbove, pairs_below};
 
 use crate::bits::Bits;
 use radix_trie::iter::Values;
 use radix_trie::{Memory, Trie, TrieCommon, TrieKey};
 use std::alloc::Global;
+use std::process::Abort;
 use trie_samples::texts;
 
 /// Where the longest stored prefix of an address leads.
@@ -54,58 +55,88 @@ fn inherited<K: TrieKey, V: Copy, Q: TrieKey>(
     )
 }
 
+/// A table of routes: each network's address, its count of bits, and where it leads.
+fn routes(alloc: Global, networks: &[(u32, u32, u32)]) -> Result<Trie<Bits, u32>, Memory> {
+    let mut table: Trie<Bits, u32> = Trie::new(alloc);
+    for (network, bits, hop) in networks {
+        if table
+            .insert(Bits::of(alloc, *network, *bits)?, *hop)
+            .is_err()
+        {
+            return Err(Memory);
+        }
+    }
+    Ok(table)
+}
+
+/// The addresses lead where the rows say.
+fn check_hops(
+    rt: &impl Abort,
+    alloc: Global,
+    table: &Trie<Bits, u32>,
+    rows: &[(u32, Option<u32>)],
+) -> Result<(), Memory> {
+    for (address, hop) in rows {
+        let bits = Bits::of(alloc, *address, 32)?;
+        assert!(rt; next_hop(table, &bits)? == *hop, "{address}");
+    }
+    Ok(())
+}
+
 /// Routes to networks of 8, 16 and 24 bits, each inside the one before.
 #[test]
 fn longest_prefix_of_an_address(rt: HostRuntime) -> Result<(), Memory> {
-    let alloc = rt.alloc();
-    let mut table: Trie<Bits, u32> = Trie::new(alloc);
-    for (network, bits, hop) in [
+    const NETWORKS: [(u32, u32, u32); 3] = [
         (0x0a00_0000, 8, 1),
         (0x0a01_0000, 16, 2),
         (0x0a01_0200, 24, 3),
-    ] {
-        assert!(rt; table.insert(Bits::of(alloc, network, bits)?, hop).is_ok());
-    }
-    for (address, hop) in [
+    ];
+    const ROWS: [(u32, Option<u32>); 4] = [
         (0x0a01_0203, Some(3)),
         (0x0a01_0303, Some(2)),
         (0x0a02_0203, Some(1)),
         (0x0b01_0203, None),
-    ] {
-        let address = Bits::of(alloc, address, 32)?;
-        assert_eq!(rt; next_hop(&table, &address), Ok(hop));
+    ];
+    let table = routes(rt.alloc(), &NETWORKS)?;
+    check_hops(&rt, rt.alloc(), &table, &ROWS)
+}
+
+#[test]
+fn words_with_a_beginning(rt: HostRuntime) -> Result<(), Memory> {
+    const WORDS: [(&'static str, u64); 5] = [
+        ("tea", 1),
+        ("ten", 2),
+        ("team", 3),
+        ("to", 4),
+        ("inn", 5),
+    ];
+    let words = texts(rt.alloc(), &WORDS)?;
+    let of_te = completions(rt.alloc(), &words, &"te")?;
+    assert!(rt; of_te.as_slice() == [1, 3, 2].as_slice());
+    assert!(rt; completions(rt.alloc(), &words, &"x")?.is_empty());
+    Ok(())
+}
+
+/// The paths inherit these widths, of the settings of three folders.
+fn check_widths(
+    rt: &impl Abort,
+    alloc: Global,
+    rows: &[(&'static str, u64)],
+) -> Result<(), Memory> {
+    let settings = texts(alloc, &[("/", 80), ("/home/", 100), ("/home/ada/", 120)])?;
+    for (path, width) in rows {
+        assert!(rt; inherited(&settings, path, 72)? == *width, "{path}");
     }
     Ok(())
 }
 
 #[test]
-fn words_with_a_beginning(rt: HostRuntime) {
-    let words = texts(
-        rt.alloc(),
-        &[("tea", 1), ("ten", 2), ("team", 3), ("to", 4), ("inn", 5)],
-    );
-    match completions(rt.alloc(), &words, &"te") {
-        Ok(values) => assert_eq!(rt; values.as_slice(), [1, 3, 2].as_slice()),
-        Err(_) => assert!(rt; false),
-    }
-    match completions(rt.alloc(), &words, &"x") {
-        Ok(values) => assert!(rt; values.is_empty()),
-        Err(_) => assert!(rt; false),
-    }
-}
-
-#[test]
-fn setting_of_the_nearest_folder(rt: HostRuntime) {
-    let settings = texts(
-        rt.alloc(),
-        &[("/", 80), ("/home/", 100), ("/home/ada/", 120)],
-    );
-    for (path, width) in [
+fn setting_of_the_nearest_folder(rt: HostRuntime) -> Result<(), Memory> {
+    const ROWS: [(&'static str, u64); 4] = [
         ("/home/ada/notes", 120),
         ("/home/bob/notes", 100),
         ("/etc/passwd", 80),
         ("relative", 72),
-    ] {
-        assert_eq!(rt; inherited(&settings, &path, 72), Ok(width), "{path}");
-    }
+    ];
+    check_widths(&rt, rt.alloc(), &ROWS)
 }

@@ -1,7 +1,7 @@
 //! What a caller learns of a walk: its items, in order, from the contract alone.
 ghost use Rattle.std.specs.Prelude.{◌≡◌, ◌<◌, ◌^◌, ℕ, IfOk, length, map, sum};
 
-use radix_trie::iter::{Iter, Keys, Values};
+use radix_trie::iter::{Iter, Keys};
 use std::alloc::{AllocError, Global};
 
 /// The count of the pairs.

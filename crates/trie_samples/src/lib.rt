@@ -1,7 +1,10 @@
 //! What the crates of tests share: small tries of texts, and lists of nibbles.
 #![tactic(auto)]
 
-use radix_trie::{Nibblet, SubTrie, Trie, TrieKey};
+ghost use Rattle.std.specs.Prelude.{◌≡◌, ◌≤◌, ◌<◌, ◌↔◌, All, IfOk, IsOk, IsTrue, length};
+ghost use Rattle.radix_trie.specs.Building.{pairs_in_order};
+
+use radix_trie::{Memory, Nibblet, SubTrie, Trie, TrieKey};
 use std::alloc::Global;
 
 /// A trie of texts, each with a number.
@@ -18,39 +21,41 @@ pub const SAMPLE: [(&'static str, u64); 7] = [
     ("bcdefgh", 29),
 ];
 
-/// The sample trie.
-pub fn sample(alloc: Global) -> Texts {
-    texts(alloc, &SAMPLE)
-}
-
-/// A trie of the pairs.
-pub fn texts(alloc: Global, pairs: &[(&'static str, u64)]) -> Texts {
-    let mut trie = Trie::new(alloc);
-    for (key, value) in pairs {
-        let _ = trie.insert(*key, *value);
+/// The trie of the pairs, inserted in order. The one refusal is that of memory.
+pub fn texts(alloc: Global, pairs: &[(&'static str, u64)]) -> Result<Texts, Memory>
+    ensures { IfOk result (λ trie. trie ≡ pairs_in_order ⟦<&'static str as TrieKey>⟧.encoding pairs.now) }
+{
+    match Trie::from_iter(alloc, pairs.iter().copied()) {
+        Ok(trie) => Ok(trie),
+        Err(_) => Err(Memory),
     }
-    trie
 }
 
-/// The list of the nibbles.
-pub fn list<const N: usize>(alloc: Global, nibbles: [u8; N]) -> Nibblet {
+/// The list of the nibbles. It is refused where memory is, and where one of the numbers is above 15.
+pub fn list(alloc: Global, nibbles: &[u8]) -> Result<Nibblet, Memory>
+    ensures list { IfOk result (λ list. list ≡ nibbles.now) }
+    ensures light { All (λ n. n < 16) nibbles.now → length nibbles.now ≤ 32 → IsOk result }
+{
     let mut list = Nibblet::new(alloc);
     for nibble in nibbles {
-        if nibble < 16 {
-            let _ = list.push(nibble);
+        if *nibble > 15 {
+            return Err(Memory);
         }
+        list.push(*nibble)?;
     }
-    list
+    Ok(list)
 }
 
-/// Whether the view's path is the key's encoding.
+/// Whether the view's path is the key's encoding. The one refusal is that of memory for the encoding, which a light key
+/// never meets.
 pub fn stands_at<K: TrieKey, V, Q: TrieKey>(
     alloc: Global,
     view: &SubTrie<'_, K, V>,
     key: &Q,
-) -> bool {
-    match key.encode(alloc) {
-        Ok(list) => *view.path() == list,
-        Err(_) => false,
-    }
+) -> Result<bool, Memory>
+    ensures path { IfOk result (λ b. IsTrue b ↔ (view.now.path ≡ Q.encoding key.now)) }
+    ensures light { Q.is_light key.now → IsOk result }
+{
+    let list = key.encode(alloc)?;
+    Ok(*view.path() == list)
 }

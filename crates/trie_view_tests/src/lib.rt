@@ -1,14 +1,14 @@
-//! Tests of views and walks, and of the queries that lead to them.
+//! Tests of queries, views and walks.
 #![tactic(auto)]
 
 #[cfg(test)]
-mod optional_views;
+mod calls_of_views;
 #[cfg(test)]
 mod queries;
 #[cfg(test)]
-mod spent_views;
+mod queries_of_views;
 #[cfg(test)]
-mod view_answers;
+mod spent_views;
 #[cfg(test)]
 mod views;
 #[cfg(test)]

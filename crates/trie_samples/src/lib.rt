@@ -23,7 +23,8 @@ pub const SAMPLE: [(&'static str, u64); 7] = [
 
 /// The trie of the pairs, inserted in order. The one refusal is that of memory.
 pub fn texts(alloc: Global, pairs: &[(&'static str, u64)]) -> Result<Texts, Memory>
-    ensures { IfOk result (λ trie. trie ≡ pairs_in_order ⟦<&'static str as TrieKey>⟧.encoding pairs.now) }
+    ensures { IfOk result (λ trie. trie
+        ≡ pairs_in_order ⟦<&'static str as TrieKey>⟧.encoding pairs.now) }
 {
     match Trie::from_iter(alloc, pairs.iter().copied()) {
         Ok(trie) => Ok(trie),

@@ -4,6 +4,8 @@
 #[cfg(test)]
 mod bits;
 #[cfg(test)]
+mod same_keys;
+#[cfg(test)]
 mod topics;
 #[cfg(test)]
 mod uses;

@@ -1,0 +1,29 @@
+//! A map by encodings is a map by keys: the key that is stored at a key's encoding equals it.
+ghost use Rattle.std.specs.FinMap as map;
+ghost use Rattle.std.specs.Prelude.{◌≡◌, OnOk, Some, true};
+ghost use Rattle.radix_trie.specs.Keys.{IsKeyed};
+
+use radix_trie::{InsertError, Trie, TrieKey, stored_keys_are_equal};
+
+/// Stores a pair in a trie each of whose keys came in by insertion. What key it replaces equals the new one.
+fn stored_again<K: TrieKey + Drop, V: Drop>(
+    trie: &mut Trie<K, V>,
+    key: K,
+    value: V,
+) -> Result<Option<V>, InsertError<K, V>>
+    requires keyed { IsKeyed K.encoding K.is_value trie.old }
+    ensures keyed { OnOk result (IsKeyed K.encoding K.is_value trie.new) }
+    ensures equal { OnOk result ((p : K × V) → map.get trie.old (K.encoding key) ≡ Some p
+        → K.eq p.0 key ≡ true) }
+{
+    stored_keys_are_equal::<K, V>();
+    trie.insert(key, value)
+}
+
+#[test]
+fn numbers_of_four_bytes(rt: HostRuntime) {
+    let mut trie: Trie<u32, u64> = Trie::new(rt.alloc());
+    assert_eq!(rt; stored_again(&mut trie, 7, 1).ok(), Some(None));
+    assert_eq!(rt; stored_again(&mut trie, 7, 2).ok(), Some(Some(1)));
+    assert_eq!(rt; trie.len(), 1);
+}

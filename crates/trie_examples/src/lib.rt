@@ -4,6 +4,8 @@
 #[cfg(test)]
 mod bits;
 #[cfg(test)]
+mod first;
+#[cfg(test)]
 mod same_keys;
 #[cfg(test)]
 mod topics;

@@ -29,7 +29,8 @@ fn sizes<K: TrieKey, V>(
     alloc: Global,
     children: Children<'_, K, V>,
 ) -> Result<Vec<usize>, AllocError>
-    ensures { IfOk result (λ sizes. sizes.items ≡ each (λ v. finite.len (below v.map v.path)) children.entry) }
+    ensures { IfOk result
+        (λ sizes. sizes.items ≡ each (λ v. finite.len (below v.map v.path)) children.entry) }
 {
     children.map(|child| TrieCommon::len(&child)).collect(alloc)
 }

@@ -12,7 +12,8 @@ use trie_samples::texts;
 
 /// Where the longest stored prefix of an address leads.
 fn next_hop<V: Copy>(table: &Trie<Bits, V>, address: &Bits) -> Result<Option<V>, Memory>
-    ensures hop { IfOk result (λ hop. IsValueAbove table.now (⟦<Bits as TrieKey>⟧.encoding address.now) hop) }
+    ensures hop { IfOk result
+        (λ hop. IsValueAbove table.now (⟦<Bits as TrieKey>⟧.encoding address.now) hop) }
 {
     Ok(table.get_ancestor_value(address)?.copied())
 }
@@ -23,7 +24,8 @@ fn completions<K: TrieKey, V: Copy, Q: TrieKey>(
     words: &Trie<K, V>,
     beginning: &Q,
 ) -> Result<Vec<V>, Memory>
-    ensures { IfOk result (λ all. all.items ≡ map (λ p. p.1) (pairs_below words.now (Q.encoding beginning.now))) }
+    ensures { IfOk result
+        (λ all. all.items ≡ map (λ p. p.1) (pairs_below words.now (Q.encoding beginning.now))) }
 {
     match words.get_raw_descendant(beginning)? {
         Some(view) => collected(alloc, TrieCommon::values(&view)?),
@@ -44,7 +46,9 @@ fn inherited<K: TrieKey, V: Copy, Q: TrieKey>(
     path: &Q,
     default: V,
 ) -> Result<V, Memory>
-    ensures nearest { IfOk result (λ v. (found : Option V) × IsValueAbove settings.now (Q.encoding path.now) found × (v ≡ unwrap_or found default)) }
+    ensures nearest { IfOk result
+        (λ v. (found : Option V) × IsValueAbove settings.now (Q.encoding path.now) found
+        × (v ≡ unwrap_or found default)) }
     ensures light { Q.is_light path.now → IsOk result }
 {
     Ok(

@@ -27,7 +27,8 @@ fn stored_and_counted<K: TrieKey + Drop, V: Drop>(
             Ok(_) => {
                 let trie = view.into_trie();
                 let count = trie.len();
-                // A last use beyond the shared one, so that the proof follows the reference to its end.
+                // A last use beyond the shared one, so that the proof follows the
+                reference to its end.
                 let _trie = trie;
                 Ok(count)
             }
@@ -64,7 +65,8 @@ fn children_at<'t, K: TrieKey, V, Q: TrieKey>(
     trie: &'t mut Trie<K, V>,
     at: &Q,
 ) -> Result<Children<'t, K, V>, OpenError>
-    ensures kids { IfOk result (λ children. AreKids trie.entry.now (Q.encoding at.now) (paths_of children)) }
+    ensures kids { IfOk result
+        (λ children. AreKids trie.entry.now (Q.encoding at.now) (paths_of children)) }
 {
     match trie.open_mut(at) {
         Ok(view) => match view.into_children() {
@@ -264,7 +266,8 @@ fn put_within<K: TrieKey + Drop, V: Drop>(
     key: K,
     value: V,
 ) -> Result<bool, InsertError<K, V>>
-    ensures opened { IfOk result (λ b. IsTrue b → trie.new ≡ map.insert trie.old (K.encoding key) (key, value)) }
+    ensures opened { IfOk result
+        (λ b. IsTrue b → trie.new ≡ map.insert trie.old (K.encoding key) (key, value)) }
     ensures closed { IfOk result (λ b. IsFalse b → trie.new ≡ trie.old) }
     ensures unchanged { OnErr result (trie.new ≡ trie.old) }
 {

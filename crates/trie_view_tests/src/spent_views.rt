@@ -27,8 +27,7 @@ fn stored_and_counted<K: TrieKey + Drop, V: Drop>(
             Ok(_) => {
                 let trie = view.into_trie();
                 let count = trie.len();
-                // A last use beyond the shared one, so that the proof follows the
-                reference to its end.
+                // A last use beyond the shared one, so that the proof follows the reference to its end.
                 let _trie = trie;
                 Ok(count)
             }

@@ -21,7 +21,8 @@ pub fn same_trees_are_same_maps<P, K, V>()
         → IsTrue (same_tree (λ x y. eq (row x).1 (row y).1) t u)
         ↔ IsSame eq (map.from_sorted (rows_of row t)) (map.from_sorted (rows_of row u)) }
     ensures entries_of_map { (row : P → K × V) (t : Tree P) → IsFullRoot t
-        → map.entries (map.from_sorted {R = slice_cmp nat_cmp} (rows_of row t)) ≡ rows_of row t }
+        → map.entries (map.from_sorted {R = slice_cmp nat_cmp} (rows_of row t))
+        ≡ rows_of row t }
     // The test of the two trees answers what the test of their maps answers.
     ensures tests { (row : P → K × V) (eq : V → V → Bool) (t u : Tree P) (m n : PairMap K V)
         → IsFullRoot t → IsFullRoot u
@@ -31,10 +32,12 @@ pub fn same_trees_are_same_maps<P, K, V>()
 
 /// A copy of a tree has its shape: it stands at its places and is full where the tree is, and has as many nodes and nibbles.
 pub fn copies_keep_the_shape<P: Clone>()
-    ensures placed { (t u : Tree P) → IsCopy P.is_clone t u → IsTreePlaced t → IsTreePlaced u }
+    ensures placed { (t u : Tree P) → IsCopy P.is_clone t u → IsTreePlaced t
+        → IsTreePlaced u }
     ensures full { (t u : Tree P) → IsCopy P.is_clone t u → IsTreeFull t → IsTreeFull u }
     ensures root { (t u : Tree P) → IsCopy P.is_clone t u → IsFullRoot t → IsFullRoot u }
-    ensures nodes { (t u : Tree P) → IsCopy P.is_clone t u → nodes_in u.kids ≡ nodes_in t.kids }
+    ensures nodes { (t u : Tree P) → IsCopy P.is_clone t u → nodes_in u.kids
+        ≡ nodes_in t.kids }
     ensures nibbles { (t u : Tree P) → IsCopy P.is_clone t u → nibbles_in u.kids
         ≡ nibbles_in t.kids }
     ensures entries { (t u : Tree P) → IsCopy P.is_clone t u → (q : List ℕ)

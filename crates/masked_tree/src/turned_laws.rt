@@ -13,7 +13,8 @@ ghost use Rattle.std.specs.Prelude.{◌≡◌};
 /// root is, and has as many nodes and nibbles.
 pub fn turning_keeps_the_shape<P>()
     ensures placed { (t : Tree P) → IsTreePlaced t → IsTreePlaced (turned_root t) }
-    ensures full { (t : Tree P) → IsTreePlaced t → IsFullBelow t → IsFullBelow (turned_root t) }
+    ensures full { (t : Tree P) → IsTreePlaced t → IsFullBelow t
+        → IsFullBelow (turned_root t) }
     ensures nodes { (t : Tree P) → nodes_in (turned_root t).kids ≡ nodes_in t.kids }
     ensures nibbles { (t : Tree P) → nibbles_in (turned_root t).kids ≡ nibbles_in t.kids }
 {}

@@ -49,7 +49,8 @@ pub fn each_map_has_one_tree<P>()
 pub fn stored_lists_shape_the_tree<P, Q>()
     ensures { (t : Tree P) (m : NibbleMap P) (u : Tree Q) (n : NibbleMap Q) → IsCanonical t m
         → IsCanonical u n
-        → ((e : List ℕ) → IsStored m e ↔ IsStored n e) → parts_of (nodes t) ≡ parts_of (nodes u) }
+        → ((e : List ℕ) → IsStored m e ↔ IsStored n e) → parts_of (nodes t)
+        ≡ parts_of (nodes u) }
 {}
 
 /// An insertion and a removal lead from a canonical tree to one, and a removal right after an insertion leads back.
@@ -58,7 +59,8 @@ pub fn edits_keep_the_tree_canonical<P>()
         → (u : Tree P) × IsCanonical u (map.insert m e v) }
     ensures removed { (t : Tree P) (m : NibbleMap P) → IsCanonical t m → (e : List ℕ)
         → (u : Tree P) × IsCanonical u (map.remove m e) }
-    ensures undone { (t u : Tree P) (m : NibbleMap P) (e : List ℕ) (v : P) → map.get m e ≡ None
+    ensures undone { (t u : Tree P) (m : NibbleMap P) (e : List ℕ) (v : P)
+        → map.get m e ≡ None
         → IsCanonical t m
         → IsCanonical u (map.remove (map.insert m e v) e) → nodes u ≡ nodes t }
 {}

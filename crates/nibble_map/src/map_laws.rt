@@ -18,7 +18,8 @@ pub fn entries_tell_the_map<P>()
     ensures stored { (m : NibbleMap P) (e : List ℕ)
         → IsStored m e ↔ stored.IsStored (map.entries m) e }
     ensures empty { map.from_sorted {X = P} {R = slice_cmp nat_cmp} [] ≡ map.empty }
-    ensures walk { (m : NibbleMap P) (p : List ℕ) → walk m p ≡ queries.below (map.entries m) p }
+    ensures walk { (m : NibbleMap P) (p : List ℕ)
+        → walk m p ≡ queries.below (map.entries m) p }
 {}
 
 /// An insertion sets one entry, a removal cuts one, and nothing else does.
@@ -89,7 +90,8 @@ pub fn mapped_follows_the_map<P, Q>()
 
 /// The entries of a map, inserted one after another, give the map.
 pub fn entries_rebuild_the_map<P>()
-    ensures { (m : NibbleMap P) → fold (λ n e. map.insert n e.0 e.1) map.empty (map.entries m) ≡ m }
+    ensures { (m : NibbleMap P)
+        → fold (λ n e. map.insert n e.0 e.1) map.empty (map.entries m) ≡ m }
 {}
 
 /// What is left of a map without all below a path: the lists that haven't the prefix, with the pairs that they had. What was
@@ -99,7 +101,8 @@ pub fn rest_of_a_map<P>()
         map.get (without_below m p) e ≡ cond (is_prefix p e) None (map.get m e) }
     ensures stored { (m : NibbleMap P) (p e : List ℕ) → IsStored (without_below m p) e →
         IsStored m e × (IsPrefix p e → ⊥) }
-    ensures elsewhere { (m : NibbleMap P) (p e : List ℕ) → IsStored m e → (IsPrefix p e → ⊥) →
+    ensures elsewhere { (m : NibbleMap P) (p e : List ℕ) → IsStored m e
+        → (IsPrefix p e → ⊥) →
         IsStored (without_below m p) e }
     ensures below { (m : NibbleMap P) (p : List ℕ) → below (without_below m p) p ≡ map.empty }
     ensures put_back { (m : NibbleMap P) (p : List ℕ) →
@@ -116,20 +119,23 @@ pub fn points_of_the_rest<P>()
     ensures point_before { (m : NibbleMap P) (p q : List ℕ) →
         IsPoint (without_below m p) q → IsPoint m q }
     ensures point_apart { (m : NibbleMap P) (p q : List ℕ) →
-        (IsPrefix q p → ⊥) → (IsPrefix p q → ⊥) → IsPoint m q → IsPoint (without_below m p) q }
+        (IsPrefix q p → ⊥) → (IsPrefix p q → ⊥) → IsPoint m q
+        → IsPoint (without_below m p) q }
     ensures point_below { (m : NibbleMap P) (p q : List ℕ) →
         IsPrefix p q → IsPoint (without_below m p) q → q ≡ [] }
     ensures stem_before { (m : NibbleMap P) (p q : List ℕ) →
         IsStem (without_below m p) q → IsStem m q }
     ensures stem_apart { (m : NibbleMap P) (p q : List ℕ) →
-        (IsPrefix q p → ⊥) → (IsPrefix p q → ⊥) → IsStem m q → IsStem (without_below m p) q }
+        (IsPrefix q p → ⊥) → (IsPrefix p q → ⊥) → IsStem m q
+        → IsStem (without_below m p) q }
     ensures stem_below { (m : NibbleMap P) (p q : List ℕ) →
         IsPrefix p q → IsStem (without_below m p) q → ⊥ }
 {}
 
 /// A run cut from a rising list of entries, of all whose lists have a prefix, leaves the map without what is below it.
 pub fn rest_by_swaps<P>()
-    ensures { (p : List ℕ) (gone old new : List (List ℕ × P)) → IsRising (stored.stored old) →
+    ensures { (p : List ℕ) (gone old new : List (List ℕ × P))
+        → IsRising (stored.stored old) →
         Swaps gone [] old new → filter (λ e. is_prefix p e.0) old ≡ gone →
         map.from_sorted {R = slice_cmp nat_cmp} new ≡ without_below (map.from_sorted old) p }
 {}
@@ -138,7 +144,8 @@ pub fn rest_by_swaps<P>()
 pub fn one_value_changes<K, V>()
     ensures absent { (m : PairMap K V) (e : List ℕ) (w : V) → map.get m e ≡ None
         → with_value m e w ≡ m }
-    ensures stored { (m : PairMap K V) (e : List ℕ) (w : V) (p : K × V) → map.get m e ≡ Some p
+    ensures stored { (m : PairMap K V) (e : List ℕ) (w : V) (p : K × V)
+        → map.get m e ≡ Some p
         → with_value m e w ≡ map.insert m e (p.0, w) }
     ensures here { (m : PairMap K V) (e : List ℕ) (w : V) (p : K × V) → map.get m e ≡ Some p
         → map.get (with_value m e w) e ≡ Some (p.0, w) }
@@ -146,7 +153,8 @@ pub fn one_value_changes<K, V>()
         → map.get (with_value m e w) q ≡ map.get m q }
     ensures same_lists { (m : PairMap K V) (e : List ℕ) (w : V) (q : List ℕ)
         → IsStored (with_value m e w) q ↔ IsStored m q }
-    ensures len { (m : PairMap K V) (e : List ℕ) (w : V) → map.len (with_value m e w) ≡ map.len m }
+    ensures len { (m : PairMap K V) (e : List ℕ) (w : V) → map.len (with_value m e w)
+        ≡ map.len m }
 {}
 
 /// The removal of a list that isn't stored changes nothing.
@@ -162,9 +170,11 @@ pub fn removal_undoes_insertion<P>()
 
 /// Being the same map goes both ways and on where the value type's `==` does, and is seen entry by entry.
 pub fn sameness_follows_the_values<K, V>()
-    ensures reflexive { (eq : V → V → Bool) → ((v : V) → IsTrue (eq v v)) → (m : PairMap K V)
+    ensures reflexive { (eq : V → V → Bool) → ((v : V) → IsTrue (eq v v))
+        → (m : PairMap K V)
         → IsSame eq m m }
-    ensures symmetric { (eq : V → V → Bool) → ((v w : V) → IsTrue (eq v w) → IsTrue (eq w v))
+    ensures symmetric { (eq : V → V → Bool)
+        → ((v w : V) → IsTrue (eq v w) → IsTrue (eq w v))
         → (m n : PairMap K V) → IsSame eq m n → IsSame eq n m }
     ensures transitive { (eq : V → V → Bool)
         → ((u v w : V) → IsTrue (eq u v) → IsTrue (eq v w) → IsTrue (eq u w))

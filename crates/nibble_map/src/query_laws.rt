@@ -41,10 +41,12 @@ pub fn answers_by_entries<P>()
 /// Two maps with the same stored lists have the same points and answers, whatever their pairs.
 pub fn stored_lists_decide<P, Q>()
     ensures point { (m : NibbleMap P) (n : NibbleMap Q)
-        → ((e : List ℕ) → IsStored m e ↔ IsStored n e) → (p : List ℕ) → maps.IsPoint m p
+        → ((e : List ℕ) → IsStored m e ↔ IsStored n e) → (p : List ℕ)
+        → maps.IsPoint m p
         → maps.IsPoint n p }
     ensures raw_descendant { (m : NibbleMap P) (n : NibbleMap Q)
-        → ((e : List ℕ) → IsStored m e ↔ IsStored n e) → (e : List ℕ) (a : Option (List ℕ))
+        → ((e : List ℕ) → IsStored m e ↔ IsStored n e)
+        → (e : List ℕ) (a : Option (List ℕ))
         → map_queries.IsRawDescendant m e a → map_queries.IsRawDescendant n e a }
     ensures raw_ancestor { (m : NibbleMap P) (n : NibbleMap Q)
         → ((e : List ℕ) → IsStored m e ↔ IsStored n e) → (e p : List ℕ)
@@ -53,7 +55,8 @@ pub fn stored_lists_decide<P, Q>()
         → ((e : List ℕ) → IsStored m e ↔ IsStored n e) → (p f : List ℕ)
         → map_queries.IsFragment m p f → map_queries.IsFragment n p f }
     ensures kids { (m : NibbleMap P) (n : NibbleMap Q)
-        → ((e : List ℕ) → IsStored m e ↔ IsStored n e) → (p : List ℕ) (qs : List (List ℕ))
+        → ((e : List ℕ) → IsStored m e ↔ IsStored n e)
+        → (p : List ℕ) (qs : List (List ℕ))
         → map_queries.AreKids m p qs → map_queries.AreKids n p qs }
     ensures compared { (m : NibbleMap P) (n : NibbleMap Q)
         → ((e : List ℕ) → IsStored m e ↔ IsStored n e) → (e : List ℕ) (k : ℕ)
@@ -80,9 +83,12 @@ pub fn answers_are_unique<P>()
 /// point.
 pub fn computed_points<P>()
     ensures points { (m : List (List ℕ × P)) → Lists (stored.IsPoint m) (computed.points m) }
-    ensures prefixes { (m : List (List ℕ × P)) → Lists (stored.IsStem m) (computed.prefixes m) }
-    ensures nodes { (m : List (List ℕ × P)) → Counts (stored.IsPoint m) (computed.footprint m).0 }
-    ensures nibbles { (m : List (List ℕ × P)) → Counts (stored.IsStem m) (computed.footprint m).1 }
+    ensures prefixes { (m : List (List ℕ × P))
+        → Lists (stored.IsStem m) (computed.prefixes m) }
+    ensures nodes { (m : List (List ℕ × P))
+        → Counts (stored.IsPoint m) (computed.footprint m).0 }
+    ensures nibbles { (m : List (List ℕ × P))
+        → Counts (stored.IsStem m) (computed.footprint m).1 }
     ensures is_point { (m : List (List ℕ × P)) (p : List ℕ)
         → stored.IsPoint m p ↔ IsTrue (computed.is_point m p) }
 {}
@@ -113,7 +119,8 @@ pub fn points_answer_themselves<P>()
 
 /// A path is a leaf exactly where it has no kids.
 pub fn leaves_have_no_kids<P>()
-    ensures { (m : NibbleMap P) (p : List ℕ) → map_queries.IsLeaf m p ↔ map_queries.AreKids m p [] }
+    ensures { (m : NibbleMap P) (p : List ℕ)
+        → map_queries.IsLeaf m p ↔ map_queries.AreKids m p [] }
 {}
 
 /// Each stored list strictly below a path is at or below exactly one of the path's kids.

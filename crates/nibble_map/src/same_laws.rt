@@ -16,6 +16,7 @@ pub fn sameness_is_computed<K, V>()
 
 /// A copy of a map whose clones are the values themselves is that map.
 pub fn plain_copies_are_the_map<K, V>()
-    ensures { (m copy : PairMap K V) → IsMapCopy (IsPairClone (λ x y. y ≡ x) (λ x y. y ≡ x)) m copy
+    ensures { (m copy : PairMap K V)
+        → IsMapCopy (IsPairClone (λ x y. y ≡ x) (λ x y. y ≡ x)) m copy
         → copy ≡ m }
 {}

@@ -75,8 +75,10 @@ pub fn count_is_compared<V>()
 /// An entry can be set in a shaped tree, and taken out of it, so that it stays shaped.
 pub fn changes_keep_the_shape<V>()
     ensures set { (t : Tree V) → IsShaped 0 t.kids → (e : List ℕ) (v : V)
-        → (n : Tree V) × IsShaped 0 n.kids × IsSetAt (entries (nodes t)) e v (entries (nodes n)) }
-    ensures cut { (t : Tree V) → IsShaped 0 t.kids → (e : List ℕ) → (n : Tree V) × IsShaped 0 n.kids
+        → (n : Tree V) × IsShaped 0 n.kids
+        × IsSetAt (entries (nodes t)) e v (entries (nodes n)) }
+    ensures cut { (t : Tree V) → IsShaped 0 t.kids → (e : List ℕ)
+        → (n : Tree V) × IsShaped 0 n.kids
         × IsCutAt (entries (nodes t)) e (entries (nodes n)) }
 {}
 

@@ -10,7 +10,8 @@ ghost use Rattle.std.specs.Prelude.{[], ◌++◌, ◌∷◌, ◌≡◌, ◌*◌,
 
 /// The rows' lists of entries are those of maps after insertions and removals.
 pub fn rows_are_maps()
-    ensures inserted { (m : NibbleMap ℕ) (es : List (List ℕ × ℕ)) → map.entries (insert_all m es)
+    ensures inserted { (m : NibbleMap ℕ) (es : List (List ℕ × ℕ))
+        → map.entries (insert_all m es)
         ≡ inserted (map.entries m) es }
     ensures removed { (m : NibbleMap ℕ) (e : List ℕ) → map.entries (map.remove m e)
         ≡ removed e (map.entries m) }
@@ -21,10 +22,12 @@ pub fn drawn_tree()
     ensures points { points a_abc_abd ≡ [] ∷ nibbles (codes "a") ∷ ab_and_a_half ∷
         nibbles (codes "abc") ∷ nibbles (codes "abd") ∷ [] }
     ensures fragments { each (fragment a_abc_abd) (points a_abc_abd)
-        ≡ [] ∷ (6 ∷ 1 ∷ []) ∷ (6 ∷ 2 ∷ 6 ∷ []) ∷ (3 ∷ []) ∷ (4 ∷ []) ∷ [] }
+        ≡ [] ∷ (6 ∷ 1 ∷ []) ∷ (6 ∷ 2 ∷ 6 ∷ []) ∷ (3 ∷ []) ∷
+        (4 ∷ []) ∷ [] }
     ensures above_abe { ancestor a_abc_abd (nibbles (codes "abe")) ≡ Some (nibbles (codes "a")) }
     ensures point_above_abe { raw_ancestor a_abc_abd (nibbles (codes "abe")) ≡ ab_and_a_half }
-    ensures point_below_ab { raw_descendant a_abc_abd (nibbles (codes "ab")) ≡ Some ab_and_a_half }
+    ensures point_below_ab { raw_descendant a_abc_abd (nibbles (codes "ab"))
+        ≡ Some ab_and_a_half }
     ensures ab { is_point a_abc_abd (nibbles (codes "ab")) ≡ false }
     ensures kids_of_a { kids a_abc_abd (nibbles (codes "a")) ≡ ab_and_a_half ∷ [] }
     ensures kids_of_the_parting { kids a_abc_abd ab_and_a_half
@@ -121,7 +124,8 @@ pub fn removal_merges_upward()
 
 /// The nearest point below a place within a fragment is the fragment's end.
 pub fn descendants_within_fragments()
-    ensures within { raw_descendant abcz_abca (nibbles (codes "a")) ≡ Some (nibbles (codes "abc")) }
+    ensures within { raw_descendant abcz_abca (nibbles (codes "a"))
+        ≡ Some (nibbles (codes "abc")) }
     ensures at_the_point { raw_descendant abcz_abca (nibbles (codes "abc"))
         ≡ Some (nibbles (codes "abc")) }
     ensures below { raw_descendant abcz_abca (nibbles (codes "abca"))
@@ -133,7 +137,8 @@ pub fn bytes_share_a_half()
     ensures top { fragment two_bytes [] ≡ [] }
     ensures child { kids two_bytes [] ≡ (15 ∷ []) ∷ [] }
     ensures shared { fragment two_bytes (15 ∷ []) ≡ 15 ∷ [] }
-    ensures children { kids two_bytes (15 ∷ []) ≡ (15 ∷ 1 ∷ []) ∷ (15 ∷ 2 ∷ []) ∷ [] }
+    ensures children { kids two_bytes (15 ∷ [])
+        ≡ (15 ∷ 1 ∷ []) ∷ (15 ∷ 2 ∷ []) ∷ [] }
     ensures first { fragment two_bytes (15 ∷ 1 ∷ []) ≡ 1 ∷ [] }
     ensures second { fragment two_bytes (15 ∷ 2 ∷ []) ≡ 2 ∷ [] }
     ensures removed { removed (15 ∷ []) two_bytes ≡ two_bytes }
@@ -167,7 +172,8 @@ pub fn path_outlives_its_pair()
 /// A longer text joins, and the shorter gets another number.
 pub fn longer_text_joins()
     ensures { values
-        (below (inserted [] (text (codes "abc") 3 ∷ text (codes "abcdef") 6 ∷ text (codes "abc") 9 ∷
+        (below (inserted []
+        (text (codes "abc") 3 ∷ text (codes "abcdef") 6 ∷ text (codes "abc") 9 ∷
         [])) (nibbles (codes "abc"))) ≡ 9 ∷ 6 ∷ [] }
 {}
 
@@ -203,7 +209,8 @@ pub fn children_of_a_parting()
 pub fn umlauts_are_two_bytes()
     ensures path { raw_descendant umlauts (nibbles (98 ∷ 195 ∷ 164 ∷ []))
         ≡ Some (nibbles (98 ∷ 195 ∷ 164 ∷ 114 ∷ [])) }
-    ensures walk { values (below umlauts (nibbles (98 ∷ 195 ∷ 164 ∷ 114 ∷ []))) ≡ 1 ∷ 2 ∷ [] }
+    ensures walk { values (below umlauts (nibbles (98 ∷ 195 ∷ 164 ∷ 114 ∷ [])))
+        ≡ 1 ∷ 2 ∷ [] }
 {}
 
 /// The longest point above a text that isn't stored is where its neighbours part.
@@ -243,7 +250,8 @@ pub fn searches_after_removals()
     ensures after { compared (removed (nibbles (codes "abd")) a_abc_abd) (nibbles (codes "abd"))
         ≡ 6 }
     ensures left_alone { compared
-        (removed (nibbles (codes "a")) (inserted [] (text (codes "a") 1 ∷ text (codes "p") 2 ∷ [])))
+        (removed (nibbles (codes "a"))
+        (inserted [] (text (codes "a") 1 ∷ text (codes "p") 2 ∷ [])))
         (nibbles (codes "q")) ≡ 2 }
 {}
 

@@ -33,7 +33,8 @@ pub trait KeyInt: Copy + Eq {
 
     ghost bytes_len: { (x : Self) → length (bytes x) ≡ WIDTH };
 
-    ghost distinct: { (x y : Self) → is_value x → is_value y → bytes x ≡ bytes y → Self.eq x y ≡ true };
+    ghost distinct: { (x y : Self) → is_value x → is_value y → bytes x ≡ bytes y
+        → Self.eq x y ≡ true };
 }
 
 impl KeyInt for u8 {

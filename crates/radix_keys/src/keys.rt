@@ -41,7 +41,8 @@ pub trait TrieKey: Eq {
     /// Odd is answered only where the count of nibbles is odd, and always there for a light key.
     fn encode_bytes(&self, alloc: Global) -> Result<Vec<u8>, BytesError>
         ensures ok { IfOk result (λ v. nibbles v.items ≡ encoding self.now) }
-        ensures odd { IfErr result (λ e. e ≡ BytesError.Odd → length (encoding self.now) % 2 ≡ 1) }
+        ensures odd { IfErr result (λ e. e ≡ BytesError.Odd
+            → length (encoding self.now) % 2 ≡ 1) }
         ensures light_odd { is_light self.now → length (encoding self.now) % 2 ≡ 1
             → result ≡ Err BytesError.Odd }
     {
@@ -51,7 +52,8 @@ pub trait TrieKey: Eq {
         }
     }
 
-    ghost distinct: { (x y : Self) → is_value x → is_value y → encoding x ≡ encoding y → Self.eq x y ≡ true };
+    ghost distinct: { (x y : Self) → is_value x → is_value y → encoding x ≡ encoding y
+        → Self.eq x y ≡ true };
 
     ghost light_is_short: { (x : Self) → is_light x → IsShort (encoding x) };
 }

@@ -77,7 +77,8 @@ impl<'a, 'p, K: TrieKey, V> Place<'a, 'p, K, V> {
 
     /// The pair that is stored at the path.
     pub(crate) fn pair(&self) -> Option<&'a KeyValue<K, V>>
-        ensures { option_map (λ p. pair_of p.now) result ≡ finite.get self.now.map self.now.path }
+        ensures { option_map (λ p. pair_of p.now) result
+            ≡ finite.get self.now.map self.now.path }
     {
         match self.found {
             Some((node, covered)) => {

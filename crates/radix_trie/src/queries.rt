@@ -109,7 +109,8 @@ impl<K: TrieKey, V> Trie<K, V> {
             (option_map (λ view. view.path) o)) }
         ensures same_map { IfOk result (λ o. IfSome o (λ view. view.map ≡ self.now)) }
         ensures short { Q.is_light key.now
-            → ((p : List ℕ) → IsRawDescendant self.now (Q.encoding key.now) (Some p) → IsShort p)
+            → ((p : List ℕ) → IsRawDescendant self.now (Q.encoding key.now) (Some p)
+            → IsShort p)
             → IsOk result }
     {
         let list = key.encode(self.allocator())?;

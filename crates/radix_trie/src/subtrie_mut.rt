@@ -159,7 +159,8 @@ impl<'a, K: TrieKey, V> SubTrieMut<'a, K, V> {
     /// The one other refusal is that of memory for the encoding, which a light key never meets.
     pub fn get<Q: TrieKey>(&self, key: &Q) -> SubTrieResult<&V>
         ensures value { IfOk result
-            (λ found. option_copied found ≡ value_at (map_behind self.now) (Q.encoding key.now)) }
+            (λ found. option_copied found
+            ≡ value_at (map_behind self.now) (Q.encoding key.now)) }
         ensures inside { OnOk result (IsPrefix (path_of self.now) (Q.encoding key.now)) }
         ensures outside { result ≡ Err SubTrieError.Outside
             → IsPrefix (path_of self.now) (Q.encoding key.now) → ⊥ }
@@ -275,7 +276,8 @@ impl<'a, K: TrieKey + Drop, V: Drop> SubTrieMut<'a, K, V> {
         ensures old_value { IfOk result
             (λ old. old ≡ value_at (map_behind self.old) (K.encoding key)) }
         ensures stored { OnOk result
-            (map_behind self.new ≡ map.insert (map_behind self.old) (K.encoding key) (key, value)) }
+            (map_behind self.new
+            ≡ map.insert (map_behind self.old) (K.encoding key) (key, value)) }
         ensures is_value { OnOk result (K.is_value key) }
 
         ensures handed_back { IfErr result (λ e. (e.key ≡ key) × (e.value ≡ value)) }
@@ -283,7 +285,8 @@ impl<'a, K: TrieKey + Drop, V: Drop> SubTrieMut<'a, K, V> {
 
         ensures outside { IfErr result (λ e. e.why ≡ InsertWhy.Outside
             → IsPrefix (path_of self.old) (K.encoding key) → ⊥) }
-        ensures light_outside { K.is_light key → (IsPrefix (path_of self.old) (K.encoding key) → ⊥)
+        ensures light_outside { K.is_light key
+            → (IsPrefix (path_of self.old) (K.encoding key) → ⊥)
             → IsErrAnd result (λ e. e.why ≡ InsertWhy.Outside) }
         ensures light_memory { K.is_light key
             → IfErr result (λ e. e.why ≡ InsertWhy.Memory
@@ -299,7 +302,8 @@ impl<'a, K: TrieKey + Drop, V: Drop> SubTrieMut<'a, K, V> {
         // At the limit an absent key is refused, and a light one inside as Full.
         ensures limit { map.len (map_behind self.old) ≡ usize.MAX
             → map.get (map_behind self.old) (K.encoding key) ≡ None
-            → IsErrAnd result (λ e. K.is_light key → IsPrefix (path_of self.old) (K.encoding key)
+            → IsErrAnd result (λ e. K.is_light key
+            → IsPrefix (path_of self.old) (K.encoding key)
             → e.why ≡ InsertWhy.Full) }
     {
         let pair = KeyValue { key, value };
@@ -367,10 +371,13 @@ impl<'a, K: TrieKey + Drop, V: Drop> SubTrieMut<'a, K, V> {
             → result ≡ Err SubTrieError.Outside }
         ensures light_memory { Q.is_light key.now → result ≡ Err SubTrieError.Memory
             → IsPrefix (path_of self.old) (Q.encoding key.now) }
-        ensures light_absent { Q.is_light key.now → IsPrefix (path_of self.old) (Q.encoding key.now)
+        ensures light_absent { Q.is_light key.now
+            → IsPrefix (path_of self.old) (Q.encoding key.now)
             → map.get (map_behind self.old) (Q.encoding key.now) ≡ None → IsOk result }
-        ensures light_short { Q.is_light key.now → IsPrefix (path_of self.old) (Q.encoding key.now)
-            → ((e : List ℕ) → IsStored (map_behind self.old) e → IsShort e) → IsOk result }
+        ensures light_short { Q.is_light key.now
+            → IsPrefix (path_of self.old) (Q.encoding key.now)
+            → ((e : List ℕ) → IsStored (map_behind self.old) e → IsShort e)
+            → IsOk result }
     {
         let Ok(list) = key.encode(self.trie.allocator()) else {
             return Err(SubTrieError::Memory);

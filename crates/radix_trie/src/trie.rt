@@ -234,13 +234,15 @@ impl<K: TrieKey + Drop, V: Drop> Trie<K, V> {
         ensures handed_back { IfErr result (λ e. (e.key ≡ key) × (e.value ≡ value)) }
         ensures unchanged { OnErr result (self.new ≡ self.old) }
 
-        ensures light_stored { K.is_light key → IsStored self.old (K.encoding key) → IsOk result }
+        ensures light_stored { K.is_light key → IsStored self.old (K.encoding key)
+            → IsOk result }
         ensures full_at_limit { IfErr result (λ e. e.why ≡ InsertWhy.Full → map.len self.old
             ≡ usize.MAX) }
         ensures full_absent { IfErr result (λ e. e.why ≡ InsertWhy.Full
             → map.get self.old (K.encoding key) ≡ None) }
         // At the limit an absent key is refused, and a light one as Full.
-        ensures limit { map.len self.old ≡ usize.MAX → map.get self.old (K.encoding key) ≡ None
+        ensures limit { map.len self.old ≡ usize.MAX
+            → map.get self.old (K.encoding key) ≡ None
             → IsErrAnd result (λ e. K.is_light key → e.why ≡ InsertWhy.Full) }
         ensures inside { IfErr result (λ e. e.why ≢ InsertWhy.Outside) }
     {
@@ -262,7 +264,8 @@ impl<K: TrieKey + Drop, V: Drop> Trie<K, V> {
         ensures old_value { IfOk result (λ old. old ≡ value_at self.old list.now) }
         ensures stored { OnOk result
             (self.new ≡ map.insert self.old list.now (pair.key, pair.value)) }
-        ensures handed_back { IfErr result (λ e. (e.key ≡ pair.key) × (e.value ≡ pair.value)) }
+        ensures handed_back { IfErr result
+            (λ e. (e.key ≡ pair.key) × (e.value ≡ pair.value)) }
         ensures unchanged { OnErr result (self.new ≡ self.old) }
         ensures refused_absent { OnErr result (map.get self.old list.now ≡ None) }
         ensures full_at_limit { IfErr result (λ e. e.why ≡ InsertWhy.Full → map.len self.old
@@ -329,13 +332,15 @@ impl<K: TrieKey + Drop, V: Drop> Trie<K, V> {
         ensures handed_back { IfErr result (λ e. (e.key ≡ key) × (e.value ≡ default)) }
         ensures unchanged { OnErr result (self.new ≡ self.old) }
 
-        ensures light_stored { K.is_light key → IsStored self.old (K.encoding key) → IsOk result }
+        ensures light_stored { K.is_light key → IsStored self.old (K.encoding key)
+            → IsOk result }
         ensures full_at_limit { IfErr result (λ e. e.why ≡ InsertWhy.Full → map.len self.old
             ≡ usize.MAX) }
         ensures full_absent { IfErr result (λ e. e.why ≡ InsertWhy.Full
             → map.get self.old (K.encoding key) ≡ None) }
         // At the limit an absent key is refused, and a light one as Full.
-        ensures limit { map.len self.old ≡ usize.MAX → map.get self.old (K.encoding key) ≡ None
+        ensures limit { map.len self.old ≡ usize.MAX
+            → map.get self.old (K.encoding key) ≡ None
             → IsErrAnd result (λ e. K.is_light key → e.why ≡ InsertWhy.Full) }
         ensures inside { IfErr result (λ e. e.why ≢ InsertWhy.Outside) }
     {
@@ -373,7 +378,8 @@ impl<K: TrieKey + Drop, V: Drop> Trie<K, V> {
 
         ensures light_absent { Q.is_light key.now → map.get self.old (Q.encoding key.now) ≡ None
             → IsOk result }
-        ensures light_short { Q.is_light key.now → ((e : List ℕ) → IsStored self.old e → IsShort e)
+        ensures light_short { Q.is_light key.now
+            → ((e : List ℕ) → IsStored self.old e → IsShort e)
             → IsOk result }
     {
         let list = key.encode(self.alloc)?;
@@ -409,7 +415,8 @@ impl<K: TrieKey + Drop, V: Drop> Trie<K, V> {
             (λ gone. gone.items ≡ pairs_below self.old (Q.encoding key.now)) }
         ensures removed { OnOk result (self.new ≡ without_below self.old (Q.encoding key.now)) }
         ensures unchanged { OnErr result (self.new ≡ self.old) }
-        ensures light_none { Q.is_light key.now → map.len (below self.old (Q.encoding key.now)) ≡ 0
+        ensures light_none { Q.is_light key.now
+            → map.len (below self.old (Q.encoding key.now)) ≡ 0
             → IsOk result }
     {
         let list = key.encode(self.alloc)?;

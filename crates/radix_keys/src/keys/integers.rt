@@ -285,7 +285,8 @@ impl<T: KeyInt> TrieKey for LittleEndian<T> {
 
     ghost is_value = { λ w. T.is_value w };
 
-    ghost distinct = { λ x y p q e. T.distinct x y p q (reverse-injective _ _ (nibbles-injective _ _ e)) };
+    ghost distinct = { λ x y p q e.
+        T.distinct x y p q (reverse-injective _ _ (nibbles-injective _ _ e)) };
 
     ghost light_is_short = { λ _ h. h };
 
@@ -306,7 +307,9 @@ impl<T: KeyInt> TrieKey for Vec<T> {
 
     ghost is_value = { λ v. All T.is_value v.items };
 
-    ghost distinct = { λ x y p q e. list-distinct T.bytes T.eq T.is_value T.WIDTH T.width_positive T.bytes_len T.distinct x.items y.items p q e };
+    ghost distinct = { λ x y p q e.
+        list-distinct T.bytes T.eq T.is_value T.WIDTH T.width_positive T.bytes_len T.distinct
+        x.items y.items p q e };
 
     ghost light_is_short = { λ _ h. h };
 

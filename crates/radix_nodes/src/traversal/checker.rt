@@ -32,7 +32,8 @@ fn has_key<K: TrieKey, V>(
     alloc: Global,
     path: &Nibblet,
 ) -> Result<bool, Memory>
-    ensures { IfOk result (λ b. b ≡ key_test K.encoding path.now (unboxed (out_of node.now).pair)) }
+    ensures { IfOk result
+        (λ b. b ≡ key_test K.encoding path.now (unboxed (out_of node.now).pair)) }
 {
     match &node.pair {
         Some(pair) => {

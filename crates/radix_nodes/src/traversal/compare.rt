@@ -19,7 +19,8 @@ pub fn compare(fragment: &Nibblet, query: &Nibblet, depth: usize) -> Agreement
     ensures same { take result.same fragment.now ≡ take result.same (drop depth query.now) }
     ensures apart { result.same < length fragment.now → depth + result.same < length query.now
         → slice_index fragment.now result.same ≢ slice_index query.now (depth + result.same) }
-    ensures ended { (result.same ≡ length fragment.now) ⊎ (depth + result.same ≡ length query.now)
+    ensures ended { (result.same ≡ length fragment.now)
+        ⊎ (depth + result.same ≡ length query.now)
         → result.compared ≡ result.same }
     ensures parted { result.same < length fragment.now → depth + result.same < length query.now
         → result.compared ≡ result.same + 1 }

@@ -19,7 +19,8 @@ pub fn find<'a, K, V>(
     requires depth { depth ≤ length key.now }
     requires placed { IsTreePlaced (tree_of node.now) }
     ensures { MatchOption result
-        ((u : _) → IsNodeAt (tree_of node.now) (fragment_of node.now ++ drop depth key.now) u → ⊥)
+        ((u : _) → IsNodeAt (tree_of node.now) (fragment_of node.now ++ drop depth key.now) u
+        → ⊥)
         (λ n. IsNodeAt (tree_of node.now) (fragment_of node.now ++ drop depth key.now)
         (tree_of n.now)) }
 {
@@ -41,7 +42,8 @@ fn search<'a, K, V>(
     requires depth { depth ≤ length key.now }
     requires placed { IsTreePlaced (tree_of node.now) }
     ensures found { MatchOption result.0
-        ((u : _) → IsNodeAt (tree_of node.now) (fragment_of node.now ++ drop depth key.now) u → ⊥)
+        ((u : _) → IsNodeAt (tree_of node.now) (fragment_of node.now ++ drop depth key.now) u
+        → ⊥)
         (λ n. IsNodeAt (tree_of node.now) (fragment_of node.now ++ drop depth key.now)
         (tree_of n.now)) }
     ensures count { result.1 ≡ walked (plain (tree_of node.now).kids) (drop depth key.now) }

@@ -5,7 +5,8 @@ ghost use Rattle.masked_tree.specs.Mask.{IsMask, IsRisingFrom, IsPlaceOf, marked
 /// Where the child that begins with a nibble stands, or else would stand.
 pub fn place(mask: u16, nibble: u8) -> Result<usize, usize>
     requires { nibble < 16 }
-    ensures { (xs : List ℕ) → IsMask mask xs → IsRisingFrom 0 xs → IsPlaceOf nibble xs result }
+    ensures { (xs : List ℕ) → IsMask mask xs → IsRisingFrom 0 xs
+        → IsPlaceOf nibble xs result }
 {
     let bit = 1u16 << nibble;
     let index = (mask & (bit - 1)).count_ones() as usize;

@@ -112,7 +112,8 @@ fn parts<K, V>(pair: &KeyValue<K, V>) -> (&K, &V)
 fn push_row<'a, K, V>(stack: &mut Vec<&'a [Box<TrieNode<K, V>>]>, row: &'a [Box<TrieNode<K, V>>])
     requires { length (rows_of stack.old.items) + levels (kids_of row.now)
         ≤ vec_capacity stack.old }
-    ensures rows { rows_of stack.new.items ≡ with_row (rows_of stack.old.items) (kids_of row.now) }
+    ensures rows { rows_of stack.new.items
+        ≡ with_row (rows_of stack.old.items) (kids_of row.now) }
     ensures capacity { vec_capacity stack.new ≡ vec_capacity stack.old }
 {
     if !row.is_empty() {

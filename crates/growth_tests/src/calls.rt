@@ -30,7 +30,7 @@ fn insert_absent(rt: &impl Abort, trie: &mut Texts, key: &'static str, value: u6
 
 /// The second key parts from the first inside its last byte.
 #[test]
-fn parting_insertion(rt: HostRuntime) {
+fn branch_point_insertion(rt: HostRuntime) {
     let mut trie = Trie::new(rt.alloc());
     insert_absent(&rt, &mut trie, "abc", 3);
     insert_absent(&rt, &mut trie, "abd", 4);

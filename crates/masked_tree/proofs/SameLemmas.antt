@@ -1,4 +1,6 @@
 -- Equal trees and copies, and their maps.
 pub mod Trees
+pub mod AlikeEntries
+pub mod SharedLists
 pub mod Tests
 pub mod Copies

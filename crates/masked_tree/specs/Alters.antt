@@ -29,12 +29,12 @@ pub record Alters {P : Type 0} (gone come : Run P) (n m k l : ℕ) (old new : Tr
   pub placed : IsTreePlaced new
   -- whatever path q leads to the tree
   pub swaps : (q : List ℕ) → Swaps (gone q) (come q) (entries_at q old) (entries_at q new)
-  pub nodes : nodes_in new.kids + m ≡ nodes_in old.kids + n
-  pub nibbles : length new.fragment + nibbles_in new.kids + l
-      ≡ length old.fragment + nibbles_in old.kids + k
+  pub nodes : nodes_in new.children + m ≡ nodes_in old.children + n
+  pub nibbles : length new.fragment + nibbles_in new.children + l
+      ≡ length old.fragment + nibbles_in old.children + k
 
 -- the same of a child, which keeps a pair or two children
-pub record AltersKid {P : Type 0} (gone come : Run P) (n m k l : ℕ) (old new : Tree P) :
+pub record AltersChild {P : Type 0} (gone come : Run P) (n m k l : ℕ) (old new : Tree P) :
     Type 0 where
   pub full : IsTreeFull old → IsTreeFull new
   pub alters : Alters gone come n m k l old new
@@ -54,7 +54,7 @@ pub record AltersNode {P : Type 0} (gone come : Run P) (n m k l : ℕ) (old new 
 
 -- x is written at p, where `was` stood: n nodes and k nibbles come
 abbrev pub Replaces : {P : Type 0} → List ℕ → P → Option P → ℕ → ℕ → Tree P → Tree P → Type 0
-Replaces p x was n k old new = AltersKid (entry_at p was) (entry_at p (Some x)) n 0 k 0 old new
+Replaces p x was n k old new = AltersChild (entry_at p was) (entry_at p (Some x)) n 0 k 0 old new
 
 abbrev pub Edits : {P : Type 0} → List ℕ → P → Option P → ℕ → ℕ → Tree P → Tree P → Type 0
 Edits p x was n k old new = AltersNode (entry_at p was) (entry_at p (Some x)) n 0 k 0 old new
@@ -65,14 +65,14 @@ Rewrites p was now old new = AltersNode (entry_at p was) (entry_at p now) 0 0 0 
 
 -- x is taken from p: n nodes and k nibbles go
 abbrev pub Cuts : {P : Type 0} → List ℕ → P → ℕ → ℕ → Tree P → Tree P → Type 0
-Cuts p x n k old new = AltersKid (entry_at p (Some x)) none_of 0 n 0 k old new
+Cuts p x n k old new = AltersChild (entry_at p (Some x)) none_of 0 n 0 k old new
 
 abbrev pub CutsRoot : {P : Type 0} → List ℕ → P → ℕ → ℕ → Tree P → Tree P → Type 0
 CutsRoot p x n k old new = AltersRoot (entry_at p (Some x)) none_of 0 n 0 k old new
 
 -- u is taken with all below it from where it hangs below path s: n nodes and k nibbles go
 abbrev pub Prunes : {P : Type 0} → List ℕ → Tree P → ℕ → ℕ → Tree P → Tree P → Type 0
-Prunes s u n k old new = AltersKid (all_of s u) none_of 0 n 0 k old new
+Prunes s u n k old new = AltersChild (all_of s u) none_of 0 n 0 k old new
 
 abbrev pub PrunesRoot : {P : Type 0} → List ℕ → Tree P → ℕ → ℕ → Tree P → Tree P → Type 0
 PrunesRoot s u n k old new = AltersRoot (all_of s u) none_of 0 n 0 k old new

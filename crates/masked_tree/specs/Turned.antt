@@ -1,7 +1,7 @@
 -- Trees whose children's first nibbles are turned over.
 use Rattle.std.specs.Prelude.{ℕ, Bool, true, false, ltb, cond}
 use Rattle.std.specs.Int.{rotate_left, w16}
-use Rattle.masked_tree.specs.Tree.{Tree, Kids, none, more}
+use Rattle.masked_tree.specs.Tree.{Tree, Children, none, more}
 use Rattle.nibble_map.specs.Trees.{first}
 use Rattle.nibble_map.specs.Turned.{turned}
 
@@ -13,21 +13,21 @@ in_half false x = ltb x 8
 module _ {P : Type 0} where
   abbrev pub turned_tree : Tree P → Tree P
   turned_tree t =
-      record { fragment = turned t.fragment; pair = t.pair; mask = t.mask; kids = t.kids }
+      record { fragment = turned t.fragment; pair = t.pair; mask = t.mask; children = t.children }
 
   -- the children whose first nibble is in a half, with that nibble turned over
-  abbrev pub turned_half : Bool → Kids P → Kids P
+  abbrev pub turned_half : Bool → Children P → Children P
   turned_half high none = none
-  turned_half high (more f o m kids others) =
-      cond (in_half high (first f)) (more (turned f) o m kids (turned_half high others))
+  turned_half high (more f o m children others) =
+      cond (in_half high (first f)) (more (turned f) o m children (turned_half high others))
       (turned_half high others)
 
-  abbrev pub append : Kids P → Kids P → Kids P
+  abbrev pub append : Children P → Children P → Children P
   append none l = l
-  append (more f o m kids others) l = more f o m kids (append others l)
+  append (more f o m children others) l = more f o m children (append others l)
 
-  abbrev pub turned_kids : Kids P → Kids P
-  turned_kids k = append (turned_half true k) (turned_half false k)
+  abbrev pub turned_children : Children P → Children P
+  turned_children k = append (turned_half true k) (turned_half false k)
 
   -- a root with each child's first nibble turned over, and the children in their new order
   abbrev pub turned_root : Tree P → Tree P
@@ -36,5 +36,5 @@ module _ {P : Type 0} where
         fragment = t.fragment;
         pair = t.pair;
         mask = rotate_left w16 t.mask 8;
-        kids = turned_kids t.kids;
+        children = turned_children t.children;
       }

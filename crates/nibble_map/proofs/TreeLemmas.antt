@@ -2,7 +2,7 @@
 pub mod Shape
 pub mod Points
 pub mod Sizes
-pub mod Stems
+pub mod SomePrefixes
 pub mod Full
 pub mod Canonical
 pub mod Fragments

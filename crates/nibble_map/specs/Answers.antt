@@ -1,7 +1,7 @@
 -- The answers of queries. S holds of the stored lists.
 use Rattle.std.specs.Prelude.{◌≡◌, ℕ, ◌+◌, ◌≤◌, ◌≢◌, ◌⊎◌, List, [], ◌∷◌, ◌++◌, length, Option, MatchOption}
 use Rattle.nibble_map.specs.Lists.{IsPrefix, Lists}
-use Rattle.nibble_map.specs.Points.{IsPoint, IsStem}
+use Rattle.nibble_map.specs.Points.{IsPoint, IsSomePrefix}
 
 -- p is the longest list of C that is a prefix of e
 pub record IsLongest (C : List ℕ → Type 0) (e p : List ℕ) : Type 0 where
@@ -35,16 +35,16 @@ IsFragment S p f =
     ⊎ ((q : List ℕ) × IsLongest (λ x. IsPoint S x × (x ≢ p)) p q × (p ≡ q ++ f))
 
 -- q is the shortest point with the prefix p and one nibble more
-abbrev pub IsKid : (List ℕ → Type 0) → List ℕ → List ℕ → Type 0
-IsKid S p q = (a : ℕ) × IsShortest (IsPoint S) (p ++ a ∷ []) q
+abbrev pub IsChild : (List ℕ → Type 0) → List ℕ → List ℕ → Type 0
+IsChild S p q = (a : ℕ) × IsShortest (IsPoint S) (p ++ a ∷ []) q
 
--- the kids of p, by rising nibble
-abbrev pub AreKids : (List ℕ → Type 0) → List ℕ → List (List ℕ) → Type 0
-AreKids S p qs = Lists (IsKid S p) qs
+-- the children of p, by rising nibble
+abbrev pub AreChildren : (List ℕ → Type 0) → List ℕ → List (List ℕ) → Type 0
+AreChildren S p qs = Lists (IsChild S p) qs
 
 -- n nibbles are compared in a search for e: those of the longest prefix of e that is empty or a
 -- prefix of a stored list, and one more where that prefix isn't e and isn't a point
 abbrev pub IsCompared : (List ℕ → Type 0) → List ℕ → ℕ → Type 0
-IsCompared S e n = (p : List ℕ) × IsLongest (λ x. (x ≡ []) ⊎ IsStem S x) e p
+IsCompared S e n = (p : List ℕ) × IsLongest (λ x. (x ≡ []) ⊎ IsSomePrefix S x) e p
     × ((((p ≡ e) ⊎ IsPoint S p) × (n ≡ length p))
     ⊎ ((p ≢ e) × (IsPoint S p → ⊥) × (n ≡ length p + 1)))

@@ -86,8 +86,8 @@ module _ {P : Type 0} where
   abbrev pub steps : List (List ℕ × P) → List ℕ → List (List ℕ)
   steps m p = filter (λ q. is_prefix p q && eqb (length q) (suc (length p))) (prefixes m)
 
-  abbrev pub kids : List (List ℕ × P) → List ℕ → List (List ℕ)
-  kids m p = filter_map (raw_descendant m) (steps m p)
+  abbrev pub children : List (List ℕ × P) → List ℕ → List (List ℕ)
+  children m p = filter_map (raw_descendant m) (steps m p)
 
   -- the longest prefix of e that is empty or a prefix of a stored list
   abbrev pub met : List (List ℕ × P) → List ℕ → List ℕ

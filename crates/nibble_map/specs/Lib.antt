@@ -3,7 +3,6 @@ pub mod Nibbles
 pub mod Points
 pub mod Answers
 pub mod Stored
-pub mod Queries
 pub mod Maps
 pub mod MapQueries
 pub mod Copies

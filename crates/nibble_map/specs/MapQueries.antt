@@ -18,11 +18,11 @@ module _ {P : Type 0} where
   abbrev pub IsFragment : NibbleMap P → List ℕ → List ℕ → Type 0
   IsFragment m p f = answers.IsFragment (IsStored m) p f
 
-  abbrev pub IsKid : NibbleMap P → List ℕ → List ℕ → Type 0
-  IsKid m p q = answers.IsKid (IsStored m) p q
+  abbrev pub IsChild : NibbleMap P → List ℕ → List ℕ → Type 0
+  IsChild m p q = answers.IsChild (IsStored m) p q
 
-  abbrev pub AreKids : NibbleMap P → List ℕ → List (List ℕ) → Type 0
-  AreKids m p qs = answers.AreKids (IsStored m) p qs
+  abbrev pub AreChildren : NibbleMap P → List ℕ → List (List ℕ) → Type 0
+  AreChildren m p qs = answers.AreChildren (IsStored m) p qs
 
   abbrev pub IsCompared : NibbleMap P → List ℕ → ℕ → Type 0
   IsCompared m e n = answers.IsCompared (IsStored m) e n

@@ -57,11 +57,11 @@ module _ {P : Type 0} where
   abbrev pub IsReached : NibbleMap P → List ℕ → Type 0
   IsReached m p = points.IsReached (IsStored m) p
 
-  abbrev pub IsParting : NibbleMap P → List ℕ → Type 0
-  IsParting m p = points.IsParting (IsStored m) p
+  abbrev pub IsBranchPoint : NibbleMap P → List ℕ → Type 0
+  IsBranchPoint m p = points.IsBranchPoint (IsStored m) p
 
   abbrev pub IsPoint : NibbleMap P → List ℕ → Type 0
   IsPoint m p = points.IsPoint (IsStored m) p
 
-  abbrev pub IsStem : NibbleMap P → List ℕ → Type 0
-  IsStem m p = points.IsStem (IsStored m) p
+  abbrev pub IsSomePrefix : NibbleMap P → List ℕ → Type 0
+  IsSomePrefix m p = points.IsSomePrefix (IsStored m) p

@@ -73,8 +73,8 @@ abbrev pub two_bytes : Entries
 two_bytes = inserted [] (text (241 ∷ []) 1 ∷ text (242 ∷ []) 2 ∷ [])
 
 -- the signed bytes -2, -1, 0 and 1, in this order with 1, 2, 3 and 4
-abbrev pub signed_bytes : Entries
-signed_bytes =
+abbrev pub four_signed_bytes : Entries
+four_signed_bytes =
     inserted [] (text (254 ∷ []) 1 ∷ text (255 ∷ []) 2 ∷ text (0 ∷ []) 3 ∷ text (1 ∷ []) 4 ∷ [])
 
 -- 256 and 2 as two bytes, the low one first

@@ -1,8 +1,7 @@
--- A map from lists of nibbles by its entries, which rise by their lists: stored lists, points, and
--- the edits of one entry.
-use Rattle.std.specs.Prelude.{◌≡◌, ℕ, ◌≢◌, ◌⊎◌, ◌↔◌, List, map}
-use Rattle.nibble_map.specs.Lists.{IsRising, Has}
-use Rattle.nibble_map.specs.Points as points
+-- A map from lists of nibbles by its entries, which rise by their lists: the stored lists, of which
+-- `Points` and `Answers` speak, and the edits of one entry.
+use Rattle.std.specs.Prelude.{◌≡◌, ℕ, ◌≢◌, ◌⊎◌, ◌↔◌, List, filter, map}
+use Rattle.nibble_map.specs.Lists.{IsRising, Has, is_prefix}
 
 -- the lists that the map holds
 abbrev pub stored : {P : Type 0} → List (List ℕ × P) → List (List ℕ)
@@ -13,18 +12,9 @@ module _ {P : Type 0} where
   abbrev pub IsStored : List (List ℕ × P) → List ℕ → Type 0
   IsStored m e = Has (stored m) e
 
-  -- the words of `Points`, of the lists of the entries
-  abbrev pub IsReached : List (List ℕ × P) → List ℕ → Type 0
-  IsReached m p = points.IsReached (IsStored m) p
-
-  abbrev pub IsParting : List (List ℕ × P) → List ℕ → Type 0
-  IsParting m p = points.IsParting (IsStored m) p
-
-  abbrev pub IsPoint : List (List ℕ × P) → List ℕ → Type 0
-  IsPoint m p = points.IsPoint (IsStored m) p
-
-  abbrev pub IsStem : List (List ℕ × P) → List ℕ → Type 0
-  IsStem m p = points.IsStem (IsStored m) p
+  -- the entries whose lists have the prefix p, in order
+  abbrev pub below : List (List ℕ × P) → List ℕ → List (List ℕ × P)
+  below m p = filter (λ e. is_prefix p e.0) m
 
 -- n is m with v at e
 pub record IsSetAt {P : Type 0} (m : List (List ℕ × P)) (e : List ℕ) (v : P)

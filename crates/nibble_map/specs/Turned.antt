@@ -3,7 +3,7 @@ use Rattle.std.specs.Prelude.{◌≡◌, ◌↔◌, ℕ, ◌∷◌, [], List, So
 use Rattle.std.specs.Int.Bits.{bit_xor}
 use Rattle.std.specs.FinMap as fin
 use Rattle.nibble_map.specs.Lists.{Counts}
-use Rattle.nibble_map.specs.Maps.{NibbleMap, IsStored, IsPoint, IsStem}
+use Rattle.nibble_map.specs.Maps.{NibbleMap, IsStored, IsPoint, IsSomePrefix}
 
 -- the list with the highest bit of its first nibble turned over
 abbrev pub turned : List ℕ → List ℕ
@@ -21,4 +21,4 @@ pub record IsTurnedCopy {P Q : Type 0} (R : P → Q → Type 0) (m : NibbleMap P
 -- the maps have as many points, and their stored lists as many non-empty prefixes
 pub record IsSameFootprint {P Q : Type 0} (m : NibbleMap P) (n : NibbleMap Q) : Type 0 where
   pub nodes : (k : ℕ) → Counts (IsPoint m) k ↔ Counts (IsPoint n) k
-  pub nibbles : (k : ℕ) → Counts (IsStem m) k ↔ Counts (IsStem n) k
+  pub nibbles : (k : ℕ) → Counts (IsSomePrefix m) k ↔ Counts (IsSomePrefix n) k

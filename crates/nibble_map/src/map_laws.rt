@@ -2,8 +2,7 @@
 
 ghost use Rattle.nibble_map.specs.Lists.{IsPrefix, IsRising, Lists, is_prefix};
 ghost use Rattle.nibble_map.specs.MapQueries.{AreSame, IsSame};
-ghost use Rattle.nibble_map.specs.Maps.{NibbleMap, PairMap, IsPoint, IsStem, IsStored, below, without_below, walk, with_value, mapped};
-ghost use Rattle.nibble_map.specs.Queries as queries;
+ghost use Rattle.nibble_map.specs.Maps.{NibbleMap, PairMap, IsPoint, IsSomePrefix, IsStored, below, without_below, walk, with_value, mapped};
 ghost use Rattle.nibble_map.specs.Stored as stored;
 ghost use Rattle.nibble_map.specs.Swaps.{Swaps, entry};
 ghost use Rattle.std.specs.Cmp.Lexicographic.{slice_cmp};
@@ -19,7 +18,7 @@ pub fn entries_tell_the_map<P>()
         → IsStored m e ↔ stored.IsStored (map.entries m) e }
     ensures empty { map.from_sorted {X = P} {R = slice_cmp nat_cmp} [] ≡ map.empty }
     ensures walk { (m : NibbleMap P) (p : List ℕ)
-        → walk m p ≡ queries.below (map.entries m) p }
+        → walk m p ≡ stored.below (map.entries m) p }
 {}
 
 /// An insertion sets one entry, a removal cuts one, and nothing else does.
@@ -123,13 +122,13 @@ pub fn points_of_the_rest<P>()
         → IsPoint (without_below m p) q }
     ensures point_below { (m : NibbleMap P) (p q : List ℕ) →
         IsPrefix p q → IsPoint (without_below m p) q → q ≡ [] }
-    ensures stem_before { (m : NibbleMap P) (p q : List ℕ) →
-        IsStem (without_below m p) q → IsStem m q }
-    ensures stem_apart { (m : NibbleMap P) (p q : List ℕ) →
-        (IsPrefix q p → ⊥) → (IsPrefix p q → ⊥) → IsStem m q
-        → IsStem (without_below m p) q }
-    ensures stem_below { (m : NibbleMap P) (p q : List ℕ) →
-        IsPrefix p q → IsStem (without_below m p) q → ⊥ }
+    ensures some_prefix_before { (m : NibbleMap P) (p q : List ℕ) →
+        IsSomePrefix (without_below m p) q → IsSomePrefix m q }
+    ensures some_prefix_apart { (m : NibbleMap P) (p q : List ℕ) →
+        (IsPrefix q p → ⊥) → (IsPrefix p q → ⊥) → IsSomePrefix m q
+        → IsSomePrefix (without_below m p) q }
+    ensures some_prefix_below { (m : NibbleMap P) (p q : List ℕ) →
+        IsPrefix p q → IsSomePrefix (without_below m p) q → ⊥ }
 {}
 
 /// A run cut from a rising list of entries, of all whose lists have a prefix, leaves the map without what is below it.

@@ -1,11 +1,12 @@
 //! Laws of points and of the answers of queries.
 
+ghost use Rattle.nibble_map.specs.Points as points;
+ghost use Rattle.nibble_map.specs.Answers as answers;
 ghost use Rattle.nibble_map.specs.Computed as computed;
 ghost use Rattle.nibble_map.specs.Lists.{Counts, IsPrefix, IsStrictPrefix, Lists};
 ghost use Rattle.nibble_map.specs.MapQueries as map_queries;
 ghost use Rattle.nibble_map.specs.Maps as maps;
 ghost use Rattle.nibble_map.specs.Maps.{NibbleMap, IsStored};
-ghost use Rattle.nibble_map.specs.Queries as queries;
 ghost use Rattle.nibble_map.specs.Stored as stored;
 ghost use Rattle.std.specs.FinMap as map;
 ghost use Rattle.std.specs.Prelude.{[], ◌↔◌, ◌≡◌, IsTrue, List, None, Option, Some, ℕ};
@@ -13,29 +14,34 @@ ghost use Rattle.std.specs.Prelude.{[], ◌↔◌, ◌≡◌, IsTrue, List, None
 /// The points of a map and the prefixes of its stored lists are those of its entries.
 pub fn points_by_entries<P>()
     ensures reached { (m : NibbleMap P) (p : List ℕ)
-        → maps.IsReached m p ↔ stored.IsReached (map.entries m) p }
-    ensures parting { (m : NibbleMap P) (p : List ℕ)
-        → maps.IsParting m p ↔ stored.IsParting (map.entries m) p }
+        → maps.IsReached m p ↔ points.IsReached (stored.IsStored (map.entries m)) p }
+    ensures branch_point { (m : NibbleMap P) (p : List ℕ)
+        → maps.IsBranchPoint m p ↔ points.IsBranchPoint (stored.IsStored (map.entries m)) p }
     ensures point { (m : NibbleMap P) (p : List ℕ)
-        → maps.IsPoint m p ↔ stored.IsPoint (map.entries m) p }
-    ensures stem { (m : NibbleMap P) (p : List ℕ)
-        → maps.IsStem m p ↔ stored.IsStem (map.entries m) p }
+        → maps.IsPoint m p ↔ points.IsPoint (stored.IsStored (map.entries m)) p }
+    ensures some_prefix { (m : NibbleMap P) (p : List ℕ)
+        → maps.IsSomePrefix m p ↔ points.IsSomePrefix (stored.IsStored (map.entries m)) p }
 {}
 
 /// The answers of a map's queries are those of its entries.
 pub fn answers_by_entries<P>()
     ensures ancestor { (m : NibbleMap P) (e : List ℕ) (a : Option (List ℕ))
-        → map_queries.IsAncestor m e a ↔ queries.IsAncestor (map.entries m) e a }
+        → map_queries.IsAncestor m e a
+        ↔ answers.IsAncestor (stored.IsStored (map.entries m)) e a }
     ensures raw_ancestor { (m : NibbleMap P) (e p : List ℕ) → map_queries.IsRawAncestor m e p
-        ↔ queries.IsRawAncestor (map.entries m) e p }
+        ↔ answers.IsRawAncestor (stored.IsStored (map.entries m)) e p }
     ensures raw_descendant { (m : NibbleMap P) (e : List ℕ) (a : Option (List ℕ))
-        → map_queries.IsRawDescendant m e a ↔ queries.IsRawDescendant (map.entries m) e a }
+        → map_queries.IsRawDescendant m e a
+        ↔ answers.IsRawDescendant (stored.IsStored (map.entries m)) e a }
     ensures fragment { (m : NibbleMap P) (p f : List ℕ)
-        → map_queries.IsFragment m p f ↔ queries.IsFragment (map.entries m) p f }
-    ensures kids { (m : NibbleMap P) (p : List ℕ) (qs : List (List ℕ))
-        → map_queries.AreKids m p qs ↔ queries.AreKids (map.entries m) p qs }
+        → map_queries.IsFragment m p f
+        ↔ answers.IsFragment (stored.IsStored (map.entries m)) p f }
+    ensures children { (m : NibbleMap P) (p : List ℕ) (qs : List (List ℕ))
+        → map_queries.AreChildren m p qs
+        ↔ answers.AreChildren (stored.IsStored (map.entries m)) p qs }
     ensures compared { (m : NibbleMap P) (e : List ℕ) (n : ℕ)
-        → map_queries.IsCompared m e n ↔ queries.IsCompared (map.entries m) e n }
+        → map_queries.IsCompared m e n
+        ↔ answers.IsCompared (stored.IsStored (map.entries m)) e n }
 {}
 
 /// Two maps with the same stored lists have the same points and answers, whatever their pairs.
@@ -54,10 +60,10 @@ pub fn stored_lists_decide<P, Q>()
     ensures fragment { (m : NibbleMap P) (n : NibbleMap Q)
         → ((e : List ℕ) → IsStored m e ↔ IsStored n e) → (p f : List ℕ)
         → map_queries.IsFragment m p f → map_queries.IsFragment n p f }
-    ensures kids { (m : NibbleMap P) (n : NibbleMap Q)
+    ensures children { (m : NibbleMap P) (n : NibbleMap Q)
         → ((e : List ℕ) → IsStored m e ↔ IsStored n e)
         → (p : List ℕ) (qs : List (List ℕ))
-        → map_queries.AreKids m p qs → map_queries.AreKids n p qs }
+        → map_queries.AreChildren m p qs → map_queries.AreChildren n p qs }
     ensures compared { (m : NibbleMap P) (n : NibbleMap Q)
         → ((e : List ℕ) → IsStored m e ↔ IsStored n e) → (e : List ℕ) (k : ℕ)
         → map_queries.IsCompared m e k → map_queries.IsCompared n e k }
@@ -73,8 +79,8 @@ pub fn answers_are_unique<P>()
         → map_queries.IsRawDescendant m e a → map_queries.IsRawDescendant m e b → a ≡ b }
     ensures fragment { (m : NibbleMap P) (p f g : List ℕ) → map_queries.IsFragment m p f
         → map_queries.IsFragment m p g → f ≡ g }
-    ensures kids { (m : NibbleMap P) (p : List ℕ) (qs rs : List (List ℕ))
-        → map_queries.AreKids m p qs → map_queries.AreKids m p rs → qs ≡ rs }
+    ensures children { (m : NibbleMap P) (p : List ℕ) (qs rs : List (List ℕ))
+        → map_queries.AreChildren m p qs → map_queries.AreChildren m p rs → qs ≡ rs }
     ensures compared { (m : NibbleMap P) (e : List ℕ) (j k : ℕ) → map_queries.IsCompared m e j
         → map_queries.IsCompared m e k → j ≡ k }
 {}
@@ -82,31 +88,33 @@ pub fn answers_are_unique<P>()
 /// The slow lists of points and of prefixes are those of the definitions, and so are their sizes and the slow test of a
 /// point.
 pub fn computed_points<P>()
-    ensures points { (m : List (List ℕ × P)) → Lists (stored.IsPoint m) (computed.points m) }
+    ensures points { (m : List (List ℕ × P))
+        → Lists (points.IsPoint (stored.IsStored m)) (computed.points m) }
     ensures prefixes { (m : List (List ℕ × P))
-        → Lists (stored.IsStem m) (computed.prefixes m) }
+        → Lists (points.IsSomePrefix (stored.IsStored m)) (computed.prefixes m) }
     ensures nodes { (m : List (List ℕ × P))
-        → Counts (stored.IsPoint m) (computed.footprint m).0 }
+        → Counts (points.IsPoint (stored.IsStored m)) (computed.footprint m).0 }
     ensures nibbles { (m : List (List ℕ × P))
-        → Counts (stored.IsStem m) (computed.footprint m).1 }
+        → Counts (points.IsSomePrefix (stored.IsStored m)) (computed.footprint m).1 }
     ensures is_point { (m : List (List ℕ × P)) (p : List ℕ)
-        → stored.IsPoint m p ↔ IsTrue (computed.is_point m p) }
+        → points.IsPoint (stored.IsStored m) p ↔ IsTrue (computed.is_point m p) }
 {}
 
 /// A slow answer is the one answer of its relation.
 pub fn computed_answers<P>()
     ensures ancestor { (m : List (List ℕ × P)) (e : List ℕ) (a : Option (List ℕ))
-        → queries.IsAncestor m e a ↔ (a ≡ computed.ancestor m e) }
+        → answers.IsAncestor (stored.IsStored m) e a ↔ (a ≡ computed.ancestor m e) }
     ensures raw_ancestor { (m : List (List ℕ × P)) (e p : List ℕ)
-        → queries.IsRawAncestor m e p ↔ (p ≡ computed.raw_ancestor m e) }
+        → answers.IsRawAncestor (stored.IsStored m) e p ↔ (p ≡ computed.raw_ancestor m e) }
     ensures raw_descendant { (m : List (List ℕ × P)) (e : List ℕ) (a : Option (List ℕ))
-        → queries.IsRawDescendant m e a ↔ (a ≡ computed.raw_descendant m e) }
+        → answers.IsRawDescendant (stored.IsStored m) e a
+        ↔ (a ≡ computed.raw_descendant m e) }
     ensures fragment { (m : List (List ℕ × P)) (p f : List ℕ)
-        → queries.IsFragment m p f ↔ (f ≡ computed.fragment m p) }
-    ensures kids { (m : List (List ℕ × P)) (p : List ℕ) (qs : List (List ℕ))
-        → queries.AreKids m p qs ↔ (qs ≡ computed.kids m p) }
+        → answers.IsFragment (stored.IsStored m) p f ↔ (f ≡ computed.fragment m p) }
+    ensures children { (m : List (List ℕ × P)) (p : List ℕ) (qs : List (List ℕ))
+        → answers.AreChildren (stored.IsStored m) p qs ↔ (qs ≡ computed.children m p) }
     ensures compared { (m : List (List ℕ × P)) (e : List ℕ) (k : ℕ)
-        → queries.IsCompared m e k ↔ (k ≡ computed.compared m e) }
+        → answers.IsCompared (stored.IsStored m) e k ↔ (k ≡ computed.compared m e) }
 {}
 
 /// Where the query is a point, the longest point above it and the shortest below it are that point.
@@ -117,17 +125,17 @@ pub fn points_answer_themselves<P>()
         → (a : Option (List ℕ)) → map_queries.IsRawDescendant m p a ↔ (a ≡ Some p) }
 {}
 
-/// A path is a leaf exactly where it has no kids.
-pub fn leaves_have_no_kids<P>()
+/// A path is a leaf exactly where it has no children.
+pub fn leaves_have_no_children<P>()
     ensures { (m : NibbleMap P) (p : List ℕ)
-        → map_queries.IsLeaf m p ↔ map_queries.AreKids m p [] }
+        → map_queries.IsLeaf m p ↔ map_queries.AreChildren m p [] }
 {}
 
-/// Each stored list strictly below a path is at or below exactly one of the path's kids.
-pub fn one_kid_leads_to_each_list<P>()
+/// Each stored list strictly below a path is at or below exactly one of the path's children.
+pub fn one_child_leads_to_each_list<P>()
     ensures { (m : NibbleMap P) (p e : List ℕ) → IsStored m e → IsStrictPrefix p e
-        → (q : List ℕ) × map_queries.IsKid m p q × IsPrefix q e
-        × ((r : List ℕ) → map_queries.IsKid m p r → IsPrefix r e → r ≡ q) }
+        → (q : List ℕ) × map_queries.IsChild m p q × IsPrefix q e
+        × ((r : List ℕ) → map_queries.IsChild m p r → IsPrefix r e → r ≡ q) }
 {}
 
 /// The pairs at and below a list are those at and below the shortest point that it begins, or none where there is none.

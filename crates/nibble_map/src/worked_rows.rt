@@ -1,10 +1,10 @@
 //! Worked rows: small maps with their points, prefixes, answers, counts and walks, computed from the definitions.
 
-ghost use Rattle.nibble_map.specs.Computed.{ancestor, compared, footprint, fragment, is_point, kids, points, raw_ancestor, raw_descendant};
+ghost use Rattle.nibble_map.specs.Stored.{below};
+ghost use Rattle.nibble_map.specs.Computed.{ancestor, compared, footprint, fragment, is_point, children, points, raw_ancestor, raw_descendant};
 ghost use Rattle.nibble_map.specs.Maps.{NibbleMap};
 ghost use Rattle.nibble_map.specs.Nibbles.{nibbles, IsShort};
-ghost use Rattle.nibble_map.specs.Queries.{below};
-ghost use Rattle.nibble_map.specs.Rows.{inserted, insert_all, removed, number_at, values, text, nothing, nested_texts, a_abc_abd, abc_abd, ab_and_a_half, abc_abcdef, aba_abb_abc_z, abcz_abca, two_bytes, signed_bytes, low_bytes_first, umlauts, wow_hella_hellb, odd_nibbles, letters_a, long_twins, short_and_long, chain};
+ghost use Rattle.nibble_map.specs.Rows.{inserted, insert_all, removed, number_at, values, text, nothing, nested_texts, a_abc_abd, abc_abd, ab_and_a_half, abc_abcdef, aba_abb_abc_z, abcz_abca, two_bytes, four_signed_bytes, low_bytes_first, umlauts, wow_hella_hellb, odd_nibbles, letters_a, long_twins, short_and_long, chain};
 ghost use Rattle.std.specs.FinMap as map;
 ghost use Rattle.std.specs.Prelude.{[], ◌++◌, ◌∷◌, ◌≡◌, ◌*◌, suc, codes, false, length, List, map as each, None, Some, sum, take, true, ℕ};
 
@@ -29,8 +29,8 @@ pub fn drawn_tree()
     ensures point_below_ab { raw_descendant a_abc_abd (nibbles (codes "ab"))
         ≡ Some ab_and_a_half }
     ensures ab { is_point a_abc_abd (nibbles (codes "ab")) ≡ false }
-    ensures kids_of_a { kids a_abc_abd (nibbles (codes "a")) ≡ ab_and_a_half ∷ [] }
-    ensures kids_of_the_parting { kids a_abc_abd ab_and_a_half
+    ensures children_of_a { children a_abc_abd (nibbles (codes "a")) ≡ ab_and_a_half ∷ [] }
+    ensures children_of_the_branch_point { children a_abc_abd ab_and_a_half
         ≡ nibbles (codes "abc") ∷ nibbles (codes "abd") ∷ [] }
     ensures search_for_abe { compared a_abc_abd (nibbles (codes "abe")) ≡ 5 }
     ensures search_for_b { compared a_abc_abd (nibbles (codes "b")) ≡ 2 }
@@ -70,12 +70,12 @@ pub fn nested_texts_have_ten_points()
     ensures byte_and_half_value { number_at (6 ∷ 1 ∷ 6 ∷ []) nested_texts ≡ None }
 {}
 
-/// A place within a fragment is no point, and a parting is one, with all that lies below it.
+/// A place within a fragment is no point, and a branch point is one, with all that lies below it.
 pub fn inside_a_fragment_is_no_point()
     ensures inside { is_point nested_texts (nibbles (codes "abc")) ≡ false }
-    ensures parting { is_point nested_texts (6 ∷ []) ≡ true }
+    ensures branch_point { is_point nested_texts (6 ∷ []) ≡ true }
     ensures no_value { number_at (6 ∷ []) nested_texts ≡ None }
-    ensures below_parting { length (below nested_texts (6 ∷ [])) ≡ 7 }
+    ensures below_branch_point { length (below nested_texts (6 ∷ [])) ≡ 7 }
 {}
 
 /// Compared nibbles in searches among the nested texts.
@@ -107,15 +107,15 @@ pub fn nearest_of_nested_texts()
     ensures below_acbg { raw_descendant nested_texts (nibbles (codes "acbg")) ≡ None }
 {}
 
-/// The nearest stored list above passes over a parting.
-pub fn ancestor_passes_over_a_parting()
+/// The nearest stored list above passes over a branch point.
+pub fn ancestor_passes_over_a_branch_point()
     ensures footprint { footprint a_abc_abd ≡ (5, 7) }
     ensures ancestor { ancestor a_abc_abd (nibbles (codes "abe")) ≡ Some (nibbles (codes "a")) }
     ensures absent { number_at (nibbles (codes "ab")) a_abc_abd ≡ None }
     ensures stored { number_at (nibbles (codes "abc")) a_abc_abd ≡ Some 2 }
 {}
 
-/// A removal takes the parting above with it, and a removal of an absent list takes nothing.
+/// A removal takes the branch point above with it, and a removal of an absent list takes nothing.
 pub fn removal_merges_upward()
     ensures removed { footprint (removed (nibbles (codes "abd")) a_abc_abd) ≡ (3, 6) }
     ensures absent { footprint
@@ -135,9 +135,9 @@ pub fn descendants_within_fragments()
 /// Two bytes with the same high half: a point of one nibble, and two below it.
 pub fn bytes_share_a_half()
     ensures top { fragment two_bytes [] ≡ [] }
-    ensures child { kids two_bytes [] ≡ (15 ∷ []) ∷ [] }
+    ensures child { children two_bytes [] ≡ (15 ∷ []) ∷ [] }
     ensures shared { fragment two_bytes (15 ∷ []) ≡ 15 ∷ [] }
-    ensures children { kids two_bytes (15 ∷ [])
+    ensures children { children two_bytes (15 ∷ [])
         ≡ (15 ∷ 1 ∷ []) ∷ (15 ∷ 2 ∷ []) ∷ [] }
     ensures first { fragment two_bytes (15 ∷ 1 ∷ []) ≡ 1 ∷ [] }
     ensures second { fragment two_bytes (15 ∷ 2 ∷ []) ≡ 2 ∷ [] }
@@ -160,7 +160,7 @@ pub fn path_outlives_its_pair()
         ≡ false }
     ensures below { length
         (below (removed (nibbles (codes "abc")) abc_abcdef) (nibbles (codes "abc"))) ≡ 1 }
-    ensures child { kids (removed (nibbles (codes "abc")) abc_abcdef) (nibbles (codes "abc"))
+    ensures child { children (removed (nibbles (codes "abc")) abc_abcdef) (nibbles (codes "abc"))
         ≡ nibbles (codes "abcdef") ∷ [] }
     ensures fragment { length
         (fragment (removed (nibbles (codes "abc")) abc_abcdef) (nibbles (codes "abcdef"))) ≡ 12 }
@@ -179,7 +179,7 @@ pub fn longer_text_joins()
 
 /// Walks go by the lists: signed bytes from 0 on, then the negative ones; numbers with the low byte first by that byte.
 pub fn walks_go_by_the_lists()
-    ensures signed { values signed_bytes ≡ 3 ∷ 4 ∷ 1 ∷ 2 ∷ [] }
+    ensures signed { values four_signed_bytes ≡ 3 ∷ 4 ∷ 1 ∷ 2 ∷ [] }
     ensures low_first { values low_bytes_first ≡ 256 ∷ 2 ∷ [] }
     ensures footprint { footprint low_bytes_first ≡ (4, 7) }
 {}
@@ -197,10 +197,10 @@ pub fn one_text_has_two_points()
     ensures { footprint (inserted [] (text (codes "abc") 3 ∷ [])) ≡ (2, 6) }
 {}
 
-/// The children of a parting, and what their numbers come to.
-pub fn children_of_a_parting()
+/// The children of a branch point, and what their numbers come to.
+pub fn children_of_a_branch_point()
     ensures path { raw_ancestor aba_abb_abc_z (nibbles (codes "abd")) ≡ ab_and_a_half }
-    ensures children { kids aba_abb_abc_z ab_and_a_half
+    ensures children { children aba_abb_abc_z ab_and_a_half
         ≡ nibbles (codes "aba") ∷ nibbles (codes "abb") ∷ nibbles (codes "abc") ∷ [] }
     ensures sum { sum (values (below aba_abb_abc_z ab_and_a_half)) ≡ 61 }
 {}
@@ -244,7 +244,7 @@ pub fn searches_of_two_texts()
     ensures apart { compared abc_abd (nibbles (codes "x")) ≡ 0 }
 {}
 
-/// A search tells whether a parting is left where a text was removed.
+/// A search tells whether a branch point is left where a text was removed.
 pub fn searches_after_removals()
     ensures before { compared a_abc_abd (nibbles (codes "abd")) ≡ 6 }
     ensures after { compared (removed (nibbles (codes "abd")) a_abc_abd) (nibbles (codes "abd"))
@@ -271,19 +271,19 @@ pub fn long_texts_part_late()
     ensures one_left { footprint (removed (nibbles (codes "abc")) abc_abd) ≡ (2, 6) }
 {}
 
-/// A parting's own path, while the texts below it are removed one by one and one comes back.
-pub fn emptied_parting()
+/// A branch point's own path, while the texts below it are removed one by one and one comes back.
+pub fn emptied_branch_point()
     ensures point { is_point abc_abd ab_and_a_half ≡ true }
     ensures no_value { number_at ab_and_a_half abc_abd ≡ None }
     ensures own_fragment { fragment abc_abd ab_and_a_half ≡ ab_and_a_half }
     ensures below { length (below (removed (nibbles (codes "abc")) abc_abd) ab_and_a_half) ≡ 1 }
-    ensures child { kids (removed (nibbles (codes "abc")) abc_abd) ab_and_a_half
+    ensures child { children (removed (nibbles (codes "abc")) abc_abd) ab_and_a_half
         ≡ nibbles (codes "abd") ∷ [] }
     ensures fragment { length
         (fragment (removed (nibbles (codes "abc")) abc_abd) (nibbles (codes "abd"))) ≡ 6 }
     ensures emptied { removed (nibbles (codes "abd")) (removed (nibbles (codes "abc")) abc_abd)
         ≡ nothing }
-    ensures no_child { kids nothing ab_and_a_half ≡ [] }
+    ensures no_child { children nothing ab_and_a_half ≡ [] }
     ensures back { footprint (inserted nothing (text (codes "abc") 3 ∷ [])) ≡ (2, 6) }
     ensures no_point { is_point (inserted nothing (text (codes "abc") 3 ∷ [])) ab_and_a_half
         ≡ false }

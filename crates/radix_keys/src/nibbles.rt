@@ -1,5 +1,5 @@
 //! Lists of nibbles, two to a byte.
-ghost use Rattle.std.specs.Prelude.{◌≡◌, ℕ, ◌+◌, ◌*◌, ◌/◌, ◌%◌, ◌<◌, ◌≤◌, ◌==◌, List, [], ◌∷◌, ◌++◌, length, take, drop, slice_index, IsOk, IfOk, OnOk, OnErr, IfErr, nat_eq};
+ghost use Rattle.std.specs.Prelude.{◌≡◌, ◌≢◌, ℕ, ◌+◌, ◌*◌, ◌/◌, ◌%◌, ◌<◌, ◌≤◌, ◌==◌, List, [], ◌∷◌, ◌++◌, length, take, drop, slice_index, IsOk, IfOk, OnOk, OnErr, IfErr, nat_eq};
 ghost use Rattle.std.specs.Cmp.{partial_equiv_from_equiv};
 ghost use Rattle.std.specs.Cmp.Lexicographic.{pointwise, nat_list_eq_equiv};
 ghost use Rattle.nibble_map.specs.Nibbles.{nibbles, IsShort};
@@ -130,6 +130,49 @@ impl NibbleVec {
     {
         let byte = self.bytes.as_slice()[i / 2];
         if i % 2 == 0 { byte / 16 } else { byte % 16 }
+    }
+
+    /// The nibbles at `i` and after it, as one byte.
+    fn two(&self, i: usize) -> u8
+        requires { i + 1 < length self.now }
+        ensures first { result / 16 ≡ slice_index self.now i }
+        ensures second { result % 16 ≡ slice_index self.now (i + 1) }
+    {
+        let bytes = self.bytes.as_slice();
+        let byte = bytes[i / 2];
+        if i % 2 == 0 {
+            return byte;
+        }
+        let next = bytes[i / 2 + 1];
+        byte % 16 * 16 + next / 16
+    }
+
+    /// How many nibbles agree from the start on with those of another list from `depth` on, which is at most its count.
+    pub fn agreement(&self, other: &NibbleVec, depth: usize) -> usize
+        requires { depth ≤ length other.now }
+        ensures within { result ≤ length self.now }
+        ensures inside { depth + result ≤ length other.now }
+        ensures same { take result self.now ≡ take result (drop depth other.now) }
+        ensures apart { result < length self.now → depth + result < length other.now
+            → slice_index self.now result ≢ slice_index other.now (depth + result) }
+    {
+        let most = self.len().min(other.len() - depth);
+        for pair in 0..most / 2 {
+            let same = 2 * pair;
+            if self.two(same) != other.two(depth + same) {
+                return if self.get(same) == other.get(depth + same) {
+                    same + 1
+                } else {
+                    same
+                };
+            }
+        }
+        let even = most / 2 * 2;
+        if even < most && self.get(even) == other.get(depth + even) {
+            most
+        } else {
+            even
+        }
     }
 
     /// Appends a nibble, a number of at most 15.

@@ -1,6 +1,9 @@
 -- What an insertion, a removal and a cut do at nodes.
 pub mod Insertion
+pub mod KeyParts
+pub mod Steps
 pub mod Removal
+pub mod Merging
 pub mod Placed
 pub mod Branches
 pub mod Drains

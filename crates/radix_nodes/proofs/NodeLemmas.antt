@@ -1,5 +1,6 @@
 -- From nodes to plain trees, field by field.
 pub mod Nodes
+pub mod Pointed
 pub mod Pairs
 pub mod Sizes
 pub mod Counts

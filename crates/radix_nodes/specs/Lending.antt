@@ -20,11 +20,11 @@ module _ {K V : Type 0} where
   pub record IsRevalued (u w : Tree (KeyValue K V)) : Type 0 where
     pub fragment : w.fragment ≡ u.fragment
     pub mask : w.mask ≡ u.mask
-    pub kids : w.kids ≡ u.kids
+    pub children : w.children ≡ u.children
     pub key : IsSameKey u.pair w.pair
 
   -- u stood at the path, and w stands there: where only the value differs, that is all that changes
-  pub record Replaces (path : List ℕ) (u w old new : Tree (KeyValue K V)) : Type 0 where
+  pub record Succeeds (path : List ℕ) (u w old new : Tree (KeyValue K V)) : Type 0 where
     pub node : IsNodeAt old path u
     pub alters : IsRevalued u w → Rewrites path u.pair w.pair old new
 
@@ -47,11 +47,11 @@ module _ {K V : Type 0} where
     pub placed : IsTreePlaced old → IsTreePlaced new
     pub below : IsFullBelow old → IsFullBelow new
     pub keys : (q : List ℕ) → keys_of (entries_at q new) ≡ keys_of (entries_at q old)
-    pub nodes : nodes_in new.kids ≡ nodes_in old.kids
-    pub nibbles : nibbles_in new.kids ≡ nibbles_in old.kids
+    pub nodes : nodes_in new.children ≡ nodes_in old.children
+    pub nibbles : nibbles_in new.children ≡ nibbles_in old.children
 
   -- and in no value
-  pub record IsKept (old new : Tree (KeyValue K V)) : Type 0 where
+  pub record IsUnwritten (old new : Tree (KeyValue K V)) : Type 0 where
     pub like : IsLike old new
     pub same : (q : List ℕ) → entries_at q new ≡ entries_at q old
 
@@ -63,4 +63,4 @@ module _ {K V : Type 0} where
 
   abbrev pub KeepsValue : {A : Type 0} → Option A → List ℕ → Tree (KeyValue K V)
       → Tree (KeyValue K V) → Type 0
-  KeepsValue r path old new = IsKept old new × OnNone r (IsHeld old path → ⊥)
+  KeepsValue r path old new = IsUnwritten old new × OnNone r (IsHeld old path → ⊥)

@@ -10,7 +10,7 @@ use Rattle.std.specs.contracts.alloc.Global.{the_row as global_row}
 use Rattle.std.specs.contracts.impls.GlobalAllocator.TheImpl.{ghosts as global_ghosts}
 use Rattle.std.specs.Vec.{with_item}
 use Rattle.std.specs.Box.{with_value}
-use Rattle.radix_nodes.specs.Lending.{Replaces, Revalues, IsLike, KeepsNode, KeepsValue}
+use Rattle.radix_nodes.specs.Lending.{Succeeds, Revalues, IsLike, KeepsNode, KeepsValue}
 use Rattle.radix_nodes.specs.contracts.trie_node.KeyValue.{the_row as pair_row}
 use Rattle.radix_nodes.specs.contracts.trie_node.TrieNode.{the_row}
 use Rattle.radix_nodes.specs.declared.trie_node.KeyValue.{KeyValue}
@@ -30,8 +30,8 @@ module _ {K V : Type 0} where
   IsLentPair (Some x) None = ⊥
   IsLentPair (Some x) (Some b) = x.now ≡ b.value.value
 
-  abbrev pub with_child : TrieNode K V → ℕ → Box (TrieNode K V) Global → TrieNode K V
-  with_child n i b = let o =
+  abbrev pub with_child_box : TrieNode K V → ℕ → Box (TrieNode K V) Global → TrieNode K V
+  with_child_box n i b = let o =
       out-TrieNode K V n in roll-TrieNode K V record {
         fragment = o.fragment;
         pair = o.pair;
@@ -50,7 +50,7 @@ module _ (K V : RattleType) where
   LendsNode s path r =
       LendsSo node_box (the_row K V) s r
       (λ b w. IfSome r
-      (λ x. Replaces path (tree_of x.now) (tree_of w) (tree_of s.now.value) (tree_of b.value)))
+      (λ x. Succeeds path (tree_of x.now) (tree_of w) (tree_of s.now.value) (tree_of b.value)))
       (λ b. KeepsNode r path (tree_of s.now.value) (tree_of b.value))
 
   -- the node ends with the last value written through r at the path, and at `None` as it was
@@ -63,7 +63,7 @@ module _ (K V : RattleType) where
 
   abbrev pub LendsChildBox : MutBor (TrieNode K.Denot V.Denot) → ℕ
       → MutBor (Box (TrieNode K.Denot V.Denot) Global) → Fml
-  LendsChildBox s i r = Lends (the_row K V) node_box s r (with_child s.now i)
+  LendsChildBox s i r = Lends (the_row K V) node_box s r (with_child_box s.now i)
 
   abbrev pub LendsUnboxed : MutBor (Box (TrieNode K.Denot V.Denot) Global)
       → MutBor (TrieNode K.Denot V.Denot) → Fml

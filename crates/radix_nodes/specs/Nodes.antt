@@ -10,7 +10,7 @@ use Rattle.radix_keys.specs.declared.nibbles.Memory.{Memory}
 use Rattle.radix_nodes.specs.declared.trie_node.TrieNode.{TrieNode, out-TrieNode}
 use Rattle.radix_nodes.specs.declared.trie_node.TrieNode.TheOpen.{TrieNode-F}
 use Rattle.radix_nodes.specs.declared.trie_node.TrieNode.TheFolds.{fold-TrieNode}
-use Rattle.masked_tree.specs.Tree.{Tree, Kids, join, IsAt}
+use Rattle.masked_tree.specs.Tree.{Tree, Children, join, IsAt}
 use Rattle.masked_tree.specs.Paths.{IsNodeAt, IsPath, IsHeld, reach}
 use Rattle.nibble_map.specs.Answers.{IsLongest, IsShortest}
 use Rattle.masked_tree.specs.Agreement.{Agrees}
@@ -29,14 +29,14 @@ module _ {K : Type 0} {V : Type 0} where
     fragment = x.fragment;
     pair = unboxed x.pair;
     mask = x.mask;
-    kids = join (map (λ b. b.value) x.children.items);
+    children = join (map (λ b. b.value) x.children.items);
   }
 
   unfoldable pub tree_of : TrieNode K V → Tree (KeyValue K V)
   tree_of = fold-TrieNode K V (Tree (KeyValue K V)) tree_step
 
-  abbrev pub kids_of : List (Box (TrieNode K V) Global) → Kids (KeyValue K V)
-  kids_of bs = join (map (λ b. tree_of b.value) bs)
+  abbrev pub children_of : List (Box (TrieNode K V) Global) → Children (KeyValue K V)
+  children_of bs = join (map (λ b. tree_of b.value) bs)
 
   abbrev pub fragment_of : TrieNode K V → List ℕ
   fragment_of n = (out-TrieNode K V n).fragment
@@ -81,14 +81,14 @@ module _ {K : Type 0} {V : Type 0} where
   CutOutcome (Ok (Some t)) p old new = Cuts p t.pair t.nodes t.nibbles old new
   CutOutcome (Ok None) p old new = (new ≡ old) × (IsHeld old p → ⊥)
   CutOutcome (Err e) p old new = (new ≡ old) × IsHeld old p
-      × (32 < length old.fragment + reach old.kids)
+      × (32 < length old.fragment + reach old.children)
 
   -- the same at the root, of the paths below it
   abbrev pub RootOutcome : Result (Option (Taken K V)) Memory → List ℕ → Tree (KeyValue K V)
       → Tree (KeyValue K V) → Type 0
   RootOutcome (Ok (Some t)) p old new = CutsRoot p t.pair t.nodes t.nibbles old new
   RootOutcome (Ok None) p old new = (new ≡ old) × (IsHeld old p → ⊥)
-  RootOutcome (Err e) p old new = (new ≡ old) × IsHeld old p × (32 < reach old.kids)
+  RootOutcome (Err e) p old new = (new ≡ old) × IsHeld old p × (32 < reach old.children)
 
 -- the child at i begins with the key's nibble at `depth`, and agrees with the key from there on so
 -- far
@@ -96,9 +96,9 @@ pub record IsMet {K V : Type 0} (n : TrieNode K V) (key : List ℕ) (depth i : �
     Type 0 where
   pub within : i < vec_len (out-TrieNode K V n).children
   pub fits : depth + a.same < 2 ^ 64
-  pub start : (u : Tree (KeyValue K V)) → IsAt i (tree_of n).kids u
+  pub start : (u : Tree (KeyValue K V)) → IsAt i (tree_of n).children u
       → first u.fragment ≡ slice_index key depth
-  pub agrees : (u : Tree (KeyValue K V)) → IsAt i (tree_of n).kids u
+  pub agrees : (u : Tree (KeyValue K V)) → IsAt i (tree_of n).children u
       → Agrees u.fragment (drop depth key) a.same a.compared
 
 -- the key goes on to the child at i, and then has `next` nibbles behind it
@@ -106,7 +106,7 @@ pub record IsStep {K V : Type 0} (n : TrieNode K V) (key : List ℕ) (depth i ne
   pub within : i < vec_len (out-TrieNode K V n).children
   pub further : depth < next
   pub inside : next ≤ length key
-  pub path : (u : Tree (KeyValue K V)) → IsAt i (tree_of n).kids u → u.fragment ++ drop next key
+  pub path : (u : Tree (KeyValue K V)) → IsAt i (tree_of n).children u → u.fragment ++ drop next key
       ≡ drop depth key
 
 -- the path on the way to a key that ends before its nibble at `end`, from a node with the fragment

@@ -1,6 +1,6 @@
 -- The pairs that nodes keep.
 use Rattle.std.specs.Prelude.{ℕ, List, [], ◌∷◌, map, Option, Some, None}
-use Rattle.masked_tree.specs.Tree.{Tree, Kids, entries_in, entries_at}
+use Rattle.masked_tree.specs.Tree.{Tree, Children, entries_in, entries_at}
 use Rattle.radix_nodes.specs.declared.trie_node.KeyValue.{KeyValue}
 
 module _ {K V : Type 0} where
@@ -17,8 +17,8 @@ module _ {K V : Type 0} where
   pairs_in t = pairs_of (entries_at [] t)
 
   -- the same of several nodes
-  abbrev pub pairs_in_all : Kids (KeyValue K V) → List (K × V)
-  pairs_in_all kids = pairs_of (entries_in [] kids)
+  abbrev pub pairs_in_all : Children (KeyValue K V) → List (K × V)
+  pairs_in_all children = pairs_of (entries_in [] children)
 
   -- the pair at a node, if there is one
   abbrev pub own_pair : Option (KeyValue K V) → List (K × V)

@@ -14,8 +14,8 @@ use Rattle.radix_nodes.specs.declared.trie_node.KeyValue.{KeyValue}
 -- what a tree holds can be counted
 pub record IsSmall {P : Type 0} (t : Tree P) : Type 0 where
   pub pairs : length (entries_at [] t) < 2 ^ 64
-  pub nodes : nodes_in t.kids + 2 < 2 ^ 128
-  pub nibbles : length t.fragment + nibbles_in t.kids < 2 ^ 128
+  pub nodes : nodes_in t.children + 2 < 2 ^ 128
+  pub nibbles : length t.fragment + nibbles_in t.children < 2 ^ 128
 
 -- u, the node of t whose path is the shortest that p begins, hangs below path s
 pub record IsBranch {P : Type 0} (t u : Tree P) (p s : List ℕ) : Type 0 where
@@ -29,10 +29,10 @@ module _ {K V : Type 0} where
 
   -- how many nodes went with a branch, and how many nibbles of fragments
   abbrev pub nodes_gone : Branch K V → ℕ
-  nodes_gone b = b.nodes + nodes_in (branch_of b).kids
+  nodes_gone b = b.nodes + nodes_in (branch_of b).children
 
   abbrev pub nibbles_gone : Branch K V → ℕ
-  nibbles_gone b = length (branch_of b).fragment + nibbles_in (branch_of b).kids
+  nibbles_gone b = length (branch_of b).fragment + nibbles_in (branch_of b).children
 
   -- the branch was cut off a node, or off the root
   abbrev pub CutsBranch : Branch K V → Tree (KeyValue K V) → Tree (KeyValue K V) → Type 0
@@ -44,16 +44,17 @@ module _ {K V : Type 0} where
 
   -- the child at i was taken with all below it, from a node or from the root
   abbrev pub PrunesChild : ℕ → Pruned K V → Tree (KeyValue K V) → Tree (KeyValue K V) → Type 0
-  PrunesChild i c old new = (u : Tree (KeyValue K V)) → IsAt i old.kids u
+  PrunesChild i c old new = (u : Tree (KeyValue K V)) → IsAt i old.children u
       → Prunes old.fragment u c.nodes c.nibbles old new
 
   abbrev pub PrunesRootChild : ℕ → Pruned K V → Tree (KeyValue K V) → Tree (KeyValue K V) → Type 0
-  PrunesRootChild i c old new = (u : Tree (KeyValue K V)) → IsAt i old.kids u
+  PrunesRootChild i c old new = (u : Tree (KeyValue K V)) → IsAt i old.children u
       → PrunesRoot old.fragment u c.nodes c.nibbles old new
 
   -- and its pairs are those
   abbrev pub HoldsChild : ℕ → Pruned K V → Tree (KeyValue K V) → Type 0
-  HoldsChild i c old = (u : Tree (KeyValue K V)) → IsAt i old.kids u → c.pairs.items ≡ pairs_in u
+  HoldsChild i c old =
+      (u : Tree (KeyValue K V)) → IsAt i old.children u → c.pairs.items ≡ pairs_in u
 
   -- all that stands at and below p is taken; or nothing stands there; it is refused only where a
   -- path stands there

@@ -1,5 +1,7 @@
 -- What a change of the tree does to the map, and to what the trie keeps.
 pub mod Changes
+pub mod Removals
+pub mod Insertions
 pub mod Prunings
 pub mod Written
 pub mod Copies

@@ -1,8 +1,10 @@
 -- What stands at and below a path, and above it.
 pub mod Parts
 pub mod Places
+pub mod NodesBelow
 pub mod Opened
 pub mod Above
 pub mod Nearest
 pub mod ChildViews
+pub mod Children
 pub mod Present

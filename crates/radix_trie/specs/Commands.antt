@@ -1,6 +1,6 @@
 -- What each command answers, and the map that it leaves.
 use Rattle.std.specs.FinMap as map
-use Rattle.std.specs.Prelude.{◌≡◌, ◌⊎◌, ℕ, ◌^◌, ◌-◌, List, [], ◌∷◌, ◌++◌, Option, None, map as each}
+use Rattle.std.specs.Prelude.{◌≡◌, ◌⊎◌, ℕ, List, [], ◌∷◌, ◌++◌, Option, None, map as each}
 use Rattle.nibble_map.specs.Lists.{IsPrefix}
 use Rattle.nibble_map.specs.Maps.{PairMap, IsPoint, IsStored, below, without_below, value_at}
 use Rattle.nibble_map.specs.Nibbles.{IsShort}
@@ -10,6 +10,7 @@ use Rattle.radix_trie.specs.declared.commands.Reply.{Reply}
 use Rattle.radix_trie.specs.declared.commands.Reply.TheVariants.{Old, Gone, Found, Number, Closed, Replies, Outside, Refused}
 use Rattle.radix_trie.specs.declared.commands.ViewCommand.{ViewCommand}
 use Rattle.radix_trie.specs.declared.commands.ViewCommand.TheVariants as inner
+use Rattle.radix_trie.specs.Refusals.{IsFullAt}
 use Rattle.radix_trie.specs.Views.{IsValueAbove, pairs_below}
 
 module _ {K V : Type 0} where
@@ -28,7 +29,7 @@ module _ {K V : Type 0} (enc : K → List ℕ) (light : K → Type 0) where
   -- The pair is stored. At 2 ^ 64 - 1 pairs it takes an old one's place.
   abbrev pub Inserts : PairMap K V → K → V → Reply V → PairMap K V → Type 0
   Inserts m k v r n = (r ≡ Old (value_at m (enc k))) × (n ≡ map.insert m (enc k) (k, v))
-      × (map.len m ≡ 2 ^ 64 - 1 → map.get m (enc k) ≡ None → ⊥)
+      × (IsFullAt m (enc k) → ⊥)
 
   abbrev pub Removes : PairMap K V → K → Reply V → PairMap K V → Type 0
   Removes m k r n = (r ≡ Old (value_at m (enc k))) × (n ≡ map.remove m (enc k))

@@ -8,8 +8,8 @@ use Rattle.radix_keys.specs.declared.keys.TrieKey as keys
 use Rattle.radix_keys.specs.declared.nibbles.NibbleVec.{NibbleVec}
 use Rattle.radix_keys.specs.contracts.nibbles.NibbleVec as nibble_vec
 use Rattle.radix_trie.specs.contracts.trie.Trie.{the_row}
-use Rattle.radix_trie.specs.contracts.subtrie_mut.SubTrieMut as view
-use Rattle.radix_trie.specs.declared.subtrie_mut.SubTrieMut.{SubTrieMut}
+use Rattle.radix_trie.specs.contracts.view.subtrie_mut.SubTrieMut as view
+use Rattle.radix_trie.specs.declared.view.subtrie_mut.SubTrieMut.{SubTrieMut}
 use Rattle.radix_trie.specs.WriteViews.{lender_of, with_own_value}
 use Rattle.std.specs.declared.cmp.PartialEq as eqs
 

@@ -1,7 +1,7 @@
 -- Where a path stands in the tree of a trie.
 use Rattle.std.specs.Prelude.{ℕ, List, [], ◌∷◌, ◌++◌, Option, MatchOption}
 use Rattle.std.specs.Borrow.{Bor}
-use Rattle.masked_tree.specs.Tree.{Tree, Kids, none, more}
+use Rattle.masked_tree.specs.Tree.{Tree, Children, none, more}
 use Rattle.masked_tree.specs.Paths.{IsNodeAt, IsPath}
 use Rattle.nibble_map.specs.Lists.{IsPrefix}
 use Rattle.nibble_map.specs.Maps.{PairMap}
@@ -25,6 +25,7 @@ module _ {K V : Type 0} where
       (λ r. IsNearest t (tree_of r.0.now) p r.1)
 
   -- the views at some children of a node at p
-  abbrev pub kid_views : PairMap K V → List ℕ → Kids (KeyValue K V) → List (ReadView K V)
-  kid_views m p none = []
-  kid_views m p (more f o k kids others) = record { map = m; path = p ++ f } ∷ kid_views m p others
+  abbrev pub child_views : PairMap K V → List ℕ → Children (KeyValue K V) → List (ReadView K V)
+  child_views m p none = []
+  child_views m p (more f o k children others) =
+      record { map = m; path = p ++ f } ∷ child_views m p others

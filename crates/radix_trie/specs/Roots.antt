@@ -2,7 +2,7 @@
 use Rattle.std.specs.Prelude.{◌≡◌, ℕ, suc, ◌<◌, ◌^◌, List, [], ◌∷◌, length, option_map}
 use Rattle.std.specs.FinMap as map
 use Rattle.nibble_map.specs.Canonical.{IsCanonical}
-use Rattle.masked_tree.specs.Tree.{Tree, Kids, none, more, IsTreePlaced, IsFullBelow, nodes_in, nibbles_in}
+use Rattle.masked_tree.specs.Tree.{Tree, Children, none, more, IsTreePlaced, IsFullBelow, nodes_in, nibbles_in}
 use Rattle.nibble_map.specs.Maps.{PairMap}
 use Rattle.nibble_map.specs.Trees as trees
 use Rattle.nibble_map.specs.Trees.{Forest, bare, grow}
@@ -11,14 +11,14 @@ use Rattle.radix_nodes.specs.Pairs.{pair_of}
 
 module _ {K V : Type 0} where
   -- children as plain data, without masks
-  abbrev pub shown_kids : Kids (KeyValue K V) → Forest (K × V)
-  shown_kids none = bare
-  shown_kids (more f o m kids others) =
-      grow f (option_map pair_of o) (shown_kids kids) (shown_kids others)
+  abbrev pub shown_children : Children (KeyValue K V) → Forest (K × V)
+  shown_children none = bare
+  shown_children (more f o m children others) =
+      grow f (option_map pair_of o) (shown_children children) (shown_children others)
 
   -- the tree of fragments that a kept root is
-  abbrev pub shown : Tree (KeyValue K V) → trees.Tree (K × V)
-  shown t = record { top = option_map pair_of t.pair; kids = shown_kids t.kids }
+  abbrev pub shown : Tree (KeyValue K V) → trees.FragmentTree (K × V)
+  shown t = record { top = option_map pair_of t.pair; children = shown_children t.children }
 
   -- its pairs, each at its path
   abbrev pub entries_of : Tree (KeyValue K V) → List (List ℕ × (K × V))
@@ -51,5 +51,5 @@ pub record IsKept {K V : Type 0} (enc : K → List ℕ) (t : Tree (KeyValue K V)
   pub full : IsFullBelow t
   pub keyed : AllKeyed enc (entries_of t)
   pub counted : length (entries_of t) ≡ count
-  pub noded : suc (nodes_in t.kids) ≡ nodes
-  pub nibbled : nibbles_in t.kids ≡ nibbles
+  pub noded : suc (nodes_in t.children) ≡ nodes
+  pub nibbled : nibbles_in t.children ≡ nibbles

@@ -3,7 +3,7 @@ use Rattle.std.specs.Prelude.{◌≡◌, ℕ, List}
 use Rattle.std.specs.Borrow.{GName}
 use Rattle.nibble_map.specs.Maps.{PairMap, with_value}
 use Rattle.radix_keys.specs.declared.nibbles.NibbleVec.{NibbleVec}
-use Rattle.radix_trie.specs.declared.subtrie_mut.SubTrieMut.{SubTrieMut}
+use Rattle.radix_trie.specs.declared.view.subtrie_mut.SubTrieMut.{SubTrieMut}
 
 module _ {K V P : Type 0} where
   -- the map of the trie that the view writes

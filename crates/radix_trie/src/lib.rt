@@ -1,35 +1,26 @@
 //! A radix trie: a map from keys to values that goes by the nibbles of the keys' encodings.
 #![tactic(auto)]
 
-mod building;
 mod commands;
-mod counted;
-mod equality;
-mod integrity;
+mod error;
 pub mod iter;
+mod json;
 mod key_laws;
-mod lends;
-mod opens;
-mod place;
-mod queries;
-mod subtrie;
-mod subtrie_mut;
 mod trie;
-mod trie_common;
-mod trie_json;
-mod write_common;
+mod view;
 
-pub use building::BuildError;
 pub use commands::{Command, Reply, ViewCommand, run};
+pub use error::{
+    BuildError, FindError, InsertError, InsertWhy, JsonError, OpenError, SubTrieError,
+    SubTrieResult,
+};
+pub use json::{from_value, to_value};
 pub use key_laws::stored_keys_are_equal;
-pub use lends::FindError;
-pub use opens::OpenError;
 pub use radix_keys::{
     Ascending, BigEndian, BytesError, KeyInt, KeySigned, LittleEndian, Memory, NibbleVec, Nibblet,
     TrieKey,
 };
-pub use subtrie::{SubTrie, SubTrieError, SubTrieResult};
-pub use subtrie_mut::{PathList, SubTrieMut};
-pub use trie::{InsertError, InsertWhy, Trie};
-pub use trie_common::TrieCommon;
-pub use trie_json::{JsonError, from_value, to_value};
+pub use trie::Trie;
+pub use view::subtrie::SubTrie;
+pub use view::subtrie_mut::{PathList, SubTrieMut};
+pub use view::trie_common::TrieCommon;

@@ -2,6 +2,10 @@
 #![tactic(auto)]
 
 #[cfg(test)]
+mod commands;
+#[cfg(test)]
 mod many;
 #[cfg(test)]
 mod rows;
+#[cfg(test)]
+mod views;

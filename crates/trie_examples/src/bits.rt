@@ -1,6 +1,6 @@
 //! A key type of a caller's own: the beginning of an address, with one nibble for each bit.
 ghost use Rattle.std.proofs.lemmas.Slice.Eq.{bytes_eq-Decides};
-ghost use Rattle.nibble_map.specs.Nibbles.{IsShort};
+ghost use Rattle.radix_trie.specs.Nibbles.{IsShort};
 
 use radix_trie::{Memory, Nibblet, TrieKey};
 use std::alloc::Global;

@@ -1,7 +1,7 @@
 //! A tree of topics: the name of a topic begins with the name of the topic that it belongs to.
 ghost use Rattle.std.specs.FinMap as finite;
 ghost use Rattle.std.specs.Prelude.{◌≡◌, IfOk, OnOk, OnErr, map as each};
-ghost use Rattle.nibble_map.specs.Maps.{below};
+ghost use Rattle.radix_trie.specs.Maps.{below};
 
 use radix_trie::iter::Children;
 use radix_trie::{Memory, OpenError, SubTrieError, SubTrieMut, Trie, TrieCommon, TrieKey};

@@ -30,7 +30,7 @@ fn is_inserted(
 }
 
 /// Whether the key has this value.
-pub(crate) fn has_value(trie: &Texts, key: &'static str, value: Option<u64>) -> bool {
+fn has_value(trie: &Texts, key: &'static str, value: Option<u64>) -> bool {
     match trie.get(&key) {
         Ok(found) => found.copied() == value,
         Err(_) => false,

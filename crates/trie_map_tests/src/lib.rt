@@ -1,19 +1,7 @@
-//! Tests of the trie as a map.
+//! Tests of the trie as a map: insertions, look-ups and removals.
 #![tactic(auto)]
 
 #[cfg(test)]
-mod building;
-#[cfg(test)]
 mod calls;
 #[cfg(test)]
-mod commands;
-#[cfg(test)]
-mod equality;
-#[cfg(test)]
-mod json;
-#[cfg(test)]
-mod lent_values;
-#[cfg(test)]
 mod map_calls;
-#[cfg(test)]
-mod small_lists;

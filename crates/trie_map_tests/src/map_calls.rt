@@ -1,9 +1,8 @@
 //! The trie as a map.
 
-use crate::calls::{Call, check, check_calls, has_value};
+use crate::calls::{Call, check, check_calls};
 use radix_trie::{Memory, Trie};
-use std::process::Abort;
-use trie_samples::{SAMPLE, Texts, texts};
+use trie_samples::{SAMPLE, Texts};
 
 /// A key that is inserted twice stands once, with the second value.
 #[test]
@@ -40,30 +39,6 @@ fn absent_keys_have_no_value(rt: HostRuntime) {
 fn sample_lacks_other_keys(rt: HostRuntime) -> Result<(), Memory> {
     const CALLS: [Call; 2] = [Call::Get("nonexistant", None), Call::Get("", None)];
     check_calls(&rt, rt.alloc(), &SAMPLE, &CALLS)
-}
-
-/// Queries by a text and by bytes.
-fn check_owned(rt: &impl Abort, trie: &Trie<String, u64>) -> Result<(), Memory> {
-    let bytes: &[u8] = b"/boot/lol";
-    assert!(rt; trie.get(&"/boot/lol")? == Some(&7));
-    assert!(rt; trie.get(&bytes)? == Some(&7));
-    Ok(())
-}
-
-/// A query of another type finds the pair that its encoding has.
-#[test]
-fn query_of_another_type(rt: HostRuntime) -> Result<(), Memory> {
-    let key = String::from_str(rt.alloc(), "/boot/lol")?;
-    let mut trie: Trie<String, u64> = Trie::new(rt.alloc());
-    assert!(rt; matches!(trie.insert(key, 7), Ok(None)));
-    check_owned(&rt, &trie)
-}
-
-#[test]
-fn query_by_a_number(rt: HostRuntime) -> Result<(), Memory> {
-    let trie = texts(rt.alloc(), &[("a", 1)])?;
-    assert!(rt; trie.get(&0x61u8)? == Some(&1));
-    Ok(())
 }
 
 /// After each insertion the nodes are as they should be, and at the end each key has its value.
@@ -207,41 +182,9 @@ fn compared_nibbles_of_two_keys(rt: HostRuntime) -> Result<(), Memory> {
     check_calls(&rt, rt.alloc(), &[("abc", 1), ("abd", 2)], &CALLS)
 }
 
-/// Stores the number under itself, in a tree that is as it should be.
-fn store_number(rt: &impl Abort, trie: &mut Trie<u64, u64>, number: u64) {
-    assert!(rt; matches!(trie.insert(number, number), Ok(None)));
-    assert!(rt; trie.check_integrity() == Ok(true));
-}
-
-#[test]
-fn wide_number_keys(rt: HostRuntime) {
-    let mut trie: Trie<u64, u64> = Trie::new(rt.alloc());
-    store_number(&rt, &mut trie, 0xff);
-    store_number(&rt, &mut trie, 0xdeadbeef);
-    assert!(rt; trie.len() == 2);
-}
-
 #[test]
 fn empty_trie(rt: HostRuntime) {
     const CALLS: [Call; 3] = [Call::Footprint(1, 0), Call::Count(0), Call::Get("", None)];
     let mut trie: Texts = Trie::default(rt.alloc());
     check(&rt, &mut trie, &CALLS);
-}
-
-/// Maps the value at a key to one more, or stores 42 there.
-fn raise(trie: &mut Texts, key: &'static str) -> bool {
-    let one_more = |value: &mut u64| *value = value.wrapping_add(1);
-    trie.map_with_default(key, one_more, 42).is_ok()
-}
-
-/// A stored value is mapped in its place, and an absent key gets the default.
-#[test]
-fn mapped_or_stored(rt: HostRuntime) -> Result<(), Memory> {
-    let mut trie = texts(rt.alloc(), &SAMPLE)?;
-    assert!(rt; raise(&mut trie, "abcd"));
-    assert!(rt; has_value(&trie, "abcd", Some(18)));
-    assert!(rt; raise(&mut trie, "zzz"));
-    assert!(rt; has_value(&trie, "zzz", Some(42)));
-    assert!(rt; trie.len() == 8);
-    Ok(())
 }

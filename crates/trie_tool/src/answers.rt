@@ -1,17 +1,15 @@
 //! Carrying out a command, and the whole answer to it.
-ghost use Rattle.std.specs.Prelude.{◌≡◌, ◌++◌, ◌∷◌, [], IfOk, OnOk, length, map as each, string_bytes, decimal};
+ghost use Rattle.std.specs.Prelude.{◌≡◌, ◌++◌, ◌∷◌, [], IfOk, OnOk, map as each, string_bytes, decimal};
 ghost use Rattle.trie_tool.specs.Command.{request};
 ghost use Rattle.trie_tool.specs.Request.{answer_to, numbers_after, insert_answer, get_answer, foot_answer, below_answer, json_answer, row};
 ghost use Rattle.radix_trie.specs.Views.{pairs_below};
 ghost use Rattle.std.specs.FinMap as map;
 ghost use Rattle.nibble_map.specs.Nibbles.{nibbles};
-ghost use Rattle.trie_tool.specs.Numbers.{text, texts_of};
+ghost use Rattle.trie_tool.specs.Numbers.{text};
 
 use crate::command::Command;
-use crate::numbers;
-use crate::numbers::Numbers;
-use radix_trie::iter::Iter;
-use radix_trie::{Memory, TrieCommon, to_value};
+use crate::numbers::{Numbers, Rows};
+use radix_trie::Memory;
 use std::alloc::{AllocError, Global};
 
 fn insert_answer(alloc: Global, old: Option<u64>) -> Result<String, AllocError>
@@ -58,16 +56,16 @@ fn add_row(alloc: Global, rows: &mut String, key: &String, number: u64) -> Resul
     rows.push_str(rest.as_str())
 }
 
-/// How many texts the walk has, and then each of them with its number.
-fn rows(alloc: Global, count: usize, walk: Iter<'_, String, u64>) -> Result<String, AllocError>
-    requires { count ≡ length walk }
-    ensures { IfOk result (λ a. string_bytes a ≡ below_answer (each text walk.entry)) }
+/// How many rows there are, and then each text with its number.
+fn rows_answer(alloc: Global, rows: Rows<'_>) -> Result<String, AllocError>
+    ensures { IfOk result (λ a. string_bytes a ≡ below_answer (each text rows.entry.walk)) }
 {
-    let mut rows = format!(in alloc; "{count}\n")?;
+    let Rows { count, walk } = rows;
+    let mut answer = format!(in alloc; "{count}\n")?;
     for (key, number) in walk {
-        add_row(alloc, &mut rows, key, *number)?;
+        add_row(alloc, &mut answer, key, *number)?;
     }
-    Ok(rows)
+    Ok(answer)
 }
 
 /// How many texts went, and then each of them with its number.
@@ -84,53 +82,44 @@ fn gone_answer(alloc: Global, gone: &[(String, u64)]) -> Result<String, AllocErr
 
 /// The texts that begin with the key, and their numbers.
 fn below_answer(alloc: Global, numbers: &Numbers, key: &str) -> Result<String, Memory>
-    ensures { IfOk result (λ a. string_bytes a
-        ≡ below_answer (pairs_below (texts_of numbers.now) (nibbles key.now))) }
+    ensures { IfOk result
+        (λ a. string_bytes a ≡ below_answer (pairs_below numbers.now (nibbles key.now))) }
 {
-    match numbers.get_raw_descendant(&key)? {
-        Some(view) => {
-            let count = TrieCommon::len(&view);
-            Ok(rows(alloc, count, TrieCommon::iter(&view)?)?)
-        }
+    match numbers.below(key)? {
+        Some(rows) => Ok(rows_answer(alloc, rows)?),
         None => Ok(String::from_str(alloc, "0\n")?),
     }
 }
 
 /// The compact text of the object of the texts and their numbers.
-fn json_answer(alloc: Global, numbers: &Numbers) -> Result<String, Memory>
-    ensures { IfOk result (λ a. string_bytes a ≡ json_answer (map.values (texts_of numbers.now))) }
+fn json_answer(numbers: &Numbers) -> Result<String, Memory>
+    ensures { IfOk result (λ a. string_bytes a ≡ json_answer (map.values numbers.now)) }
 {
-    let values = numbers::as_json(alloc, numbers)?;
-    let Ok(value) = to_value(alloc, &values) else {
-        return Err(Memory);
-    };
-    let mut text = value.to_string(alloc)?;
+    let mut text = numbers.json()?;
     text.push_str("\n")?;
     Ok(text)
 }
 
 /// Carries out a command, and gives its whole answer.
 pub fn answer(alloc: Global, numbers: &mut Numbers, command: Command<'_>) -> Result<String, Memory>
-    ensures text { IfOk result (λ a. string_bytes a
-        ≡ answer_to (request command.entry) (texts_of numbers.old)) }
-    ensures numbers { OnOk result (texts_of numbers.new
-        ≡ numbers_after (request command.entry) (texts_of numbers.old)) }
+    ensures text { IfOk result
+        (λ a. string_bytes a ≡ answer_to (request command.entry) numbers.old) }
+    ensures numbers { OnOk result
+        (numbers.new ≡ numbers_after (request command.entry) numbers.old) }
 {
     let text = match command {
-        Command::Insert(key, number) => {
-            insert_answer(alloc, numbers::insert(alloc, numbers, key, number)?)?
-        }
-        Command::Get(key) => get_answer(alloc, numbers::get(numbers, key)?)?,
-        Command::Remove(key) => get_answer(alloc, numbers::remove(numbers, key)?)?,
-        Command::Ancestor(key) => get_answer(alloc, numbers::ancestor(numbers, key)?)?,
+        Command::Insert(key, number) => insert_answer(alloc, numbers.insert(key, number)?)?,
+        Command::Get(key) => get_answer(alloc, numbers.get(key)?)?,
+        Command::Remove(key) => get_answer(alloc, numbers.remove(key)?)?,
+        Command::Ancestor(key) => get_answer(alloc, numbers.ancestor(key)?)?,
         Command::Below(key) => below_answer(alloc, numbers, key)?,
-        Command::Prune(key) => gone_answer(alloc, &numbers::prune(numbers, key)?)?,
-        Command::Len => len_answer(alloc, numbers::len(numbers))?,
+        Command::Prune(key) => gone_answer(alloc, &numbers.prune(key)?)?,
+        Command::Len => len_answer(alloc, numbers.len())?,
         Command::Foot => {
-            let (points, prefixes) = numbers::footprint(numbers);
+            let (points, prefixes) = numbers.footprint();
             foot_answer(alloc, points, prefixes)?
         }
-        Command::Json => json_answer(alloc, numbers)?,
+        Command::Json => json_answer(numbers)?,
     };
     Ok(text)
 }

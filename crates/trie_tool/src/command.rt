@@ -1,5 +1,5 @@
 //! Reading a line as a command.
-ghost use Rattle.std.specs.Prelude.{◌≡◌, option_map, IfSome, MatchOption, None, Some};
+ghost use Rattle.std.specs.Prelude.{◌≡◌, option_map, None, Some};
 ghost use Rattle.trie_tool.specs.Request.{request_of, worded_request, keyed_request, lone_request, number_of, insert_of};
 ghost use Rattle.trie_tool.specs.Command.{request};
 ghost use Rattle.std.specs.List.{list_all};

@@ -1,4 +1,4 @@
-//! The conversation over a reader and a writer.
+//! A session over a reader and a writer.
 ghost use Rattle.std.specs.Prelude.{◌≡◌, ◌-◌, ◌^◌, ◌||◌, ◌⊎◌, IsTrue, IfOk, vec_len};
 ghost use Rattle.trie_tool.specs.Faults.{tells_read, tells_write};
 ghost use Rattle.trie_tool.specs.Serve.{Served};
@@ -20,9 +20,9 @@ fn zeros(alloc: Global, count: usize) -> Result<Vec<u8>, AllocError>
 
 /// Answers every line that the reader gives, up to its end or the first bad line.
 ///
-/// The answers to the lines that one read brought are written together before the next read, and before a fault is
-/// answered. An interrupted read is a fault, and so is an input that hasn't ended after `u64::MAX` reads. Else
-/// `Read` and `Write` are answered only after a call that failed.
+/// The answers to the lines that one read brought are written together before the next read, and
+/// before a fault is answered. An interrupted read is a fault, and so is an input that hasn't ended
+/// after `u64::MAX` reads. Else `Read` and `Write` are answered only after a call that failed.
 pub fn serve<R: Read, W: Write>(
     alloc: Global,
     reader: &mut WatchedReader<R>,

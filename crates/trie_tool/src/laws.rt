@@ -1,7 +1,7 @@
 //! Laws of the definitions, and worked lines.
 ghost use Rattle.std.specs.Prelude.{◌≡◌, ℕ, List, [], ◌∷◌, ◌++◌, Some, None, IsTrue, IsFalse, codes, flat_map};
 ghost use Rattle.trie_tool.specs.Request.{request_of, Insert, Get, Len, Remove, Foot, Ancestor, Below, Prune, Json};
-ghost use Rattle.trie_tool.specs.Talk.{cut, talk, said, number_of_bad};
+ghost use Rattle.trie_tool.specs.Transcript.{cut, transcript, output, number_of_bad};
 
 /// Cutting loses no byte: the lines, each with its line feed, and the bytes after them are the text.
 pub fn lines_join()
@@ -40,14 +40,16 @@ pub fn worked_lines()
 
 /// Worked runs: a value is replaced, a bad line ends the run after a skipped line, nothing is read.
 pub fn worked_runs()
-    ensures value_is_replaced { said
-        (talk (codes "insert haskell 18\ninsert haskell 36\nget haskell\nlen\n"))
+    ensures value_is_replaced { output
+        (transcript (codes "insert haskell 18\ninsert haskell 36\nget haskell\nlen\n"))
         ≡ codes "new\nold 18\n36\n1\n" }
-    ensures bad_line_ends_it { said (talk (codes "insert a b 007\n\nget a b\ninsert x\nlen"))
+    ensures bad_line_ends_it { output
+        (transcript (codes "insert a b 007\n\nget a b\ninsert x\nlen"))
         ≡ codes "new\n7\n" }
-    ensures bad_line { IsTrue (talk (codes "insert a b 007\n\nget a b\ninsert x\nlen")).is_bad }
+    ensures bad_line { IsTrue
+        (transcript (codes "insert a b 007\n\nget a b\ninsert x\nlen")).is_bad }
     ensures bad_line_number { number_of_bad
-        (talk (codes "insert a b 007\n\nget a b\ninsert x\nlen")) ≡ 4 }
-    ensures empty_input { said (talk []) ≡ [] }
-    ensures empty_input_is_good { IsFalse (talk []).is_bad }
+        (transcript (codes "insert a b 007\n\nget a b\ninsert x\nlen")) ≡ 4 }
+    ensures empty_input { output (transcript []) ≡ [] }
+    ensures empty_input_is_good { IsFalse (transcript []).is_bad }
 {}

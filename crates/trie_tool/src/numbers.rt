@@ -1,93 +1,161 @@
 //! The trie of texts and their numbers.
-ghost use Rattle.std.specs.Prelude.{◌≡◌, map as each, IfOk, OnOk, OnErr, string_bytes};
+ghost use Rattle.std.specs.Prelude.{◌≡◌, [], length, map as each, IfOk, IfSome, IfNone, OnOk, OnErr, string_bytes};
 ghost use Rattle.std.specs.FinMap as map;
 ghost use Rattle.nibble_map.specs.Computed.{ancestor, footprint};
 ghost use Rattle.nibble_map.specs.Nibbles.{nibbles};
 ghost use Rattle.nibble_map.specs.Maps.{value_at, without_below};
-ghost use Rattle.trie_tool.specs.Numbers.{data_of, text, texts_of};
+ghost use Rattle.trie_tool.specs.Numbers.{data_of, text};
 ghost use Rattle.radix_trie.specs.Views.{pairs_below, value_of};
 ghost use Rattle.serde_json.specs.Data.{number, unsigned};
 ghost use Rattle.serde_json.specs.View.{members_view};
-ghost use Rattle.trie_tool.specs.Request.{members};
+ghost use Rattle.trie_tool.specs.Request.{json_text, members};
 
-use radix_trie::{Memory, Trie, TrieCommon};
+use radix_trie::iter::Iter;
+use radix_trie::{Memory, Trie, TrieCommon, to_value};
 use serde_json::Value;
 use std::alloc::Global;
+use std::marker::Model;
 
-pub type Numbers = Trie<String, u64>;
-
-/// The trie with no number.
-pub fn no_numbers(alloc: Global) -> Numbers
-    ensures { texts_of result ≡ map.empty }
-{
-    Trie::new(alloc)
+/// A walk over texts and their numbers, and how many they are.
+#[derive(Drop)]
+pub struct Rows<'a> {
+    pub count: usize,
+    pub walk: Iter<'a, String, u64>,
+    ghost counted: { count ≡ length walk },
 }
 
-/// Stores the number at this key, and gives the number that stood there. After a refusal the trie is as before.
-pub fn insert(
+/// A trie of texts, each with a number. A contract sees it as the finite map from the nibbles of
+/// each text to the text and its number.
+#[derive(Drop)]
+pub struct Numbers {
     alloc: Global,
-    numbers: &mut Numbers,
-    key: &str,
-    number: u64,
-) -> Result<Option<u64>, Memory>
-    ensures old_number { IfOk result
-        (λ old. old ≡ value_at (texts_of numbers.old) (nibbles key.now)) }
-    ensures stored { OnOk result (texts_of numbers.new
-        ≡ map.insert (texts_of numbers.old) (nibbles key.now) (key.now, number)) }
-    ensures unchanged { OnErr result (numbers.new ≡ numbers.old) }
-{
-    let key = String::from_str(alloc, key)?;
-    numbers.insert(key, number).map_err(|_| Memory)
+    trie: Trie<String, u64>,
 }
 
-/// The number at this key.
-pub fn get(numbers: &Numbers, key: &str) -> Result<Option<u64>, Memory>
-    ensures { IfOk result (λ found. found ≡ value_at (texts_of numbers.now) (nibbles key.now)) }
-{
-    Ok(numbers.get(&key)?.copied())
+impl Model for Numbers {
+    ghost use Rattle.std.specs.Prelude.{ℕ, List};
+    ghost use Rattle.std.specs.Coded.{coded_list, coded_ℕ};
+    ghost use Rattle.nibble_map.specs.Maps.{PairMap, pair_map_code};
+    ghost use Rattle.trie_tool.specs.Numbers.{texts_of};
+
+    ghost Value = { PairMap (List ℕ) ℕ };
+
+    ghost coded = { pair_map_code (coded_list coded_ℕ) coded_ℕ };
+
+    ghost view = { λ n. texts_of n.trie };
 }
 
-/// The number at the longest stored text that the key begins with.
-pub fn ancestor(numbers: &Numbers, key: &str) -> Result<Option<u64>, Memory>
-    ensures { IfOk result (λ found. found ≡ value_of (texts_of numbers.now)
-        (ancestor (map.entries (texts_of numbers.now)) (nibbles key.now))) }
-{
-    Ok(numbers.get_ancestor_value(&key)?.copied())
-}
+impl Numbers {
+    /// No text.
+    pub fn new(alloc: Global) -> Numbers
+        ensures { result ≡ map.empty }
+    {
+        Numbers {
+            alloc,
+            trie: Trie::new(alloc),
+        }
+    }
 
-/// Takes the number at this key away. After a refusal the trie is as before.
-pub fn remove(numbers: &mut Numbers, key: &str) -> Result<Option<u64>, Memory>
-    ensures old_number { IfOk result
-        (λ old. old ≡ value_at (texts_of numbers.old) (nibbles key.now)) }
-    ensures removed { OnOk result (texts_of numbers.new
-        ≡ map.remove (texts_of numbers.old) (nibbles key.now)) }
-{
-    numbers.remove(&key)
-}
+    /// Stores the number at this key, and gives the number that stood there. After a refusal all is
+    /// as before.
+    pub fn insert(&mut self, key: &str, number: u64) -> Result<Option<u64>, Memory>
+        ensures old_number { IfOk result (λ old. old ≡ value_at self.old (nibbles key.now)) }
+        ensures stored { OnOk result
+            (self.new ≡ map.insert self.old (nibbles key.now) (key.now, number)) }
+        ensures unchanged { OnErr result (self.new ≡ self.old) }
+    {
+        let key = String::from_str(self.alloc, key)?;
+        self.trie.insert(key, number).map_err(|_| Memory)
+    }
 
-/// Takes all texts that begin with the key away, with their numbers, in order. After a refusal the trie is as before.
-pub fn prune(numbers: &mut Numbers, key: &str) -> Result<Vec<(String, u64)>, Memory>
-    ensures gone { IfOk result (λ gone.
-        each text gone.items ≡ pairs_below (texts_of numbers.old) (nibbles key.now)) }
-    ensures removed { OnOk result
-        (texts_of numbers.new ≡ without_below (texts_of numbers.old) (nibbles key.now)) }
-    ensures unchanged { OnErr result (numbers.new ≡ numbers.old) }
-{
-    numbers.remove_prefix(&key)
-}
+    /// The number at this key.
+    pub fn get(&self, key: &str) -> Result<Option<u64>, Memory>
+        ensures { IfOk result (λ found. found ≡ value_at self.now (nibbles key.now)) }
+    {
+        Ok(self.trie.get(&key)?.copied())
+    }
 
-/// The count of points, and the count of distinct non-empty prefixes of the keys' nibbles.
-pub fn footprint(numbers: &Numbers) -> (u128, u128)
-    ensures { result ≡ footprint (map.entries (texts_of numbers.now)) }
-{
-    numbers.footprint()
-}
+    /// The number at the longest stored text that the key begins with.
+    pub fn ancestor(&self, key: &str) -> Result<Option<u64>, Memory>
+        ensures { IfOk result (λ found. found
+            ≡ value_of self.now (ancestor (map.entries self.now) (nibbles key.now))) }
+    {
+        Ok(self.trie.get_ancestor_value(&key)?.copied())
+    }
 
-/// The count of numbers.
-pub fn len(numbers: &Numbers) -> usize
-    ensures { result ≡ map.len (texts_of numbers.now) }
-{
-    numbers.len()
+    /// Takes the number at this key away. After a refusal all is as before.
+    pub fn remove(&mut self, key: &str) -> Result<Option<u64>, Memory>
+        ensures old_number { IfOk result (λ old. old ≡ value_at self.old (nibbles key.now)) }
+        ensures removed { OnOk result (self.new ≡ map.remove self.old (nibbles key.now)) }
+        ensures unchanged { OnErr result (self.new ≡ self.old) }
+    {
+        self.trie.remove(&key)
+    }
+
+    /// The texts that begin with the key, and their numbers, in order; None where no text does.
+    pub fn below(&self, key: &str) -> Result<Option<Rows<'_>>, Memory>
+        ensures rows { IfOk result (λ o. IfSome o
+            (λ rows. each text rows.walk ≡ pairs_below self.now (nibbles key.now))) }
+        ensures none { IfOk result
+            (λ o. IfNone o (pairs_below self.now (nibbles key.now) ≡ [])) }
+    {
+        match self.trie.get_raw_descendant(&key)? {
+            Some(view) => {
+                let count = TrieCommon::len(&view);
+                let walk = TrieCommon::iter(&view)?;
+                Ok(Some(Rows { count, walk }))
+            }
+            None => Ok(None),
+        }
+    }
+
+    /// Takes all texts that begin with the key away, with their numbers, in order. After a refusal
+    /// all is as before.
+    pub fn prune(&mut self, key: &str) -> Result<Vec<(String, u64)>, Memory>
+        ensures gone { IfOk result
+            (λ gone. each text gone.items ≡ pairs_below self.old (nibbles key.now)) }
+        ensures removed { OnOk result (self.new ≡ without_below self.old (nibbles key.now)) }
+        ensures unchanged { OnErr result (self.new ≡ self.old) }
+    {
+        self.trie.remove_prefix(&key)
+    }
+
+    /// The count of points, and the count of distinct non-empty prefixes of the keys' nibbles.
+    pub fn footprint(&self) -> (u128, u128)
+        ensures { result ≡ footprint (map.entries self.now) }
+    {
+        self.trie.footprint()
+    }
+
+    /// The count of numbers.
+    pub fn len(&self) -> usize
+        ensures { result ≡ map.len self.now }
+    {
+        self.trie.len()
+    }
+
+    /// The same texts, each with its number as JSON.
+    fn as_json(&self) -> Result<Trie<String, Value>, Memory>
+        ensures { IfOk result
+            (λ values. members_view (map.values values) ≡ members (map.values self.now)) }
+    {
+        let mut values = Trie::new(self.alloc);
+        for (key, number) in TrieCommon::iter(&self.trie)? {
+            put_json(&mut values, key, *number)?;
+        }
+        Ok(values)
+    }
+
+    /// The compact text of the object of the texts and their numbers.
+    pub fn json(&self) -> Result<String, Memory>
+        ensures { IfOk result (λ a. string_bytes a ≡ json_text (map.values self.now)) }
+    {
+        let values = self.as_json()?;
+        let Ok(value) = to_value(self.alloc, &values) else {
+            return Err(Memory);
+        };
+        Ok(value.to_string(self.alloc)?)
+    }
 }
 
 /// Stores the number as JSON at this text. After a refusal the trie is as before.
@@ -101,16 +169,4 @@ fn put_json(values: &mut Trie<String, Value>, key: &String, count: u64) -> Resul
         Ok(_) => Ok(()),
         Err(_) => Err(Memory),
     }
-}
-
-/// The same texts, each with its number as JSON.
-pub fn as_json(alloc: Global, numbers: &Numbers) -> Result<Trie<String, Value>, Memory>
-    ensures { IfOk result (λ values. members_view (map.values values)
-        ≡ members (map.values (texts_of numbers.now))) }
-{
-    let mut values = Trie::new(alloc);
-    for (key, number) in TrieCommon::iter(numbers)? {
-        put_json(&mut values, key, *number)?;
-    }
-    Ok(values)
 }

@@ -1,18 +1,78 @@
-//! A conversation over the bytes of one read after another.
-ghost use Rattle.std.specs.Prelude.{◌≡◌, ◌||◌, ℕ, List, [], ◌∷◌, ◌++◌, IsFalse};
+//! What is answered to the lines of one read after another.
+ghost use Rattle.std.specs.Prelude.{◌≡◌, ◌+◌, ◌||◌, ℕ, List, [], ◌∷◌, ◌++◌, Some, IsFalse, IfSome, IfNone, IfOk, IfErr, OnOk, OnErr, string_bytes};
 ghost use Rattle.std.specs.FinMap as map;
 ghost use Rattle.trie_tool.specs.Faults.{tells_write};
-ghost use Rattle.trie_tool.specs.Session.{IsAt, Goes, Sends, Finishes};
-ghost use Rattle.trie_tool.specs.Talk.{HasNoFeed, talk, talk_whole};
-ghost use Rattle.trie_tool.specs.Numbers.{texts_of};
+ghost use Rattle.trie_tool.specs.Session.{IsRefusal, Replies, IsAt, Goes, Sends, Finishes};
+ghost use Rattle.trie_tool.specs.Transcript.{HasNoFeed, counted, reply, transcript, ended_transcript};
 
-use crate::conversation::Conversation;
+use crate::answers::answer;
+use crate::command::parse;
 use crate::fault::ToolError;
-use crate::lines::first_line;
-use crate::output::write_out;
+use crate::numbers::Numbers;
 use crate::watched::WatchedWriter;
 use std::alloc::Global;
 use std::io::Write;
+
+/// The bytes before the first line feed, and those after it.
+fn first_line(bytes: &[u8]) -> Option<(&[u8], &[u8])>
+    ensures parts { IfSome result (λ p. bytes.now ≡ p.0.now ++ 10 ∷ p.1.now) }
+    ensures line { IfSome result (λ p. HasNoFeed p.0.now) }
+    ensures none { IfNone result (HasNoFeed bytes.now) }
+{
+    let place = bytes.iter().position(|byte| *byte == b'\n')?;
+    let (line, fed) = bytes.split_at(place);
+    let (_, after) = fed.split_at(1);
+    Some((line, after))
+}
+
+/// The whole answer to the line of this number; an empty line has an empty answer.
+fn reply(
+    alloc: Global,
+    numbers: &mut Numbers,
+    line: &[u8],
+    number: u64,
+) -> Result<String, ToolError>
+    ensures answer { IfOk result
+        (λ a. reply line.now numbers.old ≡ Some (string_bytes a, numbers.new)) }
+    ensures refused { IfErr result (λ e. IsRefusal e line.now numbers.old number) }
+{
+    if line.is_empty() {
+        return Ok(String::new(alloc));
+    }
+    let Some(command) = parse(line) else {
+        return Err(ToolError::BadLine(number));
+    };
+    answer(alloc, numbers, command).map_err(|_| ToolError::Memory)
+}
+
+/// The numbers, the answers that aren't written yet, and the count of lines.
+#[derive(Drop)]
+struct Conversation {
+    alloc: Global,
+    numbers: Numbers,
+    answers: Vec<u8>,
+    count: u64,
+}
+
+impl Conversation {
+    /// Answers a good line; an empty one has an empty answer. After a refusal the answers are as
+    /// before.
+    fn answer_line(&mut self, line: &[u8]) -> Result<(), ToolError>
+        ensures answered { OnOk result (Replies line.now self.old self.new) }
+        ensures count { OnOk result (self.new.count ≡ counted (self.old.count + 1)) }
+        ensures refused { IfErr result
+            (λ e. IsRefusal e line.now self.old.numbers (counted (self.old.count + 1))) }
+        ensures unchanged { OnErr result (self.new.answers.items ≡ self.old.answers.items) }
+    {
+        let number = self.count.saturating_add(1);
+        let text = reply(self.alloc, &mut self.numbers, line, number)?;
+        if self.answers.extend_from_slice(text.as_bytes()).is_err() {
+            return Err(ToolError::Memory);
+        }
+        self.count = number;
+        Ok(())
+    }
+}
 
 /// A conversation, and the bytes after the last line feed.
 #[derive(Drop)]
@@ -24,12 +84,17 @@ pub struct Session {
 impl Session {
     pub fn new(alloc: Global) -> Session
         ensures line { result.open_line.items ≡ [] }
-        ensures numbers { texts_of result.conversation.numbers ≡ map.empty }
+        ensures numbers { result.conversation.numbers ≡ map.empty }
         ensures answers { result.conversation.answers.items ≡ [] }
         ensures count { result.conversation.count ≡ 0 }
     {
         Session {
-            conversation: Conversation::new(alloc),
+            conversation: Conversation {
+                alloc,
+                numbers: Numbers::new(alloc),
+                answers: Vec::new(alloc),
+                count: 0,
+            },
             open_line: Vec::new(alloc),
         }
     }
@@ -40,10 +105,10 @@ impl Session {
             → Goes result (b ++ bytes.now) sent self.new }
         ensures no_write_fault { IsFalse (tells_write result) }
     {
-        if self.open_line.extend_from_slice(bytes).is_err() {
-            return Err(ToolError::Memory);
+        match self.open_line.extend_from_slice(bytes) {
+            Ok(()) => Ok(()),
+            Err(_) => Err(ToolError::Memory),
         }
-        Ok(())
     }
 
     /// Answers the line that these bytes end.
@@ -53,10 +118,10 @@ impl Session {
         ensures no_write_fault { IsFalse (tells_write result) }
     {
         if self.open_line.is_empty() {
-            return self.conversation.take_turn(bytes);
+            return self.conversation.answer_line(bytes);
         }
         self.keep(bytes)?;
-        self.conversation.take_turn(self.open_line.as_slice())?;
+        self.conversation.answer_line(self.open_line.as_slice())?;
         self.open_line.clear();
         Ok(())
     }
@@ -64,7 +129,8 @@ impl Session {
     /// Answers the bytes after the last line feed, where there are any, as a line.
     fn end_last_line(&mut self) -> Result<(), ToolError>
         ensures answered { (b sent : List ℕ) → IsAt b sent self.old
-            → (whole : List ℕ) × (talk_whole whole ≡ talk b) × Goes result whole sent self.new }
+            → (whole : List ℕ) × (ended_transcript whole ≡ transcript b)
+            × Goes result whole sent self.new }
         ensures no_write_fault { IsFalse (tells_write result) }
     {
         if self.open_line.is_empty() {
@@ -74,7 +140,7 @@ impl Session {
     }
 
     /// Answers each line that ends among these bytes, and keeps what stands after them.
-    fn take_turns(&mut self, bytes: &[u8]) -> Result<(), ToolError>
+    fn answer_lines(&mut self, bytes: &[u8]) -> Result<(), ToolError>
         ensures answered { (b sent : List ℕ) → IsAt b sent self.old
             → Goes result (b ++ bytes.now) sent self.new }
         ensures no_write_fault { IsFalse (tells_write result) }
@@ -99,8 +165,8 @@ impl Session {
         ensures noted { IsFalse (tells_write outcome)
             → writer.new.has_failed ≡ (writer.old.has_failed || tells_write result) }
     {
-        write_out(writer, self.conversation.answers())?;
-        self.conversation.clear();
+        writer.write_all(self.conversation.answers.as_slice())?;
+        self.conversation.answers.clear();
         outcome
     }
 
@@ -115,7 +181,7 @@ impl Session {
             (W.contents writer.new.writer) self.new }
         ensures noted { writer.new.has_failed ≡ (writer.old.has_failed || tells_write result) }
     {
-        let outcome = self.take_turns(bytes);
+        let outcome = self.answer_lines(bytes);
         self.send(outcome, writer)
     }
 

@@ -1,9 +1,10 @@
 //! A reader and a writer that note whether one of their calls has failed.
-ghost use Rattle.std.specs.Prelude.{◌≡◌, ◌+◌, ◌-◌, ◌^◌, ◌||◌, min, is_err, IsFalse};
+ghost use Rattle.std.specs.Prelude.{◌≡◌, ◌+◌, ◌-◌, ◌^◌, ◌||◌, ℕ, min, take, is_err, IfErr, IsFalse, OnOk};
 ghost use Rattle.std.specs.Io.{ReadsAtMost, WritesAtMost};
-ghost use Rattle.std.specs.Io.KnownBytes.{ReadConsumes, WriteAppends};
+ghost use Rattle.std.specs.Io.KnownBytes.{Appends, ReadConsumes, WriteAppends};
 ghost use Rattle.trie_tool.specs.Faults.{took_none};
 
+use crate::fault::ToolError;
 use std::io;
 use std::io::{Read, Write};
 
@@ -66,7 +67,8 @@ impl<W: Write> WatchedWriter<W> {
         ensures bound { WritesAtMost result buffer.now }
         ensures bytes { WriteAppends (W.contents self.old.writer) (W.contents self.new.writer)
             result buffer.now }
-        ensures noted { self.new.has_failed ≡ (self.old.has_failed || took_none buffer.now result) }
+        ensures noted { self.new.has_failed
+            ≡ (self.old.has_failed || took_none buffer.now result) }
     {
         let outcome = self.writer.write(buffer);
         self.has_failed = self.has_failed
@@ -75,5 +77,25 @@ impl<W: Write> WatchedWriter<W> {
                 Err(_) => true,
             };
         outcome
+    }
+
+    /// Writes all of `bytes`. Any write that fails or takes no byte ends it.
+    pub fn write_all(&mut self, bytes: &[u8]) -> Result<(), ToolError>
+        ensures all { OnOk result
+            (Appends (W.contents self.old.writer) (W.contents self.new.writer) bytes.now) }
+        ensures part { (count : ℕ) × Appends (W.contents self.old.writer)
+            (W.contents self.new.writer) (take count bytes.now) }
+        ensures fault { IfErr result (λ e. e ≡ ToolError.Write) }
+        ensures noted { self.new.has_failed ≡ (self.old.has_failed || is_err result) }
+    {
+        let mut written = 0;
+        while written < bytes.len() {
+            let (_, rest) = bytes.split_at(written);
+            match self.write(rest) {
+                Ok(0) | Err(_) => return Err(ToolError::Write),
+                Ok(count) => written += count,
+            }
+        }
+        Ok(())
     }
 }

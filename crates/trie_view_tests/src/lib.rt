@@ -1,17 +1,9 @@
-//! Tests of queries, views and walks.
+//! Tests of views for reading, and of ordered walks.
 #![tactic(auto)]
 
 #[cfg(test)]
-mod calls_of_views;
-#[cfg(test)]
-mod queries;
-#[cfg(test)]
-mod queries_of_views;
-#[cfg(test)]
-mod spent_views;
+mod small_lists;
 #[cfg(test)]
 mod views;
 #[cfg(test)]
 mod walks;
-#[cfg(test)]
-mod write_views;

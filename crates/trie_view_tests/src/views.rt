@@ -121,18 +121,18 @@ fn fragments_of_half_bytes(rt: HostRuntime) -> Result<(), Memory> {
 }
 
 /// Whether the view has two pairs, and none of its own.
-fn is_parting_of_two(view: &SubTrie<'_, u8, u64>) -> bool {
+fn is_branch_point_of_two(view: &SubTrie<'_, u8, u64>) -> bool {
     TrieCommon::value(view).is_none() && TrieCommon::len(view) == 2
 }
 
-/// A parting holds no pair: a removal there changes nothing.
+/// A branch point holds no pair: a removal there changes nothing.
 #[test]
-fn removal_at_a_parting(rt: HostRuntime) -> Result<(), Memory> {
+fn removal_at_a_branch_point(rt: HostRuntime) -> Result<(), Memory> {
     let half = list(rt.alloc(), &[15])?;
     let mut trie = two_bytes(&rt, rt.alloc());
     assert!(rt; trie.remove(&half) == Ok(None));
     match trie.subtrie(&half)? {
-        Some(view) => assert!(rt; is_parting_of_two(&view)),
+        Some(view) => assert!(rt; is_branch_point_of_two(&view)),
         None => assert!(rt; false),
     }
     Ok(())

@@ -4,11 +4,11 @@ use Rattle.std.proofs.lemmas.List.{length-append}
 use Rattle.nibble_map.specs.Trees.{AreMany, IsFull, first}
 use Rattle.nibble_map.specs.Swaps.{Swaps, entry}
 use Rattle.masked_tree.specs.Mask.{IsMask, IsPlaceOf, marked}
-use Rattle.masked_tree.specs.Tree.{Tree, Kids, none, more, IsAt, plain, firsts, IsPlaced, IsTreePlaced, entries_in, entries_at}
-use Rattle.masked_tree.specs.Edits.{insert_kid, with_pair, with_kid, with_new_kid, leaf, lowered}
-use Rattle.masked_tree.specs.Alters.{Run, entry_at, all_of, none_of, AltersKid, AltersNode, Replaces, Edits, Prunes}
-use Rattle.masked_tree.proofs.MaskLemmas.{marked_is, marked_lt, none_is_mask}
-use Rattle.masked_tree.proofs.TreeLemmas.Children.{swaps_after, set_firsts, set_placed, set_full, set_many, set_swaps, set_nodes, set_nibbles, at_placed, insert_bits, insert_placed, insert_full, insert_many, insert_swaps, insert_nodes, insert_nibbles}
+use Rattle.masked_tree.specs.Tree.{Tree, Children, none, more, IsAt, plain, firsts, IsPlaced, IsTreePlaced, entries_in, entries_at}
+use Rattle.masked_tree.specs.Edits.{insert_child, with_pair, with_child, with_new_child, leaf, lowered}
+use Rattle.masked_tree.specs.Alters.{Run, entry_at, all_of, none_of, AltersChild, AltersNode, Replaces, Edits, Prunes}
+use Rattle.masked_tree.proofs.MaskLemmas.{bit_at-marked, marked_lt, zero_is_mask}
+use Rattle.masked_tree.proofs.TreeLemmas.Children.{swaps_after, firsts-set_child, set_child_placed, set_child_full, set_child_many, set_child_swaps, nodes_in-set_child, nibbles_in-set_child, child_tree_is_placed, bit_of-insert_child, insert_child_placed, insert_child_full, insert_child_many, insert_child_swaps, nodes_in-insert_child, nibbles_in-insert_child}
 
 module _ {P : Type 0} where
   -- a node's own pair is written
@@ -22,7 +22,7 @@ module _ {P : Type 0} where
         start = refl;
         some = λ s. s;
         placed = h;
-        swaps = λ q. record { before = []; after = entries_in (q ++ t.fragment) t.kids; was = refl; is = refl };
+        swaps = λ q. record { before = []; after = entries_in (q ++ t.fragment) t.children; was = refl; is = refl };
         nodes = omega arith;
         nibbles = omega arith;
       };
@@ -30,95 +30,106 @@ module _ {P : Type 0} where
   }
 
   -- a child is written
-  pub kid_alters : (t u v : Tree P) (i : ℕ) (gone come : Run P) (n m k l : ℕ) → IsTreePlaced t → IsAt i t.kids u → AltersKid gone come n m k l u v →
-      AltersNode (λ q. gone (q ++ t.fragment)) (λ q. come (q ++ t.fragment)) n m k l t (with_kid i v t)
-  kid_alters t u v i gone come n m k l h a r =
-      let full = λ (f : IsFull (plain t.kids)). set_full i t.kids u v a r.full f in
-      let at = at_placed 0 i t.kids u a h.1 in
+  -- a change of a child is a change of its parent, its runs behind the parent's fragment
+  child_alters : (t u v : Tree P) (i : ℕ) (gone come : Run P) (n m k l : ℕ) → IsTreePlaced t → IsAt i t.children u → AltersChild gone come n m k l u v →
+      AltersNode (λ q. gone (q ++ t.fragment)) (λ q. come (q ++ t.fragment)) n m k l t (with_child i v t)
+  child_alters t u v i gone come n m k l h a r =
+      let full = λ (f : IsFull (plain t.children)). set_child_full i t.children u v a r.full f in
+      let at = child_tree_is_placed 0 i t.children u a h.1 in
       let s = r.alters in
       record {
-        full = λ f. (elim f.0 [ inl s ↦ inl s | inr m ↦ inr (set_many i t.kids v m) ], full f.1);
+        full = λ f. (elim f.0 [ inl s ↦ inl s | inr m ↦ inr (set_child_many i t.children v m) ], full f.1);
         root = record {
           fragment = refl;
           below = full;
           alters = record {
             start = refl;
             some = λ z. z;
-            placed = (subst (λ xs. IsMask t.mask xs) (sym (set_firsts i t.kids u v a s.start)) h.0, set_placed 0 i t.kids u v a s.start (s.some at.0) s.placed h.1);
-            swaps = λ q. swaps_after (entry (q ++ t.fragment) t.pair) _ _ _ _ (set_swaps i t.kids u v _ _ (q ++ t.fragment) a (s.swaps (q ++ t.fragment)));
-            nodes = set_nodes i t.kids u v n m a s.nodes;
-            nibbles = omega (arith, set_nibbles i t.kids u v k l a s.nibbles);
+            placed = (subst (λ xs. IsMask t.mask xs) (sym (firsts-set_child i t.children u v a s.start)) h.0, set_child_placed 0 i t.children u v a s.start (s.some at.0) s.placed h.1);
+            swaps = λ q. swaps_after (entry (q ++ t.fragment) t.pair) _ _ _ _ (set_child_swaps i t.children u v _ _ (q ++ t.fragment) a (s.swaps (q ++ t.fragment)));
+            nodes = nodes_in-set_child i t.children u v n m a s.nodes;
+            nibbles = omega (arith, nibbles_in-set_child i t.children u v k l a s.nibbles);
           };
         };
       }
 
+  -- the entry at p behind a fragment is the entry at the fragment and p
   entry_below : (f p : List ℕ) (o : Option P) → (λ (q : List ℕ). entry_at p o (q ++ f)) ≡ entry_at (f ++ p) o
   entry_below f p o = λ i q. entry (append_assoc q f p i) o
 
   -- one entry of a child is written
-  pub kid_entry : (t u v : Tree P) (i : ℕ) (p : List ℕ) (was now : Option P) (n m k l : ℕ) → IsTreePlaced t → IsAt i t.kids u → AltersKid (entry_at p was) (entry_at p now) n m k l u v →
-      AltersNode (entry_at (t.fragment ++ p) was) (entry_at (t.fragment ++ p) now) n m k l t (with_kid i v t)
-  kid_entry t u v i p was now n m k l h a r =
-      subst (λ come. AltersNode (entry_at (t.fragment ++ p) was) come n m k l t (with_kid i v t)) (entry_below t.fragment p now)
-      (subst (λ gone. AltersNode gone (λ q. entry_at p now (q ++ t.fragment)) n m k l t (with_kid i v t)) (entry_below t.fragment p was)
-      (kid_alters t u v i (entry_at p was) (entry_at p now) n m k l h a r))
+  -- a change of a child's entry at p is a change of its parent's at the fragment and p
+  pub child_entry_alters : (t u v : Tree P) (i : ℕ) (p : List ℕ) (was now : Option P) (n m k l : ℕ) → IsTreePlaced t → IsAt i t.children u → AltersChild (entry_at p was) (entry_at p now) n m k l u v →
+      AltersNode (entry_at (t.fragment ++ p) was) (entry_at (t.fragment ++ p) now) n m k l t (with_child i v t)
+  child_entry_alters t u v i p was now n m k l h a r =
+      subst (λ come. AltersNode (entry_at (t.fragment ++ p) was) come n m k l t (with_child i v t)) (entry_below t.fragment p now)
+      (subst (λ gone. AltersNode gone (λ q. entry_at p now (q ++ t.fragment)) n m k l t (with_child i v t)) (entry_below t.fragment p was)
+      (child_alters t u v i (entry_at p was) (entry_at p now) n m k l h a r))
 
   -- a branch of a child is cut
-  pub kid_pruned : (t u v b : Tree P) (i : ℕ) (s : List ℕ) (n k : ℕ) → IsTreePlaced t → IsAt i t.kids u → Prunes s b n k u v →
-      AltersNode (all_of (t.fragment ++ s) b) none_of 0 n 0 k t (with_kid i v t)
-  kid_pruned t u v b i s n k h a r =
+  -- a branch cut from a child is cut from its parent, its path behind the parent's fragment
+  pub child_pruned : (t u v b : Tree P) (i : ℕ) (s : List ℕ) (n k : ℕ) → IsTreePlaced t → IsAt i t.children u → Prunes s b n k u v →
+      AltersNode (all_of (t.fragment ++ s) b) none_of 0 n 0 k t (with_child i v t)
+  child_pruned t u v b i s n k h a r =
       let below : (λ (q : List ℕ). all_of s b (q ++ t.fragment)) ≡ all_of (t.fragment ++ s) b = λ j q. entries_at (append_assoc q t.fragment s j) b in
-      subst (λ gone. AltersNode gone none_of 0 n 0 k t (with_kid i v t)) below (kid_alters t u v i (all_of s b) none_of 0 n 0 k h a r)
+      subst (λ gone. AltersNode gone none_of 0 n 0 k t (with_child i v t)) below (child_alters t u v i (all_of s b) none_of 0 n 0 k h a r)
 
   -- a change of a node that may be a root, as that of a child
-  pub node_kid : (gone come : Run P) (n m k l : ℕ) (old new : Tree P) → AltersNode gone come n m k l old new → AltersKid gone come n m k l old new
-  node_kid gone come n m k l old new e = record { full = e.full; alters = e.root.alters }
+  pub node_as_child : (gone come : Run P) (n m k l : ℕ) (old new : Tree P) → AltersNode gone come n m k l old new → AltersChild gone come n m k l old new
+  node_as_child gone come n m k l old new e = record { full = e.full; alters = e.root.alters }
 
-  no_many : (k : Kids P) → AreMany (plain k) → k ≢ none
+  -- children that are two or more aren't none
+  no_many : (k : Children P) → AreMany (plain k) → k ≢ none
   no_many k m e = subst (λ k. AreMany (plain k)) e m
 
   -- a leaf comes
-  pub leaf_edits : (t : Tree P) (x : P) (f : List ℕ) (i : ℕ) → IsTreePlaced t → f ≢ [] → first f < 16 → IsPlaceOf (first f) (firsts t.kids) (Err i) →
-      Edits (t.fragment ++ f) x None 1 (length f) t (with_new_kid i (first f) (leaf f x) t)
+  -- a new leaf with a first nibble that no child has writes one entry, with one node more
+  pub leaf_edits : (t : Tree P) (x : P) (f : List ℕ) (i : ℕ) → IsTreePlaced t → f ≢ [] → first f < 16 → IsPlaceOf (first f) (firsts t.children) (Err i) →
+      Edits (t.fragment ++ f) x None 1 (length f) t (with_new_child i (first f) (leaf f x) t)
   leaf_edits t x f i h s low at =
       let u : Tree P = leaf f x in
-      let mask : IsMask (marked t.mask (first f)) (firsts (insert_kid i u t.kids)) = (marked_lt t.mask (first f) h.0.0, λ n. marked_is t.mask (first f) n (firsts t.kids) low h.0 ∙ sym (insert_bits i t.kids u n)) in
-      let placed : IsPlaced 0 (insert_kid i u t.kids) = subst (λ j. IsPlaced 0 (insert_kid j u t.kids)) (sym at.1) (insert_placed 0 (first f) t.kids u refl s (none_is_mask, tt) (omega arith) at.0 h.1) in
+      let mask : IsMask (marked t.mask (first f)) (firsts (insert_child i u t.children)) = (marked_lt t.mask (first f) h.0.0, λ n. bit_at-marked t.mask (first f) n (firsts t.children) low h.0 ∙ sym (bit_of-insert_child i t.children u n)) in
+      let placed : IsPlaced 0 (insert_child i u t.children) = subst (λ j. IsPlaced 0 (insert_child j u t.children)) (sym at.1) (insert_child_placed 0 (first f) t.children u refl s (zero_is_mask, tt) (omega arith) at.0 h.1) in
       record {
-        full = λ g. (elim g.0 [ inl s ↦ inl s | inr m ↦ inr (insert_many i t.kids u (no_many t.kids m)) ], insert_full i t.kids u (inl refl, tt) g.1);
+        full = λ g. (elim g.0 [ inl s ↦ inl s | inr m ↦ inr (insert_child_many i t.children u (no_many t.children m)) ], insert_child_full i t.children u (inl refl, tt) g.1);
         root = record {
           fragment = refl;
-          below = λ g. insert_full i t.kids u (inl refl, tt) g;
+          below = λ g. insert_child_full i t.children u (inl refl, tt) g;
           alters = record {
             start = refl;
             some = λ s. s;
             placed = (mask, placed);
-            swaps = λ q. subst (λ path. Swaps [] (entry path (Some x)) (entries_at q t) (entries_at q (with_new_kid i (first f) u t))) (append_assoc q t.fragment f)
-                (swaps_after (entry (q ++ t.fragment) t.pair) _ _ _ _ (insert_swaps i t.kids u (q ++ t.fragment)));
-            nodes = omega (arith, insert_nodes i t.kids u);
-            nibbles = omega (arith, insert_nibbles i t.kids u);
+            swaps = λ q. subst (λ path. Swaps [] (entry path (Some x)) (entries_at q t) (entries_at q (with_new_child i (first f) u t))) (append_assoc q t.fragment f)
+                (swaps_after (entry (q ++ t.fragment) t.pair) _ _ _ _ (insert_child_swaps i t.children u (q ++ t.fragment)));
+            nodes = omega (arith, nodes_in-insert_child i t.children u);
+            nibbles = omega (arith, nibbles_in-insert_child i t.children u);
           };
         };
       }
 
   -- a node put above
   module _ (t : Tree P) (f g : List ℕ) (cut : t.fragment ≡ f ++ g) (top : f ≢ []) (end : g ≢ []) (low : first g < 16) (h : IsTreePlaced t) where
-    pub lowered_placed : IsTreePlaced (lowered f g t)
-    lowered_placed = ((marked_lt 0 (first g) (omega arith), λ n. marked_is 0 (first g) n [] low none_is_mask), (end, omega arith, h.0, h.1, tt))
+    -- a node put above a placed tree, with the front of its fragment, is placed
+    lowered_placed : IsTreePlaced (lowered f g t)
+    lowered_placed = ((marked_lt 0 (first g) (omega arith), λ n. bit_at-marked 0 (first g) n [] low zero_is_mask), (end, omega arith, h.0, h.1, tt))
 
+    -- a node put above a tree, with the front of its fragment, leaves the entries as they are
     lowered_entries : (q : List ℕ) → entries_at q (lowered f g t) ≡ entries_at q t
     lowered_entries q =
         append-nil _
-        ∙ ap (λ path. entry path t.pair ++ entries_in path t.kids) (append_assoc q f g ∙ ap (λ e. q ++ e) (sym cut))
+        ∙ ap (λ path. entry path t.pair ++ entries_in path t.children) (append_assoc q f g ∙ ap (λ e. q ++ e) (sym cut))
 
+    -- a list that isn't empty has its first nibble with another list behind it too
     same_start : (f g : List ℕ) → f ≢ [] → first f ≡ first (f ++ g)
     same_start [] g n = absurd (n refl)
     same_start (a ∷ f) g n = refl
 
-    parts : length t.fragment ≡ length f + length g
-    parts = ap length cut ∙ length-append f g
+    -- a fragment that is cut is as long as its two parts
+    length-cut : length t.fragment ≡ length f + length g
+    length-cut = ap length cut ∙ length-append f g
 
     -- the pair in the new node
+    -- a pair in a node put above a child writes the entry at the cut, with one node more
     pub split_here : (x : P) → Replaces f x None 1 0 t (with_pair x (lowered f g t))
     split_here x = record {
       full = λ full. (inl refl, (full.0, full.1, tt));
@@ -129,25 +140,26 @@ module _ {P : Type 0} where
         swaps = λ q. subst (λ es. Swaps [] (entry (q ++ f) (Some x)) es (entries_at q (with_pair x (lowered f g t)))) (lowered_entries q)
             ((pair_edits (lowered f g t) x lowered_placed).root.alters.swaps q);
         nodes = omega arith;
-        nibbles = omega (arith, parts);
+        nibbles = omega (arith, length-cut);
       };
     }
 
     -- the pair in a leaf beside
+    -- a pair in a leaf beside a child, below a new node, writes its entry, with two nodes more
     pub split_leaf : (x : P) (r : List ℕ) (i : ℕ) → r ≢ [] → first r < 16 → IsPlaceOf (first r) (first g ∷ []) (Err i) →
-        Replaces (f ++ r) x None 2 (length r) t (with_new_kid i (first r) (leaf r x) (lowered f g t))
+        Replaces (f ++ r) x None 2 (length r) t (with_new_child i (first r) (leaf r x) (lowered f g t))
     split_leaf x r i s small at =
         let e = leaf_edits (lowered f g t) x r i lowered_placed s small at in
         let c = e.root.alters in
         record {
-          full = λ full. (inr (insert_many i (more g t.pair t.mask t.kids none) (leaf r x) (λ z. absurd (let i : more g t.pair t.mask t.kids none ≡ none = z in cc i))), e.root.below (full.0, full.1, tt));
+          full = λ full. (inr (insert_child_many i (more g t.pair t.mask t.children none) (leaf r x) (λ z. absurd (let i : more g t.pair t.mask t.children none ≡ none = z in cc i))), e.root.below (full.0, full.1, tt));
           alters = record {
             start = same_start f g top ∙ ap first (sym cut);
             some = λ s. top;
             placed = c.placed;
-            swaps = λ q. subst (λ es. Swaps [] (entry (q ++ (f ++ r)) (Some x)) es (entries_at q (with_new_kid i (first r) (leaf r x) (lowered f g t)))) (lowered_entries q)
+            swaps = λ q. subst (λ es. Swaps [] (entry (q ++ (f ++ r)) (Some x)) es (entries_at q (with_new_child i (first r) (leaf r x) (lowered f g t)))) (lowered_entries q)
                 (c.swaps q);
             nodes = omega (arith, c.nodes);
-            nibbles = omega (arith, parts, c.nibbles);
+            nibbles = omega (arith, length-cut, c.nibbles);
           };
         }

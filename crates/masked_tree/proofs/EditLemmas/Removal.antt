@@ -5,62 +5,70 @@ use Rattle.std.proofs.lemmas.Bool.Decides.{eqb_tells}
 use Rattle.nibble_map.specs.Trees.{IsFull, first}
 use Rattle.nibble_map.specs.Swaps.{Swaps, entry}
 use Rattle.masked_tree.specs.Mask.{bit_of}
-use Rattle.masked_tree.specs.Tree.{Tree, Kids, none, more, IsAt, plain, firsts, IsPlaced, IsTreePlaced, IsTreeFull, entries_in, entries_at, nodes_in, nibbles_in}
-use Rattle.masked_tree.specs.Edits.{remove_kid, without_pair, without_kid, IsOne, merged_into, merged, empty}
-use Rattle.masked_tree.specs.Alters.{Run, entry_at, all_of, AltersKid, AltersRoot, CutsRoot, PrunesRoot}
-use Rattle.masked_tree.proofs.MaskLemmas.{cleared_is, cleared_lt, bit_before, eqb_other, none_is_mask}
-use Rattle.masked_tree.proofs.TreeLemmas.Children.{swaps_after, placed_rises, at_after}
+use Rattle.masked_tree.specs.Tree.{Tree, Children, none, more, IsAt, plain, firsts, IsPlaced, IsTreePlaced, IsTreeFull, entries_in, entries_at, nodes_in, nibbles_in}
+use Rattle.masked_tree.specs.Edits.{remove_child, without_pair, without_child, IsOne, merged_into, merged, empty}
+use Rattle.masked_tree.specs.Alters.{Run, entry_at, all_of, AltersChild, AltersRoot, CutsRoot, PrunesRoot}
+use Rattle.masked_tree.proofs.MaskLemmas.{bit_at-cleared, cleared_lt, bit_of-before, eqb_other, zero_is_mask}
+use Rattle.masked_tree.proofs.TreeLemmas.Children.{swaps_after, placed_rises, child_begins_from}
 use Rattle.nibble_map.proofs.ListLemmas.Cut.{append-some, first-append}
 
 module _ {P : Type 0} where
-  pub placed_from : (low lower : ℕ) (k : Kids P) → lower ≤ low → IsPlaced low k → IsPlaced lower k
+  -- children placed from a nibble on are placed from each lower one on
+  pub placed_from : (low lower : ℕ) (k : Children P) → lower ≤ low → IsPlaced low k → IsPlaced lower k
   placed_from low lower none l h = tt
-  placed_from low lower (more f o m kids others) l h = (h.0, omega (arith, l, h.1), h.2, h.3, h.4)
+  placed_from low lower (more f o m children others) l h = (h.0, omega (arith, l, h.1), h.2, h.3, h.4)
 
   -- a child goes
-  pub remove_placed : (low i : ℕ) (k : Kids P) → IsPlaced low k → IsPlaced low (remove_kid i k)
-  remove_placed low i none h = tt
-  remove_placed low zero (more f o m kids others) h = placed_from (suc (first f)) low others (omega (arith, h.1)) h.4
-  remove_placed low (suc i) (more f o m kids others) h = (h.0, h.1, h.2, h.3, remove_placed (suc (first f)) i others h.4)
+  -- placed children stay placed when one goes
+  remove_child_placed : (low i : ℕ) (k : Children P) → IsPlaced low k → IsPlaced low (remove_child i k)
+  remove_child_placed low i none h = tt
+  remove_child_placed low zero (more f o m children others) h = placed_from (suc (first f)) low others (omega (arith, h.1)) h.4
+  remove_child_placed low (suc i) (more f o m children others) h = (h.0, h.1, h.2, h.3, remove_child_placed (suc (first f)) i others h.4)
 
-  pub remove_bits : (low i : ℕ) (k : Kids P) (t : Tree P) (n : ℕ) → IsAt i k t → IsPlaced low k → bit_of n (firsts (remove_kid i k)) ≡ cond (first t.fragment == n) 0 (bit_of n (firsts k))
-  remove_bits low i none t n a h = absurd a
-  remove_bits low zero (more f o m kids others) t n a h =
+  -- when a child goes, its first nibble goes and the others' stay
+  bit_of-remove_child : (low i : ℕ) (k : Children P) (t : Tree P) (n : ℕ) → IsAt i k t → IsPlaced low k → bit_of n (firsts (remove_child i k)) ≡ cond (first t.fragment == n) 0 (bit_of n (firsts k))
+  bit_of-remove_child low i none t n a h = absurd a
+  bit_of-remove_child low zero (more f o m children others) t n a h =
       subst (λ (t : Tree P). bit_of n (firsts others) ≡ cond (first t.fragment == n) 0 (bit_of n (first f ∷ firsts others))) (sym a)
       (elim (eqb_tells (first f) n) [
-        | inl e ↦ rw e.0 (bit_before (firsts others) (suc (first f)) n (placed_rises (suc (first f)) others h.4) (omega (arith, e.1)))
+        | inl e ↦ rw e.0 (bit_of-before (firsts others) (suc (first f)) n (placed_rises (suc (first f)) others h.4) (omega (arith, e.1)))
         | inr e ↦ rw e.0 refl
       ])
-  remove_bits low (suc i) (more f o m kids others) t n a h =
-      let l = at_after (suc (first f)) i others t a h.4 in
-      let r = remove_bits (suc (first f)) i others t n a h.4 in
+  bit_of-remove_child low (suc i) (more f o m children others) t n a h =
+      let l = child_begins_from (suc (first f)) i others t a h.4 in
+      let r = bit_of-remove_child (suc (first f)) i others t n a h.4 in
       elim (eqb_tells (first f) n) [
         | inl e ↦ rw (e.0, eqb_other (first t.fragment) n (λ z. omega (arith, z, e.1, l))) refl
         | inr e ↦ rw e.0 r
       ]
 
-  pub remove_full : (i : ℕ) (k : Kids P) → IsFull (plain k) → IsFull (plain (remove_kid i k))
-  remove_full i none h = h
-  remove_full zero (more f o m kids others) h = h.2
-  remove_full (suc i) (more f o m kids others) h = (h.0, h.1, remove_full i others h.2)
+  -- full children stay full when one goes
+  pub remove_child_full : (i : ℕ) (k : Children P) → IsFull (plain k) → IsFull (plain (remove_child i k))
+  remove_child_full i none h = h
+  remove_child_full zero (more f o m children others) h = h.2
+  remove_child_full (suc i) (more f o m children others) h = (h.0, h.1, remove_child_full i others h.2)
 
-  pub remove_swaps : (i : ℕ) (k : Kids P) (t : Tree P) (q : List ℕ) → IsAt i k t → Swaps (entries_at q t) [] (entries_in q k) (entries_in q (remove_kid i k))
-  remove_swaps i none t q a = absurd a
-  remove_swaps zero (more f o m kids others) t q a = record { before = []; after = entries_in q others; was = ap (λ t. entries_at q t ++ entries_in q others) (sym a); is = refl }
-  remove_swaps (suc i) (more f o m kids others) t q a =
-      swaps_after (entry (q ++ f) o ++ entries_in (q ++ f) kids) (entries_at q t) [] _ _ (remove_swaps i others t q a)
+  -- a child that goes takes its entries in one run, and the others' stay
+  remove_child_swaps : (i : ℕ) (k : Children P) (t : Tree P) (q : List ℕ) → IsAt i k t → Swaps (entries_at q t) [] (entries_in q k) (entries_in q (remove_child i k))
+  remove_child_swaps i none t q a = absurd a
+  remove_child_swaps zero (more f o m children others) t q a = record { before = []; after = entries_in q others; was = ap (λ t. entries_at q t ++ entries_in q others) (sym a); is = refl }
+  remove_child_swaps (suc i) (more f o m children others) t q a =
+      swaps_after (entry (q ++ f) o ++ entries_in (q ++ f) children) (entries_at q t) [] _ _ (remove_child_swaps i others t q a)
 
-  pub remove_nodes : (i : ℕ) (k : Kids P) (t : Tree P) → IsAt i k t → nodes_in (remove_kid i k) + suc (nodes_in t.kids) ≡ nodes_in k
-  remove_nodes i none t a = absurd a
-  remove_nodes zero (more f o m kids others) t a = let g = ap (λ (t : Tree P). nodes_in t.kids) a in omega (arith, g)
-  remove_nodes (suc i) (more f o m kids others) t a = omega (arith, remove_nodes i others t a)
+  -- a child that goes takes one node and those below it
+  nodes_in-remove_child : (i : ℕ) (k : Children P) (t : Tree P) → IsAt i k t → nodes_in (remove_child i k) + suc (nodes_in t.children) ≡ nodes_in k
+  nodes_in-remove_child i none t a = absurd a
+  nodes_in-remove_child zero (more f o m children others) t a = let g = ap (λ (t : Tree P). nodes_in t.children) a in omega (arith, g)
+  nodes_in-remove_child (suc i) (more f o m children others) t a = omega (arith, nodes_in-remove_child i others t a)
 
-  pub remove_nibbles : (i : ℕ) (k : Kids P) (t : Tree P) → IsAt i k t → nibbles_in (remove_kid i k) + (length t.fragment + nibbles_in t.kids) ≡ nibbles_in k
-  remove_nibbles i none t a = absurd a
-  remove_nibbles zero (more f o m kids others) t a = let g = ap (λ (t : Tree P). length t.fragment + nibbles_in t.kids) a in omega (arith, g)
-  remove_nibbles (suc i) (more f o m kids others) t a = omega (arith, remove_nibbles i others t a)
+  -- a child that goes takes its fragment's nibbles and those below it
+  nibbles_in-remove_child : (i : ℕ) (k : Children P) (t : Tree P) → IsAt i k t → nibbles_in (remove_child i k) + (length t.fragment + nibbles_in t.children) ≡ nibbles_in k
+  nibbles_in-remove_child i none t a = absurd a
+  nibbles_in-remove_child zero (more f o m children others) t a = let g = ap (λ (t : Tree P). length t.fragment + nibbles_in t.children) a in omega (arith, g)
+  nibbles_in-remove_child (suc i) (more f o m children others) t a = omega (arith, nibbles_in-remove_child i others t a)
 
   -- at the root and below it
+  -- a node's own pair goes: one entry at its path, and no node
   pub pair_goes : (t : Tree P) (x : P) → t.pair ≡ Some x → IsTreePlaced t → CutsRoot t.fragment x 0 0 t (without_pair t)
   pair_goes t x is h = record {
     fragment = refl;
@@ -69,54 +77,55 @@ module _ {P : Type 0} where
       start = refl;
       some = λ s. s;
       placed = h;
-      swaps = λ q. record { before = []; after = entries_in (q ++ t.fragment) t.kids; was = ap (λ o. entry (q ++ t.fragment) o ++ entries_in (q ++ t.fragment) t.kids) is; is = refl };
+      swaps = λ q. record { before = []; after = entries_in (q ++ t.fragment) t.children; was = ap (λ o. entry (q ++ t.fragment) o ++ entries_in (q ++ t.fragment) t.children) is; is = refl };
       nodes = refl;
       nibbles = refl;
     };
   }
 
   -- a child goes, with all below it
-  pub kid_goes : (t u : Tree P) (i y : ℕ) → IsAt i t.kids u → first u.fragment ≡ y → y < 16 → IsTreePlaced t →
-      PrunesRoot t.fragment u (suc (nodes_in u.kids)) (length u.fragment + nibbles_in u.kids) t (without_kid i y t)
-  kid_goes t u i y a start low h = record {
+  pub child_goes : (t u : Tree P) (i y : ℕ) → IsAt i t.children u → first u.fragment ≡ y → y < 16 → IsTreePlaced t →
+      PrunesRoot t.fragment u (suc (nodes_in u.children)) (length u.fragment + nibbles_in u.children) t (without_child i y t)
+  child_goes t u i y a start low h = record {
     fragment = refl;
-    below = λ f. remove_full i t.kids f;
+    below = λ f. remove_child_full i t.children f;
     alters = record {
       start = refl;
       some = λ s. s;
-      placed = ((cleared_lt t.mask y h.0.0, λ n. cleared_is t.mask y n (firsts t.kids) low h.0 ∙ sym (rw (← start) (remove_bits 0 i t.kids u n a h.1))), remove_placed 0 i t.kids h.1);
-      swaps = λ q. swaps_after (entry (q ++ t.fragment) t.pair) _ _ _ _ (remove_swaps i t.kids u (q ++ t.fragment) a);
-      nodes = let e = remove_nodes i t.kids u a in omega (arith, e);
-      nibbles = let e = remove_nibbles i t.kids u a in omega (arith, e);
+      placed = ((cleared_lt t.mask y h.0.0, λ n. bit_at-cleared t.mask y n (firsts t.children) low h.0 ∙ sym (rw (← start) (bit_of-remove_child 0 i t.children u n a h.1))), remove_child_placed 0 i t.children h.1);
+      swaps = λ q. swaps_after (entry (q ++ t.fragment) t.pair) _ _ _ _ (remove_child_swaps i t.children u (q ++ t.fragment) a);
+      nodes = let e = nodes_in-remove_child i t.children u a in omega (arith, e);
+      nibbles = let e = nibbles_in-remove_child i t.children u a in omega (arith, e);
     };
   }
 
   -- all that goes with a leaf is its one entry, its node and its fragment
-  pub leaf_run : (R : Run P → ℕ → ℕ → Type 0) (s : List ℕ) (u : Tree P) (x : P) (n : ℕ) → u.pair ≡ Some x → u.kids ≡ none →
-      R (all_of s u) (n + nodes_in u.kids) (length u.fragment + nibbles_in u.kids) → R (entry_at (s ++ u.fragment) (Some x)) n (length u.fragment)
+  pub leaf_run : (R : Run P → ℕ → ℕ → Type 0) (s : List ℕ) (u : Tree P) (x : P) (n : ℕ) → u.pair ≡ Some x → u.children ≡ none →
+      R (all_of s u) (n + nodes_in u.children) (length u.fragment + nibbles_in u.children) → R (entry_at (s ++ u.fragment) (Some x)) n (length u.fragment)
   leaf_run R s u x n is ends r =
       let run : all_of s u ≡ entry_at (s ++ u.fragment) (Some x) = λ i q. entry_here q i in
-      let nodes : n + nodes_in u.kids ≡ n = (let z = ap nodes_in ends in omega (arith, z)) in
-      let nibbles : length u.fragment + nibbles_in u.kids ≡ length u.fragment = (let z = ap nibbles_in ends in omega (arith, z)) in
+      let nodes : n + nodes_in u.children ≡ n = (let z = ap nodes_in ends in omega (arith, z)) in
+      let nibbles : length u.fragment + nibbles_in u.children ≡ length u.fragment = (let z = ap nibbles_in ends in omega (arith, z)) in
       subst (λ g. R g n (length u.fragment)) run
       (subst (λ k. R (all_of s u) k (length u.fragment)) nodes
-      (subst (λ k. R (all_of s u) (n + nodes_in u.kids) k) nibbles r))
+      (subst (λ k. R (all_of s u) (n + nodes_in u.children) k) nibbles r))
     where
       entry_here : (q : List ℕ) → entries_at (q ++ s) u ≡ (q ++ (s ++ u.fragment), x) ∷ []
       entry_here q =
-          ap (λ o. entry ((q ++ s) ++ u.fragment) o ++ entries_in ((q ++ s) ++ u.fragment) u.kids) is
+          ap (λ o. entry ((q ++ s) ++ u.fragment) o ++ entries_in ((q ++ s) ++ u.fragment) u.children) is
           ∙ ap (λ k. ((q ++ s) ++ u.fragment, x) ∷ entries_in ((q ++ s) ++ u.fragment) k) ends
           ∙ ap (λ p. (p, x) ∷ []) (append_assoc q s u.fragment)
 
   -- all goes from a root
-  pub all_goes : (t : Tree P) → t.fragment ≡ [] → PrunesRoot [] t (nodes_in t.kids) (nibbles_in t.kids) t empty
+  -- with the empty root in its place, a root's nodes, nibbles and entries all go
+  pub all_goes : (t : Tree P) → t.fragment ≡ [] → PrunesRoot [] t (nodes_in t.children) (nibbles_in t.children) t empty
   all_goes t top = record {
     fragment = sym top;
     below = λ f. tt;
     alters = record {
       start = ap first (sym top);
       some = λ s. absurd (s top);
-      placed = (none_is_mask, tt);
+      placed = (zero_is_mask, tt);
       swaps = λ q. record { before = []; after = []; was = ap (λ p. entries_at p t) (sym (append-nil q)) ∙ sym (append-nil (entries_at (q ++ []) t)); is = refl };
       nodes = omega arith;
       nibbles = let e = ap length top in omega (arith, e);
@@ -124,24 +133,25 @@ module _ {P : Type 0} where
   }
 
   -- a change of a root, as that of a child which it leaves full
-  pub root_kid : (gone come : Run P) (n m k l : ℕ) (old new : Tree P) → AltersRoot gone come n m k l old new → (IsTreeFull old → IsTreeFull new) → AltersKid gone come n m k l old new
-  root_kid gone come n m k l old new r full = record { full = full; alters = r.alters }
+  pub root_as_child : (gone come : Run P) (n m k l : ℕ) (old new : Tree P) → AltersRoot gone come n m k l old new → (IsTreeFull old → IsTreeFull new) → AltersChild gone come n m k l old new
+  root_as_child gone come n m k l old new r full = record { full = full; alters = r.alters }
 
   -- and then the only child takes its node's place
-  pub merged_kid : (gone come : Run P) (n m k l : ℕ) (old mid : Tree P) → AltersRoot gone come n m k l old mid → mid.pair ≡ None → IsOne mid.kids → old.fragment ≢ [] →
-      AltersKid gone come n (suc m) k l old (merged mid)
-  merged_kid gone come n m k l old mid r unpaired one top = go mid.kids refl one
+  -- a change that leaves a child with no pair and one child keeps it full, if the two become one
+  pub merged_as_child : (gone come : Run P) (n m k l : ℕ) (old mid : Tree P) → AltersRoot gone come n m k l old mid → mid.pair ≡ None → IsOne mid.children → old.fragment ≢ [] →
+      AltersChild gone come n (suc m) k l old (merged mid)
+  merged_as_child gone come n m k l old mid r unpaired one top = go mid.children refl one
     where
       kept : mid.fragment ≢ []
       kept e = top (sym r.fragment ∙ e)
 
-      go : (ks : Kids P) → mid.kids ≡ ks → IsOne ks → AltersKid gone come n (suc m) k l old (merged_into mid.fragment ks)
+      go : (ks : Children P) → mid.children ≡ ks → IsOne ks → AltersChild gone come n (suc m) k l old (merged_into mid.fragment ks)
       go none e o = absurd o
       go (more g p2 m2 ls (more a b c d others)) e o = absurd o
       go (more g o2 m2 ls none) e o =
           let placed = subst (λ ks. IsPlaced 0 ks) e r.alters.placed.1 in
           let entries : (q : List ℕ) → entries_at q mid ≡ entries_at q (merged_into mid.fragment (more g o2 m2 ls none)) = λ q.
-          ap (λ o. entry (q ++ mid.fragment) o ++ entries_in (q ++ mid.fragment) mid.kids) unpaired
+          ap (λ o. entry (q ++ mid.fragment) o ++ entries_in (q ++ mid.fragment) mid.children) unpaired
           ∙ ap (λ ks. entries_in (q ++ mid.fragment) ks) e
           ∙ append-nil (entry ((q ++ mid.fragment) ++ g) o2 ++ entries_in ((q ++ mid.fragment) ++ g) ls)
           ∙ ap (λ path. entry path o2 ++ entries_in path ls) (append_assoc q mid.fragment g) in

@@ -8,8 +8,8 @@ use Rattle.nibble_map.specs.Trees.{first, along}
 use Rattle.nibble_map.proofs.ListLemmas.Cut.{cons_head, cons_tail}
 
 -- one nibble less of both
-less : (a b : ℕ) (f r : List ℕ) (n c : ℕ) → Agrees (a ∷ f) (b ∷ r) (suc n) (suc c) → Agrees f r n c
-less a b f r n c h = record {
+agrees_tails : (a b : ℕ) (f r : List ℕ) (n c : ℕ) → Agrees (a ∷ f) (b ∷ r) (suc n) (suc c) → Agrees f r n c
+agrees_tails a b f r n c h = record {
   within = omega (arith, h.within);
   inside = omega (arith, h.inside);
   alike = cons_tail h.alike;
@@ -18,6 +18,7 @@ less a b f r n c h = record {
   parted = λ l k. (let i = h.parted (omega (arith, l)) (omega (arith, k)) in omega (arith, i));
 }
 
+-- where the first nibbles agree, at least one nibble is compared
 one_more : (a b : ℕ) (f r : List ℕ) (n c : ℕ) → Agrees (a ∷ f) (b ∷ r) (suc n) c → 0 < c
 one_more a b f r n c h = elim (cases (suc n) (suc (length f)) (suc (length r)) h.within h.inside) [
   | inl e ↦ omega (arith, h.ended e)
@@ -37,13 +38,15 @@ one_more a b f r n c h = elim (cases (suc n) (suc (length f)) (suc (length r)) h
         ]
 
 -- the whole fragment begins the list
-pub agrees_whole : (f r : List ℕ) (n c : ℕ) → Agrees f r n c → n ≡ length f → f ++ drop n r ≡ r
-agrees_whole f r n c h e =
+-- where the whole fragment agrees, the list is the fragment and what is left of the list
+pub append_drop-whole_fragment : (f r : List ℕ) (n c : ℕ) → Agrees f r n c → n ≡ length f → f ++ drop n r ≡ r
+append_drop-whole_fragment f r n c h e =
     ap (λ g. g ++ drop n r) (sym (take-length f) ∙ ap (λ k. take k f) (sym e) ∙ h.alike) ∙ take-append-drop n r
 
 -- the list ends within the fragment
-pub agrees_ends : (f r : List ℕ) (n c : ℕ) → Agrees f r n c → n ≡ length r → r ++ drop n f ≡ f
-agrees_ends f r n c h e =
+-- where the whole list agrees, the fragment is the list and what is left of the fragment
+pub append_drop-whole_list : (f r : List ℕ) (n c : ℕ) → Agrees f r n c → n ≡ length r → r ++ drop n f ≡ f
+append_drop-whole_list f r n c h e =
     ap (λ g. g ++ drop n f) (sym (take-length r) ∙ ap (λ k. take k r) (sym e) ∙ sym h.alike) ∙ take-append-drop n f
 
 -- lists that begin alike agree somewhere
@@ -54,30 +57,32 @@ agrees_some (a ∷ f) (b ∷ r) zero c h s k e = absurd (h.apart (omega arith) (
 agrees_some (a ∷ f) (b ∷ r) (suc n) c h s k e = omega arith
 
 -- a fragment that goes on doesn't begin the list
-pub agrees_off : (f r : List ℕ) (n c : ℕ) → Agrees f r n c → n < length f → IsPrefix f r → ⊥
-agrees_off [] r n c h l p = omega (arith, l)
-agrees_off (a ∷ f) [] n c h l p = (let e : [] ≡ a ∷ (f ++ p.0) = p.1 in cc e)
-agrees_off (a ∷ f) (b ∷ r) zero c h l p = h.apart l (omega arith) (sym (cons_head p.1))
-agrees_off (a ∷ f) (b ∷ r) (suc n) zero h l p = omega (arith, one_more a b f r n zero h)
-agrees_off (a ∷ f) (b ∷ r) (suc n) (suc c) h l p = agrees_off f r n c (less a b f r n c h) (omega (arith, l)) (p.0, cons_tail p.1)
+pub agrees_not_prefix : (f r : List ℕ) (n c : ℕ) → Agrees f r n c → n < length f → IsPrefix f r → ⊥
+agrees_not_prefix [] r n c h l p = omega (arith, l)
+agrees_not_prefix (a ∷ f) [] n c h l p = (let e : [] ≡ a ∷ (f ++ p.0) = p.1 in cc e)
+agrees_not_prefix (a ∷ f) (b ∷ r) zero c h l p = h.apart l (omega arith) (sym (cons_head p.1))
+agrees_not_prefix (a ∷ f) (b ∷ r) (suc n) zero h l p = omega (arith, one_more a b f r n zero h)
+agrees_not_prefix (a ∷ f) (b ∷ r) (suc n) (suc c) h l p = agrees_not_prefix f r n c (agrees_tails a b f r n c h) (omega (arith, l)) (p.0, cons_tail p.1)
 
 -- the count along a fragment
-pub agrees_along : (f r : List ℕ) (n c : ℕ) (g : List ℕ → ℕ) → Agrees f r n c → n ≡ length f → along f r g ≡ c + g (drop n r)
-agrees_along [] r n c g h e = let i = h.ended (inl e) in subst (λ n. g r ≡ c + g (drop n r)) (sym e) (omega (arith, i, e))
-agrees_along (a ∷ f) [] n c g h e = absurd (omega (arith, h.inside, e))
-agrees_along (a ∷ f) (b ∷ r) zero c g h e = absurd (omega (arith, e))
-agrees_along (a ∷ f) (b ∷ r) (suc n) zero g h e = absurd (omega (arith, one_more a b f r n zero h))
-agrees_along (a ∷ f) (b ∷ r) (suc n) (suc c) g h e =
-    rw (eq-eqb a b (cons_head h.alike)) (let i = agrees_along f r n c g (less a b f r n c h) (omega (arith, e)) in omega (arith, i))
+-- along a fragment that agrees as a whole, its count is compared, then what is left of the list
+pub along-whole_fragment : (f r : List ℕ) (n c : ℕ) (g : List ℕ → ℕ) → Agrees f r n c → n ≡ length f → along f r g ≡ c + g (drop n r)
+along-whole_fragment [] r n c g h e = let i = h.ended (inl e) in subst (λ n. g r ≡ c + g (drop n r)) (sym e) (omega (arith, i, e))
+along-whole_fragment (a ∷ f) [] n c g h e = absurd (omega (arith, h.inside, e))
+along-whole_fragment (a ∷ f) (b ∷ r) zero c g h e = absurd (omega (arith, e))
+along-whole_fragment (a ∷ f) (b ∷ r) (suc n) zero g h e = absurd (omega (arith, one_more a b f r n zero h))
+along-whole_fragment (a ∷ f) (b ∷ r) (suc n) (suc c) g h e =
+    rw (eq-eqb a b (cons_head h.alike)) (let i = along-whole_fragment f r n c g (agrees_tails a b f r n c h) (omega (arith, e)) in omega (arith, i))
 
-pub agrees_short : (f r : List ℕ) (n c : ℕ) (g : List ℕ → ℕ) → Agrees f r n c → n < length f → along f r g ≡ c
-agrees_short [] r n c g h l = absurd (omega (arith, l))
-agrees_short (a ∷ f) [] zero c g h l = sym (h.ended (inr refl))
-agrees_short (a ∷ f) [] (suc n) c g h l = absurd (omega (arith, h.inside))
-agrees_short (a ∷ f) (b ∷ r) zero c g h l = rw (ne_eqb a b (h.apart l (omega arith))) (omega (arith, h.parted l (omega arith)))
-agrees_short (a ∷ f) (b ∷ r) (suc n) zero g h l = absurd (omega (arith, one_more a b f r n zero h))
-agrees_short (a ∷ f) (b ∷ r) (suc n) (suc c) g h l =
-    rw (eq-eqb a b (cons_head h.alike)) (ap suc (agrees_short f r n c g (less a b f r n c h) (omega (arith, l))))
+-- along a fragment that doesn't agree as a whole, the count of the agreement is compared
+pub along-part_fragment : (f r : List ℕ) (n c : ℕ) (g : List ℕ → ℕ) → Agrees f r n c → n < length f → along f r g ≡ c
+along-part_fragment [] r n c g h l = absurd (omega (arith, l))
+along-part_fragment (a ∷ f) [] zero c g h l = sym (h.ended (inr refl))
+along-part_fragment (a ∷ f) [] (suc n) c g h l = absurd (omega (arith, h.inside))
+along-part_fragment (a ∷ f) (b ∷ r) zero c g h l = rw (ne_eqb a b (h.apart l (omega arith))) (omega (arith, h.parted l (omega arith)))
+along-part_fragment (a ∷ f) (b ∷ r) (suc n) zero g h l = absurd (omega (arith, one_more a b f r n zero h))
+along-part_fragment (a ∷ f) (b ∷ r) (suc n) (suc c) g h l =
+    rw (eq-eqb a b (cons_head h.alike)) (ap suc (along-part_fragment f r n c g (agrees_tails a b f r n c h) (omega (arith, l))))
 
 -- lists that part don't begin one list
 pub agrees_part : (f r : List ℕ) (n c : ℕ) (y z : List ℕ) → Agrees f r n c → n < length f → n < length r → f ++ y ≡ r ++ z → ⊥
@@ -85,4 +90,4 @@ agrees_part [] r n c y z h l m e = omega (arith, l)
 agrees_part (a ∷ f) [] n c y z h l m e = omega (arith, m)
 agrees_part (a ∷ f) (b ∷ r) zero c y z h l m e = h.apart l m (cons_head e)
 agrees_part (a ∷ f) (b ∷ r) (suc n) zero y z h l m e = omega (arith, one_more a b f r n zero h)
-agrees_part (a ∷ f) (b ∷ r) (suc n) (suc c) y z h l m e = agrees_part f r n c y z (less a b f r n c h) (omega (arith, l)) (omega (arith, m)) (cons_tail e)
+agrees_part (a ∷ f) (b ∷ r) (suc n) (suc c) y z h l m e = agrees_part f r n c y z (agrees_tails a b f r n c h) (omega (arith, l)) (omega (arith, m)) (cons_tail e)

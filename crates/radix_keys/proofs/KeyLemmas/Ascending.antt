@@ -14,12 +14,14 @@ use Rattle.radix_keys.proofs.KeyLemmas.Order.{three_ways, unsigned_order}
 use mir.Val.{bits, hbits}
 
 -- the highest bit of a byte
+-- a byte below 128 is 128 more with its highest bit turned
 turned_low : (x : ℕ) → x < 128 → bit_xor x 128 ≡ x + 128
 turned_low x lt =
     let a : bit_and x 128 ≡ x / 128 % 2 * 128 = and_pow x 7 in
     let b = xor_add_and x 128 in
     omega (arith, a, b, lt)
 
+-- a byte from 128 on is 128 less with its highest bit turned
 turned_high : (x : ℕ) → x < 128 → bit_xor (x + 128) 128 ≡ x
 turned_high x lt =
     let a : bit_and (x + 128) 128 ≡ (x + 128) / 128 % 2 * 128 = and_pow (x + 128) 7 in
@@ -45,35 +47,42 @@ bytes_same (suc k) m n e =
     λ i. head i ∷ rest i
 
 module _ (k n : ℕ) (small : n < 128 * 256 ^ k) where
+  -- what the highest byte counts for
   P : ℕ
   P = 256 ^ k
 
-  high : n / 256 ^ k < 128
-  high = elim (three_ways (n / 256 ^ k) 128) [
+  -- a number in the lower half has a highest byte below 128
+  high_digit_small : n / 256 ^ k < 128
+  high_digit_small = elim (three_ways (n / 256 ^ k) 128) [
     | inl lt ↦ lt
     | inr (inl same) ↦ let m = div-mul-le_self n (256 ^ k) in let e = ap (λ t. t * 256 ^ k) same in absurd (omega (arith, m, e))
     | inr (inr gt) ↦ let m = div-mul-le_self n (256 ^ k) in let l : suc 128 * 256 ^ k ≤ n / 256 ^ k * 256 ^ k = mul-le-mul_right (256 ^ k) gt in absurd (omega (arith, m, l, suc-mul 128 (256 ^ k)))
   ]
 
+  -- the highest byte of a number in the lower half is its quotient by what that byte counts for
   low_byte : byte_at k n ≡ n / 256 ^ k
-  low_byte = byte_at-is k n ∙ (let h = high in omega (arith, h))
+  low_byte = byte_at-is k n ∙ (let h = high_digit_small in omega (arith, h))
 
+  -- moved to the upper half, a number has a highest byte 128 higher
   high_byte : byte_at k (n + 128 * 256 ^ k) ≡ n / 256 ^ k + 128
-  high_byte = byte_at-is k (n + 128 * 256 ^ k) ∙ ap (λ t. t % 256) (add-mul-div_right n 128 {z = 256 ^ k} (pow-256-pos k)) ∙ (let h = high in omega (arith, h))
+  high_byte = byte_at-is k (n + 128 * 256 ^ k) ∙ ap (λ t. t % 256) (add-mul-div_right n 128 {z = 256 ^ k} (pow-256-pos k)) ∙ (let h = high_digit_small in omega (arith, h))
 
-  rest : bytes_high_first k (n + 128 * 256 ^ k) ≡ bytes_high_first k n
-  rest = bytes_same k (n + 128 * 256 ^ k) n (add-mul-mod_self_right n 128 (256 ^ k))
+  -- moved to the upper half, a number has the same lower bytes
+  lower_bytes_same : bytes_high_first k (n + 128 * 256 ^ k) ≡ bytes_high_first k n
+  lower_bytes_same = bytes_same k (n + 128 * 256 ^ k) n (add-mul-mod_self_right n 128 (256 ^ k))
 
+  -- the bytes of a number in the lower half, turned over, are those of it in the upper half
   turned_up : turned_bytes (bytes_high_first (suc k) n) ≡ bytes_high_first (suc k) (n + 128 * 256 ^ k)
   turned_up =
-      let head = ap (λ b. bit_xor b 128) low_byte ∙ turned_low (n / 256 ^ k) high ∙ sym high_byte in
-      let tail = sym rest in
+      let head = ap (λ b. bit_xor b 128) low_byte ∙ turned_low (n / 256 ^ k) high_digit_small ∙ sym high_byte in
+      let tail = sym lower_bytes_same in
       λ i. head i ∷ tail i
 
+  -- the bytes of a number in the upper half, turned over, are those of it in the lower half
   turned_down : turned_bytes (bytes_high_first (suc k) (n + 128 * 256 ^ k)) ≡ bytes_high_first (suc k) n
   turned_down =
-      let head = ap (λ b. bit_xor b 128) high_byte ∙ turned_high (n / 256 ^ k) high ∙ sym low_byte in
-      let tail = rest in
+      let head = ap (λ b. bit_xor b 128) high_byte ∙ turned_high (n / 256 ^ k) high_digit_small ∙ sym low_byte in
+      let tail = lower_bytes_same in
       λ i. head i ∷ tail i
 
 -- a number's place among all of so many bits, the least first
@@ -81,6 +90,7 @@ offset : Width → ℤ → ℕ
 offset w (pos m) = m + 2 ^ hbits w
 offset w (negsuc m) = 2 ^ hbits w - suc m
 
+-- of a width with k + 1 bytes: its bounds, and half of them, in powers of 256
 record Parts (w : Width) : Type 0 where
   k : ℕ
   len : byte_len w ≡ suc k
@@ -88,6 +98,7 @@ record Parts (w : Width) : Type 0 where
   whole : 2 ^ bits w ≡ 2 * 2 ^ hbits w
   bytes : 256 ^ byte_len w ≡ 2 * 2 ^ hbits w
 
+-- the parts of each width
 parts : (w : Width) → Parts w
 parts w8 = record { k = 0; len = refl; half = refl; whole = refl; bytes = refl }
 parts w16 = record { k = 1; len = refl; half = refl; whole = refl; bytes = refl }
@@ -95,6 +106,7 @@ parts w32 = record { k = 3; len = refl; half = refl; whole = refl; bytes = refl 
 parts w64 = record { k = 7; len = refl; half = refl; whole = refl; bytes = refl }
 parts w128 = record { k = 15; len = refl; half = refl; whole = refl; bytes = refl }
 
+-- a signed number's bytes, turned over, are those of its place among all
 offset_bytes : (w : Width) (z : ℤ) → FitsSigned w z → turned_bytes (signed_bytes w z) ≡ to_be_bytes w (offset w z)
 unfolding offset
 offset_bytes w (pos m) p =
@@ -110,6 +122,7 @@ offset_bytes w (negsuc m) p =
     subst (λ l. turned_bytes (bytes_high_first l (cast_unsigned w (negsuc m))) ≡ bytes_high_first l n) (sym s.len)
     (ap (λ c. turned_bytes (bytes_high_first (suc s.k) c)) cast ∙ down)
 
+-- the lesser of two signed numbers has the lesser place
 offset_order : (w : Width) (a b : ℤ) → FitsSigned w a → FitsSigned w b → a <ℤ b → offset w a < offset w b
 unfolding offset
 offset_order w (pos m) (pos n) p q h = omega (arith, ltb_yes h.lt)
@@ -117,12 +130,14 @@ offset_order w (pos m) (negsuc n) p q h = absurd h.lt
 offset_order w (negsuc m) (pos n) p q h = omega (arith, p.sfits)
 offset_order w (negsuc m) (negsuc n) p q h = omega (arith, ltb_yes h.lt, p.sfits, q.sfits)
 
+-- a signed number's place is within the unsigned bounds
 offset_within : (w : Width) (z : ℤ) → FitsSigned w z → offset w z < 256 ^ byte_len w
 unfolding offset
 offset_within w (pos m) p = let s = parts w in omega (arith, p.sfits, s.bytes)
 offset_within w (negsuc m) p = let s = parts w in omega (arith, p.sfits, s.bytes)
 
-pub ascending_order : (w : Width) → KeepsAscendingOrder w
+-- ascending encodings are in the order of the signed numbers
+ascending_order : (w : Width) → KeepsAscendingOrder w
 ascending_order w = record {
   precedes = λ a b p q h.
       (let keyed = (unsigned_order w).precedes (offset w a) (offset w b) (offset_order w a b p q h) (offset_within w b q) in
@@ -131,6 +146,7 @@ ascending_order w = record {
 }
 
 -- the same of keys, by their bytes and their numbers
+-- keys that are read as signed numbers have ascending encodings in the numbers' order
 pub keys_rise : {X : Type 0} (w : Width) (bytes : X → List ℕ) (number : X → ℤ) (ok : X → Type 0) → ((x : X) → ok x → FitsSigned w (number x)) → ((x : X) → ok x → bytes x ≡ signed_bytes w (number x))
     → (x y : X) → ok x → ok y → number x <ℤ number y → Precedes (nibbles (turned_bytes (bytes x))) (nibbles (turned_bytes (bytes y)))
 keys_rise w bytes number ok within two x y p q h =

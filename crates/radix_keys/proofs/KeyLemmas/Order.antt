@@ -11,6 +11,7 @@ use Rattle.radix_keys.specs.Order.{Precedes, SignedPrecedes, KeepsByteOrder, Kee
 use mir.Val.{bits, hbits}
 
 -- which of two numbers is the greater
+-- of two numbers one is the lesser, or they are equal
 pub three_ways : (x y : ℕ) → (x < y) ⊎ ((x ≡ y) ⊎ (y < x))
 three_ways zero zero = inr (inl refl)
 three_ways zero (suc y) = inl (omega arith)
@@ -21,12 +22,15 @@ three_ways (suc x) (suc y) = elim (three_ways x y) [
   | inr (inr gt) ↦ inr (inr (omega arith))
 ]
 
+-- a list with a lesser first item comes first
 before-head : (x y : ℕ) (xs ys : List ℕ) → x < y → Precedes (x ∷ xs) (y ∷ ys)
 before-head x y xs ys lt = rw (sym (nat_cmp_is x y Less lt)) refl
 
+-- of two lists with equal first items, that comes first whose rest does
 before-tail : (x y : ℕ) (xs ys : List ℕ) → x ≡ y → Precedes xs ys → Precedes (x ∷ xs) (y ∷ ys)
 before-tail x y xs ys e lt = rw (sym (nat_cmp_is x y Equal e)) lt
 
+-- of two lists of bytes, that comes first in nibbles which comes first in bytes
 nibbles_order : (xs ys : List ℕ) → Precedes xs ys → Precedes (nibbles xs) (nibbles ys)
 nibbles_order [] [] h = cc
 nibbles_order [] (y ∷ ys) h = refl
@@ -48,47 +52,53 @@ nibbles_order (x ∷ xs) (y ∷ ys) h =
     ]
 
 -- two numbers in base P differ first in the high digit, or in what is below it
-digits : (P a b r s : ℕ) → r < P → s < P → a * P + r < b * P + s → (a < b) ⊎ ((a ≡ b) × (r < s))
-digits P a b r s p q h = elim (three_ways a b) [
+digits_order : (P a b r s : ℕ) → r < P → s < P → a * P + r < b * P + s → (a < b) ⊎ ((a ≡ b) × (r < s))
+digits_order P a b r s p q h = elim (three_ways a b) [
   | inl lt ↦ inl lt
   | inr (inl same) ↦ let e = ap (λ t. t * P) same in inr (same, omega arith)
   | inr (inr gt) ↦ let m : suc b * P ≤ a * P = mul-le-mul_right P gt in absurd (omega (arith, m, suc-mul b P))
 ]
 
+-- of two numbers below 256 ^ k, the lesser one's k bytes come first
 bytes_order : (k m n : ℕ) → m % 256 ^ k < n % 256 ^ k → Precedes (bytes_high_first k m) (bytes_high_first k n)
 bytes_order zero m n h = absurd (omega arith)
 bytes_order (suc k) m n h =
-    elim (digits (256 ^ k) (byte_at k m) (byte_at k n) (m % 256 ^ k) (n % 256 ^ k) (mod-lt m (pow-256-pos k)) (mod-lt n (pow-256-pos k))
+    elim (digits_order (256 ^ k) (byte_at k m) (byte_at k n) (m % 256 ^ k) (n % 256 ^ k) (mod-lt m (pow-256-pos k)) (mod-lt n (pow-256-pos k))
     (omega (arith, digits-suc k m, digits-suc k n))) [
       | inl lt ↦ before-head (byte_at k m) (byte_at k n) (bytes_high_first k m) (bytes_high_first k n) lt
       | inr p ↦ before-tail (byte_at k m) (byte_at k n) (bytes_high_first k m) (bytes_high_first k n) p.0 (bytes_order k m n p.1)
     ]
 
+-- the encodings of byte lists are in the order of the lists
 pub byte_order : KeepsByteOrder
 byte_order = record { precedes = nibbles_order }
 
+-- of two numbers within the bounds, the lesser one's encoding comes first
 number_order : (w : Width) (m n : ℕ) → m < n → n < 256 ^ byte_len w → Precedes (unsigned_key w m) (unsigned_key w n)
 number_order w m n lt below =
     nibbles_order (to_be_bytes w m) (to_be_bytes w n) (bytes_order (byte_len w) m n
     (omega (arith, mod-eq_of_lt {n = m} {m = 256 ^ byte_len w} (omega arith), mod-eq_of_lt {n = n} {m = 256 ^ byte_len w} below)))
 
+-- the encodings of unsigned numbers are in the order of the numbers
 pub unsigned_order : (w : Width) → KeepsUnsignedOrder w
 unsigned_order w = record { precedes = number_order w }
 
 -- the bounds of a signed number are half of those of an unsigned one
-halves : (w : Width) → 2 * 2 ^ hbits w ≤ 2 ^ bits w
-halves w8 = lit≤ tt
-halves w16 = lit≤ tt
-halves w32 = lit≤ tt
-halves w64 = lit≤ tt
-halves w128 = lit≤ tt
+half_bounds : (w : Width) → 2 * 2 ^ hbits w ≤ 2 ^ bits w
+half_bounds w8 = lit≤ tt
+half_bounds w16 = lit≤ tt
+half_bounds w32 = lit≤ tt
+half_bounds w64 = lit≤ tt
+half_bounds w128 = lit≤ tt
 
+-- in two's complement, signed numbers are in the order of signed keys
 cast_order : (w : Width) (x y : ℤ) → FitsSigned w x → FitsSigned w y → SignedPrecedes x y → cast_unsigned w x < cast_unsigned w y
 cast_order w (pos m) (pos n) p q h = h
-cast_order w (pos m) (negsuc n) p q h = omega (arith, halves w, p.sfits, q.sfits)
+cast_order w (pos m) (negsuc n) p q h = omega (arith, half_bounds w, p.sfits, q.sfits)
 cast_order w (negsuc m) (pos n) p q h = absurd h
-cast_order w (negsuc m) (negsuc n) p q h = omega (arith, halves w, p.sfits, q.sfits)
+cast_order w (negsuc m) (negsuc n) p q h = omega (arith, half_bounds w, p.sfits, q.sfits)
 
+-- the bytes of a width hold as many numbers as its bits
 whole_bytes : (w : Width) → 256 ^ byte_len w ≡ 2 ^ bits w
 whole_bytes w8 = refl
 whole_bytes w16 = refl
@@ -96,6 +106,7 @@ whole_bytes w32 = refl
 whole_bytes w64 = refl
 whole_bytes w128 = refl
 
+-- the encodings of signed numbers rise from 0 up, and then from the least up
 pub signed_order : (w : Width) → KeepsSignedOrder w
 signed_order w = record {
   precedes = λ x y p q h. number_order w (cast_unsigned w x) (cast_unsigned w y) (cast_order w x y p q h) (cast_unsigned-below w y (whole_bytes w) q);

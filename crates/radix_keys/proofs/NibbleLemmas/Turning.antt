@@ -27,12 +27,14 @@ set-turned : (bs : List ℕ) → set bs 0 (bit_xor (get_or bs 0 0) 128) ≡ turn
 set-turned [] = refl
 set-turned (b ∷ bs) = refl
 
+-- the front of a turned list is the front of the list, turned
 take-turned : (n : ℕ) (xs : List ℕ) → take n (turned xs) ≡ turned (take n xs)
 take-turned zero xs = refl
 take-turned (suc n) [] = refl
 take-turned (suc n) (x ∷ xs) = refl
 
 -- the same of a packed list
+-- bytes with their highest bit turned hold the packed list turned over
 packed-turned : (bs : List ℕ) (odd : Bool) → unpacked (turned_bytes bs) odd ≡ turned (unpacked bs odd)
 packed-turned bs false = nibbles-turned bs
 packed-turned bs true =
@@ -40,6 +42,7 @@ packed-turned bs true =
     ∙ ap (λ n. take (n - 1) (turned (nibbles bs))) (length-turned (nibbles bs))
     ∙ take-turned (length (nibbles bs) - 1) (nibbles bs)
 
+-- a packed list whose first byte is written with its highest bit turned is turned over
 pub unpacked-turned : (bs : List ℕ) (odd : Bool)
     → unpacked (refill (length bs) bs (set bs 0 (bit_xor (get_or bs 0 0) 128))) odd ≡ turned (unpacked bs odd)
 unpacked-turned bs odd =

@@ -4,159 +4,184 @@ use Rattle.std.specs.declared.boxed.Box.{Box}
 use Rattle.std.specs.declared.alloc.Global.{Global}
 use Rattle.std.specs.Vec.{with_item}
 use Rattle.masked_tree.specs.Agreement.{Agrees}
-use Rattle.masked_tree.specs.Tree.{Tree, Kids, none, more, IsAt, IsTreePlaced, IsTreeFull, nodes_in, nibbles_in}
-use Rattle.masked_tree.specs.Edits.{IsOne, remove_kid, without_kid, merged}
+use Rattle.masked_tree.specs.Tree.{Tree, Children, none, more, IsAt, IsTreePlaced, IsTreeFull, nodes_in, nibbles_in}
+use Rattle.masked_tree.specs.Edits.{IsOne, remove_child, without_child, merged}
 use Rattle.masked_tree.specs.Paths.{IsPath}
 use Rattle.nibble_map.specs.Lists.{IsPrefix}
 use Rattle.nibble_map.specs.Trees.{first}
-use Rattle.masked_tree.proofs.TreeLemmas.Sizes.{fewer_nodes, fewer_pairs, pairs_count}
+use Rattle.masked_tree.proofs.TreeLemmas.Sizes.{fewer_nodes, no_more_pairs, length-entries_at}
 use Rattle.masked_tree.specs.Alters.{Prunes, PrunesRoot, AltersNode, all_of, none_of}
-use Rattle.masked_tree.proofs.EditLemmas.Removal.{kid_goes, merged_kid, root_kid}
-use Rattle.masked_tree.proofs.EditLemmas.Insertion.{kid_pruned, node_kid}
+use Rattle.masked_tree.proofs.EditLemmas.Removal.{child_goes, merged_as_child, root_as_child}
+use Rattle.masked_tree.proofs.EditLemmas.Insertion.{child_pruned, node_as_child}
 use Rattle.radix_keys.specs.declared.nibbles.Memory.{Memory}
 use Rattle.radix_nodes.specs.declared.trie_node.KeyValue.{KeyValue}
 use Rattle.radix_nodes.specs.declared.trie_node.TrieNode.{TrieNode, out-TrieNode, roll-TrieNode}
 use Rattle.radix_nodes.specs.declared.traversal.compare.Agreement.{Agreement}
 use Rattle.radix_nodes.specs.Nodes.{tree_of, fragment_of, IsMet}
-use Rattle.radix_nodes.proofs.NodeLemmas.Nodes.{fragment_out}
-use Rattle.radix_nodes.proofs.EditLemmas.Insertion.{is_at}
-use Rattle.radix_nodes.proofs.EditLemmas.Removal.{kid_new, kid_kept}
-use Rattle.masked_tree.proofs.PathLemmas.Agreement.{agrees_ends}
-use Rattle.masked_tree.proofs.PathLemmas.Paths.{kid_down}
+use Rattle.radix_nodes.proofs.NodeLemmas.Nodes.{fragment-tree_of}
+use Rattle.radix_nodes.proofs.EditLemmas.Insertion.{box_is_child}
+use Rattle.radix_nodes.proofs.EditLemmas.Removal.{tree_of-with_child, tree_of-same_child}
+use Rattle.masked_tree.proofs.PathLemmas.Agreement.{append_drop-whole_list}
+use Rattle.masked_tree.proofs.PathLemmas.Paths.{node_from_child}
 use Rattle.std.proofs.lemmas.List.{length-drop}
-use Rattle.radix_nodes.proofs.SearchLemmas.{met_down, met_inside, nearest_up, nearest_inside, nearest_free, met_whole}
+use Rattle.radix_nodes.proofs.SearchLemmas.Compared.{met_down, met_inside, append-met_rest}
+use Rattle.radix_nodes.proofs.SearchLemmas.Nearest.{nearest_through_child, nearest_inside, none_through_child}
 use Rattle.radix_nodes.specs.declared.traversal.prune.Pruned.{Pruned}
 use Rattle.radix_nodes.specs.Prunes.{IsSmall, IsBranch, PruneOutcome, PruneRootOutcome}
 
 -- what stands at a place
+-- for each place within a list there is an item that stands there, as `get_or` gives it
 pub item_at : {A : Type 0} (xs : List A) (i : ℕ) → i < length xs → (b : A) × (get_or xs i b ≡ b)
 item_at [] i l = absurd (omega (arith, l))
 item_at (x ∷ xs) zero l = (x, refl)
 item_at (x ∷ xs) (suc i) l = item_at xs i (omega (arith, l))
 
 module _ {P : Type 0} where
-  nibbles_at : (i : ℕ) (k : Kids P) (c : Tree P) → IsAt i k c → length c.fragment + nibbles_in c.kids ≤ nibbles_in k
+  -- a child and what is below it have at most as many nibbles as all the children
+  nibbles_at : (i : ℕ) (k : Children P) (c : Tree P) → IsAt i k c → length c.fragment + nibbles_in c.children ≤ nibbles_in k
   nibbles_at i none c a = absurd a
-  nibbles_at zero (more f o m kids others) c a = let e = ap (λ (t : Tree P). length t.fragment + nibbles_in t.kids) a in omega (arith, e)
-  nibbles_at (suc i) (more f o m kids others) c a = omega (arith, nibbles_at i others c a)
+  nibbles_at zero (more f o m children others) c a = let e = ap (λ (t : Tree P). length t.fragment + nibbles_in t.children) a in omega (arith, e)
+  nibbles_at (suc i) (more f o m children others) c a = omega (arith, nibbles_at i others c a)
 
   -- what a child holds can be counted too
-  pub small_kid : (t u : Tree P) (i : ℕ) → IsAt i t.kids u → IsSmall t → IsSmall u
-  small_kid t u i a s = record {
-    pairs = let p = fewer_pairs i t.kids u a in let q = pairs_count [] t in omega (arith, p, q, s.pairs);
-    nodes = let n = fewer_nodes i t.kids u a in omega (arith, n, s.nodes);
-    nibbles = let n = nibbles_at i t.kids u a in omega (arith, n, s.nibbles);
+  pub child_is_small : (t u : Tree P) (i : ℕ) → IsAt i t.children u → IsSmall t → IsSmall u
+  child_is_small t u i a s = record {
+    pairs = let p = no_more_pairs i t.children u a in let q = length-entries_at [] t in omega (arith, p, q, s.pairs);
+    nodes = let n = fewer_nodes i t.children u a in omega (arith, n, s.nodes);
+    nibbles = let n = nibbles_at i t.children u a in omega (arith, n, s.nibbles);
   }
 
 module _ {K V : Type 0} where
   -- a child goes, from a node that stays full or is merged with the one that is left
-  module _ (n leaf : TrieNode K V) (i : ℕ) (h : IsTreePlaced (tree_of n)) (at : IsAt i (tree_of n).kids (tree_of leaf)) (low : first (tree_of leaf).fragment < 16) where
+  module _ (n leaf : TrieNode K V) (i : ℕ) (h : IsTreePlaced (tree_of n)) (at : IsAt i (tree_of n).children (tree_of leaf)) (low : first (tree_of leaf).fragment < 16) where
+    -- the nibble that the child begins with
     abbrev y : ℕ
     y = first (tree_of leaf).fragment
 
+    -- how many nodes are below the child
     abbrev gone : ℕ
-    gone = nodes_in (tree_of leaf).kids
+    gone = nodes_in (tree_of leaf).children
 
+    -- how many nibbles the child and the nodes below it have
     abbrev lost : ℕ
-    lost = length (tree_of leaf).fragment + nibbles_in (tree_of leaf).kids
+    lost = length (tree_of leaf).fragment + nibbles_in (tree_of leaf).children
 
+    -- the child and the nodes below it, as a sum
     one_more : suc gone ≡ 1 + gone
     one_more = omega arith
 
+    -- the child, the nodes below it and one node more, as a sum
     two_more : suc (suc gone) ≡ 2 + gone
     two_more = omega arith
 
-    goes : PrunesRoot (tree_of n).fragment (tree_of leaf) (suc gone) lost (tree_of n) (without_kid i y (tree_of n))
-    goes = kid_goes (tree_of n) (tree_of leaf) i y at refl low h
+    -- the child goes from the node with all below it, where the node is seen as a root
+    branch_goes : PrunesRoot (tree_of n).fragment (tree_of leaf) (suc gone) lost (tree_of n) (without_child i y (tree_of n))
+    branch_goes = child_goes (tree_of n) (tree_of leaf) i y at refl low h
 
-    pub branch_root : (t' : Tree (KeyValue K V)) → t' ≡ without_kid i y (tree_of n) → PrunesRoot (tree_of n).fragment (tree_of leaf) (1 + gone) lost (tree_of n) t'
-    branch_root t' et = rw (et, ← one_more) goes
+    -- a root whose child at i is taken out has that branch pruned, with all its nodes
+    pub branch_root : (t' : Tree (KeyValue K V)) → t' ≡ without_child i y (tree_of n) → PrunesRoot (tree_of n).fragment (tree_of leaf) (1 + gone) lost (tree_of n) t'
+    branch_root t' et = rw (et, ← one_more) branch_goes
 
-    pub branch_cut : (t' : Tree (KeyValue K V)) → (IsTreeFull (tree_of n) → IsTreeFull (without_kid i y (tree_of n))) → t' ≡ without_kid i y (tree_of n) →
+    -- a node that stays full without its child at i has that branch pruned, with all its nodes
+    pub branch_cut : (t' : Tree (KeyValue K V)) → (IsTreeFull (tree_of n) → IsTreeFull (without_child i y (tree_of n))) → t' ≡ without_child i y (tree_of n) →
         Prunes (tree_of n).fragment (tree_of leaf) (1 + gone) lost (tree_of n) t'
-    branch_cut t' full et = rw (et, ← one_more) (root_kid (all_of (tree_of n).fragment (tree_of leaf)) none_of 0 _ 0 _ (tree_of n) (without_kid i y (tree_of n)) goes full)
+    branch_cut t' full et = rw (et, ← one_more) (root_as_child (all_of (tree_of n).fragment (tree_of leaf)) none_of 0 _ 0 _ (tree_of n) (without_child i y (tree_of n)) branch_goes full)
 
-    pub branch_merged : (t' : Tree (KeyValue K V)) → (tree_of n).pair ≡ None → IsOne (remove_kid i (tree_of n).kids) → fragment_of n ≢ [] → t' ≡ merged (without_kid i y (tree_of n)) →
+    -- a node merged with the child that is left has the branch pruned, and one node more goes
+    pub branch_merged : (t' : Tree (KeyValue K V)) → (tree_of n).pair ≡ None → IsOne (remove_child i (tree_of n).children) → fragment_of n ≢ [] → t' ≡ merged (without_child i y (tree_of n)) →
         Prunes (tree_of n).fragment (tree_of leaf) (2 + gone) lost (tree_of n) t'
     branch_merged t' bare one top et =
-        rw (et, ← two_more) (merged_kid (all_of (tree_of n).fragment (tree_of leaf)) none_of 0 _ 0 _ (tree_of n) (without_kid i y (tree_of n)) goes bare one (λ z. top (sym (fragment_out n) ∙ z)))
+        rw (et, ← two_more) (merged_as_child (all_of (tree_of n).fragment (tree_of leaf)) none_of 0 _ 0 _ (tree_of n) (without_child i y (tree_of n)) branch_goes bare one (λ z. top (sym (fragment-tree_of n) ∙ z)))
 
   -- what is known of a branch below a child
   module _ (n m : TrieNode K V) (key : List ℕ) (depth : ℕ) (h : IsTreePlaced (tree_of n)) (i : ℕ) (a : Agreement) (lt : depth < length key) (met : IsMet n key depth i a)
       (b : Box (TrieNode K V) Global) (is : get_or (out-TrieNode K V n).children.items i b ≡ b) (em : m ≡ b.value) where
+    -- the key's path in the node
     abbrev goal_path : List ℕ
     goal_path = fragment_of n ++ drop depth key
 
-    at_m : IsAt i (tree_of n).kids (tree_of m)
-    at_m = subst (λ k. IsAt i (tree_of n).kids (tree_of k)) (sym em) (is_at n i b h (omega (arith, met.within, (out-TrieNode K V n).children.ok.0)) is)
+    -- m is the node's child at i
+    at_m : IsAt i (tree_of n).children (tree_of m)
+    at_m = subst (λ k. IsAt i (tree_of n).children (tree_of k)) (sym em) (box_is_child n i b h (omega (arith, met.within, (out-TrieNode K V n).children.ok.0)) is)
 
-    agree : Agrees (tree_of m).fragment (drop depth key) a.same a.compared
-    agree = met.agrees (tree_of m) at_m
+    -- the child's fragment and the rest of the key agree as far as was compared
+    child_agrees : Agrees (tree_of m).fragment (drop depth key) a.same a.compared
+    child_agrees = met.agrees (tree_of m) at_m
 
     -- the child itself
+    -- where the key ends within a child's fragment, the branch at the key is that child
     pub branch_child : depth + a.same ≡ length key → IsBranch (tree_of n) (tree_of m) goal_path (tree_of n).fragment
     branch_child e =
         let f = (tree_of m).fragment in
         let rest = drop depth key in
         let l = length-drop depth key in
-        let x : rest ++ drop a.same f ≡ f = agrees_ends f rest a.same a.compared agree (omega (arith, l, e, lt)) in
+        let x : rest ++ drop a.same f ≡ f = append_drop-whole_list f rest a.same a.compared child_agrees (omega (arith, l, e, lt)) in
         record {
           covered = a.same;
           nearest = nearest_inside n key depth h m i a lt met b is em e;
-          path = ap (λ g. g ++ f) (fragment_out n) ∙ sym (append_assoc (fragment_of n) rest (drop a.same f) ∙ ap (λ z. fragment_of n ++ z) x);
+          path = ap (λ g. g ++ f) (fragment-tree_of n) ∙ sym (append_assoc (fragment_of n) rest (drop a.same f) ∙ ap (λ z. fragment_of n ++ z) x);
         }
 
     -- the child that the key goes on to, while it goes on
-    pub goes_on : a.same ≡ length (fragment_of m) → depth + a.same ≢ length key → (depth < depth + a.same) × (depth + a.same < length key)
-    goes_on e part =
+    -- a key that doesn't end with a child's whole fragment is further on behind it, with more to go
+    pub key_goes_on : a.same ≡ length (fragment_of m) → depth + a.same ≢ length key → (depth < depth + a.same) × (depth + a.same < length key)
+    key_goes_on e part =
         let further = (met_down n key depth h m i a lt met b is em e).further in
         let within = met_inside n key depth h m i a lt met b is em in
         (further, omega (arith, within, part))
 
     -- one below it
-    pub branch_below : a.same ≡ length (fragment_of m) → (u : Tree (KeyValue K V)) (s : List ℕ) → IsBranch (tree_of m) u (fragment_of m ++ drop (depth + a.same) key) s
+    -- a branch of the child at the rest of the key is a branch of the node at the key
+    branch_below : a.same ≡ length (fragment_of m) → (u : Tree (KeyValue K V)) (s : List ℕ) → IsBranch (tree_of m) u (fragment_of m ++ drop (depth + a.same) key) s
         → IsBranch (tree_of n) u goal_path (fragment_of n ++ s)
     branch_below e u s d =
         let f = fragment_of n in
         let left = drop d.covered u.fragment in
         record {
           covered = d.covered;
-          nearest = nearest_up n key depth h m i a lt met b is em e u d.covered d.nearest;
-          path = append_assoc f s u.fragment ∙ ap (λ z. f ++ z) (d.path ∙ ap (λ r. r ++ left) (met_whole n key depth h m i a lt met b is em e)) ∙ sym (append_assoc f (drop depth key) left);
+          nearest = nearest_through_child n key depth h m i a lt met b is em e u d.covered d.nearest;
+          path = append_assoc f s u.fragment ∙ ap (λ z. f ++ z) (d.path ∙ ap (λ r. r ++ left) (append-met_rest n key depth h m i a lt met b is em e)) ∙ sym (append_assoc f (drop depth key) left);
         }
 
     -- what a cut below the child does to the node
     module _ (b' : Box (TrieNode K V) Global) (e : a.same ≡ length (fragment_of m)) where
+      -- the node's tree with another box in the child's place
       abbrev new : Tree (KeyValue K V)
       new = tree_of (roll-TrieNode K V (let o = out-TrieNode K V n in record { fragment = o.fragment; pair = o.pair; mask = o.mask; children = with_item o.children i b' }))
 
+      -- the child's place is within the boxes
       inside : i < length (out-TrieNode K V n).children.items
       inside = omega (arith, met.within, (out-TrieNode K V n).children.ok.0)
 
+      -- a branch that goes from the child goes from the node, with the same nodes and nibbles
       cut_up : (u : Tree (KeyValue K V)) (s : List ℕ) (k l : ℕ) → Prunes s u k l (tree_of m) (tree_of b'.value) → AltersNode (all_of (fragment_of n ++ s) u) none_of 0 k 0 l (tree_of n) new
-      cut_up u s k l d = rw (kid_new n i b', ← fragment_out n) (kid_pruned (tree_of n) (tree_of m) (tree_of b'.value) u i s k l h at_m d)
+      cut_up u s k l d = rw (tree_of-with_child n i b', ← fragment-tree_of n) (child_pruned (tree_of n) (tree_of m) (tree_of b'.value) u i s k l h at_m d)
 
+      -- where the child's tree stays, the node's stays
       kept_up : tree_of b'.value ≡ tree_of m → new ≡ tree_of n
-      kept_up same = kid_kept n i b b' h inside is (same ∙ ap tree_of em)
+      kept_up same = tree_of-same_child n i b b' h inside is (same ∙ ap tree_of em)
 
+      -- a path of the child that the key's rest begins gives one of the node that the key begins
       path_up : (q : List ℕ) → IsPath (tree_of m) q → IsPrefix (fragment_of m ++ drop (depth + a.same) key) q → (x : List ℕ) × IsPath (tree_of n) x × IsPrefix goal_path x
       path_up q p i2 =
           let f = fragment_of n in (
             (tree_of n).fragment ++ q,
-            (p.0, kid_down (tree_of n) (tree_of m) i h at_m q p.0 p.1),
-            (i2.0, ap (λ g. g ++ q) (fragment_out n) ∙ ap (λ z. f ++ z) (i2.1 ∙ ap (λ r. r ++ i2.0) (met_whole n key depth h m i a lt met b is em e)) ∙ sym (append_assoc f (drop depth key) i2.0)),
+            (p.0, node_from_child (tree_of n) (tree_of m) i h at_m q p.0 p.1),
+            (i2.0, ap (λ g. g ++ q) (fragment-tree_of n) ∙ ap (λ z. f ++ z) (i2.1 ∙ ap (λ r. r ++ i2.0) (append-met_rest n key depth h m i a lt met b is em e)) ∙ sym (append_assoc f (drop depth key) i2.0)),
           )
 
-      pub prune_up : (r : Result (Option (Pruned K V)) Memory) → PruneOutcome r (fragment_of m ++ drop (depth + a.same) key) (tree_of m) (tree_of b'.value) → PruneOutcome r goal_path (tree_of n) new
-      prune_up (Ok (Some c)) s =
+      -- what a cut answers and does in the child is what it answers and does in the node
+      pub prune_through_child : (r : Result (Option (Pruned K V)) Memory) → PruneOutcome r (fragment_of m ++ drop (depth + a.same) key) (tree_of m) (tree_of b'.value) → PruneOutcome r goal_path (tree_of n) new
+      prune_through_child (Ok (Some c)) s =
           let t = cut_up s.0 s.1 c.nodes c.nibbles s.3 in
-          (s.0, fragment_of n ++ s.1, branch_below e s.0 s.1 s.2, node_kid _ _ _ _ _ _ _ _ t, s.4)
-      prune_up (Ok None) s = (kept_up s.0, nearest_free n key depth h m i a lt met b is em e s.1)
-      prune_up (Err x) s = let p = path_up s.1 s.2 s.3 in (kept_up s.0, p.0, p.1, p.2)
+          (s.0, fragment_of n ++ s.1, branch_below e s.0 s.1 s.2, node_as_child _ _ _ _ _ _ _ _ t, s.4)
+      prune_through_child (Ok None) s = (kept_up s.0, none_through_child n key depth h m i a lt met b is em e s.1)
+      prune_through_child (Err x) s = let p = path_up s.1 s.2 s.3 in (kept_up s.0, p.0, p.1, p.2)
 
-      pub prune_up_root : (r : Result (Option (Pruned K V)) Memory) → PruneOutcome r (fragment_of m ++ drop (depth + a.same) key) (tree_of m) (tree_of b'.value) → PruneRootOutcome r goal_path (tree_of n) new
-      prune_up_root (Ok (Some c)) s =
+      -- what a cut answers and does in a root's child is what it answers and does in the root
+      pub root_prune_through_child : (r : Result (Option (Pruned K V)) Memory) → PruneOutcome r (fragment_of m ++ drop (depth + a.same) key) (tree_of m) (tree_of b'.value) → PruneRootOutcome r goal_path (tree_of n) new
+      root_prune_through_child (Ok (Some c)) s =
           let t = cut_up s.0 s.1 c.nodes c.nibbles s.3 in
           (s.0, fragment_of n ++ s.1, branch_below e s.0 s.1 s.2, t.root, s.4)
-      prune_up_root (Ok None) s = (kept_up s.0, nearest_free n key depth h m i a lt met b is em e s.1)
-      prune_up_root (Err x) s = let p = path_up s.1 s.2 s.3 in (kept_up s.0, p.0, p.1, p.2)
+      root_prune_through_child (Ok None) s = (kept_up s.0, none_through_child n key depth h m i a lt met b is em e s.1)
+      root_prune_through_child (Err x) s = let p = path_up s.1 s.2 s.3 in (kept_up s.0, p.0, p.1, p.2)

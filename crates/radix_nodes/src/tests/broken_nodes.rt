@@ -1,6 +1,6 @@
 //! The check of nodes, most of them broken.
 ghost use Rattle.std.specs.Prelude.{◌≤◌, ◌+◌, length, IfOk};
-ghost use Rattle.radix_nodes.specs.Soundness.{pairs_of, pairs_of_all};
+ghost use Rattle.radix_nodes.specs.Soundness.{pair_count_of, pair_count_of_all};
 
 use super::*;
 
@@ -15,7 +15,7 @@ fn node(
     mask: u16,
     children: Vec<Box<Node>>,
 ) -> Result<Node, Memory>
-    ensures { IfOk result (λ n. pairs_of n ≤ pairs_of_all children.items + 1) }
+    ensures { IfOk result (λ n. pair_count_of n ≤ pair_count_of_all children.items + 1) }
 {
     let fragment = list(alloc, fragment)?;
     let pair = match key {
@@ -36,7 +36,7 @@ fn node(
 /// Nodes without children, each with a fragment and a key.
 #[tactic(auto, using(crate::proofs::NodeLemmas::Counts::pairs_pushed, crate::proofs::NodeLemmas::Counts::pairs_none))]
 fn leaves(alloc: Global, leaves: &[(&[u8], &[u8])]) -> Result<Vec<Box<Node>>, Memory>
-    ensures { IfOk result (λ bs. pairs_of_all bs.items ≤ length leaves.now) }
+    ensures { IfOk result (λ bs. pair_count_of_all bs.items ≤ length leaves.now) }
 {
     let mut made = Vec::new(alloc);
     for (fragment, key) in leaves {
@@ -47,7 +47,7 @@ fn leaves(alloc: Global, leaves: &[(&[u8], &[u8])]) -> Result<Vec<Box<Node>>, Me
 }
 
 /// What the check says of a node at a path.
-#[tactic(auto, using(crate::proofs::CheckerLemmas::pairs_at))]
+#[tactic(auto, using(crate::proofs::CheckerLemmas::Nodes::pairs_at))]
 fn checked(
     alloc: Global,
     path: &[u8],

@@ -144,7 +144,7 @@ fn leaf(fragment: &'static [u8], key: &'static str, value: u64) -> Shape {
 }
 
 /// A node without a pair, below which two lists go on.
-fn parting(fragment: &'static [u8], mask: u16) -> Shape {
+fn branch_point(fragment: &'static [u8], mask: u16) -> Shape {
     Shape {
         fragment,
         pair: None,
@@ -178,7 +178,7 @@ fn nodes_are_split(rt: HostRuntime) -> Result<(), Fail> {
     insert(&rt, &mut root, a, &abc, "abd", 4)?;
     let both = [
         ROOT,
-        parting(&[6, 1, 6, 2, 6], 0x0018),
+        branch_point(&[6, 1, 6, 2, 6], 0x0018),
         leaf(&[3], "abc", 3),
         leaf(&[4], "abd", 4),
     ];

@@ -1,11 +1,11 @@
 //! A copy of a root for keys that turn the highest bit of their encodings over.
 ghost use Rattle.std.specs.Prelude.{◌≡◌, ◌<◌, length, IfOk, OnOk, IsOk, None};
-ghost use Rattle.masked_tree.specs.Tree.{Kids, none, IsTreePlaced};
-ghost use Rattle.masked_tree.specs.Same.{AreKidCopies, IsCopy};
+ghost use Rattle.masked_tree.specs.Tree.{Children, none, IsTreePlaced};
+ghost use Rattle.masked_tree.specs.Same.{AreChildCopies, IsCopy};
 ghost use Rattle.nibble_map.specs.Nibbles.{IsShort};
 ghost use Rattle.masked_tree.specs.Turned.{append, in_half, turned_half, turned_root, turned_tree};
 ghost use Rattle.radix_nodes.specs.Copies.{IsKeyValueCopy};
-ghost use Rattle.radix_nodes.specs.Nodes.{tree_of, fragment_of, kids_of};
+ghost use Rattle.radix_nodes.specs.Nodes.{tree_of, fragment_of, children_of};
 ghost use Rattle.radix_nodes.specs.declared.trie_node.KeyValue.{KeyValue};
 
 use crate::traversal::copied::{CopyOf, copied, copied_pair};
@@ -42,11 +42,11 @@ fn push_half<K, L: CopyOf<K>, V: Clone>(
     copies: &mut Vec<Box<TrieNode<L, V>>>,
 ) -> Result<(), Memory>
     requires { IsTreePlaced (tree_of node.now) }
-    ensures pushed { OnOk result ((k : Kids (KeyValue K V))
-        → AreKidCopies (IsKeyValueCopy L.is_copy V.is_clone) k (kids_of copies.old.items)
-        → AreKidCopies (IsKeyValueCopy L.is_copy V.is_clone)
-        (append k (turned_half high (tree_of node.now).kids)) (kids_of copies.new.items)) }
-    ensures light { (tree_of node.now).kids ≡ none → IsOk result }
+    ensures pushed { OnOk result ((k : Children (KeyValue K V))
+        → AreChildCopies (IsKeyValueCopy L.is_copy V.is_clone) k (children_of copies.old.items)
+        → AreChildCopies (IsKeyValueCopy L.is_copy V.is_clone)
+        (append k (turned_half high (tree_of node.now).children)) (children_of copies.new.items)) }
+    ensures light { (tree_of node.now).children ≡ none → IsOk result }
 {
     for i in 0..node.children.len() {
         let child = &node.children[i];
@@ -70,7 +70,7 @@ pub fn turned_copy<K, L: CopyOf<K>, V: Clone>(
     requires { IsTreePlaced (tree_of root.now) }
     ensures copy { IfOk result (λ copy. IsCopy (IsKeyValueCopy L.is_copy V.is_clone)
         (turned_root (tree_of root.now)) (tree_of copy)) }
-    ensures light { (tree_of root.now).pair ≡ None → (tree_of root.now).kids ≡ none
+    ensures light { (tree_of root.now).pair ≡ None → (tree_of root.now).children ≡ none
         → IsShort (fragment_of root.now) → IsOk result }
 {
     let mut children = Vec::with_capacity(alloc, root.children.len())?;

@@ -2,7 +2,7 @@
 ghost use Rattle.std.specs.Prelude.{◌≡◌, ◌<◌, ◌^◌, ◌↔◌, ◌++◌, length, cond, IfOk, IsTrue, vec_len};
 ghost use Rattle.masked_tree.specs.Tree.{entries_at};
 ghost use Rattle.radix_nodes.specs.Nodes.{tree_of, out_of, unboxed};
-ghost use Rattle.radix_nodes.specs.Soundness.{IsCanonicalAt, key_test, form_test, test_of, pairs_of};
+ghost use Rattle.radix_nodes.specs.Soundness.{IsSoundAt, key_test, form_test, test_of, pair_count_of};
 
 use crate::fragments::joined;
 use crate::trie_node::{TrieNode, has_pair};
@@ -18,7 +18,7 @@ impl<K: TrieKey, V> TrieNode<K, V> {
     ) -> Result<(bool, usize), Memory>
         requires { length (entries_at prefix.now (tree_of self.now)) < 2 ^ 64 }
         ensures answer { IfOk result
-            (λ r. IsTrue r.0 ↔ IsCanonicalAt K.encoding prefix.now (tree_of self.now)) }
+            (λ r. IsTrue r.0 ↔ IsSoundAt K.encoding prefix.now (tree_of self.now)) }
         ensures count { IfOk result
             (λ r. r.1 ≡ cond r.0 (length (entries_at prefix.now (tree_of self.now))) 0) }
     {
@@ -45,7 +45,7 @@ fn has_key<K: TrieKey, V>(
 }
 
 // Whether the node may be left at the path with what it has.
-#[tactic(auto, using(crate::proofs::CheckerLemmas::unboxed_some))]
+#[tactic(auto, using(crate::proofs::CheckerLemmas::Nodes::unboxed_some))]
 fn has_form<K, V>(node: &TrieNode<K, V>, path: &Nibblet) -> bool
     ensures { result
         ≡ form_test path.now (out_of node.now).fragment (unboxed (out_of node.now).pair)
@@ -56,15 +56,15 @@ fn has_form<K, V>(node: &TrieNode<K, V>, path: &Nibblet) -> bool
 }
 
 // The check as a test.
-#[tactic(auto, using(crate::proofs::CheckerLemmas::test_out, crate::proofs::CheckerLemmas::pairs_out, crate::proofs::CheckerLemmas::next_test, crate::proofs::CheckerLemmas::next_pairs, crate::proofs::CheckerLemmas::tests_end, crate::proofs::CheckerLemmas::pairs_end, crate::proofs::NodeLemmas::Sizes::own_some, crate::proofs::NodeLemmas::Sizes::own_none))]
+#[tactic(auto, using(crate::proofs::CheckerLemmas::Nodes::test_out, crate::proofs::CheckerLemmas::Nodes::pairs_out, crate::proofs::CheckerLemmas::Nodes::next_test, crate::proofs::CheckerLemmas::Nodes::next_pairs, crate::proofs::CheckerLemmas::Nodes::tests_end, crate::proofs::CheckerLemmas::Nodes::pairs_end, crate::proofs::NodeLemmas::Sizes::own_some, crate::proofs::NodeLemmas::Sizes::own_none))]
 fn test<K: TrieKey, V>(
     node: &TrieNode<K, V>,
     alloc: Global,
     prefix: &Nibblet,
 ) -> Result<(bool, usize), Memory>
-    requires { pairs_of node.now < 2 ^ 64 }
+    requires { pair_count_of node.now < 2 ^ 64 }
     ensures answer { IfOk result (λ r. r.0 ≡ test_of K.encoding prefix.now node.now) }
-    ensures count { IfOk result (λ r. r.1 ≡ cond r.0 (pairs_of node.now) 0) }
+    ensures count { IfOk result (λ r. r.1 ≡ cond r.0 (pair_count_of node.now) 0) }
 {
     let path = joined(prefix, &node.fragment)?;
     if !has_key(node, alloc, &path)? {

@@ -26,16 +26,7 @@ pub fn compare(fragment: &Nibblet, query: &Nibblet, depth: usize) -> Agreement
         → result.compared ≡ result.same + 1 }
 {
     let most = fragment.len().min(query.len() - depth);
-    for same in 0..most {
-        if fragment.get(same) != query.get(depth + same) {
-            return Agreement {
-                same,
-                compared: same + 1,
-            };
-        }
-    }
-    Agreement {
-        same: most,
-        compared: most,
-    }
+    let same = fragment.agreement(query, depth);
+    let compared = if same < most { same + 1 } else { same };
+    Agreement { same, compared }
 }

@@ -64,7 +64,7 @@ pub fn copied<K, L: CopyOf<K>, V: Clone>(
 ) -> Result<TrieNode<L, V>, Memory>
     ensures copy { IfOk result (λ copy. IsCopy (IsKeyValueCopy L.is_copy V.is_clone)
         (tree_of node.now) (tree_of copy)) }
-    ensures light { (tree_of node.now).pair ≡ None → (tree_of node.now).kids ≡ none
+    ensures light { (tree_of node.now).pair ≡ None → (tree_of node.now).children ≡ none
         → IsShort (fragment_of node.now) → IsOk result }
 {
     let mut children = Vec::with_capacity(alloc, node.children.len())?;

@@ -22,9 +22,9 @@ pub struct Branch<K, V> {
 pub fn joined_with<K, V>(node: &TrieNode<K, V>, i: usize) -> Result<Nibblet, Memory>
     requires within { i < vec_len (out_of node.now).children }
     requires placed { IsTreePlaced (tree_of node.now) }
-    ensures made { IfOk result (λ f. (u : _) → IsAt i (tree_of node.now).kids u →
+    ensures made { IfOk result (λ f. (u : _) → IsAt i (tree_of node.now).children u →
         f ≡ fragment_of node.now ++ u.fragment) }
-    ensures long { OnErr result ((u : _) → IsAt i (tree_of node.now).kids u →
+    ensures long { OnErr result ((u : _) → IsAt i (tree_of node.now).children u →
         32 < length (fragment_of node.now) + length u.fragment) }
 {
     joined(&node.fragment, &node.children[i].fragment)
@@ -51,12 +51,12 @@ pub fn cut_child<K: Drop, V: Drop>(
     requires within { i < vec_len (out_of node.old).children }
     requires placed { IsTreePlaced (tree_of node.old) }
     requires some { fragment_of node.old ≢ [] }
-    ensures child { IfOk result (λ b. IsAt i (tree_of node.old).kids (branch_of b)) }
+    ensures child { IfOk result (λ b. IsAt i (tree_of node.old).children (branch_of b)) }
     ensures cut { IfOk result (λ b. CutsBranch b (tree_of node.old) (tree_of node.new)) }
     ensures few { IfOk result (λ b. b.nodes ≤ 2) }
     ensures unchanged { OnErr result (tree_of node.new ≡ tree_of node.old) }
     ensures long { OnErr result
-        (32 < length (tree_of node.old).fragment + reach (tree_of node.old).kids) }
+        (32 < length (tree_of node.old).fragment + reach (tree_of node.old).children) }
 {
     if leaves_one(node) {
         let joined = match joined_with(node, 1 - i) {
@@ -76,7 +76,7 @@ pub fn cut_child<K: Drop, V: Drop>(
 pub fn cut_root_child<K, V>(root: &mut TrieNode<K, V>, i: usize) -> Branch<K, V>
     requires within { i < vec_len (out_of root.old).children }
     requires placed { IsTreePlaced (tree_of root.old) }
-    ensures child { IsAt i (tree_of root.old).kids (branch_of result) }
+    ensures child { IsAt i (tree_of root.old).children (branch_of result) }
     ensures cut { CutsRootBranch result (tree_of root.old) (tree_of root.new) }
     ensures nodes { result.nodes ≡ 1 }
 {

@@ -34,9 +34,9 @@ pub fn drain<K: Drop, V: Drop>(node: TrieNode<K, V>, list: &mut Vec<(K, V)>) -> 
     requires small { IsSmall (tree_of node) }
     ensures pairs { list.new.items ≡ list.old.items ++ pairs_in (tree_of node) }
     ensures capacity { vec_capacity list.new ≡ vec_capacity list.old }
-    ensures nodes { result.nodes ≡ nodes_in (tree_of node).kids }
+    ensures nodes { result.nodes ≡ nodes_in (tree_of node).children }
     ensures nibbles { result.nibbles
-        ≡ length (tree_of node).fragment + nibbles_in (tree_of node).kids }
+        ≡ length (tree_of node).fragment + nibbles_in (tree_of node).children }
 {
     let TrieNode {
         fragment,

@@ -1,10 +1,12 @@
 //! Look-ups.
+ghost use Rattle.nibble_map.specs.Answers.{IsCompared};
+ghost use Rattle.nibble_map.specs.Stored.{IsStored};
 ghost use Rattle.std.specs.Prelude.{◌≡◌, ◌≤◌, ◌++◌, [], length, drop, MatchOption};
-ghost use Rattle.nibble_map.specs.Queries.{IsCompared};
 ghost use Rattle.nibble_map.specs.Trees.{walked};
 ghost use Rattle.masked_tree.specs.Tree.{IsTreePlaced, IsFullBelow, entries_at, plain};
 ghost use Rattle.masked_tree.specs.Paths.{IsNodeAt};
 ghost use Rattle.radix_nodes.specs.Nodes.{tree_of, fragment_of};
+ghost use Rattle.radix_nodes.specs.Searches.{FindsNode};
 
 use crate::traversal::step::{meet, step};
 use crate::trie_node::TrieNode;
@@ -18,19 +20,20 @@ pub fn find<'a, K, V>(
 ) -> Option<&'a TrieNode<K, V>>
     requires depth { depth ≤ length key.now }
     requires placed { IsTreePlaced (tree_of node.now) }
-    ensures { MatchOption result
-        ((u : _) → IsNodeAt (tree_of node.now) (fragment_of node.now ++ drop depth key.now) u
-        → ⊥)
-        (λ n. IsNodeAt (tree_of node.now) (fragment_of node.now ++ drop depth key.now)
-        (tree_of n.now)) }
+    ensures { FindsNode result node.now key.now depth }
 {
-    if depth == key.len() {
-        return Some(node);
+    let mut at = node;
+    let mut done = depth;
+    while done < key.len() {
+        match step(at, key, done) {
+            Some((i, next)) => {
+                at = &at.children[i];
+                done = next;
+            }
+            None => return None,
+        }
     }
-    match step(node, key, depth) {
-        Some((i, next)) => find(&node.children[i], key, next),
-        None => None,
-    }
+    Some(at)
 }
 
 // The same, and how many nibbles were compared on the way.
@@ -41,28 +44,25 @@ fn search<'a, K, V>(
 ) -> (Option<&'a TrieNode<K, V>>, usize)
     requires depth { depth ≤ length key.now }
     requires placed { IsTreePlaced (tree_of node.now) }
-    ensures found { MatchOption result.0
-        ((u : _) → IsNodeAt (tree_of node.now) (fragment_of node.now ++ drop depth key.now) u
-        → ⊥)
-        (λ n. IsNodeAt (tree_of node.now) (fragment_of node.now ++ drop depth key.now)
-        (tree_of n.now)) }
-    ensures count { result.1 ≡ walked (plain (tree_of node.now).kids) (drop depth key.now) }
+    ensures found { FindsNode result.0 node.now key.now depth }
+    ensures count { result.1 ≡ walked (plain (tree_of node.now).children) (drop depth key.now) }
 {
-    if depth == key.len() {
-        return (Some(node), 0);
-    }
-    match meet(node, key, depth) {
-        Some((i, agreement)) => {
-            let child = &node.children[i];
-            if agreement.same == child.fragment.len() {
-                let (found, compared) = search(child, key, depth + agreement.same);
-                (found, agreement.compared + compared)
-            } else {
-                (None, agreement.compared)
-            }
+    let mut at = node;
+    let mut done = depth;
+    let mut compared = 0;
+    while done < key.len() {
+        let Some((i, agreement)) = meet(at, key, done) else {
+            return (None, compared);
+        };
+        let child = &at.children[i];
+        if agreement.same != child.fragment.len() {
+            return (None, compared + agreement.compared);
         }
-        None => (None, 0),
+        compared += agreement.compared;
+        at = child;
+        done += agreement.same;
     }
+    (Some(at), compared)
 }
 
 /// The node whose path is the key, and how many nibbles of the key were compared with nibbles of fragments.
@@ -75,7 +75,7 @@ pub fn find_counted<'a, K, V>(
     requires full { IsFullBelow (tree_of root.now) }
     ensures found { MatchOption result.0 ((u : _) → IsNodeAt (tree_of root.now) key.now u → ⊥)
         (λ n. IsNodeAt (tree_of root.now) key.now (tree_of n.now)) }
-    ensures count { IsCompared (entries_at [] (tree_of root.now)) key.now result.1 }
+    ensures count { IsCompared (IsStored (entries_at [] (tree_of root.now))) key.now result.1 }
 {
     search(root, key, 0)
 }

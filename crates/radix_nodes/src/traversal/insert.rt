@@ -1,4 +1,6 @@
 //! Insertion. All that may fail comes first, so a refusal leaves the tree as it was.
+//!
+//! What stands at the place of the change is kept out of line: its variables aren't on the stack at each level above then.
 ghost use Rattle.std.specs.Prelude.{◌≡◌, ◌≢◌, ◌<◌, ◌≤◌, [], ◌++◌, ℕ, length, take, drop, slice_index, IfOk, IfErr, Err};
 ghost use Rattle.masked_tree.specs.Mask.{IsPlaceOf};
 ghost use Rattle.masked_tree.specs.Tree.{IsTreePlaced, firsts};
@@ -53,6 +55,7 @@ pub fn put<K: Drop, V: Drop>(
 }
 
 // Writes the pair in its box, or in a new one.
+#[inline(never)]
 fn set_pair<K: Drop, V: Drop>(
     at: &mut Option<Box<KeyValue<K, V>>>,
     alloc: Global,
@@ -81,6 +84,7 @@ fn set_pair<K: Drop, V: Drop>(
 }
 
 // A leaf with the pair, or the pair back.
+#[inline(never)]
 fn make_leaf<K: Drop, V: Drop>(
     alloc: Global,
     key: &Nibblet,
@@ -115,6 +119,7 @@ fn make_leaf<K: Drop, V: Drop>(
 }
 
 // Adds a leaf with the pair at place i.
+#[inline(never)]
 fn add_leaf<K: Drop, V: Drop>(
     node: &mut TrieNode<K, V>,
     i: usize,
@@ -125,7 +130,8 @@ fn add_leaf<K: Drop, V: Drop>(
 ) -> Result<Change<K, V>, KeyValue<K, V>>
     requires depth { depth < length key.now }
     requires placed { IsTreePlaced (tree_of node.old) }
-    requires gap { IsPlaceOf (slice_index key.now depth) (firsts (tree_of node.old).kids) (Err i) }
+    requires gap { IsPlaceOf (slice_index key.now depth) (firsts (tree_of node.old).children)
+        (Err i) }
     ensures { EditOutcome result pair (fragment_of node.old ++ drop depth key.now)
         (tree_of node.old) (tree_of node.new) }
 {
@@ -145,6 +151,7 @@ fn add_leaf<K: Drop, V: Drop>(
 }
 
 // The node that is to stand above another, and the fragment that is left to that one.
+#[inline(never)]
 fn grow_split<K: Drop, V: Drop>(
     node: &TrieNode<K, V>,
     n: usize,
@@ -174,6 +181,7 @@ fn grow_split<K: Drop, V: Drop>(
 
 // The node in `slot` parts from the key after n nibbles of its fragment: a new node stands in its place, with the pair, or with a
 // leaf beside it.
+#[inline(never)]
 fn split_and_put<K: Drop, V: Drop>(
     slot: &mut Box<TrieNode<K, V>>,
     n: usize,

@@ -1,4 +1,6 @@
 //! All pairs at and below a path are taken out. What may fail comes first, so a refusal leaves the tree as it was.
+//!
+//! What stands at the place of the change is kept out of line: its variables aren't on the stack at each level above then.
 ghost use Rattle.std.specs.Prelude.{◌≡◌, ◌≢◌, ◌+◌, ◌<◌, ◌≤◌, ◌++◌, [], length, drop, IfOk, IsOk, OnErr, vec_len, vec_capacity};
 ghost use Rattle.masked_tree.specs.Alters.{PrunesRoot};
 ghost use Rattle.masked_tree.specs.Tree.{IsTreePlaced, IsAt, entries_at};
@@ -29,7 +31,7 @@ fn room_for<K, V>(node: &TrieNode<K, V>, alloc: Global, i: usize) -> Result<Vec<
     requires placed { IsTreePlaced (tree_of node.now) }
     requires small { IsSmall (tree_of node.now) }
     ensures empty { IfOk result (λ list. list.items ≡ []) }
-    ensures room { IfOk result (λ list. (u : _) → IsAt i (tree_of node.now).kids u →
+    ensures room { IfOk result (λ list. (u : _) → IsAt i (tree_of node.now).children u →
         length (entries_at [] u) ≤ vec_capacity list) }
 {
     Ok(Vec::with_capacity(alloc, count_pairs(&node.children[i]))?)
@@ -56,6 +58,7 @@ fn emptied<K: Drop, V: Drop>(branch: Branch<K, V>, list: Vec<(K, V)>) -> Pruned<
 }
 
 // Takes the child at place i with all below it.
+#[inline(never)]
 fn prune_child<K: Drop, V: Drop>(
     node: &mut TrieNode<K, V>,
     alloc: Global,
@@ -77,6 +80,7 @@ fn prune_child<K: Drop, V: Drop>(
 }
 
 // The same of the root.
+#[inline(never)]
 fn prune_root_child<K: Drop, V: Drop>(
     root: &mut TrieNode<K, V>,
     alloc: Global,

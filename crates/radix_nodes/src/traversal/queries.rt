@@ -4,7 +4,8 @@ ghost use Rattle.std.specs.Prelude.{◌≡◌, ◌≤◌, ◌++◌, length, drop
 ghost use Rattle.nibble_map.specs.Lists.{IsPrefix};
 ghost use Rattle.masked_tree.specs.Tree.{IsTreePlaced};
 ghost use Rattle.masked_tree.specs.Paths.{IsNodeAt, IsPath, IsHeld};
-ghost use Rattle.radix_nodes.specs.Nodes.{tree_of, fragment_of, IsDeepest, IsNearest};
+ghost use Rattle.radix_nodes.specs.Nodes.{tree_of};
+ghost use Rattle.radix_nodes.specs.Searches.{FindsDeepest, FindsDeepestPair, FindsShortest};
 
 use crate::traversal::step::{meet, step};
 use crate::trie_node::{TrieNode, has_pair};
@@ -18,13 +19,15 @@ pub fn deepest<'a, K, V>(
 ) -> (&'a TrieNode<K, V>, usize)
     requires depth { depth ≤ length key.now }
     requires placed { IsTreePlaced (tree_of node.now) }
-    ensures { IsDeepest (IsPath (tree_of node.now)) (tree_of node.now)
-        (tree_of result.0.now) key.now depth result.1 }
+    ensures { FindsDeepest result node.now key.now depth }
 {
-    match step(node, key, depth) {
-        Some((i, next)) => deepest(&node.children[i], key, next),
-        None => (node, depth),
+    let mut at = node;
+    let mut done = depth;
+    while let Some((i, next)) = step(at, key, done) {
+        at = &at.children[i];
+        done = next;
     }
+    (at, done)
 }
 
 /// The node with the longest path that begins the key and holds a pair, and how many nibbles of the key that is.
@@ -35,20 +38,20 @@ pub fn deepest_pair<'a, K, V>(
 ) -> Option<(&'a TrieNode<K, V>, usize)>
     requires depth { depth ≤ length key.now }
     requires placed { IsTreePlaced (tree_of node.now) }
-    ensures { MatchOption result ((q : _) → IsHeld (tree_of node.now) q
-        → IsPrefix q (fragment_of node.now ++ drop depth key.now) → ⊥)
-        (λ r. IsDeepest (IsHeld (tree_of node.now)) (tree_of node.now) (tree_of r.0.now) key.now
-        depth r.1) }
+    ensures { FindsDeepestPair result node.now key.now depth }
 {
-    if let Some((i, next)) = step(node, key, depth) {
-        if let Some(found) = deepest_pair(&node.children[i], key, next) {
-            return Some(found);
+    let mut at = node;
+    let mut done = depth;
+    let mut best = None;
+    loop {
+        if has_pair(at) {
+            best = Some((at, done));
         }
-    }
-    if has_pair(node) {
-        Some((node, depth))
-    } else {
-        None
+        let Some((i, next)) = step(at, key, done) else {
+            return best;
+        };
+        at = &at.children[i];
+        done = next;
     }
 }
 
@@ -61,25 +64,23 @@ pub fn shortest<'a, K, V>(
 ) -> Option<(&'a TrieNode<K, V>, usize)>
     requires depth { depth ≤ length key.now }
     requires placed { IsTreePlaced (tree_of node.now) }
-    ensures { MatchOption result ((q : _) → IsPath (tree_of node.now) q
-        → IsPrefix (fragment_of node.now ++ drop depth key.now) q → ⊥)
-        (λ r. IsNearest (tree_of node.now) (tree_of r.0.now)
-        (fragment_of node.now ++ drop depth key.now) r.1) }
+    ensures { FindsShortest result node.now key.now depth }
 {
-    if depth == key.len() {
-        return Some((node, node.fragment.len()));
-    }
-    match meet(node, key, depth) {
-        Some((i, agreement)) => {
-            let child = &node.children[i];
-            if agreement.same == child.fragment.len() {
-                shortest(child, key, depth + agreement.same)
-            } else if depth + agreement.same == key.len() {
-                Some((child, agreement.same))
-            } else {
-                None
+    let mut at = node;
+    let mut done = depth;
+    while done < key.len() {
+        let Some((i, agreement)) = meet(at, key, done) else {
+            return None;
+        };
+        let child = &at.children[i];
+        if agreement.same != child.fragment.len() {
+            if done + agreement.same != key.len() {
+                return None;
             }
+            return Some((child, agreement.same));
         }
-        None => None,
+        at = child;
+        done += agreement.same;
     }
+    Some((at, at.fragment.len()))
 }

@@ -1,4 +1,6 @@
 //! Removal. All that may fail comes first, so a refusal leaves the tree as it was.
+//!
+//! What stands at the place of the change is kept out of line: its variables aren't on the stack at each level above then.
 ghost use Rattle.std.specs.Prelude.{◌≡◌, ◌≢◌, ◌<◌, ◌≤◌, [], ◌++◌, length, drop, MatchOption, Some, None, vec_len};
 ghost use Rattle.masked_tree.specs.Tree.{IsTreePlaced, IsAt, none};
 ghost use Rattle.radix_nodes.specs.Nodes.{tree_of, fragment_of, out_of, unboxed, CutOutcome, RootOutcome};
@@ -18,6 +20,7 @@ pub struct Taken<K, V> {
 }
 
 // Takes the pair of a node with children. What may fail comes first.
+#[inline(never)]
 fn take_here<K: Drop, V: Drop>(node: &mut TrieNode<K, V>) -> Result<Option<Taken<K, V>>, Memory>
     requires placed { IsTreePlaced (tree_of node.old) }
     requires some { fragment_of node.old ≢ [] }
@@ -56,6 +59,7 @@ fn take_here<K: Drop, V: Drop>(node: &mut TrieNode<K, V>) -> Result<Option<Taken
 }
 
 // The pair of a leaf that was cut off.
+#[inline(never)]
 fn make_taken<K: Drop, V: Drop>(leaf: Branch<K, V>) -> Option<Taken<K, V>>
     ensures { MatchOption result (unboxed (out_of leaf.top.value).pair ≡ None)
         (λ t. (unboxed (out_of leaf.top.value).pair ≡ Some t.pair) × (t.nodes ≡ leaf.nodes)
@@ -80,6 +84,7 @@ fn make_taken<K: Drop, V: Drop>(leaf: Branch<K, V>) -> Option<Taken<K, V>>
 }
 
 // Takes the pair of the leaf at i away, with the leaf.
+#[inline(never)]
 fn take_leaf<K: Drop, V: Drop>(
     node: &mut TrieNode<K, V>,
     i: usize,
@@ -87,8 +92,8 @@ fn take_leaf<K: Drop, V: Drop>(
     requires within { i < vec_len (out_of node.old).children }
     requires placed { IsTreePlaced (tree_of node.old) }
     requires some { fragment_of node.old ≢ [] }
-    requires leaf { (u : _) → IsAt i (tree_of node.old).kids u → u.kids ≡ none }
-    ensures { (u : _) → IsAt i (tree_of node.old).kids u
+    requires leaf { (u : _) → IsAt i (tree_of node.old).children u → u.children ≡ none }
+    ensures { (u : _) → IsAt i (tree_of node.old).children u
         → CutOutcome result (fragment_of node.old ++ u.fragment) (tree_of node.old)
         (tree_of node.new) }
 {

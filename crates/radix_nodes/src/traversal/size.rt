@@ -22,8 +22,8 @@ pub fn count_pairs<K, V>(node: &TrieNode<K, V>) -> usize
 /// How many nodes stand on the longest way down from the node, with it. None: no `usize` can say it.
 #[tactic(auto, using(crate::proofs::NodeLemmas::Sizes::levels_out, crate::proofs::NodeLemmas::Sizes::levels_next))]
 pub fn height<K, V>(node: &TrieNode<K, V>) -> Option<usize>
-    ensures { MatchOption result (2 ^ 64 ≤ suc (levels (tree_of node.now).kids))
-        (λ h. h ≡ suc (levels (tree_of node.now).kids)) }
+    ensures { MatchOption result (2 ^ 64 ≤ suc (levels (tree_of node.now).children))
+        (λ h. h ≡ suc (levels (tree_of node.now).children)) }
 {
     let mut most: usize = 0;
     for child in &node.children {

@@ -1,5 +1,7 @@
 //! A step down to a child.
-ghost use Rattle.std.specs.Prelude.{◌≡◌, ◌<◌, ◌≤◌, drop, length, slice_index, MatchOption};
+ghost use Rattle.std.specs.Prelude.{◌≡◌, ◌+◌, ◌<◌, ◌≤◌, ◌^◌, drop, length, slice_index, MatchOption};
+ghost use Rattle.nibble_map.specs.Trees.{first};
+ghost use Rattle.masked_tree.specs.Agreement.{Agrees};
 ghost use Rattle.masked_tree.specs.Mask.{bit_of};
 ghost use Rattle.masked_tree.specs.Tree.{IsTreePlaced, firsts};
 ghost use Rattle.masked_tree.specs.Paths.{IsStuck};
@@ -10,17 +12,36 @@ use crate::trie_node::TrieNode;
 use crate::trie_node::mask::place;
 use radix_keys::Nibblet;
 
+// How far the fragment of the child that the mask names for the key's next nibble agrees with the key from `depth` on. A single nibble
+// isn't looked at again.
+fn agreed(fragment: &Nibblet, key: &Nibblet, depth: usize) -> Agreement
+    requires depth { depth < length key.now }
+    requires start { first fragment.now ≡ slice_index key.now depth }
+    ensures agrees { Agrees fragment.now (drop depth key.now) result.same result.compared }
+    ensures fits { depth + result.same < 2 ^ 64 }
+{
+    if fragment.len() == 1 {
+        // The key's nibbles can be counted.
+        let _nibbles = key.len();
+        return Agreement {
+            same: 1,
+            compared: 1,
+        };
+    }
+    compare(fragment, key, depth)
+}
+
 /// The child that begins with the key's next nibble, and how far its fragment agrees with the key from `depth` on.
 pub fn meet<K, V>(node: &TrieNode<K, V>, key: &Nibblet, depth: usize) -> Option<(usize, Agreement)>
     requires depth { depth < length key.now }
     requires placed { IsTreePlaced (tree_of node.now) }
     ensures { MatchOption result
-        (bit_of (slice_index key.now depth) (firsts (tree_of node.now).kids) ≡ 0)
+        (bit_of (slice_index key.now depth) (firsts (tree_of node.now).children) ≡ 0)
         (λ met. IsMet node.now key.now depth met.0 met.1) }
 {
     match place(node.mask, key.get(depth)) {
         Ok(i) => {
-            let agreement = compare(&node.children[i].fragment, key, depth);
+            let agreement = agreed(&node.children[i].fragment, key, depth);
             Some((i, agreement))
         }
         Err(_) => None,

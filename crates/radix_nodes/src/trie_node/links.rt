@@ -2,7 +2,7 @@
 ghost use Rattle.std.specs.Prelude.{◌≡◌, ◌+◌, ◌<◌, ◌≤◌, ℕ, None, vec_len};
 ghost use Rattle.nibble_map.specs.Trees.{first};
 ghost use Rattle.masked_tree.specs.Tree.{IsTreePlaced, IsAt};
-ghost use Rattle.masked_tree.specs.Edits.{with_new_kid, without_kid, lowered, merged};
+ghost use Rattle.masked_tree.specs.Edits.{with_new_child, without_child, lowered, merged};
 ghost use Rattle.radix_nodes.specs.Nodes.{tree_of, fragment_of, out_of, unboxed, IsUpper, HasRoom};
 
 use crate::trie_node::mask::{mark, unmark};
@@ -15,7 +15,8 @@ pub fn link<K, V>(node: &mut TrieNode<K, V>, i: usize, child: Box<TrieNode<K, V>
     requires room { HasRoom 1 node.old }
     requires within { i ≤ vec_len (out_of node.old).children }
     requires nibble { nibble < 16 }
-    ensures { tree_of node.new ≡ with_new_kid i nibble (tree_of child.value) (tree_of node.old) }
+    ensures { tree_of node.new
+        ≡ with_new_child i nibble (tree_of child.value) (tree_of node.old) }
 {
     node.children.insert(i, child).unwrap();
     node.mask = mark(node.mask, nibble);
@@ -25,9 +26,9 @@ pub fn link<K, V>(node: &mut TrieNode<K, V>, i: usize, child: Box<TrieNode<K, V>
 pub fn unlink<K, V>(node: &mut TrieNode<K, V>, i: usize) -> Box<TrieNode<K, V>>
     requires within { i < vec_len (out_of node.old).children }
     requires placed { IsTreePlaced (tree_of node.old) }
-    ensures child { IsAt i (tree_of node.old).kids (tree_of result.value) }
+    ensures child { IsAt i (tree_of node.old).children (tree_of result.value) }
     ensures tree { tree_of node.new
-        ≡ without_kid i (first (tree_of result.value).fragment) (tree_of node.old) }
+        ≡ without_child i (first (tree_of result.value).fragment) (tree_of node.old) }
     ensures nibble { first (tree_of result.value).fragment < 16 }
     ensures same { (out_of node.new).pair ≡ (out_of node.old).pair }
     ensures less { vec_len (out_of node.new).children + 1 ≡ vec_len (out_of node.old).children }

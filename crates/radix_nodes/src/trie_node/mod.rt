@@ -1,7 +1,8 @@
 //! Nodes.
-ghost use Rattle.std.specs.Prelude.{◌≡◌, ◌<◌, IsSome, None, MatchBool, vec_len};
+ghost use Rattle.std.specs.Prelude.{◌≡◌, ◌<◌, IsSome, None, MatchBool, option_copied, option_map, vec_len};
 ghost use Rattle.masked_tree.specs.Edits.{empty};
 ghost use Rattle.radix_nodes.specs.Nodes.{tree_of, out_of, unboxed};
+ghost use Rattle.radix_nodes.specs.Pairs.{pair_of};
 
 pub mod links;
 pub mod mask;
@@ -38,6 +39,24 @@ impl<K, V> TrieNode<K, V> {
             pair: None,
             mask: 0,
             children: Vec::new(alloc),
+        }
+    }
+
+    /// The pair that stands at the node's path, if there is one.
+    pub fn pair(&self) -> Option<&KeyValue<K, V>>
+        ensures { option_map (λ p. pair_of p.now) result
+            ≡ option_map pair_of (tree_of self.now).pair }
+    {
+        self.pair.as_deref()
+    }
+
+    /// The value of that pair.
+    pub fn value(&self) -> Option<&V>
+        ensures { option_copied result ≡ option_map (λ p. p.value) (tree_of self.now).pair }
+    {
+        match self.pair() {
+            Some(pair) => Some(&pair.value),
+            None => None,
         }
     }
 }

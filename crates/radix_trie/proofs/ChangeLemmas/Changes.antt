@@ -1,5 +1,7 @@
 -- What a change of the root's tree does to the map, and to what the trie keeps.
-use Rattle.std.proofs.Common.{◌≡◌, ◌⊎◌, inl, inr, Bool, true, false, ℕ, zero, suc, ◌+◌, ◌-◌, ◌*◌, ◌≤◌, ◌<◌, ◌^◌, List, [], ◌∷◌, ◌++◌, map, length, Option, Some, None, option_map, refl, ap, sym, subst, ◌∙◌, arith, drop}
+use Rattle.nibble_map.specs.Points.{IsSomePrefix}
+use Rattle.nibble_map.specs.Stored.{IsStored}
+use Rattle.std.proofs.Common.{◌≡◌, ℕ, suc, ◌+◌, ◌-◌, ◌*◌, ◌≤◌, ◌<◌, ◌^◌, List, [], ◌∷◌, ◌++◌, map, length, Option, Some, None, option_map, refl, ap, sym, subst, ◌∙◌, arith, drop}
 use Rattle.std.proofs.Math.Nat.{mul-le-mul_right}
 use Rattle.std.proofs.lemmas.List.{map-append, length-append}
 use Rattle.std.specs.FinMap as fin
@@ -7,21 +9,20 @@ use Rattle.masked_tree.specs.Alters.{Run, entry_at, AltersRoot, Edits, CutsRoot}
 use Rattle.masked_tree.specs.Tree.{Tree, entries_at}
 use Rattle.masked_tree.specs.Paths.{IsHeld, IsNodeAt}
 use Rattle.nibble_map.specs.Lists.{Counts}
-use Rattle.nibble_map.specs.Maps.{PairMap, value_at}
-use Rattle.nibble_map.specs.Stored.{IsStem}
 use Rattle.nibble_map.specs.Swaps.{Swaps, entry}
-use Rattle.nibble_map.proofs.MapLemmas.Edits.{swap_inserted, swap_over, swap_removed, swap_from}
+use Rattle.nibble_map.proofs.MapLemmas.Edits.{from_sorted-lists_swapped_over, get-lists_swapped_over, from_sorted-lists_swapped_out, get-lists_swapped_out}
 use Rattle.nibble_map.proofs.TreeLemmas.Sizes.{nodes_bound}
-use Rattle.nibble_map.proofs.TreeLemmas.Stems.{tree_nibbles}
+use Rattle.nibble_map.proofs.TreeLemmas.SomePrefixes.{tree_nibbles}
 use Rattle.radix_nodes.specs.declared.trie_node.KeyValue.{KeyValue}
 use Rattle.radix_nodes.specs.declared.trie_node.TrieNode.{TrieNode}
 use Rattle.radix_nodes.specs.Nodes.{tree_of, fragment_of}
-use Rattle.radix_nodes.proofs.NodeLemmas.Nodes.{fragment_out}
+use Rattle.radix_nodes.proofs.NodeLemmas.Nodes.{fragment-tree_of}
 use Rattle.radix_nodes.specs.Pairs.{pair_of}
 use Rattle.radix_trie.specs.Roots.{shown, entries_of, map_of, AllKeyed, IsKept}
-use Rattle.radix_trie.proofs.RootLemmas.Shown.{kept_len, row_of, row_entry, shaped, entries_shown, entries_rise, nodes_shown, nibbles_shown}
-use Rattle.radix_trie.proofs.RootLemmas.Sizes.{stems_bound}
+use Rattle.radix_trie.proofs.RootLemmas.Shown.{row_of, row_of-entry, placed_full_is_shaped, entries_of-root, entries_rise, length-nodes_shown, nibbles_in-shown}
+use Rattle.radix_trie.proofs.RootLemmas.Sizes.{some_prefixes_bound}
 
+-- the swap of two runs is the swap of their images in the image of the list under f
 swaps-map : {A B : Type 0} (f : A → B) (l r old new : List A) → Swaps l r old new → Swaps (map f l) (map f r) (map f old) (map f new)
 swaps-map f l r old new s = record {
   before = map f s.before;
@@ -30,7 +31,8 @@ swaps-map f l r old new s = record {
   is = ap (map f) s.is ∙ map-append f s.before (r ++ s.after) ∙ ap (λ es. map f s.before ++ es) (map-append f r s.after);
 }
 
-swaps-length : {A : Type 0} (l r old new : List A) → Swaps l r old new → length new + length l ≡ length old + length r
+-- what a run put in place of another does to the length
+pub swaps-length : {A : Type 0} (l r old new : List A) → Swaps l r old new → length new + length l ≡ length old + length r
 swaps-length l r old new s =
     let a = length-append s.before (l ++ s.after) in
     let b = length-append l s.after in
@@ -39,14 +41,17 @@ swaps-length l r old new s =
     omega (arith, a, b, c, d, ap length s.was, ap length s.is)
 
 module _ {K V : Type 0} (enc : K → List ℕ) where
+  -- keyed entries are keyed in both parts
   keyed_parts : (xs ys : List (List ℕ × (K × V))) → AllKeyed enc (xs ++ ys) → AllKeyed enc xs × AllKeyed enc ys
   keyed_parts [] ys h = (tt, h)
   keyed_parts (x ∷ xs) ys h = let r = keyed_parts xs ys h.2 in ((h.0, h.1, r.0), r.1)
 
+  -- keyed entries after keyed entries are keyed
   keyed_append : (xs ys : List (List ℕ × (K × V))) → AllKeyed enc xs → AllKeyed enc ys → AllKeyed enc (xs ++ ys)
   keyed_append [] ys h k = k
   keyed_append (x ∷ xs) ys h k = (h.0, h.1, keyed_append xs ys h.2 k)
 
+  -- keyed entries stay so where keyed ones come in place of a run
   keyed_swap : (l r old new : List (List ℕ × (K × V))) → Swaps l r old new → AllKeyed enc old → AllKeyed enc r → AllKeyed enc new
   keyed_swap l r old new s h k =
       let a = keyed_parts s.before (l ++ s.after) (subst (AllKeyed enc) s.was h) in
@@ -55,21 +60,26 @@ module _ {K V : Type 0} (enc : K → List ℕ) where
   -- a run of a kept root's entries goes, and another comes
   module _ (old new : Tree (KeyValue K V)) (count nodes nibbles : ℕ) (gone come : Run (KeyValue K V)) (n m k l : ℕ)
       (kept : IsKept enc old count nodes nibbles) (a : AltersRoot gone come n m k l old new) where
+    -- the rows of the run that goes
     abbrev was_rows : List (List ℕ × (K × V))
     was_rows = map row_of (gone [])
 
+    -- the rows of the run that comes
     abbrev now_rows : List (List ℕ × (K × V))
     now_rows = map row_of (come [])
 
+    -- the changed root's pairs are the old ones, with the rows that come for those that go
     pub run_change : Swaps was_rows now_rows (entries_of old) (entries_of new)
     run_change =
         let rows = swaps-map row_of _ _ _ _ (a.alters.swaps []) in
-        let from = subst (λ es. Swaps was_rows now_rows es (map row_of (entries_at [] new))) (sym (entries_shown old kept.top)) rows in
-        subst (Swaps was_rows now_rows (entries_of old)) (sym (entries_shown new (a.fragment ∙ kept.top))) from
+        let from = subst (λ es. Swaps was_rows now_rows es (map row_of (entries_at [] new))) (sym (entries_of-root old kept.top)) rows in
+        subst (Swaps was_rows now_rows (entries_of old)) (sym (entries_of-root new (a.fragment ∙ kept.top))) from
 
-    pub run_count : length (entries_of new) + length was_rows ≡ count + length now_rows
-    run_count = let s = swaps-length _ _ _ _ run_change in omega (arith, s, kept.counted)
+    -- the count of pairs after the change, by the rows that go and those that come
+    pub length-run_change : length (entries_of new) + length was_rows ≡ count + length now_rows
+    length-run_change = let s = swaps-length _ _ _ _ run_change in omega (arith, s, kept.counted)
 
+    -- the changed root is kept with the counts that add up, where the rows that come are keyed
     pub run_kept : (count' : ℕ) → AllKeyed enc now_rows → count' + length was_rows ≡ count + length now_rows
         → (nodes' nibbles' : ℕ) → nodes' + m ≡ nodes + n → nibbles' + l ≡ nibbles + k → IsKept enc new count' nodes' nibbles'
     run_kept count' keyed counted nodes' nibbles' noded nibbled = record {
@@ -77,7 +87,7 @@ module _ {K V : Type 0} (enc : K → List ℕ) where
       masked = a.alters.placed;
       full = a.below kept.full;
       keyed = keyed_swap _ _ _ _ run_change kept.keyed keyed;
-      counted = omega (arith, run_count, counted);
+      counted = omega (arith, length-run_change, counted);
       noded = omega (arith, a.alters.nodes, noded, kept.noded);
       nibbled = let s = ap length a.fragment in omega (arith, s, a.alters.nibbles, nibbled, kept.nibbled);
     }
@@ -85,201 +95,104 @@ module _ {K V : Type 0} (enc : K → List ℕ) where
   -- a change at p of a kept root
   module _ (old new : Tree (KeyValue K V)) (count nodes nibbles : ℕ) (p : List ℕ) (was now : Option (KeyValue K V)) (n m k l : ℕ)
       (kept : IsKept enc old count nodes nibbles) (a : AltersRoot (entry_at p was) (entry_at p now) n m k l old new) where
-    pub change : Swaps (entry p (option_map pair_of was)) (entry p (option_map pair_of now)) (entries_of old) (entries_of new)
-    change =
-        subst (λ es. Swaps (entry p (option_map pair_of was)) es (entries_of old) (entries_of new)) (row_entry p now)
-        (subst (λ es. Swaps es (map row_of (entry p now)) (entries_of old) (entries_of new)) (row_entry p was)
+    -- the changed root's pairs are the old ones, with the new pair at p for the old one
+    pub entry_change : Swaps (entry p (option_map pair_of was)) (entry p (option_map pair_of now)) (entries_of old) (entries_of new)
+    entry_change =
+        subst (λ es. Swaps (entry p (option_map pair_of was)) es (entries_of old) (entries_of new)) (row_of-entry p now)
+        (subst (λ es. Swaps es (map row_of (entry p now)) (entries_of old) (entries_of new)) (row_of-entry p was)
         (run_change old new count nodes nibbles (entry_at p was) (entry_at p now) n m k l kept a))
 
+    -- the changed root is kept with the counts that add up, where the new pair is keyed
     pub kept_after : (count' : ℕ) → AllKeyed enc (entry p (option_map pair_of now))
         → count' + length (entry p (option_map pair_of was)) ≡ count + length (entry p (option_map pair_of now))
         → (nodes' nibbles' : ℕ) → nodes' + m ≡ nodes + n → nibbles' + l ≡ nibbles + k → IsKept enc new count' nodes' nibbles'
     kept_after count' keyed counted =
-        run_kept old new count nodes nibbles (entry_at p was) (entry_at p now) n m k l kept a count' (subst (AllKeyed enc) (sym (row_entry p now)) keyed)
-        (let x = ap length (row_entry p was) in let y = ap length (row_entry p now) in omega (arith, x, y, counted))
+        run_kept old new count nodes nibbles (entry_at p was) (entry_at p now) n m k l kept a count' (subst (AllKeyed enc) (sym (row_of-entry p now)) keyed)
+        (let x = ap length (row_of-entry p was) in let y = ap length (row_of-entry p now) in omega (arith, x, y, counted))
 
   -- an insertion over what stood at p
   module _ (old new : Tree (KeyValue K V)) (count nodes nibbles : ℕ) (p : List ℕ) (x : KeyValue K V) (was : Option (KeyValue K V)) (n k : ℕ)
       (kept : IsKept enc old count nodes nibbles) (a : AltersRoot (entry_at p was) (entry_at p (Some x)) n 0 k 0 old new) where
-    pub edit_inserts : map_of new ≡ fin.insert (map_of old) p (pair_of x)
-    edit_inserts =
-        swap_inserted p (option_map pair_of was) (pair_of x) (entries_of old) (entries_of new)
-        (entries_rise old kept.masked kept.full) (entries_rise new a.alters.placed (a.below kept.full)) (change old new count nodes nibbles p was (Some x) n 0 k 0 kept a)
+    -- after an insertion into the tree the map is the old one with the pair inserted
+    pub map_of-edit : map_of new ≡ fin.insert (map_of old) p (pair_of x)
+    map_of-edit =
+        from_sorted-lists_swapped_over p (option_map pair_of was) (pair_of x) (entries_of old) (entries_of new)
+        (entries_rise old kept.masked kept.full) (entries_rise new a.alters.placed (a.below kept.full)) (entry_change old new count nodes nibbles p was (Some x) n 0 k 0 kept a)
 
-    pub edit_found : fin.get (map_of old) p ≡ option_map pair_of was
-    edit_found =
-        swap_over p (option_map pair_of was) (pair_of x) (entries_of old) (entries_of new)
-        (entries_rise old kept.masked kept.full) (entries_rise new a.alters.placed (a.below kept.full)) (change old new count nodes nibbles p was (Some x) n 0 k 0 kept a)
+    -- what stood at the place of an insertion is what the old map has there
+    pub get-before_edit : fin.get (map_of old) p ≡ option_map pair_of was
+    get-before_edit =
+        get-lists_swapped_over p (option_map pair_of was) (pair_of x) (entries_of old) (entries_of new)
+        (entries_rise old kept.masked kept.full) (entries_rise new a.alters.placed (a.below kept.full)) (entry_change old new count nodes nibbles p was (Some x) n 0 k 0 kept a)
 
   -- a removal of what stood at p
   module _ (old new : Tree (KeyValue K V)) (count nodes nibbles : ℕ) (p : List ℕ) (x : KeyValue K V) (m l : ℕ)
       (kept : IsKept enc old count nodes nibbles) (a : CutsRoot p x m l old new) where
-    pub cut_removes : map_of new ≡ fin.remove (map_of old) p
-    cut_removes =
-        swap_removed p (pair_of x) (entries_of old) (entries_of new) (entries_rise old kept.masked kept.full)
-        (change old new count nodes nibbles p (Some x) None 0 m 0 l kept a)
+    -- after a removal from the tree the map is the old one with the list removed
+    pub map_of-cut : map_of new ≡ fin.remove (map_of old) p
+    map_of-cut =
+        from_sorted-lists_swapped_out p (pair_of x) (entries_of old) (entries_of new) (entries_rise old kept.masked kept.full)
+        (entry_change old new count nodes nibbles p (Some x) None 0 m 0 l kept a)
 
-    pub cut_found : fin.get (map_of old) p ≡ Some (pair_of x)
-    cut_found =
-        swap_from p (pair_of x) (entries_of old) (entries_of new) (entries_rise old kept.masked kept.full)
-        (change old new count nodes nibbles p (Some x) None 0 m 0 l kept a)
+    -- the pair that a removal took is what the old map has there
+    pub get-before_cut : fin.get (map_of old) p ≡ Some (pair_of x)
+    get-before_cut =
+        get-lists_swapped_out p (pair_of x) (entries_of old) (entries_of new) (entries_rise old kept.masked kept.full)
+        (entry_change old new count nodes nibbles p (Some x) None 0 m 0 l kept a)
 
   -- both counts are within `u128`
   module _ (t : Tree (KeyValue K V)) (count nodes nibbles : ℕ) (kept : IsKept enc t count nodes nibbles) where
+    -- a kept root of n pairs has at most 2 * n + 1 nodes
     pub nodes_fit : nodes ≤ suc (2 * count)
     nodes_fit =
-        let few = nodes_bound (shown t) (shaped 0 t.kids kept.masked.1 kept.full) in
-        omega (arith, few, nodes_shown t, kept.noded, kept.counted)
+        let few = nodes_bound (shown t) (placed_full_is_shaped 0 t.children kept.masked.1 kept.full) in
+        omega (arith, few, length-nodes_shown t, kept.noded, kept.counted)
 
-    pub nibbles_fit : nibbles ≤ count * (2 ^ 64 - 1)
+    -- a kept root of n pairs has at most n * (2 ^ 64 - 1) nibbles in its fragments
+    nibbles_fit : nibbles ≤ count * (2 ^ 64 - 1)
     nibbles_fit =
-        let stems : Counts (IsStem (entries_of t)) nibbles = subst (Counts (IsStem (entries_of t))) (nibbles_shown t ∙ kept.nibbled) (tree_nibbles (shown t) (shaped 0 t.kids kept.masked.1 kept.full)) in
-        subst (λ c. nibbles ≤ c * (2 ^ 64 - 1)) kept.counted (stems_bound enc (entries_of t) nibbles kept.keyed stems)
+        let some_prefixes : Counts (IsSomePrefix (IsStored (entries_of t))) nibbles = subst (Counts (IsSomePrefix (IsStored (entries_of t)))) (nibbles_in-shown t ∙ kept.nibbled) (tree_nibbles (shown t) (placed_full_is_shaped 0 t.children kept.masked.1 kept.full)) in
+        subst (λ c. nibbles ≤ c * (2 ^ 64 - 1)) kept.counted (some_prefixes_bound enc (entries_of t) nibbles kept.keyed some_prefixes)
 
+    -- a kept root of fewer than 2 ^ 64 pairs has fewer than 2 ^ 128 nibbles in its fragments
     pub nibbles_within : count < 2 ^ 64 → nibbles < 2 ^ 128
     nibbles_within small =
         let most : count ≤ 2 ^ 64 - 1 = omega arith in
         omega (arith, nibbles_fit, mul-le-mul_right (2 ^ 64 - 1) most)
 
 module _ {K V : Type 0} where
-  -- a list below the root's own path
-  pub at_root : (root : TrieNode K V) (list q : List ℕ) → (tree_of root).fragment ≡ [] → list ≡ q → fragment_of root ++ list ≡ q
-  at_root root list q top is = ap (λ f. f ++ list) (sym (fragment_out root) ∙ top) ∙ is
+  -- a list behind the root's fragment, which is empty, is that list
+  pub append-root_fragment : (root : TrieNode K V) (list q : List ℕ) → (tree_of root).fragment ≡ [] → list ≡ q → fragment_of root ++ list ≡ q
+  append-root_fragment root list q top is = ap (λ f. f ++ list) (sym (fragment-tree_of root) ∙ top) ∙ is
 
+  -- a removal behind the root's fragment is one at the list itself
   pub removed_at : (root : TrieNode K V) (new : Tree (KeyValue K V)) (list q : List ℕ) (x : KeyValue K V) (m l : ℕ) → (tree_of root).fragment ≡ [] → list ≡ q
       → CutsRoot (fragment_of root ++ list) x m l (tree_of root) new → CutsRoot q x m l (tree_of root) new
-  removed_at root new list q x m l top is a = subst (λ p. CutsRoot p x m l (tree_of root) new) (at_root root list q top is) a
+  removed_at root new list q x m l top is a = subst (λ p. CutsRoot p x m l (tree_of root) new) (append-root_fragment root list q top is) a
 
+  -- an insertion behind the root's fragment is a change of the root at the list itself
   pub inserted_at : (root : TrieNode K V) (new : Tree (KeyValue K V)) (list q : List ℕ) (x : KeyValue K V) (was : Option (KeyValue K V)) (n k : ℕ)
       → (tree_of root).fragment ≡ [] → list ≡ q → Edits (fragment_of root ++ drop 0 list) x was n k (tree_of root) new
       → AltersRoot (entry_at q was) (entry_at q (Some x)) n 0 k 0 (tree_of root) new
-  inserted_at root new list q x was n k top is e = subst (λ p. AltersRoot (entry_at p was) (entry_at p (Some x)) n 0 k 0 (tree_of root) new) (at_root root list q top is) e.root
+  inserted_at root new list q x was n k top is e = subst (λ p. AltersRoot (entry_at p was) (entry_at p (Some x)) n 0 k 0 (tree_of root) new) (append-root_fragment root list q top is) e.root
 
+  -- what the root doesn't hold behind its fragment it doesn't hold at the list itself
   pub unheld_at : (root : TrieNode K V) (list q : List ℕ) → (tree_of root).fragment ≡ [] → list ≡ q → (IsHeld (tree_of root) (fragment_of root ++ list) → ⊥)
       → IsHeld (tree_of root) q → ⊥
-  unheld_at root list q top is apart = subst (λ p. IsHeld (tree_of root) p → ⊥) (at_root root list q top is) apart
+  unheld_at root list q top is apart = subst (λ p. IsHeld (tree_of root) p → ⊥) (append-root_fragment root list q top is) apart
 
+  -- what the root holds behind its fragment it holds at the list itself
   pub held_at : (root : TrieNode K V) (list q : List ℕ) → (tree_of root).fragment ≡ [] → list ≡ q → IsHeld (tree_of root) (fragment_of root ++ list)
       → IsHeld (tree_of root) q
-  held_at root list q top is h = subst (IsHeld (tree_of root)) (at_root root list q top is) h
+  held_at root list q top is h = subst (IsHeld (tree_of root)) (append-root_fragment root list q top is) h
 
 module _ {K V : Type 0} where
-  -- nodes below the root by their whole path
+  -- a node behind the root's fragment stands at the list itself
   pub node_at_root : (root : TrieNode K V) (list : List ℕ) (u : Tree (KeyValue K V)) → (tree_of root).fragment ≡ []
       → IsNodeAt (tree_of root) (fragment_of root ++ drop 0 list) u → IsNodeAt (tree_of root) list u
-  node_at_root root list u top i = subst (λ p. IsNodeAt (tree_of root) p u) (at_root root list list top refl) i
+  node_at_root root list u top i = subst (λ p. IsNodeAt (tree_of root) p u) (append-root_fragment root list list top refl) i
 
+  -- where no node stands behind the root's fragment, none stands at the list itself
   pub no_node_at_root : (root : TrieNode K V) (list : List ℕ) → (tree_of root).fragment ≡ []
       → ((u : Tree (KeyValue K V)) → IsNodeAt (tree_of root) (fragment_of root ++ drop 0 list) u → ⊥) → (u : Tree (KeyValue K V)) → IsNodeAt (tree_of root) list u → ⊥
-  no_node_at_root root list top apart = subst (λ p. (u : Tree (KeyValue K V)) → IsNodeAt (tree_of root) p u → ⊥) (at_root root list list top refl) apart
-
--- what a removal from the root does, once it has taken a pair
-module _ {K V : Type 0} (enc : K → List ℕ) (root : TrieNode K V) (new : Tree (KeyValue K V)) (count nodes nibbles : ℕ) (list q : List ℕ) (x : KeyValue K V) (m l : ℕ)
-    (kept : IsKept enc (tree_of root) count nodes nibbles) (is : list ≡ q) (cut : CutsRoot (fragment_of root ++ list) x m l (tree_of root) new) where
-  at_q : CutsRoot q x m l (tree_of root) new
-  at_q = removed_at root new list q x m l kept.top is cut
-
-  pub taken_value : value_at (map_of (tree_of root)) q ≡ Some x.value
-  taken_value = ap (option_map (λ p. p.1)) (cut_found enc (tree_of root) new count nodes nibbles q x m l kept at_q)
-
-  pub taken_map : map_of new ≡ fin.remove (map_of (tree_of root)) q
-  taken_map = cut_removes enc (tree_of root) new count nodes nibbles q x m l kept at_q
-
-  counted : suc (length (entries_of new)) ≡ count
-  counted =
-      let s = swaps-length _ _ _ _ (change enc (tree_of root) new count nodes nibbles q (Some x) None 0 m 0 l kept at_q) in
-      omega (arith, s, kept.counted)
-
-  pub taken_some : 1 ≤ count
-  taken_some = omega (arith, counted)
-
-  pub taken_nodes : m ≤ nodes
-  taken_nodes = omega (arith, at_q.alters.nodes, kept.noded)
-
-  pub taken_nibbles : l ≤ nibbles
-  taken_nibbles = let s = ap length at_q.fragment in omega (arith, s, at_q.alters.nibbles, kept.nibbled)
-
-  pub taken_kept : IsKept enc new (count - 1) (nodes - m) (nibbles - l)
-  taken_kept =
-      kept_after enc (tree_of root) new count nodes nibbles q (Some x) None 0 m 0 l kept at_q (count - 1) tt (omega (arith, counted))
-      (nodes - m) (nibbles - l) (omega (arith, taken_nodes)) (omega (arith, taken_nibbles))
-
-either_le : (m n : ℕ) → (m ≤ n) ⊎ (n < m)
-either_le zero n = inl (omega arith)
-either_le (suc m) zero = inr (omega arith)
-either_le (suc m) (suc n) = elim (either_le m n) [ inl h ↦ inl (omega arith) | inr h ↦ inr (omega arith) ]
-
--- where it is false that all counts are in use and the list is absent, an absent list can be counted
-room_for : (full absent : Type 0) (b : Bool) (count : ℕ) → b ≡ false → (full × absent → b ≡ true) → (count ≡ 2 ^ 64 - 1 → full) → count < 2 ^ 64 → absent
-    → count + 1 < 2 ^ 64
-room_for full absent b count off on is small here = elim (either_le (count + 1) (2 ^ 64 - 1)) [
-  | inl le ↦ omega arith
-  | inr lt ↦ (let clash : false ≡ true = sym off ∙ on (is (omega arith), here) in cc)
-]
-
--- what an insertion at the root does, once it is carried out
-module _ {K V : Type 0} (enc : K → List ℕ) (root : TrieNode K V) (new : Tree (KeyValue K V)) (count nodes nibbles : ℕ) (list q : List ℕ) (x : KeyValue K V)
-    (was : Option (KeyValue K V)) (n k : ℕ) (kept : IsKept enc (tree_of root) count nodes nibbles) (is : list ≡ q)
-    (edit : Edits (fragment_of root ++ drop 0 list) x was n k (tree_of root) new) where
-  put_at : AltersRoot (entry_at q was) (entry_at q (Some x)) n 0 k 0 (tree_of root) new
-  put_at = inserted_at root new list q x was n k kept.top is edit
-
-  pub put_value : value_at (map_of (tree_of root)) q ≡ option_map (λ y. y.value) was
-  put_value = ap (option_map (λ p. p.1)) (edit_found enc (tree_of root) new count nodes nibbles q x was n k kept put_at) ∙ twice was
-    where
-      twice : (o : Option (KeyValue K V)) → option_map (λ (p : K × V). p.1) (option_map pair_of o) ≡ option_map (λ (y : KeyValue K V). y.value) o
-      twice None = refl
-      twice (Some y) = refl
-
-  pub put_map : map_of new ≡ fin.insert (map_of (tree_of root)) q (pair_of x)
-  put_map = edit_inserts enc (tree_of root) new count nodes nibbles q x was n k kept put_at
-
-  after : (m : ℕ) → q ≡ enc x.key → length q < 2 ^ 64 → m + length (entry q (option_map pair_of was)) ≡ count + 1 → IsKept enc new m (nodes + n) (nibbles + k)
-  after m keyed fits counted =
-      kept_after enc (tree_of root) new count nodes nibbles q was (Some x) n 0 k 0 kept put_at m (keyed, fits, tt) counted
-      (nodes + n) (nibbles + k) (omega arith) (omega arith)
-
-  pub put_over : (y : KeyValue K V) → was ≡ Some y → q ≡ enc x.key → length q < 2 ^ 64 → IsKept enc new count (nodes + n) (nibbles + k)
-  put_over y w keyed fits = after count keyed fits (ap (λ o. count + length (entry q (option_map pair_of o))) w)
-
-  pub put_added : was ≡ None → q ≡ enc x.key → length q < 2 ^ 64 → IsKept enc new (count + 1) (nodes + n) (nibbles + k)
-  put_added w keyed fits = let same = ap (λ o. count + 1 + length (entry q (option_map pair_of o))) w in after (count + 1) keyed fits (omega (arith, same))
-
-  -- where there is room for a pair more, unless one is replaced
-  some_count : (o : Option (KeyValue K V)) → was ≡ o → q ≡ enc x.key → length q < 2 ^ 64 → count < 2 ^ 64 → (was ≡ None → count + 1 < 2 ^ 64)
-      → (m : ℕ) × (m < 2 ^ 64) × IsKept enc new m (nodes + n) (nibbles + k)
-  some_count None w keyed fits small room = (count + 1, room w, put_added w keyed fits)
-  some_count (Some y) w keyed fits small room = (count, small, put_over y w keyed fits)
-
-  put_nodes_fit : q ≡ enc x.key → length q < 2 ^ 64 → count < 2 ^ 64 → (was ≡ None → count + 1 < 2 ^ 64) → nodes + n < 2 ^ 128
-  put_nodes_fit keyed fits small room =
-      let r = some_count was refl keyed fits small room in
-      let most = r.1 in
-      let few = nodes_fit enc new r.0 (nodes + n) (nibbles + k) r.2 in
-      omega arith
-
-  put_nibbles_fit : q ≡ enc x.key → length q < 2 ^ 64 → count < 2 ^ 64 → (was ≡ None → count + 1 < 2 ^ 64) → nibbles + k < 2 ^ 128
-  put_nibbles_fit keyed fits small room =
-      let r = some_count was refl keyed fits small room in
-      nibbles_within enc new r.0 (nodes + n) (nibbles + k) r.2 r.1
-
-  -- what stood at the list tells whether one stood there
-  put_absent : was ≡ None → fin.get (map_of (tree_of root)) q ≡ None
-  put_absent w = edit_found enc (tree_of root) new count nodes nibbles q x was n k kept put_at ∙ ap (option_map pair_of) w
-
-  -- the counts after it are within their types, where it is false that all counts of pairs are in use and the list is absent
-  pub put_fits : q ≡ enc x.key → length list < 2 ^ 64 → count < 2 ^ 64 → (m : PairMap K V) → map_of (tree_of root) ≡ m
-      → (full : Bool) → full ≡ false → ((fin.len m ≡ 2 ^ 64 - 1) × (fin.get m list ≡ None) → full ≡ true)
-      → (nodes + n < 2 ^ 128) × (nibbles + k < 2 ^ 128) × (was ≡ None → count + 1 < 2 ^ 64)
-  put_fits keyed fits small m view full off on = (put_nodes_fit keyed short small room, put_nibbles_fit keyed short small room, room)
-    where
-      short : length q < 2 ^ 64
-      short = subst (λ (l : List ℕ). length l < 2 ^ 64) is fits
-
-      absent : was ≡ None → fin.get m list ≡ None
-      absent w = ap (fin.get m) is ∙ ap (λ o. fin.get o q) (sym view) ∙ put_absent w
-
-      room : was ≡ None → count + 1 < 2 ^ 64
-      room w =
-          room_for (fin.len m ≡ 2 ^ 64 - 1) (fin.get m list ≡ None) full count off on
-          (λ e. ap fin.len (sym view) ∙ kept_len enc (tree_of root) count nodes nibbles kept ∙ e) small (absent w)
+  no_node_at_root root list top apart = subst (λ p. (u : Tree (KeyValue K V)) → IsNodeAt (tree_of root) p u → ⊥) (append-root_fragment root list list top refl) apart

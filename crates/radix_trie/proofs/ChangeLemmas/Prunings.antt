@@ -7,36 +7,37 @@ use Rattle.masked_tree.specs.Paths.{IsPath}
 use Rattle.nibble_map.specs.Lists.{IsPrefix, is_prefix}
 use Rattle.nibble_map.specs.Maps.{IsStored, below, without_below, walk}
 use Rattle.nibble_map.specs.Swaps.{Swaps, entry}
-use Rattle.nibble_map.proofs.MapLemmas.Below.{get_below}
-use Rattle.masked_tree.proofs.TreeLemmas.Sizes.{pairs_count}
+use Rattle.nibble_map.proofs.MapLemmas.Below.{get-below}
+use Rattle.masked_tree.proofs.TreeLemmas.Sizes.{length-entries_at}
 use Rattle.nibble_map.proofs.ListLemmas.Parted.{is_prefix_true, prefix_through, reached_past}
 use Rattle.masked_tree.specs.Alters.{PrunesRoot, all_of, none_of}
-use Rattle.nibble_map.proofs.MapLemmas.Without.{run_cut, nothing_below}
+use Rattle.nibble_map.proofs.MapLemmas.Without.{from_sorted-run_cut, without_below-nothing}
 use Rattle.radix_nodes.specs.Prunes.{IsSmall, IsBranch}
 use Rattle.radix_nodes.specs.Pairs.{pair_of, pairs_in}
 use Rattle.radix_nodes.specs.declared.trie_node.KeyValue.{KeyValue}
 use Rattle.radix_nodes.specs.declared.trie_node.TrieNode.{TrieNode}
 use Rattle.radix_nodes.specs.Nodes.{tree_of, fragment_of, IsNearest}
-use Rattle.radix_nodes.proofs.NodeLemmas.Nodes.{fragment_out}
-use Rattle.radix_nodes.proofs.SearchLemmas.{nearest_here}
+use Rattle.radix_nodes.proofs.NodeLemmas.Nodes.{fragment-tree_of}
+use Rattle.radix_nodes.proofs.SearchLemmas.Nearest.{nearest_here}
 use Rattle.radix_trie.specs.Roots.{entries_of, map_of, IsRoot, IsKept}
 use Rattle.radix_trie.specs.Views.{pairs_below}
-use Rattle.radix_trie.proofs.ChangeLemmas.Changes.{run_change, run_count, run_kept, nodes_fit, nibbles_within}
-use Rattle.radix_trie.proofs.PathLemmas.Parts.{node_kept}
+use Rattle.radix_trie.proofs.ChangeLemmas.Changes.{run_change, length-run_change, run_kept, nodes_fit, nibbles_within}
+use Rattle.radix_trie.proofs.PathLemmas.Parts.{entries_under-node}
 use Rattle.radix_trie.proofs.RootLemmas.Paths.{node_point}
-use Rattle.radix_trie.proofs.PathLemmas.Places.{kept_first, path_leads, pairs_found, no_pairs, below_nil}
-use Rattle.radix_trie.proofs.RootLemmas.Shown.{row_of, entries_shown, entries_rise, kept_root, kept_len}
+use Rattle.radix_trie.proofs.PathLemmas.NodesBelow.{filter-map, path_leads, pairs_in-node, walk-no_path}
+use Rattle.radix_trie.proofs.PathLemmas.Places.{below-nil}
+use Rattle.radix_trie.proofs.RootLemmas.Shown.{row_of, entries_of-root, entries_rise, kept_root, len-map_of_kept}
 
 -- where nothing is below a list none is stored there
-pub none_stored : {P : Type 0} (m : fin.FinMap _ P) (p e : List ℕ) → IsStored m e → IsPrefix p e → fin.len (below m p) ≡ 0 → ⊥
-none_stored m p e stored i none =
+nothing_stored_below : {P : Type 0} (m : fin.FinMap _ P) (p e : List ℕ) → IsStored m e → IsPrefix p e → fin.len (below m p) ≡ 0 → ⊥
+nothing_stored_below m p e stored i none =
     let here : T (is_prefix p e) = subst T (sym (is_prefix_true p e i)) tt in
-    subst (λ o. T (is_some o)) (sym (get_below m p e here) ∙ ap (λ n. fin.get n e) (fin.empty_of_len (below m p) none) ∙ fin.get-empty _ e) stored
+    subst (λ o. T (is_some o)) (sym (get-below m p e here) ∙ ap (λ n. fin.get n e) (fin.empty_of_len (below m p) none) ∙ fin.get-empty _ e) stored
 
 -- the root as a branch of itself
 pub root_branch : {K V : Type 0} (n : TrieNode K V) → (tree_of n).fragment ≡ [] → IsBranch (tree_of n) (tree_of n) [] []
 root_branch n top =
-    let f : fragment_of n ≡ [] = sym (fragment_out n) ∙ top in
+    let f : fragment_of n ≡ [] = sym (fragment-tree_of n) ∙ top in
     record {
       covered = 0;
       nearest = subst (λ p. IsNearest (tree_of n) (tree_of n) p 0) (append-nil (fragment_of n) ∙ f) (nearest_here n [] 0 0 refl (sym (ap length f)));
@@ -45,14 +46,16 @@ root_branch n top =
 
 -- a branch below the root by its whole list
 pub branch_at : {K V : Type 0} (n : TrieNode K V) (u : Tree (KeyValue K V)) (list s : List ℕ) → (tree_of n).fragment ≡ [] → IsBranch (tree_of n) u (fragment_of n ++ list) s → IsBranch (tree_of n) u list s
-branch_at n u list s top b = subst (λ p. IsBranch (tree_of n) u p s) (ap (λ f. f ++ list) (sym (fragment_out n) ∙ top)) b
+branch_at n u list s top b = subst (λ p. IsBranch (tree_of n) u p s) (ap (λ f. f ++ list) (sym (fragment-tree_of n) ∙ top)) b
 
 module _ {K V : Type 0} (enc : K → List ℕ) (old : Tree (KeyValue K V)) (count nodes nibbles : ℕ) (kept : IsKept enc old count nodes nibbles) where
+  -- the tree is the root of its map
   abbrev the_root : IsRoot enc (map_of old) old
   the_root = kept_root enc old count nodes nibbles kept
 
+  -- a kept root has as many entries as pairs are counted
   held_length : length (entries_at [] old) ≡ count
-  held_length = sym (length-map (entries_at [] old) row_of) ∙ ap length (sym (entries_shown old kept.top)) ∙ kept.counted
+  held_length = sym (length-map (entries_at [] old) row_of) ∙ ap length (sym (entries_of-root old kept.top)) ∙ kept.counted
 
   -- what the root holds can be counted
   pub small_root : count < 2 ^ 64 → IsSmall old
@@ -63,81 +66,101 @@ module _ {K V : Type 0} (enc : K → List ℕ) (old : Tree (KeyValue K V)) (coun
   }
 
   -- a path below a list that isn't empty leads to a stored one
-  pub path_below : (p q : List ℕ) → 0 < length p → IsPath old q → IsPrefix p q → fin.len (below (map_of old) p) ≡ 0 → ⊥
-  path_below [] q some at i none = absurd (omega (arith, some))
-  path_below (a ∷ p) q some at i none =
+  pub path_below_has_stored : (p q : List ℕ) → 0 < length p → IsPath old q → IsPrefix p q → fin.len (below (map_of old) p) ≡ 0 → ⊥
+  path_below_has_stored [] q some at i none = absurd (omega (arith, some))
+  path_below_has_stored (a ∷ p) q some at i none =
       let r = reached_past (IsStored (map_of old)) q [] a (p ++ i.0) i.1 (node_point enc (map_of old) old the_root q at.0 at.1) in
-      none_stored (map_of old) (a ∷ p) r.0 r.1 (prefix_through (a ∷ p) q r.0 i r.2) none
+      nothing_stored_below (map_of old) (a ∷ p) r.0 r.1 (prefix_through (a ∷ p) q r.0 i r.2) none
 
   -- where no path goes on from a list, nothing is there to be taken
   module _ (p : List ℕ) (apart : (q : List ℕ) → IsPath old q → IsPrefix p q → ⊥) where
+    -- where no path goes on from p, the walk from p is empty
     no_walk : walk (map_of old) p ≡ []
-    no_walk = no_pairs enc (map_of old) old the_root p apart
+    no_walk = walk-no_path enc (map_of old) old the_root p apart
 
-    pub free_pairs : [] ≡ pairs_below (map_of old) p
-    free_pairs = sym (ap (map (λ e. e.1)) no_walk)
+    -- where no path goes on from p, the map has no pairs at or below p
+    pub nothing_below-pairs : [] ≡ pairs_below (map_of old) p
+    nothing_below-pairs = sym (ap (map (λ e. e.1)) no_walk)
 
-    pub free_map : (new : Tree (KeyValue K V)) → new ≡ old → map_of new ≡ without_below (map_of old) p
-    free_map new e = ap map_of e ∙ sym (nothing_below p (map_of old) (fin.len-entries (below (map_of old) p) ∙ ap length no_walk))
+    -- where no path goes on from p, the map of the same tree is the map without all below p
+    pub map_of-nothing_below : (new : Tree (KeyValue K V)) → new ≡ old → map_of new ≡ without_below (map_of old) p
+    map_of-nothing_below new e = ap map_of e ∙ sym (without_below-nothing p (map_of old) (fin.len-entries (below (map_of old) p) ∙ ap length no_walk))
 
-  pub all_below : fin.len (below (map_of old) []) ≡ 0 → length (entries_at [] old) ≡ 0
-  all_below none = held_length ∙ sym (kept_len enc old count nodes nibbles kept) ∙ ap fin.len (sym (below_nil (map_of old))) ∙ none
+  -- where nothing is stored at or below the empty list, the root has no entry
+  pub length-nothing_stored : fin.len (below (map_of old) []) ≡ 0 → length (entries_at [] old) ≡ 0
+  length-nothing_stored none = held_length ∙ sym (len-map_of_kept enc old count nodes nibbles kept) ∙ ap fin.len (sym (below-nil (map_of old))) ∙ none
 
   module _ (new : Tree (KeyValue K V)) (p s : List ℕ) (u : Tree (KeyValue K V)) (m l : ℕ) (branch : IsBranch old u p s) (cut : PrunesRoot s u m l old new) where
+    -- the path of the branch
     abbrev path : List ℕ
     path = p ++ drop branch.covered u.fragment
 
+    -- the rows of the branch
     abbrev gone : List (List ℕ × (K × V))
     gone = map row_of (entries_at s u)
 
+    -- the root's entries with the prefix p are those of the branch
     at_branch : filter (λ e. is_prefix p e.0) (entries_at [] old) ≡ entries_at s u
     at_branch =
-        node_kept p old path u kept.masked branch.nearest.node (path_leads enc (map_of old) old the_root p path branch.nearest.shortest) branch.nearest.shortest.below
-        ∙ ap (λ y. entry y u.pair ++ entries_in y u.kids) (sym branch.path)
+        entries_under-node p old path u kept.masked branch.nearest.node (path_leads enc (map_of old) old the_root p path branch.nearest.shortest) branch.nearest.shortest.below
+        ∙ ap (λ y. entry y u.pair ++ entries_in y u.children) (sym branch.path)
 
-    chosen : filter (λ e. is_prefix p e.0) (entries_of old) ≡ gone
-    chosen = ap (filter (λ e. is_prefix p e.0)) (entries_shown old kept.top) ∙ kept_first (λ (e : List ℕ × (K × V)). is_prefix p e.0) row_of (entries_at [] old) ∙ ap (map row_of) at_branch
+    -- the root's rows with the prefix p are those of the branch
+    rows_chosen : filter (λ e. is_prefix p e.0) (entries_of old) ≡ gone
+    rows_chosen = ap (filter (λ e. is_prefix p e.0)) (entries_of-root old kept.top) ∙ filter-map (λ (e : List ℕ × (K × V)). is_prefix p e.0) row_of (entries_at [] old) ∙ ap (map row_of) at_branch
 
-    swapped : Swaps gone [] (entries_of old) (entries_of new)
-    swapped = run_change enc old new count nodes nibbles (all_of s u) none_of 0 m 0 l kept cut
+    -- the pairs after the cut are the old ones without the branch's rows
+    rows_swapped : Swaps gone [] (entries_of old) (entries_of new)
+    rows_swapped = run_change enc old new count nodes nibbles (all_of s u) none_of 0 m 0 l kept cut
 
-    pub pruned_map : map_of new ≡ without_below (map_of old) p
-    pruned_map = run_cut p gone (entries_of old) (entries_of new) (entries_rise old kept.masked kept.full) swapped chosen
+    -- after the cut the map is the old one without all below p
+    pub map_of-pruned : map_of new ≡ without_below (map_of old) p
+    map_of-pruned = from_sorted-run_cut p gone (entries_of old) (entries_of new) (entries_rise old kept.masked kept.full) rows_swapped rows_chosen
 
-    pub pruned_pairs : pairs_in u ≡ pairs_below (map_of old) p
-    pruned_pairs = pairs_found enc (map_of old) old the_root p path u branch.nearest.node branch.nearest.shortest
+    -- the branch's pairs are the old map's at and below p, in order
+    pairs_in-pruned : pairs_in u ≡ pairs_below (map_of old) p
+    pairs_in-pruned = pairs_in-node enc (map_of old) old the_root p path u branch.nearest.node branch.nearest.shortest
 
+    -- the branch has as many rows as pairs
     gone_length : length gone ≡ length (pairs_in u)
     gone_length =
         let b = length-map (entries_at s u) row_of in
         let c = length-map (entries_at [] u) (λ e. pair_of e.1) in
-        let d = pairs_count s u in let e = pairs_count [] u in
+        let d = length-entries_at s u in let e = length-entries_at [] u in
         omega (arith, b, c, d, e)
 
-    counted : length (entries_of new) + length (pairs_in u) ≡ count
-    counted = let a = run_count enc old new count nodes nibbles (all_of s u) none_of 0 m 0 l kept cut in omega (arith, a, gone_length)
+    -- the pairs after the cut and those of the branch are as many as were counted
+    pairs_counted : length (entries_of new) + length (pairs_in u) ≡ count
+    pairs_counted = let a = length-run_change enc old new count nodes nibbles (all_of s u) none_of 0 m 0 l kept cut in omega (arith, a, gone_length)
 
-    pub pruned_some : length (pairs_in u) ≤ count
-    pruned_some = omega (arith, counted)
+    -- the branch has no more pairs than were counted
+    pruned_some : length (pairs_in u) ≤ count
+    pruned_some = omega (arith, pairs_counted)
 
-    pub pruned_nodes : m ≤ nodes
+    -- no more nodes are cut than there were
+    pruned_nodes : m ≤ nodes
     pruned_nodes = omega (arith, cut.alters.nodes, kept.noded)
 
-    pub pruned_nibbles : l ≤ nibbles
+    -- no more nibbles are cut than there were
+    pruned_nibbles : l ≤ nibbles
     pruned_nibbles = let f = ap length cut.fragment in omega (arith, f, cut.alters.nibbles, kept.nibbled)
 
-    pub pruned_kept : IsKept enc new (count - length (pairs_in u)) (nodes - m) (nibbles - l)
+    -- after the cut the root is kept, without the counts of the branch
+    pruned_kept : IsKept enc new (count - length (pairs_in u)) (nodes - m) (nibbles - l)
     pruned_kept =
-        run_kept enc old new count nodes nibbles (all_of s u) none_of 0 m 0 l kept cut _ tt (omega (arith, counted, gone_length))
+        run_kept enc old new count nodes nibbles (all_of s u) none_of 0 m 0 l kept cut _ tt (omega (arith, pairs_counted, gone_length))
         (nodes - m) (nibbles - l) (omega (arith, pruned_nodes)) (omega (arith, pruned_nibbles))
 
     -- the same by the list that was handed out
     module _ (pairs : List (K × V)) (is : pairs ≡ pairs_in u) where
-      pub list_some : length pairs ≤ count
-      list_some = let e = ap length is in omega (arith, e, pruned_some)
+      -- no more pairs are handed out than were counted
+      pub handed_pairs_counted : length pairs ≤ count
+      handed_pairs_counted = let e = ap length is in omega (arith, e, pruned_some)
 
-      pub list_kept : (n : ℕ) → n ≡ length pairs → IsKept enc new (count - n) (nodes - m) (nibbles - l)
-      list_kept n e = subst (λ k. IsKept enc new (count - k) (nodes - m) (nibbles - l)) (sym (e ∙ ap length is)) pruned_kept
+      -- after the cut the root is kept, with the count without the pairs handed out
+      pub handed_pairs_kept : (n : ℕ) → n ≡ length pairs → IsKept enc new (count - n) (nodes - m) (nibbles - l)
+      handed_pairs_kept n e = subst (λ k. IsKept enc new (count - k) (nodes - m) (nibbles - l)) (sym (e ∙ ap length is)) pruned_kept
 
-      pub list_pairs : pairs ≡ pairs_below (map_of old) p
-      list_pairs = is ∙ pruned_pairs
+      -- the pairs handed out are the old map's at and below p, in order
+      pub handed_pairs_below : pairs ≡ pairs_below (map_of old) p
+      handed_pairs_below = is ∙ pairs_in-pruned

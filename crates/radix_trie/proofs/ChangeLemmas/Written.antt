@@ -12,9 +12,10 @@ use Rattle.radix_nodes.specs.Nodes.{tree_of, fragment_of}
 use Rattle.radix_nodes.specs.Lending.{Revalues, IsLike, keys_of}
 use Rattle.radix_nodes.specs.Lending as lending
 use Rattle.radix_trie.specs.Roots.{map_of, AllKeyed, IsKept}
-use Rattle.radix_trie.proofs.ChangeLemmas.Changes.{at_root, edit_inserts, edit_found}
-use Rattle.radix_trie.proofs.RootLemmas.Shown.{row_of, entries_shown}
+use Rattle.radix_trie.proofs.ChangeLemmas.Changes.{append-root_fragment, map_of-edit, get-before_edit}
+use Rattle.radix_trie.proofs.RootLemmas.Shown.{row_of, entries_of-root}
 
+-- a match on an option that is Some x holds where its case for x does
 pub match_some : {A : Type 0} (o : Option A) (x : A) (P : Type 0) (Q : A → Type 0) → o ≡ Some x → Q x → MatchOption o P Q
 match_some o x P Q e q = rw e q
 
@@ -23,14 +24,15 @@ pub same_after : {N A B C : Type 0} (n : N) (f g : A → B) → ((w : A) → f w
 same_after n f g e = λ i. inl (n, λ w. e w i)
 
 module _ {K V : Type 0} where
-  -- what was written through the reference to the value at a list below the root
+  -- a value written behind the root's fragment is one written at the list itself
   pub revalued_at : (root : TrieNode K V) (new : Tree (KeyValue K V)) (list : List ℕ) (r : Option (MutBor V)) (x : MutBor V) (w : V) → (tree_of root).fragment ≡ [] → r ≡ Some x
       → IfSome r (λ x. Revalues (fragment_of root ++ list) x.now w (tree_of root) new) → Revalues list x.now w (tree_of root) new
   revalued_at root new list r x w top is h =
-      subst (λ p. Revalues p x.now w (tree_of root) new) (at_root root list list top refl)
+      subst (λ p. Revalues p x.now w (tree_of root) new) (append-root_fragment root list list top refl)
       (subst (λ (o : Option (MutBor V)). IfSome o (λ x. Revalues (fragment_of root ++ list) x.now w (tree_of root) new)) is h)
 
 module _ {K V : Type 0} (enc : K → List ℕ) where
+  -- entries with the lists and keys of keyed ones are keyed
   keyed_like : (es ds : List (List ℕ × KeyValue K V)) → keys_of ds ≡ keys_of es → AllKeyed enc (map row_of es) → AllKeyed enc (map row_of ds)
   keyed_like [] [] i h = tt
   keyed_like [] (d ∷ ds) i h = absurd (let j : lending.keyed d ∷ keys_of ds ≡ [] = i in cc j)
@@ -48,6 +50,7 @@ module _ {K V : Type 0} (enc : K → List ℕ) where
       tails = let j : lending.keyed d ∷ keys_of ds ≡ lending.keyed e ∷ keys_of es = i in cc j
 
   module _ (old new : Tree (KeyValue K V)) (count nodes nibbles : ℕ) (kept : IsKept enc old count nodes nibbles) where
+    -- entries with the same lists and keys are as many
     same_length : (es ds : List (List ℕ × KeyValue K V)) → keys_of ds ≡ keys_of es → length (map row_of ds) ≡ length (map row_of es)
     same_length es ds i = length-map ds row_of ∙ sym (length-map ds lending.keyed) ∙ ap length i ∙ length-map es lending.keyed ∙ sym (length-map es row_of)
 
@@ -57,28 +60,32 @@ module _ {K V : Type 0} (enc : K → List ℕ) where
       top = top;
       masked = like.placed kept.masked;
       full = like.below kept.full;
-      keyed = subst (AllKeyed enc) (sym (entries_shown new top)) (keyed_like (entries_at [] old) (entries_at [] new) (like.keys []) (subst (AllKeyed enc) (entries_shown old kept.top) kept.keyed));
-      counted = ap length (entries_shown new top) ∙ same_length (entries_at [] old) (entries_at [] new) (like.keys []) ∙ ap length (sym (entries_shown old kept.top)) ∙ kept.counted;
+      keyed = subst (AllKeyed enc) (sym (entries_of-root new top)) (keyed_like (entries_at [] old) (entries_at [] new) (like.keys []) (subst (AllKeyed enc) (entries_of-root old kept.top) kept.keyed));
+      counted = ap length (entries_of-root new top) ∙ same_length (entries_at [] old) (entries_at [] new) (like.keys []) ∙ ap length (sym (entries_of-root old kept.top)) ∙ kept.counted;
       noded = ap suc like.nodes ∙ kept.noded;
       nibbled = like.nibbles ∙ kept.nibbled;
     }
 
-    -- where nothing was lent, nothing changed
-    pub kept_map : lending.IsKept old new → map_of new ≡ map_of old
-    kept_map k =
-        ap fin.from_sorted (entries_shown new (k.like.fragment ∙ kept.top) ∙ ap (map row_of) (k.same []) ∙ sym (entries_shown old kept.top))
+    -- a tree that differs in no value has the same map
+    pub map_of-unchanged : lending.IsUnwritten old new → map_of new ≡ map_of old
+    map_of-unchanged k =
+        ap fin.from_sorted (entries_of-root new (k.like.fragment ∙ kept.top) ∙ ap (map row_of) (k.same []) ∙ sym (entries_of-root old kept.top))
 
     module _ (q : List ℕ) (v w : V) (r : Revalues q v w old new) where
-      changed : AltersRoot (entry_at q (Some (record { key = r.key; value = v }))) (entry_at q (Some (record { key = r.key; value = w }))) 0 0 0 0 old new
-      changed = r.alters.root
+      -- the root was changed at q, from the key with v to the key with w
+      value_changed : AltersRoot (entry_at q (Some (record { key = r.key; value = v }))) (entry_at q (Some (record { key = r.key; value = w }))) 0 0 0 0 old new
+      value_changed = r.alters.root
 
-      found : fin.get (map_of old) q ≡ Some (r.key, v)
-      found = edit_found enc old new count nodes nibbles q (record { key = r.key; value = w }) (Some (record { key = r.key; value = v })) 0 0 kept changed
+      -- the old map has the key with v at q
+      get-changed : fin.get (map_of old) q ≡ Some (r.key, v)
+      get-changed = get-before_edit enc old new count nodes nibbles q (record { key = r.key; value = w }) (Some (record { key = r.key; value = v })) 0 0 kept value_changed
 
-      pub revalued_from : value_at (map_of old) q ≡ Some v
-      revalued_from = ap (option_map (λ p. p.1)) found
+      -- the value that was written over is the old map's at the list
+      pub value_at-before_revalued : value_at (map_of old) q ≡ Some v
+      value_at-before_revalued = ap (option_map (λ p. p.1)) get-changed
 
-      pub revalued_map : map_of new ≡ with_value (map_of old) q w
-      revalued_map =
-          edit_inserts enc old new count nodes nibbles q (record { key = r.key; value = w }) (Some (record { key = r.key; value = v })) 0 0 kept changed
-          ∙ ap (set_value (map_of old) q w) (sym found)
+      -- after the write the map is the old one with the new value at the list
+      pub map_of-revalued : map_of new ≡ with_value (map_of old) q w
+      map_of-revalued =
+          map_of-edit enc old new count nodes nibbles q (record { key = r.key; value = w }) (Some (record { key = r.key; value = v })) 0 0 kept value_changed
+          ∙ ap (set_value (map_of old) q w) (sym get-changed)

@@ -3,7 +3,7 @@ use Rattle.std.proofs.Common.{◌≡◌, ℕ, zero, suc, ◌+◌, ◌≤◌, ◌
 use Rattle.std.proofs.lemmas.List.{length-append, map-append}
 use Rattle.std.proofs.lemmas.Simd.{map-map}
 use Rattle.std.specs.FinMap as fin
-use Rattle.masked_tree.specs.Tree.{Tree, Kids, none, more, plain, IsPlaced, entries_in, entries_at}
+use Rattle.masked_tree.specs.Tree.{Tree, Children, none, more, plain, IsPlaced, entries_in, entries_at}
 use Rattle.masked_tree.specs.Paths.{IsHeld, IsNodeAt, reach}
 use Rattle.nibble_map.specs.Lists.{Has}
 use Rattle.nibble_map.specs.Maps.{PairMap, IsStored}
@@ -11,19 +11,21 @@ use Rattle.nibble_map.specs.Nibbles.{IsShort}
 use Rattle.nibble_map.specs.Stored as stored
 use Rattle.nibble_map.specs.Swaps.{entry}
 use Rattle.nibble_map.specs.Trees.{IsFull, first}
-use Rattle.masked_tree.proofs.PathLemmas.Paths.{has_node, node_has, one_node}
-use Rattle.nibble_map.proofs.MapLemmas.Edits.{held, has_get}
+use Rattle.masked_tree.proofs.PathLemmas.Paths.{has_node, node_has, node_is_unique}
+use Rattle.nibble_map.proofs.MapLemmas.Edits.{stored_by_entries, has_get}
 use Rattle.nibble_map.proofs.ListLemmas.Members.{Has-left, Has-right}
 use Rattle.radix_nodes.specs.declared.trie_node.KeyValue.{KeyValue}
 use Rattle.radix_nodes.specs.Pairs.{pair_of}
 use Rattle.radix_trie.specs.Roots.{map_of, IsKept, IsRoot}
-use Rattle.radix_trie.proofs.RootLemmas.Shown.{row_of, entries_shown, entries_of_map}
+use Rattle.radix_trie.proofs.RootLemmas.Shown.{row_of, entries_of-root, entries-map_of}
 
-pub three_ways : (m n : ℕ) → (m ≤ n) ⊎ (n ≤ m)
-three_ways zero n = inl (omega arith)
-three_ways (suc m) zero = inr (omega arith)
-three_ways (suc m) (suc n) = elim (three_ways m n) [ inl h ↦ inl (omega arith) | inr h ↦ inr (omega arith) ]
+-- of two numbers one is at most the other
+pub le_either_way : (m n : ℕ) → (m ≤ n) ⊎ (n ≤ m)
+le_either_way zero n = inl (omega arith)
+le_either_way (suc m) zero = inr (omega arith)
+le_either_way (suc m) (suc n) = elim (le_either_way m n) [ inl h ↦ inl (omega arith) | inr h ↦ inr (omega arith) ]
 
+-- a list that isn't empty has a length above 0
 not_nil : {A : Type 0} (xs : List A) → (xs ≡ [] → ⊥) → 0 < length xs
 not_nil [] h = absurd (h refl)
 not_nil (x ∷ xs) h = omega arith
@@ -33,23 +35,27 @@ module _ {P : Type 0} where
   abbrev Reached : List (List ℕ × P) → ℕ → Type 0
   Reached es n = (p : List ℕ) × Has (stored.stored es) p × (n ≤ length p)
 
+  -- a path of n nibbles or more among es is one among es ++ fs
   reached_left : (es fs : List (List ℕ × P)) (n : ℕ) → Reached es n → Reached (es ++ fs) n
   reached_left es fs n r = (r.0, subst (λ ks. Has ks r.0) (sym (map-append (λ e. e.0) es fs)) (Has-left (stored.stored es) (stored.stored fs) r.0 r.1), r.2)
 
+  -- a path of n nibbles or more among fs is one among es ++ fs
   reached_right : (es fs : List (List ℕ × P)) (n : ℕ) → Reached fs n → Reached (es ++ fs) n
   reached_right es fs n r = (r.0, subst (λ ks. Has ks r.0) (sym (map-append (λ e. e.0) es fs)) (Has-right (stored.stored es) (stored.stored fs) r.0 r.1), r.2)
 
+  -- what reaches m nibbles reaches n, where n is at most m
   reached_less : (es : List (List ℕ × P)) (n m : ℕ) → n ≤ m → Reached es m → Reached es n
   reached_less es n m le r = let most = r.2 in (r.0, r.1, omega arith)
 
+  -- a pair's own entry reaches the length of its path
   own_reached : (p : List ℕ) (o : Option P) → IsSome o → Reached (entry p o) (length p)
   own_reached p None some = cc
   own_reached p (Some x) some = (p, inl refl, omega arith)
 
   -- in a full tree the longest path ends in a pair
-  far : (low : ℕ) (q : List ℕ) (k : Kids P) → IsPlaced low k → IsFull (plain k) → 0 < reach k → Reached (entries_in q k) (length q + reach k)
-  far low q none h g some = absurd (omega arith)
-  far low q (more f o m none others) h g some = by (three_ways (reach others) (length f)) (far (suc (first f)) q others h.4 g.2)
+  longest_path_reached : (low : ℕ) (q : List ℕ) (k : Children P) → IsPlaced low k → IsFull (plain k) → 0 < reach k → Reached (entries_in q k) (length q + reach k)
+  longest_path_reached low q none h g some = absurd (omega arith)
+  longest_path_reached low q (more f o m none others) h g some = by (le_either_way (reach others) (length f)) (longest_path_reached (suc (first f)) q others h.4 g.2)
     where
       here : IsSome o ⊎ ⊥ → IsSome o
       here (inl s) = s
@@ -63,9 +69,9 @@ module _ {P : Type 0} where
       by (inr le) later =
           let f_some = not_nil f h.0 in
           reached_right (entry (q ++ f) o ++ []) (entries_in q others) _ (reached_less _ _ _ (omega arith) (later (omega arith)))
-  far low q (more f o m (more e p n ks others') others) h g some =
-      by (three_ways (reach others) (length f + reach (more e p n ks others')))
-      (far 0 (q ++ f) (more e p n ks others') h.3 g.1) (far (suc (first f)) q others h.4 g.2)
+  longest_path_reached low q (more f o m (more e p n ks others') others) h g some =
+      by (le_either_way (reach others) (length f + reach (more e p n ks others')))
+      (longest_path_reached 0 (q ++ f) (more e p n ks others') h.3 g.1) (longest_path_reached (suc (first f)) q others h.4 g.2)
     where
       by : (reach others ≤ length f + reach (more e p n ks others')) ⊎ (length f + reach (more e p n ks others') ≤ reach others)
           → (0 < reach (more e p n ks others') → Reached (entries_in (q ++ f) (more e p n ks others')) (length (q ++ f) + reach (more e p n ks others')))
@@ -81,75 +87,86 @@ module _ {P : Type 0} where
           (reached_less _ _ _ (omega arith) (later (omega arith)))
 
 module _ {K V : Type 0} (enc : K → List ℕ) (t : Tree (KeyValue K V)) (count nodes nibbles : ℕ) (kept : IsKept enc t count nodes nibbles) where
+  -- the map of a kept root stores the lists of the root's entries
   lists_same : stored.stored (fin.entries (map_of t)) ≡ stored.stored (entries_at [] t)
   lists_same =
-      ap stored.stored (entries_of_map t kept.masked kept.full ∙ entries_shown t kept.top)
+      ap stored.stored (entries-map_of t kept.masked kept.full ∙ entries_of-root t kept.top)
       ∙ map-map (λ e. e.0) row_of (entries_at [] t)
 
-  pub stored_held : (e : List ℕ) → IsStored (map_of t) e → IsHeld t e
-  stored_held e h = subst (λ ks. Has ks e) lists_same ((held (map_of t) e).1 h)
+  -- a list that the map of a kept root stores is held by the root
+  stored_held : (e : List ℕ) → IsStored (map_of t) e → IsHeld t e
+  stored_held e h = subst (λ ks. Has ks e) lists_same ((stored_by_entries (map_of t) e).1 h)
 
-  pub held_stored : (e : List ℕ) → IsHeld t e → IsStored (map_of t) e
-  held_stored e h = (held (map_of t) e).0 (subst (λ ks. Has ks e) (sym lists_same) h)
+  -- a list that a kept root holds is stored in its map
+  held_stored : (e : List ℕ) → IsHeld t e → IsStored (map_of t) e
+  held_stored e h = (stored_by_entries (map_of t) e).0 (subst (λ ks. Has ks e) (sym lists_same) h)
 
-  pub unheld_none : (e : List ℕ) → (IsHeld t e → ⊥) → fin.get (map_of t) e ≡ None
-  unheld_none e apart = go (fin.get (map_of t) e) refl
+  -- at a list that a kept root doesn't hold its map has no pair
+  pub get-unheld : (e : List ℕ) → (IsHeld t e → ⊥) → fin.get (map_of t) e ≡ None
+  get-unheld e apart = go (fin.get (map_of t) e) refl
     where
       go : (o : Option (K × V)) → fin.get (map_of t) e ≡ o → fin.get (map_of t) e ≡ None
       go None i = i
       go (Some x) i = absurd (apart (stored_held e (subst (λ p. T (is_some p)) (sym i) tt)))
 
+  -- where the map has no pair at a list, the kept root doesn't hold that list
   pub none_unheld : (e : List ℕ) → fin.get (map_of t) e ≡ None → IsHeld t e → ⊥
   none_unheld e absent h = subst (λ p. T (is_some p)) absent (held_stored e h)
 
-  -- some stored list is as long as the longest path
-  pub short_reach : ((e : List ℕ) → IsStored (map_of t) e → IsShort e) → reach t.kids ≤ 32
-  short_reach short = by (reach t.kids) refl
+  -- where all stored lists are short, no path below the root has more than 32 nibbles
+  pub short_reach : ((e : List ℕ) → IsStored (map_of t) e → IsShort e) → reach t.children ≤ 32
+  short_reach short = by (reach t.children) refl
     where
-      by : (n : ℕ) → reach t.kids ≡ n → reach t.kids ≤ 32
+      by : (n : ℕ) → reach t.children ≡ n → reach t.children ≤ 32
       by zero i = omega arith
       by (suc n) i =
-          let r = reached_right (entry [] t.pair) (entries_in [] t.kids) _ (far 0 [] t.kids kept.masked.1 kept.full (omega arith)) in
+          let r = reached_right (entry [] t.pair) (entries_in [] t.children) _ (longest_path_reached 0 [] t.children kept.masked.1 kept.full (omega arith)) in
           let below : Has (stored.stored (entries_at [] t)) r.0 =
-          subst (λ f. Has (stored.stored (entry f t.pair ++ entries_in f t.kids)) r.0) (sym kept.top) r.1 in
+          subst (λ f. Has (stored.stored (entry f t.pair ++ entries_in f t.children)) r.0) (sym kept.top) r.1 in
           let few = short r.0 (held_stored r.0 below) in
           let most = r.2 in
           omega arith
 
 -- the pair at a node is the map's
 module _ {K V : Type 0} (enc : K → List ℕ) (m : PairMap K V) (t : Tree (KeyValue K V)) (root : IsRoot enc m t) where
-  pub root_rows : fin.entries m ≡ map row_of (entries_at [] t)
-  root_rows = sym root.canonical.pairs ∙ entries_shown t root.top
+  -- a map's entries are its root's, each pair read as a key and a value
+  pub entries-root : fin.entries m ≡ map row_of (entries_at [] t)
+  entries-root = sym root.canonical.pairs ∙ entries_of-root t root.top
 
+  -- the row of an entry is among the rows
   row_has : (es : List (List ℕ × KeyValue K V)) (q : List ℕ) (x : KeyValue K V) → Has es (q, x) → Has (map row_of es) (q, pair_of x)
   row_has [] q x h = absurd h
   row_has (e ∷ es) q x (inl i) = inl (ap row_of i)
   row_has (e ∷ es) q x (inr h) = inr (row_has es q x h)
 
+  -- each of the rows is the row of some entry at the same list
   has_row : (es : List (List ℕ × KeyValue K V)) (q : List ℕ) (p : K × V) → Has (map row_of es) (q, p) → (x : KeyValue K V) × Has es (q, x) × (p ≡ pair_of x)
   has_row [] q p h = absurd h
   has_row (e ∷ es) q p (inl i) = (e.1, inl (ap (λ z. (z.0, e.1)) i), ap (λ z. z.1) i)
   has_row (e ∷ es) q p (inr h) = let r = has_row es q p h in (r.0, inr r.1, r.2)
 
+  -- where the map has a pair at q, a node with that pair stands at q
   got_node : (q : List ℕ) (p : K × V) → fin.get m q ≡ Some p → (u : Tree (KeyValue K V)) × (x : KeyValue K V) × IsNodeAt t q u × (u.pair ≡ Some x) × (p ≡ pair_of x)
   got_node q p e =
-      let r = has_row (entries_at [] t) q p (subst (λ es. Has es (q, p)) root_rows ((has_get m q p).1 e)) in
+      let r = has_row (entries_at [] t) q p (subst (λ es. Has es (q, p)) entries-root ((has_get m q p).1 e)) in
       let n = has_node t q r.0 r.1 in
       (n.0, r.0, n.1, n.2, r.2)
 
-  pub node_get : (q : List ℕ) (u : Tree (KeyValue K V)) → IsNodeAt t q u → option_map pair_of u.pair ≡ fin.get m q
-  node_get q u i = by u.pair refl (fin.get m q) refl
+  -- the pair of the node at a path is what the map has there, a pair or none
+  pub pair_of-node : (q : List ℕ) (u : Tree (KeyValue K V)) → IsNodeAt t q u → option_map pair_of u.pair ≡ fin.get m q
+  pair_of-node q u i = by u.pair refl (fin.get m q) refl
     where
       by : (o : Option (KeyValue K V)) → u.pair ≡ o → (r : Option (K × V)) → fin.get m q ≡ r → option_map pair_of u.pair ≡ fin.get m q
-      by (Some x) e r f = ap (option_map pair_of) e ∙ sym ((has_get m q (pair_of x)).0 (subst (λ es. Has es (q, pair_of x)) (sym root_rows) (row_has (entries_at [] t) q x (node_has t q u x i e))))
+      by (Some x) e r f = ap (option_map pair_of) e ∙ sym ((has_get m q (pair_of x)).0 (subst (λ es. Has es (q, pair_of x)) (sym entries-root) (row_has (entries_at [] t) q x (node_has t q u x i e))))
       by None e None f = ap (option_map pair_of) e ∙ sym f
       by None e (Some p) f =
           let n = got_node q p f in
-          let clash : None ≡ Some n.1 = sym e ∙ ap (λ (v : Tree (KeyValue K V)). v.pair) (one_node t q u n.0 root.masked i n.2) ∙ n.3 in
+          let clash : None ≡ Some n.1 = sym e ∙ ap (λ (v : Tree (KeyValue K V)). v.pair) (node_is_unique t q u n.0 root.masked i n.2) ∙ n.3 in
           cc
 
-  pub no_node_get : (q : List ℕ) → ((u : Tree (KeyValue K V)) → IsNodeAt t q u → ⊥) → fin.get m q ≡ None
-  no_node_get q apart = by (fin.get m q) refl
+  -- where no node stands at a path, the map has no pair there
+  pub get-no_node : (q : List ℕ) → ((u : Tree (KeyValue K V)) → IsNodeAt t q u → ⊥) → fin.get m q ≡ None
+  get-no_node q apart = by (fin.get m q) refl
     where
       by : (r : Option (K × V)) → fin.get m q ≡ r → fin.get m q ≡ None
       by None f = f

@@ -2,7 +2,7 @@
 ghost use Rattle.std.specs.Prelude.{◌≡◌, ◌<◌, [], ◌∷◌, ◌++◌, length};
 ghost use Rattle.std.specs.Iterator.{YieldsFirst, item_count};
 
-use crate::subtrie::SubTrie;
+use crate::view::subtrie::SubTrie;
 use arrayvec::ArrayVec;
 use radix_keys::TrieKey;
 use std::iter::FusedIterator;

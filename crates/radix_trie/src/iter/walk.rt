@@ -3,7 +3,7 @@ ghost use Rattle.std.specs.Prelude.{◌≡◌, ◌+◌, ◌<◌, ◌≤◌, ◌^
 ghost use Rattle.std.specs.Iterator.{YieldsFirstBy, item_count};
 ghost use Rattle.masked_tree.specs.Tree.{entries_at};
 ghost use Rattle.masked_tree.specs.Sizes.{levels};
-ghost use Rattle.radix_nodes.specs.Nodes.{kids_of, tree_of};
+ghost use Rattle.radix_nodes.specs.Nodes.{children_of, tree_of};
 ghost use Rattle.radix_nodes.specs.Pairs.{own_pair, pairs_in};
 ghost use Rattle.radix_trie.specs.Walks.{deref_pair, first_pair, rows_of, with_row};
 
@@ -31,11 +31,11 @@ impl<'a, K, V> Model for Iter<'a, K, V> {
 
     ghost Value = { List (K × V) };
 
-    ghost use Rattle.radix_trie.specs.Walks.{first_pair, pending, rows_of, HasRoom};
+    ghost use Rattle.radix_trie.specs.Walks.{first_pair, pending, rows_of, HasRowRoom};
 
     ghost view = { λ a. first_pair a.first ++ pending (rows_of a.stack.items) };
 
-    ghost invariant = { λ a. HasRoom (vec_capacity a.stack) 0 (rows_of a.stack.items) };
+    ghost invariant = { λ a. HasRowRoom (vec_capacity a.stack) 0 (rows_of a.stack.items) };
 }
 
 impl<'a, K, V> Iter<'a, K, V> {
@@ -62,7 +62,7 @@ impl<'a, K, V> Iter<'a, K, V> {
         let mut stack = Vec::with_capacity(alloc, height - 1)?;
         push_row(&mut stack, &node.children);
         Ok(Iter {
-            first: pair_at(node),
+            first: node.pair(),
             stack,
         })
     }
@@ -83,7 +83,7 @@ impl<'a, K, V> Iterator for Iter<'a, K, V> {
             if let Some((node, others)) = nodes.split_first() {
                 push_row(&mut self.stack, others);
                 push_row(&mut self.stack, &node.children);
-                if let Some(pair) = pair_at(node) {
+                if let Some(pair) = node.pair() {
                     return Some(parts(pair));
                 }
             }
@@ -94,13 +94,6 @@ impl<'a, K, V> Iterator for Iter<'a, K, V> {
 
 impl<'a, K, V> FusedIterator for Iter<'a, K, V> {}
 
-/// The pair at the node itself.
-fn pair_at<K, V>(node: &TrieNode<K, V>) -> Option<&KeyValue<K, V>>
-    ensures { first_pair result ≡ own_pair (tree_of node.now).pair }
-{
-    node.pair.as_deref()
-}
-
 /// The key and the value.
 fn parts<K, V>(pair: &KeyValue<K, V>) -> (&K, &V)
     ensures { deref_pair result ≡ (pair.now.key, pair.now.value) }
@@ -110,10 +103,10 @@ fn parts<K, V>(pair: &KeyValue<K, V>) -> (&K, &V)
 
 /// Puts a row on the stack, where there is room, if it isn't empty.
 fn push_row<'a, K, V>(stack: &mut Vec<&'a [Box<TrieNode<K, V>>]>, row: &'a [Box<TrieNode<K, V>>])
-    requires { length (rows_of stack.old.items) + levels (kids_of row.now)
+    requires { length (rows_of stack.old.items) + levels (children_of row.now)
         ≤ vec_capacity stack.old }
     ensures rows { rows_of stack.new.items
-        ≡ with_row (rows_of stack.old.items) (kids_of row.now) }
+        ≡ with_row (rows_of stack.old.items) (children_of row.now) }
     ensures capacity { vec_capacity stack.new ≡ vec_capacity stack.old }
 {
     if !row.is_empty() {

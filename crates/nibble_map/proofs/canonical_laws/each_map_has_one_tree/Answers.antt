@@ -1,5 +1,5 @@
-use Rattle.nibble_map.proofs.TreeLemmas.OneTree.{has_tree, one_tree}
+use Rattle.nibble_map.proofs.TreeLemmas.OneTree.{has_tree, nodes-canonical}
 use Rattle.nibble_map.proofs.canonical_laws.each_map_has_one_tree.Goals as goal
 
 pub returns : goal.returns
-returns g c = record { one = has_tree; only = one_tree }
+returns g c = record { one = has_tree; only = nodes-canonical }

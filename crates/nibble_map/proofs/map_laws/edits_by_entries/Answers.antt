@@ -1,5 +1,5 @@
-use Rattle.nibble_map.proofs.MapLemmas.Edits.{set_at, cut_at, insert_is, remove_is}
+use Rattle.nibble_map.proofs.MapLemmas.Edits.{insert_sets_entry, remove_cuts_entry, set_is_insert, cut_is_remove}
 use Rattle.nibble_map.proofs.map_laws.edits_by_entries.Goals as goal
 
 pub returns : goal.returns
-returns g c = record { set = set_at; cut = cut_at; inserted = insert_is; removed = remove_is }
+returns g c = record { set = insert_sets_entry; cut = remove_cuts_entry; inserted = set_is_insert; removed = cut_is_remove }

@@ -8,6 +8,6 @@ returns g c = record {
   raw_ancestor = λ m. longest_unique _;
   raw_descendant = λ m. raw_descendant_unique _;
   fragment = λ m. fragment_unique _;
-  kids = λ m p. Lists-unique _;
+  children = λ m p. Lists-unique _;
   compared = λ m. compared_unique _;
 }

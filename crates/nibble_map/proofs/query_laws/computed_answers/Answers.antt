@@ -1,5 +1,6 @@
 use Rattle.std.proofs.Common.{◌≡◌, ◌↔◌, sym, subst}
-use Rattle.nibble_map.proofs.ComputedLemmas.Answers.{ancestor_is, raw_ancestor_is, raw_descendant_is, fragment_is, kids_are, compared_is}
+use Rattle.nibble_map.proofs.ComputedLemmas.Answers.{ancestor_is, raw_ancestor_is, raw_descendant_is, fragment_is, compared_is}
+use Rattle.nibble_map.proofs.ComputedLemmas.Children.{children_are}
 use Rattle.nibble_map.proofs.ListLemmas.Parted.{ancestor_unique, longest_unique, raw_descendant_unique, fragment_unique, compared_unique}
 use Rattle.nibble_map.proofs.ListLemmas.Unique.{Lists-unique}
 use Rattle.nibble_map.proofs.query_laws.computed_answers.Goals as goal
@@ -14,6 +15,6 @@ returns g c = record {
   raw_ancestor = λ m e. one _ _ (raw_ancestor_is m e) (λ y r. longest_unique _ e y _ r (raw_ancestor_is m e));
   raw_descendant = λ m e. one _ _ (raw_descendant_is m e) (λ y r. raw_descendant_unique _ e y _ r (raw_descendant_is m e));
   fragment = λ m p. one _ _ (fragment_is m p) (λ y r. fragment_unique _ p y _ r (fragment_is m p));
-  kids = λ m p. one _ _ (kids_are m p) (λ y r. Lists-unique _ y _ r (kids_are m p));
+  children = λ m p. one _ _ (children_are m p) (λ y r. Lists-unique _ y _ r (children_are m p));
   compared = λ m e. one _ _ (compared_is m e) (λ y r. compared_unique _ e y _ r (compared_is m e));
 }

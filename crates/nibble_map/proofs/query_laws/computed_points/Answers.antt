@@ -1,6 +1,7 @@
 use Rattle.std.proofs.Common.{refl}
 use Rattle.nibble_map.specs.Computed.{points, prefixes}
-use Rattle.nibble_map.proofs.ComputedLemmas.Points.{points_list, prefixes_list, is_point_true, true_is_point}
+use Rattle.nibble_map.proofs.ComputedLemmas.Points.{points_list, point_by_test, is_point-point}
+use Rattle.nibble_map.proofs.ComputedLemmas.Prefixes.{prefixes_list}
 use Rattle.nibble_map.proofs.query_laws.computed_points.Goals as goal
 
 pub returns : goal.returns
@@ -9,5 +10,5 @@ returns g c = record {
   prefixes = prefixes_list;
   nodes = λ m. record { list = points m; lists = points_list m; length_is = refl };
   nibbles = λ m. record { list = prefixes m; lists = prefixes_list m; length_is = refl };
-  is_point = λ m p. (true_is_point m p, is_point_true m p);
+  is_point = λ m p. (is_point-point m p, point_by_test m p);
 }

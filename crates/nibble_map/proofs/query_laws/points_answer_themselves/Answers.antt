@@ -1,4 +1,4 @@
-use Rattle.nibble_map.proofs.PointLemmas.OneKid.{own_ancestor, own_descendant}
+use Rattle.nibble_map.proofs.PointLemmas.OneChild.{own_ancestor, own_descendant}
 use Rattle.nibble_map.proofs.query_laws.points_answer_themselves.Goals as goal
 
 pub returns : goal.returns

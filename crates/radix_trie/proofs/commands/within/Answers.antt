@@ -1,5 +1,5 @@
 use Rattle.std.proofs.Common.{rules, refl, inl, inr, arith, ap, length}
-use Rattle.radix_trie.proofs.CommandLemmas.{moved}
+use Rattle.radix_trie.proofs.CommandLemmas.{view_steps_moved}
 use Rattle.radix_trie.proofs.commands.within.Goals as goal
 
 pub returns-in_default : goal.returns-in_default
@@ -13,4 +13,4 @@ returns-in_default g c = inr (inr (
 
 pub returns-in-Ok : goal.returns-in-Ok
 returns-in-Ok g c =
-    inl (c.in-Ok.ensures.point refl, _, refl, moved _ _ _ _ _ _ _ _ _ _ c.run_view.ensures.steps c.in-Ok.ensures.path c.in-Ok.ensures.map (search rules))
+    inl (c.in-Ok.ensures.point refl, _, refl, view_steps_moved _ _ _ _ _ _ _ _ _ _ c.run_view.ensures.steps c.in-Ok.ensures.path c.in-Ok.ensures.map (search rules))

@@ -1,5 +1,5 @@
 use Rattle.std.proofs.Common.{◌≡◌, ◌+◌, ◌-◌, ◌^◌, min}
-use Rattle.trie_tool.proofs.Serving.{Heard}
+use Rattle.trie_tool.proofs.SessionLemmas.Serving.{Heard}
 use Rattle.trie_tool.proofs.engine.serve.Given as goal
 
 abbrev pub invariant-loop-turn : goal.invariant-loop-turn

@@ -1,18 +1,18 @@
 use Rattle.std.proofs.Common.{◌≡◌, ◌+◌, ◌/◌, ◌%◌, [], ◌∷◌, ◌++◌, arith, ap, length, get_or, drop, lit<, refl, ◌∙◌}
 use Rattle.std.proofs.lemmas.List.{length-drop, take_rest}
 use Rattle.nibble_map.specs.Nibbles.{nibbles}
-use Rattle.radix_keys.proofs.NibbleLemmas.Packing.{count-bytes, count-even}
-use Rattle.radix_keys.proofs.NibbleLemmas.Cutting.{drop-odd_odd, drop-odd_even}
+use Rattle.radix_keys.proofs.NibbleLemmas.Packing.{length-packed_bytes, length-packed_even}
+use Rattle.radix_keys.proofs.NibbleLemmas.Cutting.{nibbles-drop_odd_odd, unpacked-drop_odd_even}
 use Rattle.radix_keys.proofs.nibbles.NibbleVec.tail_shifted.Goals as goal
 
 pub bounds-bytes-i : goal.bounds-bytes-i
-bounds-bytes-i c = omega (arith, ap length c.as_slice-bytes.ensures, count-bytes c.self.invariant c.self.view_is)
+bounds-bytes-i c = omega (arith, ap length c.as_slice-bytes.ensures, length-packed_bytes c.self.invariant c.self.view_is)
 
 pub slice_bounds-push_shifted-count : goal.slice_bounds-push_shifted-count
-slice_bounds-push_shifted-count c = omega (arith, ap length c.as_slice-bytes.ensures, count-bytes c.self.invariant c.self.view_is)
+slice_bounds-push_shifted-count c = omega (arith, ap length c.as_slice-bytes.ensures, length-packed_bytes c.self.invariant c.self.view_is)
 
 pub slice_bounds-push_shifted-start : goal.slice_bounds-push_shifted-start
-slice_bounds-push_shifted-start c = omega (arith, ap length c.as_slice-bytes.ensures, count-bytes c.self.invariant c.self.view_is)
+slice_bounds-push_shifted-start c = omega (arith, ap length c.as_slice-bytes.ensures, length-packed_bytes c.self.invariant c.self.view_is)
 
 pub push_shifted-last-requires-clause-room : goal.push_shifted-last-requires-clause-room
 push_shifted-last-requires-clause-room c =
@@ -25,7 +25,7 @@ push_shifted-last-requires-clause-room c =
       ap length (take_rest c.as_slice-bytes.result.now (c.args.i / 2 + 1)),
       length-drop (c.args.i / 2 + 1) c.as_slice-bytes.result.now,
       ap length c.as_slice-bytes.ensures,
-      count-bytes c.self.invariant c.self.view_is,
+      length-packed_bytes c.self.invariant c.self.view_is,
     )
 
 pub returns-then-self-clause-ok : goal.returns-then-self-clause-ok
@@ -35,7 +35,7 @@ returns-then-self-clause-ok c =
     ≡ (get_or bs (c.args.i / 2) 0 % 16) ∷ nibbles (drop (c.args.i / 2 + 1) bs) =
     rw (c.push_shifted-last.ensures.nibbles, c.in_ok-rest.ensures.items, take_rest c.as_slice-bytes.result.now (c.args.i / 2 + 1), c.as_slice-bytes.ensures) refl in
     c.from_small.ensures ∙ rw (← c.self.view_is)
-    (drop-odd_odd bs c.self.inside.is_odd c.args.i c.push_shifted-last.result c.push_shifted-last.new.out.items
+    (nibbles-drop_odd_odd bs c.self.inside.is_odd c.args.i c.push_shifted-last.result c.push_shifted-last.new.out.items
     c.self.invariant.padded c.if-self.true c.requires.odd (omega (arith, ap length c.self.view_is, c.requires.within)) shape)
 
 pub push_reserved-requires : goal.push_reserved-requires
@@ -52,7 +52,7 @@ push_reserved-requires c = (
     ap length (take_rest c.as_slice-bytes.result.now (c.args.i / 2 + 1)),
     length-drop (c.args.i / 2 + 1) c.as_slice-bytes.result.now,
     ap length c.as_slice-bytes.ensures,
-    count-even c.self.invariant c.self.view_is c.if-self.false,
+    length-packed_even c.self.invariant c.self.view_is c.if-self.false,
   ),
 )
 
@@ -63,5 +63,5 @@ returns-clause-ok c =
     ≡ (get_or bs (c.args.i / 2) 0 % 16) ∷ nibbles (drop (c.args.i / 2 + 1) bs) =
     rw (c.push_shifted-last.ensures.nibbles, c.in_ok-rest.ensures.items, take_rest c.as_slice-bytes.result.now (c.args.i / 2 + 1), c.as_slice-bytes.ensures) refl in
     rw (← c.self.view_is, c.push_reserved.ensures.items)
-    (drop-odd_even bs c.self.inside.is_odd c.args.i c.push_shifted-last.result c.push_shifted-last.new.out.items
+    (unpacked-drop_odd_even bs c.self.inside.is_odd c.args.i c.push_shifted-last.result c.push_shifted-last.new.out.items
     c.if-self.false c.requires.odd (omega (arith, ap length c.self.view_is, c.requires.within)) c.push_shifted-last.ensures.half shape)

@@ -2,9 +2,9 @@ use Rattle.std.proofs.Common.{rules, ◌≡◌, ◌++◌, cond, true, false, ◌
 use Rattle.masked_tree.specs.Tree.{nodes_in}
 use Rattle.radix_nodes.specs.declared.trie_node.TrieNode.{out-TrieNode}
 use Rattle.radix_nodes.specs.Nodes.{tree_of, fragment_of}
-use Rattle.radix_nodes.specs.Soundness.{pairs_of, test_of}
-use Rattle.radix_nodes.proofs.NodeLemmas.Sizes.{child_fewer}
-use Rattle.radix_nodes.proofs.CheckerLemmas.{child_pairs, next_pairs, ends_start, ends_kid, goes_on, starts_empty, starts_low, starts_next}
+use Rattle.radix_nodes.specs.Soundness.{pair_count_of, test_of}
+use Rattle.radix_nodes.proofs.NodeLemmas.Sizes.{child_is_smaller}
+use Rattle.radix_nodes.proofs.CheckerLemmas.Nodes.{child_pairs, next_pairs, false_by_start, false_by_child, test_goes_on, starts-empty, starts-below, starts-in_order}
 use Rattle.nibble_map.specs.Trees.{first}
 use Rattle.radix_nodes.proofs.traversal.checker.+test.Goals as goal
 
@@ -17,8 +17,8 @@ test-requires g t c =
     let b = c.child-item.result in
     let lt : i < length (out-TrieNode g.row.K.Denot g.row.V.Denot n).children.items = subst (λ xs. i < length xs) items c.loop-child-test.true in
     let at = ap (λ xs. get_or xs i b) (sym items) ∙ sym c.child-item.is in
-    let nodes : nodes_in (tree_of m).kids < nodes_in (tree_of n).kids = subst (λ k. nodes_in (tree_of k).kids < nodes_in (tree_of n).kids) (sym c.deref-in-loop-child-2.ensures) (child_fewer n i b lt at).0 in
-    let pairs : pairs_of m ≤ pairs_of n = subst (λ k. pairs_of k ≤ pairs_of n) (sym c.deref-in-loop-child-2.ensures) (child_pairs n i b lt at) in
+    let nodes : nodes_in (tree_of m).children < nodes_in (tree_of n).children = subst (λ k. nodes_in (tree_of k).children < nodes_in (tree_of n).children) (sym c.deref-in-loop-child-2.ensures) (child_is_smaller n i b lt at).0 in
+    let pairs : pair_count_of m ≤ pair_count_of n = subst (λ k. pair_count_of k ≤ pair_count_of n) (sym c.deref-in-loop-child-2.ensures) (child_pairs n i b lt at) in
     λ κs l. (omega (arith, c.decreases, nodes), (l.0, (l.1, omega (arith, pairs, c.requires))))
 
 pub returns-then-len-eq0-clause-answer : goal.returns-then-len-eq0-clause-answer
@@ -28,7 +28,7 @@ returns-then-len-eq0-clause-answer g t c =
     let p = c.args.prefix.now ++ fragment_of c.args.node.now in
     let mask = (out-TrieNode g.row.K.Denot g.row.V.Denot c.args.node.now).mask in
     let none : length (fragment_of b.value) ≡ 0 = ap (λ k. length (fragment_of k)) (sym c.deref.ensures) ∙ sym c.len.ensures ∙ c.if-len-eq0.true in
-    ends_start c.deref-child-items.result.now c.loop-child.child-index b c.loop-child-test.true c.child-item.is e p c.loop-child.low c.loop-child.seen mask _ c.loop-child.invariant.1 (starts_empty c.loop-child.low (fragment_of b.value) none)
+    false_by_start c.deref-child-items.result.now c.loop-child.child-index b c.loop-child-test.true c.child-item.is e p c.loop-child.low c.loop-child.seen mask _ c.loop-child.invariant.1 (starts-empty c.loop-child.low (fragment_of b.value) none)
 
 pub returns-then-nibble-low-clause-answer : goal.returns-then-nibble-low-clause-answer
 returns-then-nibble-low-clause-answer g t c =
@@ -37,8 +37,8 @@ returns-then-nibble-low-clause-answer g t c =
     let p = c.args.prefix.now ++ fragment_of c.args.node.now in
     let mask = (out-TrieNode g.row.K.Denot g.row.V.Denot c.args.node.now).mask in
     let y = c.get-nibble.ensures.value ∙ ap (λ k. first (fragment_of k)) c.deref-in-loop-child.ensures in
-    ends_start c.deref-child-items.result.now c.loop-child.child-index b c.loop-child-test.true c.child-item.is e p c.loop-child.low c.loop-child.seen mask _ c.loop-child.invariant.1
-    (starts_low c.loop-child.low c.get-nibble.result (fragment_of b.value) y c.if-nibble-low.true)
+    false_by_start c.deref-child-items.result.now c.loop-child.child-index b c.loop-child-test.true c.child-item.is e p c.loop-child.low c.loop-child.seen mask _ c.loop-child.invariant.1
+    (starts-below c.loop-child.low c.get-nibble.result (fragment_of b.value) y c.if-nibble-low.true)
 
 pub returns-then-not-sound-clause-answer : goal.returns-then-not-sound-clause-answer
 returns-then-not-sound-clause-answer g t c =
@@ -49,7 +49,7 @@ returns-then-not-sound-clause-answer g t c =
     let made : c.in_ok-path.path ≡ p = c.in_ok-path.ensures.made in
     let unsound : c.in_ok-sound.sound ≡ false = search rules in
     let own : test_of e p b.value ≡ false = ap (λ k. test_of e p k) (sym c.deref-in-loop-child-2.ensures) ∙ ap (λ q. test_of e q c.deref-in-loop-child-2.result.now) (sym made) ∙ sym c.in_ok-sound.ensures.answer ∙ unsound in
-    ends_kid c.deref-child-items.result.now c.loop-child.child-index b c.loop-child-test.true c.child-item.is e p c.loop-child.low c.loop-child.seen mask _ c.loop-child.invariant.1 own
+    false_by_child c.deref-child-items.result.now c.loop-child.child-index b c.loop-child-test.true c.child-item.is e p c.loop-child.low c.loop-child.seen mask _ c.loop-child.invariant.1 own
 
 pub loop-child-preserved : goal.loop-child-preserved
 loop-child-preserved g t c =
@@ -62,11 +62,11 @@ loop-child-preserved g t c =
     let made : c.in_ok-path.path ≡ p = c.in_ok-path.ensures.made in
     let sound : c.in_ok-sound.sound ≡ true = search rules in
     let own : test_of e p b.value ≡ true = ap (λ k. test_of e p k) (sym c.deref-in-loop-child-2.ensures) ∙ ap (λ q. test_of e q c.deref-in-loop-child-2.result.now) (sym made) ∙ sym c.in_ok-sound.ensures.answer ∙ sound in
-    let size : c.in_ok-sound.size ≡ pairs_of b.value = c.in_ok-sound.ensures.count ∙ ap (λ s. cond s (pairs_of c.deref-in-loop-child-2.result.now) 0) sound ∙ ap (λ k. pairs_of k) c.deref-in-loop-child-2.ensures in
+    let size : c.in_ok-sound.size ≡ pair_count_of b.value = c.in_ok-sound.ensures.count ∙ ap (λ s. cond s (pair_count_of c.deref-in-loop-child-2.result.now) 0) sound ∙ ap (λ k. pair_count_of k) c.deref-in-loop-child-2.ensures in
     let y = c.get-nibble.ensures.value ∙ ap (λ k. first (fragment_of k)) c.deref-in-loop-child.ensures in
     let some : 0 < length (fragment_of b.value) = (let l = ap (λ k. length (fragment_of k)) c.deref.ensures in omega (arith, l, c.len.ensures, c.if-len-eq0.false)) in
     let next = next_pairs items i b c.loop-child-test.true c.child-item.is in (
       omega (arith, c.loop-child.invariant.0, next, size),
-      goes_on items i b c.loop-child-test.true c.child-item.is e p c.loop-child.low c.loop-child.seen mask _ c.loop-child.invariant.1 c.get-nibble.result y
-          (starts_next c.loop-child.low c.get-nibble.result (fragment_of b.value) some y (omega (arith, c.if-nibble-low.false)) c.get-nibble.ensures.nibble) own,
+      test_goes_on items i b c.loop-child-test.true c.child-item.is e p c.loop-child.low c.loop-child.seen mask _ c.loop-child.invariant.1 c.get-nibble.result y
+          (starts-in_order c.loop-child.low c.get-nibble.result (fragment_of b.value) some y (omega (arith, c.if-nibble-low.false)) c.get-nibble.ensures.nibble) own,
     )

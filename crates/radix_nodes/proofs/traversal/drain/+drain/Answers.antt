@@ -4,7 +4,7 @@ use Rattle.masked_tree.specs.Tree.{entries_at, nodes_in, nibbles_in}
 use Rattle.radix_nodes.specs.Nodes.{tree_of}
 use Rattle.radix_nodes.specs.Pairs.{pairs_in}
 use Rattle.radix_nodes.specs.Prunes.{IsSmall}
-use Rattle.radix_nodes.proofs.EditLemmas.Drains.{Left, left_start, left_next, left_room, left_small, left_fewer, left_noded, left_nibbled, left_end, start_room}
+use Rattle.radix_nodes.proofs.EditLemmas.Drains.{LeavesChildren, left_start, left_next, left_room, left_small, left_fewer, left_noded, left_nibbled, left_end, start_room}
 use Rattle.radix_nodes.proofs.traversal.drain.+drain.Goals as goal
 
 pub put_pair-requires : goal.put_pair-requires
@@ -22,10 +22,10 @@ drain-below-requires g t c κs within =
     let b = c.in-Some.child in
     let e = c.into_inner.ensures in
     let start = c.args.list.now in
-    let left : Left (tree_of c.args.node) start.items c.loop-child.list.items _ c.loop-child.nodes c.loop-child.nibbles =
-    subst (λ bs. Left (tree_of c.args.node) start.items c.loop-child.list.items bs c.loop-child.nodes c.loop-child.nibbles) c.in-Some.ensures.steps.0 c.loop-child.invariant.left in
-    let fewer : nodes_in (tree_of c.into_inner.result).kids < nodes_in (tree_of c.args.node).kids =
-    subst (λ n. nodes_in (tree_of n).kids < nodes_in (tree_of c.args.node).kids) (sym e) (left_fewer _ _ _ b _ _ _ left) in
+    let left : LeavesChildren (tree_of c.args.node) start.items c.loop-child.list.items _ c.loop-child.nodes c.loop-child.nibbles =
+    subst (λ bs. LeavesChildren (tree_of c.args.node) start.items c.loop-child.list.items bs c.loop-child.nodes c.loop-child.nibbles) c.in-Some.ensures.steps.0 c.loop-child.invariant.left in
+    let fewer : nodes_in (tree_of c.into_inner.result).children < nodes_in (tree_of c.args.node).children =
+    subst (λ n. nodes_in (tree_of n).children < nodes_in (tree_of c.args.node).children) (sym e) (left_fewer _ _ _ b _ _ _ left) in
     let room : length c.loop-child.list.items + length (entries_at [] (tree_of c.into_inner.result)) ≤ vec_capacity start =
     subst (λ n. length c.loop-child.list.items + length (entries_at [] (tree_of n)) ≤ vec_capacity start) (sym e)
     (left_room _ _ _ b _ _ _ left (vec_capacity start) (omega (arith, c.requires.room, start.ok.0))) in
@@ -35,38 +35,38 @@ drain-below-requires g t c κs within =
 pub overflow_add-nodes : goal.overflow_add-nodes
 overflow_add-nodes g t c =
     let b = c.in-Some.child in
-    let left = subst (λ bs. Left (tree_of c.args.node) c.args.list.now.items c.loop-child.list.items bs c.loop-child.nodes c.loop-child.nibbles) c.in-Some.ensures.steps.0 c.loop-child.invariant.left in
-    let e = ap (λ n. nodes_in (tree_of n).kids) c.into_inner.ensures in
+    let left = subst (λ bs. LeavesChildren (tree_of c.args.node) c.args.list.now.items c.loop-child.list.items bs c.loop-child.nodes c.loop-child.nibbles) c.in-Some.ensures.steps.0 c.loop-child.invariant.left in
+    let e = ap (λ n. nodes_in (tree_of n).children) c.into_inner.ensures in
     let noded = left_noded _ _ _ b _ _ _ left in
     omega (arith, noded, e, c.drain-below.ensures.nodes, c.requires.small.nodes)
 
 pub overflow_add-nodes-in-loop-child : goal.overflow_add-nodes-in-loop-child
 overflow_add-nodes-in-loop-child g t c =
     let b = c.in-Some.child in
-    let left = subst (λ bs. Left (tree_of c.args.node) c.args.list.now.items c.loop-child.list.items bs c.loop-child.nodes c.loop-child.nibbles) c.in-Some.ensures.steps.0 c.loop-child.invariant.left in
-    let e = ap (λ n. nodes_in (tree_of n).kids) c.into_inner.ensures in
+    let left = subst (λ bs. LeavesChildren (tree_of c.args.node) c.args.list.now.items c.loop-child.list.items bs c.loop-child.nodes c.loop-child.nibbles) c.in-Some.ensures.steps.0 c.loop-child.invariant.left in
+    let e = ap (λ n. nodes_in (tree_of n).children) c.into_inner.ensures in
     let noded = left_noded _ _ _ b _ _ _ left in
     omega (arith, noded, e, c.drain-below.ensures.nodes, c.requires.small.nodes)
 
 pub overflow_add-nibbles : goal.overflow_add-nibbles
 overflow_add-nibbles g t c =
     let b = c.in-Some.child in
-    let left = subst (λ bs. Left (tree_of c.args.node) c.args.list.now.items c.loop-child.list.items bs c.loop-child.nodes c.loop-child.nibbles) c.in-Some.ensures.steps.0 c.loop-child.invariant.left in
-    let e = ap (λ n. length (tree_of n).fragment + nibbles_in (tree_of n).kids) c.into_inner.ensures in
+    let left = subst (λ bs. LeavesChildren (tree_of c.args.node) c.args.list.now.items c.loop-child.list.items bs c.loop-child.nodes c.loop-child.nibbles) c.in-Some.ensures.steps.0 c.loop-child.invariant.left in
+    let e = ap (λ n. length (tree_of n).fragment + nibbles_in (tree_of n).children) c.into_inner.ensures in
     let nibbled = left_nibbled _ _ _ b _ _ _ left in
     omega (arith, nibbled, e, c.drain-below.ensures.nibbles, c.requires.small.nibbles)
 
 pub loop-child-preserved : goal.loop-child-preserved
 loop-child-preserved g t c =
     let b = c.in-Some.child in
-    let left = subst (λ bs. Left (tree_of c.args.node) c.args.list.now.items c.loop-child.list.items bs c.loop-child.nodes c.loop-child.nibbles) c.in-Some.ensures.steps.0 c.loop-child.invariant.left in
+    let left = subst (λ bs. LeavesChildren (tree_of c.args.node) c.args.list.now.items c.loop-child.list.items bs c.loop-child.nodes c.loop-child.nibbles) c.in-Some.ensures.steps.0 c.loop-child.invariant.left in
     let e = c.into_inner.ensures in
     record {
       counted = grind (arith, common_steps);
       room = c.drain-below.ensures.capacity ∙ c.loop-child.invariant.room;
       left = left_next _ _ _ b _ _ _ left _ _ _ (c.drain-below.ensures.pairs ∙ ap (λ n. c.loop-child.list.items ++ pairs_in (tree_of n)) e)
-          (ap (λ k. c.loop-child.nodes + (k + 1)) (c.drain-below.ensures.nodes ∙ ap (λ n. nodes_in (tree_of n).kids) e))
-          (ap (λ k. c.loop-child.nibbles + k) (c.drain-below.ensures.nibbles ∙ ap (λ n. length (tree_of n).fragment + nibbles_in (tree_of n).kids) e));
+          (ap (λ k. c.loop-child.nodes + (k + 1)) (c.drain-below.ensures.nodes ∙ ap (λ n. nodes_in (tree_of n).children) e))
+          (ap (λ k. c.loop-child.nibbles + k) (c.drain-below.ensures.nibbles ∙ ap (λ n. length (tree_of n).fragment + nibbles_in (tree_of n).children) e));
     }
 
 pub returns-clause-pairs : goal.returns-clause-pairs

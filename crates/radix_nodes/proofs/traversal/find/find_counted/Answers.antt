@@ -1,18 +1,19 @@
+use Rattle.nibble_map.specs.Answers.{IsCompared}
+use Rattle.nibble_map.specs.Stored.{IsStored}
 use Rattle.std.proofs.Common.{◌∙◌, ◌++◌, [], ap, sym, subst}
 use Rattle.masked_tree.specs.Paths.{IsNodeAt}
-use Rattle.nibble_map.specs.Queries.{IsCompared}
 use Rattle.masked_tree.specs.Tree.{entries_at}
-use Rattle.masked_tree.proofs.TreeLemmas.Points.{searched}
+use Rattle.masked_tree.proofs.TreeLemmas.Points.{walked_is_compared}
 use Rattle.radix_nodes.specs.Nodes.{tree_of}
-use Rattle.radix_nodes.proofs.NodeLemmas.Nodes.{fragment_out}
-use Rattle.radix_nodes.proofs.SearchLemmas.{match_up}
+use Rattle.radix_nodes.proofs.NodeLemmas.Nodes.{fragment-tree_of}
+use Rattle.radix_nodes.proofs.SearchLemmas.Deepest.{match_implies}
 use Rattle.radix_nodes.proofs.traversal.find.find_counted.Goals as goal
 
 pub returns-clause-found : goal.returns-clause-found
 returns-clause-found g c =
     let t = tree_of c.args.root.now in
     let e = ap (λ f. f ++ c.args.key.now) c.requires.top in
-    match_up c.search.result.0
+    match_implies c.search.result.0
     (λ free u d. free u (subst (λ p. IsNodeAt t p u) (sym e) d))
     (λ r d. subst (λ p. IsNodeAt t p (tree_of r.now)) e d)
     c.search.ensures.found
@@ -20,4 +21,4 @@ returns-clause-found g c =
 pub returns-clause-count : goal.returns-clause-count
 returns-clause-count g c =
     let t = tree_of c.args.root.now in
-    subst (λ n. IsCompared (entries_at [] t) c.args.key.now n) (sym c.search.ensures.count) (searched t (fragment_out c.args.root.now ∙ c.requires.top) c.requires.placed c.requires.full c.args.key.now)
+    subst (λ n. IsCompared (IsStored (entries_at [] t)) c.args.key.now n) (sym c.search.ensures.count) (walked_is_compared t (fragment-tree_of c.args.root.now ∙ c.requires.top) c.requires.placed c.requires.full c.args.key.now)

@@ -4,7 +4,8 @@ use Rattle.masked_tree.specs.Mask.{IsPlaceOf}
 use Rattle.masked_tree.specs.Tree.{firsts, IsTreePlaced}
 use Rattle.radix_nodes.specs.Nodes.{tree_of, fragment_of, EditOutcome}
 use Rattle.radix_nodes.specs.declared.trie_node.TrieNode.{out-TrieNode}
-use Rattle.radix_nodes.proofs.EditLemmas.Insertion.{set_step, kid_step, kid_placed, kid_first, kid_within, looked, edit_replaces, take_first, take_some, path_down, path_part, split_some, length_some}
+use Rattle.radix_nodes.proofs.EditLemmas.Insertion.{set_step, edit_through_child, boxed_child_is_placed, first-fragment_at_place, place_is_within, place_by_mask, edit_replaces}
+use Rattle.radix_nodes.proofs.EditLemmas.KeyParts.{first-take, take_some, append-agreed_fragment, append-agreed_part, split_some, length_some}
 use Rattle.radix_nodes.proofs.traversal.insert.+put.Goals as goal
 use Rattle.nibble_map.proofs.ListLemmas.Cut.{first-append, append-some}
 
@@ -16,7 +17,7 @@ returns-then-depth-len g t c =
 pub index_mut-child-requires : goal.index_mut-child-requires
 index_mut-child-requires g t c =
     let n = c.args.node.now in
-    let w = kid_within n c.in-Ok.i c.get.result c.requires.placed (looked n c.get.result (Ok c.in-Ok.i) c.requires.placed c.in-Ok.ensures) in
+    let w = place_is_within n c.in-Ok.i c.get.result c.requires.placed (place_by_mask n c.get.result (Ok c.in-Ok.i) c.requires.placed c.in-Ok.ensures) in
     let o = (out-TrieNode g.row.K.Denot g.row.V.Denot n).children.ok.0 in
     omega (arith, w, o)
 
@@ -24,24 +25,24 @@ pub put-requires : goal.put-requires
 put-requires g t c =
     let n = c.args.node.now in
     let b = c.index_mut-child.result.now in
-    let at = looked n c.get.result (Ok c.in-Ok.i) c.requires.placed c.in-Ok.ensures in
-    let lt = kid_within n c.in-Ok.i c.get.result c.requires.placed at in
-    let kid = kid_placed n c.in-Ok.i b c.requires.placed lt (sym c.index_mut-child.ensures.value) in
-    let placed : IsTreePlaced (tree_of c.deref_mut.result.now) = subst (λ m. IsTreePlaced (tree_of m)) (sym c.deref_mut.ensures.value) kid.1 in
+    let at = place_by_mask n c.get.result (Ok c.in-Ok.i) c.requires.placed c.in-Ok.ensures in
+    let lt = place_is_within n c.in-Ok.i c.get.result c.requires.placed at in
+    let child = boxed_child_is_placed n c.in-Ok.i b c.requires.placed lt (sym c.index_mut-child.ensures.value) in
+    let placed : IsTreePlaced (tree_of c.deref_mut.result.now) = subst (λ m. IsTreePlaced (tree_of m)) (sym c.deref_mut.ensures.value) child.1 in
     let len : c.compare-n.result.same ≡ length (fragment_of b.value) = c.if-n-len.true ∙ c.len-in-Ok.ensures ∙ ap (λ m. length (fragment_of m)) c.deref-in-Ok.ensures in
-    let some = length_some (fragment_of b.value) kid.0 in
+    let some = length_some (fragment_of b.value) child.0 in
     λ κs l. (omega (arith, c.decreases, some, len, c.compare-n.ensures.inside), (l.0, (l.1, (c.compare-n.ensures.inside, placed))))
 
 pub split_and_put-requires-clause-some : goal.split_and_put-requires-clause-some
 split_and_put-requires-clause-some g t c =
     let n = c.args.node.now in
     let b = c.index_mut-child.result.now in
-    let at = looked n c.get.result (Ok c.in-Ok.i) c.requires.placed c.in-Ok.ensures in
-    let lt = kid_within n c.in-Ok.i c.get.result c.requires.placed at in
+    let at = place_by_mask n c.get.result (Ok c.in-Ok.i) c.requires.placed c.in-Ok.ensures in
+    let lt = place_is_within n c.in-Ok.i c.get.result c.requires.placed at in
     let is = sym c.index_mut-child.ensures.value in
     split_some (fragment_of b.value) c.args.key.now c.args.depth c.compare-n.result.same c.get.result
-    (kid_placed n c.in-Ok.i b c.requires.placed lt is).0
-    (kid_first n c.in-Ok.i b c.requires.placed c.get.result lt is at)
+    (boxed_child_is_placed n c.in-Ok.i b c.requires.placed lt is).0
+    (first-fragment_at_place n c.in-Ok.i b c.requires.placed c.get.result lt is at)
     c.get.ensures.value
     (omega (arith, c.requires.depth, c.if-depth-len.false, c.len.ensures))
     (subst (λ m. c.compare-n.result.same < length (fragment_of m) → c.args.depth + c.compare-n.result.same < length c.args.key.now → slice_index (fragment_of m) c.compare-n.result.same ≢ slice_index c.args.key.now (c.args.depth + c.compare-n.result.same)) c.deref.ensures c.compare-n.ensures.apart)
@@ -49,14 +50,14 @@ split_and_put-requires-clause-some g t c =
 pub split_and_put-requires-clause-placed : goal.split_and_put-requires-clause-placed
 split_and_put-requires-clause-placed g t c =
     let n = c.args.node.now in
-    let at = looked n c.get.result (Ok c.in-Ok.i) c.requires.placed c.in-Ok.ensures in
-    let lt = kid_within n c.in-Ok.i c.get.result c.requires.placed at in
-    (kid_placed n c.in-Ok.i c.index_mut-child.result.now c.requires.placed lt (sym c.index_mut-child.ensures.value)).1
+    let at = place_by_mask n c.get.result (Ok c.in-Ok.i) c.requires.placed c.in-Ok.ensures in
+    let lt = place_is_within n c.in-Ok.i c.get.result c.requires.placed at in
+    (boxed_child_is_placed n c.in-Ok.i c.index_mut-child.result.now c.requires.placed lt (sym c.index_mut-child.ensures.value)).1
 
 pub add_leaf-requires-clause-gap : goal.add_leaf-requires-clause-gap
 add_leaf-requires-clause-gap g t c =
     let n = c.args.node.now in
-    subst (λ y. IsPlaceOf y (firsts (tree_of n).kids) (Err c.in-Err.i)) c.get.ensures.value (looked n c.get.result (Err c.in-Err.i) c.requires.placed c.in-Err.ensures)
+    subst (λ y. IsPlaceOf y (firsts (tree_of n).children) (Err c.in-Err.i)) c.get.ensures.value (place_by_mask n c.get.result (Err c.in-Err.i) c.requires.placed c.in-Err.ensures)
 
 pub returns-then-n-len : goal.returns-then-n-len
 returns-then-n-len g t c =
@@ -65,16 +66,16 @@ returns-then-n-len g t c =
     let b = c.index_mut-child.result.now in
     let n = c.compare-n.result.same in
     let depth = c.args.depth in
-    let at = looked node c.get.result (Ok c.in-Ok.i) c.requires.placed c.in-Ok.ensures in
-    let lt = kid_within node c.in-Ok.i c.get.result c.requires.placed at in
+    let at = place_by_mask node c.get.result (Ok c.in-Ok.i) c.requires.placed c.in-Ok.ensures in
+    let lt = place_is_within node c.in-Ok.i c.get.result c.requires.placed at in
     let is = sym c.index_mut-child.ensures.value in
     let len : n ≡ length (fragment_of b.value) = c.if-n-len.true ∙ c.len-in-Ok.ensures ∙ ap (λ m. length (fragment_of m)) c.deref-in-Ok.ensures in
     let same = subst (λ m. take n (fragment_of m) ≡ take n (drop depth key)) c.deref.ensures c.compare-n.ensures.same in
-    let path = path_down (fragment_of b.value) key depth n len same in
-    let some = (kid_placed node c.in-Ok.i b c.requires.placed lt is).0 in
+    let path = append-agreed_fragment (fragment_of b.value) key depth n len same in
+    let some = (boxed_child_is_placed node c.in-Ok.i b c.requires.placed lt is).0 in
     let rest = drop (depth + n) key in
     let below = subst (λ m. EditOutcome c.put.result c.args.pair (fragment_of m ++ rest) (tree_of m) (tree_of c.put.new.node)) c.deref_mut.ensures.value c.put.ensures in
-    kid_step node c.in-Ok.i b c.requires.placed c.put.result _ c.args.pair (fragment_of b.value ++ rest) (fragment_of node ++ drop depth key) lt is
+    edit_through_child node c.in-Ok.i b c.requires.placed c.put.result _ c.args.pair (fragment_of b.value ++ rest) (fragment_of node ++ drop depth key) lt is
     (ap (λ p. fragment_of node ++ p) (sym path))
     (append-some (fragment_of b.value) rest some) (first-append (fragment_of b.value) rest some)
     (edit_replaces c.put.result c.args.pair _ _ _ below)
@@ -86,20 +87,20 @@ returns-else-n-len g t c =
     let b = c.index_mut-child.result.now in
     let n = c.compare-n.result.same in
     let depth = c.args.depth in
-    let at = looked node c.get.result (Ok c.in-Ok.i) c.requires.placed c.in-Ok.ensures in
-    let lt = kid_within node c.in-Ok.i c.get.result c.requires.placed at in
+    let at = place_by_mask node c.get.result (Ok c.in-Ok.i) c.requires.placed c.in-Ok.ensures in
+    let lt = place_is_within node c.in-Ok.i c.get.result c.requires.placed at in
     let is = sym c.index_mut-child.ensures.value in
     let same = subst (λ m. take n (fragment_of m) ≡ take n (drop depth key)) c.deref.ensures c.compare-n.ensures.same in
     let rest = drop (depth + n) key in
     let len : c.len-in-Ok.result ≡ length (fragment_of b.value) = c.len-in-Ok.ensures ∙ ap (λ m. length (fragment_of m)) c.deref-in-Ok.ensures in
     let most : n ≤ length (fragment_of b.value) = subst (λ m. n ≤ length (fragment_of m)) c.deref.ensures c.compare-n.ensures.within in
     let within : n < length (fragment_of b.value) = omega (arith, most, len, c.if-n-len.false) in
-    let positive : 0 < n = split_some (fragment_of b.value) key depth n c.get.result (kid_placed node c.in-Ok.i b c.requires.placed lt is).0
-    (kid_first node c.in-Ok.i b c.requires.placed c.get.result lt is at) c.get.ensures.value (omega (arith, c.requires.depth, c.if-depth-len.false, c.len.ensures))
+    let positive : 0 < n = split_some (fragment_of b.value) key depth n c.get.result (boxed_child_is_placed node c.in-Ok.i b c.requires.placed lt is).0
+    (first-fragment_at_place node c.in-Ok.i b c.requires.placed c.get.result lt is at) c.get.ensures.value (omega (arith, c.requires.depth, c.if-depth-len.false, c.len.ensures))
     (subst (λ m. n < length (fragment_of m) → depth + n < length key → slice_index (fragment_of m) n ≢ slice_index key (depth + n)) c.deref.ensures c.compare-n.ensures.apart) in
     let part = take_some (fragment_of b.value) n positive within in
-    kid_step node c.in-Ok.i b c.requires.placed c.split_and_put.result c.split_and_put.new.slot c.args.pair (take n (fragment_of b.value) ++ drop (depth + n) key) (fragment_of node ++ drop depth key) lt is
-    (ap (λ p. fragment_of node ++ p) (sym (path_part (fragment_of b.value) key depth n same)))
+    edit_through_child node c.in-Ok.i b c.requires.placed c.split_and_put.result c.split_and_put.new.slot c.args.pair (take n (fragment_of b.value) ++ drop (depth + n) key) (fragment_of node ++ drop depth key) lt is
+    (ap (λ p. fragment_of node ++ p) (sym (append-agreed_part (fragment_of b.value) key depth n same)))
     (append-some (take n (fragment_of b.value)) rest part)
-    (first-append (take n (fragment_of b.value)) rest part ∙ take_first (fragment_of b.value) n positive)
+    (first-append (take n (fragment_of b.value)) rest part ∙ first-take (fragment_of b.value) n positive)
     c.split_and_put.ensures

@@ -4,7 +4,7 @@ use Rattle.nibble_map.specs.Trees.{first}
 use Rattle.masked_tree.specs.Mask.{IsPlaceOf}
 use Rattle.masked_tree.specs.Edits.{with_pair}
 use Rattle.radix_nodes.specs.Nodes.{tree_of, fragment_of}
-use Rattle.radix_nodes.proofs.NodeLemmas.Nodes.{pair_is, fragment_out}
+use Rattle.radix_nodes.proofs.NodeLemmas.Nodes.{tree_of-written_pair, fragment-tree_of}
 use Rattle.radix_nodes.proofs.EditLemmas.Insertion.{here_step, beside_step, parted_free}
 use Rattle.radix_nodes.proofs.traversal.insert.split_and_put.Goals as goal
 
@@ -15,14 +15,14 @@ returns-in-Ok-new g c =
     let key = c.args.key.now in
     let m = c.deref_mut.result.now in
     here_step (tree_of s) _ (fragment_of s) (fragment_of c.in-Ok.upper.value) c.in-Ok.tail (drop c.args.depth key) n c.args.pair
-    (sym (fragment_out s))
+    (sym (fragment-tree_of s))
     (c.in-Ok.ensures.0.0 ∙ ap (λ m. take n (fragment_of m)) c.deref.ensures)
     (c.in-Ok.ensures.1 ∙ ap (λ m. drop n (fragment_of m)) c.deref.ensures)
     c.requires.some c.requires.within
     (subst (λ z. first z < 16) (sym c.in-Ok.ensures.1) c.in-Ok.ensures.0.5)
     c.requires.placed
     (ap (λ d. drop d key) (c.if-depth-len.true ∙ c.len.ensures) ∙ drop-length key)
-    (pair_is m (Some c.in-Ok-new.b) ∙ ap (λ v. with_pair v (tree_of m)) c.in-Ok-new.ensures.ok ∙ ap (with_pair c.args.pair) (ap (λ n. tree_of n) c.deref_mut.ensures.value ∙ c.lower.ensures.tree))
+    (tree_of-written_pair m (Some c.in-Ok-new.b) ∙ ap (λ v. with_pair v (tree_of m)) c.in-Ok-new.ensures.ok ∙ ap (with_pair c.args.pair) (ap (λ n. tree_of n) c.deref_mut.ensures.value ∙ c.lower.ensures.tree))
 
 pub returns-in-Ok-make_leaf : goal.returns-in-Ok-make_leaf
 returns-in-Ok-make_leaf g c =
@@ -33,7 +33,7 @@ returns-in-Ok-make_leaf g c =
     let y = c.get-nibble.result in
     let i = c.beside-i.result in
     beside_step (tree_of s) _ (tree_of m) _ (fragment_of s) (fragment_of c.in-Ok.upper.value) c.in-Ok.tail key n c.args.depth i y _ c.args.pair
-    (sym (fragment_out s))
+    (sym (fragment-tree_of s))
     (c.in-Ok.ensures.0.0 ∙ ap (λ m. take n (fragment_of m)) c.deref.ensures)
     (c.in-Ok.ensures.1 ∙ ap (λ m. drop n (fragment_of m)) c.deref.ensures)
     c.requires.some c.requires.within

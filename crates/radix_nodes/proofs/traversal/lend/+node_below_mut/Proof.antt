@@ -50,16 +50,16 @@ use Rattle.std.specs.declared.alloc.Global.{Global}
 use Rattle.std.specs.contracts.option.Option.{the_row as option_row}
 use Rattle.std.proofs.option.Option.TheLaws.{the_row_laws as option_laws}
 use Rattle.std.proofs.VecSteps.Shapes.{after}
-use Rattle.radix_nodes.proofs.LendingLemmas.Lent.{so_then, apart_above, tied}
+use Rattle.radix_nodes.proofs.LendingLemmas.Lent.{promise_through_part, less_by_eqb, equal_by_eqb}
 use Rattle.masked_tree.specs.Tree.{IsTreePlaced}
 use Rattle.masked_tree.specs.Paths.{IsStuck}
 use Rattle.radix_keys.specs.contracts.nibbles.NibbleVec.{the_row as list_row}
 use Rattle.radix_keys.proofs.nibbles.NibbleVec.TheLaws.{the_row_laws as list_laws}
-use Rattle.radix_nodes.proofs.LendingLemmas.Writes.{if_some, child_replaced, child_kept}
-use Rattle.radix_nodes.proofs.EditLemmas.Insertion.{kid_placed}
+use Rattle.radix_nodes.proofs.LendingLemmas.Writes.{if_some_implies, replaced_through_child, kept_through_child}
+use Rattle.radix_nodes.proofs.EditLemmas.Insertion.{boxed_child_is_placed}
 use Rattle.radix_nodes.specs.Nodes.{tree_of, fragment_of, IsStep}
-use Rattle.radix_nodes.specs.Lending.{Replaces, KeepsNode}
-use Rattle.radix_nodes.specs.Loans.{LendsChildBox, LendsUnboxed, LendsNode, node_box, with_child}
+use Rattle.radix_nodes.specs.Lending.{Succeeds, KeepsNode}
+use Rattle.radix_nodes.specs.Loans.{LendsChildBox, LendsUnboxed, LendsNode, node_box, with_child_box}
 use Rattle.radix_nodes.specs.declared.trie_node.TrieNode.{TrieNode, out-TrieNode}
 use Rattle.radix_nodes.specs.contracts.trie_node.TrieNode.{the_row}
 use Rattle.radix_nodes.specs.contracts.traversal.lend.node_below_mut as f
@@ -83,6 +83,7 @@ module _ (K V : RattleType) where
   abbrev B : RattleType
   B = node_box (param 0 K) (param 1 V)
 
+  -- the type of references to a node obeys the laws, if the key's and the value's types do
   mut_laws : (κ : Lft) → Laws K → Laws V → Laws (MutRef (named 0) κ N)
   mut_laws κ LK LV =
       let at : NamedLft = record { mir = named 0; lft = κ } in
@@ -97,8 +98,9 @@ module _ (K V : RattleType) where
   abbrev stayed : Stays T'.signature.params T'.kept
   stayed = (stay_dropped (mut_ref_to (0 ∷ []) tt (plain (λ _. B))) no, (stay_dropped (shr_ref_to (1 ∷ []) tt (plain (λ _. list_row))) yes, (stay_dropped (plain (λ _. usize)) yes, tt)))
 
-less : (n depth next : ℕ) → depth < next → next ≤ n → n - next < n - depth
-less n depth next lt le = omega arith
+-- a step further along a list leaves less of it
+less_is_left : (n depth next : ℕ) → depth < next → next ≤ n → n - next < n - depth
+less_is_left n depth next lt le = omega arith
 
 pub +node_below_mut_spec : {M : Type 1} → statement M
 unfolding tables_of
@@ -192,7 +194,7 @@ unfolding tables_of
     -- [the node; the nibbles; the tokens]
     first ! $ branches ! (get ! refl)
     (λ ends. sets ! (addr ! (through ! refl (stop !))) refl (tt, tt) $
-    let off₀ : IsStuck (tree_of p.0.now.value) (drop_n depth nib.now) = subst (λ (m : Box (TrieNode K.Denot V.Denot) Global). IsStuck (tree_of m.value) (drop_n depth nib.now)) (sym same) (off (tied p.2 depth ends)) in
+    let off₀ : IsStuck (tree_of p.0.now.value) (drop_n depth nib.now) = subst (λ (m : Box (TrieNode K.Denot V.Denot) Global). IsStuck (tree_of m.value) (drop_n depth nib.now)) (sym same) (off (equal_by_eqb p.2 depth ends)) in
     use3 𝓛 (raw (He.pre (at p.0 depth))) (asks_here p.0 placed₀ off₀) $
     calls_at ! (framed 𝓤 𝓛.H 𝓜 (tables 𝓤 𝓛.H 𝓜 𝓡 𝓡.env)) He (here_met 𝓤 𝓛 𝓜 𝓡 (code.calls-radix_nodes::traversal::lend::here 𝓡.env wired) K V LK LV) (at p.0 depth)
     (and_then ! (get ! refl) (and_then ! (get ! refl) (and_then ! (get ! refl) (no_more !)))) (λ v₁.
@@ -206,7 +208,7 @@ unfolding tables_of
     rewrite ! 0 (λ (g : ℕ). ‵ (Lends' g p.0.now x)) name refl $ rewrite ! 0 (λ (m : Box (TrieNode K.Denot V.Denot) Global). ‵ (Lends' r.ghost_name m x)) same refl $
     out v₁ x)))))
     (λ goes. skips ! $ exec ! 𝓣.C 𝓣.Λ (env (fn' K V).locals l) (after 7 (fn' K V).body) (at_ret _ (W.post y')) $
-    let further : depth < p.2 = apart_above p.2 depth goes said.0 in
+    let further : depth < p.2 = less_by_eqb p.2 depth goes said.0 in
     sets ! (addr ! (through ! refl (stop !))) refl (tt, tt) $
     move ! (2 ∷ []) $ split ! $ move ! (1 ∷ []) $ split ! $ move ! (2 ∷ 1 ∷ []) $ join ! $
     -- [the tokens but the nibbles'; the nibbles' token; the box; the nibbles]
@@ -246,9 +248,9 @@ unfolding tables_of
     -- [how the node follows the child's box; that box; the tokens but the nibbles'; how the box follows the node; the nibbles' token; the nibbles]
     move ! (2 ∷ []) $ split ! $ move ! (5 ∷ 1 ∷ []) $ join ! $ move ! (1 ∷ 0 ∷ []) $ join ! $ move ! (2 ∷ 4 ∷ 0 ∷ []) $
     let lt : p.1 < length (out-TrieNode K.Denot V.Denot n.now).children.items = subst (λ (k : ℕ). p.1 < k) (out-TrieNode K.Denot V.Denot n.now).children.ok.0 step.within in
-    use3 𝓛 (raw (Self.pre (at x p.2))) (asks x p.2 is₂.1 said.1 (kid_placed n.now p.1 x.now placedₙ lt (sym boxed)).1) $
+    use3 𝓛 (raw (Self.pre (at x p.2))) (asks x p.2 is₂.1 said.1 (boxed_child_is_placed n.now p.1 x.now placedₙ lt (sym boxed)).1) $
     calls_from ! fm (raw (Self.pre (at x p.2))) (Self.args (at x p.2)) (Self.post (at x p.2))
-    (smaller (length nib.now - p.2) (subst (λ (u : ℕ). length nib.now - p.2 < u) e (less (length nib.now) depth p.2 further said.1)) (at x p.2) refl)
+    (smaller (length nib.now - p.2) (subst (λ (u : ℕ). length nib.now - p.2 < u) e (less_is_left (length nib.now) depth p.2 further said.1)) (at x p.2) refl)
     (and_then ! (get ! refl) (and_then ! (get ! refl) (and_then ! (get ! refl) (no_more !)))) (λ v₄.
     let below : List ℕ = fragment_of x.now.value ++ drop_n p.2 nib.now in
     use1 𝓛 (later (some (λ (x₄ : Option (MutBor (TrieNode K.Denot V.Denot))). (Toks ⊛ ‵ (Lent.own_val x₄ (v₄ ∷ []))) ⊛
@@ -259,14 +261,14 @@ unfolding tables_of
     returns ! (look_at ! 0 refl) $ free_all ! refl $
     move ! (2 ∷ []) $ pick ! (λ ws₄. split ! $ drop ! $
     -- [how the child's box follows the result; the result; the tokens; how the node follows the child's box; how the box follows the node]
-    let Put : List ℕ → (m m' w : TrieNode K.Denot V.Denot) → Type 0 = λ o m m' w. IfSome x₄ (λ u. Replaces o (tree_of u.now) (tree_of w) (tree_of m) (tree_of m')) in
+    let Put : List ℕ → (m m' w : TrieNode K.Denot V.Denot) → Type 0 = λ o m m' w. IfSome x₄ (λ u. Succeeds o (tree_of u.now) (tree_of w) (tree_of m) (tree_of m')) in
     move ! (3 ∷ 0 ∷ []) $ use2 𝓛 (‵ (LendsSo (N K V) (N K V) n x₄ (λ m w. Put (path n.now) n.now m w) (λ m. KeepsNode x₄ (path n.now) (tree_of n.now) (tree_of m))))
-    (so_then 𝓛 (N K V) (B K V) (N K V) (with_child n.now p.1) n.ghost_name x.ghost_name
+    (promise_through_part 𝓛 (N K V) (B K V) (N K V) (with_child_box n.now p.1) n.ghost_name x.ghost_name
     (λ w b. Put below x.now.value b.value w) (λ b. KeepsNode x₄ below (tree_of x.now.value) (tree_of b.value)) (λ w m. Put (path n.now) n.now m w) (λ m. KeepsNode x₄ (path n.now) (tree_of n.now) (tree_of m))
-    (λ w b s. if_some x₄ (λ u h. child_replaced n.now p.1 x.now nib.now depth p.2 placedₙ step (sym boxed) b (tree_of u.now) (tree_of w) h) s)
-    (λ b s. child_kept n.now p.1 x.now nib.now depth p.2 placedₙ step (sym boxed) x₄ b s) (ghost_name_of x₄)) $
+    (λ w b s. if_some_implies x₄ (λ u h. replaced_through_child n.now p.1 x.now nib.now depth p.2 placedₙ step (sym boxed) b (tree_of u.now) (tree_of w) h) s)
+    (λ b s. kept_through_child n.now p.1 x.now nib.now depth p.2 placedₙ step (sym boxed) x₄ b s) (ghost_name_of x₄)) $
     move ! (3 ∷ 0 ∷ []) $ use2 𝓛 (‵ (Lends' p.0.ghost_name p.0.now x₄))
-    (so_then 𝓛 (B K V) (N K V) (N K V) (with_value p.0.now) p.0.ghost_name n.ghost_name
+    (promise_through_part 𝓛 (B K V) (N K V) (N K V) (with_value p.0.now) p.0.ghost_name n.ghost_name
     (λ w m. Put (path n.now) n.now m w) (λ m. KeepsNode x₄ (path n.now) (tree_of n.now) (tree_of m)) (λ w b. Put (path p.0.now.value) p.0.now.value b.value w)
     (λ b. KeepsNode x₄ (path p.0.now.value) (tree_of p.0.now.value) (tree_of b.value))
     (λ w m s. subst (λ (z : TrieNode K.Denot V.Denot). Put (path z) z m w) inside s) (λ m s. subst (λ (z : TrieNode K.Denot V.Denot). KeepsNode x₄ (path z) (tree_of z) (tree_of m)) inside s) (ghost_name_of x₄)) $

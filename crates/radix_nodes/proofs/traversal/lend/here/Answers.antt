@@ -1,8 +1,8 @@
 use Rattle.std.proofs.Common.{◌++◌, ◌∙◌, refl, sym, subst, drop, arith}
-use Rattle.radix_nodes.specs.Lending.{Replaces}
+use Rattle.radix_nodes.specs.Lending.{Succeeds}
 use Rattle.radix_nodes.specs.Nodes.{tree_of, fragment_of}
 use Rattle.radix_nodes.proofs.LendingLemmas.Writes.{own_replaced}
-use Rattle.radix_nodes.proofs.SearchLemmas.{stuck_absent}
+use Rattle.radix_nodes.proofs.SearchLemmas.Deepest.{stuck_absent}
 use Rattle.radix_nodes.proofs.traversal.lend.here.Goals as goal
 
 pub returns-then-depth-len : goal.returns-then-depth-len
@@ -11,7 +11,7 @@ returns-then-depth-len g c =
     let key = c.args.key.now in (
       (
         refl,
-        (λ w. subst (λ z. Replaces (fragment_of n ++ drop c.args.depth key) (tree_of z) (tree_of w) (tree_of n) (tree_of w)) (sym c.unbox.ensures.value) (own_replaced n w key c.args.depth (c.if-depth-len.true ∙ c.len.ensures) c.requires.placed)),
+        (λ w. subst (λ z. Succeeds (fragment_of n ++ drop c.args.depth key) (tree_of z) (tree_of w) (tree_of n) (tree_of w)) (sym c.unbox.ensures.value) (own_replaced n w key c.args.depth (c.if-depth-len.true ∙ c.len.ensures) c.requires.placed)),
         (refl, tt),
       ),
       record { writes_back = tt },

@@ -2,11 +2,11 @@ use Rattle.std.proofs.Common.{◌≡◌, ◌≢◌, ◌+◌, ◌<◌, ◌++◌, 
 use Rattle.masked_tree.specs.Tree.{IsTreePlaced}
 use Rattle.radix_nodes.specs.declared.trie_node.TrieNode.{out-TrieNode}
 use Rattle.radix_nodes.specs.Nodes.{tree_of, fragment_of}
-use Rattle.radix_nodes.proofs.EditLemmas.Removal.{same_at}
-use Rattle.radix_nodes.proofs.EditLemmas.Insertion.{kid_placed, is_at}
-use Rattle.radix_nodes.proofs.SearchLemmas.{nearest_none, nearest_parted}
+use Rattle.radix_nodes.proofs.EditLemmas.Merging.{item_is_unique}
+use Rattle.radix_nodes.proofs.EditLemmas.Insertion.{boxed_child_is_placed, box_is_child}
+use Rattle.radix_nodes.proofs.SearchLemmas.Nearest.{nearest_none, nearest_parted}
 use Rattle.radix_nodes.specs.Prunes.{IsSmall, PruneOutcome}
-use Rattle.radix_nodes.proofs.EditLemmas.Branches.{item_at, small_kid, branch_child, goes_on, prune_up}
+use Rattle.radix_nodes.proofs.EditLemmas.Branches.{item_at, child_is_small, branch_child, key_goes_on, prune_through_child}
 use Rattle.radix_nodes.proofs.traversal.prune.+prune.Goals as goal
 
 pub prune-requires : goal.prune-requires
@@ -16,12 +16,12 @@ prune-requires g t c =
     let o = (out-TrieNode g.row.K.Denot g.row.V.Denot n).children.ok.0 in
     let lt : c.in-Some.i < length (out-TrieNode g.row.K.Denot g.row.V.Denot n).children.items = omega (arith, c.in-Some.ensures.within, o) in
     let is = sym c.index_mut.ensures.value in
-    let kid = kid_placed n c.in-Some.i b c.requires.placed lt is in
-    let placed : IsTreePlaced (tree_of c.deref_mut.result.now) = subst (λ m. IsTreePlaced (tree_of m)) (sym c.deref_mut.ensures.value) kid.1 in
-    let some : fragment_of c.deref_mut.result.now ≢ [] = subst (λ m. fragment_of m ≢ []) (sym c.deref_mut.ensures.value) kid.0 in
+    let child = boxed_child_is_placed n c.in-Some.i b c.requires.placed lt is in
+    let placed : IsTreePlaced (tree_of c.deref_mut.result.now) = subst (λ m. IsTreePlaced (tree_of m)) (sym c.deref_mut.ensures.value) child.1 in
+    let some : fragment_of c.deref_mut.result.now ≢ [] = subst (λ m. fragment_of m ≢ []) (sym c.deref_mut.ensures.value) child.0 in
     let small : IsSmall (tree_of c.deref_mut.result.now) = subst (λ m. IsSmall (tree_of m)) (sym c.deref_mut.ensures.value)
-    (small_kid (tree_of n) (tree_of b.value) c.in-Some.i (is_at n c.in-Some.i b c.requires.placed lt is) c.requires.small) in
-    let on = goes_on n c.deref.result.now c.args.key.now c.args.depth c.requires.placed c.in-Some.i c.in-Some.agreement c.requires.depth c.in-Some.ensures c.index.result.now (sym c.index.ensures) c.deref.ensures
+    (child_is_small (tree_of n) (tree_of b.value) c.in-Some.i (box_is_child n c.in-Some.i b c.requires.placed lt is) c.requires.small) in
+    let on = key_goes_on n c.deref.result.now c.args.key.now c.args.depth c.requires.placed c.in-Some.i c.in-Some.agreement c.requires.depth c.in-Some.ensures c.index.result.now (sym c.index.ensures) c.deref.ensures
     (c.if-agreement-len.true ∙ c.len-else-next-len.ensures) (λ z. c.if-next-len.false (z ∙ sym c.len.ensures)) in
     λ κs l. (omega (arith, c.decreases, on.0, on.1), (l.0, (l.1, (on.1, (placed, (some, small))))))
 
@@ -31,7 +31,7 @@ returns-in-Ok g t c =
     let o = (out-TrieNode g.row.K.Denot g.row.V.Denot n).children.ok.0 in
     let lt : c.in-Some.i < length (out-TrieNode g.row.K.Denot g.row.V.Denot n).children.items = omega (arith, c.in-Some.ensures.within, o) in
     let item = item_at (out-TrieNode g.row.K.Denot g.row.V.Denot n).children.items c.in-Some.i lt in
-    let at = is_at n c.in-Some.i item.0 c.requires.placed lt item.1 in
+    let at = box_is_child n c.in-Some.i item.0 c.requires.placed lt item.1 in
     let branch = branch_child n item.0.value c.args.key.now c.args.depth c.requires.placed c.in-Some.i c.in-Some.agreement c.requires.depth c.in-Some.ensures item.0 item.1 refl (c.if-next-len.true ∙ c.len.ensures) in
     (tree_of item.0.value, (tree_of n).fragment, branch, c.in-Ok.ensures.cut (tree_of item.0.value) at, c.in-Ok.ensures.pairs (tree_of item.0.value) at)
 
@@ -53,10 +53,10 @@ returns-then-agreement-len g t c =
     let o = (out-TrieNode g.row.K.Denot g.row.V.Denot n).children.ok.0 in
     let lt : c.in-Some.i < length items = omega (arith, c.in-Some.ensures.within, o) in
     let is = sym c.index_mut.ensures.value in
-    let same : c.deref.result.now ≡ b.value = c.deref.ensures ∙ ap (λ k. k.value) (same_at items c.in-Some.i c.index.result.now b lt (sym c.index.ensures) is) in
+    let same : c.deref.result.now ≡ b.value = c.deref.ensures ∙ ap (λ k. k.value) (item_is_unique items c.in-Some.i c.index.result.now b lt (sym c.index.ensures) is) in
     let next = c.args.depth + c.in-Some.agreement.same in
     let below = subst (λ m. PruneOutcome c.prune.result (fragment_of m ++ drop next c.args.key.now) (tree_of m) (tree_of c.prune.new.node)) c.deref_mut.ensures.value c.prune.ensures in
-    prune_up n b.value c.args.key.now c.args.depth c.requires.placed c.in-Some.i c.in-Some.agreement c.requires.depth c.in-Some.ensures b is refl _
+    prune_through_child n b.value c.args.key.now c.args.depth c.requires.placed c.in-Some.i c.in-Some.agreement c.requires.depth c.in-Some.ensures b is refl _
     (c.if-agreement-len.true ∙ c.len-else-next-len.ensures ∙ ap (λ m. length (fragment_of m)) same) c.prune.result below
 
 pub returns-else-agreement-len : goal.returns-else-agreement-len

@@ -2,16 +2,16 @@ use Rattle.std.proofs.Common.{◌≡◌, ◌≢◌, ◌+◌, ◌<◌, ◌++◌, 
 use Rattle.radix_nodes.specs.declared.trie_node.TrieNode.{out-TrieNode}
 use Rattle.masked_tree.specs.Tree.{IsTreePlaced}
 use Rattle.radix_nodes.specs.Nodes.{tree_of, fragment_of}
-use Rattle.radix_nodes.proofs.EditLemmas.Removal.{same_at}
-use Rattle.radix_nodes.proofs.EditLemmas.Insertion.{kid_placed, is_at}
-use Rattle.radix_nodes.proofs.SearchLemmas.{nearest_none, nearest_parted}
+use Rattle.radix_nodes.proofs.EditLemmas.Merging.{item_is_unique}
+use Rattle.radix_nodes.proofs.EditLemmas.Insertion.{boxed_child_is_placed, box_is_child}
+use Rattle.radix_nodes.proofs.SearchLemmas.Nearest.{nearest_none, nearest_parted}
 use Rattle.radix_nodes.specs.Prunes.{IsSmall, PruneOutcome}
-use Rattle.radix_nodes.proofs.EditLemmas.Branches.{item_at, small_kid, branch_child, goes_on, prune_up_root}
+use Rattle.radix_nodes.proofs.EditLemmas.Branches.{item_at, child_is_small, branch_child, key_goes_on, root_prune_through_child}
 use Rattle.radix_nodes.proofs.traversal.prune.prune_root.Goals as goal
 
 pub prune-requires-clause-depth : goal.prune-requires-clause-depth
 prune-requires-clause-depth g c =
-    let on = goes_on c.args.root.now c.deref.result.now c.args.key.now 0 c.requires.placed c.in-Some.i c.in-Some.agreement c.requires.some c.in-Some.ensures c.index.result.now (sym c.index.ensures) c.deref.ensures
+    let on = key_goes_on c.args.root.now c.deref.result.now c.args.key.now 0 c.requires.placed c.in-Some.i c.in-Some.agreement c.requires.some c.in-Some.ensures c.index.result.now (sym c.index.ensures) c.deref.ensures
     (c.if-agreement-len-2.true ∙ c.len-else-agreement-len.ensures) (λ z. c.if-agreement-len.false (omega (arith, z, c.len.ensures))) in
     omega (arith, on.1)
 
@@ -20,14 +20,14 @@ prune-requires-clause-placed g c =
     let n = c.args.root.now in
     let o = (out-TrieNode g.row.K.Denot g.row.V.Denot n).children.ok.0 in
     subst (λ m. IsTreePlaced (tree_of m)) (sym c.deref_mut.ensures.value)
-    (kid_placed n c.in-Some.i c.index_mut.result.now c.requires.placed (omega (arith, c.in-Some.ensures.within, o)) (sym c.index_mut.ensures.value)).1
+    (boxed_child_is_placed n c.in-Some.i c.index_mut.result.now c.requires.placed (omega (arith, c.in-Some.ensures.within, o)) (sym c.index_mut.ensures.value)).1
 
 pub prune-requires-clause-some : goal.prune-requires-clause-some
 prune-requires-clause-some g c =
     let n = c.args.root.now in
     let o = (out-TrieNode g.row.K.Denot g.row.V.Denot n).children.ok.0 in
     subst (λ m. fragment_of m ≢ []) (sym c.deref_mut.ensures.value)
-    (kid_placed n c.in-Some.i c.index_mut.result.now c.requires.placed (omega (arith, c.in-Some.ensures.within, o)) (sym c.index_mut.ensures.value)).0
+    (boxed_child_is_placed n c.in-Some.i c.index_mut.result.now c.requires.placed (omega (arith, c.in-Some.ensures.within, o)) (sym c.index_mut.ensures.value)).0
 
 pub prune-requires-clause-small : goal.prune-requires-clause-small
 prune-requires-clause-small g c =
@@ -35,7 +35,7 @@ prune-requires-clause-small g c =
     let b = c.index_mut.result.now in
     let o = (out-TrieNode g.row.K.Denot g.row.V.Denot n).children.ok.0 in
     subst (λ m. IsSmall (tree_of m)) (sym c.deref_mut.ensures.value)
-    (small_kid (tree_of n) (tree_of b.value) c.in-Some.i (is_at n c.in-Some.i b c.requires.placed (omega (arith, c.in-Some.ensures.within, o)) (sym c.index_mut.ensures.value)) c.requires.small)
+    (child_is_small (tree_of n) (tree_of b.value) c.in-Some.i (box_is_child n c.in-Some.i b c.requires.placed (omega (arith, c.in-Some.ensures.within, o)) (sym c.index_mut.ensures.value)) c.requires.small)
 
 pub returns-in-Ok : goal.returns-in-Ok
 returns-in-Ok g c =
@@ -43,7 +43,7 @@ returns-in-Ok g c =
     let o = (out-TrieNode g.row.K.Denot g.row.V.Denot n).children.ok.0 in
     let lt : c.in-Some.i < length (out-TrieNode g.row.K.Denot g.row.V.Denot n).children.items = omega (arith, c.in-Some.ensures.within, o) in
     let item = item_at (out-TrieNode g.row.K.Denot g.row.V.Denot n).children.items c.in-Some.i lt in
-    let at = is_at n c.in-Some.i item.0 c.requires.placed lt item.1 in
+    let at = box_is_child n c.in-Some.i item.0 c.requires.placed lt item.1 in
     let branch = branch_child n item.0.value c.args.key.now 0 c.requires.placed c.in-Some.i c.in-Some.agreement c.requires.some c.in-Some.ensures item.0 item.1 refl (omega (arith, c.if-agreement-len.true, c.len.ensures)) in
     (tree_of item.0.value, (tree_of n).fragment, branch, c.in-Ok.ensures.cut (tree_of item.0.value) at, c.in-Ok.ensures.pairs (tree_of item.0.value) at)
 
@@ -66,11 +66,11 @@ returns-then-agreement-len-2 g c =
     let o = (out-TrieNode g.row.K.Denot g.row.V.Denot n).children.ok.0 in
     let lt : c.in-Some.i < length items = omega (arith, c.in-Some.ensures.within, o) in
     let is = sym c.index_mut.ensures.value in
-    let same : c.deref.result.now ≡ b.value = c.deref.ensures ∙ ap (λ k. k.value) (same_at items c.in-Some.i c.index.result.now b lt (sym c.index.ensures) is) in
+    let same : c.deref.result.now ≡ b.value = c.deref.ensures ∙ ap (λ k. k.value) (item_is_unique items c.in-Some.i c.index.result.now b lt (sym c.index.ensures) is) in
     let next : c.in-Some.agreement.same ≡ 0 + c.in-Some.agreement.same = omega arith in
     let below = subst (λ m. PruneOutcome c.prune.result (fragment_of m ++ drop c.in-Some.agreement.same key) (tree_of m) (tree_of c.prune.new.node)) c.deref_mut.ensures.value c.prune.ensures in
     let below0 = subst (λ k. PruneOutcome c.prune.result (fragment_of b.value ++ drop k key) (tree_of b.value) (tree_of c.prune.new.node)) next below in
-    prune_up_root n b.value key 0 c.requires.placed c.in-Some.i c.in-Some.agreement c.requires.some c.in-Some.ensures b is refl _
+    root_prune_through_child n b.value key 0 c.requires.placed c.in-Some.i c.in-Some.agreement c.requires.some c.in-Some.ensures b is refl _
     (c.if-agreement-len-2.true ∙ c.len-else-agreement-len.ensures ∙ ap (λ m. length (fragment_of m)) same) c.prune.result below0
 
 pub returns-else-agreement-len-2 : goal.returns-else-agreement-len-2

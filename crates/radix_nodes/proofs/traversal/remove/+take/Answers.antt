@@ -3,9 +3,11 @@ use Rattle.std.proofs.Math.Seq.{drop-length}
 use Rattle.radix_nodes.specs.declared.trie_node.TrieNode.{out-TrieNode}
 use Rattle.masked_tree.specs.Tree.{IsTreePlaced}
 use Rattle.radix_nodes.specs.Nodes.{tree_of, fragment_of, CutOutcome}
-use Rattle.radix_nodes.proofs.NodeLemmas.Nodes.{fragment_out}
-use Rattle.radix_nodes.proofs.EditLemmas.Insertion.{kid_placed, is_at, stuck_lacks}
-use Rattle.radix_nodes.proofs.EditLemmas.Removal.{child_is, no_kids, kid_cut, same_at}
+use Rattle.radix_nodes.proofs.NodeLemmas.Nodes.{fragment-tree_of}
+use Rattle.radix_nodes.proofs.EditLemmas.Insertion.{boxed_child_is_placed, box_is_child}
+use Rattle.radix_nodes.proofs.EditLemmas.Steps.{stuck_lacks}
+use Rattle.radix_nodes.proofs.EditLemmas.Merging.{child_is_in_box, item_is_unique}
+use Rattle.radix_nodes.proofs.EditLemmas.Removal.{children-no_boxes, cut_through_child}
 use Rattle.radix_nodes.proofs.traversal.remove.+take.Goals.{else-next-len-via-then-next-len+else-is_end, else-next-len-via-else-next-len}
 use Rattle.radix_nodes.proofs.traversal.remove.+take.Goals as goal
 use Rattle.nibble_map.proofs.ListLemmas.Cut.{first-append, append-some}
@@ -18,7 +20,7 @@ take_leaf-requires-clause-leaf g t c u a =
     let o = (out n).children.ok.0 in
     let o' = (out b.value).children.ok.0 in
     let none' = subst (λ m. vec_len (out m).children ≡ 0) c.deref.ensures c.if-is_end.ensures in
-    ap (λ t. t.kids) (child_is n c.in-Some.i b u c.requires.placed (omega (arith, c.in-Some.ensures.within, o)) (sym c.index.ensures) a) ∙ no_kids b.value (omega (arith, none', o'))
+    ap (λ t. t.children) (child_is_in_box n c.in-Some.i b u c.requires.placed (omega (arith, c.in-Some.ensures.within, o)) (sym c.index.ensures) a) ∙ children-no_boxes b.value (omega (arith, none', o'))
 
 pub take-requires : goal.take-requires
 take-requires g t c =
@@ -27,14 +29,14 @@ take-requires g t c =
     let b = c.index_mut.result.now in
     let o = (out n).children.ok.0 in
     let lt : c.in-Some.i < length (out n).children.items = omega (arith, c.in-Some.ensures.within, o) in
-    let kid = kid_placed n c.in-Some.i b c.requires.placed lt (sym c.index_mut.ensures.value) in
-    let placed : IsTreePlaced (tree_of c.deref_mut.result.now) = subst (λ m. IsTreePlaced (tree_of m)) (sym c.deref_mut.ensures.value) kid.1 in
-    let some : fragment_of c.deref_mut.result.now ≢ [] = subst (λ m. fragment_of m ≢ []) (sym c.deref_mut.ensures.value) kid.0 in
+    let child = boxed_child_is_placed n c.in-Some.i b c.requires.placed lt (sym c.index_mut.ensures.value) in
+    let placed : IsTreePlaced (tree_of c.deref_mut.result.now) = subst (λ m. IsTreePlaced (tree_of m)) (sym c.deref_mut.ensures.value) child.1 in
+    let some : fragment_of c.deref_mut.result.now ≢ [] = subst (λ m. fragment_of m ≢ []) (sym c.deref_mut.ensures.value) child.0 in
     let inner : c.in-Some.next ≡ length c.args.key.now → 0 < vec_len (out c.deref_mut.result.now).children = λ e.
     elim c.else-next-len.branch [
       | else-next-len-via-then-next-len+else-is_end w ↦
           subst (λ m. 0 < vec_len (out m).children)
-          (w.deref.ensures ∙ ap (λ b. b.value) (same_at (out n).children.items c.in-Some.i w.index.result.now b lt (sym w.index.ensures) (sym c.index_mut.ensures.value)) ∙ sym c.deref_mut.ensures.value)
+          (w.deref.ensures ∙ ap (λ b. b.value) (item_is_unique (out n).children.items c.in-Some.i w.index.result.now b lt (sym w.index.ensures) (sym c.index_mut.ensures.value)) ∙ sym c.deref_mut.ensures.value)
           w.if-is_end.ensures
       | else-next-len-via-else-next-len w ↦ absurd (w.if-next-len.false (e ∙ sym c.len-in-Some.ensures))
     ] in
@@ -46,7 +48,7 @@ returns-then-is_end g t c =
     let b = c.index.result.now in
     let key = c.args.key.now in
     let o = (out-TrieNode g.row.K.Denot g.row.V.Denot n).children.ok.0 in
-    let at = is_at n c.in-Some.i b c.requires.placed (omega (arith, c.in-Some.ensures.within, o)) (sym c.index.ensures) in
+    let at = box_is_child n c.in-Some.i b c.requires.placed (omega (arith, c.in-Some.ensures.within, o)) (sym c.index.ensures) in
     let f = (tree_of b.value).fragment in
     let end : f ≡ drop c.args.depth key =
     sym (append-nil f) ∙ ap (λ r. f ++ r) (sym (ap (λ d. drop d key) (c.if-next-len.true ∙ c.len-in-Some.ensures) ∙ drop-length key)) ∙ c.in-Some.ensures.path (tree_of b.value) at in
@@ -60,12 +62,12 @@ returns-else-next-len g t c =
     let o = (out-TrieNode g.row.K.Denot g.row.V.Denot n).children.ok.0 in
     let lt : c.in-Some.i < length (out-TrieNode g.row.K.Denot g.row.V.Denot n).children.items = omega (arith, c.in-Some.ensures.within, o) in
     let is = sym c.index_mut.ensures.value in
-    let at = is_at n c.in-Some.i b c.requires.placed lt is in
+    let at = box_is_child n c.in-Some.i b c.requires.placed lt is in
     let rest = drop c.in-Some.next key in
-    let path : fragment_of b.value ++ rest ≡ drop c.args.depth key = ap (λ f. f ++ rest) (sym (fragment_out b.value)) ∙ c.in-Some.ensures.path (tree_of b.value) at in
+    let path : fragment_of b.value ++ rest ≡ drop c.args.depth key = ap (λ f. f ++ rest) (sym (fragment-tree_of b.value)) ∙ c.in-Some.ensures.path (tree_of b.value) at in
     let below = subst (λ m. CutOutcome c.take.result (fragment_of m ++ rest) (tree_of m) (tree_of c.take.new.node)) c.deref_mut.ensures.value c.take.ensures in
-    let some = (kid_placed n c.in-Some.i b c.requires.placed lt is).0 in
-    kid_cut n c.in-Some.i b _ c.take.result (fragment_of b.value ++ rest) (fragment_of n ++ drop c.args.depth key) c.requires.placed lt is (ap (λ p. fragment_of n ++ p) (sym path))
+    let some = (boxed_child_is_placed n c.in-Some.i b c.requires.placed lt is).0 in
+    cut_through_child n c.in-Some.i b _ c.take.result (fragment_of b.value ++ rest) (fragment_of n ++ drop c.args.depth key) c.requires.placed lt is (ap (λ p. fragment_of n ++ p) (sym path))
     (append-some (fragment_of b.value) rest some) (first-append (fragment_of b.value) rest some) below
 
 pub returns-in-None : goal.returns-in-None

@@ -1,11 +1,11 @@
 use Rattle.std.proofs.Common.{arith, ◌∙◌, sym}
 use Rattle.radix_nodes.specs.Nodes.{out_of}
 use Rattle.radix_nodes.specs.SameValues.{same_values}
-use Rattle.radix_nodes.proofs.CopyLemmas.Same.{fragments_differ, pairs_differ, children_differ, all_same, lengths_differ, child_decides, all_agree, from_not, to_not}
+use Rattle.radix_nodes.proofs.CopyLemmas.Same.{fragments_differ, pairs_differ, children_differ, all_same, same_boxes-other_length, same_boxes-next_child, same_boxes-at_ends, true_by_negation, false_by_negation}
 use Rattle.radix_nodes.proofs.traversal.same.+same.Goals as goal
 
 pub returns-then-ne : goal.returns-then-ne
-returns-then-ne g t c = fragments_differ (same_values {K = g.row.K.Denot} g.V.PartialEq.eq) c.args.left.now c.args.right.now (to_not _ (sym c.if-ne.true ∙ c.ne.ensures))
+returns-then-ne g t c = fragments_differ (same_values {K = g.row.K.Denot} g.V.PartialEq.eq) c.args.left.now c.args.right.now (false_by_negation _ (sym c.if-ne.true ∙ c.ne.ensures))
 
 pub returns-then-not-pairs_match : goal.returns-then-not-pairs_match
 returns-then-not-pairs_match g t c =
@@ -16,7 +16,7 @@ returns-then-len g t c =
     let eq = same_values {K = g.row.K.Denot} g.V.PartialEq.eq in
     let xs = (out_of c.args.left.now).children in
     let ys = (out_of c.args.right.now).children in
-    children_differ eq c.args.left.now c.args.right.now (lengths_differ eq xs.items ys.items (λ e. omega (arith, e, xs.ok.0, ys.ok.0)))
+    children_differ eq c.args.left.now c.args.right.now (same_boxes-other_length eq xs.items ys.items (λ e. omega (arith, e, xs.ok.0, ys.ok.0)))
 
 pub returns-then-not-same : goal.returns-then-not-same
 returns-then-not-same g t c =
@@ -24,7 +24,7 @@ returns-then-not-same g t c =
     let xs = (out_of c.args.left.now).children in
     let ys = (out_of c.args.right.now).children in
     children_differ eq c.args.left.now c.args.right.now
-    (child_decides eq xs.items ys.items c.loop-i.i c.index.result.now c.index-in-loop-i.result.now c.deref.result.now c.deref-in-loop-i.result.now c.same.result _
+    (same_boxes-next_child eq xs.items ys.items c.loop-i.i c.index.result.now c.index-in-loop-i.result.now c.deref.result.now c.deref-in-loop-i.result.now c.same.result _
     (omega (arith, xs.ok.0)) (omega (arith, xs.ok.0, ys.ok.0)) c.index.ensures c.index-in-loop-i.ensures c.deref.ensures c.deref-in-loop-i.ensures c.same.ensures c.if-not-same.true c.loop-i.invariant)
 
 pub loop-i-preserved : goal.loop-i-preserved
@@ -32,7 +32,7 @@ loop-i-preserved g t c =
     let eq = same_values {K = g.row.K.Denot} g.V.PartialEq.eq in
     let xs = (out_of c.args.left.now).children in
     let ys = (out_of c.args.right.now).children in
-    child_decides eq xs.items ys.items c.loop-i.i c.index.result.now c.index-in-loop-i.result.now c.deref.result.now c.deref-in-loop-i.result.now c.same.result _
+    same_boxes-next_child eq xs.items ys.items c.loop-i.i c.index.result.now c.index-in-loop-i.result.now c.deref.result.now c.deref-in-loop-i.result.now c.same.result _
     (omega (arith, xs.ok.0)) (omega (arith, xs.ok.0, ys.ok.0)) c.index.ensures c.index-in-loop-i.ensures c.deref.ensures c.deref-in-loop-i.ensures c.same.ensures c.if-not-same.false c.loop-i.invariant
 
 pub returns : goal.returns
@@ -40,5 +40,5 @@ returns g t c =
     let eq = same_values {K = g.row.K.Denot} g.V.PartialEq.eq in
     let xs = (out_of c.args.left.now).children in
     let ys = (out_of c.args.right.now).children in
-    all_same eq c.args.left.now c.args.right.now (from_not _ (sym c.if-ne.false ∙ c.ne.ensures)) (sym c.pairs_match.ensures ∙ c.if-not-pairs_match.false)
-    (all_agree eq xs.items ys.items c.loop-i.i (omega (arith, xs.ok.0)) (omega (arith, ys.ok.0, xs.ok.0)) c.loop-i.invariant)
+    all_same eq c.args.left.now c.args.right.now (true_by_negation _ (sym c.if-ne.false ∙ c.ne.ensures)) (sym c.pairs_match.ensures ∙ c.if-not-pairs_match.false)
+    (same_boxes-at_ends eq xs.items ys.items c.loop-i.i (omega (arith, xs.ok.0)) (omega (arith, ys.ok.0, xs.ok.0)) c.loop-i.invariant)

@@ -1,7 +1,7 @@
 use Rattle.std.proofs.Common.{◌∙◌, ap, sym, arith, length}
 use Rattle.radix_nodes.specs.Nodes.{fragment_of}
-use Rattle.radix_nodes.proofs.EditLemmas.Insertion.{met_step, met_stuck, none_stuck}
-use Rattle.radix_nodes.proofs.SearchLemmas.{end_stuck}
+use Rattle.radix_nodes.proofs.EditLemmas.Steps.{met_step, met_stuck, none_stuck}
+use Rattle.radix_nodes.proofs.SearchLemmas.Deepest.{end_stuck}
 use Rattle.radix_nodes.proofs.traversal.step.step.Goals as goal
 
 pub overflow_add-result : goal.overflow_add-result

@@ -1,8 +1,8 @@
 use Rattle.std.proofs.Common.{◌<◌, ◌^◌, ◌↔◌, ◌∙◌, IsTrue, cond, ap, sym, subst}
 use Rattle.radix_nodes.specs.Nodes.{tree_of}
-use Rattle.radix_nodes.specs.Soundness.{IsCanonicalAt}
-use Rattle.radix_nodes.proofs.EditLemmas.Removal.{if_ok}
-use Rattle.radix_nodes.proofs.CheckerLemmas.{decided, pairs_at}
+use Rattle.radix_nodes.specs.Soundness.{IsSoundAt}
+use Rattle.radix_nodes.proofs.EditLemmas.Merging.{if_ok_implies}
+use Rattle.radix_nodes.proofs.CheckerLemmas.Nodes.{test_of_decides, pairs_at}
 use Rattle.radix_nodes.proofs.trie_node.TrieNode.check_integrity_recursive.Goals as goal
 
 pub test-requires : goal.test-requires
@@ -12,9 +12,9 @@ pub returns-clause-answer : goal.returns-clause-answer
 returns-clause-answer g c =
     let n = c.args.self.now in
     let e = g.K.TrieKey.encoding in
-    if_ok _ _ c.test.result c.test.ensures.answer (λ r is. subst (λ b. IsTrue b ↔ IsCanonicalAt e c.args.prefix.now (tree_of n)) (sym is) (decided e c.args.prefix.now n))
+    if_ok_implies _ _ c.test.result c.test.ensures.answer (λ r is. subst (λ b. IsTrue b ↔ IsSoundAt e c.args.prefix.now (tree_of n)) (sym is) (test_of_decides e c.args.prefix.now n))
 
 pub returns-clause-count : goal.returns-clause-count
 returns-clause-count g c =
     let n = c.args.self.now in
-    if_ok _ _ c.test.result c.test.ensures.count (λ r is. is ∙ ap (λ k. cond r.0 k 0) (sym (pairs_at c.args.prefix.now n)))
+    if_ok_implies _ _ c.test.result c.test.ensures.count (λ r is. is ∙ ap (λ k. cond r.0 k 0) (sym (pairs_at c.args.prefix.now n)))

@@ -1,8 +1,8 @@
 use Rattle.std.proofs.Common.{◌∙◌, sym}
 use Rattle.radix_nodes.specs.declared.trie_node.TrieNode.{out-TrieNode}
-use Rattle.radix_nodes.proofs.EditLemmas.Removal.{absorbed_tree}
+use Rattle.radix_nodes.proofs.EditLemmas.Merging.{tree_of-absorbed}
 use Rattle.radix_nodes.proofs.trie_node.links.absorb.Goals as goal
 
 pub returns : goal.returns
 returns g c =
-    absorbed_tree c.args.node.now _ c.remove-only.result c.args.fragment (sym (out-TrieNode g.row.K.Denot g.row.V.Denot c.args.node.now).children.ok.0 ∙ c.requires.one) (sym c.remove-only.ensures.value) c.into_inner-pair.ensures c.requires.joined
+    tree_of-absorbed c.args.node.now _ c.remove-only.result c.args.fragment (sym (out-TrieNode g.row.K.Denot g.row.V.Denot c.args.node.now).children.ok.0 ∙ c.requires.one) (sym c.remove-only.ensures.value) c.into_inner-pair.ensures c.requires.joined

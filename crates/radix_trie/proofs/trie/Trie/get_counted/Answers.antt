@@ -2,15 +2,15 @@ use Rattle.std.proofs.Common.{◌≡◌, ◌≤◌, length, option_copied, sym, 
 use Rattle.nibble_map.specs.MapQueries.{IsCompared}
 use Rattle.nibble_map.specs.Maps.{IsStored, value_at}
 use Rattle.radix_nodes.specs.Nodes.{tree_of}
-use Rattle.radix_nodes.proofs.NodeLemmas.Nodes.{fragment_out}
-use Rattle.radix_trie.proofs.RootLemmas.Roots.{compared_once, root_full, found_value, found_count}
+use Rattle.radix_nodes.proofs.NodeLemmas.Nodes.{fragment-tree_of}
+use Rattle.radix_trie.proofs.RootLemmas.Roots.{compared_once, root_is_full_below, found_value, found_count}
 use Rattle.radix_trie.proofs.trie.Trie.get_counted.Goals as goal
 
 pub find_counted-compared-requires-clause-top : goal.find_counted-compared-requires-clause-top
-find_counted-compared-requires-clause-top g c = sym (fragment_out c.root.result.now) ∙ c.root.ensures.top
+find_counted-compared-requires-clause-top g c = sym (fragment-tree_of c.root.result.now) ∙ c.root.ensures.top
 
 pub find_counted-compared-requires-clause-full : goal.find_counted-compared-requires-clause-full
-find_counted-compared-requires-clause-full g c = root_full g.K.TrieKey.encoding _ _ c.root.ensures
+find_counted-compared-requires-clause-full g c = root_is_full_below g.K.TrieKey.encoding _ _ c.root.ensures
 
 pub returns-clause-value : goal.returns-clause-value
 returns-clause-value g c =

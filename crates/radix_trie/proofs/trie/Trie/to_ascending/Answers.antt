@@ -2,15 +2,15 @@ use Rattle.std.proofs.Common.{◌≡◌, ◌≤◌, ◌∙◌, ap, sym, arith, l
 use Rattle.std.specs.FinMap as map
 use Rattle.nibble_map.specs.Nibbles.{nibbles}
 use Rattle.nibble_map.specs.Turned.{turned}
-use Rattle.nibble_map.proofs.MapLemmas.SameTests.{never}
+use Rattle.nibble_map.proofs.MapLemmas.SameTests.{anything_of_false}
 use Rattle.radix_keys.specs.AscendingKeys.{turned_bytes}
 use Rattle.radix_keys.proofs.NibbleLemmas.Turning.{nibbles-turned}
 use Rattle.radix_nodes.specs.Nodes.{tree_of, fragment_of}
-use Rattle.radix_nodes.proofs.NodeLemmas.Nodes.{fragment_out}
+use Rattle.radix_nodes.proofs.NodeLemmas.Nodes.{fragment-tree_of}
 use Rattle.radix_trie.specs.Roots.{map_of}
 use Rattle.radix_trie.proofs.ChangeLemmas.Turned.{wrapped_kept, wrapped_map, wrapped_footprint}
-use Rattle.radix_trie.proofs.ChangeLemmas.Copies.{no_pair, no_child}
-use Rattle.radix_trie.proofs.RootLemmas.Shown.{kept_len}
+use Rattle.radix_trie.proofs.ChangeLemmas.Copies.{pair-empty_root, children-empty_root}
+use Rattle.radix_trie.proofs.RootLemmas.Shown.{len-map_of_kept}
 use Rattle.radix_trie.proofs.trie.Trie.to_ascending.Goals as goal
 
 pub returns-in_err-turned_copy-clause-light : goal.returns-in_err-turned_copy-clause-light
@@ -18,9 +18,9 @@ returns-in_err-turned_copy-clause-light g c = λ nothing.
     let enc = g.T.TrieKey.encoding in
     let root = c.self.inside.root in
     let none : map.len (map_of (tree_of root)) ≡ 0 = rw c.self.view_is nothing in
-    let empty = sym (kept_len enc (tree_of root) _ _ _ c.self.invariant) ∙ none in
-    let short : length (fragment_of root) ≤ 32 = omega (arith, ap length (sym (fragment_out root) ∙ c.self.invariant.top)) in
-    never (c.in_err-turned_copy.ensures.light (no_pair enc (tree_of root) _ _ _ c.self.invariant empty) (no_child enc (tree_of root) _ _ _ c.self.invariant empty) short)
+    let empty = sym (len-map_of_kept enc (tree_of root) _ _ _ c.self.invariant) ∙ none in
+    let short : length (fragment_of root) ≤ 32 = omega (arith, ap length (sym (fragment-tree_of root) ∙ c.self.invariant.top)) in
+    anything_of_false (c.in_err-turned_copy.ensures.light (pair-empty_root enc (tree_of root) _ _ _ c.self.invariant empty) (children-empty_root enc (tree_of root) _ _ _ c.self.invariant empty) short)
 
 pub invariant_of-result : goal.invariant_of-result
 invariant_of-result g c =

@@ -1,6 +1,6 @@
 use Rattle.std.proofs.Common.{◌≡◌, ◌<◌, ◌++◌, [], ◌∷◌, arith, ap, true, false, length, reverse, take, sym, ◌∙◌}
 use Rattle.radix_keys.proofs.NibbleLemmas.Bytes.{length-nibbles}
-use Rattle.radix_keys.proofs.KeyLemmas.Items.{reverse-more, length-take-reverse}
+use Rattle.radix_keys.proofs.KeyLemmas.Items.{take-reverse_more, length-take-reverse}
 use Rattle.std.proofs.lemmas.List.{length-reverse}
 use Rattle.radix_keys.proofs.keys.integers.LittleEndianTrieKey.encode.Goals as goal
 
@@ -31,7 +31,7 @@ loop-i-preserved g c =
     record {
       items = c.in_ok-push.ensures.ok ∙ ap (λ t. t ++ c.byte.result ∷ []) c.loop-i.invariant.items
           ∙ ap (λ b. take c.loop-i.i (reverse v) ++ b ∷ []) c.byte.ensures.byte
-          ∙ sym (reverse-more v c.WIDTH.result c.loop-i.i n lt);
+          ∙ sym (take-reverse_more v c.WIDTH.result c.loop-i.i n lt);
       room = omega (arith, c.push.ensures.capacity, c.loop-i.invariant.room);
       value = λ _. c.byte.ensures.value;
     }

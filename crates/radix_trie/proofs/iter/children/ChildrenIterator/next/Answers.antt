@@ -1,11 +1,11 @@
 use Rattle.std.proofs.Common.{subst}
 use Rattle.std.specs.Iterator.{YieldsFirst}
 use Rattle.radix_trie.specs.Present.{present}
-use Rattle.radix_trie.proofs.PathLemmas.Present.{all-rest, first_taken}
+use Rattle.radix_trie.proofs.PathLemmas.Present.{length-present_rest, first_taken}
 use Rattle.radix_trie.proofs.iter.children.ChildrenIterator.next.Goals as goal
 
 pub invariant_of-self-2 : goal.invariant_of-self-2
-invariant_of-self-2 g c = all-rest _ _ _ c.in_ok-pop_at.ensures.value c.in_ok-pop_at.ensures.items c.self.invariant
+invariant_of-self-2 g c = length-present_rest _ _ _ c.in_ok-pop_at.ensures.value c.in_ok-pop_at.ensures.items c.self.invariant
 
 pub returns-clause-steps : goal.returns-clause-steps
 returns-clause-steps g c =

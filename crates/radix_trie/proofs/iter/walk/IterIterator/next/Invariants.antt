@@ -1,5 +1,5 @@
 use Rattle.std.proofs.Common.{◌≡◌, None, vec_capacity}
-use Rattle.radix_trie.specs.Walks.{pending, rows_of, HasRoom}
+use Rattle.radix_trie.specs.Walks.{pending, rows_of, HasRowRoom}
 use Rattle.radix_trie.proofs.WalkLemmas.Walks.{turns_left}
 use Rattle.radix_trie.proofs.iter.walk.IterIterator.next.Given as goal
 
@@ -7,7 +7,7 @@ abbrev pub invariant-loop-nodes : goal.invariant-loop-nodes
 invariant-loop-nodes g l = record {
   no_first : l.self-inside.first ≡ None;
   same : pending (rows_of l.self-inside.stack.items) ≡ l.fn.self;
-  room : HasRoom (vec_capacity l.self-inside.stack) 0 (rows_of l.self-inside.stack.items);
+  room : HasRowRoom (vec_capacity l.self-inside.stack) 0 (rows_of l.self-inside.stack.items);
 }
 
 abbrev pub decreases-loop-nodes : goal.decreases-loop-nodes

@@ -1,0 +1,26 @@
+use Rattle.std.proofs.Common.{◌<◌, ◌^◌, ◌∙◌, rules, arith}
+use Rattle.radix_trie.proofs.PathLemmas.Places.{found_is_small, pairs_in-found, nothing_found-pairs}
+use Rattle.radix_trie.proofs.WalkLemmas.Keyed.{keyed_walk}
+use Rattle.radix_trie.proofs.view.place.Place.iter.Goals as goal
+
+pub over-requires : goal.over-requires
+over-requires g c =
+    let small : c.len-pairs.result < 2 ^ 64 = search rules in
+    found_is_small g.K.TrieKey.encoding c.self.inside.trie.now c.self.inside.path.now c.self.inside.found c.self.invariant _ _ c.in-Some.is (omega (arith, small, c.len-pairs.ensures))
+
+pub returns-in-Some-clause-walk : goal.returns-in-Some-clause-walk
+returns-in-Some-clause-walk g c =
+    rw (← c.self.view_is, ← pairs_in-found g.K.TrieKey.encoding c.self.inside.trie.now c.self.inside.path.now c.self.inside.found c.self.invariant _ _ c.in-Some.is) c.over.ensures.pairs
+
+pub returns-in-None-clause-walk : goal.returns-in-None-clause-walk
+returns-in-None-clause-walk g c =
+    rw (← c.self.view_is)
+    (c.empty.ensures ∙ nothing_found-pairs g.K.TrieKey.encoding c.self.inside.trie.now c.self.inside.path.now c.self.inside.found c.self.invariant c.in-None.is)
+
+pub returns-in-Some-clause-keyed : goal.returns-in-Some-clause-keyed
+returns-in-Some-clause-keyed g c =
+    rw (← c.self.view_is) (keyed_walk g.K.TrieKey.encoding c.self.inside.trie.now c.self.inside.path.now c.self.inside.found c.self.invariant)
+
+pub returns-in-None-clause-keyed : goal.returns-in-None-clause-keyed
+returns-in-None-clause-keyed g c =
+    rw (← c.self.view_is) (keyed_walk g.K.TrieKey.encoding c.self.inside.trie.now c.self.inside.path.now c.self.inside.found c.self.invariant)

@@ -1,0 +1,34 @@
+-- Why a change at the list l of the map m is refused, by the error's reason. `inside` says that the
+-- view's path is a prefix of l (of a trie's own call nothing is outside), `light` that the key is
+-- light.
+use Rattle.std.specs.FinMap as map
+use Rattle.std.specs.Prelude.{◌≡◌, ℕ, ◌^◌, ◌-◌, List, None}
+use Rattle.nibble_map.specs.Maps.{PairMap, IsStored, below}
+use Rattle.nibble_map.specs.Nibbles.{IsShort}
+use Rattle.radix_trie.specs.declared.error.SubTrieError.{SubTrieError}
+use Rattle.radix_trie.specs.declared.error.SubTrieError.TheVariants as error
+use Rattle.radix_trie.specs.declared.error.InsertWhy.{InsertWhy}
+use Rattle.radix_trie.specs.declared.error.InsertWhy.TheVariants as why
+
+module _ {K V : Type 0} (m : PairMap K V) (l : List ℕ) where
+  -- as many pairs are stored as can be counted, and none at l
+  abbrev pub IsFullAt : Type 0
+  IsFullAt = (map.len m ≡ 2 ^ 64 - 1) × (map.get m l ≡ None)
+
+  -- an insertion
+  abbrev pub RefusesInsert : (inside light : Type 0) → InsertWhy → Type 0
+  RefusesInsert inside light why.Memory =
+      light → inside × (IsFullAt → ⊥) × (IsStored m l → ⊥)
+  RefusesInsert inside light why.Full = inside × IsFullAt
+  RefusesInsert inside light why.Outside = inside → ⊥
+
+  -- a removal of the pair at l
+  abbrev pub RefusesRemove : (inside light : Type 0) → SubTrieError → Type 0
+  RefusesRemove inside light error.Memory =
+      light → inside × (map.get m l ≡ None → ⊥) × (((e : List ℕ) → IsStored m e → IsShort e) → ⊥)
+  RefusesRemove inside light error.Outside = inside → ⊥
+
+  -- a removal of all pairs at and below l
+  abbrev pub RefusesBelow : (inside light : Type 0) → SubTrieError → Type 0
+  RefusesBelow inside light error.Memory = light → inside × (map.len (below m l) ≡ 0 → ⊥)
+  RefusesBelow inside light error.Outside = inside → ⊥

@@ -1,0 +1,94 @@
+//! Why a call is refused.
+ghost use Rattle.std.specs.Prelude.{◌≡◌};
+
+use radix_keys::Memory;
+use std::alloc::AllocError;
+
+/// Why an insertion was refused.
+#[derive(Clone, Copy, PartialEq, Eq, Debug)]
+pub enum InsertWhy {
+    /// A growth of memory was refused, or a nibble count would pass `usize::MAX`.
+    Memory,
+    /// The trie holds `usize::MAX` pairs, and the key isn't among them.
+    Full,
+    /// The view's path isn't a prefix of the key's encoding.
+    Outside,
+}
+
+/// A refused insertion: why, and the very key and value that were handed in.
+#[derive(Drop)]
+pub struct InsertError<K, V> {
+    pub why: InsertWhy,
+    pub key: K,
+    pub value: V,
+}
+
+/// Why a trie wasn't built.
+#[derive(Clone, Copy, PartialEq, Eq, Debug)]
+pub enum BuildError {
+    /// A growth of memory was refused, or a nibble count would pass `usize::MAX`.
+    Memory,
+    /// `usize::MAX` pairs were stored, and a key came that wasn't among them.
+    Full,
+}
+
+/// Why no value was lent.
+#[derive(Clone, Copy, PartialEq, Eq, Debug)]
+pub enum FindError {
+    /// A growth of memory was refused.
+    Memory,
+    /// No value is stored at the key's encoding.
+    Absent,
+}
+
+/// Why no view was opened.
+#[derive(Clone, Copy, PartialEq, Eq, Debug)]
+pub enum OpenError {
+    /// A growth of memory was refused.
+    Memory,
+    /// No point stands at the key's encoding.
+    Closed,
+}
+
+/// Why a view answers no pair.
+#[derive(Clone, Copy, PartialEq, Eq, Debug)]
+pub enum SubTrieError {
+    /// A growth of memory was refused, or a nibble count would pass `usize::MAX`.
+    Memory,
+    /// The view's path isn't a prefix of the key's encoding.
+    Outside,
+}
+
+/// What a view answers for a key.
+pub type SubTrieResult<T> = Result<Option<T>, SubTrieError>;
+
+/// Why a trie isn't written as JSON, or a JSON value isn't read as a trie.
+#[derive(Clone, Copy, PartialEq, Eq, Debug)]
+pub enum JsonError {
+    /// A growth of memory was refused.
+    Memory,
+    /// The value is neither null nor an object.
+    Kind,
+    /// A float stands somewhere in a value.
+    Float,
+}
+
+impl From<Memory> for JsonError {
+    ghost use Rattle.radix_trie.specs.declared.error.JsonError.TheVariants.{Memory as memory};
+
+    ghost from_gives = { λ _ e. e ≡ memory };
+
+    fn from(_e: Memory) -> JsonError {
+        JsonError::Memory
+    }
+}
+
+impl From<AllocError> for JsonError {
+    ghost use Rattle.radix_trie.specs.declared.error.JsonError.TheVariants.{Memory as memory};
+
+    ghost from_gives = { λ _ e. e ≡ memory };
+
+    fn from(_e: AllocError) -> JsonError {
+        JsonError::Memory
+    }
+}

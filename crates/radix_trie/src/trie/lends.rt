@@ -1,0 +1,63 @@
+//! Values for writing.
+ghost use Rattle.std.specs.Borrow.{sem};
+ghost use Rattle.std.specs.Option.{option_copied_mut};
+ghost use Rattle.std.specs.Prelude.{◌≡◌, [], None, Some, IsOk, IfOk, IfErr};
+ghost use Rattle.nibble_map.specs.Maps.{value_at};
+ghost use Rattle.radix_trie.specs.Lends.{lends_at, lends_if_ok};
+
+use crate::error::FindError;
+use crate::trie::Trie;
+use radix_keys::{Memory, Nibblet, TrieKey};
+
+impl<K: TrieKey, V> Trie<K, V> {
+    /// The value at the empty list, for writing, if one is stored there. It takes no memory.
+    pub fn value_mut(&mut self) -> Option<&mut V>
+        ensures* writes_back { sem 𝓛
+            (lends_at K.row V.row K.TrieKey.own K.PartialEq.own self.entry [] result) }
+        ensures value { option_copied_mut result ≡ value_at self.old [] }
+    {
+        let top = Nibblet::new(self.allocator());
+        self.at_mut(&top)
+    }
+
+    /// The value at the key's encoding, for writing, and Absent where none is stored there.
+    ///
+    /// The one other refusal is that of memory for the encoding, which a light key never meets. A refusal leaves the trie
+    /// as it was. A caller learns from this call what the trie ends as, which `get_mut` can't tell.
+    pub fn find_mut<Q: TrieKey>(&mut self, key: &Q) -> Result<&mut V, FindError>
+        ensures* writes_back { sem 𝓛
+            (lends_if_ok K.row V.row K.TrieKey.own K.PartialEq.own self.entry
+            (Q.encoding key.now) result) }
+        ensures value { IfOk result (λ value. value_at self.old (Q.encoding key.now)
+            ≡ Some value.now) }
+        ensures absent { IfErr result (λ e. e ≡ FindError.Absent
+            → value_at self.old (Q.encoding key.now) ≡ None) }
+        ensures light { Q.is_light key.now → IfErr result (λ e. e ≡ FindError.Absent) }
+    {
+        let list = match key.encode(self.allocator()) {
+            Ok(list) => list,
+            Err(_) => return Err(FindError::Memory),
+        };
+        match self.at_mut(&list) {
+            Some(value) => Ok(value),
+            None => Err(FindError::Absent),
+        }
+    }
+
+    /// The value at the key's encoding, for writing, or None where none is stored there.
+    ///
+    /// The one refusal is that of memory for the encoding, which a light key never meets; it leaves the trie as it was.
+    /// What the trie is once the value has been written no contract can tell through this result; where that matters,
+    /// take `find_mut`.
+    pub fn get_mut<Q: TrieKey>(&mut self, key: &Q) -> Result<Option<&mut V>, Memory>
+        ensures value { IfOk result (λ found. option_copied_mut found
+            ≡ value_at self.old (Q.encoding key.now)) }
+        ensures light { Q.is_light key.now → IsOk result }
+    {
+        let list = key.encode(self.allocator())?;
+        match self.at_mut(&list) {
+            Some(value) => Ok(Some(value)),
+            None => Ok(None),
+        }
+    }
+}

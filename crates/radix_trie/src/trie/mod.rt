@@ -1,0 +1,203 @@
+//! The trie, as a map.
+ghost use Rattle.std.specs.Borrow.{sem};
+ghost use Rattle.std.specs.Prelude.{[], ◌≡◌, ◌↔◌, ◌*◌, ⊤, ◌<◌, ◌≤◌, ◌^◌, ℕ, List, length, max, true, false, None, IsTrue, IsOk, IfOk, OnOk, IfErr, OnErr, MatchOption, option_copied, option_map};
+ghost use Rattle.std.specs.Fn.{FnOnceReturnsAtMut, FnOnceTakesAtMut};
+ghost use Rattle.std.specs.Option.{ForSome, option_copied_mut};
+ghost use Rattle.std.specs.FinMap as map;
+ghost use Rattle.nibble_map.specs.Copies.{IsMapCopy, IsPairClone};
+ghost use Rattle.nibble_map.specs.Lists.{Counts};
+ghost use Rattle.nibble_map.specs.Maps.{IsStored, IsPoint, IsSomePrefix, below, value_at, with_value, without_below};
+ghost use Rattle.nibble_map.specs.Nibbles.{IsShort};
+ghost use Rattle.radix_nodes.specs.Nodes.{tree_of};
+ghost use Rattle.radix_trie.specs.Lends.{lends_at};
+ghost use Rattle.radix_trie.specs.Refusals.{IsFullAt, RefusesInsert};
+ghost use Rattle.radix_trie.specs.Views.{pairs_below};
+ghost use Rattle.radix_nodes.specs.Pairs.{pair_of};
+
+use radix_keys::{Memory, Nibblet, TrieKey};
+use radix_nodes::traversal::copied::copied;
+use radix_nodes::traversal::find::find;
+use radix_nodes::traversal::lend::value_at_mut;
+use radix_nodes::trie_node::{KeyValue, TrieNode};
+use std::alloc::Global;
+use std::marker::Model;
+
+mod ascending;
+mod building;
+mod counted;
+pub(crate) mod edit;
+mod equality;
+mod integrity;
+mod lends;
+mod opens;
+mod prune;
+mod queries;
+
+/// A map from keys to values, told apart by the keys' encodings.
+///
+/// A contract sees it as the finite map from each stored encoding, a list of nibbles, to the pair
+/// of the key and the value that are stored there.
+#[derive(Drop)]
+pub struct Trie<K: TrieKey, V> {
+    root: TrieNode<K, V>,
+    length: usize,
+    nodes: u128,
+    nibbles: u128,
+    alloc: Global,
+}
+
+impl<K: TrieKey, V> Model for Trie<K, V> {
+    ghost use Rattle.std.specs.FinMap as map;
+    ghost use Rattle.nibble_map.specs.Maps.{PairMap, pair_map_code};
+
+    ghost Value = { PairMap K V };
+
+    ghost coded = { pair_map_code K.code V.code };
+
+    ghost use Rattle.radix_nodes.specs.Nodes.{tree_of};
+    ghost use Rattle.radix_trie.specs.Roots.{map_of, IsKept};
+
+    ghost view = { λ t. map_of (tree_of t.root) };
+
+    ghost invariant = { λ t. IsKept K.encoding (tree_of t.root) t.length t.nodes t.nibbles };
+}
+
+impl<K: TrieKey, V> Trie<K, V> {
+    ghost use Rattle.radix_trie.specs.Roots.{IsRoot};
+
+    /// The empty trie. It takes no memory.
+    pub fn new(alloc: Global) -> Self
+        ensures { result ≡ map.empty }
+    {
+        Trie {
+            root: TrieNode::new(alloc),
+            length: 0,
+            nodes: 1,
+            nibbles: 0,
+            alloc,
+        }
+    }
+
+    /// The empty trie, as `new` makes it.
+    pub fn default(alloc: Global) -> Self
+        ensures { result ≡ map.empty }
+    {
+        Trie::new(alloc)
+    }
+
+    /// The count of pairs.
+    pub fn len(&self) -> usize
+        ensures { result ≡ map.len self.now }
+    {
+        self.length
+    }
+
+    /// Whether there is no pair.
+    pub fn is_empty(&self) -> bool
+        ensures { IsTrue result ↔ (map.len self.now ≡ 0) }
+    {
+        self.length == 0
+    }
+
+    /// The count of nodes, the root among them, and the count of nibbles of all their fragments.
+    ///
+    /// Whatever the history, these are the count of the map's points, and the count of the distinct
+    /// non-empty prefixes of the stored encodings. There are at most two nodes a pair, or the root alone.
+    pub fn footprint(&self) -> (u128, u128)
+        ensures nodes { Counts (IsPoint self.now) result.0 }
+        ensures nibbles { Counts (IsSomePrefix self.now) result.1 }
+        ensures few { result.0 ≤ max 1 (2 * map.len self.now) }
+    {
+        (self.nodes, self.nibbles)
+    }
+
+    /// The pair at a list.
+    pub(crate) fn pair_at(&self, list: &Nibblet) -> Option<&KeyValue<K, V>>
+        ensures { option_map (λ p. pair_of p.now) result ≡ map.get self.now list.now }
+    {
+        match find(self.root(), list, 0) {
+            Some(node) => node.pair(),
+            None => None,
+        }
+    }
+
+    /// The value that is stored at the key's encoding, if there is one.
+    ///
+    /// The key may be of another type than the stored keys: its encoding alone decides. The one
+    /// refusal is that of memory for the encoding, which a light key never meets.
+    pub fn get<Q: TrieKey>(&self, key: &Q) -> Result<Option<&V>, Memory>
+        ensures value { IfOk result
+            (λ found. option_copied found ≡ value_at self.now (Q.encoding key.now)) }
+        ensures is_value { OnOk result (Q.is_value key.now) }
+        ensures light { Q.is_light key.now → IsOk result }
+    {
+        let list = key.encode(self.alloc)?;
+        Ok(self.at(&list))
+    }
+
+    /// The value at a list.
+    pub(crate) fn at(&self, list: &Nibblet) -> Option<&V>
+        ensures { option_copied result ≡ value_at self.now list.now }
+    {
+        match self.pair_at(list) {
+            Some(pair) => Some(&pair.value),
+            None => None,
+        }
+    }
+
+    /// The value at a list of nibbles, for writing, if one is stored there. It takes no memory.
+    pub fn at_mut(&mut self, list: &Nibblet) -> Option<&mut V>
+        ensures* writes_back { sem 𝓛
+            (lends_at K.row V.row K.TrieKey.own K.PartialEq.own self.entry list.now result) }
+        ensures value { option_copied_mut result ≡ value_at self.old list.now }
+    {
+        match value_at_mut(&mut self.root, list) {
+            Some(value) => Some(value),
+            None => None,
+        }
+    }
+
+    /// Whether as many pairs are stored as can be counted, and none at this list.
+    fn has_no_room_for(&self, list: &Nibblet) -> bool
+        ensures { IsTrue result ↔ IsFullAt self.now list.now }
+    {
+        if self.len() < usize::MAX {
+            return false;
+        }
+        self.pair_at(list).is_none()
+    }
+
+    /// The root, the canonical tree of the map.
+    pub(crate) fn root(&self) -> &TrieNode<K, V>
+        ensures { IsRoot K.encoding self.now (tree_of result.now) }
+    {
+        &self.root
+    }
+
+    /// The allocator that the trie's memory comes from.
+    pub(crate) fn allocator(&self) -> Global {
+        self.alloc
+    }
+}
+
+impl<K: TrieKey + Clone, V: Clone> Trie<K, V> {
+    /// A trie with the same encodings, each with a clone of its key and of its value.
+    ///
+    /// Clones of keys have to keep their encodings. The one refusal is that of memory, for the nodes or in a clone of a
+    /// key or a value; it drops what was copied. The trie without pairs is copied without memory.
+    pub fn clone(&self) -> Result<Trie<K, V>, Memory>
+        requires same_encoding { (key copy : K) → K.is_clone key copy → K.encoding copy
+            ≡ K.encoding key }
+        ensures copy { IfOk result
+            (λ copy. IsMapCopy (IsPairClone K.is_clone V.is_clone) self.now copy) }
+        ensures light { map.len self.now ≡ 0 → IsOk result }
+    {
+        Ok(Trie {
+            root: copied(&self.root, self.alloc)?,
+            length: self.length,
+            nodes: self.nodes,
+            nibbles: self.nibbles,
+            alloc: self.alloc,
+        })
+    }
+}

@@ -1,0 +1,100 @@
+//! What opens a view for writing.
+ghost use Rattle.std.specs.Borrow.{sem};
+ghost use Rattle.std.specs.Prelude.{◌≡◌, IsOk, IfOk, IfErr, IfSome, MatchOption};
+ghost use Rattle.nibble_map.specs.MapQueries.{IsFragment};
+ghost use Rattle.nibble_map.specs.Maps.{IsPoint};
+ghost use Rattle.radix_nodes.specs.Nodes.{fragment_of, tree_of};
+ghost use Rattle.radix_trie.specs.Lends.{rests_if_err};
+ghost use Rattle.radix_trie.specs.Places.{IsNodeOf};
+ghost use Rattle.radix_trie.specs.WriteViews.{map_behind, path_of, prefix_of, lender_of};
+
+use crate::error::OpenError;
+use crate::trie::Trie;
+use crate::view::subtrie_mut::SubTrieMut;
+use radix_keys::{Memory, Nibblet, TrieKey};
+use radix_nodes::traversal::find::find;
+use radix_nodes::trie_node::TrieNode;
+
+impl<K: TrieKey, V> Trie<K, V> {
+    /// The node of the point at a list, if one stands there.
+    pub(crate) fn node_at(&self, list: &Nibblet) -> Option<&TrieNode<K, V>>
+        ensures point { MatchOption result (IsPoint self.now list.now → ⊥)
+            (λ _. IsPoint self.now list.now) }
+        ensures node { IfSome result
+            (λ node. IsNodeOf K.encoding self.now list.now (tree_of node.now)) }
+        ensures fragment { IfSome result
+            (λ node. IsFragment self.now list.now (fragment_of node.now)) }
+    {
+        find(self.root(), list, 0)
+    }
+
+    /// The key's encoding and the fragment of the point there, if one stands there.
+    ///
+    /// The one refusal is that of memory for the two, which a light key never meets.
+    fn place_of<Q: TrieKey>(&self, key: &Q) -> Result<Option<(Nibblet, Nibblet)>, Memory>
+        ensures point { IfOk result
+            (λ o. MatchOption o (IsPoint self.now (Q.encoding key.now) → ⊥)
+            (λ _. IsPoint self.now (Q.encoding key.now))) }
+        ensures path { IfOk result (λ o. IfSome o (λ place. place.0 ≡ Q.encoding key.now)) }
+        ensures fragment { IfOk result
+            (λ o. IfSome o (λ place. IsFragment self.now (Q.encoding key.now) place.1)) }
+        ensures light { Q.is_light key.now → IsOk result }
+    {
+        let path = key.encode(self.allocator())?;
+        let Some(node) = self.node_at(&path) else {
+            return Ok(None);
+        };
+        let fragment = node.fragment.clone()?;
+        Ok(Some((path, fragment)))
+    }
+
+    /// The view for writing at the key's encoding, where a point stands there, and else Closed.
+    ///
+    /// The one other refusal is that of memory for the path and the fragment that the view keeps, which a light key never
+    /// meets. A refusal leaves the trie as it was. A caller learns from this call what the trie ends as, which
+    /// `subtrie_mut` can't tell.
+    pub fn open_mut<Q: TrieKey>(&mut self, key: &Q) -> Result<SubTrieMut<'_, K, V>, OpenError>
+        ensures* rests { sem 𝓛
+            (rests_if_err K.row V.row K.TrieKey.own K.PartialEq.own self.entry result) }
+        ensures map { IfOk result (λ view. map_behind view ≡ self.old) }
+        ensures path { IfOk result (λ view. path_of view ≡ Q.encoding key.now) }
+        ensures prefix { IfOk result
+            (λ view. IsFragment self.old (Q.encoding key.now) (prefix_of view)) }
+        ensures same_reference { IfOk result (λ view. lender_of view ≡ self.entry.ghost_name) }
+        ensures point { IsOk result → IsPoint self.old (Q.encoding key.now) }
+        ensures closed { IfErr result (λ e. e ≡ OpenError.Closed
+            → IsPoint self.old (Q.encoding key.now) → ⊥) }
+        ensures light { Q.is_light key.now → IfErr result (λ e. e ≡ OpenError.Closed) }
+    {
+        match self.place_of(key) {
+            Ok(Some((path, prefix))) => Ok(SubTrieMut::at(self, path, prefix)),
+            Ok(None) => Err(OpenError::Closed),
+            Err(_) => Err(OpenError::Memory),
+        }
+    }
+
+    /// The view for writing at the key's encoding, or None where no point stands there.
+    ///
+    /// The one refusal is that of memory for the path and the fragment that the view keeps, which a light key never meets.
+    /// What a view from here leaves in the trie no contract can tell; where that matters, open it by `open_mut`.
+    pub fn subtrie_mut<Q: TrieKey>(
+        &mut self,
+        key: &Q,
+    ) -> Result<Option<SubTrieMut<'_, K, V>>, Memory>
+        ensures map { IfOk result (λ o. IfSome o (λ view. map_behind view ≡ self.old)) }
+        ensures path { IfOk result (λ o. IfSome o (λ view. path_of view ≡ Q.encoding key.now)) }
+        ensures prefix { IfOk result
+            (λ o. IfSome o (λ view. IsFragment self.old (Q.encoding key.now) (prefix_of view))) }
+        ensures same_reference { IfOk result
+            (λ o. IfSome o (λ view. lender_of view ≡ self.entry.ghost_name)) }
+        ensures point { IfOk result
+            (λ o. MatchOption o (IsPoint self.old (Q.encoding key.now) → ⊥)
+            (λ _. IsPoint self.old (Q.encoding key.now))) }
+        ensures light { Q.is_light key.now → IsOk result }
+    {
+        let Some((path, prefix)) = self.place_of(key)? else {
+            return Ok(None);
+        };
+        Ok(Some(SubTrieMut::at(self, path, prefix)))
+    }
+}

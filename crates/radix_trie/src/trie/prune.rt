@@ -1,0 +1,76 @@
+//! The removal of all pairs at and below a key's place.
+ghost use Rattle.std.specs.Prelude.{[], ◌≡◌, ◌↔◌, ◌*◌, ⊤, ◌<◌, ◌≤◌, ◌^◌, ℕ, List, length, max, true, false, None, IsTrue, IsOk, IfOk, OnOk, IfErr, OnErr, MatchOption, option_copied, option_map};
+ghost use Rattle.std.specs.Fn.{FnOnceReturnsAtMut, FnOnceTakesAtMut};
+ghost use Rattle.std.specs.Option.{ForSome, option_copied_mut};
+ghost use Rattle.std.specs.FinMap as map;
+ghost use Rattle.nibble_map.specs.Lists.{Counts};
+ghost use Rattle.nibble_map.specs.Maps.{IsStored, IsPoint, IsSomePrefix, below, value_at, with_value, without_below};
+ghost use Rattle.nibble_map.specs.Nibbles.{IsShort};
+ghost use Rattle.radix_nodes.specs.Nodes.{tree_of};
+ghost use Rattle.radix_trie.specs.Lends.{lends_at};
+ghost use Rattle.radix_trie.specs.Refusals.{IsFullAt, RefusesInsert};
+ghost use Rattle.radix_trie.specs.Views.{pairs_below};
+ghost use Rattle.radix_nodes.specs.Pairs.{pair_of};
+
+use crate::trie::Trie;
+use radix_keys::{Memory, Nibblet, TrieKey};
+use radix_nodes::traversal::prune::{prune_all, prune_root};
+
+impl<K: TrieKey + Drop, V: Drop> Trie<K, V> {
+    /// Takes all pairs at and below the key's place away, and answers them in the order of their encodings.
+    ///
+    /// The key needn't be stored, nor be a point. Where nothing stands there nothing changes, and the answer is empty. The one
+    /// refusal is that of memory, for the encoding, the list of pairs, or for joining two fragments; it leaves the trie as it was.
+    pub fn remove_prefix<Q: TrieKey>(&mut self, key: &Q) -> Result<Vec<(K, V)>, Memory>
+        ensures pairs { IfOk result
+            (λ gone. gone.items ≡ pairs_below self.old (Q.encoding key.now)) }
+        ensures removed { OnOk result (self.new ≡ without_below self.old (Q.encoding key.now)) }
+        ensures unchanged { OnErr result (self.new ≡ self.old) }
+        ensures light_none { Q.is_light key.now
+            → map.len (below self.old (Q.encoding key.now)) ≡ 0
+            → IsOk result }
+    {
+        let list = key.encode(self.alloc)?;
+        self.prune_at(&list)
+    }
+
+    /// What `remove_prefix` does, with the key's encoding in hand.
+    pub(crate) fn prune_at(&mut self, list: &Nibblet) -> Result<Vec<(K, V)>, Memory>
+        ensures pairs { IfOk result (λ gone. gone.items ≡ pairs_below self.old list.now) }
+        ensures removed { OnOk result (self.new ≡ without_below self.old list.now) }
+        ensures unchanged { OnErr result (self.new ≡ self.old) }
+        ensures none { map.len (below self.old list.now) ≡ 0 → IsOk result }
+    {
+        if list.len() == 0 {
+            return self.prune_whole();
+        }
+        match prune_root(&mut self.root, self.alloc, list) {
+            Ok(Some(pruned)) => {
+                self.length -= pruned.pairs.len();
+                self.nodes -= pruned.nodes;
+                self.nibbles -= pruned.nibbles;
+                Ok(pruned.pairs)
+            }
+            Ok(None) => Ok(Vec::new(self.alloc)),
+            Err(refusal) => Err(refusal),
+        }
+    }
+
+    // The same of all pairs.
+    fn prune_whole(&mut self) -> Result<Vec<(K, V)>, Memory>
+        ensures pairs { IfOk result (λ gone. gone.items ≡ pairs_below self.old []) }
+        ensures removed { OnOk result (self.new ≡ without_below self.old []) }
+        ensures unchanged { OnErr result (self.new ≡ self.old) }
+        ensures none { map.len (below self.old []) ≡ 0 → IsOk result }
+    {
+        match prune_all(&mut self.root, self.alloc) {
+            Ok(pruned) => {
+                self.length -= pruned.pairs.len();
+                self.nodes -= pruned.nodes;
+                self.nibbles -= pruned.nibbles;
+                Ok(pruned.pairs)
+            }
+            Err(refusal) => Err(refusal),
+        }
+    }
+}

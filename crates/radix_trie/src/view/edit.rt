@@ -1,0 +1,112 @@
+//! Changes within a view.
+ghost use Rattle.std.specs.Borrow.{sem};
+ghost use Rattle.std.specs.FinMap as map;
+ghost use Rattle.std.specs.Option.{option_copied_mut};
+ghost use Rattle.std.specs.Prelude.{◌≡◌, ◌≢◌, ◌↔◌, ℕ, List, None, IsTrue, IsOk, IfOk, OnOk, IfErr, OnErr, IsErrAnd, Err, option_copied};
+ghost use Rattle.nibble_map.specs.Lists.{Each, IsPrefix};
+ghost use Rattle.nibble_map.specs.MapQueries.{AreChildren, IsChild, IsLeaf};
+ghost use Rattle.nibble_map.specs.Maps.{IsStored, below, value_at, without_below};
+ghost use Rattle.nibble_map.specs.Nibbles.{IsShort};
+ghost use Rattle.radix_trie.specs.Lends.{lends_behind, lends_own};
+ghost use Rattle.radix_trie.specs.Refusals.{IsFullAt, RefusesBelow, RefusesInsert, RefusesRemove};
+ghost use Rattle.radix_trie.specs.Views.{pairs_below, paths_of};
+ghost use Rattle.radix_trie.specs.WriteViews.{map_behind, kept_path, kept_prefix, path_of, prefix_of, lender_of, SameView};
+
+use crate::error::{InsertError, InsertWhy, SubTrieError, SubTrieResult};
+use crate::trie::edit::{encoding_of, refused};
+use crate::view::place::begins;
+use crate::view::subtrie_mut::SubTrieMut;
+use radix_keys::TrieKey;
+use radix_nodes::trie_node::KeyValue;
+
+impl<'a, K: TrieKey + Drop, V: Drop> SubTrieMut<'a, K, V> {
+    /// Stores the pair at the key's encoding, as `Trie::insert` does. Outside where the view's path isn't a prefix of the
+    /// encoding.
+    ///
+    /// After a refusal the trie is as before, and the error holds the very key and value. The refusals, in the order in
+    /// which they are decided: memory for the encoding; Outside; `Full`, where `usize::MAX` pairs are stored and the
+    /// encoding isn't among them; memory for the change, which a stored encoding never takes.
+    pub fn insert(&mut self, key: K, value: V) -> Result<Option<V>, InsertError<K, V>>
+        ensures same_view { SameView self.old self.new }
+        ensures inside { OnOk result (IsPrefix (path_of self.old) (K.encoding key)
+            × (IsFullAt (map_behind self.old) (K.encoding key) → ⊥)) }
+        ensures old_value { IfOk result
+            (λ old. old ≡ value_at (map_behind self.old) (K.encoding key)) }
+        ensures stored { OnOk result
+            (map_behind self.new
+            ≡ map.insert (map_behind self.old) (K.encoding key) (key, value)) }
+        ensures is_value { OnOk result (K.is_value key) }
+
+        ensures handed_back { IfErr result (λ e. (e.key ≡ key) × (e.value ≡ value)) }
+        ensures unchanged { OnErr result (map_behind self.new ≡ map_behind self.old) }
+        ensures why { IfErr result (λ e.
+            RefusesInsert (map_behind self.old) (K.encoding key)
+            (IsPrefix (path_of self.old) (K.encoding key)) (K.is_light key) e.why) }
+    {
+        let pair = KeyValue { key, value };
+        let Ok(list) = encoding_of(self.trie.allocator(), &pair.key) else {
+            return Err(refused(InsertWhy::Memory, pair));
+        };
+        if !begins(&self.path, &list) {
+            return Err(refused(InsertWhy::Outside, pair));
+        }
+        self.trie.put_at(&list, pair)
+    }
+
+    /// Takes all pairs at and below the key's place away, as `Trie::remove_prefix` does. Outside where the view's path isn't a
+    /// prefix of the key's encoding, and then nothing changes.
+    pub fn remove_prefix<Q: TrieKey>(&mut self, key: &Q) -> Result<Vec<(K, V)>, SubTrieError>
+        ensures same_view { SameView self.old self.new }
+        ensures inside { OnOk result (IsPrefix (path_of self.old) (Q.encoding key.now)) }
+        ensures pairs { IfOk result (λ gone.
+            gone.items ≡ pairs_below (map_behind self.old) (Q.encoding key.now)) }
+        ensures removed { OnOk result
+            (map_behind self.new ≡ without_below (map_behind self.old) (Q.encoding key.now)) }
+
+        ensures unchanged { OnErr result (map_behind self.new ≡ map_behind self.old) }
+        ensures why { IfErr result (λ e.
+            RefusesBelow (map_behind self.old) (Q.encoding key.now)
+            (IsPrefix (path_of self.old) (Q.encoding key.now)) (Q.is_light key.now) e) }
+    {
+        let Ok(list) = key.encode(self.trie.allocator()) else {
+            return Err(SubTrieError::Memory);
+        };
+        if !begins(&self.path, &list) {
+            return Err(SubTrieError::Outside);
+        }
+        match self.trie.prune_at(&list) {
+            Ok(gone) => Ok(gone),
+            Err(_) => Err(SubTrieError::Memory),
+        }
+    }
+
+    /// Takes the pair at the key's encoding away, as `Trie::remove` does. Outside where the view's path isn't a prefix of
+    /// the encoding.
+    ///
+    /// The one other refusal is that of memory, for the encoding or for joining two fragments. After a refusal the trie is
+    /// as before.
+    pub fn remove<Q: TrieKey>(&mut self, key: &Q) -> SubTrieResult<V>
+        ensures same_view { SameView self.old self.new }
+        ensures inside { OnOk result (IsPrefix (path_of self.old) (Q.encoding key.now)) }
+        ensures old_value { IfOk result
+            (λ old. old ≡ value_at (map_behind self.old) (Q.encoding key.now)) }
+        ensures removed { OnOk result
+            (map_behind self.new ≡ map.remove (map_behind self.old) (Q.encoding key.now)) }
+
+        ensures unchanged { OnErr result (map_behind self.new ≡ map_behind self.old) }
+        ensures why { IfErr result (λ e.
+            RefusesRemove (map_behind self.old) (Q.encoding key.now)
+            (IsPrefix (path_of self.old) (Q.encoding key.now)) (Q.is_light key.now) e) }
+    {
+        let Ok(list) = key.encode(self.trie.allocator()) else {
+            return Err(SubTrieError::Memory);
+        };
+        if !begins(&self.path, &list) {
+            return Err(SubTrieError::Outside);
+        }
+        match self.trie.take_at(&list) {
+            Ok(old) => Ok(old),
+            Err(_) => Err(SubTrieError::Memory),
+        }
+    }
+}

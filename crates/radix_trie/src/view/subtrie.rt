@@ -1,0 +1,132 @@
+//! Views for reading.
+ghost use Rattle.std.specs.Prelude.{◌≡◌, ◌≢◌, ℕ, List, Err, IfOk, OnOk, IsOk, option_copied, option_map};
+ghost use Rattle.std.specs.FinMap as map;
+ghost use Rattle.nibble_map.specs.Lists.{Each, IsPrefix};
+ghost use Rattle.nibble_map.specs.MapQueries.{AreChildren, IsFragment, IsChild};
+ghost use Rattle.nibble_map.specs.Maps.{value_at};
+ghost use Rattle.nibble_map.specs.Nibbles.{IsShort};
+ghost use Rattle.radix_nodes.specs.Nodes.{tree_of};
+ghost use Rattle.radix_nodes.specs.Pairs.{pair_of};
+ghost use Rattle.radix_trie.specs.Views.{paths_of};
+
+use crate::error::{SubTrieError, SubTrieResult};
+use crate::iter::Children;
+use crate::trie::Trie;
+use crate::view::place::{Place, begins};
+use radix_keys::{Memory, Nibblet, TrieKey};
+use radix_nodes::traversal::find::find;
+use radix_nodes::trie_node::{KeyValue, TrieNode};
+use std::marker::Model;
+
+/// A view for reading: a point of a trie, which doesn't change while the view lives.
+///
+/// A contract sees it as the map of the whole trie and the view's path in it.
+#[derive(Drop)]
+pub struct SubTrie<'a, K: TrieKey, V> {
+    trie: &'a Trie<K, V>,
+    /// The node at the path.
+    node: &'a TrieNode<K, V>,
+    path: Nibblet,
+}
+
+impl<'a, K: TrieKey, V> Model for SubTrie<'a, K, V> {
+    ghost use Rattle.radix_trie.specs.Views.{ReadView, read_view_code};
+
+    ghost Value = { ReadView K V };
+
+    ghost coded = { read_view_code K.code V.code };
+
+    ghost use Rattle.radix_nodes.specs.Nodes.{tree_of};
+    ghost use Rattle.radix_trie.specs.Places.{IsNodeOf};
+
+    ghost view = { λ s. record { map = s.trie.now; path = s.path } };
+
+    ghost invariant = { λ s. IsNodeOf K.encoding s.trie.now s.path (tree_of s.node.now) };
+}
+
+impl<'a, K: TrieKey, V> SubTrie<'a, K, V> {
+    ghost use Rattle.radix_trie.specs.Places.{IsNodeOf};
+
+    /// The view at a node of the trie.
+    pub(crate) fn new(
+        trie: &'a Trie<K, V>,
+        node: &'a TrieNode<K, V>,
+        path: Nibblet,
+    ) -> SubTrie<'a, K, V>
+        requires { IsNodeOf K.encoding trie.now path (tree_of node.now) }
+        ensures map { result.map ≡ trie.now }
+        ensures path { result.path ≡ path }
+    {
+        SubTrie { trie, node, path }
+    }
+
+    /// The whole path, of which the last part is the view's fragment.
+    pub fn path(&self) -> &Nibblet
+        ensures { result.now ≡ self.now.path }
+    {
+        &self.path
+    }
+
+    /// The value that is stored at the key's encoding, if there is one, where the view's path is a prefix of the
+    /// encoding; else `Outside`. The one other refusal is that of memory for the encoding, which a light key never
+    /// meets.
+    pub fn get<Q: TrieKey>(&self, key: &Q) -> SubTrieResult<&V>
+        ensures value { IfOk result
+            (λ found. option_copied found ≡ value_at self.now.map (Q.encoding key.now)) }
+        ensures inside { OnOk result (IsPrefix self.now.path (Q.encoding key.now)) }
+        ensures outside { result ≡ Err SubTrieError.Outside
+            → IsPrefix self.now.path (Q.encoding key.now) → ⊥ }
+        ensures light { Q.is_light key.now → result ≢ Err SubTrieError.Memory }
+    {
+        let Ok(list) = key.encode(self.trie.allocator()) else {
+            return Err(SubTrieError::Memory);
+        };
+        if !begins(&self.path, &list) {
+            return Err(SubTrieError::Outside);
+        }
+        match self.pair_at(&list) {
+            Some(pair) => Ok(Some(&pair.value)),
+            None => Ok(None),
+        }
+    }
+
+    /// The pair at a list that the path begins. The search goes on from the view's node.
+    fn pair_at(&self, list: &Nibblet) -> Option<&'a KeyValue<K, V>>
+        requires { IsPrefix self.now.path list.now }
+        ensures { option_map (λ p. pair_of p.now) result ≡ map.get self.now.map list.now }
+    {
+        match find(self.node, list, self.path.len()) {
+            Some(node) => node.pair(),
+            None => None,
+        }
+    }
+
+    /// For each nibble in rising order, the view at the shortest point that goes on from the path by it, with its whole
+    /// path. It takes no memory where each of these paths has at most 32 nibbles.
+    pub fn children(&self) -> Result<Children<'a, K, V>, Memory>
+        ensures children { IfOk result
+            (λ children. AreChildren self.now.map self.now.path (paths_of children)) }
+        ensures same_map { IfOk result (λ children. Each (λ c. c.map ≡ self.now.map) children) }
+        ensures short { ((q : List ℕ) → IsChild self.now.map self.now.path q → IsShort q)
+            → IsOk result }
+    {
+        self.place().children()
+    }
+
+    /// The fragment of the view's point.
+    pub(crate) fn fragment(&self) -> Result<Nibblet, Memory>
+        ensures fragment { IfOk result (λ f. IsFragment self.now.map self.now.path f) }
+        ensures short { ((f : List ℕ) → IsFragment self.now.map self.now.path f → IsShort f)
+            → IsOk result }
+    {
+        self.node.fragment.clone()
+    }
+
+    /// The place of the view's path.
+    pub(crate) fn place(&self) -> Place<'a, '_, K, V>
+        ensures map { result.map ≡ self.now.map }
+        ensures path { result.path ≡ self.now.path }
+    {
+        Place::at(self.trie, self.node, &self.path)
+    }
+}

@@ -1,0 +1,181 @@
+//! Views for writing.
+ghost use Rattle.std.specs.Borrow.{sem};
+ghost use Rattle.std.specs.FinMap as map;
+ghost use Rattle.std.specs.Option.{option_copied_mut};
+ghost use Rattle.std.specs.Prelude.{◌≡◌, ◌≢◌, ◌↔◌, ℕ, List, None, IsTrue, IsOk, IfOk, OnOk, IfErr, OnErr, IsErrAnd, Err, option_copied};
+ghost use Rattle.nibble_map.specs.Lists.{Each, IsPrefix};
+ghost use Rattle.nibble_map.specs.MapQueries.{AreChildren, IsChild, IsLeaf};
+ghost use Rattle.nibble_map.specs.Maps.{IsStored, below, value_at, without_below};
+ghost use Rattle.nibble_map.specs.Nibbles.{IsShort};
+ghost use Rattle.radix_trie.specs.Lends.{lends_behind, lends_own};
+ghost use Rattle.radix_trie.specs.Refusals.{IsFullAt, RefusesBelow, RefusesInsert, RefusesRemove};
+ghost use Rattle.radix_trie.specs.Views.{pairs_below, paths_of};
+ghost use Rattle.radix_trie.specs.WriteViews.{map_behind, kept_path, kept_prefix, path_of, prefix_of, lender_of, SameView};
+
+mod spent;
+
+use crate::error::{SubTrieError, SubTrieResult};
+use crate::iter::Children;
+use crate::trie::Trie;
+use crate::view::place::{Place, begins};
+use radix_keys::{Memory, Nibblet, TrieKey};
+use radix_nodes::trie_node::KeyValue;
+
+/// The value that the trie behind a reference holds at a list, for writing.
+fn value_behind<'s, 'a, K: TrieKey, V>(
+    trie: &'s mut &'a mut Trie<K, V>,
+    list: &'s Nibblet,
+) -> Option<&'s mut V>
+    ensures* writes_back { sem 𝓛
+        (lends_behind K.row V.row K.TrieKey.own K.PartialEq.own trie.entry list.now result) }
+    ensures value { option_copied_mut result ≡ value_at trie.old.now list.now }
+{
+    trie.at_mut(list)
+}
+
+/// A view for writing: a trie, and a path in it, at which a point stood when the view was made.
+///
+/// Its calls are the trie's own, for the keys whose encodings the path is a prefix of. It stays usable where its path is no
+/// longer a point, as after the removal of its own pair.
+// The parameter `P` lets a caller's proof follow the trie past the view's end; it is always `Nibblet`.
+pub struct SubTrieMut<'a, K: TrieKey, V, P = Nibblet> {
+    pub(crate) trie: &'a mut Trie<K, V>,
+    pub(crate) path: P,
+    pub(crate) prefix: P,
+}
+
+/// What a view for writing keeps its path as: always a `Nibblet`.
+pub trait PathList: Drop {
+    /// The path.
+    ghost list: { Self → List ℕ };
+
+    /// The path.
+    fn nibbles(&self) -> &Nibblet
+        ensures { result.now ≡ list self.now };
+
+    /// The path, and nothing of it is left.
+    fn into_nibbles(self) -> Nibblet
+        ensures { result ≡ list self };
+}
+
+impl PathList for Nibblet {
+    ghost list = { λ n. n };
+
+    fn nibbles(&self) -> &Nibblet {
+        self
+    }
+
+    fn into_nibbles(self) -> Nibblet {
+        self
+    }
+}
+
+impl<K: TrieKey, V, P: Drop> Drop for SubTrieMut<'_, K, V, P> {
+    fn drop(self)
+        ensures { self.exit.0.now ≡ self.entry.trie.now }
+    {
+        let SubTrieMut {
+            trie: _,
+            path: _,
+            prefix: _,
+        } = self;
+    }
+}
+
+impl<'a, K: TrieKey, V> SubTrieMut<'a, K, V> {
+    /// The view of a trie at a path, with the path's fragment.
+    pub(crate) fn at(trie: &'a mut Trie<K, V>, path: Nibblet, prefix: Nibblet) -> Self
+        ensures map { map_behind result ≡ trie.entry.now }
+        ensures path { path_of result ≡ path }
+        ensures prefix { prefix_of result ≡ prefix }
+        ensures same_reference { lender_of result ≡ trie.entry.ghost_name }
+    {
+        SubTrieMut { trie, path, prefix }
+    }
+
+    /// The whole path.
+    pub fn path(&self) -> &Nibblet
+        ensures { result.now ≡ path_of self.now }
+    {
+        &self.path
+    }
+
+    /// The place of the view's path.
+    pub(crate) fn place(&self) -> Place<'_, '_, K, V>
+        ensures map { result.map ≡ map_behind self.now }
+        ensures path { result.path ≡ path_of self.now }
+    {
+        Place::find(self.trie, &self.path)
+    }
+
+    /// For each nibble in rising order, the view for reading at the shortest point that goes on from the path by it, with
+    /// its whole path. It takes no memory where each of these paths has at most 32 nibbles.
+    pub fn children(&self) -> Result<Children<'_, K, V>, Memory>
+        ensures children { IfOk result
+            (λ children. AreChildren (map_behind self.now) (path_of self.now)
+            (paths_of children)) }
+        ensures same_map { IfOk result
+            (λ children. Each (λ c. c.map ≡ map_behind self.now) children) }
+        ensures short { ((q : List ℕ) → IsChild (map_behind self.now) (path_of self.now) q
+            → IsShort q) → IsOk result }
+    {
+        self.place().children()
+    }
+
+    /// The views that `children` hands out, for as long as the trie's borrow. The view is spent.
+    ///
+    /// It takes no memory where each of their paths has at most 32 nibbles.
+    pub fn into_children(self) -> Result<Children<'a, K, V>, Memory>
+        ensures children { IfOk result (λ children.
+            AreChildren (map_behind self.entry) (path_of self.entry) (paths_of children)) }
+        ensures same_map { IfOk result (λ children.
+            Each (λ c. c.map ≡ map_behind self.entry) children) }
+        ensures short { ((q : List ℕ) → IsChild (map_behind self.entry) (path_of self.entry) q
+            → IsShort q) → IsOk result }
+    {
+        let (trie, path) = self.into_parts();
+        Place::find(trie, &path).children()
+    }
+
+    /// The value at the path, for writing, if one is stored there. It takes no memory.
+    ///
+    /// Once the value has been written, the view's map has it at the path, and all else is as before.
+    pub fn value_mut(&mut self) -> Option<&mut V>
+        ensures* writes_back { sem 𝓛
+            (lends_own K.row V.row K.TrieKey.own K.PartialEq.own self.entry result) }
+        ensures value { option_copied_mut result
+            ≡ value_at (map_behind self.old) (path_of self.old) }
+    {
+        value_behind(&mut self.trie, &self.path)
+    }
+
+    /// The path's fragment when the view was made.
+    pub(crate) fn fragment(&self) -> Result<Nibblet, Memory>
+        ensures fragment { IfOk result (λ f. f ≡ prefix_of self.now) }
+        ensures short { IsShort (prefix_of self.now) → IsOk result }
+    {
+        self.prefix.clone()
+    }
+
+    /// The value that the trie holds at the key's encoding, if there is one. Outside where the view's path isn't a prefix
+    /// of the encoding.
+    ///
+    /// The one other refusal is that of memory for the encoding, which a light key never meets.
+    pub fn get<Q: TrieKey>(&self, key: &Q) -> SubTrieResult<&V>
+        ensures value { IfOk result
+            (λ found. option_copied found
+            ≡ value_at (map_behind self.now) (Q.encoding key.now)) }
+        ensures inside { OnOk result (IsPrefix (path_of self.now) (Q.encoding key.now)) }
+        ensures outside { result ≡ Err SubTrieError.Outside
+            → IsPrefix (path_of self.now) (Q.encoding key.now) → ⊥ }
+        ensures light { Q.is_light key.now → result ≢ Err SubTrieError.Memory }
+    {
+        let Ok(list) = key.encode(self.trie.allocator()) else {
+            return Err(SubTrieError::Memory);
+        };
+        if !begins(&self.path, &list) {
+            return Err(SubTrieError::Outside);
+        }
+        Ok(self.trie.at(&list))
+    }
+}

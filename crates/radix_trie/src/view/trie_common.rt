@@ -1,0 +1,168 @@
+//! What tries and views have in common.
+ghost use Rattle.std.specs.Prelude.{◌≡◌, ◌<◌, ◌^◌, ◌↔◌, ℕ, List, [], IsTrue, IsOk, IfOk, length, map as each, option_copied, option_map};
+ghost use Rattle.std.specs.FinMap as finite;
+ghost use Rattle.nibble_map.specs.Lists.{Each};
+ghost use Rattle.nibble_map.specs.MapQueries.{IsFragment, IsLeaf};
+ghost use Rattle.nibble_map.specs.Maps.{PairMap, below, value_at, walk};
+ghost use Rattle.nibble_map.specs.Nibbles.{IsShort};
+ghost use Rattle.radix_trie.specs.Views.{pairs_below};
+
+use crate::iter::{Iter, Keys, Values};
+use crate::trie::Trie;
+use crate::view::place::Place;
+use crate::view::subtrie::SubTrie;
+use radix_keys::{Memory, Nibblet, TrieKey};
+
+/// What a trie and its views answer, by the map of the trie and a path in it. The path of a trie is the empty list.
+///
+/// What comes from a trie or a view for reading lasts as long as the trie's borrow. `children` is a call of each of these
+/// types, and none of the trait.
+pub trait TrieCommon<'a, K: TrieKey + 'a, V: 'a>: Sized {
+    /// The map of the whole trie.
+    ghost map: { Self → PairMap K V };
+
+    /// The path, a point of the map or not.
+    ghost path: { Self → List ℕ };
+
+    /// What `prefix` answers: the fragment at the path; of a view for writing the fragment that it was made with.
+    ghost is_prefix: { Self → List ℕ → Type 0 };
+
+    /// The key that is stored at the path.
+    fn key(self) -> Option<&'a K>
+        ensures { option_copied result
+            ≡ option_map (λ p. p.0) (finite.get (map self) (path self)) };
+
+    /// The value that is stored at the path.
+    fn value(self) -> Option<&'a V>
+        ensures { option_copied result ≡ value_at (map self) (path self) };
+
+    /// The count of pairs at and below the path.
+    fn len(self) -> usize
+        ensures { result ≡ finite.len (below (map self) (path self)) };
+
+    /// Whether no pair is at or below the path.
+    fn is_empty(self) -> bool
+        ensures { IsTrue result ↔ (finite.len (below (map self) (path self)) ≡ 0) };
+
+    /// Whether no pair is strictly below the path.
+    fn is_leaf(self) -> bool
+        ensures { IsTrue result ↔ IsLeaf (map self) (path self) };
+
+    /// The walk over the pairs at and below the path, in the order of their encodings, a prefix before its extensions.
+    ///
+    /// All memory that the walk needs is taken here: its `next` takes none.
+    fn iter(self) -> Result<Iter<'a, K, V>, Memory>
+        ensures walk { IfOk result (λ pairs. pairs ≡ pairs_below (map self) (path self)) }
+        ensures keyed { Each (λ e. e.0 ≡ K.encoding e.1.0) (walk (map self) (path self)) }
+        ensures countable { IfOk result (λ pairs. length pairs < 2 ^ 64) };
+
+    /// The keys of that walk.
+    fn keys(self) -> Result<Keys<'a, K, V>, Memory>
+        ensures walk { IfOk result
+            (λ keys. keys ≡ each (λ p. p.0) (pairs_below (map self) (path self))) }
+        ensures countable { IfOk result (λ keys. length keys < 2 ^ 64) };
+
+    /// The values of that walk.
+    fn values(self) -> Result<Values<'a, K, V>, Memory>
+        ensures walk { IfOk result
+            (λ values. values ≡ each (λ p. p.1) (pairs_below (map self) (path self))) }
+        ensures countable { IfOk result (λ values. length values < 2 ^ 64) };
+
+    /// The fragment, what the path has beyond the longest point strictly above it. It takes no memory where the fragment
+    /// has at most 32 nibbles.
+    fn prefix(self) -> Result<Nibblet, Memory>
+        ensures fragment { IfOk result (λ f. is_prefix self f) }
+        ensures short { ((f : List ℕ) → is_prefix self f → IsShort f) → IsOk result };
+}
+
+impl<'a, K: TrieKey, V> TrieCommon<'a, K, V> for &'a Trie<K, V> {
+    ghost map = { λ t. t.now };
+
+    ghost path = { λ t. [] };
+
+    ghost is_prefix = { λ t. IsFragment t.now [] };
+
+    fn key(self) -> Option<&'a K> {
+        let top = Nibblet::new(self.allocator());
+        Place::find(self, &top).key()
+    }
+
+    fn value(self) -> Option<&'a V> {
+        let top = Nibblet::new(self.allocator());
+        Place::find(self, &top).value()
+    }
+
+    fn len(self) -> usize {
+        Trie::len(self)
+    }
+
+    fn is_empty(self) -> bool {
+        TrieCommon::len(self) == 0
+    }
+
+    fn is_leaf(self) -> bool {
+        let top = Nibblet::new(self.allocator());
+        Place::find(self, &top).is_leaf()
+    }
+
+    fn iter(self) -> Result<Iter<'a, K, V>, Memory> {
+        let top = Nibblet::new(self.allocator());
+        Place::find(self, &top).iter()
+    }
+
+    fn keys(self) -> Result<Keys<'a, K, V>, Memory> {
+        Ok(Keys::new(TrieCommon::iter(self)?))
+    }
+
+    fn values(self) -> Result<Values<'a, K, V>, Memory> {
+        Ok(Values::new(TrieCommon::iter(self)?))
+    }
+
+    fn prefix(self) -> Result<Nibblet, Memory> {
+        Ok(Nibblet::new(self.allocator()))
+    }
+}
+
+impl<'a, 'b, K: TrieKey, V> TrieCommon<'a, K, V> for &'b SubTrie<'a, K, V> {
+    ghost map = { λ s. s.now.map };
+
+    ghost path = { λ s. s.now.path };
+
+    ghost is_prefix = { λ s. IsFragment s.now.map s.now.path };
+
+    fn key(self) -> Option<&'a K> {
+        self.place().key()
+    }
+
+    fn value(self) -> Option<&'a V> {
+        self.place().value()
+    }
+
+    fn len(self) -> usize {
+        self.place().len()
+    }
+
+    fn is_empty(self) -> bool {
+        self.place().is_empty()
+    }
+
+    fn is_leaf(self) -> bool {
+        self.place().is_leaf()
+    }
+
+    fn iter(self) -> Result<Iter<'a, K, V>, Memory> {
+        self.place().iter()
+    }
+
+    fn keys(self) -> Result<Keys<'a, K, V>, Memory> {
+        Ok(Keys::new(self.place().iter()?))
+    }
+
+    fn values(self) -> Result<Values<'a, K, V>, Memory> {
+        Ok(Values::new(self.place().iter()?))
+    }
+
+    fn prefix(self) -> Result<Nibblet, Memory> {
+        self.fragment()
+    }
+}

@@ -1,0 +1,125 @@
+//! What views for writing have in common with tries and views for reading.
+ghost use Rattle.std.specs.FinMap as finite;
+ghost use Rattle.std.specs.Prelude.{◌≡◌, ◌↔◌, ℕ, List, IsTrue, IsOk, IfOk};
+ghost use Rattle.nibble_map.specs.MapQueries.{IsLeaf};
+ghost use Rattle.nibble_map.specs.Maps.{below};
+ghost use Rattle.nibble_map.specs.Nibbles.{IsShort};
+ghost use Rattle.radix_trie.specs.WriteViews.{map_behind, kept_path, kept_prefix, path_of, prefix_of};
+
+use crate::iter::{Iter, Keys, Values};
+use crate::view::place::Place;
+use crate::view::subtrie_mut::{PathList, SubTrieMut};
+use crate::view::trie_common::TrieCommon;
+use radix_keys::{Memory, Nibblet, TrieKey};
+
+// The view is spent: its reference for writing becomes one for reading, so what is handed out lasts as long as the
+// trie's borrow. Where nothing is handed out, the trie is known to stay as it is (`kept`).
+impl<'a, K: TrieKey, V, P: PathList> TrieCommon<'a, K, V> for SubTrieMut<'a, K, V, P> {
+    ghost map = { map_behind };
+
+    ghost path = { λ v. P.list (kept_path v) };
+
+    ghost is_prefix = { λ v f. f ≡ P.list (kept_prefix v) };
+
+    fn key(self) -> Option<&'a K> {
+        let (trie, path) = self.into_parts();
+        Place::find(trie, path.nibbles()).key()
+    }
+
+    fn value(self) -> Option<&'a V> {
+        let (trie, path) = self.into_parts();
+        Place::find(trie, path.nibbles()).value()
+    }
+
+    fn len(self) -> usize
+        ensures value { result
+            ≡ finite.len (below (map_behind self.entry) (P.list (kept_path self.entry))) }
+        ensures kept { self.exit.0.now ≡ map_behind self.entry }
+    {
+        self.count()
+    }
+
+    fn is_empty(self) -> bool
+        ensures value { IsTrue result
+            ↔ (finite.len (below (map_behind self.entry) (P.list (kept_path self.entry))) ≡ 0) }
+        ensures kept { self.exit.0.now ≡ map_behind self.entry }
+    {
+        self.is_bare()
+    }
+
+    fn is_leaf(self) -> bool
+        ensures value { IsTrue result
+            ↔ IsLeaf (map_behind self.entry) (P.list (kept_path self.entry)) }
+        ensures kept { self.exit.0.now ≡ map_behind self.entry }
+    {
+        self.ends()
+    }
+
+    fn iter(self) -> Result<Iter<'a, K, V>, Memory> {
+        let (trie, path) = self.into_parts();
+        Place::find(trie, path.nibbles()).iter()
+    }
+
+    fn keys(self) -> Result<Keys<'a, K, V>, Memory> {
+        let (trie, path) = self.into_parts();
+        Ok(Keys::new(Place::find(trie, path.nibbles()).iter()?))
+    }
+
+    fn values(self) -> Result<Values<'a, K, V>, Memory> {
+        let (trie, path) = self.into_parts();
+        Ok(Values::new(Place::find(trie, path.nibbles()).iter()?))
+    }
+
+    fn prefix(self) -> Result<Nibblet, Memory>
+        ensures fragment { IfOk result (λ f. f ≡ P.list (kept_prefix self.entry)) }
+        ensures short { ((f : List ℕ) → (f ≡ P.list (kept_prefix self.entry)) → IsShort f)
+            → IsOk result }
+        ensures kept { self.exit.0.now ≡ map_behind self.entry }
+    {
+        Ok(self.into_prefix())
+    }
+}
+
+impl<'a, 'b, K: TrieKey, V> TrieCommon<'b, K, V> for &'b SubTrieMut<'a, K, V> {
+    ghost map = { λ v. map_behind v.now };
+
+    ghost path = { λ v. path_of v.now };
+
+    ghost is_prefix = { λ v f. f ≡ prefix_of v.now };
+
+    fn key(self) -> Option<&'b K> {
+        self.place().key()
+    }
+
+    fn value(self) -> Option<&'b V> {
+        self.place().value()
+    }
+
+    fn len(self) -> usize {
+        self.place().len()
+    }
+
+    fn is_empty(self) -> bool {
+        self.place().is_empty()
+    }
+
+    fn is_leaf(self) -> bool {
+        self.place().is_leaf()
+    }
+
+    fn iter(self) -> Result<Iter<'b, K, V>, Memory> {
+        self.place().iter()
+    }
+
+    fn keys(self) -> Result<Keys<'b, K, V>, Memory> {
+        Ok(Keys::new(self.place().iter()?))
+    }
+
+    fn values(self) -> Result<Values<'b, K, V>, Memory> {
+        Ok(Values::new(self.place().iter()?))
+    }
+
+    fn prefix(self) -> Result<Nibblet, Memory> {
+        self.fragment()
+    }
+}

@@ -1,7 +1,0 @@
-use Rattle.std.proofs.Common.{◌∙◌, ap}
-use Rattle.trie_tool.specs.Numbers.{texts_of}
-use Rattle.trie_tool.proofs.Texts.{texts_empty}
-use Rattle.trie_tool.proofs.numbers.no_numbers.Goals as goal
-
-pub returns : goal.returns
-returns c = ap texts_of c.new.ensures ∙ texts_empty

@@ -138,7 +138,7 @@ struct Digit {
 }
 
 impl TrieKey for Digit {
-    ghost use Rattle.std.specs.Prelude.{◌≡◌, ◌∷◌, [], ◌<◌, slice_index, true};
+    ghost use Rattle.std.specs.Prelude.{◌∷◌, [], ◌<◌, slice_index};
     ghost use Rattle.std.proofs.lemmas.Bool.{eq-eqb};
     ghost use Rattle.std.proofs.Common.{lit≤, ap};
 

@@ -56,6 +56,31 @@ fn lists_are_joined(rt: HostRuntime) -> Result<(), Fail> {
 }
 
 #[test]
+fn lists_agree_up_to_a_nibble(rt: HostRuntime) -> Result<(), Fail> {
+    let a = rt.alloc();
+    let whole = list(a, &[1, 2, 3, 4, 5])?;
+    for (front, depth, same) in [
+        (&[][..], 0, 0),
+        (&[1, 2, 3, 4, 5][..], 0, 5),
+        (&[1, 2, 3, 4, 5, 6][..], 0, 5),
+        (&[1, 2, 4][..], 0, 2),
+        (&[2, 3, 4, 6][..], 1, 3),
+        (&[2, 4][..], 1, 1),
+        (&[3, 4][..], 2, 2),
+        (&[4][..], 2, 0),
+        (&[5, 6][..], 4, 1),
+        (&[1][..], 5, 0),
+    ] {
+        assert!(rt; depth <= whole.len());
+        assert!(rt;
+            list(a, front)?.agreement(&whole, depth) == same,
+            "from {depth}"
+        );
+    }
+    Ok(())
+}
+
+#[test]
 fn a_nibble_is_pushed(rt: HostRuntime) -> Result<(), Fail> {
     let mut pushed = list(rt.alloc(), &[1, 2, 3])?;
     pushed.push(5)?;

@@ -1,7 +1,8 @@
 -- The map of pairs that are inserted one after another.
-use Rattle.std.specs.Prelude.{◌≡◌, ℕ, ◌-◌, ◌^◌, List, [], ◌∷◌, ◌++◌, None, fold}
+use Rattle.std.specs.Prelude.{◌≡◌, ℕ, List, [], ◌∷◌, ◌++◌, fold}
 use Rattle.std.specs.FinMap as map
 use Rattle.nibble_map.specs.Maps.{PairMap}
+use Rattle.radix_trie.specs.Refusals.{IsFullAt}
 
 -- each pair at its key's encoding, a later one over an earlier one with the same encoding
 abbrev pub pairs_in_order : {K V : Type 0} → (K → List ℕ) → List (K × V) → PairMap K V
@@ -12,5 +13,4 @@ pairs_in_order enc ps = fold (λ m p. map.insert m (enc p.0) p) map.empty ps
 abbrev pub IsOneTooMany : {K V : Type 0} → (K → List ℕ) → List (K × V) → Type 0
 IsOneTooMany {K} {V} enc ps =
     (others : List (K × V)) × (last : K × V) × (ps ≡ others ++ last ∷ [])
-    × (map.len (pairs_in_order enc others) ≡ 2 ^ 64 - 1)
-    × (map.get (pairs_in_order enc others) (enc last.0) ≡ None)
+    × IsFullAt (pairs_in_order enc others) (enc last.0)

@@ -1,11 +1,10 @@
-use Rattle.std.proofs.Common.{◌≡◌, [], ◌∷◌, ◌++◌, None, false, refl, ap, sym, ◌∙◌, subst}
+use Rattle.std.proofs.Common.{◌≡◌, [], ◌∷◌, ◌++◌, false, refl, subst}
 use Rattle.std.specs.Prelude.{⊤}
-use Rattle.std.specs.FinMap as map
 use Rattle.std.specs.Iterator.{Yields}
 use Rattle.std.proofs.iter.runs.Consumers.{total_runs}
 use Rattle.std.proofs.iter.runs.Made.{run, to_item}
 use Rattle.radix_trie.specs.Building.{pairs_in_order}
-use Rattle.radix_trie.specs.Refusals.{RefusesInsert}
+use Rattle.radix_trie.specs.Refusals.{IsFullAt, RefusesInsert}
 use Rattle.radix_trie.proofs.trie.Trie.from_iter.Goals as goal
 
 pub returns-clause-pairs : goal.returns-clause-pairs
@@ -25,11 +24,5 @@ returns-in-Err-clause-full g c = λ full.
     let at_limit = subst (RefusesInsert c.loop-key.trie (enc last.0) ⊤ (g.K.TrieKey.is_light last.0)) (c.why_not_built.ensures.0 full) c.in-Err.ensures.why in (
       run steps c.args.iter (others ++ last ∷ []) false (to_item steps c.args.iter c.next.new.self others last (c.loop-key.key-iterator, ran, c.in-Some.ensures.steps)),
       refl,
-      (
-        others,
-        last,
-        refl,
-        ap map.len (sym c.loop-key.invariant.built) ∙ at_limit.1.0,
-        subst (λ m. map.get m (enc last.0) ≡ None) c.loop-key.invariant.built at_limit.1.1,
-      ),
+      (others, last, refl, subst (λ m. IsFullAt m (enc last.0)) c.loop-key.invariant.built at_limit.1),
     )

@@ -6,7 +6,7 @@ ghost use Rattle.nibble_map.specs.Canonical.{IsCanonicalAt, IsLocal};
 ghost use Rattle.nibble_map.specs.Lists.{Lists, Counts, Each, IsRising};
 ghost use Rattle.nibble_map.specs.Stored.{IsStored, stored, IsSetAt, IsCutAt};
 ghost use Rattle.nibble_map.specs.Trees.{FragmentTree, nodes, paths, entries, fragment_nibbles, IsShaped, IsForestPlaced, IsFull, Forest, walked, parts_of};
-ghost use Rattle.std.specs.Prelude.{Option, ◌++◌, ◌↔◌, ◌≤◌, ◌*◌, max, length, ℕ, List, ◌≡◌};
+ghost use Rattle.std.specs.Prelude.{Option, ◌↔◌, ◌≤◌, ◌*◌, max, length, ℕ, List, ◌≡◌};
 
 /// The paths of a tree's nodes are the points of its entries.
 pub fn paths_are_points<V>()

@@ -133,7 +133,7 @@ impl NibbleVec {
     }
 
     /// The nibbles at `i` and after it, as one byte.
-    fn two(&self, i: usize) -> u8
+    fn byte_from(&self, i: usize) -> u8
         requires { i + 1 < length self.now }
         ensures first { result / 16 ≡ slice_index self.now i }
         ensures second { result % 16 ≡ slice_index self.now (i + 1) }
@@ -159,7 +159,7 @@ impl NibbleVec {
         let most = self.len().min(other.len() - depth);
         for pair in 0..most / 2 {
             let same = 2 * pair;
-            if self.two(same) != other.two(depth + same) {
+            if self.byte_from(same) != other.byte_from(depth + same) {
                 return if self.get(same) == other.get(depth + same) {
                     same + 1
                 } else {

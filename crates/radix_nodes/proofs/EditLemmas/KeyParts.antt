@@ -71,6 +71,16 @@ agrees_from_depth f key depth same compared most within inside alike apart ended
       parted = λ a b. parted a (omega (arith, l, b));
     }
 
+-- where a fragment agrees with what is left of the key, that part lies within the key
+pub agreed_inside : (f key : List ℕ) (depth same compared : ℕ) → depth ≤ length key → Agrees f (drop depth key) same compared → depth + same ≤ length key
+agreed_inside f key depth same compared most agrees = let l = length-drop depth key in let i = agrees.inside in omega (arith, l, i, most)
+
+-- where a fragment stops to agree with what is left of the key, it parts from the key
+pub agreed_apart : (f key : List ℕ) (depth same compared : ℕ) → Agrees f (drop depth key) same compared → same < length f → depth + same < length key →
+    slice_index f same ≢ slice_index key (depth + same)
+agreed_apart f key depth same compared agrees a b e =
+    let l = length-drop depth key in agrees.apart a (omega (arith, l, b)) (e ∙ sym (slice_drop key depth same))
+
 -- a nibble that begins a list is what its first nibble alone is
 take-one : (a : ℕ) (r : List ℕ) → r ≢ [] → a ≡ first r → a ∷ [] ≡ take 1 r
 take-one a [] some e = absurd (some refl)

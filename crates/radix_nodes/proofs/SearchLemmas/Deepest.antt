@@ -2,6 +2,7 @@
 use Rattle.std.proofs.Common.{◌≡◌, ◌≢◌, ℕ, ◌+◌, ◌-◌, ◌<◌, ◌≤◌, List, [], ◌++◌, length, get_or, take, drop, Option, Some, None, MatchOption, IsSome, Bor, ◌⊎◌, refl, ap, sym, subst, ◌∙◌, arith, inl, inr, append-nil}
 use Rattle.std.proofs.lemmas.List.{length-append, length-drop}
 use Rattle.std.proofs.Math.Seq.{drop-length}
+use Rattle.std.specs.Option.{option_or}
 use Rattle.std.specs.declared.boxed.Box.{Box}
 use Rattle.std.specs.declared.alloc.Global.{Global}
 use Rattle.nibble_map.specs.Lists.{IsPrefix}
@@ -40,15 +41,10 @@ deepest_from S t key depth most l = record {
   longest = subst (λ x. IsLongest S (t.fragment ++ drop depth key) x) (sym (way_here t.fragment key depth)) l;
 }
 
--- the first of two, where there is one, else the second
-abbrev pub first_some : {A : Type 0} → Option A → Option A → Option A
-first_some None b = b
-first_some (Some a) b = Some a
-
 -- a second that is none changes nothing
-pub first_some-None : {A : Type 0} (a : Option A) → first_some a None ≡ a
-first_some-None None = refl
-first_some-None (Some a) = refl
+pub option_or-None : {A : Type 0} (a : Option A) → option_or a None ≡ a
+option_or-None None = refl
+option_or-None (Some a) = refl
 
 module _ {K V : Type 0} where
   -- where the key is at its end, the node itself is the one at its path
@@ -190,7 +186,7 @@ module _ {K V : Type 0} where
 module _ {K V : Type 0} (at : Bor (TrieNode K V)) (key : List ℕ) (depth : ℕ) (h : IsTreePlaced (tree_of at.now)) (most : depth ≤ length key)
     (best best' : Option (Bor (TrieNode K V) × ℕ))
     (own : (IsSome (unboxed (out-TrieNode K V at.now).pair) × (best' ≡ Some (at, depth))) ⊎ ((unboxed (out-TrieNode K V at.now).pair ≡ None) × (best' ≡ best)))
-    (Goal : Option (Bor (TrieNode K V) × ℕ) → Type 0) (leads : (r : Option (Bor (TrieNode K V) × ℕ)) → FindsDeepestPair r at.now key depth → Goal (first_some r best)) where
+    (Goal : Option (Bor (TrieNode K V) × ℕ) → Type 0) (leads : (r : Option (Bor (TrieNode K V) × ℕ)) → FindsDeepestPair r at.now key depth → Goal (option_or r best)) where
   -- where the key can't go on, the best pair is the answer
   pub best_at_end : IsStuck (tree_of at.now) (drop depth key) → Goal best'
   best_at_end stuck =
@@ -201,7 +197,7 @@ module _ {K V : Type 0} (at : Bor (TrieNode K V)) (key : List ℕ) (depth : ℕ)
 
   -- what the child answers is the answer, and where it has none the best pair is
   pub best_through_child : (m : TrieNode K V) (i next : ℕ) (s : IsStep at.now key depth i next) (b : Box (TrieNode K V) Global) → get_or (out-TrieNode K V at.now).children.items i b ≡ b → m ≡ b.value
-      → (r : Option (Bor (TrieNode K V) × ℕ)) → FindsDeepestPair r m key next → Goal (first_some r best')
+      → (r : Option (Bor (TrieNode K V) × ℕ)) → FindsDeepestPair r m key next → Goal (option_or r best')
   best_through_child m i next s b is em (Some x) found = leads (Some x) (deepest_pair_through_child at.now m key depth i next h s b is em (tree_of x.0.now) x.1 found)
   best_through_child m i next s b is em None free =
       elim own [

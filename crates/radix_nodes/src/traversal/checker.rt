@@ -1,5 +1,5 @@
 //! The check of nodes, broken ones too.
-ghost use Rattle.std.specs.Prelude.{◌≡◌, ◌<◌, ◌^◌, ◌↔◌, ◌++◌, length, cond, IfOk, IsTrue, vec_len};
+ghost use Rattle.std.specs.Prelude.{◌≡◌, ◌<◌, ◌^◌, ◌↔◌, length, cond, IfOk, IsTrue, vec_len};
 ghost use Rattle.masked_tree.specs.Tree.{entries_at};
 ghost use Rattle.radix_nodes.specs.Nodes.{tree_of, out_of, unboxed};
 ghost use Rattle.radix_nodes.specs.Soundness.{IsSoundAt, key_test, form_test, test_of, pair_count_of};

@@ -3,30 +3,30 @@ ghost use Rattle.std.specs.Prelude.{◌≡◌, ◌≢◌, ◌+◌, ◌<◌, ◌�
 
 use radix_keys::Nibblet;
 
-/// How far a fragment and a query agree, and how many nibbles were compared for that.
+/// How far a fragment and a list agree, and how many nibbles were compared for that.
 #[derive(Clone, Copy)]
 pub struct Agreement {
     pub same: usize,
     pub compared: usize,
 }
 
-/// Compares a fragment with the query from `depth` on. Nothing else compares nibbles.
-pub fn compare(fragment: &Nibblet, query: &Nibblet, depth: usize) -> Agreement
-    requires { depth ≤ length query.now }
+/// Compares a fragment with the list from `depth` on. Nothing else compares a fragment with a list.
+pub fn compare(fragment: &Nibblet, list: &Nibblet, depth: usize) -> Agreement
+    requires { depth ≤ length list.now }
     ensures within { result.same ≤ length fragment.now }
-    ensures inside { depth + result.same ≤ length query.now }
+    ensures inside { depth + result.same ≤ length list.now }
     ensures fits { depth + result.same < 2 ^ 64 }
-    ensures same { take result.same fragment.now ≡ take result.same (drop depth query.now) }
-    ensures apart { result.same < length fragment.now → depth + result.same < length query.now
-        → slice_index fragment.now result.same ≢ slice_index query.now (depth + result.same) }
+    ensures same { take result.same fragment.now ≡ take result.same (drop depth list.now) }
+    ensures apart { result.same < length fragment.now → depth + result.same < length list.now
+        → slice_index fragment.now result.same ≢ slice_index list.now (depth + result.same) }
     ensures ended { (result.same ≡ length fragment.now)
-        ⊎ (depth + result.same ≡ length query.now)
+        ⊎ (depth + result.same ≡ length list.now)
         → result.compared ≡ result.same }
-    ensures parted { result.same < length fragment.now → depth + result.same < length query.now
+    ensures parted { result.same < length fragment.now → depth + result.same < length list.now
         → result.compared ≡ result.same + 1 }
 {
-    let most = fragment.len().min(query.len() - depth);
-    let same = fragment.agreement(query, depth);
+    let most = fragment.len().min(list.len() - depth);
+    let same = fragment.agreement(list, depth);
     let compared = if same < most { same + 1 } else { same };
     Agreement { same, compared }
 }

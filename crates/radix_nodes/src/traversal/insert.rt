@@ -1,13 +1,13 @@
 //! Insertion. All that may fail comes first, so a refusal leaves the tree as it was.
 //!
 //! What stands at the place of the change is kept out of line: its variables aren't on the stack at each level above then.
-ghost use Rattle.std.specs.Prelude.{◌≡◌, ◌≢◌, ◌<◌, ◌≤◌, [], ◌++◌, ℕ, length, take, drop, slice_index, IfOk, IfErr, Err};
+ghost use Rattle.std.specs.Prelude.{◌≡◌, ◌≢◌, ◌<◌, ◌≤◌, ◌++◌, length, take, drop, slice_index, IfOk, IfErr, Err};
 ghost use Rattle.masked_tree.specs.Mask.{IsPlaceOf};
 ghost use Rattle.masked_tree.specs.Tree.{IsTreePlaced, firsts};
 ghost use Rattle.masked_tree.specs.Edits.{leaf};
 ghost use Rattle.radix_nodes.specs.Nodes.{tree_of, fragment_of, IsUpper, EditOutcome, ReplaceOutcome, SetOutcome};
 
-use crate::traversal::compare::compare;
+use crate::traversal::step::agreed;
 use crate::trie_node::links::{link, lower};
 use crate::trie_node::mask::{beside, mark, place};
 use crate::trie_node::{KeyValue, TrieNode};
@@ -23,34 +23,34 @@ pub struct Change<K, V> {
     pub nibbles: usize,
 }
 
-/// Puts the pair at the key's place at or below a node that stands at `depth`. A refused growth hands it back and changes nothing;
-/// none comes where the key's list is stored.
+/// Puts the pair at the list's place at or below a node that stands at `depth`. A refused growth hands it back and changes nothing;
+/// none comes where the list is stored.
 pub fn put<K: Drop, V: Drop>(
     node: &mut TrieNode<K, V>,
     alloc: Global,
-    key: &Nibblet,
+    list: &Nibblet,
     depth: usize,
     pair: KeyValue<K, V>,
 ) -> Result<Change<K, V>, KeyValue<K, V>>
-    requires depth { depth ≤ length key.now }
+    requires depth { depth ≤ length list.now }
     requires placed { IsTreePlaced (tree_of node.old) }
-    ensures { EditOutcome result pair (fragment_of node.old ++ drop depth key.now)
+    ensures { EditOutcome result pair (fragment_of node.old ++ drop depth list.now)
         (tree_of node.old) (tree_of node.new) }
 {
-    if depth == key.len() {
+    if depth == list.len() {
         return set_pair(&mut node.pair, alloc, pair);
     }
-    match place(node.mask, key.get(depth)) {
+    match place(node.mask, list.get(depth)) {
         Ok(i) => {
             let child = &mut node.children[i];
-            let n = compare(&child.fragment, key, depth).same;
+            let n = agreed(&child.fragment, list, depth).same;
             if n == child.fragment.len() {
-                put(child, alloc, key, depth + n, pair)
+                put(child, alloc, list, depth + n, pair)
             } else {
-                split_and_put(child, n, alloc, key, depth + n, pair)
+                split_and_put(child, n, alloc, list, depth + n, pair)
             }
         }
-        Err(i) => add_leaf(node, i, alloc, key, depth, pair),
+        Err(i) => add_leaf(node, i, alloc, list, depth, pair),
     }
 }
 
@@ -87,15 +87,15 @@ fn set_pair<K: Drop, V: Drop>(
 #[inline(never)]
 fn make_leaf<K: Drop, V: Drop>(
     alloc: Global,
-    key: &Nibblet,
+    list: &Nibblet,
     depth: usize,
     pair: KeyValue<K, V>,
 ) -> Result<Box<TrieNode<K, V>>, KeyValue<K, V>>
-    requires { depth ≤ length key.now }
-    ensures made { IfOk result (λ b. tree_of b.value ≡ leaf (drop depth key.now) pair) }
+    requires { depth ≤ length list.now }
+    ensures made { IfOk result (λ b. tree_of b.value ≡ leaf (drop depth list.now) pair) }
     ensures back { IfErr result (λ x. x ≡ pair) }
 {
-    let Ok(fragment) = key.tail(depth) else {
+    let Ok(fragment) = list.tail(depth) else {
         return Err(pair);
     };
     let Ok(mut leaf) = Box::new(
@@ -124,29 +124,29 @@ fn add_leaf<K: Drop, V: Drop>(
     node: &mut TrieNode<K, V>,
     i: usize,
     alloc: Global,
-    key: &Nibblet,
+    list: &Nibblet,
     depth: usize,
     pair: KeyValue<K, V>,
 ) -> Result<Change<K, V>, KeyValue<K, V>>
-    requires depth { depth < length key.now }
+    requires depth { depth < length list.now }
     requires placed { IsTreePlaced (tree_of node.old) }
-    requires gap { IsPlaceOf (slice_index key.now depth) (firsts (tree_of node.old).children)
+    requires gap { IsPlaceOf (slice_index list.now depth) (firsts (tree_of node.old).children)
         (Err i) }
-    ensures { EditOutcome result pair (fragment_of node.old ++ drop depth key.now)
+    ensures { EditOutcome result pair (fragment_of node.old ++ drop depth list.now)
         (tree_of node.old) (tree_of node.new) }
 {
     let Ok(()) = node.children.reserve(1) else {
         return Err(pair);
     };
-    let leaf = match make_leaf(alloc, key, depth, pair) {
+    let leaf = match make_leaf(alloc, list, depth, pair) {
         Ok(leaf) => leaf,
         Err(pair) => return Err(pair),
     };
-    link(node, i, leaf, key.get(depth));
+    link(node, i, leaf, list.get(depth));
     Ok(Change {
         was: None,
         nodes: 1,
-        nibbles: key.len() - depth,
+        nibbles: list.len() - depth,
     })
 }
 
@@ -179,30 +179,30 @@ fn grow_split<K: Drop, V: Drop>(
     Ok((upper, rest))
 }
 
-// The node in `slot` parts from the key after n nibbles of its fragment: a new node stands in its place, with the pair, or with a
+// The node in `slot` parts from the list after n nibbles of its fragment: a new node stands in its place, with the pair, or with a
 // leaf beside it.
 #[inline(never)]
 fn split_and_put<K: Drop, V: Drop>(
     slot: &mut Box<TrieNode<K, V>>,
     n: usize,
     alloc: Global,
-    key: &Nibblet,
+    list: &Nibblet,
     depth: usize,
     pair: KeyValue<K, V>,
 ) -> Result<Change<K, V>, KeyValue<K, V>>
     requires some { 0 < n }
     requires within { n < length (fragment_of slot.old.value) }
-    requires depth { depth ≤ length key.now }
-    requires apart { depth < length key.now → slice_index (fragment_of slot.old.value) n
-        ≢ slice_index key.now depth }
+    requires depth { depth ≤ length list.now }
+    requires apart { depth < length list.now → slice_index (fragment_of slot.old.value) n
+        ≢ slice_index list.now depth }
     requires placed { IsTreePlaced (tree_of slot.old.value) }
-    ensures { ReplaceOutcome result pair (take n (fragment_of slot.old.value) ++ drop depth key.now)
+    ensures { ReplaceOutcome result pair (take n (fragment_of slot.old.value) ++ drop depth list.now)
         (tree_of slot.old.value) (tree_of slot.new.value) }
 {
     let Ok((upper, tail)) = grow_split(slot, n, alloc) else {
         return Err(pair);
     };
-    if depth == key.len() {
+    if depth == list.len() {
         let b = match Box::new(alloc, pair) {
             Ok(b) => b,
             Err(failed) => return Err(failed.value),
@@ -215,18 +215,18 @@ fn split_and_put<K: Drop, V: Drop>(
             nibbles: 0,
         })
     } else {
-        let leaf = match make_leaf(alloc, key, depth, pair) {
+        let leaf = match make_leaf(alloc, list, depth, pair) {
             Ok(leaf) => leaf,
             Err(pair) => return Err(pair),
         };
-        let nibble = key.get(depth);
+        let nibble = list.get(depth);
         let i = beside(tail.get(0), nibble);
         lower(slot, upper, tail);
         link(slot, i, leaf, nibble);
         Ok(Change {
             was: None,
             nodes: 2,
-            nibbles: key.len() - depth,
+            nibbles: list.len() - depth,
         })
     }
 }

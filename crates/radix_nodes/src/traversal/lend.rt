@@ -25,62 +25,62 @@ fn unbox<K, V>(b: &mut Box<TrieNode<K, V>>) -> &mut TrieNode<K, V>
     &mut **b
 }
 
-// The child that the key goes on to, and how many nibbles lie behind it then: `depth` where there is none. The box is handed back,
+// The child that the list goes on to, and how many nibbles lie behind it then: `depth` where there is none. The box is handed back,
 // since a borrow of the node would end the one that goes on.
 fn look<'a, K, V>(
     top: &'a mut Box<TrieNode<K, V>>,
-    key: &Nibblet,
+    list: &Nibblet,
     depth: usize,
 ) -> (&'a mut Box<TrieNode<K, V>>, usize, usize)
-    requires depth { depth ≤ length key.now }
+    requires depth { depth ≤ length list.now }
     requires placed { IsTreePlaced (tree_of top.old.value) }
     ensures same_reference { result.0.ghost_name ≡ top.entry.ghost_name }
     ensures same { result.0.now ≡ top.old }
-    ensures within { (depth ≤ result.2) × (result.2 ≤ length key.now) }
-    ensures step { depth < result.2 → IsStep top.old.value key.now depth result.1 result.2 }
-    ensures stuck { result.2 ≡ depth → IsStuck (tree_of top.old.value) (drop depth key.now) }
+    ensures within { (depth ≤ result.2) × (result.2 ≤ length list.now) }
+    ensures step { depth < result.2 → IsStep top.old.value list.now depth result.1 result.2 }
+    ensures stuck { result.2 ≡ depth → IsStuck (tree_of top.old.value) (drop depth list.now) }
 {
-    match step(&**top, key, depth) {
+    match step(&**top, list, depth) {
         Some((i, next)) => (top, i, next),
         None => (top, 0, depth),
     }
 }
 
-// The node in the box, where the key ends there.
+// The node in the box, where the list ends there.
 fn here<'a, K, V>(
     top: &'a mut Box<TrieNode<K, V>>,
-    key: &Nibblet,
+    list: &Nibblet,
     depth: usize,
 ) -> Option<&'a mut TrieNode<K, V>>
-    requires depth { depth ≤ length key.now }
+    requires depth { depth ≤ length list.now }
     requires placed { IsTreePlaced (tree_of top.old.value) }
-    requires stuck { IsStuck (tree_of top.old.value) (drop depth key.now) }
+    requires stuck { IsStuck (tree_of top.old.value) (drop depth list.now) }
     ensures* writes_back { sem 𝓛
-        (LendsNode K.row V.row top.entry (fragment_of top.old.value ++ drop depth key.now) result) }
+        (LendsNode K.row V.row top.entry (fragment_of top.old.value ++ drop depth list.now) result) }
 {
-    if depth == key.len() {
+    if depth == list.len() {
         Some(unbox(top))
     } else {
         None
     }
 }
 
-/// The node at the key's place, for writing.
+/// The node at the list's place, for writing.
 pub fn node_below_mut<'a, K, V>(
     top: &'a mut Box<TrieNode<K, V>>,
-    key: &Nibblet,
+    list: &Nibblet,
     depth: usize,
 ) -> Option<&'a mut TrieNode<K, V>>
-    requires depth { depth ≤ length key.now }
+    requires depth { depth ≤ length list.now }
     requires placed { IsTreePlaced (tree_of top.old.value) }
     ensures* writes_back { sem 𝓛
-        (LendsNode K.row V.row top.entry (fragment_of top.old.value ++ drop depth key.now) result) }
+        (LendsNode K.row V.row top.entry (fragment_of top.old.value ++ drop depth list.now) result) }
 {
-    let (top, i, next) = look(top, key, depth);
+    let (top, i, next) = look(top, list, depth);
     if next == depth {
-        return here(top, key, depth);
+        return here(top, list, depth);
     }
-    node_below_mut(child_box(unbox(top), i), key, next)
+    node_below_mut(child_box(unbox(top), i), list, next)
 }
 
 /// The value of a pair, for writing.
@@ -94,17 +94,17 @@ pub fn pair_value<K, V>(pair: &mut Option<Box<KeyValue<K, V>>>) -> Option<&mut V
     }
 }
 
-/// The value at the key's place, for writing: None exactly where no pair stands there.
-pub fn value_at_mut<'a, K, V>(root: &'a mut TrieNode<K, V>, key: &Nibblet) -> Option<&'a mut V>
+/// The value at the list's place, for writing: None exactly where no pair stands there.
+pub fn value_at_mut<'a, K, V>(root: &'a mut TrieNode<K, V>, list: &Nibblet) -> Option<&'a mut V>
     requires { IsTreePlaced (tree_of root.old) }
     ensures* writes_back { sem 𝓛
-        (LendsValue K.row V.row root.entry (fragment_of root.old ++ key.now) result) }
+        (LendsValue K.row V.row root.entry (fragment_of root.old ++ list.now) result) }
 {
-    if key.len() == 0 {
+    if list.len() == 0 {
         return pair_value(&mut root.pair);
     }
-    match step(root, key, 0) {
-        Some((i, next)) => match node_below_mut(child_box(root, i), key, next) {
+    match step(root, list, 0) {
+        Some((i, next)) => match node_below_mut(child_box(root, i), list, next) {
             Some(node) => pair_value(&mut node.pair),
             None => None,
         },

@@ -38,9 +38,9 @@ fn room_for<K, V>(node: &TrieNode<K, V>, alloc: Global, i: usize) -> Result<Vec<
 }
 
 // The pairs of a branch that was cut off, and how much went.
-fn emptied<K: Drop, V: Drop>(branch: Branch<K, V>, list: Vec<(K, V)>) -> Pruned<K, V>
-    requires empty { list.items ≡ [] }
-    requires room { length (entries_at [] (branch_of branch)) ≤ vec_capacity list }
+fn emptied<K: Drop, V: Drop>(branch: Branch<K, V>, room: Vec<(K, V)>) -> Pruned<K, V>
+    requires empty { room.items ≡ [] }
+    requires room { length (entries_at [] (branch_of branch)) ≤ vec_capacity room }
     requires small { IsSmall (branch_of branch) }
     requires few { branch.nodes ≤ 2 }
     ensures pairs { result.pairs.items ≡ pairs_in (branch_of branch) }
@@ -48,7 +48,7 @@ fn emptied<K: Drop, V: Drop>(branch: Branch<K, V>, list: Vec<(K, V)>) -> Pruned<
     ensures nibbles { result.nibbles ≡ nibbles_gone branch }
 {
     let Branch { top, nodes } = branch;
-    let mut pairs = list;
+    let mut pairs = room;
     let drained = drain(Box::into_inner(top), &mut pairs);
     Pruned {
         pairs,
@@ -72,9 +72,9 @@ fn prune_child<K: Drop, V: Drop>(
     ensures pairs { IfOk result (λ c. HoldsChild i c (tree_of node.old)) }
     ensures unchanged { OnErr result (tree_of node.new ≡ tree_of node.old) }
 {
-    let list = room_for(node, alloc, i)?;
+    let room = room_for(node, alloc, i)?;
     match cut_child(node, i) {
-        Ok(branch) => Ok(emptied(branch, list)),
+        Ok(branch) => Ok(emptied(branch, room)),
         Err(e) => Err(e),
     }
 }
@@ -93,35 +93,35 @@ fn prune_root_child<K: Drop, V: Drop>(
     ensures pairs { IfOk result (λ c. HoldsChild i c (tree_of root.old)) }
     ensures unchanged { OnErr result (tree_of root.new ≡ tree_of root.old) }
 {
-    let list = room_for(root, alloc, i)?;
+    let room = room_for(root, alloc, i)?;
     let branch = cut_root_child(root, i);
-    Ok(emptied(branch, list))
+    Ok(emptied(branch, room))
 }
 
-/// Takes all pairs at and below the key's place, which lies below a node that stands at `depth` and isn't the root.
+/// Takes all pairs at and below the list's place, which lies below a node that stands at `depth` and isn't the root.
 pub fn prune<K: Drop, V: Drop>(
     node: &mut TrieNode<K, V>,
     alloc: Global,
-    key: &Nibblet,
+    list: &Nibblet,
     depth: usize,
 ) -> Result<Option<Pruned<K, V>>, Memory>
-    requires depth { depth < length key.now }
+    requires depth { depth < length list.now }
     requires placed { IsTreePlaced (tree_of node.old) }
     requires some { fragment_of node.old ≢ [] }
     requires small { IsSmall (tree_of node.old) }
-    ensures { PruneOutcome result (fragment_of node.old ++ drop depth key.now)
+    ensures { PruneOutcome result (fragment_of node.old ++ drop depth list.now)
         (tree_of node.old) (tree_of node.new) }
 {
-    match meet(node, key, depth) {
+    match meet(node, list, depth) {
         Some((i, agreement)) => {
             let next = depth + agreement.same;
-            if next == key.len() {
+            if next == list.len() {
                 match prune_child(node, alloc, i) {
                     Ok(pruned) => Ok(Some(pruned)),
                     Err(e) => Err(e),
                 }
             } else if agreement.same == node.children[i].fragment.len() {
-                prune(&mut node.children[i], alloc, key, next)
+                prune(&mut node.children[i], alloc, list, next)
             } else {
                 Ok(None)
             }
@@ -130,27 +130,27 @@ pub fn prune<K: Drop, V: Drop>(
     }
 }
 
-/// The same from the root, where the key isn't empty.
+/// The same from the root, where the list isn't empty.
 pub fn prune_root<K: Drop, V: Drop>(
     root: &mut TrieNode<K, V>,
     alloc: Global,
-    key: &Nibblet,
+    list: &Nibblet,
 ) -> Result<Option<Pruned<K, V>>, Memory>
-    requires some { 0 < length key.now }
+    requires some { 0 < length list.now }
     requires placed { IsTreePlaced (tree_of root.old) }
     requires small { IsSmall (tree_of root.old) }
-    ensures { PruneRootOutcome result (fragment_of root.old ++ key.now)
+    ensures { PruneRootOutcome result (fragment_of root.old ++ list.now)
         (tree_of root.old) (tree_of root.new) }
 {
-    match meet(root, key, 0) {
+    match meet(root, list, 0) {
         Some((i, agreement)) => {
-            if agreement.same == key.len() {
+            if agreement.same == list.len() {
                 match prune_root_child(root, alloc, i) {
                     Ok(pruned) => Ok(Some(pruned)),
                     Err(e) => Err(e),
                 }
             } else if agreement.same == root.children[i].fragment.len() {
-                prune(&mut root.children[i], alloc, key, agreement.same)
+                prune(&mut root.children[i], alloc, list, agreement.same)
             } else {
                 Ok(None)
             }

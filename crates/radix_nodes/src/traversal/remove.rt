@@ -106,44 +106,44 @@ fn take_leaf<K: Drop, V: Drop>(
     }
 }
 
-/// Takes the pair at the key's place at or below a node that stands at `depth` and isn't the root.
+/// Takes the pair at the list's place at or below a node that stands at `depth` and isn't the root.
 pub fn take<K: Drop, V: Drop>(
     node: &mut TrieNode<K, V>,
-    key: &Nibblet,
+    list: &Nibblet,
     depth: usize,
 ) -> Result<Option<Taken<K, V>>, Memory>
-    requires depth { depth ≤ length key.now }
+    requires depth { depth ≤ length list.now }
     requires placed { IsTreePlaced (tree_of node.old) }
     requires some { fragment_of node.old ≢ [] }
-    requires inner { depth ≡ length key.now → 0 < vec_len (out_of node.old).children }
-    ensures { CutOutcome result (fragment_of node.old ++ drop depth key.now) (tree_of node.old)
+    requires inner { depth ≡ length list.now → 0 < vec_len (out_of node.old).children }
+    ensures { CutOutcome result (fragment_of node.old ++ drop depth list.now) (tree_of node.old)
         (tree_of node.new) }
 {
-    if depth == key.len() {
+    if depth == list.len() {
         return take_here(node);
     }
-    match step(node, key, depth) {
+    match step(node, list, depth) {
         Some((i, next)) => {
-            if next == key.len() && is_end(&node.children[i]) {
+            if next == list.len() && is_end(&node.children[i]) {
                 take_leaf(node, i)
             } else {
-                take(&mut node.children[i], key, next)
+                take(&mut node.children[i], list, next)
             }
         }
         None => Ok(None),
     }
 }
 
-/// Takes the pair at the key's place at or below the root, which stays whatever it is left with.
+/// Takes the pair at the list's place at or below the root, which stays whatever it is left with.
 pub fn take_root<K: Drop, V: Drop>(
     node: &mut TrieNode<K, V>,
-    key: &Nibblet,
+    list: &Nibblet,
 ) -> Result<Option<Taken<K, V>>, Memory>
     requires { IsTreePlaced (tree_of node.old) }
-    ensures { RootOutcome result (fragment_of node.old ++ key.now) (tree_of node.old)
+    ensures { RootOutcome result (fragment_of node.old ++ list.now) (tree_of node.old)
         (tree_of node.new) }
 {
-    if key.len() == 0 {
+    if list.len() == 0 {
         return match take_pair(&mut node.pair) {
             Some(pair) => Ok(Some(Taken {
                 pair,
@@ -153,15 +153,15 @@ pub fn take_root<K: Drop, V: Drop>(
             None => Ok(None),
         };
     }
-    match step(node, key, 0) {
+    match step(node, list, 0) {
         Some((i, next)) => {
-            if next == key.len() && is_end(&node.children[i]) {
+            if next == list.len() && is_end(&node.children[i]) {
                 if !has_pair(&node.children[i]) {
                     return Ok(None);
                 }
                 Ok(make_taken(cut_root_child(node, i)))
             } else {
-                take(&mut node.children[i], key, next)
+                take(&mut node.children[i], list, next)
             }
         }
         None => Ok(None),

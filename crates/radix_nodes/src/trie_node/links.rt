@@ -1,5 +1,5 @@
 //! Linking and unlinking of nodes: none of these takes memory.
-ghost use Rattle.std.specs.Prelude.{◌≡◌, ◌+◌, ◌<◌, ◌≤◌, ℕ, None, vec_len};
+ghost use Rattle.std.specs.Prelude.{◌≡◌, ◌+◌, ◌<◌, ◌≤◌, None, vec_len};
 ghost use Rattle.nibble_map.specs.Trees.{first};
 ghost use Rattle.masked_tree.specs.Tree.{IsTreePlaced, IsAt};
 ghost use Rattle.masked_tree.specs.Edits.{with_new_child, without_child, lowered, merged};

@@ -1,8 +1,6 @@
 //! Commands within a view.
-ghost use Rattle.std.specs.Prelude.{◌≡◌, ◌+◌, ◌≤◌, ◌++◌, [], length, map as each, vec_len, vec_capacity, IfOk, IsOk, OnOk, OnErr, option_copied};
-ghost use Rattle.std.specs.FinMap as map;
-ghost use Rattle.nibble_map.specs.Maps.{below, without_below};
-ghost use Rattle.radix_trie.specs.Commands.{Step, Steps, ViewStep, ViewSteps, values_below};
+ghost use Rattle.std.specs.Prelude.{◌≡◌, ◌+◌, ◌≤◌, [], length, vec_capacity};
+ghost use Rattle.radix_trie.specs.Commands.{ViewStep, ViewSteps};
 ghost use Rattle.radix_trie.specs.WriteViews.{map_behind, path_of, SameView};
 
 use crate::commands::{Reply, ViewCommand, take_values};

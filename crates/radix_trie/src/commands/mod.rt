@@ -1,9 +1,8 @@
 //! Lists of commands, and what they answer.
-ghost use Rattle.std.specs.Prelude.{◌≡◌, ◌+◌, ◌≤◌, ◌++◌, [], length, map as each, vec_len, vec_capacity, IfOk, IsOk, OnOk, OnErr, option_copied};
+ghost use Rattle.std.specs.Prelude.{◌≡◌, ◌+◌, ◌≤◌, ◌++◌, length, map as each, vec_len, vec_capacity, IfOk, IsOk, OnOk, OnErr};
 ghost use Rattle.std.specs.FinMap as map;
 ghost use Rattle.nibble_map.specs.Maps.{below, without_below};
-ghost use Rattle.radix_trie.specs.Commands.{Step, Steps, ViewStep, ViewSteps, values_below};
-ghost use Rattle.radix_trie.specs.WriteViews.{map_behind, path_of, SameView};
+ghost use Rattle.radix_trie.specs.Commands.{Step, Steps, values_below};
 
 mod in_view;
 

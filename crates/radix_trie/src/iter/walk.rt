@@ -4,7 +4,7 @@ ghost use Rattle.std.specs.Iterator.{YieldsFirstBy, item_count};
 ghost use Rattle.masked_tree.specs.Tree.{entries_at};
 ghost use Rattle.masked_tree.specs.Sizes.{levels};
 ghost use Rattle.radix_nodes.specs.Nodes.{children_of, tree_of};
-ghost use Rattle.radix_nodes.specs.Pairs.{own_pair, pairs_in};
+ghost use Rattle.radix_nodes.specs.Pairs.{pairs_in};
 ghost use Rattle.radix_trie.specs.Walks.{deref_pair, first_pair, rows_of, with_row};
 
 use radix_keys::Memory;

@@ -1,16 +1,11 @@
 //! Changes: pairs are stored, changed and taken away.
-ghost use Rattle.std.specs.Prelude.{[], ◌≡◌, ◌↔◌, ◌*◌, ⊤, ◌<◌, ◌≤◌, ◌^◌, ℕ, List, length, max, true, false, None, IsTrue, IsOk, IfOk, OnOk, IfErr, OnErr, MatchOption, option_copied, option_map};
+ghost use Rattle.std.specs.Prelude.{◌≡◌, ⊤, ◌<◌, ◌^◌, ℕ, List, length, true, false, None, IsOk, IfOk, OnOk, IfErr, OnErr, MatchOption};
 ghost use Rattle.std.specs.Fn.{FnOnceReturnsAtMut, FnOnceTakesAtMut};
-ghost use Rattle.std.specs.Option.{ForSome, option_copied_mut};
+ghost use Rattle.std.specs.Option.{ForSome};
 ghost use Rattle.std.specs.FinMap as map;
-ghost use Rattle.nibble_map.specs.Lists.{Counts};
-ghost use Rattle.nibble_map.specs.Maps.{IsStored, IsPoint, IsSomePrefix, below, value_at, with_value, without_below};
+ghost use Rattle.nibble_map.specs.Maps.{IsStored, value_at, with_value};
 ghost use Rattle.nibble_map.specs.Nibbles.{IsShort};
-ghost use Rattle.radix_nodes.specs.Nodes.{tree_of};
-ghost use Rattle.radix_trie.specs.Lends.{lends_at};
 ghost use Rattle.radix_trie.specs.Refusals.{IsFullAt, RefusesInsert};
-ghost use Rattle.radix_trie.specs.Views.{pairs_below};
-ghost use Rattle.radix_nodes.specs.Pairs.{pair_of};
 
 use crate::error::{InsertError, InsertWhy};
 use crate::trie::Trie;

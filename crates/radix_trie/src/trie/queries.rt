@@ -1,5 +1,5 @@
 //! Queries of a trie: the views at points, and at the nearest points to a key.
-ghost use Rattle.std.specs.Prelude.{◌≡◌, ◌≤◌, ℕ, List, [], Some, IsOk, IfOk, IfSome, MatchOption, drop, length, option_copied, option_map, take};
+ghost use Rattle.std.specs.Prelude.{◌≡◌, ◌≤◌, ℕ, List, [], Some, IsOk, IfOk, IfSome, MatchOption, length, option_copied, option_map, take};
 ghost use Rattle.nibble_map.specs.Lists.{Each};
 ghost use Rattle.nibble_map.specs.MapQueries.{AreChildren, IsAncestor, IsChild, IsRawAncestor, IsRawDescendant};
 ghost use Rattle.nibble_map.specs.Maps.{IsPoint};

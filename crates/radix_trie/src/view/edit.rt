@@ -1,16 +1,11 @@
 //! Changes within a view.
-ghost use Rattle.std.specs.Borrow.{sem};
 ghost use Rattle.std.specs.FinMap as map;
-ghost use Rattle.std.specs.Option.{option_copied_mut};
-ghost use Rattle.std.specs.Prelude.{◌≡◌, ◌≢◌, ◌↔◌, ℕ, List, None, IsTrue, IsOk, IfOk, OnOk, IfErr, OnErr, IsErrAnd, Err, option_copied};
-ghost use Rattle.nibble_map.specs.Lists.{Each, IsPrefix};
-ghost use Rattle.nibble_map.specs.MapQueries.{AreChildren, IsChild, IsLeaf};
-ghost use Rattle.nibble_map.specs.Maps.{IsStored, below, value_at, without_below};
-ghost use Rattle.nibble_map.specs.Nibbles.{IsShort};
-ghost use Rattle.radix_trie.specs.Lends.{lends_behind, lends_own};
+ghost use Rattle.std.specs.Prelude.{◌≡◌, IfOk, OnOk, IfErr, OnErr, Err};
+ghost use Rattle.nibble_map.specs.Lists.{IsPrefix};
+ghost use Rattle.nibble_map.specs.Maps.{value_at, without_below};
 ghost use Rattle.radix_trie.specs.Refusals.{IsFullAt, RefusesBelow, RefusesInsert, RefusesRemove};
-ghost use Rattle.radix_trie.specs.Views.{pairs_below, paths_of};
-ghost use Rattle.radix_trie.specs.WriteViews.{map_behind, kept_path, kept_prefix, path_of, prefix_of, lender_of, SameView};
+ghost use Rattle.radix_trie.specs.Views.{pairs_below};
+ghost use Rattle.radix_trie.specs.WriteViews.{map_behind, path_of, SameView};
 
 use crate::error::{InsertError, InsertWhy, SubTrieError, SubTrieResult};
 use crate::trie::edit::{encoding_of, refused};

@@ -1,16 +1,14 @@
 //! Views for writing.
 ghost use Rattle.std.specs.Borrow.{sem};
-ghost use Rattle.std.specs.FinMap as map;
 ghost use Rattle.std.specs.Option.{option_copied_mut};
-ghost use Rattle.std.specs.Prelude.{◌≡◌, ◌≢◌, ◌↔◌, ℕ, List, None, IsTrue, IsOk, IfOk, OnOk, IfErr, OnErr, IsErrAnd, Err, option_copied};
+ghost use Rattle.std.specs.Prelude.{◌≡◌, ◌≢◌, ℕ, List, IsOk, IfOk, OnOk, Err, option_copied};
 ghost use Rattle.nibble_map.specs.Lists.{Each, IsPrefix};
-ghost use Rattle.nibble_map.specs.MapQueries.{AreChildren, IsChild, IsLeaf};
-ghost use Rattle.nibble_map.specs.Maps.{IsStored, below, value_at, without_below};
+ghost use Rattle.nibble_map.specs.MapQueries.{AreChildren, IsChild};
+ghost use Rattle.nibble_map.specs.Maps.{value_at};
 ghost use Rattle.nibble_map.specs.Nibbles.{IsShort};
 ghost use Rattle.radix_trie.specs.Lends.{lends_behind, lends_own};
-ghost use Rattle.radix_trie.specs.Refusals.{IsFullAt, RefusesBelow, RefusesInsert, RefusesRemove};
-ghost use Rattle.radix_trie.specs.Views.{pairs_below, paths_of};
-ghost use Rattle.radix_trie.specs.WriteViews.{map_behind, kept_path, kept_prefix, path_of, prefix_of, lender_of, SameView};
+ghost use Rattle.radix_trie.specs.Views.{paths_of};
+ghost use Rattle.radix_trie.specs.WriteViews.{map_behind, path_of, prefix_of, lender_of};
 
 mod spent;
 

@@ -14,10 +14,10 @@ loop-done-preserved g c =
     let placed = c.loop-done.invariant.placed in
     record {
       inside = s.inside;
-      placed = down_placed n m c.args.key.now c.loop-done.done c.in-Some.i c.in-Some.next placed s c.index.result.now is c.deref-at.ensures;
+      placed = down_placed n m c.args.list.now c.loop-done.done c.in-Some.i c.in-Some.next placed s c.index.result.now is c.deref-at.ensures;
       leads = λ r h. c.loop-done.invariant.leads r (match_implies r
-          (λ free u d. free u (found_in_child n m c.args.key.now c.loop-done.done c.in-Some.i c.in-Some.next placed s c.index.result.now is c.deref-at.ensures u d))
-          (λ x d. found_from_child n m c.args.key.now c.loop-done.done c.in-Some.i c.in-Some.next placed s c.index.result.now is c.deref-at.ensures _ d)
+          (λ free u d. free u (found_in_child n m c.args.list.now c.loop-done.done c.in-Some.i c.in-Some.next placed s c.index.result.now is c.deref-at.ensures u d))
+          (λ x d. found_from_child n m c.args.list.now c.loop-done.done c.in-Some.i c.in-Some.next placed s c.index.result.now is c.deref-at.ensures _ d)
           h);
     }
 
@@ -26,8 +26,8 @@ loop-done-smaller g c = omega (arith, c.in-Some.ensures.further, c.in-Some.ensur
 
 pub returns-in-None : goal.returns-in-None
 returns-in-None g c =
-    c.loop-done.invariant.leads None (stuck_absent c.loop-done.at.now c.args.key.now c.loop-done.done (omega arith) c.in-None.ensures)
+    c.loop-done.invariant.leads None (stuck_absent c.loop-done.at.now c.args.list.now c.loop-done.done (omega arith) c.in-None.ensures)
 
 pub returns : goal.returns
 returns g c =
-    c.loop-done.invariant.leads (Some c.loop-done.at) (node_here c.loop-done.at.now c.args.key.now c.loop-done.done (omega (arith, c.loop-done.invariant.inside)))
+    c.loop-done.invariant.leads (Some c.loop-done.at) (node_here c.loop-done.at.now c.args.list.now c.loop-done.done (omega (arith, c.loop-done.invariant.inside)))

@@ -12,7 +12,7 @@ use Rattle.radix_nodes.proofs.traversal.find.find_counted.Goals as goal
 pub returns-clause-found : goal.returns-clause-found
 returns-clause-found g c =
     let t = tree_of c.args.root.now in
-    let e = ap (λ f. f ++ c.args.key.now) c.requires.top in
+    let e = ap (λ f. f ++ c.args.list.now) c.requires.top in
     match_implies c.search.result.0
     (λ free u d. free u (subst (λ p. IsNodeAt t p u) (sym e) d))
     (λ r d. subst (λ p. IsNodeAt t p (tree_of r.now)) e d)
@@ -21,4 +21,4 @@ returns-clause-found g c =
 pub returns-clause-count : goal.returns-clause-count
 returns-clause-count g c =
     let t = tree_of c.args.root.now in
-    subst (λ n. IsCompared (IsStored (entries_at [] t)) c.args.key.now n) (sym c.search.ensures.count) (walked_is_compared t (fragment-tree_of c.args.root.now ∙ c.requires.top) c.requires.placed c.requires.full c.args.key.now)
+    subst (λ n. IsCompared (IsStored (entries_at [] t)) c.args.list.now n) (sym c.search.ensures.count) (walked_is_compared t (fragment-tree_of c.args.root.now ∙ c.requires.top) c.requires.placed c.requires.full c.args.list.now)

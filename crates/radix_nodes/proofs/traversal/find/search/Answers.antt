@@ -14,17 +14,17 @@ pub returns-in_default-clause-found : goal.returns-in_default-clause-found
 returns-in_default-clause-found g c =
     let n = c.loop-done.at.now in
     c.loop-done.invariant.leads None
-    (stuck_absent n c.args.key.now c.loop-done.done (omega arith) (none_stuck n c.args.key.now c.loop-done.done 0 c.loop-done.invariant.placed c.in_default.ensures))
+    (stuck_absent n c.args.list.now c.loop-done.done (omega arith) (none_stuck n c.args.list.now c.loop-done.done 0 c.loop-done.invariant.placed c.in_default.ensures))
 
 pub returns-in_default-clause-count : goal.returns-in_default-clause-count
 returns-in_default-clause-count g c =
-    let none = count_none c.loop-done.at.now c.args.key.now c.loop-done.done c.loop-done.invariant.placed c.in_default.ensures in
+    let none = count_none c.loop-done.at.now c.args.list.now c.loop-done.done c.loop-done.invariant.placed c.in_default.ensures in
     omega (arith, none, c.loop-done.invariant.count)
 
 pub overflow_add-result : goal.overflow_add-result
 overflow_add-result g c =
     let n = c.loop-done.at.now in
-    let key = c.args.key.now in
+    let key = c.args.list.now in
     let lt : c.loop-done.done < length key = omega arith in
     let stop = count_stop n key c.loop-done.done c.loop-done.invariant.placed c.deref.result.now c.in-Some.i c.in-Some.agreement lt c.in-Some.ensures c.index-child.result.now (sym c.index-child.ensures) c.deref.ensures
     (λ z. c.if-agreement-len.true (z ∙ sym c.len-in-loop-done.ensures)) in
@@ -36,7 +36,7 @@ pub overflow_add-compared : goal.overflow_add-compared
 overflow_add-compared g c =
     let n = c.loop-done.at.now in
     let m = c.deref.result.now in
-    let key = c.args.key.now in
+    let key = c.args.list.now in
     let a = c.in-Some.agreement in
     let placed = c.loop-done.invariant.placed in
     let lt : c.loop-done.done < length key = omega arith in
@@ -51,16 +51,16 @@ overflow_add-compared g c =
 pub returns-then-agreement-len-clause-found : goal.returns-then-agreement-len-clause-found
 returns-then-agreement-len-clause-found g c =
     let n = c.loop-done.at.now in
-    let lt : c.loop-done.done < length c.args.key.now = omega arith in
-    c.loop-done.invariant.leads None (stuck_absent n c.args.key.now c.loop-done.done lt
-    (met_off n c.args.key.now c.loop-done.done c.loop-done.invariant.placed c.deref.result.now c.in-Some.i c.in-Some.agreement lt c.in-Some.ensures c.index-child.result.now (sym c.index-child.ensures) c.deref.ensures
+    let lt : c.loop-done.done < length c.args.list.now = omega arith in
+    c.loop-done.invariant.leads None (stuck_absent n c.args.list.now c.loop-done.done lt
+    (met_off n c.args.list.now c.loop-done.done c.loop-done.invariant.placed c.deref.result.now c.in-Some.i c.in-Some.agreement lt c.in-Some.ensures c.index-child.result.now (sym c.index-child.ensures) c.deref.ensures
     (λ z. c.if-agreement-len.true (z ∙ sym c.len-in-loop-done.ensures))))
 
 pub returns-then-agreement-len-clause-count : goal.returns-then-agreement-len-clause-count
 returns-then-agreement-len-clause-count g c =
     let n = c.loop-done.at.now in
-    let lt : c.loop-done.done < length c.args.key.now = omega arith in
-    let stop = count_stop n c.args.key.now c.loop-done.done c.loop-done.invariant.placed c.deref.result.now c.in-Some.i c.in-Some.agreement lt c.in-Some.ensures c.index-child.result.now (sym c.index-child.ensures) c.deref.ensures
+    let lt : c.loop-done.done < length c.args.list.now = omega arith in
+    let stop = count_stop n c.args.list.now c.loop-done.done c.loop-done.invariant.placed c.deref.result.now c.in-Some.i c.in-Some.agreement lt c.in-Some.ensures c.index-child.result.now (sym c.index-child.ensures) c.deref.ensures
     (λ z. c.if-agreement-len.true (z ∙ sym c.len-in-loop-done.ensures)) in
     omega (arith, stop, c.loop-done.invariant.count)
 
@@ -68,7 +68,7 @@ pub loop-done-smaller : goal.loop-done-smaller
 loop-done-smaller g c =
     let n = c.loop-done.at.now in
     let m = c.deref-at.result.now in
-    let key = c.args.key.now in
+    let key = c.args.list.now in
     let a = c.in-Some.agreement in
     let placed = c.loop-done.invariant.placed in
     let lt : c.loop-done.done < length key = omega arith in
@@ -81,7 +81,7 @@ pub loop-done-preserved : goal.loop-done-preserved
 loop-done-preserved g c =
     let n = c.loop-done.at.now in
     let m = c.deref-at.result.now in
-    let key = c.args.key.now in
+    let key = c.args.list.now in
     let a = c.in-Some.agreement in
     let placed = c.loop-done.invariant.placed in
     let lt : c.loop-done.done < length key = omega arith in
@@ -101,9 +101,9 @@ loop-done-preserved g c =
 
 pub returns-clause-found : goal.returns-clause-found
 returns-clause-found g c =
-    c.loop-done.invariant.leads (Some c.loop-done.at) (node_here c.loop-done.at.now c.args.key.now c.loop-done.done (omega (arith, c.loop-done.invariant.inside)))
+    c.loop-done.invariant.leads (Some c.loop-done.at) (node_here c.loop-done.at.now c.args.list.now c.loop-done.done (omega (arith, c.loop-done.invariant.inside)))
 
 pub returns-clause-count : goal.returns-clause-count
 returns-clause-count g c =
-    let end = count_end c.loop-done.at.now c.args.key.now c.loop-done.done c.loop-done.invariant.placed (omega (arith, c.loop-done.invariant.inside)) in
+    let end = count_end c.loop-done.at.now c.args.list.now c.loop-done.done c.loop-done.invariant.placed (omega (arith, c.loop-done.invariant.inside)) in
     omega (arith, end, c.loop-done.invariant.count)

@@ -8,13 +8,13 @@ use Rattle.radix_nodes.proofs.traversal.find.search.Given as goal
 
 abbrev pub invariant-loop-done : goal.invariant-loop-done
 invariant-loop-done g l = record {
-  inside : l.done ≤ length l.key;
+  inside : l.done ≤ length l.list;
   placed : IsTreePlaced (tree_of l.at);
   leads : (r : Option (Bor (TrieNode g.row.K.Denot g.row.V.Denot)))
-      → FindsNode r l.at l.key l.done → FindsNode r l.node l.key l.depth;
-  count : l.compared + walked (plain (tree_of l.at).children) (drop l.done l.key)
-      ≡ walked (plain (tree_of l.node).children) (drop l.depth l.key);
+      → FindsNode r l.at l.list l.done → FindsNode r l.node l.list l.depth;
+  count : l.compared + walked (plain (tree_of l.at).children) (drop l.done l.list)
+      ≡ walked (plain (tree_of l.node).children) (drop l.depth l.list);
 }
 
 abbrev pub decreases-loop-done : goal.decreases-loop-done
-decreases-loop-done g l = length l.key - l.done
+decreases-loop-done g l = length l.list - l.done

@@ -6,10 +6,10 @@ use Rattle.radix_nodes.proofs.EditLemmas.Insertion.{leaf_step, gap_is_within, ga
 use Rattle.radix_nodes.proofs.traversal.insert.add_leaf.Goals as goal
 
 pub returns-in_default : goal.returns-in_default
-returns-in_default g c = (refl, tree_of-same_children c.args.node.now c.reserve.new.self c.in_default.ensures.items, gap_free c.args.node.now c.args.key.now c.args.depth c.args.i c.requires.placed c.requires.depth c.requires.gap)
+returns-in_default g c = (refl, tree_of-same_children c.args.node.now c.reserve.new.self c.in_default.ensures.items, gap_free c.args.node.now c.args.list.now c.args.depth c.args.i c.requires.placed c.requires.depth c.requires.gap)
 
 pub returns-in-Err : goal.returns-in-Err
-returns-in-Err g c = (c.in-Err.ensures.back, tree_of-same_children c.args.node.now c.reserve.new.self c.in-Ok.ensures.items, gap_free c.args.node.now c.args.key.now c.args.depth c.args.i c.requires.placed c.requires.depth c.requires.gap)
+returns-in-Err g c = (c.in-Err.ensures.back, tree_of-same_children c.args.node.now c.reserve.new.self c.in-Ok.ensures.items, gap_free c.args.node.now c.args.list.now c.args.depth c.args.i c.requires.placed c.requires.depth c.requires.gap)
 
 pub link-requires-clause-within : goal.link-requires-clause-within
 link-requires-clause-within g c =
@@ -22,5 +22,5 @@ link-requires-clause-within g c =
 pub returns : goal.returns
 returns g c =
     let n = c.args.node.now in
-    leaf_step (tree_of n) (tree_of c.link.new.node) _ _ (fragment_of n) c.args.key.now c.args.pair c.args.depth c.args.i c.get.result _ (sym (fragment-tree_of n)) c.requires.depth c.get.ensures.value c.get.ensures.nibble
+    leaf_step (tree_of n) (tree_of c.link.new.node) _ _ (fragment_of n) c.args.list.now c.args.pair c.args.depth c.args.i c.get.result _ (sym (fragment-tree_of n)) c.requires.depth c.get.ensures.value c.get.ensures.nibble
     c.requires.placed c.requires.gap c.in-Ok-make_leaf.ensures.made (tree_of-same_children n c.reserve.new.self c.in-Ok.ensures.items) c.link.ensures (ap (λ l. l - c.args.depth) c.len.ensures)

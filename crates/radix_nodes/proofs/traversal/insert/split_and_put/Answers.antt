@@ -12,7 +12,7 @@ pub returns-in-Ok-new : goal.returns-in-Ok-new
 returns-in-Ok-new g c =
     let s = c.args.slot.now.value in
     let n = c.args.n in
-    let key = c.args.key.now in
+    let key = c.args.list.now in
     let m = c.deref_mut.result.now in
     here_step (tree_of s) _ (fragment_of s) (fragment_of c.in-Ok.upper.value) c.in-Ok.tail (drop c.args.depth key) n c.args.pair
     (sym (fragment-tree_of s))
@@ -28,7 +28,7 @@ pub returns-in-Ok-make_leaf : goal.returns-in-Ok-make_leaf
 returns-in-Ok-make_leaf g c =
     let s = c.args.slot.now.value in
     let n = c.args.n in
-    let key = c.args.key.now in
+    let key = c.args.list.now in
     let m = c.deref_mut-else-depth-len.result.now in
     let y = c.get-nibble.result in
     let i = c.beside-i.result in
@@ -48,10 +48,10 @@ returns-in-Ok-make_leaf g c =
     (ap (λ l. l - c.args.depth) c.len-else-depth-len.ensures)
 
 pub returns-in_default : goal.returns-in_default
-returns-in_default g c = (refl, refl, parted_free c.args.slot.now.value c.args.key.now c.args.depth c.args.n c.requires.within c.requires.apart)
+returns-in_default g c = (refl, refl, parted_free c.args.slot.now.value c.args.list.now c.args.depth c.args.n c.requires.within c.requires.apart)
 
 pub returns-in-Err : goal.returns-in-Err
-returns-in-Err g c = (c.in-Err.ensures.value_returned, refl, parted_free c.args.slot.now.value c.args.key.now c.args.depth c.args.n c.requires.within c.requires.apart)
+returns-in-Err g c = (c.in-Err.ensures.value_returned, refl, parted_free c.args.slot.now.value c.args.list.now c.args.depth c.args.n c.requires.within c.requires.apart)
 
 pub returns-in-Err-make_leaf : goal.returns-in-Err-make_leaf
-returns-in-Err-make_leaf g c = (c.in-Err-make_leaf.ensures.back, refl, parted_free c.args.slot.now.value c.args.key.now c.args.depth c.args.n c.requires.within c.requires.apart)
+returns-in-Err-make_leaf g c = (c.in-Err-make_leaf.ensures.back, refl, parted_free c.args.slot.now.value c.args.list.now c.args.depth c.args.n c.requires.within c.requires.apart)

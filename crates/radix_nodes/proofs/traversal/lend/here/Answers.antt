@@ -8,7 +8,7 @@ use Rattle.radix_nodes.proofs.traversal.lend.here.Goals as goal
 pub returns-then-depth-len : goal.returns-then-depth-len
 returns-then-depth-len g c =
     let n = c.args.top.now.value in
-    let key = c.args.key.now in (
+    let key = c.args.list.now in (
       (
         refl,
         (λ w. subst (λ z. Succeeds (fragment_of n ++ drop c.args.depth key) (tree_of z) (tree_of w) (tree_of n) (tree_of w)) (sym c.unbox.ensures.value) (own_replaced n w key c.args.depth (c.if-depth-len.true ∙ c.len.ensures) c.requires.placed)),
@@ -19,4 +19,4 @@ returns-then-depth-len g c =
 
 pub returns-else-depth-len : goal.returns-else-depth-len
 returns-else-depth-len g c =
-    ((refl, (λ w. tt), (refl, stuck_absent c.args.top.now.value c.args.key.now c.args.depth (omega (arith, c.requires.depth, c.if-depth-len.false, c.len.ensures)) c.requires.stuck)), record { writes_back = tt })
+    ((refl, (λ w. tt), (refl, stuck_absent c.args.top.now.value c.args.list.now c.args.depth (omega (arith, c.requires.depth, c.if-depth-len.false, c.len.ensures)) c.requires.stuck)), record { writes_back = tt })

@@ -15,7 +15,7 @@ use Rattle.radix_nodes.proofs.traversal.lend.value_at_mut.Goals as goal
 pub returns-then-len-eq0 : goal.returns-then-len-eq0
 returns-then-len-eq0 g c =
     let n = c.args.root.now in
-    let key = c.args.key.now in
+    let key = c.args.list.now in
     let path = fragment_of n ++ key in
     let ends : 0 ≡ length key = sym c.if-len-eq0.true ∙ c.len.ensures in
     let puts : (w : TrieNode g.row.K.Denot g.row.V.Denot) → Succeeds path (tree_of n) (tree_of w) (tree_of n) (tree_of w) = λ w. own_replaced n w key 0 ends c.requires in (
@@ -36,7 +36,7 @@ node_below_mut-requires-clause-placed g c =
 pub returns-in-Some-node_below_mut : goal.returns-in-Some-node_below_mut
 returns-in-Some-node_below_mut g c =
     let n = c.args.root.now in
-    let key = c.args.key.now in
+    let key = c.args.list.now in
     let path = fragment_of n ++ key in
     let b = c.child_box.result.now in
     let i = c.in-Some.i in
@@ -58,7 +58,7 @@ returns-in-Some-node_below_mut g c =
 pub returns-in-None-node_below_mut : goal.returns-in-None-node_below_mut
 returns-in-None-node_below_mut g c =
     let n = c.args.root.now in
-    let key = c.args.key.now in
+    let key = c.args.list.now in
     let path = fragment_of n ++ key in
     let like = same_tree_is_kept (tree_of n) (tree_of n) refl in
     let kept = kept_through_child n c.in-Some.i c.child_box.result.now key 0 c.in-Some.next c.requires c.in-Some.ensures (sym c.child_box.ensures.value) c.node_below_mut.result c.node_below_mut.follows.lender-at-none c.node_below_mut.follows.holds-at-none in
@@ -69,4 +69,4 @@ pub returns-in-None : goal.returns-in-None
 returns-in-None g c =
     let n = c.args.root.now in
     let like = same_tree_is_kept (tree_of n) (tree_of n) refl in
-    ((refl, (λ w. (tt, like.like)), (like, stuck_lacks n c.args.key.now 0 0 c.requires (omega (arith, c.if-len-eq0.false, c.len.ensures)) c.in-None.ensures)), record { writes_back = tt })
+    ((refl, (λ w. (tt, like.like)), (like, stuck_lacks n c.args.list.now 0 0 c.requires (omega (arith, c.if-len-eq0.false, c.len.ensures)) c.in-None.ensures)), record { writes_back = tt })

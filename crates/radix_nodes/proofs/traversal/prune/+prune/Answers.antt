@@ -21,7 +21,7 @@ prune-requires g t c =
     let some : fragment_of c.deref_mut.result.now ≢ [] = subst (λ m. fragment_of m ≢ []) (sym c.deref_mut.ensures.value) child.0 in
     let small : IsSmall (tree_of c.deref_mut.result.now) = subst (λ m. IsSmall (tree_of m)) (sym c.deref_mut.ensures.value)
     (child_is_small (tree_of n) (tree_of b.value) c.in-Some.i (box_is_child n c.in-Some.i b c.requires.placed lt is) c.requires.small) in
-    let on = key_goes_on n c.deref.result.now c.args.key.now c.args.depth c.requires.placed c.in-Some.i c.in-Some.agreement c.requires.depth c.in-Some.ensures c.index.result.now (sym c.index.ensures) c.deref.ensures
+    let on = key_goes_on n c.deref.result.now c.args.list.now c.args.depth c.requires.placed c.in-Some.i c.in-Some.agreement c.requires.depth c.in-Some.ensures c.index.result.now (sym c.index.ensures) c.deref.ensures
     (c.if-agreement-len.true ∙ c.len-else-next-len.ensures) (λ z. c.if-next-len.false (z ∙ sym c.len.ensures)) in
     λ κs l. (omega (arith, c.decreases, on.0, on.1), (l.0, (l.1, (on.1, (placed, (some, small))))))
 
@@ -32,7 +32,7 @@ returns-in-Ok g t c =
     let lt : c.in-Some.i < length (out-TrieNode g.row.K.Denot g.row.V.Denot n).children.items = omega (arith, c.in-Some.ensures.within, o) in
     let item = item_at (out-TrieNode g.row.K.Denot g.row.V.Denot n).children.items c.in-Some.i lt in
     let at = box_is_child n c.in-Some.i item.0 c.requires.placed lt item.1 in
-    let branch = branch_child n item.0.value c.args.key.now c.args.depth c.requires.placed c.in-Some.i c.in-Some.agreement c.requires.depth c.in-Some.ensures item.0 item.1 refl (c.if-next-len.true ∙ c.len.ensures) in
+    let branch = branch_child n item.0.value c.args.list.now c.args.depth c.requires.placed c.in-Some.i c.in-Some.agreement c.requires.depth c.in-Some.ensures item.0 item.1 refl (c.if-next-len.true ∙ c.len.ensures) in
     (tree_of item.0.value, (tree_of n).fragment, branch, c.in-Ok.ensures.cut (tree_of item.0.value) at, c.in-Ok.ensures.pairs (tree_of item.0.value) at)
 
 pub returns-in-Err : goal.returns-in-Err
@@ -41,9 +41,9 @@ returns-in-Err g t c =
     let o = (out-TrieNode g.row.K.Denot g.row.V.Denot n).children.ok.0 in
     let lt : c.in-Some.i < length (out-TrieNode g.row.K.Denot g.row.V.Denot n).children.items = omega (arith, c.in-Some.ensures.within, o) in
     let item = item_at (out-TrieNode g.row.K.Denot g.row.V.Denot n).children.items c.in-Some.i lt in
-    let branch = branch_child n item.0.value c.args.key.now c.args.depth c.requires.placed c.in-Some.i c.in-Some.agreement c.requires.depth c.in-Some.ensures item.0 item.1 refl (c.if-next-len.true ∙ c.len.ensures) in
+    let branch = branch_child n item.0.value c.args.list.now c.args.depth c.requires.placed c.in-Some.i c.in-Some.agreement c.requires.depth c.in-Some.ensures item.0 item.1 refl (c.if-next-len.true ∙ c.len.ensures) in
     let rest = drop branch.covered (tree_of item.0.value).fragment in
-    (c.in-Err.ensures.unchanged, (fragment_of n ++ drop c.args.depth c.args.key.now) ++ rest, (tree_of item.0.value, branch.nearest.node), (rest, refl))
+    (c.in-Err.ensures.unchanged, (fragment_of n ++ drop c.args.depth c.args.list.now) ++ rest, (tree_of item.0.value, branch.nearest.node), (rest, refl))
 
 pub returns-then-agreement-len : goal.returns-then-agreement-len
 returns-then-agreement-len g t c =
@@ -55,16 +55,16 @@ returns-then-agreement-len g t c =
     let is = sym c.index_mut.ensures.value in
     let same : c.deref.result.now ≡ b.value = c.deref.ensures ∙ ap (λ k. k.value) (item_is_unique items c.in-Some.i c.index.result.now b lt (sym c.index.ensures) is) in
     let next = c.args.depth + c.in-Some.agreement.same in
-    let below = subst (λ m. PruneOutcome c.prune.result (fragment_of m ++ drop next c.args.key.now) (tree_of m) (tree_of c.prune.new.node)) c.deref_mut.ensures.value c.prune.ensures in
-    prune_through_child n b.value c.args.key.now c.args.depth c.requires.placed c.in-Some.i c.in-Some.agreement c.requires.depth c.in-Some.ensures b is refl _
+    let below = subst (λ m. PruneOutcome c.prune.result (fragment_of m ++ drop next c.args.list.now) (tree_of m) (tree_of c.prune.new.node)) c.deref_mut.ensures.value c.prune.ensures in
+    prune_through_child n b.value c.args.list.now c.args.depth c.requires.placed c.in-Some.i c.in-Some.agreement c.requires.depth c.in-Some.ensures b is refl _
     (c.if-agreement-len.true ∙ c.len-else-next-len.ensures ∙ ap (λ m. length (fragment_of m)) same) c.prune.result below
 
 pub returns-else-agreement-len : goal.returns-else-agreement-len
 returns-else-agreement-len g t c = (
   refl,
-  nearest_parted c.args.node.now c.args.key.now c.args.depth c.requires.placed c.deref.result.now c.in-Some.i c.in-Some.agreement c.requires.depth c.in-Some.ensures c.index.result.now (sym c.index.ensures)
+  nearest_parted c.args.node.now c.args.list.now c.args.depth c.requires.placed c.deref.result.now c.in-Some.i c.in-Some.agreement c.requires.depth c.in-Some.ensures c.index.result.now (sym c.index.ensures)
       c.deref.ensures (λ z. c.if-agreement-len.false (z ∙ sym c.len-else-next-len.ensures)) (λ z. c.if-next-len.false (z ∙ sym c.len.ensures)),
 )
 
 pub returns-in-None : goal.returns-in-None
-returns-in-None g t c = (refl, nearest_none c.args.node.now c.args.key.now c.args.depth c.requires.placed c.requires.depth c.in-None.ensures)
+returns-in-None g t c = (refl, nearest_none c.args.node.now c.args.list.now c.args.depth c.requires.placed c.requires.depth c.in-None.ensures)

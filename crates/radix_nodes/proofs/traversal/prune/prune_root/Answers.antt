@@ -11,7 +11,7 @@ use Rattle.radix_nodes.proofs.traversal.prune.prune_root.Goals as goal
 
 pub prune-requires-clause-depth : goal.prune-requires-clause-depth
 prune-requires-clause-depth g c =
-    let on = key_goes_on c.args.root.now c.deref.result.now c.args.key.now 0 c.requires.placed c.in-Some.i c.in-Some.agreement c.requires.some c.in-Some.ensures c.index.result.now (sym c.index.ensures) c.deref.ensures
+    let on = key_goes_on c.args.root.now c.deref.result.now c.args.list.now 0 c.requires.placed c.in-Some.i c.in-Some.agreement c.requires.some c.in-Some.ensures c.index.result.now (sym c.index.ensures) c.deref.ensures
     (c.if-agreement-len-2.true ∙ c.len-else-agreement-len.ensures) (λ z. c.if-agreement-len.false (omega (arith, z, c.len.ensures))) in
     omega (arith, on.1)
 
@@ -44,7 +44,7 @@ returns-in-Ok g c =
     let lt : c.in-Some.i < length (out-TrieNode g.row.K.Denot g.row.V.Denot n).children.items = omega (arith, c.in-Some.ensures.within, o) in
     let item = item_at (out-TrieNode g.row.K.Denot g.row.V.Denot n).children.items c.in-Some.i lt in
     let at = box_is_child n c.in-Some.i item.0 c.requires.placed lt item.1 in
-    let branch = branch_child n item.0.value c.args.key.now 0 c.requires.placed c.in-Some.i c.in-Some.agreement c.requires.some c.in-Some.ensures item.0 item.1 refl (omega (arith, c.if-agreement-len.true, c.len.ensures)) in
+    let branch = branch_child n item.0.value c.args.list.now 0 c.requires.placed c.in-Some.i c.in-Some.agreement c.requires.some c.in-Some.ensures item.0 item.1 refl (omega (arith, c.if-agreement-len.true, c.len.ensures)) in
     (tree_of item.0.value, (tree_of n).fragment, branch, c.in-Ok.ensures.cut (tree_of item.0.value) at, c.in-Ok.ensures.pairs (tree_of item.0.value) at)
 
 pub returns-in-Err : goal.returns-in-Err
@@ -53,15 +53,15 @@ returns-in-Err g c =
     let o = (out-TrieNode g.row.K.Denot g.row.V.Denot n).children.ok.0 in
     let lt : c.in-Some.i < length (out-TrieNode g.row.K.Denot g.row.V.Denot n).children.items = omega (arith, c.in-Some.ensures.within, o) in
     let item = item_at (out-TrieNode g.row.K.Denot g.row.V.Denot n).children.items c.in-Some.i lt in
-    let branch = branch_child n item.0.value c.args.key.now 0 c.requires.placed c.in-Some.i c.in-Some.agreement c.requires.some c.in-Some.ensures item.0 item.1 refl (omega (arith, c.if-agreement-len.true, c.len.ensures)) in
+    let branch = branch_child n item.0.value c.args.list.now 0 c.requires.placed c.in-Some.i c.in-Some.agreement c.requires.some c.in-Some.ensures item.0 item.1 refl (omega (arith, c.if-agreement-len.true, c.len.ensures)) in
     let rest = drop branch.covered (tree_of item.0.value).fragment in
-    (c.in-Err.ensures.unchanged, (fragment_of n ++ c.args.key.now) ++ rest, (tree_of item.0.value, branch.nearest.node), (rest, refl))
+    (c.in-Err.ensures.unchanged, (fragment_of n ++ c.args.list.now) ++ rest, (tree_of item.0.value, branch.nearest.node), (rest, refl))
 
 pub returns-then-agreement-len-2 : goal.returns-then-agreement-len-2
 returns-then-agreement-len-2 g c =
     let n = c.args.root.now in
     let b = c.index_mut.result.now in
-    let key = c.args.key.now in
+    let key = c.args.list.now in
     let items = (out-TrieNode g.row.K.Denot g.row.V.Denot n).children.items in
     let o = (out-TrieNode g.row.K.Denot g.row.V.Denot n).children.ok.0 in
     let lt : c.in-Some.i < length items = omega (arith, c.in-Some.ensures.within, o) in
@@ -76,9 +76,9 @@ returns-then-agreement-len-2 g c =
 pub returns-else-agreement-len-2 : goal.returns-else-agreement-len-2
 returns-else-agreement-len-2 g c = (
   refl,
-  nearest_parted c.args.root.now c.args.key.now 0 c.requires.placed c.deref.result.now c.in-Some.i c.in-Some.agreement c.requires.some c.in-Some.ensures c.index.result.now (sym c.index.ensures)
+  nearest_parted c.args.root.now c.args.list.now 0 c.requires.placed c.deref.result.now c.in-Some.i c.in-Some.agreement c.requires.some c.in-Some.ensures c.index.result.now (sym c.index.ensures)
       c.deref.ensures (λ z. c.if-agreement-len-2.false (z ∙ sym c.len-else-agreement-len.ensures)) (λ z. c.if-agreement-len.false (omega (arith, z, c.len.ensures))),
 )
 
 pub returns-in-None : goal.returns-in-None
-returns-in-None g c = (refl, nearest_none c.args.root.now c.args.key.now 0 c.requires.placed c.requires.some c.in-None.ensures)
+returns-in-None g c = (refl, nearest_none c.args.root.now c.args.list.now 0 c.requires.placed c.requires.some c.in-None.ensures)

@@ -21,12 +21,12 @@ loop-i-preserved g c =
     let placed = c.loop-i.invariant.placed in
     record {
       inside = s.inside;
-      placed = down_placed n m c.args.key.now c.loop-i.done c.in-Some.i c.in-Some.next placed s c.index.result.now is c.deref-at.ensures;
+      placed = down_placed n m c.args.list.now c.loop-i.done c.in-Some.i c.in-Some.next placed s c.index.result.now is c.deref-at.ensures;
       leads = λ r h. c.loop-i.invariant.leads r
-          (deepest_through_child n m c.args.key.now c.loop-i.done c.in-Some.i c.in-Some.next placed s c.index.result.now is c.deref-at.ensures (tree_of r.0.now) r.1 h);
+          (deepest_through_child n m c.args.list.now c.loop-i.done c.in-Some.i c.in-Some.next placed s c.index.result.now is c.deref-at.ensures (tree_of r.0.now) r.1 h);
     }
 
 pub returns : goal.returns
 returns g c =
     c.loop-i.invariant.leads (c.loop-i.at, c.loop-i.done)
-    (deepest_here c.loop-i.at.now c.args.key.now c.loop-i.done c.loop-i.invariant.inside c.in_default.ensures)
+    (deepest_here c.loop-i.at.now c.args.list.now c.loop-i.done c.loop-i.invariant.inside c.in_default.ensures)

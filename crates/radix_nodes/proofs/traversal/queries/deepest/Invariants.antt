@@ -7,8 +7,8 @@ use Rattle.radix_nodes.proofs.traversal.queries.deepest.Given as goal
 
 abbrev pub invariant-loop-i : goal.invariant-loop-i
 invariant-loop-i g l = record {
-  inside : l.done ≤ length l.key;
+  inside : l.done ≤ length l.list;
   placed : IsTreePlaced (tree_of l.at);
   leads : (r : Bor (TrieNode g.row.K.Denot g.row.V.Denot) × ℕ)
-      → FindsDeepest r l.at l.key l.done → FindsDeepest r l.node l.key l.depth;
+      → FindsDeepest r l.at l.list l.done → FindsDeepest r l.node l.list l.depth;
 }

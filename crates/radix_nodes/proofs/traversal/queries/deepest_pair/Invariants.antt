@@ -3,13 +3,13 @@ use Rattle.masked_tree.specs.Tree.{IsTreePlaced}
 use Rattle.radix_nodes.specs.declared.trie_node.TrieNode.{TrieNode}
 use Rattle.radix_nodes.specs.Nodes.{tree_of}
 use Rattle.radix_nodes.specs.Searches.{FindsDeepestPair}
-use Rattle.radix_nodes.proofs.SearchLemmas.Deepest.{first_some}
+use Rattle.std.specs.Option.{option_or}
 use Rattle.radix_nodes.proofs.traversal.queries.deepest_pair.Given as goal
 
 abbrev pub invariant-loop-best : goal.invariant-loop-best
 invariant-loop-best g l = record {
-  inside : l.done ≤ length l.key;
+  inside : l.done ≤ length l.list;
   placed : IsTreePlaced (tree_of l.at);
   leads : (r : Option (Bor (TrieNode g.row.K.Denot g.row.V.Denot) × ℕ))
-      → FindsDeepestPair r l.at l.key l.done → FindsDeepestPair (first_some r l.best) l.node l.key l.depth;
+      → FindsDeepestPair r l.at l.list l.done → FindsDeepestPair (option_or r l.best) l.node l.list l.depth;
 }

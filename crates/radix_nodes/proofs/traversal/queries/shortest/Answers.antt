@@ -13,25 +13,25 @@ meet-requires-clause-placed g c = c.loop-done.invariant.placed
 
 pub returns-in_default : goal.returns-in_default
 returns-in_default g c =
-    c.loop-done.invariant.leads None (nearest_none c.loop-done.at.now c.args.key.now c.loop-done.done c.loop-done.invariant.placed (omega arith) c.in_default.ensures)
+    c.loop-done.invariant.leads None (nearest_none c.loop-done.at.now c.args.list.now c.loop-done.done c.loop-done.invariant.placed (omega arith) c.in_default.ensures)
 
 pub returns-then-done-agreement : goal.returns-then-done-agreement
 returns-then-done-agreement g c =
     c.loop-done.invariant.leads None
-    (nearest_parted c.loop-done.at.now c.args.key.now c.loop-done.done c.loop-done.invariant.placed c.deref.result.now c.in-Some.i c.in-Some.agreement (omega arith) c.in-Some.ensures
+    (nearest_parted c.loop-done.at.now c.args.list.now c.loop-done.done c.loop-done.invariant.placed c.deref.result.now c.in-Some.i c.in-Some.agreement (omega arith) c.in-Some.ensures
     c.index-child.result.now (sym c.index-child.ensures) c.deref.ensures (λ z. c.if-agreement-len.true (z ∙ sym c.len-in-loop-done.ensures)) (λ z. c.if-done-agreement.true (z ∙ sym c.len-then-agreement-len.ensures)))
 
 pub returns-then-agreement-len : goal.returns-then-agreement-len
 returns-then-agreement-len g c =
     c.loop-done.invariant.leads (Some (c.deref-then-agreement-len.result, c.in-Some.agreement.same))
-    (nearest_inside c.loop-done.at.now c.args.key.now c.loop-done.done c.loop-done.invariant.placed c.deref-then-agreement-len.result.now c.in-Some.i c.in-Some.agreement (omega arith) c.in-Some.ensures
+    (nearest_inside c.loop-done.at.now c.args.list.now c.loop-done.done c.loop-done.invariant.placed c.deref-then-agreement-len.result.now c.in-Some.i c.in-Some.agreement (omega arith) c.in-Some.ensures
     c.index-child.result.now (sym c.index-child.ensures) c.deref-then-agreement-len.ensures (c.if-done-agreement.false ∙ c.len-then-agreement-len.ensures))
 
 pub loop-done-smaller : goal.loop-done-smaller
 loop-done-smaller g c =
     let n = c.loop-done.at.now in
     let m = c.deref-at.result.now in
-    let key = c.args.key.now in
+    let key = c.args.list.now in
     let a = c.in-Some.agreement in
     let placed = c.loop-done.invariant.placed in
     let lt : c.loop-done.done < length key = omega arith in
@@ -44,7 +44,7 @@ pub loop-done-preserved : goal.loop-done-preserved
 loop-done-preserved g c =
     let n = c.loop-done.at.now in
     let m = c.deref-at.result.now in
-    let key = c.args.key.now in
+    let key = c.args.list.now in
     let a = c.in-Some.agreement in
     let placed = c.loop-done.invariant.placed in
     let lt : c.loop-done.done < length key = omega arith in
@@ -63,4 +63,4 @@ loop-done-preserved g c =
 pub returns : goal.returns
 returns g c =
     c.loop-done.invariant.leads (Some (c.loop-done.at, c.len-2.result))
-    (nearest_here c.loop-done.at.now c.args.key.now c.loop-done.done _ (omega (arith, c.loop-done.invariant.inside)) c.len-2.ensures)
+    (nearest_here c.loop-done.at.now c.args.list.now c.loop-done.done _ (omega (arith, c.loop-done.invariant.inside)) c.len-2.ensures)

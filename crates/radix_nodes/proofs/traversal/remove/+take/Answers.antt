@@ -32,7 +32,7 @@ take-requires g t c =
     let child = boxed_child_is_placed n c.in-Some.i b c.requires.placed lt (sym c.index_mut.ensures.value) in
     let placed : IsTreePlaced (tree_of c.deref_mut.result.now) = subst (λ m. IsTreePlaced (tree_of m)) (sym c.deref_mut.ensures.value) child.1 in
     let some : fragment_of c.deref_mut.result.now ≢ [] = subst (λ m. fragment_of m ≢ []) (sym c.deref_mut.ensures.value) child.0 in
-    let inner : c.in-Some.next ≡ length c.args.key.now → 0 < vec_len (out c.deref_mut.result.now).children = λ e.
+    let inner : c.in-Some.next ≡ length c.args.list.now → 0 < vec_len (out c.deref_mut.result.now).children = λ e.
     elim c.else-next-len.branch [
       | else-next-len-via-then-next-len+else-is_end w ↦
           subst (λ m. 0 < vec_len (out m).children)
@@ -46,7 +46,7 @@ pub returns-then-is_end : goal.returns-then-is_end
 returns-then-is_end g t c =
     let n = c.args.node.now in
     let b = c.index.result.now in
-    let key = c.args.key.now in
+    let key = c.args.list.now in
     let o = (out-TrieNode g.row.K.Denot g.row.V.Denot n).children.ok.0 in
     let at = box_is_child n c.in-Some.i b c.requires.placed (omega (arith, c.in-Some.ensures.within, o)) (sym c.index.ensures) in
     let f = (tree_of b.value).fragment in
@@ -58,7 +58,7 @@ pub returns-else-next-len : goal.returns-else-next-len
 returns-else-next-len g t c =
     let n = c.args.node.now in
     let b = c.index_mut.result.now in
-    let key = c.args.key.now in
+    let key = c.args.list.now in
     let o = (out-TrieNode g.row.K.Denot g.row.V.Denot n).children.ok.0 in
     let lt : c.in-Some.i < length (out-TrieNode g.row.K.Denot g.row.V.Denot n).children.items = omega (arith, c.in-Some.ensures.within, o) in
     let is = sym c.index_mut.ensures.value in
@@ -72,4 +72,4 @@ returns-else-next-len g t c =
 
 pub returns-in-None : goal.returns-in-None
 returns-in-None g t c =
-    (refl, stuck_lacks c.args.node.now c.args.key.now c.args.depth 0 c.requires.placed (omega (arith, c.requires.depth, c.if-depth-len.false, c.len.ensures)) c.in-None.ensures)
+    (refl, stuck_lacks c.args.node.now c.args.list.now c.args.depth 0 c.requires.placed (omega (arith, c.requires.depth, c.if-depth-len.false, c.len.ensures)) c.in-None.ensures)

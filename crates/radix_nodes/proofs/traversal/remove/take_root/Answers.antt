@@ -17,7 +17,7 @@ pub returns-in-Some : goal.returns-in-Some
 returns-in-Some g c =
     let n = c.args.node.now in
     root_pair_cut n c.in-Some.pair _ _ c.in-Some.ensures.was c.requires (tree_of-unpaired n c.take_pair.new.at c.take_pair.ensures.none)
-    (ap (λ k. fragment_of n ++ k) (nil_from_length c.args.key.now (sym c.len.ensures ∙ c.if-len-eq0.true)) ∙ append-nil (fragment_of n))
+    (ap (λ k. fragment_of n ++ k) (nil_from_length c.args.list.now (sym c.len.ensures ∙ c.if-len-eq0.true)) ∙ append-nil (fragment_of n))
 
 pub take-requires-clause-placed : goal.take-requires-clause-placed
 take-requires-clause-placed g c =
@@ -37,7 +37,7 @@ pub returns-else-not-has_pair : goal.returns-else-not-has_pair
 returns-else-not-has_pair g c =
     let out = out-TrieNode g.row.K.Denot g.row.V.Denot in
     let n = c.args.node.now in
-    let key = c.args.key.now in
+    let key = c.args.list.now in
     let b = c.index.result.now in
     let i = c.in-Some-step.i in
     let o = (out n).children.ok.0 in
@@ -57,7 +57,7 @@ pub returns-else-next-len : goal.returns-else-next-len
 returns-else-next-len g c =
     let n = c.args.node.now in
     let b = c.index_mut.result.now in
-    let key = c.args.key.now in
+    let key = c.args.list.now in
     let o = (out-TrieNode g.row.K.Denot g.row.V.Denot n).children.ok.0 in
     let lt : c.in-Some-step.i < length (out-TrieNode g.row.K.Denot g.row.V.Denot n).children.items = omega (arith, c.in-Some-step.ensures.within, o) in
     let is = sym c.index_mut.ensures.value in
@@ -73,7 +73,7 @@ pub returns-in-None : goal.returns-in-None
 returns-in-None g c =
     let n = c.args.node.now in
     let bare = sym c.in-None.ensures.was in
-    let own : fragment_of n ++ c.args.key.now ≡ fragment_of n = ap (λ k. fragment_of n ++ k) (nil_from_length c.args.key.now (sym c.len.ensures ∙ c.if-len-eq0.true)) ∙ append-nil (fragment_of n) in
+    let own : fragment_of n ++ c.args.list.now ≡ fragment_of n = ap (λ k. fragment_of n ++ k) (nil_from_length c.args.list.now (sym c.len.ensures ∙ c.if-len-eq0.true)) ∙ append-nil (fragment_of n) in
     (tree_of-unpaired_again n c.take_pair.new.at c.take_pair.ensures.none bare, λ d. free_here n c.requires bare (subst (λ p. IsHeld (tree_of n) p) own d))
 
 pub returns-then-not-has_pair : goal.returns-then-not-has_pair
@@ -83,7 +83,7 @@ returns-then-not-has_pair g c =
     let i = c.in-Some-step.i in
     let is = sym c.index-then-is_end.ensures in
     let s = c.in-Some-step.ensures in
-    let key = c.args.key.now in
+    let key = c.args.list.now in
     let lt = step_within n key 0 i c.requires c.in-Some-step.next b s is in
     let end = fragment_of-step_to_end n key 0 i c.requires c.in-Some-step.next b s is (c.if-next-len.true ∙ c.len-in-Some-step.ensures) in
     let child = boxed_child_is_placed n i b c.requires lt is in
@@ -92,4 +92,4 @@ returns-then-not-has_pair g c =
 
 pub returns-in-None-step : goal.returns-in-None-step
 returns-in-None-step g c =
-    (refl, stuck_lacks c.args.node.now c.args.key.now 0 0 c.requires (omega (arith, c.if-len-eq0.false, c.len.ensures)) c.in-None-step.ensures)
+    (refl, stuck_lacks c.args.node.now c.args.list.now 0 0 c.requires (omega (arith, c.if-len-eq0.false, c.len.ensures)) c.in-None-step.ensures)

@@ -27,9 +27,9 @@ agreed-agreement-requires-clause-start g c =
 pub returns-in-Ok : goal.returns-in-Ok
 returns-in-Ok g c =
     let a = c.agreed-agreement.result in
-    child_is_met c.args.node.now c.args.key.now c.args.depth c.in-Ok.i c.requires.placed c.get.result c.index.result.now a c.get.ensures.value
+    child_is_met c.args.node.now c.args.list.now c.args.depth c.in-Ok.i c.requires.placed c.get.result c.index.result.now a c.get.ensures.value
     (place_by_mask c.args.node.now c.get.result (Ok c.in-Ok.i) c.requires.placed c.in-Ok.ensures) (sym c.index.ensures) c.agreed-agreement.ensures.fits
-    (subst (λ m. Agrees (fragment_of m) (drop c.args.depth c.args.key.now) a.same a.compared) c.deref.ensures c.agreed-agreement.ensures.agrees)
+    (subst (λ m. Agrees (fragment_of m) (drop c.args.depth c.args.list.now) a.same a.compared) c.deref.ensures c.agreed-agreement.ensures.agrees)
 
 pub returns-in-Err : goal.returns-in-Err
 returns-in-Err g c =

@@ -1,7 +1,7 @@
 use Rattle.std.proofs.Common.{◌≡◌, ℕ, List, ◌+◌, ◌<◌, ◌/◌, ◌%◌, arith, ap, length, get_or, ◌∙◌}
 use Rattle.radix_keys.proofs.NibbleLemmas.Packing.{length-unpacked_bytes, get_or-unpacked_even, get_or-unpacked_odd}
 use Rattle.radix_keys.specs.Packing.{unpacked}
-use Rattle.radix_keys.proofs.nibbles.NibbleVec.two.Goals as goal
+use Rattle.radix_keys.proofs.nibbles.NibbleVec.byte_from.Goals as goal
 
 pub bounds-bytes-i : goal.bounds-bytes-i
 bounds-bytes-i c =

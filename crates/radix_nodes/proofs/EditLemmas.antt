@@ -7,3 +7,4 @@ pub mod Merging
 pub mod Placed
 pub mod Branches
 pub mod Drains
+pub mod Settling

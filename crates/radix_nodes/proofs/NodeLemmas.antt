@@ -5,3 +5,5 @@ pub mod Pairs
 pub mod Sizes
 pub mod Counts
 pub mod FewChildren
+pub mod Dropping
+pub mod Options

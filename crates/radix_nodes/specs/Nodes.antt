@@ -1,5 +1,5 @@
 -- What a node stands for.
-use Rattle.std.specs.Prelude.{◌≡◌, ℕ, ◌+◌, ◌≤◌, ◌<◌, ◌^◌, vec_len, length, take, drop, ◌-◌, slice_index, ◌++◌, List, [], map, Option, Some, None, Result, Ok, Err}
+use Rattle.std.specs.Prelude.{◌≡◌, ℕ, ◌+◌, ◌≤◌, ◌<◌, ◌^◌, vec_len, length, take, drop, ◌-◌, slice_index, ◌++◌, List, [], map, Option, Some, None, MatchOption, Result, Ok, Err}
 use Rattle.std.specs.Vec.{vec_capacity}
 use Rattle.std.specs.declared.boxed.Box.{Box}
 use Rattle.std.specs.declared.alloc.Global.{Global}
@@ -18,6 +18,11 @@ use Rattle.masked_tree.specs.Mask.{marked}
 use Rattle.radix_nodes.specs.declared.traversal.compare.Agreement.{Agreement}
 use Rattle.nibble_map.specs.Trees.{first}
 use Rattle.masked_tree.specs.Alters.{Replaces, Edits, Cuts, CutsRoot}
+
+-- what a call by reference answers by its result and by what it leaves in `out`
+abbrev pub answered : {A B E : Type 0} → Result A E → B → Result B E
+answered (Ok a) out = Ok out
+answered (Err e) out = Err e
 
 module _ {K : Type 0} {V : Type 0} where
   abbrev pub unboxed : Option (Box (KeyValue K V) Global) → Option (KeyValue K V)
@@ -72,6 +77,22 @@ module _ {K : Type 0} {V : Type 0} where
   SetOutcome (Ok put) x old new = (unboxed old ≡ put.was) × (unboxed new ≡ Some x) × (put.nodes ≡ 0)
       × (put.nibbles ≡ 0)
   SetOutcome (Err y) x old new = (y ≡ x) × (new ≡ old) × (unboxed old ≡ None)
+
+  -- what a call with a pair x by value answers, said by a call that is lent it in old.was: its
+  -- result and what it leaves there
+  abbrev pub Settles : {A E : Type 0} → Result A E → Change K V → Change K V
+      → (KeyValue K V → Result (Change K V) (KeyValue K V) → Type 0) → Type 0
+  Settles (Ok a) old new O = MatchOption old.was ⊥ (λ x. O x (Ok new))
+  Settles (Err e) old new O =
+      MatchOption old.was ⊥ (λ x. MatchOption new.was ⊥ (λ y. O x (Err y)))
+
+  -- the result and the change left say that answer
+  abbrev pub IsSettled : {A E : Type 0} → Result (Change K V) (KeyValue K V) → Result A E
+      → Change K V → Type 0
+  IsSettled (Ok change) (Ok a) new = new ≡ change
+  IsSettled (Ok change) (Err e) new = ⊥
+  IsSettled (Err y) (Ok a) new = ⊥
+  IsSettled (Err y) (Err e) new = new.was ≡ Some y
 
   -- what a removal of the pair at p answers, and does to a tree: None where p holds nothing; it is
   -- refused only where p holds a pair and a path at or below the tree's own has more than 32

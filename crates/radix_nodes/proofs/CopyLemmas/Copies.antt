@@ -10,7 +10,7 @@ use Rattle.radix_nodes.specs.declared.trie_node.KeyValue.{KeyValue}
 use Rattle.radix_nodes.specs.declared.trie_node.TrieNode.{TrieNode, roll-TrieNode}
 use Rattle.radix_nodes.specs.declared.trie_node.TrieNode.TheOpen.{TrieNode-F}
 use Rattle.radix_nodes.specs.Nodes.{tree_of, children_of, out_of, unboxed}
-use Rattle.radix_nodes.proofs.NodeLemmas.Nodes.{tree_of-out, tree_of-roll, children-tree_of, pair-tree_of}
+use Rattle.radix_nodes.proofs.NodeLemmas.Nodes.{tree_of-roll, children-tree_of, pair-tree_of, fragment-tree_of, mask-tree_of}
 
 module _ {K V : Type 0} (n : TrieNode K V) where
   -- a node without children or without a pair, as its fields say it
@@ -50,27 +50,31 @@ module _ {K L V : Type 0} (R : KeyValue K V → KeyValue L V → Type 0) where
   copies_append (more f o m children others) [] t y h c = absurd h
   copies_append (more f o m children others) (b ∷ ys) t y h c = (h.0, h.1, h.2, h.3, copies_append others ys t y h.4 c)
 
-  -- one more child is copied
-  -- once the child at i is copied and put behind the copies, the first i + 1 are copied
-  pub one_more_is_copied : (xs : Boxes K) (old new : Boxes L) (i : ℕ) (x : Box (TrieNode K V) Global) (y : Box (TrieNode L V) Global) (a : TrieNode K V) (b : TrieNode L V) → i < length xs → AreCopied (take i xs) old →
-      x ≡ get_or xs i x → a ≡ x.value → y.value ≡ b → IsCopy R (tree_of a) (tree_of b) → new ≡ old ++ y ∷ [] → AreCopied (take (i + 1) xs) new
-  one_more_is_copied xs old new i x y a b lt h ex ea ey c en =
-      let copy : IsCopy R (tree_of (get_or xs i x).value) (tree_of y.value) =
-      subst (λ z. IsCopy R (tree_of z) (tree_of y.value)) (ea ∙ ap (λ z. z.value) ex) (subst (λ z. IsCopy R (tree_of a) (tree_of z)) (sym ey) c) in
-      subst (AreCopied (take (i + 1) xs)) (sym en) (subst (λ k. AreChildCopies R k (children_of (old ++ y ∷ []))) (sym (ap children_of (take_more xs i x lt) ∙ children_of-append (take i xs) _)) (copies_append (children_of (take i xs)) old _ y h copy))
+  -- once a copy of the child at i is put behind the copies, the first i + 1 are copied
+  pub one_more_is_copied : (xs : Boxes K) (old new : Boxes L) (i : ℕ) (x : Box (TrieNode K V) Global) (a : TrieNode K V) → i < length xs → AreCopied (take i xs) old →
+      x ≡ get_or xs i x → a ≡ x.value →
+      ((k : Children (KeyValue K V)) → AreChildCopies R k (children_of old) → AreChildCopies R (append k (front (tree_of a) none)) (children_of new)) → AreCopied (take (i + 1) xs) new
+  one_more_is_copied xs old new i x a lt h ex ea pushed =
+      subst (λ k. AreChildCopies R k (children_of new)) (sym (ap children_of (take_more xs i x lt) ∙ children_of-append (take i xs) _))
+      (subst (λ z. AreChildCopies R (append (children_of (take i xs)) (front (tree_of z) none)) (children_of new)) (ea ∙ ap (λ z. z.value) ex) (pushed (children_of (take i xs)) h))
 
   -- an empty list of boxes has copies of the first 0 children
   pub none_copied : (xs : Boxes K) (new : Boxes L) → new ≡ [] → AreCopied (take 0 xs) new
   none_copied xs new e = subst (AreCopied (take 0 xs)) (sym e) tt
 
-  -- a node with the fragment, the mask, and copies of the pair and of all children is a copy
-  pub node_copied : (n : TrieNode K V) (x : TrieNode-F L V (TrieNode L V)) (i : ℕ) → x.fragment ≡ (out_of n).fragment → x.mask ≡ (out_of n).mask →
-      IsPairCopy R (unboxed (out_of n).pair) (unboxed x.pair) → length (out_of n).children.items ≤ i → AreCopied (take i (out_of n).children.items) x.children.items →
+  -- once each box has its copy, the children are copied
+  pub all_are_copied : (n : TrieNode K V) (ys : Boxes L) (i : ℕ) → length (out_of n).children.items ≤ i → AreCopied (take i (out_of n).children.items) ys → AreChildCopies R (tree_of n).children (children_of ys)
+  all_are_copied n ys i le h =
+      subst (λ k. AreChildCopies R k (children_of ys)) (sym (children-tree_of n)) (subst (λ zs. AreCopied zs ys) (take_all i (out_of n).children.items le) h)
+
+  -- a node with the fragment, the mask, and copies of the pair and of the children is a copy
+  pub node_copied : (n : TrieNode K V) (x : TrieNode-F L V (TrieNode L V)) → x.fragment ≡ (out_of n).fragment → x.mask ≡ (out_of n).mask →
+      IsPairCopy R (unboxed (out_of n).pair) (unboxed x.pair) → AreChildCopies R (tree_of n).children (children_of x.children.items) →
       IsCopy R (tree_of n) (tree_of (roll-TrieNode L V x))
-  node_copied n x i ef em ep le ec =
-      subst (λ t. IsCopy R t (tree_of (roll-TrieNode L V x))) (sym (tree_of-out n)) (subst (IsCopy R _) (sym (tree_of-roll x)) (record {
-        fragment = ef;
-        mask = em;
-        pair = ep;
-        children = subst (λ zs. AreCopied zs x.children.items) (take_all i (out_of n).children.items le) ec;
-      }))
+  node_copied n x ef em ep ec =
+      subst (IsCopy R (tree_of n)) (sym (tree_of-roll x)) (record {
+        fragment = ef ∙ sym (fragment-tree_of n);
+        mask = em ∙ sym (mask-tree_of n);
+        pair = subst (λ p. IsPairCopy R p (unboxed x.pair)) (sym (pair-tree_of n)) ep;
+        children = ec;
+      })

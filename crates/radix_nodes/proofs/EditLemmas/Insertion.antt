@@ -78,7 +78,6 @@ module _ {K V : Type 0} where
     λ d. own_unheld (tree_of n) h (pair-tree_of n ∙ s.2) (subst (λ p. IsHeld (tree_of n) p) (ap (λ r. (out-TrieNode K V n).fragment ++ r) end ∙ append-nil _ ∙ sym (fragment-tree_of n)) d),
   )
 
-  -- a leaf can't come: nothing is held there
   -- where no child begins with the key's next nibble, no pair stands at the key
   pub gap_free : (n : TrieNode K V) (key : List ℕ) (depth i : ℕ) → IsTreePlaced (tree_of n) → depth < length key → IsPlaceOf (slice_index key depth) (firsts (tree_of n).children) (Err i) →
       IsHeld (tree_of n) (fragment_of n ++ drop depth key) → ⊥

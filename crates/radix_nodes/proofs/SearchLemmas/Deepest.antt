@@ -23,11 +23,6 @@ use Rattle.radix_nodes.proofs.EditLemmas.KeyParts.{drop_some}
 use Rattle.radix_nodes.proofs.EditLemmas.Steps.{step_is_child, held_here, free_here}
 use Rattle.nibble_map.proofs.ListLemmas.Cut.{first-append}
 
--- what an option says by cases implies what follows in each of them
-pub match_implies : {A : Type 0} {P Q : A → Type 0} {X Y : Type 0} (r : Option A) → (X → Y) → ((a : A) → P a → Q a) → MatchOption r X P → MatchOption r Y Q
-match_implies None f g h = f h
-match_implies (Some a) f g h = g a h
-
 -- the path that ends at a node itself
 way_here : (f key : List ℕ) (depth : ℕ) → on_way f key depth depth ≡ f
 way_here f key depth = let z : depth - depth ≡ 0 = omega arith in ap (λ k. f ++ take k (drop depth key)) z ∙ append-nil f

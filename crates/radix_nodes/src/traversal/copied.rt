@@ -1,10 +1,12 @@
 //! A copy of a tree.
-ghost use Rattle.std.specs.Prelude.{◌≡◌, IfOk, IsOk, None};
-ghost use Rattle.masked_tree.specs.Tree.{none};
+ghost use Rattle.std.specs.Prelude.{◌≡◌, [], IfOk, OnOk, IsOk, None};
+ghost use Rattle.masked_tree.specs.Tree.{Children, front, none};
 ghost use Rattle.nibble_map.specs.Nibbles.{IsShort};
-ghost use Rattle.masked_tree.specs.Same.{IsPairCopy, IsCopy};
+ghost use Rattle.masked_tree.specs.Same.{AreChildCopies, IsPairCopy, IsCopy};
+ghost use Rattle.masked_tree.specs.Turned.{append};
 ghost use Rattle.radix_nodes.specs.Copies.{IsKeyValueCopy};
-ghost use Rattle.radix_nodes.specs.Nodes.{tree_of, fragment_of, unboxed};
+ghost use Rattle.radix_nodes.specs.Nodes.{tree_of, children_of, fragment_of, unboxed};
+ghost use Rattle.radix_nodes.specs.declared.trie_node.KeyValue.{KeyValue};
 
 use crate::trie_node::{KeyValue, TrieNode};
 use radix_keys::{Ascending, KeySigned, Memory};
@@ -55,6 +57,67 @@ pub(super) fn copied_pair<K, L: CopyOf<K>, V: Clone>(
     }
 }
 
+// A node with the fragment and the mask of another, a copy of its pair, and these copies of its children.
+fn copied_over<K, L: CopyOf<K>, V: Clone>(
+    node: &TrieNode<K, V>,
+    alloc: Global,
+    children: Vec<Box<TrieNode<L, V>>>,
+) -> Result<TrieNode<L, V>, Memory>
+    requires { AreChildCopies (IsKeyValueCopy L.is_copy V.is_clone) (tree_of node.now).children
+        (children_of children.items) }
+    ensures copy { IfOk result (λ copy. IsCopy (IsKeyValueCopy L.is_copy V.is_clone)
+        (tree_of node.now) (tree_of copy)) }
+    ensures light { (tree_of node.now).pair ≡ None → IsShort (fragment_of node.now)
+        → IsOk result }
+{
+    Ok(TrieNode {
+        fragment: node.fragment.clone()?,
+        pair: copied_pair(&node.pair, alloc)?,
+        mask: node.mask,
+        children,
+    })
+}
+
+// Adds that node behind other copies.
+#[inline(never)]
+fn push_copy<K, L: CopyOf<K>, V: Clone>(
+    node: &TrieNode<K, V>,
+    alloc: Global,
+    children: Vec<Box<TrieNode<L, V>>>,
+    copies: &mut Vec<Box<TrieNode<L, V>>>,
+) -> Result<(), Memory>
+    requires { AreChildCopies (IsKeyValueCopy L.is_copy V.is_clone) (tree_of node.now).children
+        (children_of children.items) }
+    ensures { OnOk result ((k : Children (KeyValue K V))
+        → AreChildCopies (IsKeyValueCopy L.is_copy V.is_clone) k (children_of copies.old.items)
+        → AreChildCopies (IsKeyValueCopy L.is_copy V.is_clone)
+        (append k (front (tree_of node.now) none)) (children_of copies.new.items)) }
+{
+    let copy = copied_over(node, alloc, children)?;
+    copies.push(Box::new(alloc, copy)?)?;
+    Ok(())
+}
+
+// Copies of a node's children and all below them. A level takes stack for a vector alone: what a node is made of stands out of line.
+fn copy_children<K, L: CopyOf<K>, V: Clone>(
+    node: &TrieNode<K, V>,
+    alloc: Global,
+    copies: &mut Vec<Box<TrieNode<L, V>>>,
+) -> Result<(), Memory>
+    requires { copies.old.items ≡ [] }
+    ensures copy { OnOk result (AreChildCopies (IsKeyValueCopy L.is_copy V.is_clone)
+        (tree_of node.now).children (children_of copies.new.items)) }
+    ensures light { (tree_of node.now).children ≡ none → IsOk result }
+{
+    for i in 0..node.children.len() {
+        let child = &node.children[i];
+        let mut below = Vec::with_capacity(alloc, child.children.len())?;
+        copy_children(child, alloc, &mut below)?;
+        push_copy(child, alloc, below, copies)?;
+    }
+    Ok(())
+}
+
 /// A copy of a node and all below it: the same fragments, masks and children, with a copy of each
 /// key and a clone of each value. A refused growth drops what was copied. A node with no pair, no
 /// child and at most 32 nibbles is copied without memory.
@@ -68,14 +131,6 @@ pub fn copied<K, L: CopyOf<K>, V: Clone>(
         → IsShort (fragment_of node.now) → IsOk result }
 {
     let mut children = Vec::with_capacity(alloc, node.children.len())?;
-    for i in 0..node.children.len() {
-        let child = copied(&node.children[i], alloc)?;
-        children.push(Box::new(alloc, child)?)?;
-    }
-    Ok(TrieNode {
-        fragment: node.fragment.clone()?,
-        pair: copied_pair(&node.pair, alloc)?,
-        mask: node.mask,
-        children,
-    })
+    copy_children(node, alloc, &mut children)?;
+    copied_over(node, alloc, children)
 }

@@ -5,6 +5,7 @@ ghost use Rattle.radix_nodes.specs.Nodes.{tree_of, unboxed};
 ghost use Rattle.radix_nodes.specs.Pairs.{own_pair, pairs_in};
 ghost use Rattle.radix_nodes.specs.Prunes.{IsSmall};
 
+use crate::trie_node::parts::Parts;
 use crate::trie_node::{KeyValue, TrieNode};
 
 /// What went with the pairs: how many nodes below the branch's own, and how many nibbles of all fragments.
@@ -38,12 +39,12 @@ pub fn drain<K: Drop, V: Drop>(node: TrieNode<K, V>, list: &mut Vec<(K, V)>) -> 
     ensures nibbles { result.nibbles
         ≡ length (tree_of node).fragment + nibbles_in (tree_of node).children }
 {
-    let TrieNode {
+    let Parts {
         fragment,
         pair,
         mask: _,
         children,
-    } = node;
+    } = node.into_parts();
     let mut nodes: u128 = 0;
     let mut nibbles: u128 = fragment.len() as u128;
     put_pair(pair, list);

@@ -1,11 +1,11 @@
 //! Insertion. All that may fail comes first, so a refusal leaves the tree as it was.
 //!
 //! What stands at the place of the change is kept out of line: its variables aren't on the stack at each level above then.
-ghost use Rattle.std.specs.Prelude.{◌≡◌, ◌≢◌, ◌<◌, ◌≤◌, ◌++◌, length, take, drop, slice_index, IfOk, IfErr, Err};
+ghost use Rattle.std.specs.Prelude.{◌≡◌, ◌≢◌, ◌<◌, ◌≤◌, ◌++◌, length, take, drop, slice_index, IfOk, IfErr, IsSome, Err};
 ghost use Rattle.masked_tree.specs.Mask.{IsPlaceOf};
 ghost use Rattle.masked_tree.specs.Tree.{IsTreePlaced, firsts};
 ghost use Rattle.masked_tree.specs.Edits.{leaf};
-ghost use Rattle.radix_nodes.specs.Nodes.{tree_of, fragment_of, IsUpper, EditOutcome, ReplaceOutcome, SetOutcome};
+ghost use Rattle.radix_nodes.specs.Nodes.{tree_of, fragment_of, IsUpper, EditOutcome, ReplaceOutcome, SetOutcome, Settles, IsSettled};
 
 use crate::traversal::step::agreed;
 use crate::trie_node::links::{link, lower};
@@ -37,25 +37,141 @@ pub fn put<K: Drop, V: Drop>(
     ensures { EditOutcome result pair (fragment_of node.old ++ drop depth list.now)
         (tree_of node.old) (tree_of node.new) }
 {
+    let mut change = Change {
+        was: Some(pair),
+        nodes: 0,
+        nibbles: 0,
+    };
+    match put_below(node, alloc, list, depth, &mut change) {
+        Ok(()) => Ok(change),
+        Err(_) => {
+            let Change {
+                was,
+                nodes: _,
+                nibbles: _,
+            } = change;
+            Err(was.unwrap())
+        }
+    }
+}
+
+// The same with the pair in `change.was`, where what stood there comes, or after a refusal the pair again. A level takes no stack for
+// a pair or for an answer then.
+fn put_below<K: Drop, V: Drop>(
+    node: &mut TrieNode<K, V>,
+    alloc: Global,
+    list: &Nibblet,
+    depth: usize,
+    change: &mut Change<K, V>,
+) -> Result<(), Memory>
+    requires depth { depth ≤ length list.now }
+    requires placed { IsTreePlaced (tree_of node.old) }
+    requires lent { IsSome change.old.was }
+    ensures { Settles result change.old change.new (λ x answer. EditOutcome answer x
+        (fragment_of node.old ++ drop depth list.now) (tree_of node.old) (tree_of node.new)) }
+{
     if depth == list.len() {
-        return set_pair(&mut node.pair, alloc, pair);
+        return set_lent(&mut node.pair, alloc, change);
     }
     match place(node.mask, list.get(depth)) {
         Ok(i) => {
             let child = &mut node.children[i];
             let n = agreed(&child.fragment, list, depth).same;
             if n == child.fragment.len() {
-                put(child, alloc, list, depth + n, pair)
+                put_below(child, alloc, list, depth + n, change)
             } else {
-                split_and_put(child, n, alloc, list, depth + n, pair)
+                split_and_put_lent(child, n, alloc, list, depth + n, change)
             }
         }
-        Err(i) => add_leaf(node, i, alloc, list, depth, pair),
+        Err(i) => add_lent(node, i, alloc, list, depth, change),
     }
 }
 
-// Writes the pair in its box, or in a new one.
+// Writes an answer to a call by value where a call by reference answers.
+fn settle<K: Drop, V: Drop>(
+    change: &mut Change<K, V>,
+    answer: Result<Change<K, V>, KeyValue<K, V>>,
+) -> Result<(), Memory>
+    ensures { IsSettled answer result change.new }
+{
+    match answer {
+        Ok(made) => {
+            *change = made;
+            Ok(())
+        }
+        Err(pair) => {
+            change.was = Some(pair);
+            Err(Memory)
+        }
+    }
+}
+
+// `set_pair` of the pair in `change`.
 #[inline(never)]
+fn set_lent<K: Drop, V: Drop>(
+    at: &mut Option<Box<KeyValue<K, V>>>,
+    alloc: Global,
+    change: &mut Change<K, V>,
+) -> Result<(), Memory>
+    requires { IsSome change.old.was }
+    ensures { Settles result change.old change.new
+        (λ x answer. SetOutcome answer x at.old at.new) }
+{
+    let pair = change.was.take().unwrap();
+    let answer = set_pair(at, alloc, pair);
+    settle(change, answer)
+}
+
+// `add_leaf` of the pair in `change`.
+#[inline(never)]
+fn add_lent<K: Drop, V: Drop>(
+    node: &mut TrieNode<K, V>,
+    i: usize,
+    alloc: Global,
+    list: &Nibblet,
+    depth: usize,
+    change: &mut Change<K, V>,
+) -> Result<(), Memory>
+    requires depth { depth < length list.now }
+    requires placed { IsTreePlaced (tree_of node.old) }
+    requires gap { IsPlaceOf (slice_index list.now depth) (firsts (tree_of node.old).children)
+        (Err i) }
+    requires lent { IsSome change.old.was }
+    ensures { Settles result change.old change.new (λ x answer. EditOutcome answer x
+        (fragment_of node.old ++ drop depth list.now) (tree_of node.old) (tree_of node.new)) }
+{
+    let pair = change.was.take().unwrap();
+    let answer = add_leaf(node, i, alloc, list, depth, pair);
+    settle(change, answer)
+}
+
+// `split_and_put` of the pair in `change`.
+#[inline(never)]
+fn split_and_put_lent<K: Drop, V: Drop>(
+    slot: &mut Box<TrieNode<K, V>>,
+    n: usize,
+    alloc: Global,
+    list: &Nibblet,
+    depth: usize,
+    change: &mut Change<K, V>,
+) -> Result<(), Memory>
+    requires some { 0 < n }
+    requires within { n < length (fragment_of slot.old.value) }
+    requires depth { depth ≤ length list.now }
+    requires apart { depth < length list.now → slice_index (fragment_of slot.old.value) n
+        ≢ slice_index list.now depth }
+    requires placed { IsTreePlaced (tree_of slot.old.value) }
+    requires lent { IsSome change.old.was }
+    ensures { Settles result change.old change.new (λ x answer. ReplaceOutcome answer x
+        (take n (fragment_of slot.old.value) ++ drop depth list.now)
+        (tree_of slot.old.value) (tree_of slot.new.value)) }
+{
+    let pair = change.was.take().unwrap();
+    let answer = split_and_put(slot, n, alloc, list, depth, pair);
+    settle(change, answer)
+}
+
+// Writes the pair in its box, or in a new one.
 fn set_pair<K: Drop, V: Drop>(
     at: &mut Option<Box<KeyValue<K, V>>>,
     alloc: Global,
@@ -119,7 +235,6 @@ fn make_leaf<K: Drop, V: Drop>(
 }
 
 // Adds a leaf with the pair at place i.
-#[inline(never)]
 fn add_leaf<K: Drop, V: Drop>(
     node: &mut TrieNode<K, V>,
     i: usize,
@@ -181,7 +296,6 @@ fn grow_split<K: Drop, V: Drop>(
 
 // The node in `slot` parts from the list after n nibbles of its fragment: a new node stands in its place, with the pair, or with a
 // leaf beside it.
-#[inline(never)]
 fn split_and_put<K: Drop, V: Drop>(
     slot: &mut Box<TrieNode<K, V>>,
     n: usize,

@@ -1,5 +1,6 @@
 //! Walks down the nodes.
 
+pub mod answers;
 pub mod ascending;
 pub mod checker;
 pub mod compare;

@@ -1,13 +1,14 @@
 //! All pairs at and below a path are taken out. What may fail comes first, so a refusal leaves the tree as it was.
 //!
 //! What stands at the place of the change is kept out of line: its variables aren't on the stack at each level above then.
-ghost use Rattle.std.specs.Prelude.{◌≡◌, ◌≢◌, ◌+◌, ◌<◌, ◌≤◌, ◌++◌, [], length, drop, IfOk, IsOk, OnErr, vec_len, vec_capacity};
+ghost use Rattle.std.specs.Prelude.{◌≡◌, ◌≢◌, ◌+◌, ◌<◌, ◌≤◌, ◌++◌, [], length, drop, None, IfOk, IsOk, OnErr, vec_len, vec_capacity};
 ghost use Rattle.masked_tree.specs.Alters.{PrunesRoot};
 ghost use Rattle.masked_tree.specs.Tree.{IsTreePlaced, IsAt, entries_at};
-ghost use Rattle.radix_nodes.specs.Nodes.{tree_of, fragment_of, out_of};
+ghost use Rattle.radix_nodes.specs.Nodes.{tree_of, fragment_of, out_of, answered};
 ghost use Rattle.radix_nodes.specs.Pairs.{pairs_in};
 ghost use Rattle.radix_nodes.specs.Prunes.{IsSmall, branch_of, nodes_gone, nibbles_gone, HoldsChild, PrunesChild, PrunesRootChild, PruneOutcome, PruneRootOutcome};
 
+use crate::traversal::answers::answer_of;
 use crate::traversal::cut::{Branch, cut_child, cut_root_child};
 use crate::traversal::drain::drain;
 use crate::traversal::size::count_pairs;
@@ -98,18 +99,20 @@ fn prune_root_child<K: Drop, V: Drop>(
     Ok(emptied(branch, room))
 }
 
-/// Takes all pairs at and below the list's place, which lies below a node that stands at `depth` and isn't the root.
-pub fn prune<K: Drop, V: Drop>(
+// Takes all pairs at and below the list's place, which lies below a node that stands at `depth` and isn't the root, into `pruned`.
+fn prune_below<K: Drop, V: Drop>(
     node: &mut TrieNode<K, V>,
     alloc: Global,
     list: &Nibblet,
     depth: usize,
-) -> Result<Option<Pruned<K, V>>, Memory>
+    pruned: &mut Option<Pruned<K, V>>,
+) -> Result<(), Memory>
     requires depth { depth < length list.now }
     requires placed { IsTreePlaced (tree_of node.old) }
     requires some { fragment_of node.old ≢ [] }
     requires small { IsSmall (tree_of node.old) }
-    ensures { PruneOutcome result (fragment_of node.old ++ drop depth list.now)
+    requires none { pruned.old ≡ None }
+    ensures { PruneOutcome (answered result pruned.new) (fragment_of node.old ++ drop depth list.now)
         (tree_of node.old) (tree_of node.new) }
 {
     match meet(node, list, depth) {
@@ -117,20 +120,23 @@ pub fn prune<K: Drop, V: Drop>(
             let next = depth + agreement.same;
             if next == list.len() {
                 match prune_child(node, alloc, i) {
-                    Ok(pruned) => Ok(Some(pruned)),
+                    Ok(cut) => {
+                        *pruned = Some(cut);
+                        Ok(())
+                    }
                     Err(e) => Err(e),
                 }
             } else if agreement.same == node.children[i].fragment.len() {
-                prune(&mut node.children[i], alloc, list, next)
+                prune_below(&mut node.children[i], alloc, list, next, pruned)
             } else {
-                Ok(None)
+                Ok(())
             }
         }
-        None => Ok(None),
+        None => Ok(()),
     }
 }
 
-/// The same from the root, where the list isn't empty.
+/// Takes all pairs at and below the list's place, which lies below the root.
 pub fn prune_root<K: Drop, V: Drop>(
     root: &mut TrieNode<K, V>,
     alloc: Global,
@@ -150,7 +156,10 @@ pub fn prune_root<K: Drop, V: Drop>(
                     Err(e) => Err(e),
                 }
             } else if agreement.same == root.children[i].fragment.len() {
-                prune(&mut root.children[i], alloc, list, agreement.same)
+                let mut pruned = None;
+                let same = agreement.same;
+                let told = prune_below(&mut root.children[i], alloc, list, same, &mut pruned);
+                answer_of(told, pruned)
             } else {
                 Ok(None)
             }

@@ -3,11 +3,13 @@
 //! What stands at the place of the change is kept out of line: its variables aren't on the stack at each level above then.
 ghost use Rattle.std.specs.Prelude.{◌≡◌, ◌≢◌, ◌<◌, ◌≤◌, [], ◌++◌, length, drop, MatchOption, Some, None, vec_len};
 ghost use Rattle.masked_tree.specs.Tree.{IsTreePlaced, IsAt, none};
-ghost use Rattle.radix_nodes.specs.Nodes.{tree_of, fragment_of, out_of, unboxed, CutOutcome, RootOutcome};
+ghost use Rattle.radix_nodes.specs.Nodes.{tree_of, fragment_of, out_of, unboxed, answered, CutOutcome, RootOutcome};
 
+use crate::traversal::answers::{answer_of, hand_over};
 use crate::traversal::cut::{Branch, cut_child, cut_root_child, joined_with};
 use crate::traversal::step::step;
 use crate::trie_node::links::{absorb, take_pair};
+use crate::trie_node::parts::Parts;
 use crate::trie_node::{KeyValue, TrieNode, has_pair, is_end};
 use radix_keys::{Memory, Nibblet};
 
@@ -66,12 +68,12 @@ fn make_taken<K: Drop, V: Drop>(leaf: Branch<K, V>) -> Option<Taken<K, V>>
         × (t.nibbles ≡ length (fragment_of leaf.top.value))) }
 {
     let Branch { top, nodes } = leaf;
-    let TrieNode {
+    let Parts {
         fragment,
         pair,
         mask: _,
         children: _,
-    } = Box::into_inner(top);
+    } = Box::into_inner(top).into_parts();
     let nibbles = fragment.len();
     match pair {
         Some(b) => Some(Taken {
@@ -106,31 +108,33 @@ fn take_leaf<K: Drop, V: Drop>(
     }
 }
 
-/// Takes the pair at the list's place at or below a node that stands at `depth` and isn't the root.
-pub fn take<K: Drop, V: Drop>(
+// Takes the pair at the list's place at or below a node that stands at `depth` and isn't the root, into `taken`.
+fn take_below<K: Drop, V: Drop>(
     node: &mut TrieNode<K, V>,
     list: &Nibblet,
     depth: usize,
-) -> Result<Option<Taken<K, V>>, Memory>
+    taken: &mut Option<Taken<K, V>>,
+) -> Result<(), Memory>
     requires depth { depth ≤ length list.now }
     requires placed { IsTreePlaced (tree_of node.old) }
     requires some { fragment_of node.old ≢ [] }
     requires inner { depth ≡ length list.now → 0 < vec_len (out_of node.old).children }
-    ensures { CutOutcome result (fragment_of node.old ++ drop depth list.now) (tree_of node.old)
-        (tree_of node.new) }
+    requires none { taken.old ≡ None }
+    ensures { CutOutcome (answered result taken.new) (fragment_of node.old ++ drop depth list.now)
+        (tree_of node.old) (tree_of node.new) }
 {
     if depth == list.len() {
-        return take_here(node);
+        return hand_over(taken, take_here(node));
     }
     match step(node, list, depth) {
         Some((i, next)) => {
             if next == list.len() && is_end(&node.children[i]) {
-                take_leaf(node, i)
+                hand_over(taken, take_leaf(node, i))
             } else {
-                take(&mut node.children[i], list, next)
+                take_below(&mut node.children[i], list, next, taken)
             }
         }
-        None => Ok(None),
+        None => Ok(()),
     }
 }
 
@@ -161,7 +165,9 @@ pub fn take_root<K: Drop, V: Drop>(
                 }
                 Ok(make_taken(cut_root_child(node, i)))
             } else {
-                take(&mut node.children[i], list, next)
+                let mut taken = None;
+                let told = take_below(&mut node.children[i], list, next, &mut taken);
+                answer_of(told, taken)
             }
         }
         None => Ok(None),

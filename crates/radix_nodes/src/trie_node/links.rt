@@ -6,6 +6,7 @@ ghost use Rattle.masked_tree.specs.Edits.{with_new_child, without_child, lowered
 ghost use Rattle.radix_nodes.specs.Nodes.{tree_of, fragment_of, out_of, unboxed, IsUpper, HasRoom};
 
 use crate::trie_node::mask::{mark, unmark};
+use crate::trie_node::parts::Parts;
 use crate::trie_node::{KeyValue, TrieNode};
 use radix_keys::Nibblet;
 use std::mem;
@@ -62,12 +63,12 @@ pub fn absorb<K: Drop, V: Drop>(node: &mut TrieNode<K, V>, fragment: Nibblet)
     ensures { tree_of node.new ≡ merged (tree_of node.old) }
 {
     let only = node.children.remove(0);
-    let TrieNode {
+    let Parts {
         fragment: _,
         pair,
         mask,
         children,
-    } = Box::into_inner(only);
+    } = Box::into_inner(only).into_parts();
     *node = TrieNode {
         fragment,
         pair,

@@ -6,9 +6,11 @@ ghost use Rattle.radix_nodes.specs.Pairs.{pair_of};
 
 pub mod links;
 pub mod mask;
+pub mod parts;
 
 use radix_keys::Nibblet;
 use std::alloc::Global;
+use std::mem;
 
 /// A key and the value that stands at its list of nibbles.
 #[derive(Drop)]
@@ -20,7 +22,6 @@ pub struct KeyValue<K, V> {
 /// A node of the trie. Its path is the fragments from the root down to it, joined. Bit n of the mask is set exactly where the
 /// fragment of a child begins with the nibble n, and the children rise by that nibble, so the child for n stands at the count of
 /// set bits below bit n.
-#[derive(Drop)]
 pub struct TrieNode<K, V> {
     pub fragment: Nibblet,
     pub pair: Option<Box<KeyValue<K, V>>>,
@@ -57,6 +58,53 @@ impl<K, V> TrieNode<K, V> {
         match self.pair() {
             Some(pair) => Some(&pair.value),
             None => None,
+        }
+    }
+}
+
+// No recursion and no memory: the node at the top and one below it change places until all are gone. A child is linked only where
+// another was taken out. Nothing reads the masks any more.
+impl<K: Drop, V: Drop> Drop for TrieNode<K, V> {
+    fn drop(mut self) {
+        loop {
+            let TrieNode {
+                fragment,
+                pair,
+                mask,
+                mut children,
+            } = self;
+            match children.pop() {
+                None => return,
+                Some(mut below) => {
+                    if children.is_empty() {
+                        self = Box::into_inner(below);
+                    } else {
+                        match below.children.pop() {
+                            None => {
+                                let _leaf = Box::into_inner(below).into_parts();
+                                self = TrieNode {
+                                    fragment,
+                                    pair,
+                                    mask,
+                                    children,
+                                };
+                            }
+                            Some(next) => {
+                                children.push(next).unwrap();
+                                let top = TrieNode {
+                                    fragment,
+                                    pair,
+                                    mask,
+                                    children,
+                                };
+                                let mut turned = mem::replace(&mut *below, top);
+                                turned.children.insert(0, below).unwrap();
+                                self = turned;
+                            }
+                        }
+                    }
+                }
+            }
         }
     }
 }

@@ -1,20 +1,25 @@
-use Rattle.std.proofs.Common.{rules, ◌+◌, ◌<◌, ◌≤◌, ◌∙◌, ◌++◌, [], ap, sym, subst, length, vec_capacity, arith}
+use Rattle.std.specs.Vec.Iter.{into_iter_items}
+use Rattle.std.proofs.Common.{rules, ◌≡◌, ◌+◌, ◌<◌, ◌≤◌, ◌∙◌, ◌++◌, [], ap, sym, subst, length, vec_capacity, arith}
 use Rattle.std.proofs.lemmas.Grind.{common_steps}
 use Rattle.masked_tree.specs.Tree.{entries_at, nodes_in, nibbles_in}
-use Rattle.radix_nodes.specs.Nodes.{tree_of}
-use Rattle.radix_nodes.specs.Pairs.{pairs_in}
+use Rattle.radix_nodes.specs.Nodes.{tree_of, unboxed}
+use Rattle.radix_nodes.specs.Pairs.{own_pair, pairs_in}
 use Rattle.radix_nodes.specs.Prunes.{IsSmall}
 use Rattle.radix_nodes.proofs.EditLemmas.Drains.{LeavesChildren, left_start, left_next, left_room, left_small, left_fewer, left_noded, left_nibbled, left_end, start_room}
 use Rattle.radix_nodes.proofs.traversal.drain.+drain.Goals as goal
 
 pub put_pair-requires : goal.put_pair-requires
-put_pair-requires g t c = record { room = let s = start_room c.args.node in omega (arith, s, c.requires.room) }
+put_pair-requires g t c = record { room = let s = start_room c.args.node in let own = ap (λ p. length (own_pair (unboxed p))) c.into_parts-fragment.ensures.pair in omega (arith, s, own, c.requires.room) }
 
 pub loop-child-init : goal.loop-child-init
 loop-child-init g t c = record {
   counted = grind (arith, common_steps);
   room = c.put_pair.ensures.capacity;
-  left = left_start c.args.node _ _ _ _ c.put_pair.ensures.pairs (search rules) c.len-nibbles.ensures;
+  left = (let parts = c.into_parts-fragment.ensures in
+      let rest : into_iter_items c.into_iter-child-iterator.result ≡ c.into_parts-fragment.result.children.items = search rules in
+      left_start c.args.node _ _ _ _ (c.put_pair.ensures.pairs ∙ ap (λ p. c.args.list.now.items ++ own_pair (unboxed p)) parts.pair)
+      (rest ∙ ap (λ v. v.items) parts.children)
+      (c.len-nibbles.ensures ∙ ap length parts.fragment));
 }
 
 pub drain-below-requires : goal.drain-below-requires

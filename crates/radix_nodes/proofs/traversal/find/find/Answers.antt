@@ -1,5 +1,6 @@
 use Rattle.std.proofs.Common.{sym, arith, Some, None}
-use Rattle.radix_nodes.proofs.SearchLemmas.Deepest.{match_implies, node_here, stuck_absent, down_placed, found_from_child, found_in_child}
+use Rattle.radix_nodes.proofs.NodeLemmas.Options.{match_implies}
+use Rattle.radix_nodes.proofs.SearchLemmas.Deepest.{node_here, stuck_absent, down_placed, found_from_child, found_in_child}
 use Rattle.radix_nodes.proofs.traversal.find.find.Goals as goal
 
 pub loop-done-init : goal.loop-done-init

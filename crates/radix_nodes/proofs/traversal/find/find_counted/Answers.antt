@@ -6,7 +6,7 @@ use Rattle.masked_tree.specs.Tree.{entries_at}
 use Rattle.masked_tree.proofs.TreeLemmas.Points.{walked_is_compared}
 use Rattle.radix_nodes.specs.Nodes.{tree_of}
 use Rattle.radix_nodes.proofs.NodeLemmas.Nodes.{fragment-tree_of}
-use Rattle.radix_nodes.proofs.SearchLemmas.Deepest.{match_implies}
+use Rattle.radix_nodes.proofs.NodeLemmas.Options.{match_implies}
 use Rattle.radix_nodes.proofs.traversal.find.find_counted.Goals as goal
 
 pub returns-clause-found : goal.returns-clause-found

@@ -4,7 +4,8 @@ use Rattle.masked_tree.proofs.PathLemmas.Search.{walked_most}
 use Rattle.radix_nodes.specs.Nodes.{tree_of, fragment_of}
 use Rattle.radix_nodes.proofs.EditLemmas.Steps.{none_stuck}
 use Rattle.radix_nodes.proofs.SearchLemmas.Compared.{count_end, count_none, count_step, count_stop, met_down, met_off}
-use Rattle.radix_nodes.proofs.SearchLemmas.Deepest.{match_implies, node_here, stuck_absent, down_placed, found_from_child, found_in_child}
+use Rattle.radix_nodes.proofs.NodeLemmas.Options.{match_implies}
+use Rattle.radix_nodes.proofs.SearchLemmas.Deepest.{node_here, stuck_absent, down_placed, found_from_child, found_in_child}
 use Rattle.radix_nodes.proofs.traversal.find.search.Goals as goal
 
 pub loop-done-init : goal.loop-done-init

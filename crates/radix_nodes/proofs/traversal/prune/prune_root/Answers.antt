@@ -1,7 +1,7 @@
 use Rattle.std.proofs.Common.{◌≡◌, ◌≢◌, ◌+◌, ◌<◌, ◌++◌, ◌∙◌, [], refl, sym, ap, subst, arith, length, drop}
 use Rattle.radix_nodes.specs.declared.trie_node.TrieNode.{out-TrieNode}
 use Rattle.masked_tree.specs.Tree.{IsTreePlaced}
-use Rattle.radix_nodes.specs.Nodes.{tree_of, fragment_of}
+use Rattle.radix_nodes.specs.Nodes.{tree_of, fragment_of, answered}
 use Rattle.radix_nodes.proofs.EditLemmas.Merging.{item_is_unique}
 use Rattle.radix_nodes.proofs.EditLemmas.Insertion.{boxed_child_is_placed, box_is_child}
 use Rattle.radix_nodes.proofs.SearchLemmas.Nearest.{nearest_none, nearest_parted}
@@ -9,28 +9,28 @@ use Rattle.radix_nodes.specs.Prunes.{IsSmall, PruneOutcome}
 use Rattle.radix_nodes.proofs.EditLemmas.Branches.{item_at, child_is_small, branch_child, key_goes_on, root_prune_through_child}
 use Rattle.radix_nodes.proofs.traversal.prune.prune_root.Goals as goal
 
-pub prune-requires-clause-depth : goal.prune-requires-clause-depth
-prune-requires-clause-depth g c =
+pub prune_below-told-requires-clause-depth : goal.prune_below-told-requires-clause-depth
+prune_below-told-requires-clause-depth g c =
     let on = key_goes_on c.args.root.now c.deref.result.now c.args.list.now 0 c.requires.placed c.in-Some.i c.in-Some.agreement c.requires.some c.in-Some.ensures c.index.result.now (sym c.index.ensures) c.deref.ensures
     (c.if-agreement-len-2.true ∙ c.len-else-agreement-len.ensures) (λ z. c.if-agreement-len.false (omega (arith, z, c.len.ensures))) in
     omega (arith, on.1)
 
-pub prune-requires-clause-placed : goal.prune-requires-clause-placed
-prune-requires-clause-placed g c =
+pub prune_below-told-requires-clause-placed : goal.prune_below-told-requires-clause-placed
+prune_below-told-requires-clause-placed g c =
     let n = c.args.root.now in
     let o = (out-TrieNode g.row.K.Denot g.row.V.Denot n).children.ok.0 in
     subst (λ m. IsTreePlaced (tree_of m)) (sym c.deref_mut.ensures.value)
     (boxed_child_is_placed n c.in-Some.i c.index_mut.result.now c.requires.placed (omega (arith, c.in-Some.ensures.within, o)) (sym c.index_mut.ensures.value)).1
 
-pub prune-requires-clause-some : goal.prune-requires-clause-some
-prune-requires-clause-some g c =
+pub prune_below-told-requires-clause-some : goal.prune_below-told-requires-clause-some
+prune_below-told-requires-clause-some g c =
     let n = c.args.root.now in
     let o = (out-TrieNode g.row.K.Denot g.row.V.Denot n).children.ok.0 in
     subst (λ m. fragment_of m ≢ []) (sym c.deref_mut.ensures.value)
     (boxed_child_is_placed n c.in-Some.i c.index_mut.result.now c.requires.placed (omega (arith, c.in-Some.ensures.within, o)) (sym c.index_mut.ensures.value)).0
 
-pub prune-requires-clause-small : goal.prune-requires-clause-small
-prune-requires-clause-small g c =
+pub prune_below-told-requires-clause-small : goal.prune_below-told-requires-clause-small
+prune_below-told-requires-clause-small g c =
     let n = c.args.root.now in
     let b = c.index_mut.result.now in
     let o = (out-TrieNode g.row.K.Denot g.row.V.Denot n).children.ok.0 in
@@ -68,10 +68,11 @@ returns-then-agreement-len-2 g c =
     let is = sym c.index_mut.ensures.value in
     let same : c.deref.result.now ≡ b.value = c.deref.ensures ∙ ap (λ k. k.value) (item_is_unique items c.in-Some.i c.index.result.now b lt (sym c.index.ensures) is) in
     let next : c.in-Some.agreement.same ≡ 0 + c.in-Some.agreement.same = omega arith in
-    let below = subst (λ m. PruneOutcome c.prune.result (fragment_of m ++ drop c.in-Some.agreement.same key) (tree_of m) (tree_of c.prune.new.node)) c.deref_mut.ensures.value c.prune.ensures in
-    let below0 = subst (λ k. PruneOutcome c.prune.result (fragment_of b.value ++ drop k key) (tree_of b.value) (tree_of c.prune.new.node)) next below in
-    root_prune_through_child n b.value key 0 c.requires.placed c.in-Some.i c.in-Some.agreement c.requires.some c.in-Some.ensures b is refl _
-    (c.if-agreement-len-2.true ∙ c.len-else-agreement-len.ensures ∙ ap (λ m. length (fragment_of m)) same) c.prune.result below0
+    let below = subst (λ m. PruneOutcome (answered c.prune_below-told.result c.prune_below-told.new.pruned) (fragment_of m ++ drop c.in-Some.agreement.same key) (tree_of m) (tree_of c.prune_below-told.new.node)) c.deref_mut.ensures.value c.prune_below-told.ensures in
+    let below0 = subst (λ k. PruneOutcome (answered c.prune_below-told.result c.prune_below-told.new.pruned) (fragment_of b.value ++ drop k key) (tree_of b.value) (tree_of c.prune_below-told.new.node)) next below in
+    rw c.answer_of.ensures
+    (root_prune_through_child n b.value key 0 c.requires.placed c.in-Some.i c.in-Some.agreement c.requires.some c.in-Some.ensures b is refl _
+    (c.if-agreement-len-2.true ∙ c.len-else-agreement-len.ensures ∙ ap (λ m. length (fragment_of m)) same) (answered c.prune_below-told.result c.prune_below-told.new.pruned) below0)
 
 pub returns-else-agreement-len-2 : goal.returns-else-agreement-len-2
 returns-else-agreement-len-2 g c = (

@@ -1,7 +1,8 @@
 use Rattle.std.proofs.Common.{◌+◌, ◌<◌, ◌≡◌, ◌∙◌, length, ap, sym, arith, Some, None}
 use Rattle.radix_nodes.specs.Nodes.{tree_of, fragment_of}
 use Rattle.radix_nodes.proofs.SearchLemmas.Compared.{met_down}
-use Rattle.radix_nodes.proofs.SearchLemmas.Deepest.{match_implies, down_placed}
+use Rattle.radix_nodes.proofs.NodeLemmas.Options.{match_implies}
+use Rattle.radix_nodes.proofs.SearchLemmas.Deepest.{down_placed}
 use Rattle.radix_nodes.proofs.SearchLemmas.Nearest.{nearest_here, nearest_none, nearest_inside, nearest_parted, nearest_through_child, none_through_child}
 use Rattle.radix_nodes.proofs.traversal.queries.shortest.Goals as goal
 

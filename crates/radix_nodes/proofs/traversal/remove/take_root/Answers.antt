@@ -4,7 +4,7 @@ use Rattle.std.proofs.lemmas.List.{nil_from_length}
 use Rattle.std.proofs.Math.Seq.{drop-length}
 use Rattle.radix_nodes.specs.declared.trie_node.TrieNode.{out-TrieNode}
 use Rattle.masked_tree.specs.Tree.{IsTreePlaced}
-use Rattle.radix_nodes.specs.Nodes.{tree_of, fragment_of, unboxed, CutOutcome}
+use Rattle.radix_nodes.specs.Nodes.{tree_of, fragment_of, unboxed, answered, CutOutcome}
 use Rattle.radix_nodes.proofs.NodeLemmas.Nodes.{fragment-tree_of}
 use Rattle.radix_nodes.proofs.EditLemmas.Insertion.{boxed_child_is_placed, free_through_child, box_is_child}
 use Rattle.radix_nodes.proofs.EditLemmas.Steps.{stuck_lacks, step_within, fragment_of-step_to_end, free_here}
@@ -19,15 +19,15 @@ returns-in-Some g c =
     root_pair_cut n c.in-Some.pair _ _ c.in-Some.ensures.was c.requires (tree_of-unpaired n c.take_pair.new.at c.take_pair.ensures.none)
     (ap (λ k. fragment_of n ++ k) (nil_from_length c.args.list.now (sym c.len.ensures ∙ c.if-len-eq0.true)) ∙ append-nil (fragment_of n))
 
-pub take-requires-clause-placed : goal.take-requires-clause-placed
-take-requires-clause-placed g c =
+pub take_below-told-requires-clause-placed : goal.take_below-told-requires-clause-placed
+take_below-told-requires-clause-placed g c =
     let n = c.args.node.now in
     let o = (out-TrieNode g.row.K.Denot g.row.V.Denot n).children.ok.0 in
     subst (λ m. IsTreePlaced (tree_of m)) (sym c.deref_mut.ensures.value)
     (boxed_child_is_placed n c.in-Some-step.i c.index_mut.result.now c.requires (omega (arith, c.in-Some-step.ensures.within, o)) (sym c.index_mut.ensures.value)).1
 
-pub take-requires-clause-some : goal.take-requires-clause-some
-take-requires-clause-some g c =
+pub take_below-told-requires-clause-some : goal.take_below-told-requires-clause-some
+take_below-told-requires-clause-some g c =
     let n = c.args.node.now in
     let o = (out-TrieNode g.row.K.Denot g.row.V.Denot n).children.ok.0 in
     subst (λ m. fragment_of m ≢ []) (sym c.deref_mut.ensures.value)
@@ -64,10 +64,11 @@ returns-else-next-len g c =
     let at = box_is_child n c.in-Some-step.i b c.requires lt is in
     let rest = drop c.in-Some-step.next key in
     let path : fragment_of b.value ++ rest ≡ key = ap (λ f. f ++ rest) (sym (fragment-tree_of b.value)) ∙ c.in-Some-step.ensures.path (tree_of b.value) at in
-    let below = subst (λ m. CutOutcome c.take.result (fragment_of m ++ rest) (tree_of m) (tree_of c.take.new.node)) c.deref_mut.ensures.value c.take.ensures in
+    let below = subst (λ m. CutOutcome (answered c.take_below-told.result c.take_below-told.new.taken) (fragment_of m ++ rest) (tree_of m) (tree_of c.take_below-told.new.node)) c.deref_mut.ensures.value c.take_below-told.ensures in
     let some = (boxed_child_is_placed n c.in-Some-step.i b c.requires lt is).0 in
-    root_cut_through_child n c.in-Some-step.i b _ c.take.result (fragment_of b.value ++ rest) (fragment_of n ++ key) c.requires lt is (ap (λ p. fragment_of n ++ p) (sym path))
-    (append-some (fragment_of b.value) rest some) (first-append (fragment_of b.value) rest some) below
+    rw c.answer_of.ensures
+    (root_cut_through_child n c.in-Some-step.i b _ (answered c.take_below-told.result c.take_below-told.new.taken) (fragment_of b.value ++ rest) (fragment_of n ++ key) c.requires lt is (ap (λ p. fragment_of n ++ p) (sym path))
+    (append-some (fragment_of b.value) rest some) (first-append (fragment_of b.value) rest some) below)
 
 pub returns-in-None : goal.returns-in-None
 returns-in-None g c =

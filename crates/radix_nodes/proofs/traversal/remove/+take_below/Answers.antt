@@ -2,14 +2,14 @@ use Rattle.std.proofs.Common.{◌≡◌, ◌≢◌, ◌<◌, ◌++◌, ◌∙◌
 use Rattle.std.proofs.Math.Seq.{drop-length}
 use Rattle.radix_nodes.specs.declared.trie_node.TrieNode.{out-TrieNode}
 use Rattle.masked_tree.specs.Tree.{IsTreePlaced}
-use Rattle.radix_nodes.specs.Nodes.{tree_of, fragment_of, CutOutcome}
+use Rattle.radix_nodes.specs.Nodes.{tree_of, fragment_of, answered, CutOutcome}
 use Rattle.radix_nodes.proofs.NodeLemmas.Nodes.{fragment-tree_of}
 use Rattle.radix_nodes.proofs.EditLemmas.Insertion.{boxed_child_is_placed, box_is_child}
 use Rattle.radix_nodes.proofs.EditLemmas.Steps.{stuck_lacks}
 use Rattle.radix_nodes.proofs.EditLemmas.Merging.{child_is_in_box, item_is_unique}
 use Rattle.radix_nodes.proofs.EditLemmas.Removal.{children-no_boxes, cut_through_child}
-use Rattle.radix_nodes.proofs.traversal.remove.+take.Goals.{else-next-len-via-then-next-len+else-is_end, else-next-len-via-else-next-len}
-use Rattle.radix_nodes.proofs.traversal.remove.+take.Goals as goal
+use Rattle.radix_nodes.proofs.traversal.remove.+take_below.Goals.{else-next-len-via-then-next-len+else-is_end, else-next-len-via-else-next-len}
+use Rattle.radix_nodes.proofs.traversal.remove.+take_below.Goals as goal
 use Rattle.nibble_map.proofs.ListLemmas.Cut.{first-append, append-some}
 
 pub take_leaf-requires-clause-leaf : goal.take_leaf-requires-clause-leaf
@@ -22,8 +22,8 @@ take_leaf-requires-clause-leaf g t c u a =
     let none' = subst (λ m. vec_len (out m).children ≡ 0) c.deref.ensures c.if-is_end.ensures in
     ap (λ t. t.children) (child_is_in_box n c.in-Some.i b u c.requires.placed (omega (arith, c.in-Some.ensures.within, o)) (sym c.index.ensures) a) ∙ children-no_boxes b.value (omega (arith, none', o'))
 
-pub take-requires : goal.take-requires
-take-requires g t c =
+pub take_below-requires : goal.take_below-requires
+take_below-requires g t c =
     let out = out-TrieNode g.row.K.Denot g.row.V.Denot in
     let n = c.args.node.now in
     let b = c.index_mut.result.now in
@@ -40,7 +40,7 @@ take-requires g t c =
           w.if-is_end.ensures
       | else-next-len-via-else-next-len w ↦ absurd (w.if-next-len.false (e ∙ sym c.len-in-Some.ensures))
     ] in
-    λ κs l. (omega (arith, c.decreases, c.in-Some.ensures.further, c.in-Some.ensures.inside), (l.0, (l.1, (c.in-Some.ensures.inside, (placed, (some, inner))))))
+    λ κs l. (omega (arith, c.decreases, c.in-Some.ensures.further, c.in-Some.ensures.inside), (l.0, (l.1, (c.in-Some.ensures.inside, (placed, (some, (inner, c.requires.none)))))))
 
 pub returns-then-is_end : goal.returns-then-is_end
 returns-then-is_end g t c =
@@ -52,7 +52,7 @@ returns-then-is_end g t c =
     let f = (tree_of b.value).fragment in
     let end : f ≡ drop c.args.depth key =
     sym (append-nil f) ∙ ap (λ r. f ++ r) (sym (ap (λ d. drop d key) (c.if-next-len.true ∙ c.len-in-Some.ensures) ∙ drop-length key)) ∙ c.in-Some.ensures.path (tree_of b.value) at in
-    subst (λ p. CutOutcome c.take_leaf.result (fragment_of n ++ p) (tree_of n) (tree_of c.take_leaf.new.node)) end (c.take_leaf.ensures (tree_of b.value) at)
+    rw c.hand_over-then-is_end.ensures (subst (λ p. CutOutcome c.take_leaf.result (fragment_of n ++ p) (tree_of n) (tree_of c.take_leaf.new.node)) end (c.take_leaf.ensures (tree_of b.value) at))
 
 pub returns-else-next-len : goal.returns-else-next-len
 returns-else-next-len g t c =
@@ -65,11 +65,12 @@ returns-else-next-len g t c =
     let at = box_is_child n c.in-Some.i b c.requires.placed lt is in
     let rest = drop c.in-Some.next key in
     let path : fragment_of b.value ++ rest ≡ drop c.args.depth key = ap (λ f. f ++ rest) (sym (fragment-tree_of b.value)) ∙ c.in-Some.ensures.path (tree_of b.value) at in
-    let below = subst (λ m. CutOutcome c.take.result (fragment_of m ++ rest) (tree_of m) (tree_of c.take.new.node)) c.deref_mut.ensures.value c.take.ensures in
+    let below = subst (λ m. CutOutcome (answered c.take_below.result c.take_below.new.taken) (fragment_of m ++ rest) (tree_of m) (tree_of c.take_below.new.node)) c.deref_mut.ensures.value c.take_below.ensures in
     let some = (boxed_child_is_placed n c.in-Some.i b c.requires.placed lt is).0 in
-    cut_through_child n c.in-Some.i b _ c.take.result (fragment_of b.value ++ rest) (fragment_of n ++ drop c.args.depth key) c.requires.placed lt is (ap (λ p. fragment_of n ++ p) (sym path))
+    cut_through_child n c.in-Some.i b _ (answered c.take_below.result c.take_below.new.taken) (fragment_of b.value ++ rest) (fragment_of n ++ drop c.args.depth key) c.requires.placed lt is (ap (λ p. fragment_of n ++ p) (sym path))
     (append-some (fragment_of b.value) rest some) (first-append (fragment_of b.value) rest some) below
 
 pub returns-in-None : goal.returns-in-None
 returns-in-None g t c =
+    rw c.requires.none
     (refl, stuck_lacks c.args.node.now c.args.list.now c.args.depth 0 c.requires.placed (omega (arith, c.requires.depth, c.if-depth-len.false, c.len.ensures)) c.in-None.ensures)

@@ -1,16 +1,16 @@
 use Rattle.std.proofs.Common.{◌≡◌, ◌≢◌, ◌+◌, ◌<◌, ◌++◌, ◌∙◌, [], refl, sym, ap, subst, arith, length, drop}
 use Rattle.masked_tree.specs.Tree.{IsTreePlaced}
 use Rattle.radix_nodes.specs.declared.trie_node.TrieNode.{out-TrieNode}
-use Rattle.radix_nodes.specs.Nodes.{tree_of, fragment_of}
+use Rattle.radix_nodes.specs.Nodes.{tree_of, fragment_of, answered}
 use Rattle.radix_nodes.proofs.EditLemmas.Merging.{item_is_unique}
 use Rattle.radix_nodes.proofs.EditLemmas.Insertion.{boxed_child_is_placed, box_is_child}
 use Rattle.radix_nodes.proofs.SearchLemmas.Nearest.{nearest_none, nearest_parted}
 use Rattle.radix_nodes.specs.Prunes.{IsSmall, PruneOutcome}
 use Rattle.radix_nodes.proofs.EditLemmas.Branches.{item_at, child_is_small, branch_child, key_goes_on, prune_through_child}
-use Rattle.radix_nodes.proofs.traversal.prune.+prune.Goals as goal
+use Rattle.radix_nodes.proofs.traversal.prune.+prune_below.Goals as goal
 
-pub prune-requires : goal.prune-requires
-prune-requires g t c =
+pub prune_below-requires : goal.prune_below-requires
+prune_below-requires g t c =
     let n = c.args.node.now in
     let b = c.index_mut.result.now in
     let o = (out-TrieNode g.row.K.Denot g.row.V.Denot n).children.ok.0 in
@@ -23,7 +23,7 @@ prune-requires g t c =
     (child_is_small (tree_of n) (tree_of b.value) c.in-Some.i (box_is_child n c.in-Some.i b c.requires.placed lt is) c.requires.small) in
     let on = key_goes_on n c.deref.result.now c.args.list.now c.args.depth c.requires.placed c.in-Some.i c.in-Some.agreement c.requires.depth c.in-Some.ensures c.index.result.now (sym c.index.ensures) c.deref.ensures
     (c.if-agreement-len.true ∙ c.len-else-next-len.ensures) (λ z. c.if-next-len.false (z ∙ sym c.len.ensures)) in
-    λ κs l. (omega (arith, c.decreases, on.0, on.1), (l.0, (l.1, (on.1, (placed, (some, small))))))
+    λ κs l. (omega (arith, c.decreases, on.0, on.1), (l.0, (l.1, (on.1, (placed, (some, (small, c.requires.none)))))))
 
 pub returns-in-Ok : goal.returns-in-Ok
 returns-in-Ok g t c =
@@ -55,16 +55,16 @@ returns-then-agreement-len g t c =
     let is = sym c.index_mut.ensures.value in
     let same : c.deref.result.now ≡ b.value = c.deref.ensures ∙ ap (λ k. k.value) (item_is_unique items c.in-Some.i c.index.result.now b lt (sym c.index.ensures) is) in
     let next = c.args.depth + c.in-Some.agreement.same in
-    let below = subst (λ m. PruneOutcome c.prune.result (fragment_of m ++ drop next c.args.list.now) (tree_of m) (tree_of c.prune.new.node)) c.deref_mut.ensures.value c.prune.ensures in
+    let below = subst (λ m. PruneOutcome (answered c.prune_below.result c.prune_below.new.pruned) (fragment_of m ++ drop next c.args.list.now) (tree_of m) (tree_of c.prune_below.new.node)) c.deref_mut.ensures.value c.prune_below.ensures in
     prune_through_child n b.value c.args.list.now c.args.depth c.requires.placed c.in-Some.i c.in-Some.agreement c.requires.depth c.in-Some.ensures b is refl _
-    (c.if-agreement-len.true ∙ c.len-else-next-len.ensures ∙ ap (λ m. length (fragment_of m)) same) c.prune.result below
+    (c.if-agreement-len.true ∙ c.len-else-next-len.ensures ∙ ap (λ m. length (fragment_of m)) same) (answered c.prune_below.result c.prune_below.new.pruned) below
 
 pub returns-else-agreement-len : goal.returns-else-agreement-len
-returns-else-agreement-len g t c = (
+returns-else-agreement-len g t c = rw c.requires.none (
   refl,
   nearest_parted c.args.node.now c.args.list.now c.args.depth c.requires.placed c.deref.result.now c.in-Some.i c.in-Some.agreement c.requires.depth c.in-Some.ensures c.index.result.now (sym c.index.ensures)
       c.deref.ensures (λ z. c.if-agreement-len.false (z ∙ sym c.len-else-next-len.ensures)) (λ z. c.if-next-len.false (z ∙ sym c.len.ensures)),
 )
 
 pub returns-in-None : goal.returns-in-None
-returns-in-None g t c = (refl, nearest_none c.args.node.now c.args.list.now c.args.depth c.requires.placed c.requires.depth c.in-None.ensures)
+returns-in-None g t c = rw c.requires.none (refl, nearest_none c.args.node.now c.args.list.now c.args.depth c.requires.placed c.requires.depth c.in-None.ensures)

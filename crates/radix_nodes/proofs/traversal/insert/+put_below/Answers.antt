@@ -7,14 +7,17 @@ use Rattle.masked_tree.specs.Tree.{firsts, IsTreePlaced}
 use Rattle.radix_nodes.specs.Nodes.{tree_of, fragment_of, EditOutcome}
 use Rattle.radix_nodes.specs.declared.trie_node.TrieNode.{out-TrieNode}
 use Rattle.radix_nodes.proofs.EditLemmas.Insertion.{set_step, edit_through_child, boxed_child_is_placed, first-fragment_at_place, place_is_within, place_by_mask, edit_replaces}
+use Rattle.radix_nodes.proofs.EditLemmas.Settling.{settles_map}
 use Rattle.radix_nodes.proofs.EditLemmas.KeyParts.{agreed_inside, agreed_apart, first-take, take_some, append-agreed_fragment, append-agreed_part, split_some, length_some}
-use Rattle.radix_nodes.proofs.traversal.insert.+put.Goals as goal
+use Rattle.radix_nodes.proofs.traversal.insert.+put_below.Goals as goal
 use Rattle.nibble_map.proofs.ListLemmas.Cut.{first-append, append-some}
 
 pub returns-then-depth-len : goal.returns-then-depth-len
 returns-then-depth-len g t c =
-    set_step c.set_pair.result c.args.node.now c.set_pair.new.at c.args.pair _
-    (ap (λ d. drop d c.args.list.now) (c.if-depth-len.true ∙ c.len.ensures) ∙ drop-length c.args.list.now) c.requires.placed c.set_pair.ensures
+    settles_map c.set_lent.result c.args.change.now c.set_lent.new.change
+    (λ x answer. set_step answer c.args.node.now c.set_lent.new.at x _
+    (ap (λ d. drop d c.args.list.now) (c.if-depth-len.true ∙ c.len.ensures) ∙ drop-length c.args.list.now) c.requires.placed)
+    c.set_lent.ensures
 
 pub index_mut-child-requires : goal.index_mut-child-requires
 index_mut-child-requires g t c =
@@ -36,8 +39,8 @@ agreed-n-requires-clause-start g t c =
     ∙ first-fragment_at_place n c.in-Ok.i b c.requires.placed c.get.result lt (sym c.index_mut-child.ensures.value) at
     ∙ c.get.ensures.value
 
-pub put-requires : goal.put-requires
-put-requires g t c =
+pub put_below-requires : goal.put_below-requires
+put_below-requires g t c =
     let n = c.args.node.now in
     let b = c.index_mut-child.result.now in
     let at = place_by_mask n c.get.result (Ok c.in-Ok.i) c.requires.placed c.in-Ok.ensures in
@@ -47,10 +50,10 @@ put-requires g t c =
     let len : c.agreed-n.result.same ≡ length (fragment_of b.value) = c.if-n-len.true ∙ c.len-in-Ok.ensures ∙ ap (λ m. length (fragment_of m)) c.deref-in-Ok.ensures in
     let some = length_some (fragment_of b.value) child.0 in
     let inside = agreed_inside _ c.args.list.now c.args.depth c.agreed-n.result.same c.agreed-n.result.compared (omega (arith, c.requires.depth)) c.agreed-n.ensures.agrees in
-    λ κs l. (omega (arith, c.decreases, some, len, inside), (l.0, (l.1, (inside, placed))))
+    λ κs l. (omega (arith, c.decreases, some, len, inside), (l.0, (l.1, (inside, (placed, c.requires.lent)))))
 
-pub split_and_put-requires-clause-some : goal.split_and_put-requires-clause-some
-split_and_put-requires-clause-some g t c =
+pub split_and_put_lent-requires-clause-some : goal.split_and_put_lent-requires-clause-some
+split_and_put_lent-requires-clause-some g t c =
     let n = c.args.node.now in
     let b = c.index_mut-child.result.now in
     let at = place_by_mask n c.get.result (Ok c.in-Ok.i) c.requires.placed c.in-Ok.ensures in
@@ -63,12 +66,12 @@ split_and_put-requires-clause-some g t c =
     (omega (arith, c.requires.depth, c.if-depth-len.false, c.len.ensures))
     (subst (λ m. c.agreed-n.result.same < length (fragment_of m) → c.args.depth + c.agreed-n.result.same < length c.args.list.now → slice_index (fragment_of m) c.agreed-n.result.same ≢ slice_index c.args.list.now (c.args.depth + c.agreed-n.result.same)) c.deref.ensures (agreed_apart _ c.args.list.now c.args.depth c.agreed-n.result.same c.agreed-n.result.compared c.agreed-n.ensures.agrees))
 
-pub split_and_put-requires-clause-depth : goal.split_and_put-requires-clause-depth
-split_and_put-requires-clause-depth g t c =
+pub split_and_put_lent-requires-clause-depth : goal.split_and_put_lent-requires-clause-depth
+split_and_put_lent-requires-clause-depth g t c =
     agreed_inside _ c.args.list.now c.args.depth c.agreed-n.result.same c.agreed-n.result.compared (omega (arith, c.requires.depth)) c.agreed-n.ensures.agrees
 
-pub split_and_put-requires-clause-apart : goal.split_and_put-requires-clause-apart
-split_and_put-requires-clause-apart g t c =
+pub split_and_put_lent-requires-clause-apart : goal.split_and_put_lent-requires-clause-apart
+split_and_put_lent-requires-clause-apart g t c =
     let b = c.index_mut-child.result.now in
     let n = c.agreed-n.result.same in
     let agrees = subst (λ m. Agrees (fragment_of m) (drop c.args.depth c.args.list.now) n c.agreed-n.result.compared) c.deref.ensures c.agreed-n.ensures.agrees in
@@ -76,15 +79,15 @@ split_and_put-requires-clause-apart g t c =
     let most = agrees.within in
     agreed_apart (fragment_of b.value) c.args.list.now c.args.depth n c.agreed-n.result.compared agrees (omega (arith, most, len, c.if-n-len.false))
 
-pub split_and_put-requires-clause-placed : goal.split_and_put-requires-clause-placed
-split_and_put-requires-clause-placed g t c =
+pub split_and_put_lent-requires-clause-placed : goal.split_and_put_lent-requires-clause-placed
+split_and_put_lent-requires-clause-placed g t c =
     let n = c.args.node.now in
     let at = place_by_mask n c.get.result (Ok c.in-Ok.i) c.requires.placed c.in-Ok.ensures in
     let lt = place_is_within n c.in-Ok.i c.get.result c.requires.placed at in
     (boxed_child_is_placed n c.in-Ok.i c.index_mut-child.result.now c.requires.placed lt (sym c.index_mut-child.ensures.value)).1
 
-pub add_leaf-requires-clause-gap : goal.add_leaf-requires-clause-gap
-add_leaf-requires-clause-gap g t c =
+pub add_lent-requires-clause-gap : goal.add_lent-requires-clause-gap
+add_lent-requires-clause-gap g t c =
     let n = c.args.node.now in
     subst (λ y. IsPlaceOf y (firsts (tree_of n).children) (Err c.in-Err.i)) c.get.ensures.value (place_by_mask n c.get.result (Err c.in-Err.i) c.requires.placed c.in-Err.ensures)
 
@@ -103,11 +106,12 @@ returns-then-n-len g t c =
     let path = append-agreed_fragment (fragment_of b.value) key depth n len same in
     let some = (boxed_child_is_placed node c.in-Ok.i b c.requires.placed lt is).0 in
     let rest = drop (depth + n) key in
-    let below = subst (λ m. EditOutcome c.put.result c.args.pair (fragment_of m ++ rest) (tree_of m) (tree_of c.put.new.node)) c.deref_mut.ensures.value c.put.ensures in
-    edit_through_child node c.in-Ok.i b c.requires.placed c.put.result _ c.args.pair (fragment_of b.value ++ rest) (fragment_of node ++ drop depth key) lt is
+    settles_map c.put_below.result c.args.change.now c.put_below.new.change
+    (λ x answer below. edit_through_child node c.in-Ok.i b c.requires.placed answer _ x (fragment_of b.value ++ rest) (fragment_of node ++ drop depth key) lt is
     (ap (λ p. fragment_of node ++ p) (sym path))
     (append-some (fragment_of b.value) rest some) (first-append (fragment_of b.value) rest some)
-    (edit_replaces c.put.result c.args.pair _ _ _ below)
+    (edit_replaces answer x _ _ _ (subst (λ m. EditOutcome answer x (fragment_of m ++ rest) (tree_of m) (tree_of c.put_below.new.node)) c.deref_mut.ensures.value below)))
+    c.put_below.ensures
 
 pub returns-else-n-len : goal.returns-else-n-len
 returns-else-n-len g t c =
@@ -128,8 +132,9 @@ returns-else-n-len g t c =
     (first-fragment_at_place node c.in-Ok.i b c.requires.placed c.get.result lt is at) c.get.ensures.value (omega (arith, c.requires.depth, c.if-depth-len.false, c.len.ensures))
     (subst (λ m. n < length (fragment_of m) → depth + n < length key → slice_index (fragment_of m) n ≢ slice_index key (depth + n)) c.deref.ensures (agreed_apart _ c.args.list.now c.args.depth c.agreed-n.result.same c.agreed-n.result.compared c.agreed-n.ensures.agrees)) in
     let part = take_some (fragment_of b.value) n positive within in
-    edit_through_child node c.in-Ok.i b c.requires.placed c.split_and_put.result c.split_and_put.new.slot c.args.pair (take n (fragment_of b.value) ++ drop (depth + n) key) (fragment_of node ++ drop depth key) lt is
+    settles_map c.split_and_put_lent.result c.args.change.now c.split_and_put_lent.new.change
+    (λ x answer. edit_through_child node c.in-Ok.i b c.requires.placed answer c.split_and_put_lent.new.slot x (take n (fragment_of b.value) ++ drop (depth + n) key) (fragment_of node ++ drop depth key) lt is
     (ap (λ p. fragment_of node ++ p) (sym (append-agreed_part (fragment_of b.value) key depth n same)))
     (append-some (take n (fragment_of b.value)) rest part)
-    (first-append (take n (fragment_of b.value)) rest part ∙ first-take (fragment_of b.value) n positive)
-    c.split_and_put.ensures
+    (first-append (take n (fragment_of b.value)) rest part ∙ first-take (fragment_of b.value) n positive))
+    c.split_and_put_lent.ensures

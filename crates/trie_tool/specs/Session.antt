@@ -62,6 +62,18 @@ pub record Sends {U : Type 0} (r : Result U ToolError) (b sent : List ℕ)
   pub appended : Appends held held' written
   pub why : Sent r b (sent ++ written) s
 
+-- the lines of b were answered, up to a fault, at which all answers were sent
+abbrev pub Told : {U : Type 0} → Result U ToolError → (b sent : List ℕ) → Session → Type 0
+Told (Ok _) b sent s = IsAt b sent s
+Told (Err e) b sent s = Breaks e (ended_transcript b) sent
+
+-- and some of their answers were written
+pub record Tells {U : Type 0} (r : Result U ToolError) (b sent : List ℕ)
+    (held held' : Option (List ℕ)) (s : Session) : Type 0 where
+  pub written : List ℕ
+  pub appended : Appends held held' written
+  pub why : Told r b (sent ++ written) s
+
 -- at the end of the input
 abbrev pub IsDone : {U : Type 0} → Result U ToolError → (b sent : List ℕ) → Type 0
 IsDone (Ok _) b sent = IsFalse (transcript b).is_bad × (sent ≡ output (transcript b))

@@ -1,125 +1,171 @@
 //! Carrying out a command, and the whole answer to it.
-ghost use Rattle.std.specs.Prelude.{◌≡◌, ◌++◌, ◌∷◌, [], IfOk, OnOk, map as each, string_bytes, decimal};
+ghost use Rattle.std.specs.Prelude.{◌≡◌, ◌++◌, ◌∷◌, [], OnOk, OnErr, map as each, decimal};
 ghost use Rattle.trie_tool.specs.Command.{request};
 ghost use Rattle.trie_tool.specs.Request.{answer_to, numbers_after, insert_answer, get_answer, foot_answer, below_answer, json_answer, row};
 ghost use Rattle.radix_trie.specs.Views.{pairs_below};
 ghost use Rattle.std.specs.FinMap as map;
+ghost use Rattle.nibble_map.specs.Lists.{IsPrefix};
 ghost use Rattle.nibble_map.specs.Nibbles.{nibbles};
 ghost use Rattle.trie_tool.specs.Numbers.{text};
 
 use crate::command::Command;
 use crate::numbers::{Numbers, Rows};
+use crate::object::add_object;
+use itoa::{Buffer, write_digits};
 use radix_trie::Memory;
-use std::alloc::{AllocError, Global};
+use std::alloc::AllocError;
 
-fn insert_answer(alloc: Global, old: Option<u64>) -> Result<String, AllocError>
-    ensures { IfOk result (λ a. string_bytes a ≡ insert_answer old) }
+// How many digits the largest `u64` has.
+const DIGITS: usize = 20;
+
+/// Adds a number and a line feed.
+fn add_number(out: &mut Vec<u8>, number: u64) -> Result<(), AllocError>
+    ensures text { OnOk result (out.new.items ≡ out.old.items ++ decimal number ++ 10 ∷ []) }
+    ensures kept { IsPrefix out.old.items out.new.items }
+{
+    let mut line = [b'\n'; DIGITS + 1];
+    let start = write_digits(number, &mut line, DIGITS);
+    out.extend_from_slice(&line[start..])
+}
+
+fn add_insert_answer(out: &mut Vec<u8>, old: Option<u64>) -> Result<(), AllocError>
+    ensures text { OnOk result (out.new.items ≡ out.old.items ++ insert_answer old) }
+    ensures kept { IsPrefix out.old.items out.new.items }
 {
     match old {
-        None => String::from_str(alloc, "new\n"),
-        Some(number) => format!(in alloc; "old {number}\n"),
+        None => out.extend_from_slice(b"new\n"),
+        Some(number) => {
+            out.extend_from_slice(b"old ")?;
+            add_number(out, number)
+        }
     }
 }
 
-fn get_answer(alloc: Global, found: Option<u64>) -> Result<String, AllocError>
-    ensures { IfOk result (λ a. string_bytes a ≡ get_answer found) }
+fn add_get_answer(out: &mut Vec<u8>, found: Option<u64>) -> Result<(), AllocError>
+    ensures text { OnOk result (out.new.items ≡ out.old.items ++ get_answer found) }
+    ensures kept { IsPrefix out.old.items out.new.items }
 {
     match found {
-        None => String::from_str(alloc, "none\n"),
-        Some(number) => format!(in alloc; "{number}\n"),
+        None => out.extend_from_slice(b"none\n"),
+        Some(number) => add_number(out, number),
     }
 }
 
-fn len_answer(alloc: Global, count: usize) -> Result<String, AllocError>
-    ensures { IfOk result (λ a. string_bytes a ≡ decimal count ++ 10 ∷ []) }
+/// Adds a number that may be wider than a `u64`.
+fn add_wide(out: &mut Vec<u8>, number: u128) -> Result<(), AllocError>
+    ensures text { OnOk result (out.new.items ≡ out.old.items ++ decimal number) }
+    ensures kept { IsPrefix out.old.items out.new.items }
 {
-    format!(in alloc; "{count}\n")
+    out.extend_from_slice(Buffer::new().format(number).as_bytes())
 }
 
-fn foot_answer(alloc: Global, points: u128, prefixes: u128) -> Result<String, AllocError>
-    ensures { IfOk result (λ a. string_bytes a ≡ foot_answer (points, prefixes)) }
+fn add_foot_answer(out: &mut Vec<u8>, points: u128, prefixes: u128) -> Result<(), AllocError>
+    ensures text { OnOk result (out.new.items ≡ out.old.items ++ foot_answer (points, prefixes)) }
+    ensures kept { IsPrefix out.old.items out.new.items }
 {
-    let mut text = format!(in alloc; "{points}")?;
-    text.push_str(" ")?;
-    let second = format!(in alloc; "{prefixes}\n")?;
-    text.push_str(second.as_str())?;
-    Ok(text)
+    add_wide(out, points)?;
+    out.extend_from_slice(b" ")?;
+    add_wide(out, prefixes)?;
+    out.extend_from_slice(b"\n")
 }
 
 /// Adds a text, a space and its number.
-fn add_row(alloc: Global, rows: &mut String, key: &String, number: u64) -> Result<(), AllocError>
-    ensures { OnOk result
-        (string_bytes rows.new ≡ string_bytes rows.old ++ row (text (key.now, number))) }
+fn add_row(out: &mut Vec<u8>, key: &String, number: u64) -> Result<(), AllocError>
+    ensures text { OnOk result
+        (out.new.items ≡ out.old.items ++ row (text (key.now, number))) }
+    ensures kept { IsPrefix out.old.items out.new.items }
 {
-    rows.push_str(key.as_str())?;
-    let rest = format!(in alloc; " {number}\n")?;
-    rows.push_str(rest.as_str())
+    out.extend_from_slice(key.as_bytes())?;
+    out.extend_from_slice(b" ")?;
+    add_number(out, number)
 }
 
-/// How many rows there are, and then each text with its number.
-fn rows_answer(alloc: Global, rows: Rows<'_>) -> Result<String, AllocError>
-    ensures { IfOk result (λ a. string_bytes a ≡ below_answer (each text rows.entry.walk)) }
+/// Adds how many rows there are, and then each text with its number.
+fn add_rows(out: &mut Vec<u8>, rows: Rows<'_>) -> Result<(), AllocError>
+    ensures text { OnOk result
+        (out.new.items ≡ out.old.items ++ below_answer (each text rows.entry.walk)) }
+    ensures kept { IsPrefix out.old.items out.new.items }
 {
     let Rows { count, walk } = rows;
-    let mut answer = format!(in alloc; "{count}\n")?;
+    add_number(out, count as u64)?;
     for (key, number) in walk {
-        add_row(alloc, &mut answer, key, *number)?;
+        add_row(out, key, *number)?;
     }
-    Ok(answer)
+    Ok(())
 }
 
-/// How many texts went, and then each of them with its number.
-fn gone_answer(alloc: Global, gone: &[(String, u64)]) -> Result<String, AllocError>
-    ensures { IfOk result (λ a. string_bytes a ≡ below_answer (each text gone.now)) }
+/// Adds how many texts went, and then each of them with its number.
+fn add_gone(out: &mut Vec<u8>, gone: &[(String, u64)]) -> Result<(), AllocError>
+    ensures text { OnOk result
+        (out.new.items ≡ out.old.items ++ below_answer (each text gone.now)) }
+    ensures kept { IsPrefix out.old.items out.new.items }
 {
-    let count = gone.len();
-    let mut rows = format!(in alloc; "{count}\n")?;
+    add_number(out, gone.len() as u64)?;
     for (key, number) in gone {
-        add_row(alloc, &mut rows, key, *number)?;
+        add_row(out, key, *number)?;
     }
-    Ok(rows)
+    Ok(())
 }
 
-/// The texts that begin with the key, and their numbers.
-fn below_answer(alloc: Global, numbers: &Numbers, key: &str) -> Result<String, Memory>
-    ensures { IfOk result
-        (λ a. string_bytes a ≡ below_answer (pairs_below numbers.now (nibbles key.now))) }
+/// Adds the texts that begin with the key, and their numbers.
+fn add_below(out: &mut Vec<u8>, numbers: &Numbers, key: &str) -> Result<(), Memory>
+    ensures text { OnOk result (out.new.items
+        ≡ out.old.items ++ below_answer (pairs_below numbers.now (nibbles key.now))) }
+    ensures kept { IsPrefix out.old.items out.new.items }
 {
     match numbers.below(key)? {
-        Some(rows) => Ok(rows_answer(alloc, rows)?),
-        None => Ok(String::from_str(alloc, "0\n")?),
+        Some(rows) => Ok(add_rows(out, rows)?),
+        None => Ok(out.extend_from_slice(b"0\n")?),
     }
 }
 
-/// The compact text of the object of the texts and their numbers.
-fn json_answer(numbers: &Numbers) -> Result<String, Memory>
-    ensures { IfOk result (λ a. string_bytes a ≡ json_answer (map.values numbers.now)) }
+/// Adds the compact text of the object of the texts and their numbers.
+fn add_json(out: &mut Vec<u8>, numbers: &Numbers) -> Result<(), Memory>
+    ensures text { OnOk result
+        (out.new.items ≡ out.old.items ++ json_answer (map.values numbers.now)) }
+    ensures kept { IsPrefix out.old.items out.new.items }
 {
-    let mut text = numbers.json()?;
-    text.push_str("\n")?;
-    Ok(text)
+    add_object(out, numbers.all()?)?;
+    Ok(out.extend_from_slice(b"\n")?)
 }
 
-/// Carries out a command, and gives its whole answer.
-pub fn answer(alloc: Global, numbers: &mut Numbers, command: Command<'_>) -> Result<String, Memory>
-    ensures text { IfOk result
-        (λ a. string_bytes a ≡ answer_to (request command.entry) numbers.old) }
+/// Carries out a command, and adds its answer, or after a refusal maybe a part of it.
+fn add_answer(out: &mut Vec<u8>, numbers: &mut Numbers, command: Command<'_>) -> Result<(), Memory>
+    ensures text { OnOk result
+        (out.new.items ≡ out.old.items ++ answer_to (request command.entry) numbers.old) }
     ensures numbers { OnOk result
         (numbers.new ≡ numbers_after (request command.entry) numbers.old) }
+    ensures kept { IsPrefix out.old.items out.new.items }
 {
-    let text = match command {
-        Command::Insert(key, number) => insert_answer(alloc, numbers.insert(key, number)?)?,
-        Command::Get(key) => get_answer(alloc, numbers.get(key)?)?,
-        Command::Remove(key) => get_answer(alloc, numbers.remove(key)?)?,
-        Command::Ancestor(key) => get_answer(alloc, numbers.ancestor(key)?)?,
-        Command::Below(key) => below_answer(alloc, numbers, key)?,
-        Command::Prune(key) => gone_answer(alloc, &numbers.prune(key)?)?,
-        Command::Len => len_answer(alloc, numbers.len())?,
+    match command {
+        Command::Insert(key, number) => add_insert_answer(out, numbers.insert(key, number)?)?,
+        Command::Get(key) => add_get_answer(out, numbers.get(key)?)?,
+        Command::Remove(key) => add_get_answer(out, numbers.remove(key)?)?,
+        Command::Ancestor(key) => add_get_answer(out, numbers.ancestor(key)?)?,
+        Command::Below(key) => add_below(out, numbers, key)?,
+        Command::Prune(key) => add_gone(out, &numbers.prune(key)?)?,
+        Command::Len => add_number(out, numbers.len() as u64)?,
         Command::Foot => {
             let (points, prefixes) = numbers.footprint();
-            foot_answer(alloc, points, prefixes)?
+            add_foot_answer(out, points, prefixes)?
         }
-        Command::Json => json_answer(numbers)?,
-    };
-    Ok(text)
+        Command::Json => add_json(out, numbers)?,
+    }
+    Ok(())
+}
+
+/// Carries out a command, and adds its whole answer. After a refusal nothing is added.
+pub fn answer(out: &mut Vec<u8>, numbers: &mut Numbers, command: Command<'_>) -> Result<(), Memory>
+    ensures text { OnOk result
+        (out.new.items ≡ out.old.items ++ answer_to (request command.entry) numbers.old) }
+    ensures numbers { OnOk result
+        (numbers.new ≡ numbers_after (request command.entry) numbers.old) }
+    ensures unchanged { OnErr result (out.new.items ≡ out.old.items) }
+{
+    let whole = out.len();
+    let outcome = add_answer(out, numbers, command);
+    if outcome.is_err() {
+        out.truncate(whole);
+    }
+    outcome
 }

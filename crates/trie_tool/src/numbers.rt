@@ -1,18 +1,14 @@
 //! The trie of texts and their numbers.
-ghost use Rattle.std.specs.Prelude.{◌≡◌, [], length, map as each, IfOk, IfSome, IfNone, OnOk, OnErr, string_bytes};
+ghost use Rattle.std.specs.Prelude.{◌≡◌, [], length, map as each, IfOk, IfSome, IfNone, OnOk, OnErr};
 ghost use Rattle.std.specs.FinMap as map;
 ghost use Rattle.nibble_map.specs.Computed.{ancestor, footprint};
 ghost use Rattle.nibble_map.specs.Nibbles.{nibbles};
 ghost use Rattle.nibble_map.specs.Maps.{value_at, without_below};
-ghost use Rattle.trie_tool.specs.Numbers.{data_of, text};
+ghost use Rattle.trie_tool.specs.Numbers.{text};
 ghost use Rattle.radix_trie.specs.Views.{pairs_below, value_of};
-ghost use Rattle.serde_json.specs.Data.{number, unsigned};
-ghost use Rattle.serde_json.specs.View.{members_view};
-ghost use Rattle.trie_tool.specs.Request.{json_text, members};
 
 use radix_trie::iter::Iter;
-use radix_trie::{Memory, Trie, TrieCommon, to_value};
-use serde_json::Value;
+use radix_trie::{Memory, Trie, TrieCommon};
 use std::alloc::Global;
 use std::marker::Model;
 
@@ -134,39 +130,10 @@ impl Numbers {
         self.trie.len()
     }
 
-    /// The same texts, each with its number as JSON.
-    fn as_json(&self) -> Result<Trie<String, Value>, Memory>
-        ensures { IfOk result
-            (λ values. members_view (map.values values) ≡ members (map.values self.now)) }
+    /// A walk over all texts and their numbers, in order.
+    pub fn all(&self) -> Result<Iter<'_, String, u64>, Memory>
+        ensures { IfOk result (λ walk. each text walk ≡ map.values self.now) }
     {
-        let mut values = Trie::new(self.alloc);
-        for (key, number) in TrieCommon::iter(&self.trie)? {
-            put_json(&mut values, key, *number)?;
-        }
-        Ok(values)
-    }
-
-    /// The compact text of the object of the texts and their numbers.
-    pub fn json(&self) -> Result<String, Memory>
-        ensures { IfOk result (λ a. string_bytes a ≡ json_text (map.values self.now)) }
-    {
-        let values = self.as_json()?;
-        let Ok(value) = to_value(self.alloc, &values) else {
-            return Err(Memory);
-        };
-        Ok(value.to_string(self.alloc)?)
-    }
-}
-
-/// Stores the number as JSON at this text. After a refusal the trie is as before.
-fn put_json(values: &mut Trie<String, Value>, key: &String, count: u64) -> Result<(), Memory>
-    ensures stored { OnOk result (data_of values.new
-        ≡ map.insert (data_of values.old) (nibbles (string_bytes key.now))
-        (string_bytes key.now, number (unsigned count))) }
-    ensures unchanged { OnErr result (values.new ≡ values.old) }
-{
-    match values.insert(key.clone()?, Value::from(count)) {
-        Ok(_) => Ok(()),
-        Err(_) => Err(Memory),
+        TrieCommon::iter(&self.trie)
     }
 }

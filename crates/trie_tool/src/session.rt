@@ -1,8 +1,8 @@
 //! What is answered to the lines of one read after another.
-ghost use Rattle.std.specs.Prelude.{◌≡◌, ◌+◌, ◌||◌, ℕ, List, [], ◌∷◌, ◌++◌, Some, IsFalse, IfSome, IfNone, IfOk, IfErr, OnOk, OnErr, string_bytes};
+ghost use Rattle.std.specs.Prelude.{◌≡◌, ◌+◌, ◌||◌, ℕ, List, [], ◌∷◌, ◌++◌, Some, IsFalse, IfSome, IfNone, IfErr, OnOk, OnErr};
 ghost use Rattle.std.specs.FinMap as map;
 ghost use Rattle.trie_tool.specs.Faults.{tells_write};
-ghost use Rattle.trie_tool.specs.Session.{IsRefusal, Replies, IsAt, Goes, Sends, Finishes};
+ghost use Rattle.trie_tool.specs.Session.{IsRefusal, Replies, IsAt, Goes, Tells, Sends, Finishes};
 ghost use Rattle.trie_tool.specs.Transcript.{HasNoFeed, counted, reply, transcript, ended_transcript};
 
 use crate::answers::answer;
@@ -10,8 +10,12 @@ use crate::command::parse;
 use crate::fault::ToolError;
 use crate::numbers::Numbers;
 use crate::watched::WatchedWriter;
+use memchr::memchr;
 use std::alloc::Global;
 use std::io::Write;
+
+// How many bytes of answers may wait while more lines are answered.
+const MOST_WAITING: usize = 64 * 1024;
 
 /// The bytes before the first line feed, and those after it.
 fn first_line(bytes: &[u8]) -> Option<(&[u8], &[u8])>
@@ -19,44 +23,38 @@ fn first_line(bytes: &[u8]) -> Option<(&[u8], &[u8])>
     ensures line { IfSome result (λ p. HasNoFeed p.0.now) }
     ensures none { IfNone result (HasNoFeed bytes.now) }
 {
-    let place = bytes.iter().position(|byte| *byte == b'\n')?;
+    let place = memchr(b'\n', bytes)?;
     let (line, fed) = bytes.split_at(place);
     let (_, after) = fed.split_at(1);
     Some((line, after))
 }
 
-/// The whole answer to the line of this number; an empty line has an empty answer.
-fn reply(
-    alloc: Global,
-    numbers: &mut Numbers,
-    line: &[u8],
-    number: u64,
-) -> Result<String, ToolError>
-    ensures answer { IfOk result
-        (λ a. reply line.now numbers.old ≡ Some (string_bytes a, numbers.new)) }
-    ensures refused { IfErr result (λ e. IsRefusal e line.now numbers.old number) }
-{
-    if line.is_empty() {
-        return Ok(String::new(alloc));
-    }
-    let Some(command) = parse(line) else {
-        return Err(ToolError::BadLine(number));
-    };
-    answer(alloc, numbers, command).map_err(|_| ToolError::Memory)
-}
-
 /// The numbers, the answers that aren't written yet, and the count of lines.
 #[derive(Drop)]
 struct Conversation {
-    alloc: Global,
     numbers: Numbers,
     answers: Vec<u8>,
     count: u64,
 }
 
 impl Conversation {
-    /// Answers a good line; an empty one has an empty answer. After a refusal the answers are as
-    /// before.
+    /// Answers the line of this number; an empty one has an empty answer. After a refusal the
+    /// answers are as before.
+    fn reply(&mut self, line: &[u8], number: u64) -> Result<(), ToolError>
+        ensures answered { OnOk result (Replies line.now self.old self.new) }
+        ensures refused { IfErr result (λ e. IsRefusal e line.now self.old.numbers number) }
+        ensures unchanged { OnErr result (self.new.answers.items ≡ self.old.answers.items) }
+    {
+        if line.is_empty() {
+            return Ok(());
+        }
+        let Some(command) = parse(line) else {
+            return Err(ToolError::BadLine(number));
+        };
+        answer(&mut self.answers, &mut self.numbers, command).map_err(|_| ToolError::Memory)
+    }
+
+    /// Answers and counts a good line. After a refusal the answers are as before.
     fn answer_line(&mut self, line: &[u8]) -> Result<(), ToolError>
         ensures answered { OnOk result (Replies line.now self.old self.new) }
         ensures count { OnOk result (self.new.count ≡ counted (self.old.count + 1)) }
@@ -65,10 +63,7 @@ impl Conversation {
         ensures unchanged { OnErr result (self.new.answers.items ≡ self.old.answers.items) }
     {
         let number = self.count.saturating_add(1);
-        let text = reply(self.alloc, &mut self.numbers, line, number)?;
-        if self.answers.extend_from_slice(text.as_bytes()).is_err() {
-            return Err(ToolError::Memory);
-        }
+        self.reply(line, number)?;
         self.count = number;
         Ok(())
     }
@@ -90,7 +85,6 @@ impl Session {
     {
         Session {
             conversation: Conversation {
-                alloc,
                 numbers: Numbers::new(alloc),
                 answers: Vec::new(alloc),
                 count: 0,
@@ -139,20 +133,6 @@ impl Session {
         self.end_line(b"")
     }
 
-    /// Answers each line that ends among these bytes, and keeps what stands after them.
-    fn answer_lines(&mut self, bytes: &[u8]) -> Result<(), ToolError>
-        ensures answered { (b sent : List ℕ) → IsAt b sent self.old
-            → Goes result (b ++ bytes.now) sent self.new }
-        ensures no_write_fault { IsFalse (tells_write result) }
-    {
-        let mut rest = bytes;
-        while let Some((line, after)) = first_line(rest) {
-            self.end_line(line)?;
-            rest = after;
-        }
-        self.keep(rest)
-    }
-
     /// Writes the answers that were made, also those before a fault.
     fn send<W: Write>(
         &mut self,
@@ -170,6 +150,24 @@ impl Session {
         outcome
     }
 
+    /// Answers the line that these bytes end. Writes the answers at a fault, and where many wait.
+    fn hear_line<W: Write>(
+        &mut self,
+        line: &[u8],
+        writer: &mut WatchedWriter<W>,
+    ) -> Result<(), ToolError>
+        ensures told { (b sent : List ℕ) → IsAt b sent self.old → HasNoFeed line.now
+            → Tells result (b ++ line.now ++ 10 ∷ []) sent (W.contents writer.old.writer)
+            (W.contents writer.new.writer) self.new }
+        ensures noted { writer.new.has_failed ≡ (writer.old.has_failed || tells_write result) }
+    {
+        let outcome = self.end_line(line);
+        if outcome.is_err() || self.conversation.answers.len() > MOST_WAITING {
+            return self.send(outcome, writer);
+        }
+        Ok(())
+    }
+
     /// Hears more bytes, and writes the answers to the lines that end among them.
     pub fn hear<W: Write>(
         &mut self,
@@ -181,7 +179,12 @@ impl Session {
             (W.contents writer.new.writer) self.new }
         ensures noted { writer.new.has_failed ≡ (writer.old.has_failed || tells_write result) }
     {
-        let outcome = self.answer_lines(bytes);
+        let mut rest = bytes;
+        while let Some((line, after)) = first_line(rest) {
+            self.hear_line(line, writer)?;
+            rest = after;
+        }
+        let outcome = self.keep(rest);
         self.send(outcome, writer)
     }
 

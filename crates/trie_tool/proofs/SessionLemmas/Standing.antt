@@ -1,8 +1,9 @@
 -- Where a session stands after each of its steps.
-use Rattle.std.proofs.Common.{◌≡◌, ℕ, ◌+◌, Bool, true, List, [], ◌∷◌, ◌++◌, length, take, drop, refl, sym, ap, subst, ◌∙◌, Option, Some, IsFalse, append_assoc, append-nil, arith, Result, Ok, Err, OnOk, OnErr, IfErr, length-append, take-append-drop, if◌then◌else◌}
+use Rattle.std.proofs.Common.{◌≡◌, ℕ, ◌+◌, Bool, true, false, true≢false, is_err, List, [], ◌∷◌, ◌++◌, length, take, drop, refl, sym, ap, subst, ◌∙◌, Option, Some, IsFalse, append_assoc, append-nil, arith, Result, Ok, Err, OnOk, OnErr, IfErr, length-append, take-append-drop, if◌then◌else◌}
 use Rattle.std.proofs.lemmas.List.Folds.{concat-append}
 use Rattle.std.specs.List.{concat}
 use Rattle.std.specs.Io.KnownBytes.{Appends}
+use Rattle.std.proofs.KnownBytes.{Appends-nil, Appends-trans}
 use Rattle.trie_tool.specs.declared.fault.ToolError.{ToolError}
 use Rattle.trie_tool.specs.declared.fault.ToolError.TheVariants.{Read, Write, BadLine, Memory}
 use Rattle.trie_tool.specs.declared.session.Conversation.{Conversation}
@@ -10,7 +11,7 @@ use Rattle.trie_tool.specs.declared.session.Session.{Session}
 use Rattle.trie_tool.specs.Request.{Numbers}
 use Rattle.trie_tool.specs.Serve.{IsBeginning}
 use Rattle.trie_tool.specs.Transcript.{Transcript, Cut, HasNoFeed, cut, transcript, ended_transcript, output, reply, after_reply, counted}
-use Rattle.trie_tool.specs.Session.{IsAnswered, Replies, IsRefusal, Breaks, Goes, Sent, Sends, IsDone, Finishes}
+use Rattle.trie_tool.specs.Session.{IsAnswered, IsAt, Replies, IsRefusal, Breaks, Goes, Sent, Sends, Tells, IsDone, Finishes}
 use Rattle.trie_tool.proofs.TranscriptLemmas.Cuts.{cut-fed, cut-kept}
 use Rattle.trie_tool.proofs.TranscriptLemmas.Transcripts.{ended_transcript-fed, ended_transcript-kept, Extends-heard, Breaks-lift}
 
@@ -158,3 +159,56 @@ OnOk-always (Err e) P p = tt
 -- no byte, no line feed
 pub HasNoFeed-nil : HasNoFeed []
 HasNoFeed-nil = λ k d within. absurd (omega arith)
+
+-- all lines of b are answered, and meanwhile some of the answers were written
+abbrev pub IsOn : (b sent : List ℕ) (held held' : Option (List ℕ)) → Session → Type 0
+IsOn b sent held held' s = (written : List ℕ) × Appends held held' written × IsAt b (sent ++ written) s
+
+IsAt-unsent : (b sent : List ℕ) (s : Session) → IsAt b sent s → IsAt b (sent ++ []) s
+IsAt-unsent b sent s at = subst (λ (l : List ℕ). IsAt b l s) (sym (append-nil sent)) at
+
+-- nothing more was heard, and nothing was written
+pub IsOn-start : (b sent : List ℕ) (held : Option (List ℕ)) (s : Session) → IsAt b sent s → IsOn (b ++ []) sent held held s
+IsOn-start b sent held s at = ([], Appends-nil held, IsAt-unsent (b ++ []) sent s (subst (λ (l : List ℕ). IsAt l sent s) (sym (append-nil b)) at))
+
+-- where no fault came, the answers may wait
+pub Tells-waits : {U V : Type 0} (r : Result U ToolError) (v : V) (b sent : List ℕ) (held : Option (List ℕ)) (s : Session) → is_err r ≡ false → Goes r b sent s
+    → Tells {U = V} (Ok v) b sent held held s
+Tells-waits (Ok u) v b sent held s good at = record { written = []; appended = Appends-nil held; why = IsAt-unsent b sent s at }
+Tells-waits (Err e) v b sent held s bad why = absurd (true≢false bad)
+
+-- all of them may be written too
+pub Tells-sends : {U : Type 0} (r : Result U ToolError) (b sent : List ℕ) (held held' : Option (List ℕ)) (s : Session) → Sends r b sent held held' s → Tells r b sent held held' s
+Tells-sends (Ok u) b sent held held' s sends = record { written = sends.written; appended = sends.appended; why = sends.why.at }
+Tells-sends (Err e) b sent held held' s sends = record { written = sends.written; appended = sends.appended; why = sends.why }
+
+-- one more line is answered
+pub IsOn-told : {U : Type 0} (r : Result U ToolError) (u : U) (b c d sent : List ℕ) (held held' held'' : Option (List ℕ)) (s s' : Session) → c ≡ d → r ≡ Ok u
+    → (on : IsOn b sent held held' s) → Tells r c (sent ++ on.0) held' held'' s' → IsOn d sent held held'' s'
+IsOn-told r u b c d sent held held' held'' s s' whole same on tells =
+    let told = subst (λ (q : Result _ ToolError). Tells q c (sent ++ on.0) held' held'' s') same tells in
+    subst (λ (l : List ℕ). IsOn l sent held held'' s') whole
+    (on.0 ++ told.written, Appends-trans held held' held'' _ _ on.1 told.appended, subst (λ (l : List ℕ). IsAt c l s') (append_assoc sent on.0 told.written) told.why)
+
+-- a fault at one of the lines breaks off what is heard
+pub Sends-told : {U V : Type 0} (r : Result U ToolError) (q : Result V ToolError) (e : ToolError) (b c more d sent : List ℕ) (held held' held'' : Option (List ℕ)) (s s' s'' : Session)
+    → c ++ more ≡ d → r ≡ Err e → q ≡ Err e → (on : IsOn b sent held held' s) → Tells r c (sent ++ on.0) held' held'' s' → Sends q d sent held held'' s''
+Sends-told r q e b c more d sent held held' held'' s s' s'' whole same out on tells =
+    let told = subst (λ (p : Result _ ToolError). Tells p c (sent ++ on.0) held' held'' s') same tells in
+    subst (λ (p : Result _ ToolError). Sends p d sent held held'' s'') (sym out) (record {
+      written = on.0 ++ told.written;
+      appended = Appends-trans held held' held'' _ _ on.1 told.appended;
+      why =
+          subst (λ (l : List ℕ). Breaks e (ended_transcript l) (sent ++ (on.0 ++ told.written))) whole
+          (subst (λ (l : List ℕ). Breaks e (ended_transcript (c ++ more)) l) (append_assoc sent on.0 told.written) (Breaks-heard e c more _ told.why));
+    })
+
+-- what is written last comes after what was written meanwhile
+pub Sends-on : {U : Type 0} (r : Result U ToolError) (b c d sent : List ℕ) (held held' held'' : Option (List ℕ)) (s s' : Session) → c ≡ d
+    → (on : IsOn b sent held held' s) → Sends r c (sent ++ on.0) held' held'' s' → Sends r d sent held held'' s'
+Sends-on r b c d sent held held' held'' s s' whole on sends =
+    subst (λ (l : List ℕ). Sends r l sent held held'' s') whole (record {
+      written = on.0 ++ sends.written;
+      appended = Appends-trans held held' held'' _ _ on.1 sends.appended;
+      why = subst (λ (l : List ℕ). Sent r c l s') (append_assoc sent on.0 sends.written) sends.why;
+    })

@@ -1,4 +1,4 @@
-//! Thousands of reads and lines, and a line of two mebibytes.
+//! Thousands of reads, lines and answers, and a line of two mebibytes.
 
 use super::*;
 
@@ -53,6 +53,25 @@ fn long_inputs(rt: HostRuntime) {
     let below = (insertion.as_slice(), b"below \n".as_slice());
     let rows = (b"new\n".as_slice(), row.as_slice());
     check_repeated(&rt, rt.alloc(), usize::MAX, 9_000, below, rows);
+}
+
+// Of many answers to what one read brings, those that fill 64 KiB are written before the next is made.
+#[test]
+fn many_answers(rt: HostRuntime) {
+    let mut text = Vec::new(rt.alloc());
+    add(&rt, &mut text, b"insert a 18446744073709551615\n", 1);
+    add(&rt, &mut text, b"get a\n", 9_000);
+    let mut wanted = Vec::new(rt.alloc());
+    add(&rt, &mut wanted, b"new\n", 1);
+    add(&rt, &mut wanted, b"18446744073709551615\n", 3_121);
+    let mut reader = text.as_slice();
+    let mut writer = TiringWriter {
+        held: Vec::new(rt.alloc()),
+        piece: usize::MAX,
+        good: 1,
+    };
+    assert!(rt; served(rt.alloc(), &mut reader, &mut writer) == Err(ToolError::Write));
+    assert!(rt; writer.held.as_slice() == wanted.as_slice());
 }
 
 // A line of two mebibytes.

@@ -1,0 +1,134 @@
+//! The tries that the tests start from and end at.
+
+use crate::states::{Pairs, State};
+
+/// A text of 17 bytes: its encoding takes memory.
+pub(crate) const LONG: &'static str = "aaaaaaaaaaaaaaaaa";
+
+/// The nibbles of the long text.
+pub(crate) const LONG_LIST: [u8; 34] = [
+    6, 1, 6, 1, 6, 1, 6, 1, 6, 1, 6, 1, 6, 1, 6, 1, 6, 1, 6, 1, 6, 1, 6, 1, 6, 1, 6, 1, 6, 1, 6, 1,
+    6, 1,
+];
+
+pub(crate) const EMPTY: State = State {
+    walk: &[],
+    footprint: (1, 0),
+};
+
+pub(crate) const SEVEN_WALK: Pairs = &[
+    ("a", 15),
+    ("ab", 16),
+    ("abcd", 17),
+    ("abcdef", 18),
+    ("abcdefgh", 19),
+    ("acbdef", 30),
+    ("bcdefgh", 29),
+];
+
+pub(crate) const ONE_WALK: Pairs = &[(LONG, 2)];
+
+/// The sample.
+pub(crate) const SEVEN: State = State {
+    walk: SEVEN_WALK,
+    footprint: (10, 38),
+};
+
+/// The long text alone.
+pub(crate) const ONE: State = State {
+    walk: ONE_WALK,
+    footprint: (2, 34),
+};
+
+/// The long text, and one that parts from it in its second byte.
+pub(crate) const PARTED: State = State {
+    walk: &[(LONG, 2), ("ab", 1)],
+    footprint: (4, 35),
+};
+
+/// The sample and the long text.
+pub(crate) const EIGHT: State = State {
+    walk: &[
+        ("a", 15),
+        (LONG, 3),
+        ("ab", 16),
+        ("abcd", 17),
+        ("abcdef", 18),
+        ("abcdefgh", 19),
+        ("acbdef", 30),
+        ("bcdefgh", 29),
+    ],
+    footprint: (11, 69),
+};
+
+/// The sample without what begins with abc.
+pub(crate) const FOUR: State = State {
+    walk: &[("a", 15), ("ab", 16), ("acbdef", 30), ("bcdefgh", 29)],
+    footprint: (7, 26),
+};
+
+/// The sample with another value at abcd.
+pub(crate) const CHANGED: State = State {
+    walk: &[
+        ("a", 15),
+        ("ab", 16),
+        ("abcd", 18),
+        ("abcdef", 18),
+        ("abcdefgh", 19),
+        ("acbdef", 30),
+        ("bcdefgh", 29),
+    ],
+    footprint: (10, 38),
+};
+
+/// The sample without acbdef.
+pub(crate) const SIX: State = State {
+    walk: &[
+        ("a", 15),
+        ("ab", 16),
+        ("abcd", 17),
+        ("abcdef", 18),
+        ("abcdefgh", 19),
+        ("bcdefgh", 29),
+    ],
+    footprint: (8, 29),
+};
+
+/// The long text with the next value.
+pub(crate) const ONE_MORE: State = State {
+    walk: &[(LONG, 3)],
+    footprint: (2, 34),
+};
+
+/// A text and one that parts from it inside its last byte.
+pub(crate) const ABC: State = State {
+    walk: &[("abc", 3)],
+    footprint: (2, 6),
+};
+
+pub(crate) const ABC_ABD: State = State {
+    walk: &[("abc", 3), ("abd", 4)],
+    footprint: (4, 7),
+};
+
+/// Texts of 16 bytes, which are light.
+pub(crate) const SIXTEEN: State = State {
+    walk: &[("aaaaaaaaaaaaaaab", 1), ("aaaaaaaaaaaaaaac", 2)],
+    footprint: (4, 33),
+};
+
+pub(crate) const SIXTEEN_LEFT: State = State {
+    walk: &[("aaaaaaaaaaaaaaac", 2)],
+    footprint: (2, 32),
+};
+
+/// Texts of 17 bytes that part inside the last one.
+pub(crate) const HEAVY: State = State {
+    walk: &[("aaaaaaaaaaaaaaaab", 1)],
+    footprint: (2, 34),
+};
+
+pub(crate) const HEAVY_TWO: State = State {
+    walk: &[("aaaaaaaaaaaaaaaab", 1), ("aaaaaaaaaaaaaaaac", 2)],
+    footprint: (4, 35),
+};

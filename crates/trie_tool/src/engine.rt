@@ -8,6 +8,7 @@ use crate::session::Session;
 use crate::watched::{WatchedReader, WatchedWriter};
 use std::alloc::{AllocError, Global};
 use std::io::{Read, Write};
+use std::mem;
 
 // How many bytes a read may bring.
 const CHUNK: usize = 64 * 1024;
@@ -20,8 +21,8 @@ fn zeros(alloc: Global, count: usize) -> Result<Vec<u8>, AllocError>
 
 /// Answers every line that the reader gives, up to its end or the first bad line.
 ///
-/// The answers to the lines that one read brought are written together before the next read, and
-/// before a fault is answered. An interrupted read is a fault, and so is an input that hasn't ended
+/// The answers to the lines that one read brought are written before the next read, before a fault
+/// is answered, and whenever more than 64 KiB of them wait. An interrupted read is a fault, and so is an input that hasn't ended
 /// after `u64::MAX` reads. Else `Read` and `Write` are answered only after a call that failed.
 pub fn serve<R: Read, W: Write>(
     alloc: Global,
@@ -44,7 +45,12 @@ pub fn serve<R: Read, W: Write>(
     for _turn in 0..u64::MAX {
         match reader.read(buffer) {
             Err(_) => return Err(ToolError::Read),
-            Ok(0) => return session.finish(writer),
+            Ok(0) => {
+                let outcome = session.finish(writer);
+                // The program ends now, and its memory with it: the trie isn't taken apart node by node before.
+                mem::forget(session);
+                return outcome;
+            }
             Ok(count) => session.hear(&buffer[..count], writer)?,
         }
     }

@@ -1,5 +1,5 @@
 -- Copies of children, one by one.
-use Rattle.std.proofs.Common.{◌≡◌, ℕ, ◌+◌, ◌<◌, ◌≤◌, List, [], ◌∷◌, ◌++◌, length, get_or, take, None, refl, ap, sym, subst, ◌∙◌}
+use Rattle.std.proofs.Common.{◌≡◌, ℕ, ◌+◌, ◌<◌, ◌≤◌, List, [], ◌∷◌, ◌++◌, Vec, length, get_or, take, None, refl, ap, sym, subst, ◌∙◌}
 use Rattle.std.proofs.lemmas.List.{take_more, take_all}
 use Rattle.std.specs.declared.boxed.Box.{Box}
 use Rattle.std.specs.declared.alloc.Global.{Global}
@@ -8,7 +8,7 @@ use Rattle.masked_tree.specs.Same.{IsPairCopy, AreChildCopies, IsCopy}
 use Rattle.masked_tree.specs.Turned.{append}
 use Rattle.radix_nodes.specs.declared.trie_node.KeyValue.{KeyValue}
 use Rattle.radix_nodes.specs.declared.trie_node.TrieNode.{TrieNode, roll-TrieNode}
-use Rattle.radix_nodes.specs.declared.trie_node.TrieNode.TheOpen.{TrieNode-F}
+use Rattle.radix_nodes.specs.Copies.{IsBareCopy}
 use Rattle.radix_nodes.specs.Nodes.{tree_of, children_of, out_of, unboxed}
 use Rattle.radix_nodes.proofs.NodeLemmas.Nodes.{tree_of-roll, children-tree_of, pair-tree_of, fragment-tree_of, mask-tree_of}
 
@@ -51,12 +51,12 @@ module _ {K L V : Type 0} (R : KeyValue K V → KeyValue L V → Type 0) where
   copies_append (more f o m children others) (b ∷ ys) t y h c = (h.0, h.1, h.2, h.3, copies_append others ys t y h.4 c)
 
   -- once a copy of the child at i is put behind the copies, the first i + 1 are copied
-  pub one_more_is_copied : (xs : Boxes K) (old new : Boxes L) (i : ℕ) (x : Box (TrieNode K V) Global) (a : TrieNode K V) → i < length xs → AreCopied (take i xs) old →
-      x ≡ get_or xs i x → a ≡ x.value →
-      ((k : Children (KeyValue K V)) → AreChildCopies R k (children_of old) → AreChildCopies R (append k (front (tree_of a) none)) (children_of new)) → AreCopied (take (i + 1) xs) new
-  one_more_is_copied xs old new i x a lt h ex ea pushed =
-      subst (λ k. AreChildCopies R k (children_of new)) (sym (ap children_of (take_more xs i x lt) ∙ children_of-append (take i xs) _))
-      (subst (λ z. AreChildCopies R (append (children_of (take i xs)) (front (tree_of z) none)) (children_of new)) (ea ∙ ap (λ z. z.value) ex) (pushed (children_of (take i xs)) h))
+  pub one_more_is_copied : (xs : Boxes K) (old new : Boxes L) (i : ℕ) (x : Box (TrieNode K V) Global) (y : Box (TrieNode L V) Global) → i < length xs → AreCopied (take i xs) old →
+      x ≡ get_or xs i x → IsCopy R (tree_of x.value) (tree_of y.value) → new ≡ old ++ y ∷ [] → AreCopied (take (i + 1) xs) new
+  one_more_is_copied xs old new i x y lt h ex copy pushed =
+      subst (AreCopied (take (i + 1) xs)) (sym pushed)
+      (subst (λ k. AreChildCopies R k (children_of (old ++ y ∷ []))) (sym (ap children_of (take_more xs i x lt) ∙ children_of-append (take i xs) _))
+      (copies_append (children_of (take i xs)) old _ y h (subst (λ z. IsCopy R (tree_of z.value) (tree_of y.value)) ex copy)))
 
   -- an empty list of boxes has copies of the first 0 children
   pub none_copied : (xs : Boxes K) (new : Boxes L) → new ≡ [] → AreCopied (take 0 xs) new
@@ -67,14 +67,13 @@ module _ {K L V : Type 0} (R : KeyValue K V → KeyValue L V → Type 0) where
   all_are_copied n ys i le h =
       subst (λ k. AreChildCopies R k (children_of ys)) (sym (children-tree_of n)) (subst (λ zs. AreCopied zs ys) (take_all i (out_of n).children.items le) h)
 
-  -- a node with the fragment, the mask, and copies of the pair and of the children is a copy
-  pub node_copied : (n : TrieNode K V) (x : TrieNode-F L V (TrieNode L V)) → x.fragment ≡ (out_of n).fragment → x.mask ≡ (out_of n).mask →
-      IsPairCopy R (unboxed (out_of n).pair) (unboxed x.pair) → AreChildCopies R (tree_of n).children (children_of x.children.items) →
-      IsCopy R (tree_of n) (tree_of (roll-TrieNode L V x))
-  node_copied n x ef em ep ec =
-      subst (IsCopy R (tree_of n)) (sym (tree_of-roll x)) (record {
-        fragment = ef ∙ sym (fragment-tree_of n);
-        mask = em ∙ sym (mask-tree_of n);
-        pair = subst (λ p. IsPairCopy R p (unboxed x.pair)) (sym (pair-tree_of n)) ep;
-        children = ec;
+  -- a copy without children, with copies of the children linked to it, is a copy
+  pub bare_copied : (n : TrieNode K V) (m : TrieNode L V) (ys : Vec (Box (TrieNode L V) Global) Global) → IsBareCopy R (out_of n) (out_of m) → AreChildCopies R (tree_of n).children (children_of ys.items) →
+      IsCopy R (tree_of n) (tree_of (roll-TrieNode L V record { fragment = (out_of m).fragment; pair = (out_of m).pair; mask = (out_of m).mask; children = ys }))
+  bare_copied n m ys bare below =
+      subst (IsCopy R (tree_of n)) (sym (tree_of-roll _)) (record {
+        fragment = bare.fragment ∙ sym (fragment-tree_of n);
+        mask = bare.mask ∙ sym (mask-tree_of n);
+        pair = subst (λ p. IsPairCopy R p (unboxed (out_of m).pair)) (sym (pair-tree_of n)) bare.pair;
+        children = below;
       })

@@ -1,11 +1,10 @@
 //! A copy of a tree.
-ghost use Rattle.std.specs.Prelude.{◌≡◌, [], IfOk, OnOk, IsOk, None};
-ghost use Rattle.masked_tree.specs.Tree.{Children, front, none};
+ghost use Rattle.std.specs.Prelude.{◌≡◌, ◌++◌, ◌∷◌, [], IfOk, OnOk, IsOk, None};
+ghost use Rattle.masked_tree.specs.Tree.{none};
 ghost use Rattle.nibble_map.specs.Nibbles.{IsShort};
 ghost use Rattle.masked_tree.specs.Same.{AreChildCopies, IsPairCopy, IsCopy};
-ghost use Rattle.masked_tree.specs.Turned.{append};
-ghost use Rattle.radix_nodes.specs.Copies.{IsKeyValueCopy};
-ghost use Rattle.radix_nodes.specs.Nodes.{tree_of, children_of, fragment_of, unboxed};
+ghost use Rattle.radix_nodes.specs.Copies.{IsKeyValueCopy, IsBareCopy};
+ghost use Rattle.radix_nodes.specs.Nodes.{tree_of, children_of, fragment_of, out_of, unboxed};
 ghost use Rattle.radix_nodes.specs.declared.trie_node.KeyValue.{KeyValue};
 
 use crate::trie_node::{KeyValue, TrieNode};
@@ -57,48 +56,50 @@ pub(super) fn copied_pair<K, L: CopyOf<K>, V: Clone>(
     }
 }
 
-// A node with the fragment and the mask of another, a copy of its pair, and these copies of its children.
-fn copied_over<K, L: CopyOf<K>, V: Clone>(
+// A node's copy without its children, with room for theirs.
+fn copied_alone<K, L: CopyOf<K>, V: Clone>(
     node: &TrieNode<K, V>,
     alloc: Global,
-    children: Vec<Box<TrieNode<L, V>>>,
 ) -> Result<TrieNode<L, V>, Memory>
-    requires { AreChildCopies (IsKeyValueCopy L.is_copy V.is_clone) (tree_of node.now).children
-        (children_of children.items) }
-    ensures copy { IfOk result (λ copy. IsCopy (IsKeyValueCopy L.is_copy V.is_clone)
-        (tree_of node.now) (tree_of copy)) }
-    ensures light { (tree_of node.now).pair ≡ None → IsShort (fragment_of node.now)
-        → IsOk result }
+    ensures copy { IfOk result (λ copy. IsBareCopy (IsKeyValueCopy L.is_copy V.is_clone)
+        (out_of node.now) (out_of copy)) }
+    ensures none { IfOk result (λ copy. (out_of copy).children.items ≡ []) }
+    ensures light { (tree_of node.now).pair ≡ None → (tree_of node.now).children ≡ none
+        → IsShort (fragment_of node.now) → IsOk result }
 {
     Ok(TrieNode {
         fragment: node.fragment.clone()?,
         pair: copied_pair(&node.pair, alloc)?,
         mask: node.mask,
-        children,
+        children: Vec::with_capacity(alloc, node.children.len())?,
     })
 }
 
-// Adds that node behind other copies.
+// The same in a box.
 #[inline(never)]
-fn push_copy<K, L: CopyOf<K>, V: Clone>(
+fn boxed_alone<K, L: CopyOf<K>, V: Clone>(
     node: &TrieNode<K, V>,
     alloc: Global,
-    children: Vec<Box<TrieNode<L, V>>>,
-    copies: &mut Vec<Box<TrieNode<L, V>>>,
-) -> Result<(), Memory>
-    requires { AreChildCopies (IsKeyValueCopy L.is_copy V.is_clone) (tree_of node.now).children
-        (children_of children.items) }
-    ensures { OnOk result ((k : Children (KeyValue K V))
-        → AreChildCopies (IsKeyValueCopy L.is_copy V.is_clone) k (children_of copies.old.items)
-        → AreChildCopies (IsKeyValueCopy L.is_copy V.is_clone)
-        (append k (front (tree_of node.now) none)) (children_of copies.new.items)) }
+) -> Result<Box<TrieNode<L, V>>, Memory>
+    ensures copy { IfOk result (λ copy. IsBareCopy (IsKeyValueCopy L.is_copy V.is_clone)
+        (out_of node.now) (out_of copy.value)) }
+    ensures none { IfOk result (λ copy. (out_of copy.value).children.items ≡ []) }
 {
-    let copy = copied_over(node, alloc, children)?;
-    copies.push(Box::new(alloc, copy)?)?;
-    Ok(())
+    let copy = copied_alone(node, alloc)?;
+    Ok(Box::new(alloc, copy)?)
 }
 
-// Copies of a node's children and all below them. A level takes stack for a vector alone: what a node is made of stands out of line.
+#[inline(never)]
+fn push_copy<L: Drop, V: Drop>(
+    copies: &mut Vec<Box<TrieNode<L, V>>>,
+    copy: Box<TrieNode<L, V>>,
+) -> Result<(), Memory>
+    ensures { OnOk result (copies.new.items ≡ copies.old.items ++ copy ∷ []) }
+{
+    Ok(copies.push(copy)?)
+}
+
+// Copies of a node's children and all below them. A level takes stack for references alone: what a node is made of stands out of line.
 fn copy_children<K, L: CopyOf<K>, V: Clone>(
     node: &TrieNode<K, V>,
     alloc: Global,
@@ -111,9 +112,9 @@ fn copy_children<K, L: CopyOf<K>, V: Clone>(
 {
     for i in 0..node.children.len() {
         let child = &node.children[i];
-        let mut below = Vec::with_capacity(alloc, child.children.len())?;
-        copy_children(child, alloc, &mut below)?;
-        push_copy(child, alloc, below, copies)?;
+        let mut copy = boxed_alone(child, alloc)?;
+        copy_children(child, alloc, &mut copy.children)?;
+        push_copy(copies, copy)?;
     }
     Ok(())
 }
@@ -130,7 +131,7 @@ pub fn copied<K, L: CopyOf<K>, V: Clone>(
     ensures light { (tree_of node.now).pair ≡ None → (tree_of node.now).children ≡ none
         → IsShort (fragment_of node.now) → IsOk result }
 {
-    let mut children = Vec::with_capacity(alloc, node.children.len())?;
-    copy_children(node, alloc, &mut children)?;
-    copied_over(node, alloc, children)
+    let mut copy = copied_alone(node, alloc)?;
+    copy_children(node, alloc, &mut copy.children)?;
+    Ok(copy)
 }

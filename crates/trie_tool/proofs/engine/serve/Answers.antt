@@ -18,11 +18,11 @@ pub returns-in-Ok-eq0-clause-served : goal.returns-in-Ok-eq0-clause-served
 returns-in-Ok-eq0-clause-served g c =
     let none : c.in-Ok-eq0.field-0 ≡ 0 = search rules in
     let room : 0 < length c.read.new.buffer = search rules in
-    Served-ended _ _ _ _ _ _ _ _ c.loop-turn.invariant.heard (Consumes-none _ _ _ _ none c.in-Ok-eq0.ensures.bytes.0) (c.in-Ok-eq0.ensures.bytes.1 none room) c.finish.ensures.sent
+    Served-ended _ _ _ _ _ _ _ _ c.loop-turn.invariant.heard (Consumes-none _ _ _ _ none c.in-Ok-eq0.ensures.bytes.0) (c.in-Ok-eq0.ensures.bytes.1 none room) c.finish-outcome.ensures.sent
 
 pub returns-in-Ok-eq0-clause-read_failed : goal.returns-in-Ok-eq0-clause-read_failed
 returns-in-Ok-eq0-clause-read_failed g c =
-    unread-absurd c.finish.result (Finishes-unread _ _ _ _ _ _ _ c.loop-turn.invariant.heard c.finish.ensures.sent)
+    unread-absurd c.finish-outcome.result (Finishes-unread _ _ _ _ _ _ _ c.loop-turn.invariant.heard c.finish-outcome.ensures.sent)
 
 pub returns-in_err-hear-in-Ok-read-clause-served : goal.returns-in_err-hear-in-Ok-read-clause-served
 returns-in_err-hear-in-Ok-read-clause-served g c =

@@ -1,12 +1,6 @@
-use Rattle.std.proofs.Common.{arith}
-use Rattle.radix_nodes.specs.Nodes.{out_of}
-use Rattle.radix_nodes.proofs.CopyLemmas.Copies.{length-no_children}
+use Rattle.radix_nodes.specs.Copies.{IsKeyValueCopy}
+use Rattle.radix_nodes.proofs.CopyLemmas.Copies.{bare_copied}
 use Rattle.radix_nodes.proofs.traversal.copied.copied.Goals as goal
-use Rattle.nibble_map.proofs.MapLemmas.SameTests.{anything_of_false}
 
--- Without children there is no room to reserve.
-pub returns-in_err-children-clause-light : goal.returns-in_err-children-clause-light
-returns-in_err-children-clause-light g c = λ p k s.
-    let xs = (out_of c.args.node.now).children in
-    let e = length-no_children c.args.node.now k in
-    anything_of_false (c.in_err-children.ensures.succeeds (omega (arith, e, xs.ok.0, c.len.ensures)))
+pub returns-clause-copy : goal.returns-clause-copy
+returns-clause-copy g c = bare_copied (IsKeyValueCopy g.L.CopyOf.is_copy g.V.Clone.is_clone) c.args.node.now c.in_ok-copy.copy c.copy_children.new.copies c.in_ok-copy.ensures.copy c.in_ok-copy_children.ensures.copy

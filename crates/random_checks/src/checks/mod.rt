@@ -1,0 +1,130 @@
+//! Random commands, each carried out on a trie and on the model.
+
+mod changes;
+mod queries;
+mod runs;
+
+use crate::actions::Action;
+use crate::keys::{Drawn, beginning};
+use crate::model::Model;
+use crate::random::Random;
+use changes::{is_changed, is_cut, is_written};
+use queries::{are_queries, is_whole};
+use radix_trie::{Memory, Trie};
+use runs::{is_run, is_run_within};
+use std::alloc::Global;
+use trie_samples::list;
+
+/// After so many commands all pairs and the footprint are compared.
+const BETWEEN_WHOLE_CHECKS: u64 = 250;
+
+/// A trie, its model, and what the commands are drawn by.
+#[derive(Drop)]
+struct Check<K: Drawn> {
+    alloc: Global,
+    trie: Trie<K, u64>,
+    model: Model,
+    random: Random,
+}
+
+impl<K: Drawn> Check<K> {
+    /// Carries one random command out. False: the trie and the model disagree.
+    fn agrees(&mut self) -> Result<bool, Memory> {
+        let alloc = self.alloc;
+        match self.random.draw() % 64 {
+            0..=27 => {
+                let action = Action::drawn(&mut self.random);
+                is_changed(alloc, &mut self.trie, &mut self.model, action)
+            }
+            28..=43 => self.reads_agree(),
+            44..=55 => self.views_agree(),
+            56..=59 => is_run(alloc, &mut self.trie, &mut self.model, &mut self.random),
+            60..=62 => is_run_within(alloc, &mut self.trie, &mut self.model, &mut self.random),
+            _ => self.cuts_agree(),
+        }
+    }
+
+    /// Look-ups of a key, or of a beginning of one.
+    fn reads_agree(&mut self) -> Result<bool, Memory> {
+        let alloc = self.alloc;
+        let number = self.random.key();
+        if self.random.is_even() {
+            let at = self.random.key();
+            let key = K::drawn(alloc, at)?;
+            let path = K::nibbles(alloc, at)?;
+            return are_queries(
+                alloc,
+                &self.trie,
+                &self.model,
+                &key,
+                path.as_slice(),
+                number,
+            );
+        }
+        let path = beginning::<K>(alloc, &mut self.random)?;
+        let key = list(alloc, path.as_slice())?;
+        are_queries(
+            alloc,
+            &self.trie,
+            &self.model,
+            &key,
+            path.as_slice(),
+            number,
+        )
+    }
+
+    /// A view for writing at a key, or at a beginning of one.
+    fn views_agree(&mut self) -> Result<bool, Memory> {
+        let alloc = self.alloc;
+        let Check {
+            trie,
+            model,
+            random,
+            ..
+        } = self;
+        if random.is_even() {
+            let at = random.key();
+            let key = K::drawn(alloc, at)?;
+            let path = K::nibbles(alloc, at)?;
+            return is_written(alloc, trie, model, random, &key, path.as_slice());
+        }
+        let path = beginning::<K>(alloc, random)?;
+        let key = list(alloc, path.as_slice())?;
+        is_written(alloc, trie, model, random, &key, path.as_slice())
+    }
+
+    /// The removal of all that begins as a key does.
+    fn cuts_agree(&mut self) -> Result<bool, Memory> {
+        let path = beginning::<K>(self.alloc, &mut self.random)?;
+        let key = list(self.alloc, path.as_slice())?;
+        is_cut(
+            self.alloc,
+            &mut self.trie,
+            &mut self.model,
+            &key,
+            path.as_slice(),
+        )
+    }
+}
+
+/// The number of the first of so many commands at which the trie and the model disagree, counted from 1.
+pub fn first_disagreement<K: Drawn>(
+    alloc: Global,
+    seed: u64,
+    count: u64,
+) -> Result<Option<u64>, Memory> {
+    let mut check: Check<K> = Check {
+        alloc,
+        trie: Trie::new(alloc),
+        model: Model::new(alloc),
+        random: Random::new(seed),
+    };
+    for before in 0..count {
+        let number = before.saturating_add(1);
+        let is_due = number % BETWEEN_WHOLE_CHECKS == 0 || number == count;
+        if !check.agrees()? || is_due && !is_whole(alloc, &check.trie, &check.model)? {
+            return Ok(Some(number));
+        }
+    }
+    Ok(None)
+}

@@ -1,0 +1,167 @@
+//! Look-ups and views for reading.
+
+use crate::keys::Drawn;
+use crate::model::Model;
+use radix_trie::{Memory, SubTrie, SubTrieError, Trie, TrieCommon, TrieKey};
+use std::alloc::Global;
+use trie_samples::list;
+
+/// Whether the view stands at the path, and has the model's value and count of pairs there.
+fn is_view_at<K: Drawn>(
+    alloc: Global,
+    view: &SubTrie<'_, K, u64>,
+    model: &Model,
+    path: &[u8],
+) -> Result<bool, Memory> {
+    Ok(
+        *view.path() == list(alloc, path)?
+            && TrieCommon::value(view).copied() == model.get(path)
+            && TrieCommon::len(view) == model.below(path)?.len(),
+    )
+}
+
+/// The value at a key, and the count of nibbles that are compared to find it.
+fn is_found<K: Drawn, Q: TrieKey>(
+    trie: &Trie<K, u64>,
+    model: &Model,
+    key: &Q,
+    list: &[u8],
+) -> Result<bool, Memory> {
+    let wanted = model.get(list);
+    let (counted, compared) = trie.get_counted(key)?;
+    Ok(
+        trie.get(key)?.copied() == wanted
+            && counted.copied() == wanted
+            && compared == model.compared(list),
+    )
+}
+
+/// The longest stored list that begins the key's.
+fn is_ancestor<K: Drawn, Q: TrieKey>(
+    alloc: Global,
+    trie: &Trie<K, u64>,
+    model: &Model,
+    key: &Q,
+    list: &[u8],
+) -> Result<bool, Memory> {
+    let wanted = model.above(list);
+    let value = trie.get_ancestor_value(key)?.copied();
+    if value != wanted.map(|(_, value)| value) {
+        return Ok(false);
+    }
+    match (trie.get_ancestor(key)?, wanted) {
+        (Some(view), Some((length, _))) => match list.get(..length) {
+            Some(path) => is_view_at(alloc, &view, model, path),
+            None => Ok(false),
+        },
+        (None, None) => Ok(true),
+        _ => Ok(false),
+    }
+}
+
+/// The nearest point at or above the key's list, and its fragment.
+fn is_raw_ancestor<K: Drawn, Q: TrieKey>(
+    alloc: Global,
+    trie: &Trie<K, u64>,
+    model: &Model,
+    key: &Q,
+    nibbles: &[u8],
+) -> Result<bool, Memory> {
+    let path = model.point_above(nibbles, nibbles.len().saturating_add(1));
+    let parent = model.point_above(path, path.len());
+    let view = trie.get_raw_ancestor(key)?;
+    match path.strip_prefix(parent) {
+        Some(fragment) => Ok(
+            is_view_at(alloc, &view, model, path)?
+                && TrieCommon::prefix(&view)? == list(alloc, fragment)?,
+        ),
+        None => Ok(false),
+    }
+}
+
+/// The nearest point at or below the key's list.
+fn is_raw_descendant<K: Drawn, Q: TrieKey>(
+    alloc: Global,
+    trie: &Trie<K, u64>,
+    model: &Model,
+    key: &Q,
+    list: &[u8],
+) -> Result<bool, Memory> {
+    match (trie.get_raw_descendant(key)?, model.point_below(list)?) {
+        (Some(view), Some(path)) => is_view_at(alloc, &view, model, path.as_slice()),
+        (None, None) => Ok(true),
+        _ => Ok(false),
+    }
+}
+
+/// A key that is looked up in a view.
+fn is_found_in_view<K: Drawn>(
+    alloc: Global,
+    view: &SubTrie<'_, K, u64>,
+    model: &Model,
+    path: &[u8],
+    number: u8,
+) -> Result<bool, Memory> {
+    let list = K::nibbles(alloc, number)?;
+    let is_inside = list.as_slice().starts_with(path);
+    match view.get(&K::drawn(alloc, number)?) {
+        Ok(found) => Ok(is_inside && found.copied() == model.get(list.as_slice())),
+        Err(SubTrieError::Outside) => Ok(!is_inside),
+        Err(SubTrieError::Memory) => Err(Memory),
+    }
+}
+
+/// The view for reading at a key, and another key that is looked up in it.
+fn is_viewed<K: Drawn, Q: TrieKey>(
+    alloc: Global,
+    trie: &Trie<K, u64>,
+    model: &Model,
+    key: &Q,
+    path: &[u8],
+    number: u8,
+) -> Result<bool, Memory> {
+    match trie.subtrie(key)? {
+        Some(view) => Ok(
+            model.is_point(path)
+                && is_view_at(alloc, &view, model, path)?
+                && is_found_in_view(alloc, &view, model, path, number)?,
+        ),
+        None => Ok(!model.is_point(path)),
+    }
+}
+
+/// All look-ups of a key whose encoding is the list, and another key in the view at the first one.
+pub fn are_queries<K: Drawn, Q: TrieKey>(
+    alloc: Global,
+    trie: &Trie<K, u64>,
+    model: &Model,
+    key: &Q,
+    list: &[u8],
+    number: u8,
+) -> Result<bool, Memory> {
+    Ok(
+        is_found(trie, model, key, list)?
+            && is_ancestor(alloc, trie, model, key, list)?
+            && is_raw_ancestor(alloc, trie, model, key, list)?
+            && is_raw_descendant(alloc, trie, model, key, list)?
+            && is_viewed(alloc, trie, model, key, list, number)?,
+    )
+}
+
+/// All pairs in order, and the counts of pairs, nodes and nibbles.
+pub fn is_whole<K: Drawn>(
+    alloc: Global,
+    trie: &Trie<K, u64>,
+    model: &Model,
+) -> Result<bool, Memory> {
+    let wanted = model.walk()?;
+    if trie.len() != wanted.len() || trie.footprint() != model.footprint()? {
+        return Ok(false);
+    }
+    for ((key, value), stored) in TrieCommon::iter(trie)?.zip(wanted.iter()) {
+        if *key != K::drawn(alloc, stored.number)? || *value != stored.value {
+            return Ok(false);
+        }
+    }
+    trie.check_integrity()
+}

@@ -1,9 +1,9 @@
 //! Lists of commands.
 
-use radix_trie::{Command, Memory, Nibblet, Reply, Trie, ViewCommand, run};
+use radix_trie::{Command, Memory, Reply, Trie, ViewCommand, run};
 use std::alloc::{AllocError, Global};
 use std::process::Abort;
-use trie_samples::{Texts, list};
+use trie_samples::Texts;
 
 type Texted = Command<&'static str, u64>;
 
@@ -142,43 +142,5 @@ fn look_ups_and_removals(rt: HostRuntime) -> Result<(), Memory> {
     let replies = run(&mut trie, commands)?;
     check_replies(&rt, replies.as_slice(), &ANSWERS);
     assert!(rt; trie.len() == 1);
-    Ok(())
-}
-
-/// Commands over keys of an odd count of nibbles.
-fn odd(alloc: Global) -> Result<Vec<Command<Nibblet, u64>>, Memory> {
-    let inner = vec![in alloc;
-        ViewCommand::Remove(list(alloc, &[6, 1, 6, 2, 6, 3])?),
-        ViewCommand::Remove(list(alloc, &[6, 1, 6, 2, 6, 4])?),
-        ViewCommand::Len,
-        ViewCommand::Insert(list(alloc, &[7, 8])?, 1),
-        ViewCommand::Insert(list(alloc, &[6, 1, 6, 2, 6, 3])?, 3),
-    ]?;
-    Ok(vec![in alloc;
-        Command::Insert(list(alloc, &[6, 1, 6, 2, 6, 3])?, 1),
-        Command::Insert(list(alloc, &[6, 1, 6, 2, 6, 4])?, 2),
-        Command::Within(list(alloc, &[6, 1, 6, 2, 6])?, inner),
-    ]?)
-}
-
-/// A run over keys of an odd count of nibbles: a view at a branch point, emptied and filled again.
-#[test]
-fn run_at_an_odd_path(rt: HostRuntime) -> Result<(), Memory> {
-    const ANSWERS: [Answers; 3] = [
-        Answers::One(Answer::Old(None)),
-        Answers::One(Answer::Old(None)),
-        Answers::InView(&[
-            Answer::Old(Some(1)),
-            Answer::Old(Some(2)),
-            Answer::Number(0),
-            Answer::Outside,
-            Answer::Old(None),
-        ]),
-    ];
-    let commands = odd(rt.alloc())?;
-    let mut trie: Trie<Nibblet, u64> = Trie::new(rt.alloc());
-    let replies = run(&mut trie, commands)?;
-    check_replies(&rt, replies.as_slice(), &ANSWERS);
-    assert!(rt; trie.footprint() == (2, 6));
     Ok(())
 }

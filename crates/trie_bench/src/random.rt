@@ -1,0 +1,46 @@
+//! Random numbers that are the same in each run.
+ghost use Rattle.std.specs.Prelude.{◌≤◌};
+
+/// A generator of 64-bit numbers: a counter that is stepped by an odd number, and mixed.
+#[derive(Drop)]
+pub struct Random {
+    counter: u64,
+}
+
+impl Random {
+    /// The generator of every run.
+    pub fn new() -> Random {
+        Random { counter: 7 }
+    }
+
+    /// The next number.
+    pub fn number(&mut self) -> u64 {
+        self.counter = self.counter.wrapping_add(0x9e37_79b9_7f4a_7c15);
+        let mixed = (self.counter ^ (self.counter >> 30)).wrapping_mul(0xbf58_476d_1ce4_e5b9);
+        let mixed = (mixed ^ (mixed >> 27)).wrapping_mul(0x94d0_49bb_1331_11eb);
+        mixed ^ (mixed >> 31)
+    }
+
+    /// A number below this one, or 0 where it is 0.
+    pub fn below(&mut self, limit: u64) -> u64
+        ensures { result ≤ limit }
+    {
+        self.number().checked_rem(limit).unwrap_or(0)
+    }
+
+    /// One of these texts.
+    pub fn pick(&mut self, texts: &[&'static str]) -> &'static str {
+        let place = self.below(texts.len() as u64);
+        texts.get(place as usize).copied().unwrap_or("")
+    }
+
+    /// Puts the items in a random order.
+    pub fn shuffle<T>(&mut self, items: &mut [T]) {
+        for i in 1..items.len() {
+            let j = self.below(i as u64 + 1) as usize;
+            if j < i {
+                items.swap(i, j);
+            }
+        }
+    }
+}

@@ -75,9 +75,8 @@ fn walk<R: Print + Clock>(rt: &R, nested: &Nested, count: u32) -> Result<(), Fau
 /// Counts the pairs at and below the shortest key.
 fn count_below<R: Print + Clock>(rt: &R, nested: &Nested, count: u32) -> Result<(), Fault> {
     let start = Instant::now(rt)?;
-    if let Some(view) = nested.subtrie(&Chain { length: 1 })? {
-        expect(TrieCommon::len(&view) == count as usize)?;
-    }
+    let view = nested.subtrie(&Chain { length: 1 })?.ok_or(Fault::Differs)?;
+    expect(TrieCommon::len(&view) == count as usize)?;
     tell(rt, "len", start)
 }
 

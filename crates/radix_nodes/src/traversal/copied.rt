@@ -89,13 +89,17 @@ fn boxed_alone<K, L: CopyOf<K>, V: Clone>(
     Ok(Box::new(alloc, copy)?)
 }
 
+// Adds a copy, or drops it where the copies below it were refused: out of line, since a drop takes a node's place on the stack.
 #[inline(never)]
 fn push_copy<L: Drop, V: Drop>(
     copies: &mut Vec<Box<TrieNode<L, V>>>,
     copy: Box<TrieNode<L, V>>,
+    below: Result<(), Memory>,
 ) -> Result<(), Memory>
-    ensures { OnOk result (copies.new.items ≡ copies.old.items ++ copy ∷ []) }
+    ensures pushed { OnOk result (copies.new.items ≡ copies.old.items ++ copy ∷ []) }
+    ensures below { OnOk result (IsOk below) }
 {
+    below?;
     Ok(copies.push(copy)?)
 }
 
@@ -113,8 +117,8 @@ fn copy_children<K, L: CopyOf<K>, V: Clone>(
     for i in 0..node.children.len() {
         let child = &node.children[i];
         let mut copy = boxed_alone(child, alloc)?;
-        copy_children(child, alloc, &mut copy.children)?;
-        push_copy(copies, copy)?;
+        let below = copy_children(child, alloc, &mut copy.children);
+        push_copy(copies, copy, below)?;
     }
     Ok(())
 }

@@ -46,27 +46,6 @@ fn path_outlives_its_pair(rt: HostRuntime) -> Result<(), Memory> {
     check_runs(&rt, rt.alloc(), &[("abc", 3), ("abcdef", 6)], &RUNS)
 }
 
-/// A view at a branch point inside a byte, emptied and filled again. Its path is a point no more.
-#[test]
-fn emptied_view_at_an_odd_path(rt: HostRuntime) -> Result<(), Memory> {
-    const RUNS: [Run; 1] = [Run {
-        at: At::List(&PARTING),
-        calls: &[
-            Call::PathLength(5),
-            Call::Remove("abc", Some(1)),
-            Call::Remove("abd", Some(2)),
-            Call::Count(0),
-            Call::InsertOutside("x", 1),
-            Call::Insert("abc", 3, None),
-        ],
-        last: Last::Count(1),
-        left: &[("abc", 3)],
-        footprint: (2, 6),
-        is_point: false,
-    }];
-    check_runs(&rt, rt.alloc(), &[("abc", 1), ("abd", 2)], &RUNS)
-}
-
 /// A view that is emptied and dropped leaves the empty trie.
 #[test]
 fn dropped_when_emptied(rt: HostRuntime) -> Result<(), Memory> {
@@ -104,33 +83,23 @@ fn emptied_view(rt: HostRuntime) -> Result<(), Memory> {
     check_runs(&rt, rt.alloc(), &[("abc", 3), ("b", 1)], &RUNS)
 }
 
-/// Views of the empty trie.
+/// A view of the empty trie.
 #[test]
 fn view_of_the_empty_trie(rt: HostRuntime) -> Result<(), Memory> {
-    const RUNS: [Run; 2] = [
-        Run {
-            at: At::Text(""),
-            calls: &[
-                Call::Count(0),
-                Call::IsLeaf(true),
-                Call::Value(None),
-                Call::Children(&[]),
-                Call::Prefix(&[]),
-            ],
-            last: Last::Walk(&[]),
-            left: &[],
-            footprint: (1, 0),
-            is_point: true,
-        },
-        Run {
-            at: At::Text(""),
-            calls: &[Call::Insert("", 1, None), Call::Remove("", Some(1))],
-            last: Last::Count(0),
-            left: &[],
-            footprint: (1, 0),
-            is_point: true,
-        },
-    ];
+    const RUNS: [Run; 1] = [Run {
+        at: At::Text(""),
+        calls: &[
+            Call::Count(0),
+            Call::IsLeaf(true),
+            Call::Value(None),
+            Call::Children(&[]),
+            Call::Prefix(&[]),
+        ],
+        last: Last::Walk(&[]),
+        left: &[],
+        footprint: (1, 0),
+        is_point: true,
+    }];
     check_runs(&rt, rt.alloc(), &[], &RUNS)
 }
 
@@ -140,6 +109,7 @@ fn odd_path(rt: HostRuntime) -> Result<(), Memory> {
     const RUNS: [Run; 1] = [Run {
         at: At::List(&PARTING),
         calls: &[
+            Call::PathLength(5),
             Call::Count(2),
             Call::Value(None),
             Call::WriteNone,

@@ -38,10 +38,6 @@ impl Model {
         }
     }
 
-    pub fn len(&self) -> usize {
-        self.stored.len()
-    }
-
     /// The value that is stored at the list.
     pub fn get(&self, list: &[u8]) -> Option<u64> {
         self.stored.get(list).map(|stored| stored.value)
@@ -152,11 +148,6 @@ impl Model {
             Some(path) if common < list.len() && !self.is_point(path) => common.saturating_add(1),
             _ => common,
         }
-    }
-
-    /// The numbers and values in the order of the lists.
-    pub fn walk(&self) -> Result<Vec<Stored>, Memory> {
-        self.below(&[])
     }
 
     /// The counts of points, and of distinct beginnings that aren't empty.

@@ -154,14 +154,18 @@ pub fn is_whole<K: Drawn>(
     trie: &Trie<K, u64>,
     model: &Model,
 ) -> Result<bool, Memory> {
-    let wanted = model.walk()?;
+    let wanted = model.below(&[])?;
     if trie.len() != wanted.len() || trie.footprint() != model.footprint()? {
         return Ok(false);
     }
-    for ((key, value), stored) in TrieCommon::iter(trie)?.zip(wanted.iter()) {
+    let mut walk = TrieCommon::iter(trie)?;
+    for stored in &wanted {
+        let Some((key, value)) = walk.next() else {
+            return Ok(false);
+        };
         if *key != K::drawn(alloc, stored.number)? || *value != stored.value {
             return Ok(false);
         }
     }
-    trie.check_integrity()
+    Ok(walk.next().is_none() && trie.check_integrity()?)
 }

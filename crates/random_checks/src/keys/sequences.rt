@@ -20,6 +20,19 @@ fn items<T: Copy>(alloc: Global, number: u8, table: [T; 3]) -> Result<Vec<T>, Me
     Ok(items)
 }
 
+/// The nibbles of up to four items, each of so many bytes.
+fn nibbles_of_items<const WIDTH: usize>(
+    alloc: Global,
+    number: u8,
+    table: [[u8; WIDTH]; 3],
+) -> Result<Vec<u8>, Memory> {
+    let mut bytes = Vec::new(alloc);
+    for item in items(alloc, number, table)? {
+        bytes.extend_from_slice(&item)?;
+    }
+    nibbles_of(alloc, bytes.as_slice())
+}
+
 /// Two letters that part in the second half of a byte, and one that parts from them in the first.
 const LETTERS: [char; 3] = ['a', 'b', 'q'];
 
@@ -33,7 +46,7 @@ impl Drawn for String {
     }
 
     fn nibbles(alloc: Global, number: u8) -> Result<Vec<u8>, Memory> {
-        nibbles_of(alloc, items(alloc, number, [0x61, 0x62, 0x71])?.as_slice())
+        nibbles_of_items(alloc, number, [[0x61], [0x62], [0x71]])
     }
 }
 
@@ -61,19 +74,17 @@ impl Drawn for &'static [u8] {
     }
 
     fn nibbles(alloc: Global, number: u8) -> Result<Vec<u8>, Memory> {
-        nibbles_of(alloc, word(number).as_bytes())
+        <&'static str>::nibbles(alloc, number)
     }
 }
 
-const BYTES: [u8; 3] = [0x00, 0x0f, 0xf0];
-
 impl Drawn for Vec<u8> {
     fn drawn(alloc: Global, number: u8) -> Result<Vec<u8>, Memory> {
-        items(alloc, number, BYTES)
+        items(alloc, number, [0x00, 0x0f, 0xf0])
     }
 
     fn nibbles(alloc: Global, number: u8) -> Result<Vec<u8>, Memory> {
-        nibbles_of(alloc, items(alloc, number, BYTES)?.as_slice())
+        nibbles_of_items(alloc, number, [[0x00], [0x0f], [0xf0]])
     }
 }
 
@@ -95,12 +106,7 @@ impl Drawn for Vec<u16> {
     }
 
     fn nibbles(alloc: Global, number: u8) -> Result<Vec<u8>, Memory> {
-        let table = [[0x00, 0x00], [0x00, 0x01], [0xff, 0x00]];
-        let mut nibbles = Vec::new(alloc);
-        for bytes in items(alloc, number, table)? {
-            nibbles.extend_from_slice(nibbles_of(alloc, &bytes)?.as_slice())?;
-        }
-        Ok(nibbles)
+        nibbles_of_items(alloc, number, [[0x00, 0x00], [0x00, 0x01], [0xff, 0x00]])
     }
 }
 
@@ -110,11 +116,6 @@ impl Drawn for Vec<i32> {
     }
 
     fn nibbles(alloc: Global, number: u8) -> Result<Vec<u8>, Memory> {
-        let table = [[0u8; 4], [0, 0, 0, 1], [0xff; 4]];
-        let mut nibbles = Vec::new(alloc);
-        for bytes in items(alloc, number, table)? {
-            nibbles.extend_from_slice(nibbles_of(alloc, &bytes)?.as_slice())?;
-        }
-        Ok(nibbles)
+        nibbles_of_items(alloc, number, [[0; 4], [0, 0, 0, 1], [0xff; 4]])
     }
 }

@@ -73,7 +73,8 @@ pub fn find_counted<'a, K, V>(
     requires top { fragment_of root.now ≡ [] }
     requires placed { IsTreePlaced (tree_of root.now) }
     requires full { IsFullBelow (tree_of root.now) }
-    ensures found { MatchOption result.0 ((u : _) → IsNodeAt (tree_of root.now) list.now u → ⊥)
+    ensures found { MatchOption result.0
+        ((u : _) → IsNodeAt (tree_of root.now) list.now u → ⊥)
         (λ n. IsNodeAt (tree_of root.now) list.now (tree_of n.now)) }
     ensures count { IsCompared (IsStored (entries_at [] (tree_of root.now))) list.now result.1 }
 {

@@ -310,7 +310,8 @@ fn split_and_put<K: Drop, V: Drop>(
     requires apart { depth < length list.now → slice_index (fragment_of slot.old.value) n
         ≢ slice_index list.now depth }
     requires placed { IsTreePlaced (tree_of slot.old.value) }
-    ensures { ReplaceOutcome result pair (take n (fragment_of slot.old.value) ++ drop depth list.now)
+    ensures { ReplaceOutcome result pair
+        (take n (fragment_of slot.old.value) ++ drop depth list.now)
         (tree_of slot.old.value) (tree_of slot.new.value) }
 {
     let Ok((upper, tail)) = grow_split(slot, n, alloc) else {

@@ -112,7 +112,8 @@ fn prune_below<K: Drop, V: Drop>(
     requires some { fragment_of node.old ≢ [] }
     requires small { IsSmall (tree_of node.old) }
     requires none { pruned.old ≡ None }
-    ensures { PruneOutcome (answered result pruned.new) (fragment_of node.old ++ drop depth list.now)
+    ensures { PruneOutcome (answered result pruned.new)
+        (fragment_of node.old ++ drop depth list.now)
         (tree_of node.old) (tree_of node.new) }
 {
     match meet(node, list, depth) {

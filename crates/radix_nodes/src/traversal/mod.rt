@@ -8,6 +8,7 @@ pub mod copied;
 pub mod cut;
 pub mod drain;
 pub mod find;
+mod grow;
 pub mod insert;
 pub mod lend;
 pub mod prune;

@@ -1,7 +1,7 @@
 use Rattle.std.proofs.Common.{◌∙◌, ap}
 use Rattle.radix_nodes.specs.declared.trie_node.TrieNode.{out-TrieNode, out-roll-TrieNode}
 use Rattle.radix_nodes.proofs.NodeLemmas.Nodes.{tree_of-leaf}
-use Rattle.radix_nodes.proofs.traversal.insert.make_leaf.Goals as goal
+use Rattle.radix_nodes.proofs.traversal.grow.make_leaf.Goals as goal
 
 pub returns-in-Ok-new-2-clause-made : goal.returns-in-Ok-new-2-clause-made
 returns-in-Ok-new-2-clause-made g c =

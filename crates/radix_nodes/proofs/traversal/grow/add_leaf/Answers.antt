@@ -3,7 +3,7 @@ use Rattle.radix_nodes.specs.declared.trie_node.TrieNode.{out-TrieNode, out-roll
 use Rattle.radix_nodes.specs.Nodes.{tree_of, fragment_of}
 use Rattle.radix_nodes.proofs.NodeLemmas.Nodes.{tree_of-same_children, fragment-tree_of}
 use Rattle.radix_nodes.proofs.EditLemmas.Insertion.{leaf_step, gap_is_within, gap_free}
-use Rattle.radix_nodes.proofs.traversal.insert.add_leaf.Goals as goal
+use Rattle.radix_nodes.proofs.traversal.grow.add_leaf.Goals as goal
 
 pub returns-in_default : goal.returns-in_default
 returns-in_default g c = (refl, tree_of-same_children c.args.node.now c.reserve.new.self c.in_default.ensures.items, gap_free c.args.node.now c.args.list.now c.args.depth c.args.i c.requires.placed c.requires.depth c.requires.gap)

@@ -6,7 +6,7 @@ use Rattle.masked_tree.specs.Edits.{with_pair}
 use Rattle.radix_nodes.specs.Nodes.{tree_of, fragment_of}
 use Rattle.radix_nodes.proofs.NodeLemmas.Nodes.{tree_of-written_pair, fragment-tree_of}
 use Rattle.radix_nodes.proofs.EditLemmas.Insertion.{here_step, beside_step, parted_free}
-use Rattle.radix_nodes.proofs.traversal.insert.split_and_put.Goals as goal
+use Rattle.radix_nodes.proofs.traversal.grow.split_and_put.Goals as goal
 
 pub returns-in-Ok-new : goal.returns-in-Ok-new
 returns-in-Ok-new g c =

@@ -9,3 +9,4 @@ pub mod Values
 pub mod Same
 pub mod SameTests
 pub mod PlainCopies
+pub mod Walks

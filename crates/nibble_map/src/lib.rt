@@ -8,4 +8,5 @@ pub mod query_laws;
 pub mod same_laws;
 pub mod tree_laws;
 pub mod turned_laws;
+pub mod walk_laws;
 pub mod worked_rows;

@@ -11,11 +11,11 @@ use Rattle.nibble_map.proofs.ListLemmas.Sorted.{tied_lists_equal}
 
 -- whether two lists are one, as the map sees it
 -- a list compares as equal to itself
-ties_itself : (q : List ℕ) → eq_by_cmp (slice_cmp nat_cmp) q q ≡ true
+pub ties_itself : (q : List ℕ) → eq_by_cmp (slice_cmp nat_cmp) q q ≡ true
 ties_itself q = ap is_eq (tied_itself nat_list_cmp_total q)
 
 -- different lists don't compare as equal
-different_untied : (q e : List ℕ) → q ≢ e → eq_by_cmp (slice_cmp nat_cmp) q e ≡ false
+pub different_untied : (q e : List ℕ) → q ≢ e → eq_by_cmp (slice_cmp nat_cmp) q e ≡ false
 different_untied q e n = by (eq_by_cmp (slice_cmp nat_cmp) q e) refl
   where
     by : (b : Bool) → eq_by_cmp (slice_cmp nat_cmp) q e ≡ b → b ≡ false

@@ -2,3 +2,4 @@
 pub mod Order
 pub mod Ascending
 pub mod Items
+pub mod Prefixes

@@ -3,3 +3,5 @@
 pub mod NibbleLemmas
 -- Encodings of keys: their order, and keys that are encoded item by item.
 pub mod KeyLemmas
+-- Lists of bits: those of bytes and of numbers, and which of them begin with which.
+pub mod BitLemmas

@@ -3,3 +3,4 @@ pub mod Bytes
 pub mod Packing
 pub mod Cutting
 pub mod Turning
+pub mod Comparing

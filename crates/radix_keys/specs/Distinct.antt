@@ -1,7 +1,7 @@
 -- Encodings tell keys apart.
-use Rattle.std.specs.Prelude.{◌≡◌, ℕ, zero, suc, ◌+◌, ◌*◌, ◌/◌, ◌%◌, ◌^◌, ◌<◌, List, [], ◌∷◌, ◌++◌, length, reverse, flat_map, Bool, refl, true, ℤ, nat_eq, All, FitsSigned}
+use Rattle.std.specs.Prelude.{◌≡◌, ℕ, zero, suc, ◌+◌, ◌*◌, ◌/◌, ◌%◌, ◌^◌, ◌<◌, List, [], ◌∷◌, ◌++◌, length, reverse, flat_map, Bool, refl, true, false, ◌&&◌, ℤ, nat_eq, All, FitsSigned}
 use Rattle.std.specs.Cmp.Lexicographic.{pointwise}
-use Rattle.std.specs.Int.{Width, byte_len, byte_at, bytes_high_first, to_be_bytes, cast_unsigned, cast_signed}
+use Rattle.std.specs.Int.{Width, byte_len, byte_at, bytes_high_first, to_be_bytes, cast_unsigned, cast_signed, from_bool}
 use Rattle.std.specs.Ordering.{int_eq}
 use Rattle.std.proofs.Common.{arith, sym, ◌∙◌, ap}
 use Rattle.std.proofs.Math.Arith.{mod-mul}
@@ -14,6 +14,7 @@ use Rattle.std.proofs.lemmas.List.{length-append, reverse-reverse}
 use Rattle.std.proofs.lemmas.Slice.Eq.{bytes_eq-Decides}
 use Rattle.nibble_map.specs.Nibbles.{nibbles}
 use Rattle.radix_keys.specs.Integers.{signed_bytes, unsigned_key, signed_key}
+use mathlib.Core.Bool.{beq}
 use mir.Val.{bits}
 
 -- lists that begin by parts of one length are equal part by part
@@ -44,9 +45,19 @@ nibbles-injective (x ∷ a) (y ∷ b) e =
     let tail : a ≡ b = nibbles-injective a b rest in
     cc
 
+pub both-true : {a b : Bool} → a ≡ true → b ≡ true → (a && b) ≡ true
+both-true p q = rw (p, q) refl
+
 -- texts and byte lists
 pub bytes-distinct : (x y : List ℕ) → nibbles x ≡ nibbles y → pointwise nat_eq x y ≡ true
 bytes-distinct x y e = (bytes_eq-Decides x y).1 (nibbles-injective x y e)
+
+-- the byte of a truth value tells it
+pub bool-distinct : (x y : Bool) → nibbles (from_bool x ∷ []) ≡ nibbles (from_bool y ∷ []) → beq x y ≡ true
+bool-distinct true true e = refl
+bool-distinct false false e = refl
+bool-distinct true false e = cc
+bool-distinct false true e = cc
 
 -- a number's bytes are its digits in base 256
 pub byte_at-is : (k n : ℕ) → byte_at k n ≡ n / 256 ^ k % 256

@@ -3,7 +3,7 @@ use Rattle.std.specs.Cmp.Lexicographic.{slice_cmp}
 use Rattle.std.specs.Int.{Width, byte_len}
 use Rattle.std.specs.Ordering.{nat_cmp}
 use Rattle.std.specs.declared.cmp.Ordering.TheVariants.{Less}
-use Rattle.std.specs.Prelude.{◌≡◌, ◌^◌, ◌<◌, ℕ, ℤ, pos, negsuc, List, FitsSigned}
+use Rattle.std.specs.Prelude.{◌≡◌, ◌^◌, ◌<◌, ◌++◌, ℕ, ℤ, pos, negsuc, List, FitsSigned}
 use Rattle.nibble_map.specs.Nibbles.{nibbles}
 use Rattle.radix_keys.specs.Integers.{unsigned_key, signed_key}
 
@@ -31,3 +31,12 @@ pub record KeepsUnsignedOrder (w : Width) : Type 0 where
 pub record KeepsSignedOrder (w : Width) : Type 0 where
   pub precedes : (a b : ℤ) → FitsSigned w a → FitsSigned w b → SignedPrecedes a b
       → Precedes (signed_key w a) (signed_key w b)
+
+-- Of two pairs of keys the one whose first key has the smaller encoding has the smaller encoding,
+-- and where the first keys have one encoding, the one whose second key has.
+pub record KeepsPairOrder {A B : Type 0} (first : A → List ℕ) (second : B → List ℕ)
+    (is_first : A → Type 0) : Type 0 where
+  pub by_first : (a b : A) (c d : B) → is_first a → is_first b → Precedes (first a) (first b)
+      → Precedes (first a ++ second c) (first b ++ second d)
+  pub by_second : (a b : A) (c d : B) → first a ≡ first b → Precedes (second c) (second d)
+      → Precedes (first a ++ second c) (first b ++ second d)

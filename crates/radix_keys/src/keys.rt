@@ -10,8 +10,12 @@ use std::alloc::Global;
 
 mod ascending;
 mod integers;
+mod pairs;
+mod scalars;
+mod wide;
 
 pub use ascending::KeySigned;
+pub use pairs::FixedWidth;
 
 /// A value that is encoded as a list of nibbles, its place in a trie.
 ///
@@ -30,7 +34,9 @@ pub trait TrieKey: Eq {
 
     /// The encoding of the key.
     ///
-    /// Never refused for a light key.
+    /// # Errors
+    ///
+    /// Memory is refused. A light key never meets that.
     fn encode(&self, alloc: Global) -> Result<Nibblet, Memory>
         ensures ok { IfOk result (λ v. v ≡ encoding self.now) }
         ensures value { OnOk result (is_value self.now) }
@@ -38,7 +44,10 @@ pub trait TrieKey: Eq {
 
     /// The encoding of the key as bytes, two nibbles to a byte and the first in the high half.
     ///
-    /// Odd is answered only where the count of nibbles is odd, and always there for a light key.
+    /// # Errors
+    ///
+    /// `Odd`, only where the count of nibbles is odd, and always there for a light key; else
+    /// memory.
     fn encode_bytes(&self, alloc: Global) -> Result<Vec<u8>, BytesError>
         ensures ok { IfOk result (λ v. nibbles v.items ≡ encoding self.now) }
         ensures odd { IfErr result (λ e. e ≡ BytesError.Odd

@@ -1,12 +1,15 @@
 //! Keys of a radix trie: lists of nibbles, and what a key is encoded as.
 #![tactic(auto)]
 
+pub mod bits;
 pub mod endian;
 pub mod keys;
+pub mod laws;
 pub mod nibbles;
 #[cfg(test)]
 mod tests;
 
+pub use bits::Bits;
 pub use endian::{Ascending, BigEndian, KeyInt, LittleEndian};
-pub use keys::{KeySigned, TrieKey};
-pub use nibbles::{BytesError, Memory, NibbleVec, Nibblet};
+pub use keys::{FixedWidth, KeySigned, TrieKey};
+pub use nibbles::{BytesError, Memory, NibbleIter, NibbleVec, Nibblet};

@@ -10,6 +10,13 @@ use smallvec::SmallVec;
 use std::alloc::{AllocError, AllocFailed, Global};
 use std::marker::Model;
 
+mod iter;
+mod order;
+mod refusals;
+mod text;
+
+pub use iter::NibbleIter;
+
 /// Memory was refused, or a count of nibbles would pass `usize::MAX`.
 #[derive(Clone, Copy, PartialEq, Eq, Debug)]
 pub struct Memory;
@@ -87,7 +94,9 @@ impl NibbleVec {
 
     /// The nibbles of the bytes, the high half of each byte first.
     ///
-    /// Never refused for at most 16 bytes. The vector is dropped, after a refusal too.
+    /// # Errors
+    ///
+    /// Memory is refused, for more than 16 bytes. The vector is dropped, after a refusal too.
     pub fn from_byte_vec(alloc: Global, bytes: Vec<u8>) -> Result<NibbleVec, Memory>
         ensures ok { IfOk result (λ v. v ≡ nibbles bytes.items) }
         ensures succeeds { IsShort (nibbles bytes.items) → IsOk result }
@@ -177,7 +186,9 @@ impl NibbleVec {
 
     /// Appends a nibble, a number of at most 15.
     ///
-    /// Never refused for a list of less than 32 nibbles. After a refusal the list is as before.
+    /// # Errors
+    ///
+    /// Memory is refused, for a list of at least 32 nibbles. The list is as before then.
     pub fn push(&mut self, n: u8) -> Result<(), Memory>
         requires { n < 16 }
         ensures ok { OnOk result (self.new ≡ self.old ++ n ∷ []) }
@@ -197,7 +208,9 @@ impl NibbleVec {
 
     /// The same list.
     ///
-    /// Never refused for at most 32 nibbles.
+    /// # Errors
+    ///
+    /// Memory is refused, for more than 32 nibbles.
     pub fn clone(&self) -> Result<NibbleVec, Memory>
         ensures ok { IfOk result (λ v. v ≡ self.now) }
         ensures succeeds { IsShort self.now → IsOk result }
@@ -207,7 +220,9 @@ impl NibbleVec {
 
     /// Keeps the first `i` nibbles, at most all, and hands out the rest.
     ///
-    /// Never refused where the rest has at most 32 nibbles. After a refusal the list is as before.
+    /// # Errors
+    ///
+    /// Memory is refused, where the rest has more than 32 nibbles. The list is as before then.
     pub fn split(&mut self, i: usize) -> Result<NibbleVec, Memory>
         requires { i ≤ length self.old }
         ensures kept { OnOk result (self.new ≡ take i self.old) }
@@ -247,7 +262,9 @@ impl NibbleVec {
 
     /// The list followed by the other.
     ///
-    /// Never refused where the two have at most 32 nibbles together. A refusal hands the list back.
+    /// # Errors
+    ///
+    /// Memory is refused, where the two have more than 32 nibbles together. The list comes back.
     pub fn join(self, other: &NibbleVec) -> Result<NibbleVec, NibbleVec>
         ensures ok { IfOk result (λ v. v ≡ self ++ other.now) }
         ensures err { IfErr result (λ v. v ≡ self) }
@@ -262,7 +279,9 @@ impl NibbleVec {
 
     /// The nibbles from `i` on, which is at most the count.
     ///
-    /// Never refused where these are at most 32.
+    /// # Errors
+    ///
+    /// Memory is refused, where these are more than 32.
     pub fn tail(&self, i: usize) -> Result<NibbleVec, Memory>
         requires { i ≤ length self.now }
         ensures ok { IfOk result (λ r. r ≡ drop i self.now) }

@@ -1,12 +1,14 @@
-//! Outside vectors, and what is left after a refused growth.
-//!
-//! Each test passes whichever of its growths is refused, so a run for each of them shows which calls take no memory.
+//! Outside vectors.
 use super::*;
 use std::alloc::Global;
 use std::test::Fail;
 
+mod bits;
 mod keys;
 mod lists;
+mod refusals;
+mod walks;
+mod widths;
 
 const DIGITS: &[u8] = b"0123456789abcdef";
 
@@ -31,4 +33,9 @@ fn reads(list: &Nibblet, digits: &str) -> bool {
         }
     }
     true
+}
+
+/// Whether the key's encoding is what these hexadecimal digits say.
+fn encodes<K: TrieKey>(alloc: Global, key: &K, digits: &str) -> bool {
+    key.encode(alloc).is_ok_and(|l| reads(&l, digits))
 }

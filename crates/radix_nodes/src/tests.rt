@@ -1,11 +1,10 @@
-//! What no clause says: examples of broken nodes, what is left after a refused growth, and long ways down.
+//! What no clause says: examples of broken nodes, and long ways down.
 use crate::trie_node::{KeyValue, TrieNode};
 use radix_keys::{Memory, Nibblet};
 use std::alloc::Global;
 
 mod broken_nodes;
 mod long_chains;
-mod refused_growths;
 
 /// The list of these nibbles.
 fn list(alloc: Global, nibbles: &[u8]) -> Result<Nibblet, Memory> {

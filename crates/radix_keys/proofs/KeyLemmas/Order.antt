@@ -1,5 +1,5 @@
 -- Encodings keep the order of keys.
-use Rattle.std.proofs.Common.{◌≡◌, ◌⊎◌, inl, inr, ℕ, zero, suc, ◌+◌, ◌*◌, ◌/◌, ◌%◌, ◌^◌, ◌<◌, ◌≤◌, List, [], ◌∷◌, ℤ, pos, negsuc, FitsSigned, refl, arith, sym, ap, lit≤}
+use Rattle.std.proofs.Common.{◌≡◌, ◌⊎◌, inl, inr, ℕ, zero, suc, ◌+◌, ◌*◌, ◌/◌, ◌%◌, ◌^◌, ◌<◌, ◌≤◌, List, [], ◌∷◌, ◌++◌, length, ℤ, pos, negsuc, FitsSigned, refl, arith, sym, ap, ◌∙◌, subst, lit≤}
 use Rattle.std.proofs.Math.Nat.{mul-le-mul_right, suc-mul, mod-lt, mod-eq_of_lt}
 use Rattle.std.specs.Cmp.{nat_cmp_is}
 use Rattle.std.specs.Int.{Width, w8, w16, w32, w64, w128, byte_len, byte_at, bytes_high_first, to_be_bytes, cast_unsigned}
@@ -7,7 +7,7 @@ use Rattle.std.specs.declared.cmp.Ordering.TheVariants.{Less, Equal, Greater}
 use Rattle.nibble_map.specs.Nibbles.{nibbles}
 use Rattle.radix_keys.specs.Distinct.{pow-256-pos, digits-suc, cast_unsigned-below}
 use Rattle.radix_keys.specs.Integers.{unsigned_key}
-use Rattle.radix_keys.specs.Order.{Precedes, SignedPrecedes, KeepsByteOrder, KeepsUnsignedOrder, KeepsSignedOrder}
+use Rattle.radix_keys.specs.Order.{Precedes, SignedPrecedes, KeepsByteOrder, KeepsUnsignedOrder, KeepsSignedOrder, KeepsPairOrder}
 use mir.Val.{bits, hbits}
 
 -- which of two numbers is the greater
@@ -110,4 +110,30 @@ whole_bytes w128 = refl
 pub signed_order : (w : Width) → KeepsSignedOrder w
 signed_order w = record {
   precedes = λ x y p q h. number_order w (cast_unsigned w x) (cast_unsigned w y) (cast_order w x y p q h) (cast_unsigned-below w y (whole_bytes w) q);
+}
+
+-- lists of one length keep their order where others follow them
+append_order : (xs ys us vs : List ℕ) → length xs ≡ length ys → Precedes xs ys → Precedes (xs ++ us) (ys ++ vs)
+append_order [] [] us vs n h = cc
+append_order [] (y ∷ ys) us vs n h = absurd (omega arith)
+append_order (x ∷ xs) [] us vs n h = cc
+append_order (x ∷ xs) (y ∷ ys) us vs n h = elim (three_ways x y) [
+  | inl lt ↦ before-head x y (xs ++ us) (ys ++ vs) lt
+  | inr (inl same) ↦
+      let rest : Precedes xs ys = rw (sym (nat_cmp_is x y Equal same)) at h in
+      before-tail x y (xs ++ us) (ys ++ vs) same (append_order xs ys us vs (omega arith) rest)
+  | inr (inr gt) ↦ let wrong : Greater ≡ Less = rw (sym (nat_cmp_is x y Greater gt)) at h in cc
+]
+
+-- what follows one list keeps its order
+prepend_order : (xs us vs : List ℕ) → Precedes us vs → Precedes (xs ++ us) (xs ++ vs)
+prepend_order [] us vs h = h
+prepend_order (x ∷ xs) us vs h = before-tail x x (xs ++ us) (xs ++ vs) refl (prepend_order xs us vs h)
+
+-- where all encodings of first keys have one length, pairs of keys are in the order of their parts
+pub pair_order : {A B : Type 0} (first : A → List ℕ) (second : B → List ℕ) (is_first : A → Type 0) (count : ℕ)
+    → ((a : A) → is_first a → length (first a) ≡ count) → KeepsPairOrder first second is_first
+pair_order first second is_first count width = record {
+  by_first = λ a b c d p q h. append_order (first a) (first b) (second c) (second d) (width a p ∙ sym (width b q)) h;
+  by_second = λ a b c d e h. subst (λ t. Precedes (first a ++ second c) (t ++ second d)) e (prepend_order (first a) (second c) (second d) h);
 }

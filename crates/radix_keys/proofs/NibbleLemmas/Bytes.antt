@@ -1,11 +1,7 @@
 -- The nibbles of bytes: their count, and each of them.
 use Rattle.std.proofs.Common.{◌≡◌, ℕ, zero, suc, ◌+◌, ◌*◌, ◌/◌, ◌%◌, ◌<◌, List, [], ◌∷◌, ◌++◌, length, get_or, take, drop, refl, arith, ap, append_assoc, ◌∙◌}
 use Rattle.nibble_map.specs.Nibbles.{nibbles}
-
--- bytes have twice as many nibbles
-pub length-nibbles : (bs : List ℕ) → length (nibbles bs) ≡ 2 * length bs
-length-nibbles [] = refl
-length-nibbles (b ∷ bs) = omega (arith, length-nibbles bs)
+pub use Rattle.radix_keys.specs.Widths.{length-nibbles}
 
 -- the nibbles of joined bytes are those of both
 pub nibbles-append : (a b : List ℕ) → nibbles (a ++ b) ≡ nibbles a ++ nibbles b

@@ -323,7 +323,7 @@ impl<T: KeyInt> TrieKey for Vec<T> {
 }
 
 /// The nibbles of the bytes of one integer, the highest first.
-fn encode_integer<T: KeyInt>(alloc: Global, x: &T) -> Result<Nibblet, Memory>
+pub(super) fn encode_integer<T: KeyInt>(alloc: Global, x: &T) -> Result<Nibblet, Memory>
     ensures ok { IfOk result (λ v. v ≡ nibbles (T.bytes x.now)) }
     ensures value { OnOk result (T.is_value x.now) }
     ensures light { IsShort (nibbles (T.bytes x.now)) → IsOk result }

@@ -1,10 +1,5 @@
 use super::*;
 
-/// Whether the key's encoding is what these hexadecimal digits say.
-fn encodes<K: TrieKey>(alloc: Global, key: &K, digits: &str) -> bool {
-    key.encode(alloc).is_ok_and(|l| reads(&l, digits))
-}
-
 #[test]
 fn texts(rt: HostRuntime) {
     let a = rt.alloc();
@@ -65,14 +60,11 @@ fn ascending_bounds(rt: HostRuntime) {
 }
 
 #[test]
-fn vectors(rt: HostRuntime) {
+fn vectors(rt: HostRuntime) -> Result<(), Fail> {
     let a = rt.alloc();
-    if let Ok(words) = Vec::from_slice(a, &[1u16, 258]) {
-        assert!(rt; encodes(a, &words, "00010102"));
-    }
-    if let Ok(signed) = Vec::from_slice(a, &[-1i8, 1]) {
-        assert!(rt; encodes(a, &signed, "ff01"));
-    }
+    assert!(rt; encodes(a, &Vec::from_slice(a, &[1u16, 258])?, "00010102"));
+    assert!(rt; encodes(a, &Vec::from_slice(a, &[-1i8, 1])?, "ff01"));
+    Ok(())
 }
 
 #[test]
@@ -84,30 +76,9 @@ fn a_list_is_its_own_encoding(rt: HostRuntime) -> Result<(), Fail> {
     Ok(())
 }
 
-#[test]
-fn eight_words_take_no_memory(rt: HostRuntime) {
-    let a = rt.alloc();
-    if let Ok(words) = Vec::from_slice(a, &[0xabcdu16; 8]) {
-        assert!(rt; encodes(a, &words, "abcdabcdabcdabcdabcdabcdabcdabcd"));
-    }
-}
-
-#[test]
-fn nine_words_take_memory(rt: HostRuntime) {
-    let a = rt.alloc();
-    if let Ok(words) = Vec::from_slice(a, &[0xabcdu16; 9]) {
-        let tried = words.encode(a).is_ok();
-        assert!(rt; tried || encodes(a, &words, "abcdabcdabcdabcdabcdabcdabcdabcdabcd"));
-    }
-}
-
-/// Whether the key's bytes are these, by a second try where the first is refused.
+/// Whether the key's bytes are these.
 fn has_bytes<K: TrieKey>(alloc: Global, key: &K, bytes: &[u8]) -> bool {
-    match key.encode_bytes(alloc) {
-        Ok(found) => found.as_slice() == bytes,
-        Err(BytesError::Memory) => key.encode_bytes(alloc).is_ok_and(|v| v.as_slice() == bytes),
-        Err(BytesError::Odd) => false,
-    }
+    key.encode_bytes(alloc).is_ok_and(|v| v.as_slice() == bytes)
 }
 
 #[test]

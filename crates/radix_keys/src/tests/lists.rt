@@ -1,13 +1,13 @@
 use super::*;
 
 #[test]
-fn bytes_give_their_high_half_first(rt: HostRuntime) {
+fn bytes_give_their_high_half_first(rt: HostRuntime) -> Result<(), Fail> {
     let a = rt.alloc();
     for (bytes, digits) in [(&[0xf1][..], "f1"), (&[0x12, 0x34][..], "1234")] {
-        if let Ok(bytes) = Vec::from_slice(a, bytes) {
-            assert!(rt; Nibblet::from_byte_vec(a, bytes).is_ok_and(|l| reads(&l, digits)));
-        }
+        let list = Nibblet::from_byte_vec(a, Vec::from_slice(a, bytes)?)?;
+        assert!(rt; reads(&list, digits));
     }
+    Ok(())
 }
 
 #[test]
@@ -95,78 +95,5 @@ fn what_is_left_of_a_half_byte_does_not_count(rt: HostRuntime) -> Result<(), Fai
     assert!(rt; cut.len() == 4);
     cut.split(3)?;
     assert!(rt; cut == list(a, &[1, 2, 3])?);
-    Ok(())
-}
-
-#[test]
-fn thirty_two_nibbles_are_cloned_without_memory(rt: HostRuntime) -> Result<(), Fail> {
-    let full = list(rt.alloc(), &[7; 32])?;
-    let same = full.clone()?;
-    assert!(rt; same == full);
-    Ok(())
-}
-
-/// Thirty-three nibbles, by a second try where the first is refused.
-fn thirty_three(a: Global) -> Result<Nibblet, Memory> {
-    let mut long = list(a, &[7; 32])?;
-    if long.push(8).is_err() {
-        long.push(8)?;
-    }
-    Ok(long)
-}
-
-#[test]
-fn the_thirty_third_push_takes_memory(rt: HostRuntime) -> Result<(), Fail> {
-    let full = "77777777777777777777777777777777";
-    let mut long = list(rt.alloc(), &[7; 32])?;
-    if long.push(8).is_err() {
-        assert!(rt; reads(&long, full));
-        long.push(8)?;
-    }
-    assert!(rt; reads(&long, "777777777777777777777777777777778"));
-    Ok(())
-}
-
-#[test]
-fn a_refused_clone_can_be_tried_again(rt: HostRuntime) -> Result<(), Fail> {
-    let long = thirty_three(rt.alloc())?;
-    let same = match long.clone() {
-        Ok(same) => same,
-        Err(_) => long.clone()?,
-    };
-    assert!(rt; same == long);
-    Ok(())
-}
-
-#[test]
-fn a_refused_split_changes_nothing(rt: HostRuntime) -> Result<(), Fail> {
-    let mut long = thirty_three(rt.alloc())?;
-    let same = match long.split(0) {
-        Ok(rest) => rest,
-        Err(_) => {
-            assert!(rt; reads(&long, "777777777777777777777777777777778"));
-            long.split(0)?
-        }
-    };
-    assert!(rt; long.is_empty());
-    assert!(rt; reads(&same, "777777777777777777777777777777778"));
-    Ok(())
-}
-
-#[test]
-fn a_refused_join_hands_the_list_back(rt: HostRuntime) -> Result<(), Fail> {
-    let a = rt.alloc();
-    let back = list(a, &[8; 16])?;
-    let joined = match list(a, &[7; 17])?.join(&back) {
-        Ok(joined) => joined,
-        Err(front) => {
-            assert!(rt; reads(&front, "77777777777777777"));
-            match front.join(&back) {
-                Ok(joined) => joined,
-                Err(_) => return Err(Fail::from(Memory)),
-            }
-        }
-    };
-    assert!(rt; reads(&joined, "777777777777777778888888888888888"));
     Ok(())
 }

@@ -1,0 +1,6 @@
+use Rattle.std.proofs.Common.{◌≡◌, take}
+use Rattle.radix_keys.specs.Bits.{bits_of}
+use Rattle.radix_keys.proofs.bits.Bits.first_of.Given as goal
+
+abbrev pub invariant-loop-i : goal.invariant-loop-i
+invariant-loop-i l = l.list ≡ take l.i (bits_of l.bytes)

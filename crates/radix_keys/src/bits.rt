@@ -1,0 +1,131 @@
+//! Lists of bits as keys, such as the first bits of an address.
+ghost use Rattle.std.specs.Prelude.{◌≡◌, ◌==◌, length, take, IsOk, IfOk, nat_eq};
+ghost use Rattle.std.specs.Cmp.{partial_equiv_from_equiv};
+ghost use Rattle.std.specs.Cmp.Lexicographic.{pointwise, nat_list_eq_equiv};
+ghost use Rattle.std.proofs.lemmas.Slice.Eq.{bytes_eq-Decides};
+ghost use Rattle.nibble_map.specs.Nibbles.{IsShort};
+ghost use Rattle.radix_keys.specs.Bits.{bits_of, first_bits};
+
+use crate::keys::TrieKey;
+use crate::nibbles::{Memory, Nibblet};
+use std::alloc::{AllocError, Global};
+use std::marker::Model;
+
+/// A list of bits, each kept as a nibble, 0 or 1. Up to 32 of them take no memory.
+#[derive(Drop)]
+pub struct Bits {
+    list: Nibblet,
+}
+
+impl Model for Bits {
+    ghost use Rattle.std.specs.Prelude.{ℕ, List};
+
+    ghost Value = { List ℕ };
+
+    ghost view = { λ b. b.list };
+}
+
+impl Bits {
+    /// The first `count` bits of the bytes, the highest bit of each byte first; all of them where
+    /// there are no more.
+    ///
+    /// # Errors
+    ///
+    /// Memory is refused, for more than 32 bits.
+    pub fn first_of(alloc: Global, bytes: &[u8], count: usize) -> Result<Bits, Memory>
+        ensures ok { IfOk result (λ b. b ≡ take count (bits_of bytes.now)) }
+        ensures succeeds { IsShort (take count (bits_of bytes.now)) → IsOk result }
+    {
+        let mut list = Nibblet::new(alloc);
+        for i in 0..count {
+            if i / 8 >= bytes.len() {
+                return Ok(Bits { list });
+            }
+            list.push((bytes[i / 8] >> (7 - i % 8)) % 2)?;
+        }
+        Ok(Bits { list })
+    }
+
+    /// The first `count` bits of the number, the highest first; all 32 where more are asked for.
+    ///
+    /// # Errors
+    ///
+    /// None: a list of 32 bits takes no memory.
+    pub fn first_of_u32(alloc: Global, number: u32, count: usize) -> Result<Bits, Memory>
+        ensures ok { IfOk result (λ b. b ≡ first_bits 32 number count) }
+        ensures succeeds { IsOk result }
+    {
+        let bytes = number.to_be_bytes();
+        Bits::first_of(alloc, &bytes, count)
+    }
+
+    /// The first `count` bits of the number, the highest first; all 128 where more are asked for.
+    ///
+    /// # Errors
+    ///
+    /// Memory is refused, for more than 32 bits.
+    pub fn first_of_u128(alloc: Global, number: u128, count: usize) -> Result<Bits, Memory>
+        ensures ok { IfOk result (λ b. b ≡ first_bits 128 number count) }
+        ensures succeeds { IsShort (first_bits 128 number count) → IsOk result }
+    {
+        Bits::first_of(alloc, &number.to_be_bytes(), count)
+    }
+
+    /// The count of bits.
+    pub fn len(&self) -> usize
+        ensures { result ≡ length self.now }
+    {
+        self.list.len()
+    }
+
+    /// Whether the list has no bit.
+    pub fn is_empty(&self) -> bool
+        ensures { result ≡ (length self.now == 0) }
+    {
+        self.list.is_empty()
+    }
+}
+
+impl Clone for Bits {
+    ghost is_clone = { λ bits copy. copy ≡ bits };
+
+    ghost is_infallible = { IsShort };
+
+    fn clone(&self) -> Result<Bits, AllocError> {
+        match Clone::clone(&self.list) {
+            Ok(list) => Ok(Bits { list }),
+            Err(refused) => Err(refused),
+        }
+    }
+}
+
+impl PartialEq for Bits {
+    ghost eq = { pointwise nat_eq };
+
+    ghost laws = { partial_equiv_from_equiv nat_list_eq_equiv };
+
+    fn eq(&self, other: &Bits) -> bool {
+        self.list == other.list
+    }
+}
+
+impl Eq for Bits {
+    ghost laws = { nat_list_eq_equiv };
+}
+
+impl TrieKey for Bits {
+    ghost encoding = { λ b. b };
+
+    ghost is_light = { IsShort };
+
+    ghost is_value = { λ _. Unit {0} };
+
+    ghost distinct = { λ x y _ _ e. (bytes_eq-Decides x y).1 e };
+
+    ghost light_is_short = { λ _ h. h };
+
+    /// The list of the bits.
+    fn encode(&self, _alloc: Global) -> Result<Nibblet, Memory> {
+        self.list.clone()
+    }
+}

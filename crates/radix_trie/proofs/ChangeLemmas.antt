@@ -7,3 +7,4 @@ pub mod Written
 pub mod Copies
 pub mod Turned
 pub mod Keyed
+pub mod Popped

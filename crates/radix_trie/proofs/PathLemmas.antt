@@ -1,6 +1,7 @@
 -- What stands at and below a path, and above it.
 pub mod Parts
 pub mod Places
+pub mod Later
 pub mod NodesBelow
 pub mod Opened
 pub mod Above

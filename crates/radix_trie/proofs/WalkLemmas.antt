@@ -2,3 +2,10 @@
 pub mod Rows
 pub mod Walks
 pub mod Keyed
+pub mod Tested
+pub mod Prefixes
+pub mod Order
+pub mod Resumed
+pub mod LaterRows
+pub mod Ends
+pub mod Pages

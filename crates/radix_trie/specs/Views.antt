@@ -1,7 +1,11 @@
 -- What clauses see of a view for reading.
-use Rattle.std.specs.Prelude.{◌≡◌, ℕ, List, Option, Some, None, map as each}
+use Rattle.std.specs.Prelude.{◌≡◌, ℕ, List, Option, Some, None, filter, map as each}
 use Rattle.std.proofs.Common.{refl}
+use Rattle.std.specs.Cmp.Lexicographic.{slice_cmp}
+use Rattle.std.specs.FinMap as finite
+use Rattle.std.specs.Ordering.{is_le, is_lt, nat_cmp}
 use Rattle.std.specs.Coded.{Coded, code_by, coded_list, coded_ℕ, coded×}
+use Rattle.nibble_map.specs.Lists.{is_prefix}
 use Rattle.nibble_map.specs.MapQueries.{IsAncestor}
 use Rattle.nibble_map.specs.Maps.{PairMap, pair_map_code, value_at, walk}
 
@@ -29,6 +33,31 @@ module _ {K V : Type 0} where
   abbrev pub IsValueAbove : PairMap K V → List ℕ → Option V → Type 0
   IsValueAbove m e v = (a : Option (List ℕ)) × IsAncestor m e a × (v ≡ value_of m a)
 
+  -- the pair at a list, if there is a list
+  abbrev pub pair_of_list : PairMap K V → Option (List ℕ) → Option (K × V)
+  pair_of_list m None = None
+  pair_of_list m (Some e) = finite.get m e
+
+  -- p is the pair at the longest stored list that is a prefix of e, or None where there is none
+  abbrev pub IsPairAbove : PairMap K V → List ℕ → Option (K × V) → Type 0
+  IsPairAbove m e p = (a : Option (List ℕ)) × IsAncestor m e a × (p ≡ pair_of_list m a)
+
+  -- the part of the map whose lists are prefixes of e
+  abbrev pub above : PairMap K V → List ℕ → PairMap K V
+  above m e = finite.retain_keys m (λ p. is_prefix p e)
+
+  -- the pairs whose lists are prefixes of e, in the order of their lists: the shortest first
+  abbrev pub pairs_above : PairMap K V → List ℕ → List (K × V)
+  pairs_above m e = each (λ x. x.1) (finite.entries (above m e))
+
   -- the pairs at and below a path, in the order of their lists
   abbrev pub pairs_below : PairMap K V → List ℕ → List (K × V)
   pairs_below m p = each (λ e. e.1) (walk m p)
+
+  -- the same from q on: of the lists that are q or come after it in their order
+  abbrev pub pairs_from : PairMap K V → List ℕ → List ℕ → List (K × V)
+  pairs_from m p q = each (λ e. e.1) (filter (λ e. is_le (slice_cmp nat_cmp q e.0)) (walk m p))
+
+  -- the same after q: of the lists that come after it in their order
+  abbrev pub pairs_after : PairMap K V → List ℕ → List ℕ → List (K × V)
+  pairs_after m p q = each (λ e. e.1) (filter (λ e. is_lt (slice_cmp nat_cmp q e.0)) (walk m p))

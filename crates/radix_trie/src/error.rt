@@ -4,6 +4,11 @@ ghost use Rattle.std.specs.Prelude.{◌≡◌};
 use radix_keys::Memory;
 use std::alloc::AllocError;
 
+mod text;
+mod whole;
+
+pub use whole::TrieError;
+
 /// Why an insertion was refused.
 #[derive(Clone, Copy, PartialEq, Eq, Debug)]
 pub enum InsertWhy {

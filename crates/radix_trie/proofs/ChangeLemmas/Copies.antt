@@ -66,7 +66,7 @@ module _ {K V : Type 0} (enc : K → List ℕ) (is_key_clone : K → K → Type 
 -- the root of a trie without pairs has no pair and no child
 module _ {K V : Type 0} where
   -- full children that hold no pair are none
-  no_children : (q : List ℕ) (k : Children (KeyValue K V)) → IsFull (plain k) → length (entries_in q k) ≡ 0 → k ≡ none
+  pub no_children : (q : List ℕ) (k : Children (KeyValue K V)) → IsFull (plain k) → length (entries_in q k) ≡ 0 → k ≡ none
   no_children q none full i = refl
   no_children q (more f (Some x) m children others) full i = absurd (let j : suc (length (entries_in (q ++ f) children ++ entries_in q others)) ≡ 0 = i in cc j)
   no_children q (more f None m children others) full i =

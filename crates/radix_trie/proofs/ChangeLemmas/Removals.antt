@@ -1,12 +1,12 @@
 -- What a removal from the root does, once it has taken a pair.
-use Rattle.std.proofs.Common.{◌≡◌, ℕ, suc, ◌-◌, ◌≤◌, List, ◌++◌, length, Some, None, option_map, ap, arith}
+use Rattle.std.proofs.Common.{◌≡◌, ℕ, suc, ◌-◌, ◌≤◌, List, ◌++◌, length, Some, None, ap, arith}
 use Rattle.std.specs.FinMap as fin
 use Rattle.masked_tree.specs.Alters.{CutsRoot}
 use Rattle.masked_tree.specs.Tree.{Tree}
-use Rattle.nibble_map.specs.Maps.{value_at}
 use Rattle.radix_nodes.specs.declared.trie_node.KeyValue.{KeyValue}
 use Rattle.radix_nodes.specs.declared.trie_node.TrieNode.{TrieNode}
 use Rattle.radix_nodes.specs.Nodes.{tree_of, fragment_of}
+use Rattle.radix_nodes.specs.Pairs.{pair_of}
 use Rattle.radix_trie.specs.Roots.{entries_of, map_of, IsKept}
 use Rattle.radix_trie.proofs.ChangeLemmas.Changes.{swaps-length, entry_change, kept_after, map_of-cut, get-before_cut, removed_at}
 
@@ -17,9 +17,9 @@ module _ {K V : Type 0} (enc : K → List ℕ) (root : TrieNode K V) (new : Tree
   at_q : CutsRoot q x m l (tree_of root) new
   at_q = removed_at root new list q x m l kept.top is cut
 
-  -- the value that was taken is the old map's at the list
-  pub value_at-taken : value_at (map_of (tree_of root)) q ≡ Some x.value
-  value_at-taken = ap (option_map (λ p. p.1)) (get-before_cut enc (tree_of root) new count nodes nibbles q x m l kept at_q)
+  -- the pair that was taken is the old map's at the list
+  pub get-taken : fin.get (map_of (tree_of root)) q ≡ Some (pair_of x)
+  get-taken = get-before_cut enc (tree_of root) new count nodes nibbles q x m l kept at_q
 
   -- after the removal the map is the old one with the list removed
   pub map_of-taken : map_of new ≡ fin.remove (map_of (tree_of root)) q

@@ -1,5 +1,5 @@
 -- The nearest pair, and the nearest point, above a list.
-use Rattle.std.proofs.Common.{◌≡◌, ℕ, ◌-◌, List, ◌++◌, drop, take, None, option_map, Some, refl, ap, subst, ◌∙◌, sym, arith}
+use Rattle.std.proofs.Common.{◌≡◌, ℕ, ◌-◌, List, ◌++◌, drop, take, Option, None, option_map, Some, refl, ap, subst, ◌∙◌, sym, arith}
 use Rattle.nibble_map.specs.Answers.{IsLongest}
 use Rattle.masked_tree.specs.Tree.{Tree}
 use Rattle.masked_tree.specs.Paths.{IsHeld, IsNodeAt, IsPath}
@@ -9,14 +9,15 @@ use Rattle.nibble_map.proofs.MapLemmas.Edits.{stored_by_entries}
 use Rattle.nibble_map.proofs.PointLemmas.Moves.{longest_moves}
 use Rattle.radix_nodes.specs.declared.trie_node.KeyValue.{KeyValue}
 use Rattle.radix_nodes.specs.declared.trie_node.TrieNode.{TrieNode}
+use Rattle.radix_nodes.specs.Pairs.{pair_of}
 use Rattle.radix_nodes.specs.Nodes.{tree_of, fragment_of, on_way, IsDeepest}
 use Rattle.radix_nodes.proofs.NodeLemmas.Nodes.{fragment-tree_of}
 use Rattle.radix_trie.specs.Places.{IsNodeOf}
 use Rattle.radix_trie.specs.Roots.{IsRoot}
-use Rattle.radix_trie.specs.Views.{IsValueAbove}
+use Rattle.radix_trie.specs.Views.{IsPairAbove, IsValueAbove, pair_of_list, value_of}
 use Rattle.radix_trie.proofs.RootLemmas.Held.{pair_of-node}
 use Rattle.radix_trie.proofs.RootLemmas.Paths.{node_point, point_node}
-use Rattle.radix_trie.proofs.RootLemmas.Roots.{stored-root_entries, value-shown_pair}
+use Rattle.radix_trie.proofs.RootLemmas.Roots.{stored-root_entries}
 
 module _ {K V : Type 0} (enc : K → List ℕ) (m : PairMap K V) (root : TrieNode K V) (list : List ℕ) (is : IsRoot enc m (tree_of root)) where
   -- the root's tree
@@ -63,18 +64,26 @@ module _ {K V : Type 0} (enc : K → List ℕ) (m : PairMap K V) (root : TrieNod
     longest_point d =
         longest_moves (IsPath tree) (IsPoint m) (λ q h. node_point enc m tree is q h.0 h.1) (point_node enc m tree is) list (take end list) (longest_on_way (IsPath tree) u end d)
 
-    -- the value of the deepest pair on the way to a list is the value above the list
-    pub value_above : IsDeepest (IsHeld tree) tree u list 0 end → IsValueAbove m list (option_map (λ x. x.value) u.pair)
-    value_above d = (
+    -- the deepest pair on the way to a list is the pair above the list
+    pub pair_above : IsDeepest (IsHeld tree) tree u list 0 end → IsPairAbove m list (option_map pair_of u.pair)
+    pair_above d = (
       Some (take end list),
       longest_stored d,
-      value-shown_pair u.pair ∙ ap (option_map (λ x. x.1)) (pair_of-node enc m tree is (take end list) u (node_on_way (IsHeld tree) u end d)),
+      pair_of-node enc m tree is (take end list) u (node_on_way (IsHeld tree) u end d),
     )
 
   -- where the root holds no prefix of a list, the map stores none
   pub none_stored_above : ((q : List ℕ) → IsHeld tree q → IsPrefix q (fragment_of root ++ drop 0 list) → ⊥) → (q : List ℕ) → IsStored m q → IsPrefix q list → ⊥
   none_stored_above apart q s a = apart q (to_held q s) (subst (IsPrefix q) (sym whole_list) a)
 
-  -- where the root holds no prefix of a list, there is no value above the list
-  pub no_value_above : ((q : List ℕ) → IsHeld tree q → IsPrefix q (fragment_of root ++ drop 0 list) → ⊥) → IsValueAbove m list None
-  no_value_above apart = (None, none_stored_above apart, refl)
+  -- where the root holds no prefix of a list, there is no pair above the list
+  pub no_pair_above : ((q : List ℕ) → IsHeld tree q → IsPrefix q (fragment_of root ++ drop 0 list) → ⊥) → IsPairAbove m list None
+  no_pair_above apart = (None, none_stored_above apart, refl)
+
+-- the value above a list is the value of the pair above it
+pub value_above : {K V : Type 0} (m : PairMap K V) (list : List ℕ) (p : Option (K × V)) → IsPairAbove m list p → IsValueAbove m list (option_map (λ x. x.1) p)
+value_above m list p (a, ancestor, is) = (a, ancestor, ap (option_map (λ x. x.1)) is ∙ second a)
+  where
+    second : (o : Option (List ℕ)) → option_map (λ x. x.1) (pair_of_list m o) ≡ value_of m o
+    second None = refl
+    second (Some e) = refl

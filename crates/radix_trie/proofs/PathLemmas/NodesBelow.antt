@@ -48,7 +48,7 @@ module _ {K V : Type 0} (enc : K → List ℕ) (m : PairMap K V) (t : Tree (KeyV
       ∙ filter-map (λ (e : List ℕ × (K × V)). is_prefix p e.0) row_of (entries_at [] t)
 
   -- the walk from p gives the rows at and below the node with the shortest path that p begins
-  walk-node : (p x : List ℕ) (u : Tree (KeyValue K V)) → IsNodeAt t x u → IsShortest (IsPath t) p x → walk m p ≡ map row_of (entry x u.pair ++ entries_in x u.children)
+  pub walk-node : (p x : List ℕ) (u : Tree (KeyValue K V)) → IsNodeAt t x u → IsShortest (IsPath t) p x → walk m p ≡ map row_of (entry x u.pair ++ entries_in x u.children)
   walk-node p x u i s = walk-rows p ∙ ap (map row_of) (entries_under-node p t x u root.masked i (path_leads p x s) s.below)
 
   -- the pairs in the node with the shortest path that p begins are the map's at and below p

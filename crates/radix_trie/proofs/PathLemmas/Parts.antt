@@ -1,11 +1,11 @@
 -- The part of a tree at and below one of its nodes.
 use Rattle.std.proofs.Common.{◌≡◌, ◌≢◌, ◌⊎◌, inl, inr, Bool, true, false, ℕ, zero, suc, ◌<◌, ◌≤◌, List, [], ◌∷◌, ◌++◌, filter, Option, Some, None, refl, ap, sym, subst, ◌∙◌, append_assoc, append-nil, arith}
 use Rattle.std.proofs.lemmas.List.Elements.{filter-append}
-use Rattle.masked_tree.specs.Tree.{Tree, Children, none, more, IsPlaced, IsTreePlaced, entries_in, entries_at}
+use Rattle.masked_tree.specs.Tree.{Tree, Children, none, more, plain, IsPlaced, IsTreePlaced, IsFullBelow, entries_in, entries_at}
 use Rattle.masked_tree.specs.Paths.{IsChildAt, IsNodeAt}
 use Rattle.nibble_map.specs.Lists.{Has, IsPrefix, is_prefix}
 use Rattle.nibble_map.specs.Swaps.{entry}
-use Rattle.nibble_map.specs.Trees.{first}
+use Rattle.nibble_map.specs.Trees.{IsFull, first}
 use Rattle.nibble_map.proofs.ListLemmas.Cut.{cancel_front, rest_is_empty, first-append}
 use Rattle.masked_tree.proofs.PathLemmas.Paths.{nothing_appended, child_headed, no_child_here, has_node, none_is_not_some}
 use Rattle.masked_tree.proofs.PathLemmas.BehindFragment.{prefix_below}
@@ -29,7 +29,7 @@ filter_all test [] h = refl
 filter_all test (x ∷ xs) h = rw (h x (inl refl)) (ap (λ ys. x ∷ ys) (filter_all test xs (λ y i. h y (inr i))))
 
 -- a filter whose test no item passes leaves nothing
-filter_none : {A : Type 0} (test : A → Bool) (xs : List A) → ((x : A) → Has xs x → test x ≡ false) → filter test xs ≡ []
+pub filter_none : {A : Type 0} (test : A → Bool) (xs : List A) → ((x : A) → Has xs x → test x ≡ false) → filter test xs ≡ []
 filter_none test [] h = refl
 filter_none test (x ∷ xs) h = rw (h x (inl refl)) (filter_none test xs (λ y i. h y (inr i)))
 
@@ -39,20 +39,20 @@ true_or_false true = inl refl
 true_or_false false = inr refl
 
 -- where x is f and more, and f isn't empty, x begins with f's first nibble
-first_same : (f x y z : List ℕ) → f ≢ [] → x ≡ f ++ y → first (x ++ z) ≡ first f
+pub first_same : (f x y z : List ℕ) → f ≢ [] → x ≡ f ++ y → first (x ++ z) ≡ first f
 first_same f x y z n e = ap (λ w. first (w ++ z)) e ∙ ap first (append_assoc f y z) ∙ first-append f (y ++ z) n
 
 -- where p is no prefix of e, the test for it says false
-is_prefix-apart : (p e : List ℕ) → (IsPrefix p e → ⊥) → is_prefix p e ≡ false
+pub is_prefix-apart : (p e : List ℕ) → (IsPrefix p e → ⊥) → is_prefix p e ≡ false
 is_prefix-apart p e apart = elim (true_or_false (is_prefix p e)) [ inl i ↦ absurd (apart (prefix_by_test p e i)) | inr i ↦ i ]
 
 module _ {P : Type 0} where
   -- a path below children placed from `low` on begins with no lower nibble
-  first_low : (low : ℕ) (k : Children P) (x : List ℕ) (u : Tree P) (z : List ℕ) → IsPlaced low k → IsChildAt k x u → low ≤ first (x ++ z)
+  pub first_low : (low : ℕ) (k : Children P) (x : List ℕ) (u : Tree P) (z : List ℕ) → IsPlaced low k → IsChildAt k x u → low ≤ first (x ++ z)
   first_low low k x u z h i = let r = child_headed low k x u h i in let e = ap (λ y. first (y ++ z)) r.2 in omega (arith, e, r.3)
 
   -- at the list of each entry below some children stands a node of theirs
-  has_child : (q : List ℕ) (k : Children P) (p : List ℕ) (v : P) → Has (entries_in q k) (p, v) → (x : List ℕ) × (u : Tree P) × (p ≡ q ++ x) × IsChildAt k x u
+  pub has_child : (q : List ℕ) (k : Children P) (p : List ℕ) (v : P) → Has (entries_in q k) (p, v) → (x : List ℕ) × (u : Tree P) × (p ≡ q ++ x) × IsChildAt k x u
   has_child q k p v h =
       let r = has_node (record { fragment = q; pair = None; mask = 0; children = k }) p v h in
       elim r.1 [ inl e ↦ absurd (none_is_not_some (sym (ap (λ (t : Tree P). t.pair) e.1) ∙ r.2)) | inr e ↦ (e.0, r.0, e.1, e.2) ]
@@ -125,6 +125,18 @@ module _ {P : Type 0} where
   pub node_placed : (t : Tree P) (x : List ℕ) (u : Tree P) → IsTreePlaced t → IsNodeAt t x u → IsTreePlaced u
   node_placed t x u h (inl i) = subst IsTreePlaced (sym i.1) h
   node_placed t x u h (inr i) = child_placed 0 t.children i.0 u h.1 i.2
+
+  -- below full children each node is full below
+  child_full : (k : Children P) (x : List ℕ) (u : Tree P) → IsFull (plain k) → IsChildAt k x u → IsFullBelow u
+  child_full none x u full i = absurd i
+  child_full (more f o m children others) x u full (inl i) = subst IsFullBelow (sym i.1) full.1
+  child_full (more f o m children others) x u full (inr (inl i)) = child_full children i.0 u full.1 i.2
+  child_full (more f o m children others) x u full (inr (inr i)) = child_full others x u full.2 i
+
+  -- of a tree that is full below, each node is full below
+  pub node_full : (t : Tree P) (x : List ℕ) (u : Tree P) → IsFullBelow t → IsNodeAt t x u → IsFullBelow u
+  node_full t x u full (inl i) = subst IsFullBelow (sym i.1) full
+  node_full t x u full (inr i) = child_full t.children i.0 u full i.2
 
   -- what stands at a list that goes on from a node's path stands so in the node's own tree
   module _ (t u : Tree P) (p : List ℕ) (at : IsNodeAt t p u) where

@@ -7,7 +7,7 @@ use Rattle.std.specs.FinMap as fin
 use Rattle.std.specs.Prelude.{MatchOption, MatchBool, IsTrue, vec_len, nat_eq}
 use Rattle.masked_tree.specs.Agreement.{Agrees}
 use Rattle.nibble_map.specs.Answers.{IsShortest}
-use Rattle.masked_tree.specs.Tree.{Tree, Children, none, more, IsPlaced, IsTreePlaced, entries_at}
+use Rattle.masked_tree.specs.Tree.{Tree, Children, none, more, IsPlaced, IsTreePlaced, IsFullBelow, entries_at}
 use Rattle.masked_tree.specs.Paths.{IsChildAt, IsNodeAt, IsPath}
 use Rattle.nibble_map.specs.Lists.{IsPrefix, IsStrictPrefix, is_prefix}
 use Rattle.nibble_map.specs.MapQueries.{IsLeaf}
@@ -29,8 +29,9 @@ use Rattle.radix_trie.specs.Views.{pairs_below}
 use Rattle.radix_nodes.specs.Pairs.{pairs_in}
 use Rattle.radix_trie.proofs.ChangeLemmas.Changes.{append-root_fragment}
 use Rattle.radix_trie.proofs.RootLemmas.Held.{pair_of-node, get-no_node}
-use Rattle.radix_trie.proofs.PathLemmas.Parts.{true_or_false, node_placed, le-cases}
+use Rattle.radix_trie.proofs.PathLemmas.Parts.{true_or_false, node_full, node_placed, le-cases}
 use Rattle.radix_trie.proofs.RootLemmas.Paths.{point_node}
+use Rattle.radix_trie.proofs.RootLemmas.Roots.{root_is_full_below}
 use Rattle.radix_trie.proofs.WalkLemmas.Rows.{levels-some}
 use Rattle.radix_nodes.proofs.EditLemmas.Removal.{children-no_boxes}
 use Rattle.radix_trie.proofs.PathLemmas.NodesBelow.{pairs_in-node, walk-no_path, path_below_no_leaf, childless_is_leaf, child_no_leaf}
@@ -40,7 +41,7 @@ pub false_is_not_true : false ≡ true → ⊥
 false_is_not_true e = cc e
 
 -- a filter leaves no more items
-length-filter_le : {A : Type 0} (test : A → Bool) (xs : List A) → length (filter test xs) ≤ length xs
+pub length-filter_le : {A : Type 0} (test : A → Bool) (xs : List A) → length (filter test xs) ≤ length xs
 length-filter_le test [] = omega arith
 length-filter_le test (x ∷ xs) = elim (true_or_false (test x)) [ inl e ↦ rw e (omega (arith, length-filter_le test xs)) | inr e ↦ rw e (omega (arith, length-filter_le test xs)) ]
 
@@ -138,6 +139,10 @@ module _ {K V : Type 0} (enc : K → List ℕ) (m : PairMap K V) (p : List ℕ) 
     -- the children of the found node are at their places
     pub found_placed : IsTreePlaced (tree_of r.now)
     found_placed = node_placed tree (ends r.now n) (tree_of r.now) place.1.masked nearest_found.node
+
+    -- each node below the found one has a pair or two children
+    pub found_full : IsFullBelow (tree_of r.now)
+    found_full = node_full tree (ends r.now n) (tree_of r.now) (root_is_full_below enc m tree place.1) nearest_found.node
 
     -- where p ends with the found node's fragment and a node stands below, p is no leaf
     child_found_no_leaf : n ≡ length (fragment_of r.now) → (x : List ℕ) (w : Tree (KeyValue K V)) → x ≢ [] → IsChildAt (tree_of r.now).children x w → IsLeaf m p → ⊥

@@ -31,7 +31,7 @@ module _ {P : Type 0} where
   turns-with_row rs (more f o m children others) = omega (arith, turns-push rs (more f o m children others))
 
   -- a row more, if it isn't empty, makes the rows at most one longer
-  length-with_row : (rs : List (Children P)) (r : Children P) → length (with_row rs r) ≤ length rs + 1
+  pub length-with_row : (rs : List (Children P)) (r : Children P) → length (with_row rs r) ≤ length rs + 1
   length-with_row rs none = omega arith
   length-with_row rs (more f o m children others) = omega (arith, length-append rs (more f o m children others ∷ []))
 
@@ -48,7 +48,7 @@ module _ {P : Type 0} where
   room-pop most i (q ∷ rs) r h = let p = room-pop most (suc i) rs r h.1 in ((h.0, p.0), omega (arith, p.1))
 
   -- a stack has room for a row more, if it isn't empty, where the row's levels fit above it
-  room-with_row : (most : ℕ) (rs : List (Children P)) (r : Children P) → HasRowRoom most 0 rs → length rs + levels r ≤ most
+  pub room-with_row : (most : ℕ) (rs : List (Children P)) (r : Children P) → HasRowRoom most 0 rs → length rs + levels r ≤ most
       → HasRowRoom most 0 (with_row rs r)
   room-with_row most rs none h fits = h
   room-with_row most rs (more f o m children others) h fits = room-push most 0 rs (more f o m children others) h (omega arith)
@@ -103,7 +103,7 @@ module _ {K V : Type 0} where
   pending-push (q ∷ rs) r = ap (λ x. x ++ pairs_in_all q) (pending-push rs r) ∙ append_assoc (pairs_in_all r) (pending rs) (pairs_in_all q)
 
   -- with a row more, if it isn't empty, its pairs come first, and then those that were left
-  pending-with_row : (rs : List (Children (KeyValue K V))) (r : Children (KeyValue K V)) → pending (with_row rs r) ≡ pairs_in_all r ++ pending rs
+  pub pending-with_row : (rs : List (Children (KeyValue K V))) (r : Children (KeyValue K V)) → pending (with_row rs r) ≡ pairs_in_all r ++ pending rs
   pending-with_row rs none = refl
   pending-with_row rs (more f o m children others) = pending-push rs (more f o m children others)
 

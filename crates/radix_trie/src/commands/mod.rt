@@ -68,10 +68,13 @@ pub enum Reply<V> {
     Refused,
 }
 
-/// Runs the commands in order, and answers one reply to each.
+/// Runs the commands in order, and answers one reply to each. A refused command answers `Refused`
+/// and changes nothing, and the run goes on.
 ///
-/// A refused command answers `Refused` and changes nothing, and the run goes on. The list of replies is reserved first: the
-/// one refusal of `run` itself is that of memory for it. Then no command is run and the trie is as before.
+/// # Errors
+///
+/// Memory for the list of replies is refused, which is reserved first. No command is run then, and
+/// the trie is as before.
 pub fn run<K: TrieKey + Drop, V: Copy>(
     trie: &mut Trie<K, V>,
     commands: Vec<Command<K, V>>,

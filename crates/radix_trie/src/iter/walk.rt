@@ -1,10 +1,10 @@
 //! The ordered walk over keys and values.
-ghost use Rattle.std.specs.Prelude.{◌≡◌, ◌+◌, ◌<◌, ◌≤◌, ◌^◌, [], IfOk, length, vec_capacity};
+ghost use Rattle.std.specs.Prelude.{◌≡◌, ◌+◌, ◌<◌, ◌≤◌, ◌^◌, [], IfOk, length, option_map, vec_capacity};
 ghost use Rattle.std.specs.Iterator.{YieldsFirstBy, item_count};
 ghost use Rattle.masked_tree.specs.Tree.{entries_at};
 ghost use Rattle.masked_tree.specs.Sizes.{levels};
 ghost use Rattle.radix_nodes.specs.Nodes.{children_of, tree_of};
-ghost use Rattle.radix_nodes.specs.Pairs.{pairs_in};
+ghost use Rattle.radix_nodes.specs.Pairs.{pair_of, pairs_in};
 ghost use Rattle.radix_trie.specs.Walks.{deref_pair, first_pair, rows_of, with_row};
 
 use radix_keys::Memory;
@@ -13,6 +13,8 @@ use radix_nodes::trie_node::{KeyValue, TrieNode};
 use std::alloc::Global;
 use std::iter::FusedIterator;
 use std::marker::Model;
+
+mod resumed;
 
 /// A walk over keys and values: each pair once, in the order of the encodings, an encoding before its extensions.
 ///
@@ -95,10 +97,20 @@ impl<'a, K, V> Iterator for Iter<'a, K, V> {
 impl<'a, K, V> FusedIterator for Iter<'a, K, V> {}
 
 /// The key and the value.
-fn parts<K, V>(pair: &KeyValue<K, V>) -> (&K, &V)
+pub(super) fn parts<K, V>(pair: &KeyValue<K, V>) -> (&K, &V)
     ensures { deref_pair result ≡ (pair.now.key, pair.now.value) }
 {
     (&pair.key, &pair.value)
+}
+
+/// The key and the value, if there is a pair.
+pub(crate) fn parts_of<K, V>(pair: Option<&KeyValue<K, V>>) -> Option<(&K, &V)>
+    ensures { option_map deref_pair result ≡ option_map (λ p. pair_of p.now) pair.entry }
+{
+    match pair {
+        Some(pair) => Some(parts(pair)),
+        None => None,
+    }
 }
 
 /// Puts a row on the stack, where there is room, if it isn't empty.

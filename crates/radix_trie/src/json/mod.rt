@@ -35,8 +35,10 @@ fn walk(trie: &Trie<String, Value>) -> Result<Iter<'_, String, Value>, Memory>
 
 /// The object of a trie's texts and values.
 ///
-/// The refusals, in the order in which they are decided: memory for the walk; a float somewhere in a value; memory for the
-/// object.
+/// # Errors
+///
+/// In the order in which they are decided: memory for the walk; a float somewhere in a value;
+/// memory for the object.
 #[tactic(auto, using(crate::proofs::JsonLemmas::Objects::put_all_is))]
 pub fn to_value(alloc: Global, trie: &Trie<String, Value>) -> Result<Value, JsonError>
     ensures object { IfOk result (λ value. view value ≡ object_of trie.now) }
@@ -59,10 +61,12 @@ pub fn to_value(alloc: Global, trie: &Trie<String, Value>) -> Result<Value, Json
     Ok(Value::Object(members))
 }
 
-/// The trie of an object's entries. Null gives the empty trie, and is never refused.
+/// The trie of an object's entries. Null gives the empty trie. The value is only read.
 ///
-/// The value is only read. The refusals, in the order in which they are decided: the value's kind, where it is neither null
-/// nor an object; a float somewhere in it; memory.
+/// # Errors
+///
+/// In the order in which they are decided: the value's kind, where it is neither null nor an
+/// object; a float somewhere in it; memory. Null is never refused.
 pub fn from_value(alloc: Global, value: &Value) -> Result<Trie<String, Value>, JsonError>
     ensures object { IfOk result (λ trie. object_of trie ≡ read_as (view value.now)) }
     ensures members { IfOk result (λ trie. (name : List ℕ)

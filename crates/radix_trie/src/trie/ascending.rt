@@ -10,11 +10,13 @@ use radix_nodes::traversal::ascending::turned_copy;
 
 impl<T: KeySigned, V: Clone> Trie<T, V> {
     /// The trie of the same keys in ascending order: the wrapper of each key, with a clone of its
-    /// value, and nothing else.
+    /// value, and nothing else. The new trie has as many nodes and nibbles. The trie without pairs
+    /// is moved without memory.
     ///
-    /// The trie itself stays as it is, and the new one has as many nodes and nibbles. The one
-    /// refusal is that of memory, for the nodes or in a clone of a value; it drops what was built.
-    /// The trie without pairs is moved without memory.
+    /// # Errors
+    ///
+    /// Memory is refused, for the nodes or in a clone of a value. What was built is dropped, and
+    /// the trie itself stays as it is.
     pub fn to_ascending(&self) -> Result<Trie<Ascending<T>, V>, Memory>
         // Each list comes with its highest bit turned over, as the wrapper's encoding has it.
         ensures moved { IfOk result (λ moved.

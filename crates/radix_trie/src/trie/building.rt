@@ -1,8 +1,9 @@
 //! Tries built from pairs.
-ghost use Rattle.std.specs.Prelude.{◌≡◌, ◌≢◌, ◌↔◌, IfOk, IfErr};
+ghost use Rattle.std.specs.Prelude.{◌≡◌, ◌≢◌, ◌↔◌, ⊤, IfOk, IfErr, OnOk};
 ghost use Rattle.std.specs.Iterator.{IsFinite};
 ghost use Rattle.std.specs.Iterator.Runs.{SomeRun, WholeRun};
-ghost use Rattle.radix_trie.specs.Building.{pairs_in_order, IsOneTooMany};
+ghost use Rattle.radix_trie.specs.Building.{IsOneTooMany, IsStoppedAt, pairs_in_order, with_pairs};
+ghost use Rattle.radix_trie.specs.Refusals.{RefusesInsert};
 
 use crate::error::{BuildError, InsertError, InsertWhy};
 use crate::trie::Trie;
@@ -10,10 +11,18 @@ use radix_keys::TrieKey;
 use std::alloc::Global;
 
 impl<K: TrieKey + Drop, V: Drop> Trie<K, V> {
-    /// The trie of an iterator's pairs, inserted in order: of the pairs with one encoding the last one stays, with its
-    /// key.
+    /// The trie of an iterator's pairs, inserted in order: of the pairs with one encoding the last
+    /// one stays, with its key.
     ///
-    /// The iterator has to end. After a refusal the pairs that were stored are dropped, and so is the iterator.
+    /// The iterator has to end.
+    ///
+    /// # Errors
+    ///
+    /// Those of `insert`. The pairs that were stored are dropped then, and so is the iterator.
+    ///
+    /// # Examples
+    ///
+    /// `built_from_a_vector` in `crates/trie_building_tests/src/building.rt`.
     pub fn from_iter<I: Iterator<Item = (K, V)> + Drop>(
         alloc: Global,
         iter: I,
@@ -26,12 +35,40 @@ impl<K: TrieKey + Drop, V: Drop> Trie<K, V> {
             → SomeRun I.next_gives iter (λ p. IsOneTooMany K.encoding p.items)) }
     {
         let mut trie = Trie::new(alloc);
+        match trie.extend(iter) {
+            Ok(()) => Ok(trie),
+            Err(error) => Err(why_not_built(error)),
+        }
+    }
+
+    /// Inserts an iterator's pairs in order: of the pairs with one encoding the last one stays,
+    /// with its key.
+    ///
+    /// The iterator has to end.
+    ///
+    /// # Errors
+    ///
+    /// Those of `insert`, for one of the pairs: the error holds that very pair, those before it are
+    /// stored, and the iterator is dropped with those behind it.
+    pub fn extend<I: Iterator<Item = (K, V)> + Drop>(
+        &mut self,
+        iter: I,
+    ) -> Result<(), InsertError<K, V>>
+        requires can { I.can_next iter }
+        requires ends { IsFinite (I.remaining iter) }
+        ensures pairs { OnOk result (WholeRun I.next_gives iter
+            (λ p. self.new ≡ with_pairs K.encoding self.old p.items)) }
+        ensures stopped { IfErr result (λ e. SomeRun I.next_gives iter
+            (λ p. IsStoppedAt K.encoding self.old self.new p.items (e.key, e.value))) }
+        ensures why { IfErr result
+            (λ e. RefusesInsert self.new (K.encoding e.key) ⊤ (K.is_light e.key) e.why) }
+    {
         for (key, value) in iter {
-            if let Err(error) = trie.insert(key, value) {
-                return Err(why_not_built(error));
+            if let Err(error) = self.insert(key, value) {
+                return Err(error);
             }
         }
-        Ok(trie)
+        Ok(())
     }
 }
 

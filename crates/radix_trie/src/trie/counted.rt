@@ -10,10 +10,12 @@ use radix_nodes::traversal::find::find_counted;
 use radix_nodes::trie_node::TrieNode;
 
 impl<K: TrieKey, V> Trie<K, V> {
-    /// The value that is stored at the key's encoding, as `get` answers it, and how many nibbles of the encoding the
-    /// search compared with nibbles of fragments.
+    /// The value that is stored at the key's encoding, as `get` answers it, and how many nibbles of
+    /// the encoding the search compared with nibbles of fragments. No nibble is compared twice.
     ///
-    /// No nibble is compared twice. The one refusal is that of memory for the encoding, which a light key never meets.
+    /// # Errors
+    ///
+    /// Memory for the encoding is refused, which a light key never meets.
     pub fn get_counted<Q: TrieKey>(&self, key: &Q) -> Result<(Option<&V>, usize), Memory>
         ensures value { IfOk result
             (λ r. option_copied r.0 ≡ value_at self.now (Q.encoding key.now)) }

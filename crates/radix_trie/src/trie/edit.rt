@@ -1,17 +1,15 @@
-//! Changes: pairs are stored, changed and taken away.
-ghost use Rattle.std.specs.Prelude.{◌≡◌, ⊤, ◌<◌, ◌^◌, ℕ, List, length, true, false, None, IsOk, IfOk, OnOk, IfErr, OnErr, MatchOption};
+//! Changes: pairs are stored and changed.
+ghost use Rattle.std.specs.Prelude.{◌≡◌, ⊤, ◌<◌, ◌^◌, length, true, false, IsOk, IfOk, OnOk, IfErr, OnErr, MatchOption};
 ghost use Rattle.std.specs.Fn.{FnOnceReturnsAtMut, FnOnceTakesAtMut};
 ghost use Rattle.std.specs.Option.{ForSome};
 ghost use Rattle.std.specs.FinMap as map;
 ghost use Rattle.nibble_map.specs.Maps.{IsStored, value_at, with_value};
-ghost use Rattle.nibble_map.specs.Nibbles.{IsShort};
 ghost use Rattle.radix_trie.specs.Refusals.{IsFullAt, RefusesInsert};
 
 use crate::error::{InsertError, InsertWhy};
 use crate::trie::Trie;
 use radix_keys::{Memory, Nibblet, TrieKey};
 use radix_nodes::traversal::insert::put;
-use radix_nodes::traversal::remove::take_root;
 use radix_nodes::trie_node::KeyValue;
 use std::alloc::Global;
 
@@ -38,12 +36,19 @@ pub(crate) fn refused<K, V>(why: InsertWhy, pair: KeyValue<K, V>) -> InsertError
 }
 
 impl<K: TrieKey + Drop, V: Drop> Trie<K, V> {
-    /// Stores the pair at the key's encoding, and answers the value that was stored there.
+    /// Stores the pair at the key's encoding, and answers the value that was stored there. A stored
+    /// key is replaced by the new one too.
     ///
-    /// A stored key is replaced by the new one too. After a refusal the trie is as before, and the
-    /// error holds the very key and value. The refusals, in the order in which they are decided:
-    /// memory for the encoding; `Full`, where `usize::MAX` pairs are stored and the encoding isn't
-    /// among them; memory for the change, which a stored encoding never takes.
+    /// # Errors
+    ///
+    /// In the order in which they are decided: memory for the encoding; `Full`, where `usize::MAX`
+    /// pairs are stored and the encoding isn't among them; memory for the change, which a stored
+    /// encoding never takes. The trie is as before then, and the error holds the very key and
+    /// value.
+    ///
+    /// # Examples
+    ///
+    /// `first_steps` in `crates/trie_examples/src/first.rt` stores a pair twice.
     pub fn insert(&mut self, key: K, value: V) -> Result<Option<V>, InsertError<K, V>>
         ensures old_value { IfOk result (λ old. old ≡ value_at self.old (K.encoding key)) }
         ensures stored { OnOk result
@@ -118,11 +123,17 @@ impl<K: TrieKey + Drop, V: Drop> Trie<K, V> {
         }
     }
 
-    /// Changes the value at the key's encoding by one call of the closure, or stores the default where there is none.
+    /// Changes the value at the key's encoding by one call of the closure, or stores the default
+    /// where there is none.
     ///
-    /// Where a value is stored, its key stays, and the key and the default that were handed in are dropped. Where none is, the
-    /// closure isn't called. The closure has to be callable on a stored value alone. The refusals are those of `insert`, in its
-    /// order, and come before the closure's call: the trie is as before then, and the error holds the very key and default.
+    /// Where a value is stored, its key stays, and the key and the default that were handed in are
+    /// dropped. Where none is, the closure isn't called. The closure has to be callable on a stored
+    /// value alone.
+    ///
+    /// # Errors
+    ///
+    /// Those of `insert`, in its order. They come before the closure's call: the trie is as before
+    /// then, and the error holds the very key and default.
     pub fn map_with_default<F: Fn(&mut V)>(
         &mut self,
         key: K,
@@ -168,44 +179,5 @@ impl<K: TrieKey + Drop, V: Drop> Trie<K, V> {
             },
         )?;
         Ok(())
-    }
-
-    /// Takes the pair at the key's encoding away, and answers its value.
-    ///
-    /// Where none is stored there, nothing changes. The one refusal is that of memory, for the
-    /// encoding or for joining two fragments; it leaves the trie as it was.
-    pub fn remove<Q: TrieKey>(&mut self, key: &Q) -> Result<Option<V>, Memory>
-        ensures old_value { IfOk result (λ old. old ≡ value_at self.old (Q.encoding key.now)) }
-        ensures removed { OnOk result (self.new ≡ map.remove self.old (Q.encoding key.now)) }
-        ensures unchanged { OnErr result (self.new ≡ self.old) }
-
-        ensures light_absent { Q.is_light key.now → map.get self.old (Q.encoding key.now) ≡ None
-            → IsOk result }
-        ensures light_short { Q.is_light key.now
-            → ((e : List ℕ) → IsStored self.old e → IsShort e)
-            → IsOk result }
-    {
-        let list = key.encode(self.alloc)?;
-        self.take_at(&list)
-    }
-
-    /// What `remove` does, with the key's encoding in hand.
-    pub(crate) fn take_at(&mut self, list: &Nibblet) -> Result<Option<V>, Memory>
-        ensures old_value { IfOk result (λ old. old ≡ value_at self.old list.now) }
-        ensures removed { OnOk result (self.new ≡ map.remove self.old list.now) }
-        ensures unchanged { OnErr result (self.new ≡ self.old) }
-        ensures absent { map.get self.old list.now ≡ None → IsOk result }
-        ensures short { ((e : List ℕ) → IsStored self.old e → IsShort e) → IsOk result }
-    {
-        match take_root(&mut self.root, list) {
-            Ok(Some(taken)) => {
-                self.length -= 1;
-                self.nodes -= taken.nodes as u128;
-                self.nibbles -= taken.nibbles as u128;
-                Ok(Some(taken.pair.value))
-            }
-            Ok(None) => Ok(None),
-            Err(refusal) => Err(refusal),
-        }
     }
 }

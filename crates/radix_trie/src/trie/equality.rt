@@ -1,7 +1,11 @@
 //! Equality of tries.
+ghost use Rattle.std.specs.Cmp.{and_equiv, on_equiv};
+ghost use Rattle.std.specs.Cmp.Lexicographic.{lists_equiv, nat_list_eq_equiv};
+ghost use Rattle.std.specs.FinMap as map;
 ghost use Rattle.std.specs.Prelude.{◌≡◌, ◌↔◌, IsTrue};
 ghost use Rattle.nibble_map.specs.Copies.{same_maps};
 ghost use Rattle.nibble_map.specs.MapQueries.{IsSame};
+ghost use Rattle.nibble_map.specs.Maps.{PairMap};
 ghost use Rattle.nibble_map.proofs.MapLemmas.SameTests.{maps_per};
 
 use crate::trie::Trie;
@@ -21,4 +25,10 @@ impl<K: TrieKey, V: PartialEq> PartialEq for Trie<K, V> {
     {
         same(self.root(), other.root())
     }
+}
+
+impl<K: TrieKey, V: Eq> Eq for Trie<K, V> {
+    ghost laws = { on_equiv (λ (m : PairMap K V). map.entries m)
+        (lists_equiv (and_equiv (on_equiv (λ e. e.0) nat_list_eq_equiv)
+        (on_equiv (λ e. e.1.1) V.Eq.laws))) };
 }

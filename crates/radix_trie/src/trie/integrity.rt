@@ -5,9 +5,12 @@ use crate::trie::Trie;
 use radix_keys::{Memory, Nibblet, TrieKey};
 
 impl<K: TrieKey, V> Trie<K, V> {
-    /// Whether the nodes are the canonical tree of as many pairs as `len` says, as the checker of nodes finds them.
+    /// Whether the nodes are the canonical tree of as many pairs as `len` says, as the checker of
+    /// nodes finds them. They always are.
     ///
-    /// They always are. The one refusal is that of memory, for the paths and the keys' encodings.
+    /// # Errors
+    ///
+    /// Memory is refused, for the paths and the keys' encodings.
     pub fn check_integrity(&self) -> Result<bool, Memory>
         ensures sound { IfOk result (λ sound. sound ≡ true) }
     {

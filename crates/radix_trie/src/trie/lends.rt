@@ -20,10 +20,13 @@ impl<K: TrieKey, V> Trie<K, V> {
         self.at_mut(&top)
     }
 
-    /// The value at the key's encoding, for writing, and Absent where none is stored there.
+    /// The value at the key's encoding, for writing. A caller learns from this call what the trie
+    /// ends as, which `get_mut` can't tell.
     ///
-    /// The one other refusal is that of memory for the encoding, which a light key never meets. A refusal leaves the trie
-    /// as it was. A caller learns from this call what the trie ends as, which `get_mut` can't tell.
+    /// # Errors
+    ///
+    /// `Absent`, exactly where no value is stored there; and memory for the encoding, which a light
+    /// key never meets. The trie is as before then.
     pub fn find_mut<Q: TrieKey>(&mut self, key: &Q) -> Result<&mut V, FindError>
         ensures* writes_back { sem 𝓛
             (lends_if_ok K.row V.row K.TrieKey.own K.PartialEq.own self.entry
@@ -46,9 +49,13 @@ impl<K: TrieKey, V> Trie<K, V> {
 
     /// The value at the key's encoding, for writing, or None where none is stored there.
     ///
-    /// The one refusal is that of memory for the encoding, which a light key never meets; it leaves the trie as it was.
-    /// What the trie is once the value has been written no contract can tell through this result; where that matters,
-    /// take `find_mut`.
+    /// What the trie is once the value has been written no contract can tell through this result;
+    /// where that matters, take `find_mut`.
+    ///
+    /// # Errors
+    ///
+    /// Memory for the encoding is refused, which a light key never meets. The trie is as before
+    /// then.
     pub fn get_mut<Q: TrieKey>(&mut self, key: &Q) -> Result<Option<&mut V>, Memory>
         ensures value { IfOk result (λ found. option_copied_mut found
             ≡ value_at self.old (Q.encoding key.now)) }

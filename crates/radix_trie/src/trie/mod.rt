@@ -5,12 +5,14 @@ ghost use Rattle.std.specs.Option.{option_copied_mut};
 ghost use Rattle.std.specs.FinMap as map;
 ghost use Rattle.nibble_map.specs.Copies.{IsMapCopy, IsPairClone};
 ghost use Rattle.nibble_map.specs.Lists.{Counts};
-ghost use Rattle.nibble_map.specs.Maps.{IsPoint, IsSomePrefix, value_at};
+ghost use Rattle.nibble_map.specs.Maps.{IsPoint, IsSomePrefix, IsStored, value_at};
 ghost use Rattle.radix_nodes.specs.Nodes.{tree_of};
 ghost use Rattle.radix_trie.specs.Lends.{lends_at};
 ghost use Rattle.radix_trie.specs.Refusals.{IsFullAt};
+ghost use Rattle.radix_trie.specs.Walks.{deref_pair};
 ghost use Rattle.radix_nodes.specs.Pairs.{pair_of};
 
+use crate::iter::parts_of;
 use radix_keys::{Memory, Nibblet, TrieKey};
 use radix_nodes::traversal::copied::copied;
 use radix_nodes::traversal::find::find;
@@ -24,11 +26,15 @@ mod building;
 mod counted;
 pub(crate) mod edit;
 mod equality;
+mod indexed;
 mod integrity;
 mod lends;
+mod lookups;
 mod opens;
+mod pages;
 mod prune;
 mod queries;
+mod remove;
 
 /// A map from keys to values, told apart by the keys' encodings.
 ///
@@ -108,20 +114,17 @@ impl<K: TrieKey, V> Trie<K, V> {
         (self.nodes, self.nibbles)
     }
 
-    /// The pair at a list.
-    pub(crate) fn pair_at(&self, list: &Nibblet) -> Option<&KeyValue<K, V>>
-        ensures { option_map (λ p. pair_of p.now) result ≡ map.get self.now list.now }
-    {
-        match find(self.root(), list, 0) {
-            Some(node) => node.pair(),
-            None => None,
-        }
-    }
-
     /// The value that is stored at the key's encoding, if there is one.
     ///
-    /// The key may be of another type than the stored keys: its encoding alone decides. The one
-    /// refusal is that of memory for the encoding, which a light key never meets.
+    /// The key may be of another type than the stored keys: its encoding alone decides.
+    ///
+    /// # Errors
+    ///
+    /// Memory for the encoding is refused, which a light key never meets.
+    ///
+    /// # Examples
+    ///
+    /// `first_steps` in `crates/trie_examples/src/first.rt` inserts, looks up and removes.
     pub fn get<Q: TrieKey>(&self, key: &Q) -> Result<Option<&V>, Memory>
         ensures value { IfOk result
             (λ found. option_copied found ≡ value_at self.now (Q.encoding key.now)) }
@@ -132,14 +135,36 @@ impl<K: TrieKey, V> Trie<K, V> {
         Ok(self.at(&list))
     }
 
-    /// The value at a list.
-    pub(crate) fn at(&self, list: &Nibblet) -> Option<&V>
-        ensures { option_copied result ≡ value_at self.now list.now }
+    /// The key and the value that are stored at the key's encoding, if a pair is.
+    ///
+    /// The key may be of another type than the stored keys: its encoding alone decides.
+    ///
+    /// # Errors
+    ///
+    /// Memory for the encoding is refused, which a light key never meets.
+    pub fn get_key_value<Q: TrieKey>(&self, key: &Q) -> Result<Option<(&K, &V)>, Memory>
+        ensures pair { IfOk result (λ found. option_map deref_pair found
+            ≡ map.get self.now (Q.encoding key.now)) }
+        ensures is_value { OnOk result (Q.is_value key.now) }
+        ensures light { Q.is_light key.now → IsOk result }
     {
-        match self.pair_at(list) {
-            Some(pair) => Some(&pair.value),
-            None => None,
-        }
+        let list = key.encode(self.alloc)?;
+        Ok(parts_of(self.pair_at(&list)))
+    }
+
+    /// Whether a pair is stored at the key's encoding.
+    ///
+    /// # Errors
+    ///
+    /// Memory for the encoding is refused, which a light key never meets.
+    pub fn contains_key<Q: TrieKey>(&self, key: &Q) -> Result<bool, Memory>
+        ensures stored { IfOk result
+            (λ found. IsTrue found ↔ IsStored self.now (Q.encoding key.now)) }
+        ensures is_value { OnOk result (Q.is_value key.now) }
+        ensures light { Q.is_light key.now → IsOk result }
+    {
+        let list = key.encode(self.alloc)?;
+        Ok(self.contains(&list))
     }
 
     /// The value at a list of nibbles, for writing, if one is stored there. It takes no memory.
@@ -178,10 +203,15 @@ impl<K: TrieKey, V> Trie<K, V> {
 }
 
 impl<K: TrieKey + Clone, V: Clone> Trie<K, V> {
-    /// A trie with the same encodings, each with a clone of its key and of its value.
+    /// A trie with the same encodings, each with a clone of its key and of its value. The trie
+    /// without pairs is copied without memory.
     ///
-    /// Clones of keys have to keep their encodings. The one refusal is that of memory, for the nodes or in a clone of a
-    /// key or a value; it drops what was copied. The trie without pairs is copied without memory.
+    /// Clones of keys have to keep their encodings.
+    ///
+    /// # Errors
+    ///
+    /// Memory is refused, for the nodes or in a clone of a key or a value. What was copied is
+    /// dropped, and the trie itself stays as it is.
     pub fn clone(&self) -> Result<Trie<K, V>, Memory>
         requires same_encoding { (key copy : K) → K.is_clone key copy → K.encoding copy
             ≡ K.encoding key }

@@ -48,11 +48,17 @@ impl<K: TrieKey, V> Trie<K, V> {
         Ok(Some((path, fragment)))
     }
 
-    /// The view for writing at the key's encoding, where a point stands there, and else Closed.
+    /// The view for writing at the key's encoding. A caller learns from this call what the trie
+    /// ends as, which `subtrie_mut` can't tell.
     ///
-    /// The one other refusal is that of memory for the path and the fragment that the view keeps, which a light key never
-    /// meets. A refusal leaves the trie as it was. A caller learns from this call what the trie ends as, which
-    /// `subtrie_mut` can't tell.
+    /// # Errors
+    ///
+    /// `Closed`, exactly where no point stands there; and memory for the path and the fragment that
+    /// the view keeps, which a light key never meets. The trie is as before then.
+    ///
+    /// # Examples
+    ///
+    /// `close` in `crates/trie_examples/src/topics.rt` removes a topic through a view of it.
     pub fn open_mut<Q: TrieKey>(&mut self, key: &Q) -> Result<SubTrieMut<'_, K, V>, OpenError>
         ensures* rests { sem 𝓛
             (rests_if_err K.row V.row K.TrieKey.own K.PartialEq.own self.entry result) }
@@ -75,8 +81,13 @@ impl<K: TrieKey, V> Trie<K, V> {
 
     /// The view for writing at the key's encoding, or None where no point stands there.
     ///
-    /// The one refusal is that of memory for the path and the fragment that the view keeps, which a light key never meets.
-    /// What a view from here leaves in the trie no contract can tell; where that matters, open it by `open_mut`.
+    /// What a view from here leaves in the trie no contract can tell; where that matters, open it
+    /// by `open_mut`.
+    ///
+    /// # Errors
+    ///
+    /// Memory for the path and the fragment that the view keeps is refused, which a light key never
+    /// meets.
     pub fn subtrie_mut<Q: TrieKey>(
         &mut self,
         key: &Q,

@@ -1,5 +1,5 @@
 //! The removal of all pairs at and below a key's place.
-ghost use Rattle.std.specs.Prelude.{[], ◌≡◌, ◌<◌, length, None, IsOk, IfOk, OnOk, OnErr};
+ghost use Rattle.std.specs.Prelude.{[], ◌≡◌, ◌<◌, length, None, IsOk, IfOk, IfErr, OnOk, OnErr};
 ghost use Rattle.std.specs.FinMap as map;
 ghost use Rattle.nibble_map.specs.Maps.{below, without_below};
 ghost use Rattle.radix_trie.specs.Views.{pairs_below};
@@ -9,10 +9,21 @@ use radix_keys::{Memory, Nibblet, TrieKey};
 use radix_nodes::traversal::prune::{prune_all, prune_root};
 
 impl<K: TrieKey + Drop, V: Drop> Trie<K, V> {
-    /// Takes all pairs at and below the key's place away, and answers them in the order of their encodings.
+    /// Takes all pairs at and below the key's place away, and answers them in the order of their
+    /// encodings.
     ///
-    /// The key needn't be stored, nor be a point. Where nothing stands there nothing changes, and the answer is empty. The one
-    /// refusal is that of memory, for the encoding, the list of pairs, or for joining two fragments; it leaves the trie as it was.
+    /// The key needn't be stored, nor be a point. Where nothing stands there nothing changes, and
+    /// the answer is empty.
+    ///
+    /// # Errors
+    ///
+    /// Memory is refused, for the encoding, the list of pairs, or for joining two fragments. The
+    /// trie is as before then.
+    ///
+    /// # Examples
+    ///
+    /// `by_the_trie` in `crates/removal_tests/src/rows.rt` takes what is below each of some texts
+    /// away.
     pub fn remove_prefix<Q: TrieKey>(&mut self, key: &Q) -> Result<Vec<(K, V)>, Memory>
         ensures pairs { IfOk result
             (λ gone. gone.items ≡ pairs_below self.old (Q.encoding key.now)) }
@@ -45,6 +56,23 @@ impl<K: TrieKey + Drop, V: Drop> Trie<K, V> {
             }
             Ok(None) => Ok(Vec::new(self.alloc)),
             Err(refusal) => Err(refusal),
+        }
+    }
+
+    /// All pairs, in the order of their encodings.
+    ///
+    /// # Errors
+    ///
+    /// Memory for their list is refused. The trie comes back as it was.
+    pub fn into_pairs(self) -> Result<Vec<(K, V)>, Trie<K, V>>
+        ensures pairs { IfOk result (λ pairs. pairs.items ≡ pairs_below self []) }
+        ensures handed_back { IfErr result (λ trie. trie ≡ self) }
+        ensures none { map.len (below self []) ≡ 0 → IsOk result }
+    {
+        let mut trie = self;
+        match trie.prune_whole() {
+            Ok(pairs) => Ok(pairs),
+            Err(_) => Err(trie),
         }
     }
 

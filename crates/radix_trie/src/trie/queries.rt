@@ -6,9 +6,9 @@ ghost use Rattle.nibble_map.specs.Maps.{IsPoint};
 ghost use Rattle.nibble_map.specs.Nibbles.{IsShort};
 ghost use Rattle.radix_nodes.specs.Nodes.{tree_of};
 ghost use Rattle.radix_trie.specs.Places.{IsNodeOf};
-ghost use Rattle.radix_trie.specs.Views.{IsValueAbove, paths_of};
+ghost use Rattle.radix_trie.specs.Views.{IsValueAbove, pairs_above, paths_of};
 
-use crate::iter::Children;
+use crate::iter::{Children, CommonPrefixes};
 use crate::trie::Trie;
 use crate::view::place::Place;
 use crate::view::subtrie::SubTrie;
@@ -19,7 +19,9 @@ use radix_nodes::trie_node::TrieNode;
 impl<K: TrieKey, V> Trie<K, V> {
     /// The view at the key's encoding, or None where no point stands there.
     ///
-    /// The one refusal is that of memory for the path, which a light key never meets.
+    /// # Errors
+    ///
+    /// Memory for the path is refused, which a light key never meets.
     pub fn subtrie<Q: TrieKey>(&self, key: &Q) -> Result<Option<SubTrie<'_, K, V>>, Memory>
         ensures point { IfOk result
             (λ o. MatchOption o (IsPoint self.now (Q.encoding key.now) → ⊥)
@@ -35,10 +37,18 @@ impl<K: TrieKey, V> Trie<K, V> {
         Ok(Some(SubTrie::new(self, node, path)))
     }
 
-    /// The view at the longest stored list that is a prefix of the key's encoding, or None where there is none.
+    /// The view at the longest stored list that is a prefix of the key's encoding, or None where
+    /// there is none.
     ///
-    /// The one refusal is that of memory for the encoding, which a light key never meets: the view's path is the encoding
-    /// cut short.
+    /// # Errors
+    ///
+    /// Memory for the encoding is refused, which a light key never meets. The view's path is the
+    /// encoding cut short.
+    ///
+    /// # Examples
+    ///
+    /// `route` in `crates/trie_examples/src/answers.rt` finds the longest network that holds an
+    /// address.
     pub fn get_ancestor<Q: TrieKey>(&self, key: &Q) -> Result<Option<SubTrie<'_, K, V>>, Memory>
         ensures nearest { IfOk result
             (λ o. IsAncestor self.now (Q.encoding key.now) (option_map (λ view. view.path) o)) }
@@ -52,10 +62,13 @@ impl<K: TrieKey, V> Trie<K, V> {
         Ok(Some(self.view_within(node, list, depth)))
     }
 
-    /// The view at the longest point that is a prefix of the key's encoding. There is always one, the empty list at least.
+    /// The view at the longest point that is a prefix of the key's encoding. There is always one,
+    /// the empty list at least.
     ///
-    /// The one refusal is that of memory for the encoding, which a light key never meets: the view's path is the encoding
-    /// cut short.
+    /// # Errors
+    ///
+    /// Memory for the encoding is refused, which a light key never meets. The view's path is the
+    /// encoding cut short.
     pub fn get_raw_ancestor<Q: TrieKey>(&self, key: &Q) -> Result<SubTrie<'_, K, V>, Memory>
         ensures nearest { IfOk result
             (λ view. IsRawAncestor self.now (Q.encoding key.now) view.path) }
@@ -84,22 +97,37 @@ impl<K: TrieKey, V> Trie<K, V> {
         SubTrie::new(self, node, path)
     }
 
-    /// The value of the longest stored list that is a prefix of the key's encoding, or None where there is none.
+    /// The value of the longest stored list that is a prefix of the key's encoding, or None where
+    /// there is none.
     ///
-    /// The one refusal is that of memory for the encoding, which a light key never meets.
+    /// # Errors
+    ///
+    /// Memory for the encoding is refused, which a light key never meets.
+    ///
+    /// # Examples
+    ///
+    /// `inherited` in `crates/trie_examples/src/uses.rt` finds the setting of the nearest path at
+    /// or above another.
     pub fn get_ancestor_value<Q: TrieKey>(&self, key: &Q) -> Result<Option<&V>, Memory>
         ensures value { IfOk result
             (λ found. IsValueAbove self.now (Q.encoding key.now) (option_copied found)) }
         ensures light { Q.is_light key.now → IsOk result }
     {
         let list = key.encode(self.allocator())?;
-        Ok(self.value_above(&list))
+        Ok(self.nearest_value(&list))
     }
 
-    /// The view at the shortest point that the key's encoding is a prefix of, or None where there is none.
+    /// The view at the shortest point that the key's encoding is a prefix of, or None where there
+    /// is none.
     ///
-    /// The one refusal is that of memory for the encoding and the view's path. It never comes where the key is light and the
-    /// answer is None or its path has at most 32 nibbles.
+    /// # Errors
+    ///
+    /// Memory for the encoding and the view's path is refused. That never comes where the key is
+    /// light and the answer is None or its path has at most 32 nibbles.
+    ///
+    /// # Examples
+    ///
+    /// `completions` in `crates/trie_examples/src/uses.rt` finds the words with a beginning.
     pub fn get_raw_descendant<Q: TrieKey>(
         &self,
         key: &Q,
@@ -117,16 +145,31 @@ impl<K: TrieKey, V> Trie<K, V> {
         Place::find(self, &list).nearest()
     }
 
-    /// The value of the longest stored list that is a prefix of a list.
-    fn value_above(&self, list: &Nibblet) -> Option<&V>
-        ensures { IsValueAbove self.now list.now (option_copied result) }
+    /// The walk over all pairs whose encodings are prefixes of the key's encoding, from the
+    /// shortest to the longest. Its `next` takes no memory.
+    ///
+    /// # Errors
+    ///
+    /// Memory for the encoding is refused, which a light key never meets.
+    ///
+    /// # Examples
+    ///
+    /// `prefixes_of_texts` in `crates/trie_wide_tests/src/prefixes.rt`.
+    pub fn common_prefixes<Q: TrieKey>(&self, key: &Q) -> Result<CommonPrefixes<'_, K, V>, Memory>
+        ensures walk { IfOk result
+            (λ pairs. pairs ≡ pairs_above self.now (Q.encoding key.now)) }
+        ensures light { Q.is_light key.now → IsOk result }
     {
-        let (node, _) = deepest_pair(self.root(), list, 0)?;
-        node.value()
+        let list = key.encode(self.allocator())?;
+        Ok(CommonPrefixes::new(self.root(), list))
     }
 
-    /// For each nibble in rising order, the view at the shortest point that begins with it, with its whole path. It takes
-    /// no memory where each of these paths has at most 32 nibbles.
+    /// For each nibble in rising order, the view at the shortest point that begins with it, with
+    /// its whole path.
+    ///
+    /// # Errors
+    ///
+    /// Memory for the paths is refused. That never comes where each of them has at most 32 nibbles.
     pub fn children(&self) -> Result<Children<'_, K, V>, Memory>
         ensures children { IfOk result (λ children. AreChildren self.now [] (paths_of children)) }
         ensures same_map { IfOk result (λ children. Each (λ c. c.map ≡ self.now) children) }

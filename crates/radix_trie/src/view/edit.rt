@@ -15,12 +15,14 @@ use radix_keys::TrieKey;
 use radix_nodes::trie_node::KeyValue;
 
 impl<'a, K: TrieKey + Drop, V: Drop> SubTrieMut<'a, K, V> {
-    /// Stores the pair at the key's encoding, as `Trie::insert` does. Outside where the view's path isn't a prefix of the
-    /// encoding.
+    /// Stores the pair at the key's encoding, as `Trie::insert` does.
     ///
-    /// After a refusal the trie is as before, and the error holds the very key and value. The refusals, in the order in
-    /// which they are decided: memory for the encoding; Outside; `Full`, where `usize::MAX` pairs are stored and the
-    /// encoding isn't among them; memory for the change, which a stored encoding never takes.
+    /// # Errors
+    ///
+    /// In the order in which they are decided: memory for the encoding; `Outside`, where the view's
+    /// path isn't a prefix of the encoding; `Full`, where `usize::MAX` pairs are stored and the
+    /// encoding isn't among them; memory for the change, which a stored encoding never takes. The
+    /// trie is as before then, and the error holds the very key and value.
     pub fn insert(&mut self, key: K, value: V) -> Result<Option<V>, InsertError<K, V>>
         ensures same_view { SameView self.old self.new }
         ensures inside { OnOk result (IsPrefix (path_of self.old) (K.encoding key)
@@ -48,8 +50,12 @@ impl<'a, K: TrieKey + Drop, V: Drop> SubTrieMut<'a, K, V> {
         self.trie.put_at(&list, pair)
     }
 
-    /// Takes all pairs at and below the key's place away, as `Trie::remove_prefix` does. Outside where the view's path isn't a
-    /// prefix of the key's encoding, and then nothing changes.
+    /// Takes all pairs at and below the key's place away, as `Trie::remove_prefix` does.
+    ///
+    /// # Errors
+    ///
+    /// `Outside`, where the view's path isn't a prefix of the key's encoding; and those of
+    /// `Trie::remove_prefix`. The trie is as before then.
     pub fn remove_prefix<Q: TrieKey>(&mut self, key: &Q) -> Result<Vec<(K, V)>, SubTrieError>
         ensures same_view { SameView self.old self.new }
         ensures inside { OnOk result (IsPrefix (path_of self.old) (Q.encoding key.now)) }
@@ -75,11 +81,12 @@ impl<'a, K: TrieKey + Drop, V: Drop> SubTrieMut<'a, K, V> {
         }
     }
 
-    /// Takes the pair at the key's encoding away, as `Trie::remove` does. Outside where the view's path isn't a prefix of
-    /// the encoding.
+    /// Takes the pair at the key's encoding away, as `Trie::remove` does.
     ///
-    /// The one other refusal is that of memory, for the encoding or for joining two fragments. After a refusal the trie is
-    /// as before.
+    /// # Errors
+    ///
+    /// `Outside`, where the view's path isn't a prefix of the encoding; and memory, for the
+    /// encoding or for joining two fragments. The trie is as before then.
     pub fn remove<Q: TrieKey>(&mut self, key: &Q) -> SubTrieResult<V>
         ensures same_view { SameView self.old self.new }
         ensures inside { OnOk result (IsPrefix (path_of self.old) (Q.encoding key.now)) }

@@ -21,6 +21,10 @@ use radix_nodes::traversal::size::count_pairs;
 use radix_nodes::trie_node::{KeyValue, TrieNode, is_end};
 use std::marker::Model;
 
+mod ends;
+mod resumed;
+mod shown;
+
 /// A path in a trie, a point or not, and what stands at and below it. A contract sees it as the map of the whole trie
 /// and the path.
 #[derive(Drop)]

@@ -67,9 +67,12 @@ impl<'a, K: TrieKey, V> SubTrie<'a, K, V> {
         &self.path
     }
 
-    /// The value that is stored at the key's encoding, if there is one, where the view's path is a prefix of the
-    /// encoding; else `Outside`. The one other refusal is that of memory for the encoding, which a light key never
-    /// meets.
+    /// The value that is stored at the key's encoding, if there is one.
+    ///
+    /// # Errors
+    ///
+    /// `Outside`, where the view's path isn't a prefix of the encoding; and memory for the
+    /// encoding, which a light key never meets.
     pub fn get<Q: TrieKey>(&self, key: &Q) -> SubTrieResult<&V>
         ensures value { IfOk result
             (λ found. option_copied found ≡ value_at self.now.map (Q.encoding key.now)) }
@@ -101,8 +104,12 @@ impl<'a, K: TrieKey, V> SubTrie<'a, K, V> {
         }
     }
 
-    /// For each nibble in rising order, the view at the shortest point that goes on from the path by it, with its whole
-    /// path. It takes no memory where each of these paths has at most 32 nibbles.
+    /// For each nibble in rising order, the view at the shortest point that goes on from the path
+    /// by it, with its whole path.
+    ///
+    /// # Errors
+    ///
+    /// Memory for the paths is refused. That never comes where each of them has at most 32 nibbles.
     pub fn children(&self) -> Result<Children<'a, K, V>, Memory>
         ensures children { IfOk result
             (λ children. AreChildren self.now.map self.now.path (paths_of children)) }

@@ -1,11 +1,12 @@
 //! What tries and views have in common.
-ghost use Rattle.std.specs.Prelude.{◌≡◌, ◌<◌, ◌^◌, ◌↔◌, ℕ, List, [], IsTrue, IsOk, IfOk, length, map as each, option_copied, option_map};
+ghost use Rattle.std.specs.Prelude.{◌≡◌, ◌<◌, ◌^◌, ◌-◌, ◌↔◌, ℕ, List, [], IsTrue, IsOk, IfOk, length, map as each, option_copied, option_map, slice_get};
 ghost use Rattle.std.specs.FinMap as finite;
 ghost use Rattle.nibble_map.specs.Lists.{Each};
 ghost use Rattle.nibble_map.specs.MapQueries.{IsFragment, IsLeaf};
 ghost use Rattle.nibble_map.specs.Maps.{PairMap, below, value_at, walk};
 ghost use Rattle.nibble_map.specs.Nibbles.{IsShort};
-ghost use Rattle.radix_trie.specs.Views.{pairs_below};
+ghost use Rattle.radix_trie.specs.Views.{pairs_after, pairs_below, pairs_from};
+ghost use Rattle.radix_trie.specs.Walks.{deref_pair};
 
 use crate::iter::{Iter, Keys, Values};
 use crate::trie::Trie;
@@ -48,28 +49,92 @@ pub trait TrieCommon<'a, K: TrieKey + 'a, V: 'a>: Sized {
     fn is_leaf(self) -> bool
         ensures { IsTrue result ↔ IsLeaf (map self) (path self) };
 
-    /// The walk over the pairs at and below the path, in the order of their encodings, a prefix before its extensions.
+    /// The walk over the pairs at and below the path, in the order of their encodings, a prefix
+    /// before its extensions.
     ///
     /// All memory that the walk needs is taken here: its `next` takes none.
+    ///
+    /// # Errors
+    ///
+    /// Memory for the walk is refused. It grows with the height below the path, and not with the
+    /// count of pairs.
+    ///
+    /// # Examples
+    ///
+    /// `count` and `total` in `crates/trie_examples/src/walk_callers.rt` go over a walk.
     fn iter(self) -> Result<Iter<'a, K, V>, Memory>
         ensures walk { IfOk result (λ pairs. pairs ≡ pairs_below (map self) (path self)) }
         ensures keyed { Each (λ e. e.0 ≡ K.encoding e.1.0) (walk (map self) (path self)) }
         ensures countable { IfOk result (λ pairs. length pairs < 2 ^ 64) };
 
-    /// The keys of that walk.
+    /// The keys of the walk of `iter`.
+    ///
+    /// # Errors
+    ///
+    /// Those of `iter`.
     fn keys(self) -> Result<Keys<'a, K, V>, Memory>
         ensures walk { IfOk result
             (λ keys. keys ≡ each (λ p. p.0) (pairs_below (map self) (path self))) }
         ensures countable { IfOk result (λ keys. length keys < 2 ^ 64) };
 
-    /// The values of that walk.
+    /// The values of the walk of `iter`.
+    ///
+    /// # Errors
+    ///
+    /// Those of `iter`.
     fn values(self) -> Result<Values<'a, K, V>, Memory>
         ensures walk { IfOk result
             (λ values. values ≡ each (λ p. p.1) (pairs_below (map self) (path self))) }
         ensures countable { IfOk result (λ values. length values < 2 ^ 64) };
 
-    /// The fragment, what the path has beyond the longest point strictly above it. It takes no memory where the fragment
-    /// has at most 32 nibbles.
+    /// The walk over the pairs at and below the path from the key's encoding on: those whose
+    /// encodings are the key's or come after it, in their order. The key needn't be stored, nor lie
+    /// below the path.
+    ///
+    /// All memory that the walk needs is taken here: its `next` takes none.
+    ///
+    /// # Errors
+    ///
+    /// Memory is refused, for the key's encoding or for the walk.
+    ///
+    /// # Examples
+    ///
+    /// `walks_from_texts` in `crates/trie_wide_tests/src/resumed.rt`.
+    fn iter_from<Q: TrieKey>(self, key: &Q) -> Result<Iter<'a, K, V>, Memory>
+        ensures walk { IfOk result (λ pairs. pairs
+            ≡ pairs_from (map self) (path self) (Q.encoding key.now)) }
+        ensures countable { IfOk result (λ pairs. length pairs < 2 ^ 64) };
+
+    /// The walk over the pairs at and below the path that come after the key's encoding, in the
+    /// order of their encodings: a walk that was left at this key goes on so. The key needn't be
+    /// stored, nor lie below the path.
+    ///
+    /// # Errors
+    ///
+    /// Those of `iter_from`.
+    fn iter_after<Q: TrieKey>(self, key: &Q) -> Result<Iter<'a, K, V>, Memory>
+        ensures walk { IfOk result (λ pairs. pairs
+            ≡ pairs_after (map self) (path self) (Q.encoding key.now)) }
+        ensures countable { IfOk result (λ pairs. length pairs < 2 ^ 64) };
+
+    /// The key and the value of the first pair at and below the path, in the order of the encodings, if there is one. It
+    /// takes no memory.
+    fn first_key_value(self) -> Option<(&'a K, &'a V)>
+        ensures { option_map deref_pair result
+            ≡ slice_get (pairs_below (map self) (path self)) 0 };
+
+    /// The key and the value of the last pair at and below the path, in the order of the encodings, if there is one. It
+    /// takes no memory.
+    fn last_key_value(self) -> Option<(&'a K, &'a V)>
+        ensures { option_map deref_pair result
+            ≡ slice_get (pairs_below (map self) (path self))
+            (length (pairs_below (map self) (path self)) - 1) };
+
+    /// The fragment, what the path has beyond the longest point strictly above it.
+    ///
+    /// # Errors
+    ///
+    /// Memory for the fragment is refused. That never comes where it has at most 32 nibbles.
     fn prefix(self) -> Result<Nibblet, Memory>
         ensures fragment { IfOk result (λ f. is_prefix self f) }
         ensures short { ((f : List ℕ) → is_prefix self f → IsShort f) → IsOk result };
@@ -118,6 +183,26 @@ impl<'a, K: TrieKey, V> TrieCommon<'a, K, V> for &'a Trie<K, V> {
         Ok(Values::new(TrieCommon::iter(self)?))
     }
 
+    fn iter_from<Q: TrieKey>(self, key: &Q) -> Result<Iter<'a, K, V>, Memory> {
+        let top = Nibblet::new(self.allocator());
+        Place::find(self, &top).iter_from(key)
+    }
+
+    fn iter_after<Q: TrieKey>(self, key: &Q) -> Result<Iter<'a, K, V>, Memory> {
+        let top = Nibblet::new(self.allocator());
+        Place::find(self, &top).iter_after(key)
+    }
+
+    fn first_key_value(self) -> Option<(&'a K, &'a V)> {
+        let top = Nibblet::new(self.allocator());
+        Place::find(self, &top).first_key_value()
+    }
+
+    fn last_key_value(self) -> Option<(&'a K, &'a V)> {
+        let top = Nibblet::new(self.allocator());
+        Place::find(self, &top).last_key_value()
+    }
+
     fn prefix(self) -> Result<Nibblet, Memory> {
         Ok(Nibblet::new(self.allocator()))
     }
@@ -160,6 +245,22 @@ impl<'a, 'b, K: TrieKey, V> TrieCommon<'a, K, V> for &'b SubTrie<'a, K, V> {
 
     fn values(self) -> Result<Values<'a, K, V>, Memory> {
         Ok(Values::new(self.place().iter()?))
+    }
+
+    fn iter_from<Q: TrieKey>(self, key: &Q) -> Result<Iter<'a, K, V>, Memory> {
+        self.place().iter_from(key)
+    }
+
+    fn iter_after<Q: TrieKey>(self, key: &Q) -> Result<Iter<'a, K, V>, Memory> {
+        self.place().iter_after(key)
+    }
+
+    fn first_key_value(self) -> Option<(&'a K, &'a V)> {
+        self.place().first_key_value()
+    }
+
+    fn last_key_value(self) -> Option<(&'a K, &'a V)> {
+        self.place().last_key_value()
     }
 
     fn prefix(self) -> Result<Nibblet, Memory> {

@@ -70,6 +70,26 @@ impl<'a, K: TrieKey, V, P: PathList> TrieCommon<'a, K, V> for SubTrieMut<'a, K, 
         Ok(Values::new(Place::find(trie, path.nibbles()).iter()?))
     }
 
+    fn iter_from<Q: TrieKey>(self, key: &Q) -> Result<Iter<'a, K, V>, Memory> {
+        let (trie, path) = self.into_parts();
+        Place::find(trie, path.nibbles()).iter_from(key)
+    }
+
+    fn iter_after<Q: TrieKey>(self, key: &Q) -> Result<Iter<'a, K, V>, Memory> {
+        let (trie, path) = self.into_parts();
+        Place::find(trie, path.nibbles()).iter_after(key)
+    }
+
+    fn first_key_value(self) -> Option<(&'a K, &'a V)> {
+        let (trie, path) = self.into_parts();
+        Place::find(trie, path.nibbles()).first_key_value()
+    }
+
+    fn last_key_value(self) -> Option<(&'a K, &'a V)> {
+        let (trie, path) = self.into_parts();
+        Place::find(trie, path.nibbles()).last_key_value()
+    }
+
     fn prefix(self) -> Result<Nibblet, Memory>
         ensures fragment { IfOk result (λ f. f ≡ P.list (kept_prefix self.entry)) }
         ensures short { ((f : List ℕ) → (f ≡ P.list (kept_prefix self.entry)) → IsShort f)
@@ -117,6 +137,22 @@ impl<'a, 'b, K: TrieKey, V> TrieCommon<'b, K, V> for &'b SubTrieMut<'a, K, V> {
 
     fn values(self) -> Result<Values<'b, K, V>, Memory> {
         Ok(Values::new(self.place().iter()?))
+    }
+
+    fn iter_from<Q: TrieKey>(self, key: &Q) -> Result<Iter<'b, K, V>, Memory> {
+        self.place().iter_from(key)
+    }
+
+    fn iter_after<Q: TrieKey>(self, key: &Q) -> Result<Iter<'b, K, V>, Memory> {
+        self.place().iter_after(key)
+    }
+
+    fn first_key_value(self) -> Option<(&'b K, &'b V)> {
+        self.place().first_key_value()
+    }
+
+    fn last_key_value(self) -> Option<(&'b K, &'b V)> {
+        self.place().last_key_value()
     }
 
     fn prefix(self) -> Result<Nibblet, Memory> {

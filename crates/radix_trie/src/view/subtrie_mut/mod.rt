@@ -106,8 +106,12 @@ impl<'a, K: TrieKey, V> SubTrieMut<'a, K, V> {
         Place::find(self.trie, &self.path)
     }
 
-    /// For each nibble in rising order, the view for reading at the shortest point that goes on from the path by it, with
-    /// its whole path. It takes no memory where each of these paths has at most 32 nibbles.
+    /// For each nibble in rising order, the view for reading at the shortest point that goes on
+    /// from the path by it, with its whole path.
+    ///
+    /// # Errors
+    ///
+    /// Memory for the paths is refused. That never comes where each of them has at most 32 nibbles.
     pub fn children(&self) -> Result<Children<'_, K, V>, Memory>
         ensures children { IfOk result
             (λ children. AreChildren (map_behind self.now) (path_of self.now)
@@ -122,7 +126,9 @@ impl<'a, K: TrieKey, V> SubTrieMut<'a, K, V> {
 
     /// The views that `children` hands out, for as long as the trie's borrow. The view is spent.
     ///
-    /// It takes no memory where each of their paths has at most 32 nibbles.
+    /// # Errors
+    ///
+    /// Those of `children`.
     pub fn into_children(self) -> Result<Children<'a, K, V>, Memory>
         ensures children { IfOk result (λ children.
             AreChildren (map_behind self.entry) (path_of self.entry) (paths_of children)) }
@@ -155,10 +161,12 @@ impl<'a, K: TrieKey, V> SubTrieMut<'a, K, V> {
         self.prefix.clone()
     }
 
-    /// The value that the trie holds at the key's encoding, if there is one. Outside where the view's path isn't a prefix
-    /// of the encoding.
+    /// The value that the trie holds at the key's encoding, if there is one.
     ///
-    /// The one other refusal is that of memory for the encoding, which a light key never meets.
+    /// # Errors
+    ///
+    /// `Outside`, where the view's path isn't a prefix of the encoding; and memory for the
+    /// encoding, which a light key never meets.
     pub fn get<Q: TrieKey>(&self, key: &Q) -> SubTrieResult<&V>
         ensures value { IfOk result
             (λ found. option_copied found

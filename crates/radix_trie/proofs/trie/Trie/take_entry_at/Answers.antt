@@ -1,14 +1,13 @@
 use Rattle.std.proofs.Common.{ap, sym, ◌∙◌, refl, arith}
-use Rattle.std.specs.Option.{option_map}
 use Rattle.radix_nodes.specs.Nodes.{tree_of}
 use Rattle.nibble_map.proofs.MapLemmas.Bridge.{remove-absent}
 use Rattle.nibble_map.proofs.ListLemmas.Sorted.{tied_lists_equal}
 use Rattle.std.proofs.lemmas.Cmp.{nat_list_cmp_total}
 use Rattle.radix_trie.specs.Roots.{map_of}
-use Rattle.radix_trie.proofs.ChangeLemmas.Removals.{value_at-taken, map_of-taken, taken_some, taken_kept}
+use Rattle.radix_trie.proofs.ChangeLemmas.Removals.{get-taken, map_of-taken, taken_some, taken_kept}
 use Rattle.radix_trie.proofs.ChangeLemmas.Changes.{unheld_at, held_at}
 use Rattle.radix_trie.proofs.RootLemmas.Held.{get-unheld, none_unheld, short_reach}
-use Rattle.radix_trie.proofs.trie.Trie.take_at.Goals as goal
+use Rattle.radix_trie.proofs.trie.Trie.take_entry_at.Goals as goal
 
 pub overflow_sub-self : goal.overflow_sub-self
 overflow_sub-self g c =
@@ -20,22 +19,22 @@ invariant_of-self g c =
     let cut = rw c.in-Ok-Some.field-0-is at c.in-Ok-Some.ensures in
     taken_kept g.K.TrieKey.encoding c.self.inside.root _ _ _ _ _ _ _ _ _ c.self.invariant refl cut
 
-pub returns-in-Ok-Some-clause-old_value : goal.returns-in-Ok-Some-clause-old_value
-returns-in-Ok-Some-clause-old_value g c =
+pub returns-in-Ok-Some-clause-old_pair : goal.returns-in-Ok-Some-clause-old_pair
+returns-in-Ok-Some-clause-old_pair g c =
     let cut = rw c.in-Ok-Some.field-0-is at c.in-Ok-Some.ensures in
-    rw (← c.self.view_is) (sym (value_at-taken g.K.TrieKey.encoding c.self.inside.root _ _ _ _ _ _ _ _ _ c.self.invariant refl cut))
+    rw (← c.self.view_is) (sym (get-taken g.K.TrieKey.encoding c.self.inside.root _ _ _ _ _ _ _ _ _ c.self.invariant refl cut))
 
 pub returns-in-Ok-Some-clause-removed : goal.returns-in-Ok-Some-clause-removed
 returns-in-Ok-Some-clause-removed g c =
     let cut = rw c.in-Ok-Some.field-0-is at c.in-Ok-Some.ensures in
     rw (← c.self.view_is) (map_of-taken g.K.TrieKey.encoding c.self.inside.root _ _ _ _ _ _ _ _ _ c.self.invariant refl cut)
 
-pub returns-in-Ok-None-clause-old_value : goal.returns-in-Ok-None-clause-old_value
-returns-in-Ok-None-clause-old_value g c =
+pub returns-in-Ok-None-clause-old_pair : goal.returns-in-Ok-None-clause-old_pair
+returns-in-Ok-None-clause-old_pair g c =
     let cut = rw c.in-Ok-None.field-0-is at c.in-Ok-None.ensures in
     let absent = get-unheld g.K.TrieKey.encoding (tree_of c.self.inside.root) _ _ _ c.self.invariant c.args.list.now
     (unheld_at c.self.inside.root c.args.list.now _ c.self.invariant.top refl cut.1) in
-    rw (← c.self.view_is) (sym (ap (option_map (λ p. p.1)) absent))
+    rw (← c.self.view_is) (sym absent)
 
 pub returns-in-Ok-None-clause-removed : goal.returns-in-Ok-None-clause-removed
 returns-in-Ok-None-clause-removed g c =

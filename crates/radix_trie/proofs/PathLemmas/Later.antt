@@ -1,0 +1,58 @@
+-- The pairs at and below a path that come after a list, by the node that is nearest to the path.
+use Rattle.std.proofs.Common.{◌≡◌, ℕ, Bool, List, [], ◌++◌, map, filter, drop, Option, Some, None, ap, sym, ◌∙◌, Bor}
+use Rattle.std.proofs.lemmas.Simd.{map-map}
+use Rattle.masked_tree.specs.Tree.{entries_in}
+use Rattle.nibble_map.specs.Maps.{PairMap, walk}
+use Rattle.nibble_map.specs.Swaps.{entry}
+use Rattle.radix_nodes.specs.declared.trie_node.KeyValue.{KeyValue}
+use Rattle.radix_nodes.specs.declared.trie_node.TrieNode.{TrieNode}
+use Rattle.radix_nodes.specs.Nodes.{fragment_of, tree_of}
+use Rattle.radix_nodes.specs.Pairs.{pairs_in}
+use Rattle.radix_nodes.proofs.NodeLemmas.Nodes.{fragment-tree_of}
+use Rattle.radix_trie.specs.declared.iter.side.Side.TheVariants as side
+use Rattle.radix_trie.specs.Places.{IsPlace}
+use Rattle.radix_trie.specs.Walks.{StandsBeside, comes_after, later_pairs, pairs_where}
+use Rattle.radix_trie.proofs.PathLemmas.NodesBelow.{filter-map, walk-no_path, walk-node}
+use Rattle.radix_trie.proofs.PathLemmas.Places.{nearest_found, no_path_found}
+use Rattle.radix_trie.proofs.RootLemmas.Shown.{row_of}
+use Rattle.radix_trie.proofs.WalkLemmas.Resumed.{on_path}
+use Rattle.radix_trie.proofs.WalkLemmas.Tested.{where_gone, where_kept}
+
+module _ {K V : Type 0} (enc : K → List ℕ) (m : PairMap K V) (p : List ℕ) (found : Option (Bor (TrieNode K V) × ℕ)) (place : IsPlace enc m p found) (itself : Bool) (list : List ℕ) where
+  -- the map's pairs at and below p that come after the list
+  abbrev after_list : List (K × V)
+  after_list = map (λ e. e.1) (filter (λ e. comes_after itself list e.0) (walk m p))
+
+  -- where nothing was found for p, none come after the list
+  pub nothing_found-later : found ≡ None → [] ≡ after_list
+  nothing_found-later e =
+      sym (ap (λ es. map (λ e. e.1) (filter (λ e. comes_after itself list e.0) es)) (walk-no_path enc m place.0 place.1 p (no_path_found enc m p found place e)))
+
+  module _ (r : Bor (TrieNode K V)) (n : ℕ) (is : found ≡ Some (r, n)) (whole : List ℕ) (made : whole ≡ p ++ drop n (fragment_of r.now)) where
+    -- the whole path is the found node's
+    whole_path : whole ≡ p ++ drop n (tree_of r.now).fragment
+    whole_path = made ∙ ap (λ f. p ++ drop n f) (sym (fragment-tree_of r.now))
+
+    -- of the entries at and below the found node, those are left that come after the list
+    at_node : pairs_where (comes_after itself list) (entry whole (tree_of r.now).pair ++ entries_in whole (tree_of r.now).children) ≡ after_list
+    at_node =
+        let u = tree_of r.now in
+        let x = p ++ drop n u.fragment in
+        let es = entry x u.pair ++ entries_in x u.children in
+        let near = nearest_found enc m p found place r n is in
+        ap (λ y. pairs_where (comes_after itself list) (entry y u.pair ++ entries_in y u.children)) whole_path
+        ∙ sym (ap (λ rows. map (λ e. e.1) (filter (λ e. comes_after itself list e.0) rows)) (walk-node enc m place.0 place.1 p x u near.node near.shortest)
+        ∙ ap (map (λ e. e.1)) (filter-map (λ (e : List ℕ × (K × V)). comes_after itself list e.0) row_of es)
+        ∙ map-map (λ e. e.1) row_of (filter (λ (e : List ℕ × KeyValue K V). comes_after itself list e.0) es))
+
+    -- where the found node comes before the list, none are left
+    pub found_before : StandsBeside whole list 0 side.Before → [] ≡ after_list
+    found_before s = sym (where_gone (comes_after itself list) whole (tree_of r.now) (s itself)) ∙ at_node
+
+    -- where it comes after the list, all are left
+    pub found_after : StandsBeside whole list 0 side.After → pairs_in (tree_of r.now) ≡ after_list
+    found_after s = sym (where_kept (comes_after itself list) whole (tree_of r.now) (s itself)) ∙ at_node
+
+    -- where the list goes on from it, those behind it are left that come after the rest
+    pub found_on : (next : ℕ) → StandsBeside whole list 0 (side.On next) → later_pairs itself (drop next list) (tree_of r.now) ≡ after_list
+    found_on next s = sym (on_path itself whole list 0 next (tree_of r.now) s) ∙ at_node

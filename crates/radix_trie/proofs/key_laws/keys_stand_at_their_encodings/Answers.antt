@@ -1,0 +1,8 @@
+use Rattle.radix_trie.proofs.WalkLemmas.Keyed.{encodings_rise, keyed_get, keys_below}
+use Rattle.radix_trie.proofs.key_laws.keys_stand_at_their_encodings.Goals as goal
+
+pub returns : goal.returns
+returns g c =
+    let enc = g.K.TrieKey.encoding in
+    let keyed = c.root.ensures.keyed in
+    record { stored = keyed_get enc c.args.trie.now keyed; below = keys_below enc c.args.trie.now keyed; rising = encodings_rise enc c.args.trie.now keyed }

@@ -1,0 +1,28 @@
+use Rattle.std.proofs.Common.{◌∙◌, ap, sym}
+use Rattle.std.specs.FinMap as map
+use Rattle.radix_nodes.specs.Nodes.{tree_of}
+use Rattle.radix_trie.specs.Roots.{AllKeyed}
+use Rattle.radix_trie.proofs.ChangeLemmas.Popped.{got_item, popped_item, popped_rest}
+use Rattle.radix_trie.proofs.PathLemmas.Places.{false_is_not_true}
+use Rattle.radix_trie.proofs.RootLemmas.Shown.{kept_root}
+use Rattle.radix_trie.proofs.trie.Trie.pop_first.Goals as goal
+
+pub returns-clause-first : goal.returns-clause-first
+returns-clause-first g c =
+    let enc = g.K.TrieKey.encoding in
+    let keyed : AllKeyed enc (map.entries c.args.self.now) = rw (← c.self.view_is) (kept_root enc (tree_of c.self.inside.root) _ _ _ c.self.invariant).keyed in
+    let at = c.in_ok-first-in-Some.ensures.ok in
+    let pair : g.row.K.Denot × g.row.V.Denot = (c.in-Some.key.now, c.in-Some.field-0-1.now) in
+    popped_item enc c.args.self.now pair _ at (ap (map.get c.args.self.now) at ∙ got_item enc c.args.self.now keyed pair 0 c.in-Some.ensures) 0 c.take_entry_at.result c.take_entry_at.ensures.old_pair c.in-Some.ensures
+
+pub returns-clause-removed : goal.returns-clause-removed
+returns-clause-removed g c =
+    let enc = g.K.TrieKey.encoding in
+    let keyed : AllKeyed enc (map.entries c.args.self.now) = rw (← c.self.view_is) (kept_root enc (tree_of c.self.inside.root) _ _ _ c.self.invariant).keyed in
+    let at = c.in_ok-first-in-Some.ensures.ok in
+    let pair : g.row.K.Denot × g.row.V.Denot = (c.in-Some.key.now, c.in-Some.field-0-1.now) in
+    popped_rest enc c.args.self.now pair _ at (ap (map.get c.args.self.now) at ∙ got_item enc c.args.self.now keyed pair 0 c.in-Some.ensures) c.take_entry_at.result _ c.take_entry_at.ensures.old_pair c.take_entry_at.ensures.removed
+
+pub returns-in_err-first-in-Some-clause-light_short : goal.returns-in_err-first-in-Some-clause-light_short
+returns-in_err-first-in-Some-clause-light_short g c = λ light short.
+    absurd (false_is_not_true (c.in_err-first-in-Some.ensures.light (light (c.in-Some.key.now, c.in-Some.field-0-1.now) (sym c.in-Some.ensures))))

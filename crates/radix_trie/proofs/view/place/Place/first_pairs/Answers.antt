@@ -1,0 +1,16 @@
+use Rattle.std.proofs.Common.{[], take, ap, sym, ◌∙◌, arith}
+use Rattle.std.proofs.lemmas.List.{take_all}
+use Rattle.radix_trie.specs.Walks.{deref_pairs}
+use Rattle.radix_trie.proofs.PathLemmas.Places.{pairs_in-found, nothing_found-pairs}
+use Rattle.radix_trie.proofs.view.place.Place.first_pairs.Goals as goal
+
+pub returns-in-Some : goal.returns-in-Some
+returns-in-Some g c =
+    rw (← c.self.view_is, ← pairs_in-found g.K.TrieKey.encoding c.self.inside.trie.now c.self.inside.path.now c.self.inside.found c.self.invariant _ _ c.in-Some.is) c.first_pairs.ensures
+
+pub returns-in-None : goal.returns-in-None
+returns-in-None g c =
+    rw (← c.self.view_is)
+    (ap deref_pairs c.new.ensures.items
+    ∙ sym (take_all c.args.most [] (omega arith))
+    ∙ ap (take c.args.most) (nothing_found-pairs g.K.TrieKey.encoding c.self.inside.trie.now c.self.inside.path.now c.self.inside.found c.self.invariant c.in-None.is))

@@ -1,0 +1,50 @@
+use Rattle.std.proofs.Common.{◌<◌, ◌^◌, ◌∙◌, ap, arith, length, rules}
+use Rattle.std.proofs.lemmas.Result.{IfOk-weaker}
+use Rattle.radix_nodes.proofs.NodeLemmas.Nodes.{fragment-tree_of}
+use Rattle.radix_trie.proofs.PathLemmas.Later.{found_after, found_before, found_on, nothing_found-later}
+use Rattle.radix_trie.proofs.PathLemmas.Places.{found_is_small, found_placed, nearest_found}
+use Rattle.radix_trie.proofs.view.place.Place.resumed.Goals as goal
+
+pub extended-requires : goal.extended-requires
+extended-requires g c =
+    let near = nearest_found g.K.TrieKey.encoding c.self.inside.trie.now c.self.inside.path.now c.self.inside.found c.self.invariant c.in-Some.node c.in-Some.covered c.in-Some.is in
+    omega (arith, near.within, ap length (fragment-tree_of c.in-Some.node.now))
+
+pub returns-in-Before-clause-walk : goal.returns-in-Before-clause-walk
+returns-in-Before-clause-walk g c =
+    rw (← c.self.view_is)
+    (c.empty.ensures
+    ∙ found_before g.K.TrieKey.encoding c.self.inside.trie.now c.self.inside.path.now c.self.inside.found c.self.invariant c.args.itself c.args.list.now c.in-Some.node c.in-Some.covered c.in-Some.is
+    c.in_ok-whole-in-Some.whole c.in_ok-whole-in-Some.ensures.made c.in-Before.ensures)
+
+pub resumed-requires-clause-few : goal.resumed-requires-clause-few
+resumed-requires-clause-few g c =
+    let small : c.len-pairs.result < 2 ^ 64 = search rules in
+    found_is_small g.K.TrieKey.encoding c.self.inside.trie.now c.self.inside.path.now c.self.inside.found c.self.invariant _ _ c.in-Some.is (omega (arith, small, c.len-pairs.ensures))
+
+pub resumed-requires-clause-placed : goal.resumed-requires-clause-placed
+resumed-requires-clause-placed g c =
+    found_placed g.K.TrieKey.encoding c.self.inside.trie.now c.self.inside.path.now c.self.inside.found c.self.invariant _ _ c.in-Some.is
+
+pub returns-in-On-clause-walk : goal.returns-in-On-clause-walk
+returns-in-On-clause-walk g c =
+    let left = found_on g.K.TrieKey.encoding c.self.inside.trie.now c.self.inside.path.now c.self.inside.found c.self.invariant c.args.itself c.args.list.now c.in-Some.node c.in-Some.covered c.in-Some.is
+    c.in_ok-whole-in-Some.whole c.in_ok-whole-in-Some.ensures.made c.in-On.depth c.in-On.ensures in
+    rw (← c.self.view_is) (IfOk-weaker c.resumed.result _ _ (λ pairs is. is ∙ left) c.resumed.ensures.pairs)
+
+pub over-requires : goal.over-requires
+over-requires g c =
+    let small : c.len-pairs.result < 2 ^ 64 = search rules in
+    found_is_small g.K.TrieKey.encoding c.self.inside.trie.now c.self.inside.path.now c.self.inside.found c.self.invariant _ _ c.in-Some.is (omega (arith, small, c.len-pairs.ensures))
+
+pub returns-in-Some-clause-walk : goal.returns-in-Some-clause-walk
+returns-in-Some-clause-walk g c =
+    let left = found_after g.K.TrieKey.encoding c.self.inside.trie.now c.self.inside.path.now c.self.inside.found c.self.invariant c.args.itself c.args.list.now c.in-Some.node c.in-Some.covered c.in-Some.is
+    c.in_ok-whole-in-Some.whole c.in_ok-whole-in-Some.ensures.made c.in-After.ensures in
+    rw (← c.self.view_is) (IfOk-weaker c.over.result _ _ (λ pairs is. is ∙ left) c.over.ensures.pairs)
+
+pub returns-clause-walk : goal.returns-clause-walk
+returns-clause-walk g c =
+    rw (← c.self.view_is)
+    (c.empty-in-None.ensures
+    ∙ nothing_found-later g.K.TrieKey.encoding c.self.inside.trie.now c.self.inside.path.now c.self.inside.found c.self.invariant c.args.itself c.args.list.now c.in-None.is)

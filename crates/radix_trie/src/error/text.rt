@@ -1,0 +1,107 @@
+//! What errors say of themselves. Each has its text by what it becomes as a `TrieError`.
+ghost use Rattle.std.specs.Prelude.{Some};
+ghost use Rattle.radix_trie.specs.Errors.{of_build, of_find, of_insert, of_json, of_open, of_view, text_of};
+
+use crate::error::{
+    BuildError, FindError, InsertError, InsertWhy, JsonError, OpenError, SubTrieError, TrieError,
+};
+use std::error::Error;
+use std::fmt;
+
+impl fmt::Display for TrieError {
+    ghost output = { λ error. Some (text_of error) };
+
+    fn fmt<W: fmt::Write>(&self, f: &mut fmt::Formatter<W>) -> fmt::Result {
+        f.write_str(match self {
+            TrieError::Memory => "out of memory",
+            TrieError::Full => "the trie is full",
+            TrieError::Outside => "the key lies outside the view",
+            TrieError::Absent => "no value is stored at the key",
+            TrieError::Closed => "no point stands at the key",
+            TrieError::Kind => "the value is neither null nor an object",
+            TrieError::Float => "a float stands in the value",
+            TrieError::Odd => "the key has an odd count of nibbles",
+        })
+    }
+}
+
+impl Error for TrieError {}
+
+impl fmt::Display for InsertWhy {
+    ghost output = { λ error. Some (text_of (of_insert error)) };
+
+    fn fmt<W: fmt::Write>(&self, f: &mut fmt::Formatter<W>) -> fmt::Result {
+        fmt::Display::fmt(&TrieError::from(*self), f)
+    }
+}
+
+impl Error for InsertWhy {}
+
+impl fmt::Display for BuildError {
+    ghost output = { λ error. Some (text_of (of_build error)) };
+
+    fn fmt<W: fmt::Write>(&self, f: &mut fmt::Formatter<W>) -> fmt::Result {
+        fmt::Display::fmt(&TrieError::from(*self), f)
+    }
+}
+
+impl Error for BuildError {}
+
+impl fmt::Display for FindError {
+    ghost output = { λ error. Some (text_of (of_find error)) };
+
+    fn fmt<W: fmt::Write>(&self, f: &mut fmt::Formatter<W>) -> fmt::Result {
+        fmt::Display::fmt(&TrieError::from(*self), f)
+    }
+}
+
+impl Error for FindError {}
+
+impl fmt::Display for OpenError {
+    ghost output = { λ error. Some (text_of (of_open error)) };
+
+    fn fmt<W: fmt::Write>(&self, f: &mut fmt::Formatter<W>) -> fmt::Result {
+        fmt::Display::fmt(&TrieError::from(*self), f)
+    }
+}
+
+impl Error for OpenError {}
+
+impl fmt::Display for SubTrieError {
+    ghost output = { λ error. Some (text_of (of_view error)) };
+
+    fn fmt<W: fmt::Write>(&self, f: &mut fmt::Formatter<W>) -> fmt::Result {
+        fmt::Display::fmt(&TrieError::from(*self), f)
+    }
+}
+
+impl Error for SubTrieError {}
+
+impl fmt::Display for JsonError {
+    ghost output = { λ error. Some (text_of (of_json error)) };
+
+    fn fmt<W: fmt::Write>(&self, f: &mut fmt::Formatter<W>) -> fmt::Result {
+        fmt::Display::fmt(&TrieError::from(*self), f)
+    }
+}
+
+impl Error for JsonError {}
+
+impl<K, V> fmt::Display for InsertError<K, V> {
+    ghost output = { λ refused. Some (text_of (of_insert refused.why)) };
+
+    fn fmt<W: fmt::Write>(&self, f: &mut fmt::Formatter<W>) -> fmt::Result {
+        fmt::Display::fmt(&self.why, f)
+    }
+}
+
+/// As `Display`: key and value may be of types that write nothing.
+impl<K, V> fmt::Debug for InsertError<K, V> {
+    ghost debug_output = { λ refused. Some (text_of (of_insert refused.why)) };
+
+    fn fmt<W: fmt::Write>(&self, f: &mut fmt::Formatter<W>) -> fmt::Result {
+        fmt::Display::fmt(self, f)
+    }
+}
+
+impl<K: Drop, V: Drop> Error for InsertError<K, V> {}

@@ -1,0 +1,67 @@
+//! Look-ups by a list of nibbles in hand. They take no memory, and none is refused.
+ghost use Rattle.std.specs.Prelude.{◌≡◌, ◌↔◌, IsTrue, option_copied, option_map};
+ghost use Rattle.std.specs.FinMap as map;
+ghost use Rattle.nibble_map.specs.Maps.{IsStored, value_at};
+ghost use Rattle.radix_nodes.specs.Pairs.{pair_of};
+ghost use Rattle.radix_trie.specs.Views.{IsPairAbove, IsValueAbove};
+ghost use Rattle.radix_trie.specs.Walks.{deref_pair};
+
+use crate::iter::parts_of;
+use crate::trie::Trie;
+use radix_keys::{Nibblet, TrieKey};
+use radix_nodes::traversal::find::find;
+use radix_nodes::traversal::queries::deepest_pair;
+use radix_nodes::trie_node::KeyValue;
+
+impl<K: TrieKey, V> Trie<K, V> {
+    /// The pair at a list.
+    pub(crate) fn pair_at(&self, list: &Nibblet) -> Option<&KeyValue<K, V>>
+        ensures { option_map (λ p. pair_of p.now) result ≡ map.get self.now list.now }
+    {
+        match find(self.root(), list, 0) {
+            Some(node) => node.pair(),
+            None => None,
+        }
+    }
+
+    /// The value at a list of nibbles, if one is stored there. It takes no memory.
+    pub fn at(&self, list: &Nibblet) -> Option<&V>
+        ensures value { option_copied result ≡ value_at self.now list.now }
+    {
+        match self.pair_at(list) {
+            Some(pair) => Some(&pair.value),
+            None => None,
+        }
+    }
+
+    /// Whether a pair is stored at a list of nibbles. It takes no memory.
+    pub fn contains(&self, list: &Nibblet) -> bool
+        ensures stored { IsTrue result ↔ IsStored self.now list.now }
+    {
+        self.pair_at(list).is_some()
+    }
+
+    /// The pair at the longest stored list that is a prefix of a list.
+    fn pair_above(&self, list: &Nibblet) -> Option<&KeyValue<K, V>>
+        ensures { IsPairAbove self.now list.now (option_map (λ p. pair_of p.now) result) }
+    {
+        let (node, _) = deepest_pair(self.root(), list, 0)?;
+        node.pair()
+    }
+
+    /// The key and the value at the longest stored list that is a prefix of a list of nibbles, or None where there is none.
+    /// It takes no memory.
+    pub fn nearest(&self, list: &Nibblet) -> Option<(&K, &V)>
+        ensures pair { IsPairAbove self.now list.now (option_map deref_pair result) }
+    {
+        parts_of(self.pair_above(list))
+    }
+
+    /// The value of that pair. It takes no memory.
+    pub fn nearest_value(&self, list: &Nibblet) -> Option<&V>
+        ensures value { IsValueAbove self.now list.now (option_copied result) }
+    {
+        let (_, value) = self.nearest(list)?;
+        Some(value)
+    }
+}

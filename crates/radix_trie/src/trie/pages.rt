@@ -1,0 +1,32 @@
+//! Pages: a few pairs at a time, in the order of the encodings.
+ghost use Rattle.std.specs.Prelude.{◌≡◌, IfOk, take};
+ghost use Rattle.radix_trie.specs.Views.{pairs_below};
+ghost use Rattle.radix_trie.specs.Walks.{deref_pairs};
+
+use crate::trie::Trie;
+use crate::view::place::Place;
+use radix_keys::{Memory, TrieKey};
+
+impl<K: TrieKey, V> Trie<K, V> {
+    /// The first pairs at and below the key's place, in the order of their encodings: `most` of
+    /// them, or all where there are fewer. The time grows with `most` and the depth, and not with
+    /// how many pairs stand there.
+    ///
+    /// The key needn't be stored, nor be a point.
+    ///
+    /// # Errors
+    ///
+    /// Memory is refused, for the encoding or the list of pairs.
+    ///
+    /// # Examples
+    ///
+    /// `first_pairs_below_texts` in `crates/trie_wide_tests/src/pages.rt` takes pages of the sample
+    /// of texts.
+    pub fn first_below<Q: TrieKey>(&self, key: &Q, most: usize) -> Result<Vec<(&K, &V)>, Memory>
+        ensures pairs { IfOk result (λ list. deref_pairs list.items
+            ≡ take most (pairs_below self.now (Q.encoding key.now))) }
+    {
+        let list = key.encode(self.allocator())?;
+        Place::find(self, &list).first_pairs(most)
+    }
+}

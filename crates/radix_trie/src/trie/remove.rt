@@ -1,0 +1,152 @@
+//! Removals of one pair, and of all.
+ghost use Rattle.std.specs.Prelude.{◌≡◌, ◌-◌, ℕ, List, [], length, None, IsOk, IfOk, OnOk, OnErr, MatchOption, slice_get};
+ghost use Rattle.std.specs.Option.{ForSome};
+ghost use Rattle.std.specs.FinMap as map;
+ghost use Rattle.nibble_map.specs.Maps.{IsStored, value_at};
+ghost use Rattle.nibble_map.specs.Nibbles.{IsShort};
+ghost use Rattle.radix_trie.specs.Views.{pairs_below};
+
+use crate::trie::Trie;
+use crate::view::trie_common::TrieCommon;
+use radix_keys::{Memory, Nibblet, TrieKey};
+use radix_nodes::traversal::remove::take_root;
+
+impl<K: TrieKey + Drop, V: Drop> Trie<K, V> {
+    /// Takes the pair at the key's encoding away, and answers its value. Where none is stored
+    /// there, nothing changes.
+    ///
+    /// # Errors
+    ///
+    /// Memory is refused, for the encoding or for joining two fragments. The trie is as before
+    /// then.
+    ///
+    /// # Examples
+    ///
+    /// `taken_away` in `crates/trie_examples/src/cited.rt` looks a key up that was removed.
+    pub fn remove<Q: TrieKey>(&mut self, key: &Q) -> Result<Option<V>, Memory>
+        ensures old_value { IfOk result (λ old. old ≡ value_at self.old (Q.encoding key.now)) }
+        ensures removed { OnOk result (self.new ≡ map.remove self.old (Q.encoding key.now)) }
+        ensures unchanged { OnErr result (self.new ≡ self.old) }
+
+        ensures light_absent { Q.is_light key.now → map.get self.old (Q.encoding key.now) ≡ None
+            → IsOk result }
+        ensures light_short { Q.is_light key.now
+            → ((e : List ℕ) → IsStored self.old e → IsShort e)
+            → IsOk result }
+    {
+        let list = key.encode(self.alloc)?;
+        self.take_at(&list)
+    }
+
+    /// Takes the pair at the key's encoding away, and answers the stored key and its value. Where
+    /// none is stored there, nothing changes.
+    ///
+    /// # Errors
+    ///
+    /// Those of `remove`. The trie is as before then.
+    pub fn remove_entry<Q: TrieKey>(&mut self, key: &Q) -> Result<Option<(K, V)>, Memory>
+        ensures old_pair { IfOk result (λ old. old ≡ map.get self.old (Q.encoding key.now)) }
+        ensures removed { OnOk result (self.new ≡ map.remove self.old (Q.encoding key.now)) }
+        ensures unchanged { OnErr result (self.new ≡ self.old) }
+
+        ensures light_absent { Q.is_light key.now → map.get self.old (Q.encoding key.now) ≡ None
+            → IsOk result }
+        ensures light_short { Q.is_light key.now
+            → ((e : List ℕ) → IsStored self.old e → IsShort e)
+            → IsOk result }
+    {
+        let list = key.encode(self.alloc)?;
+        self.take_entry_at(&list)
+    }
+
+    /// Takes the pair with the first encoding away, in the order of walks, and answers it; None
+    /// where no pair is stored.
+    ///
+    /// # Errors
+    ///
+    /// Memory is refused, for the stored key's encoding or for joining two fragments. The trie is
+    /// as before then.
+    pub fn pop_first(&mut self) -> Result<Option<(K, V)>, Memory>
+        ensures first { IfOk result (λ first. first ≡ slice_get (pairs_below self.old []) 0) }
+        ensures removed { IfOk result (λ first. MatchOption first (self.new ≡ self.old)
+            (λ pair. self.new ≡ map.remove self.old (K.encoding pair.0))) }
+        ensures unchanged { OnErr result (self.new ≡ self.old) }
+        ensures light_short { ForSome (slice_get (pairs_below self.old []) 0)
+            (λ pair. K.is_light pair.0)
+            → ((e : List ℕ) → IsStored self.old e → IsShort e)
+            → IsOk result }
+    {
+        let first = match TrieCommon::first_key_value(&*self) {
+            Some((key, _)) => key.encode(self.alloc)?,
+            None => return Ok(None),
+        };
+        self.take_entry_at(&first)
+    }
+
+    /// Takes the pair with the last encoding away, in the order of walks, and answers it; None
+    /// where no pair is stored.
+    ///
+    /// # Errors
+    ///
+    /// Those of `pop_first`. The trie is as before then.
+    pub fn pop_last(&mut self) -> Result<Option<(K, V)>, Memory>
+        ensures last { IfOk result (λ last. last ≡ slice_get (pairs_below self.old [])
+            (length (pairs_below self.old []) - 1)) }
+        ensures removed { IfOk result (λ last. MatchOption last (self.new ≡ self.old)
+            (λ pair. self.new ≡ map.remove self.old (K.encoding pair.0))) }
+        ensures unchanged { OnErr result (self.new ≡ self.old) }
+        ensures light_short { ForSome (slice_get (pairs_below self.old [])
+            (length (pairs_below self.old []) - 1))
+            (λ pair. K.is_light pair.0)
+            → ((e : List ℕ) → IsStored self.old e → IsShort e)
+            → IsOk result }
+    {
+        let last = match TrieCommon::last_key_value(&*self) {
+            Some((key, _)) => key.encode(self.alloc)?,
+            None => return Ok(None),
+        };
+        self.take_entry_at(&last)
+    }
+
+    /// What `remove` does, with the key's encoding in hand.
+    pub(crate) fn take_at(&mut self, list: &Nibblet) -> Result<Option<V>, Memory>
+        ensures old_value { IfOk result (λ old. old ≡ value_at self.old list.now) }
+        ensures removed { OnOk result (self.new ≡ map.remove self.old list.now) }
+        ensures unchanged { OnErr result (self.new ≡ self.old) }
+        ensures absent { map.get self.old list.now ≡ None → IsOk result }
+        ensures short { ((e : List ℕ) → IsStored self.old e → IsShort e) → IsOk result }
+    {
+        match self.take_entry_at(list) {
+            Ok(Some((_, value))) => Ok(Some(value)),
+            Ok(None) => Ok(None),
+            Err(refusal) => Err(refusal),
+        }
+    }
+
+    /// What `remove_entry` does, with the key's encoding in hand.
+    pub(crate) fn take_entry_at(&mut self, list: &Nibblet) -> Result<Option<(K, V)>, Memory>
+        ensures old_pair { IfOk result (λ old. old ≡ map.get self.old list.now) }
+        ensures removed { OnOk result (self.new ≡ map.remove self.old list.now) }
+        ensures unchanged { OnErr result (self.new ≡ self.old) }
+        ensures absent { map.get self.old list.now ≡ None → IsOk result }
+        ensures short { ((e : List ℕ) → IsStored self.old e → IsShort e) → IsOk result }
+    {
+        match take_root(&mut self.root, list) {
+            Ok(Some(taken)) => {
+                self.length -= 1;
+                self.nodes -= taken.nodes as u128;
+                self.nibbles -= taken.nibbles as u128;
+                Ok(Some((taken.pair.key, taken.pair.value)))
+            }
+            Ok(None) => Ok(None),
+            Err(refusal) => Err(refusal),
+        }
+    }
+
+    /// Takes all pairs away. It takes no memory.
+    pub fn clear(&mut self)
+        ensures empty { self.new ≡ map.empty }
+    {
+        *self = Trie::new(self.alloc);
+    }
+}

@@ -2,6 +2,7 @@
 
 use crate::keys::Drawn;
 use crate::model::{Model, Stored};
+use crate::pairs::are_taken;
 use crate::random::Random;
 use radix_trie::{Memory, Reply};
 use std::alloc::Global;
@@ -82,27 +83,13 @@ pub fn by_model<K: Drawn>(
             };
             Ok(Expected::Value(model.insert(list, stored)?))
         }
-        Kind::Remove => Ok(Expected::Value(model.remove(list.as_slice()))),
+        Kind::Remove => {
+            let old = model.remove(list.as_slice());
+            Ok(Expected::Value(old.map(|stored| stored.value)))
+        }
         Kind::RemovePrefix => Ok(Expected::Pairs(model.remove_below(list.as_slice())?)),
         Kind::Get | Kind::Len => Ok(Expected::Value(model.get(list.as_slice()))),
     }
-}
-
-/// Whether the pairs are those of the model, in its order.
-pub fn are_pairs<K: Drawn>(
-    alloc: Global,
-    pairs: &[(K, u64)],
-    wanted: &[Stored],
-) -> Result<bool, Memory> {
-    if pairs.len() != wanted.len() {
-        return Ok(false);
-    }
-    for ((key, value), stored) in pairs.iter().zip(wanted.iter()) {
-        if *key != K::drawn(alloc, stored.number)? || *value != stored.value {
-            return Ok(false);
-        }
-    }
-    Ok(true)
 }
 
 /// Whether the outcome is the expected one.
@@ -114,7 +101,7 @@ pub fn is_expected<K: Drawn>(
     match (outcome, expected) {
         (Outcome::Value(value), Expected::Value(wanted)) => Ok(*value == *wanted),
         (Outcome::Pairs(pairs), Expected::Pairs(wanted)) => {
-            are_pairs(alloc, pairs.as_slice(), wanted.as_slice())
+            are_taken(alloc, pairs.as_slice(), wanted.as_slice())
         }
         (Outcome::Count(count), Expected::Count(wanted)) => Ok(*count == *wanted),
         (Outcome::Outside, Expected::Outside) => Ok(true),

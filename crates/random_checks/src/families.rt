@@ -2,7 +2,7 @@
 
 use crate::checks::first_disagreement;
 use crate::keys::Drawn;
-use radix_trie::{Ascending, BigEndian, LittleEndian, Nibblet};
+use radix_trie::{Ascending, BigEndian, Bits, LittleEndian, Nibblet};
 use std::alloc::Global;
 use std::io;
 use std::io::ErrorKind;
@@ -50,6 +50,7 @@ fn unsigned(rt: &impl Print, alloc: Global, plan: Plan) -> io::Result<bool> {
             && family::<u16>(rt, alloc, "u16", plan)?
             && family::<u32>(rt, alloc, "u32", plan)?
             && family::<u64>(rt, alloc, "u64", plan)?
+            && family::<u128>(rt, alloc, "u128", plan)?
             && family::<usize>(rt, alloc, "usize", plan)?,
     )
 }
@@ -60,6 +61,7 @@ fn signed(rt: &impl Print, alloc: Global, plan: Plan) -> io::Result<bool> {
             && family::<i16>(rt, alloc, "i16", plan)?
             && family::<i32>(rt, alloc, "i32", plan)?
             && family::<i64>(rt, alloc, "i64", plan)?
+            && family::<i128>(rt, alloc, "i128", plan)?
             && family::<isize>(rt, alloc, "isize", plan)?,
     )
 }
@@ -70,6 +72,7 @@ fn ascending(rt: &impl Print, alloc: Global, plan: Plan) -> io::Result<bool> {
             && family::<Ascending<i16>>(rt, alloc, "Ascending<i16>", plan)?
             && family::<Ascending<i32>>(rt, alloc, "Ascending<i32>", plan)?
             && family::<Ascending<i64>>(rt, alloc, "Ascending<i64>", plan)?
+            && family::<Ascending<i128>>(rt, alloc, "Ascending<i128>", plan)?
             && family::<Ascending<isize>>(rt, alloc, "Ascending<isize>", plan)?,
     )
 }
@@ -78,8 +81,34 @@ fn endian(rt: &impl Print, alloc: Global, plan: Plan) -> io::Result<bool> {
     Ok(
         family::<BigEndian<u32>>(rt, alloc, "BigEndian<u32>", plan)?
             && family::<BigEndian<i16>>(rt, alloc, "BigEndian<i16>", plan)?
+            && family::<BigEndian<u128>>(rt, alloc, "BigEndian<u128>", plan)?
             && family::<LittleEndian<u32>>(rt, alloc, "LittleEndian<u32>", plan)?
-            && family::<LittleEndian<i64>>(rt, alloc, "LittleEndian<i64>", plan)?,
+            && family::<LittleEndian<i64>>(rt, alloc, "LittleEndian<i64>", plan)?
+            && family::<LittleEndian<i128>>(rt, alloc, "LittleEndian<i128>", plan)?,
+    )
+}
+
+fn scalars(rt: &impl Print, alloc: Global, plan: Plan) -> io::Result<bool> {
+    Ok(
+        family::<bool>(rt, alloc, "bool", plan)?
+            && family::<char>(rt, alloc, "char", plan)?
+            && family::<[u8; 3]>(rt, alloc, "[u8; 3]", plan)?
+            && family::<[u8; 17]>(rt, alloc, "[u8; 17]", plan)?
+            && family::<Bits>(rt, alloc, "Bits", plan)?,
+    )
+}
+
+fn pairs(rt: &impl Print, alloc: Global, plan: Plan) -> io::Result<bool> {
+    Ok(
+        family::<(u8, bool)>(rt, alloc, "(u8, bool)", plan)?
+            && family::<(char, [u8; 2])>(rt, alloc, "(char, [u8; 2])", plan)?
+            && family::<(u128, i8)>(rt, alloc, "(u128, i8)", plan)?
+            && family::<((i16, bool), Ascending<i32>)>(
+                rt,
+                alloc,
+                "((i16, bool), Ascending<i32>)",
+                plan,
+            )?,
     )
 }
 
@@ -90,6 +119,8 @@ pub fn agree(rt: &impl Print, alloc: Global, plan: Plan) -> io::Result<bool> {
             && unsigned(rt, alloc, plan)?
             && signed(rt, alloc, plan)?
             && ascending(rt, alloc, plan)?
-            && endian(rt, alloc, plan)?,
+            && endian(rt, alloc, plan)?
+            && scalars(rt, alloc, plan)?
+            && pairs(rt, alloc, plan)?,
     )
 }

@@ -6,6 +6,7 @@ mod checks;
 mod families;
 mod keys;
 mod model;
+mod pairs;
 mod random;
 
 use crate::families::{Plan, agree};

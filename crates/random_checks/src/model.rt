@@ -38,9 +38,14 @@ impl Model {
         }
     }
 
+    /// What is stored at the list.
+    pub fn at(&self, list: &[u8]) -> Option<Stored> {
+        self.stored.get(list).copied()
+    }
+
     /// The value that is stored at the list.
     pub fn get(&self, list: &[u8]) -> Option<u64> {
-        self.stored.get(list).map(|stored| stored.value)
+        self.at(list).map(|stored| stored.value)
     }
 
     /// Stores at the list, and answers the value that was there.
@@ -49,8 +54,19 @@ impl Model {
     }
 
     /// Takes what is at the list away.
-    pub fn remove(&mut self, list: &[u8]) -> Option<u64> {
-        self.stored.remove(list).map(|old| old.value)
+    pub fn remove(&mut self, list: &[u8]) -> Option<Stored> {
+        self.stored.remove(list)
+    }
+
+    /// Takes what is at the first list away.
+    pub fn remove_first(&mut self) -> Option<Stored> {
+        let (_, stored) = self.stored.pop_first()?;
+        Some(stored)
+    }
+
+    /// Takes all away.
+    pub fn clear(&mut self) {
+        self.stored.clear();
     }
 
     /// What is stored at and below the path, in order.
@@ -72,16 +88,21 @@ impl Model {
         Ok(gone)
     }
 
-    /// The longest stored list that begins the list: its length and its value.
-    pub fn above(&self, list: &[u8]) -> Option<(usize, u64)> {
-        let mut nearest = None;
+    /// What is stored at the beginnings of the list, the shortest first.
+    pub fn above(&self, list: &[u8]) -> Result<Vec<Stored>, Memory> {
+        let mut found = Vec::new(self.alloc);
         // A beginning comes before what goes on from it.
-        for (stored, found) in self.stored.iter() {
-            if list.starts_with(stored.as_slice()) {
-                nearest = Some((stored.len(), found.value));
+        for (beginning, stored) in self.stored.iter() {
+            if list.starts_with(beginning.as_slice()) {
+                found.push(*stored)?;
             }
         }
-        nearest
+        Ok(found)
+    }
+
+    /// What is stored at the longest of them.
+    pub fn nearest(&self, list: &[u8]) -> Result<Option<Stored>, Memory> {
+        Ok(self.above(list)?.as_slice().last().copied())
     }
 
     /// Whether two stored lists go on from the path by different nibbles.

@@ -7,35 +7,50 @@ use std::io::Read;
 pub(crate) enum Asked<'a> {
     /// Every test.
     All,
-    /// The test of this name, after so many growths that nothing keeps.
-    One(&'a str, u64),
+    /// One test.
+    One(Test<'a>),
 }
 
-/// The input is longer than a line may be, isn't a name and a number, or can't be read.
+/// A test that is asked for: its name, how many growths are spent before its call, and the number of the growth that is
+/// refused after these, counted from 1 on; 0 where none is.
+#[derive(Clone, Copy)]
+pub(crate) struct Test<'a> {
+    pub(crate) name: &'a str,
+    pub(crate) spent: u64,
+    pub(crate) refused: u64,
+}
+
+/// The input is longer than a line may be, isn't a name and two numbers, or can't be read.
 #[derive(Clone, Copy)]
 pub(crate) struct BadInput;
 
 impl<'a> Asked<'a> {
     /// Reads the input to its end, and takes no memory.
     pub(crate) fn read<R: Read>(reader: &mut R, room: &'a mut [u8]) -> Result<Asked<'a>, BadInput> {
-        Asked::parse(read_all(reader, room)?)
-    }
-
-    /// Nothing, or a name, a space and a number.
-    fn parse(bytes: &'a [u8]) -> Result<Asked<'a>, BadInput> {
-        let Ok(text) = str::from_utf8(bytes) else {
+        let Ok(text) = str::from_utf8(read_all(reader, room)?) else {
             return Err(BadInput);
         };
         let line = text.trim();
         if line.is_empty() {
-            return Ok(Asked::All);
+            Ok(Asked::All)
+        } else {
+            Ok(Asked::One(Test::parse(line)?))
         }
-        let Some((name, number)) = line.split_once(' ') else {
-            return Err(BadInput);
-        };
-        match number.parse::<u64>() {
-            Ok(spent) => Ok(Asked::One(name, spent)),
-            Err(_) => Err(BadInput),
+    }
+}
+
+impl<'a> Test<'a> {
+    /// A name and two numbers, with a space between each and the next.
+    fn parse(line: &'a str) -> Result<Test<'a>, BadInput> {
+        let (name, numbers) = line.split_once(' ').ok_or(BadInput)?;
+        let (spent, refused) = numbers.split_once(' ').ok_or(BadInput)?;
+        match (spent.parse::<u64>(), refused.parse::<u64>()) {
+            (Ok(spent), Ok(refused)) => Ok(Test {
+                name,
+                spent,
+                refused,
+            }),
+            _ => Err(BadInput),
         }
     }
 }

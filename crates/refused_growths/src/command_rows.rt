@@ -1,215 +1,134 @@
-//! Runs of one command, and of three.
+//! Runs of one command.
 
-use crate::commands::{Answer, Inner, Order, run_of_three};
+use crate::commands::{Answer, Order};
+use crate::held::Held;
 use crate::runs::Run;
 use crate::trie_calls::{Call, Row, run_rows};
-use crate::tries::{ABC, EIGHT, EMPTY, FOUR, LONG, ONE, ONE_MORE, PARTED, SEVEN};
+use crate::tries::LONG;
 
-const ROWS: [Row; 30] = [
+const ROWS: [Row; 20] = [
     (
         "run.insert.empty",
-        EMPTY,
+        Held::Empty,
         Call::Run(Order::Insert(LONG, 2), Answer::Old(None)),
-        ONE,
+        Held::One,
     ),
     (
         "run.insert.seven",
-        SEVEN,
+        Held::Seven,
         Call::Run(Order::Insert(LONG, 3), Answer::Old(None)),
-        EIGHT,
+        Held::Eight,
     ),
     (
         "run.insert.one",
-        ONE,
+        Held::One,
         Call::Run(Order::Insert(LONG, 3), Answer::Old(Some(2))),
-        ONE_MORE,
+        Held::OneMore,
     ),
     (
         "run.remove.empty",
-        EMPTY,
+        Held::Empty,
         Call::Run(Order::Remove(LONG), Answer::Old(None)),
-        EMPTY,
+        Held::Empty,
     ),
     (
         "run.remove.seven",
-        SEVEN,
+        Held::Seven,
         Call::Run(Order::Remove(LONG), Answer::Old(None)),
-        SEVEN,
+        Held::Seven,
     ),
     (
         "run.remove.one",
-        ONE,
+        Held::One,
         Call::Run(Order::Remove(LONG), Answer::Old(Some(2))),
-        EMPTY,
+        Held::Empty,
     ),
     (
         "run.remove.long_merge",
-        PARTED,
+        Held::Parted,
         Call::Run(Order::Remove("ab"), Answer::Old(Some(1))),
-        ONE,
+        Held::One,
     ),
     (
         "run.remove_prefix.empty",
-        EMPTY,
+        Held::Empty,
         Call::Run(Order::RemovePrefix(LONG), Answer::Gone(&[])),
-        EMPTY,
+        Held::Empty,
     ),
     (
         "run.remove_prefix.seven",
-        SEVEN,
+        Held::Seven,
         Call::Run(Order::RemovePrefix("abc"), Answer::Gone(&[17, 18, 19])),
-        FOUR,
+        Held::Four,
     ),
     (
         "run.remove_prefix.one",
-        ONE,
+        Held::One,
         Call::Run(Order::RemovePrefix(LONG), Answer::Gone(&[2])),
-        EMPTY,
+        Held::Empty,
     ),
     (
         "run.remove_prefix.long_merge",
-        PARTED,
+        Held::Parted,
         Call::Run(Order::RemovePrefix("ab"), Answer::Gone(&[1])),
-        ONE,
+        Held::One,
     ),
     (
         "run.get.empty",
-        EMPTY,
+        Held::Empty,
         Call::Run(Order::Get(LONG), Answer::Found(None)),
-        EMPTY,
+        Held::Empty,
     ),
     (
         "run.get.seven",
-        SEVEN,
+        Held::Seven,
         Call::Run(Order::Get(LONG), Answer::Found(None)),
-        SEVEN,
+        Held::Seven,
     ),
     (
         "run.get.one",
-        ONE,
+        Held::One,
         Call::Run(Order::Get(LONG), Answer::Found(Some(2))),
-        ONE,
+        Held::One,
     ),
     (
         "run.ancestor.empty",
-        EMPTY,
+        Held::Empty,
         Call::Run(Order::Ancestor(LONG), Answer::Found(None)),
-        EMPTY,
+        Held::Empty,
     ),
     (
         "run.ancestor.seven",
-        SEVEN,
+        Held::Seven,
         Call::Run(Order::Ancestor(LONG), Answer::Found(Some(15))),
-        SEVEN,
+        Held::Seven,
     ),
     (
         "run.ancestor.one",
-        ONE,
+        Held::One,
         Call::Run(Order::Ancestor(LONG), Answer::Found(Some(2))),
-        ONE,
+        Held::One,
     ),
     (
         "run.len.empty",
-        EMPTY,
+        Held::Empty,
         Call::Run(Order::Len, Answer::Number(0)),
-        EMPTY,
+        Held::Empty,
     ),
     (
         "run.len.seven",
-        SEVEN,
+        Held::Seven,
         Call::Run(Order::Len, Answer::Number(7)),
-        SEVEN,
+        Held::Seven,
     ),
     (
-        "run.within.insert.empty",
-        EMPTY,
-        Call::Run(
-            Order::Within("", Inner::Insert("abc", 3)),
-            Answer::Old(None),
-        ),
-        ABC,
-    ),
-    (
-        "run.within.insert.seven",
-        SEVEN,
-        Call::Run(
-            Order::Within("a", Inner::Insert(LONG, 3)),
-            Answer::Old(None),
-        ),
-        EIGHT,
-    ),
-    (
-        "run.within.insert.one",
-        ONE,
-        Call::Run(
-            Order::Within(LONG, Inner::Insert(LONG, 3)),
-            Answer::Old(Some(2)),
-        ),
-        ONE_MORE,
-    ),
-    (
-        "run.within.remove.seven",
-        SEVEN,
-        Call::Run(Order::Within("a", Inner::Remove(LONG)), Answer::Old(None)),
-        SEVEN,
-    ),
-    (
-        "run.within.remove.long_merge",
-        PARTED,
-        Call::Run(Order::Within("", Inner::Remove("ab")), Answer::Old(Some(1))),
-        ONE,
-    ),
-    (
-        "run.within.remove_prefix.seven",
-        SEVEN,
-        Call::Run(
-            Order::Within("a", Inner::RemovePrefix("abc")),
-            Answer::Gone(&[17, 18, 19]),
-        ),
-        FOUR,
-    ),
-    (
-        "run.within.remove_prefix.one",
-        ONE,
-        Call::Run(
-            Order::Within(LONG, Inner::RemovePrefix(LONG)),
-            Answer::Gone(&[2]),
-        ),
-        EMPTY,
-    ),
-    (
-        "run.within.get.one",
-        ONE,
-        Call::Run(
-            Order::Within(LONG, Inner::Get(LONG)),
-            Answer::Found(Some(2)),
-        ),
-        ONE,
-    ),
-    (
-        "run.within.get.outside",
-        SEVEN,
-        Call::Run(Order::Within("b", Inner::Get(LONG)), Answer::Closed),
-        SEVEN,
-    ),
-    (
-        "run.within.len.seven",
-        SEVEN,
-        Call::Run(Order::Within("a", Inner::Len), Answer::Number(6)),
-        SEVEN,
-    ),
-    (
-        "run.within.outside",
-        SEVEN,
-        Call::Run(Order::Within("ab", Inner::Get(LONG)), Answer::Outside),
-        SEVEN,
+        "run.len.one",
+        Held::One,
+        Call::Run(Order::Len, Answer::Number(1)),
+        Held::One,
     ),
 ];
 
 pub(crate) fn run_all<R: Print>(run: &mut Run<'_, R>) {
-    run_rows(run, &ROWS, true);
-    if run.starts("run.three") {
-        let outcome = run_of_three(run.alloc());
-        run.ends(outcome);
-    }
+    run_rows(run, &ROWS);
 }

@@ -1,9 +1,6 @@
 //! Lists of commands.
 
-use crate::outcome::{Fault, Outcome, TWICE, see};
-use crate::states::{Pairs, State};
-use crate::tries::EMPTY;
-use radix_trie::{Command, Memory, Reply, Trie, ViewCommand, run};
+use radix_trie::{Command, Memory, Reply, ViewCommand, run};
 use std::alloc::{AllocError, Global};
 use trie_samples::Texts;
 
@@ -100,61 +97,4 @@ fn is_answer(reply: &Reply<u64>, answer: &Answer) -> bool {
         (Reply::Outside, Answer::Outside) => true,
         _ => false,
     }
-}
-
-/// Two insertions and a count.
-fn three_commands(alloc: Global) -> Result<Vec<Command<&'static str, u64>>, AllocError> {
-    Ok(vec![in alloc;
-        Command::Insert("abc", 1),
-        Command::Insert("abd", 2),
-        Command::Len,
-    ]?)
-}
-
-fn three(alloc: Global) -> Result<Vec<Command<&'static str, u64>>, Fault> {
-    match three_commands(alloc) {
-        Ok(commands) => Ok(commands),
-        Err(_) => Ok(three_commands(alloc)?),
-    }
-}
-
-/// A refusal of the run changes nothing; the refusal of one command is replied, and the run goes on.
-pub(crate) fn run_of_three(alloc: Global) -> Outcome {
-    let mut trie = Trie::new(alloc);
-    match run(&mut trie, three(alloc)?) {
-        Ok(replies) => see_three(&trie, replies.as_slice()),
-        Err(_) => {
-            EMPTY.see(&trie)?;
-            let Ok(replies) = run(&mut trie, three(alloc)?) else {
-                return Err(TWICE);
-            };
-            see(!see_three(&trie, replies.as_slice())?, "a second refusal")?;
-            Ok(true)
-        }
-    }
-}
-
-const ONE_PAIR: (u128, u128) = (2, 6);
-
-/// The replies, and what the trie then holds. Whether one of the insertions was refused.
-fn see_three(trie: &Texts, replies: &[Reply<u64>]) -> Outcome {
-    match replies {
-        [Reply::Old(None), Reply::Old(None), Reply::Number(2)] => {
-            see_pairs(trie, &[("abc", 1), ("abd", 2)], (4, 7))?;
-            Ok(false)
-        }
-        [Reply::Refused, Reply::Old(None), Reply::Number(1)] => {
-            see_pairs(trie, &[("abd", 2)], ONE_PAIR)?;
-            Ok(true)
-        }
-        [Reply::Old(None), Reply::Refused, Reply::Number(1)] => {
-            see_pairs(trie, &[("abc", 1)], ONE_PAIR)?;
-            Ok(true)
-        }
-        _ => Err(Fault("other replies")),
-    }
-}
-
-fn see_pairs(trie: &Texts, walk: Pairs, footprint: (u128, u128)) -> Result<(), Fault> {
-    State { walk, footprint }.see(trie)
 }

@@ -1,6 +1,6 @@
 //! Tries of texts as JSON values, and back.
 
-use crate::outcome::{Fault, Outcome, allowed, see, see_answer};
+use crate::outcome::{Fault, Outcome, see, see_answer};
 use crate::runs::Run;
 use radix_trie::{JsonError, Trie, from_value, to_value};
 use serde_json::Value;
@@ -18,7 +18,13 @@ type Row = (
 );
 
 const ROWS: [Row; 4] = [
-    ("to_value.empty", "from_value.empty", "{}", 0, (1, 0)),
+    (
+        "light.to_value.empty",
+        "light.from_value.empty",
+        "{}",
+        0,
+        (1, 0),
+    ),
     (
         "to_value.seven",
         "from_value.seven",
@@ -42,20 +48,9 @@ const ROWS: [Row; 4] = [
     ),
 ];
 
-/// The value of a text, by a second try where the first is refused.
+/// The value of a text.
 fn parsed(alloc: Global, text: &str) -> Result<Value, Fault> {
-    match Value::from_str(alloc, text) {
-        Ok(value) => Ok(value),
-        Err(_) => Value::from_str(alloc, text).map_err(|_| Fault("no value")),
-    }
-}
-
-/// The trie of a value, by a second try where the first is refused.
-fn trie_of(alloc: Global, value: &Value) -> Result<Values, Fault> {
-    match from_value(alloc, value) {
-        Ok(trie) => Ok(trie),
-        Err(_) => Ok(from_value(alloc, value)?),
-    }
+    Value::from_str(alloc, text).map_err(|_| Fault("no value"))
 }
 
 /// The object of a trie, by a second try where the first is refused.
@@ -75,9 +70,11 @@ fn see_object(alloc: Global, trie: &Values, value: &Value, row: &Row) -> Result<
 }
 
 /// A trie is written as an object. Where that is refused, the trie is as before, and the same call then answers.
-fn written(alloc: Global, row: &Row) -> Outcome {
+fn written<R: Print>(run: &mut Run<'_, R>, row: &Row) -> Outcome {
+    let alloc = run.alloc();
     let value = parsed(alloc, row.2)?;
-    let trie = trie_of(alloc, &value)?;
+    let trie = from_value(alloc, &value)?;
+    run.is_set_up();
     match to_value(alloc, &trie) {
         Ok(object) => {
             see_answer(object == value)?;
@@ -92,8 +89,10 @@ fn written(alloc: Global, row: &Row) -> Outcome {
 }
 
 /// An object is read as a trie. Where that is refused, the same call then answers.
-fn read(alloc: Global, row: &Row) -> Outcome {
+fn read<R: Print>(run: &mut Run<'_, R>, row: &Row) -> Outcome {
+    let alloc = run.alloc();
     let value = parsed(alloc, row.2)?;
+    run.is_set_up();
     match from_value(alloc, &value) {
         Ok(trie) => {
             see_object(alloc, &trie, &value, row)?;
@@ -109,10 +108,9 @@ fn read(alloc: Global, row: &Row) -> Outcome {
 }
 
 /// Null is read as the empty trie, without memory.
-fn null(alloc: Global) -> Outcome {
-    let Ok(trie) = from_value(alloc, &Value::Null) else {
-        return allowed(Ok(true), false);
-    };
+fn null<R: Print>(run: &mut Run<'_, R>) -> Outcome {
+    run.is_set_up();
+    let trie = from_value(run.alloc(), &Value::Null)?;
     see(trie.is_empty(), "another length")?;
     Ok(false)
 }
@@ -120,16 +118,16 @@ fn null(alloc: Global) -> Outcome {
 pub(crate) fn run_all<R: Print>(run: &mut Run<'_, R>) {
     for row in &ROWS {
         if run.starts(row.0) {
-            let outcome = written(run.alloc(), row);
+            let outcome = written(run, row);
             run.ends(outcome);
         }
         if run.starts(row.1) {
-            let outcome = read(run.alloc(), row);
+            let outcome = read(run, row);
             run.ends(outcome);
         }
     }
     if run.starts("light.from_value.null") {
-        let outcome = null(run.alloc());
+        let outcome = null(run);
         run.ends(outcome);
     }
 }

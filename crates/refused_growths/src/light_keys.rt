@@ -1,85 +1,66 @@
-//! Encodings of light keys: integers, their wrappers, and a short text.
+//! Encodings of light keys: integers, their wrappers, and a short text. The encoding takes no memory, and its bytes do.
 
-use crate::keys::{Asked, tested};
-use crate::outcome::allowed;
+use crate::keys::run_both;
 use crate::runs::Run;
-use radix_trie::{Ascending, BigEndian, LittleEndian, TrieKey};
-
-/// A light key: its encoding takes no memory, and the bytes of it do.
-fn light<K: TrieKey, R: Print>(
-    run: &mut Run<'_, R>,
-    names: (&'static str, &'static str),
-    key: &K,
-    nibbles: &[u8],
-) {
-    let (encode, encode_bytes) = names;
-    if run.starts(encode) {
-        let outcome = tested(run.alloc(), key, Asked::Encode, nibbles);
-        run.ends(allowed(outcome, false));
-    }
-    if run.starts(encode_bytes) {
-        let outcome = tested(run.alloc(), key, Asked::EncodeBytes, nibbles);
-        run.ends(outcome);
-    }
-}
+use radix_trie::{Ascending, BigEndian, LittleEndian};
 
 /// Integers and their wrappers, each with the bytes 61.
 fn run_integers<R: Print>(run: &mut Run<'_, R>) {
-    light(
+    run_both(
         run,
         ("light.encode.u8", "encode_bytes.u8"),
         &0x61u8,
         &[6, 1],
     );
-    light(
+    run_both(
         run,
         ("light.encode.u16", "encode_bytes.u16"),
         &0x6161u16,
         &[6, 1, 6, 1],
     );
-    light(
+    run_both(
         run,
         ("light.encode.u32", "encode_bytes.u32"),
         &0x6161_6161u32,
         &LONG_8,
     );
-    light(
+    run_both(
         run,
         ("light.encode.u64", "encode_bytes.u64"),
         &0x6161_6161_6161_6161u64,
         &LONG_16,
     );
-    light(
+    run_both(
         run,
         ("light.encode.usize", "encode_bytes.usize"),
         &0x6161_6161_6161_6161usize,
         &LONG_16,
     );
-    light(
+    run_both(
         run,
         ("light.encode.i8", "encode_bytes.i8"),
         &0x61i8,
         &[6, 1],
     );
-    light(
+    run_both(
         run,
         ("light.encode.i16", "encode_bytes.i16"),
         &0x6161i16,
         &[6, 1, 6, 1],
     );
-    light(
+    run_both(
         run,
         ("light.encode.i32", "encode_bytes.i32"),
         &0x6161_6161i32,
         &LONG_8,
     );
-    light(
+    run_both(
         run,
         ("light.encode.i64", "encode_bytes.i64"),
         &0x6161_6161_6161_6161i64,
         &LONG_16,
     );
-    light(
+    run_both(
         run,
         ("light.encode.isize", "encode_bytes.isize"),
         &0x6161_6161_6161_6161isize,
@@ -94,25 +75,25 @@ const LONG_16: [u8; 16] = [6, 1, 6, 1, 6, 1, 6, 1, 6, 1, 6, 1, 6, 1, 6, 1];
 
 /// Wrappers. In ascending order the highest bit is turned over: -31 has the byte e1.
 fn run_wrappers<R: Print>(run: &mut Run<'_, R>) {
-    light(
+    run_both(
         run,
         ("light.encode.big", "encode_bytes.big"),
         &BigEndian::from(0x6161u16),
         &[6, 1, 6, 1],
     );
-    light(
+    run_both(
         run,
         ("light.encode.little", "encode_bytes.little"),
         &LittleEndian::from(0x6161u16),
         &[6, 1, 6, 1],
     );
-    light(
+    run_both(
         run,
         ("light.encode.ascending", "encode_bytes.ascending"),
         &Ascending::from(-31i8),
         &[6, 1],
     );
-    light(
+    run_both(
         run,
         ("light.encode.text", "encode_bytes.light_text"),
         &"ab",

@@ -1,165 +1,150 @@
 //! Calls of lists of nibbles, as data.
 
-use crate::outcome::{Fault, Outcome, allowed, see, see_answer};
+use crate::outcome::{Outcome, see, see_answer};
 use crate::runs::Run;
 use crate::states::is_list;
-use crate::tries::{LONG, LONG_LIST};
+use crate::tries::{LIST_32, LIST_36, LONG, LONG_LIST};
 use radix_trie::{Memory, Nibblet, TrieKey};
 use std::alloc::Global;
 use std::mem;
+use trie_samples::list;
 
 /// A text of 16 bytes: its list takes no memory.
 const SIXTEEN: &'static str = "aaaaaaaaaaaaaaaa";
-
-const LIST_32: [u8; 32] = [
-    6, 1, 6, 1, 6, 1, 6, 1, 6, 1, 6, 1, 6, 1, 6, 1, 6, 1, 6, 1, 6, 1, 6, 1, 6, 1, 6, 1, 6, 1, 6, 1,
-];
 
 const LIST_33: [u8; 33] = [
     6, 1, 6, 1, 6, 1, 6, 1, 6, 1, 6, 1, 6, 1, 6, 1, 6, 1, 6, 1, 6, 1, 6, 1, 6, 1, 6, 1, 6, 1, 6, 1,
     6,
 ];
 
-/// The long list without its first nibble.
+const LIST_35: [u8; 35] = [
+    6, 1, 6, 1, 6, 1, 6, 1, 6, 1, 6, 1, 6, 1, 6, 1, 6, 1, 6, 1, 6, 1, 6, 1, 6, 1, 6, 1, 6, 1, 6, 1,
+    6, 1, 6,
+];
+
+/// The long list without its first nibble, and this without its last two.
 const LIST_33_ODD: [u8; 33] = [
     1, 6, 1, 6, 1, 6, 1, 6, 1, 6, 1, 6, 1, 6, 1, 6, 1, 6, 1, 6, 1, 6, 1, 6, 1, 6, 1, 6, 1, 6, 1, 6,
     1,
 ];
 
+const LIST_31_ODD: [u8; 31] = [
+    1, 6, 1, 6, 1, 6, 1, 6, 1, 6, 1, 6, 1, 6, 1, 6, 1, 6, 1, 6, 1, 6, 1, 6, 1, 6, 1, 6, 1, 6, 1,
+];
+
 /// A call of a list, and an index or a nibble for it.
 #[derive(Clone, Copy)]
 enum Call {
-    FromByteVec,
+    /// Makes another list, of the bytes of a text.
+    FromByteVec(&'static str),
     Push(u8),
     Split(usize),
     /// Joins the list of the text a.
     JoinA,
     Tail(usize),
     Clone,
+    /// The clone of the library's trait.
+    LibraryClone,
 }
 
-/// A test: its name, a text, the list of the text, the call, and the list that comes of it.
-type Row = (
-    &'static str,
-    &'static str,
-    &'static [u8],
-    Call,
-    &'static [u8],
-);
+/// A test: its name, a list, the call, and the list that comes of it.
+type Row = (&'static str, &'static [u8], Call, &'static [u8]);
 
-const ROWS: [Row; 9] = [
+const ROWS: [Row; 21] = [
     (
         "list.from_byte_vec",
-        LONG,
-        &LONG_LIST,
-        Call::FromByteVec,
+        &[],
+        Call::FromByteVec(LONG),
         &LONG_LIST,
     ),
-    ("list.push", SIXTEEN, &LIST_32, Call::Push(6), &LIST_33),
-    ("list.split", LONG, &LONG_LIST, Call::Split(0), &LONG_LIST),
-    (
-        "list.split.odd",
-        LONG,
-        &LONG_LIST,
-        Call::Split(1),
-        &LIST_33_ODD,
-    ),
-    ("list.join", SIXTEEN, &LIST_32, Call::JoinA, &LONG_LIST),
-    ("list.tail", LONG, &LONG_LIST, Call::Tail(0), &LONG_LIST),
-    (
-        "list.tail.odd",
-        LONG,
-        &LONG_LIST,
-        Call::Tail(1),
-        &LIST_33_ODD,
-    ),
-    ("list.clone", LONG, &LONG_LIST, Call::Clone, &LONG_LIST),
     (
         "list.from_byte_vec.short",
-        SIXTEEN,
-        &LIST_32,
-        Call::FromByteVec,
+        &[],
+        Call::FromByteVec(SIXTEEN),
         &LIST_32,
     ),
-];
-
-/// What is promised to take no memory.
-const LIGHT: [Row; 7] = [
-    ("light.list.push", "a", &[6, 1], Call::Push(5), &[6, 1, 5]),
+    ("list.push", &LIST_32, Call::Push(6), &LIST_33),
+    ("list.push.long", &LONG_LIST, Call::Push(6), &LIST_35),
+    ("list.split", &LONG_LIST, Call::Split(0), &LONG_LIST),
+    ("list.split.odd", &LONG_LIST, Call::Split(1), &LIST_33_ODD),
+    ("list.join", &LIST_32, Call::JoinA, &LONG_LIST),
+    ("list.join.odd", &LIST_31_ODD, Call::JoinA, &LIST_33_ODD),
+    ("list.join.long", &LONG_LIST, Call::JoinA, &LIST_36),
+    ("list.tail", &LONG_LIST, Call::Tail(0), &LONG_LIST),
+    ("list.tail.odd", &LONG_LIST, Call::Tail(1), &LIST_33_ODD),
+    ("list.clone", &LONG_LIST, Call::Clone, &LONG_LIST),
     (
-        "light.list.split",
-        LONG,
+        "list.library_clone",
         &LONG_LIST,
-        Call::Split(32),
-        &[6, 1],
+        Call::LibraryClone,
+        &LONG_LIST,
     ),
+    ("light.list.push", &[6, 1], Call::Push(5), &[6, 1, 5]),
+    ("light.list.split", &LONG_LIST, Call::Split(32), &[6, 1]),
     (
         "light.list.split.long",
-        LONG,
         &LONG_LIST,
         Call::Split(2),
         &LIST_32,
     ),
-    ("light.list.join", "a", &[6, 1], Call::JoinA, &[6, 1, 6, 1]),
-    ("light.list.tail", LONG, &LONG_LIST, Call::Tail(2), &LIST_32),
+    ("light.list.join", &[6, 1], Call::JoinA, &[6, 1, 6, 1]),
+    ("light.list.tail", &LONG_LIST, Call::Tail(2), &LIST_32),
     (
         "light.list.tail.odd",
-        LONG,
         &LONG_LIST,
         Call::Tail(31),
         &[1, 6, 1],
     ),
-    ("light.list.clone", SIXTEEN, &LIST_32, Call::Clone, &LIST_32),
+    ("light.list.clone", &LIST_32, Call::Clone, &LIST_32),
+    (
+        "light.list.library_clone",
+        &LIST_32,
+        Call::LibraryClone,
+        &LIST_32,
+    ),
 ];
 
 pub(crate) fn run_all<R: Print>(run: &mut Run<'_, R>) {
-    run_rows(run, &ROWS, true);
-    run_rows(run, &LIGHT, false);
+    run_rows(run, &ROWS);
 }
 
-fn run_rows<R: Print>(run: &mut Run<'_, R>, rows: &[Row], may_be_refused: bool) {
-    for (name, text, list, call, wanted) in rows {
+fn run_rows<R: Print>(run: &mut Run<'_, R>, rows: &[Row]) {
+    for (name, before, call, wanted) in rows {
         if run.starts(*name) {
-            let outcome = tested(run.alloc(), *text, *list, call, *wanted);
-            run.ends(allowed(outcome, may_be_refused));
+            let outcome = tested(run, *before, call, *wanted);
+            run.ends(outcome);
         }
     }
 }
 
-/// The call. Where it is refused, the list is as before, and the same call then answers.
-fn tested(alloc: Global, text: &'static str, before: &[u8], call: &Call, wanted: &[u8]) -> Outcome {
-    let mut list = list_of(alloc, text)?;
-    match is_answered(alloc, text, &mut list, call, wanted) {
+/// The call, of a clone, which has no room to spare. Where it is refused, the list is as before, and the same call then
+/// answers.
+fn tested<R: Print>(run: &mut Run<'_, R>, before: &[u8], call: &Call, wanted: &[u8]) -> Outcome {
+    let alloc = run.alloc();
+    let mut list = list(alloc, before)?.clone()?;
+    run.is_set_up();
+    match is_answered(alloc, &mut list, call, wanted) {
         Ok(is_right) => {
             see_answer(is_right)?;
             Ok(false)
         }
         Err(_) => {
             see(is_list(&list, before), "another list")?;
-            see_answer(is_answered(alloc, text, &mut list, call, wanted)?)?;
+            see_answer(is_answered(alloc, &mut list, call, wanted)?)?;
             Ok(true)
         }
-    }
-}
-
-/// The list of a text, by a second try where the first is refused.
-fn list_of(alloc: Global, text: &'static str) -> Result<Nibblet, Fault> {
-    match text.encode(alloc) {
-        Ok(list) => Ok(list),
-        Err(_) => Ok(text.encode(alloc)?),
     }
 }
 
 /// Whether the wanted list comes of the call.
 fn is_answered(
     alloc: Global,
-    text: &'static str,
     list: &mut Nibblet,
     call: &Call,
     wanted: &[u8],
 ) -> Result<bool, Memory> {
     match call {
-        Call::FromByteVec => {
+        Call::FromByteVec(text) => {
             let bytes = Vec::from_slice(alloc, text.as_bytes())?;
             Ok(is_list(&Nibblet::from_byte_vec(alloc, bytes)?, wanted))
         }
@@ -173,6 +158,7 @@ fn is_answered(
         Call::JoinA => is_joined(alloc, list, wanted),
         Call::Tail(i) => Ok(*i <= list.len() && is_list(&list.tail(*i)?, wanted)),
         Call::Clone => Ok(is_list(&list.clone()?, wanted)),
+        Call::LibraryClone => Ok(is_list(&Clone::clone(&*list)?, wanted)),
     }
 }
 

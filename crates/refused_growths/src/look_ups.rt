@@ -1,232 +1,205 @@
-//! Look-ups and walks of a trie.
+//! Look-ups in a trie.
 
+use crate::held::Held;
 use crate::runs::Run;
 use crate::trie_calls::{Call, Row, run_rows};
-use crate::tries::{EMPTY, LONG, LONG_LIST, ONE, ONE_WALK, PARTED, SEVEN, SEVEN_WALK};
+use crate::tries::{LONG, LONG_LIST};
 
-const ROWS: [Row; 38] = [
-    ("get.empty", EMPTY, Call::Get(LONG, None), EMPTY),
-    ("get.seven", SEVEN, Call::Get(LONG, None), SEVEN),
-    ("get.one", ONE, Call::Get(LONG, Some(2)), ONE),
+const ROWS: [Row; 34] = [
+    ("get.empty", Held::Empty, Call::Get(LONG, None), Held::Empty),
+    ("get.seven", Held::Seven, Call::Get(LONG, None), Held::Seven),
+    ("get.one", Held::One, Call::Get(LONG, Some(2)), Held::One),
     (
         "get_counted.empty",
-        EMPTY,
+        Held::Empty,
         Call::GetCounted(LONG, None, 0),
-        EMPTY,
+        Held::Empty,
     ),
     (
         "get_counted.seven",
-        SEVEN,
+        Held::Seven,
         Call::GetCounted(LONG, None, 3),
-        SEVEN,
+        Held::Seven,
     ),
     (
         "get_counted.one",
-        ONE,
+        Held::One,
         Call::GetCounted(LONG, Some(2), 34),
-        ONE,
+        Held::One,
     ),
-    ("subtrie.empty", EMPTY, Call::Subtrie(LONG, None), EMPTY),
-    ("subtrie.seven", SEVEN, Call::Subtrie(LONG, None), SEVEN),
+    (
+        "subtrie.empty",
+        Held::Empty,
+        Call::Subtrie(LONG, None),
+        Held::Empty,
+    ),
+    (
+        "subtrie.seven",
+        Held::Seven,
+        Call::Subtrie(LONG, None),
+        Held::Seven,
+    ),
     (
         "subtrie.one",
-        ONE,
+        Held::One,
         Call::Subtrie(LONG, Some((&LONG_LIST, Some(2)))),
-        ONE,
+        Held::One,
     ),
     (
         "get_ancestor.empty",
-        EMPTY,
+        Held::Empty,
         Call::Ancestor(LONG, None),
-        EMPTY,
+        Held::Empty,
     ),
     (
         "get_ancestor.seven",
-        SEVEN,
+        Held::Seven,
         Call::Ancestor(LONG, Some((&[6, 1], Some(15)))),
-        SEVEN,
+        Held::Seven,
     ),
     (
         "get_ancestor.one",
-        ONE,
+        Held::One,
         Call::Ancestor(LONG, Some((&LONG_LIST, Some(2)))),
-        ONE,
+        Held::One,
     ),
     (
         "get_ancestor_value.empty",
-        EMPTY,
+        Held::Empty,
         Call::AncestorValue(LONG, None),
-        EMPTY,
+        Held::Empty,
     ),
     (
         "get_ancestor_value.seven",
-        SEVEN,
+        Held::Seven,
         Call::AncestorValue(LONG, Some(15)),
-        SEVEN,
+        Held::Seven,
     ),
     (
         "get_ancestor_value.one",
-        ONE,
+        Held::One,
         Call::AncestorValue(LONG, Some(2)),
-        ONE,
+        Held::One,
     ),
     (
         "get_raw_ancestor.empty",
-        EMPTY,
+        Held::Empty,
         Call::RawAncestor(LONG, (&[], None)),
-        EMPTY,
+        Held::Empty,
     ),
     (
         "get_raw_ancestor.seven",
-        SEVEN,
+        Held::Seven,
         Call::RawAncestor(LONG, (&[6, 1, 6], None)),
-        SEVEN,
+        Held::Seven,
     ),
     (
         "get_raw_ancestor.one",
-        ONE,
+        Held::One,
         Call::RawAncestor(LONG, (&LONG_LIST, Some(2))),
-        ONE,
+        Held::One,
     ),
     (
         "get_raw_descendant.empty",
-        EMPTY,
+        Held::Empty,
         Call::RawDescendant(LONG, None),
-        EMPTY,
+        Held::Empty,
     ),
     (
         "get_raw_descendant.seven",
-        SEVEN,
+        Held::Seven,
         Call::RawDescendant(LONG, None),
-        SEVEN,
+        Held::Seven,
     ),
     (
         "get_raw_descendant.one",
-        ONE,
+        Held::One,
         Call::RawDescendant(LONG, Some((&LONG_LIST, Some(2)))),
-        ONE,
+        Held::One,
     ),
     (
         "get_raw_descendant.long_path",
-        ONE,
+        Held::One,
         Call::RawDescendant("a", Some((&LONG_LIST, Some(2)))),
-        ONE,
+        Held::One,
     ),
     (
-        "children.one",
-        ONE,
-        Call::Children(&[(&LONG_LIST, Some(2))]),
-        ONE,
+        "get.parted",
+        Held::Parted,
+        Call::Get(LONG, Some(2)),
+        Held::Parted,
     ),
-    ("iter.empty", EMPTY, Call::Iter(&[]), EMPTY),
-    ("iter.seven", SEVEN, Call::Iter(SEVEN_WALK), SEVEN),
-    ("iter.one", ONE, Call::Iter(ONE_WALK), ONE),
-    ("keys.empty", EMPTY, Call::Keys(&[]), EMPTY),
-    ("keys.seven", SEVEN, Call::Keys(SEVEN_WALK), SEVEN),
-    ("keys.one", ONE, Call::Keys(ONE_WALK), ONE),
-    ("values.empty", EMPTY, Call::Values(&[]), EMPTY),
-    ("values.seven", SEVEN, Call::Values(SEVEN_WALK), SEVEN),
-    ("values.one", ONE, Call::Values(ONE_WALK), ONE),
-    ("check_integrity.empty", EMPTY, Call::Integrity, EMPTY),
-    ("check_integrity.seven", SEVEN, Call::Integrity, SEVEN),
-    ("check_integrity.one", ONE, Call::Integrity, ONE),
-    ("check_integrity.parted", PARTED, Call::Integrity, PARTED),
     (
-        "iter.parted",
-        PARTED,
-        Call::Iter(&[(LONG, 2), ("ab", 1)]),
-        PARTED,
+        "light.get.absent",
+        Held::Seven,
+        Call::Get("abc", None),
+        Held::Seven,
     ),
-    ("get.parted", PARTED, Call::Get(LONG, Some(2)), PARTED),
-];
-
-/// What is promised to take no memory: look-ups of light keys, and answers of at most 32 nibbles.
-const LIGHT: [Row; 16] = [
-    ("light.get.absent", SEVEN, Call::Get("abc", None), SEVEN),
     (
         "light.get.stored",
-        SEVEN,
+        Held::Seven,
         Call::Get("abcd", Some(17)),
-        SEVEN,
+        Held::Seven,
     ),
     (
         "light.get.sixteen",
-        ONE,
+        Held::One,
         Call::Get("aaaaaaaaaaaaaaaa", None),
-        ONE,
+        Held::One,
     ),
     (
         "light.get_counted",
-        SEVEN,
+        Held::Seven,
         Call::GetCounted("abcd", Some(17), 8),
-        SEVEN,
+        Held::Seven,
     ),
     (
         "light.subtrie",
-        SEVEN,
+        Held::Seven,
         Call::Subtrie("ab", Some((&[6, 1, 6, 2], Some(16)))),
-        SEVEN,
+        Held::Seven,
     ),
     (
         "light.get_ancestor",
-        SEVEN,
+        Held::Seven,
         Call::Ancestor("abx", Some((&[6, 1, 6, 2], Some(16)))),
-        SEVEN,
+        Held::Seven,
     ),
     (
         "light.get_ancestor_value",
-        SEVEN,
+        Held::Seven,
         Call::AncestorValue("abcdefg", Some(18)),
-        SEVEN,
+        Held::Seven,
     ),
     (
         "light.get_raw_ancestor",
-        SEVEN,
+        Held::Seven,
         Call::RawAncestor("x", (&[], None)),
-        SEVEN,
+        Held::Seven,
     ),
     (
         "light.get_raw_descendant",
-        SEVEN,
+        Held::Seven,
         Call::RawDescendant(
             "b",
             Some((&[6, 2, 6, 3, 6, 4, 6, 5, 6, 6, 6, 7, 6, 8], Some(29))),
         ),
-        SEVEN,
+        Held::Seven,
     ),
     (
         "light.get_raw_descendant.none",
-        ONE,
+        Held::One,
         Call::RawDescendant("ab", None),
-        ONE,
+        Held::One,
     ),
-    ("light.children.empty", EMPTY, Call::Children(&[]), EMPTY),
-    (
-        "light.children.seven",
-        SEVEN,
-        Call::Children(&[(&[6], None)]),
-        SEVEN,
-    ),
-    ("light.prefix.empty", EMPTY, Call::Prefix(&[]), EMPTY),
-    ("light.prefix.seven", SEVEN, Call::Prefix(&[]), SEVEN),
-    ("light.prefix.one", ONE, Call::Prefix(&[]), ONE),
     (
         "light.get_raw_ancestor.one",
-        ONE,
+        Held::One,
         Call::RawAncestor("aab", (&[], None)),
-        ONE,
+        Held::One,
     ),
 ];
 
-fn run_heavy<R: Print>(run: &mut Run<'_, R>) {
-    run_rows(run, &ROWS, true);
-}
-
-fn run_light<R: Print>(run: &mut Run<'_, R>) {
-    run_rows(run, &LIGHT, false);
-}
-
 pub(crate) fn run_all<R: Print>(run: &mut Run<'_, R>) {
-    run_heavy(run);
-    run_light(run);
+    run_rows(run, &ROWS);
 }

@@ -10,24 +10,24 @@ pub(crate) struct Fault(pub(crate) &'static str);
 /// Whether the test's call was refused. All was as it should be.
 pub(crate) type Outcome = Result<bool, Fault>;
 
-/// One growth alone is refused in a run, so what is tried twice isn't.
-pub(crate) const TWICE: Fault = Fault("a second refusal");
+/// One growth alone is refused in a run: none while a test is set up, and none of a second try.
+pub(crate) const UNASKED: Fault = Fault("a refusal where no growth was to be refused");
 
 impl From<Memory> for Fault {
     fn from(_refused: Memory) -> Fault {
-        TWICE
+        UNASKED
     }
 }
 
 impl From<AllocError> for Fault {
     fn from(_refused: AllocError) -> Fault {
-        TWICE
+        UNASKED
     }
 }
 
 impl From<JsonError> for Fault {
     fn from(_refused: JsonError) -> Fault {
-        TWICE
+        UNASKED
     }
 }
 
@@ -39,14 +39,4 @@ pub(crate) fn see(holds: bool, fault: &'static str) -> Result<(), Fault> {
 /// The answer was the right one.
 pub(crate) fn see_answer(is_right: bool) -> Result<(), Fault> {
     see(is_right, "another answer")
-}
-
-/// The outcome, and a fault where a call was refused that takes no memory.
-pub(crate) fn allowed(outcome: Outcome, may_be_refused: bool) -> Outcome {
-    let was_refused = outcome?;
-    see(
-        may_be_refused || !was_refused,
-        "a refusal of what takes no memory",
-    )?;
-    Ok(was_refused)
 }

@@ -1,10 +1,32 @@
 //! Where the views of the tests stand.
 
-use crate::tries::{LONG, LONG_LIST, ONE_WALK};
+use crate::tries::{A_WALK, LONG, LONG_LIST, ONE_WALK};
 use crate::views::Place;
 
+/// The name of a place.
+#[derive(Clone, Copy)]
+pub(crate) enum Spot {
+    Root,
+    RootOfOne,
+    RootOfTwo,
+    LongPlace,
+    OfA,
+}
+
+impl Spot {
+    pub(crate) fn place(self) -> Place {
+        match self {
+            Spot::Root => ROOT,
+            Spot::RootOfOne => ROOT_OF_ONE,
+            Spot::RootOfTwo => ROOT_OF_TWO,
+            Spot::LongPlace => LONG_PLACE,
+            Spot::OfA => OF_A,
+        }
+    }
+}
+
 /// The root of the empty trie.
-pub(crate) const ROOT: Place = Place {
+const ROOT: Place = Place {
     key: "",
     path: &[],
     prefix: &[],
@@ -12,7 +34,7 @@ pub(crate) const ROOT: Place = Place {
 };
 
 /// The root of the trie of one long text.
-pub(crate) const ROOT_OF_ONE: Place = Place {
+const ROOT_OF_ONE: Place = Place {
     key: "",
     path: &[],
     prefix: &[],
@@ -20,7 +42,7 @@ pub(crate) const ROOT_OF_ONE: Place = Place {
 };
 
 /// The root of the trie of two texts.
-pub(crate) const ROOT_OF_TWO: Place = Place {
+const ROOT_OF_TWO: Place = Place {
     key: "",
     path: &[],
     prefix: &[],
@@ -28,7 +50,7 @@ pub(crate) const ROOT_OF_TWO: Place = Place {
 };
 
 /// The long text, whose fragment is long too.
-pub(crate) const LONG_PLACE: Place = Place {
+const LONG_PLACE: Place = Place {
     key: LONG,
     path: &LONG_LIST,
     prefix: &LONG_LIST,
@@ -36,16 +58,9 @@ pub(crate) const LONG_PLACE: Place = Place {
 };
 
 /// What begins with a in the sample.
-pub(crate) const OF_A: Place = Place {
+const OF_A: Place = Place {
     key: "a",
     path: &[6, 1],
     prefix: &[1],
-    walk: &[
-        ("a", 15),
-        ("ab", 16),
-        ("abcd", 17),
-        ("abcdef", 18),
-        ("abcdefgh", 19),
-        ("acbdef", 30),
-    ],
+    walk: A_WALK,
 };

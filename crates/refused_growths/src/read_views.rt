@@ -1,102 +1,194 @@
 //! Views for reading.
 
-use crate::places::{LONG_PLACE, OF_A, ROOT, ROOT_OF_ONE};
+use crate::held::Held;
+use crate::places::Spot;
 use crate::runs::Run;
-use crate::tries::{EMPTY, LONG, LONG_LIST, ONE, SEVEN};
-use crate::views::{ReadRow, ViewCall, run_reading};
+use crate::tries::{LONG, LONG_LIST};
+use crate::views::{Call, Common, Row, run_rows};
 
-const ROWS: [ReadRow; 17] = [
+const ROWS: [Row; 30] = [
     (
         "read_view.get.empty",
-        EMPTY,
-        ROOT,
-        ViewCall::Get(LONG, Some(None)),
+        Held::Empty,
+        Spot::Root,
+        Call::Get(LONG, Some(None)),
     ),
     (
         "read_view.get.seven",
-        SEVEN,
-        OF_A,
-        ViewCall::Get(LONG, Some(None)),
+        Held::Seven,
+        Spot::OfA,
+        Call::Get(LONG, Some(None)),
     ),
     (
         "read_view.get.one",
-        ONE,
-        LONG_PLACE,
-        ViewCall::Get(LONG, Some(Some(2))),
+        Held::One,
+        Spot::LongPlace,
+        Call::Get(LONG, Some(Some(2))),
     ),
     (
         "read_view.get.outside",
-        SEVEN,
-        OF_A,
-        ViewCall::Get("bbbbbbbbbbbbbbbbb", None),
+        Held::Seven,
+        Spot::OfA,
+        Call::Get("bbbbbbbbbbbbbbbbb", None),
     ),
     (
         "read_view.children.one",
-        ONE,
-        ROOT_OF_ONE,
-        ViewCall::Children(&[(&LONG_LIST, Some(2))]),
+        Held::One,
+        Spot::RootOfOne,
+        Call::Children(&[(&LONG_LIST, Some(2))]),
     ),
-    ("read_view.prefix.one", ONE, LONG_PLACE, ViewCall::Prefix),
-    ("read_view.iter.empty", EMPTY, ROOT, ViewCall::Iter),
-    ("read_view.iter.seven", SEVEN, OF_A, ViewCall::Iter),
-    ("read_view.iter.one", ONE, LONG_PLACE, ViewCall::Iter),
-    ("read_view.iter.root", ONE, ROOT_OF_ONE, ViewCall::Iter),
-    ("read_view.keys.empty", EMPTY, ROOT, ViewCall::Keys),
-    ("read_view.keys.seven", SEVEN, OF_A, ViewCall::Keys),
-    ("read_view.keys.one", ONE, LONG_PLACE, ViewCall::Keys),
-    ("read_view.values.empty", EMPTY, ROOT, ViewCall::Values),
-    ("read_view.values.seven", SEVEN, OF_A, ViewCall::Values),
-    ("read_view.values.one", ONE, LONG_PLACE, ViewCall::Values),
-    ("read_view.values.root", ONE, ROOT_OF_ONE, ViewCall::Values),
-];
-
-/// What is promised to take no memory.
-const LIGHT: [ReadRow; 7] = [
+    (
+        "read_view.prefix.one",
+        Held::One,
+        Spot::LongPlace,
+        Call::Common(Common::Prefix),
+    ),
+    (
+        "light.read_view.iter.empty",
+        Held::Empty,
+        Spot::Root,
+        Call::Common(Common::Iter),
+    ),
+    (
+        "read_view.iter.seven",
+        Held::Seven,
+        Spot::OfA,
+        Call::Common(Common::Iter),
+    ),
+    (
+        "light.read_view.iter.one",
+        Held::One,
+        Spot::LongPlace,
+        Call::Common(Common::Iter),
+    ),
+    (
+        "read_view.iter.root",
+        Held::One,
+        Spot::RootOfOne,
+        Call::Common(Common::Iter),
+    ),
+    (
+        "light.read_view.keys.empty",
+        Held::Empty,
+        Spot::Root,
+        Call::Common(Common::Keys),
+    ),
+    (
+        "read_view.keys.seven",
+        Held::Seven,
+        Spot::OfA,
+        Call::Common(Common::Keys),
+    ),
+    (
+        "light.read_view.keys.one",
+        Held::One,
+        Spot::LongPlace,
+        Call::Common(Common::Keys),
+    ),
+    (
+        "light.read_view.values.empty",
+        Held::Empty,
+        Spot::Root,
+        Call::Common(Common::Values),
+    ),
+    (
+        "read_view.values.seven",
+        Held::Seven,
+        Spot::OfA,
+        Call::Common(Common::Values),
+    ),
+    (
+        "light.read_view.values.one",
+        Held::One,
+        Spot::LongPlace,
+        Call::Common(Common::Values),
+    ),
+    (
+        "read_view.values.root",
+        Held::One,
+        Spot::RootOfOne,
+        Call::Common(Common::Values),
+    ),
     (
         "light.read_view.get",
-        SEVEN,
-        OF_A,
-        ViewCall::Get("abcd", Some(Some(17))),
+        Held::Seven,
+        Spot::OfA,
+        Call::Get("abcd", Some(Some(17))),
     ),
     (
         "light.read_view.get.outside",
-        SEVEN,
-        OF_A,
-        ViewCall::Get("b", None),
+        Held::Seven,
+        Spot::OfA,
+        Call::Get("b", None),
     ),
     (
         "light.read_view.children.empty",
-        EMPTY,
-        ROOT,
-        ViewCall::Children(&[]),
+        Held::Empty,
+        Spot::Root,
+        Call::Children(&[]),
     ),
     (
         "light.read_view.children.seven",
-        SEVEN,
-        OF_A,
-        ViewCall::Children(&[(&[6, 1, 6], None)]),
+        Held::Seven,
+        Spot::OfA,
+        Call::Children(&[(&[6, 1, 6], None)]),
     ),
     (
         "light.read_view.children.one",
-        ONE,
-        LONG_PLACE,
-        ViewCall::Children(&[]),
+        Held::One,
+        Spot::LongPlace,
+        Call::Children(&[]),
     ),
     (
         "light.read_view.prefix.empty",
-        EMPTY,
-        ROOT,
-        ViewCall::Prefix,
+        Held::Empty,
+        Spot::Root,
+        Call::Common(Common::Prefix),
     ),
     (
         "light.read_view.prefix.seven",
-        SEVEN,
-        OF_A,
-        ViewCall::Prefix,
+        Held::Seven,
+        Spot::OfA,
+        Call::Common(Common::Prefix),
+    ),
+    (
+        "read_view.iter_from.empty",
+        Held::Empty,
+        Spot::Root,
+        Call::Common(Common::IterFrom(LONG, 0)),
+    ),
+    (
+        "read_view.iter_from.seven",
+        Held::Seven,
+        Spot::OfA,
+        Call::Common(Common::IterFrom("abcd", 2)),
+    ),
+    (
+        "read_view.iter_from.one",
+        Held::One,
+        Spot::LongPlace,
+        Call::Common(Common::IterFrom(LONG, 0)),
+    ),
+    (
+        "read_view.iter_after.empty",
+        Held::Empty,
+        Spot::Root,
+        Call::Common(Common::IterAfter(LONG, 0)),
+    ),
+    (
+        "read_view.iter_after.seven",
+        Held::Seven,
+        Spot::OfA,
+        Call::Common(Common::IterAfter("abcd", 3)),
+    ),
+    (
+        "read_view.iter_after.one",
+        Held::One,
+        Spot::LongPlace,
+        Call::Common(Common::IterAfter(LONG, 1)),
     ),
 ];
 
 pub(crate) fn run_all<R: Print>(run: &mut Run<'_, R>) {
-    run_reading(run, &ROWS, true);
-    run_reading(run, &LIGHT, false);
+    run_rows(run, &ROWS);
 }

@@ -1,13 +1,16 @@
 //! Tries of texts: what they hold before and after a call.
 
-use crate::outcome::{Fault, TWICE, see};
+use crate::outcome::{Fault, UNASKED, see};
 use radix_trie::iter::{Iter, Keys, Values};
 use radix_trie::{Memory, Nibblet, Trie, TrieCommon};
 use std::alloc::Global;
 use trie_samples::Texts;
 
-/// Pairs of a trie of texts, in the order of the walk.
-pub(crate) type Pairs = &'static [(&'static str, u64)];
+/// A pair of a trie of texts.
+pub(crate) type Pair = (&'static str, u64);
+
+/// Such pairs, in the order of the walk.
+pub(crate) type Pairs = &'static [Pair];
 
 /// What a trie of texts holds.
 #[derive(Clone, Copy)]
@@ -17,13 +20,11 @@ pub(crate) struct State {
 }
 
 impl State {
-    /// The trie that holds this. Where memory for a pair is refused, it is inserted once more.
+    /// The trie that holds this.
     pub(crate) fn trie(&self, alloc: Global) -> Result<Texts, Fault> {
         let mut trie = Trie::new(alloc);
         for (key, value) in self.walk {
-            if trie.insert(*key, *value).is_err() && trie.insert(*key, *value).is_err() {
-                return Err(TWICE);
-            }
+            trie.insert(*key, *value).map_err(|_| UNASKED)?;
         }
         Ok(trie)
     }
@@ -45,7 +46,7 @@ fn walks(trie: &Texts, pairs: Pairs) -> Result<bool, Memory> {
 }
 
 /// Whether the walk goes over these pairs.
-pub(crate) fn are_pairs(walk: Iter<'_, &'static str, u64>, pairs: Pairs) -> bool {
+pub(crate) fn are_pairs<K: PartialEq>(walk: Iter<'_, K, u64>, pairs: &[(K, u64)]) -> bool {
     let mut walk = walk;
     for (key, value) in pairs {
         if walk.next() != Some((key, value)) {
@@ -56,7 +57,7 @@ pub(crate) fn are_pairs(walk: Iter<'_, &'static str, u64>, pairs: Pairs) -> bool
 }
 
 /// Whether the walk goes over the keys of these pairs.
-pub(crate) fn are_keys(keys: Keys<'_, &'static str, u64>, pairs: Pairs) -> bool {
+pub(crate) fn are_keys<K: PartialEq>(keys: Keys<'_, K, u64>, pairs: &[(K, u64)]) -> bool {
     let mut keys = keys;
     for (key, _) in pairs {
         if keys.next() != Some(key) {
@@ -67,7 +68,7 @@ pub(crate) fn are_keys(keys: Keys<'_, &'static str, u64>, pairs: Pairs) -> bool 
 }
 
 /// Whether the walk goes over the values of these pairs.
-pub(crate) fn are_values(values: Values<'_, &'static str, u64>, pairs: Pairs) -> bool {
+pub(crate) fn are_values<K>(values: Values<'_, K, u64>, pairs: &[(K, u64)]) -> bool {
     let mut values = values;
     for (_, value) in pairs {
         if values.next() != Some(value) {

@@ -5,10 +5,13 @@ use crate::answers::{
     is_opened, is_seen_to_write, is_sight, is_taken,
 };
 use crate::commands::{Answer, Order, is_run};
-use crate::outcome::{Outcome, allowed, see_answer};
+use crate::held::Held;
+use crate::outcome::{Outcome, see_answer};
+use crate::pair_answers::{are_above, are_first, are_handed_out, is_pair};
 use crate::runs::Run;
-use crate::states::{Pairs, State, are_keys, are_pairs, are_values, is_list};
-use radix_trie::{Memory, TrieCommon};
+use crate::states::{Pair, Pairs, State};
+use crate::views::{Common, is_common};
+use radix_trie::Memory;
 use std::alloc::Global;
 use trie_samples::Texts;
 
@@ -17,10 +20,20 @@ use trie_samples::Texts;
 pub(crate) enum Call {
     Get(&'static str, Option<u64>),
     GetCounted(&'static str, Option<u64>, usize),
+    ContainsKey(&'static str, bool),
+    GetKeyValue(&'static str, Option<Pair>),
+    CommonPrefixes(&'static str, Pairs),
+    /// At most so many pairs.
+    FirstBelow(&'static str, usize, Pairs),
     Insert(&'static str, u64, Option<u64>),
     /// Adds one to the value, or stores the default.
     MapWithDefault(&'static str, u64),
     Remove(&'static str, Option<u64>),
+    RemoveEntry(&'static str, Option<Pair>),
+    PopFirst(Option<Pair>),
+    PopLast(Option<Pair>),
+    /// Leaves the empty trie.
+    IntoPairs(Pairs),
     RemovePrefix(&'static str, Pairs),
     /// Adds one to the value of the first answer, if there is one.
     FindMut(&'static str, Option<u64>),
@@ -32,35 +45,35 @@ pub(crate) enum Call {
     AncestorValue(&'static str, Option<u64>),
     RawAncestor(&'static str, Sight),
     RawDescendant(&'static str, Option<Sight>),
-    Prefix(&'static [u8]),
     Children(&'static [Sight]),
-    Iter(Pairs),
-    Keys(Pairs),
-    Values(Pairs),
+    /// Of a trie with this walk.
+    Common(Common<'static>, Pairs),
     Integrity,
     Clone,
     /// Another trie, of these pairs in this order.
-    FromIter(Pairs, State),
+    FromIter(Pairs, Held),
     /// A run of one command.
     Run(Order, Answer),
 }
 
 /// A test: its name, what the trie holds, the call, and what the trie holds after it.
-pub(crate) type Row = (&'static str, State, Call, State);
+pub(crate) type Row = (&'static str, Held, Call, Held);
 
 /// Runs the tests. Their calls may be refused, or are promised to take no memory.
-pub(crate) fn run_rows<R: Print>(run: &mut Run<'_, R>, rows: &[Row], may_be_refused: bool) {
+pub(crate) fn run_rows<R: Print>(run: &mut Run<'_, R>, rows: &[Row]) {
     for (name, start, call, end) in rows {
         if run.starts(*name) {
-            let outcome = tested(run.alloc(), start, call, end);
-            run.ends(allowed(outcome, may_be_refused));
+            let outcome = tested(run, &start.state(), call, &end.state());
+            run.ends(outcome);
         }
     }
 }
 
 /// The call. Where it is refused, the trie is as before, and the same call then answers.
-fn tested(alloc: Global, start: &State, call: &Call, end: &State) -> Outcome {
+fn tested<R: Print>(run: &mut Run<'_, R>, start: &State, call: &Call, end: &State) -> Outcome {
+    let alloc = run.alloc();
     let mut trie = start.trie(alloc)?;
+    run.is_set_up();
     let was_refused = match is_answered(alloc, &mut trie, call) {
         Ok(is_right) => {
             see_answer(is_right)?;
@@ -84,6 +97,10 @@ fn is_answered(alloc: Global, trie: &mut Texts, call: &Call) -> Result<bool, Mem
             is_mapped(trie.map_with_default(*key, add_one, *value), *key, *value)
         }
         Call::Remove(key, value) => Ok(trie.remove(key)? == *value),
+        Call::RemoveEntry(key, pair) => Ok(trie.remove_entry(key)? == *pair),
+        Call::PopFirst(pair) => Ok(trie.pop_first()? == *pair),
+        Call::PopLast(pair) => Ok(trie.pop_last()? == *pair),
+        Call::IntoPairs(pairs) => are_handed_out(alloc, trie, *pairs),
         Call::RemovePrefix(key, gone) => is_taken(trie, *key, *gone),
         Call::FindMut(key, value) => is_found(trie, *key, *value),
         Call::GetMut(key, value) => is_got(trie, *key, *value),
@@ -102,6 +119,10 @@ fn is_read(alloc: Global, trie: &Texts, call: &Call) -> Result<bool, Memory> {
             let (found, compared) = trie.get_counted(key)?;
             Ok(found.copied() == *value && compared == *count)
         }
+        Call::ContainsKey(key, is_stored) => Ok(trie.contains_key(key)? == *is_stored),
+        Call::GetKeyValue(key, pair) => Ok(is_pair(trie.get_key_value(key)?, *pair)),
+        Call::CommonPrefixes(key, pairs) => are_above(trie, *key, *pairs),
+        Call::FirstBelow(key, most, pairs) => are_first(trie, *key, *most, *pairs),
         Call::Subtrie(key, sight) => Ok(is_sight(trie.subtrie(key)?, *sight)),
         Call::Ancestor(key, sight) => Ok(is_sight(trie.get_ancestor(key)?, *sight)),
         Call::AncestorValue(key, value) => Ok(trie.get_ancestor_value(key)?.copied() == *value),
@@ -110,14 +131,11 @@ fn is_read(alloc: Global, trie: &Texts, call: &Call) -> Result<bool, Memory> {
             Some(*sight),
         )),
         Call::RawDescendant(key, sight) => Ok(is_sight(trie.get_raw_descendant(key)?, *sight)),
-        Call::Prefix(list) => Ok(is_list(&TrieCommon::prefix(trie)?, list)),
         Call::Children(sights) => Ok(are_children(trie.children()?, sights)),
-        Call::Iter(pairs) => Ok(are_pairs(TrieCommon::iter(trie)?, *pairs)),
-        Call::Keys(pairs) => Ok(are_keys(TrieCommon::keys(trie)?, *pairs)),
-        Call::Values(pairs) => Ok(are_values(TrieCommon::values(trie)?, *pairs)),
+        Call::Common(call, walk) => is_common(trie, *call, &[], *walk),
         Call::Integrity => trie.check_integrity(),
         Call::Clone => is_copied(trie),
-        Call::FromIter(pairs, state) => is_built(alloc, *pairs, state),
+        Call::FromIter(pairs, held) => is_built(alloc, *pairs, &held.state()),
         _ => Ok(false),
     }
 }

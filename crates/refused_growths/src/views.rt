@@ -1,16 +1,13 @@
-//! Calls of views of a trie of texts, as data.
+//! Views of a trie of texts: where they stand, and calls that only read.
 
-use crate::answers::{Sight, are_children, is_inserted};
-use crate::outcome::{Fault, Outcome, TWICE, allowed, see, see_answer};
+use crate::answers::{Sight, are_children};
+use crate::held::Held;
+use crate::outcome::{Fault, Outcome, see, see_answer};
+use crate::places::Spot;
 use crate::runs::Run;
 use crate::states::{Pairs, State, are_keys, are_pairs, are_values, is_list};
-use radix_trie::{InsertWhy, Memory, SubTrie, SubTrieError, SubTrieMut, TrieCommon};
-use std::alloc::Global;
-use trie_samples::Texts;
-
-type ReadView<'a> = SubTrie<'a, &'static str, u64>;
-
-type WriteView<'a> = SubTrieMut<'a, &'static str, u64>;
+use radix_trie::iter::Iter;
+use radix_trie::{Memory, SubTrie, SubTrieError, TrieCommon, TrieKey};
 
 /// Where a view stands: its key, its path and fragment, and the walk at and below it.
 #[derive(Clone, Copy)]
@@ -21,61 +18,54 @@ pub(crate) struct Place {
     pub(crate) walk: Pairs,
 }
 
-/// A call of a view, and what it answers where that isn't said by the view's place. None: the key is outside.
+/// A call that tries and views have in common. What it answers is said by fragment and walk, and for a walk that is
+/// resumed by the count of pairs that it leaves out.
 #[derive(Clone, Copy)]
-pub(crate) enum ViewCall {
-    Get(&'static str, Option<Option<u64>>),
-    Children(&'static [Sight]),
+pub(crate) enum Common<'k> {
     Prefix,
     Iter,
     Keys,
     Values,
+    IterFrom(&'k str, usize),
+    IterAfter(&'k str, usize),
 }
 
-/// A call of a view for writing.
+/// A call of a view, and what it answers where the view's place doesn't say it. None: the key is outside.
 #[derive(Clone, Copy)]
-pub(crate) enum Change {
-    Read(ViewCall),
-    Insert(&'static str, u64, Option<Option<u64>>),
-    Remove(&'static str, Option<Option<u64>>),
-    RemovePrefix(&'static str, Option<Pairs>),
+pub(crate) enum Call {
+    Get(&'static str, Option<Option<u64>>),
+    Children(&'static [Sight]),
+    Common(Common<'static>),
 }
 
 /// A test of a view for reading.
-pub(crate) type ReadRow = (&'static str, State, Place, ViewCall);
+pub(crate) type Row = (&'static str, Held, Spot, Call);
 
-/// A test of a view for writing, and what the trie holds after it.
-pub(crate) type WriteRow = (&'static str, State, Place, Change, State);
-
-pub(crate) fn run_reading<R: Print>(run: &mut Run<'_, R>, rows: &[ReadRow], may_be_refused: bool) {
-    for (name, start, place, call) in rows {
+pub(crate) fn run_rows<R: Print>(run: &mut Run<'_, R>, rows: &[Row]) {
+    for (name, start, spot, call) in rows {
         if run.starts(*name) {
-            let outcome = read(run.alloc(), start, place, call);
-            run.ends(allowed(outcome, may_be_refused));
+            let outcome = tested(run, &start.state(), &spot.place(), call);
+            run.ends(outcome);
         }
     }
 }
 
-pub(crate) fn run_writing<R: Print>(run: &mut Run<'_, R>, rows: &[WriteRow], may_be_refused: bool) {
-    for (name, start, place, call, end) in rows {
-        if run.starts(*name) {
-            let outcome = written(run.alloc(), start, place, call, end);
-            run.ends(allowed(outcome, may_be_refused));
-        }
-    }
-}
-
-/// The call in a view for reading. Where it is refused, trie and view are as before, and the same call then answers.
-fn read(alloc: Global, start: &State, place: &Place, call: &ViewCall) -> Outcome {
-    let trie = start.trie(alloc)?;
-    let view = opened(&trie, place.key)?;
+/// The call. Where it is refused, trie and view are as before, and the same call then answers.
+fn tested<R: Print>(run: &mut Run<'_, R>, start: &State, place: &Place, call: &Call) -> Outcome {
+    let trie = start.trie(run.alloc())?;
+    let Some(view) = trie.subtrie(&place.key)? else {
+        return Err(Fault("no view"));
+    };
+    run.is_set_up();
     match is_read(&view, place, call) {
         Ok(is_right) => {
             see_answer(is_right)?;
             Ok(false)
         }
         Err(_) => {
-            see_read_view(&view, place)?;
+            see(is_list(view.path(), place.path), "another path")?;
+            let is_kept_below = is_kept(&view, place.prefix, place.walk)?;
+            see(is_kept_below, "another view")?;
             start.see(&trie)?;
             see_answer(is_read(&view, place, call)?)?;
             Ok(true)
@@ -83,32 +73,21 @@ fn read(alloc: Global, start: &State, place: &Place, call: &ViewCall) -> Outcome
     }
 }
 
-/// The view for reading, by a second try where the first is refused.
-fn opened<'a>(trie: &'a Texts, key: &'static str) -> Result<ReadView<'a>, Fault> {
-    let found = match trie.subtrie(&key) {
-        Ok(found) => found,
-        Err(_) => trie.subtrie(&key)?,
-    };
-    match found {
-        Some(view) => Ok(view),
-        None => Err(Fault("no view")),
-    }
-}
-
-/// Whether the view for reading answers so.
-fn is_read(view: &ReadView<'_>, place: &Place, call: &ViewCall) -> Result<bool, Memory> {
+/// Whether the view answers so.
+fn is_read(
+    view: &SubTrie<'_, &'static str, u64>,
+    place: &Place,
+    call: &Call,
+) -> Result<bool, Memory> {
     match call {
-        ViewCall::Get(key, value) => is_answer(view.get(key), *value),
-        ViewCall::Children(sights) => Ok(are_children(view.children()?, sights)),
-        ViewCall::Prefix => Ok(is_list(&TrieCommon::prefix(view)?, place.prefix)),
-        ViewCall::Iter => Ok(are_pairs(TrieCommon::iter(view)?, place.walk)),
-        ViewCall::Keys => Ok(are_keys(TrieCommon::keys(view)?, place.walk)),
-        ViewCall::Values => Ok(are_values(TrieCommon::values(view)?, place.walk)),
+        Call::Get(key, value) => is_answer(view.get(key), *value),
+        Call::Children(sights) => Ok(are_children(view.children()?, sights)),
+        Call::Common(call) => is_common(view, *call, place.prefix, place.walk),
     }
 }
 
 /// Whether the value is this one, or the key is outside.
-fn is_answer(
+pub(crate) fn is_answer(
     found: Result<Option<&u64>, SubTrieError>,
     wanted: Option<Option<u64>>,
 ) -> Result<bool, Memory> {
@@ -119,98 +98,40 @@ fn is_answer(
     }
 }
 
-/// The view for reading is where it was made.
-fn see_read_view(view: &ReadView<'_>, place: &Place) -> Result<(), Fault> {
-    see(is_list(view.path(), place.path), "another path")?;
-    see(is_read(view, place, &ViewCall::Prefix)?, "another prefix")?;
-    see(is_read(view, place, &ViewCall::Iter)?, "another walk below")
-}
-
-/// The call in a view for writing. Where it is refused, trie and view are as before, and the same call in a new view
-/// then answers.
-fn written(alloc: Global, start: &State, place: &Place, call: &Change, end: &State) -> Outcome {
-    let mut trie = start.trie(alloc)?;
-    let first = match in_view(&mut trie, place, call) {
-        Some(refused) => refused?,
-        None => in_view(&mut trie, place, call).ok_or(TWICE)??,
-    };
-    if first {
-        start.see(&trie)?;
-        let second = in_view(&mut trie, place, call).ok_or(TWICE)??;
-        see(!second, "a second refusal")?;
-    }
-    end.see(&trie)?;
-    Ok(first)
-}
-
-/// Whether the call in a new view is refused; None where the view isn't opened.
-fn in_view(trie: &mut Texts, place: &Place, call: &Change) -> Option<Outcome> {
-    match trie.open_mut(&place.key) {
-        Ok(mut view) => Some(is_refused(&mut view, place, call)),
-        Err(_) => None,
-    }
-}
-
-/// Whether the call is refused. Its answer is the right one, or the view is as before.
-fn is_refused(view: &mut WriteView<'_>, place: &Place, call: &Change) -> Outcome {
-    match is_written(view, place, call) {
-        Ok(is_right) => {
-            see_answer(is_right)?;
-            Ok(false)
-        }
-        Err(_) => {
-            see_write_view(&*view, place)?;
-            Ok(true)
-        }
-    }
-}
-
-/// Whether the view for writing answers so.
-fn is_written(view: &mut WriteView<'_>, place: &Place, call: &Change) -> Result<bool, Memory> {
+/// Whether a trie or a view with this fragment and walk answers so.
+pub(crate) fn is_common<'a, K: TrieKey + PartialEq + 'a, T: TrieCommon<'a, K, u64>>(
+    of: T,
+    call: Common<'_>,
+    prefix: &[u8],
+    walk: &[(K, u64)],
+) -> Result<bool, Memory> {
     match call {
-        Change::Read(call) => is_read_to_write(&*view, place, call),
-        Change::Insert(key, value, Some(old)) => {
-            is_inserted(view.insert(*key, *value), *key, *value, *old)
-        }
-        Change::Insert(key, value, None) => Ok(
-            view.insert(*key, *value).is_err_and(|error| {
-                error.why == InsertWhy::Outside && error.key == *key && error.value == *value
-            }),
-        ),
-        Change::Remove(key, old) => match view.remove(key) {
-            Ok(was) => Ok(*old == Some(was)),
-            Err(SubTrieError::Outside) => Ok(old.is_none()),
-            Err(SubTrieError::Memory) => Err(Memory),
-        },
-        Change::RemovePrefix(key, gone) => match view.remove_prefix(key) {
-            Ok(taken) => Ok(gone.is_some_and(|gone| taken.as_slice() == gone)),
-            Err(SubTrieError::Outside) => Ok(gone.is_none()),
-            Err(SubTrieError::Memory) => Err(Memory),
-        },
+        Common::Prefix => Ok(is_list(&of.prefix()?, prefix)),
+        Common::Iter => Ok(are_pairs(of.iter()?, walk)),
+        Common::Keys => Ok(are_keys(of.keys()?, walk)),
+        Common::Values => Ok(are_values(of.values()?, walk)),
+        Common::IterFrom(key, left_out) => Ok(are_rest(of.iter_from(&key)?, left_out, walk)),
+        Common::IterAfter(key, left_out) => Ok(are_rest(of.iter_after(&key)?, left_out, walk)),
     }
 }
 
-/// Whether a call that only reads answers so in a view for writing.
-fn is_read_to_write(view: &WriteView<'_>, place: &Place, call: &ViewCall) -> Result<bool, Memory> {
-    match call {
-        ViewCall::Get(key, value) => is_answer(view.get(key), *value),
-        ViewCall::Children(sights) => Ok(are_children(view.children()?, sights)),
-        ViewCall::Prefix => Ok(is_list(&TrieCommon::prefix(view)?, place.prefix)),
-        ViewCall::Iter => Ok(are_pairs(TrieCommon::iter(view)?, place.walk)),
-        ViewCall::Keys => Ok(are_keys(TrieCommon::keys(view)?, place.walk)),
-        ViewCall::Values => Ok(are_values(TrieCommon::values(view)?, place.walk)),
+/// Whether the resumed walk goes over these pairs without the first ones, so many.
+fn are_rest<K: PartialEq>(resumed: Iter<'_, K, u64>, left_out: usize, walk: &[(K, u64)]) -> bool {
+    match walk.get(left_out..) {
+        Some(rest) => are_pairs(resumed, rest),
+        None => false,
     }
 }
 
-/// The view for writing is where it was made.
-fn see_write_view(view: &WriteView<'_>, place: &Place) -> Result<(), Fault> {
-    see(is_list(view.path(), place.path), "another path")?;
-    see(
-        is_read_to_write(view, place, &ViewCall::Prefix)?,
-        "another prefix",
-    )?;
-    see(
-        is_read_to_write(view, place, &ViewCall::Iter)?,
-        "another walk below",
+/// Whether the view's length, fragment and walk are these.
+pub(crate) fn is_kept<'a, K: TrieKey + PartialEq + 'a, T: TrieCommon<'a, K, u64> + Copy>(
+    view: T,
+    prefix: &[u8],
+    walk: &[(K, u64)],
+) -> Result<bool, Memory> {
+    Ok(
+        view.len() == walk.len()
+            && is_common(view, Common::Prefix, prefix, walk)?
+            && is_common(view, Common::Iter, prefix, walk)?,
     )
 }

@@ -1,140 +1,136 @@
 //! Views for writing: changes.
 
-use crate::places::{LONG_PLACE, OF_A, ROOT, ROOT_OF_ONE, ROOT_OF_TWO};
+use crate::held::Held;
+use crate::places::Spot;
 use crate::runs::Run;
-use crate::tries::{EIGHT, EMPTY, FOUR, LONG, ONE, ONE_MORE, ONE_WALK, PARTED, SEVEN};
-use crate::views::{Change, WriteRow, run_writing};
+use crate::tries::{LONG, ONE_WALK};
+use crate::write_views::{Change, Row, run_rows};
 
-const ROWS: [WriteRow; 13] = [
+const ROWS: [Row; 17] = [
     (
         "write_view.insert.empty",
-        EMPTY,
-        ROOT,
+        Held::Empty,
+        Spot::Root,
         Change::Insert(LONG, 2, Some(None)),
-        ONE,
+        Held::One,
     ),
     (
         "write_view.insert.seven",
-        SEVEN,
-        OF_A,
+        Held::Seven,
+        Spot::OfA,
         Change::Insert(LONG, 3, Some(None)),
-        EIGHT,
+        Held::Eight,
     ),
     (
         "write_view.insert.one",
-        ONE,
-        LONG_PLACE,
+        Held::One,
+        Spot::LongPlace,
         Change::Insert(LONG, 3, Some(Some(2))),
-        ONE_MORE,
+        Held::OneMore,
     ),
     (
         "write_view.insert.root",
-        ONE,
-        ROOT_OF_ONE,
+        Held::One,
+        Spot::RootOfOne,
         Change::Insert("ab", 1, Some(None)),
-        PARTED,
+        Held::Parted,
     ),
     (
         "write_view.remove.empty",
-        EMPTY,
-        ROOT,
+        Held::Empty,
+        Spot::Root,
         Change::Remove(LONG, Some(None)),
-        EMPTY,
+        Held::Empty,
     ),
     (
         "write_view.remove.seven",
-        SEVEN,
-        OF_A,
+        Held::Seven,
+        Spot::OfA,
         Change::Remove(LONG, Some(None)),
-        SEVEN,
+        Held::Seven,
     ),
     (
         "write_view.remove.one",
-        ONE,
-        LONG_PLACE,
+        Held::One,
+        Spot::LongPlace,
         Change::Remove(LONG, Some(Some(2))),
-        EMPTY,
+        Held::Empty,
     ),
     (
         "write_view.remove.long_merge",
-        PARTED,
-        ROOT_OF_TWO,
+        Held::Parted,
+        Spot::RootOfTwo,
         Change::Remove("ab", Some(Some(1))),
-        ONE,
+        Held::One,
     ),
     (
         "write_view.remove_prefix.empty",
-        EMPTY,
-        ROOT,
+        Held::Empty,
+        Spot::Root,
         Change::RemovePrefix(LONG, Some(&[])),
-        EMPTY,
+        Held::Empty,
     ),
     (
         "write_view.remove_prefix.seven",
-        SEVEN,
-        OF_A,
+        Held::Seven,
+        Spot::OfA,
         Change::RemovePrefix(
             "abc",
             Some(&[("abcd", 17), ("abcdef", 18), ("abcdefgh", 19)]),
         ),
-        FOUR,
+        Held::Four,
     ),
     (
         "write_view.remove_prefix.absent",
-        SEVEN,
-        OF_A,
+        Held::Seven,
+        Spot::OfA,
         Change::RemovePrefix(LONG, Some(&[])),
-        SEVEN,
+        Held::Seven,
     ),
     (
         "write_view.remove_prefix.one",
-        ONE,
-        LONG_PLACE,
+        Held::One,
+        Spot::LongPlace,
         Change::RemovePrefix(LONG, Some(ONE_WALK)),
-        EMPTY,
+        Held::Empty,
     ),
     (
         "write_view.remove_prefix.long_merge",
-        PARTED,
-        ROOT_OF_TWO,
+        Held::Parted,
+        Spot::RootOfTwo,
         Change::RemovePrefix("ab", Some(&[("ab", 1)])),
-        ONE,
+        Held::One,
     ),
-];
-
-/// What is promised to take no memory.
-const LIGHT: [WriteRow; 4] = [
     (
         "light.write_view.insert.outside",
-        SEVEN,
-        OF_A,
+        Held::Seven,
+        Spot::OfA,
         Change::Insert("b", 1, None),
-        SEVEN,
+        Held::Seven,
     ),
     (
         "light.write_view.insert.stored",
-        SEVEN,
-        OF_A,
+        Held::Seven,
+        Spot::OfA,
         Change::Insert("abcd", 17, Some(Some(17))),
-        SEVEN,
+        Held::Seven,
     ),
     (
         "light.write_view.remove",
-        SEVEN,
-        OF_A,
+        Held::Seven,
+        Spot::OfA,
         Change::Remove("abx", Some(None)),
-        SEVEN,
+        Held::Seven,
     ),
     (
         "light.write_view.remove_prefix.outside",
-        SEVEN,
-        OF_A,
+        Held::Seven,
+        Spot::OfA,
         Change::RemovePrefix("b", None),
-        SEVEN,
+        Held::Seven,
     ),
 ];
 
 pub(crate) fn run_all<R: Print>(run: &mut Run<'_, R>) {
-    run_writing(run, &ROWS, true);
-    run_writing(run, &LIGHT, false);
+    run_rows(run, &ROWS);
 }

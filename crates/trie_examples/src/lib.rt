@@ -2,13 +2,19 @@
 #![tactic(auto)]
 
 #[cfg(test)]
-mod bits;
+mod answers;
+#[cfg(test)]
+mod cited;
 #[cfg(test)]
 mod first;
+#[cfg(test)]
+mod lists;
 #[cfg(test)]
 mod same_keys;
 #[cfg(test)]
 mod topics;
+#[cfg(test)]
+mod typed;
 #[cfg(test)]
 mod uses;
 #[cfg(test)]

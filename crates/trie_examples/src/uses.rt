@@ -3,9 +3,8 @@
 ghost use Rattle.std.specs.Prelude.{◌≡◌, IfOk, IsOk, Option, map, unwrap_or};
 ghost use Rattle.radix_trie.specs.Views.{IsValueAbove, pairs_below};
 
-use crate::bits::Bits;
 use radix_trie::iter::Values;
-use radix_trie::{Memory, Trie, TrieCommon, TrieKey};
+use radix_trie::{Bits, Memory, Trie, TrieCommon, TrieKey};
 use std::alloc::Global;
 use std::process::Abort;
 use trie_samples::texts;
@@ -60,11 +59,14 @@ fn inherited<K: TrieKey, V: Copy, Q: TrieKey>(
 }
 
 /// A table of routes: each network's address, its count of bits, and where it leads.
-fn routes(alloc: Global, networks: &[(u32, u32, u32)]) -> Result<Trie<Bits, u32>, Memory> {
+pub(crate) fn routes(
+    alloc: Global,
+    networks: &[(u32, usize, u32)],
+) -> Result<Trie<Bits, u32>, Memory> {
     let mut table: Trie<Bits, u32> = Trie::new(alloc);
     for (network, bits, hop) in networks {
         if table
-            .insert(Bits::of(alloc, *network, *bits)?, *hop)
+            .insert(Bits::first_of_u32(alloc, *network, *bits)?, *hop)
             .is_err()
         {
             return Err(Memory);
@@ -81,7 +83,7 @@ fn check_hops(
     rows: &[(u32, Option<u32>)],
 ) -> Result<(), Memory> {
     for (address, hop) in rows {
-        let bits = Bits::of(alloc, *address, 32)?;
+        let bits = Bits::first_of_u32(alloc, *address, 32)?;
         assert!(rt; next_hop(table, &bits)? == *hop, "{address}");
     }
     Ok(())
@@ -90,7 +92,7 @@ fn check_hops(
 /// Routes to networks of 8, 16 and 24 bits, each inside the one before.
 #[test]
 fn longest_prefix_of_an_address(rt: HostRuntime) -> Result<(), Memory> {
-    const NETWORKS: [(u32, u32, u32); 3] = [
+    const NETWORKS: [(u32, usize, u32); 3] = [
         (0x0a00_0000, 8, 1),
         (0x0a01_0000, 16, 2),
         (0x0a01_0200, 24, 3),

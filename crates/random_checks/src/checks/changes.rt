@@ -1,8 +1,10 @@
 //! Changes by the trie's own calls, and by views for writing.
 
-use crate::actions::{Action, Kind, Outcome, are_pairs, by_model, is_expected};
+use crate::actions::{Action, Kind, Outcome, by_model, is_expected};
+use crate::checks::walks::are_ends;
 use crate::keys::Drawn;
 use crate::model::Model;
+use crate::pairs::are_taken;
 use crate::random::Random;
 use radix_trie::{
     InsertWhy, Memory, OpenError, SubTrieError, SubTrieMut, Trie, TrieCommon, TrieKey,
@@ -52,7 +54,7 @@ pub fn is_cut<K: Drawn, Q: TrieKey>(
 ) -> Result<bool, Memory> {
     let wanted = model.remove_below(list)?;
     let gone = trie.remove_prefix(key)?;
-    are_pairs(alloc, gone.as_slice(), wanted.as_slice())
+    are_taken(alloc, gone.as_slice(), wanted.as_slice())
 }
 
 /// What a view's refusal or value says.
@@ -115,7 +117,7 @@ fn by_view<K: Drawn>(
     }
 }
 
-/// Some random actions by the view at the path.
+/// Some random actions by the view at the path, and the first and the last pair after them.
 fn are_changed_by_view<K: Drawn>(
     alloc: Global,
     view: &mut SubTrieMut<'_, K, u64>,
@@ -130,7 +132,7 @@ fn are_changed_by_view<K: Drawn>(
             return Ok(false);
         }
     }
-    Ok(true)
+    are_ends(alloc, &*view, model.below(path)?.as_slice())
 }
 
 /// The view that `open_mut` opens at a key whose encoding is the path, and actions by it.

@@ -1,19 +1,25 @@
 //! Random commands, each carried out on a trie and on the model.
 
 mod changes;
-mod queries;
+mod entries;
+mod lookups;
 mod runs;
+mod views;
+mod walks;
 
 use crate::actions::Action;
 use crate::keys::{Drawn, beginning};
 use crate::model::Model;
 use crate::random::Random;
 use changes::{is_changed, is_cut, is_written};
-use queries::{are_queries, is_whole};
-use radix_trie::{Memory, Trie};
+use entries::is_entry_change;
+use lookups::are_lookups;
+use radix_trie::{Memory, Trie, TrieKey};
 use runs::{is_run, is_run_within};
 use std::alloc::Global;
 use trie_samples::list;
+use views::are_views;
+use walks::{are_walks, is_whole};
 
 /// After so many commands all pairs and the footprint are compared.
 const BETWEEN_WHOLE_CHECKS: u64 = 250;
@@ -32,10 +38,11 @@ impl<K: Drawn> Check<K> {
     fn agrees(&mut self) -> Result<bool, Memory> {
         let alloc = self.alloc;
         match self.random.draw() % 64 {
-            0..=27 => {
+            0..=24 => {
                 let action = Action::drawn(&mut self.random);
                 is_changed(alloc, &mut self.trie, &mut self.model, action)
             }
+            25..=27 => is_entry_change(alloc, &mut self.trie, &mut self.model, &mut self.random),
             28..=43 => self.reads_agree(),
             44..=55 => self.views_agree(),
             56..=59 => is_run(alloc, &mut self.trie, &mut self.model, &mut self.random),
@@ -47,29 +54,31 @@ impl<K: Drawn> Check<K> {
     /// Look-ups of a key, or of a beginning of one.
     fn reads_agree(&mut self) -> Result<bool, Memory> {
         let alloc = self.alloc;
-        let number = self.random.key();
         if self.random.is_even() {
             let at = self.random.key();
             let key = K::drawn(alloc, at)?;
             let path = K::nibbles(alloc, at)?;
-            return are_queries(
-                alloc,
-                &self.trie,
-                &self.model,
-                &key,
-                path.as_slice(),
-                number,
-            );
+            return self.reads_at(&key, path.as_slice());
         }
         let path = beginning::<K>(alloc, &mut self.random)?;
         let key = list(alloc, path.as_slice())?;
-        are_queries(
+        self.reads_at(&key, path.as_slice())
+    }
+
+    /// Look-ups of a key whose encoding is the path.
+    fn reads_at<Q: TrieKey>(&mut self, key: &Q, path: &[u8]) -> Result<bool, Memory> {
+        let most = (self.random.draw() % 16) as usize;
+        let number = self.random.key();
+        let Check {
             alloc,
-            &self.trie,
-            &self.model,
-            &key,
-            path.as_slice(),
-            number,
+            trie,
+            model,
+            ..
+        } = self;
+        Ok(
+            are_lookups(*alloc, &*trie, &*model, key, path)?
+                && are_walks(*alloc, &*trie, &*model, key, path, most)?
+                && are_views(*alloc, &*trie, &*model, key, path, number)?,
         )
     }
 

@@ -59,9 +59,9 @@ pub fn is_run<K: Drawn>(
     }
     let number = random.key();
     let list = K::nibbles(alloc, number)?;
-    let above = model.above(list.as_slice());
+    let above = model.nearest(list.as_slice())?;
     commands.push(Command::Ancestor(K::drawn(alloc, number)?))?;
-    wanted.push(Expected::Value(above.map(|(_, value)| value)))?;
+    wanted.push(Expected::Value(above.map(|stored| stored.value)))?;
     let replies = run(trie, commands)?;
     Ok(are_replies(replies.as_slice(), wanted.as_slice()))
 }

@@ -1,21 +1,8 @@
 //! Integers.
 
-use crate::keys::{Drawn, nibbles_of};
+use crate::keys::{Drawn, bytes_of, nibbles_of};
 use radix_trie::Memory;
 use std::alloc::Global;
-
-/// The bytes of an integer, the highest first: the first and the last one are made of the number's bits, and zeros stand
-/// between them.
-fn bytes_of<const WIDTH: usize>(number: u8) -> [u8; WIDTH] {
-    let mut bytes = [0u8; WIDTH];
-    if let Some(last) = bytes.last_mut() {
-        *last = (number >> 2) & 0x13;
-    }
-    if let Some(first) = bytes.first_mut() {
-        *first = number & 0xb3;
-    }
-    bytes
-}
 
 impl Drawn for u8 {
     fn drawn(_alloc: Global, number: u8) -> Result<u8, Memory> {
@@ -54,6 +41,16 @@ impl Drawn for u64 {
 
     fn nibbles(alloc: Global, number: u8) -> Result<Vec<u8>, Memory> {
         nibbles_of(alloc, &bytes_of::<8>(number))
+    }
+}
+
+impl Drawn for u128 {
+    fn drawn(_alloc: Global, number: u8) -> Result<u128, Memory> {
+        Ok(u128::from_be_bytes(bytes_of(number)))
+    }
+
+    fn nibbles(alloc: Global, number: u8) -> Result<Vec<u8>, Memory> {
+        nibbles_of(alloc, &bytes_of::<16>(number))
     }
 }
 
@@ -104,6 +101,16 @@ impl Drawn for i64 {
 
     fn nibbles(alloc: Global, number: u8) -> Result<Vec<u8>, Memory> {
         nibbles_of(alloc, &bytes_of::<8>(number))
+    }
+}
+
+impl Drawn for i128 {
+    fn drawn(_alloc: Global, number: u8) -> Result<i128, Memory> {
+        Ok(i128::from_be_bytes(bytes_of(number)))
+    }
+
+    fn nibbles(alloc: Global, number: u8) -> Result<Vec<u8>, Memory> {
+        nibbles_of(alloc, &bytes_of::<16>(number))
     }
 }
 

@@ -1,6 +1,9 @@
 //! Keys that small numbers stand for, and the nibbles of their encodings.
 
+mod bits;
 mod integers;
+mod pairs;
+mod scalars;
 mod sequences;
 mod wrappers;
 
@@ -25,6 +28,19 @@ fn nibbles_of(alloc: Global, bytes: &[u8]) -> Result<Vec<u8>, Memory> {
         nibbles.push(*byte & 15)?;
     }
     Ok(nibbles)
+}
+
+/// The bytes of an integer, the highest first: the first and the last one are made of the number's bits, and zeros stand
+/// between them.
+fn bytes_of<const WIDTH: usize>(number: u8) -> [u8; WIDTH] {
+    let mut bytes = [0u8; WIDTH];
+    if let Some(last) = bytes.last_mut() {
+        *last = (number >> 2) & 0x13;
+    }
+    if let Some(first) = bytes.first_mut() {
+        *first = number & 0xb3;
+    }
+    bytes
 }
 
 /// The first nibbles of a random key's encoding: none of them, some, or all.

@@ -1,38 +1,25 @@
-//! Look-ups and views for reading.
+//! Views for reading.
 
+use crate::checks::walks::are_ends;
 use crate::keys::Drawn;
 use crate::model::Model;
 use radix_trie::{Memory, SubTrie, SubTrieError, Trie, TrieCommon, TrieKey};
 use std::alloc::Global;
 use trie_samples::list;
 
-/// Whether the view stands at the path, and has the model's value and count of pairs there.
+/// Whether the view stands at the path, and has the model's value, count of pairs, first pair and last pair there.
 fn is_view_at<K: Drawn>(
     alloc: Global,
     view: &SubTrie<'_, K, u64>,
     model: &Model,
     path: &[u8],
 ) -> Result<bool, Memory> {
+    let below = model.below(path)?;
     Ok(
         *view.path() == list(alloc, path)?
             && TrieCommon::value(view).copied() == model.get(path)
-            && TrieCommon::len(view) == model.below(path)?.len(),
-    )
-}
-
-/// The value at a key, and the count of nibbles that are compared to find it.
-fn is_found<K: Drawn, Q: TrieKey>(
-    trie: &Trie<K, u64>,
-    model: &Model,
-    key: &Q,
-    list: &[u8],
-) -> Result<bool, Memory> {
-    let wanted = model.get(list);
-    let (counted, compared) = trie.get_counted(key)?;
-    Ok(
-        trie.get(key)?.copied() == wanted
-            && counted.copied() == wanted
-            && compared == model.compared(list),
+            && TrieCommon::len(view) == below.len()
+            && are_ends(alloc, view, below.as_slice())?,
     )
 }
 
@@ -44,16 +31,16 @@ fn is_ancestor<K: Drawn, Q: TrieKey>(
     key: &Q,
     list: &[u8],
 ) -> Result<bool, Memory> {
-    let wanted = model.above(list);
+    let wanted = model.nearest(list)?;
     let value = trie.get_ancestor_value(key)?.copied();
-    if value != wanted.map(|(_, value)| value) {
+    if value != wanted.map(|stored| stored.value) {
         return Ok(false);
     }
     match (trie.get_ancestor(key)?, wanted) {
-        (Some(view), Some((length, _))) => match list.get(..length) {
-            Some(path) => is_view_at(alloc, &view, model, path),
-            None => Ok(false),
-        },
+        (Some(view), Some(stored)) => {
+            let path = K::nibbles(alloc, stored.number)?;
+            is_view_at(alloc, &view, model, path.as_slice())
+        }
         (None, None) => Ok(true),
         _ => Ok(false),
     }
@@ -130,8 +117,8 @@ fn is_viewed<K: Drawn, Q: TrieKey>(
     }
 }
 
-/// All look-ups of a key whose encoding is the list, and another key in the view at the first one.
-pub fn are_queries<K: Drawn, Q: TrieKey>(
+/// The views at a key whose encoding is the list, and another key that is looked up in one of them.
+pub fn are_views<K: Drawn, Q: TrieKey>(
     alloc: Global,
     trie: &Trie<K, u64>,
     model: &Model,
@@ -140,32 +127,9 @@ pub fn are_queries<K: Drawn, Q: TrieKey>(
     number: u8,
 ) -> Result<bool, Memory> {
     Ok(
-        is_found(trie, model, key, list)?
-            && is_ancestor(alloc, trie, model, key, list)?
+        is_ancestor(alloc, trie, model, key, list)?
             && is_raw_ancestor(alloc, trie, model, key, list)?
             && is_raw_descendant(alloc, trie, model, key, list)?
             && is_viewed(alloc, trie, model, key, list, number)?,
     )
-}
-
-/// All pairs in order, and the counts of pairs, nodes and nibbles.
-pub fn is_whole<K: Drawn>(
-    alloc: Global,
-    trie: &Trie<K, u64>,
-    model: &Model,
-) -> Result<bool, Memory> {
-    let wanted = model.below(&[])?;
-    if trie.len() != wanted.len() || trie.footprint() != model.footprint()? {
-        return Ok(false);
-    }
-    let mut walk = TrieCommon::iter(trie)?;
-    for stored in &wanted {
-        let Some((key, value)) = walk.next() else {
-            return Ok(false);
-        };
-        if *key != K::drawn(alloc, stored.number)? || *value != stored.value {
-            return Ok(false);
-        }
-    }
-    Ok(walk.next().is_none() && trie.check_integrity()?)
 }

@@ -1,0 +1,2 @@
+-- How many pairs stand in a tree of nodes after an insertion.
+pub mod Counts

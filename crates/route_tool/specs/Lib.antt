@@ -1,0 +1,6 @@
+pub mod Networks
+pub mod Tables
+pub mod Commands
+pub mod Answers
+pub mod Sessions
+pub mod Faults

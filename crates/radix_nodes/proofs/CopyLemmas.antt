@@ -2,3 +2,4 @@
 pub mod Same
 pub mod Copies
 pub mod Turned
+pub mod Values

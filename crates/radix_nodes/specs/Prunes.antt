@@ -1,7 +1,7 @@
 -- What a cut of all that is at and below a path answers, and does to a tree.
-use Rattle.std.specs.Prelude.{◌≡◌, ℕ, ◌+◌, ◌<◌, ◌^◌, List, [], ◌++◌, length, drop, Option, Some, None, Result, Ok, Err}
+use Rattle.std.specs.Prelude.{◌≡◌, ℕ, ◌+◌, ◌<◌, ◌≤◌, ◌^◌, List, [], ◌++◌, length, drop, Option, Some, None, Result, Ok, Err}
 use Rattle.masked_tree.specs.Alters.{Prunes, PrunesRoot}
-use Rattle.masked_tree.specs.Tree.{Tree, IsAt, entries_at, nodes_in, nibbles_in}
+use Rattle.masked_tree.specs.Tree.{Tree, entries_at, nodes_in, nibbles_in}
 use Rattle.masked_tree.specs.Paths.{IsPath}
 use Rattle.nibble_map.specs.Lists.{IsPrefix}
 use Rattle.radix_keys.specs.declared.nibbles.Memory.{Memory}
@@ -29,6 +29,11 @@ pub record IsBranch {P : Type 0} (t u : Tree P) (p s : List ℕ) : Type 0 where
   pub nearest : IsNearest t u p covered
   pub path : s ++ u.fragment ≡ p ++ drop covered u.fragment
 
+-- the branch at and below p, if there is one, has at most n pairs
+abbrev pub HasBranchWithin : {P : Type 0} → ℕ → Tree P → List ℕ → Type 0
+HasBranchWithin {P} n t p =
+    (u : Tree P) (s : List ℕ) → IsBranch t u p s → length (entries_at [] u) ≤ n
+
 module _ {K V : Type 0} where
   abbrev pub branch_of : Branch K V → Tree (KeyValue K V)
   branch_of b = tree_of b.top.value
@@ -48,31 +53,26 @@ module _ {K V : Type 0} where
   CutsRootBranch b old new =
       PrunesRoot old.fragment (branch_of b) (nodes_gone b) (nibbles_gone b) old new
 
-  -- the child at i was taken with all below it, from a node or from the root
-  abbrev pub PrunesChild : ℕ → Pruned K V → Tree (KeyValue K V) → Tree (KeyValue K V) → Type 0
-  PrunesChild i c old new = (u : Tree (KeyValue K V)) → IsAt i old.children u
-      → Prunes old.fragment u c.nodes c.nibbles old new
-
-  abbrev pub PrunesRootChild : ℕ → Pruned K V → Tree (KeyValue K V) → Tree (KeyValue K V) → Type 0
-  PrunesRootChild i c old new = (u : Tree (KeyValue K V)) → IsAt i old.children u
-      → PrunesRoot old.fragment u c.nodes c.nibbles old new
-
-  -- and its pairs are those
-  abbrev pub HoldsChild : ℕ → Pruned K V → Tree (KeyValue K V) → Type 0
-  HoldsChild i c old =
-      (u : Tree (KeyValue K V)) → IsAt i old.children u → c.pairs.items ≡ pairs_in u
-
-  -- all that stands at and below p is taken; or nothing stands there; it is refused only where a
-  -- path stands there
-  abbrev pub PruneOutcome : Result (Option (Pruned K V)) Memory → List ℕ → Tree (KeyValue K V)
+  -- what stands at and below p is cut off as a branch; or nothing stands there; it is refused only
+  -- where a path stands there
+  abbrev pub BranchOutcome : Result (Option (Branch K V)) Memory → List ℕ → Tree (KeyValue K V)
       → Tree (KeyValue K V) → Type 0
-  PruneOutcome (Ok (Some c)) p old new =
-      (u : Tree (KeyValue K V)) × (s : List ℕ) × IsBranch old u p s
-      × Prunes s u c.nodes c.nibbles old new × (c.pairs.items ≡ pairs_in u)
-  PruneOutcome (Ok None) p old new = (new ≡ old) × ((q : List ℕ) → IsPath old q → IsPrefix p q → ⊥)
-  PruneOutcome (Err e) p old new = (new ≡ old) × (q : List ℕ) × IsPath old q × IsPrefix p q
+  BranchOutcome (Ok (Some b)) p old new = (s : List ℕ) × IsBranch old (branch_of b) p s
+      × Prunes s (branch_of b) (nodes_gone b) (nibbles_gone b) old new × (b.nodes ≤ 2)
+  BranchOutcome (Ok None) p old new = (new ≡ old) × ((q : List ℕ) → IsPath old q → IsPrefix p q → ⊥)
+  BranchOutcome (Err e) p old new = (new ≡ old) × (q : List ℕ) × IsPath old q × IsPrefix p q
 
   -- the same from the root
+  abbrev pub BranchRootOutcome : Result (Option (Branch K V)) Memory → List ℕ
+      → Tree (KeyValue K V) → Tree (KeyValue K V) → Type 0
+  BranchRootOutcome (Ok (Some b)) p old new = (s : List ℕ) × IsBranch old (branch_of b) p s
+      × PrunesRoot s (branch_of b) (nodes_gone b) (nibbles_gone b) old new × (b.nodes ≤ 2)
+  BranchRootOutcome (Ok None) p old new =
+      (new ≡ old) × ((q : List ℕ) → IsPath old q → IsPrefix p q → ⊥)
+  BranchRootOutcome (Err e) p old new = (new ≡ old) × (q : List ℕ) × IsPath old q × IsPrefix p q
+
+  -- the pairs that stand at and below p are taken from the root; or nothing stands there; it is
+  -- refused only where a path stands there
   abbrev pub PruneRootOutcome : Result (Option (Pruned K V)) Memory → List ℕ → Tree (KeyValue K V)
       → Tree (KeyValue K V) → Type 0
   PruneRootOutcome (Ok (Some c)) p old new =

@@ -1,6 +1,7 @@
 -- What a change of the tree does to the map, and to what the trie keeps.
 pub mod Changes
 pub mod Removals
+pub mod Splits
 pub mod Insertions
 pub mod Prunings
 pub mod Written

@@ -4,7 +4,7 @@ use Rattle.masked_tree.specs.Tree.{Tree, entries_at}
 use Rattle.radix_nodes.specs.declared.trie_node.KeyValue.{KeyValue}
 use Rattle.radix_nodes.specs.declared.traversal.insert.Change.{Change}
 use Rattle.radix_nodes.specs.Nodes.{EditOutcome}
-use Rattle.radix_trie.proofs.ChangeLemmas.Changes.{swaps-length}
+use Rattle.masked_tree.proofs.TreeLemmas.Children.{swaps-length}
 
 module _ {K V : Type 0} where
   -- an insertion adds at most one pair

@@ -42,6 +42,12 @@ pub(crate) fn is_taken(trie: &mut Texts, key: &'static str, gone: Pairs) -> Resu
     Ok(taken.as_slice() == gone)
 }
 
+/// Whether the part that is split off holds this.
+pub(crate) fn is_split(trie: &mut Texts, key: &'static str, part: &State) -> Result<bool, Memory> {
+    let split = trie.split_off_prefix(&key)?;
+    Ok(part.see(&split).is_ok())
+}
+
 /// Whether the clone holds the same.
 pub(crate) fn is_copied(trie: &Texts) -> Result<bool, Memory> {
     let copy = trie.clone()?;

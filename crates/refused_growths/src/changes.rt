@@ -5,7 +5,7 @@ use crate::runs::Run;
 use crate::trie_calls::{Call, Row, run_rows};
 use crate::tries::{LONG, ONE_WALK, SEVEN_WALK};
 
-const ROWS: [Row; 26] = [
+const ROWS: [Row; 33] = [
     (
         "insert.empty",
         Held::Empty,
@@ -133,6 +133,36 @@ const ROWS: [Row; 26] = [
         Held::One,
     ),
     (
+        "split_off_prefix.empty",
+        Held::Empty,
+        Call::SplitOffPrefix(LONG, Held::Empty),
+        Held::Empty,
+    ),
+    (
+        "split_off_prefix.seven",
+        Held::Seven,
+        Call::SplitOffPrefix(LONG, Held::Empty),
+        Held::Seven,
+    ),
+    (
+        "split_off_prefix.one",
+        Held::One,
+        Call::SplitOffPrefix(LONG, Held::One),
+        Held::Empty,
+    ),
+    (
+        "split_off_prefix.inside",
+        Held::Seven,
+        Call::SplitOffPrefix("abc", Held::Three),
+        Held::Four,
+    ),
+    (
+        "split_off_prefix.long_merge",
+        Held::Parted,
+        Call::SplitOffPrefix("ab", Held::Ab),
+        Held::One,
+    ),
+    (
         "light.insert",
         Held::Changed,
         Call::Insert("abcd", 17, Some(18)),
@@ -160,6 +190,18 @@ const ROWS: [Row; 26] = [
         "light.remove_prefix",
         Held::Seven,
         Call::RemovePrefix("abx", &[]),
+        Held::Seven,
+    ),
+    (
+        "light.split_off_prefix.whole",
+        Held::Seven,
+        Call::SplitOffPrefix("", Held::Seven),
+        Held::Empty,
+    ),
+    (
+        "light.split_off_prefix.none",
+        Held::Seven,
+        Call::SplitOffPrefix("abx", Held::Empty),
         Held::Seven,
     ),
 ];

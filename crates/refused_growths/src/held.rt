@@ -4,7 +4,7 @@ use crate::states::State;
 use crate::tries::{
     AA_AQ, AA_AQ_A, AB, ABC, ABC_AB, ABC_ABD, ABC_XYZ, BELOW_A, CHANGED, EIGHT, EMPTY, FOUR, HEAVY,
     HEAVY_TWO, ONE, ONE_MORE, PARTED, SEVEN, SHORT, SHORT_AND_LONG, SIX, SIXTEEN, SIXTEEN_LEFT,
-    WITHOUT_A,
+    THREE, WITHOUT_A,
 };
 
 /// The name of what a trie holds.
@@ -17,6 +17,7 @@ pub(crate) enum Held {
     Ab,
     Eight,
     Four,
+    Three,
     Changed,
     Six,
     WithoutA,
@@ -46,6 +47,7 @@ impl Held {
             Held::Ab => AB,
             Held::Eight => EIGHT,
             Held::Four => FOUR,
+            Held::Three => THREE,
             Held::Changed => CHANGED,
             Held::Six => SIX,
             Held::WithoutA => WITHOUT_A,

@@ -22,6 +22,7 @@
 //! | `Trie::pop_last` | `pop_last` |
 //! | `Trie::into_pairs` | `into_pairs` |
 //! | `Trie::remove_prefix` | `remove_prefix` |
+//! | `Trie::split_off_prefix` | `split_off_prefix` |
 //! | `Trie::map_with_default` | `map_with_default` |
 //! | `Trie::get` | `get` |
 //! | `Trie::get_counted` | `get_counted` |

@@ -6,7 +6,7 @@ use crate::trie_calls::{Call, Row, run_rows};
 use crate::tries::{LONG, ONE_WALK, SEVEN_WALK};
 use crate::views::Common;
 
-const ROWS: [Row; 16] = [
+const ROWS: [Row; 19] = [
     (
         "common_prefixes.empty",
         Held::Empty,
@@ -69,6 +69,24 @@ const ROWS: [Row; 16] = [
         Held::Parted,
         Call::FirstBelow("a", 1, ONE_WALK),
         Held::Parted,
+    ),
+    (
+        "light.first_below.empty",
+        Held::Empty,
+        Call::FirstBelow("", 2, &[]),
+        Held::Empty,
+    ),
+    (
+        "light.first_below.none",
+        Held::Seven,
+        Call::FirstBelow("abx", 2, &[]),
+        Held::Seven,
+    ),
+    (
+        "light.first_below.no_page",
+        Held::Seven,
+        Call::FirstBelow("ab", 0, &[]),
+        Held::Seven,
     ),
     (
         "iter_from.empty",

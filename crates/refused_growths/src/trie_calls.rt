@@ -2,7 +2,7 @@
 
 use crate::answers::{
     Sight, add_one, are_children, is_built, is_copied, is_found, is_got, is_inserted, is_mapped,
-    is_opened, is_seen_to_write, is_sight, is_taken,
+    is_opened, is_seen_to_write, is_sight, is_split, is_taken,
 };
 use crate::commands::{Answer, Order, is_run};
 use crate::held::Held;
@@ -35,6 +35,8 @@ pub(crate) enum Call {
     /// Leaves the empty trie.
     IntoPairs(Pairs),
     RemovePrefix(&'static str, Pairs),
+    /// Another trie, of all at and below the key.
+    SplitOffPrefix(&'static str, Held),
     /// Adds one to the value of the first answer, if there is one.
     FindMut(&'static str, Option<u64>),
     GetMut(&'static str, Option<u64>),
@@ -102,6 +104,7 @@ fn is_answered(alloc: Global, trie: &mut Texts, call: &Call) -> Result<bool, Mem
         Call::PopLast(pair) => Ok(trie.pop_last()? == *pair),
         Call::IntoPairs(pairs) => are_handed_out(alloc, trie, *pairs),
         Call::RemovePrefix(key, gone) => is_taken(trie, *key, *gone),
+        Call::SplitOffPrefix(key, part) => is_split(trie, *key, &part.state()),
         Call::FindMut(key, value) => is_found(trie, *key, *value),
         Call::GetMut(key, value) => is_got(trie, *key, *value),
         Call::OpenMut(key, sight) => is_opened(trie, *key, *sight),

@@ -96,6 +96,12 @@ pub(crate) const FOUR: State = State {
     footprint: (7, 26),
 };
 
+/// What of it begins with abc.
+pub(crate) const THREE: State = State {
+    walk: &[("abcd", 17), ("abcdef", 18), ("abcdefgh", 19)],
+    footprint: (4, 16),
+};
+
 /// The sample with another value at abcd.
 pub(crate) const CHANGED: State = State {
     walk: &[

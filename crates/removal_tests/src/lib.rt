@@ -1,4 +1,4 @@
-//! Tests of the removal of all pairs below a prefix.
+//! Tests of calls that take all pairs below a prefix away.
 #![tactic(auto)]
 
 #[cfg(test)]
@@ -7,5 +7,7 @@ mod commands;
 mod many;
 #[cfg(test)]
 mod rows;
+#[cfg(test)]
+mod splits;
 #[cfg(test)]
 mod views;

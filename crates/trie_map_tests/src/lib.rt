@@ -5,3 +5,5 @@
 mod calls;
 #[cfg(test)]
 mod map_calls;
+#[cfg(test)]
+mod shown;

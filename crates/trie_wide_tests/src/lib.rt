@@ -4,6 +4,8 @@
 #[cfg(test)]
 mod added;
 #[cfg(test)]
+mod changed;
+#[cfg(test)]
 mod ends;
 #[cfg(test)]
 mod entries;

@@ -107,12 +107,12 @@ module _ {P : Type 0} where
         };
       }
 
+  -- a node put above a placed tree, to which a fragment with a first nibble is left, is placed
+  pub lowered_placed : (t : Tree P) (f g : List ℕ) → g ≢ [] → first g < 16 → IsTreePlaced t → IsTreePlaced (lowered f g t)
+  lowered_placed t f g end low h = ((marked_lt 0 (first g) (omega arith), λ n. bit_at-marked 0 (first g) n [] low zero_is_mask), (end, omega arith, h.0, h.1, tt))
+
   -- a node put above
   module _ (t : Tree P) (f g : List ℕ) (cut : t.fragment ≡ f ++ g) (top : f ≢ []) (end : g ≢ []) (low : first g < 16) (h : IsTreePlaced t) where
-    -- a node put above a placed tree, with the front of its fragment, is placed
-    lowered_placed : IsTreePlaced (lowered f g t)
-    lowered_placed = ((marked_lt 0 (first g) (omega arith), λ n. bit_at-marked 0 (first g) n [] low zero_is_mask), (end, omega arith, h.0, h.1, tt))
-
     -- a node put above a tree, with the front of its fragment, leaves the entries as they are
     lowered_entries : (q : List ℕ) → entries_at q (lowered f g t) ≡ entries_at q t
     lowered_entries q =
@@ -136,9 +136,9 @@ module _ {P : Type 0} where
       alters = record {
         start = same_start f g top ∙ ap first (sym cut);
         some = λ s. top;
-        placed = lowered_placed;
+        placed = lowered_placed t f g end low h;
         swaps = λ q. subst (λ es. Swaps [] (entry (q ++ f) (Some x)) es (entries_at q (with_pair x (lowered f g t)))) (lowered_entries q)
-            ((pair_edits (lowered f g t) x lowered_placed).root.alters.swaps q);
+            ((pair_edits (lowered f g t) x (lowered_placed t f g end low h)).root.alters.swaps q);
         nodes = omega arith;
         nibbles = omega (arith, length-cut);
       };
@@ -149,7 +149,7 @@ module _ {P : Type 0} where
     pub split_leaf : (x : P) (r : List ℕ) (i : ℕ) → r ≢ [] → first r < 16 → IsPlaceOf (first r) (first g ∷ []) (Err i) →
         Replaces (f ++ r) x None 2 (length r) t (with_new_child i (first r) (leaf r x) (lowered f g t))
     split_leaf x r i s small at =
-        let e = leaf_edits (lowered f g t) x r i lowered_placed s small at in
+        let e = leaf_edits (lowered f g t) x r i (lowered_placed t f g end low h) s small at in
         let c = e.root.alters in
         record {
           full = λ full. (inr (insert_child_many i (more g t.pair t.mask t.children none) (leaf r x) (λ z. absurd (let i : more g t.pair t.mask t.children none ≡ none = z in cc i))), e.root.below (full.0, full.1, tt));

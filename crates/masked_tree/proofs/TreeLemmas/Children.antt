@@ -1,6 +1,7 @@
 -- One child is written, or comes.
 use Rattle.std.proofs.Common.{◌≡◌, ◌≢◌, ℕ, zero, suc, ◌+◌, ◌≤◌, ◌<◌, cond, ◌==◌, Bool, true, false, List, [], ◌∷◌, ◌++◌, length, refl, ap, sym, subst, ◌∙◌, arith, inl, inr, append_assoc}
 use Rattle.std.proofs.lemmas.Bool.{le-ltb}
+use Rattle.std.proofs.lemmas.List.{length-append}
 use Rattle.std.proofs.lemmas.Bool.Decides.{eqb_tells, leb_tells}
 use Rattle.nibble_map.specs.Trees.{AreMany, IsFull, first}
 use Rattle.nibble_map.specs.Swaps.{Swaps, entry}
@@ -22,6 +23,15 @@ module _ {A : Type 0} where
   -- a change of a list is a change of the same with a list behind it
   swaps_before : (d l r x y : List A) → Swaps l r x y → Swaps l r (x ++ d) (y ++ d)
   swaps_before d l r x y s = swaps_within [] d l r x y s
+
+  -- what a run put in place of another does to the length
+  pub swaps-length : (l r old new : List A) → Swaps l r old new → length new + length l ≡ length old + length r
+  swaps-length l r old new s =
+      let a = length-append s.before (l ++ s.after) in
+      let b = length-append l s.after in
+      let c = length-append s.before (r ++ s.after) in
+      let d = length-append r s.after in
+      omega (arith, a, b, c, d, ap length s.was, ap length s.is)
 
   -- a change of a list is a change of the same with a list in front of it
   pub swaps_after : (c l r x y : List A) → Swaps l r x y → Swaps l r (c ++ x) (c ++ y)

@@ -9,8 +9,9 @@ use Rattle.masked_tree.specs.Edits.{IsOne, remove_child, without_child, merged}
 use Rattle.masked_tree.specs.Paths.{IsPath}
 use Rattle.nibble_map.specs.Lists.{IsPrefix}
 use Rattle.nibble_map.specs.Trees.{first}
-use Rattle.masked_tree.proofs.TreeLemmas.Sizes.{fewer_nodes, no_more_pairs, length-entries_at}
+use Rattle.masked_tree.proofs.TreeLemmas.Sizes.{length-entries_at}
 use Rattle.masked_tree.specs.Alters.{Prunes, PrunesRoot, AltersNode, all_of, none_of}
+use Rattle.masked_tree.proofs.TreeLemmas.Children.{swaps-length}
 use Rattle.masked_tree.proofs.EditLemmas.Removal.{child_goes, merged_as_child, root_as_child}
 use Rattle.masked_tree.proofs.EditLemmas.Insertion.{child_pruned, node_as_child}
 use Rattle.radix_keys.specs.declared.nibbles.Memory.{Memory}
@@ -26,8 +27,8 @@ use Rattle.masked_tree.proofs.PathLemmas.Paths.{node_from_child}
 use Rattle.std.proofs.lemmas.List.{length-drop}
 use Rattle.radix_nodes.proofs.SearchLemmas.Compared.{met_down, met_inside, append-met_rest}
 use Rattle.radix_nodes.proofs.SearchLemmas.Nearest.{nearest_through_child, nearest_inside, none_through_child}
-use Rattle.radix_nodes.specs.declared.traversal.prune.Pruned.{Pruned}
-use Rattle.radix_nodes.specs.Prunes.{IsSmall, IsBranch, PruneOutcome, PruneRootOutcome}
+use Rattle.radix_nodes.specs.declared.traversal.cut.Branch.{Branch}
+use Rattle.radix_nodes.specs.Prunes.{IsSmall, IsBranch, BranchOutcome, BranchRootOutcome, branch_of, nodes_gone, nibbles_gone}
 
 -- what stands at a place
 -- for each place within a list there is an item that stands there, as `get_or` gives it
@@ -36,20 +37,13 @@ item_at [] i l = absurd (omega (arith, l))
 item_at (x ∷ xs) zero l = (x, refl)
 item_at (x ∷ xs) (suc i) l = item_at xs i (omega (arith, l))
 
-module _ {P : Type 0} where
-  -- a child and what is below it have at most as many nibbles as all the children
-  nibbles_at : (i : ℕ) (k : Children P) (c : Tree P) → IsAt i k c → length c.fragment + nibbles_in c.children ≤ nibbles_in k
-  nibbles_at i none c a = absurd a
-  nibbles_at zero (more f o m children others) c a = let e = ap (λ (t : Tree P). length t.fragment + nibbles_in t.children) a in omega (arith, e)
-  nibbles_at (suc i) (more f o m children others) c a = omega (arith, nibbles_at i others c a)
-
-  -- what a child holds can be counted too
-  pub child_is_small : (t u : Tree P) (i : ℕ) → IsAt i t.children u → IsSmall t → IsSmall u
-  child_is_small t u i a s = record {
-    pairs = let p = no_more_pairs i t.children u a in let q = length-entries_at [] t in omega (arith, p, q, s.pairs);
-    nodes = let n = fewer_nodes i t.children u a in omega (arith, n, s.nodes);
-    nibbles = let n = nibbles_at i t.children u a in omega (arith, n, s.nibbles);
-  }
+-- what a branch that was cut off holds can be counted too
+pub branch_is_small : {P : Type 0} (old new u : Tree P) (s : List ℕ) (m l : ℕ) → IsSmall old → PrunesRoot s u m l old new → nodes_in u.children ≤ m → length u.fragment + nibbles_in u.children ≤ l → IsSmall u
+branch_is_small old new u s m l small cut few short = record {
+  pairs = let w = swaps-length _ _ _ _ (cut.alters.swaps []) in let a = length-entries_at s u in let b = length-entries_at [] u in omega (arith, w, a, b, small.pairs);
+  nodes = omega (arith, cut.alters.nodes, few, small.nodes);
+  nibbles = omega (arith, cut.alters.nibbles, short, small.nibbles);
+}
 
 module _ {K V : Type 0} where
   -- a child goes, from a node that stays full or is merged with the one that is left
@@ -171,17 +165,17 @@ module _ {K V : Type 0} where
           )
 
       -- what a cut answers and does in the child is what it answers and does in the node
-      pub prune_through_child : (r : Result (Option (Pruned K V)) Memory) → PruneOutcome r (fragment_of m ++ drop (depth + a.same) key) (tree_of m) (tree_of b'.value) → PruneOutcome r goal_path (tree_of n) new
-      prune_through_child (Ok (Some c)) s =
-          let t = cut_up s.0 s.1 c.nodes c.nibbles s.3 in
-          (s.0, fragment_of n ++ s.1, branch_below e s.0 s.1 s.2, node_as_child _ _ _ _ _ _ _ _ t, s.4)
-      prune_through_child (Ok None) s = (kept_up s.0, none_through_child n key depth h m i a lt met b is em e s.1)
-      prune_through_child (Err x) s = let p = path_up s.1 s.2 s.3 in (kept_up s.0, p.0, p.1, p.2)
+      pub cut_through_child : (r : Result (Option (Branch K V)) Memory) → BranchOutcome r (fragment_of m ++ drop (depth + a.same) key) (tree_of m) (tree_of b'.value) → BranchOutcome r goal_path (tree_of n) new
+      cut_through_child (Ok (Some c)) s =
+          let t = cut_up (branch_of c) s.0 (nodes_gone c) (nibbles_gone c) s.2 in
+          (fragment_of n ++ s.0, branch_below e (branch_of c) s.0 s.1, node_as_child _ _ _ _ _ _ _ _ t, s.3)
+      cut_through_child (Ok None) s = (kept_up s.0, none_through_child n key depth h m i a lt met b is em e s.1)
+      cut_through_child (Err x) s = let p = path_up s.1 s.2 s.3 in (kept_up s.0, p.0, p.1, p.2)
 
       -- what a cut answers and does in a root's child is what it answers and does in the root
-      pub root_prune_through_child : (r : Result (Option (Pruned K V)) Memory) → PruneOutcome r (fragment_of m ++ drop (depth + a.same) key) (tree_of m) (tree_of b'.value) → PruneRootOutcome r goal_path (tree_of n) new
-      root_prune_through_child (Ok (Some c)) s =
-          let t = cut_up s.0 s.1 c.nodes c.nibbles s.3 in
-          (s.0, fragment_of n ++ s.1, branch_below e s.0 s.1 s.2, t.root, s.4)
-      root_prune_through_child (Ok None) s = (kept_up s.0, none_through_child n key depth h m i a lt met b is em e s.1)
-      root_prune_through_child (Err x) s = let p = path_up s.1 s.2 s.3 in (kept_up s.0, p.0, p.1, p.2)
+      pub root_cut_through_child : (r : Result (Option (Branch K V)) Memory) → BranchOutcome r (fragment_of m ++ drop (depth + a.same) key) (tree_of m) (tree_of b'.value) → BranchRootOutcome r goal_path (tree_of n) new
+      root_cut_through_child (Ok (Some c)) s =
+          let t = cut_up (branch_of c) s.0 (nodes_gone c) (nibbles_gone c) s.2 in
+          (fragment_of n ++ s.0, branch_below e (branch_of c) s.0 s.1, t.root, s.3)
+      root_cut_through_child (Ok None) s = (kept_up s.0, none_through_child n key depth h m i a lt met b is em e s.1)
+      root_cut_through_child (Err x) s = let p = path_up s.1 s.2 s.3 in (kept_up s.0, p.0, p.1, p.2)

@@ -1,13 +1,14 @@
 -- A node's sizes by its fields.
-use Rattle.std.proofs.Common.{◌≡◌, ℕ, suc, ◌+◌, ◌<◌, ◌≤◌, max, List, [], length, get_or, drop, drop-cons, add-one, Option, Some, None, IsSome, false, true, refl, ap, sym, subst, arith}
+use Rattle.std.proofs.Common.{◌≡◌, ℕ, zero, suc, ◌+◌, ◌<◌, ◌≤◌, max, List, [], length, get_or, drop, drop-cons, add-one, Option, Some, None, IsSome, false, true, refl, ap, sym, subst, arith}
 use Rattle.std.specs.declared.boxed.Box.{Box}
 use Rattle.std.specs.declared.alloc.Global.{Global}
-use Rattle.masked_tree.specs.Tree.{IsAt, entries_at, nodes_in}
+use Rattle.masked_tree.specs.Tree.{Tree, Children, none, more, IsAt, entries_at, nodes_in, nibbles_in}
 use Rattle.masked_tree.specs.Sizes.{own_count, pair_count, levels}
 use Rattle.masked_tree.proofs.TreeLemmas.Sizes.{length-entries_at, fewer_nodes, no_more_pairs}
 use Rattle.radix_nodes.specs.declared.trie_node.TrieNode.{TrieNode, out-TrieNode}
 use Rattle.radix_nodes.specs.Nodes.{tree_of, children_of, unboxed}
-use Rattle.radix_nodes.proofs.NodeLemmas.Nodes.{pair-tree_of, children-tree_of, box_is_at}
+use Rattle.radix_nodes.specs.Prunes.{IsSmall}
+use Rattle.radix_nodes.proofs.NodeLemmas.Nodes.{fragment-tree_of, pair-tree_of, children-tree_of, box_is_at}
 
 -- a place that holds a pair counts one
 pub own_some : {P : Type 0} (o : Option P) → IsSome o → own_count o ≡ 1
@@ -17,6 +18,21 @@ own_some (Some x) s = refl
 -- a place that holds no pair counts none
 pub own_none : {P : Type 0} (o : Option P) → o ≡ None → own_count o ≡ 0
 own_none o e = ap own_count e
+
+module _ {P : Type 0} where
+  -- a child and what is below it have at most as many nibbles as all the children
+  nibbles_at : (i : ℕ) (k : Children P) (c : Tree P) → IsAt i k c → length c.fragment + nibbles_in c.children ≤ nibbles_in k
+  nibbles_at i none c a = absurd a
+  nibbles_at zero (more f o m children others) c a = let e = ap (λ (t : Tree P). length t.fragment + nibbles_in t.children) a in omega (arith, e)
+  nibbles_at (suc i) (more f o m children others) c a = omega (arith, nibbles_at i others c a)
+
+  -- what a child holds can be counted too
+  child_is_small : (t u : Tree P) (i : ℕ) → IsAt i t.children u → IsSmall t → IsSmall u
+  child_is_small t u i a s = record {
+    pairs = let p = no_more_pairs i t.children u a in let q = length-entries_at [] t in omega (arith, p, q, s.pairs);
+    nodes = let n = fewer_nodes i t.children u a in omega (arith, n, s.nodes);
+    nibbles = let n = nibbles_at i t.children u a in omega (arith, n, s.nibbles);
+  }
 
 module _ {K V : Type 0} where
   -- how many pairs a node holds: its own and its children's, by its fields
@@ -30,6 +46,25 @@ module _ {K V : Type 0} where
   pairs_next bs i b h e =
       rw (add-one, drop-cons bs i b, ← e) (let c = length-entries_at [] (tree_of b.value) in omega (arith, c))
 
+  -- how many nodes are below a node, by its boxes
+  pub nodes_out : (n : TrieNode K V) → nodes_in (tree_of n).children ≡ nodes_in (children_of (out-TrieNode K V n).children.items)
+  nodes_out n = ap nodes_in (children-tree_of n)
+
+  -- how many nodes the children from i on are and have below them: the one at i, and those after it
+  pub nodes_next : (bs : List (Box (TrieNode K V) Global)) (i : ℕ) (b : Box (TrieNode K V) Global) → i < length bs → b ≡ get_or bs i b →
+      nodes_in (children_of (drop i bs)) ≡ suc (nodes_in (tree_of b.value).children + nodes_in (children_of (drop (i + 1) bs)))
+  nodes_next bs i b h e = rw (add-one, drop-cons bs i b, ← e) refl
+
+  -- how many nibbles a node and those below it have, by its fields
+  pub nibbles_out : (n : TrieNode K V) → length (tree_of n).fragment + nibbles_in (tree_of n).children
+      ≡ length (out-TrieNode K V n).fragment + nibbles_in (children_of (out-TrieNode K V n).children.items)
+  nibbles_out n = let a = ap length (fragment-tree_of n) in let b = ap nibbles_in (children-tree_of n) in omega (arith, a, b)
+
+  -- how many nibbles the children from i on have: the one at i, and those after it
+  pub nibbles_next : (bs : List (Box (TrieNode K V) Global)) (i : ℕ) (b : Box (TrieNode K V) Global) → i < length bs → b ≡ get_or bs i b →
+      nibbles_in (children_of (drop i bs)) ≡ length (tree_of b.value).fragment + nibbles_in (tree_of b.value).children + nibbles_in (children_of (drop (i + 1) bs))
+  nibbles_next bs i b h e = rw (add-one, drop-cons bs i b, ← e) refl
+
   -- the levels below a node, by its boxes
   pub levels_out : (n : TrieNode K V) → levels (tree_of n).children ≡ levels (children_of (out-TrieNode K V n).children.items)
   levels_out n = ap levels (children-tree_of n)
@@ -39,10 +74,18 @@ module _ {K V : Type 0} where
       levels (children_of (drop i bs)) ≡ max (suc (levels (tree_of b.value).children)) (levels (children_of (drop (i + 1) bs)))
   levels_next bs i b h e = rw (add-one, drop-cons bs i b, ← e) refl
 
-  -- a child has fewer nodes below it than its node, and holds at most as many pairs
-  pub child_is_smaller : (n : TrieNode K V) (i : ℕ) (b : Box (TrieNode K V) Global) → i < length (out-TrieNode K V n).children.items → get_or (out-TrieNode K V n).children.items i b ≡ b →
-      (nodes_in (tree_of b.value).children < nodes_in (tree_of n).children) × (length (entries_at [] (tree_of b.value)) ≤ length (entries_at [] (tree_of n)))
-  child_is_smaller n i b lt at =
-      let a : IsAt i (tree_of n).children (tree_of b.value) = subst (λ k. IsAt i k (tree_of b.value)) (sym (children-tree_of n)) (box_is_at (out-TrieNode K V n).children.items i b lt at) in
-      let p = no_more_pairs i (tree_of n).children (tree_of b.value) a in let q = length-entries_at [] (tree_of n) in
-      (fewer_nodes i (tree_of n).children (tree_of b.value) a, omega (arith, p, q))
+  -- a node's child at i
+  module _ (n : TrieNode K V) (i : ℕ) (b : Box (TrieNode K V) Global) (lt : i < length (out-TrieNode K V n).children.items) (at : get_or (out-TrieNode K V n).children.items i b ≡ b) where
+    -- the child as plain data
+    child_at : IsAt i (tree_of n).children (tree_of b.value)
+    child_at = subst (λ k. IsAt i k (tree_of b.value)) (sym (children-tree_of n)) (box_is_at (out-TrieNode K V n).children.items i b lt at)
+
+    -- a child has fewer nodes below it than its node, and holds at most as many pairs
+    pub child_is_smaller : (nodes_in (tree_of b.value).children < nodes_in (tree_of n).children) × (length (entries_at [] (tree_of b.value)) ≤ length (entries_at [] (tree_of n)))
+    child_is_smaller =
+        let p = no_more_pairs i (tree_of n).children (tree_of b.value) child_at in let q = length-entries_at [] (tree_of n) in
+        (fewer_nodes i (tree_of n).children (tree_of b.value) child_at, omega (arith, p, q))
+
+    -- what a child holds can be counted where what its node holds can be
+    pub child_can_be_counted : IsSmall (tree_of n) → IsSmall (tree_of b.value)
+    child_can_be_counted = child_is_small (tree_of n) (tree_of b.value) i child_at

@@ -44,6 +44,7 @@ fn leaves_one<K, V>(node: &TrieNode<K, V>) -> bool
 }
 
 /// Cuts the child at place i off a node that isn't the root. A node that is left with no pair and one child is merged with it.
+#[inline(never)]
 pub fn cut_child<K: Drop, V: Drop>(
     node: &mut TrieNode<K, V>,
     i: usize,

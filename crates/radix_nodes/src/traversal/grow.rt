@@ -107,6 +107,29 @@ pub(super) fn add_leaf<K: Drop, V: Drop>(
     })
 }
 
+/// A node that is to stand above one whose fragment is `tail`.
+pub fn make_upper<K: Drop, V: Drop>(
+    alloc: Global,
+    fragment: Nibblet,
+    tail: &Nibblet,
+) -> Result<Box<TrieNode<K, V>>, Memory>
+    requires { 0 < length tail.now }
+    ensures { IfOk result (λ b. IsUpper fragment tail.now b.value) }
+{
+    let mask = mark(0, tail.get(0));
+    let mut children = Vec::new(alloc);
+    children.reserve(2)?;
+    Ok(Box::new(
+        alloc,
+        TrieNode {
+            fragment,
+            pair: None,
+            mask,
+            children,
+        },
+    )?)
+}
+
 // The node that is to stand above another, and the fragment that is left to that one.
 #[inline(never)]
 fn grow_split<K: Drop, V: Drop>(
@@ -121,18 +144,7 @@ fn grow_split<K: Drop, V: Drop>(
 {
     let mut fragment = node.fragment.clone()?;
     let rest = fragment.split(n)?;
-    let mask = mark(0, rest.get(0));
-    let mut children = Vec::new(alloc);
-    children.reserve(2)?;
-    let upper = Box::new(
-        alloc,
-        TrieNode {
-            fragment,
-            pair: None,
-            mask,
-            children,
-        },
-    )?;
+    let upper = make_upper(alloc, fragment, &rest)?;
     Ok((upper, rest))
 }
 

@@ -2,13 +2,14 @@
 
 pub mod answers;
 pub mod ascending;
+pub mod branch;
 pub mod checker;
 pub mod compare;
 pub mod copied;
 pub mod cut;
 pub mod drain;
 pub mod find;
-mod grow;
+pub mod grow;
 pub mod insert;
 pub mod lend;
 pub mod prune;
@@ -16,4 +17,6 @@ pub mod queries;
 pub mod remove;
 pub mod same;
 pub mod size;
+pub mod split;
 pub mod step;
+pub mod values;

@@ -1,10 +1,18 @@
 //! How much a node holds.
-ghost use Rattle.std.specs.Prelude.{◌≡◌, ◌<◌, ◌≤◌, ◌^◌, [], suc, length, MatchOption};
-ghost use Rattle.masked_tree.specs.Tree.{entries_at};
+ghost use Rattle.std.specs.Prelude.{◌≡◌, ◌+◌, ◌<◌, ◌≤◌, ◌^◌, [], suc, length, MatchOption};
+ghost use Rattle.masked_tree.specs.Tree.{entries_at, nodes_in, nibbles_in};
 ghost use Rattle.masked_tree.specs.Sizes.{levels};
 ghost use Rattle.radix_nodes.specs.Nodes.{tree_of};
+ghost use Rattle.radix_nodes.specs.Prunes.{IsSmall};
 
 use crate::trie_node::{TrieNode, has_pair};
+
+/// How many nodes and nibbles of fragments there are.
+#[derive(Clone, Copy)]
+pub struct Measured {
+    pub nodes: u128,
+    pub nibbles: u128,
+}
 
 /// How many pairs stand at and below the node.
 #[tactic(auto, using(crate::proofs::NodeLemmas::Sizes::pairs_out, crate::proofs::NodeLemmas::Sizes::pairs_next, crate::proofs::NodeLemmas::Sizes::own_some, crate::proofs::NodeLemmas::Sizes::own_none))]
@@ -17,6 +25,24 @@ pub fn count_pairs<K, V>(node: &TrieNode<K, V>) -> usize
         count += count_pairs(child);
     }
     count
+}
+
+/// How many nodes stand below the node, and how many nibbles its fragment and theirs have.
+#[tactic(auto, using(crate::proofs::NodeLemmas::Sizes::nodes_out, crate::proofs::NodeLemmas::Sizes::nodes_next, crate::proofs::NodeLemmas::Sizes::nibbles_out, crate::proofs::NodeLemmas::Sizes::nibbles_next))]
+pub fn measure<K, V>(node: &TrieNode<K, V>) -> Measured
+    requires { IsSmall (tree_of node.now) }
+    ensures nodes { result.nodes ≡ nodes_in (tree_of node.now).children }
+    ensures nibbles { result.nibbles
+        ≡ length (tree_of node.now).fragment + nibbles_in (tree_of node.now).children }
+{
+    let mut nodes: u128 = 0;
+    let mut nibbles = node.fragment.len() as u128;
+    for child in &node.children {
+        let below = measure(child);
+        nodes += below.nodes + 1;
+        nibbles += below.nibbles;
+    }
+    Measured { nodes, nibbles }
 }
 
 /// How many nodes stand on the longest way down from the node, with it. None: no `usize` can say it.

@@ -3,7 +3,8 @@ use Rattle.nibble_map.specs.Points.{IsSomePrefix}
 use Rattle.nibble_map.specs.Stored.{IsStored}
 use Rattle.std.proofs.Common.{◌≡◌, ℕ, suc, ◌+◌, ◌-◌, ◌*◌, ◌≤◌, ◌<◌, ◌^◌, List, [], ◌∷◌, ◌++◌, map, length, Option, Some, None, option_map, refl, ap, sym, subst, ◌∙◌, arith, drop}
 use Rattle.std.proofs.Math.Nat.{mul-le-mul_right}
-use Rattle.std.proofs.lemmas.List.{map-append, length-append}
+use Rattle.std.proofs.lemmas.List.{map-append}
+use Rattle.masked_tree.proofs.TreeLemmas.Children.{swaps-length}
 use Rattle.std.specs.FinMap as fin
 use Rattle.masked_tree.specs.Alters.{Run, entry_at, AltersRoot, Edits, CutsRoot}
 use Rattle.masked_tree.specs.Tree.{Tree, entries_at}
@@ -30,15 +31,6 @@ swaps-map f l r old new s = record {
   was = ap (map f) s.was ∙ map-append f s.before (l ++ s.after) ∙ ap (λ es. map f s.before ++ es) (map-append f l s.after);
   is = ap (map f) s.is ∙ map-append f s.before (r ++ s.after) ∙ ap (λ es. map f s.before ++ es) (map-append f r s.after);
 }
-
--- what a run put in place of another does to the length
-pub swaps-length : {A : Type 0} (l r old new : List A) → Swaps l r old new → length new + length l ≡ length old + length r
-swaps-length l r old new s =
-    let a = length-append s.before (l ++ s.after) in
-    let b = length-append l s.after in
-    let c = length-append s.before (r ++ s.after) in
-    let d = length-append r s.after in
-    omega (arith, a, b, c, d, ap length s.was, ap length s.is)
 
 module _ {K V : Type 0} (enc : K → List ℕ) where
   -- keyed entries are keyed in both parts

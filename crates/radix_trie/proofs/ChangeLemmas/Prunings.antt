@@ -5,7 +5,7 @@ use Rattle.std.specs.FinMap as fin
 use Rattle.masked_tree.specs.Tree.{Tree, entries_at, entries_in}
 use Rattle.masked_tree.specs.Paths.{IsPath}
 use Rattle.nibble_map.specs.Lists.{IsPrefix, is_prefix}
-use Rattle.nibble_map.specs.Maps.{IsStored, below, without_below, walk}
+use Rattle.nibble_map.specs.Maps.{IsPoint, IsStored, below, without_below, walk}
 use Rattle.nibble_map.specs.Swaps.{Swaps, entry}
 use Rattle.nibble_map.proofs.MapLemmas.Below.{get-below}
 use Rattle.masked_tree.proofs.TreeLemmas.Sizes.{length-entries_at}
@@ -18,6 +18,7 @@ use Rattle.radix_nodes.specs.declared.trie_node.KeyValue.{KeyValue}
 use Rattle.radix_nodes.specs.declared.trie_node.TrieNode.{TrieNode}
 use Rattle.radix_nodes.specs.Nodes.{tree_of, fragment_of, IsNearest}
 use Rattle.radix_nodes.proofs.NodeLemmas.Nodes.{fragment-tree_of}
+use Rattle.radix_nodes.proofs.NodeLemmas.Pairs.{length-pairs_of}
 use Rattle.radix_nodes.proofs.SearchLemmas.Nearest.{nearest_here}
 use Rattle.radix_trie.specs.Roots.{entries_of, map_of, IsRoot, IsKept}
 use Rattle.radix_trie.specs.Views.{pairs_below}
@@ -33,6 +34,13 @@ nothing_stored_below : {P : Type 0} (m : fin.FinMap _ P) (p e : List ℕ) → Is
 nothing_stored_below m p e stored i none =
     let here : T (is_prefix p e) = subst T (sym (is_prefix_true p e i)) tt in
     subst (λ o. T (is_some o)) (sym (get-below m p e here) ∙ ap (λ n. fin.get n e) (fin.empty_of_len (below m p) none) ∙ fin.get-empty _ e) stored
+
+-- a point below a list that isn't empty leads to a stored one
+pub point_below_has_stored : {P : Type 0} (m : fin.FinMap _ P) (p q : List ℕ) → 0 < length p → IsPoint m q → IsPrefix p q → fin.len (below m p) ≡ 0 → ⊥
+point_below_has_stored m [] q some at i none = absurd (omega (arith, some))
+point_below_has_stored m (a ∷ p) q some at i none =
+    let r = reached_past (IsStored m) q [] a (p ++ i.0) i.1 at in
+    nothing_stored_below m (a ∷ p) r.0 r.1 (prefix_through (a ∷ p) q r.0 i r.2) none
 
 -- the root as a branch of itself
 pub root_branch : {K V : Type 0} (n : TrieNode K V) → (tree_of n).fragment ≡ [] → IsBranch (tree_of n) (tree_of n) [] []
@@ -67,10 +75,11 @@ module _ {K V : Type 0} (enc : K → List ℕ) (old : Tree (KeyValue K V)) (coun
 
   -- a path below a list that isn't empty leads to a stored one
   pub path_below_has_stored : (p q : List ℕ) → 0 < length p → IsPath old q → IsPrefix p q → fin.len (below (map_of old) p) ≡ 0 → ⊥
-  path_below_has_stored [] q some at i none = absurd (omega (arith, some))
-  path_below_has_stored (a ∷ p) q some at i none =
-      let r = reached_past (IsStored (map_of old)) q [] a (p ++ i.0) i.1 (node_point enc (map_of old) old the_root q at.0 at.1) in
-      nothing_stored_below (map_of old) (a ∷ p) r.0 r.1 (prefix_through (a ∷ p) q r.0 i r.2) none
+  path_below_has_stored p q some at i none = point_below_has_stored (map_of old) p q some (node_point enc (map_of old) old the_root q at.0 at.1) i none
+
+  -- where no point goes on from a list, no path does
+  pub points_apart-paths : (p : List ℕ) → ((q : List ℕ) → IsPoint (map_of old) q → IsPrefix p q → ⊥) → (q : List ℕ) → IsPath old q → IsPrefix p q → ⊥
+  points_apart-paths p apart q at i = apart q (node_point enc (map_of old) old the_root q at.0 at.1) i
 
   -- where no path goes on from a list, nothing is there to be taken
   module _ (p : List ℕ) (apart : (q : List ℕ) → IsPath old q → IsPrefix p q → ⊥) where
@@ -82,13 +91,33 @@ module _ {K V : Type 0} (enc : K → List ℕ) (old : Tree (KeyValue K V)) (coun
     pub nothing_below-pairs : [] ≡ pairs_below (map_of old) p
     nothing_below-pairs = sym (ap (map (λ e. e.1)) no_walk)
 
+    -- where no path goes on from p, no pair is stored at or below p
+    len-nothing_below : fin.len (below (map_of old) p) ≡ 0
+    len-nothing_below = fin.len-entries (below (map_of old) p) ∙ ap length no_walk
+
+    -- where no path goes on from p, the map of all at and below p is empty
+    pub below-nothing_below : below (map_of old) p ≡ fin.empty
+    below-nothing_below = fin.empty_of_len (below (map_of old) p) len-nothing_below
+
     -- where no path goes on from p, the map of the same tree is the map without all below p
     pub map_of-nothing_below : (new : Tree (KeyValue K V)) → new ≡ old → map_of new ≡ without_below (map_of old) p
-    map_of-nothing_below new e = ap map_of e ∙ sym (without_below-nothing p (map_of old) (fin.len-entries (below (map_of old) p) ∙ ap length no_walk))
+    map_of-nothing_below new e = ap map_of e ∙ sym (without_below-nothing p (map_of old) len-nothing_below)
 
   -- where nothing is stored at or below the empty list, the root has no entry
   pub length-nothing_stored : fin.len (below (map_of old) []) ≡ 0 → length (entries_at [] old) ≡ 0
   length-nothing_stored none = held_length ∙ sym (len-map_of_kept enc old count nodes nibbles kept) ∙ ap fin.len (sym (below-nil (map_of old))) ∙ none
+
+  -- a branch's pairs are the map's at and below its path, in order
+  pub pairs_in-branch : (p s : List ℕ) (u : Tree (KeyValue K V)) → IsBranch old u p s → pairs_in u ≡ pairs_below (map_of old) p
+  pairs_in-branch p s u branch = pairs_in-node enc (map_of old) old the_root p (p ++ drop branch.covered u.fragment) u branch.nearest.node branch.nearest.shortest
+
+  -- a branch has as many entries as the map has pairs at and below its path
+  pub length-branch_entries : (p s : List ℕ) (u : Tree (KeyValue K V)) → IsBranch old u p s → length (entries_at [] u) ≡ fin.len (below (map_of old) p)
+  length-branch_entries p s u branch =
+      let all = ap length (pairs_in-branch p s u branch) in
+      let a = length-pairs_of (entries_at [] u) in
+      let b = length-map (walk (map_of old) p) (λ e. e.1) in
+      omega (arith, all, a, b, fin.len-entries (below (map_of old) p))
 
   module _ (new : Tree (KeyValue K V)) (p s : List ℕ) (u : Tree (KeyValue K V)) (m l : ℕ) (branch : IsBranch old u p s) (cut : PrunesRoot s u m l old new) where
     -- the path of the branch
@@ -106,7 +135,7 @@ module _ {K V : Type 0} (enc : K → List ℕ) (old : Tree (KeyValue K V)) (coun
         ∙ ap (λ y. entry y u.pair ++ entries_in y u.children) (sym branch.path)
 
     -- the root's rows with the prefix p are those of the branch
-    rows_chosen : filter (λ e. is_prefix p e.0) (entries_of old) ≡ gone
+    pub rows_chosen : filter (λ e. is_prefix p e.0) (entries_of old) ≡ gone
     rows_chosen = ap (filter (λ e. is_prefix p e.0)) (entries_of-root old kept.top) ∙ filter-map (λ (e : List ℕ × (K × V)). is_prefix p e.0) row_of (entries_at [] old) ∙ ap (map row_of) at_branch
 
     -- the pairs after the cut are the old ones without the branch's rows
@@ -116,10 +145,6 @@ module _ {K V : Type 0} (enc : K → List ℕ) (old : Tree (KeyValue K V)) (coun
     -- after the cut the map is the old one without all below p
     pub map_of-pruned : map_of new ≡ without_below (map_of old) p
     map_of-pruned = from_sorted-run_cut p gone (entries_of old) (entries_of new) (entries_rise old kept.masked kept.full) rows_swapped rows_chosen
-
-    -- the branch's pairs are the old map's at and below p, in order
-    pairs_in-pruned : pairs_in u ≡ pairs_below (map_of old) p
-    pairs_in-pruned = pairs_in-node enc (map_of old) old the_root p path u branch.nearest.node branch.nearest.shortest
 
     -- the branch has as many rows as pairs
     gone_length : length gone ≡ length (pairs_in u)
@@ -163,4 +188,4 @@ module _ {K V : Type 0} (enc : K → List ℕ) (old : Tree (KeyValue K V)) (coun
 
       -- the pairs handed out are the old map's at and below p, in order
       pub handed_pairs_below : pairs ≡ pairs_below (map_of old) p
-      handed_pairs_below = is ∙ pairs_in-pruned
+      handed_pairs_below = is ∙ pairs_in-branch p s u branch

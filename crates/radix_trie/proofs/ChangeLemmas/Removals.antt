@@ -3,12 +3,13 @@ use Rattle.std.proofs.Common.{◌≡◌, ℕ, suc, ◌-◌, ◌≤◌, List, ◌
 use Rattle.std.specs.FinMap as fin
 use Rattle.masked_tree.specs.Alters.{CutsRoot}
 use Rattle.masked_tree.specs.Tree.{Tree}
+use Rattle.masked_tree.proofs.TreeLemmas.Children.{swaps-length}
 use Rattle.radix_nodes.specs.declared.trie_node.KeyValue.{KeyValue}
 use Rattle.radix_nodes.specs.declared.trie_node.TrieNode.{TrieNode}
 use Rattle.radix_nodes.specs.Nodes.{tree_of, fragment_of}
 use Rattle.radix_nodes.specs.Pairs.{pair_of}
 use Rattle.radix_trie.specs.Roots.{entries_of, map_of, IsKept}
-use Rattle.radix_trie.proofs.ChangeLemmas.Changes.{swaps-length, entry_change, kept_after, map_of-cut, get-before_cut, removed_at}
+use Rattle.radix_trie.proofs.ChangeLemmas.Changes.{entry_change, kept_after, map_of-cut, get-before_cut, removed_at}
 
 -- what a removal from the root does, once it has taken a pair
 module _ {K V : Type 0} (enc : K → List ℕ) (root : TrieNode K V) (new : Tree (KeyValue K V)) (count nodes nibbles : ℕ) (list q : List ℕ) (x : KeyValue K V) (m l : ℕ)

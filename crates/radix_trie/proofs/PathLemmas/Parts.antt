@@ -1,7 +1,7 @@
 -- The part of a tree at and below one of its nodes.
 use Rattle.std.proofs.Common.{◌≡◌, ◌≢◌, ◌⊎◌, inl, inr, Bool, true, false, ℕ, zero, suc, ◌<◌, ◌≤◌, List, [], ◌∷◌, ◌++◌, filter, Option, Some, None, refl, ap, sym, subst, ◌∙◌, append_assoc, append-nil, arith}
 use Rattle.std.proofs.lemmas.List.Elements.{filter-append}
-use Rattle.masked_tree.specs.Tree.{Tree, Children, none, more, plain, IsPlaced, IsTreePlaced, IsFullBelow, entries_in, entries_at}
+use Rattle.masked_tree.specs.Tree.{Tree, Children, none, more, plain, IsPlaced, IsTreePlaced, IsTreeFull, IsFullBelow, entries_in, entries_at}
 use Rattle.masked_tree.specs.Paths.{IsChildAt, IsNodeAt}
 use Rattle.nibble_map.specs.Lists.{Has, IsPrefix, is_prefix}
 use Rattle.nibble_map.specs.Swaps.{entry}
@@ -126,17 +126,17 @@ module _ {P : Type 0} where
   node_placed t x u h (inl i) = subst IsTreePlaced (sym i.1) h
   node_placed t x u h (inr i) = child_placed 0 t.children i.0 u h.1 i.2
 
-  -- below full children each node is full below
-  child_full : (k : Children P) (x : List ℕ) (u : Tree P) → IsFull (plain k) → IsChildAt k x u → IsFullBelow u
+  -- below full children each node has a pair or two children, and is full below
+  pub child_full : (k : Children P) (x : List ℕ) (u : Tree P) → IsFull (plain k) → IsChildAt k x u → IsTreeFull u
   child_full none x u full i = absurd i
-  child_full (more f o m children others) x u full (inl i) = subst IsFullBelow (sym i.1) full.1
+  child_full (more f o m children others) x u full (inl i) = subst IsTreeFull (sym i.1) (full.0, full.1)
   child_full (more f o m children others) x u full (inr (inl i)) = child_full children i.0 u full.1 i.2
   child_full (more f o m children others) x u full (inr (inr i)) = child_full others x u full.2 i
 
   -- of a tree that is full below, each node is full below
   pub node_full : (t : Tree P) (x : List ℕ) (u : Tree P) → IsFullBelow t → IsNodeAt t x u → IsFullBelow u
   node_full t x u full (inl i) = subst IsFullBelow (sym i.1) full
-  node_full t x u full (inr i) = child_full t.children i.0 u full i.2
+  node_full t x u full (inr i) = (child_full t.children i.0 u full i.2).1
 
   -- what stands at a list that goes on from a node's path stands so in the node's own tree
   module _ (t u : Tree P) (p : List ℕ) (at : IsNodeAt t p u) where

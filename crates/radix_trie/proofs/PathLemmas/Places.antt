@@ -11,10 +11,12 @@ use Rattle.masked_tree.specs.Tree.{Tree, Children, none, more, IsPlaced, IsTreeP
 use Rattle.masked_tree.specs.Paths.{IsChildAt, IsNodeAt, IsPath}
 use Rattle.nibble_map.specs.Lists.{IsPrefix, IsStrictPrefix, is_prefix}
 use Rattle.nibble_map.specs.MapQueries.{IsLeaf}
-use Rattle.nibble_map.specs.Maps.{NibbleMap, PairMap, below, walk}
+use Rattle.nibble_map.specs.Maps.{NibbleMap, PairMap, below, without_below, walk}
 use Rattle.masked_tree.proofs.PathLemmas.Agreement.{append_drop-whole_fragment, agrees_not_prefix}
 use Rattle.nibble_map.proofs.MapLemmas.Below.{get-below}
 use Rattle.nibble_map.proofs.MapLemmas.Edits.{walk-by_entries}
+use Rattle.nibble_map.proofs.MapLemmas.Without.{below-without_below}
+use Rattle.nibble_map.proofs.ListLemmas.Cut.{empty_of_length}
 use Rattle.nibble_map.proofs.ListLemmas.Parted.{prefix_itself, prefix_length}
 use Rattle.nibble_map.proofs.ListLemmas.Sorted.{tied_lists_equal}
 use Rattle.radix_nodes.specs.declared.trie_node.KeyValue.{KeyValue}
@@ -64,6 +66,14 @@ below_it (suc a) (suc b) le part = let lt = below_it a b (omega arith) (λ e. pa
 -- all of a map is below the empty list
 pub below-nil : {P : Type 0} (m : NibbleMap P) → below m [] ≡ m
 below-nil m = fin.same_map nat_list_cmp_total tied_lists_equal (below m []) m (λ e. get-below m [] e tt)
+
+-- nothing of a map is left without all below the empty list
+pub without_below-nil : {P : Type 0} (m : NibbleMap P) → without_below m [] ≡ fin.empty
+without_below-nil m = sym (below-nil (without_below m [])) ∙ below-without_below [] m
+
+-- where nothing is stored at or below a path there are no pairs
+pub no_pairs_below : {K V : Type 0} (m : PairMap K V) (p : List ℕ) → fin.len (below m p) ≡ 0 → pairs_below m p ≡ []
+no_pairs_below m p unstored = empty_of_length (pairs_below m p) (omega (arith, length-map (walk m p) (λ e. e.1), fin.len-entries (below m p), unstored))
 
 -- of what was found for a path
 module _ {K V : Type 0} (enc : K → List ℕ) (m : PairMap K V) (p : List ℕ) (found : Option (Bor (TrieNode K V) × ℕ)) (place : IsPlace enc m p found) where

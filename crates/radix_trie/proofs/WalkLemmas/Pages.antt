@@ -2,6 +2,7 @@
 use Rattle.std.proofs.Common.{◌≡◌, ℕ, zero, suc, ◌+◌, ◌<◌, ◌≤◌, List, [], ◌∷◌, ◌++◌, length, take, drop, get_or, Option, Some, None, refl, ap, sym, ◌∙◌, append_assoc, length-append, arith, Box, Global, Bor}
 use Rattle.std.proofs.lemmas.List.{at_drop_more, length-map, length-take}
 use Rattle.masked_tree.specs.Tree.{entries_in, entries_at}
+use Rattle.nibble_map.proofs.ListLemmas.Cut.{empty_of_length}
 use Rattle.radix_nodes.specs.declared.trie_node.KeyValue.{KeyValue}
 use Rattle.radix_nodes.specs.declared.trie_node.TrieNode.{TrieNode, out-TrieNode}
 use Rattle.radix_nodes.specs.Nodes.{children_of, tree_of}
@@ -25,6 +26,29 @@ module _ {K V : Type 0} where
   length-own_pair : (o : Option (KeyValue K V)) → length (own_pair o) ≤ 1
   length-own_pair None = omega arith
   length-own_pair (Some x) = omega arith
+
+  -- the children from i on have no more pairs than all of them
+  drop_has_fewer : (row : List (Box (TrieNode K V) Global)) (i : ℕ) → length (pairs_in_all (children_of (drop i row))) ≤ length (pairs_in_all (children_of row))
+  drop_has_fewer row zero = omega arith
+  drop_has_fewer [] (suc i) = omega arith
+  drop_has_fewer (b ∷ row) (suc i) =
+      let own = pairs_in (tree_of b.value) in
+      let parts = ap length (pairs_of-append (entries_at [] (tree_of b.value)) (entries_in [] (children_of row))) in
+      omega (arith, drop_has_fewer row i, parts, length-append own (pairs_in_all (children_of row)))
+
+  -- where no pair is at and below a node, none is at and below its child at i
+  pub no_pairs_at_child : (t : TrieNode K V) (row : List (Box (TrieNode K V) Global)) → row ≡ (out-TrieNode K V t).children.items
+      → (i : ℕ) (b : Box (TrieNode K V) Global) (n : TrieNode K V) → i < length row → b ≡ get_or row i b → n ≡ b.value
+      → pairs_in (tree_of t) ≡ [] → pairs_in (tree_of n) ≡ []
+  no_pairs_at_child t row at i b n lt item same none =
+      let rest = pairs_in_all (children_of (drop (i + 1) row)) in
+      let own = pairs_in (tree_of b.value) in
+      let whole = ap length (ap (λ k. own_pair (tree_of t).pair ++ pairs_in_all k) (children_of-row t row at) ∙ sym (pairs_of-entries_at [] (tree_of t)) ∙ none) in
+      let all = length-append (own_pair (tree_of t).pair) (pairs_in_all (children_of row)) in
+      let parts = ap length
+      (pairs_of-append (entries_at [] (tree_of b.value)) (entries_in [] (children_of (drop (i + 1) row)))) in
+      let here = ap length (at_drop_more (λ bs. pairs_in_all (children_of bs)) row i b lt ∙ ap (λ c. pairs_in_all (children_of (c ∷ drop (i + 1) row))) (sym item)) in
+      ap (λ k. pairs_in (tree_of k)) same ∙ empty_of_length own (omega (arith, whole, all, parts, here, length-append own rest, drop_has_fewer row i))
 
   module _ (most : ℕ) (old new : List (Bor K × Bor V)) where
     -- with a node's own pair, a list that isn't full has no more than it may have

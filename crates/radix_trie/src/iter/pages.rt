@@ -1,5 +1,5 @@
 //! The first pairs at and below a node, so many of them at most.
-ghost use Rattle.std.specs.Prelude.{◌≡◌, ◌≤◌, ◌++◌, [], IfOk, OnOk, length, take};
+ghost use Rattle.std.specs.Prelude.{◌≡◌, ◌≤◌, ◌++◌, [], IsOk, IfOk, OnOk, length, take};
 ghost use Rattle.radix_nodes.specs.Nodes.{tree_of};
 ghost use Rattle.radix_nodes.specs.Pairs.{own_pair, pairs_in};
 ghost use Rattle.radix_trie.specs.Walks.{deref_pairs};
@@ -16,8 +16,10 @@ pub(crate) fn first_pairs<K, V>(
     node: &TrieNode<K, V>,
     most: usize,
 ) -> Result<Vec<(&K, &V)>, Memory>
-    ensures { IfOk result
+    ensures pairs { IfOk result
         (λ list. deref_pairs list.items ≡ take most (pairs_in (tree_of node.now))) }
+    ensures no_page { most ≡ 0 → IsOk result }
+    ensures none { pairs_in (tree_of node.now) ≡ [] → IsOk result }
 {
     let mut list = Vec::new(alloc);
     push_first(node, most, &mut list)?;
@@ -33,6 +35,8 @@ fn push_first<'a, K, V>(
     requires few { length list.old.items ≤ most }
     ensures pairs { OnOk result (deref_pairs list.new.items
         ≡ take most (deref_pairs list.old.items ++ pairs_in (tree_of node.now))) }
+    ensures full { length list.old.items ≡ most → IsOk result }
+    ensures none { pairs_in (tree_of node.now) ≡ [] → IsOk result }
 {
     if list.len() == most {
         return Ok(());
@@ -51,6 +55,7 @@ fn push_own<'a, K, V>(
 ) -> Result<(), Memory>
     ensures pair { OnOk result (deref_pairs list.new.items
         ≡ deref_pairs list.old.items ++ own_pair (tree_of node.now).pair) }
+    ensures none { own_pair (tree_of node.now).pair ≡ [] → IsOk result }
 {
     if let Some(pair) = node.pair() {
         list.push(parts(pair))?;

@@ -35,6 +35,8 @@ mod pages;
 mod prune;
 mod queries;
 mod remove;
+mod split;
+mod values;
 
 /// A map from keys to values, told apart by the keys' encodings.
 ///

@@ -1,5 +1,7 @@
 //! Pages: a few pairs at a time, in the order of the encodings.
-ghost use Rattle.std.specs.Prelude.{◌≡◌, IfOk, take};
+ghost use Rattle.std.specs.Prelude.{◌≡◌, IsOk, IfOk, take};
+ghost use Rattle.std.specs.FinMap as map;
+ghost use Rattle.nibble_map.specs.Maps.{below};
 ghost use Rattle.radix_trie.specs.Views.{pairs_below};
 ghost use Rattle.radix_trie.specs.Walks.{deref_pairs};
 
@@ -25,6 +27,10 @@ impl<K: TrieKey, V> Trie<K, V> {
     pub fn first_below<Q: TrieKey>(&self, key: &Q, most: usize) -> Result<Vec<(&K, &V)>, Memory>
         ensures pairs { IfOk result (λ list. deref_pairs list.items
             ≡ take most (pairs_below self.now (Q.encoding key.now))) }
+        ensures light_no_page { Q.is_light key.now → most ≡ 0 → IsOk result }
+        ensures light_none { Q.is_light key.now
+            → map.len (below self.now (Q.encoding key.now)) ≡ 0
+            → IsOk result }
     {
         let list = key.encode(self.allocator())?;
         Place::find(self, &list).first_pairs(most)

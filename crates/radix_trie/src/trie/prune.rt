@@ -5,6 +5,7 @@ ghost use Rattle.nibble_map.specs.Maps.{below, without_below};
 ghost use Rattle.radix_trie.specs.Views.{pairs_below};
 
 use crate::trie::Trie;
+use crate::view::place::Place;
 use radix_keys::{Memory, Nibblet, TrieKey};
 use radix_nodes::traversal::prune::{prune_all, prune_root};
 
@@ -47,7 +48,8 @@ impl<K: TrieKey + Drop, V: Drop> Trie<K, V> {
         if list.len() == 0 {
             return self.prune_whole();
         }
-        match prune_root(&mut self.root, self.alloc, list) {
+        let room = Vec::with_capacity(self.alloc, Place::find(&*self, list).len())?;
+        match prune_root(&mut self.root, list, room) {
             Ok(Some(pruned)) => {
                 self.length -= pruned.pairs.len();
                 self.nodes -= pruned.nodes;

@@ -60,6 +60,14 @@ impl<'a, K: TrieKey, V> SubTrie<'a, K, V> {
         SubTrie { trie, node, path }
     }
 
+    /// The view's path.
+    pub(crate) fn into_path(self) -> Nibblet
+        ensures { result ≡ self.entry.path }
+    {
+        let SubTrie { path, .. } = self;
+        path
+    }
+
     /// The whole path, of which the last part is the view's fragment.
     pub fn path(&self) -> &Nibblet
         ensures { result.now ≡ self.now.path }

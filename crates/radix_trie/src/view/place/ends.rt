@@ -1,5 +1,7 @@
 //! The first pairs at and below a path, and the last.
-ghost use Rattle.std.specs.Prelude.{◌≡◌, ◌-◌, IfOk, length, option_map, slice_get, take};
+ghost use Rattle.std.specs.Prelude.{◌≡◌, ◌-◌, IsOk, IfOk, length, option_map, slice_get, take};
+ghost use Rattle.std.specs.FinMap as map;
+ghost use Rattle.nibble_map.specs.Maps.{below};
 ghost use Rattle.radix_trie.specs.Views.{pairs_below};
 ghost use Rattle.radix_trie.specs.Walks.{deref_pair, deref_pairs};
 
@@ -33,8 +35,10 @@ impl<'a, 'p, K: TrieKey, V> Place<'a, 'p, K, V> {
 
     /// The first pairs at and below the path, `most` of them where there are so many.
     pub(crate) fn first_pairs(&self, most: usize) -> Result<Vec<(&'a K, &'a V)>, Memory>
-        ensures { IfOk result (λ list. deref_pairs list.items
+        ensures pairs { IfOk result (λ list. deref_pairs list.items
             ≡ take most (pairs_below self.now.map self.now.path)) }
+        ensures no_page { most ≡ 0 → IsOk result }
+        ensures none { map.len (below self.now.map self.now.path) ≡ 0 → IsOk result }
     {
         match self.found {
             Some((node, _)) => first_pairs(self.trie.allocator(), node, most),

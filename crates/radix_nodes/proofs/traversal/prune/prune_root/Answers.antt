@@ -1,85 +1,23 @@
-use Rattle.std.proofs.Common.{◌≡◌, ◌≢◌, ◌+◌, ◌<◌, ◌++◌, ◌∙◌, [], refl, sym, ap, subst, arith, length, drop}
-use Rattle.radix_nodes.specs.declared.trie_node.TrieNode.{out-TrieNode}
-use Rattle.masked_tree.specs.Tree.{IsTreePlaced}
-use Rattle.radix_nodes.specs.Nodes.{tree_of, fragment_of, answered}
-use Rattle.radix_nodes.proofs.EditLemmas.Merging.{item_is_unique}
-use Rattle.radix_nodes.proofs.EditLemmas.Insertion.{boxed_child_is_placed, box_is_child}
-use Rattle.radix_nodes.proofs.SearchLemmas.Nearest.{nearest_none, nearest_parted}
-use Rattle.radix_nodes.specs.Prunes.{IsSmall, PruneOutcome}
-use Rattle.radix_nodes.proofs.EditLemmas.Branches.{item_at, child_is_small, branch_child, key_goes_on, root_prune_through_child}
+use Rattle.std.proofs.Common.{◌≤◌, ◌∙◌, sym, subst, arith}
+use Rattle.masked_tree.specs.Alters.{PrunesRoot}
+use Rattle.radix_nodes.specs.Prunes.{branch_of, nodes_gone, nibbles_gone}
+use Rattle.radix_nodes.specs.Nodes.{tree_of}
+use Rattle.radix_nodes.proofs.EditLemmas.Branches.{branch_is_small}
 use Rattle.radix_nodes.proofs.traversal.prune.prune_root.Goals as goal
 
-pub prune_below-told-requires-clause-depth : goal.prune_below-told-requires-clause-depth
-prune_below-told-requires-clause-depth g c =
-    let on = key_goes_on c.args.root.now c.deref.result.now c.args.list.now 0 c.requires.placed c.in-Some.i c.in-Some.agreement c.requires.some c.in-Some.ensures c.index.result.now (sym c.index.ensures) c.deref.ensures
-    (c.if-agreement-len-2.true ∙ c.len-else-agreement-len.ensures) (λ z. c.if-agreement-len.false (omega (arith, z, c.len.ensures))) in
-    omega (arith, on.1)
+pub emptied-requires : goal.emptied-requires
+emptied-requires g c =
+    let b = c.in-Ok-Some.branch in
+    let o = rw c.in-Ok-Some.field-0-is at c.in-Ok-Some.ensures in
+    record {
+      empty = c.requires.empty;
+      room = c.requires.room (branch_of b) o.0 o.1;
+      small = branch_is_small (tree_of c.args.root.now) (tree_of c.cut_branch.new.root) (branch_of b) o.0 (nodes_gone b) (nibbles_gone b) c.requires.small o.2 (omega arith) (omega arith);
+      few = o.3;
+    }
 
-pub prune_below-told-requires-clause-placed : goal.prune_below-told-requires-clause-placed
-prune_below-told-requires-clause-placed g c =
-    let n = c.args.root.now in
-    let o = (out-TrieNode g.row.K.Denot g.row.V.Denot n).children.ok.0 in
-    subst (λ m. IsTreePlaced (tree_of m)) (sym c.deref_mut.ensures.value)
-    (boxed_child_is_placed n c.in-Some.i c.index_mut.result.now c.requires.placed (omega (arith, c.in-Some.ensures.within, o)) (sym c.index_mut.ensures.value)).1
-
-pub prune_below-told-requires-clause-some : goal.prune_below-told-requires-clause-some
-prune_below-told-requires-clause-some g c =
-    let n = c.args.root.now in
-    let o = (out-TrieNode g.row.K.Denot g.row.V.Denot n).children.ok.0 in
-    subst (λ m. fragment_of m ≢ []) (sym c.deref_mut.ensures.value)
-    (boxed_child_is_placed n c.in-Some.i c.index_mut.result.now c.requires.placed (omega (arith, c.in-Some.ensures.within, o)) (sym c.index_mut.ensures.value)).0
-
-pub prune_below-told-requires-clause-small : goal.prune_below-told-requires-clause-small
-prune_below-told-requires-clause-small g c =
-    let n = c.args.root.now in
-    let b = c.index_mut.result.now in
-    let o = (out-TrieNode g.row.K.Denot g.row.V.Denot n).children.ok.0 in
-    subst (λ m. IsSmall (tree_of m)) (sym c.deref_mut.ensures.value)
-    (child_is_small (tree_of n) (tree_of b.value) c.in-Some.i (box_is_child n c.in-Some.i b c.requires.placed (omega (arith, c.in-Some.ensures.within, o)) (sym c.index_mut.ensures.value)) c.requires.small)
-
-pub returns-in-Ok : goal.returns-in-Ok
-returns-in-Ok g c =
-    let n = c.args.root.now in
-    let o = (out-TrieNode g.row.K.Denot g.row.V.Denot n).children.ok.0 in
-    let lt : c.in-Some.i < length (out-TrieNode g.row.K.Denot g.row.V.Denot n).children.items = omega (arith, c.in-Some.ensures.within, o) in
-    let item = item_at (out-TrieNode g.row.K.Denot g.row.V.Denot n).children.items c.in-Some.i lt in
-    let at = box_is_child n c.in-Some.i item.0 c.requires.placed lt item.1 in
-    let branch = branch_child n item.0.value c.args.list.now 0 c.requires.placed c.in-Some.i c.in-Some.agreement c.requires.some c.in-Some.ensures item.0 item.1 refl (omega (arith, c.if-agreement-len.true, c.len.ensures)) in
-    (tree_of item.0.value, (tree_of n).fragment, branch, c.in-Ok.ensures.cut (tree_of item.0.value) at, c.in-Ok.ensures.pairs (tree_of item.0.value) at)
-
-pub returns-in-Err : goal.returns-in-Err
-returns-in-Err g c =
-    let n = c.args.root.now in
-    let o = (out-TrieNode g.row.K.Denot g.row.V.Denot n).children.ok.0 in
-    let lt : c.in-Some.i < length (out-TrieNode g.row.K.Denot g.row.V.Denot n).children.items = omega (arith, c.in-Some.ensures.within, o) in
-    let item = item_at (out-TrieNode g.row.K.Denot g.row.V.Denot n).children.items c.in-Some.i lt in
-    let branch = branch_child n item.0.value c.args.list.now 0 c.requires.placed c.in-Some.i c.in-Some.agreement c.requires.some c.in-Some.ensures item.0 item.1 refl (omega (arith, c.if-agreement-len.true, c.len.ensures)) in
-    let rest = drop branch.covered (tree_of item.0.value).fragment in
-    (c.in-Err.ensures.unchanged, (fragment_of n ++ c.args.list.now) ++ rest, (tree_of item.0.value, branch.nearest.node), (rest, refl))
-
-pub returns-then-agreement-len-2 : goal.returns-then-agreement-len-2
-returns-then-agreement-len-2 g c =
-    let n = c.args.root.now in
-    let b = c.index_mut.result.now in
-    let key = c.args.list.now in
-    let items = (out-TrieNode g.row.K.Denot g.row.V.Denot n).children.items in
-    let o = (out-TrieNode g.row.K.Denot g.row.V.Denot n).children.ok.0 in
-    let lt : c.in-Some.i < length items = omega (arith, c.in-Some.ensures.within, o) in
-    let is = sym c.index_mut.ensures.value in
-    let same : c.deref.result.now ≡ b.value = c.deref.ensures ∙ ap (λ k. k.value) (item_is_unique items c.in-Some.i c.index.result.now b lt (sym c.index.ensures) is) in
-    let next : c.in-Some.agreement.same ≡ 0 + c.in-Some.agreement.same = omega arith in
-    let below = subst (λ m. PruneOutcome (answered c.prune_below-told.result c.prune_below-told.new.pruned) (fragment_of m ++ drop c.in-Some.agreement.same key) (tree_of m) (tree_of c.prune_below-told.new.node)) c.deref_mut.ensures.value c.prune_below-told.ensures in
-    let below0 = subst (λ k. PruneOutcome (answered c.prune_below-told.result c.prune_below-told.new.pruned) (fragment_of b.value ++ drop k key) (tree_of b.value) (tree_of c.prune_below-told.new.node)) next below in
-    rw c.answer_of.ensures
-    (root_prune_through_child n b.value key 0 c.requires.placed c.in-Some.i c.in-Some.agreement c.requires.some c.in-Some.ensures b is refl _
-    (c.if-agreement-len-2.true ∙ c.len-else-agreement-len.ensures ∙ ap (λ m. length (fragment_of m)) same) (answered c.prune_below-told.result c.prune_below-told.new.pruned) below0)
-
-pub returns-else-agreement-len-2 : goal.returns-else-agreement-len-2
-returns-else-agreement-len-2 g c = (
-  refl,
-  nearest_parted c.args.root.now c.args.list.now 0 c.requires.placed c.deref.result.now c.in-Some.i c.in-Some.agreement c.requires.some c.in-Some.ensures c.index.result.now (sym c.index.ensures)
-      c.deref.ensures (λ z. c.if-agreement-len-2.false (z ∙ sym c.len-else-agreement-len.ensures)) (λ z. c.if-agreement-len.false (omega (arith, z, c.len.ensures))),
-)
-
-pub returns-in-None : goal.returns-in-None
-returns-in-None g c = (refl, nearest_none c.args.root.now c.args.list.now 0 c.requires.placed c.requires.some c.in-None.ensures)
+pub returns-in-Ok-Some : goal.returns-in-Ok-Some
+returns-in-Ok-Some g c =
+    let b = c.in-Ok-Some.branch in
+    let o = rw c.in-Ok-Some.field-0-is at c.in-Ok-Some.ensures in
+    (branch_of b, o.0, o.1, rw (c.emptied.ensures.nodes, c.emptied.ensures.nibbles) o.2, c.emptied.ensures.pairs)

@@ -3,7 +3,8 @@ use Rattle.masked_tree.specs.Tree.{nodes_in}
 use Rattle.radix_nodes.specs.declared.trie_node.TrieNode.{out-TrieNode}
 use Rattle.radix_nodes.specs.Nodes.{tree_of}
 use Rattle.radix_nodes.proofs.NodeLemmas.Sizes.{child_is_smaller}
-use Rattle.radix_trie.proofs.WalkLemmas.Pages.{own_fits, own_comes_first, cut_fits, child_comes_next}
+use Rattle.radix_trie.proofs.WalkLemmas.Pages.{own_fits, own_comes_first, cut_fits, child_comes_next, no_pairs_at_child}
+use Rattle.radix_trie.proofs.PathLemmas.Places.{false_is_not_true}
 use Rattle.radix_trie.proofs.iter.pages.+push_first.Goals as goal
 
 pub loop-child-init : goal.loop-child-init
@@ -34,3 +35,8 @@ loop-child-preserved g t c =
       same = child_comes_next c.args.most c.loop-child.list.items c.push_first.new.list.items c.deref-child-items.result.now c.loop-child.child-index c.child-item.result c.deref.result.now
           c.loop-child-test.true c.child-item.is c.deref.ensures pushed ∙ c.loop-child.invariant.same;
     }
+
+pub returns-in_err-push_first-clause-none : goal.returns-in_err-push_first-clause-none
+returns-in_err-push_first-clause-none g t c = λ none.
+    absurd (false_is_not_true (c.in_err-push_first.ensures.none (no_pairs_at_child c.args.node.now c.deref-child-items.result.now c.deref-child-items.ensures.value
+    c.loop-child.child-index c.child-item.result c.deref.result.now c.loop-child-test.true c.child-item.is c.deref.ensures none)))

@@ -1,16 +1,17 @@
 use Rattle.std.proofs.Common.{◌≡◌, ◌≢◌, ◌+◌, ◌<◌, ◌++◌, ◌∙◌, [], refl, sym, ap, subst, arith, length, drop}
 use Rattle.masked_tree.specs.Tree.{IsTreePlaced}
+use Rattle.masked_tree.proofs.TreeLemmas.Children.{child_at_is_unique}
 use Rattle.radix_nodes.specs.declared.trie_node.TrieNode.{out-TrieNode}
 use Rattle.radix_nodes.specs.Nodes.{tree_of, fragment_of, answered}
 use Rattle.radix_nodes.proofs.EditLemmas.Merging.{item_is_unique}
 use Rattle.radix_nodes.proofs.EditLemmas.Insertion.{boxed_child_is_placed, box_is_child}
 use Rattle.radix_nodes.proofs.SearchLemmas.Nearest.{nearest_none, nearest_parted}
-use Rattle.radix_nodes.specs.Prunes.{IsSmall, PruneOutcome}
-use Rattle.radix_nodes.proofs.EditLemmas.Branches.{item_at, child_is_small, branch_child, key_goes_on, prune_through_child}
-use Rattle.radix_nodes.proofs.traversal.prune.+prune_below.Goals as goal
+use Rattle.radix_nodes.specs.Prunes.{IsBranch, BranchOutcome, branch_of}
+use Rattle.radix_nodes.proofs.EditLemmas.Branches.{item_at, branch_child, key_goes_on, cut_through_child}
+use Rattle.radix_nodes.proofs.traversal.branch.+cut_below.Goals as goal
 
-pub prune_below-requires : goal.prune_below-requires
-prune_below-requires g t c =
+pub cut_below-requires : goal.cut_below-requires
+cut_below-requires g t c =
     let n = c.args.node.now in
     let b = c.index_mut.result.now in
     let o = (out-TrieNode g.row.K.Denot g.row.V.Denot n).children.ok.0 in
@@ -19,11 +20,9 @@ prune_below-requires g t c =
     let child = boxed_child_is_placed n c.in-Some.i b c.requires.placed lt is in
     let placed : IsTreePlaced (tree_of c.deref_mut.result.now) = subst (λ m. IsTreePlaced (tree_of m)) (sym c.deref_mut.ensures.value) child.1 in
     let some : fragment_of c.deref_mut.result.now ≢ [] = subst (λ m. fragment_of m ≢ []) (sym c.deref_mut.ensures.value) child.0 in
-    let small : IsSmall (tree_of c.deref_mut.result.now) = subst (λ m. IsSmall (tree_of m)) (sym c.deref_mut.ensures.value)
-    (child_is_small (tree_of n) (tree_of b.value) c.in-Some.i (box_is_child n c.in-Some.i b c.requires.placed lt is) c.requires.small) in
     let on = key_goes_on n c.deref.result.now c.args.list.now c.args.depth c.requires.placed c.in-Some.i c.in-Some.agreement c.requires.depth c.in-Some.ensures c.index.result.now (sym c.index.ensures) c.deref.ensures
     (c.if-agreement-len.true ∙ c.len-else-next-len.ensures) (λ z. c.if-next-len.false (z ∙ sym c.len.ensures)) in
-    λ κs l. (omega (arith, c.decreases, on.0, on.1), (l.0, (l.1, (on.1, (placed, (some, (small, c.requires.none)))))))
+    λ κs l. (omega (arith, c.decreases, on.0, on.1), (l.0, (l.1, (on.1, (placed, (some, c.requires.none))))))
 
 pub returns-in-Ok : goal.returns-in-Ok
 returns-in-Ok g t c =
@@ -33,7 +32,8 @@ returns-in-Ok g t c =
     let item = item_at (out-TrieNode g.row.K.Denot g.row.V.Denot n).children.items c.in-Some.i lt in
     let at = box_is_child n c.in-Some.i item.0 c.requires.placed lt item.1 in
     let branch = branch_child n item.0.value c.args.list.now c.args.depth c.requires.placed c.in-Some.i c.in-Some.agreement c.requires.depth c.in-Some.ensures item.0 item.1 refl (c.if-next-len.true ∙ c.len.ensures) in
-    (tree_of item.0.value, (tree_of n).fragment, branch, c.in-Ok.ensures.cut (tree_of item.0.value) at, c.in-Ok.ensures.pairs (tree_of item.0.value) at)
+    let same = child_at_is_unique c.in-Some.i (tree_of n).children (branch_of c.in-Ok.cut) (tree_of item.0.value) c.in-Ok.ensures.child at in
+    ((tree_of n).fragment, subst (λ u. IsBranch (tree_of n) u (fragment_of n ++ drop c.args.depth c.args.list.now) (tree_of n).fragment) same branch, c.in-Ok.ensures.cut, c.in-Ok.ensures.few)
 
 pub returns-in-Err : goal.returns-in-Err
 returns-in-Err g t c =
@@ -55,9 +55,9 @@ returns-then-agreement-len g t c =
     let is = sym c.index_mut.ensures.value in
     let same : c.deref.result.now ≡ b.value = c.deref.ensures ∙ ap (λ k. k.value) (item_is_unique items c.in-Some.i c.index.result.now b lt (sym c.index.ensures) is) in
     let next = c.args.depth + c.in-Some.agreement.same in
-    let below = subst (λ m. PruneOutcome (answered c.prune_below.result c.prune_below.new.pruned) (fragment_of m ++ drop next c.args.list.now) (tree_of m) (tree_of c.prune_below.new.node)) c.deref_mut.ensures.value c.prune_below.ensures in
-    prune_through_child n b.value c.args.list.now c.args.depth c.requires.placed c.in-Some.i c.in-Some.agreement c.requires.depth c.in-Some.ensures b is refl _
-    (c.if-agreement-len.true ∙ c.len-else-next-len.ensures ∙ ap (λ m. length (fragment_of m)) same) (answered c.prune_below.result c.prune_below.new.pruned) below
+    let below = subst (λ m. BranchOutcome (answered c.cut_below.result c.cut_below.new.branch) (fragment_of m ++ drop next c.args.list.now) (tree_of m) (tree_of c.cut_below.new.node)) c.deref_mut.ensures.value c.cut_below.ensures in
+    cut_through_child n b.value c.args.list.now c.args.depth c.requires.placed c.in-Some.i c.in-Some.agreement c.requires.depth c.in-Some.ensures b is refl _
+    (c.if-agreement-len.true ∙ c.len-else-next-len.ensures ∙ ap (λ m. length (fragment_of m)) same) (answered c.cut_below.result c.cut_below.new.branch) below
 
 pub returns-else-agreement-len : goal.returns-else-agreement-len
 returns-else-agreement-len g t c = rw c.requires.none (

@@ -1,0 +1,176 @@
+use Rattle.std.proofs.Common.{◌≡◌, ℕ, suc, ◌+◌, ◌-◌, ◌<◌, ◌≤◌, ◌^◌, ◌∙◌, List, [], length, ap, sym, subst, arith, rules, refl}
+use Rattle.std.specs.FinMap as fin
+use Rattle.masked_tree.specs.Edits.{lowered}
+use Rattle.masked_tree.specs.Paths.{IsPath}
+use Rattle.masked_tree.specs.Tree.{Tree, entries_at, nodes_in, nibbles_in}
+use Rattle.nibble_map.specs.Lists.{IsPrefix}
+use Rattle.nibble_map.specs.Maps.{below, without_below}
+use Rattle.radix_nodes.specs.Nodes.{tree_of, fragment_of}
+use Rattle.radix_nodes.specs.Pairs.{pairs_in}
+use Rattle.radix_nodes.specs.Prunes.{IsSmall, branch_of, nodes_gone, nibbles_gone}
+use Rattle.radix_nodes.proofs.EditLemmas.Branches.{branch_is_small}
+use Rattle.radix_nodes.proofs.NodeLemmas.Nodes.{fragment-tree_of}
+use Rattle.radix_nodes.proofs.NodeLemmas.Pairs.{length-pairs_of}
+use Rattle.radix_trie.specs.Roots.{IsKept, map_of}
+use Rattle.radix_trie.proofs.ChangeLemmas.Changes.{append-root_fragment}
+use Rattle.radix_trie.proofs.ChangeLemmas.Prunings.{branch_at, small_root, path_below_has_stored, point_below_has_stored, points_apart-paths, below-nothing_below, map_of-nothing_below, map_of-pruned, handed_pairs_counted, handed_pairs_kept}
+use Rattle.radix_trie.proofs.ChangeLemmas.Splits.{nearest_in_equal, apart_in_equal, part_kept, map_of-part}
+use Rattle.radix_trie.proofs.PathLemmas.Places.{false_is_not_true}
+use Rattle.radix_trie.proofs.trie.Trie.split_at.Goals as goal
+use Rattle.radix_trie.proofs.trie.Trie.split_at.Goals.{in-Heap-2, in-Inline-2}
+
+pub returns-in_err-view-clause-none : goal.returns-in_err-view-clause-none
+returns-in_err-view-clause-none g c = λ none.
+    let same = ap (λ p. fin.len (below c.find.result.map p)) c.find.ensures.path ∙ ap (λ m. fin.len (below m c.args.list.now)) c.find.ensures.map ∙ none in
+    let some = ap length c.find.ensures.path in
+    absurd (false_is_not_true (c.in_err-view.ensures.short (λ q near. absurd (point_below_has_stored c.find.result.map c.find.result.path q (omega (arith, some, c.requires.some)) near.member near.below same))))
+
+pub returns-in-None-clause-split : goal.returns-in-None-clause-split
+returns-in-None-clause-split g c =
+    let root = c.self.inside.root in
+    let points = apart_in_equal c.find.result.map (map_of (tree_of root)) c.find.result.path c.args.list.now (c.find.ensures.map ∙ sym c.self.view_is) c.find.ensures.path (rw c.in-None.is at c.in_ok-view.ensures.nearest) in
+    let apart = points_apart-paths g.K.TrieKey.encoding (tree_of root) _ _ _ c.self.invariant c.args.list.now points in
+    rw (← c.self.view_is) (c.new.ensures ∙ sym (below-nothing_below g.K.TrieKey.encoding (tree_of root) _ _ _ c.self.invariant c.args.list.now apart))
+
+pub returns-in-None-clause-removed : goal.returns-in-None-clause-removed
+returns-in-None-clause-removed g c =
+    let root = c.self.inside.root in
+    let points = apart_in_equal c.find.result.map (map_of (tree_of root)) c.find.result.path c.args.list.now (c.find.ensures.map ∙ sym c.self.view_is) c.find.ensures.path (rw c.in-None.is at c.in_ok-view.ensures.nearest) in
+    let apart = points_apart-paths g.K.TrieKey.encoding (tree_of root) _ _ _ c.self.invariant c.args.list.now points in
+    rw (← c.self.view_is) (map_of-nothing_below g.K.TrieKey.encoding (tree_of root) _ _ _ c.self.invariant c.args.list.now apart (tree_of root) refl)
+
+pub returns-in_err-upper-clause-none : goal.returns-in_err-upper-clause-none
+returns-in_err-upper-clause-none g c = λ none.
+    let near = rw c.in-Some.is at c.in_ok-view.ensures.nearest in
+    let same = ap (λ p. fin.len (below c.find.result.map p)) c.find.ensures.path ∙ ap (λ m. fin.len (below m c.args.list.now)) c.find.ensures.map ∙ none in
+    let some = ap length c.find.ensures.path in
+    absurd (point_below_has_stored c.find.result.map c.find.result.path _ (omega (arith, some, c.requires.some)) near.member near.below same)
+
+pub count_pairs-length-requires : goal.count_pairs-length-requires
+count_pairs-length-requires g c =
+    let root = c.self.inside.root in
+    let b = c.in-Ok-Some.branch in
+    let limit : c.self.inside.length < 2 ^ 64 = search rules in
+    let o = rw c.in-Ok-Some.field-0-is at c.in-Ok-Some.ensures in
+    let small = branch_is_small (tree_of root) (tree_of c.cut_branch.new.root) (branch_of b) o.0 (nodes_gone b) (nibbles_gone b) (small_root g.K.TrieKey.encoding (tree_of root) _ _ _ c.self.invariant limit) o.2 (omega arith) (omega arith) in
+    subst (λ n. length (entries_at [] (tree_of n)) < 2 ^ 64) (sym c.deref.ensures) small.pairs
+
+pub measure-held-requires : goal.measure-held-requires
+measure-held-requires g c =
+    let root = c.self.inside.root in
+    let b = c.in-Ok-Some.branch in
+    let limit : c.self.inside.length < 2 ^ 64 = search rules in
+    let o = rw c.in-Ok-Some.field-0-is at c.in-Ok-Some.ensures in
+    let small = branch_is_small (tree_of root) (tree_of c.cut_branch.new.root) (branch_of b) o.0 (nodes_gone b) (nibbles_gone b) (small_root g.K.TrieKey.encoding (tree_of root) _ _ _ c.self.invariant limit) o.2 (omega arith) (omega arith) in
+    subst (λ n. IsSmall (tree_of n)) (sym c.deref-in-Ok-Some.ensures) small
+
+pub overflow_sub-nibbles : goal.overflow_sub-nibbles
+overflow_sub-nibbles g c =
+    let b = c.in-Ok-Some.branch in
+    let held = c.measure-held.ensures.nibbles ∙ ap (λ n. length (tree_of n).fragment + nibbles_in (tree_of n).children) c.deref-in-Ok-Some.ensures in
+    let own = c.len.ensures ∙ ap (λ n. length (fragment_of n)) c.deref-in-Ok-Some-2.ensures ∙ ap length (sym (fragment-tree_of b.top.value)) in
+    omega (arith, held, own)
+
+pub overflow_add-nibbles : goal.overflow_add-nibbles
+overflow_add-nibbles g c =
+    let root = c.self.inside.root in
+    let b = c.in-Ok-Some.branch in
+    let u = branch_of b in
+    let q = c.into_path-path.result in
+    let limit : c.self.inside.length < 2 ^ 64 = search rules in
+    let o = rw c.in-Ok-Some.field-0-is at c.in-Ok-Some.ensures in
+    let small = branch_is_small (tree_of root) (tree_of c.cut_branch.new.root) u o.0 (nodes_gone b) (nibbles_gone b) (small_root g.K.TrieKey.encoding (tree_of root) _ _ _ c.self.invariant limit) o.2 (omega arith) (omega arith) in
+    let held = c.measure-held.ensures.nibbles ∙ ap (λ n. length (tree_of n).fragment + nibbles_in (tree_of n).children) c.deref-in-Ok-Some.ensures in
+    let own = c.len.ensures ∙ ap (λ n. length (fragment_of n)) c.deref-in-Ok-Some-2.ensures ∙ ap length (sym (fragment-tree_of b.top.value)) in
+    let near = nearest_in_equal c.find.result.map (map_of (tree_of root)) c.find.result.path c.args.list.now c.in-Some.view.path q (c.find.ensures.map ∙ sym c.self.view_is) c.find.ensures.path (sym c.into_path-path.ensures) (rw c.in-Some.is at c.in_ok-view.ensures.nearest) in
+    let part = part_kept g.K.TrieKey.encoding (tree_of root) _ _ _ c.self.invariant (tree_of c.cut_branch.new.root) c.args.list.now o.0 u _ _ (branch_at root u c.args.list.now o.0 c.self.invariant.top o.1) o.2 c.requires.some q near c.in_ok-upper.ensures.5 _ _ _ refl refl refl in
+    let fits = small_root g.K.TrieKey.encoding (lowered [] q u) _ _ _ part small.pairs in
+    omega (arith, held, own, c.len-in-Ok-Some.ensures, fits.nibbles)
+
+pub overflow_sub-self : goal.overflow_sub-self
+overflow_sub-self g c =
+    let root = c.self.inside.root in
+    let u = branch_of c.in-Ok-Some.branch in
+    let o = rw c.in-Ok-Some.field-0-is at c.in-Ok-Some.ensures in
+    let most = handed_pairs_counted g.K.TrieKey.encoding (tree_of root) _ _ _ c.self.invariant (tree_of c.cut_branch.new.root) c.args.list.now o.0 u _ _ (branch_at root u c.args.list.now o.0 c.self.invariant.top o.1) o.2 (pairs_in u) refl in
+    let same = c.count_pairs-length.ensures ∙ ap (λ n. length (entries_at [] (tree_of n))) c.deref.ensures in
+    omega (arith, most, same, length-pairs_of (entries_at [] u))
+
+pub overflow_add-result : goal.overflow_add-result
+overflow_add-result g c =
+    let root = c.self.inside.root in
+    let b = c.in-Ok-Some.branch in
+    let limit : c.self.inside.length < 2 ^ 64 = search rules in
+    let o = rw c.in-Ok-Some.field-0-is at c.in-Ok-Some.ensures in
+    let small = branch_is_small (tree_of root) (tree_of c.cut_branch.new.root) (branch_of b) o.0 (nodes_gone b) (nibbles_gone b) (small_root g.K.TrieKey.encoding (tree_of root) _ _ _ c.self.invariant limit) o.2 (omega arith) (omega arith) in
+    omega (arith, c.measure-held.ensures.nodes ∙ ap (λ n. nodes_in (tree_of n).children) c.deref-in-Ok-Some.ensures, small.nodes)
+
+pub invariant_of-result : goal.invariant_of-result
+invariant_of-result g c =
+    let root = c.self.inside.root in
+    let b = c.in-Ok-Some.branch in
+    let u = branch_of b in
+    let q = c.into_path-path.result in
+    let o = rw c.in-Ok-Some.field-0-is at c.in-Ok-Some.ensures in
+    let count = c.count_pairs-length.ensures ∙ ap (λ n. length (entries_at [] (tree_of n))) c.deref.ensures in
+    let nodes = c.measure-held.ensures.nodes ∙ ap (λ n. nodes_in (tree_of n).children) c.deref-in-Ok-Some.ensures in
+    let held = c.measure-held.ensures.nibbles ∙ ap (λ n. length (tree_of n).fragment + nibbles_in (tree_of n).children) c.deref-in-Ok-Some.ensures in
+    let own = c.len.ensures ∙ ap (λ n. length (fragment_of n)) c.deref-in-Ok-Some-2.ensures ∙ ap length (sym (fragment-tree_of b.top.value)) in
+    let near = nearest_in_equal c.find.result.map (map_of (tree_of root)) c.find.result.path c.args.list.now c.in-Some.view.path q (c.find.ensures.map ∙ sym c.self.view_is) c.find.ensures.path (sym c.into_path-path.ensures) (rw c.in-Some.is at c.in_ok-view.ensures.nearest) in
+    let is = c.rooted.ensures ∙ ap (λ f. lowered f q u) (c.in_ok-upper.ensures.0 ∙ c.new-2.ensures) in
+    let part = part_kept g.K.TrieKey.encoding (tree_of root) _ _ _ c.self.invariant (tree_of c.cut_branch.new.root) c.args.list.now o.0 u _ _ (branch_at root u c.args.list.now o.0 c.self.invariant.top o.1) o.2 c.requires.some q near c.in_ok-upper.ensures.5 _ _ _ count (omega (arith, nodes)) (omega (arith, held, own, c.len-in-Ok-Some.ensures)) in
+    subst (λ t. IsKept g.K.TrieKey.encoding t c.count_pairs-length.result (c.measure-held.result.nodes + 2) (c.measure-held.result.nibbles - c.len.result + c.len-in-Ok-Some.result)) (sym is) part
+
+pub invariant_of-self : goal.invariant_of-self
+invariant_of-self g c =
+    let root = c.self.inside.root in
+    let b = c.in-Ok-Some.branch in
+    let u = branch_of b in
+    let o = rw c.in-Ok-Some.field-0-is at c.in-Ok-Some.ensures in
+    let count = c.count_pairs-length.ensures ∙ ap (λ n. length (entries_at [] (tree_of n))) c.deref.ensures in
+    let nodes : c.measure-held.result.nodes + b.nodes ≡ nodes_gone b = let n = c.measure-held.ensures.nodes ∙ ap (λ n. nodes_in (tree_of n).children) c.deref-in-Ok-Some.ensures in omega (arith, n) in
+    let held : c.measure-held.result.nibbles ≡ nibbles_gone b = c.measure-held.ensures.nibbles ∙ ap (λ n. length (tree_of n).fragment + nibbles_in (tree_of n).children) c.deref-in-Ok-Some.ensures in
+    let kept = handed_pairs_kept g.K.TrieKey.encoding (tree_of root) _ _ _ c.self.invariant (tree_of c.cut_branch.new.root) c.args.list.now o.0 u _ _ (branch_at root u c.args.list.now o.0 c.self.invariant.top o.1) o.2 (pairs_in u) refl c.count_pairs-length.result (count ∙ sym (length-pairs_of (entries_at [] u))) in
+    subst (λ l. IsKept g.K.TrieKey.encoding (tree_of c.cut_branch.new.root) (c.self.inside.length - c.count_pairs-length.result) (c.self.inside.nodes - (c.measure-held.result.nodes + b.nodes)) (c.self.inside.nibbles - l)) (sym held)
+    (subst (λ m. IsKept g.K.TrieKey.encoding (tree_of c.cut_branch.new.root) (c.self.inside.length - c.count_pairs-length.result) (c.self.inside.nodes - m) (c.self.inside.nibbles - nibbles_gone b)) (sym nodes) kept)
+
+pub returns-in-Ok-Some-clause-split : goal.returns-in-Ok-Some-clause-split
+returns-in-Ok-Some-clause-split g c =
+    let root = c.self.inside.root in
+    let u = branch_of c.in-Ok-Some.branch in
+    let q = c.into_path-path.result in
+    let o = rw c.in-Ok-Some.field-0-is at c.in-Ok-Some.ensures in
+    let near = nearest_in_equal c.find.result.map (map_of (tree_of root)) c.find.result.path c.args.list.now c.in-Some.view.path q (c.find.ensures.map ∙ sym c.self.view_is) c.find.ensures.path (sym c.into_path-path.ensures) (rw c.in-Some.is at c.in_ok-view.ensures.nearest) in
+    let is = c.rooted.ensures ∙ ap (λ f. lowered f q u) (c.in_ok-upper.ensures.0 ∙ c.new-2.ensures) in
+    rw (← c.self.view_is) (ap map_of is ∙ map_of-part g.K.TrieKey.encoding (tree_of root) _ _ _ c.self.invariant (tree_of c.cut_branch.new.root) c.args.list.now o.0 u _ _ (branch_at root u c.args.list.now o.0 c.self.invariant.top o.1) o.2 c.requires.some q near c.in_ok-upper.ensures.5)
+
+pub returns-in-Ok-Some-clause-removed : goal.returns-in-Ok-Some-clause-removed
+returns-in-Ok-Some-clause-removed g c =
+    let root = c.self.inside.root in
+    let o = rw c.in-Ok-Some.field-0-is at c.in-Ok-Some.ensures in
+    rw (← c.self.view_is) (map_of-pruned g.K.TrieKey.encoding (tree_of root) _ _ _ c.self.invariant (tree_of c.cut_branch.new.root) c.args.list.now _ _ _ _ (branch_at root (branch_of c.in-Ok-Some.branch) c.args.list.now o.0 c.self.invariant.top o.1) o.2)
+
+pub returns-in-Ok-None-clause-split : goal.returns-in-Ok-None-clause-split
+returns-in-Ok-None-clause-split g c =
+    let root = c.self.inside.root in
+    let o = rw c.in-Ok-None.field-0-is at c.in-Ok-None.ensures in
+    let apart = subst (λ p. (q : _) → IsPath (tree_of root) q → IsPrefix p q → ⊥) (append-root_fragment root c.args.list.now c.args.list.now c.self.invariant.top refl) o.1 in
+    rw (← c.self.view_is) (c.new-in-Ok-None.ensures ∙ sym (below-nothing_below g.K.TrieKey.encoding (tree_of root) _ _ _ c.self.invariant c.args.list.now apart))
+
+pub returns-in-Ok-None-clause-removed : goal.returns-in-Ok-None-clause-removed
+returns-in-Ok-None-clause-removed g c =
+    let root = c.self.inside.root in
+    let o = rw c.in-Ok-None.field-0-is at c.in-Ok-None.ensures in
+    let apart = subst (λ p. (q : _) → IsPath (tree_of root) q → IsPrefix p q → ⊥) (append-root_fragment root c.args.list.now c.args.list.now c.self.invariant.top refl) o.1 in
+    let same = map_of-nothing_below g.K.TrieKey.encoding (tree_of root) _ _ _ c.self.invariant c.args.list.now apart (tree_of c.cut_branch.new.root) o.0 in
+    rw (← c.self.view_is) (elim c.match-path-2.branch [
+      | in-Heap-2 w ↦ w.self-is ∙ same
+      | in-Inline-2 w ↦ w.self-is ∙ same
+    ])
+
+pub returns-in-Err-clause-none : goal.returns-in-Err-clause-none
+returns-in-Err-clause-none g c = λ none.
+    let root = c.self.inside.root in
+    let o = c.in-Err.ensures in
+    let i = subst (λ p. IsPrefix p o.1) (append-root_fragment root c.args.list.now c.args.list.now c.self.invariant.top refl) o.3 in
+    absurd (path_below_has_stored g.K.TrieKey.encoding (tree_of root) _ _ _ c.self.invariant c.args.list.now o.1 c.requires.some o.2 i (rw c.self.view_is none))

@@ -1,0 +1,15 @@
+use Rattle.std.proofs.Common.{◌≡◌, ◌∙◌, [], ap, sym, arith}
+use Rattle.nibble_map.specs.Maps.{below, without_below}
+use Rattle.nibble_map.proofs.ListLemmas.Cut.{empty_of_length}
+use Rattle.radix_trie.proofs.PathLemmas.Places.{below-nil, without_below-nil}
+use Rattle.radix_trie.proofs.trie.Trie.split_off_prefix.Goals as goal
+
+pub returns-then-len-eq0-clause-split : goal.returns-then-len-eq0-clause-split
+returns-then-len-eq0-clause-split g c =
+    let none = sym c.in_ok-list.ensures.ok ∙ empty_of_length c.in_ok-list.list (omega (arith, c.len.ensures, c.if-len-eq0.true)) in
+    c.replace-then-len-eq0.ensures.value ∙ sym (ap (below c.args.self.now) none ∙ below-nil c.args.self.now)
+
+pub returns-then-len-eq0-clause-removed : goal.returns-then-len-eq0-clause-removed
+returns-then-len-eq0-clause-removed g c =
+    let none = sym c.in_ok-list.ensures.ok ∙ empty_of_length c.in_ok-list.list (omega (arith, c.len.ensures, c.if-len-eq0.true)) in
+    c.replace-then-len-eq0.ensures.after ∙ c.new.ensures ∙ sym (ap (without_below c.args.self.now) none ∙ without_below-nil c.args.self.now)

@@ -1,0 +1,79 @@
+//! The pairs at and below a key's place as a trie of their own.
+ghost use Rattle.std.specs.Prelude.{[], ◌≡◌, ◌<◌, length, None, IsOk, IfOk, OnOk, OnErr};
+ghost use Rattle.std.specs.FinMap as map;
+ghost use Rattle.nibble_map.specs.Maps.{below, without_below};
+
+use crate::trie::Trie;
+use crate::view::place::Place;
+use radix_keys::{Memory, Nibblet, TrieKey};
+use radix_nodes::traversal::branch::cut_branch;
+use radix_nodes::traversal::grow::make_upper;
+use radix_nodes::traversal::size::{count_pairs, measure};
+use radix_nodes::traversal::split::rooted;
+use std::mem;
+
+impl<K: TrieKey + Drop, V: Drop> Trie<K, V> {
+    /// Takes all pairs at and below the key's place away, and answers the trie that holds them.
+    ///
+    /// The key needn't be stored, nor be a point. No pair is moved: the node is cut off with all
+    /// that is below it. So the time grows with the depth and with how many nodes are cut off,
+    /// which are counted.
+    ///
+    /// # Errors
+    ///
+    /// Memory is refused, for the encoding, for joining two fragments where it was cut, or for the
+    /// new trie's node above it. The trie is as before then.
+    ///
+    /// # Examples
+    ///
+    /// `part_is_split_off` in `crates/removal_tests/src/splits.rt` splits texts off.
+    pub fn split_off_prefix<Q: TrieKey>(&mut self, key: &Q) -> Result<Trie<K, V>, Memory>
+        ensures split { IfOk result (λ part. part ≡ below self.old (Q.encoding key.now)) }
+        ensures removed { OnOk result (self.new ≡ without_below self.old (Q.encoding key.now)) }
+        ensures unchanged { OnErr result (self.new ≡ self.old) }
+        ensures light_whole { Q.is_light key.now → Q.encoding key.now ≡ [] → IsOk result }
+        ensures light_none { Q.is_light key.now
+            → map.len (below self.old (Q.encoding key.now)) ≡ 0
+            → IsOk result }
+    {
+        let list = key.encode(self.alloc)?;
+        if list.len() == 0 {
+            return Ok(mem::replace(self, Trie::new(self.alloc)));
+        }
+        self.split_at(&list)
+    }
+
+    // The same, with the key's encoding in hand, which isn't empty.
+    fn split_at(&mut self, list: &Nibblet) -> Result<Trie<K, V>, Memory>
+        requires some { 0 < length list.now }
+        ensures split { IfOk result (λ part. part ≡ below self.old list.now) }
+        ensures removed { OnOk result (self.new ≡ without_below self.old list.now) }
+        ensures unchanged { OnErr result (self.new ≡ self.old) }
+        ensures none { map.len (below self.old list.now) ≡ 0 → IsOk result }
+    {
+        let path = match Place::find(&*self, list).nearest()? {
+            Some(view) => view.into_path(),
+            None => return Ok(Trie::new(self.alloc)),
+        };
+        let upper = make_upper(self.alloc, Nibblet::new(self.alloc), &path)?;
+        match cut_branch(&mut self.root, list) {
+            Ok(Some(branch)) => {
+                let length = count_pairs(&branch.top);
+                let held = measure(&branch.top);
+                let nibbles = held.nibbles - branch.top.fragment.len() as u128 + path.len() as u128;
+                self.length -= length;
+                self.nodes -= held.nodes + branch.nodes as u128;
+                self.nibbles -= held.nibbles;
+                Ok(Trie {
+                    root: rooted(branch, upper, path),
+                    length,
+                    nodes: held.nodes + 2,
+                    nibbles,
+                    alloc: self.alloc,
+                })
+            }
+            Ok(None) => Ok(Trie::new(self.alloc)),
+            Err(refusal) => Err(refusal),
+        }
+    }
+}

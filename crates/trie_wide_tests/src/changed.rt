@@ -1,0 +1,53 @@
+//! Changes of all values.
+
+use crate::pairs::IN_ORDER;
+use radix_trie::{Memory, TrieCommon};
+use std::process::Abort;
+use trie_samples::{SAMPLE, Texts, texts};
+
+/// The trie has the sample's texts, each with so many times its number and one more.
+fn check_multiplied(rt: &impl Abort, trie: &Texts, times: u64, more: u64) -> Result<(), Memory> {
+    let mut pairs = IN_ORDER.iter();
+    for (key, value) in TrieCommon::iter(trie)? {
+        let Some((wanted, number)) = pairs.next() else {
+            return Err(Memory);
+        };
+        assert!(rt; *key == *wanted);
+        assert!(rt;
+            *value == number.wrapping_mul(times).wrapping_add(more),
+            "{key}"
+        );
+    }
+    assert!(rt; pairs.next().is_none());
+    assert!(rt; trie.footprint() == (10, 38) && trie.check_integrity()?);
+    Ok(())
+}
+
+#[test]
+fn each_value_is_doubled(rt: HostRuntime) -> Result<(), Memory> {
+    let mut trie = texts(rt.alloc(), &SAMPLE)?;
+    trie.for_each_value_mut(|value| *value = value.wrapping_mul(2));
+    check_multiplied(&rt, &trie, 2, 0)
+}
+
+/// A closure that holds a number, called over and over.
+#[test]
+fn each_value_is_raised_twice(rt: HostRuntime) -> Result<(), Memory> {
+    let mut trie = texts(rt.alloc(), &SAMPLE)?;
+    let added = 5u64;
+    for _ in 0..2 {
+        trie.for_each_value_mut(|value| *value = value.wrapping_add(added));
+    }
+    check_multiplied(&rt, &trie, 1, 10)
+}
+
+#[test]
+fn values_of_few_pairs_are_changed(rt: HostRuntime) -> Result<(), Memory> {
+    let mut trie = texts(rt.alloc(), &[])?;
+    trie.for_each_value_mut(|value| *value = 1);
+    assert!(rt; trie.is_empty() && trie.footprint() == (1, 0));
+    let mut trie = texts(rt.alloc(), &[("", 3)])?;
+    trie.for_each_value_mut(|value| *value = 1);
+    assert!(rt; trie.get(&"")? == Some(&1));
+    Ok(())
+}

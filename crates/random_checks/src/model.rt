@@ -2,6 +2,7 @@
 
 use radix_trie::Memory;
 use std::alloc::Global;
+use std::cmp::Ordering;
 use std::collections::{BTreeMap, BTreeSet};
 
 /// What is stored at a list: the number that the key was drawn by, and the value.
@@ -64,6 +65,19 @@ impl Model {
         Some(stored)
     }
 
+    /// Takes what is at the last list away.
+    pub fn remove_last(&mut self) -> Option<Stored> {
+        let (_, stored) = self.stored.pop_last()?;
+        Some(stored)
+    }
+
+    /// Adds a number to each value.
+    pub fn add_to_each(&mut self, added: u64) {
+        for stored in self.stored.values_mut() {
+            stored.value = stored.value.wrapping_add(added);
+        }
+    }
+
     /// Takes all away.
     pub fn clear(&mut self) {
         self.stored.clear();
@@ -78,6 +92,38 @@ impl Model {
             }
         }
         Ok(found)
+    }
+
+    /// What is stored at and below the path, and after the list; and at the list, where it is asked for with that one.
+    pub fn below_from(
+        &self,
+        path: &[u8],
+        list: &[u8],
+        is_with_list: bool,
+    ) -> Result<Vec<Stored>, Memory> {
+        let mut found = Vec::new(self.alloc);
+        for (other, stored) in self.stored.iter() {
+            let is_reached = match other.as_slice().cmp(list) {
+                Ordering::Less => false,
+                Ordering::Equal => is_with_list,
+                Ordering::Greater => true,
+            };
+            if is_reached && other.as_slice().starts_with(path) {
+                found.push(*stored)?;
+            }
+        }
+        Ok(found)
+    }
+
+    /// The model of what is stored at and below the path, or of all else.
+    pub fn part(&self, path: &[u8], is_below: bool) -> Result<Model, Memory> {
+        let mut part = Model::new(self.alloc);
+        for (list, stored) in self.stored.iter() {
+            if list.as_slice().starts_with(path) == is_below {
+                part.stored.insert(list.clone()?, *stored)?;
+            }
+        }
+        Ok(part)
     }
 
     /// Takes all that is stored at and below the path away.

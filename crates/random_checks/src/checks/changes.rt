@@ -1,7 +1,7 @@
 //! Changes by the trie's own calls, and by views for writing.
 
 use crate::actions::{Action, Kind, Outcome, by_model, is_expected};
-use crate::checks::walks::are_ends;
+use crate::checks::walks::{are_ends, is_whole};
 use crate::keys::Drawn;
 use crate::model::Model;
 use crate::pairs::are_taken;
@@ -55,6 +55,26 @@ pub fn is_cut<K: Drawn, Q: TrieKey>(
     let wanted = model.remove_below(list)?;
     let gone = trie.remove_prefix(key)?;
     are_taken(alloc, gone.as_slice(), wanted.as_slice())
+}
+
+/// All pairs below such a key as a trie of their own, whose pairs then come back.
+pub fn is_split<K: Drawn, Q: TrieKey>(
+    alloc: Global,
+    trie: &mut Trie<K, u64>,
+    model: &Model,
+    key: &Q,
+    list: &[u8],
+) -> Result<bool, Memory> {
+    let (wanted, rest) = (model.part(list, true)?, model.part(list, false)?);
+    let part = trie.split_off_prefix(key)?;
+    let is_right = is_whole(alloc, &part, &wanted)? && is_whole(alloc, &*trie, &rest)?;
+    let Ok(pairs) = part.into_pairs() else {
+        return Err(Memory);
+    };
+    match trie.extend(pairs.into_iter()) {
+        Ok(()) => Ok(is_right),
+        Err(_) => Err(Memory),
+    }
 }
 
 /// What a view's refusal or value says.

@@ -1,14 +1,14 @@
-//! Changes that hand pairs out, and the one that takes all away.
+//! Changes that hand pairs out, those of many pairs at once, and the one that takes all away.
 
 use crate::keys::Drawn;
-use crate::model::Model;
-use crate::pairs::{are_taken, is_taken};
+use crate::model::{Model, Stored};
+use crate::pairs::{are_found, are_taken, is_taken};
 use crate::random::Random;
-use radix_trie::{Memory, Trie};
+use radix_trie::{Memory, Trie, TrieCommon};
 use std::alloc::Global;
 use std::mem;
 
-/// How many pairs are taken from the beginning at once.
+/// How many pairs are taken from one end at once, or added.
 const AT_ONCE: u8 = 3;
 
 /// The pair at a number's key is taken away.
@@ -37,6 +37,40 @@ fn are_popped<K: Drawn>(
     Ok(true)
 }
 
+/// The same of the last ones.
+fn are_popped_last<K: Drawn>(
+    alloc: Global,
+    trie: &mut Trie<K, u64>,
+    model: &mut Model,
+) -> Result<bool, Memory> {
+    for _ in 0..AT_ONCE {
+        if !is_taken(alloc, &trie.pop_last()?, model.remove_last())? {
+            return Ok(false);
+        }
+    }
+    Ok(true)
+}
+
+/// Some pairs are added by one call.
+fn are_added<K: Drawn>(
+    alloc: Global,
+    trie: &mut Trie<K, u64>,
+    model: &mut Model,
+    random: &mut Random,
+) -> Result<bool, Memory> {
+    let mut pairs = Vec::new(alloc);
+    for _ in 0..AT_ONCE {
+        let number = random.key();
+        let value = random.draw();
+        pairs.push((K::drawn(alloc, number)?, value))?;
+        model.insert(K::nibbles(alloc, number)?, Stored { number, value })?;
+    }
+    match trie.extend(pairs.into_iter()) {
+        Ok(()) => Ok(trie.len() == model.below(&[])?.len()),
+        Err(_) => Err(Memory),
+    }
+}
+
 /// All pairs are handed out in place of the trie, and another trie is built of them.
 fn are_handed_out<K: Drawn>(
     alloc: Global,
@@ -58,6 +92,19 @@ fn are_handed_out<K: Drawn>(
     }
 }
 
+/// A number is added to each value.
+fn are_changed<K: Drawn>(
+    alloc: Global,
+    trie: &mut Trie<K, u64>,
+    model: &mut Model,
+    added: u64,
+) -> Result<bool, Memory> {
+    trie.for_each_value_mut(|value| *value = value.wrapping_add(added));
+    model.add_to_each(added);
+    let found: Vec<(&K, &u64)> = TrieCommon::iter(&*trie)?.collect(alloc)?;
+    are_found(alloc, found.as_slice(), model.below(&[])?.as_slice())
+}
+
 /// All pairs are taken away, and one node is left.
 fn is_cleared<K: Drawn>(trie: &mut Trie<K, u64>, model: &mut Model) -> bool {
     trie.clear();
@@ -73,8 +120,11 @@ pub fn is_entry_change<K: Drawn>(
     random: &mut Random,
 ) -> Result<bool, Memory> {
     match random.draw() % 32 {
-        0..=19 => is_entry_removed(alloc, trie, model, random.key()),
-        20..=27 => are_popped(alloc, trie, model),
+        0..=9 => is_entry_removed(alloc, trie, model, random.key()),
+        10..=13 => are_popped(alloc, trie, model),
+        14..=17 => are_popped_last(alloc, trie, model),
+        18..=25 => are_added(alloc, trie, model, random),
+        26..=27 => are_changed(alloc, trie, model, random.draw()),
         28..=30 => are_handed_out(alloc, trie, &*model),
         _ => Ok(is_cleared(trie, model)),
     }

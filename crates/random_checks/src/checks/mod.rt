@@ -11,7 +11,7 @@ use crate::actions::Action;
 use crate::keys::{Drawn, beginning};
 use crate::model::Model;
 use crate::random::Random;
-use changes::{is_changed, is_cut, is_written};
+use changes::{is_changed, is_cut, is_split, is_written};
 use entries::is_entry_change;
 use lookups::are_lookups;
 use radix_trie::{Memory, Trie, TrieKey};
@@ -102,17 +102,21 @@ impl<K: Drawn> Check<K> {
         is_written(alloc, trie, model, random, &key, path.as_slice())
     }
 
-    /// The removal of all that begins as a key does.
+    /// All that begins as a key does is taken away, or split off and joined again.
     fn cuts_agree(&mut self) -> Result<bool, Memory> {
-        let path = beginning::<K>(self.alloc, &mut self.random)?;
-        let key = list(self.alloc, path.as_slice())?;
-        is_cut(
-            self.alloc,
-            &mut self.trie,
-            &mut self.model,
-            &key,
-            path.as_slice(),
-        )
+        let Check {
+            alloc,
+            trie,
+            model,
+            random,
+        } = self;
+        let path = beginning::<K>(*alloc, random)?;
+        let key = list(*alloc, path.as_slice())?;
+        if random.is_even() {
+            is_cut(*alloc, trie, model, &key, path.as_slice())
+        } else {
+            is_split(*alloc, trie, &*model, &key, path.as_slice())
+        }
     }
 }
 

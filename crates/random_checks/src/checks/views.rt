@@ -1,6 +1,6 @@
 //! Views for reading.
 
-use crate::checks::walks::are_ends;
+use crate::checks::walks::{are_ends, are_resumed};
 use crate::keys::Drawn;
 use crate::model::Model;
 use radix_trie::{Memory, SubTrie, SubTrieError, Trie, TrieCommon, TrieKey};
@@ -81,7 +81,7 @@ fn is_raw_descendant<K: Drawn, Q: TrieKey>(
     }
 }
 
-/// A key that is looked up in a view.
+/// A key that is looked up in a view, and from which walks of the view go on.
 fn is_found_in_view<K: Drawn>(
     alloc: Global,
     view: &SubTrie<'_, K, u64>,
@@ -90,8 +90,12 @@ fn is_found_in_view<K: Drawn>(
     number: u8,
 ) -> Result<bool, Memory> {
     let list = K::nibbles(alloc, number)?;
+    let key = K::drawn(alloc, number)?;
+    if !are_resumed(alloc, view, model, path, &key, list.as_slice())? {
+        return Ok(false);
+    }
     let is_inside = list.as_slice().starts_with(path);
-    match view.get(&K::drawn(alloc, number)?) {
+    match view.get(&key) {
         Ok(found) => Ok(is_inside && found.copied() == model.get(list.as_slice())),
         Err(SubTrieError::Outside) => Ok(!is_inside),
         Err(SubTrieError::Memory) => Err(Memory),

@@ -18,7 +18,28 @@ pub fn are_ends<'a, K: Drawn + 'a, T: TrieCommon<'a, K, u64> + Copy>(
     )
 }
 
-/// The pairs at the beginnings of the key's list, and so many of the first ones at and below it.
+/// The walks, of a trie or of a view at the path, from a key with the list on, and after that key.
+pub fn are_resumed<'a, K: Drawn + 'a, Q: TrieKey, T: TrieCommon<'a, K, u64> + Copy>(
+    alloc: Global,
+    place: T,
+    model: &Model,
+    path: &[u8],
+    key: &Q,
+    list: &[u8],
+) -> Result<bool, Memory> {
+    let from: Vec<(&K, &u64)> = place.iter_from(key)?.collect(alloc)?;
+    let after: Vec<(&K, &u64)> = place.iter_after(key)?.collect(alloc)?;
+    let (with_list, others) = (
+        model.below_from(path, list, true)?,
+        model.below_from(path, list, false)?,
+    );
+    Ok(
+        are_found(alloc, from.as_slice(), with_list.as_slice())?
+            && are_found(alloc, after.as_slice(), others.as_slice())?,
+    )
+}
+
+/// The pairs at the beginnings of the key's list, so many of the first ones at and below it, and the walks from it on.
 pub fn are_walks<K: Drawn, Q: TrieKey>(
     alloc: Global,
     trie: &Trie<K, u64>,
@@ -34,7 +55,8 @@ pub fn are_walks<K: Drawn, Q: TrieKey>(
     let found = trie.first_below(key, most)?;
     Ok(
         are_found(alloc, on_way.as_slice(), above.as_slice())?
-            && are_found(alloc, found.as_slice(), firsts)?,
+            && are_found(alloc, found.as_slice(), firsts)?
+            && are_resumed(alloc, trie, model, &[], key, nibbles)?,
     )
 }
 

@@ -28,6 +28,11 @@ impl Random {
         self.number().checked_rem(limit).unwrap_or(0)
     }
 
+    /// A number of 32 bits.
+    pub fn address(&mut self) -> u32 {
+        (self.number() >> 32) as u32
+    }
+
     /// One of these texts.
     pub fn pick(&mut self, texts: &[&'static str]) -> &'static str {
         let place = self.below(texts.len() as u64);

@@ -22,6 +22,10 @@ pub enum Kind {
     Addresses,
     /// Keys each of which begins the next one.
     Chain,
+    /// Networks, the first bits of addresses.
+    Routes,
+    /// Numbers of 32 bits, of which the first ones are asked for.
+    Pages,
 }
 
 /// What is asked about each key in turn.
@@ -63,7 +67,7 @@ pub enum Call {
     Clone,
     /// No time, but memory.
     Hold(Held),
-    /// All steps on nested keys.
+    /// All that the kind has.
     All,
 }
 
@@ -98,6 +102,8 @@ impl Kind {
             "numbers" => Some(Kind::Texts(Style::Numbers)),
             "addresses" => Some(Kind::Addresses),
             "chain" => Some(Kind::Chain),
+            "routes" => Some(Kind::Routes),
+            "pages" => Some(Kind::Pages),
             _ => None,
         }
     }

@@ -3,10 +3,10 @@
 use crate::fault::Fault;
 use crate::keys::{Beginning, Stored};
 use crate::measure::{filled, measure};
-use crate::nested;
 use crate::request::{Call, Held, Kind, Question, Request};
 use crate::sample::{Sample, address_sample, text_sample, texts};
 use crate::store::Store;
+use crate::{nested, pages, routes};
 use radix_trie::{Trie, TrieKey};
 use std::alloc::Global;
 use std::collections::BTreeMap;
@@ -20,7 +20,9 @@ pub fn answer<R: Print + Clock + AllocGlobal>(rt: &R, line: &str) -> Result<(), 
     let Request { kind, call, count } = Request::parse(line)?;
     match (kind, call) {
         (Kind::Chain, Call::All) => nested::run(rt, count),
-        (Kind::Chain, _) | (_, Call::All) => Err(Fault::Line),
+        (Kind::Routes, Call::All) => routes::run(rt, count),
+        (Kind::Pages, Call::All) => pages::run(rt, count),
+        (Kind::Chain | Kind::Routes | Kind::Pages, _) | (_, Call::All) => Err(Fault::Line),
         (Kind::Addresses, _) => row(rt, line, call, &address_sample(rt.alloc(), count)?),
         (Kind::Texts(style), _) => {
             let texts = texts(rt.alloc(), style, count)?;

@@ -33,10 +33,12 @@ pub fn run<R: Print + Clock + AllocGlobal>(rt: &R, count: u32) -> Result<(), Fau
     look_up(rt, &nested, count)?;
     walk(rt, &nested, count)?;
     count_below(rt, &nested, count)?;
-    let copy = copied(rt, &nested)?;
+    let mut copy = copied(rt, &nested)?;
     remove(rt, &mut nested, count)?;
     drop_all(rt, copy.clone()?)?;
-    cut(rt, copy, count)?;
+    change(rt, &mut copy, count)?;
+    let part = split_off(rt, &mut copy, count)?;
+    cut(rt, part, count)?;
     Ok(println!(rt; "chain all {count} ok")?)
 }
 
@@ -106,6 +108,23 @@ fn drop_all<R: Print + Clock>(rt: &R, nested: Nested) -> Result<(), Fault> {
     let start = Instant::now(rt)?;
     drop(nested);
     tell(rt, "drop", start)
+}
+
+/// Adds one to each value.
+fn change<R: Print + Clock>(rt: &R, nested: &mut Nested, count: u32) -> Result<(), Fault> {
+    let start = Instant::now(rt)?;
+    nested.for_each_value_mut(|length| *length = length.wrapping_add(1));
+    tell(rt, "for_each_value_mut", start)?;
+    expect(nested.get(&Chain { length: count })? == Some(&count.wrapping_add(1)))
+}
+
+/// Splits all pairs off by the shortest key.
+fn split_off<R: Print + Clock>(rt: &R, nested: &mut Nested, count: u32) -> Result<Nested, Fault> {
+    let start = Instant::now(rt)?;
+    let part = nested.split_off_prefix(&Chain { length: 1 })?;
+    tell(rt, "split_off_prefix", start)?;
+    expect(nested.is_empty() && part.len() == count as usize)?;
+    Ok(part)
 }
 
 /// Takes all pairs away by the shortest key.

@@ -72,4 +72,5 @@ IsLongestHop m w n found = MatchOption found
 
 -- the same of an address, by its number
 abbrev pub IsNextHop : Table → Address → Option (List ℕ) → Type 0
-IsNextHop t address found = IsLongestHop (routes_of t address) (width address) (number address) found
+IsNextHop t address found =
+    IsLongestHop (routes_of t address) (width address) (number address) found

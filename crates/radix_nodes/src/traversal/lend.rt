@@ -56,7 +56,8 @@ fn here<'a, K, V>(
     requires placed { IsTreePlaced (tree_of top.old.value) }
     requires stuck { IsStuck (tree_of top.old.value) (drop depth list.now) }
     ensures* writes_back { sem 𝓛
-        (LendsNode K.row V.row top.entry (fragment_of top.old.value ++ drop depth list.now) result) }
+        (LendsNode K.row V.row top.entry
+        (fragment_of top.old.value ++ drop depth list.now) result) }
 {
     if depth == list.len() {
         Some(unbox(top))
@@ -74,7 +75,8 @@ pub fn node_below_mut<'a, K, V>(
     requires depth { depth ≤ length list.now }
     requires placed { IsTreePlaced (tree_of top.old.value) }
     ensures* writes_back { sem 𝓛
-        (LendsNode K.row V.row top.entry (fragment_of top.old.value ++ drop depth list.now) result) }
+        (LendsNode K.row V.row top.entry
+        (fragment_of top.old.value ++ drop depth list.now) result) }
 {
     let (top, i, next) = look(top, list, depth);
     if next == depth {

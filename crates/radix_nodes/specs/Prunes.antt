@@ -8,7 +8,7 @@ use Rattle.radix_keys.specs.declared.nibbles.Memory.{Memory}
 use Rattle.radix_nodes.specs.Nodes.{tree_of, IsNearest}
 use Rattle.radix_nodes.specs.Pairs.{pairs_in}
 use Rattle.radix_nodes.specs.declared.traversal.cut.Branch.{Branch}
-use Rattle.radix_nodes.specs.declared.traversal.drain.Drained.{Drained}
+use Rattle.radix_nodes.specs.declared.traversal.size.Measured.{Measured}
 use Rattle.radix_nodes.specs.declared.traversal.prune.Pruned.{Pruned}
 use Rattle.radix_nodes.specs.declared.trie_node.KeyValue.{KeyValue}
 
@@ -19,7 +19,7 @@ pub record IsSmall {P : Type 0} (t : Tree P) : Type 0 where
   pub nibbles : length t.fragment + nibbles_in t.children < 2 ^ 128
 
 -- what a tree holds can be counted on from so much
-pub record CanCount {P : Type 0} (gone : Drained) (t : Tree P) : Type 0 where
+pub record CanCount {P : Type 0} (gone : Measured) (t : Tree P) : Type 0 where
   pub nodes : gone.nodes + nodes_in t.children < 2 ^ 128
   pub nibbles : gone.nibbles + (length t.fragment + nibbles_in t.children) < 2 ^ 128
 

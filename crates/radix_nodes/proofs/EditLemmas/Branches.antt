@@ -4,7 +4,7 @@ use Rattle.std.specs.declared.boxed.Box.{Box}
 use Rattle.std.specs.declared.alloc.Global.{Global}
 use Rattle.std.specs.Vec.{with_item}
 use Rattle.masked_tree.specs.Agreement.{Agrees}
-use Rattle.masked_tree.specs.Tree.{Tree, Children, none, more, IsAt, IsTreePlaced, IsTreeFull, nodes_in, nibbles_in}
+use Rattle.masked_tree.specs.Tree.{Tree, IsAt, IsTreePlaced, IsTreeFull, nodes_in, nibbles_in}
 use Rattle.masked_tree.specs.Edits.{IsOne, remove_child, without_child, merged}
 use Rattle.masked_tree.specs.Paths.{IsPath}
 use Rattle.nibble_map.specs.Lists.{IsPrefix}

@@ -5,7 +5,7 @@ use Rattle.std.proofs.lemmas.List.{length-append, drop_more}
 use Rattle.std.specs.declared.boxed.Box.{Box}
 use Rattle.std.specs.declared.alloc.Global.{Global}
 use Rattle.masked_tree.specs.Tree.{Tree, entries_in, entries_at, nodes_in, nibbles_in}
-use Rattle.radix_nodes.specs.declared.traversal.drain.Drained.{Drained}
+use Rattle.radix_nodes.specs.declared.traversal.size.Measured.{Measured}
 use Rattle.radix_nodes.specs.declared.trie_node.KeyValue.{KeyValue}
 use Rattle.radix_nodes.specs.declared.trie_node.TrieNode.{TrieNode, out-TrieNode}
 use Rattle.radix_nodes.specs.Nodes.{tree_of, children_of, unboxed}
@@ -20,7 +20,7 @@ module _ {K V : Type 0} where
   pairs_next b bs = pairs_of-append (entries_at [] (tree_of b.value)) (entries_in [] (children_of bs))
 
   -- of what t holds so much is moved, nodes and nibbles are counted on from gone₀, and the children bs are left
-  pub record LeavesChildren (t : Tree (KeyValue K V)) (start list : List (K × V)) (bs : List (Box (TrieNode K V) Global)) (gone₀ gone : Drained) : Type 0 where
+  pub record LeavesChildren (t : Tree (KeyValue K V)) (start list : List (K × V)) (bs : List (Box (TrieNode K V) Global)) (gone₀ gone : Measured) : Type 0 where
     pub pairs : list ++ pairs_in_all (children_of bs) ≡ start ++ pairs_in t
     pub longer : length start ≤ length list
     pub more : gone₀.nodes ≤ gone.nodes
@@ -28,7 +28,7 @@ module _ {K V : Type 0} where
     pub nibbled : gone.nibbles + nibbles_in (children_of bs) ≡ gone₀.nibbles + (length t.fragment + nibbles_in t.children)
 
   -- at first the node's own pair is moved, and all its children are left
-  pub left_start : (n : TrieNode K V) (start list : List (K × V)) (bs : List (Box (TrieNode K V) Global)) (gone₀ gone : Drained) → let x = out-TrieNode K V n in
+  pub left_start : (n : TrieNode K V) (start list : List (K × V)) (bs : List (Box (TrieNode K V) Global)) (gone₀ gone : Measured) → let x = out-TrieNode K V n in
       list ≡ start ++ own_pair (unboxed x.pair) → bs ≡ x.children.items → gone.nodes ≡ gone₀.nodes → gone.nibbles ≡ gone₀.nibbles + length x.fragment
       → LeavesChildren (tree_of n) start list bs gone₀ gone
   left_start n start list bs gone₀ gone put is same size =
@@ -42,14 +42,14 @@ module _ {K V : Type 0} where
         nibbled = let a = ap nibbles_in children in let b = ap length (fragment-tree_of n) in omega (arith, a, b, size);
       }
 
-  module _ (t : Tree (KeyValue K V)) (start list : List (K × V)) (b : Box (TrieNode K V) Global) (bs : List (Box (TrieNode K V) Global)) (gone₀ gone : Drained)
+  module _ (t : Tree (KeyValue K V)) (start list : List (K × V)) (b : Box (TrieNode K V) Global) (bs : List (Box (TrieNode K V) Global)) (gone₀ gone : Measured)
       (left : LeavesChildren t start list (b ∷ bs) gone₀ gone) where
     -- the moved pairs, the next child's and the others' are those from before and all of the tree's
     append-next_pairs : list ++ (pairs_in (tree_of b.value) ++ pairs_in_all (children_of bs)) ≡ start ++ pairs_in t
     append-next_pairs = ap (λ r. list ++ r) (sym (pairs_next b bs)) ∙ left.pairs
 
     -- with the next child's pairs, nodes and nibbles moved and counted, the later children are left
-    pub left_next : (list' : List (K × V)) (gone' : Drained) → list' ≡ list ++ pairs_in (tree_of b.value) → gone'.nodes ≡ gone.nodes + (nodes_in (tree_of b.value).children + 1)
+    pub left_next : (list' : List (K × V)) (gone' : Measured) → list' ≡ list ++ pairs_in (tree_of b.value) → gone'.nodes ≡ gone.nodes + (nodes_in (tree_of b.value).children + 1)
         → gone'.nibbles ≡ gone.nibbles + (length (tree_of b.value).fragment + nibbles_in (tree_of b.value).children) → LeavesChildren t start list' bs gone₀ gone'
     left_next list' gone' put noded nibbled = record {
       pairs = ap (λ l. l ++ pairs_in_all (children_of bs)) put ∙ append_assoc list (pairs_in (tree_of b.value)) (pairs_in_all (children_of bs)) ∙ append-next_pairs;
@@ -86,13 +86,13 @@ module _ {K V : Type 0} where
     left_noded = omega (arith, left.noded)
 
   -- where the children from place i on are left, the next one is that at i
-  pub left_at : (t : Tree (KeyValue K V)) (start list : List (K × V)) (bs : List (Box (TrieNode K V) Global)) (i : ℕ) (b : Box (TrieNode K V) Global) (gone₀ gone : Drained)
+  pub left_at : (t : Tree (KeyValue K V)) (start list : List (K × V)) (bs : List (Box (TrieNode K V) Global)) (i : ℕ) (b : Box (TrieNode K V) Global) (gone₀ gone : Measured)
       → i < length bs → get_or bs i b ≡ b → LeavesChildren t start list (drop i bs) gone₀ gone → LeavesChildren t start list (b ∷ drop (i + 1) bs) gone₀ gone
   left_at t start list bs i b gone₀ gone lt at left =
       subst (λ rest. LeavesChildren t start list rest gone₀ gone) (drop_more bs i b lt ∙ ap (λ x. x ∷ drop (i + 1) bs) at) left
 
   -- once no child of the node n is left from place i on, all of the tree's pairs are moved, its nodes and nibbles counted
-  pub left_end : (t : Tree (KeyValue K V)) (start list : List (K × V)) (n : TrieNode K V) (i : ℕ) (gone₀ gone : Drained) → let bs = (out-TrieNode K V n).children.items in
+  pub left_end : (t : Tree (KeyValue K V)) (start list : List (K × V)) (n : TrieNode K V) (i : ℕ) (gone₀ gone : Measured) → let bs = (out-TrieNode K V n).children.items in
       LeavesChildren t start list (drop i bs) gone₀ gone → length bs ≤ i
       → (list ≡ start ++ pairs_in t) × (gone.nodes ≡ gone₀.nodes + nodes_in t.children) × (gone.nibbles ≡ gone₀.nibbles + (length t.fragment + nibbles_in t.children))
   left_end t start list n i gone₀ gone left most =

@@ -1,13 +1,12 @@
 -- A node's sizes by its fields.
-use Rattle.std.proofs.Common.{◌≡◌, ℕ, zero, suc, ◌+◌, ◌<◌, ◌≤◌, max, List, [], length, get_or, drop, drop-cons, add-one, Option, Some, None, IsSome, false, true, refl, ap, sym, subst, arith}
+use Rattle.std.proofs.Common.{◌≡◌, ℕ, suc, ◌+◌, ◌<◌, ◌≤◌, max, List, [], length, get_or, drop, drop-cons, add-one, Option, Some, None, IsSome, false, true, refl, ap, sym, subst, arith}
 use Rattle.std.specs.declared.boxed.Box.{Box}
 use Rattle.std.specs.declared.alloc.Global.{Global}
-use Rattle.masked_tree.specs.Tree.{Tree, Children, none, more, IsAt, entries_at, nodes_in, nibbles_in}
+use Rattle.masked_tree.specs.Tree.{IsAt, entries_at, nodes_in, nibbles_in}
 use Rattle.masked_tree.specs.Sizes.{own_count, pair_count, levels}
 use Rattle.masked_tree.proofs.TreeLemmas.Sizes.{length-entries_at, fewer_nodes, no_more_pairs}
 use Rattle.radix_nodes.specs.declared.trie_node.TrieNode.{TrieNode, out-TrieNode}
 use Rattle.radix_nodes.specs.Nodes.{tree_of, children_of, unboxed}
-use Rattle.radix_nodes.specs.Prunes.{IsSmall}
 use Rattle.radix_nodes.proofs.NodeLemmas.Nodes.{fragment-tree_of, pair-tree_of, children-tree_of, box_is_at}
 
 -- a place that holds a pair counts one
@@ -18,21 +17,6 @@ own_some (Some x) s = refl
 -- a place that holds no pair counts none
 pub own_none : {P : Type 0} (o : Option P) → o ≡ None → own_count o ≡ 0
 own_none o e = ap own_count e
-
-module _ {P : Type 0} where
-  -- a child and what is below it have at most as many nibbles as all the children
-  nibbles_at : (i : ℕ) (k : Children P) (c : Tree P) → IsAt i k c → length c.fragment + nibbles_in c.children ≤ nibbles_in k
-  nibbles_at i none c a = absurd a
-  nibbles_at zero (more f o m children others) c a = let e = ap (λ (t : Tree P). length t.fragment + nibbles_in t.children) a in omega (arith, e)
-  nibbles_at (suc i) (more f o m children others) c a = omega (arith, nibbles_at i others c a)
-
-  -- what a child holds can be counted too
-  child_is_small : (t u : Tree P) (i : ℕ) → IsAt i t.children u → IsSmall t → IsSmall u
-  child_is_small t u i a s = record {
-    pairs = let p = no_more_pairs i t.children u a in let q = length-entries_at [] t in omega (arith, p, q, s.pairs);
-    nodes = let n = fewer_nodes i t.children u a in omega (arith, n, s.nodes);
-    nibbles = let n = nibbles_at i t.children u a in omega (arith, n, s.nibbles);
-  }
 
 module _ {K V : Type 0} where
   -- how many pairs a node holds: its own and its children's, by its fields
@@ -85,7 +69,3 @@ module _ {K V : Type 0} where
     child_is_smaller =
         let p = no_more_pairs i (tree_of n).children (tree_of b.value) child_at in let q = length-entries_at [] (tree_of n) in
         (fewer_nodes i (tree_of n).children (tree_of b.value) child_at, omega (arith, p, q))
-
-    -- what a child holds can be counted where what its node holds can be
-    pub child_can_be_counted : IsSmall (tree_of n) → IsSmall (tree_of b.value)
-    child_can_be_counted = child_is_small (tree_of n) (tree_of b.value) i child_at

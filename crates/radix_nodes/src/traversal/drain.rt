@@ -5,14 +5,8 @@ ghost use Rattle.radix_nodes.specs.Nodes.{tree_of, unboxed};
 ghost use Rattle.radix_nodes.specs.Pairs.{own_pair, pairs_in};
 ghost use Rattle.radix_nodes.specs.Prunes.{IsSmall, CanCount};
 
+use crate::traversal::size::Measured;
 use crate::trie_node::{KeyValue, TrieNode};
-
-/// What went with the pairs: how many nodes below the branch's own, and how many nibbles of all fragments.
-#[derive(Clone, Copy)]
-pub struct Drained {
-    pub nodes: u128,
-    pub nibbles: u128,
-}
 
 // Puts the pair at the end of a list that has room for it.
 #[inline(never)]
@@ -32,7 +26,7 @@ fn put_pair<K: Drop, V: Drop>(pair: Option<Box<KeyValue<K, V>>>, list: &mut Vec<
 fn drain_below<K: Drop, V: Drop>(
     node: &mut TrieNode<K, V>,
     list: &mut Vec<(K, V)>,
-    gone: &mut Drained,
+    gone: &mut Measured,
 )
     requires room { vec_len list.old + length (entries_at [] (tree_of node.old))
         ≤ vec_capacity list.old }
@@ -53,7 +47,7 @@ fn drain_below<K: Drop, V: Drop>(
 
 /// Moves the pairs at and below a node to the end of a list that has room for them: the node's own first, then those of one child
 /// after another.
-pub fn drain<K: Drop, V: Drop>(node: TrieNode<K, V>, list: &mut Vec<(K, V)>) -> Drained
+pub fn drain<K: Drop, V: Drop>(node: TrieNode<K, V>, list: &mut Vec<(K, V)>) -> Measured
     requires room { vec_len list.old + length (entries_at [] (tree_of node))
         ≤ vec_capacity list.old }
     requires small { IsSmall (tree_of node) }
@@ -64,7 +58,7 @@ pub fn drain<K: Drop, V: Drop>(node: TrieNode<K, V>, list: &mut Vec<(K, V)>) -> 
         ≡ length (tree_of node).fragment + nibbles_in (tree_of node).children }
 {
     let mut node = node;
-    let mut gone = Drained {
+    let mut gone = Measured {
         nodes: 0,
         nibbles: 0,
     };

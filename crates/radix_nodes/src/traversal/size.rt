@@ -3,7 +3,7 @@ ghost use Rattle.std.specs.Prelude.{◌≡◌, ◌+◌, ◌<◌, ◌≤◌, ◌^
 ghost use Rattle.masked_tree.specs.Tree.{entries_at, nodes_in, nibbles_in};
 ghost use Rattle.masked_tree.specs.Sizes.{levels};
 ghost use Rattle.radix_nodes.specs.Nodes.{tree_of};
-ghost use Rattle.radix_nodes.specs.Prunes.{IsSmall};
+ghost use Rattle.radix_nodes.specs.Prunes.{IsSmall, CanCount};
 
 use crate::trie_node::{TrieNode, has_pair};
 
@@ -27,22 +27,34 @@ pub fn count_pairs<K, V>(node: &TrieNode<K, V>) -> usize
     count
 }
 
-/// How many nodes stand below the node, and how many nibbles its fragment and theirs have.
+// Counts on by the nodes below the node, and by the nibbles of its fragment and of theirs.
 #[tactic(auto, using(crate::proofs::NodeLemmas::Sizes::nodes_out, crate::proofs::NodeLemmas::Sizes::nodes_next, crate::proofs::NodeLemmas::Sizes::nibbles_out, crate::proofs::NodeLemmas::Sizes::nibbles_next))]
+fn measure_below<K, V>(node: &TrieNode<K, V>, held: &mut Measured)
+    requires small { CanCount held.old (tree_of node.now) }
+    ensures nodes { held.new.nodes ≡ held.old.nodes + nodes_in (tree_of node.now).children }
+    ensures nibbles { held.new.nibbles ≡ held.old.nibbles
+        + (length (tree_of node.now).fragment + nibbles_in (tree_of node.now).children) }
+{
+    held.nibbles += node.fragment.len() as u128;
+    for child in &node.children {
+        measure_below(child, held);
+        held.nodes += 1;
+    }
+}
+
+/// How many nodes stand below the node, and how many nibbles its fragment and theirs have.
 pub fn measure<K, V>(node: &TrieNode<K, V>) -> Measured
     requires { IsSmall (tree_of node.now) }
     ensures nodes { result.nodes ≡ nodes_in (tree_of node.now).children }
     ensures nibbles { result.nibbles
         ≡ length (tree_of node.now).fragment + nibbles_in (tree_of node.now).children }
 {
-    let mut nodes: u128 = 0;
-    let mut nibbles = node.fragment.len() as u128;
-    for child in &node.children {
-        let below = measure(child);
-        nodes += below.nodes + 1;
-        nibbles += below.nibbles;
-    }
-    Measured { nodes, nibbles }
+    let mut held = Measured {
+        nodes: 0,
+        nibbles: 0,
+    };
+    measure_below(node, &mut held);
+    held
 }
 
 /// How many nodes stand on the longest way down from the node, with it. None: no `usize` can say it.

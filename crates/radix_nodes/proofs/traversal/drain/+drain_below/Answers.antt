@@ -1,8 +1,8 @@
-use Rattle.std.proofs.Common.{◌≡◌, ◌+◌, ◌<◌, ◌≤◌, ◌∙◌, ◌++◌, [], ◌∷◌, refl, ap, sym, subst, length, drop, vec_len, vec_capacity, arith}
+use Rattle.std.proofs.Common.{◌+◌, ◌<◌, ◌≤◌, ◌∙◌, ◌++◌, [], refl, ap, sym, subst, length, drop, vec_len, vec_capacity, arith}
 use Rattle.std.proofs.lemmas.List.{drop-set-lt, length-set}
 use Rattle.std.specs.Box.{with_value}
 use Rattle.masked_tree.specs.Tree.{entries_at, nodes_in, nibbles_in}
-use Rattle.radix_nodes.specs.declared.traversal.drain.Drained.{Drained}
+use Rattle.radix_nodes.specs.declared.traversal.size.Measured.{Measured}
 use Rattle.radix_nodes.specs.declared.trie_node.TrieNode.{out-TrieNode, out-roll-TrieNode}
 use Rattle.radix_nodes.specs.Nodes.{tree_of, unboxed}
 use Rattle.radix_nodes.specs.Pairs.{own_pair, pairs_in}
@@ -57,7 +57,7 @@ loop-i-preserved g t c =
     let left = left_at (tree_of n) _ _ bs c.loop-i.i b _ _ (omega (arith, c.loop-i-test.true, c.loop-i.invariant.kept)) (sym c.index_mut.ensures.value) c.loop-i.invariant.left in
     let e = c.deref_mut.ensures.value in
     let drained = with_value b c.drain_below.new.node in
-    let gone : Drained = record { nodes = c.drain_below.new.gone.nodes + 1; nibbles = c.drain_below.new.gone.nibbles } in
+    let gone : Measured = record { nodes = c.drain_below.new.gone.nodes + 1; nibbles = c.drain_below.new.gone.nibbles } in
     let written = ap (λ x. x.children.items) (out-roll-TrieNode g.row.K.Denot g.row.V.Denot _) in
     record {
       kept = let size = ap length written in let set = length-set bs c.loop-i.i drained in omega (arith, size, set, c.loop-i.invariant.kept);

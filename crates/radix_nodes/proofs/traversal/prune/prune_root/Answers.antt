@@ -1,5 +1,4 @@
-use Rattle.std.proofs.Common.{◌≤◌, ◌∙◌, sym, subst, arith}
-use Rattle.masked_tree.specs.Alters.{PrunesRoot}
+use Rattle.std.proofs.Common.{arith}
 use Rattle.radix_nodes.specs.Prunes.{branch_of, nodes_gone, nibbles_gone}
 use Rattle.radix_nodes.specs.Nodes.{tree_of}
 use Rattle.radix_nodes.proofs.EditLemmas.Branches.{branch_is_small}

@@ -1,12 +1,12 @@
 -- Pages: the pairs of a walk, cut at a length.
-use Rattle.std.proofs.Common.{◌≡◌, ℕ, zero, suc, ◌+◌, ◌<◌, ◌≤◌, List, [], ◌∷◌, ◌++◌, length, take, drop, get_or, Option, Some, None, refl, ap, sym, ◌∙◌, append_assoc, length-append, arith, Box, Global, Bor}
+use Rattle.std.proofs.Common.{◌≡◌, ℕ, zero, suc, ◌+◌, ◌<◌, ◌≤◌, List, [], ◌∷◌, ◌++◌, All, length, take, drop, get_or, Option, Some, None, refl, ap, sym, subst, ◌∙◌, append_assoc, length-append, arith, Box, Global, Bor}
 use Rattle.std.proofs.lemmas.List.{at_drop_more, length-map, length-take}
 use Rattle.masked_tree.specs.Tree.{entries_in, entries_at}
-use Rattle.nibble_map.proofs.ListLemmas.Cut.{empty_of_length}
 use Rattle.radix_nodes.specs.declared.trie_node.KeyValue.{KeyValue}
 use Rattle.radix_nodes.specs.declared.trie_node.TrieNode.{TrieNode, out-TrieNode}
 use Rattle.radix_nodes.specs.Nodes.{children_of, tree_of}
 use Rattle.radix_nodes.specs.Pairs.{own_pair, pairs_in, pairs_in_all}
+use Rattle.radix_nodes.proofs.CopyLemmas.Values.{all_at_child}
 use Rattle.radix_nodes.proofs.NodeLemmas.Pairs.{pairs_of-append, pairs_of-entries_at}
 use Rattle.radix_trie.specs.Walks.{deref_pair, deref_pairs}
 use Rattle.radix_trie.proofs.WalkLemmas.Rows.{children_of-row}
@@ -16,6 +16,11 @@ take-cut : {A : Type 0} (most : ℕ) (xs ys : List A) → take most (take most x
 take-cut zero xs ys = refl
 take-cut (suc most) [] ys = refl
 take-cut (suc most) (x ∷ xs) ys = ap (λ zs. x ∷ zs) (take-cut most xs ys)
+
+-- a list none of whose elements can be is empty
+empty_of_none : {A : Type 0} (xs : List A) → All (λ _. ⊥) xs → xs ≡ []
+empty_of_none [] none = refl
+empty_of_none (x ∷ xs) none = absurd (none 0 x (omega arith))
 
 module _ {K V : Type 0} where
   -- references to pairs are as many as the pairs
@@ -27,28 +32,14 @@ module _ {K V : Type 0} where
   length-own_pair None = omega arith
   length-own_pair (Some x) = omega arith
 
-  -- the children from i on have no more pairs than all of them
-  drop_has_fewer : (row : List (Box (TrieNode K V) Global)) (i : ℕ) → length (pairs_in_all (children_of (drop i row))) ≤ length (pairs_in_all (children_of row))
-  drop_has_fewer row zero = omega arith
-  drop_has_fewer [] (suc i) = omega arith
-  drop_has_fewer (b ∷ row) (suc i) =
-      let own = pairs_in (tree_of b.value) in
-      let parts = ap length (pairs_of-append (entries_at [] (tree_of b.value)) (entries_in [] (children_of row))) in
-      omega (arith, drop_has_fewer row i, parts, length-append own (pairs_in_all (children_of row)))
-
   -- where no pair is at and below a node, none is at and below its child at i
   pub no_pairs_at_child : (t : TrieNode K V) (row : List (Box (TrieNode K V) Global)) → row ≡ (out-TrieNode K V t).children.items
       → (i : ℕ) (b : Box (TrieNode K V) Global) (n : TrieNode K V) → i < length row → b ≡ get_or row i b → n ≡ b.value
       → pairs_in (tree_of t) ≡ [] → pairs_in (tree_of n) ≡ []
   no_pairs_at_child t row at i b n lt item same none =
-      let rest = pairs_in_all (children_of (drop (i + 1) row)) in
-      let own = pairs_in (tree_of b.value) in
-      let whole = ap length (ap (λ k. own_pair (tree_of t).pair ++ pairs_in_all k) (children_of-row t row at) ∙ sym (pairs_of-entries_at [] (tree_of t)) ∙ none) in
-      let all = length-append (own_pair (tree_of t).pair) (pairs_in_all (children_of row)) in
-      let parts = ap length
-      (pairs_of-append (entries_at [] (tree_of b.value)) (entries_in [] (children_of (drop (i + 1) row)))) in
-      let here = ap length (at_drop_more (λ bs. pairs_in_all (children_of bs)) row i b lt ∙ ap (λ c. pairs_in_all (children_of (c ∷ drop (i + 1) row))) (sym item)) in
-      ap (λ k. pairs_in (tree_of k)) same ∙ empty_of_length own (omega (arith, whole, all, parts, here, length-append own rest, drop_has_fewer row i))
+      let all : All (λ _. ⊥) (pairs_in (tree_of t)) = λ k d within. omega (arith, within, ap length none) in
+      let below = all_at_child (λ _. ⊥) t i b (subst (λ bs. i < length bs) at lt) (ap (λ bs. get_or bs i b) (sym at) ∙ sym item) all in
+      ap (λ k. pairs_in (tree_of k)) same ∙ empty_of_none (pairs_in (tree_of b.value)) below
 
   module _ (most : ℕ) (old new : List (Bor K × Bor V)) where
     -- with a node's own pair, a list that isn't full has no more than it may have

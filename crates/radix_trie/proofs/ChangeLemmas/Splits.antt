@@ -1,5 +1,5 @@
 -- What a branch that was cut off is as a tree of its own.
-use Rattle.std.proofs.Common.{◌≡◌, ◌≢◌, ℕ, suc, ◌+◌, ◌<◌, List, [], ◌∷◌, ◌++◌, map, filter, drop, length, refl, ap, sym, subst, ◌∙◌, arith, append-nil, inl, inr, Bool, true, false}
+use Rattle.std.proofs.Common.{◌≡◌, ◌≢◌, ℕ, suc, ◌+◌, ◌<◌, ◌^◌, List, [], ◌∷◌, ◌++◌, map, filter, drop, length, refl, ap, sym, subst, ◌∙◌, arith, append-nil, inl, inr, Bool}
 use Rattle.std.proofs.lemmas.List.{length-append, length-map}
 use Rattle.std.specs.FinMap as fin
 use Rattle.masked_tree.specs.Alters.{PrunesRoot}
@@ -15,10 +15,12 @@ use Rattle.nibble_map.specs.Swaps.{entry}
 use Rattle.nibble_map.specs.Trees.{first}
 use Rattle.nibble_map.proofs.ListLemmas.Parted.{shortest_unique}
 use Rattle.nibble_map.proofs.MapLemmas.Edits.{walk-by_entries}
-use Rattle.radix_nodes.specs.Prunes.{IsBranch}
+use Rattle.radix_nodes.specs.Prunes.{IsBranch, IsSmall, branch_of, nodes_gone, nibbles_gone}
+use Rattle.radix_nodes.specs.declared.traversal.cut.Branch.{Branch}
 use Rattle.radix_nodes.specs.declared.trie_node.KeyValue.{KeyValue}
+use Rattle.radix_nodes.proofs.EditLemmas.Branches.{branch_is_small}
 use Rattle.radix_trie.specs.Roots.{AllKeyed, IsKept, entries_of, map_of}
-use Rattle.radix_trie.proofs.ChangeLemmas.Prunings.{length-branch_entries, rows_chosen, small_root}
+use Rattle.radix_trie.proofs.ChangeLemmas.Prunings.{rows_chosen, small_root}
 use Rattle.radix_trie.proofs.PathLemmas.NodesBelow.{shortest_point}
 use Rattle.radix_trie.proofs.PathLemmas.Parts.{child_full, node_placed, true_or_false}
 use Rattle.radix_trie.proofs.RootLemmas.Shown.{row_of, entries-map_of, entries_of-root, kept_root}
@@ -30,6 +32,12 @@ nearest_in_equal m n p r q x same at path near = subst (λ y. IsShortest (IsPoin
 -- that no point goes on from a list, by equal maps and lists
 pub apart_in_equal : {P : Type 0} (m n : fin.FinMap _ P) (p r : List ℕ) → m ≡ n → p ≡ r → ((q : List ℕ) → IsPoint m q → IsPrefix p q → ⊥) → (q : List ℕ) → IsPoint n q → IsPrefix r q → ⊥
 apart_in_equal m n p r same at apart = subst (λ x. (q : List ℕ) → IsPoint x q → IsPrefix r q → ⊥) same (subst (λ x. (q : List ℕ) → IsPoint m q → IsPrefix x q → ⊥) at apart)
+
+-- what a branch that was cut off a kept root holds can be counted
+pub cut_is_small : {K V : Type 0} (enc : K → List ℕ) (old : Tree (KeyValue K V)) (count nodes nibbles : ℕ) → IsKept enc old count nodes nibbles → count < 2 ^ 64
+    → (new : Tree (KeyValue K V)) (b : Branch K V) (s : List ℕ) → PrunesRoot s (branch_of b) (nodes_gone b) (nibbles_gone b) old new → IsSmall (branch_of b)
+cut_is_small enc old count nodes nibbles kept limit new b s cut =
+    branch_is_small old new (branch_of b) s (nodes_gone b) (nibbles_gone b) (small_root enc old count nodes nibbles kept limit) cut (omega arith) (omega arith)
 
 module _ {K V : Type 0} (enc : K → List ℕ) where
   -- those of keyed entries that pass a test are keyed

@@ -1,20 +1,19 @@
-use Rattle.std.proofs.Common.{◌≡◌, ℕ, suc, ◌+◌, ◌-◌, ◌<◌, ◌≤◌, ◌^◌, ◌∙◌, List, [], length, ap, sym, subst, arith, rules, refl}
+use Rattle.std.proofs.Common.{◌≡◌, ◌+◌, ◌-◌, ◌<◌, ◌^◌, ◌∙◌, [], length, ap, sym, subst, arith, rules, refl}
 use Rattle.std.specs.FinMap as fin
 use Rattle.masked_tree.specs.Edits.{lowered}
 use Rattle.masked_tree.specs.Paths.{IsPath}
-use Rattle.masked_tree.specs.Tree.{Tree, entries_at, nodes_in, nibbles_in}
+use Rattle.masked_tree.specs.Tree.{entries_at, nodes_in, nibbles_in}
 use Rattle.nibble_map.specs.Lists.{IsPrefix}
-use Rattle.nibble_map.specs.Maps.{below, without_below}
+use Rattle.nibble_map.specs.Maps.{below}
 use Rattle.radix_nodes.specs.Nodes.{tree_of, fragment_of}
 use Rattle.radix_nodes.specs.Pairs.{pairs_in}
 use Rattle.radix_nodes.specs.Prunes.{IsSmall, branch_of, nodes_gone, nibbles_gone}
-use Rattle.radix_nodes.proofs.EditLemmas.Branches.{branch_is_small}
 use Rattle.radix_nodes.proofs.NodeLemmas.Nodes.{fragment-tree_of}
 use Rattle.radix_nodes.proofs.NodeLemmas.Pairs.{length-pairs_of}
 use Rattle.radix_trie.specs.Roots.{IsKept, map_of}
 use Rattle.radix_trie.proofs.ChangeLemmas.Changes.{append-root_fragment}
 use Rattle.radix_trie.proofs.ChangeLemmas.Prunings.{branch_at, small_root, path_below_has_stored, point_below_has_stored, points_apart-paths, below-nothing_below, map_of-nothing_below, map_of-pruned, handed_pairs_counted, handed_pairs_kept}
-use Rattle.radix_trie.proofs.ChangeLemmas.Splits.{nearest_in_equal, apart_in_equal, part_kept, map_of-part}
+use Rattle.radix_trie.proofs.ChangeLemmas.Splits.{cut_is_small, nearest_in_equal, apart_in_equal, part_kept, map_of-part}
 use Rattle.radix_trie.proofs.PathLemmas.Places.{false_is_not_true}
 use Rattle.radix_trie.proofs.trie.Trie.split_at.Goals as goal
 use Rattle.radix_trie.proofs.trie.Trie.split_at.Goals.{in-Heap-2, in-Inline-2}
@@ -50,18 +49,16 @@ pub count_pairs-length-requires : goal.count_pairs-length-requires
 count_pairs-length-requires g c =
     let root = c.self.inside.root in
     let b = c.in-Ok-Some.branch in
-    let limit : c.self.inside.length < 2 ^ 64 = search rules in
     let o = rw c.in-Ok-Some.field-0-is at c.in-Ok-Some.ensures in
-    let small = branch_is_small (tree_of root) (tree_of c.cut_branch.new.root) (branch_of b) o.0 (nodes_gone b) (nibbles_gone b) (small_root g.K.TrieKey.encoding (tree_of root) _ _ _ c.self.invariant limit) o.2 (omega arith) (omega arith) in
+    let small = cut_is_small g.K.TrieKey.encoding (tree_of root) _ _ _ c.self.invariant (search rules) (tree_of c.cut_branch.new.root) b o.0 o.2 in
     subst (λ n. length (entries_at [] (tree_of n)) < 2 ^ 64) (sym c.deref.ensures) small.pairs
 
 pub measure-held-requires : goal.measure-held-requires
 measure-held-requires g c =
     let root = c.self.inside.root in
     let b = c.in-Ok-Some.branch in
-    let limit : c.self.inside.length < 2 ^ 64 = search rules in
     let o = rw c.in-Ok-Some.field-0-is at c.in-Ok-Some.ensures in
-    let small = branch_is_small (tree_of root) (tree_of c.cut_branch.new.root) (branch_of b) o.0 (nodes_gone b) (nibbles_gone b) (small_root g.K.TrieKey.encoding (tree_of root) _ _ _ c.self.invariant limit) o.2 (omega arith) (omega arith) in
+    let small = cut_is_small g.K.TrieKey.encoding (tree_of root) _ _ _ c.self.invariant (search rules) (tree_of c.cut_branch.new.root) b o.0 o.2 in
     subst (λ n. IsSmall (tree_of n)) (sym c.deref-in-Ok-Some.ensures) small
 
 pub overflow_sub-nibbles : goal.overflow_sub-nibbles
@@ -77,9 +74,8 @@ overflow_add-nibbles g c =
     let b = c.in-Ok-Some.branch in
     let u = branch_of b in
     let q = c.into_path-path.result in
-    let limit : c.self.inside.length < 2 ^ 64 = search rules in
     let o = rw c.in-Ok-Some.field-0-is at c.in-Ok-Some.ensures in
-    let small = branch_is_small (tree_of root) (tree_of c.cut_branch.new.root) u o.0 (nodes_gone b) (nibbles_gone b) (small_root g.K.TrieKey.encoding (tree_of root) _ _ _ c.self.invariant limit) o.2 (omega arith) (omega arith) in
+    let small = cut_is_small g.K.TrieKey.encoding (tree_of root) _ _ _ c.self.invariant (search rules) (tree_of c.cut_branch.new.root) b o.0 o.2 in
     let held = c.measure-held.ensures.nibbles ∙ ap (λ n. length (tree_of n).fragment + nibbles_in (tree_of n).children) c.deref-in-Ok-Some.ensures in
     let own = c.len.ensures ∙ ap (λ n. length (fragment_of n)) c.deref-in-Ok-Some-2.ensures ∙ ap length (sym (fragment-tree_of b.top.value)) in
     let near = nearest_in_equal c.find.result.map (map_of (tree_of root)) c.find.result.path c.args.list.now c.in-Some.view.path q (c.find.ensures.map ∙ sym c.self.view_is) c.find.ensures.path (sym c.into_path-path.ensures) (rw c.in-Some.is at c.in_ok-view.ensures.nearest) in
@@ -100,9 +96,8 @@ pub overflow_add-result : goal.overflow_add-result
 overflow_add-result g c =
     let root = c.self.inside.root in
     let b = c.in-Ok-Some.branch in
-    let limit : c.self.inside.length < 2 ^ 64 = search rules in
     let o = rw c.in-Ok-Some.field-0-is at c.in-Ok-Some.ensures in
-    let small = branch_is_small (tree_of root) (tree_of c.cut_branch.new.root) (branch_of b) o.0 (nodes_gone b) (nibbles_gone b) (small_root g.K.TrieKey.encoding (tree_of root) _ _ _ c.self.invariant limit) o.2 (omega arith) (omega arith) in
+    let small = cut_is_small g.K.TrieKey.encoding (tree_of root) _ _ _ c.self.invariant (search rules) (tree_of c.cut_branch.new.root) b o.0 o.2 in
     omega (arith, c.measure-held.ensures.nodes ∙ ap (λ n. nodes_in (tree_of n).children) c.deref-in-Ok-Some.ensures, small.nodes)
 
 pub invariant_of-result : goal.invariant_of-result

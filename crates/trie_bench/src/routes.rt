@@ -35,19 +35,71 @@ impl Network {
     }
 }
 
+/// A table of networks, each with its hop.
+trait Table: Drop {
+    /// The table without networks.
+    fn empty(alloc: Global) -> Self;
+
+    /// Stores the hop of a network.
+    fn put(&mut self, alloc: Global, network: Network, hop: u32) -> Result<(), Fault>;
+
+    /// The hop of the longest network that holds the address, or 0.
+    fn hop(&self, alloc: Global, address: u32) -> Result<u32, Fault>;
+}
+
+/// A trie has the first bits of an address as a key.
+impl Table for Trie<Bits, u32> {
+    fn empty(alloc: Global) -> Trie<Bits, u32> {
+        Trie::new(alloc)
+    }
+
+    fn put(&mut self, alloc: Global, network: Network, hop: u32) -> Result<(), Fault> {
+        let bits = Bits::first_of_u32(alloc, network.address, network.bits as usize)?;
+        self.insert(bits, hop)?;
+        Ok(())
+    }
+
+    fn hop(&self, alloc: Global, address: u32) -> Result<u32, Fault> {
+        let bits = Bits::first_of_u32(alloc, address, 32)?;
+        Ok(self.get_ancestor_value(&bits)?.copied().unwrap_or(0))
+    }
+}
+
+/// A map is asked for each length, the longest first.
+impl Table for BTreeMap<(u32, u32), u32> {
+    fn empty(alloc: Global) -> BTreeMap<(u32, u32), u32> {
+        BTreeMap::new(alloc)
+    }
+
+    fn put(&mut self, _alloc: Global, network: Network, hop: u32) -> Result<(), Fault> {
+        self.insert(network.key(), hop)?;
+        Ok(())
+    }
+
+    fn hop(&self, _alloc: Global, address: u32) -> Result<u32, Fault> {
+        for bits in (SHORTEST..=LONGEST).rev() {
+            let network = Network { bits, address };
+            if let Some(hop) = self.get(&network.key()) {
+                return Ok(*hop);
+            }
+        }
+        Ok(0)
+    }
+}
+
 /// Fills a trie and a map with the same networks, looks the same addresses up in both, and tells the times.
 pub fn run<R: Print + Clock + AllocGlobal>(rt: &R, count: u32) -> Result<(), Fault> {
     let networks = networks(rt.alloc(), count)?;
     let addresses = addresses(rt.alloc(), networks.as_slice())?;
-    let (trie, trie_filled) = filled_trie(rt, networks.as_slice())?;
-    let (map, map_filled) = filled_map(rt, networks.as_slice())?;
+    let (trie, trie_filled): (Trie<Bits, u32>, Timed) = filled(rt, networks.as_slice())?;
+    let (map, map_filled): (BTreeMap<(u32, u32), u32>, Timed) = filled(rt, networks.as_slice())?;
     println!(rt;
         "routes insert {count} {} {}",
         trie_filled.each(),
         map_filled.each()
     )?;
-    let by_trie = look_in_trie(rt, &trie, addresses.as_slice())?;
-    let by_map = look_in_map(rt, &map, addresses.as_slice())?;
+    let by_trie = look(rt, &trie, addresses.as_slice())?;
+    let by_map = look(rt, &map, addresses.as_slice())?;
     if !by_trie.agrees(&by_map) {
         return Err(Fault::Differs);
     }
@@ -85,77 +137,33 @@ fn addresses(alloc: Global, networks: &[Network]) -> Result<Vec<u32>, Fault> {
     Ok(addresses)
 }
 
-/// The trie of these networks, each with the number of the last one that is the same, and the times of its insertions.
-fn filled_trie<R: Clock + AllocGlobal>(
+/// A table of these networks, each with the number of the last one that is the same, and the times of its insertions.
+fn filled<R: Clock + AllocGlobal, T: Table>(
     rt: &R,
     networks: &[Network],
-) -> Result<(Trie<Bits, u32>, Timed), Fault> {
+) -> Result<(T, Timed), Fault> {
     let start = Instant::now(rt)?;
-    let mut trie = Trie::new(rt.alloc());
+    let mut table = T::empty(rt.alloc());
     let mut hop = 0u32;
     for network in networks {
         hop = hop.wrapping_add(1);
-        let bits = Bits::first_of_u32(rt.alloc(), network.address, network.bits as usize)?;
-        trie.insert(bits, hop)?;
+        table.put(rt.alloc(), *network, hop)?;
     }
     let timed = Timed::since(rt, start, networks.len(), 0)?;
-    Ok((trie, timed))
-}
-
-/// The same map.
-fn filled_map<R: Clock + AllocGlobal>(
-    rt: &R,
-    networks: &[Network],
-) -> Result<(BTreeMap<(u32, u32), u32>, Timed), Fault> {
-    let start = Instant::now(rt)?;
-    let mut map = BTreeMap::new(rt.alloc());
-    let mut hop = 0u32;
-    for network in networks {
-        hop = hop.wrapping_add(1);
-        map.insert(network.key(), hop)?;
-    }
-    let timed = Timed::since(rt, start, networks.len(), 0)?;
-    Ok((map, timed))
+    Ok((table, timed))
 }
 
 /// The times of the look-ups, and the sum of the hops that were found.
-fn look_in_trie<R: Clock + AllocGlobal>(
+fn look<R: Clock + AllocGlobal, T: Table>(
     rt: &R,
-    trie: &Trie<Bits, u32>,
+    table: &T,
     addresses: &[u32],
 ) -> Result<Timed, Fault> {
     let start = Instant::now(rt)?;
     let mut sum = 0u64;
     for address in addresses {
-        let bits = Bits::first_of_u32(rt.alloc(), *address, 32)?;
-        let hop = trie.get_ancestor_value(&bits)?.copied().unwrap_or(0);
+        let hop = table.hop(rt.alloc(), *address)?;
         sum = sum.wrapping_add(hop as u64);
     }
     Timed::since(rt, start, addresses.len(), sum)
-}
-
-/// The same by a map, which is asked for each length, the longest first.
-fn look_in_map(
-    clock: &impl Clock,
-    map: &BTreeMap<(u32, u32), u32>,
-    addresses: &[u32],
-) -> Result<Timed, Fault> {
-    let start = Instant::now(clock)?;
-    let mut sum = 0u64;
-    for address in addresses {
-        let hop = hop_in_map(map, *address);
-        sum = sum.wrapping_add(hop as u64);
-    }
-    Timed::since(clock, start, addresses.len(), sum)
-}
-
-/// The hop of the longest network that holds the address, or 0.
-fn hop_in_map(map: &BTreeMap<(u32, u32), u32>, address: u32) -> u32 {
-    for bits in (SHORTEST..=LONGEST).rev() {
-        let network = Network { bits, address };
-        if let Some(hop) = map.get(&network.key()) {
-            return *hop;
-        }
-    }
-    0
 }

@@ -1,5 +1,5 @@
 //! Random numbers that are the same in each run.
-ghost use Rattle.std.specs.Prelude.{◌≤◌};
+ghost use Rattle.std.specs.Prelude.{◌≡◌, ◌<◌, [], ℕ, IsPermutation, length, slice_get};
 
 /// A generator of 64-bit numbers: a counter that is stepped by an odd number, and mixed.
 #[derive(Drop)]
@@ -23,7 +23,8 @@ impl Random {
 
     /// A number below this one, or 0 where it is 0.
     pub fn below(&mut self, limit: u64) -> u64
-        ensures { result ≤ limit }
+        ensures below { 0 < limit → result < limit }
+        ensures zero { limit ≡ 0 → result ≡ 0 }
     {
         self.number().checked_rem(limit).unwrap_or(0)
     }
@@ -33,14 +34,19 @@ impl Random {
         (self.number() >> 32) as u32
     }
 
-    /// One of these texts.
-    pub fn pick(&mut self, texts: &[&'static str]) -> &'static str {
+    /// One of these texts, or the empty one where there are none.
+    pub fn pick(&mut self, texts: &[&'static str]) -> &'static str
+        ensures one { 0 < length texts.now → (i : ℕ) × (slice_get texts.now i ≡ Some result) }
+        ensures none { length texts.now ≡ 0 → result.now ≡ [] }
+    {
         let place = self.below(texts.len() as u64);
         texts.get(place as usize).copied().unwrap_or("")
     }
 
     /// Puts the items in a random order.
-    pub fn shuffle<T>(&mut self, items: &mut [T]) {
+    pub fn shuffle<T>(&mut self, items: &mut [T])
+        ensures { IsPermutation items.old items.new }
+    {
         for i in 1..items.len() {
             let j = self.below(i as u64 + 1) as usize;
             if j < i {

@@ -1,4 +1,5 @@
 //! Times of calls.
+ghost use Rattle.std.specs.Prelude.{◌≡◌, ◌/◌, ◌<◌, ◌↔◌, IfOk, IsTrue};
 
 use crate::fault::Fault;
 use std::rt::Clock;
@@ -7,19 +8,17 @@ use std::time::Instant;
 /// How long the calls of a run took, and the sum of what they answered.
 #[derive(Clone, Copy)]
 pub struct Timed {
-    nanoseconds: u128,
-    calls: usize,
-    sum: u64,
+    pub nanoseconds: u128,
+    pub calls: usize,
+    pub sum: u64,
 }
 
 impl Timed {
     /// The calls that began then and end now.
-    pub fn since(
-        clock: &impl Clock,
-        start: Instant,
-        calls: usize,
-        sum: u64,
-    ) -> Result<Timed, Fault> {
+    pub fn since(clock: &impl Clock, start: Instant, calls: usize, sum: u64) -> Result<Timed, Fault>
+        ensures as_many { IfOk result (λ timed. timed.calls ≡ calls) }
+        ensures answers { IfOk result (λ timed. timed.sum ≡ sum) }
+    {
         let nanoseconds = start.elapsed(clock)?.as_nanos();
         Ok(Timed {
             nanoseconds,
@@ -29,19 +28,26 @@ impl Timed {
     }
 
     /// The same times, with another sum.
-    pub fn with_sum(self, sum: u64) -> Timed {
+    pub fn with_sum(self, sum: u64) -> Timed
+        ensures { result ≡ record self { sum = sum } }
+    {
         Timed { sum, ..self }
     }
 
     /// The nanoseconds of one call.
-    pub fn each(&self) -> u128 {
+    pub fn each(&self) -> u128
+        ensures { 0 < self.now.calls → result ≡ self.now.nanoseconds / self.now.calls }
+    {
         self.nanoseconds
             .checked_div(self.calls as u128)
             .unwrap_or(0)
     }
 
     /// Whether the other calls answered the same.
-    pub fn agrees(&self, other: &Timed) -> bool {
+    pub fn agrees(&self, other: &Timed) -> bool
+        ensures { IsTrue result
+            ↔ ((self.now.calls ≡ other.now.calls) × (self.now.sum ≡ other.now.sum)) }
+    {
         self.calls == other.calls && self.sum == other.sum
     }
 }

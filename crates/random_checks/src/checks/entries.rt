@@ -23,28 +23,20 @@ fn is_entry_removed<K: Drawn>(
     is_taken(alloc, &taken, model.remove(list.as_slice()))
 }
 
-/// The first pairs are taken away, one after another.
+/// The first pairs are taken away, one after another, or the last ones.
 fn are_popped<K: Drawn>(
     alloc: Global,
     trie: &mut Trie<K, u64>,
     model: &mut Model,
+    is_first: bool,
 ) -> Result<bool, Memory> {
     for _ in 0..AT_ONCE {
-        if !is_taken(alloc, &trie.pop_first()?, model.remove_first())? {
-            return Ok(false);
-        }
-    }
-    Ok(true)
-}
-
-/// The same of the last ones.
-fn are_popped_last<K: Drawn>(
-    alloc: Global,
-    trie: &mut Trie<K, u64>,
-    model: &mut Model,
-) -> Result<bool, Memory> {
-    for _ in 0..AT_ONCE {
-        if !is_taken(alloc, &trie.pop_last()?, model.remove_last())? {
+        let (taken, wanted) = if is_first {
+            (trie.pop_first()?, model.remove_first())
+        } else {
+            (trie.pop_last()?, model.remove_last())
+        };
+        if !is_taken(alloc, &taken, wanted)? {
             return Ok(false);
         }
     }
@@ -121,8 +113,8 @@ pub fn is_entry_change<K: Drawn>(
 ) -> Result<bool, Memory> {
     match random.draw() % 32 {
         0..=9 => is_entry_removed(alloc, trie, model, random.key()),
-        10..=13 => are_popped(alloc, trie, model),
-        14..=17 => are_popped_last(alloc, trie, model),
+        10..=13 => are_popped(alloc, trie, model, true),
+        14..=17 => are_popped(alloc, trie, model, false),
         18..=25 => are_added(alloc, trie, model, random),
         26..=27 => are_changed(alloc, trie, model, random.draw()),
         28..=30 => are_handed_out(alloc, trie, &*model),

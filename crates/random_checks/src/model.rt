@@ -1,4 +1,9 @@
 //! A trie's answers, by its definition: from a plain sorted map of nibble lists, one list after another.
+ghost use Rattle.std.specs.Prelude.{◌≡◌, ◌≤◌, ◌<◌, ◌↔◌, [], ◌∷◌, ◌++◌, IfOk, IfSome, IsSome, OnErr, OnOk, length};
+ghost use Rattle.std.specs.BTreeMap.{IsEmpty, IsUnchanged, btree_map_len, insert_entry, values};
+ghost use Rattle.std.specs.Map.{remove_entry};
+ghost use Rattle.random_checks.specs.Models.{is_list, key_order, stored_at};
+ghost use Rattle.random_checks.specs.Pairs.{stored_value};
 
 use radix_trie::Memory;
 use std::alloc::Global;
@@ -16,11 +21,14 @@ pub struct Stored {
 #[derive(Drop)]
 pub struct Model {
     alloc: Global,
-    stored: BTreeMap<Vec<u8>, Stored>,
+    pub stored: BTreeMap<Vec<u8>, Stored>,
 }
 
 /// How many nibbles two lists begin with in common.
-fn agreement(one: &[u8], other: &[u8]) -> usize {
+fn agreement(one: &[u8], other: &[u8]) -> usize
+    ensures in_one { result ≤ length one.now }
+    ensures in_other { result ≤ length other.now }
+{
     let mut count = 0usize;
     for (a, b) in one.iter().zip(other.iter()) {
         if *a != *b {
@@ -32,7 +40,9 @@ fn agreement(one: &[u8], other: &[u8]) -> usize {
 }
 
 impl Model {
-    pub fn new(alloc: Global) -> Model {
+    pub fn new(alloc: Global) -> Model
+        ensures { IsEmpty result.stored }
+    {
         Model {
             alloc,
             stored: BTreeMap::new(alloc),
@@ -40,33 +50,54 @@ impl Model {
     }
 
     /// What is stored at the list.
-    pub fn at(&self, list: &[u8]) -> Option<Stored> {
+    pub fn at(&self, list: &[u8]) -> Option<Stored>
+        ensures { result ≡ stored_at self.now.stored list.now }
+    {
         self.stored.get(list).copied()
     }
 
     /// The value that is stored at the list.
-    pub fn get(&self, list: &[u8]) -> Option<u64> {
+    pub fn get(&self, list: &[u8]) -> Option<u64>
+        ensures { result ≡ stored_value (stored_at self.now.stored list.now) }
+    {
         self.at(list).map(|stored| stored.value)
     }
 
     /// Stores at the list, and answers the value that was there.
-    pub fn insert(&mut self, list: Vec<u8>, stored: Stored) -> Result<Option<u64>, Memory> {
+    pub fn insert(&mut self, list: Vec<u8>, stored: Stored) -> Result<Option<u64>, Memory>
+        ensures old { IfOk result
+            (λ old. old ≡ stored_value (stored_at self.old.stored list.items)) }
+        ensures put { OnOk result (self.new.stored.entries
+            ≡ insert_entry key_order self.old.stored.entries list stored) }
+        ensures unchanged { OnErr result (IsUnchanged self.old.stored self.new.stored) }
+    {
         Ok(self.stored.insert(list, stored)?.map(|old| old.value))
     }
 
     /// Takes what is at the list away.
-    pub fn remove(&mut self, list: &[u8]) -> Option<Stored> {
+    pub fn remove(&mut self, list: &[u8]) -> Option<Stored>
+        ensures taken { result ≡ stored_at self.old.stored list.now }
+        ensures rest { self.new.stored.entries
+            ≡ remove_entry (is_list list.now) self.old.stored.entries }
+    {
         self.stored.remove(list)
     }
 
     /// Takes what is at the first list away.
-    pub fn remove_first(&mut self) -> Option<Stored> {
+    pub fn remove_first(&mut self) -> Option<Stored>
+        ensures some { IsSome result ↔ (0 < btree_map_len self.old.stored) }
+        ensures first { IfSome result (λ s. values self.old.stored ≡ s ∷ values self.new.stored) }
+    {
         let (_, stored) = self.stored.pop_first()?;
         Some(stored)
     }
 
     /// Takes what is at the last list away.
-    pub fn remove_last(&mut self) -> Option<Stored> {
+    pub fn remove_last(&mut self) -> Option<Stored>
+        ensures some { IsSome result ↔ (0 < btree_map_len self.old.stored) }
+        ensures last { IfSome result
+            (λ s. values self.old.stored ≡ values self.new.stored ++ s ∷ []) }
+    {
         let (_, stored) = self.stored.pop_last()?;
         Some(stored)
     }
@@ -79,7 +110,9 @@ impl Model {
     }
 
     /// Takes all away.
-    pub fn clear(&mut self) {
+    pub fn clear(&mut self)
+        ensures { IsEmpty self.new.stored }
+    {
         self.stored.clear();
     }
 

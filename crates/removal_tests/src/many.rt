@@ -3,9 +3,9 @@
 use radix_trie::{Memory, Trie};
 use std::process::Abort;
 
-/// The numbers below 2000, each under itself.
-fn numbers(rt: &impl Abort, trie: &mut Trie<u16, u64>) {
-    for number in 0..2000 {
+/// Puts the numbers below this one into a trie that has none of them, each under itself.
+pub(crate) fn put_numbers(rt: &impl Abort, trie: &mut Trie<u16, u64>, end: u16) {
+    for number in 0..end {
         assert!(rt; matches!(trie.insert(number, number as u64), Ok(None)));
     }
 }
@@ -36,7 +36,7 @@ fn check_byte(rt: &impl Abort, trie: &mut Trie<u16, u64>) -> Result<(), Memory> 
 #[test]
 fn a_byte_of_numbers(rt: HostRuntime) -> Result<(), Memory> {
     let mut trie = Trie::new(rt.alloc());
-    numbers(&rt, &mut trie);
+    put_numbers(&rt, &mut trie, 2000);
     check_byte(&rt, &mut trie)
 }
 
@@ -54,7 +54,7 @@ fn check_all(rt: &impl Abort, trie: &mut Trie<u16, u64>) -> Result<(), Memory> {
 fn two_thousand(rt: HostRuntime) -> Result<(), Memory> {
     let mut trie = Trie::new(rt.alloc());
     for _ in 0..2 {
-        numbers(&rt, &mut trie);
+        put_numbers(&rt, &mut trie, 2000);
         check_all(&rt, &mut trie)?;
     }
     Ok(())

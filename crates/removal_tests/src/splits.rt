@@ -1,8 +1,8 @@
 //! What stands at and below a key, as a trie of its own.
 
+use crate::many::put_numbers;
 use crate::rows::{ROWS, Row, is_gone};
 use radix_trie::{Memory, Trie};
-use std::alloc::Global;
 use std::process::Abort;
 use trie_samples::{SAMPLE, Texts, list, texts};
 
@@ -60,18 +60,9 @@ fn check_halves(rt: &impl Abort, trie: &mut Trie<u16, u64>) -> Result<(), Memory
     Ok(())
 }
 
-fn numbers(alloc: Global) -> Result<Trie<u16, u64>, Memory> {
-    let mut trie = Trie::new(alloc);
-    for number in 0..512 {
-        if trie.insert(number, number as u64).is_err() {
-            return Err(Memory);
-        }
-    }
-    Ok(trie)
-}
-
 #[test]
 fn half_of_the_numbers_comes_back(rt: HostRuntime) -> Result<(), Memory> {
-    let mut trie = numbers(rt.alloc())?;
+    let mut trie = Trie::new(rt.alloc());
+    put_numbers(&rt, &mut trie, 512);
     check_halves(&rt, &mut trie)
 }

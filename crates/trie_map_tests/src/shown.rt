@@ -1,6 +1,6 @@
-//! How tries and views are written, and the value at a list that is known to be stored.
+//! How tries and views are written.
 
-use radix_trie::{Memory, TrieKey};
+use radix_trie::Memory;
 use trie_samples::texts;
 
 #[test]
@@ -19,14 +19,5 @@ fn tries_and_views_are_written_as_maps(rt: HostRuntime) -> Result<(), Memory> {
     }
     let text = format!(in a; "{:?}", texts(a, &[])?)?;
     assert!(rt; text.as_str() == "{}");
-    Ok(())
-}
-
-#[test]
-fn stored_lists_are_indexed(rt: HostRuntime) -> Result<(), Memory> {
-    let words = texts(rt.alloc(), &[("team", 3), ("inn", 5)])?;
-    let list = "team".encode(rt.alloc())?;
-    assert!(rt; words.contains(&list));
-    assert!(rt; words[&list] == 3);
     Ok(())
 }

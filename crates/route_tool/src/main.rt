@@ -10,8 +10,6 @@ mod hop;
 mod lines;
 mod network;
 mod table;
-#[cfg(test)]
-mod tests;
 
 use crate::engine::serve;
 use crate::fault::{Fault, end};

@@ -6,8 +6,6 @@ pub mod endian;
 pub mod keys;
 pub mod laws;
 pub mod nibbles;
-#[cfg(test)]
-mod tests;
 
 pub use bits::Bits;
 pub use endian::{Ascending, BigEndian, KeyInt, LittleEndian};

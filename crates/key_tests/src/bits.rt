@@ -1,4 +1,8 @@
-use super::*;
+//! Lists of bits.
+
+use crate::digits::encodes;
+use radix_keys::Bits;
+use std::test::Fail;
 
 #[test]
 fn bits_of_a_number(rt: HostRuntime) -> Result<(), Fail> {

@@ -1,4 +1,7 @@
-use super::*;
+//! What keys of 128 bits, truth values, characters, arrays and pairs are encoded as.
+
+use crate::digits::encodes;
+use radix_keys::{Ascending, BigEndian, LittleEndian, TrieKey};
 
 #[test]
 fn unsigned_numbers_of_128_bits(rt: HostRuntime) {

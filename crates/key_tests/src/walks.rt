@@ -1,5 +1,8 @@
-use super::*;
+//! The nibbles of a list in order, the order of lists, and their text.
+
+use crate::digits::list;
 use std::cmp::Ordering;
+use std::test::Fail;
 
 #[test]
 fn nibbles_come_in_order(rt: HostRuntime) -> Result<(), Fail> {

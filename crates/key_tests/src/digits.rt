@@ -1,19 +1,12 @@
-//! Outside vectors.
-use super::*;
-use std::alloc::Global;
-use std::test::Fail;
+//! Lists of nibbles, written and read as hexadecimal digits.
 
-mod bits;
-mod keys;
-mod lists;
-mod refusals;
-mod walks;
-mod widths;
+use radix_keys::{Memory, Nibblet, TrieKey};
+use std::alloc::Global;
 
 const DIGITS: &[u8] = b"0123456789abcdef";
 
 /// The list of these nibbles.
-fn list(alloc: Global, nibbles: &[u8]) -> Result<Nibblet, Memory> {
+pub fn list(alloc: Global, nibbles: &[u8]) -> Result<Nibblet, Memory> {
     let mut made = Nibblet::new(alloc);
     for n in nibbles {
         made.push(*n % 16)?;
@@ -22,7 +15,7 @@ fn list(alloc: Global, nibbles: &[u8]) -> Result<Nibblet, Memory> {
 }
 
 /// Whether the list is what these hexadecimal digits say.
-fn reads(list: &Nibblet, digits: &str) -> bool {
+pub fn reads(list: &Nibblet, digits: &str) -> bool {
     let digits = digits.as_bytes();
     if list.len() != digits.len() {
         return false;
@@ -36,6 +29,6 @@ fn reads(list: &Nibblet, digits: &str) -> bool {
 }
 
 /// Whether the key's encoding is what these hexadecimal digits say.
-fn encodes<K: TrieKey>(alloc: Global, key: &K, digits: &str) -> bool {
+pub fn encodes<K: TrieKey>(alloc: Global, key: &K, digits: &str) -> bool {
     key.encode(alloc).is_ok_and(|l| reads(&l, digits))
 }

@@ -1,4 +1,8 @@
-use super::*;
+//! Lists of nibbles.
+
+use crate::digits::{list, reads};
+use radix_keys::Nibblet;
+use std::test::Fail;
 
 #[test]
 fn bytes_give_their_high_half_first(rt: HostRuntime) -> Result<(), Fail> {

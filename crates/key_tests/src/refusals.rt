@@ -1,4 +1,7 @@
-use super::*;
+//! The texts of refusals.
+
+use radix_keys::{BytesError, Memory};
+use std::test::Fail;
 
 #[test]
 fn refusals_are_written(rt: HostRuntime) -> Result<(), Fail> {

@@ -1,4 +1,9 @@
-use super::*;
+//! What a key is encoded as.
+
+use crate::digits::{encodes, list};
+use radix_keys::{Ascending, BigEndian, BytesError, LittleEndian, Memory, Nibblet, TrieKey};
+use std::alloc::Global;
+use std::test::Fail;
 
 #[test]
 fn texts(rt: HostRuntime) {

@@ -3,7 +3,6 @@ pub mod Nodes
 pub mod Pointed
 pub mod Pairs
 pub mod Sizes
-pub mod Counts
 pub mod FewChildren
 pub mod Dropping
 pub mod Options

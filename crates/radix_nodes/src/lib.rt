@@ -2,7 +2,5 @@
 #![tactic(auto)]
 
 pub mod fragments;
-#[cfg(test)]
-mod tests;
 pub mod traversal;
 pub mod trie_node;

@@ -1,20 +1,12 @@
--- After an insertion or a removal the children stand at their places, whether it was refused or not.
-use Rattle.std.proofs.Common.{List, ℕ, Option, Some, None, Result, Ok, Err, sym, subst}
+-- After an insertion the children stand at their places, whether it was refused or not.
+use Rattle.std.proofs.Common.{List, ℕ, Result, Ok, Err, sym, subst}
 use Rattle.masked_tree.specs.Tree.{Tree, IsTreePlaced}
-use Rattle.radix_keys.specs.declared.nibbles.Memory.{Memory}
 use Rattle.radix_nodes.specs.declared.trie_node.KeyValue.{KeyValue}
 use Rattle.radix_nodes.specs.declared.traversal.insert.Change.{Change}
-use Rattle.radix_nodes.specs.declared.traversal.remove.Taken.{Taken}
-use Rattle.radix_nodes.specs.Nodes.{EditOutcome, RootOutcome}
+use Rattle.radix_nodes.specs.Nodes.{EditOutcome}
 
 module _ {K V : Type 0} where
   -- after an insertion, done or refused, the children stand at their places if they did before
   pub edit_placed : (r : Result (Change K V) (KeyValue K V)) (x : KeyValue K V) (p : List ℕ) (old new : Tree (KeyValue K V)) → EditOutcome r x p old new → IsTreePlaced old → IsTreePlaced new
   edit_placed (Ok put) x p old new h s = h.root.alters.placed
   edit_placed (Err y) x p old new h s = subst IsTreePlaced (sym h.1) s
-
-  -- after a removal from a root, done or not, the children stand at their places as before
-  pub root_placed : (r : Result (Option (Taken K V)) Memory) (p : List ℕ) (old new : Tree (KeyValue K V)) → RootOutcome r p old new → IsTreePlaced old → IsTreePlaced new
-  root_placed (Ok (Some t)) p old new h s = h.alters.placed
-  root_placed (Ok None) p old new h s = subst IsTreePlaced (sym h.0) s
-  root_placed (Err e) p old new h s = subst IsTreePlaced (sym h.0) s

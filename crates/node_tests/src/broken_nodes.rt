@@ -2,12 +2,23 @@
 ghost use Rattle.std.specs.Prelude.{◌≤◌, ◌+◌, length, IfOk};
 ghost use Rattle.radix_nodes.specs.Soundness.{pair_count_of, pair_count_of_all};
 
-use super::*;
+use radix_keys::{Memory, Nibblet};
+use radix_nodes::trie_node::{KeyValue, TrieNode};
+use std::alloc::Global;
 
 type Node = TrieNode<Nibblet, ()>;
 
+/// The list of these nibbles.
+fn list(alloc: Global, nibbles: &[u8]) -> Result<Nibblet, Memory> {
+    let mut made = Nibblet::new(alloc);
+    for n in nibbles {
+        made.push(*n % 16)?;
+    }
+    Ok(made)
+}
+
 /// A node.
-#[tactic(auto, using(crate::proofs::NodeLemmas::Counts::pairs_rolled))]
+#[tactic(auto, using(crate::proofs::Counts::pairs_rolled))]
 fn node(
     alloc: Global,
     fragment: &[u8],
@@ -34,7 +45,7 @@ fn node(
 }
 
 /// Nodes without children, each with a fragment and a key.
-#[tactic(auto, using(crate::proofs::NodeLemmas::Counts::pairs_pushed, crate::proofs::NodeLemmas::Counts::pairs_none))]
+#[tactic(auto, using(crate::proofs::Counts::pairs_pushed, crate::proofs::Counts::pairs_none))]
 fn leaves(alloc: Global, leaves: &[(&[u8], &[u8])]) -> Result<Vec<Box<Node>>, Memory>
     ensures { IfOk result (λ bs. pair_count_of_all bs.items ≤ length leaves.now) }
 {
@@ -47,7 +58,7 @@ fn leaves(alloc: Global, leaves: &[(&[u8], &[u8])]) -> Result<Vec<Box<Node>>, Me
 }
 
 /// What the check says of a node at a path.
-#[tactic(auto, using(crate::proofs::CheckerLemmas::Nodes::pairs_at))]
+#[tactic(auto, using(radix_nodes::proofs::CheckerLemmas::Nodes::pairs_at))]
 fn checked(
     alloc: Global,
     path: &[u8],

@@ -2,11 +2,13 @@
 ghost use Rattle.masked_tree.specs.Tree.{IsTreePlaced};
 ghost use Rattle.radix_nodes.specs.Nodes.{tree_of};
 
-use super::*;
-use crate::traversal::find::find;
-use crate::traversal::insert::put;
-use crate::traversal::remove::take_root;
-use crate::traversal::size::height;
+use radix_keys::{Memory, Nibblet};
+use radix_nodes::traversal::find::find;
+use radix_nodes::traversal::insert::put;
+use radix_nodes::traversal::remove::take_root;
+use radix_nodes::traversal::size::height;
+use radix_nodes::trie_node::{KeyValue, TrieNode};
+use std::alloc::Global;
 use std::process::Abort;
 use std::test::Fail;
 
@@ -26,7 +28,7 @@ fn ones(alloc: Global, length: usize) -> Result<Nibblet, Memory> {
 }
 
 /// Puts all lists, the shortest first: each comes with one node and one nibble.
-#[tactic(auto, using(crate::proofs::EditLemmas::Placed::edit_placed))]
+#[tactic(auto, using(radix_nodes::proofs::EditLemmas::Placed::edit_placed))]
 fn put_all(rt: &impl Abort, root: &mut Node, alloc: Global) -> Result<(), Memory>
     requires { IsTreePlaced (tree_of root.old) }
     ensures { IsTreePlaced (tree_of root.new) }
@@ -57,7 +59,7 @@ fn find_all(rt: &impl Abort, root: &Node, alloc: Global) -> Result<(), Memory>
 }
 
 /// Takes a list, which goes with one node and so many nibbles.
-#[tactic(auto, using(crate::proofs::EditLemmas::Placed::root_placed))]
+#[tactic(auto, using(crate::proofs::Placed::root_placed))]
 fn take_one(
     rt: &impl Abort,
     root: &mut Node,

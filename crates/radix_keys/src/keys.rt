@@ -79,7 +79,6 @@ impl TrieKey for String {
     ghost light_is_short = { λ _ h. h };
 
     /// The nibbles of the text's bytes. The smaller text has the smaller encoding.
-    #[tactic(auto, using(crate::proofs::KeyLemmas::Order::byte_order))]
     fn encode(&self, alloc: Global) -> Result<Nibblet, Memory>
         ensures ok { IfOk result (λ v. v ≡ nibbles (string_bytes self.now)) }
         ensures value { OnOk result (⟦<String as TrieKey>⟧.is_value self.now) }
@@ -102,7 +101,6 @@ impl TrieKey for &str {
     ghost light_is_short = { λ _ h. h };
 
     /// The nibbles of the text's bytes. The smaller text has the smaller encoding.
-    #[tactic(auto, using(crate::proofs::KeyLemmas::Order::byte_order))]
     fn encode(&self, alloc: Global) -> Result<Nibblet, Memory>
         ensures ok { IfOk result (λ v. v ≡ nibbles self.now.now) }
         ensures value { OnOk result (⟦<&'static str as TrieKey>⟧.is_value self.now) }
@@ -125,7 +123,6 @@ impl TrieKey for &[u8] {
     ghost light_is_short = { λ _ h. h };
 
     /// The nibbles of the bytes. The smaller list of bytes has the smaller encoding.
-    #[tactic(auto, using(crate::proofs::KeyLemmas::Order::byte_order))]
     fn encode(&self, alloc: Global) -> Result<Nibblet, Memory>
         ensures ok { IfOk result (λ v. v ≡ nibbles self.now.now) }
         ensures value { OnOk result (⟦<&'static [u8] as TrieKey>⟧.is_value self.now) }

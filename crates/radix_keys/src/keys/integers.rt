@@ -26,7 +26,6 @@ impl TrieKey for u8 {
     /// The nibbles of the bytes, the highest first. The smaller number has the smaller encoding.
     ///
     /// Never refused.
-    #[tactic(auto, using(crate::proofs::KeyLemmas::Order::unsigned_order))]
     fn encode(&self, alloc: Global) -> Result<Nibblet, Memory>
         ensures ok { IfOk result (λ v. v ≡ unsigned_key w8 self.now) }
         ensures value { self.now < 2 ^ 8 }
@@ -51,7 +50,6 @@ impl TrieKey for u16 {
     /// The nibbles of the bytes, the highest first. The smaller number has the smaller encoding.
     ///
     /// Never refused.
-    #[tactic(auto, using(crate::proofs::KeyLemmas::Order::unsigned_order))]
     fn encode(&self, alloc: Global) -> Result<Nibblet, Memory>
         ensures ok { IfOk result (λ v. v ≡ unsigned_key w16 self.now) }
         ensures value { self.now < 2 ^ 16 }
@@ -76,7 +74,6 @@ impl TrieKey for u32 {
     /// The nibbles of the bytes, the highest first. The smaller number has the smaller encoding.
     ///
     /// Never refused.
-    #[tactic(auto, using(crate::proofs::KeyLemmas::Order::unsigned_order))]
     fn encode(&self, alloc: Global) -> Result<Nibblet, Memory>
         ensures ok { IfOk result (λ v. v ≡ unsigned_key w32 self.now) }
         ensures value { self.now < 2 ^ 32 }
@@ -101,7 +98,6 @@ impl TrieKey for u64 {
     /// The nibbles of the bytes, the highest first. The smaller number has the smaller encoding.
     ///
     /// Never refused.
-    #[tactic(auto, using(crate::proofs::KeyLemmas::Order::unsigned_order))]
     fn encode(&self, alloc: Global) -> Result<Nibblet, Memory>
         ensures ok { IfOk result (λ v. v ≡ unsigned_key w64 self.now) }
         ensures value { self.now < 2 ^ 64 }
@@ -126,7 +122,6 @@ impl TrieKey for usize {
     /// The nibbles of the bytes, the highest first. The smaller number has the smaller encoding.
     ///
     /// Never refused.
-    #[tactic(auto, using(crate::proofs::KeyLemmas::Order::unsigned_order))]
     fn encode(&self, alloc: Global) -> Result<Nibblet, Memory>
         ensures ok { IfOk result (λ v. v ≡ unsigned_key w64 self.now) }
         ensures value { self.now < 2 ^ 64 }
@@ -151,7 +146,6 @@ impl TrieKey for i8 {
     /// The nibbles of the bytes in two's complement, the highest first. Encodings rise from 0 upward, and then over the negative numbers upward.
     ///
     /// Never refused.
-    #[tactic(auto, using(crate::proofs::KeyLemmas::Order::signed_order))]
     fn encode(&self, alloc: Global) -> Result<Nibblet, Memory>
         ensures ok { IfOk result (λ v. v ≡ signed_key w8 self.now) }
         ensures value { FitsSigned w8 self.now }
@@ -176,7 +170,6 @@ impl TrieKey for i16 {
     /// The nibbles of the bytes in two's complement, the highest first. Encodings rise from 0 upward, and then over the negative numbers upward.
     ///
     /// Never refused.
-    #[tactic(auto, using(crate::proofs::KeyLemmas::Order::signed_order))]
     fn encode(&self, alloc: Global) -> Result<Nibblet, Memory>
         ensures ok { IfOk result (λ v. v ≡ signed_key w16 self.now) }
         ensures value { FitsSigned w16 self.now }
@@ -201,7 +194,6 @@ impl TrieKey for i32 {
     /// The nibbles of the bytes in two's complement, the highest first. Encodings rise from 0 upward, and then over the negative numbers upward.
     ///
     /// Never refused.
-    #[tactic(auto, using(crate::proofs::KeyLemmas::Order::signed_order))]
     fn encode(&self, alloc: Global) -> Result<Nibblet, Memory>
         ensures ok { IfOk result (λ v. v ≡ signed_key w32 self.now) }
         ensures value { FitsSigned w32 self.now }
@@ -226,7 +218,6 @@ impl TrieKey for i64 {
     /// The nibbles of the bytes in two's complement, the highest first. Encodings rise from 0 upward, and then over the negative numbers upward.
     ///
     /// Never refused.
-    #[tactic(auto, using(crate::proofs::KeyLemmas::Order::signed_order))]
     fn encode(&self, alloc: Global) -> Result<Nibblet, Memory>
         ensures ok { IfOk result (λ v. v ≡ signed_key w64 self.now) }
         ensures value { FitsSigned w64 self.now }
@@ -251,7 +242,6 @@ impl TrieKey for isize {
     /// The nibbles of the bytes in two's complement, the highest first. Encodings rise from 0 upward, and then over the negative numbers upward.
     ///
     /// Never refused.
-    #[tactic(auto, using(crate::proofs::KeyLemmas::Order::signed_order))]
     fn encode(&self, alloc: Global) -> Result<Nibblet, Memory>
         ensures ok { IfOk result (λ v. v ≡ signed_key w64 self.now) }
         ensures value { FitsSigned w64 self.now }

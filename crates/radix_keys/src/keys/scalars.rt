@@ -49,7 +49,6 @@ impl TrieKey for char {
     /// The nibbles of the scalar value's four bytes, the highest first. The smaller scalar value has the smaller encoding.
     ///
     /// Never refused.
-    #[tactic(auto, using(crate::proofs::KeyLemmas::Order::unsigned_order))]
     fn encode(&self, alloc: Global) -> Result<Nibblet, Memory>
         ensures ok { IfOk result (λ v. v ≡ unsigned_key w32 self.now) }
         ensures value { self.now < 2 ^ 32 }
@@ -74,7 +73,6 @@ impl<const N: usize> TrieKey for [u8; N] {
     /// The nibbles of the bytes. The smaller array has the smaller encoding.
     ///
     /// Never refused for at most 16 bytes.
-    #[tactic(auto, using(crate::proofs::KeyLemmas::Order::byte_order))]
     fn encode(&self, alloc: Global) -> Result<Nibblet, Memory>
         ensures ok { IfOk result (λ v. v ≡ nibbles self.now) }
         ensures value { OnOk result (length self.now ≡ N) }

@@ -70,7 +70,6 @@ impl TrieKey for u128 {
     /// The nibbles of the bytes, the highest first. The smaller number has the smaller encoding.
     ///
     /// Never refused.
-    #[tactic(auto, using(crate::proofs::KeyLemmas::Order::unsigned_order))]
     fn encode(&self, alloc: Global) -> Result<Nibblet, Memory>
         ensures ok { IfOk result (λ v. v ≡ unsigned_key w128 self.now) }
         ensures value { self.now < 2 ^ 128 }
@@ -96,7 +95,6 @@ impl TrieKey for i128 {
     /// upward, and then over the negative numbers upward.
     ///
     /// Never refused.
-    #[tactic(auto, using(crate::proofs::KeyLemmas::Order::signed_order))]
     fn encode(&self, alloc: Global) -> Result<Nibblet, Memory>
         ensures ok { IfOk result (λ v. v ≡ signed_key w128 self.now) }
         ensures value { FitsSigned w128 self.now }

@@ -1,0 +1,6 @@
+use Rattle.radix_keys.proofs.KeyLemmas.Order.{unsigned_order}
+use Rattle.std.specs.Int.{w128}
+use Rattle.radix_keys.proofs.keys.wide.U128TrieKey.encode.Goals as goal
+
+pub returns-clause-order : goal.returns-clause-order
+returns-clause-order c = unsigned_order w128

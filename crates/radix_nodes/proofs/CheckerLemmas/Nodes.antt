@@ -37,6 +37,21 @@ module _ {K V : Type 0} where
       ap (λ t. node_test e q t) (tree_of-out n)
       ∙ ap (λ c. (key_test e (q ++ x.fragment) (unboxed x.pair) && form_test (q ++ x.fragment) x.fragment (unboxed x.pair) c) && children_test e (q ++ x.fragment) 0 0 x.mask (children_of x.children.items)) (length-firsts_of_boxes x.children.items ∙ sym x.children.ok.0)
 
+  -- a node whose pair's key has another encoding fails its test
+  pub false_by_key : (e : K → List ℕ) (q : List ℕ) (n : TrieNode K V) → key_test e (q ++ fragment_of n) (unboxed (out-TrieNode K V n).pair) ≡ false → false ≡ test_of e q n
+  false_by_key e q n other = rw (test_out e q n, other) refl
+
+  -- a node that may not be left with what it has fails its test
+  pub false_by_form : (e : K → List ℕ) (q : List ℕ) (n : TrieNode K V) → let x = out-TrieNode K V n in
+      key_test e (q ++ fragment_of n) (unboxed x.pair) ≡ true → form_test (q ++ fragment_of n) x.fragment (unboxed x.pair) (vec_len x.children) ≡ false → false ≡ test_of e q n
+  false_by_form e q n key other = rw (test_out e q n, key, other) refl
+
+  -- where a node's key and form pass, its test is that of its children
+  pub test_by_children : (e : K → List ℕ) (q : List ℕ) (n : TrieNode K V) → let x = out-TrieNode K V n in
+      key_test e (q ++ fragment_of n) (unboxed x.pair) ≡ true → form_test (q ++ fragment_of n) x.fragment (unboxed x.pair) (vec_len x.children) ≡ true
+      → tests_of e (q ++ fragment_of n) 0 0 x.mask x.children.items ≡ test_of e q n
+  test_by_children e q n key form = rw (test_out e q n, key, form) refl
+
   -- a node has as many pairs below any path
   pub pairs_at : (q : List ℕ) (n : TrieNode K V) → length (entries_at q (tree_of n)) ≡ pair_count_of n
   unfolding pair_count_of

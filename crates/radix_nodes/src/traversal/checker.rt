@@ -56,7 +56,6 @@ fn has_form<K, V>(node: &TrieNode<K, V>, path: &Nibblet) -> bool
 }
 
 // The check as a test.
-#[tactic(auto, using(crate::proofs::CheckerLemmas::Nodes::test_out, crate::proofs::CheckerLemmas::Nodes::pairs_out, crate::proofs::CheckerLemmas::Nodes::next_test, crate::proofs::CheckerLemmas::Nodes::next_pairs, crate::proofs::CheckerLemmas::Nodes::tests_end, crate::proofs::CheckerLemmas::Nodes::pairs_end, crate::proofs::NodeLemmas::Sizes::own_some, crate::proofs::NodeLemmas::Sizes::own_none))]
 fn test<K: TrieKey, V>(
     node: &TrieNode<K, V>,
     alloc: Global,

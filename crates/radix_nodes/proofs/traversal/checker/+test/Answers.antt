@@ -1,12 +1,74 @@
 use Rattle.std.proofs.Common.{rules, ◌≡◌, ◌++◌, cond, true, false, ◌<◌, ◌≤◌, ◌∙◌, get_or, ap, sym, subst, length, arith}
 use Rattle.masked_tree.specs.Tree.{nodes_in}
 use Rattle.radix_nodes.specs.declared.trie_node.TrieNode.{out-TrieNode}
-use Rattle.radix_nodes.specs.Nodes.{tree_of, fragment_of}
-use Rattle.radix_nodes.specs.Soundness.{pair_count_of, test_of}
-use Rattle.radix_nodes.proofs.NodeLemmas.Sizes.{child_is_smaller}
-use Rattle.radix_nodes.proofs.CheckerLemmas.Nodes.{child_pairs, next_pairs, false_by_start, false_by_child, test_goes_on, starts-empty, starts-below, starts-in_order}
+use Rattle.radix_nodes.specs.Nodes.{tree_of, fragment_of, unboxed}
+use Rattle.radix_nodes.specs.Soundness.{key_test, form_test, pair_count_of, pair_count_of_all, test_of, tests_of}
+use Rattle.masked_tree.specs.Sizes.{own_count}
+use Rattle.std.specs.Prelude.{vec_len, ◌==◌}
+use Rattle.radix_nodes.proofs.NodeLemmas.Sizes.{child_is_smaller, own_some, own_none}
+use Rattle.radix_nodes.proofs.CheckerLemmas.Nodes.{child_pairs, pairs_out, pairs_end, tests_end, false_by_key, false_by_form, test_by_children, next_pairs, false_by_start, false_by_child, test_goes_on, starts-empty, starts-below, starts-in_order}
 use Rattle.nibble_map.specs.Trees.{first}
 use Rattle.radix_nodes.proofs.traversal.checker.+test.Goals as goal
+
+pub returns-then-not-branch-clause-answer : goal.returns-then-not-branch-clause-answer
+returns-then-not-branch-clause-answer g t c =
+    let e = g.K.TrieKey.encoding in
+    let n = c.args.node.now in
+    let no : c.in_ok-has_key.field-0 ≡ false = search rules in
+    false_by_key e c.args.prefix.now n (ap (λ p. key_test e p (unboxed (out-TrieNode g.row.K.Denot g.row.V.Denot n).pair)) (sym c.in_ok-path.ensures.made) ∙ sym c.in_ok-has_key.ensures ∙ no)
+
+pub returns-then-not-has_form-clause-answer : goal.returns-then-not-has_form-clause-answer
+returns-then-not-has_form-clause-answer g t c =
+    let e = g.K.TrieKey.encoding in
+    let n = c.args.node.now in
+    let x = out-TrieNode g.row.K.Denot g.row.V.Denot n in
+    let made = sym c.in_ok-path.ensures.made in
+    let yes : c.in_ok-has_key.field-0 ≡ true = search rules in
+    let no : c.has_form.result ≡ false = search rules in
+    false_by_form e c.args.prefix.now n (ap (λ p. key_test e p (unboxed x.pair)) made ∙ sym c.in_ok-has_key.ensures ∙ yes)
+    (ap (λ p. form_test p x.fragment (unboxed x.pair) (vec_len x.children)) made ∙ sym c.has_form.ensures ∙ no)
+
+pub loop-child-init : goal.loop-child-init
+loop-child-init g t c =
+    let e = g.K.TrieKey.encoding in
+    let n = c.args.node.now in
+    let x = out-TrieNode g.row.K.Denot g.row.V.Denot n in
+    let items = c.deref-child-items.ensures.value in
+    let made = sym c.in_ok-path.ensures.made in
+    let own : c.if-has_pair.count ≡ own_count (unboxed x.pair) = grind (arith, own_some, own_none) in
+    let all = ap (λ bs. pair_count_of_all bs) items in
+    let yes : c.in_ok-has_key.field-0 ≡ true = search rules in
+    let good : c.has_form.result ≡ true = search rules in (
+      omega (arith, own, all, pairs_out n),
+      ap (λ bs. tests_of e (c.args.prefix.now ++ fragment_of n) 0 0 x.mask bs) items
+          ∙ test_by_children e c.args.prefix.now n (ap (λ p. key_test e p (unboxed x.pair)) made ∙ sym c.in_ok-has_key.ensures ∙ yes)
+          (ap (λ p. form_test p x.fragment (unboxed x.pair) (vec_len x.children)) made ∙ sym c.has_form.ensures ∙ good),
+    )
+
+pub overflow_add-count : goal.overflow_add-count
+overflow_add-count g t c =
+    let b = c.child-item.result in
+    let sound : c.in_ok-sound.sound ≡ true = search rules in
+    let size : c.in_ok-sound.size ≡ pair_count_of b.value = c.in_ok-sound.ensures.count ∙ ap (λ s. cond s (pair_count_of c.deref-in-loop-child-2.result.now) 0) sound ∙ ap (λ k. pair_count_of k) c.deref-in-loop-child-2.ensures in
+    let next = next_pairs c.deref-child-items.result.now c.loop-child.child-index b c.loop-child-test.true c.child-item.is in
+    omega (arith, c.loop-child.invariant.0, next, size, c.requires)
+
+pub returns-then-seen-node-clause-answer : goal.returns-then-seen-node-clause-answer
+returns-then-seen-node-clause-answer g t c =
+    let n = c.args.node.now in
+    let mask = (out-TrieNode g.row.K.Denot g.row.V.Denot n).mask in
+    let other : (c.loop-child.seen == mask) ≡ false = search rules in
+    sym other ∙ sym (tests_end c.deref-child-items.result.now c.loop-child.child-index c.loop-child-test.false g.K.TrieKey.encoding (c.args.prefix.now ++ fragment_of n) c.loop-child.low c.loop-child.seen mask) ∙ c.loop-child.invariant.1
+
+pub returns-clause-answer : goal.returns-clause-answer
+returns-clause-answer g t c =
+    let n = c.args.node.now in
+    let mask = (out-TrieNode g.row.K.Denot g.row.V.Denot n).mask in
+    let same : (c.loop-child.seen == mask) ≡ true = search rules in
+    sym same ∙ sym (tests_end c.deref-child-items.result.now c.loop-child.child-index c.loop-child-test.false g.K.TrieKey.encoding (c.args.prefix.now ++ fragment_of n) c.loop-child.low c.loop-child.seen mask) ∙ c.loop-child.invariant.1
+
+pub returns-clause-count : goal.returns-clause-count
+returns-clause-count g t c = omega (arith, c.loop-child.invariant.0, pairs_end c.deref-child-items.result.now c.loop-child.child-index c.loop-child-test.false)
 
 pub test-requires : goal.test-requires
 test-requires g t c =

@@ -1,0 +1,58 @@
+//! Pairs of texts and numbers, and what is asked of a trie of them.
+
+use trie_samples::Texts;
+
+/// The sample's pairs, in the order of walks.
+pub(crate) const IN_ORDER: [(&'static str, u64); 7] = [
+    ("a", 15),
+    ("ab", 16),
+    ("abcd", 17),
+    ("abcdef", 18),
+    ("abcdefgh", 19),
+    ("acbdef", 30),
+    ("bcdefgh", 29),
+];
+
+/// Whether the pair that was found is this one, or none as wanted.
+pub(crate) fn is_pair(
+    found: Option<(&&'static str, &u64)>,
+    wanted: Option<(&'static str, u64)>,
+) -> bool {
+    match (found, wanted) {
+        (Some((key, value)), Some((wanted_key, wanted_value))) => {
+            *key == wanted_key && *value == wanted_value
+        }
+        (None, None) => true,
+        _ => false,
+    }
+}
+
+/// Whether the key has this value.
+pub(crate) fn has_value(trie: &Texts, key: &'static str, value: Option<u64>) -> bool {
+    match trie.get(&key) {
+        Ok(found) => found.copied() == value,
+        Err(_) => false,
+    }
+}
+
+/// Whether the pair comes in the place of this value, into a canonical tree.
+pub(crate) fn is_stored(trie: &mut Texts, key: &'static str, value: u64, old: Option<u64>) -> bool {
+    matches!(trie.insert(key, value), Ok(was) if was == old) && trie.check_integrity() == Ok(true)
+}
+
+/// Whether the key goes with this value, out of a canonical tree.
+pub(crate) fn is_removed(trie: &mut Texts, key: &'static str, value: u64) -> bool {
+    trie.remove(&key) == Ok(Some(value)) && trie.check_integrity() == Ok(true)
+}
+
+/// Whether the trie holds these pairs and no other, in a canonical tree.
+pub(crate) fn holds(trie: &Texts, pairs: &[(&'static str, u64)]) -> bool {
+    for (key, value) in pairs {
+        if trie.get(key) != Ok(Some(value)) {
+            return false;
+        }
+    }
+    trie.len() == pairs.len()
+        && trie.is_empty() == pairs.is_empty()
+        && trie.check_integrity() == Ok(true)
+}

@@ -1,0 +1,7 @@
+//! Calls that take all pairs below a prefix away.
+
+mod commands;
+mod many;
+mod rows;
+mod splits;
+mod views;

@@ -1,7 +1,7 @@
 //! What views for writing change. Each view is opened by `open_mut`, and by `subtrie_mut`.
 
-use crate::calls::Call;
-use crate::runs::{At, Last, Run, check_runs};
+use crate::writing::calls::Call;
+use crate::writing::runs::{At, Last, Run, check_runs};
 use radix_trie::Memory;
 use trie_samples::SAMPLE;
 

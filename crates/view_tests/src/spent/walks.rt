@@ -3,6 +3,7 @@ ghost use Rattle.std.specs.Prelude.{IfOk};
 ghost use Rattle.radix_trie.specs.MapQueries.{AreChildren};
 ghost use Rattle.radix_trie.specs.Views.{paths_of};
 
+use crate::walked::are_values;
 use radix_trie::iter::{Children, Keys, Values};
 use radix_trie::{Memory, OpenError, Trie, TrieCommon, TrieKey};
 use trie_samples::{SAMPLE, Texts, list, texts};
@@ -100,17 +101,6 @@ fn are_keys(keys: Keys<'_, &'static str, u64>, wanted: &[&'static str]) -> bool 
         }
     }
     keys.next().is_none()
-}
-
-/// Whether these are the values, in this order.
-fn are_values(values: Values<'_, &'static str, u64>, wanted: &[u64]) -> bool {
-    let mut values = values;
-    for value in wanted {
-        if values.next() != Some(value) {
-            return false;
-        }
-    }
-    values.next().is_none()
 }
 
 /// The keys and the values below a view outlive it, in the order of the keys.

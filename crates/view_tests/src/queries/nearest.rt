@@ -1,6 +1,6 @@
 //! The views at the nearest points above and below a key.
 
-use crate::queries_of_views::{Query, Row, Sight, check_rows};
+use crate::queries::rows::{Query, Row, Sight, check_rows};
 use radix_trie::{Memory, SubTrieError};
 use std::alloc::Global;
 use std::process::Abort;

@@ -1,21 +1,11 @@
 //! Ordered walks.
 
-use radix_trie::iter::{Iter, Keys, Values};
+use crate::walked::{are_values, is_walk};
+use radix_trie::iter::Keys;
 use radix_trie::{LittleEndian, Memory, Trie, TrieCommon};
 use std::alloc::Global;
 use std::process::Abort;
 use trie_samples::{SAMPLE, Texts, stands_at, texts};
-
-/// Whether the walk goes over these pairs.
-fn is_walk(walk: Iter<'_, &'static str, u64>, pairs: &[(&'static str, u64)]) -> bool {
-    let mut walk = walk;
-    for (key, value) in pairs {
-        if walk.next() != Some((key, value)) {
-            return false;
-        }
-    }
-    walk.next().is_none()
-}
 
 /// The sample's pairs in the order of their keys.
 #[test]
@@ -32,17 +22,6 @@ fn walk_of_the_sample(rt: HostRuntime) -> Result<(), Memory> {
     let trie = texts(rt.alloc(), &SAMPLE)?;
     assert!(rt; is_walk(TrieCommon::iter(&trie)?, &SORTED));
     Ok(())
-}
-
-/// Whether the walk goes over these values.
-fn are_values(values: Values<'_, &'static str, u64>, wanted: &[u64]) -> bool {
-    let mut values = values;
-    for value in wanted {
-        if values.next() != Some(value) {
-            return false;
-        }
-    }
-    values.next().is_none()
 }
 
 /// Whether the nearest point below the query is the key's, and is walked over the values.

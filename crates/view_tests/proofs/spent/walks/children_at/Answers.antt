@@ -1,7 +1,7 @@
 use Rattle.std.proofs.Common.{subst}
 use Rattle.nibble_map.specs.MapQueries.{AreChildren}
 use Rattle.radix_trie.specs.Views.{paths_of}
-use Rattle.trie_spent_view_tests.proofs.walks.children_at.Goals as goal
+use Rattle.view_tests.proofs.spent.walks.children_at.Goals as goal
 
 pub returns-in-Ok-into_children : goal.returns-in-Ok-into_children
 returns-in-Ok-into_children g c =

@@ -1,6 +1,6 @@
 //! The views at a key's point, and what is counted below it.
 
-use crate::queries_of_views::{Query, Row, Sight, check_rows};
+use crate::queries::rows::{Query, Row, Sight, check_rows};
 use radix_trie::{Memory, TrieCommon};
 use std::alloc::Global;
 use std::process::Abort;

@@ -1,7 +1,8 @@
 //! Runs of calls of views for writing, as data: where a view is opened, its calls, the one that spends it, and what
 //! they leave.
 
-use crate::calls::{Call, Pairs, check_calls};
+use crate::walked::is_walk;
+use crate::writing::calls::{Call, Pairs, check_calls};
 use radix_trie::iter::Iter;
 use radix_trie::{Memory, Nibblet, OpenError, TrieCommon, TrieKey};
 use std::alloc::Global;
@@ -119,17 +120,12 @@ fn walk_after<'t, Q: TrieKey>(
     }
 }
 
-/// Whether the walk goes over these pairs.
-fn is_walk(walk: Option<Iter<'_, &'static str, u64>>, pairs: &[(&'static str, u64)]) -> bool {
-    let Some(mut walk) = walk else {
-        return false;
-    };
-    for (key, value) in pairs {
-        if walk.next() != Some((key, value)) {
-            return false;
-        }
+/// Whether there is a walk, and goes over these pairs.
+fn is_walked(walk: Option<Iter<'_, &'static str, u64>>, pairs: &[(&'static str, u64)]) -> bool {
+    match walk {
+        Some(walk) => is_walk(walk, pairs),
+        None => false,
     }
-    walk.next().is_none()
 }
 
 /// Whether the list is made of these nibbles.
@@ -153,7 +149,7 @@ fn answers_last<Q: TrieKey>(
         Last::Key(key) => key_after(rt, alloc, trie, at, run.calls) == Some(key),
         Last::Value(value) => value_after(rt, alloc, trie, at, run.calls) == Some(value),
         Last::Prefix(list) => is_list(prefix_after(rt, alloc, trie, at, run.calls), alloc, list),
-        Last::Walk(pairs) => is_walk(walk_after(rt, alloc, trie, at, run.calls), pairs),
+        Last::Walk(pairs) => is_walked(walk_after(rt, alloc, trie, at, run.calls), pairs),
     }
 }
 

@@ -1,8 +1,8 @@
 //! What views for writing answer where their paths are no longer points, or their tries are empty, and where none is
 //! opened. Each view is opened by `open_mut`, and by `subtrie_mut`.
 
-use crate::calls::Call;
-use crate::runs::{At, Last, Run, check_closed, check_runs};
+use crate::writing::calls::Call;
+use crate::writing::runs::{At, Last, Run, check_closed, check_runs};
 use radix_trie::{Memory, SubTrieError};
 use trie_samples::SAMPLE;
 

@@ -22,7 +22,7 @@ impl<K: TrieKey + Drop, V: Drop> Trie<K, V> {
     ///
     /// # Examples
     ///
-    /// `built_from_a_vector` in `crates/trie_building_tests/src/building.rt`.
+    /// `built_from_a_vector` in `crates/trie_tests/src/building/built.rt`.
     pub fn from_iter<I: Iterator<Item = (K, V)> + Drop>(
         alloc: Global,
         iter: I,

@@ -22,7 +22,7 @@ impl<K: TrieKey, V> Trie<K, V> {
     ///
     /// # Examples
     ///
-    /// `first_pairs_below_texts` in `crates/trie_wide_tests/src/pages.rt` takes pages of the sample
+    /// `first_pairs_below_texts` in `crates/trie_tests/src/further/pages.rt` takes pages of the sample
     /// of texts.
     pub fn first_below<Q: TrieKey>(&self, key: &Q, most: usize) -> Result<Vec<(&K, &V)>, Memory>
         ensures pairs { IfOk result (λ list. deref_pairs list.items

@@ -23,7 +23,7 @@ impl<K: TrieKey + Drop, V: Drop> Trie<K, V> {
     ///
     /// # Examples
     ///
-    /// `by_the_trie` in `crates/removal_tests/src/rows.rt` takes what is below each of some texts
+    /// `by_the_trie` in `crates/trie_tests/src/removal/rows.rt` takes what is below each of some texts
     /// away.
     pub fn remove_prefix<Q: TrieKey>(&mut self, key: &Q) -> Result<Vec<(K, V)>, Memory>
         ensures pairs { IfOk result

@@ -154,7 +154,7 @@ impl<K: TrieKey, V> Trie<K, V> {
     ///
     /// # Examples
     ///
-    /// `prefixes_of_texts` in `crates/trie_wide_tests/src/prefixes.rt`.
+    /// `prefixes_of_texts` in `crates/trie_tests/src/further/prefixes.rt`.
     pub fn common_prefixes<Q: TrieKey>(&self, key: &Q) -> Result<CommonPrefixes<'_, K, V>, Memory>
         ensures walk { IfOk result
             (λ pairs. pairs ≡ pairs_above self.now (Q.encoding key.now)) }

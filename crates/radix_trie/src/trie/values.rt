@@ -16,7 +16,7 @@ impl<K: TrieKey, V> Trie<K, V> {
     ///
     /// # Examples
     ///
-    /// `each_value_is_doubled` in `crates/trie_wide_tests/src/changed.rt`.
+    /// `each_value_is_doubled` in `crates/trie_tests/src/further/changed.rt`.
     pub fn for_each_value_mut<F: Fn(&mut V)>(&mut self, f: F)
         requires callable { All (λ p. FnOnceTakesAtMut F.FnOnce f p.1) (pairs_below self.old []) }
         ensures changed { ChangesEachValue (λ v w. FnOnceReturnsAtMut F.FnOnce f v tt w)

@@ -99,7 +99,7 @@ pub trait TrieCommon<'a, K: TrieKey + 'a, V: 'a>: Sized {
     ///
     /// # Examples
     ///
-    /// `walks_from_texts` in `crates/trie_wide_tests/src/resumed.rt`.
+    /// `walks_from_texts` in `crates/trie_tests/src/further/resumed.rt`.
     fn iter_from<Q: TrieKey>(self, key: &Q) -> Result<Iter<'a, K, V>, Memory>
         ensures walk { IfOk result (λ pairs. pairs
             ≡ pairs_from (map self) (path self) (Q.encoding key.now)) }

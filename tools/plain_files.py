@@ -2,7 +2,9 @@
 import contextlib
 import hashlib
 import os
+import signal
 import stat
+import sys
 
 # No file that these scripts write comes near to so many bytes.
 MOST = 64_000_000
@@ -51,3 +53,13 @@ def remove(path):
     os.remove(path)
     with contextlib.suppress(OSError):
         os.removedirs(os.path.dirname(path))
+
+
+def run(name, main):
+    """Runs a script of this name: where a signal ends it, what it has made for itself goes, and what stands in its way is one line."""
+    for number in (signal.SIGHUP, signal.SIGTERM):
+        signal.signal(number, lambda it, _: sys.exit(128 + it))
+    try:
+        sys.exit(main(sys.argv[1:]))
+    except (OSError, RecursionError, Refused) as error:
+        sys.exit(f"{name}: {error}")

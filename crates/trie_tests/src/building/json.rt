@@ -99,7 +99,7 @@ fn check_objects(rt: &impl Abort, alloc: Global, rows: &[Row]) -> Result<(), Jso
 /// Objects are read as their members, and the same objects are written of them.
 #[test]
 fn objects_are_read_and_written(rt: HostRuntime) -> Result<(), JsonError> {
-    const ROWS: [Row; 3] = [
+    const ROWS: &'static [Row] = &[
         Row {
             text: "{\"1\":2}",
             pairs: 1,
@@ -116,7 +116,7 @@ fn objects_are_read_and_written(rt: HostRuntime) -> Result<(), JsonError> {
             footprint: (4, 3),
         },
     ];
-    check_objects(&rt, rt.alloc(), &ROWS)
+    check_objects(&rt, rt.alloc(), ROWS)
 }
 
 /// The number at a name.
@@ -147,15 +147,15 @@ fn check_refused(rt: &impl Abort, alloc: Global, texts: &[&'static str], why: Js
 /// What isn't an object and isn't null is refused for its kind, whatever is in it.
 #[test]
 fn other_kinds_are_refused(rt: HostRuntime) {
-    const TEXTS: [&'static str; 3] = ["[1]", "1.5", "[1.5]"];
-    check_refused(&rt, rt.alloc(), &TEXTS, JsonError::Kind);
+    const TEXTS: &'static [&'static str] = &["[1]", "1.5", "[1.5]"];
+    check_refused(&rt, rt.alloc(), TEXTS, JsonError::Kind);
 }
 
 /// A float anywhere in an object is refused.
 #[test]
 fn floats_are_refused(rt: HostRuntime) {
-    const TEXTS: [&'static str; 2] = ["{\"a\":1.5}", "{\"a\":[{\"b\":1.5}]}"];
-    check_refused(&rt, rt.alloc(), &TEXTS, JsonError::Float);
+    const TEXTS: &'static [&'static str] = &["{\"a\":1.5}", "{\"a\":[{\"b\":1.5}]}"];
+    check_refused(&rt, rt.alloc(), TEXTS, JsonError::Float);
 }
 
 /// The texts' values aren't written, beside another value.
@@ -178,7 +178,7 @@ fn check_unwritten(
 /// A float isn't written, whatever its form and however deep it stands in a value.
 #[test]
 fn floats_are_not_written(rt: HostRuntime) -> Result<(), JsonError> {
-    const TEXTS: [&'static str; 7] = [
+    const TEXTS: &'static [&'static str] = &[
         "1.5",
         "-0.0",
         "1e300",
@@ -187,5 +187,5 @@ fn floats_are_not_written(rt: HostRuntime) -> Result<(), JsonError> {
         "{\"b\":1.5}",
         "[{\"b\":[-2.5e-3]}]",
     ];
-    check_unwritten(&rt, rt.alloc(), &TEXTS)
+    check_unwritten(&rt, rt.alloc(), TEXTS)
 }

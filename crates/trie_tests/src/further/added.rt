@@ -9,7 +9,7 @@ use trie_samples::{SAMPLE, list, texts};
 type Pairs = &'static [(&'static str, u64)];
 
 /// What a trie holds, what is added, and what it holds then.
-const ROWS: [(Pairs, Pairs, Pairs); 4] = [
+const ROWS: &'static [(Pairs, Pairs, Pairs)] = &[
     (&[], &[], &[]),
     (&[], &SAMPLE, &SAMPLE),
     (&SAMPLE, &[], &SAMPLE),
@@ -39,7 +39,7 @@ fn check_row(
 
 #[test]
 fn pairs_are_added(rt: HostRuntime) -> Result<(), Memory> {
-    for (before, added, after) in &ROWS {
+    for (before, added, after) in ROWS {
         check_row(&rt, rt.alloc(), before, added, after)?;
     }
     Ok(())

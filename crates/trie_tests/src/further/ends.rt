@@ -52,7 +52,7 @@ fn ends_of_tries(rt: HostRuntime) -> Result<(), Memory> {
 }
 
 /// The points of the sample, and the ends at and below them.
-const BELOW: [(&'static [u8], Ends); 4] = [
+const BELOW: &'static [(&'static [u8], Ends)] = &[
     (&[], Some((("a", 15), ("bcdefgh", 29)))),
     (&[6, 1, 6], Some((("ab", 16), ("acbdef", 30)))),
     (&[6, 1, 6, 2], Some((("ab", 16), ("abcdefgh", 19)))),
@@ -65,7 +65,7 @@ const BELOW: [(&'static [u8], Ends); 4] = [
 #[test]
 fn ends_below_points(rt: HostRuntime) -> Result<(), Memory> {
     let trie = texts(rt.alloc(), &SAMPLE)?;
-    for (nibbles, wanted) in &BELOW {
+    for (nibbles, wanted) in BELOW {
         let list = list(rt.alloc(), nibbles)?;
         let Some(view) = trie.subtrie(&list)? else {
             return Err(Memory);

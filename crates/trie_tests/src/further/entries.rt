@@ -9,7 +9,7 @@ use trie_samples::{SAMPLE, Texts, texts};
 /// A key, and the pair that is stored there.
 type Row = (&'static str, Option<(&'static str, u64)>);
 
-const ROWS: [Row; 5] = [
+const ROWS: &'static [Row] = &[
     ("", None),
     ("a", Some(("a", 15))),
     ("abc", None),
@@ -34,9 +34,9 @@ fn check_stored(
 
 #[test]
 fn stored_pairs(rt: HostRuntime) -> Result<(), Memory> {
-    const NOTHING: [Row; 2] = [("", None), ("a", None)];
-    check_stored(&rt, rt.alloc(), &SAMPLE, &ROWS)?;
-    check_stored(&rt, rt.alloc(), &[], &NOTHING)?;
+    const NOTHING: &'static [Row] = &[("", None), ("a", None)];
+    check_stored(&rt, rt.alloc(), &SAMPLE, ROWS)?;
+    check_stored(&rt, rt.alloc(), &[], NOTHING)?;
     check_stored(&rt, rt.alloc(), &[("", 5)], &[("", Some(("", 5)))])
 }
 
@@ -54,13 +54,13 @@ fn check_removed(rt: &impl Abort, alloc: Global, row: &(Row, (u128, u128))) -> R
 /// A node with one child and no pair merges with it, and each nibble that no other key begins with goes.
 #[test]
 fn removed_pairs(rt: HostRuntime) -> Result<(), Memory> {
-    const REMOVALS: [(Row, (u128, u128)); 4] = [
+    const REMOVALS: &'static [(Row, (u128, u128))] = &[
         (("", None), (10, 38)),
         (("abc", None), (10, 38)),
         (("abcd", Some(("abcd", 17))), (9, 38)),
         (("abcdefgh", Some(("abcdefgh", 19))), (9, 34)),
     ];
-    for row in &REMOVALS {
+    for row in REMOVALS {
         check_removed(&rt, rt.alloc(), row)?;
     }
     Ok(())

@@ -13,7 +13,7 @@ struct Row {
     nearest: Option<(&'static str, u64)>,
 }
 
-const ROWS: [Row; 10] = [
+const ROWS: &'static [Row] = &[
     Row {
         nibbles: &[],
         value: None,
@@ -97,12 +97,12 @@ fn check_rows(
 
 #[test]
 fn by_lists(rt: HostRuntime) -> Result<(), Memory> {
-    check_rows(&rt, rt.alloc(), &SAMPLE, &ROWS)
+    check_rows(&rt, rt.alloc(), &SAMPLE, ROWS)
 }
 
 #[test]
 fn by_lists_in_the_empty_trie(rt: HostRuntime) -> Result<(), Memory> {
-    const NOTHING: [Row; 2] = [
+    const NOTHING: &'static [Row] = &[
         Row {
             nibbles: &[],
             value: None,
@@ -114,13 +114,13 @@ fn by_lists_in_the_empty_trie(rt: HostRuntime) -> Result<(), Memory> {
             nearest: None,
         },
     ];
-    check_rows(&rt, rt.alloc(), &[], &NOTHING)
+    check_rows(&rt, rt.alloc(), &[], NOTHING)
 }
 
 /// The pair of the empty text is nearest where no other is.
 #[test]
 fn by_lists_below_the_empty_text(rt: HostRuntime) -> Result<(), Memory> {
-    const BELOW: [Row; 2] = [
+    const BELOW: &'static [Row] = &[
         Row {
             nibbles: &[],
             value: Some(55),
@@ -132,5 +132,5 @@ fn by_lists_below_the_empty_text(rt: HostRuntime) -> Result<(), Memory> {
             nearest: Some(("", 55)),
         },
     ];
-    check_rows(&rt, rt.alloc(), &[("", 55), ("b", 1)], &BELOW)
+    check_rows(&rt, rt.alloc(), &[("", 55), ("b", 1)], BELOW)
 }

@@ -7,7 +7,7 @@ use std::process::Abort;
 use trie_samples::{SAMPLE, list, texts};
 
 /// Lists in their order, each with a number.
-const ODD: [(&'static [u8], u64); 3] = [(&[1], 1), (&[1, 2, 3], 2), (&[2, 0, 0], 3)];
+const ODD: &'static [(&'static [u8], u64)] = &[(&[1], 1), (&[1, 2, 3], 2), (&[2, 0, 0], 3)];
 
 /// Whether the pairs are these.
 fn are_equal(pairs: &[(&'static str, u64)], wanted: &[(&'static str, u64)]) -> bool {
@@ -73,7 +73,7 @@ fn last_pairs_until_none_is_left(rt: HostRuntime) -> Result<(), Memory> {
 #[test]
 fn ends_of_odd_lists(rt: HostRuntime) -> Result<(), Memory> {
     let mut trie: Trie<Nibblet, u64> = Trie::new(rt.alloc());
-    for (nibbles, value) in &ODD {
+    for (nibbles, value) in ODD {
         if trie.insert(list(rt.alloc(), nibbles)?, *value).is_err() {
             return Err(Memory);
         }

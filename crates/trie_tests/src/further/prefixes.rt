@@ -40,7 +40,7 @@ fn check_rows(
 
 #[test]
 fn prefixes_of_texts(rt: HostRuntime) -> Result<(), Memory> {
-    const OF_SAMPLE: [Row; 6] = [
+    const OF_SAMPLE: &'static [Row] = &[
         ("", &[]),
         ("b", &[]),
         ("ac", &[("a", 15)]),
@@ -57,14 +57,14 @@ fn prefixes_of_texts(rt: HostRuntime) -> Result<(), Memory> {
         ),
         ("bcdefgh", &[("bcdefgh", 29)]),
     ];
-    const BELOW_EMPTY: [Row; 2] = [("", &[("", 5)]), ("ab", &[("", 5), ("a", 6)])];
-    check_rows(&rt, rt.alloc(), &SAMPLE, &OF_SAMPLE)?;
+    const BELOW_EMPTY: &'static [Row] = &[("", &[("", 5)]), ("ab", &[("", 5), ("a", 6)])];
+    check_rows(&rt, rt.alloc(), &SAMPLE, OF_SAMPLE)?;
     check_rows(&rt, rt.alloc(), &[], &[("", &[]), ("ab", &[])])?;
     check_rows(
         &rt,
         rt.alloc(),
         &[("a", 6), ("", 5), ("abc", 7)],
-        &BELOW_EMPTY,
+        BELOW_EMPTY,
     )
 }
 

@@ -47,7 +47,7 @@ fn check_rows(rt: &impl Abort, alloc: Global, rows: &[Row]) -> Result<(), JsonEr
 /// name too, is read as its members and written as before.
 #[test]
 fn values_of_each_kind(rt: HostRuntime) -> Result<(), JsonError> {
-    const ROWS: [Row; 8] = [
+    const ROWS: &'static [Row] = &[
         Row {
             text: "true",
             read: Err(JsonError::Kind),
@@ -81,5 +81,5 @@ fn values_of_each_kind(rt: HostRuntime) -> Result<(), JsonError> {
             read: Err(JsonError::Float),
         },
     ];
-    check_rows(&rt, rt.alloc(), &ROWS)
+    check_rows(&rt, rt.alloc(), ROWS)
 }

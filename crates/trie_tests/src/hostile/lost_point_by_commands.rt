@@ -5,28 +5,28 @@ use radix_trie::{Command, Memory, Nibblet, Reply, Trie, ViewCommand, run};
 use std::alloc::Global;
 use trie_samples::list;
 
-const ABC: [u8; 6] = [6, 1, 6, 2, 6, 3];
+const ABC: &'static [u8] = &[6, 1, 6, 2, 6, 3];
 
-const ABD: [u8; 6] = [6, 1, 6, 2, 6, 4];
+const ABD: &'static [u8] = &[6, 1, 6, 2, 6, 4];
 
 /// The commands in the view.
 fn inner(alloc: Global) -> Result<Vec<ViewCommand<Nibblet, u64>>, Memory> {
     Ok(vec![in alloc;
-        ViewCommand::Remove(list(alloc, &ABC)?),
+        ViewCommand::Remove(list(alloc, ABC)?),
         ViewCommand::Len,
-        ViewCommand::Get(list(alloc, &ABD)?),
-        ViewCommand::Remove(list(alloc, &ABD)?),
+        ViewCommand::Get(list(alloc, ABD)?),
+        ViewCommand::Remove(list(alloc, ABD)?),
         ViewCommand::Len,
         ViewCommand::Insert(list(alloc, &[7, 8])?, 1),
-        ViewCommand::Insert(list(alloc, &ABC)?, 3),
+        ViewCommand::Insert(list(alloc, ABC)?, 3),
     ]?)
 }
 
 /// Two pairs, a view at their parting, and another one when it is gone.
 fn outer(alloc: Global) -> Result<Vec<Command<Nibblet, u64>>, Memory> {
     Ok(vec![in alloc;
-        Command::Insert(list(alloc, &ABC)?, 1),
-        Command::Insert(list(alloc, &ABD)?, 2),
+        Command::Insert(list(alloc, ABC)?, 1),
+        Command::Insert(list(alloc, ABD)?, 2),
         Command::Within(list(alloc, &PARTING)?, inner(alloc)?),
         Command::Within(list(alloc, &PARTING)?, Vec::new(alloc)),
     ]?)

@@ -9,4 +9,4 @@ mod odd_lists;
 mod walk_left;
 
 /// The branch point of abc and abd, inside a byte.
-const PARTING: [u8; 5] = [6, 1, 6, 2, 6];
+const PARTING: &'static [u8] = &[6, 1, 6, 2, 6];

@@ -9,7 +9,7 @@ use trie_samples::list;
 type Lists = Trie<Nibblet, u64>;
 
 /// The lists, in the order of the walk; each has its place as its value.
-const LISTS: [&'static [u8]; 5] = [&[], &[1], &[1, 2, 3], &[1, 2, 3, 4, 5], &[1, 2, 4]];
+const LISTS: &'static [&'static [u8]] = &[&[], &[1], &[1, 2, 3], &[1, 2, 3, 4, 5], &[1, 2, 4]];
 
 /// Stores each list with its place.
 fn store_all(rt: &impl Abort, alloc: Global, trie: &mut Lists) -> Result<(), Memory> {

@@ -87,7 +87,7 @@ fn worked(alloc: Global) -> Result<Vec<Texted>, AllocError> {
 /// A run with a view, and one that isn't opened since no point stands at its key.
 #[test]
 fn worked_run(rt: HostRuntime) -> Result<(), Memory> {
-    const ANSWERS: [Answers; 6] = [
+    const ANSWERS: &'static [Answers] = &[
         Answers::One(Answer::Old(None)),
         Answers::One(Answer::Old(None)),
         Answers::One(Answer::Old(None)),
@@ -103,7 +103,7 @@ fn worked_run(rt: HostRuntime) -> Result<(), Memory> {
     let commands = worked(rt.alloc())?;
     let mut trie: Texts = Trie::new(rt.alloc());
     let replies = run(&mut trie, commands)?;
-    check_replies(&rt, replies.as_slice(), &ANSWERS);
+    check_replies(&rt, replies.as_slice(), ANSWERS);
     assert!(rt; trie.footprint() == (4, 7));
     Ok(())
 }
@@ -126,7 +126,7 @@ fn look_ups(alloc: Global) -> Result<Vec<Texted>, AllocError> {
 /// Look-ups and removals. The value of a list's nearest stored prefix may be its own.
 #[test]
 fn look_ups_and_removals(rt: HostRuntime) -> Result<(), Memory> {
-    const ANSWERS: [Answers; 9] = [
+    const ANSWERS: &'static [Answers] = &[
         Answers::One(Answer::Old(None)),
         Answers::One(Answer::Old(None)),
         Answers::One(Answer::Found(Some(2))),
@@ -140,7 +140,7 @@ fn look_ups_and_removals(rt: HostRuntime) -> Result<(), Memory> {
     let commands = look_ups(rt.alloc())?;
     let mut trie: Texts = Trie::new(rt.alloc());
     let replies = run(&mut trie, commands)?;
-    check_replies(&rt, replies.as_slice(), &ANSWERS);
+    check_replies(&rt, replies.as_slice(), ANSWERS);
     assert!(rt; trie.len() == 1);
     Ok(())
 }

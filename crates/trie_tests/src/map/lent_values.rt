@@ -32,7 +32,7 @@ fn is_left(trie: &Texts, pairs: &[(&'static str, u64)], footprint: (u128, u128))
 
 #[test]
 fn written_in_its_place(rt: HostRuntime) -> Result<(), Memory> {
-    const WRITTEN: [(&'static str, u64); 7] = [
+    const WRITTEN: &'static [(&'static str, u64)] = &[
         ("abcdefgh", 19),
         ("abcdef", 18),
         ("abcd", 999),
@@ -45,7 +45,7 @@ fn written_in_its_place(rt: HostRuntime) -> Result<(), Memory> {
     assert!(rt; write(&mut trie, &"abcd", 999) == Ok(()));
     assert!(rt; write(&mut trie, &"abc", 999) == Err(FindError::Absent));
     assert!(rt; has_value(&trie, "abc", None));
-    assert!(rt; is_left(&trie, &WRITTEN, (10, 38)));
+    assert!(rt; is_left(&trie, WRITTEN, (10, 38)));
     Ok(())
 }
 

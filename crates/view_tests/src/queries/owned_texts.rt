@@ -74,12 +74,12 @@ fn text_of_raw_descendant(trie: &Folders, name: &'static str) -> Option<&'static
 /// Queries by borrowed texts, where the keys own theirs.
 #[test]
 fn folders_by_borrowed_names(rt: HostRuntime) -> Result<(), AllocError> {
-    const FOLDERS: [(&'static str, &'static str); 3] = [
+    const FOLDERS: &'static [(&'static str, &'static str)] = &[
         ("/boot", "boot"),
         ("/boot/lol", "lol"),
         ("/bleh", "ohi"),
     ];
-    let trie = folders(rt.alloc(), &FOLDERS)?;
+    let trie = folders(rt.alloc(), FOLDERS)?;
     assert!(rt; text_at(&trie, "/boot") == Some("boot"));
     assert!(rt; text_above(&trie, "/boot/lo") == Some("boot"));
     assert!(rt; text_of_ancestor(&trie, "/boot/lo") == Some("boot"));

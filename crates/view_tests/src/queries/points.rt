@@ -9,7 +9,7 @@ use trie_samples::{SAMPLE, Texts, texts};
 /// The root alone answers, whatever is asked.
 #[test]
 fn queries_of_the_empty_trie(rt: HostRuntime) -> Result<(), Memory> {
-    const ROWS: [Row; 5] = [
+    const ROWS: &'static [Row] = &[
         Row {
             query: Query::At(""),
             sights: Some(&[]),
@@ -31,7 +31,7 @@ fn queries_of_the_empty_trie(rt: HostRuntime) -> Result<(), Memory> {
             sights: Some(&[Sight::Path(&[])]),
         },
     ];
-    check_rows(&rt, rt.alloc(), &[], &ROWS)?;
+    check_rows(&rt, rt.alloc(), &[], ROWS)?;
     check_empty(&rt, &texts(rt.alloc(), &[])?)
 }
 
@@ -50,7 +50,7 @@ fn check_empty(rt: &impl Abort, trie: &Texts) -> Result<(), Memory> {
 /// Views count the pairs at and below their points.
 #[test]
 fn pairs_below_points(rt: HostRuntime) -> Result<(), Memory> {
-    const ROWS: [Row; 4] = [
+    const ROWS: &'static [Row] = &[
         Row {
             query: Query::At("ab"),
             sights: Some(&[Sight::Count(4)]),
@@ -68,7 +68,7 @@ fn pairs_below_points(rt: HostRuntime) -> Result<(), Memory> {
             sights: Some(&[Sight::Count(1)]),
         },
     ];
-    check_rows(&rt, rt.alloc(), &SAMPLE, &ROWS)
+    check_rows(&rt, rt.alloc(), &SAMPLE, ROWS)
 }
 
 /// The trie of the pairs has these counts of nodes and of nibbles, and one pair for each key.
@@ -92,7 +92,7 @@ fn counts_of_points(rt: HostRuntime) -> Result<(), Memory> {
 /// Branch points are points without a value, inside a byte too.
 #[test]
 fn points_without_a_value(rt: HostRuntime) -> Result<(), Memory> {
-    const ROWS: [Row; 3] = [
+    const ROWS: &'static [Row] = &[
         Row {
             query: Query::AtList(&[]),
             sights: Some(&[Sight::Value(None), Sight::Path(&[])]),
@@ -106,13 +106,13 @@ fn points_without_a_value(rt: HostRuntime) -> Result<(), Memory> {
             sights: Some(&[Sight::Value(None), Sight::Path(&[6, 1, 6])]),
         },
     ];
-    check_rows(&rt, rt.alloc(), &SAMPLE, &ROWS)
+    check_rows(&rt, rt.alloc(), &SAMPLE, ROWS)
 }
 
 /// No view stands inside a fragment, nor where no stored key leads.
 #[test]
 fn no_view_off_points(rt: HostRuntime) -> Result<(), Memory> {
-    const OF_SAMPLE: [Row; 2] = [
+    const OF_SAMPLE: &'static [Row] = &[
         Row {
             query: Query::At("abc"),
             sights: None,
@@ -122,7 +122,7 @@ fn no_view_off_points(rt: HostRuntime) -> Result<(), Memory> {
             sights: None,
         },
     ];
-    const OF_HELLO: [Row; 2] = [
+    const OF_HELLO: &'static [Row] = &[
         Row {
             query: Query::At("h"),
             sights: None,
@@ -132,6 +132,6 @@ fn no_view_off_points(rt: HostRuntime) -> Result<(), Memory> {
             sights: Some(&[]),
         },
     ];
-    check_rows(&rt, rt.alloc(), &SAMPLE, &OF_SAMPLE)?;
-    check_rows(&rt, rt.alloc(), &[("hello", 55)], &OF_HELLO)
+    check_rows(&rt, rt.alloc(), &SAMPLE, OF_SAMPLE)?;
+    check_rows(&rt, rt.alloc(), &[("hello", 55)], OF_HELLO)
 }

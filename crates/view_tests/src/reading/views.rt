@@ -62,10 +62,10 @@ fn children_of<'t>(
 /// A child answers for the keys below it.
 #[test]
 fn child_answers_for_keys_below(rt: HostRuntime) -> Result<(), Memory> {
-    const BELOW: [(&'static str, u64); 2] = [("abcdef", 18), ("abcdefgh", 19)];
+    const BELOW: &'static [(&'static str, u64)] = &[("abcdef", 18), ("abcdefgh", 19)];
     let trie = texts(rt.alloc(), &SAMPLE)?;
     match children_of(&trie, "abcd")? {
-        Some(children) => assert!(rt; answers_alone(children, &BELOW, "abcd")),
+        Some(children) => assert!(rt; answers_alone(children, BELOW, "abcd")),
         None => assert!(rt; false),
     }
     Ok(())
@@ -164,9 +164,9 @@ fn sum_above(
 
 #[test]
 fn sum_over_children(rt: HostRuntime) -> Result<(), Memory> {
-    const PAIRS: [(&'static str, u64); 4] = [("z", 2), ("aba", 5), ("abb", 6), ("abc", 50)];
-    const PATH: [u8; 5] = [6, 1, 6, 2, 6];
-    let trie = texts(rt.alloc(), &PAIRS)?;
-    assert!(rt; sum_above(rt.alloc(), &trie, "abd", &PATH)? == Some(61));
+    const PAIRS: &'static [(&'static str, u64)] = &[("z", 2), ("aba", 5), ("abb", 6), ("abc", 50)];
+    const PATH: &'static [u8] = &[6, 1, 6, 2, 6];
+    let trie = texts(rt.alloc(), PAIRS)?;
+    assert!(rt; sum_above(rt.alloc(), &trie, "abd", PATH)? == Some(61));
     Ok(())
 }

@@ -10,7 +10,7 @@ use trie_samples::{SAMPLE, Texts, stands_at, texts};
 /// The sample's pairs in the order of their keys.
 #[test]
 fn walk_of_the_sample(rt: HostRuntime) -> Result<(), Memory> {
-    const SORTED: [(&'static str, u64); 7] = [
+    const SORTED: &'static [(&'static str, u64)] = &[
         ("a", 15),
         ("ab", 16),
         ("abcd", 17),
@@ -20,7 +20,7 @@ fn walk_of_the_sample(rt: HostRuntime) -> Result<(), Memory> {
         ("bcdefgh", 29),
     ];
     let trie = texts(rt.alloc(), &SAMPLE)?;
-    assert!(rt; is_walk(TrieCommon::iter(&trie)?, &SORTED));
+    assert!(rt; is_walk(TrieCommon::iter(&trie)?, SORTED));
     Ok(())
 }
 
@@ -43,8 +43,8 @@ fn is_walked_below(
 /// Texts beyond ASCII, where the query ends inside a stored key.
 #[test]
 fn walk_below_a_text_beyond_ascii(rt: HostRuntime) -> Result<(), Memory> {
-    const PAIRS: [(&'static str, u64); 2] = [("bär", 1), ("bären", 2)];
-    let trie = texts(rt.alloc(), &PAIRS)?;
+    const PAIRS: &'static [(&'static str, u64)] = &[("bär", 1), ("bären", 2)];
+    let trie = texts(rt.alloc(), PAIRS)?;
     assert!(rt; trie.get(&"bär")? == Some(&1));
     assert!(rt; is_walked_below(rt.alloc(), &trie, "bä", "bär", &[1, 2])?);
     Ok(())
@@ -71,11 +71,11 @@ fn are_signed_keys(keys: Keys<'_, i8, u64>, wanted: &[i8]) -> bool {
 /// Signed keys: those that aren't negative come first.
 #[test]
 fn walk_over_signed_keys(rt: HostRuntime) -> Result<(), Memory> {
-    const KEYS: [i8; 4] = [-2, -1, 0, 1];
-    const SORTED: [i8; 4] = [0, 1, -2, -1];
+    const KEYS: &'static [i8] = &[-2, -1, 0, 1];
+    const SORTED: &'static [i8] = &[0, 1, -2, -1];
     let mut trie = Trie::new(rt.alloc());
-    store_signed(&rt, &mut trie, &KEYS);
-    assert!(rt; are_signed_keys(TrieCommon::keys(&trie)?, &SORTED));
+    store_signed(&rt, &mut trie, KEYS);
+    assert!(rt; are_signed_keys(TrieCommon::keys(&trie)?, SORTED));
     Ok(())
 }
 
@@ -101,10 +101,10 @@ fn are_little_keys(keys: Keys<'_, LittleEndian<u16>, u64>, wanted: &[u16]) -> bo
 /// Little-endian keys stand in the order of their lowest bytes.
 #[test]
 fn walk_over_little_endian_keys(rt: HostRuntime) -> Result<(), Memory> {
-    const KEYS: [u16; 2] = [256, 2];
+    const KEYS: &'static [u16] = &[256, 2];
     let mut trie = Trie::new(rt.alloc());
-    store_little(&rt, &mut trie, &KEYS);
+    store_little(&rt, &mut trie, KEYS);
     assert!(rt; trie.footprint() == (4, 7));
-    assert!(rt; are_little_keys(TrieCommon::keys(&trie)?, &KEYS));
+    assert!(rt; are_little_keys(TrieCommon::keys(&trie)?, KEYS));
     Ok(())
 }

@@ -70,8 +70,8 @@ fn write_within<K: TrieKey, V: Drop>(
 /// A value is written in its place through a view, and nothing else changes.
 #[test]
 fn written_through_a_view(rt: HostRuntime) -> Result<(), Memory> {
-    const PAIRS: [(&'static str, u64); 2] = [("abc", 1), ("abd", 2)];
-    let mut trie = texts(rt.alloc(), &PAIRS)?;
+    const PAIRS: &'static [(&'static str, u64)] = &[("abc", 1), ("abd", 2)];
+    let mut trie = texts(rt.alloc(), PAIRS)?;
     assert!(rt; write_within(&mut trie, &"abd", 9) == Ok(()));
     assert!(rt; write_within(&mut trie, &"ab", 9) == Err(OpenError::Closed));
     assert!(rt; trie.get(&"abc")? == Some(&1));

@@ -52,8 +52,8 @@ fn value_and_count(trie: &mut Trie<String, u64>, at: &'static str) -> (Option<u6
 /// A query of another type opens the view of a trie whose keys are owned.
 #[test]
 fn owned_keys(rt: HostRuntime) -> Result<(), AllocError> {
-    const PAIRS: [(&'static str, u64); 3] = [("/boot", 1), ("/boot/lol", 2), ("/bleh", 3)];
-    let mut trie = owned(rt.alloc(), &PAIRS)?;
+    const PAIRS: &'static [(&'static str, u64)] = &[("/boot", 1), ("/boot/lol", 2), ("/bleh", 3)];
+    let mut trie = owned(rt.alloc(), PAIRS)?;
     assert!(rt; value_and_count(&mut trie, "/boot") == (Some(1), 2));
     Ok(())
 }

@@ -70,8 +70,8 @@ fn is_stored(
 /// The trie is read through the reference that a view hands back.
 #[test]
 fn trie_handed_back(rt: HostRuntime) -> Result<(), Memory> {
-    const PAIRS: [(&'static str, u64); 2] = [("hello", 55), ("tea", 1)];
-    let mut trie = texts(rt.alloc(), &PAIRS)?;
+    const PAIRS: &'static [(&'static str, u64)] = &[("hello", 55), ("tea", 1)];
+    let mut trie = texts(rt.alloc(), PAIRS)?;
     assert!(rt; is_stored(&mut trie, "hello", "hello!", 2, 3));
     assert!(rt; keys_walked(&mut trie, &"hello") == Ok(3));
     assert!(rt; keys_walked(&mut trie, &"hell") == Err(OpenError::Closed));

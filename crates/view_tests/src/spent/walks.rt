@@ -49,11 +49,11 @@ fn have_value(children: Children<'_, &'static str, u64>, value: u64) -> bool {
 /// Children outlive the view that they come from.
 #[test]
 fn children_outlive_the_view(rt: HostRuntime) -> Result<(), Memory> {
-    const COUNTS: [(usize, usize); 2] = [(4, 4), (12, 1)];
+    const COUNTS: &'static [(usize, usize)] = &[(4, 4), (12, 1)];
     let branch_point = list(rt.alloc(), &[6, 1, 6])?;
     let mut trie = texts(rt.alloc(), &SAMPLE)?;
     match children_at(&mut trie, &branch_point) {
-        Ok(children) => assert!(rt; have_counts(children, &COUNTS)),
+        Ok(children) => assert!(rt; have_counts(children, COUNTS)),
         Err(_) => assert!(rt; false),
     }
     match children_at(&mut trie, &"abcd") {
@@ -106,15 +106,15 @@ fn are_keys(keys: Keys<'_, &'static str, u64>, wanted: &[&'static str]) -> bool 
 /// The keys and the values below a view outlive it, in the order of the keys.
 #[test]
 fn walks_outlive_the_view(rt: HostRuntime) -> Result<(), Memory> {
-    const KEYS: [&'static str; 4] = ["ab", "abcd", "abcdef", "abcdefgh"];
-    const VALUES: [u64; 4] = [16, 17, 18, 19];
+    const KEYS: &'static [&'static str] = &["ab", "abcd", "abcdef", "abcdefgh"];
+    const VALUES: &'static [u64] = &[16, 17, 18, 19];
     let mut trie = texts(rt.alloc(), &SAMPLE)?;
     match keys_at(&mut trie, "ab") {
-        Ok(keys) => assert!(rt; are_keys(keys, &KEYS)),
+        Ok(keys) => assert!(rt; are_keys(keys, KEYS)),
         Err(_) => assert!(rt; false),
     }
     match values_at(&mut trie, "ab") {
-        Ok(values) => assert!(rt; are_values(values, &VALUES)),
+        Ok(values) => assert!(rt; are_values(values, VALUES)),
         Err(_) => assert!(rt; false),
     }
     assert!(rt; trie.len() == 7);

@@ -8,7 +8,7 @@ use trie_samples::SAMPLE;
 /// A removal below the view's path.
 #[test]
 fn removal_below_the_view(rt: HostRuntime) -> Result<(), Memory> {
-    const RUNS: [Run; 1] = [Run {
+    const RUNS: &'static [Run] = &[Run {
         at: At::Text("abc"),
         calls: &[Call::Remove("abcdef", Some(6))],
         last: Last::Count(1),
@@ -16,13 +16,13 @@ fn removal_below_the_view(rt: HostRuntime) -> Result<(), Memory> {
         footprint: (2, 6),
         is_point: true,
     }];
-    check_runs(&rt, rt.alloc(), &[("abc", 3), ("abcdef", 6)], &RUNS)
+    check_runs(&rt, rt.alloc(), &[("abc", 3), ("abcdef", 6)], RUNS)
 }
 
 /// Insertions at the view's path and below it, and one outside.
 #[test]
 fn insertions_in_the_view(rt: HostRuntime) -> Result<(), Memory> {
-    const RUNS: [Run; 1] = [Run {
+    const RUNS: &'static [Run] = &[Run {
         at: At::Text("abc"),
         calls: &[
             Call::InsertOutside("somerandomtext", 666),
@@ -34,13 +34,13 @@ fn insertions_in_the_view(rt: HostRuntime) -> Result<(), Memory> {
         footprint: (3, 12),
         is_point: true,
     }];
-    check_runs(&rt, rt.alloc(), &[("abc", 3)], &RUNS)
+    check_runs(&rt, rt.alloc(), &[("abc", 3)], RUNS)
 }
 
 /// The view's own pair is removed, and stored again.
 #[test]
 fn own_pair_comes_back(rt: HostRuntime) -> Result<(), Memory> {
-    const RUNS: [Run; 1] = [Run {
+    const RUNS: &'static [Run] = &[Run {
         at: At::Text("abc"),
         calls: &[
             Call::Remove("abc", Some(3)),
@@ -52,13 +52,13 @@ fn own_pair_comes_back(rt: HostRuntime) -> Result<(), Memory> {
         footprint: (3, 12),
         is_point: true,
     }];
-    check_runs(&rt, rt.alloc(), &[("abc", 3), ("abcdef", 6)], &RUNS)
+    check_runs(&rt, rt.alloc(), &[("abc", 3), ("abcdef", 6)], RUNS)
 }
 
 /// A value is written in its place through the view, and nothing else changes.
 #[test]
 fn written_through_the_view(rt: HostRuntime) -> Result<(), Memory> {
-    const RUNS: [Run; 1] = [Run {
+    const RUNS: &'static [Run] = &[Run {
         at: At::Text("abd"),
         calls: &[Call::Write(9)],
         last: Last::Value(9),
@@ -66,13 +66,13 @@ fn written_through_the_view(rt: HostRuntime) -> Result<(), Memory> {
         footprint: (4, 7),
         is_point: true,
     }];
-    check_runs(&rt, rt.alloc(), &[("abc", 1), ("abd", 2)], &RUNS)
+    check_runs(&rt, rt.alloc(), &[("abc", 1), ("abd", 2)], RUNS)
 }
 
 /// What spent views of the sample hand out, values that are written, and views where there is no value to write.
 #[test]
 fn views_of_the_sample(rt: HostRuntime) -> Result<(), Memory> {
-    const RUNS: [Run; 4] = [
+    const RUNS: &'static [Run] = &[
         Run {
             at: At::Text("ab"),
             calls: &[],
@@ -106,13 +106,13 @@ fn views_of_the_sample(rt: HostRuntime) -> Result<(), Memory> {
             is_point: true,
         },
     ];
-    check_runs(&rt, rt.alloc(), &SAMPLE, &RUNS)
+    check_runs(&rt, rt.alloc(), &SAMPLE, RUNS)
 }
 
 /// A value of the sample is written, and another one goes.
 #[test]
 fn sample_is_changed(rt: HostRuntime) -> Result<(), Memory> {
-    const RUNS: [Run; 2] = [
+    const RUNS: &'static [Run] = &[
         Run {
             at: At::Text("ab"),
             calls: &[Call::Write(999)],
@@ -145,5 +145,5 @@ fn sample_is_changed(rt: HostRuntime) -> Result<(), Memory> {
             is_point: false,
         },
     ];
-    check_runs(&rt, rt.alloc(), &SAMPLE, &RUNS)
+    check_runs(&rt, rt.alloc(), &SAMPLE, RUNS)
 }

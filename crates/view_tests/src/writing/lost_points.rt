@@ -7,13 +7,13 @@ use radix_trie::{Memory, SubTrieError};
 use trie_samples::SAMPLE;
 
 /// The branch point of abc and abd, inside a byte.
-const PARTING: [u8; 5] = [6, 1, 6, 2, 6];
+const PARTING: &'static [u8] = &[6, 1, 6, 2, 6];
 
 /// Where the view has removed its own pair, its path is no point, and its calls go on. What the path had as its fragment
 /// when the view was made stays.
 #[test]
 fn path_outlives_its_pair(rt: HostRuntime) -> Result<(), Memory> {
-    const RUNS: [Run; 2] = [
+    const RUNS: &'static [Run] = &[
         Run {
             at: At::Text("abc"),
             calls: &[
@@ -43,27 +43,27 @@ fn path_outlives_its_pair(rt: HostRuntime) -> Result<(), Memory> {
             is_point: false,
         },
     ];
-    check_runs(&rt, rt.alloc(), &[("abc", 3), ("abcdef", 6)], &RUNS)
+    check_runs(&rt, rt.alloc(), &[("abc", 3), ("abcdef", 6)], RUNS)
 }
 
 /// A view that is emptied and dropped leaves the empty trie.
 #[test]
 fn dropped_when_emptied(rt: HostRuntime) -> Result<(), Memory> {
-    const RUNS: [Run; 1] = [Run {
-        at: At::List(&PARTING),
+    const RUNS: &'static [Run] = &[Run {
+        at: At::List(PARTING),
         calls: &[Call::Remove("abc", Some(1)), Call::Remove("abd", Some(2))],
         last: Last::Count(0),
         left: &[],
         footprint: (1, 0),
         is_point: false,
     }];
-    check_runs(&rt, rt.alloc(), &[("abc", 1), ("abd", 2)], &RUNS)
+    check_runs(&rt, rt.alloc(), &[("abc", 1), ("abd", 2)], RUNS)
 }
 
 /// A view that is emptied answers that nothing is there.
 #[test]
 fn emptied_view(rt: HostRuntime) -> Result<(), Memory> {
-    const RUNS: [Run; 1] = [Run {
+    const RUNS: &'static [Run] = &[Run {
         at: At::Text("abc"),
         calls: &[
             Call::Remove("abc", Some(3)),
@@ -80,13 +80,13 @@ fn emptied_view(rt: HostRuntime) -> Result<(), Memory> {
         footprint: (2, 2),
         is_point: false,
     }];
-    check_runs(&rt, rt.alloc(), &[("abc", 3), ("b", 1)], &RUNS)
+    check_runs(&rt, rt.alloc(), &[("abc", 3), ("b", 1)], RUNS)
 }
 
 /// A view of the empty trie.
 #[test]
 fn view_of_the_empty_trie(rt: HostRuntime) -> Result<(), Memory> {
-    const RUNS: [Run; 1] = [Run {
+    const RUNS: &'static [Run] = &[Run {
         at: At::Text(""),
         calls: &[
             Call::Count(0),
@@ -100,20 +100,20 @@ fn view_of_the_empty_trie(rt: HostRuntime) -> Result<(), Memory> {
         footprint: (1, 0),
         is_point: true,
     }];
-    check_runs(&rt, rt.alloc(), &[], &RUNS)
+    check_runs(&rt, rt.alloc(), &[], RUNS)
 }
 
 /// A view at a branch point inside a byte, and at the same path where it is inside a fragment.
 #[test]
 fn odd_path(rt: HostRuntime) -> Result<(), Memory> {
-    const RUNS: [Run; 1] = [Run {
-        at: At::List(&PARTING),
+    const RUNS: &'static [Run] = &[Run {
+        at: At::List(PARTING),
         calls: &[
             Call::PathLength(5),
             Call::Count(2),
             Call::Value(None),
             Call::WriteNone,
-            Call::Prefix(&PARTING),
+            Call::Prefix(PARTING),
             Call::Children(&[(6, 1), (6, 1)]),
             Call::Walks(&[("abc", 1), ("abd", 2)]),
             Call::Remove("abd", Some(2)),
@@ -126,7 +126,7 @@ fn odd_path(rt: HostRuntime) -> Result<(), Memory> {
         footprint: (2, 6),
         is_point: false,
     }];
-    check_runs(&rt, rt.alloc(), &[("abd", 2), ("abc", 1)], &RUNS)
+    check_runs(&rt, rt.alloc(), &[("abd", 2), ("abc", 1)], RUNS)
 }
 
 /// Where no point stands no view is opened.

@@ -15,7 +15,7 @@ struct Row {
     below: &'static [u64],
 }
 
-const ROWS: [Row; 9] = [
+const ROWS: &'static [Row] = &[
     Row {
         nibbles: &[],
         is_stored: false,

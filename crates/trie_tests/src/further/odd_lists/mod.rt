@@ -11,7 +11,7 @@ use trie_samples::list;
 type Pair = (&'static [u8], u64);
 
 /// In the order of walks.
-const ODD: [Pair; 6] = [
+const ODD: &'static [Pair] = &[
     (&[1], 10),
     (&[1, 2], 11),
     (&[1, 2, 3], 12),
@@ -40,7 +40,7 @@ fn is_pair(
     let Some((key, value)) = found else {
         return Ok(wanted.is_none());
     };
-    for (nibbles, stored) in &ODD {
+    for (nibbles, stored) in ODD {
         if *stored == *value {
             return Ok(wanted == Some(*value) && *key == list(alloc, nibbles)?);
         }

@@ -1,9 +1,10 @@
 //! A table of networks, in which the longest one that holds an address is looked up.
 
 use crate::fault::Fault;
-use crate::random::Random;
+use crate::random::{address, generator, shuffle};
 use crate::timed::Timed;
 use radix_trie::{Bits, Trie};
+use rand_core::Rng;
 use std::alloc::Global;
 use std::collections::BTreeMap;
 use std::rt::Clock;
@@ -108,14 +109,14 @@ pub fn run<R: Print + Clock + AllocGlobal>(rt: &R, count: u32) -> Result<(), Fau
 
 /// So many networks, of which every second one has the most bits.
 fn networks(alloc: Global, count: u32) -> Result<Vec<Network>, Fault> {
-    let mut random = Random::new();
+    let mut random = generator();
     let mut networks = Vec::new(alloc);
     for i in 0..count {
         let bits = match i % 2 {
             0 => LONGEST,
-            _ => SHORTEST + random.below(LENGTHS) as u32,
+            _ => SHORTEST + (random.next_u64() % LENGTHS) as u32,
         };
-        let address = random.address();
+        let address = address(&mut random);
         networks.push(Network { bits, address })?;
     }
     Ok(networks)
@@ -123,17 +124,17 @@ fn networks(alloc: Global, count: u32) -> Result<Vec<Network>, Fault> {
 
 /// Addresses, in a random order: every second one lies in one of the networks, the others anywhere.
 fn addresses(alloc: Global, networks: &[Network]) -> Result<Vec<u32>, Fault> {
-    let mut random = Random::new();
+    let mut random = generator();
     let mut addresses = Vec::new(alloc);
     for network in networks {
         for i in 0..LOOKED_UP {
             addresses.push(match i % 2 {
-                0 => network.address ^ (random.below(256) as u32),
-                _ => random.address(),
+                0 => network.address ^ (random.next_u64() % 256) as u32,
+                _ => address(&mut random),
             })?;
         }
     }
-    random.shuffle(addresses.as_mut_slice());
+    shuffle(&mut random, addresses.as_mut_slice());
     Ok(addresses)
 }
 

@@ -1,7 +1,9 @@
 //! The keys of a run, and what is asked about each of them.
 
-use crate::random::Random;
+use crate::random::{below, generator, pick, shuffle};
 use crate::request::Style;
+use rand_core::Rng;
+use rand_xoshiro::SplitMix64;
 use std::alloc::{AllocError, Global};
 
 /// A stored key, and what is asked about it.
@@ -30,12 +32,12 @@ pub type Texts<'a> = Sample<&'a [u8], &'a [u8], &'a [u8]>;
 /// A sample of addresses: its keys are even, a port goes on from an address, and it begins with its network.
 pub type Addresses = Sample<u32, u64, u16>;
 
-const SYLLABLES: [&'static str; 20] = [
+const SYLLABLES: &'static [&'static str] = &[
     "an", "be", "co", "de", "er", "fi", "ga", "ho", "in", "jo", "ka", "lo", "mi", "no", "or", "pe",
     "qu", "re", "st", "th",
 ];
 
-const FOLDERS: [&'static str; 10] = [
+const FOLDERS: &'static [&'static str] = &[
     "usr",
     "share",
     "lib",
@@ -50,14 +52,14 @@ const FOLDERS: [&'static str; 10] = [
 
 /// So many texts: a key each, and one letter more.
 pub fn texts(alloc: Global, style: Style, count: u32) -> Result<Vec<String>, AllocError> {
-    let mut random = Random::new();
+    let mut random = generator();
     let mut texts = Vec::new(alloc);
     for _ in 0..count {
         let mut text = String::new(alloc);
         match style {
             Style::Words => add_word(&mut text, &mut random)?,
             Style::Paths => add_path(&mut text, &mut random, count)?,
-            Style::Numbers => write!(text, "{}", random.below(count as u64 * 10))?,
+            Style::Numbers => write!(text, "{}", below(&mut random, count as u64 * 10))?,
         }
         text.push('x')?;
         texts.push(text)?;
@@ -65,19 +67,19 @@ pub fn texts(alloc: Global, style: Style, count: u32) -> Result<Vec<String>, All
     Ok(texts)
 }
 
-fn add_word(text: &mut String, random: &mut Random) -> Result<(), AllocError> {
-    for _ in 0..2 + random.below(5) {
-        text.push_str(random.pick(&SYLLABLES))?;
+fn add_word(text: &mut String, random: &mut SplitMix64) -> Result<(), AllocError> {
+    for _ in 0..2 + random.next_u64() % 5 {
+        text.push_str(pick(random, SYLLABLES))?;
     }
     Ok(())
 }
 
-fn add_path(text: &mut String, random: &mut Random, count: u32) -> Result<(), AllocError> {
-    for _ in 0..3 + random.below(6) {
+fn add_path(text: &mut String, random: &mut SplitMix64, count: u32) -> Result<(), AllocError> {
+    for _ in 0..3 + random.next_u64() % 6 {
         text.push('/')?;
-        text.push_str(random.pick(&FOLDERS))?;
+        text.push_str(pick(random, FOLDERS))?;
     }
-    write!(text, "/{}.txt", random.below(count as u64))
+    write!(text, "/{}.txt", below(random, count as u64))
 }
 
 /// The sample of these texts.
@@ -93,7 +95,7 @@ pub fn text_sample<'a>(
         stored.push(query.key)?;
         queries.push(query)?;
     }
-    Random::new().shuffle(queries.as_mut_slice());
+    shuffle(&mut generator(), queries.as_mut_slice());
     Ok(Sample { stored, queries })
 }
 
@@ -114,15 +116,15 @@ fn text_query<'a>(style: Style, text: &'a [u8]) -> Query<&'a [u8], &'a [u8], &'a
 
 /// A sample of so many addresses.
 pub fn address_sample(alloc: Global, count: u32) -> Result<Addresses, AllocError> {
-    let mut random = Random::new();
+    let mut random = generator();
     let mut stored = Vec::new(alloc);
     let mut queries = Vec::new(alloc);
     for _ in 0..count {
-        let key = (random.number() & 0xffff_fffe) as u32;
+        let key = (random.next_u64() & 0xffff_fffe) as u32;
         stored.push(key)?;
         queries.push(address_query(key))?;
     }
-    random.shuffle(queries.as_mut_slice());
+    shuffle(&mut random, queries.as_mut_slice());
     Ok(Sample { stored, queries })
 }
 

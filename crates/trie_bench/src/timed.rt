@@ -1,5 +1,4 @@
 //! Times of calls.
-ghost use Rattle.std.specs.Prelude.{◌≡◌, ◌/◌, ◌<◌, ◌↔◌, IfOk, IsTrue};
 
 use crate::fault::Fault;
 use std::rt::Clock;
@@ -15,10 +14,12 @@ pub struct Timed {
 
 impl Timed {
     /// The calls that began then and end now.
-    pub fn since(clock: &impl Clock, start: Instant, calls: usize, sum: u64) -> Result<Timed, Fault>
-        ensures as_many { IfOk result (λ timed. timed.calls ≡ calls) }
-        ensures answers { IfOk result (λ timed. timed.sum ≡ sum) }
-    {
+    pub fn since(
+        clock: &impl Clock,
+        start: Instant,
+        calls: usize,
+        sum: u64,
+    ) -> Result<Timed, Fault> {
         let nanoseconds = start.elapsed(clock)?.as_nanos();
         Ok(Timed {
             nanoseconds,
@@ -28,26 +29,19 @@ impl Timed {
     }
 
     /// The same times, with another sum.
-    pub fn with_sum(self, sum: u64) -> Timed
-        ensures { result ≡ record self { sum = sum } }
-    {
+    pub fn with_sum(self, sum: u64) -> Timed {
         Timed { sum, ..self }
     }
 
     /// The nanoseconds of one call.
-    pub fn each(&self) -> u128
-        ensures { 0 < self.now.calls → result ≡ self.now.nanoseconds / self.now.calls }
-    {
+    pub fn each(&self) -> u128 {
         self.nanoseconds
             .checked_div(self.calls as u128)
             .unwrap_or(0)
     }
 
     /// Whether the other calls answered the same.
-    pub fn agrees(&self, other: &Timed) -> bool
-        ensures { IsTrue result
-            ↔ ((self.now.calls ≡ other.now.calls) × (self.now.sum ≡ other.now.sum)) }
-    {
+    pub fn agrees(&self, other: &Timed) -> bool {
         self.calls == other.calls && self.sum == other.sum
     }
 }

@@ -15,7 +15,7 @@ struct Signed {
 /// A test: its name, and the trie.
 type Row = (&'static str, Signed);
 
-const ROWS: [Row; 3] = [
+const ROWS: &'static [Row] = &[
     (
         "light.to_ascending.empty",
         Signed {
@@ -93,7 +93,7 @@ fn tested<R: Print>(run: &mut Run<'_, R>, signed: &Signed) -> Outcome {
 }
 
 pub(crate) fn run_all<R: Print>(run: &mut Run<'_, R>) {
-    for (name, signed) in &ROWS {
+    for (name, signed) in ROWS {
         if run.starts(*name) {
             let outcome = tested(run, signed);
             run.ends(outcome);

@@ -9,12 +9,12 @@ use radix_trie::{Bits, Memory, TrieKey};
 use std::alloc::Global;
 
 /// The first bits of the long text, a nibble for each: more than a list holds without memory, and as many as it does.
-const BITS_34: [u8; 34] = [
+const BITS_34: &'static [u8] = &[
     0, 1, 1, 0, 0, 0, 0, 1, 0, 1, 1, 0, 0, 0, 0, 1, 0, 1, 1, 0, 0, 0, 0, 1, 0, 1, 1, 0, 0, 0, 0, 1,
     0, 1,
 ];
 
-const BITS_32: [u8; 32] = [
+const BITS_32: &'static [u8] = &[
     0, 1, 1, 0, 0, 0, 0, 1, 0, 1, 1, 0, 0, 0, 0, 1, 0, 1, 1, 0, 0, 0, 0, 1, 0, 1, 1, 0, 0, 0, 0, 1,
 ];
 
@@ -31,23 +31,23 @@ enum Call {
 /// A test: its name, the call, and the bits of the list that comes of it.
 type Row = (&'static str, Call, &'static [u8]);
 
-const ROWS: [Row; 7] = [
-    ("bits.first_of", Call::FirstOf, &BITS_34),
-    ("bits.first_of_u128", Call::FirstOfU128, &BITS_34),
-    ("bits.clone", Call::Clone, &BITS_34),
-    ("light.bits.first_of", Call::FirstOf, &BITS_32),
-    ("light.bits.first_of_u32", Call::FirstOfU32, &BITS_32),
-    ("light.bits.first_of_u128", Call::FirstOfU128, &BITS_32),
-    ("light.bits.clone", Call::Clone, &BITS_32),
+const ROWS: &'static [Row] = &[
+    ("bits.first_of", Call::FirstOf, BITS_34),
+    ("bits.first_of_u128", Call::FirstOfU128, BITS_34),
+    ("bits.clone", Call::Clone, BITS_34),
+    ("light.bits.first_of", Call::FirstOf, BITS_32),
+    ("light.bits.first_of_u32", Call::FirstOfU32, BITS_32),
+    ("light.bits.first_of_u128", Call::FirstOfU128, BITS_32),
+    ("light.bits.clone", Call::Clone, BITS_32),
 ];
 
 /// A test of a list as a key: its name, what is asked, and the bits.
 type KeyRow = (&'static str, Asked, &'static [u8]);
 
-const KEY_ROWS: [KeyRow; 3] = [
-    ("encode.bits", Asked::Encode, &BITS_34),
-    ("encode_bytes.bits", Asked::EncodeBytes, &BITS_34),
-    ("light.encode.bits", Asked::Encode, &BITS_32),
+const KEY_ROWS: &'static [KeyRow] = &[
+    ("encode.bits", Asked::Encode, BITS_34),
+    ("encode_bytes.bits", Asked::EncodeBytes, BITS_34),
+    ("light.encode.bits", Asked::Encode, BITS_32),
 ];
 
 /// A list with these bits, which are the first ones of the long text.
@@ -99,13 +99,13 @@ fn encoded<R: Print>(run: &mut Run<'_, R>, asked: Asked, wanted: &[u8]) -> Outco
 }
 
 pub(crate) fn run_all<R: Print>(run: &mut Run<'_, R>) {
-    for (name, asked, wanted) in &KEY_ROWS {
+    for (name, asked, wanted) in KEY_ROWS {
         if run.starts(*name) {
             let outcome = encoded(run, *asked, *wanted);
             run.ends(outcome);
         }
     }
-    for (name, call, wanted) in &ROWS {
+    for (name, call, wanted) in ROWS {
         if run.starts(*name) {
             let outcome = tested(run, *call, *wanted);
             run.ends(outcome);

@@ -6,7 +6,7 @@ use crate::runs::Run;
 use crate::trie_calls::{Call, Row, run_rows};
 use crate::tries::LONG;
 
-const ROWS: [Row; 20] = [
+const ROWS: &'static [Row] = &[
     (
         "run.insert.empty",
         Held::Empty,
@@ -130,5 +130,5 @@ const ROWS: [Row; 20] = [
 ];
 
 pub(crate) fn run_all<R: Print>(run: &mut Run<'_, R>) {
-    run_rows(run, &ROWS);
+    run_rows(run, ROWS);
 }

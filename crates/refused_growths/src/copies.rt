@@ -9,7 +9,7 @@ use radix_trie::Trie;
 use std::alloc::{AllocError, Global};
 use trie_samples::SAMPLE;
 
-const ROWS: [Row; 8] = [
+const ROWS: &'static [Row] = &[
     (
         "light.from_iter.empty",
         Held::Empty,
@@ -97,7 +97,7 @@ fn refused_value<R: Print>(run: &mut Run<'_, R>) -> Outcome {
 }
 
 pub(crate) fn run_all<R: Print>(run: &mut Run<'_, R>) {
-    run_rows(run, &ROWS);
+    run_rows(run, ROWS);
     if run.starts("clone.refused_value") {
         let outcome = refused_value(run);
         run.ends(outcome);

@@ -5,7 +5,7 @@ use crate::runs::Run;
 use crate::trie_calls::{Call, Row, run_rows};
 use crate::tries::{LONG, ONE_WALK, SEVEN_WALK};
 
-const ROWS: [Row; 27] = [
+const ROWS: &'static [Row] = &[
     (
         "contains_key.empty",
         Held::Empty,
@@ -171,5 +171,5 @@ const ROWS: [Row; 27] = [
 ];
 
 pub(crate) fn run_all<R: Print>(run: &mut Run<'_, R>) {
-    run_rows(run, &ROWS);
+    run_rows(run, ROWS);
 }

@@ -12,7 +12,7 @@ use trie_samples::Texts;
 /// them and after all.
 type Row = (&'static str, Pairs, &'static [Held]);
 
-const ROWS: [Row; 6] = [
+const ROWS: &'static [Row] = &[
     (
         "extend.empty",
         &[(LONG, 2), ("ab", 1)],
@@ -69,7 +69,7 @@ fn see_stopped(
 }
 
 pub(crate) fn run_all<R: Print>(run: &mut Run<'_, R>) {
-    for (name, pairs, held) in &ROWS {
+    for (name, pairs, held) in ROWS {
         if run.starts(*name) {
             let outcome = extended(run, *pairs, *held);
             run.ends(outcome);

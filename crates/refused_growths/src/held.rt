@@ -1,4 +1,4 @@
-//! What the tries of the tests hold, by name: a table with names is proved faster than one with the pairs.
+//! What the tries of the tests hold, by name.
 
 use crate::states::State;
 use crate::tries::{

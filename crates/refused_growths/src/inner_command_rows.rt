@@ -6,7 +6,7 @@ use crate::runs::Run;
 use crate::trie_calls::{Call, Row, run_rows};
 use crate::tries::LONG;
 
-const ROWS: [Row; 18] = [
+const ROWS: &'static [Row] = &[
     (
         "run.within.insert.empty",
         Held::Empty,
@@ -142,5 +142,5 @@ const ROWS: [Row; 18] = [
 ];
 
 pub(crate) fn run_all<R: Print>(run: &mut Run<'_, R>) {
-    run_rows(run, &ROWS);
+    run_rows(run, ROWS);
 }

@@ -17,7 +17,7 @@ type Row = (
     (u128, u128),
 );
 
-const ROWS: [Row; 4] = [
+const ROWS: &'static [Row] = &[
     (
         "light.to_value.empty",
         "light.from_value.empty",
@@ -116,7 +116,7 @@ fn null<R: Print>(run: &mut Run<'_, R>) -> Outcome {
 }
 
 pub(crate) fn run_all<R: Print>(run: &mut Run<'_, R>) {
-    for row in &ROWS {
+    for row in ROWS {
         if run.starts(row.0) {
             let outcome = written(run, row);
             run.ends(outcome);

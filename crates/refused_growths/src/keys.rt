@@ -88,7 +88,7 @@ enum Kind {
 /// The name of a test of a type, and of what is asked.
 type Row = (&'static str, Kind, Asked);
 
-const ROWS: [Row; 17] = [
+const ROWS: &'static [Row] = &[
     ("encode.text", Kind::Text, Asked::Encode),
     ("encode.owned_text", Kind::OwnedText, Asked::Encode),
     ("encode.bytes", Kind::Bytes, Asked::Encode),
@@ -132,20 +132,20 @@ const ROWS: [Row; 17] = [
 fn of_kind<R: Print>(run: &mut Run<'_, R>, kind: Kind, asked: Asked) -> Outcome {
     let alloc = run.alloc();
     match kind {
-        Kind::Text => tested(run, &LONG, asked, &LONG_LIST),
-        Kind::OwnedText => tested(run, &owned_text(alloc)?, asked, &LONG_LIST),
-        Kind::Bytes => tested(run, &LONG.as_bytes(), asked, &LONG_LIST),
+        Kind::Text => tested(run, &LONG, asked, LONG_LIST),
+        Kind::OwnedText => tested(run, &owned_text(alloc)?, asked, LONG_LIST),
+        Kind::Bytes => tested(run, &LONG.as_bytes(), asked, LONG_LIST),
         Kind::OwnedBytes => tested(
             run,
             &Vec::from_slice(alloc, LONG.as_bytes())?,
             asked,
-            &LONG_LIST,
+            LONG_LIST,
         ),
-        Kind::Numbers => tested(run, &numbers(alloc, 9)?, asked, &LIST_36),
-        Kind::FewNumbers => tested(run, &numbers(alloc, 8)?, asked, &LIST_32),
-        Kind::List => tested(run, &LONG.encode(alloc)?, asked, &LONG_LIST),
-        Kind::Reference => tested(run, &&owned_text(alloc)?, asked, &LONG_LIST),
-        Kind::MutableReference => tested(run, &&mut owned_text(alloc)?, asked, &LONG_LIST),
+        Kind::Numbers => tested(run, &numbers(alloc, 9)?, asked, LIST_36),
+        Kind::FewNumbers => tested(run, &numbers(alloc, 8)?, asked, LIST_32),
+        Kind::List => tested(run, &LONG.encode(alloc)?, asked, LONG_LIST),
+        Kind::Reference => tested(run, &&owned_text(alloc)?, asked, LONG_LIST),
+        Kind::MutableReference => tested(run, &&mut owned_text(alloc)?, asked, LONG_LIST),
     }
 }
 
@@ -167,5 +167,5 @@ fn run_rows<R: Print>(run: &mut Run<'_, R>, rows: &[Row]) {
 }
 
 pub(crate) fn run_all<R: Print>(run: &mut Run<'_, R>) {
-    run_rows(run, &ROWS);
+    run_rows(run, ROWS);
 }

@@ -5,7 +5,7 @@ use crate::runs::Run;
 use crate::trie_calls::{Call, Row, run_rows};
 use crate::tries::{LONG, LONG_LIST};
 
-const ROWS: [Row; 21] = [
+const ROWS: &'static [Row] = &[
     (
         "map_with_default.empty",
         Held::Empty,
@@ -81,7 +81,7 @@ const ROWS: [Row; 21] = [
     (
         "open_mut.one",
         Held::One,
-        Call::OpenMut(LONG, Some((&LONG_LIST, Some(2)))),
+        Call::OpenMut(LONG, Some((LONG_LIST, Some(2)))),
         Held::One,
     ),
     (
@@ -99,7 +99,7 @@ const ROWS: [Row; 21] = [
     (
         "subtrie_mut.one",
         Held::One,
-        Call::SubtrieMut(LONG, Some((&LONG_LIST, Some(2)))),
+        Call::SubtrieMut(LONG, Some((LONG_LIST, Some(2)))),
         Held::One,
     ),
     (
@@ -135,5 +135,5 @@ const ROWS: [Row; 21] = [
 ];
 
 pub(crate) fn run_all<R: Print>(run: &mut Run<'_, R>) {
-    run_rows(run, &ROWS);
+    run_rows(run, ROWS);
 }

@@ -22,19 +22,19 @@ fn run_integers<R: Print>(run: &mut Run<'_, R>) {
         run,
         ("light.encode.u32", "encode_bytes.u32"),
         &0x6161_6161u32,
-        &LONG_8,
+        LONG_8,
     );
     run_both(
         run,
         ("light.encode.u64", "encode_bytes.u64"),
         &0x6161_6161_6161_6161u64,
-        &LONG_16,
+        LONG_16,
     );
     run_both(
         run,
         ("light.encode.usize", "encode_bytes.usize"),
         &0x6161_6161_6161_6161usize,
-        &LONG_16,
+        LONG_16,
     );
     run_both(
         run,
@@ -52,26 +52,26 @@ fn run_integers<R: Print>(run: &mut Run<'_, R>) {
         run,
         ("light.encode.i32", "encode_bytes.i32"),
         &0x6161_6161i32,
-        &LONG_8,
+        LONG_8,
     );
     run_both(
         run,
         ("light.encode.i64", "encode_bytes.i64"),
         &0x6161_6161_6161_6161i64,
-        &LONG_16,
+        LONG_16,
     );
     run_both(
         run,
         ("light.encode.isize", "encode_bytes.isize"),
         &0x6161_6161_6161_6161isize,
-        &LONG_16,
+        LONG_16,
     );
 }
 
 /// The nibbles of four and of eight bytes 61.
-const LONG_8: [u8; 8] = [6, 1, 6, 1, 6, 1, 6, 1];
+const LONG_8: &'static [u8] = &[6, 1, 6, 1, 6, 1, 6, 1];
 
-const LONG_16: [u8; 16] = [6, 1, 6, 1, 6, 1, 6, 1, 6, 1, 6, 1, 6, 1, 6, 1];
+const LONG_16: &'static [u8] = &[6, 1, 6, 1, 6, 1, 6, 1, 6, 1, 6, 1, 6, 1, 6, 1];
 
 /// Wrappers. In ascending order the highest bit is turned over: -31 has the byte e1.
 fn run_wrappers<R: Print>(run: &mut Run<'_, R>) {

@@ -12,23 +12,23 @@ use trie_samples::list;
 /// A text of 16 bytes: its list takes no memory.
 const SIXTEEN: &'static str = "aaaaaaaaaaaaaaaa";
 
-const LIST_33: [u8; 33] = [
+const LIST_33: &'static [u8] = &[
     6, 1, 6, 1, 6, 1, 6, 1, 6, 1, 6, 1, 6, 1, 6, 1, 6, 1, 6, 1, 6, 1, 6, 1, 6, 1, 6, 1, 6, 1, 6, 1,
     6,
 ];
 
-const LIST_35: [u8; 35] = [
+const LIST_35: &'static [u8] = &[
     6, 1, 6, 1, 6, 1, 6, 1, 6, 1, 6, 1, 6, 1, 6, 1, 6, 1, 6, 1, 6, 1, 6, 1, 6, 1, 6, 1, 6, 1, 6, 1,
     6, 1, 6,
 ];
 
 /// The long list without its first nibble, and this without its last two.
-const LIST_33_ODD: [u8; 33] = [
+const LIST_33_ODD: &'static [u8] = &[
     1, 6, 1, 6, 1, 6, 1, 6, 1, 6, 1, 6, 1, 6, 1, 6, 1, 6, 1, 6, 1, 6, 1, 6, 1, 6, 1, 6, 1, 6, 1, 6,
     1,
 ];
 
-const LIST_31_ODD: [u8; 31] = [
+const LIST_31_ODD: &'static [u8] = &[
     1, 6, 1, 6, 1, 6, 1, 6, 1, 6, 1, 6, 1, 6, 1, 6, 1, 6, 1, 6, 1, 6, 1, 6, 1, 6, 1, 6, 1, 6, 1,
 ];
 
@@ -50,62 +50,52 @@ enum Call {
 /// A test: its name, a list, the call, and the list that comes of it.
 type Row = (&'static str, &'static [u8], Call, &'static [u8]);
 
-const ROWS: [Row; 21] = [
+const ROWS: &'static [Row] = &[
     (
         "list.from_byte_vec",
         &[],
         Call::FromByteVec(LONG),
-        &LONG_LIST,
+        LONG_LIST,
     ),
     (
         "list.from_byte_vec.short",
         &[],
         Call::FromByteVec(SIXTEEN),
-        &LIST_32,
+        LIST_32,
     ),
-    ("list.push", &LIST_32, Call::Push(6), &LIST_33),
-    ("list.push.long", &LONG_LIST, Call::Push(6), &LIST_35),
-    ("list.split", &LONG_LIST, Call::Split(0), &LONG_LIST),
-    ("list.split.odd", &LONG_LIST, Call::Split(1), &LIST_33_ODD),
-    ("list.join", &LIST_32, Call::JoinA, &LONG_LIST),
-    ("list.join.odd", &LIST_31_ODD, Call::JoinA, &LIST_33_ODD),
-    ("list.join.long", &LONG_LIST, Call::JoinA, &LIST_36),
-    ("list.tail", &LONG_LIST, Call::Tail(0), &LONG_LIST),
-    ("list.tail.odd", &LONG_LIST, Call::Tail(1), &LIST_33_ODD),
-    ("list.clone", &LONG_LIST, Call::Clone, &LONG_LIST),
+    ("list.push", LIST_32, Call::Push(6), LIST_33),
+    ("list.push.long", LONG_LIST, Call::Push(6), LIST_35),
+    ("list.split", LONG_LIST, Call::Split(0), LONG_LIST),
+    ("list.split.odd", LONG_LIST, Call::Split(1), LIST_33_ODD),
+    ("list.join", LIST_32, Call::JoinA, LONG_LIST),
+    ("list.join.odd", LIST_31_ODD, Call::JoinA, LIST_33_ODD),
+    ("list.join.long", LONG_LIST, Call::JoinA, LIST_36),
+    ("list.tail", LONG_LIST, Call::Tail(0), LONG_LIST),
+    ("list.tail.odd", LONG_LIST, Call::Tail(1), LIST_33_ODD),
+    ("list.clone", LONG_LIST, Call::Clone, LONG_LIST),
     (
         "list.library_clone",
-        &LONG_LIST,
+        LONG_LIST,
         Call::LibraryClone,
-        &LONG_LIST,
+        LONG_LIST,
     ),
     ("light.list.push", &[6, 1], Call::Push(5), &[6, 1, 5]),
-    ("light.list.split", &LONG_LIST, Call::Split(32), &[6, 1]),
-    (
-        "light.list.split.long",
-        &LONG_LIST,
-        Call::Split(2),
-        &LIST_32,
-    ),
+    ("light.list.split", LONG_LIST, Call::Split(32), &[6, 1]),
+    ("light.list.split.long", LONG_LIST, Call::Split(2), LIST_32),
     ("light.list.join", &[6, 1], Call::JoinA, &[6, 1, 6, 1]),
-    ("light.list.tail", &LONG_LIST, Call::Tail(2), &LIST_32),
-    (
-        "light.list.tail.odd",
-        &LONG_LIST,
-        Call::Tail(31),
-        &[1, 6, 1],
-    ),
-    ("light.list.clone", &LIST_32, Call::Clone, &LIST_32),
+    ("light.list.tail", LONG_LIST, Call::Tail(2), LIST_32),
+    ("light.list.tail.odd", LONG_LIST, Call::Tail(31), &[1, 6, 1]),
+    ("light.list.clone", LIST_32, Call::Clone, LIST_32),
     (
         "light.list.library_clone",
-        &LIST_32,
+        LIST_32,
         Call::LibraryClone,
-        &LIST_32,
+        LIST_32,
     ),
 ];
 
 pub(crate) fn run_all<R: Print>(run: &mut Run<'_, R>) {
-    run_rows(run, &ROWS);
+    run_rows(run, ROWS);
 }
 
 fn run_rows<R: Print>(run: &mut Run<'_, R>, rows: &[Row]) {

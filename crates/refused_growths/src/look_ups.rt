@@ -5,7 +5,7 @@ use crate::runs::Run;
 use crate::trie_calls::{Call, Row, run_rows};
 use crate::tries::{LONG, LONG_LIST};
 
-const ROWS: [Row; 34] = [
+const ROWS: &'static [Row] = &[
     ("get.empty", Held::Empty, Call::Get(LONG, None), Held::Empty),
     ("get.seven", Held::Seven, Call::Get(LONG, None), Held::Seven),
     ("get.one", Held::One, Call::Get(LONG, Some(2)), Held::One),
@@ -42,7 +42,7 @@ const ROWS: [Row; 34] = [
     (
         "subtrie.one",
         Held::One,
-        Call::Subtrie(LONG, Some((&LONG_LIST, Some(2)))),
+        Call::Subtrie(LONG, Some((LONG_LIST, Some(2)))),
         Held::One,
     ),
     (
@@ -60,7 +60,7 @@ const ROWS: [Row; 34] = [
     (
         "get_ancestor.one",
         Held::One,
-        Call::Ancestor(LONG, Some((&LONG_LIST, Some(2)))),
+        Call::Ancestor(LONG, Some((LONG_LIST, Some(2)))),
         Held::One,
     ),
     (
@@ -96,7 +96,7 @@ const ROWS: [Row; 34] = [
     (
         "get_raw_ancestor.one",
         Held::One,
-        Call::RawAncestor(LONG, (&LONG_LIST, Some(2))),
+        Call::RawAncestor(LONG, (LONG_LIST, Some(2))),
         Held::One,
     ),
     (
@@ -114,13 +114,13 @@ const ROWS: [Row; 34] = [
     (
         "get_raw_descendant.one",
         Held::One,
-        Call::RawDescendant(LONG, Some((&LONG_LIST, Some(2)))),
+        Call::RawDescendant(LONG, Some((LONG_LIST, Some(2)))),
         Held::One,
     ),
     (
         "get_raw_descendant.long_path",
         Held::One,
-        Call::RawDescendant("a", Some((&LONG_LIST, Some(2)))),
+        Call::RawDescendant("a", Some((LONG_LIST, Some(2)))),
         Held::One,
     ),
     (
@@ -201,5 +201,5 @@ const ROWS: [Row; 34] = [
 ];
 
 pub(crate) fn run_all<R: Print>(run: &mut Run<'_, R>) {
-    run_rows(run, &ROWS);
+    run_rows(run, ROWS);
 }

@@ -14,7 +14,7 @@ use std::alloc::Global;
 
 type Node = TrieNode<&'static str, u64>;
 
-const ROWS: [(&'static str, Pairs); 3] = [
+const ROWS: &'static [(&'static str, Pairs)] = &[
     ("light.check_integrity_recursive.empty", &[]),
     ("light.check_integrity_recursive.seven", SEVEN_WALK),
     ("check_integrity_recursive.one", ONE_WALK),
@@ -56,7 +56,7 @@ fn tested<R: Print>(run: &mut Run<'_, R>, pairs: Pairs) -> Outcome {
 }
 
 pub(crate) fn run_all<R: Print>(run: &mut Run<'_, R>) {
-    for (name, pairs) in &ROWS {
+    for (name, pairs) in ROWS {
         if run.starts(*name) {
             let outcome = tested(run, *pairs);
             run.ends(outcome);

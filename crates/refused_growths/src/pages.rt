@@ -6,7 +6,7 @@ use crate::trie_calls::{Call, Row, run_rows};
 use crate::tries::{LONG, ONE_WALK, SEVEN_WALK};
 use crate::views::Common;
 
-const ROWS: [Row; 19] = [
+const ROWS: &'static [Row] = &[
     (
         "common_prefixes.empty",
         Held::Empty,
@@ -127,5 +127,5 @@ const ROWS: [Row; 19] = [
 ];
 
 pub(crate) fn run_all<R: Print>(run: &mut Run<'_, R>) {
-    run_rows(run, &ROWS);
+    run_rows(run, ROWS);
 }

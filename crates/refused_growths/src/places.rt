@@ -52,8 +52,8 @@ const ROOT_OF_TWO: Place = Place {
 /// The long text, whose fragment is long too.
 const LONG_PLACE: Place = Place {
     key: LONG,
-    path: &LONG_LIST,
-    prefix: &LONG_LIST,
+    path: LONG_LIST,
+    prefix: LONG_LIST,
     walk: ONE_WALK,
 };
 

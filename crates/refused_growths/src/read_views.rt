@@ -6,7 +6,7 @@ use crate::runs::Run;
 use crate::tries::{LONG, LONG_LIST};
 use crate::views::{Call, Common, Row, run_rows};
 
-const ROWS: [Row; 30] = [
+const ROWS: &'static [Row] = &[
     (
         "read_view.get.empty",
         Held::Empty,
@@ -35,7 +35,7 @@ const ROWS: [Row; 30] = [
         "read_view.children.one",
         Held::One,
         Spot::RootOfOne,
-        Call::Children(&[(&LONG_LIST, Some(2))]),
+        Call::Children(&[(LONG_LIST, Some(2))]),
     ),
     (
         "read_view.prefix.one",
@@ -190,5 +190,5 @@ const ROWS: [Row; 30] = [
 ];
 
 pub(crate) fn run_all<R: Print>(run: &mut Run<'_, R>) {
-    run_rows(run, &ROWS);
+    run_rows(run, ROWS);
 }

@@ -7,12 +7,12 @@ use crate::tries::{LONG, LONG_LIST};
 use crate::views::Common;
 use crate::write_views::{Change, Row, run_rows};
 
-const ROWS: [Row; 21] = [
+const ROWS: &'static [Row] = &[
     (
         "spent_view.into_children.one",
         Held::One,
         Spot::RootOfOne,
-        Change::IntoChildren(&[(&LONG_LIST, Some(2))]),
+        Change::IntoChildren(&[(LONG_LIST, Some(2))]),
         Held::One,
     ),
     (
@@ -158,5 +158,5 @@ const ROWS: [Row; 21] = [
 ];
 
 pub(crate) fn run_all<R: Print>(run: &mut Run<'_, R>) {
-    run_rows(run, &ROWS);
+    run_rows(run, ROWS);
 }

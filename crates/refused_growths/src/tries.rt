@@ -6,7 +6,7 @@ use crate::states::{Pairs, State};
 pub(crate) const LONG: &'static str = "aaaaaaaaaaaaaaaaa";
 
 /// The nibbles of the long text.
-pub(crate) const LONG_LIST: [u8; 34] = [
+pub(crate) const LONG_LIST: &'static [u8] = &[
     6, 1, 6, 1, 6, 1, 6, 1, 6, 1, 6, 1, 6, 1, 6, 1, 6, 1, 6, 1, 6, 1, 6, 1, 6, 1, 6, 1, 6, 1, 6, 1,
     6, 1,
 ];
@@ -15,11 +15,11 @@ pub(crate) const LONG_LIST: [u8; 34] = [
 pub(crate) const NUMBER: u128 = 0x6161_6161_6161_6161_6161_6161_6161_6161;
 
 /// The nibbles of texts of 16 and of 18 bytes.
-pub(crate) const LIST_32: [u8; 32] = [
+pub(crate) const LIST_32: &'static [u8] = &[
     6, 1, 6, 1, 6, 1, 6, 1, 6, 1, 6, 1, 6, 1, 6, 1, 6, 1, 6, 1, 6, 1, 6, 1, 6, 1, 6, 1, 6, 1, 6, 1,
 ];
 
-pub(crate) const LIST_36: [u8; 36] = [
+pub(crate) const LIST_36: &'static [u8] = &[
     6, 1, 6, 1, 6, 1, 6, 1, 6, 1, 6, 1, 6, 1, 6, 1, 6, 1, 6, 1, 6, 1, 6, 1, 6, 1, 6, 1, 6, 1, 6, 1,
     6, 1, 6, 1,
 ];

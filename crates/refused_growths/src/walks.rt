@@ -6,11 +6,11 @@ use crate::trie_calls::{Call, Row, run_rows};
 use crate::tries::{LONG, LONG_LIST, ONE_WALK, SEVEN_WALK};
 use crate::views::Common;
 
-const ROWS: [Row; 20] = [
+const ROWS: &'static [Row] = &[
     (
         "children.one",
         Held::One,
-        Call::Children(&[(&LONG_LIST, Some(2))]),
+        Call::Children(&[(LONG_LIST, Some(2))]),
         Held::One,
     ),
     (
@@ -125,5 +125,5 @@ const ROWS: [Row; 20] = [
 ];
 
 pub(crate) fn run_all<R: Print>(run: &mut Run<'_, R>) {
-    run_rows(run, &ROWS);
+    run_rows(run, ROWS);
 }

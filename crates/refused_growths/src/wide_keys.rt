@@ -10,13 +10,13 @@ fn run_light<R: Print>(run: &mut Run<'_, R>) {
         run,
         ("light.encode.u128", "encode_bytes.u128"),
         &NUMBER,
-        &LIST_32,
+        LIST_32,
     );
     run_both(
         run,
         ("light.encode.i128", "encode_bytes.i128"),
         &0x6161_6161_6161_6161_6161_6161_6161_6161i128,
-        &LIST_32,
+        LIST_32,
     );
     run_both(
         run,
@@ -34,7 +34,7 @@ fn run_light<R: Print>(run: &mut Run<'_, R>) {
         run,
         ("light.encode.array", "encode_bytes.light_array"),
         &[0x61u8; 16],
-        &LIST_32,
+        LIST_32,
     );
     run_both(
         run,
@@ -50,25 +50,25 @@ fn run_heavy<R: Print>(run: &mut Run<'_, R>) {
         run,
         ("encode.array", "encode_bytes.array"),
         &[0x61u8; 17],
-        &LONG_LIST,
+        LONG_LIST,
     );
     run_both(
         run,
         ("encode.pair", "encode_bytes.pair"),
         &(NUMBER, 0x61u8),
-        &LONG_LIST,
+        LONG_LIST,
     );
     run_both(
         run,
         ("encode.pair.long_first", "encode_bytes.pair.long_first"),
         &([0x61u8; 17], 0x61u8),
-        &LIST_36,
+        LIST_36,
     );
     run_both(
         run,
         ("encode.pair.long_second", "encode_bytes.pair.long_second"),
         &(0x61u8, [0x61u8; 17]),
-        &LIST_36,
+        LIST_36,
     );
 }
 

@@ -6,7 +6,7 @@ use crate::runs::Run;
 use crate::tries::{LONG, ONE_WALK};
 use crate::write_views::{Change, Row, run_rows};
 
-const ROWS: [Row; 17] = [
+const ROWS: &'static [Row] = &[
     (
         "write_view.insert.empty",
         Held::Empty,
@@ -132,5 +132,5 @@ const ROWS: [Row; 17] = [
 ];
 
 pub(crate) fn run_all<R: Print>(run: &mut Run<'_, R>) {
-    run_rows(run, &ROWS);
+    run_rows(run, ROWS);
 }

@@ -7,7 +7,7 @@ use crate::tries::{LONG, LONG_LIST};
 use crate::views::{Call, Common};
 use crate::write_views::{Change, Row, run_rows};
 
-const ROWS: [Row; 26] = [
+const ROWS: &'static [Row] = &[
     (
         "write_view.get.empty",
         Held::Empty,
@@ -33,7 +33,7 @@ const ROWS: [Row; 26] = [
         "write_view.children.one",
         Held::One,
         Spot::RootOfOne,
-        Change::Read(Call::Children(&[(&LONG_LIST, Some(2))])),
+        Change::Read(Call::Children(&[(LONG_LIST, Some(2))])),
         Held::One,
     ),
     (
@@ -193,5 +193,5 @@ const ROWS: [Row; 26] = [
 ];
 
 pub(crate) fn run_all<R: Print>(run: &mut Run<'_, R>) {
-    run_rows(run, &ROWS);
+    run_rows(run, ROWS);
 }

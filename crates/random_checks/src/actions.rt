@@ -3,8 +3,10 @@
 use crate::keys::Drawn;
 use crate::model::{Model, Stored};
 use crate::pairs::are_taken;
-use crate::random::Random;
+use crate::random::key_number;
 use radix_trie::{Memory, Reply};
+use rand_core::Rng;
+use rand_xoshiro::SplitMix64;
 use std::alloc::Global;
 
 /// What a change or a look-up does.
@@ -27,8 +29,8 @@ pub struct Action {
 
 impl Action {
     /// A random action. Insertions are the most frequent, and removals below a prefix are rare.
-    pub fn drawn(random: &mut Random) -> Action {
-        let kind = match random.draw() % 32 {
+    pub fn drawn(random: &mut SplitMix64) -> Action {
+        let kind = match random.next_u64() % 32 {
             0..=13 => Kind::Insert,
             14..=21 => Kind::Remove,
             22 => Kind::RemovePrefix,
@@ -37,8 +39,8 @@ impl Action {
         };
         Action {
             kind,
-            number: random.key(),
-            value: random.draw(),
+            number: key_number(random),
+            value: random.next_u64(),
         }
     }
 }

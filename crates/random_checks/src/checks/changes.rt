@@ -5,10 +5,11 @@ use crate::checks::walks::{are_ends, is_whole};
 use crate::keys::Drawn;
 use crate::model::Model;
 use crate::pairs::are_taken;
-use crate::random::Random;
+use crate::random::is_even;
 use radix_trie::{
     InsertWhy, Memory, OpenError, SubTrieError, SubTrieMut, Trie, TrieCommon, TrieKey,
 };
+use rand_xoshiro::SplitMix64;
 use std::alloc::Global;
 
 /// How many actions a view carries out.
@@ -143,7 +144,7 @@ fn are_changed_by_view<K: Drawn>(
     view: &mut SubTrieMut<'_, K, u64>,
     model: &mut Model,
     path: &[u8],
-    random: &mut Random,
+    random: &mut SplitMix64,
 ) -> Result<bool, Memory> {
     for _ in 0..IN_A_VIEW {
         let action = Action::drawn(random);
@@ -160,7 +161,7 @@ fn is_opened<K: Drawn, Q: TrieKey>(
     alloc: Global,
     trie: &mut Trie<K, u64>,
     model: &mut Model,
-    random: &mut Random,
+    random: &mut SplitMix64,
     key: &Q,
     path: &[u8],
 ) -> Result<bool, Memory> {
@@ -179,7 +180,7 @@ fn is_lent<K: Drawn, Q: TrieKey>(
     alloc: Global,
     trie: &mut Trie<K, u64>,
     model: &mut Model,
-    random: &mut Random,
+    random: &mut SplitMix64,
     key: &Q,
     path: &[u8],
 ) -> Result<bool, Memory> {
@@ -197,11 +198,11 @@ pub fn is_written<K: Drawn, Q: TrieKey>(
     alloc: Global,
     trie: &mut Trie<K, u64>,
     model: &mut Model,
-    random: &mut Random,
+    random: &mut SplitMix64,
     key: &Q,
     path: &[u8],
 ) -> Result<bool, Memory> {
-    if random.is_even() {
+    if is_even(random) {
         is_opened(alloc, trie, model, random, key, path)
     } else {
         is_lent(alloc, trie, model, random, key, path)

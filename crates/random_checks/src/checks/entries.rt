@@ -3,8 +3,10 @@
 use crate::keys::Drawn;
 use crate::model::{Model, Stored};
 use crate::pairs::{are_found, are_taken, is_taken};
-use crate::random::Random;
+use crate::random::key_number;
 use radix_trie::{Memory, Trie, TrieCommon};
+use rand_core::Rng;
+use rand_xoshiro::SplitMix64;
 use std::alloc::Global;
 use std::mem;
 
@@ -48,12 +50,12 @@ fn are_added<K: Drawn>(
     alloc: Global,
     trie: &mut Trie<K, u64>,
     model: &mut Model,
-    random: &mut Random,
+    random: &mut SplitMix64,
 ) -> Result<bool, Memory> {
     let mut pairs = Vec::new(alloc);
     for _ in 0..AT_ONCE {
-        let number = random.key();
-        let value = random.draw();
+        let number = key_number(random);
+        let value = random.next_u64();
         pairs.push((K::drawn(alloc, number)?, value))?;
         model.insert(K::nibbles(alloc, number)?, Stored { number, value })?;
     }
@@ -109,14 +111,14 @@ pub fn is_entry_change<K: Drawn>(
     alloc: Global,
     trie: &mut Trie<K, u64>,
     model: &mut Model,
-    random: &mut Random,
+    random: &mut SplitMix64,
 ) -> Result<bool, Memory> {
-    match random.draw() % 32 {
-        0..=9 => is_entry_removed(alloc, trie, model, random.key()),
+    match random.next_u64() % 32 {
+        0..=9 => is_entry_removed(alloc, trie, model, key_number(random)),
         10..=13 => are_popped(alloc, trie, model, true),
         14..=17 => are_popped(alloc, trie, model, false),
         18..=25 => are_added(alloc, trie, model, random),
-        26..=27 => are_changed(alloc, trie, model, random.draw()),
+        26..=27 => are_changed(alloc, trie, model, random.next_u64()),
         28..=30 => are_handed_out(alloc, trie, &*model),
         _ => Ok(is_cleared(trie, model)),
     }

@@ -10,11 +10,13 @@ mod walks;
 use crate::actions::Action;
 use crate::keys::{Drawn, beginning};
 use crate::model::Model;
-use crate::random::Random;
+use crate::random::{is_even, key_number};
 use changes::{is_changed, is_cut, is_split, is_written};
 use entries::is_entry_change;
 use lookups::are_lookups;
 use radix_trie::{Memory, Trie, TrieKey};
+use rand_core::{Rng, SeedableRng};
+use rand_xoshiro::SplitMix64;
 use runs::{is_run, is_run_within};
 use std::alloc::Global;
 use trie_samples::list;
@@ -30,14 +32,14 @@ struct Check<K: Drawn> {
     alloc: Global,
     trie: Trie<K, u64>,
     model: Model,
-    random: Random,
+    random: SplitMix64,
 }
 
 impl<K: Drawn> Check<K> {
     /// Carries one random command out. False: the trie and the model disagree.
     fn agrees(&mut self) -> Result<bool, Memory> {
         let alloc = self.alloc;
-        match self.random.draw() % 64 {
+        match self.random.next_u64() % 64 {
             0..=24 => {
                 let action = Action::drawn(&mut self.random);
                 is_changed(alloc, &mut self.trie, &mut self.model, action)
@@ -54,8 +56,8 @@ impl<K: Drawn> Check<K> {
     /// Look-ups of a key, or of a beginning of one.
     fn reads_agree(&mut self) -> Result<bool, Memory> {
         let alloc = self.alloc;
-        if self.random.is_even() {
-            let at = self.random.key();
+        if is_even(&mut self.random) {
+            let at = key_number(&mut self.random);
             let key = K::drawn(alloc, at)?;
             let path = K::nibbles(alloc, at)?;
             return self.reads_at(&key, path.as_slice());
@@ -67,8 +69,8 @@ impl<K: Drawn> Check<K> {
 
     /// Look-ups of a key whose encoding is the path.
     fn reads_at<Q: TrieKey>(&mut self, key: &Q, path: &[u8]) -> Result<bool, Memory> {
-        let most = (self.random.draw() % 16) as usize;
-        let number = self.random.key();
+        let most = (self.random.next_u64() % 16) as usize;
+        let number = key_number(&mut self.random);
         let Check {
             alloc,
             trie,
@@ -91,8 +93,8 @@ impl<K: Drawn> Check<K> {
             random,
             ..
         } = self;
-        if random.is_even() {
-            let at = random.key();
+        if is_even(random) {
+            let at = key_number(random);
             let key = K::drawn(alloc, at)?;
             let path = K::nibbles(alloc, at)?;
             return is_written(alloc, trie, model, random, &key, path.as_slice());
@@ -112,7 +114,7 @@ impl<K: Drawn> Check<K> {
         } = self;
         let path = beginning::<K>(*alloc, random)?;
         let key = list(*alloc, path.as_slice())?;
-        if random.is_even() {
+        if is_even(random) {
             is_cut(*alloc, trie, model, &key, path.as_slice())
         } else {
             is_split(*alloc, trie, &*model, &key, path.as_slice())
@@ -130,7 +132,7 @@ pub fn first_disagreement<K: Drawn>(
         alloc,
         trie: Trie::new(alloc),
         model: Model::new(alloc),
-        random: Random::new(seed),
+        random: SplitMix64::seed_from_u64(seed),
     };
     for before in 0..count {
         let number = before.saturating_add(1);

@@ -3,8 +3,9 @@
 use crate::actions::{Action, Expected, Kind, by_model, is_reply};
 use crate::keys::Drawn;
 use crate::model::Model;
-use crate::random::Random;
+use crate::random::key_number;
 use radix_trie::{Command, Memory, Reply, Trie, ViewCommand, run};
+use rand_xoshiro::SplitMix64;
 use std::alloc::Global;
 
 /// How many commands a list has.
@@ -48,7 +49,7 @@ pub fn is_run<K: Drawn>(
     alloc: Global,
     trie: &mut Trie<K, u64>,
     model: &mut Model,
-    random: &mut Random,
+    random: &mut SplitMix64,
 ) -> Result<bool, Memory> {
     let mut commands = Vec::new(alloc);
     let mut wanted = Vec::new(alloc);
@@ -57,7 +58,7 @@ pub fn is_run<K: Drawn>(
         commands.push(command(alloc, action)?)?;
         wanted.push(by_model::<K>(alloc, model, &[], action)?)?;
     }
-    let number = random.key();
+    let number = key_number(random);
     let list = K::nibbles(alloc, number)?;
     let above = model.nearest(list.as_slice())?;
     commands.push(Command::Ancestor(K::drawn(alloc, number)?))?;
@@ -79,9 +80,9 @@ pub fn is_run_within<K: Drawn>(
     alloc: Global,
     trie: &mut Trie<K, u64>,
     model: &mut Model,
-    random: &mut Random,
+    random: &mut SplitMix64,
 ) -> Result<bool, Memory> {
-    let at = random.key();
+    let at = key_number(random);
     let path = K::nibbles(alloc, at)?;
     let is_point = model.is_point(path.as_slice());
     let mut inner = Vec::new(alloc);

@@ -5,7 +5,7 @@ use radix_trie::{Bits, Memory};
 use std::alloc::Global;
 
 /// The counts of bits that are asked for, some beyond what a call has.
-const COUNTS: [usize; 8] = [0, 1, 2, 3, 5, 8, 31, 41];
+const COUNTS: &'static [usize] = &[0, 1, 2, 3, 5, 8, 31, 41];
 
 /// The count of bits that a number stands for.
 fn count_of(number: u8) -> usize {

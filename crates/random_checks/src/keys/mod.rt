@@ -7,8 +7,10 @@ mod scalars;
 mod sequences;
 mod wrappers;
 
-use crate::random::Random;
+use crate::random::key_number;
 use radix_trie::{Memory, TrieKey};
+use rand_core::Rng;
+use rand_xoshiro::SplitMix64;
 use std::alloc::Global;
 
 /// A type of keys of which each number stands for one. Many of them begin others, and some numbers stand for the same key.
@@ -44,10 +46,10 @@ fn bytes_of<const WIDTH: usize>(number: u8) -> [u8; WIDTH] {
 }
 
 /// The first nibbles of a random key's encoding: none of them, some, or all.
-pub fn beginning<K: Drawn>(alloc: Global, random: &mut Random) -> Result<Vec<u8>, Memory> {
-    let mut nibbles = K::nibbles(alloc, random.key())?;
+pub fn beginning<K: Drawn>(alloc: Global, random: &mut SplitMix64) -> Result<Vec<u8>, Memory> {
+    let mut nibbles = K::nibbles(alloc, key_number(random))?;
     let lengths = (nibbles.len() as u64).saturating_add(1);
-    let length = random.draw().checked_rem(lengths).unwrap_or(0);
+    let length = random.next_u64().checked_rem(lengths).unwrap_or(0);
     nibbles.truncate(length as usize);
     Ok(nibbles)
 }

@@ -15,7 +15,7 @@ impl Drawn for bool {
 }
 
 /// Characters, each with the four bytes of its scalar value.
-const CHARACTERS: [(char, [u8; 4]); 16] = [
+const CHARACTERS: &'static [(char, [u8; 4])] = &[
     ('\0', [0, 0, 0, 0x00]),
     ('\u{1}', [0, 0, 0, 0x01]),
     ('\u{f}', [0, 0, 0, 0x0f]),

@@ -51,7 +51,7 @@ impl Drawn for String {
 }
 
 /// Texts that live as long as the program, beyond ASCII too.
-const WORDS: [&'static str; 8] = ["", "a", "ab", "abc", "abd", "b", "bä", "bär"];
+const WORDS: &'static [&'static str] = &["", "a", "ab", "abc", "abd", "b", "bä", "bär"];
 
 /// The word that a number stands for.
 fn word(number: u8) -> &'static str {

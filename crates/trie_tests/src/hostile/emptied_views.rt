@@ -71,7 +71,7 @@ fn is_bare(view: &View<'_>) -> Result<bool, Memory> {
 fn check_half(rt: &impl Abort, alloc: Global, view: &View<'_>) -> Result<(), Memory> {
     assert!(rt; is_sized(view, 1, false));
     assert!(rt; has_one_child(view, alloc, "abd", 6)?);
-    assert!(rt; has_prefix(view, alloc, &PARTING)?);
+    assert!(rt; has_prefix(view, alloc, PARTING)?);
     Ok(())
 }
 
@@ -90,7 +90,7 @@ fn check_parting(rt: &impl Abort, alloc: Global, view: &mut View<'_>) -> Result<
 
 /// The trie has abc alone, and the parting is a point no more.
 fn check_after(rt: &impl Abort, alloc: Global, trie: &mut Texts) -> Result<(), Memory> {
-    let parting = list(alloc, &PARTING)?;
+    let parting = list(alloc, PARTING)?;
     assert!(rt; trie.footprint() == (2, 6));
     assert!(rt; trie.get(&"abc")? == Some(&3));
     assert!(rt; matches!(trie.subtrie_mut(&parting), Ok(None)));
@@ -100,7 +100,7 @@ fn check_after(rt: &impl Abort, alloc: Global, trie: &mut Texts) -> Result<(), M
 
 /// By the view that `subtrie_mut` opens. False: it opens none.
 fn check_subtrie(rt: &impl Abort, alloc: Global, trie: &mut Texts) -> Result<bool, Memory> {
-    let parting = list(alloc, &PARTING)?;
+    let parting = list(alloc, PARTING)?;
     match trie.subtrie_mut(&parting)? {
         Some(mut view) => {
             check_parting(rt, alloc, &mut view)?;
@@ -112,7 +112,7 @@ fn check_subtrie(rt: &impl Abort, alloc: Global, trie: &mut Texts) -> Result<boo
 
 /// By the view that `open_mut` opens. False: it opens none.
 fn check_opened(rt: &impl Abort, alloc: Global, trie: &mut Texts) -> Result<bool, Memory> {
-    let parting = list(alloc, &PARTING)?;
+    let parting = list(alloc, PARTING)?;
     match trie.open_mut(&parting) {
         Ok(mut view) => {
             check_parting(rt, alloc, &mut view)?;

@@ -27,8 +27,8 @@ fn outer(alloc: Global) -> Result<Vec<Command<Nibblet, u64>>, Memory> {
     Ok(vec![in alloc;
         Command::Insert(list(alloc, ABC)?, 1),
         Command::Insert(list(alloc, ABD)?, 2),
-        Command::Within(list(alloc, &PARTING)?, inner(alloc)?),
-        Command::Within(list(alloc, &PARTING)?, Vec::new(alloc)),
+        Command::Within(list(alloc, PARTING)?, inner(alloc)?),
+        Command::Within(list(alloc, PARTING)?, Vec::new(alloc)),
     ]?)
 }
 

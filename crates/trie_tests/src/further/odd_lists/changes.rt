@@ -47,7 +47,7 @@ fn removals(rt: HostRuntime) -> Result<(), Memory> {
 #[test]
 fn first_lists_until_none_is_left(rt: HostRuntime) -> Result<(), Memory> {
     let mut trie = odd_trie(rt.alloc())?;
-    for (_, value) in &ODD {
+    for (_, value) in ODD {
         assert!(rt;
             is_taken(rt.alloc(), &trie.pop_first()?, Some(*value))?,
             "{value}"

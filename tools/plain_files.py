@@ -48,11 +48,14 @@ def put_bytes(text, to, room, mode=0o644):
     os.replace(f"{room}/file", to)
 
 
-def remove(path):
-    """Removes a file, and the folders on the way to it that are then empty."""
+def remove(path, top):
+    """Removes a file, and the folders on the way to it that are then empty, as far as they lie below the folder top."""
     os.remove(path)
+    folder = os.path.dirname(path)
     with contextlib.suppress(OSError):
-        os.removedirs(os.path.dirname(path))
+        while folder.startswith(f"{top}/"):
+            os.rmdir(folder)
+            folder = os.path.dirname(folder)
 
 
 def run(name, main):

@@ -60,7 +60,7 @@ def remove(path, top):
 
 def run(name, main):
     """Runs a script of this name: where a signal ends it, what it has made for itself goes, and what stands in its way is one line."""
-    for number in (signal.SIGHUP, signal.SIGTERM):
+    for number in (signal.SIGHUP, signal.SIGINT, signal.SIGTERM):
         signal.signal(number, lambda it, _: sys.exit(128 + it))
     try:
         sys.exit(main(sys.argv[1:]))

@@ -50,10 +50,20 @@ pub enum BytesError {
 ///
 /// Each byte holds two nibbles, the first in its high half. Where the count is odd the low half
 /// of the last byte is unused, and zero.
-#[derive(Drop)]
 pub struct NibbleVec {
     bytes: SmallVec<u8, 16>,
     is_odd: bool,
+}
+
+/// Written, since each place that drops a list would otherwise be proved over both forms of its
+/// small vector.
+impl Drop for NibbleVec {
+    fn drop(self) {
+        let NibbleVec {
+            bytes: _bytes,
+            is_odd: _,
+        } = self;
+    }
 }
 
 /// The list of nibbles that a key is encoded as.

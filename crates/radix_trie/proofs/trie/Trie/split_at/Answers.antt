@@ -16,7 +16,6 @@ use Rattle.radix_trie.proofs.ChangeLemmas.Prunings.{branch_at, small_root, path_
 use Rattle.radix_trie.proofs.ChangeLemmas.Splits.{cut_is_small, nearest_in_equal, apart_in_equal, part_kept, map_of-part}
 use Rattle.radix_trie.proofs.PathLemmas.Places.{false_is_not_true}
 use Rattle.radix_trie.proofs.trie.Trie.split_at.Goals as goal
-use Rattle.radix_trie.proofs.trie.Trie.split_at.Goals.{in-Heap-2, in-Inline-2}
 
 pub returns-in_err-view-clause-none : goal.returns-in_err-view-clause-none
 returns-in_err-view-clause-none g c = λ none.
@@ -158,10 +157,7 @@ returns-in-Ok-None-clause-removed g c =
     let o = rw c.in-Ok-None.field-0-is at c.in-Ok-None.ensures in
     let apart = subst (λ p. (q : _) → IsPath (tree_of root) q → IsPrefix p q → ⊥) (append-root_fragment root c.args.list.now c.args.list.now c.self.invariant.top refl) o.1 in
     let same = map_of-nothing_below g.K.TrieKey.encoding (tree_of root) _ _ _ c.self.invariant c.args.list.now apart (tree_of c.cut_branch.new.root) o.0 in
-    rw (← c.self.view_is) (elim c.match-path-2.branch [
-      | in-Heap-2 w ↦ w.self-is ∙ same
-      | in-Inline-2 w ↦ w.self-is ∙ same
-    ])
+    rw (← c.self.view_is) same
 
 pub returns-in-Err-clause-none : goal.returns-in-Err-clause-none
 returns-in-Err-clause-none g c = λ none.

@@ -8,10 +8,6 @@ pub loop-children-smaller-then-is_empty : goal.loop-children-smaller-then-is_emp
 loop-children-smaller-then-is_empty g t c =
     rw c.into_inner-self.ensures (work_of_only_child c.loop-children.self c.pop.new.self.items c.in-Some.below c.in-Some.ensures.items (empty_of_length c.pop.new.self.items (search rules)))
 
-pub loop-children-smaller-then-is_empty-2 : goal.loop-children-smaller-then-is_empty-2
-loop-children-smaller-then-is_empty-2 g t c =
-    rw c.into_inner-self.ensures (work_of_only_child c.loop-children.self c.pop.new.self.items c.in-Some.below c.in-Some.ensures.items (empty_of_length c.pop.new.self.items (search rules)))
-
 pub loop-children-smaller-in-None-pop : goal.loop-children-smaller-in-None-pop
 loop-children-smaller-in-None-pop g t c =
     work_without_leaf c.loop-children.self _ c.pop.new.self.items c.in-Some.below c.in-Some.ensures.items (search rules) (ap (λ x. x.children.items) (out-roll-TrieNode _ _ _))

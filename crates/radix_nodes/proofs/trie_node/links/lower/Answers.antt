@@ -6,9 +6,9 @@ use Rattle.radix_nodes.proofs.trie_node.links.lower.Goals as goal
 
 pub returns-clause-tree : goal.returns-clause-tree
 returns-clause-tree g c =
-    let u = c.deref_mut-4.result.now in
+    let u = c.deref_mut-2.result.now in
     let s = c.deref_mut.result.now in
-    let eu : u ≡ c.args.upper.value = c.deref_mut-4.ensures.value ∙ ap (λ b. b.value) c.replace-below.ensures.after in
+    let eu : u ≡ c.args.upper.value = c.deref_mut-2.ensures.value ∙ ap (λ b. b.value) c.replace-below.ensures.after in
     let es : s ≡ c.args.slot.now.value = c.deref_mut.ensures.value ∙ ap (λ b. b.value) c.replace-below.ensures.value in
     let up : IsUpper (fragment_of u) c.args.tail u = subst (λ n. IsUpper (fragment_of n) c.args.tail n) (sym eu) c.requires in
     tree_of-lowered u s _ c.push.new.self c.args.tail up (rw c.unwrap.ensures at c.push.ensures.items) refl

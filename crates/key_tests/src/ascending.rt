@@ -4,12 +4,12 @@ use radix_trie::{Ascending, Memory, Trie, TrieCommon};
 use std::alloc::{AllocError, Global};
 
 /// The keys of the sample, with their values.
-const SAMPLE: [(i8, u64); 4] = [(-2, 5), (-1, 6), (0, 7), (1, 8)];
+const SAMPLE: &'static [(i8, u64)] = &[(-2, 5), (-1, 6), (0, 7), (1, 8)];
 
 /// The trie of the plain keys.
 fn plain(alloc: Global) -> Trie<i8, u64> {
     let mut trie = Trie::new(alloc);
-    for (key, value) in SAMPLE {
+    for &(key, value) in SAMPLE {
         let _ = trie.insert(key, value);
     }
     trie
@@ -39,7 +39,7 @@ fn moved_keys_walk(rt: HostRuntime) -> Result<(), Memory> {
         assert!(rt; false);
         return Ok(());
     };
-    for (number, value) in SAMPLE {
+    for &(number, value) in SAMPLE {
         match walk.next() {
             Some((key, stored)) => {
                 assert_eq!(rt; key.value(), number);

@@ -9,7 +9,7 @@ use std::test::Fail;
 type Lengths = Trie<&'static [u8], usize>;
 
 /// The longest key. The others are its beginnings.
-const LETTERS: [u8; 100] = [b'a'; 100];
+const LETTERS: &'static [u8] = &[b'a'; 100];
 
 /// A trie of all beginnings, the empty one too.
 fn nested(rt: &impl Abort, alloc: Global) -> Lengths {

@@ -19,7 +19,7 @@ const ROWS: &'static [Row] = &[
     (
         "from_iter.sample",
         Held::Empty,
-        Call::FromIter(&SAMPLE, Held::Seven),
+        Call::FromIter(SAMPLE, Held::Seven),
         Held::Empty,
     ),
     (

@@ -42,7 +42,7 @@ fn route<'a, V>(
 
 /// Networks inside one another, from 10.0.0.0/8 to 10.1.2.0/24 and from 192.0.2.0/31 to 192.0.2.1/32. The last one is all
 /// addresses.
-const NETWORKS: [(u32, usize, u32); 6] = [
+const NETWORKS: &'static [(u32, usize, u32)] = &[
     (0x0a00_0000, 8, 1),
     (0x0a01_0000, 16, 2),
     (0x0a01_0200, 24, 3),
@@ -74,7 +74,7 @@ fn check_routes(
 
 #[test]
 fn longest_networks_of_addresses(rt: HostRuntime) -> Result<(), Memory> {
-    const WITH_ALL: [Row; 8] = [
+    const WITH_ALL: &'static [Row] = &[
         (0x0a01_0203, Some((24, 3))),
         (0x0a01_0303, Some((16, 2))),
         (0x0a02_0203, Some((8, 1))),
@@ -84,12 +84,12 @@ fn longest_networks_of_addresses(rt: HostRuntime) -> Result<(), Memory> {
         (0xc000_0202, Some((0, 6))),
         (0xffff_ffff, Some((0, 6))),
     ];
-    const WITHOUT: [Row; 3] = [
+    const WITHOUT: &'static [Row] = &[
         (0x0a01_0203, Some((24, 3))),
         (0x0aff_ffff, Some((8, 1))),
         (0x0b01_0203, None),
     ];
-    check_routes(&rt, rt.alloc(), &NETWORKS, &WITH_ALL)?;
-    check_routes(&rt, rt.alloc(), &NETWORKS[..5], &WITHOUT)?;
+    check_routes(&rt, rt.alloc(), NETWORKS, WITH_ALL)?;
+    check_routes(&rt, rt.alloc(), &NETWORKS[..5], WITHOUT)?;
     check_routes(&rt, rt.alloc(), &[], &[(0x0a01_0203, None)])
 }

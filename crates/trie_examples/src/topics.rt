@@ -36,7 +36,7 @@ fn sizes<K: TrieKey, V>(
 }
 
 /// Topics of a forum, each with its count of messages.
-const FORUM: [(&'static str, u64); 5] = [
+const FORUM: &'static [(&'static str, u64)] = &[
     ("music", 4),
     ("music/rock", 20),
     ("music/rock/live", 7),
@@ -66,7 +66,7 @@ fn parts_in_two(alloc: Global, topics: &mut Texts, at: &'static str) -> Result<b
 /// One branch is closed topic by topic, and the others stay.
 #[test]
 fn closed_topics(rt: HostRuntime) -> Result<(), Memory> {
-    let mut topics = texts(rt.alloc(), &FORUM)?;
+    let mut topics = texts(rt.alloc(), FORUM)?;
     assert!(rt; close(&mut topics, &"music/rock") == Ok(1));
     assert!(rt; close(&mut topics, &"music") == Ok(2));
     assert!(rt; close(&mut topics, &"sport") == Err(OpenError::Closed));
@@ -103,7 +103,7 @@ fn check_branch(rt: &impl Abort, alloc: Global, topics: &mut Texts) -> Result<()
 /// The branches of a tree, from the outermost one on, and writes below one of them alone.
 #[test]
 fn branches(rt: HostRuntime) -> Result<(), Memory> {
-    let mut topics = texts(rt.alloc(), &FORUM)?;
+    let mut topics = texts(rt.alloc(), FORUM)?;
     check_branch(&rt, rt.alloc(), &mut topics)?;
     assert!(rt; have_sizes(rt.alloc(), topics.children()?, &[5, 1])?);
     Ok(())

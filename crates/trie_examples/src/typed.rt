@@ -29,14 +29,14 @@ fn completed<'a, V>(
 /// The rows: what is typed, and the words that it may become.
 #[test]
 fn words_that_begin_so(rt: HostRuntime) -> Result<(), Memory> {
-    const WORDS: [(&'static str, u64); 5] = [
+    const WORDS: &'static [(&'static str, u64)] = &[
         ("tea", 1),
         ("ten", 2),
         ("team", 3),
         ("to", 4),
         ("inn", 5),
     ];
-    let words = texts(rt.alloc(), &WORDS)?;
+    let words = texts(rt.alloc(), WORDS)?;
     for (typed, wanted) in [
         ("te", &["tea", "team", "ten"][..]),
         ("tea", &["tea", "team"][..]),

@@ -92,31 +92,31 @@ fn check_hops(
 /// Routes to networks of 8, 16 and 24 bits, each inside the one before.
 #[test]
 fn longest_prefix_of_an_address(rt: HostRuntime) -> Result<(), Memory> {
-    const NETWORKS: [(u32, usize, u32); 3] = [
+    const NETWORKS: &'static [(u32, usize, u32)] = &[
         (0x0a00_0000, 8, 1),
         (0x0a01_0000, 16, 2),
         (0x0a01_0200, 24, 3),
     ];
-    const ROWS: [(u32, Option<u32>); 4] = [
+    const ROWS: &'static [(u32, Option<u32>)] = &[
         (0x0a01_0203, Some(3)),
         (0x0a01_0303, Some(2)),
         (0x0a02_0203, Some(1)),
         (0x0b01_0203, None),
     ];
-    let table = routes(rt.alloc(), &NETWORKS)?;
-    check_hops(&rt, rt.alloc(), &table, &ROWS)
+    let table = routes(rt.alloc(), NETWORKS)?;
+    check_hops(&rt, rt.alloc(), &table, ROWS)
 }
 
 #[test]
 fn words_with_a_beginning(rt: HostRuntime) -> Result<(), Memory> {
-    const WORDS: [(&'static str, u64); 5] = [
+    const WORDS: &'static [(&'static str, u64)] = &[
         ("tea", 1),
         ("ten", 2),
         ("team", 3),
         ("to", 4),
         ("inn", 5),
     ];
-    let words = texts(rt.alloc(), &WORDS)?;
+    let words = texts(rt.alloc(), WORDS)?;
     let of_te = completions(rt.alloc(), &words, &"te")?;
     assert!(rt; of_te.as_slice() == [1, 3, 2].as_slice());
     assert!(rt; completions(rt.alloc(), &words, &"x")?.is_empty());
@@ -138,11 +138,11 @@ fn check_widths(
 
 #[test]
 fn setting_of_the_nearest_folder(rt: HostRuntime) -> Result<(), Memory> {
-    const ROWS: [(&'static str, u64); 4] = [
+    const ROWS: &'static [(&'static str, u64)] = &[
         ("/home/ada/notes", 120),
         ("/home/bob/notes", 100),
         ("/etc/passwd", 80),
         ("relative", 72),
     ];
-    check_widths(&rt, rt.alloc(), &ROWS)
+    check_widths(&rt, rt.alloc(), ROWS)
 }

@@ -11,7 +11,7 @@ use std::alloc::Global;
 pub type Texts = Trie<&'static str, u64>;
 
 /// The sample's pairs, in the order in which they are inserted.
-pub const SAMPLE: [(&'static str, u64); 7] = [
+pub const SAMPLE: &'static [(&'static str, u64)] = &[
     ("abcdefgh", 19),
     ("abcdef", 18),
     ("abcd", 17),

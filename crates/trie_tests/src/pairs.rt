@@ -3,7 +3,7 @@
 use trie_samples::Texts;
 
 /// The sample's pairs, in the order of walks.
-pub(crate) const IN_ORDER: [(&'static str, u64); 7] = [
+pub(crate) const IN_ORDER: &'static [(&'static str, u64)] = &[
     ("a", 15),
     ("ab", 16),
     ("abcd", 17),

@@ -35,7 +35,7 @@ fn check_apart(rt: &impl Abort, trie: &mut Texts, copy: &mut Texts) {
     assert!(rt; *trie == *copy);
     assert!(rt; is_stored(trie, "abc", 22, None));
     assert!(rt; *trie != *copy);
-    assert!(rt; holds(&*copy, &SAMPLE));
+    assert!(rt; holds(&*copy, SAMPLE));
     assert!(rt; is_stored(copy, "abc", 22, None));
     assert!(rt; *trie == *copy);
 }
@@ -43,7 +43,7 @@ fn check_apart(rt: &impl Abort, trie: &mut Texts, copy: &mut Texts) {
 /// A clone is equal until one of the two is written, and again when both are.
 #[test]
 fn clone_stands_alone(rt: HostRuntime) -> Result<(), Memory> {
-    let mut trie = texts(rt.alloc(), &SAMPLE)?;
+    let mut trie = texts(rt.alloc(), SAMPLE)?;
     let mut copy = trie.clone()?;
     check_apart(&rt, &mut trie, &mut copy);
     Ok(())

@@ -11,8 +11,8 @@ type Pairs = &'static [(&'static str, u64)];
 /// What a trie holds, what is added, and what it holds then.
 const ROWS: &'static [(Pairs, Pairs, Pairs)] = &[
     (&[], &[], &[]),
-    (&[], &SAMPLE, &SAMPLE),
-    (&SAMPLE, &[], &SAMPLE),
+    (&[], SAMPLE, SAMPLE),
+    (SAMPLE, &[], SAMPLE),
     (
         &[("a", 1), ("b", 2)],
         &[("", 3), ("a", 4), ("ab", 6), ("a", 5)],

@@ -40,7 +40,7 @@ fn check_ends(
 #[test]
 fn ends_of_tries(rt: HostRuntime) -> Result<(), Memory> {
     const OF_SAMPLE: Ends = Some((("a", 15), ("bcdefgh", 29)));
-    check_ends(&rt, rt.alloc(), &SAMPLE, &OF_SAMPLE)?;
+    check_ends(&rt, rt.alloc(), SAMPLE, &OF_SAMPLE)?;
     check_ends(&rt, rt.alloc(), &[], &None)?;
     check_ends(&rt, rt.alloc(), &[("", 5)], &Some((("", 5), ("", 5))))?;
     check_ends(
@@ -64,7 +64,7 @@ const BELOW: &'static [(&'static [u8], Ends)] = &[
 
 #[test]
 fn ends_below_points(rt: HostRuntime) -> Result<(), Memory> {
-    let trie = texts(rt.alloc(), &SAMPLE)?;
+    let trie = texts(rt.alloc(), SAMPLE)?;
     for (nibbles, wanted) in BELOW {
         let list = list(rt.alloc(), nibbles)?;
         let Some(view) = trie.subtrie(&list)? else {
@@ -89,7 +89,7 @@ fn has_ends(trie: &mut Texts, key: &'static str, wanted: &Ends) -> bool {
 
 #[test]
 fn ends_below_a_view_for_writing(rt: HostRuntime) -> Result<(), Memory> {
-    let mut trie = texts(rt.alloc(), &SAMPLE)?;
+    let mut trie = texts(rt.alloc(), SAMPLE)?;
     assert!(rt; has_ends(&mut trie, "abcd", &Some((("abcd", 17), ("abcdefgh", 19)))));
     Ok(())
 }

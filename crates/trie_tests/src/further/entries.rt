@@ -35,7 +35,7 @@ fn check_stored(
 #[test]
 fn stored_pairs(rt: HostRuntime) -> Result<(), Memory> {
     const NOTHING: &'static [Row] = &[("", None), ("a", None)];
-    check_stored(&rt, rt.alloc(), &SAMPLE, ROWS)?;
+    check_stored(&rt, rt.alloc(), SAMPLE, ROWS)?;
     check_stored(&rt, rt.alloc(), &[], NOTHING)?;
     check_stored(&rt, rt.alloc(), &[("", 5)], &[("", Some(("", 5)))])
 }
@@ -43,7 +43,7 @@ fn stored_pairs(rt: HostRuntime) -> Result<(), Memory> {
 /// Each row's pair goes from the sample, which has this footprint then.
 fn check_removed(rt: &impl Abort, alloc: Global, row: &(Row, (u128, u128))) -> Result<(), Memory> {
     let ((key, pair), footprint) = row;
-    let mut trie = texts(alloc, &SAMPLE)?;
+    let mut trie = texts(alloc, SAMPLE)?;
     let gone = trie.remove_entry(key)?;
     assert!(rt; gone == *pair, "{key}");
     assert!(rt; trie.footprint() == *footprint, "{key}");
@@ -78,7 +78,7 @@ fn no_pair_in_the_empty_trie(rt: HostRuntime) -> Result<(), Memory> {
 /// Nothing is left, and the trie takes pairs again.
 #[test]
 fn all_cleared(rt: HostRuntime) -> Result<(), Memory> {
-    let mut trie = texts(rt.alloc(), &SAMPLE)?;
+    let mut trie = texts(rt.alloc(), SAMPLE)?;
     trie.clear();
     assert!(rt; trie.is_empty());
     assert!(rt; trie.footprint() == (1, 0));

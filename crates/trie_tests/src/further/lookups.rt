@@ -97,7 +97,7 @@ fn check_rows(
 
 #[test]
 fn by_lists(rt: HostRuntime) -> Result<(), Memory> {
-    check_rows(&rt, rt.alloc(), &SAMPLE, ROWS)
+    check_rows(&rt, rt.alloc(), SAMPLE, ROWS)
 }
 
 #[test]

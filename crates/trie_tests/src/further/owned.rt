@@ -41,15 +41,15 @@ fn check_pairs(
 
 #[test]
 fn all_pairs_in_order(rt: HostRuntime) -> Result<(), Memory> {
-    check_pairs(&rt, rt.alloc(), &SAMPLE, &IN_ORDER)?;
+    check_pairs(&rt, rt.alloc(), SAMPLE, IN_ORDER)?;
     check_pairs(&rt, rt.alloc(), &[], &[])
 }
 
 /// One pair after another, until none is left.
 #[test]
 fn first_pairs_until_none_is_left(rt: HostRuntime) -> Result<(), Memory> {
-    let mut trie = texts(rt.alloc(), &SAMPLE)?;
-    for pair in &IN_ORDER {
+    let mut trie = texts(rt.alloc(), SAMPLE)?;
+    for pair in IN_ORDER {
         assert!(rt; trie.pop_first()? == Some(*pair), "{}", pair.0);
     }
     assert!(rt; trie.pop_first()?.is_none());
@@ -60,7 +60,7 @@ fn first_pairs_until_none_is_left(rt: HostRuntime) -> Result<(), Memory> {
 /// The same from the end.
 #[test]
 fn last_pairs_until_none_is_left(rt: HostRuntime) -> Result<(), Memory> {
-    let mut trie = texts(rt.alloc(), &SAMPLE)?;
+    let mut trie = texts(rt.alloc(), SAMPLE)?;
     for pair in IN_ORDER.iter().rev() {
         assert!(rt; trie.pop_last()? == Some(*pair), "{}", pair.0);
     }

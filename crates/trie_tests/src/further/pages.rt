@@ -34,8 +34,8 @@ fn has_firsts<Q: TrieKey>(
 
 #[test]
 fn first_pairs_below_texts(rt: HostRuntime) -> Result<(), Memory> {
-    let trie = texts(rt.alloc(), &SAMPLE)?;
-    assert!(rt; has_firsts(&trie, &"", &IN_ORDER)?);
+    let trie = texts(rt.alloc(), SAMPLE)?;
+    assert!(rt; has_firsts(&trie, &"", IN_ORDER)?);
     assert!(rt;
         has_firsts(
             &trie,
@@ -60,7 +60,7 @@ fn first_pairs_below_texts(rt: HostRuntime) -> Result<(), Memory> {
 /// A list that ends inside a byte, and one that parts inside one.
 #[test]
 fn first_pairs_below_odd_lists(rt: HostRuntime) -> Result<(), Memory> {
-    let trie = texts(rt.alloc(), &SAMPLE)?;
+    let trie = texts(rt.alloc(), SAMPLE)?;
     let inside = list(rt.alloc(), &[6, 1, 6])?;
     assert!(rt; has_firsts(&trie, &inside, &IN_ORDER[1..6])?);
     let parted = list(rt.alloc(), &[6, 1, 7])?;

@@ -58,7 +58,7 @@ fn prefixes_of_texts(rt: HostRuntime) -> Result<(), Memory> {
         ("bcdefgh", &[("bcdefgh", 29)]),
     ];
     const BELOW_EMPTY: &'static [Row] = &[("", &[("", 5)]), ("ab", &[("", 5), ("a", 6)])];
-    check_rows(&rt, rt.alloc(), &SAMPLE, OF_SAMPLE)?;
+    check_rows(&rt, rt.alloc(), SAMPLE, OF_SAMPLE)?;
     check_rows(&rt, rt.alloc(), &[], &[("", &[]), ("ab", &[])])?;
     check_rows(
         &rt,
@@ -71,7 +71,7 @@ fn prefixes_of_texts(rt: HostRuntime) -> Result<(), Memory> {
 /// A list that ends inside a byte, and one that parts inside one.
 #[test]
 fn prefixes_of_odd_lists(rt: HostRuntime) -> Result<(), Memory> {
-    let trie = texts(rt.alloc(), &SAMPLE)?;
+    let trie = texts(rt.alloc(), SAMPLE)?;
     let inside = list(rt.alloc(), &[6, 1, 6, 2, 6])?;
     assert!(rt; are_prefixes(&trie, &inside, &[("a", 15), ("ab", 16)])?);
     let parted = list(rt.alloc(), &[6, 1, 6, 9])?;

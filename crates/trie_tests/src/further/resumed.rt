@@ -26,7 +26,7 @@ fn goes_on<Q: TrieKey>(trie: &Texts, key: &Q, from: usize, after: usize) -> Resu
 /// Keys that are stored, that lie between stored ones, and that are prefixes of stored ones or go on from them.
 #[test]
 fn walks_from_texts(rt: HostRuntime) -> Result<(), Memory> {
-    let trie = texts(rt.alloc(), &SAMPLE)?;
+    let trie = texts(rt.alloc(), SAMPLE)?;
     for (key, from, after) in [
         ("", 0, 0),
         ("A", 0, 0),
@@ -52,7 +52,7 @@ fn walks_from_texts(rt: HostRuntime) -> Result<(), Memory> {
 /// Lists that end inside a byte.
 #[test]
 fn walks_from_odd_lists(rt: HostRuntime) -> Result<(), Memory> {
-    let trie = texts(rt.alloc(), &SAMPLE)?;
+    let trie = texts(rt.alloc(), SAMPLE)?;
     assert!(rt; goes_on(&trie, &list(rt.alloc(), &[6])?, 0, 0)?);
     assert!(rt; goes_on(&trie, &list(rt.alloc(), &[6, 1, 6])?, 1, 1)?);
     assert!(rt; goes_on(&trie, &list(rt.alloc(), &[6, 1, 7])?, 6, 6)?);
@@ -75,7 +75,7 @@ fn walks_of_small_tries(rt: HostRuntime) -> Result<(), Memory> {
 /// What is at and below a view's path alone, for keys before the path, below it and after it.
 #[test]
 fn walks_of_views(rt: HostRuntime) -> Result<(), Memory> {
-    let trie = texts(rt.alloc(), &SAMPLE)?;
+    let trie = texts(rt.alloc(), SAMPLE)?;
     let Some(view) = trie.subtrie(&"abcd")? else {
         return Err(Memory);
     };
@@ -91,9 +91,9 @@ fn walks_of_views(rt: HostRuntime) -> Result<(), Memory> {
 /// A walk that is made anew after each of its pairs gives all pairs.
 #[test]
 fn walk_resumed_after_each_pair(rt: HostRuntime) -> Result<(), Memory> {
-    let trie = texts(rt.alloc(), &SAMPLE)?;
+    let trie = texts(rt.alloc(), SAMPLE)?;
     let mut last = "";
-    for pair in IN_ORDER {
+    for &pair in IN_ORDER {
         assert!(rt; is_pair(trie.iter_after(&last)?.next(), Some(pair)));
         last = pair.0;
     }

@@ -8,7 +8,7 @@ use std::test::Fail;
 use trie_samples::{Texts, texts};
 
 /// The longest text. The others are its beginnings.
-const LETTERS: [u8; 1000] = [b'a'; 1000];
+const LETTERS: &'static [u8] = &[b'a'; 1000];
 
 /// The texts of one letter to a thousand, each with its count of letters.
 fn pairs(alloc: Global) -> Result<Vec<(&'static str, u64)>, AllocError> {

@@ -12,7 +12,7 @@ fn begins(trie: &Texts) -> Result<bool, Memory> {
 /// A walk over the sample is left after two pairs, and the trie takes another one.
 #[test]
 fn left_after_two_pairs(rt: HostRuntime) -> Result<(), Memory> {
-    let mut trie = texts(rt.alloc(), &SAMPLE)?;
+    let mut trie = texts(rt.alloc(), SAMPLE)?;
     assert!(rt; begins(&trie)?);
     assert!(rt; matches!(trie.insert("b", 1), Ok(None)));
     assert!(rt; trie.len() == 8);

@@ -38,7 +38,7 @@ fn absent_keys_have_no_value(rt: HostRuntime) {
 #[test]
 fn sample_lacks_other_keys(rt: HostRuntime) -> Result<(), Memory> {
     const CALLS: &'static [Call] = &[Call::Get("nonexistant", None), Call::Get("", None)];
-    check_calls(&rt, rt.alloc(), &SAMPLE, CALLS)
+    check_calls(&rt, rt.alloc(), SAMPLE, CALLS)
 }
 
 /// After each insertion the nodes are as they should be, and at the end each key has its value.
@@ -86,7 +86,7 @@ fn sample_is_removed(rt: HostRuntime) -> Result<(), Memory> {
         Call::Get("bcdefgh", None),
         Call::Footprint(1, 0),
     ];
-    check_calls(&rt, rt.alloc(), &SAMPLE, CALLS)
+    check_calls(&rt, rt.alloc(), SAMPLE, CALLS)
 }
 
 /// A removal of one of two keys with a common beginning.
@@ -127,7 +127,7 @@ fn empty_key_in_the_sample(rt: HostRuntime) -> Result<(), Memory> {
         Call::Remove("", Some(99)),
         Call::Footprint(10, 38),
     ];
-    check_calls(&rt, rt.alloc(), &SAMPLE, CALLS)
+    check_calls(&rt, rt.alloc(), SAMPLE, CALLS)
 }
 
 /// The root stays when the last of its children goes.
@@ -167,7 +167,7 @@ fn compared_nibbles_in_the_sample(rt: HostRuntime) -> Result<(), Memory> {
         Call::GetCounted("", None, 0),
         Call::GetCounted("abcd", Some(17), 8),
     ];
-    check_calls(&rt, rt.alloc(), &SAMPLE, CALLS)
+    check_calls(&rt, rt.alloc(), SAMPLE, CALLS)
 }
 
 #[test]

@@ -41,7 +41,7 @@ fn written_in_its_place(rt: HostRuntime) -> Result<(), Memory> {
         ("acbdef", 30),
         ("bcdefgh", 29),
     ];
-    let mut trie = texts(rt.alloc(), &SAMPLE)?;
+    let mut trie = texts(rt.alloc(), SAMPLE)?;
     assert!(rt; write(&mut trie, &"abcd", 999) == Ok(()));
     assert!(rt; write(&mut trie, &"abc", 999) == Err(FindError::Absent));
     assert!(rt; has_value(&trie, "abc", None));
@@ -92,7 +92,7 @@ fn raise(trie: &mut Texts, key: &'static str) -> bool {
 /// A stored value is mapped in its place, and an absent key gets the default.
 #[test]
 fn mapped_or_stored(rt: HostRuntime) -> Result<(), Memory> {
-    let mut trie = texts(rt.alloc(), &SAMPLE)?;
+    let mut trie = texts(rt.alloc(), SAMPLE)?;
     assert!(rt; raise(&mut trie, "abcd"));
     assert!(rt; has_value(&trie, "abcd", Some(18)));
     assert!(rt; raise(&mut trie, "zzz"));

@@ -49,7 +49,7 @@ fn inner(alloc: Global, key: &'static str) -> Result<Vec<Command<&'static str, u
 /// The row, by commands.
 fn check_by_commands(rt: &impl Abort, alloc: Global, row: &Row) -> Result<(), Memory> {
     let commands = outer(alloc, row.key)?;
-    let mut trie = texts(alloc, &SAMPLE)?;
+    let mut trie = texts(alloc, SAMPLE)?;
     let replies = run(&mut trie, commands)?;
     assert!(rt;
         are_replies(replies.as_slice(), row, trie.len()),
@@ -62,7 +62,7 @@ fn check_by_commands(rt: &impl Abort, alloc: Global, row: &Row) -> Result<(), Me
 
 #[test]
 fn by_commands(rt: HostRuntime) -> Result<(), Memory> {
-    for row in &ROWS {
+    for row in ROWS {
         check_by_commands(&rt, rt.alloc(), row)?;
     }
     Ok(())
@@ -71,7 +71,7 @@ fn by_commands(rt: HostRuntime) -> Result<(), Memory> {
 /// The row, by commands in a view.
 fn check_by_commands_in_view(rt: &impl Abort, alloc: Global, row: &Row) -> Result<(), Memory> {
     let commands = inner(alloc, row.key)?;
-    let mut trie = texts(alloc, &SAMPLE)?;
+    let mut trie = texts(alloc, SAMPLE)?;
     let replies = run(&mut trie, commands)?;
     assert!(rt;
         are_replies_in_view(replies.as_slice(), row, trie.len()),
@@ -84,7 +84,7 @@ fn check_by_commands_in_view(rt: &impl Abort, alloc: Global, row: &Row) -> Resul
 
 #[test]
 fn by_commands_in_a_view(rt: HostRuntime) -> Result<(), Memory> {
-    for row in &ROWS {
+    for row in ROWS {
         check_by_commands_in_view(&rt, rt.alloc(), row)?;
     }
     Ok(())
@@ -107,7 +107,7 @@ fn is_outside_reply(replies: &[Reply<u64>]) -> bool {
 #[test]
 fn commands_outside_a_view(rt: HostRuntime) -> Result<(), Memory> {
     let commands = outside(rt.alloc())?;
-    let mut trie = texts(rt.alloc(), &SAMPLE)?;
+    let mut trie = texts(rt.alloc(), SAMPLE)?;
     let replies = run(&mut trie, commands)?;
     assert!(rt; is_outside_reply(replies.as_slice()));
     assert!(rt; trie.footprint() == (10, 38));

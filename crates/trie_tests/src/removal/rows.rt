@@ -17,7 +17,7 @@ pub(crate) struct Row {
     pub(crate) footprint: (u128, u128),
 }
 
-pub(crate) const ROWS: [Row; 6] = [
+pub(crate) const ROWS: &'static [Row] = &[
     Row {
         key: "abc",
         gone: &[("abcd", 17), ("abcdef", 18), ("abcdefgh", 19)],
@@ -30,7 +30,7 @@ pub(crate) const ROWS: [Row; 6] = [
     },
     Row {
         key: "",
-        gone: &IN_ORDER,
+        gone: IN_ORDER,
         footprint: (1, 0),
     },
     Row {
@@ -72,7 +72,7 @@ pub(crate) fn is_gone(row: &Row, gone: &Gone, trie: &Texts) -> bool {
 
 /// The row, by the trie.
 fn check_by_trie(rt: &impl Abort, alloc: Global, row: &Row) -> Result<(), Memory> {
-    let mut trie = texts(alloc, &SAMPLE)?;
+    let mut trie = texts(alloc, SAMPLE)?;
     let gone = trie.remove_prefix(&row.key)?;
     assert!(rt; is_gone(row, &gone, &trie), "{}", row.key);
     Ok(())
@@ -80,7 +80,7 @@ fn check_by_trie(rt: &impl Abort, alloc: Global, row: &Row) -> Result<(), Memory
 
 #[test]
 fn by_the_trie(rt: HostRuntime) -> Result<(), Memory> {
-    for row in &ROWS {
+    for row in ROWS {
         check_by_trie(&rt, rt.alloc(), row)?;
     }
     Ok(())
@@ -90,7 +90,7 @@ fn by_the_trie(rt: HostRuntime) -> Result<(), Memory> {
 #[test]
 fn by_an_odd_list(rt: HostRuntime) -> Result<(), Memory> {
     let half = list(rt.alloc(), &[6])?;
-    let mut trie = texts(rt.alloc(), &SAMPLE)?;
+    let mut trie = texts(rt.alloc(), SAMPLE)?;
     let gone = trie.remove_prefix(&half)?;
     assert!(rt; is_gone(&ROWS[2], &gone, &trie));
     Ok(())

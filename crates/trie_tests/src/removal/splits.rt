@@ -7,7 +7,7 @@ use std::process::Abort;
 use trie_samples::{SAMPLE, Texts, list, texts};
 
 /// The footprints of the parts, row by row.
-const PARTS: [(u128, u128); 6] = [(4, 16), (2, 14), (10, 38), (1, 0), (1, 0), (5, 16)];
+const PARTS: &'static [(u128, u128)] = &[(4, 16), (2, 14), (10, 38), (1, 0), (1, 0), (5, 16)];
 
 /// The part has the row's pairs and this footprint, and the others are left.
 fn check_part(
@@ -30,7 +30,7 @@ fn check_part(
 #[test]
 fn part_is_split_off(rt: HostRuntime) -> Result<(), Memory> {
     for (row, footprint) in ROWS.iter().zip(PARTS.iter()) {
-        let mut trie = texts(rt.alloc(), &SAMPLE)?;
+        let mut trie = texts(rt.alloc(), SAMPLE)?;
         let part = trie.split_off_prefix(&row.key)?;
         check_part(&rt, row, *footprint, &trie, part)?;
     }
@@ -41,7 +41,7 @@ fn part_is_split_off(rt: HostRuntime) -> Result<(), Memory> {
 #[test]
 fn split_at_an_odd_list(rt: HostRuntime) -> Result<(), Memory> {
     let half = list(rt.alloc(), &[6])?;
-    let mut trie = texts(rt.alloc(), &SAMPLE)?;
+    let mut trie = texts(rt.alloc(), SAMPLE)?;
     let part = trie.split_off_prefix(&half)?;
     check_part(&rt, &ROWS[2], PARTS[2], &trie, part)
 }

@@ -19,7 +19,7 @@ fn gone_by_view(trie: &mut Texts, key: &'static str) -> Result<Gone, SubTrieErro
 
 /// The row, by a view.
 fn check_by_view(rt: &impl Abort, alloc: Global, row: &Row) -> Result<(), Memory> {
-    let mut trie = texts(alloc, &SAMPLE)?;
+    let mut trie = texts(alloc, SAMPLE)?;
     match gone_by_view(&mut trie, row.key) {
         Ok(gone) => assert!(rt; is_gone(row, &gone, &trie), "{}", row.key),
         Err(_) => assert!(rt; false),
@@ -30,7 +30,7 @@ fn check_by_view(rt: &impl Abort, alloc: Global, row: &Row) -> Result<(), Memory
 /// A view at the empty text removes as the trie does.
 #[test]
 fn by_a_view(rt: HostRuntime) -> Result<(), Memory> {
-    for row in &ROWS {
+    for row in ROWS {
         check_by_view(&rt, rt.alloc(), row)?;
     }
     Ok(())
@@ -62,7 +62,7 @@ fn check_in_view(rt: &impl Abort, trie: &mut Texts) -> Result<(), OpenError> {
 
 #[test]
 fn in_a_view(rt: HostRuntime) -> Result<(), Memory> {
-    let mut trie = texts(rt.alloc(), &SAMPLE)?;
+    let mut trie = texts(rt.alloc(), SAMPLE)?;
     assert!(rt; check_in_view(&rt, &mut trie).is_ok());
     assert!(rt; trie.footprint() == (5, 25));
     Ok(())

@@ -35,7 +35,7 @@ fn nearest_values_above(rt: HostRuntime) -> Result<(), Memory> {
         ("acbdef", Some(30)),
         ("bcdefgh", Some(29)),
     ];
-    check_above(&rt, rt.alloc(), &SAMPLE, OF_SAMPLE)?;
+    check_above(&rt, rt.alloc(), SAMPLE, OF_SAMPLE)?;
     check_above(&rt, rt.alloc(), &[("", 55)], &[("", Some(55))])?;
     check_above(
         &rt,
@@ -81,7 +81,7 @@ fn nearest_pair_with_its_key(rt: HostRuntime) -> Result<(), Memory> {
             Sight::Get("abcdefgh", Ok(Some(19))),
         ]),
     }];
-    check_rows(&rt, rt.alloc(), &SAMPLE, ROWS)
+    check_rows(&rt, rt.alloc(), SAMPLE, ROWS)
 }
 
 /// Where no pair stands, the nearest point above is a branch point, and the half that two bytes share is one only where keys part
@@ -132,7 +132,7 @@ fn nearest_values_below(rt: HostRuntime) -> Result<(), Memory> {
             sights: None,
         },
     ];
-    check_rows(&rt, rt.alloc(), &SAMPLE, ROWS)
+    check_rows(&rt, rt.alloc(), SAMPLE, ROWS)
 }
 
 /// The nearest point below a key that ends inside a fragment is the fragment's end.

@@ -40,7 +40,7 @@ fn check_empty(rt: &impl Abort, trie: &Texts) -> Result<(), Memory> {
     assert_eq!(rt; trie.footprint(), (1, 0));
     assert_eq!(rt; trie.len(), 0);
     assert!(rt; TrieCommon::is_leaf(trie));
-    for (key, _) in &SAMPLE {
+    for (key, _) in SAMPLE {
         let view = trie.get_raw_ancestor(key)?;
         assert!(rt; TrieCommon::key(&view).is_none());
     }
@@ -68,7 +68,7 @@ fn pairs_below_points(rt: HostRuntime) -> Result<(), Memory> {
             sights: Some(&[Sight::Count(1)]),
         },
     ];
-    check_rows(&rt, rt.alloc(), &SAMPLE, ROWS)
+    check_rows(&rt, rt.alloc(), SAMPLE, ROWS)
 }
 
 /// The trie of the pairs has these counts of nodes and of nibbles, and one pair for each key.
@@ -85,7 +85,7 @@ fn check_counts(
 
 #[test]
 fn counts_of_points(rt: HostRuntime) -> Result<(), Memory> {
-    check_counts(&rt, rt.alloc(), &SAMPLE, (10, 38))?;
+    check_counts(&rt, rt.alloc(), SAMPLE, (10, 38))?;
     check_counts(&rt, rt.alloc(), &[("a", 1), ("abc", 2), ("abd", 3)], (5, 7))
 }
 
@@ -106,7 +106,7 @@ fn points_without_a_value(rt: HostRuntime) -> Result<(), Memory> {
             sights: Some(&[Sight::Value(None), Sight::Path(&[6, 1, 6])]),
         },
     ];
-    check_rows(&rt, rt.alloc(), &SAMPLE, ROWS)
+    check_rows(&rt, rt.alloc(), SAMPLE, ROWS)
 }
 
 /// No view stands inside a fragment, nor where no stored key leads.
@@ -132,6 +132,6 @@ fn no_view_off_points(rt: HostRuntime) -> Result<(), Memory> {
             sights: Some(&[]),
         },
     ];
-    check_rows(&rt, rt.alloc(), &SAMPLE, OF_SAMPLE)?;
+    check_rows(&rt, rt.alloc(), SAMPLE, OF_SAMPLE)?;
     check_rows(&rt, rt.alloc(), &[("hello", 55)], OF_HELLO)
 }

@@ -16,7 +16,7 @@ fn value_of<'t>(trie: &'t Texts, key: &'static str) -> Option<&'t u64> {
 
 #[test]
 fn value_outlives_its_view(rt: HostRuntime) -> Result<(), Memory> {
-    let trie = texts(rt.alloc(), &SAMPLE)?;
+    let trie = texts(rt.alloc(), SAMPLE)?;
     assert!(rt; value_of(&trie, "ab") == Some(&16));
     Ok(())
 }
@@ -63,7 +63,7 @@ fn children_of<'t>(
 #[test]
 fn child_answers_for_keys_below(rt: HostRuntime) -> Result<(), Memory> {
     const BELOW: &'static [(&'static str, u64)] = &[("abcdef", 18), ("abcdefgh", 19)];
-    let trie = texts(rt.alloc(), &SAMPLE)?;
+    let trie = texts(rt.alloc(), SAMPLE)?;
     match children_of(&trie, "abcd")? {
         Some(children) => assert!(rt; answers_alone(children, BELOW, "abcd")),
         None => assert!(rt; false),

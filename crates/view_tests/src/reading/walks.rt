@@ -19,7 +19,7 @@ fn walk_of_the_sample(rt: HostRuntime) -> Result<(), Memory> {
         ("acbdef", 30),
         ("bcdefgh", 29),
     ];
-    let trie = texts(rt.alloc(), &SAMPLE)?;
+    let trie = texts(rt.alloc(), SAMPLE)?;
     assert!(rt; is_walk(TrieCommon::iter(&trie)?, SORTED));
     Ok(())
 }

@@ -20,7 +20,7 @@ fn counted<K: TrieKey, V>(trie: &mut Trie<K, V>, at: &K) -> Result<usize, OpenEr
 
 #[test]
 fn pairs_in_a_spent_view(rt: HostRuntime) -> Result<(), Memory> {
-    let mut trie = texts(rt.alloc(), &SAMPLE)?;
+    let mut trie = texts(rt.alloc(), SAMPLE)?;
     assert!(rt; counted(&mut trie, &"ab") == Ok(4));
     assert!(rt; counted(&mut trie, &"abc") == Err(OpenError::Closed));
     assert!(rt; trie.footprint() == (10, 38));

@@ -51,7 +51,7 @@ fn have_value(children: Children<'_, &'static str, u64>, value: u64) -> bool {
 fn children_outlive_the_view(rt: HostRuntime) -> Result<(), Memory> {
     const COUNTS: &'static [(usize, usize)] = &[(4, 4), (12, 1)];
     let branch_point = list(rt.alloc(), &[6, 1, 6])?;
-    let mut trie = texts(rt.alloc(), &SAMPLE)?;
+    let mut trie = texts(rt.alloc(), SAMPLE)?;
     match children_at(&mut trie, &branch_point) {
         Ok(children) => assert!(rt; have_counts(children, COUNTS)),
         Err(_) => assert!(rt; false),
@@ -108,7 +108,7 @@ fn are_keys(keys: Keys<'_, &'static str, u64>, wanted: &[&'static str]) -> bool 
 fn walks_outlive_the_view(rt: HostRuntime) -> Result<(), Memory> {
     const KEYS: &'static [&'static str] = &["ab", "abcd", "abcdef", "abcdefgh"];
     const VALUES: &'static [u64] = &[16, 17, 18, 19];
-    let mut trie = texts(rt.alloc(), &SAMPLE)?;
+    let mut trie = texts(rt.alloc(), SAMPLE)?;
     match keys_at(&mut trie, "ab") {
         Ok(keys) => assert!(rt; are_keys(keys, KEYS)),
         Err(_) => assert!(rt; false),

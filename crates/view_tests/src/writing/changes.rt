@@ -77,7 +77,7 @@ fn views_of_the_sample(rt: HostRuntime) -> Result<(), Memory> {
             at: At::Text("ab"),
             calls: &[],
             last: Last::Count(4),
-            left: &SAMPLE,
+            left: SAMPLE,
             footprint: (10, 38),
             is_point: true,
         },
@@ -85,7 +85,7 @@ fn views_of_the_sample(rt: HostRuntime) -> Result<(), Memory> {
             at: At::Text("ab"),
             calls: &[],
             last: Last::Key("ab"),
-            left: &SAMPLE,
+            left: SAMPLE,
             footprint: (10, 38),
             is_point: true,
         },
@@ -93,7 +93,7 @@ fn views_of_the_sample(rt: HostRuntime) -> Result<(), Memory> {
             at: At::Text("ab"),
             calls: &[],
             last: Last::Value(16),
-            left: &SAMPLE,
+            left: SAMPLE,
             footprint: (10, 38),
             is_point: true,
         },
@@ -101,12 +101,12 @@ fn views_of_the_sample(rt: HostRuntime) -> Result<(), Memory> {
             at: At::List(&[6]),
             calls: &[Call::WriteNone],
             last: Last::Count(7),
-            left: &SAMPLE,
+            left: SAMPLE,
             footprint: (10, 38),
             is_point: true,
         },
     ];
-    check_runs(&rt, rt.alloc(), &SAMPLE, RUNS)
+    check_runs(&rt, rt.alloc(), SAMPLE, RUNS)
 }
 
 /// A value of the sample is written, and another one goes.
@@ -145,5 +145,5 @@ fn sample_is_changed(rt: HostRuntime) -> Result<(), Memory> {
             is_point: false,
         },
     ];
-    check_runs(&rt, rt.alloc(), &SAMPLE, RUNS)
+    check_runs(&rt, rt.alloc(), SAMPLE, RUNS)
 }

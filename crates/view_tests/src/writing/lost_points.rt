@@ -134,5 +134,5 @@ fn odd_path(rt: HostRuntime) -> Result<(), Memory> {
 fn closed_off_points(rt: HostRuntime) -> Result<(), Memory> {
     check_closed(&rt, rt.alloc(), &[], "a")?;
     check_closed(&rt, rt.alloc(), &[("abc", 1), ("abd", 2)], "ab")?;
-    check_closed(&rt, rt.alloc(), &SAMPLE, "abc")
+    check_closed(&rt, rt.alloc(), SAMPLE, "abc")
 }

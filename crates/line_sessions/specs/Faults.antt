@@ -1,0 +1,53 @@
+-- What a program tells of a fault, and its exit status.
+use Rattle.std.specs.Prelude.{ℕ, Bool, true, false, ◌==◌, ◌&&◌, nat_lt, length, List, [], ◌∷◌, ◌++◌, codes, decimal, Result, Ok, Err}
+use Rattle.line_sessions.specs.declared.fault.Fault.{Fault}
+use Rattle.line_sessions.specs.declared.fault.Fault.TheVariants.{Read, Write, BadLine, Memory}
+
+-- its text, but for the number of a bad line
+abbrev pub words_of : Fault → List ℕ
+words_of Read = codes "read failed"
+words_of Write = codes "write failed"
+words_of (BadLine n) = codes "bad line "
+words_of Memory = codes "out of memory"
+
+abbrev pub text_of : Fault → List ℕ
+text_of Read = codes "read failed"
+text_of Write = codes "write failed"
+text_of (BadLine n) = codes "bad line " ++ decimal n
+text_of Memory = codes "out of memory"
+
+abbrev pub status_of : Fault → ℕ
+status_of Read = 1
+status_of Write = 1
+status_of (BadLine n) = 2
+status_of Memory = 3
+
+-- the line that stands on standard error at the end
+abbrev pub told_of : {U : Type 0} → Result U Fault → List ℕ
+told_of (Ok _) = []
+told_of (Err e) = text_of e ++ 10 ∷ []
+
+abbrev pub exit_of : {U : Type 0} → Result U Fault → ℕ
+exit_of (Ok _) = 0
+exit_of (Err e) = status_of e
+
+-- a fault of the reader is answered
+abbrev pub tells_read : {U : Type 0} → Result U Fault → Bool
+tells_read (Ok _) = false
+tells_read (Err Read) = true
+tells_read (Err Write) = false
+tells_read (Err (BadLine n)) = false
+tells_read (Err Memory) = false
+
+-- a fault of the writer is answered
+abbrev pub tells_write : {U : Type 0} → Result U Fault → Bool
+tells_write (Ok _) = false
+tells_write (Err Read) = false
+tells_write (Err Write) = true
+tells_write (Err (BadLine n)) = false
+tells_write (Err Memory) = false
+
+-- a write of these bytes failed, or took none of them
+abbrev pub took_none : {E : Type 0} → List ℕ → Result ℕ E → Bool
+took_none bytes (Ok n) = n == 0 && nat_lt 0 (length bytes)
+took_none bytes (Err _) = true

@@ -1,0 +1,6 @@
+pub mod Lines
+pub mod Answers
+pub mod Faults
+pub mod Watched
+pub mod Sessions
+pub mod Standing

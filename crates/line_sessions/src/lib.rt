@@ -1,0 +1,14 @@
+//! Sessions of lines: reading lines, answering each of them, and how a program then ends.
+#![tactic(auto)]
+
+pub mod engine;
+pub mod fault;
+pub mod laws;
+pub mod program;
+mod session;
+pub mod watched;
+
+pub use engine::{run, serve};
+pub use fault::{Fault, end};
+pub use program::{Program, Refusal};
+pub use watched::{WatchedReader, WatchedWriter};

@@ -1,0 +1,37 @@
+//! What a program answers to a line.
+ghost use Rattle.std.specs.Prelude.{◌≡◌, ℕ, List, OnOk, OnErr, IfErr};
+ghost use Rattle.line_sessions.specs.Answers.{Adds, Refuses};
+
+/// Why a line has no answer.
+#[derive(Clone, Copy, Debug, PartialEq, Eq)]
+pub enum Refusal {
+    /// The line asks for nothing that the program knows.
+    Bad,
+    /// Memory was refused.
+    Memory,
+}
+
+/// A program that answers lines, one after another.
+pub trait Program: Drop {
+    // What a line is answered: the program before it, the line, the program after it, the answer.
+    ghost replies: { Self → List ℕ → Self → List ℕ → Type 0 };
+
+    // Whether a line asks for nothing.
+    ghost is_bad: { List ℕ → Type 0 };
+
+    // What is left of a program where memory was refused at a line.
+    ghost gives_up: { Self → List ℕ → Self → Type 0 };
+
+    /// Answers a line, behind the answers that wait. A bad line leaves the program as it was.
+    /// After a refusal the answers are as before.
+    fn answer(&mut self, line: &[u8], answers: &mut Vec<u8>) -> Result<(), Refusal>
+        ensures answered { OnOk result
+            (Adds replies line.now self.old self.new answers.old.items answers.new.items) }
+        ensures refused { IfErr result
+            (λ why. Refuses is_bad gives_up why line.now self.old self.new) }
+        ensures unchanged { OnErr result (answers.new.items ≡ answers.old.items) };
+
+    // A bad line has no answer.
+    ghost bad_is_unanswered: { (p q : Self) (line answer : List ℕ)
+        → is_bad line → ¬ (replies p line q answer) };
+}

@@ -1,22 +1,34 @@
 //! A session over a reader and a writer.
-ghost use Rattle.std.specs.Prelude.{◌≡◌, ◌-◌, ◌^◌, ◌||◌, ◌⊎◌, IsTrue, IfOk, vec_len};
-ghost use Rattle.trie_tool.specs.Faults.{tells_read, tells_write};
-ghost use Rattle.trie_tool.specs.Serve.{Served};
+ghost use Rattle.line_sessions.specs.Watched.{Noted};
+ghost use Rattle.trie_tool.specs.Request.{GivesUp, IsBad, Replies};
+ghost use Rattle.trie_tool.specs.Serve.{ServedNumbers};
 
-use crate::fault::ToolError;
-use crate::session::Session;
-use crate::watched::{WatchedReader, WatchedWriter};
-use std::alloc::{AllocError, Global};
+use crate::answers::answer;
+use crate::command::parse;
+use crate::numbers::Numbers;
+pub use line_sessions::Fault as ToolError;
+use line_sessions::{Program, Refusal, WatchedReader, WatchedWriter};
+use std::alloc::Global;
 use std::io::{Read, Write};
 use std::mem;
 
-// How many bytes a read may bring.
-const CHUNK: usize = 64 * 1024;
+impl Program for Numbers {
+    ghost use Rattle.trie_tool.specs.Request.{Replies, IsBad, GivesUp, bad_unanswered};
 
-fn zeros(alloc: Global, count: usize) -> Result<Vec<u8>, AllocError>
-    ensures { IfOk result (λ buffer. vec_len buffer ≡ count) }
-{
-    vec![in alloc; 0u8; count]
+    ghost replies = { Replies };
+
+    ghost is_bad = { IsBad };
+
+    ghost gives_up = { GivesUp };
+
+    fn answer(&mut self, line: &[u8], answers: &mut Vec<u8>) -> Result<(), Refusal> {
+        let Some(command) = parse(line) else {
+            return Err(Refusal::Bad);
+        };
+        answer(answers, self, command).map_err(|_| Refusal::Memory)
+    }
+
+    ghost bad_is_unanswered = { bad_unanswered };
 }
 
 /// Answers every line that the reader gives, up to its end or the first bad line.
@@ -29,30 +41,13 @@ pub fn serve<R: Read, W: Write>(
     reader: &mut WatchedReader<R>,
     writer: &mut WatchedWriter<W>,
 ) -> Result<(), ToolError>
-    ensures served { Served (R.remaining reader.old.reader) (R.remaining reader.new.reader)
-        (W.contents writer.old.writer) (W.contents writer.new.writer) result }
-    ensures read_told { IsTrue reader.new.has_failed
-        → IsTrue reader.old.has_failed ⊎ IsTrue (tells_read result) }
-    ensures read_failed { IsTrue (tells_read result)
-        → IsTrue reader.new.has_failed ⊎ (reader.new.reads ≡ 2 ^ 64 - 1) }
-    ensures write_told { writer.new.has_failed ≡ (writer.old.has_failed || tells_write result) }
+    ensures served { ServedNumbers reader.old.unread reader.new.unread writer.old.held
+        writer.new.held result }
+    ensures noted { Noted reader.old reader.new writer.old writer.new result }
 {
-    let Ok(mut room) = zeros(alloc, CHUNK) else {
-        return Err(ToolError::Memory);
-    };
-    let buffer = room.as_mut_slice();
-    let mut session = Session::new(alloc);
-    for _turn in 0..u64::MAX {
-        match reader.read(buffer) {
-            Err(_) => return Err(ToolError::Read),
-            Ok(0) => {
-                let outcome = session.finish(writer);
-                // The program ends now, and its memory with it: the trie isn't taken apart node by node before.
-                mem::forget(session);
-                return outcome;
-            }
-            Ok(count) => session.hear(&buffer[..count], writer)?,
-        }
-    }
-    Err(ToolError::Read)
+    let mut numbers = Numbers::new(alloc);
+    let outcome = line_sessions::serve(alloc, &mut numbers, reader, writer);
+    // The program ends now, and its memory with it: the trie isn't taken apart node by node before.
+    mem::forget(numbers);
+    outcome
 }

@@ -1,13 +1,10 @@
 //! Laws of the definitions, and worked lines.
-ghost use Rattle.std.specs.Prelude.{◌≡◌, ℕ, List, [], ◌∷◌, ◌++◌, Some, None, IsTrue, IsFalse, codes, flat_map};
-ghost use Rattle.trie_tool.specs.Request.{request_of, Insert, Get, Len, Remove, Foot, Ancestor, Below, Prune, Json};
-ghost use Rattle.trie_tool.specs.Transcript.{cut, transcript, output, number_of_bad};
-
-/// Cutting loses no byte: the lines, each with its line feed, and the bytes after them are the text.
-pub fn lines_join()
-    ensures { (bytes : List ℕ)
-        → flat_map (λ line. line ++ 10 ∷ []) (cut bytes).lines ++ (cut bytes).rest ≡ bytes }
-{}
+ghost use Rattle.std.specs.Prelude.{◌≡◌, ℕ, List, [], ◌∷◌, Some, None, codes};
+ghost use Rattle.std.specs.FinMap as map;
+ghost use Rattle.line_sessions.specs.Answers.{AreAnswers};
+ghost use Rattle.line_sessions.specs.Lines.{all_lines, cut};
+ghost use Rattle.line_sessions.specs.Sessions.{IsBadAt};
+ghost use Rattle.trie_tool.specs.Request.{request_of, Insert, Get, Len, Remove, Foot, Ancestor, Below, Prune, Json, IsBad, Numbers, Replies};
 
 /// What some lines ask for.
 pub fn worked_lines()
@@ -38,18 +35,20 @@ pub fn worked_lines()
     ensures no_text { request_of (103 ∷ 101 ∷ 116 ∷ 32 ∷ 255 ∷ []) ≡ None }
 {}
 
+/// Lines have one answer.
+pub fn answers_are_one()
+    ensures { (lines : List (List ℕ)) (m n left : Numbers) (o p : List ℕ)
+        → AreAnswers Replies lines m n o → AreAnswers Replies lines m left p
+        → (o ≡ p) × (n ≡ left) }
+{}
+
 /// Worked runs: a value is replaced, a bad line ends the run after a skipped line, nothing is read.
 pub fn worked_runs()
-    ensures value_is_replaced { output
-        (transcript (codes "insert haskell 18\ninsert haskell 36\nget haskell\nlen\n"))
-        ≡ codes "new\nold 18\n36\n1\n" }
-    ensures bad_line_ends_it { output
-        (transcript (codes "insert a b 007\n\nget a b\ninsert x\nlen"))
-        ≡ codes "new\n7\n" }
-    ensures bad_line { IsTrue
-        (transcript (codes "insert a b 007\n\nget a b\ninsert x\nlen")).is_bad }
-    ensures bad_line_number { number_of_bad
-        (transcript (codes "insert a b 007\n\nget a b\ninsert x\nlen")) ≡ 4 }
-    ensures empty_input { output (transcript []) ≡ [] }
-    ensures empty_input_is_good { IsFalse (transcript []).is_bad }
+    ensures value_is_replaced { (left : Numbers) × AreAnswers Replies
+        (all_lines (codes "insert haskell 18\ninsert haskell 36\nget haskell\nlen\n")) map.empty
+        left (codes "new\nold 18\n36\n1\n") }
+    ensures bad_line_ends_it { (left : Numbers) × IsBadAt Replies IsBad
+        (all_lines (codes "insert a b 007\n\nget a b\ninsert x\nlen")) 4 map.empty left
+        (codes "new\n7\n") }
+    ensures empty_input { AreAnswers Replies (all_lines []) map.empty map.empty [] }
 {}

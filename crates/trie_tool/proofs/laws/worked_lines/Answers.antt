@@ -2,7 +2,7 @@ use Rattle.std.proofs.Common.{refl}
 use Rattle.std.specs.Str.{is_utf8, chars}
 use lib.Utf8.{encode}
 use Rattle.trie_tool.specs.Request.{request_of}
-use Rattle.trie_tool.specs.Transcript.{cut}
+use Rattle.line_sessions.specs.Lines.{cut}
 use Rattle.trie_tool.proofs.laws.worked_lines.Goals as goal
 
 pub returns-clause-cut_lines : goal.returns-clause-cut_lines

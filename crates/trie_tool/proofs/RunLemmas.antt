@@ -1,0 +1,3 @@
+-- That lines have one answer, and worked runs.
+pub mod Answers
+pub mod Runs

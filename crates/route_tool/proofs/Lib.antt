@@ -4,5 +4,3 @@ pub mod TextLemmas
 pub mod CommandLemmas
 -- What the lists of a table's tries say of its networks.
 pub mod TableLemmas
--- How far a session over a reader and a writer has come.
-pub mod SessionLemmas

@@ -3,4 +3,3 @@ pub mod Tables
 pub mod Commands
 pub mod Answers
 pub mod Sessions
-pub mod Faults

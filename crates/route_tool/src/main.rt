@@ -5,23 +5,21 @@ mod address;
 mod answers;
 mod command;
 mod engine;
-mod fault;
 mod hop;
-mod lines;
 mod network;
+mod patient;
 mod table;
 
-use crate::engine::serve;
-use crate::fault::{Fault, end};
+use crate::patient::Patient;
+use crate::table::Table;
+use line_sessions::{WatchedReader, WatchedWriter, run};
 use std::io;
-use std::io::BufReader;
 use std::process::ExitCode;
 
 fn main(rt: HostRuntime) -> ExitCode {
-    let outcome = match BufReader::new(rt.alloc(), rt.reader()) {
-        Ok(mut reader) => serve(rt.alloc(), &mut reader, &mut io::writer(&rt)),
-        Err(_) => Err(Fault::Memory),
-    };
-    let (code, _told) = end(outcome, &mut rt.stderr());
-    code
+    let mut reader = WatchedReader::new(Patient::new(rt.reader()));
+    let mut writer = WatchedWriter::new(io::writer(&rt));
+    let mut errors = WatchedWriter::new(rt.stderr());
+    let table = Table::new(rt.alloc());
+    run(rt.alloc(), table, &mut reader, &mut writer, &mut errors)
 }

@@ -62,19 +62,19 @@ class Item:
 
 @functools.cache
 def items_of(path):
-    """The items of a source, by its path below the checkout."""
+    """The items of a source, by its path below the checkout, but for impls with nothing in them."""
     items, block = [], None
     for found in HEAD.finditer(text_of(path)):
         indent, access, kind, text, end = found.groups()
-        owner = block if indent else None
-        items.append(Item(found.start(), (access or "").strip(), kind, text.lstrip(), end != ";", owner))
-        block = items[-1] if kind != "fn" else block
+        if kind == "fn" or not end.endswith("}"):
+            items.append(Item(found.start(), (access or "").strip(), kind, text.lstrip(), end != ";", block if indent else None))
+            block = items[-1] if kind != "fn" else block
     return items
 
 
-def function_at(path, place):
-    """The function that begins last before this place of a source, or None."""
-    return next((it for it in reversed(items_of(path)) if it.kind == "fn" and it.place < place), None)
+def last_item(path, place, *kinds):
+    """The item of these kinds that begins last before this place of a source, or None."""
+    return next((it for it in reversed(items_of(path)) if it.kind in kinds and it.place < place), None)
 
 
 def sources_of(crate):

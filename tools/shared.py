@@ -70,11 +70,12 @@ def text_of(path):
     return ""
 
 
-def files_in(folder):
-    """The files below a folder, by name, one folder after the other. A link counts as a file, whatever it leads to."""
+def files_in(folder, but=None):
+    """The files below a folder, but for one folder of it, by name, one folder after the other. A link counts as a file."""
     for at, folders, names in os.walk(folder):
-        folders.sort()
-        yield from (f"{at}/{it}" for it in sorted([*names, *(it for it in folders if os.path.islink(f"{at}/{it}"))]))
+        links = [it for it in folders if os.path.islink(f"{at}/{it}")]
+        folders[:] = sorted(it for it in folders if f"{at}/{it}" != but)
+        yield from (f"{at}/{it}" for it in sorted([*names, *links]))
 
 
 def uses_of_crates():

@@ -20,7 +20,8 @@ class Refused(Exception):
 
 
 def bytes_of(path):
-    """The bytes of a plain file, or None where there is nothing. A link, a pipe or a folder is refused, and so is a huge file."""
+    """The bytes of a plain file, or None where there is nothing. A link, a pipe or a folder is refused, and so is a
+    huge file."""
     try:
         file = os.open(path, os.O_RDONLY | os.O_NOFOLLOW | os.O_NONBLOCK)
     except FileNotFoundError:
@@ -71,7 +72,8 @@ def text_of(path):
 
 
 def files_in(folder, but=None):
-    """The files below a folder, but for one folder of it, by name, one folder after the other. A link counts as a file."""
+    """The files below a folder, but for one folder of it, by name, one folder after the other. A link counts as a
+    file."""
     for at, folders, names in os.walk(folder):
         links = [it for it in folders if os.path.islink(f"{at}/{it}")]
         folders[:] = sorted(it for it in folders if f"{at}/{it}" != but)
@@ -137,7 +139,7 @@ def started(words, **how):
 
 def ran(words, given=None, seconds=None, **how):
     """What a process writes and its status, once it has ended: bytes, or texts where `how` says so."""
-    streams = {"stdout": subprocess.PIPE, "stderr": subprocess.PIPE, **({} if given is None else {"stdin": subprocess.PIPE})}
+    streams = {it: subprocess.PIPE for it in ("stdout", "stderr", *(["stdin"] if given is not None else []))}
     with started(words, **{**streams, **how}) as process:
         said, told = process.communicate(given, seconds)
     return subprocess.CompletedProcess(words, process.returncode, said, told)
@@ -155,7 +157,8 @@ def end(number, _):
 
 
 def run(name, main):
-    """Runs a script of this name: where a signal ends it, what it has made for itself goes, and what stands in its way is one line."""
+    """Runs a script of this name: where a signal ends it, what it has made for itself goes, and what stands in its way
+    is one line."""
     for number in ENDING:
         signal.signal(number, end)
     try:

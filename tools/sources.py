@@ -6,7 +6,8 @@ import re
 from shared import ROOT, files_in, text_of
 
 HEAD = re.compile(r"^( *)(pub(?:\([^)]*\))? )?(?:const )?(fn|impl|trait)\b(.*?)(^\1\{|;$| \{\}?$)", re.M | re.S)
-CLAUSE = re.compile(r"^ +((?:requires|ensures)\*?(?: \w+)?) \{(.*?)\}(?=;?\s*(?:^ +(?:requires|ensures)|\Z|^$))", re.M | re.S)
+WORD = "(?:requires|ensures)"
+CLAUSE = re.compile(rf"^ +({WORD}\*?(?: \w+)?) \{{(.*?)\}}(?=;?\s*(?:^ +{WORD}|\Z|^$))", re.M | re.S)
 
 
 def plain(text):
@@ -67,7 +68,8 @@ def items_of(path):
     for found in HEAD.finditer(text_of(path)):
         indent, access, kind, text, end = found.groups()
         if kind == "fn" or not end.endswith("}"):
-            items.append(Item(found.start(), (access or "").strip(), kind, text.lstrip(), end != ";", block if indent else None))
+            owner, access = block if indent else None, (access or "").strip()
+            items.append(Item(found.start(), access, kind, text.lstrip(), end != ";", owner))
             block = items[-1] if kind != "fn" else block
     return items
 
@@ -85,4 +87,5 @@ def sources_of(crate):
 
 def functions_of(crate):
     """The functions of a crate, without those of its tests, each with the path of its source."""
-    return [(path, it) for path in sources_of(crate) if "/tests" not in path for it in items_of(path) if it.kind == "fn"]
+    paths = [it for it in sources_of(crate) if "/tests" not in it]
+    return [(path, it) for path in paths for it in items_of(path) if it.kind == "fn"]

@@ -11,5 +11,6 @@ def try_rows(tally, rows, start, folder, **variables):
     for name, text, status, answers, said in rows:
         words = ["bash", "-c", f"{start}\n{text}"]
         found = ran(words, cwd=folder, env={**surroundings, **variables}, seconds=120, text=True, errors="replace")
-        is_well = found.returncode == status and re.fullmatch(answers, found.stdout, re.S) and re.fullmatch(said, found.stderr, re.S)
+        matched = [re.fullmatch(*it, re.S) for it in ((answers, found.stdout), (said, found.stderr))]
+        is_well = found.returncode == status and all(matched)
         tally.count(name, is_well, f"status {found.returncode}, {found.stdout[-200:]!r}, {found.stderr[-200:]!r}")

@@ -1,7 +1,7 @@
-/* Preloaded into a program that the toolchain built, has its calls fail where the environment says so: ALLOCATION=N refuses
-   the Nth allocation or growth of memory, FROM=N all from the Nth on; READ=N and WRITE=N fail the Nth read of standard input
-   and the Nth write on standard output, with the error number FAULT, or with no byte where that is 0; READS=N and WRITES=N
-   bound the bytes of each of these calls. */
+/* Preloaded into a program that the toolchain built, has its calls fail where the environment says so: ALLOCATION=N
+   refuses the Nth allocation or growth of memory, FROM=N all from the Nth on; READ=N and WRITE=N fail the Nth read of
+   standard input and the Nth write on standard output, with the error number FAULT, or with no byte where that is 0;
+   READS=N and WRITES=N bound the bytes of each of these calls. */
 #define _GNU_SOURCE
 #include <errno.h>
 #include <stddef.h>
@@ -10,7 +10,8 @@
 #include <unistd.h>
 
 extern void *__libc_malloc(size_t), *__libc_calloc(size_t, size_t), *__libc_realloc(void *, size_t);
-static long allocations, allocation, from, reads, failing_read, longest_read, writes, failing_write, longest_write, fault;
+static long allocations, allocation, from, reads, failing_read, longest_read;
+static long writes, failing_write, longest_write, fault;
 
 static long number(const char *name) {
   const char *text = getenv(name);

@@ -10,7 +10,7 @@
 //! `Trie::extend` the pairs before the refused one stay. A call that takes no memory (`light.` begins its test's name)
 //! may not be refused at all; each other one has to be, by one of its growths.
 //!
-//! `tools/growths` sees that each public call that answers a `Result` has a row here, and that each row has its tests: it
+//! `tools/texts` sees that each public call that answers a `Result` has a row here, and that each row has its tests: it
 //! has the first words of their names, after `light.`.
 //!
 //! | Call | Tests |

@@ -1,0 +1,167 @@
+"""What the scripts share: plain files, the crates, counts of checks, and processes that end with the script."""
+import contextlib
+import hashlib
+import os
+import signal
+import stat
+import subprocess
+import sys
+import threading
+
+ROOT = os.path.dirname(os.path.dirname(os.path.realpath(__file__)))
+# No file that these scripts write comes near to so many bytes.
+MOST = 64_000_000
+ENDING = (signal.SIGHUP, signal.SIGINT, signal.SIGTERM)
+STARTED, STARTING, ENDED_BY = set(), [], []
+
+
+class Refused(Exception):
+    """What stands in the way, in one line."""
+
+
+def bytes_of(path):
+    """The bytes of a plain file, or None where there is nothing. A link, a pipe or a folder is refused, and so is a
+    huge file."""
+    try:
+        file = os.open(path, os.O_RDONLY | os.O_NOFOLLOW | os.O_NONBLOCK)
+    except FileNotFoundError:
+        return None
+    except OSError:
+        raise Refused(f"{path} is no plain file") from None
+    with open(file, "rb") as opened:
+        found = os.fstat(file)
+        if not stat.S_ISREG(found.st_mode) or found.st_size > MOST:
+            raise Refused(f"{path} is no plain file, or one of more than {MOST:,} bytes")
+        return opened.read()
+
+
+def sum_of(path):
+    """The sum of a plain file, or None."""
+    with contextlib.suppress(Refused):
+        text = bytes_of(path)
+        return None if text is None else hashlib.sha256(text).hexdigest()
+    return None
+
+
+def put_bytes(text, to, room, mode=0o644):
+    """Writes a file by way of the folder room, on the same disk, so that no half of it is ever there."""
+    os.makedirs(os.path.dirname(to), exist_ok=True)
+    with open(f"{room}/file", "wb") as file:
+        file.write(text)
+    mask = os.umask(0)
+    os.umask(mask)
+    os.chmod(f"{room}/file", mode & ~mask)
+    os.replace(f"{room}/file", to)
+
+
+def remove(path, top):
+    """Removes a file, and the folders on the way to it that are then empty, as far as they lie below the folder top."""
+    os.remove(path)
+    folder = os.path.dirname(path)
+    with contextlib.suppress(OSError):
+        while folder.startswith(f"{top}/"):
+            os.rmdir(folder)
+            folder = os.path.dirname(folder)
+
+
+def text_of(path):
+    """The text of a file of this checkout, and an empty one where there is none."""
+    with contextlib.suppress(OSError), open(f"{ROOT}/{path}", encoding="utf-8") as file:
+        return file.read()
+    return ""
+
+
+def files_in(folder, but=None):
+    """The files below a folder, but for one folder of it, by name, one folder after the other. A link counts as a
+    file."""
+    for at, folders, names in os.walk(folder):
+        links = [it for it in folders if os.path.islink(f"{at}/{it}")]
+        folders[:] = sorted(it for it in folders if f"{at}/{it}" != but)
+        yield from (f"{at}/{it}" for it in sorted([*names, *links]))
+
+
+def uses_of_crates():
+    """The crates of crates.txt, each with those that its line names."""
+    with open(f"{ROOT}/crates.txt", encoding="utf-8") as file:
+        rows = [row.partition("#")[0].partition(":") for row in file]
+    return {head.split()[0]: uses.split() for head, found, uses in rows if found and head.split()}
+
+
+def below(name, uses):
+    """The repository's crates that a crate stands on, each after those that it uses."""
+    return [*dict.fromkeys(it for used in uses.get(name, ()) if used in uses for it in (*below(used, uses), used))]
+
+
+class Tally:
+    """Counts what passed, and says what failed."""
+
+    def __init__(self):
+        self.passed = self.failed = 0
+        self.alone = threading.Lock()
+
+    def count(self, name, is_well, said=""):
+        with self.alone:
+            self.passed += bool(is_well)
+            self.failed += not is_well
+            if not is_well:
+                print(f"FAILED: {name}{': ' if said else ''}{said}", flush=True)
+
+    def told(self):
+        """Says the counts, and answers the status."""
+        print(f"{self.passed} passed, {self.failed} failed")
+        return 1 if self.failed else 0
+
+
+def kill(process):
+    with contextlib.suppress(OSError):
+        os.killpg(process.pid, signal.SIGTERM)
+
+
+@contextlib.contextmanager
+def started(words, **how):
+    """A process with a group of its own, which ends where this is left, and where a signal ends the script."""
+    STARTING.append(words)
+    try:
+        process = subprocess.Popen(words, start_new_session=True, **{"stdin": subprocess.DEVNULL, **how})
+        STARTED.add(process)
+    finally:
+        STARTING.pop()
+    try:
+        if ENDED_BY:
+            sys.exit(128 + ENDED_BY[0])
+        yield process
+    finally:
+        if process.poll() is None:
+            kill(process)
+        process.wait()
+        STARTED.discard(process)
+
+
+def ran(words, given=None, seconds=None, **how):
+    """What a process writes and its status, once it has ended: bytes, or texts where `how` says so."""
+    streams = {it: subprocess.PIPE for it in ("stdout", "stderr", *(["stdin"] if given is not None else []))}
+    with started(words, **{**streams, **how}) as process:
+        said, told = process.communicate(given, seconds)
+    return subprocess.CompletedProcess(words, process.returncode, said, told)
+
+
+def end(number, _):
+    """Ends the script by this signal, with all that it has started, once what is being started is known."""
+    ENDED_BY.append(number)
+    for it in ENDING:
+        signal.signal(it, lambda *_: None)
+    for process in [*STARTED]:
+        kill(process)
+    if not STARTING:
+        sys.exit(128 + number)
+
+
+def run(name, main):
+    """Runs a script of this name: where a signal ends it, what it has made for itself goes, and what stands in its way
+    is one line."""
+    for number in ENDING:
+        signal.signal(number, end)
+    try:
+        sys.exit(main(sys.argv[1:]))
+    except (OSError, RecursionError, Refused, UnicodeError, subprocess.SubprocessError) as error:
+        sys.exit(f"{name}: {error}")

@@ -1,0 +1,91 @@
+"""Reads the heads of functions, impls and traits in the sources of crates, as `rt fmt` lays them out."""
+import dataclasses
+import functools
+import re
+
+from shared import ROOT, files_in, text_of
+
+HEAD = re.compile(r"^( *)(pub(?:\([^)]*\))? )?(?:const )?(fn|impl|trait)\b(.*?)(^\1\{|;$| \{\}?$)", re.M | re.S)
+WORD = "(?:requires|ensures)"
+CLAUSE = re.compile(rf"^ +({WORD}\*?(?: \w+)?) \{{(.*?)\}}(?=;?\s*(?:^ +{WORD}|\Z|^$))", re.M | re.S)
+
+
+def plain(text):
+    return " ".join(text.split())
+
+
+@dataclasses.dataclass(eq=False)
+class Item:
+    """A function, an impl or a trait. Of a function the owner is the impl or the trait that it stands in, if any."""
+
+    place: int
+    access: str
+    kind: str
+    text: str
+    has_body: bool
+    owner: "Item | None"
+
+    @property
+    def name(self):
+        return re.match(r"\w*", self.text)[0]
+
+    @functools.cached_property
+    def halves(self):
+        """What an impl is of: its trait, if any, and its type. Of a trait: nothing, and its name."""
+        text, depth = plain(self.text), 0
+        if self.kind == "trait":
+            return "", self.name
+        for place, letter in enumerate(text.replace("->", "  ")):
+            depth += (letter == "<") - (letter == ">")
+            if not depth:
+                text = text[place + 1 :] if place else text
+                break
+        trait, found, kind = text.partition(" where ")[0].partition(" for ")
+        return (trait.strip(), kind.strip()) if found else ("", trait.strip())
+
+    @property
+    def is_public(self):
+        """Whether it is so by its own word, or as one of a public trait."""
+        of_trait = self.owner and self.owner.kind == "trait" and self.owner.access == "pub"
+        return self.access == "pub" or bool(of_trait)
+
+    @property
+    def signature(self):
+        text = re.sub(r"^ *//.*\n", "", self.text, flags=re.M)
+        return plain(re.split(r"^ +(?:requires|ensures|ghost|where)\b", text, maxsplit=1, flags=re.M)[0])
+
+    @property
+    def clauses(self):
+        """Each clause: what stands before its braces, and what stands in them."""
+        text = re.sub(r"^ *//.*\n", "", self.text, flags=re.M)
+        return [(label, plain(clause)) for label, clause in CLAUSE.findall(text)]
+
+
+@functools.cache
+def items_of(path):
+    """The items of a source, by its path below the checkout, but for impls with nothing in them."""
+    items, block = [], None
+    for found in HEAD.finditer(text_of(path)):
+        indent, access, kind, text, end = found.groups()
+        if kind == "fn" or not end.endswith("}"):
+            owner, access = block if indent else None, (access or "").strip()
+            items.append(Item(found.start(), access, kind, text.lstrip(), end != ";", owner))
+            block = items[-1] if kind != "fn" else block
+    return items
+
+
+def last_item(path, place, *kinds):
+    """The item of these kinds that begins last before this place of a source, or None."""
+    return next((it for it in reversed(items_of(path)) if it.kind in kinds and it.place < place), None)
+
+
+def sources_of(crate):
+    """The paths of a crate's sources."""
+    paths = (it.removeprefix(f"{ROOT}/") for it in files_in(f"{ROOT}/crates/{crate}/src"))
+    return sorted(it for it in paths if it.endswith(".rt"))
+
+
+def functions_of(crate):
+    """The functions of a crate, without those of its tests, each with the path of its source."""
+    paths = [it for it in sources_of(crate) if "/tests" not in it]
+    return [(path, it) for path in paths for it in items_of(path) if it.kind == "fn"]

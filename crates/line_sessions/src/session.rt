@@ -72,13 +72,13 @@ impl Conversation {
 
 /// A conversation, and the bytes after the last line feed.
 #[derive(Drop)]
-pub struct Session {
+pub(super) struct Session {
     conversation: Conversation,
     open_line: Vec<u8>,
 }
 
 impl Session {
-    pub fn new(alloc: Global) -> Session
+    pub(super) fn new(alloc: Global) -> Session
         ensures line { result.open_line.items ≡ [] }
         ensures answers { result.conversation.answers.items ≡ [] }
         ensures count { result.conversation.count ≡ 0 }
@@ -176,7 +176,7 @@ impl Session {
     }
 
     /// Hears more bytes, and writes the answers to the lines that end among them.
-    pub fn hear<P: Program, W: Write>(
+    pub(super) fn hear<P: Program, W: Write>(
         &mut self,
         program: &mut P,
         bytes: &[u8],
@@ -199,7 +199,7 @@ impl Session {
     }
 
     /// Answers what stands after the last line feed.
-    pub fn finish<P: Program, W: Write>(
+    pub(super) fn finish<P: Program, W: Write>(
         &mut self,
         program: &mut P,
         writer: &mut WatchedWriter<W>,

@@ -1,8 +1,15 @@
 //! What a session answers to a line.
+ghost use Rattle.std.specs.Process.{exit_status};
+ghost use Rattle.line_sessions.specs.Sessions.{Ran};
+ghost use Rattle.route_tool.specs.Sessions.{GivesUp, IsBad, Replies, no_routes};
+
 use crate::answers::answer;
 use crate::command::parse;
 use crate::table::Table;
-use line_sessions::{Program, Refusal};
+use line_sessions::{Program, Refusal, WatchedReader, WatchedWriter, run};
+use std::alloc::Global;
+use std::io::{Read, Write};
+use std::process::ExitCode;
 
 impl Program for Table {
     ghost use Rattle.route_tool.specs.Sessions.{GivesUp, IsBad, Replies, bad_unanswered};
@@ -27,4 +34,18 @@ impl Program for Table {
     }
 
     ghost bad_is_unanswered = { bad_unanswered };
+}
+
+/// The whole program: a session that begins with no route, and then the line on standard error that
+/// tells its fault, where there is one. Gives the status to exit with.
+pub fn answer_all<R: Read, W: Write, E: Write>(
+    alloc: Global,
+    reader: &mut WatchedReader<R>,
+    writer: &mut WatchedWriter<W>,
+    errors: &mut WatchedWriter<E>,
+) -> ExitCode
+    ensures { Ran Replies IsBad GivesUp reader.old reader.new writer.old writer.new
+        errors.old errors.new no_routes (exit_status result) }
+{
+    run(alloc, Table::new(alloc), reader, writer, errors)
 }

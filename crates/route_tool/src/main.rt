@@ -10,9 +10,9 @@ mod network;
 mod patient;
 mod table;
 
+use crate::engine::answer_all;
 use crate::patient::Patient;
-use crate::table::Table;
-use line_sessions::{WatchedReader, WatchedWriter, run};
+use line_sessions::{WatchedReader, WatchedWriter};
 use std::io;
 use std::process::ExitCode;
 
@@ -20,6 +20,5 @@ fn main(rt: HostRuntime) -> ExitCode {
     let mut reader = WatchedReader::new(Patient::new(rt.reader()));
     let mut writer = WatchedWriter::new(io::writer(&rt));
     let mut errors = WatchedWriter::new(rt.stderr());
-    let table = Table::new(rt.alloc());
-    run(rt.alloc(), table, &mut reader, &mut writer, &mut errors)
+    answer_all(rt.alloc(), &mut reader, &mut writer, &mut errors)
 }

@@ -1,4 +1,7 @@
 //! A session over a reader and a writer.
+ghost use Rattle.std.specs.FinMap as map;
+ghost use Rattle.std.specs.Process.{exit_status};
+ghost use Rattle.line_sessions.specs.Sessions.{Ran};
 ghost use Rattle.line_sessions.specs.Watched.{Noted};
 ghost use Rattle.trie_tool.specs.Request.{GivesUp, IsBad, Replies};
 ghost use Rattle.trie_tool.specs.Serve.{ServedNumbers};
@@ -7,10 +10,11 @@ use crate::answers::answer;
 use crate::command::parse;
 use crate::numbers::Numbers;
 pub use line_sessions::Fault as ToolError;
-use line_sessions::{Program, Refusal, WatchedReader, WatchedWriter};
+use line_sessions::{Program, Refusal, WatchedReader, WatchedWriter, run};
 use std::alloc::Global;
 use std::io::{Read, Write};
 use std::mem;
+use std::process::ExitCode;
 
 impl Program for Numbers {
     ghost use Rattle.trie_tool.specs.Request.{Replies, IsBad, GivesUp, bad_unanswered};
@@ -50,4 +54,18 @@ pub fn serve<R: Read, W: Write>(
     // The program ends now, and its memory with it: the trie isn't taken apart node by node before.
     mem::forget(numbers);
     outcome
+}
+
+/// The whole program: a session that begins with no text, and then the line on standard error that
+/// tells its fault, where there is one. Gives the status to exit with.
+pub fn answer_all<R: Read, W: Write, E: Write>(
+    alloc: Global,
+    reader: &mut WatchedReader<R>,
+    writer: &mut WatchedWriter<W>,
+    errors: &mut WatchedWriter<E>,
+) -> ExitCode
+    ensures { Ran Replies IsBad GivesUp reader.old reader.new writer.old writer.new
+        errors.old errors.new map.empty (exit_status result) }
+{
+    run(alloc, Numbers::new(alloc), reader, writer, errors)
 }

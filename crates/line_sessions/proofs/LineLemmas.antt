@@ -85,10 +85,6 @@ last_line-some (x ∷ xs) some = refl
 pub all_lines-fed : (b : List ℕ) → (cut b).rest ≢ [] → ended_lines (b ++ 10 ∷ []) ≡ all_lines b
 all_lines-fed b some = ended_lines-fed b (cut b).rest refl ∙ ap (λ (ls : List (List ℕ)). ended_lines b ++ ls) (last_line-some (cut b).rest some)
 
--- with no last line the ended lines are all
-pub all_lines-unfed : (b : List ℕ) → (cut b).rest ≡ [] → all_lines b ≡ ended_lines b
-all_lines-unfed b none = ap (λ (l : List ℕ). ended_lines b ++ last_line l) none ∙ append-nil (ended_lines b)
-
 -- the lines with their line feeds, and the rest
 abbrev joined : Cut → List ℕ
 joined c = flat_map (λ l. l ++ 10 ∷ []) c.lines ++ c.rest

@@ -28,9 +28,12 @@ IsFullCount n = 2 ^ 64 - 1 ≤ n
 -- read that fails all was written, nothing after it
 pub record Noted {U : Type 0} (reader reader' : ReaderState) (writer writer' : WriterState)
     (r : Result U Fault) : Type 0 where
-  pub failed_read_told : IsTrue reader'.has_failed → IsTrue reader.has_failed ⊎ IsTrue (tells_read r)
+  pub failed_read_told :
+      IsTrue reader'.has_failed → IsTrue reader.has_failed ⊎ IsTrue (tells_read r)
   pub read_failed : IsTrue (tells_read r) → IsTrue reader'.has_failed ⊎ IsFullCount reader'.reads
-  pub read_comes_last : IsTrue (tells_read r) → (reader'.writes_before ≡ writer'.writes) ⊎ IsFullCount reader'.reads
+  pub read_comes_last :
+      IsTrue (tells_read r)
+      → (reader'.writes_before ≡ writer'.writes) ⊎ IsFullCount reader'.reads
   pub write_failed : writer'.has_failed ≡ (writer.has_failed || tells_write r)
 
 -- all of the bytes are written, or a beginning of them where a write has failed

@@ -6,7 +6,8 @@ ghost use Rattle.line_sessions.specs.Lines.{cut};
 
 use crate::program::Program;
 
-/// Cutting loses no byte: the lines, each with its line feed, and the bytes after them are the text.
+/// Cutting loses no byte: the lines, each with its line feed, and the bytes after them are the
+/// text.
 pub fn lines_join()
     ensures { (bytes : List ℕ)
         → flat_map (λ line. line ++ 10 ∷ []) (cut bytes).lines ++ (cut bytes).rest ≡ bytes }

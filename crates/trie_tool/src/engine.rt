@@ -38,8 +38,9 @@ impl Program for Numbers {
 /// Answers every line that the reader gives, up to its end or the first bad line.
 ///
 /// The answers to the lines that one read brought are written before the next read, before a fault
-/// is answered, and whenever more than 64 KiB of them wait. An interrupted read is a fault, and so is an input that hasn't ended
-/// after `u64::MAX` reads. Else `Read` and `Write` are answered only after a call that failed.
+/// is answered, and whenever more than 64 KiB of them wait. An interrupted read is a fault, and so
+/// is an input that hasn't ended after `u64::MAX` reads. Else `Read` and `Write` are answered only
+/// after a call that failed.
 pub fn serve<R: Read, W: Write>(
     alloc: Global,
     reader: &mut WatchedReader<R>,

@@ -62,7 +62,7 @@ fn check_by_commands(rt: &impl Abort, alloc: Global, row: &Row) -> Result<(), Me
 
 #[test]
 fn by_commands(rt: HostRuntime) -> Result<(), Memory> {
-    for row in ROWS {
+    for row in &ROWS {
         check_by_commands(&rt, rt.alloc(), row)?;
     }
     Ok(())
@@ -84,7 +84,7 @@ fn check_by_commands_in_view(rt: &impl Abort, alloc: Global, row: &Row) -> Resul
 
 #[test]
 fn by_commands_in_a_view(rt: HostRuntime) -> Result<(), Memory> {
-    for row in ROWS {
+    for row in &ROWS {
         check_by_commands_in_view(&rt, rt.alloc(), row)?;
     }
     Ok(())

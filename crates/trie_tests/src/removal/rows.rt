@@ -17,7 +17,7 @@ pub(crate) struct Row {
     pub(crate) footprint: (u128, u128),
 }
 
-pub(crate) const ROWS: &'static [Row] = &[
+pub(crate) const ROWS: [Row; 6] = [
     Row {
         key: "abc",
         gone: &[("abcd", 17), ("abcdef", 18), ("abcdefgh", 19)],
@@ -80,7 +80,7 @@ fn check_by_trie(rt: &impl Abort, alloc: Global, row: &Row) -> Result<(), Memory
 
 #[test]
 fn by_the_trie(rt: HostRuntime) -> Result<(), Memory> {
-    for row in ROWS {
+    for row in &ROWS {
         check_by_trie(&rt, rt.alloc(), row)?;
     }
     Ok(())

@@ -30,7 +30,7 @@ fn check_by_view(rt: &impl Abort, alloc: Global, row: &Row) -> Result<(), Memory
 /// A view at the empty text removes as the trie does.
 #[test]
 fn by_a_view(rt: HostRuntime) -> Result<(), Memory> {
-    for row in ROWS {
+    for row in &ROWS {
         check_by_view(&rt, rt.alloc(), row)?;
     }
     Ok(())

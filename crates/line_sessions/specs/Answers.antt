@@ -3,6 +3,10 @@ use Rattle.std.specs.Prelude.{◌≡◌, ℕ, List, [], ◌∷◌, ◌++◌}
 use Rattle.line_sessions.specs.declared.program.Refusal.{Refusal}
 use Rattle.line_sessions.specs.declared.program.Refusal.TheVariants.{Bad, Memory}
 
+-- a text begins with another
+abbrev pub IsPrefix : List ℕ → List ℕ → Type 0
+IsPrefix p q = (rest : List ℕ) × (q ≡ p ++ rest)
+
 -- a reply to the line was put behind what waits
 abbrev pub Adds : {S : Type 0} → (S → List ℕ → S → List ℕ → Type 0) → List ℕ → S → S
     → (old new : List ℕ) → Type 0

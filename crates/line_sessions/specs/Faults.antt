@@ -22,10 +22,22 @@ status_of Write = 1
 status_of (BadLine n) = 2
 status_of Memory = 3
 
+-- a remark behind the number of a bad line; an empty one isn't told
+abbrev pub remark_of : List ℕ → List ℕ
+remark_of [] = []
+remark_of (b ∷ bs) = codes ": " ++ b ∷ bs
+
+-- the text of a fault, and the remark if it is a bad line
+abbrev pub text_with : (remark : List ℕ) → Fault → List ℕ
+text_with remark Read = text_of Read
+text_with remark Write = text_of Write
+text_with remark (BadLine n) = text_of (BadLine n) ++ remark_of remark
+text_with remark Memory = text_of Memory
+
 -- the line that stands on standard error at the end
-abbrev pub told_of : {U : Type 0} → Result U Fault → List ℕ
-told_of (Ok _) = []
-told_of (Err e) = text_of e ++ 10 ∷ []
+abbrev pub told_of : {U : Type 0} → (remark : List ℕ) → Result U Fault → List ℕ
+told_of remark (Ok _) = []
+told_of remark (Err e) = text_with remark e ++ 10 ∷ []
 
 abbrev pub exit_of : {U : Type 0} → Result U Fault → ℕ
 exit_of (Ok _) = 0

@@ -73,13 +73,15 @@ pub record Served {S U : Type 0} (R : S → List ℕ → S → List ℕ → Type
   pub outcome : Outcome R B G r (IsAtEnd unread') read s t written
 
 -- a whole run: how the session went, which calls of the streams it tells, the status, and the text
--- on standard error
+-- on standard error, with a remark that N holds of
 pub record Ran {S : Type 0} (R : S → List ℕ → S → List ℕ → Type 0) (B : List ℕ → Type 0)
-    (G : S → List ℕ → S → Type 0) (reader reader' : ReaderState)
+    (G : S → List ℕ → S → Type 0) (N : List ℕ → Type 0) (reader reader' : ReaderState)
     (writer writer' errors errors' : WriterState) (s : S) (status : ℕ) : Type 0 where
   pub result : Result (Unit {0}) Fault
   pub left : S
   pub served : Served R B G reader.unread reader'.unread writer.held writer'.held s left result
   pub noted : Noted reader reader' writer writer' result
   pub status_is : status ≡ exit_of result
-  pub told : Writes errors errors' (told_of result)
+  pub remark : List ℕ
+  pub remarked : N remark
+  pub told : Writes errors errors' (told_of remark result)

@@ -1,5 +1,5 @@
 -- What a watched reader and a watched writer note of their calls.
-use Rattle.std.specs.Prelude.{◌≡◌, ◌≤◌, ℕ, ◌-◌, ◌^◌, ◌⊎◌, ◌||◌, Bool, IsFalse, IsTrue, List, Option, Result, ◌++◌}
+use Rattle.std.specs.Prelude.{◌≡◌, ◌≤◌, ℕ, ◌-◌, ◌^◌, ◌⊎◌, ◌||◌, Bool, IsFalse, IsTrue, List, Option, Result, ◌++◌, OnOk, is_err}
 use Rattle.std.specs.Io.KnownBytes.{Appends}
 use Rattle.line_sessions.specs.Faults.{tells_read, tells_write}
 use Rattle.line_sessions.specs.declared.fault.Fault.{Fault}
@@ -42,3 +42,12 @@ pub record Writes (writer writer' : WriterState) (bytes : List ℕ) : Type 0 whe
   pub part :
       (begun : List ℕ) × (rest : List ℕ) × (bytes ≡ begun ++ rest)
       × Appends writer.held writer'.held begun
+
+-- the same of a call that answers whether all were written
+pub record Puts {U : Type 0} (r : Result U Fault) (writer writer' : WriterState)
+    (bytes : List ℕ) : Type 0 where
+  pub all : OnOk r (Appends writer.held writer'.held bytes)
+  pub part :
+      (begun : List ℕ) × (rest : List ℕ) × (bytes ≡ begun ++ rest)
+      × Appends writer.held writer'.held begun
+  pub noted : writer'.has_failed ≡ (writer.has_failed || is_err r)

@@ -64,11 +64,12 @@ pub fn run<P: Program, R: Read, W: Write, E: Write>(
     writer: &mut WatchedWriter<W>,
     errors: &mut WatchedWriter<E>,
 ) -> ExitCode
-    ensures { Ran P.replies P.is_bad P.gives_up reader.old reader.new writer.old writer.new
-        errors.old errors.new program (exit_status result) }
+    ensures { Ran P.replies P.is_bad P.gives_up P.is_remark reader.old reader.new
+        writer.old writer.new errors.old errors.new program (exit_status result) }
 {
     let mut program = program;
     let outcome = serve(alloc, &mut program, reader, writer);
+    let remark = program.remark();
     mem::forget(program);
-    end(outcome, errors)
+    end(outcome, remark, errors)
 }

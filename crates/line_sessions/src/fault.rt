@@ -1,8 +1,8 @@
 //! Why a session stops before the end of its input, and how the program then ends.
-ghost use Rattle.std.specs.Prelude.{◌≡◌, ◌++◌, ◌∷◌, []};
+ghost use Rattle.std.specs.Prelude.{◌≡◌, ◌++◌, ◌∷◌, [], decimal};
 ghost use Rattle.std.specs.Process.{exit_status};
-ghost use Rattle.line_sessions.specs.Faults.{exit_of, status_of, text_of, told_of, words_of};
-ghost use Rattle.line_sessions.specs.Watched.{Writes};
+ghost use Rattle.line_sessions.specs.Faults.{exit_of, remark_of, status_of, text_with, told_of, words_of};
+ghost use Rattle.line_sessions.specs.Watched.{Puts, Writes};
 
 use crate::watched::WatchedWriter;
 use itoa::Buffer;
@@ -61,28 +61,57 @@ impl Fault {
         }
     }
 
-    /// Writes its text and a line feed.
-    fn tell<E: Write>(self, errors: &mut WatchedWriter<E>) -> Result<(), Fault>
-        ensures told { Writes errors.old errors.new (text_of self ++ 10 ∷ []) }
+    /// Writes its text, the remark if it is a bad line, and a line feed.
+    fn tell<E: Write>(self, remark: &str, errors: &mut WatchedWriter<E>) -> Result<(), Fault>
+        ensures { Puts result errors.old errors.new (text_with remark.now self ++ 10 ∷ []) }
     {
         let words = self.words().as_bytes();
         let Fault::BadLine(number) = self else {
             return errors.write_line(words);
         };
         errors.write_all(words)?;
-        errors.write_line(Buffer::new().format(number).as_bytes())
+        tell_number(number, remark, errors)
     }
 }
 
-/// Tells a fault by one line. Gives the status to exit with.
-pub fn end<E: Write>(outcome: Result<(), Fault>, errors: &mut WatchedWriter<E>) -> ExitCode
+/// Writes the number of a bad line, the remark and a line feed.
+fn tell_number<E: Write>(
+    number: u64,
+    remark: &str,
+    errors: &mut WatchedWriter<E>,
+) -> Result<(), Fault>
+    ensures { Puts result errors.old errors.new
+        (decimal number ++ (remark_of remark.now ++ 10 ∷ [])) }
+{
+    errors.write_all(Buffer::new().format(number).as_bytes())?;
+    tell_remark(remark, errors)
+}
+
+/// Writes a colon, a space and the remark, where there is one, and a line feed.
+fn tell_remark<E: Write>(remark: &str, errors: &mut WatchedWriter<E>) -> Result<(), Fault>
+    ensures { Puts result errors.old errors.new (remark_of remark.now ++ 10 ∷ []) }
+{
+    if remark.is_empty() {
+        return errors.write_line(b"");
+    }
+    errors.write_all(b": ")?;
+    errors.write_line(remark.as_bytes())
+}
+
+/// Tells a fault by one line, with a remark behind the number of a bad line. Gives the status to
+/// exit with.
+pub fn end<E: Write>(
+    outcome: Result<(), Fault>,
+    remark: &str,
+    errors: &mut WatchedWriter<E>,
+) -> ExitCode
     ensures status { exit_status result ≡ exit_of outcome }
-    ensures told { Writes errors.old errors.new (told_of outcome) }
+    ensures told { Writes errors.old errors.new (told_of remark.now outcome) }
 {
     match outcome {
         Ok(()) => ExitCode::SUCCESS,
         Err(fault) => {
-            let _told = fault.tell(errors);
+            let _told = fault.tell(remark, errors);
             ExitCode::from(fault.status())
         }
     }

@@ -4,11 +4,13 @@
 pub mod engine;
 pub mod fault;
 pub mod laws;
+pub mod patient;
 pub mod program;
 mod session;
 pub mod watched;
 
 pub use engine::{run, serve};
 pub use fault::{Fault, end};
+pub use patient::Patient;
 pub use program::{Program, Refusal};
 pub use watched::{WatchedReader, WatchedWriter};

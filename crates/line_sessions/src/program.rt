@@ -1,6 +1,6 @@
 //! What a program answers to a line.
-ghost use Rattle.std.specs.Prelude.{◌≡◌, ℕ, List, OnOk, OnErr, IfErr};
-ghost use Rattle.line_sessions.specs.Answers.{Adds, Refuses};
+ghost use Rattle.std.specs.Prelude.{ℕ, List, OnOk, OnErr, IfErr};
+ghost use Rattle.line_sessions.specs.Answers.{Adds, IsPrefix, Refuses};
 
 /// Why a line has no answer.
 #[derive(Clone, Copy, Debug, PartialEq, Eq)]
@@ -22,14 +22,21 @@ pub trait Program: Drop {
     // What is left of a program where memory was refused at a line.
     ghost gives_up: { Self → List ℕ → Self → Type 0 };
 
+    // What may be told of a bad line, behind its number.
+    ghost is_remark: { List ℕ → Type 0 };
+
     /// Answers a line, behind the answers that wait. A bad line leaves the program as it was.
-    /// After a refusal the answers are as before.
+    /// After a refusal a part of an answer may stand there, which the session takes away.
     fn answer(&mut self, line: &[u8], answers: &mut Vec<u8>) -> Result<(), Refusal>
         ensures answered { OnOk result
             (Adds replies line.now self.old self.new answers.old.items answers.new.items) }
         ensures refused { IfErr result
             (λ why. Refuses is_bad gives_up why line.now self.old self.new) }
-        ensures unchanged { OnErr result (answers.new.items ≡ answers.old.items) };
+        ensures kept { OnErr result (IsPrefix answers.old.items answers.new.items) };
+
+    /// What is told of the last line that was bad, behind its number; nothing where it is empty.
+    fn remark(&self) -> &'static str
+        ensures { is_remark result.now };
 
     // A bad line has no answer.
     ghost bad_is_unanswered: { (p q : Self) (line answer : List ℕ)

@@ -47,10 +47,14 @@ impl Conversation {
         if line.is_empty() {
             return Ok(());
         }
-        match program.answer(line, &mut self.answers) {
-            Ok(()) => Ok(()),
-            Err(Refusal::Bad) => Err(Fault::BadLine(number)),
-            Err(Refusal::Memory) => Err(Fault::Memory),
+        let whole = self.answers.len();
+        let Err(why) = program.answer(line, &mut self.answers) else {
+            return Ok(());
+        };
+        self.answers.truncate(whole);
+        match why {
+            Refusal::Bad => Err(Fault::BadLine(number)),
+            Refusal::Memory => Err(Fault::Memory),
         }
     }
 

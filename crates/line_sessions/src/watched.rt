@@ -3,7 +3,7 @@ ghost use Rattle.std.specs.Prelude.{◌≡◌, [], ◌∷◌, ◌++◌, ◌+◌,
 ghost use Rattle.std.specs.Io.{ReadsAtMost, WritesAtMost};
 ghost use Rattle.std.specs.Io.KnownBytes.{Appends, ReadConsumes, WriteAppends};
 ghost use Rattle.line_sessions.specs.Faults.{took_none};
-ghost use Rattle.line_sessions.specs.Watched.{Writes};
+ghost use Rattle.line_sessions.specs.Watched.{Puts};
 
 use crate::fault::Fault;
 use std::io;
@@ -34,6 +34,7 @@ impl<R: Read> Model for WatchedReader<R> {
 }
 
 impl<R: Read> WatchedReader<R> {
+    /// The reader, not read yet.
     pub fn new(reader: R) -> WatchedReader<R>
         ensures reader { result.unread ≡ R.remaining reader }
         ensures unread { result.reads ≡ 0 }
@@ -91,6 +92,7 @@ impl<W: Write> Model for WatchedWriter<W> {
 }
 
 impl<W: Write> WatchedWriter<W> {
+    /// The writer, not written yet.
     pub fn new(writer: W) -> WatchedWriter<W>
         ensures writer { result.held ≡ W.contents writer }
         ensures unwritten { result.writes ≡ 0 }
@@ -141,9 +143,10 @@ impl<W: Write> WatchedWriter<W> {
         }
         Ok(())
     }
+
     /// Writes all of `bytes` and a line feed. Any write that fails or takes no byte ends it.
     pub fn write_line(&mut self, bytes: &[u8]) -> Result<(), Fault>
-        ensures { Writes self.old self.new (bytes.now ++ 10 ∷ []) }
+        ensures { Puts result self.old self.new (bytes.now ++ 10 ∷ []) }
     {
         self.write_all(bytes)?;
         self.write_all(b"\n")

@@ -1,4 +1,4 @@
-//! Tests of keys: lists of nibbles and of bits, what a key of each type is encoded as, tries of signed keys in ascending
+//! Tests of keys: lists of nibbles and of bits, networks, what a key of each type is encoded as, tries of signed keys in ascending
 //! order, and sizes: long keys, many children, large tries.
 #![tactic(auto)]
 
@@ -12,6 +12,8 @@ mod digits;
 mod keys;
 #[cfg(test)]
 mod lists;
+#[cfg(test)]
+mod networks;
 #[cfg(test)]
 mod refusals;
 #[cfg(test)]

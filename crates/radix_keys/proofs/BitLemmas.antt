@@ -1,18 +1,17 @@
--- Lists of bits: those of bytes and of numbers, and which of them begin with which.
-use Rattle.std.proofs.Common.{◌≡◌, ◌↔◌, ℕ, zero, suc, ◌+◌, ◌-◌, ◌*◌, ◌/◌, ◌%◌, ◌^◌, ◌<◌, ◌≤◌, List, [], ◌∷◌, ◌++◌, length, min, get_or, take, drop, refl, arith, sym, ap, subst, ◌∙◌, lit<, append_assoc, All}
-use Rattle.std.proofs.Math.Nat.{mod-eq_of_lt, pow-succ'}
+-- Lists of bits: those of bytes and of numbers, which of them begin with which, and their order.
+use Rattle.std.proofs.Common.{◌≡◌, ◌↔◌, ℕ, zero, suc, ◌+◌, ◌-◌, ◌*◌, ◌/◌, ◌%◌, ◌^◌, ◌<◌, ◌≤◌, List, [], ◌∷◌, ◌++◌, inl, inr, length, min, get_or, take, drop, refl, arith, sym, ap, subst, ◌∙◌, lit<, append_assoc, All}
+use Rattle.std.proofs.Math.Nat.{mod-eq_of_lt, mod-lt, pow-succ'}
 use Rattle.std.proofs.lemmas.Grind.{flat_map-append}
 use Rattle.std.proofs.lemmas.List.{get_or-take, length-take, length-take-le, take-append-drop, take-take, take_all, take_at, take_more}
-use Rattle.std.proofs.lemmas.Nat.{pow-add, shr-shr, shr_below, mod-pow-add}
+use Rattle.std.proofs.lemmas.Nat.{pow_pos, pow-add, shl-shr, shl_whole, shr-shr}
 use Rattle.std.specs.Int.{byte_at, bytes_high_first}
 use Rattle.nibble_map.specs.Lists.{IsPrefix}
 use Rattle.radix_keys.specs.Bits.{bits_high_first, bits_of, first_bits}
+use Rattle.radix_keys.specs.FirstBits.{highest_bit, length-bits_high_first, take-bits_high_first, bits_high_first-injective, first_bits-quotient, first_bits-small}
 use Rattle.radix_keys.specs.Distinct.{byte_at-is, append-split}
-
--- so many bits of a number are as many
-pub length-bits_high_first : (w n : ℕ) → length (bits_high_first w n) ≡ w
-length-bits_high_first zero n = refl
-length-bits_high_first (suc w) n = ap suc (length-bits_high_first w n)
+use Rattle.radix_keys.specs.Order.{Precedes}
+use Rattle.radix_keys.specs.NetworkOrder.{KeepsNetworkOrder}
+use Rattle.radix_keys.proofs.KeyLemmas.Order.{digits_order, before-head, before-tail}
 
 -- bytes have eight times as many bits
 pub length-bits_of : (bytes : List ℕ) → length (bits_of bytes) ≡ 8 * length bytes
@@ -109,36 +108,6 @@ bits_of-bytes_high_first (suc k) n =
     λ i. b7 i ∷ b6 i ∷ b5 i ∷ b4 i ∷ b3 i ∷ b2 i ∷ b1 i ∷ b0 i ∷ rest i in
     eight ∙ ap (λ w. bits_high_first w n) more
 
--- the first m of m + d bits are those of the quotient by what the other d count for
-take-bits_high_first : (m d n : ℕ) → take m (bits_high_first (m + d) n) ≡ bits_high_first m (n / 2 ^ d)
-take-bits_high_first zero d n = refl
-take-bits_high_first (suc m) d n =
-    let more : suc m + d ≡ suc (m + d) = omega arith in
-    let swapped : m + d ≡ d + m = omega arith in
-    let head : n / 2 ^ (m + d) % 2 ≡ n / 2 ^ d / 2 ^ m % 2 =
-    ap (λ t. t % 2) (ap (λ e. n / 2 ^ e) swapped ∙ sym (shr-shr n d m)) in
-    let tail = take-bits_high_first m d n in
-    let next : take (suc m) (bits_high_first (suc (m + d)) n) ≡ bits_high_first (suc m) (n / 2 ^ d) = λ i. head i ∷ tail i in
-    ap (λ w. take (suc m) (bits_high_first w n)) more ∙ next
-
--- the lowest bits tell what is left of a number
-bits_high_first-same : (w x y : ℕ) → bits_high_first w x ≡ bits_high_first w y → x % 2 ^ w ≡ y % 2 ^ w
-bits_high_first-same zero x y e = omega arith
-bits_high_first-same (suc w) x y e =
-    let head : x / 2 ^ w % 2 ≡ y / 2 ^ w % 2 = cc in
-    let tail : bits_high_first w x ≡ bits_high_first w y = cc in
-    digit x ∙ ap (λ d. d * 2 ^ w + x % 2 ^ w) head
-    ∙ ap (λ r. y / 2 ^ w % 2 * 2 ^ w + r) (bits_high_first-same w x y tail)
-    ∙ sym (digit y)
-  where
-    digit : (z : ℕ) → z % 2 ^ suc w ≡ z / 2 ^ w % 2 * 2 ^ w + z % 2 ^ w
-    digit z = let one : suc w ≡ 1 + w = omega arith in ap (λ e. z % 2 ^ e) one ∙ mod-pow-add z 1 w
-
--- bits tell a number that has no more of them
-bits_high_first-injective : (w x y : ℕ) → x < 2 ^ w → y < 2 ^ w → bits_high_first w x ≡ bits_high_first w y → x ≡ y
-bits_high_first-injective w x y p q e =
-    sym (mod-eq_of_lt {n = x} {m = 2 ^ w} p) ∙ bits_high_first-same w x y e ∙ mod-eq_of_lt {n = y} {m = 2 ^ w} q
-
 -- a list is a prefix of what begins with it
 prefix_of_take : (m : ℕ) (p q : List ℕ) → take m q ≡ p → IsPrefix p q
 prefix_of_take m p q e = (drop m q, sym (take-append-drop m q) ∙ ap (λ t. t ++ drop m q) e)
@@ -148,17 +117,9 @@ take_of_prefix : (m : ℕ) (p q : List ℕ) → length p ≡ m → IsPrefix p q 
 take_of_prefix m p q l h = ap (take m) h.1 ∙ take_at p h.0 m l
 
 module _ (w a b m n : ℕ) (fits_a : a < 2 ^ w) (fits_b : b < 2 ^ w) (le : m ≤ n) (within : n ≤ w) where
-  -- the first m bits, and those after them
-  whole : w ≡ m + (w - m)
-  whole = omega (arith, le, within)
-
   -- the first m bits are those of the quotient by what the others count for
   first : (x : ℕ) → first_bits w x m ≡ bits_high_first m (x / 2 ^ (w - m))
-  first x = ap (λ u. take m (bits_high_first u x)) whole ∙ take-bits_high_first m (w - m) x
-
-  -- that quotient has no more than m bits
-  small : (x : ℕ) → x < 2 ^ w → x / 2 ^ (w - m) < 2 ^ m
-  small x fits = shr_below x m (w - m) (subst (λ u. x < 2 ^ u) whole fits)
+  first x = first_bits-quotient w m x (omega (arith, le, within))
 
   -- there are m of them
   count : length (first_bits w a m) ≡ m
@@ -171,7 +132,7 @@ module _ (w a b m n : ℕ) (fits_a : a < 2 ^ w) (fits_b : b < 2 ^ w) (le : m ≤
   -- one number's first bits begin with another's exactly where the quotients are equal
   pub first_bits_prefix : IsPrefix (first_bits w a m) (first_bits w b n) ↔ (a / 2 ^ (w - m) ≡ b / 2 ^ (w - m))
   first_bits_prefix = (
-    λ h. bits_high_first-injective m (a / 2 ^ (w - m)) (b / 2 ^ (w - m)) (small a fits_a) (small b fits_b)
+    λ h. bits_high_first-injective m (a / 2 ^ (w - m)) (b / 2 ^ (w - m)) (first_bits-small w m a (omega (arith, le, within)) fits_a) (first_bits-small w m b (omega (arith, le, within)) fits_b)
         (sym (first a) ∙ sym (take_of_prefix m (first_bits w a m) (first_bits w b n) count h) ∙ shorter ∙ first b),
     λ e. prefix_of_take m (first_bits w a m) (first_bits w b n)
         (shorter ∙ first b ∙ ap (bits_high_first m) (sym e) ∙ sym (first a)),
@@ -205,12 +166,18 @@ length-take-most zero xs = omega arith
 length-take-most (suc k) [] = omega arith
 length-take-most (suc k) (x ∷ xs) = omega (arith, length-take-most k xs)
 
--- where no byte is left, the first i bits are all
-pub all_bits : (bytes : List ℕ) (i count : ℕ) → length bytes ≤ i / 8 → i ≤ count
-    → take i (bits_of bytes) ≡ take count (bits_of bytes)
-all_bits bytes i count over le =
-    take_all i (bits_of bytes) (omega (arith, length-bits_of bytes, over))
-    ∙ sym (take_all count (bits_of bytes) (omega (arith, length-bits_of bytes, over, le)))
+-- the first eight times as many bits are those of the first bytes
+pub take-bits_of : (k : ℕ) (bytes : List ℕ) → take (8 * k) (bits_of bytes) ≡ bits_of (take k bytes)
+take-bits_of zero bytes = refl
+take-bits_of (suc k) [] = take_all (8 * suc k) [] (omega arith)
+take-bits_of (suc k) (b ∷ bytes) =
+    let more : 8 * suc k ≡ suc (suc (suc (suc (suc (suc (suc (suc (8 * k)))))))) = omega arith in
+    ap (λ w. take w (bits_of (b ∷ bytes))) more ∙ ap (λ t. bits_high_first 8 b ++ t) (take-bits_of k bytes)
+
+-- the bits of one byte more
+pub next_byte : (bytes : List ℕ) (k : ℕ) → k < length bytes
+    → bits_of (take (k + 1) bytes) ≡ bits_of (take k bytes) ++ bits_high_first 8 (get_or bytes k 0)
+next_byte bytes k lt = ap bits_of (take_more bytes k 0 lt) ∙ flat_map-append (bits_high_first 8) (take k bytes) (get_or bytes k 0 ∷ [])
 
 -- one bit more
 pub next_bit : (bytes : List ℕ) (i : ℕ) → i / 8 < length bytes
@@ -233,3 +200,43 @@ few_bits bytes i count lt below short =
       ap length (take-take (i + 1) count bits (omega (arith, below))),
       length-take-most (i + 1) (take count bits),
     )
+
+-- the first bits of a number of w bits are those of the number that begins 128 bits with it
+pub aligned : (w n k : ℕ) → w ≤ 128 → n < 2 ^ w → k ≤ w → first_bits 128 (n * 2 ^ (128 - w) % 2 ^ 128) k ≡ first_bits w n k
+aligned w n k narrow fits le =
+    let d = 128 - w in
+    let m = n * 2 ^ d in
+    let whole : 128 ≡ w + d = omega (arith, narrow) in
+    ap (λ x. first_bits 128 x k) (shl_whole n w d 128 fits (omega (arith, narrow)))
+    ∙ sym (take-take k w (bits_high_first 128 m) le)
+    ∙ ap (take k) (ap (λ u. take w (bits_high_first u m)) whole ∙ take-bits_high_first w d m ∙ ap (bits_high_first w) (shl-shr n d))
+
+-- of two numbers the lesser one's bits come first, where the other has no bit after those that are taken
+lesser_bits : (w m n k j : ℕ) → m % 2 ^ w < n % 2 ^ w → n % 2 ^ (w - j) ≡ 0 → Precedes (first_bits w m k) (first_bits w n j)
+lesser_bits zero m n k j lt none = absurd (omega arith)
+lesser_bits (suc w) m n k zero lt none =
+    let whole : suc w - 0 ≡ suc w = omega arith in
+    let all : n % 2 ^ suc w ≡ 0 = subst (λ e. n % 2 ^ e ≡ 0) whole none in
+    absurd (omega (arith, lt, all))
+lesser_bits (suc w) m n zero (suc j) lt none = refl
+lesser_bits (suc w) m n (suc k) (suc j) lt none =
+    let rest : suc w - suc j ≡ w - j = omega arith in
+    elim (digits_order (2 ^ w) (m / 2 ^ w % 2) (n / 2 ^ w % 2) (m % 2 ^ w) (n % 2 ^ w) (mod-lt m (pow_pos w)) (mod-lt n (pow_pos w))
+    (omega (arith, lt, highest_bit w m, highest_bit w n))) [
+      | inl high ↦ before-head (m / 2 ^ w % 2) (n / 2 ^ w % 2) (first_bits w m k) (first_bits w n j) high
+      | inr p ↦ before-tail (m / 2 ^ w % 2) (n / 2 ^ w % 2) (first_bits w m k) (first_bits w n j) p.0 (lesser_bits w m n k j p.1 (subst (λ e. n % 2 ^ e ≡ 0) rest none))
+    ]
+
+-- fewer items of a list come before more of them
+fewer_first : (k j : ℕ) (xs : List ℕ) → k < j → j ≤ length xs → Precedes (take k xs) (take j xs)
+fewer_first k j [] lt le = absurd (omega (arith, lt, le))
+fewer_first k zero (x ∷ xs) lt le = absurd (omega (arith, lt))
+fewer_first zero (suc j) (x ∷ xs) lt le = refl
+fewer_first (suc k) (suc j) (x ∷ xs) lt le = before-tail x x (take k xs) (take j xs) refl (fewer_first k j xs (omega arith) (omega arith))
+
+-- the encodings of networks are in the order of their bases, and then of their bits
+pub network_order : (w : ℕ) → KeepsNetworkOrder w
+network_order w = record {
+  by_base = λ m k n j p q lt. lesser_bits w m n k j (omega (arith, lt, mod-eq_of_lt {n = m} {m = 2 ^ w} p.0, mod-eq_of_lt {n = n} {m = 2 ^ w} q.0)) q.2;
+  by_bits = λ m k j lt le. fewer_first k j (bits_high_first w m) lt (omega (arith, le, length-bits_high_first w m));
+}

@@ -5,3 +5,7 @@ pub mod NibbleLemmas
 pub mod KeyLemmas
 -- Lists of bits: those of bytes and of numbers, and which of them begin with which.
 pub mod BitLemmas
+-- What a text is parted into, and which texts write networks.
+pub mod NetworkLemmas
+-- An address and its number.
+pub mod AddressLemmas

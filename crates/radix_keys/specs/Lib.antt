@@ -6,3 +6,7 @@ pub mod Packing
 pub mod AscendingKeys
 pub mod Widths
 pub mod Errors
+pub mod FirstBits
+pub mod Networks
+pub mod NetworkTexts
+pub mod NetworkOrder

@@ -3,12 +3,13 @@ ghost use Rattle.std.specs.Prelude.{◌≡◌, ◌==◌, length, take, IsOk, IfO
 ghost use Rattle.std.specs.Cmp.{partial_equiv_from_equiv};
 ghost use Rattle.std.specs.Cmp.Lexicographic.{pointwise, nat_list_eq_equiv};
 ghost use Rattle.std.proofs.lemmas.Slice.Eq.{bytes_eq-Decides};
-ghost use Rattle.nibble_map.specs.Nibbles.{IsShort};
-ghost use Rattle.radix_keys.specs.Bits.{bits_of, first_bits};
+ghost use Rattle.nibble_map.specs.Nibbles.{nibbles, IsShort};
+ghost use Rattle.radix_keys.specs.Bits.{bits_high_first, bits_of, first_bits};
 
 use crate::keys::TrieKey;
 use crate::nibbles::{Memory, Nibblet};
 use std::alloc::{AllocError, Global};
+use std::fmt;
 use std::marker::Model;
 
 /// A list of bits, each kept as a nibble, 0 or 1. Up to 32 of them take no memory.
@@ -25,6 +26,18 @@ impl Model for Bits {
     ghost view = { λ b. b.list };
 }
 
+/// The eight bits of a byte, the highest first, as the nibbles of four bytes.
+fn bits_in_pairs(byte: u8) -> [u8; 4]
+    ensures { nibbles result ≡ bits_high_first 8 byte }
+{
+    [
+        (byte >> 7) * 16 + (byte >> 6) % 2,
+        (byte >> 5) % 2 * 16 + (byte >> 4) % 2,
+        (byte >> 3) % 2 * 16 + (byte >> 2) % 2,
+        (byte >> 1) % 2 * 16 + byte % 2,
+    ]
+}
+
 impl Bits {
     /// The first `count` bits of the bytes, the highest bit of each byte first; all of them where
     /// there are no more.
@@ -36,12 +49,16 @@ impl Bits {
         ensures ok { IfOk result (λ b. b ≡ take count (bits_of bytes.now)) }
         ensures succeeds { IsShort (take count (bits_of bytes.now)) → IsOk result }
     {
+        let whole = (count / 8).min(bytes.len());
         let mut list = Nibblet::new(alloc);
-        for i in 0..count {
-            if i / 8 >= bytes.len() {
-                return Ok(Bits { list });
-            }
-            list.push((bytes[i / 8] >> (7 - i % 8)) % 2)?;
+        for byte in &bytes[..whole] {
+            list.push_bytes(&bits_in_pairs(*byte))?;
+        }
+        if whole == bytes.len() {
+            return Ok(Bits { list });
+        }
+        for i in 0..count % 8 {
+            list.push((bytes[whole] >> (7 - i)) % 2)?;
         }
         Ok(Bits { list })
     }
@@ -69,6 +86,20 @@ impl Bits {
         ensures succeeds { IsShort (first_bits 128 number count) → IsOk result }
     {
         Bits::first_of(alloc, &number.to_be_bytes(), count)
+    }
+
+    /// The list of the bits, a nibble for each.
+    pub fn as_list(&self) -> &Nibblet
+        ensures { result.now ≡ self.now }
+    {
+        &self.list
+    }
+
+    /// The list of the bits, a nibble for each.
+    pub fn into_list(self) -> Nibblet
+        ensures { result ≡ self }
+    {
+        self.list
     }
 
     /// The count of bits.
@@ -127,5 +158,28 @@ impl TrieKey for Bits {
     /// The list of the bits.
     fn encode(&self, _alloc: Global) -> Result<Nibblet, Memory> {
         self.list.clone()
+    }
+}
+
+/// A digit for each bit.
+impl fmt::Display for Bits {
+    ghost use Rattle.std.specs.Fmt.{digits};
+    ghost use Rattle.std.specs.Prelude.{Some, false, flat_map};
+
+    ghost output = { λ bits. Some (flat_map (digits 16 false) bits) };
+
+    fn fmt<W: fmt::Write>(&self, f: &mut fmt::Formatter<W>) -> fmt::Result {
+        fmt::Display::fmt(&self.list, f)
+    }
+}
+
+impl fmt::Debug for Bits {
+    ghost use Rattle.std.specs.Fmt.{digits};
+    ghost use Rattle.std.specs.Prelude.{Some, false, flat_map};
+
+    ghost debug_output = { λ bits. Some (flat_map (digits 16 false) bits) };
+
+    fn fmt<W: fmt::Write>(&self, f: &mut fmt::Formatter<W>) -> fmt::Result {
+        fmt::Display::fmt(&self.list, f)
     }
 }

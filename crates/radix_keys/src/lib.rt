@@ -5,9 +5,11 @@ pub mod bits;
 pub mod endian;
 pub mod keys;
 pub mod laws;
+pub mod networks;
 pub mod nibbles;
 
 pub use bits::Bits;
 pub use endian::{Ascending, BigEndian, KeyInt, LittleEndian};
 pub use keys::{FixedWidth, KeySigned, TrieKey};
+pub use networks::{Address, Ipv4Network, Ipv6Network, Network, NetworkParseError};
 pub use nibbles::{BytesError, Memory, NibbleIter, NibbleVec, Nibblet};

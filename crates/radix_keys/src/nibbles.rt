@@ -343,6 +343,16 @@ impl NibbleVec {
         Ok(())
     }
 
+    /// Appends the nibbles of the bytes to a list of an even count.
+    pub(crate) fn push_bytes(&mut self, bytes: &[u8]) -> Result<(), Memory>
+        requires { length self.old % 2 ≡ 0 }
+        ensures ok { OnOk result (self.new ≡ self.old ++ nibbles bytes.now) }
+        ensures err { OnErr result (self.new ≡ self.old) }
+        ensures succeeds { IsShort (self.old ++ nibbles bytes.now) → IsOk result }
+    {
+        Ok(self.bytes.extend_from_slice(bytes)?)
+    }
+
     /// Appends the nibbles of another list to an odd one.
     fn append_shifted(&mut self, other: &NibbleVec) -> Result<(), Memory>
         requires { length self.old % 2 ≡ 1 }

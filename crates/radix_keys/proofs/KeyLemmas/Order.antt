@@ -23,11 +23,11 @@ three_ways (suc x) (suc y) = elim (three_ways x y) [
 ]
 
 -- a list with a lesser first item comes first
-before-head : (x y : ℕ) (xs ys : List ℕ) → x < y → Precedes (x ∷ xs) (y ∷ ys)
+pub before-head : (x y : ℕ) (xs ys : List ℕ) → x < y → Precedes (x ∷ xs) (y ∷ ys)
 before-head x y xs ys lt = rw (sym (nat_cmp_is x y Less lt)) refl
 
 -- of two lists with equal first items, that comes first whose rest does
-before-tail : (x y : ℕ) (xs ys : List ℕ) → x ≡ y → Precedes xs ys → Precedes (x ∷ xs) (y ∷ ys)
+pub before-tail : (x y : ℕ) (xs ys : List ℕ) → x ≡ y → Precedes xs ys → Precedes (x ∷ xs) (y ∷ ys)
 before-tail x y xs ys e lt = rw (sym (nat_cmp_is x y Equal e)) lt
 
 -- of two lists of bytes, that comes first in nibbles which comes first in bytes
@@ -52,7 +52,7 @@ nibbles_order (x ∷ xs) (y ∷ ys) h =
     ]
 
 -- two numbers in base P differ first in the high digit, or in what is below it
-digits_order : (P a b r s : ℕ) → r < P → s < P → a * P + r < b * P + s → (a < b) ⊎ ((a ≡ b) × (r < s))
+pub digits_order : (P a b r s : ℕ) → r < P → s < P → a * P + r < b * P + s → (a < b) ⊎ ((a ≡ b) × (r < s))
 digits_order P a b r s p q h = elim (three_ways a b) [
   | inl lt ↦ inl lt
   | inr (inl same) ↦ let e = ap (λ t. t * P) same in inr (same, omega arith)

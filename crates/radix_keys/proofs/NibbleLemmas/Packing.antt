@@ -44,6 +44,13 @@ pub length-packed_even : {capacity : ℕ} {bs : List ℕ} {odd : Bool} {xs : Lis
     → length xs ≡ 2 * length bs
 length-packed_even {capacity} {bs} {odd} {xs} p e f = omega (arith, ap length e, length-unpacked_even bs odd f)
 
+-- an even count leaves no half unused
+pub flag_of_even : {capacity : ℕ} {bs : List ℕ} {odd : Bool} {xs : List ℕ} → IsPacked capacity bs odd → unpacked bs odd ≡ xs → length xs % 2 ≡ 0
+    → odd ≡ false
+flag_of_even {odd = false} packed is even = refl
+flag_of_even {bs = bs} {odd = true} packed is even =
+    absurd (omega (arith, even, ap length is, length-unpacked_odd bs true packed.padded refl))
+
 -- the nibble at i is half of the byte at i / 2
 -- within a packed list, its nibbles are those of its bytes
 get_or-unpacked : (bs : List ℕ) (odd : Bool) (i : ℕ) → IsPadded bs odd → i < length (unpacked bs odd)

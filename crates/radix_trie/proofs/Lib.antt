@@ -5,8 +5,12 @@ pub mod RootLemmas
 pub mod ChangeLemmas
 -- What stands at and below a path, and above it.
 pub mod PathLemmas
+-- What a map answers where its keys are seen as something else.
+pub mod MappedLemmas
 -- The walk: the rows of its stack, and the pairs that it gives.
 pub mod WalkLemmas
+-- What callers cite: what parts, walks and pages of a map hold, and the order of keys.
+pub mod LawLemmas
 -- A view for writing that is lent: its parts.
 pub mod ViewLemmas
 -- Objects and tries that are built of each other, and the order of texts.

@@ -9,3 +9,5 @@ pub mod Nearest
 pub mod ChildViews
 pub mod Children
 pub mod Present
+pub mod Below
+pub mod Leaves

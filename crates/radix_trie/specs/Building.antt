@@ -1,8 +1,17 @@
 -- The map of pairs that are inserted one after another.
-use Rattle.std.specs.Prelude.{◌≡◌, ℕ, List, [], ◌∷◌, ◌++◌, fold}
+use Rattle.std.specs.Prelude.{◌≡◌, ℕ, List, [], ◌∷◌, ◌++◌, fold, ⊤}
 use Rattle.std.specs.FinMap as map
 use Rattle.nibble_map.specs.Maps.{PairMap}
-use Rattle.radix_trie.specs.Refusals.{IsFullAt}
+use Rattle.radix_trie.specs.Refusals.{RefusesInsert}
+use Rattle.radix_trie.specs.declared.error.BuildError.{BuildError}
+use Rattle.radix_trie.specs.declared.error.BuildError.TheVariants as build
+use Rattle.radix_trie.specs.declared.error.InsertWhy.{InsertWhy}
+use Rattle.radix_trie.specs.declared.error.InsertWhy.TheVariants as why
+
+-- the same reason for the insertion of one pair
+abbrev pub why_of : BuildError → InsertWhy
+why_of build.Memory = why.Memory
+why_of build.Full = why.Full
 
 module _ {K V : Type 0} (enc : K → List ℕ) where
   -- m with each pair at its key's encoding, a later one over an earlier one with the same encoding
@@ -17,9 +26,9 @@ module _ {K V : Type 0} (enc : K → List ℕ) where
   IsStoppedAt m n ps last =
       (others : List (K × V)) × (ps ≡ others ++ last ∷ []) × (n ≡ with_pairs m others)
 
-  -- the pairs end with one whose encoding isn't among the others', and they have as many encodings
-  -- as can be counted
-  abbrev pub IsOneTooMany : List (K × V) → Type 0
-  IsOneTooMany ps =
+  -- the pairs end with one whose insertion behind the others may be refused for this reason; `light`
+  -- says that a key is light
+  abbrev pub IsRefusedAtLast : (K → Type 0) → List (K × V) → BuildError → Type 0
+  IsRefusedAtLast light ps e =
       (others : List (K × V)) × (last : K × V) × (ps ≡ others ++ last ∷ [])
-      × IsFullAt (pairs_in_order others) (enc last.0)
+      × RefusesInsert (pairs_in_order others) (enc last.0) ⊤ (light last.0) (why_of e)

@@ -1,17 +1,26 @@
 //! What makes a map by encodings a map by keys.
 ghost use Rattle.std.specs.FinMap as map;
-ghost use Rattle.std.specs.Prelude.{◌≡◌, ℕ, List, Some, map as each, true};
-ghost use Rattle.nibble_map.specs.Lists.{Each, IsPrefix, IsRising};
-ghost use Rattle.nibble_map.specs.Maps.{PairMap, with_value};
+ghost use Rattle.std.specs.Cmp.Lexicographic.{slice_cmp};
+ghost use Rattle.std.specs.Int.{Width, byte_len};
+ghost use Rattle.std.specs.Ordering.{int_cmp, nat_cmp};
+ghost use Rattle.std.specs.declared.cmp.Ordering.{Ordering};
+ghost use Rattle.std.specs.declared.cmp.Ordering.TheVariants.{Less};
+ghost use Rattle.std.specs.Prelude.{◌≡◌, ◌↔◌, ◌⊎◌, ◌<◌, ◌+◌, ◌^◌, ◌++◌, ℕ, All, AllPairs, Contains, List, Some, map as each, slice_get, take, true};
+ghost use Rattle.nibble_map.specs.Lists.{Each, IsBefore, IsPrefix, IsRising};
+ghost use Rattle.nibble_map.specs.Maps.{PairMap, below, with_value, without_below};
 ghost use Rattle.nibble_map.specs.Nibbles.{nibbles};
-ghost use Rattle.radix_trie.specs.Keys.{IsKeyed};
-ghost use Rattle.radix_trie.specs.Views.{pairs_below};
+ghost use Rattle.radix_keys.specs.AscendingKeys.{turned_bytes};
+ghost use Rattle.radix_keys.specs.Integers.{unsigned_key};
+ghost use Rattle.radix_trie.specs.Building.{with_pairs};
+ghost use Rattle.radix_trie.specs.Keys.{IsKeptOrder, IsKeyed};
+ghost use Rattle.radix_trie.specs.Views.{pairs_above, pairs_after, pairs_below, pairs_from};
 
 use crate::trie::Trie;
-use radix_keys::TrieKey;
+use radix_keys::{KeySigned, TrieKey};
 
 /// The key that is stored at a key's encoding equals it (`==`), in each map in which every stored key is a value of its
-/// type and stands at its encoding. The empty map is one, and insertions, removals and written values keep it so.
+/// type and stands at its encoding. The empty map is one, and pairs that are inserted, one removed, a value written, and all
+/// below a path taken away keep it so; what is below a path is one too.
 ///
 /// `Trie::insert` and `Trie::get` tell that a key is a value of its type, so a caller of theirs knows it of its trie.
 pub fn stored_keys_are_equal<K: TrieKey, V>()
@@ -24,10 +33,18 @@ pub fn stored_keys_are_equal<K: TrieKey, V>()
         → IsKeyed K.encoding K.is_value (map.remove m e) }
     ensures written { (m : PairMap K V) (e : List ℕ) (v : V) → IsKeyed K.encoding K.is_value m
         → IsKeyed K.encoding K.is_value (with_value m e v) }
+    ensures part { (m : PairMap K V) (e : List ℕ) → IsKeyed K.encoding K.is_value m
+        → IsKeyed K.encoding K.is_value (below m e) }
+    ensures rest { (m : PairMap K V) (e : List ℕ) → IsKeyed K.encoding K.is_value m
+        → IsKeyed K.encoding K.is_value (without_below m e) }
+    ensures extended { (m : PairMap K V) (ps : List (K × V)) → IsKeyed K.encoding K.is_value m
+        → All (λ p. K.is_value p.0) ps
+        → IsKeyed K.encoding K.is_value (with_pairs K.encoding m ps) }
 {}
 
 /// In each trie a key stands at its encoding. So the keys at and below a list have encodings that begin with it, and in the
-/// order of a walk these rise.
+/// order of a walk these rise. Of a type all of whose keys are values, as texts are, no more is needed for
+/// `stored_keys_are_equal`.
 pub fn keys_stand_at_their_encodings<K: TrieKey, V>(trie: &Trie<K, V>)
     ensures stored { (e : List ℕ) (p : K × V) → map.get trie.now e ≡ Some p
         → e ≡ K.encoding p.0 }
@@ -35,9 +52,76 @@ pub fn keys_stand_at_their_encodings<K: TrieKey, V>(trie: &Trie<K, V>)
         (each (λ p. p.0) (pairs_below trie.now e)) }
     ensures rising { (e : List ℕ)
         → IsRising (each (λ p. K.encoding p.0) (pairs_below trie.now e)) }
+    ensures keyed { ((key : K) → K.is_value key) → IsKeyed K.encoding K.is_value trie.now }
 {
     let _ = trie.root();
 }
+
+/// Of a trie's walks, each holds the pairs that it is asked for, and misses none: those whose keys' encodings begin with a
+/// list; are a prefix of it; and of the first those that are another list or come after it. In each the encodings rise.
+pub fn walks_miss_no_key<K: TrieKey, V>(trie: &Trie<K, V>)
+    ensures below { (e : List ℕ) (p : K × V) → Contains (pairs_below trie.now e) p
+        ↔ (IsPrefix e (K.encoding p.0) × (map.get trie.now (K.encoding p.0) ≡ Some p)) }
+    ensures above { (e : List ℕ) (p : K × V) → Contains (pairs_above trie.now e) p
+        ↔ (IsPrefix (K.encoding p.0) e × (map.get trie.now (K.encoding p.0) ≡ Some p)) }
+    ensures from { (e q : List ℕ) (p : K × V) → Contains (pairs_from trie.now e q) p
+        ↔ (Contains (pairs_below trie.now e) p
+        × ((K.encoding p.0 ≡ q) ⊎ IsBefore q (K.encoding p.0))) }
+    ensures after { (e q : List ℕ) (p : K × V) → Contains (pairs_after trie.now e q) p
+        ↔ (Contains (pairs_below trie.now e) p × IsBefore q (K.encoding p.0)) }
+    ensures rising_above { (e : List ℕ)
+        → IsRising (each (λ p. K.encoding p.0) (pairs_above trie.now e)) }
+    ensures rising_from { (e q : List ℕ)
+        → IsRising (each (λ p. K.encoding p.0) (pairs_from trie.now e q)) }
+    ensures rising_after { (e q : List ℕ)
+        → IsRising (each (λ p. K.encoding p.0) (pairs_after trie.now e q)) }
+{
+    let _ = trie.root();
+}
+
+/// A page, and the walk after its last key, are the whole walk: between two pages no pair is missed, and none comes twice.
+pub fn pages_follow_one_another<K: TrieKey, V>(trie: &Trie<K, V>)
+    ensures { (e : List ℕ) (n : ℕ) (p : K × V) → slice_get (pairs_below trie.now e) n ≡ Some p
+        → take (n + 1) (pairs_below trie.now e) ++ pairs_after trie.now e (K.encoding p.0)
+        ≡ pairs_below trie.now e }
+{
+    let _ = trie.root();
+}
+
+/// The keys of a walk rise in each order that their encodings keep, in each map in which every stored key is a value of its
+/// type and stands at its encoding. `numbers_keep_their_order`, `signed_numbers_keep_their_order` and
+/// `texts_keep_their_order` name such orders.
+pub fn keys_of_walks_rise<K: TrieKey, V>()
+    ensures below { (cmp : K → K → Ordering) → IsKeptOrder K.encoding K.is_value cmp
+        → (m : PairMap K V) → IsKeyed K.encoding K.is_value m → (e : List ℕ)
+        → AllPairs (λ x y. cmp x y ≡ Less) (each (λ p. p.0) (pairs_below m e)) }
+    ensures above { (cmp : K → K → Ordering) → IsKeptOrder K.encoding K.is_value cmp
+        → (m : PairMap K V) → IsKeyed K.encoding K.is_value m → (e : List ℕ)
+        → AllPairs (λ x y. cmp x y ≡ Less) (each (λ p. p.0) (pairs_above m e)) }
+    ensures from { (cmp : K → K → Ordering) → IsKeptOrder K.encoding K.is_value cmp
+        → (m : PairMap K V) → IsKeyed K.encoding K.is_value m → (e q : List ℕ)
+        → AllPairs (λ x y. cmp x y ≡ Less) (each (λ p. p.0) (pairs_from m e q)) }
+    ensures after { (cmp : K → K → Ordering) → IsKeptOrder K.encoding K.is_value cmp
+        → (m : PairMap K V) → IsKeyed K.encoding K.is_value m → (e q : List ℕ)
+        → AllPairs (λ x y. cmp x y ≡ Less) (each (λ p. p.0) (pairs_after m e q)) }
+{}
+
+/// Unsigned numbers and characters compare as their encodings do.
+pub fn numbers_keep_their_order()
+    ensures { (w : Width) → IsKeptOrder (unsigned_key w) (λ n. n < 256 ^ byte_len w) nat_cmp }
+{}
+
+/// Signed numbers in the wrapper `Ascending` compare as their encodings do.
+pub fn signed_numbers_keep_their_order<T: KeySigned>()
+    ensures { IsKeptOrder (λ (x : T). nibbles (turned_bytes (T.KeyInt.bytes x)))
+        T.KeyInt.is_value (λ x y. int_cmp (T.number x) (T.number y)) }
+{}
+
+/// Keys whose encodings are the nibbles of their bytes, as texts, compare as their bytes do.
+pub fn texts_keep_their_order<K>()
+    ensures { (bytes_of : K → List ℕ) → IsKeptOrder (λ key. nibbles (bytes_of key))
+        (λ _. Unit {0}) (λ x y. slice_cmp nat_cmp (bytes_of x) (bytes_of y)) }
+{}
 
 /// Where the encoding of a key is the nibbles of its bytes, as that of a text is, the keys whose encodings begin with the
 /// nibbles of some bytes begin with these bytes.

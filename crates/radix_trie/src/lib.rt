@@ -6,6 +6,7 @@ mod error;
 pub mod iter;
 mod json;
 mod key_laws;
+mod map_laws;
 mod trie;
 mod view;
 
@@ -15,16 +16,24 @@ pub use error::{
     SubTrieResult, TrieError,
 };
 pub use json::{from_value, to_value};
-pub use key_laws::{encodings_keep_prefixes, keys_stand_at_their_encodings, stored_keys_are_equal};
-pub use nibble_map::map_laws::{edits_below_a_path, points_of_the_rest, rest_of_a_map};
+pub use key_laws::{
+    encodings_keep_prefixes, keys_of_walks_rise, keys_stand_at_their_encodings,
+    numbers_keep_their_order, pages_follow_one_another, signed_numbers_keep_their_order,
+    stored_keys_are_equal, texts_keep_their_order, walks_miss_no_key,
+};
+pub use map_laws::{equal_lists_have_one_tree, part_answers_below};
+pub use nibble_map::map_laws::{
+    edits_below_a_path, one_value_changes, points_of_the_rest, rest_of_a_map,
+};
 pub use nibble_map::query_laws::descendants_hold_all_below;
 pub use nibble_map::walk_laws::{edits_change_one_answer, rest_answers_elsewhere, walks_lie_below};
 pub use radix_keys::laws::{
     bits_keep_prefixes, first_bits_are_digits, first_bits_tell_networks, nibbles_keep_prefixes,
 };
 pub use radix_keys::{
-    Ascending, BigEndian, Bits, BytesError, FixedWidth, KeyInt, KeySigned, LittleEndian, Memory,
-    NibbleIter, NibbleVec, Nibblet, TrieKey,
+    Address, Ascending, BigEndian, Bits, BytesError, FixedWidth, Ipv4Network, Ipv6Network, KeyInt,
+    KeySigned, LittleEndian, Memory, Network, NetworkParseError, NibbleIter, NibbleVec, Nibblet,
+    TrieKey,
 };
 pub use trie::Trie;
 pub use view::subtrie::SubTrie;

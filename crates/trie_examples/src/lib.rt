@@ -10,6 +10,10 @@ mod first;
 #[cfg(test)]
 mod lists;
 #[cfg(test)]
+mod one_tree;
+#[cfg(test)]
+mod rising;
+#[cfg(test)]
 mod same_keys;
 #[cfg(test)]
 mod topics;

@@ -1,10 +1,14 @@
--- Maps that are built by insertions and removals stay keyed.
-use Rattle.std.proofs.Common.{◌≡◌, ℕ, List, Option, Some, None, nat_cmp, ap, refl, sym, subst, ◌∙◌, inl, inr}
+-- Maps that are built by edits stay keyed.
+use Rattle.std.proofs.Common.{◌≡◌, ℕ, Bool, true, false, cond, T, All, List, [], ◌∷◌, Option, Some, None, is_some, nat_cmp, ap, refl, sym, subst, ◌∙◌, inl, inr}
+use Rattle.std.proofs.lemmas.List.Elements.{All-head, All-tail}
 use Rattle.std.specs.Cmp.Lexicographic.{slice_cmp}
 use Rattle.std.specs.FinMap as map
 use Rattle.nibble_map.specs.Maps.{PairMap, set_value, with_value}
-use Rattle.nibble_map.proofs.MapLemmas.Edits.{has_get, insert_sets_entry, remove_cuts_entry}
+use Rattle.nibble_map.proofs.MapLemmas.Below.{get-retained_lists}
+use Rattle.nibble_map.proofs.MapLemmas.Edits.{has_get, insert_sets_entry, not_None, remove_cuts_entry}
+use Rattle.radix_trie.specs.Building.{with_pairs}
 use Rattle.radix_trie.specs.Keys.{IsKeyed}
+use Rattle.radix_trie.specs.Values.{ChangesEachValue}
 
 module _ {K V : Type 0} (enc : K → List ℕ) (is : K → Type 0) where
   -- the empty map is keyed
@@ -34,3 +38,28 @@ module _ {K V : Type 0} (enc : K → List ℕ) (is : K → Type 0) where
       by (Some p) i =
           let k = h a p i in
           subst (λ b. IsKeyed enc is (map.insert m b (p.0, w))) (sym k.0) (keyed_inserted m p.0 w h k.1)
+
+  -- the part of a keyed map whose lists pass a test is keyed
+  pub keyed_part : (m : PairMap K V) (t : List ℕ → Bool) → IsKeyed enc is m → IsKeyed enc is (map.retain_keys m t)
+  keyed_part m t h e p at = by (t e) (sym (get-retained_lists m t e) ∙ at)
+    where
+      by : (b : Bool) → cond b (map.get m e) None ≡ Some p → (e ≡ enc p.0) × is p.0
+      by true got = h e p got
+      by false got = absurd (not_None p got)
+
+  -- a keyed map stays so where pairs of values of the type are inserted
+  pub keyed_extended : (m : PairMap K V) (ps : List (K × V)) → IsKeyed enc is m → All (λ p. is p.0) ps → IsKeyed enc is (with_pairs enc m ps)
+  keyed_extended m [] h each = h
+  keyed_extended m (p ∷ ps) h each =
+      keyed_extended (map.insert m (enc p.0) p) ps (keyed_inserted m p.0 p.1 h (All-head (λ q. is q.0) p ps each)) (All-tail (λ q. is q.0) p ps each)
+
+  -- a keyed map stays so where each value is changed
+  pub keyed_changed : (R : V → V → Type 0) (m n : PairMap K V) → ChangesEachValue R m n → IsKeyed enc is m → IsKeyed enc is n
+  keyed_changed R m n changed h e q at = by (map.get m e) refl
+    where
+      by : (o : Option (K × V)) → map.get m e ≡ o → (e ≡ enc q.0) × is q.0
+      by None none = absurd (subst (λ o. T (is_some o)) none ((changed.same_lists e).1 (subst (λ o. T (is_some o)) (sym at) tt)))
+      by (Some p) was =
+          let same = (changed.copied_pairs e p q was at).0 in
+          let k = h e p was in
+          (k.0 ∙ ap enc (sym same), subst is (sym same) k.1)

@@ -30,7 +30,7 @@ use Rattle.radix_trie.proofs.PathLemmas.Places.{below-nil}
 use Rattle.radix_trie.proofs.RootLemmas.Shown.{row_of, entries_of-root, entries_rise, kept_root, len-map_of_kept}
 
 -- where nothing is below a list none is stored there
-nothing_stored_below : {P : Type 0} (m : fin.FinMap _ P) (p e : List ℕ) → IsStored m e → IsPrefix p e → fin.len (below m p) ≡ 0 → ⊥
+pub nothing_stored_below : {P : Type 0} (m : fin.FinMap _ P) (p e : List ℕ) → IsStored m e → IsPrefix p e → fin.len (below m p) ≡ 0 → ⊥
 nothing_stored_below m p e stored i none =
     let here : T (is_prefix p e) = subst T (sym (is_prefix_true p e i)) tt in
     subst (λ o. T (is_some o)) (sym (get-below m p e here) ∙ ap (λ n. fin.get n e) (fin.empty_of_len (below m p) none) ∙ fin.get-empty _ e) stored

@@ -155,7 +155,7 @@ module _ {K V : Type 0} (enc : K → List ℕ) (m : PairMap K V) (p : List ℕ) 
     found_full = node_full tree (ends r.now n) (tree_of r.now) (root_is_full_below enc m tree place.1) nearest_found.node
 
     -- where p ends with the found node's fragment and a node stands below, p is no leaf
-    child_found_no_leaf : n ≡ length (fragment_of r.now) → (x : List ℕ) (w : Tree (KeyValue K V)) → x ≢ [] → IsChildAt (tree_of r.now).children x w → IsLeaf m p → ⊥
+    pub child_found_no_leaf : n ≡ length (fragment_of r.now) → (x : List ℕ) (w : Tree (KeyValue K V)) → x ≢ [] → IsChildAt (tree_of r.now).children x w → IsLeaf m p → ⊥
     child_found_no_leaf whole = child_no_leaf enc m tree place.1 p (tree_of r.now) (node_found_here whole)
 
   -- where nothing was found for p, the map has no pair at p
@@ -200,7 +200,7 @@ module _ {K V : Type 0} (enc : K → List ℕ) (m : PairMap K V) where
 
 module _ {K V : Type 0} where
   -- children with a level have a node below at a path that isn't empty
-  first_child : (low : ℕ) (k : Children (KeyValue K V)) → IsPlaced low k → 0 < levels k → (x : List ℕ) × (w : Tree (KeyValue K V)) × (x ≢ []) × IsChildAt k x w
+  pub first_child : (low : ℕ) (k : Children (KeyValue K V)) → IsPlaced low k → 0 < levels k → (x : List ℕ) × (w : Tree (KeyValue K V)) × (x ≢ []) × IsChildAt k x w
   first_child low none h lt = absurd (omega arith)
   first_child low (more f o m children others) h lt = (f, record { fragment = f; pair = o; mask = m; children = children }, h.0, inl (refl, refl))
 

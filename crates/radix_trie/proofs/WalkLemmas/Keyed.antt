@@ -27,7 +27,7 @@ module _ {K V : Type 0} (enc : K → List ℕ) where
   keyed_get m keyed e p at = keyed_has (map.entries m) e p keyed ((has_get m e p).1 at)
 
   -- each entry of a walk stands at its key's encoding, where all entries of the map do
-  keyed_entries : (m : PairMap K V) (p : List ℕ) → AllKeyed enc (map.entries m) → Each IsKeyed (walk m p)
+  pub keyed_entries : (m : PairMap K V) (p : List ℕ) → AllKeyed enc (map.entries m) → Each IsKeyed (walk m p)
   keyed_entries m p keyed = Each-from_has IsKeyed (walk m p) (λ e h. keyed_get m keyed e.0 e.1 ((Has-walk m p e.0 e.1).0 h).1)
 
   -- each entry of a walk stands at its key's encoding

@@ -1,5 +1,5 @@
 //! Lists of commands, and what they answer.
-ghost use Rattle.std.specs.Prelude.{◌≡◌, ◌+◌, ◌≤◌, ◌++◌, length, map as each, vec_len, vec_capacity, IfOk, IsOk, OnOk, OnErr};
+ghost use Rattle.std.specs.Prelude.{◌≡◌, ◌+◌, ◌≤◌, ◌++◌, [], length, map as each, vec_len, vec_capacity, IfOk, IsOk, OnOk, OnErr};
 ghost use Rattle.std.specs.FinMap as map;
 ghost use Rattle.nibble_map.specs.Maps.{below, without_below};
 ghost use Rattle.radix_trie.specs.Commands.{Step, Steps, values_below};
@@ -73,8 +73,8 @@ pub enum Reply<V> {
 ///
 /// # Errors
 ///
-/// Memory for the list of replies is refused, which is reserved first. No command is run then, and
-/// the trie is as before.
+/// Memory for the list of replies is refused, which is reserved first; none is where there is no
+/// command. No command is run then, and the trie is as before.
 pub fn run<K: TrieKey + Drop, V: Copy>(
     trie: &mut Trie<K, V>,
     commands: Vec<Command<K, V>>,
@@ -82,6 +82,7 @@ pub fn run<K: TrieKey + Drop, V: Copy>(
     ensures steps { IfOk result
         (λ replies. Steps K.encoding K.is_light trie.old commands.items replies.items trie.new) }
     ensures unchanged { OnErr result (trie.new ≡ trie.old) }
+    ensures none { commands.items ≡ [] → IsOk result }
 {
     let Ok(mut replies) = Vec::with_capacity(trie.allocator(), commands.len()) else {
         return Err(Memory);

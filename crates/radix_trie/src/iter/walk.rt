@@ -1,5 +1,5 @@
 //! The ordered walk over keys and values.
-ghost use Rattle.std.specs.Prelude.{◌≡◌, ◌+◌, ◌<◌, ◌≤◌, ◌^◌, [], IfOk, length, option_map, vec_capacity};
+ghost use Rattle.std.specs.Prelude.{◌≡◌, ◌+◌, ◌<◌, ◌≤◌, ◌^◌, [], IsOk, IfOk, length, option_map, vec_capacity};
 ghost use Rattle.std.specs.Iterator.{YieldsFirstBy, item_count};
 ghost use Rattle.masked_tree.specs.Tree.{entries_at};
 ghost use Rattle.masked_tree.specs.Sizes.{levels};
@@ -56,6 +56,7 @@ impl<'a, K, V> Iter<'a, K, V> {
         requires { length (entries_at [] (tree_of node.now)) < 2 ^ 64 }
         ensures pairs { IfOk result (λ walk. walk ≡ pairs_in (tree_of node.now)) }
         ensures countable { IfOk result (λ walk. length walk < 2 ^ 64) }
+        ensures leaf { levels (tree_of node.now).children ≡ 0 → IsOk result }
     {
         let Some(height) = height(node) else {
             return Err(Memory);

@@ -1,8 +1,9 @@
 //! Tries built from pairs.
-ghost use Rattle.std.specs.Prelude.{◌≡◌, ◌≢◌, ◌↔◌, ⊤, IfOk, IfErr, OnOk};
+ghost use Rattle.std.specs.Prelude.{◌≡◌, ◌≢◌, ⊤, IfOk, IfErr, OnOk};
 ghost use Rattle.std.specs.Iterator.{IsFinite};
 ghost use Rattle.std.specs.Iterator.Runs.{SomeRun, WholeRun};
-ghost use Rattle.radix_trie.specs.Building.{IsOneTooMany, IsStoppedAt, pairs_in_order, with_pairs};
+ghost use Rattle.radix_trie.specs.Building.{IsRefusedAtLast, IsStoppedAt, pairs_in_order, why_of, with_pairs};
+ghost use Rattle.radix_trie.specs.Keys.{IsKeyed};
 ghost use Rattle.radix_trie.specs.Refusals.{RefusesInsert};
 
 use crate::error::{BuildError, InsertError, InsertWhy};
@@ -18,7 +19,8 @@ impl<K: TrieKey + Drop, V: Drop> Trie<K, V> {
     ///
     /// # Errors
     ///
-    /// Those of `insert`. The pairs that were stored are dropped then, and so is the iterator.
+    /// Those of `insert`, for one of the pairs, so never where there is none. The pairs that were
+    /// stored are dropped then, and so is the iterator.
     ///
     /// # Examples
     ///
@@ -31,8 +33,9 @@ impl<K: TrieKey + Drop, V: Drop> Trie<K, V> {
         requires ends { IsFinite (I.remaining iter) }
         ensures pairs { IfOk result (λ trie.
             WholeRun I.next_gives iter (λ p. trie ≡ pairs_in_order K.encoding p.items)) }
-        ensures full { IfErr result (λ e. e ≡ BuildError.Full
-            → SomeRun I.next_gives iter (λ p. IsOneTooMany K.encoding p.items)) }
+        ensures why { IfErr result (λ e. SomeRun I.next_gives iter
+            (λ p. IsRefusedAtLast K.encoding K.is_light p.items e)) }
+        ensures keyed { IfOk result (IsKeyed K.encoding K.is_value) }
     {
         let mut trie = Trie::new(alloc);
         match trie.extend(iter) {
@@ -62,6 +65,8 @@ impl<K: TrieKey + Drop, V: Drop> Trie<K, V> {
             (λ p. IsStoppedAt K.encoding self.old self.new p.items (e.key, e.value))) }
         ensures why { IfErr result
             (λ e. RefusesInsert self.new (K.encoding e.key) ⊤ (K.is_light e.key) e.why) }
+        ensures keyed { IsKeyed K.encoding K.is_value self.old
+            → IsKeyed K.encoding K.is_value self.new }
     {
         for (key, value) in iter {
             if let Err(error) = self.insert(key, value) {
@@ -75,7 +80,7 @@ impl<K: TrieKey + Drop, V: Drop> Trie<K, V> {
 /// The refusal of a build by that of an insertion into a trie, where no key is outside.
 fn why_not_built<K: Drop, V: Drop>(error: InsertError<K, V>) -> BuildError
     requires { error.why ≢ InsertWhy.Outside }
-    ensures { (result ≡ BuildError.Full) ↔ (error.why ≡ InsertWhy.Full) }
+    ensures { error.why ≡ why_of result }
 {
     match error.why {
         InsertWhy::Full => BuildError::Full,

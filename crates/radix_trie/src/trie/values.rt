@@ -1,6 +1,7 @@
 //! Changes of all values.
 ghost use Rattle.std.specs.Prelude.{[], All};
 ghost use Rattle.std.specs.Fn.{FnOnceReturnsAtMut, FnOnceTakesAtMut};
+ghost use Rattle.radix_trie.specs.Keys.{IsKeyed};
 ghost use Rattle.radix_trie.specs.Values.{ChangesEachValue};
 ghost use Rattle.radix_trie.specs.Views.{pairs_below};
 
@@ -9,8 +10,8 @@ use radix_keys::TrieKey;
 use radix_nodes::traversal::values::change_values;
 
 impl<K: TrieKey, V> Trie<K, V> {
-    /// Changes each value by one call of the closure, in the order of the encodings. The encodings
-    /// and the keys stay, and no memory is taken.
+    /// Changes each value by one call of the closure. The encodings and the keys stay, and no memory
+    /// is taken.
     ///
     /// The closure has to be callable on each stored value.
     ///
@@ -21,6 +22,8 @@ impl<K: TrieKey, V> Trie<K, V> {
         requires callable { All (λ p. FnOnceTakesAtMut F.FnOnce f p.1) (pairs_below self.old []) }
         ensures changed { ChangesEachValue (λ v w. FnOnceReturnsAtMut F.FnOnce f v tt w)
             self.old self.new }
+        ensures keyed { IsKeyed K.encoding K.is_value self.old
+            → IsKeyed K.encoding K.is_value self.new }
     {
         change_values(&mut self.root, &f);
     }

@@ -57,7 +57,7 @@ pub trait TrieCommon<'a, K: TrieKey + 'a, V: 'a>: Sized {
     /// # Errors
     ///
     /// Memory for the walk is refused. It grows with the height below the path, and not with the
-    /// count of pairs.
+    /// count of pairs, so none is taken where no pair is at or below the path.
     ///
     /// # Examples
     ///
@@ -65,7 +65,8 @@ pub trait TrieCommon<'a, K: TrieKey + 'a, V: 'a>: Sized {
     fn iter(self) -> Result<Iter<'a, K, V>, Memory>
         ensures walk { IfOk result (λ pairs. pairs ≡ pairs_below (map self) (path self)) }
         ensures keyed { Each (λ e. e.0 ≡ K.encoding e.1.0) (walk (map self) (path self)) }
-        ensures countable { IfOk result (λ pairs. length pairs < 2 ^ 64) };
+        ensures countable { IfOk result (λ pairs. length pairs < 2 ^ 64) }
+        ensures none { finite.len (below (map self) (path self)) ≡ 0 → IsOk result };
 
     /// The keys of the walk of `iter`.
     ///
@@ -75,7 +76,8 @@ pub trait TrieCommon<'a, K: TrieKey + 'a, V: 'a>: Sized {
     fn keys(self) -> Result<Keys<'a, K, V>, Memory>
         ensures walk { IfOk result
             (λ keys. keys ≡ each (λ p. p.0) (pairs_below (map self) (path self))) }
-        ensures countable { IfOk result (λ keys. length keys < 2 ^ 64) };
+        ensures countable { IfOk result (λ keys. length keys < 2 ^ 64) }
+        ensures none { finite.len (below (map self) (path self)) ≡ 0 → IsOk result };
 
     /// The values of the walk of `iter`.
     ///
@@ -85,7 +87,8 @@ pub trait TrieCommon<'a, K: TrieKey + 'a, V: 'a>: Sized {
     fn values(self) -> Result<Values<'a, K, V>, Memory>
         ensures walk { IfOk result
             (λ values. values ≡ each (λ p. p.1) (pairs_below (map self) (path self))) }
-        ensures countable { IfOk result (λ values. length values < 2 ^ 64) };
+        ensures countable { IfOk result (λ values. length values < 2 ^ 64) }
+        ensures none { finite.len (below (map self) (path self)) ≡ 0 → IsOk result };
 
     /// The walk over the pairs at and below the path from the key's encoding on: those whose
     /// encodings are the key's or come after it, in their order. The key needn't be stored, nor lie
@@ -95,7 +98,8 @@ pub trait TrieCommon<'a, K: TrieKey + 'a, V: 'a>: Sized {
     ///
     /// # Errors
     ///
-    /// Memory is refused, for the key's encoding or for the walk.
+    /// Memory is refused, for the key's encoding or for the walk. That never comes where the key is
+    /// light and no pair is at or below the path.
     ///
     /// # Examples
     ///
@@ -103,7 +107,10 @@ pub trait TrieCommon<'a, K: TrieKey + 'a, V: 'a>: Sized {
     fn iter_from<Q: TrieKey>(self, key: &Q) -> Result<Iter<'a, K, V>, Memory>
         ensures walk { IfOk result (λ pairs. pairs
             ≡ pairs_from (map self) (path self) (Q.encoding key.now)) }
-        ensures countable { IfOk result (λ pairs. length pairs < 2 ^ 64) };
+        ensures countable { IfOk result (λ pairs. length pairs < 2 ^ 64) }
+        ensures light_none { Q.is_light key.now
+            → finite.len (below (map self) (path self)) ≡ 0
+            → IsOk result };
 
     /// The walk over the pairs at and below the path that come after the key's encoding, in the
     /// order of their encodings: a walk that was left at this key goes on so. The key needn't be
@@ -115,7 +122,10 @@ pub trait TrieCommon<'a, K: TrieKey + 'a, V: 'a>: Sized {
     fn iter_after<Q: TrieKey>(self, key: &Q) -> Result<Iter<'a, K, V>, Memory>
         ensures walk { IfOk result (λ pairs. pairs
             ≡ pairs_after (map self) (path self) (Q.encoding key.now)) }
-        ensures countable { IfOk result (λ pairs. length pairs < 2 ^ 64) };
+        ensures countable { IfOk result (λ pairs. length pairs < 2 ^ 64) }
+        ensures light_none { Q.is_light key.now
+            → finite.len (below (map self) (path self)) ≡ 0
+            → IsOk result };
 
     /// The key and the value of the first pair at and below the path, in the order of the encodings, if there is one. It
     /// takes no memory.

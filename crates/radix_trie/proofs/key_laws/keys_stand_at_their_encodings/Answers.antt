@@ -5,4 +5,4 @@ pub returns : goal.returns
 returns g c =
     let enc = g.K.TrieKey.encoding in
     let keyed = c.root.ensures.keyed in
-    record { stored = keyed_get enc c.args.trie.now keyed; below = keys_below enc c.args.trie.now keyed; rising = encodings_rise enc c.args.trie.now keyed }
+    record { keyed = λ is e p at. (keyed_get enc c.args.trie.now keyed e p at, is p.0); stored = keyed_get enc c.args.trie.now keyed; below = keys_below enc c.args.trie.now keyed; rising = encodings_rise enc c.args.trie.now keyed }

@@ -1,6 +1,7 @@
-use Rattle.std.proofs.Common.{sym, subst}
+use Rattle.std.proofs.Common.{not, sym, subst}
+use Rattle.nibble_map.specs.Lists.{is_prefix}
 use Rattle.radix_trie.specs.Keys.{IsKeyed}
-use Rattle.radix_trie.proofs.ChangeLemmas.Keyed.{keyed_empty, keyed_inserted, keyed_removed, keyed_written}
+use Rattle.radix_trie.proofs.ChangeLemmas.Keyed.{keyed_empty, keyed_extended, keyed_inserted, keyed_part, keyed_removed, keyed_written}
 use Rattle.radix_trie.proofs.key_laws.stored_keys_are_equal.Goals as goal
 
 pub returns-clause-equal : goal.returns-clause-equal
@@ -19,3 +20,12 @@ returns-clause-removed g c = λ m e keyed. keyed_removed g.K.TrieKey.encoding g.
 
 pub returns-clause-written : goal.returns-clause-written
 returns-clause-written g c = λ m e v keyed. keyed_written g.K.TrieKey.encoding g.K.TrieKey.is_value m e v keyed
+
+pub returns-clause-part : goal.returns-clause-part
+returns-clause-part g c = λ m e. keyed_part g.K.TrieKey.encoding g.K.TrieKey.is_value m (is_prefix e)
+
+pub returns-clause-rest : goal.returns-clause-rest
+returns-clause-rest g c = λ m e. keyed_part g.K.TrieKey.encoding g.K.TrieKey.is_value m (λ q. not (is_prefix e q))
+
+pub returns-clause-extended : goal.returns-clause-extended
+returns-clause-extended g c = keyed_extended g.K.TrieKey.encoding g.K.TrieKey.is_value

@@ -1,5 +1,5 @@
 //! The ordered walk from a list on.
-ghost use Rattle.std.specs.Prelude.{◌≡◌, ◌+◌, ◌<◌, ◌≤◌, ◌^◌, ◌++◌, [], Bool, IfOk, IfSome, drop, length, vec_capacity, vec_len};
+ghost use Rattle.std.specs.Prelude.{◌≡◌, ◌+◌, ◌<◌, ◌≤◌, ◌^◌, ◌++◌, [], Bool, IsOk, IfOk, IfSome, drop, length, vec_capacity, vec_len};
 ghost use Rattle.masked_tree.specs.Tree.{IsTreePlaced, entries_at, entries_in};
 ghost use Rattle.masked_tree.specs.Sizes.{levels};
 ghost use Rattle.radix_nodes.specs.Nodes.{children_of, out_of, tree_of};
@@ -30,6 +30,7 @@ impl<'a, K, V> Iter<'a, K, V> {
         ensures pairs { IfOk result
             (λ walk. walk ≡ later_pairs itself (drop depth list.now) (tree_of node.now)) }
         ensures countable { IfOk result (λ walk. length walk < 2 ^ 64) }
+        ensures leaf { levels (tree_of node.now).children ≡ 0 → IsOk result }
     {
         let Some(height) = height(node) else {
             return Err(Memory);

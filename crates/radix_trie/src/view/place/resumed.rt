@@ -1,6 +1,7 @@
 //! The walks over the pairs at and below a path from a key on.
-ghost use Rattle.std.specs.Prelude.{◌≡◌, ◌<◌, ◌^◌, IfOk, filter, length, map as each};
-ghost use Rattle.nibble_map.specs.Maps.{walk};
+ghost use Rattle.std.specs.Prelude.{◌≡◌, ◌<◌, ◌^◌, IsOk, IfOk, filter, length, map as each};
+ghost use Rattle.std.specs.FinMap as map;
+ghost use Rattle.nibble_map.specs.Maps.{below, walk};
 ghost use Rattle.radix_trie.specs.Views.{pairs_after, pairs_from};
 ghost use Rattle.radix_trie.specs.Walks.{comes_after};
 
@@ -14,6 +15,8 @@ impl<'a, 'p, K: TrieKey, V> Place<'a, 'p, K, V> {
         ensures walk { IfOk result (λ pairs. pairs
             ≡ pairs_from self.now.map self.now.path (Q.encoding key.now)) }
         ensures countable { IfOk result (λ pairs. length pairs < 2 ^ 64) }
+        ensures light_none { Q.is_light key.now → map.len (below self.now.map self.now.path) ≡ 0
+            → IsOk result }
     {
         let list = key.encode(self.trie.allocator())?;
         self.resumed(&list, true)
@@ -24,6 +27,8 @@ impl<'a, 'p, K: TrieKey, V> Place<'a, 'p, K, V> {
         ensures walk { IfOk result (λ pairs. pairs
             ≡ pairs_after self.now.map self.now.path (Q.encoding key.now)) }
         ensures countable { IfOk result (λ pairs. length pairs < 2 ^ 64) }
+        ensures light_none { Q.is_light key.now → map.len (below self.now.map self.now.path) ≡ 0
+            → IsOk result }
     {
         let list = key.encode(self.trie.allocator())?;
         self.resumed(&list, false)
@@ -34,6 +39,7 @@ impl<'a, 'p, K: TrieKey, V> Place<'a, 'p, K, V> {
         ensures walk { IfOk result (λ pairs. pairs ≡ each (λ e. e.1)
             (filter (λ e. comes_after itself list.now e.0) (walk self.now.map self.now.path))) }
         ensures countable { IfOk result (λ pairs. length pairs < 2 ^ 64) }
+        ensures none { map.len (below self.now.map self.now.path) ≡ 0 → IsOk result }
     {
         let _pairs = self.trie.len();
         let alloc = self.trie.allocator();

@@ -5,6 +5,7 @@ use Rattle.radix_nodes.specs.Nodes.{tree_of}
 use Rattle.radix_nodes.specs.Values.{LeavesValue, TakesPair}
 use Rattle.radix_trie.specs.Views.{pairs_below}
 use Rattle.radix_trie.proofs.ChangeLemmas.Copies.{copy_kept, copy_map}
+use Rattle.radix_trie.proofs.ChangeLemmas.Keyed.{keyed_changed}
 use Rattle.radix_trie.proofs.ChangeLemmas.Prunings.{pairs_in-branch, root_branch}
 use Rattle.radix_trie.proofs.trie.Trie.for_each_value_mut.Goals as goal
 
@@ -26,4 +27,5 @@ returns g c =
         copied_pairs = λ e x y before after. (let r = copy.copied_pairs e x y before after in
             (r.0, record { shown = r.1.shown; shows = r.1.shows; left = r.1.left; met = r.1.met; leaves = r.1.leaves }));
       };
+      keyed = keyed_changed g.K.TrieKey.encoding g.K.TrieKey.is_value _ _ _ copy;
     })

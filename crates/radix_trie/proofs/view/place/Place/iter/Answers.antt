@@ -1,4 +1,5 @@
 use Rattle.std.proofs.Common.{◌<◌, ◌^◌, ◌∙◌, rules, arith}
+use Rattle.radix_trie.proofs.PathLemmas.Leaves.{leaf_has_no_levels, nothing_is_leaf}
 use Rattle.radix_trie.proofs.PathLemmas.Places.{found_is_small, pairs_in-found, nothing_found-pairs}
 use Rattle.radix_trie.proofs.WalkLemmas.Keyed.{keyed_walk}
 use Rattle.radix_trie.proofs.view.place.Place.iter.Goals as goal
@@ -24,3 +25,8 @@ returns-in-Some-clause-keyed g c =
 pub returns-in-None-clause-keyed : goal.returns-in-None-clause-keyed
 returns-in-None-clause-keyed g c =
     rw (← c.self.view_is) (keyed_walk g.K.TrieKey.encoding c.self.inside.trie.now c.self.inside.path.now c.self.inside.found c.self.invariant)
+
+pub returns-in-Some-clause-none : goal.returns-in-Some-clause-none
+returns-in-Some-clause-none g c =
+    rw (← c.self.view_is)
+    (λ none. c.over.ensures.leaf (leaf_has_no_levels g.K.TrieKey.encoding c.self.inside.trie.now c.self.inside.path.now c.self.inside.found c.self.invariant _ _ c.in-Some.is (nothing_is_leaf c.self.inside.trie.now c.self.inside.path.now none)))

@@ -1,8 +1,9 @@
 use Rattle.std.proofs.Common.{◌<◌, ◌^◌, ◌∙◌, ap, arith, length, rules}
 use Rattle.std.proofs.lemmas.Result.{IfOk-weaker}
 use Rattle.radix_nodes.proofs.NodeLemmas.Nodes.{fragment-tree_of}
+use Rattle.radix_trie.proofs.PathLemmas.Leaves.{leaf_has_no_levels, nothing_is_leaf, nothing_is_short}
 use Rattle.radix_trie.proofs.PathLemmas.Later.{found_after, found_before, found_on, nothing_found-later}
-use Rattle.radix_trie.proofs.PathLemmas.Places.{found_is_small, found_placed, nearest_found}
+use Rattle.radix_trie.proofs.PathLemmas.Places.{false_is_not_true, found_is_small, found_placed, nearest_found}
 use Rattle.radix_trie.proofs.view.place.Place.resumed.Goals as goal
 
 pub extended-requires : goal.extended-requires
@@ -48,3 +49,21 @@ returns-clause-walk g c =
     rw (← c.self.view_is)
     (c.empty-in-None.ensures
     ∙ nothing_found-later g.K.TrieKey.encoding c.self.inside.trie.now c.self.inside.path.now c.self.inside.found c.self.invariant c.args.itself c.args.list.now c.in-None.is)
+
+pub returns-in_err-whole-in-Some-clause-none : goal.returns-in_err-whole-in-Some-clause-none
+returns-in_err-whole-in-Some-clause-none g c =
+    rw (← c.self.view_is)
+    (λ none. absurd (false_is_not_true (c.in_err-whole-in-Some.ensures.short
+    (nothing_is_short g.K.TrieKey.encoding c.self.inside.trie.now c.self.inside.path.now c.self.inside.found c.self.invariant c.in-Some.node c.in-Some.covered c.in-Some.is none))))
+
+pub returns-in-On-clause-none : goal.returns-in-On-clause-none
+returns-in-On-clause-none g c =
+    rw (← c.self.view_is)
+    (λ none. c.resumed.ensures.leaf
+    (leaf_has_no_levels g.K.TrieKey.encoding c.self.inside.trie.now c.self.inside.path.now c.self.inside.found c.self.invariant c.in-Some.node c.in-Some.covered c.in-Some.is (nothing_is_leaf c.self.inside.trie.now c.self.inside.path.now none)))
+
+pub returns-in-Some-clause-none : goal.returns-in-Some-clause-none
+returns-in-Some-clause-none g c =
+    rw (← c.self.view_is)
+    (λ none. c.over.ensures.leaf
+    (leaf_has_no_levels g.K.TrieKey.encoding c.self.inside.trie.now c.self.inside.path.now c.self.inside.found c.self.invariant c.in-Some.node c.in-Some.covered c.in-Some.is (nothing_is_leaf c.self.inside.trie.now c.self.inside.path.now none)))

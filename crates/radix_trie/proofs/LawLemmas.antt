@@ -1,0 +1,6 @@
+-- What callers cite: what parts, walks and pages of a map hold, and the order of keys.
+pub mod Parts
+pub mod Orders
+pub mod Asked
+pub mod Pages
+pub mod OneTree

@@ -1,60 +1,80 @@
 -- What a line asks for.
-use Rattle.std.proofs.Common.{◌≡◌, ◌∙◌, ℕ, List, Option, Some, None, MatchOption, arith, sym, ap, subst, lit<, get_or, codes}
+use Rattle.std.proofs.Common.{◌≡◌, ◌≢◌, ◌∙◌, inl, inr, ℕ, ◌<◌, ◌≤◌, ◌∷◌, List, Some, None, EachIndex, length, get_or, arith, sym, ap, subst, lit<, codes, length-append}
 use Rattle.std.specs.Borrow.{Bor}
-use Rattle.std.specs.Str.{IsUtf8}
-use Rattle.std.proofs.lemmas.Str.Pattern.{IsSplitOnceResult}
-use Rattle.route_tool.specs.declared.command.Command.{Command}
-use Rattle.route_tool.specs.declared.command.Command.TheVariants.{Add, Del, Look, Below}
-use Rattle.route_tool.specs.declared.network.Network.{Network}
-use Rattle.route_tool.specs.Networks.{IsNetworkText}
-use Rattle.route_tool.specs.Commands.{AsksBy, IsAddition, IsHop, IsRequest, IsTextRequest}
-use Rattle.route_tool.proofs.TextLemmas.{not_parted, parted_once, found_parts}
+use Rattle.std.proofs.Math.Seq.{get_or-append_seam}
+use Rattle.std.proofs.lemmas.Str.Pattern.{IsSplitOnceResult, split_after, split_parts}
+use Rattle.radix_keys.specs.Networks.{Net, IsNetText, IsParted}
+use Rattle.radix_keys.proofs.NetworkLemmas.{no_slash}
+use Rattle.route_tool.specs.Requests.{Request, Add, Del, Below, Asks, IsAddition, IsHop, IsTarget, Says, word_of}
 
--- a text with no space is no addition
-pub no_space : (s : List ℕ) → IsSplitOnceResult 32 s None → (n : Network) (hop : List ℕ) → ¬ (IsAddition s n hop)
-no_space s found n hop (text, parted, _, _) = not_parted 32 s text hop found (lit< tt) parted
+-- no part of a text stands before a byte that isn't found
+not_parted : (c : ℕ) (s a b : List ℕ) → IsSplitOnceResult c s None → c < 128 → ¬ (IsParted c s a b)
+not_parted c s a b found low (is, before) = split_after c s a b None found low is before
 
-module _ (s : List ℕ) (x : Bor (List ℕ) × Bor (List ℕ)) (found : IsSplitOnceResult 32 s (Some x)) where
-  -- nor is one with no hop behind its first space
-  pub no_hop : ¬ (IsHop x.1.now) → (n : Network) (hop : List ℕ) → ¬ (IsAddition s n hop)
-  no_hop wrong n hop (text, parted, _, is) = wrong (subst IsHop (sym (parted_once 32 s text hop x found (lit< tt) parted).1) is)
+-- a text is parted at the first such byte in one way
+parted_once : (c : ℕ) (s a b : List ℕ) (x : Bor (List ℕ) × Bor (List ℕ)) → IsSplitOnceResult c s (Some x) → c < 128 → IsParted c s a b → (x.0.now ≡ a) × (x.1.now ≡ b)
+parted_once c s a b x found low (is, before) = split_after c s a b (Some x) found low is before
 
-  -- nor one with no network before it
-  pub no_target : ((n : Network) → ¬ (IsNetworkText x.0.now n)) → (n : Network) (hop : List ℕ) → ¬ (IsAddition s n hop)
-  no_target none n hop (text, parted, is, _) = none n (subst (λ t. IsNetworkText t n) (sym (parted_once 32 s text hop x found (lit< tt) parted).0) is)
-
-  -- what is found are the parts of an addition
-  pub is_addition : (n : Network) → IsNetworkText x.0.now n → IsHop x.1.now → IsAddition s n x.1.now
-  is_addition n network hop = (x.0.now, found_parts 32 s x found (lit< tt), network, hop)
+-- a text with a slash has one
+pub has_slash : (s a b : List ℕ) → IsParted 47 s a b → ¬ (EachIndex s (λ i. get_or s i 0 ≢ 47))
+has_slash s a b (is, before) free =
+    free (length a) (omega (arith, ap length is, length-append a (47 ∷ b))) (ap (λ l. get_or l (length a) 0) is ∙ get_or-append_seam a 47 b 0)
 
 -- one word has one first letter
 same_letter : (word a b : List ℕ) → word ≡ a → word ≡ b → get_or a 0 0 ≡ get_or b 0 0
 same_letter word a b p q = ap (λ (l : List ℕ). get_or l 0 0) (sym p ∙ q)
 
-module _ (word rest : List ℕ) where
-  -- the word add asks for nothing where no addition follows
-  pub no_add : word ≡ codes "add" → ((n : Network) (hop : List ℕ) → ¬ (IsAddition rest n hop)) → (c : Command) → ¬ (AsksBy word rest c)
-  no_add is none (Add n hop) (_, asked) = none n hop.now asked
-  no_add is none (Del n) (other, _) = omega (arith, same_letter word (codes "add") (codes "del") is other)
-  no_add is none (Look a) (other, _) = omega (arith, same_letter word (codes "add") (codes "look") is other)
-  no_add is none (Below n) (other, _) = omega (arith, same_letter word (codes "add") (codes "below") is other)
+module _ {A : Type 0} (w : ℕ) (number : A → ℕ) (writes : List ℕ → A → Type 0) where
+  -- a word with a slash that writes no network in full writes none
+  pub no_network : (s : List ℕ) (x : Bor (List ℕ) × Bor (List ℕ)) → IsSplitOnceResult 47 s (Some x) → ((net : Net A) → ¬ (IsNetText w number writes s net)) → (net : Net A) → ¬ (IsTarget w number writes s net)
+  no_network s x found none net (inl is) = none net is
+  no_network s x found none net (inr (free, _, _)) = has_slash s x.0.now x.1.now (split_parts 47 s (Some x) found (lit< tt)) free
 
-  module _ (none : (n : Network) → ¬ (IsNetworkText rest n)) where
-    -- nor does del where no network follows
-    pub no_del : word ≡ codes "del" → (c : Command) → ¬ (AsksBy word rest c)
-    no_del is (Add n hop) (other, _) = omega (arith, same_letter word (codes "del") (codes "add") is other)
-    no_del is (Del n) (_, asked) = none n asked
-    no_del is (Look a) (other, _) = omega (arith, same_letter word (codes "del") (codes "look") is other)
-    no_del is (Below n) (other, _) = omega (arith, same_letter word (codes "del") (codes "below") is other)
+  module _ (s : List ℕ) (found : IsSplitOnceResult 47 s None) where
+    -- nor does one with no slash that writes no address
+    pub no_host : w ≤ 128 → ((a : A) → ¬ (writes s a)) → (net : Net A) → ¬ (IsTarget w number writes s net)
+    no_host narrow none net (inl is) = no_slash writes number w narrow s found net is
+    no_host narrow none net (inr (_, is, _)) = none net.base is
 
-    -- nor does below
-    pub no_below : word ≡ codes "below" → (c : Command) → ¬ (AsksBy word rest c)
-    no_below is (Add n hop) (other, _) = omega (arith, same_letter word (codes "below") (codes "add") is other)
-    no_below is (Del n) (other, _) = omega (arith, same_letter word (codes "below") (codes "del") is other)
-    no_below is (Look a) (other, _) = omega (arith, same_letter word (codes "below") (codes "look") is other)
-    no_below is (Below n) (_, asked) = none n asked
+    -- a word with no slash that writes an address writes the network of it alone
+    pub is_host : (net : Net A) → writes s net.base → net.bits ≡ w → IsTarget w number writes s net
+    is_host net is bits = inr (split_parts 47 s None found (lit< tt), is, bits)
 
--- a line that is a text asks for what the text does
-pub line_request : (line text : List ℕ) (r : Option Command) → text ≡ line → IsUtf8 line → MatchOption r ((c : Command) → ¬ (IsTextRequest text c)) (IsTextRequest text) → MatchOption r ((c : Command) → ¬ (IsRequest line c)) (IsRequest line)
-line_request line text None same utf8 none = λ c asked. none c (subst (λ t. IsTextRequest t c) (sym same) asked.1)
-line_request line text (Some c) same utf8 asked = (utf8, subst (λ t. IsTextRequest t c) same asked)
+  -- a text with no space is no addition
+  pub no_space : (s : List ℕ) → IsSplitOnceResult 32 s None → (net : Net A) (hop : List ℕ) → ¬ (IsAddition w number writes s net hop)
+  no_space s found net hop (text, parted, _, _) = not_parted 32 s text hop found (lit< tt) parted
+
+  module _ (s : List ℕ) (x : Bor (List ℕ) × Bor (List ℕ)) (found : IsSplitOnceResult 32 s (Some x)) where
+    -- nor is one with no hop behind its first space
+    pub no_hop : ¬ (IsHop x.1.now) → (net : Net A) (hop : List ℕ) → ¬ (IsAddition w number writes s net hop)
+    no_hop wrong net hop (text, parted, _, is) = wrong (subst IsHop (sym (parted_once 32 s text hop x found (lit< tt) parted).1) is)
+
+    -- nor one with no network before it
+    pub no_target : ((net : Net A) → ¬ (IsTarget w number writes x.0.now net)) → (net : Net A) (hop : List ℕ) → ¬ (IsAddition w number writes s net hop)
+    no_target none net hop (text, parted, is, _) =
+        none net (subst (λ t. IsTarget w number writes t net) (sym (parted_once 32 s text hop x found (lit< tt) parted).0) is)
+
+    -- what is found are the parts of an addition
+    pub is_addition : (net : Net A) → IsTarget w number writes x.0.now net → IsHop x.1.now → IsAddition w number writes s net x.1.now
+    is_addition net target hop = (x.0.now, split_parts 32 s (Some x) found (lit< tt), target, hop)
+
+    -- the text asks for what its word and the rest do
+    pub asks : (r : Request A) → x.0.now ≡ word_of r → Says w number writes r x.1.now → Asks w number writes s r
+    asks r is says = (x.1.now, subst (λ word. IsParted 32 s word x.1.now) is (split_parts 32 s (Some x) found (lit< tt)), says)
+
+  module _ (word rest : List ℕ) where
+    -- the word add asks for nothing where no addition follows
+    pub no_add : word ≡ codes "add" → ((net : Net A) (hop : List ℕ) → ¬ (IsAddition w number writes rest net hop)) → (r : Request A) → word ≡ word_of r → ¬ (Says w number writes r rest)
+    no_add is none (Add net hop) _ says = none net hop says
+    no_add is none r other says = omega (arith, same_letter word (codes "add") (word_of r) is other)
+
+    module _ (none : (net : Net A) → ¬ (IsTarget w number writes rest net)) where
+      -- nor does del where no network follows
+      pub no_del : word ≡ codes "del" → (r : Request A) → word ≡ word_of r → ¬ (Says w number writes r rest)
+      no_del is (Del net) _ says = none net says
+      no_del is r other says = omega (arith, same_letter word (codes "del") (word_of r) is other)
+
+      -- nor does below
+      pub no_below : word ≡ codes "below" → (r : Request A) → word ≡ word_of r → ¬ (Says w number writes r rest)
+      no_below is (Below net) _ says = none net says
+      no_below is r other says = omega (arith, same_letter word (codes "below") (word_of r) is other)

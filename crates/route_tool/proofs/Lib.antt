@@ -1,6 +1,12 @@
--- What a text is parted into, and which texts write addresses and networks.
-pub mod TextLemmas
+-- What the lists of a trie say of its networks.
+pub mod RouteLemmas
+-- Hops as numbers, one after another.
+pub mod NumberLemmas
+-- Lists of routes, with their hops as texts and as numbers.
+pub mod AggregateLemmas
+-- Answers of parts.
+pub mod AnswerLemmas
 -- What a line asks for.
 pub mod CommandLemmas
--- What the lists of a table's tries say of its networks.
-pub mod TableLemmas
+-- A line asks for one thing at most.
+pub mod OneRequest

@@ -1,11 +1,13 @@
--- What is answered to a command.
-use Rattle.std.specs.Prelude.{◌≡◌, ℕ, List, [], ◌∷◌, ◌++◌, length, flat_map, Option, None, Some, codes, decimal}
-use Rattle.route_tool.specs.Networks.{network_text}
-use Rattle.route_tool.specs.Tables.{IsNextHop, hop_at, routes_below, with_route, without_route}
-use Rattle.route_tool.specs.declared.command.Command.{Command}
-use Rattle.route_tool.specs.declared.command.Command.TheVariants.{Add, Del, Look, Below}
-use Rattle.route_tool.specs.declared.address.Address.{Address}
-use Rattle.route_tool.specs.declared.table.Route.{Route}
+-- What is answered to a request.
+use Rattle.std.specs.Prelude.{◌≡◌, ℕ, ◌+◌, List, [], ◌∷◌, ◌++◌, length, flat_map, Option, None, Some, codes, decimal}
+use Rattle.std.specs.Net.Addr.{ipv4_bits, ipv6_bits, ipv4_octets, ipv6_segments}
+use Rattle.std.specs.Net.Text.{ipv4_text, ipv6_text}
+use Rattle.std.specs.declared.net.ipv4_addr.Ipv4Addr.{Ipv4Addr}
+use Rattle.std.specs.declared.net.ipv6_addr.Ipv6Addr.{Ipv6Addr}
+use Rattle.radix_keys.specs.Networks.{net_text}
+use Rattle.route_tool.specs.Aggregates.{IsAggregate}
+use Rattle.route_tool.specs.Requests.{Request, Add, Del, Below, Look, Find, Asked, V4, V6, Len, All, Aggregate, Comment}
+use Rattle.route_tool.specs.Routes.{Route, Routes, IsLongest, hop_at, hop_of, in_order, routes_within, with_route, without_route}
 use Rattle.route_tool.specs.declared.table.Table.{Table}
 
 -- of an added route, by the hop that its network had
@@ -18,24 +20,70 @@ abbrev pub hop_answer : Option (List ℕ) → List ℕ
 hop_answer None = codes "none\n"
 hop_answer (Some hop) = hop ++ 10 ∷ []
 
--- a network, a space and its hop
-abbrev pub row : Route → List ℕ
-row r = network_text r.network ++ codes " " ++ r.hop ++ 10 ∷ []
+-- how many routes there are
+abbrev pub count_answer : ℕ → List ℕ
+count_answer count = decimal count ++ 10 ∷ []
 
--- how many routes there are, and then each
-abbrev pub below_answer : List Route → List ℕ
-below_answer rows = (decimal (length rows) ++ 10 ∷ []) ++ flat_map row rows
+-- what is written of an address
+module _ {A : Type 0} (text : A → List ℕ) where
+  -- a network, a space and its hop
+  abbrev pub row : Route A → List ℕ
+  row r = net_text text r.0 ++ codes " " ++ r.1 ++ 10 ∷ []
 
--- the answer to a look-up is the hop of the longest network that holds the address
-abbrev pub IsLookAnswer : Table → Address → List ℕ → Type 0
-IsLookAnswer t address answer =
-    (found : Option (List ℕ)) × IsNextHop t address found × (answer ≡ hop_answer found)
+  -- a row, or that there is none
+  abbrev pub find_answer : Option (Route A) → List ℕ
+  find_answer None = codes "none\n"
+  find_answer (Some r) = row r
 
--- the answer to a command, and the table after it
-abbrev pub IsReply : Command → Table → Table → List ℕ → Type 0
-IsReply (Add net hop) t u answer =
-    (answer ≡ added_answer (hop_at t net)) × (u ≡ with_route t net hop.now)
-IsReply (Del net) t u answer =
-    (answer ≡ hop_answer (hop_at t net)) × (u ≡ without_route t net)
-IsReply (Look address) t u answer = IsLookAnswer t address answer × (u ≡ t)
-IsReply (Below net) t u answer = (answer ≡ below_answer (routes_below t net)) × (u ≡ t)
+  -- how many routes there are, and then each
+  abbrev pub below_answer : List (Route A) → List ℕ
+  below_answer routes = count_answer (length routes) ++ flat_map row routes
+
+  -- the answer to a request of one family, and its routes after it
+  abbrev pub IsReply : (w : ℕ) (number : A → ℕ) → Request A → Routes A → Routes A → List ℕ → Type 0
+  IsReply w number (Add net hop) m n answer =
+      (answer ≡ added_answer (hop_at w number m net)) × (n ≡ with_route w number m net hop)
+  IsReply w number (Del net) m n answer =
+      (answer ≡ hop_answer (hop_at w number m net)) × (n ≡ without_route w number m net)
+  IsReply w number (Below net) m n answer =
+      (answer ≡ below_answer (routes_within w number m net)) × (n ≡ m)
+  IsReply w number (Look address) m n answer = (found : Option (Route A))
+      × IsLongest w number m (number address) found × (answer ≡ hop_answer (hop_of found)) × (n ≡ m)
+  IsReply w number (Find address) m n answer = (found : Option (Route A))
+      × IsLongest w number m (number address) found × (answer ≡ find_answer found) × (n ≡ m)
+
+abbrev pub ipv4_row : Route Ipv4Addr → List ℕ
+ipv4_row r = row (λ a. ipv4_text (ipv4_octets a)) r
+
+abbrev pub ipv6_row : Route Ipv6Addr → List ℕ
+ipv6_row r = row (λ a. ipv6_text (ipv6_segments a)) r
+
+-- how many routes there are of both families
+abbrev pub count_of : Table → ℕ
+count_of t = length (in_order t.v4) + length (in_order t.v6)
+
+-- how many routes there are, and then each, those of IPv4 first
+abbrev pub rows_answer : List (Route Ipv4Addr) → List (Route Ipv6Addr) → List ℕ
+rows_answer v4 v6 = count_answer (length v4 + length v6)
+    ++ flat_map ipv4_row v4 ++ flat_map ipv6_row v6
+
+-- all routes
+abbrev pub list_answer : Table → List ℕ
+list_answer t = rows_answer (in_order t.v4) (in_order t.v6)
+
+-- the least lists of routes that give each address of their family the hop that the table gives it
+abbrev pub IsAggregateAnswer : Table → List ℕ → Type 0
+IsAggregateAnswer t answer = (v4 : List (Route Ipv4Addr)) × (v6 : List (Route Ipv6Addr))
+    × IsAggregate 32 ipv4_bits t.v4 v4 × IsAggregate 128 ipv6_bits t.v6 v6
+    × (answer ≡ rows_answer v4 v6)
+
+-- the answer to what is asked, and the table after it
+abbrev pub IsAnswer : Asked → Table → Table → List ℕ → Type 0
+IsAnswer (V4 r) t u answer =
+    IsReply (λ a. ipv4_text (ipv4_octets a)) 32 ipv4_bits r t.v4 u.v4 answer × (u.v6 ≡ t.v6)
+IsAnswer (V6 r) t u answer =
+    IsReply (λ a. ipv6_text (ipv6_segments a)) 128 ipv6_bits r t.v6 u.v6 answer × (u.v4 ≡ t.v4)
+IsAnswer Len t u answer = (answer ≡ count_answer (count_of t)) × (u ≡ t)
+IsAnswer All t u answer = (answer ≡ list_answer t) × (u ≡ t)
+IsAnswer Aggregate t u answer = IsAggregateAnswer t answer × (u ≡ t)
+IsAnswer Comment t u answer = (answer ≡ []) × (u ≡ t)

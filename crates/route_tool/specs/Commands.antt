@@ -1,32 +1,21 @@
--- What a line asks for.
-use Rattle.std.specs.Prelude.{◌≡◌, ◌≢◌, ℕ, ◌<◌, EachIndex, List, length, slice_index, codes}
-use Rattle.std.specs.Str.{IsUtf8}
-use Rattle.route_tool.specs.Networks.{IsAddressText, IsNetworkText, IsParted}
+-- What the code's commands stand for.
+use Rattle.route_tool.specs.Requests as asked
 use Rattle.route_tool.specs.declared.command.Command.{Command}
-use Rattle.route_tool.specs.declared.command.Command.TheVariants.{Add, Del, Look, Below}
-use Rattle.route_tool.specs.declared.network.Network.{Network}
+use Rattle.route_tool.specs.declared.command.Command.TheVariants.{V4, V6, Len, All, Aggregate, Comment}
+use Rattle.route_tool.specs.declared.command.Request.{Request}
+use Rattle.route_tool.specs.declared.command.Request.TheVariants.{Add, Del, Below, Look, Find}
 
--- a text of one byte or more, none of them a space
-abbrev pub IsHop : List ℕ → Type 0
-IsHop hop = (0 < length hop) × EachIndex hop (λ i. slice_index hop i ≢ 32)
+abbrev pub request_of : {A : Type 0} → Request A → asked.Request A
+request_of (Add net hop) = asked.Add net hop.now
+request_of (Del net) = asked.Del net
+request_of (Below net) = asked.Below net
+request_of (Look address) = asked.Look address
+request_of (Find address) = asked.Find address
 
--- the text of a network, a space and a hop
-abbrev pub IsAddition : List ℕ → Network → List ℕ → Type 0
-IsAddition rest net hop =
-    (text : List ℕ) × IsParted 32 rest text hop × IsNetworkText text net × IsHop hop
-
--- what a word and the text behind it ask for
-abbrev pub AsksBy : (word rest : List ℕ) → Command → Type 0
-AsksBy word rest (Add net hop) = (word ≡ codes "add") × IsAddition rest net hop.now
-AsksBy word rest (Del net) = (word ≡ codes "del") × IsNetworkText rest net
-AsksBy word rest (Look address) = (word ≡ codes "look") × IsAddressText rest address
-AsksBy word rest (Below net) = (word ≡ codes "below") × IsNetworkText rest net
-
--- what a text asks for: a word, a space and the rest
-abbrev pub IsTextRequest : List ℕ → Command → Type 0
-IsTextRequest text c =
-    (word : List ℕ) × (rest : List ℕ) × IsParted 32 text word rest × AsksBy word rest c
-
--- what a line asks for
-abbrev pub IsRequest : List ℕ → Command → Type 0
-IsRequest line c = IsUtf8 line × IsTextRequest line c
+abbrev pub asked_of : Command → asked.Asked
+asked_of (V4 r) = asked.V4 (request_of r)
+asked_of (V6 r) = asked.V6 (request_of r)
+asked_of Len = asked.Len
+asked_of All = asked.All
+asked_of Aggregate = asked.Aggregate
+asked_of Comment = asked.Comment

@@ -1,116 +1,200 @@
-//! Carrying out a command, and the whole answer to it.
-ghost use Rattle.std.specs.Prelude.{◌≡◌, ◌++◌, IfOk, OnOk, map as each, option_copied};
-ghost use Rattle.route_tool.specs.Tables.{routes_below};
-ghost use Rattle.route_tool.specs.Answers.{IsLookAnswer, IsReply, added_answer, below_answer, hop_answer, row};
+//! Carrying out a command, and its answer, straight behind the answers that wait.
+ghost use Rattle.std.specs.Prelude.{◌≡◌, ◌++◌, ◌∷◌, [], ℕ, List, IfSome, OnOk, OnErr, flat_map, map, option_copied};
+ghost use Rattle.nibble_map.specs.Lists.{IsPrefix};
+ghost use Rattle.radix_keys.specs.Networks.{net_text};
+ghost use Rattle.route_tool.specs.Answers.{IsAggregateAnswer, IsAnswer, IsReply, added_answer, below_answer, count_answer, hop_answer, list_answer, row};
+ghost use Rattle.route_tool.specs.Aggregates.{route_of};
+ghost use Rattle.route_tool.specs.Commands.{asked_of, request_of};
+ghost use Rattle.route_tool.specs.Routes.{routes_within};
 
-use crate::address::Address;
-use crate::command::Command;
+use crate::aggregate::aggregate;
+use crate::command::{Command, Request};
 use crate::hop::Hop;
-use crate::network::Network;
-use crate::table::{Route, Rows, Table};
-use radix_trie::Memory;
-use std::alloc::{AllocError, Global};
-use std::io::Write;
+use crate::table::{Routes, Table, Walk};
+use arrayvec::ArrayString;
+use itoa::Buffer;
+use radix_trie::{Address, Memory, Network};
+use std::alloc::AllocError;
+use std::fmt::Write;
 
-/// The answer to an added route, by the hop that the network had.
-fn added_answer(alloc: Global, old: Option<Hop>) -> Result<Vec<u8>, AllocError>
-    ensures { IfOk result (λ answer. answer.items ≡ added_answer old) }
+// How many bytes the longest text of a network has: that of eight segments of four digits.
+const LONGEST: usize = 43;
+
+/// Adds a number and a line feed.
+fn add_count(out: &mut Vec<u8>, count: u128) -> Result<(), AllocError>
+    ensures text { OnOk result (out.new.items ≡ out.old.items ++ count_answer count) }
+    ensures kept { IsPrefix out.old.items out.new.items }
 {
-    let mut out = Vec::new(alloc);
-    match old {
-        None => out.extend_from_slice(b"new\n")?,
-        Some(hop) => {
-            out.extend_from_slice(b"old ")?;
-            out.extend_from_slice(hop.as_bytes())?;
-            out.extend_from_slice(b"\n")?;
-        }
-    }
-    Ok(out)
+    out.extend_from_slice(Buffer::new().format(count).as_bytes())?;
+    out.extend_from_slice(b"\n")
 }
 
-/// The answer that is a hop, or that there is none.
-fn hop_answer(alloc: Global, found: Option<&Hop>) -> Result<Vec<u8>, AllocError>
-    ensures { IfOk result (λ answer. answer.items ≡ hop_answer (option_copied found.entry)) }
+/// Adds a hop and a line feed.
+fn add_hop(out: &mut Vec<u8>, hop: &Hop) -> Result<(), AllocError>
+    ensures text { OnOk result (out.new.items ≡ out.old.items ++ hop.now ++ 10 ∷ []) }
+    ensures kept { IsPrefix out.old.items out.new.items }
 {
-    let mut out = Vec::new(alloc);
-    match found {
-        None => out.extend_from_slice(b"none\n")?,
+    out.extend_from_slice(hop.as_bytes())?;
+    out.extend_from_slice(b"\n")
+}
+
+fn add_added_answer(out: &mut Vec<u8>, old: Option<Hop>) -> Result<(), AllocError>
+    ensures text { OnOk result (out.new.items ≡ out.old.items ++ added_answer old) }
+    ensures kept { IsPrefix out.old.items out.new.items }
+{
+    match old {
+        None => out.extend_from_slice(b"new\n"),
         Some(hop) => {
-            out.extend_from_slice(hop.as_bytes())?;
-            out.extend_from_slice(b"\n")?;
+            out.extend_from_slice(b"old ")?;
+            add_hop(out, &hop)
         }
     }
-    Ok(out)
+}
+
+fn add_hop_answer(out: &mut Vec<u8>, found: Option<&Hop>) -> Result<(), AllocError>
+    ensures text { OnOk result
+        (out.new.items ≡ out.old.items ++ hop_answer (option_copied found.entry)) }
+    ensures kept { IsPrefix out.old.items out.new.items }
+{
+    match found {
+        None => out.extend_from_slice(b"none\n"),
+        Some(hop) => add_hop(out, hop),
+    }
+}
+
+/// What is written of a network. It has room in the array, so there is always a text.
+///
+/// It isn't written into the answers at once: where such a write is refused, its contract says
+/// nothing of what they then hold.
+fn text_of<A: Address>(network: &Network<A>) -> Option<ArrayString<LONGEST>>
+    ensures { IfSome result (λ text. text.bytes ≡ net_text A.text network.now) }
+{
+    let mut text = ArrayString::new();
+    match text.write_fmt(*network) {
+        Ok(()) => Some(text),
+        Err(_) => None,
+    }
 }
 
 /// Adds a network, a space and its hop.
-fn add_row(out: &mut Vec<u8>, route: &Route) -> Result<(), Memory>
-    ensures { OnOk result (out.new.items ≡ out.old.items ++ row route.now) }
+fn add_row<A: Address>(out: &mut Vec<u8>, network: &Network<A>, hop: &Hop) -> Result<(), AllocError>
+    ensures text { OnOk result
+        (out.new.items ≡ out.old.items ++ row A.text (network.now, hop.now)) }
+    ensures kept { IsPrefix out.old.items out.new.items }
 {
-    if out.write_fmt(route.network).is_err() {
-        return Err(Memory);
-    }
+    let Some(text) = text_of(network) else {
+        return Err(AllocError);
+    };
+    out.extend_from_slice(text.as_str().as_bytes())?;
     out.extend_from_slice(b" ")?;
-    out.extend_from_slice(route.hop.as_bytes())?;
-    Ok(out.extend_from_slice(b"\n")?)
+    add_hop(out, hop)
 }
 
 /// Adds each route.
-fn add_rows(out: &mut Vec<u8>, rows: Rows<'_>) -> Result<(), Memory>
-    ensures { OnOk result (out.new.items
-        ≡ out.old.items ++ below_answer (each (λ p. p.1) rows.entry.walk)) }
+fn add_walk<A: Address>(out: &mut Vec<u8>, walk: Walk<'_, A>) -> Result<(), AllocError>
+    ensures text { OnOk result
+        (out.new.items ≡ out.old.items ++ flat_map (row A.text) walk.entry) }
+    ensures kept { IsPrefix out.old.items out.new.items }
 {
-    let Rows { count, walk } = rows;
-    if out.writeln(count).is_err() {
-        return Err(Memory);
-    }
-    for (_, route) in walk {
-        add_row(out, route)?;
+    for (network, hop) in walk {
+        add_row(out, network, hop)?;
     }
     Ok(())
 }
 
-/// How many routes lie within the network, and then each of them.
-fn below(alloc: Global, table: &Table, network: &Network) -> Result<Vec<u8>, Memory>
-    ensures { IfOk result
-        (λ answer. answer.items ≡ below_answer (routes_below table.now network.now)) }
+/// Adds how many routes lie within the network, and then each of them.
+fn add_below<A: Address>(
+    out: &mut Vec<u8>,
+    routes: &Routes<A>,
+    network: &Network<A>,
+) -> Result<(), Memory>
+    ensures text { OnOk result (out.new.items ≡ out.old.items
+        ++ below_answer A.text (routes_within A.BITS A.number routes.now network.now)) }
+    ensures kept { IsPrefix out.old.items out.new.items }
 {
-    let mut out = Vec::new(alloc);
-    match table.below(alloc, network)? {
+    match routes.below(network)? {
         Some(rows) => {
-            add_rows(&mut out, rows)?;
-            Ok(out)
+            add_count(out, rows.count as u128)?;
+            Ok(add_walk(out, rows.walk)?)
         }
-        None => {
-            out.extend_from_slice(b"0\n")?;
-            Ok(out)
-        }
+        None => Ok(add_count(out, 0)?),
     }
 }
 
-/// The hop of the longest network that holds the address.
-fn look(alloc: Global, table: &Table, address: Address) -> Result<Vec<u8>, Memory>
-    ensures { IfOk result (λ answer. IsLookAnswer table.now address answer.items) }
+/// Carries out a request of one family, and adds its answer, or after a refusal maybe a part of it.
+fn add_reply<A: Address>(
+    out: &mut Vec<u8>,
+    routes: &mut Routes<A>,
+    request: &Request<'_, A>,
+) -> Result<(), Memory>
+    ensures reply { OnOk result ((answer : List ℕ) × (out.new.items ≡ out.old.items ++ answer)
+        × IsReply A.text A.BITS A.number (request_of request.now) routes.old routes.new answer) }
+    ensures kept { IsPrefix out.old.items out.new.items }
 {
-    let found = table.look(alloc, address)?;
-    Ok(hop_answer(alloc, found)?)
+    match request {
+        Request::Add(network, hop) => add_added_answer(out, routes.add(*network, hop)?)?,
+        Request::Del(network) => {
+            let old = routes.del(network)?;
+            add_hop_answer(out, old.as_ref())?
+        }
+        Request::Below(network) => add_below(out, routes, network)?,
+        Request::Look(address) => add_hop_answer(out, routes.look(*address)?)?,
+        Request::Find(address) => match routes.find(*address)? {
+            Some((network, hop)) => add_row(out, network, hop)?,
+            None => out.extend_from_slice(b"none\n")?,
+        },
+    }
+    Ok(())
 }
 
-/// Carries out a command, and gives the whole answer.
-pub fn answer(alloc: Global, table: &mut Table, command: Command<'_>) -> Result<Vec<u8>, Memory>
-    ensures { IfOk result
-        (λ answer. IsReply command.entry table.old table.new answer.items) }
+/// Adds how many routes there are, and then each of them, those of IPv4 first.
+fn add_list(out: &mut Vec<u8>, table: &Table) -> Result<(), Memory>
+    ensures text { OnOk result (out.new.items ≡ out.old.items ++ list_answer table.now) }
+    ensures kept { IsPrefix out.old.items out.new.items }
+{
+    add_count(out, table.len())?;
+    add_walk(out, table.v4.walk()?)?;
+    Ok(add_walk(out, table.v6.walk()?)?)
+}
+
+/// Adds each row.
+fn add_rows<A: Address>(out: &mut Vec<u8>, rows: &[(Network<A>, &Hop)]) -> Result<(), AllocError>
+    ensures text { OnOk result
+        (out.new.items ≡ out.old.items ++ flat_map (row A.text) (map route_of rows.now)) }
+    ensures kept { IsPrefix out.old.items out.new.items }
+{
+    for (network, hop) in rows {
+        add_row(out, network, *hop)?;
+    }
+    Ok(())
+}
+
+/// Adds how many routes the least lists have, and then each, those of IPv4 first.
+fn add_aggregate(out: &mut Vec<u8>, table: &Table) -> Result<(), Memory>
+    ensures answer { OnOk result ((answer : List ℕ) × (out.new.items ≡ out.old.items ++ answer)
+        × IsAggregateAnswer table.now answer) }
+    ensures kept { IsPrefix out.old.items out.new.items }
+{
+    let alloc = *out.allocator();
+    let v4 = aggregate(alloc, &table.v4)?;
+    let v6 = aggregate(alloc, &table.v6)?;
+    add_count(out, v4.len() as u128 + v6.len() as u128)?;
+    add_rows(out, &v4)?;
+    Ok(add_rows(out, &v6)?)
+}
+
+/// Carries out a command, and adds its answer, or after a refusal maybe a part of it.
+pub fn answer(out: &mut Vec<u8>, table: &mut Table, command: &Command<'_>) -> Result<(), Memory>
+    ensures answer { OnOk result ((answer : List ℕ) × (out.new.items ≡ out.old.items ++ answer)
+        × IsAnswer (asked_of command.now) table.old table.new answer) }
+    ensures kept { OnErr result (IsPrefix out.old.items out.new.items) }
 {
     match command {
-        Command::Add(network, hop) => {
-            let old = table.add(alloc, network, Hop::new(alloc, hop)?)?;
-            Ok(added_answer(alloc, old)?)
-        }
-        Command::Del(network) => {
-            let old = table.del(alloc, &network)?;
-            Ok(hop_answer(alloc, old.as_ref())?)
-        }
-        Command::Look(address) => look(alloc, table, address),
-        Command::Below(network) => below(alloc, table, &network),
+        Command::V4(request) => add_reply(out, &mut table.v4, request),
+        Command::V6(request) => add_reply(out, &mut table.v6, request),
+        Command::Len => Ok(add_count(out, table.len())?),
+        Command::All => add_list(out, table),
+        Command::Aggregate => add_aggregate(out, table),
+        Command::Comment => Ok(()),
     }
 }

@@ -1,67 +1,100 @@
 //! Reading a line as a command.
-ghost use Rattle.std.specs.Prelude.{◌≢◌, ◌↔◌, EachIndex, IsTrue, MatchOption, slice_index};
-ghost use Rattle.route_tool.specs.Commands.{AsksBy, IsAddition, IsHop, IsRequest, IsTextRequest};
+ghost use Rattle.std.specs.Prelude.{◌≡◌, ◌↔◌, IsTrue, MatchOption};
+ghost use Rattle.std.specs.Str.{IsUtf8};
+ghost use Rattle.route_tool.specs.Commands.{asked_of, request_of};
+ghost use Rattle.route_tool.specs.Requests.{IsAddition, IsHop, IsRequest, IsTarget, IsTextRequest, Says, word_of};
 
-use crate::address::Address;
-use crate::network::Network;
+use radix_trie::{Address, Network};
+use std::net::{Ipv4Addr, Ipv6Addr};
 
+/// What is asked of the routes of one family.
+#[derive(Drop)]
+pub enum Request<'a, A: Address> {
+    Add(Network<A>, &'a str),
+    Del(Network<A>),
+    Below(Network<A>),
+    Look(A),
+    Find(A),
+}
+
+/// What is asked of a table.
 #[derive(Drop)]
 pub enum Command<'a> {
-    Add(Network, &'a str),
-    Del(Network),
-    Look(Address),
-    Below(Network),
+    V4(Request<'a, Ipv4Addr>),
+    V6(Request<'a, Ipv6Addr>),
+    Len,
+    All,
+    Aggregate,
+    Comment,
 }
 
-fn has_no_space(bytes: &[u8]) -> bool
-    ensures { IsTrue result ↔ EachIndex bytes.now (λ i. slice_index bytes.now i ≢ 32) }
-{
-    bytes.iter().all(|b| *b != b' ')
-}
-
-/// One byte or more, none of them a space.
-fn is_hop(text: &str) -> bool
+/// One byte or more, the first and the last of them no space.
+pub fn is_hop(text: &str) -> bool
     ensures { IsTrue result ↔ IsHop text.now }
 {
-    if text.is_empty() {
-        false
-    } else {
-        has_no_space(text.as_bytes())
+    let bytes = text.as_bytes();
+    if bytes.is_empty() {
+        return false;
+    }
+    bytes[0] != b' ' && bytes[bytes.len() - 1] != b' '
+}
+
+/// The network that a text writes, with the count of its bits or without, if it writes one.
+fn target<A: Address>(text: &str) -> Option<Network<A>>
+    ensures { MatchOption result
+        ((net : _) → ¬ (IsTarget A.BITS A.number A.is_text text.now net))
+        (IsTarget A.BITS A.number A.is_text text.now) }
+{
+    match text.split_once('/') {
+        Some(_) => match text.parse::<Network<A>>() {
+            Ok(network) => Some(network),
+            Err(_) => None,
+        },
+        None => {
+            let host = A::parse(text)?;
+            Some(Network::host(host))
+        }
     }
 }
 
 /// A network, one space and a hop.
-fn addition(rest: &str) -> Option<(Network, &str)>
+fn addition<A: Address>(rest: &str) -> Option<(Network<A>, &str)>
     ensures { MatchOption result
-        ((n : _) (hop : _) → ¬ (IsAddition rest.now n hop))
-        (λ p. IsAddition rest.now p.0 p.1.now) }
+        ((net : _) (hop : _) → ¬ (IsAddition A.BITS A.number A.is_text rest.now net hop))
+        (λ p. IsAddition A.BITS A.number A.is_text rest.now p.0 p.1.now) }
 {
     let (text, hop) = rest.split_once(' ')?;
-    if is_hop(hop) {
-        let network = Network::parse(text)?;
-        Some((network, hop))
-    } else {
-        None
+    if !is_hop(hop) {
+        return None;
     }
+    let network = target(text)?;
+    Some((network, hop))
 }
 
 /// What a word and the text behind it ask for.
-fn worded<'a>(word: &str, rest: &'a str) -> Option<Command<'a>>
-    ensures { MatchOption result ((c : _) → ¬ (AsksBy word.now rest.now c))
-        (AsksBy word.now rest.now) }
+fn worded<'a, A: Address>(word: &str, rest: &'a str) -> Option<Request<'a, A>>
+    ensures { MatchOption result
+        ((r : _) → word.now ≡ word_of r → ¬ (Says A.BITS A.number A.is_text r rest.now))
+        (λ r. (word.now ≡ word_of (request_of r))
+        × Says A.BITS A.number A.is_text (request_of r) rest.now) }
 {
     if word == "add" {
-        let (network, hop) = addition(rest)?;
-        Some(Command::Add(network, hop))
+        match addition(rest) {
+            Some((network, hop)) => Some(Request::Add(network, hop)),
+            None => None,
+        }
     } else if word == "del" {
-        let network = Network::parse(rest)?;
-        Some(Command::Del(network))
-    } else if word == "look" {
-        let address = Address::parse(rest)?;
-        Some(Command::Look(address))
+        let network = target(rest)?;
+        Some(Request::Del(network))
     } else if word == "below" {
-        let network = Network::parse(rest)?;
-        Some(Command::Below(network))
+        let network = target(rest)?;
+        Some(Request::Below(network))
+    } else if word == "look" {
+        let address = A::parse(rest)?;
+        Some(Request::Look(address))
+    } else if word == "find" {
+        let address = A::parse(rest)?;
+        Some(Request::Find(address))
     } else {
         None
     }
@@ -70,19 +103,46 @@ fn worded<'a>(word: &str, rest: &'a str) -> Option<Command<'a>>
 /// What a text asks for, if it is good.
 fn parse_text(text: &str) -> Option<Command<'_>>
     ensures { MatchOption result ((c : _) → ¬ (IsTextRequest text.now c))
-        (IsTextRequest text.now) }
+        (λ c. IsTextRequest text.now (asked_of c)) }
 {
+    if text == "len" {
+        return Some(Command::Len);
+    }
+    if text == "list" {
+        return Some(Command::All);
+    }
+    if text == "aggregate" {
+        return Some(Command::Aggregate);
+    }
     let (word, rest) = text.split_once(' ')?;
-    worded(word, rest)
+    match worded::<Ipv4Addr>(word, rest) {
+        Some(request) => Some(Command::V4(request)),
+        None => match worded::<Ipv6Addr>(word, rest) {
+            Some(request) => Some(Command::V6(request)),
+            None => None,
+        },
+    }
+}
+
+/// What a line that is no comment asks for, if it is good.
+fn parse_utf8(line: &[u8]) -> Option<Command<'_>>
+    ensures { MatchOption result ((c : _) → ¬ (IsUtf8 line.now × IsTextRequest line.now c))
+        (λ c. IsUtf8 line.now × IsTextRequest line.now (asked_of c)) }
+{
+    match str::from_utf8(line) {
+        Ok(text) => parse_text(text),
+        Err(_) => None,
+    }
 }
 
 /// What a line asks for, if it is good.
 pub fn parse(line: &[u8]) -> Option<Command<'_>>
     ensures { MatchOption result ((c : _) → ¬ (IsRequest line.now c))
-        (IsRequest line.now) }
+        (λ c. IsRequest line.now (asked_of c)) }
 {
-    match str::from_utf8(line) {
-        Ok(text) => parse_text(text),
-        Err(_) => None,
+    if !line.is_empty() && line[0] == b'#' {
+        Some(Command::Comment)
+    } else {
+        parse_utf8(line)
     }
 }

@@ -1,18 +1,17 @@
 //! Reads lines about a routing table on standard input, and writes an answer to each on standard output.
 #![tactic(auto)]
 
-mod address;
+mod aggregate;
 mod answers;
 mod command;
 mod engine;
 mod hop;
-mod network;
-mod patient;
+mod laws;
+mod reason;
 mod table;
 
 use crate::engine::answer_all;
-use crate::patient::Patient;
-use line_sessions::{WatchedReader, WatchedWriter};
+use line_sessions::{Patient, WatchedReader, WatchedWriter};
 use std::io;
 use std::process::ExitCode;
 

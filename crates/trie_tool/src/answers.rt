@@ -1,5 +1,5 @@
 //! Carrying out a command, and the whole answer to it.
-ghost use Rattle.std.specs.Prelude.{◌≡◌, ◌++◌, ◌∷◌, [], OnOk, OnErr, map as each, decimal};
+ghost use Rattle.std.specs.Prelude.{◌≡◌, ◌++◌, ◌∷◌, [], OnOk, map as each, decimal};
 ghost use Rattle.trie_tool.specs.Command.{request};
 ghost use Rattle.trie_tool.specs.Request.{answer_to, numbers_after, insert_answer, get_answer, foot_answer, below_answer, json_answer, row};
 ghost use Rattle.radix_trie.specs.Views.{pairs_below};
@@ -130,7 +130,7 @@ fn add_json(out: &mut Vec<u8>, numbers: &Numbers) -> Result<(), Memory>
 }
 
 /// Carries out a command, and adds its answer, or after a refusal maybe a part of it.
-fn add_answer(out: &mut Vec<u8>, numbers: &mut Numbers, command: Command<'_>) -> Result<(), Memory>
+pub fn answer(out: &mut Vec<u8>, numbers: &mut Numbers, command: Command<'_>) -> Result<(), Memory>
     ensures text { OnOk result
         (out.new.items ≡ out.old.items ++ answer_to (request command.entry) numbers.old) }
     ensures numbers { OnOk result
@@ -152,20 +152,4 @@ fn add_answer(out: &mut Vec<u8>, numbers: &mut Numbers, command: Command<'_>) ->
         Command::Json => add_json(out, numbers)?,
     }
     Ok(())
-}
-
-/// Carries out a command, and adds its whole answer. After a refusal nothing is added.
-pub fn answer(out: &mut Vec<u8>, numbers: &mut Numbers, command: Command<'_>) -> Result<(), Memory>
-    ensures text { OnOk result
-        (out.new.items ≡ out.old.items ++ answer_to (request command.entry) numbers.old) }
-    ensures numbers { OnOk result
-        (numbers.new ≡ numbers_after (request command.entry) numbers.old) }
-    ensures unchanged { OnErr result (out.new.items ≡ out.old.items) }
-{
-    let whole = out.len();
-    let outcome = add_answer(out, numbers, command);
-    if outcome.is_err() {
-        out.truncate(whole);
-    }
-    outcome
 }

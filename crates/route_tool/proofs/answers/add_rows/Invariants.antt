@@ -1,7 +1,11 @@
-use Rattle.std.proofs.Common.{◌≡◌, ◌++◌, flat_map, map as each}
-use Rattle.route_tool.specs.Answers.{row, below_answer}
+use Rattle.std.proofs.Common.{◌≡◌, ◌++◌, flat_map, map, take}
+use Rattle.nibble_map.specs.Lists.{IsPrefix}
+use Rattle.route_tool.specs.Aggregates.{route_of}
+use Rattle.route_tool.specs.Answers.{row}
 use Rattle.route_tool.proofs.answers.add_rows.Given as goal
 
-abbrev pub invariant-loop-route : goal.invariant-loop-route
-invariant-loop-route l =
-    l.out.items ++ flat_map row (each (λ p. p.1) l.route-iterator) ≡ l.fn.out.items ++ below_answer (each (λ p. p.1) l.fn.rows.walk)
+abbrev pub invariant-loop-network : goal.invariant-loop-network
+invariant-loop-network g l = record {
+  text : l.out.items ≡ l.fn.out.items ++ flat_map (row g.A.Address.text) (map route_of (take l.network-index l.rows));
+  kept : IsPrefix l.fn.out.items l.out.items;
+}

@@ -1,7 +1,7 @@
 use Rattle.std.proofs.Common.{◌∙◌, ap}
-use Rattle.trie_tool.specs.Numbers.{texts_of}
-use Rattle.trie_tool.proofs.TextLemmas.Texts.{texts_of-empty}
+use Rattle.trie_tool.specs.Numbers.{text, texts_of}
+use Rattle.nibble_map.proofs.MapLemmas.Mapped.{mapped-empty}
 use Rattle.trie_tool.proofs.numbers.Numbers.new.Goals as goal
 
 pub returns : goal.returns
-returns c = ap texts_of c.new.ensures ∙ texts_of-empty
+returns c = ap texts_of c.new.ensures ∙ mapped-empty text

@@ -1,0 +1,9 @@
+pub mod BlockLemmas
+pub mod Hops
+pub mod Competitors
+pub mod Lower
+pub mod Upper
+pub mod ChosenHops
+pub mod Tables
+pub mod Slices
+pub mod LeastLemmas

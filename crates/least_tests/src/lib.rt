@@ -1,0 +1,5 @@
+//! Tables with their least lists, worked out by hand.
+#![tactic(auto)]
+
+#[cfg(test)]
+mod tables;

@@ -1,0 +1,13 @@
+-- Answers of parts.
+use Rattle.std.proofs.Common.{◌≡◌, ◌∙◌, ℕ, List, ◌++◌, Result, Ok, Err, OnOk, ap, append_assoc}
+
+-- three parts, one after another, behind what stood there
+pub three_parts : (old first second third h p q : List ℕ) → first ≡ old ++ h → second ≡ first ++ p → third ≡ second ++ q → third ≡ old ++ (h ++ p ++ q)
+three_parts old first second third h p q is then last =
+    last ∙ ap (λ l. l ++ q) (then ∙ ap (λ l. l ++ p) is ∙ append_assoc old h p) ∙ append_assoc old (h ++ p) q
+
+-- an answer of one kind is one of another
+pub answers_too : {X E : Type 0} (r : Result X E) (old new : List ℕ) (P Q : List ℕ → Type 0) → ((answer : List ℕ) → P answer → Q answer)
+    → OnOk r ((answer : List ℕ) × (new ≡ old ++ answer) × P answer) → OnOk r ((answer : List ℕ) × (new ≡ old ++ answer) × Q answer)
+answers_too (Ok x) old new P Q to (answer, is, p) = (answer, is, to answer p)
+answers_too (Err e) old new P Q to h = h

@@ -9,12 +9,12 @@ use radix_trie::{Bits, Memory, TrieKey};
 use std::alloc::Global;
 
 /// The first bits of the long text, a nibble for each: more than a list holds without memory, and as many as it does.
-const BITS_34: &'static [u8] = &[
+pub(crate) const BITS_34: &'static [u8] = &[
     0, 1, 1, 0, 0, 0, 0, 1, 0, 1, 1, 0, 0, 0, 0, 1, 0, 1, 1, 0, 0, 0, 0, 1, 0, 1, 1, 0, 0, 0, 0, 1,
     0, 1,
 ];
 
-const BITS_32: &'static [u8] = &[
+pub(crate) const BITS_32: &'static [u8] = &[
     0, 1, 1, 0, 0, 0, 0, 1, 0, 1, 1, 0, 0, 0, 0, 1, 0, 1, 1, 0, 0, 0, 0, 1, 0, 1, 1, 0, 0, 0, 0, 1,
 ];
 

@@ -116,6 +116,9 @@
 //! | `[u8; N]::encode` | `encode.array` |
 //! | `(A, B)::encode` | `encode.pair` |
 //! | `Bits::encode` | `encode.bits` |
+//! | `Network::encode` | `encode.network` |
+//! | `Network::clone` | `network.clone` |
+//! | `Network::from_str` | `network.from_str` |
 //! | `BigEndian::encode` | `encode.big` |
 //! | `LittleEndian::encode` | `encode.little` |
 //! | `Ascending::encode` | `encode.ascending` |
@@ -140,6 +143,7 @@ mod lends;
 mod light_keys;
 mod lists;
 mod look_ups;
+mod networks;
 mod nodes;
 mod outcome;
 mod pages;
@@ -192,5 +196,6 @@ fn main(rt: HostRuntime) -> ExitCode {
     light_keys::run_all(&mut run);
     wide_keys::run_all(&mut run);
     bits::run_all(&mut run);
+    networks::run_all(&mut run);
     run.status()
 }

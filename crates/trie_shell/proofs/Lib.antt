@@ -1,0 +1,2 @@
+-- What texts ask for, and lines that are none.
+mod RequestLemmas

@@ -1,0 +1,6 @@
+-- The calls' names, and how many words stand behind each.
+pub mod Usages
+-- Which lines ask for something.
+pub mod Requests
+-- What a session says of a line.
+pub mod Sessions

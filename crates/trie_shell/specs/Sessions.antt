@@ -1,0 +1,25 @@
+-- What a session says of a line; of the shell it says nothing.
+use Rattle.std.specs.Prelude.{◌≡◌, ◌⊎◌, ⊤, ℕ, true, false, List, codes}
+use Rattle.std.proofs.Common.{◌∙◌, sym}
+use Rattle.trie_shell.specs.Requests.{is_request}
+
+-- the line asks for something
+abbrev pub Replies : ⊤ → (line : List ℕ) → ⊤ → (answer : List ℕ) → Type 0
+Replies s line t answer = is_request line ≡ true
+
+-- the line asks for nothing
+abbrev pub IsBad : List ℕ → Type 0
+IsBad line = is_request line ≡ false
+
+abbrev pub GivesUp : ⊤ → (line : List ℕ) → ⊤ → Type 0
+GivesUp s line t = ⊤
+
+-- what may be told of a line that asks for nothing
+abbrev pub IsRemark : List ℕ → Type 0
+IsRemark remark =
+    (remark ≡ codes "not UTF-8") ⊎ ((remark ≡ codes "no such call")
+    ⊎ (remark ≡ codes "another count of words"))
+
+-- a line that asks for nothing has no answer
+pub bad_unanswered : (s t : ⊤) (line answer : List ℕ) → IsBad line → ¬ (Replies s line t answer)
+bad_unanswered s t line answer bad good = let both : false ≡ true = sym bad ∙ good in cc

@@ -1,0 +1,233 @@
+//! What a line is answered.
+
+use crate::keys::{Query, ShellKey};
+use crate::words::Words;
+use itoa::Buffer;
+use radix_trie::{Memory, Nibblet};
+use std::alloc::Global;
+use std::fmt::Display;
+
+/// The answer to a line, as it grows. Each growth that is refused is tried a second time, so that
+/// one refusal doesn't cost the answer of a call that was made.
+#[derive(Drop)]
+pub struct Answer<'a> {
+    alloc: Global,
+    words: Words<'a>,
+    bytes: Vec<u8>,
+    is_lost: bool,
+}
+
+impl<'a> Answer<'a> {
+    /// No answer yet to a line with these words behind its call.
+    pub fn new(alloc: Global, words: Words<'a>) -> Answer<'a> {
+        Answer {
+            alloc,
+            words,
+            bytes: Vec::new(alloc),
+            is_lost: false,
+        }
+    }
+
+    pub fn alloc(&self) -> Global {
+        self.alloc
+    }
+
+    /// The words that haven't been read.
+    pub fn words(&self) -> Words<'a> {
+        self.words
+    }
+
+    /// Takes the answer back to so many bytes, and to these words.
+    pub fn return_to(&mut self, length: usize, words: Words<'a>) {
+        self.bytes.truncate(length);
+        self.words = words;
+    }
+
+    /// How many words are left.
+    pub fn left(&self) -> usize {
+        self.words.left()
+    }
+
+    /// Whether a growth was refused twice. The call may have been made then, so it isn't made once
+    /// more.
+    pub fn is_lost(&self) -> bool {
+        self.is_lost
+    }
+
+    /// The next word.
+    pub fn next_word(&mut self) -> Option<&'a str> {
+        self.words.next()
+    }
+
+    /// The key that the next word writes, if it writes one.
+    pub fn next_key<K: ShellKey>(&mut self) -> Result<Option<K>, Memory> {
+        let Some(word) = self.words.next() else {
+            return Ok(None);
+        };
+        match K::read(self.alloc, word) {
+            Ok(key) => Ok(key),
+            Err(_) => K::read(self.alloc, word),
+        }
+    }
+
+    /// What the next word looks up, if it writes a key or a list.
+    pub fn next_query<K: ShellKey>(&mut self) -> Result<Option<Query<K>>, Memory> {
+        let Some(word) = self.words.next() else {
+            return Ok(None);
+        };
+        match Query::read(self.alloc, word) {
+            Ok(query) => Ok(query),
+            Err(_) => Query::read(self.alloc, word),
+        }
+    }
+
+    /// The number that the next word writes, if it writes one.
+    pub fn next_number(&mut self) -> Option<u64> {
+        self.words.next()?.parse().ok()
+    }
+
+    /// What is written.
+    pub fn as_bytes(&self) -> &[u8] {
+        self.bytes.as_slice()
+    }
+
+    /// How many bytes are written.
+    pub fn len(&self) -> usize {
+        self.bytes.len()
+    }
+
+    /// Adds bytes.
+    pub fn put(&mut self, bytes: &[u8]) -> Result<(), Memory> {
+        if self.bytes.extend_from_slice(bytes).is_ok()
+            || self.bytes.extend_from_slice(bytes).is_ok()
+        {
+            return Ok(());
+        }
+        self.is_lost = true;
+        Err(Memory)
+    }
+
+    /// Begins a word: a space parts it from the one before.
+    pub fn begin_word(&mut self) -> Result<(), Memory> {
+        match self.bytes.as_slice().last() {
+            None | Some(b'\n' | b' ') => Ok(()),
+            Some(_) => self.put(b" "),
+        }
+    }
+
+    /// Adds a word.
+    pub fn word(&mut self, text: &str) -> Result<(), Memory> {
+        self.begin_word()?;
+        self.put(text.as_bytes())
+    }
+
+    /// Ends the line.
+    pub fn end(&mut self) -> Result<(), Memory> {
+        self.put(b"\n")
+    }
+
+    /// Adds a line of its own.
+    pub fn line(&mut self, text: &str) -> Result<(), Memory> {
+        self.word(text)?;
+        self.end()
+    }
+
+    /// Adds a key as a word.
+    pub fn key<K: ShellKey>(&mut self, key: &K) -> Result<(), Memory> {
+        self.begin_word()?;
+        key.write(self)
+    }
+
+    /// Adds bytes as a word that stands for them.
+    pub fn escaped(&mut self, bytes: &[u8]) -> Result<(), Memory> {
+        if bytes.is_empty() {
+            return self.put(b"\"\"");
+        }
+        for byte in bytes {
+            match *byte {
+                b' ' => self.put(b"\\s")?,
+                b'\\' => self.put(b"\\\\")?,
+                b'"' => self.put(b"\\\"")?,
+                b'#' | b'>' => self.put(&hexadecimal(*byte))?,
+                0x21..=0x7e => self.put(&[*byte])?,
+                other => self.put(&hexadecimal(other))?,
+            }
+        }
+        Ok(())
+    }
+
+    /// Adds what is shown of a value, as part of a word.
+    pub fn shown<T: Display>(&mut self, value: &T) -> Result<(), Memory> {
+        let text = match format!(in self.alloc; "{value}") {
+            Ok(text) => Ok(text),
+            Err(_) => format!(in self.alloc; "{value}"),
+        };
+        match text {
+            Ok(text) => self.put(text.as_bytes()),
+            Err(_) => {
+                self.is_lost = true;
+                Err(Memory)
+            }
+        }
+    }
+
+    /// Adds a list of nibbles as a word, a hexadecimal digit for each.
+    pub fn list(&mut self, list: &Nibblet) -> Result<(), Memory> {
+        self.begin_word()?;
+        if list.is_empty() {
+            return self.put(b"\"\"");
+        }
+        self.shown(list)
+    }
+
+    /// Adds a number as a word.
+    pub fn number(&mut self, number: u128) -> Result<(), Memory> {
+        self.word(Buffer::new().format(number))
+    }
+
+    /// Adds a value as a word, or that there is none.
+    pub fn value(&mut self, value: Option<u64>) -> Result<(), Memory> {
+        match value {
+            Some(number) => self.number(number as u128),
+            None => self.word("none"),
+        }
+    }
+
+    /// Adds a line: the value, or that there is none.
+    pub fn value_line(&mut self, value: Option<u64>) -> Result<(), Memory> {
+        self.value(value)?;
+        self.end()
+    }
+
+    /// Adds a line: a count.
+    pub fn count_line(&mut self, count: usize) -> Result<(), Memory> {
+        self.number(count as u128)?;
+        self.end()
+    }
+
+    /// Adds a line: true or false.
+    pub fn truth_line(&mut self, is_true: bool) -> Result<(), Memory> {
+        self.line(if is_true { "true" } else { "false" })
+    }
+
+    /// Adds a line: a key and its value.
+    pub fn pair_line<K: ShellKey>(&mut self, key: &K, value: u64) -> Result<(), Memory> {
+        self.key(key)?;
+        self.number(value as u128)?;
+        self.end()
+    }
+}
+
+/// A byte as `\xNN`.
+fn hexadecimal(byte: u8) -> [u8; 4] {
+    [b'\\', b'x', digit_of(byte >> 4), digit_of(byte % 16)]
+}
+
+/// The digit of a number below 16.
+fn digit_of(number: u8) -> u8 {
+    match number {
+        0..=9 => b'0' + number,
+        10..=15 => b'a' + (number - 10),
+        _ => b'?',
+    }
+}

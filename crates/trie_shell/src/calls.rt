@@ -1,0 +1,13 @@
+//! The calls, each with its answer.
+//!
+//! A function that answers a call is refused only where the library's call is: what the shell
+//! itself takes is tried twice.
+
+pub mod common;
+pub mod edits;
+pub mod lines;
+pub mod look_ups;
+pub mod runs;
+pub mod sweeps;
+pub mod trees;
+pub mod views;

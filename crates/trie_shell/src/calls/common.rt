@@ -1,0 +1,57 @@
+//! Calls that tries and views have in common.
+
+use crate::answer::Answer;
+use crate::call::Common;
+use crate::calls::lines::{NO_KEY, key_line, key_lines, pair_line, pair_lines, value_lines};
+use crate::keys::{Query, ShellKey};
+use radix_trie::{Memory, TrieCommon, TrieKey};
+
+/// What the call of a trie or a view answers.
+pub fn answer_common<'a, K: ShellKey + 'a, T: TrieCommon<'a, K, u64> + Drop>(
+    of: T,
+    call: Common,
+    answer: &mut Answer<'_>,
+) -> Result<(), Memory> {
+    match call {
+        Common::Key => key_line(answer, of.key()),
+        Common::Value => answer.value_line(of.value().copied()),
+        Common::Len => answer.count_line(of.len()),
+        Common::IsEmpty => answer.truth_line(of.is_empty()),
+        Common::IsLeaf => answer.truth_line(of.is_leaf()),
+        Common::FirstKeyValue => pair_line(answer, of.first_key_value()),
+        Common::LastKeyValue => pair_line(answer, of.last_key_value()),
+        Common::Prefix => {
+            answer.list(&of.prefix()?)?;
+            answer.end()
+        }
+        Common::Iter => pair_lines(answer, of.iter()?),
+        Common::Keys => key_lines(answer, of.keys()?),
+        Common::Values => value_lines(answer, of.values()?),
+        Common::IterFrom | Common::IterAfter => answer_resumed(of, call, answer),
+    }
+}
+
+/// The walk from a key on, or after it.
+fn answer_resumed<'a, K: ShellKey + 'a, T: TrieCommon<'a, K, u64> + Drop>(
+    of: T,
+    call: Common,
+    answer: &mut Answer<'_>,
+) -> Result<(), Memory> {
+    match answer.next_query::<K>()? {
+        Some(Query::Key(key)) => resumed_lines(of, &key, call, answer),
+        Some(Query::List(list)) => resumed_lines(of, &list, call, answer),
+        None => answer.line(NO_KEY),
+    }
+}
+
+fn resumed_lines<'a, K: ShellKey + 'a, T: TrieCommon<'a, K, u64> + Drop, Q: TrieKey>(
+    of: T,
+    key: &Q,
+    call: Common,
+    answer: &mut Answer<'_>,
+) -> Result<(), Memory> {
+    match call {
+        Common::IterFrom => pair_lines(answer, of.iter_from(key)?),
+        _ => pair_lines(answer, of.iter_after(key)?),
+    }
+}

@@ -1,0 +1,159 @@
+//! Changes at a key.
+
+use crate::answer::Answer;
+use crate::call::Edit;
+use crate::calls::lines::{NO_KEY, NO_NUMBER, NONE, NOT_HERE, taken_line, taken_lines};
+use crate::keys::{Query, ShellKey};
+use radix_trie::{
+    FindError, InsertError, InsertWhy, Memory, SubTrieError, SubTrieMut, Trie, TrieKey,
+};
+
+/// What an insertion answers: the old value, or why it was refused. Where memory was, key and value
+/// have come back.
+fn insert_line<K: ShellKey>(
+    answer: &mut Answer<'_>,
+    outcome: Result<Option<u64>, InsertError<K, u64>>,
+) -> Result<(), Memory> {
+    match outcome {
+        Ok(old) => answer.value_line(old),
+        Err(error) => match error.why {
+            InsertWhy::Memory => Err(Memory),
+            InsertWhy::Full => answer.line("full"),
+            InsertWhy::Outside => answer.line("outside"),
+        },
+    }
+}
+
+/// A change of a trie at what the next word writes.
+pub fn answer_edit<K: ShellKey>(
+    trie: &mut Trie<K, u64>,
+    call: Edit,
+    answer: &mut Answer<'_>,
+) -> Result<(), Memory> {
+    if let Edit::Insert | Edit::MapWithDefault = call {
+        return match answer.next_key::<K>()? {
+            Some(key) => answer_store(trie, key, call, answer),
+            None => answer.line(NO_KEY),
+        };
+    }
+    match answer.next_query::<K>()? {
+        Some(Query::Key(key)) => answer_at(trie, &key, call, answer),
+        Some(Query::List(list)) => answer_at(trie, &list, call, answer),
+        None => answer.line(NO_KEY),
+    }
+}
+
+/// A change that may store a pair, by the number that the next word writes.
+fn answer_store<K: ShellKey>(
+    trie: &mut Trie<K, u64>,
+    key: K,
+    call: Edit,
+    answer: &mut Answer<'_>,
+) -> Result<(), Memory> {
+    match (call, answer.next_number()) {
+        (Edit::MapWithDefault, Some(added)) => answer_map(trie, key, added, answer),
+        (_, Some(number)) => insert_line(answer, trie.insert(key, number)),
+        (_, None) => answer.line(NO_NUMBER),
+    }
+}
+
+/// A change of what is stored at the key, or below it.
+fn answer_at<K: ShellKey, Q: TrieKey>(
+    trie: &mut Trie<K, u64>,
+    key: &Q,
+    call: Edit,
+    answer: &mut Answer<'_>,
+) -> Result<(), Memory> {
+    match call {
+        Edit::Remove => answer.value_line(trie.remove(key)?),
+        Edit::RemoveEntry => taken_line(answer, &trie.remove_entry(key)?),
+        Edit::RemovePrefix => taken_lines(answer, trie.remove_prefix(key)?.as_slice()),
+        Edit::GetMut => written_or_none(answer, trie.get_mut(key)?),
+        _ => match trie.find_mut(key) {
+            Ok(value) => written_or_none(answer, Some(value)),
+            Err(FindError::Absent) => answer.line("absent"),
+            Err(FindError::Memory) => Err(Memory),
+        },
+    }
+}
+
+/// Adds a number to the value at the key, or stores the default that the next word writes.
+fn answer_map<K: ShellKey>(
+    trie: &mut Trie<K, u64>,
+    key: K,
+    added: u64,
+    answer: &mut Answer<'_>,
+) -> Result<(), Memory> {
+    let Some(default) = answer.next_number() else {
+        return answer.line(NO_NUMBER);
+    };
+    let add = |value: &mut u64| *value = value.wrapping_add(added);
+    match trie.map_with_default(key, add, default) {
+        Ok(()) => answer.line("ok"),
+        Err(error) => insert_line(answer, Err(error)),
+    }
+}
+
+/// Writes the number of the next word where the value stands, if it stands. The answer is the old
+/// value.
+pub fn written_or_none(answer: &mut Answer<'_>, value: Option<&mut u64>) -> Result<(), Memory> {
+    let Some(number) = answer.next_number() else {
+        return answer.line(NO_NUMBER);
+    };
+    let Some(value) = value else {
+        return answer.line(NONE);
+    };
+    let old = *value;
+    *value = number;
+    answer.value_line(Some(old))
+}
+
+/// A change by a view for writing, at what the next word writes.
+pub fn answer_edit_in_view<K: ShellKey>(
+    view: &mut SubTrieMut<'_, K, u64>,
+    call: Edit,
+    answer: &mut Answer<'_>,
+) -> Result<(), Memory> {
+    if let Edit::Insert = call {
+        return match (answer.next_key::<K>()?, answer.next_number()) {
+            (Some(key), Some(number)) => insert_line(answer, view.insert(key, number)),
+            (Some(_), None) => answer.line(NO_NUMBER),
+            (None, _) => answer.line(NO_KEY),
+        };
+    }
+    match answer.next_query::<K>()? {
+        Some(Query::Key(key)) => answer_removal(view, &key, call, answer),
+        Some(Query::List(list)) => answer_removal(view, &list, call, answer),
+        None => answer.line(NO_KEY),
+    }
+}
+
+/// A removal by a view for writing.
+fn answer_removal<K: ShellKey, Q: TrieKey>(
+    view: &mut SubTrieMut<'_, K, u64>,
+    key: &Q,
+    call: Edit,
+    answer: &mut Answer<'_>,
+) -> Result<(), Memory> {
+    match call {
+        Edit::Remove => inside_line(answer, view.remove(key)),
+        Edit::RemovePrefix => match view.remove_prefix(key) {
+            Ok(taken) => taken_lines(answer, taken.as_slice()),
+            Err(SubTrieError::Outside) => answer.line("outside"),
+            Err(SubTrieError::Memory) => Err(Memory),
+        },
+        _ => answer.line(NOT_HERE),
+    }
+}
+
+/// A value, or that the key is outside.
+pub fn inside_line(
+    answer: &mut Answer<'_>,
+    found: Result<Option<u64>, SubTrieError>,
+) -> Result<(), Memory> {
+    match found {
+        Ok(value) => answer.value_line(value),
+        Err(SubTrieError::Outside) => answer.line("outside"),
+        Err(SubTrieError::Memory) => Err(Memory),
+    }
+}

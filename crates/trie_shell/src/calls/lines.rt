@@ -1,0 +1,133 @@
+//! Answers of several lines, and of what may be missing.
+ghost use Rattle.std.specs.Iterator.{IsFinite};
+
+use crate::answer::Answer;
+use crate::keys::ShellKey;
+use radix_trie::iter::{Children, Keys, Values};
+use radix_trie::{Memory, SubTrie, TrieCommon};
+
+/// What is answered where a word writes no key of the trie's type.
+pub const NO_KEY: &'static str = "no key";
+
+/// What is answered where a word writes no number.
+pub const NO_NUMBER: &'static str = "no number";
+
+/// What is answered where a word writes no list of nibbles.
+pub const NO_LIST: &'static str = "no list";
+
+/// What is answered where a view has no such call.
+pub const NOT_HERE: &'static str = "no such call here";
+
+/// What is answered where nothing is.
+pub const NONE: &'static str = "none";
+
+/// A pair, or that there is none.
+pub fn pair_line<K: ShellKey>(
+    answer: &mut Answer<'_>,
+    pair: Option<(&K, &u64)>,
+) -> Result<(), Memory> {
+    match pair {
+        Some((key, value)) => answer.pair_line(key, *value),
+        None => answer.line(NONE),
+    }
+}
+
+/// A key, or that there is none.
+pub fn key_line<K: ShellKey>(answer: &mut Answer<'_>, key: Option<&K>) -> Result<(), Memory> {
+    let Some(key) = key else {
+        return answer.line(NONE);
+    };
+    answer.key(key)?;
+    answer.end()
+}
+
+/// A view, by its path and its value, or that there is none.
+pub fn view_line<K: ShellKey>(
+    answer: &mut Answer<'_>,
+    view: Option<&SubTrie<'_, K, u64>>,
+) -> Result<(), Memory> {
+    let Some(view) = view else {
+        return answer.line(NONE);
+    };
+    answer.list(view.path())?;
+    answer.value_line(TrieCommon::value(view).copied())
+}
+
+/// The pairs of a walk, or that there is none.
+pub fn pair_lines<'a, K: ShellKey + 'a, I: Iterator<Item = (&'a K, &'a u64)> + Drop>(
+    answer: &mut Answer<'_>,
+    walk: I,
+) -> Result<(), Memory>
+    requires can { I.can_next walk }
+    requires ends { IsFinite (I.remaining walk) }
+{
+    let mut is_none = true;
+    for (key, value) in walk {
+        is_none = false;
+        answer.pair_line(key, *value)?;
+    }
+    none_line(answer, is_none)
+}
+
+/// Says that there is none, where there is.
+fn none_line(answer: &mut Answer<'_>, is_none: bool) -> Result<(), Memory> {
+    if is_none { answer.line(NONE) } else { Ok(()) }
+}
+
+/// The keys of a walk, or that there is none.
+pub fn key_lines<K: ShellKey>(
+    answer: &mut Answer<'_>,
+    keys: Keys<'_, K, u64>,
+) -> Result<(), Memory> {
+    let mut is_none = true;
+    for key in keys {
+        is_none = false;
+        key_line(answer, Some(key))?;
+    }
+    none_line(answer, is_none)
+}
+
+/// The values of a walk, or that there is none.
+pub fn value_lines<K: ShellKey>(
+    answer: &mut Answer<'_>,
+    values: Values<'_, K, u64>,
+) -> Result<(), Memory> {
+    let mut is_none = true;
+    for value in values {
+        is_none = false;
+        answer.value_line(Some(*value))?;
+    }
+    none_line(answer, is_none)
+}
+
+/// The views of children, or that there is none.
+pub fn child_lines<K: ShellKey>(
+    answer: &mut Answer<'_>,
+    children: Children<'_, K, u64>,
+) -> Result<(), Memory> {
+    let mut is_none = true;
+    for child in children {
+        is_none = false;
+        view_line(answer, Some(&child))?;
+    }
+    none_line(answer, is_none)
+}
+
+/// Pairs that were taken away, or that there is none.
+pub fn taken_lines<K: ShellKey>(answer: &mut Answer<'_>, taken: &[(K, u64)]) -> Result<(), Memory> {
+    for (key, value) in taken {
+        answer.pair_line(key, *value)?;
+    }
+    none_line(answer, taken.is_empty())
+}
+
+/// A pair that was taken away, or that there is none.
+pub fn taken_line<K: ShellKey>(
+    answer: &mut Answer<'_>,
+    taken: &Option<(K, u64)>,
+) -> Result<(), Memory> {
+    match taken {
+        Some((key, value)) => answer.pair_line(key, *value),
+        None => answer.line(NONE),
+    }
+}

@@ -1,0 +1,100 @@
+//! Look-ups in a trie.
+
+use crate::answer::Answer;
+use crate::call::{Keyed, Listed, Whole};
+use crate::calls::lines::{
+    NO_KEY, NO_LIST, NO_NUMBER, NONE, child_lines, pair_line, pair_lines, view_line,
+};
+use crate::keys::{Query, ShellKey};
+use radix_trie::{Memory, Nibblet, Trie, TrieKey};
+
+/// A look-up of what the next word writes.
+pub fn answer_keyed<K: ShellKey>(
+    trie: &Trie<K, u64>,
+    call: Keyed,
+    answer: &mut Answer<'_>,
+) -> Result<(), Memory> {
+    match answer.next_query::<K>()? {
+        Some(Query::Key(key)) => answer_at(trie, &key, call, answer),
+        Some(Query::List(list)) => answer_at(trie, &list, call, answer),
+        None => answer.line(NO_KEY),
+    }
+}
+
+/// A look-up at the key.
+fn answer_at<K: ShellKey, Q: TrieKey>(
+    trie: &Trie<K, u64>,
+    key: &Q,
+    call: Keyed,
+    answer: &mut Answer<'_>,
+) -> Result<(), Memory> {
+    match call {
+        Keyed::Get => answer.value_line(trie.get(key)?.copied()),
+        Keyed::GetCounted => {
+            let (found, count) = trie.get_counted(key)?;
+            answer.value(found.copied())?;
+            answer.count_line(count)
+        }
+        Keyed::ContainsKey => answer.truth_line(trie.contains_key(key)?),
+        Keyed::GetKeyValue => pair_line(answer, trie.get_key_value(key)?),
+        Keyed::GetAncestorValue => answer.value_line(trie.get_ancestor_value(key)?.copied()),
+        Keyed::CommonPrefixes => pair_lines(answer, trie.common_prefixes(key)?),
+        Keyed::FirstBelow => match answer.next_number() {
+            Some(most) => pair_lines(answer, trie.first_below(key, most as usize)?.into_iter()),
+            None => answer.line(NO_NUMBER),
+        },
+        _ => answer_view(trie, key, call, answer),
+    }
+}
+
+/// A look-up that gives a view.
+fn answer_view<K: ShellKey, Q: TrieKey>(
+    trie: &Trie<K, u64>,
+    key: &Q,
+    call: Keyed,
+    answer: &mut Answer<'_>,
+) -> Result<(), Memory> {
+    match call {
+        Keyed::Subtrie => view_line(answer, trie.subtrie(key)?.as_ref()),
+        Keyed::GetAncestor => view_line(answer, trie.get_ancestor(key)?.as_ref()),
+        Keyed::GetRawAncestor => view_line(answer, Some(&trie.get_raw_ancestor(key)?)),
+        Keyed::GetRawDescendant => view_line(answer, trie.get_raw_descendant(key)?.as_ref()),
+        _ => answer.line(NONE),
+    }
+}
+
+/// A look-up at the list that the next word writes.
+pub fn answer_listed<K: ShellKey>(
+    trie: &Trie<K, u64>,
+    call: Listed,
+    answer: &mut Answer<'_>,
+) -> Result<(), Memory> {
+    let Some(list) = answer.next_key::<Nibblet>()? else {
+        return answer.line(NO_LIST);
+    };
+    match call {
+        Listed::At => answer.value_line(trie.at(&list).copied()),
+        Listed::Contains => answer.truth_line(trie.contains(&list)),
+        Listed::Nearest => pair_line(answer, trie.nearest(&list)),
+        Listed::NearestValue => answer.value_line(trie.nearest_value(&list).copied()),
+    }
+}
+
+/// A look-up of the whole.
+pub fn answer_whole<K: ShellKey>(
+    trie: &Trie<K, u64>,
+    call: Whole,
+    answer: &mut Answer<'_>,
+) -> Result<(), Memory> {
+    match call {
+        Whole::Children => child_lines(answer, trie.children()?),
+        Whole::ToAscending => K::to_ascending(trie, answer),
+        Whole::CheckIntegrity => answer.truth_line(trie.check_integrity()?),
+        Whole::Footprint => {
+            let (nodes, nibbles) = trie.footprint();
+            answer.number(nodes)?;
+            answer.number(nibbles)?;
+            answer.end()
+        }
+    }
+}

@@ -1,0 +1,144 @@
+//! Tries by their names.
+
+use crate::answer::Answer;
+use crate::call::Named;
+use crate::calls::lines::NO_KEY;
+use crate::keys::{Query, ShellKey};
+use crate::store::{NamedTrie, Store};
+use radix_trie::{Memory, Trie};
+use std::mem;
+
+/// The name of the first trie.
+const FIRST: &'static str = "trie";
+
+/// What is answered where no other trie has the name.
+const NO_TRIE: &'static str = "no other trie";
+
+impl<K: ShellKey> NamedTrie<K> {
+    fn name(&self) -> &str {
+        if self.name.is_empty() {
+            FIRST
+        } else {
+            self.name.as_str()
+        }
+    }
+}
+
+impl<K: ShellKey> Store<K> {
+    /// A call of tries by their names.
+    pub(super) fn answer_named(
+        &mut self,
+        call: Named,
+        answer: &mut Answer<'_>,
+    ) -> Result<(), Memory> {
+        match call {
+            Named::Use => self.answer_use(answer),
+            Named::Tries => self.answer_tries(answer),
+            Named::Equals => self.answer_equals(answer),
+            Named::Clone => self.answer_clone(answer),
+            Named::SplitOffPrefix => self.answer_split(answer),
+        }
+    }
+
+    /// Where the other trie of this name stands.
+    fn place_of(&self, name: &str) -> Option<usize> {
+        self.others.iter().position(|other| other.name() == name)
+    }
+
+    /// Where the other trie of this name stands, after it was made where there was none. None: the
+    /// current trie has it.
+    fn made_place_of(&mut self, name: &str) -> Result<Option<usize>, Memory> {
+        if self.current.name() == name {
+            return Ok(None);
+        }
+        if let Some(place) = self.place_of(name) {
+            return Ok(Some(place));
+        }
+        let place = self.others.len();
+        let name = match String::from_str(self.alloc, name) {
+            Ok(name) => name,
+            Err(_) => String::from_str(self.alloc, name)?,
+        };
+        let trie = Trie::new(self.alloc);
+        match self.others.push(NamedTrie { name, trie }) {
+            Ok(()) => Ok(Some(place)),
+            Err(refused) => {
+                self.others.push(refused.value)?;
+                Ok(Some(place))
+            }
+        }
+    }
+
+    /// Another trie becomes the current one. It is made where there is none.
+    fn answer_use(&mut self, answer: &mut Answer<'_>) -> Result<(), Memory> {
+        let name = answer.next_word().unwrap_or("");
+        let place = self.made_place_of(name)?;
+        if let Some(place) = place
+            && let Some(other) = self.others.get_mut(place)
+        {
+            mem::swap(&mut self.current, other);
+            self.spots.clear();
+        }
+        answer.line("ok")
+    }
+
+    /// The names, that of the current trie first.
+    fn answer_tries(&self, answer: &mut Answer<'_>) -> Result<(), Memory> {
+        answer.line(self.current.name())?;
+        for other in self.others.as_slice() {
+            answer.line(other.name())?;
+        }
+        Ok(())
+    }
+
+    /// Whether the current trie is equal to another.
+    fn answer_equals(&self, answer: &mut Answer<'_>) -> Result<(), Memory> {
+        let name = answer.next_word().unwrap_or("");
+        let other = match self.place_of(name) {
+            Some(place) => self.others.as_slice().get(place),
+            None => None,
+        };
+        match other {
+            Some(other) => answer.truth_line(self.current.trie == other.trie),
+            None => answer.line(NO_TRIE),
+        }
+    }
+
+    /// A copy of the current trie, under the name.
+    fn answer_clone(&mut self, answer: &mut Answer<'_>) -> Result<(), Memory> {
+        let place = self.made_place_of(answer.next_word().unwrap_or(""))?;
+        let copy = self.current.trie.clone()?;
+        self.put(place, copy, answer)
+    }
+
+    /// The part of the current trie at and below the key, taken from it, under the name.
+    fn answer_split(&mut self, answer: &mut Answer<'_>) -> Result<(), Memory> {
+        let Some(query) = answer.next_query::<K>()? else {
+            return answer.line(NO_KEY);
+        };
+        let Some(place) = self.made_place_of(answer.next_word().unwrap_or(""))? else {
+            return answer.line(NO_TRIE);
+        };
+        let part = match &query {
+            Query::Key(key) => self.current.trie.split_off_prefix(key)?,
+            Query::List(list) => self.current.trie.split_off_prefix(list)?,
+        };
+        self.put(Some(place), part, answer)
+    }
+
+    /// Puts a trie where another stands.
+    fn put(
+        &mut self,
+        place: Option<usize>,
+        trie: Trie<K, u64>,
+        answer: &mut Answer<'_>,
+    ) -> Result<(), Memory> {
+        if let Some(place) = place
+            && let Some(other) = self.others.get_mut(place)
+        {
+            other.trie = trie;
+            return answer.line("ok");
+        }
+        answer.line(NO_TRIE)
+    }
+}

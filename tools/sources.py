@@ -89,3 +89,26 @@ def functions_of(crate):
     """The functions of a crate, without those of its tests, each with the path of its source."""
     paths = [it for it in sources_of(crate) if "/tests" not in it]
     return [(path, it) for path in paths for it in items_of(path) if it.kind == "fn"]
+
+
+def is_called(item):
+    """Whether users call the function: it is public, or one of a trait's."""
+    return item.is_public or bool(item.owner and item.owner.halves[0])
+
+
+def bare(name):
+    """A type without its lifetimes and arguments."""
+    name = re.sub(r"'\w+ ?", "", name)
+    while "<" in name:
+        name = re.sub(r"<[^<>]*>", "", name)
+    return name.strip().replace("NibbleVec", "Nibblet")
+
+
+def refused_calls():
+    """The public calls that answer a `Result`, each with its source. Of the crate of nodes users have the checker
+    alone."""
+    of_nodes = [it for it in functions_of("radix_nodes") if it[0].endswith("/traversal/checker.rt")]
+    for path, item in [*functions_of("radix_keys"), *of_nodes, *functions_of("radix_trie")]:
+        is_inherited = item.owner and item.owner.kind == "trait" and not item.has_body
+        if is_called(item) and not is_inherited and re.search(r"->.*\b(?:SubTrie)?Result<", item.signature):
+            yield f"{bare(item.owner.halves[1])}::{item.name}" if item.owner else item.name, path

@@ -66,14 +66,23 @@ usages =
     (codes "subtrie_mut", 1, 1) ∷
     (codes "path", 0, 0) ∷
     (codes "into_children", 0, 0) ∷
+    (codes "into_trie", 1, many) ∷
     (codes "spend", 1, 2) ∷
     (codes "with", 1, many) ∷
+    (codes "with_subtrie_mut", 1, many) ∷
     (codes "close", 0, 0) ∷
     (codes "draw", 0, 1) ∷
     (codes "dot", 0, 0) ∷
     (codes "stats", 0, 0) ∷
-    (codes "keys", 1, 1) ∷
+    (codes "encode", 2, 2) ∷
+    (codes "encode_bytes", 2, 2) ∷
+    (codes "nibblet", 2, 4) ∷
+    (codes "bits", 2, 3) ∷
+    (codes "ipv4", 2, 3) ∷
+    (codes "ipv6", 2, 3) ∷
     (codes "json", 1, many) ∷
+    (codes "keys", 1, 1) ∷
     (codes "watch", 0, 0) ∷
+    (codes "light", 1, many) ∷
     (codes "help", 0, 1) ∷
     []

@@ -6,6 +6,10 @@ use itoa::Buffer;
 use radix_trie::{Memory, Nibblet};
 use std::alloc::Global;
 use std::fmt::Display;
+use std::str::FromStr;
+
+/// How many bytes of an answer take one growth.
+const ROOM: usize = 512;
 
 /// The answer to a line, as it grows. Each growth that is refused is tried a second time, so that
 /// one refusal doesn't cost the answer of a call that was made.
@@ -14,18 +18,42 @@ pub struct Answer<'a> {
     alloc: Global,
     words: Words<'a>,
     bytes: Vec<u8>,
+    is_watched: bool,
+    is_other: bool,
     is_lost: bool,
 }
 
 impl<'a> Answer<'a> {
-    /// No answer yet to a line with these words behind its call.
-    pub fn new(alloc: Global, words: Words<'a>) -> Answer<'a> {
+    /// No answer yet to a line with these words behind its call. Refusals are told of where it is
+    /// watched.
+    pub fn new(alloc: Global, words: Words<'a>, is_watched: bool) -> Answer<'a> {
+        let bytes = match Vec::with_capacity(alloc, ROOM) {
+            Ok(bytes) => bytes,
+            Err(_) => Vec::new(alloc),
+        };
         Answer {
             alloc,
             words,
-            bytes: Vec::new(alloc),
+            bytes,
+            is_watched,
+            is_other: false,
             is_lost: false,
         }
+    }
+
+    /// Whether refusals are told of.
+    pub fn is_watched(&self) -> bool {
+        self.is_watched
+    }
+
+    /// Notes that a refused call has handed back something else than it was given.
+    pub fn note_other(&mut self) {
+        self.is_other = true;
+    }
+
+    /// Whether that was noted.
+    pub fn is_other(&self) -> bool {
+        self.is_other
     }
 
     pub fn alloc(&self) -> Global {
@@ -48,10 +76,15 @@ impl<'a> Answer<'a> {
         self.words.left()
     }
 
-    /// Whether a growth was refused twice. The call may have been made then, so it isn't made once
-    /// more.
+    /// Whether a growth was refused twice, or memory for what can't be made again. The call isn't
+    /// made once more then.
     pub fn is_lost(&self) -> bool {
         self.is_lost
+    }
+
+    /// Notes that memory was refused for a call that can't be made again.
+    pub fn lose(&mut self) {
+        self.is_lost = true;
     }
 
     /// The next word.
@@ -81,9 +114,17 @@ impl<'a> Answer<'a> {
         }
     }
 
+    /// The value that the next word writes, if it writes one of the type.
+    pub fn next_parsed<T: FromStr>(&mut self) -> Option<T>
+    where
+        T::Err: Drop,
+    {
+        self.words.next()?.parse().ok()
+    }
+
     /// The number that the next word writes, if it writes one.
     pub fn next_number(&mut self) -> Option<u64> {
-        self.words.next()?.parse().ok()
+        self.next_parsed()
     }
 
     /// What is written.
@@ -171,6 +212,12 @@ impl<'a> Answer<'a> {
         }
     }
 
+    /// Adds a line: what is shown of a value.
+    pub fn shown_line<T: Display>(&mut self, value: &T) -> Result<(), Memory> {
+        self.shown(value)?;
+        self.end()
+    }
+
     /// Adds a list of nibbles as a word, a hexadecimal digit for each.
     pub fn list(&mut self, list: &Nibblet) -> Result<(), Memory> {
         self.begin_word()?;
@@ -178,6 +225,12 @@ impl<'a> Answer<'a> {
             return self.put(b"\"\"");
         }
         self.shown(list)
+    }
+
+    /// Adds a line: a list of nibbles.
+    pub fn list_line(&mut self, list: &Nibblet) -> Result<(), Memory> {
+        self.list(list)?;
+        self.end()
     }
 
     /// Adds a number as a word.

@@ -12,6 +12,7 @@ pub enum Call {
     Named(Named),
     View(View),
     Tree(Tree),
+    Part(Part),
     Session(Session),
 }
 
@@ -112,8 +113,10 @@ pub enum View {
     SubtrieMut,
     Path,
     IntoChildren,
+    IntoTrie,
     Spend,
     With,
+    WithSubtrieMut,
     Close,
 }
 
@@ -125,12 +128,24 @@ pub enum Tree {
     Stats,
 }
 
-/// What asks nothing of a trie.
+/// Calls of what tries are made of.
+#[derive(Clone, Copy)]
+pub enum Part {
+    Encode,
+    EncodeBytes,
+    Nibblet,
+    Bits,
+    Ipv4,
+    Ipv6,
+    Json,
+}
+
+/// What asks nothing of the library.
 #[derive(Clone, Copy)]
 pub enum Session {
     Keys,
-    Json,
     Watch,
+    Light,
     Help,
 }
 
@@ -217,15 +232,29 @@ pub const CALLS: &'static [Usage] = &[
     Usage("subtrie_mut", 1, 1, Call::View(View::SubtrieMut)),
     Usage("path", 0, 0, Call::View(View::Path)),
     Usage("into_children", 0, 0, Call::View(View::IntoChildren)),
+    Usage("into_trie", 1, MANY, Call::View(View::IntoTrie)),
     Usage("spend", 1, 2, Call::View(View::Spend)),
     Usage("with", 1, MANY, Call::View(View::With)),
+    Usage(
+        "with_subtrie_mut",
+        1,
+        MANY,
+        Call::View(View::WithSubtrieMut),
+    ),
     Usage("close", 0, 0, Call::View(View::Close)),
     Usage("draw", 0, 1, Call::Tree(Tree::Draw)),
     Usage("dot", 0, 0, Call::Tree(Tree::Dot)),
     Usage("stats", 0, 0, Call::Tree(Tree::Stats)),
+    Usage("encode", 2, 2, Call::Part(Part::Encode)),
+    Usage("encode_bytes", 2, 2, Call::Part(Part::EncodeBytes)),
+    Usage("nibblet", 2, 4, Call::Part(Part::Nibblet)),
+    Usage("bits", 2, 3, Call::Part(Part::Bits)),
+    Usage("ipv4", 2, 3, Call::Part(Part::Ipv4)),
+    Usage("ipv6", 2, 3, Call::Part(Part::Ipv6)),
+    Usage("json", 1, MANY, Call::Part(Part::Json)),
     Usage("keys", 1, 1, Call::Session(Session::Keys)),
-    Usage("json", 1, MANY, Call::Session(Session::Json)),
     Usage("watch", 0, 0, Call::Session(Session::Watch)),
+    Usage("light", 1, MANY, Call::Session(Session::Light)),
     Usage("help", 0, 1, Call::Session(Session::Help)),
 ];
 

@@ -5,9 +5,15 @@
 
 pub mod common;
 pub mod edits;
+pub mod encodings;
+pub mod json;
 pub mod lines;
+pub mod lists;
 pub mod look_ups;
+pub mod networks;
+pub mod parts;
 pub mod runs;
 pub mod sweeps;
 pub mod trees;
+pub mod tries;
 pub mod views;

@@ -6,8 +6,10 @@ ghost use Rattle.trie_shell.specs.Sessions.{GivesUp, IsBad, IsRemark, Replies};
 
 use crate::answer::Answer;
 use crate::call::{Call, Session};
+use crate::caller::{Caller, make};
+use crate::calls::lines::{NO_TYPE, NOT_HERE};
+use crate::calls::parts::answer_part;
 use crate::help::answer_help;
-use crate::json::answer_json;
 use crate::request::{Reason, Request, request_of};
 use crate::store::Store;
 use crate::tries::Tries;
@@ -37,23 +39,15 @@ impl Model for Shell {
 }
 
 impl Shell {
-    /// Answers a call.
-    fn reply(&mut self, call: Call, answer: &mut Answer<'_>) -> Result<(), Memory> {
-        match call {
-            Call::Session(call) => self.reply_session(call, answer),
-            call => self.tries.answer(call, answer, self.is_watched),
-        }
-    }
-
-    /// Answers what asks nothing of a trie.
-    fn reply_session(&mut self, call: Session, answer: &mut Answer<'_>) -> Result<(), Memory> {
+    /// Answers what asks nothing of the library.
+    fn reply(&mut self, call: Session, answer: &mut Answer<'_>) -> Result<(), Memory> {
         match call {
             Session::Watch => self.is_watched = true,
             Session::Keys => match Tries::of(self.alloc, answer.next_word().unwrap_or("")) {
                 Some(tries) => self.tries = tries,
-                None => return answer.line("no type of keys"),
+                None => return answer.line(NO_TYPE),
             },
-            Session::Json => return self.reply_json(answer),
+            Session::Light => return answer.line(NOT_HERE),
             Session::Help => {
                 let name = answer.next_word();
                 return answer_help(name, answer);
@@ -61,18 +55,19 @@ impl Shell {
         }
         answer.line("ok")
     }
+}
 
-    /// Answers an object. Where its calls are refused they are made once more.
-    fn reply_json(&self, answer: &mut Answer<'_>) -> Result<(), Memory> {
-        let words = answer.words();
-        if answer_json(words.rest(), answer).is_ok() {
-            return Ok(());
+impl Caller for Shell {
+    fn perform(&mut self, call: Call, answer: &mut Answer<'_>) -> Result<(), Memory> {
+        match call {
+            Call::Session(call) => self.reply(call, answer),
+            Call::Part(call) => answer_part(call, answer),
+            call => self.tries.answer(call, answer),
         }
-        answer.return_to(0, words);
-        if self.is_watched {
-            answer.line("refused")?;
-        }
-        answer_json(words.rest(), answer)
+    }
+
+    fn picture(&mut self, picture: &mut Answer<'_>) -> Result<(), Memory> {
+        self.tries.picture(picture)
     }
 }
 
@@ -106,8 +101,8 @@ impl Program for Shell {
                 return Err(Refusal::Bad);
             }
         };
-        let mut answer = Answer::new(self.alloc, words);
-        if self.reply(call, &mut answer).is_err() {
+        let mut answer = Answer::new(self.alloc, words, self.is_watched);
+        if make(self, call, &mut answer).is_err() {
             return Err(Refusal::Memory);
         }
         add(answers, answer.as_bytes()).map_err(|_| Refusal::Memory)

@@ -59,23 +59,58 @@ to_ascending: the pairs of the trie of ascending keys.\n\
 open KEY: opens a view for reading. Its path and its value, or none.\n\
 open_mut KEY: opens a view for writing. Its path and its value, or closed.\n\
 subtrie_mut KEY: the same by the other call. Its path and its value, or none.\n\
-with KEY CALL ; CALL ..: the answers of calls of one view for writing.\n\
+with KEY CALL ; CALL ..: the answers of calls of one view that open_mut opens, or closed.\n\
+with KEY CALL ; CALL ..: the last call may take the view: spend, into_children, into_trie.\n\
+with_subtrie_mut KEY CALL ; CALL ..: the same of a view that subtrie_mut opens, or none.\n\
 into_children: the children of the open view, which the call takes.\n\
+into_trie CALL ..: what the whole trie answers, which is handed back for the open view.\n\
 spend CALL: what the call answers that takes the open view.\n\
 close: leaves the open view.\n\
 run COMMAND ..: the replies to a list of commands; within KEY COMMAND .. end runs some in a view.\n\
 json TEXT: the counts of an object's trie, and the object that it is written as; kind; float.\n\
+encode TYPE KEY: the key's encoding, in nibbles. The types are those of integers,\n\
+encode TYPE KEY: BigEndian<u16>, <u32>, <u128>, LittleEndian of these, Ascending<i8> to <isize>,\n\
+encode TYPE KEY: String, &str, &String, &mut&str, Vec<u8>, &[u8], Vec<u16>, Nibblet, bool, char,\n\
+encode TYPE KEY: Bits, Network<Ipv4Addr>, Network<Ipv6Addr>, [u8;2], [u8;16], [u8;17], (u8,u16),\n\
+encode TYPE KEY: (u128,u8), ([u8;17],u8), (u8,[u8;17]). A comma parts numbers, and two halves.\n\
+encode_bytes TYPE KEY: the encoding in bytes, or odd.\n\
+nibblet from_byte_vec BYTES: the list of the bytes' nibbles, the high half of each byte first.\n\
+nibblet clone LIST: a copy of the list.\n\
+nibblet len LIST: the count of its nibbles.\n\
+nibblet get LIST PLACE: the nibble at the place, from 0 on, in decimal.\n\
+nibblet push LIST DIGIT: the list with this nibble at its end.\n\
+nibblet turn_over LIST: the list with the highest bit of its first nibble turned over.\n\
+nibblet join LIST LIST: the two lists as one.\n\
+nibblet agreement LIST OTHER PLACE: how many first nibbles are those of OTHER from PLACE on.\n\
+nibblet split LIST COUNT: the first nibbles, so many, and the others.\n\
+nibblet tail LIST COUNT: the list without the first nibbles.\n\
+nibblet truncate LIST COUNT: the first nibbles alone.\n\
+bits first_of BYTES COUNT: the first bits of the bytes, at most all of them.\n\
+bits first_of_u32 NUMBER COUNT: the first bits of a number of 32 bits, at most all of them.\n\
+bits first_of_u128 NUMBER COUNT: the first bits of a number of 128 bits, at most all of them.\n\
+bits clone BITS: a copy of the bits.\n\
+ipv4 from_str NETWORK: the network that the text writes, or none.\n\
+ipv4 new ADDRESS COUNT: the network of so many bits that begins at the address, or none.\n\
+ipv4 around ADDRESS COUNT: the network of so many bits that holds the address, or none.\n\
+ipv4 host ADDRESS: the network of the address alone.\n\
+ipv4 base NETWORK: its first address.\n\
+ipv4 bits NETWORK: the count of its bits.\n\
+ipv4 clone NETWORK: a copy of the network.\n\
+ipv4 holds NETWORK ADDRESS: true where it holds the address, else false.\n\
+ipv4 cmp NETWORK NETWORK: less, equal or greater, by their bits.\n\
+ipv6 CALL ..: the same calls of networks of IPv6 addresses.\n\
 use NAME: makes the trie of this name the current one.\n\
 tries: the names of all tries, the current one first.\n\
 clone NAME: a copy of the current trie, under this name.\n\
 == NAME: true where the two tries are equal, else false.\n\
-keys TYPE: begins with a trie of this type of keys: text, bytes, nibbles, u8, u32, i32, bool,\n\
-keys TYPE: char, bits, ipv4, ipv6.\n\
+keys TYPE: begins with a trie of this type of keys: text, bytes, nibbles, u8, u16, u32, u64,\n\
+keys TYPE: u128, usize, i8, i16, i32, i64, i128, isize, bool, char, bits, ipv4, ipv6.\n\
 draw: the tree, a point on each line: its fragment, and its pair, or a star where none is stored.\n\
 draw KEY: the same from the key's point on, or none.\n\
 dot: the tree as a graph for graphviz.\n\
 stats: the counts of pairs, nodes and nibbles, and how many points stand above the lowest one.\n\
-watch: tells of each refusal from here on, and whether it changed anything.\n\
+watch: tells of each refusal from here on: refused; refused, and changed; refused, though light.\n\
+light CALL ..: makes the call, which is promised to take no memory.\n\
 help: a line for each call.\n\
 help CALL: the lines of this call.";
 

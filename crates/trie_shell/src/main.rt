@@ -4,10 +4,10 @@
 
 mod answer;
 mod call;
+mod caller;
 mod calls;
 mod engine;
 mod help;
-mod json;
 mod keys;
 mod request;
 mod store;

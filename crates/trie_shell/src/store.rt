@@ -4,13 +4,9 @@ mod names;
 mod places;
 
 use crate::answer::Answer;
-use crate::call::{Call, Sweep, View};
-use crate::calls::common::answer_common;
-use crate::calls::edits::answer_edit;
-use crate::calls::lines::{NO_KEY, NOT_HERE};
-use crate::calls::look_ups::{answer_keyed, answer_listed, answer_whole};
-use crate::calls::sweeps::answer_sweep;
-use crate::calls::trees::answer_tree;
+use crate::call::{Call, View};
+use crate::calls::lines::NO_KEY;
+use crate::calls::tries::answer_trie;
 use crate::calls::views::{answer_in_view, answer_in_write_view, answer_with};
 use crate::keys::{Query, ShellKey};
 use radix_trie::{Memory, Nibblet, Trie};
@@ -53,77 +49,34 @@ impl<K: ShellKey> Store<K> {
         }
     }
 
-    /// Answers a call. Where its call of the library is refused it is made once more.
-    pub fn answer(
-        &mut self,
-        call: Call,
-        answer: &mut Answer<'_>,
-        is_watched: bool,
-    ) -> Result<(), Memory> {
-        let words = answer.words();
-        let before = if is_watched {
-            Some(self.picture()?)
-        } else {
-            None
-        };
-        if self.perform(call, answer).is_ok() {
-            return Ok(());
-        }
-        if answer.is_lost() {
-            return Err(Memory);
-        }
-        answer.return_to(0, words);
-        if let Some(before) = before {
-            answer.line(self.refusal(call, &before)?)?;
-        }
-        self.perform(call, answer)
-    }
-
-    /// What is told of a refusal. Of a refused `extend` the pairs before the refused one stay.
-    fn refusal(&mut self, call: Call, before: &Answer<'_>) -> Result<&'static str, Memory> {
-        let is_same = before.as_bytes() == self.picture()?.as_bytes();
-        Ok(match call {
-            Call::Sweep(Sweep::Extend) => "refused",
-            _ if is_same => "refused",
-            _ => "refused, and changed",
-        })
-    }
-
-    /// Makes the call of the library.
-    fn perform(&mut self, call: Call, answer: &mut Answer<'_>) -> Result<(), Memory> {
+    /// Answers a call.
+    pub fn answer(&mut self, call: Call, answer: &mut Answer<'_>) -> Result<(), Memory> {
         match call {
             Call::Named(call) => self.answer_named(call, answer),
             Call::View(place @ (View::Open | View::OpenMut | View::SubtrieMut | View::Close)) => {
                 self.answer_place(place, answer)
             }
             _ => match self.spots.as_slice().last() {
-                None => answer_trie(&mut self.current.trie, call, answer),
+                None => answer_in(&mut self.current.trie, call, answer),
                 Some(spot) => answer_at(&mut self.current.trie, spot, call, answer),
             },
         }
     }
 }
 
-/// A call of a trie.
-fn answer_trie<K: ShellKey>(
+/// A call of a trie, or calls of a view of it.
+fn answer_in<K: ShellKey>(
     trie: &mut Trie<K, u64>,
     call: Call,
     answer: &mut Answer<'_>,
 ) -> Result<(), Memory> {
-    match call {
-        Call::Common(call) => answer_common(&*trie, call, answer),
-        Call::Keyed(call) => answer_keyed(&*trie, call, answer),
-        Call::Listed(call) => answer_listed(&*trie, call, answer),
-        Call::Whole(call) => answer_whole(&*trie, call, answer),
-        Call::Edit(call) => answer_edit(trie, call, answer),
-        Call::Sweep(call) => answer_sweep(trie, call, answer),
-        Call::Tree(call) => answer_tree(&*trie, call, answer),
-        Call::View(View::With) => match answer.next_query::<K>()? {
-            Some(Query::Key(key)) => answer_with(trie, &key, answer),
-            Some(Query::List(list)) => answer_with(trie, &list, answer),
-            None => answer.line(NO_KEY),
-        },
-        _ => answer.line(NOT_HERE),
+    let Call::View(call @ (View::With | View::WithSubtrieMut)) = call else {
+        return answer_trie(trie, call, answer);
+    };
+    match answer.next_query::<K>()? {
+        Some(Query::Key(key)) => answer_with(trie, &key, call, answer),
+        Some(Query::List(list)) => answer_with(trie, &list, call, answer),
+        None => answer.line(NO_KEY),
     }
 }
 

@@ -1,5 +1,6 @@
-//! Tests of the trie: as a map, built as a whole, the further calls of a map, the removal of all pairs below a prefix, and
-//! hostile use.
+//! Tests of what no line of the shell says: values and keys of other types, queries by keys of
+//! other types, closures, what outlives the view that it comes from, texts of tries, sizes, nodes,
+//! and tables with their least lists; and callers that the library's pages name as examples.
 #![tactic(auto)]
 
 #[cfg(test)]
@@ -7,10 +8,22 @@ mod building;
 #[cfg(test)]
 mod further;
 #[cfg(test)]
-mod hostile;
+mod fussy;
+#[cfg(test)]
+mod keys;
 #[cfg(test)]
 mod map;
+#[cfg(test)]
+mod nodes;
 #[cfg(test)]
 mod pairs;
 #[cfg(test)]
 mod removal;
+#[cfg(test)]
+mod spent;
+#[cfg(test)]
+mod tables;
+#[cfg(test)]
+mod tries;
+#[cfg(test)]
+mod views;

@@ -7,20 +7,50 @@ use crate::keys::{Query, ShellKey};
 use radix_trie::{
     FindError, InsertError, InsertWhy, Memory, SubTrieError, SubTrieMut, Trie, TrieKey,
 };
+use std::alloc::Global;
+
+/// A pair that is to be stored: the word that writes its key, and the value.
+#[derive(Clone, Copy)]
+struct Given<'a> {
+    word: &'a str,
+    value: u64,
+}
 
 /// What an insertion answers: the old value, or why it was refused. Where memory was, key and value
 /// have come back.
 fn insert_line<K: ShellKey>(
     answer: &mut Answer<'_>,
+    given: Given<'_>,
     outcome: Result<Option<u64>, InsertError<K, u64>>,
 ) -> Result<(), Memory> {
     match outcome {
         Ok(old) => answer.value_line(old),
-        Err(error) => match error.why {
-            InsertWhy::Memory => Err(Memory),
-            InsertWhy::Full => answer.line("full"),
-            InsertWhy::Outside => answer.line("outside"),
-        },
+        Err(error) => refused_line(answer, given, error),
+    }
+}
+
+/// What a refused insertion answers.
+fn refused_line<K: ShellKey>(
+    answer: &mut Answer<'_>,
+    given: Given<'_>,
+    error: InsertError<K, u64>,
+) -> Result<(), Memory> {
+    if error.value != given.value || !is_key_of(answer.alloc(), &error.key, given.word)? {
+        answer.note_other();
+    }
+    match error.why {
+        InsertWhy::Memory => Err(Memory),
+        _ if answer.is_other() => answer.line("another pair came back"),
+        InsertWhy::Full => answer.line("full"),
+        InsertWhy::Outside => answer.line("outside"),
+    }
+}
+
+/// Whether the word writes this key.
+fn is_key_of<K: ShellKey>(alloc: Global, key: &K, word: &str) -> Result<bool, Memory> {
+    match K::read(alloc, word)? {
+        Some(given) => Ok(given.encode(alloc)? == key.encode(alloc)?),
+        None => Ok(false),
     }
 }
 
@@ -31,8 +61,9 @@ pub fn answer_edit<K: ShellKey>(
     answer: &mut Answer<'_>,
 ) -> Result<(), Memory> {
     if let Edit::Insert | Edit::MapWithDefault = call {
+        let word = answer.words().next().unwrap_or("");
         return match answer.next_key::<K>()? {
-            Some(key) => answer_store(trie, key, call, answer),
+            Some(key) => answer_store(trie, key, word, call, answer),
             None => answer.line(NO_KEY),
         };
     }
@@ -47,14 +78,17 @@ pub fn answer_edit<K: ShellKey>(
 fn answer_store<K: ShellKey>(
     trie: &mut Trie<K, u64>,
     key: K,
+    word: &str,
     call: Edit,
     answer: &mut Answer<'_>,
 ) -> Result<(), Memory> {
-    match (call, answer.next_number()) {
-        (Edit::MapWithDefault, Some(added)) => answer_map(trie, key, added, answer),
-        (_, Some(number)) => insert_line(answer, trie.insert(key, number)),
-        (_, None) => answer.line(NO_NUMBER),
+    let Some(value) = answer.next_number() else {
+        return answer.line(NO_NUMBER);
+    };
+    if let Edit::MapWithDefault = call {
+        return answer_map(trie, key, word, value, answer);
     }
+    insert_line(answer, Given { word, value }, trie.insert(key, value))
 }
 
 /// A change of what is stored at the key, or below it.
@@ -81,16 +115,17 @@ fn answer_at<K: ShellKey, Q: TrieKey>(
 fn answer_map<K: ShellKey>(
     trie: &mut Trie<K, u64>,
     key: K,
+    word: &str,
     added: u64,
     answer: &mut Answer<'_>,
 ) -> Result<(), Memory> {
-    let Some(default) = answer.next_number() else {
+    let Some(value) = answer.next_number() else {
         return answer.line(NO_NUMBER);
     };
     let add = |value: &mut u64| *value = value.wrapping_add(added);
-    match trie.map_with_default(key, add, default) {
+    match trie.map_with_default(key, add, value) {
         Ok(()) => answer.line("ok"),
-        Err(error) => insert_line(answer, Err(error)),
+        Err(error) => refused_line(answer, Given { word, value }, error),
     }
 }
 
@@ -115,8 +150,11 @@ pub fn answer_edit_in_view<K: ShellKey>(
     answer: &mut Answer<'_>,
 ) -> Result<(), Memory> {
     if let Edit::Insert = call {
+        let word = answer.words().next().unwrap_or("");
         return match (answer.next_key::<K>()?, answer.next_number()) {
-            (Some(key), Some(number)) => insert_line(answer, view.insert(key, number)),
+            (Some(key), Some(value)) => {
+                insert_line(answer, Given { word, value }, view.insert(key, value))
+            }
             (Some(_), None) => answer.line(NO_NUMBER),
             (None, _) => answer.line(NO_KEY),
         };

@@ -15,6 +15,9 @@ pub const NO_NUMBER: &'static str = "no number";
 /// What is answered where a word writes no list of nibbles.
 pub const NO_LIST: &'static str = "no list";
 
+/// What is answered where there is no type of this name.
+pub const NO_TYPE: &'static str = "no type of keys";
+
 /// What is answered where a view has no such call.
 pub const NOT_HERE: &'static str = "no such call here";
 
@@ -70,7 +73,7 @@ pub fn pair_lines<'a, K: ShellKey + 'a, I: Iterator<Item = (&'a K, &'a u64)> + D
 }
 
 /// Says that there is none, where there is.
-fn none_line(answer: &mut Answer<'_>, is_none: bool) -> Result<(), Memory> {
+pub fn none_line(answer: &mut Answer<'_>, is_none: bool) -> Result<(), Memory> {
     if is_none { answer.line(NONE) } else { Ok(()) }
 }
 

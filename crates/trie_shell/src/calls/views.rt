@@ -1,21 +1,25 @@
 //! Calls of views.
 
 use crate::answer::Answer;
-use crate::call::{Call, Keyed, Sweep, View, Whole, call_of_name};
+use crate::call::{Call, Common, Keyed, Sweep, View, Whole, call_of_name};
+use crate::caller::{Caller, make};
 use crate::calls::common::answer_common;
 use crate::calls::edits::{answer_edit_in_view, inside_line, written_or_none};
-use crate::calls::lines::{NO_KEY, NOT_HERE, child_lines};
+use crate::calls::lines::{NO_KEY, NONE, NOT_HERE, child_lines};
+use crate::calls::tries::answer_trie;
 use crate::keys::{Query, ShellKey};
 use radix_trie::{Memory, Nibblet, OpenError, SubTrie, SubTrieError, SubTrieMut, Trie, TrieKey};
 
 /// What is answered where the point that a view stands at is gone.
 const CLOSED: &'static str = "closed";
 
-/// A list of nibbles on a line.
-fn list_line(answer: &mut Answer<'_>, list: &Nibblet) -> Result<(), Memory> {
-    answer.list(list)?;
-    answer.end()
-}
+/// The calls whose answers a refused call in a view may not change.
+pub const IN_A_VIEW: &'static [Call] = &[
+    Call::View(View::Path),
+    Call::Common(Common::Prefix),
+    Call::Common(Common::Iter),
+    Call::Common(Common::Len),
+];
 
 /// The value that a look-up in a view has found.
 fn copied(found: Result<Option<&u64>, SubTrieError>) -> Result<Option<u64>, SubTrieError> {
@@ -44,7 +48,7 @@ pub fn answer_in_view<K: ShellKey>(
             None => answer.line(NO_KEY),
         },
         Call::Whole(Whole::Children) => child_lines(answer, view.children()?),
-        Call::View(View::Path) => list_line(answer, view.path()),
+        Call::View(View::Path) => answer.list_line(view.path()),
         _ => answer.line(NOT_HERE),
     }
 }
@@ -78,6 +82,10 @@ fn answer_written<K: ShellKey>(
     let mut view = view;
     match call {
         Call::View(View::IntoChildren) => child_lines(answer, view.into_children()?),
+        Call::View(View::IntoTrie) => match answer.next_word().and_then(call_of_name) {
+            Some(call) => answer_trie(view.into_trie(), call, answer),
+            None => answer.line(NOT_HERE),
+        },
         Call::View(View::Spend) => match answer.next_word().and_then(call_of_name) {
             Some(Call::Common(call)) => answer_common(view, call, answer),
             _ => answer.line(NOT_HERE),
@@ -100,57 +108,82 @@ fn answer_through<K: ShellKey>(
             None => answer.line(NO_KEY),
         },
         Call::Whole(Whole::Children) => child_lines(answer, view.children()?),
-        Call::View(View::Path) => list_line(answer, view.path()),
+        Call::View(View::Path) => answer.list_line(view.path()),
         Call::Edit(call) => answer_edit_in_view(view, call, answer),
         Call::Sweep(Sweep::ValueMut) => written_or_none(answer, view.value_mut()),
         _ => answer.line(NOT_HERE),
     }
 }
 
+impl<K: ShellKey> Caller for SubTrieMut<'_, K, u64> {
+    fn perform(&mut self, call: Call, answer: &mut Answer<'_>) -> Result<(), Memory> {
+        answer_through(self, call, answer)
+    }
+
+    fn picture(&mut self, picture: &mut Answer<'_>) -> Result<(), Memory> {
+        for call in IN_A_VIEW {
+            answer_through(&mut *self, *call, &mut *picture)?;
+        }
+        Ok(())
+    }
+}
+
 /// Calls of one view for writing, one after another: each begins with its name, and a semicolon
-/// parts it from the next. Where one of them is refused it is made once more.
+/// parts it from the next. A call that takes the view is the last one, and is left to be made.
 fn answer_calls<K: ShellKey>(
     view: &mut SubTrieMut<'_, K, u64>,
     answer: &mut Answer<'_>,
-) -> Result<(), Memory> {
+) -> Result<Option<Call>, Memory> {
     for _ in 0..answer.left() {
         let Some(name) = answer.next_word() else {
             break;
         };
         match call_of_name(name) {
-            Some(call) => answer_twice(&mut *view, call, answer)?,
+            Some(call @ Call::View(View::Spend | View::IntoChildren | View::IntoTrie)) => {
+                return Ok(Some(call));
+            }
+            Some(call) => make(&mut *view, call, answer)?,
             None if name == ";" => {}
             None => answer.line(NOT_HERE)?,
         }
     }
-    Ok(())
+    Ok(None)
 }
 
-/// A call of the view, made once more where it is refused.
-fn answer_twice<K: ShellKey>(
-    view: &mut SubTrieMut<'_, K, u64>,
-    call: Call,
+/// Calls of the view, the last of which may take it. Where memory is refused for that one, nothing
+/// has the view any more, and the calls before it may have changed the trie: the session ends.
+fn answer_all_calls<K: ShellKey>(
+    view: SubTrieMut<'_, K, u64>,
     answer: &mut Answer<'_>,
 ) -> Result<(), Memory> {
-    let (length, words) = (answer.len(), answer.words());
-    if answer_through(&mut *view, call, answer).is_ok() {
-        return Ok(());
+    let mut view = view;
+    match answer_calls(&mut view, answer)? {
+        Some(call) => {
+            let outcome = answer_written(view, call, &mut *answer);
+            if outcome.is_err() {
+                answer.lose();
+            }
+            outcome
+        }
+        None => Ok(()),
     }
-    if answer.is_lost() {
-        return Err(Memory);
-    }
-    answer.return_to(length, words);
-    answer_through(view, call, answer)
 }
 
-/// Calls of one view for writing at the key.
+/// Calls of one view for writing at the key, which `open_mut` opens, or `subtrie_mut`.
 pub fn answer_with<K: ShellKey, Q: TrieKey>(
     trie: &mut Trie<K, u64>,
     key: &Q,
+    call: View,
     answer: &mut Answer<'_>,
 ) -> Result<(), Memory> {
+    if let View::WithSubtrieMut = call {
+        return match trie.subtrie_mut(key)? {
+            Some(view) => answer_all_calls(view, answer),
+            None => answer.line(NONE),
+        };
+    }
     match trie.open_mut(key) {
-        Ok(mut view) => answer_calls(&mut view, answer),
+        Ok(view) => answer_all_calls(view, answer),
         Err(OpenError::Closed) => answer.line(CLOSED),
         Err(OpenError::Memory) => Err(Memory),
     }

@@ -96,6 +96,7 @@ impl<K: ShellKey> Store<K> {
         let name = answer.next_word().unwrap_or("");
         let other = match self.place_of(name) {
             Some(place) => self.others.as_slice().get(place),
+            None if self.current.name() == name => Some(&self.current),
             None => None,
         };
         match other {

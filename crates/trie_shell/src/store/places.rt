@@ -1,13 +1,13 @@
 //! Views that are opened and left, and a picture of all that a refused call may not change.
 
 use crate::answer::Answer;
-use crate::call::{Call, Common, View, Whole};
+use crate::call::{Common, View, Whole};
 use crate::calls::common::answer_common;
-use crate::calls::lines::{NO_KEY, NOT_HERE};
+use crate::calls::lines::NO_KEY;
 use crate::calls::look_ups::answer_whole;
+use crate::calls::views::IN_A_VIEW;
 use crate::keys::{Query, ShellKey};
 use crate::store::{Spot, Store, answer_at};
-use crate::words::Words;
 use radix_trie::{Memory, Nibblet, OpenError, SubTrieMut, TrieCommon, TrieKey};
 
 impl<K: ShellKey> Store<K> {
@@ -106,31 +106,19 @@ impl<K: ShellKey> Store<K> {
         }
     }
 
-    /// The walk, the length and the footprint of the current trie, and path, fragment and walk of
-    /// the open view. Where it is refused it is made once more.
-    pub(super) fn picture(&mut self) -> Result<Answer<'static>, Memory> {
-        match self.new_picture() {
-            Ok(picture) => Ok(picture),
-            Err(_) => self.new_picture(),
-        }
-    }
-
-    fn new_picture(&mut self) -> Result<Answer<'static>, Memory> {
-        let mut picture = Answer::new(self.alloc, Words::new("", 0));
+    /// Adds the walk, the length and the footprint of the current trie, and path, fragment and walk
+    /// of the open view.
+    pub fn picture(&mut self, picture: &mut Answer<'_>) -> Result<(), Memory> {
         for call in [Common::Iter, Common::Len] {
-            answer_common(&self.current.trie, call, &mut picture)?;
+            answer_common(&self.current.trie, call, &mut *picture)?;
         }
-        answer_whole(&self.current.trie, Whole::Footprint, &mut picture)?;
+        answer_whole(&self.current.trie, Whole::Footprint, &mut *picture)?;
         if let Some(spot) = self.spots.as_slice().last() {
-            for call in [
-                Call::View(View::Path),
-                Call::Common(Common::Prefix),
-                Call::Common(Common::Iter),
-            ] {
-                answer_at(&mut self.current.trie, spot, call, &mut picture)?;
+            for call in IN_A_VIEW {
+                answer_at(&mut self.current.trie, spot, *call, &mut *picture)?;
             }
         }
-        Ok(picture)
+        Ok(())
     }
 }
 

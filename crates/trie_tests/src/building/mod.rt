@@ -1,5 +1,3 @@
-//! Tries that are built as a whole: of pairs, as copies, of JSON values; and their equality.
+//! Tries that are built as a whole.
 
 mod built;
-mod equality;
-pub(crate) mod json;

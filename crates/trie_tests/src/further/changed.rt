@@ -40,14 +40,3 @@ fn each_value_is_raised_twice(rt: HostRuntime) -> Result<(), Memory> {
     }
     check_multiplied(&rt, &trie, 1, 10)
 }
-
-#[test]
-fn values_of_few_pairs_are_changed(rt: HostRuntime) -> Result<(), Memory> {
-    let mut trie = texts(rt.alloc(), &[])?;
-    trie.for_each_value_mut(|value| *value = 1);
-    assert!(rt; trie.is_empty() && trie.footprint() == (1, 0));
-    let mut trie = texts(rt.alloc(), &[("", 3)])?;
-    trie.for_each_value_mut(|value| *value = 1);
-    assert!(rt; trie.get(&"")? == Some(&1));
-    Ok(())
-}

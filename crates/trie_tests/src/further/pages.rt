@@ -2,7 +2,7 @@
 
 use crate::pairs::{IN_ORDER, is_pair};
 use radix_trie::{Memory, TrieKey};
-use trie_samples::{SAMPLE, Texts, list, texts};
+use trie_samples::{SAMPLE, Texts, texts};
 
 /// Whether the pairs that were found are these, in their order.
 fn are_pairs(found: &[(&&'static str, &u64)], wanted: &[(&'static str, u64)]) -> bool {
@@ -54,16 +54,5 @@ fn first_pairs_below_texts(rt: HostRuntime) -> Result<(), Memory> {
             &[("", 2), ("b", 1)]
         )?
     );
-    Ok(())
-}
-
-/// A list that ends inside a byte, and one that parts inside one.
-#[test]
-fn first_pairs_below_odd_lists(rt: HostRuntime) -> Result<(), Memory> {
-    let trie = texts(rt.alloc(), SAMPLE)?;
-    let inside = list(rt.alloc(), &[6, 1, 6])?;
-    assert!(rt; has_firsts(&trie, &inside, &IN_ORDER[1..6])?);
-    let parted = list(rt.alloc(), &[6, 1, 7])?;
-    assert!(rt; has_firsts(&trie, &parted, &[])?);
     Ok(())
 }

@@ -4,7 +4,7 @@ use crate::pairs::is_pair;
 use radix_trie::{Memory, TrieKey};
 use std::alloc::Global;
 use std::process::Abort;
-use trie_samples::{SAMPLE, Texts, list, texts};
+use trie_samples::{SAMPLE, Texts, texts};
 
 /// Whether the pairs at the prefixes of the key are these, in their order, and none comes after them.
 fn are_prefixes<Q: TrieKey>(
@@ -66,15 +66,4 @@ fn prefixes_of_texts(rt: HostRuntime) -> Result<(), Memory> {
         &[("a", 6), ("", 5), ("abc", 7)],
         BELOW_EMPTY,
     )
-}
-
-/// A list that ends inside a byte, and one that parts inside one.
-#[test]
-fn prefixes_of_odd_lists(rt: HostRuntime) -> Result<(), Memory> {
-    let trie = texts(rt.alloc(), SAMPLE)?;
-    let inside = list(rt.alloc(), &[6, 1, 6, 2, 6])?;
-    assert!(rt; are_prefixes(&trie, &inside, &[("a", 15), ("ab", 16)])?);
-    let parted = list(rt.alloc(), &[6, 1, 6, 9])?;
-    assert!(rt; are_prefixes(&trie, &parted, &[("a", 15)])?);
-    Ok(())
 }

@@ -3,7 +3,7 @@
 use crate::pairs::{IN_ORDER, is_pair};
 use radix_trie::iter::Iter;
 use radix_trie::{Memory, TrieCommon, TrieKey};
-use trie_samples::{SAMPLE, Texts, list, texts};
+use trie_samples::{SAMPLE, Texts, texts};
 
 /// Whether a walk gives these pairs, in their order, and none comes after them.
 fn gives(mut walk: Iter<'_, &'static str, u64>, wanted: &[(&'static str, u64)]) -> bool {
@@ -46,57 +46,5 @@ fn walks_from_texts(rt: HostRuntime) -> Result<(), Memory> {
     ] {
         assert!(rt; goes_on(&trie, &key, from, after)?);
     }
-    Ok(())
-}
-
-/// Lists that end inside a byte.
-#[test]
-fn walks_from_odd_lists(rt: HostRuntime) -> Result<(), Memory> {
-    let trie = texts(rt.alloc(), SAMPLE)?;
-    assert!(rt; goes_on(&trie, &list(rt.alloc(), &[6])?, 0, 0)?);
-    assert!(rt; goes_on(&trie, &list(rt.alloc(), &[6, 1, 6])?, 1, 1)?);
-    assert!(rt; goes_on(&trie, &list(rt.alloc(), &[6, 1, 7])?, 6, 6)?);
-    assert!(rt; goes_on(&trie, &list(rt.alloc(), &[7])?, 7, 7)?);
-    Ok(())
-}
-
-/// A trie without pairs, and one with a pair at the empty list.
-#[test]
-fn walks_of_small_tries(rt: HostRuntime) -> Result<(), Memory> {
-    let none = texts(rt.alloc(), &[])?;
-    assert!(rt; gives(none.iter_from(&"")?, &[]));
-    assert!(rt; gives(none.iter_after(&"a")?, &[]));
-    let two = texts(rt.alloc(), &[("b", 1), ("", 2)])?;
-    assert!(rt; gives(two.iter_from(&"")?, &[("", 2), ("b", 1)]));
-    assert!(rt; gives(two.iter_after(&"")?, &[("b", 1)]));
-    Ok(())
-}
-
-/// What is at and below a view's path alone, for keys before the path, below it and after it.
-#[test]
-fn walks_of_views(rt: HostRuntime) -> Result<(), Memory> {
-    let trie = texts(rt.alloc(), SAMPLE)?;
-    let Some(view) = trie.subtrie(&"abcd")? else {
-        return Err(Memory);
-    };
-    assert!(rt; gives(view.iter_from(&"a")?, &IN_ORDER[2..5]));
-    assert!(rt; gives(view.iter_from(&"abcd")?, &IN_ORDER[2..5]));
-    assert!(rt; gives(view.iter_after(&"abcd")?, &IN_ORDER[3..5]));
-    assert!(rt; gives(view.iter_from(&"abcde")?, &IN_ORDER[3..5]));
-    assert!(rt; gives(view.iter_after(&"abcdef")?, &IN_ORDER[4..5]));
-    assert!(rt; gives(view.iter_from(&"b")?, &[]));
-    Ok(())
-}
-
-/// A walk that is made anew after each of its pairs gives all pairs.
-#[test]
-fn walk_resumed_after_each_pair(rt: HostRuntime) -> Result<(), Memory> {
-    let trie = texts(rt.alloc(), SAMPLE)?;
-    let mut last = "";
-    for &pair in IN_ORDER {
-        assert!(rt; is_pair(trie.iter_after(&last)?.next(), Some(pair)));
-        last = pair.0;
-    }
-    assert!(rt; trie.iter_after(&last)?.next().is_none());
     Ok(())
 }

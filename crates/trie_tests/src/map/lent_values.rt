@@ -2,7 +2,7 @@
 ghost use Rattle.std.specs.Prelude.{◌≡◌, OnErr, OnOk};
 ghost use Rattle.radix_trie.specs.Maps.{with_value};
 
-use crate::pairs::{has_value, holds, is_stored};
+use crate::pairs::{has_value, holds};
 use radix_trie::{FindError, Memory, Nibblet, Trie, TrieKey};
 use trie_samples::{SAMPLE, Texts, list, texts};
 
@@ -57,46 +57,5 @@ fn written_at_a_list(rt: HostRuntime) -> Result<(), Memory> {
     write_at(&mut trie, &half, 9);
     write_at(&mut trie, &whole, 7);
     assert!(rt; is_left(&trie, &[("a", 7), ("ab", 2)], (3, 4)));
-    Ok(())
-}
-
-/// Writes the value of the empty key. False: there is none.
-fn write_own(trie: &mut Texts, value: u64) -> bool {
-    match trie.value_mut() {
-        Some(place) => {
-            *place = value;
-            true
-        }
-        None => false,
-    }
-}
-
-/// The value of the empty key.
-#[test]
-fn written_at_the_root(rt: HostRuntime) -> Result<(), Memory> {
-    let mut trie = texts(rt.alloc(), &[("a", 1)])?;
-    assert!(rt; !write_own(&mut trie, 5));
-    assert!(rt; is_stored(&mut trie, "", 2, None));
-    assert!(rt; is_left(&trie, &[("", 2), ("a", 1)], (2, 2)));
-    assert!(rt; write_own(&mut trie, 5));
-    assert!(rt; is_left(&trie, &[("", 5), ("a", 1)], (2, 2)));
-    Ok(())
-}
-
-/// Maps the value at a key to one more, or stores 42 there.
-fn raise(trie: &mut Texts, key: &'static str) -> bool {
-    let one_more = |value: &mut u64| *value = value.wrapping_add(1);
-    trie.map_with_default(key, one_more, 42).is_ok()
-}
-
-/// A stored value is mapped in its place, and an absent key gets the default.
-#[test]
-fn mapped_or_stored(rt: HostRuntime) -> Result<(), Memory> {
-    let mut trie = texts(rt.alloc(), SAMPLE)?;
-    assert!(rt; raise(&mut trie, "abcd"));
-    assert!(rt; has_value(&trie, "abcd", Some(18)));
-    assert!(rt; raise(&mut trie, "zzz"));
-    assert!(rt; has_value(&trie, "zzz", Some(42)));
-    assert!(rt; trie.len() == 8);
     Ok(())
 }

@@ -29,20 +29,6 @@ fn query_by_a_number(rt: HostRuntime) -> Result<(), Memory> {
     Ok(())
 }
 
-/// Stores the number under itself, in a tree that is as it should be.
-fn store_number(rt: &impl Abort, trie: &mut Trie<u64, u64>, number: u64) {
-    assert!(rt; matches!(trie.insert(number, number), Ok(None)));
-    assert!(rt; trie.check_integrity() == Ok(true));
-}
-
-#[test]
-fn wide_number_keys(rt: HostRuntime) {
-    let mut trie: Trie<u64, u64> = Trie::new(rt.alloc());
-    store_number(&rt, &mut trie, 0xff);
-    store_number(&rt, &mut trie, 0xdeadbeef);
-    assert!(rt; trie.len() == 2);
-}
-
 /// A trie of owned texts.
 type Folders = Trie<String, &'static str>;
 

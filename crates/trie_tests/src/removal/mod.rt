@@ -1,7 +1,4 @@
-//! Calls that take all pairs below a prefix away.
+//! Callers of the removal of all pairs below a prefix.
 
-mod commands;
-mod many;
 mod rows;
 mod splits;
-mod views;

@@ -4,7 +4,7 @@ use crate::pairs::IN_ORDER;
 use radix_trie::Memory;
 use std::alloc::Global;
 use std::process::Abort;
-use trie_samples::{SAMPLE, Texts, list, texts};
+use trie_samples::{SAMPLE, Texts, texts};
 
 /// Pairs, in the order in which they go.
 pub(crate) type Gone = Vec<(&'static str, u64)>;
@@ -83,15 +83,5 @@ fn by_the_trie(rt: HostRuntime) -> Result<(), Memory> {
     for row in &ROWS {
         check_by_trie(&rt, rt.alloc(), row)?;
     }
-    Ok(())
-}
-
-/// A list that ends inside a byte, and inside the fragments of the root's child.
-#[test]
-fn by_an_odd_list(rt: HostRuntime) -> Result<(), Memory> {
-    let half = list(rt.alloc(), &[6])?;
-    let mut trie = texts(rt.alloc(), SAMPLE)?;
-    let gone = trie.remove_prefix(&half)?;
-    assert!(rt; is_gone(&ROWS[2], &gone, &trie));
     Ok(())
 }

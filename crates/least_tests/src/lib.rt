@@ -1,5 +1,0 @@
-//! Tables with their least lists, worked out by hand.
-#![tactic(auto)]
-
-#[cfg(test)]
-mod tables;

@@ -1,6 +1,0 @@
-use Rattle.masked_tree.specs.Tree.{IsTreePlaced}
-use Rattle.radix_nodes.specs.Nodes.{tree_of}
-use Rattle.node_tests.proofs.long_chains.take_from_the_top.Given as goal
-
-abbrev pub invariant-loop-key : goal.invariant-loop-key
-invariant-loop-key g l = IsTreePlaced (tree_of l.root)

@@ -1,2 +1,0 @@
--- How many pairs stand in a tree of nodes after an insertion.
-pub mod Counts

@@ -1,0 +1,76 @@
+//! Calls that are made once more where memory was refused for them.
+
+use crate::answer::Answer;
+use crate::call::{Call, Session, Sweep, call_of_name};
+use crate::calls::lines::NOT_HERE;
+use crate::words::Words;
+use radix_trie::Memory;
+
+/// What makes calls: a view, or all of a session.
+pub trait Caller {
+    /// Makes the call.
+    fn perform(&mut self, call: Call, answer: &mut Answer<'_>) -> Result<(), Memory>;
+
+    /// Adds all that a refused call may not change.
+    fn picture(&mut self, picture: &mut Answer<'_>) -> Result<(), Memory>;
+}
+
+/// Makes a call, which is named by the next word where it is promised to take no memory. Where
+/// memory is refused for it, the same call is made once more.
+pub fn make<C: Caller>(caller: &mut C, call: Call, answer: &mut Answer<'_>) -> Result<(), Memory> {
+    let Call::Session(Session::Light) = call else {
+        return make_twice(caller, call, false, answer);
+    };
+    match answer.next_word().and_then(call_of_name) {
+        Some(call) => make_twice(caller, call, true, answer),
+        None => answer.line(NOT_HERE),
+    }
+}
+
+fn make_twice<C: Caller>(
+    caller: &mut C,
+    call: Call,
+    is_light: bool,
+    answer: &mut Answer<'_>,
+) -> Result<(), Memory> {
+    let (length, words) = (answer.len(), answer.words());
+    let before = if answer.is_watched() {
+        Some(picture_of(&mut *caller, &*answer)?)
+    } else {
+        None
+    };
+    if caller.perform(call, answer).is_ok() {
+        return Ok(());
+    }
+    if answer.is_lost() {
+        return Err(Memory);
+    }
+    answer.return_to(length, words);
+    if let Some(before) = before {
+        let after = picture_of(&mut *caller, &*answer)?;
+        let is_same = before.as_bytes() == after.as_bytes() && !answer.is_other();
+        answer.line(told(call, is_light, is_same))?;
+    }
+    caller.perform(call, answer)
+}
+
+/// What is told of a refusal. Of a refused `extend` the pairs before the refused one stay.
+fn told(call: Call, is_light: bool, is_same: bool) -> &'static str {
+    match call {
+        _ if is_light => "refused, though light",
+        Call::Sweep(Sweep::Extend) => "refused",
+        _ if is_same => "refused",
+        _ => "refused, and changed",
+    }
+}
+
+/// All that a refused call may not change. Where memory is refused for it, it is made once more.
+fn picture_of<C: Caller>(caller: &mut C, answer: &Answer<'_>) -> Result<Answer<'static>, Memory> {
+    let mut picture = Answer::new(answer.alloc(), Words::new("", 0), false);
+    if caller.picture(&mut picture).is_ok() {
+        return Ok(picture);
+    }
+    picture.return_to(0, Words::new("", 0));
+    caller.picture(&mut picture)?;
+    Ok(picture)
+}

@@ -1,0 +1,134 @@
+//! Calls of lists of nibbles, and of bits.
+
+use crate::answer::Answer;
+use crate::calls::lines::{NO_KEY, NO_LIST, NO_NUMBER, NOT_HERE};
+use crate::words::digit;
+use radix_trie::{Bits, Memory, Nibblet};
+
+/// A call of the list that the next words name, or that makes one.
+pub fn answer_nibblet(answer: &mut Answer<'_>) -> Result<(), Memory> {
+    let name = answer.next_word().unwrap_or("");
+    if name == "from_byte_vec" {
+        return match answer.next_key::<Vec<u8>>()? {
+            Some(bytes) => {
+                let list = Nibblet::from_byte_vec(answer.alloc(), bytes)?;
+                answer.list_line(&list)
+            }
+            None => answer.line(NO_KEY),
+        };
+    }
+    let Some(list) = answer.next_key::<Nibblet>()? else {
+        return answer.line(NO_LIST);
+    };
+    match name {
+        "clone" => answer.list_line(&list.clone()?),
+        "len" => answer.count_line(list.len()),
+        "push" => answer_push(list, answer),
+        "turn_over" => answer_turned(list, answer),
+        "join" | "agreement" => answer_two(name, list, answer),
+        _ => answer_cut(name, list, answer),
+    }
+}
+
+/// The list with the nibble of the next word, a hexadecimal digit, behind it.
+fn answer_push(list: Nibblet, answer: &mut Answer<'_>) -> Result<(), Memory> {
+    let mut list = list;
+    let nibble = match answer.next_word().unwrap_or("").as_bytes() {
+        [byte] => digit(*byte),
+        _ => None,
+    };
+    match nibble {
+        Some(nibble) => {
+            list.push(nibble)?;
+            answer.list_line(&list)
+        }
+        None => answer.line(NO_NUMBER),
+    }
+}
+
+/// The list with its highest bit turned over.
+fn answer_turned(list: Nibblet, answer: &mut Answer<'_>) -> Result<(), Memory> {
+    let mut list = list;
+    if !list.is_empty() {
+        list.turn_over();
+    }
+    answer.list_line(&list)
+}
+
+/// A call of two lists.
+fn answer_two(name: &str, list: Nibblet, answer: &mut Answer<'_>) -> Result<(), Memory> {
+    let Some(other) = answer.next_key::<Nibblet>()? else {
+        return answer.line(NO_LIST);
+    };
+    if name == "agreement" {
+        return match answer.next_parsed::<usize>() {
+            Some(depth) if depth <= other.len() => {
+                answer.count_line(list.agreement(&other, depth))
+            }
+            _ => answer.line(NO_NUMBER),
+        };
+    }
+    match list.join(&other) {
+        Ok(joined) => answer.list_line(&joined),
+        Err(_) => Err(Memory),
+    }
+}
+
+/// A call at an index, at most the count of nibbles.
+fn answer_cut(name: &str, list: Nibblet, answer: &mut Answer<'_>) -> Result<(), Memory> {
+    let mut list = list;
+    let Some(i) = answer.next_parsed::<usize>() else {
+        return answer.line(NO_NUMBER);
+    };
+    if i > list.len() || name == "get" && i == list.len() {
+        return answer.line(NO_NUMBER);
+    }
+    match name {
+        "split" => {
+            let rest = list.split(i)?;
+            answer.list(&list)?;
+            answer.list_line(&rest)
+        }
+        "tail" => answer.list_line(&list.tail(i)?),
+        "truncate" => {
+            list.truncate(i);
+            answer.list_line(&list)
+        }
+        "get" if i < list.len() => answer.count_line(list.get(i) as usize),
+        _ => answer.line(NOT_HERE),
+    }
+}
+
+/// A call that makes a list of bits.
+pub fn answer_bits(answer: &mut Answer<'_>) -> Result<(), Memory> {
+    let name = answer.next_word().unwrap_or("");
+    match name {
+        "clone" => match answer.next_key::<Bits>()? {
+            Some(bits) => answer.list_line(bits.clone()?.as_list()),
+            None => answer.line(NO_KEY),
+        },
+        "first_of" => match (answer.next_key::<Vec<u8>>()?, answer.next_parsed::<usize>()) {
+            (Some(bytes), Some(count)) => {
+                let bits = Bits::first_of(answer.alloc(), bytes.as_slice(), count)?;
+                answer.list_line(bits.as_list())
+            }
+            _ => answer.line(NO_KEY),
+        },
+        _ => answer_first_bits(name, answer),
+    }
+}
+
+/// The first bits of a number.
+fn answer_first_bits(name: &str, answer: &mut Answer<'_>) -> Result<(), Memory> {
+    let alloc = answer.alloc();
+    let number = answer.next_parsed::<u128>();
+    let (Some(number), Some(count)) = (number, answer.next_parsed::<usize>()) else {
+        return answer.line(NO_NUMBER);
+    };
+    let bits = match (name, u32::try_from(number)) {
+        ("first_of_u128", _) => Bits::first_of_u128(alloc, number, count)?,
+        ("first_of_u32", Ok(number)) => Bits::first_of_u32(alloc, number, count)?,
+        _ => return answer.line(NOT_HERE),
+    };
+    answer.list_line(bits.as_list())
+}

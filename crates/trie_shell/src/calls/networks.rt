@@ -1,0 +1,95 @@
+//! Calls of networks of one family of addresses.
+
+use crate::answer::Answer;
+use crate::calls::lines::{NO_KEY, NO_NUMBER, NONE, NOT_HERE};
+use crate::words::bytes_of;
+use radix_trie::{Address, Memory, Network};
+use std::cmp::Ordering;
+
+/// A call of networks.
+pub fn answer_network<A: Address>(answer: &mut Answer<'_>) -> Result<(), Memory> {
+    match answer.next_word().unwrap_or("") {
+        "from_str" => {
+            let network = next_network::<A>(answer)?;
+            network_line(answer, network)
+        }
+        "new" => answer_made::<A>(true, answer),
+        "around" => answer_made::<A>(false, answer),
+        "host" => match next_address::<A>(answer) {
+            Some(address) => answer.shown_line(&Network::host(address)),
+            None => answer.line(NO_KEY),
+        },
+        name => match next_network::<A>(answer)? {
+            Some(network) => answer_of(name, &network, answer),
+            None => answer.line(NO_KEY),
+        },
+    }
+}
+
+/// The network that the next word writes, if it writes one.
+fn next_network<A: Address>(answer: &mut Answer<'_>) -> Result<Option<Network<A>>, Memory> {
+    let word = answer.next_word().unwrap_or("");
+    let bytes = match bytes_of(answer.alloc(), word) {
+        Ok(bytes) => bytes,
+        Err(_) => bytes_of(answer.alloc(), word)?,
+    };
+    Ok(match bytes {
+        Some(bytes) => match str::from_utf8(bytes.as_slice()) {
+            Ok(text) => text.parse::<Network<A>>().ok(),
+            Err(_) => None,
+        },
+        None => None,
+    })
+}
+
+fn next_address<A: Address>(answer: &mut Answer<'_>) -> Option<A> {
+    A::parse(answer.next_word()?)
+}
+
+/// A network, or that there is none.
+fn network_line<A: Address>(
+    answer: &mut Answer<'_>,
+    network: Option<Network<A>>,
+) -> Result<(), Memory> {
+    match network {
+        Some(network) => answer.shown_line(&network),
+        None => answer.line(NONE),
+    }
+}
+
+/// The network of so many bits at the address, or around it.
+fn answer_made<A: Address>(is_base: bool, answer: &mut Answer<'_>) -> Result<(), Memory> {
+    let address = next_address::<A>(answer);
+    match (address, answer.next_parsed::<u8>()) {
+        (Some(base), Some(bits)) if is_base => network_line(answer, Network::new(base, bits)),
+        (Some(address), Some(bits)) => network_line(answer, Network::around(address, bits)),
+        (None, _) => answer.line(NO_KEY),
+        (_, None) => answer.line(NO_NUMBER),
+    }
+}
+
+/// A call of a network.
+fn answer_of<A: Address>(
+    name: &str,
+    network: &Network<A>,
+    answer: &mut Answer<'_>,
+) -> Result<(), Memory> {
+    match name {
+        "base" => answer.shown_line(&network.base()),
+        "bits" => answer.shown_line(&network.bits()),
+        "clone" => network_line(answer, network.clone().ok()),
+        "holds" => match next_address::<A>(answer) {
+            Some(address) => answer.truth_line(network.holds(address)),
+            None => answer.line(NO_KEY),
+        },
+        "cmp" => match next_network::<A>(answer)? {
+            Some(other) => answer.line(match network.cmp(&other) {
+                Ordering::Less => "less",
+                Ordering::Equal => "equal",
+                Ordering::Greater => "greater",
+            }),
+            None => answer.line(NO_KEY),
+        },
+        _ => answer.line(NOT_HERE),
+    }
+}

@@ -1,0 +1,23 @@
+//! Calls of what tries are made of.
+
+use crate::answer::Answer;
+use crate::call::Part;
+use crate::calls::encodings::answer_encoding;
+use crate::calls::json::answer_json;
+use crate::calls::lists::{answer_bits, answer_nibblet};
+use crate::calls::networks::answer_network;
+use radix_trie::Memory;
+use std::net::{Ipv4Addr, Ipv6Addr};
+
+/// A call of a key, a list of nibbles or of bits, a network or an object.
+pub fn answer_part(call: Part, answer: &mut Answer<'_>) -> Result<(), Memory> {
+    match call {
+        Part::Encode => answer_encoding(false, answer),
+        Part::EncodeBytes => answer_encoding(true, answer),
+        Part::Nibblet => answer_nibblet(answer),
+        Part::Bits => answer_bits(answer),
+        Part::Ipv4 => answer_network::<Ipv4Addr>(answer),
+        Part::Ipv6 => answer_network::<Ipv6Addr>(answer),
+        Part::Json => answer_json(answer.words().rest(), answer),
+    }
+}

@@ -1,5 +1,0 @@
-//! Views for reading, and ordered walks.
-
-mod small_lists;
-mod views;
-mod walks;

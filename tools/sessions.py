@@ -3,8 +3,8 @@
 A file of sessions/ is a text of lines: `= ` and a session's name, where it begins; `> ` and a line of input, `< ` and a
 line of the answer to it, `! ` and what stands on standard error at the end; `@ N`: the next line of input is given N
 times, and answered as often; `# `: a remark. `\\xNN` is a byte, `\\(x*N)` a byte N times, `\\\\` a backslash, and where
-a single one ends a line of input, no line feed ends it. A file of runs/ is one session, or several as above; each of its
-lines stands for itself, and one that begins with none of these marks is a line of the answer.
+a single one ends a line of input, no line feed ends it. A file of runs/ is one session, or several as above; each of
+its lines stands for itself, and one that begins with none of these marks is a line of the answer.
 """
 import functools
 import os
@@ -14,7 +14,7 @@ from shared import ROOT
 
 READ_FAILED = b"read failed\n", 1
 # What the calls of trie_shell that open a view are called in the library, and the view.
-OPENERS = {"open": ("subtrie", "SubTrie"), "open_mut": ("open_mut", "SubTrieMut"), "subtrie_mut": ("subtrie_mut", "SubTrieMut")}
+OPENERS = {"open": ("subtrie", "SubTrie"), **{it: (it, "SubTrieMut") for it in ("open_mut", "subtrie_mut")}}
 WITHS = {"with": "open_mut", "with_subtrie_mut": "subtrie_mut"}
 COMMON = ("iter", "keys", "values", "iter_from", "iter_after", "prefix")
 PARTS = {"nibblet": "Nibblet", "bits": "Bits", "ipv4": "Network", "ipv6": "Network"}
@@ -121,6 +121,8 @@ def bare_type(name):
 def calls_of(words, place):
     """The library's calls that a line of trie_shell makes, in the view that is open, or in the trie."""
     name, *rest = words or [""]
+    if name == "keys" and rest:
+        return []
     if name in OPENERS:
         return [f"Trie::{OPENERS[name][0]}"]
     if name in WITHS:

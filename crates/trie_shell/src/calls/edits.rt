@@ -35,7 +35,11 @@ fn refused_line<K: ShellKey>(
     given: Given<'_>,
     error: InsertError<K, u64>,
 ) -> Result<(), Memory> {
-    if error.value != given.value || !is_key_of(answer.alloc(), &error.key, given.word)? {
+    let is_key = match is_key_of(answer.alloc(), &error.key, given.word) {
+        Ok(is_key) => is_key,
+        Err(_) => is_key_of(answer.alloc(), &error.key, given.word)?,
+    };
+    if error.value != given.value || !is_key {
         answer.note_other();
     }
     match error.why {

@@ -6,6 +6,7 @@ use radix_trie::{
     Ascending, BigEndian, Bits, BytesError, KeyInt, KeySigned, LittleEndian, Memory, Network,
     Nibblet, TrieKey,
 };
+use std::alloc::Global;
 use std::net::{Ipv4Addr, Ipv6Addr};
 use std::str::FromStr;
 
@@ -143,7 +144,11 @@ fn answer_sequence(name: &str, is_bytes: bool, answer: &mut Answer<'_>) -> Resul
             found(answer, key, is_bytes)
         }
         "Vec<u16>" => {
-            let key = numbers_of(answer)?;
+            let word = answer.next_word().unwrap_or("");
+            let key = match numbers_of(answer.alloc(), word) {
+                Ok(key) => key,
+                Err(_) => numbers_of(answer.alloc(), word)?,
+            };
             found(answer, key, is_bytes)
         }
         "&str" | "&[u8]" | "&String" | "&mut&str" => answer_lent(name, is_bytes, answer),
@@ -165,10 +170,10 @@ fn answer_lent(name: &str, is_bytes: bool, answer: &mut Answer<'_>) -> Result<bo
     Ok(true)
 }
 
-/// The numbers that the next word writes, with a comma between two.
-fn numbers_of(answer: &mut Answer<'_>) -> Result<Option<Vec<u16>>, Memory> {
-    let mut numbers = Vec::new(answer.alloc());
-    for text in answer.next_word().unwrap_or("").split(',') {
+/// The numbers that the word writes, with a comma between two.
+fn numbers_of(alloc: Global, word: &str) -> Result<Option<Vec<u16>>, Memory> {
+    let mut numbers = Vec::new(alloc);
+    for text in word.split(',') {
         match text.parse() {
             Ok(number) => numbers.push(number)?,
             Err(_) => return Ok(None),

@@ -150,23 +150,29 @@ fn answer_calls<K: ShellKey>(
     Ok(None)
 }
 
-/// Calls of the view, the last of which may take it. Where memory is refused for that one, nothing
-/// has the view any more, and the calls before it may have changed the trie: the session ends.
+/// Calls of the view, the last of which may take it.
 fn answer_all_calls<K: ShellKey>(
     view: SubTrieMut<'_, K, u64>,
     answer: &mut Answer<'_>,
 ) -> Result<(), Memory> {
     let mut view = view;
-    match answer_calls(&mut view, answer)? {
-        Some(call) => {
-            let outcome = answer_written(view, call, &mut *answer);
-            if outcome.is_err() {
-                answer.lose();
-            }
-            outcome
-        }
+    match answer_calls(&mut view, &mut *answer)? {
+        Some(call) => answer_written(view, call, answer),
         None => Ok(()),
     }
+}
+
+/// The same. Where memory is refused for the last call, or twice for another, those before it may
+/// have changed the trie, so none is made again: the session ends.
+fn answer_or_lose<K: ShellKey>(
+    view: SubTrieMut<'_, K, u64>,
+    answer: &mut Answer<'_>,
+) -> Result<(), Memory> {
+    let outcome = answer_all_calls(view, &mut *answer);
+    if outcome.is_err() {
+        answer.lose();
+    }
+    outcome
 }
 
 /// Calls of one view for writing at the key, which `open_mut` opens, or `subtrie_mut`.
@@ -178,12 +184,12 @@ pub fn answer_with<K: ShellKey, Q: TrieKey>(
 ) -> Result<(), Memory> {
     if let View::WithSubtrieMut = call {
         return match trie.subtrie_mut(key)? {
-            Some(view) => answer_all_calls(view, answer),
+            Some(view) => answer_or_lose(view, answer),
             None => answer.line(NONE),
         };
     }
     match trie.open_mut(key) {
-        Ok(view) => answer_all_calls(view, answer),
+        Ok(view) => answer_or_lose(view, answer),
         Err(OpenError::Closed) => answer.line(CLOSED),
         Err(OpenError::Memory) => Err(Memory),
     }

@@ -165,3 +165,15 @@ def run(name, main):
         sys.exit(main(sys.argv[1:]))
     except (OSError, RecursionError, Refused, UnicodeError, subprocess.SubprocessError) as error:
         sys.exit(f"{name}: {error}")
+
+
+def compiled(room):
+    """Makes the library of tools/faults.c in this folder, and answers why that can't be done, if so."""
+    compiler = os.environ.get("CC") or "cc"
+    words = [*compiler.split(), "-O1", "-shared", "-fPIC", "-o", f"{room}/faults.so", f"{ROOT}/tools/faults.c"]
+    try:
+        made = ran(words, text=True, errors="replace")
+    except OSError as error:
+        return f"{compiler}: {error.strerror}"
+    is_made = made.returncode == 0 and os.path.isfile(f"{room}/faults.so")
+    return "" if is_made else made.stderr.strip().split("\n")[0] or f"{compiler} made no library"

@@ -21,6 +21,10 @@ module _ {P : Type 0} where
   abbrev pub IsPath : Tree P → List ℕ → Type 0
   IsPath t x = (u : Tree P) × IsNodeAt t x u
 
+  -- a node stands at path x, which begins the list
+  abbrev pub IsOnWay : Tree P → List ℕ → List ℕ → Type 0
+  IsOnWay t rest x = IsPath t x × IsPrefix x rest
+
   -- no node below the tree's own has a path that begins the list
   abbrev pub IsStuck : Tree P → List ℕ → Type 0
   IsStuck t rest = (x : List ℕ) (u : Tree P) → IsChildAt t.children x u → IsPrefix x rest → ⊥

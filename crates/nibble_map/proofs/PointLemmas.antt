@@ -4,3 +4,4 @@ pub mod OneChild
 pub mod Descendant
 pub mod Chain
 pub mod Rest
+pub mod Visited

@@ -1,6 +1,6 @@
 -- The answers of queries. S holds of the stored lists.
 use Rattle.std.specs.Prelude.{◌≡◌, ℕ, ◌+◌, ◌≤◌, ◌≢◌, ◌⊎◌, List, [], ◌∷◌, ◌++◌, length, Option, MatchOption}
-use Rattle.nibble_map.specs.Lists.{IsPrefix, Lists}
+use Rattle.nibble_map.specs.Lists.{IsPrefix, Lists, Counts}
 use Rattle.nibble_map.specs.Points.{IsPoint, IsSomePrefix}
 
 -- p is the longest list of C that is a prefix of e
@@ -48,3 +48,7 @@ abbrev pub IsCompared : (List ℕ → Type 0) → List ℕ → ℕ → Type 0
 IsCompared S e n = (p : List ℕ) × IsLongest (λ x. (x ≡ []) ⊎ IsSomePrefix S x) e p
     × ((((p ≡ e) ⊎ IsPoint S p) × (n ≡ length p))
     ⊎ ((p ≢ e) × (IsPoint S p → ⊥) × (n ≡ length p + 1)))
+
+-- a search for e visits n nodes: as many as there are points that are prefixes of e
+abbrev pub IsVisited : (List ℕ → Type 0) → List ℕ → ℕ → Type 0
+IsVisited S e n = Counts (λ p. IsPoint S p × IsPrefix p e) n

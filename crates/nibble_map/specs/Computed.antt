@@ -95,3 +95,6 @@ module _ {P : Type 0} where
 
   abbrev pub compared : List (List ℕ × P) → List ℕ → ℕ
   compared m e = length (met m e) + cond (same (met m e) e || is_point m (met m e)) 0 1
+
+  abbrev pub visited : List (List ℕ × P) → List ℕ → ℕ
+  visited m e = length (filter (λ p. is_prefix p e) (points m))

@@ -27,6 +27,9 @@ module _ {P : Type 0} where
   abbrev pub IsCompared : NibbleMap P → List ℕ → ℕ → Type 0
   IsCompared m e n = answers.IsCompared (IsStored m) e n
 
+  abbrev pub IsVisited : NibbleMap P → List ℕ → ℕ → Type 0
+  IsVisited m e n = answers.IsVisited (IsStored m) e n
+
 -- no stored list is strictly below p
 abbrev pub IsLeaf : {P : Type 0} → NibbleMap P → List ℕ → Type 0
 IsLeaf m p = (e : List ℕ) → IsStored m e → IsStrictPrefix p e → ⊥

@@ -2,12 +2,12 @@
 
 ghost use Rattle.nibble_map.specs.Answers.{IsLongest, IsShortest};
 ghost use Rattle.nibble_map.specs.Canonical.{IsCanonical};
-ghost use Rattle.nibble_map.specs.Lists.{Counts, Each, Has};
-ghost use Rattle.nibble_map.specs.MapQueries.{IsFragment, IsRawAncestor, IsRawDescendant, IsCompared};
+ghost use Rattle.nibble_map.specs.Lists.{Counts, Each, Has, is_prefix};
+ghost use Rattle.nibble_map.specs.MapQueries.{IsFragment, IsRawAncestor, IsRawDescendant, IsCompared, IsVisited};
 ghost use Rattle.nibble_map.specs.Maps.{NibbleMap, IsStored, IsPoint, IsSomePrefix};
 ghost use Rattle.nibble_map.specs.Trees.{FragmentTree, nodes, paths, entries, fragment_nibbles, IsShaped, IsForestPlaced, IsFull, walked, parts_of};
 ghost use Rattle.std.specs.FinMap as map;
-ghost use Rattle.std.specs.Prelude.{length, List, max, None, Some, ◌*◌, ◌↔◌, ◌≡◌, ◌≤◌, ℕ};
+ghost use Rattle.std.specs.Prelude.{filter, length, List, max, None, Some, ◌*◌, ◌↔◌, ◌≡◌, ◌≤◌, ℕ};
 
 /// A tree whose children stand at their places is the canonical tree of its pairs' map exactly where each node but the
 /// root has a pair or two children: the local shape is the set of points.
@@ -20,8 +20,9 @@ pub fn full_trees_are_canonical<P>()
 {}
 
 /// A map's canonical tree has a node for each point and a nibble for each non-empty prefix of a stored list; it has at
-/// most two nodes a pair, or one; its fragments are the points'; its paths answer queries for the nearest point; and its
-/// search compares as many nibbles as the map says.
+/// most two nodes a pair, or one; its fragments are the points'; its paths answer queries for the nearest point; its
+/// search compares as many nibbles as the map says; and the nodes on the way to a list, those whose paths are prefixes of
+/// it, are as many as the map says.
 pub fn canonical_trees_tell_the_map<P>()
     ensures nodes { (t : FragmentTree P) (m : NibbleMap P) → IsCanonical t m
         → Counts (IsPoint m) (length (nodes t)) }
@@ -39,6 +40,8 @@ pub fn canonical_trees_tell_the_map<P>()
         → IsShortest (Has (paths (nodes t))) e p ↔ IsRawDescendant m e (Some p) }
     ensures compared { (t : FragmentTree P) (m : NibbleMap P) → IsCanonical t m → (e : List ℕ)
         → IsCompared m e (walked t.children e) }
+    ensures visited { (t : FragmentTree P) (m : NibbleMap P) → IsCanonical t m → (e : List ℕ)
+        → IsVisited m e (length (filter (λ p. is_prefix p e) (paths (nodes t)))) }
 {}
 
 /// Each map has a canonical tree, and only one.

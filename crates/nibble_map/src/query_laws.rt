@@ -9,7 +9,7 @@ ghost use Rattle.nibble_map.specs.Maps as maps;
 ghost use Rattle.nibble_map.specs.Maps.{NibbleMap, IsStored};
 ghost use Rattle.nibble_map.specs.Stored as stored;
 ghost use Rattle.std.specs.FinMap as map;
-ghost use Rattle.std.specs.Prelude.{[], ◌↔◌, ◌≡◌, IsTrue, List, None, Option, Some, ℕ};
+ghost use Rattle.std.specs.Prelude.{[], ◌↔◌, ◌≡◌, ◌≤◌, IsTrue, length, List, None, Option, Some, suc, ℕ};
 
 /// The points of a map and the prefixes of its stored lists are those of its entries.
 pub fn points_by_entries<P>()
@@ -42,6 +42,9 @@ pub fn answers_by_entries<P>()
     ensures compared { (m : NibbleMap P) (e : List ℕ) (n : ℕ)
         → map_queries.IsCompared m e n
         ↔ answers.IsCompared (stored.IsStored (map.entries m)) e n }
+    ensures visited { (m : NibbleMap P) (e : List ℕ) (n : ℕ)
+        → map_queries.IsVisited m e n
+        ↔ answers.IsVisited (stored.IsStored (map.entries m)) e n }
 {}
 
 /// Two maps with the same stored lists have the same points and answers, whatever their pairs.
@@ -67,6 +70,9 @@ pub fn stored_lists_decide<P, Q>()
     ensures compared { (m : NibbleMap P) (n : NibbleMap Q)
         → ((e : List ℕ) → IsStored m e ↔ IsStored n e) → (e : List ℕ) (k : ℕ)
         → map_queries.IsCompared m e k → map_queries.IsCompared n e k }
+    ensures visited { (m : NibbleMap P) (n : NibbleMap Q)
+        → ((e : List ℕ) → IsStored m e ↔ IsStored n e) → (e : List ℕ) (k : ℕ)
+        → map_queries.IsVisited m e k → map_queries.IsVisited n e k }
 {}
 
 /// Each query has one answer.
@@ -83,6 +89,8 @@ pub fn answers_are_unique<P>()
         → map_queries.AreChildren m p qs → map_queries.AreChildren m p rs → qs ≡ rs }
     ensures compared { (m : NibbleMap P) (e : List ℕ) (j k : ℕ) → map_queries.IsCompared m e j
         → map_queries.IsCompared m e k → j ≡ k }
+    ensures visited { (m : NibbleMap P) (e : List ℕ) (j k : ℕ) → map_queries.IsVisited m e j
+        → map_queries.IsVisited m e k → j ≡ k }
 {}
 
 /// The slow lists of points and of prefixes are those of the definitions, and so are their sizes and the slow test of a
@@ -115,6 +123,16 @@ pub fn computed_answers<P>()
         → answers.AreChildren (stored.IsStored m) p qs ↔ (qs ≡ computed.children m p) }
     ensures compared { (m : List (List ℕ × P)) (e : List ℕ) (k : ℕ)
         → answers.IsCompared (stored.IsStored m) e k ↔ (k ≡ computed.compared m e) }
+    ensures visited { (m : List (List ℕ × P)) (e : List ℕ) (k : ℕ)
+        → answers.IsVisited (stored.IsStored m) e k ↔ (k ≡ computed.visited m e) }
+{}
+
+/// A search visits at most one node for each nibble of the query, and the root; and no more nodes than there are points.
+pub fn few_nodes_are_visited<P>()
+    ensures nibbles { (m : NibbleMap P) (e : List ℕ) (n : ℕ) → map_queries.IsVisited m e n
+        → n ≤ suc (length e) }
+    ensures points { (m : NibbleMap P) (e : List ℕ) (n k : ℕ) → map_queries.IsVisited m e n
+        → Counts (maps.IsPoint m) k → n ≤ k }
 {}
 
 /// Where the query is a point, the longest point above it and the shortest below it are that point.

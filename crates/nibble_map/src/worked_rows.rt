@@ -1,7 +1,7 @@
 //! Worked rows: small maps with their points, prefixes, answers, counts and walks, computed from the definitions.
 
 ghost use Rattle.nibble_map.specs.Stored.{below};
-ghost use Rattle.nibble_map.specs.Computed.{ancestor, compared, footprint, fragment, is_point, children, points, raw_ancestor, raw_descendant};
+ghost use Rattle.nibble_map.specs.Computed.{ancestor, compared, footprint, fragment, is_point, children, points, raw_ancestor, raw_descendant, visited};
 ghost use Rattle.nibble_map.specs.Maps.{NibbleMap};
 ghost use Rattle.nibble_map.specs.Nibbles.{nibbles, IsShort};
 ghost use Rattle.nibble_map.specs.Rows.{inserted, insert_all, removed, number_at, values, text, nothing, nested_texts, a_abc_abd, abc_abd, ab_and_a_half, abc_abcdef, aba_abb_abc_z, abcz_abca, two_bytes, four_signed_bytes, low_bytes_first, umlauts, wow_hella_hellb, odd_nibbles, letters_a, long_twins, short_and_long, chain};
@@ -34,6 +34,8 @@ pub fn drawn_tree()
         ≡ nibbles (codes "abc") ∷ nibbles (codes "abd") ∷ [] }
     ensures search_for_abe { compared a_abc_abd (nibbles (codes "abe")) ≡ 5 }
     ensures search_for_b { compared a_abc_abd (nibbles (codes "b")) ≡ 2 }
+    ensures nodes_for_abe { visited a_abc_abd (nibbles (codes "abe")) ≡ 3 }
+    ensures nodes_for_b { visited a_abc_abd (nibbles (codes "b")) ≡ 1 }
     ensures without_abd { each (fragment (removed (nibbles (codes "abd")) a_abc_abd))
         (points (removed (nibbles (codes "abd")) a_abc_abd))
         ≡ [] ∷ (6 ∷ 1 ∷ []) ∷ (6 ∷ 2 ∷ 6 ∷ 3 ∷ []) ∷ [] }
@@ -86,6 +88,15 @@ pub fn searches_of_nested_texts()
     ensures stored { compared nested_texts (nibbles (codes "abcd")) ≡ 8 }
     ensures stored_value { number_at (nibbles (codes "abcd")) nested_texts ≡ Some 17 }
     ensures empty { compared nested_texts [] ≡ 0 }
+{}
+
+/// Visited nodes in searches among the nested texts: the points that begin the query, the root among them.
+pub fn nodes_of_nested_texts()
+    ensures stored { visited nested_texts (nibbles (codes "abcd")) ≡ 6 }
+    ensures within { visited nested_texts (nibbles (codes "abc")) ≡ 5 }
+    ensures far_off { visited nested_texts (nibbles (codes "nonexistant")) ≡ 2 }
+    ensures deepest { visited nested_texts (nibbles (codes "abcdefgh")) ≡ 8 }
+    ensures empty { visited nested_texts [] ≡ 1 }
 {}
 
 /// The nearest stored list above, and the nearest point below, among the nested texts.

@@ -2,8 +2,8 @@
 -- nibbles of the key lie behind it.
 use Rattle.std.specs.Prelude.{ℕ, ◌++◌, List, Option, MatchOption, drop}
 use Rattle.std.specs.Borrow.{Bor}
-use Rattle.nibble_map.specs.Lists.{IsPrefix}
-use Rattle.masked_tree.specs.Paths.{IsNodeAt, IsPath, IsHeld}
+use Rattle.nibble_map.specs.Lists.{IsPrefix, Counts}
+use Rattle.masked_tree.specs.Paths.{IsNodeAt, IsPath, IsHeld, IsOnWay}
 use Rattle.masked_tree.specs.Tree.{Tree}
 use Rattle.radix_nodes.specs.declared.trie_node.KeyValue.{KeyValue}
 use Rattle.radix_nodes.specs.declared.trie_node.TrieNode.{TrieNode}
@@ -19,6 +19,10 @@ module _ {K V : Type 0} where
   FindsNode r n key depth =
       MatchOption r ((u : Tree (KeyValue K V)) → IsNodeAt (tree_of n) (path_on n key depth) u → ⊥)
       (λ m. IsNodeAt (tree_of n) (path_on n key depth) (tree_of m.now))
+
+  -- so many nodes have paths that begin it
+  abbrev pub Visits : ℕ → TrieNode K V → List ℕ → ℕ → Type 0
+  Visits count n key depth = Counts (IsOnWay (tree_of n) (path_on n key depth)) count
 
   -- the node with the longest path that begins it, and how many nibbles of the key that is
   abbrev pub FindsDeepest : Bor (TrieNode K V) × ℕ → TrieNode K V → List ℕ → ℕ → Type 0

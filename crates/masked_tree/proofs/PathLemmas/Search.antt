@@ -1,19 +1,19 @@
 -- The longest and the shortest paths of a kept tree, from a child's to its parent's.
-use Rattle.std.proofs.Common.{◌≡◌, ◌≢◌, ◌⊎◌, ℕ, zero, suc, ◌+◌, ◌<◌, ◌≤◌, List, [], ◌∷◌, ◌++◌, length, refl, ap, sym, subst, ◌∙◌, arith, inl, inr, append-nil, eq-eqb, ne_eqb}
+use Rattle.std.proofs.Common.{◌≡◌, ◌≢◌, ◌⊎◌, ℕ, zero, suc, ◌<◌, ◌≤◌, List, [], ◌∷◌, ◌++◌, length, refl, ap, sym, subst, ◌∙◌, arith, inl, inr, append-nil, eq-eqb, ne_eqb}
 use Rattle.std.proofs.lemmas.List.{length-append}
 use Rattle.std.proofs.lemmas.Bool.Decides.{eqb_tells}
-use Rattle.nibble_map.specs.Lists.{IsPrefix}
+use Rattle.nibble_map.specs.Lists.{IsPrefix, Has, Counts}
 use Rattle.nibble_map.specs.Answers.{IsLongest, IsShortest}
 use Rattle.masked_tree.specs.Agreement.{Agrees}
 use Rattle.nibble_map.specs.Trees.{first, along, walked}
 use Rattle.masked_tree.specs.Mask.{bit_of}
 use Rattle.masked_tree.specs.Tree.{Tree, Children, none, more, plain, IsAt, firsts, IsPlaced, IsTreePlaced}
-use Rattle.masked_tree.specs.Paths.{IsPath, IsHeld, IsStuck}
+use Rattle.masked_tree.specs.Paths.{IsChildAt, IsPath, IsHeld, IsOnWay, IsStuck}
 use Rattle.nibble_map.proofs.ListLemmas.Cut.{empty_of_length}
 use Rattle.masked_tree.proofs.PathLemmas.Agreement.{agrees_part}
 use Rattle.masked_tree.proofs.TreeLemmas.Children.{child_begins_from}
-use Rattle.masked_tree.proofs.PathLemmas.Paths.{child_headed, below_to_child, node_from_child, held_node, node_held, held_from_child}
-use Rattle.masked_tree.proofs.PathLemmas.BehindFragment.{prefix_below, append_no_shorter, longest_up, shortest_up, head_same, rest_same}
+use Rattle.masked_tree.proofs.PathLemmas.Paths.{child_headed, no_child_here, below_from_child, below_to_child, node_from_child, held_node, node_held, held_from_child}
+use Rattle.masked_tree.proofs.PathLemmas.BehindFragment.{prefix_below, append_no_shorter, count_up, longest_up, shortest_up, head_same, rest_same}
 
 module _ {P : Type 0} where
   -- a tree's fragment is the path of a node, its own
@@ -36,6 +36,20 @@ module _ {P : Type 0} where
       | inr e ↦ absurd (s e.0 h.0 e.2 (prefix_below t.fragment e.0 rest (subst (λ z. IsPrefix z (t.fragment ++ rest)) e.1 p)))
     ];
   }
+
+  -- where no node below is on the way, the tree's own is the only one
+  pub count_here : (t : Tree P) (rest : List ℕ) → IsStuck t rest → Counts (IsOnWay t (t.fragment ++ rest)) 1
+  count_here t rest s = record { list = t.fragment ∷ []; lists = record { rising = (tt, tt); exactly = λ q. (to q, from q) }; length_is = refl }
+    where
+      to : (q : List ℕ) → Has (t.fragment ∷ []) q → IsOnWay t (t.fragment ++ rest) q
+      to q (inl e) = subst (IsOnWay t (t.fragment ++ rest)) (sym e) (own_path t, (rest, refl))
+      to q (inr h) = absurd h
+
+      from : (q : List ℕ) → IsOnWay t (t.fragment ++ rest) q → Has (t.fragment ∷ []) q
+      from q (h, p) = elim h.1 [
+        | inl e ↦ inl e.0
+        | inr e ↦ absurd (s e.0 h.0 e.2 (prefix_below t.fragment e.0 rest (subst (λ z. IsPrefix z (t.fragment ++ rest)) e.1 p)))
+      ]
 
   -- where no node below is on the way and the tree has a pair, that is the longest held
   pub held_longest : (t : Tree P) (rest : List ℕ) → IsStuck t rest → IsHeld t t.fragment → IsLongest (IsHeld t) (t.fragment ++ rest) t.fragment
@@ -83,6 +97,17 @@ module _ {P : Type 0} where
     -- where the list leads on to a child, the child's longest path on the way is the tree's
     pub longest_in_child : (x : List ℕ) → IsLongest (IsPath c) rest x → IsLongest (IsPath t) (t.fragment ++ rest) (t.fragment ++ x)
     longest_in_child x l = longest_up (IsPath t) (IsPath c) t.fragment rest x path_from_child up_along l
+
+    -- a child's path isn't empty, and behind the tree's fragment it is one of the tree
+    some_from_child : (x : List ℕ) → IsPath c x → (x ≢ []) × IsPath t (t.fragment ++ x)
+    some_from_child x d = (
+      (λ e. no_child_here t.children d.0 h.1 (subst (λ y. IsChildAt t.children y d.0) e (below_from_child i t.children c x d.0 a d.1))),
+      path_from_child x d,
+    )
+
+    -- where the list leads on to a child, one more node of the tree is on the way than of the child
+    pub count_through_child : (n : ℕ) → Counts (IsOnWay c rest) n → Counts (IsOnWay t (t.fragment ++ rest)) (suc n)
+    count_through_child n w = count_up (IsPath t) (IsPath c) t.fragment rest n (own_path t) some_from_child up_along w
 
     -- a path held by the tree that begins the list is the tree's own or held by the child
     held_along : (q : List ℕ) → IsHeld t q → IsPrefix q (t.fragment ++ rest) → (q ≡ t.fragment) ⊎ ((y : List ℕ) × (q ≡ t.fragment ++ y) × IsHeld c y)

@@ -1,17 +1,18 @@
 -- The slow answers are those of the relations.
 use Rattle.nibble_map.specs.Points.{IsPoint, IsSomePrefix}
-use Rattle.nibble_map.specs.Answers.{IsLongest, IsShortest, IsAncestor, IsRawAncestor, IsRawDescendant, IsFragment, IsCompared}
+use Rattle.nibble_map.specs.Answers.{IsLongest, IsShortest, IsAncestor, IsRawAncestor, IsRawDescendant, IsFragment, IsCompared, IsVisited}
 use Rattle.std.proofs.Common.{◌≡◌, ℕ, ◌+◌, ◌≤◌, ◌≢◌, ◌⊎◌, ◌↔◌, ◌||◌, List, [], ◌∷◌, ◌++◌, filter, Option, Some, None, Bool, cond, not, leb, length, drop, true, false, refl, ap, sym, subst, ◌∙◌, inl, inr, arith, unwrap_or}
 use Rattle.std.specs.Prelude.{MatchOption}
 use Rattle.std.proofs.Math.Seq.{drop-nil, drop-append_seam}
 use Rattle.std.proofs.lemmas.Bool.{cases_Bool, cases_order, le-leb, lt-leb}
 use Rattle.nibble_map.specs.Lists.{IsPrefix, is_prefix, Has}
 use Rattle.nibble_map.specs.Stored.{stored, IsStored}
-use Rattle.nibble_map.specs.Computed.{same, prefixes, points, is_point, longer, longest, shorter, shortest, ancestor, raw_ancestor, raw_descendant, parent, fragment, met, compared}
+use Rattle.nibble_map.specs.Computed.{same, prefixes, points, is_point, longer, longest, shorter, shortest, ancestor, raw_ancestor, raw_descendant, parent, fragment, met, compared, visited}
 use Rattle.nibble_map.proofs.ListLemmas.Cut.{cons_not_empty}
 use Rattle.nibble_map.proofs.ComputedLemmas.Prefixes.{equal_by_same, same_itself, prefixes_list}
 use Rattle.nibble_map.proofs.ComputedLemmas.Points.{point_by_test, is_point-point, points_list}
 use Rattle.nibble_map.proofs.ComputedLemmas.Filters.{filter_has, has_filter}
+use Rattle.nibble_map.proofs.PointLemmas.Visited.{prefixes_counted}
 use Rattle.nibble_map.proofs.ListLemmas.Parted.{prefix_by_test, is_prefix_true}
 
 -- a test isn't both true and false
@@ -152,3 +153,7 @@ module _ {P : Type 0} (m : List (List ℕ × P)) where
       by true c i j = inl (inl (equal_by_same _ e i), omega arith)
       by false true i j = inl (inr (point_by_test m _ j), omega arith)
       by false false i j = inr ((λ k. no_test (same (met m e) e) (subst (λ v. same (met m e) v ≡ true) k (same_itself (met m e))) i), (λ k. no_test _ (is_point-point m (met m e) k) j), refl)
+
+  -- the computed count is how many nodes a search for e visits
+  pub visited_is : (e : List ℕ) → IsVisited (IsStored m) e (visited m e)
+  visited_is e = prefixes_counted (IsPoint (IsStored m)) (points m) e (points_list m)

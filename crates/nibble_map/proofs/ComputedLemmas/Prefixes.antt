@@ -12,7 +12,7 @@ use Rattle.nibble_map.specs.Stored.{stored, IsStored}
 use Rattle.nibble_map.specs.Computed.{same, gathered, fronts, prefixes}
 use Rattle.nibble_map.proofs.MapLemmas.Bridge.{equal_by_test}
 use Rattle.nibble_map.proofs.ListLemmas.Cut.{cons_head, cons_tail, cons_not_empty}
-use Rattle.nibble_map.proofs.ListLemmas.Members.{Has-left, Has-right, Has-cases}
+use Rattle.nibble_map.proofs.ListLemmas.Members.{Has-left, Has-right, Has-cases, map_has, has_map}
 use Rattle.nibble_map.proofs.ListLemmas.Sorted.{tied_lists_equal as one, has_any, any_has, rising_of_sorted}
 
 -- the order of lists
@@ -58,24 +58,12 @@ has_gathered (p ∷ ps) x h =
     by false e (inl i) later = absurd (let j : false ≡ true = sym e ∙ subst (λ l. same x l ≡ true) i (same_itself x) in cc j)
     by false e (inr k) later = (stored_by_find x (gathered ps)).0 (later k)
 
--- a list among ps with a put before each is a and then one of ps
-map_has : (a : ℕ) (ps : List (List ℕ)) (x : List ℕ) → Has (map (λ q. a ∷ q) ps) x → (y : List ℕ) × (x ≡ a ∷ y) × Has ps y
-map_has a [] x h = absurd h
-map_has a (p ∷ ps) x (inl e) = (p, e, inl refl)
-map_has a (p ∷ ps) x (inr h) = let r = map_has a ps x h in (r.0, r.1, inr r.2)
-
--- a and then a list of ps is among ps with a put before each
-has_map : (a : ℕ) (ps : List (List ℕ)) (y : List ℕ) → Has ps y → Has (map (λ q. a ∷ q) ps) (a ∷ y)
-has_map a [] y h = absurd h
-has_map a (p ∷ ps) y (inl e) = inl (ap (λ q. a ∷ q) e)
-has_map a (p ∷ ps) y (inr h) = inr (has_map a ps y h)
-
 -- a list of `fronts p` is a non-empty prefix of p
 fronts_has : (p x : List ℕ) → Has (fronts p) x → (x ≢ []) × IsPrefix x p
 fronts_has [] x h = absurd h
 fronts_has (a ∷ p) x (inl e) = (λ i. cons_not_empty [] a [] (sym e ∙ i), (p, ap (λ l. l ++ p) (sym e)))
 fronts_has (a ∷ p) x (inr h) =
-    let r = map_has a (fronts p) x h in
+    let r = map_has (λ q. a ∷ q) (fronts p) x h in
     let k = fronts_has p r.0 r.2 in
     (λ i. cons_not_empty [] a r.0 (sym r.1 ∙ i), (k.1.0, ap (λ l. a ∷ l) k.1.1 ∙ ap (λ l. l ++ k.1.0) (sym r.1)))
 
@@ -85,7 +73,7 @@ has_fronts p [] n r = absurd (n refl)
 has_fronts [] (b ∷ x) n (r, e) = absurd (cons_not_empty [] b (x ++ r) (sym e))
 has_fronts (a ∷ p) (b ∷ []) n (r, e) = inl (ap (λ c. c ∷ []) (sym (cons_head e)))
 has_fronts (a ∷ p) (b ∷ (c ∷ x)) n (r, e) =
-    inr (subst (λ d. Has (map (λ q. a ∷ q) (fronts p)) (d ∷ (c ∷ x))) (cons_head e) (has_map a (fronts p) (c ∷ x) (has_fronts p (c ∷ x) (cons_not_empty [] c x) (r, cons_tail e))))
+    inr (subst (λ d. Has (map (λ q. a ∷ q) (fronts p)) (d ∷ (c ∷ x))) (cons_head e) (has_map (λ q. a ∷ q) (fronts p) (c ∷ x) (has_fronts p (c ∷ x) (cons_not_empty [] c x) (r, cons_tail e))))
 
 -- a list among the fronts of all lists of es is a non-empty prefix of one of them
 spread_has : (es : List (List ℕ)) (x : List ℕ) → Has (flat_map fronts es) x → (e : List ℕ) × Has es e × (x ≢ []) × IsPrefix x e

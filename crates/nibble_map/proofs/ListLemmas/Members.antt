@@ -1,5 +1,5 @@
 -- The lists of paths and of stored lists, by what they hold.
-use Rattle.std.proofs.Common.{◌≡◌, ℕ, ◌⊎◌, List, [], ◌∷◌, ◌++◌, Option, Some, None, IsSome, option_map, false, true, refl, ap, sym, subst, ◌∙◌, inl, inr, append_assoc, append-nil}
+use Rattle.std.proofs.Common.{◌≡◌, ℕ, ◌⊎◌, List, [], ◌∷◌, ◌++◌, map, Option, Some, None, IsSome, option_map, false, true, refl, ap, sym, subst, ◌∙◌, inl, inr, append_assoc, append-nil}
 use Rattle.std.specs.List.{cons_option}
 use Rattle.std.proofs.lemmas.List.{map-append}
 use Rattle.std.proofs.lemmas.List.Elements.{filter_map-append}
@@ -25,6 +25,18 @@ pub Has-cases : {A : Type 0} (xs ys : List A) (x : A) → Has (xs ++ ys) x → H
 Has-cases [] ys x h = inr h
 Has-cases (z ∷ xs) ys x (inl e) = inl (inl e)
 Has-cases (z ∷ xs) ys x (inr h) = elim (Has-cases xs ys x h) [ inl k ↦ inl (inr k) | inr k ↦ inr k ]
+
+-- an element of xs with f of each in its place is f of an element of xs
+pub map_has : {A B : Type 0} (f : A → B) (xs : List A) (y : B) → Has (map f xs) y → (x : A) × (y ≡ f x) × Has xs x
+map_has f [] y h = absurd h
+map_has f (x ∷ xs) y (inl e) = (x, e, inl refl)
+map_has f (x ∷ xs) y (inr h) = let r = map_has f xs y h in (r.0, r.1, inr r.2)
+
+-- f of an element of xs is an element of xs with f of each in its place
+pub has_map : {A B : Type 0} (f : A → B) (xs : List A) (x : A) → Has xs x → Has (map f xs) (f x)
+has_map f [] x h = absurd h
+has_map f (y ∷ xs) x (inl e) = inl (ap f e)
+has_map f (y ∷ xs) x (inr h) = inr (has_map f xs x h)
 
 -- a pair's list is among the stored ones
 pub Has-stored : {P : Type 0} (es : List (List ℕ × P)) (x : List ℕ) (v : P) → Has es (x, v) → Has (stored es) x

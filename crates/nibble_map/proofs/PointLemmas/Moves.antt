@@ -2,7 +2,7 @@
 use Rattle.std.proofs.Common.{ℕ, List, Option, Some, None, inl, inr}
 use Rattle.nibble_map.specs.Lists.{Lists}
 use Rattle.nibble_map.specs.Points.{IsReached, IsBranchPoint, IsPoint, IsSomePrefix}
-use Rattle.nibble_map.specs.Answers.{IsLongest, IsShortest, IsAncestor, IsRawAncestor, IsRawDescendant, IsFragment, IsChild, AreChildren, IsCompared}
+use Rattle.nibble_map.specs.Answers.{IsLongest, IsShortest, IsAncestor, IsRawAncestor, IsRawDescendant, IsFragment, IsChild, AreChildren, IsCompared, IsVisited}
 
 -- what S holds of, T holds of
 abbrev pub Within : (List ℕ → Type 0) → (List ℕ → Type 0) → Type 0
@@ -75,6 +75,14 @@ module _ (S T : List ℕ → Type 0) (to : Within S T) (from : Within T S) where
       | inr h ↦ inr (h.0, (λ k. h.1 (point_moves T S from p k)), h.2)
     ],
   )
+
+  -- the count of visited nodes stays where the stored lists are the same
+  pub visited_moves : (e : List ℕ) (n : ℕ) → IsVisited S e n → IsVisited T e n
+  visited_moves e n c = record {
+    list = c.list;
+    lists = lists_moves _ _ (λ x h. (point_moves S T to x h.0, h.1)) (λ x h. (point_moves T S from x h.0, h.1)) c.list c.lists;
+    length_is = c.length_is;
+  }
 
 -- the children of p stay where the stored lists are the same
 pub children_move : (S T : List ℕ → Type 0) → Within S T → Within T S → (p : List ℕ) (qs : List (List ℕ)) → AreChildren S p qs → AreChildren T p qs

@@ -1,5 +1,5 @@
 -- A map has one canonical tree.
-use Rattle.std.proofs.Common.{◌≡◌, ℕ, ◌≤◌, ◌*◌, ◌↔◌, List, [], ◌∷◌, length, max, Option, Some, None, option_map, refl, sym, ap, subst, ◌∙◌, inl, nat_cmp}
+use Rattle.std.proofs.Common.{◌≡◌, ℕ, ◌≤◌, ◌*◌, ◌↔◌, List, [], ◌∷◌, filter, length, max, Option, Some, None, option_map, refl, sym, ap, subst, ◌∙◌, inl, nat_cmp}
 use Rattle.std.specs.List.{cons_option}
 use Rattle.std.specs.Cmp.Lexicographic.{slice_cmp}
 use Rattle.std.specs.FinMap as map
@@ -7,7 +7,7 @@ use Rattle.std.proofs.lemmas.Cmp.{nat_list_cmp_total}
 use Rattle.std.proofs.lemmas.List.{length-map}
 use Rattle.nibble_map.specs.Answers.{IsFragment, IsLongest, IsShortest}
 use Rattle.nibble_map.specs.Canonical.{IsCanonical}
-use Rattle.nibble_map.specs.Lists.{Has, Each, IsBefore, IsRising, Lists, Counts}
+use Rattle.nibble_map.specs.Lists.{Has, Each, IsBefore, is_prefix, IsRising, Lists, Counts}
 use Rattle.nibble_map.specs.MapQueries as map_queries
 use Rattle.nibble_map.specs.Maps.{NibbleMap, IsStored, IsPoint, IsSomePrefix}
 use Rattle.nibble_map.specs.Stored as stored
@@ -18,6 +18,7 @@ use Rattle.nibble_map.proofs.TreeLemmas.Fragments.{tree_fragments}
 use Rattle.nibble_map.proofs.TreeLemmas.Full.{shaped_by_fullness}
 use Rattle.nibble_map.proofs.MapLemmas.Edits.{stored_by_entries, set_is_insert, cut_is_remove}
 use Rattle.nibble_map.proofs.PointLemmas.Moves.{Within, point_moves, some_prefix_moves, lists_moves, longest_moves, shortest_moves, fragment_moves, compared_moves}
+use Rattle.nibble_map.proofs.PointLemmas.Visited.{prefixes_counted}
 use Rattle.nibble_map.proofs.TreeLemmas.Points.{tree_points}
 use Rattle.nibble_map.proofs.TreeLemmas.Same.{parts_of-same_stored}
 use Rattle.nibble_map.proofs.TreeLemmas.Sizes.{nodes_bound}
@@ -104,6 +105,10 @@ module _ {P : Type 0} (t : FragmentTree P) (m : NibbleMap P) (c : IsCanonical t 
   -- a search for e in a canonical tree compares as many nibbles as the map says
   pub search_count : (e : List ℕ) → map_queries.IsCompared m e (walked t.children e)
   search_count e = compared_moves _ _ (map_of_tree t m c.pairs) (tree_of_map t m c.pairs) e _ (tree_compared t (canonical_shaped t m c) e)
+
+  -- a search for e visits as many nodes as a canonical tree has paths that are prefixes of e
+  pub visit_count : (e : List ℕ) → map_queries.IsVisited m e (length (filter (λ p. is_prefix p e) (paths (nodes t))))
+  visit_count e = prefixes_counted (IsPoint m) (paths (nodes t)) e c.exact
 
 -- edits
 -- from a canonical tree an insertion leads to one

@@ -1,6 +1,7 @@
 -- How many nibbles a search compares, and how a key goes on past the child that it meets.
-use Rattle.std.proofs.Common.{◌≡◌, ◌≢◌, ℕ, ◌+◌, ◌<◌, ◌≤◌, List, ◌++◌, length, get_or, drop, slice_index, ap, sym, subst, ◌∙◌, arith, inl, drop-drop}
+use Rattle.std.proofs.Common.{◌≡◌, ◌≢◌, ℕ, ◌+◌, ◌<◌, ◌≤◌, List, ◌++◌, length, get_or, drop, slice_index, ap, sym, subst, ◌∙◌, arith, inl, inr, drop-drop}
 use Rattle.std.proofs.Math.Seq.{drop-length}
+use Rattle.std.proofs.lemmas.Bool.{cases_eq}
 use Rattle.std.specs.declared.boxed.Box.{Box}
 use Rattle.std.specs.declared.alloc.Global.{Global}
 use Rattle.masked_tree.specs.Agreement.{Agrees}
@@ -60,6 +61,13 @@ module _ {K V : Type 0} (n : TrieNode K V) (key : List ℕ) (depth : ℕ) (h : I
         let w = agrees.within in let f = ap length (fragment-tree_of m) in
         let s : a.same ≢ length (tree_of m).fragment = λ z. e (z ∙ f) in
         sym (along-part_fragment (tree_of m).fragment (drop depth key) a.same a.compared (λ rest. walked (plain (tree_of m).children) rest) agrees (omega (arith, w, s))) ∙ sym walked-met_child
+
+    -- what was compared along a child's fragment is a part of all, whether the fragment agrees or not
+    pub count_most : a.compared ≤ walked (plain (tree_of n).children) (drop depth key)
+    count_most = elim (cases_eq a.same (length (fragment_of m))) [
+      | inl e ↦ (let all = count_step e in omega (arith, all))
+      | inr e ↦ (let all = count_stop e in omega (arith, all))
+    ]
 
     -- where a met child's whole fragment agrees, the key goes on to that child
     pub met_down : a.same ≡ length (fragment_of m) → IsStep n key depth i (depth + a.same)

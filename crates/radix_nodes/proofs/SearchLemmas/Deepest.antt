@@ -1,23 +1,23 @@
 -- The node at a key's end, and the deepest node and pair on its way, from a child and from its parent.
-use Rattle.std.proofs.Common.{◌≡◌, ◌≢◌, ℕ, ◌+◌, ◌-◌, ◌<◌, ◌≤◌, List, [], ◌++◌, length, get_or, take, drop, Option, Some, None, IsSome, Bor, ◌⊎◌, refl, ap, sym, subst, ◌∙◌, arith, inl, inr, append-nil}
+use Rattle.std.proofs.Common.{◌≡◌, ◌≢◌, ℕ, suc, ◌+◌, ◌-◌, ◌<◌, ◌≤◌, List, [], ◌++◌, length, get_or, take, drop, Option, Some, None, IsSome, Bor, ◌⊎◌, refl, ap, sym, subst, ◌∙◌, arith, inl, inr, append-nil}
 use Rattle.std.proofs.lemmas.List.{length-append, length-drop}
 use Rattle.std.proofs.Math.Seq.{drop-length}
 use Rattle.std.specs.Option.{option_or}
 use Rattle.std.specs.declared.boxed.Box.{Box}
 use Rattle.std.specs.declared.alloc.Global.{Global}
-use Rattle.nibble_map.specs.Lists.{IsPrefix}
+use Rattle.nibble_map.specs.Lists.{IsPrefix, Counts}
 use Rattle.nibble_map.specs.Answers.{IsLongest}
 use Rattle.nibble_map.specs.Trees.{first}
 use Rattle.masked_tree.specs.Tree.{Tree, IsAt, IsTreePlaced}
-use Rattle.masked_tree.specs.Paths.{IsNodeAt, IsPath, IsHeld, IsStuck}
+use Rattle.masked_tree.specs.Paths.{IsNodeAt, IsPath, IsHeld, IsOnWay, IsStuck}
 use Rattle.masked_tree.proofs.TreeLemmas.Children.{child_tree_is_placed}
 use Rattle.masked_tree.proofs.PathLemmas.Paths.{node_from_child, node_to_child, stuck_free}
-use Rattle.masked_tree.proofs.PathLemmas.Search.{longest_here, longest_in_child, held_longest, held_none, held_longest_in_child, held_longest_own, held_none_in_child, stuck_end}
+use Rattle.masked_tree.proofs.PathLemmas.Search.{count_here, count_through_child, longest_here, longest_in_child, held_longest, held_none, held_longest_in_child, held_longest_own, held_none_in_child, stuck_end}
 use Rattle.masked_tree.proofs.PathLemmas.BehindFragment.{take_past}
 use Rattle.radix_nodes.specs.declared.trie_node.KeyValue.{KeyValue}
 use Rattle.radix_nodes.specs.declared.trie_node.TrieNode.{TrieNode, out-TrieNode}
 use Rattle.radix_nodes.specs.Nodes.{tree_of, fragment_of, unboxed, IsStep, IsDeepest, on_way}
-use Rattle.radix_nodes.specs.Searches.{FindsDeepestPair}
+use Rattle.radix_nodes.specs.Searches.{FindsDeepestPair, Visits}
 use Rattle.radix_nodes.proofs.NodeLemmas.Nodes.{fragment-tree_of}
 use Rattle.radix_nodes.proofs.EditLemmas.KeyParts.{drop_some}
 use Rattle.radix_nodes.proofs.EditLemmas.Steps.{step_is_child, held_here, free_here}
@@ -60,6 +60,10 @@ module _ {K V : Type 0} where
   pub deepest_here : (n : TrieNode K V) (key : List ℕ) (depth : ℕ) → depth ≤ length key → IsStuck (tree_of n) (drop depth key) → IsDeepest (IsPath (tree_of n)) (tree_of n) (tree_of n) key depth depth
   deepest_here n key depth most s = deepest_from (IsPath (tree_of n)) (tree_of n) key depth most (longest_here (tree_of n) (drop depth key) s)
 
+  -- where the key can't go on, the node itself is the only one on its way
+  pub visits_here : (n : TrieNode K V) (key : List ℕ) (depth : ℕ) → IsStuck (tree_of n) (drop depth key) → Visits 1 n key depth
+  visits_here n key depth s = subst (λ f. Counts (IsOnWay (tree_of n) (f ++ drop depth key)) 1) (fragment-tree_of n) (count_here (tree_of n) (drop depth key) s)
+
   -- a step from n to its child m
   module _ (n m : TrieNode K V) (key : List ℕ) (depth i next : ℕ) (h : IsTreePlaced (tree_of n)) (s : IsStep n key depth i next) (b : Box (TrieNode K V) Global)
       (is : get_or (out-TrieNode K V n).children.items i b ≡ b) (em : m ≡ b.value) where
@@ -98,6 +102,12 @@ module _ {K V : Type 0} where
     found_in_child u d =
         subst (λ x. IsNodeAt (tree_of m) x u) (sym append-child_rest)
         (node_to_child (tree_of n) (tree_of m) i h at (drop depth key) u some start (subst (λ f. IsNodeAt (tree_of n) (f ++ drop depth key) u) (sym (fragment-tree_of n)) d))
+
+    -- from the node one more node is on the key's way than from the child that it goes on to
+    pub visits_through_child : (count : ℕ) → Visits count m key next → Visits (suc count) n key depth
+    visits_through_child count v =
+        subst (λ f. Counts (IsOnWay (tree_of n) (f ++ drop depth key)) (suc count)) (fragment-tree_of n)
+        (count_through_child (tree_of n) (tree_of m) i (drop depth key) h at some start count (subst (λ x. Counts (IsOnWay (tree_of m) x) count) append-child_rest v))
 
     -- a key goes on by as many nibbles as the child's fragment has
     size : length (tree_of m).fragment + depth ≡ next

@@ -1,5 +1,5 @@
 use Rattle.nibble_map.proofs.ListLemmas.Parted.{ancestor_unique, longest_unique, raw_descendant_unique, fragment_unique, compared_unique}
-use Rattle.nibble_map.proofs.ListLemmas.Unique.{Lists-unique}
+use Rattle.nibble_map.proofs.ListLemmas.Unique.{Lists-unique, Counts-unique}
 use Rattle.nibble_map.proofs.query_laws.answers_are_unique.Goals as goal
 
 pub returns : goal.returns
@@ -10,4 +10,5 @@ returns g c = record {
   fragment = λ m. fragment_unique _;
   children = λ m p. Lists-unique _;
   compared = λ m. compared_unique _;
+  visited = λ m e. Counts-unique _;
 }

@@ -43,8 +43,8 @@ pub fn stored_keys_are_equal<K: TrieKey, V>()
 {}
 
 /// In each trie a key stands at its encoding. So the keys at and below a list have encodings that begin with it, and in the
-/// order of a walk these rise. Of a type all of whose keys are values, as texts are, no more is needed for
-/// `stored_keys_are_equal`.
+/// order of a walk these rise; so have those of a page, the first pairs of a walk. Of a type all of whose keys are values, as
+/// texts are, no more is needed for `stored_keys_are_equal`.
 pub fn keys_stand_at_their_encodings<K: TrieKey, V>(trie: &Trie<K, V>)
     ensures stored { (e : List ℕ) (p : K × V) → map.get trie.now e ≡ Some p
         → e ≡ K.encoding p.0 }
@@ -52,6 +52,8 @@ pub fn keys_stand_at_their_encodings<K: TrieKey, V>(trie: &Trie<K, V>)
         (each (λ p. p.0) (pairs_below trie.now e)) }
     ensures rising { (e : List ℕ)
         → IsRising (each (λ p. K.encoding p.0) (pairs_below trie.now e)) }
+    ensures page { (e : List ℕ) (n : ℕ) → Each (λ key. IsPrefix e (K.encoding key))
+        (each (λ p. p.0) (take n (pairs_below trie.now e))) }
     ensures keyed { ((key : K) → K.is_value key) → IsKeyed K.encoding K.is_value trie.now }
 {
     let _ = trie.root();
@@ -88,7 +90,7 @@ pub fn pages_follow_one_another<K: TrieKey, V>(trie: &Trie<K, V>)
     let _ = trie.root();
 }
 
-/// The keys of a walk rise in each order that their encodings keep, in each map in which every stored key is a value of its
+/// The keys of a walk, and of a page, rise in each order that their encodings keep, in each map in which every stored key is a value of its
 /// type and stands at its encoding. `numbers_keep_their_order`, `signed_numbers_keep_their_order` and
 /// `texts_keep_their_order` name such orders.
 pub fn keys_of_walks_rise<K: TrieKey, V>()
@@ -104,6 +106,9 @@ pub fn keys_of_walks_rise<K: TrieKey, V>()
     ensures after { (cmp : K → K → Ordering) → IsKeptOrder K.encoding K.is_value cmp
         → (m : PairMap K V) → IsKeyed K.encoding K.is_value m → (e q : List ℕ)
         → AllPairs (λ x y. cmp x y ≡ Less) (each (λ p. p.0) (pairs_after m e q)) }
+    ensures page { (cmp : K → K → Ordering) → IsKeptOrder K.encoding K.is_value cmp
+        → (m : PairMap K V) → IsKeyed K.encoding K.is_value m → (e : List ℕ) (n : ℕ)
+        → AllPairs (λ x y. cmp x y ≡ Less) (each (λ p. p.0) (take n (pairs_below m e))) }
 {}
 
 /// Unsigned numbers and characters compare as their encodings do.

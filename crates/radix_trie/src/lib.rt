@@ -21,7 +21,7 @@ pub use key_laws::{
     numbers_keep_their_order, pages_follow_one_another, signed_numbers_keep_their_order,
     stored_keys_are_equal, texts_keep_their_order, walks_miss_no_key,
 };
-pub use map_laws::{equal_lists_have_one_tree, part_answers_below};
+pub use map_laws::{equal_lists_have_one_tree, part_answers_below, turned_copies_answer_alike};
 pub use nibble_map::map_laws::{
     edits_below_a_path, one_value_changes, points_of_the_rest, rest_of_a_map,
 };
@@ -35,6 +35,7 @@ pub use radix_keys::{
     KeySigned, LittleEndian, Memory, Network, NetworkParseError, NibbleIter, NibbleVec, Nibblet,
     TrieKey,
 };
+pub use radix_nodes::traversal::find::LookUpCost;
 pub use trie::Trie;
 pub use view::subtrie::SubTrie;
 pub use view::subtrie_mut::{PathList, SubTrieMut};

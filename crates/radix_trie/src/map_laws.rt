@@ -1,9 +1,11 @@
-//! Laws of maps that callers of a trie cite: what a part holds, what walks and pages hold, and that equal lists have one tree.
+//! Laws of maps that callers of a trie cite: what a part and a turned copy hold, and that equal lists have one tree.
 ghost use Rattle.std.specs.FinMap as map;
-ghost use Rattle.std.specs.Prelude.{◌≡◌, ◌↔◌, ℕ, List, None};
+ghost use Rattle.std.specs.Prelude.{◌≡◌, ◌↔◌, ℕ, List, None, Some};
+ghost use Rattle.nibble_map.specs.Copies.{IsPairClone};
 ghost use Rattle.nibble_map.specs.Lists.{Counts, IsPrefix};
 ghost use Rattle.nibble_map.specs.MapQueries.{AreChildren, IsFragment};
-ghost use Rattle.nibble_map.specs.Maps.{IsPoint, IsSomePrefix, IsStored, NibbleMap, below};
+ghost use Rattle.nibble_map.specs.Maps.{IsPoint, IsSomePrefix, IsStored, NibbleMap, PairMap, below};
+ghost use Rattle.nibble_map.specs.Turned.{IsSameFootprint, IsTurnedCopy, turned};
 
 /// What the part of a map below a path answers: at the lists that have the path as a prefix what the map answers, and none
 /// elsewhere. So it holds the stored lists that have the prefix and no other, and its count is how many these are.
@@ -36,5 +38,21 @@ pub fn equal_lists_have_one_tree<P, Q>()
         → (j k : ℕ) → Counts (IsPoint m) j → Counts (IsPoint n) k → j ≡ k }
     ensures nibbles { (m : NibbleMap P) (n : NibbleMap Q)
         → ((e : List ℕ) → IsStored m e ↔ IsStored n e)
+        → (j k : ℕ) → Counts (IsSomePrefix m) j → Counts (IsSomePrefix n) k → j ≡ k }
+{}
+
+/// What the trie of ascending keys answers that `to_ascending` makes: at each list turned over the key and a clone of the
+/// value that the first trie holds at the list, and none where that holds none. It has as many nodes and nibbles.
+pub fn turned_copies_answer_alike<K, V: Clone>()
+    ensures stored { (m n : PairMap K V)
+        → IsTurnedCopy (IsPairClone (λ x y. y ≡ x) V.is_clone) m n
+        → (e : List ℕ) (x : K × V) → map.get m e ≡ Some x
+        → (v : V) × (map.get n (turned e) ≡ Some (x.0, v)) × V.is_clone x.1 v }
+    ensures absent { (m n : PairMap K V)
+        → IsTurnedCopy (IsPairClone (λ x y. y ≡ x) V.is_clone) m n
+        → (e : List ℕ) → map.get m e ≡ None → map.get n (turned e) ≡ None }
+    ensures nodes { (m n : PairMap K V) → IsSameFootprint m n
+        → (j k : ℕ) → Counts (IsPoint m) j → Counts (IsPoint n) k → j ≡ k }
+    ensures nibbles { (m n : PairMap K V) → IsSameFootprint m n
         → (j k : ℕ) → Counts (IsSomePrefix m) j → Counts (IsSomePrefix n) k → j ≡ k }
 {}

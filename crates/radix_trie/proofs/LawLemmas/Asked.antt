@@ -1,5 +1,5 @@
 -- What walks hold, and that the encodings in them rise.
-use Rattle.std.proofs.Common.{◌≡◌, ◌↔◌, ℕ, zero, suc, ◌<◌, ◌⊎◌, inl, inr, Bool, true, false, cond, T, List, [], ◌∷◌, filter, length, map as each, slice_index_or, Option, Some, None, nat_cmp, is_le, is_lt, Less, Ordering, refl, sym, ap, ◌∙◌, subst, arith}
+use Rattle.std.proofs.Common.{◌≡◌, ◌↔◌, ℕ, zero, suc, ◌⊎◌, inl, inr, Bool, true, false, cond, T, List, [], ◌∷◌, filter, map as each, Some, None, nat_cmp, is_le, is_lt, Less, Ordering, refl, sym, ap, ◌∙◌, subst, arith}
 use Rattle.std.proofs.lemmas.Cmp.{nat_list_cmp_total}
 use Rattle.std.specs.Cmp.Lexicographic.{slice_cmp}
 use Rattle.std.specs.FinMap as map

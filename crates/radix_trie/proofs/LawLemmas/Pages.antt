@@ -1,6 +1,10 @@
--- Where a page of a walk ends, the walk after its last key goes on.
-use Rattle.std.proofs.Common.{◌≡◌, ℕ, zero, suc, T, cond, List, [], ◌∷◌, ◌++◌, filter, take, map as each, Some, nat_cmp, is_lt, refl, sym, ap, ◌∙◌, subst}
+-- Where a page of a walk ends, the walk after its last key goes on; and what a page keeps of the walk.
+use Rattle.std.proofs.Common.{◌≡◌, ℕ, zero, suc, T, cond, List, [], ◌∷◌, ◌++◌, filter, take, map as each, Some, nat_cmp, is_lt, refl, sym, ap, ◌∙◌, subst, All, arith}
 use Rattle.std.proofs.lemmas.Cmp.{nat_list_cmp_total}
+use Rattle.std.proofs.lemmas.List.{take-map}
+use Rattle.std.proofs.lemmas.List.Elements.{All-take}
+use Rattle.std.proofs.lemmas.List.Kept.{AllPairs-cons}
+use Rattle.std.specs.List.{AllPairs}
 use Rattle.std.specs.Cmp.{tied_itself}
 use Rattle.std.specs.Cmp.Lexicographic.{slice_cmp}
 use Rattle.std.specs.FinMap.{is_sorted}
@@ -39,3 +43,18 @@ module _ {K V : Type 0} (enc : K → List ℕ) where
       let before = before_key e.0 es n p (first_of_both _ _ sorted) keyed.1 at in
       ap (λ o. e.1 ∷ (take (suc n) (each (λ x. x.1) es) ++ each (λ x. x.1) (cond (is_lt o) (e ∷ later (enc p.0) es) (later (enc p.0) es)))) (greater_by_less (slice_cmp nat_cmp) nat_list_cmp_total e.0 (enc p.0) before)
       ∙ ap (λ l. e.1 ∷ l) (next_page es n p (second_of_both _ _ sorted) keyed.1 at)
+
+-- what each item of a walk has, each of a page of it has
+pub each_of_page : {A B : Type 0} (f : A → B) (P : B → Type 0) (n : ℕ) (xs : List A) → Each P (each f xs) → Each P (each f (take n xs))
+each_of_page f P zero xs h = tt
+each_of_page f P (suc n) [] h = tt
+each_of_page f P (suc n) (x ∷ xs) h = (h.0, each_of_page f P n xs h.1)
+
+-- and what holds of each item and each later one, too
+pub pairs_of_page : {A B : Type 0} (f : A → B) (R : B → B → Type 0) (n : ℕ) (xs : List A) → AllPairs R (each f xs) → AllPairs R (each f (take n xs))
+pairs_of_page f R zero xs h = λ i j d lt within. absurd (omega (arith, lt, within))
+pairs_of_page f R (suc n) [] h = h
+pairs_of_page f R (suc n) (x ∷ xs) h =
+    AllPairs-cons R (f x) (each f (take n xs))
+    (subst (All (R (f x))) (take-map f n xs) (All-take (R (f x)) n (each f xs) (λ j d within. h zero (suc j) d (omega arith) (omega arith))))
+    (pairs_of_page f R n xs (λ i j d lt within. h (suc i) (suc j) d (omega arith) (omega arith)))

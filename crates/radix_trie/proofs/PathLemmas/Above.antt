@@ -1,5 +1,5 @@
 -- The nearest pair, and the nearest point, above a list.
-use Rattle.std.proofs.Common.{◌≡◌, ℕ, ◌-◌, List, ◌++◌, drop, take, Option, None, option_map, Some, refl, ap, subst, ◌∙◌, sym, arith}
+use Rattle.std.proofs.Common.{◌≡◌, ℕ, ◌-◌, List, ◌++◌, drop, take, Option, MatchOption, None, option_map, Some, Bor, refl, ap, subst, ◌∙◌, sym, arith}
 use Rattle.nibble_map.specs.Answers.{IsLongest}
 use Rattle.masked_tree.specs.Tree.{Tree}
 use Rattle.masked_tree.specs.Paths.{IsHeld, IsNodeAt, IsPath}
@@ -11,6 +11,7 @@ use Rattle.radix_nodes.specs.declared.trie_node.KeyValue.{KeyValue}
 use Rattle.radix_nodes.specs.declared.trie_node.TrieNode.{TrieNode}
 use Rattle.radix_nodes.specs.Pairs.{pair_of}
 use Rattle.radix_nodes.specs.Nodes.{tree_of, fragment_of, on_way, IsDeepest}
+use Rattle.radix_nodes.specs.Searches.{FindsDeepestPair}
 use Rattle.radix_nodes.proofs.NodeLemmas.Nodes.{fragment-tree_of}
 use Rattle.radix_trie.specs.Places.{IsNodeOf}
 use Rattle.radix_trie.specs.Roots.{IsRoot}
@@ -65,7 +66,7 @@ module _ {K V : Type 0} (enc : K → List ℕ) (m : PairMap K V) (root : TrieNod
         longest_moves (IsPath tree) (IsPoint m) (λ q h. node_point enc m tree is q h.0 h.1) (point_node enc m tree is) list (take end list) (longest_on_way (IsPath tree) u end d)
 
     -- the deepest pair on the way to a list is the pair above the list
-    pub pair_above : IsDeepest (IsHeld tree) tree u list 0 end → IsPairAbove m list (option_map pair_of u.pair)
+    pair_above : IsDeepest (IsHeld tree) tree u list 0 end → IsPairAbove m list (option_map pair_of u.pair)
     pair_above d = (
       Some (take end list),
       longest_stored d,
@@ -77,8 +78,13 @@ module _ {K V : Type 0} (enc : K → List ℕ) (m : PairMap K V) (root : TrieNod
   none_stored_above apart q s a = apart q (to_held q s) (subst (IsPrefix q) (sym whole_list) a)
 
   -- where the root holds no prefix of a list, there is no pair above the list
-  pub no_pair_above : ((q : List ℕ) → IsHeld tree q → IsPrefix q (fragment_of root ++ drop 0 list) → ⊥) → IsPairAbove m list None
+  no_pair_above : ((q : List ℕ) → IsHeld tree q → IsPrefix q (fragment_of root ++ drop 0 list) → ⊥) → IsPairAbove m list None
   no_pair_above apart = (None, none_stored_above apart, refl)
+
+  -- what a search's deepest pair tells, or none where it has found none, is the pair above the list
+  pub found_above : (r : Option (Bor (TrieNode K V) × ℕ)) (p : Option (K × V)) → FindsDeepestPair r root list 0 → MatchOption r (p ≡ None) (λ d. p ≡ option_map pair_of (tree_of d.0.now).pair) → IsPairAbove m list p
+  found_above None p free none = subst (IsPairAbove m list) (sym none) (no_pair_above free)
+  found_above (Some d) p found some = subst (IsPairAbove m list) (sym some) (pair_above (tree_of d.0.now) d.1 found)
 
 -- the value above a list is the value of the pair above it
 pub value_above : {K V : Type 0} (m : PairMap K V) (list : List ℕ) (p : Option (K × V)) → IsPairAbove m list p → IsValueAbove m list (option_map (λ x. x.1) p)

@@ -1,15 +1,18 @@
 -- The nodes of a kept root are the points of its map, each with its point's fragment.
-use Rattle.std.proofs.Common.{◌≡◌, inl, inr, ℕ, List, [], ◌∷◌, ◌++◌, option_map, refl, ap, sym, subst, ◌∙◌, append_assoc}
+use Rattle.std.proofs.Common.{◌≡◌, inl, inr, ℕ, ◌*◌, ◌≤◌, max, List, [], ◌∷◌, ◌++◌, option_map, refl, ap, sym, subst, ◌∙◌, append_assoc, arith}
+use Rattle.std.specs.FinMap as map
 use Rattle.masked_tree.specs.Tree.{Tree, Children, none, more}
-use Rattle.masked_tree.specs.Paths.{IsChildAt, IsNodeAt, IsPath}
-use Rattle.nibble_map.specs.Lists.{Has}
-use Rattle.nibble_map.specs.MapQueries.{IsFragment}
+use Rattle.masked_tree.specs.Paths.{IsChildAt, IsNodeAt, IsPath, IsOnWay}
+use Rattle.nibble_map.specs.Lists.{Has, Counts}
+use Rattle.nibble_map.specs.MapQueries.{IsFragment, IsVisited}
 use Rattle.nibble_map.specs.Maps.{PairMap, IsPoint}
 use Rattle.nibble_map.specs.Trees as trees
 use Rattle.nibble_map.specs.Trees.{nodes, nodes_below, paths}
 use Rattle.nibble_map.proofs.ListLemmas.Unique.{Each-has}
 use Rattle.nibble_map.proofs.ListLemmas.Members.{Has-left, Has-right, Has-cases, paths-append}
-use Rattle.nibble_map.proofs.TreeLemmas.OneTree.{fragments_are}
+use Rattle.nibble_map.proofs.PointLemmas.Moves.{lists_moves}
+use Rattle.nibble_map.proofs.PointLemmas.Visited.{prefixes_are_fewer}
+use Rattle.nibble_map.proofs.TreeLemmas.OneTree.{node_count, few_nodes, fragments_are}
 use Rattle.radix_nodes.specs.declared.trie_node.KeyValue.{KeyValue}
 use Rattle.radix_nodes.specs.Pairs.{pair_of}
 use Rattle.radix_trie.specs.Roots.{shown_children, shown, IsRoot}
@@ -71,6 +74,21 @@ module _ {K V : Type 0} (enc : K → List ℕ) (m : PairMap K V) (t : Tree (KeyV
   -- at each point of the map stands a node of the root
   pub point_node : (q : List ℕ) → IsPoint m q → IsPath t q
   point_node q p = in_node t q root.top ((root.canonical.exact.exactly q).1 p)
+
+  -- the root's nodes on the way to a list are as many as the map says
+  pub found_visits : (q : List ℕ) (n : ℕ) → Counts (IsOnWay t q) n → IsVisited m q n
+  found_visits q n c = record {
+    list = c.list;
+    lists = lists_moves _ _ (λ x h. (node_point x h.0.0 h.0.1, h.1)) (λ x h. (point_node x h.0, h.1)) c.list c.lists;
+    length_is = c.length_is;
+  }
+
+  -- they are at most two a pair, or the root alone
+  pub visits_two_a_pair : (q : List ℕ) (n : ℕ) → IsVisited m q n → n ≤ max 1 (2 * map.len m)
+  visits_two_a_pair q n v =
+      let fewer = prefixes_are_fewer (IsPoint m) q n _ v (node_count (shown t) m root.canonical) in
+      let few = few_nodes (shown t) m root.canonical in
+      omega (arith, fewer, few)
 
   -- a node's fragment is the map's fragment of its path
   pub node_fragment : (q : List ℕ) (u : Tree (KeyValue K V)) → IsNodeAt t q u → IsFragment m q u.fragment

@@ -1,7 +1,8 @@
 //! Look-ups by a list of nibbles in hand. They take no memory, and none is refused.
-ghost use Rattle.std.specs.Prelude.{◌≡◌, ◌↔◌, IsTrue, option_copied, option_map};
+ghost use Rattle.std.specs.Prelude.{◌≡◌, ◌↔◌, IsTrue, MatchOption, None, option_copied, option_map};
 ghost use Rattle.std.specs.FinMap as map;
 ghost use Rattle.nibble_map.specs.Maps.{IsStored, value_at};
+ghost use Rattle.radix_nodes.specs.Nodes.{tree_of};
 ghost use Rattle.radix_nodes.specs.Pairs.{pair_of};
 ghost use Rattle.radix_trie.specs.Views.{IsPairAbove, IsValueAbove};
 ghost use Rattle.radix_trie.specs.Walks.{deref_pair};
@@ -11,7 +12,7 @@ use crate::trie::Trie;
 use radix_keys::{Nibblet, TrieKey};
 use radix_nodes::traversal::find::find;
 use radix_nodes::traversal::queries::deepest_pair;
-use radix_nodes::trie_node::KeyValue;
+use radix_nodes::trie_node::{KeyValue, TrieNode};
 
 impl<K: TrieKey, V> Trie<K, V> {
     /// The pair at a list.
@@ -45,8 +46,7 @@ impl<K: TrieKey, V> Trie<K, V> {
     fn pair_above(&self, list: &Nibblet) -> Option<&KeyValue<K, V>>
         ensures { IsPairAbove self.now list.now (option_map (λ p. pair_of p.now) result) }
     {
-        let (node, _) = deepest_pair(self.root(), list, 0)?;
-        node.pair()
+        pair_in(deepest_pair(self.root(), list, 0))
     }
 
     /// The key and the value at the longest stored list that is a prefix of a list of nibbles, or None where there is none.
@@ -64,4 +64,16 @@ impl<K: TrieKey, V> Trie<K, V> {
         let (_, value) = self.nearest(list)?;
         Some(value)
     }
+}
+
+/// The pair in the node that a search has found, if there is one.
+pub(super) fn pair_in<'a, K, V>(
+    nearest: Option<(&'a TrieNode<K, V>, usize)>,
+) -> Option<&'a KeyValue<K, V>>
+    ensures { MatchOption nearest.entry (option_map (λ p. pair_of p.now) result ≡ None)
+        (λ found. option_map (λ p. pair_of p.now) result
+        ≡ option_map pair_of (tree_of found.0.now).pair) }
+{
+    let (node, _) = nearest?;
+    node.pair()
 }

@@ -6,11 +6,17 @@ mod answers;
 #[cfg(test)]
 mod cited;
 #[cfg(test)]
+mod counters;
+#[cfg(test)]
 mod first;
 #[cfg(test)]
 mod lists;
 #[cfg(test)]
+mod moves;
+#[cfg(test)]
 mod one_tree;
+#[cfg(test)]
+mod pages;
 #[cfg(test)]
 mod rising;
 #[cfg(test)]
@@ -21,5 +27,7 @@ mod topics;
 mod typed;
 #[cfg(test)]
 mod uses;
+#[cfg(test)]
+mod vendors;
 #[cfg(test)]
 mod walk_callers;

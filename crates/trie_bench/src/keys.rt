@@ -22,28 +22,17 @@ impl Stored for u32 {
 
 /// The beginning of keys of a type.
 pub trait Beginning<K>: TrieKey {
-    /// The first key that can begin so.
-    fn first(&self) -> K;
-
     /// Whether the key begins so.
     fn begins(&self, key: &K) -> bool;
 }
 
 impl<'a> Beginning<&'a [u8]> for &'a [u8] {
-    fn first(&self) -> &'a [u8] {
-        *self
-    }
-
     fn begins(&self, key: &&'a [u8]) -> bool {
         key.starts_with(*self)
     }
 }
 
 impl Beginning<u32> for u16 {
-    fn first(&self) -> u32 {
-        (*self as u32) << 16
-    }
-
     fn begins(&self, key: &u32) -> bool {
         key >> 16 == *self as u32
     }

@@ -1,7 +1,6 @@
 //! All calls of a trie of nested keys, with as many levels as there are keys.
 
-use crate::chain::Chain;
-use crate::fault::Fault;
+use anyhow::{Result, ensure};
 use radix_trie::{Trie, TrieCommon};
 use std::mem::drop;
 use std::rt::Clock;
@@ -10,127 +9,82 @@ use std::time::Instant;
 /// One key of so many is looked up.
 const LOOKED_UP: usize = 100;
 
-/// A trie of nested keys, each with its length.
-type Nested = Trie<Chain, u32>;
+/// A trie of keys each of which begins the next one, with their lengths.
+type Nested<'a> = Trie<&'a [u8], usize>;
 
 /// Tells how long a step took that began then.
-fn tell<R: Print + Clock>(rt: &R, step: &str, start: Instant) -> Result<(), Fault> {
-    println!(rt;
-        "chain {step} {} milliseconds",
-        start.elapsed(rt)?.as_millis()
-    )?;
-    Ok(())
+fn tell<R: Print + Clock>(rt: &R, line: &str, step: &str, start: Instant) -> Result<()> {
+    let took = start.elapsed(rt)?.as_millis();
+    Ok(println!(rt; "{line} {step} {took} milliseconds")?)
 }
 
-/// Goes on where this holds.
-fn expect(holds: bool) -> Result<(), Fault> {
-    if holds { Ok(()) } else { Err(Fault::Differs) }
-}
-
-/// Makes each step in turn on so many nested keys, and tells the time that it took.
-pub fn run<R: Print + Clock + AllocGlobal>(rt: &R, count: u32) -> Result<(), Fault> {
-    let mut nested = inserted(rt, count)?;
-    look_up(rt, &nested, count)?;
-    walk(rt, &nested, count)?;
-    count_below(rt, &nested, count)?;
-    let mut copy = copied(rt, &nested)?;
-    remove(rt, &mut nested, count)?;
-    drop_all(rt, copy.clone()?)?;
-    change(rt, &mut copy, count)?;
-    let part = split_off(rt, &mut copy, count)?;
-    cut(rt, part, count)?;
-    Ok(println!(rt; "chain all {count} ok")?)
-}
-
-/// Inserts the keys, the shortest one first.
-fn inserted<R: Print + Clock + AllocGlobal>(rt: &R, count: u32) -> Result<Nested, Fault> {
+/// Makes each step in turn on keys of one to so many equal bytes, and tells the time that it took.
+pub fn answer<R: Print + Clock + AllocGlobal>(rt: &R, line: &str, count: u32) -> Result<()> {
+    let bytes = vec![in rt.alloc(); b'a'; count as usize]?;
+    let mut keys = Vec::new(rt.alloc());
+    for length in 1..=bytes.len() {
+        keys.push(&bytes[..length])?;
+    }
     let start = Instant::now(rt)?;
     let mut nested = Nested::new(rt.alloc());
-    for length in 1..=count {
-        nested.insert(Chain { length }, length)?;
+    for key in &keys {
+        nested.insert(*key, key.len())?;
     }
-    tell(rt, "insert", start)?;
-    Ok(nested)
+    tell(rt, line, "insert", start)?;
+    read(rt, line, &nested, keys.as_slice())?;
+    let copy = copied(rt, line, &nested)?;
+    let start = Instant::now(rt)?;
+    for key in keys.iter().rev() {
+        ensure!(nested.remove(key)? == Some(key.len()));
+    }
+    tell(rt, line, "remove", start)?;
+    let another = copy.clone()?;
+    let start = Instant::now(rt)?;
+    drop(another);
+    tell(rt, line, "drop", start)?;
+    cut(rt, line, copy)
 }
 
-/// Finds one key of a hundred.
-fn look_up<R: Print + Clock>(rt: &R, nested: &Nested, count: u32) -> Result<(), Fault> {
+/// Finds one key of a hundred, walks over all pairs, and counts those at and below the shortest key.
+fn read<R: Print + Clock>(rt: &R, line: &str, nested: &Nested, keys: &[&[u8]]) -> Result<()> {
     let start = Instant::now(rt)?;
-    for length in (1..=count).step_by(LOOKED_UP) {
-        expect(nested.get(&Chain { length })? == Some(&length))?;
+    for key in keys.iter().step_by(LOOKED_UP) {
+        ensure!(nested.get(key)? == Some(&key.len()));
     }
-    tell(rt, "get", start)
-}
-
-/// Walks over all pairs.
-fn walk<R: Print + Clock>(rt: &R, nested: &Nested, count: u32) -> Result<(), Fault> {
+    tell(rt, line, "get", start)?;
     let start = Instant::now(rt)?;
-    let mut seen = 0u32;
-    for value in TrieCommon::values(nested)? {
-        expect(*value > seen)?;
-        seen = *value;
-    }
-    expect(seen == count)?;
-    tell(rt, "walk", start)
-}
-
-/// Counts the pairs at and below the shortest key.
-fn count_below<R: Print + Clock>(rt: &R, nested: &Nested, count: u32) -> Result<(), Fault> {
+    ensure!(TrieCommon::values(nested)?.copied().eq(1..=keys.len()));
+    tell(rt, line, "walk", start)?;
     let start = Instant::now(rt)?;
-    let view = nested.subtrie(&Chain { length: 1 })?.ok_or(Fault::Differs)?;
-    expect(TrieCommon::len(&view) == count as usize)?;
-    tell(rt, "len", start)
+    let view = nested.subtrie(&b'a')?;
+    ensure!(view.map_or(0, |view| TrieCommon::len(&view)) == keys.len());
+    tell(rt, line, "len", start)
 }
 
 /// A copy, which is equal.
-fn copied<R: Print + Clock>(rt: &R, nested: &Nested) -> Result<Nested, Fault> {
+fn copied<'a, R: Print + Clock>(rt: &R, line: &str, nested: &Nested<'a>) -> Result<Nested<'a>> {
     let start = Instant::now(rt)?;
     let copy = nested.clone()?;
-    tell(rt, "clone", start)?;
+    tell(rt, line, "clone", start)?;
     let start = Instant::now(rt)?;
-    expect(copy == *nested)?;
-    tell(rt, "==", start)?;
+    ensure!(copy == *nested);
+    tell(rt, line, "==", start)?;
     Ok(copy)
 }
 
-/// Takes each pair away, the longest key first.
-fn remove<R: Print + Clock>(rt: &R, nested: &mut Nested, count: u32) -> Result<(), Fault> {
-    let start = Instant::now(rt)?;
-    for length in (1..=count).rev() {
-        expect(nested.remove(&Chain { length })? == Some(length))?;
-    }
-    expect(nested.is_empty())?;
-    tell(rt, "remove", start)
-}
-
-/// Drops all pairs.
-fn drop_all<R: Print + Clock>(rt: &R, nested: Nested) -> Result<(), Fault> {
-    let start = Instant::now(rt)?;
-    drop(nested);
-    tell(rt, "drop", start)
-}
-
-/// Adds one to each value.
-fn change<R: Print + Clock>(rt: &R, nested: &mut Nested, count: u32) -> Result<(), Fault> {
+/// Adds one to each value, splits all pairs off by the shortest key, and takes all away by it.
+fn cut<R: Print + Clock>(rt: &R, line: &str, mut nested: Nested) -> Result<()> {
+    let count = nested.len();
     let start = Instant::now(rt)?;
     nested.for_each_value_mut(|length| *length = length.wrapping_add(1));
-    tell(rt, "for_each_value_mut", start)?;
-    expect(nested.get(&Chain { length: count })? == Some(&count.wrapping_add(1)))
-}
-
-/// Splits all pairs off by the shortest key.
-fn split_off<R: Print + Clock>(rt: &R, nested: &mut Nested, count: u32) -> Result<Nested, Fault> {
+    tell(rt, line, "for_each_value_mut", start)?;
     let start = Instant::now(rt)?;
-    let part = nested.split_off_prefix(&Chain { length: 1 })?;
-    tell(rt, "split_off_prefix", start)?;
-    expect(nested.is_empty() && part.len() == count as usize)?;
-    Ok(part)
-}
-
-/// Takes all pairs away by the shortest key.
-fn cut<R: Print + Clock>(rt: &R, mut nested: Nested, count: u32) -> Result<(), Fault> {
+    let mut part = nested.split_off_prefix(&b'a')?;
+    tell(rt, line, "split_off_prefix", start)?;
+    ensure!(nested.is_empty() && part.len() == count);
     let start = Instant::now(rt)?;
-    let pairs = nested.remove_prefix(&Chain { length: 1 })?;
-    tell(rt, "remove_prefix", start)?;
-    expect(pairs.len() == count as usize)
+    let pairs = part.remove_prefix(&b'a')?;
+    tell(rt, line, "remove_prefix", start)?;
+    ensure!(pairs.iter().all(|(key, value)| *value > key.len()) && pairs.len() == count);
+    Ok(())
 }

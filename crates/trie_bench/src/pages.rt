@@ -1,51 +1,34 @@
 //! The first pairs below a prefix, by the call that makes a page of them and by a walk.
 
-use crate::fault::Fault;
-use crate::timed::Timed;
+use crate::timed::timed;
+use anyhow::Result;
 use radix_trie::{Trie, TrieCommon};
 use std::rt::Clock;
-use std::time::Instant;
 
 /// How many pairs a page has at most.
 const PAGE: usize = 10;
-/// How often a page is asked for.
-const CALLS: usize = 1_000;
-/// The walk's turns, which take longer.
-const WALKS: usize = 10;
 
-/// Stores the numbers below `count`, and times the first ones of those that begin with a byte of zeros.
-pub fn run<R: Print + Clock + AllocGlobal>(rt: &R, count: u32) -> Result<(), Fault> {
+/// The prefixes of the pages, one byte each.
+const PREFIXES: [u8; 100] = [0; 100];
+
+/// Stores the numbers below `count`, and prints the times of the first ones of those that begin with a byte of zeros.
+pub fn answer<R: Print + Clock + AllocGlobal>(rt: &R, line: &str, count: u32) -> Result<()> {
     let mut trie = Trie::new(rt.alloc());
     for number in 0..count {
         trie.insert(number, number)?;
     }
-    let (page, walk) = (paged(rt, &trie)?, walked(rt, &trie)?);
-    Ok(println!(rt; "pages all {count} {} {}", page.each(), walk.each())?)
-}
-
-/// The times of `first_below`.
-fn paged(clock: &impl Clock, trie: &Trie<u32, u32>) -> Result<Timed, Fault> {
-    let start = Instant::now(clock)?;
-    let mut sum = 0u64;
-    for _ in 0..CALLS {
-        for (_number, value) in trie.first_below(&0u8, PAGE)? {
-            sum = sum.wrapping_add(*value as u64);
+    let page = timed!(rt, "first_below", &PREFIXES, |prefix| {
+        let page = trie.first_below(prefix, PAGE)?;
+        page.iter()
+            .fold(0, |sum: u64, (_, value)| sum.wrapping_add(**value as u64))
+    });
+    let walk = timed!(rt, "walk", &PREFIXES, |prefix| {
+        match trie.get_raw_descendant(prefix)? {
+            Some(view) => TrieCommon::values(&view)?
+                .take(PAGE)
+                .fold(0, |sum: u64, value| sum.wrapping_add(*value as u64)),
+            None => 0,
         }
-    }
-    Timed::since(clock, start, CALLS, sum)
-}
-
-/// The times of a view's walk over as many pairs.
-fn walked(clock: &impl Clock, trie: &Trie<u32, u32>) -> Result<Timed, Fault> {
-    let start = Instant::now(clock)?;
-    let mut sum = 0u64;
-    for _ in 0..WALKS {
-        let Some(view) = trie.get_raw_descendant(&0u8)? else {
-            continue;
-        };
-        for value in TrieCommon::values(&view)?.take(PAGE) {
-            sum = sum.wrapping_add(*value as u64);
-        }
-    }
-    Timed::since(clock, start, WALKS, sum)
+    });
+    page.print_beside(rt, line, &walk)
 }

@@ -1,83 +1,205 @@
-//! The answer to a line: a row of times, or memory held.
+//! The rows of a sample: each call of a trie and of a map of the same keys.
 
-use crate::fault::Fault;
 use crate::keys::{Beginning, Stored};
-use crate::measure::{filled, measure};
-use crate::request::{Call, Held, Kind, Question, Request};
-use crate::sample::{Sample, address_sample, text_sample, texts};
-use crate::store::Store;
-use crate::{nested, pages, routes};
-use radix_trie::{Trie, TrieKey};
-use std::alloc::Global;
+use crate::sample::{Query, generator};
+use crate::timed::{Times, timed};
+use anyhow::{Result, bail, ensure};
+use radix_trie::{Trie, TrieCommon, TrieKey};
+use rand::seq::SliceRandom;
 use std::collections::BTreeMap;
 use std::rt::Clock;
+use std::time::Instant;
+
+/// How many prefixes are asked for what is below them, at most.
+const BEGINNINGS: usize = 10_000;
+
+/// How many pairs below a prefix are walked at most.
+const SHOWN: usize = 10;
 
 /// How many pairs are held at least, in as many stores as it takes.
 const HELD: usize = 1_000_000;
 
-/// Answers a line.
-pub fn answer<R: Print + Clock + AllocGlobal>(rt: &R, line: &str) -> Result<(), Fault> {
-    let Request { kind, call, count } = Request::parse(line)?;
-    match (kind, call) {
-        (Kind::Chain, Call::All) => nested::run(rt, count),
-        (Kind::Routes, Call::All) => routes::run(rt, count),
-        (Kind::Pages, Call::All) => pages::run(rt, count),
-        (Kind::Chain | Kind::Routes | Kind::Pages, _) | (_, Call::All) => Err(Fault::Line),
-        (Kind::Addresses, _) => row(rt, line, call, &address_sample(rt.alloc(), count)?),
-        (Kind::Texts(style), _) => {
-            let texts = texts(rt.alloc(), style, count)?;
-            let sample = text_sample(rt.alloc(), style, texts.as_slice())?;
-            row(rt, line, call, &sample)
-        }
-    }
-}
-
-/// Measures the call of the trie and of the map on the same sample.
-fn row<R: Print + Clock + AllocGlobal, K: Stored, L: TrieKey, B: Beginning<K>>(
+/// Prints the times of all calls, or holds what is named and tells how many pairs it has.
+pub fn answer<R: Print + Clock + AllocGlobal, K: Stored, L: TrieKey, B: Beginning<K>>(
     rt: &R,
     line: &str,
-    call: Call,
-    sample: &Sample<K, L, B>,
-) -> Result<(), Fault> {
-    if let Call::Hold(held) = call {
-        return hold(rt, line.trim(), held, sample.stored.as_slice());
-    }
-    let trie = measure::<K, L, B, Trie<K, u64>>(rt, call, sample)?;
-    let map = measure::<K, L, B, BTreeMap<K, u64>>(rt, call, sample)?;
-    if !trie.agrees(&map) {
-        return Err(Fault::Differs);
-    }
-    let line = line.trim();
-    match call {
-        Call::Ask(Question::Prefix) => println!(rt; "{line} {} -", trie.each())?,
-        _ => println!(rt; "{line} {} {}", trie.each(), map.each())?,
-    }
-    Ok(())
-}
-
-/// Makes what is to be held, and tells how many pairs it has before it is dropped.
-fn hold<R: Print + AllocGlobal, K: Stored>(
-    rt: &R,
-    line: &str,
-    held: Held,
-    keys: &[K],
-) -> Result<(), Fault> {
+    held: Option<&str>,
+    queries: &mut [Query<K, L, B>],
+) -> Result<()> {
+    let stores = HELD.checked_div(queries.len()).unwrap_or(0).max(1);
     let pairs = match held {
-        Held::Keys => 0,
-        Held::Trie => pairs_held::<K, Trie<K, u64>>(rt.alloc(), keys)?,
-        Held::Map => pairs_held::<K, BTreeMap<K, u64>>(rt.alloc(), keys)?,
+        None => return print_rows(rt, line, queries),
+        Some("keys") => 0,
+        Some("trie") => tries_held(rt, stores, queries)?,
+        Some("map") => maps_held(rt, stores, queries)?,
+        Some(other) => bail!("nothing to hold: {other}"),
     };
     Ok(println!(rt; "{line} {pairs}")?)
 }
 
-/// Makes so many stores of the keys that the program's own memory counts for little, and tells how many pairs they have.
-fn pairs_held<K: Stored, S: Store<K>>(alloc: Global, keys: &[K]) -> Result<usize, Fault> {
-    let mut stores = Vec::new(alloc);
+/// Prints the times of all calls. After the insertions, the keys are asked about in another order.
+fn print_rows<R: Print + Clock + AllocGlobal, K: Stored, L: TrieKey, B: Beginning<K>>(
+    rt: &R,
+    line: &str,
+    queries: &mut [Query<K, L, B>],
+) -> Result<()> {
+    let (trie, of_trie) = filled_trie(rt, queries)?;
+    let (map, of_map) = filled_map(rt, queries)?;
+    of_trie.print_beside(rt, line, &of_map)?;
+    queries.shuffle(&mut generator());
+    let of_trie = trie_rows(rt, trie, queries)?;
+    let of_map = map_rows(rt, map, queries)?;
+    for (trie, map) in of_trie.iter().zip(&of_map) {
+        trie.print_beside(rt, line, map)?;
+    }
+    Ok(())
+}
+
+/// A trie of the keys, and the times of the insertions.
+fn filled_trie<K: Stored, L, B>(
+    rt: &(impl Clock + AllocGlobal),
+    queries: &[Query<K, L, B>],
+) -> Result<(Trie<K, u64>, Times)> {
+    let mut trie = Trie::new(rt.alloc());
+    let insert = timed!(rt, "insert", queries, |query| {
+        trie.insert(query.key, query.value)?.unwrap_or(0)
+    });
+    Ok((trie, insert))
+}
+
+/// The times of the other calls of a trie.
+fn trie_rows<K: Stored, L: TrieKey, B: Beginning<K>>(
+    rt: &(impl Clock + AllocGlobal),
+    mut trie: Trie<K, u64>,
+    queries: &[Query<K, L, B>],
+) -> Result<Vec<Times>> {
+    let get = timed!(rt, "get", queries, |query| value_of(trie.get(&query.key)?));
+    let absent = timed!(
+        rt,
+        "absent",
+        queries,
+        |query| value_of(trie.get(&query.absent)?)
+    );
+    let prefix = timed!(rt, "prefix", queries, |query| {
+        value_of(trie.get_ancestor_value(&query.longer)?)
+    });
+    let few = queries.get(..BEGINNINGS).unwrap_or(queries);
+    let below = timed!(rt, "below", few, |query| {
+        match trie.get_raw_descendant(&query.beginning)? {
+            Some(view) => TrieCommon::values(&view)?.take(SHOWN).fold(0, add),
+            None => 0,
+        }
+    });
+    let start = Instant::now(rt)?;
+    let sum = TrieCommon::values(&trie)?.fold(0, add);
+    let walk = Times::since(rt, "walk", start, trie.len(), sum)?;
+    let start = Instant::now(rt)?;
+    let copy = trie.clone()?;
+    let clone = Times::since(rt, "clone", start, trie.len(), 0)?;
+    ensure!(copy == trie);
+    let remove = timed!(
+        rt,
+        "remove",
+        queries,
+        |query| trie.remove(&query.key)?.unwrap_or(0)
+    );
+    Ok(vec![in rt.alloc(); get, absent, prefix, below, walk, clone, remove]?)
+}
+
+/// A map of the keys, and the times of the insertions.
+fn filled_map<K: Stored, L, B>(
+    rt: &(impl Clock + AllocGlobal),
+    queries: &[Query<K, L, B>],
+) -> Result<(BTreeMap<K, u64>, Times)> {
+    let mut map = BTreeMap::new(rt.alloc());
+    let insert = timed!(rt, "insert", queries, |query| {
+        map.insert(query.key, query.value)?.unwrap_or(0)
+    });
+    Ok((map, insert))
+}
+
+/// The times of the other calls of a map. It has none for a longest prefix, so it is asked for the key that this is.
+fn map_rows<K: Stored, L, B: Beginning<K>>(
+    rt: &(impl Clock + AllocGlobal),
+    mut map: BTreeMap<K, u64>,
+    queries: &[Query<K, L, B>],
+) -> Result<Vec<Times>> {
+    let get = timed!(rt, "get", queries, |query| value_of(map.get(&query.key)));
+    let absent = timed!(
+        rt,
+        "absent",
+        queries,
+        |query| value_of(map.get(&query.absent))
+    );
+    let prefix = timed!(rt, "prefix", queries, |query| value_of(map.get(&query.key)));
+    let few = queries.get(..BEGINNINGS).unwrap_or(queries);
+    let below = timed!(rt, "below", few, |query| sum_below(&map, query));
+    let start = Instant::now(rt)?;
+    let sum = map.values().fold(0, add);
+    let walk = Times::since(rt, "walk", start, map.len(), sum)?;
+    let start = Instant::now(rt)?;
+    let copy = map.clone()?;
+    let clone = Times::since(rt, "clone", start, map.len(), 0)?;
+    ensure!(copy == map);
+    let remove = timed!(
+        rt,
+        "remove",
+        queries,
+        |query| map.remove(&query.key).unwrap_or(0)
+    );
+    Ok(vec![in rt.alloc(); get, absent, prefix, below, walk, clone, remove]?)
+}
+
+/// A value that was found, and 0 where none was.
+fn value_of(found: Option<&u64>) -> u64 {
+    found.copied().unwrap_or(0)
+}
+
+/// The sum of the first values below a prefix.
+fn sum_below<K: Stored, L, B: Beginning<K>>(map: &BTreeMap<K, u64>, query: &Query<K, L, B>) -> u64 {
+    let mut sum = 0;
+    for (key, value) in map.range(query.first..).take(SHOWN) {
+        if !query.beginning.begins(key) {
+            break;
+        }
+        sum = add(sum, value);
+    }
+    sum
+}
+
+/// The sum of so many numbers and of this one.
+fn add(sum: u64, value: &u64) -> u64 {
+    sum.wrapping_add(*value)
+}
+
+/// Makes so many tries of the keys that the program's own memory counts for little, and tells how many pairs they have.
+fn tries_held<K: Stored, L, B>(
+    rt: &(impl Clock + AllocGlobal),
+    stores: usize,
+    queries: &[Query<K, L, B>],
+) -> Result<usize> {
+    let mut tries = Vec::new(rt.alloc());
     let mut pairs = 0usize;
-    for _ in 0..HELD.checked_div(keys.len()).unwrap_or(0).max(1) {
-        let (store, _sum): (S, u64) = filled(alloc, keys)?;
-        pairs = pairs.saturating_add(store.pairs());
-        stores.push(store)?;
+    for _ in 0..stores {
+        let (trie, _) = filled_trie(rt, queries)?;
+        pairs = pairs.saturating_add(trie.len());
+        tries.push(trie)?;
+    }
+    Ok(pairs)
+}
+
+/// The same of maps.
+fn maps_held<K: Stored, L, B>(
+    rt: &(impl Clock + AllocGlobal),
+    stores: usize,
+    queries: &[Query<K, L, B>],
+) -> Result<usize> {
+    let mut maps = Vec::new(rt.alloc());
+    let mut pairs = 0usize;
+    for _ in 0..stores {
+        let (map, _) = filled_map(rt, queries)?;
+        pairs = pairs.saturating_add(map.len());
+        maps.push(map)?;
     }
     Ok(pairs)
 }

@@ -1,36 +1,52 @@
 //! The keys of a run, and what is asked about each of them.
 
-use crate::random::{below, generator, pick, shuffle};
-use crate::request::Style;
-use rand_core::Rng;
+use rand::RngExt;
+use rand::seq::IndexedRandom;
+use rand_core::{Rng, SeedableRng};
 use rand_xoshiro::SplitMix64;
 use std::alloc::{AllocError, Global};
 
-/// A stored key, and what is asked about it.
+/// A stored key and its value, and what is asked about the key.
 #[derive(Clone, Copy)]
 pub struct Query<K, L, B> {
     /// The key itself.
     pub key: K,
+    /// A number of its own.
+    pub value: u64,
     /// A key that isn't stored.
     pub absent: K,
     /// A key that goes on from the stored one, and of whose prefixes no longer one is stored.
     pub longer: L,
     /// The beginning of the key.
     pub beginning: B,
+    /// The first key that can begin so.
+    pub first: K,
 }
 
-/// Keys in the order in which they are stored, and queries about them in another order.
+/// What is asked about the key of a text: all of these are parts of it.
+pub type TextQuery<'a> = Query<&'a [u8], &'a [u8], &'a [u8]>;
+
+/// What is asked about an address, from which a port goes on, and which begins with its network.
+pub type AddressQuery = Query<u32, u64, u16>;
+
+/// What texts are like.
+#[derive(Clone, Copy, PartialEq, Eq, Debug)]
+pub enum Style {
+    /// Short made words.
+    Words,
+    /// Paths of files, with long shared prefixes.
+    Paths,
+    /// Decimal numbers.
+    Numbers,
+}
+
+/// A text: the bytes of a key, and one letter more that no key has.
 #[derive(Drop)]
-pub struct Sample<K, L, B> {
-    pub stored: Vec<K>,
-    pub queries: Vec<Query<K, L, B>>,
+pub struct Text {
+    whole: String,
+    value: u64,
+    beginning: usize,
 }
-
-/// A sample of texts, each of which has the bytes of a key and one letter more that no key has.
-pub type Texts<'a> = Sample<&'a [u8], &'a [u8], &'a [u8]>;
-
-/// A sample of addresses: its keys are even, a port goes on from an address, and it begins with its network.
-pub type Addresses = Sample<u32, u64, u16>;
 
 const SYLLABLES: &'static [&'static str] = &[
     "an", "be", "co", "de", "er", "fi", "ga", "ho", "in", "jo", "ka", "lo", "mi", "no", "or", "pe",
@@ -50,89 +66,88 @@ const FOLDERS: &'static [&'static str] = &[
     "doc",
 ];
 
-/// So many texts: a key each, and one letter more.
-pub fn texts(alloc: Global, style: Style, count: u32) -> Result<Vec<String>, AllocError> {
+/// The generator of every run, whose numbers are the same in each.
+pub fn generator() -> SplitMix64 {
+    SplitMix64::seed_from_u64(7)
+}
+
+/// So many texts.
+pub fn texts(alloc: Global, style: Style, count: u32) -> Result<Vec<Text>, AllocError> {
     let mut random = generator();
     let mut texts = Vec::new(alloc);
-    for _ in 0..count {
-        let mut text = String::new(alloc);
-        match style {
-            Style::Words => add_word(&mut text, &mut random)?,
-            Style::Paths => add_path(&mut text, &mut random, count)?,
-            Style::Numbers => write!(text, "{}", below(&mut random, count as u64 * 10))?,
-        }
-        text.push('x')?;
-        texts.push(text)?;
+    for i in 0..count {
+        let mut whole = String::new(alloc);
+        let beginning = match style {
+            Style::Words => add_word(&mut whole, &mut random)?,
+            Style::Paths => add_path(&mut whole, &mut random, count)?,
+            Style::Numbers => add_number(&mut whole, &mut random, count)?,
+        };
+        whole.push('x')?;
+        let value = i as u64 + 1;
+        texts.push(Text {
+            whole,
+            value,
+            beginning,
+        })?;
     }
     Ok(texts)
 }
 
-fn add_word(text: &mut String, random: &mut SplitMix64) -> Result<(), AllocError> {
-    for _ in 0..2 + random.next_u64() % 5 {
-        text.push_str(pick(random, SYLLABLES))?;
+/// Adds two to six syllables. The first two of them are the word's beginning, whose length is returned.
+fn add_word(text: &mut String, random: &mut SplitMix64) -> Result<usize, AllocError> {
+    for _ in 0..random.random_range(2u32..=6) {
+        text.push_str(SYLLABLES.choose(random).copied().unwrap_or(""))?;
     }
-    Ok(())
+    Ok(4)
 }
 
-fn add_path(text: &mut String, random: &mut SplitMix64, count: u32) -> Result<(), AllocError> {
-    for _ in 0..3 + random.next_u64() % 6 {
+/// Adds three to eight folders and a file with a number. The folders are the beginning.
+fn add_path(text: &mut String, random: &mut SplitMix64, count: u32) -> Result<usize, AllocError> {
+    for _ in 0..random.random_range(3u32..=8) {
         text.push('/')?;
-        text.push_str(pick(random, FOLDERS))?;
+        text.push_str(FOLDERS.choose(random).copied().unwrap_or(""))?;
     }
-    write!(text, "/{}.txt", below(random, count as u64))
+    let folders = text.len();
+    write!(text, "/{}.txt", random.random_range(0..=count))?;
+    Ok(folders)
 }
 
-/// The sample of these texts.
-pub fn text_sample<'a>(
-    alloc: Global,
-    style: Style,
-    texts: &'a [String],
-) -> Result<Texts<'a>, AllocError> {
-    let mut stored = Vec::new(alloc);
-    let mut queries = Vec::new(alloc);
-    for text in texts {
-        let query = text_query(style, text.as_bytes());
-        stored.push(query.key)?;
-        queries.push(query)?;
-    }
-    shuffle(&mut generator(), queries.as_mut_slice());
-    Ok(Sample { stored, queries })
+/// Adds a number up to ten times the count. It begins with all but two digits.
+fn add_number(text: &mut String, random: &mut SplitMix64, count: u32) -> Result<usize, AllocError> {
+    write!(text, "{}", random.random_range(0..=count as u64 * 10))?;
+    Ok(text.len().saturating_sub(2))
 }
 
-fn text_query<'a>(style: Style, text: &'a [u8]) -> Query<&'a [u8], &'a [u8], &'a [u8]> {
-    let key = text.split_last().map_or(text, |(_, key)| key);
-    let kept = match style {
-        Style::Words => 4,
-        Style::Paths => key.iter().rposition(|byte| *byte == b'/').unwrap_or(0),
-        Style::Numbers => key.len().saturating_sub(2),
-    };
-    Query {
-        key,
-        absent: text,
-        longer: text,
-        beginning: key.get(..kept).unwrap_or(key),
+impl Text {
+    /// What is asked about the text's key.
+    pub fn query(&self) -> TextQuery<'_> {
+        let whole = self.whole.as_bytes();
+        let beginning = whole.get(..self.beginning).unwrap_or(whole);
+        Query {
+            key: whole.split_last().map_or(whole, |(_, key)| key),
+            value: self.value,
+            absent: whole,
+            longer: whole,
+            beginning,
+            first: beginning,
+        }
     }
 }
 
-/// A sample of so many addresses.
-pub fn address_sample(alloc: Global, count: u32) -> Result<Addresses, AllocError> {
+/// What is asked about so many addresses, which are even.
+pub fn addresses(alloc: Global, count: u32) -> Result<Vec<AddressQuery>, AllocError> {
     let mut random = generator();
-    let mut stored = Vec::new(alloc);
     let mut queries = Vec::new(alloc);
-    for _ in 0..count {
-        let key = (random.next_u64() & 0xffff_fffe) as u32;
-        stored.push(key)?;
-        queries.push(address_query(key))?;
+    for i in 0..count {
+        let key = random.next_u32() & 0xffff_fffe;
+        queries.push(Query {
+            key,
+            value: i as u64 + 1,
+            absent: key | 1,
+            longer: (key as u64) << 32,
+            beginning: (key >> 16) as u16,
+            first: key & 0xffff_0000,
+        })?;
     }
-    shuffle(&mut random, queries.as_mut_slice());
-    Ok(Sample { stored, queries })
-}
-
-fn address_query(key: u32) -> Query<u32, u64, u16> {
-    Query {
-        key,
-        absent: key | 1,
-        longer: (key as u64) << 32,
-        beginning: (key >> 16) as u16,
-    }
+    Ok(queries)
 }

@@ -1,47 +1,65 @@
 //! Times of calls.
 
-use crate::fault::Fault;
+use anyhow::{Result, ensure};
 use std::rt::Clock;
-use std::time::Instant;
+use std::time::{Duration, Instant};
 
-/// How long the calls of a run took, and the sum of what they answered.
-#[derive(Clone, Copy)]
-pub struct Timed {
-    pub nanoseconds: u128,
-    pub calls: usize,
-    pub sum: u64,
+/// Makes a call of each item in turn, and gives the times of all of them and the sum of the answers.
+macro_rules! timed {
+    ($clock:expr, $call:literal, $items:expr, |$item:ident| $answer:expr) => {{
+        let items = $items;
+        let start = std::time::Instant::now($clock)?;
+        let mut sum = 0u64;
+        for $item in items {
+            sum = sum.wrapping_add($answer);
+        }
+        $crate::timed::Times::since($clock, $call, start, items.len(), sum)?
+    }};
 }
 
-impl Timed {
-    /// The calls that began then and end now.
+pub(crate) use timed;
+
+/// How long the calls of a row took, and the sum of what they answered.
+#[derive(Clone, Copy)]
+pub struct Times {
+    call: &'static str,
+    took: Duration,
+    calls: usize,
+    sum: u64,
+}
+
+impl Times {
+    /// So many calls that began then and end now.
     pub fn since(
         clock: &impl Clock,
+        call: &'static str,
         start: Instant,
         calls: usize,
         sum: u64,
-    ) -> Result<Timed, Fault> {
-        let nanoseconds = start.elapsed(clock)?.as_nanos();
-        Ok(Timed {
-            nanoseconds,
+    ) -> Result<Times> {
+        let took = start.elapsed(clock)?;
+        Ok(Times {
+            call,
+            took,
             calls,
             sum,
         })
     }
 
-    /// The same times, with another sum.
-    pub fn with_sum(self, sum: u64) -> Timed {
-        Timed { sum, ..self }
-    }
-
     /// The nanoseconds of one call.
-    pub fn each(&self) -> u128 {
-        self.nanoseconds
-            .checked_div(self.calls as u128)
-            .unwrap_or(0)
+    fn each(&self) -> u128 {
+        let calls = self.calls as u128;
+        self.took.as_nanos().checked_div(calls).unwrap_or(0)
     }
 
-    /// Whether the other calls answered the same.
-    pub fn agrees(&self, other: &Timed) -> bool {
-        self.calls == other.calls && self.sum == other.sum
+    /// Prints the times of the trie beside those of the map, or of another call, which has to answer the same.
+    pub fn print_beside(&self, rt: &impl Print, line: &str, other: &Times) -> Result<()> {
+        let same = self.calls == other.calls && self.sum == other.sum;
+        ensure!(same, "{} of {line}: the answers differ", self.call);
+        match self.call {
+            "prefix" => println!(rt; "{line} prefix {} -", self.each())?,
+            call => println!(rt; "{line} {call} {} {}", self.each(), other.each())?,
+        }
+        Ok(())
     }
 }

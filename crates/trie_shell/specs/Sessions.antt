@@ -1,5 +1,5 @@
 -- What a session says of a line; of the shell it says nothing.
-use Rattle.std.specs.Prelude.{◌≡◌, ◌⊎◌, ⊤, ℕ, true, false, List, codes}
+use Rattle.std.specs.Prelude.{◌≡◌, ◌⊎◌, ⊤, ℕ, true, false, List, [], ◌∷◌, ◌++◌, codes}
 use Rattle.std.proofs.Common.{◌∙◌, sym}
 use Rattle.trie_shell.specs.Requests.{is_request}
 
@@ -23,3 +23,21 @@ IsRemark remark =
 -- a line that asks for nothing has no answer
 pub bad_unanswered : (s t : ⊤) (line answer : List ℕ) → IsBad line → ¬ (Replies s line t answer)
 bad_unanswered s t line answer bad good = let both : false ≡ true = sym bad ∙ good in cc
+
+-- of a session that no line ends: the line asks for something, or its answer says why it doesn't
+abbrev pub RepliesToEach : ⊤ → (line : List ℕ) → ⊤ → (answer : List ℕ) → Type 0
+RepliesToEach s line t answer =
+    (is_request line ≡ true)
+    ⊎ (IsBad line × (remark : List ℕ) × IsRemark remark × (answer ≡ remark ++ 10 ∷ []))
+
+-- no line is bad
+abbrev pub IsNever : List ℕ → Type 0
+IsNever line = ⊥
+
+-- nothing is told of a bad line, since there is none
+abbrev pub IsEmpty : List ℕ → Type 0
+IsEmpty remark = remark ≡ []
+
+-- no line is bad, so none of the bad ones has an answer
+pub never_unanswered : (s t : ⊤) (line answer : List ℕ) → IsNever line → ¬ (RepliesToEach s line t answer)
+never_unanswered s t line answer never replied = never

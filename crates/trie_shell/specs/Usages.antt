@@ -22,6 +22,7 @@ usages =
     (codes "last_key_value", 0, 0) ∷
     (codes "get", 1, 1) ∷
     (codes "get_counted", 1, 1) ∷
+    (codes "get_with_cost", 1, 1) ∷
     (codes "contains_key", 1, 1) ∷
     (codes "get_key_value", 1, 1) ∷
     (codes "get_ancestor", 1, 1) ∷
@@ -35,6 +36,7 @@ usages =
     (codes "contains", 1, 1) ∷
     (codes "nearest", 1, 1) ∷
     (codes "nearest_value", 1, 1) ∷
+    (codes "nearest_with_cost", 1, 1) ∷
     (codes "children", 0, 0) ∷
     (codes "footprint", 0, 0) ∷
     (codes "check_integrity", 0, 0) ∷
@@ -81,6 +83,8 @@ usages =
     (codes "ipv4", 2, 3) ∷
     (codes "ipv6", 2, 3) ∷
     (codes "json", 1, many) ∷
+    (codes "save", 2, many) ∷
+    (codes "load", 2, 2) ∷
     (codes "keys", 1, 1) ∷
     (codes "watch", 0, 0) ∷
     (codes "light", 1, many) ∷

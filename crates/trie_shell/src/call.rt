@@ -13,6 +13,7 @@ pub enum Call {
     View(View),
     Tree(Tree),
     Part(Part),
+    File(File),
     Session(Session),
 }
 
@@ -39,6 +40,7 @@ pub enum Common {
 pub enum Keyed {
     Get,
     GetCounted,
+    GetWithCost,
     ContainsKey,
     GetKeyValue,
     GetAncestor,
@@ -57,6 +59,7 @@ pub enum Listed {
     Contains,
     Nearest,
     NearestValue,
+    NearestWithCost,
 }
 
 /// Look-ups of the whole.
@@ -140,6 +143,13 @@ pub enum Part {
     Json,
 }
 
+/// Calls whose answer goes to a file, or whose words come from one.
+#[derive(Clone, Copy)]
+pub enum File {
+    Save,
+    Load,
+}
+
 /// What asks nothing of the library.
 #[derive(Clone, Copy)]
 pub enum Session {
@@ -173,6 +183,7 @@ pub const CALLS: &'static [Usage] = &[
     Usage("last_key_value", 0, 0, Call::Common(Common::LastKeyValue)),
     Usage("get", 1, 1, Call::Keyed(Keyed::Get)),
     Usage("get_counted", 1, 1, Call::Keyed(Keyed::GetCounted)),
+    Usage("get_with_cost", 1, 1, Call::Keyed(Keyed::GetWithCost)),
     Usage("contains_key", 1, 1, Call::Keyed(Keyed::ContainsKey)),
     Usage("get_key_value", 1, 1, Call::Keyed(Keyed::GetKeyValue)),
     Usage("get_ancestor", 1, 1, Call::Keyed(Keyed::GetAncestor)),
@@ -196,6 +207,12 @@ pub const CALLS: &'static [Usage] = &[
     Usage("contains", 1, 1, Call::Listed(Listed::Contains)),
     Usage("nearest", 1, 1, Call::Listed(Listed::Nearest)),
     Usage("nearest_value", 1, 1, Call::Listed(Listed::NearestValue)),
+    Usage(
+        "nearest_with_cost",
+        1,
+        1,
+        Call::Listed(Listed::NearestWithCost),
+    ),
     Usage("children", 0, 0, Call::Whole(Whole::Children)),
     Usage("footprint", 0, 0, Call::Whole(Whole::Footprint)),
     Usage("check_integrity", 0, 0, Call::Whole(Whole::CheckIntegrity)),
@@ -252,6 +269,8 @@ pub const CALLS: &'static [Usage] = &[
     Usage("ipv4", 2, 3, Call::Part(Part::Ipv4)),
     Usage("ipv6", 2, 3, Call::Part(Part::Ipv6)),
     Usage("json", 1, MANY, Call::Part(Part::Json)),
+    Usage("save", 2, MANY, Call::File(File::Save)),
+    Usage("load", 2, 2, Call::File(File::Load)),
     Usage("keys", 1, 1, Call::Session(Session::Keys)),
     Usage("watch", 0, 0, Call::Session(Session::Watch)),
     Usage("light", 1, MANY, Call::Session(Session::Light)),

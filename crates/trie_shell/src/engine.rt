@@ -1,12 +1,14 @@
 //! What a session answers to a line.
+ghost use Rattle.std.specs.Prelude.{◌≡◌, [], ◌∷◌, ◌++◌, IfErr, OnOk};
 ghost use Rattle.std.specs.Process.{exit_status};
 ghost use Rattle.line_sessions.specs.Answers.{IsPrefix};
 ghost use Rattle.line_sessions.specs.Sessions.{Ran};
-ghost use Rattle.trie_shell.specs.Sessions.{GivesUp, IsBad, IsRemark, Replies};
+ghost use Rattle.trie_shell.specs.Sessions.{GivesUp, IsBad, IsEmpty, IsNever, IsRemark, Replies, RepliesToEach};
 
 use crate::answer::Answer;
 use crate::call::{Call, Session};
 use crate::caller::{Caller, make};
+use crate::calls::files::answer_file;
 use crate::calls::lines::{NO_TYPE, NOT_HERE};
 use crate::calls::parts::answer_part;
 use crate::help::answer_help;
@@ -15,35 +17,35 @@ use crate::store::Store;
 use crate::tries::Tries;
 use line_sessions::{Program, Refusal, WatchedReader, WatchedWriter, run};
 use radix_trie::Memory;
-use std::alloc::{AllocError, Global};
+use std::alloc::AllocError;
 use std::io::{Read, Write};
 use std::marker::Model;
 use std::process::ExitCode;
+use std::rt::Files;
 
-/// The tries, whether refusals are told, and what is wrong with the last line that was bad. A
-/// contract sees nothing of it.
+/// The tries, whether refusals are told, and the system's files. A contract sees nothing of it.
 #[derive(Drop)]
-struct Shell {
-    alloc: Global,
+struct Shell<F: Files + AllocGlobal + Drop> {
+    files: F,
     tries: Tries,
     is_watched: bool,
-    reason: Reason,
 }
 
-impl Model for Shell {
-    ghost use Rattle.std.specs.Prelude.{⊤};
+impl<F: Files + AllocGlobal + Drop> Shell<F> {
+    /// A shell with one trie of texts, which holds nothing.
+    fn new(files: F) -> Shell<F> {
+        Shell {
+            tries: Tries::Text(Store::new(files.alloc())),
+            files,
+            is_watched: false,
+        }
+    }
 
-    ghost Value = { ⊤ };
-
-    ghost view = { λ _. tt };
-}
-
-impl Shell {
     /// Answers what asks nothing of the library.
     fn reply(&mut self, call: Session, answer: &mut Answer<'_>) -> Result<(), Memory> {
         match call {
             Session::Watch => self.is_watched = true,
-            Session::Keys => match Tries::of(self.alloc, answer.next_word().unwrap_or("")) {
+            Session::Keys => match Tries::of(answer.alloc(), answer.next_word().unwrap_or("")) {
                 Some(tries) => self.tries = tries,
                 None => return answer.line(NO_TYPE),
             },
@@ -55,13 +57,29 @@ impl Shell {
         }
         answer.line("ok")
     }
+
+    /// Answers a line that asks for something, behind the answers that wait.
+    fn answer(&mut self, request: Request<'_>, answers: &mut Vec<u8>) -> Result<(), Refusal>
+        ensures refused { IfErr result (λ why. why ≡ Refusal.Memory) }
+        ensures kept { IsPrefix answers.old.items answers.new.items }
+    {
+        let Request::Call(call, words) = request else {
+            return Ok(());
+        };
+        let mut answer = Answer::new(self.files.alloc(), words, self.is_watched);
+        if make(self, call, &mut answer).is_err() {
+            return Err(Refusal::Memory);
+        }
+        add(answers, answer.as_bytes()).map_err(|_| Refusal::Memory)
+    }
 }
 
-impl Caller for Shell {
+impl<F: Files + AllocGlobal + Drop> Caller for Shell<F> {
     fn perform(&mut self, call: Call, answer: &mut Answer<'_>) -> Result<(), Memory> {
         match call {
             Call::Session(call) => self.reply(call, answer),
             Call::Part(call) => answer_part(call, answer),
+            Call::File(call) => answer_file(&self.files, &mut self.tries, call, answer),
             call => self.tries.answer(call, answer),
         }
     }
@@ -73,6 +91,7 @@ impl Caller for Shell {
 
 /// Adds bytes. A growth that is refused is tried a second time.
 fn add(out: &mut Vec<u8>, bytes: &[u8]) -> Result<(), AllocError>
+    ensures added { OnOk result (out.new.items ≡ out.old.items ++ bytes.now) }
     ensures kept { IsPrefix out.old.items out.new.items }
 {
     match out.extend_from_slice(bytes) {
@@ -81,7 +100,22 @@ fn add(out: &mut Vec<u8>, bytes: &[u8]) -> Result<(), AllocError>
     }
 }
 
-impl Program for Shell {
+/// A shell that a bad line ends, and what is wrong with the last line that was bad.
+#[derive(Drop)]
+struct Strict<F: Files + AllocGlobal + Drop> {
+    shell: Shell<F>,
+    reason: Reason,
+}
+
+impl<F: Files + AllocGlobal + Drop> Model for Strict<F> {
+    ghost use Rattle.std.specs.Prelude.{⊤};
+
+    ghost Value = { ⊤ };
+
+    ghost view = { λ _. tt };
+}
+
+impl<F: Files + AllocGlobal + Drop> Program for Strict<F> {
     ghost use Rattle.trie_shell.specs.Sessions.{GivesUp, IsBad, IsRemark, Replies, bad_unanswered};
 
     ghost replies = { Replies };
@@ -93,19 +127,13 @@ impl Program for Shell {
     ghost is_remark = { IsRemark };
 
     fn answer(&mut self, line: &[u8], answers: &mut Vec<u8>) -> Result<(), Refusal> {
-        let (call, words) = match request_of(line) {
-            Ok(Request::Call(call, words)) => (call, words),
-            Ok(Request::Remark) => return Ok(()),
+        match request_of(line) {
+            Ok(request) => self.shell.answer(request, answers),
             Err(reason) => {
                 self.reason = reason;
-                return Err(Refusal::Bad);
+                Err(Refusal::Bad)
             }
-        };
-        let mut answer = Answer::new(self.alloc, words, self.is_watched);
-        if make(self, call, &mut answer).is_err() {
-            return Err(Refusal::Memory);
         }
-        add(answers, answer.as_bytes()).map_err(|_| Refusal::Memory)
     }
 
     fn remark(&self) -> &'static str {
@@ -115,10 +143,62 @@ impl Program for Shell {
     ghost bad_is_unanswered = { bad_unanswered };
 }
 
+/// A shell that answers what is wrong with a bad line, and goes on.
+#[derive(Drop)]
+struct Lenient<F: Files + AllocGlobal + Drop> {
+    shell: Shell<F>,
+}
+
+impl<F: Files + AllocGlobal + Drop> Model for Lenient<F> {
+    ghost use Rattle.std.specs.Prelude.{⊤};
+
+    ghost Value = { ⊤ };
+
+    ghost view = { λ _. tt };
+}
+
+impl<F: Files + AllocGlobal + Drop> Program for Lenient<F> {
+    ghost use Rattle.trie_shell.specs.Sessions.{GivesUp, IsEmpty, IsNever, RepliesToEach, never_unanswered};
+
+    ghost replies = { RepliesToEach };
+
+    ghost is_bad = { IsNever };
+
+    ghost gives_up = { GivesUp };
+
+    ghost is_remark = { IsEmpty };
+
+    fn answer(&mut self, line: &[u8], answers: &mut Vec<u8>) -> Result<(), Refusal> {
+        match request_of(line) {
+            Ok(request) => self.shell.answer(request, answers),
+            Err(reason) => add_line(answers, reason.text()),
+        }
+    }
+
+    fn remark(&self) -> &'static str {
+        ""
+    }
+
+    ghost bad_is_unanswered = { never_unanswered };
+}
+
+/// Adds a text and a line feed.
+fn add_line(out: &mut Vec<u8>, text: &str) -> Result<(), Refusal>
+    ensures added { OnOk result (out.new.items ≡ out.old.items ++ (text.now ++ 10 ∷ [])) }
+    ensures refused { IfErr result (λ why. why ≡ Refusal.Memory) }
+    ensures kept { IsPrefix out.old.items out.new.items }
+{
+    match add(out, text.as_bytes()) {
+        Ok(()) => add(out, b"\n").map_err(|_| Refusal::Memory),
+        Err(_) => Err(Refusal::Memory),
+    }
+}
+
 /// The whole program: a session that begins with one trie of texts, and then the line on standard
-/// error that tells its fault, where there is one. Gives the status to exit with.
-pub fn answer_all<R: Read, W: Write, E: Write>(
-    alloc: Global,
+/// error that tells its fault, where there is one. A bad line ends it. Gives the status to exit
+/// with.
+pub fn answer_all<F: Files + AllocGlobal + Drop, R: Read, W: Write, E: Write>(
+    files: F,
     reader: &mut WatchedReader<R>,
     writer: &mut WatchedWriter<W>,
     errors: &mut WatchedWriter<E>,
@@ -126,11 +206,27 @@ pub fn answer_all<R: Read, W: Write, E: Write>(
     ensures { Ran Replies IsBad GivesUp IsRemark reader.old reader.new
         writer.old writer.new errors.old errors.new tt (exit_status result) }
 {
-    let shell = Shell {
-        alloc,
-        tries: Tries::Text(Store::new(alloc)),
-        is_watched: false,
+    let alloc = files.alloc();
+    let strict = Strict {
+        shell: Shell::new(files),
         reason: Reason::NoCall,
     };
-    run(alloc, shell, reader, writer, errors)
+    run(alloc, strict, reader, writer, errors)
+}
+
+/// The same program, but no line ends it: where one is bad, its answer says why.
+pub fn answer_each<F: Files + AllocGlobal + Drop, R: Read, W: Write, E: Write>(
+    files: F,
+    reader: &mut WatchedReader<R>,
+    writer: &mut WatchedWriter<W>,
+    errors: &mut WatchedWriter<E>,
+) -> ExitCode
+    ensures { Ran RepliesToEach IsNever GivesUp IsEmpty reader.old reader.new
+        writer.old writer.new errors.old errors.new tt (exit_status result) }
+{
+    let alloc = files.alloc();
+    let lenient = Lenient {
+        shell: Shell::new(files),
+    };
+    run(alloc, lenient, reader, writer, errors)
 }

@@ -9,6 +9,7 @@ const HELP: &'static str = "\
 insert KEY VALUE: stores a pair. The old value, or none; outside, in a view.\n\
 get KEY: the value at the key, or none; outside, in a view.\n\
 get_counted KEY: the value, or none, and how many nibbles were compared.\n\
+get_with_cost KEY: the value, or none, how many nodes were visited, and how many nibbles compared.\n\
 contains_key KEY: true where the key is stored, else false.\n\
 get_key_value KEY: the stored pair, or none.\n\
 get_mut KEY VALUE: writes a stored value. The old one, or none.\n\
@@ -18,6 +19,7 @@ at_mut LIST VALUE: writes the value at the list. The old one, or none.\n\
 contains LIST: true where the list is stored, else false.\n\
 nearest LIST: the pair at its longest stored prefix, or none.\n\
 nearest_value LIST: the value of that pair, or none.\n\
+nearest_with_cost LIST: that pair, or none, how many nodes were visited, and nibbles compared.\n\
 remove KEY: takes a pair. Its value, or none; outside, in a view.\n\
 remove_entry KEY: takes a pair. The pair, or none.\n\
 remove_prefix KEY: takes all pairs at and below the key. The pairs, or none; outside, in a view.\n\
@@ -105,6 +107,8 @@ clone NAME: a copy of the current trie, under this name.\n\
 == NAME: true where the two tries are equal, else false.\n\
 keys TYPE: begins with a trie of this type of keys: text, bytes, nibbles, u8, u16, u32, u64,\n\
 keys TYPE: u128, usize, i8, i16, i32, i64, i128, isize, bool, char, bits, ipv4, ipv6.\n\
+save FILE CALL ..: writes what the call of a trie or a view answers to the file, anew; no file.\n\
+load FILE CALL: makes the call with the words of the file behind it; no file.\n\
 draw: the tree, a point on each line: its fragment, and its pair, or a star where none is stored.\n\
 draw KEY: the same from the key's point on, or none.\n\
 dot: the tree as a graph for graphviz.\n\

@@ -9,19 +9,34 @@ mod calls;
 mod engine;
 mod help;
 mod keys;
+mod prompt;
 mod request;
+mod start;
 mod store;
 mod tries;
 mod words;
 
-use crate::engine::answer_all;
+use crate::engine::{answer_all, answer_each};
+use crate::prompt::Prompting;
+use crate::start::{USAGE, goes_on};
 use line_sessions::{WatchedReader, WatchedWriter};
 use std::io;
+use std::io::IsTerminal;
 use std::process::ExitCode;
 
 fn main(rt: HostRuntime) -> ExitCode {
-    let mut reader = WatchedReader::new(rt.reader());
+    let is_terminal = rt.stdin().is_terminal();
+    let Some(is_asked) = goes_on(&rt) else {
+        let _told = eprintln!(rt; "{USAGE}");
+        return ExitCode::from(5);
+    };
+    let prompts = if is_terminal { Some(rt.stderr()) } else { None };
+    let mut reader = WatchedReader::new(Prompting::new(rt.reader(), prompts));
     let mut writer = WatchedWriter::new(io::writer(&rt));
     let mut errors = WatchedWriter::new(rt.stderr());
-    answer_all(rt.alloc(), &mut reader, &mut writer, &mut errors)
+    if is_terminal || is_asked {
+        answer_each(&rt, &mut reader, &mut writer, &mut errors)
+    } else {
+        answer_all(&rt, &mut reader, &mut writer, &mut errors)
+    }
 }

@@ -35,6 +35,12 @@ fn answer_at<K: ShellKey, Q: TrieKey>(
             answer.value(found.copied())?;
             answer.count_line(count)
         }
+        Keyed::GetWithCost => {
+            let (found, cost) = trie.get_with_cost(key)?;
+            answer.value(found.copied())?;
+            answer.number(cost.nodes as u128)?;
+            answer.count_line(cost.nibbles)
+        }
         Keyed::ContainsKey => answer.truth_line(trie.contains_key(key)?),
         Keyed::GetKeyValue => pair_line(answer, trie.get_key_value(key)?),
         Keyed::GetAncestorValue => answer.value_line(trie.get_ancestor_value(key)?.copied()),
@@ -77,6 +83,18 @@ pub fn answer_listed<K: ShellKey>(
         Listed::Contains => answer.truth_line(trie.contains(&list)),
         Listed::Nearest => pair_line(answer, trie.nearest(&list)),
         Listed::NearestValue => answer.value_line(trie.nearest_value(&list).copied()),
+        Listed::NearestWithCost => {
+            let (pair, cost) = trie.nearest_with_cost(&list);
+            match pair {
+                Some((key, value)) => {
+                    answer.key(key)?;
+                    answer.number(*value as u128)?;
+                }
+                None => answer.word(NONE)?,
+            }
+            answer.number(cost.nodes as u128)?;
+            answer.count_line(cost.nibbles)
+        }
     }
 }
 

@@ -98,6 +98,10 @@ class Trie:
         common = max((len(agreed(at, it)) for it in self.lists), default=0)
         return common + (common < len(at) and at[:common] not in self.points)
 
+    def visited(self, at):
+        """How many nodes a search visits: those at the points that begin its list."""
+        return len(beginnings(self.points, at))
+
     def footprint(self):
         """The counts of points, and of lists but the empty one that begin stored ones."""
         steps = itertools.pairwise(["", *self.lists])
@@ -216,6 +220,7 @@ OF_WRITERS = {
 }
 OF_TRIES = {
     "get_counted": ("Q", lambda v, at: f"{value(v.pairs.get(at))} {v.trie.compared(at)}"),
+    "get_with_cost": ("Q", lambda v, at: f"{value(v.pairs.get(at))} {v.trie.visited(at)} {v.trie.compared(at)}"),
     "contains_key": ("Q", lambda v, at: truth(at in v.pairs)),
     "get_key_value": ("Q", lambda v, at: both(v.pairs.get(at))),
     "get_ancestor": ("Q", lambda v, at: rows(map(v.trie.view, beginnings(v.trie.lists, at)[-1:]))),
@@ -229,6 +234,7 @@ OF_TRIES = {
     "contains": ("L", lambda v, at: truth(at in v.pairs)),
     "nearest": ("L", lambda v, at: both(v.trie.above(at))),
     "nearest_value": ("L", lambda v, at: value(v.trie.above(at))),
+    "nearest_with_cost": ("L", lambda v, at: f"{both(v.trie.above(at))} {v.trie.visited(at)} {v.trie.compared(at)}"),
     "footprint": ("", lambda v: " ".join(map(str, v.trie.footprint()))),
     "check_integrity": ("", lambda v: "true"),
     "remove_entry": ("Q", lambda v, at: both(v.trie.change(at))),

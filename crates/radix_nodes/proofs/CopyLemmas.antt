@@ -3,3 +3,4 @@ pub mod Same
 pub mod Copies
 pub mod Turned
 pub mod Values
+pub mod Moves

@@ -1,16 +1,23 @@
 -- Copies of children, one by one.
-use Rattle.std.proofs.Common.{◌≡◌, ℕ, ◌+◌, ◌<◌, ◌≤◌, List, [], ◌∷◌, ◌++◌, Vec, length, get_or, take, None, refl, ap, sym, subst, ◌∙◌}
+use Rattle.std.proofs.Common.{◌≡◌, ℕ, ◌+◌, ◌<◌, ◌≤◌, List, [], ◌∷◌, ◌++◌, Vec, length, get_or, take, None, Result, Ok, Err, refl, ap, sym, subst, ◌∙◌}
 use Rattle.std.proofs.lemmas.List.{take_more, take_all}
+use Rattle.std.specs.Result.{IsOk, OnOk}
 use Rattle.std.specs.declared.boxed.Box.{Box}
 use Rattle.std.specs.declared.alloc.Global.{Global}
 use Rattle.masked_tree.specs.Tree.{Tree, Children, none, more, front}
 use Rattle.masked_tree.specs.Same.{IsPairCopy, AreChildCopies, IsCopy}
 use Rattle.masked_tree.specs.Turned.{append}
+use Rattle.nibble_map.proofs.MapLemmas.SameTests.{anything_of_false}
 use Rattle.radix_nodes.specs.declared.trie_node.KeyValue.{KeyValue}
 use Rattle.radix_nodes.specs.declared.trie_node.TrieNode.{TrieNode, roll-TrieNode}
 use Rattle.radix_nodes.specs.Copies.{IsBareCopy}
 use Rattle.radix_nodes.specs.Nodes.{tree_of, children_of, out_of, unboxed}
 use Rattle.radix_nodes.proofs.NodeLemmas.Nodes.{tree_of-roll, children-tree_of, pair-tree_of, fragment-tree_of, mask-tree_of}
+
+-- what holds where a call succeeds holds once it did
+pub done : {T E P : Type 0} (r : Result T E) → IsOk r → OnOk r P → P
+done (Ok x) ok p = p
+done (Err e) ok p = anything_of_false ok
 
 module _ {K V : Type 0} (n : TrieNode K V) where
   -- a node without children or without a pair, as its fields say it

@@ -91,7 +91,7 @@ fn boxed_alone<K, L: CopyOf<K>, V: Clone>(
 
 // Adds a copy, or drops it where the copies below it were refused: out of line, since a drop takes a node's place on the stack.
 #[inline(never)]
-fn push_copy<L: Drop, V: Drop>(
+pub(super) fn push_copy<L: Drop, V: Drop>(
     copies: &mut Vec<Box<TrieNode<L, V>>>,
     copy: Box<TrieNode<L, V>>,
     below: Result<(), Memory>,

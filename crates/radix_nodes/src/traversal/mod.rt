@@ -4,6 +4,7 @@ pub mod answers;
 pub mod ascending;
 pub mod branch;
 pub mod checker;
+pub mod compact;
 pub mod compare;
 pub mod copied;
 pub mod cut;

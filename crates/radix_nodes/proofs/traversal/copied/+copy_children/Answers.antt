@@ -1,19 +1,12 @@
-use Rattle.std.proofs.Common.{Result, Ok, Err, sym, subst, arith}
-use Rattle.std.specs.Result.{IsOk, OnOk}
+use Rattle.std.proofs.Common.{sym, subst, arith}
 use Rattle.masked_tree.specs.Same.{AreChildCopies}
 use Rattle.radix_nodes.specs.Copies.{IsKeyValueCopy, IsBareCopy}
 use Rattle.radix_nodes.specs.Nodes.{tree_of, children_of, out_of}
-use Rattle.radix_nodes.proofs.CopyLemmas.Copies.{none_copied, one_more_is_copied, bare_copied, all_are_copied, length-no_children}
+use Rattle.radix_nodes.proofs.CopyLemmas.Copies.{done, none_copied, one_more_is_copied, bare_copied, all_are_copied, length-no_children}
 use Rattle.radix_nodes.proofs.traversal.copied.+copy_children.Goals as goal
-use Rattle.nibble_map.proofs.MapLemmas.SameTests.{anything_of_false}
 
 pub loop-i-init : goal.loop-i-init
 loop-i-init g t c = none_copied (IsKeyValueCopy g.L.CopyOf.is_copy g.V.Clone.is_clone) (out_of c.args.node.now).children.items c.args.copies.now.items c.requires
-
--- What holds where a call succeeds holds once it did.
-done : {T E P : Type 0} (r : Result T E) → IsOk r → OnOk r P → P
-done (Ok x) ok p = p
-done (Err e) ok p = anything_of_false ok
 
 pub loop-i-preserved : goal.loop-i-preserved
 loop-i-preserved g t c =

@@ -58,6 +58,7 @@ fn blank_children<K: Drop, V: Drop>(
 }
 
 // What a node holds, apart from its children, and what another does change places.
+#[inline(never)]
 fn swap_own<K, V>(from: &mut TrieNode<K, V>, into: &mut TrieNode<K, V>)
     ensures fragment { (out_of into.new).fragment ≡ (out_of from.old).fragment }
     ensures pair { (out_of into.new).pair ≡ (out_of from.old).pair }
@@ -70,14 +71,14 @@ fn swap_own<K, V>(from: &mut TrieNode<K, V>, into: &mut TrieNode<K, V>)
     mem::swap(&mut from.mask, &mut into.mask);
 }
 
-// What a node and all below it hold goes to the nodes of a tree of the same shape.
-fn settle<K, V>(from: &mut TrieNode<K, V>, into: &mut TrieNode<K, V>)
+// What a node and all below it hold goes to the nodes of a tree of the same shape. A level takes stack for references alone.
+fn move_contents<K, V>(from: &mut TrieNode<K, V>, into: &mut TrieNode<K, V>)
     requires { HaveSameShape (tree_of from.old).children (tree_of into.old).children }
     ensures { tree_of into.new ≡ tree_of from.old }
 {
     swap_own(from, into);
     for i in 0..from.children.len() {
-        settle(&mut from.children[i], &mut into.children[i]);
+        move_contents(&mut from.children[i], &mut into.children[i]);
     }
 }
 
@@ -91,7 +92,7 @@ pub fn lay_anew<K: Drop, V: Drop>(root: &mut TrieNode<K, V>, alloc: Global) -> R
 {
     let mut blank = blank_alone(root, alloc)?;
     blank_children(root, alloc, &mut blank.children)?;
-    settle(root, &mut blank);
+    move_contents(root, &mut blank);
     *root = blank;
     Ok(())
 }

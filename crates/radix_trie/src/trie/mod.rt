@@ -23,6 +23,7 @@ use std::marker::Model;
 
 mod ascending;
 mod building;
+mod compact;
 mod counted;
 pub(crate) mod edit;
 mod equality;

@@ -6,7 +6,7 @@ use Rattle.radix_nodes.specs.Nodes.{tree_of, out_of}
 use Rattle.radix_nodes.specs.Shapes.{HaveSameShape}
 use Rattle.radix_nodes.proofs.NodeLemmas.Sizes.{child_is_smaller}
 use Rattle.radix_nodes.proofs.CopyLemmas.Moves.{moves_start, within_other, within_old, old_box, shaped_at, moves_next, moves_all}
-use Rattle.radix_nodes.proofs.traversal.compact.+settle.Goals as goal
+use Rattle.radix_nodes.proofs.traversal.compact.+move_contents.Goals as goal
 
 pub loop-i-init : goal.loop-i-init
 loop-i-init g t c = record {
@@ -20,8 +20,8 @@ index_mut-requires-in-loop-i g t c =
     let other = within_other c.loop-i.i c.args.from.now c.loop-i.from c.loop-i.into c.loop-i.invariant.before inside in
     omega (arith, other, (out_of c.loop-i.into).children.ok.0)
 
-pub settle-requires : goal.settle-requires
-settle-requires g t c κs within =
+pub move_contents-requires : goal.move_contents-requires
+move_contents-requires g t c κs within =
     let n = c.args.from.now in
     let i = c.loop-i.i in
     let f = c.loop-i.from in
@@ -52,8 +52,8 @@ loop-i-preserved g t c =
     let whole = out-roll-TrieNode g.row.K.Denot g.row.V.Denot _ in
     let given = ap (λ x. x.children.items) left in
     let next = moves_next i n f m c.loop-i.invariant.before b d inside (sym c.index_mut.ensures.value) (sym c.index_mut-in-loop-i.ensures.value) _ _
-    (with_value b c.settle.new.from) (with_value d c.settle.new.into) (ap (λ x. x.fragment) whole) (ap (λ x. x.pair) whole) (ap (λ x. x.mask) whole)
-    given (ap (λ x. x.children.items) whole) (c.settle.ensures ∙ ap (λ z. tree_of z) c.deref_mut.ensures.value) in
+    (with_value b c.move_contents.new.from) (with_value d c.move_contents.new.into) (ap (λ x. x.fragment) whole) (ap (λ x. x.pair) whole) (ap (λ x. x.mask) whole)
+    given (ap (λ x. x.children.items) whole) (c.move_contents.ensures ∙ ap (λ z. tree_of z) c.deref_mut.ensures.value) in
     record {
       kept = next.count ∙ sym c.loop-i.invariant.before.count ∙ c.loop-i.invariant.kept;
       before = next;

@@ -1,5 +1,5 @@
 -- What a node stands for.
-use Rattle.std.specs.Prelude.{◌≡◌, ℕ, ◌+◌, ◌≤◌, ◌<◌, ◌^◌, vec_len, length, take, drop, ◌-◌, slice_index, ◌++◌, List, [], map, Option, Some, None, MatchOption, Result, Ok, Err}
+use Rattle.std.specs.Prelude.{◌≡◌, ℕ, ◌+◌, ◌≤◌, ◌<◌, ◌^◌, ◌⊎◌, vec_len, length, take, drop, ◌-◌, slice_index, ◌++◌, List, [], ◌∷◌, map, Option, Some, None, MatchOption, Result, Ok, Err}
 use Rattle.std.specs.Vec.{vec_capacity}
 use Rattle.std.specs.declared.boxed.Box.{Box}
 use Rattle.std.specs.declared.alloc.Global.{Global}
@@ -10,8 +10,8 @@ use Rattle.radix_keys.specs.declared.nibbles.Memory.{Memory}
 use Rattle.radix_nodes.specs.declared.trie_node.TrieNode.{TrieNode, out-TrieNode}
 use Rattle.radix_nodes.specs.declared.trie_node.TrieNode.TheOpen.{TrieNode-F}
 use Rattle.radix_nodes.specs.declared.trie_node.TrieNode.TheFolds.{fold-TrieNode}
-use Rattle.masked_tree.specs.Tree.{Tree, Children, join, IsAt}
-use Rattle.masked_tree.specs.Paths.{IsNodeAt, IsPath, IsHeld, reach}
+use Rattle.masked_tree.specs.Tree.{Tree, Children, none, join, IsAt}
+use Rattle.masked_tree.specs.Paths.{IsChildAt, IsNodeAt, IsPath, IsHeld}
 use Rattle.nibble_map.specs.Answers.{IsLongest, IsShortest}
 use Rattle.masked_tree.specs.Agreement.{Agrees}
 use Rattle.masked_tree.specs.Mask.{marked}
@@ -23,6 +23,38 @@ use Rattle.masked_tree.specs.Alters.{Replaces, Edits, Cuts, CutsRoot}
 abbrev pub answered : {A B E : Type 0} → Result A E → B → Result B E
 answered (Ok a) out = Ok out
 answered (Err e) out = Err e
+
+module _ {P : Type 0} where
+  -- these children are v and w, in either order
+  abbrev pub AreTwo : Children P → Tree P → Tree P → Type 0
+  AreTwo k v w = (k ≡ join (v ∷ w ∷ [])) ⊎ (k ≡ join (w ∷ v ∷ []))
+
+  -- without the child v at i the node t is left with no pair and the one child w, and the fragments
+  -- of t and w have more than 32 nibbles together
+  abbrev pub IsLongWithout : ℕ → Tree P → Type 0
+  IsLongWithout i t = (t.pair ≡ None) × (v : Tree P) × (w : Tree P) × IsAt i t.children v
+      × AreTwo t.children v w × (32 < length t.fragment + length w.fragment)
+
+  -- the removal of the pair at p leaves the node u at path x with no pair and the one child w: the
+  -- pair is u's own, or that of a leaf which is u's only other child
+  abbrev pub IsLeftWith : List ℕ → List ℕ → Tree P → Tree P → Type 0
+  IsLeftWith p x u w = ((p ≡ x) × (u.children ≡ join (w ∷ [])))
+      ⊎ ((u.pair ≡ None) × (v : Tree P) × (p ≡ x ++ v.fragment) × (v.children ≡ none)
+      × AreTwo u.children v w)
+
+  -- the same, and the fragments of u and w have more than 32 nibbles together
+  abbrev pub IsLongJoin : List ℕ → List ℕ → Tree P → Tree P → Type 0
+  IsLongJoin p x u w = IsLeftWith p x u w × (32 < length u.fragment + length w.fragment)
+
+  -- so it is at some node of the tree
+  abbrev pub HasLongJoin : Tree P → List ℕ → Type 0
+  HasLongJoin t p =
+      (x : List ℕ) × (u : Tree P) × (w : Tree P) × IsNodeAt t x u × IsLongJoin p x u w
+
+  -- so it is at some node below the tree's own
+  abbrev pub HasLongJoinBelow : Tree P → List ℕ → Type 0
+  HasLongJoinBelow t p = (x : List ℕ) × (u : Tree P) × (w : Tree P) × IsChildAt t.children x u
+      × IsLongJoin p (t.fragment ++ x) u w
 
 module _ {K : Type 0} {V : Type 0} where
   abbrev pub unboxed : Option (Box (KeyValue K V) Global) → Option (KeyValue K V)
@@ -95,21 +127,20 @@ module _ {K : Type 0} {V : Type 0} where
   IsSettled (Err y) (Err e) new = new.was ≡ Some y
 
   -- what a removal of the pair at p answers, and does to a tree: None where p holds nothing; it is
-  -- refused only where p holds a pair and a path at or below the tree's own has more than 32
-  -- nibbles
+  -- refused only where p holds a pair whose removal joins two fragments that have more than 32
+  -- nibbles together
   abbrev pub CutOutcome : Result (Option (Taken K V)) Memory → List ℕ → Tree (KeyValue K V)
       → Tree (KeyValue K V) → Type 0
   CutOutcome (Ok (Some t)) p old new = Cuts p t.pair t.nodes t.nibbles old new
   CutOutcome (Ok None) p old new = (new ≡ old) × (IsHeld old p → ⊥)
-  CutOutcome (Err e) p old new = (new ≡ old) × IsHeld old p
-      × (32 < length old.fragment + reach old.children)
+  CutOutcome (Err e) p old new = (new ≡ old) × IsHeld old p × HasLongJoin old p
 
-  -- the same at the root, of the paths below it
+  -- the same at the root, which is joined with no child
   abbrev pub RootOutcome : Result (Option (Taken K V)) Memory → List ℕ → Tree (KeyValue K V)
       → Tree (KeyValue K V) → Type 0
   RootOutcome (Ok (Some t)) p old new = CutsRoot p t.pair t.nodes t.nibbles old new
   RootOutcome (Ok None) p old new = (new ≡ old) × (IsHeld old p → ⊥)
-  RootOutcome (Err e) p old new = (new ≡ old) × IsHeld old p × (32 < reach old.children)
+  RootOutcome (Err e) p old new = (new ≡ old) × IsHeld old p × HasLongJoinBelow old p
 
 -- the child at i begins with the key's nibble at `depth`, and agrees with the key from there on so
 -- far

@@ -1,20 +1,19 @@
 -- A removal's outcome at a child, and at its node.
-use Rattle.std.proofs.Common.{◌≡◌, ◌≢◌, ◌⊎◌, ℕ, zero, suc, ◌+◌, ◌-◌, ◌<◌, ◌≤◌, List, [], ◌∷◌, ◌++◌, length, get_or, Option, Some, None, IsSome, refl, ap, sym, subst, ◌∙◌, arith, inl, inr, Result, Ok, Err, MatchOption}
+use Rattle.std.proofs.Common.{◌≡◌, ◌≢◌, ◌⊎◌, ℕ, zero, suc, ◌+◌, ◌-◌, ◌<◌, List, [], ◌∷◌, ◌++◌, length, get_or, Option, Some, None, IsSome, refl, ap, sym, subst, ◌∙◌, append_assoc, arith, inl, inr, Result, Ok, Err, MatchOption}
 use Rattle.std.specs.declared.boxed.Box.{Box}
 use Rattle.std.specs.declared.alloc.Global.{Global}
 use Rattle.nibble_map.specs.Trees.{AreMany, first}
 use Rattle.radix_nodes.specs.declared.trie_node.KeyValue.{KeyValue}
 use Rattle.radix_nodes.specs.declared.trie_node.TrieNode.{TrieNode, out-TrieNode, roll-TrieNode}
-use Rattle.masked_tree.specs.Tree.{Tree, Children, none, more, plain, IsAt, IsTreePlaced, IsTreeFull, firsts, nodes_in, nibbles_in}
+use Rattle.masked_tree.specs.Tree.{Tree, Children, none, more, plain, join, IsAt, IsTreePlaced, IsTreeFull, firsts, nodes_in, nibbles_in}
 use Rattle.masked_tree.specs.Edits.{remove_child, without_pair, without_child, set_child, with_child}
 use Rattle.masked_tree.specs.Alters.{none_of, AltersChild, AltersRoot, CutsRoot, Prunes, PrunesRoot}
-use Rattle.radix_nodes.specs.Nodes.{unboxed, tree_of, children_of, fragment_of, CutOutcome, RootOutcome}
+use Rattle.radix_nodes.specs.Nodes.{unboxed, tree_of, children_of, fragment_of, AreTwo, IsLongWithout, IsLeftWith, HasLongJoin, HasLongJoinBelow, CutOutcome, RootOutcome}
 use Rattle.radix_nodes.specs.declared.traversal.remove.Taken.{Taken}
 use Rattle.radix_nodes.proofs.NodeLemmas.Nodes.{tree_of-written_children, children_of-set, children-tree_of, pair-tree_of, fragment-tree_of}
 use Rattle.radix_nodes.proofs.EditLemmas.Insertion.{box_is_child, held_through_child, free_through_child, length-firsts_of_boxes}
-use Rattle.masked_tree.specs.Paths.{reach}
-use Rattle.masked_tree.proofs.PathLemmas.Paths.{child_within_reach}
-use Rattle.masked_tree.proofs.TreeLemmas.Children.{set_child-same, child_at_exists}
+use Rattle.masked_tree.proofs.PathLemmas.Paths.{below_from_child}
+use Rattle.masked_tree.proofs.TreeLemmas.Children.{set_child-same, child_at_is_unique}
 use Rattle.masked_tree.proofs.EditLemmas.Insertion.{child_entry_alters, node_as_child}
 use Rattle.std.specs.Vec.{with_item}
 use Rattle.radix_keys.specs.declared.nibbles.Memory.{Memory}
@@ -45,20 +44,69 @@ module _ {P : Type 0} where
   other_child_at (suc (suc i)) (more f o b children (more g p c ls none)) u l lt a = absurd (omega (arith, lt))
   other_child_at i (more f o b children (more g p c ls (more h q d ms others))) u l lt a = absurd (omega (arith, l))
 
+  -- of two children one is at i, and the other at 1 - i
+  two_children : (i : ℕ) (k : Children P) → length (firsts k) ≡ 2 → i < 2 → (v : Tree P) × (w : Tree P) × IsAt i k v × IsAt (1 - i) k w × AreTwo k v w
+  two_children i none l lt = absurd (omega (arith, l))
+  two_children i (more f o b children none) l lt = absurd (omega (arith, l))
+  two_children zero (more f o b children (more g p c ls none)) l lt =
+      (record { fragment = f; pair = o; mask = b; children = children }, record { fragment = g; pair = p; mask = c; children = ls }, refl, refl, inl refl)
+  two_children (suc zero) (more f o b children (more g p c ls none)) l lt =
+      (record { fragment = g; pair = p; mask = c; children = ls }, record { fragment = f; pair = o; mask = b; children = children }, refl, refl, inr refl)
+  two_children (suc (suc i)) (more f o b children (more g p c ls none)) l lt = absurd (omega (arith, lt))
+  two_children i (more f o b children (more g p c ls (more h q d ms others))) l lt = absurd (omega (arith, l))
+
+  -- one child is the first
+  only_child : (k : Children P) → length (firsts k) ≡ 1 → (w : Tree P) × IsAt 0 k w × (k ≡ join (w ∷ []))
+  only_child none l = absurd (omega (arith, l))
+  only_child (more f o b children none) l = (record { fragment = f; pair = o; mask = b; children = children }, refl, refl)
+  only_child (more f o b children (more g p c ls others)) l = absurd (omega (arith, l))
+
+  -- where a node is long without a leaf, the removal of the leaf's pair is a long join
+  pub long_at_leaf : (t : Tree P) (i : ℕ) (u : Tree P) → IsAt i t.children u → u.children ≡ none → IsLongWithout i t → HasLongJoin t (t.fragment ++ u.fragment)
+  long_at_leaf t i u at ends long =
+      let same : u ≡ long.1 = child_at_is_unique i t.children long.1 u long.3 at in (
+        t.fragment,
+        t,
+        long.2,
+        inl (refl, refl),
+        (inr (long.0, long.1, ap (λ (v : Tree P). t.fragment ++ v.fragment) same, ap (λ (v : Tree P). v.children) (sym same) ∙ ends, long.4), long.5),
+      )
+
+  -- what is left at a node below is left there behind a fragment
+  left_behind : (f p x : List ℕ) (u w : Tree P) → IsLeftWith p x u w → IsLeftWith (f ++ p) (f ++ x) u w
+  left_behind f p x u w (inl h) = inl (ap (λ y. f ++ y) h.0, h.1)
+  left_behind f p x u w (inr h) = inr (h.0, h.1, ap (λ y. f ++ y) h.2 ∙ sym (append_assoc f x h.1.fragment), h.3, h.4)
+
+  -- a long join in a child is one below its parent
+  join_below : (t c : Tree P) (i : ℕ) (p : List ℕ) → IsAt i t.children c → HasLongJoin c p → HasLongJoinBelow t (t.fragment ++ p)
+  join_below t c i p at j =
+      (j.0, j.1, j.2, below_from_child i t.children c j.0 j.1 at j.3, (left_behind t.fragment p j.0 j.1 j.2 j.4.0, j.4.1))
+
+  -- a long join below a tree's own node is one in the tree
+  join_within : (t : Tree P) (p : List ℕ) → HasLongJoinBelow t p → HasLongJoin t p
+  join_within t p j = (t.fragment ++ j.0, j.1, j.2, inr (j.0, refl, j.3), j.4)
+
 module _ {K V : Type 0} where
   -- a node's tree has as many first nibbles as the node has boxes
   pub length-firsts_of_node : (n : TrieNode K V) → length (firsts (tree_of n).children) ≡ length (out-TrieNode K V n).children.items
   length-firsts_of_node n = ap (λ k. length (firsts k)) (children-tree_of n) ∙ length-firsts_of_boxes _
 
-  -- what was refused is longer than a path's longest
-  -- where a node's fragment and a child's have over 32 nibbles together, so has the longest path
-  pub long_path : (n : TrieNode K V) (i : ℕ) → i < length (out-TrieNode K V n).children.items →
-      ((u : Tree (KeyValue K V)) → IsAt i (tree_of n).children u → 32 < length (fragment_of n) + length u.fragment) → 32 < length (tree_of n).fragment + reach (tree_of n).children
-  long_path n i lt h =
-      let s = child_at_exists i (tree_of n).children (let f = length-firsts_of_node n in omega (arith, lt, f)) in
-      let r = child_within_reach i (tree_of n).children s.0 s.1 in
+  -- what was refused is too long to be joined
+  -- where a node without a pair has two children, and its fragment and that of the one beside i have over 32 nibbles together, it is long without the child at i
+  pub long_without : (n : TrieNode K V) (i : ℕ) → length (out-TrieNode K V n).children.items ≡ 2 → i < 2 → (tree_of n).pair ≡ None →
+      ((u : Tree (KeyValue K V)) → IsAt (1 - i) (tree_of n).children u → 32 < length (fragment_of n) + length u.fragment) → IsLongWithout i (tree_of n)
+  long_without n i two lt bare h =
+      let s = two_children i (tree_of n).children (length-firsts_of_node n ∙ two) lt in
       let e = ap length (fragment-tree_of n) in
-      omega (arith, h s.0 s.1, r, e)
+      (bare, s.0, s.1, s.2, s.4, omega (arith, h s.1 s.3, e))
+
+  -- where a node with one child loses its pair, and their fragments have over 32 nibbles together, that is a long join
+  pub long_here : (n : TrieNode K V) → length (out-TrieNode K V n).children.items ≡ 1 →
+      ((u : Tree (KeyValue K V)) → IsAt 0 (tree_of n).children u → 32 < length (fragment_of n) + length u.fragment) → HasLongJoin (tree_of n) (fragment_of n)
+  long_here n one h =
+      let s = only_child (tree_of n).children (length-firsts_of_node n ∙ one) in
+      let e = ap length (fragment-tree_of n) in
+      ((tree_of n).fragment, tree_of n, s.0, inl (refl, refl), (inl (sym (fragment-tree_of n), s.2), omega (arith, h s.0 s.1, e)))
 
   -- a leaf that was cut off, by what was made of it
   module _ (old new : Tree (KeyValue K V)) (s : List ℕ) (leaf : TrieNode K V) (nodes : ℕ) (ends : (tree_of leaf).children ≡ none) (has : unboxed (out-TrieNode K V leaf).pair ≢ None) where
@@ -130,10 +178,11 @@ module _ {K V : Type 0} where
       tree_of-with_child n i b' ∙ ap (λ t. with_child i t (tree_of n)) e
       ∙ ap (λ k. record { fragment = (tree_of n).fragment; pair = (tree_of n).pair; mask = (tree_of n).mask; children = k }) (set_child-same i (tree_of n).children (tree_of b.value) (box_is_child n i b h lt at))
 
-  -- a child's longest path is no longer than the longest below its node
-  reach_below : (n : TrieNode K V) (i : ℕ) (b : Box (TrieNode K V) Global) → IsTreePlaced (tree_of n) → i < length (out-TrieNode K V n).children.items → get_or (out-TrieNode K V n).children.items i b ≡ b →
-      length (tree_of b.value).fragment + reach (tree_of b.value).children ≤ reach (tree_of n).children
-  reach_below n i b h lt at = child_within_reach i (tree_of n).children (tree_of b.value) (box_is_child n i b h lt at)
+  -- a long join in the box at i is one below its node
+  join_from_box : (n : TrieNode K V) (i : ℕ) (b : Box (TrieNode K V) Global) (p path : List ℕ) → IsTreePlaced (tree_of n) → i < length (out-TrieNode K V n).children.items → get_or (out-TrieNode K V n).children.items i b ≡ b →
+      path ≡ fragment_of n ++ p → HasLongJoin (tree_of b.value) p → HasLongJoinBelow (tree_of n) path
+  join_from_box n i b p path h lt at ep j =
+      subst (HasLongJoinBelow (tree_of n)) (ap (λ f. f ++ p) (fragment-tree_of n) ∙ sym ep) (join_below (tree_of n) (tree_of b.value) i p (box_is_child n i b h lt at) j)
 
   -- a removal's outcome in the child at i is one in the node that has the child's new box
   pub cut_through_child : (n : TrieNode K V) (i : ℕ) (b b' : Box (TrieNode K V) Global) (r : Result (Option (Taken K V)) Memory) (p path : List ℕ) →
@@ -144,7 +193,7 @@ module _ {K V : Type 0} where
       let e = child_entry_alters (tree_of n) (tree_of b.value) (tree_of b'.value) i p (Some t.pair) None 0 t.nodes 0 t.nibbles h (box_is_child n i b h lt at) s in
       rw (tree_of-with_child n i b', ep, ← fragment-tree_of n) (node_as_child _ _ _ _ _ _ _ _ e)
   cut_through_child n i b b' (Ok None) p path h lt at ep some start s = (tree_of-same_child n i b b' h lt at s.0, free_through_child n i b h p path lt at ep some start s.1)
-  cut_through_child n i b b' (Err x) p path h lt at ep some start s = (tree_of-same_child n i b b' h lt at s.0, held_through_child n i b h p path lt at ep s.1, (let r = reach_below n i b h lt at in omega (arith, r, s.2)))
+  cut_through_child n i b b' (Err x) p path h lt at ep some start s = (tree_of-same_child n i b b' h lt at s.0, held_through_child n i b h p path lt at ep s.1, join_within (tree_of n) path (join_from_box n i b p path h lt at ep s.2))
 
   -- a removal's outcome in a root's child at i is one in the root that has the child's new box
   pub root_cut_through_child : (n : TrieNode K V) (i : ℕ) (b b' : Box (TrieNode K V) Global) (r : Result (Option (Taken K V)) Memory) (p path : List ℕ) →
@@ -155,7 +204,7 @@ module _ {K V : Type 0} where
       let e = child_entry_alters (tree_of n) (tree_of b.value) (tree_of b'.value) i p (Some t.pair) None 0 t.nodes 0 t.nibbles h (box_is_child n i b h lt at) s in
       rw (tree_of-with_child n i b', ep, ← fragment-tree_of n) e.root
   root_cut_through_child n i b b' (Ok None) p path h lt at ep some start s = (tree_of-same_child n i b b' h lt at s.0, free_through_child n i b h p path lt at ep some start s.1)
-  root_cut_through_child n i b b' (Err x) p path h lt at ep some start s = (tree_of-same_child n i b b' h lt at s.0, held_through_child n i b h p path lt at ep s.1, (let r = reach_below n i b h lt at in omega (arith, r, s.2)))
+  root_cut_through_child n i b b' (Err x) p path h lt at ep some start s = (tree_of-same_child n i b b' h lt at s.0, held_through_child n i b h p path lt at ep s.1, join_from_box n i b p path h lt at ep s.2)
 
   -- a pair that goes from a root is cut there, and no node goes
   pub root_pair_cut : (n : TrieNode K V) (x : KeyValue K V) (t' : Tree (KeyValue K V)) (path : List ℕ) → Some x ≡ unboxed (out-TrieNode K V n).pair → IsTreePlaced (tree_of n) → t' ≡ without_pair (tree_of n) →

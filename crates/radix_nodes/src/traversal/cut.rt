@@ -1,8 +1,7 @@
 //! A child is cut off with all below it. What may fail comes first, so a refusal leaves the tree as it was.
 ghost use Rattle.std.specs.Prelude.{◌≡◌, ◌≢◌, ◌+◌, ◌<◌, ◌≤◌, ◌⊎◌, [], ◌++◌, length, IfOk, OnErr, IsSome, MatchBool, None, vec_len};
 ghost use Rattle.masked_tree.specs.Tree.{IsTreePlaced, IsAt};
-ghost use Rattle.masked_tree.specs.Paths.{reach};
-ghost use Rattle.radix_nodes.specs.Nodes.{tree_of, fragment_of, out_of, unboxed};
+ghost use Rattle.radix_nodes.specs.Nodes.{tree_of, fragment_of, out_of, unboxed, IsLongWithout};
 ghost use Rattle.radix_nodes.specs.Prunes.{branch_of, CutsBranch, CutsRootBranch};
 
 use crate::fragments::joined;
@@ -56,8 +55,7 @@ pub fn cut_child<K: Drop, V: Drop>(
     ensures cut { IfOk result (λ b. CutsBranch b (tree_of node.old) (tree_of node.new)) }
     ensures few { IfOk result (λ b. b.nodes ≤ 2) }
     ensures unchanged { OnErr result (tree_of node.new ≡ tree_of node.old) }
-    ensures long { OnErr result
-        (32 < length (tree_of node.old).fragment + reach (tree_of node.old).children) }
+    ensures long { OnErr result (IsLongWithout i (tree_of node.old)) }
 {
     if leaves_one(node) {
         let joined = match joined_with(node, 1 - i) {

@@ -1,4 +1,4 @@
-use Rattle.std.proofs.Common.{◌++◌, ◌∙◌, ◌⊎◌, ◌≢◌, ◌-◌, IsSome, sym, ap, subst, arith}
+use Rattle.std.proofs.Common.{◌++◌, ◌∙◌, ◌⊎◌, ◌≢◌, IsSome, sym, ap, subst, arith}
 use Rattle.nibble_map.specs.Trees.{first}
 use Rattle.masked_tree.specs.Edits.{IsOne, merged, remove_child}
 use Rattle.radix_nodes.specs.declared.trie_node.TrieNode.{out-TrieNode}
@@ -6,7 +6,7 @@ use Rattle.radix_nodes.specs.Nodes.{tree_of, unboxed}
 use Rattle.radix_nodes.proofs.EditLemmas.Branches.{branch_cut, branch_merged}
 use Rattle.radix_nodes.proofs.NodeLemmas.Nodes.{fragment-tree_of, pair-tree_of}
 use Rattle.radix_nodes.proofs.EditLemmas.Merging.{merged_fragment, has_one_child}
-use Rattle.radix_nodes.proofs.EditLemmas.Removal.{long_path, other_child_at, length-firsts_of_node, full_without_child}
+use Rattle.radix_nodes.proofs.EditLemmas.Removal.{long_without, other_child_at, length-firsts_of_node, full_without_child}
 use Rattle.radix_nodes.proofs.traversal.cut.cut_child.Goals as goal
 
 pub absorb-requires-clause-joined : goal.absorb-requires-clause-joined
@@ -46,4 +46,4 @@ pub returns-in-Err-clause-long : goal.returns-in-Err-clause-long
 returns-in-Err-clause-long g c =
     let n = c.args.node.now in
     let o = (out-TrieNode g.row.K.Denot g.row.V.Denot n).children.ok.0 in
-    long_path n (1 - c.args.i) (omega (arith, o, c.if-leaves_one.ensures.1)) c.in-Err.ensures.long
+    long_without n c.args.i (omega (arith, o, c.if-leaves_one.ensures.1)) (omega (arith, c.requires.within, c.if-leaves_one.ensures.1)) (pair-tree_of n ∙ ap unboxed c.if-leaves_one.ensures.0) c.in-Err.ensures.long

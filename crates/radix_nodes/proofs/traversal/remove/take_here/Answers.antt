@@ -5,7 +5,7 @@ use Rattle.masked_tree.specs.Edits.{merged}
 use Rattle.radix_nodes.specs.Nodes.{tree_of}
 use Rattle.radix_nodes.proofs.NodeLemmas.Nodes.{fragment-tree_of}
 use Rattle.radix_nodes.proofs.EditLemmas.Merging.{merged_fragment, has_one_child, tree_of-unpaired, merged_cut, pair_cut}
-use Rattle.radix_nodes.proofs.EditLemmas.Removal.{long_path}
+use Rattle.radix_nodes.proofs.EditLemmas.Removal.{long_here}
 use Rattle.radix_nodes.proofs.traversal.remove.take_here.Goals as goal
 
 pub absorb-requires-clause-joined : goal.absorb-requires-clause-joined
@@ -35,4 +35,4 @@ pub returns-in-Err : goal.returns-in-Err
 returns-in-Err g c =
     let n = c.args.node.now in
     let o = (out-TrieNode g.row.K.Denot g.row.V.Denot n).children.ok.0 in
-    (refl, held_here n c.if-not-has_pair.ensures, long_path n 0 (omega (arith, o, c.requires.inner)) c.in-Err.ensures.long)
+    (refl, held_here n c.if-not-has_pair.ensures, long_here n (omega (arith, o, c.len.ensures, c.if-len-eq1.true)) c.in-Err.ensures.long)

@@ -1,11 +1,11 @@
-use Rattle.std.proofs.Common.{◌∙◌, ◌≡◌, ◌<◌, length, None, IsSome, sym, ap, subst, refl, arith}
+use Rattle.std.proofs.Common.{◌∙◌, ◌≡◌, ◌<◌, ◌++◌, length, None, IsSome, sym, ap, subst, refl, arith}
 use Rattle.masked_tree.proofs.TreeLemmas.Children.{child_at_is_unique}
 use Rattle.radix_nodes.specs.declared.trie_node.TrieNode.{out-TrieNode}
-use Rattle.radix_nodes.specs.Nodes.{tree_of, fragment_of, unboxed}
+use Rattle.radix_nodes.specs.Nodes.{tree_of, fragment_of, unboxed, HasLongJoin}
 use Rattle.radix_nodes.proofs.NodeLemmas.Nodes.{fragment-tree_of}
 use Rattle.radix_nodes.proofs.EditLemmas.Insertion.{boxed_child_is_placed, free_through_child, held_through_child}
 use Rattle.radix_nodes.proofs.EditLemmas.Steps.{free_here, held_here}
-use Rattle.radix_nodes.proofs.EditLemmas.Removal.{append-child_fragment, leaf_has_pair, leaf_cut}
+use Rattle.radix_nodes.proofs.EditLemmas.Removal.{append-child_fragment, leaf_has_pair, leaf_cut, long_at_leaf}
 use Rattle.radix_nodes.proofs.traversal.remove.take_leaf.Goals as goal
 
 pub returns-in-Ok : goal.returns-in-Ok
@@ -46,5 +46,5 @@ returns-in-Err g c u a =
     let path = append-child_fragment n c.args.i b u c.requires.placed lt is a in (
       c.in-Err.ensures.unchanged,
       held_through_child n c.args.i b c.requires.placed (fragment_of b.value) _ lt is path (held_here b.value (subst (λ m. IsSome (unboxed (out m).pair)) c.deref.ensures c.if-not-has_pair.ensures)),
-      c.in-Err.ensures.long,
+      subst (λ f. HasLongJoin (tree_of n) (f ++ u.fragment)) (fragment-tree_of n) (long_at_leaf (tree_of n) c.args.i u a (c.requires.leaf u a) c.in-Err.ensures.long),
     )

@@ -8,6 +8,7 @@ pub mod Above
 pub mod Nearest
 pub mod ChildViews
 pub mod Children
+pub mod Joins
 pub mod Present
 pub mod Below
 pub mod Leaves

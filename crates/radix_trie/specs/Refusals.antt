@@ -2,8 +2,9 @@
 -- view's path is a prefix of l (of a trie's own call nothing is outside), `light` that the key is
 -- light.
 use Rattle.std.specs.FinMap as map
-use Rattle.std.specs.Prelude.{◌≡◌, ℕ, ◌^◌, ◌-◌, List, None}
-use Rattle.nibble_map.specs.Maps.{PairMap, IsStored, below}
+use Rattle.std.specs.Prelude.{◌≡◌, ℕ, ◌^◌, ◌-◌, ◌≢◌, ◌⊎◌, List, [], ◌∷◌, ◌++◌, None}
+use Rattle.nibble_map.specs.MapQueries.{AreChildren, IsFragment, IsLeaf}
+use Rattle.nibble_map.specs.Maps.{PairMap, IsPoint, IsStored, below}
 use Rattle.nibble_map.specs.Nibbles.{IsShort}
 use Rattle.radix_trie.specs.declared.error.SubTrieError.{SubTrieError}
 use Rattle.radix_trie.specs.declared.error.SubTrieError.TheVariants as error
@@ -22,10 +23,24 @@ module _ {K V : Type 0} (m : PairMap K V) (l : List ℕ) where
   RefusesInsert inside light why.Full = inside × IsFullAt
   RefusesInsert inside light why.Outside = inside → ⊥
 
+  -- the removal of the pair at l leaves the point p, which isn't the empty list, with no pair and
+  -- the one child q: p is l itself, or p holds no pair and has two children, q and the leaf l
+  abbrev pub IsJoined : (p q : List ℕ) → Type 0
+  IsJoined p q = IsStored m l × IsPoint m p × (p ≢ [])
+      × (((p ≡ l) × AreChildren m p (q ∷ []))
+      ⊎ ((IsStored m p → ⊥) × IsLeaf m l
+      × (AreChildren m p (l ∷ q ∷ []) ⊎ AreChildren m p (q ∷ l ∷ []))))
+
+  -- the two fragments that the removal joins there, if it does, have at most 32 nibbles together
+  abbrev pub JoinsAreShort : Type 0
+  JoinsAreShort = (p q f g : List ℕ) → IsJoined p q → IsFragment m p f → IsFragment m q g
+      → IsShort (f ++ g)
+
   -- a removal of the pair at l
   abbrev pub RefusesRemove : (inside light : Type 0) → SubTrieError → Type 0
   RefusesRemove inside light error.Memory =
       light → inside × (map.get m l ≡ None → ⊥) × (((e : List ℕ) → IsStored m e → IsShort e) → ⊥)
+      × (JoinsAreShort → ⊥)
   RefusesRemove inside light error.Outside = inside → ⊥
 
   -- a removal of all pairs at and below l

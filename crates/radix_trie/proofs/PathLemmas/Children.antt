@@ -88,7 +88,7 @@ module _ {K V : Type 0} (enc : K → List ℕ) (m : PairMap K V) (t : Tree (KeyV
         some z = cc z
 
     -- at a node's path the map's children are the paths of the node's child views
-    children_at_node : AreChildren m p (paths_of (child_views m p u.children))
+    pub children_at_node : AreChildren m p (paths_of (child_views m p u.children))
     children_at_node = record {
       rising = views_rise m p 0 u.children placed.1;
       exactly = λ q. (λ h. (let r = has_view m p u.children q h in subst (IsChild m p) (sym r.3) (views_child r.0 r.1 r.2)), child_view q);

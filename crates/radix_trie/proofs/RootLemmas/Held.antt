@@ -25,67 +25,6 @@ le_either_way zero n = inl (omega arith)
 le_either_way (suc m) zero = inr (omega arith)
 le_either_way (suc m) (suc n) = elim (le_either_way m n) [ inl h ↦ inl (omega arith) | inr h ↦ inr (omega arith) ]
 
--- a list that isn't empty has a length above 0
-not_nil : {A : Type 0} (xs : List A) → (xs ≡ [] → ⊥) → 0 < length xs
-not_nil [] h = absurd (h refl)
-not_nil (x ∷ xs) h = omega arith
-
-module _ {P : Type 0} where
-  -- a pair whose path has n nibbles or more
-  abbrev Reached : List (List ℕ × P) → ℕ → Type 0
-  Reached es n = (p : List ℕ) × Has (stored.stored es) p × (n ≤ length p)
-
-  -- a path of n nibbles or more among es is one among es ++ fs
-  reached_left : (es fs : List (List ℕ × P)) (n : ℕ) → Reached es n → Reached (es ++ fs) n
-  reached_left es fs n r = (r.0, subst (λ ks. Has ks r.0) (sym (map-append (λ e. e.0) es fs)) (Has-left (stored.stored es) (stored.stored fs) r.0 r.1), r.2)
-
-  -- a path of n nibbles or more among fs is one among es ++ fs
-  reached_right : (es fs : List (List ℕ × P)) (n : ℕ) → Reached fs n → Reached (es ++ fs) n
-  reached_right es fs n r = (r.0, subst (λ ks. Has ks r.0) (sym (map-append (λ e. e.0) es fs)) (Has-right (stored.stored es) (stored.stored fs) r.0 r.1), r.2)
-
-  -- what reaches m nibbles reaches n, where n is at most m
-  reached_less : (es : List (List ℕ × P)) (n m : ℕ) → n ≤ m → Reached es m → Reached es n
-  reached_less es n m le r = let most = r.2 in (r.0, r.1, omega arith)
-
-  -- a pair's own entry reaches the length of its path
-  own_reached : (p : List ℕ) (o : Option P) → IsSome o → Reached (entry p o) (length p)
-  own_reached p None some = cc
-  own_reached p (Some x) some = (p, inl refl, omega arith)
-
-  -- in a full tree the longest path ends in a pair
-  longest_path_reached : (low : ℕ) (q : List ℕ) (k : Children P) → IsPlaced low k → IsFull (plain k) → 0 < reach k → Reached (entries_in q k) (length q + reach k)
-  longest_path_reached low q none h g some = absurd (omega arith)
-  longest_path_reached low q (more f o m none others) h g some = by (le_either_way (reach others) (length f)) (longest_path_reached (suc (first f)) q others h.4 g.2)
-    where
-      here : IsSome o ⊎ ⊥ → IsSome o
-      here (inl s) = s
-      here (inr b) = absurd b
-
-      by : (reach others ≤ length f) ⊎ (length f ≤ reach others) → (0 < reach others → Reached (entries_in q others) (length q + reach others))
-          → Reached (entries_in q (more f o m none others)) (length q + reach (more f o m none others))
-      by (inl le) later =
-          reached_left (entry (q ++ f) o ++ []) (entries_in q others) _
-          (reached_left (entry (q ++ f) o) [] _ (reached_less _ _ _ (omega (arith, length-append q f)) (own_reached (q ++ f) o (here g.0))))
-      by (inr le) later =
-          let f_some = not_nil f h.0 in
-          reached_right (entry (q ++ f) o ++ []) (entries_in q others) _ (reached_less _ _ _ (omega arith) (later (omega arith)))
-  longest_path_reached low q (more f o m (more e p n ks others') others) h g some =
-      by (le_either_way (reach others) (length f + reach (more e p n ks others')))
-      (longest_path_reached 0 (q ++ f) (more e p n ks others') h.3 g.1) (longest_path_reached (suc (first f)) q others h.4 g.2)
-    where
-      by : (reach others ≤ length f + reach (more e p n ks others')) ⊎ (length f + reach (more e p n ks others') ≤ reach others)
-          → (0 < reach (more e p n ks others') → Reached (entries_in (q ++ f) (more e p n ks others')) (length (q ++ f) + reach (more e p n ks others')))
-          → (0 < reach others → Reached (entries_in q others) (length q + reach others))
-          → Reached (entries_in q (more f o m (more e p n ks others') others)) (length q + reach (more f o m (more e p n ks others') others))
-      by (inl le) below later =
-          let e_some = not_nil e h.3.0 in
-          reached_left (entry (q ++ f) o ++ entries_in (q ++ f) (more e p n ks others')) (entries_in q others) _
-          (reached_right (entry (q ++ f) o) (entries_in (q ++ f) (more e p n ks others')) _ (reached_less _ _ _ (omega (arith, length-append q f)) (below (omega arith))))
-      by (inr le) below later =
-          let f_some = not_nil f h.0 in
-          reached_right (entry (q ++ f) o ++ entries_in (q ++ f) (more e p n ks others')) (entries_in q others) _
-          (reached_less _ _ _ (omega arith) (later (omega arith)))
-
 module _ {K V : Type 0} (enc : K → List ℕ) (t : Tree (KeyValue K V)) (count nodes nibbles : ℕ) (kept : IsKept enc t count nodes nibbles) where
   -- the map of a kept root stores the lists of the root's entries
   lists_same : stored.stored (fin.entries (map_of t)) ≡ stored.stored (entries_at [] t)
@@ -98,7 +37,7 @@ module _ {K V : Type 0} (enc : K → List ℕ) (t : Tree (KeyValue K V)) (count 
   stored_held e h = subst (λ ks. Has ks e) lists_same ((stored_by_entries (map_of t) e).1 h)
 
   -- a list that a kept root holds is stored in its map
-  held_stored : (e : List ℕ) → IsHeld t e → IsStored (map_of t) e
+  pub held_stored : (e : List ℕ) → IsHeld t e → IsStored (map_of t) e
   held_stored e h = (stored_by_entries (map_of t) e).0 (subst (λ ks. Has ks e) (sym lists_same) h)
 
   -- at a list that a kept root doesn't hold its map has no pair
@@ -112,20 +51,6 @@ module _ {K V : Type 0} (enc : K → List ℕ) (t : Tree (KeyValue K V)) (count 
   -- where the map has no pair at a list, the kept root doesn't hold that list
   pub none_unheld : (e : List ℕ) → fin.get (map_of t) e ≡ None → IsHeld t e → ⊥
   none_unheld e absent h = subst (λ p. T (is_some p)) absent (held_stored e h)
-
-  -- where all stored lists are short, no path below the root has more than 32 nibbles
-  pub short_reach : ((e : List ℕ) → IsStored (map_of t) e → IsShort e) → reach t.children ≤ 32
-  short_reach short = by (reach t.children) refl
-    where
-      by : (n : ℕ) → reach t.children ≡ n → reach t.children ≤ 32
-      by zero i = omega arith
-      by (suc n) i =
-          let r = reached_right (entry [] t.pair) (entries_in [] t.children) _ (longest_path_reached 0 [] t.children kept.masked.1 kept.full (omega arith)) in
-          let below : Has (stored.stored (entries_at [] t)) r.0 =
-          subst (λ f. Has (stored.stored (entry f t.pair ++ entries_in f t.children)) r.0) (sym kept.top) r.1 in
-          let few = short r.0 (held_stored r.0 below) in
-          let most = r.2 in
-          omega arith
 
 -- the pair at a node is the map's
 module _ {K V : Type 0} (enc : K → List ℕ) (m : PairMap K V) (t : Tree (KeyValue K V)) (root : IsRoot enc m t) where

@@ -4,6 +4,7 @@ ghost use Rattle.std.specs.Option.{ForSome};
 ghost use Rattle.std.specs.FinMap as map;
 ghost use Rattle.nibble_map.specs.Maps.{IsStored, value_at};
 ghost use Rattle.nibble_map.specs.Nibbles.{IsShort};
+ghost use Rattle.radix_trie.specs.Refusals.{JoinsAreShort};
 ghost use Rattle.radix_trie.specs.Views.{pairs_below};
 
 use crate::trie::Trie;
@@ -17,8 +18,9 @@ impl<K: TrieKey + Drop, V: Drop> Trie<K, V> {
     ///
     /// # Errors
     ///
-    /// Memory is refused, for the encoding or for joining two fragments. The trie is as before
-    /// then.
+    /// Memory is refused, for the encoding or for joining two fragments: that of a node which is
+    /// left with no pair and one child, and that of this child, where they have more than 32
+    /// nibbles together. The trie is as before then.
     ///
     /// # Examples
     ///
@@ -32,6 +34,8 @@ impl<K: TrieKey + Drop, V: Drop> Trie<K, V> {
             → IsOk result }
         ensures light_short { Q.is_light key.now
             → ((e : List ℕ) → IsStored self.old e → IsShort e)
+            → IsOk result }
+        ensures light_join { Q.is_light key.now → JoinsAreShort self.old (Q.encoding key.now)
             → IsOk result }
     {
         let list = key.encode(self.alloc)?;
@@ -54,6 +58,8 @@ impl<K: TrieKey + Drop, V: Drop> Trie<K, V> {
         ensures light_short { Q.is_light key.now
             → ((e : List ℕ) → IsStored self.old e → IsShort e)
             → IsOk result }
+        ensures light_join { Q.is_light key.now → JoinsAreShort self.old (Q.encoding key.now)
+            → IsOk result }
     {
         let list = key.encode(self.alloc)?;
         self.take_entry_at(&list)
@@ -74,6 +80,9 @@ impl<K: TrieKey + Drop, V: Drop> Trie<K, V> {
         ensures light_short { ForSome (slice_get (pairs_below self.old []) 0)
             (λ pair. K.is_light pair.0)
             → ((e : List ℕ) → IsStored self.old e → IsShort e)
+            → IsOk result }
+        ensures light_join { ForSome (slice_get (pairs_below self.old []) 0)
+            (λ pair. K.is_light pair.0 × JoinsAreShort self.old (K.encoding pair.0))
             → IsOk result }
     {
         let first = match TrieCommon::first_key_value(&*self) {
@@ -100,6 +109,10 @@ impl<K: TrieKey + Drop, V: Drop> Trie<K, V> {
             (λ pair. K.is_light pair.0)
             → ((e : List ℕ) → IsStored self.old e → IsShort e)
             → IsOk result }
+        ensures light_join { ForSome (slice_get (pairs_below self.old [])
+            (length (pairs_below self.old []) - 1))
+            (λ pair. K.is_light pair.0 × JoinsAreShort self.old (K.encoding pair.0))
+            → IsOk result }
     {
         let last = match TrieCommon::last_key_value(&*self) {
             Some((key, _)) => key.encode(self.alloc)?,
@@ -115,6 +128,7 @@ impl<K: TrieKey + Drop, V: Drop> Trie<K, V> {
         ensures unchanged { OnErr result (self.new ≡ self.old) }
         ensures absent { map.get self.old list.now ≡ None → IsOk result }
         ensures short { ((e : List ℕ) → IsStored self.old e → IsShort e) → IsOk result }
+        ensures joins { JoinsAreShort self.old list.now → IsOk result }
     {
         match self.take_entry_at(list) {
             Ok(Some((_, value))) => Ok(Some(value)),
@@ -130,6 +144,7 @@ impl<K: TrieKey + Drop, V: Drop> Trie<K, V> {
         ensures unchanged { OnErr result (self.new ≡ self.old) }
         ensures absent { map.get self.old list.now ≡ None → IsOk result }
         ensures short { ((e : List ℕ) → IsStored self.old e → IsShort e) → IsOk result }
+        ensures joins { JoinsAreShort self.old list.now → IsOk result }
     {
         match take_root(&mut self.root, list) {
             Ok(Some(taken)) => {

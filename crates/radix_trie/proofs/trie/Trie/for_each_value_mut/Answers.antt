@@ -1,6 +1,4 @@
 use Rattle.std.proofs.Common.{◌≡◌, ◌∙◌, [], All, ap, sym, subst}
-use Rattle.std.specs.Fn.{FnOnceReturnsAtMut}
-use Rattle.nibble_map.specs.Copies.{IsMapCopy}
 use Rattle.radix_nodes.specs.Nodes.{tree_of}
 use Rattle.radix_nodes.specs.Values.{LeavesValue, TakesPair}
 use Rattle.radix_trie.specs.Views.{pairs_below}

@@ -1,6 +1,7 @@
-use Rattle.std.proofs.Common.{◌∙◌, ap, sym}
+use Rattle.std.proofs.Common.{◌∙◌, ap, subst, sym}
 use Rattle.std.specs.FinMap as map
 use Rattle.radix_nodes.specs.Nodes.{tree_of}
+use Rattle.radix_trie.specs.Refusals.{JoinsAreShort}
 use Rattle.radix_trie.specs.Roots.{AllKeyed}
 use Rattle.radix_trie.proofs.ChangeLemmas.Popped.{got_item, popped_item, popped_rest}
 use Rattle.radix_trie.proofs.PathLemmas.Places.{false_is_not_true}
@@ -26,3 +27,11 @@ returns-clause-removed g c =
 pub returns-in_err-first-in-Some-clause-light_short : goal.returns-in_err-first-in-Some-clause-light_short
 returns-in_err-first-in-Some-clause-light_short g c = λ light short.
     absurd (false_is_not_true (c.in_err-first-in-Some.ensures.light (light (c.in-Some.key.now, c.in-Some.field-0-1.now) (sym c.in-Some.ensures))))
+
+pub returns-in_err-first-in-Some-clause-light_join : goal.returns-in_err-first-in-Some-clause-light_join
+returns-in_err-first-in-Some-clause-light_join g c = λ both.
+    absurd (false_is_not_true (c.in_err-first-in-Some.ensures.light (both (c.in-Some.key.now, c.in-Some.field-0-1.now) (sym c.in-Some.ensures)).0))
+
+pub returns-clause-light_join : goal.returns-clause-light_join
+returns-clause-light_join g c = λ both.
+    c.take_entry_at.ensures.joins (subst (JoinsAreShort c.args.self.now) (sym c.in_ok-first-in-Some.ensures.ok) (both (c.in-Some.key.now, c.in-Some.field-0-1.now) (sym c.in-Some.ensures)).1)

@@ -1,4 +1,4 @@
-use Rattle.std.proofs.Common.{ap, sym, ◌∙◌, refl, arith}
+use Rattle.std.proofs.Common.{ap, sym, ◌∙◌, refl}
 use Rattle.radix_nodes.specs.Nodes.{tree_of}
 use Rattle.nibble_map.proofs.MapLemmas.Bridge.{remove-absent}
 use Rattle.nibble_map.proofs.ListLemmas.Sorted.{tied_lists_equal}
@@ -6,7 +6,8 @@ use Rattle.std.proofs.lemmas.Cmp.{nat_list_cmp_total}
 use Rattle.radix_trie.specs.Roots.{map_of}
 use Rattle.radix_trie.proofs.ChangeLemmas.Removals.{get-taken, map_of-taken, taken_some, taken_kept}
 use Rattle.radix_trie.proofs.ChangeLemmas.Changes.{unheld_at, held_at}
-use Rattle.radix_trie.proofs.RootLemmas.Held.{get-unheld, none_unheld, short_reach}
+use Rattle.radix_trie.proofs.RootLemmas.Held.{get-unheld, none_unheld}
+use Rattle.radix_trie.proofs.PathLemmas.Joins.{kept_joins_fit, short_lists_join_short}
 use Rattle.radix_trie.proofs.trie.Trie.take_entry_at.Goals as goal
 
 pub overflow_sub-self : goal.overflow_sub-self
@@ -48,7 +49,10 @@ returns-in-Err-clause-absent g c = λ absent.
     let here = none_unheld g.K.TrieKey.encoding (tree_of c.self.inside.root) _ _ _ c.self.invariant c.args.list.now (rw c.self.view_is absent) in
     absurd (here (held_at c.self.inside.root c.args.list.now _ c.self.invariant.top refl c.in-Err.ensures.1))
 
+pub returns-in-Err-clause-joins : goal.returns-in-Err-clause-joins
+returns-in-Err-clause-joins g c = λ short.
+    absurd (kept_joins_fit g.K.TrieKey.encoding c.self.inside.root _ _ _ c.self.invariant c.args.list.now (rw c.self.view_is short) c.in-Err.ensures.1 c.in-Err.ensures.2)
+
 pub returns-in-Err-clause-short : goal.returns-in-Err-clause-short
 returns-in-Err-clause-short g c = λ short.
-    let few = short_reach g.K.TrieKey.encoding (tree_of c.self.inside.root) _ _ _ c.self.invariant (rw c.self.view_is short) in
-    absurd (let more = c.in-Err.ensures.2 in omega arith)
+    absurd (kept_joins_fit g.K.TrieKey.encoding c.self.inside.root _ _ _ c.self.invariant c.args.list.now (short_lists_join_short _ c.args.list.now (rw c.self.view_is short)) c.in-Err.ensures.1 c.in-Err.ensures.2)

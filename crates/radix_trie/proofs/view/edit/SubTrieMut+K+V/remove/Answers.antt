@@ -1,0 +1,13 @@
+use Rattle.std.proofs.Common.{rules, subst, sym}
+use Rattle.radix_trie.specs.Refusals.{JoinsAreShort}
+use Rattle.radix_trie.specs.WriteViews.{map_behind}
+use Rattle.radix_trie.proofs.PathLemmas.Places.{false_is_not_true}
+use Rattle.radix_trie.proofs.view.edit.SubTrieMut+K+V.remove.Goals as goal
+
+pub returns-clause-why : goal.returns-clause-why
+returns-clause-why g c = λ light. (
+  search rules,
+  search rules,
+  search rules,
+  λ short. false_is_not_true (c.in-Err.ensures.joins (subst (JoinsAreShort (map_behind c.args.self.now)) (sym c.in-Ok.ensures.ok) short)),
+)

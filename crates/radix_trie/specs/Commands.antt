@@ -1,16 +1,15 @@
 -- What each command answers, and the map that it leaves.
 use Rattle.std.specs.FinMap as map
-use Rattle.std.specs.Prelude.{◌≡◌, ◌⊎◌, ℕ, List, [], ◌∷◌, ◌++◌, Option, None, map as each}
+use Rattle.std.specs.Prelude.{◌≡◌, ◌⊎◌, ℕ, List, [], ◌∷◌, ◌++◌, Option, map as each}
 use Rattle.nibble_map.specs.Lists.{IsPrefix}
 use Rattle.nibble_map.specs.Maps.{PairMap, IsPoint, IsStored, below, without_below, value_at}
-use Rattle.nibble_map.specs.Nibbles.{IsShort}
 use Rattle.radix_trie.specs.declared.commands.Command.{Command}
 use Rattle.radix_trie.specs.declared.commands.Command.TheVariants as outer
 use Rattle.radix_trie.specs.declared.commands.Reply.{Reply}
 use Rattle.radix_trie.specs.declared.commands.Reply.TheVariants.{Old, Gone, Found, Number, Closed, Replies, Outside, Refused}
 use Rattle.radix_trie.specs.declared.commands.ViewCommand.{ViewCommand}
 use Rattle.radix_trie.specs.declared.commands.ViewCommand.TheVariants as inner
-use Rattle.radix_trie.specs.Refusals.{IsFullAt}
+use Rattle.radix_trie.specs.Refusals.{IsFullAt, JoinsAreShort}
 use Rattle.radix_trie.specs.Views.{IsValueAbove, pairs_below}
 
 module _ {K V : Type 0} where
@@ -47,8 +46,7 @@ module _ {K V : Type 0} (enc : K → List ℕ) (light : K → Type 0) where
   MayRefuseInsert m k = light k → IsStored m (enc k) → ⊥
 
   abbrev pub MayRefuseRemove : PairMap K V → K → Type 0
-  MayRefuseRemove m k = light k
-      → (map.get m (enc k) ≡ None) ⊎ ((e : List ℕ) → IsStored m e → IsShort e) → ⊥
+  MayRefuseRemove m k = light k → JoinsAreShort m (enc k) → ⊥
 
   abbrev pub MayRefuseBelow : PairMap K V → K → Type 0
   MayRefuseBelow m k = light k → map.len (below m (enc k)) ≡ 0 → ⊥

@@ -8,4 +8,5 @@ pub mod Order
 pub mod Resumed
 pub mod LaterRows
 pub mod Ends
+pub mod FullRows
 pub mod Pages

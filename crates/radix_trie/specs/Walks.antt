@@ -6,9 +6,10 @@ use Rattle.std.specs.declared.cmp.Ordering.{Ordering}
 use Rattle.std.specs.Cmp.Lexicographic.{slice_cmp}
 use Rattle.std.specs.Ordering.{is_le, is_lt, nat_cmp}
 use Rattle.nibble_map.specs.Lists.{is_prefix}
-use Rattle.masked_tree.specs.Tree.{Tree, Children, none, more, IsTreePlaced, entries_in}
+use Rattle.masked_tree.specs.Tree.{Tree, Children, none, more, plain, IsTreePlaced, entries_in}
 use Rattle.masked_tree.specs.Sizes.{levels}
 use Rattle.nibble_map.specs.Swaps.{entry}
+use Rattle.nibble_map.specs.Trees.{IsFull}
 use Rattle.radix_nodes.specs.declared.trie_node.KeyValue.{KeyValue}
 use Rattle.radix_nodes.specs.declared.trie_node.TrieNode.{TrieNode}
 use Rattle.radix_nodes.specs.Nodes.{children_of, tree_of}
@@ -102,3 +103,8 @@ module _ {P : Type 0} where
   abbrev pub HasRowRoom : ℕ → ℕ → List (Children P) → Type 0
   HasRowRoom most i [] = ⊤
   HasRowRoom most i (r ∷ rs) = (i + levels r ≤ most) × HasRowRoom most (suc i) rs
+
+  -- each node in the rows, and below them, has a pair or two children
+  abbrev pub HasFullRows : List (Children P) → Type 0
+  HasFullRows [] = ⊤
+  HasFullRows (r ∷ rs) = IsFull (plain r) × HasFullRows rs

@@ -1,9 +1,14 @@
 -- The pairs at and below a path that come after a list, by the node that is nearest to the path.
-use Rattle.std.proofs.Common.{◌≡◌, ℕ, Bool, List, [], ◌++◌, map, filter, drop, Option, Some, None, ap, sym, ◌∙◌, Bor}
+use Rattle.std.proofs.Common.{◌≡◌, ℕ, Bool, List, [], ◌++◌, map, filter, drop, length, Option, Some, None, ap, sym, ◌∙◌, arith, Bor}
+use Rattle.std.proofs.lemmas.List.{length-map}
 use Rattle.std.proofs.lemmas.Simd.{map-map}
+use Rattle.std.specs.Cmp.Lexicographic.{slice_cmp}
+use Rattle.std.specs.FinMap as fin
+use Rattle.std.specs.Ordering.{is_lt, nat_cmp}
 use Rattle.masked_tree.specs.Tree.{entries_in}
-use Rattle.nibble_map.specs.Maps.{PairMap, walk}
+use Rattle.nibble_map.specs.Maps.{PairMap, below, walk}
 use Rattle.nibble_map.specs.Swaps.{entry}
+use Rattle.nibble_map.proofs.ListLemmas.Cut.{empty_of_length}
 use Rattle.radix_nodes.specs.declared.trie_node.KeyValue.{KeyValue}
 use Rattle.radix_nodes.specs.declared.trie_node.TrieNode.{TrieNode}
 use Rattle.radix_nodes.specs.Nodes.{fragment_of, tree_of}
@@ -11,12 +16,20 @@ use Rattle.radix_nodes.specs.Pairs.{pairs_in}
 use Rattle.radix_nodes.proofs.NodeLemmas.Nodes.{fragment-tree_of}
 use Rattle.radix_trie.specs.declared.iter.side.Side.TheVariants as side
 use Rattle.radix_trie.specs.Places.{IsPlace}
+use Rattle.radix_trie.specs.Views.{pairs_after}
 use Rattle.radix_trie.specs.Walks.{StandsBeside, comes_after, later_pairs, pairs_where}
 use Rattle.radix_trie.proofs.PathLemmas.NodesBelow.{filter-map, walk-no_path, walk-node}
-use Rattle.radix_trie.proofs.PathLemmas.Places.{nearest_found, no_path_found}
+use Rattle.radix_trie.proofs.PathLemmas.Places.{length-filter_le, nearest_found, no_path_found}
 use Rattle.radix_trie.proofs.RootLemmas.Shown.{row_of}
 use Rattle.radix_trie.proofs.WalkLemmas.Resumed.{on_path}
 use Rattle.radix_trie.proofs.WalkLemmas.Tested.{where_gone, where_kept}
+
+-- where nothing is stored at or below a path, there are no pairs after a list
+pub no_pairs_after : {K V : Type 0} (m : PairMap K V) (p q : List ℕ) → fin.len (below m p) ≡ 0 → pairs_after m p q ≡ []
+no_pairs_after {K} {V} m p q unstored =
+    let later : List ℕ × (K × V) → Bool = λ e. is_lt (slice_cmp nat_cmp q e.0) in
+    let few = length-filter_le later (walk m p) in
+    empty_of_length (pairs_after m p q) (omega (arith, length-map (filter later (walk m p)) (λ e. e.1), few, fin.len-entries (below m p), unstored))
 
 module _ {K V : Type 0} (enc : K → List ℕ) (m : PairMap K V) (p : List ℕ) (found : Option (Bor (TrieNode K V) × ℕ)) (place : IsPlace enc m p found) (itself : Bool) (list : List ℕ) where
   -- the map's pairs at and below p that come after the list

@@ -29,7 +29,7 @@ module _ {A : Type 0} where
 
 module _ {K V : Type 0} where
   -- at and below a full child there is a pair
-  full_has_pair : (u : Tree (KeyValue K V)) → IsFull (plain (front u none)) → 0 < length (pairs_in u)
+  pub full_has_pair : (u : Tree (KeyValue K V)) → IsFull (plain (front u none)) → 0 < length (pairs_in u)
   full_has_pair u full = by (length (entries_at [] u)) refl
     where
       by : (n : ℕ) → length (entries_at [] u) ≡ n → 0 < length (pairs_in u)

@@ -1,6 +1,7 @@
 //! Walks over the pairs of a trie, in the order of the encodings.
 
 mod children;
+mod cursor;
 mod ends;
 mod halves;
 mod pages;
@@ -9,6 +10,7 @@ mod side;
 mod walk;
 
 pub use children::Children;
+pub use cursor::Cursor;
 pub(crate) use ends::{first_pair, last_pair};
 pub use halves::{Keys, Values};
 pub(crate) use pages::first_pairs;

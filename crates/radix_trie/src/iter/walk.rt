@@ -16,6 +16,8 @@ use std::marker::Model;
 
 mod resumed;
 
+pub(super) use resumed::parted;
+
 /// A walk over keys and values: each pair once, in the order of the encodings, an encoding before its extensions.
 ///
 /// `next` takes no memory, and goes on answering `None` after the end. A contract sees a walk as the list of the pairs
@@ -115,9 +117,12 @@ pub(crate) fn parts_of<K, V>(pair: Option<&KeyValue<K, V>>) -> Option<(&K, &V)>
 }
 
 /// Puts a row on the stack, where there is room, if it isn't empty.
-fn push_row<'a, K, V>(stack: &mut Vec<&'a [Box<TrieNode<K, V>>]>, row: &'a [Box<TrieNode<K, V>>])
-    requires { length (rows_of stack.old.items) + levels (children_of row.now)
-        ≤ vec_capacity stack.old }
+pub(super) fn push_row<'a, K, V>(
+    stack: &mut Vec<&'a [Box<TrieNode<K, V>>]>,
+    row: &'a [Box<TrieNode<K, V>>],
+)
+    requires { 0 < levels (children_of row.now) → length (rows_of stack.old.items)
+        < vec_capacity stack.old }
     ensures rows { rows_of stack.new.items
         ≡ with_row (rows_of stack.old.items) (children_of row.now) }
     ensures capacity { vec_capacity stack.new ≡ vec_capacity stack.old }

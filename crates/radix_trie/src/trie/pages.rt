@@ -2,7 +2,7 @@
 ghost use Rattle.std.specs.Prelude.{◌≡◌, IsOk, IfOk, take};
 ghost use Rattle.std.specs.FinMap as map;
 ghost use Rattle.nibble_map.specs.Maps.{below};
-ghost use Rattle.radix_trie.specs.Views.{pairs_below};
+ghost use Rattle.radix_trie.specs.Views.{pairs_after, pairs_below};
 ghost use Rattle.radix_trie.specs.Walks.{deref_pairs};
 
 use crate::trie::Trie;
@@ -34,5 +34,32 @@ impl<K: TrieKey, V> Trie<K, V> {
     {
         let list = key.encode(self.allocator())?;
         Place::find(self, &list).first_pairs(most)
+    }
+
+    /// The first pairs at and below the key's place whose encodings come strictly after that of `last`, in the order of their
+    /// encodings: `most` of them, or all where there are fewer. So the page after one whose last key is `last`. The time is
+    /// that of the way down and of the page, and doesn't grow with how many pairs stand there or come before.
+    ///
+    /// The keys needn't be stored, nor be points, and `last` needn't lie below the key's place.
+    ///
+    /// # Errors
+    ///
+    /// Memory is refused, for an encoding, for a row of nodes on the way or for the list of pairs.
+    pub fn first_after<Q: TrieKey, R: TrieKey>(
+        &self,
+        key: &Q,
+        last: &R,
+        most: usize,
+    ) -> Result<Vec<(&K, &V)>, Memory>
+        ensures pairs { IfOk result (λ list. deref_pairs list.items
+            ≡ take most (pairs_after self.now (Q.encoding key.now) (R.encoding last.now))) }
+        ensures light_no_page { Q.is_light key.now → most ≡ 0 → IsOk result }
+        ensures light_none { Q.is_light key.now
+            → R.is_light last.now
+            → map.len (below self.now (Q.encoding key.now)) ≡ 0
+            → IsOk result }
+    {
+        let list = key.encode(self.allocator())?;
+        Place::find(self, &list).first_after(last, most)
     }
 }

@@ -21,7 +21,9 @@ use radix_nodes::traversal::size::count_pairs;
 use radix_nodes::trie_node::{KeyValue, TrieNode, is_end};
 use std::marker::Model;
 
+mod cursors;
 mod ends;
+mod pages;
 mod resumed;
 mod shown;
 

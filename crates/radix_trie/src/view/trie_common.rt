@@ -8,7 +8,7 @@ ghost use Rattle.nibble_map.specs.Nibbles.{IsShort};
 ghost use Rattle.radix_trie.specs.Views.{pairs_after, pairs_below, pairs_from};
 ghost use Rattle.radix_trie.specs.Walks.{deref_pair};
 
-use crate::iter::{Iter, Keys, Values};
+use crate::iter::{Cursor, Iter, Keys, Values};
 use crate::trie::Trie;
 use crate::view::place::Place;
 use crate::view::subtrie::SubTrie;
@@ -127,6 +127,56 @@ pub trait TrieCommon<'a, K: TrieKey + 'a, V: 'a>: Sized {
             → finite.len (below (map self) (path self)) ≡ 0
             → IsOk result };
 
+    /// The walk over the pairs at and below the path, as that of `iter`, which allocates as it goes.
+    ///
+    /// It begins in the time of the way down to the path. Each step takes time up to the depth below the path, and a whole
+    /// walk as much as that of `iter`. Memory for at most a row of nodes for each level below the path is allocated as the
+    /// steps need it, so a step may be refused.
+    ///
+    /// # Errors
+    ///
+    /// Memory for the first row is refused. None is allocated where no pair is at or below the path.
+    ///
+    /// # Examples
+    ///
+    /// `first_pairs` in `crates/radix_trie/src/iter/pages.rt` takes some pairs of a cursor.
+    fn cursor(self) -> Result<Cursor<'a, K, V>, Memory>
+        ensures walk { IfOk result (λ pairs. pairs ≡ pairs_below (map self) (path self)) }
+        ensures keyed { Each (λ e. e.0 ≡ K.encoding e.1.0) (walk (map self) (path self)) }
+        ensures countable { IfOk result (λ pairs. length pairs < 2 ^ 64) }
+        ensures none { finite.len (below (map self) (path self)) ≡ 0 → IsOk result };
+
+    /// The walk of `iter_from`, which allocates as it goes.
+    ///
+    /// It begins in the time of the way down to the key's encoding, at and below the path. Its steps take the time and the
+    /// memory of those of `cursor`.
+    ///
+    /// # Errors
+    ///
+    /// Memory is refused, for the key's encoding or for the rows on the way down. That never comes where the key is light
+    /// and no pair is at or below the path.
+    fn cursor_from<Q: TrieKey>(self, key: &Q) -> Result<Cursor<'a, K, V>, Memory>
+        ensures walk { IfOk result (λ pairs. pairs
+            ≡ pairs_from (map self) (path self) (Q.encoding key.now)) }
+        ensures countable { IfOk result (λ pairs. length pairs < 2 ^ 64) }
+        ensures light_none { Q.is_light key.now
+            → finite.len (below (map self) (path self)) ≡ 0
+            → IsOk result };
+
+    /// The walk of `iter_after`, which allocates as it goes: a walk that was left at this key goes on so, in the time of the
+    /// way down to the key's encoding. Its steps take the time and the memory of those of `cursor`.
+    ///
+    /// # Errors
+    ///
+    /// Those of `cursor_from`.
+    fn cursor_after<Q: TrieKey>(self, key: &Q) -> Result<Cursor<'a, K, V>, Memory>
+        ensures walk { IfOk result (λ pairs. pairs
+            ≡ pairs_after (map self) (path self) (Q.encoding key.now)) }
+        ensures countable { IfOk result (λ pairs. length pairs < 2 ^ 64) }
+        ensures light_none { Q.is_light key.now
+            → finite.len (below (map self) (path self)) ≡ 0
+            → IsOk result };
+
     /// The key and the value of the first pair at and below the path, in the order of the encodings, if there is one. It
     /// takes no memory.
     fn first_key_value(self) -> Option<(&'a K, &'a V)>
@@ -203,6 +253,21 @@ impl<'a, K: TrieKey, V> TrieCommon<'a, K, V> for &'a Trie<K, V> {
         Place::find(self, &top).iter_after(key)
     }
 
+    fn cursor(self) -> Result<Cursor<'a, K, V>, Memory> {
+        let top = Nibblet::new(self.allocator());
+        Place::find(self, &top).cursor()
+    }
+
+    fn cursor_from<Q: TrieKey>(self, key: &Q) -> Result<Cursor<'a, K, V>, Memory> {
+        let top = Nibblet::new(self.allocator());
+        Place::find(self, &top).cursor_from(key)
+    }
+
+    fn cursor_after<Q: TrieKey>(self, key: &Q) -> Result<Cursor<'a, K, V>, Memory> {
+        let top = Nibblet::new(self.allocator());
+        Place::find(self, &top).cursor_after(key)
+    }
+
     fn first_key_value(self) -> Option<(&'a K, &'a V)> {
         let top = Nibblet::new(self.allocator());
         Place::find(self, &top).first_key_value()
@@ -263,6 +328,18 @@ impl<'a, 'b, K: TrieKey, V> TrieCommon<'a, K, V> for &'b SubTrie<'a, K, V> {
 
     fn iter_after<Q: TrieKey>(self, key: &Q) -> Result<Iter<'a, K, V>, Memory> {
         self.place().iter_after(key)
+    }
+
+    fn cursor(self) -> Result<Cursor<'a, K, V>, Memory> {
+        self.place().cursor()
+    }
+
+    fn cursor_from<Q: TrieKey>(self, key: &Q) -> Result<Cursor<'a, K, V>, Memory> {
+        self.place().cursor_from(key)
+    }
+
+    fn cursor_after<Q: TrieKey>(self, key: &Q) -> Result<Cursor<'a, K, V>, Memory> {
+        self.place().cursor_after(key)
     }
 
     fn first_key_value(self) -> Option<(&'a K, &'a V)> {

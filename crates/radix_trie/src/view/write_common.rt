@@ -6,7 +6,7 @@ ghost use Rattle.nibble_map.specs.Maps.{below};
 ghost use Rattle.nibble_map.specs.Nibbles.{IsShort};
 ghost use Rattle.radix_trie.specs.WriteViews.{map_behind, kept_path, kept_prefix, path_of, prefix_of};
 
-use crate::iter::{Iter, Keys, Values};
+use crate::iter::{Cursor, Iter, Keys, Values};
 use crate::view::place::Place;
 use crate::view::subtrie_mut::{PathList, SubTrieMut};
 use crate::view::trie_common::TrieCommon;
@@ -80,6 +80,21 @@ impl<'a, K: TrieKey, V, P: PathList> TrieCommon<'a, K, V> for SubTrieMut<'a, K, 
         Place::find(trie, path.nibbles()).iter_after(key)
     }
 
+    fn cursor(self) -> Result<Cursor<'a, K, V>, Memory> {
+        let (trie, path) = self.into_parts();
+        Place::find(trie, path.nibbles()).cursor()
+    }
+
+    fn cursor_from<Q: TrieKey>(self, key: &Q) -> Result<Cursor<'a, K, V>, Memory> {
+        let (trie, path) = self.into_parts();
+        Place::find(trie, path.nibbles()).cursor_from(key)
+    }
+
+    fn cursor_after<Q: TrieKey>(self, key: &Q) -> Result<Cursor<'a, K, V>, Memory> {
+        let (trie, path) = self.into_parts();
+        Place::find(trie, path.nibbles()).cursor_after(key)
+    }
+
     fn first_key_value(self) -> Option<(&'a K, &'a V)> {
         let (trie, path) = self.into_parts();
         Place::find(trie, path.nibbles()).first_key_value()
@@ -145,6 +160,18 @@ impl<'a, 'b, K: TrieKey, V> TrieCommon<'b, K, V> for &'b SubTrieMut<'a, K, V> {
 
     fn iter_after<Q: TrieKey>(self, key: &Q) -> Result<Iter<'b, K, V>, Memory> {
         self.place().iter_after(key)
+    }
+
+    fn cursor(self) -> Result<Cursor<'b, K, V>, Memory> {
+        self.place().cursor()
+    }
+
+    fn cursor_from<Q: TrieKey>(self, key: &Q) -> Result<Cursor<'b, K, V>, Memory> {
+        self.place().cursor_from(key)
+    }
+
+    fn cursor_after<Q: TrieKey>(self, key: &Q) -> Result<Cursor<'b, K, V>, Memory> {
+        self.place().cursor_after(key)
     }
 
     fn first_key_value(self) -> Option<(&'b K, &'b V)> {

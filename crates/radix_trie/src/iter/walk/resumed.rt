@@ -1,7 +1,8 @@
 //! The ordered walk from a list on.
 ghost use Rattle.std.specs.Prelude.{◌≡◌, ◌+◌, ◌<◌, ◌≤◌, ◌^◌, ◌++◌, [], Bool, IsOk, IfOk, IfSome, drop, length, vec_capacity, vec_len};
-ghost use Rattle.masked_tree.specs.Tree.{IsTreePlaced, entries_at, entries_in};
+ghost use Rattle.masked_tree.specs.Tree.{IsFullBelow, IsTreePlaced, entries_at, entries_in, plain};
 ghost use Rattle.masked_tree.specs.Sizes.{levels};
+ghost use Rattle.nibble_map.specs.Trees.{IsFull};
 ghost use Rattle.radix_nodes.specs.Nodes.{children_of, out_of, tree_of};
 ghost use Rattle.radix_nodes.specs.Pairs.{pairs_in_all};
 ghost use Rattle.radix_trie.specs.Walks.{HasRowRoom, IsOnWay, beyond, first_pair, later_pairs, pairs_where, comes_after, pending, rows_of};
@@ -77,7 +78,7 @@ fn push_later<'a, K, V>(
 
 /// The children that come after a list, and before them the child that the list goes on to, if there is one, and how many nibbles
 /// lie behind it then.
-fn parted<'a, K, V>(
+pub(crate) fn parted<'a, K, V>(
     node: &'a TrieNode<K, V>,
     list: &Nibblet,
     depth: usize,
@@ -96,6 +97,9 @@ fn parted<'a, K, V>(
     ensures lower { IfSome result.1
         (λ r. levels (tree_of r.0.now).children < levels (tree_of node.now).children) }
     ensures few { levels (children_of result.0.now) ≤ levels (tree_of node.now).children }
+    ensures full { IsFullBelow (tree_of node.now)
+        → IsFull (plain (children_of result.0.now))
+        × IfSome result.1 (λ r. IsFullBelow (tree_of r.0.now)) }
 {
     match place(node.mask, list.get(depth)) {
         Ok(i) => {
@@ -115,6 +119,7 @@ fn children_from<K, V>(node: &TrieNode<K, V>, i: usize) -> &[Box<TrieNode<K, V>>
     requires { i ≤ vec_len (out_of node.now).children }
     ensures boxes { result.now ≡ drop i (out_of node.now).children.items }
     ensures few { levels (children_of result.now) ≤ levels (tree_of node.now).children }
+    ensures full { IsFullBelow (tree_of node.now) → IsFull (plain (children_of result.now)) }
 {
     &node.children[i..]
 }

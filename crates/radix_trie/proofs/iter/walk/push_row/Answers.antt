@@ -6,7 +6,8 @@ use Rattle.radix_trie.proofs.iter.walk.push_row.Goals as goal
 pub push_reserved-requires : goal.push_reserved-requires
 push_reserved-requires g c =
     let some : 0 < length c.args.row.now = grind (arith, nat_tests) in
-    omega (arith, levels-some c.args.row.now some, length-rows_of c.args.stack.now.items)
+    let room = c.requires (levels-some c.args.row.now some) in
+    omega (arith, room, length-rows_of c.args.stack.now.items)
 
 pub returns-then-not-is_empty-clause-rows : goal.returns-then-not-is_empty-clause-rows
 returns-then-not-is_empty-clause-rows g c =

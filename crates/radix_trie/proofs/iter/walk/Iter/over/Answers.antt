@@ -9,8 +9,8 @@ use Rattle.radix_trie.proofs.WalkLemmas.Rows.{first_own, children_of-row}
 use Rattle.radix_trie.proofs.iter.walk.Iter.over.Goals as goal
 
 pub push_row-requires : goal.push_row-requires
-push_row-requires g c =
-    omega (arith, ap (λ x. length (rows_of x)) c.in_ok-stack.ensures.items, ap levels (children_of-row c.args.node.now _ c.deref.ensures.value), c.in_ok-stack.ensures.exact, c.in-Some.ensures)
+push_row-requires g c = λ some.
+    omega (arith, some, ap (λ x. length (rows_of x)) c.in_ok-stack.ensures.items, ap levels (children_of-row c.args.node.now _ c.deref.ensures.value), c.in_ok-stack.ensures.exact, c.in-Some.ensures)
 
 pub invariant_of-result : goal.invariant_of-result
 invariant_of-result g c =

@@ -9,9 +9,10 @@ use Rattle.radix_trie.proofs.iter.walk.IterIterator.next.Goals as goal
 use Rattle.radix_nodes.proofs.EditLemmas.Removal.{children_of-no_boxes}
 
 pub push_row-requires : goal.push_row-requires
-push_row-requires g c =
+push_row-requires g c = λ some.
     omega (
       arith,
+      some,
       c.pop.ensures.capacity,
       others_fit _ _ _ _ (rows_of-popped _ _ _ c.in-Some-pop.ensures.items)
           _ _ (ap children_of c.in-Some-split_first.ensures.cases.0) c.loop-nodes.invariant.room,
@@ -20,8 +21,10 @@ push_row-requires g c =
 pub push_row-requires-in-Some-split_first : goal.push_row-requires-in-Some-split_first
 push_row-requires-in-Some-split_first g c =
     let children = children_of-row _ _ c.deref-in-Some-split_first.ensures.value ∙ ap (λ n. (tree_of n).children) c.deref.ensures in
+    λ some.
     omega (
       arith,
+      some,
       ap length c.push_row.ensures.rows,
       c.push_row.ensures.capacity,
       c.pop.ensures.capacity,

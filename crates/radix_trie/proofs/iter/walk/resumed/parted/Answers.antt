@@ -1,7 +1,8 @@
 use Rattle.std.proofs.Common.{◌++◌, Ok, Err, arith, ap, drop, length, sym, subst, ◌∙◌}
 use Rattle.masked_tree.specs.Mask.{IsPlaceOf}
 use Rattle.masked_tree.specs.Sizes.{levels}
-use Rattle.masked_tree.specs.Tree.{IsTreePlaced, firsts}
+use Rattle.masked_tree.specs.Tree.{IsFullBelow, IsTreePlaced, firsts, plain}
+use Rattle.nibble_map.specs.Trees.{IsFull}
 use Rattle.radix_nodes.specs.declared.trie_node.TrieNode.{out-TrieNode}
 use Rattle.radix_nodes.specs.Nodes.{children_of, fragment_of, tree_of}
 use Rattle.radix_nodes.specs.Pairs.{pairs_in_all}
@@ -12,6 +13,7 @@ use Rattle.radix_nodes.proofs.NodeLemmas.Nodes.{children-tree_of}
 use Rattle.radix_nodes.proofs.NodeLemmas.Sizes.{levels_next, levels_out}
 use Rattle.radix_trie.specs.declared.iter.side.Side.TheVariants as side
 use Rattle.radix_trie.specs.Walks.{StandsBeside, later_pairs}
+use Rattle.radix_trie.proofs.WalkLemmas.FullRows.{full_at}
 use Rattle.radix_trie.proofs.WalkLemmas.Resumed.{levels-drop, met_after, met_before, met_on, none_met}
 use Rattle.radix_trie.proofs.iter.walk.resumed.parted.Goals as goal
 
@@ -105,6 +107,16 @@ returns-in-On-clause-lower g c =
       levels-drop c.in-Ok.i boxes,
       levels_out n,
       ap (λ m. levels (tree_of m).children) c.deref-in-On.ensures,
+    )
+
+pub returns-in-On-clause-full : goal.returns-in-On-clause-full
+returns-in-On-clause-full g c = λ full.
+    let n = c.args.node.now in
+    let boxes = (out-TrieNode g.row.K.Denot g.row.V.Denot n).children.items in
+    let within = place_is_within n c.in-Ok.i c.get.result c.requires.placed (place_by_mask n c.get.result (Ok c.in-Ok.i) c.requires.placed c.in-Ok.ensures) in
+    let here = subst (λ k. IsFull (plain k)) (children-tree_of n) full in (
+      c.children_from-in-On.ensures.full full,
+      subst (λ m. IsFullBelow (tree_of m)) (sym c.deref-in-On.ensures) (full_at boxes c.in-Ok.i c.index-child.result.now within (sym c.index-child.ensures) here),
     )
 
 pub returns-in-After-clause-pairs : goal.returns-in-After-clause-pairs

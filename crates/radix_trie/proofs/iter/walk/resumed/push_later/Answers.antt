@@ -49,8 +49,11 @@ loop-done-preserved g c =
       );
     }
 
+pub push_row-requires : goal.push_row-requires
+push_row-requires g c = λ some. omega (arith, some, c.loop-done.invariant.fits, c.parted.ensures.few)
+
 pub push_row-requires-2 : goal.push_row-requires-2
-push_row-requires-2 g c = omega (arith, c.loop-done.invariant.fits, ap levels (children_of-row c.loop-done.at.now _ c.deref.ensures.value))
+push_row-requires-2 g c = λ some. omega (arith, some, c.loop-done.invariant.fits, ap levels (children_of-row c.loop-done.at.now _ c.deref.ensures.value))
 
 pub returns-then-itself-clause-pairs : goal.returns-then-itself-clause-pairs
 returns-then-itself-clause-pairs g c =

@@ -228,7 +228,8 @@ impl NibbleVec {
         Ok(Clone::clone(self)?)
     }
 
-    /// Keeps the first `i` nibbles, at most all, and hands out the rest.
+    /// Keeps the first `i` nibbles, at most all, and hands out the rest. What it keeps gives back the
+    /// room of the rest, where the allocator grants that.
     ///
     /// # Errors
     ///
@@ -242,6 +243,7 @@ impl NibbleVec {
     {
         let rest = self.tail(i)?;
         self.truncate(i);
+        self.shrink_to_fit();
         Ok(rest)
     }
 
@@ -260,6 +262,14 @@ impl NibbleVec {
             self.bytes[whole] = byte - byte % 16;
             self.is_odd = true;
         }
+    }
+
+    /// Gives back the room that the list doesn't need. Where a smaller room is refused, it stays as it is.
+    fn shrink_to_fit(&mut self)
+        ensures { self.new ≡ self.old }
+    {
+        self.bytes.shrink_to_fit();
+        let _ = self.bytes.spilled();
     }
 
     /// Turns the highest bit of the first nibble over. It takes no memory.
@@ -285,6 +295,27 @@ impl NibbleVec {
             Ok(()) => Ok(joined),
             Err(_) => Err(joined),
         }
+    }
+
+    /// The first `i` nibbles, at most all.
+    ///
+    /// # Errors
+    ///
+    /// Memory is refused, where these are more than 32.
+    pub fn head(&self, i: usize) -> Result<NibbleVec, Memory>
+        requires { i ≤ length self.now }
+        ensures ok { IfOk result (λ r. r ≡ take i self.now) }
+        ensures succeeds { IsShort (take i self.now) → IsOk result }
+    {
+        if i == self.len() {
+            return self.clone();
+        }
+        let whole = &self.bytes.as_slice()[..i.div_ceil(2)];
+        let bytes = SmallVec::from_slice(*self.bytes.allocator(), whole)?;
+        let _ = bytes.spilled();
+        let mut head = NibbleVec::from_small(bytes);
+        head.truncate(i);
+        Ok(head)
     }
 
     /// The nibbles from `i` on, which is at most the count.

@@ -117,8 +117,8 @@ pub fn make_upper<K: Drop, V: Drop>(
     ensures { IfOk result (λ b. IsUpper fragment tail.now b.value) }
 {
     let mask = mark(0, tail.get(0));
-    let mut children = Vec::new(alloc);
-    children.reserve(2)?;
+    // Most nodes that stand above another have no third child.
+    let children = Vec::with_capacity(alloc, 2)?;
     Ok(Box::new(
         alloc,
         TrieNode {
@@ -142,9 +142,8 @@ fn grow_split<K: Drop, V: Drop>(
         (λ grown. IsUpper (take n (fragment_of node.now)) (drop n (fragment_of node.now))
         grown.0.value × (grown.1 ≡ drop n (fragment_of node.now))) }
 {
-    let mut fragment = node.fragment.clone()?;
-    let rest = fragment.split(n)?;
-    let upper = make_upper(alloc, fragment, &rest)?;
+    let rest = node.fragment.tail(n)?;
+    let upper = make_upper(alloc, node.fragment.head(n)?, &rest)?;
     Ok((upper, rest))
 }
 

@@ -1,19 +1,14 @@
 -- What a kept root holds is what its map stores.
-use Rattle.std.proofs.Common.{◌≡◌, ℕ, zero, suc, ◌+◌, ◌≤◌, ◌<◌, ◌⊎◌, inl, inr, List, [], ◌∷◌, ◌++◌, map, length, Option, Some, None, IsSome, option_map, T, is_some, refl, ap, sym, subst, ◌∙◌, arith}
-use Rattle.std.proofs.lemmas.List.{length-append, map-append}
+use Rattle.std.proofs.Common.{◌≡◌, ℕ, zero, suc, ◌≤◌, ◌⊎◌, inl, inr, List, [], ◌∷◌, map, Option, Some, None, option_map, T, is_some, refl, ap, sym, subst, ◌∙◌, arith}
 use Rattle.std.proofs.lemmas.Simd.{map-map}
 use Rattle.std.specs.FinMap as fin
-use Rattle.masked_tree.specs.Tree.{Tree, Children, none, more, plain, IsPlaced, entries_in, entries_at}
-use Rattle.masked_tree.specs.Paths.{IsHeld, IsNodeAt, reach}
+use Rattle.masked_tree.specs.Tree.{Tree, entries_at}
+use Rattle.masked_tree.specs.Paths.{IsHeld, IsNodeAt}
 use Rattle.nibble_map.specs.Lists.{Has}
 use Rattle.nibble_map.specs.Maps.{PairMap, IsStored}
-use Rattle.nibble_map.specs.Nibbles.{IsShort}
 use Rattle.nibble_map.specs.Stored as stored
-use Rattle.nibble_map.specs.Swaps.{entry}
-use Rattle.nibble_map.specs.Trees.{IsFull, first}
 use Rattle.masked_tree.proofs.PathLemmas.Paths.{has_node, node_has, node_is_unique}
 use Rattle.nibble_map.proofs.MapLemmas.Edits.{stored_by_entries, has_get}
-use Rattle.nibble_map.proofs.ListLemmas.Members.{Has-left, Has-right}
 use Rattle.radix_nodes.specs.declared.trie_node.KeyValue.{KeyValue}
 use Rattle.radix_nodes.specs.Pairs.{pair_of}
 use Rattle.radix_trie.specs.Roots.{map_of, IsKept, IsRoot}

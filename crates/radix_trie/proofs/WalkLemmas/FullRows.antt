@@ -1,5 +1,5 @@
 -- The rows of a cursor's stack: each node in them has a pair or two children.
-use Rattle.std.proofs.Common.{◌≡◌, ℕ, zero, suc, ◌+◌, ◌<◌, List, [], ◌∷◌, ◌++◌, length, drop, get_or, refl, ap, sym, subst, ◌∙◌, length-append, arith, Box, Global}
+use Rattle.std.proofs.Common.{◌≡◌, ℕ, zero, suc, ◌<◌, List, [], ◌∷◌, ◌++◌, length, drop, get_or, ap, sym, subst, ◌∙◌, length-append, arith, Box, Global}
 use Rattle.masked_tree.specs.Tree.{Tree, Children, none, more, front, plain, IsFullBelow, entries_in, entries_at}
 use Rattle.nibble_map.specs.Trees.{IsFull}
 use Rattle.radix_nodes.specs.declared.trie_node.KeyValue.{KeyValue}

@@ -1,5 +1,5 @@
 //! The ordered walk over keys and values.
-ghost use Rattle.std.specs.Prelude.{◌≡◌, ◌+◌, ◌<◌, ◌≤◌, ◌^◌, [], IsOk, IfOk, length, option_map, vec_capacity};
+ghost use Rattle.std.specs.Prelude.{◌≡◌, ◌+◌, ◌<◌, ◌^◌, [], IsOk, IfOk, length, option_map, vec_capacity};
 ghost use Rattle.std.specs.Iterator.{YieldsFirstBy, item_count};
 ghost use Rattle.masked_tree.specs.Tree.{entries_at};
 ghost use Rattle.masked_tree.specs.Sizes.{levels};

@@ -10,7 +10,6 @@ ghost use Rattle.radix_nodes.specs.Nodes.{tree_of};
 ghost use Rattle.radix_trie.specs.Lends.{lends_at};
 ghost use Rattle.radix_trie.specs.Refusals.{IsFullAt};
 ghost use Rattle.radix_trie.specs.Walks.{deref_pair};
-ghost use Rattle.radix_nodes.specs.Pairs.{pair_of};
 
 use crate::iter::parts_of;
 use radix_keys::{Memory, Nibblet, TrieKey};

@@ -1,4 +1,4 @@
-use Rattle.std.proofs.Common.{◌-◌, arith, ap, drop, length, subst, sym, ◌∙◌}
+use Rattle.std.proofs.Common.{◌-◌, arith, ap, drop, length, subst, sym}
 use Rattle.std.proofs.lemmas.List.{length-drop, take_all}
 use Rattle.masked_tree.specs.Sizes.{levels}
 use Rattle.masked_tree.specs.Tree.{plain}

@@ -10,7 +10,7 @@ ghost use Rattle.route_tool.specs.Routes.{routes_within};
 use crate::aggregate::aggregate;
 use crate::command::{Command, Request};
 use crate::hop::Hop;
-use crate::table::{Routes, Table, Walk};
+use crate::table::{Rest, Routes, Table};
 use arrayvec::ArrayString;
 use itoa::Buffer;
 use radix_trie::{Address, Memory, Network};
@@ -91,12 +91,13 @@ fn add_row<A: Address>(out: &mut Vec<u8>, network: &Network<A>, hop: &Hop) -> Re
 }
 
 /// Adds each route.
-fn add_walk<A: Address>(out: &mut Vec<u8>, walk: Walk<'_, A>) -> Result<(), AllocError>
+fn add_rest<A: Address>(out: &mut Vec<u8>, rest: Rest<'_, A>) -> Result<(), Memory>
     ensures text { OnOk result
-        (out.new.items ≡ out.old.items ++ flat_map (row A.text) walk.entry) }
+        (out.new.items ≡ out.old.items ++ flat_map (row A.text) rest.entry) }
     ensures kept { IsPrefix out.old.items out.new.items }
 {
-    for (network, hop) in walk {
+    let mut rest = rest;
+    while let Some((network, hop)) = rest.next()? {
         add_row(out, network, hop)?;
     }
     Ok(())
@@ -115,7 +116,7 @@ fn add_below<A: Address>(
     match routes.below(network)? {
         Some(rows) => {
             add_count(out, rows.count as u128)?;
-            Ok(add_walk(out, rows.walk)?)
+            add_rest(out, rows.walk)
         }
         None => Ok(add_count(out, 0)?),
     }
@@ -153,8 +154,8 @@ fn add_list(out: &mut Vec<u8>, table: &Table) -> Result<(), Memory>
     ensures kept { IsPrefix out.old.items out.new.items }
 {
     add_count(out, table.len())?;
-    add_walk(out, table.v4.walk()?)?;
-    Ok(add_walk(out, table.v6.walk()?)?)
+    add_rest(out, table.v4.rest()?)?;
+    add_rest(out, table.v6.rest()?)
 }
 
 /// Adds each row.

@@ -6,7 +6,7 @@ ghost use Rattle.route_tool.specs.Answers.{count_of};
 ghost use Rattle.route_tool.specs.Routes.{AreNetworks, IsLongest, hop_at, hop_of, in_order, routes_within, with_route, without_route};
 
 use crate::hop::Hop;
-use radix_trie::iter::Iter;
+use radix_trie::iter::{Cursor, Iter};
 use radix_trie::{Address, Memory, Network, Trie, TrieCommon, TrieKey, stored_keys_are_equal};
 use std::alloc::Global;
 use std::marker::Model;
@@ -15,11 +15,14 @@ use std::net::{Ipv4Addr, Ipv6Addr};
 /// A walk over routes.
 pub type Walk<'a, A> = Iter<'a, Network<A>, Hop>;
 
-/// A walk over routes, and how many they are.
+/// A cursor over routes.
+pub type Rest<'a, A> = Cursor<'a, Network<A>, Hop>;
+
+/// Routes that are still to come, and how many they are.
 #[derive(Drop)]
 pub struct Rows<'a, A: Address> {
     pub count: usize,
-    pub walk: Walk<'a, A>,
+    pub walk: Rest<'a, A>,
     ghost counted: { count ≡ length walk },
 }
 
@@ -122,7 +125,7 @@ impl<A: Address> Routes<A> {
         match self.trie.get_raw_descendant(network)? {
             Some(view) => {
                 let count = TrieCommon::len(&view);
-                let walk = TrieCommon::iter(&view)?;
+                let walk = TrieCommon::cursor(&view)?;
                 Ok(Some(Rows { count, walk }))
             }
             None => Ok(None),
@@ -134,6 +137,13 @@ impl<A: Address> Routes<A> {
         ensures { result ≡ length (in_order self.now) }
     {
         TrieCommon::len(&self.trie)
+    }
+
+    /// The same as a cursor, which begins at once.
+    pub fn rest(&self) -> Result<Rest<'_, A>, Memory>
+        ensures { IfOk result (λ rest. rest ≡ in_order self.now) }
+    {
+        TrieCommon::cursor(&self.trie)
     }
 
     /// All routes, in the order of their networks' bits.

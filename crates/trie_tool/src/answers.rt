@@ -81,14 +81,14 @@ fn add_row(out: &mut Vec<u8>, key: &String, number: u64) -> Result<(), AllocErro
 }
 
 /// Adds how many rows there are, and then each text with its number.
-fn add_rows(out: &mut Vec<u8>, rows: Rows<'_>) -> Result<(), AllocError>
+fn add_rows(out: &mut Vec<u8>, rows: Rows<'_>) -> Result<(), Memory>
     ensures text { OnOk result
         (out.new.items ≡ out.old.items ++ below_answer (each text rows.entry.walk)) }
     ensures kept { IsPrefix out.old.items out.new.items }
 {
-    let Rows { count, walk } = rows;
+    let Rows { count, mut walk } = rows;
     add_number(out, count as u64)?;
-    for (key, number) in walk {
+    while let Some((key, number)) = walk.next()? {
         add_row(out, key, *number)?;
     }
     Ok(())
@@ -114,7 +114,7 @@ fn add_below(out: &mut Vec<u8>, numbers: &Numbers, key: &str) -> Result<(), Memo
     ensures kept { IsPrefix out.old.items out.new.items }
 {
     match numbers.below(key)? {
-        Some(rows) => Ok(add_rows(out, rows)?),
+        Some(rows) => add_rows(out, rows),
         None => Ok(out.extend_from_slice(b"0\n")?),
     }
 }

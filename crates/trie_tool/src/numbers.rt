@@ -7,7 +7,7 @@ ghost use Rattle.nibble_map.specs.Maps.{value_at, without_below};
 ghost use Rattle.trie_tool.specs.Numbers.{text};
 ghost use Rattle.radix_trie.specs.Views.{pairs_below, value_of};
 
-use radix_trie::iter::Iter;
+use radix_trie::iter::{Cursor, Iter};
 use radix_trie::{Memory, Trie, TrieCommon};
 use std::alloc::Global;
 use std::marker::Model;
@@ -16,7 +16,7 @@ use std::marker::Model;
 #[derive(Drop)]
 pub struct Rows<'a> {
     pub count: usize,
-    pub walk: Iter<'a, String, u64>,
+    pub walk: Cursor<'a, String, u64>,
     ghost counted: { count ≡ length walk },
 }
 
@@ -98,7 +98,7 @@ impl Numbers {
         match self.trie.get_raw_descendant(&key)? {
             Some(view) => {
                 let count = TrieCommon::len(&view);
-                let walk = TrieCommon::iter(&view)?;
+                let walk = TrieCommon::cursor(&view)?;
                 Ok(Some(Rows { count, walk }))
             }
             None => Ok(None),

@@ -18,7 +18,8 @@ READ_FAILED = b"read failed\n", 1
 # What the calls of trie_shell that open a view are called in the library, and the view.
 OPENERS = {"open": ("subtrie", "SubTrie"), **{it: (it, "SubTrieMut") for it in ("open_mut", "subtrie_mut")}}
 WITHS = {"with": "open_mut", "with_subtrie_mut": "subtrie_mut"}
-COMMON = ("iter", "keys", "values", "iter_from", "iter_after", "prefix")
+CURSORS = ("cursor", "cursor_from", "cursor_after")
+COMMON = ("iter", "keys", "values", "iter_from", "iter_after", "prefix", *CURSORS)
 PARTS = {"nibblet": "Nibblet", "bits": "Bits", "ipv4": "Network", "ipv6": "Network"}
 ESCAPE = re.compile(rb"\\(?:x([0-9a-f]{2})|\((.)\*(\d+)\)|(\\))")
 
@@ -143,7 +144,7 @@ def calls_of(words, place):
         inner = " ".join(rest[1:]).split(" ; ")
         return [f"Trie::{WITHS[name]}", *(it for call in inner for it in calls_of(call.split(" "), "SubTrieMut"))]
     if name == "spend":
-        return [f"SubTrieMut::{rest[0]}"]
+        return [f"SubTrieMut::{rest[0]}", *["Cursor::next"] * (rest[0] in CURSORS)]
     if name == "into_trie":
         return calls_of(rest, "Trie")
     if name in ("encode", "encode_bytes"):
@@ -153,7 +154,8 @@ def calls_of(words, place):
     if name == "check_integrity":
         return ["Trie::check_integrity", "TrieNode::check_integrity_recursive"]
     plain = {"run": ["run"], "json": ["from_value", "to_value"], "into_children": ["SubTrieMut::into_children"]}
-    return plain.get(name) or [f"&{place}::{name}" if name in COMMON else f"{place}::{name}"]
+    called = [f"&{place}::{name}" if name in COMMON else f"{place}::{name}", *["Cursor::next"] * (name in CURSORS)]
+    return plain.get(name) or called
 
 
 def shell_calls(session):

@@ -49,6 +49,30 @@ def shown(at):
     return at or '""'
 
 
+class Words(dict):
+    """The words of keys of one type, by their lists."""
+
+    def __init__(self, kind):
+        super().__init__()
+        self.kind = kind
+
+    def logged(self, at):
+        """What a log has of the key, as `{:?}` writes it."""
+        if self.kind == "bytes":
+            return str([*bytes.fromhex(at)])
+        if self.kind == "text":
+            return f'"{escaped(bytes.fromhex(at).decode(), chr(34))}"'
+        if self.kind == "char":
+            return f"'{escaped(chr(int(at, 16)), chr(39))}'"
+        return "" if self[at] == '""' else self[at]
+
+
+def escaped(text, quote):
+    """A text as Rust's `escape_debug` has it, between such quotes."""
+    known = {"\\": "\\\\", "\0": "\\0", "\t": "\\t", "\n": "\\n", "\r": "\\r", quote: f"\\{quote}"}
+    return "".join(known.get(it, it if it.isprintable() else f"\\u{{{ord(it):x}}}") for it in text)
+
+
 class Trie:
     """Pairs by their lists, the points of these, and the words of keys by their lists."""
 
@@ -154,6 +178,9 @@ class View:
     def told(self, lists, part=both):
         return rows(part(self.pairs[it]) for it in lists)
 
+    def debug(self):
+        return "{%s}" % ", ".join(f"{self.trie.words.logged(it)}: {self.pairs[it][1]}" for it in self.below)
+
 
 def inside(call):
     """The call at a list that lies below the view's path; another one is outside."""
@@ -205,12 +232,16 @@ COMMON = {
     "values": ("", lambda v: v.told(v.below, value)),
     "iter_from": ("Q", lambda v, at: v.told(it for it in v.below if it >= at)),
     "iter_after": ("Q", lambda v, at: v.told(it for it in v.below if it > at)),
+    "cursor": ("", lambda v: v.told(v.below)),
+    "cursor_from": ("Q", lambda v, at: v.told(it for it in v.below if it >= at)),
+    "cursor_after": ("Q", lambda v, at: v.told(it for it in v.below if it > at)),
     "first_key_value": ("", lambda v: v.told(v.below[:1])),
     "last_key_value": ("", lambda v: v.told(v.below[-1:])),
 }
 OF_BOTH = {
     "get": ("Q", inside(lambda v, at: value(v.pairs.get(at)))),
     "children": ("", lambda v: rows(v.trie.view(it) for it in v.trie.children(v.path))),
+    "debug": ("", View.debug),
 }
 OF_WRITERS = {
     "insert": ("KN", inside(lambda v, at, number: value(v.trie.change(at, number)))),
@@ -230,6 +261,7 @@ OF_TRIES = {
     "subtrie": ("Q", lambda v, at: v.trie.view(at)),
     "common_prefixes": ("Q", lambda v, at: v.told(beginnings(v.trie.lists, at))),
     "first_below": ("QN", lambda v, at, most: v.told(starting(v.trie.lists, at)[:most])),
+    "first_after": ("QQN", lambda v, at, last, most: v.told([it for it in starting(v.trie.lists, at) if it > last][:most])),
     "at": ("L", lambda v, at: value(v.pairs.get(at))),
     "contains": ("L", lambda v, at: truth(at in v.pairs)),
     "nearest": ("L", lambda v, at: both(v.trie.above(at))),
@@ -246,6 +278,7 @@ OF_TRIES = {
     "pop_last": ("", lambda v: rows(both(v.trie.change(it)) for it in v.below[-1:])),
     "into_pairs": ("", lambda v: rows(map(both, v.trie.cut("").values()))),
     "clear": ("", clear),
+    "compact": ("", lambda v: "ok"),
     "for_each_value_mut": ("N", for_each_value_mut),
     "extend": ("P", extend),
     "from_iter": ("P", from_iter),
@@ -273,7 +306,7 @@ class Shell:
     """The tries and their names, the current one first, the views that are open, and the keys by their words."""
 
     def __init__(self, kind):
-        self.kind, self.keys, self.words, self.views = kind, {}, {}, []
+        self.kind, self.keys, self.words, self.views = kind, {}, Words(kind), []
         self.tries = [["trie", Trie(self.words)]]
 
     @property

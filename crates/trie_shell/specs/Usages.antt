@@ -18,6 +18,9 @@ usages =
     (codes "values", 0, 0) ∷
     (codes "iter_from", 1, 1) ∷
     (codes "iter_after", 1, 1) ∷
+    (codes "cursor", 0, 0) ∷
+    (codes "cursor_from", 1, 1) ∷
+    (codes "cursor_after", 1, 1) ∷
     (codes "first_key_value", 0, 0) ∷
     (codes "last_key_value", 0, 0) ∷
     (codes "get", 1, 1) ∷
@@ -32,6 +35,7 @@ usages =
     (codes "subtrie", 1, 1) ∷
     (codes "common_prefixes", 1, 1) ∷
     (codes "first_below", 2, 2) ∷
+    (codes "first_after", 3, 3) ∷
     (codes "at", 1, 1) ∷
     (codes "contains", 1, 1) ∷
     (codes "nearest", 1, 1) ∷
@@ -41,6 +45,7 @@ usages =
     (codes "footprint", 0, 0) ∷
     (codes "check_integrity", 0, 0) ∷
     (codes "to_ascending", 0, 0) ∷
+    (codes "debug", 0, 0) ∷
     (codes "insert", 2, 2) ∷
     (codes "remove", 1, 1) ∷
     (codes "remove_entry", 1, 1) ∷
@@ -52,6 +57,7 @@ usages =
     (codes "pop_last", 0, 0) ∷
     (codes "into_pairs", 0, 0) ∷
     (codes "clear", 0, 0) ∷
+    (codes "compact", 0, 0) ∷
     (codes "for_each_value_mut", 1, 1) ∷
     (codes "extend", 0, many) ∷
     (codes "from_iter", 0, many) ∷
@@ -83,6 +89,7 @@ usages =
     (codes "ipv4", 2, 3) ∷
     (codes "ipv6", 2, 3) ∷
     (codes "json", 1, many) ∷
+    (codes "error", 1, 1) ∷
     (codes "save", 2, many) ∷
     (codes "load", 2, 2) ∷
     (codes "keys", 1, 1) ∷

@@ -5,6 +5,7 @@ use crate::words::Words;
 use itoa::Buffer;
 use radix_trie::{Memory, Nibblet};
 use std::alloc::Global;
+use std::fmt;
 use std::fmt::Display;
 use std::str::FromStr;
 
@@ -203,13 +204,28 @@ impl<'a> Answer<'a> {
             Ok(text) => Ok(text),
             Err(_) => format!(in self.alloc; "{value}"),
         };
+        self.made(text.ok())
+    }
+
+    /// Adds a text that was made, if it was.
+    fn made(&mut self, text: Option<String>) -> Result<(), Memory> {
         match text {
-            Ok(text) => self.put(text.as_bytes()),
-            Err(_) => {
+            Some(text) => self.put(text.as_bytes()),
+            None => {
                 self.is_lost = true;
                 Err(Memory)
             }
         }
+    }
+
+    /// Adds a line: what `{:?}` writes of a value.
+    pub fn debug_line<T: fmt::Debug>(&mut self, value: &T) -> Result<(), Memory> {
+        let text = match format!(in self.alloc; "{value:?}") {
+            Ok(text) => Ok(text),
+            Err(_) => format!(in self.alloc; "{value:?}"),
+        };
+        self.made(text.ok())?;
+        self.end()
     }
 
     /// Adds a line: what is shown of a value.

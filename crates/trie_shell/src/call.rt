@@ -31,6 +31,9 @@ pub enum Common {
     Values,
     IterFrom,
     IterAfter,
+    Cursor,
+    CursorFrom,
+    CursorAfter,
     FirstKeyValue,
     LastKeyValue,
 }
@@ -50,6 +53,7 @@ pub enum Keyed {
     Subtrie,
     CommonPrefixes,
     FirstBelow,
+    FirstAfter,
 }
 
 /// Look-ups at a list of nibbles.
@@ -69,6 +73,7 @@ pub enum Whole {
     Footprint,
     CheckIntegrity,
     ToAscending,
+    Debug,
 }
 
 /// Changes at a key.
@@ -90,6 +95,7 @@ pub enum Sweep {
     PopLast,
     IntoPairs,
     Clear,
+    Compact,
     ForEachValueMut,
     Extend,
     FromIter,
@@ -141,6 +147,7 @@ pub enum Part {
     Ipv4,
     Ipv6,
     Json,
+    Error,
 }
 
 /// Calls whose answer goes to a file, or whose words come from one.
@@ -179,6 +186,9 @@ pub const CALLS: &'static [Usage] = &[
     Usage("values", 0, 0, Call::Common(Common::Values)),
     Usage("iter_from", 1, 1, Call::Common(Common::IterFrom)),
     Usage("iter_after", 1, 1, Call::Common(Common::IterAfter)),
+    Usage("cursor", 0, 0, Call::Common(Common::Cursor)),
+    Usage("cursor_from", 1, 1, Call::Common(Common::CursorFrom)),
+    Usage("cursor_after", 1, 1, Call::Common(Common::CursorAfter)),
     Usage("first_key_value", 0, 0, Call::Common(Common::FirstKeyValue)),
     Usage("last_key_value", 0, 0, Call::Common(Common::LastKeyValue)),
     Usage("get", 1, 1, Call::Keyed(Keyed::Get)),
@@ -203,6 +213,7 @@ pub const CALLS: &'static [Usage] = &[
     Usage("subtrie", 1, 1, Call::Keyed(Keyed::Subtrie)),
     Usage("common_prefixes", 1, 1, Call::Keyed(Keyed::CommonPrefixes)),
     Usage("first_below", 2, 2, Call::Keyed(Keyed::FirstBelow)),
+    Usage("first_after", 3, 3, Call::Keyed(Keyed::FirstAfter)),
     Usage("at", 1, 1, Call::Listed(Listed::At)),
     Usage("contains", 1, 1, Call::Listed(Listed::Contains)),
     Usage("nearest", 1, 1, Call::Listed(Listed::Nearest)),
@@ -217,6 +228,7 @@ pub const CALLS: &'static [Usage] = &[
     Usage("footprint", 0, 0, Call::Whole(Whole::Footprint)),
     Usage("check_integrity", 0, 0, Call::Whole(Whole::CheckIntegrity)),
     Usage("to_ascending", 0, 0, Call::Whole(Whole::ToAscending)),
+    Usage("debug", 0, 0, Call::Whole(Whole::Debug)),
     Usage("insert", 2, 2, Call::Edit(Edit::Insert)),
     Usage("remove", 1, 1, Call::Edit(Edit::Remove)),
     Usage("remove_entry", 1, 1, Call::Edit(Edit::RemoveEntry)),
@@ -228,6 +240,7 @@ pub const CALLS: &'static [Usage] = &[
     Usage("pop_last", 0, 0, Call::Sweep(Sweep::PopLast)),
     Usage("into_pairs", 0, 0, Call::Sweep(Sweep::IntoPairs)),
     Usage("clear", 0, 0, Call::Sweep(Sweep::Clear)),
+    Usage("compact", 0, 0, Call::Sweep(Sweep::Compact)),
     Usage(
         "for_each_value_mut",
         1,
@@ -269,6 +282,7 @@ pub const CALLS: &'static [Usage] = &[
     Usage("ipv4", 2, 3, Call::Part(Part::Ipv4)),
     Usage("ipv6", 2, 3, Call::Part(Part::Ipv6)),
     Usage("json", 1, MANY, Call::Part(Part::Json)),
+    Usage("error", 1, 1, Call::Part(Part::Error)),
     Usage("save", 2, MANY, Call::File(File::Save)),
     Usage("load", 2, 2, Call::File(File::Load)),
     Usage("keys", 1, 1, Call::Session(Session::Keys)),

@@ -32,12 +32,17 @@ pop_first: takes the first pair. The pair, or none.\n\
 pop_last: takes the last pair. The pair, or none.\n\
 into_pairs: all pairs, or none. The trie is empty then.\n\
 clear: takes all pairs.\n\
+compact: lays the nodes anew, in the order of walks.\n\
 iter: the pairs in order, or none.\n\
 keys: their keys, or none.\n\
 values: their values, or none.\n\
 iter_from KEY: the pairs from the key on, or none.\n\
 iter_after KEY: the pairs after the key, or none.\n\
+cursor: the pairs in order, or none. A refused step is made once more.\n\
+cursor_from KEY: the same from the key on.\n\
+cursor_after KEY: the same after the key.\n\
 first_below KEY COUNT: the first pairs at and below the key, so many at most, or none.\n\
+first_after KEY LAST COUNT: the same of those after the key LAST.\n\
 common_prefixes KEY: the pairs at prefixes of the key, the shortest first, or none.\n\
 first_key_value: the first pair, or none.\n\
 last_key_value: the last pair, or none.\n\
@@ -57,7 +62,8 @@ get_ancestor KEY: the view of the longest stored prefix, or none.\n\
 get_ancestor_value KEY: the value of the longest stored prefix, or none.\n\
 get_raw_ancestor KEY: the view of the nearest point at or above the key.\n\
 get_raw_descendant KEY: the view of the nearest point at or below the key, or none.\n\
-to_ascending: the pairs of the trie of ascending keys.\n\
+to_ascending: the keys of the trie of ascending keys, each with the value that is found at it.\n\
+debug: the trie or the view as a map, as a log has it.\n\
 open KEY: opens a view for reading. Its path and its value, or none.\n\
 open_mut KEY: opens a view for writing. Its path and its value, or closed.\n\
 subtrie_mut KEY: the same by the other call. Its path and its value, or none.\n\
@@ -70,6 +76,7 @@ spend CALL: what the call answers that takes the open view.\n\
 close: leaves the open view.\n\
 run COMMAND ..: the replies to a list of commands; within KEY COMMAND .. end runs some in a view.\n\
 json TEXT: the counts of an object's trie, and the object that it is written as; kind; float.\n\
+error NAME: the text of an error: memory, full, outside, absent, closed, kind, float or odd; none.\n\
 encode TYPE KEY: the key's encoding, in nibbles. The types are those of integers,\n\
 encode TYPE KEY: BigEndian<u16>, <u32>, <u128>, LittleEndian of these, Ascending<i8> to <isize>,\n\
 encode TYPE KEY: String, &str, &String, &mut&str, Vec<u8>, &[u8], Vec<u16>, Nibblet, bool, char,\n\
@@ -85,6 +92,7 @@ nibblet turn_over LIST: the list with the highest bit of its first nibble turned
 nibblet join LIST LIST: the two lists as one.\n\
 nibblet agreement LIST OTHER PLACE: how many first nibbles are those of OTHER from PLACE on.\n\
 nibblet split LIST COUNT: the first nibbles, so many, and the others.\n\
+nibblet head LIST COUNT: the first nibbles, so many.\n\
 nibblet tail LIST COUNT: the list without the first nibbles.\n\
 nibblet truncate LIST COUNT: the first nibbles alone.\n\
 bits first_of BYTES COUNT: the first bits of the bytes, at most all of them.\n\

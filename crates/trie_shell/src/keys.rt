@@ -8,16 +8,18 @@ mod sequences;
 use crate::answer::Answer;
 use radix_trie::{Memory, Nibblet, Trie, TrieKey};
 use std::alloc::Global;
+use std::fmt;
 
 /// A type of keys that lines write as words.
-pub trait ShellKey: TrieKey + Clone + Drop {
+pub trait ShellKey: TrieKey + Clone + Drop + fmt::Debug {
     /// The key that the word writes, if it writes one.
     fn read(alloc: Global, word: &str) -> Result<Option<Self>, Memory>;
 
     /// Adds the word that writes the key.
     fn write(&self, answer: &mut Answer<'_>) -> Result<(), Memory>;
 
-    /// Adds the walk of the trie of the ascending keys, where the keys are signed integers.
+    /// Adds the walk of the trie of the ascending keys, where the keys are signed integers, each with the value that is
+    /// found at it.
     fn to_ascending(_trie: &Trie<Self, u64>, answer: &mut Answer<'_>) -> Result<(), Memory> {
         answer.line("no signed keys")
     }

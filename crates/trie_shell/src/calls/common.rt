@@ -2,7 +2,9 @@
 
 use crate::answer::Answer;
 use crate::call::Common;
-use crate::calls::lines::{NO_KEY, key_line, key_lines, pair_line, pair_lines, value_lines};
+use crate::calls::lines::{
+    NO_KEY, cursor_lines, key_line, key_lines, pair_line, pair_lines, value_lines,
+};
 use crate::keys::{Query, ShellKey};
 use radix_trie::{Memory, TrieCommon, TrieKey};
 
@@ -27,7 +29,10 @@ pub fn answer_common<'a, K: ShellKey + 'a, T: TrieCommon<'a, K, u64> + Drop>(
         Common::Iter => pair_lines(answer, of.iter()?),
         Common::Keys => key_lines(answer, of.keys()?),
         Common::Values => value_lines(answer, of.values()?),
-        Common::IterFrom | Common::IterAfter => answer_resumed(of, call, answer),
+        Common::Cursor => cursor_lines(answer, of.cursor()?),
+        Common::IterFrom | Common::IterAfter | Common::CursorFrom | Common::CursorAfter => {
+            answer_resumed(of, call, answer)
+        }
     }
 }
 
@@ -52,6 +57,8 @@ fn resumed_lines<'a, K: ShellKey + 'a, T: TrieCommon<'a, K, u64> + Drop, Q: Trie
 ) -> Result<(), Memory> {
     match call {
         Common::IterFrom => pair_lines(answer, of.iter_from(key)?),
-        _ => pair_lines(answer, of.iter_after(key)?),
+        Common::IterAfter => pair_lines(answer, of.iter_after(key)?),
+        Common::CursorFrom => cursor_lines(answer, of.cursor_from(key)?),
+        _ => cursor_lines(answer, of.cursor_after(key)?),
     }
 }

@@ -68,9 +68,23 @@ fn answer_two(name: &str, list: Nibblet, answer: &mut Answer<'_>) -> Result<(), 
             _ => answer.line(NO_NUMBER),
         };
     }
-    match list.join(&other) {
+    answer_joined(list, &other, answer)
+}
+
+/// The two lists as one. Where that is refused, the first one has come back.
+fn answer_joined(list: Nibblet, other: &Nibblet, answer: &mut Answer<'_>) -> Result<(), Memory> {
+    let given = match list.clone() {
+        Ok(given) => given,
+        Err(_) => list.clone()?,
+    };
+    match list.join(other) {
         Ok(joined) => answer.list_line(&joined),
-        Err(_) => Err(Memory),
+        Err(back) => {
+            if back != given {
+                answer.note_other();
+            }
+            Err(Memory)
+        }
     }
 }
 
@@ -89,6 +103,7 @@ fn answer_cut(name: &str, list: Nibblet, answer: &mut Answer<'_>) -> Result<(), 
             answer.list(&list)?;
             answer.list_line(&rest)
         }
+        "head" => answer.list_line(&list.head(i)?),
         "tail" => answer.list_line(&list.tail(i)?),
         "truncate" => {
             list.truncate(i);

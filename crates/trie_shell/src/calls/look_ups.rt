@@ -49,7 +49,37 @@ fn answer_at<K: ShellKey, Q: TrieKey>(
             Some(most) => pair_lines(answer, trie.first_below(key, most as usize)?.into_iter()),
             None => answer.line(NO_NUMBER),
         },
+        Keyed::FirstAfter => answer_after(trie, key, answer),
         _ => answer_view(trie, key, call, answer),
+    }
+}
+
+/// A page below the key, after what the next word writes.
+fn answer_after<K: ShellKey, Q: TrieKey>(
+    trie: &Trie<K, u64>,
+    key: &Q,
+    answer: &mut Answer<'_>,
+) -> Result<(), Memory> {
+    match answer.next_query::<K>()? {
+        Some(Query::Key(last)) => page_lines(trie, key, &last, answer),
+        Some(Query::List(last)) => page_lines(trie, key, &last, answer),
+        None => answer.line(NO_KEY),
+    }
+}
+
+/// A page below the key, after another one.
+fn page_lines<K: ShellKey, Q: TrieKey, L: TrieKey>(
+    trie: &Trie<K, u64>,
+    key: &Q,
+    last: &L,
+    answer: &mut Answer<'_>,
+) -> Result<(), Memory> {
+    match answer.next_number() {
+        Some(most) => pair_lines(
+            answer,
+            trie.first_after(key, last, most as usize)?.into_iter(),
+        ),
+        None => answer.line(NO_NUMBER),
     }
 }
 
@@ -107,6 +137,7 @@ pub fn answer_whole<K: ShellKey>(
     match call {
         Whole::Children => child_lines(answer, trie.children()?),
         Whole::ToAscending => K::to_ascending(trie, answer),
+        Whole::Debug => answer.debug_line(trie),
         Whole::CheckIntegrity => answer.truth_line(trie.check_integrity()?),
         Whole::Footprint => {
             let (nodes, nibbles) = trie.footprint();

@@ -4,9 +4,10 @@ use crate::answer::Answer;
 use crate::call::Part;
 use crate::calls::encodings::answer_encoding;
 use crate::calls::json::answer_json;
+use crate::calls::lines::NONE;
 use crate::calls::lists::{answer_bits, answer_nibblet};
 use crate::calls::networks::answer_network;
-use radix_trie::Memory;
+use radix_trie::{Memory, TrieError};
 use std::net::{Ipv4Addr, Ipv6Addr};
 
 /// A call of a key, a list of nibbles or of bits, a network or an object.
@@ -19,5 +20,22 @@ pub fn answer_part(call: Part, answer: &mut Answer<'_>) -> Result<(), Memory> {
         Part::Ipv4 => answer_network::<Ipv4Addr>(answer),
         Part::Ipv6 => answer_network::<Ipv6Addr>(answer),
         Part::Json => answer_json(answer.words().rest(), answer),
+        Part::Error => answer_error(answer),
     }
+}
+
+/// The text of the library's error that the next word names.
+fn answer_error(answer: &mut Answer<'_>) -> Result<(), Memory> {
+    let error = match answer.next_word().unwrap_or("") {
+        "memory" => TrieError::Memory,
+        "full" => TrieError::Full,
+        "outside" => TrieError::Outside,
+        "absent" => TrieError::Absent,
+        "closed" => TrieError::Closed,
+        "kind" => TrieError::Kind,
+        "float" => TrieError::Float,
+        "odd" => TrieError::Odd,
+        _ => return answer.line(NONE),
+    };
+    answer.shown_line(&error)
 }

@@ -23,6 +23,10 @@ pub fn answer_sweep<K: ShellKey>(
             trie.clear();
             answer.line("ok")
         }
+        Sweep::Compact => {
+            trie.compact()?;
+            answer.line("ok")
+        }
         Sweep::Extend | Sweep::FromIter => answer_pairs(trie, call, answer),
         Sweep::ForEachValueMut => match answer.next_number() {
             Some(added) => {

@@ -48,6 +48,7 @@ pub fn answer_in_view<K: ShellKey>(
             None => answer.line(NO_KEY),
         },
         Call::Whole(Whole::Children) => child_lines(answer, view.children()?),
+        Call::Whole(Whole::Debug) => answer.debug_line(&view),
         Call::View(View::Path) => answer.list_line(view.path()),
         _ => answer.line(NOT_HERE),
     }
@@ -108,6 +109,7 @@ fn answer_through<K: ShellKey>(
             None => answer.line(NO_KEY),
         },
         Call::Whole(Whole::Children) => child_lines(answer, view.children()?),
+        Call::Whole(Whole::Debug) => answer.debug_line(&*view),
         Call::View(View::Path) => answer.list_line(view.path()),
         Call::Edit(call) => answer_edit_in_view(view, call, answer),
         Call::Sweep(Sweep::ValueMut) => written_or_none(answer, view.value_mut()),

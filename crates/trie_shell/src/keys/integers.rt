@@ -8,18 +8,17 @@ use radix_trie::{KeySigned, Memory, Trie, TrieCommon, TrieKey};
 use std::alloc::Global;
 use std::fmt::Display;
 
-/// Adds the pairs of the trie of the same keys in ascending order.
+/// Adds the keys of the trie of the same keys in ascending order, each with the value that is found at it.
 fn ascending_lines<K: KeySigned + Display>(
     trie: &Trie<K, u64>,
     answer: &mut Answer<'_>,
 ) -> Result<(), Memory> {
     let turned = trie.to_ascending()?;
     let mut is_none = true;
-    for (key, value) in TrieCommon::iter(&turned)? {
+    for key in TrieCommon::keys(&turned)? {
         is_none = false;
         answer.shown(&key.value())?;
-        answer.number(*value as u128)?;
-        answer.end()?;
+        answer.value_line(turned.get(key)?.copied())?;
     }
     none_line(answer, is_none)
 }

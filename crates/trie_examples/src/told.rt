@@ -1,0 +1,120 @@
+//! What callers are told by words of contracts: a nearest value, why a change is refused, all values changed at once, and
+//! the order of pairs of numbers.
+ghost use Rattle.std.specs.FinMap as map;
+ghost use Rattle.std.specs.Prelude.{◌≡◌, ◌+◌, ◌<◌, ◌^◌, ◌-◌, ℕ, [], All, List, None, Ok, IfErr, IfOk, IsOk, option_map};
+ghost use Rattle.radix_trie.specs.Lists.{IsBefore, IsPrefix};
+ghost use Rattle.radix_trie.specs.Maps.{IsStored, below, value_at};
+ghost use Rattle.radix_trie.specs.Views.{pairs_below};
+ghost use Rattle.radix_trie.specs.WriteViews.{map_behind, path_of};
+
+use radix_trie::{
+    InsertError, InsertWhy, Memory, Nibblet, SubTrieError, SubTrieMut, Trie, TrieKey,
+};
+use std::alloc::Global;
+
+/// The nearest value above a list at which a pair is stored: the value there.
+fn nearest_at<K: TrieKey, V: Copy>(trie: &Trie<K, V>, list: &Nibblet) -> Option<V>
+    requires { IsStored trie.now list.now }
+    ensures { result ≡ value_at trie.now list.now }
+{
+    trie.nearest_value(list).copied()
+}
+
+/// Replaces the pair at a light key through a view, at whose path or below it stands. It isn't refused.
+fn replaced<K: TrieKey + Drop, V: Drop>(
+    view: &mut SubTrieMut<'_, K, V>,
+    key: K,
+    value: V,
+) -> Result<Option<V>, InsertError<K, V>>
+    requires light { K.is_light key }
+    requires inside { IsPrefix (path_of view.old) (K.encoding key) }
+    requires stored { IsStored (map_behind view.old) (K.encoding key) }
+    ensures { IsOk result }
+{
+    view.insert(key, value)
+}
+
+/// Stores a light key through a view that it lies outside: this, and nothing else, is why it is refused.
+fn outside<K: TrieKey + Drop, V: Drop>(
+    view: &mut SubTrieMut<'_, K, V>,
+    key: K,
+    value: V,
+) -> Result<Option<V>, InsertError<K, V>>
+    requires light { K.is_light key }
+    requires apart { IsPrefix (path_of view.old) (K.encoding key) → ⊥ }
+    ensures { IfErr result (λ e. e.why ≡ InsertWhy.Outside) }
+{
+    view.insert(key, value)
+}
+
+/// Takes all pairs below a light key away through a view, where there is none. It isn't refused.
+fn pruned<K: TrieKey + Drop, V: Drop, Q: TrieKey>(
+    view: &mut SubTrieMut<'_, K, V>,
+    key: &Q,
+) -> Result<Vec<(K, V)>, SubTrieError>
+    requires light { Q.is_light key.now }
+    requires inside { IsPrefix (path_of view.old) (Q.encoding key.now) }
+    requires none { map.len (below (map_behind view.old) (Q.encoding key.now)) ≡ 0 }
+    ensures { IsOk result }
+{
+    view.remove_prefix(key)
+}
+
+/// Takes the pair at a light key away through a view, where there is none. It isn't refused.
+fn removed<K: TrieKey + Drop, V: Drop, Q: TrieKey>(
+    view: &mut SubTrieMut<'_, K, V>,
+    key: &Q,
+) -> Result<Option<V>, SubTrieError>
+    requires light { Q.is_light key.now }
+    requires inside { IsPrefix (path_of view.old) (Q.encoding key.now) }
+    requires none { map.get (map_behind view.old) (Q.encoding key.now) ≡ None }
+    ensures { result ≡ Ok None }
+{
+    view.remove(key)
+}
+
+/// Adds one to each count. The keys stay.
+fn one_more_each<K: TrieKey>(counts: &mut Trie<K, u64>)
+    requires room { All (λ p. p.1 + 1 < 2 ^ 64) (pairs_below counts.old []) }
+    ensures { (e : List ℕ)
+        → map.get counts.new e ≡ option_map (λ p. (p.0, p.1 + 1)) (map.get counts.old e) }
+{
+    counts.for_each_value_mut(
+        |n: &mut u64|
+            requires { n.old + 1 < 2 ^ 64 }
+            ensures { n.new ≡ n.old + 1 }
+        { *n += 1 },
+    );
+}
+
+/// Adds one to each count, and looks a key up: it has one more than before, or none as before.
+fn one_more<K: TrieKey, Q: TrieKey>(
+    counts: &mut Trie<K, u64>,
+    key: &Q,
+) -> Result<Option<u64>, Memory>
+    requires room { All (λ p. p.1 + 1 < 2 ^ 64) (pairs_below counts.old []) }
+    ensures { IfOk result (λ found.
+        found ≡ option_map (λ n. n + 1) (value_at counts.old (Q.encoding key.now))) }
+{
+    one_more_each(counts);
+    Ok(counts.get(key)?.copied())
+}
+
+/// The encodings of two pairs of numbers: that of the pair with the smaller first number comes first, and where the first
+/// numbers are equal, that of the pair with the smaller second number.
+fn encoded(alloc: Global, x: (u8, u16), y: (u8, u16)) -> Result<(Nibblet, Nibblet), Memory>
+    ensures first { IfOk result (λ lists. x.0 < y.0 → IsBefore lists.0 lists.1) }
+    ensures second { IfOk result (λ lists.
+        x.0 ≡ y.0 → x.1 < y.1 → IsBefore lists.0 lists.1) }
+{
+    Ok((x.encode(alloc)?, y.encode(alloc)?))
+}
+
+#[test]
+fn pairs_have_rising_encodings(rt: HostRuntime) -> Result<(), Memory> {
+    let (first, second) = encoded(rt.alloc(), (1, 300), (2, 0))?;
+    assert!(rt; first < second);
+    let (first, second) = encoded(rt.alloc(), (1, 255), (1, 256))?;
+    assert!(rt; first < second);
+    Ok(())
+}

@@ -132,7 +132,8 @@ class Lines:
     def next(self):
         """A line, and the lines of its answer."""
         word = self.random.choices(
-            ("add", "del", "look", "find", "below", "len", "list", "aggregate", "#", ""), (80, 24, 40, 30, 12, 6, 2, 1, 4, 2)
+            ("add", "del", "look", "find", "below", "len", "list", "aggregate", "compact", "#", ""),
+            (80, 24, 40, 30, 12, 6, 2, 1, 2, 4, 2),
         )[0]
         if word in ("look", "find"):
             version = self.random.choice((4, 6))
@@ -153,7 +154,7 @@ class Lines:
             return word, self.table.rows(self.table.all())
         if word == "aggregate":
             return word, Aggregate(self.table)
-        return word, [str(len(self.table.routes))] if word == "len" else []
+        return word, [str(len(self.table.routes))] if word in ("len", "compact") else []
 
 
 def answers(lines, program=PROGRAM):

@@ -8,7 +8,7 @@ use Rattle.std.proofs.NetLemmas.Ipv6.{IsDotted-not_colon_hex}
 use Rattle.std.proofs.NetLemmas.Theorems.{IsIpv4Text_unique, IsIpv6Text_unique}
 use Rattle.std.proofs.lemmas.Fmt.{decimal_injective}
 use Rattle.radix_keys.specs.Networks.{Net, IsParted}
-use Rattle.route_tool.specs.Requests.{Request, Add, Del, Below, Look, Find, Asked, V4, V6, Len, All, Aggregate, Comment, Asks, IsRequest, IsTarget, IsTextRequest, Says, word_of}
+use Rattle.route_tool.specs.Requests.{Request, Add, Del, Below, Look, Find, Asked, V4, V6, Len, All, Aggregate, Compact, Comment, Asks, IsRequest, IsTarget, IsTextRequest, Says, word_of}
 use Rattle.route_tool.proofs.CommandLemmas.{has_slash}
 
 -- a text is parted at a byte in one way
@@ -60,11 +60,12 @@ module _ {A : Type 0} (w : ℕ) (narrow : w ≤ 128) (number : A → ℕ) (write
 
 module _ {A : Type 0} (w : ℕ) (number : A → ℕ) (writes : List ℕ → A → Type 0) where
   -- no request is a comment or a word alone
-  no_letters : (r : Request A) (rest : List ℕ) → (get_or (word_of r ++ (32 ∷ rest)) 0 0 ≢ 35) × (word_of r ++ (32 ∷ rest) ≢ codes "len") × (word_of r ++ (32 ∷ rest) ≢ codes "list") × (word_of r ++ (32 ∷ rest) ≢ codes "aggregate")
+  no_letters : (r : Request A) (rest : List ℕ) → (get_or (word_of r ++ (32 ∷ rest)) 0 0 ≢ 35) × (word_of r ++ (32 ∷ rest) ≢ codes "len") × (word_of r ++ (32 ∷ rest) ≢ codes "list") × (word_of r ++ (32 ∷ rest) ≢ codes "aggregate") × (word_of r ++ (32 ∷ rest) ≢ codes "compact")
   no_letters (Look a) rest = (
     λ e. omega (arith, e),
     λ e. omega (arith, ap (λ (l : List ℕ). get_or l 1 0) e),
     λ e. omega (arith, ap (λ (l : List ℕ). get_or l 1 0) e),
+    λ e. omega (arith, ap (λ (l : List ℕ). get_or l 0 0) e),
     λ e. omega (arith, ap (λ (l : List ℕ). get_or l 0 0) e),
   )
   no_letters (Add net hop) rest = (
@@ -72,18 +73,20 @@ module _ {A : Type 0} (w : ℕ) (number : A → ℕ) (writes : List ℕ → A �
     λ e. omega (arith, ap (λ (l : List ℕ). get_or l 0 0) e),
     λ e. omega (arith, ap (λ (l : List ℕ). get_or l 0 0) e),
     λ e. omega (arith, ap (λ (l : List ℕ). get_or l 1 0) e),
+    λ e. omega (arith, ap (λ (l : List ℕ). get_or l 0 0) e),
   )
   no_letters r rest = (
     λ e. omega (arith, e),
     λ e. omega (arith, ap (λ (l : List ℕ). get_or l 0 0) e),
     λ e. omega (arith, ap (λ (l : List ℕ). get_or l 0 0) e),
     λ e. omega (arith, ap (λ (l : List ℕ). get_or l 0 0) e),
+    λ e. omega (arith, ap (λ (l : List ℕ). get_or l 0 0) e),
   )
 
-  no_word : (text : List ℕ) (r : Request A) → Asks w number writes text r → (get_or text 0 0 ≢ 35) × (text ≢ codes "len") × (text ≢ codes "list") × (text ≢ codes "aggregate")
+  no_word : (text : List ℕ) (r : Request A) → Asks w number writes text r → (get_or text 0 0 ≢ 35) × (text ≢ codes "len") × (text ≢ codes "list") × (text ≢ codes "aggregate") × (text ≢ codes "compact")
   no_word text r (rest, (is, _), _) =
       let letters = no_letters r rest in
-      (λ e. letters.0 (ap (λ l. get_or l 0 0) (sym is) ∙ e), λ e. letters.1 (sym is ∙ e), λ e. letters.2 (sym is ∙ e), λ e. letters.3 (sym is ∙ e))
+      (λ e. letters.0 (ap (λ l. get_or l 0 0) (sym is) ∙ e), λ e. letters.1 (sym is ∙ e), λ e. letters.2 (sym is ∙ e), λ e. letters.3 (sym is ∙ e), λ e. letters.4 (sym is ∙ e))
 
 -- no word writes networks of both families
 target_apart : (s : List ℕ) (m : Net Ipv4Addr) (n : Net Ipv6Addr) → IsTarget 32 ipv4_bits IsIpv4Text s m → IsTarget 128 ipv6_bits IsIpv6Text s n → ⊥
@@ -115,6 +118,7 @@ no_comment text (V6 r) p = (no_word 128 ipv6_bits IsIpv6Text text r p).0
 no_comment text Len p = λ e. omega (arith, ap (λ (l : List ℕ). get_or l 0 0) p, e)
 no_comment text All p = λ e. omega (arith, ap (λ (l : List ℕ). get_or l 0 0) p, e)
 no_comment text Aggregate p = λ e. omega (arith, ap (λ (l : List ℕ). get_or l 0 0) p, e)
+no_comment text Compact p = λ e. omega (arith, ap (λ (l : List ℕ). get_or l 0 0) p, e)
 no_comment text Comment p = absurd p
 
 -- what a text asks for, it asks for alone
@@ -126,18 +130,23 @@ one_text text (V6 r) (V4 s) p q = absurd (asked_apart text s r q p)
 one_text text (V4 r) Len p q = absurd ((no_word 32 ipv4_bits IsIpv4Text text r p).1 q)
 one_text text (V4 r) All p q = absurd ((no_word 32 ipv4_bits IsIpv4Text text r p).2 q)
 one_text text (V4 r) Aggregate p q = absurd ((no_word 32 ipv4_bits IsIpv4Text text r p).3 q)
+one_text text (V4 r) Compact p q = absurd ((no_word 32 ipv4_bits IsIpv4Text text r p).4 q)
 one_text text (V6 r) Len p q = absurd ((no_word 128 ipv6_bits IsIpv6Text text r p).1 q)
 one_text text (V6 r) All p q = absurd ((no_word 128 ipv6_bits IsIpv6Text text r p).2 q)
 one_text text (V6 r) Aggregate p q = absurd ((no_word 128 ipv6_bits IsIpv6Text text r p).3 q)
+one_text text (V6 r) Compact p q = absurd ((no_word 128 ipv6_bits IsIpv6Text text r p).4 q)
 one_text text Len (V4 r) p q = absurd ((no_word 32 ipv4_bits IsIpv4Text text r q).1 p)
 one_text text All (V4 r) p q = absurd ((no_word 32 ipv4_bits IsIpv4Text text r q).2 p)
 one_text text Aggregate (V4 r) p q = absurd ((no_word 32 ipv4_bits IsIpv4Text text r q).3 p)
+one_text text Compact (V4 r) p q = absurd ((no_word 32 ipv4_bits IsIpv4Text text r q).4 p)
 one_text text Len (V6 r) p q = absurd ((no_word 128 ipv6_bits IsIpv6Text text r q).1 p)
 one_text text All (V6 r) p q = absurd ((no_word 128 ipv6_bits IsIpv6Text text r q).2 p)
 one_text text Aggregate (V6 r) p q = absurd ((no_word 128 ipv6_bits IsIpv6Text text r q).3 p)
+one_text text Compact (V6 r) p q = absurd ((no_word 128 ipv6_bits IsIpv6Text text r q).4 p)
 one_text text Len Len p q = refl
 one_text text All All p q = refl
 one_text text Aggregate Aggregate p q = refl
+one_text text Compact Compact p q = refl
 one_text text Comment d p q = absurd p
 one_text text c Comment p q = absurd q
 one_text text c d p q = absurd (omega (arith, ap (λ (l : List ℕ). get_or l 1 0) (sym p ∙ q)))

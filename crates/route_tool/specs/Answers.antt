@@ -6,7 +6,7 @@ use Rattle.std.specs.declared.net.ipv4_addr.Ipv4Addr.{Ipv4Addr}
 use Rattle.std.specs.declared.net.ipv6_addr.Ipv6Addr.{Ipv6Addr}
 use Rattle.radix_keys.specs.Networks.{net_text}
 use Rattle.route_tool.specs.Aggregates.{IsAggregate}
-use Rattle.route_tool.specs.Requests.{Request, Add, Del, Below, Look, Find, Asked, V4, V6, Len, All, Aggregate, Comment}
+use Rattle.route_tool.specs.Requests.{Request, Add, Del, Below, Look, Find, Asked, V4, V6, Len, All, Aggregate, Compact, Comment}
 use Rattle.route_tool.specs.Routes.{Route, Routes, IsLongest, hop_at, hop_of, in_order, routes_within, with_route, without_route}
 use Rattle.route_tool.specs.declared.table.Table.{Table}
 
@@ -86,4 +86,5 @@ IsAnswer (V6 r) t u answer =
 IsAnswer Len t u answer = (answer ≡ count_answer (count_of t)) × (u ≡ t)
 IsAnswer All t u answer = (answer ≡ list_answer t) × (u ≡ t)
 IsAnswer Aggregate t u answer = IsAggregateAnswer t answer × (u ≡ t)
+IsAnswer Compact t u answer = (answer ≡ count_answer (count_of t)) × (u ≡ t)
 IsAnswer Comment t u answer = (answer ≡ []) × (u ≡ t)

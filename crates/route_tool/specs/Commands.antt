@@ -1,7 +1,7 @@
 -- What the code's commands stand for.
 use Rattle.route_tool.specs.Requests as asked
 use Rattle.route_tool.specs.declared.command.Command.{Command}
-use Rattle.route_tool.specs.declared.command.Command.TheVariants.{V4, V6, Len, All, Aggregate, Comment}
+use Rattle.route_tool.specs.declared.command.Command.TheVariants.{V4, V6, Len, All, Aggregate, Compact, Comment}
 use Rattle.route_tool.specs.declared.command.Request.{Request}
 use Rattle.route_tool.specs.declared.command.Request.TheVariants.{Add, Del, Below, Look, Find}
 
@@ -18,4 +18,5 @@ asked_of (V6 r) = asked.V6 (request_of r)
 asked_of Len = asked.Len
 asked_of All = asked.All
 asked_of Aggregate = asked.Aggregate
+asked_of Compact = asked.Compact
 asked_of Comment = asked.Comment

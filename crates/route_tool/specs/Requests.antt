@@ -22,6 +22,7 @@ pub data Asked : Type 0 where
   Len : Asked
   All : Asked
   Aggregate : Asked
+  Compact : Asked
   Comment : Asked
 
 -- a text of one byte or more, the first and the last of them no space
@@ -72,6 +73,7 @@ IsTextRequest text (V6 r) = Asks 128 ipv6_bits IsIpv6Text text r
 IsTextRequest text Len = text ≡ codes "len"
 IsTextRequest text All = text ≡ codes "list"
 IsTextRequest text Aggregate = text ≡ codes "aggregate"
+IsTextRequest text Compact = text ≡ codes "compact"
 IsTextRequest text Comment = ⊥
 
 -- what a line asks for: nothing, where it begins with #, and else what its text does

@@ -196,6 +196,10 @@ pub fn answer(out: &mut Vec<u8>, table: &mut Table, command: &Command<'_>) -> Re
         Command::Len => Ok(add_count(out, table.len())?),
         Command::All => add_list(out, table),
         Command::Aggregate => add_aggregate(out, table),
+        Command::Compact => {
+            table.compact()?;
+            Ok(add_count(out, table.len())?)
+        }
         Command::Comment => Ok(()),
     }
 }

@@ -25,6 +25,7 @@ pub enum Command<'a> {
     Len,
     All,
     Aggregate,
+    Compact,
     Comment,
 }
 
@@ -113,6 +114,9 @@ fn parse_text(text: &str) -> Option<Command<'_>>
     }
     if text == "aggregate" {
         return Some(Command::Aggregate);
+    }
+    if text == "compact" {
+        return Some(Command::Compact);
     }
     let (word, rest) = text.split_once(' ')?;
     match worded::<Ipv4Addr>(word, rest) {

@@ -1,16 +1,18 @@
 //! What callers are told by words of contracts: a nearest value, why a change is refused, all values changed at once, and
 //! the order of pairs of numbers.
 ghost use Rattle.std.specs.FinMap as map;
-ghost use Rattle.std.specs.Prelude.{◌≡◌, ◌+◌, ◌<◌, ◌^◌, ◌-◌, ℕ, [], All, List, None, Ok, IfErr, IfOk, IsOk, option_map};
+ghost use Rattle.std.specs.Prelude.{◌≡◌, ◌+◌, ◌<◌, ◌^◌, ◌-◌, ◌∷◌, ℕ, [], All, List, None, Ok, IfErr, IfOk, IsOk, OnErr, option_map};
 ghost use Rattle.radix_trie.specs.Lists.{IsBefore, IsPrefix};
 ghost use Rattle.radix_trie.specs.Maps.{IsStored, below, value_at};
 ghost use Rattle.radix_trie.specs.Views.{pairs_below};
 ghost use Rattle.radix_trie.specs.WriteViews.{map_behind, path_of};
 
 use radix_trie::{
-    InsertError, InsertWhy, Memory, Nibblet, SubTrieError, SubTrieMut, Trie, TrieKey,
+    Command, InsertError, InsertWhy, Memory, Nibblet, Reply, SubTrieError, SubTrieMut, Trie, TrieKey,
+    run,
 };
 use std::alloc::Global;
+use std::iter::once;
 
 /// The nearest value above a list at which a pair is stored: the value there.
 fn nearest_at<K: TrieKey, V: Copy>(trie: &Trie<K, V>, list: &Nibblet) -> Option<V>
@@ -45,6 +47,34 @@ fn outside<K: TrieKey + Drop, V: Drop>(
     ensures { IfErr result (λ e. e.why ≡ InsertWhy.Outside) }
 {
     view.insert(key, value)
+}
+
+/// Stores one pair by `extend`. Where it is refused, that pair comes back, and no other pair was stored.
+fn extended_by_one<K: TrieKey + Drop, V: Drop>(
+    trie: &mut Trie<K, V>,
+    key: K,
+    value: V,
+) -> Result<(), InsertError<K, V>>
+    ensures same { OnErr result (trie.new ≡ trie.old) }
+    ensures back { IfErr result (λ e. (e.key ≡ key) × (e.value ≡ value)) }
+{
+    trie.extend(once((key, value)))
+}
+
+/// Runs one command, which puts a value in place of that of a light key. It isn't refused.
+fn replaced_by_run<K: TrieKey + Drop, V: Copy>(
+    trie: &mut Trie<K, V>,
+    commands: Vec<Command<K, V>>,
+    key: &K,
+    value: V,
+) -> Result<Vec<Reply<V>>, Memory>
+    requires one { commands.items ≡ Command.Insert key.now value ∷ [] }
+    requires light { K.is_light key.now }
+    requires stored { IsStored trie.old (K.encoding key.now) }
+    ensures { IfOk result (λ replies.
+        replies.items ≡ Reply.Old (value_at trie.old (K.encoding key.now)) ∷ []) }
+{
+    run(trie, commands)
 }
 
 /// Takes all pairs below a light key away through a view, where there is none. It isn't refused.

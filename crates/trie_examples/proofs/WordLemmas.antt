@@ -1,7 +1,13 @@
 -- What the words of contracts tell, over plain variables.
-use Rattle.std.proofs.Common.{◌≡◌, ℕ, List, Option, None, Some, T, is_some, option_map, refl, ap, sym, subst, ◌∙◌, arith}
+use Rattle.std.proofs.Common.{◌≡◌, ◌⊎◌, inl, inr, ℕ, List, [], ◌∷◌, ◌++◌, length, Option, None, Some, T, is_some, option_map, refl, ap, sym, subst, ◌∙◌, arith}
+use Rattle.std.proofs.lemmas.List.{length-append}
 use Rattle.std.specs.FinMap as map
-use Rattle.nibble_map.specs.Maps.{PairMap}
+use Rattle.nibble_map.specs.Maps.{IsStored, PairMap, value_at}
+use Rattle.radix_trie.specs.Commands.{Step, Steps, at_start, then_step}
+use Rattle.radix_trie.specs.declared.commands.Command.{Command}
+use Rattle.radix_trie.specs.declared.commands.Command.TheVariants.{Insert}
+use Rattle.radix_trie.specs.declared.commands.Reply.{Reply}
+use Rattle.radix_trie.specs.declared.commands.Reply.TheVariants.{Old}
 use Rattle.radix_trie.specs.Values.{ChangesEachValue}
 
 module _ {K V : Type 0} where
@@ -19,3 +25,29 @@ module _ {K V : Type 0} where
           let pair = changed.copied_pairs e p q was is in
           let value = by p q.1 was pair.1 in
           is ∙ ap (λ (r : K × V). Some r) (grind (arith)) ∙ sym (ap (option_map (λ p. (p.0, f p.1))) was)
+
+-- the item at the end of a list of one is this one
+only_one : {A : Type 0} (xs : List A) (x y : A) → xs ++ x ∷ [] ≡ y ∷ [] → (xs ≡ []) × (x ≡ y)
+only_one [] x y e = (refl, cc)
+only_one (z ∷ xs) x y e = absurd (omega (arith, ap length e, length-append xs (x ∷ [])))
+
+module _ {K V : Type 0} (enc : K → List ℕ) (light : K → Type 0) where
+  -- a run of no command replies nothing, and leaves the map
+  nothing_run : (m n : PairMap K V) (cs : List (Command K V)) (rs : List (Reply V)) → Steps enc light m cs rs n → cs ≡ [] → (rs ≡ []) × (n ≡ m)
+  nothing_run m n cs rs at_start none = (refl, refl)
+  nothing_run m n cs rs (then_step {cs = others} c r o before step) none = absurd (omega (arith, ap length none, length-append others (c ∷ [])))
+
+  module _ (k : K) (v : V) (is : light k) where
+    -- an insertion by a light key at whose list a pair is stored replies the old value
+    inserted_over : (m n : PairMap K V) (r : Reply V) → IsStored m (enc k) → Step enc light m (Insert k v) r n → r ≡ Old (value_at m (enc k))
+    inserted_over m n r stored (inl (old, _, _)) = old
+    inserted_over m n r stored (inr (_, refused)) = absurd (refused is stored)
+
+    -- and so does a run of it alone
+    pub run_over : (m n : PairMap K V) (cs : List (Command K V)) (rs : List (Reply V)) → IsStored m (enc k) → cs ≡ Insert k v ∷ [] → Steps enc light m cs rs n → rs ≡ Old (value_at m (enc k)) ∷ []
+    run_over m n cs rs stored one at_start = absurd (omega (arith, ap length one))
+    run_over m n cs rs stored one (then_step {cs = others} {rs = replies} {n = middle} c r o before step) =
+        let first = only_one others c (Insert k v) one in
+        let start = nothing_run m middle others replies before first.0 in
+        let last = subst (λ (d : Command K V). Step enc light m d r o) first.1 (subst (λ x. Step enc light x c r o) start.1 step) in
+        rw (start.0, inserted_over m o r stored last) refl

@@ -8,8 +8,8 @@ ghost use Rattle.radix_trie.specs.Views.{pairs_below};
 ghost use Rattle.radix_trie.specs.WriteViews.{map_behind, path_of};
 
 use radix_trie::{
-    Command, InsertError, InsertWhy, Memory, Nibblet, Reply, SubTrieError, SubTrieMut, Trie, TrieKey,
-    run,
+    Command, InsertError, InsertWhy, Memory, Nibblet, Reply, SubTrieError, SubTrieMut, Trie,
+    TrieKey, run,
 };
 use std::alloc::Global;
 use std::iter::once;

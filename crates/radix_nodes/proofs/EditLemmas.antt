@@ -8,3 +8,4 @@ pub mod Placed
 pub mod Branches
 pub mod Drains
 pub mod Settling
+pub mod Ends

@@ -24,7 +24,7 @@ use Rattle.masked_tree.proofs.EditLemmas.Insertion.{pair_edits, child_entry_alte
 use Rattle.radix_nodes.proofs.EditLemmas.KeyParts.{first-drop, drop_some, take_some}
 
 -- the path of each node begins with the tree's fragment
-path_has_fragment : {P : Type 0} (t : Tree P) (p : List ℕ) (u : Tree P) → IsNodeAt t p u → IsPrefix t.fragment p
+pub path_has_fragment : {P : Type 0} (t : Tree P) (p : List ℕ) (u : Tree P) → IsNodeAt t p u → IsPrefix t.fragment p
 path_has_fragment t p u (inl d) = ([], d.0 ∙ sym (append-nil t.fragment))
 path_has_fragment t p u (inr d) = (d.0, d.1)
 

@@ -164,6 +164,11 @@ module _ {K V : Type 0} where
   pub children-no_boxes : (n : TrieNode K V) → length (out-TrieNode K V n).children.items ≡ 0 → (tree_of n).children ≡ none
   children-no_boxes n e = children-tree_of n ∙ children_of-no_boxes _ e
 
+  -- where the box at i has no boxes of its own, the child at i has no children
+  pub leaf_in_box : (n : TrieNode K V) (i : ℕ) (b : Box (TrieNode K V) Global) (u : Tree (KeyValue K V)) → IsTreePlaced (tree_of n) → i < length (out-TrieNode K V n).children.items →
+      get_or (out-TrieNode K V n).children.items i b ≡ b → length (out-TrieNode K V b.value).children.items ≡ 0 → IsAt i (tree_of n).children u → u.children ≡ none
+  leaf_in_box n i b u h lt at e a = ap (λ (t : Tree (KeyValue K V)). t.children) (child_is_in_box n i b u h lt at a) ∙ children-no_boxes b.value e
+
   -- a node with another box at i stands for the tree with that box's tree as its child at i
   pub tree_of-with_child : (n : TrieNode K V) (i : ℕ) (b' : Box (TrieNode K V) Global) → let o = out-TrieNode K V n in
       tree_of (roll-TrieNode K V record { fragment = o.fragment; pair = o.pair; mask = o.mask; children = with_item o.children i b' }) ≡ with_child i (tree_of b'.value) (tree_of n)

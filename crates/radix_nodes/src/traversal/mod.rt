@@ -13,6 +13,7 @@ pub mod find;
 pub mod grow;
 pub mod insert;
 pub mod lend;
+pub mod pop;
 pub mod prune;
 pub mod queries;
 pub mod remove;

@@ -23,7 +23,9 @@ pub struct Taken<K, V> {
 
 // Takes the pair of a node with children. What may fail comes first.
 #[inline(never)]
-fn take_here<K: Drop, V: Drop>(node: &mut TrieNode<K, V>) -> Result<Option<Taken<K, V>>, Memory>
+pub(crate) fn take_here<K: Drop, V: Drop>(
+    node: &mut TrieNode<K, V>,
+) -> Result<Option<Taken<K, V>>, Memory>
     requires placed { IsTreePlaced (tree_of node.old) }
     requires some { fragment_of node.old ≢ [] }
     requires inner { 0 < vec_len (out_of node.old).children }
@@ -87,7 +89,7 @@ fn make_taken<K: Drop, V: Drop>(leaf: Branch<K, V>) -> Option<Taken<K, V>>
 
 // Takes the pair of the leaf at i away, with the leaf.
 #[inline(never)]
-fn take_leaf<K: Drop, V: Drop>(
+pub(crate) fn take_leaf<K: Drop, V: Drop>(
     node: &mut TrieNode<K, V>,
     i: usize,
 ) -> Result<Option<Taken<K, V>>, Memory>
@@ -138,6 +140,39 @@ fn take_below<K: Drop, V: Drop>(
     }
 }
 
+// Takes the root's own pair, if it has one.
+pub(crate) fn take_own<K, V>(node: &mut TrieNode<K, V>) -> Option<Taken<K, V>>
+    requires { IsTreePlaced (tree_of node.old) }
+    ensures { RootOutcome (Ok result) (fragment_of node.old) (tree_of node.old) (tree_of node.new) }
+{
+    match take_pair(&mut node.pair) {
+        Some(pair) => Some(Taken {
+            pair,
+            nodes: 0,
+            nibbles: 0,
+        }),
+        None => None,
+    }
+}
+
+// Takes the pair of the root's leaf at i away, with the leaf.
+pub(crate) fn take_root_leaf<K: Drop, V: Drop>(
+    node: &mut TrieNode<K, V>,
+    i: usize,
+) -> Option<Taken<K, V>>
+    requires within { i < vec_len (out_of node.old).children }
+    requires placed { IsTreePlaced (tree_of node.old) }
+    requires leaf { (u : _) → IsAt i (tree_of node.old).children u → u.children ≡ none }
+    ensures { (u : _) → IsAt i (tree_of node.old).children u
+        → RootOutcome (Ok result) (fragment_of node.old ++ u.fragment) (tree_of node.old)
+        (tree_of node.new) }
+{
+    if !has_pair(&node.children[i]) {
+        return None;
+    }
+    make_taken(cut_root_child(node, i))
+}
+
 /// Takes the pair at the list's place at or below the root, which stays whatever it is left with.
 pub fn take_root<K: Drop, V: Drop>(
     node: &mut TrieNode<K, V>,
@@ -148,22 +183,12 @@ pub fn take_root<K: Drop, V: Drop>(
         (tree_of node.new) }
 {
     if list.len() == 0 {
-        return match take_pair(&mut node.pair) {
-            Some(pair) => Ok(Some(Taken {
-                pair,
-                nodes: 0,
-                nibbles: 0,
-            })),
-            None => Ok(None),
-        };
+        return Ok(take_own(node));
     }
     match step(node, list, 0) {
         Some((i, next)) => {
             if next == list.len() && is_end(&node.children[i]) {
-                if !has_pair(&node.children[i]) {
-                    return Ok(None);
-                }
-                Ok(make_taken(cut_root_child(node, i)))
+                Ok(take_root_leaf(node, i))
             } else {
                 let mut taken = None;
                 let told = take_below(&mut node.children[i], list, next, &mut taken);

@@ -1,35 +1,29 @@
 -- What a removal from the root does, once it has taken a pair.
-use Rattle.std.proofs.Common.{◌≡◌, ℕ, suc, ◌-◌, ◌≤◌, List, ◌++◌, length, Some, None, ap, arith}
+use Rattle.std.proofs.Common.{◌≡◌, ℕ, suc, ◌-◌, ◌≤◌, List, length, Some, None, ap, arith}
 use Rattle.std.specs.FinMap as fin
 use Rattle.masked_tree.specs.Alters.{CutsRoot}
 use Rattle.masked_tree.specs.Tree.{Tree}
 use Rattle.masked_tree.proofs.TreeLemmas.Children.{swaps-length}
 use Rattle.radix_nodes.specs.declared.trie_node.KeyValue.{KeyValue}
-use Rattle.radix_nodes.specs.declared.trie_node.TrieNode.{TrieNode}
-use Rattle.radix_nodes.specs.Nodes.{tree_of, fragment_of}
 use Rattle.radix_nodes.specs.Pairs.{pair_of}
 use Rattle.radix_trie.specs.Roots.{entries_of, map_of, IsKept}
-use Rattle.radix_trie.proofs.ChangeLemmas.Changes.{entry_change, kept_after, map_of-cut, get-before_cut, removed_at}
+use Rattle.radix_trie.proofs.ChangeLemmas.Changes.{entry_change, kept_after, map_of-cut, get-before_cut}
 
 -- what a removal from the root does, once it has taken a pair
-module _ {K V : Type 0} (enc : K → List ℕ) (root : TrieNode K V) (new : Tree (KeyValue K V)) (count nodes nibbles : ℕ) (list q : List ℕ) (x : KeyValue K V) (m l : ℕ)
-    (kept : IsKept enc (tree_of root) count nodes nibbles) (is : list ≡ q) (cut : CutsRoot (fragment_of root ++ list) x m l (tree_of root) new) where
-  -- the removal is one at q
-  at_q : CutsRoot q x m l (tree_of root) new
-  at_q = removed_at root new list q x m l kept.top is cut
-
+module _ {K V : Type 0} (enc : K → List ℕ) (old new : Tree (KeyValue K V)) (count nodes nibbles : ℕ) (q : List ℕ) (x : KeyValue K V) (m l : ℕ)
+    (kept : IsKept enc old count nodes nibbles) (cut : CutsRoot q x m l old new) where
   -- the pair that was taken is the old map's at the list
-  pub get-taken : fin.get (map_of (tree_of root)) q ≡ Some (pair_of x)
-  get-taken = get-before_cut enc (tree_of root) new count nodes nibbles q x m l kept at_q
+  pub get-taken : fin.get (map_of old) q ≡ Some (pair_of x)
+  get-taken = get-before_cut enc old new count nodes nibbles q x m l kept cut
 
   -- after the removal the map is the old one with the list removed
-  pub map_of-taken : map_of new ≡ fin.remove (map_of (tree_of root)) q
-  map_of-taken = map_of-cut enc (tree_of root) new count nodes nibbles q x m l kept at_q
+  pub map_of-taken : map_of new ≡ fin.remove (map_of old) q
+  map_of-taken = map_of-cut enc old new count nodes nibbles q x m l kept cut
 
   -- the removal left one pair less
   one_pair_less : suc (length (entries_of new)) ≡ count
   one_pair_less =
-      let s = swaps-length _ _ _ _ (entry_change enc (tree_of root) new count nodes nibbles q (Some x) None 0 m 0 l kept at_q) in
+      let s = swaps-length _ _ _ _ (entry_change enc old new count nodes nibbles q (Some x) None 0 m 0 l kept cut) in
       omega (arith, s, kept.counted)
 
   -- before the removal there was a pair
@@ -38,14 +32,14 @@ module _ {K V : Type 0} (enc : K → List ℕ) (root : TrieNode K V) (new : Tree
 
   -- no more nodes were taken than there were
   taken_nodes : m ≤ nodes
-  taken_nodes = omega (arith, at_q.alters.nodes, kept.noded)
+  taken_nodes = omega (arith, cut.alters.nodes, kept.noded)
 
   -- no more nibbles were taken than there were
   taken_nibbles : l ≤ nibbles
-  taken_nibbles = let s = ap length at_q.fragment in omega (arith, s, at_q.alters.nibbles, kept.nibbled)
+  taken_nibbles = let s = ap length cut.fragment in omega (arith, s, cut.alters.nibbles, kept.nibbled)
 
   -- after the removal the root is kept, with one pair less and without the nodes and nibbles taken
   pub taken_kept : IsKept enc new (count - 1) (nodes - m) (nibbles - l)
   taken_kept =
-      kept_after enc (tree_of root) new count nodes nibbles q (Some x) None 0 m 0 l kept at_q (count - 1) tt (omega (arith, one_pair_less))
+      kept_after enc old new count nodes nibbles q (Some x) None 0 m 0 l kept cut (count - 1) tt (omega (arith, one_pair_less))
       (nodes - m) (nibbles - l) (omega (arith, taken_nodes)) (omega (arith, taken_nibbles))

@@ -32,6 +32,7 @@ mod lends;
 mod lookups;
 mod opens;
 mod pages;
+mod pop;
 mod prune;
 mod queries;
 mod remove;

@@ -1,14 +1,11 @@
 //! Removals of one pair, and of all.
-ghost use Rattle.std.specs.Prelude.{◌≡◌, ◌-◌, ℕ, List, [], length, None, IsOk, IfOk, OnOk, OnErr, MatchOption, slice_get};
-ghost use Rattle.std.specs.Option.{ForSome};
+ghost use Rattle.std.specs.Prelude.{◌≡◌, ℕ, List, None, IsOk, IfOk, OnOk, OnErr};
 ghost use Rattle.std.specs.FinMap as map;
 ghost use Rattle.nibble_map.specs.Maps.{IsStored, value_at};
 ghost use Rattle.nibble_map.specs.Nibbles.{IsShort};
 ghost use Rattle.radix_trie.specs.Refusals.{JoinsAreShort};
-ghost use Rattle.radix_trie.specs.Views.{pairs_below};
 
 use crate::trie::Trie;
-use crate::view::trie_common::TrieCommon;
 use radix_keys::{Memory, Nibblet, TrieKey};
 use radix_nodes::traversal::remove::take_root;
 
@@ -63,62 +60,6 @@ impl<K: TrieKey + Drop, V: Drop> Trie<K, V> {
     {
         let list = key.encode(self.alloc)?;
         self.take_entry_at(&list)
-    }
-
-    /// Takes the pair with the first encoding away, in the order of walks, and answers it; None
-    /// where no pair is stored.
-    ///
-    /// # Errors
-    ///
-    /// Memory is refused, for the stored key's encoding or for joining two fragments. The trie is
-    /// as before then.
-    pub fn pop_first(&mut self) -> Result<Option<(K, V)>, Memory>
-        ensures first { IfOk result (λ first. first ≡ slice_get (pairs_below self.old []) 0) }
-        ensures removed { IfOk result (λ first. MatchOption first (self.new ≡ self.old)
-            (λ pair. self.new ≡ map.remove self.old (K.encoding pair.0))) }
-        ensures unchanged { OnErr result (self.new ≡ self.old) }
-        ensures light_short { ForSome (slice_get (pairs_below self.old []) 0)
-            (λ pair. K.is_light pair.0)
-            → ((e : List ℕ) → IsStored self.old e → IsShort e)
-            → IsOk result }
-        ensures light_join { ForSome (slice_get (pairs_below self.old []) 0)
-            (λ pair. K.is_light pair.0 × JoinsAreShort self.old (K.encoding pair.0))
-            → IsOk result }
-    {
-        let first = match TrieCommon::first_key_value(&*self) {
-            Some((key, _)) => key.encode(self.alloc)?,
-            None => return Ok(None),
-        };
-        self.take_entry_at(&first)
-    }
-
-    /// Takes the pair with the last encoding away, in the order of walks, and answers it; None
-    /// where no pair is stored.
-    ///
-    /// # Errors
-    ///
-    /// Those of `pop_first`. The trie is as before then.
-    pub fn pop_last(&mut self) -> Result<Option<(K, V)>, Memory>
-        ensures last { IfOk result (λ last. last ≡ slice_get (pairs_below self.old [])
-            (length (pairs_below self.old []) - 1)) }
-        ensures removed { IfOk result (λ last. MatchOption last (self.new ≡ self.old)
-            (λ pair. self.new ≡ map.remove self.old (K.encoding pair.0))) }
-        ensures unchanged { OnErr result (self.new ≡ self.old) }
-        ensures light_short { ForSome (slice_get (pairs_below self.old [])
-            (length (pairs_below self.old []) - 1))
-            (λ pair. K.is_light pair.0)
-            → ((e : List ℕ) → IsStored self.old e → IsShort e)
-            → IsOk result }
-        ensures light_join { ForSome (slice_get (pairs_below self.old [])
-            (length (pairs_below self.old []) - 1))
-            (λ pair. K.is_light pair.0 × JoinsAreShort self.old (K.encoding pair.0))
-            → IsOk result }
-    {
-        let last = match TrieCommon::last_key_value(&*self) {
-            Some((key, _)) => key.encode(self.alloc)?,
-            None => return Ok(None),
-        };
-        self.take_entry_at(&last)
     }
 
     /// What `remove` does, with the key's encoding in hand.

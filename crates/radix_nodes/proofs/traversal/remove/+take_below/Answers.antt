@@ -6,8 +6,8 @@ use Rattle.radix_nodes.specs.Nodes.{tree_of, fragment_of, answered, CutOutcome}
 use Rattle.radix_nodes.proofs.NodeLemmas.Nodes.{fragment-tree_of}
 use Rattle.radix_nodes.proofs.EditLemmas.Insertion.{boxed_child_is_placed, box_is_child}
 use Rattle.radix_nodes.proofs.EditLemmas.Steps.{stuck_lacks}
-use Rattle.radix_nodes.proofs.EditLemmas.Merging.{child_is_in_box, item_is_unique}
-use Rattle.radix_nodes.proofs.EditLemmas.Removal.{children-no_boxes, cut_through_child}
+use Rattle.radix_nodes.proofs.EditLemmas.Merging.{item_is_unique}
+use Rattle.radix_nodes.proofs.EditLemmas.Removal.{leaf_in_box, cut_through_child}
 use Rattle.radix_nodes.proofs.traversal.remove.+take_below.Goals.{else-next-len-via-then-next-len+else-is_end, else-next-len-via-else-next-len}
 use Rattle.radix_nodes.proofs.traversal.remove.+take_below.Goals as goal
 use Rattle.nibble_map.proofs.ListLemmas.Cut.{first-append, append-some}
@@ -17,10 +17,8 @@ take_leaf-requires-clause-leaf g t c u a =
     let out = out-TrieNode g.row.K.Denot g.row.V.Denot in
     let n = c.args.node.now in
     let b = c.index.result.now in
-    let o = (out n).children.ok.0 in
-    let o' = (out b.value).children.ok.0 in
-    let none' = subst (λ m. vec_len (out m).children ≡ 0) c.deref.ensures c.if-is_end.ensures in
-    ap (λ t. t.children) (child_is_in_box n c.in-Some.i b u c.requires.placed (omega (arith, c.in-Some.ensures.within, o)) (sym c.index.ensures) a) ∙ children-no_boxes b.value (omega (arith, none', o'))
+    let bare = subst (λ m. vec_len (out m).children ≡ 0) c.deref.ensures c.if-is_end.ensures in
+    leaf_in_box n c.in-Some.i b u c.requires.placed (omega (arith, c.in-Some.ensures.within, (out n).children.ok.0)) (sym c.index.ensures) (omega (arith, bare, (out b.value).children.ok.0)) a
 
 pub take_below-requires : goal.take_below-requires
 take_below-requires g t c =

@@ -35,7 +35,7 @@ at_end-map f First xs = slice_get-map f xs 0
 at_end-map f Last xs = ap (λ n. slice_get (map f xs) (n - 1)) (length-map xs f) ∙ slice_get-map f xs (length xs - 1)
 
 -- an empty list has no item at an end
-at_end-nil : {A : Type 0} (end : End) → at_end {A} end [] ≡ None
+at_end-nil : {A : Type 0} (end : End) → at_end {A = A} end [] ≡ None
 at_end-nil First = refl
 at_end-nil Last = refl
 
@@ -83,15 +83,15 @@ module _ {K V : Type 0} (enc : K → List ℕ) (t : Tree (KeyValue K V)) (count 
           sym got ∙ got_end h.0 h.1 h.2 ∙ sym (end_pair h.0 h.1 h.2),
         )
 
-    -- where nothing was taken, a walk has no pair, and the root is the same
-    pub none_popped : RootPopOutcome end (Ok None) t new → (None ≡ at_end end (pairs_below m [])) × (new ≡ t)
-    none_popped (inl h) = (sym (no_end h.0), h.2)
+    -- where nothing was taken, a walk has no pair
+    pub none_popped : RootPopOutcome end (Ok None) t new → None ≡ at_end end (pairs_below m [])
+    none_popped (inl h) = sym (no_end h.0)
     none_popped (inr h) = let n = end_node h.0 h.1 h.2 in absurd (h.3.1 (node_held t h.0 n.0 h.1 n.1 n.2))
 
-    -- where memory was refused, the root is the same, and the removal joins fragments that aren't short
-    pub pop_refused : (e : Memory) → RootPopOutcome end (Err e) t new → (new ≡ t) × (ForSome (at_end end (pairs_below m [])) (λ pair. JoinsAreShort m (enc pair.0)) → ⊥)
-    pop_refused e (inl h) = let e : Err e ≡ Ok None = h.1 in cc e
-    pop_refused e (inr h) = (h.3.0, λ short.
-      let at = keyed_get enc m root.keyed h.0 (pair_of h.1) (got_end h.0 h.1 h.2) in
-      short_joins_fit enc m t root h.0 (held_stored enc t count nodes nibbles kept h.0 h.3.1)
-      (subst (JoinsAreShort m) (sym at) (short (pair_of h.1) (end_pair h.0 h.1 h.2))) h.3.2)
+    -- where memory was refused, the removal joins two fragments that aren't short together
+    pub pop_refused : (e : Memory) → RootPopOutcome end (Err e) t new → ForSome (at_end end (pairs_below m [])) (λ pair. JoinsAreShort m (enc pair.0)) → ⊥
+    pop_refused e (inl h) short = let e : Err e ≡ Ok None = h.1 in cc e
+    pop_refused e (inr h) short =
+        let at = keyed_get enc m root.keyed h.0 (pair_of h.1) (got_end h.0 h.1 h.2) in
+        short_joins_fit enc m t root h.0 (held_stored enc t count nodes nibbles kept h.0 h.3.1)
+        (subst (JoinsAreShort m) (sym at) (short (pair_of h.1) (end_pair h.0 h.1 h.2))) h.3.2

@@ -89,7 +89,7 @@ module _ {K V : Type 0} (n : TrieNode K V) (key : List ℕ) (depth i : ℕ) (h :
   -- the child that a key goes on to
   module _ (next : ℕ) (b : Box (TrieNode K V) Global) (s : IsStep n key depth i next) (is : get_or boxes i b ≡ b) where
     -- the child that a key goes on to is within the boxes
-    pub step_within : i < length boxes
+    step_within : i < length boxes
     step_within = omega (arith, s.within, (out-TrieNode K V n).children.ok.0)
 
     -- the tree of the box that a key goes on to is the node's child there

@@ -1,5 +1,5 @@
 -- What the removal of the pair at an end of the order of walks does to the map.
-use Rattle.std.proofs.Common.{◌≡◌, List, [], map, ◌-◌, length, ℕ, Option, Some, None, option_map, Ok, Err, inl, inr, refl, ap, sym, subst, ◌∙◌}
+use Rattle.std.proofs.Common.{◌≡◌, List, [], map, ◌-◌, length, ℕ, Some, None, option_map, Ok, Err, inl, inr, refl, ap, sym, subst, ◌∙◌}
 use Rattle.std.proofs.lemmas.List.{length-map}
 use Rattle.std.proofs.lemmas.Option.{slice_get-map}
 use Rattle.std.proofs.lemmas.Simd.{map-map}
@@ -8,7 +8,7 @@ use Rattle.std.specs.List.{slice_get}
 use Rattle.std.specs.Option.{ForSome}
 use Rattle.nibble_map.specs.Maps.{PairMap}
 use Rattle.masked_tree.specs.Alters.{CutsRoot}
-use Rattle.masked_tree.specs.Paths.{IsHeld, IsNodeAt}
+use Rattle.masked_tree.specs.Paths.{IsNodeAt}
 use Rattle.masked_tree.specs.Tree.{Tree, entries_at}
 use Rattle.masked_tree.proofs.PathLemmas.Paths.{has_node, node_held}
 use Rattle.radix_keys.specs.declared.nibbles.Memory.{Memory}

@@ -1,5 +1,5 @@
 -- The ends of a walk: the first pair at and below a node, and the last.
-use Rattle.std.proofs.Common.{◌≡◌, ℕ, zero, suc, ◌+◌, ◌-◌, ◌<◌, List, [], ◌∷◌, ◌++◌, length, Option, Some, None, refl, ap, sym, subst, ◌∙◌, append_assoc, append-nil, length-append, arith, Box, Global, option_map}
+use Rattle.std.proofs.Common.{◌≡◌, ℕ, zero, suc, ◌-◌, ◌<◌, List, [], ◌∷◌, ◌++◌, length, Option, Some, None, refl, ap, sym, subst, ◌∙◌, append_assoc, append-nil, arith, Box, Global, option_map}
 use Rattle.std.specs.List.{slice_get}
 use Rattle.masked_tree.specs.Tree.{Tree, Children, none, more, front, plain, IsFullBelow, entries_in, entries_at}
 use Rattle.nibble_map.specs.Trees.{IsFull}
@@ -7,25 +7,9 @@ use Rattle.radix_nodes.specs.declared.trie_node.KeyValue.{KeyValue}
 use Rattle.radix_nodes.specs.declared.trie_node.TrieNode.{TrieNode}
 use Rattle.radix_nodes.specs.Nodes.{children_of, tree_of}
 use Rattle.radix_nodes.specs.Pairs.{pair_of, own_pair, pairs_of, pairs_in, pairs_in_all}
+use Rattle.radix_nodes.proofs.EditLemmas.Ends.{first-before, last-behind}
 use Rattle.radix_nodes.proofs.NodeLemmas.Pairs.{length-pairs_of, pairs_of-append, pairs_of-entries_at}
 use Rattle.radix_trie.proofs.ChangeLemmas.Copies.{no_children}
-
-module _ {A : Type 0} where
-  -- the first item of a list that isn't empty is that of what goes on from it
-  first-append : (xs ys : List A) → 0 < length xs → slice_get (xs ++ ys) 0 ≡ slice_get xs 0
-  first-append [] ys lt = absurd (omega arith)
-  first-append (x ∷ xs) ys lt = refl
-
-  -- an item behind a list is one of what comes behind it
-  past-append : (xs ys : List A) (i : ℕ) → slice_get (xs ++ ys) (length xs + i) ≡ slice_get ys i
-  past-append [] ys i = ap (slice_get ys) (let e : 0 + i ≡ i = omega arith in e)
-  past-append (x ∷ xs) ys i = ap (slice_get (x ∷ (xs ++ ys))) (let e : suc (length xs) + i ≡ suc (length xs + i) = omega arith in e) ∙ past-append xs ys i
-
-  -- the last item of a list that isn't empty is that of a list that it ends
-  pub last-append : (xs ys : List A) → 0 < length ys → slice_get (xs ++ ys) (length (xs ++ ys) - 1) ≡ slice_get ys (length ys - 1)
-  last-append xs ys lt =
-      let at : length (xs ++ ys) - 1 ≡ length xs + (length ys - 1) = omega (arith, length-append xs ys) in
-      ap (slice_get (xs ++ ys)) at ∙ past-append xs ys (length ys - 1)
 
 module _ {K V : Type 0} where
   -- at and below a full child there is a pair
@@ -53,7 +37,7 @@ module _ {K V : Type 0} where
           let here = subst (λ k. IsFull (plain k)) is full in
           ap (λ ps. slice_get ps 0)
           (pairs_of-entries_at [] t ∙ ap (λ o. o ++ pairs_in_all t.children) bare ∙ ap pairs_in_all is ∙ pairs_of-append (entries_at [] u) (entries_in [] others))
-          ∙ first-append (pairs_in u) (pairs_in_all others) (full_has_pair u (here.0, here.1, tt))
+          ∙ first-before (pairs_in u) (pairs_in_all others) (full_has_pair u (here.0, here.1, tt))
 
   -- a node's own pair comes first
   pub first_own_pair : (t : Tree (KeyValue K V)) (p : K × V) → Some p ≡ option_map pair_of t.pair → Some p ≡ slice_get (pairs_in t) 0
@@ -97,7 +81,7 @@ module _ {K V : Type 0} where
           let all = pairs_of-entries_at [] t ∙ ap (λ es. own_pair t.pair ++ es) (ap pairs_in_all is ∙ ap pairs_of entries_in-last_box ∙ pairs_of-append (entries_in [] (children_of pre)) (entries_at [] (tree_of b.value)))
           ∙ sym (append_assoc (own_pair t.pair) (pairs_in_all (children_of pre)) (pairs_in (tree_of b.value))) in
           ap (λ ps. slice_get ps (length ps - 1)) all
-          ∙ last-append (own_pair t.pair ++ pairs_in_all (children_of pre)) (pairs_in (tree_of b.value)) (full_has_pair (tree_of b.value) here)
+          ∙ last-behind (own_pair t.pair ++ pairs_in_all (children_of pre)) (pairs_in (tree_of b.value)) (full_has_pair (tree_of b.value) here)
 
   -- a node without children has its own pair alone
   pub only_own_pair : (t : Tree (KeyValue K V)) → t.children ≡ none → option_map pair_of t.pair ≡ slice_get (pairs_in t) (length (pairs_in t) - 1)

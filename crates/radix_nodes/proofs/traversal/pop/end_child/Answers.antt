@@ -1,6 +1,5 @@
 use Rattle.std.proofs.Common.{◌≡◌, suc, ◌-◌, ◌∙◌, length, sym, subst, arith, IsSome}
 use Rattle.masked_tree.specs.Tree.{firsts}
-use Rattle.radix_nodes.specs.declared.traversal.pop.End.TheVariants.{First, Last}
 use Rattle.radix_nodes.specs.Ends.{EndsHere, EndsInChild}
 use Rattle.radix_nodes.specs.Nodes.{tree_of, out_of}
 use Rattle.radix_nodes.proofs.NodeLemmas.Nodes.{pair-tree_of}

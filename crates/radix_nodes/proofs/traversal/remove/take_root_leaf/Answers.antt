@@ -1,4 +1,4 @@
-use Rattle.std.proofs.Common.{◌∙◌, ◌≡◌, ◌<◌, ◌++◌, length, None, IsSome, sym, ap, subst, refl, arith}
+use Rattle.std.proofs.Common.{◌∙◌, ◌≡◌, ◌<◌, length, None, IsSome, sym, ap, subst, refl, arith}
 use Rattle.masked_tree.proofs.TreeLemmas.Children.{child_at_is_unique}
 use Rattle.radix_nodes.specs.declared.trie_node.TrieNode.{out-TrieNode}
 use Rattle.radix_nodes.specs.Nodes.{tree_of, fragment_of, unboxed}

@@ -32,20 +32,20 @@ module _ {A : Type 0} where
   item_in_list (y ∷ xs) (suc i) x e = inr (item_in_list xs i x e)
 
   -- the first item of a list that isn't empty is that of what goes on from it
-  pub first-before : (xs ys : List A) → 0 < length xs → slice_get (xs ++ ys) 0 ≡ slice_get xs 0
-  first-before [] ys lt = absurd (omega arith)
-  first-before (x ∷ xs) ys lt = refl
+  pub first_item-append : (xs ys : List A) → 0 < length xs → slice_get (xs ++ ys) 0 ≡ slice_get xs 0
+  first_item-append [] ys lt = absurd (omega arith)
+  first_item-append (x ∷ xs) ys lt = refl
 
   -- an item behind a list is one of what comes behind it
-  item-behind : (xs ys : List A) (i : ℕ) → slice_get (xs ++ ys) (length xs + i) ≡ slice_get ys i
-  item-behind [] ys i = ap (slice_get ys) (let e : 0 + i ≡ i = omega arith in e)
-  item-behind (x ∷ xs) ys i = ap (slice_get (x ∷ (xs ++ ys))) (let e : suc (length xs) + i ≡ suc (length xs + i) = omega arith in e) ∙ item-behind xs ys i
+  item-append : (xs ys : List A) (i : ℕ) → slice_get (xs ++ ys) (length xs + i) ≡ slice_get ys i
+  item-append [] ys i = ap (slice_get ys) (let e : 0 + i ≡ i = omega arith in e)
+  item-append (x ∷ xs) ys i = ap (slice_get (x ∷ (xs ++ ys))) (let e : suc (length xs) + i ≡ suc (length xs + i) = omega arith in e) ∙ item-append xs ys i
 
   -- the last item of a list that isn't empty is that of a list that it ends
-  pub last-behind : (xs ys : List A) → 0 < length ys → slice_get (xs ++ ys) (length (xs ++ ys) - 1) ≡ slice_get ys (length ys - 1)
-  last-behind xs ys lt =
+  pub last_item-append : (xs ys : List A) → 0 < length ys → slice_get (xs ++ ys) (length (xs ++ ys) - 1) ≡ slice_get ys (length ys - 1)
+  last_item-append xs ys lt =
       let at : length (xs ++ ys) - 1 ≡ length xs + (length ys - 1) = omega (arith, length-append xs ys) in
-      ap (slice_get (xs ++ ys)) at ∙ item-behind xs ys (length ys - 1)
+      ap (slice_get (xs ++ ys)) at ∙ item-append xs ys (length ys - 1)
 
 -- the item at an end of a list is in it
 pub end_in_list : {A : Type 0} (end : End) (xs : List A) (x : A) → at_end end xs ≡ Some x → Has xs x
@@ -101,7 +101,7 @@ module _ {P : Type 0} where
       let path = q ++ t.fragment in
       let r = first_child t.children u path a in
       ap (λ es. slice_get es 0) (ap (λ o. entry path o ++ entries_in path t.children) bare ∙ r.1)
-      ∙ first-before (entries_at path u) r.0 (slice_get_within (entries_at path u) 0 (path ++ p, x) (e path)) ∙ e path ∙ ap (λ y. Some (y, x)) (append_assoc q t.fragment p)
+      ∙ first_item-append (entries_at path u) r.0 (slice_get_within (entries_at path u) 0 (path ++ p, x) (e path)) ∙ e path ∙ ap (λ y. Some (y, x)) (append_assoc q t.fragment p)
 
   -- the last entry of a tree with children is that of its last child
   pub last_in_child : (t : Tree P) (i : ℕ) → suc i ≡ length (firsts t.children) → EndsInChild Last t i
@@ -112,7 +112,7 @@ module _ {P : Type 0} where
       let r = last_child i t.children u path a l in
       let some = slice_get_within es (length es - 1) (path ++ p, x) (e path) in
       ap (λ es. slice_get es (length es - 1)) (ap (λ es. here ++ es) r.1 ∙ sym (append_assoc here r.0 es))
-      ∙ last-behind (here ++ r.0) es (omega (arith, some)) ∙ e path ∙ ap (λ y. Some (y, x)) (append_assoc q t.fragment p)
+      ∙ last_item-append (here ++ r.0) es (omega (arith, some)) ∙ e path ∙ ap (λ y. Some (y, x)) (append_assoc q t.fragment p)
 
   -- the path of the entry at an end begins with the tree's fragment
   end_path : (end : End) (u : Tree P) (p : List ℕ) (x : P) → IsEndEntry end u p x → IsPrefix u.fragment p

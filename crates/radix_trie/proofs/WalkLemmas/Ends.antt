@@ -7,7 +7,7 @@ use Rattle.radix_nodes.specs.declared.trie_node.KeyValue.{KeyValue}
 use Rattle.radix_nodes.specs.declared.trie_node.TrieNode.{TrieNode}
 use Rattle.radix_nodes.specs.Nodes.{children_of, tree_of}
 use Rattle.radix_nodes.specs.Pairs.{pair_of, own_pair, pairs_of, pairs_in, pairs_in_all}
-use Rattle.radix_nodes.proofs.EditLemmas.Ends.{first-before, last-behind}
+use Rattle.radix_nodes.proofs.EditLemmas.Ends.{first_item-append, last_item-append}
 use Rattle.radix_nodes.proofs.NodeLemmas.Pairs.{length-pairs_of, pairs_of-append, pairs_of-entries_at}
 use Rattle.radix_trie.proofs.ChangeLemmas.Copies.{no_children}
 
@@ -37,7 +37,7 @@ module _ {K V : Type 0} where
           let here = subst (λ k. IsFull (plain k)) is full in
           ap (λ ps. slice_get ps 0)
           (pairs_of-entries_at [] t ∙ ap (λ o. o ++ pairs_in_all t.children) bare ∙ ap pairs_in_all is ∙ pairs_of-append (entries_at [] u) (entries_in [] others))
-          ∙ first-before (pairs_in u) (pairs_in_all others) (full_has_pair u (here.0, here.1, tt))
+          ∙ first_item-append (pairs_in u) (pairs_in_all others) (full_has_pair u (here.0, here.1, tt))
 
   -- a node's own pair comes first
   pub first_own_pair : (t : Tree (KeyValue K V)) (p : K × V) → Some p ≡ option_map pair_of t.pair → Some p ≡ slice_get (pairs_in t) 0
@@ -81,7 +81,7 @@ module _ {K V : Type 0} where
           let all = pairs_of-entries_at [] t ∙ ap (λ es. own_pair t.pair ++ es) (ap pairs_in_all is ∙ ap pairs_of entries_in-last_box ∙ pairs_of-append (entries_in [] (children_of pre)) (entries_at [] (tree_of b.value)))
           ∙ sym (append_assoc (own_pair t.pair) (pairs_in_all (children_of pre)) (pairs_in (tree_of b.value))) in
           ap (λ ps. slice_get ps (length ps - 1)) all
-          ∙ last-behind (own_pair t.pair ++ pairs_in_all (children_of pre)) (pairs_in (tree_of b.value)) (full_has_pair (tree_of b.value) here)
+          ∙ last_item-append (own_pair t.pair ++ pairs_in_all (children_of pre)) (pairs_in (tree_of b.value)) (full_has_pair (tree_of b.value) here)
 
   -- a node without children has its own pair alone
   pub only_own_pair : (t : Tree (KeyValue K V)) → t.children ≡ none → option_map pair_of t.pair ≡ slice_get (pairs_in t) (length (pairs_in t) - 1)

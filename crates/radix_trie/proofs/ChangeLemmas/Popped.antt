@@ -76,7 +76,7 @@ module _ {K V : Type 0} (enc : K → List ℕ) (t : Tree (KeyValue K V)) (count 
     -- what was taken stood at its key's encoding, and was the pair at the walk's end
     pub popped : (taken : Taken K V) → RootPopOutcome end (Ok (Some taken)) t new →
         CutsRoot (enc taken.pair.key) taken.pair taken.nodes taken.nibbles t new × (Some (pair_of taken.pair) ≡ at_end end (pairs_below m []))
-    popped taken (inl h) = let e : Ok (Some taken) ≡ Ok None = h.1 in cc e
+    popped taken (inl h) = let n : Ok (Some taken) ≡ Ok None = h.1 in cc n
     popped taken (inr h) =
         let got = get-before_cut enc t new count nodes nibbles h.0 taken.pair taken.nodes taken.nibbles kept h.3 in (
           subst (λ q. CutsRoot q taken.pair taken.nodes taken.nibbles t new) (keyed_get enc m root.keyed h.0 (pair_of taken.pair) got) h.3,
@@ -90,7 +90,7 @@ module _ {K V : Type 0} (enc : K → List ℕ) (t : Tree (KeyValue K V)) (count 
 
     -- where memory was refused, the removal joins two fragments that aren't short together
     pub pop_refused : (e : Memory) → RootPopOutcome end (Err e) t new → ForSome (at_end end (pairs_below m [])) (λ pair. JoinsAreShort m (enc pair.0)) → ⊥
-    pop_refused e (inl h) short = let e : Err e ≡ Ok None = h.1 in cc e
+    pop_refused e (inl h) short = let n : Err e ≡ Ok None = h.1 in cc n
     pop_refused e (inr h) short =
         let at = keyed_get enc m root.keyed h.0 (pair_of h.1) (got_end h.0 h.1 h.2) in
         short_joins_fit enc m t root h.0 (held_stored enc t count nodes nibbles kept h.0 h.3.1)

@@ -5,6 +5,7 @@ pub mod Keyed
 pub mod Tested
 pub mod Prefixes
 pub mod Order
+pub mod Beside
 pub mod Resumed
 pub mod LaterRows
 pub mod Ends

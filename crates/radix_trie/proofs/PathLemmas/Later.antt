@@ -41,10 +41,13 @@ module _ {K V : Type 0} (enc : K → List ℕ) (m : PairMap K V) (p : List ℕ) 
   nothing_found-later e =
       sym (ap (λ es. map (λ e. e.1) (filter (λ e. comes_after itself list e.0) es)) (walk-no_path enc m place.0 place.1 p (no_path_found enc m p found place e)))
 
-  module _ (r : Bor (TrieNode K V)) (n : ℕ) (is : found ≡ Some (r, n)) (whole : List ℕ) (made : whole ≡ p ++ drop n (fragment_of r.now)) where
-    -- the whole path is the found node's
+  module _ (r : Bor (TrieNode K V)) (n : ℕ) (is : found ≡ Some (r, n)) where
+    -- the found node's path
+    abbrev whole : List ℕ
+    whole = p ++ drop n (fragment_of r.now)
+
     whole_path : whole ≡ p ++ drop n (tree_of r.now).fragment
-    whole_path = made ∙ ap (λ f. p ++ drop n f) (sym (fragment-tree_of r.now))
+    whole_path = ap (λ f. p ++ drop n f) (sym (fragment-tree_of r.now))
 
     -- of the entries at and below the found node, those are left that come after the list
     at_node : pairs_where (comes_after itself list) (entry whole (tree_of r.now).pair ++ entries_in whole (tree_of r.now).children) ≡ after_list

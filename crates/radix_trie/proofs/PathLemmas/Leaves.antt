@@ -1,19 +1,15 @@
 -- A path with nothing below it.
-use Rattle.std.proofs.Common.{◌≡◌, ℕ, inl, inr, List, ◌∷◌, ◌++◌, drop, length, Option, Some, arith, Bor}
+use Rattle.std.proofs.Common.{◌≡◌, ℕ, inl, inr, List, ◌∷◌, length, Option, Some, arith, Bor}
 use Rattle.std.proofs.lemmas.Bool.{cases_eq, cases_lt}
-use Rattle.std.proofs.lemmas.List.{length-append, length-drop}
 use Rattle.std.specs.FinMap as map
 use Rattle.masked_tree.specs.Sizes.{levels}
 use Rattle.nibble_map.specs.MapQueries.{IsLeaf}
 use Rattle.nibble_map.specs.Maps.{PairMap, below}
-use Rattle.nibble_map.specs.Nibbles.{IsShort}
-use Rattle.nibble_map.proofs.ListLemmas.Parted.{prefix_itself}
 use Rattle.radix_nodes.specs.Nodes.{fragment_of, tree_of}
 use Rattle.radix_nodes.specs.declared.trie_node.TrieNode.{TrieNode}
 use Rattle.radix_trie.specs.Places.{IsPlace}
-use Rattle.radix_trie.proofs.ChangeLemmas.Prunings.{nothing_stored_below, point_below_has_stored}
-use Rattle.radix_trie.proofs.PathLemmas.Places.{child_found_no_leaf, first_child, found_placed, inside_no_leaf, node_found_here, whole_or_inside}
-use Rattle.radix_trie.proofs.RootLemmas.Paths.{node_point}
+use Rattle.radix_trie.proofs.ChangeLemmas.Prunings.{nothing_stored_below}
+use Rattle.radix_trie.proofs.PathLemmas.Places.{child_found_no_leaf, first_child, found_placed, inside_no_leaf, whole_or_inside}
 
 -- where nothing is at or below a path, nothing is strictly below it
 pub nothing_is_leaf : {P : Type 0} (m : map.FinMap _ P) (p : List ℕ) → map.len (below m p) ≡ 0 → IsLeaf m p
@@ -34,13 +30,3 @@ module _ {K V : Type 0} (enc : K → List ℕ) (m : PairMap K V) (p : List ℕ) 
     | inl some ↦ absurd (let k = first_child 0 (tree_of r.now).children (found_placed enc m p found place r n is).1 some in child_found_no_leaf enc m p found place r n is (leaf_is_whole leaf) k.0 k.1 k.2 k.3 leaf)
     | inr none ↦ omega (arith, none)
   ]
-
-  -- where nothing is at or below a path, the found node's path is empty
-  pub nothing_is_short : map.len (below m p) ≡ 0 → IsShort (p ++ drop n (fragment_of r.now))
-  nothing_is_short none =
-      let whole = leaf_is_whole (nothing_is_leaf m p none) in
-      let empty : length p ≡ 0 = elim (cases_lt 0 (length p)) [
-        | inl some ↦ absurd (point_below_has_stored m p p some (node_point enc m place.0 place.1 p (tree_of r.now) (node_found_here enc m p found place r n is whole)) (prefix_itself p) none)
-        | inr none ↦ omega (arith, none)
-      ] in
-      omega (arith, empty, whole, length-append p (drop n (fragment_of r.now)), length-drop n (fragment_of r.now))

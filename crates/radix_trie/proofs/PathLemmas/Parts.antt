@@ -101,6 +101,20 @@ module _ {P : Type 0} where
   node_down t x u z w (inl i) d = inr (z, ap (λ y. y ++ z) i.0, subst (λ (v : Tree P). IsChildAt v.children z w) i.1 d)
   node_down t x u z w (inr i) d = inr (i.0 ++ z, ap (λ y. y ++ z) i.1 ∙ append_assoc t.fragment i.0 z, child_down t.children i.0 u z w i.2 d)
 
+  -- a child's path ends with its fragment
+  child_ends : (k : Children P) (x : List ℕ) (u : Tree P) → IsChildAt k x u → (q : List ℕ) × (x ≡ q ++ u.fragment)
+  child_ends none x u at = absurd at
+  child_ends (more f o m children others) x u (inl (is, e)) = ([], is ∙ ap (λ t. t.fragment) (sym e))
+  child_ends (more f o m children others) x u (inr (inl (y, is, at))) =
+      let rest = child_ends children y u at in (f ++ rest.0, is ∙ ap (λ z. f ++ z) rest.1 ∙ sym (append_assoc f rest.0 u.fragment))
+  child_ends (more f o m children others) x u (inr (inr at)) = child_ends others x u at
+
+  -- and so does a node's
+  pub node_ends : (t : Tree P) (x : List ℕ) (u : Tree P) → IsNodeAt t x u → (q : List ℕ) × (x ≡ q ++ u.fragment)
+  node_ends t x u (inl (is, e)) = ([], is ∙ ap (λ t. t.fragment) (sym e))
+  node_ends t x u (inr (y, is, at)) =
+      let rest = child_ends t.children y u at in (t.fragment ++ rest.0, is ∙ ap (λ z. t.fragment ++ z) rest.1 ∙ sym (append_assoc t.fragment rest.0 u.fragment))
+
   -- a tree's node whose path goes on from that of u by z stands at z below u
   pub node_up : (t : Tree P) (x : List ℕ) (u : Tree P) (z : List ℕ) (w : Tree P) → IsTreePlaced t → z ≢ [] → IsNodeAt t x u → IsNodeAt t (x ++ z) w
       → IsChildAt u.children z w

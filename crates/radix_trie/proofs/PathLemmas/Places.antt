@@ -1,6 +1,6 @@
 -- What stands at and below a path, by the node that is nearest to it.
-use Rattle.std.proofs.Common.{◌≡◌, ◌≢◌, ◌⊎◌, inl, inr, ◌↔◌, Bool, true, false, ℕ, zero, suc, ◌≤◌, ◌<◌, ◌^◌, List, [], ◌∷◌, ◌++◌, map, filter, drop, length, Option, Some, None, option_map, refl, ap, sym, subst, ◌∙◌, append-nil, arith, Bor, eqb-true, eq-eqb}
-use Rattle.std.proofs.lemmas.List.{length-append, length-map, length-drop}
+use Rattle.std.proofs.Common.{◌≡◌, ◌≢◌, ◌⊎◌, inl, inr, ◌↔◌, Bool, true, false, ℕ, zero, suc, ◌≤◌, ◌<◌, ◌^◌, List, [], ◌∷◌, ◌++◌, map, filter, drop, length, take, Option, Some, None, option_map, refl, ap, sym, subst, ◌∙◌, append_assoc, append-nil, arith, Bor, eqb-true, eq-eqb}
+use Rattle.std.proofs.lemmas.List.{length-append, length-map, length-drop, take-append-drop, take_at}
 use Rattle.std.proofs.lemmas.Cmp.{nat_list_cmp_total}
 use Rattle.std.proofs.Math.Seq.{drop-length}
 use Rattle.std.specs.FinMap as fin
@@ -31,7 +31,7 @@ use Rattle.radix_trie.specs.Views.{pairs_below}
 use Rattle.radix_nodes.specs.Pairs.{pairs_in}
 use Rattle.radix_trie.proofs.ChangeLemmas.Changes.{append-root_fragment}
 use Rattle.radix_trie.proofs.RootLemmas.Held.{pair_of-node, get-no_node}
-use Rattle.radix_trie.proofs.PathLemmas.Parts.{true_or_false, node_full, node_placed, le-cases}
+use Rattle.radix_trie.proofs.PathLemmas.Parts.{true_or_false, node_ends, node_full, node_placed, le-cases}
 use Rattle.radix_trie.proofs.RootLemmas.Paths.{point_node}
 use Rattle.radix_trie.proofs.RootLemmas.Roots.{root_is_full_below}
 use Rattle.radix_trie.proofs.WalkLemmas.Rows.{levels-some}
@@ -93,6 +93,18 @@ module _ {K V : Type 0} (enc : K → List ℕ) (m : PairMap K V) (p : List ℕ) 
     -- the found node is the one with the shortest path that p begins
     pub nearest_found : IsNearest tree (tree_of r.now) p n
     nearest_found = subst (λ f. MatchOption f ((q : List ℕ) → IsPath tree q → IsPrefix p q → ⊥) (λ r. IsNearest tree (tree_of r.0.now) p r.1)) is place.2
+
+    -- p ends with the first n nibbles of the found node's fragment
+    pub path_ends : (q : List ℕ) × (p ≡ q ++ take n (fragment_of r.now))
+    path_ends =
+        let f = (tree_of r.now).fragment in
+        let end = node_ends tree (ends r.now n) (tree_of r.now) nearest_found.node in
+        let front = end.0 ++ take n f in
+        let same : front ++ drop n f ≡ p ++ drop n f = append_assoc end.0 (take n f) (drop n f) ∙ ap (λ z. end.0 ++ z) (take-append-drop n f) ∙ sym end.1 in
+        let long : length front ≡ length p = omega (arith, ap length same, length-append front (drop n f), length-append p (drop n f)) in (
+          end.0,
+          sym (take_at p (drop n f) (length p) refl) ∙ ap (take (length p)) (sym same) ∙ take_at front (drop n f) (length p) long ∙ ap (λ g. end.0 ++ take n g) (fragment-tree_of r.now),
+        )
 
     -- where p ends with the found node's fragment, the node stands at p
     pub node_found_here : n ≡ length (fragment_of r.now) → IsNodeAt tree p (tree_of r.now)

@@ -15,6 +15,6 @@ pub(crate) use ends::{first_pair, last_pair};
 pub use halves::{Keys, Values};
 pub(crate) use pages::first_pairs;
 pub use prefixes::CommonPrefixes;
-pub(crate) use side::{Side, side_of};
+pub(crate) use side::{Side, side_beyond};
 pub use walk::Iter;
 pub(crate) use walk::parts_of;

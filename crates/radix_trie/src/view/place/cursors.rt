@@ -6,8 +6,8 @@ ghost use Rattle.nibble_map.specs.Maps.{below, walk};
 ghost use Rattle.radix_trie.specs.Views.{pairs_after, pairs_below, pairs_from};
 ghost use Rattle.radix_trie.specs.Walks.{comes_after};
 
-use crate::iter::{Cursor, Side, side_of};
-use crate::view::place::{Place, extended};
+use crate::iter::{Cursor, Side, side_beyond};
+use crate::view::place::Place;
 use radix_keys::{Memory, Nibblet, TrieKey};
 
 impl<'a, 'p, K: TrieKey, V> Place<'a, 'p, K, V> {
@@ -60,8 +60,7 @@ impl<'a, 'p, K: TrieKey, V> Place<'a, 'p, K, V> {
         let alloc = self.trie.allocator();
         match self.found {
             Some((node, covered)) => {
-                let whole = extended(self.path, &node.fragment, covered)?;
-                match side_of(&whole, list, 0) {
+                match side_beyond(self.path, &node.fragment, covered, list) {
                     Side::Before => Ok(Cursor::empty(alloc)),
                     Side::On(depth) => Cursor::resumed(alloc, node, list, depth, itself),
                     Side::After => Cursor::over(alloc, node),

@@ -9,3 +9,5 @@ pub mod BitLemmas
 pub mod NetworkLemmas
 -- An address and its number.
 pub mod AddressLemmas
+-- Lists of parts: what text is cut into, what their bytes tell, which begin with which, and their order.
+pub mod PartLemmas

@@ -10,3 +10,5 @@ pub mod FirstBits
 pub mod Networks
 pub mod NetworkTexts
 pub mod NetworkOrder
+pub mod Parts
+pub mod PartBytes

@@ -4,6 +4,7 @@ ghost use Rattle.std.specs.Int.{bytes_high_first};
 ghost use Rattle.nibble_map.specs.Lists.{IsPrefix};
 ghost use Rattle.nibble_map.specs.Nibbles.{nibbles};
 ghost use Rattle.radix_keys.specs.Bits.{bits_high_first, bits_of, first_bits};
+ghost use Rattle.radix_keys.specs.Parts.{AreParts, part_bytes, IsPartsPrefix};
 
 /// The nibbles of bytes begin with those of other bytes exactly where the bytes do. So one text's
 /// encoding begins with another's exactly where the text does.
@@ -15,6 +16,13 @@ pub fn nibbles_keep_prefixes()
 pub fn bits_keep_prefixes()
     ensures { (a b : List ℕ) → All (λ x. x < 256) a → All (λ x. x < 256) b
         → IsPrefix (bits_of a) (bits_of b) ↔ IsPrefix a b }
+{}
+
+/// The encoding of a list of parts begins with that of another exactly where the list does: where
+/// the other is above it, or is it.
+pub fn parts_keep_prefixes()
+    ensures { (p q : List (List ℕ)) → AreParts p → AreParts q
+        → IsPrefix (nibbles (part_bytes p)) (nibbles (part_bytes q)) ↔ IsPartsPrefix p q }
 {}
 
 /// What the first bits of a number are: each is a digit of the number in base 2, and there are as

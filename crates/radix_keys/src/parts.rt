@@ -1,0 +1,208 @@
+//! Lists of parts as keys, such as the labels of a host name or the names of folders: a prefix of
+//! such a key ends where a part ends.
+ghost use Rattle.std.specs.Prelude.{◌≡◌, ◌↔◌, ◌==◌, [], ◌∷◌, ◌++◌, length, not, filter, reverse, Contains, IfOk, OnOk, OnErr};
+ghost use Rattle.std.specs.List.{slice_split};
+ghost use Rattle.radix_keys.specs.Parts.{IsPart};
+
+use crate::nibbles::Memory;
+use std::alloc::{AllocError, Global};
+use std::marker::Model;
+
+mod iter;
+mod key;
+mod order;
+
+pub use iter::PartsIter;
+
+/// Why a part isn't added, or a text has no list of parts.
+#[derive(Clone, Copy, PartialEq, Eq, Debug)]
+pub enum PartsError {
+    /// Memory was refused.
+    Memory,
+    /// A byte is 0, which is what ends a part.
+    Zero,
+}
+
+impl From<Memory> for PartsError {
+    ghost use Rattle.std.specs.Prelude.{◌≡◌};
+    ghost use Rattle.radix_keys.specs.declared.parts.PartsError.TheVariants as Why;
+
+    ghost from_gives = { λ _ error. error ≡ Why.Memory };
+
+    fn from(_refused: Memory) -> PartsError {
+        PartsError::Memory
+    }
+}
+
+/// A list of parts, each a list of bytes of which none is 0. The part `home` begins with no shorter
+/// part: the list `home` is above `home`, `ann`, and not above `homer`.
+///
+/// The parts are kept as their bytes, one after another, with a 0 behind each.
+#[derive(Drop)]
+pub struct Parts {
+    bytes: Vec<u8>,
+}
+
+impl Model for Parts {
+    ghost use Rattle.std.specs.Prelude.{ℕ, List};
+    ghost use Rattle.radix_keys.specs.Parts.{parts_of, ArePartBytes};
+
+    ghost Value = { List (List ℕ) };
+
+    ghost view = { λ s. parts_of s.bytes.items };
+
+    ghost invariant = { λ s. ArePartBytes s.bytes.items };
+}
+
+impl Parts {
+    /// The list without a part. It takes no memory.
+    pub fn new(alloc: Global) -> Parts
+        ensures { result ≡ [] }
+    {
+        Parts {
+            bytes: Vec::new(alloc),
+        }
+    }
+
+    /// The parts of the text between separators, as `str::split` gives them: one more than there are
+    /// separators, and empty ones too.
+    ///
+    /// # Errors
+    ///
+    /// `Zero`, exactly where the text has a byte 0; else memory.
+    pub fn split(alloc: Global, text: &str, separator: u8) -> Result<Parts, PartsError>
+        ensures ok { IfOk result (λ parts. parts ≡ slice_split (λ b. b == separator) text.now) }
+        ensures zero { (result ≡ Err PartsError.Zero) ↔ Contains text.now 0 }
+    {
+        if text.as_bytes().contains(&0) {
+            return Err(PartsError::Zero);
+        }
+        let mut parts = Parts::new(alloc);
+        for part in PartsIter::cut(text.as_bytes(), separator) {
+            parts.append(part)?;
+        }
+        Ok(parts)
+    }
+
+    /// The parts of the text between separators that aren't empty: of `/home/ann/` at `/` they are
+    /// `home` and `ann`, and of `/` there is none.
+    ///
+    /// # Errors
+    ///
+    /// `Zero`, exactly where the text has a byte 0; else memory.
+    pub fn of_path(alloc: Global, text: &str, separator: u8) -> Result<Parts, PartsError>
+        ensures ok { IfOk result (λ parts.
+            parts ≡ filter (λ part. not (length part == 0)) (slice_split (λ b. b == separator) text.now)) }
+        ensures zero { (result ≡ Err PartsError.Zero) ↔ Contains text.now 0 }
+    {
+        if text.as_bytes().contains(&0) {
+            return Err(PartsError::Zero);
+        }
+        let mut parts = Parts::new(alloc);
+        for part in PartsIter::cut(text.as_bytes(), separator) {
+            if !part.is_empty() {
+                parts.append(part)?;
+            }
+        }
+        Ok(parts)
+    }
+
+    /// The parts of the text between separators, as `split` gives them, the last of them first: of
+    /// `www.example.org` at `.` they are `org`, `example` and `www`.
+    ///
+    /// # Errors
+    ///
+    /// `Zero`, exactly where the text has a byte 0; else memory.
+    pub fn reversed(alloc: Global, text: &str, separator: u8) -> Result<Parts, PartsError>
+        ensures ok { IfOk result (λ parts.
+            parts ≡ reverse (slice_split (λ b. b == separator) text.now)) }
+        ensures zero { (result ≡ Err PartsError.Zero) ↔ Contains text.now 0 }
+    {
+        if text.as_bytes().contains(&0) {
+            return Err(PartsError::Zero);
+        }
+        let mut parts = Parts::new(alloc);
+        for part in PartsIter::cut(text.as_bytes(), separator).rev() {
+            parts.append(part)?;
+        }
+        Ok(parts)
+    }
+
+    /// Adds a part at the end.
+    ///
+    /// # Errors
+    ///
+    /// `Zero`, exactly where the part has a byte 0; else memory. The list is as before then.
+    pub fn push(&mut self, part: &str) -> Result<(), PartsError>
+        ensures ok { OnOk result (self.new ≡ self.old ++ part.now ∷ []) }
+        ensures zero { (result ≡ Err PartsError.Zero) ↔ Contains part.now 0 }
+        ensures err { OnErr result (self.new ≡ self.old) }
+    {
+        self.push_bytes(part.as_bytes())
+    }
+
+    /// Adds a part of any bytes but 0 at the end.
+    ///
+    /// # Errors
+    ///
+    /// `Zero`, exactly where a byte is 0; else memory. The list is as before then.
+    pub fn push_bytes(&mut self, part: &[u8]) -> Result<(), PartsError>
+        ensures ok { OnOk result (self.new ≡ self.old ++ part.now ∷ []) }
+        ensures zero { (result ≡ Err PartsError.Zero) ↔ Contains part.now 0 }
+        ensures err { OnErr result (self.new ≡ self.old) }
+    {
+        if part.contains(&0) {
+            return Err(PartsError::Zero);
+        }
+        Ok(self.append(part)?)
+    }
+
+    /// Adds a part that has no byte 0.
+    fn append(&mut self, part: &[u8]) -> Result<(), Memory>
+        requires { IsPart part.now }
+        ensures ok { OnOk result (self.new ≡ self.old ++ part.now ∷ []) }
+        ensures err { OnErr result (self.new ≡ self.old) }
+    {
+        let before = self.bytes.len();
+        self.bytes.extend_from_slice(part)?;
+        if self.bytes.push(0).is_err() {
+            self.bytes.truncate(before);
+            return Err(Memory);
+        }
+        Ok(())
+    }
+
+    /// How many parts there are. It reads each byte.
+    pub fn len(&self) -> usize
+        ensures { result ≡ length self.now }
+    {
+        self.bytes.iter().filter(|byte| **byte == 0).count()
+    }
+
+    /// Whether there is no part.
+    pub fn is_empty(&self) -> bool
+        ensures { result ≡ (length self.now == 0) }
+    {
+        self.bytes.is_empty()
+    }
+
+    /// The parts, from the first to the last, and from the back.
+    pub fn iter(&self) -> PartsIter<'_>
+        ensures { result ≡ self.now }
+    {
+        PartsIter::of_kept(self.bytes.as_slice())
+    }
+}
+
+impl Clone for Parts {
+    ghost is_clone = { λ parts copy. copy ≡ parts };
+
+    ghost is_infallible = { λ _. ⊥ };
+
+    fn clone(&self) -> Result<Parts, AllocError> {
+        match self.bytes.clone() {
+            Ok(bytes) => Ok(Parts { bytes }),
+            Err(refused) => Err(refused),
+        }
+    }
+}

@@ -1,0 +1,32 @@
+//! Lists of parts as keys of a trie.
+ghost use Rattle.std.specs.Prelude.{◌≡◌, IfOk, IsOk};
+ghost use Rattle.nibble_map.specs.Nibbles.{nibbles, IsShort};
+ghost use Rattle.radix_keys.specs.PartBytes.{parts-distinct};
+ghost use Rattle.radix_keys.specs.Parts.{AreParts, part_bytes, KeepsPartsOrder};
+
+use crate::keys::TrieKey;
+use crate::nibbles::{Memory, Nibblet};
+use crate::parts::Parts;
+use std::alloc::Global;
+
+impl TrieKey for Parts {
+    ghost encoding = { λ parts. nibbles (part_bytes parts) };
+
+    ghost is_light = { λ parts. IsShort (nibbles (part_bytes parts)) };
+
+    ghost is_value = { AreParts };
+
+    ghost distinct = { parts-distinct };
+
+    ghost light_is_short = { λ _ h. h };
+
+    /// The nibbles of each part's bytes, and of a 0 behind them. The smaller list has the smaller encoding.
+    fn encode(&self, alloc: Global) -> Result<Nibblet, Memory>
+        ensures ok { IfOk result (λ v. v ≡ nibbles (part_bytes self.now)) }
+        ensures value { AreParts self.now }
+        ensures light { IsShort (nibbles (part_bytes self.now)) → IsOk result }
+        ensures order { KeepsPartsOrder }
+    {
+        Nibblet::from_slice(alloc, self.bytes.as_slice())
+    }
+}

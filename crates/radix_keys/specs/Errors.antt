@@ -2,6 +2,8 @@
 use Rattle.std.specs.Prelude.{ℕ, List, codes}
 use Rattle.radix_keys.specs.declared.nibbles.BytesError.{BytesError}
 use Rattle.radix_keys.specs.declared.nibbles.BytesError.TheVariants.{Memory, Odd}
+use Rattle.radix_keys.specs.declared.parts.PartsError.{PartsError}
+use Rattle.radix_keys.specs.declared.parts.PartsError.TheVariants as Parts
 
 -- what `Display` writes where memory was refused
 abbrev pub memory_text : List ℕ
@@ -11,3 +13,8 @@ memory_text = codes "out of memory"
 abbrev pub bytes_text : BytesError → List ℕ
 bytes_text Memory = memory_text
 bytes_text Odd = codes "the key has an odd count of nibbles"
+
+-- what `Display` writes of a `PartsError`
+abbrev pub parts_text : PartsError → List ℕ
+parts_text Parts.Memory = memory_text
+parts_text Parts.Zero = codes "a part has a byte 0"

@@ -11,6 +11,7 @@ use std::marker::Model;
 mod iter;
 mod key;
 mod order;
+mod text;
 
 pub use iter::PartsIter;
 
@@ -34,10 +35,10 @@ impl From<Memory> for PartsError {
     }
 }
 
-/// A list of parts, each a list of bytes of which none is 0. The part `home` begins with no shorter
-/// part: the list `home` is above `home`, `ann`, and not above `homer`.
+/// A list of parts, each of any bytes but 0. Above it are the lists that it begins with, part by part:
+/// `home` is above `home`, `ann`, and not above `homer`.
 ///
-/// The parts are kept as their bytes, one after another, with a 0 behind each.
+/// It is kept as the bytes of the parts, one after another, with a 0 behind each.
 #[derive(Drop)]
 pub struct Parts {
     bytes: Vec<u8>,
@@ -74,11 +75,8 @@ impl Parts {
         ensures ok { IfOk result (λ parts. parts ≡ slice_split (λ b. b == separator) text.now) }
         ensures zero { (result ≡ Err PartsError.Zero) ↔ Contains text.now 0 }
     {
-        if text.as_bytes().contains(&0) {
-            return Err(PartsError::Zero);
-        }
         let mut parts = Parts::new(alloc);
-        for part in PartsIter::cut(text.as_bytes(), separator) {
+        for part in PartsIter::of_text(text, separator)? {
             parts.append(part)?;
         }
         Ok(parts)
@@ -95,14 +93,12 @@ impl Parts {
             parts ≡ filter (λ part. not (length part == 0)) (slice_split (λ b. b == separator) text.now)) }
         ensures zero { (result ≡ Err PartsError.Zero) ↔ Contains text.now 0 }
     {
-        if text.as_bytes().contains(&0) {
-            return Err(PartsError::Zero);
-        }
         let mut parts = Parts::new(alloc);
-        for part in PartsIter::cut(text.as_bytes(), separator) {
-            if !part.is_empty() {
-                parts.append(part)?;
+        for name in PartsIter::of_text(text, separator)? {
+            if name.is_empty() {
+                continue;
             }
+            parts.append(name)?;
         }
         Ok(parts)
     }
@@ -118,12 +114,9 @@ impl Parts {
             parts ≡ reverse (slice_split (λ b. b == separator) text.now)) }
         ensures zero { (result ≡ Err PartsError.Zero) ↔ Contains text.now 0 }
     {
-        if text.as_bytes().contains(&0) {
-            return Err(PartsError::Zero);
-        }
         let mut parts = Parts::new(alloc);
-        for part in PartsIter::cut(text.as_bytes(), separator).rev() {
-            parts.append(part)?;
+        for label in PartsIter::of_text(text, separator)?.rev() {
+            parts.append(label)?;
         }
         Ok(parts)
     }

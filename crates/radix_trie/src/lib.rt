@@ -29,11 +29,12 @@ pub use nibble_map::query_laws::descendants_hold_all_below;
 pub use nibble_map::walk_laws::{edits_change_one_answer, rest_answers_elsewhere, walks_lie_below};
 pub use radix_keys::laws::{
     bits_keep_prefixes, first_bits_are_digits, first_bits_tell_networks, nibbles_keep_prefixes,
+    parts_keep_prefixes,
 };
 pub use radix_keys::{
     Address, Ascending, BigEndian, Bits, BytesError, FixedWidth, Ipv4Network, Ipv6Network, KeyInt,
     KeySigned, LittleEndian, Memory, Network, NetworkParseError, NibbleIter, NibbleVec, Nibblet,
-    TrieKey,
+    Parts, PartsError, PartsIter, TrieKey,
 };
 pub use radix_nodes::traversal::find::LookUpCost;
 pub use trie::Trie;

@@ -1,9 +1,10 @@
 //! The parts of a list, one after another.
-ghost use Rattle.std.specs.Prelude.{◌≡◌, ◌==◌};
+ghost use Rattle.std.specs.Prelude.{◌≡◌, ◌↔◌, ◌==◌, Contains, IfOk, IfErr, IsErr};
 ghost use Rattle.std.specs.Iterator.{YieldsFirstRef, YieldsLastRef, item_count};
 ghost use Rattle.std.specs.List.{slice_split};
-ghost use Rattle.radix_keys.specs.Parts.{parts_of};
+ghost use Rattle.radix_keys.specs.Parts.{AreParts, parts_of};
 
+use crate::parts::PartsError;
 use std::iter::FusedIterator;
 use std::marker::Model;
 
@@ -24,14 +25,21 @@ impl<'a> Model for PartsIter<'a> {
 }
 
 impl<'a> PartsIter<'a> {
-    /// The bytes, cut at each separator.
-    pub(super) fn cut(bytes: &'a [u8], separator: u8) -> PartsIter<'a>
-        ensures { result ≡ slice_split (λ b. b == separator) bytes.now }
+    /// The text, cut at each separator; `Zero` where it has a byte 0.
+    pub(super) fn of_text(text: &'a str, separator: u8) -> Result<PartsIter<'a>, PartsError>
+        ensures ok { IfOk result (λ walk. walk ≡ slice_split (λ b. b == separator) text.now) }
+        ensures parts { IfOk result AreParts }
+        ensures zero { IsErr result ↔ Contains text.now 0 }
+        ensures why { IfErr result (λ error. error ≡ PartsError.Zero) }
     {
-        PartsIter {
+        let bytes = text.as_bytes();
+        if bytes.contains(&0) {
+            return Err(PartsError::Zero);
+        }
+        Ok(PartsIter {
             rest: Some(bytes),
             separator,
-        }
+        })
     }
 
     /// The parts whose bytes these are, with a 0 behind each.
@@ -43,7 +51,10 @@ impl<'a> PartsIter<'a> {
                 rest: None,
                 separator: 0,
             },
-            [parts @ .., _end] => PartsIter::cut(parts, 0),
+            [parts @ .., _end] => PartsIter {
+                rest: Some(parts),
+                separator: 0,
+            },
         }
     }
 }

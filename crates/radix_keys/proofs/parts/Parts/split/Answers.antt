@@ -1,19 +1,17 @@
 use Rattle.std.proofs.Common.{◌≡◌, ◌==◌, [], ◌∷◌, ◌++◌, rules, sym, ap, subst, ◌∙◌, append_assoc}
-use Rattle.std.proofs.lemmas.List.Elements.{All-rest}
+use Rattle.std.proofs.lemmas.List.Elements.{All-head, All-rest}
 use Rattle.std.specs.List.{slice_split}
 use Rattle.radix_keys.specs.Parts.{IsPart, AreParts}
-use Rattle.radix_keys.proofs.PartLemmas.{AreParts-slice_split}
 use Rattle.radix_keys.proofs.parts.Parts.split.Goals as goal
 
 pub loop-part-init : goal.loop-part-init
 loop-part-init c =
-    let text = c.args.text.now in
-    let cut : c.into_iter-part-iterator.result ≡ slice_split (λ b. b == c.args.separator) text = search rules in
-    let is : IsPart text = search rules in
-    record {
-      parts = ap (λ t. t ++ c.into_iter-part-iterator.result) c.new-parts.ensures ∙ cut;
-      left = subst AreParts (sym cut) (AreParts-slice_split (λ b. b == c.args.separator) text is);
-    }
+    let cut : c.into_iter-part-iterator.result ≡ slice_split (λ b. b == c.args.separator) c.args.text.now = search rules in
+    let same : c.into_iter-part-iterator.result ≡ c.in_ok-part-items.part-items = search rules in
+    record { parts = ap (λ t. t ++ c.into_iter-part-iterator.result) c.new-parts.ensures ∙ cut; left = subst AreParts (sym same) c.in_ok-part-items.ensures.parts }
+
+pub append-requires : goal.append-requires
+append-requires c = All-head IsPart c.in-Some.part.now c.next.new.self (subst AreParts c.in-Some.ensures.steps c.loop-part.invariant.left)
 
 pub loop-part-preserved : goal.loop-part-preserved
 loop-part-preserved c =

@@ -20,7 +20,7 @@ OPENERS = {"open": ("subtrie", "SubTrie"), **{it: (it, "SubTrieMut") for it in (
 WITHS = {"with": "open_mut", "with_subtrie_mut": "subtrie_mut"}
 CURSORS = ("cursor", "cursor_from", "cursor_after")
 COMMON = ("iter", "keys", "values", "iter_from", "iter_after", "prefix", *CURSORS)
-PARTS = {"nibblet": "Nibblet", "bits": "Bits", "ipv4": "Network", "ipv6": "Network"}
+PARTS = {"nibblet": "Nibblet", "bits": "Bits", "ipv4": "Network", "ipv6": "Network", "parts": "Parts"}
 ESCAPE = re.compile(rb"\\(?:x([0-9a-f]{2})|\((.)\*(\d+)\)|(\\))")
 
 

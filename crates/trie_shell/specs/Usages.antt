@@ -88,6 +88,7 @@ usages =
     (codes "bits", 2, 3) ∷
     (codes "ipv4", 2, 3) ∷
     (codes "ipv6", 2, 3) ∷
+    (codes "parts", 2, 3) ∷
     (codes "json", 1, many) ∷
     (codes "error", 1, 1) ∷
     (codes "save", 2, many) ∷

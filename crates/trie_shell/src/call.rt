@@ -146,6 +146,7 @@ pub enum Part {
     Bits,
     Ipv4,
     Ipv6,
+    Parts,
     Json,
     Error,
 }
@@ -281,6 +282,7 @@ pub const CALLS: &'static [Usage] = &[
     Usage("bits", 2, 3, Call::Part(Part::Bits)),
     Usage("ipv4", 2, 3, Call::Part(Part::Ipv4)),
     Usage("ipv6", 2, 3, Call::Part(Part::Ipv6)),
+    Usage("parts", 2, 3, Call::Part(Part::Parts)),
     Usage("json", 1, MANY, Call::Part(Part::Json)),
     Usage("error", 1, 1, Call::Part(Part::Error)),
     Usage("save", 2, MANY, Call::File(File::Save)),

@@ -80,8 +80,9 @@ error NAME: the text of an error: memory, full, outside, absent, closed, kind, f
 encode TYPE KEY: the key's encoding, in nibbles. The types are those of integers,\n\
 encode TYPE KEY: BigEndian<u16>, <u32>, <u128>, LittleEndian of these, Ascending<i8> to <isize>,\n\
 encode TYPE KEY: String, &str, &String, &mut&str, Vec<u8>, &[u8], Vec<u16>, Nibblet, bool, char,\n\
-encode TYPE KEY: Bits, Network<Ipv4Addr>, Network<Ipv6Addr>, [u8;2], [u8;16], [u8;17], (u8,u16),\n\
-encode TYPE KEY: (u128,u8), ([u8;17],u8), (u8,[u8;17]). A comma parts numbers, and two halves.\n\
+encode TYPE KEY: Bits, Network<Ipv4Addr>, Network<Ipv6Addr>, Parts, [u8;2], [u8;16], [u8;17],\n\
+encode TYPE KEY: (u8,u16), (u128,u8), ([u8;17],u8), (u8,[u8;17]). A comma parts numbers, and\n\
+encode TYPE KEY: two halves.\n\
 encode_bytes TYPE KEY: the encoding in bytes, or odd.\n\
 nibblet from_byte_vec BYTES: the list of the bytes' nibbles, the high half of each byte first.\n\
 nibblet clone LIST: a copy of the list.\n\
@@ -109,12 +110,22 @@ ipv4 clone NETWORK: a copy of the network.\n\
 ipv4 holds NETWORK ADDRESS: true where it holds the address, else false.\n\
 ipv4 cmp NETWORK NETWORK: less, equal or greater, by their bits.\n\
 ipv6 CALL ..: the same calls of networks of IPv6 addresses.\n\
+parts split TEXT BYTE: the parts of the text, cut at this byte, or zero where the text has a byte 0.\n\
+parts of_path TEXT BYTE: the same without empty parts.\n\
+parts reversed TEXT BYTE: the same as split, the last part first.\n\
+parts push PARTS TEXT: the list with this part at its end, or zero where that has a byte 0.\n\
+parts push_bytes PARTS BYTES: the same with a part of any bytes.\n\
+parts clone PARTS: a copy of the list.\n\
+parts len PARTS: the count of its parts.\n\
+parts iter PARTS: the parts, one a line, or none.\n\
+parts rev PARTS: the same, the last part first.\n\
+parts cmp PARTS PARTS: less, equal or greater, part by part.\n\
 use NAME: makes the trie of this name the current one.\n\
 tries: the names of all tries, the current one first.\n\
 clone NAME: a copy of the current trie, under this name.\n\
 == NAME: true where the two tries are equal, else false.\n\
 keys TYPE: begins with a trie of this type of keys: text, bytes, nibbles, u8, u16, u32, u64,\n\
-keys TYPE: u128, usize, i8, i16, i32, i64, i128, isize, bool, char, bits, ipv4, ipv6.\n\
+keys TYPE: u128, usize, i8, i16, i32, i64, i128, isize, bool, char, bits, ipv4, ipv6, parts.\n\
 save FILE CALL ..: writes what the call of a trie or a view answers to the file, anew; no file.\n\
 load FILE CALL: makes the call with the words of the file behind it; no file.\n\
 draw: the tree, a point on each line: its fragment, and its pair, or a star where none is stored.\n\

@@ -3,7 +3,7 @@
 use crate::answer::Answer;
 use crate::call::Call;
 use crate::store::Store;
-use radix_trie::{Bits, Memory, Network, Nibblet};
+use radix_trie::{Bits, Memory, Network, Nibblet, Parts};
 use std::alloc::Global;
 use std::net::{Ipv4Addr, Ipv6Addr};
 
@@ -30,6 +30,7 @@ pub enum Tries {
     Bits(Store<Bits>),
     Ipv4(Store<Network<Ipv4Addr>>),
     Ipv6(Store<Network<Ipv6Addr>>),
+    Parts(Store<Parts>),
 }
 
 impl Tries {
@@ -56,6 +57,7 @@ impl Tries {
             "bits" => Tries::Bits(Store::new(alloc)),
             "ipv4" => Tries::Ipv4(Store::new(alloc)),
             "ipv6" => Tries::Ipv6(Store::new(alloc)),
+            "parts" => Tries::Parts(Store::new(alloc)),
             _ => return None,
         })
     }
@@ -83,6 +85,7 @@ impl Tries {
             Tries::Bits(store) => store.answer(call, answer),
             Tries::Ipv4(store) => store.answer(call, answer),
             Tries::Ipv6(store) => store.answer(call, answer),
+            Tries::Parts(store) => store.answer(call, answer),
         }
     }
 
@@ -109,6 +112,7 @@ impl Tries {
             Tries::Bits(store) => store.picture(picture),
             Tries::Ipv4(store) => store.picture(picture),
             Tries::Ipv6(store) => store.picture(picture),
+            Tries::Parts(store) => store.picture(picture),
         }
     }
 }

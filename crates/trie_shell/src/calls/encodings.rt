@@ -4,7 +4,7 @@ use crate::answer::Answer;
 use crate::calls::lines::{NO_KEY, NO_TYPE};
 use radix_trie::{
     Ascending, BigEndian, Bits, BytesError, KeyInt, KeySigned, LittleEndian, Memory, Network,
-    Nibblet, TrieKey,
+    Nibblet, Parts, TrieKey,
 };
 use std::alloc::Global;
 use std::net::{Ipv4Addr, Ipv6Addr};
@@ -141,6 +141,10 @@ fn answer_sequence(name: &str, is_bytes: bool, answer: &mut Answer<'_>) -> Resul
         }
         "Nibblet" => {
             let key = answer.next_key::<Nibblet>()?;
+            found(answer, key, is_bytes)
+        }
+        "Parts" => {
+            let key = answer.next_key::<Parts>()?;
             found(answer, key, is_bytes)
         }
         "Vec<u16>" => {

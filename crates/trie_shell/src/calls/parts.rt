@@ -7,10 +7,11 @@ use crate::calls::json::answer_json;
 use crate::calls::lines::NONE;
 use crate::calls::lists::{answer_bits, answer_nibblet};
 use crate::calls::networks::answer_network;
+use crate::calls::part_lists::answer_parts;
 use radix_trie::{Memory, TrieError};
 use std::net::{Ipv4Addr, Ipv6Addr};
 
-/// A call of a key, a list of nibbles or of bits, a network or an object.
+/// A call of a key, a list of nibbles, of bits or of parts, a network or an object.
 pub fn answer_part(call: Part, answer: &mut Answer<'_>) -> Result<(), Memory> {
     match call {
         Part::Encode => answer_encoding(false, answer),
@@ -19,6 +20,7 @@ pub fn answer_part(call: Part, answer: &mut Answer<'_>) -> Result<(), Memory> {
         Part::Bits => answer_bits(answer),
         Part::Ipv4 => answer_network::<Ipv4Addr>(answer),
         Part::Ipv6 => answer_network::<Ipv6Addr>(answer),
+        Part::Parts => answer_parts(answer),
         Part::Json => answer_json(answer.words().rest(), answer),
         Part::Error => answer_error(answer),
     }

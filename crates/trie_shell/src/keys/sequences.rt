@@ -1,4 +1,4 @@
-//! Texts, bytes and lists of nibbles.
+//! Texts, bytes, lists of nibbles and of parts.
 ghost use Rattle.std.specs.Prelude.{◌≡◌, flat_map};
 ghost use Rattle.std.specs.Int.{to_be_bytes, w8};
 ghost use Rattle.std.proofs.Common.{ap};
@@ -8,7 +8,7 @@ ghost use Rattle.nibble_map.specs.Nibbles.{nibbles};
 use crate::answer::Answer;
 use crate::keys::ShellKey;
 use crate::words::{bytes_of, digit};
-use radix_trie::{Memory, Nibblet};
+use radix_trie::{Memory, Nibblet, Parts, PartsError, TrieKey};
 use std::alloc::Global;
 
 impl ShellKey for String {
@@ -64,5 +64,41 @@ impl ShellKey for Nibblet {
 
     fn write(&self, answer: &mut Answer<'_>) -> Result<(), Memory> {
         answer.list(self)
+    }
+}
+
+/// A part stands behind a slash, and has none itself.
+impl ShellKey for Parts {
+    ghost clones_stay = { λ _ _ same. ap ⟦<Parts as TrieKey>⟧.encoding same };
+
+    fn read(alloc: Global, word: &str) -> Result<Option<Parts>, Memory> {
+        let Some(text) = String::read(alloc, word)? else {
+            return Ok(None);
+        };
+        let Some(names) = text.as_str().strip_prefix('/') else {
+            return Ok(if text.is_empty() {
+                Some(Parts::new(alloc))
+            } else {
+                None
+            });
+        };
+        match Parts::split(alloc, names, b'/') {
+            Ok(parts) => Ok(Some(parts)),
+            Err(PartsError::Zero) => Ok(None),
+            Err(PartsError::Memory) => Err(Memory),
+        }
+    }
+
+    fn write(&self, answer: &mut Answer<'_>) -> Result<(), Memory> {
+        if self.is_empty() {
+            return answer.put(b"\"\"");
+        }
+        for part in self.iter() {
+            answer.put(b"/")?;
+            if !part.is_empty() {
+                answer.escaped(part)?;
+            }
+        }
+        Ok(())
     }
 }

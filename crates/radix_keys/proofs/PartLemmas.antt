@@ -3,7 +3,7 @@ use Rattle.std.proofs.Common.{◌≡◌, ◌≢◌, ◌↔◌, ◌==◌, ℕ, ze
 use Rattle.std.proofs.Math.Seq.{drop-cons}
 use Rattle.std.proofs.lemmas.Bool.{eq-eqb, ne_eqb}
 use Rattle.std.proofs.lemmas.Grind.{flat_map-append}
-use Rattle.std.proofs.lemmas.List.{append-nil, length-append, length-take, length-drop, get_or-take, get_or-drop, take-append-drop}
+use Rattle.std.proofs.lemmas.List.{append-nil, length-take, length-drop, get_or-take, get_or-drop, take-append-drop}
 use Rattle.std.proofs.lemmas.List.Elements.{All-nil, All-cons, All-head, All-tail, All-push}
 use Rattle.std.specs.Cmp.{nat_cmp_is}
 use Rattle.std.specs.Cmp.Lexicographic.{pointwise, pointwise_decides, bytes_decides, slice_cmp}
@@ -99,9 +99,6 @@ zeros-part_bytes [] h = refl
 zeros-part_bytes (a ∷ ps) h =
     one a (All-head IsPart a ps h) ∙ ap suc (zeros-part_bytes ps (All-tail IsPart a ps h))
   where
-    zeros : List ℕ → ℕ
-    zeros xs = length (filter (λ b. b == 0) xs)
-
     one : (xs : List ℕ) → IsPart xs → length (filter (λ b. b == 0) ((xs ++ 0 ∷ []) ++ part_bytes ps)) ≡ suc (length (filter (λ b. b == 0) (part_bytes ps)))
     one [] is = refl
     one (x ∷ xs) is =

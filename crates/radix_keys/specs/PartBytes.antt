@@ -1,5 +1,5 @@
 -- The bytes of parts tell the parts.
-use Rattle.std.specs.Prelude.{◌≡◌, ◌≢◌, ◌==◌, ℕ, zero, suc, ◌<◌, List, [], ◌∷◌, ◌++◌, length, All, Bool, true, false, nat_eq, refl}
+use Rattle.std.specs.Prelude.{◌≡◌, ◌≢◌, ◌==◌, ℕ, suc, ◌<◌, List, [], ◌∷◌, ◌++◌, length, Bool, true, false, nat_eq, refl}
 use Rattle.std.specs.Cmp.Lexicographic.{pointwise, pointwise_decides, bytes_decides}
 use Rattle.std.specs.List.{slice_split, onto_first, join_with_byte}
 use Rattle.std.proofs.Common.{arith, cond, get_or, ap, sym, ◌∙◌, append_assoc}
@@ -11,7 +11,7 @@ use Rattle.nibble_map.specs.Nibbles.{nibbles}
 use Rattle.radix_keys.specs.Distinct.{nibbles-injective}
 use Rattle.radix_keys.specs.Parts.{IsPart, AreParts, part_bytes, parts_of}
 
--- where parts are cut at the first of a list of them, more may follow
+-- a byte in front of the first of some parts is in front of the first where more follow
 onto_first-append : (x : ℕ) (ps qs : List (List ℕ)) → 0 < length ps → onto_first x (ps ++ qs) ≡ onto_first x ps ++ qs
 onto_first-append x [] qs lt = absurd (omega (arith, lt))
 onto_first-append x (p ∷ ps) qs lt = refl

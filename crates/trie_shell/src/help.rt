@@ -85,6 +85,7 @@ encode TYPE KEY: (u8,u16), (u128,u8), ([u8;17],u8), (u8,[u8;17]). A comma parts 
 encode TYPE KEY: two halves.\n\
 encode_bytes TYPE KEY: the encoding in bytes, or odd.\n\
 nibblet from_byte_vec BYTES: the list of the bytes' nibbles, the high half of each byte first.\n\
+nibblet from_hex TEXT: the list of the text's hexadecimal digits, or none.\n\
 nibblet clone LIST: a copy of the list.\n\
 nibblet len LIST: the count of its nibbles.\n\
 nibblet get LIST PLACE: the nibble at the place, from 0 on, in decimal.\n\

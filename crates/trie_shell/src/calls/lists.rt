@@ -1,7 +1,7 @@
 //! Calls of lists of nibbles, and of bits.
 
 use crate::answer::Answer;
-use crate::calls::lines::{NO_KEY, NO_LIST, NO_NUMBER, NOT_HERE};
+use crate::calls::lines::{NO_KEY, NO_LIST, NO_NUMBER, NONE, NOT_HERE};
 use crate::words::digit;
 use radix_trie::{Bits, Memory, Nibblet};
 
@@ -17,6 +17,9 @@ pub fn answer_nibblet(answer: &mut Answer<'_>) -> Result<(), Memory> {
             None => answer.line(NO_KEY),
         };
     }
+    if name == "from_hex" {
+        return answer_read(answer);
+    }
     let Some(list) = answer.next_key::<Nibblet>()? else {
         return answer.line(NO_LIST);
     };
@@ -27,6 +30,17 @@ pub fn answer_nibblet(answer: &mut Answer<'_>) -> Result<(), Memory> {
         "turn_over" => answer_turned(list, answer),
         "join" | "agreement" => answer_two(name, list, answer),
         _ => answer_cut(name, list, answer),
+    }
+}
+
+/// The list of the digits of the next word's text, if it has no other character.
+fn answer_read(answer: &mut Answer<'_>) -> Result<(), Memory> {
+    let Some(text) = answer.next_key::<String>()? else {
+        return answer.line(NO_KEY);
+    };
+    match Nibblet::from_hex(answer.alloc(), text.as_str())? {
+        Some(list) => answer.list_line(&list),
+        None => answer.line(NONE),
     }
 }
 

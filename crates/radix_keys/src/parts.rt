@@ -66,7 +66,7 @@ impl Parts {
     }
 
     /// The parts of the text between separators, as `str::split` gives them: one more than there are
-    /// separators, and empty ones too.
+    /// separators, and empty ones too. It reads each byte three times.
     ///
     /// # Errors
     ///
@@ -83,7 +83,7 @@ impl Parts {
     }
 
     /// The parts of the text between separators that aren't empty: of `/home/ann/` at `/` they are
-    /// `home` and `ann`, and of `/` there is none.
+    /// `home` and `ann`, and of `/` there is none. It costs what `split` does.
     ///
     /// # Errors
     ///
@@ -104,7 +104,7 @@ impl Parts {
     }
 
     /// The parts of the text between separators, as `split` gives them, the last of them first: of
-    /// `www.example.org` at `.` they are `org`, `example` and `www`.
+    /// `www.example.org` at `.` they are `org`, `example` and `www`. It costs what `split` does.
     ///
     /// # Errors
     ///
@@ -121,7 +121,7 @@ impl Parts {
         Ok(parts)
     }
 
-    /// Adds a part at the end.
+    /// Adds a part at the end, in the time of its bytes.
     ///
     /// # Errors
     ///
@@ -134,7 +134,7 @@ impl Parts {
         self.push_bytes(part.as_bytes())
     }
 
-    /// Adds a part of any bytes but 0 at the end.
+    /// Adds a part of any bytes but 0 at the end, in the time of these.
     ///
     /// # Errors
     ///
@@ -179,7 +179,8 @@ impl Parts {
         self.bytes.is_empty()
     }
 
-    /// The parts, from the first to the last, and from the back.
+    /// The parts, from the first to the last, or from the back. It takes no memory, and a step reads
+    /// the part that it gives.
     pub fn iter(&self) -> PartsIter<'_>
         ensures { result ≡ self.now }
     {
@@ -187,6 +188,7 @@ impl Parts {
     }
 }
 
+/// The same list, in memory of its own.
 impl Clone for Parts {
     ghost is_clone = { λ parts copy. copy ≡ parts };
 

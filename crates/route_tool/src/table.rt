@@ -87,7 +87,7 @@ impl<A: Address> Routes<A> {
         self.trie.remove(network)
     }
 
-    /// Lays the nodes of the tree anew, in the order of the routes. Where it is refused, some may be.
+    /// Lays the nodes of the tree anew, in the order of the routes.
     pub fn compact(&mut self) -> Result<(), Memory>
         ensures same { self.new ≡ self.old }
     {
@@ -181,7 +181,8 @@ impl Table {
         }
     }
 
-    /// Lays the nodes of both trees anew, so that look-ups in a table that is filled take less time.
+    /// Lays the nodes of both trees anew, so that look-ups in a table that is filled take less time. Where it is
+    /// refused, the first tree may be laid anew.
     pub fn compact(&mut self) -> Result<(), Memory>
         ensures v4 { self.new.v4 ≡ self.old.v4 }
         ensures v6 { self.new.v6 ≡ self.old.v6 }

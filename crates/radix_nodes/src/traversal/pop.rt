@@ -1,4 +1,5 @@
-//! Removal of the pair at an end of the order of walks: one way down, by no list. All that may fail comes first, as in `remove`.
+//! Removal of the pair at an end of the order of walks: one way down, by no list. All that may fail comes first, as in
+//! `remove`.
 ghost use Rattle.std.specs.Prelude.{◌≡◌, ◌≢◌, ◌<◌, [], MatchOption, vec_len};
 ghost use Rattle.masked_tree.specs.Tree.{IsTreePlaced, IsFullBelow};
 ghost use Rattle.radix_nodes.specs.Ends.{EndsHere, EndsInChild, PopOutcome, RootPopOutcome};

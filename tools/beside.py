@@ -4,13 +4,13 @@ import random
 import sys
 import tempfile
 
-from shared import ROOT, Refused, ran
+from shared import ALLOCATOR, ROOT, Refused, ran
 
 PROGRAM = f"{ROOT}/crates/trie_tool/out/trie_tool"
 LOADS = ["words", "paths", "numbers"]
 COUNTS = [200_000, 1_000_000]
 # How the C library is set: as it is, and as the launcher sets it (docs/BENCHMARKS.md).
-SETTINGS = {"as it is": "", "as set": "glibc.malloc.hugetlb=1:glibc.malloc.mxfast=0"}
+SETTINGS = {"as it is": "", "as set": ALLOCATOR}
 # A process begins with the peak of the one that starts it, which is a small one therefore.
 WAITS = """
 import os, sys

@@ -1,8 +1,10 @@
 -- The one error of the crate: what each error of a call becomes, and the text of each.
 use Rattle.std.specs.Prelude.{ℕ, List, codes}
-use Rattle.radix_keys.specs.Errors.{bytes_text, memory_text}
+use Rattle.radix_keys.specs.Errors.{bytes_text, memory_text, parts_text}
 use Rattle.radix_keys.specs.declared.nibbles.BytesError.{BytesError}
 use Rattle.radix_keys.specs.declared.nibbles.BytesError.TheVariants as bytes
+use Rattle.radix_keys.specs.declared.parts.PartsError.{PartsError}
+use Rattle.radix_keys.specs.declared.parts.PartsError.TheVariants as parts
 use Rattle.radix_trie.specs.declared.error.BuildError.{BuildError}
 use Rattle.radix_trie.specs.declared.error.BuildError.TheVariants as build
 use Rattle.radix_trie.specs.declared.error.FindError.{FindError}
@@ -48,6 +50,10 @@ abbrev pub of_bytes : BytesError → TrieError
 of_bytes bytes.Memory = whole.Memory
 of_bytes bytes.Odd = whole.Odd
 
+abbrev pub of_parts : PartsError → TrieError
+of_parts parts.Memory = whole.Memory
+of_parts parts.Zero = whole.Zero
+
 -- what `Display` writes of an error
 abbrev pub text_of : TrieError → List ℕ
 text_of whole.Memory = memory_text
@@ -58,3 +64,4 @@ text_of whole.Closed = codes "no point stands at the key"
 text_of whole.Kind = codes "the value is neither null nor an object"
 text_of whole.Float = codes "a float stands in the value"
 text_of whole.Odd = bytes_text bytes.Odd
+text_of whole.Zero = parts_text parts.Zero

@@ -11,6 +11,7 @@ ghost use Rattle.nibble_map.specs.Maps.{PairMap, below, with_value, without_belo
 ghost use Rattle.nibble_map.specs.Nibbles.{nibbles};
 ghost use Rattle.radix_keys.specs.AscendingKeys.{turned_bytes};
 ghost use Rattle.radix_keys.specs.Integers.{unsigned_key};
+ghost use Rattle.radix_keys.specs.Parts.{AreParts, part_bytes};
 ghost use Rattle.radix_trie.specs.Building.{with_pairs};
 ghost use Rattle.radix_trie.specs.Keys.{IsKeptOrder, IsKeyed};
 ghost use Rattle.radix_trie.specs.Views.{pairs_above, pairs_after, pairs_below, pairs_from};
@@ -91,8 +92,8 @@ pub fn pages_follow_one_another<K: TrieKey, V>(trie: &Trie<K, V>)
 }
 
 /// The keys of a walk, and of a page, rise in each order that their encodings keep, in each map in which every stored key is a value of its
-/// type and stands at its encoding. `numbers_keep_their_order`, `signed_numbers_keep_their_order` and
-/// `texts_keep_their_order` name such orders.
+/// type and stands at its encoding. `numbers_keep_their_order`, `signed_numbers_keep_their_order`, `texts_keep_their_order`
+/// and `parts_keep_their_order` name such orders.
 pub fn keys_of_walks_rise<K: TrieKey, V>()
     ensures below { (cmp : K → K → Ordering) → IsKeptOrder K.encoding K.is_value cmp
         → (m : PairMap K V) → IsKeyed K.encoding K.is_value m → (e : List ℕ)
@@ -126,6 +127,12 @@ pub fn signed_numbers_keep_their_order<T: KeySigned>()
 pub fn texts_keep_their_order<K>()
     ensures { (bytes_of : K → List ℕ) → IsKeptOrder (λ key. nibbles (bytes_of key))
         (λ _. Unit {0}) (λ x y. slice_cmp nat_cmp (bytes_of x) (bytes_of y)) }
+{}
+
+/// Lists of parts compare as their encodings do: part by part.
+pub fn parts_keep_their_order()
+    ensures { IsKeptOrder (λ parts. nibbles (part_bytes parts)) AreParts
+        (slice_cmp (slice_cmp nat_cmp)) }
 {}
 
 /// Where the encoding of a key is the nibbles of its bytes, as that of a text is, the keys whose encodings begin with the

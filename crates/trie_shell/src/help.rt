@@ -76,7 +76,7 @@ spend CALL: what the call answers that takes the open view.\n\
 close: leaves the open view.\n\
 run COMMAND ..: the replies to a list of commands; within KEY COMMAND .. end runs some in a view.\n\
 json TEXT: the counts of an object's trie, and the object that it is written as; kind; float.\n\
-error NAME: the text of an error: memory, full, outside, absent, closed, kind, float or odd; none.\n\
+error NAME: the text of an error: memory, full, outside, absent, closed, kind, float, odd or zero; none.\n\
 encode TYPE KEY: the key's encoding, in nibbles. The types are those of integers,\n\
 encode TYPE KEY: BigEndian<u16>, <u32>, <u128>, LittleEndian of these, Ascending<i8> to <isize>,\n\
 encode TYPE KEY: String, &str, &String, &mut&str, Vec<u8>, &[u8], Vec<u16>, Nibblet, bool, char,\n\

@@ -27,34 +27,41 @@ pub fn count_pairs<K, V>(node: &TrieNode<K, V>) -> usize
     count
 }
 
-// Counts on by the nodes below the node, and by the nibbles of its fragment and of theirs.
-#[tactic(auto, using(crate::proofs::NodeLemmas::Sizes::nodes_out, crate::proofs::NodeLemmas::Sizes::nodes_next, crate::proofs::NodeLemmas::Sizes::nibbles_out, crate::proofs::NodeLemmas::Sizes::nibbles_next))]
-fn measure_below<K, V>(node: &TrieNode<K, V>, held: &mut Measured)
+// Counts on by the pairs at and below the node, by the nodes below it, and by the nibbles of its fragment and of theirs.
+#[tactic(auto, using(crate::proofs::NodeLemmas::Sizes::pairs_out, crate::proofs::NodeLemmas::Sizes::pairs_next, crate::proofs::NodeLemmas::Sizes::own_some, crate::proofs::NodeLemmas::Sizes::own_none, crate::proofs::NodeLemmas::Sizes::nodes_out, crate::proofs::NodeLemmas::Sizes::nodes_next, crate::proofs::NodeLemmas::Sizes::nibbles_out, crate::proofs::NodeLemmas::Sizes::nibbles_next))]
+fn measure_below<K, V>(node: &TrieNode<K, V>, pairs: &mut usize, held: &mut Measured)
+    requires few { pairs.old + length (entries_at [] (tree_of node.now)) < 2 ^ 64 }
     requires small { CanCount held.old (tree_of node.now) }
+    ensures pairs { pairs.new ≡ pairs.old + length (entries_at [] (tree_of node.now)) }
     ensures nodes { held.new.nodes ≡ held.old.nodes + nodes_in (tree_of node.now).children }
     ensures nibbles { held.new.nibbles ≡ held.old.nibbles
         + (length (tree_of node.now).fragment + nibbles_in (tree_of node.now).children) }
 {
+    if has_pair(node) {
+        *pairs += 1;
+    }
     held.nibbles += node.fragment.len() as u128;
     for child in &node.children {
-        measure_below(child, held);
+        measure_below(child, pairs, held);
         held.nodes += 1;
     }
 }
 
-/// How many nodes stand below the node, and how many nibbles its fragment and theirs have.
-pub fn measure<K, V>(node: &TrieNode<K, V>) -> Measured
+/// How many pairs stand at and below the node; how many nodes stand below it, and how many nibbles its fragment and theirs have.
+pub fn measure<K, V>(node: &TrieNode<K, V>) -> (usize, Measured)
     requires { IsSmall (tree_of node.now) }
-    ensures nodes { result.nodes ≡ nodes_in (tree_of node.now).children }
-    ensures nibbles { result.nibbles
+    ensures pairs { result.0 ≡ length (entries_at [] (tree_of node.now)) }
+    ensures nodes { result.1.nodes ≡ nodes_in (tree_of node.now).children }
+    ensures nibbles { result.1.nibbles
         ≡ length (tree_of node.now).fragment + nibbles_in (tree_of node.now).children }
 {
+    let mut pairs = 0;
     let mut held = Measured {
         nodes: 0,
         nibbles: 0,
     };
-    measure_below(node, &mut held);
-    held
+    measure_below(node, &mut pairs, &mut held);
+    (pairs, held)
 }
 
 /// How many nodes stand on the longest way down from the node, with it. None: no `usize` can say it.

@@ -4,7 +4,8 @@ use Rattle.std.proofs.lemmas.Cmp.{int_ranked, nat_list_cmp_total}
 use Rattle.std.proofs.lemmas.List.Elements.{All-cons, All-nil}
 use Rattle.std.proofs.lemmas.List.Kept.{AllPairs-cons}
 use Rattle.std.specs.Cmp.{ranked, tied_itself}
-use Rattle.std.specs.Cmp.Lexicographic.{slice_cmp}
+use Rattle.std.specs.Cmp.Lexicographic.{slice_cmp, lists_total}
+use Rattle.std.specs.FinMap.{slice_cmp-IsAntisymmetric}
 use Rattle.std.specs.Int.{Width, byte_len}
 use Rattle.std.specs.List.{AllPairs}
 use Rattle.std.specs.Ordering.{ordering_reverse}
@@ -15,8 +16,10 @@ use Rattle.nibble_map.proofs.MapLemmas.Bridge.{both_hold, first_of_both, greater
 use Rattle.radix_keys.specs.AscendingKeys.{turned_bytes}
 use Rattle.radix_keys.specs.Integers.{signed_bytes, unsigned_key}
 use Rattle.radix_keys.specs.Order.{Precedes}
+use Rattle.radix_keys.specs.Parts.{AreParts, part_bytes}
 use Rattle.radix_keys.proofs.KeyLemmas.Ascending as ascending
 use Rattle.radix_keys.proofs.KeyLemmas.Order.{byte_order, unsigned_order}
+use Rattle.radix_keys.proofs.PartLemmas.{parts_order}
 use Rattle.radix_trie.specs.Keys.{IsKeptOrder}
 
 -- lists of nibbles compare as equal where they are equal
@@ -85,6 +88,13 @@ texts_kept bytes_of x y p q = by_three (slice_cmp nat_cmp (bytes_of x) (bytes_of
     (λ l. byte_order.precedes (bytes_of x) (bytes_of y) l)
     (λ e. equal_lists (nibbles (bytes_of x)) (nibbles (bytes_of y)) (ap nibbles (tied_lists_equal (bytes_of x) (bytes_of y) e)))
     (λ g. after_list (nibbles (bytes_of x)) (nibbles (bytes_of y)) (byte_order.precedes (bytes_of y) (bytes_of x) (nat_list_cmp_total.antisymm (bytes_of y) (bytes_of x) ∙ ap ordering_reverse g)))
+
+-- and lists of parts, part by part
+pub parts_kept : IsKeptOrder (λ parts. nibbles (part_bytes parts)) AreParts (slice_cmp (slice_cmp nat_cmp))
+parts_kept x y p q = by_three (slice_cmp (slice_cmp nat_cmp) x y) (slice_cmp nat_cmp (nibbles (part_bytes x)) (nibbles (part_bytes y)))
+    (λ l. parts_order.precedes x y p q l)
+    (λ e. equal_lists (nibbles (part_bytes x)) (nibbles (part_bytes y)) (ap (λ t. nibbles (part_bytes t)) (slice_cmp-IsAntisymmetric tied_lists_equal x y e)))
+    (λ g. after_list (nibbles (part_bytes x)) (nibbles (part_bytes y)) (parts_order.precedes y x q p ((lists_total nat_list_cmp_total).antisymm y x ∙ ap ordering_reverse g)))
 
 -- and keys that are read as signed numbers, by their ascending encodings
 pub signed_kept : {X : Type 0} (w : Width) (bytes : X → List ℕ) (number : X → ℤ) (ok : X → Type 0) → ((x : X) → ok x → FitsSigned w (number x)) → ((x : X) → ok x → bytes x ≡ signed_bytes w (number x))

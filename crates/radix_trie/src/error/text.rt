@@ -21,6 +21,7 @@ impl fmt::Display for TrieError {
             TrieError::Kind => "the value is neither null nor an object",
             TrieError::Float => "a float stands in the value",
             TrieError::Odd => "the key has an odd count of nibbles",
+            TrieError::Zero => "a part has a byte 0",
         })
     }
 }

@@ -1,12 +1,12 @@
 //! One error for all calls, so that `?` serves in a function that makes several.
 ghost use Rattle.std.specs.Prelude.{◌≡◌};
 ghost use Rattle.radix_trie.specs.declared.error.whole.TrieError.TheVariants.{Memory as memory};
-ghost use Rattle.radix_trie.specs.Errors.{of_build, of_bytes, of_find, of_insert, of_json, of_open, of_view};
+ghost use Rattle.radix_trie.specs.Errors.{of_build, of_bytes, of_find, of_insert, of_json, of_open, of_parts, of_view};
 
 use crate::error::{
     BuildError, FindError, InsertError, InsertWhy, JsonError, OpenError, SubTrieError,
 };
-use radix_keys::{BytesError, Memory};
+use radix_keys::{BytesError, Memory, PartsError};
 use std::alloc::AllocError;
 
 /// Why a call was refused, whichever call it was.
@@ -28,6 +28,8 @@ pub enum TrieError {
     Float,
     /// The key's encoding has an odd count of nibbles, so it is no list of bytes.
     Odd,
+    /// A part of a list of parts has a byte 0.
+    Zero,
 }
 
 impl From<Memory> for TrieError {
@@ -130,6 +132,17 @@ impl From<BytesError> for TrieError {
         match error {
             BytesError::Memory => TrieError::Memory,
             BytesError::Odd => TrieError::Odd,
+        }
+    }
+}
+
+impl From<PartsError> for TrieError {
+    ghost from_gives = { λ error e. e ≡ of_parts error };
+
+    fn from(error: PartsError) -> TrieError {
+        match error {
+            PartsError::Memory => TrieError::Memory,
+            PartsError::Zero => TrieError::Zero,
         }
     }
 }

@@ -8,7 +8,7 @@ use crate::view::place::Place;
 use radix_keys::{Memory, Nibblet, TrieKey};
 use radix_nodes::traversal::branch::cut_branch;
 use radix_nodes::traversal::grow::make_upper;
-use radix_nodes::traversal::size::{count_pairs, measure};
+use radix_nodes::traversal::size::measure;
 use radix_nodes::traversal::split::rooted;
 use std::mem;
 
@@ -58,8 +58,7 @@ impl<K: TrieKey + Drop, V: Drop> Trie<K, V> {
         let upper = make_upper(self.alloc, Nibblet::new(self.alloc), &path)?;
         match cut_branch(&mut self.root, list) {
             Ok(Some(branch)) => {
-                let length = count_pairs(&branch.top);
-                let held = measure(&branch.top);
+                let (length, held) = measure(&branch.top);
                 let nibbles = held.nibbles - branch.top.fragment.len() as u128 + path.len() as u128;
                 self.length -= length;
                 self.nodes -= held.nodes + branch.nodes as u128;

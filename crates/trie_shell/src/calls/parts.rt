@@ -37,6 +37,7 @@ fn answer_error(answer: &mut Answer<'_>) -> Result<(), Memory> {
         "kind" => TrieError::Kind,
         "float" => TrieError::Float,
         "odd" => TrieError::Odd,
+        "zero" => TrieError::Zero,
         _ => return answer.line(NONE),
     };
     answer.shown_line(&error)

@@ -1,4 +1,4 @@
-use Rattle.std.proofs.Common.{◌≡◌, ◌+◌, ◌-◌, ◌<◌, ◌^◌, ◌∙◌, [], length, ap, sym, subst, arith, rules, refl}
+use Rattle.std.proofs.Common.{◌≡◌, ◌+◌, ◌-◌, ◌∙◌, [], length, ap, sym, subst, arith, rules, refl}
 use Rattle.std.specs.FinMap as fin
 use Rattle.masked_tree.specs.Edits.{lowered}
 use Rattle.masked_tree.specs.Paths.{IsPath}
@@ -44,27 +44,19 @@ returns-in_err-upper-clause-none g c = λ none.
     let some = ap length c.find.ensures.path in
     absurd (point_below_has_stored c.find.result.map c.find.result.path _ (omega (arith, some, c.requires.some)) near.member near.below same)
 
-pub count_pairs-length-requires : goal.count_pairs-length-requires
-count_pairs-length-requires g c =
+pub measure-length-requires : goal.measure-length-requires
+measure-length-requires g c =
     let root = c.self.inside.root in
     let b = c.in-Ok-Some.branch in
     let o = rw c.in-Ok-Some.field-0-is at c.in-Ok-Some.ensures in
     let small = cut_is_small g.K.TrieKey.encoding (tree_of root) _ _ _ c.self.invariant (search rules) (tree_of c.cut_branch.new.root) b o.0 o.2 in
-    subst (λ n. length (entries_at [] (tree_of n)) < 2 ^ 64) (sym c.deref.ensures) small.pairs
-
-pub measure-held-requires : goal.measure-held-requires
-measure-held-requires g c =
-    let root = c.self.inside.root in
-    let b = c.in-Ok-Some.branch in
-    let o = rw c.in-Ok-Some.field-0-is at c.in-Ok-Some.ensures in
-    let small = cut_is_small g.K.TrieKey.encoding (tree_of root) _ _ _ c.self.invariant (search rules) (tree_of c.cut_branch.new.root) b o.0 o.2 in
-    subst (λ n. IsSmall (tree_of n)) (sym c.deref-in-Ok-Some.ensures) small
+    subst (λ n. IsSmall (tree_of n)) (sym c.deref.ensures) small
 
 pub overflow_sub-nibbles : goal.overflow_sub-nibbles
 overflow_sub-nibbles g c =
     let b = c.in-Ok-Some.branch in
-    let held = c.measure-held.ensures.nibbles ∙ ap (λ n. length (tree_of n).fragment + nibbles_in (tree_of n).children) c.deref-in-Ok-Some.ensures in
-    let own = c.len.ensures ∙ ap (λ n. length (fragment_of n)) c.deref-in-Ok-Some-2.ensures ∙ ap length (sym (fragment-tree_of b.top.value)) in
+    let held = c.measure-length.ensures.nibbles ∙ ap (λ n. length (tree_of n).fragment + nibbles_in (tree_of n).children) c.deref.ensures in
+    let own = c.len.ensures ∙ ap (λ n. length (fragment_of n)) c.deref-in-Ok-Some.ensures ∙ ap length (sym (fragment-tree_of b.top.value)) in
     omega (arith, held, own)
 
 pub overflow_add-nibbles : goal.overflow_add-nibbles
@@ -75,8 +67,8 @@ overflow_add-nibbles g c =
     let q = c.into_path-path.result in
     let o = rw c.in-Ok-Some.field-0-is at c.in-Ok-Some.ensures in
     let small = cut_is_small g.K.TrieKey.encoding (tree_of root) _ _ _ c.self.invariant (search rules) (tree_of c.cut_branch.new.root) b o.0 o.2 in
-    let held = c.measure-held.ensures.nibbles ∙ ap (λ n. length (tree_of n).fragment + nibbles_in (tree_of n).children) c.deref-in-Ok-Some.ensures in
-    let own = c.len.ensures ∙ ap (λ n. length (fragment_of n)) c.deref-in-Ok-Some-2.ensures ∙ ap length (sym (fragment-tree_of b.top.value)) in
+    let held = c.measure-length.ensures.nibbles ∙ ap (λ n. length (tree_of n).fragment + nibbles_in (tree_of n).children) c.deref.ensures in
+    let own = c.len.ensures ∙ ap (λ n. length (fragment_of n)) c.deref-in-Ok-Some.ensures ∙ ap length (sym (fragment-tree_of b.top.value)) in
     let near = nearest_in_equal c.find.result.map (map_of (tree_of root)) c.find.result.path c.args.list.now c.in-Some.view.path q (c.find.ensures.map ∙ sym c.self.view_is) c.find.ensures.path (sym c.into_path-path.ensures) (rw c.in-Some.is at c.in_ok-view.ensures.nearest) in
     let part = part_kept g.K.TrieKey.encoding (tree_of root) _ _ _ c.self.invariant (tree_of c.cut_branch.new.root) c.args.list.now o.0 u _ _ (branch_at root u c.args.list.now o.0 c.self.invariant.top o.1) o.2 c.requires.some q near c.in_ok-upper.ensures.5 _ _ _ refl refl refl in
     let fits = small_root g.K.TrieKey.encoding (lowered [] q u) _ _ _ part small.pairs in
@@ -88,7 +80,7 @@ overflow_sub-self g c =
     let u = branch_of c.in-Ok-Some.branch in
     let o = rw c.in-Ok-Some.field-0-is at c.in-Ok-Some.ensures in
     let most = handed_pairs_counted g.K.TrieKey.encoding (tree_of root) _ _ _ c.self.invariant (tree_of c.cut_branch.new.root) c.args.list.now o.0 u _ _ (branch_at root u c.args.list.now o.0 c.self.invariant.top o.1) o.2 (pairs_in u) refl in
-    let same = c.count_pairs-length.ensures ∙ ap (λ n. length (entries_at [] (tree_of n))) c.deref.ensures in
+    let same = c.measure-length.ensures.pairs ∙ ap (λ n. length (entries_at [] (tree_of n))) c.deref.ensures in
     omega (arith, most, same, length-pairs_of (entries_at [] u))
 
 pub overflow_add-result : goal.overflow_add-result
@@ -97,7 +89,7 @@ overflow_add-result g c =
     let b = c.in-Ok-Some.branch in
     let o = rw c.in-Ok-Some.field-0-is at c.in-Ok-Some.ensures in
     let small = cut_is_small g.K.TrieKey.encoding (tree_of root) _ _ _ c.self.invariant (search rules) (tree_of c.cut_branch.new.root) b o.0 o.2 in
-    omega (arith, c.measure-held.ensures.nodes ∙ ap (λ n. nodes_in (tree_of n).children) c.deref-in-Ok-Some.ensures, small.nodes)
+    omega (arith, c.measure-length.ensures.nodes ∙ ap (λ n. nodes_in (tree_of n).children) c.deref.ensures, small.nodes)
 
 pub invariant_of-result : goal.invariant_of-result
 invariant_of-result g c =
@@ -106,14 +98,14 @@ invariant_of-result g c =
     let u = branch_of b in
     let q = c.into_path-path.result in
     let o = rw c.in-Ok-Some.field-0-is at c.in-Ok-Some.ensures in
-    let count = c.count_pairs-length.ensures ∙ ap (λ n. length (entries_at [] (tree_of n))) c.deref.ensures in
-    let nodes = c.measure-held.ensures.nodes ∙ ap (λ n. nodes_in (tree_of n).children) c.deref-in-Ok-Some.ensures in
-    let held = c.measure-held.ensures.nibbles ∙ ap (λ n. length (tree_of n).fragment + nibbles_in (tree_of n).children) c.deref-in-Ok-Some.ensures in
-    let own = c.len.ensures ∙ ap (λ n. length (fragment_of n)) c.deref-in-Ok-Some-2.ensures ∙ ap length (sym (fragment-tree_of b.top.value)) in
+    let count = c.measure-length.ensures.pairs ∙ ap (λ n. length (entries_at [] (tree_of n))) c.deref.ensures in
+    let nodes = c.measure-length.ensures.nodes ∙ ap (λ n. nodes_in (tree_of n).children) c.deref.ensures in
+    let held = c.measure-length.ensures.nibbles ∙ ap (λ n. length (tree_of n).fragment + nibbles_in (tree_of n).children) c.deref.ensures in
+    let own = c.len.ensures ∙ ap (λ n. length (fragment_of n)) c.deref-in-Ok-Some.ensures ∙ ap length (sym (fragment-tree_of b.top.value)) in
     let near = nearest_in_equal c.find.result.map (map_of (tree_of root)) c.find.result.path c.args.list.now c.in-Some.view.path q (c.find.ensures.map ∙ sym c.self.view_is) c.find.ensures.path (sym c.into_path-path.ensures) (rw c.in-Some.is at c.in_ok-view.ensures.nearest) in
     let is = c.rooted.ensures ∙ ap (λ f. lowered f q u) (c.in_ok-upper.ensures.0 ∙ c.new-2.ensures) in
     let part = part_kept g.K.TrieKey.encoding (tree_of root) _ _ _ c.self.invariant (tree_of c.cut_branch.new.root) c.args.list.now o.0 u _ _ (branch_at root u c.args.list.now o.0 c.self.invariant.top o.1) o.2 c.requires.some q near c.in_ok-upper.ensures.5 _ _ _ count (omega (arith, nodes)) (omega (arith, held, own, c.len-in-Ok-Some.ensures)) in
-    subst (λ t. IsKept g.K.TrieKey.encoding t c.count_pairs-length.result (c.measure-held.result.nodes + 2) (c.measure-held.result.nibbles - c.len.result + c.len-in-Ok-Some.result)) (sym is) part
+    subst (λ t. IsKept g.K.TrieKey.encoding t c.measure-length.result.0 (c.measure-length.result.1.nodes + 2) (c.measure-length.result.1.nibbles - c.len.result + c.len-in-Ok-Some.result)) (sym is) part
 
 pub invariant_of-self : goal.invariant_of-self
 invariant_of-self g c =
@@ -121,12 +113,12 @@ invariant_of-self g c =
     let b = c.in-Ok-Some.branch in
     let u = branch_of b in
     let o = rw c.in-Ok-Some.field-0-is at c.in-Ok-Some.ensures in
-    let count = c.count_pairs-length.ensures ∙ ap (λ n. length (entries_at [] (tree_of n))) c.deref.ensures in
-    let nodes : c.measure-held.result.nodes + b.nodes ≡ nodes_gone b = let n = c.measure-held.ensures.nodes ∙ ap (λ n. nodes_in (tree_of n).children) c.deref-in-Ok-Some.ensures in omega (arith, n) in
-    let held : c.measure-held.result.nibbles ≡ nibbles_gone b = c.measure-held.ensures.nibbles ∙ ap (λ n. length (tree_of n).fragment + nibbles_in (tree_of n).children) c.deref-in-Ok-Some.ensures in
-    let kept = handed_pairs_kept g.K.TrieKey.encoding (tree_of root) _ _ _ c.self.invariant (tree_of c.cut_branch.new.root) c.args.list.now o.0 u _ _ (branch_at root u c.args.list.now o.0 c.self.invariant.top o.1) o.2 (pairs_in u) refl c.count_pairs-length.result (count ∙ sym (length-pairs_of (entries_at [] u))) in
-    subst (λ l. IsKept g.K.TrieKey.encoding (tree_of c.cut_branch.new.root) (c.self.inside.length - c.count_pairs-length.result) (c.self.inside.nodes - (c.measure-held.result.nodes + b.nodes)) (c.self.inside.nibbles - l)) (sym held)
-    (subst (λ m. IsKept g.K.TrieKey.encoding (tree_of c.cut_branch.new.root) (c.self.inside.length - c.count_pairs-length.result) (c.self.inside.nodes - m) (c.self.inside.nibbles - nibbles_gone b)) (sym nodes) kept)
+    let count = c.measure-length.ensures.pairs ∙ ap (λ n. length (entries_at [] (tree_of n))) c.deref.ensures in
+    let nodes : c.measure-length.result.1.nodes + b.nodes ≡ nodes_gone b = let n = c.measure-length.ensures.nodes ∙ ap (λ n. nodes_in (tree_of n).children) c.deref.ensures in omega (arith, n) in
+    let held : c.measure-length.result.1.nibbles ≡ nibbles_gone b = c.measure-length.ensures.nibbles ∙ ap (λ n. length (tree_of n).fragment + nibbles_in (tree_of n).children) c.deref.ensures in
+    let kept = handed_pairs_kept g.K.TrieKey.encoding (tree_of root) _ _ _ c.self.invariant (tree_of c.cut_branch.new.root) c.args.list.now o.0 u _ _ (branch_at root u c.args.list.now o.0 c.self.invariant.top o.1) o.2 (pairs_in u) refl c.measure-length.result.0 (count ∙ sym (length-pairs_of (entries_at [] u))) in
+    subst (λ l. IsKept g.K.TrieKey.encoding (tree_of c.cut_branch.new.root) (c.self.inside.length - c.measure-length.result.0) (c.self.inside.nodes - (c.measure-length.result.1.nodes + b.nodes)) (c.self.inside.nibbles - l)) (sym held)
+    (subst (λ m. IsKept g.K.TrieKey.encoding (tree_of c.cut_branch.new.root) (c.self.inside.length - c.measure-length.result.0) (c.self.inside.nodes - m) (c.self.inside.nibbles - nibbles_gone b)) (sym nodes) kept)
 
 pub returns-in-Ok-Some-clause-split : goal.returns-in-Ok-Some-clause-split
 returns-in-Ok-Some-clause-split g c =

@@ -11,8 +11,8 @@ import threading
 ROOT = os.path.dirname(os.path.dirname(os.path.realpath(__file__)))
 # No file that these scripts write comes near to so many bytes.
 MOST = 64_000_000
-# What the C library's allocator is set to for a program where the user has set nothing (docs/BENCHMARKS.md): large pages,
-# and no bins of small pieces that are merged late. A library that knows no such setting passes over it.
+# What the C library's allocator is set to for a program where the user has set nothing (docs/BENCHMARKS.md): large
+# pages, and no bins of small pieces that are merged late. A library that knows no such setting passes over it.
 ALLOCATOR = "glibc.malloc.hugetlb=1:glibc.malloc.mxfast=0"
 ENDING = (signal.SIGHUP, signal.SIGINT, signal.SIGTERM)
 STARTED, STARTING, ENDED_BY = set(), [], []

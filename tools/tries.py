@@ -159,9 +159,32 @@ class Trie:
         turned = {f"{int(it[0], 16) ^ 8:x}{it[1:]}": pair for it, pair in self.pairs.items()}
         return rows(both(turned[it]) for it in sorted(turned))
 
+    def matching(self, topic):
+        """The pairs whose keys are filters that match the topic: at each level the same one before any, and that before
+        the rest."""
+        levels = levels_of(topic)
+        is_reserved = bool(levels) and levels[0][:1] == b"$"
+        found = [(way, both(pair)) for at, pair in self.pairs.items() for way in matches(levels_of(at), levels)]
+        return rows(line for way, line in sorted(found) if not (is_reserved and way[0]))
+
     def view(self, path):
         """A line of the view there, or that there is none."""
         return f"{shown(path)} {value(self.pairs.get(path))}" if path in self.points else "none"
+
+
+def levels_of(at):
+    """The parts of a list of them, by its encoding."""
+    return bytes.fromhex(at).split(b"\0")[:-1]
+
+
+def matches(filter, topic):
+    """Each way in which the filter matches the levels: 0 for the same level, 1 for any, 2 for the rest."""
+    if filter == [b"#"]:
+        yield (2,)
+    if not filter and not topic:
+        yield ()
+    for way, level in enumerate((topic[0], b"+") if filter and topic else ()):
+        yield from ((way, *rest) for rest in matches(filter[1:], topic[1:]) if filter[0] == level)
 
 
 class View:
@@ -197,10 +220,25 @@ def map_with_default(v, at, added, number):
     return "ok"
 
 
-def for_each_value_mut(v, added):
-    for at in v.below:
+def for_each_value_mut(v, added, path=""):
+    for at in starting(v.below, path):
         map_with_default(v, at, added, 0)
     return "ok"
+
+
+def find_ancestor_mut(v, at, number):
+    above = beginnings(v.trie.lists, at)
+    return written(v, above[-1], number) if above else "absent"
+
+
+def try_insert(v, at, number):
+    return "occupied" if at in v.pairs else extend(v, [(at, number)])
+
+
+def get_or_insert(v, at, default, number):
+    """What is stored there, or the default, and then the number in its place."""
+    try_insert(v, at, default)
+    return written(v, at, number)
 
 
 def extend(v, pairs):
@@ -240,6 +278,7 @@ COMMON = {
 }
 OF_BOTH = {
     "get": ("Q", inside(lambda v, at: value(v.pairs.get(at)))),
+    "count_below": ("Q", inside(lambda v, at: str(len(starting(v.trie.lists, at))))),
     "children": ("", lambda v: rows(v.trie.view(it) for it in v.trie.children(v.path))),
     "debug": ("", View.debug),
 }
@@ -248,6 +287,7 @@ OF_WRITERS = {
     "remove": ("Q", inside(lambda v, at: value(v.trie.change(at)))),
     "remove_prefix": ("Q", inside(lambda v, at: rows(map(both, v.trie.cut(at).values())))),
     "value_mut": ("N", lambda v, number: written(v, v.path, number)),
+    "for_each_value_mut": ("N", for_each_value_mut),
 }
 OF_TRIES = {
     "get_counted": ("Q", lambda v, at: f"{value(v.pairs.get(at))} {v.trie.compared(at)}"),
@@ -271,15 +311,18 @@ OF_TRIES = {
     "check_integrity": ("", lambda v: "true"),
     "remove_entry": ("Q", lambda v, at: both(v.trie.change(at))),
     "map_with_default": ("KNN", map_with_default),
+    "try_insert": ("KN", try_insert),
+    "get_or_insert": ("KNN", get_or_insert),
     "get_mut": ("QN", written),
     "find_mut": ("QN", lambda v, at, number: written(v, at, number, "absent")),
+    "find_ancestor_mut": ("QN", find_ancestor_mut),
     "at_mut": ("LN", written),
     "pop_first": ("", lambda v: rows(both(v.trie.change(it)) for it in v.below[:1])),
     "pop_last": ("", lambda v: rows(both(v.trie.change(it)) for it in v.below[-1:])),
     "into_pairs": ("", lambda v: rows(map(both, v.trie.cut("").values()))),
     "clear": ("", clear),
     "compact": ("", lambda v: "ok"),
-    "for_each_value_mut": ("N", for_each_value_mut),
+    "for_each_value_mut_below": ("QN", lambda v, at, added: for_each_value_mut(v, added, at)),
     "extend": ("P", extend),
     "from_iter": ("P", from_iter),
     "draw": ("q", lambda v, at: v.trie.draw(at)),
@@ -290,7 +333,8 @@ IN_READ_VIEWS = {**COMMON, **OF_BOTH, "path": ("", lambda v: shown(v.path))}
 IN_WRITE_VIEWS = {**IN_READ_VIEWS, **OF_WRITERS}
 IN_TRIES = {**COMMON, **OF_BOTH, **OF_WRITERS, **OF_TRIES}
 # These read a key, and then a view for writing hasn't them.
-READ_FIRST = ("remove_entry", "map_with_default", "get_mut", "find_mut")
+READ_FIRST = ("remove_entry", "map_with_default", "try_insert", "get_or_insert", "get_mut", "find_mut",
+              "find_ancestor_mut", "for_each_value_mut_below")
 SPENT = ("spend", "into_children", "into_trie")
 NAMED = ("use", "tries", "==", "clone", "split_off_prefix")
 # What these answer where no point stands at the key.
@@ -415,6 +459,9 @@ class Shell:
     def in_trie(self, trie, name, words):
         if name == "to_ascending":
             return trie.to_ascending() if self.kind[0] == "i" and self.kind[:2] != "ip" else "no signed keys"
+        if name == "matching":
+            topic = self.read("K", next(words)) if self.kind == "parts" else ""
+            return "no lists of parts" if self.kind != "parts" else NO["K"] if topic is None else trie.matching(topic)
         if name == "run":
             return self.run(trie, words)
         return self.made(IN_TRIES[name], View(trie), words) if name in IN_TRIES else NOT_HERE

@@ -9,3 +9,4 @@ pub mod Branches
 pub mod Drains
 pub mod Settling
 pub mod Ends
+pub mod Fills

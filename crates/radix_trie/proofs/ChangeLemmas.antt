@@ -3,9 +3,12 @@ pub mod Changes
 pub mod Removals
 pub mod Splits
 pub mod Insertions
+pub mod Batches
 pub mod Prunings
 pub mod Written
 pub mod Copies
 pub mod Turned
 pub mod Keyed
 pub mod Popped
+pub mod Filled
+pub mod Branches

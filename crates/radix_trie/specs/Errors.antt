@@ -17,6 +17,8 @@ use Rattle.radix_trie.specs.declared.error.OpenError.{OpenError}
 use Rattle.radix_trie.specs.declared.error.OpenError.TheVariants as opening
 use Rattle.radix_trie.specs.declared.error.SubTrieError.{SubTrieError}
 use Rattle.radix_trie.specs.declared.error.SubTrieError.TheVariants as view
+use Rattle.radix_trie.specs.declared.error.TryInsertWhy.{TryInsertWhy}
+use Rattle.radix_trie.specs.declared.error.TryInsertWhy.TheVariants as try_insert
 use Rattle.radix_trie.specs.declared.error.whole.TrieError.{TrieError}
 use Rattle.radix_trie.specs.declared.error.whole.TrieError.TheVariants as whole
 
@@ -24,6 +26,11 @@ abbrev pub of_insert : InsertWhy → TrieError
 of_insert insert.Memory = whole.Memory
 of_insert insert.Full = whole.Full
 of_insert insert.Outside = whole.Outside
+
+abbrev pub of_try_insert : TryInsertWhy → TrieError
+of_try_insert try_insert.Memory = whole.Memory
+of_try_insert try_insert.Full = whole.Full
+of_try_insert try_insert.Occupied = whole.Occupied
 
 abbrev pub of_build : BuildError → TrieError
 of_build build.Memory = whole.Memory
@@ -59,6 +66,7 @@ abbrev pub text_of : TrieError → List ℕ
 text_of whole.Memory = memory_text
 text_of whole.Full = codes "the trie is full"
 text_of whole.Outside = codes "the key lies outside the view"
+text_of whole.Occupied = codes "a pair is stored at the key"
 text_of whole.Absent = codes "no value is stored at the key"
 text_of whole.Closed = codes "no point stands at the key"
 text_of whole.Kind = codes "the value is neither null nor an object"

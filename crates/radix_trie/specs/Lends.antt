@@ -2,7 +2,7 @@
 use mir.Syntax.{named}
 use denote.Ref.{MutRef}
 use Rattle.std.specs.Prelude.{◌≡◌, ℕ, List, [], Option, Result}
-use Rattle.std.specs.Borrow.{Fml, RattleType, MutBor, LendsIf, LendsIfOk, RestsIfErr}
+use Rattle.std.specs.Borrow.{Fml, RattleType, MutBor, LendsIf, LendsIfOk, LendsSoOk, RestsIfErr}
 use Rattle.nibble_map.specs.Maps.{PairMap, with_value}
 use Rattle.radix_keys.specs.declared.keys.TrieKey as keys
 use Rattle.radix_keys.specs.declared.nibbles.NibbleVec.{NibbleVec}
@@ -10,6 +10,7 @@ use Rattle.radix_keys.specs.contracts.nibbles.NibbleVec as nibble_vec
 use Rattle.radix_trie.specs.contracts.trie.Trie.{the_row}
 use Rattle.radix_trie.specs.contracts.view.subtrie_mut.SubTrieMut as view
 use Rattle.radix_trie.specs.declared.view.subtrie_mut.SubTrieMut.{SubTrieMut}
+use Rattle.radix_trie.specs.Views.{IsWrittenAbove, with_value_or}
 use Rattle.radix_trie.specs.WriteViews.{lender_of, with_own_value}
 use Rattle.std.specs.declared.cmp.PartialEq as eqs
 
@@ -46,3 +47,14 @@ module _ (K V : RattleType) (key : keys.Ghosts K.Denot) (eq : eqs.Ghosts K.Denot
     -- the same, at `Ok` and at `Err`
     abbrev pub lends_if_ok : {E : Type 0} → Result (MutBor V.Denot) E → Fml
     lends_if_ok r = LendsIfOk trie_row V t r (with_value t.now e) t.now
+
+    -- the trie ends with the last value written through r at the longest stored list that is a
+    -- prefix of e, and at `Err` it stays as it is
+    abbrev pub lends_above : {E : Type 0} → Result (MutBor V.Denot) E → Fml
+    lends_above r =
+        LendsSoOk trie_row V t r (λ n w. IsWrittenAbove t.now e w n) (λ n. n ≡ t.now)
+
+    -- the trie ends with the last value written through r at e, by the stored key, or by the key k
+    -- where none was stored there; and at `Err` it stays as it is
+    abbrev pub lends_or_stored : K.Denot → {E : Type 0} → Result (MutBor V.Denot) E → Fml
+    lends_or_stored k r = LendsIfOk trie_row V t r (with_value_or t.now e k) t.now

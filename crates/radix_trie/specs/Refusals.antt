@@ -10,6 +10,8 @@ use Rattle.radix_trie.specs.declared.error.SubTrieError.{SubTrieError}
 use Rattle.radix_trie.specs.declared.error.SubTrieError.TheVariants as error
 use Rattle.radix_trie.specs.declared.error.InsertWhy.{InsertWhy}
 use Rattle.radix_trie.specs.declared.error.InsertWhy.TheVariants as why
+use Rattle.radix_trie.specs.declared.error.TryInsertWhy.{TryInsertWhy}
+use Rattle.radix_trie.specs.declared.error.TryInsertWhy.TheVariants as try_why
 
 module _ {K V : Type 0} (m : PairMap K V) (l : List ℕ) where
   -- as many pairs are stored as can be counted, and none at l
@@ -22,6 +24,12 @@ module _ {K V : Type 0} (m : PairMap K V) (l : List ℕ) where
       light → inside × (IsFullAt → ⊥) × (IsStored m l → ⊥)
   RefusesInsert inside light why.Full = inside × IsFullAt
   RefusesInsert inside light why.Outside = inside → ⊥
+
+  -- an insertion that replaces nothing
+  abbrev pub RefusesTryInsert : (light : Type 0) → TryInsertWhy → Type 0
+  RefusesTryInsert light try_why.Memory = light → (IsFullAt → ⊥) × (IsStored m l → ⊥)
+  RefusesTryInsert light try_why.Full = IsFullAt
+  RefusesTryInsert light try_why.Occupied = IsStored m l
 
   -- the removal of the pair at l leaves the point p, which isn't the empty list, with no pair and
   -- the one child q: p is l itself, or p holds no pair and has two children, q and the leaf l

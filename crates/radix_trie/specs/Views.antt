@@ -3,11 +3,12 @@ use Rattle.std.specs.Prelude.{◌≡◌, ℕ, List, Option, Some, None, filter, 
 use Rattle.std.proofs.Common.{refl}
 use Rattle.std.specs.Cmp.Lexicographic.{slice_cmp}
 use Rattle.std.specs.FinMap as finite
+use Rattle.std.specs.Option.{option_map, unwrap_or}
 use Rattle.std.specs.Ordering.{is_le, is_lt, nat_cmp}
 use Rattle.std.specs.Coded.{Coded, code_by, coded_list, coded_ℕ, coded×}
 use Rattle.nibble_map.specs.Lists.{is_prefix}
 use Rattle.nibble_map.specs.MapQueries.{IsAncestor}
-use Rattle.nibble_map.specs.Maps.{PairMap, pair_map_code, value_at, walk}
+use Rattle.nibble_map.specs.Maps.{PairMap, pair_map_code, value_at, walk, with_value}
 
 -- the map of the trie, and the view's path in it
 pub record ReadView (K V : Type 0) : Type 0 where
@@ -41,6 +42,14 @@ module _ {K V : Type 0} where
   -- p is the pair at the longest stored list that is a prefix of e, or None where there is none
   abbrev pub IsPairAbove : PairMap K V → List ℕ → Option (K × V) → Type 0
   IsPairAbove m e p = (a : Option (List ℕ)) × IsAncestor m e a × (p ≡ pair_of_list m a)
+
+  -- the map with the value w at e, by the key that is stored there, or by k where none is
+  abbrev pub with_value_or : PairMap K V → List ℕ → K → V → PairMap K V
+  with_value_or m e k w = finite.insert m e (unwrap_or (option_map (λ p. p.0) (finite.get m e)) k, w)
+
+  -- n is m with the value w at the longest stored list that is a prefix of e
+  abbrev pub IsWrittenAbove : PairMap K V → List ℕ → V → PairMap K V → Type 0
+  IsWrittenAbove m e w n = (a : List ℕ) × IsAncestor m e (Some a) × (n ≡ with_value m a w)
 
   -- the part of the map whose lists are prefixes of e
   abbrev pub above : PairMap K V → List ℕ → PairMap K V

@@ -28,6 +28,25 @@ pub struct InsertError<K, V> {
     pub value: V,
 }
 
+/// Why a pair wasn't stored where none is to be replaced.
+#[derive(Clone, Copy, PartialEq, Eq, Debug)]
+pub enum TryInsertWhy {
+    /// A growth of memory was refused, or a nibble count would pass `usize::MAX`.
+    Memory,
+    /// The trie holds `usize::MAX` pairs.
+    Full,
+    /// A pair is stored at the key's encoding.
+    Occupied,
+}
+
+/// A refused `try_insert`: why, and the very key and value that were handed in.
+#[derive(Drop)]
+pub struct TryInsertError<K, V> {
+    pub why: TryInsertWhy,
+    pub key: K,
+    pub value: V,
+}
+
 /// Why a trie wasn't built.
 #[derive(Clone, Copy, PartialEq, Eq, Debug)]
 pub enum BuildError {

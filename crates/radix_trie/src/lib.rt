@@ -13,7 +13,7 @@ mod view;
 pub use commands::{Command, Reply, ViewCommand, run};
 pub use error::{
     BuildError, FindError, InsertError, InsertWhy, JsonError, OpenError, SubTrieError,
-    SubTrieResult, TrieError,
+    SubTrieResult, TrieError, TryInsertError, TryInsertWhy,
 };
 pub use json::{from_value, to_value};
 pub use key_laws::{

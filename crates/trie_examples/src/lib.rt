@@ -22,6 +22,8 @@ mod rising;
 #[cfg(test)]
 mod same_keys;
 #[cfg(test)]
+mod subscribers;
+#[cfg(test)]
 mod told;
 #[cfg(test)]
 mod topics;

@@ -34,6 +34,7 @@ usages =
     (codes "get_raw_descendant", 1, 1) ∷
     (codes "subtrie", 1, 1) ∷
     (codes "common_prefixes", 1, 1) ∷
+    (codes "count_below", 1, 1) ∷
     (codes "first_below", 2, 2) ∷
     (codes "first_after", 3, 3) ∷
     (codes "at", 1, 1) ∷
@@ -45,14 +46,19 @@ usages =
     (codes "footprint", 0, 0) ∷
     (codes "check_integrity", 0, 0) ∷
     (codes "to_ascending", 0, 0) ∷
+    (codes "matching", 1, 1) ∷
     (codes "debug", 0, 0) ∷
     (codes "insert", 2, 2) ∷
     (codes "remove", 1, 1) ∷
     (codes "remove_entry", 1, 1) ∷
     (codes "remove_prefix", 1, 1) ∷
     (codes "map_with_default", 3, 3) ∷
+    (codes "try_insert", 2, 2) ∷
+    (codes "get_or_insert", 3, 3) ∷
     (codes "get_mut", 2, 2) ∷
     (codes "find_mut", 2, 2) ∷
+    (codes "find_ancestor_mut", 2, 2) ∷
+    (codes "for_each_value_mut_below", 2, 2) ∷
     (codes "pop_first", 0, 0) ∷
     (codes "pop_last", 0, 0) ∷
     (codes "into_pairs", 0, 0) ∷

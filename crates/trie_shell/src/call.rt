@@ -52,6 +52,7 @@ pub enum Keyed {
     GetRawDescendant,
     Subtrie,
     CommonPrefixes,
+    CountBelow,
     FirstBelow,
     FirstAfter,
 }
@@ -73,6 +74,7 @@ pub enum Whole {
     Footprint,
     CheckIntegrity,
     ToAscending,
+    Matching,
     Debug,
 }
 
@@ -84,8 +86,12 @@ pub enum Edit {
     RemoveEntry,
     RemovePrefix,
     MapWithDefault,
+    TryInsert,
+    GetOrInsert,
     GetMut,
     FindMut,
+    FindAncestorMut,
+    ForEachValueMutBelow,
 }
 
 /// Changes of the whole, or at a place that no key names.
@@ -213,6 +219,7 @@ pub const CALLS: &'static [Usage] = &[
     ),
     Usage("subtrie", 1, 1, Call::Keyed(Keyed::Subtrie)),
     Usage("common_prefixes", 1, 1, Call::Keyed(Keyed::CommonPrefixes)),
+    Usage("count_below", 1, 1, Call::Keyed(Keyed::CountBelow)),
     Usage("first_below", 2, 2, Call::Keyed(Keyed::FirstBelow)),
     Usage("first_after", 3, 3, Call::Keyed(Keyed::FirstAfter)),
     Usage("at", 1, 1, Call::Listed(Listed::At)),
@@ -229,14 +236,24 @@ pub const CALLS: &'static [Usage] = &[
     Usage("footprint", 0, 0, Call::Whole(Whole::Footprint)),
     Usage("check_integrity", 0, 0, Call::Whole(Whole::CheckIntegrity)),
     Usage("to_ascending", 0, 0, Call::Whole(Whole::ToAscending)),
+    Usage("matching", 1, 1, Call::Whole(Whole::Matching)),
     Usage("debug", 0, 0, Call::Whole(Whole::Debug)),
     Usage("insert", 2, 2, Call::Edit(Edit::Insert)),
     Usage("remove", 1, 1, Call::Edit(Edit::Remove)),
     Usage("remove_entry", 1, 1, Call::Edit(Edit::RemoveEntry)),
     Usage("remove_prefix", 1, 1, Call::Edit(Edit::RemovePrefix)),
     Usage("map_with_default", 3, 3, Call::Edit(Edit::MapWithDefault)),
+    Usage("try_insert", 2, 2, Call::Edit(Edit::TryInsert)),
+    Usage("get_or_insert", 3, 3, Call::Edit(Edit::GetOrInsert)),
     Usage("get_mut", 2, 2, Call::Edit(Edit::GetMut)),
     Usage("find_mut", 2, 2, Call::Edit(Edit::FindMut)),
+    Usage("find_ancestor_mut", 2, 2, Call::Edit(Edit::FindAncestorMut)),
+    Usage(
+        "for_each_value_mut_below",
+        2,
+        2,
+        Call::Edit(Edit::ForEachValueMutBelow),
+    ),
     Usage("pop_first", 0, 0, Call::Sweep(Sweep::PopFirst)),
     Usage("pop_last", 0, 0, Call::Sweep(Sweep::PopLast)),
     Usage("into_pairs", 0, 0, Call::Sweep(Sweep::IntoPairs)),

@@ -7,6 +7,9 @@ use radix_trie::Memory;
 /// `ok`.
 const HELP: &'static str = "\
 insert KEY VALUE: stores a pair. The old value, or none; outside, in a view.\n\
+try_insert KEY VALUE: stores a pair where none is stored at the key; occupied, where one is.\n\
+get_or_insert KEY DEFAULT VALUE: writes the value at the key, or the default that is stored first.\n\
+get_or_insert KEY DEFAULT VALUE: The old value, or the default.\n\
 get KEY: the value at the key, or none; outside, in a view.\n\
 get_counted KEY: the value, or none, and how many nibbles were compared.\n\
 get_with_cost KEY: the value, or none, how many nodes were visited, and how many nibbles compared.\n\
@@ -14,6 +17,7 @@ contains_key KEY: true where the key is stored, else false.\n\
 get_key_value KEY: the stored pair, or none.\n\
 get_mut KEY VALUE: writes a stored value. The old one, or none.\n\
 find_mut KEY VALUE: writes a stored value. The old one, or absent.\n\
+find_ancestor_mut KEY VALUE: writes the value of the longest stored prefix. The old one, or absent.\n\
 at LIST: the value at the list of nibbles, or none.\n\
 at_mut LIST VALUE: writes the value at the list. The old one, or none.\n\
 contains LIST: true where the list is stored, else false.\n\
@@ -26,6 +30,7 @@ remove_prefix KEY: takes all pairs at and below the key. The pairs, or none; out
 split_off_prefix KEY NAME: the same as a trie of this name.\n\
 map_with_default KEY NUMBER VALUE: adds the number to a stored value, or stores the value.\n\
 for_each_value_mut NUMBER: adds the number to each value.\n\
+for_each_value_mut_below KEY NUMBER: adds the number to each value at and below the key.\n\
 extend KEY VALUE ..: stores pairs.\n\
 from_iter KEY VALUE ..: the trie of these pairs, in place of the current one.\n\
 pop_first: takes the first pair. The pair, or none.\n\
@@ -41,6 +46,7 @@ iter_after KEY: the pairs after the key, or none.\n\
 cursor: the pairs in order, or none. A refused step is made once more.\n\
 cursor_from KEY: the same from the key on.\n\
 cursor_after KEY: the same after the key.\n\
+count_below KEY: the count of pairs at and below the key; outside, in a view.\n\
 first_below KEY COUNT: the first pairs at and below the key, so many at most, or none.\n\
 first_after KEY LAST COUNT: the same of those after the key LAST.\n\
 common_prefixes KEY: the pairs at prefixes of the key, the shortest first, or none.\n\
@@ -63,6 +69,7 @@ get_ancestor_value KEY: the value of the longest stored prefix, or none.\n\
 get_raw_ancestor KEY: the view of the nearest point at or above the key.\n\
 get_raw_descendant KEY: the view of the nearest point at or below the key, or none.\n\
 to_ascending: the keys of the trie of ascending keys, each with the value that is found at it.\n\
+matching KEY: the pairs of all filters that match the topic, where the keys are lists of parts; none.\n\
 debug: the trie or the view as a map, as a log has it.\n\
 open KEY: opens a view for reading. Its path and its value, or none.\n\
 open_mut KEY: opens a view for writing. Its path and its value, or closed.\n\
@@ -76,7 +83,8 @@ spend CALL: what the call answers that takes the open view.\n\
 close: leaves the open view.\n\
 run COMMAND ..: the replies to a list of commands; within KEY COMMAND .. end runs some in a view.\n\
 json TEXT: the counts of an object's trie, and the object that it is written as; kind; float.\n\
-error NAME: the text of an error: memory, full, outside, absent, closed, kind, float, odd or zero; none.\n\
+error NAME: the text of an error: memory, full, outside, occupied, absent, closed, kind, float or\n\
+error NAME: odd or zero; none.\n\
 encode TYPE KEY: the key's encoding, in nibbles. The types are those of integers,\n\
 encode TYPE KEY: BigEndian<u16>, <u32>, <u128>, LittleEndian of these, Ascending<i8> to <isize>,\n\
 encode TYPE KEY: String, &str, &String, &mut&str, Vec<u8>, &[u8], Vec<u16>, Nibblet, bool, char,\n\
@@ -121,6 +129,8 @@ parts len PARTS: the count of its parts.\n\
 parts iter PARTS: the parts, one a line, or none.\n\
 parts rev PARTS: the same, the last part first.\n\
 parts cmp PARTS PARTS: less, equal or greater, part by part.\n\
+parts is_filter PARTS: whether it is a filter of topics.\n\
+parts is_topic PARTS: whether it is a topic.\n\
 use NAME: makes the trie of this name the current one.\n\
 tries: the names of all tries, the current one first.\n\
 clone NAME: a copy of the current trie, under this name.\n\

@@ -24,6 +24,11 @@ pub trait ShellKey: TrieKey + Clone + Drop + fmt::Debug {
         answer.line("no signed keys")
     }
 
+    /// Adds the pairs of all filters that match the topic that the next word writes, where the keys are lists of parts.
+    fn matching(_trie: &Trie<Self, u64>, answer: &mut Answer<'_>) -> Result<(), Memory> {
+        answer.line("no lists of parts")
+    }
+
     ghost clones_stay: { (key copy : Self) → Self.is_clone key copy
         → Self.encoding copy ≡ Self.encoding key };
 }

@@ -31,7 +31,7 @@ module _ {P : Type 0} where
 
   -- a child is written
   -- a change of a child is a change of its parent, its runs behind the parent's fragment
-  child_alters : (t u v : Tree P) (i : ℕ) (gone come : Run P) (n m k l : ℕ) → IsTreePlaced t → IsAt i t.children u → AltersChild gone come n m k l u v →
+  pub child_alters : (t u v : Tree P) (i : ℕ) (gone come : Run P) (n m k l : ℕ) → IsTreePlaced t → IsAt i t.children u → AltersChild gone come n m k l u v →
       AltersNode (λ q. gone (q ++ t.fragment)) (λ q. come (q ++ t.fragment)) n m k l t (with_child i v t)
   child_alters t u v i gone come n m k l h a r =
       let full = λ (f : IsFull (plain t.children)). set_child_full i t.children u v a r.full f in

@@ -136,7 +136,7 @@ module _ {P Q : Type 0} (R : P → Q → Type 0) where
 
   -- copies of entries, as maps
   -- copies of entries stand at the same lists
-  copied_lists : (es : List (List ℕ × P)) (ds : List (List ℕ × Q)) → AreEntryCopies R es ds → stored ds ≡ stored es
+  pub copied_lists : (es : List (List ℕ × P)) (ds : List (List ℕ × Q)) → AreEntryCopies R es ds → stored ds ≡ stored es
   copied_lists [] [] h = refl
   copied_lists [] (d ∷ ds) h = absurd h
   copied_lists (e ∷ es) [] h = absurd h
@@ -154,7 +154,7 @@ module _ {P Q : Type 0} (R : P → Q → Type 0) where
   copied_at (e ∷ es) (d ∷ ds) r s c x v w (inr h) (inr k) = copied_at es ds r.1 s.1 c.2 x v w h k
 
   -- maps whose entries are copies are copies
-  map_copied : (m : NibbleMap P) (n : NibbleMap Q) → AreEntryCopies R (fin.entries m) (fin.entries n) → IsMapCopy R m n
+  pub map_copied : (m : NibbleMap P) (n : NibbleMap Q) → AreEntryCopies R (fin.entries m) (fin.entries n) → IsMapCopy R m n
   map_copied m n c =
       let same = copied_lists (fin.entries m) (fin.entries n) c in
       record {
@@ -164,7 +164,7 @@ module _ {P Q : Type 0} (R : P → Q → Type 0) where
 
 -- the rows of copied entries
 -- rows read from copied entries are copies
-rows_copied : {P Q : Type 0} (row : P → Q) (S : Q → Q → Type 0) (es ds : List (List ℕ × P)) → AreEntryCopies (λ x y. S (row x) (row y)) es ds →
+pub rows_copied : {P Q : Type 0} (row : P → Q) (S : Q → Q → Type 0) (es ds : List (List ℕ × P)) → AreEntryCopies (λ x y. S (row x) (row y)) es ds →
     AreEntryCopies S (map (λ e. (e.0, row e.1)) es) (map (λ e. (e.0, row e.1)) ds)
 rows_copied row S [] [] h = tt
 rows_copied row S [] (d ∷ ds) h = absurd h

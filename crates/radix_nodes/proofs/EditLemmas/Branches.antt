@@ -126,7 +126,7 @@ module _ {K V : Type 0} where
 
     -- one below it
     -- a branch of the child at the rest of the key is a branch of the node at the key
-    branch_below : a.same ≡ length (fragment_of m) → (u : Tree (KeyValue K V)) (s : List ℕ) → IsBranch (tree_of m) u (fragment_of m ++ drop (depth + a.same) key) s
+    pub branch_below : a.same ≡ length (fragment_of m) → (u : Tree (KeyValue K V)) (s : List ℕ) → IsBranch (tree_of m) u (fragment_of m ++ drop (depth + a.same) key) s
         → IsBranch (tree_of n) u goal_path (fragment_of n ++ s)
     branch_below e u s d =
         let f = fragment_of n in

@@ -127,6 +127,14 @@ module _ {K V : Type 0} where
         free (held_to_child (tree_of n) (tree_of b.value) i h (box_is_child lt at) p some (start ∙ ap first (sym (fragment-tree_of b.value)))
         (subst (λ q. IsHeld (tree_of n) q) (ep ∙ ap (λ f. f ++ p) (sym (fragment-tree_of n))) d))
 
+    -- a node that has a new box at i stands for the tree that has the box's tree there
+    pub tree_of-written_box : (b' : Box (TrieNode K V) Global) → let o = out-TrieNode K V n in
+        tree_of (roll-TrieNode K V record { fragment = o.fragment; pair = o.pair; mask = o.mask; children = with_item o.children i b' }) ≡ with_child i (tree_of b'.value) (tree_of n)
+    tree_of-written_box b' =
+        tree_of-written_children n _
+        ∙ ap (λ k. record { fragment = (tree_of n).fragment; pair = (tree_of n).pair; mask = (tree_of n).mask; children = k })
+        (children_of-set items i b' ∙ ap (set_child i (tree_of b'.value)) (sym (children-tree_of n)))
+
     -- an insertion's outcome in the child at i is one in the node that has the child's new box
     pub edit_through_child : (r : Result (Change K V) (KeyValue K V)) (b' : Box (TrieNode K V) Global) (x : KeyValue K V) (p path : List ℕ) →
         let o = out-TrieNode K V n in
@@ -134,12 +142,7 @@ module _ {K V : Type 0} where
         EditOutcome r x path (tree_of n) (tree_of (roll-TrieNode K V record { fragment = o.fragment; pair = o.pair; mask = o.mask; children = with_item o.children i b' }))
     edit_through_child (Ok change) b' x p path lt at ep some start s =
         let e = child_entry_alters (tree_of n) (tree_of b.value) (tree_of b'.value) i p change.was (Some x) change.nodes 0 change.nibbles 0 h (box_is_child lt at) s in
-        rw (new b', ep, ← fragment-tree_of n) e
-      where
-        new : (b' : Box (TrieNode K V) Global) → let o = out-TrieNode K V n in
-            tree_of (roll-TrieNode K V record { fragment = o.fragment; pair = o.pair; mask = o.mask; children = with_item o.children i b' }) ≡ with_child i (tree_of b'.value) (tree_of n)
-        new b' = tree_of-written_children n _ ∙ ap (λ k. record { fragment = (tree_of n).fragment; pair = (tree_of n).pair; mask = (tree_of n).mask; children = k })
-            (children_of-set items i b' ∙ ap (set_child i (tree_of b'.value)) (sym (children-tree_of n)))
+        rw (tree_of-written_box b', ep, ← fragment-tree_of n) e
     edit_through_child (Err y) b' x p path lt at ep some start s = (
       s.0,
       tree_of-written_children n _ ∙ ap (λ k. record { fragment = (tree_of n).fragment; pair = (tree_of n).pair; mask = (tree_of n).mask; children = k })

@@ -9,6 +9,7 @@ pub mod compare;
 pub mod copied;
 pub mod cut;
 pub mod drain;
+pub mod fill;
 pub mod find;
 pub mod grow;
 pub mod insert;

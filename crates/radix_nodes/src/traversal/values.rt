@@ -1,11 +1,14 @@
 //! Changes of all values, each by one call of a closure.
-ghost use Rattle.std.specs.Prelude.{All};
+ghost use Rattle.std.specs.Prelude.{◌<◌, ◌++◌, All, drop, length};
 ghost use Rattle.masked_tree.specs.Same.{IsPairCopy, IsCopy};
-ghost use Rattle.radix_nodes.specs.Nodes.{tree_of, unboxed};
+ghost use Rattle.masked_tree.specs.Tree.{IsTreePlaced};
+ghost use Rattle.radix_nodes.specs.Nodes.{fragment_of, tree_of, unboxed};
 ghost use Rattle.radix_nodes.specs.Pairs.{own_pair, pairs_in};
-ghost use Rattle.radix_nodes.specs.Values.{IsChangedBy, LeavesValue, TakesPair, TakesValue};
+ghost use Rattle.radix_nodes.specs.Values.{ChangesBranch, IsChangedBy, LeavesValue, TakesBranch, TakesPair, TakesValue};
 
+use crate::traversal::step::meet;
 use crate::trie_node::{KeyValue, TrieNode};
+use radix_keys::Nibblet;
 
 // Calls the closure once on a value.
 fn change<V, F: Fn(&mut V)>(value: &mut V, f: &F)
@@ -34,5 +37,29 @@ pub fn change_values<K, V, F: Fn(&mut V)>(node: &mut TrieNode<K, V>, f: &F)
     change_own(&mut node.pair, f);
     for i in 0..node.children.len() {
         change_values(&mut node.children[i], f);
+    }
+}
+
+/// Changes the value of each pair at and below the list's place, which lies below a node that stands at `depth`, in the same way.
+pub fn change_branch<K, V, F: Fn(&mut V)>(
+    node: &mut TrieNode<K, V>,
+    list: &Nibblet,
+    depth: usize,
+    f: &F,
+)
+    requires depth { depth < length list.now }
+    requires placed { IsTreePlaced (tree_of node.old) }
+    requires callable { TakesBranch F.Fn f.now (fragment_of node.old ++ drop depth list.now)
+        (tree_of node.old) }
+    ensures { ChangesBranch F.Fn f.now (fragment_of node.old ++ drop depth list.now)
+        (tree_of node.old) (tree_of node.new) }
+{
+    if let Some((i, agreement)) = meet(node, list, depth) {
+        let next = depth + agreement.same;
+        if next == list.len() {
+            change_values(&mut node.children[i], f);
+        } else if agreement.same == node.children[i].fragment.len() {
+            change_branch(&mut node.children[i], list, next, f);
+        }
     }
 }

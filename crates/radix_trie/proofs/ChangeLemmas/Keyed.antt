@@ -1,9 +1,10 @@
 -- Maps that are built by edits stay keyed.
-use Rattle.std.proofs.Common.{◌≡◌, ℕ, Bool, true, false, cond, T, All, List, [], ◌∷◌, Option, Some, None, is_some, nat_cmp, ap, refl, sym, subst, ◌∙◌, inl, inr}
+use Rattle.std.proofs.Common.{◌≡◌, ℕ, Bool, true, false, cond, not, T, All, List, [], ◌∷◌, Option, Some, None, is_some, nat_cmp, ap, refl, sym, subst, ◌∙◌, inl, inr}
 use Rattle.std.proofs.lemmas.List.Elements.{All-head, All-tail}
 use Rattle.std.specs.Cmp.Lexicographic.{slice_cmp}
 use Rattle.std.specs.FinMap as map
-use Rattle.nibble_map.specs.Maps.{PairMap, set_value, with_value}
+use Rattle.nibble_map.specs.Lists.{is_prefix}
+use Rattle.nibble_map.specs.Maps.{PairMap, below, set_value, with_value, without_below}
 use Rattle.nibble_map.proofs.MapLemmas.Below.{get-retained_lists}
 use Rattle.nibble_map.proofs.MapLemmas.Edits.{has_get, insert_sets_entry, not_None, remove_cuts_entry}
 use Rattle.radix_trie.specs.Building.{with_pairs}
@@ -63,3 +64,17 @@ module _ {K V : Type 0} (enc : K → List ℕ) (is : K → Type 0) where
           let same = (changed.copied_pairs e p q was at).0 in
           let k = h e p was in
           (k.0 ∙ ap enc (sym same), subst is (sym same) k.1)
+
+  -- a map is keyed where its part below a list is, and the rest
+  keyed_joined : (m : PairMap K V) (p : List ℕ) → IsKeyed enc is (below m p) → IsKeyed enc is (without_below m p) → IsKeyed enc is m
+  keyed_joined m p h k e q at = by (is_prefix p e) refl
+    where
+      by : (b : Bool) → is_prefix p e ≡ b → (e ≡ enc q.0) × is q.0
+      by true i = h e q (get-retained_lists m (is_prefix p) e ∙ ap (λ b. cond b (map.get m e) None) i ∙ at)
+      by false i = k e q (get-retained_lists m (λ x. not (is_prefix p x)) e ∙ ap (λ b. cond (not b) (map.get m e) None) i ∙ at)
+
+  -- a keyed map stays so where each value below a list is changed, and nothing else
+  pub keyed_changed_below : (R : V → V → Type 0) (m n : PairMap K V) (p : List ℕ) → ChangesEachValue R (below m p) (below n p) → without_below n p ≡ without_below m p → IsKeyed enc is m → IsKeyed enc is n
+  keyed_changed_below R m n p changed rest h =
+      keyed_joined n p (keyed_changed R (below m p) (below n p) changed (keyed_part m (is_prefix p) h))
+      (subst (IsKeyed enc is) (sym rest) (keyed_part m (λ x. not (is_prefix p x)) h))

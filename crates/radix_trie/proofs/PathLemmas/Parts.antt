@@ -185,12 +185,12 @@ module _ {P : Type 0} where
         filter_none _ _ (λ e h. let r = has_child q k e.0 e.1 h in is_prefix-apart p e.0 (λ i. apart r.0 r.1 r.3 (subst (IsPrefix p) r.2 i)))
 
     -- where q has the prefix p, all entries below q are kept
-    all_kept : (q : List ℕ) (k : Children P) → IsPrefix p q → entries_under (entries_in q k) ≡ entries_in q k
+    pub all_kept : (q : List ℕ) (k : Children P) → IsPrefix p q → entries_under (entries_in q k) ≡ entries_in q k
     all_kept q k i =
         filter_all _ _ (λ e h. let r = has_child q k e.0 e.1 h in is_prefix_true p e.0 (subst (IsPrefix p) (sym r.2) (prefix_through p q (q ++ r.0) i (r.0, refl))))
 
     -- where q has the prefix p, the entry at q is kept
-    own_kept : (q : List ℕ) (o : Option P) → IsPrefix p q → entries_under (entry q o) ≡ entry q o
+    pub own_kept : (q : List ℕ) (o : Option P) → IsPrefix p q → entries_under (entry q o) ≡ entry q o
     own_kept q None i = refl
     own_kept q (Some v) i = rw (is_prefix_true p q i) refl
 

@@ -1,9 +1,10 @@
 //! What errors say of themselves. Each has its text by what it becomes as a `TrieError`.
 ghost use Rattle.std.specs.Prelude.{Some};
-ghost use Rattle.radix_trie.specs.Errors.{of_build, of_find, of_insert, of_json, of_open, of_view, text_of};
+ghost use Rattle.radix_trie.specs.Errors.{of_build, of_find, of_insert, of_json, of_open, of_try_insert, of_view, text_of};
 
 use crate::error::{
     BuildError, FindError, InsertError, InsertWhy, JsonError, OpenError, SubTrieError, TrieError,
+    TryInsertError, TryInsertWhy,
 };
 use std::error::Error;
 use std::fmt;
@@ -16,6 +17,7 @@ impl fmt::Display for TrieError {
             TrieError::Memory => "out of memory",
             TrieError::Full => "the trie is full",
             TrieError::Outside => "the key lies outside the view",
+            TrieError::Occupied => "a pair is stored at the key",
             TrieError::Absent => "no value is stored at the key",
             TrieError::Closed => "no point stands at the key",
             TrieError::Kind => "the value is neither null nor an object",
@@ -37,6 +39,16 @@ impl fmt::Display for InsertWhy {
 }
 
 impl Error for InsertWhy {}
+
+impl fmt::Display for TryInsertWhy {
+    ghost output = { λ error. Some (text_of (of_try_insert error)) };
+
+    fn fmt<W: fmt::Write>(&self, f: &mut fmt::Formatter<W>) -> fmt::Result {
+        fmt::Display::fmt(&TrieError::from(*self), f)
+    }
+}
+
+impl Error for TryInsertWhy {}
 
 impl fmt::Display for BuildError {
     ghost output = { λ error. Some (text_of (of_build error)) };
@@ -106,3 +118,22 @@ impl<K, V> fmt::Debug for InsertError<K, V> {
 }
 
 impl<K: Drop, V: Drop> Error for InsertError<K, V> {}
+
+impl<K, V> fmt::Display for TryInsertError<K, V> {
+    ghost output = { λ refused. Some (text_of (of_try_insert refused.why)) };
+
+    fn fmt<W: fmt::Write>(&self, f: &mut fmt::Formatter<W>) -> fmt::Result {
+        fmt::Display::fmt(&self.why, f)
+    }
+}
+
+/// As `Display`: key and value may be of types that write nothing.
+impl<K, V> fmt::Debug for TryInsertError<K, V> {
+    ghost debug_output = { λ refused. Some (text_of (of_try_insert refused.why)) };
+
+    fn fmt<W: fmt::Write>(&self, f: &mut fmt::Formatter<W>) -> fmt::Result {
+        fmt::Display::fmt(self, f)
+    }
+}
+
+impl<K: Drop, V: Drop> Error for TryInsertError<K, V> {}

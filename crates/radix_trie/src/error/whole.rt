@@ -1,10 +1,11 @@
 //! One error for all calls, so that `?` serves in a function that makes several.
 ghost use Rattle.std.specs.Prelude.{◌≡◌};
 ghost use Rattle.radix_trie.specs.declared.error.whole.TrieError.TheVariants.{Memory as memory};
-ghost use Rattle.radix_trie.specs.Errors.{of_build, of_bytes, of_find, of_insert, of_json, of_open, of_parts, of_view};
+ghost use Rattle.radix_trie.specs.Errors.{of_build, of_bytes, of_find, of_insert, of_json, of_open, of_parts, of_try_insert, of_view};
 
 use crate::error::{
     BuildError, FindError, InsertError, InsertWhy, JsonError, OpenError, SubTrieError,
+    TryInsertError, TryInsertWhy,
 };
 use radix_keys::{BytesError, Memory, PartsError};
 use std::alloc::AllocError;
@@ -18,6 +19,8 @@ pub enum TrieError {
     Full,
     /// The view's path isn't a prefix of the key's encoding.
     Outside,
+    /// A pair is stored at the key's encoding.
+    Occupied,
     /// No value is stored at the key's encoding.
     Absent,
     /// No point stands at the key's encoding.
@@ -66,6 +69,27 @@ impl<K: Drop, V: Drop> From<InsertError<K, V>> for TrieError {
 
     fn from(refused: InsertError<K, V>) -> TrieError {
         TrieError::from(refused.why)
+    }
+}
+
+impl From<TryInsertWhy> for TrieError {
+    ghost from_gives = { λ why e. e ≡ of_try_insert why };
+
+    fn from(why: TryInsertWhy) -> TrieError {
+        match why {
+            TryInsertWhy::Memory => TrieError::Memory,
+            TryInsertWhy::Full => TrieError::Full,
+            TryInsertWhy::Occupied => TrieError::Occupied,
+        }
+    }
+}
+
+/// The key and the value that were handed in are dropped.
+impl<K: Drop, V: Drop> From<TryInsertError<K, V>> for TrieError {
+    ghost from_gives = { λ error e. e ≡ of_try_insert error.why };
+
+    fn from(error: TryInsertError<K, V>) -> TrieError {
+        TrieError::from(error.why)
     }
 }
 

@@ -2,12 +2,15 @@
 ghost use Rattle.std.specs.Borrow.{sem};
 ghost use Rattle.std.specs.Option.{option_copied_mut};
 ghost use Rattle.std.specs.Prelude.{◌≡◌, [], None, Some, IsOk, IfOk, IfErr};
+ghost use Rattle.nibble_map.specs.MapQueries.{IsAncestor};
 ghost use Rattle.nibble_map.specs.Maps.{value_at};
-ghost use Rattle.radix_trie.specs.Lends.{lends_at, lends_if_ok};
+ghost use Rattle.radix_trie.specs.Lends.{lends_above, lends_at, lends_if_ok};
+ghost use Rattle.radix_trie.specs.Views.{IsValueAbove};
 
 use crate::error::FindError;
 use crate::trie::Trie;
 use radix_keys::{Memory, Nibblet, TrieKey};
+use radix_nodes::traversal::queries::deepest_pair;
 
 impl<K: TrieKey, V> Trie<K, V> {
     /// The value at the empty list, for writing, if one is stored there. It takes no memory.
@@ -45,6 +48,47 @@ impl<K: TrieKey, V> Trie<K, V> {
             Some(value) => Ok(value),
             None => Err(FindError::Absent),
         }
+    }
+
+    /// The value at the longest stored list that is a prefix of the key's encoding, for writing. A
+    /// caller learns from this call what the trie ends as.
+    ///
+    /// # Errors
+    ///
+    /// `Absent`, exactly where there is no such list; and memory for the encoding, which a light key
+    /// never meets. The trie is as before then.
+    pub fn find_ancestor_mut<Q: TrieKey>(&mut self, key: &Q) -> Result<&mut V, FindError>
+        ensures* writes_back { sem 𝓛
+            (lends_above K.row V.row K.TrieKey.own K.PartialEq.own self.entry
+            (Q.encoding key.now) result) }
+        ensures value { IfOk result
+            (λ value. IsValueAbove self.old (Q.encoding key.now) (Some value.now)) }
+        ensures absent { IfErr result (λ e. e ≡ FindError.Absent
+            → IsAncestor self.old (Q.encoding key.now) None) }
+        ensures light { Q.is_light key.now → IfErr result (λ e. e ≡ FindError.Absent) }
+    {
+        let Ok(list) = key.encode(self.allocator()) else {
+            return Err(FindError::Memory);
+        };
+        let Some(nearest) = self.stored_above(list) else {
+            return Err(FindError::Absent);
+        };
+        match self.at_mut(&nearest) {
+            Some(value) => Ok(value),
+            None => unreachable!(),
+        }
+    }
+
+    /// The longest stored list that is a prefix of a list, if there is one.
+    fn stored_above(&self, list: Nibblet) -> Option<Nibblet>
+        ensures { IsAncestor self.now list result }
+    {
+        let Some(found) = deepest_pair(self.root(), &list, 0) else {
+            return None;
+        };
+        let mut nearest = list;
+        nearest.truncate(found.1);
+        Some(nearest)
     }
 
     /// The value at the key's encoding, for writing, or None where none is stored there.

@@ -21,6 +21,7 @@ use std::alloc::Global;
 use std::marker::Model;
 
 mod ascending;
+mod batches;
 mod building;
 mod compact;
 mod counted;
@@ -37,6 +38,7 @@ mod prune;
 mod queries;
 mod remove;
 mod split;
+mod vacant;
 mod values;
 
 /// A map from keys to values, told apart by the keys' encodings.

@@ -1,8 +1,9 @@
-//! Queries of a trie: the views at points, and at the nearest points to a key.
+//! Queries of a trie: the views at points, and at the nearest points to a key, and what stands below and above one.
 ghost use Rattle.std.specs.Prelude.{◌≡◌, ◌≤◌, ℕ, List, [], Some, IsOk, IfOk, IfSome, MatchOption, length, option_copied, option_map, take};
+ghost use Rattle.std.specs.FinMap as map;
 ghost use Rattle.nibble_map.specs.Lists.{Each};
 ghost use Rattle.nibble_map.specs.MapQueries.{AreChildren, IsAncestor, IsChild, IsRawAncestor, IsRawDescendant};
-ghost use Rattle.nibble_map.specs.Maps.{IsPoint};
+ghost use Rattle.nibble_map.specs.Maps.{IsPoint, below};
 ghost use Rattle.nibble_map.specs.Nibbles.{IsShort};
 ghost use Rattle.radix_nodes.specs.Nodes.{tree_of};
 ghost use Rattle.radix_trie.specs.Places.{IsNodeOf};
@@ -143,6 +144,23 @@ impl<K: TrieKey, V> Trie<K, V> {
     {
         let list = key.encode(self.allocator())?;
         Place::find(self, &list).nearest()
+    }
+
+    /// The count of pairs at and below the key's place. They are counted, so the time grows with
+    /// their number.
+    ///
+    /// The key needn't be stored, nor be a point.
+    ///
+    /// # Errors
+    ///
+    /// Memory for the encoding is refused, which a light key never meets.
+    pub fn count_below<Q: TrieKey>(&self, key: &Q) -> Result<usize, Memory>
+        ensures count { IfOk result
+            (λ count. count ≡ map.len (below self.now (Q.encoding key.now))) }
+        ensures light { Q.is_light key.now → IsOk result }
+    {
+        let list = key.encode(self.allocator())?;
+        Ok(Place::find(self, &list).len())
     }
 
     /// The walk over all pairs whose encodings are prefixes of the key's encoding, from the

@@ -1,13 +1,15 @@
-//! Changes of all values.
-ghost use Rattle.std.specs.Prelude.{[], All};
+//! Changes of all values, and of those below a key.
+ghost use Rattle.std.specs.Prelude.{◌≡◌, [], All, IsOk, OnErr, OnOk};
 ghost use Rattle.std.specs.Fn.{FnOnceReturnsAtMut, FnOnceTakesAtMut};
+ghost use Rattle.nibble_map.specs.Maps.{below, without_below};
+ghost use Rattle.radix_nodes.specs.Values.{LeavesValue, TakesPair};
 ghost use Rattle.radix_trie.specs.Keys.{IsKeyed};
 ghost use Rattle.radix_trie.specs.Values.{ChangesEachValue};
 ghost use Rattle.radix_trie.specs.Views.{pairs_below};
 
 use crate::trie::Trie;
-use radix_keys::TrieKey;
-use radix_nodes::traversal::values::change_values;
+use radix_keys::{Memory, Nibblet, TrieKey};
+use radix_nodes::traversal::values::{change_branch, change_values};
 
 impl<K: TrieKey, V> Trie<K, V> {
     /// Changes each value by one call of the closure. The encodings and the keys stay, and no memory
@@ -26,5 +28,51 @@ impl<K: TrieKey, V> Trie<K, V> {
             → IsKeyed K.encoding K.is_value self.new }
     {
         change_values(&mut self.root, &f);
+    }
+
+    /// Changes each value at and below the key's place by one call of the closure. The encodings and
+    /// the keys stay. The time is that of the way down and of the pairs below it.
+    ///
+    /// The closure has to be callable on each of these values. The key needn't be stored, nor be a
+    /// point.
+    ///
+    /// # Errors
+    ///
+    /// Memory for the encoding is refused, which a light key never meets. The trie is as before
+    /// then.
+    pub fn for_each_value_mut_below<Q: TrieKey, F: Fn(&mut V)>(
+        &mut self,
+        key: &Q,
+        f: F,
+    ) -> Result<(), Memory>
+        requires callable { All (λ p. FnOnceTakesAtMut F.FnOnce f p.1)
+            (pairs_below self.old (Q.encoding key.now)) }
+        ensures changed { OnOk result
+            (ChangesEachValue (λ v w. FnOnceReturnsAtMut F.FnOnce f v tt w)
+            (below self.old (Q.encoding key.now)) (below self.new (Q.encoding key.now))) }
+        ensures elsewhere { without_below self.new (Q.encoding key.now)
+            ≡ without_below self.old (Q.encoding key.now) }
+        ensures unchanged { OnErr result (self.new ≡ self.old) }
+        ensures keyed { IsKeyed K.encoding K.is_value self.old
+            → IsKeyed K.encoding K.is_value self.new }
+        ensures light { Q.is_light key.now → IsOk result }
+    {
+        let list = key.encode(self.alloc)?;
+        self.change_below(&list, &f);
+        Ok(())
+    }
+
+    /// What `for_each_value_mut_below` does, with the key's encoding in hand.
+    pub(crate) fn change_below<F: Fn(&mut V)>(&mut self, list: &Nibblet, f: &F)
+        requires callable { All (TakesPair F.Fn f.now) (pairs_below self.old list.now) }
+        ensures changed { ChangesEachValue (LeavesValue F.Fn f.now)
+            (below self.old list.now) (below self.new list.now) }
+        ensures elsewhere { without_below self.new list.now ≡ without_below self.old list.now }
+    {
+        if list.len() == 0 {
+            change_values(&mut self.root, f);
+        } else {
+            change_branch(&mut self.root, list, 0, f);
+        }
     }
 }

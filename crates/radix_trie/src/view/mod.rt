@@ -5,4 +5,5 @@ mod shown;
 pub(crate) mod subtrie;
 pub(crate) mod subtrie_mut;
 pub(crate) mod trie_common;
+mod values;
 mod write_common;

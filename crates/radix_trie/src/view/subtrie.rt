@@ -3,7 +3,7 @@ ghost use Rattle.std.specs.Prelude.{◌≡◌, ◌≢◌, ℕ, List, Err, IfOk, 
 ghost use Rattle.std.specs.FinMap as map;
 ghost use Rattle.nibble_map.specs.Lists.{Each, IsPrefix};
 ghost use Rattle.nibble_map.specs.MapQueries.{AreChildren, IsFragment, IsChild};
-ghost use Rattle.nibble_map.specs.Maps.{value_at};
+ghost use Rattle.nibble_map.specs.Maps.{below, value_at};
 ghost use Rattle.nibble_map.specs.Nibbles.{IsShort};
 ghost use Rattle.radix_nodes.specs.Nodes.{tree_of};
 ghost use Rattle.radix_nodes.specs.Pairs.{pair_of};
@@ -109,6 +109,30 @@ impl<'a, K: TrieKey, V> SubTrie<'a, K, V> {
         match find(self.node, list, self.path.len()) {
             Some(node) => node.pair(),
             None => None,
+        }
+    }
+
+    /// The count of pairs at and below the key's place. They are counted, so the time grows with
+    /// their number.
+    ///
+    /// # Errors
+    ///
+    /// Those of `get`.
+    pub fn count_below<Q: TrieKey>(&self, key: &Q) -> Result<usize, SubTrieError>
+        ensures count { IfOk result
+            (λ count. count ≡ map.len (below self.now.map (Q.encoding key.now))) }
+        ensures inside { OnOk result (IsPrefix self.now.path (Q.encoding key.now)) }
+        ensures outside { result ≡ Err SubTrieError.Outside
+            → IsPrefix self.now.path (Q.encoding key.now) → ⊥ }
+        ensures light { Q.is_light key.now → result ≢ Err SubTrieError.Memory }
+    {
+        let Ok(list) = key.encode(self.trie.allocator()) else {
+            return Err(SubTrieError::Memory);
+        };
+        if begins(&self.path, &list) {
+            Ok(Place::find(self.trie, &list).len())
+        } else {
+            Err(SubTrieError::Outside)
         }
     }
 

@@ -6,8 +6,12 @@ use crate::calls::lines::{NO_KEY, NO_NUMBER, NONE, NOT_HERE, taken_line, taken_l
 use crate::keys::{Query, ShellKey};
 use radix_trie::{
     FindError, InsertError, InsertWhy, Memory, SubTrieError, SubTrieMut, Trie, TrieKey,
+    TryInsertError, TryInsertWhy,
 };
 use std::alloc::Global;
+
+/// What is answered where an insertion that was refused hands another pair back.
+const OTHER: &'static str = "another pair came back";
 
 /// A pair that is to be stored: the word that writes its key, and the value.
 #[derive(Clone, Copy)]
@@ -35,19 +39,48 @@ fn refused_line<K: ShellKey>(
     given: Given<'_>,
     error: InsertError<K, u64>,
 ) -> Result<(), Memory> {
-    let is_key = match is_key_of(answer.alloc(), &error.key, given.word) {
-        Ok(is_key) => is_key,
-        Err(_) => is_key_of(answer.alloc(), &error.key, given.word)?,
-    };
-    if error.value != given.value || !is_key {
-        answer.note_other();
-    }
+    note_pair(answer, given, &error.key, error.value)?;
     match error.why {
         InsertWhy::Memory => Err(Memory),
-        _ if answer.is_other() => answer.line("another pair came back"),
+        _ if answer.is_other() => answer.line(OTHER),
         InsertWhy::Full => answer.line("full"),
         InsertWhy::Outside => answer.line("outside"),
     }
+}
+
+/// What an insertion that replaces nothing answers.
+fn try_insert_line<K: ShellKey>(
+    answer: &mut Answer<'_>,
+    given: Given<'_>,
+    outcome: Result<(), TryInsertError<K, u64>>,
+) -> Result<(), Memory> {
+    let Err(error) = outcome else {
+        return answer.line("ok");
+    };
+    note_pair(answer, given, &error.key, error.value)?;
+    match error.why {
+        TryInsertWhy::Memory => Err(Memory),
+        _ if answer.is_other() => answer.line(OTHER),
+        TryInsertWhy::Full => answer.line("full"),
+        TryInsertWhy::Occupied => answer.line("occupied"),
+    }
+}
+
+/// Notes where another pair came back than was given.
+fn note_pair<K: ShellKey>(
+    answer: &mut Answer<'_>,
+    given: Given<'_>,
+    key: &K,
+    value: u64,
+) -> Result<(), Memory> {
+    let is_key = match is_key_of(answer.alloc(), key, given.word) {
+        Ok(is_key) => is_key,
+        Err(_) => is_key_of(answer.alloc(), key, given.word)?,
+    };
+    if value != given.value || !is_key {
+        answer.note_other();
+    }
+    Ok(())
 }
 
 /// Whether the word writes this key.
@@ -64,7 +97,7 @@ pub fn answer_edit<K: ShellKey>(
     call: Edit,
     answer: &mut Answer<'_>,
 ) -> Result<(), Memory> {
-    if let Edit::Insert | Edit::MapWithDefault = call {
+    if let Edit::Insert | Edit::MapWithDefault | Edit::TryInsert | Edit::GetOrInsert = call {
         let word = answer.words().next().unwrap_or("");
         return match answer.next_key::<K>()? {
             Some(key) => answer_store(trie, key, word, call, answer),
@@ -89,10 +122,14 @@ fn answer_store<K: ShellKey>(
     let Some(value) = answer.next_number() else {
         return answer.line(NO_NUMBER);
     };
-    if let Edit::MapWithDefault = call {
-        return answer_map(trie, key, word, value, answer);
+    match call {
+        Edit::MapWithDefault => answer_map(trie, key, word, value, answer),
+        Edit::GetOrInsert => answer_filled(trie, key, word, value, answer),
+        Edit::TryInsert => {
+            try_insert_line(answer, Given { word, value }, trie.try_insert(key, value))
+        }
+        _ => insert_line(answer, Given { word, value }, trie.insert(key, value)),
     }
-    insert_line(answer, Given { word, value }, trie.insert(key, value))
 }
 
 /// A change of what is stored at the key, or below it.
@@ -107,11 +144,56 @@ fn answer_at<K: ShellKey, Q: TrieKey>(
         Edit::RemoveEntry => taken_line(answer, &trie.remove_entry(key)?),
         Edit::RemovePrefix => taken_lines(answer, trie.remove_prefix(key)?.as_slice()),
         Edit::GetMut => written_or_none(answer, trie.get_mut(key)?),
-        _ => match trie.find_mut(key) {
-            Ok(value) => written_or_none(answer, Some(value)),
-            Err(FindError::Absent) => answer.line("absent"),
-            Err(FindError::Memory) => Err(Memory),
+        Edit::FindAncestorMut => written_or_absent(answer, trie.find_ancestor_mut(key)),
+        Edit::ForEachValueMutBelow => match answer.next_number() {
+            Some(added) => {
+                trie.for_each_value_mut_below(key, |value| *value = value.wrapping_add(added))?;
+                answer.line("ok")
+            }
+            None => answer.line(NO_NUMBER),
         },
+        _ => written_or_absent(answer, trie.find_mut(key)),
+    }
+}
+
+/// Writes the number of the next word where a value was lent. The answer is the old value.
+fn written_or_absent(
+    answer: &mut Answer<'_>,
+    lent: Result<&mut u64, FindError>,
+) -> Result<(), Memory> {
+    match lent {
+        Ok(value) => written_or_none(answer, Some(value)),
+        Err(FindError::Absent) => answer.line("absent"),
+        Err(FindError::Memory) => Err(Memory),
+    }
+}
+
+/// Writes the number of the next word where the value at the key stands, or the default, which is
+/// stored first. The answer is what stood there.
+fn answer_filled<K: ShellKey>(
+    trie: &mut Trie<K, u64>,
+    key: K,
+    word: &str,
+    default: u64,
+    answer: &mut Answer<'_>,
+) -> Result<(), Memory> {
+    let Some(number) = answer.next_number() else {
+        return answer.line(NO_NUMBER);
+    };
+    match trie.get_or_insert(key, default) {
+        Ok(value) => {
+            let old = *value;
+            *value = number;
+            answer.value_line(Some(old))
+        }
+        Err(error) => refused_line(
+            answer,
+            Given {
+                word,
+                value: default,
+            },
+            error,
+        ),
     }
 }
 
@@ -195,6 +277,18 @@ pub fn inside_line(
 ) -> Result<(), Memory> {
     match found {
         Ok(value) => answer.value_line(value),
+        Err(SubTrieError::Outside) => answer.line("outside"),
+        Err(SubTrieError::Memory) => Err(Memory),
+    }
+}
+
+/// A count, or that the key is outside.
+pub fn count_inside_line(
+    answer: &mut Answer<'_>,
+    count: Result<usize, SubTrieError>,
+) -> Result<(), Memory> {
+    match count {
+        Ok(count) => answer.count_line(count),
         Err(SubTrieError::Outside) => answer.line("outside"),
         Err(SubTrieError::Memory) => Err(Memory),
     }

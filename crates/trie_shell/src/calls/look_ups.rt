@@ -45,6 +45,7 @@ fn answer_at<K: ShellKey, Q: TrieKey>(
         Keyed::GetKeyValue => pair_line(answer, trie.get_key_value(key)?),
         Keyed::GetAncestorValue => answer.value_line(trie.get_ancestor_value(key)?.copied()),
         Keyed::CommonPrefixes => pair_lines(answer, trie.common_prefixes(key)?),
+        Keyed::CountBelow => answer.count_line(trie.count_below(key)?),
         Keyed::FirstBelow => match answer.next_number() {
             Some(most) => pair_lines(answer, trie.first_below(key, most as usize)?.into_iter()),
             None => answer.line(NO_NUMBER),
@@ -137,6 +138,7 @@ pub fn answer_whole<K: ShellKey>(
     match call {
         Whole::Children => child_lines(answer, trie.children()?),
         Whole::ToAscending => K::to_ascending(trie, answer),
+        Whole::Matching => K::matching(trie, answer),
         Whole::Debug => answer.debug_line(trie),
         Whole::CheckIntegrity => answer.truth_line(trie.check_integrity()?),
         Whole::Footprint => {

@@ -4,6 +4,7 @@ use crate::answer::Answer;
 use crate::calls::lines::{NO_KEY, NONE, NOT_HERE};
 use radix_trie::{Memory, Parts, PartsError};
 use std::cmp::Ordering;
+use topic_filters::{is_filter, is_topic};
 
 /// A call of the list of parts that the next word writes, or that makes one.
 pub fn answer_parts(answer: &mut Answer<'_>) -> Result<(), Memory> {
@@ -21,6 +22,8 @@ pub fn answer_parts(answer: &mut Answer<'_>) -> Result<(), Memory> {
         "iter" => part_lines(false, &parts, answer),
         "rev" => part_lines(true, &parts, answer),
         "cmp" => answer_order(&parts, answer),
+        "is_filter" => answer.truth_line(is_filter(&parts)),
+        "is_topic" => answer.truth_line(is_topic(&parts)),
         _ => answer.line(NOT_HERE),
     }
 }

@@ -32,6 +32,7 @@ fn answer_error(answer: &mut Answer<'_>) -> Result<(), Memory> {
         "memory" => TrieError::Memory,
         "full" => TrieError::Full,
         "outside" => TrieError::Outside,
+        "occupied" => TrieError::Occupied,
         "absent" => TrieError::Absent,
         "closed" => TrieError::Closed,
         "kind" => TrieError::Kind,

@@ -4,8 +4,8 @@ use crate::answer::Answer;
 use crate::call::{Call, Common, Keyed, Sweep, View, Whole, call_of_name};
 use crate::caller::{Caller, make};
 use crate::calls::common::answer_common;
-use crate::calls::edits::{answer_edit_in_view, inside_line, written_or_none};
-use crate::calls::lines::{NO_KEY, NONE, NOT_HERE, child_lines};
+use crate::calls::edits::{answer_edit_in_view, count_inside_line, inside_line, written_or_none};
+use crate::calls::lines::{NO_KEY, NO_NUMBER, NONE, NOT_HERE, child_lines};
 use crate::calls::tries::answer_trie;
 use crate::keys::{Query, ShellKey};
 use radix_trie::{Memory, Nibblet, OpenError, SubTrie, SubTrieError, SubTrieMut, Trie, TrieKey};
@@ -45,6 +45,11 @@ pub fn answer_in_view<K: ShellKey>(
         Call::Keyed(Keyed::Get) => match answer.next_query::<K>()? {
             Some(Query::Key(key)) => inside_line(answer, copied(view.get(&key))),
             Some(Query::List(list)) => inside_line(answer, copied(view.get(&list))),
+            None => answer.line(NO_KEY),
+        },
+        Call::Keyed(Keyed::CountBelow) => match answer.next_query::<K>()? {
+            Some(Query::Key(key)) => count_inside_line(answer, view.count_below(&key)),
+            Some(Query::List(list)) => count_inside_line(answer, view.count_below(&list)),
             None => answer.line(NO_KEY),
         },
         Call::Whole(Whole::Children) => child_lines(answer, view.children()?),
@@ -108,11 +113,23 @@ fn answer_through<K: ShellKey>(
             Some(Query::List(list)) => inside_line(answer, copied(view.get(&list))),
             None => answer.line(NO_KEY),
         },
+        Call::Keyed(Keyed::CountBelow) => match answer.next_query::<K>()? {
+            Some(Query::Key(key)) => count_inside_line(answer, view.count_below(&key)),
+            Some(Query::List(list)) => count_inside_line(answer, view.count_below(&list)),
+            None => answer.line(NO_KEY),
+        },
         Call::Whole(Whole::Children) => child_lines(answer, view.children()?),
         Call::Whole(Whole::Debug) => answer.debug_line(&*view),
         Call::View(View::Path) => answer.list_line(view.path()),
         Call::Edit(call) => answer_edit_in_view(view, call, answer),
         Call::Sweep(Sweep::ValueMut) => written_or_none(answer, view.value_mut()),
+        Call::Sweep(Sweep::ForEachValueMut) => match answer.next_number() {
+            Some(added) => {
+                view.for_each_value_mut(|value| *value = value.wrapping_add(added));
+                answer.line("ok")
+            }
+            None => answer.line(NO_NUMBER),
+        },
         _ => answer.line(NOT_HERE),
     }
 }

@@ -6,10 +6,12 @@ ghost use Rattle.std.proofs.lemmas.List.Elements.{same_from_all_zip};
 ghost use Rattle.nibble_map.specs.Nibbles.{nibbles};
 
 use crate::answer::Answer;
+use crate::calls::lines::{NO_KEY, pair_lines};
 use crate::keys::ShellKey;
 use crate::words::{bytes_of, digit};
-use radix_trie::{Memory, Nibblet, Parts, PartsError, TrieKey};
+use radix_trie::{Memory, Nibblet, Parts, PartsError, Trie, TrieKey};
 use std::alloc::Global;
+use topic_filters::matching;
 
 impl ShellKey for String {
     ghost clones_stay = { λ _ _ same. ap nibbles same };
@@ -86,6 +88,13 @@ impl ShellKey for Parts {
             Ok(parts) => Ok(Some(parts)),
             Err(PartsError::Zero) => Ok(None),
             Err(PartsError::Memory) => Err(Memory),
+        }
+    }
+
+    fn matching(trie: &Trie<Parts, u64>, answer: &mut Answer<'_>) -> Result<(), Memory> {
+        match answer.next_key::<Parts>()? {
+            Some(topic) => pair_lines(answer, matching(answer.alloc(), trie, &topic)?.into_iter()),
+            None => answer.line(NO_KEY),
         }
     }
 

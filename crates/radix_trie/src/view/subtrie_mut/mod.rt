@@ -1,10 +1,11 @@
 //! Views for writing.
 ghost use Rattle.std.specs.Borrow.{sem};
+ghost use Rattle.std.specs.FinMap as map;
 ghost use Rattle.std.specs.Option.{option_copied_mut};
 ghost use Rattle.std.specs.Prelude.{◌≡◌, ◌≢◌, ℕ, List, IsOk, IfOk, OnOk, Err, option_copied};
 ghost use Rattle.nibble_map.specs.Lists.{Each, IsPrefix};
 ghost use Rattle.nibble_map.specs.MapQueries.{AreChildren, IsChild};
-ghost use Rattle.nibble_map.specs.Maps.{value_at};
+ghost use Rattle.nibble_map.specs.Maps.{below, value_at};
 ghost use Rattle.nibble_map.specs.Nibbles.{IsShort};
 ghost use Rattle.radix_trie.specs.Lends.{lends_behind, lends_own};
 ghost use Rattle.radix_trie.specs.Views.{paths_of};
@@ -183,5 +184,29 @@ impl<'a, K: TrieKey, V> SubTrieMut<'a, K, V> {
             return Err(SubTrieError::Outside);
         }
         Ok(self.trie.at(&list))
+    }
+
+    /// The count of pairs at and below the key's place. They are counted, so the time grows with
+    /// their number.
+    ///
+    /// # Errors
+    ///
+    /// Those of `get`.
+    pub fn count_below<Q: TrieKey>(&self, key: &Q) -> Result<usize, SubTrieError>
+        ensures count { IfOk result
+            (λ count. count ≡ map.len (below (map_behind self.now) (Q.encoding key.now))) }
+        ensures inside { OnOk result (IsPrefix (path_of self.now) (Q.encoding key.now)) }
+        ensures outside { result ≡ Err SubTrieError.Outside
+            → IsPrefix (path_of self.now) (Q.encoding key.now) → ⊥ }
+        ensures light { Q.is_light key.now → result ≢ Err SubTrieError.Memory }
+    {
+        let Ok(list) = key.encode(self.trie.allocator()) else {
+            return Err(SubTrieError::Memory);
+        };
+        if begins(&self.path, &list) {
+            Ok(Place::find(self.trie, &list).len())
+        } else {
+            Err(SubTrieError::Outside)
+        }
     }
 }

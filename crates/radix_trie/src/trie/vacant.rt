@@ -1,0 +1,140 @@
+//! Insertions that leave a stored pair as it is.
+ghost use Rattle.std.specs.Borrow.{sem};
+ghost use Rattle.std.specs.Option.{unwrap_or};
+ghost use Rattle.std.specs.FinMap as map;
+ghost use Rattle.std.specs.Prelude.{◌≡◌, ◌≢◌, ⊤, ◌<◌, ◌^◌, length, IsOk, IfOk, OnOk, IfErr, OnErr};
+ghost use Rattle.nibble_map.specs.Maps.{IsStored, value_at};
+ghost use Rattle.radix_trie.specs.Errors.{of_insert, of_try_insert};
+ghost use Rattle.radix_trie.specs.Lends.{lends_or_stored};
+ghost use Rattle.radix_trie.specs.Refusals.{IsFullAt, RefusesInsert, RefusesTryInsert};
+ghost use Rattle.radix_trie.specs.Values.{IsFilled};
+
+use crate::error::{InsertError, InsertWhy, TryInsertError, TryInsertWhy};
+use crate::trie::Trie;
+use crate::trie::edit::{encoding_of, refused};
+use radix_keys::{Nibblet, TrieKey};
+use radix_nodes::trie_node::KeyValue;
+
+/// The refusal that hands a pair back.
+fn not_stored<K, V>(why: TryInsertWhy, pair: KeyValue<K, V>) -> TryInsertError<K, V>
+    ensures why { result.why ≡ why }
+    ensures key { result.key ≡ pair.key }
+    ensures value { result.value ≡ pair.value }
+{
+    let KeyValue { key, value } = pair;
+    TryInsertError { why, key, value }
+}
+
+/// The refusal of a pair that replaces nothing by that of an insertion into a trie, where no key is
+/// outside.
+fn of_insertion<K, V>(error: InsertError<K, V>) -> TryInsertError<K, V>
+    requires { error.why ≢ InsertWhy.Outside }
+    ensures why { of_try_insert result.why ≡ of_insert error.why }
+    ensures key { result.key ≡ error.key }
+    ensures value { result.value ≡ error.value }
+{
+    let InsertError { why, key, value } = error;
+    let why = match why {
+        InsertWhy::Memory => TryInsertWhy::Memory,
+        InsertWhy::Full => TryInsertWhy::Full,
+        InsertWhy::Outside => unreachable!(),
+    };
+    TryInsertError { why, key, value }
+}
+
+impl<K: TrieKey + Drop, V: Drop> Trie<K, V> {
+    /// Stores the pair at the key's encoding, where nothing is stored there.
+    ///
+    /// A new pair takes two ways down: one to see that nothing is stored, and one to store it.
+    ///
+    /// # Errors
+    ///
+    /// In the order in which they are decided: memory for the encoding; `Occupied`, where a pair is
+    /// stored there; `Full`, where `usize::MAX` pairs are stored; memory for the change. The trie is
+    /// as before then, and the error holds the very key and value.
+    pub fn try_insert(&mut self, key: K, value: V) -> Result<(), TryInsertError<K, V>>
+        ensures stored { OnOk result
+            (self.new ≡ map.insert self.old (K.encoding key) (key, value)) }
+        ensures vacant { OnOk result (IsStored self.old (K.encoding key) → ⊥) }
+        ensures is_value { OnOk result (K.is_value key) }
+
+        ensures handed_back { IfErr result (λ e. (e.key ≡ key) × (e.value ≡ value)) }
+        ensures unchanged { OnErr result (self.new ≡ self.old) }
+
+        ensures room { OnOk result (IsFullAt self.old (K.encoding key) → ⊥) }
+        ensures why { IfErr result
+            (λ e. RefusesTryInsert self.old (K.encoding key) (K.is_light key) e.why) }
+    {
+        let pair = KeyValue { key, value };
+        let Ok(list) = encoding_of(self.alloc, &pair.key) else {
+            return Err(not_stored(TryInsertWhy::Memory, pair));
+        };
+        if self.contains(&list) {
+            return Err(not_stored(TryInsertWhy::Occupied, pair));
+        }
+        match self.put_at(&list, pair) {
+            Ok(_) => Ok(()),
+            Err(error) => Err(of_insertion(error)),
+        }
+    }
+
+    /// The value at the key's encoding, for writing. Where none is stored there, the pair of the key
+    /// and the default is stored first; else the stored key stays, and these two are dropped.
+    ///
+    /// A caller learns from this call what the trie ends as. A stored encoding takes two ways down,
+    /// and a new one three.
+    ///
+    /// # Errors
+    ///
+    /// Those of `insert`, in its order. The trie is as before then, and the error holds the very key
+    /// and default.
+    pub fn get_or_insert(&mut self, key: K, default: V) -> Result<&mut V, InsertError<K, V>>
+        ensures* writes_back { sem 𝓛
+            (lends_or_stored K.row V.row K.TrieKey.own K.PartialEq.own self.entry
+            (K.encoding key) key result) }
+        ensures value { IfOk result
+            (λ value. value.now ≡ unwrap_or (value_at self.old (K.encoding key)) default) }
+        ensures is_value { OnOk result (K.is_value key) }
+
+        ensures handed_back { IfErr result (λ e. (e.key ≡ key) × (e.value ≡ default)) }
+
+        ensures light_stored { K.is_light key → IsStored self.old (K.encoding key)
+            → IsOk result }
+        ensures room { OnOk result (IsFullAt self.old (K.encoding key) → ⊥) }
+        ensures why { IfErr result
+            (λ e. RefusesInsert self.old (K.encoding key) ⊤ (K.is_light key) e.why) }
+    {
+        let pair = KeyValue {
+            key,
+            value: default,
+        };
+        let Ok(list) = encoding_of(self.alloc, &pair.key) else {
+            return Err(refused(InsertWhy::Memory, pair));
+        };
+        self.fill(&list, pair)?;
+        match self.at_mut(&list) {
+            Some(value) => Ok(value),
+            None => unreachable!(),
+        }
+    }
+
+    /// Stores a pair where nothing is stored at its key's encoding; else the pair is dropped.
+    fn fill(&mut self, list: &Nibblet, pair: KeyValue<K, V>) -> Result<(), InsertError<K, V>>
+        requires encoding { list.now ≡ K.encoding pair.key }
+        requires fits { length list.now < 2 ^ 64 }
+        ensures filled { OnOk result
+            (IsFilled self.old list.now (pair.key, pair.value) self.new) }
+        ensures handed_back { IfErr result
+            (λ e. (e.key ≡ pair.key) × (e.value ≡ pair.value)) }
+        ensures unchanged { OnErr result (self.new ≡ self.old) }
+        ensures stored { IsStored self.old list.now → IsOk result }
+        ensures room { OnOk result (IsFullAt self.old list.now → ⊥) }
+        ensures why { IfErr result (λ e. RefusesInsert self.old list.now ⊤ ⊤ e.why) }
+    {
+        if self.contains(list) {
+            return Ok(());
+        }
+        self.put_at(list, pair)?;
+        Ok(())
+    }
+}

@@ -1,0 +1,3 @@
+pub mod FilterLemmas
+pub mod StoredLemmas
+pub mod FormLemmas

@@ -1,0 +1,42 @@
+//! Subscribers to topics, by filters.
+ghost use Rattle.std.specs.Prelude.{◌≡◌, IfOk, option_copied, option_map, slice_get};
+ghost use Rattle.topic_filters.specs.Filters.{filters_of, stored_at};
+
+use radix_trie::{Memory, Parts, Trie, TrieError};
+use std::alloc::Global;
+use topic_filters::matching;
+
+/// The value of the first filter that matches the topic.
+fn first_subscriber<'a, V>(
+    alloc: Global,
+    filters: &'a Trie<Parts, V>,
+    topic: &Parts,
+) -> Result<Option<&'a V>, Memory>
+    ensures { IfOk result (λ found. option_copied found ≡ option_map (λ pair. pair.1)
+        (slice_get (stored_at filters.now (filters_of topic.now)) 0)) }
+{
+    match matching(alloc, filters, topic)?.first() {
+        Some((_, value)) => Ok(Some(*value)),
+        None => Ok(None),
+    }
+}
+
+#[test]
+fn the_same_level_comes_first(rt: HostRuntime) -> Result<(), TrieError> {
+    let alloc = rt.alloc();
+    let mut filters: Trie<Parts, u64> = Trie::new(alloc);
+    for (filter, subscriber) in [
+        ("sport/#", 1),
+        ("sport/+/score", 2),
+        ("sport/chess/score", 3),
+    ] {
+        filters.insert(Parts::split(alloc, filter, b'/')?, subscriber)?;
+    }
+    let chess = Parts::split(alloc, "sport/chess/score", b'/')?;
+    let tennis = Parts::split(alloc, "sport/tennis/score", b'/')?;
+    let news = Parts::split(alloc, "news", b'/')?;
+    assert!(rt; first_subscriber(alloc, &filters, &chess)?.copied() == Some(3));
+    assert!(rt; first_subscriber(alloc, &filters, &tennis)?.copied() == Some(2));
+    assert!(rt; first_subscriber(alloc, &filters, &news)?.is_none());
+    Ok(())
+}

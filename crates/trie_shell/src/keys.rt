@@ -6,7 +6,7 @@ mod scalars;
 mod sequences;
 
 use crate::answer::Answer;
-use radix_trie::{Memory, Nibblet, Trie, TrieKey};
+use radix_trie::{Memory, Nibblet, Parts, Trie, TrieKey};
 use std::alloc::Global;
 use std::fmt;
 
@@ -24,9 +24,9 @@ pub trait ShellKey: TrieKey + Clone + Drop + fmt::Debug {
         answer.line("no signed keys")
     }
 
-    /// Adds the pairs of all filters that match the topic that the next word writes, where the keys are lists of parts.
-    fn matching(_trie: &Trie<Self, u64>, answer: &mut Answer<'_>) -> Result<(), Memory> {
-        answer.line("no lists of parts")
+    /// The trie itself, where its keys are lists of parts, and so may be filters of topics.
+    fn as_filters(_trie: &Trie<Self, u64>) -> Option<&Trie<Parts, u64>> {
+        None
     }
 
     ghost clones_stay: { (key copy : Self) → Self.is_clone key copy

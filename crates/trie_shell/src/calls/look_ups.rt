@@ -6,7 +6,8 @@ use crate::calls::lines::{
     NO_KEY, NO_LIST, NO_NUMBER, NONE, child_lines, pair_line, pair_lines, view_line,
 };
 use crate::keys::{Query, ShellKey};
-use radix_trie::{Memory, Nibblet, Trie, TrieKey};
+use radix_trie::{Memory, Nibblet, Parts, Trie, TrieKey};
+use topic_filters::matching;
 
 /// A look-up of what the next word writes.
 pub fn answer_keyed<K: ShellKey>(
@@ -138,7 +139,10 @@ pub fn answer_whole<K: ShellKey>(
     match call {
         Whole::Children => child_lines(answer, trie.children()?),
         Whole::ToAscending => K::to_ascending(trie, answer),
-        Whole::Matching => K::matching(trie, answer),
+        Whole::Matching => match K::as_filters(trie) {
+            Some(filters) => answer_matching(filters, answer),
+            None => answer.line("no lists of parts"),
+        },
         Whole::Debug => answer.debug_line(trie),
         Whole::CheckIntegrity => answer.truth_line(trie.check_integrity()?),
         Whole::Footprint => {
@@ -147,5 +151,16 @@ pub fn answer_whole<K: ShellKey>(
             answer.number(nibbles)?;
             answer.end()
         }
+    }
+}
+
+/// The pairs of all filters that match the topic that the next word writes.
+fn answer_matching(filters: &Trie<Parts, u64>, answer: &mut Answer<'_>) -> Result<(), Memory> {
+    match answer.next_key::<Parts>()? {
+        Some(topic) => pair_lines(
+            answer,
+            matching(answer.alloc(), filters, &topic)?.into_iter(),
+        ),
+        None => answer.line(NO_KEY),
     }
 }

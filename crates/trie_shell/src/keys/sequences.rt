@@ -6,12 +6,10 @@ ghost use Rattle.std.proofs.lemmas.List.Elements.{same_from_all_zip};
 ghost use Rattle.nibble_map.specs.Nibbles.{nibbles};
 
 use crate::answer::Answer;
-use crate::calls::lines::{NO_KEY, pair_lines};
 use crate::keys::ShellKey;
 use crate::words::{bytes_of, digit};
 use radix_trie::{Memory, Nibblet, Parts, PartsError, Trie, TrieKey};
 use std::alloc::Global;
-use topic_filters::matching;
 
 impl ShellKey for String {
     ghost clones_stay = { λ _ _ same. ap nibbles same };
@@ -91,11 +89,8 @@ impl ShellKey for Parts {
         }
     }
 
-    fn matching(trie: &Trie<Parts, u64>, answer: &mut Answer<'_>) -> Result<(), Memory> {
-        match answer.next_key::<Parts>()? {
-            Some(topic) => pair_lines(answer, matching(answer.alloc(), trie, &topic)?.into_iter()),
-            None => answer.line(NO_KEY),
-        }
+    fn as_filters(trie: &Trie<Parts, u64>) -> Option<&Trie<Parts, u64>> {
+        Some(trie)
     }
 
     fn write(&self, answer: &mut Answer<'_>) -> Result<(), Memory> {

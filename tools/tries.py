@@ -64,6 +64,8 @@ class Words(dict):
             return f'"{escaped(bytes.fromhex(at).decode(), chr(34))}"'
         if self.kind == "char":
             return f"'{escaped(chr(int(at, 16)), chr(39))}'"
+        if self.kind == "parts":
+            return "[%s]" % ", ".join(f'"{escaped(it.decode(), chr(34))}"' for it in levels_of(at))
         return "" if self[at] == '""' else self[at]
 
 

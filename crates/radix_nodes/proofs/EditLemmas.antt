@@ -9,4 +9,3 @@ pub mod Branches
 pub mod Drains
 pub mod Settling
 pub mod Ends
-pub mod Fills

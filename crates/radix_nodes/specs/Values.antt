@@ -37,7 +37,8 @@ module _ {F V : Type 0} (g : Shared F (MutBor V × Unit {0}) (Unit {0} × (MutBo
   module _ {K : Type 0} (p : List ℕ) where
     -- f may be called at each value at and below p
     abbrev pub TakesBranch : Tree (KeyValue K V) → Type 0
-    TakesBranch t = (u : Tree (KeyValue K V)) (s : List ℕ) → IsBranch t u p s → All TakesPair (pairs_in u)
+    TakesBranch t =
+        (u : Tree (KeyValue K V)) (s : List ℕ) → IsBranch t u p s → All TakesPair (pairs_in u)
 
     -- the branch at and below p has a copy in its place, with values that calls of f may leave
     pub record IsBranchChanged (old new : Tree (KeyValue K V)) : Type 0 where

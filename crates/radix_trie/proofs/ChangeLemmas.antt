@@ -3,7 +3,6 @@ pub mod Changes
 pub mod Removals
 pub mod Splits
 pub mod Insertions
-pub mod Batches
 pub mod Prunings
 pub mod Written
 pub mod Copies

@@ -1,5 +1,5 @@
 -- Which filters match a topic: those that are listed, each once.
-use Rattle.std.proofs.Common.{◌≡◌, ◌≢◌, ◌↔◌, ◌==◌, ◌⊎◌, inl, inr, ℕ, Bool, true, false, T, cond, List, [], ◌∷◌, ◌++◌, All, Contains, map, refl, sym, ap, subst, ◌∙◌, arith}
+use Rattle.std.proofs.Common.{◌≡◌, ◌≢◌, ◌↔◌, ◌==◌, ◌⊎◌, inl, inr, ℕ, Bool, true, false, T, cond, List, [], ◌∷◌, ◌++◌, All, Contains, map, refl, sym, subst, ◌∙◌, arith}
 use Rattle.std.proofs.lemmas.Bool.{eqb-true}
 use Rattle.std.proofs.lemmas.List.Elements.{All-cons, All-nil, All-head, All-tail}
 use Rattle.std.proofs.lemmas.List.Kept.{AllPairs-cons}
@@ -7,7 +7,7 @@ use Rattle.std.specs.List.{AllPairs}
 use Rattle.nibble_map.specs.Lists.{Has}
 use Rattle.nibble_map.proofs.ListLemmas.Members.{Has-left, Has-right, Has-cases, map_has, has_map}
 use Rattle.topic_filters.proofs.FormLemmas.{no_hash, no_plus}
-use Rattle.topic_filters.specs.Filters.{Levels, BeginsWithAny, HasNoWildcard, IsTopic, Matches, MatchesLevels, any_level, any_rest, filters_of, filters_of_levels, is_reserved}
+use Rattle.topic_filters.specs.Filters.{Levels, HasNoWildcard, IsTopic, Matches, MatchesLevels, any_level, any_rest, filters_of, filters_of_levels, is_reserved}
 
 -- the level stands for itself
 abbrev IsPlain : List ℕ → Type 0

@@ -1,6 +1,6 @@
 -- Filters of topics, as OASIS MQTT 5.0 has them in section 4.7: lists of levels, in which `+` stands
 -- for any one level, and `#`, where it is the last one, for what is left, also for nothing.
-use Rattle.std.specs.Prelude.{◌≡◌, ◌==◌, ◌⊎◌, ◌≢◌, ℕ, Bool, true, false, cond, List, [], ◌∷◌, ◌++◌, All, Contains, codes, flat_map, map, Option, Some, None, T}
+use Rattle.std.specs.Prelude.{◌≡◌, ◌==◌, ◌⊎◌, ◌≢◌, ℕ, Bool, false, cond, List, [], ◌∷◌, ◌++◌, All, Contains, codes, flat_map, map, Option, Some, None, T}
 use Rattle.std.specs.FinMap as finite
 use Rattle.nibble_map.specs.Maps.{PairMap}
 use Rattle.nibble_map.specs.Nibbles.{nibbles}

@@ -1,5 +1,5 @@
 //! Which lists of levels are filters, and which are topics.
-ghost use Rattle.std.specs.Prelude.{◌↔◌, ◌≡◌, [], ◌∷◌, All, Contains, IsTrue};
+ghost use Rattle.std.specs.Prelude.{◌↔◌, ◌≡◌, [], ◌∷◌, All, IsTrue};
 ghost use Rattle.topic_filters.specs.Filters.{HasNoWildcard, IsFilter, IsLastLevel, IsOneLevel, IsTopic};
 
 use radix_trie::{Parts, PartsIter};

@@ -1,7 +1,7 @@
 //! The stored filters that match a topic.
 ghost use Rattle.std.specs.Prelude.{◌≡◌, ◌∷◌, [], ◌++◌, map as each, IfOk, OnOk};
 ghost use Rattle.radix_trie.specs.Walks.{deref_pairs};
-ghost use Rattle.topic_filters.specs.Filters.{any_level, any_rest, filters_of, filters_of_levels, is_reserved, stored_at};
+ghost use Rattle.topic_filters.specs.Filters.{any_rest, filters_of, filters_of_levels, is_reserved, stored_at};
 
 use crate::forms::{ANY_LEVEL, ANY_REST};
 use radix_trie::{Memory, Parts, Trie};

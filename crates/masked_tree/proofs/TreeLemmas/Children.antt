@@ -196,18 +196,6 @@ module _ {P : Type 0} where
   set_child-same zero (more f o m children others) t a = ap (λ t. front t others) a
   set_child-same (suc i) (more f o m children others) t a = ap (λ k. more f o m children k) (set_child-same i others t a)
 
-  -- a child that is written twice is as the second time left it
-  pub set_child-set_child : (i : ℕ) (k : Children P) (t u : Tree P) → set_child i u (set_child i t k) ≡ set_child i u k
-  set_child-set_child i none t u = refl
-  set_child-set_child zero (more f o m children others) t u = refl
-  set_child-set_child (suc i) (more f o m children others) t u = ap (λ k. more f o m children k) (set_child-set_child i others t u)
-
-  -- a child that was written stands at its place
-  pub set_child_is_at : (i : ℕ) (k : Children P) (t u : Tree P) → IsAt i k t → IsAt i (set_child i u k) u
-  set_child_is_at i none t u a = absurd a
-  set_child_is_at zero (more f o m children others) t u a = refl
-  set_child_is_at (suc i) (more f o m children others) t u a = set_child_is_at i others t u a
-
   -- only one child is at i
   pub child_at_is_unique : (i : ℕ) (k : Children P) (t u : Tree P) → IsAt i k t → IsAt i k u → u ≡ t
   child_at_is_unique i none t u a b = absurd a

@@ -1,5 +1,5 @@
 -- A branch whose values are changed, seen from the nodes above it.
-use Rattle.std.proofs.Common.{◌≡◌, ℕ, ◌+◌, ◌<◌, ◌⊎◌, inl, inr, List, [], ◌++◌, All, length, get_or, drop, ap, sym, subst, ◌∙◌, arith, append-nil}
+use Rattle.std.proofs.Common.{◌≡◌, ℕ, ◌+◌, ◌<◌, inl, inr, List, [], ◌++◌, All, length, get_or, drop, ap, subst, ◌∙◌, arith, append-nil}
 use Rattle.std.specs.Fn.{Shared}
 use Rattle.std.specs.Vec.{with_item}
 use Rattle.std.specs.declared.boxed.Box.{Box}

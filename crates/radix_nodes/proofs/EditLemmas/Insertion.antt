@@ -128,7 +128,7 @@ module _ {K V : Type 0} where
         (subst (λ q. IsHeld (tree_of n) q) (ep ∙ ap (λ f. f ++ p) (sym (fragment-tree_of n))) d))
 
     -- a node that has a new box at i stands for the tree that has the box's tree there
-    pub tree_of-written_box : (b' : Box (TrieNode K V) Global) → let o = out-TrieNode K V n in
+    tree_of-written_box : (b' : Box (TrieNode K V) Global) → let o = out-TrieNode K V n in
         tree_of (roll-TrieNode K V record { fragment = o.fragment; pair = o.pair; mask = o.mask; children = with_item o.children i b' }) ≡ with_child i (tree_of b'.value) (tree_of n)
     tree_of-written_box b' =
         tree_of-written_children n _

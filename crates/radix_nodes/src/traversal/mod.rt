@@ -9,7 +9,6 @@ pub mod compare;
 pub mod copied;
 pub mod cut;
 pub mod drain;
-pub mod fill;
 pub mod find;
 pub mod grow;
 pub mod insert;

@@ -1,6 +1,6 @@
 //! Removal of the pair at an end of the order of walks: one way down, by no list. All that may fail comes first, as in
 //! `remove`.
-ghost use Rattle.std.specs.Prelude.{◌≡◌, ◌≢◌, ◌<◌, [], MatchOption, vec_len};
+ghost use Rattle.std.specs.Prelude.{◌≢◌, ◌<◌, [], MatchOption, vec_len};
 ghost use Rattle.masked_tree.specs.Tree.{IsTreePlaced, IsFullBelow};
 ghost use Rattle.radix_nodes.specs.Ends.{EndsHere, EndsInChild, PopOutcome, RootPopOutcome};
 ghost use Rattle.radix_nodes.specs.Nodes.{tree_of, fragment_of, out_of, answered};

@@ -1,5 +1,5 @@
 //! A branch that was cut off becomes a tree of its own.
-ghost use Rattle.std.specs.Prelude.{◌≡◌, []};
+ghost use Rattle.std.specs.Prelude.{◌≡◌};
 ghost use Rattle.masked_tree.specs.Edits.{lowered};
 ghost use Rattle.radix_nodes.specs.Nodes.{tree_of, fragment_of, IsUpper};
 ghost use Rattle.radix_nodes.specs.Prunes.{branch_of};

@@ -141,7 +141,7 @@ module _ {K V : Type 0} (enc : K → List ℕ) where
         omega (arith, few, length-nodes_shown t, kept.noded, kept.counted)
 
     -- a kept root of n pairs has at most n * (2 ^ 64 - 1) nibbles in its fragments
-    pub nibbles_fit : nibbles ≤ count * (2 ^ 64 - 1)
+    nibbles_fit : nibbles ≤ count * (2 ^ 64 - 1)
     nibbles_fit =
         let some_prefixes : Counts (IsSomePrefix (IsStored (entries_of t))) nibbles = subst (Counts (IsSomePrefix (IsStored (entries_of t)))) (nibbles_in-shown t ∙ kept.nibbled) (tree_nibbles (shown t) (placed_full_is_shaped 0 t.children kept.masked.1 kept.full)) in
         subst (λ c. nibbles ≤ c * (2 ^ 64 - 1)) kept.counted (some_prefixes_bound enc (entries_of t) nibbles kept.keyed some_prefixes)

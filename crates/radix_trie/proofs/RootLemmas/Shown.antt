@@ -12,7 +12,7 @@ use Rattle.nibble_map.specs.Maps.{IsPoint, IsSomePrefix}
 use Rattle.nibble_map.specs.Stored.{stored}
 use Rattle.nibble_map.specs.Swaps.{entry}
 use Rattle.nibble_map.specs.Trees as trees
-use Rattle.nibble_map.specs.Trees.{Forest, AreMany, IsFull, IsShaped, first, nodes_below}
+use Rattle.nibble_map.specs.Trees.{AreMany, IsFull, IsShaped, first, nodes_below}
 use Rattle.nibble_map.proofs.TreeLemmas.OneTree.{canonical_of_entries, node_count, nibble_count, few_nodes}
 use Rattle.nibble_map.proofs.ListLemmas.Sorted.{sorted_of_rising}
 use Rattle.nibble_map.proofs.ListLemmas.Unique.{tree_entries_rise}

@@ -15,8 +15,7 @@ impl<K: TrieKey + Drop, V: Drop> Trie<K, V> {
     /// The trie of an iterator's pairs, inserted in order: of the pairs with one encoding the last
     /// one stays, with its key.
     ///
-    /// The iterator has to end. It is asked for some pairs before they are inserted. A pair costs the way down
-    /// from where its key's encoding parts from that of the pair before, so that rising keys cost less.
+    /// The iterator has to end.
     ///
     /// # Errors
     ///
@@ -48,8 +47,7 @@ impl<K: TrieKey + Drop, V: Drop> Trie<K, V> {
     /// Inserts an iterator's pairs in order: of the pairs with one encoding the last one stays,
     /// with its key.
     ///
-    /// The iterator has to end. It is asked for some pairs before they are inserted. A pair costs the way down
-    /// from where its key's encoding parts from that of the pair before, so that rising keys cost less.
+    /// The iterator has to end.
     ///
     /// # Errors
     ///
@@ -70,13 +68,12 @@ impl<K: TrieKey + Drop, V: Drop> Trie<K, V> {
         ensures keyed { IsKeyed K.encoding K.is_value self.old
             → IsKeyed K.encoding K.is_value self.new }
     {
-        let mut batch = Vec::new(self.alloc);
         for (key, value) in iter {
-            if let Err(error) = self.gather(&mut batch, key, value) {
+            if let Err(error) = self.insert(key, value) {
                 return Err(error);
             }
         }
-        self.flush(&mut batch)
+        Ok(())
     }
 }
 

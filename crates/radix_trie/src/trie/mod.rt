@@ -21,7 +21,6 @@ use std::alloc::Global;
 use std::marker::Model;
 
 mod ascending;
-mod batches;
 mod building;
 mod compact;
 mod counted;

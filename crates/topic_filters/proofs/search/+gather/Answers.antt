@@ -1,4 +1,4 @@
-use Rattle.std.proofs.Common.{◌≡◌, ◌∙◌, ◌∷◌, [], ◌++◌, List, None, option_map, ap, sym, subst, rules, append-nil, append_assoc}
+use Rattle.std.proofs.Common.{◌≡◌, ◌∙◌, ◌∷◌, [], ◌++◌, None, option_map, ap, sym, subst, rules, append-nil, append_assoc}
 use Rattle.std.proofs.Common.{map as each}
 use Rattle.std.proofs.lemmas.Result.{IfOk-weaker}
 use Rattle.nibble_map.specs.MapQueries.{IsRawDescendant}

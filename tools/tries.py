@@ -253,6 +253,10 @@ def clear(v):
     return extend(v, [(it, None) for it in v.below])
 
 
+def retain(v, least, path=""):
+    return extend(v, [(it, None) for it in starting(v.below, path) if v.pairs[it][1] < least])
+
+
 def from_iter(v, pairs):
     clear(v)
     return extend(v, pairs)
@@ -290,6 +294,7 @@ OF_WRITERS = {
     "remove_prefix": ("Q", inside(lambda v, at: rows(map(both, v.trie.cut(at).values())))),
     "value_mut": ("N", lambda v, number: written(v, v.path, number)),
     "for_each_value_mut": ("N", for_each_value_mut),
+    "retain": ("N", retain),
 }
 OF_TRIES = {
     "get_counted": ("Q", lambda v, at: f"{value(v.pairs.get(at))} {v.trie.compared(at)}"),
@@ -325,6 +330,7 @@ OF_TRIES = {
     "clear": ("", clear),
     "compact": ("", lambda v: "ok"),
     "for_each_value_mut_below": ("QN", lambda v, at, added: for_each_value_mut(v, added, at)),
+    "retain_below": ("QN", lambda v, at, least: retain(v, least, at)),
     "extend": ("P", extend),
     "from_iter": ("P", from_iter),
     "draw": ("q", lambda v, at: v.trie.draw(at)),
@@ -336,7 +342,7 @@ IN_WRITE_VIEWS = {**IN_READ_VIEWS, **OF_WRITERS}
 IN_TRIES = {**COMMON, **OF_BOTH, **OF_WRITERS, **OF_TRIES}
 # These read a key, and then a view for writing hasn't them.
 READ_FIRST = ("remove_entry", "map_with_default", "try_insert", "get_or_insert", "get_mut", "find_mut",
-              "find_ancestor_mut", "for_each_value_mut_below")
+              "find_ancestor_mut", "for_each_value_mut_below", "retain_below")
 SPENT = ("spend", "into_children", "into_trie")
 NAMED = ("use", "tries", "==", "clone", "split_off_prefix")
 # What these answer where no point stands at the key.

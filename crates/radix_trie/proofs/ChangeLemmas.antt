@@ -9,5 +9,6 @@ pub mod Copies
 pub mod Turned
 pub mod Keyed
 pub mod Popped
+pub mod Retained
 pub mod Filled
 pub mod Branches

@@ -92,6 +92,7 @@ pub enum Edit {
     FindMut,
     FindAncestorMut,
     ForEachValueMutBelow,
+    RetainBelow,
 }
 
 /// Changes of the whole, or at a place that no key names.
@@ -103,6 +104,7 @@ pub enum Sweep {
     Clear,
     Compact,
     ForEachValueMut,
+    Retain,
     Extend,
     FromIter,
     AtMut,
@@ -254,6 +256,7 @@ pub const CALLS: &'static [Usage] = &[
         2,
         Call::Edit(Edit::ForEachValueMutBelow),
     ),
+    Usage("retain_below", 2, 2, Call::Edit(Edit::RetainBelow)),
     Usage("pop_first", 0, 0, Call::Sweep(Sweep::PopFirst)),
     Usage("pop_last", 0, 0, Call::Sweep(Sweep::PopLast)),
     Usage("into_pairs", 0, 0, Call::Sweep(Sweep::IntoPairs)),
@@ -265,6 +268,7 @@ pub const CALLS: &'static [Usage] = &[
         1,
         Call::Sweep(Sweep::ForEachValueMut),
     ),
+    Usage("retain", 1, 1, Call::Sweep(Sweep::Retain)),
     Usage("extend", 0, MANY, Call::Sweep(Sweep::Extend)),
     Usage("from_iter", 0, MANY, Call::Sweep(Sweep::FromIter)),
     Usage("at_mut", 2, 2, Call::Sweep(Sweep::AtMut)),

@@ -1,7 +1,7 @@
 //! Calls that are made once more where memory was refused for them.
 
 use crate::answer::Answer;
-use crate::call::{Call, Session, Sweep, call_of_name};
+use crate::call::{Call, Edit, Session, Sweep, call_of_name};
 use crate::calls::lines::NOT_HERE;
 use crate::words::Words;
 use radix_trie::Memory;
@@ -54,11 +54,13 @@ fn make_twice<C: Caller>(
     caller.perform(call, answer)
 }
 
-/// What is told of a refusal. Of a refused `extend` the pairs before the refused one stay.
+/// What is told of a refusal. Where `extend` is refused the pairs before the refused one stay, and
+/// where `retain` is, some pairs may be gone.
 fn told(call: Call, is_light: bool, is_same: bool) -> &'static str {
     match call {
         _ if is_light => "refused, though light",
-        Call::Sweep(Sweep::Extend) => "refused",
+        Call::Sweep(Sweep::Extend | Sweep::Retain) => "refused",
+        Call::Edit(Edit::RetainBelow) => "refused",
         _ if is_same => "refused",
         _ => "refused, and changed",
     }

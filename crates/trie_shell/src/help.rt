@@ -31,6 +31,8 @@ split_off_prefix KEY NAME: the same as a trie of this name.\n\
 map_with_default KEY NUMBER VALUE: adds the number to a stored value, or stores the value.\n\
 for_each_value_mut NUMBER: adds the number to each value.\n\
 for_each_value_mut_below KEY NUMBER: adds the number to each value at and below the key.\n\
+retain NUMBER: takes the pairs whose values are less than the number.\n\
+retain_below KEY NUMBER: takes such pairs at and below the key.\n\
 extend KEY VALUE ..: stores pairs.\n\
 from_iter KEY VALUE ..: the trie of these pairs, in place of the current one.\n\
 pop_first: takes the first pair. The pair, or none.\n\

@@ -46,11 +46,14 @@ module _ {K V : Type 0} (enc : K → List ℕ) where
     pair_has (x ∷ es) e p (inr h) = inr (pair_has es e p h)
 
     -- the pairs of the map are those that it answers at their keys' encodings
-    pub pairs_held : (p : K × V) → Contains (each (λ e. e.1) (map.entries m)) p ↔ (map.get m (enc p.0) ≡ Some p)
-    pairs_held p = (
-      λ h. (has_get m (enc p.0) p).0 (has_pair (map.entries m) p (λ e i. keyed e p ((has_get m e p).0 i)) (Has-contains _ p h)),
-      λ h. Contains-has _ p (pair_has (map.entries m) (enc p.0) p ((has_get m (enc p.0) p).1 h)),
+    pub pairs_have : (p : K × V) → Has (each (λ e. e.1) (map.entries m)) p ↔ (map.get m (enc p.0) ≡ Some p)
+    pairs_have p = (
+      λ h. (has_get m (enc p.0) p).0 (has_pair (map.entries m) p (λ e i. keyed e p ((has_get m e p).0 i)) h),
+      λ h. pair_has (map.entries m) (enc p.0) p ((has_get m (enc p.0) p).1 h),
     )
+
+    pub pairs_held : (p : K × V) → Contains (each (λ e. e.1) (map.entries m)) p ↔ (map.get m (enc p.0) ≡ Some p)
+    pairs_held p = (λ h. (pairs_have p).0 (Has-contains _ p h), λ h. Contains-has _ p ((pairs_have p).1 h))
 
     -- the lists of entries at their keys' encodings are these encodings
     encodings_of : (es : List (List ℕ × (K × V))) → Each (λ e. e.0 ≡ enc e.1.0) es → each (λ e. e.0) es ≡ each (λ p. enc p.0) (each (λ e. e.1) es)

@@ -36,6 +36,7 @@ mod pop;
 mod prune;
 mod queries;
 mod remove;
+mod retain;
 mod split;
 mod vacant;
 mod values;

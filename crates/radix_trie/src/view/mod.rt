@@ -1,6 +1,7 @@
 //! Views: a trie, and a path in it.
 mod edit;
 pub(crate) mod place;
+mod retain;
 mod shown;
 pub(crate) mod subtrie;
 pub(crate) mod subtrie_mut;

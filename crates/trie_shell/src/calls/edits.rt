@@ -152,6 +152,13 @@ fn answer_at<K: ShellKey, Q: TrieKey>(
             }
             None => answer.line(NO_NUMBER),
         },
+        Edit::RetainBelow => match answer.next_number() {
+            Some(least) => {
+                trie.retain_below(key, |_, value| *value >= least)?;
+                answer.line("ok")
+            }
+            None => answer.line(NO_NUMBER),
+        },
         _ => written_or_absent(answer, trie.find_mut(key)),
     }
 }

@@ -35,6 +35,13 @@ pub fn answer_sweep<K: ShellKey>(
             }
             None => answer.line(NO_NUMBER),
         },
+        Sweep::Retain => match answer.next_number() {
+            Some(least) => {
+                trie.retain(|_, value| *value >= least)?;
+                answer.line("ok")
+            }
+            None => answer.line(NO_NUMBER),
+        },
         Sweep::AtMut => match answer.next_key::<Nibblet>()? {
             Some(list) => written_or_none(answer, trie.at_mut(&list)),
             None => answer.line(NO_LIST),

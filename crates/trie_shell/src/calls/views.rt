@@ -130,6 +130,13 @@ fn answer_through<K: ShellKey>(
             }
             None => answer.line(NO_NUMBER),
         },
+        Call::Sweep(Sweep::Retain) => match answer.next_number() {
+            Some(least) => {
+                view.retain(|_, value| *value >= least)?;
+                answer.line("ok")
+            }
+            None => answer.line(NO_NUMBER),
+        },
         _ => answer.line(NOT_HERE),
     }
 }

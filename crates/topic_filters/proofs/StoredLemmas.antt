@@ -4,6 +4,7 @@ use Rattle.std.proofs.lemmas.Grind.{flat_map-append}
 use Rattle.std.proofs.lemmas.List.{map-append}
 use Rattle.std.specs.Cmp.Lexicographic.{slice_cmp}
 use Rattle.std.specs.FinMap as finite
+use Rattle.std.specs.Prelude.{option_to_list}
 use Rattle.nibble_map.specs.Lists.{Has, IsPrefix}
 use Rattle.nibble_map.specs.MapQueries.{IsRawDescendant}
 use Rattle.nibble_map.specs.Maps.{PairMap}
@@ -15,7 +16,7 @@ use Rattle.nibble_map.proofs.PointLemmas.Descendant.{below-no_descendant}
 use Rattle.radix_keys.specs.Parts.{part_bytes}
 use Rattle.radix_keys.proofs.NibbleLemmas.Bytes.{nibbles-append}
 use Rattle.topic_filters.proofs.FilterLemmas.{filters_listed}
-use Rattle.topic_filters.specs.Filters.{Levels, Matches, any_level, any_rest, entry_of, filters_of, filters_of_levels, stored_at}
+use Rattle.topic_filters.specs.Filters.{Levels, Matches, any_level, any_rest, filters_of, filters_of_levels, stored_at}
 
 -- a filter's encoding begins with that of its first levels
 prefix_of_longer : (p f : Levels) → IsPrefix (nibbles (part_bytes p)) (nibbles (part_bytes (p ++ f)))
@@ -37,19 +38,19 @@ module _ {A B : Type 0} (h : A → List B) where
   from_each (z ∷ xs) x y (inl same) has = Has-left (h z) (flat_map h xs) y (subst (λ w. Has (h w) y) same has)
   from_each (z ∷ xs) x y (inr there) has = Has-right (h z) (flat_map h xs) y (from_each xs x y there has)
 
--- an entry is the one that is there
-entry_has : {P : Type 0} (o : Option P) (p : P) → Has (entry_of o) p ↔ (o ≡ Some p)
-entry_has None p = (λ h. absurd h, λ e. let never : None ≡ Some p = e in cc)
-entry_has (Some q) p = (λ h. elim h [ inl e ↦ ap Some (sym e) | inr none ↦ absurd none ], λ e. inl (sym (let is : Some q ≡ Some p = e in let same : q ≡ p = cc in same)))
+-- the item of an option is the one that is there
+optional_has : {P : Type 0} (o : Option P) (p : P) → Has (option_to_list o) p ↔ (o ≡ Some p)
+optional_has None p = (λ h. absurd h, λ e. let never : None ≡ Some p = e in cc)
+optional_has (Some q) p = (λ h. elim h [ inl e ↦ ap Some (sym e) | inr none ↦ absurd none ], λ e. inl (sym (let is : Some q ≡ Some p = e in let same : q ≡ p = cc in same)))
 
 -- the pairs at the filters that match a topic are those of the stored filters that match
 pub stored_match : {K V : Type 0} (m : PairMap K V) (topic : Levels) (p : K × V)
     → Has (stored_at m (filters_of topic)) p ↔ ((f : Levels) × Matches f topic × (finite.get m (nibbles (part_bytes f)) ≡ Some p))
 stored_match m topic p = (
-  λ h. let of = from_one (λ f. entry_of (finite.get m (nibbles (part_bytes f)))) (filters_of topic) p h in
-      (of.0, (filters_listed of.0 topic).0 of.1, (entry_has (finite.get m (nibbles (part_bytes of.0))) p).0 of.2),
-  λ k. from_each (λ f. entry_of (finite.get m (nibbles (part_bytes f)))) (filters_of topic) k.0 p ((filters_listed k.0 topic).1 k.1)
-      ((entry_has (finite.get m (nibbles (part_bytes k.0))) p).1 k.2),
+  λ h. let of = from_one (λ f. option_to_list (finite.get m (nibbles (part_bytes f)))) (filters_of topic) p h in
+      (of.0, (filters_listed of.0 topic).0 of.1, (optional_has (finite.get m (nibbles (part_bytes of.0))) p).0 of.2),
+  λ k. from_each (λ f. option_to_list (finite.get m (nibbles (part_bytes f)))) (filters_of topic) k.0 p ((filters_listed k.0 topic).1 k.1)
+      ((optional_has (finite.get m (nibbles (part_bytes k.0))) p).1 k.2),
 )
 
 module _ {K V : Type 0} (m : PairMap K V) where
@@ -61,18 +62,18 @@ module _ {K V : Type 0} (m : PairMap K V) where
   pub stored_behind-append : (p : Levels) (fs gs : List Levels) → stored_behind p (fs ++ gs) ≡ stored_behind p fs ++ stored_behind p gs
   stored_behind-append p fs gs =
       ap (stored_at m) (map-append (λ f. p ++ f) fs gs)
-      ∙ flat_map-append (λ f. entry_of (finite.get m (nibbles (part_bytes f)))) (map (λ f. p ++ f) fs) (map (λ f. p ++ f) gs)
+      ∙ flat_map-append (λ f. option_to_list (finite.get m (nibbles (part_bytes f)))) (map (λ f. p ++ f) fs) (map (λ f. p ++ f) gs)
 
   -- those behind the path and one level more
   pub stored_behind-longer : (p : Levels) (t : List ℕ) (fs : List Levels) → stored_behind p (map (λ f. t ∷ f) fs) ≡ stored_behind (p ++ t ∷ []) fs
   stored_behind-longer p t [] = refl
   stored_behind-longer p t (f ∷ fs) =
-      (λ i. entry_of (finite.get m (nibbles (part_bytes (sym (append_assoc p (t ∷ []) f) i)))) ++ stored_behind-longer p t fs i)
+      (λ i. option_to_list (finite.get m (nibbles (part_bytes (sym (append_assoc p (t ∷ []) f) i)))) ++ stored_behind-longer p t fs i)
 
   -- behind no level these are those at the filters themselves
   pub stored_behind-top : (fs : List Levels) → stored_behind [] fs ≡ stored_at m fs
   stored_behind-top [] = refl
-  stored_behind-top (f ∷ fs) = ap (λ xs. entry_of (finite.get m (nibbles (part_bytes f))) ++ xs) (stored_behind-top fs)
+  stored_behind-top (f ∷ fs) = ap (λ xs. option_to_list (finite.get m (nibbles (part_bytes f))) ++ xs) (stored_behind-top fs)
 
   -- none, where no point stands at or below the path
   pub stored_behind-none : (p : Levels) → IsRawDescendant m (nibbles (part_bytes p)) None → (fs : List Levels) → stored_behind p fs ≡ []
@@ -82,7 +83,7 @@ module _ {K V : Type 0} (m : PairMap K V) where
       let begins = is_prefix_true (nibbles (part_bytes p)) e (prefix_of_longer p f) in
       let absent = sym (get-below m (nibbles (part_bytes p)) e (subst T (sym begins) tt)) ∙ ap (λ n. finite.get n e) (below-no_descendant m (nibbles (part_bytes p)) none)
       ∙ finite.get-empty (slice_cmp nat_cmp) e in
-      (λ i. entry_of (absent i) ++ stored_behind-none p none fs i)
+      (λ i. option_to_list (absent i) ++ stored_behind-none p none fs i)
 
   -- where a level is left: the filters that go on by it, by any level, and the one by any rest
   pub stored_behind-step : (p : Levels) (t : List ℕ) (ts : Levels) → stored_behind p (filters_of_levels (t ∷ ts))

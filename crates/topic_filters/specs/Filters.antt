@@ -1,6 +1,6 @@
 -- Filters of topics, as OASIS MQTT 5.0 has them in section 4.7: lists of levels, in which `+` stands
 -- for any one level, and `#`, where it is the last one, for what is left, also for nothing.
-use Rattle.std.specs.Prelude.{◌≡◌, ◌==◌, ◌⊎◌, ◌≢◌, ℕ, Bool, false, cond, List, [], ◌∷◌, ◌++◌, All, Contains, codes, flat_map, map, Option, Some, None, T}
+use Rattle.std.specs.Prelude.{◌≡◌, ◌==◌, ◌⊎◌, ◌≢◌, ℕ, Bool, false, cond, List, [], ◌∷◌, ◌++◌, All, Contains, codes, flat_map, map, option_to_list, T}
 use Rattle.std.specs.FinMap as finite
 use Rattle.nibble_map.specs.Maps.{PairMap}
 use Rattle.nibble_map.specs.Nibbles.{nibbles}
@@ -79,12 +79,7 @@ filters_of_reserved (t ∷ ts) = map (λ f. t ∷ f) (filters_of_levels ts)
 abbrev pub filters_of : Levels → List Levels
 filters_of topic = cond (is_reserved topic) (filters_of_reserved topic) (filters_of_levels topic)
 
--- what a map of filters holds at a filter
-abbrev pub entry_of : {P : Type 0} → Option P → List P
-entry_of None = []
-entry_of (Some p) = p ∷ []
-
 module _ {K V : Type 0} where
   -- the pairs that the map holds at these filters, in their order
   abbrev pub stored_at : PairMap K V → List Levels → List (K × V)
-  stored_at m = flat_map (λ f. entry_of (finite.get m (nibbles (part_bytes f))))
+  stored_at m = flat_map (λ f. option_to_list (finite.get m (nibbles (part_bytes f))))

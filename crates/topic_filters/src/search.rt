@@ -7,7 +7,16 @@ use crate::forms::{ANY_LEVEL, ANY_REST};
 use radix_trie::{Memory, Parts, Trie};
 use std::alloc::Global;
 
-/// The pairs of all stored filters that match the topic, each once.
+/// The pairs of all stored filters that match the topic, each once. At each level those with the same
+/// level come first, then those with `+`, and those that end in `#`.
+///
+/// It looks below a list of levels only where a stored filter begins with it, so the time grows with
+/// the beginnings of filters that match a beginning of the topic, and not with how many there are.
+///
+/// # Errors
+///
+/// Memory is refused, for the topic's levels, for a list of levels that is looked below and its
+/// encoding, or for the list of pairs.
 pub fn matching<'a, V>(
     alloc: Global,
     filters: &'a Trie<Parts, V>,

@@ -1,18 +1,16 @@
-//! The first steps with a trie: pairs are stored, the nearest prefix is asked for, and all are walked in order.
+//! The first program of the README: limits of folders, each inherited from the nearest one above.
 #![tactic(auto)]
 
 use radix_trie::{Trie, TrieCommon};
-use std::io;
-use std::io::ErrorKind::OutOfMemory;
 
-fn main(rt: HostRuntime) -> io::Result<()> {
+fn main(rt: HostRuntime) -> anyhow::Result<()> {
     let mut limits: Trie<&'static str, u64> = Trie::new(rt.alloc());
-    for (path, limit) in [("/home/ann", 30), ("/", 10), ("/home", 20)] {
-        limits.insert(path, limit).map_err(|_| OutOfMemory)?;
+    for (path, limit) in [("/home/ann/", 30), ("/", 10), ("/home/", 20)] {
+        limits.insert(path, limit)?;
     }
-    let nearest = limits.get_ancestor_value(&"/home/ann/letters");
-    println!(rt; "{:?}", nearest.map_err(|_| OutOfMemory)?)?;
-    for (path, limit) in TrieCommon::iter(&limits).map_err(|_| OutOfMemory)? {
+    let nearest = limits.get_ancestor_value(&"/home/ann/letters")?;
+    println!(rt; "{nearest:?}")?;
+    for (path, limit) in limits.iter()? {
         println!(rt; "{path} {limit}")?;
     }
     Ok(())

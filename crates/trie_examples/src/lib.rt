@@ -10,6 +10,8 @@ mod counters;
 #[cfg(test)]
 mod first;
 #[cfg(test)]
+mod key_sets;
+#[cfg(test)]
 mod lists;
 #[cfg(test)]
 mod moves;

@@ -1,0 +1,3 @@
+pub mod SideLemmas
+pub mod SetLemmas
+pub mod OrderLemmas

@@ -1,0 +1,39 @@
+//! What two sets hold together.
+ghost use Rattle.std.specs.FinMap as map;
+ghost use Rattle.std.specs.Prelude.{◌≡◌, ◌⊎◌, ◌↔◌, ℕ, List, Some, map as each};
+ghost use Rattle.nibble_map.specs.Lists.{Has, IsRising};
+ghost use Rattle.nibble_map.specs.Maps.{IsStored, NibbleMap};
+ghost use Rattle.trie_set.specs.Sets.{common, joined, key_at, keys_in, lacking};
+
+use crate::set::TrieSet;
+use radix_trie::{TrieKey, keys_stand_at_their_encodings};
+
+/// What is stored in the parts and in the union that walks go over, and by which key.
+pub fn sets_answer_by_both<P>()
+    ensures common { (m n : NibbleMap P) (e : List ℕ)
+        → IsStored (common m n) e ↔ (IsStored m e × IsStored n e) }
+    ensures common_key { (m n : NibbleMap P) (e : List ℕ) → IsStored n e
+        → map.get (common m n) e ≡ map.get m e }
+    ensures lacking { (m n : NibbleMap P) (e : List ℕ)
+        → IsStored (lacking m n) e ↔ (IsStored m e × (IsStored n e → ⊥)) }
+    ensures joined { (m n : NibbleMap P) (e : List ℕ)
+        → IsStored (joined m n) e ↔ (IsStored m e ⊎ IsStored n e) }
+    ensures joined_key { (m n : NibbleMap P) (e : List ℕ) → IsStored m e
+        → map.get (joined m n) e ≡ map.get m e }
+    ensures other_key { (m n : NibbleMap P) (e : List ℕ) → (IsStored m e → ⊥)
+        → map.get (joined m n) e ≡ map.get n e }
+{}
+
+/// The keys of a set, and of two sets side by side, stand in the order of their encodings; those of a set are the keys that
+/// it answers at their encodings.
+pub fn keys_of_sets_rise<K: TrieKey>(set: &TrieSet<K>, other: &TrieSet<K>)
+    ensures held { (k : K) → Has (keys_in set.now) k
+        ↔ (key_at set.now (K.encoding k) ≡ Some k) }
+    ensures all { IsRising (each K.encoding (keys_in set.now)) }
+    ensures common { IsRising (each K.encoding (keys_in (common set.now other.now))) }
+    ensures lacking { IsRising (each K.encoding (keys_in (lacking set.now other.now))) }
+    ensures joined { IsRising (each K.encoding (keys_in (joined set.now other.now))) }
+{
+    keys_stand_at_their_encodings(set.as_trie());
+    keys_stand_at_their_encodings(other.as_trie());
+}

@@ -1,0 +1,106 @@
+//! Two sets side by side.
+ghost use Rattle.std.specs.FinMap as map;
+ghost use Rattle.std.specs.Prelude.{◌≡◌, ◌↔◌, ℕ, List, IsTrue, IsOk, IfOk};
+ghost use Rattle.nibble_map.specs.Maps.{IsStored};
+ghost use Rattle.trie_set.specs.Sets.{common, joined, keys_in, lacking};
+
+use crate::gathering::Gathering;
+use crate::selection::Selection;
+use crate::set::TrieSet;
+use radix_trie::{Memory, TrieKey};
+
+impl<K: TrieKey> TrieSet<K> {
+    /// The walk over the keys of this set at whose encodings the other set has keys too.
+    ///
+    /// It begins at once, and a whole walk takes the time of a walk over each of the two sets.
+    ///
+    /// # Errors
+    ///
+    /// Memory is refused, for a row of nodes of each set. None is allocated for empty sets.
+    pub fn intersection<'a>(&'a self, other: &'a TrieSet<K>) -> Result<Selection<'a, K>, Memory>
+        ensures keys { IfOk result (λ walk. walk ≡ keys_in (common self.now other.now)) }
+        ensures none { map.len self.now ≡ 0 → map.len other.now ≡ 0 → IsOk result }
+    {
+        Selection::new(self.alloc, &self.trie, &other.trie, true)
+    }
+
+    /// The walk over the keys of this set at whose encodings the other set has none, in the time of `intersection`.
+    ///
+    /// # Errors
+    ///
+    /// Those of `intersection`.
+    pub fn difference<'a>(&'a self, other: &'a TrieSet<K>) -> Result<Selection<'a, K>, Memory>
+        ensures keys { IfOk result (λ walk. walk ≡ keys_in (lacking self.now other.now)) }
+        ensures none { map.len self.now ≡ 0 → map.len other.now ≡ 0 → IsOk result }
+    {
+        Selection::new(self.alloc, &self.trie, &other.trie, false)
+    }
+
+    /// The walk over the keys of both sets, in the order of the encodings; where both have a key, this set's is given. It
+    /// takes the time of `intersection`.
+    ///
+    /// # Errors
+    ///
+    /// Those of `intersection`.
+    pub fn union<'a>(&'a self, other: &'a TrieSet<K>) -> Result<Gathering<'a, K>, Memory>
+        ensures keys { IfOk result (λ walk. walk ≡ keys_in (joined self.now other.now)) }
+        ensures none { map.len self.now ≡ 0 → map.len other.now ≡ 0 → IsOk result }
+    {
+        Gathering::new(self.alloc, &self.trie, &other.trie, true)
+    }
+
+    /// The walk over the keys of each set at whose encodings the other one has none, in the order of the encodings, in the
+    /// time of `intersection`.
+    ///
+    /// # Errors
+    ///
+    /// Those of `intersection`.
+    pub fn symmetric_difference<'a>(
+        &'a self,
+        other: &'a TrieSet<K>,
+    ) -> Result<Gathering<'a, K>, Memory>
+        ensures keys { IfOk result (λ walk. walk
+            ≡ keys_in (joined (lacking self.now other.now) (lacking other.now self.now))) }
+        ensures none { map.len self.now ≡ 0 → map.len other.now ≡ 0 → IsOk result }
+    {
+        Gathering::new(self.alloc, &self.trie, &other.trie, false)
+    }
+
+    /// Whether the other set has a key at each encoding at which this set has one, in the time of `intersection`.
+    ///
+    /// # Errors
+    ///
+    /// Those of `difference` and of its `next`.
+    pub fn is_subset(&self, other: &TrieSet<K>) -> Result<bool, Memory>
+        ensures { IfOk result (λ is. IsTrue is
+            ↔ ((e : List ℕ) → IsStored self.now e → IsStored other.now e)) }
+    {
+        let mut missing = self.difference(other)?;
+        Ok(missing.next()?.is_none())
+    }
+
+    /// Whether this set has a key at each encoding at which the other set has one, in the time of `intersection`.
+    ///
+    /// # Errors
+    ///
+    /// Those of `is_subset`.
+    pub fn is_superset(&self, other: &TrieSet<K>) -> Result<bool, Memory>
+        ensures { IfOk result (λ is. IsTrue is
+            ↔ ((e : List ℕ) → IsStored other.now e → IsStored self.now e)) }
+    {
+        other.is_subset(self)
+    }
+
+    /// Whether the two sets have no encoding in common, in the time of `intersection`.
+    ///
+    /// # Errors
+    ///
+    /// Those of `intersection` and of its `next`.
+    pub fn is_disjoint(&self, other: &TrieSet<K>) -> Result<bool, Memory>
+        ensures { IfOk result (λ is. IsTrue is
+            ↔ ((e : List ℕ) → IsStored self.now e → IsStored other.now e → ⊥)) }
+    {
+        let mut shared = self.intersection(other)?;
+        Ok(shared.next()?.is_none())
+    }
+}

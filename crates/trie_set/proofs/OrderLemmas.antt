@@ -1,13 +1,12 @@
 -- The keys of sets, in the order of their encodings.
-use Rattle.std.proofs.Common.{◌≡◌, ◌↔◌, ℕ, Bool, true, false, cond, T, List, [], ◌∷◌, Option, Some, None, option_map, is_some, map as each, refl, sym, ap, ◌∙◌, subst, inl, inr}
+use Rattle.std.proofs.Common.{◌≡◌, ◌↔◌, ℕ, Bool, true, false, cond, List, [], ◌∷◌, Option, Some, None, option_map, map as each, refl, sym, ap, ◌∙◌, subst, inl, inr}
 use Rattle.std.specs.FinMap as map
-use Rattle.std.specs.List.{Contains}
 use Rattle.nibble_map.specs.Lists.{Each, Has, IsRising}
-use Rattle.nibble_map.specs.Maps.{NibbleMap, PairMap}
+use Rattle.nibble_map.specs.Maps.{PairMap}
 use Rattle.nibble_map.proofs.ListLemmas.Rising.{Each-from_has}
 use Rattle.nibble_map.proofs.MapLemmas.Edits.{has_get, keys_list_stored, not_None, same_Some}
 use Rattle.radix_trie.proofs.LawLemmas.Asked.{AreAtEncodings}
-use Rattle.trie_set.specs.Sets.{joined, key_at, keys_in, lacking, part_beside}
+use Rattle.trie_set.specs.Sets.{joined, key_at, keys_in, part_beside}
 use Rattle.trie_set.specs.Sides.{passes}
 use Rattle.trie_set.proofs.SetLemmas.{get-joined, get-part_beside}
 

@@ -1,7 +1,10 @@
 -- Sets side by side, and the walks that stand for them.
-use Rattle.std.proofs.Common.{◌≡◌, ◌↔◌, ◌⊎◌, inl, inr, ℕ, Bool, true, false, cond, not, T, List, [], ◌∷◌, length, slice_get, Option, Some, None, is_some, map as each, nat_cmp, refl, sym, ap, ◌∙◌, subst}
+use Rattle.std.proofs.Common.{◌≡◌, ◌-◌, ◌↔◌, ◌⊎◌, inl, inr, ℕ, Bool, true, false, cond, not, T, List, [], ◌∷◌, length, slice_get, Option, Some, None, IsTrue, is_some, option_copied, option_map, map as each, nat_cmp, refl, sym, ap, ◌∙◌, subst}
 use Rattle.std.proofs.lemmas.Cmp.{nat_list_cmp_total}
+use Rattle.std.proofs.lemmas.List.{length-map}
+use Rattle.std.proofs.lemmas.Option.{slice_get-map}
 use Rattle.std.specs.Cmp.Lexicographic.{slice_cmp}
+use Rattle.std.specs.Borrow.{Bor}
 use Rattle.std.specs.FinMap as map
 use Rattle.std.specs.FinMap.{find, is_sorted, put}
 use Rattle.std.specs.FinMap.Entries.{where_key}
@@ -36,9 +39,12 @@ by_two false h = absurd (h (λ k. k))
 module _ {P : Type 0} where
   -- the entries of a part of a map are those that a walk picks
   pub entries-part_beside : (keeps : Bool) (m n : NibbleMap P) → map.entries (part_beside keeps m n) ≡ picked keeps (map.entries m) (map.entries n)
-  entries-part_beside keeps m n =
-      entries-retain_keys (slice_cmp nat_cmp) nat_list_cmp_total tied_lists_equal m (λ e. passes keeps (map.contains_key n e))
-      ∙ (λ i. where_key (slice_cmp nat_cmp) (λ q. passes keeps (is_some (map.get-entries n q i))) (map.entries m))
+  entries-part_beside true m n =
+      entries-retain_keys (slice_cmp nat_cmp) nat_list_cmp_total tied_lists_equal m (λ e. map.contains_key n e)
+      ∙ (λ i. where_key (slice_cmp nat_cmp) (λ q. is_some (map.get-entries n q i)) (map.entries m))
+  entries-part_beside false m n =
+      entries-retain_keys (slice_cmp nat_cmp) nat_list_cmp_total tied_lists_equal m (λ e. not (map.contains_key n e))
+      ∙ (λ i. where_key (slice_cmp nat_cmp) (λ q. not (is_some (map.get-entries n q i))) (map.entries m))
 
   entries-with_entries : (es : List (List ℕ × P)) (n : NibbleMap P) → map.entries (with_entries es n) ≡ merged es (map.entries n)
   entries-with_entries [] n = refl
@@ -72,6 +78,25 @@ module _ {K V : Type 0} where
   pub keys_of_walk : (m : PairMap K V) → each (λ p. p.0) (pairs_below m []) ≡ keys_in m
   keys_of_walk m = ap (λ es. each (λ p. p.0) (each (λ e. e.1) es)) (whole_walk m) ∙ keys_of_pairs (map.entries m)
 
+  -- so each key of the map is that of a pair of the walk
+  pub key_of_walk : (m : PairMap K V) (i : ℕ) → slice_get (keys_in m) i ≡ option_map (λ p. p.0) (slice_get (pairs_below m []) i)
+  key_of_walk m i = ap (λ ks. slice_get ks i) (sym (keys_of_walk m)) ∙ slice_get-map (λ p. p.0) (pairs_below m []) i
+
+  -- the last one too
+  pub last_of_walk : (m : PairMap K V) → slice_get (keys_in m) (length (keys_in m) - 1)
+      ≡ option_map (λ p. p.0) (slice_get (pairs_below m []) (length (pairs_below m []) - 1))
+  last_of_walk m =
+      ap (λ n. slice_get (keys_in m) (n - 1)) (ap length (sym (keys_of_walk m)) ∙ length-map (pairs_below m []) (λ p. p.0))
+      ∙ key_of_walk m (length (pairs_below m []) - 1)
+
+  -- the key of such a pair
+  pub key_by_walk : (m : PairMap K V) (i : ℕ) (o : Option (K × V)) → o ≡ slice_get (pairs_below m []) i → option_map (λ p. p.0) o ≡ slice_get (keys_in m) i
+  key_by_walk m i o same = ap (option_map (λ p. p.0)) same ∙ sym (key_of_walk m i)
+
+  pub last_by_walk : (m : PairMap K V) (o : Option (K × V)) → o ≡ slice_get (pairs_below m []) (length (pairs_below m []) - 1)
+      → option_map (λ p. p.0) o ≡ slice_get (keys_in m) (length (keys_in m) - 1)
+  last_by_walk m o same = ap (option_map (λ p. p.0)) same ∙ sym (last_of_walk m)
+
   module _ (enc : K → List ℕ) where
     entries_again : (es : List (List ℕ × (K × V))) → Each (λ e. e.0 ≡ enc e.1.0) es → at_encodings enc (each (λ e. e.1) es) ≡ es
     entries_again [] h = refl
@@ -103,7 +128,8 @@ len-whole m = map.len-entries (below m []) ∙ ap length (whole_walk m) ∙ sym 
 module _ {P : Type 0} where
   -- a part answers as the map does at the lists that it keeps
   pub get-part_beside : (keeps : Bool) (m n : NibbleMap P) (e : List ℕ) → map.get (part_beside keeps m n) e ≡ cond (passes keeps (map.contains_key n e)) (map.get m e) None
-  get-part_beside keeps m n e = get-retained_lists m (λ q. passes keeps (map.contains_key n q)) e
+  get-part_beside true m n e = get-retained_lists m (λ q. map.contains_key n q) e
+  get-part_beside false m n e = get-retained_lists m (λ q. not (map.contains_key n q)) e
 
   kept : (b : Bool) (o : Option P) → T (is_some (cond b o None)) ↔ (T (is_some o) × T b)
   kept true o = (λ h. (h, tt), λ h. h.0)
@@ -198,3 +224,10 @@ module _ {K V : Type 0} where
     λ none e h k. none_first (common m n) none e ((stored-common m n e).1 (h, k)),
     λ apart. first_none (common m n) (λ e h. (let both = (stored-common m n e).0 h in apart e both.0 both.1)),
   )
+
+-- a call that returns whether there was a first one
+pub first_tested : {K : Type 0} (P : Type 0) (b : Bool) (o : Option (Bor K)) (first : Option K) → is_some o ≡ not b → option_copied o ≡ first → ((first ≡ None) ↔ P) → IsTrue b ↔ P
+first_tested P true None first test same tells = (λ h. tells.0 (sym same), λ h. refl)
+first_tested P false None first test same tells = absurd (cc)
+first_tested P true (Some x) first test same tells = absurd (cc)
+first_tested P false (Some x) first test same tells = (λ h. absurd (let never : false ≡ true = h in cc), λ h. absurd (let never : Some x.now ≡ None = same ∙ tells.1 h in cc))

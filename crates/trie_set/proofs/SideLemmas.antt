@@ -1,7 +1,6 @@
 -- Two walks side by side: what one step of either leaves.
-use Rattle.std.proofs.Common.{◌≡◌, ℕ, Bool, true, false, cond, not, ◌&&◌, T, List, [], ◌∷◌, Option, Some, None, is_some, is_lt, is_eq, Less, Equal, Greater, Ordering, nat_cmp, refl, sym, ap, ◌∙◌, subst, drop, map as each, option_map, slice_get}
+use Rattle.std.proofs.Common.{◌≡◌, ℕ, Bool, true, false, cond, not, T, List, [], ◌∷◌, Some, None, is_some, is_lt, is_eq, Less, Equal, Greater, Ordering, nat_cmp, refl, sym, ap, ◌∙◌, subst, drop, map as each, option_map, slice_get}
 use Rattle.std.proofs.lemmas.Cmp.{nat_list_cmp_total}
-use Rattle.std.specs.Cmp.{tied_itself}
 use Rattle.std.specs.Cmp.Lexicographic.{slice_cmp}
 use Rattle.std.specs.FinMap.{find, is_sorted, put}
 use Rattle.std.specs.FinMap.Entries.{below_all, by_order, where_key}

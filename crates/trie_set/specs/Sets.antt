@@ -4,7 +4,6 @@ use Rattle.std.specs.FinMap as map
 use Rattle.nibble_map.specs.MapQueries.{IsAncestor}
 use Rattle.nibble_map.specs.Maps.{NibbleMap, PairMap}
 use Rattle.radix_trie.specs.Views.{pair_of_list}
-use Rattle.trie_set.specs.Sides.{passes}
 
 -- a set of keys, by their encodings
 abbrev pub KeyMap : Type 0 → Type 0
@@ -21,7 +20,8 @@ module _ {P : Type 0} where
 
   -- the part of m whose lists n stores too, or that whose lists it doesn't
   abbrev pub part_beside : Bool → NibbleMap P → NibbleMap P → NibbleMap P
-  part_beside keeps m n = map.retain_keys m (λ e. passes keeps (map.contains_key n e))
+  part_beside true m n = common m n
+  part_beside false m n = lacking m n
 
   -- the map with these entries, each in place of what it holds there
   abbrev pub with_entries : List (List ℕ × P) → NibbleMap P → NibbleMap P

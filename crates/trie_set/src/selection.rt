@@ -88,5 +88,9 @@ impl<'a, K: TrieKey> Selection<'a, K> {
 fn is_wanted(keeps_common: bool, order: Ordering) -> bool
     ensures { result ≡ passes keeps_common (is_eq order) }
 {
-    if keeps_common { order.is_eq() } else { order.is_ne() }
+    if keeps_common {
+        order.is_eq()
+    } else {
+        order.is_ne()
+    }
 }

@@ -1,10 +1,11 @@
 //! The set.
 ghost use Rattle.std.specs.FinMap as map;
 ghost use Rattle.std.specs.Option.{ForSome};
-ghost use Rattle.std.specs.Prelude.{◌≡◌, ◌-◌, ◌<◌, ◌^◌, ◌↔◌, ℕ, List, [], None, not, ⊤, IsTrue, IsOk, IfOk, OnOk, IfErr, OnErr, MatchOption, length, option_copied, slice_get};
+ghost use Rattle.std.specs.Prelude.{◌≡◌, ◌-◌, ◌<◌, ◌^◌, ◌↔◌, ℕ, List, [], None, not, ⊤, IsTrue, IsOk, IfOk, OnOk, IfErr, OnErr, MatchOption, length, option_copied, option_map, slice_get};
 ghost use Rattle.nibble_map.specs.Maps.{IsStored};
 ghost use Rattle.nibble_map.specs.Nibbles.{IsShort};
 ghost use Rattle.radix_trie.specs.Refusals.{IsFullAt, JoinsAreShort, RefusesInsert};
+ghost use Rattle.radix_trie.specs.Walks.{deref_pair};
 ghost use Rattle.trie_set.specs.Sets.{IsKeyAbove, key_at, keys_in, with_key};
 
 use radix_trie::iter::Keys;
@@ -108,10 +109,7 @@ impl<K: TrieKey> TrieSet<K> {
         ensures is_value { OnOk result (Q.is_value key.now) }
         ensures light { Q.is_light key.now → IsOk result }
     {
-        match self.trie.get_key_value(key)? {
-            Some((key, _)) => Ok(Some(key)),
-            None => Ok(None),
-        }
+        Ok(key_behind(self.trie.get_key_value(key)?))
     }
 
     /// The key at the longest stored encoding that is a prefix of the key's, or None where there is none, in the time of the
@@ -126,20 +124,14 @@ impl<K: TrieKey> TrieSet<K> {
         ensures light { Q.is_light key.now → IsOk result }
     {
         let list = key.encode(self.alloc)?;
-        match self.trie.nearest(&list) {
-            Some((key, _)) => Ok(Some(key)),
-            None => Ok(None),
-        }
+        Ok(key_behind(self.trie.nearest(&list)))
     }
 
     /// The first key, in the order of the encodings, if there is one. No memory is allocated.
     pub fn first(&self) -> Option<&K>
         ensures { option_copied result ≡ slice_get (keys_in self.now) 0 }
     {
-        match TrieCommon::first_key_value(&self.trie) {
-            Some((key, _)) => Some(key),
-            None => None,
-        }
+        key_behind(TrieCommon::first_key_value(&self.trie))
     }
 
     /// The last key, in the order of the encodings, if there is one. No memory is allocated.
@@ -147,10 +139,7 @@ impl<K: TrieKey> TrieSet<K> {
         ensures { option_copied result
             ≡ slice_get (keys_in self.now) (length (keys_in self.now) - 1) }
     {
-        match TrieCommon::last_key_value(&self.trie) {
-            Some((key, _)) => Some(key),
-            None => None,
-        }
+        key_behind(TrieCommon::last_key_value(&self.trie))
     }
 
     /// The walk over all keys, in the order of their encodings, a prefix before its extensions. All memory that it needs is
@@ -243,10 +232,7 @@ impl<K: TrieKey + Drop> TrieSet<K> {
         ensures light_join { Q.is_light key.now → JoinsAreShort self.old (Q.encoding key.now)
             → IsOk result }
     {
-        match self.trie.remove_entry(key)? {
-            Some((key, _)) => Ok(Some(key)),
-            None => Ok(None),
-        }
+        Ok(key_of(self.trie.remove_entry(key)?))
     }
 
     /// Takes the first key away, in the order of the encodings, and returns it; None where no key is stored. No key is
@@ -263,10 +249,7 @@ impl<K: TrieKey + Drop> TrieSet<K> {
         ensures unchanged { OnErr result (self.new ≡ self.old) }
         ensures short { ((e : List ℕ) → IsStored self.old e → IsShort e) → IsOk result }
     {
-        match self.trie.pop_first()? {
-            Some((key, _)) => Ok(Some(key)),
-            None => Ok(None),
-        }
+        Ok(key_of(self.trie.pop_first()?))
     }
 
     /// Takes the last key away, in the order of the encodings, and returns it; None where no key is stored. No key is
@@ -283,10 +266,7 @@ impl<K: TrieKey + Drop> TrieSet<K> {
         ensures unchanged { OnErr result (self.new ≡ self.old) }
         ensures short { ((e : List ℕ) → IsStored self.old e → IsShort e) → IsOk result }
     {
-        match self.trie.pop_last()? {
-            Some((key, _)) => Ok(Some(key)),
-            None => Ok(None),
-        }
+        Ok(key_of(self.trie.pop_last()?))
     }
 
     /// Takes all keys away. No memory is allocated.
@@ -295,6 +275,22 @@ impl<K: TrieKey + Drop> TrieSet<K> {
     {
         self.trie.clear();
     }
+}
+
+/// The key of a pair, if there is one.
+fn key_of<K>(pair: Option<(K, ())>) -> Option<K>
+    ensures { result ≡ option_map (λ p. p.0) pair }
+{
+    let (key, ()) = pair?;
+    Some(key)
+}
+
+/// The key of a borrowed pair, if there is one.
+fn key_behind<'a, K>(pair: Option<(&'a K, &'a ())>) -> Option<&'a K>
+    ensures { option_copied result ≡ option_map (λ p. p.0) (option_map deref_pair pair.entry) }
+{
+    let (key, _) = pair?;
+    Some(key)
 }
 
 /// The refusal that hands a key back.

@@ -1,4 +1,4 @@
-use Rattle.std.proofs.Common.{◌≡◌, ◌∷◌, ◌∙◌, cond, drop, option_map, slice_get, sym, ap, subst}
+use Rattle.std.proofs.Common.{◌∷◌, ◌∙◌, cond, drop, option_map, slice_get, sym, ap, subst}
 use Rattle.radix_trie.specs.Walks.{deref_pair}
 use Rattle.trie_set.specs.Sides.{Ascends, ahead, gathered}
 use Rattle.trie_set.proofs.SideLemmas.{ascends-drop, gathered-equal, gathered-greater_first, gathered-greater_rest, gathered-less}

@@ -1,6 +1,6 @@
-use Rattle.std.proofs.Common.{◌≡◌, ◌∷◌, ◌∙◌, Some, Greater, Ordering, cond, drop, is_eq, slice_get, sym, ap, subst}
+use Rattle.std.proofs.Common.{◌≡◌, ◌∷◌, ◌∙◌, cond, drop, slice_get, sym, ap, subst}
 use Rattle.radix_trie.specs.Walks.{deref_pair}
-use Rattle.trie_set.specs.Sides.{Ascends, ahead, order_to, passes, selected}
+use Rattle.trie_set.specs.Sides.{Ascends, ahead, selected}
 use Rattle.trie_set.proofs.SideLemmas.{ascends-drop, selected-greater, selected-other}
 use Rattle.trie_set.proofs.selection.Selection.next.Goals as goal
 

@@ -8,6 +8,7 @@ use Rattle.std.specs.Borrow.{Bor}
 use Rattle.std.specs.FinMap as map
 use Rattle.std.specs.FinMap.{find, is_sorted, put}
 use Rattle.std.specs.FinMap.Entries.{where_key}
+use Rattle.std.specs.Option.{ForSome}
 use Rattle.std.specs.Ordering.{eq_by_cmp}
 use Rattle.nibble_map.specs.Lists.{Each, Has, is_prefix}
 use Rattle.nibble_map.specs.Maps.{IsStored, NibbleMap, PairMap, below, walk}
@@ -231,3 +232,11 @@ first_tested P true None first test same tells = (λ h. tells.0 (sym same), λ h
 first_tested P false None first test same tells = absurd (cc)
 first_tested P true (Some x) first test same tells = absurd (cc)
 first_tested P false (Some x) first test same tells = (λ h. absurd (let never : false ≡ true = h in cc), λ h. absurd (let never : Some x.now ≡ None = same ∙ tells.1 h in cc))
+
+-- what holds of a key of the map, if there is one, holds of that of the walk's pair
+module _ {K V : Type 0} (m : PairMap K V) (P : K → Type 0) where
+  pub key_holds : (i : ℕ) → ForSome (slice_get (keys_in m) i) P → ForSome (slice_get (pairs_below m []) i) (λ p. P p.0)
+  key_holds i h = λ p same. h p.0 (key_of_walk m i ∙ ap (option_map (λ q. q.0)) same)
+
+  pub last_holds : ForSome (slice_get (keys_in m) (length (keys_in m) - 1)) P → ForSome (slice_get (pairs_below m []) (length (pairs_below m []) - 1)) (λ p. P p.0)
+  last_holds h = λ p same. h p.0 (last_of_walk m ∙ ap (option_map (λ q. q.0)) same)

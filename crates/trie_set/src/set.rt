@@ -248,6 +248,8 @@ impl<K: TrieKey + Drop> TrieSet<K> {
             (λ key. self.new ≡ map.remove self.old (K.encoding key))) }
         ensures unchanged { OnErr result (self.new ≡ self.old) }
         ensures short { ((e : List ℕ) → IsStored self.old e → IsShort e) → IsOk result }
+        ensures join { ForSome (slice_get (keys_in self.old) 0)
+            (λ key. JoinsAreShort self.old (K.encoding key)) → IsOk result }
     {
         Ok(key_of(self.trie.pop_first()?))
     }
@@ -265,6 +267,8 @@ impl<K: TrieKey + Drop> TrieSet<K> {
             (λ key. self.new ≡ map.remove self.old (K.encoding key))) }
         ensures unchanged { OnErr result (self.new ≡ self.old) }
         ensures short { ((e : List ℕ) → IsStored self.old e → IsShort e) → IsOk result }
+        ensures join { ForSome (slice_get (keys_in self.old) (length (keys_in self.old) - 1))
+            (λ key. JoinsAreShort self.old (K.encoding key)) → IsOk result }
     {
         Ok(key_of(self.trie.pop_last()?))
     }

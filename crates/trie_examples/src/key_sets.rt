@@ -18,10 +18,7 @@ fn first_missing<'a, K: TrieKey>(
 }
 
 /// The set of some words.
-fn words(
-    alloc: Global,
-    list: &[&'static str],
-) -> Result<TrieSet<&'static str>, TrieError> {
+fn words(alloc: Global, list: &[&'static str]) -> Result<TrieSet<&'static str>, TrieError> {
     let mut set = TrieSet::new(alloc);
     for word in list {
         set.insert(*word)?;
@@ -41,7 +38,7 @@ fn missing_words(rt: HostRuntime) -> Result<(), TrieError> {
 }
 
 #[test]
-fn both_sets(rt: HostRuntime) -> Result<(), TrieError> {
+fn common_words(rt: HostRuntime) -> Result<(), TrieError> {
     let alloc = rt.alloc();
     let ours = words(alloc, &["tea", "ten", "inn"])?;
     let theirs = words(alloc, &["inn", "tea", "team"])?;
@@ -49,33 +46,42 @@ fn both_sets(rt: HostRuntime) -> Result<(), TrieError> {
     assert!(rt; common.next()?.copied() == Some("inn"));
     assert!(rt; common.next()?.copied() == Some("tea"));
     assert!(rt; common.next()?.is_none());
-    let mut all = ours.union(&theirs)?;
-    for word in ["inn", "tea", "team", "ten"] {
-        assert!(rt; all.next()?.copied() == Some(word));
-    }
-    assert!(rt; all.next()?.is_none());
-    let mut either = ours.symmetric_difference(&theirs)?;
-    assert!(rt; either.next()?.copied() == Some("team"));
-    assert!(rt; either.next()?.copied() == Some("ten"));
-    assert!(rt; either.next()?.is_none());
-    assert!(rt; !ours.is_subset(&theirs)? && !ours.is_disjoint(&theirs)?);
-    assert!(rt; ours.is_superset(&ours)?);
     Ok(())
 }
 
 #[test]
-fn one_set(rt: HostRuntime) -> Result<(), TrieError> {
+fn words_of_both(rt: HostRuntime) -> Result<(), TrieError> {
     let alloc = rt.alloc();
-    let mut set = words(alloc, &["tea", "ten", "inn"])?;
-    assert!(rt; !set.insert("tea")? && set.insert("team")? && set.len() == 4);
-    assert!(rt; set.contains(&"ten")? && !set.contains(&"te")?);
-    assert!(rt; set.get_ancestor(&"teams")?.copied() == Some("team"));
-    assert!(rt; set.first().copied() == Some("inn") && set.last().copied() == Some("ten"));
-    assert!(rt; set.remove(&"tea")? && set.take(&"tea")?.is_none());
-    assert!(rt; set.pop_first()? == Some("inn") && set.pop_last()? == Some("ten"));
-    let mut left = set.iter()?;
-    assert!(rt; left.next().copied() == Some("team") && left.next().is_none());
-    set.clear();
+    let ours = words(alloc, &["tea", "inn"])?;
+    let theirs = words(alloc, &["inn", "team"])?;
+    let mut all = ours.union(&theirs)?;
+    for word in ["inn", "tea", "team"] {
+        assert!(rt; all.next()?.copied() == Some(word));
+    }
+    let mut either = ours.symmetric_difference(&theirs)?;
+    for word in ["tea", "team"] {
+        assert!(rt; either.next()?.copied() == Some(word));
+    }
+    Ok(())
+}
+
+#[test]
+fn one_word_more(rt: HostRuntime) -> Result<(), TrieError> {
+    let alloc = rt.alloc();
+    let mut ours = words(alloc, &["tea", "inn"])?;
+    let theirs = words(alloc, &["inn", "tea"])?;
+    assert!(rt; ours.insert("team")?);
+    assert!(rt; theirs.is_subset(&ours)?);
+    assert!(rt; !ours.is_subset(&theirs)?);
+    Ok(())
+}
+
+#[test]
+fn nearest_word(rt: HostRuntime) -> Result<(), TrieError> {
+    let mut set = words(rt.alloc(), &["tea", "ten"])?;
+    assert!(rt; set.get_ancestor(&"teams")?.copied() == Some("tea"));
+    assert!(rt; set.remove(&"tea")?);
+    assert!(rt; set.pop_last()? == Some("ten"));
     assert!(rt; set.is_empty());
     Ok(())
 }

@@ -50,22 +50,6 @@ fn common_words(rt: HostRuntime) -> Result<(), TrieError> {
 }
 
 #[test]
-fn words_of_both(rt: HostRuntime) -> Result<(), TrieError> {
-    let alloc = rt.alloc();
-    let ours = words(alloc, &["tea", "inn"])?;
-    let theirs = words(alloc, &["inn", "team"])?;
-    let mut all = ours.union(&theirs)?;
-    for word in ["inn", "tea", "team"] {
-        assert!(rt; all.next()?.copied() == Some(word));
-    }
-    let mut either = ours.symmetric_difference(&theirs)?;
-    for word in ["tea", "team"] {
-        assert!(rt; either.next()?.copied() == Some(word));
-    }
-    Ok(())
-}
-
-#[test]
 fn one_word_more(rt: HostRuntime) -> Result<(), TrieError> {
     let alloc = rt.alloc();
     let mut ours = words(alloc, &["tea", "inn"])?;

@@ -14,6 +14,8 @@ mod key_sets;
 #[cfg(test)]
 mod lists;
 #[cfg(test)]
+mod makers;
+#[cfg(test)]
 mod moves;
 #[cfg(test)]
 mod one_tree;
@@ -33,7 +35,5 @@ mod topics;
 mod typed;
 #[cfg(test)]
 mod uses;
-#[cfg(test)]
-mod vendors;
 #[cfg(test)]
 mod walk_callers;

@@ -1,0 +1,65 @@
+//! Who made a network card: the maker whose prefix of the card's address is the longest. The prefixes have 24, 28 or 36
+//! bits, so 6, 7 or 9 hexadecimal digits.
+ghost use Rattle.std.specs.Prelude.{◌≡◌, ◌≤◌, ℕ, List, None, Some, IfSome, length};
+ghost use Rattle.radix_trie.specs.Lists.{IsPrefix};
+ghost use Rattle.radix_trie.specs.Maps.{IsStored, value_at};
+
+use radix_trie::{Memory, Nibblet, Trie, TrieError};
+use std::alloc::Global;
+
+/// The value at the longest stored prefix of an address.
+fn maker<V: Copy>(table: &Trie<Nibblet, V>, address: &Nibblet) -> Option<V>
+    ensures some { IfSome result (λ v. (q : List ℕ) × IsPrefix q address.now
+        × (value_at table.now q ≡ Some v)
+        × ((r : List ℕ) → IsPrefix r address.now → IsStored table.now r → length r ≤ length q)) }
+    ensures none { result ≡ None
+        → (r : List ℕ) → IsPrefix r address.now → IsStored table.now r → ⊥ }
+{
+    table.nearest_value(address).copied()
+}
+
+/// The digits of an address, whose pairs of digits may have colons or dashes between them. None where it has any other
+/// character.
+fn digits(alloc: Global, address: &str) -> Result<Option<Nibblet>, Memory> {
+    let plain = address.replace(alloc, [':', '-'], "")?;
+    Nibblet::from_hex(alloc, plain.as_str())
+}
+
+/// Stores the maker of each line: the digits of a prefix, a space, and a name. A line of another form is passed over.
+fn makers(alloc: Global, lines: &'static str) -> Result<Trie<Nibblet, &'static str>, TrieError> {
+    let mut table = Trie::new(alloc);
+    for line in lines.lines() {
+        let Some((prefix, name)) = line.split_once(' ') else {
+            continue;
+        };
+        if let Some(prefix) = Nibblet::from_hex(alloc, prefix)? {
+            let _ = table.insert(prefix, name)?;
+        }
+    }
+    Ok(table)
+}
+
+/// A block of 24 bits, and another one of which others have parts of 28 and of 36 bits.
+const LINES: &'static str = "A0B1C2 Alder Radios\n\
+    A0B1C3 Birch Registry\n\
+    A0B1C34 Cedar Meters\n\
+    A0B1C3456 Elm Sensors\n";
+
+#[test]
+fn the_longest_block_decides(rt: HostRuntime) -> Result<(), TrieError> {
+    const ROWS: &'static [(&'static str, Option<&'static str>)] = &[
+        ("a0:b1:c2:34:56:78", Some("Alder Radios")),
+        ("A0-B1-C3-12-34-56", Some("Birch Registry")),
+        ("a0b1c340f001", Some("Cedar Meters")),
+        ("a0:b1:c3:45:6f:ff", Some("Elm Sensors")),
+        ("a0-b1-c4-00-00-00", None),
+        ("no address", None),
+    ];
+    let alloc = rt.alloc();
+    let table = makers(alloc, LINES)?;
+    for (address, name) in ROWS {
+        let found = digits(alloc, address)?.and_then(|list| maker(&table, &list));
+        assert!(rt; found == *name, "{address}");
+    }
+    Ok(())
+}

@@ -1,4 +1,4 @@
-//! Examples of the trie's uses. What each answers is proved of it, and it is run as a test.
+//! Examples of the trie's uses. What each answers is proved of it where it has a contract, and it is run as a test.
 #![tactic(auto)]
 
 #[cfg(test)]
@@ -27,6 +27,8 @@ mod rising;
 mod same_keys;
 #[cfg(test)]
 mod subscribers;
+#[cfg(test)]
+mod suffixes;
 #[cfg(test)]
 mod told;
 #[cfg(test)]

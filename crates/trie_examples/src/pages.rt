@@ -1,23 +1,30 @@
-//! A page of completions: its words begin with what was typed, and they rise.
+//! A page of completions: its words begin with what was typed, and they rise; and the page after it, between which no word
+//! is missed.
 ghost use Rattle.std.specs.Cmp.Lexicographic.{slice_cmp};
 ghost use Rattle.std.specs.Ordering.{nat_cmp};
-ghost use Rattle.std.specs.Prelude.{◌≡◌, AllPairs, IfOk, map as each};
+ghost use Rattle.std.specs.Prelude.{◌≡◌, ◌+◌, ◌++◌, AllPairs, IfOk, map as each, take};
 ghost use Rattle.std.specs.declared.cmp.Ordering.TheVariants.{Less};
 ghost use Rattle.radix_trie.specs.Lists.{Each, IsPrefix};
+ghost use Rattle.radix_trie.specs.Nibbles.{nibbles};
+ghost use Rattle.radix_trie.specs.Views.{pairs_below};
 ghost use Rattle.radix_trie.specs.Walks.{deref_pairs};
 
 use radix_trie::{
     Memory, Trie, encodings_keep_prefixes, keys_of_walks_rise, keys_stand_at_their_encodings,
-    texts_keep_their_order,
+    pages_follow_one_another, texts_keep_their_order,
 };
+use std::alloc::Global;
 use trie_samples::texts;
+
+/// Words, each with its value.
+type Page<'a, V> = Vec<(&'a &'static str, &'a V)>;
 
 /// The first words that begin with what was typed, so many at most, in their order.
 fn page<'a, V>(
     words: &'a Trie<&'static str, V>,
     typed: &str,
     most: usize,
-) -> Result<Vec<(&'a &'static str, &'a V)>, Memory>
+) -> Result<Page<'a, V>, Memory>
     ensures begins { IfOk result (λ page. Each (λ word. IsPrefix typed.now word.now)
         (each (λ p. p.0) (deref_pairs page.items))) }
     ensures rising { IfOk result (λ page. AllPairs (λ x y. slice_cmp nat_cmp x.now y.now ≡ Less)
@@ -30,13 +37,50 @@ fn page<'a, V>(
     words.first_below(&typed, most)
 }
 
+/// The first words that begin with what was typed, and those after them, so many at most on each of the two pages. No
+/// word is missed between them, and none comes twice.
+fn two_pages<'a, V>(
+    alloc: Global,
+    words: &'a Trie<&'static str, V>,
+    typed: &str,
+    most: usize,
+) -> Result<(Page<'a, V>, Page<'a, V>), Memory>
+    ensures { IfOk result (λ pages. deref_pairs pages.0.items ++ deref_pairs pages.1.items
+        ≡ take (most + most) (pairs_below words.now (nibbles typed.now))) }
+{
+    pages_follow_one_another(words);
+    let first = words.first_below(&typed, most)?;
+    let second = match first.last() {
+        Some((last, _)) => words.first_after(&typed, *last, most)?,
+        None => Vec::new(alloc),
+    };
+    Ok((first, second))
+}
+
+/// Five words, four of which begin with `te`.
+const WORDS: &'static [(&'static str, u64)] = &[
+    ("team", 3),
+    ("ten", 2),
+    ("inn", 4),
+    ("tea", 1),
+    ("tenor", 5),
+];
+
 #[test]
-fn two_words_of_three(rt: HostRuntime) -> Result<(), Memory> {
-    let words = texts(
-        rt.alloc(),
-        &[("team", 3), ("ten", 2), ("inn", 4), ("tea", 1)],
-    )?;
+fn two_words_of_four(rt: HostRuntime) -> Result<(), Memory> {
+    let words = texts(rt.alloc(), WORDS)?;
     let found = page(&words, "te", 2)?;
     assert!(rt; found.as_slice() == [(&"tea", &1), (&"team", &3)].as_slice());
+    assert!(rt; words.count_below(&"te")? == 4);
+    Ok(())
+}
+
+#[test]
+fn words_of_two_pages(rt: HostRuntime) -> Result<(), Memory> {
+    let words = texts(rt.alloc(), WORDS)?;
+    let (first, second) = two_pages(rt.alloc(), &words, "te", 3)?;
+    assert!(rt; first.len() == 3 && second.as_slice() == [(&"tenor", &5)].as_slice());
+    let (first, second) = two_pages(rt.alloc(), &words, "to", 3)?;
+    assert!(rt; first.is_empty() && second.is_empty());
     Ok(())
 }

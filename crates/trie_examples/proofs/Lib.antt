@@ -1,3 +1,4 @@
+mod LeaseLemmas
 mod PageLemmas
 mod TextLemmas
 mod WordLemmas

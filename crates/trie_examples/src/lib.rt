@@ -12,6 +12,8 @@ mod first;
 #[cfg(test)]
 mod key_sets;
 #[cfg(test)]
+mod leases;
+#[cfg(test)]
 mod lists;
 #[cfg(test)]
 mod makers;

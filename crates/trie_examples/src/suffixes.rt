@@ -39,14 +39,15 @@ fn add_rule(alloc: Global, all: &mut Trie<Parts, Rules>, rule: &str) -> Result<(
 fn suffix_len(all: &Trie<Parts, Rules>, host: &Parts) -> Result<usize, Memory> {
     let mut len = 1;
     for (name, rules) in all.common_prefixes(host)? {
+        let labels = name.len();
         if rules.exception {
-            return Ok(name.len().saturating_sub(1));
+            return Ok(labels.saturating_sub(1));
         }
         if rules.itself {
-            len = name.len();
+            len = labels;
         }
-        if rules.wildcard && name.len() < host.len() {
-            len = name.len() + 1;
+        if rules.wildcard && labels < host.len() {
+            len = labels + 1;
         }
     }
     Ok(len)

@@ -107,7 +107,7 @@ def bare(name):
 def refused_calls():
     """The public calls that answer a `Result`, each with its source. Of the crate of nodes users have the checker
     alone."""
-    of_nodes = [it for it in functions_of("radix_nodes") if it[0].endswith("/traversal/checker.rt")]
+    of_nodes = [it for it in functions_of("radix_nodes") if it[0].endswith("/whole/checker.rt")]
     for path, item in [*functions_of("radix_keys"), *of_nodes, *functions_of("radix_trie")]:
         is_inherited = item.owner and item.owner.kind == "trait" and not item.has_body
         if is_called(item) and not is_inherited and re.search(r"->.*\b(?:SubTrie)?Result<", item.signature):

@@ -1,3 +1,3 @@
--- What is lent of a node, and what a write to it does to the tree above.
+-- What is borrowed of a node, and what a write to it does to the tree above.
 pub mod Lent
 pub mod Writes

@@ -5,7 +5,7 @@ pub mod NodeLemmas
 pub mod EditLemmas
 -- What a search below a child tells of the node.
 pub mod SearchLemmas
--- What is lent of a node, and what a write to it does to the tree above.
+-- What is borrowed of a node, and what a write to it does to the tree above.
 pub mod LendingLemmas
 -- Nodes that are alike, copies of nodes, and copies with their first nibbles turned over.
 pub mod CopyLemmas

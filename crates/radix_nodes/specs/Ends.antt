@@ -1,11 +1,11 @@
--- The ends of the order of walks, and what the removal of the pair there answers and does.
+-- The ends of the order of walks, and what the removal of the pair there returns and does.
 use Rattle.std.specs.Prelude.{◌≡◌, ◌⊎◌, ℕ, ◌-◌, List, [], ◌++◌, length, slice_get, Option, Some, None, MatchOption, Result, Ok}
 use Rattle.masked_tree.specs.Tree.{Tree, none, IsAt, entries_at}
 use Rattle.radix_keys.specs.declared.nibbles.Memory.{Memory}
 use Rattle.radix_nodes.specs.Nodes.{CutOutcome, RootOutcome}
-use Rattle.radix_nodes.specs.declared.traversal.pop.End.{End}
-use Rattle.radix_nodes.specs.declared.traversal.pop.End.TheVariants.{First, Last}
-use Rattle.radix_nodes.specs.declared.traversal.remove.Taken.{Taken}
+use Rattle.radix_nodes.specs.declared.removal.pop.End.{End}
+use Rattle.radix_nodes.specs.declared.removal.pop.End.TheVariants.{First, Last}
+use Rattle.radix_nodes.specs.declared.removal.remove.Removed.{Removed}
 use Rattle.radix_nodes.specs.declared.trie_node.KeyValue.{KeyValue}
 
 -- the item at this end of a list, if there is one
@@ -32,13 +32,13 @@ module _ {P : Type 0} where
       → IsEndEntry end u p x → IsEndEntry end t (t.fragment ++ p) x
 
 module _ {K V : Type 0} where
-  -- what the removal of the pair at this end answers, and does to a tree that has one
-  abbrev pub PopOutcome : End → Result (Option (Taken K V)) Memory → Tree (KeyValue K V)
+  -- what the removal of the pair at this end returns, and does to a tree that has one
+  abbrev pub PopOutcome : End → Result (Option (Removed K V)) Memory → Tree (KeyValue K V)
       → Tree (KeyValue K V) → Type 0
   PopOutcome end r old new = HasEndEntry end old (λ p. CutOutcome r p old new)
 
   -- the same at the root, which may have none
-  abbrev pub RootPopOutcome : End → Result (Option (Taken K V)) Memory → Tree (KeyValue K V)
+  abbrev pub RootPopOutcome : End → Result (Option (Removed K V)) Memory → Tree (KeyValue K V)
       → Tree (KeyValue K V) → Type 0
   RootPopOutcome end r old new = ((entries_at [] old ≡ []) × (r ≡ Ok None) × (new ≡ old))
       ⊎ HasEndEntry end old (λ p. RootOutcome r p old new)

@@ -1,4 +1,4 @@
--- What a tree ends as, once a reference that was lent out of it has ended.
+-- What a tree ends as, once a reference that was borrowed from it has ended.
 use Rattle.std.specs.Prelude.{◌≡◌, List, ℕ, Option, Some, None, MatchOption, ⊤, map}
 use Rattle.masked_tree.specs.Tree.{Tree, IsTreePlaced, IsFullBelow, entries_at, nodes_in, nibbles_in}
 use Rattle.masked_tree.specs.Paths.{IsNodeAt, IsHeld}
@@ -55,7 +55,7 @@ module _ {K V : Type 0} where
     pub like : IsLike old new
     pub same : (q : List ℕ) → entries_at q new ≡ entries_at q old
 
-  -- the tree stays, and had no node at the path where none was lent
+  -- the tree stays, and had no node at the path where none was borrowed
   abbrev pub KeepsNode : {A : Type 0} → Option A → List ℕ → Tree (KeyValue K V)
       → Tree (KeyValue K V) → Type 0
   KeepsNode r path old new =

@@ -1,4 +1,4 @@
--- What the calls that lend answer, and what the lender ends as.
+-- What calls that borrow return, and what is left once the borrow has ended.
 use Rattle.std.specs.Prelude.{◌≡◌, List, ℕ, Option, Some, None, ⊤}
 use Rattle.std.specs.Option.{IfSome}
 use Rattle.std.specs.Borrow.{Fml, RattleType, MutBor, Lends, LendsIf, LendsSo}
@@ -23,7 +23,7 @@ module _ {K V : Type 0} where
   write_value None w = None
   write_value (Some b) w = Some (with_value b (record { key = b.value.key; value = w }))
 
-  -- what is lent of a pair is its value, and nothing where there is none
+  -- what is borrowed of a pair is its value, and nothing where there is none
   abbrev pub IsLentPair : Option (MutBor V) → Option (Box (KeyValue K V) Global) → Type 0
   IsLentPair None None = ⊤
   IsLentPair None (Some b) = ⊥

@@ -4,8 +4,8 @@ use Rattle.std.specs.Vec.{vec_capacity}
 use Rattle.std.specs.declared.boxed.Box.{Box}
 use Rattle.std.specs.declared.alloc.Global.{Global}
 use Rattle.radix_nodes.specs.declared.trie_node.KeyValue.{KeyValue}
-use Rattle.radix_nodes.specs.declared.traversal.insert.Change.{Change}
-use Rattle.radix_nodes.specs.declared.traversal.remove.Taken.{Taken}
+use Rattle.radix_nodes.specs.declared.insertion.change.Change.{Change}
+use Rattle.radix_nodes.specs.declared.removal.remove.Removed.{Removed}
 use Rattle.radix_keys.specs.declared.nibbles.Memory.{Memory}
 use Rattle.radix_nodes.specs.declared.trie_node.TrieNode.{TrieNode, out-TrieNode}
 use Rattle.radix_nodes.specs.declared.trie_node.TrieNode.TheOpen.{TrieNode-F}
@@ -15,14 +15,14 @@ use Rattle.masked_tree.specs.Paths.{IsChildAt, IsNodeAt, IsPath, IsHeld}
 use Rattle.nibble_map.specs.Answers.{IsLongest, IsShortest}
 use Rattle.masked_tree.specs.Agreement.{Agrees}
 use Rattle.masked_tree.specs.Mask.{marked}
-use Rattle.radix_nodes.specs.declared.traversal.compare.Agreement.{Agreement}
+use Rattle.radix_nodes.specs.declared.search.compare.Agreement.{Agreement}
 use Rattle.nibble_map.specs.Trees.{first}
 use Rattle.masked_tree.specs.Alters.{Replaces, Edits, Cuts, CutsRoot}
 
--- what a call by reference answers by its result and by what it leaves in `out`
-abbrev pub answered : {A B E : Type 0} → Result A E → B → Result B E
-answered (Ok a) out = Ok out
-answered (Err e) out = Err e
+-- what a call by reference returns, by its result and by what it leaves in `out`
+abbrev pub returned : {A B E : Type 0} → Result A E → B → Result B E
+returned (Ok a) out = Ok out
+returned (Err e) out = Err e
 
 module _ {P : Type 0} where
   -- these children are v and w, in either order
@@ -91,34 +91,34 @@ module _ {K : Type 0} {V : Type 0} where
       (x.fragment ≡ f) × (x.pair ≡ None) × (x.mask ≡ marked 0 (first g)) × (x.children.items ≡ [])
       × HasRoom 2 n × (first g < 16)
 
-  -- what an insertion of x at p answers, and does to a tree: it is refused only where p holds
-  -- nothing, and hands x back then
+  -- what an insertion of x at p returns, and does to a tree: it is refused only where p holds
+  -- nothing, and returns x then
   abbrev pub EditOutcome : Result (Change K V) (KeyValue K V) → KeyValue K V → List ℕ
       → Tree (KeyValue K V) → Tree (KeyValue K V) → Type 0
-  EditOutcome (Ok put) x p old new = Edits p x put.was put.nodes put.nibbles old new
+  EditOutcome (Ok made) x p old new = Edits p x made.was made.nodes made.nibbles old new
   EditOutcome (Err y) x p old new = (y ≡ x) × (new ≡ old) × (IsHeld old p → ⊥)
 
   abbrev pub ReplaceOutcome : Result (Change K V) (KeyValue K V) → KeyValue K V → List ℕ
       → Tree (KeyValue K V) → Tree (KeyValue K V) → Type 0
-  ReplaceOutcome (Ok put) x p old new = Replaces p x put.was put.nodes put.nibbles old new
+  ReplaceOutcome (Ok made) x p old new = Replaces p x made.was made.nodes made.nibbles old new
   ReplaceOutcome (Err y) x p old new = (y ≡ x) × (new ≡ old) × (IsHeld old p → ⊥)
 
   -- the same of one place for a pair
   abbrev pub SetOutcome : Result (Change K V) (KeyValue K V) → KeyValue K V
       → Option (Box (KeyValue K V) Global) → Option (Box (KeyValue K V) Global) → Type 0
-  SetOutcome (Ok put) x old new = (unboxed old ≡ put.was) × (unboxed new ≡ Some x) × (put.nodes ≡ 0)
-      × (put.nibbles ≡ 0)
+  SetOutcome (Ok made) x old new = (unboxed old ≡ made.was) × (unboxed new ≡ Some x) × (made.nodes ≡ 0)
+      × (made.nibbles ≡ 0)
   SetOutcome (Err y) x old new = (y ≡ x) × (new ≡ old) × (unboxed old ≡ None)
 
-  -- what a call with a pair x by value answers, said by a call that is lent it in old.was: its
-  -- result and what it leaves there
+  -- the outcome O of a call with a pair x by value, said of a call by reference: the pair goes in
+  -- through old.was, and what comes back is left there
   abbrev pub Settles : {A E : Type 0} → Result A E → Change K V → Change K V
       → (KeyValue K V → Result (Change K V) (KeyValue K V) → Type 0) → Type 0
   Settles (Ok a) old new O = MatchOption old.was ⊥ (λ x. O x (Ok new))
   Settles (Err e) old new O =
       MatchOption old.was ⊥ (λ x. MatchOption new.was ⊥ (λ y. O x (Err y)))
 
-  -- the result and the change left say that answer
+  -- the result and the change left say that outcome
   abbrev pub IsSettled : {A E : Type 0} → Result (Change K V) (KeyValue K V) → Result A E
       → Change K V → Type 0
   IsSettled (Ok change) (Ok a) new = new ≡ change
@@ -126,17 +126,17 @@ module _ {K : Type 0} {V : Type 0} where
   IsSettled (Err y) (Ok a) new = ⊥
   IsSettled (Err y) (Err e) new = new.was ≡ Some y
 
-  -- what a removal of the pair at p answers, and does to a tree: None where p holds nothing; it is
+  -- what a removal of the pair at p returns, and does to a tree: None where p holds nothing; it is
   -- refused only where p holds a pair whose removal joins two fragments that have more than 32
   -- nibbles together
-  abbrev pub CutOutcome : Result (Option (Taken K V)) Memory → List ℕ → Tree (KeyValue K V)
+  abbrev pub CutOutcome : Result (Option (Removed K V)) Memory → List ℕ → Tree (KeyValue K V)
       → Tree (KeyValue K V) → Type 0
   CutOutcome (Ok (Some t)) p old new = Cuts p t.pair t.nodes t.nibbles old new
   CutOutcome (Ok None) p old new = (new ≡ old) × (IsHeld old p → ⊥)
   CutOutcome (Err e) p old new = (new ≡ old) × IsHeld old p × HasLongJoin old p
 
   -- the same at the root, which is joined with no child
-  abbrev pub RootOutcome : Result (Option (Taken K V)) Memory → List ℕ → Tree (KeyValue K V)
+  abbrev pub RootOutcome : Result (Option (Removed K V)) Memory → List ℕ → Tree (KeyValue K V)
       → Tree (KeyValue K V) → Type 0
   RootOutcome (Ok (Some t)) p old new = CutsRoot p t.pair t.nodes t.nibbles old new
   RootOutcome (Ok None) p old new = (new ≡ old) × (IsHeld old p → ⊥)

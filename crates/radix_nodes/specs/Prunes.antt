@@ -1,4 +1,4 @@
--- What a cut of all that is at and below a path answers, and does to a tree.
+-- What a cut of all that is at and below a path returns, and does to a tree.
 use Rattle.std.specs.Prelude.{◌≡◌, ℕ, ◌+◌, ◌<◌, ◌≤◌, ◌^◌, List, [], ◌++◌, length, drop, Option, Some, None, Result, Ok, Err}
 use Rattle.masked_tree.specs.Alters.{Prunes, PrunesRoot}
 use Rattle.masked_tree.specs.Tree.{Tree, entries_at, nodes_in, nibbles_in}
@@ -7,9 +7,9 @@ use Rattle.nibble_map.specs.Lists.{IsPrefix}
 use Rattle.radix_keys.specs.declared.nibbles.Memory.{Memory}
 use Rattle.radix_nodes.specs.Nodes.{tree_of, IsNearest}
 use Rattle.radix_nodes.specs.Pairs.{pairs_in}
-use Rattle.radix_nodes.specs.declared.traversal.cut.Branch.{Branch}
-use Rattle.radix_nodes.specs.declared.traversal.size.Measured.{Measured}
-use Rattle.radix_nodes.specs.declared.traversal.prune.Pruned.{Pruned}
+use Rattle.radix_nodes.specs.declared.removal.cut_child.Branch.{Branch}
+use Rattle.radix_nodes.specs.declared.whole.size.Measured.{Measured}
+use Rattle.radix_nodes.specs.declared.removal.prune.Pruned.{Pruned}
 use Rattle.radix_nodes.specs.declared.trie_node.KeyValue.{KeyValue}
 
 -- what a tree holds can be counted

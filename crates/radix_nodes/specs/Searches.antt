@@ -1,4 +1,4 @@
--- What the searches of a tree answer. Each starts at a node n that stands at `depth`: so many
+-- What searches of a tree return. Each starts at a node n that stands at `depth`: so many
 -- nibbles of the key lie behind it.
 use Rattle.std.specs.Prelude.{ℕ, ◌++◌, List, Option, MatchOption, drop}
 use Rattle.std.specs.Borrow.{Bor}

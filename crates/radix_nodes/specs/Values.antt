@@ -1,40 +1,36 @@
--- What calls of a closure do to values.
+-- What calls of a closure do to pairs' values.
 use Rattle.std.specs.Prelude.{◌≡◌, ◌⊎◌, ℕ, List, All}
 use Rattle.std.specs.Fn.{Shared}
-use denote.Ref.{MutBor}
+use denote.Ref.{Bor, MutBor}
 use Rattle.masked_tree.specs.Alters.{AltersNode, all_of}
 use Rattle.masked_tree.specs.Paths.{IsPath}
 use Rattle.masked_tree.specs.Same.{IsCopy}
 use Rattle.masked_tree.specs.Tree.{Tree}
 use Rattle.nibble_map.specs.Lists.{IsPrefix}
-use Rattle.radix_nodes.specs.Copies.{IsKeyValueCopy}
-use Rattle.radix_nodes.specs.Pairs.{pairs_in}
+use Rattle.radix_nodes.specs.Pairs.{pair_of, pairs_in}
 use Rattle.radix_nodes.specs.Prunes.{IsBranch}
 use Rattle.radix_nodes.specs.declared.trie_node.KeyValue.{KeyValue}
 
-module _ {F V : Type 0} (g : Shared F (MutBor V × Unit {0}) (Unit {0} × (MutBor V × Unit {0})))
-    (f : F) where
-  -- f may be called at a `&mut` to v
-  abbrev pub TakesValue : V → Type 0
-  TakesValue v = (p : MutBor V) → p.now ≡ v → g.pre f (p, tt)
+module _ {F K V : Type 0}
+    (g : Shared F (Bor K × (MutBor V × Unit {0})) (Unit {0} × (MutBor V × Unit {0}))) (f : F) where
+  -- f may be called at the pair: at a `&` to its key and a `&mut` to its value
+  abbrev pub TakesPair : K × V → Type 0
+  TakesPair p = (k : Bor K) (v : MutBor V) → k.now ≡ p.0 → v.now ≡ p.1 → g.pre f (k, (v, tt))
 
-  -- and may leave w there
-  pub record LeavesValue (v w : V) : Type 0 where
-    pub shown : MutBor V
-    pub shows : shown.now ≡ v
+  -- such a call may leave w as the value
+  pub record LeavesAtPair (p : K × V) (w : V) : Type 0 where
+    pub key : Bor K
+    pub value : MutBor V
+    pub shows : (key.now ≡ p.0) × (value.now ≡ p.1)
     pub left : MutBor V
-    pub met : g.post f (shown, tt) (tt, (left, tt))
+    pub met : g.post f (key, (value, tt)) (tt, (left, tt))
     pub leaves : left.now ≡ w
 
-  -- f may be called at the pair's value
-  abbrev pub TakesPair : {K : Type 0} → K × V → Type 0
-  TakesPair p = TakesValue p.1
+  -- y has x's key, and the value that such a call at x may leave
+  abbrev pub IsChangedBy : KeyValue K V → KeyValue K V → Type 0
+  IsChangedBy x y = (y.key ≡ x.key) × LeavesAtPair (pair_of x) y.value
 
-  -- y has x's key, and what a call of f at x's value may leave
-  abbrev pub IsChangedBy : {K : Type 0} → KeyValue K V → KeyValue K V → Type 0
-  IsChangedBy = IsKeyValueCopy (λ x y. y ≡ x) LeavesValue
-
-  module _ {K : Type 0} (p : List ℕ) where
+  module _ (p : List ℕ) where
     -- f may be called at each value at and below p
     abbrev pub TakesBranch : Tree (KeyValue K V) → Type 0
     TakesBranch t =

@@ -4,7 +4,7 @@ ghost use Rattle.nibble_map.specs.Nibbles.{IsShort};
 
 use radix_keys::{Memory, Nibblet};
 
-/// The two lists in one. Where that has at most 32 nibbles it takes no memory.
+/// The two lists in one. Where that has at most 32 nibbles no memory is allocated.
 pub fn joined(first: &Nibblet, second: &Nibblet) -> Result<Nibblet, Memory>
     ensures made { IfOk result (λ r. r ≡ first.now ++ second.now) }
     ensures succeeds { IsShort (first.now ++ second.now) → IsOk result }

@@ -2,5 +2,8 @@
 #![tactic(auto)]
 
 pub mod fragments;
-pub mod traversal;
+pub mod insertion;
+pub mod removal;
+pub mod search;
 pub mod trie_node;
+pub mod whole;

@@ -37,7 +37,7 @@ pub use radix_keys::{
     KeySigned, LittleEndian, Memory, Network, NetworkParseError, NibbleIter, NibbleVec, Nibblet,
     Parts, PartsError, PartsIter, TrieKey,
 };
-pub use radix_nodes::traversal::find::LookUpCost;
+pub use radix_nodes::search::find::LookUpCost;
 pub use trie::Trie;
 pub use view::subtrie::SubTrie;
 pub use view::subtrie_mut::{PathList, SubTrieMut};

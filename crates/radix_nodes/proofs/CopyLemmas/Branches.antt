@@ -4,7 +4,7 @@ use Rattle.std.specs.Fn.{Shared}
 use Rattle.std.specs.Vec.{with_item}
 use Rattle.std.specs.declared.boxed.Box.{Box}
 use Rattle.std.specs.declared.alloc.Global.{Global}
-use denote.Ref.{MutBor}
+use denote.Ref.{Bor, MutBor}
 use Rattle.masked_tree.specs.Alters.{AltersNode, all_of}
 use Rattle.masked_tree.specs.Edits.{with_child}
 use Rattle.masked_tree.specs.Same.{IsCopy}
@@ -12,7 +12,7 @@ use Rattle.masked_tree.specs.Tree.{Tree, IsAt, IsTreePlaced}
 use Rattle.masked_tree.proofs.EditLemmas.Copies.{copy_alters, child_branch_alters}
 use Rattle.masked_tree.proofs.EditLemmas.Insertion.{node_as_child}
 use Rattle.masked_tree.proofs.TreeLemmas.Children.{child_tree_is_placed}
-use Rattle.radix_nodes.specs.declared.traversal.compare.Agreement.{Agreement}
+use Rattle.radix_nodes.specs.declared.search.compare.Agreement.{Agreement}
 use Rattle.radix_nodes.specs.declared.trie_node.KeyValue.{KeyValue}
 use Rattle.radix_nodes.specs.declared.trie_node.TrieNode.{TrieNode, out-TrieNode, roll-TrieNode}
 use Rattle.radix_nodes.specs.Nodes.{tree_of, fragment_of, IsMet}
@@ -24,7 +24,7 @@ use Rattle.radix_nodes.proofs.NodeLemmas.Nodes.{fragment-tree_of}
 use Rattle.radix_nodes.proofs.SearchLemmas.Compared.{met_child}
 use Rattle.radix_nodes.proofs.SearchLemmas.Nearest.{none_through_child}
 
-module _ {F K V : Type 0} (g : Shared F (MutBor V × Unit {0}) (Unit {0} × (MutBor V × Unit {0}))) (f : F) (n m : TrieNode K V) (key : List ℕ) (depth : ℕ) (h : IsTreePlaced (tree_of n)) (i : ℕ) (a : Agreement)
+module _ {F K V : Type 0} (g : Shared F (Bor K × (MutBor V × Unit {0})) (Unit {0} × (MutBor V × Unit {0}))) (f : F) (n m : TrieNode K V) (key : List ℕ) (depth : ℕ) (h : IsTreePlaced (tree_of n)) (i : ℕ) (a : Agreement)
     (lt : depth < length key) (met : IsMet n key depth i a) (b : Box (TrieNode K V) Global) (is : get_or (out-TrieNode K V n).children.items i b ≡ b) (em : m ≡ b.value) where
   -- the key's path in the node
   abbrev goal_path : List ℕ

@@ -73,14 +73,14 @@ module _ {K V : Type 0} where
   -- at first what the node holds itself has gone
   pub moves_start : (n o f m : TrieNode K V) → (out_of m).fragment ≡ (out_of n).fragment → (out_of m).pair ≡ (out_of n).pair → (out_of m).mask ≡ (out_of n).mask
       → (out_of f).children ≡ (out_of n).children → (out_of m).children ≡ (out_of o).children → HaveSameShape (tree_of n).children (tree_of o).children → MovesBefore 0 n f m
-  moves_start n o f m fragment pair mask given taken h = record {
+  moves_start n o f m fragment pair mask given removed h = record {
     fragment = fragment;
     pair = pair;
     mask = mask;
     count = ap (λ v. length v.items) given;
     moved = refl;
     left = ap (λ v. v.items) given;
-    shape = subst (λ v. AreShaped (out_of n).children.items v.items) (sym taken)
+    shape = subst (λ v. AreShaped (out_of n).children.items v.items) (sym removed)
         (subst (λ k. HaveSameShape k (children_of (out_of o).children.items)) (children-tree_of n) (subst (HaveSameShape (tree_of n).children) (children-tree_of o) h));
   }
 
@@ -134,12 +134,12 @@ module _ {K V : Type 0} where
       -- once the child at i has gone, those before i + 1 have
       pub moves_next : (g o : TrieNode K V) (d e : Box (TrieNode K V) Global) → (out_of o).fragment ≡ (out_of m).fragment → (out_of o).pair ≡ (out_of m).pair
           → (out_of o).mask ≡ (out_of m).mask → (out_of g).children.items ≡ set fs i d → (out_of o).children.items ≡ set ys i e → tree_of e.value ≡ tree_of b.value → MovesBefore (i + 1) n g o
-      moves_next g o d e fragment pair mask given taken same = record {
+      moves_next g o d e fragment pair mask given removed same = record {
         fragment = fragment ∙ before.fragment;
         pair = pair ∙ before.pair;
         mask = mask ∙ before.mask;
         count = ap length given ∙ length-set fs i d ∙ before.count;
-        moved = ap (λ zs. children_of (take (i + 1) zs)) taken
+        moved = ap (λ zs. children_of (take (i + 1) zs)) removed
             ∙ ap children_of (take-set_at ys i (i + 1) e refl (within_other lt))
             ∙ children_of-append (take i ys) e
             ∙ ap (λ k. append k (front (tree_of e.value) none)) before.moved
@@ -147,7 +147,7 @@ module _ {K V : Type 0} where
             ∙ sym (children_of-append (take i xs) (get_or xs i b))
             ∙ ap children_of (sym (take_more xs i b within_old));
         left = ap (drop (i + 1)) given ∙ drop-set-lt (i + 1) fs i d (omega arith) ∙ (let z : drop (i + 1) fs ≡ drop (i + 1) xs = cc from_here in z);
-        shape = subst (AreShaped (drop (i + 1) xs)) (sym (ap (drop (i + 1)) taken ∙ drop-set-lt (i + 1) ys i e (omega arith))) shape_here.1;
+        shape = subst (AreShaped (drop (i + 1) xs)) (sym (ap (drop (i + 1)) removed ∙ drop-set-lt (i + 1) ys i e (omega arith))) shape_here.1;
       }
 
     -- once all children have gone, the whole has

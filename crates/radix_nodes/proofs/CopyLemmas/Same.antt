@@ -86,7 +86,7 @@ module _ {K V : Type 0} (eq : KeyValue K V → KeyValue K V → Bool) where
       ap (λ r. same_tree eq (tree_of x.value) (tree_of y.value) && r) (same_boxes-other_length xs ys (λ e. h (ap suc e)))
       ∙ and-second_false (same_tree eq (tree_of x.value) (tree_of y.value))
 
-  -- once the children before i agree, the answer r at i and what comes after it decide
+  -- once the children before i agree, the result r at i and what comes after it decide
   pub same_boxes-next_child : (xs ys : Boxes) (i : ℕ) (x y : Box (TrieNode K V) Global) (a b : TrieNode K V) (r v : Bool) → i < length xs → i < length ys →
       x ≡ get_or xs i x → y ≡ get_or ys i y → a ≡ x.value → b ≡ y.value → r ≡ same_tree eq (tree_of a) (tree_of b) → r ≡ v →
       same_boxes xs ys ≡ same_boxes (drop i xs) (drop i ys) → same_boxes xs ys ≡ (v && same_boxes (drop (i + 1) xs) (drop (i + 1) ys))

@@ -17,7 +17,7 @@ use Rattle.masked_tree.proofs.EditLemmas.Insertion.{child_pruned, node_as_child}
 use Rattle.radix_keys.specs.declared.nibbles.Memory.{Memory}
 use Rattle.radix_nodes.specs.declared.trie_node.KeyValue.{KeyValue}
 use Rattle.radix_nodes.specs.declared.trie_node.TrieNode.{TrieNode, out-TrieNode, roll-TrieNode}
-use Rattle.radix_nodes.specs.declared.traversal.compare.Agreement.{Agreement}
+use Rattle.radix_nodes.specs.declared.search.compare.Agreement.{Agreement}
 use Rattle.radix_nodes.specs.Nodes.{tree_of, fragment_of, IsMet}
 use Rattle.radix_nodes.proofs.NodeLemmas.Nodes.{fragment-tree_of}
 use Rattle.radix_nodes.proofs.EditLemmas.Insertion.{box_is_child}
@@ -27,7 +27,7 @@ use Rattle.masked_tree.proofs.PathLemmas.Paths.{node_from_child}
 use Rattle.std.proofs.lemmas.List.{length-drop}
 use Rattle.radix_nodes.proofs.SearchLemmas.Compared.{met_down, met_inside, append-met_rest}
 use Rattle.radix_nodes.proofs.SearchLemmas.Nearest.{nearest_through_child, nearest_inside, none_through_child}
-use Rattle.radix_nodes.specs.declared.traversal.cut.Branch.{Branch}
+use Rattle.radix_nodes.specs.declared.removal.cut_child.Branch.{Branch}
 use Rattle.radix_nodes.specs.Prunes.{IsSmall, IsBranch, BranchOutcome, BranchRootOutcome, branch_of, nodes_gone, nibbles_gone}
 
 -- what stands at a place
@@ -164,7 +164,7 @@ module _ {K V : Type 0} where
             (i2.0, ap (λ g. g ++ q) (fragment-tree_of n) ∙ ap (λ z. f ++ z) (i2.1 ∙ ap (λ r. r ++ i2.0) (append-met_rest n key depth h m i a lt met b is em e)) ∙ sym (append_assoc f (drop depth key) i2.0)),
           )
 
-      -- what a cut answers and does in the child is what it answers and does in the node
+      -- what a cut returns and does in the child is what it returns and does in the node
       pub cut_through_child : (r : Result (Option (Branch K V)) Memory) → BranchOutcome r (fragment_of m ++ drop (depth + a.same) key) (tree_of m) (tree_of b'.value) → BranchOutcome r goal_path (tree_of n) new
       cut_through_child (Ok (Some c)) s =
           let t = cut_up (branch_of c) s.0 (nodes_gone c) (nibbles_gone c) s.2 in
@@ -172,7 +172,7 @@ module _ {K V : Type 0} where
       cut_through_child (Ok None) s = (kept_up s.0, none_through_child n key depth h m i a lt met b is em e s.1)
       cut_through_child (Err x) s = let p = path_up s.1 s.2 s.3 in (kept_up s.0, p.0, p.1, p.2)
 
-      -- what a cut answers and does in a root's child is what it answers and does in the root
+      -- what a cut returns and does in a root's child is what it returns and does in the root
       pub root_cut_through_child : (r : Result (Option (Branch K V)) Memory) → BranchOutcome r (fragment_of m ++ drop (depth + a.same) key) (tree_of m) (tree_of b'.value) → BranchRootOutcome r goal_path (tree_of n) new
       root_cut_through_child (Ok (Some c)) s =
           let t = cut_up (branch_of c) s.0 (nodes_gone c) (nibbles_gone c) s.2 in

@@ -5,7 +5,7 @@ use Rattle.std.proofs.lemmas.List.{length-append, drop_more}
 use Rattle.std.specs.declared.boxed.Box.{Box}
 use Rattle.std.specs.declared.alloc.Global.{Global}
 use Rattle.masked_tree.specs.Tree.{Tree, entries_in, entries_at, nodes_in, nibbles_in}
-use Rattle.radix_nodes.specs.declared.traversal.size.Measured.{Measured}
+use Rattle.radix_nodes.specs.declared.whole.size.Measured.{Measured}
 use Rattle.radix_nodes.specs.declared.trie_node.KeyValue.{KeyValue}
 use Rattle.radix_nodes.specs.declared.trie_node.TrieNode.{TrieNode, out-TrieNode}
 use Rattle.radix_nodes.specs.Nodes.{tree_of, children_of, unboxed}

@@ -14,9 +14,9 @@ use Rattle.masked_tree.proofs.PathLemmas.Paths.{has_node}
 use Rattle.radix_keys.specs.declared.nibbles.Memory.{Memory}
 use Rattle.radix_nodes.specs.Ends.{at_end, IsEndEntry, HasEndEntry, EndsHere, EndsInChild, PopOutcome, RootPopOutcome}
 use Rattle.radix_nodes.specs.Nodes.{tree_of, fragment_of, CutOutcome, RootOutcome}
-use Rattle.radix_nodes.specs.declared.traversal.pop.End.{End}
-use Rattle.radix_nodes.specs.declared.traversal.pop.End.TheVariants.{First, Last}
-use Rattle.radix_nodes.specs.declared.traversal.remove.Taken.{Taken}
+use Rattle.radix_nodes.specs.declared.removal.pop.End.{End}
+use Rattle.radix_nodes.specs.declared.removal.pop.End.TheVariants.{First, Last}
+use Rattle.radix_nodes.specs.declared.removal.remove.Removed.{Removed}
 use Rattle.radix_nodes.specs.declared.trie_node.KeyValue.{KeyValue}
 use Rattle.radix_nodes.specs.declared.trie_node.TrieNode.{TrieNode, out-TrieNode, roll-TrieNode}
 use Rattle.radix_nodes.proofs.NodeLemmas.Nodes.{fragment-tree_of}
@@ -138,19 +138,19 @@ module _ {P : Type 0} where
 
 module _ {K V : Type 0} where
   -- the removal of the root's own pair, where there is no entry or that is the one at this end
-  pub root_ends : (end : End) (t new : Tree (KeyValue K V)) (r : Option (Taken K V)) → EndsHere end t → RootOutcome (Ok r) t.fragment t new → RootPopOutcome end (Ok r) t new
+  pub root_ends : (end : End) (t new : Tree (KeyValue K V)) (r : Option (Removed K V)) → EndsHere end t → RootOutcome (Ok r) t.fragment t new → RootPopOutcome end (Ok r) t new
   root_ends end t new r here o = by t.pair refl here r o
     where
       no_entries : t.pair ≡ None → t.children ≡ none → entries_at [] t ≡ []
       no_entries bare ends = λ i. entry t.fragment (bare i) ++ entries_in t.fragment (ends i)
 
       by : (pair : Option (KeyValue K V)) → t.pair ≡ pair → MatchOption pair (t.children ≡ none) (λ x. IsEndEntry end t t.fragment x) →
-          (r : Option (Taken K V)) → RootOutcome (Ok r) t.fragment t new → RootPopOutcome end (Ok r) t new
+          (r : Option (Removed K V)) → RootOutcome (Ok r) t.fragment t new → RootPopOutcome end (Ok r) t new
       by (Some x) is e r o = inr (t.fragment, x, e, o)
       by None is ends None o = inl (no_entries is ends, refl, o.0)
-      by None is ends (Some taken) o =
+      by None is ends (Some removed) o =
           let s = o.alters.swaps [] in
-          absurd (omega (arith, ap length (no_entries is ends), ap length s.was, length-append s.before ((t.fragment, taken.pair) ∷ s.after)))
+          absurd (omega (arith, ap length (no_entries is ends), ap length s.was, length-append s.before ((t.fragment, removed.pair) ∷ s.after)))
 
   -- the child in a box of a node that is full below is full below too
   pub boxed_child_is_full : (n : TrieNode K V) (i : ℕ) (b : Box (TrieNode K V) Global) → IsTreePlaced (tree_of n) → i < length (out-TrieNode K V n).children.items →
@@ -158,7 +158,7 @@ module _ {K V : Type 0} where
   boxed_child_is_full n i b placed lt is full = (child_is_full i (tree_of n).children (tree_of b.value) (box_is_child n i b placed lt is) full).1
 
   -- a removal at the end of the child that has the node's
-  module _ (end : End) (n : TrieNode K V) (i : ℕ) (b b' : Box (TrieNode K V) Global) (r : Result (Option (Taken K V)) Memory) (placed : IsTreePlaced (tree_of n))
+  module _ (end : End) (n : TrieNode K V) (i : ℕ) (b b' : Box (TrieNode K V) Global) (r : Result (Option (Removed K V)) Memory) (placed : IsTreePlaced (tree_of n))
       (lt : i < length (out-TrieNode K V n).children.items) (is : get_or (out-TrieNode K V n).children.items i b ≡ b) (below : EndsInChild end (tree_of n) i)
       (cut : PopOutcome end r (tree_of b.value) (tree_of b'.value)) where
     -- what follows at its path, behind the node's fragment, follows at the node's end

@@ -6,7 +6,7 @@ use Rattle.std.specs.declared.alloc.Global.{Global}
 use Rattle.std.specs.Vec.{with_item}
 use Rattle.nibble_map.specs.Trees.{first}
 use Rattle.radix_nodes.specs.declared.trie_node.KeyValue.{KeyValue}
-use Rattle.radix_nodes.specs.declared.traversal.insert.Change.{Change}
+use Rattle.radix_nodes.specs.declared.insertion.change.Change.{Change}
 use Rattle.radix_nodes.specs.declared.trie_node.TrieNode.{TrieNode, out-TrieNode, roll-TrieNode}
 use Rattle.nibble_map.specs.Lists.{IsPrefix}
 use Rattle.masked_tree.specs.Mask.{IsPlaceOf, IsMask, IsRisingFrom, bit_of}

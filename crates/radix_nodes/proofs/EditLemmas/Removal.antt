@@ -9,7 +9,7 @@ use Rattle.masked_tree.specs.Tree.{Tree, Children, none, more, plain, join, IsAt
 use Rattle.masked_tree.specs.Edits.{remove_child, without_pair, without_child, set_child, with_child}
 use Rattle.masked_tree.specs.Alters.{none_of, AltersChild, AltersRoot, CutsRoot, Prunes, PrunesRoot}
 use Rattle.radix_nodes.specs.Nodes.{unboxed, tree_of, children_of, fragment_of, AreTwo, IsLongWithout, IsLeftWith, HasLongJoin, HasLongJoinBelow, CutOutcome, RootOutcome}
-use Rattle.radix_nodes.specs.declared.traversal.remove.Taken.{Taken}
+use Rattle.radix_nodes.specs.declared.removal.remove.Removed.{Removed}
 use Rattle.radix_nodes.proofs.NodeLemmas.Nodes.{tree_of-written_children, children_of-set, children-tree_of, pair-tree_of, fragment-tree_of}
 use Rattle.radix_nodes.proofs.EditLemmas.Insertion.{box_is_child, held_through_child, free_through_child, length-firsts_of_boxes}
 use Rattle.masked_tree.proofs.PathLemmas.Paths.{below_from_child}
@@ -111,12 +111,12 @@ module _ {K V : Type 0} where
   -- a leaf that was cut off, by what was made of it
   module _ (old new : Tree (KeyValue K V)) (s : List ℕ) (leaf : TrieNode K V) (nodes : ℕ) (ends : (tree_of leaf).children ≡ none) (has : unboxed (out-TrieNode K V leaf).pair ≢ None) where
     -- what was made of the leaf: None if it has no pair, else its pair and the counts
-    abbrev LeafTaken : Option (Taken K V) → Type 0
-    LeafTaken r = MatchOption r (unboxed (out-TrieNode K V leaf).pair ≡ None)
+    abbrev LeafRemoved : Option (Removed K V) → Type 0
+    LeafRemoved r = MatchOption r (unboxed (out-TrieNode K V leaf).pair ≡ None)
         (λ t. (unboxed (out-TrieNode K V leaf).pair ≡ Some t.pair) × (t.nodes ≡ nodes) × (t.nibbles ≡ length (fragment_of leaf)))
 
     -- a leaf that is pruned below path s is the removal of its pair from its path
-    pub leaf_cut : (r : Option (Taken K V)) → LeafTaken r →
+    pub leaf_cut : (r : Option (Removed K V)) → LeafRemoved r →
         Prunes s (tree_of leaf) (nodes + nodes_in (tree_of leaf).children) (length (tree_of leaf).fragment + nibbles_in (tree_of leaf).children) old new →
         CutOutcome (Ok r) (s ++ (tree_of leaf).fragment) old new
     leaf_cut None m cut = absurd (has m)
@@ -125,7 +125,7 @@ module _ {K V : Type 0} where
         (leaf_run (λ gone n k. AltersChild gone none_of 0 n 0 k old new) s (tree_of leaf) t.pair nodes (pair-tree_of leaf ∙ m.0) ends cut)
 
     -- a leaf that is pruned from a root below path s is the removal of its pair from its path
-    pub leaf_root : (r : Option (Taken K V)) → LeafTaken r →
+    pub leaf_root : (r : Option (Removed K V)) → LeafRemoved r →
         PrunesRoot s (tree_of leaf) (nodes + nodes_in (tree_of leaf).children) (length (tree_of leaf).fragment + nibbles_in (tree_of leaf).children) old new →
         RootOutcome (Ok r) (s ++ (tree_of leaf).fragment) old new
     leaf_root None m cut = absurd (has m)
@@ -190,7 +190,7 @@ module _ {K V : Type 0} where
       subst (HasLongJoinBelow (tree_of n)) (ap (λ f. f ++ p) (fragment-tree_of n) ∙ sym ep) (join_below (tree_of n) (tree_of b.value) i p (box_is_child n i b h lt at) j)
 
   -- a removal's outcome in the child at i is one in the node that has the child's new box
-  pub cut_through_child : (n : TrieNode K V) (i : ℕ) (b b' : Box (TrieNode K V) Global) (r : Result (Option (Taken K V)) Memory) (p path : List ℕ) →
+  pub cut_through_child : (n : TrieNode K V) (i : ℕ) (b b' : Box (TrieNode K V) Global) (r : Result (Option (Removed K V)) Memory) (p path : List ℕ) →
       let o = out-TrieNode K V n in
       IsTreePlaced (tree_of n) → i < length o.children.items → get_or o.children.items i b ≡ b → path ≡ o.fragment ++ p → p ≢ [] → first p ≡ first (fragment_of b.value) → CutOutcome r p (tree_of b.value) (tree_of b'.value) →
       CutOutcome r path (tree_of n) (tree_of (roll-TrieNode K V record { fragment = o.fragment; pair = o.pair; mask = o.mask; children = with_item o.children i b' }))
@@ -201,7 +201,7 @@ module _ {K V : Type 0} where
   cut_through_child n i b b' (Err x) p path h lt at ep some start s = (tree_of-same_child n i b b' h lt at s.0, held_through_child n i b h p path lt at ep s.1, join_within (tree_of n) path (join_from_box n i b p path h lt at ep s.2))
 
   -- a removal's outcome in a root's child at i is one in the root that has the child's new box
-  pub root_cut_through_child : (n : TrieNode K V) (i : ℕ) (b b' : Box (TrieNode K V) Global) (r : Result (Option (Taken K V)) Memory) (p path : List ℕ) →
+  pub root_cut_through_child : (n : TrieNode K V) (i : ℕ) (b b' : Box (TrieNode K V) Global) (r : Result (Option (Removed K V)) Memory) (p path : List ℕ) →
       let o = out-TrieNode K V n in
       IsTreePlaced (tree_of n) → i < length o.children.items → get_or o.children.items i b ≡ b → path ≡ o.fragment ++ p → p ≢ [] → first p ≡ first (fragment_of b.value) → CutOutcome r p (tree_of b.value) (tree_of b'.value) →
       RootOutcome r path (tree_of n) (tree_of (roll-TrieNode K V record { fragment = o.fragment; pair = o.pair; mask = o.mask; children = with_item o.children i b' }))

@@ -1,13 +1,13 @@
--- Answers by value, and answers by reference that say the same.
+-- Results by value, and results by reference that say the same.
 use Rattle.std.proofs.Common.{Result, Ok, Err}
 use Rattle.radix_nodes.specs.declared.trie_node.KeyValue.{KeyValue}
-use Rattle.radix_nodes.specs.declared.traversal.insert.Change.{Change}
+use Rattle.radix_nodes.specs.declared.insertion.change.Change.{Change}
 use Rattle.radix_nodes.specs.Nodes.{Settles}
 use Rattle.radix_nodes.proofs.NodeLemmas.Options.{match_implies}
 
 module _ {K V A E : Type 0} where
-  -- what follows from an answer by value follows from it by reference
+  -- what follows from a result by value follows from it by reference
   pub settles_map : {O P : KeyValue K V → Result (Change K V) (KeyValue K V) → Type 0} (r : Result A E) (old new : Change K V) →
-      ((x : KeyValue K V) (answer : Result (Change K V) (KeyValue K V)) → O x answer → P x answer) → Settles r old new O → Settles r old new P
+      ((x : KeyValue K V) (outcome : Result (Change K V) (KeyValue K V)) → O x outcome → P x outcome) → Settles r old new O → Settles r old new P
   settles_map (Ok a) old new f s = match_implies old.was (λ z. z) (λ x. f x (Ok new)) s
   settles_map (Err e) old new f s = match_implies old.was (λ z. z) (λ x. match_implies new.was (λ z. z) (λ y. f x (Err y))) s

@@ -11,7 +11,7 @@ use Rattle.masked_tree.specs.Mask.{IsPlaceOf, bit_of}
 use Rattle.masked_tree.specs.Paths.{IsHeld, IsStuck}
 use Rattle.masked_tree.specs.Agreement.{Agrees}
 use Rattle.masked_tree.proofs.PathLemmas.Agreement.{agrees_some, append_drop-whole_fragment, agrees_not_prefix}
-use Rattle.radix_nodes.specs.declared.traversal.compare.Agreement.{Agreement}
+use Rattle.radix_nodes.specs.declared.search.compare.Agreement.{Agreement}
 use Rattle.masked_tree.proofs.PathLemmas.Paths.{own_unheld, own_held, stuck_unheld, stuck_gap, stuck_at_child}
 use Rattle.masked_tree.specs.Tree.{Tree, IsAt, firsts, IsTreePlaced}
 use Rattle.radix_nodes.specs.Nodes.{unboxed, tree_of, fragment_of, IsMet, IsStep}

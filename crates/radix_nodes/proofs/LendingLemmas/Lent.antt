@@ -1,4 +1,4 @@
--- A part is lent on: what is said of the whole once a part of a part has come back. Assumes `Logic`.
+-- A part is borrowed on: what is said of the whole once a part of a part has come back. Assumes `Logic`.
 use mathlib.Core.Path.{◌≡◌, subst}
 use mathlib.Core.Bool.{Bool, true, false, not}
 use Prim.Native.Nat.{ℕ, ◌≤◌, ◌<◌}
@@ -15,7 +15,7 @@ use denote.RattleType.{RattleType}
 use denote.Follow.{follows, follows_if, follows_by, follows_so, such_by, followed, follows_then}
 
 module _ {M : Type 1} {𝓤 : Ura M} (𝓛 : Logic 𝓤) (R T U : RattleType) (F : T.Denot → R.Denot) (γ γ' : GName) where
-  -- a part lent on: its loan, and one out of it if one was made, are one out of the whole
+  -- a part borrowed on: its loan, and one out of it if one was made, are one out of the whole
   pub loan_through_part : (m : Option GName) (G : U.Denot → T.Denot) (v : T.Denot)
       → ent 𝓤 (sep 𝓤 (sem 𝓛 (follows R T γ γ' F)) (sem 𝓛 (follows_if T U γ' m G v))) (sem 𝓛 (follows_if R U γ m (λ w. F (G w)) (F v)))
   unfolding follows_by
@@ -24,7 +24,7 @@ module _ {M : Type 1} {𝓤 : Ura M} (𝓛 : Logic 𝓤) (R T U : RattleType) (F
 
   module _ (P : U.Denot → T.Denot → Type 0) (P₀ : T.Denot → Type 0) (Q : U.Denot → R.Denot → Type 0) (Q₀ : R.Denot → Type 0)
       (up : (w : U.Denot) (n : T.Denot) → P w n → Q w (F n)) (up₀ : (n : T.Denot) → P₀ n → Q₀ (F n)) where
-    -- a part lent on that ends as P says is the whole lent so that it ends as Q says, if P gives Q
+    -- a part borrowed on that ends as P says is the whole borrowed so that it ends as Q says, if P gives Q
     pub promise_through_part : (m : Option GName) → ent 𝓤 (sep 𝓤 (sem 𝓛 (follows R T γ γ' F)) (sem 𝓛 (follows_so T U γ' m P P₀))) (sem 𝓛 (follows_so R U γ m Q Q₀))
     unfolding such_by
     promise_through_part m =

@@ -1,4 +1,4 @@
--- What a write to a lent node, or to its value, does to the tree above it.
+-- What a write to a borrowed node, or to its value, does to the tree above it.
 use Rattle.std.proofs.Common.{◌≡◌, ℕ, List, [], ◌∷◌, ◌++◌, length, get_or, drop, Option, Some, None, IsSome, MutBor, refl, sym, ap, subst, ◌∙◌, arith, inl, inr, append-nil}
 use Rattle.std.proofs.lemmas.List.{map-append}
 use Rattle.std.proofs.Math.Seq.{drop-length}
@@ -190,7 +190,7 @@ module _ {K V : Type 0} where
       let o = (out-TrieNode K V n).pair in
       like_of path (unboxed o) (unboxed (write_value o w)) old new (written_key o w) (pair_rewritten n path old new (write_value o w) (written_key o w) r)
 
-  -- the tree has the value written through what was lent at the path, under the same key
+  -- the tree has the value written through what was borrowed at the path, under the same key
   pub value_written : (n : TrieNode K V) (path : List ℕ) (old new : Tree (KeyValue K V)) (r : Option (MutBor V)) (w : V) → IsLentPair r (out-TrieNode K V n).pair →
       Succeeds path (tree_of n) (tree_of (written n path old new (write_value (out-TrieNode K V n).pair w))) old new → IfSome r (λ x. Revalues path x.now w old new)
   value_written n at old new None w is s = tt
@@ -210,7 +210,7 @@ module _ {K V : Type 0} where
       kept_of path (unboxed o) old new (same_key_itself (unboxed o)) (pair_rewritten n path old new o (same_key_itself (unboxed o)) r)
 
   -- no pair at the path
-  -- where nothing was lent of the node at the path, the tree holds no pair there
+  -- where nothing was borrowed of the node at the path, the tree holds no pair there
   pub no_loan_no_pair : (n : TrieNode K V) (path : List ℕ) (old : Tree (KeyValue K V)) (r : Option (MutBor V)) → IsTreePlaced old → IsNodeAt old path (tree_of n) → IsLentPair r (out-TrieNode K V n).pair → OnNone r (IsHeld old path → ⊥)
   no_loan_no_pair n path old (Some x) h d is = tt
   no_loan_no_pair n path old None h d is = λ held.

@@ -13,7 +13,7 @@ use Rattle.masked_tree.proofs.PathLemmas.Search.{walked-nil, walked-gap, walked-
 use Rattle.masked_tree.proofs.PathLemmas.Agreement.{along-whole_fragment, along-part_fragment}
 use Rattle.radix_nodes.specs.declared.trie_node.TrieNode.{TrieNode, out-TrieNode}
 use Rattle.radix_nodes.specs.Nodes.{tree_of, fragment_of, IsMet, IsStep}
-use Rattle.radix_nodes.specs.declared.traversal.compare.Agreement.{Agreement}
+use Rattle.radix_nodes.specs.declared.search.compare.Agreement.{Agreement}
 use Rattle.radix_nodes.proofs.NodeLemmas.Nodes.{fragment-tree_of}
 use Rattle.radix_nodes.proofs.EditLemmas.KeyParts.{drop_some, first-drop}
 use Rattle.radix_nodes.proofs.EditLemmas.Insertion.{box_is_child}

@@ -143,7 +143,7 @@ module _ {K V : Type 0} where
     pub deepest_pair_through_child : (u : Tree (KeyValue K V)) (e : ℕ) → IsDeepest (IsHeld (tree_of m)) (tree_of m) u key next e → IsDeepest (IsHeld (tree_of n)) (tree_of n) u key depth e
     deepest_pair_through_child u e = deepest_up (IsHeld (tree_of n)) (IsHeld (tree_of m)) u e (held_longest_in_child (tree_of n) (tree_of m) i (drop depth key) h at some start)
 
--- a node's own pair as the answer
+-- a node's own pair as the result
 module _ {K V : Type 0} where
   -- a node with a pair has one at its tree's own path
   held_own : (n : TrieNode K V) → IsSome (unboxed (out-TrieNode K V n).pair) → IsHeld (tree_of n) (tree_of n).fragment
@@ -192,7 +192,7 @@ module _ {K V : Type 0} (at : Bor (TrieNode K V)) (key : List ℕ) (depth : ℕ)
     (best best' : Option (Bor (TrieNode K V) × ℕ))
     (own : (IsSome (unboxed (out-TrieNode K V at.now).pair) × (best' ≡ Some (at, depth))) ⊎ ((unboxed (out-TrieNode K V at.now).pair ≡ None) × (best' ≡ best)))
     (Goal : Option (Bor (TrieNode K V) × ℕ) → Type 0) (leads : (r : Option (Bor (TrieNode K V) × ℕ)) → FindsDeepestPair r at.now key depth → Goal (option_or r best)) where
-  -- where the key can't go on, the best pair is the answer
+  -- where the key can't go on, the best pair is the result
   pub best_at_end : IsStuck (tree_of at.now) (drop depth key) → Goal best'
   best_at_end stuck =
       elim own [
@@ -200,7 +200,7 @@ module _ {K V : Type 0} (at : Bor (TrieNode K V)) (key : List ℕ) (depth : ℕ)
         | inr o ↦ subst Goal (sym o.1) (leads None (no_pair_on_way at.now key depth h stuck o.0))
       ]
 
-  -- what the child answers is the answer, and where it has none the best pair is
+  -- the child's result is the result, and where it has none the best pair is
   pub best_through_child : (m : TrieNode K V) (i next : ℕ) (s : IsStep at.now key depth i next) (b : Box (TrieNode K V) Global) → get_or (out-TrieNode K V at.now).children.items i b ≡ b → m ≡ b.value
       → (r : Option (Bor (TrieNode K V) × ℕ)) → FindsDeepestPair r m key next → Goal (option_or r best')
   best_through_child m i next s b is em (Some x) found = leads (Some x) (deepest_pair_through_child at.now m key depth i next h s b is em (tree_of x.0.now) x.1 found)

@@ -17,7 +17,7 @@ use Rattle.masked_tree.proofs.PathLemmas.Agreement.{append_drop-whole_list}
 use Rattle.radix_nodes.specs.declared.trie_node.KeyValue.{KeyValue}
 use Rattle.radix_nodes.specs.declared.trie_node.TrieNode.{TrieNode, out-TrieNode}
 use Rattle.radix_nodes.specs.Nodes.{tree_of, fragment_of, IsMet, IsNearest}
-use Rattle.radix_nodes.specs.declared.traversal.compare.Agreement.{Agreement}
+use Rattle.radix_nodes.specs.declared.search.compare.Agreement.{Agreement}
 use Rattle.radix_nodes.proofs.NodeLemmas.Nodes.{fragment-tree_of}
 use Rattle.radix_nodes.proofs.EditLemmas.KeyParts.{drop_some, first-drop}
 use Rattle.radix_nodes.proofs.SearchLemmas.Compared.{met_child, append-met_rest}

@@ -1,4 +1,4 @@
-//! Linking and unlinking of nodes: none of these takes memory.
+//! Linking and unlinking of nodes: none of these allocates.
 ghost use Rattle.std.specs.Prelude.{◌≡◌, ◌+◌, ◌<◌, ◌≤◌, None, vec_len};
 ghost use Rattle.nibble_map.specs.Trees.{first};
 ghost use Rattle.masked_tree.specs.Tree.{IsTreePlaced, IsAt};

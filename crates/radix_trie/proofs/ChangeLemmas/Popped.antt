@@ -14,9 +14,9 @@ use Rattle.masked_tree.proofs.PathLemmas.Paths.{has_node, node_held}
 use Rattle.radix_keys.specs.declared.nibbles.Memory.{Memory}
 use Rattle.radix_nodes.specs.Ends.{at_end, IsEndEntry, RootPopOutcome}
 use Rattle.radix_nodes.specs.Pairs.{pair_of, pairs_of}
-use Rattle.radix_nodes.specs.declared.traversal.pop.End.{End}
-use Rattle.radix_nodes.specs.declared.traversal.pop.End.TheVariants.{First, Last}
-use Rattle.radix_nodes.specs.declared.traversal.remove.Taken.{Taken}
+use Rattle.radix_nodes.specs.declared.removal.pop.End.{End}
+use Rattle.radix_nodes.specs.declared.removal.pop.End.TheVariants.{First, Last}
+use Rattle.radix_nodes.specs.declared.removal.remove.Removed.{Removed}
 use Rattle.radix_nodes.specs.declared.trie_node.KeyValue.{KeyValue}
 use Rattle.radix_nodes.proofs.EditLemmas.Ends.{end_in_list}
 use Rattle.radix_trie.specs.Refusals.{JoinsAreShort}
@@ -74,12 +74,12 @@ module _ {K V : Type 0} (enc : K → List ℕ) (t : Tree (KeyValue K V)) (count 
 
   module _ (new : Tree (KeyValue K V)) where
     -- what was taken stood at its key's encoding, and was the pair at the walk's end
-    pub popped : (taken : Taken K V) → RootPopOutcome end (Ok (Some taken)) t new →
-        CutsRoot (enc taken.pair.key) taken.pair taken.nodes taken.nibbles t new × (Some (pair_of taken.pair) ≡ at_end end (pairs_below m []))
-    popped taken (inl h) = let n : Ok (Some taken) ≡ Ok None = h.1 in cc n
-    popped taken (inr h) =
-        let got = get-before_cut enc t new count nodes nibbles h.0 taken.pair taken.nodes taken.nibbles kept h.3 in (
-          subst (λ q. CutsRoot q taken.pair taken.nodes taken.nibbles t new) (keyed_get enc m root.keyed h.0 (pair_of taken.pair) got) h.3,
+    pub popped : (removed : Removed K V) → RootPopOutcome end (Ok (Some removed)) t new →
+        CutsRoot (enc removed.pair.key) removed.pair removed.nodes removed.nibbles t new × (Some (pair_of removed.pair) ≡ at_end end (pairs_below m []))
+    popped removed (inl h) = let n : Ok (Some removed) ≡ Ok None = h.1 in cc n
+    popped removed (inr h) =
+        let got = get-before_cut enc t new count nodes nibbles h.0 removed.pair removed.nodes removed.nibbles kept h.3 in (
+          subst (λ q. CutsRoot q removed.pair removed.nodes removed.nibbles t new) (keyed_get enc m root.keyed h.0 (pair_of removed.pair) got) h.3,
           sym got ∙ got_end h.0 h.1 h.2 ∙ sym (end_pair h.0 h.1 h.2),
         )
 

@@ -13,12 +13,12 @@ use Rattle.radix_trie.proofs.ChangeLemmas.Changes.{entry_change, kept_after, map
 module _ {K V : Type 0} (enc : K → List ℕ) (old new : Tree (KeyValue K V)) (count nodes nibbles : ℕ) (q : List ℕ) (x : KeyValue K V) (m l : ℕ)
     (kept : IsKept enc old count nodes nibbles) (cut : CutsRoot q x m l old new) where
   -- the pair that was taken is the old map's at the list
-  pub get-taken : fin.get (map_of old) q ≡ Some (pair_of x)
-  get-taken = get-before_cut enc old new count nodes nibbles q x m l kept cut
+  pub get-removed : fin.get (map_of old) q ≡ Some (pair_of x)
+  get-removed = get-before_cut enc old new count nodes nibbles q x m l kept cut
 
   -- after the removal the map is the old one with the list removed
-  pub map_of-taken : map_of new ≡ fin.remove (map_of old) q
-  map_of-taken = map_of-cut enc old new count nodes nibbles q x m l kept cut
+  pub map_of-removed : map_of new ≡ fin.remove (map_of old) q
+  map_of-removed = map_of-cut enc old new count nodes nibbles q x m l kept cut
 
   -- the removal left one pair less
   one_pair_less : suc (length (entries_of new)) ≡ count
@@ -27,19 +27,19 @@ module _ {K V : Type 0} (enc : K → List ℕ) (old new : Tree (KeyValue K V)) (
       omega (arith, s, kept.counted)
 
   -- before the removal there was a pair
-  pub taken_some : 1 ≤ count
-  taken_some = omega (arith, one_pair_less)
+  pub removed_some : 1 ≤ count
+  removed_some = omega (arith, one_pair_less)
 
   -- no more nodes were taken than there were
-  taken_nodes : m ≤ nodes
-  taken_nodes = omega (arith, cut.alters.nodes, kept.noded)
+  removed_nodes : m ≤ nodes
+  removed_nodes = omega (arith, cut.alters.nodes, kept.noded)
 
   -- no more nibbles were taken than there were
-  taken_nibbles : l ≤ nibbles
-  taken_nibbles = let s = ap length cut.fragment in omega (arith, s, cut.alters.nibbles, kept.nibbled)
+  removed_nibbles : l ≤ nibbles
+  removed_nibbles = let s = ap length cut.fragment in omega (arith, s, cut.alters.nibbles, kept.nibbled)
 
   -- after the removal the root is kept, with one pair less and without the nodes and nibbles taken
-  pub taken_kept : IsKept enc new (count - 1) (nodes - m) (nibbles - l)
-  taken_kept =
+  pub removed_kept : IsKept enc new (count - 1) (nodes - m) (nibbles - l)
+  removed_kept =
       kept_after enc old new count nodes nibbles q (Some x) None 0 m 0 l kept cut (count - 1) tt (omega (arith, one_pair_less))
-      (nodes - m) (nibbles - l) (omega (arith, taken_nodes)) (omega (arith, taken_nibbles))
+      (nodes - m) (nibbles - l) (omega (arith, removed_nodes)) (omega (arith, removed_nibbles))

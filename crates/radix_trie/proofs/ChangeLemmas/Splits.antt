@@ -16,7 +16,7 @@ use Rattle.nibble_map.specs.Trees.{first}
 use Rattle.nibble_map.proofs.ListLemmas.Parted.{shortest_unique}
 use Rattle.nibble_map.proofs.MapLemmas.Edits.{walk-by_entries}
 use Rattle.radix_nodes.specs.Prunes.{IsBranch, IsSmall, branch_of, nodes_gone, nibbles_gone}
-use Rattle.radix_nodes.specs.declared.traversal.cut.Branch.{Branch}
+use Rattle.radix_nodes.specs.declared.removal.cut_child.Branch.{Branch}
 use Rattle.radix_nodes.specs.declared.trie_node.KeyValue.{KeyValue}
 use Rattle.radix_nodes.proofs.EditLemmas.Branches.{branch_is_small}
 use Rattle.radix_trie.specs.Roots.{AllKeyed, IsKept, entries_of, map_of}

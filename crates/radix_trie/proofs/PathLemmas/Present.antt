@@ -31,10 +31,10 @@ module _ {A : Type 0} where
   length-present_rest (Some x ∷ xs) new o first is all = subst (λ ys. length (present ys) ≡ length ys) (sym is) (omega (arith, all))
 
   -- where all items are there, the first one taken out is the first of the items there
-  pub first_taken : (old new : List (Option A)) (o : Option A) → Some o ≡ slice_get old 0 → new ≡ remove old 0
+  pub first_removed : (old new : List (Option A)) (o : Option A) → Some o ≡ slice_get old 0 → new ≡ remove old 0
       → length (present old) ≡ length old → YieldsFirst (λ s. s) (present old) o (present new)
-  first_taken [] new o first is all = absurd (cc)
-  first_taken (None ∷ xs) new o first is all = absurd (omega (arith, length-present_le xs, all))
-  first_taken (Some x ∷ xs) new o first is all =
+  first_removed [] new o first is all = absurd (cc)
+  first_removed (None ∷ xs) new o first is all = absurd (omega (arith, length-present_le xs, all))
+  first_removed (Some x ∷ xs) new o first is all =
       let same : o ≡ Some x = cc in
       subst (λ p. YieldsFirst (λ s. s) (x ∷ present xs) p (present new)) (sym same) (ap (λ ys. x ∷ present ys) (sym is))

@@ -8,7 +8,7 @@ ghost use Rattle.radix_trie.specs.Walks.{IsOnWay, deref_pair, pairs_on_way, pref
 
 use crate::iter::walk::parts;
 use radix_keys::Nibblet;
-use radix_nodes::traversal::step::step;
+use radix_nodes::search::step::step;
 use radix_nodes::trie_node::TrieNode;
 use std::iter::FusedIterator;
 use std::marker::Model;

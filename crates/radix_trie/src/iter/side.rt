@@ -3,7 +3,7 @@ ghost use Rattle.std.specs.Prelude.{◌≡◌, ◌≤◌, ◌++◌, ℕ, List, d
 ghost use Rattle.radix_trie.specs.Walks.{StandsBeside};
 
 use radix_keys::Nibblet;
-use radix_nodes::traversal::compare::compare;
+use radix_nodes::search::compare::compare;
 
 /// Where the lists that a fragment begins stand beside a list.
 pub(crate) enum Side {

@@ -8,7 +8,7 @@ ghost use Rattle.radix_nodes.specs.Pairs.{pair_of, pairs_in};
 ghost use Rattle.radix_trie.specs.Walks.{deref_pair, first_pair, rows_of, with_row};
 
 use radix_keys::Memory;
-use radix_nodes::traversal::size::height;
+use radix_nodes::whole::size::height;
 use radix_nodes::trie_node::{KeyValue, TrieNode};
 use std::alloc::Global;
 use std::iter::FusedIterator;

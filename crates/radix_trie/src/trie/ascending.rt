@@ -6,7 +6,7 @@ ghost use Rattle.nibble_map.specs.Turned.{IsTurnedCopy, IsSameFootprint};
 
 use crate::trie::Trie;
 use radix_keys::{Ascending, KeySigned, Memory};
-use radix_nodes::traversal::ascending::turned_copy;
+use radix_nodes::whole::ascending::turned_copy;
 
 impl<T: KeySigned, V: Clone> Trie<T, V> {
     /// The trie of the same keys in ascending order: the wrapper of each key, with a clone of its

@@ -4,7 +4,7 @@ ghost use Rattle.std.specs.FinMap as map;
 
 use crate::trie::Trie;
 use radix_keys::{Memory, TrieKey};
-use radix_nodes::traversal::compact::lay_anew;
+use radix_nodes::whole::compact::lay_anew;
 
 impl<K: TrieKey + Drop, V: Drop> Trie<K, V> {
     /// Lays the nodes anew in memory, in the order in which a walk comes to them. The map, the

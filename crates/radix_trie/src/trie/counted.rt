@@ -11,7 +11,7 @@ use crate::iter::parts_of;
 use crate::trie::Trie;
 use crate::trie::lookups::pair_in;
 use radix_keys::{Memory, Nibblet, TrieKey};
-use radix_nodes::traversal::find::{LookUpCost, Searched, find_counted};
+use radix_nodes::search::find::{LookUpCost, Searched, find_counted};
 use radix_nodes::trie_node::TrieNode;
 
 impl<K: TrieKey, V> Trie<K, V> {

@@ -9,7 +9,7 @@ ghost use Rattle.radix_trie.specs.Refusals.{IsFullAt, RefusesInsert};
 use crate::error::{InsertError, InsertWhy};
 use crate::trie::Trie;
 use radix_keys::{Memory, Nibblet, TrieKey};
-use radix_nodes::traversal::insert::put;
+use radix_nodes::insertion::insert::put;
 use radix_nodes::trie_node::KeyValue;
 use std::alloc::Global;
 
@@ -68,11 +68,11 @@ impl<K: TrieKey + Drop, V: Drop> Trie<K, V> {
             Ok(list) => list,
             Err(_) => return Err(refused(InsertWhy::Memory, KeyValue { key, value })),
         };
-        self.put_at(&list, KeyValue { key, value })
+        self.insert_at(&list, KeyValue { key, value })
     }
 
     /// What `insert` does, with the key's encoding in hand.
-    pub(crate) fn put_at(
+    pub(crate) fn insert_at(
         &mut self,
         list: &Nibblet,
         pair: KeyValue<K, V>,
@@ -171,7 +171,7 @@ impl<K: TrieKey + Drop, V: Drop> Trie<K, V> {
         if self.change_at(&list, f) {
             return Ok(());
         }
-        self.put_at(
+        self.insert_at(
             &list,
             KeyValue {
                 key,

@@ -10,7 +10,7 @@ ghost use Rattle.nibble_map.proofs.MapLemmas.SameTests.{maps_per};
 
 use crate::trie::Trie;
 use radix_keys::TrieKey;
-use radix_nodes::traversal::same::same;
+use radix_nodes::whole::same::same;
 
 /// Two tries are equal where they store the same encodings, and at each encoding equal values. Keys with one encoding
 /// aren't told apart. It walks the two trees side by side, and takes no memory.

@@ -10,7 +10,7 @@ ghost use Rattle.radix_trie.specs.Views.{IsValueAbove};
 use crate::error::FindError;
 use crate::trie::Trie;
 use radix_keys::{Memory, Nibblet, TrieKey};
-use radix_nodes::traversal::queries::deepest_pair;
+use radix_nodes::search::queries::deepest_pair;
 
 impl<K: TrieKey, V> Trie<K, V> {
     /// The value at the empty list, for writing, if one is stored there. It takes no memory.

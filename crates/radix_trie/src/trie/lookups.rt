@@ -10,8 +10,8 @@ ghost use Rattle.radix_trie.specs.Walks.{deref_pair};
 use crate::iter::parts_of;
 use crate::trie::Trie;
 use radix_keys::{Nibblet, TrieKey};
-use radix_nodes::traversal::find::find;
-use radix_nodes::traversal::queries::deepest_pair;
+use radix_nodes::search::find::find;
+use radix_nodes::search::queries::deepest_pair;
 use radix_nodes::trie_node::{KeyValue, TrieNode};
 
 impl<K: TrieKey, V> Trie<K, V> {

@@ -13,9 +13,9 @@ ghost use Rattle.radix_trie.specs.Walks.{deref_pair};
 
 use crate::iter::parts_of;
 use radix_keys::{Memory, Nibblet, TrieKey};
-use radix_nodes::traversal::copied::copied;
-use radix_nodes::traversal::find::find;
-use radix_nodes::traversal::lend::value_at_mut;
+use radix_nodes::whole::copied::copied;
+use radix_nodes::search::find::find;
+use radix_nodes::search::find_mut::value_at_mut;
 use radix_nodes::trie_node::{KeyValue, TrieNode};
 use std::alloc::Global;
 use std::marker::Model;

@@ -12,7 +12,7 @@ use crate::error::OpenError;
 use crate::trie::Trie;
 use crate::view::subtrie_mut::SubTrieMut;
 use radix_keys::{Memory, Nibblet, TrieKey};
-use radix_nodes::traversal::find::find;
+use radix_nodes::search::find::find;
 use radix_nodes::trie_node::TrieNode;
 
 impl<K: TrieKey, V> Trie<K, V> {

@@ -10,7 +10,7 @@ ghost use Rattle.radix_trie.specs.Views.{pairs_below};
 
 use crate::trie::Trie;
 use radix_keys::{Memory, TrieKey};
-use radix_nodes::traversal::pop::{End, pop_root};
+use radix_nodes::removal::pop::{End, pop_root};
 
 impl<K: TrieKey + Drop, V: Drop> Trie<K, V> {
     /// Takes the pair with the first encoding away, in the order of walks, and answers it; None
@@ -64,11 +64,11 @@ impl<K: TrieKey + Drop, V: Drop> Trie<K, V> {
             (λ pair. JoinsAreShort self.old (K.encoding pair.0)) → IsOk result }
     {
         match pop_root(&mut self.root, end) {
-            Ok(Some(taken)) => {
+            Ok(Some(removed)) => {
                 self.length -= 1;
-                self.nodes -= taken.nodes as u128;
-                self.nibbles -= taken.nibbles as u128;
-                Ok(Some((taken.pair.key, taken.pair.value)))
+                self.nodes -= removed.nodes as u128;
+                self.nibbles -= removed.nibbles as u128;
+                Ok(Some((removed.pair.key, removed.pair.value)))
             }
             Ok(None) => Ok(None),
             Err(refusal) => Err(refusal),

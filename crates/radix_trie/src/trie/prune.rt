@@ -7,7 +7,7 @@ ghost use Rattle.radix_trie.specs.Views.{pairs_below};
 use crate::trie::Trie;
 use crate::view::place::Place;
 use radix_keys::{Memory, Nibblet, TrieKey};
-use radix_nodes::traversal::prune::{prune_all, prune_root};
+use radix_nodes::removal::prune::{prune_all, prune_root};
 
 impl<K: TrieKey + Drop, V: Drop> Trie<K, V> {
     /// Takes all pairs at and below the key's place away, and answers them in the order of their

@@ -14,7 +14,7 @@ use crate::trie::Trie;
 use crate::view::place::Place;
 use crate::view::subtrie::SubTrie;
 use radix_keys::{Memory, Nibblet, TrieKey};
-use radix_nodes::traversal::queries::{deepest, deepest_pair};
+use radix_nodes::search::queries::{deepest, deepest_pair};
 use radix_nodes::trie_node::TrieNode;
 
 impl<K: TrieKey, V> Trie<K, V> {

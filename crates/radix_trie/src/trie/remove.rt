@@ -7,7 +7,7 @@ ghost use Rattle.radix_trie.specs.Refusals.{JoinsAreShort};
 
 use crate::trie::Trie;
 use radix_keys::{Memory, Nibblet, TrieKey};
-use radix_nodes::traversal::remove::take_root;
+use radix_nodes::removal::remove::take_root;
 
 impl<K: TrieKey + Drop, V: Drop> Trie<K, V> {
     /// Takes the pair at the key's encoding away, and answers its value. Where none is stored
@@ -88,11 +88,11 @@ impl<K: TrieKey + Drop, V: Drop> Trie<K, V> {
         ensures joins { JoinsAreShort self.old list.now → IsOk result }
     {
         match take_root(&mut self.root, list) {
-            Ok(Some(taken)) => {
+            Ok(Some(removed)) => {
                 self.length -= 1;
-                self.nodes -= taken.nodes as u128;
-                self.nibbles -= taken.nibbles as u128;
-                Ok(Some((taken.pair.key, taken.pair.value)))
+                self.nodes -= removed.nodes as u128;
+                self.nibbles -= removed.nibbles as u128;
+                Ok(Some((removed.pair.key, removed.pair.value)))
             }
             Ok(None) => Ok(None),
             Err(refusal) => Err(refusal),

@@ -6,10 +6,10 @@ ghost use Rattle.nibble_map.specs.Maps.{below, without_below};
 use crate::trie::Trie;
 use crate::view::place::Place;
 use radix_keys::{Memory, Nibblet, TrieKey};
-use radix_nodes::traversal::branch::cut_branch;
-use radix_nodes::traversal::grow::make_upper;
-use radix_nodes::traversal::size::measure;
-use radix_nodes::traversal::split::rooted;
+use radix_nodes::removal::cut_branch::cut_branch;
+use radix_nodes::insertion::attach::make_upper;
+use radix_nodes::whole::size::measure;
+use radix_nodes::removal::rooted::rooted;
 use std::mem;
 
 impl<K: TrieKey + Drop, V: Drop> Trie<K, V> {

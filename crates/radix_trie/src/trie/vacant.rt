@@ -72,7 +72,7 @@ impl<K: TrieKey + Drop, V: Drop> Trie<K, V> {
         if self.contains(&list) {
             return Err(not_stored(TryInsertWhy::Occupied, pair));
         }
-        match self.put_at(&list, pair) {
+        match self.insert_at(&list, pair) {
             Ok(_) => Ok(()),
             Err(error) => Err(of_insertion(error)),
         }
@@ -134,7 +134,7 @@ impl<K: TrieKey + Drop, V: Drop> Trie<K, V> {
         if self.contains(list) {
             return Ok(());
         }
-        self.put_at(list, pair)?;
+        self.insert_at(list, pair)?;
         Ok(())
     }
 }

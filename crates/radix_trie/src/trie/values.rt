@@ -9,7 +9,7 @@ ghost use Rattle.radix_trie.specs.Views.{pairs_below};
 
 use crate::trie::Trie;
 use radix_keys::{Memory, Nibblet, TrieKey};
-use radix_nodes::traversal::values::{change_branch, change_values};
+use radix_nodes::whole::values::{change_branch, change_values};
 
 impl<K: TrieKey, V> Trie<K, V> {
     /// Changes each value by one call of the closure. The encodings and the keys stay, and no memory

@@ -47,7 +47,7 @@ impl<'a, K: TrieKey + Drop, V: Drop> SubTrieMut<'a, K, V> {
         if !begins(&self.path, &list) {
             return Err(refused(InsertWhy::Outside, pair));
         }
-        self.trie.put_at(&list, pair)
+        self.trie.insert_at(&list, pair)
     }
 
     /// Takes all pairs at and below the key's place away, as `Trie::remove_prefix` does.

@@ -15,9 +15,9 @@ use crate::trie::Trie;
 use crate::view::subtrie::SubTrie;
 use radix_keys::{Memory, Nibblet, TrieKey};
 use radix_nodes::fragments::joined;
-use radix_nodes::traversal::compare::compare;
-use radix_nodes::traversal::queries::shortest;
-use radix_nodes::traversal::size::count_pairs;
+use radix_nodes::search::compare::compare;
+use radix_nodes::search::queries::shortest;
+use radix_nodes::whole::size::count_pairs;
 use radix_nodes::trie_node::{KeyValue, TrieNode, is_end};
 use std::marker::Model;
 

@@ -14,7 +14,7 @@ use crate::iter::Children;
 use crate::trie::Trie;
 use crate::view::place::{Place, begins};
 use radix_keys::{Memory, Nibblet, TrieKey};
-use radix_nodes::traversal::find::find;
+use radix_nodes::search::find::find;
 use radix_nodes::trie_node::{KeyValue, TrieNode};
 use std::marker::Model;
 

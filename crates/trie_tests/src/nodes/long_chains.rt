@@ -3,10 +3,10 @@ ghost use Rattle.masked_tree.specs.Tree.{IsTreePlaced};
 ghost use Rattle.radix_nodes.specs.Nodes.{tree_of};
 
 use radix_keys::{Memory, Nibblet};
-use radix_nodes::traversal::find::find;
-use radix_nodes::traversal::insert::put;
-use radix_nodes::traversal::remove::take_root;
-use radix_nodes::traversal::size::height;
+use radix_nodes::search::find::find;
+use radix_nodes::insertion::insert::put;
+use radix_nodes::removal::remove::take_root;
+use radix_nodes::whole::size::height;
 use radix_nodes::trie_node::{KeyValue, TrieNode};
 use std::alloc::Global;
 use std::process::Abort;

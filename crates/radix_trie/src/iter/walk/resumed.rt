@@ -10,7 +10,7 @@ ghost use Rattle.radix_trie.specs.Walks.{HasRowRoom, IsOnWay, beyond, first_pair
 use crate::iter::side::{Side, side_of};
 use crate::iter::walk::{Iter, push_row};
 use radix_keys::{Memory, Nibblet};
-use radix_nodes::traversal::size::height;
+use radix_nodes::whole::size::height;
 use radix_nodes::trie_node::mask::place;
 use radix_nodes::trie_node::{KeyValue, TrieNode};
 use std::alloc::Global;

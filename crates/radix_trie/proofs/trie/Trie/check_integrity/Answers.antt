@@ -18,7 +18,7 @@ returns g c =
     let enc = g.K.TrieKey.encoding in
     let t = tree_of c.root.result.now in
     let s = c.in_ok-sound in
-    let sound : s.sound ≡ true = s.ensures.answer.1 (subst (λ q. IsSoundAt enc q t) (sym c.new-top.ensures) (root_canonical_at enc _ t c.root.ensures)) in
+    let sound : s.sound ≡ true = s.ensures.sound.1 (subst (λ q. IsSoundAt enc q t) (sym c.new-top.ensures) (root_canonical_at enc _ t c.root.ensures)) in
     let count : s.count ≡ c.len-length.result =
     s.ensures.count ∙ ap (λ b. cond b (length (entries_at c.new-top.result t)) 0) sound ∙ ap (λ q. length (entries_at q t)) c.new-top.ensures
     ∙ length-root_entries enc _ t c.root.ensures ∙ sym c.len-length.ensures in

@@ -4,7 +4,7 @@ use Rattle.nibble_map.proofs.MapLemmas.Bridge.{remove-absent}
 use Rattle.nibble_map.proofs.ListLemmas.Sorted.{tied_lists_equal}
 use Rattle.std.proofs.lemmas.Cmp.{nat_list_cmp_total}
 use Rattle.radix_trie.specs.Roots.{map_of}
-use Rattle.radix_trie.proofs.ChangeLemmas.Removals.{get-taken, map_of-taken, taken_some, taken_kept}
+use Rattle.radix_trie.proofs.ChangeLemmas.Removals.{get-removed, map_of-removed, removed_some, removed_kept}
 use Rattle.radix_trie.proofs.ChangeLemmas.Changes.{removed_at, unheld_at, held_at}
 use Rattle.radix_trie.proofs.RootLemmas.Held.{get-unheld, none_unheld}
 use Rattle.radix_trie.proofs.PathLemmas.Joins.{kept_joins_fit, short_lists_join_short}
@@ -13,22 +13,22 @@ use Rattle.radix_trie.proofs.trie.Trie.take_entry_at.Goals as goal
 pub overflow_sub-self : goal.overflow_sub-self
 overflow_sub-self g c =
     let cut = removed_at c.self.inside.root _ c.args.list.now _ _ _ _ c.self.invariant.top refl (rw c.in-Ok-Some.field-0-is at c.in-Ok-Some.ensures) in
-    taken_some g.K.TrieKey.encoding (tree_of c.self.inside.root) _ _ _ _ _ _ _ _ c.self.invariant cut
+    removed_some g.K.TrieKey.encoding (tree_of c.self.inside.root) _ _ _ _ _ _ _ _ c.self.invariant cut
 
 pub invariant_of-self : goal.invariant_of-self
 invariant_of-self g c =
     let cut = removed_at c.self.inside.root _ c.args.list.now _ _ _ _ c.self.invariant.top refl (rw c.in-Ok-Some.field-0-is at c.in-Ok-Some.ensures) in
-    taken_kept g.K.TrieKey.encoding (tree_of c.self.inside.root) _ _ _ _ _ _ _ _ c.self.invariant cut
+    removed_kept g.K.TrieKey.encoding (tree_of c.self.inside.root) _ _ _ _ _ _ _ _ c.self.invariant cut
 
 pub returns-in-Ok-Some-clause-old_pair : goal.returns-in-Ok-Some-clause-old_pair
 returns-in-Ok-Some-clause-old_pair g c =
     let cut = removed_at c.self.inside.root _ c.args.list.now _ _ _ _ c.self.invariant.top refl (rw c.in-Ok-Some.field-0-is at c.in-Ok-Some.ensures) in
-    rw (← c.self.view_is) (sym (get-taken g.K.TrieKey.encoding (tree_of c.self.inside.root) _ _ _ _ _ _ _ _ c.self.invariant cut))
+    rw (← c.self.view_is) (sym (get-removed g.K.TrieKey.encoding (tree_of c.self.inside.root) _ _ _ _ _ _ _ _ c.self.invariant cut))
 
 pub returns-in-Ok-Some-clause-removed : goal.returns-in-Ok-Some-clause-removed
 returns-in-Ok-Some-clause-removed g c =
     let cut = removed_at c.self.inside.root _ c.args.list.now _ _ _ _ c.self.invariant.top refl (rw c.in-Ok-Some.field-0-is at c.in-Ok-Some.ensures) in
-    rw (← c.self.view_is) (map_of-taken g.K.TrieKey.encoding (tree_of c.self.inside.root) _ _ _ _ _ _ _ _ c.self.invariant cut)
+    rw (← c.self.view_is) (map_of-removed g.K.TrieKey.encoding (tree_of c.self.inside.root) _ _ _ _ _ _ _ _ c.self.invariant cut)
 
 pub returns-in-Ok-None-clause-old_pair : goal.returns-in-Ok-None-clause-old_pair
 returns-in-Ok-None-clause-old_pair g c =

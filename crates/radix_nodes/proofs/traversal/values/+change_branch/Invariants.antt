@@ -1,5 +1,0 @@
-use Rattle.std.proofs.Common.{length, ◌-◌}
-use Rattle.radix_nodes.proofs.traversal.values.+change_branch.Given as goal
-
-abbrev pub decreases-change_branch : goal.decreases-change_branch
-decreases-change_branch g l = length l.list.now - l.depth

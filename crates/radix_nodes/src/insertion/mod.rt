@@ -1,0 +1,5 @@
+//! Insertion of a pair.
+
+pub mod attach;
+pub mod change;
+pub mod insert;

@@ -228,6 +228,13 @@ def for_each_value_mut(v, added, path=""):
     return "ok"
 
 
+def for_each_mut(v, other, added, path=""):
+    """Adds the number to each value but the other key's."""
+    for at in starting(v.below, path):
+        map_with_default(v, at, added if at != other else 0, 0)
+    return "ok"
+
+
 def find_ancestor_mut(v, at, number):
     above = beginnings(v.trie.lists, at)
     return written(v, above[-1], number) if above else "absent"
@@ -288,12 +295,17 @@ OF_BOTH = {
     "children": ("", lambda v: rows(v.trie.view(it) for it in v.trie.children(v.path))),
     "debug": ("", View.debug),
 }
+OF_READERS = {
+    "subtrie": ("Q", inside(lambda v, at: v.trie.view(at))),
+    "first_below": ("QN", inside(lambda v, at, most: v.told(starting(v.trie.lists, at)[:most]))),
+}
 OF_WRITERS = {
     "insert": ("KN", inside(lambda v, at, number: value(v.trie.change(at, number)))),
     "remove": ("Q", inside(lambda v, at: value(v.trie.change(at)))),
     "remove_prefix": ("Q", inside(lambda v, at: rows(map(both, v.trie.cut(at).values())))),
     "value_mut": ("N", lambda v, number: written(v, v.path, number)),
     "for_each_value_mut": ("N", for_each_value_mut),
+    "for_each_mut": ("KN", for_each_mut),
     "retain": ("N", retain),
 }
 OF_TRIES = {
@@ -305,9 +317,7 @@ OF_TRIES = {
     "get_ancestor_value": ("Q", lambda v, at: value(v.trie.above(at))),
     "get_raw_ancestor": ("Q", lambda v, at: v.trie.view(beginnings(v.trie.points, at)[-1])),
     "get_raw_descendant": ("Q", lambda v, at: v.trie.view(v.trie.point_below(at))),
-    "subtrie": ("Q", lambda v, at: v.trie.view(at)),
     "common_prefixes": ("Q", lambda v, at: v.told(beginnings(v.trie.lists, at))),
-    "first_below": ("QN", lambda v, at, most: v.told(starting(v.trie.lists, at)[:most])),
     "first_after": ("QQN", lambda v, at, last, most: v.told([it for it in starting(v.trie.lists, at) if it > last][:most])),
     "at": ("L", lambda v, at: value(v.pairs.get(at))),
     "contains": ("L", lambda v, at: truth(at in v.pairs)),
@@ -330,6 +340,7 @@ OF_TRIES = {
     "clear": ("", clear),
     "compact": ("", lambda v: "ok"),
     "for_each_value_mut_below": ("QN", lambda v, at, added: for_each_value_mut(v, added, at)),
+    "for_each_mut_below": ("QKN", lambda v, at, other, added: for_each_mut(v, other, added, at)),
     "retain_below": ("QN", lambda v, at, least: retain(v, least, at)),
     "extend": ("P", extend),
     "from_iter": ("P", from_iter),
@@ -337,12 +348,13 @@ OF_TRIES = {
     "dot": ("", lambda v: v.trie.dot()),
     "stats": ("", lambda v: v.trie.stats()),
 }
-IN_READ_VIEWS = {**COMMON, **OF_BOTH, "path": ("", lambda v: shown(v.path))}
-IN_WRITE_VIEWS = {**IN_READ_VIEWS, **OF_WRITERS}
-IN_TRIES = {**COMMON, **OF_BOTH, **OF_WRITERS, **OF_TRIES}
+IN_VIEWS = {**COMMON, **OF_BOTH, "path": ("", lambda v: shown(v.path))}
+IN_READ_VIEWS = {**IN_VIEWS, **OF_READERS}
+IN_WRITE_VIEWS = {**IN_VIEWS, **OF_WRITERS}
+IN_TRIES = {**COMMON, **OF_BOTH, **OF_READERS, **OF_WRITERS, **OF_TRIES}
 # These read a key, and then a view for writing hasn't them.
 READ_FIRST = ("remove_entry", "map_with_default", "try_insert", "get_or_insert", "get_mut", "find_mut",
-              "find_ancestor_mut", "for_each_value_mut_below", "retain_below")
+              "find_ancestor_mut", "for_each_value_mut_below", "for_each_mut_below", "retain_below")
 SPENT = ("spend", "into_children", "into_trie")
 NAMED = ("use", "tries", "==", "clone", "split_off_prefix")
 # What these answer where no point stands at the key.

@@ -11,7 +11,7 @@ pub mod MappedLemmas
 pub mod WalkLemmas
 -- What callers cite: what parts, walks and pages of a map hold, and the order of keys.
 pub mod LawLemmas
--- A view for writing that is lent: its parts.
+-- A view for writing that is borrowed: its parts.
 pub mod ViewLemmas
 -- Objects and tries that are built of each other, and the order of texts.
 pub mod JsonLemmas

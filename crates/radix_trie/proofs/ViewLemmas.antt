@@ -1,5 +1,5 @@
--- A view for writing that is lent: its reference to the trie is lent on, and its path is shared beside it, for as long as
--- the view is lent. Assumes `Logic`.
+-- A view for writing that is borrowed: its reference to the trie is borrowed on, and its path is shared beside it, for as long as
+-- the view is borrowed. Assumes `Logic`.
 use mathlib.Core.Path.{◌≡◌, refl}
 use Prim.Native.Nat.{ℕ, ◌+◌}
 use mathlib.Core.List.{List, [], ◌∷◌}
@@ -99,7 +99,7 @@ module _ (K V : RattleType) (key : keys.Ghosts K.Denot) (eq : eqs.Ghosts K.Denot
       abbrev Way : Denots (rows_of ms) → SProp 𝓤
       Way a = wand 𝓤 (sem 𝓛 (parts_at full_share ms 0 a b o)) (sem 𝓛 (part_at (Struct (shape_of name ms)) full_share a b o))
 
-      -- what isn't lent: the prefix in its place, and the way back from the parts
+      -- what isn't borrowed: the prefix in its place, and the way back from the parts
       abbrev Rest : SProp 𝓤
       Rest = sep 𝓤 (sem 𝓛 Prefix-lies) (PartsBack 𝓛 full_share name ms b o)
 
@@ -125,12 +125,12 @@ module _ (K V : RattleType) (key : keys.Ghosts K.Denot) (eq : eqs.Ghosts K.Denot
           rewrite ! 0 (λ (X : Fml). ‵ X) (same_part w) refl $ done !
 
       module _ (κ : Lft) (q : Share) (γ : GName) (within : κ ⊑ list_row.lives) where
-        -- the reference is lent on as γ', the path is shared, and the view follows the reference
+        -- the reference is borrowed on as γ', the path is shared, and the view follows the reference
         abbrev HasSplit : GName → SProp 𝓤
         HasSplit γ' = sep 𝓤 (sem 𝓛 ((MutRef (named 0) κ Ref).own_val (trie_ref x b o γ') (vptr b (trie_at x b o) ∷ [])))
             (sep 𝓤 (sem 𝓛 ((ShrRef (named 0) κ list_row).own_val (path_ref x b o) (vptr b (path_at x b o) ∷ []))) (sep 𝓤 (A.lft κ q) (sem 𝓛 (follows View Ref γ γ' (λ w. record x { trie = w })))))
 
-        -- a borrowed view gives its reference, lent on, and its path, shared, for as long
+        -- a borrowed view gives its reference, borrowed on, and its path, shared, for as long
         pub view_splits : ent 𝓤 (sep 𝓤 (A.obs γ (View.coded.code x)) (sep 𝓤 (A.bor κ (Body (mem View) b o γ)) (A.lft κ q))) (H.⇛ (ex 𝓤 HasSplit))
         unfolding fseps
         view_splits =

@@ -1,4 +1,4 @@
--- What each command answers, and the map that it leaves.
+-- What each command returns, and the map that it leaves.
 use Rattle.std.specs.FinMap as map
 use Rattle.std.specs.Prelude.{◌≡◌, ◌⊎◌, ℕ, List, [], ◌∷◌, ◌++◌, Option, map as each}
 use Rattle.nibble_map.specs.Lists.{IsPrefix}

@@ -1,4 +1,4 @@
--- What a trie ends as, once what was lent of it has ended.
+-- What a trie ends as, once what was borrowed of it has ended.
 use mir.Syntax.{named}
 use denote.Ref.{MutRef}
 use Rattle.std.specs.Prelude.{◌≡◌, ℕ, List, [], Option, Result}

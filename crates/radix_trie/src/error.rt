@@ -12,7 +12,7 @@ pub use whole::TrieError;
 /// Why an insertion was refused.
 #[derive(Clone, Copy, PartialEq, Eq, Debug)]
 pub enum InsertWhy {
-    /// A growth of memory was refused, or a nibble count would pass `usize::MAX`.
+    /// An allocation failed, or a nibble count would pass `usize::MAX`.
     Memory,
     /// The trie holds `usize::MAX` pairs, and the key isn't among them.
     Full,
@@ -20,7 +20,7 @@ pub enum InsertWhy {
     Outside,
 }
 
-/// A refused insertion: why, and the very key and value that were handed in.
+/// A refused insertion: why, and the very key and value that were passed.
 #[derive(Drop)]
 pub struct InsertError<K, V> {
     pub why: InsertWhy,
@@ -31,7 +31,7 @@ pub struct InsertError<K, V> {
 /// Why a pair wasn't stored where none is to be replaced.
 #[derive(Clone, Copy, PartialEq, Eq, Debug)]
 pub enum TryInsertWhy {
-    /// A growth of memory was refused, or a nibble count would pass `usize::MAX`.
+    /// An allocation failed, or a nibble count would pass `usize::MAX`.
     Memory,
     /// The trie holds `usize::MAX` pairs.
     Full,
@@ -39,7 +39,7 @@ pub enum TryInsertWhy {
     Occupied,
 }
 
-/// A refused `try_insert`: why, and the very key and value that were handed in.
+/// A refused `try_insert`: why, and the very key and value that were passed.
 #[derive(Drop)]
 pub struct TryInsertError<K, V> {
     pub why: TryInsertWhy,
@@ -50,16 +50,16 @@ pub struct TryInsertError<K, V> {
 /// Why a trie wasn't built.
 #[derive(Clone, Copy, PartialEq, Eq, Debug)]
 pub enum BuildError {
-    /// A growth of memory was refused, or a nibble count would pass `usize::MAX`.
+    /// An allocation failed, or a nibble count would pass `usize::MAX`.
     Memory,
     /// `usize::MAX` pairs were stored, and a key came that wasn't among them.
     Full,
 }
 
-/// Why no value was lent.
+/// Why no value is borrowed.
 #[derive(Clone, Copy, PartialEq, Eq, Debug)]
 pub enum FindError {
-    /// A growth of memory was refused.
+    /// An allocation failed.
     Memory,
     /// No value is stored at the key's encoding.
     Absent,
@@ -68,28 +68,28 @@ pub enum FindError {
 /// Why no view was opened.
 #[derive(Clone, Copy, PartialEq, Eq, Debug)]
 pub enum OpenError {
-    /// A growth of memory was refused.
+    /// An allocation failed.
     Memory,
     /// No point stands at the key's encoding.
     Closed,
 }
 
-/// Why a view answers no pair.
+/// Why a view returns no pair.
 #[derive(Clone, Copy, PartialEq, Eq, Debug)]
 pub enum SubTrieError {
-    /// A growth of memory was refused, or a nibble count would pass `usize::MAX`.
+    /// An allocation failed, or a nibble count would pass `usize::MAX`.
     Memory,
     /// The view's path isn't a prefix of the key's encoding.
     Outside,
 }
 
-/// What a view answers for a key.
+/// What a view returns for a key.
 pub type SubTrieResult<T> = Result<Option<T>, SubTrieError>;
 
 /// Why a trie isn't written as JSON, or a JSON value isn't read as a trie.
 #[derive(Clone, Copy, PartialEq, Eq, Debug)]
 pub enum JsonError {
-    /// A growth of memory was refused.
+    /// An allocation failed.
     Memory,
     /// The value is neither null nor an object.
     Kind,

@@ -21,7 +21,7 @@ use radix_keys::{KeySigned, TrieKey};
 
 /// The key that is stored at a key's encoding equals it (`==`), in each map in which every stored key is a value of its
 /// type and stands at its encoding. The empty map is one, and pairs that are inserted, one removed, a value written, and all
-/// below a path taken away keep it so; what is below a path is one too.
+/// below a path removed keep it so; what is below a path is one too.
 ///
 /// `Trie::insert` and `Trie::get` tell that a key is a value of its type, so a caller of theirs knows it of its trie.
 pub fn stored_keys_are_equal<K: TrieKey, V>()

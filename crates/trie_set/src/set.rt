@@ -164,7 +164,7 @@ impl<K: TrieKey + Drop> TrieSet<K> {
     /// # Errors
     ///
     /// In the order in which they are decided: memory for the encoding; `Full`, where `usize::MAX` keys are stored and the
-    /// encoding isn't among them; memory for the change, which a stored encoding never takes. The set is as before then, and
+    /// encoding isn't among them; memory for the change, which a stored encoding never needs. The set is as before then, and
     /// the error holds the very key.
     pub fn insert(&mut self, key: K) -> Result<bool, InsertError<K, ()>>
         ensures new { IfOk result

@@ -59,6 +59,7 @@ usages =
     (codes "find_mut", 2, 2) ∷
     (codes "find_ancestor_mut", 2, 2) ∷
     (codes "for_each_value_mut_below", 2, 2) ∷
+    (codes "for_each_mut_below", 3, 3) ∷
     (codes "retain_below", 2, 2) ∷
     (codes "pop_first", 0, 0) ∷
     (codes "pop_last", 0, 0) ∷
@@ -66,6 +67,7 @@ usages =
     (codes "clear", 0, 0) ∷
     (codes "compact", 0, 0) ∷
     (codes "for_each_value_mut", 1, 1) ∷
+    (codes "for_each_mut", 2, 2) ∷
     (codes "retain", 1, 1) ∷
     (codes "extend", 0, many) ∷
     (codes "from_iter", 0, many) ∷

@@ -92,6 +92,7 @@ pub enum Edit {
     FindMut,
     FindAncestorMut,
     ForEachValueMutBelow,
+    ForEachMutBelow,
     RetainBelow,
 }
 
@@ -104,6 +105,7 @@ pub enum Sweep {
     Clear,
     Compact,
     ForEachValueMut,
+    ForEachMut,
     Retain,
     Extend,
     FromIter,
@@ -256,6 +258,12 @@ pub const CALLS: &'static [Usage] = &[
         2,
         Call::Edit(Edit::ForEachValueMutBelow),
     ),
+    Usage(
+        "for_each_mut_below",
+        3,
+        3,
+        Call::Edit(Edit::ForEachMutBelow),
+    ),
     Usage("retain_below", 2, 2, Call::Edit(Edit::RetainBelow)),
     Usage("pop_first", 0, 0, Call::Sweep(Sweep::PopFirst)),
     Usage("pop_last", 0, 0, Call::Sweep(Sweep::PopLast)),
@@ -268,6 +276,7 @@ pub const CALLS: &'static [Usage] = &[
         1,
         Call::Sweep(Sweep::ForEachValueMut),
     ),
+    Usage("for_each_mut", 2, 2, Call::Sweep(Sweep::ForEachMut)),
     Usage("retain", 1, 1, Call::Sweep(Sweep::Retain)),
     Usage("extend", 0, MANY, Call::Sweep(Sweep::Extend)),
     Usage("from_iter", 0, MANY, Call::Sweep(Sweep::FromIter)),

@@ -12,6 +12,7 @@ pub mod lines;
 pub mod lists;
 pub mod look_ups;
 pub mod networks;
+pub mod others;
 pub mod part_lists;
 pub mod parts;
 pub mod runs;

@@ -24,21 +24,23 @@ contains LIST: true where the list is stored, else false.\n\
 nearest LIST: the pair at its longest stored prefix, or none.\n\
 nearest_value LIST: the value of that pair, or none.\n\
 nearest_with_cost LIST: that pair, or none, how many nodes were visited, and nibbles compared.\n\
-remove KEY: takes a pair. Its value, or none; outside, in a view.\n\
-remove_entry KEY: takes a pair. The pair, or none.\n\
-remove_prefix KEY: takes all pairs at and below the key. The pairs, or none; outside, in a view.\n\
+remove KEY: removes a pair. Its value, or none; outside, in a view.\n\
+remove_entry KEY: removes a pair. The pair, or none.\n\
+remove_prefix KEY: removes all pairs at and below the key. The pairs, or none; outside, in a view.\n\
 split_off_prefix KEY NAME: the same as a trie of this name.\n\
 map_with_default KEY NUMBER VALUE: adds the number to a stored value, or stores the value.\n\
 for_each_value_mut NUMBER: adds the number to each value.\n\
 for_each_value_mut_below KEY NUMBER: adds the number to each value at and below the key.\n\
-retain NUMBER: takes the pairs whose values are less than the number.\n\
-retain_below KEY NUMBER: takes such pairs at and below the key.\n\
+for_each_mut OTHER NUMBER: adds the number to each value but that at the key OTHER.\n\
+for_each_mut_below KEY OTHER NUMBER: so at and below the key.\n\
+retain NUMBER: removes the pairs whose values are less than the number.\n\
+retain_below KEY NUMBER: removes such pairs at and below the key.\n\
 extend KEY VALUE ..: stores pairs.\n\
 from_iter KEY VALUE ..: the trie of these pairs, in place of the current one.\n\
-pop_first: takes the first pair. The pair, or none.\n\
-pop_last: takes the last pair. The pair, or none.\n\
+pop_first: removes the first pair. The pair, or none.\n\
+pop_last: removes the last pair. The pair, or none.\n\
 into_pairs: all pairs, or none. The trie is empty then.\n\
-clear: takes all pairs.\n\
+clear: removes all pairs.\n\
 compact: lays the nodes anew, in the order of walks.\n\
 iter: the pairs in order, or none.\n\
 keys: their keys, or none.\n\
@@ -49,7 +51,7 @@ cursor: the pairs in order, or none. A refused step is made once more.\n\
 cursor_from KEY: the same from the key on.\n\
 cursor_after KEY: the same after the key.\n\
 count_below KEY: the count of pairs at and below the key; outside, in a view.\n\
-first_below KEY COUNT: the first pairs at and below the key, so many at most, or none.\n\
+first_below KEY COUNT: the first pairs at and below the key, so many at most, or none; outside, in a view.\n\
 first_after KEY LAST COUNT: the same of those after the key LAST.\n\
 common_prefixes KEY: the pairs at prefixes of the key, the shortest first, or none.\n\
 first_key_value: the first pair, or none.\n\
@@ -65,7 +67,7 @@ prefix: the fragment here.\n\
 path: the path of the open view.\n\
 footprint: the counts of nodes and of nibbles in their fragments.\n\
 check_integrity: true.\n\
-subtrie KEY: the view at the key's point, by its path and its value, or none.\n\
+subtrie KEY: the view at the key's point, by its path and its value, or none; outside, in a view.\n\
 get_ancestor KEY: the view of the longest stored prefix, or none.\n\
 get_ancestor_value KEY: the value of the longest stored prefix, or none.\n\
 get_raw_ancestor KEY: the view of the nearest point at or above the key.\n\

@@ -3,28 +3,27 @@ use Rattle.std.proofs.Common.{◌≡◌, ℕ, List, [], ◌∷◌, ◌++◌, fil
 use Rattle.std.proofs.lemmas.List.{length-append, map-append, nil_from_length}
 use Rattle.std.proofs.lemmas.List.Elements.{filter-append}
 use Rattle.std.specs.Fn.{Shared}
-use denote.Ref.{MutBor}
+use denote.Ref.{Bor, MutBor}
 use Rattle.masked_tree.specs.Alters.{AltersRoot, all_of}
 use Rattle.masked_tree.specs.Paths.{IsPath}
 use Rattle.masked_tree.specs.Same.{AreEntryCopies, IsCopy}
 use Rattle.masked_tree.specs.Tree.{Tree, IsFullBelow, IsTreePlaced, entries_at, entries_in}
 use Rattle.masked_tree.proofs.SameLemmas.Copies.{copy_entries, map_copied, rows_copied}
-use Rattle.nibble_map.specs.Copies.{IsMapCopy, IsPairClone}
+use Rattle.nibble_map.specs.Copies.{IsMapCopy}
 use Rattle.nibble_map.specs.Lists.{IsPrefix, is_prefix}
 use Rattle.nibble_map.specs.Maps.{below, walk, without_below}
 use Rattle.nibble_map.specs.Swaps.{Swaps, entry}
 use Rattle.nibble_map.proofs.MapLemmas.Edits.{walk-by_entries}
 use Rattle.nibble_map.proofs.MapLemmas.Without.{from_sorted-run_cut}
-use Rattle.radix_nodes.specs.Copies.{IsKeyValueCopy}
 use Rattle.radix_nodes.specs.declared.trie_node.KeyValue.{KeyValue}
 use Rattle.radix_nodes.specs.Lending.{IsLike, keyed, keys_of}
 use Rattle.radix_nodes.specs.Pairs.{pair_of}
 use Rattle.radix_nodes.specs.Prunes.{IsBranch}
 use Rattle.radix_nodes.specs.declared.trie_node.TrieNode.{TrieNode}
 use Rattle.radix_nodes.specs.Nodes.{fragment_of, tree_of}
-use Rattle.radix_nodes.specs.Values.{ChangesBranch, LeavesValue}
+use Rattle.radix_nodes.specs.Values.{ChangesBranch, LeavesAtPair}
 use Rattle.radix_trie.specs.Roots.{entries_of, map_of, IsKept}
-use Rattle.radix_trie.specs.Values.{ChangesEachValue}
+use Rattle.radix_trie.specs.Values.{ChangesEachPair}
 use Rattle.radix_trie.proofs.ChangeLemmas.Changes.{append-root_fragment, run_change}
 use Rattle.radix_trie.proofs.ChangeLemmas.Written.{like_kept}
 use Rattle.radix_trie.proofs.PathLemmas.NodesBelow.{filter-map, path_leads, walk-no_path}
@@ -54,10 +53,14 @@ module _ {P : Type 0} (p : List ℕ) where
       ∙ (let mid : entries_under p (r ++ s.after) ≡ r ++ [] = filter-append _ r s.after ∙ (λ n. right n ++ back n) in λ n. front n ++ mid n)
       ∙ append-nil r
 
-module _ {K V : Type 0} (R : V → V → Type 0) where
-  -- the second pair has the first one's key, and R holds of the values
-  abbrev Changed : KeyValue K V → KeyValue K V → Type 0
-  Changed = IsKeyValueCopy (λ x y. y ≡ x) R
+module _ {K V : Type 0} (R : K × V → V → Type 0) where
+  -- the second pair has the first one's key, and R holds of the first pair and the second one's value
+  abbrev pub ChangedPair : K × V → K × V → Type 0
+  ChangedPair p q = (q.0 ≡ p.0) × R p q.1
+
+  -- the same of what nodes keep
+  abbrev pub Changed : KeyValue K V → KeyValue K V → Type 0
+  Changed x y = ChangedPair (pair_of x) (pair_of y)
 
   -- changed entries have the same lists and keys
   keys_of-changed : (es ds : List (List ℕ × KeyValue K V)) → AreEntryCopies Changed es ds → keys_of ds ≡ keys_of es
@@ -113,13 +116,12 @@ module _ {K V : Type 0} (R : V → V → Type 0) where
       branch_changed_kept = like_kept enc old new count nodes nibbles kept branch_like
 
       -- what is below p in the new map is a copy of what was in the old one
-      pub branch_changed_map : IsMapCopy (IsPairClone (λ x y. y ≡ x) R) (below (map_of old) p) (below (map_of new) p)
+      pub branch_changed_map : IsMapCopy ChangedPair (below (map_of old) p) (below (map_of new) p)
       branch_changed_map =
           let before = walk-kept old was s kept.masked kept.full kept.top old_under in
           let after = walk-kept new now s branch_changed_kept.masked branch_changed_kept.full branch_changed_kept.top new_under in
-          let S = IsPairClone (λ (x y : K). y ≡ x) R in
-          map_copied S _ _ (subst (λ es. AreEntryCopies S es (walk (map_of new) p)) (sym before)
-          (subst (AreEntryCopies S (map row_of (entries_at s was))) (sym after) (rows_copied pair_of S _ _ (copy_entries Changed was now copy s))))
+          map_copied ChangedPair _ _ (subst (λ es. AreEntryCopies ChangedPair es (walk (map_of new) p)) (sym before)
+          (subst (AreEntryCopies ChangedPair (map row_of (entries_at s was))) (sym after) (rows_copied pair_of ChangedPair _ _ (copy_entries Changed was now copy s))))
 
       -- a root's rows with the prefix p, by what is kept of its entries
       rows_under : (t u : Tree (KeyValue K V)) → t.fragment ≡ [] → entries_under p (entries_at [] t) ≡ entries_at s u → filter (λ e. is_prefix p e.0) (entries_of t) ≡ map row_of (entries_at s u)
@@ -134,13 +136,12 @@ module _ {K V : Type 0} (R : V → V → Type 0) where
           ∙ from_sorted-run_cut p _ (entries_of old) (w.before ++ w.after) (entries_rise old kept.masked kept.full) record { before = w.before; after = w.after; was = w.was; is = refl } (rows_under old was kept.top old_under)
 
     -- where nothing stands at and below p, and nothing changes, the copy is one of no pairs
-    pub nothing_changed_map : new ≡ old → ((q : List ℕ) → IsPath old q → IsPrefix p q → ⊥) → IsMapCopy (IsPairClone (λ x y. y ≡ x) R) (below (map_of old) p) (below (map_of new) p)
+    pub nothing_changed_map : new ≡ old → ((q : List ℕ) → IsPath old q → IsPrefix p q → ⊥) → IsMapCopy ChangedPair (below (map_of old) p) (below (map_of new) p)
     nothing_changed_map same apart =
-        let S = IsPairClone (λ (x y : K). y ≡ x) R in
         let none = walk-no_path enc (map_of old) old (kept_root enc old count nodes nibbles kept) p apart in
-        subst (λ t. IsMapCopy S (below (map_of old) p) (below (map_of t) p)) (sym same) (map_copied S _ _ (subst (λ es. AreEntryCopies S es es) (sym none) tt))
+        subst (λ t. IsMapCopy ChangedPair (below (map_of old) p) (below (map_of t) p)) (sym same) (map_copied ChangedPair _ _ (subst (λ es. AreEntryCopies ChangedPair es es) (sym none) tt))
 
-module _ {F K V : Type 0} (g : Shared F (MutBor V × Unit {0}) (Unit {0} × (MutBor V × Unit {0}))) (f : F) where
+module _ {F K V : Type 0} (g : Shared F (Bor K × (MutBor V × Unit {0})) (Unit {0} × (MutBor V × Unit {0}))) (f : F) where
   -- a change behind the root's fragment, which is empty, is one at the list itself
   pub changed_at : (root : TrieNode K V) (new : Tree (KeyValue K V)) (list : List ℕ) → (tree_of root).fragment ≡ [] → ChangesBranch g f (fragment_of root ++ drop 0 list) (tree_of root) new → ChangesBranch g f list (tree_of root) new
   changed_at root new list top c = subst (λ p. ChangesBranch g f p (tree_of root) new) (append-root_fragment root list list top refl) c
@@ -148,15 +149,15 @@ module _ {F K V : Type 0} (g : Shared F (MutBor V × Unit {0}) (Unit {0} × (Mut
   module _ (enc : K → List ℕ) (p : List ℕ) (old new : Tree (KeyValue K V)) (count nodes nibbles : ℕ) (kept : IsKept enc old count nodes nibbles) where
     -- whatever stands at and below p, the changed root is kept
     pub changed_kept : ChangesBranch g f p old new → IsKept enc new count nodes nibbles
-    changed_kept (inl c) = branch_changed_kept (LeavesValue g f) enc p old new count nodes nibbles kept c.path c.was c.now c.branch c.copy c.alters.root
+    changed_kept (inl c) = branch_changed_kept (LeavesAtPair g f) enc p old new count nodes nibbles kept c.path c.was c.now c.branch c.copy c.alters.root
     changed_kept (inr c) = subst (λ t. IsKept enc t count nodes nibbles) (sym c.0) kept
 
     -- and what is below p in the new map is a copy of what was in the old one
-    pub changed_map : ChangesBranch g f p old new → ChangesEachValue (LeavesValue g f) (below (map_of old) p) (below (map_of new) p)
-    changed_map (inl c) = branch_changed_map (LeavesValue g f) enc p old new count nodes nibbles kept c.path c.was c.now c.branch c.copy c.alters.root
-    changed_map (inr c) = nothing_changed_map (LeavesValue g f) enc p old new count nodes nibbles kept c.0 c.1
+    pub changed_map : ChangesBranch g f p old new → ChangesEachPair (LeavesAtPair g f) (below (map_of old) p) (below (map_of new) p)
+    changed_map (inl c) = branch_changed_map (LeavesAtPair g f) enc p old new count nodes nibbles kept c.path c.was c.now c.branch c.copy c.alters.root
+    changed_map (inr c) = nothing_changed_map (LeavesAtPair g f) enc p old new count nodes nibbles kept c.0 c.1
 
     -- and the rest stays
     pub changed_rest : ChangesBranch g f p old new → without_below (map_of new) p ≡ without_below (map_of old) p
-    changed_rest (inl c) = branch_changed_rest (LeavesValue g f) enc p old new count nodes nibbles kept c.path c.was c.now c.branch c.copy c.alters.root
+    changed_rest (inl c) = branch_changed_rest (LeavesAtPair g f) enc p old new count nodes nibbles kept c.path c.was c.now c.branch c.copy c.alters.root
     changed_rest (inr c) = ap (λ t. without_below (map_of t) p) c.0

@@ -4,22 +4,20 @@ use Rattle.std.proofs.lemmas.List.{length-append, length-map}
 use Rattle.std.specs.FinMap as fin
 use Rattle.masked_tree.specs.Tree.{Tree, Children, none, more, plain, entries_in, entries_at}
 use Rattle.masked_tree.specs.Same.{IsFullRoot, IsCopy, AreEntryCopies}
-use Rattle.nibble_map.specs.Copies.{IsMapCopy, IsPairClone}
+use Rattle.nibble_map.specs.Copies.{IsMapCopy}
 use Rattle.nibble_map.specs.Swaps.{entry}
 use Rattle.nibble_map.specs.Trees.{AreMany, IsFull}
 use Rattle.nibble_map.proofs.MapLemmas.SameTests.{anything_of_false}
 use Rattle.masked_tree.proofs.SameLemmas.Copies.{root_copied, nodes_in-copy, nibbles_in-copy, copy_entries, root_map_copied}
-use Rattle.radix_nodes.specs.Copies.{IsKeyValueCopy}
 use Rattle.radix_nodes.specs.declared.trie_node.KeyValue.{KeyValue}
 use Rattle.radix_nodes.specs.Pairs.{pair_of}
 use Rattle.radix_trie.specs.Roots.{map_of, AllKeyed, IsKept}
 use Rattle.radix_trie.proofs.RootLemmas.Shown.{row_of, entries_of-root}
 
-module _ {K V : Type 0} (enc : K → List ℕ) (is_key_clone : K → K → Type 0) (is_value_clone : V → V → Type 0)
-    (same : (x y : K) → is_key_clone x y → enc y ≡ enc x) where
-  -- the second pair is a copy of the first
+module _ {K V : Type 0} (enc : K → List ℕ) (S : K × V → K × V → Type 0) (same : (x y : K × V) → S x y → enc y.0 ≡ enc x.0) where
+  -- S holds of what nodes keep
   abbrev Copied : KeyValue K V → KeyValue K V → Type 0
-  Copied = IsKeyValueCopy is_key_clone is_value_clone
+  Copied x y = S (pair_of x) (pair_of y)
 
   -- copies of keyed entries are keyed
   copies_keyed : (es ds : List (List ℕ × KeyValue K V)) → AreEntryCopies Copied es ds → AllKeyed enc (map row_of es) → AllKeyed enc (map row_of ds)
@@ -27,7 +25,7 @@ module _ {K V : Type 0} (enc : K → List ℕ) (is_key_clone : K → K → Type 
   copies_keyed [] (d ∷ ds) c h = absurd c
   copies_keyed (e ∷ es) [] c h = absurd c
   copies_keyed (e ∷ es) (d ∷ ds) c h =
-      (c.0 ∙ h.0 ∙ sym (same e.1.key d.1.key c.1.0), subst (λ p. length p < 2 ^ 64) (sym c.0) h.1, copies_keyed es ds c.2 h.2)
+      (c.0 ∙ h.0 ∙ sym (same (pair_of e.1) (pair_of d.1) c.1), subst (λ p. length p < 2 ^ 64) (sym c.0) h.1, copies_keyed es ds c.2 h.2)
 
   -- copies of entries are as many
   copies_counted : (es ds : List (List ℕ × KeyValue K V)) → AreEntryCopies Copied es ds → length (map row_of ds) ≡ length (map row_of es)
@@ -56,12 +54,12 @@ module _ {K V : Type 0} (enc : K → List ℕ) (is_key_clone : K → K → Type 
         }
 
     -- the copy's map is a copy of the map
-    pub copy_map : IsMapCopy (IsPairClone is_key_clone is_value_clone) (map_of t) (map_of u)
+    pub copy_map : IsMapCopy S (map_of t) (map_of u)
     copy_map =
         let root = root_copied Copied t u copy full_root in
-        subst (λ m. IsMapCopy (IsPairClone is_key_clone is_value_clone) m (map_of u)) (ap fin.from_sorted (sym (entries_of-root t kept.top)))
-        (subst (λ m. IsMapCopy (IsPairClone is_key_clone is_value_clone) (fin.from_sorted (map row_of (entries_at [] t))) m) (ap fin.from_sorted (sym (entries_of-root u root.top)))
-        (root_map_copied pair_of (IsPairClone is_key_clone is_value_clone) t u full_root copy))
+        subst (λ m. IsMapCopy S m (map_of u)) (ap fin.from_sorted (sym (entries_of-root t kept.top)))
+        (subst (λ m. IsMapCopy S (fin.from_sorted (map row_of (entries_at [] t))) m) (ap fin.from_sorted (sym (entries_of-root u root.top)))
+        (root_map_copied pair_of S t u full_root copy))
 
 -- the root of a trie without pairs has no pair and no child
 module _ {K V : Type 0} where

@@ -68,16 +68,16 @@ module _ {K V : Type 0} (enc : K → List ℕ) (root : TrieNode K V) (new : Tree
   some_count (Some y) w keyed fits small room = (count, small, over_kept y w keyed fits)
 
   -- the nodes after the insertion are fewer than 2 ^ 128
-  nodes_fit : q ≡ enc x.key → length q < 2 ^ 64 → count < 2 ^ 64 → (was ≡ None → count + 1 < 2 ^ 64) → nodes + n < 2 ^ 128
-  nodes_fit keyed fits small room =
+  inserted_nodes_fit : q ≡ enc x.key → length q < 2 ^ 64 → count < 2 ^ 64 → (was ≡ None → count + 1 < 2 ^ 64) → nodes + n < 2 ^ 128
+  inserted_nodes_fit keyed fits small room =
       let r = some_count was refl keyed fits small room in
       let most = r.1 in
       let few = nodes_fit enc new r.0 (nodes + n) (nibbles + k) r.2 in
       omega arith
 
   -- the nibbles after the insertion are fewer than 2 ^ 128
-  nibbles_fit : q ≡ enc x.key → length q < 2 ^ 64 → count < 2 ^ 64 → (was ≡ None → count + 1 < 2 ^ 64) → nibbles + k < 2 ^ 128
-  nibbles_fit keyed fits small room =
+  inserted_nibbles_fit : q ≡ enc x.key → length q < 2 ^ 64 → count < 2 ^ 64 → (was ≡ None → count + 1 < 2 ^ 64) → nibbles + k < 2 ^ 128
+  inserted_nibbles_fit keyed fits small room =
       let r = some_count was refl keyed fits small room in
       nibbles_within enc new r.0 (nodes + n) (nibbles + k) r.2 r.1
 
@@ -89,7 +89,7 @@ module _ {K V : Type 0} (enc : K → List ℕ) (root : TrieNode K V) (new : Tree
   pub inserted_fits : q ≡ enc x.key → length list < 2 ^ 64 → count < 2 ^ 64 → (m : PairMap K V) → map_of (tree_of root) ≡ m
       → (full : Bool) → full ≡ false → ((fin.len m ≡ 2 ^ 64 - 1) × (fin.get m list ≡ None) → full ≡ true)
       → (nodes + n < 2 ^ 128) × (nibbles + k < 2 ^ 128) × (was ≡ None → count + 1 < 2 ^ 64)
-  inserted_fits keyed fits small m view full off on = (nodes_fit keyed short small room, nibbles_fit keyed short small room, room)
+  inserted_fits keyed fits small m view full off on = (inserted_nodes_fit keyed short small room, inserted_nibbles_fit keyed short small room, room)
     where
       short : length q < 2 ^ 64
       short = subst (λ (l : List ℕ). length l < 2 ^ 64) is fits

@@ -9,7 +9,7 @@ use Rattle.nibble_map.proofs.MapLemmas.Below.{get-retained_lists}
 use Rattle.nibble_map.proofs.MapLemmas.Edits.{has_get, insert_sets_entry, not_None, remove_cuts_entry}
 use Rattle.radix_trie.specs.Building.{with_pairs}
 use Rattle.radix_trie.specs.Keys.{IsKeyed}
-use Rattle.radix_trie.specs.Values.{ChangesEachValue}
+use Rattle.radix_trie.specs.Values.{ChangesEachPair}
 
 module _ {K V : Type 0} (enc : K → List ℕ) (is : K → Type 0) where
   -- the empty map is keyed
@@ -55,7 +55,7 @@ module _ {K V : Type 0} (enc : K → List ℕ) (is : K → Type 0) where
       keyed_extended (map.insert m (enc p.0) p) ps (keyed_inserted m p.0 p.1 h (All-head (λ q. is q.0) p ps each)) (All-tail (λ q. is q.0) p ps each)
 
   -- a keyed map stays so where each value is changed
-  pub keyed_changed : (R : V → V → Type 0) (m n : PairMap K V) → ChangesEachValue R m n → IsKeyed enc is m → IsKeyed enc is n
+  pub keyed_changed : (R : K × V → V → Type 0) (m n : PairMap K V) → ChangesEachPair R m n → IsKeyed enc is m → IsKeyed enc is n
   keyed_changed R m n changed h e q at = by (map.get m e) refl
     where
       by : (o : Option (K × V)) → map.get m e ≡ o → (e ≡ enc q.0) × is q.0
@@ -74,7 +74,7 @@ module _ {K V : Type 0} (enc : K → List ℕ) (is : K → Type 0) where
       by false i = k e q (get-retained_lists m (λ x. not (is_prefix p x)) e ∙ ap (λ b. cond (not b) (map.get m e) None) i ∙ at)
 
   -- a keyed map stays so where each value below a list is changed, and nothing else
-  pub keyed_changed_below : (R : V → V → Type 0) (m n : PairMap K V) (p : List ℕ) → ChangesEachValue R (below m p) (below n p) → without_below n p ≡ without_below m p → IsKeyed enc is m → IsKeyed enc is n
+  pub keyed_changed_below : (R : K × V → V → Type 0) (m n : PairMap K V) (p : List ℕ) → ChangesEachPair R (below m p) (below n p) → without_below n p ≡ without_below m p → IsKeyed enc is m → IsKeyed enc is n
   keyed_changed_below R m n p changed rest h =
       keyed_joined n p (keyed_changed R (below m p) (below n p) changed (keyed_part m (is_prefix p) h))
       (subst (IsKeyed enc is) (sym rest) (keyed_part m (λ x. not (is_prefix p x)) h))

@@ -73,7 +73,7 @@ module _ {K V : Type 0} (enc : K → List ℕ) (t : Tree (KeyValue K V)) (count 
     got_end = sym (pair_of-node enc m t root p end_node.0 end_node.1) ∙ ap (option_map pair_of) end_node.2
 
   module _ (new : Tree (KeyValue K V)) where
-    -- what was taken stood at its key's encoding, and was the pair at the walk's end
+    -- what was removed stood at its key's encoding, and was the pair at the walk's end
     pub popped : (removed : Removed K V) → RootPopOutcome end (Ok (Some removed)) t new →
         CutsRoot (enc removed.pair.key) removed.pair removed.nodes removed.nibbles t new × (Some (pair_of removed.pair) ≡ at_end end (pairs_below m []))
     popped removed (inl h) = let n : Ok (Some removed) ≡ Ok None = h.1 in cc n
@@ -83,7 +83,7 @@ module _ {K V : Type 0} (enc : K → List ℕ) (t : Tree (KeyValue K V)) (count 
           sym got ∙ got_end h.0 h.1 h.2 ∙ sym (end_pair h.0 h.1 h.2),
         )
 
-    -- where nothing was taken, a walk has no pair
+    -- where nothing was removed, a walk has no pair
     pub none_popped : RootPopOutcome end (Ok None) t new → None ≡ at_end end (pairs_below m [])
     none_popped (inl h) = sym (no_end h.0)
     none_popped (inr h) = let n = end_node h.0 h.1 h.2 in absurd (h.3.1 (node_held t h.0 n.0 h.1 n.1 n.2))

@@ -81,7 +81,7 @@ module _ {K V : Type 0} (enc : K → List ℕ) (old : Tree (KeyValue K V)) (coun
   pub points_apart-paths : (p : List ℕ) → ((q : List ℕ) → IsPoint (map_of old) q → IsPrefix p q → ⊥) → (q : List ℕ) → IsPath old q → IsPrefix p q → ⊥
   points_apart-paths p apart q at i = apart q (node_point enc (map_of old) old the_root q at.0 at.1) i
 
-  -- where no path goes on from a list, nothing is there to be taken
+  -- where no path goes on from a list, nothing is there to be removed
   module _ (p : List ℕ) (apart : (q : List ℕ) → IsPath old q → IsPrefix p q → ⊥) where
     -- where no path goes on from p, the walk from p is empty
     no_walk : walk (map_of old) p ≡ []
@@ -176,16 +176,16 @@ module _ {K V : Type 0} (enc : K → List ℕ) (old : Tree (KeyValue K V)) (coun
         run_kept enc old new count nodes nibbles (all_of s u) none_of 0 m 0 l kept cut _ tt (omega (arith, pairs_counted, gone_length))
         (nodes - m) (nibbles - l) (omega (arith, pruned_nodes)) (omega (arith, pruned_nibbles))
 
-    -- the same by the list that was handed out
+    -- the same by the list that was returned
     module _ (pairs : List (K × V)) (is : pairs ≡ pairs_in u) where
-      -- no more pairs are handed out than were counted
+      -- no more pairs are returned than were counted
       pub handed_pairs_counted : length pairs ≤ count
       handed_pairs_counted = let e = ap length is in omega (arith, e, pruned_some)
 
-      -- after the cut the root is kept, with the count without the pairs handed out
+      -- after the cut the root is kept, with the count without the pairs returned
       pub handed_pairs_kept : (n : ℕ) → n ≡ length pairs → IsKept enc new (count - n) (nodes - m) (nibbles - l)
       handed_pairs_kept n e = subst (λ k. IsKept enc new (count - k) (nodes - m) (nibbles - l)) (sym (e ∙ ap length is)) pruned_kept
 
-      -- the pairs handed out are the old map's at and below p, in order
+      -- the pairs returned are the old map's at and below p, in order
       pub handed_pairs_below : pairs ≡ pairs_below (map_of old) p
       handed_pairs_below = is ∙ pairs_in-branch p s u branch

@@ -1,4 +1,4 @@
--- What a removal from the root does, once it has taken a pair.
+-- What a removal from the root does, once it has removed a pair.
 use Rattle.std.proofs.Common.{◌≡◌, ℕ, suc, ◌-◌, ◌≤◌, List, length, Some, None, ap, arith}
 use Rattle.std.specs.FinMap as fin
 use Rattle.masked_tree.specs.Alters.{CutsRoot}
@@ -9,10 +9,10 @@ use Rattle.radix_nodes.specs.Pairs.{pair_of}
 use Rattle.radix_trie.specs.Roots.{entries_of, map_of, IsKept}
 use Rattle.radix_trie.proofs.ChangeLemmas.Changes.{entry_change, kept_after, map_of-cut, get-before_cut}
 
--- what a removal from the root does, once it has taken a pair
+-- what a removal from the root does, once it has removed a pair
 module _ {K V : Type 0} (enc : K → List ℕ) (old new : Tree (KeyValue K V)) (count nodes nibbles : ℕ) (q : List ℕ) (x : KeyValue K V) (m l : ℕ)
     (kept : IsKept enc old count nodes nibbles) (cut : CutsRoot q x m l old new) where
-  -- the pair that was taken is the old map's at the list
+  -- the pair that was removed is the old map's at the list
   pub get-removed : fin.get (map_of old) q ≡ Some (pair_of x)
   get-removed = get-before_cut enc old new count nodes nibbles q x m l kept cut
 
@@ -30,15 +30,15 @@ module _ {K V : Type 0} (enc : K → List ℕ) (old new : Tree (KeyValue K V)) (
   pub removed_some : 1 ≤ count
   removed_some = omega (arith, one_pair_less)
 
-  -- no more nodes were taken than there were
+  -- no more nodes were removed than there were
   removed_nodes : m ≤ nodes
   removed_nodes = omega (arith, cut.alters.nodes, kept.noded)
 
-  -- no more nibbles were taken than there were
+  -- no more nibbles were removed than there were
   removed_nibbles : l ≤ nibbles
   removed_nibbles = let s = ap length cut.fragment in omega (arith, s, cut.alters.nibbles, kept.nibbled)
 
-  -- after the removal the root is kept, with one pair less and without the nodes and nibbles taken
+  -- after the removal the root is kept, with one pair less and without the nodes and nibbles that went
   pub removed_kept : IsKept enc new (count - 1) (nodes - m) (nibbles - l)
   removed_kept =
       kept_after enc old new count nodes nibbles q (Some x) None 0 m 0 l kept cut (count - 1) tt (omega (arith, one_pair_less))

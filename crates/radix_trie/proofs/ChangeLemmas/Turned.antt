@@ -65,7 +65,7 @@ module _ {K V : Type 0} (enc wrapped : K → List ℕ) (is_value_clone : V → V
 
     -- a copy of the turned root is kept for the wrapped keys, with the same counts
     pub wrapped_kept : IsKept wrapped u count nodes nibbles
-    wrapped_kept = copy_kept wrapped (λ x y. y ≡ x) is_value_clone (λ x y e. ap wrapped e) (turned_root t) u count nodes nibbles turned_kept copy
+    wrapped_kept = copy_kept wrapped (IsPairClone (λ x y. y ≡ x) is_value_clone) (λ x y e. ap wrapped e.0) (turned_root t) u count nodes nibbles turned_kept copy
 
     -- the map of the wrapped keys is a turned copy of the map
     pub wrapped_map : IsTurnedCopy (IsPairClone (λ x y. y ≡ x) is_value_clone) (map_of t) (map_of u)
@@ -73,7 +73,7 @@ module _ {K V : Type 0} (enc wrapped : K → List ℕ) (is_value_clone : V → V
         let entries = subst (λ es. AreTurned es (fin.entries (map_of (turned_root t)))) (sym (entries-map_of t kept.masked kept.full))
         (subst (AreTurned (entries_of t)) (sym (entries-map_of (turned_root t) turned_kept.masked turned_kept.full)) entries_turned) in
         copy_turned (map_of t) (map_of (turned_root t)) entries (IsPairClone (λ x y. y ≡ x) is_value_clone) (map_of u)
-        (copy_map wrapped (λ x y. y ≡ x) is_value_clone (λ x y e. ap wrapped e) (turned_root t) u count nodes nibbles turned_kept copy)
+        (copy_map wrapped (IsPairClone (λ x y. y ≡ x) is_value_clone) (λ x y e. ap wrapped e.0) (turned_root t) u count nodes nibbles turned_kept copy)
 
     -- the map of the wrapped keys has as many points, and its lists as many prefixes
     pub wrapped_footprint : IsSameFootprint (map_of t) (map_of u)

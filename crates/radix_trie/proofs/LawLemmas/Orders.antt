@@ -65,7 +65,7 @@ module _ {K : Type 0} (enc : K → List ℕ) (is : K → Type 0) (cmp : K → K 
     keys_rise (p ∷ ps) is_each rising =
         AllPairs-cons (λ x y. cmp x y ≡ Less) p.0 (each (λ p. p.0) ps) (less_of_each p.0 is_each.0 ps is_each.1 rising.0) (keys_rise ps is_each.1 rising.1)
 
--- what an order answers, by the three cases
+-- what an order gives, by the three cases
 by_three : (o r : Ordering) → (o ≡ Less → r ≡ Less) → (o ≡ Equal → r ≡ Equal) → (o ≡ Greater → r ≡ Greater) → r ≡ o
 by_three Less r l e g = l refl
 by_three Equal r l e g = e refl

@@ -15,7 +15,7 @@ use Rattle.radix_trie.proofs.ChangeLemmas.Changes.{node_at_root, no_node_at_root
 use Rattle.radix_trie.proofs.RootLemmas.Paths.{node_point, point_node, node_fragment}
 
 module _ {K V : Type 0} (enc : K → List ℕ) (m : PairMap K V) (root : TrieNode K V) (list : List ℕ) (is : IsRoot enc m (tree_of root)) where
-  -- what a look-up of the list answers: the node that stands there, or that none stands there
+  -- what a look-up of the list returns: the node that stands there, or that none stands there
   abbrev Found : Option (Bor (TrieNode K V)) → Type 0
   Found o = MatchOption o ((u : Tree (KeyValue K V)) → IsNodeAt (tree_of root) (fragment_of root ++ drop 0 list) u → ⊥)
       (λ n. IsNodeAt (tree_of root) (fragment_of root ++ drop 0 list) (tree_of n.now))

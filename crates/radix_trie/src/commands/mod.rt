@@ -1,4 +1,4 @@
-//! Lists of commands, and what they answer.
+//! Lists of commands, and what they return.
 ghost use Rattle.std.specs.Prelude.{◌≡◌, ◌+◌, ◌≤◌, ◌++◌, [], length, map as each, vec_len, vec_capacity, IfOk, IsOk, OnOk, OnErr};
 ghost use Rattle.std.specs.FinMap as map;
 ghost use Rattle.nibble_map.specs.Maps.{below, without_below};
@@ -47,12 +47,12 @@ pub enum ViewCommand<K, V> {
     Len,
 }
 
-/// What a command answers.
+/// What a command returns.
 #[derive(Drop)]
 pub enum Reply<V> {
     /// Of `Insert` and `Remove`: the value that was stored.
     Old(Option<V>),
-    /// Of `RemovePrefix`: the values that were taken, in the order of their keys' encodings.
+    /// Of `RemovePrefix`: the values that were removed, in the order of their keys' encodings.
     Gone(Vec<V>),
     /// Of `Get` and `Ancestor`: the value that is stored.
     Found(Option<V>),
@@ -68,7 +68,7 @@ pub enum Reply<V> {
     Refused,
 }
 
-/// Runs the commands in order, and answers one reply to each. A refused command answers `Refused`
+/// Runs the commands in order, and returns one reply to each. A refused command returns `Refused`
 /// and changes nothing, and the run goes on.
 ///
 /// # Errors
@@ -144,7 +144,7 @@ fn move_values<K: Drop, V: Copy>(pairs: Vec<(K, V)>, values: &mut Vec<V>)
     }
 }
 
-/// Takes all pairs at and below a list away, and answers their values. The room for these is reserved before the trie changes.
+/// Removes all pairs at and below a list, and returns their values. The room for these is reserved before the trie changes.
 pub(crate) fn take_values<K: TrieKey + Drop, V: Copy>(
     trie: &mut Trie<K, V>,
     list: &Nibblet,

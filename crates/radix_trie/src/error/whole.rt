@@ -13,7 +13,7 @@ use std::alloc::AllocError;
 /// Why a call was refused, whichever call it was.
 #[derive(Clone, Copy, PartialEq, Eq, Debug)]
 pub enum TrieError {
-    /// A growth of memory was refused, or a nibble count would pass `usize::MAX`.
+    /// An allocation failed, or a nibble count would pass `usize::MAX`.
     Memory,
     /// `usize::MAX` pairs are stored, and the key isn't among them.
     Full,
@@ -63,7 +63,7 @@ impl From<InsertWhy> for TrieError {
     }
 }
 
-/// The key and the value that were handed in are dropped.
+/// The key and the value that were passed are dropped.
 impl<K: Drop, V: Drop> From<InsertError<K, V>> for TrieError {
     ghost from_gives = { λ refused e. e ≡ of_insert refused.why };
 
@@ -84,7 +84,7 @@ impl From<TryInsertWhy> for TrieError {
     }
 }
 
-/// The key and the value that were handed in are dropped.
+/// The key and the value that were passed are dropped.
 impl<K: Drop, V: Drop> From<TryInsertError<K, V>> for TrieError {
     ghost from_gives = { λ error e. e ≡ of_try_insert error.why };
 

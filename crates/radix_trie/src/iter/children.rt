@@ -1,4 +1,4 @@
-//! The children of a path, handed out one after another.
+//! The children of a path, one after another.
 ghost use Rattle.std.specs.Prelude.{◌≡◌, ◌<◌, [], ◌∷◌, ◌++◌, length};
 ghost use Rattle.std.specs.Iterator.{YieldsFirst, item_count};
 
@@ -10,7 +10,7 @@ use std::marker::Model;
 
 /// At most sixteen views, one for each child of a path, by rising nibble.
 ///
-/// `next` takes no memory, and goes on answering `None` after the end. A contract sees the list of the views that are
+/// `next` allocates nothing, and goes on returning `None` after the end. A contract sees the list of the views that are
 /// left.
 #[derive(Drop)]
 pub struct Children<'a, K: TrieKey, V> {

@@ -40,7 +40,7 @@ impl<'a, K, V> Model for Cursor<'a, K, V> {
 }
 
 impl<'a, K, V> Cursor<'a, K, V> {
-    /// The walk over no pair. It takes no memory.
+    /// The walk over no pair. It allocates nothing.
     pub(crate) fn empty(alloc: Global) -> Cursor<'a, K, V>
         ensures { result ≡ [] }
     {

@@ -15,7 +15,7 @@ use std::marker::Model;
 
 /// A walk over the pairs whose encodings are prefixes of a query's encoding: each once, from the shortest to the longest.
 ///
-/// `next` takes no memory, and goes on answering `None` after the end. A contract sees a walk as the list of the pairs
+/// `next` allocates nothing, and goes on returning `None` after the end. A contract sees a walk as the list of the pairs
 /// that are left.
 #[derive(Drop)]
 pub struct CommonPrefixes<'a, K, V> {

@@ -8,8 +8,8 @@ ghost use Rattle.radix_nodes.specs.Pairs.{pair_of, pairs_in};
 ghost use Rattle.radix_trie.specs.Walks.{deref_pair, first_pair, rows_of, with_row};
 
 use radix_keys::Memory;
-use radix_nodes::whole::size::height;
 use radix_nodes::trie_node::{KeyValue, TrieNode};
+use radix_nodes::whole::size::height;
 use std::alloc::Global;
 use std::iter::FusedIterator;
 use std::marker::Model;
@@ -20,7 +20,7 @@ pub(super) use resumed::parted;
 
 /// A walk over keys and values: each pair once, in the order of the encodings, an encoding before its extensions.
 ///
-/// `next` takes no memory, and goes on answering `None` after the end. A contract sees a walk as the list of the pairs
+/// `next` allocates nothing, and goes on returning `None` after the end. A contract sees a walk as the list of the pairs
 /// that are left.
 #[derive(Drop)]
 pub struct Iter<'a, K, V> {
@@ -43,7 +43,7 @@ impl<'a, K, V> Model for Iter<'a, K, V> {
 }
 
 impl<'a, K, V> Iter<'a, K, V> {
-    /// The walk over no pair. It takes no memory.
+    /// The walk over no pair. It allocates nothing.
     pub(crate) fn empty(alloc: Global) -> Iter<'a, K, V>
         ensures { result ≡ [] }
     {
@@ -53,7 +53,7 @@ impl<'a, K, V> Iter<'a, K, V> {
         }
     }
 
-    /// The walk over the pairs at and below a node. All memory that it needs is taken here.
+    /// The walk over the pairs at and below a node. All memory that it needs is allocated here.
     pub(crate) fn over(alloc: Global, node: &'a TrieNode<K, V>) -> Result<Iter<'a, K, V>, Memory>
         requires { length (entries_at [] (tree_of node.now)) < 2 ^ 64 }
         ensures pairs { IfOk result (λ walk. walk ≡ pairs_in (tree_of node.now)) }

@@ -8,17 +8,17 @@ use radix_nodes::whole::compact::lay_anew;
 
 impl<K: TrieKey + Drop, V: Drop> Trie<K, V> {
     /// Lays the nodes anew in memory, in the order in which a walk comes to them. The map, the
-    /// counts and every answer stay the same.
+    /// counts stay the same, and so does what each call returns.
     ///
     /// A trie that was filled in any other order has its nodes scattered, so this is for a table
     /// that is read often and changed seldom. Later changes are as before: the nodes that they make
     /// lie wherever the allocator puts them, and the others stay. A node has no room for more
-    /// children than it has, so the first child that is added to it takes memory for all of them.
+    /// children than it has, so the first child that is added to it allocates room for all of them.
     ///
-    /// Its time is that of a walk over all nodes. While it runs, the trie takes memory for a second
+    /// Its time is that of a walk over all nodes. While it runs, the trie holds a second
     /// set of nodes with their lists of children, and gives the first set back at the end. Pairs
     /// stay in the boxes where they are, and so do the nibbles of a fragment of more than 32: no
-    /// key and no value is cloned. The trie without pairs takes no memory.
+    /// key and no value is cloned. The trie without pairs allocates nothing.
     ///
     /// # Errors
     ///

@@ -15,7 +15,7 @@ use radix_nodes::search::find::{LookUpCost, Searched, find_counted};
 use radix_nodes::trie_node::TrieNode;
 
 impl<K: TrieKey, V> Trie<K, V> {
-    /// The value that is stored at the key's encoding, as `get` answers it, and what the look-up
+    /// The value that is stored at the key's encoding, as `get` returns it, and what the look-up
     /// costs: how many nodes it visits, and how many nibbles of the encoding it compares.
     ///
     /// The stored encodings alone tell both. The nodes stand at the points that are prefixes of the
@@ -42,7 +42,7 @@ impl<K: TrieKey, V> Trie<K, V> {
         Ok((value_in(found), cost))
     }
 
-    /// The value that is stored at the key's encoding, as `get` answers it, and how many nibbles of
+    /// The value that is stored at the key's encoding, as `get` returns it, and how many nibbles of
     /// the encoding the search compared with nibbles of fragments. No nibble is compared twice.
     ///
     /// # Errors
@@ -59,9 +59,8 @@ impl<K: TrieKey, V> Trie<K, V> {
         Ok((found, cost.nibbles))
     }
 
-    /// The key and the value at the longest stored list that is a prefix of a list of nibbles, as
-    /// `nearest` answers it, and what that look-up costs: as much as that of the list itself, of which
-    /// `get_with_cost` tells. It takes no memory.
+    /// What `nearest` returns, and what that look-up costs: as much as that of the list itself, of
+    /// which `get_with_cost` tells. It allocates nothing.
     pub fn nearest_with_cost(&self, list: &Nibblet) -> (Option<(&K, &V)>, LookUpCost)
         ensures pair { IsPairAbove self.now list.now (option_map deref_pair result.0) }
         ensures nodes { IsVisited self.now list.now result.1.nodes }

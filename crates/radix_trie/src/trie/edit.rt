@@ -9,7 +9,7 @@ ghost use Rattle.radix_trie.specs.Refusals.{IsFullAt, RefusesInsert};
 use crate::error::{InsertError, InsertWhy};
 use crate::trie::Trie;
 use radix_keys::{Memory, Nibblet, TrieKey};
-use radix_nodes::insertion::insert::put;
+use radix_nodes::insertion::insert::insert;
 use radix_nodes::trie_node::KeyValue;
 use std::alloc::Global;
 
@@ -25,7 +25,7 @@ pub(crate) fn encoding_of<Q: TrieKey>(alloc: Global, key: &Q) -> Result<Nibblet,
     Ok(list)
 }
 
-/// The refusal that hands a pair back.
+/// The refusal that returns a pair.
 pub(crate) fn refused<K, V>(why: InsertWhy, pair: KeyValue<K, V>) -> InsertError<K, V>
     ensures why { result.why ≡ why }
     ensures key { result.key ≡ pair.key }
@@ -36,14 +36,14 @@ pub(crate) fn refused<K, V>(why: InsertWhy, pair: KeyValue<K, V>) -> InsertError
 }
 
 impl<K: TrieKey + Drop, V: Drop> Trie<K, V> {
-    /// Stores the pair at the key's encoding, and answers the value that was stored there. A stored
+    /// Stores the pair at the key's encoding, and returns the value that was stored there. A stored
     /// key is replaced by the new one too.
     ///
     /// # Errors
     ///
     /// In the order in which they are decided: memory for the encoding; `Full`, where `usize::MAX`
     /// pairs are stored and the encoding isn't among them; memory for the change, which a stored
-    /// encoding never takes. The trie is as before then, and the error holds the very key and
+    /// encoding never needs. The trie is as before then, and the error holds the very key and
     /// value.
     ///
     /// # Examples
@@ -91,7 +91,7 @@ impl<K: TrieKey + Drop, V: Drop> Trie<K, V> {
         if self.has_no_room_for(list) {
             return Err(refused(InsertWhy::Full, pair));
         }
-        let change = match put(&mut self.root, self.alloc, list, 0, pair) {
+        let change = match insert(&mut self.root, self.alloc, list, 0, pair) {
             Ok(change) => change,
             Err(pair) => return Err(refused(InsertWhy::Memory, pair)),
         };
@@ -126,7 +126,7 @@ impl<K: TrieKey + Drop, V: Drop> Trie<K, V> {
     /// Changes the value at the key's encoding by one call of the closure, or stores the default
     /// where there is none.
     ///
-    /// Where a value is stored, its key stays, and the key and the default that were handed in are
+    /// Where a value is stored, its key stays, and the key and the default that were passed are
     /// dropped. Where none is, the closure isn't called. The closure has to be callable on a stored
     /// value alone.
     ///

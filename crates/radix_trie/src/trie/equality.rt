@@ -13,12 +13,13 @@ use radix_keys::TrieKey;
 use radix_nodes::whole::same::same;
 
 /// Two tries are equal where they store the same encodings, and at each encoding equal values. Keys with one encoding
-/// aren't told apart. It walks the two trees side by side, and takes no memory.
+/// aren't told apart. It walks the two trees side by side, and allocates nothing.
 impl<K: TrieKey, V: PartialEq> PartialEq for Trie<K, V> {
     ghost eq = { same_maps V.eq };
 
     ghost laws = { maps_per V.eq V.laws };
 
+    /// Whether both store the same encodings, and equal values at each.
     fn eq(&self, other: &Trie<K, V>) -> bool
         ensures computed { result ≡ same_maps V.eq self.now other.now }
         ensures same { IsTrue result ↔ IsSame V.eq self.now other.now }

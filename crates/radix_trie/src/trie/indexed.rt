@@ -6,7 +6,7 @@ use crate::trie::Trie;
 use radix_keys::{Nibblet, TrieKey};
 use std::ops::Index;
 
-/// The value at a list of nibbles, at which a pair is stored. It takes no memory.
+/// The value at a list of nibbles, at which a pair is stored. It allocates nothing.
 impl<'l, K: TrieKey, V> Index<&'l Nibblet> for Trie<K, V> {
     type Output = V;
 

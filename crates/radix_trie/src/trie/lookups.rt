@@ -1,4 +1,4 @@
-//! Look-ups by a list of nibbles in hand. They take no memory, and none is refused.
+//! Look-ups by a list of nibbles in hand. They allocate nothing, and none is refused.
 ghost use Rattle.std.specs.Prelude.{◌≡◌, ◌↔◌, IsTrue, MatchOption, None, option_copied, option_map};
 ghost use Rattle.std.specs.FinMap as map;
 ghost use Rattle.nibble_map.specs.Maps.{IsStored, value_at};
@@ -25,7 +25,7 @@ impl<K: TrieKey, V> Trie<K, V> {
         }
     }
 
-    /// The value at a list of nibbles, if one is stored there. It takes no memory.
+    /// The value at a list of nibbles, if one is stored there. It allocates nothing.
     pub fn at(&self, list: &Nibblet) -> Option<&V>
         ensures value { option_copied result ≡ value_at self.now list.now }
     {
@@ -35,7 +35,7 @@ impl<K: TrieKey, V> Trie<K, V> {
         }
     }
 
-    /// Whether a pair is stored at a list of nibbles. It takes no memory.
+    /// Whether a pair is stored at a list of nibbles. It allocates nothing.
     pub fn contains(&self, list: &Nibblet) -> bool
         ensures stored { IsTrue result ↔ IsStored self.now list.now }
     {
@@ -50,14 +50,15 @@ impl<K: TrieKey, V> Trie<K, V> {
     }
 
     /// The key and the value at the longest stored list that is a prefix of a list of nibbles, or None where there is none.
-    /// It takes no memory.
+    /// It allocates nothing.
     pub fn nearest(&self, list: &Nibblet) -> Option<(&K, &V)>
         ensures pair { IsPairAbove self.now list.now (option_map deref_pair result) }
     {
         parts_of(self.pair_above(list))
     }
 
-    /// The value of that pair. It takes no memory.
+    /// The value at the longest stored list that is a prefix of a list of nibbles, or None where there is none. It allocates
+    /// nothing.
     pub fn nearest_value(&self, list: &Nibblet) -> Option<&V>
         ensures value { IsValueAbove self.now list.now (option_copied result) }
     {

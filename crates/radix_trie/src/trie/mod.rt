@@ -13,10 +13,10 @@ ghost use Rattle.radix_trie.specs.Walks.{deref_pair};
 
 use crate::iter::parts_of;
 use radix_keys::{Memory, Nibblet, TrieKey};
-use radix_nodes::whole::copied::copied;
 use radix_nodes::search::find::find;
 use radix_nodes::search::find_mut::value_at_mut;
 use radix_nodes::trie_node::{KeyValue, TrieNode};
+use radix_nodes::whole::copied::copied;
 use std::alloc::Global;
 use std::marker::Model;
 
@@ -28,8 +28,8 @@ pub(crate) mod edit;
 mod equality;
 mod indexed;
 mod integrity;
-mod lends;
 mod lookups;
+mod lookups_mut;
 mod opens;
 mod pages;
 mod pop;
@@ -73,7 +73,7 @@ impl<K: TrieKey, V> Model for Trie<K, V> {
 impl<K: TrieKey, V> Trie<K, V> {
     ghost use Rattle.radix_trie.specs.Roots.{IsRoot};
 
-    /// The empty trie. It takes no memory.
+    /// The empty trie. It allocates nothing.
     pub fn new(alloc: Global) -> Self
         ensures { result ≡ map.empty }
     {
@@ -172,7 +172,7 @@ impl<K: TrieKey, V> Trie<K, V> {
         Ok(self.contains(&list))
     }
 
-    /// The value at a list of nibbles, for writing, if one is stored there. It takes no memory.
+    /// The value at a list of nibbles, for writing, if one is stored there. It allocates nothing.
     pub fn at_mut(&mut self, list: &Nibblet) -> Option<&mut V>
         ensures* writes_back { sem 𝓛
             (lends_at K.row V.row K.TrieKey.own K.PartialEq.own self.entry list.now result) }

@@ -13,7 +13,7 @@ use radix_keys::{Memory, TrieKey};
 use radix_nodes::removal::pop::{End, pop_root};
 
 impl<K: TrieKey + Drop, V: Drop> Trie<K, V> {
-    /// Takes the pair with the first encoding away, in the order of walks, and answers it; None
+    /// Removes the pair with the first encoding, in the order of walks, and returns it; None
     /// where no pair is stored. No key is encoded.
     ///
     /// # Errors
@@ -33,7 +33,7 @@ impl<K: TrieKey + Drop, V: Drop> Trie<K, V> {
         self.pop(End::First)
     }
 
-    /// Takes the pair with the last encoding away, in the order of walks, and answers it; None
+    /// Removes the pair with the last encoding, in the order of walks, and returns it; None
     /// where no pair is stored. No key is encoded.
     ///
     /// # Errors

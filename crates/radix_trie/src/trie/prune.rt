@@ -10,11 +10,11 @@ use radix_keys::{Memory, Nibblet, TrieKey};
 use radix_nodes::removal::prune::{prune_all, prune_root};
 
 impl<K: TrieKey + Drop, V: Drop> Trie<K, V> {
-    /// Takes all pairs at and below the key's place away, and answers them in the order of their
+    /// Removes all pairs at and below the key's place, and returns them in the order of their
     /// encodings.
     ///
     /// The key needn't be stored, nor be a point. Where nothing stands there nothing changes, and
-    /// the answer is empty.
+    /// the list is empty.
     ///
     /// # Errors
     ///

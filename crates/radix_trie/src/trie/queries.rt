@@ -124,7 +124,7 @@ impl<K: TrieKey, V> Trie<K, V> {
     /// # Errors
     ///
     /// Memory for the encoding and the view's path is refused. That never comes where the key is
-    /// light and the answer is None or its path has at most 32 nibbles.
+    /// light and the result is None or its path has at most 32 nibbles.
     ///
     /// # Examples
     ///
@@ -164,7 +164,7 @@ impl<K: TrieKey, V> Trie<K, V> {
     }
 
     /// The walk over all pairs whose encodings are prefixes of the key's encoding, from the
-    /// shortest to the longest. Its `next` takes no memory.
+    /// shortest to the longest. Its `next` allocates nothing.
     ///
     /// # Errors
     ///

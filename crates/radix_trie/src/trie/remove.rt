@@ -7,10 +7,10 @@ ghost use Rattle.radix_trie.specs.Refusals.{JoinsAreShort};
 
 use crate::trie::Trie;
 use radix_keys::{Memory, Nibblet, TrieKey};
-use radix_nodes::removal::remove::take_root;
+use radix_nodes::removal::remove::remove_root;
 
 impl<K: TrieKey + Drop, V: Drop> Trie<K, V> {
-    /// Takes the pair at the key's encoding away, and answers its value. Where none is stored
+    /// Removes the pair at the key's encoding, and returns its value. Where none is stored
     /// there, nothing changes.
     ///
     /// # Errors
@@ -39,7 +39,7 @@ impl<K: TrieKey + Drop, V: Drop> Trie<K, V> {
         self.take_at(&list)
     }
 
-    /// Takes the pair at the key's encoding away, and answers the stored key and its value. Where
+    /// Removes the pair at the key's encoding, and returns the stored key and its value. Where
     /// none is stored there, nothing changes.
     ///
     /// # Errors
@@ -87,7 +87,7 @@ impl<K: TrieKey + Drop, V: Drop> Trie<K, V> {
         ensures short { ((e : List ℕ) → IsStored self.old e → IsShort e) → IsOk result }
         ensures joins { JoinsAreShort self.old list.now → IsOk result }
     {
-        match take_root(&mut self.root, list) {
+        match remove_root(&mut self.root, list) {
             Ok(Some(removed)) => {
                 self.length -= 1;
                 self.nodes -= removed.nodes as u128;
@@ -99,7 +99,7 @@ impl<K: TrieKey + Drop, V: Drop> Trie<K, V> {
         }
     }
 
-    /// Takes all pairs away. It takes no memory.
+    /// Removes all pairs. It allocates nothing.
     pub fn clear(&mut self)
         ensures empty { self.new ≡ map.empty }
     {

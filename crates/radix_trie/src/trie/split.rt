@@ -6,14 +6,14 @@ ghost use Rattle.nibble_map.specs.Maps.{below, without_below};
 use crate::trie::Trie;
 use crate::view::place::Place;
 use radix_keys::{Memory, Nibblet, TrieKey};
-use radix_nodes::removal::cut_branch::cut_branch;
 use radix_nodes::insertion::attach::make_upper;
-use radix_nodes::whole::size::measure;
+use radix_nodes::removal::cut_branch::cut_branch;
 use radix_nodes::removal::rooted::rooted;
+use radix_nodes::whole::size::measure;
 use std::mem;
 
 impl<K: TrieKey + Drop, V: Drop> Trie<K, V> {
-    /// Takes all pairs at and below the key's place away, and answers the trie that holds them.
+    /// Removes all pairs at and below the key's place, and returns the trie that holds them.
     ///
     /// The key needn't be stored, nor be a point. No pair is moved: the node is cut off with all
     /// that is below it. So the time grows with the depth and with how many nodes are cut off,

@@ -15,7 +15,7 @@ use crate::trie::edit::{encoding_of, refused};
 use radix_keys::{Nibblet, TrieKey};
 use radix_nodes::trie_node::KeyValue;
 
-/// The refusal that hands a pair back.
+/// The refusal that returns a pair.
 fn not_stored<K, V>(why: TryInsertWhy, pair: KeyValue<K, V>) -> TryInsertError<K, V>
     ensures why { result.why ≡ why }
     ensures key { result.key ≡ pair.key }
@@ -78,8 +78,8 @@ impl<K: TrieKey + Drop, V: Drop> Trie<K, V> {
         }
     }
 
-    /// The value at the key's encoding, for writing. Where none is stored there, the pair of the key
-    /// and the default is stored first; else the stored key stays, and these two are dropped.
+    /// The value at the key's encoding, for writing, where the default is stored first if nothing is.
+    /// If a pair is stored there, its key stays, and the key and the default are dropped.
     ///
     /// A caller learns from this call what the trie ends as. A stored encoding takes two ways down,
     /// and a new one three.

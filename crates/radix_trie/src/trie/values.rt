@@ -2,9 +2,8 @@
 ghost use Rattle.std.specs.Prelude.{◌≡◌, [], All, IsOk, OnErr, OnOk};
 ghost use Rattle.std.specs.Fn.{FnOnceReturnsAtMut, FnOnceTakesAtMut};
 ghost use Rattle.nibble_map.specs.Maps.{below, without_below};
-ghost use Rattle.radix_nodes.specs.Values.{LeavesValue, TakesPair};
 ghost use Rattle.radix_trie.specs.Keys.{IsKeyed};
-ghost use Rattle.radix_trie.specs.Values.{ChangesEachValue};
+ghost use Rattle.radix_trie.specs.Values.{ChangesEachPair, ChangesEachValue, LeavesAtPair, TakesPairAtMut};
 ghost use Rattle.radix_trie.specs.Views.{pairs_below};
 
 use crate::trie::Trie;
@@ -12,8 +11,52 @@ use radix_keys::{Memory, Nibblet, TrieKey};
 use radix_nodes::whole::values::{change_branch, change_values};
 
 impl<K: TrieKey, V> Trie<K, V> {
-    /// Changes each value by one call of the closure. The encodings and the keys stay, and no memory
-    /// is taken.
+    /// Changes each value by one call of the closure with the pair's key. The encodings and the keys
+    /// stay, and no memory is allocated.
+    ///
+    /// The closure has to be callable on each pair.
+    pub fn for_each_mut<F: Fn(&K, &mut V)>(&mut self, f: F)
+        requires callable { All (TakesPairAtMut F.Fn f) (pairs_below self.old []) }
+        ensures changed { ChangesEachPair (LeavesAtPair F.Fn f) self.old self.new }
+        ensures keyed { IsKeyed K.encoding K.is_value self.old
+            → IsKeyed K.encoding K.is_value self.new }
+    {
+        change_values(&mut self.root, &f);
+    }
+
+    /// Changes each value at and below the key's place by one call of the closure with the pair's
+    /// key. The encodings and the keys stay. The time is that of the way down and of the pairs below
+    /// it.
+    ///
+    /// The closure has to be callable on each of these pairs. The key needn't be stored, nor be a
+    /// point.
+    ///
+    /// # Errors
+    ///
+    /// Memory for the encoding is refused, which a light key never meets. The trie is as before
+    /// then.
+    pub fn for_each_mut_below<Q: TrieKey, F: Fn(&K, &mut V)>(
+        &mut self,
+        key: &Q,
+        f: F,
+    ) -> Result<(), Memory>
+        requires callable { All (TakesPairAtMut F.Fn f)
+            (pairs_below self.old (Q.encoding key.now)) }
+        ensures changed { OnOk result (ChangesEachPair (LeavesAtPair F.Fn f)
+            (below self.old (Q.encoding key.now)) (below self.new (Q.encoding key.now))) }
+        ensures elsewhere { without_below self.new (Q.encoding key.now)
+            ≡ without_below self.old (Q.encoding key.now) }
+        ensures unchanged { OnErr result (self.new ≡ self.old) }
+        ensures keyed { IsKeyed K.encoding K.is_value self.old
+            → IsKeyed K.encoding K.is_value self.new }
+        ensures light { Q.is_light key.now → IsOk result }
+    {
+        let list = key.encode(self.alloc)?;
+        self.change_below(&list, &f);
+        Ok(())
+    }
+
+    /// Changes each value by one call of the closure, as `for_each_mut` does.
     ///
     /// The closure has to be callable on each stored value.
     ///
@@ -27,19 +70,22 @@ impl<K: TrieKey, V> Trie<K, V> {
         ensures keyed { IsKeyed K.encoding K.is_value self.old
             → IsKeyed K.encoding K.is_value self.new }
     {
-        change_values(&mut self.root, &f);
+        self.for_each_mut(
+            |_: &K, value: &mut V|
+                requires { FnOnceTakesAtMut F.FnOnce f value.old }
+                ensures { FnOnceReturnsAtMut F.FnOnce f value.old tt value.new }
+            { f(value) },
+        );
     }
 
-    /// Changes each value at and below the key's place by one call of the closure. The encodings and
-    /// the keys stay. The time is that of the way down and of the pairs below it.
+    /// Changes each value at and below the key's place by one call of the closure, as
+    /// `for_each_mut_below` does.
     ///
-    /// The closure has to be callable on each of these values. The key needn't be stored, nor be a
-    /// point.
+    /// The closure has to be callable on each of these values.
     ///
     /// # Errors
     ///
-    /// Memory for the encoding is refused, which a light key never meets. The trie is as before
-    /// then.
+    /// Those of `for_each_mut_below`.
     pub fn for_each_value_mut_below<Q: TrieKey, F: Fn(&mut V)>(
         &mut self,
         key: &Q,
@@ -58,14 +104,14 @@ impl<K: TrieKey, V> Trie<K, V> {
         ensures light { Q.is_light key.now → IsOk result }
     {
         let list = key.encode(self.alloc)?;
-        self.change_below(&list, &f);
+        self.change_values_below(&list, &f);
         Ok(())
     }
 
-    /// What `for_each_value_mut_below` does, with the key's encoding in hand.
-    pub(crate) fn change_below<F: Fn(&mut V)>(&mut self, list: &Nibblet, f: &F)
-        requires callable { All (TakesPair F.Fn f.now) (pairs_below self.old list.now) }
-        ensures changed { ChangesEachValue (LeavesValue F.Fn f.now)
+    /// What `for_each_mut_below` does, with the key's encoding in hand.
+    pub(crate) fn change_below<F: Fn(&K, &mut V)>(&mut self, list: &Nibblet, f: &F)
+        requires callable { All (TakesPairAtMut F.Fn f.now) (pairs_below self.old list.now) }
+        ensures changed { ChangesEachPair (LeavesAtPair F.Fn f.now)
             (below self.old list.now) (below self.new list.now) }
         ensures elsewhere { without_below self.new list.now ≡ without_below self.old list.now }
     {
@@ -74,5 +120,22 @@ impl<K: TrieKey, V> Trie<K, V> {
         } else {
             change_branch(&mut self.root, list, 0, f);
         }
+    }
+
+    /// What `for_each_value_mut_below` does, with the key's encoding in hand.
+    pub(crate) fn change_values_below<F: Fn(&mut V)>(&mut self, list: &Nibblet, f: &F)
+        requires callable { All (λ p. FnOnceTakesAtMut F.FnOnce f.now p.1)
+            (pairs_below self.old list.now) }
+        ensures changed { ChangesEachValue (λ v w. FnOnceReturnsAtMut F.FnOnce f.now v tt w)
+            (below self.old list.now) (below self.new list.now) }
+        ensures elsewhere { without_below self.new list.now ≡ without_below self.old list.now }
+    {
+        let change = |_: &K, value: &mut V|
+            requires { FnOnceTakesAtMut F.FnOnce f.now value.old }
+            ensures { FnOnceReturnsAtMut F.FnOnce f.entry.now value.old tt value.new }
+        {
+            f(value);
+        };
+        self.change_below(list, &change);
     }
 }

@@ -21,7 +21,7 @@ impl<'a, K: TrieKey + Drop, V: Drop> SubTrieMut<'a, K, V> {
     ///
     /// In the order in which they are decided: memory for the encoding; `Outside`, where the view's
     /// path isn't a prefix of the encoding; `Full`, where `usize::MAX` pairs are stored and the
-    /// encoding isn't among them; memory for the change, which a stored encoding never takes. The
+    /// encoding isn't among them; memory for the change, which a stored encoding never needs. The
     /// trie is as before then, and the error holds the very key and value.
     pub fn insert(&mut self, key: K, value: V) -> Result<Option<V>, InsertError<K, V>>
         ensures same_view { SameView self.old self.new }

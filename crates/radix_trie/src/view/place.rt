@@ -17,8 +17,8 @@ use radix_keys::{Memory, Nibblet, TrieKey};
 use radix_nodes::fragments::joined;
 use radix_nodes::search::compare::compare;
 use radix_nodes::search::queries::shortest;
-use radix_nodes::whole::size::count_pairs;
 use radix_nodes::trie_node::{KeyValue, TrieNode, is_end};
+use radix_nodes::whole::size::count_pairs;
 use std::marker::Model;
 
 mod cursors;
@@ -157,7 +157,7 @@ impl<'a, 'p, K: TrieKey, V> Place<'a, 'p, K, V> {
         }
     }
 
-    /// The walk over the pairs at and below the path. All memory that it needs is taken here.
+    /// The walk over the pairs at and below the path. All memory that it needs is allocated here.
     pub(crate) fn iter(&self) -> Result<Iter<'a, K, V>, Memory>
         ensures walk { IfOk result (λ pairs. pairs ≡ pairs_below self.now.map self.now.path) }
         ensures keyed { Each (λ e. e.0 ≡ K.encoding e.1.0) (walk self.now.map self.now.path) }

@@ -7,7 +7,7 @@ use crate::view::subtrie_mut::SubTrieMut;
 use radix_keys::{Nibblet, TrieKey};
 use std::fmt;
 
-/// The map of the keys and values, in the order of a walk. It takes no memory, so no pair is left out for want of it; it
+/// The map of the keys and values, in the order of a walk. It allocates nothing, so no pair is left out for want of it; it
 /// goes down by recursion.
 impl<K: TrieKey + fmt::Debug, V: fmt::Debug> fmt::Debug for Trie<K, V> {
     fn fmt<W: fmt::Write>(&self, f: &mut fmt::Formatter<W>) -> fmt::Result {

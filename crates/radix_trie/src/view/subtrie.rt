@@ -1,13 +1,14 @@
 //! Views for reading.
-ghost use Rattle.std.specs.Prelude.{◌≡◌, ◌≢◌, ℕ, List, Err, IfOk, OnOk, IsOk, option_copied, option_map};
+ghost use Rattle.std.specs.Prelude.{◌≡◌, ◌≢◌, ℕ, List, Err, IfOk, IfSome, IsOk, MatchOption, OnOk, option_copied, option_map, take};
 ghost use Rattle.std.specs.FinMap as map;
 ghost use Rattle.nibble_map.specs.Lists.{Each, IsPrefix};
 ghost use Rattle.nibble_map.specs.MapQueries.{AreChildren, IsFragment, IsChild};
-ghost use Rattle.nibble_map.specs.Maps.{below, value_at};
+ghost use Rattle.nibble_map.specs.Maps.{IsPoint, below, value_at};
 ghost use Rattle.nibble_map.specs.Nibbles.{IsShort};
 ghost use Rattle.radix_nodes.specs.Nodes.{tree_of};
 ghost use Rattle.radix_nodes.specs.Pairs.{pair_of};
-ghost use Rattle.radix_trie.specs.Views.{paths_of};
+ghost use Rattle.radix_trie.specs.Views.{pairs_below, paths_of};
+ghost use Rattle.radix_trie.specs.Walks.{deref_pairs};
 
 use crate::error::{SubTrieError, SubTrieResult};
 use crate::iter::Children;
@@ -75,6 +76,24 @@ impl<'a, K: TrieKey, V> SubTrie<'a, K, V> {
         &self.path
     }
 
+    /// The key's encoding, where the path is a prefix of it.
+    fn inside<Q: TrieKey>(&self, key: &Q) -> Result<Nibblet, SubTrieError>
+        ensures list { IfOk result (λ list. list ≡ Q.encoding key.now) }
+        ensures inside { OnOk result (IsPrefix self.now.path (Q.encoding key.now)) }
+        ensures outside { result ≡ Err SubTrieError.Outside
+            → IsPrefix self.now.path (Q.encoding key.now) → ⊥ }
+        ensures light { Q.is_light key.now → result ≢ Err SubTrieError.Memory }
+    {
+        let Ok(list) = key.encode(self.trie.allocator()) else {
+            return Err(SubTrieError::Memory);
+        };
+        if begins(&self.path, &list) {
+            Ok(list)
+        } else {
+            Err(SubTrieError::Outside)
+        }
+    }
+
     /// The value that is stored at the key's encoding, if there is one.
     ///
     /// # Errors
@@ -89,12 +108,7 @@ impl<'a, K: TrieKey, V> SubTrie<'a, K, V> {
             → IsPrefix self.now.path (Q.encoding key.now) → ⊥ }
         ensures light { Q.is_light key.now → result ≢ Err SubTrieError.Memory }
     {
-        let Ok(list) = key.encode(self.trie.allocator()) else {
-            return Err(SubTrieError::Memory);
-        };
-        if !begins(&self.path, &list) {
-            return Err(SubTrieError::Outside);
-        }
+        let list = self.inside(key)?;
         match self.pair_at(&list) {
             Some(pair) => Ok(Some(&pair.value)),
             None => Ok(None),
@@ -112,6 +126,30 @@ impl<'a, K: TrieKey, V> SubTrie<'a, K, V> {
         }
     }
 
+    /// The view at the key's encoding, or None where no point stands there. It lives as long as
+    /// the trie's borrow.
+    ///
+    /// # Errors
+    ///
+    /// Those of `get`.
+    pub fn subtrie<Q: TrieKey>(&self, key: &Q) -> SubTrieResult<SubTrie<'a, K, V>>
+        ensures point { IfOk result
+            (λ o. MatchOption o (IsPoint self.now.map (Q.encoding key.now) → ⊥)
+            (λ _. IsPoint self.now.map (Q.encoding key.now))) }
+        ensures path { IfOk result (λ o. IfSome o (λ view. view.path ≡ Q.encoding key.now)) }
+        ensures same_map { IfOk result (λ o. IfSome o (λ view. view.map ≡ self.now.map)) }
+        ensures inside { OnOk result (IsPrefix self.now.path (Q.encoding key.now)) }
+        ensures outside { result ≡ Err SubTrieError.Outside
+            → IsPrefix self.now.path (Q.encoding key.now) → ⊥ }
+        ensures light { Q.is_light key.now → result ≢ Err SubTrieError.Memory }
+    {
+        let path = self.inside(key)?;
+        match self.trie.node_at(&path) {
+            Some(node) => Ok(Some(SubTrie::new(self.trie, node, path))),
+            None => Ok(None),
+        }
+    }
+
     /// The count of pairs at and below the key's place. They are counted, so the time grows with
     /// their number.
     ///
@@ -126,13 +164,36 @@ impl<'a, K: TrieKey, V> SubTrie<'a, K, V> {
             → IsPrefix self.now.path (Q.encoding key.now) → ⊥ }
         ensures light { Q.is_light key.now → result ≢ Err SubTrieError.Memory }
     {
-        let Ok(list) = key.encode(self.trie.allocator()) else {
-            return Err(SubTrieError::Memory);
-        };
-        if begins(&self.path, &list) {
-            Ok(Place::find(self.trie, &list).len())
-        } else {
-            Err(SubTrieError::Outside)
+        let list = self.inside(key)?;
+        Ok(Place::find(self.trie, &list).len())
+    }
+
+    /// The first pairs at and below the key's place, as `Trie::first_below` returns them. They live
+    /// as long as the trie's borrow.
+    ///
+    /// # Errors
+    ///
+    /// Those of `get`, and memory for the list of pairs.
+    pub fn first_below<Q: TrieKey>(
+        &self,
+        key: &Q,
+        most: usize,
+    ) -> Result<Vec<(&'a K, &'a V)>, SubTrieError>
+        ensures pairs { IfOk result (λ list. deref_pairs list.items
+            ≡ take most (pairs_below self.now.map (Q.encoding key.now))) }
+        ensures inside { OnOk result (IsPrefix self.now.path (Q.encoding key.now)) }
+        ensures outside { result ≡ Err SubTrieError.Outside
+            → IsPrefix self.now.path (Q.encoding key.now) → ⊥ }
+        ensures light_no_page { Q.is_light key.now → most ≡ 0
+            → result ≢ Err SubTrieError.Memory }
+        ensures light_none { Q.is_light key.now
+            → map.len (below self.now.map (Q.encoding key.now)) ≡ 0
+            → result ≢ Err SubTrieError.Memory }
+    {
+        let list = self.inside(key)?;
+        match Place::find(self.trie, &list).first_pairs(most) {
+            Ok(pairs) => Ok(pairs),
+            Err(_) => Err(SubTrieError::Memory),
         }
     }
 

@@ -14,7 +14,7 @@ use crate::view::place::Place;
 use crate::view::subtrie::SubTrie;
 use radix_keys::{Memory, Nibblet, TrieKey};
 
-/// What a trie and its views answer, by the map of the trie and a path in it. The path of a trie is the empty list.
+/// What a trie and its views return, by the map of the trie and a path in it. The path of a trie is the empty list.
 ///
 /// What comes from a trie or a view for reading lasts as long as the trie's borrow. `children` is a call of each of these
 /// types, and none of the trait.
@@ -25,7 +25,7 @@ pub trait TrieCommon<'a, K: TrieKey + 'a, V: 'a>: Sized {
     /// The path, a point of the map or not.
     ghost path: { Self → List ℕ };
 
-    /// What `prefix` answers: the fragment at the path; of a view for writing the fragment that it was made with.
+    /// What `prefix` returns: the fragment at the path; of a view for writing the fragment that it was made with.
     ghost is_prefix: { Self → List ℕ → Type 0 };
 
     /// The key that is stored at the path.
@@ -52,12 +52,12 @@ pub trait TrieCommon<'a, K: TrieKey + 'a, V: 'a>: Sized {
     /// The walk over the pairs at and below the path, in the order of their encodings, a prefix
     /// before its extensions.
     ///
-    /// All memory that the walk needs is taken here: its `next` takes none.
+    /// All memory that the walk needs is allocated here: its `next` allocates none.
     ///
     /// # Errors
     ///
     /// Memory for the walk is refused. It grows with the height below the path, and not with the
-    /// count of pairs, so none is taken where no pair is at or below the path.
+    /// count of pairs, so none is allocated where no pair is at or below the path.
     ///
     /// # Examples
     ///
@@ -94,7 +94,7 @@ pub trait TrieCommon<'a, K: TrieKey + 'a, V: 'a>: Sized {
     /// encodings are the key's or come after it, in their order. The key needn't be stored, nor lie
     /// below the path.
     ///
-    /// All memory that the walk needs is taken here: its `next` takes none.
+    /// All memory that the walk needs is allocated here: its `next` allocates none.
     ///
     /// # Errors
     ///
@@ -178,13 +178,13 @@ pub trait TrieCommon<'a, K: TrieKey + 'a, V: 'a>: Sized {
             → IsOk result };
 
     /// The key and the value of the first pair at and below the path, in the order of the encodings, if there is one. It
-    /// takes no memory.
+    /// allocates nothing.
     fn first_key_value(self) -> Option<(&'a K, &'a V)>
         ensures { option_map deref_pair result
             ≡ slice_get (pairs_below (map self) (path self)) 0 };
 
     /// The key and the value of the last pair at and below the path, in the order of the encodings, if there is one. It
-    /// takes no memory.
+    /// allocates nothing.
     fn last_key_value(self) -> Option<(&'a K, &'a V)>
         ensures { option_map deref_pair result
             ≡ slice_get (pairs_below (map self) (path self))

@@ -2,7 +2,7 @@
 ghost use Rattle.std.specs.Prelude.{◌≡◌, All};
 ghost use Rattle.std.specs.Fn.{FnOnceReturnsAtMut, FnOnceTakesAtMut};
 ghost use Rattle.nibble_map.specs.Maps.{below, without_below};
-ghost use Rattle.radix_trie.specs.Values.{ChangesEachValue};
+ghost use Rattle.radix_trie.specs.Values.{ChangesEachPair, ChangesEachValue, LeavesAtPair, TakesPairAtMut};
 ghost use Rattle.radix_trie.specs.Views.{pairs_below};
 ghost use Rattle.radix_trie.specs.WriteViews.{map_behind, path_of, SameView};
 
@@ -10,8 +10,24 @@ use crate::view::subtrie_mut::SubTrieMut;
 use radix_keys::TrieKey;
 
 impl<'a, K: TrieKey, V> SubTrieMut<'a, K, V> {
-    /// Changes each value at and below the path by one call of the closure, as
-    /// `Trie::for_each_value_mut_below` does. No memory is taken.
+    /// Changes each value at and below the path by one call of the closure with the pair's key, as
+    /// `Trie::for_each_mut_below` does. No memory is allocated.
+    ///
+    /// The closure has to be callable on each of these pairs.
+    pub fn for_each_mut<F: Fn(&K, &mut V)>(&mut self, f: F)
+        requires callable { All (TakesPairAtMut F.Fn f)
+            (pairs_below (map_behind self.old) (path_of self.old)) }
+        ensures same_view { SameView self.old self.new }
+        ensures changed { ChangesEachPair (LeavesAtPair F.Fn f)
+            (below (map_behind self.old) (path_of self.old))
+            (below (map_behind self.new) (path_of self.old)) }
+        ensures elsewhere { without_below (map_behind self.new) (path_of self.old)
+            ≡ without_below (map_behind self.old) (path_of self.old) }
+    {
+        self.trie.change_below(&self.path, &f);
+    }
+
+    /// Changes each value at and below the path by one call of the closure, as `for_each_mut` does.
     ///
     /// The closure has to be callable on each of these values.
     pub fn for_each_value_mut<F: Fn(&mut V)>(&mut self, f: F)
@@ -24,6 +40,6 @@ impl<'a, K: TrieKey, V> SubTrieMut<'a, K, V> {
         ensures elsewhere { without_below (map_behind self.new) (path_of self.old)
             ≡ without_below (map_behind self.old) (path_of self.old) }
     {
-        self.trie.change_below(&self.path, &f);
+        self.trie.change_values_below(&self.path, &f);
     }
 }

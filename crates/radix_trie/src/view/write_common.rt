@@ -12,8 +12,8 @@ use crate::view::subtrie_mut::{PathList, SubTrieMut};
 use crate::view::trie_common::TrieCommon;
 use radix_keys::{Memory, Nibblet, TrieKey};
 
-// The view is spent: its reference for writing becomes one for reading, so what is handed out lasts as long as the
-// trie's borrow. Where nothing is handed out, the trie is known to stay as it is (`kept`).
+// The view is spent: its reference for writing becomes one for reading, so what is returned lasts as long as the
+// trie's borrow. Where nothing is returned, the trie is known to stay as it is (`kept`).
 impl<'a, K: TrieKey, V, P: PathList> TrieCommon<'a, K, V> for SubTrieMut<'a, K, V, P> {
     ghost map = { map_behind };
 

@@ -3,6 +3,7 @@
 use crate::answer::Answer;
 use crate::call::Edit;
 use crate::calls::lines::{NO_KEY, NO_NUMBER, NONE, NOT_HERE, taken_line, taken_lines};
+use crate::calls::others::answer_others_below;
 use crate::keys::{Query, ShellKey};
 use radix_trie::{
     FindError, InsertError, InsertWhy, Memory, SubTrieError, SubTrieMut, Trie, TrieKey,
@@ -152,6 +153,7 @@ fn answer_at<K: ShellKey, Q: TrieKey>(
             }
             None => answer.line(NO_NUMBER),
         },
+        Edit::ForEachMutBelow => answer_others_below(trie, key, answer),
         Edit::RetainBelow => match answer.next_number() {
             Some(least) => {
                 trie.retain_below(key, |_, value| *value >= least)?;
@@ -163,12 +165,12 @@ fn answer_at<K: ShellKey, Q: TrieKey>(
     }
 }
 
-/// Writes the number of the next word where a value was lent. The answer is the old value.
+/// Writes the number of the next word where a value was found. The answer is the old value.
 fn written_or_absent(
     answer: &mut Answer<'_>,
-    lent: Result<&mut u64, FindError>,
+    found: Result<&mut u64, FindError>,
 ) -> Result<(), Memory> {
-    match lent {
+    match found {
         Ok(value) => written_or_none(answer, Some(value)),
         Err(FindError::Absent) => answer.line("absent"),
         Err(FindError::Memory) => Err(Memory),
@@ -270,8 +272,7 @@ fn answer_removal<K: ShellKey, Q: TrieKey>(
         Edit::Remove => inside_line(answer, view.remove(key)),
         Edit::RemovePrefix => match view.remove_prefix(key) {
             Ok(taken) => taken_lines(answer, taken.as_slice()),
-            Err(SubTrieError::Outside) => answer.line("outside"),
-            Err(SubTrieError::Memory) => Err(Memory),
+            Err(error) => outside_line(answer, error),
         },
         _ => answer.line(NOT_HERE),
     }
@@ -284,8 +285,7 @@ pub fn inside_line(
 ) -> Result<(), Memory> {
     match found {
         Ok(value) => answer.value_line(value),
-        Err(SubTrieError::Outside) => answer.line("outside"),
-        Err(SubTrieError::Memory) => Err(Memory),
+        Err(error) => outside_line(answer, error),
     }
 }
 
@@ -296,7 +296,14 @@ pub fn count_inside_line(
 ) -> Result<(), Memory> {
     match count {
         Ok(count) => answer.count_line(count),
-        Err(SubTrieError::Outside) => answer.line("outside"),
-        Err(SubTrieError::Memory) => Err(Memory),
+        Err(error) => outside_line(answer, error),
+    }
+}
+
+/// That the key is outside, or that memory was refused.
+pub fn outside_line(answer: &mut Answer<'_>, error: SubTrieError) -> Result<(), Memory> {
+    match error {
+        SubTrieError::Outside => answer.line("outside"),
+        SubTrieError::Memory => Err(Memory),
     }
 }

@@ -4,6 +4,7 @@ use crate::answer::Answer;
 use crate::call::Sweep;
 use crate::calls::edits::written_or_none;
 use crate::calls::lines::{NO_LIST, NO_NUMBER, taken_line, taken_lines};
+use crate::calls::others::answer_others;
 use crate::calls::runs::answer_run;
 use crate::keys::ShellKey;
 use radix_trie::{BuildError, InsertWhy, Memory, Nibblet, Trie};
@@ -35,6 +36,7 @@ pub fn answer_sweep<K: ShellKey>(
             }
             None => answer.line(NO_NUMBER),
         },
+        Sweep::ForEachMut => answer_others(trie, answer),
         Sweep::Retain => match answer.next_number() {
             Some(least) => {
                 trie.retain(|_, value| *value >= least)?;

@@ -4,8 +4,11 @@ use crate::answer::Answer;
 use crate::call::{Call, Common, Keyed, Sweep, View, Whole, call_of_name};
 use crate::caller::{Caller, make};
 use crate::calls::common::answer_common;
-use crate::calls::edits::{answer_edit_in_view, count_inside_line, inside_line, written_or_none};
-use crate::calls::lines::{NO_KEY, NO_NUMBER, NONE, NOT_HERE, child_lines};
+use crate::calls::edits::{
+    answer_edit_in_view, count_inside_line, inside_line, outside_line, written_or_none,
+};
+use crate::calls::lines::{NO_KEY, NO_NUMBER, NONE, NOT_HERE, child_lines, pair_lines, view_line};
+use crate::calls::others::answer_others_in_view;
 use crate::calls::tries::answer_trie;
 use crate::keys::{Query, ShellKey};
 use radix_trie::{Memory, Nibblet, OpenError, SubTrie, SubTrieError, SubTrieMut, Trie, TrieKey};
@@ -42,20 +45,59 @@ pub fn answer_in_view<K: ShellKey>(
     };
     match call {
         Call::Common(call) => answer_common(&view, call, answer),
-        Call::Keyed(Keyed::Get) => match answer.next_query::<K>()? {
-            Some(Query::Key(key)) => inside_line(answer, copied(view.get(&key))),
-            Some(Query::List(list)) => inside_line(answer, copied(view.get(&list))),
-            None => answer.line(NO_KEY),
-        },
-        Call::Keyed(Keyed::CountBelow) => match answer.next_query::<K>()? {
-            Some(Query::Key(key)) => count_inside_line(answer, view.count_below(&key)),
-            Some(Query::List(list)) => count_inside_line(answer, view.count_below(&list)),
-            None => answer.line(NO_KEY),
-        },
+        Call::Keyed(call) => answer_keyed_in_view(&view, call, answer),
         Call::Whole(Whole::Children) => child_lines(answer, view.children()?),
         Call::Whole(Whole::Debug) => answer.debug_line(&view),
         Call::View(View::Path) => answer.list_line(view.path()),
         _ => answer.line(NOT_HERE),
+    }
+}
+
+/// A look-up in a view for reading of what the next word writes.
+fn answer_keyed_in_view<K: ShellKey>(
+    view: &SubTrie<'_, K, u64>,
+    call: Keyed,
+    answer: &mut Answer<'_>,
+) -> Result<(), Memory> {
+    let (Keyed::Get | Keyed::CountBelow | Keyed::Subtrie | Keyed::FirstBelow) = call else {
+        return answer.line(NOT_HERE);
+    };
+    match answer.next_query::<K>()? {
+        Some(Query::Key(key)) => answer_at_in_view(view, &key, call, answer),
+        Some(Query::List(list)) => answer_at_in_view(view, &list, call, answer),
+        None => answer.line(NO_KEY),
+    }
+}
+
+/// A look-up in a view for reading at the key.
+fn answer_at_in_view<K: ShellKey, Q: TrieKey>(
+    view: &SubTrie<'_, K, u64>,
+    key: &Q,
+    call: Keyed,
+    answer: &mut Answer<'_>,
+) -> Result<(), Memory> {
+    match call {
+        Keyed::CountBelow => count_inside_line(answer, view.count_below(key)),
+        Keyed::Subtrie => match view.subtrie(key) {
+            Ok(found) => view_line(answer, found.as_ref()),
+            Err(error) => outside_line(answer, error),
+        },
+        Keyed::FirstBelow => match answer.next_number() {
+            Some(most) => first_inside_lines(answer, view.first_below(key, most as usize)),
+            None => answer.line(NO_NUMBER),
+        },
+        _ => inside_line(answer, copied(view.get(key))),
+    }
+}
+
+/// The first pairs, or that the key is outside.
+fn first_inside_lines<K: ShellKey>(
+    answer: &mut Answer<'_>,
+    found: Result<Vec<(&K, &u64)>, SubTrieError>,
+) -> Result<(), Memory> {
+    match found {
+        Ok(pairs) => pair_lines(answer, pairs.into_iter()),
+        Err(error) => outside_line(answer, error),
     }
 }
 
@@ -130,6 +172,7 @@ fn answer_through<K: ShellKey>(
             }
             None => answer.line(NO_NUMBER),
         },
+        Call::Sweep(Sweep::ForEachMut) => answer_others_in_view(view, answer),
         Call::Sweep(Sweep::Retain) => match answer.next_number() {
             Some(least) => {
                 view.retain(|_, value| *value >= least)?;

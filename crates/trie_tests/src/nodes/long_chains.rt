@@ -5,7 +5,7 @@ ghost use Rattle.radix_nodes.specs.Nodes.{tree_of};
 use radix_keys::{Memory, Nibblet};
 use radix_nodes::search::find::find;
 use radix_nodes::insertion::insert::put;
-use radix_nodes::removal::remove::take_root;
+use radix_nodes::removal::remove::remove_root;
 use radix_nodes::whole::size::height;
 use radix_nodes::trie_node::{KeyValue, TrieNode};
 use std::alloc::Global;
@@ -71,7 +71,7 @@ fn take_one(
     ensures { IsTreePlaced (tree_of root.new) }
 {
     let list = ones(alloc, key)?;
-    match take_root(root, &list)? {
+    match remove_root(root, &list)? {
         Some(taken) => {
             assert_eq!(rt; taken.pair.key, key);
             assert_eq!(rt; (taken.nodes, taken.nibbles), (1, nibbles));

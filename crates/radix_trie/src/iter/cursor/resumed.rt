@@ -34,7 +34,7 @@ impl<'a, K, V> Cursor<'a, K, V> {
     }
 }
 
-/// Puts the rows that come after a list on the stack, from the node down, and answers the pair at the list where it counts.
+/// Puts the rows that come after a list on the stack, from the node down, and returns the pair at the list where it counts.
 /// Memory is allocated for each row.
 fn add_later<'a, K, V>(
     stack: &mut Vec<&'a [Box<TrieNode<K, V>>]>,

@@ -10,14 +10,14 @@ ghost use Rattle.radix_trie.specs.Walks.{HasRowRoom, IsOnWay, beyond, first_pair
 use crate::iter::side::{Side, side_of};
 use crate::iter::walk::{Iter, push_row};
 use radix_keys::{Memory, Nibblet};
-use radix_nodes::whole::size::height;
 use radix_nodes::trie_node::mask::place;
 use radix_nodes::trie_node::{KeyValue, TrieNode};
+use radix_nodes::whole::size::height;
 use std::alloc::Global;
 
 impl<'a, K, V> Iter<'a, K, V> {
     /// The walk over the pairs at and below a node whose lists come after a list, or are it where `itself` says so. So many
-    /// nibbles of the list lie behind the node. All memory that the walk needs is taken here.
+    /// nibbles of the list lie behind the node. All memory that the walk needs is allocated here.
     pub(crate) fn resumed(
         alloc: Global,
         node: &'a TrieNode<K, V>,
@@ -43,7 +43,7 @@ impl<'a, K, V> Iter<'a, K, V> {
     }
 }
 
-/// Puts the rows that come after a list on the stack, from the node down, and answers the pair at the list where it counts.
+/// Puts the rows that come after a list on the stack, from the node down, and returns the pair at the list where it counts.
 fn push_later<'a, K, V>(
     stack: &mut Vec<&'a [Box<TrieNode<K, V>>]>,
     node: &'a TrieNode<K, V>,

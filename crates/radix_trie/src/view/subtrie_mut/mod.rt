@@ -70,6 +70,7 @@ impl PathList for Nibblet {
 }
 
 impl<K: TrieKey, V, P: Drop> Drop for SubTrieMut<'_, K, V, P> {
+    /// Ends the view: the trie stays as the view leaves it.
     fn drop(self)
         ensures { self.exit.0.now ≡ self.entry.trie.now }
     {
@@ -125,7 +126,7 @@ impl<'a, K: TrieKey, V> SubTrieMut<'a, K, V> {
         self.place().children()
     }
 
-    /// The views that `children` hands out, for as long as the trie's borrow. The view is spent.
+    /// The views that `children` returns, for as long as the trie's borrow. The view is spent.
     ///
     /// # Errors
     ///
@@ -142,7 +143,7 @@ impl<'a, K: TrieKey, V> SubTrieMut<'a, K, V> {
         Place::find(trie, &path).children()
     }
 
-    /// The value at the path, for writing, if one is stored there. It takes no memory.
+    /// The value at the path, for writing, if one is stored there. It allocates nothing.
     ///
     /// Once the value has been written, the view's map has it at the path, and all else is as before.
     pub fn value_mut(&mut self) -> Option<&mut V>

@@ -14,7 +14,7 @@ impl<'a, K: TrieKey, V, P: PathList> SubTrieMut<'a, K, V, P> {
     /// The reference to the trie that the view was made of, for as long as the trie's borrow. The view is spent, and
     /// the trie is as the view leaves it.
     ///
-    /// The calls of `TrieCommon` spend a view too, and hand out what lasts as long; but a caller of this one goes on
+    /// The calls of `TrieCommon` spend a view too, and return what lasts as long; but a caller of this one goes on
     /// knowing what the trie is.
     pub fn into_trie(self) -> &'a mut Trie<K, V>
         ensures same_reference { result.ghost_name ≡ lender_of self.entry }

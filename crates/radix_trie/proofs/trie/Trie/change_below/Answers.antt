@@ -1,12 +1,12 @@
-use Rattle.std.proofs.Common.{◌≡◌, ◌∙◌, [], All, ap, sym, subst}
+use Rattle.std.proofs.Common.{◌∙◌, [], All, ap, sym, subst}
 use Rattle.std.proofs.lemmas.List.{nil_from_length}
-use Rattle.nibble_map.specs.Copies.{IsMapCopy, IsPairClone}
+use Rattle.nibble_map.specs.Copies.{IsMapCopy}
 use Rattle.nibble_map.specs.Maps.{below, without_below}
 use Rattle.radix_nodes.specs.Nodes.{tree_of}
-use Rattle.radix_nodes.specs.Values.{LeavesValue, TakesPair}
 use Rattle.radix_trie.specs.Roots.{map_of}
+use Rattle.radix_trie.specs.Values.{LeavesAtPair, TakesPairAtMut}
 use Rattle.radix_trie.specs.Views.{pairs_below}
-use Rattle.radix_trie.proofs.ChangeLemmas.Branches.{changed_at, changed_kept, changed_map, changed_rest}
+use Rattle.radix_trie.proofs.ChangeLemmas.Branches.{ChangedPair, changed_at, changed_kept, changed_map, changed_rest}
 use Rattle.radix_trie.proofs.ChangeLemmas.Copies.{copy_kept, copy_map}
 use Rattle.radix_trie.proofs.ChangeLemmas.Prunings.{branch_at, pairs_in-branch, root_branch}
 use Rattle.radix_trie.proofs.PathLemmas.Places.{below-nil, without_below-nil}
@@ -17,16 +17,16 @@ change_values-requires g c =
     let root = c.self.inside.root in
     let nil = nil_from_length c.args.list.now (sym c.len.ensures ∙ c.if-len-eq0.true) in
     let all = pairs_in-branch g.K.TrieKey.encoding (tree_of root) _ _ _ c.self.invariant [] [] (tree_of root) (root_branch root c.self.invariant.top) in
-    record { callable = subst (All (TakesPair g.F.Fn c.args.f.now)) (ap (λ m. pairs_below m c.args.list.now) (sym c.self.view_is) ∙ ap (pairs_below (map_of (tree_of root))) nil ∙ sym all) c.requires.callable }
+    record { callable = subst (All (TakesPairAtMut g.F.Fn c.args.f.now)) (ap (λ m. pairs_below m c.args.list.now) (sym c.self.view_is) ∙ ap (pairs_below (map_of (tree_of root))) nil ∙ sym all) c.requires.callable }
 
 pub invariant_of-self : goal.invariant_of-self
-invariant_of-self g c = copy_kept g.K.TrieKey.encoding (λ x y. y ≡ x) (LeavesValue g.F.Fn c.args.f.now) (λ x y e. ap g.K.TrieKey.encoding e) _ _ _ _ _ c.self.invariant c.change_values.ensures
+invariant_of-self g c = copy_kept g.K.TrieKey.encoding (ChangedPair (LeavesAtPair g.F.Fn c.args.f.now)) (λ x y s. ap g.K.TrieKey.encoding s.0) _ _ _ _ _ c.self.invariant c.change_values.ensures
 
 pub change_branch-requires-clause-callable : goal.change_branch-requires-clause-callable
 change_branch-requires-clause-callable g c u s branch =
     let root = c.self.inside.root in
     let all = pairs_in-branch g.K.TrieKey.encoding (tree_of root) _ _ _ c.self.invariant c.args.list.now s u (branch_at root u c.args.list.now s c.self.invariant.top branch) in
-    subst (All (TakesPair g.F.Fn c.args.f.now)) (ap (λ m. pairs_below m c.args.list.now) (sym c.self.view_is) ∙ sym all) c.requires.callable
+    subst (All (TakesPairAtMut g.F.Fn c.args.f.now)) (ap (λ m. pairs_below m c.args.list.now) (sym c.self.view_is) ∙ sym all) c.requires.callable
 
 pub invariant_of-self-else-len-eq0 : goal.invariant_of-self-else-len-eq0
 invariant_of-self-else-len-eq0 g c =
@@ -39,8 +39,8 @@ returns-then-len-eq0-clause-changed g c =
     let old = map_of (tree_of c.self.inside.root) in
     let new = map_of (tree_of c.change_values.new.node) in
     let nil = nil_from_length c.args.list.now (sym c.len.ensures ∙ c.if-len-eq0.true) in
-    let S = IsPairClone (λ x y. y ≡ x) (LeavesValue g.F.Fn c.args.f.now) in
-    let copy = copy_map g.K.TrieKey.encoding (λ x y. y ≡ x) (LeavesValue g.F.Fn c.args.f.now) (λ x y e. ap g.K.TrieKey.encoding e) _ _ _ _ _ c.self.invariant c.change_values.ensures in
+    let S = ChangedPair (LeavesAtPair g.F.Fn c.args.f.now) in
+    let copy = copy_map g.K.TrieKey.encoding (ChangedPair (LeavesAtPair g.F.Fn c.args.f.now)) (λ x y s. ap g.K.TrieKey.encoding s.0) _ _ _ _ _ c.self.invariant c.change_values.ensures in
     rw (← c.self.view_is) (subst (λ p. IsMapCopy S (below old p) (below new p)) (sym nil)
     (subst (λ m. IsMapCopy S m (below new [])) (sym (below-nil old)) (subst (IsMapCopy S old) (sym (below-nil new)) copy)))
 

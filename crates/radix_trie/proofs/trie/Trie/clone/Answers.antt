@@ -1,5 +1,6 @@
 use Rattle.std.proofs.Common.{◌≡◌, ◌≤◌, ap, sym, ◌∙◌, arith, length}
 use Rattle.std.specs.FinMap as map
+use Rattle.nibble_map.specs.Copies.{IsPairClone}
 use Rattle.nibble_map.proofs.MapLemmas.SameTests.{anything_of_false}
 use Rattle.radix_nodes.specs.Nodes.{tree_of, fragment_of}
 use Rattle.radix_nodes.proofs.NodeLemmas.Nodes.{fragment-tree_of}
@@ -19,9 +20,9 @@ returns-in_err-copied-clause-light g c = λ nothing.
 
 pub invariant_of-result : goal.invariant_of-result
 invariant_of-result g c =
-    copy_kept g.K.TrieKey.encoding g.K.Clone.is_clone g.V.Clone.is_clone c.requires.same_encoding _ _ _ _ _ c.self.invariant c.in_ok-copied.ensures.copy
+    copy_kept g.K.TrieKey.encoding (IsPairClone g.K.Clone.is_clone g.V.Clone.is_clone) (λ x y s. c.requires.same_encoding x.0 y.0 s.0) _ _ _ _ _ c.self.invariant c.in_ok-copied.ensures.copy
 
 pub returns-clause-copy : goal.returns-clause-copy
 returns-clause-copy g c =
     rw (← c.self.view_is)
-    (copy_map g.K.TrieKey.encoding g.K.Clone.is_clone g.V.Clone.is_clone c.requires.same_encoding _ _ _ _ _ c.self.invariant c.in_ok-copied.ensures.copy)
+    (copy_map g.K.TrieKey.encoding (IsPairClone g.K.Clone.is_clone g.V.Clone.is_clone) (λ x y s. c.requires.same_encoding x.0 y.0 s.0) _ _ _ _ _ c.self.invariant c.in_ok-copied.ensures.copy)

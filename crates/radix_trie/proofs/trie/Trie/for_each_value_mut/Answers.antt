@@ -1,29 +1,10 @@
-use Rattle.std.proofs.Common.{◌≡◌, ◌∙◌, [], All, ap, sym, subst}
-use Rattle.radix_nodes.specs.Nodes.{tree_of}
-use Rattle.radix_nodes.specs.Values.{LeavesValue, TakesPair}
-use Rattle.radix_trie.specs.Views.{pairs_below}
-use Rattle.radix_trie.proofs.ChangeLemmas.Copies.{copy_kept, copy_map}
-use Rattle.radix_trie.proofs.ChangeLemmas.Keyed.{keyed_changed}
-use Rattle.radix_trie.proofs.ChangeLemmas.Prunings.{pairs_in-branch, root_branch}
+use Rattle.std.proofs.Common.{rules}
 use Rattle.radix_trie.proofs.trie.Trie.for_each_value_mut.Goals as goal
 
-pub change_values-requires : goal.change_values-requires
-change_values-requires g c =
-    let root = c.self.inside.root in
-    let all = pairs_in-branch g.K.TrieKey.encoding (tree_of root) _ _ _ c.self.invariant [] [] (tree_of root) (root_branch root c.self.invariant.top) in
-    record { callable = subst (All (TakesPair g.F.Fn c.args.f)) (ap (λ m. pairs_below m []) (sym c.self.view_is) ∙ sym all) c.requires.callable }
-
-pub invariant_of-self : goal.invariant_of-self
-invariant_of-self g c = copy_kept g.K.TrieKey.encoding (λ x y. y ≡ x) (LeavesValue g.F.Fn c.args.f) (λ x y e. ap g.K.TrieKey.encoding e) _ _ _ _ _ c.self.invariant c.change_values.ensures
-
-pub returns : goal.returns
-returns g c =
-    let copy = copy_map g.K.TrieKey.encoding (λ x y. y ≡ x) (LeavesValue g.F.Fn c.args.f) (λ x y e. ap g.K.TrieKey.encoding e) _ _ _ _ _ c.self.invariant c.change_values.ensures in
-    rw (← c.self.view_is) (record {
-      changed = record {
-        same_lists = copy.same_lists;
-        copied_pairs = λ e x y before after. (let r = copy.copied_pairs e x y before after in
-            (r.0, record { shown = r.1.shown; shows = r.1.shows; left = r.1.left; met = r.1.met; leaves = r.1.leaves }));
-      };
-      keyed = keyed_changed g.K.TrieKey.encoding g.K.TrieKey.is_value _ _ _ copy;
-    })
+pub returns-clause-changed : goal.returns-clause-changed
+returns-clause-changed g c =
+    let changed = c.for_each_mut.ensures.changed in record {
+      same_lists = changed.same_lists;
+      copied_pairs = λ e p q before after.
+          let r = changed.copied_pairs e p q before after in (r.0, (let met = r.1.met in let shows = r.1.shows in let leaves = r.1.leaves in search rules));
+    }

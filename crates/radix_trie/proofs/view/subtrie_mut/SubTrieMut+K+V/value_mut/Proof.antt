@@ -1,4 +1,4 @@
--- `value_mut` lends the value behind the view's reference, while the view's path is read. Assumes `Logic`.
+-- `value_mut` borrows the value behind the view's reference, while the view's path is read. Assumes `Logic`.
 use mathlib.Core.Path.{◌≡◌, refl}
 use Prim.Native.Nat.{ℕ}
 use mathlib.Core.List.{List, [], ◌∷◌}

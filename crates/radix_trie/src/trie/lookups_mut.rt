@@ -13,7 +13,7 @@ use radix_keys::{Memory, Nibblet, TrieKey};
 use radix_nodes::search::queries::deepest_pair;
 
 impl<K: TrieKey, V> Trie<K, V> {
-    /// The value at the empty list, for writing, if one is stored there. It takes no memory.
+    /// The value at the empty list, for writing, if one is stored there. It allocates nothing.
     pub fn value_mut(&mut self) -> Option<&mut V>
         ensures* writes_back { sem 𝓛
             (lends_at K.row V.row K.TrieKey.own K.PartialEq.own self.entry [] result) }
@@ -23,8 +23,8 @@ impl<K: TrieKey, V> Trie<K, V> {
         self.at_mut(&top)
     }
 
-    /// The value at the key's encoding, for writing. A caller learns from this call what the trie
-    /// ends as, which `get_mut` can't tell.
+    /// The value at the key's encoding, for writing, or that it is absent. A caller learns from this
+    /// call what the trie ends as, which `get_mut` can't tell.
     ///
     /// # Errors
     ///
@@ -50,8 +50,8 @@ impl<K: TrieKey, V> Trie<K, V> {
         }
     }
 
-    /// The value at the longest stored list that is a prefix of the key's encoding, for writing. A
-    /// caller learns from this call what the trie ends as.
+    /// The value at the longest stored list that is a prefix of the key's encoding, for writing, or
+    /// that there is none. A caller learns from this call what the trie ends as.
     ///
     /// # Errors
     ///

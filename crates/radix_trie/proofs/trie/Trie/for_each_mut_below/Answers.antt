@@ -1,0 +1,11 @@
+use Rattle.radix_trie.specs.Values.{LeavesAtPair}
+use Rattle.radix_trie.proofs.ChangeLemmas.Keyed.{keyed_changed_below}
+use Rattle.radix_trie.proofs.trie.Trie.for_each_mut_below.Goals as goal
+
+pub returns-clause-changed : goal.returns-clause-changed
+returns-clause-changed g c = rw (← c.in_ok-list.ensures.ok) c.change_below.ensures.changed
+
+pub returns-clause-keyed : goal.returns-clause-keyed
+returns-clause-keyed g c =
+    keyed_changed_below g.K.TrieKey.encoding g.K.TrieKey.is_value (LeavesAtPair g.F.Fn c.args.f) c.args.self.now c.change_below.new.self c.in_ok-list.list
+    c.change_below.ensures.changed c.change_below.ensures.elsewhere

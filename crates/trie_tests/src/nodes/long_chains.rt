@@ -3,11 +3,11 @@ ghost use Rattle.masked_tree.specs.Tree.{IsTreePlaced};
 ghost use Rattle.radix_nodes.specs.Nodes.{tree_of};
 
 use radix_keys::{Memory, Nibblet};
-use radix_nodes::search::find::find;
-use radix_nodes::insertion::insert::put;
+use radix_nodes::insertion::insert::insert;
 use radix_nodes::removal::remove::remove_root;
-use radix_nodes::whole::size::height;
+use radix_nodes::search::find::find;
 use radix_nodes::trie_node::{KeyValue, TrieNode};
+use radix_nodes::whole::size::height;
 use std::alloc::Global;
 use std::process::Abort;
 use std::test::Fail;
@@ -35,7 +35,7 @@ fn put_all(rt: &impl Abort, root: &mut Node, alloc: Global) -> Result<(), Memory
 {
     for key in 1..LONGEST + 1 {
         let list = ones(alloc, key)?;
-        match put(root, alloc, &list, 0, KeyValue { key, value: () }) {
+        match insert(root, alloc, &list, 0, KeyValue { key, value: () }) {
             Ok(change) => {
                 assert!(rt; change.was.is_none());
                 assert_eq!(rt; (change.nodes, change.nibbles), (1, 1));

@@ -116,7 +116,7 @@ def bare(name):
 
 
 def refused_calls():
-    """The public calls that answer a `Result`, each with its source. Of the crate of nodes users have the checker
+    """The public calls that return a `Result`, each with its source. Of the crate of nodes users have the checker
     alone."""
     of_nodes = [it for it in functions_of("radix_nodes") if it[0].endswith("/traversal/checker.rt")]
     for path, item in [*functions_of("radix_keys"), *of_nodes, *functions_of("radix_trie")]:

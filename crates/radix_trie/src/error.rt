@@ -97,6 +97,16 @@ pub enum JsonError {
     Float,
 }
 
+impl From<Memory> for SubTrieError {
+    ghost use Rattle.radix_trie.specs.declared.error.SubTrieError.TheVariants.{Memory as memory};
+
+    ghost from_gives = { λ _ e. e ≡ memory };
+
+    fn from(_e: Memory) -> SubTrieError {
+        SubTrieError::Memory
+    }
+}
+
 impl From<Memory> for JsonError {
     ghost use Rattle.radix_trie.specs.declared.error.JsonError.TheVariants.{Memory as memory};
 

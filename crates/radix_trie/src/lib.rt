@@ -42,3 +42,4 @@ pub use trie::Trie;
 pub use view::subtrie::SubTrie;
 pub use view::subtrie_mut::{PathList, SubTrieMut};
 pub use view::trie_common::TrieCommon;
+pub use view::trie_edit::TrieEdit;

@@ -50,7 +50,7 @@ impl<'a, K: TrieKey + Drop, V: Drop> SubTrieMut<'a, K, V> {
         self.trie.insert_at(&list, pair)
     }
 
-    /// Takes all pairs at and below the key's place away, as `Trie::remove_prefix` does.
+    /// Removes all pairs at and below the key's place, as `Trie::remove_prefix` does.
     ///
     /// # Errors
     ///
@@ -69,19 +69,11 @@ impl<'a, K: TrieKey + Drop, V: Drop> SubTrieMut<'a, K, V> {
             RefusesBelow (map_behind self.old) (Q.encoding key.now)
             (IsPrefix (path_of self.old) (Q.encoding key.now)) (Q.is_light key.now) e) }
     {
-        let Ok(list) = key.encode(self.trie.allocator()) else {
-            return Err(SubTrieError::Memory);
-        };
-        if !begins(&self.path, &list) {
-            return Err(SubTrieError::Outside);
-        }
-        match self.trie.prune_at(&list) {
-            Ok(gone) => Ok(gone),
-            Err(_) => Err(SubTrieError::Memory),
-        }
+        let list = self.inside(key)?;
+        Ok(self.trie.prune_at(&list)?)
     }
 
-    /// Takes the pair at the key's encoding away, as `Trie::remove` does.
+    /// Removes the pair at the key's encoding, as `Trie::remove` does.
     ///
     /// # Errors
     ///
@@ -100,12 +92,7 @@ impl<'a, K: TrieKey + Drop, V: Drop> SubTrieMut<'a, K, V> {
             RefusesRemove (map_behind self.old) (Q.encoding key.now)
             (IsPrefix (path_of self.old) (Q.encoding key.now)) (Q.is_light key.now) e) }
     {
-        let Ok(list) = key.encode(self.trie.allocator()) else {
-            return Err(SubTrieError::Memory);
-        };
-        if !begins(&self.path, &list) {
-            return Err(SubTrieError::Outside);
-        }
+        let list = self.inside(key)?;
         match self.trie.take_at(&list) {
             Ok(old) => Ok(old),
             Err(_) => Err(SubTrieError::Memory),

@@ -6,5 +6,6 @@ mod shown;
 pub(crate) mod subtrie;
 pub(crate) mod subtrie_mut;
 pub(crate) mod trie_common;
+pub(crate) mod trie_edit;
 mod values;
 mod write_common;

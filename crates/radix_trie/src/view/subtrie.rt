@@ -84,9 +84,7 @@ impl<'a, K: TrieKey, V> SubTrie<'a, K, V> {
             → IsPrefix self.now.path (Q.encoding key.now) → ⊥ }
         ensures light { Q.is_light key.now → result ≢ Err SubTrieError.Memory }
     {
-        let Ok(list) = key.encode(self.trie.allocator()) else {
-            return Err(SubTrieError::Memory);
-        };
+        let list = key.encode(self.trie.allocator())?;
         if begins(&self.path, &list) {
             Ok(list)
         } else {
@@ -191,10 +189,7 @@ impl<'a, K: TrieKey, V> SubTrie<'a, K, V> {
             → result ≢ Err SubTrieError.Memory }
     {
         let list = self.inside(key)?;
-        match Place::find(self.trie, &list).first_pairs(most) {
-            Ok(pairs) => Ok(pairs),
-            Err(_) => Err(SubTrieError::Memory),
-        }
+        Ok(Place::find(self.trie, &list).first_pairs(most)?)
     }
 
     /// For each nibble in rising order, the view at the shortest point that goes on from the path

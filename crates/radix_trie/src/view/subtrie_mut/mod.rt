@@ -163,6 +163,22 @@ impl<'a, K: TrieKey, V> SubTrieMut<'a, K, V> {
         self.prefix.clone()
     }
 
+    /// The key's encoding, where the path is a prefix of it.
+    pub(crate) fn inside<Q: TrieKey>(&self, key: &Q) -> Result<Nibblet, SubTrieError>
+        ensures list { IfOk result (λ list. list ≡ Q.encoding key.now) }
+        ensures inside { OnOk result (IsPrefix (path_of self.now) (Q.encoding key.now)) }
+        ensures outside { result ≡ Err SubTrieError.Outside
+            → IsPrefix (path_of self.now) (Q.encoding key.now) → ⊥ }
+        ensures light { Q.is_light key.now → result ≢ Err SubTrieError.Memory }
+    {
+        let list = key.encode(self.trie.allocator())?;
+        if begins(&self.path, &list) {
+            Ok(list)
+        } else {
+            Err(SubTrieError::Outside)
+        }
+    }
+
     /// The value that the trie holds at the key's encoding, if there is one.
     ///
     /// # Errors
@@ -178,12 +194,7 @@ impl<'a, K: TrieKey, V> SubTrieMut<'a, K, V> {
             → IsPrefix (path_of self.now) (Q.encoding key.now) → ⊥ }
         ensures light { Q.is_light key.now → result ≢ Err SubTrieError.Memory }
     {
-        let Ok(list) = key.encode(self.trie.allocator()) else {
-            return Err(SubTrieError::Memory);
-        };
-        if !begins(&self.path, &list) {
-            return Err(SubTrieError::Outside);
-        }
+        let list = self.inside(key)?;
         Ok(self.trie.at(&list))
     }
 
@@ -201,13 +212,7 @@ impl<'a, K: TrieKey, V> SubTrieMut<'a, K, V> {
             → IsPrefix (path_of self.now) (Q.encoding key.now) → ⊥ }
         ensures light { Q.is_light key.now → result ≢ Err SubTrieError.Memory }
     {
-        let Ok(list) = key.encode(self.trie.allocator()) else {
-            return Err(SubTrieError::Memory);
-        };
-        if begins(&self.path, &list) {
-            Ok(Place::find(self.trie, &list).len())
-        } else {
-            Err(SubTrieError::Outside)
-        }
+        let list = self.inside(key)?;
+        Ok(Place::find(self.trie, &list).len())
     }
 }

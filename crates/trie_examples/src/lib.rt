@@ -8,6 +8,8 @@ mod cited;
 #[cfg(test)]
 mod counters;
 #[cfg(test)]
+mod either;
+#[cfg(test)]
 mod first;
 #[cfg(test)]
 mod key_sets;

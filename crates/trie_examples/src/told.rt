@@ -130,6 +130,18 @@ fn one_more<K: TrieKey, Q: TrieKey>(
     Ok(counts.get(key)?.copied())
 }
 
+/// Sets each value to its key.
+fn key_for_each(numbers: &mut Trie<u64, u64>)
+    ensures { (e : List ℕ)
+        → map.get numbers.new e ≡ option_map (λ p. (p.0, p.0)) (map.get numbers.old e) }
+{
+    numbers.for_each_mut(
+        |key: &u64, value: &mut u64|
+            ensures { value.new ≡ key.now }
+        { *value = *key },
+    );
+}
+
 /// The encodings of two pairs of numbers: that of the pair with the smaller first number comes first, and where the first
 /// numbers are equal, that of the pair with the smaller second number.
 fn encoded(alloc: Global, x: (u8, u16), y: (u8, u16)) -> Result<(Nibblet, Nibblet), Memory>

@@ -1,6 +1,6 @@
 //! What ranges of keys are, in an order that the encodings keep.
 ghost use Rattle.std.specs.FinMap as map;
-ghost use Rattle.std.specs.Ordering.{is_le, is_lt};
+ghost use Rattle.std.specs.Ordering.{is_le};
 ghost use Rattle.std.specs.Prelude.{◌≡◌, ◌↔◌, AllPairs, Contains, ℕ, IsTrue, List, Some, map as each};
 ghost use Rattle.std.specs.declared.cmp.Ordering.{Ordering};
 ghost use Rattle.std.specs.declared.cmp.Ordering.TheVariants.{Less};
@@ -20,7 +20,7 @@ pub fn keys_of_ranges_rise<K: TrieKey, V>()
         → (a b : K) → K.is_value a → K.is_value b
         → (p : K × V) → Contains (pairs_between m (K.encoding a) (K.encoding b)) p
         ↔ ((map.get m (K.encoding p.0) ≡ Some p) × IsTrue (is_le (cmp a p.0))
-        × IsTrue (is_lt (cmp p.0 b))) }
+        × (cmp p.0 b ≡ Less)) }
     ensures through { (cmp : K → K → Ordering) → IsKeptOrder K.encoding K.is_value cmp
         → (m : PairMap K V) → IsKeyed K.encoding K.is_value m
         → (a b : K) → K.is_value a → K.is_value b

@@ -1,13 +1,12 @@
 -- The pairs of a walk up to an end are those of the map between two lists.
-use Rattle.std.proofs.Common.{◌≡◌, ◌≤◌, ◌↔◌, ℕ, Bool, true, false, cond, ◌&&◌, T, IsTrue, List, [], ◌∷◌, filter, length, map as each, Some, nat_cmp, is_le, is_lt, Less, Equal, Greater, Ordering, refl, sym, ap, ◌∙◌, subst}
+use Rattle.std.proofs.Common.{◌≡◌, ◌↔◌, ℕ, Bool, true, false, cond, ◌&&◌, T, IsTrue, List, [], ◌∷◌, filter, map as each, Some, nat_cmp, is_le, Less, Equal, Greater, Ordering, refl, sym, ap, ◌∙◌, subst}
 use Rattle.std.proofs.lemmas.Cmp.{nat_list_cmp_total}
-use Rattle.std.proofs.lemmas.List.Folds.{length-prefix_len}
-use Rattle.std.proofs.lemmas.List.Sums.{prefix_len-le-length, take_while-cons}
+use Rattle.std.proofs.lemmas.List.Sums.{take_while-cons}
 use Rattle.std.specs.Cmp.Lexicographic.{slice_cmp}
 use Rattle.std.specs.FinMap as map
 use Rattle.std.specs.FinMap.{is_sorted}
 use Rattle.std.specs.FinMap.Entries.{below_all}
-use Rattle.std.specs.List.{AllPairs, Contains, take_while}
+use Rattle.std.specs.List.{AllPairs, Contains}
 use Rattle.nibble_map.specs.Lists.{Each}
 use Rattle.nibble_map.specs.Maps.{PairMap}
 use Rattle.nibble_map.proofs.ListLemmas.Rising.{Each-from_has}
@@ -59,18 +58,6 @@ module _ (itself : Bool) (r : List ℕ) where
       by Greater same = passes-greater itself
 
 module _ {K V : Type 0} (enc : K → List ℕ) (itself : Bool) (r : List ℕ) where
-  -- of a pair that isn't past the end, the walk goes on behind it
-  pub pairs_to-kept : (p : K × V) (ps : List (K × V)) → comes_before itself r (enc p.0) ≡ true → pairs_to enc itself r (p ∷ ps) ≡ p ∷ pairs_to enc itself r ps
-  pairs_to-kept p ps is = take_while-cons (λ (q : K × V). comes_before itself r (enc q.0)) p ps ∙ ap (λ b. cond b (p ∷ pairs_to enc itself r ps) []) is
-
-  -- at a pair that is past the end the walk ends
-  pub pairs_to-past : (p : K × V) (ps : List (K × V)) → comes_before itself r (enc p.0) ≡ false → pairs_to enc itself r (p ∷ ps) ≡ []
-  pairs_to-past p ps is = take_while-cons (λ (q : K × V). comes_before itself r (enc q.0)) p ps ∙ ap (λ b. cond b (p ∷ pairs_to enc itself r ps) []) is
-
-  -- the pairs up to the end are no more than all
-  pub length-pairs_to : (ps : List (K × V)) → length (pairs_to enc itself r ps) ≤ length ps
-  length-pairs_to ps = subst (λ n. n ≤ length ps) (sym (length-prefix_len (λ (q : K × V). comes_before itself r (enc q.0)) ps)) (prefix_len-le-length (λ (q : K × V). comes_before itself r (enc q.0)) ps)
-
   -- behind a list that is past the end all lists are
   none_before : (q : List ℕ) (es : List (List ℕ × (K × V))) → T (below_all (slice_cmp nat_cmp) q es) → comes_before itself r q ≡ false → filter (λ e. comes_before itself r e.0) es ≡ []
   none_before q [] first past = refl

@@ -1,8 +1,7 @@
 use Rattle.std.proofs.Common.{◌≡◌, ◌∙◌, ap, false, true}
-use Rattle.std.proofs.lemmas.Result.{IfOk-weaker}
 use Rattle.trie_set.proofs.SetLemmas.{len-whole}
 use Rattle.trie_ranges.specs.Ranges.{pairs_to, pairs_within}
-use Rattle.trie_ranges.proofs.RangeLemmas.{length-pairs_to, pairs_to-from}
+use Rattle.trie_ranges.proofs.RangeLemmas.{pairs_to-from}
 use Rattle.trie_ranges.proofs.walk.Between.new.Goals as goal
 
 pub returns-in_err-rest-clause-light_none : goal.returns-in_err-rest-clause-light_none

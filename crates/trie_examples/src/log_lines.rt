@@ -11,21 +11,21 @@ use std::alloc::Global;
 use trie_ranges::{Between, between, between_inclusive, keys_of_ranges_rise};
 use trie_samples::{Texts, texts};
 
-/// The first lines that a walk has left, so many at most.
-fn first_lines<'a, V>(
+/// The first pairs that a walk has left, so many at most.
+fn first_pairs<'a, K: TrieKey, V>(
     alloc: Global,
-    lines: Between<'a, u64, V>,
+    walk: Between<'a, K, V>,
     most: usize,
-) -> Result<Vec<(&'a u64, &'a V)>, Memory>
-    ensures { IfOk result (λ page. deref_pairs page.items ≡ take most lines.entry) }
+) -> Result<Vec<(&'a K, &'a V)>, Memory>
+    ensures { IfOk result (λ page. deref_pairs page.items ≡ take most walk.entry) }
 {
-    let mut left = lines;
+    let mut left = walk;
     let mut page = Vec::new(alloc);
     while page.len() < most {
-        let Some(line) = left.next()? else {
+        let Some(pair) = left.next()? else {
             return Ok(page);
         };
-        page.push(line)?;
+        page.push(pair)?;
     }
     Ok(page)
 }
@@ -49,7 +49,7 @@ fn lines_between<'a, V>(
 {
     keys_of_ranges_rise::<u64, V>();
     numbers_keep_their_order();
-    first_lines(alloc, between(alloc, log, &from, &to)?, most)
+    first_pairs(alloc, between(alloc, log, &from, &to)?, most)
 }
 
 /// A log of four lines.
@@ -76,20 +76,16 @@ fn no_line_from_a_time_to_an_earlier_one(rt: HostRuntime) -> Result<(), TrieErro
     assert!(rt; lines_between(rt.alloc(), &log, 1_300, 1_200, 10)?.is_empty());
     assert!(rt; lines_between(rt.alloc(), &log, 1_300, 1_300, 10)?.is_empty());
     let none: Trie<u64, &'static str> = Trie::new(rt.alloc());
-    let mut walk = between(rt.alloc(), &none, &0u64, &70_000u64)?;
-    assert!(rt; walk.next()?.is_none() && walk.next()?.is_none());
+    assert!(rt; first_pairs(rt.alloc(), between(rt.alloc(), &none, &0u64, &9u64)?, 10)?.is_empty());
     Ok(())
 }
 
 #[test]
 fn last_line_too(rt: HostRuntime) -> Result<(), TrieError> {
     let log: Trie<u64, &'static str> = Trie::from_iter(rt.alloc(), LINES.iter().copied())?;
-    let mut walk = between_inclusive(rt.alloc(), &log, &1_300u64, &70_000u64)?;
-    assert!(rt; walk.next()? == Some((&1_300, &"asked")));
-    assert!(rt; walk.next()? == Some((&70_000, &"closed")));
-    assert!(rt; walk.next()?.is_none() && walk.next()?.is_none());
-    let mut walk = between_inclusive(rt.alloc(), &log, &1_300u64, &1_300u64)?;
-    assert!(rt; walk.next()? == Some((&1_300, &"asked")) && walk.next()?.is_none());
+    let walk = between_inclusive(rt.alloc(), &log, &1_300u64, &70_000u64)?;
+    let page = first_pairs(rt.alloc(), walk, 10)?;
+    assert!(rt; page.as_slice() == [(&1_300, &"asked"), (&70_000, &"closed")].as_slice());
     Ok(())
 }
 
@@ -100,11 +96,18 @@ fn words_from_a_prefix(rt: HostRuntime) -> Result<(), Memory> {
         rt.alloc(),
         &[("tea", 1), ("team", 3), ("ten", 2), ("te", 4)],
     )?;
+    let walk = between(rt.alloc(), &words, &"te", &"team")?;
+    let page = first_pairs(rt.alloc(), walk, 10)?;
+    assert!(rt; page.as_slice() == [(&"te", &4), (&"tea", &1)].as_slice());
+    Ok(())
+}
+
+/// After the end each further call returns None.
+#[test]
+fn ended_for_good(rt: HostRuntime) -> Result<(), Memory> {
+    let words: Texts = texts(rt.alloc(), &[("tea", 1), ("ten", 2)])?;
     let mut walk = between(rt.alloc(), &words, &"te", &"team")?;
-    assert!(rt; walk.next()? == Some((&"te", &4)));
-    assert!(rt; walk.next()? == Some((&"tea", &1)));
-    assert!(rt; walk.next()?.is_none());
-    let mut walk = between_inclusive(rt.alloc(), &words, &"teal", &"team")?;
-    assert!(rt; walk.next()? == Some((&"team", &3)) && walk.next()?.is_none());
+    assert!(rt; walk.next()?.is_some());
+    assert!(rt; walk.next()?.is_none() && walk.next()?.is_none());
     Ok(())
 }

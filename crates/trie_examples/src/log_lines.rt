@@ -30,8 +30,8 @@ fn first_pairs<'a, K: TrieKey, V>(
     Ok(page)
 }
 
-/// The first lines of a log from one time on and before another, so many at most, in the order of their times. Each time
-/// came in by insertion.
+/// The first lines of a log from one time on and before another, so many at most, in the order of
+/// their times. Each time came in by insertion.
 fn lines_between<'a, V>(
     alloc: Global,
     log: &'a Trie<u64, V>,

@@ -10,9 +10,10 @@ ghost use Rattle.trie_ranges.specs.Ranges.{pairs_between, pairs_through};
 
 use radix_trie::TrieKey;
 
-/// The pairs between two keys are those whose keys lie between them in each order that the encodings keep, and their keys
-/// rise in it, in each map in which every stored key is a value of its type and stands at its encoding. The laws
-/// `numbers_keep_their_order`, `signed_numbers_keep_their_order`, `texts_keep_their_order` and `parts_keep_their_order` of
+/// The pairs between two keys are those whose keys lie between them in each order that the
+/// encodings keep, and their keys rise in it, in each map in which every stored key is a value of
+/// its type and stands at its encoding. The laws `numbers_keep_their_order`,
+/// `signed_numbers_keep_their_order`, `texts_keep_their_order` and `parts_keep_their_order` of
 /// `radix_trie` name such orders.
 pub fn keys_of_ranges_rise<K: TrieKey, V>()
     ensures between { (cmp : K → K → Ordering) → IsKeptOrder K.encoding K.is_value cmp

@@ -7,16 +7,17 @@ use crate::walk::Between;
 use radix_trie::{Memory, Trie, TrieKey};
 use std::alloc::Global;
 
-/// The walk over the pairs from one key on and before another: those whose encodings are that of `from` or come after it, and
-/// come before that of `to`, in their order. Neither key needs to be stored, and each may be of another type than the stored
-/// keys. Where `from` comes after `to` or has its encoding, no pair is between them.
+/// The walk over the pairs from one key on and before another: those whose encodings are that of
+/// `from` or come after it, and come before that of `to`, in their order. Neither key needs to be
+/// stored, and each may be of another type than the stored keys. Where `from` comes after `to` or
+/// has its encoding, no pair is between them.
 ///
 /// It begins in the time of the way down to the encoding of `from`.
 ///
 /// # Errors
 ///
-/// Memory is refused, for the two encodings or for the rows of nodes on the way down. That never comes where both keys are
-/// light and no pair is stored.
+/// Memory is refused, for the two encodings or for the rows of nodes on the way down. That never
+/// comes where both keys are light and no pair is stored.
 ///
 /// # Examples
 ///

@@ -11,8 +11,8 @@ use std::marker::Model;
 
 /// A walk over the pairs of a trie between two keys: each once, in the order of the encodings.
 ///
-/// A step may be refused, since it may allocate. The same pairs are left then. A contract sees the walk as the list of the
-/// pairs that are left.
+/// A step may be refused, since it may allocate. The same pairs are left then. A contract sees the
+/// walk as the list of the pairs that are left.
 #[derive(Drop)]
 pub struct Between<'a, K: TrieKey, V> {
     /// The pair that was looked at, and comes before all that the cursor has left.
@@ -38,7 +38,8 @@ impl<'a, K: TrieKey, V> Model for Between<'a, K, V> {
 }
 
 impl<'a, K: TrieKey, V> Between<'a, K, V> {
-    /// The walk over the pairs from one key on and before another, or with the pair at the other too.
+    /// The walk over the pairs from one key on and before another, or with the pair at the other
+    /// too.
     pub(crate) fn new<Q: TrieKey, R: TrieKey>(
         alloc: Global,
         trie: &'a Trie<K, V>,
@@ -64,13 +65,14 @@ impl<'a, K: TrieKey, V> Between<'a, K, V> {
         })
     }
 
-    /// The next pair, in the order of the encodings, or None where none is left, and then at each further call. It takes time
-    /// up to the depth of the trie and the length of the pair's key.
+    /// The next pair, in the order of the encodings, or None where none is left, and then at each
+    /// further call. It takes time up to the depth of the trie and the length of the pair's key.
     ///
     /// # Errors
     ///
-    /// Memory is refused, for a row of nodes, or for the encoding of a key that isn't light: that of the pair, or of the first
-    /// pair past the end. Then the same pairs are left, and the next call goes on where this one stopped.
+    /// Memory is refused, for a row of nodes, or for the encoding of a key that isn't light: that
+    /// of the pair, or of the first pair past the end. Then the same pairs are left, and the next
+    /// call goes on where this one stopped.
     pub fn next(&mut self) -> Result<Option<(&'a K, &'a V)>, Memory>
         ensures pair { IfOk result (λ pair. option_map deref_pair pair ≡ slice_get self.old 0) }
         ensures rest { OnOk result (self.new ≡ drop 1 self.old) }

@@ -18,6 +18,8 @@ mod leases;
 #[cfg(test)]
 mod lists;
 #[cfg(test)]
+mod log_lines;
+#[cfg(test)]
 mod makers;
 #[cfg(test)]
 mod moves;

@@ -12,6 +12,7 @@ use Rattle.std.specs.Option.{ForSome}
 use Rattle.std.specs.Ordering.{eq_by_cmp}
 use Rattle.nibble_map.specs.Lists.{Each, Has, is_prefix}
 use Rattle.nibble_map.specs.Maps.{IsStored, NibbleMap, PairMap, below, walk}
+use Rattle.nibble_map.proofs.ListLemmas.Cut.{empty_of_length}
 use Rattle.nibble_map.proofs.ListLemmas.Sorted.{tied_lists_equal}
 use Rattle.nibble_map.proofs.MapLemmas.Below.{get-retained_lists}
 use Rattle.nibble_map.proofs.MapLemmas.Bridge.{entries-retain_keys}
@@ -193,6 +194,10 @@ module _ {P : Type 0} where
 
   none_stored : (m : NibbleMap P) → map.entries m ≡ [] → (e : List ℕ) → IsStored m e → ⊥
   none_stored m bare e h = let at = some_stored m e h in subst (λ es. Has es (e, at.0)) bare ((has_get m e at.0).1 at.1)
+
+  -- a map without a pair stores nothing
+  pub len_none_stored : (m : NibbleMap P) → map.len m ≡ 0 → (e : List ℕ) → IsStored m e → ⊥
+  len_none_stored m bare = none_stored m (empty_of_length (map.entries m) (sym (map.len-entries m) ∙ bare))
 
 module _ {K V : Type 0} where
   first_key : (es : List (List ℕ × (K × V))) → slice_get (each (λ e. e.1.0) es) 0 ≡ None → es ≡ []

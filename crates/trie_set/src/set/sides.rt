@@ -1,6 +1,6 @@
 //! Two sets side by side.
 ghost use Rattle.std.specs.FinMap as map;
-ghost use Rattle.std.specs.Prelude.{◌≡◌, ◌↔◌, ℕ, List, IsTrue, IsOk, IfOk};
+ghost use Rattle.std.specs.Prelude.{◌≡◌, ◌↔◌, ◌⊎◌, ℕ, List, IsTrue, IsOk, IfOk};
 ghost use Rattle.nibble_map.specs.Maps.{IsStored};
 ghost use Rattle.trie_set.specs.Sets.{common, joined, keys_in, lacking};
 
@@ -70,11 +70,15 @@ impl<K: TrieKey> TrieSet<K> {
     ///
     /// # Errors
     ///
-    /// Those of `difference` and of its `next`.
+    /// Those of `difference` and of its `next`. None comes where this set is empty.
     pub fn is_subset(&self, other: &TrieSet<K>) -> Result<bool, Memory>
-        ensures { IfOk result (λ is. IsTrue is
+        ensures subset { IfOk result (λ is. IsTrue is
             ↔ ((e : List ℕ) → IsStored self.now e → IsStored other.now e)) }
+        ensures none { map.len self.now ≡ 0 → IsOk result }
     {
+        if self.is_empty() {
+            return Ok(true);
+        }
         let mut missing = self.difference(other)?;
         Ok(missing.next()?.is_none())
     }
@@ -83,10 +87,11 @@ impl<K: TrieKey> TrieSet<K> {
     ///
     /// # Errors
     ///
-    /// Those of `is_subset`.
+    /// Those of `is_subset`. None comes where the other set is empty.
     pub fn is_superset(&self, other: &TrieSet<K>) -> Result<bool, Memory>
-        ensures { IfOk result (λ is. IsTrue is
+        ensures superset { IfOk result (λ is. IsTrue is
             ↔ ((e : List ℕ) → IsStored other.now e → IsStored self.now e)) }
+        ensures none { map.len other.now ≡ 0 → IsOk result }
     {
         other.is_subset(self)
     }
@@ -95,11 +100,15 @@ impl<K: TrieKey> TrieSet<K> {
     ///
     /// # Errors
     ///
-    /// Those of `intersection` and of its `next`.
+    /// Those of `intersection` and of its `next`. None comes where one of the sets is empty.
     pub fn is_disjoint(&self, other: &TrieSet<K>) -> Result<bool, Memory>
-        ensures { IfOk result (λ is. IsTrue is
+        ensures disjoint { IfOk result (λ is. IsTrue is
             ↔ ((e : List ℕ) → IsStored self.now e → IsStored other.now e → ⊥)) }
+        ensures none { (map.len self.now ≡ 0) ⊎ (map.len other.now ≡ 0) → IsOk result }
     {
+        if self.is_empty() || other.is_empty() {
+            return Ok(true);
+        }
         let mut shared = self.intersection(other)?;
         Ok(shared.next()?.is_none())
     }

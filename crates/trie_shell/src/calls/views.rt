@@ -82,20 +82,21 @@ fn answer_at_in_view<K: ShellKey, Q: TrieKey>(
             Ok(found) => view_line(answer, found.as_ref()),
             Err(error) => outside_line(answer, error),
         },
-        Keyed::FirstBelow => match answer.next_number() {
-            Some(most) => first_inside_lines(answer, view.first_below(key, most as usize)),
-            None => answer.line(NO_NUMBER),
-        },
+        Keyed::FirstBelow => answer_page_in_view(view, key, answer),
         _ => inside_line(answer, copied(view.get(key))),
     }
 }
 
-/// The first pairs, or that the key is outside.
-fn first_inside_lines<K: ShellKey>(
+/// A page of a view for reading, below the key.
+fn answer_page_in_view<K: ShellKey, Q: TrieKey>(
+    view: &SubTrie<'_, K, u64>,
+    key: &Q,
     answer: &mut Answer<'_>,
-    found: Result<Vec<(&K, &u64)>, SubTrieError>,
 ) -> Result<(), Memory> {
-    match found {
+    let Some(most) = answer.next_number() else {
+        return answer.line(NO_NUMBER);
+    };
+    match view.first_below(key, most as usize) {
         Ok(pairs) => pair_lines(answer, pairs.into_iter()),
         Err(error) => outside_line(answer, error),
     }

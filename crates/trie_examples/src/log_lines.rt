@@ -1,0 +1,113 @@
+//! The lines of a log between two times.
+ghost use Rattle.std.specs.Ordering.{nat_cmp};
+ghost use Rattle.std.specs.Prelude.{◌≡◌, ◌≤◌, ◌<◌, All, AllPairs, IfOk, map as each, take};
+ghost use Rattle.std.specs.declared.cmp.Ordering.TheVariants.{Less};
+ghost use Rattle.radix_trie.specs.Keys.{IsKeyed};
+ghost use Rattle.radix_trie.specs.Walks.{deref_pairs};
+ghost use Rattle.trie_ranges.specs.Ranges.{pairs_between};
+
+use radix_trie::{Memory, Trie, TrieError, TrieKey, numbers_keep_their_order};
+use std::alloc::Global;
+use trie_ranges::{Between, between, between_inclusive, keys_of_ranges_rise};
+use trie_samples::{Texts, texts};
+
+/// The first pairs that a walk has left, so many at most.
+fn first_pairs<'a, K: TrieKey, V>(
+    alloc: Global,
+    walk: Between<'a, K, V>,
+    most: usize,
+) -> Result<Vec<(&'a K, &'a V)>, Memory>
+    ensures { IfOk result (λ page. deref_pairs page.items ≡ take most walk.entry) }
+{
+    let mut left = walk;
+    let mut page = Vec::new(alloc);
+    while page.len() < most {
+        let Some(pair) = left.next()? else {
+            return Ok(page);
+        };
+        page.push(pair)?;
+    }
+    Ok(page)
+}
+
+/// The first lines of a log from one time on and before another, so many at most, in the order of
+/// their times. Each time came in by insertion.
+fn lines_between<'a, V>(
+    alloc: Global,
+    log: &'a Trie<u64, V>,
+    from: u64,
+    to: u64,
+    most: usize,
+) -> Result<Vec<(&'a u64, &'a V)>, Memory>
+    requires { IsKeyed ⟦<u64 as TrieKey>⟧.encoding ⟦<u64 as TrieKey>⟧.is_value log.now }
+    ensures page { IfOk result (λ page. deref_pairs page.items ≡ take most (pairs_between log.now
+        (⟦<u64 as TrieKey>⟧.encoding from) (⟦<u64 as TrieKey>⟧.encoding to))) }
+    ensures times { IfOk result (λ page. All (λ p. (from ≤ p.0) × (p.0 < to))
+        (deref_pairs page.items)) }
+    ensures rising { IfOk result (λ page. AllPairs (λ x y. nat_cmp x y ≡ Less)
+        (each (λ p. p.0) (deref_pairs page.items))) }
+{
+    keys_of_ranges_rise::<u64, V>();
+    numbers_keep_their_order();
+    first_pairs(alloc, between(alloc, log, &from, &to)?, most)
+}
+
+/// A log of four lines.
+const LINES: &'static [(u64, &'static str)] = &[
+    (1_200, "opened"),
+    (70_000, "closed"),
+    (1_300, "asked"),
+    (1_250, "read"),
+];
+
+#[test]
+fn lines_of_a_while(rt: HostRuntime) -> Result<(), TrieError> {
+    let log: Trie<u64, &'static str> = Trie::from_iter(rt.alloc(), LINES.iter().copied())?;
+    let page = lines_between(rt.alloc(), &log, 1_201, 70_000, 10)?;
+    assert!(rt; page.as_slice() == [(&1_250, &"read"), (&1_300, &"asked")].as_slice());
+    let page = lines_between(rt.alloc(), &log, 0, 70_001, 1)?;
+    assert!(rt; page.as_slice() == [(&1_200, &"opened")].as_slice());
+    Ok(())
+}
+
+#[test]
+fn no_line_from_a_time_to_an_earlier_one(rt: HostRuntime) -> Result<(), TrieError> {
+    let log: Trie<u64, &'static str> = Trie::from_iter(rt.alloc(), LINES.iter().copied())?;
+    assert!(rt; lines_between(rt.alloc(), &log, 1_300, 1_200, 10)?.is_empty());
+    assert!(rt; lines_between(rt.alloc(), &log, 1_300, 1_300, 10)?.is_empty());
+    let none: Trie<u64, &'static str> = Trie::new(rt.alloc());
+    assert!(rt; first_pairs(rt.alloc(), between(rt.alloc(), &none, &0u64, &9u64)?, 10)?.is_empty());
+    Ok(())
+}
+
+#[test]
+fn last_line_too(rt: HostRuntime) -> Result<(), TrieError> {
+    let log: Trie<u64, &'static str> = Trie::from_iter(rt.alloc(), LINES.iter().copied())?;
+    let walk = between_inclusive(rt.alloc(), &log, &1_300u64, &70_000u64)?;
+    let page = first_pairs(rt.alloc(), walk, 10)?;
+    assert!(rt; page.as_slice() == [(&1_300, &"asked"), (&70_000, &"closed")].as_slice());
+    Ok(())
+}
+
+/// A key comes before those that it is a prefix of.
+#[test]
+fn words_from_a_prefix(rt: HostRuntime) -> Result<(), Memory> {
+    let words: Texts = texts(
+        rt.alloc(),
+        &[("tea", 1), ("team", 3), ("ten", 2), ("te", 4)],
+    )?;
+    let walk = between(rt.alloc(), &words, &"te", &"team")?;
+    let page = first_pairs(rt.alloc(), walk, 10)?;
+    assert!(rt; page.as_slice() == [(&"te", &4), (&"tea", &1)].as_slice());
+    Ok(())
+}
+
+/// After the end each further call returns None.
+#[test]
+fn ended_for_good(rt: HostRuntime) -> Result<(), Memory> {
+    let words: Texts = texts(rt.alloc(), &[("tea", 1), ("ten", 2)])?;
+    let mut walk = between(rt.alloc(), &words, &"te", &"team")?;
+    assert!(rt; walk.next()?.is_some());
+    assert!(rt; walk.next()?.is_none() && walk.next()?.is_none());
+    Ok(())
+}

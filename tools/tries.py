@@ -222,6 +222,10 @@ def map_with_default(v, at, added, number):
     return "ok"
 
 
+def keys_at(pairs, lists):
+    return rows(key(pairs[it]) for it in sorted(lists))
+
+
 def for_each_value_mut(v, added, path=""):
     for at in starting(v.below, path):
         map_with_default(v, at, added, 0)
@@ -319,6 +323,8 @@ OF_TRIES = {
     "get_raw_descendant": ("Q", lambda v, at: v.trie.view(v.trie.point_below(at))),
     "common_prefixes": ("Q", lambda v, at: v.told(beginnings(v.trie.lists, at))),
     "first_after": ("QQN", lambda v, at, last, most: v.told([it for it in starting(v.trie.lists, at) if it > last][:most])),
+    "between": ("QQ", lambda v, at, end: v.told(it for it in v.trie.lists if at <= it < end)),
+    "between_inclusive": ("QQ", lambda v, at, end: v.told(it for it in v.trie.lists if at <= it <= end)),
     "at": ("L", lambda v, at: value(v.pairs.get(at))),
     "contains": ("L", lambda v, at: truth(at in v.pairs)),
     "nearest": ("L", lambda v, at: both(v.trie.above(at))),
@@ -356,7 +362,17 @@ IN_TRIES = {**COMMON, **OF_BOTH, **OF_READERS, **OF_WRITERS, **OF_TRIES}
 READ_FIRST = ("remove_entry", "map_with_default", "try_insert", "get_or_insert", "get_mut", "find_mut",
               "find_ancestor_mut", "for_each_value_mut_below", "for_each_mut_below", "retain_below")
 SPENT = ("spend", "into_children", "into_trie")
-NAMED = ("use", "tries", "==", "clone", "split_off_prefix")
+# Calls of the keys of two tries, a and b, by the lists that each stores: the keys, the first trie's where both have one.
+SIDES = {
+    "intersection": lambda a, b: keys_at(a, a.keys() & b.keys()),
+    "difference": lambda a, b: keys_at(a, a.keys() - b.keys()),
+    "union": lambda a, b: keys_at({**b, **a}, a.keys() | b.keys()),
+    "symmetric_difference": lambda a, b: keys_at({**b, **a}, a.keys() ^ b.keys()),
+    "is_subset": lambda a, b: truth(a.keys() <= b.keys()),
+    "is_superset": lambda a, b: truth(a.keys() >= b.keys()),
+    "is_disjoint": lambda a, b: truth(not a.keys() & b.keys()),
+}
+NAMED = ("use", "tries", "==", "clone", "split_off_prefix", *SIDES)
 # What these answer where no point stands at the key.
 OPENERS = {"open": "none", "open_mut": "closed", "subtrie_mut": "none"}
 WITHS = {"with": "closed", "with_subtrie_mut": "none"}
@@ -429,6 +445,8 @@ class Shell:
         if at is None:
             return NO["Q"]
         names, other = [it for it, _ in self.tries], next(words)
+        if name in SIDES:
+            return SIDES[name](self.trie.pairs, dict(self.tries)[other].pairs) if other in names else NO_TRIE
         if name == "==":
             return truth(dict(self.tries)[other].pairs == self.trie.pairs) if other in names else NO_TRIE
         if other not in names:

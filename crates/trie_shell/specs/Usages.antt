@@ -47,6 +47,8 @@ usages =
     (codes "check_integrity", 0, 0) ∷
     (codes "to_ascending", 0, 0) ∷
     (codes "matching", 1, 1) ∷
+    (codes "between", 2, 2) ∷
+    (codes "between_inclusive", 2, 2) ∷
     (codes "debug", 0, 0) ∷
     (codes "insert", 2, 2) ∷
     (codes "remove", 1, 1) ∷
@@ -78,6 +80,13 @@ usages =
     (codes "tries", 0, 0) ∷
     (codes "==", 1, 1) ∷
     (codes "clone", 1, 1) ∷
+    (codes "intersection", 1, 1) ∷
+    (codes "difference", 1, 1) ∷
+    (codes "union", 1, 1) ∷
+    (codes "symmetric_difference", 1, 1) ∷
+    (codes "is_subset", 1, 1) ∷
+    (codes "is_superset", 1, 1) ∷
+    (codes "is_disjoint", 1, 1) ∷
     (codes "split_off_prefix", 2, 2) ∷
     (codes "open", 1, 1) ∷
     (codes "open_mut", 1, 1) ∷

@@ -75,6 +75,8 @@ pub enum Whole {
     CheckIntegrity,
     ToAscending,
     Matching,
+    Between,
+    BetweenInclusive,
     Debug,
 }
 
@@ -122,6 +124,19 @@ pub enum Named {
     Equals,
     Clone,
     SplitOffPrefix,
+    Sides(Sides),
+}
+
+/// Calls of two sets of keys, those of the current trie and of another.
+#[derive(Clone, Copy)]
+pub enum Sides {
+    Intersection,
+    Difference,
+    Union,
+    SymmetricDifference,
+    IsSubset,
+    IsSuperset,
+    IsDisjoint,
 }
 
 /// What opens a view, asks where it stands, and leaves it.
@@ -241,6 +256,13 @@ pub const CALLS: &'static [Usage] = &[
     Usage("check_integrity", 0, 0, Call::Whole(Whole::CheckIntegrity)),
     Usage("to_ascending", 0, 0, Call::Whole(Whole::ToAscending)),
     Usage("matching", 1, 1, Call::Whole(Whole::Matching)),
+    Usage("between", 2, 2, Call::Whole(Whole::Between)),
+    Usage(
+        "between_inclusive",
+        2,
+        2,
+        Call::Whole(Whole::BetweenInclusive),
+    ),
     Usage("debug", 0, 0, Call::Whole(Whole::Debug)),
     Usage("insert", 2, 2, Call::Edit(Edit::Insert)),
     Usage("remove", 1, 1, Call::Edit(Edit::Remove)),
@@ -287,6 +309,43 @@ pub const CALLS: &'static [Usage] = &[
     Usage("tries", 0, 0, Call::Named(Named::Tries)),
     Usage("==", 1, 1, Call::Named(Named::Equals)),
     Usage("clone", 1, 1, Call::Named(Named::Clone)),
+    Usage(
+        "intersection",
+        1,
+        1,
+        Call::Named(Named::Sides(Sides::Intersection)),
+    ),
+    Usage(
+        "difference",
+        1,
+        1,
+        Call::Named(Named::Sides(Sides::Difference)),
+    ),
+    Usage("union", 1, 1, Call::Named(Named::Sides(Sides::Union))),
+    Usage(
+        "symmetric_difference",
+        1,
+        1,
+        Call::Named(Named::Sides(Sides::SymmetricDifference)),
+    ),
+    Usage(
+        "is_subset",
+        1,
+        1,
+        Call::Named(Named::Sides(Sides::IsSubset)),
+    ),
+    Usage(
+        "is_superset",
+        1,
+        1,
+        Call::Named(Named::Sides(Sides::IsSuperset)),
+    ),
+    Usage(
+        "is_disjoint",
+        1,
+        1,
+        Call::Named(Named::Sides(Sides::IsDisjoint)),
+    ),
     Usage("split_off_prefix", 2, 2, Call::Named(Named::SplitOffPrefix)),
     Usage("open", 1, 1, Call::View(View::Open)),
     Usage("open_mut", 1, 1, Call::View(View::OpenMut)),

@@ -73,6 +73,8 @@ get_ancestor_value KEY: the value of the longest stored prefix, or none.\n\
 get_raw_ancestor KEY: the view of the nearest point at or above the key.\n\
 get_raw_descendant KEY: the view of the nearest point at or below the key, or none.\n\
 to_ascending: the keys of the trie of ascending keys, each with the value that is found at it.\n\
+between FROM TO: the pairs from the key FROM on and before the key TO, or none.\n\
+between_inclusive FROM TO: the same, with that at the key TO.\n\
 matching KEY: the pairs of all filters that match the topic, where the keys are lists of parts; none.\n\
 debug: the trie or the view as a map, as a log has it.\n\
 open KEY: opens a view for reading. Its path and its value, or none.\n\
@@ -139,6 +141,13 @@ use NAME: makes the trie of this name the current one.\n\
 tries: the names of all tries, the current one first.\n\
 clone NAME: a copy of the current trie, under this name.\n\
 == NAME: true where the two tries are equal, else false.\n\
+intersection NAME: the keys that the trie of this name has too, or none.\n\
+difference NAME: the keys that it hasn't, or none.\n\
+union NAME: the keys of both tries, or none.\n\
+symmetric_difference NAME: the keys that one of the two has, or none.\n\
+is_subset NAME: true where it has all keys, else false.\n\
+is_superset NAME: true where all its keys are here, else false.\n\
+is_disjoint NAME: true where no key is in both, else false.\n\
 keys TYPE: begins with a trie of this type of keys: text, bytes, nibbles, u8, u16, u32, u64,\n\
 keys TYPE: u128, usize, i8, i16, i32, i64, i128, isize, bool, char, bits, ipv4, ipv6, parts.\n\
 save FILE CALL ..: writes what the call of a trie or a view answers to the file, anew; no file.\n\

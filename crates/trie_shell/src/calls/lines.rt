@@ -97,10 +97,16 @@ fn next_pair<'a, K: ShellKey>(
     if let Ok(pair) = cursor.next() {
         return Ok(pair);
     }
+    step_again(answer)?;
+    cursor.next()
+}
+
+/// Tells of a refused step that is made once more, where it is watched.
+pub fn step_again(answer: &mut Answer<'_>) -> Result<(), Memory> {
     if answer.is_watched() {
         answer.line("refused")?;
     }
-    cursor.next()
+    Ok(())
 }
 
 /// Says that there is none, where there is.

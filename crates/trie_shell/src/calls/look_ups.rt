@@ -5,6 +5,7 @@ use crate::call::{Keyed, Listed, Whole};
 use crate::calls::lines::{
     NO_KEY, NO_LIST, NO_NUMBER, NONE, child_lines, pair_line, pair_lines, view_line,
 };
+use crate::calls::ranges::answer_range;
 use crate::keys::{Query, ShellKey};
 use radix_trie::{Memory, Nibblet, Parts, Trie, TrieKey};
 use topic_filters::matching;
@@ -143,6 +144,8 @@ pub fn answer_whole<K: ShellKey>(
             Some(filters) => answer_matching(filters, answer),
             None => answer.line("no lists of parts"),
         },
+        Whole::Between => answer_range(trie, false, answer),
+        Whole::BetweenInclusive => answer_range(trie, true, answer),
         Whole::Debug => answer.debug_line(trie),
         Whole::CheckIntegrity => answer.truth_line(trie.check_integrity()?),
         Whole::Footprint => {

@@ -3,6 +3,7 @@
 use crate::answer::Answer;
 use crate::call::Named;
 use crate::calls::lines::NO_KEY;
+use crate::calls::sets::answer_sides;
 use crate::keys::{Query, ShellKey};
 use crate::store::{NamedTrie, Store};
 use radix_trie::{Memory, Trie};
@@ -37,12 +38,28 @@ impl<K: ShellKey> Store<K> {
             Named::Equals => self.answer_equals(answer),
             Named::Clone => self.answer_clone(answer),
             Named::SplitOffPrefix => self.answer_split(answer),
+            Named::Sides(call) => match self.named(answer.next_word().unwrap_or("")) {
+                Some(other) => answer_sides(&self.current.trie, other, call, answer),
+                None => answer.line(NO_TRIE),
+            },
         }
     }
 
     /// Where the other trie of this name stands.
     fn place_of(&self, name: &str) -> Option<usize> {
         self.others.iter().position(|other| other.name() == name)
+    }
+
+    /// The trie of this name, which may be the current one.
+    fn named(&self, name: &str) -> Option<&Trie<K, u64>> {
+        if let Some(place) = self.place_of(name) {
+            return Some(&self.others.as_slice().get(place)?.trie);
+        }
+        if self.current.name() == name {
+            Some(&self.current.trie)
+        } else {
+            None
+        }
     }
 
     /// Where the other trie of this name stands, after it was made where there was none. None: the
@@ -93,14 +110,8 @@ impl<K: ShellKey> Store<K> {
 
     /// Whether the current trie is equal to another.
     fn answer_equals(&self, answer: &mut Answer<'_>) -> Result<(), Memory> {
-        let name = answer.next_word().unwrap_or("");
-        let other = match self.place_of(name) {
-            Some(place) => self.others.as_slice().get(place),
-            None if self.current.name() == name => Some(&self.current),
-            None => None,
-        };
-        match other {
-            Some(other) => answer.truth_line(self.current.trie == other.trie),
+        match self.named(answer.next_word().unwrap_or("")) {
+            Some(other) => answer.truth_line(self.current.trie == *other),
             None => answer.line(NO_TRIE),
         }
     }

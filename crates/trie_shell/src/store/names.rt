@@ -1,7 +1,7 @@
 //! Tries by their names.
 
 use crate::answer::Answer;
-use crate::call::Named;
+use crate::call::{Named, Sides};
 use crate::calls::lines::NO_KEY;
 use crate::calls::sets::answer_sides;
 use crate::keys::{Query, ShellKey};
@@ -38,10 +38,7 @@ impl<K: ShellKey> Store<K> {
             Named::Equals => self.answer_equals(answer),
             Named::Clone => self.answer_clone(answer),
             Named::SplitOffPrefix => self.answer_split(answer),
-            Named::Sides(call) => match self.named(answer.next_word().unwrap_or("")) {
-                Some(other) => answer_sides(&self.current.trie, other, call, answer),
-                None => answer.line(NO_TRIE),
-            },
+            Named::Sides(call) => self.answer_beside(call, answer),
         }
     }
 
@@ -112,6 +109,14 @@ impl<K: ShellKey> Store<K> {
     fn answer_equals(&self, answer: &mut Answer<'_>) -> Result<(), Memory> {
         match self.named(answer.next_word().unwrap_or("")) {
             Some(other) => answer.truth_line(self.current.trie == *other),
+            None => answer.line(NO_TRIE),
+        }
+    }
+
+    /// A call of the keys of the current trie and of another.
+    fn answer_beside(&self, call: Sides, answer: &mut Answer<'_>) -> Result<(), Memory> {
+        match self.named(answer.next_word().unwrap_or("")) {
+            Some(other) => answer_sides(&self.current.trie, other, call, answer),
             None => answer.line(NO_TRIE),
         }
     }

@@ -8,7 +8,7 @@ ghost use Rattle.trie_ranges.specs.Ranges.{pairs_between};
 
 use radix_trie::{Memory, Trie, TrieError, TrieKey, numbers_keep_their_order};
 use std::alloc::Global;
-use trie_ranges::{Between, between, between_inclusive, keys_of_ranges_rise};
+use trie_ranges::{Between, between, keys_of_ranges_rise};
 use trie_samples::{Texts, texts};
 
 /// The first pairs that a walk has left, so many at most.
@@ -77,28 +77,6 @@ fn no_line_from_a_time_to_an_earlier_one(rt: HostRuntime) -> Result<(), TrieErro
     assert!(rt; lines_between(rt.alloc(), &log, 1_300, 1_300, 10)?.is_empty());
     let none: Trie<u64, &'static str> = Trie::new(rt.alloc());
     assert!(rt; first_pairs(rt.alloc(), between(rt.alloc(), &none, &0u64, &9u64)?, 10)?.is_empty());
-    Ok(())
-}
-
-#[test]
-fn last_line_too(rt: HostRuntime) -> Result<(), TrieError> {
-    let log: Trie<u64, &'static str> = Trie::from_iter(rt.alloc(), LINES.iter().copied())?;
-    let walk = between_inclusive(rt.alloc(), &log, &1_300u64, &70_000u64)?;
-    let page = first_pairs(rt.alloc(), walk, 10)?;
-    assert!(rt; page.as_slice() == [(&1_300, &"asked"), (&70_000, &"closed")].as_slice());
-    Ok(())
-}
-
-/// A key comes before those that it is a prefix of.
-#[test]
-fn words_from_a_prefix(rt: HostRuntime) -> Result<(), Memory> {
-    let words: Texts = texts(
-        rt.alloc(),
-        &[("tea", 1), ("team", 3), ("ten", 2), ("te", 4)],
-    )?;
-    let walk = between(rt.alloc(), &words, &"te", &"team")?;
-    let page = first_pairs(rt.alloc(), walk, 10)?;
-    assert!(rt; page.as_slice() == [(&"te", &4), (&"tea", &1)].as_slice());
     Ok(())
 }
 

@@ -2,6 +2,7 @@
 pub mod Parts
 pub mod Places
 pub mod Later
+pub mod Earlier
 pub mod NodesBelow
 pub mod Opened
 pub mod Above

@@ -11,3 +11,5 @@ pub mod LaterRows
 pub mod Ends
 pub mod FullRows
 pub mod Pages
+pub mod Back
+pub mod Earlier

@@ -70,3 +70,11 @@ module _ {K V : Type 0} where
   -- the same after q: of the lists that come after it in their order
   abbrev pub pairs_after : PairMap K V → List ℕ → List ℕ → List (K × V)
   pairs_after m p q = each (λ e. e.1) (filter (λ e. is_lt (slice_cmp nat_cmp q e.0)) (walk m p))
+
+  -- the pairs at and below a path up to q: of the lists that are q or come before it in their order
+  abbrev pub pairs_until : PairMap K V → List ℕ → List ℕ → List (K × V)
+  pairs_until m p q = each (λ e. e.1) (filter (λ e. is_le (slice_cmp nat_cmp e.0 q)) (walk m p))
+
+  -- the same before q: of the lists that come before it in their order
+  abbrev pub pairs_before : PairMap K V → List ℕ → List ℕ → List (K × V)
+  pairs_before m p q = each (λ e. e.1) (filter (λ e. is_lt (slice_cmp nat_cmp e.0 q)) (walk m p))

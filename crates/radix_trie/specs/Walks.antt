@@ -14,6 +14,7 @@ use Rattle.radix_nodes.specs.declared.trie_node.KeyValue.{KeyValue}
 use Rattle.radix_nodes.specs.declared.trie_node.TrieNode.{TrieNode}
 use Rattle.radix_nodes.specs.Nodes.{children_of, tree_of}
 use Rattle.radix_nodes.specs.Pairs.{own_pair, pair_of, pairs_in_all, pairs_of}
+use Rattle.radix_trie.specs.declared.iter.back.Rest.{Rest}
 use Rattle.radix_trie.specs.declared.iter.side.Side.{Side}
 use Rattle.radix_trie.specs.declared.iter.side.Side.TheVariants as side
 
@@ -32,6 +33,10 @@ passes itself order = cond itself (is_le order) (is_lt order)
 -- whether e comes after q, or is q where `itself` says so
 abbrev pub comes_after : Bool → List ℕ → List ℕ → Bool
 comes_after itself q e = passes itself (slice_cmp nat_cmp q e)
+
+-- whether e comes before q, or is q where `itself` says so
+abbrev pub comes_before : Bool → List ℕ → List ℕ → Bool
+comes_before itself q e = passes itself (slice_cmp nat_cmp e q)
 
 -- where the lists that f begins stand beside what is left of a list behind `depth` nibbles
 abbrev pub StandsBeside : List ℕ → List ℕ → ℕ → Side → Type 0
@@ -57,6 +62,19 @@ module _ {K V : Type 0} where
   pending [] = []
   pending (r ∷ rs) = pending rs ++ pairs_in_all r
 
+  -- what a walk from the last pair has left of a node, in the order of the encodings
+  abbrev pub left_of : Rest K V → List (K × V)
+  left_of r = first_pair r.own ++ pairs_in_all (children_of r.row.now)
+
+  -- the same of nodes, each above the next one
+  abbrev pub left_in : List (Rest K V) → List (K × V)
+  left_in [] = []
+  left_in (r ∷ rs) = left_of r ++ left_in rs
+
+  -- their rows
+  abbrev pub left_rows : List (Rest K V) → List (Children (KeyValue K V))
+  left_rows rs = map (λ r. children_of r.row.now) rs
+
   -- the pairs of the entries whose lists pass a test
   abbrev pub pairs_where : (List ℕ → Bool) → List (List ℕ × KeyValue K V) → List (K × V)
   pairs_where test es = pairs_of (filter (λ e. test e.0) es)
@@ -74,6 +92,24 @@ module _ {K V : Type 0} where
   abbrev pub beyond : Bool → List ℕ → Option (Bor (TrieNode K V) × ℕ) → List (K × V)
   beyond itself list None = []
   beyond itself list (Some r) = later_pairs itself (drop r.1 list) (tree_of r.0.now)
+
+  -- the pairs at and below a node whose lists behind it come before a list, or are it
+  abbrev pub earlier_pairs : Bool → List ℕ → Tree (KeyValue K V) → List (K × V)
+  earlier_pairs itself list t =
+      pairs_where (comes_before itself list) (entry [] t.pair ++ entries_in [] t.children)
+
+  -- the same of the node that a list goes on to, which has so many of its nibbles behind it
+  abbrev pub ahead : Bool → List ℕ → Option (Bor (TrieNode K V) × ℕ) → List (K × V)
+  ahead itself list None = []
+  ahead itself list (Some r) = earlier_pairs itself (drop r.1 list) (tree_of r.0.now)
+
+  -- the boxes end with the later ones, and before these with the box of the node that a list goes
+  -- on to, if there is one
+  abbrev pub AreParted : List (Box (TrieNode K V) Global) → Option (Bor (TrieNode K V) × ℕ)
+      → List (Box (TrieNode K V) Global) → Type 0
+  AreParted bs None later = (front : List (Box (TrieNode K V) Global)) × (bs ≡ front ++ later)
+  AreParted bs (Some r) later = (front : List (Box (TrieNode K V) Global))
+      × (b : Box (TrieNode K V) Global) × (bs ≡ front ++ b ∷ later) × (b.value ≡ r.0.now)
 
   -- the pairs that are left on the way down to a list: those of the next node and of the nodes
   -- below whose paths are prefixes of it; so many of its nibbles lie behind that node

@@ -1,5 +1,5 @@
--- The pairs at and below a path that come after a list, by the node that is nearest to the path.
-use Rattle.std.proofs.Common.{◌≡◌, ℕ, Bool, List, [], ◌++◌, map, filter, drop, Option, Some, None, ap, sym, ◌∙◌, arith, Bor}
+-- The pairs at and below a path whose lists pass a test, as those that come after a list, by the node that is nearest to the path.
+use Rattle.std.proofs.Common.{◌≡◌, ℕ, Bool, true, false, List, [], ◌++◌, map, filter, drop, Option, Some, None, ap, sym, ◌∙◌, arith, Bor}
 use Rattle.std.proofs.lemmas.List.{length-map}
 use Rattle.std.proofs.lemmas.Simd.{map-map}
 use Rattle.std.specs.Cmp.Lexicographic.{slice_cmp}
@@ -22,7 +22,7 @@ use Rattle.radix_trie.proofs.PathLemmas.NodesBelow.{filter-map, walk-no_path, wa
 use Rattle.radix_trie.proofs.PathLemmas.Places.{length-filter_le, nearest_found, no_path_found}
 use Rattle.radix_trie.proofs.RootLemmas.Shown.{row_of}
 use Rattle.radix_trie.proofs.WalkLemmas.Resumed.{on_path}
-use Rattle.radix_trie.proofs.WalkLemmas.Tested.{where_gone, where_kept}
+use Rattle.radix_trie.proofs.WalkLemmas.Tested.{where_behind, where_gone, where_kept}
 
 -- where nothing is stored at or below a path, there are no pairs after a list
 pub no_pairs_after : {K V : Type 0} (m : PairMap K V) (p q : List ℕ) → fin.len (below m p) ≡ 0 → pairs_after m p q ≡ []
@@ -31,44 +31,71 @@ no_pairs_after {K} {V} m p q unstored =
     let few = length-filter_le later (walk m p) in
     empty_of_length (pairs_after m p q) (omega (arith, length-map (filter later (walk m p)) (λ e. e.1), few, fin.len-entries (below m p), unstored))
 
-module _ {K V : Type 0} (enc : K → List ℕ) (m : PairMap K V) (p : List ℕ) (found : Option (Bor (TrieNode K V) × ℕ)) (place : IsPlace enc m p found) (itself : Bool) (list : List ℕ) where
-  -- the map's pairs at and below p that come after the list
-  abbrev after_list : List (K × V)
-  after_list = map (λ e. e.1) (filter (λ e. comes_after itself list e.0) (walk m p))
+-- the pairs of the rows of entries whose lists pass a test
+pub pairs_of-rows : {K V : Type 0} (test : List ℕ → Bool) (es : List (List ℕ × KeyValue K V)) → map (λ e. e.1) (filter (λ e. test e.0) (map row_of es)) ≡ pairs_where test es
+pairs_of-rows {K} {V} test es =
+    ap (map (λ e. e.1)) (filter-map (λ (e : List ℕ × (K × V)). test e.0) row_of es)
+    ∙ map-map (λ e. e.1) row_of (filter (λ (e : List ℕ × KeyValue K V). test e.0) es)
 
-  -- where nothing was found for p, none come after the list
-  pub nothing_found-later : found ≡ None → [] ≡ after_list
-  nothing_found-later e =
-      sym (ap (λ es. map (λ e. e.1) (filter (λ e. comes_after itself list e.0) es)) (walk-no_path enc m place.0 place.1 p (no_path_found enc m p found place e)))
+module _ {K V : Type 0} (enc : K → List ℕ) (m : PairMap K V) (p : List ℕ) (found : Option (Bor (TrieNode K V) × ℕ)) (place : IsPlace enc m p found) where
+  -- the map's pairs at and below p whose lists pass a test
+  abbrev pub passing : (List ℕ → Bool) → List (K × V)
+  passing test = map (λ e. e.1) (filter (λ e. test e.0) (walk m p))
+
+  -- where nothing was found for p, none pass
+  pub nothing_found-passing : (test : List ℕ → Bool) → found ≡ None → [] ≡ passing test
+  nothing_found-passing test e =
+      sym (ap (λ es. map (λ e. e.1) (filter (λ e. test e.0) es)) (walk-no_path enc m place.0 place.1 p (no_path_found enc m p found place e)))
 
   module _ (r : Bor (TrieNode K V)) (n : ℕ) (is : found ≡ Some (r, n)) where
     -- the found node's path
-    abbrev whole : List ℕ
+    abbrev pub whole : List ℕ
     whole = p ++ drop n (fragment_of r.now)
 
     whole_path : whole ≡ p ++ drop n (tree_of r.now).fragment
     whole_path = ap (λ f. p ++ drop n f) (sym (fragment-tree_of r.now))
 
-    -- of the entries at and below the found node, those are left that come after the list
-    at_node : pairs_where (comes_after itself list) (entry whole (tree_of r.now).pair ++ entries_in whole (tree_of r.now).children) ≡ after_list
-    at_node =
+    -- of the entries at and below the found node, those are left that pass
+    at_node : (test : List ℕ → Bool) → pairs_where test (entry whole (tree_of r.now).pair ++ entries_in whole (tree_of r.now).children) ≡ passing test
+    at_node test =
         let u = tree_of r.now in
         let x = p ++ drop n u.fragment in
-        let es = entry x u.pair ++ entries_in x u.children in
         let near = nearest_found enc m p found place r n is in
-        ap (λ y. pairs_where (comes_after itself list) (entry y u.pair ++ entries_in y u.children)) whole_path
-        ∙ sym (ap (λ rows. map (λ e. e.1) (filter (λ e. comes_after itself list e.0) rows)) (walk-node enc m place.0 place.1 p x u near.node near.shortest)
-        ∙ ap (map (λ e. e.1)) (filter-map (λ (e : List ℕ × (K × V)). comes_after itself list e.0) row_of es)
-        ∙ map-map (λ e. e.1) row_of (filter (λ (e : List ℕ × KeyValue K V). comes_after itself list e.0) es))
+        ap (λ y. pairs_where test (entry y u.pair ++ entries_in y u.children)) whole_path
+        ∙ sym (ap (λ rows. map (λ e. e.1) (filter (λ e. test e.0) rows)) (walk-node enc m place.0 place.1 p x u near.node near.shortest)
+        ∙ pairs_of-rows test (entry x u.pair ++ entries_in x u.children))
 
+    -- where nothing that the found node's path begins passes, none are left
+    pub found_none : (test : List ℕ → Bool) → ((y : List ℕ) → test (whole ++ y) ≡ false) → [] ≡ passing test
+    found_none test gone = sym (where_gone test whole (tree_of r.now) gone) ∙ at_node test
+
+    -- where all of it passes, all are left
+    pub found_all : (test : List ℕ → Bool) → ((y : List ℕ) → test (whole ++ y) ≡ true) → pairs_in (tree_of r.now) ≡ passing test
+    found_all test kept = sym (where_kept test whole (tree_of r.now) kept) ∙ at_node test
+
+    -- where another test decides behind it, those are left that pass this one
+    pub found_part : (test other : List ℕ → Bool) → ((y : List ℕ) → test (whole ++ y) ≡ other y)
+        → pairs_where other (entry [] (tree_of r.now).pair ++ entries_in [] (tree_of r.now).children) ≡ passing test
+    found_part test other alike = sym (where_behind test other whole alike (tree_of r.now).pair (tree_of r.now).children) ∙ at_node test
+
+module _ {K V : Type 0} (enc : K → List ℕ) (m : PairMap K V) (p : List ℕ) (found : Option (Bor (TrieNode K V) × ℕ)) (place : IsPlace enc m p found) (itself : Bool) (list : List ℕ) where
+  -- the map's pairs at and below p that come after the list
+  abbrev after_list : List (K × V)
+  after_list = passing enc m p found place (comes_after itself list)
+
+  -- where nothing was found for p, none come after the list
+  pub nothing_found-later : found ≡ None → [] ≡ after_list
+  nothing_found-later = nothing_found-passing enc m p found place (comes_after itself list)
+
+  module _ (r : Bor (TrieNode K V)) (n : ℕ) (is : found ≡ Some (r, n)) where
     -- where the found node comes before the list, none are left
-    pub found_before : StandsBeside whole list 0 side.Before → [] ≡ after_list
-    found_before s = sym (where_gone (comes_after itself list) whole (tree_of r.now) (s itself)) ∙ at_node
+    pub found_before : StandsBeside (whole enc m p found place r n is) list 0 side.Before → [] ≡ after_list
+    found_before s = found_none enc m p found place r n is (comes_after itself list) (s itself)
 
     -- where it comes after the list, all are left
-    pub found_after : StandsBeside whole list 0 side.After → pairs_in (tree_of r.now) ≡ after_list
-    found_after s = sym (where_kept (comes_after itself list) whole (tree_of r.now) (s itself)) ∙ at_node
+    pub found_after : StandsBeside (whole enc m p found place r n is) list 0 side.After → pairs_in (tree_of r.now) ≡ after_list
+    found_after s = found_all enc m p found place r n is (comes_after itself list) (s itself)
 
     -- where the list goes on from it, those behind it are left that come after the rest
-    pub found_on : (next : ℕ) → StandsBeside whole list 0 (side.On next) → later_pairs itself (drop next list) (tree_of r.now) ≡ after_list
-    found_on next s = sym (on_path itself whole list 0 next (tree_of r.now) s) ∙ at_node
+    pub found_on : (next : ℕ) → StandsBeside (whole enc m p found place r n is) list 0 (side.On next) → later_pairs itself (drop next list) (tree_of r.now) ≡ after_list
+    found_on next s = sym (on_path itself (whole enc m p found place r n is) list 0 next (tree_of r.now) s) ∙ at_node enc m p found place r n is (comes_after itself list)

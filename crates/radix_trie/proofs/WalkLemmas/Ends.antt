@@ -47,10 +47,17 @@ module _ {K V : Type 0} where
       by None e = cc e
       by (Some x) e = e
 
+  -- the entries of some boxes and of others behind them
+  pub entries_in-boxes : (bs cs : List (Box (TrieNode K V) Global)) → entries_in [] (children_of (bs ++ cs)) ≡ entries_in [] (children_of bs) ++ entries_in [] (children_of cs)
+  entries_in-boxes [] cs = refl
+  entries_in-boxes (b ∷ bs) cs =
+      ap (λ es. entries_at [] (tree_of b.value) ++ es) (entries_in-boxes bs cs)
+      ∙ sym (append_assoc (entries_at [] (tree_of b.value)) (entries_in [] (children_of bs)) (entries_in [] (children_of cs)))
+
   -- the boxes of a node's children end with a box
   module _ (pre : List (Box (TrieNode K V) Global)) (b : Box (TrieNode K V) Global) where
     -- the last child is full
-    last_box_full : IsFull (plain (children_of (pre ++ b ∷ []))) → IsFull (plain (front (tree_of b.value) none))
+    pub last_box_full : IsFull (plain (children_of (pre ++ b ∷ []))) → IsFull (plain (front (tree_of b.value) none))
     last_box_full = go pre
       where
         go : (bs : List (Box (TrieNode K V) Global)) → IsFull (plain (children_of (bs ++ b ∷ []))) → IsFull (plain (front (tree_of b.value) none))
@@ -58,14 +65,8 @@ module _ {K V : Type 0} where
         go (c ∷ bs) full = go bs full.2
 
     -- the entries of the children are those of the others, and then those of the last child
-    entries_in-last_box : entries_in [] (children_of (pre ++ b ∷ [])) ≡ entries_in [] (children_of pre) ++ entries_at [] (tree_of b.value)
-    entries_in-last_box = go pre
-      where
-        go : (bs : List (Box (TrieNode K V) Global)) → entries_in [] (children_of (bs ++ b ∷ [])) ≡ entries_in [] (children_of bs) ++ entries_at [] (tree_of b.value)
-        go [] = append-nil (entries_at [] (tree_of b.value))
-        go (c ∷ bs) =
-            ap (λ es. entries_at [] (tree_of c.value) ++ es) (go bs)
-            ∙ sym (append_assoc (entries_at [] (tree_of c.value)) (entries_in [] (children_of bs)) (entries_at [] (tree_of b.value)))
+    pub entries_in-last_box : entries_in [] (children_of (pre ++ b ∷ [])) ≡ entries_in [] (children_of pre) ++ entries_at [] (tree_of b.value)
+    entries_in-last_box = entries_in-boxes pre (b ∷ []) ∙ ap (λ es. entries_in [] (children_of pre) ++ es) (append-nil (entries_at [] (tree_of b.value)))
 
     module _ (t : Tree (KeyValue K V)) (full : IsFullBelow t) (is : t.children ≡ children_of (pre ++ b ∷ [])) where
       here : IsFull (plain (front (tree_of b.value) none))

@@ -13,7 +13,7 @@ use Rattle.radix_trie.proofs.WalkLemmas.Walks.{pending-with_row}
 
 module _ {P : Type 0} where
   -- full rows are full with one more
-  full-push : (rs : List (Children P)) (r : Children P) → HasFullRows rs → IsFull (plain r) → HasFullRows (rs ++ r ∷ [])
+  pub full-push : (rs : List (Children P)) (r : Children P) → HasFullRows rs → IsFull (plain r) → HasFullRows (rs ++ r ∷ [])
   full-push [] r h full = (full, tt)
   full-push (q ∷ rs) r h full = (h.0, full-push rs r h.1 full)
 
@@ -23,7 +23,7 @@ module _ {P : Type 0} where
   full-with_row rs (more f o m children others) h full = full-push rs (more f o m children others) h full
 
   -- full rows are full without the last one, which is full
-  full-pop : (rs : List (Children P)) (r : Children P) → HasFullRows (rs ++ r ∷ []) → HasFullRows rs × IsFull (plain r)
+  pub full-pop : (rs : List (Children P)) (r : Children P) → HasFullRows (rs ++ r ∷ []) → HasFullRows rs × IsFull (plain r)
   full-pop [] r h = (tt, h.0)
   full-pop (q ∷ rs) r h = let p = full-pop rs r h.1 in ((h.0, p.0), p.1)
 
@@ -57,6 +57,11 @@ module _ {K V : Type 0} where
         length-append (pairs_in t ++ pairs_in_all others) (pending rs),
         length-append (pairs_in t) (pairs_in_all others),
       )
+
+  -- the children in front of others are full where all are
+  pub full-front : (bs cs : List (Box (TrieNode K V) Global)) → IsFull (plain (children_of (bs ++ cs))) → IsFull (plain (children_of bs))
+  full-front [] cs full = tt
+  full-front (b ∷ bs) cs full = (full.0, full.1, full-front bs cs full.2)
 
   -- the children from a place on are full where all are
   pub full-drop : (i : ℕ) (bs : List (Box (TrieNode K V) Global)) → IsFull (plain (children_of bs)) → IsFull (plain (children_of (drop i bs)))

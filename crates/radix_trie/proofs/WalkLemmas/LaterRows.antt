@@ -21,12 +21,19 @@ pub pushed_room : {P : Type 0} (most most2 : ℕ) (rows new : List (Children P))
 pushed_room most most2 rows new later now same room fits =
     subst (λ n. HasRowRoom n 0 new) (sym same) (subst (HasRowRoom most 0) (sym now) (room-with_row most rows later room fits))
 
--- no more pairs come after a list than there are
-pub few_later : {K V : Type 0} (itself : Bool) (list : List ℕ) (t : Tree (KeyValue K V)) → length (later_pairs itself list t) ≤ length (entries_at [] t)
-few_later itself list t =
+-- no more pairs pass a test than there are
+pub few_where : {K V : Type 0} (test : List ℕ → Bool) (t : Tree (KeyValue K V)) → length (pairs_where test (entry [] t.pair ++ entries_in [] t.children)) ≤ length (entries_at [] t)
+few_where test t =
     let es = entry [] t.pair ++ entries_in [] t.children in
-    let kept = filter (λ e. comes_after itself list e.0) es in
-    omega (arith, length-pairs_of kept, length-filter_le (λ e. comes_after itself list e.0) es, length-pairs_of es, ap length (pairs_of-entries_of_node [] t), length-pairs_of (entries_at [] t))
+    let kept = filter (λ e. test e.0) es in
+    omega (arith, length-pairs_of kept, length-filter_le (λ e. test e.0) es, length-pairs_of es, ap length (pairs_of-entries_of_node [] t), length-pairs_of (entries_at [] t))
+
+-- at a list, what comes after it are the node's own pair, where it counts, and all below
+pub later-end : {K V : Type 0} (itself : Bool) (list : List ℕ) (done : ℕ) (t : Tree (KeyValue K V)) → IsTreePlaced t → length list ≤ done
+    → later_pairs itself (drop done list) t ≡ pairs_where (comes_after itself []) (entry [] t.pair) ++ pairs_in_all t.children
+later-end itself list done t placed end =
+    ap (λ l. later_pairs itself l t) (drop_all done list end) ∙ where-append (comes_after itself []) (entry [] t.pair) (entries_in [] t.children)
+    ∙ ap (λ ps. pairs_where (comes_after itself []) (entry [] t.pair) ++ ps) (all_after_nil itself t placed)
 
 module _ {K V : Type 0} (list : List ℕ) (done : ℕ) (t : Tree (KeyValue K V)) (rows new : List (Children (KeyValue K V))) where
   -- with the later children in a row, what is left is what is left of the child that the list goes on to
@@ -40,12 +47,6 @@ module _ {K V : Type 0} (list : List ℕ) (done : ℕ) (t : Tree (KeyValue K V))
 
   -- at the list, all children come after it
   module _ (placed : IsTreePlaced t) (end : length list ≤ done) (now : new ≡ with_row rows t.children) where
-    -- what is left at the list
-    at_end : (itself : Bool) → later_pairs itself (drop done list) t ≡ pairs_where (comes_after itself []) (entry [] t.pair) ++ pairs_in_all t.children
-    at_end itself =
-        ap (λ l. later_pairs itself l t) (drop_all done list end) ∙ where-append (comes_after itself []) (entry [] t.pair) (entries_in [] t.children)
-        ∙ ap (λ ps. pairs_where (comes_after itself []) (entry [] t.pair) ++ ps) (all_after_nil itself t placed)
-
     -- what is left in the rows
     all_rows : pending new ≡ pairs_in_all t.children ++ pending rows
     all_rows = ap pending now ∙ pending-with_row rows t.children
@@ -54,7 +55,7 @@ module _ {K V : Type 0} (list : List ℕ) (done : ℕ) (t : Tree (KeyValue K V))
     pub end_with : own_pair t.pair ++ pending new ≡ later_pairs true (drop done list) t ++ pending rows
     end_with =
         ap (λ ps. own_pair t.pair ++ ps) all_rows ∙ sym (append_assoc (own_pair t.pair) (pairs_in_all t.children) (pending rows))
-        ∙ ap (λ ps. (ps ++ pairs_in_all t.children) ++ pending rows) (by t.pair) ∙ ap (λ ps. ps ++ pending rows) (sym (at_end true))
+        ∙ ap (λ ps. (ps ++ pairs_in_all t.children) ++ pending rows) (by t.pair) ∙ ap (λ ps. ps ++ pending rows) (sym (later-end true list done t placed end))
       where
         by : (o : Option (KeyValue K V)) → own_pair o ≡ pairs_where (comes_after true []) (entry [] o)
         by None = refl
@@ -62,7 +63,7 @@ module _ {K V : Type 0} (list : List ℕ) (done : ℕ) (t : Tree (KeyValue K V))
 
     -- where it doesn't count, its own pair is left out
     pub end_without : pending new ≡ later_pairs false (drop done list) t ++ pending rows
-    end_without = all_rows ∙ ap (λ ps. (ps ++ pairs_in_all t.children) ++ pending rows) (by t.pair) ∙ ap (λ ps. ps ++ pending rows) (sym (at_end false))
+    end_without = all_rows ∙ ap (λ ps. (ps ++ pairs_in_all t.children) ++ pending rows) (by t.pair) ∙ ap (λ ps. ps ++ pending rows) (sym (later-end false list done t placed end))
       where
         by : (o : Option (KeyValue K V)) → [] ≡ pairs_where (comes_after false []) (entry [] o)
         by None = refl

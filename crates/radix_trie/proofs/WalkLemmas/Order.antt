@@ -9,7 +9,7 @@ use Rattle.radix_trie.specs.Walks.{comes_after, passes}
 
 module _ (itself : Bool) where
   -- a later list passes
-  later_passes : passes itself Less ≡ true
+  pub later_passes : passes itself Less ≡ true
   later_passes = by itself
     where
       by : (b : Bool) → passes b Less ≡ true
@@ -17,7 +17,7 @@ module _ (itself : Bool) where
       by false = refl
 
   -- an earlier list doesn't pass
-  earlier_fails : passes itself Greater ≡ false
+  pub earlier_fails : passes itself Greater ≡ false
   earlier_fails = by itself
     where
       by : (b : Bool) → passes b Greater ≡ false

@@ -15,18 +15,22 @@ pub item_progress : {X A : Type 0} (s t : List X) (x : X) (r : A) → s ≡ x �
 item_progress s t x r e = record { on = λ _. (tt, tt, omega (arith, ap length e)); keeps = tt; rests = λ _. tt }
 
 module _ {P : Type 0} where
+  -- how many turns a row takes at most
+  abbrev pub row_turns : Children P → ℕ
+  row_turns r = 2 * nodes_in r + 1
+
   -- how many turns a walk takes at most
   abbrev pub turns_left : List (Children P) → ℕ
   turns_left [] = 0
-  turns_left (r ∷ rs) = turns_left rs + (2 * nodes_in r + 1)
+  turns_left (r ∷ rs) = turns_left rs + row_turns r
 
   -- a row more takes its own turns more
-  turns-push : (rs : List (Children P)) (r : Children P) → turns_left (rs ++ r ∷ []) ≡ turns_left rs + (2 * nodes_in r + 1)
+  pub turns-push : (rs : List (Children P)) (r : Children P) → turns_left (rs ++ r ∷ []) ≡ turns_left rs + row_turns r
   turns-push [] r = omega arith
   turns-push (q ∷ rs) r = omega (arith, turns-push rs r)
 
   -- a row more, if it isn't empty, takes at most its own turns more
-  turns-with_row : (rs : List (Children P)) (r : Children P) → turns_left (with_row rs r) ≤ turns_left rs + (2 * nodes_in r + 1)
+  turns-with_row : (rs : List (Children P)) (r : Children P) → turns_left (with_row rs r) ≤ turns_left rs + row_turns r
   turns-with_row rs none = omega arith
   turns-with_row rs (more f o m children others) = omega (arith, turns-push rs (more f o m children others))
 

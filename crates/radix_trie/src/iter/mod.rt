@@ -1,5 +1,6 @@
 //! Walks over the pairs of a trie, in the order of the encodings.
 
+mod back;
 mod children;
 mod cursor;
 mod ends;
@@ -9,6 +10,7 @@ mod prefixes;
 mod side;
 mod walk;
 
+pub use back::CursorBack;
 pub use children::Children;
 pub use cursor::Cursor;
 pub(crate) use ends::{first_pair, last_pair};

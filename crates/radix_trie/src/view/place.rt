@@ -21,6 +21,7 @@ use radix_nodes::trie_node::{KeyValue, TrieNode, is_end};
 use radix_nodes::whole::size::count_pairs;
 use std::marker::Model;
 
+mod back;
 mod cursors;
 mod ends;
 mod pages;

@@ -1,14 +1,14 @@
 //! What tries and views have in common.
-ghost use Rattle.std.specs.Prelude.{◌≡◌, ◌<◌, ◌^◌, ◌-◌, ◌↔◌, ℕ, List, [], IsTrue, IsOk, IfOk, length, map as each, option_copied, option_map, slice_get};
+ghost use Rattle.std.specs.Prelude.{◌≡◌, ◌<◌, ◌^◌, ◌-◌, ◌↔◌, ℕ, List, [], IsTrue, IsOk, IfOk, length, map as each, option_copied, option_map, reverse, slice_get};
 ghost use Rattle.std.specs.FinMap as finite;
 ghost use Rattle.nibble_map.specs.Lists.{Each};
 ghost use Rattle.nibble_map.specs.MapQueries.{IsFragment, IsLeaf};
 ghost use Rattle.nibble_map.specs.Maps.{PairMap, below, value_at, walk};
 ghost use Rattle.nibble_map.specs.Nibbles.{IsShort};
-ghost use Rattle.radix_trie.specs.Views.{pairs_after, pairs_below, pairs_from};
+ghost use Rattle.radix_trie.specs.Views.{pairs_after, pairs_before, pairs_below, pairs_from, pairs_until};
 ghost use Rattle.radix_trie.specs.Walks.{deref_pair};
 
-use crate::iter::{Cursor, Iter, Keys, Values};
+use crate::iter::{Cursor, CursorBack, Iter, Keys, Values};
 use crate::trie::Trie;
 use crate::view::place::Place;
 use crate::view::subtrie::SubTrie;
@@ -146,6 +146,49 @@ pub trait TrieCommon<'a, K: TrieKey + 'a, V: 'a>: Sized {
         ensures countable { IfOk result (λ pairs. length pairs < 2 ^ 64) }
         ensures none { finite.len (below (map self) (path self)) ≡ 0 → IsOk result };
 
+    /// The walk over the pairs at and below the path from the last to the first: in the falling
+    /// order of their encodings, the extensions of a prefix before it.
+    ///
+    /// It begins in the time of the way down to the path, and allocates nothing then. Each step takes time up to the depth
+    /// below the path, and a whole walk as much as that of `iter`. Memory for at most a row of nodes for each level below the
+    /// path is allocated as the steps need it, so a step may be refused.
+    fn cursor_back(self) -> CursorBack<'a, K, V>
+        ensures walk { result ≡ reverse (pairs_below (map self) (path self)) }
+        ensures keyed { Each (λ e. e.0 ≡ K.encoding e.1.0) (walk (map self) (path self)) }
+        ensures countable { length result < 2 ^ 64 };
+
+    /// The walk of `cursor_back` from the key's encoding on: over the pairs at and below the path whose encodings are the key's
+    /// or come before it, from the last to the first. The key needn't be stored, nor lie below the path.
+    ///
+    /// It begins in the time of the way down to the key's encoding, at and below the path. Its steps take the time and the
+    /// memory of those of `cursor_back`.
+    ///
+    /// # Errors
+    ///
+    /// Memory is refused, for the key's encoding or for the rows on the way down. That never comes where the key is light
+    /// and no pair is at or below the path.
+    fn cursor_back_from<Q: TrieKey>(self, key: &Q) -> Result<CursorBack<'a, K, V>, Memory>
+        ensures walk { IfOk result (λ pairs. pairs
+            ≡ reverse (pairs_until (map self) (path self) (Q.encoding key.now))) }
+        ensures countable { IfOk result (λ pairs. length pairs < 2 ^ 64) }
+        ensures light_none { Q.is_light key.now
+            → finite.len (below (map self) (path self)) ≡ 0
+            → IsOk result };
+
+    /// The walk of `cursor_back` over the pairs at and below the path that come before the key's encoding, from the last to the
+    /// first: a walk that was left at this key goes on so. Its steps take the time and the memory of those of `cursor_back`.
+    ///
+    /// # Errors
+    ///
+    /// Those of `cursor_back_from`.
+    fn cursor_back_before<Q: TrieKey>(self, key: &Q) -> Result<CursorBack<'a, K, V>, Memory>
+        ensures walk { IfOk result (λ pairs. pairs
+            ≡ reverse (pairs_before (map self) (path self) (Q.encoding key.now))) }
+        ensures countable { IfOk result (λ pairs. length pairs < 2 ^ 64) }
+        ensures light_none { Q.is_light key.now
+            → finite.len (below (map self) (path self)) ≡ 0
+            → IsOk result };
+
     /// The walk of `iter_from`, which allocates as it goes.
     ///
     /// It begins in the time of the way down to the key's encoding, at and below the path. Its steps take the time and the
@@ -258,6 +301,21 @@ impl<'a, K: TrieKey, V> TrieCommon<'a, K, V> for &'a Trie<K, V> {
         Place::find(self, &top).cursor()
     }
 
+    fn cursor_back(self) -> CursorBack<'a, K, V> {
+        let top = Nibblet::new(self.allocator());
+        Place::find(self, &top).cursor_back()
+    }
+
+    fn cursor_back_from<Q: TrieKey>(self, key: &Q) -> Result<CursorBack<'a, K, V>, Memory> {
+        let top = Nibblet::new(self.allocator());
+        Place::find(self, &top).cursor_back_from(key)
+    }
+
+    fn cursor_back_before<Q: TrieKey>(self, key: &Q) -> Result<CursorBack<'a, K, V>, Memory> {
+        let top = Nibblet::new(self.allocator());
+        Place::find(self, &top).cursor_back_before(key)
+    }
+
     fn cursor_from<Q: TrieKey>(self, key: &Q) -> Result<Cursor<'a, K, V>, Memory> {
         let top = Nibblet::new(self.allocator());
         Place::find(self, &top).cursor_from(key)
@@ -332,6 +390,18 @@ impl<'a, 'b, K: TrieKey, V> TrieCommon<'a, K, V> for &'b SubTrie<'a, K, V> {
 
     fn cursor(self) -> Result<Cursor<'a, K, V>, Memory> {
         self.place().cursor()
+    }
+
+    fn cursor_back(self) -> CursorBack<'a, K, V> {
+        self.place().cursor_back()
+    }
+
+    fn cursor_back_from<Q: TrieKey>(self, key: &Q) -> Result<CursorBack<'a, K, V>, Memory> {
+        self.place().cursor_back_from(key)
+    }
+
+    fn cursor_back_before<Q: TrieKey>(self, key: &Q) -> Result<CursorBack<'a, K, V>, Memory> {
+        self.place().cursor_back_before(key)
     }
 
     fn cursor_from<Q: TrieKey>(self, key: &Q) -> Result<Cursor<'a, K, V>, Memory> {

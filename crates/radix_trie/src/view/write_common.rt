@@ -6,7 +6,7 @@ ghost use Rattle.nibble_map.specs.Maps.{below};
 ghost use Rattle.nibble_map.specs.Nibbles.{IsShort};
 ghost use Rattle.radix_trie.specs.WriteViews.{map_behind, kept_path, kept_prefix, path_of, prefix_of};
 
-use crate::iter::{Cursor, Iter, Keys, Values};
+use crate::iter::{Cursor, CursorBack, Iter, Keys, Values};
 use crate::view::place::Place;
 use crate::view::subtrie_mut::{PathList, SubTrieMut};
 use crate::view::trie_common::TrieCommon;
@@ -83,6 +83,21 @@ impl<'a, K: TrieKey, V, P: PathList> TrieCommon<'a, K, V> for SubTrieMut<'a, K, 
     fn cursor(self) -> Result<Cursor<'a, K, V>, Memory> {
         let (trie, path) = self.into_parts();
         Place::find(trie, path.nibbles()).cursor()
+    }
+
+    fn cursor_back(self) -> CursorBack<'a, K, V> {
+        let (trie, path) = self.into_parts();
+        Place::find(trie, path.nibbles()).cursor_back()
+    }
+
+    fn cursor_back_from<Q: TrieKey>(self, key: &Q) -> Result<CursorBack<'a, K, V>, Memory> {
+        let (trie, path) = self.into_parts();
+        Place::find(trie, path.nibbles()).cursor_back_from(key)
+    }
+
+    fn cursor_back_before<Q: TrieKey>(self, key: &Q) -> Result<CursorBack<'a, K, V>, Memory> {
+        let (trie, path) = self.into_parts();
+        Place::find(trie, path.nibbles()).cursor_back_before(key)
     }
 
     fn cursor_from<Q: TrieKey>(self, key: &Q) -> Result<Cursor<'a, K, V>, Memory> {
@@ -164,6 +179,18 @@ impl<'a, 'b, K: TrieKey, V> TrieCommon<'b, K, V> for &'b SubTrieMut<'a, K, V> {
 
     fn cursor(self) -> Result<Cursor<'b, K, V>, Memory> {
         self.place().cursor()
+    }
+
+    fn cursor_back(self) -> CursorBack<'b, K, V> {
+        self.place().cursor_back()
+    }
+
+    fn cursor_back_from<Q: TrieKey>(self, key: &Q) -> Result<CursorBack<'b, K, V>, Memory> {
+        self.place().cursor_back_from(key)
+    }
+
+    fn cursor_back_before<Q: TrieKey>(self, key: &Q) -> Result<CursorBack<'b, K, V>, Memory> {
+        self.place().cursor_back_before(key)
     }
 
     fn cursor_from<Q: TrieKey>(self, key: &Q) -> Result<Cursor<'b, K, V>, Memory> {

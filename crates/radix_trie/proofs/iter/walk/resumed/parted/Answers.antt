@@ -1,4 +1,5 @@
-use Rattle.std.proofs.Common.{◌++◌, Ok, Err, arith, ap, drop, length, sym, subst, ◌∙◌}
+use Rattle.std.proofs.Common.{◌+◌, ◌++◌, ◌∷◌, Ok, Err, arith, ap, drop, length, sym, subst, take, ◌∙◌}
+use Rattle.std.proofs.lemmas.List.{at_drop_more, take-append-drop}
 use Rattle.masked_tree.specs.Mask.{IsPlaceOf}
 use Rattle.masked_tree.specs.Sizes.{levels}
 use Rattle.masked_tree.specs.Tree.{IsFullBelow, IsTreePlaced, firsts, plain}
@@ -135,3 +136,29 @@ returns-in-Err-clause-pairs g c =
     λ itself.
     none_met itself n c.args.list.now c.args.depth c.requires.placed c.requires.depth c.in-Err.i at
     ∙ ap (λ bs. pairs_in_all (children_of bs)) (sym c.children_from-in-Err.ensures.boxes)
+
+pub returns-in-Before-clause-last : goal.returns-in-Before-clause-last
+returns-in-Before-clause-last g c =
+    let row = (out-TrieNode g.row.K.Denot g.row.V.Denot c.args.node.now).children.items in
+    (take (c.in-Ok.i + 1) row, sym (take-append-drop (c.in-Ok.i + 1) row) ∙ ap (λ bs. take (c.in-Ok.i + 1) row ++ bs) (sym c.children_from.ensures.boxes))
+
+pub returns-in-On-clause-last : goal.returns-in-On-clause-last
+returns-in-On-clause-last g c =
+    let n = c.args.node.now in
+    let row = (out-TrieNode g.row.K.Denot g.row.V.Denot n).children.items in
+    let b = c.index-child.result.now in
+    let i = c.in-Ok.i in
+    let within = place_is_within n i c.get.result c.requires.placed (place_by_mask n c.get.result (Ok i) c.requires.placed c.in-Ok.ensures) in
+    (take i row, b,
+     sym (take-append-drop i row) ∙ ap (λ bs. take i row ++ bs) (at_drop_more (λ bs. bs) row i b within ∙ (λ j. sym c.index-child.ensures j ∷ sym c.children_from-in-On.ensures.boxes j)),
+     sym c.deref-in-On.ensures)
+
+pub returns-in-After-clause-last : goal.returns-in-After-clause-last
+returns-in-After-clause-last g c =
+    let row = (out-TrieNode g.row.K.Denot g.row.V.Denot c.args.node.now).children.items in
+    (take (c.in-Ok.i) row, sym (take-append-drop (c.in-Ok.i) row) ∙ ap (λ bs. take (c.in-Ok.i) row ++ bs) (sym c.children_from-in-After.ensures.boxes))
+
+pub returns-in-Err-clause-last : goal.returns-in-Err-clause-last
+returns-in-Err-clause-last g c =
+    let row = (out-TrieNode g.row.K.Denot g.row.V.Denot c.args.node.now).children.items in
+    (take (c.in-Err.i) row, sym (take-append-drop (c.in-Err.i) row) ∙ ap (λ bs. take (c.in-Err.i) row ++ bs) (sym c.children_from-in-Err.ensures.boxes))

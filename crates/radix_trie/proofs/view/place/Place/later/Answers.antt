@@ -4,10 +4,11 @@ use Rattle.masked_tree.specs.Tree.{entries_at}
 use Rattle.radix_nodes.specs.Nodes.{tree_of}
 use Rattle.radix_nodes.proofs.NodeLemmas.Nodes.{fragment-tree_of}
 use Rattle.radix_nodes.proofs.NodeLemmas.Pairs.{length-pairs_of}
+use Rattle.radix_trie.specs.Walks.{comes_after}
 use Rattle.radix_trie.proofs.PathLemmas.Leaves.{leaf_has_no_levels, nothing_is_leaf}
 use Rattle.radix_trie.proofs.PathLemmas.Later.{found_after, found_before, found_on, nothing_found-later}
 use Rattle.radix_trie.proofs.PathLemmas.Places.{found_full, found_is_small, found_placed, nearest_found, path_ends}
-use Rattle.radix_trie.proofs.WalkLemmas.LaterRows.{few_later}
+use Rattle.radix_trie.proofs.WalkLemmas.LaterRows.{few_where}
 use Rattle.radix_trie.proofs.view.place.Place.later.Goals as goal
 
 pub side_beyond-requires-clause-within : goal.side_beyond-requires-clause-within
@@ -49,7 +50,7 @@ pub returns-in-On-clause-countable : goal.returns-in-On-clause-countable
 returns-in-On-clause-countable g c =
     let few : c.len-pairs.result < 2 ^ 64 = search rules in
     let small = found_is_small g.K.TrieKey.encoding c.self.inside.trie.now c.self.inside.path.now c.self.inside.found c.self.invariant _ _ c.in-Some.is (omega (arith, few, c.len-pairs.ensures)) in
-    IfOk-weaker c.resumed.result _ _ (λ pairs is. omega (arith, ap length is, few_later c.args.itself (drop c.in-On.depth c.args.list.now) (tree_of c.in-Some.node.now), small)) c.resumed.ensures.pairs
+    IfOk-weaker c.resumed.result _ _ (λ pairs is. omega (arith, ap length is, few_where (comes_after c.args.itself (drop c.in-On.depth c.args.list.now)) (tree_of c.in-Some.node.now), small)) c.resumed.ensures.pairs
 
 pub returns-in-After-clause-countable : goal.returns-in-After-clause-countable
 returns-in-After-clause-countable g c =

@@ -1,0 +1,10 @@
+use Rattle.std.proofs.Common.{◌≡◌, ◌∙◌, ap, subst}
+use Rattle.nibble_map.specs.Lists.{Each}
+use Rattle.nibble_map.specs.Maps.{walk}
+use Rattle.radix_trie.specs.WriteViews.{map_behind}
+use Rattle.radix_trie.proofs.view.write_common.SubTrieMutTrieCommon.cursor_back.Goals as goal
+
+pub returns-clause-keyed : goal.returns-clause-keyed
+returns-clause-keyed g c =
+    subst (λ p. Each (λ e. e.0 ≡ g.K.TrieKey.encoding e.1.0) (walk (map_behind c.args.self) p)) (c.find.ensures.path ∙ c.nibbles.ensures ∙ ap g.P.PathList.list c.into_parts-path.ensures.path)
+    (subst (λ m. Each (λ e. e.0 ≡ g.K.TrieKey.encoding e.1.0) (walk m c.find.result.path)) (c.find.ensures.map ∙ c.into_parts-path.ensures.map) c.cursor_back.ensures.keyed)

@@ -11,7 +11,7 @@ use Rattle.radix_trie.proofs.PathLemmas.Later.{found_all, found_none, found_part
 use Rattle.radix_trie.proofs.WalkLemmas.Earlier.{before-after, before-behind}
 
 module _ {K V : Type 0} (enc : K → List ℕ) (m : PairMap K V) (p : List ℕ) (found : Option (Bor (TrieNode K V) × ℕ)) (place : IsPlace enc m p found) (itself : Bool) (list : List ℕ)
-  (r : Bor (TrieNode K V)) (n : ℕ) (is : found ≡ Some (r, n)) where
+    (r : Bor (TrieNode K V)) (n : ℕ) (is : found ≡ Some (r, n)) where
   -- the found node's path
   abbrev path : List ℕ
   path = whole enc m p found place r n is

@@ -1,12 +1,11 @@
 -- The walk from the last pair to the first: what it has left of the nodes above, and of its own.
-use Rattle.std.proofs.Common.{◌≡◌, ◌+◌, ◌<◌, List, [], ◌∷◌, ◌++◌, drop, length, reverse, refl, ap, sym, subst, ◌∙◌, append_assoc, append-nil, length-append, arith, Box, Global, Bor, Option, Some, None}
+use Rattle.std.proofs.Common.{◌≡◌, ◌+◌, ◌<◌, List, [], ◌∷◌, ◌++◌, length, reverse, ap, sym, subst, ◌∙◌, append_assoc, append-nil, length-append, arith, Box, Global}
 use Rattle.std.proofs.lemmas.List.{map-append, length-reverse}
-use Rattle.masked_tree.specs.Tree.{Tree, Children, none, plain, entries_in, entries_at, nodes_in}
+use Rattle.masked_tree.specs.Tree.{plain, entries_in, entries_at, nodes_in}
 use Rattle.nibble_map.specs.Trees.{IsFull}
-use Rattle.radix_nodes.specs.declared.trie_node.KeyValue.{KeyValue}
 use Rattle.radix_nodes.specs.declared.trie_node.TrieNode.{TrieNode}
 use Rattle.radix_nodes.specs.Nodes.{children_of, tree_of}
-use Rattle.radix_nodes.specs.Pairs.{own_pair, pair_of, pairs_of, pairs_in, pairs_in_all}
+use Rattle.radix_nodes.specs.Pairs.{own_pair, pairs_of, pairs_in, pairs_in_all}
 use Rattle.radix_nodes.proofs.NodeLemmas.Pairs.{pairs_of-append, pairs_of-entries_at}
 use Rattle.radix_trie.specs.declared.iter.back.Rest.{Rest}
 use Rattle.radix_trie.specs.Walks.{HasFullRows, first_pair, left_in, left_of, left_rows}
@@ -55,7 +54,7 @@ module _ {K V : Type 0} where
 
   -- the walk goes down from a node to the last of its children that are left
   module _ (rs new : List (Rest K V)) (at above below : Rest K V) (b : Box (TrieNode K V) Global)
-    (cut : at.row.now ≡ above.row.now ++ b ∷ []) (pushed : new ≡ rs ++ above ∷ []) (children : children_of below.row.now ≡ (tree_of b.value).children) where
+      (cut : at.row.now ≡ above.row.now ++ b ∷ []) (pushed : new ≡ rs ++ above ∷ []) (children : children_of below.row.now ≡ (tree_of b.value).children) where
     -- the same pairs are left
     pub left-down : above.own ≡ at.own → first_pair below.own ≡ own_pair (tree_of b.value).pair → left_in new ++ left_of below ≡ left_in rs ++ left_of at
     left-down own pair =
@@ -63,9 +62,9 @@ module _ {K V : Type 0} where
         let child = pairs_in (tree_of b.value) in
         ap (λ ps. left_in new ++ ps) ((λ i. pair i ++ pairs_in_all (children i)) ∙ sym (pairs_of-entries_at [] (tree_of b.value)))
         ∙ left-pushed rs new above pushed child (left_of at) (
-          append_assoc (first_pair above.own) before child
-          ∙ (λ i. first_pair (own i) ++ sym (pairs_of-append (entries_in [] (children_of above.row.now)) (entries_at [] (tree_of b.value))) i)
-          ∙ ap (λ es. first_pair at.own ++ pairs_of es) (sym (ap (λ bs. entries_in [] (children_of bs)) cut ∙ entries_in-last_box above.row.now b))
+        append_assoc (first_pair above.own) before child
+        ∙ (λ i. first_pair (own i) ++ sym (pairs_of-append (entries_in [] (children_of above.row.now)) (entries_at [] (tree_of b.value))) i)
+        ∙ ap (λ es. first_pair at.own ++ pairs_of es) (sym (ap (λ bs. entries_in [] (children_of bs)) cut ∙ entries_in-last_box above.row.now b))
         )
 
     -- the rows are full

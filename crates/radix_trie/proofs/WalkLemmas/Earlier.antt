@@ -1,5 +1,5 @@
 -- The pairs that come before a list: which they are, beside those that come after it.
-use Rattle.std.proofs.Common.{◌≡◌, ◌≢◌, ℕ, ◌+◌, ◌<◌, ◌≤◌, Bool, true, false, cond, not, T, List, [], ◌∷◌, ◌++◌, drop, filter, map, length, take, Option, Some, None, Less, Equal, Greater, Ordering, nat_cmp, refl, ap, sym, subst, ◌∙◌, append_assoc, append-nil, arith, Box, Bor, Global}
+use Rattle.std.proofs.Common.{◌≡◌, ◌≢◌, ℕ, ◌+◌, ◌<◌, ◌≤◌, Bool, true, false, cond, not, T, List, [], ◌∷◌, ◌++◌, drop, filter, map, length, take, Option, Some, None, Less, Equal, Greater, Ordering, nat_cmp, refl, ap, sym, subst, ◌∙◌, append_assoc, arith, Box, Bor, Global}
 use Rattle.std.proofs.lemmas.Cmp.{nat_list_cmp_total}
 use Rattle.std.proofs.lemmas.List.{append_cancel_right, length-append, map-append, take-append-drop, take_at}
 use Rattle.std.proofs.lemmas.Simd.{map-map}
@@ -109,7 +109,7 @@ module _ {K V : Type 0} (itself : Bool) where
     earlier-later =
         let es = entry [] t.pair ++ entries_in [] t.children in
         let after : pairs_where (λ e. not (comes_before itself list e)) es ≡ later_pairs (not itself) list t =
-            (λ i. pairs_where (λ e. (ap not (before-after itself list e) ∙ twice (comes_after (not itself) list e)) i) es) in
+        (λ i. pairs_where (λ e. (ap not (before-after itself list e) ∙ twice (comes_after (not itself) list e)) i) es) in
         ap (λ ps. earlier_pairs itself list t ++ ps) (sym after)
         ∙ (λ i. sym (pairs_of-rows (comes_before itself list) es) i ++ sym (pairs_of-rows (λ e. not (comes_before itself list e)) es) i)
         ∙ sym (map-append (λ (e : List ℕ × (K × V)). e.1) (before_end itself list rows) (past_end itself list rows))
@@ -148,7 +148,7 @@ module _ {K V : Type 0} (itself : Bool) where
 
 -- a node, and a list that goes on behind it; `later` are the last of its boxes, and so many are looked at in front
 module _ {K V : Type 0} (n : TrieNode K V) (list : List ℕ) (depth : ℕ) (placed : IsTreePlaced (tree_of n)) (full : IsFullBelow (tree_of n)) (lt : depth < length list)
-  (later : List (Box (TrieNode K V) Global)) (end : ℕ) where
+    (later : List (Box (TrieNode K V) Global)) (end : ℕ) where
   abbrev row : List (Box (TrieNode K V) Global)
   row = (out-TrieNode K V n).children.items
 

@@ -13,11 +13,12 @@ use std::marker::Model;
 
 mod until;
 
-/// A walk over keys and values that begins in the time of the way down: each pair once, in the falling order of the encodings,
-/// the extensions of an encoding before it.
+/// A walk over keys and values that begins in the time of the way down: each pair once, in the
+/// falling order of the encodings, the extensions of an encoding before it.
 ///
-/// A step may be refused, since it may allocate: memory for at most a row of nodes for each level. The same pairs are left
-/// then. A contract sees such a cursor as the list of the pairs that are left, in this order.
+/// A step may be refused, since it may allocate: memory for at most a row of nodes for each level.
+/// The same pairs are left then. A contract sees such a cursor as the list of the pairs that are
+/// left, in this order.
 #[derive(Drop)]
 pub struct CursorBack<'a, K, V> {
     /// The node that the walk stands at.
@@ -79,13 +80,14 @@ impl<'a, K, V> CursorBack<'a, K, V> {
         }
     }
 
-    /// The next pair, in the falling order of the encodings, or None where none is left, and then at each further call. It takes
-    /// time up to the depth of the trie, and a whole walk the time of the nodes that it goes over.
+    /// The next pair, in the falling order of the encodings, or None where none is left, and then
+    /// at each further call. It takes time up to the depth of the trie, and a whole walk the time
+    /// of the nodes that it goes over.
     ///
     /// # Errors
     ///
-    /// Memory for what is left of a node above is refused. Then the same pairs are left, and the next call tries again.
-    /// At the end no memory is allocated.
+    /// Memory for what is left of a node above is refused. Then the same pairs are left, and the
+    /// next call tries again. At the end no memory is allocated.
     pub fn next(&mut self) -> Result<Option<(&'a K, &'a V)>, Memory>
         ensures pair { IfOk result (λ pair. option_map deref_pair pair ≡ slice_get self.old 0) }
         ensures rest { OnOk result (self.new ≡ drop 1 self.old) }

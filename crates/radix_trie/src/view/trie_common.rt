@@ -149,19 +149,21 @@ pub trait TrieCommon<'a, K: TrieKey + 'a, V: 'a>: Sized {
     /// The walk over the pairs at and below the path from the last to the first: in the falling
     /// order of their encodings, the extensions of a prefix before it.
     ///
-    /// It begins in the time of the way down to the path, and allocates nothing then. Each step takes time up to the depth
-    /// below the path, and a whole walk as much as that of `iter`. Memory for at most a row of nodes for each level below the
-    /// path is allocated as the steps need it, so a step may be refused.
+    /// It begins in the time of the way down to the path, and allocates nothing then. Each step
+    /// takes time up to the depth below the path, and a whole walk as much as that of `iter`.
+    /// Memory for at most a row of nodes for each level below the path is allocated as the steps
+    /// need it, so a step may be refused.
     fn cursor_back(self) -> CursorBack<'a, K, V>
         ensures walk { result ≡ reverse (pairs_below (map self) (path self)) }
         ensures keyed { Each (λ e. e.0 ≡ K.encoding e.1.0) (walk (map self) (path self)) }
         ensures countable { length result < 2 ^ 64 };
 
-    /// The walk of `cursor_back` from the key's encoding on: over the pairs at and below the path whose encodings are the key's
-    /// or come before it, from the last to the first. The key needn't be stored, nor lie below the path.
+    /// The walk of `cursor_back` from the key's encoding on: over the pairs at and below the path
+    /// whose encodings are the key's or come before it, from the last to the first. The key needn't
+    /// be stored, nor lie below the path.
     ///
-    /// It begins in the time of the way down to the key's encoding, at and below the path. Its steps take the time and the
-    /// memory of those of `cursor_back`.
+    /// It begins in the time of the way down to the key's encoding, at and below the path. Its
+    /// steps take the time and the memory of those of `cursor_back`.
     ///
     /// # Errors
     ///
@@ -175,8 +177,9 @@ pub trait TrieCommon<'a, K: TrieKey + 'a, V: 'a>: Sized {
             → finite.len (below (map self) (path self)) ≡ 0
             → IsOk result };
 
-    /// The walk of `cursor_back` over the pairs at and below the path that come before the key's encoding, from the last to the
-    /// first: a walk that was left at this key goes on so. Its steps take the time and the memory of those of `cursor_back`.
+    /// The walk of `cursor_back` over the pairs at and below the path that come before the key's
+    /// encoding, from the last to the first: a walk that was left at this key goes on so. Its steps
+    /// take the time and the memory of those of `cursor_back`.
     ///
     /// # Errors
     ///

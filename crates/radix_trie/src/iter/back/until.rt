@@ -14,8 +14,9 @@ use radix_nodes::trie_node::TrieNode;
 use std::alloc::Global;
 
 impl<'a, K, V> CursorBack<'a, K, V> {
-    /// The walk over the pairs at and below a node whose lists come before a list, or are it where `itself` says so. So many
-    /// nibbles of the list lie behind the node. Memory is allocated for each node on the way down.
+    /// The walk over the pairs at and below a node whose lists come before a list, or are it where
+    /// `itself` says so. So many nibbles of the list lie behind the node. Memory is allocated for
+    /// each node on the way down.
     pub(crate) fn until(
         alloc: Global,
         node: &'a TrieNode<K, V>,
@@ -52,8 +53,8 @@ impl<'a, K, V> CursorBack<'a, K, V> {
     }
 }
 
-/// The children that come before a list, and behind them the child that the list goes on to, if there is one, and how many
-/// nibbles lie behind it then.
+/// The children that come before a list, and behind them the child that the list goes on to, if
+/// there is one, and how many nibbles lie behind it then.
 fn parted_front<'a, K, V>(
     node: &'a TrieNode<K, V>,
     list: &Nibblet,

@@ -24,7 +24,8 @@ impl<'a, 'p, K: TrieKey, V> Place<'a, 'p, K, V> {
         }
     }
 
-    /// The cursor over the pairs at and below the path up to the key's encoding, from the last one to the first.
+    /// The cursor over the pairs at and below the path up to the key's encoding, from the last one
+    /// to the first.
     pub(crate) fn cursor_back_from<Q: TrieKey>(
         &self,
         key: &Q,
@@ -39,7 +40,8 @@ impl<'a, 'p, K: TrieKey, V> Place<'a, 'p, K, V> {
         self.earlier(&list, true)
     }
 
-    /// The cursor over the pairs at and below the path that come before the key's encoding, from the last one to the first.
+    /// The cursor over the pairs at and below the path that come before the key's encoding, from
+    /// the last one to the first.
     pub(crate) fn cursor_back_before<Q: TrieKey>(
         &self,
         key: &Q,
@@ -54,8 +56,8 @@ impl<'a, 'p, K: TrieKey, V> Place<'a, 'p, K, V> {
         self.earlier(&list, false)
     }
 
-    /// The cursor over the pairs at and below the path whose lists come before a list, or are it where `itself` says so, from
-    /// the last one to the first.
+    /// The cursor over the pairs at and below the path whose lists come before a list, or are it
+    /// where `itself` says so, from the last one to the first.
     fn earlier(&self, list: &Nibblet, itself: bool) -> Result<CursorBack<'a, K, V>, Memory>
         ensures walk { IfOk result (λ pairs. pairs ≡ reverse (each (λ e. e.1)
             (filter (λ e. comes_before itself list.now e.0) (walk self.now.map self.now.path)))) }

@@ -1,12 +1,11 @@
-use Rattle.std.proofs.Common.{◌≡◌, ◌++◌, ◌∷◌, [], None, ap, refl, reverse, sym, ◌∙◌}
-use Rattle.radix_nodes.specs.Nodes.{children_of, tree_of}
+use Rattle.std.proofs.Common.{◌≡◌, ◌++◌, ◌∷◌, [], ap, refl, reverse, sym, ◌∙◌}
+use Rattle.radix_nodes.specs.Nodes.{tree_of}
 use Rattle.radix_nodes.specs.Pairs.{own_pair, pairs_in_all}
 use Rattle.radix_nodes.proofs.EditLemmas.Removal.{children_of-no_boxes}
 use Rattle.radix_trie.specs.declared.iter.back.Rest.{Rest}
 use Rattle.radix_trie.specs.Walks.{first_pair, left_of}
 use Rattle.radix_trie.proofs.WalkLemmas.Back.{full-down, full-up, left-down, left-up, row_left, turns-down, turns-up}
 use Rattle.radix_trie.proofs.WalkLemmas.Rows.{children_of-row, first_own}
-use Rattle.radix_trie.proofs.iter.back.CursorBack.next.Given.{Over}
 use Rattle.radix_trie.proofs.iter.back.CursorBack.next.Goals as goal
 
 pub returns-in_err-reserve-clause-end : goal.returns-in_err-reserve-clause-end

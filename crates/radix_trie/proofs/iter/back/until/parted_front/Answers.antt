@@ -1,4 +1,4 @@
-use Rattle.std.proofs.Common.{◌≡◌, ◌+◌, ◌-◌, ◌++◌, Bool, [], Some, None, arith, ap, drop, length, length-append, subst, sym, take, ◌∷◌}
+use Rattle.std.proofs.Common.{◌≡◌, ◌+◌, ◌-◌, ◌++◌, Bool, [], Some, arith, ap, drop, length, length-append, subst, sym, take, ◌∷◌}
 use Rattle.std.specs.Prelude.{IfSome}
 use Rattle.masked_tree.specs.Tree.{IsFullBelow, entries_in, plain}
 use Rattle.nibble_map.specs.Trees.{IsFull}

@@ -148,10 +148,12 @@ returns-in-On-clause-last g c =
     let row = (out-TrieNode g.row.K.Denot g.row.V.Denot n).children.items in
     let b = c.index-child.result.now in
     let i = c.in-Ok.i in
-    let within = place_is_within n i c.get.result c.requires.placed (place_by_mask n c.get.result (Ok i) c.requires.placed c.in-Ok.ensures) in
-    (take i row, b,
-     sym (take-append-drop i row) ∙ ap (λ bs. take i row ++ bs) (at_drop_more (λ bs. bs) row i b within ∙ (λ j. sym c.index-child.ensures j ∷ sym c.children_from-in-On.ensures.boxes j)),
-     sym c.deref-in-On.ensures)
+    let within = place_is_within n i c.get.result c.requires.placed (place_by_mask n c.get.result (Ok i) c.requires.placed c.in-Ok.ensures) in (
+      take i row,
+      b,
+      sym (take-append-drop i row) ∙ ap (λ bs. take i row ++ bs) (at_drop_more (λ bs. bs) row i b within ∙ (λ j. sym c.index-child.ensures j ∷ sym c.children_from-in-On.ensures.boxes j)),
+      sym c.deref-in-On.ensures,
+    )
 
 pub returns-in-After-clause-last : goal.returns-in-After-clause-last
 returns-in-After-clause-last g c =

@@ -76,3 +76,10 @@ Prunes s u n k old new = AltersChild (all_of s u) none_of 0 n 0 k old new
 
 abbrev pub PrunesRoot : {P : Type 0} → List ℕ → Tree P → ℕ → ℕ → Tree P → Tree P → Type 0
 PrunesRoot s u n k old new = AltersRoot (all_of s u) none_of 0 n 0 k old new
+
+-- u comes with all below it, and hangs below path s then: n nodes and k nibbles come
+abbrev pub Grafts : {P : Type 0} → List ℕ → Tree P → ℕ → ℕ → Tree P → Tree P → Type 0
+Grafts s u n k old new = AltersNode none_of (all_of s u) n 0 k 0 old new
+
+abbrev pub GraftsChild : {P : Type 0} → List ℕ → Tree P → ℕ → ℕ → Tree P → Tree P → Type 0
+GraftsChild s u n k old new = AltersChild none_of (all_of s u) n 0 k 0 old new

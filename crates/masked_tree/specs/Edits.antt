@@ -29,6 +29,11 @@ module _ {P : Type 0} where
         children = set_child i k t.children;
       }
 
+  -- the same tree with another fragment
+  abbrev pub with_fragment : List ℕ → Tree P → Tree P
+  with_fragment f t =
+      record { fragment = f; pair = t.pair; mask = t.mask; children = t.children }
+
   abbrev pub leaf : List ℕ → P → Tree P
   leaf f x = record { fragment = f; pair = Some x; mask = 0; children = none }
 

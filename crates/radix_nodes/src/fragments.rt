@@ -1,5 +1,5 @@
 //! Two fragments in one.
-ghost use Rattle.std.specs.Prelude.{◌≡◌, ◌++◌, IfOk, IsOk};
+ghost use Rattle.std.specs.Prelude.{◌≡◌, ◌≤◌, ◌++◌, length, drop, IfOk, IsOk};
 ghost use Rattle.nibble_map.specs.Nibbles.{IsShort};
 
 use radix_keys::{Memory, Nibblet};
@@ -10,6 +10,17 @@ pub fn joined(first: &Nibblet, second: &Nibblet) -> Result<Nibblet, Memory>
     ensures succeeds { IsShort (first.now ++ second.now) → IsOk result }
 {
     match first.clone()?.join(second) {
+        Ok(both) => Ok(both),
+        Err(_) => Err(Memory),
+    }
+}
+
+/// What the first list has from `depth` on and the second list, in one.
+pub fn joined_tail(first: &Nibblet, depth: usize, second: &Nibblet) -> Result<Nibblet, Memory>
+    requires { depth ≤ length first.now }
+    ensures { IfOk result (λ r. r ≡ drop depth first.now ++ second.now) }
+{
+    match first.tail(depth)?.join(second) {
         Ok(both) => Ok(both),
         Err(_) => Err(Memory),
     }

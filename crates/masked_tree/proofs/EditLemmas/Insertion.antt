@@ -1,14 +1,18 @@
 -- Each step of an insertion is an edit.
-use Rattle.std.proofs.Common.{◌≡◌, ◌≢◌, ℕ, ◌+◌, ◌<◌, List, [], ◌∷◌, ◌++◌, length, Option, Some, None, refl, ap, sym, subst, ◌∙◌, arith, inl, inr, append_assoc, append-nil, Err}
+use Rattle.std.proofs.Common.{◌≡◌, ◌≢◌, ℕ, suc, ◌+◌, ◌<◌, List, [], ◌∷◌, ◌++◌, length, Option, Some, None, refl, ap, sym, subst, ◌∙◌, arith, inl, inr, append_assoc, append-nil, Err}
 use Rattle.std.proofs.lemmas.List.{length-append}
 use Rattle.nibble_map.specs.Trees.{AreMany, IsFull, first}
 use Rattle.nibble_map.specs.Swaps.{Swaps, entry}
 use Rattle.masked_tree.specs.Mask.{IsMask, IsPlaceOf, marked}
-use Rattle.masked_tree.specs.Tree.{Tree, Children, none, more, IsAt, plain, firsts, IsPlaced, IsTreePlaced, entries_in, entries_at}
-use Rattle.masked_tree.specs.Edits.{insert_child, with_pair, with_child, with_new_child, leaf, lowered}
-use Rattle.masked_tree.specs.Alters.{Run, entry_at, all_of, none_of, AltersChild, AltersNode, Replaces, Edits, Prunes}
+use Rattle.masked_tree.specs.Tree.{Tree, Children, none, more, IsAt, plain, firsts, IsPlaced, IsTreePlaced, IsTreeFull, entries_in, entries_at, nodes_in, nibbles_in}
+use Rattle.masked_tree.specs.Edits.{insert_child, with_fragment, with_pair, with_child, with_new_child, leaf, lowered}
+use Rattle.masked_tree.specs.Alters.{Run, entry_at, all_of, none_of, AltersChild, AltersNode, Replaces, Edits, Prunes, Grafts, GraftsChild}
 use Rattle.masked_tree.proofs.MaskLemmas.{bit_at-marked, marked_lt, zero_is_mask}
 use Rattle.masked_tree.proofs.TreeLemmas.Children.{swaps_after, firsts-set_child, set_child_placed, set_child_full, set_child_many, set_child_swaps, nodes_in-set_child, nibbles_in-set_child, child_tree_is_placed, bit_of-insert_child, insert_child_placed, insert_child_full, insert_child_many, insert_child_swaps, nodes_in-insert_child, nibbles_in-insert_child}
+
+-- a list alone has as many nibbles as with none beside it
+length-alone : (f : List ℕ) → length f + 0 ≡ length f
+length-alone f = omega arith
 
 module _ {P : Type 0} where
   -- a node's own pair is written
@@ -82,30 +86,55 @@ module _ {P : Type 0} where
   no_many : (k : Children P) → AreMany (plain k) → k ≢ none
   no_many k m e = subst (λ k. AreMany (plain k)) e m
 
-  -- a leaf comes
-  -- a new leaf with a first nibble that no child has writes one entry, with one node more
-  pub leaf_edits : (t : Tree P) (x : P) (f : List ℕ) (i : ℕ) → IsTreePlaced t → f ≢ [] → first f < 16 → IsPlaceOf (first f) (firsts t.children) (Err i) →
-      Edits (t.fragment ++ f) x None 1 (length f) t (with_new_child i (first f) (leaf f x) t)
-  leaf_edits t x f i h s low at =
-      let u : Tree P = leaf f x in
-      let mask : IsMask (marked t.mask (first f)) (firsts (insert_child i u t.children)) = (marked_lt t.mask (first f) h.0.0, λ n. bit_at-marked t.mask (first f) n (firsts t.children) low h.0 ∙ sym (bit_of-insert_child i t.children u n)) in
-      let placed : IsPlaced 0 (insert_child i u t.children) = subst (λ j. IsPlaced 0 (insert_child j u t.children)) (sym at.1) (insert_child_placed 0 (first f) t.children u refl s (zero_is_mask, tt) (omega arith) at.0 h.1) in
+  -- a run of all entries below a fragment and a list is that of the tree with the list in front
+  pub all_of-with_fragment : (s r : List ℕ) (u : Tree P) → all_of s (with_fragment (r ++ u.fragment) u) ≡ all_of (s ++ r) u
+  all_of-with_fragment s r u = λ i q. (
+      let path : (q ++ s) ++ (r ++ u.fragment) ≡ (q ++ (s ++ r)) ++ u.fragment = sym (append_assoc (q ++ s) r u.fragment) ∙ ap (λ z. z ++ u.fragment) (append_assoc q s r) in
+      entry (path i) u.pair ++ entries_in (path i) u.children)
+
+  -- a branch of a child comes
+  -- a branch that comes to a child comes to its parent, its path behind the parent's fragment
+  pub child_grafted : (t u v b : Tree P) (i : ℕ) (s : List ℕ) (n k : ℕ) → IsTreePlaced t → IsAt i t.children u → GraftsChild s b n k u v → Grafts (t.fragment ++ s) b n k t (with_child i v t)
+  child_grafted t u v b i s n k h a r =
+      let below : (λ (q : List ℕ). all_of s b (q ++ t.fragment)) ≡ all_of (t.fragment ++ s) b = λ j q. entries_at (append_assoc q t.fragment s j) b in
+      subst (λ come. AltersNode none_of come n 0 k 0 t (with_child i v t)) below (child_alters t u v i none_of (all_of s b) n 0 k 0 h a r)
+
+  -- a child comes
+  -- a new child with a first nibble that no other has brings all its entries, nodes and nibbles
+  pub child_comes : (t u : Tree P) (i : ℕ) → IsTreePlaced t → u.fragment ≢ [] → first u.fragment < 16 → IsPlaceOf (first u.fragment) (firsts t.children) (Err i) → IsTreePlaced u → IsTreeFull u →
+      Grafts t.fragment u (suc (nodes_in u.children)) (length u.fragment + nibbles_in u.children) t (with_new_child i (first u.fragment) u t)
+  child_comes t u i h s low at below whole =
+      let y = first u.fragment in
+      let mask : IsMask (marked t.mask y) (firsts (insert_child i u t.children)) = (marked_lt t.mask y h.0.0, λ n. bit_at-marked t.mask y n (firsts t.children) low h.0 ∙ sym (bit_of-insert_child i t.children u n)) in
+      let placed : IsPlaced 0 (insert_child i u t.children) = subst (λ j. IsPlaced 0 (insert_child j u t.children)) (sym at.1) (insert_child_placed 0 y t.children u refl s below (omega arith) at.0 h.1) in
       record {
-        full = λ g. (elim g.0 [ inl s ↦ inl s | inr m ↦ inr (insert_child_many i t.children u (no_many t.children m)) ], insert_child_full i t.children u (inl refl, tt) g.1);
+        full = λ g. (elim g.0 [ inl s ↦ inl s | inr m ↦ inr (insert_child_many i t.children u (no_many t.children m)) ], insert_child_full i t.children u whole g.1);
         root = record {
           fragment = refl;
-          below = λ g. insert_child_full i t.children u (inl refl, tt) g;
+          below = λ g. insert_child_full i t.children u whole g;
           alters = record {
             start = refl;
             some = λ s. s;
             placed = (mask, placed);
-            swaps = λ q. subst (λ path. Swaps [] (entry path (Some x)) (entries_at q t) (entries_at q (with_new_child i (first f) u t))) (append_assoc q t.fragment f)
-                (swaps_after (entry (q ++ t.fragment) t.pair) _ _ _ _ (insert_child_swaps i t.children u (q ++ t.fragment)));
+            swaps = λ q. swaps_after (entry (q ++ t.fragment) t.pair) _ _ _ _ (insert_child_swaps i t.children u (q ++ t.fragment));
             nodes = omega (arith, nodes_in-insert_child i t.children u);
             nibbles = omega (arith, nibbles_in-insert_child i t.children u);
           };
         };
       }
+
+  -- all entries of a leaf are its own one
+  all_of-leaf : (s f : List ℕ) (x : P) → all_of s (leaf f x) ≡ entry_at (s ++ f) (Some x)
+  all_of-leaf s f x = λ i q. entry (append_assoc q s f i) (Some x)
+
+  -- a leaf comes
+  -- a new leaf with a first nibble that no child has writes one entry, with one node more
+  pub leaf_edits : (t : Tree P) (x : P) (f : List ℕ) (i : ℕ) → IsTreePlaced t → f ≢ [] → first f < 16 → IsPlaceOf (first f) (firsts t.children) (Err i) →
+      Edits (t.fragment ++ f) x None 1 (length f) t (with_new_child i (first f) (leaf f x) t)
+  leaf_edits t x f i h s low at =
+      subst (λ come. AltersNode none_of come 1 0 (length f) 0 t (with_new_child i (first f) (leaf f x) t)) (all_of-leaf t.fragment f x)
+      (subst (λ k. AltersNode none_of (all_of t.fragment (leaf f x)) 1 0 k 0 t (with_new_child i (first f) (leaf f x) t)) (length-alone f)
+      (child_comes t (leaf f x) i h s low at (zero_is_mask, tt) (inl refl, tt)))
 
   -- a node put above a placed tree, to which a fragment with a first nibble is left, is placed
   pub lowered_placed : (t : Tree P) (f g : List ℕ) → g ≢ [] → first g < 16 → IsTreePlaced t → IsTreePlaced (lowered f g t)
@@ -144,22 +173,30 @@ module _ {P : Type 0} where
       };
     }
 
+    -- a branch beside
+    -- a branch beside a child, below a new node, brings all its entries, with one node more
+    pub split_beside : (u : Tree P) (i : ℕ) → u.fragment ≢ [] → first u.fragment < 16 → IsPlaceOf (first u.fragment) (first g ∷ []) (Err i) → IsTreePlaced u → IsTreeFull u →
+        GraftsChild f u (suc (suc (nodes_in u.children))) (length u.fragment + nibbles_in u.children) t (with_new_child i (first u.fragment) u (lowered f g t))
+    split_beside u i s small at below whole =
+        let e = child_comes (lowered f g t) u i (lowered_placed t f g end low h) s small at below whole in
+        let c = e.root.alters in
+        record {
+          full = λ full. (inr (insert_child_many i (more g t.pair t.mask t.children none) u (λ z. absurd (let i : more g t.pair t.mask t.children none ≡ none = z in cc i))), e.root.below (full.0, full.1, tt));
+          alters = record {
+            start = same_start f g top ∙ ap first (sym cut);
+            some = λ s. top;
+            placed = c.placed;
+            swaps = λ q. subst (λ es. Swaps [] (all_of f u q) es (entries_at q (with_new_child i (first u.fragment) u (lowered f g t)))) (lowered_entries q) (c.swaps q);
+            nodes = omega (arith, c.nodes);
+            nibbles = omega (arith, length-cut, c.nibbles);
+          };
+        }
+
     -- the pair in a leaf beside
     -- a pair in a leaf beside a child, below a new node, writes its entry, with two nodes more
     pub split_leaf : (x : P) (r : List ℕ) (i : ℕ) → r ≢ [] → first r < 16 → IsPlaceOf (first r) (first g ∷ []) (Err i) →
         Replaces (f ++ r) x None 2 (length r) t (with_new_child i (first r) (leaf r x) (lowered f g t))
     split_leaf x r i s small at =
-        let e = leaf_edits (lowered f g t) x r i (lowered_placed t f g end low h) s small at in
-        let c = e.root.alters in
-        record {
-          full = λ full. (inr (insert_child_many i (more g t.pair t.mask t.children none) (leaf r x) (λ z. absurd (let i : more g t.pair t.mask t.children none ≡ none = z in cc i))), e.root.below (full.0, full.1, tt));
-          alters = record {
-            start = same_start f g top ∙ ap first (sym cut);
-            some = λ s. top;
-            placed = c.placed;
-            swaps = λ q. subst (λ es. Swaps [] (entry (q ++ (f ++ r)) (Some x)) es (entries_at q (with_new_child i (first r) (leaf r x) (lowered f g t)))) (lowered_entries q)
-                (c.swaps q);
-            nodes = omega (arith, c.nodes);
-            nibbles = omega (arith, length-cut, c.nibbles);
-          };
-        }
+        subst (λ come. AltersChild none_of come 2 0 (length r) 0 t (with_new_child i (first r) (leaf r x) (lowered f g t))) (all_of-leaf f r x)
+        (subst (λ k. AltersChild none_of (all_of f (leaf r x)) 2 0 k 0 t (with_new_child i (first r) (leaf r x) (lowered f g t))) (length-alone r)
+        (split_beside (leaf r x) i s small at (zero_is_mask, tt) (inl refl, tt)))

@@ -1,5 +1,5 @@
 -- The steps of an insertion, at nodes.
-use Rattle.std.proofs.Common.{◌≡◌, ◌≢◌, ℕ, suc, ◌-◌, ◌<◌, ◌≤◌, List, [], ◌∷◌, ◌++◌, length, get_or, take, drop, slice_index, Option, Some, None, refl, ap, sym, subst, ◌∙◌, arith, inl, inr, append-nil, append_assoc, Result, Ok, Err}
+use Rattle.std.proofs.Common.{◌≡◌, ◌≢◌, ℕ, suc, ◌-◌, ◌<◌, ◌≤◌, List, [], ◌∷◌, ◌++◌, length, get_or, take, drop, slice_index, Option, Some, None, refl, ap, sym, subst, ◌∙◌, arith, inl, inr, append-nil, append_assoc, Result, Ok, Err, ne_eqb}
 use Rattle.std.proofs.lemmas.List.{length-drop, length-append, take-append-drop}
 use Rattle.std.specs.declared.boxed.Box.{Box}
 use Rattle.std.specs.declared.alloc.Global.{Global}
@@ -9,7 +9,7 @@ use Rattle.radix_nodes.specs.declared.trie_node.KeyValue.{KeyValue}
 use Rattle.radix_nodes.specs.declared.insertion.change.Change.{Change}
 use Rattle.radix_nodes.specs.declared.trie_node.TrieNode.{TrieNode, out-TrieNode, roll-TrieNode}
 use Rattle.nibble_map.specs.Lists.{IsPrefix}
-use Rattle.masked_tree.specs.Mask.{IsPlaceOf, IsMask, IsRisingFrom, bit_of}
+use Rattle.masked_tree.specs.Mask.{IsPlaceOf, IsMask, IsRisingFrom, bit_of, rank}
 use Rattle.masked_tree.specs.Paths.{IsNodeAt, IsHeld}
 use Rattle.nibble_map.proofs.ListLemmas.Cut.{cancel_front, first-append}
 use Rattle.masked_tree.proofs.PathLemmas.Paths.{own_unheld, held_node, held_to_child, held_from_child, stuck_unheld, stuck_gap}
@@ -27,6 +27,10 @@ use Rattle.radix_nodes.proofs.EditLemmas.KeyParts.{first-drop, drop_some, take_s
 pub path_has_fragment : {P : Type 0} (t : Tree P) (p : List ℕ) (u : Tree P) → IsNodeAt t p u → IsPrefix t.fragment p
 path_has_fragment t p u (inl d) = ([], d.0 ∙ sym (append-nil t.fragment))
 path_has_fragment t p u (inr d) = (d.0, d.1)
+
+-- a nibble that another doesn't begin with stands below it or above it
+pub place_beside : (x y : ℕ) → x ≢ y → IsPlaceOf y (x ∷ []) (Err (rank y (x ∷ [])))
+place_beside x y apart = (rw (ne_eqb x y apart) refl, refl)
 
 module _ {K V : Type 0} where
   -- a leaf comes
@@ -51,16 +55,18 @@ module _ {K V : Type 0} where
 
   -- the pair goes into a leaf beside
   -- a split where the key parts, x in a new leaf beside, inserts x by two nodes and its nibbles
-  pub beside_step : (t t' mid lf : Tree (KeyValue K V)) (whole f g key : List ℕ) (n depth i y k : ℕ) (x : KeyValue K V) → whole ≡ t.fragment → f ≡ take n whole → g ≡ drop n whole →
-      0 < n → n < length whole → first g < 16 → IsTreePlaced t → depth < length key → y ≡ slice_index key depth → y < 16 → IsPlaceOf y (first g ∷ []) (Err i) →
-      lf ≡ leaf (drop depth key) x → mid ≡ lowered f g t → t' ≡ with_new_child i y lf mid → k ≡ length key - depth → Replaces (take n whole ++ drop depth key) x None 2 k t t'
-  beside_step t t' mid lf whole f g key n depth i y k x ew ef eg p l low h lt ey small at el em et ek =
+  pub beside_step : (t t' lf : Tree (KeyValue K V)) (whole f g key : List ℕ) (n depth y k : ℕ) (x : KeyValue K V) → whole ≡ t.fragment → f ≡ take n whole → g ≡ drop n whole →
+      0 < n → n < length whole → first g < 16 → IsTreePlaced t → depth < length key → y ≡ slice_index key depth → y < 16 → first g ≢ y →
+      lf ≡ leaf (drop depth key) x → t' ≡ with_new_child (rank y (first g ∷ [])) y lf (lowered f g t) → k ≡ length key - depth → Replaces (take n whole ++ drop depth key) x None 2 k t t'
+  beside_step t t' lf whole f g key n depth y k x ew ef eg p l low h lt ey small apart el et ek =
       let cut : t.fragment ≡ f ++ g = sym ew ∙ sym (take-append-drop n whole) ∙ (λ i. sym ef i ++ sym eg i) in
       let rest = drop depth key in
       let fy : first rest ≡ y = first-drop key depth ∙ sym ey in
+      let i = rank y (first g ∷ []) in
       let e = split_leaf t f g cut (λ z. take_some whole n p l (sym ef ∙ z)) (λ z. drop_some whole n l (sym eg ∙ z)) low h x rest i (drop_some key depth lt)
-      (subst (λ n. n < 16) (sym fy) small) (subst (λ n. IsPlaceOf n (first g ∷ []) (Err i)) (sym fy) at) in
-      rw (et, el, em, ek, ← length-drop depth key, ← fy, ← ef) e
+      (subst (λ n. n < 16) (sym fy) small) (subst (λ n. IsPlaceOf n (first g ∷ []) (Err i)) (sym fy) (place_beside (first g) y apart)) in
+      let b = subst (λ z. Replaces (f ++ rest) x None 2 (length rest) t (with_new_child i z (leaf rest x) (lowered f g t))) fy e in
+      rw (et, el, ek, ← length-drop depth key, ← ef) b
 
   -- a write of the node's own pair is the insertion at a key that ends there, or its refusal
   pub set_step : (r : Result (Change K V) (KeyValue K V)) (n : TrieNode K V) (at : Option (Box (KeyValue K V) Global)) (x : KeyValue K V) (rest : List ℕ) →
@@ -98,6 +104,11 @@ module _ {K V : Type 0} where
       let size = ap length rest in
       let a = length-drop depth key in let b = length-drop k f in let c = length-append (drop k f) z.0 in
       apart (omega (arith, size, a, b, c, lt)) (sym (first-drop f k) ∙ sym (first-append (drop k f) z.0 (drop_some f k lt)) ∙ ap first (sym rest) ∙ first-drop key depth)
+
+  -- where a list parts from a fragment, what is left of the fragment begins with another nibble
+  pub parted_firsts : (n : TrieNode K V) (tail key : List ℕ) (depth k y : ℕ) → tail ≡ drop k (fragment_of n) → y ≡ slice_index key depth →
+      slice_index (fragment_of n) k ≢ slice_index key depth → first tail ≢ y
+  parted_firsts n tail key depth k y et ey apart e = apart (sym (first-drop (fragment_of n) k) ∙ ap first (sym et) ∙ e ∙ ey)
 
   -- an insertion's outcome at a node that may be the root is one at a child
   pub edit_replaces : (r : Result (Change K V) (KeyValue K V)) (x : KeyValue K V) (p : List ℕ) (old new : Tree (KeyValue K V)) → EditOutcome r x p old new → ReplaceOutcome r x p old new

@@ -6,8 +6,8 @@ ghost use Rattle.masked_tree.specs.Edits.{leaf};
 ghost use Rattle.radix_nodes.specs.Nodes.{tree_of, fragment_of, IsUpper, EditOutcome, ReplaceOutcome, SetOutcome};
 
 use crate::insertion::change::Change;
-use crate::trie_node::links::{link, lower};
-use crate::trie_node::mask::{beside, mark};
+use crate::trie_node::links::{link, lower, lower_beside};
+use crate::trie_node::mask::mark;
 use crate::trie_node::{KeyValue, TrieNode};
 use radix_keys::{Memory, Nibblet};
 use std::alloc::Global;
@@ -132,7 +132,7 @@ pub fn make_upper<K: Drop, V: Drop>(
 
 // The node that is to stand above another, and the fragment that is left to that one.
 #[inline(never)]
-fn make_split<K: Drop, V: Drop>(
+pub(super) fn make_split<K: Drop, V: Drop>(
     node: &TrieNode<K, V>,
     n: usize,
     alloc: Global,
@@ -187,10 +187,7 @@ pub(super) fn split_and_insert<K: Drop, V: Drop>(
             Ok(leaf) => leaf,
             Err(pair) => return Err(pair),
         };
-        let nibble = list.get(depth);
-        let i = beside(tail.get(0), nibble);
-        lower(slot, upper, tail);
-        link(slot, i, leaf, nibble);
+        lower_beside(slot, upper, tail, leaf, list.get(depth));
         Ok(Change {
             was: None,
             nodes: 2,

@@ -1,11 +1,12 @@
 //! Linking and unlinking of nodes: none of these allocates.
-ghost use Rattle.std.specs.Prelude.{◌≡◌, ◌+◌, ◌<◌, ◌≤◌, None, vec_len};
+ghost use Rattle.std.specs.Prelude.{◌≡◌, ◌≢◌, ◌+◌, ◌<◌, ◌≤◌, ◌∷◌, [], length, None, vec_len};
 ghost use Rattle.nibble_map.specs.Trees.{first};
+ghost use Rattle.masked_tree.specs.Mask.{rank};
 ghost use Rattle.masked_tree.specs.Tree.{IsTreePlaced, IsAt};
 ghost use Rattle.masked_tree.specs.Edits.{with_new_child, without_child, lowered, merged};
 ghost use Rattle.radix_nodes.specs.Nodes.{tree_of, fragment_of, out_of, unboxed, IsUpper, HasRoom};
 
-use crate::trie_node::mask::{mark, unmark};
+use crate::trie_node::mask::{beside, mark, unmark};
 use crate::trie_node::parts::Parts;
 use crate::trie_node::{KeyValue, TrieNode};
 use radix_keys::Nibblet;
@@ -54,6 +55,27 @@ pub fn lower<K: Drop, V: Drop>(
     let mut below = mem::replace(slot, upper);
     below.fragment = tail;
     slot.children.push(below).unwrap();
+}
+
+/// The same with another child beside the node, which begins with `nibble`.
+pub fn lower_beside<K: Drop, V: Drop>(
+    slot: &mut Box<TrieNode<K, V>>,
+    upper: Box<TrieNode<K, V>>,
+    tail: Nibblet,
+    child: Box<TrieNode<K, V>>,
+    nibble: u8,
+)
+    requires upper { IsUpper (fragment_of upper.value) tail upper.value }
+    requires some { 0 < length tail }
+    requires nibble { nibble < 16 }
+    requires apart { first tail ≢ nibble }
+    ensures { tree_of slot.new.value
+        ≡ with_new_child (rank nibble (first tail ∷ [])) nibble (tree_of child.value)
+        (lowered (fragment_of upper.value) tail (tree_of slot.old.value)) }
+{
+    let i = beside(tail.get(0), nibble);
+    lower(slot, upper, tail);
+    link(slot, i, child, nibble);
 }
 
 /// The node's only child takes its place, with the two fragments joined.

@@ -1,0 +1,60 @@
+-- What the hanging of a branch into a tree returns, and does to the tree.
+use Rattle.std.specs.Prelude.{◌≡◌, ℕ, ◌+◌, List, length, Result, Ok, Err}
+use Rattle.std.specs.declared.boxed.Box.{Box}
+use Rattle.std.specs.declared.alloc.Global.{Global}
+use Rattle.masked_tree.specs.Alters.{Grafts, GraftsChild}
+use Rattle.masked_tree.specs.Tree.{Tree, nodes_in, nibbles_in}
+use Rattle.masked_tree.specs.Paths.{IsPath}
+use Rattle.nibble_map.specs.Lists.{IsPrefix}
+use Rattle.radix_nodes.specs.Nodes.{tree_of}
+use Rattle.radix_nodes.specs.declared.insertion.graft.Hung.{Hung}
+use Rattle.radix_nodes.specs.declared.insertion.graft.Ungrafted.{Ungrafted}
+use Rattle.radix_nodes.specs.declared.insertion.graft.Ungrafted.TheVariants as why
+use Rattle.radix_nodes.specs.declared.trie_node.KeyValue.{KeyValue}
+use Rattle.radix_nodes.specs.declared.trie_node.TrieNode.{TrieNode}
+
+module _ {P : Type 0} where
+  -- a node stands at or below p
+  abbrev pub IsOccupied : Tree P → List ℕ → Type 0
+  IsOccupied t p = (q : List ℕ) × IsPath t q × IsPrefix p q
+
+  -- no node does
+  abbrev pub IsVacant : Tree P → List ℕ → Type 0
+  IsVacant t p = (q : List ℕ) → IsPath t q → IsPrefix p q → ⊥
+
+module _ {K V : Type 0} where
+  -- how many nodes come with a branch, and how many nibbles of fragments
+  abbrev pub nodes_come : Hung → Tree (KeyValue K V) → ℕ
+  nodes_come hung u = hung.nodes + nodes_in u.children
+
+  abbrev pub nibbles_come : Hung → Tree (KeyValue K V) → ℕ
+  nibbles_come hung u = hung.nibbles + (length u.fragment + nibbles_in u.children)
+
+  -- the branch comes below p, or comes back and nothing has changed: to a node, and to a child
+  abbrev pub HangOutcome : Result Hung (Box (TrieNode K V) Global) → Box (TrieNode K V) Global
+      → List ℕ → Tree (KeyValue K V) → Tree (KeyValue K V) → Type 0
+  HangOutcome (Ok hung) branch p old new = let u = tree_of branch.value in
+      Grafts p u (nodes_come hung u) (nibbles_come hung u) old new
+  HangOutcome (Err back) branch p old new = (back ≡ branch) × (new ≡ old)
+
+  abbrev pub HangChildOutcome : Result Hung (Box (TrieNode K V) Global) → Box (TrieNode K V) Global
+      → List ℕ → Tree (KeyValue K V) → Tree (KeyValue K V) → Type 0
+  HangChildOutcome (Ok hung) branch p old new = let u = tree_of branch.value in
+      GraftsChild p u (nodes_come hung u) (nibbles_come hung u) old new
+  HangChildOutcome (Err back) branch p old new = (back ≡ branch) × (new ≡ old)
+
+  -- a refusal with the branch alone is one for memory
+  abbrev pub told : Result Hung (Box (TrieNode K V) Global) → Result Hung (Ungrafted K V)
+  told (Ok hung) = Ok hung
+  told (Err back) = Err (why.Memory back)
+
+  -- the branch comes below p, where no node stood at or below p; or it comes back and nothing has
+  -- changed: as occupied exactly where a node stands at or below p
+  abbrev pub GraftOutcome : Result Hung (Ungrafted K V) → Box (TrieNode K V) Global → List ℕ
+      → Tree (KeyValue K V) → Tree (KeyValue K V) → Type 0
+  GraftOutcome (Ok hung) branch p old new = let u = tree_of branch.value in
+      IsVacant old p × Grafts p u (nodes_come hung u) (nibbles_come hung u) old new
+  GraftOutcome (Err (why.Occupied back)) branch p old new =
+      (back ≡ branch) × (new ≡ old) × IsOccupied old p
+  GraftOutcome (Err (why.Memory back)) branch p old new =
+      (back ≡ branch) × (new ≡ old) × IsVacant old p

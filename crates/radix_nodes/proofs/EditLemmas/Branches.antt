@@ -156,7 +156,7 @@ module _ {K V : Type 0} where
       kept_up same = tree_of-same_child n i b b' h inside is (same ∙ ap tree_of em)
 
       -- a path of the child that the key's rest begins gives one of the node that the key begins
-      path_up : (q : List ℕ) → IsPath (tree_of m) q → IsPrefix (fragment_of m ++ drop (depth + a.same) key) q → (x : List ℕ) × IsPath (tree_of n) x × IsPrefix goal_path x
+      pub path_up : (q : List ℕ) → IsPath (tree_of m) q → IsPrefix (fragment_of m ++ drop (depth + a.same) key) q → (x : List ℕ) × IsPath (tree_of n) x × IsPrefix goal_path x
       path_up q p i2 =
           let f = fragment_of n in (
             (tree_of n).fragment ++ q,

@@ -10,7 +10,7 @@ use Rattle.radix_nodes.specs.declared.trie_node.TrieNode.{TrieNode, out-TrieNode
 use Rattle.radix_nodes.specs.declared.trie_node.TrieNode.TheOpen.{TrieNode-F}
 use Rattle.radix_nodes.specs.declared.trie_node.TrieNode.TheFolds.{fold-roll-TrieNode, fold_out-TrieNode}
 use Rattle.masked_tree.specs.Tree.{Tree, none, join, front, IsAt}
-use Rattle.masked_tree.specs.Edits.{set_child, insert_child, empty, with_new_child, lowered, leaf}
+use Rattle.masked_tree.specs.Edits.{set_child, insert_child, with_fragment, empty, with_new_child, lowered, leaf}
 use Rattle.masked_tree.specs.Mask.{marked}
 use Rattle.nibble_map.specs.Trees.{first}
 use Rattle.radix_nodes.specs.Nodes.{unboxed, tree_of, tree_step, children_of, fragment_of, IsUpper}
@@ -62,6 +62,10 @@ module _ {K V : Type 0} where
     pub tree_of-written_pair : (o : Option (Box (KeyValue K V) Global)) → tree_of (roll-TrieNode K V record { fragment = x.fragment; pair = o; mask = x.mask; children = x.children })
         ≡ record { fragment = (tree_of n).fragment; pair = unboxed o; mask = (tree_of n).mask; children = (tree_of n).children }
     tree_of-written_pair o = tree_of-roll _ ∙ ap (λ (t : Tree (KeyValue K V)). record { fragment = t.fragment; pair = unboxed o; mask = t.mask; children = t.children }) (sym (tree_of-out n))
+
+    -- the tree of a node whose fragment is written: the old one with that fragment
+    pub tree_of-written_fragment : (f : List ℕ) → tree_of (roll-TrieNode K V record { fragment = f; pair = x.pair; mask = x.mask; children = x.children }) ≡ with_fragment f (tree_of n)
+    tree_of-written_fragment f = tree_of-roll _ ∙ ap (with_fragment f) (sym (tree_of-out n))
 
     -- the tree of a node whose mask is written: the old one with that mask
     pub tree_of-written_mask : (m : ℕ) → tree_of (roll-TrieNode K V record { fragment = x.fragment; pair = x.pair; mask = m; children = x.children })
@@ -124,8 +128,7 @@ module _ {K V : Type 0} where
       tree_of (roll-TrieNode K V record { fragment = x.fragment; pair = x.pair; mask = x.mask; children = cs }) ≡ lowered (fragment_of u) tail (tree_of s)
   tree_of-lowered u s ptr cs tail up is at =
       let o = out-TrieNode K V s in
-      let below : tree_of ptr.value ≡ record { fragment = tail; pair = (tree_of s).pair; mask = (tree_of s).mask; children = (tree_of s).children } =
-      ap (λ n. tree_of n) at ∙ tree_of-roll _ ∙ ap (λ (t : Tree (KeyValue K V)). record { fragment = tail; pair = t.pair; mask = t.mask; children = t.children }) (sym (tree_of-out s)) in
+      let below : tree_of ptr.value ≡ with_fragment tail (tree_of s) = ap (λ n. tree_of n) at ∙ tree_of-written_fragment s tail in
       tree_of-roll _
       ∙ ap (λ p. record { fragment = fragment_of u; pair = unboxed p; mask = (out-TrieNode K V u).mask; children = children_of cs.items }) up.1
       ∙ ap (λ m. record { fragment = fragment_of u; pair = None; mask = m; children = children_of cs.items }) up.2

@@ -10,10 +10,6 @@ use Rattle.masked_tree.specs.Alters.{Run, entry_at, all_of, none_of, AltersChild
 use Rattle.masked_tree.proofs.MaskLemmas.{bit_at-marked, marked_lt, zero_is_mask}
 use Rattle.masked_tree.proofs.TreeLemmas.Children.{swaps_after, firsts-set_child, set_child_placed, set_child_full, set_child_many, set_child_swaps, nodes_in-set_child, nibbles_in-set_child, child_tree_is_placed, bit_of-insert_child, insert_child_placed, insert_child_full, insert_child_many, insert_child_swaps, nodes_in-insert_child, nibbles_in-insert_child}
 
--- a list alone has as many nibbles as with none beside it
-length-alone : (f : List ℕ) → length f + 0 ≡ length f
-length-alone f = omega arith
-
 module _ {P : Type 0} where
   -- a node's own pair is written
   pub pair_edits : (t : Tree P) (x : P) → IsTreePlaced t → Edits t.fragment x t.pair 0 0 t (with_pair x t)
@@ -123,18 +119,17 @@ module _ {P : Type 0} where
         };
       }
 
-  -- all entries of a leaf are its own one
-  all_of-leaf : (s f : List ℕ) (x : P) → all_of s (leaf f x) ≡ entry_at (s ++ f) (Some x)
-  all_of-leaf s f x = λ i q. entry (append_assoc q s f i) (Some x)
+  -- all entries of a leaf with an empty fragment are the one at its path
+  pub all_of-leaf : (s : List ℕ) (x : P) → all_of s (leaf [] x) ≡ entry_at s (Some x)
+  all_of-leaf s x = λ i q. entry (append-nil (q ++ s) i) (Some x)
 
-  -- a leaf comes
-  -- a new leaf with a first nibble that no child has writes one entry, with one node more
-  pub leaf_edits : (t : Tree P) (x : P) (f : List ℕ) (i : ℕ) → IsTreePlaced t → f ≢ [] → first f < 16 → IsPlaceOf (first f) (firsts t.children) (Err i) →
-      Edits (t.fragment ++ f) x None 1 (length f) t (with_new_child i (first f) (leaf f x) t)
-  leaf_edits t x f i h s low at =
-      subst (λ come. AltersNode none_of come 1 0 (length f) 0 t (with_new_child i (first f) (leaf f x) t)) (all_of-leaf t.fragment f x)
-      (subst (λ k. AltersNode none_of (all_of t.fragment (leaf f x)) 1 0 k 0 t (with_new_child i (first f) (leaf f x) t)) (length-alone f)
-      (child_comes t (leaf f x) i h s low at (zero_is_mask, tt) (inl refl, tt)))
+  -- a leaf is at its place, since no child is below it
+  pub leaf_is_placed : (f : List ℕ) (x : P) → IsTreePlaced (leaf f x)
+  leaf_is_placed f x = (zero_is_mask, tt)
+
+  -- a leaf is full, since it has a pair
+  pub leaf_is_full : (f : List ℕ) (x : P) → IsTreeFull (leaf f x)
+  leaf_is_full f x = (inl refl, tt)
 
   -- a node put above a placed tree, to which a fragment with a first nibble is left, is placed
   pub lowered_placed : (t : Tree P) (f g : List ℕ) → g ≢ [] → first g < 16 → IsTreePlaced t → IsTreePlaced (lowered f g t)
@@ -191,12 +186,3 @@ module _ {P : Type 0} where
             nibbles = omega (arith, length-cut, c.nibbles);
           };
         }
-
-    -- the pair in a leaf beside
-    -- a pair in a leaf beside a child, below a new node, writes its entry, with two nodes more
-    pub split_leaf : (x : P) (r : List ℕ) (i : ℕ) → r ≢ [] → first r < 16 → IsPlaceOf (first r) (first g ∷ []) (Err i) →
-        Replaces (f ++ r) x None 2 (length r) t (with_new_child i (first r) (leaf r x) (lowered f g t))
-    split_leaf x r i s small at =
-        subst (λ come. AltersChild none_of come 2 0 (length r) 0 t (with_new_child i (first r) (leaf r x) (lowered f g t))) (all_of-leaf f r x)
-        (subst (λ k. AltersChild none_of (all_of f (leaf r x)) 2 0 k 0 t (with_new_child i (first r) (leaf r x) (lowered f g t))) (length-alone r)
-        (split_beside (leaf r x) i s small at (zero_is_mask, tt) (inl refl, tt)))

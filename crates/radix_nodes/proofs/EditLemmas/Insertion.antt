@@ -1,5 +1,5 @@
 -- The steps of an insertion, at nodes.
-use Rattle.std.proofs.Common.{◌≡◌, ◌≢◌, ℕ, suc, ◌-◌, ◌<◌, ◌≤◌, List, [], ◌∷◌, ◌++◌, length, get_or, take, drop, slice_index, Option, Some, None, refl, ap, sym, subst, ◌∙◌, arith, inl, inr, append-nil, append_assoc, Result, Ok, Err, ne_eqb}
+use Rattle.std.proofs.Common.{◌≡◌, ◌≢◌, ℕ, suc, ◌+◌, ◌-◌, ◌<◌, ◌≤◌, List, [], ◌∷◌, ◌++◌, length, get_or, take, drop, slice_index, Option, Some, None, refl, ap, sym, subst, ◌∙◌, arith, inl, inr, append-nil, append_assoc, Result, Ok, Err, ne_eqb}
 use Rattle.std.proofs.lemmas.List.{length-drop, length-append, take-append-drop}
 use Rattle.std.specs.declared.boxed.Box.{Box}
 use Rattle.std.specs.declared.alloc.Global.{Global}
@@ -11,16 +11,16 @@ use Rattle.radix_nodes.specs.declared.trie_node.TrieNode.{TrieNode, out-TrieNode
 use Rattle.nibble_map.specs.Lists.{IsPrefix}
 use Rattle.masked_tree.specs.Mask.{IsPlaceOf, IsMask, IsRisingFrom, bit_of, rank}
 use Rattle.masked_tree.specs.Paths.{IsNodeAt, IsHeld}
-use Rattle.nibble_map.proofs.ListLemmas.Cut.{cancel_front, first-append}
+use Rattle.nibble_map.proofs.ListLemmas.Cut.{cancel_front, append-some, first-append}
 use Rattle.masked_tree.proofs.PathLemmas.Paths.{own_unheld, held_node, held_to_child, held_from_child, stuck_unheld, stuck_gap}
-use Rattle.masked_tree.specs.Tree.{Tree, IsAt, firsts, IsTreePlaced}
-use Rattle.masked_tree.specs.Edits.{set_child, with_pair, with_child, with_new_child, leaf, lowered}
-use Rattle.masked_tree.specs.Alters.{Replaces, Edits}
+use Rattle.masked_tree.specs.Tree.{Tree, IsAt, firsts, IsTreePlaced, IsTreeFull, nodes_in, nibbles_in}
+use Rattle.masked_tree.specs.Edits.{set_child, with_fragment, with_pair, with_child, with_new_child, leaf, lowered}
+use Rattle.masked_tree.specs.Alters.{entry_at, all_of, none_of, AltersNode, AltersChild, Replaces, Edits, Grafts, GraftsChild}
 use Rattle.radix_nodes.specs.Nodes.{unboxed, tree_of, children_of, fragment_of, EditOutcome, ReplaceOutcome, SetOutcome}
 use Rattle.radix_nodes.proofs.NodeLemmas.Nodes.{tree_of-written_pair, tree_of-written_children, box_is_at, children_of-set, children-tree_of, pair-tree_of, mask-tree_of, fragment-tree_of}
 use Rattle.masked_tree.proofs.TreeLemmas.Children.{placed_rises, child_tree_is_placed, first-at_rank, set_child-same}
 use Rattle.masked_tree.proofs.MaskLemmas.{rank_within, rank_most}
-use Rattle.masked_tree.proofs.EditLemmas.Insertion.{pair_edits, child_entry_alters, node_as_child, leaf_edits, split_here, split_leaf}
+use Rattle.masked_tree.proofs.EditLemmas.Insertion.{pair_edits, child_entry_alters, node_as_child, all_of-with_fragment, all_of-leaf, leaf_is_placed, leaf_is_full, child_comes, split_here, split_beside}
 use Rattle.radix_nodes.proofs.EditLemmas.KeyParts.{first-drop, drop_some, take_some}
 
 -- the path of each node begins with the tree's fragment
@@ -32,17 +32,64 @@ path_has_fragment t p u (inr d) = (d.0, d.1)
 pub place_beside : (x y : ℕ) → x ≢ y → IsPlaceOf y (x ∷ []) (Err (rank y (x ∷ [])))
 place_beside x y apart = (rw (ne_eqb x y apart) refl, refl)
 
+-- a branch comes
+module _ {P : Type 0} (u : Tree P) (key : List ℕ) (depth y : ℕ) (lt : depth < length key) (ey : y ≡ slice_index key depth) (low : y < 16) (below : IsTreePlaced u) (full : IsTreeFull u) where
+  -- what is left of the key
+  abbrev rest : List ℕ
+  rest = drop depth key
+
+  -- the branch with what is left of the key in front of its fragment
+  abbrev pub hung : Tree P
+  hung = with_fragment (rest ++ u.fragment) u
+
+  -- it begins with the key's next nibble
+  first-hung : first (rest ++ u.fragment) ≡ y
+  first-hung = first-append rest u.fragment (drop_some key depth lt) ∙ first-drop key depth ∙ sym ey
+
+  -- its nibbles are those of the branch and what is left of the key
+  hung_nibbles : (k : ℕ) → k ≡ length key - depth → k + (length u.fragment + nibbles_in u.children) ≡ length (rest ++ u.fragment) + nibbles_in u.children
+  hung_nibbles k ek = let a = length-append rest u.fragment in let b = length-drop depth key in omega (arith, ek, a, b)
+
+  -- a branch that comes as a child, with the rest of the key before its fragment, comes at the key
+  pub branch_step : (t t' mid top : Tree P) (f : List ℕ) (i k : ℕ) → f ≡ t.fragment → IsTreePlaced t → IsPlaceOf (slice_index key depth) (firsts t.children) (Err i) →
+      top ≡ hung → mid ≡ t → t' ≡ with_new_child i y top mid → k ≡ length key - depth →
+      Grafts (f ++ rest) u (1 + nodes_in u.children) (k + (length u.fragment + nibbles_in u.children)) t t'
+  branch_step t t' mid top f i k ef h at el em et ek =
+      let one : 1 + nodes_in u.children ≡ suc (nodes_in u.children) = omega arith in
+      let e = child_comes t hung i h (append-some rest u.fragment (drop_some key depth lt)) (subst (λ n. n < 16) (sym first-hung) low)
+      (subst (λ n. IsPlaceOf n (firsts t.children) (Err i)) (sym ey ∙ sym first-hung) at) below full in
+      let g = subst (λ come. AltersNode none_of come (suc (nodes_in u.children)) 0 (length (rest ++ u.fragment) + nibbles_in u.children) 0 t (with_new_child i (first (rest ++ u.fragment)) hung t))
+      (all_of-with_fragment t.fragment rest u) e in
+      rw (ef, et, el, em, one, hung_nibbles k ek, ← first-hung) g
+
+  -- a branch that comes beside a child, below a new node in the child's place, comes at the key
+  pub branch_beside_step : (t t' top : Tree P) (whole f g : List ℕ) (n k : ℕ) → whole ≡ t.fragment → f ≡ take n whole → g ≡ drop n whole → 0 < n → n < length whole → first g < 16 →
+      IsTreePlaced t → first g ≢ y → top ≡ hung → t' ≡ with_new_child (rank y (first g ∷ [])) y top (lowered f g t) → k ≡ length key - depth →
+      GraftsChild (take n whole ++ rest) u (2 + nodes_in u.children) (k + (length u.fragment + nibbles_in u.children)) t t'
+  branch_beside_step t t' top whole f g n k ew ef eg p l small h apart el et ek =
+      let cut : t.fragment ≡ f ++ g = sym ew ∙ sym (take-append-drop n whole) ∙ (λ i. sym ef i ++ sym eg i) in
+      let two : 2 + nodes_in u.children ≡ suc (suc (nodes_in u.children)) = omega arith in
+      let i = rank y (first g ∷ []) in
+      let e = split_beside t f g cut (λ z. take_some whole n p l (sym ef ∙ z)) (λ z. drop_some whole n l (sym eg ∙ z)) small h hung i
+      (append-some rest u.fragment (drop_some key depth lt)) (subst (λ n. n < 16) (sym first-hung) low)
+      (subst (λ n. IsPlaceOf n (first g ∷ []) (Err i)) (sym first-hung) (place_beside (first g) y apart)) below full in
+      let b = subst (λ come. AltersChild none_of come (suc (suc (nodes_in u.children))) 0 (length (rest ++ u.fragment) + nibbles_in u.children) 0 t (with_new_child i (first (rest ++ u.fragment)) hung (lowered f g t)))
+      (all_of-with_fragment f rest u) e in
+      rw (et, el, two, hung_nibbles k ek, ← ef) (subst (λ z. AltersChild none_of (all_of (f ++ rest) u) (suc (suc (nodes_in u.children))) 0 (length (rest ++ u.fragment) + nibbles_in u.children) 0 t (with_new_child i z hung (lowered f g t))) first-hung b)
+
 module _ {K V : Type 0} where
   -- a leaf comes
+  -- what a leaf with an empty fragment does at p, with no nibble of its own, is what x does there
+  leaf_as_entry : (A : (List ℕ → List (List ℕ × KeyValue K V)) → ℕ → Type 0) (p : List ℕ) (x : KeyValue K V) (k : ℕ) → A (all_of p (leaf [] x)) (k + 0) → A (entry_at p (Some x)) k
+  leaf_as_entry A p x k a = let e : k + 0 ≡ k = omega arith in subst (λ come. A come k) (all_of-leaf p x) (subst (λ k. A (all_of p (leaf [] x)) k) e a)
+
   -- a new leaf with the rest of the key, in its place, inserts x by one node and its nibbles
   pub leaf_step : (t t' mid lf : Tree (KeyValue K V)) (f key : List ℕ) (x : KeyValue K V) (depth i y k : ℕ) → f ≡ t.fragment → depth < length key → y ≡ slice_index key depth → y < 16 →
       IsTreePlaced t → IsPlaceOf (slice_index key depth) (firsts t.children) (Err i) → lf ≡ leaf (drop depth key) x → mid ≡ t → t' ≡ with_new_child i y lf mid → k ≡ length key - depth →
       Edits (f ++ drop depth key) x None 1 k t t'
   leaf_step t t' mid lf f key x depth i y k ef lt ey low h at el em et ek =
-      let rest = drop depth key in
-      let fy : first rest ≡ y = first-drop key depth ∙ sym ey in
-      let e = leaf_edits t x rest i h (drop_some key depth lt) (subst (λ n. n < 16) (sym fy) low) (subst (λ n. IsPlaceOf n (firsts t.children) (Err i)) (sym (first-drop key depth)) at) in
-      rw (ef, et, el, em, ek, ← length-drop depth key, ← fy) e
+      leaf_as_entry (λ come k. AltersNode none_of come 1 0 k 0 t t') (f ++ drop depth key) x k
+      (branch_step (leaf [] x) key depth y lt ey low (leaf_is_placed [] x) (leaf_is_full [] x) t t' mid lf f i k ef h at (el ∙ ap (λ r. leaf r x) (sym (append-nil (drop depth key)))) em et ek)
 
   -- the pair goes into the new node
   -- a split where the key ends, with x in the new upper node, inserts x by one node and no nibbles
@@ -59,14 +106,8 @@ module _ {K V : Type 0} where
       0 < n → n < length whole → first g < 16 → IsTreePlaced t → depth < length key → y ≡ slice_index key depth → y < 16 → first g ≢ y →
       lf ≡ leaf (drop depth key) x → t' ≡ with_new_child (rank y (first g ∷ [])) y lf (lowered f g t) → k ≡ length key - depth → Replaces (take n whole ++ drop depth key) x None 2 k t t'
   beside_step t t' lf whole f g key n depth y k x ew ef eg p l low h lt ey small apart el et ek =
-      let cut : t.fragment ≡ f ++ g = sym ew ∙ sym (take-append-drop n whole) ∙ (λ i. sym ef i ++ sym eg i) in
-      let rest = drop depth key in
-      let fy : first rest ≡ y = first-drop key depth ∙ sym ey in
-      let i = rank y (first g ∷ []) in
-      let e = split_leaf t f g cut (λ z. take_some whole n p l (sym ef ∙ z)) (λ z. drop_some whole n l (sym eg ∙ z)) low h x rest i (drop_some key depth lt)
-      (subst (λ n. n < 16) (sym fy) small) (subst (λ n. IsPlaceOf n (first g ∷ []) (Err i)) (sym fy) (place_beside (first g) y apart)) in
-      let b = subst (λ z. Replaces (f ++ rest) x None 2 (length rest) t (with_new_child i z (leaf rest x) (lowered f g t))) fy e in
-      rw (et, el, ek, ← length-drop depth key, ← ef) b
+      leaf_as_entry (λ come k. AltersChild none_of come 2 0 k 0 t t') (take n whole ++ drop depth key) x k
+      (branch_beside_step (leaf [] x) key depth y lt ey small (leaf_is_placed [] x) (leaf_is_full [] x) t t' lf whole f g n k ew ef eg p l low h apart (el ∙ ap (λ r. leaf r x) (sym (append-nil (drop depth key)))) et ek)
 
   -- a write of the node's own pair is the insertion at a key that ends there, or its refusal
   pub set_step : (r : Result (Change K V) (KeyValue K V)) (n : TrieNode K V) (at : Option (Box (KeyValue K V) Global)) (x : KeyValue K V) (rest : List ℕ) →

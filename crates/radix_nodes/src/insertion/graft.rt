@@ -145,7 +145,13 @@ fn split_beside<K: Drop, V: Drop>(
     let Ok(fragment) = joined_tail(list, depth, &branch.fragment) else {
         return Err(branch);
     };
-    lower_beside(slot, upper, tail, refitted(branch, fragment), list.get(depth));
+    lower_beside(
+        slot,
+        upper,
+        tail,
+        refitted(branch, fragment),
+        list.get(depth),
+    );
     Ok(Hung {
         nodes: 2,
         nibbles: list.len() - depth,

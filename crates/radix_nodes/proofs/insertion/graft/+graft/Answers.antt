@@ -1,4 +1,4 @@
-use Rattle.std.proofs.Common.{◌≡◌, ◌+◌, ◌<◌, ◌∙◌, ◌++◌, refl, sym, ap, subst, length, drop, slice_index, arith, Ok, Err}
+use Rattle.std.proofs.Common.{◌≡◌, ◌+◌, ◌<◌, ◌∙◌, ◌++◌, refl, sym, ap, subst, length, drop, arith, Ok, Err}
 use Rattle.nibble_map.specs.Trees.{first}
 use Rattle.masked_tree.specs.Mask.{IsPlaceOf}
 use Rattle.masked_tree.specs.Tree.{firsts, IsTreePlaced}

@@ -1,10 +1,9 @@
-use Rattle.std.proofs.Common.{◌∙◌, ◌++◌, refl, sym, ap, drop, arith, ◌-◌}
+use Rattle.std.proofs.Common.{refl, sym, ap, drop, arith, ◌-◌}
 use Rattle.radix_nodes.specs.declared.trie_node.TrieNode.{out-TrieNode, out-roll-TrieNode}
-use Rattle.masked_tree.specs.Edits.{with_fragment}
 use Rattle.radix_nodes.specs.Nodes.{tree_of, fragment_of}
 use Rattle.radix_nodes.proofs.NodeLemmas.Nodes.{tree_of-same_children, fragment-tree_of}
-use Rattle.radix_nodes.proofs.EditLemmas.Insertion.{gap_is_within}
-use Rattle.radix_nodes.proofs.EditLemmas.Grafts.{branch_step, refitted_is_hung}
+use Rattle.radix_nodes.proofs.EditLemmas.Insertion.{branch_step, gap_is_within}
+use Rattle.radix_nodes.proofs.EditLemmas.Grafts.{refitted_is_hung}
 use Rattle.radix_nodes.proofs.insertion.graft.add_branch.Goals as goal
 
 pub returns-in_default : goal.returns-in_default

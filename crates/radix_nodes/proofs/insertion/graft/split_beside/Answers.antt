@@ -2,8 +2,8 @@ use Rattle.std.proofs.Common.{◌≡◌, ◌<◌, ◌∙◌, sym, ap, subst, tak
 use Rattle.nibble_map.specs.Trees.{first}
 use Rattle.radix_nodes.specs.Nodes.{tree_of, fragment_of}
 use Rattle.radix_nodes.proofs.NodeLemmas.Nodes.{fragment-tree_of}
-use Rattle.radix_nodes.proofs.EditLemmas.Insertion.{parted_firsts}
-use Rattle.radix_nodes.proofs.EditLemmas.Grafts.{branch_beside_step, refitted_is_hung}
+use Rattle.radix_nodes.proofs.EditLemmas.Insertion.{parted_firsts, branch_beside_step}
+use Rattle.radix_nodes.proofs.EditLemmas.Grafts.{refitted_is_hung}
 use Rattle.radix_nodes.proofs.insertion.graft.split_beside.Goals as goal
 
 pub lower_beside-requires-clause-apart : goal.lower_beside-requires-clause-apart

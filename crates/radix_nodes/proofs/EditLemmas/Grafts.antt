@@ -1,5 +1,5 @@
 -- The steps of a branch that is hung in, at nodes.
-use Rattle.std.proofs.Common.{◌≡◌, ◌≢◌, ℕ, ◌+◌, ◌-◌, ◌<◌, ◌^◌, List, ◌++◌, length, take, drop, slice_index, get_or, Result, Ok, Err, refl, ap, sym, subst, ◌∙◌, arith}
+use Rattle.std.proofs.Common.{◌≡◌, ◌≢◌, ℕ, ◌+◌, ◌<◌, ◌^◌, List, ◌++◌, length, take, drop, slice_index, get_or, Result, Ok, Err, refl, ap, sym, subst, ◌∙◌, arith}
 use Rattle.masked_tree.specs.Mask.{IsMask, IsRisingFrom, IsPlaceOf}
 use Rattle.masked_tree.specs.Agreement.{Agrees}
 use Rattle.masked_tree.proofs.PathLemmas.Agreement.{agrees_some}

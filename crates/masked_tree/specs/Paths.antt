@@ -21,6 +21,14 @@ module _ {P : Type 0} where
   abbrev pub IsPath : Tree P → List ℕ → Type 0
   IsPath t x = (u : Tree P) × IsNodeAt t x u
 
+  -- a node stands at or below path p
+  abbrev pub IsOccupied : Tree P → List ℕ → Type 0
+  IsOccupied t p = (q : List ℕ) × IsPath t q × IsPrefix p q
+
+  -- none does
+  abbrev pub IsVacant : Tree P → List ℕ → Type 0
+  IsVacant t p = (q : List ℕ) → IsPath t q → IsPrefix p q → ⊥
+
   -- a node stands at path x, which begins the list
   abbrev pub IsOnWay : Tree P → List ℕ → List ℕ → Type 0
   IsOnWay t rest x = IsPath t x × IsPrefix x rest

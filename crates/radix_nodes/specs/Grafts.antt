@@ -4,23 +4,13 @@ use Rattle.std.specs.declared.boxed.Box.{Box}
 use Rattle.std.specs.declared.alloc.Global.{Global}
 use Rattle.masked_tree.specs.Alters.{Grafts, GraftsChild}
 use Rattle.masked_tree.specs.Tree.{Tree, nodes_in, nibbles_in}
-use Rattle.masked_tree.specs.Paths.{IsPath}
-use Rattle.nibble_map.specs.Lists.{IsPrefix}
+use Rattle.masked_tree.specs.Paths.{IsOccupied, IsVacant}
 use Rattle.radix_nodes.specs.Nodes.{tree_of}
 use Rattle.radix_nodes.specs.declared.insertion.graft.Hung.{Hung}
 use Rattle.radix_nodes.specs.declared.insertion.graft.Ungrafted.{Ungrafted}
 use Rattle.radix_nodes.specs.declared.insertion.graft.Ungrafted.TheVariants as why
 use Rattle.radix_nodes.specs.declared.trie_node.KeyValue.{KeyValue}
 use Rattle.radix_nodes.specs.declared.trie_node.TrieNode.{TrieNode}
-
-module _ {P : Type 0} where
-  -- a node stands at or below p
-  abbrev pub IsOccupied : Tree P → List ℕ → Type 0
-  IsOccupied t p = (q : List ℕ) × IsPath t q × IsPrefix p q
-
-  -- no node does
-  abbrev pub IsVacant : Tree P → List ℕ → Type 0
-  IsVacant t p = (q : List ℕ) → IsPath t q → IsPrefix p q → ⊥
 
 module _ {K V : Type 0} where
   -- how many nodes come with a branch, and how many nibbles of fragments

@@ -1,6 +1,7 @@
 -- The steps of a branch that is hung in, at nodes.
 use Rattle.std.proofs.Common.{◌≡◌, ◌≢◌, ℕ, ◌+◌, ◌<◌, ◌^◌, List, ◌++◌, length, take, drop, slice_index, get_or, Result, Ok, Err, refl, ap, sym, subst, ◌∙◌, arith}
 use Rattle.masked_tree.specs.Mask.{IsMask, IsRisingFrom, IsPlaceOf}
+use Rattle.masked_tree.specs.Paths.{IsOccupied, IsVacant}
 use Rattle.masked_tree.specs.Agreement.{Agrees}
 use Rattle.masked_tree.proofs.PathLemmas.Agreement.{agrees_some}
 use Rattle.masked_tree.proofs.TreeLemmas.Children.{child_tree_is_placed}
@@ -18,7 +19,7 @@ use Rattle.radix_nodes.specs.declared.insertion.graft.Hung.{Hung}
 use Rattle.radix_nodes.specs.declared.insertion.graft.Ungrafted.{Ungrafted}
 use Rattle.radix_nodes.specs.declared.insertion.graft.Ungrafted.TheVariants as why
 use Rattle.radix_nodes.specs.Nodes.{tree_of, fragment_of, IsMet}
-use Rattle.radix_nodes.specs.Grafts.{IsOccupied, IsVacant, told, HangOutcome, HangChildOutcome, GraftOutcome}
+use Rattle.radix_nodes.specs.Grafts.{told, HangOutcome, HangChildOutcome, GraftOutcome}
 use Rattle.radix_nodes.proofs.NodeLemmas.Nodes.{fragment-tree_of}
 use Rattle.radix_nodes.proofs.SearchLemmas.Compared.{append-met_rest}
 use Rattle.radix_nodes.proofs.SearchLemmas.Nearest.{nearest_here, nearest_inside, nearest_parted, none_through_child}

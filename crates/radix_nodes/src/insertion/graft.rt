@@ -1,5 +1,5 @@
-//! A branch is hung into a tree, with all that is below it: no pair is moved. All that may fail comes first, so a refusal leaves the
-//! tree as it was, and returns the branch as it was.
+//! A branch is hung into a tree, with all that is below it: no pair is moved. All that may fail
+//! comes first, so a refusal leaves the tree as it was, and returns the branch as it was.
 ghost use Rattle.std.specs.Prelude.{◌≡◌, ◌≢◌, ◌<◌, ◌≤◌, ◌++◌, length, take, drop, slice_index, Err};
 ghost use Rattle.masked_tree.specs.Edits.{with_fragment};
 ghost use Rattle.masked_tree.specs.Mask.{IsPlaceOf};
@@ -16,7 +16,8 @@ use crate::trie_node::mask::place;
 use radix_keys::Nibblet;
 use std::alloc::Global;
 
-/// How many nodes came besides those below the branch's own, and how many nibbles of fragments besides those of the branch.
+/// How many nodes came besides those below the branch's own, and how many nibbles of fragments
+/// besides those of the branch.
 #[derive(Drop)]
 pub struct Hung {
     pub nodes: usize,
@@ -32,8 +33,9 @@ pub enum Ungrafted<K, V> {
     Memory(Box<TrieNode<K, V>>),
 }
 
-/// Hangs the branch in at the list's place, below a node that stands at `depth`: what the branch holds at a list stands behind this
-/// list then. It is refused where a node stands at or below the list.
+/// Hangs the branch in at the list's place, below a node that stands at `depth`: what the branch
+/// holds at a list stands behind this list then. It is refused as occupied where a node stands at or
+/// below the list, and where an allocation fails.
 pub fn graft<K: Drop, V: Drop>(
     node: &mut TrieNode<K, V>,
     alloc: Global,
@@ -118,7 +120,8 @@ fn add_branch<K: Drop, V: Drop>(
     })
 }
 
-// The node in `slot` parts from the list after n nibbles of its fragment: a new node stands in its place, with the branch beside it.
+// The node in `slot` parts from the list after n nibbles of its fragment: a new node stands in its
+// place, with the branch beside it.
 #[inline(never)]
 fn split_beside<K: Drop, V: Drop>(
     slot: &mut Box<TrieNode<K, V>>,

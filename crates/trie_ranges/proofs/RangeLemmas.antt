@@ -9,6 +9,7 @@ use Rattle.std.specs.FinMap.Entries.{below_all}
 use Rattle.std.specs.List.{AllPairs, Contains}
 use Rattle.nibble_map.specs.Lists.{Each}
 use Rattle.nibble_map.specs.Maps.{PairMap}
+use Rattle.nibble_map.proofs.ComputedLemmas.Filters.{filter-filter}
 use Rattle.nibble_map.proofs.ListLemmas.Rising.{Each-from_has}
 use Rattle.nibble_map.proofs.ListLemmas.Sorted.{tied_lists_equal}
 use Rattle.nibble_map.proofs.MapLemmas.Bridge.{both_hold, first_of_both, less_by_test, second_of_both}
@@ -19,16 +20,6 @@ use Rattle.radix_trie.specs.Walks.{passes}
 use Rattle.radix_trie.proofs.LawLemmas.Asked.{AreAtEncodings, keys_of_part_rise, part_entries, part_holds, part_keyed}
 use Rattle.trie_set.proofs.SetLemmas.{whole_walk}
 use Rattle.trie_ranges.specs.Ranges.{comes_before, pairs_to, pairs_within}
-
--- what passes one test and then another passes both
-filter-filter : {A : Type 0} (s t : A → Bool) (xs : List A) → filter t (filter s xs) ≡ filter (λ x. s x && t x) xs
-filter-filter s t [] = refl
-filter-filter s t (x ∷ xs) = by (s x) (filter-filter s t xs)
-  where
-    by : (b : Bool) → filter t (filter s xs) ≡ filter (λ y. s y && t y) xs
-        → filter t (cond b (x ∷ filter s xs) (filter s xs)) ≡ cond (b && t x) (x ∷ filter (λ y. s y && t y) xs) (filter (λ y. s y && t y) xs)
-    by true rest = ap (λ ys. cond (t x) (x ∷ ys) ys) rest
-    by false rest = rest
 
 passes-less : (itself : Bool) → passes itself Less ≡ true
 passes-less true = refl

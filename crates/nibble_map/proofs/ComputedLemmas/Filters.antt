@@ -1,9 +1,19 @@
 -- What a filtered list holds, and that it rises.
-use Rattle.std.proofs.Common.{◌≡◌, ℕ, List, [], ◌∷◌, filter, Bool, cond, true, false, ap, sym, ◌∙◌, inl, inr}
+use Rattle.std.proofs.Common.{◌≡◌, ℕ, List, [], ◌∷◌, filter, Bool, cond, ◌&&◌, true, false, ap, sym, ◌∙◌, inl, inr}
 use Rattle.std.proofs.lemmas.Bool.{cases_Bool}
 use Rattle.nibble_map.specs.Lists.{IsBefore, Has, IsRising}
 use Rattle.nibble_map.proofs.ListLemmas.Rising.{Each-from_has}
 use Rattle.nibble_map.proofs.ListLemmas.Unique.{Each-has}
+
+-- what passes one test and then another passes both
+pub filter-filter : {A : Type 0} (s t : A → Bool) (xs : List A) → filter t (filter s xs) ≡ filter (λ x. s x && t x) xs
+filter-filter s t [] = refl
+filter-filter s t (x ∷ xs) = by (s x) (filter-filter s t xs)
+  where
+    by : (b : Bool) → filter t (filter s xs) ≡ filter (λ y. s y && t y) xs
+        → filter t (cond b (x ∷ filter s xs) (filter s xs)) ≡ cond (b && t x) (x ∷ filter (λ y. s y && t y) xs) (filter (λ y. s y && t y) xs)
+    by true rest = ap (λ ys. cond (t x) (x ∷ ys) ys) rest
+    by false rest = rest
 
 -- an element of a filtered list is an element of the list and passes the test
 pub filter_has : (t : List ℕ → Bool) (xs : List (List ℕ)) (x : List ℕ) → Has (filter t xs) x → Has xs x × (t x ≡ true)

@@ -14,6 +14,16 @@ use Rattle.nibble_map.proofs.MapLemmas.Bridge.{first_of_both, second_of_both, bo
 pub tied_lists_equal : IsAntisymmetric (slice_cmp nat_cmp)
 tied_lists_equal = slice_cmp-IsAntisymmetric nat_cmp-IsAntisymmetric
 
+-- a list that the map's order finds equal is equal, and the other way round
+pub equal_at : (e x : List ℕ) → eq_by_cmp (slice_cmp nat_cmp) e x ≡ true → e ≡ x
+equal_at e x is = tied_lists_equal e x (equal_by_test _ (subst T (sym is) tt))
+
+pub not_equal_at : (e x : List ℕ) → eq_by_cmp (slice_cmp nat_cmp) e x ≡ false → e ≡ x → ⊥
+not_equal_at e x is q =
+    let same : eq_by_cmp (slice_cmp nat_cmp) e x ≡ true = ap (λ z. eq_by_cmp (slice_cmp nat_cmp) z x) q ∙ ap is_eq (tied_itself nat_list_cmp_total x) in
+    let no : false ≡ true = sym is ∙ same in
+    cc no
+
 -- `Equal` isn't `Less`
 not_less : Equal ≡ Less → ⊥
 not_less e = subst (λ r. T (is_eq r)) e tt

@@ -1,30 +1,18 @@
 -- Removals of the pairs that a closure doesn't keep.
-use Rattle.std.proofs.Common.{◌≡◌, ℕ, ◌⊎◌, inl, inr, Bool, true, false, cond, not, T, List, [], ◌∷◌, Option, Some, None, MatchOption, nat_cmp, refl, sym, ap, subst, ◌∙◌}
+use Rattle.std.proofs.Common.{◌≡◌, ℕ, ◌⊎◌, inl, inr, Bool, true, false, cond, not, List, [], ◌∷◌, Option, Some, None, MatchOption, nat_cmp, refl, sym, ap, subst, ◌∙◌}
 use Rattle.std.proofs.lemmas.Cmp.{nat_list_cmp_total}
-use Rattle.std.specs.Cmp.{tied_itself}
 use Rattle.std.specs.Cmp.Lexicographic.{slice_cmp}
 use Rattle.std.specs.FinMap as map
-use Rattle.std.specs.Ordering.{eq_by_cmp, is_eq}
+use Rattle.std.specs.Ordering.{eq_by_cmp}
 use Rattle.nibble_map.specs.Lists.{Has, is_prefix}
 use Rattle.nibble_map.specs.Maps.{PairMap, below, without_below}
-use Rattle.nibble_map.proofs.ListLemmas.Sorted.{tied_lists_equal}
+use Rattle.nibble_map.proofs.ListLemmas.Sorted.{equal_at, not_equal_at, tied_lists_equal}
 use Rattle.nibble_map.proofs.MapLemmas.Below.{get-retained_lists}
-use Rattle.nibble_map.proofs.MapLemmas.Bridge.{equal_by_test}
 use Rattle.nibble_map.proofs.MapLemmas.Edits.{not_None, same_Some}
 use Rattle.radix_trie.specs.Keys.{IsKeyed}
 use Rattle.radix_trie.specs.Retains.{Removes, RemovesSome, Retains, RetainsAtLeast, Sifts}
 use Rattle.radix_trie.specs.Views.{pairs_below}
 use Rattle.radix_trie.proofs.LawLemmas.Asked.{AreAtEncodings, pairs_have, part_keyed}
-
--- a list that compares as equal is equal, and the other way round
-equal_at : (e x : List ℕ) → eq_by_cmp (slice_cmp nat_cmp) e x ≡ true → e ≡ x
-equal_at e x is = tied_lists_equal e x (equal_by_test _ (subst T (sym is) tt))
-
-not_equal_at : (e x : List ℕ) → eq_by_cmp (slice_cmp nat_cmp) e x ≡ false → e ≡ x → ⊥
-not_equal_at e x is q =
-    let same : eq_by_cmp (slice_cmp nat_cmp) e x ≡ true = ap (λ z. eq_by_cmp (slice_cmp nat_cmp) z x) q ∙ ap is_eq (tied_itself nat_list_cmp_total x) in
-    let no : false ≡ true = sym is ∙ same in
-    cc no
 
 module _ {K V : Type 0} where
   -- after a removal at x, a map answers nothing at x, and elsewhere as before

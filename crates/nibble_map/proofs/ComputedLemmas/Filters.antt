@@ -1,5 +1,5 @@
 -- What a filtered list holds, and that it rises.
-use Rattle.std.proofs.Common.{◌≡◌, ℕ, List, [], ◌∷◌, filter, Bool, cond, ◌&&◌, true, false, ap, sym, ◌∙◌, inl, inr}
+use Rattle.std.proofs.Common.{◌≡◌, ℕ, List, [], ◌∷◌, filter, Bool, cond, ◌&&◌, true, false, refl, ap, sym, ◌∙◌, inl, inr}
 use Rattle.std.proofs.lemmas.Bool.{cases_Bool}
 use Rattle.nibble_map.specs.Lists.{IsBefore, Has, IsRising}
 use Rattle.nibble_map.proofs.ListLemmas.Rising.{Each-from_has}

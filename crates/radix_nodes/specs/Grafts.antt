@@ -1,11 +1,14 @@
 -- What the hanging of a branch into a tree returns, and does to the tree.
-use Rattle.std.specs.Prelude.{◌≡◌, ℕ, ◌+◌, List, length, Result, Ok, Err}
+use Rattle.std.specs.Prelude.{◌≡◌, ℕ, ◌+◌, List, [], ◌++◌, length, Result, Ok, Err}
 use Rattle.std.specs.declared.boxed.Box.{Box}
 use Rattle.std.specs.declared.alloc.Global.{Global}
 use Rattle.masked_tree.specs.Alters.{Grafts, GraftsChild}
+use Rattle.masked_tree.specs.Edits.{merged, with_fragment}
 use Rattle.masked_tree.specs.Tree.{Tree, nodes_in, nibbles_in}
 use Rattle.masked_tree.specs.Paths.{IsOccupied, IsVacant}
 use Rattle.radix_nodes.specs.Nodes.{tree_of}
+use Rattle.radix_nodes.specs.declared.insertion.append.Unhung.{Unhung}
+use Rattle.radix_nodes.specs.declared.insertion.append.Unhung.TheVariants as stays
 use Rattle.radix_nodes.specs.declared.insertion.graft.Hung.{Hung}
 use Rattle.radix_nodes.specs.declared.insertion.graft.Ungrafted.{Ungrafted}
 use Rattle.radix_nodes.specs.declared.insertion.graft.Ungrafted.TheVariants as why
@@ -48,3 +51,17 @@ module _ {K V : Type 0} where
       (back ≡ branch) × (new ≡ old) × IsOccupied old p
   GraftOutcome (Err (why.Memory back)) branch p old new =
       (back ≡ branch) × (new ≡ old) × IsVacant old p
+
+  -- the one child u of the part, whose root has an empty fragment and no pair, comes behind p, where
+  -- no node stood at or below u's path; or nothing has changed: as occupied exactly where a node
+  -- stands there
+  abbrev pub AppendOutcome : Result Hung Unhung → List ℕ → (part part' : Tree (KeyValue K V))
+      → (old new : Tree (KeyValue K V)) → Type 0
+  AppendOutcome (Ok hung) p part part' old new =
+      let u = merged part in let branch = with_fragment [] u in
+      IsVacant old (p ++ u.fragment) × Grafts (p ++ u.fragment) branch
+      (nodes_come hung branch) (nibbles_come hung branch) old new
+  AppendOutcome (Err stays.Occupied) p part part' old new =
+      (part' ≡ part) × (new ≡ old) × IsOccupied old (p ++ (merged part).fragment)
+  AppendOutcome (Err stays.Memory) p part part' old new =
+      (part' ≡ part) × (new ≡ old) × IsVacant old (p ++ (merged part).fragment)

@@ -5,6 +5,8 @@ use Rattle.radix_keys.specs.declared.nibbles.BytesError.{BytesError}
 use Rattle.radix_keys.specs.declared.nibbles.BytesError.TheVariants as bytes
 use Rattle.radix_keys.specs.declared.parts.PartsError.{PartsError}
 use Rattle.radix_keys.specs.declared.parts.PartsError.TheVariants as parts
+use Rattle.radix_trie.specs.declared.error.AppendWhy.{AppendWhy}
+use Rattle.radix_trie.specs.declared.error.AppendWhy.TheVariants as appending
 use Rattle.radix_trie.specs.declared.error.BuildError.{BuildError}
 use Rattle.radix_trie.specs.declared.error.BuildError.TheVariants as build
 use Rattle.radix_trie.specs.declared.error.FindError.{FindError}
@@ -31,6 +33,11 @@ abbrev pub of_try_insert : TryInsertWhy → TrieError
 of_try_insert try_insert.Memory = whole.Memory
 of_try_insert try_insert.Full = whole.Full
 of_try_insert try_insert.Occupied = whole.Occupied
+
+abbrev pub of_append : AppendWhy → TrieError
+of_append appending.Memory = whole.Memory
+of_append appending.Full = whole.Full
+of_append appending.Overlapping = whole.Overlapping
 
 abbrev pub of_build : BuildError → TrieError
 of_build build.Memory = whole.Memory
@@ -67,6 +74,7 @@ text_of whole.Memory = memory_text
 text_of whole.Full = codes "the trie is full"
 text_of whole.Outside = codes "the key lies outside the view"
 text_of whole.Occupied = codes "a pair is stored at the key"
+text_of whole.Overlapping = codes "the tries overlap"
 text_of whole.Absent = codes "no value is stored at the key"
 text_of whole.Closed = codes "no point stands at the key"
 text_of whole.Kind = codes "the value is neither null nor an object"

@@ -2,10 +2,13 @@
 -- view's path is a prefix of l (of a trie's own call nothing is outside), `light` that the key is
 -- light.
 use Rattle.std.specs.FinMap as map
-use Rattle.std.specs.Prelude.{◌≡◌, ℕ, ◌^◌, ◌-◌, ◌≢◌, ◌⊎◌, List, [], ◌∷◌, ◌++◌, None}
+use Rattle.std.specs.Prelude.{◌≡◌, ℕ, ◌+◌, ◌≤◌, ◌^◌, ◌-◌, ◌≢◌, ◌⊎◌, List, [], ◌∷◌, ◌++◌, None}
+use Rattle.nibble_map.specs.Lists.{IsPrefix}
 use Rattle.nibble_map.specs.MapQueries.{AreChildren, IsFragment, IsLeaf}
 use Rattle.nibble_map.specs.Maps.{PairMap, IsPoint, IsStored, below}
 use Rattle.nibble_map.specs.Nibbles.{IsShort}
+use Rattle.radix_trie.specs.declared.error.AppendWhy.{AppendWhy}
+use Rattle.radix_trie.specs.declared.error.AppendWhy.TheVariants as appending
 use Rattle.radix_trie.specs.declared.error.SubTrieError.{SubTrieError}
 use Rattle.radix_trie.specs.declared.error.SubTrieError.TheVariants as error
 use Rattle.radix_trie.specs.declared.error.InsertWhy.{InsertWhy}
@@ -55,3 +58,18 @@ module _ {K V : Type 0} (m : PairMap K V) (l : List ℕ) where
   abbrev pub RefusesBelow : (inside light : Type 0) → SubTrieError → Type 0
   RefusesBelow inside light error.Memory = light → inside × (map.len (below m l) ≡ 0 → ⊥)
   RefusesBelow inside light error.Outside = inside → ⊥
+
+module _ {K V : Type 0} where
+  -- all lists that the map holds begin with l
+  abbrev pub AllBegin : PairMap K V → List ℕ → Type 0
+  AllBegin m l = (e : List ℕ) → IsStored m e → IsPrefix l e
+
+  -- the map `part` isn't appended to the map m: the pairs of both can't be counted; or m has a point
+  -- at or below each list with which all of part's begin, so also the longest such list; or memory,
+  -- and then m stores nothing at or below one of these lists
+  abbrev pub RefusesAppend : (m part : PairMap K V) → AppendWhy → Type 0
+  RefusesAppend m part appending.Full = 2 ^ 64 ≤ map.len m + map.len part
+  RefusesAppend m part appending.Overlapping =
+      (l : List ℕ) → AllBegin part l → (q : List ℕ) × IsPoint m q × IsPrefix l q
+  RefusesAppend m part appending.Memory =
+      (l : List ℕ) × AllBegin part l × (map.len (below m l) ≡ 0)

@@ -1,7 +1,8 @@
 //! Why a call is refused.
 ghost use Rattle.std.specs.Prelude.{◌≡◌};
 
-use radix_keys::Memory;
+use crate::trie::Trie;
+use radix_keys::{Memory, TrieKey};
 use std::alloc::AllocError;
 
 mod text;
@@ -45,6 +46,25 @@ pub struct TryInsertError<K, V> {
     pub why: TryInsertWhy,
     pub key: K,
     pub value: V,
+}
+
+/// Why a trie wasn't appended.
+#[derive(Clone, Copy, PartialEq, Eq, Debug)]
+pub enum AppendWhy {
+    /// An allocation failed.
+    Memory,
+    /// The pairs of both tries are more than `usize::MAX`.
+    Full,
+    /// A point stands at or below the longest list that all of the other trie's encodings begin
+    /// with.
+    Overlapping,
+}
+
+/// A refused `append`: why, and the very trie that was passed.
+#[derive(Drop)]
+pub struct AppendError<K: TrieKey, V> {
+    pub why: AppendWhy,
+    pub part: Trie<K, V>,
 }
 
 /// Why a trie wasn't built.

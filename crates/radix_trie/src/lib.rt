@@ -12,7 +12,7 @@ mod view;
 
 pub use commands::{Command, Reply, ViewCommand, run};
 pub use error::{
-    BuildError, FindError, InsertError, InsertWhy, JsonError, OpenError, SubTrieError,
+    AppendError, AppendWhy, BuildError, FindError, InsertError, InsertWhy, JsonError, OpenError, SubTrieError,
     SubTrieResult, TrieError, TryInsertError, TryInsertWhy,
 };
 pub use json::{from_value, to_value};

@@ -80,8 +80,8 @@ fn tell<K, V>(outcome: Result<Hung, Box<TrieNode<K, V>>>) -> Result<Hung, Ungraf
     }
 }
 
-// The branch with another fragment.
-fn refitted<K, V>(branch: Box<TrieNode<K, V>>, fragment: Nibblet) -> Box<TrieNode<K, V>>
+/// The branch with another fragment.
+pub fn refitted<K, V>(branch: Box<TrieNode<K, V>>, fragment: Nibblet) -> Box<TrieNode<K, V>>
     ensures { tree_of result.value ≡ with_fragment fragment (tree_of branch.value) }
 {
     let mut top = branch;

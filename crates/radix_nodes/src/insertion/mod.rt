@@ -1,5 +1,6 @@
 //! Insertion of a pair, and of a branch with all that is below it (`graft`).
 
+pub mod append;
 pub mod attach;
 pub mod change;
 pub mod graft;

@@ -34,6 +34,7 @@ pub fn unlink<K, V>(node: &mut TrieNode<K, V>, i: usize) -> Box<TrieNode<K, V>>
     ensures nibble { first (tree_of result.value).fragment < 16 }
     ensures same { (out_of node.new).pair ≡ (out_of node.old).pair }
     ensures less { vec_len (out_of node.new).children + 1 ≡ vec_len (out_of node.old).children }
+    ensures room { HasRoom 1 node.new }
 {
     let child = node.children.remove(i);
     node.mask = unmark(node.mask, child.fragment.get(0));

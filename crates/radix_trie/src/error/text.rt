@@ -1,11 +1,12 @@
 //! What errors say of themselves. Each has its text by what it becomes as a `TrieError`.
 ghost use Rattle.std.specs.Prelude.{Some};
-ghost use Rattle.radix_trie.specs.Errors.{of_build, of_find, of_insert, of_json, of_open, of_try_insert, of_view, text_of};
+ghost use Rattle.radix_trie.specs.Errors.{of_append, of_build, of_find, of_insert, of_json, of_open, of_try_insert, of_view, text_of};
 
 use crate::error::{
-    BuildError, FindError, InsertError, InsertWhy, JsonError, OpenError, SubTrieError, TrieError,
+    AppendError, AppendWhy, BuildError, FindError, InsertError, InsertWhy, JsonError, OpenError, SubTrieError, TrieError,
     TryInsertError, TryInsertWhy,
 };
+use radix_keys::TrieKey;
 use std::error::Error;
 use std::fmt;
 
@@ -18,6 +19,7 @@ impl fmt::Display for TrieError {
             TrieError::Full => "the trie is full",
             TrieError::Outside => "the key lies outside the view",
             TrieError::Occupied => "a pair is stored at the key",
+            TrieError::Overlapping => "the tries overlap",
             TrieError::Absent => "no value is stored at the key",
             TrieError::Closed => "no point stands at the key",
             TrieError::Kind => "the value is neither null nor an object",
@@ -49,6 +51,16 @@ impl fmt::Display for TryInsertWhy {
 }
 
 impl Error for TryInsertWhy {}
+
+impl fmt::Display for AppendWhy {
+    ghost output = { λ error. Some (text_of (of_append error)) };
+
+    fn fmt<W: fmt::Write>(&self, f: &mut fmt::Formatter<W>) -> fmt::Result {
+        fmt::Display::fmt(&TrieError::from(*self), f)
+    }
+}
+
+impl Error for AppendWhy {}
 
 impl fmt::Display for BuildError {
     ghost output = { λ error. Some (text_of (of_build error)) };
@@ -137,3 +149,22 @@ impl<K, V> fmt::Debug for TryInsertError<K, V> {
 }
 
 impl<K: Drop, V: Drop> Error for TryInsertError<K, V> {}
+
+impl<K: TrieKey, V> fmt::Display for AppendError<K, V> {
+    ghost output = { λ refused. Some (text_of (of_append refused.why)) };
+
+    fn fmt<W: fmt::Write>(&self, f: &mut fmt::Formatter<W>) -> fmt::Result {
+        fmt::Display::fmt(&self.why, f)
+    }
+}
+
+/// As `Display`: keys and values may be of types that write nothing.
+impl<K: TrieKey, V> fmt::Debug for AppendError<K, V> {
+    ghost debug_output = { λ refused. Some (text_of (of_append refused.why)) };
+
+    fn fmt<W: fmt::Write>(&self, f: &mut fmt::Formatter<W>) -> fmt::Result {
+        fmt::Display::fmt(self, f)
+    }
+}
+
+impl<K: TrieKey + Drop, V: Drop> Error for AppendError<K, V> {}

@@ -1,13 +1,13 @@
 //! One error for all calls, so that `?` serves in a function that makes several.
 ghost use Rattle.std.specs.Prelude.{◌≡◌};
 ghost use Rattle.radix_trie.specs.declared.error.whole.TrieError.TheVariants.{Memory as memory};
-ghost use Rattle.radix_trie.specs.Errors.{of_build, of_bytes, of_find, of_insert, of_json, of_open, of_parts, of_try_insert, of_view};
+ghost use Rattle.radix_trie.specs.Errors.{of_append, of_build, of_bytes, of_find, of_insert, of_json, of_open, of_parts, of_try_insert, of_view};
 
 use crate::error::{
-    BuildError, FindError, InsertError, InsertWhy, JsonError, OpenError, SubTrieError,
+    AppendError, AppendWhy, BuildError, FindError, InsertError, InsertWhy, JsonError, OpenError, SubTrieError,
     TryInsertError, TryInsertWhy,
 };
-use radix_keys::{BytesError, Memory, PartsError};
+use radix_keys::{BytesError, Memory, PartsError, TrieKey};
 use std::alloc::AllocError;
 
 /// Why a call was refused, whichever call it was.
@@ -21,6 +21,8 @@ pub enum TrieError {
     Outside,
     /// A pair is stored at the key's encoding.
     Occupied,
+    /// A point stands where a trie was to be hung in.
+    Overlapping,
     /// No value is stored at the key's encoding.
     Absent,
     /// No point stands at the key's encoding.
@@ -89,6 +91,27 @@ impl<K: Drop, V: Drop> From<TryInsertError<K, V>> for TrieError {
     ghost from_gives = { λ error e. e ≡ of_try_insert error.why };
 
     fn from(error: TryInsertError<K, V>) -> TrieError {
+        TrieError::from(error.why)
+    }
+}
+
+impl From<AppendWhy> for TrieError {
+    ghost from_gives = { λ why e. e ≡ of_append why };
+
+    fn from(why: AppendWhy) -> TrieError {
+        match why {
+            AppendWhy::Memory => TrieError::Memory,
+            AppendWhy::Full => TrieError::Full,
+            AppendWhy::Overlapping => TrieError::Overlapping,
+        }
+    }
+}
+
+/// The trie that was passed is dropped.
+impl<K: TrieKey + Drop, V: Drop> From<AppendError<K, V>> for TrieError {
+    ghost from_gives = { λ error e. e ≡ of_append error.why };
+
+    fn from(error: AppendError<K, V>) -> TrieError {
         TrieError::from(error.why)
     }
 }

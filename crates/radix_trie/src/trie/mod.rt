@@ -20,6 +20,7 @@ use radix_nodes::whole::copied::copied;
 use std::alloc::Global;
 use std::marker::Model;
 
+mod append;
 mod ascending;
 mod building;
 mod compact;

@@ -7,6 +7,7 @@ pub mod Merging
 pub mod Placed
 pub mod Branches
 pub mod Grafts
+pub mod Appended
 pub mod Drains
 pub mod Settling
 pub mod Ends

@@ -1,4 +1,4 @@
-//! Insertion of a pair, and of a branch with all that is below it (`graft`).
+//! Insertion of a pair, and of a branch with all that is below it (`graft`, `append`).
 
 pub mod append;
 pub mod attach;

@@ -12,3 +12,5 @@ pub mod Popped
 pub mod Retained
 pub mod Filled
 pub mod Branches
+pub mod Joined
+pub mod Overlaps

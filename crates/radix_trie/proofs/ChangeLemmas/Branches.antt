@@ -32,13 +32,13 @@ use Rattle.radix_trie.proofs.RootLemmas.Shown.{row_of, entries-map_of, entries_o
 
 module _ {P : Type 0} (p : List ℕ) where
   -- all entries of a tree whose path has the prefix p have it
-  branch_kept : (s : List ℕ) (u : Tree P) → IsPrefix p (s ++ u.fragment) → entries_under p (entries_at s u) ≡ entries_at s u
+  pub branch_kept : (s : List ℕ) (u : Tree P) → IsPrefix p (s ++ u.fragment) → entries_under p (entries_at s u) ≡ entries_at s u
   branch_kept s u i =
       filter-append _ (entry (s ++ u.fragment) u.pair) (entries_in (s ++ u.fragment) u.children)
       ∙ (let own = own_kept p (s ++ u.fragment) u.pair i in let all = all_kept p (s ++ u.fragment) u.children i in λ n. own n ++ all n)
 
   -- where one run of all entries with the prefix p comes in the place of another, it is all of them
-  swapped_under : (l r old new : List (List ℕ × P)) → Swaps l r old new → entries_under p l ≡ l → entries_under p r ≡ r → entries_under p old ≡ l → entries_under p new ≡ r
+  pub swapped_under : (l r old new : List (List ℕ × P)) → Swaps l r old new → entries_under p l ≡ l → entries_under p r ≡ r → entries_under p old ≡ l → entries_under p new ≡ r
   swapped_under l r old new s left right is =
       let parts : entries_under p s.before ++ (l ++ entries_under p s.after) ≡ l =
       ap (λ g. entries_under p s.before ++ (g ++ entries_under p s.after)) (sym left) ∙ ap (λ es. entries_under p s.before ++ es) (sym (filter-append _ l s.after))

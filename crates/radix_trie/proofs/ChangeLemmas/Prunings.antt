@@ -92,7 +92,7 @@ module _ {K V : Type 0} (enc : K → List ℕ) (old : Tree (KeyValue K V)) (coun
     nothing_below-pairs = sym (ap (map (λ e. e.1)) no_walk)
 
     -- where no path goes on from p, no pair is stored at or below p
-    len-nothing_below : fin.len (below (map_of old) p) ≡ 0
+    pub len-nothing_below : fin.len (below (map_of old) p) ≡ 0
     len-nothing_below = fin.len-entries (below (map_of old) p) ∙ ap length no_walk
 
     -- where no path goes on from p, the map of all at and below p is empty

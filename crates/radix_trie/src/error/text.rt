@@ -3,8 +3,8 @@ ghost use Rattle.std.specs.Prelude.{Some};
 ghost use Rattle.radix_trie.specs.Errors.{of_append, of_build, of_find, of_insert, of_json, of_open, of_try_insert, of_view, text_of};
 
 use crate::error::{
-    AppendError, AppendWhy, BuildError, FindError, InsertError, InsertWhy, JsonError, OpenError, SubTrieError, TrieError,
-    TryInsertError, TryInsertWhy,
+    AppendError, AppendWhy, BuildError, FindError, InsertError, InsertWhy, JsonError, OpenError,
+    SubTrieError, TrieError, TryInsertError, TryInsertWhy,
 };
 use radix_keys::TrieKey;
 use std::error::Error;

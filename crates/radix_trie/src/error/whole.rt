@@ -4,8 +4,8 @@ ghost use Rattle.radix_trie.specs.declared.error.whole.TrieError.TheVariants.{Me
 ghost use Rattle.radix_trie.specs.Errors.{of_append, of_build, of_bytes, of_find, of_insert, of_json, of_open, of_parts, of_try_insert, of_view};
 
 use crate::error::{
-    AppendError, AppendWhy, BuildError, FindError, InsertError, InsertWhy, JsonError, OpenError, SubTrieError,
-    TryInsertError, TryInsertWhy,
+    AppendError, AppendWhy, BuildError, FindError, InsertError, InsertWhy, JsonError, OpenError,
+    SubTrieError, TryInsertError, TryInsertWhy,
 };
 use radix_keys::{BytesError, Memory, PartsError, TrieKey};
 use std::alloc::AllocError;

@@ -1,9 +1,12 @@
 //! A trie is hung into another, as `split_off_prefix` cut it off.
-ghost use Rattle.std.specs.Prelude.{◌≡◌, ℕ, List, IsOk, OnOk, IfErr, OnErr};
+ghost use Rattle.std.specs.Prelude.{◌≡◌, ◌⊎◌, ℕ, ◌+◌, ◌<◌, ◌^◌, List, [], IsOk, OnOk, IfErr, OnErr, MatchBool, IsSome, None, vec_len};
 ghost use Rattle.std.specs.FinMap as map;
+ghost use Rattle.masked_tree.specs.Edits.{IsOne};
 ghost use Rattle.nibble_map.specs.Maps.{IsStored};
+ghost use Rattle.radix_nodes.specs.Nodes.{out_of, tree_of};
 ghost use Rattle.radix_trie.specs.Building.{with_pairs};
 ghost use Rattle.radix_trie.specs.Refusals.{RefusesAppend};
+ghost use Rattle.radix_trie.specs.Roots.{IsKept, map_of};
 ghost use Rattle.radix_trie.specs.Views.{pairs_below};
 
 use crate::error::{AppendError, AppendWhy};
@@ -12,10 +15,16 @@ use radix_keys::TrieKey;
 use radix_nodes::insertion::append::{Unhung, append};
 use radix_nodes::trie_node::{TrieNode, has_pair};
 
-// Whether all that is below a root hangs in one branch, and the root has no pair.
+// Whether the root has no pair and one child, below which all pairs are.
 fn is_one_branch<K, V>(root: &TrieNode<K, V>) -> bool
+    ensures { MatchBool result
+        (((tree_of root.now).pair ≡ None) × (vec_len (out_of root.now).children ≡ 1))
+        (IsSome (tree_of root.now).pair ⊎ (IsOne (tree_of root.now).children → ⊥)) }
 {
-    !has_pair(root) && root.children.len() == 1
+    if has_pair(root) {
+        return false;
+    }
+    root.children.len() == 1
 }
 
 impl<K: TrieKey + Drop, V: Drop> Trie<K, V> {
@@ -60,16 +69,20 @@ impl<K: TrieKey + Drop, V: Drop> Trie<K, V> {
             let why = AppendWhy::Full;
             return Err(AppendError { why, part });
         }
-        if !is_one_branch(&part.root) {
-            let why = AppendWhy::Overlapping;
-            return Err(AppendError { why, part });
-        }
         self.hang_in(part)
     }
 
-    // The same, where neither is empty, the pairs of both can be counted, and the other trie's root
-    // has one child and no pair.
+    // The same, where neither is empty and the pairs of both can be counted.
     fn hang_in(&mut self, part: Trie<K, V>) -> Result<(), AppendError<K, V>>
+        requires some { 0 < map.len part }
+        requires room { map.len self.old + map.len part < 2 ^ 64 }
+        ensures appended { OnOk result
+            (self.new ≡ with_pairs K.encoding self.old (pairs_below part [])) }
+        ensures apart { OnOk result
+            ((e : List ℕ) → IsStored self.old e → IsStored part e → ⊥) }
+        ensures handed_back { IfErr result (λ e. e.part ≡ part) }
+        ensures unchanged { OnErr result (self.new ≡ self.old) }
+        ensures why { IfErr result (λ e. RefusesAppend self.old part e.why) }
     {
         let Trie {
             mut root,
@@ -78,19 +91,10 @@ impl<K: TrieKey + Drop, V: Drop> Trie<K, V> {
             nibbles,
             alloc,
         } = part;
-        let top = root.children[0].fragment.len() as u128;
-        match append(&mut self.root, self.alloc, &mut root) {
-            Ok(hung) => {
-                self.length += length;
-                self.nodes += nodes - 2 + hung.nodes as u128;
-                self.nibbles += nibbles - top + hung.nibbles as u128;
-                Ok(())
-            }
-            Err(refusal) => Err(AppendError {
-                why: match refusal {
-                    Unhung::Occupied => AppendWhy::Overlapping,
-                    Unhung::Memory => AppendWhy::Memory,
-                },
+        match self.hang_root(&mut root, length, nodes, nibbles) {
+            Ok(()) => Ok(()),
+            Err(why) => Err(AppendError {
+                why,
                 part: Trie {
                     root,
                     length,
@@ -99,6 +103,42 @@ impl<K: TrieKey + Drop, V: Drop> Trie<K, V> {
                     alloc,
                 },
             }),
+        }
+    }
+
+    // The same of the other trie's root and counts.
+    fn hang_root(
+        &mut self,
+        root: &mut TrieNode<K, V>,
+        length: usize,
+        nodes: u128,
+        nibbles: u128,
+    ) -> Result<(), AppendWhy>
+        requires kept { IsKept K.encoding (tree_of root.old) length nodes nibbles }
+        requires some { 0 < length }
+        requires room { map.len self.old + length < 2 ^ 64 }
+        ensures appended { OnOk result (self.new
+            ≡ with_pairs K.encoding self.old (pairs_below (map_of (tree_of root.old)) [])) }
+        ensures apart { OnOk result ((e : List ℕ)
+            → IsStored self.old e → IsStored (map_of (tree_of root.old)) e → ⊥) }
+        ensures unchanged { OnErr result (self.new ≡ self.old) }
+        ensures whole { OnErr result (tree_of root.new ≡ tree_of root.old) }
+        ensures why { IfErr result
+            (λ why. RefusesAppend self.old (map_of (tree_of root.old)) why) }
+    {
+        if !is_one_branch(root) {
+            return Err(AppendWhy::Overlapping);
+        }
+        let top = root.children[0].fragment.len() as u128;
+        match append(&mut self.root, self.alloc, root) {
+            Ok(hung) => {
+                self.length += length;
+                self.nodes += nodes - 2 + hung.nodes as u128;
+                self.nibbles += nibbles - top + hung.nibbles as u128;
+                Ok(())
+            }
+            Err(Unhung::Occupied) => Err(AppendWhy::Overlapping),
+            Err(Unhung::Memory) => Err(AppendWhy::Memory),
         }
     }
 }

@@ -1,0 +1,18 @@
+use Rattle.std.proofs.Common.{refl}
+use Rattle.std.specs.FinMap as map
+use Rattle.radix_nodes.specs.Nodes.{tree_of}
+use Rattle.radix_trie.proofs.ChangeLemmas.Joined.{all_put, none_put, none_stored}
+use Rattle.radix_trie.proofs.trie.Trie.append.Goals as goal
+
+pub returns-then-is_empty-clause-appended : goal.returns-then-is_empty-clause-appended
+returns-then-is_empty-clause-appended g c = none_put g.K.TrieKey.encoding c.args.self.now c.args.part (c.if-is_empty.ensures.0 refl)
+
+pub returns-then-is_empty-clause-apart : goal.returns-then-is_empty-clause-apart
+returns-then-is_empty-clause-apart g c e here there = none_stored c.args.part e (c.if-is_empty.ensures.0 refl) there
+
+pub returns-then-is_empty-2-clause-appended : goal.returns-then-is_empty-2-clause-appended
+returns-then-is_empty-2-clause-appended g c =
+    rw (← c.part.view_is, map.empty_of_len c.args.self.now (c.if-is_empty-2.ensures.0 refl)) (all_put g.K.TrieKey.encoding (tree_of c.part.inside.root) _ _ _ c.part.invariant)
+
+pub returns-then-is_empty-2-clause-apart : goal.returns-then-is_empty-2-clause-apart
+returns-then-is_empty-2-clause-apart g c e here there = none_stored c.args.self.now e (c.if-is_empty-2.ensures.0 refl) here

@@ -19,11 +19,13 @@ use Rattle.radix_nodes.specs.declared.trie_node.KeyValue.{KeyValue}
 use Rattle.radix_nodes.specs.declared.trie_node.TrieNode.{TrieNode}
 use Rattle.radix_nodes.proofs.NodeLemmas.Nodes.{fragment-tree_of}
 use Rattle.radix_trie.specs.Building.{with_pairs}
+use Rattle.radix_trie.specs.Keys.{IsKeyed}
 use Rattle.radix_trie.specs.Refusals.{AllBegin}
 use Rattle.radix_trie.specs.Roots.{AllKeyed, IsKept, entries_of, map_of}
 use Rattle.radix_trie.specs.Views.{pairs_below}
 use Rattle.radix_trie.proofs.ChangeLemmas.Branches.{branch_kept, swapped_under}
 use Rattle.radix_trie.proofs.ChangeLemmas.Changes.{nibbles_within, nodes_fit, run_change, run_kept}
+use Rattle.radix_trie.proofs.ChangeLemmas.Keyed.{keyed_joined}
 use Rattle.radix_trie.proofs.ChangeLemmas.Prunings.{nothing_stored_below}
 use Rattle.radix_trie.proofs.LawLemmas.Parts.{stored-part}
 use Rattle.radix_trie.proofs.PathLemmas.NodesBelow.{filter-map}
@@ -163,6 +165,12 @@ module _ {K V : Type 0} (enc : K → List ℕ) (old : Tree (KeyValue K V)) (coun
     -- no list was in both
     pub lists_apart : (e : List ℕ) → IsStored (map_of old) e → IsStored (map_of part) e → ⊥
     lists_apart e here there = (stored_without path (map_of new) e (subst (λ m. IsStored m e) (sym rest_is) here)).1 (part_begins e there)
+
+    -- the new map is keyed where both were
+    pub appended_keyed : (is : K → Type 0) → IsKeyed enc is (map_of old) → IsKeyed enc is (map_of part) → IsKeyed enc is (map_of new)
+    appended_keyed is here there =
+        let come : below (map_of new) path ≡ map_of part = fin.same_entries_map _ _ (walk_is ∙ sym (entries-map_of part owned.masked owned.full)) in
+        keyed_joined enc is (map_of new) path (subst (IsKeyed enc is) (sym come) there) (subst (IsKeyed enc is) (sym rest_is) here)
 
     -- the new root is kept, with the counts that add up
     pub appended_kept : (count' nodes' nibbles' : ℕ) → count' ≡ count + pairs → nodes' ≡ nodes + n → nibbles' ≡ nibbles + k → IsKept enc new count' nodes' nibbles'

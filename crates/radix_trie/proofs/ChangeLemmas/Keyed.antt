@@ -66,7 +66,7 @@ module _ {K V : Type 0} (enc : K → List ℕ) (is : K → Type 0) where
           (k.0 ∙ ap enc (sym same), subst is (sym same) k.1)
 
   -- a map is keyed where its part below a list is, and the rest
-  keyed_joined : (m : PairMap K V) (p : List ℕ) → IsKeyed enc is (below m p) → IsKeyed enc is (without_below m p) → IsKeyed enc is m
+  pub keyed_joined : (m : PairMap K V) (p : List ℕ) → IsKeyed enc is (below m p) → IsKeyed enc is (without_below m p) → IsKeyed enc is m
   keyed_joined m p h k e q at = by (is_prefix p e) refl
     where
       by : (b : Bool) → is_prefix p e ≡ b → (e ≡ enc q.0) × is q.0

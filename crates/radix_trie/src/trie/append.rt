@@ -5,6 +5,7 @@ ghost use Rattle.masked_tree.specs.Edits.{IsOne};
 ghost use Rattle.nibble_map.specs.Maps.{IsStored};
 ghost use Rattle.radix_nodes.specs.Nodes.{out_of, tree_of};
 ghost use Rattle.radix_trie.specs.Building.{with_pairs};
+ghost use Rattle.radix_trie.specs.Keys.{IsKeyed};
 ghost use Rattle.radix_trie.specs.Refusals.{RefusesAppend};
 ghost use Rattle.radix_trie.specs.Roots.{IsKept, map_of};
 ghost use Rattle.radix_trie.specs.Views.{pairs_below};
@@ -51,6 +52,9 @@ impl<K: TrieKey + Drop, V: Drop> Trie<K, V> {
         ensures apart { OnOk result
             ((e : List ℕ) → IsStored self.old e → IsStored part e → ⊥) }
 
+        ensures keyed { OnOk result (IsKeyed K.encoding K.is_value self.old
+            → IsKeyed K.encoding K.is_value part → IsKeyed K.encoding K.is_value self.new) }
+
         ensures handed_back { IfErr result (λ e. e.part ≡ part) }
         ensures unchanged { OnErr result (self.new ≡ self.old) }
 
@@ -80,6 +84,8 @@ impl<K: TrieKey + Drop, V: Drop> Trie<K, V> {
             (self.new ≡ with_pairs K.encoding self.old (pairs_below part [])) }
         ensures apart { OnOk result
             ((e : List ℕ) → IsStored self.old e → IsStored part e → ⊥) }
+        ensures keyed { OnOk result (IsKeyed K.encoding K.is_value self.old
+            → IsKeyed K.encoding K.is_value part → IsKeyed K.encoding K.is_value self.new) }
         ensures handed_back { IfErr result (λ e. e.part ≡ part) }
         ensures unchanged { OnErr result (self.new ≡ self.old) }
         ensures why { IfErr result (λ e. RefusesAppend self.old part e.why) }
@@ -121,6 +127,9 @@ impl<K: TrieKey + Drop, V: Drop> Trie<K, V> {
             ≡ with_pairs K.encoding self.old (pairs_below (map_of (tree_of root.old)) [])) }
         ensures apart { OnOk result ((e : List ℕ)
             → IsStored self.old e → IsStored (map_of (tree_of root.old)) e → ⊥) }
+        ensures keyed { OnOk result (IsKeyed K.encoding K.is_value self.old
+            → IsKeyed K.encoding K.is_value (map_of (tree_of root.old))
+            → IsKeyed K.encoding K.is_value self.new) }
         ensures unchanged { OnErr result (self.new ≡ self.old) }
         ensures whole { OnErr result (tree_of root.new ≡ tree_of root.old) }
         ensures why { IfErr result

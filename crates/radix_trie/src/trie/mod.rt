@@ -203,7 +203,7 @@ impl<K: TrieKey, V> Trie<K, V> {
     }
 
     /// The allocator that the trie's memory comes from.
-    pub(crate) fn allocator(&self) -> Global {
+    pub fn allocator(&self) -> Global {
         self.alloc
     }
 }

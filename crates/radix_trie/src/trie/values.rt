@@ -70,12 +70,8 @@ impl<K: TrieKey, V> Trie<K, V> {
         ensures keyed { IsKeyed K.encoding K.is_value self.old
             → IsKeyed K.encoding K.is_value self.new }
     {
-        self.for_each_mut(
-            |_: &K, value: &mut V|
-                requires { FnOnceTakesAtMut F.FnOnce f value.old }
-                ensures { FnOnceReturnsAtMut F.FnOnce f value.old tt value.new }
-            { f(value) },
-        );
+        let whole = Nibblet::new(self.alloc);
+        self.change_values_below(&whole, &f);
     }
 
     /// Changes each value at and below the key's place by one call of the closure, as

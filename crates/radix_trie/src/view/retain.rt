@@ -2,6 +2,7 @@
 ghost use Rattle.std.specs.FinMap as map;
 ghost use Rattle.std.specs.Prelude.{◌≡◌, All, IsOk, OnOk};
 ghost use Rattle.nibble_map.specs.Maps.{below, without_below};
+ghost use Rattle.radix_trie.specs.Keys.{IsKeyed};
 ghost use Rattle.radix_trie.specs.Retains.{Retains, RetainsAtLeast, ReturnsAtPair, TakesPairAt};
 ghost use Rattle.radix_trie.specs.Views.{pairs_below};
 ghost use Rattle.radix_trie.specs.WriteViews.{map_behind, path_of, SameView};
@@ -30,6 +31,8 @@ impl<'a, K: TrieKey + Drop, V: Drop> SubTrieMut<'a, K, V> {
             (below (map_behind self.new) (path_of self.old)) }
         ensures elsewhere { without_below (map_behind self.new) (path_of self.old)
             ≡ without_below (map_behind self.old) (path_of self.old) }
+        ensures keyed { IsKeyed K.encoding K.is_value (map_behind self.old)
+            → IsKeyed K.encoding K.is_value (map_behind self.new) }
         ensures none { map.len (below (map_behind self.old) (path_of self.old)) ≡ 0
             → IsOk result }
     {

@@ -3,6 +3,7 @@ ghost use Rattle.std.specs.FinMap as finite;
 ghost use Rattle.std.specs.Prelude.{◌≡◌, ◌≢◌, ℕ, List, [], All, Err, IfErr, IfOk, IsOk, OnErr, OnOk, option_copied};
 ghost use Rattle.nibble_map.specs.Lists.{IsPrefix};
 ghost use Rattle.nibble_map.specs.Maps.{PairMap, below, value_at, without_below};
+ghost use Rattle.radix_trie.specs.Keys.{IsKeyed};
 ghost use Rattle.radix_trie.specs.Refusals.{IsFullAt, RefusesBelow, RefusesInsert, RefusesRemove};
 ghost use Rattle.radix_trie.specs.Retains.{Retains, RetainsAtLeast, ReturnsAtPair, TakesPairAt};
 ghost use Rattle.radix_trie.specs.Values.{ChangesEachPair, LeavesAtPair, TakesPairAtMut};
@@ -100,12 +101,15 @@ pub trait TrieEdit<K: TrieKey, V> {
     ///
     /// The closure has to be callable on each of these pairs.
     fn for_each_mut<F: Fn(&K, &mut V)>(&mut self, f: F)
-        requires callable { All (TakesPairAtMut F.Fn f) (pairs_below (map self.old) (path self.old)) }
+        requires callable { All (TakesPairAtMut F.Fn f)
+            (pairs_below (map self.old) (path self.old)) }
         ensures same_path { path self.new ≡ path self.old }
         ensures changed { ChangesEachPair (LeavesAtPair F.Fn f)
             (below (map self.old) (path self.old)) (below (map self.new) (path self.old)) }
         ensures elsewhere { without_below (map self.new) (path self.old)
-            ≡ without_below (map self.old) (path self.old) };
+            ≡ without_below (map self.old) (path self.old) }
+        ensures keyed { IsKeyed K.encoding K.is_value (map self.old)
+            → IsKeyed K.encoding K.is_value (map self.new) };
 
     /// Keeps, of the pairs at and below the path, those of which the closure returns true, and removes
     /// all others of these.
@@ -116,7 +120,8 @@ pub trait TrieEdit<K: TrieKey, V> {
     ///
     /// Those of `Trie::retain`.
     fn retain<F: Fn(&K, &V) -> bool>(&mut self, keep: F) -> Result<(), Memory>
-        requires callable { All (TakesPairAt F.Fn keep) (pairs_below (map self.old) (path self.old)) }
+        requires callable { All (TakesPairAt F.Fn keep)
+            (pairs_below (map self.old) (path self.old)) }
         ensures same_path { path self.new ≡ path self.old }
         ensures retained { OnOk result (Retains (ReturnsAtPair F.Fn keep)
             (below (map self.old) (path self.old)) (below (map self.new) (path self.old))) }
@@ -124,6 +129,8 @@ pub trait TrieEdit<K: TrieKey, V> {
             (below (map self.old) (path self.old)) (below (map self.new) (path self.old)) }
         ensures elsewhere { without_below (map self.new) (path self.old)
             ≡ without_below (map self.old) (path self.old) }
+        ensures keyed { IsKeyed K.encoding K.is_value (map self.old)
+            → IsKeyed K.encoding K.is_value (map self.new) }
         ensures none { finite.len (below (map self.old) (path self.old)) ≡ 0 → IsOk result };
 }
 

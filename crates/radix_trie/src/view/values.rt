@@ -2,6 +2,7 @@
 ghost use Rattle.std.specs.Prelude.{◌≡◌, All};
 ghost use Rattle.std.specs.Fn.{FnOnceReturnsAtMut, FnOnceTakesAtMut};
 ghost use Rattle.nibble_map.specs.Maps.{below, without_below};
+ghost use Rattle.radix_trie.specs.Keys.{IsKeyed};
 ghost use Rattle.radix_trie.specs.Values.{ChangesEachPair, ChangesEachValue, LeavesAtPair, TakesPairAtMut};
 ghost use Rattle.radix_trie.specs.Views.{pairs_below};
 ghost use Rattle.radix_trie.specs.WriteViews.{map_behind, path_of, SameView};
@@ -23,6 +24,8 @@ impl<'a, K: TrieKey, V> SubTrieMut<'a, K, V> {
             (below (map_behind self.new) (path_of self.old)) }
         ensures elsewhere { without_below (map_behind self.new) (path_of self.old)
             ≡ without_below (map_behind self.old) (path_of self.old) }
+        ensures keyed { IsKeyed K.encoding K.is_value (map_behind self.old)
+            → IsKeyed K.encoding K.is_value (map_behind self.new) }
     {
         self.trie.change_below(&self.path, &f);
     }
@@ -39,6 +42,8 @@ impl<'a, K: TrieKey, V> SubTrieMut<'a, K, V> {
             (below (map_behind self.new) (path_of self.old)) }
         ensures elsewhere { without_below (map_behind self.new) (path_of self.old)
             ≡ without_below (map_behind self.old) (path_of self.old) }
+        ensures keyed { IsKeyed K.encoding K.is_value (map_behind self.old)
+            → IsKeyed K.encoding K.is_value (map_behind self.new) }
     {
         self.trie.change_values_below(&self.path, &f);
     }

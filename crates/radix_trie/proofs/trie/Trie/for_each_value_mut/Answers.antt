@@ -1,10 +1,11 @@
-use Rattle.std.proofs.Common.{rules}
+use Rattle.radix_trie.proofs.ChangeLemmas.Copies.{whole_copied}
+use Rattle.radix_trie.proofs.ChangeLemmas.Keyed.{keyed_changed_below}
 use Rattle.radix_trie.proofs.trie.Trie.for_each_value_mut.Goals as goal
 
 pub returns-clause-changed : goal.returns-clause-changed
-returns-clause-changed g c =
-    let changed = c.for_each_mut.ensures.changed in record {
-      same_lists = changed.same_lists;
-      copied_pairs = λ e p q before after.
-          let r = changed.copied_pairs e p q before after in (r.0, (let met = r.1.met in let shows = r.1.shows in let leaves = r.1.leaves in search rules));
-    }
+returns-clause-changed g c = whole_copied _ c.args.self.now c.change_values_below.new.self c.new-whole.result c.new-whole.ensures c.change_values_below.ensures.changed
+
+pub returns-clause-keyed : goal.returns-clause-keyed
+returns-clause-keyed g c =
+    keyed_changed_below g.K.TrieKey.encoding g.K.TrieKey.is_value _ c.args.self.now c.change_values_below.new.self c.new-whole.result
+    c.change_values_below.ensures.changed c.change_values_below.ensures.elsewhere

@@ -9,7 +9,7 @@ use Rattle.radix_nodes.proofs.EditLemmas.Appended.{only_is_merged}
 use Rattle.radix_nodes.proofs.EditLemmas.Insertion.{box_is_child}
 use Rattle.radix_nodes.proofs.EditLemmas.Merging.{has_one_child}
 use Rattle.radix_nodes.proofs.NodeLemmas.Nodes.{fragment-tree_of}
-use Rattle.radix_trie.proofs.ChangeLemmas.Joined.{appended_counts, hung_from_root, lists_apart, pairs_appended, part_begins}
+use Rattle.radix_trie.proofs.ChangeLemmas.Joined.{appended_counts, appended_keyed, hung_from_root, lists_apart, pairs_appended, part_begins}
 use Rattle.radix_trie.proofs.ChangeLemmas.Overlaps.{occupied_overlaps, root_overlaps}
 use Rattle.radix_trie.proofs.ChangeLemmas.Prunings.{len-nothing_below}
 use Rattle.radix_trie.proofs.RootLemmas.Shown.{len-map_of_kept}
@@ -112,6 +112,13 @@ returns-in-Ok-clause-apart g c =
     let one : IsOne (tree_of n).children = has_one_child n (sym (out-TrieNode g.row.K.Denot g.row.V.Denot n).children.ok.0 ∙ c.if-not-is_one_branch.ensures.1) in
     let s = hung_from_root c.self.inside.root (tree_of n) (tree_of c.append.new.part) (tree_of c.append.new.root) (Ok c.in-Ok.hung) c.self.invariant.top c.in-Ok.ensures in
     rw (← c.self.view_is) (lists_apart g.K.TrieKey.encoding (tree_of c.self.inside.root) _ _ _ c.self.invariant (tree_of n) _ _ _ c.requires.kept c.if-not-is_one_branch.ensures.0 one s.0 (tree_of c.append.new.root) _ _ s.1)
+
+pub returns-in-Ok-clause-keyed : goal.returns-in-Ok-clause-keyed
+returns-in-Ok-clause-keyed g c =
+    let n = c.args.root.now in
+    let one : IsOne (tree_of n).children = has_one_child n (sym (out-TrieNode g.row.K.Denot g.row.V.Denot n).children.ok.0 ∙ c.if-not-is_one_branch.ensures.1) in
+    let s = hung_from_root c.self.inside.root (tree_of n) (tree_of c.append.new.part) (tree_of c.append.new.root) (Ok c.in-Ok.hung) c.self.invariant.top c.in-Ok.ensures in
+    rw (← c.self.view_is) (appended_keyed g.K.TrieKey.encoding (tree_of c.self.inside.root) _ _ _ c.self.invariant (tree_of n) _ _ _ c.requires.kept c.if-not-is_one_branch.ensures.0 one s.0 (tree_of c.append.new.root) _ _ s.1 g.K.TrieKey.is_value)
 
 pub returns-in-Err-Occupied-clause-why : goal.returns-in-Err-Occupied-clause-why
 returns-in-Err-Occupied-clause-why g c =

@@ -1,7 +1,7 @@
 //! What stands at and below a key, as a trie of its own.
 
 use crate::removal::rows::{ROWS, Row, is_gone};
-use radix_trie::Memory;
+use radix_trie::{Memory, TrieError};
 use std::process::Abort;
 use trie_samples::{SAMPLE, Texts, texts};
 
@@ -32,6 +32,19 @@ fn part_is_split_off(rt: HostRuntime) -> Result<(), Memory> {
         let mut trie = texts(rt.alloc(), SAMPLE)?;
         let part = trie.split_off_prefix(&row.key)?;
         check_part(&rt, row, *footprint, &trie, part)?;
+    }
+    Ok(())
+}
+
+#[test]
+fn part_is_put_back(rt: HostRuntime) -> Result<(), TrieError> {
+    let whole = texts(rt.alloc(), SAMPLE)?;
+    for row in ROWS.iter() {
+        let mut trie = texts(rt.alloc(), SAMPLE)?;
+        let part = trie.split_off_prefix(&row.key)?;
+        trie.append(part)?;
+        assert!(rt; trie == whole, "{}", row.key);
+        assert!(rt; trie.check_integrity()?, "{}", row.key);
     }
     Ok(())
 }

@@ -5,7 +5,7 @@ ghost use Rattle.std.specs.Int.{Width, byte_len};
 ghost use Rattle.std.specs.Ordering.{int_cmp, nat_cmp};
 ghost use Rattle.std.specs.declared.cmp.Ordering.{Ordering};
 ghost use Rattle.std.specs.declared.cmp.Ordering.TheVariants.{Less};
-ghost use Rattle.std.specs.Prelude.{◌≡◌, ◌↔◌, ◌⊎◌, ◌<◌, ◌+◌, ◌^◌, ◌++◌, ℕ, All, AllPairs, Contains, List, Some, map as each, slice_get, take, true};
+ghost use Rattle.std.specs.Prelude.{◌≡◌, ◌↔◌, ◌⊎◌, ◌<◌, ◌+◌, ◌^◌, ◌++◌, ℕ, All, AllPairs, Contains, List, [], Some, map as each, slice_get, take, true};
 ghost use Rattle.nibble_map.specs.Lists.{Each, IsBefore, IsPrefix, IsRising};
 ghost use Rattle.nibble_map.specs.Maps.{PairMap, below, with_value, without_below};
 ghost use Rattle.nibble_map.specs.Nibbles.{nibbles};
@@ -42,6 +42,15 @@ pub fn stored_keys_are_equal<K: TrieKey, V>()
         → All (λ p. K.is_value p.0) ps
         → IsKeyed K.encoding K.is_value (with_pairs K.encoding m ps) }
 {}
+
+/// What was split off goes back: the map without all below a list, with the pairs of the part that is below it stored one by
+/// one, as `Trie::append` stores them, is the trie's map.
+pub fn split_part_goes_back<K: TrieKey, V>(trie: &Trie<K, V>)
+    ensures { (e : List ℕ) → with_pairs K.encoding (without_below trie.now e)
+        (pairs_below (below trie.now e) []) ≡ trie.now }
+{
+    let _ = trie.root();
+}
 
 /// In each trie a key stands at its encoding. So the keys at and below a list have encodings that begin with it, and in the
 /// order of a walk these rise; so have those of a page, the first pairs of a walk. Of a type all of whose keys are values, as

@@ -1,6 +1,6 @@
 //! What callers show by naming one law: what a look-up finds after a change, what a change leaves, and what a walk gives.
 ghost use Rattle.std.specs.FinMap as finite;
-ghost use Rattle.std.specs.Prelude.{◌≡◌, ◌≢◌, ℕ, List, None, Some, IfOk, map as each};
+ghost use Rattle.std.specs.Prelude.{◌≡◌, ◌≢◌, ℕ, List, None, Some, IfOk, OnOk, map as each};
 ghost use Rattle.radix_trie.specs.Lists.{IsPrefix, IsRising};
 ghost use Rattle.radix_trie.specs.Maps.{value_at};
 ghost use Rattle.radix_trie.specs.WriteViews.{map_behind, path_of};
@@ -8,7 +8,7 @@ ghost use Rattle.radix_trie.specs.WriteViews.{map_behind, path_of};
 use radix_trie::iter::Iter;
 use radix_trie::{
     InsertError, Memory, SubTrieMut, Trie, TrieCommon, TrieError, TrieKey, edits_change_one_answer,
-    keys_stand_at_their_encodings, rest_answers_elsewhere,
+    keys_stand_at_their_encodings, rest_answers_elsewhere, split_part_goes_back,
 };
 use trie_samples::texts;
 
@@ -50,6 +50,18 @@ fn beside<K: TrieKey + Drop, V: Copy + Drop, Q: TrieKey>(
     edits_change_one_answer::<(K, V)>();
     let _ = trie.insert(key, value)?;
     Ok(trie.get(other)?.copied())
+}
+
+/// Splits all below a key off, and appends it again: the trie is as it was.
+fn put_back<K: TrieKey + Drop, V: Drop, Q: TrieKey>(
+    trie: &mut Trie<K, V>,
+    key: &Q,
+) -> Result<(), TrieError>
+    ensures { OnOk result (trie.new ≡ trie.old) }
+{
+    split_part_goes_back(&*trie);
+    let part = trie.split_off_prefix(key)?;
+    Ok(trie.append(part)?)
 }
 
 /// Takes all below a key away, and looks a key up that isn't below it: it has the value that it had.

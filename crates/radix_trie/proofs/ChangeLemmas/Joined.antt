@@ -5,7 +5,7 @@ use Rattle.masked_tree.specs.Alters.{Grafts, all_of, none_of}
 use Rattle.masked_tree.specs.Edits.{IsOne, merged, with_fragment}
 use Rattle.masked_tree.specs.Paths.{IsVacant}
 use Rattle.masked_tree.specs.Tree.{Tree, Children, none, more, entries_at, entries_in, nibbles_in, nodes_in}
-use Rattle.nibble_map.specs.Lists.{is_prefix}
+use Rattle.nibble_map.specs.Lists.{Each, is_prefix}
 use Rattle.nibble_map.specs.Maps.{NibbleMap, PairMap, IsStored, below, walk, without_below}
 use Rattle.nibble_map.specs.Swaps.{Swaps, entry}
 use Rattle.nibble_map.proofs.MapLemmas.Edits.{walk-by_entries}
@@ -31,6 +31,7 @@ use Rattle.radix_trie.proofs.LawLemmas.Parts.{stored-part}
 use Rattle.radix_trie.proofs.PathLemmas.NodesBelow.{filter-map}
 use Rattle.radix_trie.proofs.PathLemmas.Parts.{entries_under-free}
 use Rattle.radix_trie.proofs.PathLemmas.Places.{below-nil, no_pairs_below}
+use Rattle.radix_trie.proofs.WalkLemmas.Keyed.{keyed_entries}
 use Rattle.radix_trie.proofs.RootLemmas.Shown.{row_of, entries-map_of, entries_of-root, entries_rise}
 
 module _ {P : Type 0} where
@@ -74,17 +75,23 @@ module _ {P : Type 0} where
 
 module _ {K V : Type 0} (enc : K → List ℕ) where
   -- rows that are keyed are put as their pairs are, one after another
-  put_rows-keyed : (m : PairMap K V) (es : List (List ℕ × (K × V))) → AllKeyed enc es → put_rows m es ≡ with_pairs enc m (map (λ e. e.1) es)
+  put_rows-keyed : (m : PairMap K V) (es : List (List ℕ × (K × V))) → Each (λ e. e.0 ≡ enc e.1.0) es → put_rows m es ≡ with_pairs enc m (map (λ e. e.1) es)
   put_rows-keyed m [] keyed = refl
-  put_rows-keyed m (e ∷ es) keyed =
-      ap (λ l. put_rows (fin.insert m l e.1) es) keyed.0 ∙ put_rows-keyed (fin.insert m (enc e.1.0) e.1) es keyed.2
+  put_rows-keyed m (e ∷ es) keyed = ap (λ l. put_rows (fin.insert m l e.1) es) keyed.0 ∙ put_rows-keyed (fin.insert m (enc e.1.0) e.1) es keyed.1
+
+  -- so are the rows of a walk
+  put_rows-pairs : (m n : PairMap K V) (p : List ℕ) → AllKeyed enc (fin.entries n) → put_rows m (walk n p) ≡ with_pairs enc m (pairs_below n p)
+  put_rows-pairs m n p keyed = put_rows-keyed m (walk n p) (keyed_entries enc n p keyed)
+
+  -- the pairs below a list, put into the rest, make the map
+  pub pairs_put_back : (m : PairMap K V) (p : List ℕ) → AllKeyed enc (fin.entries m) → with_pairs enc (without_below m p) (pairs_below (below m p) []) ≡ m
+  pairs_put_back m p keyed =
+      ap (λ n. with_pairs enc (without_below m p) (map (λ e. e.1) (fin.entries n))) (below-nil (below m p)) ∙ sym (put_rows-pairs (without_below m p) m p keyed) ∙ put_rows-walk p m
 
   -- all pairs of a trie, put into the map without pairs, are its map
-  pub all_put : (t : Tree (KeyValue K V)) (count nodes nibbles : ℕ) → IsKept enc t count nodes nibbles → map_of t ≡ with_pairs enc fin.empty (pairs_below (map_of t) [])
-  all_put t count nodes nibbles kept =
-      sym (put_rows-entries (map_of t))
-      ∙ put_rows-keyed fin.empty (fin.entries (map_of t)) (subst (AllKeyed enc) (sym (entries-map_of t kept.masked kept.full)) kept.keyed)
-      ∙ ap (λ m. with_pairs enc fin.empty (map (λ e. e.1) (fin.entries m))) (sym (below-nil (map_of t)))
+  pub all_put : (m : PairMap K V) → AllKeyed enc (fin.entries m) → m ≡ with_pairs enc fin.empty (pairs_below m [])
+  all_put m keyed =
+      sym (put_rows-entries m) ∙ ap (λ n. put_rows fin.empty (fin.entries n)) (sym (below-nil m)) ∙ put_rows-pairs fin.empty m [] keyed
 
   -- with the pairs of a map without pairs, a map is as before, and nothing is stored in it
   pub none_put : (m n : PairMap K V) → fin.len n ≡ 0 → m ≡ with_pairs enc m (pairs_below n [])
@@ -158,9 +165,10 @@ module _ {K V : Type 0} (enc : K → List ℕ) (old : Tree (KeyValue K V)) (coun
     -- the new map is the old one with all pairs of the trie
     pub pairs_appended : map_of new ≡ with_pairs enc (map_of old) (pairs_below (map_of part) [])
     pairs_appended =
-        sym (put_rows-walk path (map_of new)) ∙ (λ i. put_rows (rest_is i) (walk_is i))
-        ∙ put_rows-keyed enc (map_of old) (entries_of part) owned.keyed
-        ∙ ap (λ es. with_pairs enc (map_of old) (map (λ e. e.1) es)) (sym (entries-map_of part owned.masked owned.full) ∙ ap fin.entries (sym (below-nil (map_of part))))
+        let same = entries-map_of part owned.masked owned.full in
+        let rows = walk_is ∙ sym same ∙ ap fin.entries (sym (below-nil (map_of part))) in
+        sym (put_rows-walk path (map_of new)) ∙ (λ i. put_rows (rest_is i) (rows i))
+        ∙ put_rows-pairs enc (map_of old) (map_of part) [] (subst (AllKeyed enc) (sym same) owned.keyed)
 
     -- no list was in both
     pub lists_apart : (e : List ℕ) → IsStored (map_of old) e → IsStored (map_of part) e → ⊥

@@ -1,7 +1,9 @@
-use Rattle.std.proofs.Common.{refl}
+use Rattle.std.proofs.Common.{refl, subst, sym}
 use Rattle.std.specs.FinMap as map
 use Rattle.radix_nodes.specs.Nodes.{tree_of}
 use Rattle.radix_trie.proofs.ChangeLemmas.Joined.{all_put, none_put, none_stored}
+use Rattle.radix_trie.specs.Roots.{AllKeyed, map_of}
+use Rattle.radix_trie.proofs.RootLemmas.Shown.{entries-map_of}
 use Rattle.radix_trie.proofs.trie.Trie.append.Goals as goal
 
 pub returns-then-is_empty-clause-appended : goal.returns-then-is_empty-clause-appended
@@ -12,7 +14,8 @@ returns-then-is_empty-clause-apart g c e here there = none_stored c.args.part e 
 
 pub returns-then-is_empty-2-clause-appended : goal.returns-then-is_empty-2-clause-appended
 returns-then-is_empty-2-clause-appended g c =
-    rw (← c.part.view_is, map.empty_of_len c.args.self.now (c.if-is_empty-2.ensures.0 refl)) (all_put g.K.TrieKey.encoding (tree_of c.part.inside.root) _ _ _ c.part.invariant)
+    rw (← c.part.view_is, map.empty_of_len c.args.self.now (c.if-is_empty-2.ensures.0 refl)) (all_put g.K.TrieKey.encoding (map_of (tree_of c.part.inside.root))
+    (subst (AllKeyed g.K.TrieKey.encoding) (sym (entries-map_of (tree_of c.part.inside.root) c.part.invariant.masked c.part.invariant.full)) c.part.invariant.keyed))
 
 pub returns-then-is_empty-2-clause-apart : goal.returns-then-is_empty-2-clause-apart
 returns-then-is_empty-2-clause-apart g c e here there = none_stored c.args.self.now e (c.if-is_empty-2.ensures.0 refl) here

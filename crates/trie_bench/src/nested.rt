@@ -32,7 +32,8 @@ pub fn answer<R: Print + Clock + AllocGlobal>(rt: &R, line: &str, count: u32) ->
     }
     tell(rt, line, "insert", start)?;
     read(rt, line, &nested, keys.as_slice())?;
-    let copy = copied(rt, line, &nested)?;
+    let mut copy = copied(rt, line, &nested)?;
+    hung(rt, line, &mut copy)?;
     let start = Instant::now(rt)?;
     for key in keys.iter().rev() {
         ensure!(nested.remove(key)? == Some(key.len()));
@@ -70,6 +71,20 @@ fn copied<'a, R: Print + Clock>(rt: &R, line: &str, nested: &Nested<'a>) -> Resu
     ensure!(copy == *nested);
     tell(rt, line, "==", start)?;
     Ok(copy)
+}
+
+/// Hangs the longest key in, below all others.
+fn hung<R: Print + Clock>(rt: &R, line: &str, nested: &mut Nested) -> Result<()> {
+    let Some((key, _)) = nested.last_key_value() else {
+        return Ok(());
+    };
+    let key = *key;
+    let part = nested.split_off_prefix(&key)?;
+    let start = Instant::now(rt)?;
+    nested.append(part)?;
+    tell(rt, line, "append", start)?;
+    ensure!(nested.get(&key)? == Some(&key.len()));
+    Ok(())
 }
 
 /// Adds one to each value, splits all pairs off by the shortest key, and takes all away by it.

@@ -11,6 +11,8 @@ ghost use Rattle.radix_trie.specs.Lends.{lends_at};
 ghost use Rattle.radix_trie.specs.Refusals.{IsFullAt};
 ghost use Rattle.radix_trie.specs.Walks.{deref_pair};
 
+pub use entry::{Entry, EntryError};
+
 use crate::iter::parts_of;
 use radix_keys::{Memory, Nibblet, TrieKey};
 use radix_nodes::search::find::find;
@@ -26,6 +28,7 @@ mod building;
 mod compact;
 mod counted;
 pub(crate) mod edit;
+mod entry;
 mod equality;
 mod indexed;
 mod integrity;

@@ -12,8 +12,8 @@ mod view;
 
 pub use commands::{Command, Reply, ViewCommand, run};
 pub use error::{
-    AppendError, AppendWhy, BuildError, FindError, InsertError, InsertWhy, JsonError, OpenError, SubTrieError,
-    SubTrieResult, TrieError, TryInsertError, TryInsertWhy,
+    AppendError, AppendWhy, BuildError, FindError, InsertError, InsertWhy, JsonError, OpenError,
+    SubTrieError, SubTrieResult, TrieError, TryInsertError, TryInsertWhy,
 };
 pub use json::{from_value, to_value};
 pub use key_laws::{

@@ -7,17 +7,14 @@ ghost use Rattle.nibble_map.specs.Maps.{IsStored, value_at, with_value};
 ghost use Rattle.nibble_map.specs.Nibbles.{IsShort};
 ghost use Rattle.radix_trie.specs.Refusals.{IsFullAt, JoinsAreShort, RefusesInsert};
 
+mod error;
+
 use crate::error::InsertError;
 use crate::trie::Trie;
 use crate::view::subtrie_mut::PathList;
+pub use error::EntryError;
 use radix_keys::{Memory, Nibblet, TrieKey};
 use radix_nodes::trie_node::KeyValue;
-
-/// A refused `entry`, for memory: the very key that was passed.
-#[derive(Drop)]
-pub struct EntryError<K> {
-    pub key: K,
-}
 
 /// The place of a key in a trie: a pair is stored at the key's encoding, or none.
 ///

@@ -11,9 +11,8 @@ ghost use Rattle.radix_trie.specs.Lends.{lends_at};
 ghost use Rattle.radix_trie.specs.Refusals.{IsFullAt};
 ghost use Rattle.radix_trie.specs.Walks.{deref_pair};
 
-pub use entry::{Entry, EntryError};
-
 use crate::iter::parts_of;
+pub use entry::{Entry, EntryError};
 use radix_keys::{Memory, Nibblet, TrieKey};
 use radix_nodes::search::find::find;
 use radix_nodes::search::find_mut::value_at_mut;

@@ -38,7 +38,7 @@ pub use radix_keys::{
     Parts, PartsError, PartsIter, TrieKey,
 };
 pub use radix_nodes::search::find::LookUpCost;
-pub use trie::Trie;
+pub use trie::{Entry, EntryError, Trie};
 pub use view::subtrie::SubTrie;
 pub use view::subtrie_mut::{PathList, SubTrieMut};
 pub use view::trie_common::TrieCommon;

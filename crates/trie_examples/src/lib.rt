@@ -36,6 +36,8 @@ mod subscribers;
 #[cfg(test)]
 mod suffixes;
 #[cfg(test)]
+mod tallies;
+#[cfg(test)]
 mod told;
 #[cfg(test)]
 mod topics;

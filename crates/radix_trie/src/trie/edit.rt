@@ -107,7 +107,7 @@ impl<K: TrieKey + Drop, V: Drop> Trie<K, V> {
     }
 
     /// Calls the closure once on the value at a list. False: there is none, and nothing changed.
-    fn change_at<F: Fn(&mut V)>(&mut self, list: &Nibblet, f: F) -> bool
+    pub(crate) fn change_at<F: FnOnce(&mut V)>(&mut self, list: &Nibblet, f: F) -> bool
         requires callable { ForSome (value_at self.old list.now) (FnOnceTakesAtMut F.FnOnce f) }
         ensures { MatchOption (value_at self.old list.now)
             ((result ≡ false) × (self.new ≡ self.old))

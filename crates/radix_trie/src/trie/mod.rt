@@ -12,6 +12,7 @@ ghost use Rattle.radix_trie.specs.Refusals.{IsFullAt};
 ghost use Rattle.radix_trie.specs.Walks.{deref_pair};
 
 use crate::iter::parts_of;
+pub use entry::{Entry, EntryError};
 use radix_keys::{Memory, Nibblet, TrieKey};
 use radix_nodes::search::find::find;
 use radix_nodes::search::find_mut::value_at_mut;
@@ -26,6 +27,7 @@ mod building;
 mod compact;
 mod counted;
 pub(crate) mod edit;
+mod entry;
 mod equality;
 mod indexed;
 mod integrity;

@@ -111,8 +111,30 @@ impl<K: TrieKey + Drop, V: Drop> Trie<K, V> {
         let Ok(list) = encoding_of(self.alloc, &pair.key) else {
             return Err(refused(InsertWhy::Memory, pair));
         };
-        self.fill(&list, pair)?;
-        match self.at_mut(&list) {
+        self.filled_at(&list, pair)
+    }
+
+    /// What `get_or_insert` does, with the key's encoding in hand.
+    pub(crate) fn filled_at(
+        &mut self,
+        list: &Nibblet,
+        pair: KeyValue<K, V>,
+    ) -> Result<&mut V, InsertError<K, V>>
+        requires encoding { list.now ≡ K.encoding pair.key }
+        requires fits { length list.now < 2 ^ 64 }
+        ensures* writes_back { sem 𝓛
+            (lends_or_stored K.row V.row K.TrieKey.own K.PartialEq.own self.entry list.now
+            pair.key result) }
+        ensures value { IfOk result
+            (λ value. value.now ≡ unwrap_or (value_at self.old list.now) pair.value) }
+        ensures handed_back { IfErr result
+            (λ e. (e.key ≡ pair.key) × (e.value ≡ pair.value)) }
+        ensures stored { IsStored self.old list.now → IsOk result }
+        ensures room { OnOk result (IsFullAt self.old list.now → ⊥) }
+        ensures why { IfErr result (λ e. RefusesInsert self.old list.now ⊤ ⊤ e.why) }
+    {
+        self.fill(list, pair)?;
+        match self.at_mut(list) {
             Some(value) => Ok(value),
             None => unreachable!(),
         }

@@ -43,7 +43,8 @@ pub struct SubTrieMut<'a, K: TrieKey, V, P = Nibblet> {
     pub(crate) prefix: P,
 }
 
-/// What a view for writing keeps its path as: always a `Nibblet`.
+/// What a view for writing keeps its path as, and an entry the encoding of its key: always a
+/// `Nibblet`.
 pub trait PathList: Drop {
     /// The path.
     ghost list: { Self → List ℕ };

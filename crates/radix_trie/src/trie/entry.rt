@@ -1,0 +1,233 @@
+//! A key's place in a trie: a pair is stored there or none, and one acts on it then.
+ghost use Rattle.std.specs.FinMap as map;
+ghost use Rattle.std.specs.Fn.{FnOnceReturnsAtMut, FnOnceTakesAtMut};
+ghost use Rattle.std.specs.Option.{ForSome};
+ghost use Rattle.std.specs.Prelude.{◌≡◌, ◌↔◌, ⊤, ℕ, List, None, IsTrue, IsOk, IfOk, OnOk, IfErr, OnErr, MatchOption, option_copied};
+ghost use Rattle.nibble_map.specs.Maps.{IsStored, value_at, with_value};
+ghost use Rattle.nibble_map.specs.Nibbles.{IsShort};
+ghost use Rattle.radix_trie.specs.Refusals.{IsFullAt, JoinsAreShort, RefusesInsert};
+
+mod error;
+
+use crate::error::InsertError;
+use crate::trie::Trie;
+use crate::view::subtrie_mut::PathList;
+pub use error::EntryError;
+use radix_keys::{Memory, Nibblet, TrieKey};
+use radix_nodes::trie_node::KeyValue;
+
+/// The place of a key in a trie: a pair is stored at the key's encoding, or none.
+///
+/// `Trie::entry` encodes the key, once for all calls. An entry keeps no node, so each of its calls
+/// goes down the trie.
+// The parameter `P` lets a caller's proof follow the trie past the entry's end; it is always
+// `Nibblet`.
+pub struct Entry<'a, K: TrieKey, V, P: PathList = Nibblet> {
+    trie: &'a mut Trie<K, V>,
+    key: K,
+    list: P,
+    ghost encoded: { P.list list ≡ K.encoding key },
+}
+
+impl<K: TrieKey + Drop, V, P: PathList> Drop for Entry<'_, K, V, P> {
+    /// Ends the entry: the trie stays as the entry leaves it.
+    fn drop(self)
+        ensures { self.exit.0.now ≡ self.entry.trie.now }
+    {
+        let Entry {
+            trie: _,
+            key: _,
+            list: _,
+        } = self;
+    }
+}
+
+impl<K: TrieKey, V> Trie<K, V> {
+    ghost use Rattle.std.specs.Borrow.{sem};
+    ghost use Rattle.radix_trie.specs.Entries.{entry_key, entry_lender, entry_map, entry_rests_if_err};
+
+    /// The key's place, to look a pair up there, and to store, change or remove it, with one encoding
+    /// of the key. It goes down to no node.
+    ///
+    /// # Errors
+    ///
+    /// Memory for the encoding is refused, which a light key never meets. The trie is as before
+    /// then, and the error holds the very key.
+    ///
+    /// # Examples
+    ///
+    /// `count` in `crates/trie_examples/src/tallies.rt` counts a word.
+    pub fn entry(&mut self, key: K) -> Result<Entry<'_, K, V>, EntryError<K>>
+        ensures* rests { sem 𝓛
+            (entry_rests_if_err K.row V.row K.TrieKey.own K.PartialEq.own self.entry result) }
+        ensures map { IfOk result (λ entry. entry_map entry ≡ self.old) }
+        ensures key { IfOk result (λ entry. entry_key entry ≡ key) }
+        ensures same_reference { IfOk result
+            (λ entry. entry_lender entry ≡ self.entry.ghost_name) }
+        ensures is_value { OnOk result (K.is_value key) }
+        ensures handed_back { IfErr result (λ e. e.key ≡ key) }
+        ensures light { K.is_light key → IsOk result }
+    {
+        match key.encode(self.allocator()) {
+            Ok(list) => Ok(Entry {
+                trie: self,
+                key,
+                list,
+            }),
+            Err(_) => Err(EntryError { key }),
+        }
+    }
+}
+
+impl<'a, K: TrieKey, V, P: PathList> Entry<'a, K, V, P> {
+    ghost use Rattle.radix_trie.specs.Entries.{entry_key, entry_list, entry_map};
+
+    /// The key that was passed to `Trie::entry`.
+    pub fn key(&self) -> &K
+        ensures { result.now ≡ entry_key self.now }
+    {
+        &self.key
+    }
+
+    /// The value that is stored at the key's encoding, if there is one. It allocates nothing.
+    pub fn get(&self) -> Option<&V>
+        ensures value { option_copied result
+            ≡ value_at (entry_map self.now) (entry_list self.now) }
+    {
+        self.trie.at(self.list.nibbles())
+    }
+
+    /// Whether a pair is stored at the key's encoding. It allocates nothing.
+    pub fn is_occupied(&self) -> bool
+        ensures stored { IsTrue result
+            ↔ IsStored (entry_map self.now) (entry_list self.now) }
+    {
+        self.trie.contains(self.list.nibbles())
+    }
+}
+
+impl<'a, K: TrieKey + Drop, V: Drop, P: PathList> Entry<'a, K, V, P> {
+    ghost use Rattle.std.specs.Borrow.{sem};
+    ghost use Rattle.std.specs.Option.{unwrap_or};
+    ghost use Rattle.radix_trie.specs.Entries.{entry_key, entry_lender, entry_lends, entry_list, entry_map};
+
+    /// Calls the closure once on the value that is stored at the key's encoding, where there is one.
+    ///
+    /// The closure has to be callable on a stored value alone. It takes one way down.
+    pub fn and_modify<F: FnOnce(&mut V)>(self, f: F) -> Self
+        requires callable { ForSome (value_at (entry_map self) (entry_list self))
+            (FnOnceTakesAtMut F.FnOnce f) }
+        ensures same_reference { entry_lender result ≡ entry_lender self.entry }
+        ensures same_key { entry_key result ≡ entry_key self.entry }
+        ensures modified { MatchOption (value_at (entry_map self.entry) (entry_list self.entry))
+            (entry_map result ≡ entry_map self.entry)
+            (λ v. (w : V) × FnOnceReturnsAtMut F.FnOnce f v tt w
+            × (entry_map result
+            ≡ with_value (entry_map self.entry) (entry_list self.entry) w)) }
+    {
+        let Entry { trie, key, list } = self;
+        trie.change_at(list.nibbles(), f);
+        Entry { trie, key, list }
+    }
+
+    /// Stores the pair of the entry's key and a value, and returns the value that was stored there.
+    /// A stored key is replaced by the entry's too. The entry is spent.
+    ///
+    /// It takes one way down.
+    ///
+    /// # Errors
+    ///
+    /// In the order in which they are decided: `Full`, where `usize::MAX` pairs are stored and the
+    /// key's encoding isn't among them; memory for the change. Where a pair is stored there, neither
+    /// comes. The trie is as before then, and the error holds the very key and value.
+    pub fn insert(self, value: V) -> Result<Option<V>, InsertError<K, V>>
+        ensures old_value { IfOk result
+            (λ old. old ≡ value_at (entry_map self.entry) (entry_list self.entry)) }
+        ensures stored { OnOk result
+            (self.exit.0.now ≡ map.insert (entry_map self.entry) (entry_list self.entry)
+            (entry_key self.entry, value)) }
+
+        ensures handed_back { IfErr result
+            (λ e. (e.key ≡ entry_key self.entry) × (e.value ≡ value)) }
+        ensures unchanged { OnErr result (self.exit.0.now ≡ entry_map self.entry) }
+
+        ensures occupied { IsStored (entry_map self.entry) (entry_list self.entry)
+            → IsOk result }
+        ensures room { OnOk result
+            (IsFullAt (entry_map self.entry) (entry_list self.entry) → ⊥) }
+        ensures why { IfErr result
+            (λ e. RefusesInsert (entry_map self.entry) (entry_list self.entry) ⊤ ⊤ e.why) }
+    {
+        let Entry { trie, key, list } = self;
+        let list = list.into_nibbles();
+        let _nibbles = list.len();
+        trie.insert_at(&list, KeyValue { key, value })
+    }
+
+    /// The value that is stored at the key's encoding, for writing, where the default is stored
+    /// first if nothing is. The entry is spent.
+    ///
+    /// If a pair is stored there, its key stays, and the entry's key and the default are dropped. A
+    /// caller learns from this call what the trie ends as. A stored encoding takes two ways down,
+    /// and a new one three.
+    ///
+    /// # Errors
+    ///
+    /// Those of `insert`, in its order. The trie is as before then, and the error holds the very key
+    /// and default.
+    pub fn or_insert(self, default: V) -> Result<&'a mut V, InsertError<K, V>>
+        ensures* writes_back { sem 𝓛
+            (entry_lends K.row V.row P.row K.TrieKey.own K.PartialEq.own P.PathList
+            self.entry result) }
+        ensures value { IfOk result (λ value. value.now
+            ≡ unwrap_or (value_at (entry_map self.entry) (entry_list self.entry)) default) }
+
+        ensures handed_back { IfErr result
+            (λ e. (e.key ≡ entry_key self.entry) × (e.value ≡ default)) }
+
+        ensures occupied { IsStored (entry_map self.entry) (entry_list self.entry)
+            → IsOk result }
+        ensures room { OnOk result
+            (IsFullAt (entry_map self.entry) (entry_list self.entry) → ⊥) }
+        ensures why { IfErr result
+            (λ e. RefusesInsert (entry_map self.entry) (entry_list self.entry) ⊤ ⊤ e.why) }
+    {
+        let Entry { trie, key, list } = self;
+        let list = list.into_nibbles();
+        let _nibbles = list.len();
+        trie.filled_at(
+            &list,
+            KeyValue {
+                key,
+                value: default,
+            },
+        )
+    }
+
+    /// Removes the pair at the key's encoding, and returns the stored key and its value. Where none
+    /// is stored there, nothing changes. The entry is spent, and its key is dropped.
+    ///
+    /// It takes one way down.
+    ///
+    /// # Errors
+    ///
+    /// Memory is refused, for joining two fragments, as `Trie::remove` has it. The trie is as before
+    /// then.
+    pub fn remove(self) -> Result<Option<(K, V)>, Memory>
+        ensures old_pair { IfOk result
+            (λ old. old ≡ map.get (entry_map self.entry) (entry_list self.entry)) }
+        ensures removed { OnOk result
+            (self.exit.0.now ≡ map.remove (entry_map self.entry) (entry_list self.entry)) }
+        ensures unchanged { OnErr result (self.exit.0.now ≡ entry_map self.entry) }
+
+        ensures absent { map.get (entry_map self.entry) (entry_list self.entry) ≡ None
+            → IsOk result }
+        ensures short { ((e : List ℕ) → IsStored (entry_map self.entry) e → IsShort e)
+            → IsOk result }
+        ensures joins { JoinsAreShort (entry_map self.entry) (entry_list self.entry)
+            → IsOk result }
+    {
+        let Entry { trie, key: _, list } = self;
+        trie.take_entry_at(list.nibbles())
+    }
+}

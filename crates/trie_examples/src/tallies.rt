@@ -1,0 +1,90 @@
+//! A count for each word, by entries: the word is encoded once for all that is done at it.
+ghost use Rattle.std.specs.Option.{unwrap_or};
+ghost use Rattle.std.specs.Prelude.{◌≡◌, ◌≢◌, ◌+◌, ◌-◌, ◌<◌, ◌^◌, ℕ, List, OnOk, OnErr, string_bytes};
+ghost use Rattle.radix_trie.specs.Maps.{value_at};
+ghost use Rattle.radix_trie.specs.Nibbles.{nibbles};
+
+use radix_trie::{Trie, TrieError, edits_change_one_answer};
+
+/// Counts a word: one more of it, and no more of any other. A word that isn't stored has the count 0.
+fn count(counts: &mut Trie<String, u64>, word: String) -> Result<(), TrieError>
+    requires room { unwrap_or (value_at counts.old (nibbles (string_bytes word))) 0 + 1 < 2 ^ 64 }
+    ensures one_more { OnOk result
+        (unwrap_or (value_at counts.new (nibbles (string_bytes word))) 0
+        ≡ unwrap_or (value_at counts.old (nibbles (string_bytes word))) 0 + 1) }
+    ensures others { (q : List ℕ) → q ≢ nibbles (string_bytes word)
+        → value_at counts.new q ≡ value_at counts.old q }
+    ensures unchanged { OnErr result (counts.new ≡ counts.old) }
+{
+    edits_change_one_answer::<(String, u64)>();
+    *counts.entry(word)?.or_insert(0)? += 1;
+    Ok(())
+}
+
+/// Takes one of a word's count: one less of it, or none where there was one, and then it isn't stored. A word with the count
+/// 0 stays so.
+fn discount(counts: &mut Trie<String, u64>, word: String) -> Result<(), TrieError>
+    ensures one_less { OnOk result
+        (unwrap_or (value_at counts.new (nibbles (string_bytes word))) 0
+        ≡ unwrap_or (value_at counts.old (nibbles (string_bytes word))) 0 - 1) }
+    ensures others { (q : List ℕ) → q ≢ nibbles (string_bytes word)
+        → value_at counts.new q ≡ value_at counts.old q }
+    ensures unchanged { OnErr result (counts.new ≡ counts.old) }
+{
+    edits_change_one_answer::<(String, u64)>();
+    let entry = counts.entry(word)?;
+    match entry.get().copied() {
+        None => Ok(()),
+        Some(n) if n > 1 => {
+            entry.insert(n - 1)?;
+            Ok(())
+        }
+        Some(_) => {
+            entry.remove()?;
+            Ok(())
+        }
+    }
+}
+
+#[test]
+fn words_are_counted_and_discounted(rt: HostRuntime) -> Result<(), TrieError> {
+    let mut counts: Trie<String, u64> = Trie::new(rt.alloc());
+    for word in ["tea", "ten", "tea"] {
+        let found = counts.get(&word)?.copied().unwrap_or(0);
+        if found < u64::MAX {
+            count(&mut counts, String::from_str(rt.alloc(), word)?)?;
+        }
+    }
+    assert!(rt; counts.get(&"tea")? == Some(&2) && counts.get(&"ten")? == Some(&1));
+    for word in ["ten", "tea", "toe"] {
+        discount(&mut counts, String::from_str(rt.alloc(), word)?)?;
+    }
+    assert!(rt; counts.get(&"tea")? == Some(&1) && counts.len() == 1);
+    Ok(())
+}
+
+#[test]
+fn an_entry_is_acted_on(rt: HostRuntime) -> Result<(), TrieError> {
+    let mut stock: Trie<&'static str, u64> = Trie::new(rt.alloc());
+    assert!(rt; !stock.entry("pear")?.is_occupied());
+    assert!(rt; stock.entry("pear")?.insert(3)?.is_none());
+    assert!(rt;
+        *stock
+            .entry("pear")?
+            .and_modify(|n: &mut u64| { *n = 5 })
+            .or_insert(9)?
+            == 5
+    );
+    assert!(rt;
+        *stock
+            .entry("plum")?
+            .and_modify(|n: &mut u64| { *n = 5 })
+            .or_insert(9)?
+            == 9
+    );
+    let entry = stock.entry("pear")?;
+    assert!(rt; *entry.key() == "pear" && entry.get() == Some(&5));
+    assert!(rt; entry.remove()? == Some(("pear", 5)));
+    assert!(rt; stock.entry("pear")?.remove()?.is_none() && stock.len() == 1);
+    Ok(())
+}

@@ -1,4 +1,5 @@
-//! Entries: a key's place in a trie, at keys of each length, and by callers with contracts of their own.
+//! Entries: a key's place in a trie, at keys of each length, and by callers with contracts of their
+//! own.
 ghost use Rattle.std.specs.Prelude.{◌≡◌, OnOk, OnErr};
 ghost use Rattle.radix_trie.specs.Values.{IsFilled};
 
@@ -36,8 +37,8 @@ fn only_vacant_places_are_filled(rt: HostRuntime) -> Result<(), TrieError> {
 /// A key of 42 nibbles, whose encoding takes memory.
 const LONG: &'static str = "a long way to the sea";
 
-/// What was stored at the key, where the value is stored at its entry. What is shown there before has to be `old`, and a
-/// refusal has to return the key.
+/// What was stored at the key, where the value is stored at its entry. What is shown there before
+/// has to be `old`, and a refusal has to return the key.
 fn replaced(
     rt: &impl Abort,
     trie: &mut Texts,
@@ -63,7 +64,8 @@ fn replaced(
     }
 }
 
-/// Stores a value at a key, at which `old` is stored. Where memory is refused the trie is as before.
+/// Stores a value at a key, at which `old` is stored. Where memory is refused the trie is as
+/// before.
 fn check_replaced(
     rt: &impl Abort,
     trie: &mut Texts,
@@ -105,7 +107,8 @@ fn pairs_are_removed_at_entries(rt: HostRuntime) -> Result<(), TrieError> {
     Ok(())
 }
 
-/// A value that is lent by an entry is written in its place; the closure is called on a stored value alone.
+/// A value that is lent by an entry is written in its place; the closure is called on a stored
+/// value alone.
 #[test]
 fn values_are_lent_by_entries(rt: HostRuntime) -> Result<(), TrieError> {
     let mut trie = texts(rt.alloc(), &[("tea", 1)])?;

@@ -19,7 +19,7 @@ use radix_nodes::trie_node::KeyValue;
 /// The place of a key in a trie: a pair is stored at the key's encoding, or none.
 ///
 /// `Trie::entry` encodes the key, once for all calls. An entry keeps no node, so each of its calls
-/// goes down the trie.
+/// but `key` goes down the trie.
 // The parameter `P` lets a caller's proof follow the trie past the entry's end; it is always
 // `Nibblet`.
 pub struct Entry<'a, K: TrieKey, V, P: PathList = Nibblet> {

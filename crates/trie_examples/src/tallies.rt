@@ -6,7 +6,8 @@ ghost use Rattle.radix_trie.specs.Nibbles.{nibbles};
 
 use radix_trie::{Trie, TrieError, edits_change_one_answer};
 
-/// Counts a word: one more of it, and no more of any other. A word that isn't stored has the count 0.
+/// Counts a word: one more of it, and no more of any other. A word that isn't stored has the count
+/// 0.
 fn count(counts: &mut Trie<String, u64>, word: String) -> Result<(), TrieError>
     requires room { unwrap_or (value_at counts.old (nibbles (string_bytes word))) 0 + 1 < 2 ^ 64 }
     ensures one_more { OnOk result
@@ -21,8 +22,8 @@ fn count(counts: &mut Trie<String, u64>, word: String) -> Result<(), TrieError>
     Ok(())
 }
 
-/// Takes one of a word's count: one less of it, or none where there was one, and then it isn't stored. A word with the count
-/// 0 stays so.
+/// Takes one of a word's count: one less of it, or none where there was one, and then it isn't
+/// stored. A word with the count 0 stays so.
 fn discount(counts: &mut Trie<String, u64>, word: String) -> Result<(), TrieError>
     ensures one_less { OnOk result
         (unwrap_or (value_at counts.new (nibbles (string_bytes word))) 0

@@ -19,7 +19,7 @@ use radix_nodes::trie_node::KeyValue;
 /// The place of a key in a trie: a pair is stored at the key's encoding, or none.
 ///
 /// `Trie::entry` encodes the key, once for all calls. An entry keeps no node, so each of its calls
-/// goes down the trie.
+/// but `key` goes down the trie.
 // The parameter `P` lets a caller's proof follow the trie past the entry's end; it is always
 // `Nibblet`.
 pub struct Entry<'a, K: TrieKey, V, P: PathList = Nibblet> {
@@ -46,8 +46,8 @@ impl<K: TrieKey, V> Trie<K, V> {
     ghost use Rattle.std.specs.Borrow.{sem};
     ghost use Rattle.radix_trie.specs.Entries.{entry_key, entry_lender, entry_map, entry_rests_if_err};
 
-    /// The key's place, to look a pair up there, and to store, change or remove it, with one encoding
-    /// of the key. It goes down to no node.
+    /// The key's place, to look a pair up there, and to store, change or remove it, with one
+    /// encoding of the key. It goes down to no node.
     ///
     /// # Errors
     ///
@@ -111,7 +111,8 @@ impl<'a, K: TrieKey + Drop, V: Drop, P: PathList> Entry<'a, K, V, P> {
     ghost use Rattle.std.specs.Option.{unwrap_or};
     ghost use Rattle.radix_trie.specs.Entries.{entry_key, entry_lender, entry_lends, entry_list, entry_map};
 
-    /// Calls the closure once on the value that is stored at the key's encoding, where there is one.
+    /// Calls the closure once on the value that is stored at the key's encoding, where there is
+    /// one.
     ///
     /// The closure has to be callable on a stored value alone. It takes one way down.
     pub fn and_modify<F: FnOnce(&mut V)>(self, f: F) -> Self
@@ -138,8 +139,8 @@ impl<'a, K: TrieKey + Drop, V: Drop, P: PathList> Entry<'a, K, V, P> {
     /// # Errors
     ///
     /// In the order in which they are decided: `Full`, where `usize::MAX` pairs are stored and the
-    /// key's encoding isn't among them; memory for the change. Where a pair is stored there, neither
-    /// comes. The trie is as before then, and the error holds the very key and value.
+    /// key's encoding isn't among them; memory for the change. Where a pair is stored there,
+    /// neither comes. The trie is as before then, and the error holds the very key and value.
     pub fn insert(self, value: V) -> Result<Option<V>, InsertError<K, V>>
         ensures old_value { IfOk result
             (λ old. old ≡ value_at (entry_map self.entry) (entry_list self.entry)) }
@@ -173,8 +174,8 @@ impl<'a, K: TrieKey + Drop, V: Drop, P: PathList> Entry<'a, K, V, P> {
     ///
     /// # Errors
     ///
-    /// Those of `insert`, in its order. The trie is as before then, and the error holds the very key
-    /// and default.
+    /// Those of `insert`, in its order. The trie is as before then, and the error holds the very
+    /// key and default.
     pub fn or_insert(self, default: V) -> Result<&'a mut V, InsertError<K, V>>
         ensures* writes_back { sem 𝓛
             (entry_lends K.row V.row P.row K.TrieKey.own K.PartialEq.own P.PathList
@@ -211,8 +212,8 @@ impl<'a, K: TrieKey + Drop, V: Drop, P: PathList> Entry<'a, K, V, P> {
     ///
     /// # Errors
     ///
-    /// Memory is refused, for joining two fragments, as `Trie::remove` has it. The trie is as before
-    /// then.
+    /// Memory is refused, for joining two fragments, as `Trie::remove` has it. The trie is as
+    /// before then.
     pub fn remove(self) -> Result<Option<(K, V)>, Memory>
         ensures old_pair { IfOk result
             (λ old. old ≡ map.get (entry_map self.entry) (entry_list self.entry)) }

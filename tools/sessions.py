@@ -18,8 +18,11 @@ READ_FAILED = b"read failed\n", 1
 # What the calls of trie_shell that open a view are called in the library, and the view.
 OPENERS = {"open": ("subtrie", "SubTrie"), **{it: (it, "SubTrieMut") for it in ("open_mut", "subtrie_mut")}}
 WITHS = {"with": "open_mut", "with_subtrie_mut": "subtrie_mut"}
-CURSORS = ("cursor", "cursor_from", "cursor_after")
-COMMON = ("iter", "keys", "values", "iter_from", "iter_after", "prefix", *CURSORS)
+# What the lines of walks whose steps may be refused call besides.
+STEPS = {"cursor": "Cursor::next", "cursor_from": "Cursor::next", "cursor_after": "Cursor::next",
+         "cursor_back": "CursorBack::next", "cursor_back_from": "CursorBack::next",
+         "cursor_back_before": "CursorBack::next"}
+COMMON = ("iter", "keys", "values", "iter_from", "iter_after", "prefix", *STEPS)
 PARTS = {"nibblet": "Nibblet", "bits": "Bits", "ipv4": "Network", "ipv6": "Network", "parts": "Parts"}
 ESCAPE = re.compile(rb"\\(?:x([0-9a-f]{2})|\((.)\*(\d+)\)|(\\))")
 
@@ -144,7 +147,7 @@ def calls_of(words, place):
         inner = " ".join(rest[1:]).split(" ; ")
         return [f"Trie::{WITHS[name]}", *(it for call in inner for it in calls_of(call.split(" "), "SubTrieMut"))]
     if name == "spend":
-        return [f"SubTrieMut::{rest[0]}", *["Cursor::next"] * (rest[0] in CURSORS)]
+        return [f"SubTrieMut::{rest[0]}", *filter(None, [STEPS.get(rest[0])])]
     if name == "into_trie":
         return calls_of(rest, "Trie")
     if name in ("encode", "encode_bytes"):
@@ -154,7 +157,7 @@ def calls_of(words, place):
     if name == "check_integrity":
         return ["Trie::check_integrity", "TrieNode::check_integrity_recursive"]
     plain = {"run": ["run"], "json": ["from_value", "to_value"], "into_children": ["SubTrieMut::into_children"]}
-    called = [f"&{place}::{name}" if name in COMMON else f"{place}::{name}", *["Cursor::next"] * (name in CURSORS)]
+    called = [f"&{place}::{name}" if name in COMMON else f"{place}::{name}", *filter(None, [STEPS.get(name)])]
     return plain.get(name) or called
 
 

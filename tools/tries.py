@@ -273,6 +273,13 @@ def from_iter(v, pairs):
     return extend(v, pairs)
 
 
+def append(trie, part):
+    """Moves all pairs of the part to the trie, unless a point stands at or below the list that all of them begin with."""
+    if trie.pairs and part.pairs and trie.point_below(os.path.commonprefix(part.lists)) is not None:
+        return "overlapping"
+    return extend(View(trie), [(at, number) for at, (_, number) in part.cut("").items()])
+
+
 # Each call's words and its answer: K a key to store, Q a key or a list to look up, q none or one, L a list, N a number,
 # P pairs.
 COMMON = {
@@ -290,6 +297,9 @@ COMMON = {
     "cursor": ("", lambda v: v.told(v.below)),
     "cursor_from": ("Q", lambda v, at: v.told(it for it in v.below if it >= at)),
     "cursor_after": ("Q", lambda v, at: v.told(it for it in v.below if it > at)),
+    "cursor_back": ("", lambda v: v.told(reversed(v.below))),
+    "cursor_back_from": ("Q", lambda v, at: v.told(it for it in reversed(v.below) if it <= at)),
+    "cursor_back_before": ("Q", lambda v, at: v.told(it for it in reversed(v.below) if it < at)),
     "first_key_value": ("", lambda v: v.told(v.below[:1])),
     "last_key_value": ("", lambda v: v.told(v.below[-1:])),
 }
@@ -372,7 +382,7 @@ SIDES = {
     "is_superset": lambda a, b: truth(a.keys() >= b.keys()),
     "is_disjoint": lambda a, b: truth(not a.keys() & b.keys()),
 }
-NAMED = ("use", "tries", "==", "clone", "split_off_prefix", *SIDES)
+NAMED = ("use", "tries", "==", "clone", "split_off_prefix", "append", *SIDES)
 # What these answer where no point stands at the key.
 OPENERS = {"open": "none", "open_mut": "closed", "subtrie_mut": "none"}
 WITHS = {"with": "closed", "with_subtrie_mut": "none"}
@@ -449,6 +459,8 @@ class Shell:
             return SIDES[name](self.trie.pairs, dict(self.tries)[other].pairs) if other in names else NO_TRIE
         if name == "==":
             return truth(dict(self.tries)[other].pairs == self.trie.pairs) if other in names else NO_TRIE
+        if name == "append":
+            return append(self.trie, dict(self.tries)[other]) if other in names[1:] else NO_TRIE
         if other not in names:
             self.tries.append([other, Trie(self.words)])
         place = names.index(other) if other in names else len(names)

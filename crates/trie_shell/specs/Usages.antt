@@ -21,6 +21,9 @@ usages =
     (codes "cursor", 0, 0) ∷
     (codes "cursor_from", 1, 1) ∷
     (codes "cursor_after", 1, 1) ∷
+    (codes "cursor_back", 0, 0) ∷
+    (codes "cursor_back_from", 1, 1) ∷
+    (codes "cursor_back_before", 1, 1) ∷
     (codes "first_key_value", 0, 0) ∷
     (codes "last_key_value", 0, 0) ∷
     (codes "get", 1, 1) ∷
@@ -88,6 +91,7 @@ usages =
     (codes "is_superset", 1, 1) ∷
     (codes "is_disjoint", 1, 1) ∷
     (codes "split_off_prefix", 2, 2) ∷
+    (codes "append", 1, 1) ∷
     (codes "open", 1, 1) ∷
     (codes "open_mut", 1, 1) ∷
     (codes "subtrie_mut", 1, 1) ∷

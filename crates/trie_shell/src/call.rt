@@ -34,6 +34,9 @@ pub enum Common {
     Cursor,
     CursorFrom,
     CursorAfter,
+    CursorBack,
+    CursorBackFrom,
+    CursorBackBefore,
     FirstKeyValue,
     LastKeyValue,
 }
@@ -124,6 +127,7 @@ pub enum Named {
     Equals,
     Clone,
     SplitOffPrefix,
+    Append,
     Sides(Sides),
 }
 
@@ -215,6 +219,19 @@ pub const CALLS: &'static [Usage] = &[
     Usage("cursor", 0, 0, Call::Common(Common::Cursor)),
     Usage("cursor_from", 1, 1, Call::Common(Common::CursorFrom)),
     Usage("cursor_after", 1, 1, Call::Common(Common::CursorAfter)),
+    Usage("cursor_back", 0, 0, Call::Common(Common::CursorBack)),
+    Usage(
+        "cursor_back_from",
+        1,
+        1,
+        Call::Common(Common::CursorBackFrom),
+    ),
+    Usage(
+        "cursor_back_before",
+        1,
+        1,
+        Call::Common(Common::CursorBackBefore),
+    ),
     Usage("first_key_value", 0, 0, Call::Common(Common::FirstKeyValue)),
     Usage("last_key_value", 0, 0, Call::Common(Common::LastKeyValue)),
     Usage("get", 1, 1, Call::Keyed(Keyed::Get)),
@@ -347,6 +364,7 @@ pub const CALLS: &'static [Usage] = &[
         Call::Named(Named::Sides(Sides::IsDisjoint)),
     ),
     Usage("split_off_prefix", 2, 2, Call::Named(Named::SplitOffPrefix)),
+    Usage("append", 1, 1, Call::Named(Named::Append)),
     Usage("open", 1, 1, Call::View(View::Open)),
     Usage("open_mut", 1, 1, Call::View(View::OpenMut)),
     Usage("subtrie_mut", 1, 1, Call::View(View::SubtrieMut)),

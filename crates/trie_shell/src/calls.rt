@@ -18,6 +18,7 @@ pub mod parts;
 pub mod ranges;
 pub mod runs;
 pub mod sets;
+pub mod steps;
 pub mod sweeps;
 pub mod trees;
 pub mod tries;

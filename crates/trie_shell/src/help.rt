@@ -28,6 +28,7 @@ remove KEY: removes a pair. Its value, or none; outside, in a view.\n\
 remove_entry KEY: removes a pair. The pair, or none.\n\
 remove_prefix KEY: removes all pairs at and below the key. The pairs, or none; outside, in a view.\n\
 split_off_prefix KEY NAME: the same as a trie of this name.\n\
+append NAME: takes all pairs of the trie of this name, which is empty then; overlapping; full.\n\
 map_with_default KEY NUMBER VALUE: adds the number to a stored value, or stores the value.\n\
 for_each_value_mut NUMBER: adds the number to each value.\n\
 for_each_value_mut_below KEY NUMBER: adds the number to each value at and below the key.\n\
@@ -50,6 +51,9 @@ iter_after KEY: the pairs after the key, or none.\n\
 cursor: the pairs in order, or none. A refused step is made once more.\n\
 cursor_from KEY: the same from the key on.\n\
 cursor_after KEY: the same after the key.\n\
+cursor_back: the pairs from the last to the first, or none. A refused step is made once more.\n\
+cursor_back_from KEY: the same of the pairs at the key and before it.\n\
+cursor_back_before KEY: the same of the pairs before the key.\n\
 count_below KEY: the count of pairs at and below the key; outside, in a view.\n\
 first_below KEY COUNT: the first pairs at and below the key, so many at most, or none; outside, in a view.\n\
 first_after KEY LAST COUNT: the same of those after the key LAST.\n\
@@ -89,8 +93,8 @@ spend CALL: what the call answers that takes the open view.\n\
 close: leaves the open view.\n\
 run COMMAND ..: the replies to a list of commands; within KEY COMMAND .. end runs some in a view.\n\
 json TEXT: the counts of an object's trie, and the object that it is written as; kind; float.\n\
-error NAME: the text of an error: memory, full, outside, occupied, absent, closed, kind, float or\n\
-error NAME: odd or zero; none.\n\
+error NAME: the text of an error: memory, full, outside, occupied, overlapping, absent, closed,\n\
+error NAME: kind, float, odd or zero; none.\n\
 encode TYPE KEY: the key's encoding, in nibbles. The types are those of integers,\n\
 encode TYPE KEY: BigEndian<u16>, <u32>, <u128>, LittleEndian of these, Ascending<i8> to <isize>,\n\
 encode TYPE KEY: String, &str, &String, &mut&str, Vec<u8>, &[u8], Vec<u16>, Nibblet, bool, char,\n\

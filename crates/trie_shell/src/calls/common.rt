@@ -2,9 +2,8 @@
 
 use crate::answer::Answer;
 use crate::call::Common;
-use crate::calls::lines::{
-    NO_KEY, cursor_lines, key_line, key_lines, pair_line, pair_lines, value_lines,
-};
+use crate::calls::lines::{NO_KEY, key_line, key_lines, pair_line, pair_lines, value_lines};
+use crate::calls::steps::step_lines;
 use crate::keys::{Query, ShellKey};
 use radix_trie::{Memory, TrieCommon, TrieKey};
 
@@ -29,14 +28,18 @@ pub fn answer_common<'a, K: ShellKey + 'a, T: TrieCommon<'a, K, u64> + Drop>(
         Common::Iter => pair_lines(answer, of.iter()?),
         Common::Keys => key_lines(answer, of.keys()?),
         Common::Values => value_lines(answer, of.values()?),
-        Common::Cursor => cursor_lines(answer, of.cursor()?),
-        Common::IterFrom | Common::IterAfter | Common::CursorFrom | Common::CursorAfter => {
-            answer_resumed(of, call, answer)
-        }
+        Common::Cursor => step_lines(answer, of.cursor()?),
+        Common::CursorBack => step_lines(answer, of.cursor_back()),
+        Common::IterFrom
+        | Common::IterAfter
+        | Common::CursorFrom
+        | Common::CursorAfter
+        | Common::CursorBackFrom
+        | Common::CursorBackBefore => answer_resumed(of, call, answer),
     }
 }
 
-/// The walk from a key on, or after it.
+/// The walk from a key on, or after it, or back before it.
 fn answer_resumed<'a, K: ShellKey + 'a, T: TrieCommon<'a, K, u64> + Drop>(
     of: T,
     call: Common,
@@ -58,7 +61,9 @@ fn resumed_lines<'a, K: ShellKey + 'a, T: TrieCommon<'a, K, u64> + Drop, Q: Trie
     match call {
         Common::IterFrom => pair_lines(answer, of.iter_from(key)?),
         Common::IterAfter => pair_lines(answer, of.iter_after(key)?),
-        Common::CursorFrom => cursor_lines(answer, of.cursor_from(key)?),
-        _ => cursor_lines(answer, of.cursor_after(key)?),
+        Common::CursorFrom => step_lines(answer, of.cursor_from(key)?),
+        Common::CursorAfter => step_lines(answer, of.cursor_after(key)?),
+        Common::CursorBackFrom => step_lines(answer, of.cursor_back_from(key)?),
+        _ => step_lines(answer, of.cursor_back_before(key)?),
     }
 }

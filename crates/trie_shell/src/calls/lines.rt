@@ -3,7 +3,7 @@ ghost use Rattle.std.specs.Iterator.{IsFinite};
 
 use crate::answer::Answer;
 use crate::keys::ShellKey;
-use radix_trie::iter::{Children, Cursor, Keys, Values};
+use radix_trie::iter::{Children, Keys, Values};
 use radix_trie::{Memory, SubTrie, TrieCommon};
 
 /// What is answered where a word writes no key of the trie's type.
@@ -70,43 +70,6 @@ pub fn pair_lines<'a, K: ShellKey + 'a, I: Iterator<Item = (&'a K, &'a u64)> + D
         answer.pair_line(key, *value)?;
     }
     none_line(answer, is_none)
-}
-
-/// The pairs of a cursor, or that there is none.
-pub fn cursor_lines<K: ShellKey>(
-    answer: &mut Answer<'_>,
-    cursor: Cursor<'_, K, u64>,
-) -> Result<(), Memory> {
-    let mut cursor = cursor;
-    let mut is_none = true;
-    for _ in 0..u64::MAX {
-        let Some((key, value)) = next_pair(&mut cursor, &mut *answer)? else {
-            break;
-        };
-        is_none = false;
-        answer.pair_line(key, *value)?;
-    }
-    none_line(answer, is_none)
-}
-
-/// The next pair of a cursor. A refused step is told of where it is watched, and made once more.
-fn next_pair<'a, K: ShellKey>(
-    cursor: &mut Cursor<'a, K, u64>,
-    answer: &mut Answer<'_>,
-) -> Result<Option<(&'a K, &'a u64)>, Memory> {
-    if let Ok(pair) = cursor.next() {
-        return Ok(pair);
-    }
-    step_again(answer)?;
-    cursor.next()
-}
-
-/// Tells of a refused step that is made once more, where it is watched.
-pub fn step_again(answer: &mut Answer<'_>) -> Result<(), Memory> {
-    if answer.is_watched() {
-        answer.line("refused")?;
-    }
-    Ok(())
 }
 
 /// Says that there is none, where there is.

@@ -33,6 +33,7 @@ fn answer_error(answer: &mut Answer<'_>) -> Result<(), Memory> {
         "full" => TrieError::Full,
         "outside" => TrieError::Outside,
         "occupied" => TrieError::Occupied,
+        "overlapping" => TrieError::Overlapping,
         "absent" => TrieError::Absent,
         "closed" => TrieError::Closed,
         "kind" => TrieError::Kind,

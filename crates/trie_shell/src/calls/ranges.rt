@@ -1,10 +1,11 @@
 //! Walks between two keys.
 
 use crate::answer::Answer;
-use crate::calls::lines::{NO_KEY, none_line, step_again};
+use crate::calls::lines::NO_KEY;
+use crate::calls::steps::step_lines;
 use crate::keys::{Query, ShellKey};
 use radix_trie::{Memory, Trie, TrieKey};
-use trie_ranges::{Between, between, between_inclusive};
+use trie_ranges::{between, between_inclusive};
 
 /// The pairs from the key that the next word writes to that of the word after it.
 pub fn answer_range<K: ShellKey>(
@@ -44,33 +45,5 @@ fn answer_between<K: ShellKey, Q: TrieKey, R: TrieKey>(
     } else {
         between(answer.alloc(), trie, from, to)?
     };
-    range_lines(answer, walk)
-}
-
-/// The pairs of the walk, or that there is none. A refused step is made once more.
-fn range_lines<K: ShellKey>(
-    answer: &mut Answer<'_>,
-    walk: Between<'_, K, u64>,
-) -> Result<(), Memory> {
-    let mut walk = walk;
-    let mut is_none = true;
-    for _ in 0..u64::MAX {
-        let Some((key, value)) = next_pair(&mut walk, &mut *answer)? else {
-            break;
-        };
-        is_none = false;
-        answer.pair_line(key, *value)?;
-    }
-    none_line(answer, is_none)
-}
-
-fn next_pair<'a, K: ShellKey>(
-    walk: &mut Between<'a, K, u64>,
-    answer: &mut Answer<'_>,
-) -> Result<Option<(&'a K, &'a u64)>, Memory> {
-    if let Ok(pair) = walk.next() {
-        return Ok(pair);
-    }
-    step_again(answer)?;
-    walk.next()
+    step_lines(answer, walk)
 }

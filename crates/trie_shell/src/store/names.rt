@@ -6,7 +6,7 @@ use crate::calls::lines::NO_KEY;
 use crate::calls::sets::answer_sides;
 use crate::keys::{Query, ShellKey};
 use crate::store::{NamedTrie, Store};
-use radix_trie::{Memory, Trie};
+use radix_trie::{AppendWhy, Memory, Trie};
 use std::mem;
 
 /// The name of the first trie.
@@ -38,6 +38,7 @@ impl<K: ShellKey> Store<K> {
             Named::Equals => self.answer_equals(answer),
             Named::Clone => self.answer_clone(answer),
             Named::SplitOffPrefix => self.answer_split(answer),
+            Named::Append => self.answer_append(answer),
             Named::Sides(call) => self.answer_beside(call, answer),
         }
     }
@@ -143,6 +144,16 @@ impl<K: ShellKey> Store<K> {
         self.put(Some(place), part, answer)
     }
 
+    /// Appends the other trie of the name to the current one.
+    fn answer_append(&mut self, answer: &mut Answer<'_>) -> Result<(), Memory> {
+        if let Some(place) = self.place_of(answer.next_word().unwrap_or(""))
+            && let Some(other) = self.others.get_mut(place)
+        {
+            return append(&mut self.current.trie, &mut other.trie, answer);
+        }
+        answer.line(NO_TRIE)
+    }
+
     /// Puts a trie where another stands.
     fn put(
         &mut self,
@@ -157,5 +168,24 @@ impl<K: ShellKey> Store<K> {
             return answer.line("ok");
         }
         answer.line(NO_TRIE)
+    }
+}
+
+/// Appends a trie to another, which leaves it empty. Where that is refused it comes back.
+fn append<K: ShellKey>(
+    trie: &mut Trie<K, u64>,
+    part: &mut Trie<K, u64>,
+    answer: &mut Answer<'_>,
+) -> Result<(), Memory> {
+    match trie.append(mem::replace(part, Trie::new(answer.alloc()))) {
+        Ok(()) => answer.line("ok"),
+        Err(error) => {
+            *part = error.part;
+            match error.why {
+                AppendWhy::Memory => Err(Memory),
+                AppendWhy::Full => answer.line("full"),
+                AppendWhy::Overlapping => answer.line("overlapping"),
+            }
+        }
     }
 }

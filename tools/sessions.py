@@ -152,6 +152,10 @@ def calls_of(words, place):
         return calls_of(rest, "Trie")
     if name in ("encode", "encode_bytes"):
         return [f"{bare_type(rest[0])}::encode"] if name == "encode" else ["TrieKey::encode_bytes"]
+    if name == "entry":
+        return ["Trie::entry", "Entry::key", "Entry::get", "Entry::is_occupied"]
+    if name.startswith("entry_"):
+        return ["Trie::entry", f"Entry::{name.removeprefix('entry_')}"]
     if name in PARTS:
         return [f"{PARTS[name]}::{rest[0]}"]
     if name == "check_integrity":

@@ -346,6 +346,11 @@ OF_TRIES = {
     "map_with_default": ("KNN", map_with_default),
     "try_insert": ("KN", try_insert),
     "get_or_insert": ("KNN", get_or_insert),
+    "entry": ("K", lambda v, at: f"{v.trie.words[at]} {value(v.pairs.get(at))} {truth(at in v.pairs)}"),
+    "entry_insert": ("KN", lambda v, at, number: value(v.trie.change(at, number))),
+    "entry_or_insert": ("KNN", get_or_insert),
+    "entry_and_modify": ("KN", lambda v, at, added: map_with_default(v, at, added, 0) if at in v.pairs else "ok"),
+    "entry_remove": ("K", lambda v, at: both(v.trie.change(at))),
     "get_mut": ("QN", written),
     "find_mut": ("QN", lambda v, at, number: written(v, at, number, "absent")),
     "find_ancestor_mut": ("QN", find_ancestor_mut),
@@ -368,8 +373,9 @@ IN_VIEWS = {**COMMON, **OF_BOTH, "path": ("", lambda v: shown(v.path))}
 IN_READ_VIEWS = {**IN_VIEWS, **OF_READERS}
 IN_WRITE_VIEWS = {**IN_VIEWS, **OF_WRITERS}
 IN_TRIES = {**COMMON, **OF_BOTH, **OF_READERS, **OF_WRITERS, **OF_TRIES}
+ENTRIES = ("entry", "entry_insert", "entry_or_insert", "entry_and_modify", "entry_remove")
 # These read a key, and then a view for writing hasn't them.
-READ_FIRST = ("remove_entry", "map_with_default", "try_insert", "get_or_insert", "get_mut", "find_mut",
+READ_FIRST = ("remove_entry", "map_with_default", "try_insert", "get_or_insert", *ENTRIES, "get_mut", "find_mut",
               "find_ancestor_mut", "for_each_value_mut_below", "for_each_mut_below", "retain_below")
 SPENT = ("spend", "into_children", "into_trie")
 # Calls of the keys of two tries, a and b, by the lists that each stores: the keys, the first trie's where both have one.

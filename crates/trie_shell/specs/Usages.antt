@@ -60,6 +60,11 @@ usages =
     (codes "map_with_default", 3, 3) ∷
     (codes "try_insert", 2, 2) ∷
     (codes "get_or_insert", 3, 3) ∷
+    (codes "entry", 1, 1) ∷
+    (codes "entry_insert", 2, 2) ∷
+    (codes "entry_or_insert", 3, 3) ∷
+    (codes "entry_and_modify", 2, 2) ∷
+    (codes "entry_remove", 1, 1) ∷
     (codes "get_mut", 2, 2) ∷
     (codes "find_mut", 2, 2) ∷
     (codes "find_ancestor_mut", 2, 2) ∷

@@ -6,6 +6,7 @@
 pub mod common;
 pub mod edits;
 pub mod encodings;
+mod entries;
 pub mod files;
 pub mod json;
 pub mod lines;

@@ -10,6 +10,11 @@ insert KEY VALUE: stores a pair. The old value, or none; outside, in a view.\n\
 try_insert KEY VALUE: stores a pair where none is stored at the key; occupied, where one is.\n\
 get_or_insert KEY DEFAULT VALUE: writes the value at the key, or the default that is stored first.\n\
 get_or_insert KEY DEFAULT VALUE: The old value, or the default.\n\
+entry KEY: the key's entry: the key, the value that is stored there or none, and whether one is.\n\
+entry_insert KEY VALUE: stores the value by the key's entry. The old value, or none.\n\
+entry_or_insert KEY DEFAULT VALUE: as get_or_insert, by the key's entry.\n\
+entry_and_modify KEY NUMBER: adds the number to the value at the key's entry, if one is stored.\n\
+entry_remove KEY: removes the pair at the key's entry: the pair, or none.\n\
 get KEY: the value at the key, or none; outside, in a view.\n\
 get_counted KEY: the value, or none, and how many nibbles were compared.\n\
 get_with_cost KEY: the value, or none, how many nodes were visited, and how many nibbles compared.\n\

@@ -2,6 +2,7 @@
 
 use crate::answer::Answer;
 use crate::call::Edit;
+use crate::calls::entries::answer_entry;
 use crate::calls::lines::{NO_KEY, NO_NUMBER, NONE, NOT_HERE, taken_line, taken_lines};
 use crate::calls::others::answer_others_below;
 use crate::keys::{Query, ShellKey};
@@ -16,14 +17,14 @@ const OTHER: &'static str = "another pair came back";
 
 /// A pair that is to be stored: the word that writes its key, and the value.
 #[derive(Clone, Copy)]
-struct Given<'a> {
-    word: &'a str,
-    value: u64,
+pub struct Given<'a> {
+    pub word: &'a str,
+    pub value: u64,
 }
 
 /// What an insertion answers: the old value, or why it was refused. Where memory was, key and value
 /// have come back.
-fn insert_line<K: ShellKey>(
+pub fn insert_line<K: ShellKey>(
     answer: &mut Answer<'_>,
     given: Given<'_>,
     outcome: Result<Option<u64>, InsertError<K, u64>>,
@@ -35,7 +36,7 @@ fn insert_line<K: ShellKey>(
 }
 
 /// What a refused insertion answers.
-fn refused_line<K: ShellKey>(
+pub fn refused_line<K: ShellKey>(
     answer: &mut Answer<'_>,
     given: Given<'_>,
     error: InsertError<K, u64>,
@@ -68,7 +69,7 @@ fn try_insert_line<K: ShellKey>(
 }
 
 /// Notes where another pair came back than was given.
-fn note_pair<K: ShellKey>(
+pub fn note_pair<K: ShellKey>(
     answer: &mut Answer<'_>,
     given: Given<'_>,
     key: &K,
@@ -98,6 +99,14 @@ pub fn answer_edit<K: ShellKey>(
     call: Edit,
     answer: &mut Answer<'_>,
 ) -> Result<(), Memory> {
+    if let Edit::Entry
+    | Edit::EntryInsert
+    | Edit::EntryOrInsert
+    | Edit::EntryAndModify
+    | Edit::EntryRemove = call
+    {
+        return answer_entry(trie, call, answer);
+    }
     if let Edit::Insert | Edit::MapWithDefault | Edit::TryInsert | Edit::GetOrInsert = call {
         let word = answer.words().next().unwrap_or("");
         return match answer.next_key::<K>()? {

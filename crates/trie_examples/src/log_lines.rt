@@ -49,7 +49,7 @@ fn lines_between<'a, V>(
 {
     keys_of_ranges_rise::<u64, V>();
     numbers_keep_their_order();
-    first_pairs(alloc, between(alloc, log, &from, &to)?, most)
+    first_pairs(alloc, between(log, &from, &to)?, most)
 }
 
 /// A log of four lines.
@@ -76,7 +76,7 @@ fn no_line_from_a_time_to_an_earlier_one(rt: HostRuntime) -> Result<(), TrieErro
     assert!(rt; lines_between(rt.alloc(), &log, 1_300, 1_200, 10)?.is_empty());
     assert!(rt; lines_between(rt.alloc(), &log, 1_300, 1_300, 10)?.is_empty());
     let none: Trie<u64, &'static str> = Trie::new(rt.alloc());
-    assert!(rt; first_pairs(rt.alloc(), between(rt.alloc(), &none, &0u64, &9u64)?, 10)?.is_empty());
+    assert!(rt; first_pairs(rt.alloc(), between(&none, &0u64, &9u64)?, 10)?.is_empty());
     Ok(())
 }
 
@@ -84,7 +84,7 @@ fn no_line_from_a_time_to_an_earlier_one(rt: HostRuntime) -> Result<(), TrieErro
 #[test]
 fn ended_for_good(rt: HostRuntime) -> Result<(), Memory> {
     let words: Texts = texts(rt.alloc(), &[("tea", 1), ("ten", 2)])?;
-    let mut walk = between(rt.alloc(), &words, &"te", &"team")?;
+    let mut walk = between(&words, &"te", &"team")?;
     assert!(rt; walk.next()?.is_some());
     assert!(rt; walk.next()?.is_none() && walk.next()?.is_none());
     Ok(())

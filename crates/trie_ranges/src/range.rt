@@ -5,7 +5,6 @@ ghost use Rattle.trie_ranges.specs.Ranges.{pairs_between, pairs_through};
 
 use crate::walk::Between;
 use radix_trie::{Memory, Trie, TrieKey};
-use std::alloc::Global;
 
 /// The walk over the pairs from one key on and before another: those whose encodings are that of
 /// `from` or come after it, and come before that of `to`, in their order. Neither key needs to be
@@ -23,7 +22,6 @@ use std::alloc::Global;
 ///
 /// `lines_between` in `crates/trie_examples/src/log_lines.rt` takes a page of such a walk.
 pub fn between<'a, K: TrieKey, V, Q: TrieKey, R: TrieKey>(
-    alloc: Global,
     trie: &'a Trie<K, V>,
     from: &Q,
     to: &R,
@@ -34,7 +32,7 @@ pub fn between<'a, K: TrieKey, V, Q: TrieKey, R: TrieKey>(
     ensures light_none { Q.is_light from.now → R.is_light to.now → map.len trie.now ≡ 0
         → IsOk result }
 {
-    Between::new(alloc, trie, from, to, false)
+    Between::new(trie, from, to, false)
 }
 
 /// The walk of `between` that ends with the pair at the encoding of `to`, if one is stored there.
@@ -43,7 +41,6 @@ pub fn between<'a, K: TrieKey, V, Q: TrieKey, R: TrieKey>(
 ///
 /// Those of `between`.
 pub fn between_inclusive<'a, K: TrieKey, V, Q: TrieKey, R: TrieKey>(
-    alloc: Global,
     trie: &'a Trie<K, V>,
     from: &Q,
     to: &R,
@@ -54,5 +51,5 @@ pub fn between_inclusive<'a, K: TrieKey, V, Q: TrieKey, R: TrieKey>(
     ensures light_none { Q.is_light from.now → R.is_light to.now → map.len trie.now ≡ 0
         → IsOk result }
 {
-    Between::new(alloc, trie, from, to, true)
+    Between::new(trie, from, to, true)
 }

@@ -41,7 +41,6 @@ impl<'a, K: TrieKey, V> Between<'a, K, V> {
     /// The walk over the pairs from one key on and before another, or with the pair at the other
     /// too.
     pub(crate) fn new<Q: TrieKey, R: TrieKey>(
-        alloc: Global,
         trie: &'a Trie<K, V>,
         from: &Q,
         to: &R,
@@ -54,6 +53,7 @@ impl<'a, K: TrieKey, V> Between<'a, K, V> {
             → IsOk result }
     {
         keys_stand_at_their_encodings(trie);
+        let alloc = trie.allocator();
         let end = to.encode(alloc)?;
         let rest = TrieCommon::cursor_from(trie, from)?;
         Ok(Between {

@@ -21,7 +21,7 @@ pub fn answer_sides<K: ShellKey>(
         Sides::Intersection => step_lines(answer, keys.intersection(&others)?),
         Sides::Difference => step_lines(answer, keys.difference(&others)?),
         Sides::Union => step_lines(answer, keys.union(&others)?),
-        Sides::SymmetricDifference => { step_lines(answer, keys.symmetric_difference(&others)?) }
+        Sides::SymmetricDifference => step_lines(answer, keys.symmetric_difference(&others)?),
         Sides::IsSubset => answer.truth_line(keys.is_subset(&others)?),
         Sides::IsSuperset => answer.truth_line(keys.is_superset(&others)?),
         Sides::IsDisjoint => answer.truth_line(keys.is_disjoint(&others)?),

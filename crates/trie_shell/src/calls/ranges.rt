@@ -41,9 +41,9 @@ fn answer_between<K: ShellKey, Q: TrieKey, R: TrieKey>(
     answer: &mut Answer<'_>,
 ) -> Result<(), Memory> {
     let walk = if is_inclusive {
-        between_inclusive(answer.alloc(), trie, from, to)?
+        between_inclusive(trie, from, to)?
     } else {
-        between(answer.alloc(), trie, from, to)?
+        between(trie, from, to)?
     };
     step_lines(answer, walk)
 }

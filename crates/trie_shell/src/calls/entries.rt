@@ -5,7 +5,7 @@ use crate::call::Edit;
 use crate::calls::edits::{Given, insert_line, note_pair, refused_line};
 use crate::calls::lines::{NO_KEY, NO_NUMBER, taken_line};
 use crate::keys::ShellKey;
-use radix_trie::{Entry, Memory, Trie};
+use radix_trie::{EntryError, InsertError, Memory, Trie};
 
 /// A call of the entry of the key that the next word writes.
 pub fn answer_entry<K: ShellKey>(
@@ -17,72 +17,115 @@ pub fn answer_entry<K: ShellKey>(
     let Some(key) = answer.next_key::<K>()? else {
         return answer.line(NO_KEY);
     };
-    let entry = match trie.entry(key) {
-        Ok(entry) => entry,
-        Err(error) => {
-            note_pair(answer, Given { word, value: 0 }, &error.key, 0)?;
-            return Err(Memory);
-        }
-    };
     match call {
-        Edit::EntryInsert => answer_insert(entry, word, answer),
-        Edit::EntryOrInsert => answer_or_insert(entry, word, answer),
-        Edit::EntryAndModify => answer_and_modify(entry, answer),
-        Edit::EntryRemove => taken_line(answer, &entry.remove()?),
-        _ => entry_line(answer, &entry),
+        Edit::EntryInsert => answer_insert(trie, key, word, answer),
+        Edit::EntryOrInsert => answer_or_insert(trie, key, word, answer),
+        Edit::EntryAndModify => answer_and_modify(trie, key, word, answer),
+        Edit::EntryRemove => match trie.entry(key) {
+            Ok(entry) => taken_line(answer, &entry.remove()?),
+            Err(error) => no_entry(answer, word, error),
+        },
+        _ => answer_shown(trie, key, word, answer),
     }
 }
 
-/// The entry's key, whether a pair is stored there, and its value.
-fn entry_line<K: ShellKey>(
+/// There is no entry for want of memory. Its key has come back.
+fn no_entry<K: ShellKey>(
     answer: &mut Answer<'_>,
-    entry: &Entry<'_, K, u64>,
+    word: &str,
+    error: EntryError<K>,
 ) -> Result<(), Memory> {
-    answer.key(entry.key())?;
-    answer.value(entry.get().copied())?;
-    answer.truth_line(entry.is_occupied())
+    note_pair(answer, Given { word, value: 0 }, &error.key, 0)?;
+    Err(Memory)
+}
+
+/// The entry's key, its value or that there is none, and whether a pair is stored there.
+fn answer_shown<K: ShellKey>(
+    trie: &mut Trie<K, u64>,
+    key: K,
+    word: &str,
+    answer: &mut Answer<'_>,
+) -> Result<(), Memory> {
+    match trie.entry(key) {
+        Ok(entry) => {
+            answer.key(entry.key())?;
+            answer.value(entry.get().copied())?;
+            answer.truth_line(entry.is_occupied())
+        }
+        Err(error) => no_entry(answer, word, error),
+    }
 }
 
 /// Stores the number that the next word writes. The answer is the old value.
 fn answer_insert<K: ShellKey>(
-    entry: Entry<'_, K, u64>,
+    trie: &mut Trie<K, u64>,
+    key: K,
     word: &str,
     answer: &mut Answer<'_>,
 ) -> Result<(), Memory> {
     let Some(value) = answer.next_number() else {
         return answer.line(NO_NUMBER);
     };
-    insert_line(answer, Given { word, value }, entry.insert(value))
+    match trie.entry(key) {
+        Ok(entry) => insert_line(answer, Given { word, value }, entry.insert(value)),
+        Err(error) => no_entry(answer, word, error),
+    }
 }
 
 /// Writes a number where the value stands, or the default, which is stored first. The answer is
 /// what stood there.
 fn answer_or_insert<K: ShellKey>(
-    entry: Entry<'_, K, u64>,
+    trie: &mut Trie<K, u64>,
+    key: K,
     word: &str,
     answer: &mut Answer<'_>,
 ) -> Result<(), Memory> {
     let (Some(value), Some(number)) = (answer.next_number(), answer.next_number()) else {
         return answer.line(NO_NUMBER);
     };
-    match entry.or_insert(value) {
-        Ok(stored) => {
-            let old = *stored;
-            *stored = number;
+    match trie.entry(key) {
+        Ok(entry) => written_line(
+            answer,
+            Given { word, value },
+            number,
+            entry.or_insert(value),
+        ),
+        Err(error) => no_entry(answer, word, error),
+    }
+}
+
+/// Writes the number in the place of the value that was lent, which is the answer.
+pub fn written_line<K: ShellKey>(
+    answer: &mut Answer<'_>,
+    given: Given<'_>,
+    number: u64,
+    outcome: Result<&mut u64, InsertError<K, u64>>,
+) -> Result<(), Memory> {
+    match outcome {
+        Ok(value) => {
+            let old = *value;
+            *value = number;
             answer.value_line(Some(old))
         }
-        Err(error) => refused_line(answer, Given { word, value }, error),
+        Err(error) => refused_line(answer, given, error),
     }
 }
 
 /// Adds a number to the value that is stored there, if one is.
 fn answer_and_modify<K: ShellKey>(
-    entry: Entry<'_, K, u64>,
+    trie: &mut Trie<K, u64>,
+    key: K,
+    word: &str,
     answer: &mut Answer<'_>,
 ) -> Result<(), Memory> {
     let Some(added) = answer.next_number() else {
         return answer.line(NO_NUMBER);
     };
-    let _ = entry.and_modify(|value: &mut u64| *value = value.wrapping_add(added));
-    answer.line("ok")
+    match trie.entry(key) {
+        Ok(entry) => {
+            let _ = entry.and_modify(|value: &mut u64| *value = value.wrapping_add(added));
+            answer.line("ok")
+        }
+        Err(error) => no_entry(answer, word, error),
+    }
 }

@@ -2,7 +2,7 @@
 
 use crate::answer::Answer;
 use crate::call::Edit;
-use crate::calls::entries::{answer_entry, written_line};
+use crate::calls::entries::answer_entry;
 use crate::calls::lines::{NO_KEY, NO_NUMBER, NONE, NOT_HERE, taken_line, taken_lines};
 use crate::calls::others::answer_others_below;
 use crate::keys::{Query, ShellKey};
@@ -198,11 +198,21 @@ fn answer_filled<K: ShellKey>(
     let Some(number) = answer.next_number() else {
         return answer.line(NO_NUMBER);
     };
-    let given = Given {
-        word,
-        value: default,
-    };
-    written_line(answer, given, number, trie.get_or_insert(key, default))
+    match trie.get_or_insert(key, default) {
+        Ok(value) => {
+            let old = *value;
+            *value = number;
+            answer.value_line(Some(old))
+        }
+        Err(error) => refused_line(
+            answer,
+            Given {
+                word,
+                value: default,
+            },
+            error,
+        ),
+    }
 }
 
 /// Adds a number to the value at the key, or stores the default that the next word writes.

@@ -5,7 +5,7 @@ use crate::call::Edit;
 use crate::calls::edits::{Given, insert_line, note_pair, refused_line};
 use crate::calls::lines::{NO_KEY, NO_NUMBER, taken_line};
 use crate::keys::ShellKey;
-use radix_trie::{EntryError, InsertError, Memory, Trie};
+use radix_trie::{EntryError, Memory, Trie};
 
 /// A call of the entry of the key that the next word writes.
 pub fn answer_entry<K: ShellKey>(
@@ -84,30 +84,15 @@ fn answer_or_insert<K: ShellKey>(
         return answer.line(NO_NUMBER);
     };
     match trie.entry(key) {
-        Ok(entry) => written_line(
-            answer,
-            Given { word, value },
-            number,
-            entry.or_insert(value),
-        ),
+        Ok(entry) => match entry.or_insert(value) {
+            Ok(stored) => {
+                let old = *stored;
+                *stored = number;
+                answer.value_line(Some(old))
+            }
+            Err(error) => refused_line(answer, Given { word, value }, error),
+        },
         Err(error) => no_entry(answer, word, error),
-    }
-}
-
-/// Writes the number in the place of the value that was lent, which is the answer.
-pub fn written_line<K: ShellKey>(
-    answer: &mut Answer<'_>,
-    given: Given<'_>,
-    number: u64,
-    outcome: Result<&mut u64, InsertError<K, u64>>,
-) -> Result<(), Memory> {
-    match outcome {
-        Ok(value) => {
-            let old = *value;
-            *value = number;
-            answer.value_line(Some(old))
-        }
-        Err(error) => refused_line(answer, given, error),
     }
 }
 

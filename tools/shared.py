@@ -2,6 +2,9 @@
 import contextlib
 import hashlib
 import os
+import re
+import secrets
+import shutil
 import signal
 import stat
 import subprocess
@@ -22,20 +25,36 @@ class Refused(Exception):
     """What stands in the way, in one line."""
 
 
-def bytes_of(path):
-    """The bytes of a plain file, or None where there is nothing. A link, a pipe or a folder is refused, and so is a
-    huge file."""
+def bytes_of(path, links=os.O_NOFOLLOW):
+    """The bytes of a plain file, or None where there is nothing. A pipe or a folder is refused, and so is a huge file,
+    and a link where these aren't followed."""
     try:
-        file = os.open(path, os.O_RDONLY | os.O_NOFOLLOW | os.O_NONBLOCK)
+        file = os.open(path, os.O_RDONLY | os.O_NONBLOCK | links)
     except FileNotFoundError:
         return None
+    except PermissionError:
+        raise Refused(f"{path} can't be read") from None
     except OSError:
         raise Refused(f"{path} is no plain file") from None
-    with open(file, "rb") as opened:
+    try:
         found = os.fstat(file)
         if not stat.S_ISREG(found.st_mode) or found.st_size > MOST:
             raise Refused(f"{path} is no plain file, or one of more than {MOST:,} bytes")
-        return opened.read()
+        with open(file, "rb", closefd=False) as opened:
+            return opened.read()
+    finally:
+        os.close(file)
+
+
+def read_text(path):
+    """The text of a plain file, or of one behind links. Where there is none, or it isn't UTF-8, it is refused."""
+    found = bytes_of(path, 0)
+    if found is None:
+        raise Refused(f"{path} isn't there")
+    try:
+        return found.decode()
+    except UnicodeDecodeError:
+        raise Refused(f"{path} isn't UTF-8") from None
 
 
 def sum_of(path):
@@ -47,14 +66,44 @@ def sum_of(path):
 
 
 def put_bytes(text, to, room, mode=0o644):
-    """Writes a file by way of the folder room, on the same disk, so that no half of it is ever there."""
+    """Writes a file by way of the folder room, on the same disk, so that no half of it is ever there. With the mode None
+    a file that stands there keeps its own, and its owner as far as that can be."""
     os.makedirs(os.path.dirname(to), exist_ok=True)
     with open(f"{room}/file", "wb") as file:
         file.write(text)
     mask = os.umask(0)
     os.umask(mask)
-    os.chmod(f"{room}/file", mode & ~mask)
+    os.chmod(f"{room}/file", (0o644 if mode is None else mode) & ~mask)
+    if mode is None and os.path.exists(to):
+        found = os.stat(to)
+        with contextlib.suppress(OSError):
+            os.chown(f"{room}/file", found.st_uid, found.st_gid)
+        os.chmod(f"{room}/file", stat.S_IMODE(found.st_mode))
     os.replace(f"{room}/file", to)
+
+
+def room_name(number):
+    """The name of a room: one that nobody gives by chance, since its second half is a sum of its first."""
+    return f".room-{number}-{hashlib.sha256(f'a room of nifazombi, {number}'.encode()).hexdigest()[:16]}"
+
+
+def sweep(folder):
+    """Removes the rooms in a folder that a run which was killed has left. The caller keeps other runs out."""
+    for name in os.listdir(folder):
+        found = re.fullmatch(r"\.room-([0-9a-f]{16})-[0-9a-f]{16}", name)
+        if found and name == room_name(found[1]):
+            shutil.rmtree(f"{folder}/{name}", ignore_errors=True)
+
+
+@contextlib.contextmanager
+def room_in(folder):
+    """A room: a folder for what is being made, which goes where this is left."""
+    room = f"{folder}/{room_name(secrets.token_hex(8))}"
+    os.mkdir(room, 0o700)
+    try:
+        yield room
+    finally:
+        shutil.rmtree(room, ignore_errors=True)
 
 
 def remove(path, top):
@@ -85,8 +134,10 @@ def files_in(folder, but=None):
 
 def uses_of_crates():
     """The crates of crates.txt, each with those that its line names."""
-    with open(f"{ROOT}/crates.txt", encoding="utf-8") as file:
-        rows = [row.partition("#")[0].partition(":") for row in file]
+    text = bytes_of(f"{ROOT}/crates.txt", 0)
+    if text is None:
+        raise Refused(f"{ROOT}/crates.txt isn't there")
+    rows = [row.partition("#")[0].partition(":") for row in text.decode(errors="surrogateescape").split("\n")]
     return {head.split()[0]: uses.split() for head, found, uses in rows if found and head.split()}
 
 
@@ -161,9 +212,12 @@ def end(number, _):
 
 def run(name, main):
     """Runs a script of this name: where a signal ends it, what it has made for itself goes, and what stands in its way
-    is one line."""
+    is one line. --help prints its text."""
     for number in ENDING:
         signal.signal(number, end)
+    if sys.argv[1:] == ["--help"]:
+        print(main.__globals__["__doc__"].strip())
+        sys.exit(0)
     try:
         sys.exit(main(sys.argv[1:]))
     except (OSError, RecursionError, Refused, UnicodeError, subprocess.SubprocessError) as error:

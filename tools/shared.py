@@ -30,7 +30,7 @@ def bytes_of(path, links=os.O_NOFOLLOW):
     and a link where these aren't followed."""
     try:
         file = os.open(path, os.O_RDONLY | os.O_NONBLOCK | links)
-    except FileNotFoundError:
+    except (FileNotFoundError, NotADirectoryError):
         return None
     except PermissionError:
         raise Refused(f"{path} can't be read") from None

@@ -66,8 +66,8 @@ def sum_of(path):
 
 
 def put_bytes(text, to, room, mode=0o644):
-    """Writes a file by way of the folder room, on the same disk, so that no half of it is ever there. With the mode None
-    a file that stands there keeps its own, and its owner as far as that can be."""
+    """Writes a file by way of the folder room, on the same disk, so that no half of it is ever there. With the mode
+    None a file that stands there keeps its own, and its owner as far as that can be."""
     os.makedirs(os.path.dirname(to), exist_ok=True)
     with open(f"{room}/file", "wb") as file:
         file.write(text)

@@ -1,6 +1,9 @@
 """What the scripts share: plain files, the crates, counts of checks, and processes that end with the script."""
 import contextlib
+import functools
 import hashlib
+import importlib.machinery
+import importlib.util
 import os
 import re
 import secrets
@@ -222,6 +225,15 @@ def run(name, main):
         sys.exit(main(sys.argv[1:]))
     except (OSError, RecursionError, Refused, UnicodeError, subprocess.SubprocessError) as error:
         sys.exit(f"{name}: {error}")
+
+
+@functools.cache
+def script(name):
+    """A script of tools/, for what it knows."""
+    loader = importlib.machinery.SourceFileLoader(name, f"{ROOT}/tools/{name}")
+    made = importlib.util.module_from_spec(importlib.util.spec_from_loader(name, loader))
+    loader.exec_module(made)
+    return made
 
 
 def compiled(room):

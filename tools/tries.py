@@ -186,7 +186,8 @@ def matches(filter, topic):
     if not filter and not topic:
         yield ()
     for way, level in enumerate((topic[0], b"+") if filter and topic else ()):
-        yield from ((way, *rest) for rest in matches(filter[1:], topic[1:]) if filter[0] == level)
+        if filter[0] == level:
+            yield from ((way, *rest) for rest in matches(filter[1:], topic[1:]))
 
 
 class View:

@@ -6,7 +6,6 @@ import importlib.machinery
 import importlib.util
 import os
 import re
-import secrets
 import shutil
 import signal
 import stat
@@ -101,7 +100,7 @@ def sweep(folder):
 @contextlib.contextmanager
 def room_in(folder):
     """A room: a folder for what is being made, which goes where this is left."""
-    room = f"{folder}/{room_name(secrets.token_hex(8))}"
+    room = f"{folder}/{room_name(os.urandom(8).hex())}"
     os.mkdir(room, 0o700)
     try:
         yield room

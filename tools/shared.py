@@ -217,10 +217,10 @@ def run(name, main):
     is one line. --help prints its text."""
     for number in ENDING:
         signal.signal(number, end)
-    if sys.argv[1:] == ["--help"]:
-        print(main.__globals__["__doc__"].strip())
-        sys.exit(0)
     try:
+        if sys.argv[1:] == ["--help"]:
+            os.write(1, f"{main.__globals__['__doc__'].strip()}\n".encode())
+            sys.exit(0)
         sys.exit(main(sys.argv[1:]))
     except (OSError, RecursionError, Refused, UnicodeError, subprocess.SubprocessError) as error:
         sys.exit(f"{name}: {error}")

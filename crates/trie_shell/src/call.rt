@@ -382,10 +382,10 @@ pub const CALLS: &'static [Usage] = &[
     Usage("into_children", 0, 0, Call::View(View::IntoChildren)),
     Usage("into_trie", 1, MANY, Call::View(View::IntoTrie)),
     Usage("spend", 1, 2, Call::View(View::Spend)),
-    Usage("with", 1, MANY, Call::View(View::With)),
+    Usage("with", 2, MANY, Call::View(View::With)),
     Usage(
         "with_subtrie_mut",
-        1,
+        2,
         MANY,
         Call::View(View::WithSubtrieMut),
     ),

@@ -3,7 +3,7 @@ use Rattle.std.specs.Prelude.{ℕ, List, [], ◌∷◌, codes}
 
 -- how many words a line of many pairs has at most
 abbrev pub many : ℕ
-many = 1_000_000
+many = 1_000_000_000
 
 abbrev pub usages : List (List ℕ × ℕ × ℕ)
 usages =

@@ -181,7 +181,7 @@ impl<'a> Answer<'a> {
         self.end()
     }
 
-    /// Adds a line that tells why a call returns nothing.
+    /// Adds a line that tells why a call isn't made, or that it is refused.
     pub fn refuse(&mut self, why: &str) -> Result<(), Memory> {
         self.is_refusal = true;
         self.line(why)

@@ -206,7 +206,7 @@ pub enum Session {
 pub struct Usage(pub &'static str, pub usize, pub usize, pub Call);
 
 /// How many words a line of many pairs has at most.
-pub const MANY: usize = 1_000_000;
+pub const MANY: usize = 1_000_000_000;
 
 /// The calls.
 pub const CALLS: &'static [Usage] = &[

@@ -31,8 +31,8 @@ pub fn answer_file<F: Files + AllocGlobal>(
     }
 }
 
-/// Puts a file with what the call answers in place of the file, unless it answers why it returns
-/// nothing. The call isn't made again where memory for the file is refused.
+/// Puts a file with what the call answers in place of the file, unless the call isn't made or is
+/// refused. It isn't made again where memory for the file is refused.
 fn save<F: Files>(
     files: &F,
     path: &str,

@@ -7,6 +7,7 @@ import bisect
 import functools
 import itertools
 import os
+import re
 
 DIGITS, NUMBERS = "0123456789abcdef", 2**64
 
@@ -374,10 +375,6 @@ IN_VIEWS = {**COMMON, **OF_BOTH, "path": ("", lambda v: shown(v.path))}
 IN_READ_VIEWS = {**IN_VIEWS, **OF_READERS}
 IN_WRITE_VIEWS = {**IN_VIEWS, **OF_WRITERS}
 IN_TRIES = {**COMMON, **OF_BOTH, **OF_READERS, **OF_WRITERS, **OF_TRIES}
-ENTRIES = ("entry", "entry_insert", "entry_or_insert", "entry_and_modify", "entry_remove")
-# These read a key, and then a view for writing hasn't them.
-READ_FIRST = ("remove_entry", "map_with_default", "try_insert", "get_or_insert", *ENTRIES, "get_mut", "find_mut",
-              "find_ancestor_mut", "for_each_value_mut_below", "for_each_mut_below", "retain_below")
 SPENT = ("spend", "into_children", "into_trie")
 # Calls of the keys of two tries, a and b, by the lists that each stores: the keys, the first trie's where both have one.
 SIDES = {
@@ -395,8 +392,29 @@ OPENERS = {"open": "none", "open_mut": "closed", "subtrie_mut": "none"}
 WITHS = {"with": "closed", "with_subtrie_mut": "none"}
 COMMANDS = {"insert": "KN", "remove": "K", "remove_prefix": "K", "get": "K", "ancestor": "K", "len": "", "within": "K",
             "end": ""}
+# Lists of commands: those of a view stand between `within` and `end`, and none of them has a view or an ancestor.
+LISTS = re.compile("(?:within( (?!within|ancestor|end)[a-z_]+)* end |(?!within|end)[a-z_]+ )*")
 NO = {"K": "no key", "Q": "no key", "L": "no list", "N": "no number", "P": "no pairs"}
-NOT_HERE, NO_TRIE = "no such call here", "no other trie"
+NOT_HERE, NO_TRIE, OTHER_COUNT = "no such call here", "no other trie", "another count of words"
+# What a line of each call has behind its name: words as above; M a name, c a call that tries and views have in common,
+# t a call of a trie or of a view, v calls of a view, r commands.
+FORMS = {**{name: kinds for name, (kinds, _) in {**IN_TRIES, **IN_WRITE_VIEWS}.items()},
+         **dict.fromkeys(OPENERS, "Q"), **dict.fromkeys(WITHS, "Qv"), "close": "", "to_ascending": "", "matching": "K",
+         "run": "r", "into_children": "", "into_trie": "t", "spend": "c", "light": "t", "use": "M", "tries": "",
+         "==": "M", "clone": "M", "split_off_prefix": "QM", "append": "M", **dict.fromkeys(SIDES, "M")}
+
+
+def misfit(line):
+    """Why the line asks for no call, or for one that makes another by words that ask for none; else nothing."""
+    name, *words = line.split(" ")
+    kinds = FORMS.get(name)
+    if kinds is None:
+        return NOT_HERE
+    least = len(kinds.translate(str.maketrans("", "", "qPr")))
+    most = len(words) if {*kinds} & {*"Ptvr"} else len(kinds) + ("c" in kinds)
+    if not least <= len(words) <= most:
+        return OTHER_COUNT
+    return misfit(" ".join(words)) if kinds in ("c", "t") else ""
 
 
 class Shell:
@@ -419,7 +437,7 @@ class Shell:
         if kind in "Qq" and word.startswith("\\="):
             kind, word = "L", word[2:] or '""'
         if kind == "L":
-            return "" if word == '""' else word if {*word} <= {*DIGITS} else None
+            return "" if word == '""' else word.lower() if {*word.lower()} <= {*DIGITS} else None
         if kind == "N":
             return int(word) if word.isdigit() and int(word) < NUMBERS else None
         return self.keys.get(word)
@@ -441,7 +459,8 @@ class Shell:
 
     def call(self, name, words):
         if name == "light":
-            return self.call(next(words), words)
+            words = [*words]
+            return misfit(" ".join(words)) or self.call(words[0], iter(words[1:]))
         if name in NAMED:
             return self.named(name, words)
         if name in OPENERS:
@@ -459,9 +478,9 @@ class Shell:
         if name == "tries":
             return rows(it for it, _ in self.tries)
         at = self.read("Q", next(words)) if name == "split_off_prefix" else ""
-        if at is None:
-            return NO["Q"]
         names, other = [it for it, _ in self.tries], next(words)
+        if at is None or not other:
+            return NO["Q"] if other else "no name"
         if name in SIDES:
             return SIDES[name](self.trie.pairs, dict(self.tries)[other].pairs) if other in names else NO_TRIE
         if name == "==":
@@ -485,33 +504,32 @@ class Shell:
 
     def in_with(self, name, words):
         """Calls of one view, which outlives its point."""
-        at, said = self.read("Q", next(words)), []
+        at, lines, is_taken = self.read("Q", next(words)), " ".join(words).split(" ; "), False
+        for it in lines:
+            if is_taken or misfit(it):
+                return NOT_HERE if is_taken else misfit(it)
+            is_taken = it.split(" ")[0] in SPENT
         if at is None or at not in self.trie.points:
             return NO["Q"] if at is None else WITHS[name]
-        view = View(self.trie, at)
-        for inner in words:
-            inner = next(words) if inner == "light" else inner
-            said += [self.in_view(view, True, inner, words)] if inner != ";" else []
-            if inner in SPENT:
-                break
-        return "\n".join(said)
+        view, calls = View(self.trie, at), [it.removeprefix("light ").split(" ") for it in lines]
+        return "\n".join(self.in_view(view, True, it[0], iter(it[1:])) for it in calls)
 
     def in_view(self, view, is_for_writing, name, words):
         calls = IN_WRITE_VIEWS if is_for_writing else IN_READ_VIEWS
         if name in SPENT and is_for_writing:
             return self.spent(view, name, words)
-        if name in READ_FIRST and is_for_writing and self.read("Q", next(words)) is None:
-            return NO["Q"]
         return self.made(calls[name], view, words) if name in calls else NOT_HERE
 
     def spent(self, view, name, words):
         """A call that takes the view."""
         if name == "into_children":
             return self.made(OF_BOTH["children"], view, words)
-        inner = next(words)
+        inner, *rest = words
+        if why := misfit(" ".join([inner, *rest])):
+            return why
         if name == "into_trie":
-            return self.in_trie(view.trie, inner, words)
-        return self.made(COMMON[inner], view, words) if inner in COMMON else NOT_HERE
+            return self.in_trie(view.trie, inner, iter(rest))
+        return self.made(COMMON[inner], view, iter(rest)) if inner in COMMON else NOT_HERE
 
     def in_trie(self, trie, name, words):
         if name == "to_ascending":
@@ -526,8 +544,8 @@ class Shell:
     def run(self, trie, words):
         """The replies to commands, where the words write commands."""
         commands = [(it, [self.read(kind, next(words, "")) for kind in COMMANDS.get(it, "K")]) for it in words]
-        names = [name for name, _ in commands]
-        if any(None in read for _, read in commands) or names.count("within") != names.count("end"):
+        names = "".join(f"{name} " for name, _ in commands)
+        if any(None in read for _, read in commands) or not LISTS.fullmatch(names):
             return "no commands"
         view, said, is_open = View(trie), [], True
         for name, read in commands:
@@ -538,7 +556,7 @@ class Shell:
             else:
                 said += [reply(view, name, read)] if is_open else []
             view, is_open = (View(trie), True) if name == "end" else (view, is_open)
-        return "\n".join(said)
+        return rows(said)
 
 
 def reply(view, name, read):

@@ -3,7 +3,7 @@ use Rattle.std.specs.Prelude.{ℕ, List, [], ◌∷◌, codes}
 
 -- how many words a line of many pairs has at most
 abbrev pub many : ℕ
-many = 1_000_000
+many = 1_000_000_000
 
 abbrev pub usages : List (List ℕ × ℕ × ℕ)
 usages =
@@ -104,8 +104,8 @@ usages =
     (codes "into_children", 0, 0) ∷
     (codes "into_trie", 1, many) ∷
     (codes "spend", 1, 2) ∷
-    (codes "with", 1, many) ∷
-    (codes "with_subtrie_mut", 1, many) ∷
+    (codes "with", 2, many) ∷
+    (codes "with_subtrie_mut", 2, many) ∷
     (codes "close", 0, 0) ∷
     (codes "draw", 0, 1) ∷
     (codes "dot", 0, 0) ∷

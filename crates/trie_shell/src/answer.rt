@@ -21,6 +21,7 @@ pub struct Answer<'a> {
     bytes: Vec<u8>,
     is_watched: bool,
     is_other: bool,
+    is_refusal: bool,
     is_lost: bool,
 }
 
@@ -38,6 +39,7 @@ impl<'a> Answer<'a> {
             bytes,
             is_watched,
             is_other: false,
+            is_refusal: false,
             is_lost: false,
         }
     }
@@ -64,6 +66,11 @@ impl<'a> Answer<'a> {
     /// The words that haven't been read.
     pub fn words(&self) -> Words<'a> {
         self.words
+    }
+
+    /// Goes on with these words, in place of those that haven't been read.
+    pub fn read_on(&mut self, words: Words<'a>) {
+        self.words = words;
     }
 
     /// Takes the answer back to so many bytes, and to these words.
@@ -172,6 +179,17 @@ impl<'a> Answer<'a> {
     pub fn line(&mut self, text: &str) -> Result<(), Memory> {
         self.word(text)?;
         self.end()
+    }
+
+    /// Adds a line that tells why a call isn't made, or that it is refused.
+    pub fn refuse(&mut self, why: &str) -> Result<(), Memory> {
+        self.is_refusal = true;
+        self.line(why)
+    }
+
+    /// Whether one of its lines tells so.
+    pub fn is_refusal(&self) -> bool {
+        self.is_refusal
     }
 
     /// Adds a key as a word.

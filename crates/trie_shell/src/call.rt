@@ -206,7 +206,7 @@ pub enum Session {
 pub struct Usage(pub &'static str, pub usize, pub usize, pub Call);
 
 /// How many words a line of many pairs has at most.
-pub const MANY: usize = 1_000_000;
+pub const MANY: usize = 1_000_000_000;
 
 /// The calls.
 pub const CALLS: &'static [Usage] = &[
@@ -382,10 +382,10 @@ pub const CALLS: &'static [Usage] = &[
     Usage("into_children", 0, 0, Call::View(View::IntoChildren)),
     Usage("into_trie", 1, MANY, Call::View(View::IntoTrie)),
     Usage("spend", 1, 2, Call::View(View::Spend)),
-    Usage("with", 1, MANY, Call::View(View::With)),
+    Usage("with", 2, MANY, Call::View(View::With)),
     Usage(
         "with_subtrie_mut",
-        1,
+        2,
         MANY,
         Call::View(View::WithSubtrieMut),
     ),

@@ -1,8 +1,9 @@
 //! Calls that are made once more where memory was refused for them.
 
 use crate::answer::Answer;
-use crate::call::{Call, Edit, Session, Sweep, call_of_name};
+use crate::call::{Call, Edit, Session, Sweep};
 use crate::calls::lines::NOT_HERE;
+use crate::request::next_call;
 use crate::words::Words;
 use radix_trie::Memory;
 
@@ -15,15 +16,15 @@ pub trait Caller {
     fn picture(&mut self, picture: &mut Answer<'_>) -> Result<(), Memory>;
 }
 
-/// Makes a call, which is named by the next word where it is promised to take no memory. Where
-/// memory is refused for it, the same call is made once more.
+/// Makes a call, which stands behind it where it is promised to take no memory. Where memory is
+/// refused for it, the same call is made once more.
 pub fn make<C: Caller>(caller: &mut C, call: Call, answer: &mut Answer<'_>) -> Result<(), Memory> {
     let Call::Session(Session::Light) = call else {
         return make_twice(caller, call, false, answer);
     };
-    match answer.next_word().and_then(call_of_name) {
+    match next_call(answer)? {
         Some(call) => make_twice(caller, call, true, answer),
-        None => answer.line(NOT_HERE),
+        None => Ok(()),
     }
 }
 

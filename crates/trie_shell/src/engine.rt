@@ -47,9 +47,9 @@ impl<F: Files + AllocGlobal + Drop> Shell<F> {
             Session::Watch => self.is_watched = true,
             Session::Keys => match Tries::of(answer.alloc(), answer.next_word().unwrap_or("")) {
                 Some(tries) => self.tries = tries,
-                None => return answer.line(NO_TYPE),
+                None => return answer.refuse(NO_TYPE),
             },
-            Session::Light => return answer.line(NOT_HERE),
+            Session::Light => return answer.refuse(NOT_HERE),
             Session::Help => {
                 let name = answer.next_word();
                 return answer_help(name, answer);

@@ -21,7 +21,7 @@ pub trait ShellKey: TrieKey + Clone + Drop + fmt::Debug {
     /// Adds the walk of the trie of the ascending keys, where the keys are signed integers, each with the value that is
     /// found at it.
     fn to_ascending(_trie: &Trie<Self, u64>, answer: &mut Answer<'_>) -> Result<(), Memory> {
-        answer.line("no signed keys")
+        answer.refuse("no signed keys")
     }
 
     /// The trie itself, where its keys are lists of parts, and so may be filters of topics.

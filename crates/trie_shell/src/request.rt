@@ -4,8 +4,11 @@ ghost use Rattle.std.specs.List.{before_first, list_any};
 ghost use Rattle.trie_shell.specs.Sessions.{IsRemark};
 ghost use Rattle.trie_shell.specs.Requests.{fits, is_call, is_remark_line, is_request, is_space, is_text_request, row, words_behind};
 
+use crate::answer::Answer;
 use crate::call::{CALLS, Call, Usage, call_of_name};
+use crate::calls::lines::NOT_HERE;
 use crate::words::Words;
+use radix_trie::Memory;
 
 fn name_of(text: &str) -> &str
     ensures { result.now ≡ before_first is_space text.now }
@@ -98,6 +101,21 @@ fn call_request(text: &str) -> Result<Request<'_>, Reason>
             None => Reason::NoCall,
         }),
     }
+}
+
+/// The call that the words left ask for, as a line does; those behind its name are left then. None:
+/// they ask for none, and the answer says why.
+pub fn next_call(answer: &mut Answer<'_>) -> Result<Option<Call>, Memory> {
+    let why = match call_request(answer.words().rest()) {
+        Ok(Request::Call(call, words)) => {
+            answer.read_on(words);
+            return Ok(Some(call));
+        }
+        Err(reason @ Reason::OtherCount) => reason.text(),
+        _ => NOT_HERE,
+    };
+    answer.refuse(why)?;
+    Ok(None)
 }
 
 /// Whether a line begins with `#`.

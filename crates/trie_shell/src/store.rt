@@ -7,7 +7,7 @@ use crate::answer::Answer;
 use crate::call::{Call, View};
 use crate::calls::lines::NO_KEY;
 use crate::calls::tries::answer_trie;
-use crate::calls::views::{answer_in_view, answer_in_write_view, answer_with};
+use crate::calls::views::{answer_in_view, answer_in_write_view, answer_with, are_calls};
 use crate::keys::{Query, ShellKey};
 use radix_trie::{Memory, Nibblet, Trie};
 use std::alloc::Global;
@@ -73,10 +73,14 @@ fn answer_in<K: ShellKey>(
     let Call::View(call @ (View::With | View::WithSubtrieMut)) = call else {
         return answer_trie(trie, call, answer);
     };
-    match answer.next_query::<K>()? {
+    let query = answer.next_query::<K>()?;
+    if !are_calls(answer)? {
+        return Ok(());
+    }
+    match query {
         Some(Query::Key(key)) => answer_with(trie, &key, call, answer),
         Some(Query::List(list)) => answer_with(trie, &list, call, answer),
-        None => answer.line(NO_KEY),
+        None => answer.refuse(NO_KEY),
     }
 }
 

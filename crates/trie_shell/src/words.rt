@@ -18,6 +18,11 @@ impl<'a> Words<'a> {
         Words { text, left: count }
     }
 
+    /// All words of the text.
+    pub fn of(text: &'a str) -> Words<'a> {
+        Words::new(text, text.split(' ').count())
+    }
+
     /// The text from the next word on.
     pub fn rest(&self) -> &'a str {
         self.text
@@ -56,6 +61,7 @@ pub fn digit(byte: u8) -> Option<u8>
     match byte {
         b'0'..=b'9' => Some(byte - b'0'),
         b'a'..=b'f' => Some(byte - b'a' + 10),
+        b'A'..=b'F' => Some(byte - b'A' + 10),
         _ => None,
     }
 }

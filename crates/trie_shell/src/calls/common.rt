@@ -48,7 +48,7 @@ fn answer_resumed<'a, K: ShellKey + 'a, T: TrieCommon<'a, K, u64> + Drop>(
     match answer.next_query::<K>()? {
         Some(Query::Key(key)) => resumed_lines(of, &key, call, answer),
         Some(Query::List(list)) => resumed_lines(of, &list, call, answer),
-        None => answer.line(NO_KEY),
+        None => answer.refuse(NO_KEY),
     }
 }
 

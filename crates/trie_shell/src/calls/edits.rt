@@ -44,9 +44,9 @@ pub fn refused_line<K: ShellKey>(
     note_pair(answer, given, &error.key, error.value)?;
     match error.why {
         InsertWhy::Memory => Err(Memory),
-        _ if answer.is_other() => answer.line(OTHER),
-        InsertWhy::Full => answer.line("full"),
-        InsertWhy::Outside => answer.line("outside"),
+        _ if answer.is_other() => answer.refuse(OTHER),
+        InsertWhy::Full => answer.refuse("full"),
+        InsertWhy::Outside => answer.refuse("outside"),
     }
 }
 
@@ -62,9 +62,9 @@ fn try_insert_line<K: ShellKey>(
     note_pair(answer, given, &error.key, error.value)?;
     match error.why {
         TryInsertWhy::Memory => Err(Memory),
-        _ if answer.is_other() => answer.line(OTHER),
-        TryInsertWhy::Full => answer.line("full"),
-        TryInsertWhy::Occupied => answer.line("occupied"),
+        _ if answer.is_other() => answer.refuse(OTHER),
+        TryInsertWhy::Full => answer.refuse("full"),
+        TryInsertWhy::Occupied => answer.refuse("occupied"),
     }
 }
 
@@ -111,13 +111,13 @@ pub fn answer_edit<K: ShellKey>(
         let word = answer.words().next().unwrap_or("");
         return match answer.next_key::<K>()? {
             Some(key) => answer_store(trie, key, word, call, answer),
-            None => answer.line(NO_KEY),
+            None => answer.refuse(NO_KEY),
         };
     }
     match answer.next_query::<K>()? {
         Some(Query::Key(key)) => answer_at(trie, &key, call, answer),
         Some(Query::List(list)) => answer_at(trie, &list, call, answer),
-        None => answer.line(NO_KEY),
+        None => answer.refuse(NO_KEY),
     }
 }
 
@@ -130,7 +130,7 @@ fn answer_store<K: ShellKey>(
     answer: &mut Answer<'_>,
 ) -> Result<(), Memory> {
     let Some(value) = answer.next_number() else {
-        return answer.line(NO_NUMBER);
+        return answer.refuse(NO_NUMBER);
     };
     match call {
         Edit::MapWithDefault => answer_map(trie, key, word, value, answer),
@@ -160,7 +160,7 @@ fn answer_at<K: ShellKey, Q: TrieKey>(
                 trie.for_each_value_mut_below(key, |value| *value = value.wrapping_add(added))?;
                 answer.line("ok")
             }
-            None => answer.line(NO_NUMBER),
+            None => answer.refuse(NO_NUMBER),
         },
         Edit::ForEachMutBelow => answer_others_below(trie, key, answer),
         Edit::RetainBelow => match answer.next_number() {
@@ -168,7 +168,7 @@ fn answer_at<K: ShellKey, Q: TrieKey>(
                 trie.retain_below(key, |_, value| *value >= least)?;
                 answer.line("ok")
             }
-            None => answer.line(NO_NUMBER),
+            None => answer.refuse(NO_NUMBER),
         },
         _ => written_or_absent(answer, trie.find_mut(key)),
     }
@@ -181,7 +181,10 @@ fn written_or_absent(
 ) -> Result<(), Memory> {
     match found {
         Ok(value) => written_or_none(answer, Some(value)),
-        Err(FindError::Absent) => answer.line("absent"),
+        Err(FindError::Absent) => match answer.next_number() {
+            Some(_) => answer.refuse("absent"),
+            None => answer.refuse(NO_NUMBER),
+        },
         Err(FindError::Memory) => Err(Memory),
     }
 }
@@ -196,7 +199,7 @@ fn answer_filled<K: ShellKey>(
     answer: &mut Answer<'_>,
 ) -> Result<(), Memory> {
     let Some(number) = answer.next_number() else {
-        return answer.line(NO_NUMBER);
+        return answer.refuse(NO_NUMBER);
     };
     match trie.get_or_insert(key, default) {
         Ok(value) => {
@@ -224,7 +227,7 @@ fn answer_map<K: ShellKey>(
     answer: &mut Answer<'_>,
 ) -> Result<(), Memory> {
     let Some(value) = answer.next_number() else {
-        return answer.line(NO_NUMBER);
+        return answer.refuse(NO_NUMBER);
     };
     let add = |value: &mut u64| *value = value.wrapping_add(added);
     match trie.map_with_default(key, add, value) {
@@ -237,7 +240,7 @@ fn answer_map<K: ShellKey>(
 /// value.
 pub fn written_or_none(answer: &mut Answer<'_>, value: Option<&mut u64>) -> Result<(), Memory> {
     let Some(number) = answer.next_number() else {
-        return answer.line(NO_NUMBER);
+        return answer.refuse(NO_NUMBER);
     };
     let Some(value) = value else {
         return answer.line(NONE);
@@ -253,20 +256,23 @@ pub fn answer_edit_in_view<K: ShellKey>(
     call: Edit,
     answer: &mut Answer<'_>,
 ) -> Result<(), Memory> {
-    if let Edit::Insert = call {
-        let word = answer.words().next().unwrap_or("");
-        return match (answer.next_key::<K>()?, answer.next_number()) {
-            (Some(key), Some(value)) => {
-                insert_line(answer, Given { word, value }, view.insert(key, value))
+    match call {
+        Edit::Insert => {
+            let word = answer.words().next().unwrap_or("");
+            match (answer.next_key::<K>()?, answer.next_number()) {
+                (Some(key), Some(value)) => {
+                    insert_line(answer, Given { word, value }, view.insert(key, value))
+                }
+                (Some(_), None) => answer.refuse(NO_NUMBER),
+                (None, _) => answer.refuse(NO_KEY),
             }
-            (Some(_), None) => answer.line(NO_NUMBER),
-            (None, _) => answer.line(NO_KEY),
-        };
-    }
-    match answer.next_query::<K>()? {
-        Some(Query::Key(key)) => answer_removal(view, &key, call, answer),
-        Some(Query::List(list)) => answer_removal(view, &list, call, answer),
-        None => answer.line(NO_KEY),
+        }
+        Edit::Remove | Edit::RemovePrefix => match answer.next_query::<K>()? {
+            Some(Query::Key(key)) => answer_removal(view, &key, call, answer),
+            Some(Query::List(list)) => answer_removal(view, &list, call, answer),
+            None => answer.refuse(NO_KEY),
+        },
+        _ => answer.refuse(NOT_HERE),
     }
 }
 
@@ -278,12 +284,11 @@ fn answer_removal<K: ShellKey, Q: TrieKey>(
     answer: &mut Answer<'_>,
 ) -> Result<(), Memory> {
     match call {
-        Edit::Remove => inside_line(answer, view.remove(key)),
         Edit::RemovePrefix => match view.remove_prefix(key) {
             Ok(taken) => taken_lines(answer, taken.as_slice()),
             Err(error) => outside_line(answer, error),
         },
-        _ => answer.line(NOT_HERE),
+        _ => inside_line(answer, view.remove(key)),
     }
 }
 
@@ -312,7 +317,7 @@ pub fn count_inside_line(
 /// That the key is outside, or that memory was refused.
 pub fn outside_line(answer: &mut Answer<'_>, error: SubTrieError) -> Result<(), Memory> {
     match error {
-        SubTrieError::Outside => answer.line("outside"),
+        SubTrieError::Outside => answer.refuse("outside"),
         SubTrieError::Memory => Err(Memory),
     }
 }

@@ -20,7 +20,7 @@ pub fn answer_encoding(is_bytes: bool, answer: &mut Answer<'_>) -> Result<(), Me
     {
         Ok(())
     } else {
-        answer.line(NO_TYPE)
+        answer.refuse(NO_TYPE)
     }
 }
 
@@ -35,7 +35,7 @@ fn key_line<K: TrieKey>(answer: &mut Answer<'_>, key: &K, is_bytes: bool) -> Res
             answer.escaped(bytes.as_slice())?;
             answer.end()
         }
-        Err(BytesError::Odd) => answer.line("odd"),
+        Err(BytesError::Odd) => answer.refuse("odd"),
         Err(BytesError::Memory) => Err(Memory),
     }
 }
@@ -48,7 +48,7 @@ fn found<K: TrieKey + Drop>(
 ) -> Result<bool, Memory> {
     match key {
         Some(key) => key_line(answer, &key, is_bytes)?,
-        None => answer.line(NO_KEY)?,
+        None => answer.refuse(NO_KEY)?,
     }
     Ok(true)
 }

@@ -15,7 +15,7 @@ pub fn answer_entry<K: ShellKey>(
 ) -> Result<(), Memory> {
     let word = answer.words().next().unwrap_or("");
     let Some(key) = answer.next_key::<K>()? else {
-        return answer.line(NO_KEY);
+        return answer.refuse(NO_KEY);
     };
     match call {
         Edit::EntryInsert => answer_insert(trie, key, word, answer),
@@ -64,7 +64,7 @@ fn answer_insert<K: ShellKey>(
     answer: &mut Answer<'_>,
 ) -> Result<(), Memory> {
     let Some(value) = answer.next_number() else {
-        return answer.line(NO_NUMBER);
+        return answer.refuse(NO_NUMBER);
     };
     match trie.entry(key) {
         Ok(entry) => insert_line(answer, Given { word, value }, entry.insert(value)),
@@ -81,7 +81,7 @@ fn answer_or_insert<K: ShellKey>(
     answer: &mut Answer<'_>,
 ) -> Result<(), Memory> {
     let (Some(value), Some(number)) = (answer.next_number(), answer.next_number()) else {
-        return answer.line(NO_NUMBER);
+        return answer.refuse(NO_NUMBER);
     };
     match trie.entry(key) {
         Ok(entry) => match entry.or_insert(value) {
@@ -104,7 +104,7 @@ fn answer_and_modify<K: ShellKey>(
     answer: &mut Answer<'_>,
 ) -> Result<(), Memory> {
     let Some(added) = answer.next_number() else {
-        return answer.line(NO_NUMBER);
+        return answer.refuse(NO_NUMBER);
     };
     match trie.entry(key) {
         Ok(entry) => {

@@ -1,14 +1,16 @@
 //! Calls whose answer goes to a file, or whose words come from one.
 
 use crate::answer::Answer;
-use crate::call::{Call, File, call_of_name};
-use crate::calls::lines::NOT_HERE;
+use crate::call::{Call, File};
+use crate::request::next_call;
 use crate::tries::Tries;
 use crate::words::Words;
 use radix_trie::Memory;
-use std::fs;
-use std::io::{Error, ErrorKind};
+use std::alloc::Global;
+use std::fs::{OpenFile, Permissions};
+use std::io::{Error, ErrorKind, Read, Write};
 use std::rt::Files;
+use std::{fs, io};
 
 /// What is answered where a file can't be read or written.
 const NO_FILE: &'static str = "no file";
@@ -21,59 +23,111 @@ pub fn answer_file<F: Files + AllocGlobal>(
     answer: &mut Answer<'_>,
 ) -> Result<(), Memory> {
     let Some(path) = answer.next_key::<String>()? else {
-        return answer.line(NO_FILE);
+        return answer.refuse(NO_FILE);
     };
-    match (call, answer.next_word().and_then(call_of_name)) {
-        (_, None | Some(Call::Part(_) | Call::File(_) | Call::Session(_))) => answer.line(NOT_HERE),
-        (File::Save, Some(inner)) => save(files, path.as_str(), tries, inner, answer),
-        (File::Load, Some(inner)) => load(files, path.as_str(), tries, inner, answer),
+    match call {
+        File::Save => save(files, path.as_str(), tries, answer),
+        File::Load => load(files, path.as_str(), tries, answer),
     }
 }
 
-/// Writes what the call answers to the file, in place of what it held. The call isn't made again
-/// where memory for the file is refused.
+/// Puts a file with what the call answers in place of the file, unless the call isn't made or is
+/// refused. It isn't made again where memory for the file is refused.
 fn save<F: Files>(
     files: &F,
     path: &str,
     tries: &mut Tries,
-    call: Call,
     answer: &mut Answer<'_>,
 ) -> Result<(), Memory> {
+    let Some(call) = next_call(answer)? else {
+        return Ok(());
+    };
     let mut said = Answer::new(answer.alloc(), answer.words(), false);
     answer_inner(tries, call, &mut said, answer)?;
-    let written = match fs::write(files, path, said.as_bytes()) {
-        Err(error) if is_memory(&error) => fs::write(files, path, said.as_bytes()),
-        written => written,
+    if said.is_refusal() {
+        return answer.put(said.as_bytes());
+    }
+    let saved = match replace(answer.alloc(), files, path, said.as_bytes()) {
+        Err(error) if is_memory(&error) => replace(answer.alloc(), files, path, said.as_bytes()),
+        saved => saved,
     };
-    match written {
+    match saved {
         Ok(()) => answer.line("ok"),
         Err(error) if is_memory(&error) => {
             answer.lose();
             Err(Memory)
         }
-        Err(_) => answer.line(NO_FILE),
+        Err(_) => answer.refuse(NO_FILE),
     }
 }
 
+/// Puts a file that holds the bytes in place of the file of this name, which stays as it is where
+/// that fails: it is written beside it first.
+fn replace<F: Files>(alloc: Global, files: &F, path: &str, bytes: &[u8]) -> io::Result<()> {
+    let permissions = match fs::symlink_metadata(files, path) {
+        Ok(found) if found.is_file() => Some(found.permissions()),
+        Ok(_) => return Err(Error::from(ErrorKind::InvalidInput)),
+        Err(_) => None,
+    };
+    let beside = format!(in alloc; "{path}.saving")?;
+    let file = fs::File::create_new(files, beside.as_str())?;
+    let outcome = match fill(file, permissions, bytes) {
+        Ok(()) => fs::rename(files, beside.as_str(), path),
+        failed => failed,
+    };
+    if outcome.is_err() {
+        let _removed = fs::remove_file(files, beside.as_str());
+    }
+    outcome
+}
+
+/// Gives a file the permissions and the bytes, and closes it.
+fn fill<W: Write + OpenFile + Drop>(
+    file: W,
+    permissions: Option<Permissions>,
+    bytes: &[u8],
+) -> io::Result<()> {
+    let mut file = file;
+    if let Some(permissions) = permissions {
+        file.set_permissions(permissions)?;
+    }
+    file.write_all(bytes)
+}
+
 /// Makes the call with the words of the file behind it.
-fn load<F: Files + AllocGlobal>(
+fn load<F: Files>(
     files: &F,
     path: &str,
     tries: &mut Tries,
-    call: Call,
     answer: &mut Answer<'_>,
 ) -> Result<(), Memory> {
-    let mut bytes = match fs::read(files, path) {
+    let name = answer.next_word().unwrap_or("");
+    let mut bytes = match read_behind(answer.alloc(), name, files, path) {
         Ok(bytes) => bytes,
         Err(error) if is_memory(&error) => return Err(Memory),
-        Err(_) => return answer.line(NO_FILE),
+        Err(_) => return answer.refuse(NO_FILE),
     };
     let Ok(text) = str::from_utf8(parted(bytes.as_mut_slice())) else {
-        return answer.line("not UTF-8");
+        return answer.refuse("not UTF-8");
     };
-    let mut made = Answer::new(answer.alloc(), words_of(text), false);
-    answer_inner(tries, call, &mut made, answer)?;
+    let mut made = Answer::new(answer.alloc(), Words::of(text), false);
+    if let Some(call) = next_call(&mut made)? {
+        answer_inner(tries, call, &mut made, answer)?;
+    }
     answer.put(made.as_bytes())
+}
+
+/// The call's name, a space, and the bytes of the file.
+fn read_behind<F: Files>(alloc: Global, name: &str, files: &F, path: &str) -> io::Result<Vec<u8>> {
+    if !fs::metadata(files, path)?.is_file() {
+        return Err(Error::from(ErrorKind::InvalidInput));
+    }
+    let mut file = fs::open(files, path)?;
+    let mut bytes = Vec::new(alloc);
+    bytes.extend_from_slice(name.as_bytes())?;
+    bytes.push(b' ')?;
+    file.read_to_end(&mut bytes)?;
+    Ok(bytes)
 }
 
 /// Makes the call with an answer of its own. What is lost for that one is lost for the whole line.
@@ -98,14 +152,6 @@ fn parted(bytes: &mut [u8]) -> &[u8] {
         }
     }
     bytes.trim_ascii_end()
-}
-
-/// The words of a text, parted by spaces.
-fn words_of(text: &str) -> Words<'_> {
-    match text.len() {
-        0 => Words::new(text, 0),
-        _ => Words::new(text, text.split(' ').count()),
-    }
 }
 
 fn is_memory(error: &Error) -> bool {

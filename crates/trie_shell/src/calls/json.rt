@@ -20,8 +20,8 @@ fn value_of(alloc: Global, text: &str) -> Result<Option<Value>, Memory> {
 fn refused_line(answer: &mut Answer<'_>, error: JsonError) -> Result<(), Memory> {
     match error {
         JsonError::Memory => Err(Memory),
-        JsonError::Kind => answer.line("kind"),
-        JsonError::Float => answer.line("float"),
+        JsonError::Kind => answer.refuse("kind"),
+        JsonError::Float => answer.refuse("float"),
     }
 }
 
@@ -34,7 +34,7 @@ pub fn answer_json(text: &str, answer: &mut Answer<'_>) -> Result<(), Memory> {
         Err(_) => value_of(alloc, text)?,
     };
     let Some(value) = value else {
-        return answer.line("no value");
+        return answer.refuse("no value");
     };
     match from_value(alloc, &value) {
         Ok(trie) => answer_object(&trie, answer),

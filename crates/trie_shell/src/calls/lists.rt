@@ -1,27 +1,26 @@
 //! Calls of lists of nibbles, and of bits.
 
 use crate::answer::Answer;
-use crate::calls::lines::{NO_KEY, NO_LIST, NO_NUMBER, NONE, NOT_HERE};
+use crate::calls::lines::{NO_KEY, NO_LIST, NO_NUMBER, NONE};
 use crate::words::digit;
 use radix_trie::{Bits, Memory, Nibblet};
 
 /// A call of the list that the next words name, or that makes one.
-pub fn answer_nibblet(answer: &mut Answer<'_>) -> Result<(), Memory> {
-    let name = answer.next_word().unwrap_or("");
+pub fn answer_nibblet(name: &str, answer: &mut Answer<'_>) -> Result<(), Memory> {
     if name == "from_byte_vec" {
         return match answer.next_key::<Vec<u8>>()? {
             Some(bytes) => {
                 let list = Nibblet::from_byte_vec(answer.alloc(), bytes)?;
                 answer.list_line(&list)
             }
-            None => answer.line(NO_KEY),
+            None => answer.refuse(NO_KEY),
         };
     }
     if name == "from_hex" {
         return answer_read(answer);
     }
     let Some(list) = answer.next_key::<Nibblet>()? else {
-        return answer.line(NO_LIST);
+        return answer.refuse(NO_LIST);
     };
     match name {
         "clone" => answer.list_line(&list.clone()?),
@@ -36,7 +35,7 @@ pub fn answer_nibblet(answer: &mut Answer<'_>) -> Result<(), Memory> {
 /// The list of the digits of the next word's text, if it has no other character.
 fn answer_read(answer: &mut Answer<'_>) -> Result<(), Memory> {
     let Some(text) = answer.next_key::<String>()? else {
-        return answer.line(NO_KEY);
+        return answer.refuse(NO_KEY);
     };
     match Nibblet::from_hex(answer.alloc(), text.as_str())? {
         Some(list) => answer.list_line(&list),
@@ -56,7 +55,7 @@ fn answer_push(list: Nibblet, answer: &mut Answer<'_>) -> Result<(), Memory> {
             list.push(nibble)?;
             answer.list_line(&list)
         }
-        None => answer.line(NO_NUMBER),
+        None => answer.refuse(NO_NUMBER),
     }
 }
 
@@ -72,14 +71,14 @@ fn answer_turned(list: Nibblet, answer: &mut Answer<'_>) -> Result<(), Memory> {
 /// A call of two lists.
 fn answer_two(name: &str, list: Nibblet, answer: &mut Answer<'_>) -> Result<(), Memory> {
     let Some(other) = answer.next_key::<Nibblet>()? else {
-        return answer.line(NO_LIST);
+        return answer.refuse(NO_LIST);
     };
     if name == "agreement" {
         return match answer.next_parsed::<usize>() {
             Some(depth) if depth <= other.len() => {
                 answer.count_line(list.agreement(&other, depth))
             }
-            _ => answer.line(NO_NUMBER),
+            _ => answer.refuse(NO_NUMBER),
         };
     }
     answer_joined(list, &other, answer)
@@ -106,10 +105,10 @@ fn answer_joined(list: Nibblet, other: &Nibblet, answer: &mut Answer<'_>) -> Res
 fn answer_cut(name: &str, list: Nibblet, answer: &mut Answer<'_>) -> Result<(), Memory> {
     let mut list = list;
     let Some(i) = answer.next_parsed::<usize>() else {
-        return answer.line(NO_NUMBER);
+        return answer.refuse(NO_NUMBER);
     };
-    if i > list.len() || name == "get" && i == list.len() {
-        return answer.line(NO_NUMBER);
+    if i > list.len() {
+        return answer.refuse(NO_NUMBER);
     }
     match name {
         "split" => {
@@ -123,25 +122,25 @@ fn answer_cut(name: &str, list: Nibblet, answer: &mut Answer<'_>) -> Result<(), 
             list.truncate(i);
             answer.list_line(&list)
         }
-        "get" if i < list.len() => answer.count_line(list.get(i) as usize),
-        _ => answer.line(NOT_HERE),
+        _ if i < list.len() => answer.count_line(list.get(i) as usize),
+        _ => answer.refuse(NO_NUMBER),
     }
 }
 
 /// A call that makes a list of bits.
-pub fn answer_bits(answer: &mut Answer<'_>) -> Result<(), Memory> {
-    let name = answer.next_word().unwrap_or("");
+pub fn answer_bits(name: &str, answer: &mut Answer<'_>) -> Result<(), Memory> {
     match name {
         "clone" => match answer.next_key::<Bits>()? {
             Some(bits) => answer.list_line(bits.clone()?.as_list()),
-            None => answer.line(NO_KEY),
+            None => answer.refuse(NO_KEY),
         },
         "first_of" => match (answer.next_key::<Vec<u8>>()?, answer.next_parsed::<usize>()) {
             (Some(bytes), Some(count)) => {
                 let bits = Bits::first_of(answer.alloc(), bytes.as_slice(), count)?;
                 answer.list_line(bits.as_list())
             }
-            _ => answer.line(NO_KEY),
+            (Some(_), None) => answer.refuse(NO_NUMBER),
+            (None, _) => answer.refuse(NO_KEY),
         },
         _ => answer_first_bits(name, answer),
     }
@@ -152,12 +151,12 @@ fn answer_first_bits(name: &str, answer: &mut Answer<'_>) -> Result<(), Memory> 
     let alloc = answer.alloc();
     let number = answer.next_parsed::<u128>();
     let (Some(number), Some(count)) = (number, answer.next_parsed::<usize>()) else {
-        return answer.line(NO_NUMBER);
+        return answer.refuse(NO_NUMBER);
     };
     let bits = match (name, u32::try_from(number)) {
         ("first_of_u128", _) => Bits::first_of_u128(alloc, number, count)?,
-        ("first_of_u32", Ok(number)) => Bits::first_of_u32(alloc, number, count)?,
-        _ => return answer.line(NOT_HERE),
+        (_, Ok(number)) => Bits::first_of_u32(alloc, number, count)?,
+        _ => return answer.refuse(NO_NUMBER),
     };
     answer.list_line(bits.as_list())
 }

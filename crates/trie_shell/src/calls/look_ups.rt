@@ -19,7 +19,7 @@ pub fn answer_keyed<K: ShellKey>(
     match answer.next_query::<K>()? {
         Some(Query::Key(key)) => answer_at(trie, &key, call, answer),
         Some(Query::List(list)) => answer_at(trie, &list, call, answer),
-        None => answer.line(NO_KEY),
+        None => answer.refuse(NO_KEY),
     }
 }
 
@@ -50,7 +50,7 @@ fn answer_at<K: ShellKey, Q: TrieKey>(
         Keyed::CountBelow => answer.count_line(trie.count_below(key)?),
         Keyed::FirstBelow => match answer.next_number() {
             Some(most) => pair_lines(answer, trie.first_below(key, most as usize)?.into_iter()),
-            None => answer.line(NO_NUMBER),
+            None => answer.refuse(NO_NUMBER),
         },
         Keyed::FirstAfter => answer_after(trie, key, answer),
         _ => answer_view(trie, key, call, answer),
@@ -66,7 +66,7 @@ fn answer_after<K: ShellKey, Q: TrieKey>(
     match answer.next_query::<K>()? {
         Some(Query::Key(last)) => page_lines(trie, key, &last, answer),
         Some(Query::List(last)) => page_lines(trie, key, &last, answer),
-        None => answer.line(NO_KEY),
+        None => answer.refuse(NO_KEY),
     }
 }
 
@@ -82,7 +82,7 @@ fn page_lines<K: ShellKey, Q: TrieKey, L: TrieKey>(
             answer,
             trie.first_after(key, last, most as usize)?.into_iter(),
         ),
-        None => answer.line(NO_NUMBER),
+        None => answer.refuse(NO_NUMBER),
     }
 }
 
@@ -109,7 +109,7 @@ pub fn answer_listed<K: ShellKey>(
     answer: &mut Answer<'_>,
 ) -> Result<(), Memory> {
     let Some(list) = answer.next_key::<Nibblet>()? else {
-        return answer.line(NO_LIST);
+        return answer.refuse(NO_LIST);
     };
     match call {
         Listed::At => answer.value_line(trie.at(&list).copied()),
@@ -142,7 +142,7 @@ pub fn answer_whole<K: ShellKey>(
         Whole::ToAscending => K::to_ascending(trie, answer),
         Whole::Matching => match K::as_filters(trie) {
             Some(filters) => answer_matching(filters, answer),
-            None => answer.line("no lists of parts"),
+            None => answer.refuse("no lists of parts"),
         },
         Whole::Between => answer_range(trie, false, answer),
         Whole::BetweenInclusive => answer_range(trie, true, answer),
@@ -164,6 +164,6 @@ fn answer_matching(filters: &Trie<Parts, u64>, answer: &mut Answer<'_>) -> Resul
             answer,
             matching(answer.alloc(), filters, &topic)?.into_iter(),
         ),
-        None => answer.line(NO_KEY),
+        None => answer.refuse(NO_KEY),
     }
 }

@@ -1,14 +1,14 @@
 //! Calls of networks of one family of addresses.
 
 use crate::answer::Answer;
-use crate::calls::lines::{NO_KEY, NO_NUMBER, NONE, NOT_HERE};
+use crate::calls::lines::{NO_KEY, NO_NUMBER, NONE};
 use crate::words::bytes_of;
 use radix_trie::{Address, Memory, Network};
 use std::cmp::Ordering;
 
 /// A call of networks.
-pub fn answer_network<A: Address>(answer: &mut Answer<'_>) -> Result<(), Memory> {
-    match answer.next_word().unwrap_or("") {
+pub fn answer_network<A: Address>(name: &str, answer: &mut Answer<'_>) -> Result<(), Memory> {
+    match name {
         "from_str" => {
             let network = next_network::<A>(answer)?;
             network_line(answer, network)
@@ -17,11 +17,11 @@ pub fn answer_network<A: Address>(answer: &mut Answer<'_>) -> Result<(), Memory>
         "around" => answer_made::<A>(false, answer),
         "host" => match next_address::<A>(answer) {
             Some(address) => answer.shown_line(&Network::host(address)),
-            None => answer.line(NO_KEY),
+            None => answer.refuse(NO_KEY),
         },
-        name => match next_network::<A>(answer)? {
+        _ => match next_network::<A>(answer)? {
             Some(network) => answer_of(name, &network, answer),
-            None => answer.line(NO_KEY),
+            None => answer.refuse(NO_KEY),
         },
     }
 }
@@ -63,8 +63,8 @@ fn answer_made<A: Address>(is_base: bool, answer: &mut Answer<'_>) -> Result<(),
     match (address, answer.next_parsed::<u8>()) {
         (Some(base), Some(bits)) if is_base => network_line(answer, Network::new(base, bits)),
         (Some(address), Some(bits)) => network_line(answer, Network::around(address, bits)),
-        (None, _) => answer.line(NO_KEY),
-        (_, None) => answer.line(NO_NUMBER),
+        (None, _) => answer.refuse(NO_KEY),
+        (_, None) => answer.refuse(NO_NUMBER),
     }
 }
 
@@ -80,16 +80,15 @@ fn answer_of<A: Address>(
         "clone" => network_line(answer, network.clone().ok()),
         "holds" => match next_address::<A>(answer) {
             Some(address) => answer.truth_line(network.holds(address)),
-            None => answer.line(NO_KEY),
+            None => answer.refuse(NO_KEY),
         },
-        "cmp" => match next_network::<A>(answer)? {
+        _ => match next_network::<A>(answer)? {
             Some(other) => answer.line(match network.cmp(&other) {
                 Ordering::Less => "less",
                 Ordering::Equal => "equal",
                 Ordering::Greater => "greater",
             }),
-            None => answer.line(NO_KEY),
+            None => answer.refuse(NO_KEY),
         },
-        _ => answer.line(NOT_HERE),
     }
 }

@@ -15,11 +15,11 @@ fn add_unless<K: ShellKey>(key: &K, value: &mut u64, other: &K, added: u64) {
 /// The key and the number that the next words write. None: the answer says what is missing.
 fn other_and_number<K: ShellKey>(answer: &mut Answer<'_>) -> Result<Option<(K, u64)>, Memory> {
     let Some(other) = answer.next_key::<K>()? else {
-        answer.line(NO_KEY)?;
+        answer.refuse(NO_KEY)?;
         return Ok(None);
     };
     let Some(added) = answer.next_number() else {
-        answer.line(NO_NUMBER)?;
+        answer.refuse(NO_NUMBER)?;
         return Ok(None);
     };
     Ok(Some((other, added)))

@@ -1,19 +1,18 @@
 //! Calls of lists of parts.
 
 use crate::answer::Answer;
-use crate::calls::lines::{NO_KEY, NONE, NOT_HERE};
+use crate::calls::lines::{NO_KEY, NONE};
 use radix_trie::{Memory, Parts, PartsError};
 use std::cmp::Ordering;
 use topic_filters::{is_filter, is_topic};
 
 /// A call of the list of parts that the next word writes, or that makes one.
-pub fn answer_parts(answer: &mut Answer<'_>) -> Result<(), Memory> {
-    let name = answer.next_word().unwrap_or("");
+pub fn answer_parts(name: &str, answer: &mut Answer<'_>) -> Result<(), Memory> {
     if let "split" | "of_path" | "reversed" = name {
         return answer_cut(name, answer);
     }
     let Some(parts) = answer.next_key::<Parts>()? else {
-        return answer.line(NO_KEY);
+        return answer.refuse(NO_KEY);
     };
     match name {
         "clone" => parts_line(answer, parts.clone()?),
@@ -23,8 +22,7 @@ pub fn answer_parts(answer: &mut Answer<'_>) -> Result<(), Memory> {
         "rev" => part_lines(true, &parts, answer),
         "cmp" => answer_order(&parts, answer),
         "is_filter" => answer.truth_line(is_filter(&parts)),
-        "is_topic" => answer.truth_line(is_topic(&parts)),
-        _ => answer.line(NOT_HERE),
+        _ => answer.truth_line(is_topic(&parts)),
     }
 }
 
@@ -39,10 +37,10 @@ fn answer_cut(name: &str, answer: &mut Answer<'_>) -> Result<(), Memory> {
     let text = answer.next_key::<String>()?;
     let separator = answer.next_key::<char>()?;
     let (Some(text), Some(separator)) = (text, separator) else {
-        return answer.line(NO_KEY);
+        return answer.refuse(NO_KEY);
     };
     let Ok(separator) = u8::try_from(u32::from(separator)) else {
-        return answer.line(NO_KEY);
+        return answer.refuse(NO_KEY);
     };
     let (alloc, text) = (answer.alloc(), text.as_str());
     let made = match name {
@@ -52,7 +50,7 @@ fn answer_cut(name: &str, answer: &mut Answer<'_>) -> Result<(), Memory> {
     };
     match made {
         Ok(parts) => parts_line(answer, parts),
-        Err(PartsError::Zero) => answer.line("zero"),
+        Err(PartsError::Zero) => answer.refuse("zero"),
         Err(PartsError::Memory) => Err(Memory),
     }
 }
@@ -60,7 +58,7 @@ fn answer_cut(name: &str, answer: &mut Answer<'_>) -> Result<(), Memory> {
 /// The list with the bytes of the next word as one part more. Where that is refused, it is as it was.
 fn answer_push(name: &str, parts: Parts, answer: &mut Answer<'_>) -> Result<(), Memory> {
     let Some(part) = answer.next_key::<Vec<u8>>()? else {
-        return answer.line(NO_KEY);
+        return answer.refuse(NO_KEY);
     };
     let given = match parts.clone() {
         Ok(given) => given,
@@ -69,12 +67,12 @@ fn answer_push(name: &str, parts: Parts, answer: &mut Answer<'_>) -> Result<(), 
     let mut parts = parts;
     let pushed = match (name, str::from_utf8(part.as_slice())) {
         ("push", Ok(text)) => parts.push(text),
-        ("push", Err(_)) => return answer.line(NO_KEY),
+        ("push", Err(_)) => return answer.refuse(NO_KEY),
         _ => parts.push_bytes(part.as_slice()),
     };
     match pushed {
         Ok(()) => parts_line(answer, parts),
-        Err(PartsError::Zero) => answer.line("zero"),
+        Err(PartsError::Zero) => answer.refuse("zero"),
         Err(PartsError::Memory) => {
             if parts != given {
                 answer.note_other();
@@ -110,6 +108,6 @@ fn answer_order(parts: &Parts, answer: &mut Answer<'_>) -> Result<(), Memory> {
             Ordering::Equal => "equal",
             Ordering::Greater => "greater",
         }),
-        None => answer.line(NO_KEY),
+        None => answer.refuse(NO_KEY),
     }
 }

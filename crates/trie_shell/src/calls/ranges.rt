@@ -16,7 +16,7 @@ pub fn answer_range<K: ShellKey>(
     match answer.next_query::<K>()? {
         Some(Query::Key(from)) => answer_from(trie, &from, is_inclusive, answer),
         Some(Query::List(from)) => answer_from(trie, &from, is_inclusive, answer),
-        None => answer.line(NO_KEY),
+        None => answer.refuse(NO_KEY),
     }
 }
 
@@ -29,7 +29,7 @@ fn answer_from<K: ShellKey, Q: TrieKey>(
     match answer.next_query::<K>()? {
         Some(Query::Key(to)) => answer_between(trie, from, &to, is_inclusive, answer),
         Some(Query::List(to)) => answer_between(trie, from, &to, is_inclusive, answer),
-        None => answer.line(NO_KEY),
+        None => answer.refuse(NO_KEY),
     }
 }
 

@@ -1,6 +1,7 @@
 //! Lists of commands, and their replies.
 
 use crate::answer::Answer;
+use crate::calls::lines::none_line;
 use crate::keys::ShellKey;
 use radix_trie::{Command, Memory, Reply, Trie, ViewCommand, run};
 use std::mem;
@@ -49,6 +50,11 @@ impl<K: ShellKey> List<K> {
     /// Adds the command of this name, whose key and value are the next words. False: they are none
     /// of a command.
     fn add(&mut self, name: &str, answer: &mut Answer<'_>) -> Result<bool, Memory> {
+        if let "within" | "ancestor" = name
+            && self.inner.is_some()
+        {
+            return Ok(false);
+        }
         match name {
             "end" => match mem::replace(&mut self.inner, None) {
                 Some((key, list)) => self.commands.push(Command::Within(key, list))?,
@@ -152,7 +158,7 @@ pub fn answer_run<K: ShellKey>(
         }
     };
     let Some(commands) = commands else {
-        return answer.line("no commands");
+        return answer.refuse("no commands");
     };
     let before = match trie.clone() {
         Ok(before) => before,
@@ -160,7 +166,7 @@ pub fn answer_run<K: ShellKey>(
     };
     let replies = run(trie, commands)?;
     if add_replies(answer, replies.as_slice())? {
-        return Ok(());
+        return none_line(answer, replies.is_empty());
     }
     *trie = before;
     Err(Memory)

@@ -34,7 +34,7 @@ pub fn answer_sweep<K: ShellKey>(
                 trie.for_each_value_mut(|value| *value = value.wrapping_add(added));
                 answer.line("ok")
             }
-            None => answer.line(NO_NUMBER),
+            None => answer.refuse(NO_NUMBER),
         },
         Sweep::ForEachMut => answer_others(trie, answer),
         Sweep::Retain => match answer.next_number() {
@@ -42,11 +42,11 @@ pub fn answer_sweep<K: ShellKey>(
                 trie.retain(|_, value| *value >= least)?;
                 answer.line("ok")
             }
-            None => answer.line(NO_NUMBER),
+            None => answer.refuse(NO_NUMBER),
         },
         Sweep::AtMut => match answer.next_key::<Nibblet>()? {
             Some(list) => written_or_none(answer, trie.at_mut(&list)),
-            None => answer.line(NO_LIST),
+            None => answer.refuse(NO_LIST),
         },
         Sweep::ValueMut => written_or_none(answer, trie.value_mut()),
         Sweep::Run => answer_run(trie, answer),
@@ -94,7 +94,7 @@ fn answer_pairs<K: ShellKey>(
         }
     };
     let Some(pairs) = pairs else {
-        return answer.line("no pairs");
+        return answer.refuse("no pairs");
     };
     match call {
         Sweep::FromIter => match Trie::from_iter(answer.alloc(), pairs.into_iter()) {
@@ -102,14 +102,14 @@ fn answer_pairs<K: ShellKey>(
                 *trie = built;
                 answer.line("ok")
             }
-            Err(BuildError::Full) => answer.line("full"),
+            Err(BuildError::Full) => answer.refuse("full"),
             Err(BuildError::Memory) => Err(Memory),
         },
         _ => match trie.extend(pairs.into_iter()) {
             Ok(()) => answer.line("ok"),
             Err(error) => match error.why {
                 InsertWhy::Memory => Err(Memory),
-                InsertWhy::Full | InsertWhy::Outside => answer.line("full"),
+                InsertWhy::Full | InsertWhy::Outside => answer.refuse("full"),
             },
         },
     }

@@ -26,7 +26,7 @@ pub fn answer_tree<K: ShellKey>(
     match answer.next_query::<K>()? {
         Some(Query::Key(key)) => answer_below(trie, &key, call, answer),
         Some(Query::List(list)) => answer_below(trie, &list, call, answer),
-        None => answer.line(NO_KEY),
+        None => answer.refuse(NO_KEY),
     }
 }
 

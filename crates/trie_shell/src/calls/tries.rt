@@ -25,6 +25,6 @@ pub fn answer_trie<K: ShellKey>(
         Call::Edit(call) => answer_edit(trie, call, answer),
         Call::Sweep(call) => answer_sweep(trie, call, answer),
         Call::Tree(call) => answer_tree(&*trie, call, answer),
-        _ => answer.line(NOT_HERE),
+        _ => answer.refuse(NOT_HERE),
     }
 }

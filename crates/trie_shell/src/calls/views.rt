@@ -1,7 +1,7 @@
 //! Calls of views.
 
 use crate::answer::Answer;
-use crate::call::{Call, Common, Keyed, Sweep, View, Whole, call_of_name};
+use crate::call::{Call, Common, Keyed, Session, Sweep, View, Whole};
 use crate::caller::{Caller, make};
 use crate::calls::common::answer_common;
 use crate::calls::edits::{
@@ -11,6 +11,8 @@ use crate::calls::lines::{NO_KEY, NO_NUMBER, NONE, NOT_HERE, child_lines, pair_l
 use crate::calls::others::answer_others_in_view;
 use crate::calls::tries::answer_trie;
 use crate::keys::{Query, ShellKey};
+use crate::request::next_call;
+use crate::words::Words;
 use radix_trie::{Memory, Nibblet, OpenError, SubTrie, SubTrieError, SubTrieMut, Trie, TrieKey};
 
 /// What is answered where the point that a view stands at is gone.
@@ -41,7 +43,7 @@ pub fn answer_in_view<K: ShellKey>(
         Err(_) => trie.subtrie(path)?,
     };
     let Some(view) = opened else {
-        return answer.line(CLOSED);
+        return answer.refuse(CLOSED);
     };
     match call {
         Call::Common(call) => answer_common(&view, call, answer),
@@ -49,7 +51,7 @@ pub fn answer_in_view<K: ShellKey>(
         Call::Whole(Whole::Children) => child_lines(answer, view.children()?),
         Call::Whole(Whole::Debug) => answer.debug_line(&view),
         Call::View(View::Path) => answer.list_line(view.path()),
-        _ => answer.line(NOT_HERE),
+        _ => answer.refuse(NOT_HERE),
     }
 }
 
@@ -60,12 +62,12 @@ fn answer_keyed_in_view<K: ShellKey>(
     answer: &mut Answer<'_>,
 ) -> Result<(), Memory> {
     let (Keyed::Get | Keyed::CountBelow | Keyed::Subtrie | Keyed::FirstBelow) = call else {
-        return answer.line(NOT_HERE);
+        return answer.refuse(NOT_HERE);
     };
     match answer.next_query::<K>()? {
         Some(Query::Key(key)) => answer_at_in_view(view, &key, call, answer),
         Some(Query::List(list)) => answer_at_in_view(view, &list, call, answer),
-        None => answer.line(NO_KEY),
+        None => answer.refuse(NO_KEY),
     }
 }
 
@@ -94,7 +96,7 @@ fn answer_page_in_view<K: ShellKey, Q: TrieKey>(
     answer: &mut Answer<'_>,
 ) -> Result<(), Memory> {
     let Some(most) = answer.next_number() else {
-        return answer.line(NO_NUMBER);
+        return answer.refuse(NO_NUMBER);
     };
     match view.first_below(key, most as usize) {
         Ok(pairs) => pair_lines(answer, pairs.into_iter()),
@@ -115,7 +117,7 @@ pub fn answer_in_write_view<K: ShellKey>(
             Ok(true)
         }
         Err(OpenError::Closed) => {
-            answer.line(CLOSED)?;
+            answer.refuse(CLOSED)?;
             Ok(true)
         }
         Err(OpenError::Memory) => Ok(false),
@@ -131,13 +133,14 @@ fn answer_written<K: ShellKey>(
     let mut view = view;
     match call {
         Call::View(View::IntoChildren) => child_lines(answer, view.into_children()?),
-        Call::View(View::IntoTrie) => match answer.next_word().and_then(call_of_name) {
+        Call::View(View::IntoTrie) => match next_call(answer)? {
             Some(call) => answer_trie(view.into_trie(), call, answer),
-            None => answer.line(NOT_HERE),
+            None => Ok(()),
         },
-        Call::View(View::Spend) => match answer.next_word().and_then(call_of_name) {
+        Call::View(View::Spend) => match next_call(answer)? {
             Some(Call::Common(call)) => answer_common(view, call, answer),
-            _ => answer.line(NOT_HERE),
+            Some(_) => answer.refuse(NOT_HERE),
+            None => Ok(()),
         },
         call => answer_through(&mut view, call, answer),
     }
@@ -154,12 +157,12 @@ fn answer_through<K: ShellKey>(
         Call::Keyed(Keyed::Get) => match answer.next_query::<K>()? {
             Some(Query::Key(key)) => inside_line(answer, copied(view.get(&key))),
             Some(Query::List(list)) => inside_line(answer, copied(view.get(&list))),
-            None => answer.line(NO_KEY),
+            None => answer.refuse(NO_KEY),
         },
         Call::Keyed(Keyed::CountBelow) => match answer.next_query::<K>()? {
             Some(Query::Key(key)) => count_inside_line(answer, view.count_below(&key)),
             Some(Query::List(list)) => count_inside_line(answer, view.count_below(&list)),
-            None => answer.line(NO_KEY),
+            None => answer.refuse(NO_KEY),
         },
         Call::Whole(Whole::Children) => child_lines(answer, view.children()?),
         Call::Whole(Whole::Debug) => answer.debug_line(&*view),
@@ -171,7 +174,7 @@ fn answer_through<K: ShellKey>(
                 view.for_each_value_mut(|value| *value = value.wrapping_add(added));
                 answer.line("ok")
             }
-            None => answer.line(NO_NUMBER),
+            None => answer.refuse(NO_NUMBER),
         },
         Call::Sweep(Sweep::ForEachMut) => answer_others_in_view(view, answer),
         Call::Sweep(Sweep::Retain) => match answer.next_number() {
@@ -179,9 +182,9 @@ fn answer_through<K: ShellKey>(
                 view.retain(|_, value| *value >= least)?;
                 answer.line("ok")
             }
-            None => answer.line(NO_NUMBER),
+            None => answer.refuse(NO_NUMBER),
         },
-        _ => answer.line(NOT_HERE),
+        _ => answer.refuse(NOT_HERE),
     }
 }
 
@@ -198,23 +201,55 @@ impl<K: ShellKey> Caller for SubTrieMut<'_, K, u64> {
     }
 }
 
-/// Calls of one view for writing, one after another: each begins with its name, and a semicolon
-/// parts it from the next. A call that takes the view is the last one, and is left to be made.
+/// Whether the words left are calls, ` ; ` between two of them, of which the last alone may take the
+/// view. False: the answer says why not.
+pub fn are_calls(answer: &mut Answer<'_>) -> Result<bool, Memory> {
+    let words = answer.words();
+    let mut is_taken = false;
+    for text in words.rest().split(" ; ") {
+        if is_taken {
+            answer.refuse(NOT_HERE)?;
+            return Ok(false);
+        }
+        answer.read_on(Words::of(text));
+        let Some(call) = next_whole_call(answer)? else {
+            return Ok(false);
+        };
+        is_taken = takes_view(call);
+    }
+    answer.read_on(words);
+    Ok(true)
+}
+
+/// The call that the words left ask for, if those behind one that makes another ask for that.
+fn next_whole_call(answer: &mut Answer<'_>) -> Result<Option<Call>, Memory> {
+    match next_call(answer)? {
+        Some(call @ (Call::View(View::Spend | View::IntoTrie) | Call::Session(Session::Light))) => {
+            Ok(next_call(answer)?.map(|_| call))
+        }
+        call => Ok(call),
+    }
+}
+
+/// Whether it is a call that takes the view.
+fn takes_view(call: Call) -> bool {
+    matches!(
+        call,
+        Call::View(View::Spend | View::IntoChildren | View::IntoTrie)
+    )
+}
+
+/// Calls of one view for writing, one after another. One that takes the view is left to be made.
 fn answer_calls<K: ShellKey>(
     view: &mut SubTrieMut<'_, K, u64>,
     answer: &mut Answer<'_>,
 ) -> Result<Option<Call>, Memory> {
-    for _ in 0..answer.left() {
-        let Some(name) = answer.next_word() else {
-            break;
-        };
-        match call_of_name(name) {
-            Some(call @ Call::View(View::Spend | View::IntoChildren | View::IntoTrie)) => {
-                return Ok(Some(call));
-            }
+    for text in answer.words().rest().split(" ; ") {
+        answer.read_on(Words::of(text));
+        match next_call(answer)? {
+            Some(call) if takes_view(call) => return Ok(Some(call)),
             Some(call) => make(&mut *view, call, answer)?,
-            None if name == ";" => {}
-            None => answer.line(NOT_HERE)?,
+            None => break,
         }
     }
     Ok(None)
@@ -260,7 +295,7 @@ pub fn answer_with<K: ShellKey, Q: TrieKey>(
     }
     match trie.open_mut(key) {
         Ok(view) => answer_or_lose(view, answer),
-        Err(OpenError::Closed) => answer.line(CLOSED),
+        Err(OpenError::Closed) => answer.refuse(CLOSED),
         Err(OpenError::Memory) => Err(Memory),
     }
 }

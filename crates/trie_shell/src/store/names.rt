@@ -12,6 +12,9 @@ use std::mem;
 /// The name of the first trie.
 const FIRST: &'static str = "trie";
 
+/// What is answered where a word is no name, since it is empty.
+const NO_NAME: &'static str = "no name";
+
 /// What is answered where no other trie has the name.
 const NO_TRIE: &'static str = "no other trie";
 
@@ -32,14 +35,21 @@ impl<K: ShellKey> Store<K> {
         call: Named,
         answer: &mut Answer<'_>,
     ) -> Result<(), Memory> {
-        match call {
-            Named::Use => self.answer_use(answer),
-            Named::Tries => self.answer_tries(answer),
-            Named::Equals => self.answer_equals(answer),
-            Named::Clone => self.answer_clone(answer),
-            Named::SplitOffPrefix => self.answer_split(answer),
-            Named::Append => self.answer_append(answer),
-            Named::Sides(call) => self.answer_beside(call, answer),
+        let query = match call {
+            Named::Tries => return self.answer_tries(answer),
+            Named::SplitOffPrefix => answer.next_query::<K>()?,
+            _ => None,
+        };
+        let name = answer.next_word().unwrap_or("");
+        match (call, query) {
+            _ if name.is_empty() => answer.refuse(NO_NAME),
+            (Named::SplitOffPrefix, Some(query)) => self.answer_split(&query, name, answer),
+            (Named::SplitOffPrefix, None) => answer.refuse(NO_KEY),
+            (Named::Equals, _) => self.answer_equals(name, answer),
+            (Named::Clone, _) => self.answer_clone(name, answer),
+            (Named::Append, _) => self.answer_append(name, answer),
+            (Named::Sides(call), _) => self.answer_beside(call, name, answer),
+            _ => self.answer_use(name, answer),
         }
     }
 
@@ -85,8 +95,7 @@ impl<K: ShellKey> Store<K> {
     }
 
     /// Another trie becomes the current one. It is made where there is none.
-    fn answer_use(&mut self, answer: &mut Answer<'_>) -> Result<(), Memory> {
-        let name = answer.next_word().unwrap_or("");
+    fn answer_use(&mut self, name: &str, answer: &mut Answer<'_>) -> Result<(), Memory> {
         let place = self.made_place_of(name)?;
         if let Some(place) = place
             && let Some(other) = self.others.get_mut(place)
@@ -107,37 +116,44 @@ impl<K: ShellKey> Store<K> {
     }
 
     /// Whether the current trie is equal to another.
-    fn answer_equals(&self, answer: &mut Answer<'_>) -> Result<(), Memory> {
-        match self.named(answer.next_word().unwrap_or("")) {
+    fn answer_equals(&self, name: &str, answer: &mut Answer<'_>) -> Result<(), Memory> {
+        match self.named(name) {
             Some(other) => answer.truth_line(self.current.trie == *other),
-            None => answer.line(NO_TRIE),
+            None => answer.refuse(NO_TRIE),
         }
     }
 
     /// A call of the keys of the current trie and of another.
-    fn answer_beside(&self, call: Sides, answer: &mut Answer<'_>) -> Result<(), Memory> {
-        match self.named(answer.next_word().unwrap_or("")) {
+    fn answer_beside(
+        &self,
+        call: Sides,
+        name: &str,
+        answer: &mut Answer<'_>,
+    ) -> Result<(), Memory> {
+        match self.named(name) {
             Some(other) => answer_sides(&self.current.trie, other, call, answer),
-            None => answer.line(NO_TRIE),
+            None => answer.refuse(NO_TRIE),
         }
     }
 
     /// A copy of the current trie, under the name.
-    fn answer_clone(&mut self, answer: &mut Answer<'_>) -> Result<(), Memory> {
-        let place = self.made_place_of(answer.next_word().unwrap_or(""))?;
+    fn answer_clone(&mut self, name: &str, answer: &mut Answer<'_>) -> Result<(), Memory> {
+        let place = self.made_place_of(name)?;
         let copy = self.current.trie.clone()?;
         self.put(place, copy, answer)
     }
 
     /// The part of the current trie at and below the key, taken from it, under the name.
-    fn answer_split(&mut self, answer: &mut Answer<'_>) -> Result<(), Memory> {
-        let Some(query) = answer.next_query::<K>()? else {
-            return answer.line(NO_KEY);
+    fn answer_split(
+        &mut self,
+        query: &Query<K>,
+        name: &str,
+        answer: &mut Answer<'_>,
+    ) -> Result<(), Memory> {
+        let Some(place) = self.made_place_of(name)? else {
+            return answer.refuse(NO_TRIE);
         };
-        let Some(place) = self.made_place_of(answer.next_word().unwrap_or(""))? else {
-            return answer.line(NO_TRIE);
-        };
-        let part = match &query {
+        let part = match query {
             Query::Key(key) => self.current.trie.split_off_prefix(key)?,
             Query::List(list) => self.current.trie.split_off_prefix(list)?,
         };
@@ -145,13 +161,13 @@ impl<K: ShellKey> Store<K> {
     }
 
     /// Appends the other trie of the name to the current one.
-    fn answer_append(&mut self, answer: &mut Answer<'_>) -> Result<(), Memory> {
-        if let Some(place) = self.place_of(answer.next_word().unwrap_or(""))
+    fn answer_append(&mut self, name: &str, answer: &mut Answer<'_>) -> Result<(), Memory> {
+        if let Some(place) = self.place_of(name)
             && let Some(other) = self.others.get_mut(place)
         {
             return append(&mut self.current.trie, &mut other.trie, answer);
         }
-        answer.line(NO_TRIE)
+        answer.refuse(NO_TRIE)
     }
 
     /// Puts a trie where another stands.
@@ -167,7 +183,7 @@ impl<K: ShellKey> Store<K> {
             other.trie = trie;
             return answer.line("ok");
         }
-        answer.line(NO_TRIE)
+        answer.refuse(NO_TRIE)
     }
 }
 
@@ -183,8 +199,8 @@ fn append<K: ShellKey>(
             *part = error.part;
             match error.why {
                 AppendWhy::Memory => Err(Memory),
-                AppendWhy::Full => answer.line("full"),
-                AppendWhy::Overlapping => answer.line("overlapping"),
+                AppendWhy::Full => answer.refuse("full"),
+                AppendWhy::Overlapping => answer.refuse("overlapping"),
             }
         }
     }

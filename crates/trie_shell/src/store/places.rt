@@ -27,7 +27,7 @@ impl<K: ShellKey> Store<K> {
         match answer.next_query::<K>()? {
             Some(Query::Key(key)) => self.open_at(&key, call, answer),
             Some(Query::List(list)) => self.open_at(&list, call, answer),
-            None => answer.line(NO_KEY),
+            None => answer.refuse(NO_KEY),
         }
     }
 
@@ -85,7 +85,7 @@ impl<K: ShellKey> Store<K> {
                     })?,
                 )
             }
-            Err(OpenError::Closed) => answer.line("closed"),
+            Err(OpenError::Closed) => answer.refuse("closed"),
             Err(OpenError::Memory) => Err(Memory),
         }
     }

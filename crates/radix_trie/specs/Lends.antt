@@ -15,7 +15,7 @@ use Rattle.radix_trie.specs.contracts.view.subtrie_mut.SubTrieMut as view
 use Rattle.radix_trie.specs.declared.error.FindError.{FindError}
 use Rattle.radix_trie.specs.declared.error.FindError.TheVariants as find
 use Rattle.radix_trie.specs.declared.error.OpenError.{OpenError}
-use Rattle.radix_trie.specs.declared.error.OpenError.TheVariants as open_error
+use Rattle.radix_trie.specs.declared.error.OpenError.TheVariants as opening
 use Rattle.radix_trie.specs.declared.view.subtrie_mut.SubTrieMut.{SubTrieMut}
 use Rattle.radix_trie.specs.Views.{IsWrittenAbove, with_value_or}
 use Rattle.radix_trie.specs.WriteViews.{lender_of, with_own_value}
@@ -36,8 +36,8 @@ module _ {A : Type 0} where
   -- the same result, in which `None` says what `Closed` says
   abbrev pub closed_as_none : Result A OpenError → Result (Option A) Memory
   closed_as_none (Ok x) = Ok (Some x)
-  closed_as_none (Err open_error.Memory) = Err (record {})
-  closed_as_none (Err open_error.Closed) = Ok None
+  closed_as_none (Err opening.Memory) = Err (record {})
+  closed_as_none (Err opening.Closed) = Ok None
 
 module _ (K V : RattleType) (key : keys.Ghosts K.Denot) (eq : eqs.Ghosts K.Denot) where
   abbrev pub trie_row : RattleType

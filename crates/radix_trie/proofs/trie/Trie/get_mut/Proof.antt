@@ -1,5 +1,5 @@
 -- `get_mut` makes two calls: `find_mut` borrows the value, and the other only says its result another way. Assumes `Logic`.
-use mathlib.Core.Path.{◌≡◌, refl, sym, ap, subst, ◌∙◌}
+use mathlib.Core.Path.{◌≡◌, refl, sym, subst}
 use Prim.Native.Nat.{ℕ}
 use mathlib.Core.List.{List, [], ◌∷◌}
 use mir.Syntax.{named, Fn, a_type, dcons, dnil}
@@ -10,7 +10,7 @@ use mir.Val.{Val}
 use types.Logic.{Logic, sem}
 use seplogic.Ra.Ura.{Ura}
 use prog.Wp.{Tables, WpFn}
-use types.Kit.{‵, raw, ◌⊛◌, some, later, ◌$◌, ◌∵◌, !, qed, move, keep, drop, use0, use1, use2, use3, split, join, pick, await, rewrite, suffices, frame, done}
+use types.Kit.{‵, raw, ◌⊛◌, some, later, ◌$◌, ◌∵◌, !, qed, move, drop, use0, use1, use2, use3, split, join, pick, await, suffices, done}
 use types.Run.{enter, addr, stop, no_more, and_then, returns}
 use types.ByLocal.{alloc_all, pass_all, free_all, look_at, get, through, sets, lands_as}
 use contract.Monad.{fact, fact_i}
@@ -21,7 +21,7 @@ use sound.WpLaws.{WpFn-mono}
 use denote.RattleType.{RattleType}
 use denote.Exit.{no, yes}
 use denote.Laws.{Is, shows}
-use denote.Ref.{NamedLft, MutBor, MutRef, ShrRef, mut_vals, mut_Tells, shr_vals, shr_Tells}
+use denote.Ref.{NamedLft, MutBor, MutRef, mut_vals, mut_Tells, shr_vals, shr_Tells}
 use denote.Signature.{plain, mut_ref_to, shr_ref_to}
 use denote.Steps.{nothing, peeks, heard}
 use denote.Struct.Field.{mut_ref_field}
@@ -54,6 +54,7 @@ use Rattle.radix_trie.specs.declared.error.FindError.TheVariants as find
 use Rattle.radix_keys.specs.declared.keys.TrieKey as keys
 use Rattle.std.specs.declared.cmp.PartialEq as eqs
 use Rattle.radix_trie.proofs.error.FindError.TheLaws.{the_row_laws as find_laws}
+use Rattle.radix_trie.proofs.NestedLemmas.{Both, facts, first_leaves, second_wants, second_leaves, both_leave}
 use Rattle.radix_trie.specs.contracts.trie.Trie.get_mut as f
 use Rattle.radix_trie.specs.contracts.trie.Trie.find_mut as fm
 use Rattle.radix_trie.specs.contracts.trie.lookups_mut.absent_as_none as an
@@ -90,17 +91,18 @@ module _ {V : Type 0} where
   ok_as_none L (Err find.Absent) light l = refl
 
 -- the loan says the same of both results
-same_loan : (K V : RattleType) (key : keys.Ghosts K.Denot) (eq : eqs.Ghosts K.Denot) (t : MutBor (PairMap K.Denot V.Denot)) (e : List ℕ) (u : Result (MutBor V.Denot) FindError) → lends_if_ok K V key eq t e u ≡ lends_found K V key eq t e (absent_as_none u)
-same_loan K V key eq t e (Ok x) = refl
-same_loan K V key eq t e (Err find.Memory) = refl
-same_loan K V key eq t e (Err find.Absent) = refl
+same_loan : {M : Type 1} {𝓤 : Ura M} (𝓛 : Logic 𝓤) (K V : RattleType) (key : keys.Ghosts K.Denot) (eq : eqs.Ghosts K.Denot) (t : MutBor (PairMap K.Denot V.Denot)) (e : List ℕ) (u : Result (MutBor V.Denot) FindError)
+    → ent 𝓤 (sem 𝓛 (lends_if_ok K V key eq t e u)) (sem 𝓛 (lends_found K V key eq t e (absent_as_none u)))
+same_loan {𝓤 = 𝓤} 𝓛 K V key eq t e (Ok x) = id⊢ 𝓤 _
+same_loan {𝓤 = 𝓤} 𝓛 K V key eq t e (Err find.Memory) = id⊢ 𝓤 _
+same_loan {𝓤 = 𝓤} 𝓛 K V key eq t e (Err find.Absent) = id⊢ 𝓤 _
 
 module _ {M : Type 1} {𝓤 : Ura M} (𝓛 : Logic 𝓤) (t₀ t₁ t₂ t₃ t₄ : Fml) where
   -- all tokens
   abbrev All : SProp 𝓤
   All = sep 𝓤 (sem 𝓛 t₀) (sep 𝓤 (sem 𝓛 t₁) (sep 𝓤 (sem 𝓛 t₂) (sep 𝓤 (sem 𝓛 t₃) (sep 𝓤 (sem 𝓛 t₄) (sem 𝓛 ftrue)))))
 
-  -- the tokens that the second call takes
+  -- those that the second call takes
   abbrev Taken : SProp 𝓤
   Taken = sep 𝓤 (sem 𝓛 t₀) (sep 𝓤 (sem 𝓛 t₃) (sem 𝓛 ftrue))
 
@@ -108,53 +110,17 @@ module _ {M : Type 1} {𝓤 : Ura M} (𝓛 : Logic 𝓤) (t₀ t₁ t₂ t₃ t�
   abbrev Left : SProp 𝓤
   Left = sep 𝓤 (sem 𝓛 t₁) (sep 𝓤 (sem 𝓛 t₂) (sem 𝓛 t₄))
 
-  -- what the first call leaves
-  first_leaves : (own loan : Fml) (X : Type 0) (last : X → Fml) (A B C : Type 0)
-      → ent 𝓤 (sep 𝓤 (sep 𝓤 All (sem 𝓛 own)) (ex 𝓤 (λ (ws : X). sep 𝓤 (sem 𝓛 (last ws)) (sep 𝓤 (sem 𝓛 loan) (sep 𝓤 (fact 𝓤 A) (sep 𝓤 (fact 𝓤 B) (fact 𝓤 C)))))))
-      (sep 𝓤 (sem 𝓛 own) (sep 𝓤 Taken (sep 𝓤 Left (sep 𝓤 (sem 𝓛 loan) (fact 𝓤 (A × B × C))))))
-  first_leaves own loan X last A B C =
-      qed 𝓛 ((((‵ t₀ ⊛ ‵ t₁ ⊛ ‵ t₂ ⊛ ‵ t₃ ⊛ ‵ t₄ ⊛ ‵ ftrue) ⊛ ‵ own) ⊛ some (λ (ws : X). ‵ (last ws) ⊛ ‵ loan ⊛ raw (fact 𝓤 A) ⊛ raw (fact 𝓤 B) ⊛ raw (fact 𝓤 C))) ∷ []) ∵
-      split ! $ move ! (1 ∷ []) $ pick ! (λ ws. split ! $ drop ! $ split ! $ move ! (1 ∷ []) $ split ! $ heard ! _ (λ a. split ! $ heard ! _ (λ b. heard ! _ (λ c.
-      move ! (1 ∷ []) $ split ! $ split ! $ move ! (1 ∷ []) $ split ! $ move ! (1 ∷ []) $ split ! $ move ! (1 ∷ []) $ split ! $ move ! (1 ∷ []) $ split ! $
-      -- [t₄; nothing; t₃; t₂; t₁; t₀; the result; the loan]
-      use0 𝓛 (raw (fact 𝓤 (A × B × C))) (fact_i 𝓤 _ (emp 𝓤) (a, b, c)) $ move ! (8 ∷ 0 ∷ []) $ join ! $
-      move ! (4 ∷ 1 ∷ []) $ join ! $ move ! (4 ∷ 0 ∷ []) $ join ! $ join ! $ move ! (2 ∷ 1 ∷ []) $ join ! $ move ! (2 ∷ 0 ∷ []) $ join ! $ join ! $ move ! (1 ∷ []) $ done !))))
+  apart : ent 𝓤 All (sep 𝓤 Taken Left)
+  apart =
+      qed 𝓛 ((‵ t₀ ⊛ ‵ t₁ ⊛ ‵ t₂ ⊛ ‵ t₃ ⊛ ‵ t₄ ⊛ ‵ ftrue) ∷ []) ∵ split ! $ move ! (1 ∷ []) $ split ! $ move ! (1 ∷ []) $ split ! $ move ! (1 ∷ []) $ split ! $ move ! (1 ∷ []) $ split ! $
+      -- [t₄; nothing; t₃; t₂; t₁; t₀]
+      move ! (3 ∷ 0 ∷ []) $ join ! $ move ! (3 ∷ 0 ∷ []) $ join ! $ move ! (2 ∷ 1 ∷ []) $ join ! $ move ! (2 ∷ 0 ∷ []) $ join ! $ done !
 
-  -- what the second call wants
-  second_wants : (own : Fml) (φ : Type 0) → φ → (R : SProp 𝓤)
-      → ent 𝓤 (sep 𝓤 (sem 𝓛 own) (sep 𝓤 Taken R)) (sep 𝓤 (sep 𝓤 (sep 𝓤 Taken (sep 𝓤 (sem 𝓛 own) (sem 𝓛 ftrue))) (sep 𝓤 (fact 𝓤 φ) (sem 𝓛 ftrue))) R)
-  second_wants own φ holds R =
-      qed 𝓛 (‵ own ∷ (raw Taken ⊛ raw R) ∷ []) ∵ nothing ! $ move ! (1 ∷ 0 ∷ []) $ join ! $ move ! (1 ∷ []) $ split ! $ move ! (0 ∷ 2 ∷ []) $ join ! $
-      nothing ! $ use0 𝓛 (raw (fact 𝓤 φ)) (fact_i 𝓤 _ (emp 𝓤) holds) $ join ! $ move ! (1 ∷ []) $ join ! $ done !
-
-  -- what the second call leaves
-  second_leaves : (own : Fml) (X : Type 0) (last : X → Fml) (A : Type 0)
-      → ent 𝓤 (sep 𝓤 (sep 𝓤 Taken (sem 𝓛 own)) (ex 𝓤 (λ (ws : X). sep 𝓤 (sem 𝓛 (last ws)) (fact 𝓤 A)))) (sep 𝓤 (sem 𝓛 own) (sep 𝓤 Taken (fact 𝓤 A)))
-  second_leaves own X last A =
-      qed 𝓛 (((raw Taken ⊛ ‵ own) ⊛ some (λ (ws : X). ‵ (last ws) ⊛ raw (fact 𝓤 A))) ∷ []) ∵
-      split ! $ move ! (1 ∷ []) $ pick ! (λ ws. split ! $ drop ! $ move ! (1 ∷ []) $ split ! $ move ! (0 ∷ 2 ∷ []) $ join ! $ move ! (1 ∷ []) $ done !)
-
-  -- all tokens again, beside the result and the loan
-  all_again : (own : Fml) (R : SProp 𝓤) → ent 𝓤 (sep 𝓤 Taken (sep 𝓤 (sem 𝓛 own) (sep 𝓤 Left R))) (sep 𝓤 (sep 𝓤 All (sep 𝓤 (sep 𝓤 (sem 𝓛 ftrue) (sep 𝓤 (sem 𝓛 ftrue) (sem 𝓛 ftrue))) (sem 𝓛 own))) R)
-  all_again own R =
-      qed 𝓛 ((‵ t₀ ⊛ ‵ t₃ ⊛ ‵ ftrue) ∷ ‵ own ∷ ((‵ t₁ ⊛ ‵ t₂ ⊛ ‵ t₄) ⊛ raw R) ∷ []) ∵
-      split ! $ move ! (1 ∷ []) $ split ! $ move ! (4 ∷ []) $ split ! $ split ! $ move ! (1 ∷ []) $ split ! $
-      -- [t₂; t₄; t₁; R; t₃; nothing; t₀; the result]
-      move ! (1 ∷ 5 ∷ []) $ join ! $ move ! (4 ∷ 0 ∷ []) $ join ! $ move ! (1 ∷ 0 ∷ []) $ join ! $ move ! (1 ∷ 0 ∷ []) $ join ! $ move ! (2 ∷ 0 ∷ []) $ join ! $
-      -- [the tokens; R; the result]
-      move ! (2 ∷ []) $ nothing ! $ nothing ! $ join ! $ nothing ! $ join ! $ join ! $ move ! (1 ∷ 0 ∷ []) $ join ! $ done !
-
-  -- what both calls leave is what the contract says
-  both_leave : (own loan loan' : Fml) (S A B C : Type 0) → (S → loan ≡ loan') → (S → A → B × C)
-      → ent 𝓤 (sep 𝓤 (sem 𝓛 own) (sep 𝓤 (sep 𝓤 Taken (fact 𝓤 S)) (sep 𝓤 Left (sep 𝓤 (sem 𝓛 loan) (fact 𝓤 A)))))
-      (sep 𝓤 (sep 𝓤 All (sep 𝓤 (sep 𝓤 (sem 𝓛 ftrue) (sep 𝓤 (sem 𝓛 ftrue) (sem 𝓛 ftrue))) (sem 𝓛 own))) (sep 𝓤 (sem 𝓛 loan') (sep 𝓤 (fact 𝓤 B) (fact 𝓤 C))))
-  both_leave own loan loan' S A B C same tells =
-      let R : SProp 𝓤 = sep 𝓤 (sem 𝓛 loan') (sep 𝓤 (fact 𝓤 B) (fact 𝓤 C)) in
-      qed 𝓛 (‵ own ∷ (raw Taken ⊛ raw (fact 𝓤 S)) ∷ (raw Left ⊛ ‵ loan ⊛ raw (fact 𝓤 A)) ∷ []) ∵
-      move ! (1 ∷ []) $ split ! $ move ! (1 ∷ []) $ heard ! _ (λ s. move ! (2 ∷ []) $ split ! $ move ! (1 ∷ []) $ split ! $ move ! (1 ∷ []) $ heard ! _ (λ a.
-      rewrite ! 0 (λ (X : Fml). ‵ X) (same s) refl $
-      use0 𝓛 (raw (fact 𝓤 C)) (fact_i 𝓤 _ (emp 𝓤) (tells s a).1) $ use0 𝓛 (raw (fact 𝓤 B)) (fact_i 𝓤 _ (emp 𝓤) (tells s a).0) $ join ! $ move ! (1 ∷ 0 ∷ []) $ join ! $
-      move ! (1 ∷ 0 ∷ []) $ join ! $ move ! (1 ∷ 2 ∷ 0 ∷ []) $ use3 𝓛 (raw (sep 𝓤 (sep 𝓤 All (sep 𝓤 (sep 𝓤 (sem 𝓛 ftrue) (sep 𝓤 (sem 𝓛 ftrue) (sem 𝓛 ftrue))) (sem 𝓛 own))) R)) (all_again own R) $ done !))
+  whole : ent 𝓤 (sep 𝓤 Taken Left) All
+  whole =
+      qed 𝓛 ((‵ t₀ ⊛ ‵ t₃ ⊛ ‵ ftrue) ∷ (‵ t₁ ⊛ ‵ t₂ ⊛ ‵ t₄) ∷ []) ∵ split ! $ move ! (1 ∷ []) $ split ! $ move ! (3 ∷ []) $ split ! $ move ! (1 ∷ []) $ split ! $
+      -- [t₂; t₄; t₁; t₃; nothing; t₀]
+      move ! (1 ∷ 4 ∷ []) $ join ! $ move ! (3 ∷ 0 ∷ []) $ join ! $ move ! (1 ∷ 0 ∷ []) $ join ! $ move ! (1 ∷ 0 ∷ []) $ join ! $ move ! (1 ∷ 0 ∷ []) $ join ! $ done !
 
 pub get_mut_spec : {M : Type 1} → statement M
 unfolding tables_of
@@ -188,18 +154,23 @@ get_mut_spec 𝓤 𝓛 𝓜 𝓡 wired K V Q LK LV LQ key d equal d' eq d'' key�
     let z : Fm.Ghost = ((κs, qs, bounds, a, (mut_vals r, (shr_vals a.1.0, tt))), tt) in
     let t₀ = flft κ qs.0 in let t₁ = flft κs.1.0 qs.1.0 in let t₂ = flft κs.1.1.0 qs.1.1.0 in let t₃ = flft κs.1.1.1.0 qs.1.1.1.0 in let t₄ = flft κs.1.1.1.1.0 qs.1.1.1.1.0 in
     let fm-ended : Ended = fm.ended K V Q key d equal d' eq d'' key₂ d₂ equal₂ d₂' eq₂ d₂'' in
-    let Loan = λ (u : Result (MutBor V.Denot) FindError). lends_if_ok (param 0 K) (param 1 V) key eq r e u in
-    let Value = λ (u : Result (MutBor V.Denot) FindError). IfOk u (λ x. w ≡ Some x.now) in
-    let Absent = λ (u : Result (MutBor V.Denot) FindError). IfErr u (λ x. x ≡ find.Absent → w ≡ None) in
-    let Is-light = λ (u : Result (MutBor V.Denot) FindError). Light → IfErr u (λ x. x ≡ find.Absent) in
-    let First = λ (u : Result (MutBor V.Denot) FindError) (v : Val). sep 𝓤 (sep 𝓤 (All 𝓛 t₀ t₁ t₂ t₃ t₄) (sem 𝓛 (Found.own_val u (v ∷ []))))
-    (ex 𝓤 (λ (ws : Lasts fm-ended κs a). sep 𝓤 (sem 𝓛 (lasts fm-ended κs a ws)) (sep 𝓤 (sem 𝓛 (Loan u)) (sep 𝓤 (fact 𝓤 (Value u)) (sep 𝓤 (fact 𝓤 (Absent u)) (fact 𝓤 (Is-light u))))))) in
-    let Kept = λ (u : Result (MutBor V.Denot) FindError). sep 𝓤 (Left 𝓛 t₀ t₁ t₂ t₃ t₄) (sep 𝓤 (sem 𝓛 (Loan u)) (fact 𝓤 (Value u × Absent u × Is-light u))) in
-    let After = λ (u : Result (MutBor V.Denot) FindError). sep 𝓤 (Taken 𝓛 t₀ t₁ t₂ t₃ t₄) (Kept u) in
+    let Result₁ : Type 0 = Result (MutBor V.Denot) FindError in
+    let Result₂ : Type 0 = Result (Option (MutBor V.Denot)) Memory in
+    let all = All 𝓛 t₀ t₁ t₂ t₃ t₄ in let taken = Taken 𝓛 t₀ t₁ t₂ t₃ t₄ in let left = Left 𝓛 t₀ t₁ t₂ t₃ t₄ in
+    let an-ended : Ended = an.ended V in
+    let Loan = λ (u : Result₁). lends_if_ok (param 0 K) (param 1 V) key eq r e u in
+    let Value = λ (u : Result₁). IfOk u (λ x. w ≡ Some x.now) in
+    let said : Result₁ → List (Type 0) = λ u. IfErr u (λ x. x ≡ find.Absent → w ≡ None) ∷ (Light → IfErr u (λ x. x ≡ find.Absent)) ∷ [] in
+    let Tells = λ (u : Result₂). IfOk u (λ found. option_copied_mut found ≡ w) in
+    let tells : Result₂ → List (Type 0) = λ u. (Light → IsOk u) ∷ [] in
+    let First = λ (u : Result₁) (v : Val). sep 𝓤 (sep 𝓤 all (sem 𝓛 (Found.own_val u (v ∷ []))))
+    (ex 𝓤 (λ (ws : Lasts fm-ended κs a). sep 𝓤 (sem 𝓛 (lasts fm-ended κs a ws)) (sep 𝓤 (sem 𝓛 (Loan u)) (facts 𝓤 (Value u) (said u))))) in
+    let Kept = λ (u : Result₁). sep 𝓤 left (sep 𝓤 (sem 𝓛 (Loan u)) (fact 𝓤 (Both (Value u) (said u)))) in
     let κs₂ : Lfts 2 = (κ, (κs.1.1.1.0, tt)) in
-    let z₂ : Result (MutBor V.Denot) FindError → Val → An.Ghost = λ u v. ((κs₂, (qs.0, (qs.1.1.1.0, tt)), (bounds.1.0, tt), (u, tt), (v ∷ [], tt)), tt) in
-    let Second = λ (u : Result (MutBor V.Denot) FindError) (u₂ : Result (Option (MutBor V.Denot)) Memory) (v₂ : Val). sep 𝓤 (sep 𝓤 (Taken 𝓛 t₀ t₁ t₂ t₃ t₄) (sem 𝓛 (Told.own_val u₂ (v₂ ∷ []))))
-    (ex 𝓤 (λ (ws : Lasts (an.ended V) κs₂ (u, tt)). sep 𝓤 (sem 𝓛 (lasts (an.ended V) κs₂ (u, tt) ws)) (fact 𝓤 (u₂ ≡ absent_as_none u)))) in
+    let z₂ : Result₁ → Val → An.Ghost = λ u v. ((κs₂, (qs.0, (qs.1.1.1.0, tt)), (bounds.1.0, tt), (u, tt), (v ∷ [], tt)), tt) in
+    let Given : SProp 𝓤 = sep 𝓤 (fact 𝓤 (κs.1.1.1.0 ⊑ V.lives)) (sem 𝓛 ftrue) in
+    let Second = λ (u : Result₁) (u₂ : Result₂) (v₂ : Val). sep 𝓤 (sep 𝓤 taken (sem 𝓛 (Told.own_val u₂ (v₂ ∷ []))))
+    (ex 𝓤 (λ (ws : Lasts an-ended κs₂ (u, tt)). sep 𝓤 (sem 𝓛 (lasts an-ended κs₂ (u, tt) ws)) (fact 𝓤 (u₂ ≡ absent_as_none u)))) in
     qed 𝓛 (raw (on_entry 𝓛 ended.signature κs qs a y'.0.4) ∷ (raw (fact 𝓤 (κs.1.1.0 ⊑ K.lives)) ⊛ raw (fact 𝓤 (κs.1.1.1.0 ⊑ V.lives)) ⊛ raw (fact 𝓤 (κs.1.1.1.1.0 ⊑ Q.lives)) ⊛ ‵ ftrue) ∷ []) ∵
     move ! (1 ∷ []) $ split ! $ heard ! _ (λ inK. split ! $ heard ! _ (λ inV. split ! $ heard ! _ (λ inQ. drop ! $
     nothing ! $ use0 𝓛 (raw (fact 𝓤 (κs.1.1.1.1.0 ⊑ Q.lives))) (fact_i 𝓤 _ (emp 𝓤) inQ) $ join ! $
@@ -210,25 +181,24 @@ get_mut_spec 𝓤 𝓛 𝓜 𝓡 wired K V Q LK LV LQ key d equal d' eq d'' key�
     sets ! (addr ! (through ! refl (stop !))) refl (tt, tt) $
     calls_at ! (framed 𝓤 𝓛.H 𝓜 (tables 𝓤 𝓛.H 𝓜 𝓡 𝓡.env)) Fm (find_mut_met 𝓤 𝓛 𝓜 𝓡 (code.calls-radix_trie::trie::Trie::find_mut 𝓡.env wired) K V Q LK LV LQ key d equal d' eq d'' key₂ d₂ equal₂ d₂' eq₂ d₂'' met met' met'' met₂ met₂' met₂'') z
     (and_then ! (get ! refl) (and_then ! (get ! refl) (no_more !))) (λ v.
-    use1 𝓛 (later (some (λ (u : Result (MutBor V.Denot) FindError). raw (First u v)))) (id⊢ 𝓤 _) $
+    use1 𝓛 (later (some (λ (u : Result₁). raw (First u v)))) (id⊢ 𝓤 _) $
     await ! tt $ pick ! (λ u.
-    use1 𝓛 (‵ (Found.own_val u (v ∷ [])) ⊛ raw (After u)) (first_leaves 𝓛 t₀ t₁ t₂ t₃ t₄ (Found.own_val u (v ∷ [])) (Loan u) (Lasts fm-ended κs a) (lasts fm-ended κs a) (Value u) (Absent u) (Is-light u)) $ split ! $
+    use1 𝓛 (‵ (Found.own_val u (v ∷ [])) ⊛ raw (sep 𝓤 taken (Kept u))) (first_leaves 𝓛 all taken left (apart 𝓛 t₀ t₁ t₂ t₃ t₄) (Found.own_val u (v ∷ [])) (Loan u) (Lasts fm-ended κs a) (lasts fm-ended κs a) (Value u) (said u)) $ split ! $
     peeks ! Found (Is Found) (shows 𝓛 Found) u (v ∷ []) (λ is.
     lands_as ! refl refl ((found_laws.lawful 𝓛).typed u (v ∷ []) is).0 $
-    use2 𝓛 (raw (An.pre (z₂ u v)) ⊛ raw (Kept u)) (second_wants 𝓛 t₀ t₁ t₂ t₃ t₄ (Found.own_val u (v ∷ [])) (κs.1.1.1.0 ⊑ V.lives) inV (Kept u)) $ split ! $
+    use2 𝓛 (raw (An.pre (z₂ u v)) ⊛ raw (Kept u)) (second_wants 𝓛 all taken left (Found.own_val u (v ∷ [])) Given (qed 𝓛 [] ∵ nothing ! $ use0 𝓛 (raw (fact 𝓤 (κs.1.1.1.0 ⊑ V.lives))) (fact_i 𝓤 _ (emp 𝓤) inV) $ join ! $ done !) (Kept u)) $ split ! $
     calls_at ! (framed 𝓤 𝓛.H 𝓜 (tables 𝓤 𝓛.H 𝓜 𝓡 𝓡.env)) An (absent_as_none_met 𝓤 𝓛 𝓜 𝓡 (code.calls-radix_trie::trie::lookups_mut::absent_as_none 𝓡.env wired) V LV) (z₂ u v)
     (and_then ! (get ! refl) (no_more !)) (λ v₂.
-    use1 𝓛 (later (some (λ (u₂ : Result (Option (MutBor V.Denot)) Memory). raw (Second u u₂ v₂)))) (id⊢ 𝓤 _) $
+    use1 𝓛 (later (some (λ (u₂ : Result₂). raw (Second u u₂ v₂)))) (id⊢ 𝓤 _) $
     await ! tt $ pick ! (λ u₂.
-    use1 𝓛 (‵ (Told.own_val u₂ (v₂ ∷ [])) ⊛ raw (sep 𝓤 (Taken 𝓛 t₀ t₁ t₂ t₃ t₄) (fact 𝓤 (u₂ ≡ absent_as_none u)))) (second_leaves 𝓛 t₀ t₁ t₂ t₃ t₄ (Told.own_val u₂ (v₂ ∷ [])) (Lasts (an.ended V) κs₂ (u, tt)) (lasts (an.ended V) κs₂ (u, tt)) (u₂ ≡ absent_as_none u)) $ split ! $
+    use1 𝓛 (‵ (Told.own_val u₂ (v₂ ∷ [])) ⊛ raw (sep 𝓤 taken (fact 𝓤 (u₂ ≡ absent_as_none u)))) (second_leaves 𝓛 all taken left (Told.own_val u₂ (v₂ ∷ [])) (Lasts an-ended κs₂ (u, tt)) (lasts an-ended κs₂ (u, tt)) (u₂ ≡ absent_as_none u)) $ split ! $
     peeks ! Told (Is Told) (shows 𝓛 Told) u₂ (v₂ ∷ []) (λ is₂.
     lands_as ! refl refl ((told_laws.lawful 𝓛).typed u₂ (v₂ ∷ []) is₂).0 $
     returns ! (look_at ! 0 refl) $ free_all ! refl $
     suffices ! _ (ends_at 𝓛 ended stayed c y' v₂ u₂ (tt, (tt, tt)) (tt, (tt, tt))) $
-    use3 𝓛 (raw (sep 𝓤 (sep 𝓤 (All 𝓛 t₀ t₁ t₂ t₃ t₄) (sep 𝓤 (sep 𝓤 (sem 𝓛 ftrue) (sep 𝓤 (sem 𝓛 ftrue) (sem 𝓛 ftrue))) (sem 𝓛 (Told.own_val u₂ (v₂ ∷ [])))))
-    (sep 𝓤 (sem 𝓛 (lends_found (param 0 K) (param 1 V) key eq r e u₂)) (sep 𝓤 (fact 𝓤 (IfOk u₂ (λ found. option_copied_mut found ≡ w))) (fact 𝓤 (Light → IsOk u₂))))))
-    (both_leave 𝓛 t₀ t₁ t₂ t₃ t₄ (Told.own_val u₂ (v₂ ∷ [])) (Loan u) (lends_found (param 0 K) (param 1 V) key eq r e u₂) (u₂ ≡ absent_as_none u) (Value u × Absent u × Is-light u)
-    (IfOk u₂ (λ found. option_copied_mut found ≡ w)) (Light → IsOk u₂)
-    (λ same. same_loan (param 0 K) (param 1 V) key eq r e u ∙ ap (lends_found (param 0 K) (param 1 V) key eq r e) (sym same))
-    (λ same said. subst (λ (x : Result (Option (MutBor V.Denot)) Memory). IfOk x (λ found. option_copied_mut found ≡ w) × (Light → IsOk x)) (sym same) (found_as_none w u said.0 said.1, ok_as_none Light u said.2))) $
+    use3 𝓛 (raw (sep 𝓤 (sep 𝓤 all (sep 𝓤 (sep 𝓤 (sem 𝓛 ftrue) (sep 𝓤 (sem 𝓛 ftrue) (sem 𝓛 ftrue))) (sem 𝓛 (Told.own_val u₂ (v₂ ∷ [])))))
+    (sep 𝓤 (sem 𝓛 (lends_found (param 0 K) (param 1 V) key eq r e u₂)) (facts 𝓤 (Tells u₂) (tells u₂)))))
+    (both_leave 𝓛 all taken left (whole 𝓛 t₀ t₁ t₂ t₃ t₄) (Told.own_val u₂ (v₂ ∷ [])) (Loan u) (lends_found (param 0 K) (param 1 V) key eq r e u₂) (u₂ ≡ absent_as_none u) (Both (Value u) (said u)) (Tells u₂) (tells u₂)
+    (λ same. subst (λ (x : Result₂). ent 𝓤 (sem 𝓛 (Loan u)) (sem 𝓛 (lends_found (param 0 K) (param 1 V) key eq r e x))) (sym same) (same_loan 𝓛 (param 0 K) (param 1 V) key eq r e u))
+    (λ same s. subst (λ (x : Result₂). Both (Tells x) (tells x)) (sym same) (found_as_none w u s.0 s.1.0, ok_as_none Light u s.1.1))) $
     done !)))))))))))))

@@ -2,8 +2,8 @@
 use mir.Syntax.{named}
 use denote.Ref.{MutRef}
 use mathlib.Core.Option as maybe
-use Rattle.std.specs.Prelude.{◌≡◌, ℕ, List, [], None, Some, Option, Result}
-use Rattle.std.specs.Borrow.{Fml, GName, RattleType, MutBor, LendsIf, LendsIfOk, LendsSoOk, RestsIfErr, follows_if, name_if_some}
+use Rattle.std.specs.Prelude.{◌≡◌, ℕ, List, [], None, Some, Option, Result, ⊤}
+use Rattle.std.specs.Borrow.{Fml, GName, RattleType, MutBor, LendsIf, LendsIfOk, LendsSoOk, RestsIfErr, follows_if, follows_so, name_if_some}
 use Rattle.std.specs.declared.result.Result.TheVariants.{Ok, Err}
 use Rattle.nibble_map.specs.Maps.{PairMap, with_value}
 use Rattle.radix_keys.specs.declared.keys.TrieKey as keys
@@ -53,6 +53,10 @@ module _ (K V : RattleType) (key : keys.Ghosts K.Denot) (eq : eqs.Ghosts K.Denot
       → Result (Option (SubTrieMut K.Denot V.Denot NibbleVec)) E → Fml
   rests_if_none t r =
       follows_if trie_row trie_row t.ghost_name (name_if_found lender_of r) (λ n. n) t.now
+
+  -- the trie of the reference named γ ends as m
+  abbrev pub stays_as : GName → PairMap K.Denot V.Denot → Fml
+  stays_as γ m = follows_so trie_row trie_row γ maybe.none (λ _ _. ⊤) (λ n. n ≡ m)
 
   abbrev pub view_row : RattleType
   view_row = view.the_row (record { mir = named 1; lft = [] }) K V nibble_vec.the_row key eq

@@ -23,8 +23,8 @@ impl<K: TrieKey, V> Trie<K, V> {
         self.at_mut(&top)
     }
 
-    /// The value at the key's encoding, for writing, or that it is absent. A caller learns from this
-    /// call what the trie ends as, which `get_mut` can't tell.
+    /// The value at the key's encoding, for writing, or that it is absent. A caller's proof learns
+    /// from this call what the trie ends as.
     ///
     /// # Errors
     ///

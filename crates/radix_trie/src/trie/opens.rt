@@ -48,8 +48,8 @@ impl<K: TrieKey, V> Trie<K, V> {
         Ok(Some((path, fragment)))
     }
 
-    /// The view for writing at the key's encoding. A caller learns from this call what the trie
-    /// ends as, which `subtrie_mut` can't tell.
+    /// The view for writing at the key's encoding. A caller's proof learns from this call what the
+    /// trie ends as.
     ///
     /// # Errors
     ///

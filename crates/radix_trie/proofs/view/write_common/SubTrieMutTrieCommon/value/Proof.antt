@@ -7,7 +7,7 @@ use mir.MapTy.{inst_fn}
 use mir.Val.{Val, WT, has_ty}
 use base.Fml.{Fml, GName, ftrue, flft}
 use base.Logic.{SProp, ent, sep, ex, emp, id⊢}
-use types.Logic.{Logic, sem}
+use types.Logic.{sem}
 use prog.Wp.{Tables, WpFn}
 use types.Kit.{‵, raw, ◌⊛◌, some, later, ◌$◌, ◌∵◌, !, qed, move, drop, use0, use1, use2, split, join, pick, await, suffices, done}
 use types.Run.{enter, of_opd, addr, from, stop, fld, hop, no_more, and_then, returns}

@@ -13,6 +13,10 @@ pub mod WalkLemmas
 pub mod LawLemmas
 -- A view for writing that is borrowed: its parts.
 pub mod ViewLemmas
+-- A call that says another call's result a second way.
+pub mod NestedLemmas
+-- A view for writing that is spent.
+pub mod SpentLemmas
 -- Objects and tries that are built of each other, and the order of texts.
 pub mod JsonLemmas
 -- Steps over no command, and steps between equal maps.

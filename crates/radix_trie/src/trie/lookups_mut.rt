@@ -4,7 +4,7 @@ ghost use Rattle.std.specs.Option.{option_copied_mut};
 ghost use Rattle.std.specs.Prelude.{◌≡◌, [], None, Some, IsOk, IfOk, IfErr};
 ghost use Rattle.nibble_map.specs.MapQueries.{IsAncestor};
 ghost use Rattle.nibble_map.specs.Maps.{value_at};
-ghost use Rattle.radix_trie.specs.Lends.{lends_above, lends_at, lends_if_ok};
+ghost use Rattle.radix_trie.specs.Lends.{absent_as_none, lends_above, lends_at, lends_found, lends_if_ok};
 ghost use Rattle.radix_trie.specs.Views.{IsValueAbove};
 
 use crate::error::FindError;
@@ -23,8 +23,8 @@ impl<K: TrieKey, V> Trie<K, V> {
         self.at_mut(&top)
     }
 
-    /// The value at the key's encoding, for writing, or that it is absent. A caller learns from this
-    /// call what the trie ends as, which `get_mut` can't tell.
+    /// The value at the key's encoding, for writing, or that it is absent. A caller's proof learns
+    /// from this call what the trie ends as.
     ///
     /// # Errors
     ///
@@ -93,22 +93,32 @@ impl<K: TrieKey, V> Trie<K, V> {
 
     /// The value at the key's encoding, for writing, or None where none is stored there.
     ///
-    /// What the trie is once the value has been written no contract can tell through this result;
-    /// where that matters, take `find_mut`.
+    /// Once the value has been written, the trie has it there, and all else is as before. A caller's
+    /// proof learns that from `find_mut` alone.
     ///
     /// # Errors
     ///
     /// Memory for the encoding is refused, which a light key never meets. The trie is as before
     /// then.
     pub fn get_mut<Q: TrieKey>(&mut self, key: &Q) -> Result<Option<&mut V>, Memory>
+        ensures* writes_back { sem 𝓛
+            (lends_found K.row V.row K.TrieKey.own K.PartialEq.own self.entry
+            (Q.encoding key.now) result) }
         ensures value { IfOk result (λ found. option_copied_mut found
             ≡ value_at self.old (Q.encoding key.now)) }
         ensures light { Q.is_light key.now → IsOk result }
     {
-        let list = key.encode(self.allocator())?;
-        match self.at_mut(&list) {
-            Some(value) => Ok(Some(value)),
-            None => Ok(None),
-        }
+        absent_as_none(self.find_mut(key))
+    }
+}
+
+/// The same result, in which None says what `Absent` says.
+fn absent_as_none<'a, V>(found: Result<&'a mut V, FindError>) -> Result<Option<&'a mut V>, Memory>
+    ensures same { result ≡ absent_as_none found.entry }
+{
+    match found {
+        Ok(value) => Ok(Some(value)),
+        Err(FindError::Memory) => Err(Memory),
+        Err(FindError::Absent) => Ok(None),
     }
 }

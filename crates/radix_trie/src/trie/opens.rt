@@ -4,7 +4,7 @@ ghost use Rattle.std.specs.Prelude.{◌≡◌, IsOk, IfOk, IfErr, IfSome, MatchO
 ghost use Rattle.nibble_map.specs.MapQueries.{IsFragment};
 ghost use Rattle.nibble_map.specs.Maps.{IsPoint};
 ghost use Rattle.radix_nodes.specs.Nodes.{fragment_of, tree_of};
-ghost use Rattle.radix_trie.specs.Lends.{rests_if_err};
+ghost use Rattle.radix_trie.specs.Lends.{closed_as_none, rests_if_err, rests_if_none};
 ghost use Rattle.radix_trie.specs.Places.{IsNodeOf};
 ghost use Rattle.radix_trie.specs.WriteViews.{map_behind, path_of, prefix_of, lender_of};
 
@@ -48,8 +48,8 @@ impl<K: TrieKey, V> Trie<K, V> {
         Ok(Some((path, fragment)))
     }
 
-    /// The view for writing at the key's encoding. A caller learns from this call what the trie
-    /// ends as, which `subtrie_mut` can't tell.
+    /// The view for writing at the key's encoding. A caller's proof learns from this call what the
+    /// trie ends as.
     ///
     /// # Errors
     ///
@@ -81,17 +81,18 @@ impl<K: TrieKey, V> Trie<K, V> {
 
     /// The view for writing at the key's encoding, or None where no point stands there.
     ///
-    /// What a view from here leaves in the trie no contract can tell; where that matters, open it
-    /// by `open_mut`.
+    /// The trie ends as the view leaves it. A caller's proof learns that from `open_mut` alone.
     ///
     /// # Errors
     ///
     /// Memory for the path and the fragment that the view keeps is refused, which a light key never
-    /// meets.
+    /// meets. The trie is as before then.
     pub fn subtrie_mut<Q: TrieKey>(
         &mut self,
         key: &Q,
     ) -> Result<Option<SubTrieMut<'_, K, V>>, Memory>
+        ensures* rests { sem 𝓛
+            (rests_if_none K.row V.row K.TrieKey.own K.PartialEq.own self.entry result) }
         ensures map { IfOk result (λ o. IfSome o (λ view. map_behind view ≡ self.old)) }
         ensures path { IfOk result (λ o. IfSome o (λ view. path_of view ≡ Q.encoding key.now)) }
         ensures prefix { IfOk result
@@ -103,9 +104,19 @@ impl<K: TrieKey, V> Trie<K, V> {
             (λ _. IsPoint self.old (Q.encoding key.now))) }
         ensures light { Q.is_light key.now → IsOk result }
     {
-        let Some((path, prefix)) = self.place_of(key)? else {
-            return Ok(None);
-        };
-        Ok(Some(SubTrieMut::at(self, path, prefix)))
+        closed_as_none(self.open_mut(key))
+    }
+}
+
+/// The same result, in which None says what `Closed` says.
+fn closed_as_none<'a, K: TrieKey, V>(
+    opened: Result<SubTrieMut<'a, K, V>, OpenError>,
+) -> Result<Option<SubTrieMut<'a, K, V>>, Memory>
+    ensures same { result ≡ closed_as_none opened.entry }
+{
+    match opened {
+        Ok(view) => Ok(Some(view)),
+        Err(OpenError::Memory) => Err(Memory),
+        Err(OpenError::Closed) => Ok(None),
     }
 }

@@ -1,19 +1,25 @@
 //! What views for writing have in common with tries and views for reading.
+ghost use Rattle.std.specs.Borrow.{sem};
 ghost use Rattle.std.specs.FinMap as finite;
-ghost use Rattle.std.specs.Prelude.{◌≡◌, ◌↔◌, ℕ, List, IsTrue, IsOk, IfOk};
+ghost use Rattle.std.specs.Prelude.{◌≡◌, ◌-◌, ◌↔◌, ℕ, List, IsTrue, IsOk, IfOk, length, option_copied, option_map, slice_get};
 ghost use Rattle.nibble_map.specs.MapQueries.{IsLeaf};
-ghost use Rattle.nibble_map.specs.Maps.{below};
+ghost use Rattle.nibble_map.specs.Maps.{below, value_at};
 ghost use Rattle.nibble_map.specs.Nibbles.{IsShort};
-ghost use Rattle.radix_trie.specs.WriteViews.{map_behind, kept_path, kept_prefix, path_of, prefix_of};
+ghost use Rattle.radix_trie.specs.Lends.{stays_as};
+ghost use Rattle.radix_trie.specs.Views.{pairs_below};
+ghost use Rattle.radix_trie.specs.Walks.{deref_pair};
+ghost use Rattle.radix_trie.specs.WriteViews.{map_behind, kept_path, kept_prefix, lender_of, path_of, prefix_of};
 
 use crate::iter::{Cursor, CursorBack, Iter, Keys, Values};
 use crate::view::place::Place;
-use crate::view::subtrie_mut::{PathList, SubTrieMut};
+use crate::view::subtrie_mut::{
+    PathList, SubTrieMut, first_within, key_within, last_within, value_within,
+};
 use crate::view::trie_common::TrieCommon;
 use radix_keys::{Memory, Nibblet, TrieKey};
 
 // The view is spent: its reference for writing becomes one for reading, so what is returned lasts as long as the
-// trie's borrow. Where nothing is returned, the trie is known to stay as it is (`kept`).
+// trie's borrow. Where nothing is returned, or references alone, the trie is known to stay as it is (`kept`).
 impl<'a, K: TrieKey, V, P: PathList> TrieCommon<'a, K, V> for SubTrieMut<'a, K, V, P> {
     ghost map = { map_behind };
 
@@ -21,14 +27,26 @@ impl<'a, K: TrieKey, V, P: PathList> TrieCommon<'a, K, V> for SubTrieMut<'a, K, 
 
     ghost is_prefix = { λ v f. f ≡ P.list (kept_prefix v) };
 
-    fn key(self) -> Option<&'a K> {
-        let (trie, path) = self.into_parts();
-        Place::find(trie, path.nibbles()).key()
+    fn key(self) -> Option<&'a K>
+        ensures* kept { sem 𝓛
+            (stays_as K.row V.row K.TrieKey.own K.PartialEq.own (lender_of self.entry)
+            (map_behind self.entry)) }
+        ensures key { option_copied result ≡ option_map (λ p. p.0)
+            (finite.get (map_behind self.entry) (P.list (kept_path self.entry))) }
+    {
+        let parts = self.into_owned_parts();
+        key_within(parts.0, parts.1)
     }
 
-    fn value(self) -> Option<&'a V> {
-        let (trie, path) = self.into_parts();
-        Place::find(trie, path.nibbles()).value()
+    fn value(self) -> Option<&'a V>
+        ensures* kept { sem 𝓛
+            (stays_as K.row V.row K.TrieKey.own K.PartialEq.own (lender_of self.entry)
+            (map_behind self.entry)) }
+        ensures value { option_copied result
+            ≡ value_at (map_behind self.entry) (P.list (kept_path self.entry)) }
+    {
+        let parts = self.into_owned_parts();
+        value_within(parts.0, parts.1)
     }
 
     fn len(self) -> usize
@@ -110,14 +128,27 @@ impl<'a, K: TrieKey, V, P: PathList> TrieCommon<'a, K, V> for SubTrieMut<'a, K, 
         Place::find(trie, path.nibbles()).cursor_after(key)
     }
 
-    fn first_key_value(self) -> Option<(&'a K, &'a V)> {
-        let (trie, path) = self.into_parts();
-        Place::find(trie, path.nibbles()).first_key_value()
+    fn first_key_value(self) -> Option<(&'a K, &'a V)>
+        ensures* kept { sem 𝓛
+            (stays_as K.row V.row K.TrieKey.own K.PartialEq.own (lender_of self.entry)
+            (map_behind self.entry)) }
+        ensures first { option_map deref_pair result ≡ slice_get
+            (pairs_below (map_behind self.entry) (P.list (kept_path self.entry))) 0 }
+    {
+        let parts = self.into_owned_parts();
+        first_within(parts.0, parts.1)
     }
 
-    fn last_key_value(self) -> Option<(&'a K, &'a V)> {
-        let (trie, path) = self.into_parts();
-        Place::find(trie, path.nibbles()).last_key_value()
+    fn last_key_value(self) -> Option<(&'a K, &'a V)>
+        ensures* kept { sem 𝓛
+            (stays_as K.row V.row K.TrieKey.own K.PartialEq.own (lender_of self.entry)
+            (map_behind self.entry)) }
+        ensures last { option_map deref_pair result ≡ slice_get
+            (pairs_below (map_behind self.entry) (P.list (kept_path self.entry)))
+            (length (pairs_below (map_behind self.entry) (P.list (kept_path self.entry))) - 1) }
+    {
+        let parts = self.into_owned_parts();
+        last_within(parts.0, parts.1)
     }
 
     fn prefix(self) -> Result<Nibblet, Memory>

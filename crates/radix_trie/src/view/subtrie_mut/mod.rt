@@ -19,6 +19,7 @@ use crate::trie::Trie;
 use crate::view::place::{Place, begins};
 use radix_keys::{Memory, Nibblet, TrieKey};
 use radix_nodes::trie_node::KeyValue;
+pub(crate) use spent::{first_within, key_within, last_within, value_within};
 
 /// The value that the trie behind a reference holds at a list, for writing.
 fn value_behind<'s, 'a, K: TrieKey, V>(

@@ -1,8 +1,12 @@
 //! Calls that spend a view for writing.
 ghost use Rattle.std.specs.FinMap as map;
-ghost use Rattle.std.specs.Prelude.{◌≡◌, ◌↔◌, IsTrue};
+ghost use Rattle.std.specs.Borrow.{sem};
+ghost use Rattle.std.specs.Prelude.{◌≡◌, ◌-◌, ◌↔◌, IsTrue, length, option_copied, option_map, slice_get};
 ghost use Rattle.nibble_map.specs.MapQueries.{IsLeaf};
-ghost use Rattle.nibble_map.specs.Maps.{below};
+ghost use Rattle.nibble_map.specs.Maps.{below, value_at};
+ghost use Rattle.radix_trie.specs.Lends.{stays_as};
+ghost use Rattle.radix_trie.specs.Views.{pairs_below};
+ghost use Rattle.radix_trie.specs.Walks.{deref_pair};
 ghost use Rattle.radix_trie.specs.WriteViews.{map_behind, kept_path, kept_prefix, lender_of};
 
 use crate::trie::Trie;
@@ -30,6 +34,20 @@ impl<'a, K: TrieKey, V, P: PathList> SubTrieMut<'a, K, V, P> {
 
     /// The trie and the path. The view is spent: its reference for writing becomes one for reading.
     pub(crate) fn into_parts(self) -> (&'a Trie<K, V>, P)
+        ensures map { result.0.now ≡ map_behind self.entry }
+        ensures path { result.1 ≡ kept_path self.entry }
+    {
+        let SubTrieMut {
+            trie,
+            path,
+            prefix: _,
+        } = self;
+        (trie, path)
+    }
+
+    /// The trie, for as long as its borrow, and the path. The view is spent.
+    pub(crate) fn into_owned_parts(self) -> (&'a mut Trie<K, V>, P)
+        ensures same_reference { result.0.ghost_name ≡ lender_of self.entry }
         ensures map { result.0.now ≡ map_behind self.entry }
         ensures path { result.1 ≡ kept_path self.entry }
     {
@@ -95,4 +113,56 @@ impl<'a, K: TrieKey, V, P: PathList> SubTrieMut<'a, K, V, P> {
         } = self;
         prefix.into_nibbles()
     }
+}
+
+/// The key that is stored at a path, for as long as the trie's borrow, in which nothing is written.
+pub(crate) fn key_within<'a, K: TrieKey, V, P: PathList>(
+    trie: &'a mut Trie<K, V>,
+    path: P,
+) -> Option<&'a K>
+    ensures* kept { sem 𝓛
+        (stays_as K.row V.row K.TrieKey.own K.PartialEq.own trie.entry.ghost_name trie.old) }
+    ensures key { option_copied result
+        ≡ option_map (λ p. p.0) (map.get trie.old (P.list path)) }
+{
+    Place::find(trie, path.nibbles()).key()
+}
+
+/// The value that is stored at a path, as `key_within` returns the key.
+pub(crate) fn value_within<'a, K: TrieKey, V, P: PathList>(
+    trie: &'a mut Trie<K, V>,
+    path: P,
+) -> Option<&'a V>
+    ensures* kept { sem 𝓛
+        (stays_as K.row V.row K.TrieKey.own K.PartialEq.own trie.entry.ghost_name trie.old) }
+    ensures value { option_copied result ≡ value_at trie.old (P.list path) }
+{
+    Place::find(trie, path.nibbles()).value()
+}
+
+/// The first pair at and below a path, as `key_within` returns the key.
+pub(crate) fn first_within<'a, K: TrieKey, V, P: PathList>(
+    trie: &'a mut Trie<K, V>,
+    path: P,
+) -> Option<(&'a K, &'a V)>
+    ensures* kept { sem 𝓛
+        (stays_as K.row V.row K.TrieKey.own K.PartialEq.own trie.entry.ghost_name trie.old) }
+    ensures first { option_map deref_pair result
+        ≡ slice_get (pairs_below trie.old (P.list path)) 0 }
+{
+    Place::find(trie, path.nibbles()).first_key_value()
+}
+
+/// The last pair at and below a path, as `key_within` returns the key.
+pub(crate) fn last_within<'a, K: TrieKey, V, P: PathList>(
+    trie: &'a mut Trie<K, V>,
+    path: P,
+) -> Option<(&'a K, &'a V)>
+    ensures* kept { sem 𝓛
+        (stays_as K.row V.row K.TrieKey.own K.PartialEq.own trie.entry.ghost_name trie.old) }
+    ensures last { option_map deref_pair result
+        ≡ slice_get (pairs_below trie.old (P.list path))
+        (length (pairs_below trie.old (P.list path)) - 1) }
+{
+    Place::find(trie, path.nibbles()).last_key_value()
 }

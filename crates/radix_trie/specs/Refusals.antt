@@ -64,6 +64,11 @@ module _ {K V : Type 0} where
   abbrev pub AllBegin : PairMap K V → List ℕ → Type 0
   AllBegin m l = (e : List ℕ) → IsStored m e → IsPrefix l e
 
+  -- m stores nothing at or below some list with which all of part's begin, so nothing at or below the
+  -- longest such list
+  abbrev pub IsFreeFor : (m part : PairMap K V) → Type 0
+  IsFreeFor m part = (l : List ℕ) × AllBegin part l × (map.len (below m l) ≡ 0)
+
   -- the map `part` isn't appended to the map m: the pairs of both can't be counted; or m has a point
   -- at or below each list with which all of part's begin, so also the longest such list; or memory,
   -- and then m stores nothing at or below one of these lists
@@ -71,5 +76,4 @@ module _ {K V : Type 0} where
   RefusesAppend m part appending.Full = 2 ^ 64 ≤ map.len m + map.len part
   RefusesAppend m part appending.Overlapping =
       (l : List ℕ) → AllBegin part l → (q : List ℕ) × IsPoint m q × IsPrefix l q
-  RefusesAppend m part appending.Memory =
-      (l : List ℕ) × AllBegin part l × (map.len (below m l) ≡ 0)
+  RefusesAppend m part appending.Memory = IsFreeFor m part

@@ -119,9 +119,9 @@ module _ {K V : Type 0} where
       ++ prefix_pairs (drop r.1 list) (entries_in [] (tree_of r.0.now).children)
 
   -- the next node has its children at their places, and the list has the nibbles behind it
-  abbrev pub IsOnWay : List ℕ → Option (Bor (TrieNode K V) × ℕ) → Type 0
-  IsOnWay list None = ⊤
-  IsOnWay list (Some r) = (r.1 ≤ length list) × IsTreePlaced (tree_of r.0.now)
+  abbrev pub LeadsTo : List ℕ → Option (Bor (TrieNode K V) × ℕ) → Type 0
+  LeadsTo list None = ⊤
+  LeadsTo list (Some r) = (r.1 ≤ length list) × IsTreePlaced (tree_of r.0.now)
 
   -- how many nodes are left on the way at most
   abbrev pub turns_on_way : List ℕ → Option (Bor (TrieNode K V) × ℕ) → ℕ

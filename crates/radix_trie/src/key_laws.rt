@@ -14,14 +14,17 @@ ghost use Rattle.radix_keys.specs.Integers.{unsigned_key};
 ghost use Rattle.radix_keys.specs.Parts.{AreParts, part_bytes};
 ghost use Rattle.radix_trie.specs.Building.{with_pairs};
 ghost use Rattle.radix_trie.specs.Keys.{IsKeptOrder, IsKeyed};
-ghost use Rattle.radix_trie.specs.Views.{pairs_above, pairs_after, pairs_below, pairs_from};
+ghost use Rattle.radix_trie.specs.Refusals.{RefusesAppend};
+ghost use Rattle.radix_trie.specs.Views.{pairs_above, pairs_after, pairs_below, pairs_from, with_value_or};
 
+use crate::error::AppendWhy;
 use crate::trie::Trie;
 use radix_keys::{KeySigned, TrieKey};
 
 /// The key that is stored at a key's encoding equals it (`==`), in each map in which every stored key is a value of its
 /// type and stands at its encoding. The empty map is one, and pairs that are inserted, one removed, a value written, and all
-/// below a path removed keep it so; what is below a path is one too.
+/// below a path removed keep it so; what is below a path is one too, and so is the map that a value written at a key's encoding
+/// leaves, with the key where none was stored there, as `Trie::get_or_insert` and `Entry::or_insert` have it.
 ///
 /// `Trie::insert` and `Trie::get` tell that a key is a value of its type, so a caller of theirs knows it of its trie.
 pub fn stored_keys_are_equal<K: TrieKey, V>()
@@ -34,6 +37,9 @@ pub fn stored_keys_are_equal<K: TrieKey, V>()
         → IsKeyed K.encoding K.is_value (map.remove m e) }
     ensures written { (m : PairMap K V) (e : List ℕ) (v : V) → IsKeyed K.encoding K.is_value m
         → IsKeyed K.encoding K.is_value (with_value m e v) }
+    ensures written_or { (m : PairMap K V) (k : K) (v : V) → IsKeyed K.encoding K.is_value m
+        → K.is_value k
+        → IsKeyed K.encoding K.is_value (with_value_or m (K.encoding k) k v) }
     ensures part { (m : PairMap K V) (e : List ℕ) → IsKeyed K.encoding K.is_value m
         → IsKeyed K.encoding K.is_value (below m e) }
     ensures rest { (m : PairMap K V) (e : List ℕ) → IsKeyed K.encoding K.is_value m
@@ -44,12 +50,17 @@ pub fn stored_keys_are_equal<K: TrieKey, V>()
 {}
 
 /// What was split off goes back: the map without all below a list, with the pairs of the part that is below it stored one by
-/// one, as `Trie::append` stores them, is the trie's map.
+/// one, as `Trie::append` stores them, is the trie's map. The one reason that `Trie::append` can be refused for is memory,
+/// where the rest has a pair; where it has none, `append` isn't refused.
 pub fn split_part_goes_back<K: TrieKey, V>(trie: &Trie<K, V>)
-    ensures { (e : List ℕ) → with_pairs K.encoding (without_below trie.now e)
+    ensures same { (e : List ℕ) → with_pairs K.encoding (without_below trie.now e)
         (pairs_below (below trie.now e) []) ≡ trie.now }
+    ensures why { (e : List ℕ) (why : AppendWhy)
+        → RefusesAppend (without_below trie.now e) (below trie.now e) why
+        → (map.len (without_below trie.now e) ≡ 0) ⊎ (why ≡ AppendWhy.Memory) }
 {
     let _ = trie.root();
+    let _count = trie.len();
 }
 
 /// In each trie a key stands at its encoding. So the keys at and below a list have encodings that begin with it, and in the

@@ -15,7 +15,7 @@ pub use error::{
     AppendError, AppendWhy, BuildError, FindError, InsertError, InsertWhy, JsonError, OpenError,
     SubTrieError, SubTrieResult, TrieError, TryInsertError, TryInsertWhy,
 };
-pub use json::{from_value, to_value};
+pub use json::{from_value, objects_are_read_back, to_value};
 pub use key_laws::{
     encodings_keep_prefixes, keys_of_walks_rise, keys_stand_at_their_encodings,
     numbers_keep_their_order, pages_follow_one_another, parts_keep_their_order,

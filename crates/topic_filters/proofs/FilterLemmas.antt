@@ -1,11 +1,12 @@
 -- Which filters match a topic: those that are listed, each once.
-use Rattle.std.proofs.Common.{◌≡◌, ◌≢◌, ◌↔◌, ◌==◌, ◌⊎◌, inl, inr, ℕ, Bool, true, false, T, cond, List, [], ◌∷◌, ◌++◌, All, Contains, map, refl, sym, subst, ◌∙◌, arith}
+use Rattle.std.proofs.Common.{◌≡◌, ◌≢◌, ◌↔◌, ◌==◌, ◌⊎◌, inl, inr, ℕ, zero, suc, Bool, true, false, T, cond, List, [], ◌∷◌, ◌++◌, All, Contains, map, refl, sym, subst, ◌∙◌, arith}
 use Rattle.std.proofs.lemmas.Bool.{eqb-true}
 use Rattle.std.proofs.lemmas.List.Elements.{All-cons, All-nil, All-head, All-tail}
 use Rattle.std.proofs.lemmas.List.Kept.{AllPairs-cons}
 use Rattle.std.specs.List.{AllPairs}
 use Rattle.nibble_map.specs.Lists.{Has}
 use Rattle.nibble_map.proofs.ListLemmas.Members.{Has-left, Has-right, Has-cases, map_has, has_map}
+use Rattle.radix_keys.specs.Parts.{AreParts, IsPart}
 use Rattle.topic_filters.proofs.FormLemmas.{no_hash, no_plus}
 use Rattle.topic_filters.specs.Filters.{Levels, HasNoWildcard, IsTopic, Matches, MatchesLevels, any_level, any_rest, filters_of, filters_of_levels, is_reserved}
 
@@ -26,7 +27,7 @@ plain_level level h = (
 
 module _ {A : Type 0} where
   -- no element stands twice
-  abbrev AreApart : List A → Type 0
+  abbrev pub AreApart : List A → Type 0
   AreApart [] = Unit {0}
   AreApart (x ∷ xs) = (Has xs x → ⊥) × AreApart xs
 
@@ -145,15 +146,35 @@ filters_listed filter ((c ∷ t) ∷ ts) = by (c == 36) refl
     by false e = plain_listed ((c ∷ t) ∷ ts) filter (λ r. subst T e r)
 
 -- each once, where the topic's levels are plain
-apart_by_topic : (topic : Levels) → ArePlain topic → AllPairs (λ f g. f ≢ g) (filters_of topic)
-apart_by_topic [] plain = AllPairs-apart (filters_of_levels []) (apart_filters [] plain)
-apart_by_topic ([] ∷ ts) plain = AllPairs-apart (filters_of_levels ([] ∷ ts)) (apart_filters ([] ∷ ts) plain)
-apart_by_topic ((c ∷ t) ∷ ts) plain = AllPairs-apart (filters_of ((c ∷ t) ∷ ts)) (by (c == 36))
+apart_by_topic : (topic : Levels) → ArePlain topic → AreApart (filters_of topic)
+apart_by_topic [] plain = apart_filters [] plain
+apart_by_topic ([] ∷ ts) plain = apart_filters ([] ∷ ts) plain
+apart_by_topic ((c ∷ t) ∷ ts) plain = by (c == 36)
   where
     by : (b : Bool) → AreApart (cond b (map (λ f. (c ∷ t) ∷ f) (filters_of_levels ts)) (filters_of_levels ((c ∷ t) ∷ ts)))
     by true = apart-behind (c ∷ t) (filters_of_levels ts) (apart_filters ts (All-tail IsPlain (c ∷ t) ts plain))
     by false = apart_filters ((c ∷ t) ∷ ts) plain
 
 -- so of a topic
+pub topic_filters_apart : (topic : Levels) → IsTopic topic → AreApart (filters_of topic)
+topic_filters_apart topic is = apart_by_topic topic (λ k d lt. plain_level _ (is.2 k d lt))
+
 pub filters_apart : (topic : Levels) → IsTopic topic → AllPairs (λ f g. f ≢ g) (filters_of topic)
-filters_apart topic is = apart_by_topic topic (λ k d lt. plain_level _ (is.2 k d lt))
+filters_apart topic is = AllPairs-apart (filters_of topic) (topic_filters_apart topic is)
+
+-- the levels with a wildcard are parts
+any_level_is_part : IsPart any_level
+any_level_is_part (zero, lt, e) = let never : 43 ≡ 0 = e in cc
+any_level_is_part (suc k, lt, e) = absurd (omega (arith, lt))
+
+any_rest_is_part : IsPart any_rest
+any_rest_is_part (zero, lt, e) = let never : 35 ≡ 0 = e in cc
+any_rest_is_part (suc k, lt, e) = absurd (omega (arith, lt))
+
+-- so the levels of a filter are parts where those of what it matches are
+pub matched_parts : (f t : Levels) → MatchesLevels f t → AreParts t → AreParts f
+matched_parts [] ts m h = All-nil IsPart
+matched_parts (f ∷ fs) [] m h = All-cons IsPart f fs (subst IsPart (sym m.0) any_rest_is_part) (subst AreParts (sym m.1) (All-nil IsPart))
+matched_parts (f ∷ fs) (t ∷ ts) (inl m) h = All-cons IsPart f fs (subst IsPart (sym m.0) any_rest_is_part) (subst AreParts (sym m.1) (All-nil IsPart))
+matched_parts (f ∷ fs) (t ∷ ts) (inr (inl any, m)) h = All-cons IsPart f fs (subst IsPart (sym any) any_level_is_part) (matched_parts fs ts m (All-tail IsPart t ts h))
+matched_parts (f ∷ fs) (t ∷ ts) (inr (inr same, m)) h = All-cons IsPart f fs (subst IsPart (sym same) (All-head IsPart t ts h)) (matched_parts fs ts m (All-tail IsPart t ts h))

@@ -1,7 +1,10 @@
 -- What is stored at filters that begin with one path.
-use Rattle.std.proofs.Common.{◌≡◌, ◌↔◌, ◌∙◌, inl, inr, ℕ, List, [], ◌∷◌, ◌++◌, map, flat_map, Option, Some, None, T, nat_cmp, refl, sym, ap, subst, append_assoc}
+use Rattle.std.proofs.Common.{◌≡◌, ◌≢◌, ◌↔◌, ◌∙◌, inl, inr, ℕ, All, List, [], ◌∷◌, ◌++◌, map, flat_map, Option, Some, None, T, nat_cmp, refl, sym, ap, subst, append_assoc, arith}
 use Rattle.std.proofs.lemmas.Grind.{flat_map-append}
 use Rattle.std.proofs.lemmas.List.{map-append}
+use Rattle.std.proofs.lemmas.List.Elements.{All-cons, All-nil}
+use Rattle.std.proofs.lemmas.List.Kept.{AllPairs-cons}
+use Rattle.std.specs.List.{AllPairs}
 use Rattle.std.specs.Cmp.Lexicographic.{slice_cmp}
 use Rattle.std.specs.FinMap as finite
 use Rattle.std.specs.Prelude.{option_to_list}
@@ -13,10 +16,13 @@ use Rattle.nibble_map.proofs.ListLemmas.Members.{Has-cases, Has-left, Has-right}
 use Rattle.nibble_map.proofs.ListLemmas.Parted.{is_prefix_true}
 use Rattle.nibble_map.proofs.MapLemmas.Below.{get-below}
 use Rattle.nibble_map.proofs.PointLemmas.Descendant.{below-no_descendant}
-use Rattle.radix_keys.specs.Parts.{part_bytes}
+use Rattle.radix_keys.specs.Distinct.{nibbles-injective}
+use Rattle.radix_keys.specs.PartBytes.{parts_of-part_bytes}
+use Rattle.radix_keys.specs.Parts.{AreParts, part_bytes, parts_of}
 use Rattle.radix_keys.proofs.NibbleLemmas.Bytes.{nibbles-append}
-use Rattle.topic_filters.proofs.FilterLemmas.{filters_listed}
-use Rattle.topic_filters.specs.Filters.{Levels, Matches, any_level, any_rest, filters_of, filters_of_levels, stored_at}
+use Rattle.radix_trie.specs.Keys.{IsKeyed}
+use Rattle.topic_filters.proofs.FilterLemmas.{AreApart, filters_listed, matched_parts, topic_filters_apart}
+use Rattle.topic_filters.specs.Filters.{IsTopic, Levels, Matches, any_level, any_rest, filters_of, filters_of_levels, stored_at}
 
 -- a filter's encoding begins with that of its first levels
 prefix_of_longer : (p f : Levels) → IsPrefix (nibbles (part_bytes p)) (nibbles (part_bytes (p ++ f)))
@@ -52,6 +58,45 @@ stored_match m topic p = (
   λ k. from_each (λ f. option_to_list (finite.get m (nibbles (part_bytes f)))) (filters_of topic) k.0 p ((filters_listed k.0 topic).1 k.1)
       ((optional_has (finite.get m (nibbles (part_bytes k.0))) p).1 k.2),
 )
+
+-- where each stored filter stands at its own encoding
+module _ {V : Type 0} (m : PairMap Levels V) (keyed : IsKeyed (λ f. nibbles (part_bytes f)) AreParts m) where
+  -- a filter of parts at which a pair is stored is the pair's own
+  own_filter : (f : Levels) (p : Levels × V) → AreParts f → finite.get m (nibbles (part_bytes f)) ≡ Some p → f ≡ p.0
+  own_filter f p parts at =
+      let k = keyed (nibbles (part_bytes f)) p at in
+      sym (parts_of-part_bytes f parts) ∙ ap parts_of (nibbles-injective (part_bytes f) (part_bytes p.0) k.0) ∙ parts_of-part_bytes p.0 k.1
+
+  -- what is stored at filters of parts that are apart is apart too
+  stored_apart : (fs : List Levels) → AreApart fs → ((f : Levels) → Has fs f → AreParts f) → AllPairs (λ p q. p.0 ≢ q.0) (stored_at m fs)
+  stored_apart [] apart parts = λ i j d lt within. absurd (omega (arith, lt, within))
+  stored_apart (f ∷ fs) apart parts = by (finite.get m (nibbles (part_bytes f))) refl (stored_apart fs apart.1 (λ g h. parts g (inr h)))
+    where
+      differs : (p : Levels × V) → f ≡ p.0 → (qs : List (Levels × V)) → ((q : Levels × V) → Has qs q → Has (stored_at m fs) q) → All (λ q. p.0 ≢ q.0) qs
+      differs p own [] within = All-nil (λ q. p.0 ≢ q.0)
+      differs p own (q ∷ qs) within = All-cons (λ q. p.0 ≢ q.0) q qs
+          (λ same. let of = from_one (λ f. option_to_list (finite.get m (nibbles (part_bytes f)))) fs q (within q (inl refl)) in
+          let its = own_filter of.0 q (parts of.0 (inr of.1)) ((optional_has (finite.get m (nibbles (part_bytes of.0))) q).0 of.2) in
+          apart.0 (subst (Has fs) (its ∙ sym same ∙ sym own) of.1))
+          (differs p own qs (λ r h. within r (inr h)))
+
+      by : (o : Option (Levels × V)) → finite.get m (nibbles (part_bytes f)) ≡ o → AllPairs (λ p q. p.0 ≢ q.0) (stored_at m fs) → AllPairs (λ p q. p.0 ≢ q.0) (option_to_list o ++ stored_at m fs)
+      by None none rest = rest
+      by (Some p) at rest = AllPairs-cons (λ p q. p.0 ≢ q.0) p (stored_at m fs) (differs p (own_filter f p (parts f (inl refl)) at) (stored_at m fs) (λ q h. h)) rest
+
+  module _ (topic : Levels) (levels : AreParts topic) where
+    -- the pairs at the filters that match are those whose own filters match
+    pub stored_match-own : (p : Levels × V) → Has (stored_at m (filters_of topic)) p ↔ (Matches p.0 topic × (finite.get m (nibbles (part_bytes p.0)) ≡ Some p))
+    stored_match-own p = (
+      λ h. let k = (stored_match m topic p).0 h in
+          let own = own_filter k.0 p (matched_parts k.0 topic k.1.levels levels) k.2 in
+          (subst (λ f. Matches f topic) own k.1, subst (λ f. finite.get m (nibbles (part_bytes f)) ≡ Some p) own k.2),
+      λ k. (stored_match m topic p).1 (p.0, k.0, k.1),
+    )
+
+    -- of a topic each comes once
+    pub stored_once : IsTopic topic → AllPairs (λ p q. p.0 ≢ q.0) (stored_at m (filters_of topic))
+    stored_once is = stored_apart (filters_of topic) (topic_filters_apart topic is) (λ f h. matched_parts f topic ((filters_listed f topic).0 h).levels levels)
 
 module _ {K V : Type 0} (m : PairMap K V) where
   -- the pairs at filters behind a path

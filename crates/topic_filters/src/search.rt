@@ -7,8 +7,9 @@ use crate::forms::{ANY_LEVEL, ANY_REST};
 use radix_trie::{Memory, Parts, Trie};
 use std::alloc::Global;
 
-/// The pairs of all stored filters that match the topic, each once. At each level those with the same
-/// level come first, then those with `+`, and those that end in `#`.
+/// The pairs of all stored filters that match the topic; each once, where `is_topic` lets the list of
+/// levels pass. At each level those with the same level come first, then those with `+`, and those
+/// that end in `#`.
 ///
 /// It looks below a list of levels only where a stored filter begins with it, so the time grows with
 /// the beginnings of filters that match a beginning of the topic, and not with how many there are.

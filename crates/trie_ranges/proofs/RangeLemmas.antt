@@ -1,7 +1,8 @@
 -- The pairs of a walk up to an end are those of the map between two lists.
-use Rattle.std.proofs.Common.{◌≡◌, ◌↔◌, ℕ, Bool, true, false, cond, ◌&&◌, T, IsTrue, List, [], ◌∷◌, filter, map as each, Some, nat_cmp, is_le, Less, Equal, Greater, Ordering, refl, sym, ap, ◌∙◌, subst}
+use Rattle.std.proofs.Common.{◌≡◌, ◌↔◌, ℕ, Bool, true, false, cond, ◌&&◌, T, IsTrue, List, [], ◌∷◌, filter, map as each, Option, Some, None, option_map, slice_get, drop, nat_cmp, is_le, Less, Equal, Greater, Ordering, refl, sym, ap, ◌∙◌, subst}
 use Rattle.std.proofs.lemmas.Cmp.{nat_list_cmp_total}
 use Rattle.std.proofs.lemmas.List.Sums.{take_while-cons}
+use Rattle.std.specs.Borrow.{Bor}
 use Rattle.std.specs.Cmp.Lexicographic.{slice_cmp}
 use Rattle.std.specs.FinMap as map
 use Rattle.std.specs.FinMap.{is_sorted}
@@ -10,43 +11,18 @@ use Rattle.std.specs.List.{AllPairs, Contains}
 use Rattle.nibble_map.specs.Lists.{Each}
 use Rattle.nibble_map.specs.Maps.{PairMap}
 use Rattle.nibble_map.proofs.ComputedLemmas.Filters.{filter-filter}
+use Rattle.nibble_map.proofs.ListLemmas.Cut.{empty_of_length}
 use Rattle.nibble_map.proofs.ListLemmas.Rising.{Each-from_has}
 use Rattle.nibble_map.proofs.ListLemmas.Sorted.{tied_lists_equal}
 use Rattle.nibble_map.proofs.MapLemmas.Bridge.{both_hold, first_of_both, less_by_test, second_of_both}
 use Rattle.nibble_map.proofs.MapLemmas.Edits.{has_get}
 use Rattle.radix_trie.specs.Keys.{IsKeptOrder, IsKeyed}
 use Rattle.radix_trie.specs.Views.{pairs_from}
-use Rattle.radix_trie.specs.Walks.{passes}
+use Rattle.radix_trie.specs.Walks.{comes_before, deref_pair, passes}
 use Rattle.radix_trie.proofs.LawLemmas.Asked.{AreAtEncodings, keys_of_part_rise, part_entries, part_holds, part_keyed}
+use Rattle.radix_trie.proofs.WalkLemmas.Earlier.{later_past}
 use Rattle.trie_set.proofs.SetLemmas.{whole_walk}
-use Rattle.trie_ranges.specs.Ranges.{comes_before, pairs_to, pairs_within}
-
-passes-less : (itself : Bool) → passes itself Less ≡ true
-passes-less true = refl
-passes-less false = refl
-
-passes-greater : (itself : Bool) → passes itself Greater ≡ false
-passes-greater true = refl
-passes-greater false = refl
-
-module _ (itself : Bool) (r : List ℕ) where
-  -- what comes before what comes before the end, or is the end, comes before the end
-  earlier_before : (e f : List ℕ) (o : Ordering) → slice_cmp nat_cmp e f ≡ Less → slice_cmp nat_cmp f r ≡ o → (o ≡ Greater → ⊥) → comes_before itself r e ≡ true
-  earlier_before e f Less less same near = ap (passes itself) (nat_list_cmp_total.trans e f r less same) ∙ passes-less itself
-  earlier_before e f Equal less same near = ap (passes itself) (sym (ap (slice_cmp nat_cmp e) (tied_lists_equal f r same)) ∙ less) ∙ passes-less itself
-  earlier_before e f Greater less same near = absurd (near refl)
-
-  -- what comes after what is past the end is past it too
-  later_past : (e f : List ℕ) → slice_cmp nat_cmp e f ≡ Less → comes_before itself r e ≡ false → comes_before itself r f ≡ false
-  later_past e f less past = by (slice_cmp nat_cmp f r) refl
-    where
-      near : (o : Ordering) → slice_cmp nat_cmp f r ≡ o → (o ≡ Greater → ⊥) → passes itself o ≡ false
-      near o same h = absurd (let never : true ≡ false = sym (earlier_before e f o less same h) ∙ past in cc)
-
-      by : (o : Ordering) → slice_cmp nat_cmp f r ≡ o → passes itself o ≡ false
-      by Less same = near Less same (λ is. absurd (let never : Less ≡ Greater = is in cc))
-      by Equal same = near Equal same (λ is. absurd (let never : Equal ≡ Greater = is in cc))
-      by Greater same = passes-greater itself
+use Rattle.trie_ranges.specs.Ranges.{pair_first, pairs_to, pairs_within}
 
 module _ {K V : Type 0} (enc : K → List ℕ) (itself : Bool) (r : List ℕ) where
   -- behind a list that is past the end all lists are
@@ -118,3 +94,17 @@ module _ {K V : Type 0} (enc : K → List ℕ) (is : K → Type 0) (cmp : K → 
               let tests = both_hold (is_le (cmp a p.0)) (passes itself (cmp p.0 b)) (subst T (sym h.1) tt) (subst T (sym h.2) tt) in
               subst (λ es. Contains (each (λ e. e.1) es) p) same (held.1 (subst T (sym (tests_agree p.0 (keyed (enc p.0) p h.0).1)) tests, h.0)),
         )
+
+module _ {K V : Type 0} where
+  -- what is found first, and what is left then, are the whole
+  pub pair_first-step : (o : Option (Bor K × Bor V)) (ps : List (K × V)) → option_map deref_pair o ≡ slice_get ps 0 → pair_first o (drop 1 ps) ≡ ps
+  pair_first-step None [] found = refl
+  pair_first-step None (p ∷ ps) found = absurd (let never : None ≡ Some p = found in cc)
+  pair_first-step (Some x) [] found = absurd (let never : Some (deref_pair x) ≡ None = found in cc)
+  pair_first-step (Some x) (p ∷ ps) found = (let is : Some (deref_pair x) ≡ Some p = found in let same : deref_pair x ≡ p = cc in ap (λ y. y ∷ ps) same)
+
+  -- a map without pairs has none between two lists
+  pub none_within : (itself : Bool) (m : PairMap K V) (q r : List ℕ) → map.len m ≡ 0 → pairs_within itself m q r ≡ []
+  none_within itself m q r empty =
+      ap (λ es. each (λ e. e.1) (filter (λ e. is_le (slice_cmp nat_cmp q e.0) && comes_before itself r e.0) es))
+      (empty_of_length (map.entries m) (sym (map.len-entries m) ∙ empty))

@@ -1,15 +1,12 @@
 -- The pairs of a map between two lists.
-use Rattle.std.specs.Prelude.{ℕ, Bool, true, false, ◌&&◌, List, filter, map as each}
+use Rattle.std.specs.Prelude.{ℕ, Bool, true, false, ◌&&◌, List, [], ◌∷◌, Option, Some, None, filter, map as each}
+use Rattle.std.specs.Borrow.{Bor}
 use Rattle.std.specs.Cmp.Lexicographic.{slice_cmp}
 use Rattle.std.specs.FinMap as map
 use Rattle.std.specs.List.{take_while}
 use Rattle.std.specs.Ordering.{is_le, nat_cmp}
 use Rattle.nibble_map.specs.Maps.{PairMap}
-use Rattle.radix_trie.specs.Walks.{passes}
-
--- whether e comes before r, or is r where `itself` says so
-abbrev pub comes_before : Bool → List ℕ → List ℕ → Bool
-comes_before itself r e = passes itself (slice_cmp nat_cmp e r)
+use Rattle.radix_trie.specs.Walks.{comes_before, deref_pair}
 
 module _ {K V : Type 0} where
   -- the pairs whose lists are q or come after it, and come before r, or are r where `itself` says
@@ -25,6 +22,11 @@ module _ {K V : Type 0} where
   -- the pairs from q on, to the one at r
   abbrev pub pairs_through : PairMap K V → List ℕ → List ℕ → List (K × V)
   pairs_through m q r = pairs_within true m q r
+
+  -- the pairs that are left: the one that was found, and those behind it; none where none was found
+  abbrev pub pair_first : Option (Bor K × Bor V) → List (K × V) → List (K × V)
+  pair_first None rest = []
+  pair_first (Some p) rest = deref_pair p ∷ rest
 
   -- the pairs in front of the first whose encoding is past the end
   abbrev pub pairs_to : (K → List ℕ) → Bool → List ℕ → List (K × V) → List (K × V)

@@ -11,12 +11,12 @@ use radix_trie::{Memory, Trie, TrieKey};
 /// stored, and each may be of another type than the stored keys. Where `from` comes after `to` or
 /// has its encoding, no pair is between them.
 ///
-/// It begins in the time of the way down to the encoding of `from`.
+/// It begins in the time of the way down to the encoding of `from`, where the first pair is looked at.
 ///
 /// # Errors
 ///
-/// Memory is refused, for the two encodings or for the rows of nodes on the way down. That never
-/// comes where both keys are light and no pair is stored.
+/// Memory is refused, for the two encodings, for the rows of nodes on the way down, or as in a step.
+/// That never comes where both keys are light and no pair is stored.
 ///
 /// # Examples
 ///

@@ -7,7 +7,7 @@ use Rattle.nibble_map.proofs.ListLemmas.Rising.{Each-from_has}
 use Rattle.nibble_map.proofs.MapLemmas.Edits.{has_get, keys_list_stored, not_None, same_Some}
 use Rattle.radix_trie.proofs.LawLemmas.Asked.{AreAtEncodings}
 use Rattle.trie_set.specs.Sets.{joined, key_at, keys_in, part_beside}
-use Rattle.trie_set.specs.Sides.{passes}
+use Rattle.trie_set.specs.Sides.{kept_as}
 use Rattle.trie_set.proofs.SetLemmas.{get-joined, get-part_beside}
 
 module _ {K V : Type 0} (enc : K → List ℕ) where
@@ -21,7 +21,7 @@ module _ {K V : Type 0} (enc : K → List ℕ) where
 
   -- in a part of a map each stands there too
   pub part_keyed : (keeps : Bool) (m n : PairMap K V) → AreAtEncodings enc m → AreAtEncodings enc (part_beside keeps m n)
-  part_keyed keeps m n keyed e p at = by (passes keeps (map.contains_key n e)) (sym (get-part_beside keeps m n e) ∙ at)
+  part_keyed keeps m n keyed e p at = by (kept_as keeps (map.contains_key n e)) (sym (get-part_beside keeps m n e) ∙ at)
     where
       by : (b : Bool) → cond b (map.get m e) None ≡ Some p → e ≡ enc p.0
       by true h = keyed e p h

@@ -1,5 +1,5 @@
 -- Sets side by side, and the walks that stand for them.
-use Rattle.std.proofs.Common.{◌≡◌, ◌-◌, ◌↔◌, ◌⊎◌, inl, inr, ℕ, Bool, true, false, cond, not, T, List, [], ◌∷◌, length, slice_get, Option, Some, None, IsTrue, is_some, option_copied, option_map, map as each, nat_cmp, refl, sym, ap, ◌∙◌, subst}
+use Rattle.std.proofs.Common.{◌≡◌, ◌-◌, ◌↔◌, ◌⊎◌, inl, inr, ℕ, Bool, true, false, cond, not, T, List, [], ◌∷◌, drop, length, slice_get, Option, Some, None, IsTrue, is_some, option_copied, option_map, map as each, nat_cmp, refl, sym, ap, ◌∙◌, subst}
 use Rattle.std.proofs.lemmas.Cmp.{nat_list_cmp_total}
 use Rattle.std.proofs.lemmas.List.{length-map}
 use Rattle.std.proofs.lemmas.Option.{slice_get-map}
@@ -19,7 +19,7 @@ use Rattle.nibble_map.proofs.MapLemmas.Bridge.{entries-retain_keys}
 use Rattle.nibble_map.proofs.MapLemmas.Edits.{has_get}
 use Rattle.radix_trie.specs.Views.{pairs_below}
 use Rattle.trie_set.specs.Sets.{common, joined, keys_in, lacking, part_beside, whole_beside, with_entries}
-use Rattle.trie_set.specs.Sides.{Ascends, at_encodings, gathered, has_entry, merged, passes, picked, selected, united}
+use Rattle.trie_set.specs.Sides.{Ascends, at_encodings, gathered_keys, has_entry, merged_entries, kept_as, picked, selected, united, found_first}
 
 true_by_test : (b : Bool) → T b → b ≡ true
 true_by_test true h = refl
@@ -48,20 +48,20 @@ module _ {P : Type 0} where
       entries-retain_keys (slice_cmp nat_cmp) nat_list_cmp_total tied_lists_equal m (λ e. not (map.contains_key n e))
       ∙ (λ i. where_key (slice_cmp nat_cmp) (λ q. not (is_some (map.get-entries n q i))) (map.entries m))
 
-  entries-with_entries : (es : List (List ℕ × P)) (n : NibbleMap P) → map.entries (with_entries es n) ≡ merged es (map.entries n)
+  entries-with_entries : (es : List (List ℕ × P)) (n : NibbleMap P) → map.entries (with_entries es n) ≡ merged_entries es (map.entries n)
   entries-with_entries [] n = refl
   entries-with_entries (e ∷ es) n =
       map.entries-insert nat_list_cmp_total (with_entries es n) e.0 e.1 ∙ ap (put (slice_cmp nat_cmp) e.0 e.1) (entries-with_entries es n)
 
   -- the entries of two maps together are the merged ones
-  pub entries-joined : (m n : NibbleMap P) → map.entries (joined m n) ≡ merged (map.entries m) (map.entries n)
+  pub entries-joined : (m n : NibbleMap P) → map.entries (joined m n) ≡ merged_entries (map.entries m) (map.entries n)
   entries-joined m n = entries-with_entries (map.entries m) n
 
   -- the same of both walks
   pub entries-whole_beside : (keeps : Bool) (m n : NibbleMap P) → map.entries (whole_beside keeps m n) ≡ united keeps (map.entries m) (map.entries n)
   entries-whole_beside true m n = entries-joined m n
   entries-whole_beside false m n =
-      entries-joined (lacking m n) (lacking n m) ∙ (λ i. merged (entries-part_beside false m n i) (entries-part_beside false n m i))
+      entries-joined (lacking m n) (lacking n m) ∙ (λ i. merged_entries (entries-part_beside false m n i) (entries-part_beside false n m i))
 
   all_begun : (es : List (List ℕ × P)) → where_key (slice_cmp nat_cmp) (is_prefix []) es ≡ es
   all_begun [] = refl
@@ -119,7 +119,7 @@ module _ {K V : Type 0} where
       selected-sides keeps = (λ i. each (λ e. e.1.0) (picked keeps (ours i) (theirs i))) ∙ sym (ap (each (λ e. e.1.0)) (entries-part_beside keeps m n))
 
       -- the keys of two walks together are those of the maps together
-      pub gathered-sides : (keeps : Bool) → gathered enc keeps ps qs ≡ keys_in (whole_beside keeps m n)
+      pub gathered-sides : (keeps : Bool) → gathered_keys enc keeps ps qs ≡ keys_in (whole_beside keeps m n)
       gathered-sides keeps = (λ i. each (λ e. e.1.0) (united keeps (ours i) (theirs i))) ∙ sym (ap (each (λ e. e.1.0)) (entries-whole_beside keeps m n))
 
 -- the walk below the empty list is over as many pairs as the map has
@@ -129,7 +129,7 @@ len-whole m = map.len-entries (below m []) ∙ ap length (whole_walk m) ∙ sym 
 -- what the maps of two sets hold
 module _ {P : Type 0} where
   -- a part answers as the map does at the lists that it keeps
-  pub get-part_beside : (keeps : Bool) (m n : NibbleMap P) (e : List ℕ) → map.get (part_beside keeps m n) e ≡ cond (passes keeps (map.contains_key n e)) (map.get m e) None
+  pub get-part_beside : (keeps : Bool) (m n : NibbleMap P) (e : List ℕ) → map.get (part_beside keeps m n) e ≡ cond (kept_as keeps (map.contains_key n e)) (map.get m e) None
   get-part_beside true m n e = get-retained_lists m (λ q. map.contains_key n q) e
   get-part_beside false m n e = get-retained_lists m (λ q. not (map.contains_key n q)) e
 
@@ -245,3 +245,28 @@ module _ {K V : Type 0} (m : PairMap K V) (P : K → Type 0) where
 
   pub last_holds : ForSome (slice_get (keys_in m) (length (keys_in m) - 1)) P → ForSome (slice_get (pairs_below m []) (length (pairs_below m []) - 1)) (λ p. P p.0)
   last_holds h = λ p same. h p.0 (last_of_walk m ∙ ap (option_map (λ q. q.0)) same)
+
+-- what is found first, and what is left then, are the whole
+pub found_first-step : {K : Type 0} (o : Option (Bor K)) (keys : List K) → option_copied o ≡ slice_get keys 0 → found_first o (drop 1 keys) ≡ keys
+found_first-step None [] found = refl
+found_first-step None (k ∷ keys) found = absurd (let never : None ≡ Some k = found in cc)
+found_first-step (Some x) [] found = absurd (let never : Some x.now ≡ None = found in cc)
+found_first-step (Some x) (k ∷ keys) found = (let is : Some x.now ≡ Some k = found in let same : x.now ≡ k = cc in ap (λ y. y ∷ keys) same)
+
+module _ {K V : Type 0} where
+  -- a map without pairs has no entry
+  entries_none : (m : PairMap K V) → map.len m ≡ 0 → map.entries m ≡ []
+  entries_none m empty = empty_of_length (map.entries m) (sym (map.len-entries m) ∙ empty)
+
+  -- a set without keys has none beside another
+  pub none_selected : (keeps : Bool) (m n : PairMap K V) → map.len m ≡ 0 → keys_in (part_beside keeps m n) ≡ []
+  none_selected keeps m n empty = ap (each (λ e. e.1.0)) (entries-part_beside keeps m n ∙ ap (λ es. picked keeps es (map.entries n)) (entries_none m empty))
+
+  -- two sets without keys have none together
+  pub none_gathered : (keeps : Bool) (m n : PairMap K V) → map.len m ≡ 0 → map.len n ≡ 0 → keys_in (whole_beside keeps m n) ≡ []
+  none_gathered keeps m n empty other =
+      ap (each (λ e. e.1.0)) (entries-whole_beside keeps m n ∙ (λ i. united keeps (entries_none m empty i) (entries_none n other i)) ∙ nothing keeps)
+    where
+      nothing : (keeps : Bool) → united {P = K × V} keeps [] [] ≡ []
+      nothing true = refl
+      nothing false = refl

@@ -10,8 +10,8 @@ use Rattle.std.specs.declared.cmp.Ordering.TheVariants.{Less}
 use Rattle.radix_trie.specs.Walks.{deref_pair}
 
 -- a test as it is, or its opposite
-abbrev pub passes : Bool → Bool → Bool
-passes keeps b = cond keeps b (not b)
+abbrev pub kept_as : Bool → Bool → Bool
+kept_as keeps b = cond keeps b (not b)
 
 module _ {P : Type 0} where
   -- an entry stands at the list
@@ -20,23 +20,28 @@ module _ {P : Type 0} where
 
   -- the entries at whose lists others stand, or those at whose lists none stand
   abbrev pub picked : Bool → List (List ℕ × P) → List (List ℕ × P) → List (List ℕ × P)
-  picked keeps es fs = where_key (slice_cmp nat_cmp) (λ q. passes keeps (has_entry fs q)) es
+  picked keeps es fs = where_key (slice_cmp nat_cmp) (λ q. kept_as keeps (has_entry fs q)) es
 
   -- the entries of both; at a list of both stands that of es
-  abbrev pub merged : List (List ℕ × P) → List (List ℕ × P) → List (List ℕ × P)
-  merged [] fs = fs
-  merged (e ∷ es) fs = put (slice_cmp nat_cmp) e.0 e.1 (merged es fs)
+  abbrev pub merged_entries : List (List ℕ × P) → List (List ℕ × P) → List (List ℕ × P)
+  merged_entries [] fs = fs
+  merged_entries (e ∷ es) fs = put (slice_cmp nat_cmp) e.0 e.1 (merged_entries es fs)
 
   -- the entries of both, also those at a list of both, or not these
   abbrev pub united : Bool → List (List ℕ × P) → List (List ℕ × P) → List (List ℕ × P)
-  united true es fs = merged es fs
-  united false es fs = merged (picked false es fs) (picked false fs es)
+  united true es fs = merged_entries es fs
+  united false es fs = merged_entries (picked false es fs) (picked false fs es)
+
+-- the keys that are left: the one that was found, and those behind it; none where none was found
+abbrev pub found_first : {K : Type 0} → Option (Bor K) → List K → List K
+found_first None rest = []
+found_first (Some key) rest = key.now ∷ rest
 
 module _ {K V : Type 0} where
   -- the pairs that are left: the one that was looked at, and those behind it
-  abbrev pub ahead : Option (Bor K × Bor V) → List (K × V) → List (K × V)
-  ahead None rest = rest
-  ahead (Some p) rest = deref_pair p ∷ rest
+  abbrev pub still_ahead : Option (Bor K × Bor V) → List (K × V) → List (K × V)
+  still_ahead None rest = rest
+  still_ahead (Some p) rest = deref_pair p ∷ rest
 
   -- the first pair that is left was looked at, if there is one
   abbrev pub IsShown : Option (Bor K × Bor V) → List (K × V) → Type 0
@@ -62,5 +67,5 @@ module _ {K V : Type 0} where
     selected keeps ps qs = each (λ e. e.1.0) (picked keeps (at_encodings ps) (at_encodings qs))
 
     -- the keys of both, those of ps at encodings of both, or these not
-    abbrev pub gathered : Bool → List (K × V) → List (K × V) → List K
-    gathered keeps ps qs = each (λ e. e.1.0) (united keeps (at_encodings ps) (at_encodings qs))
+    abbrev pub gathered_keys : Bool → List (K × V) → List (K × V) → List K
+    gathered_keys keeps ps qs = each (λ e. e.1.0) (united keeps (at_encodings ps) (at_encodings qs))

@@ -1,7 +1,7 @@
 //! A cursor that shows the pair that comes next.
 ghost use Rattle.std.specs.FinMap as map;
 ghost use Rattle.std.specs.Prelude.{◌≡◌, IsOk, IfOk, OnOk, drop, option_copied, option_map, slice_get};
-ghost use Rattle.trie_set.specs.Sides.{Ascends, IsShown, ahead, at_encodings, order_to};
+ghost use Rattle.trie_set.specs.Sides.{Ascends, IsShown, still_ahead, at_encodings, order_to};
 
 use radix_trie::iter::Cursor;
 use radix_trie::{Memory, Trie, TrieCommon, TrieKey};
@@ -21,9 +21,9 @@ impl<'a, K: TrieKey> KeyCursor<'a, K> {
     /// The walk over all keys of a trie.
     pub(crate) fn over(trie: &'a Trie<K, ()>) -> Result<KeyCursor<'a, K>, Memory>
         ensures entries { IfOk result (λ cursor. at_encodings K.encoding
-            (ahead cursor.head cursor.rest) ≡ map.entries trie.now) }
+            (still_ahead cursor.head cursor.rest) ≡ map.entries trie.now) }
         ensures ascends { IfOk result
-            (λ cursor. Ascends K.encoding (ahead cursor.head cursor.rest)) }
+            (λ cursor. Ascends K.encoding (still_ahead cursor.head cursor.rest)) }
         ensures none { map.len trie.now ≡ 0 → IsOk result }
     {
         Ok(KeyCursor {
@@ -36,7 +36,7 @@ impl<'a, K: TrieKey> KeyCursor<'a, K> {
 impl<'a, K> KeyCursor<'a, K> {
     /// The key that comes next, which stays there.
     pub(crate) fn peek(&mut self) -> Result<Option<(&'a K, &'a ())>, Memory>
-        ensures same { ahead self.new.head self.new.rest ≡ ahead self.old.head self.old.rest }
+        ensures same { still_ahead self.new.head self.new.rest ≡ still_ahead self.old.head self.old.rest }
         ensures head { IfOk result (λ pair. pair ≡ self.new.head) }
         ensures shown { OnOk result (IsShown self.new.head self.new.rest) }
     {
@@ -50,9 +50,9 @@ impl<'a, K> KeyCursor<'a, K> {
     pub(crate) fn take(&mut self) -> Option<&'a K>
         requires { IsShown self.old.head self.old.rest }
         ensures key { option_copied result ≡ option_map (λ p. p.0)
-            (slice_get (ahead self.old.head self.old.rest) 0) }
-        ensures rest { ahead self.new.head self.new.rest
-            ≡ drop 1 (ahead self.old.head self.old.rest) }
+            (slice_get (still_ahead self.old.head self.old.rest) 0) }
+        ensures rest { still_ahead self.new.head self.new.rest
+            ≡ drop 1 (still_ahead self.old.head self.old.rest) }
     {
         let (key, _) = self.head.take()?;
         Some(key)
@@ -61,7 +61,7 @@ impl<'a, K> KeyCursor<'a, K> {
     /// Goes on behind the key that was looked at.
     pub(crate) fn skip(&mut self)
         requires { IsShown self.old.head self.old.rest }
-        ensures { ahead self.new.head self.new.rest ≡ drop 1 (ahead self.old.head self.old.rest) }
+        ensures { still_ahead self.new.head self.new.rest ≡ drop 1 (still_ahead self.old.head self.old.rest) }
     {
         self.head = None;
     }
@@ -73,10 +73,10 @@ pub(crate) fn order_beside<'a, K: TrieKey>(
     key: &K,
     other: &mut KeyCursor<'a, K>,
 ) -> Result<Ordering, Memory>
-    ensures same { ahead other.new.head other.new.rest ≡ ahead other.old.head other.old.rest }
+    ensures same { still_ahead other.new.head other.new.rest ≡ still_ahead other.old.head other.old.rest }
     ensures shown { OnOk result (IsShown other.new.head other.new.rest) }
     ensures order { IfOk result (λ order. order
-        ≡ order_to K.encoding (K.encoding key.now) (ahead other.old.head other.old.rest)) }
+        ≡ order_to K.encoding (K.encoding key.now) (still_ahead other.old.head other.old.rest)) }
 {
     match other.peek()? {
         Some((beside, _)) => Ok(key.encode(alloc)?.cmp(&beside.encode(alloc)?)),

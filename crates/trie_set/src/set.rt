@@ -208,7 +208,7 @@ impl<K: TrieKey + Drop> TrieSet<K> {
         ensures light_short { Q.is_light key.now
             → ((e : List ℕ) → IsStored self.old e → IsShort e)
             → IsOk result }
-        ensures light_join { Q.is_light key.now → JoinsAreShort self.old (Q.encoding key.now)
+        ensures join { Q.is_light key.now → JoinsAreShort self.old (Q.encoding key.now)
             → IsOk result }
     {
         Ok(self.take(key)?.is_some())
@@ -229,7 +229,7 @@ impl<K: TrieKey + Drop> TrieSet<K> {
         ensures light_short { Q.is_light key.now
             → ((e : List ℕ) → IsStored self.old e → IsShort e)
             → IsOk result }
-        ensures light_join { Q.is_light key.now → JoinsAreShort self.old (Q.encoding key.now)
+        ensures join { Q.is_light key.now → JoinsAreShort self.old (Q.encoding key.now)
             → IsOk result }
     {
         Ok(key_of(self.trie.remove_entry(key)?))

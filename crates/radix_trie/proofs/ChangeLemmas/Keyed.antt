@@ -1,15 +1,19 @@
 -- Maps that are built by edits stay keyed.
-use Rattle.std.proofs.Common.{◌≡◌, ℕ, Bool, true, false, cond, not, T, All, List, [], ◌∷◌, Option, Some, None, is_some, nat_cmp, ap, refl, sym, subst, ◌∙◌, inl, inr}
+use Rattle.std.proofs.Common.{◌≡◌, ℕ, Bool, true, false, cond, not, T, All, List, [], ◌∷◌, Option, Some, None, is_some, option_map, unwrap_or, nat_cmp, ap, refl, sym, subst, ◌∙◌, inl, inr}
 use Rattle.std.proofs.lemmas.List.Elements.{All-head, All-tail}
 use Rattle.std.specs.Cmp.Lexicographic.{slice_cmp}
 use Rattle.std.specs.FinMap as map
+use Rattle.nibble_map.specs.Copies.{IsMapCopy}
 use Rattle.nibble_map.specs.Lists.{is_prefix}
 use Rattle.nibble_map.specs.Maps.{PairMap, below, set_value, with_value, without_below}
+use Rattle.nibble_map.specs.Turned.{IsTurnedCopy, turned}
+use Rattle.nibble_map.proofs.ListLemmas.Turned.{turned-turned}
 use Rattle.nibble_map.proofs.MapLemmas.Below.{get-retained_lists}
 use Rattle.nibble_map.proofs.MapLemmas.Edits.{has_get, insert_sets_entry, not_None, remove_cuts_entry}
 use Rattle.radix_trie.specs.Building.{with_pairs}
 use Rattle.radix_trie.specs.Keys.{IsKeyed}
 use Rattle.radix_trie.specs.Values.{ChangesEachPair}
+use Rattle.radix_trie.specs.Views.{with_value_or}
 
 module _ {K V : Type 0} (enc : K → List ℕ) (is : K → Type 0) where
   -- the empty map is keyed
@@ -40,6 +44,16 @@ module _ {K V : Type 0} (enc : K → List ℕ) (is : K → Type 0) where
           let k = h a p i in
           subst (λ b. IsKeyed enc is (map.insert m b (p.0, w))) (sym k.0) (keyed_inserted m p.0 w h k.1)
 
+  -- or at a key's encoding, by that key where none was stored there
+  pub keyed_written_or : (m : PairMap K V) (k : K) (w : V) → IsKeyed enc is m → is k → IsKeyed enc is (with_value_or m (enc k) k w)
+  keyed_written_or m k w h i = by (map.get m (enc k)) refl
+    where
+      by : (o : Option (K × V)) → map.get m (enc k) ≡ o → IsKeyed enc is (map.insert m (enc k) (unwrap_or (option_map (λ p. p.0) o) k, w))
+      by None none = keyed_inserted m k w h i
+      by (Some p) at =
+          let s = h (enc k) p at in
+          subst (λ b. IsKeyed enc is (map.insert m b (p.0, w))) (sym s.0) (keyed_inserted m p.0 w h s.1)
+
   -- the part of a keyed map whose lists pass a test is keyed
   pub keyed_part : (m : PairMap K V) (t : List ℕ → Bool) → IsKeyed enc is m → IsKeyed enc is (map.retain_keys m t)
   keyed_part m t h e p at = by (t e) (sym (get-retained_lists m t e) ∙ at)
@@ -54,16 +68,34 @@ module _ {K V : Type 0} (enc : K → List ℕ) (is : K → Type 0) where
   keyed_extended m (p ∷ ps) h each =
       keyed_extended (map.insert m (enc p.0) p) ps (keyed_inserted m p.0 p.1 h (All-head (λ q. is q.0) p ps each)) (All-tail (λ q. is q.0) p ps each)
 
-  -- a keyed map stays so where each value is changed
-  pub keyed_changed : (R : K × V → V → Type 0) (m n : PairMap K V) → ChangesEachPair R m n → IsKeyed enc is m → IsKeyed enc is n
-  keyed_changed R m n changed h e q at = by (map.get m e) refl
+  -- a copy of a keyed map is keyed where copies of its keys keep their encodings, and are values
+  pub keyed_copied : (R : K × V → K × V → Type 0) → ((p q : K × V) → R p q → is p.0 → (enc q.0 ≡ enc p.0) × is q.0)
+      → (m n : PairMap K V) → IsMapCopy R m n → IsKeyed enc is m → IsKeyed enc is n
+  keyed_copied R keeps m n copy h e q at = by (map.get m e) refl
     where
       by : (o : Option (K × V)) → map.get m e ≡ o → (e ≡ enc q.0) × is q.0
-      by None none = absurd (subst (λ o. T (is_some o)) none ((changed.same_lists e).1 (subst (λ o. T (is_some o)) (sym at) tt)))
+      by None none = absurd (subst (λ o. T (is_some o)) none ((copy.same_lists e).1 (subst (λ o. T (is_some o)) (sym at) tt)))
       by (Some p) was =
-          let same = (changed.copied_pairs e p q was at).0 in
           let k = h e p was in
-          (k.0 ∙ ap enc (sym same), subst is (sym same) k.1)
+          let s = keeps p q (copy.copied_pairs e p q was at) k.1 in
+          (k.0 ∙ sym s.0, s.1)
+
+  -- so is the copy at the turned lists, by an encoding that turns them
+  pub keyed_turned : (wrapped : K → List ℕ) → ((k : K) → wrapped k ≡ turned (enc k)) → (R : K × V → K × V → Type 0) → ((p q : K × V) → R p q → q.0 ≡ p.0)
+      → (m n : PairMap K V) → IsTurnedCopy R m n → IsKeyed enc is m → IsKeyed wrapped is n
+  keyed_turned wrapped wrapped_is R keeps m n copy h e q at = by (map.get m (turned e)) refl
+    where
+      by : (o : Option (K × V)) → map.get m (turned e) ≡ o → (e ≡ wrapped q.0) × is q.0
+      by None none = absurd (subst (λ o. T (is_some o)) none ((copy.only_turned e).0 (subst (λ o. T (is_some o)) (sym at) tt)))
+      by (Some p) was =
+          let k = h (turned e) p was in
+          let same = keeps p q (copy.copied_pairs (turned e) p q was (ap (map.get n) (turned-turned e) ∙ at)) in
+          (sym (turned-turned e) ∙ ap turned k.0 ∙ sym (wrapped_is p.0) ∙ ap wrapped (sym same), subst is (sym same) k.1)
+
+  -- a keyed map stays so where each value is changed
+  pub keyed_changed : (R : K × V → V → Type 0) (m n : PairMap K V) → ChangesEachPair R m n → IsKeyed enc is m → IsKeyed enc is n
+  keyed_changed R m n changed h =
+      keyed_copied (λ p q. (q.0 ≡ p.0) × R p q.1) (λ p q r i. (ap enc r.0, subst is (sym r.0) i)) m n changed h
 
   -- a map is keyed where its part below a list is, and the rest
   pub keyed_joined : (m : PairMap K V) (p : List ℕ) → IsKeyed enc is (below m p) → IsKeyed enc is (without_below m p) → IsKeyed enc is m

@@ -1,22 +1,28 @@
 -- Where a trie doesn't go into another: the longest list with which all of its lists begin is the path of a node.
-use Rattle.std.proofs.Common.{◌≡◌, ◌≢◌, ℕ, ◌<◌, ◌⊎◌, inl, inr, T, false, true, Option, Some, None, IsSome, is_some, option_map, map, List, [], ◌∷◌, ◌++◌, length, vec_len, refl, ap, sym, subst, ◌∙◌, append_assoc, arith}
+use Rattle.std.proofs.Common.{◌≡◌, ◌≢◌, ℕ, ◌+◌, ◌<◌, ◌^◌, ◌⊎◌, inl, inr, T, false, true, Option, Some, None, IsSome, is_some, option_map, map, List, [], ◌∷◌, ◌++◌, length, vec_len, refl, ap, sym, subst, ◌∙◌, append_assoc, arith}
+use Rattle.std.specs.FinMap as fin
 use Rattle.masked_tree.specs.Edits.{IsOne, merged}
 use Rattle.masked_tree.specs.Paths.{IsChildAt, IsNodeAt, IsOccupied, IsPath}
 use Rattle.masked_tree.specs.Tree.{Tree, Children, none, more, IsPlaced, entries_in, firsts}
 use Rattle.nibble_map.specs.Lists.{IsPrefix}
-use Rattle.nibble_map.specs.Maps.{PairMap, IsBranchPoint, IsPoint, IsReached, IsStored}
+use Rattle.nibble_map.specs.Maps.{PairMap, IsBranchPoint, IsPoint, IsReached, IsStored, below, without_below}
 use Rattle.nibble_map.specs.Swaps.{entry}
 use Rattle.nibble_map.specs.Trees.{first}
 use Rattle.nibble_map.proofs.ListLemmas.Parted.{prefix_of_both, prefix_through, reached_past}
+use Rattle.nibble_map.proofs.MapLemmas.Without.{len-without_below, stored_without}
 use Rattle.radix_nodes.specs.declared.trie_node.KeyValue.{KeyValue}
 use Rattle.radix_nodes.specs.declared.trie_node.TrieNode.{TrieNode, out-TrieNode}
 use Rattle.radix_nodes.specs.Nodes.{tree_of}
 use Rattle.radix_nodes.specs.Pairs.{pair_of}
 use Rattle.radix_nodes.proofs.EditLemmas.Insertion.{length-firsts_of_boxes}
 use Rattle.radix_nodes.proofs.NodeLemmas.Nodes.{children-tree_of}
-use Rattle.radix_trie.specs.Refusals.{AllBegin}
+use Rattle.radix_trie.specs.Refusals.{AllBegin, RefusesAppend}
 use Rattle.radix_trie.specs.Roots.{IsKept, IsRoot, entries_of, map_of}
+use Rattle.radix_trie.specs.declared.error.AppendWhy.{AppendWhy}
+use Rattle.radix_trie.specs.declared.error.AppendWhy.TheVariants as appending
 use Rattle.radix_trie.proofs.ChangeLemmas.Joined.{over}
+use Rattle.radix_trie.proofs.LawLemmas.Parts.{stored-part}
+use Rattle.radix_trie.proofs.PathLemmas.Places.{below-nil}
 use Rattle.radix_trie.proofs.RootLemmas.Held.{pair_of-node}
 use Rattle.radix_trie.proofs.RootLemmas.Paths.{node_point}
 use Rattle.radix_trie.proofs.RootLemmas.Shown.{entries_of-root, kept_root, row_of}
@@ -120,3 +126,33 @@ module _ {K V : Type 0} (enc : K → List ℕ) (part : Tree (KeyValue K V)) (pai
       elim (node_point enc (map_of part) part own_root (merged part).fragment path.0 path.1) [ inl e ↦ absurd (only_path_some part owned.top owned.masked.1 one e) | inr h ↦ h ] in
       let begin = begins_point (map_of part) l all (merged part).fragment point in
       (held.0, node_point enc (map_of old) old (kept_root enc old count nodes nibbles kept) held.0 held.1.0 held.1.1, prefix_through l (merged part).fragment held.0 begin held.2)
+
+-- the part below a path, and the rest
+module _ {K V : Type 0} (m : PairMap K V) (p : List ℕ) where
+  -- below the path the rest has no point but the empty list
+  rest_point : (q : List ℕ) → IsPoint (without_below m p) q → IsPrefix p q → q ≡ []
+  rest_point q (inl top) under = top
+  rest_point q (inr (inl stored)) under = absurd ((stored_without p m q stored).1 under)
+  rest_point q (inr (inr parts)) under =
+      let r = parts.3 in
+      let begins : IsPrefix q r.0 = (parts.0 ∷ r.2.0, r.2.1 ∙ append_assoc q (parts.0 ∷ []) r.2.0) in
+      absurd ((stored_without p m r.0 r.1).1 (prefix_through p q r.0 under begins))
+
+  -- only the empty list is a prefix of the empty list
+  prefix_of_nil : (l : List ℕ) → IsPrefix l [] → l ≡ []
+  prefix_of_nil [] h = refl
+  prefix_of_nil (a ∷ l) h = absurd (no_cons h.1)
+    where
+      no_cons : [] ≡ a ∷ (l ++ h.0) → ⊥
+      no_cons clash = cc
+
+  -- the rest takes the part back, but for memory
+  pub part_goes_back : (why : AppendWhy) → fin.len m < 2 ^ 64 → RefusesAppend (without_below m p) (below m p) why → (fin.len (without_below m p) ≡ 0) ⊎ (why ≡ appending.Memory)
+  part_goes_back appending.Full few refused = absurd (let n = len-without_below p m in omega (arith, refused, n, few))
+  part_goes_back appending.Overlapping few refused =
+      let at = refused p (λ e stored. ((stored-part m p e).0 stored).0) in
+      let whole : p ≡ [] = prefix_of_nil p (subst (IsPrefix p) (rest_point at.0 at.1 at.2) at.2) in
+      let n = len-without_below p m in
+      let b = ap fin.len (ap (below m) whole ∙ below-nil m) in
+      inl (omega (arith, n, b))
+  part_goes_back appending.Memory few refused = inr refl

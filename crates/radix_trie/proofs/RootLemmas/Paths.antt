@@ -2,7 +2,7 @@
 use Rattle.std.proofs.Common.{◌≡◌, inl, inr, ℕ, ◌*◌, ◌≤◌, max, List, [], ◌∷◌, ◌++◌, option_map, refl, ap, sym, subst, ◌∙◌, append_assoc, arith}
 use Rattle.std.specs.FinMap as map
 use Rattle.masked_tree.specs.Tree.{Tree, Children, none, more}
-use Rattle.masked_tree.specs.Paths.{IsChildAt, IsNodeAt, IsPath, IsOnWay}
+use Rattle.masked_tree.specs.Paths.{IsChildAt, IsNodeAt, IsOnWay, IsPath}
 use Rattle.nibble_map.specs.Lists.{Has, Counts}
 use Rattle.nibble_map.specs.MapQueries.{IsFragment, IsVisited}
 use Rattle.nibble_map.specs.Maps.{PairMap, IsPoint}

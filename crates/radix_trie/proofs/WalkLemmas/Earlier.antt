@@ -52,7 +52,7 @@ module _ (itself : Bool) (r : List ℕ) where
   earlier_before e f Greater less same near = absurd (near refl)
 
   -- what comes after what is past the end is past it too
-  later_past : (e f : List ℕ) → slice_cmp nat_cmp e f ≡ Less → comes_before itself r e ≡ false → comes_before itself r f ≡ false
+  pub later_past : (e f : List ℕ) → slice_cmp nat_cmp e f ≡ Less → comes_before itself r e ≡ false → comes_before itself r f ≡ false
   later_past e f less past = by (slice_cmp nat_cmp f r) refl
     where
       near : (o : Ordering) → slice_cmp nat_cmp f r ≡ o → (o ≡ Greater → ⊥) → passes itself o ≡ false

@@ -4,7 +4,7 @@ ghost use Rattle.std.specs.Iterator.{YieldsFirstBy, item_count};
 ghost use Rattle.masked_tree.specs.Tree.{IsTreePlaced, entries_in};
 ghost use Rattle.radix_nodes.specs.Nodes.{tree_of};
 ghost use Rattle.radix_nodes.specs.Pairs.{own_pair};
-ghost use Rattle.radix_trie.specs.Walks.{IsOnWay, deref_pair, pairs_on_way, prefix_pairs};
+ghost use Rattle.radix_trie.specs.Walks.{LeadsTo, deref_pair, pairs_on_way, prefix_pairs};
 
 use crate::iter::walk::parts;
 use radix_keys::Nibblet;
@@ -30,11 +30,11 @@ impl<'a, K, V> Model for CommonPrefixes<'a, K, V> {
 
     ghost Value = { List (K × V) };
 
-    ghost use Rattle.radix_trie.specs.Walks.{IsOnWay, pairs_on_way};
+    ghost use Rattle.radix_trie.specs.Walks.{LeadsTo, pairs_on_way};
 
     ghost view = { λ a. pairs_on_way a.list a.at };
 
-    ghost invariant = { λ a. IsOnWay a.list a.at };
+    ghost invariant = { λ a. LeadsTo a.list a.at };
 }
 
 impl<'a, K, V> CommonPrefixes<'a, K, V> {
@@ -81,7 +81,7 @@ fn child_on_way<'a, K, V>(
     requires placed { IsTreePlaced (tree_of node.now) }
     ensures pairs { pairs_on_way list.now result
         ≡ prefix_pairs (drop depth list.now) (entries_in [] (tree_of node.now).children) }
-    ensures on_way { IsOnWay list.now result }
+    ensures on_way { LeadsTo list.now result }
     ensures further { IfSome result (λ r. depth < r.1) }
 {
     match step(node, list, depth) {

@@ -13,12 +13,14 @@ ghost use Rattle.serde_json.specs.Written.{has_float, members_have_float};
 ghost use Rattle.radix_trie.specs.Json.{object_of, read_as, IsOtherKind};
 
 mod floats;
+mod laws;
 
 use crate::error::{InsertWhy, JsonError};
 use crate::iter::Iter;
 use crate::trie::Trie;
 use crate::view::trie_common::TrieCommon;
 use floats::{holds_float, members_hold_float};
+pub use laws::objects_are_read_back;
 use radix_keys::Memory;
 use serde_json::{Map, Value};
 use std::alloc::{AllocError, Global};
@@ -39,7 +41,6 @@ fn walk(trie: &Trie<String, Value>) -> Result<Iter<'_, String, Value>, Memory>
 ///
 /// In the order in which they are decided: memory for the walk; a float somewhere in a value;
 /// memory for the object.
-#[tactic(auto, using(crate::proofs::JsonLemmas::Objects::put_all_is))]
 pub fn to_value(alloc: Global, trie: &Trie<String, Value>) -> Result<Value, JsonError>
     ensures object { IfOk result (λ value. view value ≡ object_of trie.now) }
     ensures members { IfOk result (λ value. (name : List ℕ) → get name (view value)

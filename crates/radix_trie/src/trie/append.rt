@@ -6,7 +6,7 @@ ghost use Rattle.nibble_map.specs.Maps.{IsStored};
 ghost use Rattle.radix_nodes.specs.Nodes.{out_of, tree_of};
 ghost use Rattle.radix_trie.specs.Building.{with_pairs};
 ghost use Rattle.radix_trie.specs.Keys.{IsKeyed};
-ghost use Rattle.radix_trie.specs.Refusals.{RefusesAppend};
+ghost use Rattle.radix_trie.specs.Refusals.{IsFreeFor, RefusesAppend};
 ghost use Rattle.radix_trie.specs.Roots.{IsKept, map_of};
 ghost use Rattle.radix_trie.specs.Views.{pairs_below};
 
@@ -51,6 +51,7 @@ impl<K: TrieKey + Drop, V: Drop> Trie<K, V> {
             (self.new ≡ with_pairs K.encoding self.old (pairs_below part [])) }
         ensures apart { OnOk result
             ((e : List ℕ) → IsStored self.old e → IsStored part e → ⊥) }
+        ensures vacant { OnOk result ((map.len part ≡ 0) ⊎ IsFreeFor self.old part) }
 
         ensures keyed { OnOk result (IsKeyed K.encoding K.is_value self.old
             → IsKeyed K.encoding K.is_value part → IsKeyed K.encoding K.is_value self.new) }
@@ -84,6 +85,7 @@ impl<K: TrieKey + Drop, V: Drop> Trie<K, V> {
             (self.new ≡ with_pairs K.encoding self.old (pairs_below part [])) }
         ensures apart { OnOk result
             ((e : List ℕ) → IsStored self.old e → IsStored part e → ⊥) }
+        ensures vacant { OnOk result (IsFreeFor self.old part) }
         ensures keyed { OnOk result (IsKeyed K.encoding K.is_value self.old
             → IsKeyed K.encoding K.is_value part → IsKeyed K.encoding K.is_value self.new) }
         ensures handed_back { IfErr result (λ e. e.part ≡ part) }
@@ -127,6 +129,7 @@ impl<K: TrieKey + Drop, V: Drop> Trie<K, V> {
             ≡ with_pairs K.encoding self.old (pairs_below (map_of (tree_of root.old)) [])) }
         ensures apart { OnOk result ((e : List ℕ)
             → IsStored self.old e → IsStored (map_of (tree_of root.old)) e → ⊥) }
+        ensures vacant { OnOk result (IsFreeFor self.old (map_of (tree_of root.old))) }
         ensures keyed { OnOk result (IsKeyed K.encoding K.is_value self.old
             → IsKeyed K.encoding K.is_value (map_of (tree_of root.old))
             → IsKeyed K.encoding K.is_value self.new) }

@@ -2,7 +2,10 @@
 ghost use Rattle.std.specs.Prelude.{◌≡◌, IsOk, IfOk};
 ghost use Rattle.std.specs.FinMap as map;
 ghost use Rattle.nibble_map.specs.Copies.{IsPairClone};
+ghost use Rattle.nibble_map.specs.Nibbles.{nibbles};
 ghost use Rattle.nibble_map.specs.Turned.{IsTurnedCopy, IsSameFootprint};
+ghost use Rattle.radix_keys.specs.AscendingKeys.{turned_bytes};
+ghost use Rattle.radix_trie.specs.Keys.{IsKeyed};
 
 use crate::trie::Trie;
 use radix_keys::{Ascending, KeySigned, Memory};
@@ -21,6 +24,9 @@ impl<T: KeySigned, V: Clone> Trie<T, V> {
         // Each list comes with its highest bit turned over, as the wrapper's encoding has it.
         ensures moved { IfOk result (λ moved.
             IsTurnedCopy (IsPairClone (λ x y. y ≡ x) V.is_clone) self.now moved) }
+        ensures keyed { IfOk result (λ moved.
+            IsKeyed T.TrieKey.encoding T.KeyInt.is_value self.now → IsKeyed
+            (λ key. nibbles (turned_bytes (T.KeyInt.bytes key))) T.KeyInt.is_value moved) }
         ensures footprint { IfOk result (λ moved. IsSameFootprint self.now moved) }
         ensures light { map.len self.now ≡ 0 → IsOk result }
     {

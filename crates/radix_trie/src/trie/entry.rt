@@ -221,11 +221,11 @@ impl<'a, K: TrieKey + Drop, V: Drop, P: PathList> Entry<'a, K, V, P> {
             (self.exit.0.now ≡ map.remove (entry_map self.entry) (entry_list self.entry)) }
         ensures unchanged { OnErr result (self.exit.0.now ≡ entry_map self.entry) }
 
-        ensures absent { map.get (entry_map self.entry) (entry_list self.entry) ≡ None
+        ensures none { map.get (entry_map self.entry) (entry_list self.entry) ≡ None
             → IsOk result }
         ensures short { ((e : List ℕ) → IsStored (entry_map self.entry) e → IsShort e)
             → IsOk result }
-        ensures joins { JoinsAreShort (entry_map self.entry) (entry_list self.entry)
+        ensures join { JoinsAreShort (entry_map self.entry) (entry_list self.entry)
             → IsOk result }
     {
         let Entry { trie, key: _, list } = self;

@@ -7,6 +7,7 @@ ghost use Rattle.nibble_map.specs.Copies.{IsMapCopy, IsPairClone};
 ghost use Rattle.nibble_map.specs.Lists.{Counts};
 ghost use Rattle.nibble_map.specs.Maps.{IsPoint, IsSomePrefix, IsStored, value_at};
 ghost use Rattle.radix_nodes.specs.Nodes.{tree_of};
+ghost use Rattle.radix_trie.specs.Keys.{IsKeyed};
 ghost use Rattle.radix_trie.specs.Lends.{lends_at};
 ghost use Rattle.radix_trie.specs.Refusals.{IsFullAt};
 ghost use Rattle.radix_trie.specs.Walks.{deref_pair};
@@ -225,6 +226,9 @@ impl<K: TrieKey + Clone, V: Clone> Trie<K, V> {
             ≡ K.encoding key }
         ensures copy { IfOk result
             (λ copy. IsMapCopy (IsPairClone K.is_clone V.is_clone) self.now copy) }
+        ensures keyed { IfOk result (λ copy.
+            ((key clone : K) → K.is_clone key clone → K.is_value key → K.is_value clone)
+            → IsKeyed K.encoding K.is_value self.now → IsKeyed K.encoding K.is_value copy) }
         ensures light { map.len self.now ≡ 0 → IsOk result }
     {
         Ok(Trie {

@@ -32,7 +32,7 @@ impl<K: TrieKey + Drop, V: Drop> Trie<K, V> {
         ensures light_short { Q.is_light key.now
             → ((e : List ℕ) → IsStored self.old e → IsShort e)
             → IsOk result }
-        ensures light_join { Q.is_light key.now → JoinsAreShort self.old (Q.encoding key.now)
+        ensures join { Q.is_light key.now → JoinsAreShort self.old (Q.encoding key.now)
             → IsOk result }
     {
         let list = key.encode(self.alloc)?;
@@ -55,7 +55,7 @@ impl<K: TrieKey + Drop, V: Drop> Trie<K, V> {
         ensures light_short { Q.is_light key.now
             → ((e : List ℕ) → IsStored self.old e → IsShort e)
             → IsOk result }
-        ensures light_join { Q.is_light key.now → JoinsAreShort self.old (Q.encoding key.now)
+        ensures join { Q.is_light key.now → JoinsAreShort self.old (Q.encoding key.now)
             → IsOk result }
     {
         let list = key.encode(self.alloc)?;
@@ -69,7 +69,7 @@ impl<K: TrieKey + Drop, V: Drop> Trie<K, V> {
         ensures unchanged { OnErr result (self.new ≡ self.old) }
         ensures absent { map.get self.old list.now ≡ None → IsOk result }
         ensures short { ((e : List ℕ) → IsStored self.old e → IsShort e) → IsOk result }
-        ensures joins { JoinsAreShort self.old list.now → IsOk result }
+        ensures join { JoinsAreShort self.old list.now → IsOk result }
     {
         match self.take_entry_at(list) {
             Ok(Some((_, value))) => Ok(Some(value)),
@@ -85,7 +85,7 @@ impl<K: TrieKey + Drop, V: Drop> Trie<K, V> {
         ensures unchanged { OnErr result (self.new ≡ self.old) }
         ensures absent { map.get self.old list.now ≡ None → IsOk result }
         ensures short { ((e : List ℕ) → IsStored self.old e → IsShort e) → IsOk result }
-        ensures joins { JoinsAreShort self.old list.now → IsOk result }
+        ensures join { JoinsAreShort self.old list.now → IsOk result }
     {
         match remove_root(&mut self.root, list) {
             Ok(Some(removed)) => {

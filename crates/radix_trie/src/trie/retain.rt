@@ -1,9 +1,9 @@
 //! Removals of the pairs that a closure doesn't keep.
 ghost use Rattle.std.specs.FinMap as map;
-ghost use Rattle.std.specs.Prelude.{◌≡◌, [], All, IsOk, IfOk, OnOk};
+ghost use Rattle.std.specs.Prelude.{◌≡◌, [], All, IsOk, IfOk, OnOk, OnErr};
 ghost use Rattle.nibble_map.specs.Maps.{below, without_below};
 ghost use Rattle.radix_trie.specs.Keys.{IsKeyed};
-ghost use Rattle.radix_trie.specs.Retains.{Removes, RemovesSome, Retains, RetainsAtLeast, ReturnsAtPair, Sifts, TakesPairAt};
+ghost use Rattle.radix_trie.specs.Retains.{RemovesAll, RemovesBeforeOne, RemovesSome, Retains, RetainsAtLeast, RetainsBefore, ReturnsAtPair, Sifts, TakesPairAt};
 ghost use Rattle.radix_trie.specs.Views.{pairs_below};
 
 use crate::key_laws::keys_stand_at_their_encodings;
@@ -25,6 +25,8 @@ impl<K: TrieKey + Drop, V: Drop> Trie<K, V> {
         requires callable { All (TakesPairAt F.Fn keep) (pairs_below self.old []) }
         ensures retained { OnOk result (Retains (ReturnsAtPair F.Fn keep) self.old self.new) }
         ensures at_least { RetainsAtLeast (ReturnsAtPair F.Fn keep) self.old self.new }
+        ensures stopped { OnErr result
+            (RetainsBefore (ReturnsAtPair F.Fn keep) self.old self.new) }
         ensures keyed { IsKeyed K.encoding K.is_value self.old
             → IsKeyed K.encoding K.is_value self.new }
         ensures none { map.len self.old ≡ 0 → IsOk result }
@@ -45,7 +47,7 @@ impl<K: TrieKey + Drop, V: Drop> Trie<K, V> {
     ///
     /// Memory is refused, for an encoding, the walk, the list of encodings, or for joining two
     /// fragments, as in `remove`. Where it is refused for a join, the pairs before it that weren't
-    /// kept are gone; and nothing has changed otherwise.
+    /// kept are gone, and no other; else nothing has changed.
     pub fn retain_below<Q: TrieKey, F: Fn(&K, &V) -> bool>(
         &mut self,
         key: &Q,
@@ -57,6 +59,8 @@ impl<K: TrieKey + Drop, V: Drop> Trie<K, V> {
             (below self.old (Q.encoding key.now)) (below self.new (Q.encoding key.now))) }
         ensures at_least { RetainsAtLeast (ReturnsAtPair F.Fn keep)
             (below self.old (Q.encoding key.now)) (below self.new (Q.encoding key.now)) }
+        ensures stopped { OnErr result (RetainsBefore (ReturnsAtPair F.Fn keep)
+            (below self.old (Q.encoding key.now)) (below self.new (Q.encoding key.now))) }
         ensures elsewhere { without_below self.new (Q.encoding key.now)
             ≡ without_below self.old (Q.encoding key.now) }
         ensures keyed { IsKeyed K.encoding K.is_value self.old
@@ -80,6 +84,8 @@ impl<K: TrieKey + Drop, V: Drop> Trie<K, V> {
             (below self.old list.now) (below self.new list.now)) }
         ensures at_least { RetainsAtLeast (ReturnsAtPair F.Fn keep.now)
             (below self.old list.now) (below self.new list.now) }
+        ensures stopped { OnErr result (RetainsBefore (ReturnsAtPair F.Fn keep.now)
+            (below self.old list.now) (below self.new list.now)) }
         ensures elsewhere { without_below self.new list.now ≡ without_below self.old list.now }
         ensures keyed { IsKeyed K.encoding K.is_value self.old
             → IsKeyed K.encoding K.is_value self.new }
@@ -112,8 +118,9 @@ impl<K: TrieKey + Drop, V: Drop> Trie<K, V> {
 
     /// Removes the pairs at the lists, in order.
     fn remove_all(&mut self, lists: &[Nibblet]) -> Result<(), Memory>
-        ensures removed { OnOk result (Removes lists.now self.old self.new) }
+        ensures removed { OnOk result (RemovesAll lists.now self.old self.new) }
         ensures some { RemovesSome lists.now self.old self.new }
+        ensures stopped { OnErr result (RemovesBeforeOne lists.now self.old self.new) }
         ensures none { lists.now ≡ [] → IsOk result }
     {
         let mut rest = lists;

@@ -164,6 +164,7 @@ impl<'a, 'p, K: TrieKey, V> Place<'a, 'p, K, V> {
         ensures keyed { Each (λ e. e.0 ≡ K.encoding e.1.0) (walk self.now.map self.now.path) }
         ensures countable { IfOk result (λ pairs. length pairs < 2 ^ 64) }
         ensures none { finite.len (below self.now.map self.now.path) ≡ 0 → IsOk result }
+        ensures leaf { IsLeaf self.now.map self.now.path → IsOk result }
     {
         let _pairs = self.trie.len();
         match self.found {

@@ -1,9 +1,9 @@
 //! The removal of the pairs within a view that a closure doesn't keep.
 ghost use Rattle.std.specs.FinMap as map;
-ghost use Rattle.std.specs.Prelude.{◌≡◌, All, IsOk, OnOk};
+ghost use Rattle.std.specs.Prelude.{◌≡◌, All, IsOk, OnOk, OnErr};
 ghost use Rattle.nibble_map.specs.Maps.{below, without_below};
 ghost use Rattle.radix_trie.specs.Keys.{IsKeyed};
-ghost use Rattle.radix_trie.specs.Retains.{Retains, RetainsAtLeast, ReturnsAtPair, TakesPairAt};
+ghost use Rattle.radix_trie.specs.Retains.{Retains, RetainsAtLeast, RetainsBefore, ReturnsAtPair, TakesPairAt};
 ghost use Rattle.radix_trie.specs.Views.{pairs_below};
 ghost use Rattle.radix_trie.specs.WriteViews.{map_behind, path_of, SameView};
 
@@ -29,6 +29,9 @@ impl<'a, K: TrieKey + Drop, V: Drop> SubTrieMut<'a, K, V> {
         ensures at_least { RetainsAtLeast (ReturnsAtPair F.Fn keep)
             (below (map_behind self.old) (path_of self.old))
             (below (map_behind self.new) (path_of self.old)) }
+        ensures stopped { OnErr result (RetainsBefore (ReturnsAtPair F.Fn keep)
+            (below (map_behind self.old) (path_of self.old))
+            (below (map_behind self.new) (path_of self.old))) }
         ensures elsewhere { without_below (map_behind self.new) (path_of self.old)
             ≡ without_below (map_behind self.old) (path_of self.old) }
         ensures keyed { IsKeyed K.encoding K.is_value (map_behind self.old)

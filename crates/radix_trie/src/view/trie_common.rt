@@ -57,7 +57,7 @@ pub trait TrieCommon<'a, K: TrieKey + 'a, V: 'a>: Sized {
     /// # Errors
     ///
     /// Memory for the walk is refused. It grows with the height below the path, and not with the
-    /// count of pairs, so none is allocated where no pair is at or below the path.
+    /// count of pairs, so none is allocated where no pair is strictly below the path.
     ///
     /// # Examples
     ///
@@ -66,7 +66,8 @@ pub trait TrieCommon<'a, K: TrieKey + 'a, V: 'a>: Sized {
         ensures walk { IfOk result (λ pairs. pairs ≡ pairs_below (map self) (path self)) }
         ensures keyed { Each (λ e. e.0 ≡ K.encoding e.1.0) (walk (map self) (path self)) }
         ensures countable { IfOk result (λ pairs. length pairs < 2 ^ 64) }
-        ensures none { finite.len (below (map self) (path self)) ≡ 0 → IsOk result };
+        ensures none { finite.len (below (map self) (path self)) ≡ 0 → IsOk result }
+        ensures leaf { IsLeaf (map self) (path self) → IsOk result };
 
     /// The keys of the walk of `iter`.
     ///
@@ -77,7 +78,8 @@ pub trait TrieCommon<'a, K: TrieKey + 'a, V: 'a>: Sized {
         ensures walk { IfOk result
             (λ keys. keys ≡ each (λ p. p.0) (pairs_below (map self) (path self))) }
         ensures countable { IfOk result (λ keys. length keys < 2 ^ 64) }
-        ensures none { finite.len (below (map self) (path self)) ≡ 0 → IsOk result };
+        ensures none { finite.len (below (map self) (path self)) ≡ 0 → IsOk result }
+        ensures leaf { IsLeaf (map self) (path self) → IsOk result };
 
     /// The values of the walk of `iter`.
     ///
@@ -88,7 +90,8 @@ pub trait TrieCommon<'a, K: TrieKey + 'a, V: 'a>: Sized {
         ensures walk { IfOk result
             (λ values. values ≡ each (λ p. p.1) (pairs_below (map self) (path self))) }
         ensures countable { IfOk result (λ values. length values < 2 ^ 64) }
-        ensures none { finite.len (below (map self) (path self)) ≡ 0 → IsOk result };
+        ensures none { finite.len (below (map self) (path self)) ≡ 0 → IsOk result }
+        ensures leaf { IsLeaf (map self) (path self) → IsOk result };
 
     /// The walk over the pairs at and below the path from the key's encoding on: those whose
     /// encodings are the key's or come after it, in their order. The key needn't be stored, nor lie
@@ -135,7 +138,7 @@ pub trait TrieCommon<'a, K: TrieKey + 'a, V: 'a>: Sized {
     ///
     /// # Errors
     ///
-    /// Memory for the first row is refused. None is allocated where no pair is at or below the path.
+    /// Memory for the first row is refused. None is allocated where no pair is strictly below the path.
     ///
     /// # Examples
     ///
@@ -144,7 +147,8 @@ pub trait TrieCommon<'a, K: TrieKey + 'a, V: 'a>: Sized {
         ensures walk { IfOk result (λ pairs. pairs ≡ pairs_below (map self) (path self)) }
         ensures keyed { Each (λ e. e.0 ≡ K.encoding e.1.0) (walk (map self) (path self)) }
         ensures countable { IfOk result (λ pairs. length pairs < 2 ^ 64) }
-        ensures none { finite.len (below (map self) (path self)) ≡ 0 → IsOk result };
+        ensures none { finite.len (below (map self) (path self)) ≡ 0 → IsOk result }
+        ensures leaf { IsLeaf (map self) (path self) → IsOk result };
 
     /// The walk over the pairs at and below the path from the last to the first: in the falling
     /// order of their encodings, the extensions of a prefix before it.

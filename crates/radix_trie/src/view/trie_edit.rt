@@ -5,7 +5,7 @@ ghost use Rattle.nibble_map.specs.Lists.{IsPrefix};
 ghost use Rattle.nibble_map.specs.Maps.{PairMap, below, value_at, without_below};
 ghost use Rattle.radix_trie.specs.Keys.{IsKeyed};
 ghost use Rattle.radix_trie.specs.Refusals.{IsFullAt, RefusesBelow, RefusesInsert, RefusesRemove};
-ghost use Rattle.radix_trie.specs.Retains.{Retains, RetainsAtLeast, ReturnsAtPair, TakesPairAt};
+ghost use Rattle.radix_trie.specs.Retains.{Retains, RetainsAtLeast, RetainsBefore, ReturnsAtPair, TakesPairAt};
 ghost use Rattle.radix_trie.specs.Values.{ChangesEachPair, LeavesAtPair, TakesPairAtMut};
 ghost use Rattle.radix_trie.specs.Views.{pairs_below};
 ghost use Rattle.radix_trie.specs.WriteViews.{map_behind, path_of};
@@ -127,6 +127,8 @@ pub trait TrieEdit<K: TrieKey, V> {
             (below (map self.old) (path self.old)) (below (map self.new) (path self.old))) }
         ensures at_least { RetainsAtLeast (ReturnsAtPair F.Fn keep)
             (below (map self.old) (path self.old)) (below (map self.new) (path self.old)) }
+        ensures stopped { OnErr result (RetainsBefore (ReturnsAtPair F.Fn keep)
+            (below (map self.old) (path self.old)) (below (map self.new) (path self.old))) }
         ensures elsewhere { without_below (map self.new) (path self.old)
             ≡ without_below (map self.old) (path self.old) }
         ensures keyed { IsKeyed K.encoding K.is_value (map self.old)

@@ -12,11 +12,11 @@ use radix_trie::{Memory, TrieKey};
 impl<K: TrieKey> TrieSet<K> {
     /// The walk over the keys of this set at whose encodings the other set has keys too.
     ///
-    /// It begins at once, and a whole walk takes the time of a walk over each of the two sets.
+    /// A whole walk takes the time of a walk over each of the two sets. The first key is found here.
     ///
     /// # Errors
     ///
-    /// Memory is refused, for a row of nodes of each set. None is allocated for empty sets.
+    /// Memory is refused, for rows of nodes of each set, and as in a step. None is allocated for empty sets.
     pub fn intersection<'a>(&'a self, other: &'a TrieSet<K>) -> Result<Selection<'a, K>, Memory>
         ensures keys { IfOk result (λ walk. walk ≡ keys_in (common self.now other.now)) }
         ensures none { map.len self.now ≡ 0 → map.len other.now ≡ 0 → IsOk result }

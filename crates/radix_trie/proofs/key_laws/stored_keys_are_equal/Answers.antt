@@ -1,7 +1,7 @@
 use Rattle.std.proofs.Common.{not, sym, subst}
 use Rattle.nibble_map.specs.Lists.{is_prefix}
 use Rattle.radix_trie.specs.Keys.{IsKeyed}
-use Rattle.radix_trie.proofs.ChangeLemmas.Keyed.{keyed_empty, keyed_extended, keyed_inserted, keyed_part, keyed_removed, keyed_written}
+use Rattle.radix_trie.proofs.ChangeLemmas.Keyed.{keyed_empty, keyed_extended, keyed_inserted, keyed_part, keyed_removed, keyed_written, keyed_written_or}
 use Rattle.radix_trie.proofs.key_laws.stored_keys_are_equal.Goals as goal
 
 pub returns-clause-equal : goal.returns-clause-equal
@@ -20,6 +20,9 @@ returns-clause-removed g c = λ m e keyed. keyed_removed g.K.TrieKey.encoding g.
 
 pub returns-clause-written : goal.returns-clause-written
 returns-clause-written g c = λ m e v keyed. keyed_written g.K.TrieKey.encoding g.K.TrieKey.is_value m e v keyed
+
+pub returns-clause-written_or : goal.returns-clause-written_or
+returns-clause-written_or g c = keyed_written_or g.K.TrieKey.encoding g.K.TrieKey.is_value
 
 pub returns-clause-part : goal.returns-clause-part
 returns-clause-part g c = λ m e. keyed_part g.K.TrieKey.encoding g.K.TrieKey.is_value m (is_prefix e)

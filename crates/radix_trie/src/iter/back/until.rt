@@ -5,7 +5,7 @@ ghost use Rattle.masked_tree.specs.Tree.{IsFullBelow, IsTreePlaced, plain};
 ghost use Rattle.nibble_map.specs.Trees.{IsFull};
 ghost use Rattle.radix_nodes.specs.Nodes.{children_of, tree_of};
 ghost use Rattle.radix_nodes.specs.Pairs.{own_pair, pairs_in_all};
-ghost use Rattle.radix_trie.specs.Walks.{IsOnWay, ahead, earlier_pairs};
+ghost use Rattle.radix_trie.specs.Walks.{LeadsTo, ahead, earlier_pairs};
 
 use crate::iter::back::{CursorBack, Rest};
 use crate::iter::walk::parted;
@@ -69,7 +69,7 @@ fn parted_front<'a, K, V>(
     ensures pairs { (itself : Bool) → own_pair (tree_of node.now).pair
         ++ (pairs_in_all (children_of result.0.now) ++ ahead itself list.now result.1)
         ≡ earlier_pairs itself (drop depth list.now) (tree_of node.now) }
-    ensures on_way { IsOnWay list.now result.1 }
+    ensures on_way { LeadsTo list.now result.1 }
     ensures further { IfSome result.1 (λ r. depth < r.1) }
     ensures lower { IfSome result.1
         (λ r. levels (tree_of r.0.now).children < levels (tree_of node.now).children) }

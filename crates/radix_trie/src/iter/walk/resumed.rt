@@ -5,7 +5,7 @@ ghost use Rattle.masked_tree.specs.Sizes.{levels};
 ghost use Rattle.nibble_map.specs.Trees.{IsFull};
 ghost use Rattle.radix_nodes.specs.Nodes.{children_of, out_of, tree_of};
 ghost use Rattle.radix_nodes.specs.Pairs.{pairs_in_all};
-ghost use Rattle.radix_trie.specs.Walks.{AreParted, HasRowRoom, IsOnWay, beyond, first_pair, later_pairs, pairs_where, comes_after, pending, rows_of};
+ghost use Rattle.radix_trie.specs.Walks.{AreParted, HasRowRoom, LeadsTo, beyond, first_pair, later_pairs, pairs_where, comes_after, pending, rows_of};
 
 use crate::iter::side::{Side, side_of};
 use crate::iter::walk::{Iter, push_row};
@@ -93,7 +93,7 @@ pub(crate) fn parted<'a, K, V>(
         (entries_in [] (tree_of node.now).children)
         ≡ beyond itself list.now result.1 ++ pairs_in_all (children_of result.0.now) }
     ensures last { AreParted (out_of node.now).children.items result.1 result.0.now }
-    ensures on_way { IsOnWay list.now result.1 }
+    ensures on_way { LeadsTo list.now result.1 }
     ensures further { IfSome result.1 (λ r. depth < r.1) }
     ensures lower { IfSome result.1
         (λ r. levels (tree_of r.0.now).children < levels (tree_of node.now).children) }

@@ -2,6 +2,7 @@
 ghost use Rattle.std.specs.Prelude.{◌≡◌, ◌<◌, ◌^◌, IsOk, IfOk, filter, length, map as each};
 ghost use Rattle.std.specs.FinMap as map;
 ghost use Rattle.nibble_map.specs.Lists.{Each};
+ghost use Rattle.nibble_map.specs.MapQueries.{IsLeaf};
 ghost use Rattle.nibble_map.specs.Maps.{below, walk};
 ghost use Rattle.radix_trie.specs.Views.{pairs_after, pairs_below, pairs_from};
 ghost use Rattle.radix_trie.specs.Walks.{comes_after};
@@ -17,6 +18,7 @@ impl<'a, 'p, K: TrieKey, V> Place<'a, 'p, K, V> {
         ensures keyed { Each (λ e. e.0 ≡ K.encoding e.1.0) (walk self.now.map self.now.path) }
         ensures countable { IfOk result (λ pairs. length pairs < 2 ^ 64) }
         ensures none { map.len (below self.now.map self.now.path) ≡ 0 → IsOk result }
+        ensures leaf { IsLeaf self.now.map self.now.path → IsOk result }
     {
         let _pairs = self.trie.len();
         match self.found {

@@ -1,8 +1,10 @@
-use Rattle.std.proofs.Common.{refl, subst, sym}
+use Rattle.std.proofs.Common.{◌∙◌, [], inl, inr, ap, refl, subst, sym}
+use Rattle.std.proofs.lemmas.Result.{on_ok_weaker}
 use Rattle.std.specs.FinMap as map
 use Rattle.radix_nodes.specs.Nodes.{tree_of}
 use Rattle.radix_trie.proofs.ChangeLemmas.Joined.{all_put, none_put, none_stored}
 use Rattle.radix_trie.specs.Roots.{AllKeyed, map_of}
+use Rattle.radix_trie.proofs.PathLemmas.Places.{below-nil}
 use Rattle.radix_trie.proofs.RootLemmas.Shown.{entries-map_of}
 use Rattle.radix_trie.proofs.trie.Trie.append.Goals as goal
 
@@ -19,3 +21,13 @@ returns-then-is_empty-2-clause-appended g c =
 
 pub returns-then-is_empty-2-clause-apart : goal.returns-then-is_empty-2-clause-apart
 returns-then-is_empty-2-clause-apart g c e here there = none_stored c.args.self.now e (c.if-is_empty-2.ensures.0 refl) here
+
+pub returns-then-is_empty-clause-vacant : goal.returns-then-is_empty-clause-vacant
+returns-then-is_empty-clause-vacant g c = inl (c.if-is_empty.ensures.0 refl)
+
+pub returns-then-is_empty-2-clause-vacant : goal.returns-then-is_empty-2-clause-vacant
+returns-then-is_empty-2-clause-vacant g c =
+    inr ([], (λ e stored. (e, refl)), ap map.len (below-nil c.args.self.now) ∙ c.if-is_empty-2.ensures.0 refl)
+
+pub returns-clause-vacant : goal.returns-clause-vacant
+returns-clause-vacant g c = on_ok_weaker c.hang_in.result (λ free. inr free) c.hang_in.ensures.vacant

@@ -5,6 +5,7 @@ use Rattle.nibble_map.proofs.MapLemmas.SameTests.{anything_of_false}
 use Rattle.radix_nodes.specs.Nodes.{tree_of, fragment_of}
 use Rattle.radix_nodes.proofs.NodeLemmas.Nodes.{fragment-tree_of}
 use Rattle.radix_trie.specs.Roots.{map_of}
+use Rattle.radix_trie.proofs.ChangeLemmas.Keyed.{keyed_copied}
 use Rattle.radix_trie.proofs.ChangeLemmas.Copies.{copy_kept, copy_map, pair-empty_root, children-empty_root}
 use Rattle.radix_trie.proofs.RootLemmas.Shown.{len-map_of_kept}
 use Rattle.radix_trie.proofs.trie.Trie.clone.Goals as goal
@@ -26,3 +27,9 @@ pub returns-clause-copy : goal.returns-clause-copy
 returns-clause-copy g c =
     rw (← c.self.view_is)
     (copy_map g.K.TrieKey.encoding (IsPairClone g.K.Clone.is_clone g.V.Clone.is_clone) (λ x y s. c.requires.same_encoding x.0 y.0 s.0) _ _ _ _ _ c.self.invariant c.in_ok-copied.ensures.copy)
+
+pub returns-clause-keyed : goal.returns-clause-keyed
+returns-clause-keyed g c values =
+    let enc = g.K.TrieKey.encoding in
+    rw (← c.self.view_is) (keyed_copied enc g.K.TrieKey.is_value (IsPairClone g.K.Clone.is_clone g.V.Clone.is_clone) (λ p q s i. (c.requires.same_encoding p.0 q.0 s.0, values p.0 q.0 s.0 i)) _ _
+    (copy_map enc (IsPairClone g.K.Clone.is_clone g.V.Clone.is_clone) (λ x y s. c.requires.same_encoding x.0 y.0 s.0) _ _ _ _ _ c.self.invariant c.in_ok-copied.ensures.copy))

@@ -113,6 +113,14 @@ returns-in-Ok-clause-apart g c =
     let s = hung_from_root c.self.inside.root (tree_of n) (tree_of c.append.new.part) (tree_of c.append.new.root) (Ok c.in-Ok.hung) c.self.invariant.top c.in-Ok.ensures in
     rw (← c.self.view_is) (lists_apart g.K.TrieKey.encoding (tree_of c.self.inside.root) _ _ _ c.self.invariant (tree_of n) _ _ _ c.requires.kept c.if-not-is_one_branch.ensures.0 one s.0 (tree_of c.append.new.root) _ _ s.1)
 
+pub returns-in-Ok-clause-vacant : goal.returns-in-Ok-clause-vacant
+returns-in-Ok-clause-vacant g c =
+    let n = c.args.root.now in
+    let one : IsOne (tree_of n).children = has_one_child n (sym (out-TrieNode g.row.K.Denot g.row.V.Denot n).children.ok.0 ∙ c.if-not-is_one_branch.ensures.1) in
+    let s = hung_from_root c.self.inside.root (tree_of n) (tree_of c.append.new.part) (tree_of c.append.new.root) (Ok c.in-Ok.hung) c.self.invariant.top c.in-Ok.ensures in
+    let begins = part_begins g.K.TrieKey.encoding (tree_of c.self.inside.root) _ _ _ c.self.invariant (tree_of n) _ _ _ c.requires.kept c.if-not-is_one_branch.ensures.0 one in
+    rw (← c.self.view_is) ((merged (tree_of n)).fragment, begins, len-nothing_below g.K.TrieKey.encoding (tree_of c.self.inside.root) _ _ _ c.self.invariant (merged (tree_of n)).fragment s.0)
+
 pub returns-in-Ok-clause-keyed : goal.returns-in-Ok-clause-keyed
 returns-in-Ok-clause-keyed g c =
     let n = c.args.root.now in

@@ -2,5 +2,5 @@ use Rattle.std.proofs.Common.{subst, sym}
 use Rattle.radix_trie.specs.Refusals.{JoinsAreShort}
 use Rattle.radix_trie.proofs.trie.Trie.remove_entry.Goals as goal
 
-pub returns-clause-light_join : goal.returns-clause-light_join
-returns-clause-light_join g c = λ light short. c.take_entry_at.ensures.joins (subst (JoinsAreShort c.args.self.now) (sym c.in_ok-list.ensures.ok) short)
+pub returns-clause-join : goal.returns-clause-join
+returns-clause-join g c = λ light short. c.take_entry_at.ensures.join (subst (JoinsAreShort c.args.self.now) (sym c.in_ok-list.ensures.ok) short)

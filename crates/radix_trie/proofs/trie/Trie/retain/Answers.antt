@@ -1,7 +1,7 @@
-use Rattle.std.proofs.Common.{◌∙◌, [], OnOk, ap, subst}
+use Rattle.std.proofs.Common.{◌∙◌, [], OnErr, OnOk, ap, subst}
 use Rattle.std.specs.FinMap as map
 use Rattle.nibble_map.specs.Maps.{below}
-use Rattle.radix_trie.specs.Retains.{Retains, RetainsAtLeast, ReturnsAtPair}
+use Rattle.radix_trie.specs.Retains.{Retains, RetainsAtLeast, RetainsBefore, ReturnsAtPair}
 use Rattle.radix_trie.proofs.PathLemmas.Places.{below-nil}
 use Rattle.radix_trie.proofs.trie.Trie.retain.Goals as goal
 
@@ -22,6 +22,15 @@ returns-clause-at_least g c =
     subst (λ m. R m new) (below-nil old)
     (subst (λ n. R (below old []) n) (below-nil new)
     (subst (λ p. R (below old p) (below new p)) c.new-whole.ensures c.retain_at.ensures.at_least))
+
+pub returns-clause-stopped : goal.returns-clause-stopped
+returns-clause-stopped g c =
+    let old = c.args.self.now in
+    let new = c.retain_at.new.self in
+    let R = RetainsBefore (ReturnsAtPair g.F.Fn c.args.keep) in
+    subst (λ m. OnErr c.retain_at.result (R m new)) (below-nil old)
+    (subst (λ n. OnErr c.retain_at.result (R (below old []) n)) (below-nil new)
+    (subst (λ p. OnErr c.retain_at.result (R (below old p) (below new p))) c.new-whole.ensures c.retain_at.ensures.stopped))
 
 pub returns-clause-none : goal.returns-clause-none
 returns-clause-none g c = λ e. c.retain_at.ensures.none (ap map.len (ap (below c.args.self.now) c.new-whole.ensures ∙ below-nil c.args.self.now) ∙ e)

@@ -49,8 +49,8 @@ returns-in-Err-clause-absent g c = λ absent.
     let here = none_unheld g.K.TrieKey.encoding (tree_of c.self.inside.root) _ _ _ c.self.invariant c.args.list.now (rw c.self.view_is absent) in
     absurd (here (held_at c.self.inside.root c.args.list.now _ c.self.invariant.top refl c.in-Err.ensures.1))
 
-pub returns-in-Err-clause-joins : goal.returns-in-Err-clause-joins
-returns-in-Err-clause-joins g c = λ short.
+pub returns-in-Err-clause-join : goal.returns-in-Err-clause-join
+returns-in-Err-clause-join g c = λ short.
     absurd (kept_joins_fit g.K.TrieKey.encoding c.self.inside.root _ _ _ c.self.invariant c.args.list.now (rw c.self.view_is short) c.in-Err.ensures.1 c.in-Err.ensures.2)
 
 pub returns-in-Err-clause-short : goal.returns-in-Err-clause-short

@@ -1,5 +1,6 @@
 use Rattle.std.proofs.Common.{◌≡◌, ◌≤◌, ◌∙◌, ap, sym, arith, length}
 use Rattle.std.specs.FinMap as map
+use Rattle.nibble_map.specs.Copies.{IsPairClone}
 use Rattle.nibble_map.specs.Nibbles.{nibbles}
 use Rattle.nibble_map.specs.Turned.{turned}
 use Rattle.nibble_map.proofs.MapLemmas.SameTests.{anything_of_false}
@@ -8,6 +9,7 @@ use Rattle.radix_keys.proofs.NibbleLemmas.Turning.{nibbles-turned}
 use Rattle.radix_nodes.specs.Nodes.{tree_of, fragment_of}
 use Rattle.radix_nodes.proofs.NodeLemmas.Nodes.{fragment-tree_of}
 use Rattle.radix_trie.specs.Roots.{map_of}
+use Rattle.radix_trie.proofs.ChangeLemmas.Keyed.{keyed_turned}
 use Rattle.radix_trie.proofs.ChangeLemmas.Turned.{wrapped_kept, wrapped_map, wrapped_footprint}
 use Rattle.radix_trie.proofs.ChangeLemmas.Copies.{pair-empty_root, children-empty_root}
 use Rattle.radix_trie.proofs.RootLemmas.Shown.{len-map_of_kept}
@@ -38,3 +40,11 @@ returns-clause-footprint g c =
     rw (← c.self.view_is)
     (wrapped_footprint g.T.TrieKey.encoding (λ k. nibbles (turned_bytes (g.T.KeyInt.bytes k))) g.V.Clone.is_clone (λ k. nibbles-turned _ ∙ ap turned (sym (g.met.T.KeySigned.plain k)))
     _ _ _ _ _ c.self.invariant c.in_ok-turned_copy.ensures.copy)
+
+pub returns-clause-keyed : goal.returns-clause-keyed
+returns-clause-keyed g c =
+    rw (← c.self.view_is)
+    (keyed_turned g.T.TrieKey.encoding g.T.KeyInt.is_value (λ k. nibbles (turned_bytes (g.T.KeyInt.bytes k))) (λ k. nibbles-turned _ ∙ ap turned (sym (g.met.T.KeySigned.plain k)))
+    (IsPairClone (λ x y. y ≡ x) g.V.Clone.is_clone) (λ p q s. s.0) _ _
+    (wrapped_map g.T.TrieKey.encoding (λ k. nibbles (turned_bytes (g.T.KeyInt.bytes k))) g.V.Clone.is_clone (λ k. nibbles-turned _ ∙ ap turned (sym (g.met.T.KeySigned.plain k)))
+    _ _ _ _ _ c.self.invariant c.in_ok-turned_copy.ensures.copy))

@@ -1,8 +1,6 @@
-use Rattle.trie_set.specs.Sides.{ahead}
-use Rattle.trie_set.proofs.SetLemmas.{selected-sides}
+use Rattle.std.proofs.Common.{◌∙◌, refl, sym}
+use Rattle.trie_set.proofs.SetLemmas.{found_first-step, none_selected}
 use Rattle.trie_set.proofs.selection.Selection.new.Goals as goal
 
-pub returns-clause-keys : goal.returns-clause-keys
-returns-clause-keys g c =
-    selected-sides g.K.TrieKey.encoding c.args.keys.now c.args.others.now (ahead c.in_ok-over.field-0.head c.in_ok-over.field-0.rest)
-    (ahead c.in_ok-over-2.field-0.head c.in_ok-over-2.field-0.rest) c.in_ok-over.ensures.entries c.in_ok-over-2.ensures.entries c.args.keeps_common
+pub returns-then-is_empty-clause-keys : goal.returns-then-is_empty-clause-keys
+returns-then-is_empty-clause-keys g c = sym (none_selected c.args.keeps_common c.args.keys.now c.args.others.now (c.if-is_empty.ensures.0 refl))

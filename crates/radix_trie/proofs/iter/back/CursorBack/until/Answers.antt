@@ -5,7 +5,7 @@ use Rattle.masked_tree.specs.Tree.{IsFullBelow}
 use Rattle.radix_nodes.specs.Nodes.{children_of, tree_of}
 use Rattle.radix_nodes.specs.Pairs.{own_pair, pairs_in_all}
 use Rattle.radix_trie.specs.declared.iter.back.Rest.{Rest}
-use Rattle.radix_trie.specs.Walks.{IsOnWay, ahead, earlier_pairs, first_pair, left_in}
+use Rattle.radix_trie.specs.Walks.{LeadsTo, ahead, earlier_pairs, first_pair, left_in}
 use Rattle.radix_trie.proofs.WalkLemmas.Back.{full-pushed, left-pushed}
 use Rattle.radix_trie.proofs.WalkLemmas.Earlier.{earlier-end}
 use Rattle.radix_trie.proofs.WalkLemmas.Rows.{first_own}
@@ -20,7 +20,7 @@ loop-done-preserved g c =
     let rest : Rest g.row.K.Denot g.row.V.Denot = record { own = c.pair.result; row = c.parted_front.result.0 } in
     let row = pairs_in_all (children_of rest.row.now) in
     let below = ahead c.args.itself list (Some (c.in-Some.below, c.in-Some.next)) in
-    let on_way = subst (IsOnWay list) c.in-Some.is c.parted_front.ensures.on_way in
+    let on_way = subst (LeadsTo list) c.in-Some.is c.parted_front.ensures.on_way in
     let lower = subst (λ way. IfSome way (λ r. levels (tree_of r.0.now).children < levels t.children)) c.in-Some.is c.parted_front.ensures.lower in
     let parts = subst (λ way. own_pair t.pair ++ (row ++ ahead c.args.itself list way) ≡ all) c.in-Some.is (c.parted_front.ensures.pairs c.args.itself) in
     record {

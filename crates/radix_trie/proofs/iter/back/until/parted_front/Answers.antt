@@ -5,7 +5,7 @@ use Rattle.nibble_map.specs.Trees.{IsFull}
 use Rattle.radix_nodes.specs.declared.trie_node.TrieNode.{out-TrieNode}
 use Rattle.radix_nodes.specs.Nodes.{children_of, tree_of}
 use Rattle.radix_nodes.specs.Pairs.{own_pair, pairs_in_all}
-use Rattle.radix_trie.specs.Walks.{AreParted, IsOnWay, ahead, beyond, comes_after, earlier_pairs, pairs_where}
+use Rattle.radix_trie.specs.Walks.{AreParted, LeadsTo, ahead, beyond, comes_after, earlier_pairs, pairs_where}
 use Rattle.radix_trie.proofs.WalkLemmas.Earlier.{front_full, front_none, front_some}
 use Rattle.radix_trie.proofs.iter.back.until.parted_front.Goals as goal
 
@@ -18,7 +18,7 @@ returns-in-Some-clause-pairs g c =
     let later = c.parted.result.0.now in
     let end = c.len.result - length later - 1 in
     let parts = subst (λ way. AreParted row.items way later) c.in-Some.is c.parted.ensures.last in
-    let on_way = subst (IsOnWay list) c.in-Some.is c.parted.ensures.on_way in
+    let on_way = subst (LeadsTo list) c.in-Some.is c.parted.ensures.on_way in
     let full = subst (λ way. IfSome way (λ r. IsFullBelow (tree_of r.0.now))) c.in-Some.is (c.parted.ensures.full c.requires.full).1 in
     let size : end + 1 + length later ≡ length row.items = omega (arith, c.len.ensures, row.ok.0, ap length parts.2, length-append parts.0 (parts.1 ∷ later)) in
     subst (λ bs. (itself : Bool) → own_pair (tree_of n).pair ++ (pairs_in_all (children_of (take end bs)) ++ ahead itself list (Some c.in-Some.way)) ≡ earlier_pairs itself (drop depth list) (tree_of n)) (sym c.deref.ensures.value)

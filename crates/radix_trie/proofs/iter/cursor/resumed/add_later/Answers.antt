@@ -4,7 +4,7 @@ use Rattle.masked_tree.specs.Sizes.{levels}
 use Rattle.masked_tree.specs.Tree.{IsFullBelow, plain}
 use Rattle.nibble_map.specs.Trees.{IsFull}
 use Rattle.radix_nodes.specs.Nodes.{children_of, tree_of}
-use Rattle.radix_trie.specs.Walks.{HasFullRows, IsOnWay, first_pair, beyond, later_pairs, pending, rows_of, with_row}
+use Rattle.radix_trie.specs.Walks.{HasFullRows, LeadsTo, first_pair, beyond, later_pairs, pending, rows_of, with_row}
 use Rattle.radix_trie.proofs.PathLemmas.Places.{false_is_not_true}
 use Rattle.radix_trie.proofs.WalkLemmas.FullRows.{full-with_row}
 use Rattle.radix_trie.proofs.WalkLemmas.LaterRows.{end_with, end_without, row_pushed}
@@ -31,7 +31,7 @@ loop-done-preserved g c =
     let list = c.args.list.now in
     let rows = rows_of c.loop-done.stack.items in
     let lt : c.loop-done.done < length list = omega (arith, c.loop-done-test.true, c.len.ensures) in
-    let on_way = subst (IsOnWay list) c.in-Some.is c.parted.ensures.on_way in
+    let on_way = subst (LeadsTo list) c.in-Some.is c.parted.ensures.on_way in
     let lower = subst (λ way. IfSome way (λ r. levels (tree_of r.0.now).children < levels (tree_of c.loop-done.at.now).children)) c.in-Some.is c.parted.ensures.lower in
     let full = c.parted.ensures.full c.loop-done.invariant.full_below in
     record {

@@ -2,7 +2,7 @@ use Rattle.std.proofs.Common.{◌≡◌, ◌<◌, ◌++◌, arith, ap, drop, len
 use Rattle.std.specs.Prelude.{IfSome}
 use Rattle.masked_tree.specs.Sizes.{levels}
 use Rattle.radix_nodes.specs.Nodes.{children_of, tree_of}
-use Rattle.radix_trie.specs.Walks.{IsOnWay, beyond, later_pairs, pending, rows_of, with_row}
+use Rattle.radix_trie.specs.Walks.{LeadsTo, beyond, later_pairs, pending, rows_of, with_row}
 use Rattle.radix_trie.proofs.WalkLemmas.LaterRows.{end_with, end_without, pushed_room, row_pushed}
 use Rattle.radix_trie.proofs.WalkLemmas.Rows.{children_of-row, first_own}
 use Rattle.radix_trie.proofs.WalkLemmas.Walks.{length-with_row}
@@ -28,7 +28,7 @@ loop-done-preserved g c =
     let list = c.args.list.now in
     let rows = rows_of c.loop-done.stack.items in
     let lt : c.loop-done.done < length list = omega (arith, c.loop-done-test.true, c.len.ensures) in
-    let on_way = subst (IsOnWay list) c.in-Some.is c.parted.ensures.on_way in
+    let on_way = subst (LeadsTo list) c.in-Some.is c.parted.ensures.on_way in
     let lower = subst (λ way. IfSome way (λ r. levels (tree_of r.0.now).children < levels (tree_of c.loop-done.at.now).children)) c.in-Some.is c.parted.ensures.lower in
     record {
       inside = on_way.0;

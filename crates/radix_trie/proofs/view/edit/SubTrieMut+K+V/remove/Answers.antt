@@ -9,5 +9,5 @@ returns-clause-why g c = λ light. (
   search rules,
   search rules,
   search rules,
-  λ short. false_is_not_true (c.in-Err.ensures.joins (subst (JoinsAreShort (map_behind c.args.self.now)) (sym c.in_ok-list.ensures.list) short)),
+  λ short. false_is_not_true (c.in-Err.ensures.join (subst (JoinsAreShort (map_behind c.args.self.now)) (sym c.in_ok-list.ensures.list) short)),
 )

@@ -40,3 +40,8 @@ pub returns-in-Some-clause-none : goal.returns-in-Some-clause-none
 returns-in-Some-clause-none g c =
     rw (← c.self.view_is)
     (λ none. c.over.ensures.leaf (leaf_has_no_levels g.K.TrieKey.encoding c.self.inside.trie.now c.self.inside.path.now c.self.inside.found c.self.invariant _ _ c.in-Some.is (nothing_is_leaf c.self.inside.trie.now c.self.inside.path.now none)))
+
+pub returns-in-Some-clause-leaf : goal.returns-in-Some-clause-leaf
+returns-in-Some-clause-leaf g c =
+    rw (← c.self.view_is)
+    (λ leaf. c.over.ensures.leaf (leaf_has_no_levels g.K.TrieKey.encoding c.self.inside.trie.now c.self.inside.path.now c.self.inside.found c.self.invariant _ _ c.in-Some.is leaf))

@@ -7,3 +7,6 @@ pub returns-clause-keyed : goal.returns-clause-keyed
 returns-clause-keyed g c =
     subst (λ p. Each (λ e. e.0 ≡ g.K.TrieKey.encoding e.1.0) (walk c.args.self.now p)) (c.find.ensures.path ∙ c.new-top.ensures)
     (rw (← c.find.ensures.map) c.cursor.ensures.keyed)
+
+pub returns-clause-leaf : goal.returns-clause-leaf
+returns-clause-leaf g c = λ leaf. c.cursor.ensures.leaf (rw (c.find.ensures.map, c.find.ensures.path ∙ c.new-top.ensures) leaf)

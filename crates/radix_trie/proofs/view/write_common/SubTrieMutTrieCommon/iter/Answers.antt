@@ -8,3 +8,7 @@ pub returns-clause-keyed : goal.returns-clause-keyed
 returns-clause-keyed g c =
     subst (λ p. Each (λ e. e.0 ≡ g.K.TrieKey.encoding e.1.0) (walk (map_behind c.args.self) p)) (c.find.ensures.path ∙ c.nibbles.ensures ∙ ap g.P.PathList.list c.into_parts-path.ensures.path)
     (subst (λ m. Each (λ e. e.0 ≡ g.K.TrieKey.encoding e.1.0) (walk m c.find.result.path)) (c.find.ensures.map ∙ c.into_parts-path.ensures.map) c.iter.ensures.keyed)
+
+pub returns-clause-leaf : goal.returns-clause-leaf
+returns-clause-leaf g c = λ leaf.
+    c.iter.ensures.leaf (rw (c.find.ensures.map ∙ c.into_parts-path.ensures.map, c.find.ensures.path ∙ c.nibbles.ensures ∙ ap g.P.PathList.list c.into_parts-path.ensures.path) leaf)

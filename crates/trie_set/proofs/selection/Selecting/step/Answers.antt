@@ -1,8 +1,8 @@
 use Rattle.std.proofs.Common.{◌≡◌, ◌∷◌, ◌∙◌, cond, drop, slice_get, sym, ap, subst}
 use Rattle.radix_trie.specs.Walks.{deref_pair}
-use Rattle.trie_set.specs.Sides.{Ascends, ahead, selected}
+use Rattle.trie_set.specs.Sides.{Ascends, still_ahead, selected}
 use Rattle.trie_set.proofs.SideLemmas.{ascends-drop, selected-greater, selected-other}
-use Rattle.trie_set.proofs.selection.Selection.next.Goals as goal
+use Rattle.trie_set.proofs.selection.Selecting.step.Goals as goal
 
 pub invariant_of-self-in_err-order : goal.invariant_of-self-in_err-order
 invariant_of-self-in_err-order g c =
@@ -13,10 +13,10 @@ pub loop-key-preserved-in-Greater : goal.loop-key-preserved-in-Greater
 loop-key-preserved-in-Greater g c =
     let enc = g.K.TrieKey.encoding in
     let keeps = c.loop-key.self-inside.keeps_common in
-    let others = ahead c.loop-key.self-inside.others.head c.loop-key.self-inside.others.rest in
+    let others = still_ahead c.loop-key.self-inside.others.head c.loop-key.self-inside.others.rest in
     let p = deref_pair (c.in-Some.key, c.in-Some.field-0-1) in
     let ps = c.peek.new.self.rest in
-    let shown = ap (λ h. ahead h ps) (sym c.in_ok-key.ensures.head ∙ c.in-Some.is) in
+    let shown = ap (λ h. still_ahead h ps) (sym c.in_ok-key.ensures.head ∙ c.in-Some.is) in
     let whole = sym c.peek.ensures.same ∙ shown in
     let ours : Ascends enc (p ∷ ps) = subst (Ascends enc) whole c.loop-key.invariant.ours in
     let behind = c.skip.ensures ∙ ap (λ l. drop 1 l) c.order_beside.ensures.same in
@@ -31,10 +31,10 @@ pub returns-then-is_wanted : goal.returns-then-is_wanted
 returns-then-is_wanted g c =
     let enc = g.K.TrieKey.encoding in
     let keeps = c.loop-key.self-inside.keeps_common in
-    let others = ahead c.loop-key.self-inside.others.head c.loop-key.self-inside.others.rest in
+    let others = still_ahead c.loop-key.self-inside.others.head c.loop-key.self-inside.others.rest in
     let p = deref_pair (c.in-Some.key, c.in-Some.field-0-1) in
     let ps = c.peek.new.self.rest in
-    let shown = ap (λ h. ahead h ps) (sym c.in_ok-key.ensures.head ∙ c.in-Some.is) in
+    let shown = ap (λ h. still_ahead h ps) (sym c.in_ok-key.ensures.head ∙ c.in-Some.is) in
     let whole = sym c.peek.ensures.same ∙ shown in
     let ours : Ascends enc (p ∷ ps) = subst (Ascends enc) whole c.loop-key.invariant.ours in
     let left = selected enc keeps ps others in
@@ -53,10 +53,10 @@ pub loop-key-preserved : goal.loop-key-preserved
 loop-key-preserved g c =
     let enc = g.K.TrieKey.encoding in
     let keeps = c.loop-key.self-inside.keeps_common in
-    let others = ahead c.loop-key.self-inside.others.head c.loop-key.self-inside.others.rest in
+    let others = still_ahead c.loop-key.self-inside.others.head c.loop-key.self-inside.others.rest in
     let p = deref_pair (c.in-Some.key, c.in-Some.field-0-1) in
     let ps = c.peek.new.self.rest in
-    let shown = ap (λ h. ahead h ps) (sym c.in_ok-key.ensures.head ∙ c.in-Some.is) in
+    let shown = ap (λ h. still_ahead h ps) (sym c.in_ok-key.ensures.head ∙ c.in-Some.is) in
     let whole = sym c.peek.ensures.same ∙ shown in
     let ours : Ascends enc (p ∷ ps) = subst (Ascends enc) whole c.loop-key.invariant.ours in
     let left = selected enc keeps ps others in

@@ -5,7 +5,7 @@ use Rattle.std.proofs.lemmas.Bool.{eqb-true}
 use Rattle.std.proofs.lemmas.List.Elements.{All-nil, All-cons, All-weaker, All-append}
 use Rattle.least_routes.specs.declared.routes.Route.{Route}
 use Rattle.least_routes.specs.Routes.{HasHop}
-use Rattle.least_routes.specs.Trees.{Tree, one, open_at, closed_at, Suits, has, hops_of, given, root_route, at_root, chosen, last_answer}
+use Rattle.least_routes.specs.Trees.{PlanTree, one, open_at, closed_at, Suits, has, hops_of, given, root_route, at_root, chosen, last_answer}
 use Rattle.least_routes.proofs.BlockLemmas.{first_in}
 use Rattle.least_routes.proofs.Upper.{has_first}
 
@@ -40,7 +40,7 @@ module _ (F : ℕ → Option ℕ) where
   IsAnswered hop = (a : ℕ) × (F a ≡ Some hop)
 
   -- the best hops of a block are answers
-  best_answered : (t : Tree) (n q hop : ℕ) → Suits n q F t → has (hops_of t) hop ≡ true → IsAnswered hop
+  best_answered : (t : PlanTree) (n q hop : ℕ) → Suits n q F t → has (hops_of t) hop ≡ true → IsAnswered hop
   best_answered (one None) n q hop suits e = cc
   best_answered (one (Some x)) n q hop suits e = (q * 2 ^ n, suits (q * 2 ^ n) (first_in n q) ∙ ap (λ y. Some y) (only x hop e))
     where
@@ -68,7 +68,7 @@ module _ (F : ℕ → Option ℕ) where
       ]
 
   -- the hops of chosen routes are answers
-  chosen_answered : (w : ℕ) (t : Tree) (n q : ℕ) (o : Option ℕ) → Suits n q F t → All (λ r. IsAnswered r.hop) (chosen w n q t o)
+  chosen_answered : (w : ℕ) (t : PlanTree) (n q : ℕ) (o : Option ℕ) → Suits n q F t → All (λ r. IsAnswered r.hop) (chosen w n q t o)
   chosen_answered w (one None) n q o suits = All-nil (λ r. IsAnswered r.hop)
   chosen_answered w (one (Some hop)) n q o suits = root_answered w n q (hop ∷ []) o (q * 2 ^ n, suits (q * 2 ^ n) (first_in n q))
   chosen_answered w (open_at low high) zero q o suits = All-nil (λ r. IsAnswered r.hop)
@@ -88,7 +88,7 @@ answered_hop : (w : ℕ) (routes : List Route) (hop : ℕ) → IsAnswered (last_
 answered_hop w routes hop (a, is) = elim (last_hop w None routes a hop is) [ inl none ↦ (let h : None ≡ Some hop = none in cc) | inr has ↦ has ]
 
 -- each route that is chosen for a table has a hop of it
-pub chosen_hops : (w n q : ℕ) (routes : List Route) (t : Tree) (o : Option ℕ) → Suits n q (last_answer w None routes) t → All (λ r. HasHop routes r.hop) (chosen w n q t o)
+pub chosen_hops : (w n q : ℕ) (routes : List Route) (t : PlanTree) (o : Option ℕ) → Suits n q (last_answer w None routes) t → All (λ r. HasHop routes r.hop) (chosen w n q t o)
 chosen_hops w n q routes t o suits =
     All-weaker (λ r. IsAnswered (last_answer w None routes) r.hop) (λ r. HasHop routes r.hop) (λ r is. answered_hop w routes r.hop is)
     (chosen w n q t o) (chosen_answered (last_answer w None routes) w t n q o suits)

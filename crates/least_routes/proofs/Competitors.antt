@@ -5,22 +5,22 @@ use Rattle.std.proofs.lemmas.Bool.{cases_eq, cases_lt, eq-eqb, and_from}
 use Rattle.std.proofs.lemmas.List.Elements.{All-nil, All-cons, All-weaker, All-contains}
 use Rattle.std.proofs.lemmas.List.Sums.{sum_by-cons}
 use Rattle.least_routes.specs.declared.routes.Route.{Route}
-use Rattle.least_routes.specs.Routes.{Holds}
+use Rattle.least_routes.specs.Routes.{HoldsNumber}
 use Rattle.least_routes.proofs.BlockLemmas.{coarser}
 
 -- the network, if it has at least n free bits, doesn't hold the address
 abbrev pub IsOut : (w n a : ℕ) → Route → Type 0
-IsOut w n a r = n ≤ w - r.bits → ¬ Holds w r a
+IsOut w n a r = n ≤ w - r.bits → ¬ HoldsNumber w r a
 
 -- the network, if it has at least n free bits and holds the address, shares no more bits than these
 abbrev pub IsNoLonger : (w n a bits : ℕ) → Route → Type 0
-IsNoLonger w n a bits r = n ≤ w - r.bits → Holds w r a → r.bits ≤ bits
+IsNoLonger w n a bits r = n ≤ w - r.bits → HoldsNumber w r a → r.bits ≤ bits
 
 -- the answer for an address among the networks of at least so many free bits
 abbrev pub Above : (w n : ℕ) → List Route → ℕ → Option ℕ → Type 0
 Above w n routes a None = All (IsOut w n a) routes
 Above w n routes a (Some hop) =
-    (r : Route) × Contains routes r × (n ≤ w - r.bits) × Holds w r a × (r.hop ≡ hop)
+    (r : Route) × Contains routes r × (n ≤ w - r.bits) × HoldsNumber w r a × (r.hop ≡ hop)
     × All (IsNoLonger w n a r.bits) routes
 
 -- the first of a list is in it
@@ -33,7 +33,7 @@ Contains-there r rs s (k, lt, e) = (suc k, omega arith, e)
 
 -- a route that isn't counted changes no answer
 pass : (w n : ℕ) (r : Route) (rs : List Route) (a : ℕ) (o : Option ℕ)
-    → (n ≤ w - r.bits → ¬ Holds w r a) → Above w n rs a o → Above w n (r ∷ rs) a o
+    → (n ≤ w - r.bits → ¬ HoldsNumber w r a) → Above w n rs a o → Above w n (r ∷ rs) a o
 pass w n r rs a None out all = All-cons (IsOut w n a) r rs out all
 pass w n r rs a (Some hop) out (s, within, wide, holds, e, all) = (
   s,
@@ -46,7 +46,7 @@ pass w n r rs a (Some hop) out (s, within, wide, holds, e, all) = (
 
 -- a route that is counted is the answer, or what was stays so
 take_in : (w n : ℕ) (r : Route) (rs : List Route) (a : ℕ) (o : Option ℕ) → n ≤ w - r.bits
-    → Holds w r a → Above w n rs a o
+    → HoldsNumber w r a → Above w n rs a o
     → (p : Option ℕ) × Above w n (r ∷ rs) a p
 take_in w n r rs a None wide holds all = (
   Some r.hop,
@@ -141,7 +141,7 @@ count_one p (x ∷ xs) r (suc k, lt, e) h =
 
 -- the answer from above stands where the longest network is wider than the block
 still : (w n : ℕ) (routes : List Route) (a : ℕ) (o : Option ℕ) (r : Route) → Contains routes r
-    → n < w - r.bits → Holds w r a
+    → n < w - r.bits → HoldsNumber w r a
     → All (IsNoLonger w n a r.bits) routes → Above w (suc n) routes a o → Above w n routes a o
 still w n routes a None r within wider holds all up =
     absurd (All-contains (IsOut w (suc n) a) routes r up within wider holds)

@@ -6,15 +6,15 @@ use Rattle.std.specs.List.Sorted.{IsNonDecreasing, IsPermutation, IsBinarySearch
 use Rattle.std.proofs.lemmas.List.Sorted.{length_permutation, list_any-IsPermutation, searched}
 use Rattle.std.specs.Ordering.{nat_cmp}
 use Rattle.std.proofs.lemmas.List.Kept.{IsNonDecreasingBy-filter}
-use Rattle.least_routes.specs.Trees.{Tree, one, open_at, closed_at, has, shared, IsBest, is_open, hops_of}
+use Rattle.least_routes.specs.Trees.{PlanTree, one, open_at, closed_at, has, shared, IsBest, is_open, hops_of}
 
 -- 1 where the hop from above is none of the best
-abbrev pub miss : Tree → Option ℕ → ℕ
+abbrev pub miss : PlanTree → Option ℕ → ℕ
 miss t None = cond (is_open t) 0 1
 miss t (Some hop) = cond (has (hops_of t) hop) 0 1
 
 -- how many routes a block takes under one of its best hops
-abbrev pub weight : Tree → ℕ
+abbrev pub weight : PlanTree → ℕ
 weight (one o) = 0
 weight (open_at low high) = weight low + miss low None + (weight high + miss high None)
 weight (closed_at hops low high) =
@@ -80,7 +80,7 @@ none-shared xs ys h e =
     sym (has-shared xs ys h) ∙ ap (λ l. has l h) (nil_from_length (shared xs ys) (eqb-true _ 0 e))
 
 -- the best hops of the block are those of its halves
-pub record IsJoined (hops : List ℕ) (low high : Tree) : Type 0 where
+pub record IsJoined (hops : List ℕ) (low high : PlanTree) : Type 0 where
   pub low_closed : is_open low ≡ false
   pub high_closed : is_open high ≡ false
   pub best : IsBest (hops_of low) (hops_of high) hops
@@ -96,7 +96,7 @@ zero_or_one true = lit≤ tt
 zero_or_one false = lit≤ tt
 
 -- a closed block costs no more than its halves under the same hop
-pub miss_at_most : (hops : List ℕ) (low high : Tree) (o : Option ℕ) → IsJoined hops low high
+pub miss_at_most : (hops : List ℕ) (low high : PlanTree) (o : Option ℕ) → IsJoined hops low high
     → weight (closed_at hops low high) + miss (closed_at hops low high) o
     ≤ weight low + miss low o + (weight high + miss high o)
 miss_at_most hops low high None j =
@@ -116,7 +116,7 @@ miss_at_most hops low high (Some h) j =
     )
 
 -- under one of its best hops it costs as much
-pub best-miss : (hops : List ℕ) (low high : Tree) (h : ℕ) → IsJoined hops low high
+pub best-miss : (hops : List ℕ) (low high : PlanTree) (h : ℕ) → IsJoined hops low high
     → has hops h ≡ true
     → weight low + miss low (Some h) + (weight high + miss high (Some h)) ≡ weight
     (closed_at hops low high)
@@ -130,7 +130,7 @@ best-miss hops low high h j e =
     )
 
 -- a hop from above costs 1 at most
-pub miss_le_one : (t : Tree) (o : Option ℕ) → miss t o ≤ 1
+pub miss_le_one : (t : PlanTree) (o : Option ℕ) → miss t o ≤ 1
 miss_le_one t None = zero_or_one (is_open t)
 miss_le_one t (Some h) = zero_or_one (has (hops_of t) h)
 

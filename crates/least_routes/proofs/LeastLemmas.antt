@@ -5,8 +5,8 @@ use Rattle.std.proofs.lemmas.Nat.{shr_split, mod_below, pow_pos}
 use Rattle.std.specs.List.{All}
 use Rattle.std.proofs.lemmas.List.Elements.{All-weaker}
 use Rattle.least_routes.specs.declared.routes.Route.{Route}
-use Rattle.least_routes.specs.Routes.{HasHop, IsOfWidth, IsWithin, IsAnswer, HaveSameAnswers, IsTable}
-use Rattle.least_routes.specs.Trees.{Tree, Suits, chosen, last_answer}
+use Rattle.least_routes.specs.Routes.{HasHop, IsOfWidth, IsWithin, IsHopOf, HaveSameAnswers, IsTable}
+use Rattle.least_routes.specs.Trees.{PlanTree, Suits, chosen, last_answer}
 use Rattle.least_routes.proofs.ChosenHops.{chosen_hops}
 use Rattle.least_routes.proofs.Lower.{least_length}
 use Rattle.least_routes.proofs.Slices.{suits_moved}
@@ -18,7 +18,7 @@ below_whole : (a w : ℕ) → a / 2 ^ w ≡ 0 → a < 2 ^ w
 below_whole a w e =
     omega (arith, shr_split a w, subst (λ t. t * 2 ^ w ≡ 0 * 2 ^ w) (sym e) refl, mod_below a (2 ^ w) (pow_pos w))
 
-module _ (w : ℕ) (routes : List Route) (t : Tree) (table : IsTable w routes) (suits : Suits w 0 (last_answer w None routes) t) where
+module _ (w : ℕ) (routes : List Route) (t : PlanTree) (table : IsTable w routes) (suits : Suits w 0 (last_answer w None routes) t) where
   fits : 0 < 2 ^ (w - w)
   fits = pow_pos (w - w)
 
@@ -37,8 +37,8 @@ module _ (w : ℕ) (routes : List Route) (t : Tree) (table : IsTable w routes) (
   -- the chosen routes have the answers of the table
   pub chosen_same : HaveSameAnswers w (chosen w w 0 t None) routes
   chosen_same a o lt = (
-    (λ h. subst (IsAnswer w routes a) (sym (same_last a lt) ∙ answer_last w (chosen w w 0 t None) a o chosen_table h) (last_is w routes a table)),
-    (λ h. subst (IsAnswer w (chosen w w 0 t None) a) (same_last a lt ∙ answer_last w routes a o table h) (last_is w (chosen w w 0 t None) a chosen_table)),
+    (λ h. subst (IsHopOf w routes a) (sym (same_last a lt) ∙ answer_last w (chosen w w 0 t None) a o chosen_table h) (last_is w routes a table)),
+    (λ h. subst (IsHopOf w (chosen w w 0 t None) a) (same_last a lt ∙ answer_last w routes a o table h) (last_is w (chosen w w 0 t None) a chosen_table)),
   )
 
   -- no list with these answers is shorter
@@ -60,7 +60,7 @@ pub record IsLeast (w : ℕ) (routes out : List Route) : Type 0 where
   pub hops : All (λ r. HasHop routes r.hop) out
 
 -- the routes chosen for the block of all addresses
-pub is_least : (w v n q : ℕ) (routes out : List Route) (t : Tree) → v ≡ w → n ≡ w → q ≡ 0
+pub is_least : (w v n q : ℕ) (routes out : List Route) (t : PlanTree) → v ≡ w → n ≡ w → q ≡ 0
     → IsTable w routes
     → Suits n q (last_answer v None routes) t → out ≡ chosen v n q t None → IsLeast w routes out
 is_least w v n q routes out t whole all first table suits e =

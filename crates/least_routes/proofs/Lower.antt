@@ -7,8 +7,8 @@ use Rattle.std.proofs.lemmas.List.Elements.{All-weaker, All-contains}
 use Rattle.std.proofs.lemmas.List.Sums.{count_by-le-length}
 use Rattle.std.proofs.Math.Nat.{zero-div}
 use Rattle.least_routes.specs.declared.routes.Route.{Route}
-use Rattle.least_routes.specs.Routes.{Holds}
-use Rattle.least_routes.specs.Trees.{Tree, one, open_at, closed_at, Suits, is_open}
+use Rattle.least_routes.specs.Routes.{HoldsNumber}
+use Rattle.least_routes.specs.Trees.{PlanTree, one, open_at, closed_at, Suits, is_open}
 use Rattle.least_routes.proofs.BlockLemmas.{coarser, half-block, from_low, from_high, first_in}
 use Rattle.least_routes.proofs.Competitors.{Above, IsOut, IsNoLonger, answer, move, own_or_above, is_own, is_inside, count_one, count_by-cons}
 use Rattle.least_routes.proofs.Hops.{weight, miss, miss_at_most, miss_le_one, IsJoined}
@@ -51,11 +51,11 @@ abbrev pub Serves : (w n q : ℕ) → (ℕ → Option ℕ) → List Route → Ty
 Serves w n q F routes = (a : ℕ) (o : Option ℕ) → a / 2 ^ n ≡ q → Above w 0 routes a o → F a ≡ o
 
 -- so many routes are no fewer than the tree costs under what is given from above
-abbrev pub Bounds : Tree → Option ℕ → ℕ → Type 0
+abbrev pub Bounds : PlanTree → Option ℕ → ℕ → Type 0
 Bounds t o c = (is_open t ≡ true → o ≡ None) × (weight t + miss t o ≤ c)
 
 -- an open block bounds no less than its halves
-open_bound : (low high : Tree) (o : Option ℕ) (c d e : ℕ) → (is_open low || is_open high) ≡ true
+open_bound : (low high : PlanTree) (o : Option ℕ) (c d e : ℕ) → (is_open low || is_open high) ≡ true
     → Bounds low o d → Bounds high o e → d + e ≤ c
     → Bounds (open_at low high) o c
 open_bound low high None c d e some l h le = ((λ _. refl), omega (arith, l.1, h.1))
@@ -66,7 +66,7 @@ open_bound low high (Some hop) c d e some l h le =
 -- a block whose one answer stands above it costs nothing
 wider_bound : (w n q : ℕ) (F : ℕ → Option ℕ) (routes : List Route) (a h : ℕ) (o : Option ℕ)
     → Serves w n q F routes → a / 2 ^ n ≡ q → F a ≡ Some h
-    → (r : Route) → Contains routes r → n < w - r.bits → Holds w r a → All
+    → (r : Route) → Contains routes r → n < w - r.bits → HoldsNumber w r a → All
     (IsNoLonger w 0 a r.bits) routes
     → Above w (suc n) routes a o → 0 + miss (one (Some h)) o ≤ count_by (is_inside w n q) routes
 wider_bound w n q F routes a h None serves e f r within wider holds all up =
@@ -138,7 +138,7 @@ move_high w n q routes a o e up =
     (e ∙ sym (from_high ((2 * q + 1) * 2 ^ n) n q (first_in n (2 * q + 1)))) up
 
 -- a closed block bounds no less than its halves
-closed_bound : (hops : List ℕ) (low high : Tree) (o p : Option ℕ) (c d e : ℕ)
+closed_bound : (hops : List ℕ) (low high : PlanTree) (o p : Option ℕ) (c d e : ℕ)
     → IsJoined hops low high
     → Bounds low p d → Bounds high p e → (o ≡ p) × (d + e ≤ c) ⊎ (suc (d + e) ≤ c) → Bounds
     (closed_at hops low high) o c
@@ -167,7 +167,7 @@ closed_bound hops low high o p c d e j l h either = (
 )
 
 -- the tree bounds the routes to a block from below
-pub lower : (w : ℕ) (F : ℕ → Option ℕ) (routes : List Route) (t : Tree) (n q a : ℕ) (o : Option ℕ)
+pub lower : (w : ℕ) (F : ℕ → Option ℕ) (routes : List Route) (t : PlanTree) (n q a : ℕ) (o : Option ℕ)
     → Suits n q F t → Serves w n q F routes → a / 2 ^ n ≡ q
     → Above w (suc n) routes a o → Bounds t o (count_by (is_inside w n q) routes)
 lower w F routes (one c) n q a o suits serves e up =
@@ -231,7 +231,7 @@ lower w F routes (closed_at hops low high) (suc n) q a o suits serves e up =
     ]
 
 -- no list of routes with the answers of the tree of all addresses is shorter than the tree costs
-pub least_length : (w : ℕ) (F : ℕ → Option ℕ) (routes : List Route) (t : Tree) → Suits w 0 F t
+pub least_length : (w : ℕ) (F : ℕ → Option ℕ) (routes : List Route) (t : PlanTree) → Suits w 0 F t
     → Serves w w 0 F routes → weight t + miss t None ≤ length routes
 least_length w F routes t suits serves =
     let none : Above w (suc w) routes 0 None = λ k d lt wide. absurd (omega arith) in

@@ -7,15 +7,15 @@ use Rattle.std.proofs.lemmas.Bool.{cases_lt, eq-eqb, ltb-true, ltb-false}
 use Rattle.std.proofs.lemmas.Nat.{shr_split, mod_below, pow_pos}
 use Rattle.std.proofs.lemmas.List.Elements.{All-cons, All-head, All-tail}
 use Rattle.least_routes.specs.declared.routes.Route.{Route}
-use Rattle.least_routes.specs.Routes.{IsWithin, Precedes}
-use Rattle.least_routes.specs.Trees.{Tree, one, open_at, closed_at, Suits, IsJoint, last_answer}
+use Rattle.least_routes.specs.Routes.{IsWithin, IsSortedBefore}
+use Rattle.least_routes.specs.Trees.{PlanTree, one, open_at, closed_at, Suits, IsJoint, last_answer}
 use Rattle.least_routes.proofs.BlockLemmas.{in_half, from_low, from_high}
 use Rattle.least_routes.proofs.Tables.{nested, pairs_head}
 use Rattle.least_routes.proofs.Upper.{last_answer-append, last_answer-none, holds_none}
 
 -- where the first isn't the route to the block, each goes to a network in one of its halves
 pub narrow : (w n q : ℕ) (x : Route) (xs : List Route) → n ≤ w → All (IsWithin w n q) (x ∷ xs)
-    → AllPairs Precedes (x ∷ xs) → x.bits ≢ w - n
+    → AllPairs IsSortedBefore (x ∷ xs) → x.bits ≢ w - n
     → All (λ r. w - r.bits < n) (x ∷ xs)
 narrow w n q x xs le all pairs other =
     let here : IsWithin w n q x = All-head (IsWithin w n q) x xs all in
@@ -71,7 +71,7 @@ in_high w (suc n) q r at less above =
     (record { of_width = at.of_width; no_wider = omega arith; in_block = half })
 
 -- the bases of routes in order rise
-pub bases_rise : (xs : List Route) → AllPairs Precedes xs → IsNonDecreasingBy (λ r. r.base) xs
+pub bases_rise : (xs : List Route) → AllPairs IsSortedBefore xs → IsNonDecreasingBy (λ r. r.base) xs
 bases_rise xs pairs i j d le lt =
     elim (cases_lt i j) [
       | inl less ↦ no_less (get_or xs i d) (get_or xs j d) (pairs i j d less lt)
@@ -79,12 +79,12 @@ bases_rise xs pairs i j d le lt =
           (λ t. (get_or xs i d).base ≤ (get_or xs t d).base) same (omega arith))
     ]
   where
-    no_less : (x y : Route) → Precedes x y → x.base ≤ y.base
+    no_less : (x y : Route) → IsSortedBefore x y → x.base ≤ y.base
     no_less x y (inl less) = omega arith
     no_less x y (inr same) = omega (arith, same.0)
 
 -- a tree has the answers of what answers the same
-pub suits_same : (F G : ℕ → Option ℕ) (t : Tree) (n q : ℕ) → ((a : ℕ) → a / 2 ^ n ≡ q → F a ≡ G a)
+pub suits_same : (F G : ℕ → Option ℕ) (t : PlanTree) (n q : ℕ) → ((a : ℕ) → a / 2 ^ n ≡ q → F a ≡ G a)
     → Suits n q F t → Suits n q G t
 suits_same F G (one o) n q same suits = λ a e. sym (same a e) ∙ suits a e
 suits_same F G (open_at low high) zero q same suits = absurd suits
@@ -103,7 +103,7 @@ suits_same F G (closed_at hops low high) (suc n) q same suits = (
 )
 
 -- the tree of a block below the route to it
-pub suits_own : (w n q : ℕ) (o : Option ℕ) (x : Route) (xs : List Route) (t : Tree) → n ≤ w
+pub suits_own : (w n q : ℕ) (o : Option ℕ) (x : Route) (xs : List Route) (t : PlanTree) → n ≤ w
     → IsWithin w n q x → x.bits ≡ w - n
     → Suits n q (last_answer w (Some x.hop) xs) t → Suits n q (last_answer w o (x ∷ xs)) t
 suits_own w n q o x xs t le at own suits =
@@ -116,7 +116,7 @@ suits_own w n q o x xs t le at own suits =
     suits
 
 -- the trees of the halves, joined
-joint : (F : ℕ → Option ℕ) (n q : ℕ) (low high t : Tree) → Suits n (2 * q) F low
+joint : (F : ℕ → Option ℕ) (n q : ℕ) (low high t : PlanTree) → Suits n (2 * q) F low
     → Suits n (2 * q + 1) F high → IsJoint low high t → Suits (suc n) q F t
 joint F n q low high (one o) l h j = absurd j
 joint F n q low high (open_at x y) l h j =
@@ -127,7 +127,7 @@ joint F n q low high (closed_at hops x y) l h j =
     (subst (λ y. Suits (suc n) q F (closed_at hops low y)) (sym j.1) (j.2, j.3, j.4, l, h))
 
 -- the tree of a block of which the routes go to networks in its halves
-pub suits_halves : (w n q : ℕ) (o : Option ℕ) (xs ys : List Route) (low high t : Tree) → 0 < n
+pub suits_halves : (w n q : ℕ) (o : Option ℕ) (xs ys : List Route) (low high t : PlanTree) → 0 < n
     → All (IsWithin w (n - 1) (2 * q)) xs → All (IsWithin w (n - 1) (2 * q + 1)) ys
     → Suits (n - 1) (2 * q) (last_answer w o xs) low → Suits (n - 1) (2 * q + 1)
     (last_answer w o ys) high → IsJoint low high t
@@ -148,7 +148,7 @@ suits_halves w n q o xs ys low high t some front back l h j =
     j)
 
 -- the same tree under other names of its numbers
-pub suits_moved : (w v n m q p : ℕ) (o : Option ℕ) (xs : List Route) (t : Tree) → v ≡ w → m ≡ n
+pub suits_moved : (w v n m q p : ℕ) (o : Option ℕ) (xs : List Route) (t : PlanTree) → v ≡ w → m ≡ n
     → p ≡ q
     → Suits m p (last_answer v o xs) t → Suits n q (last_answer w o xs) t
 suits_moved w v n m q p o xs t e f g suits =

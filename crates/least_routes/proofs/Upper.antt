@@ -7,8 +7,8 @@ use Rattle.std.proofs.lemmas.Nat.{shl_below}
 use Rattle.std.proofs.Math.Nat.{mul-mod_left, two-pow-succ}
 use Rattle.std.proofs.lemmas.List.Elements.{All-nil, All-cons, All-head, All-tail, All-weaker, All-append}
 use Rattle.least_routes.specs.declared.routes.Route.{Route}
-use Rattle.least_routes.specs.Routes.{Holds, IsWithin}
-use Rattle.least_routes.specs.Trees.{Tree, one, open_at, closed_at, Suits, IsSound, has, is_open, hops_of, given, root_route, at_root, chosen, last_answer}
+use Rattle.least_routes.specs.Routes.{HoldsNumber, IsWithin}
+use Rattle.least_routes.specs.Trees.{PlanTree, one, open_at, closed_at, Suits, IsSound, has, is_open, hops_of, given, root_route, at_root, chosen, last_answer}
 use Rattle.least_routes.proofs.BlockLemmas.{coarser, in_half, from_low, from_high, first_in}
 use Rattle.least_routes.proofs.Hops.{weight, miss, best-miss, IsJoined}
 
@@ -27,7 +27,7 @@ has_given hops (Some h) some =
     ]
 
 -- a root takes a route where the hop from above is none of the best
-root_length : (w n q : ℕ) (t : Tree) (o : Option ℕ) → is_open t ≡ false
+root_length : (w n q : ℕ) (t : PlanTree) (o : Option ℕ) → is_open t ≡ false
     → length (at_root w n q (hops_of t) o) ≡ miss t o
 root_length w n q t None closed = sym (ap {B = ℕ} (λ b. cond b 0 1) closed)
 root_length w n q t (Some h) closed =
@@ -38,13 +38,13 @@ root_length w n q t (Some h) closed =
     ]
 
 -- the best hops of two halves, as a tree has them
-joined_of : (n q : ℕ) (F : ℕ → Option ℕ) (hops : List ℕ) (low high : Tree)
+joined_of : (n q : ℕ) (F : ℕ → Option ℕ) (hops : List ℕ) (low high : PlanTree)
     → Suits (suc n) q F (closed_at hops low high) → IsJoined hops low high
 joined_of n q F hops low high suits =
     record { low_closed = suits.0; high_closed = suits.1; best = suits.2 }
 
 -- no more routes are chosen than the tree costs
-pub chosen_length : (w : ℕ) (F : ℕ → Option ℕ) (t : Tree) (n q : ℕ) (o : Option ℕ) → Suits n q F t
+pub chosen_length : (w : ℕ) (F : ℕ → Option ℕ) (t : PlanTree) (n q : ℕ) (o : Option ℕ) → Suits n q F t
     → length (chosen w n q t o) ≤ weight t + miss t o
 chosen_length w F (one None) n q o suits = omega arith
 chosen_length w F (one (Some h)) n q o suits =
@@ -84,19 +84,19 @@ last_answer-append w o (x ∷ xs) ys a =
 
 -- where no route holds the address, what stands above is the answer
 pub last_answer-none : (w : ℕ) (o : Option ℕ) (xs : List Route) (a : ℕ)
-    → All (λ r. ¬ Holds w r a) xs → last_answer w o xs a ≡ o
+    → All (λ r. ¬ HoldsNumber w r a) xs → last_answer w o xs a ≡ o
 last_answer-none w o [] a none = refl
 last_answer-none w o (x ∷ xs) a none =
     let test = ne_eqb (a / 2 ^ (w - x.bits)) (x.base / 2 ^ (w - x.bits))
-    (All-head (λ r. ¬ Holds w r a) x xs none) in
+    (All-head (λ r. ¬ HoldsNumber w r a) x xs none) in
     ap (λ b. last_answer w (cond b (Some x.hop) o) xs a) test
-    ∙ last_answer-none w o xs a (All-tail (λ r. ¬ Holds w r a) x xs none)
+    ∙ last_answer-none w o xs a (All-tail (λ r. ¬ HoldsNumber w r a) x xs none)
 
 -- a network in another block doesn't hold the address
 pub holds_none : (w n p q a : ℕ) (xs : List Route) → a / 2 ^ n ≡ p → p ≢ q → All (IsWithin w n q) xs
-    → All (λ r. ¬ Holds w r a) xs
+    → All (λ r. ¬ HoldsNumber w r a) xs
 holds_none w n p q a xs e ne all =
-    All-weaker (IsWithin w n q) (λ r. ¬ Holds w r a)
+    All-weaker (IsWithin w n q) (λ r. ¬ HoldsNumber w r a)
     (λ r at holds. ne (sym e ∙ coarser a r.base
     (w - r.bits) n at.no_wider holds ∙ at.in_block)) xs all
 
@@ -164,7 +164,7 @@ halves_fit w n q le fits =
     subst (λ k. 2 * q + 1 < 2 ^ k) (sym more) (omega (arith, two-pow-succ (w - suc n)))
 
 -- the chosen routes are networks within the block
-pub chosen_within : (w : ℕ) (t : Tree) (n q : ℕ) (o : Option ℕ) → n ≤ w → q < 2 ^ (w - n)
+pub chosen_within : (w : ℕ) (t : PlanTree) (n q : ℕ) (o : Option ℕ) → n ≤ w → q < 2 ^ (w - n)
     → All (IsWithin w n q) (chosen w n q t o)
 chosen_within w (one None) n q o le fits = All-nil (IsWithin w n q)
 chosen_within w (one (Some h)) n q o le fits = at_root_within w n q (h ∷ []) o le fits
@@ -237,7 +237,7 @@ halves_answer w n q a o c xs ys low high e at_low at_high =
     ]
 
 -- the chosen routes have the answers of the tree
-pub chosen_answer : (w : ℕ) (F : ℕ → Option ℕ) (t : Tree) (n q : ℕ) (o : Option ℕ) (a : ℕ)
+pub chosen_answer : (w : ℕ) (F : ℕ → Option ℕ) (t : PlanTree) (n q : ℕ) (o : Option ℕ) (a : ℕ)
     → Suits n q F t → n ≤ w → q < 2 ^ (w - n)
     → (is_open t ≡ true → o ≡ None) → a / 2 ^ n ≡ q → last_answer w o (chosen w n q t o) a ≡ F a
 chosen_answer w F (one None) n q o a suits le fits no_hop e = no_hop refl ∙ sym (suits a e)
@@ -273,7 +273,7 @@ chosen_answer w F (closed_at hops low high) (suc n) q o a suits le fits no_hop e
     (λ t. absurd (both_ways (is_open high) suits.1 t)) h)
 
 -- a tree that has answers is sound
-pub sound : (F : ℕ → Option ℕ) (t : Tree) (n q : ℕ) → Suits n q F t → IsSound n t
+pub sound : (F : ℕ → Option ℕ) (t : PlanTree) (n q : ℕ) → Suits n q F t → IsSound n t
 sound F (one o) n q suits = tt
 sound F (open_at low high) zero q suits = absurd suits
 sound F (open_at low high) (suc n) q suits =

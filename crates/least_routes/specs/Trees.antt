@@ -6,10 +6,10 @@ use Rattle.least_routes.specs.declared.routes.Route.{Route}
 
 -- a block of addresses: one answer for all; or two halves, of which some address has no answer; or
 -- two halves where each address has one, with the hops that cost least when given from above
-pub data Tree : Type 0 where
-  one : Option ℕ → Tree
-  open_at : Tree → Tree → Tree
-  closed_at : List ℕ → Tree → Tree → Tree
+pub data PlanTree : Type 0 where
+  one : Option ℕ → PlanTree
+  open_at : PlanTree → PlanTree → PlanTree
+  closed_at : List ℕ → PlanTree → PlanTree → PlanTree
 
 -- the hop is among these
 abbrev pub has : List ℕ → ℕ → Bool
@@ -29,25 +29,25 @@ pub record IsBest (low high hops : List ℕ) : Type 0 where
       (has low hop && has high hop)
 
 -- some address of the block has no answer
-abbrev pub is_open : Tree → Bool
+abbrev pub is_open : PlanTree → Bool
 is_open (one None) = true
 is_open (one (Some hop)) = false
 is_open (open_at low high) = true
 is_open (closed_at hops low high) = false
 
 -- the hops that cost least when given from above
-abbrev pub hops_of : Tree → List ℕ
+abbrev pub hops_of : PlanTree → List ℕ
 hops_of (one None) = []
 hops_of (one (Some hop)) = hop ∷ []
 hops_of (open_at low high) = []
 hops_of (closed_at hops low high) = hops
 
 -- the best hops of a block rise, and there is one where each address has an answer
-abbrev pub IsReady : Tree → Type 0
+abbrev pub IsReady : PlanTree → Type 0
 IsReady t = IsNonDecreasing (hops_of t) × (is_open t ≡ false → 0 < length (hops_of t))
 
 -- the tree of a block has these two halves
-abbrev pub IsJoint : (low high t : Tree) → Type 0
+abbrev pub IsJoint : (low high t : PlanTree) → Type 0
 IsJoint low high (one o) = ⊥
 IsJoint low high (open_at l h) = (l ≡ low) × (h ≡ high) × ((is_open low || is_open high) ≡ true)
 IsJoint low high (closed_at hops l h) =
@@ -55,7 +55,7 @@ IsJoint low high (closed_at hops l h) =
     × IsBest (hops_of low) (hops_of high) hops
 
 -- the tree of the block with number q, of those with n free bits, has the answers of F
-abbrev pub Suits : (n q : ℕ) → (ℕ → Option ℕ) → Tree → Type 0
+abbrev pub Suits : (n q : ℕ) → (ℕ → Option ℕ) → PlanTree → Type 0
 Suits n q F (one o) = (a : ℕ) → a / 2 ^ n ≡ q → F a ≡ o
 Suits zero q F (open_at low high) = ⊥
 Suits (suc n) q F (open_at low high) =
@@ -80,7 +80,7 @@ at_root w n q hops None = root_route w n q hops ∷ []
 at_root w n q hops (Some hop) = cond (has hops hop) [] (root_route w n q hops ∷ [])
 
 -- the routes that are chosen for the block with number q, under what is given from above
-abbrev pub chosen : (w n q : ℕ) → Tree → Option ℕ → List Route
+abbrev pub chosen : (w n q : ℕ) → PlanTree → Option ℕ → List Route
 chosen w n q (one None) o = []
 chosen w n q (one (Some hop)) o = at_root w n q (hop ∷ []) o
 chosen w zero q (open_at low high) o = []
@@ -99,7 +99,7 @@ last_answer w o (r ∷ rs) a =
     last_answer w (cond (a / 2 ^ (w - r.bits) == r.base / 2 ^ (w - r.bits)) (Some r.hop) o) rs a
 
 -- the tree is no deeper than n, and has a hop wherever it needs one
-abbrev pub IsSound : ℕ → Tree → Type 0
+abbrev pub IsSound : ℕ → PlanTree → Type 0
 IsSound n (one o) = Unit {0}
 IsSound zero (open_at low high) = ⊥
 IsSound (suc n) (open_at low high) = IsSound n low × IsSound n high

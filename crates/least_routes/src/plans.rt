@@ -2,8 +2,8 @@
 ghost use Rattle.std.specs.Prelude.{◌≡◌, ◌+◌, ◌-◌, ◌*◌, ◌^◌, ◌<◌, ◌≤◌, ◌++◌, false, IfOk, OnOk, length};
 ghost use Rattle.std.specs.List.{All, AllPairs};
 ghost use Rattle.std.specs.List.Sorted.{IsNonDecreasing};
-ghost use Rattle.least_routes.specs.Plans.{tree_of};
-ghost use Rattle.least_routes.specs.Routes.{IsWithin, Precedes};
+ghost use Rattle.least_routes.specs.Plans.{plan_tree};
+ghost use Rattle.least_routes.specs.Routes.{IsWithin, IsSortedBefore};
 ghost use Rattle.least_routes.specs.Trees.{Suits, IsReady, IsJoint, IsBest, IsSound, has, is_open, hops_of, given, at_root, chosen, last_answer};
 
 use crate::blocks::Block;
@@ -37,12 +37,12 @@ fn halves<'a>(block: Block, routes: &'a [Route]) -> (&'a [Route], &'a [Route])
     requires some { 0 < block.free }
     requires within { All (IsWithin block.width block.free block.number) routes.now }
     requires narrow { All (λ r. block.width - r.bits < block.free) routes.now }
-    requires order { AllPairs Precedes routes.now }
+    requires order { AllPairs IsSortedBefore routes.now }
     ensures parts { routes.now ≡ result.0.now ++ result.1.now }
     ensures low { All (IsWithin block.width (block.free - 1) (2 * block.number)) result.0.now }
     ensures high { All (IsWithin block.width (block.free - 1) (2 * block.number + 1)) result.1.now }
-    ensures low_order { AllPairs Precedes result.0.now }
-    ensures high_order { AllPairs Precedes result.1.now }
+    ensures low_order { AllPairs IsSortedBefore result.0.now }
+    ensures high_order { AllPairs IsSortedBefore result.1.now }
 {
     let middle = block.high().first();
     routes.split_at(routes.partition_point(|route| route.base < middle))
@@ -51,15 +51,15 @@ fn halves<'a>(block: Block, routes: &'a [Route]) -> (&'a [Route], &'a [Route])
 impl Plan {
     /// Whether some address of the block has no answer.
     fn is_open(&self) -> bool
-        ensures { result ≡ is_open (tree_of self.now) }
+        ensures { result ≡ is_open (plan_tree self.now) }
     {
         matches!(self, Plan::One(None) | Plan::Open(_, _))
     }
 
     /// Whether a hop from above is among the best.
     fn has(&self, hop: usize) -> bool
-        requires { IsNonDecreasing (hops_of (tree_of self.now)) }
-        ensures { result ≡ has (hops_of (tree_of self.now)) hop }
+        requires { IsNonDecreasing (hops_of (plan_tree self.now)) }
+        ensures { result ≡ has (hops_of (plan_tree self.now)) hop }
     {
         match self {
             Plan::One(Some(only)) => *only == hop,
@@ -70,7 +70,7 @@ impl Plan {
 
     /// The hops that cost least when given from above.
     fn hops(&self, alloc: Global) -> Result<Vec<usize>, AllocError>
-        ensures { IfOk result (λ v. v.items ≡ hops_of (tree_of self.now)) }
+        ensures { IfOk result (λ v. v.items ≡ hops_of (plan_tree self.now)) }
     {
         match self {
             Plan::One(Some(only)) => [*only].to_vec(alloc),
@@ -81,11 +81,11 @@ impl Plan {
 
     /// The hops that are best for a block of these two halves.
     fn best_hops(alloc: Global, low: &Plan, high: &Plan) -> Result<Vec<usize>, AllocError>
-        requires low_some { 0 < length (hops_of (tree_of low.now)) }
-        requires low_rise { IsNonDecreasing (hops_of (tree_of low.now)) }
-        requires high_rise { IsNonDecreasing (hops_of (tree_of high.now)) }
+        requires low_some { 0 < length (hops_of (plan_tree low.now)) }
+        requires low_rise { IsNonDecreasing (hops_of (plan_tree low.now)) }
+        requires high_rise { IsNonDecreasing (hops_of (plan_tree high.now)) }
         ensures { IfOk result
-            (λ v. IsBest (hops_of (tree_of low.now)) (hops_of (tree_of high.now)) v.items) }
+            (λ v. IsBest (hops_of (plan_tree low.now)) (hops_of (plan_tree high.now)) v.items) }
     {
         let mut both = low.hops(alloc)?;
         both.retain(|hop| high.has(*hop));
@@ -100,9 +100,9 @@ impl Plan {
 
     /// The plan of a block of these two halves.
     fn join(alloc: Global, low: Plan, high: Plan) -> Result<Plan, AllocError>
-        requires low_ready { IsReady (tree_of low) }
-        requires high_ready { IsReady (tree_of high) }
-        ensures { IfOk result (λ v. IsJoint (tree_of low) (tree_of high) (tree_of v)) }
+        requires low_ready { IsReady (plan_tree low) }
+        requires high_ready { IsReady (plan_tree high) }
+        ensures { IfOk result (λ v. IsJoint (plan_tree low) (plan_tree high) (plan_tree v)) }
     {
         if low.is_open() || high.is_open() {
             return Ok(Plan::Open(Box::new(alloc, low)?, Box::new(alloc, high)?));
@@ -119,9 +119,9 @@ impl Plan {
         routes: &[Route],
     ) -> Result<Plan, AllocError>
         requires within { All (IsWithin block.width block.free block.number) routes.now }
-        requires order { AllPairs Precedes routes.now }
+        requires order { AllPairs IsSortedBefore routes.now }
         ensures { IfOk result (λ v. Suits block.free block.number
-            (last_answer block.width above routes.now) (tree_of v)) }
+            (last_answer block.width above routes.now) (plan_tree v)) }
     {
         let Some((first, others)) = routes.split_first() else {
             return Ok(Plan::One(above));
@@ -170,9 +170,9 @@ impl Plan {
         above: Option<usize>,
         out: &mut Vec<Route>,
     ) -> Result<(), AllocError>
-        requires { IsSound block.free (tree_of self.now) }
+        requires { IsSound block.free (plan_tree self.now) }
         ensures { OnOk result (out.new.items ≡ out.old.items
-            ++ chosen block.width block.free block.number (tree_of self.now) above) }
+            ++ chosen block.width block.free block.number (plan_tree self.now) above) }
     {
         match self {
             Plan::One(None) => Ok(()),

@@ -2,7 +2,7 @@
 ghost use Rattle.std.specs.Prelude.{◌≡◌, ◌%◌, ◌^◌, ◌<◌, ◌≤◌, ◌↔◌, IfOk, IsTrue, List, length};
 ghost use Rattle.std.specs.List.{All};
 ghost use Rattle.least_routes.specs.declared.routes.Route.{Route};
-ghost use Rattle.least_routes.specs.Routes.{HasHop, HaveSameAnswers, IsOfWidth, IsTable, Precedes};
+ghost use Rattle.least_routes.specs.Routes.{HasHop, HaveSameAnswers, IsOfWidth, IsTable, IsSortedBefore};
 
 use crate::blocks::Block;
 use crate::plans::Plan;
@@ -52,7 +52,7 @@ impl Route {
     /// Whether the route stands before the other in a table: its base is less, or the same with
     /// fewer bits.
     pub fn precedes(&self, other: &Route) -> bool
-        ensures { IsTrue result ↔ Precedes self.now other.now }
+        ensures { IsTrue result ↔ IsSortedBefore self.now other.now }
     {
         self.base < other.base || self.base == other.base && self.bits < other.bits
     }

@@ -10,11 +10,11 @@ words_of Write = codes "write failed"
 words_of (BadLine n) = codes "bad line "
 words_of Memory = codes "out of memory"
 
-abbrev pub text_of : Fault → List ℕ
-text_of Read = codes "read failed"
-text_of Write = codes "write failed"
-text_of (BadLine n) = codes "bad line " ++ decimal n
-text_of Memory = codes "out of memory"
+abbrev pub fault_text : Fault → List ℕ
+fault_text Read = codes "read failed"
+fault_text Write = codes "write failed"
+fault_text (BadLine n) = codes "bad line " ++ decimal n
+fault_text Memory = codes "out of memory"
 
 abbrev pub status_of : Fault → ℕ
 status_of Read = 1
@@ -29,10 +29,10 @@ remark_of (b ∷ bs) = codes ": " ++ b ∷ bs
 
 -- the text of a fault, and the remark if it is a bad line
 abbrev pub text_with : (remark : List ℕ) → Fault → List ℕ
-text_with remark Read = text_of Read
-text_with remark Write = text_of Write
-text_with remark (BadLine n) = text_of (BadLine n) ++ remark_of remark
-text_with remark Memory = text_of Memory
+text_with remark Read = fault_text Read
+text_with remark Write = fault_text Write
+text_with remark (BadLine n) = fault_text (BadLine n) ++ remark_of remark
+text_with remark Memory = fault_text Memory
 
 -- the line that stands on standard error at the end
 abbrev pub told_of : {U : Type 0} → (remark : List ℕ) → Result U Fault → List ℕ

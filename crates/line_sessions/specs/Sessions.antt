@@ -1,7 +1,7 @@
 -- What a session says of the bytes that were read and written, and of the program.
 use Rattle.std.specs.Prelude.{◌≡◌, ℕ, ◌+◌, List, ◌∷◌, ◌++◌, Option, Result, Ok, Err, ◌⊎◌, length}
 use Rattle.std.specs.Io.KnownBytes.{Appends, Consumes, IsAtEnd}
-use Rattle.line_sessions.specs.Answers.{AreAnswers, IsBadLine}
+use Rattle.line_sessions.specs.Answers.{AreAnswers, IsBadLine, IsToldBad}
 use Rattle.line_sessions.specs.Faults.{exit_of, told_of}
 use Rattle.line_sessions.specs.Lines.{all_lines, counted, ended_lines}
 use Rattle.line_sessions.specs.Watched.{Noted, ReaderState, WriterState, Writes}
@@ -73,15 +73,15 @@ pub record Served {S U : Type 0} (R : S → List ℕ → S → List ℕ → Type
   pub outcome : Outcome R B G r (IsAtEnd unread') read s t written
 
 -- a whole run: how the session went, which calls of the streams it tells, the status, and the text
--- on standard error, with a remark that N holds of
+-- on standard error, with the remark that M tells of a bad line
 pub record Ran {S : Type 0} (R : S → List ℕ → S → List ℕ → Type 0) (B : List ℕ → Type 0)
-    (G : S → List ℕ → S → Type 0) (N : List ℕ → Type 0) (reader reader' : ReaderState)
+    (G : S → List ℕ → S → Type 0) (M : List ℕ → List ℕ → Type 0) (reader reader' : ReaderState)
     (writer writer' errors errors' : WriterState) (s : S) (status : ℕ) : Type 0 where
   pub result : Result (Unit {0}) Fault
   pub left : S
-  pub served : Served R B G reader.unread reader'.unread writer.held writer'.held s left result
+  pub remark : List ℕ
+  pub served : Served R (IsToldBad B M remark) G reader.unread reader'.unread writer.held
+      writer'.held s left result
   pub noted : Noted reader reader' writer writer' result
   pub status_is : status ≡ exit_of result
-  pub remark : List ℕ
-  pub remarked : N remark
   pub told : Writes errors errors' (told_of remark result)

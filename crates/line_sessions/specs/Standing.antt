@@ -24,7 +24,7 @@ pub record IsAnswered {S : Type 0} (R : S → List ℕ → S → List ℕ → Ty
   pub answers : AreAnswers R lines s t (sent ++ c.answers.items)
 
 -- all whole lines of b are answered, and the bytes after them are kept
-pub record IsAt {S : Type 0} (R : S → List ℕ → S → List ℕ → Type 0) (b sent : List ℕ) (s t : S)
+pub record StandsAt {S : Type 0} (R : S → List ℕ → S → List ℕ → Type 0) (b sent : List ℕ) (s t : S)
     (c : Session) : Type 0 where
   pub rest : c.open_line.items ≡ (cut b).rest
   pub answered : IsAnswered R (ended_lines b) sent s t c.conversation
@@ -32,14 +32,14 @@ pub record IsAt {S : Type 0} (R : S → List ℕ → S → List ℕ → Type 0) 
 -- the lines of b were answered, up to a fault
 abbrev pub Goes : {S U : Type 0} → (S → List ℕ → S → List ℕ → Type 0) → (List ℕ → Type 0)
     → (S → List ℕ → S → Type 0) → Result U Fault → (b sent : List ℕ) → S → S → Session → Type 0
-Goes R B G (Ok _) b sent s t c = IsAt R b sent s t c
+Goes R B G (Ok _) b sent s t c = StandsAt R b sent s t c
 Goes R B G (Err e) b sent s t c =
     Breaks R B G e (ended_lines b) s t (sent ++ c.conversation.answers.items)
 
 -- what waited was written, or a first part of it where a write failed
-abbrev pub Writes : {U : Type 0} → (outcome r : Result U Fault) → (waited : List ℕ)
+abbrev pub WritesWaiting : {U : Type 0} → (outcome r : Result U Fault) → (waited : List ℕ)
     → (held held' : Option (List ℕ)) → Type 0
-Writes outcome r waited held held' =
+WritesWaiting outcome r waited held held' =
     ((r ≡ outcome) × Appends held held' waited)
     ⊎ ((r ≡ Err Write) × (k : ℕ) × Appends held held' (take k waited))
 
@@ -52,7 +52,7 @@ pub record IsCleared (c d : Session) : Type 0 where
 -- all whole lines of b are answered, and all answers were sent
 pub record IsClear {S : Type 0} (R : S → List ℕ → S → List ℕ → Type 0) (b sent : List ℕ)
     (s t : S) (c : Session) : Type 0 where
-  pub at : IsAt R b sent s t c
+  pub at : StandsAt R b sent s t c
   pub none_waits : c.conversation.answers.items ≡ []
 
 -- the lines of b were answered and their answers were written, up to a fault
@@ -71,7 +71,7 @@ pub record Sends {S U : Type 0} (R : S → List ℕ → S → List ℕ → Type 
 -- the lines of b were answered, up to a fault, at which all answers were sent
 abbrev pub Told : {S U : Type 0} → (S → List ℕ → S → List ℕ → Type 0) → (List ℕ → Type 0)
     → (S → List ℕ → S → Type 0) → Result U Fault → (b sent : List ℕ) → S → S → Session → Type 0
-Told R B G (Ok _) b sent s t c = IsAt R b sent s t c
+Told R B G (Ok _) b sent s t c = StandsAt R b sent s t c
 Told R B G (Err e) b sent s t c = Breaks R B G e (ended_lines b) s t sent
 
 -- and some of their answers were written

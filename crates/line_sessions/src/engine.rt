@@ -1,6 +1,7 @@
 //! A session over a reader and a writer.
-ghost use Rattle.std.specs.Prelude.{◌≡◌, IfOk, vec_len};
+ghost use Rattle.std.specs.Prelude.{◌≡◌, [], IfOk, vec_len};
 ghost use Rattle.std.specs.Process.{exit_status};
+ghost use Rattle.line_sessions.specs.Answers.{IsToldBad};
 ghost use Rattle.line_sessions.specs.Sessions.{Ran, Served};
 ghost use Rattle.line_sessions.specs.Watched.{Noted};
 
@@ -22,6 +23,38 @@ fn zeros(alloc: Global, count: usize) -> Result<Vec<u8>, AllocError>
     vec![in alloc; 0u8; count]
 }
 
+/// What `serve` does, with a session that begins.
+fn converse<P: Program, R: Read, W: Write>(
+    alloc: Global,
+    session: &mut Session,
+    program: &mut P,
+    reader: &mut WatchedReader<R>,
+    writer: &mut WatchedWriter<W>,
+) -> Result<(), Fault>
+    requires line { session.old.open_line.items ≡ [] }
+    requires answers { session.old.conversation.answers.items ≡ [] }
+    requires count { session.old.conversation.count ≡ 0 }
+    ensures served { Served P.replies
+        (IsToldBad P.is_bad P.says session.new.conversation.remark.now) P.gives_up
+        reader.old.unread reader.new.unread
+        writer.old.held writer.new.held
+        program.old program.new result }
+    ensures noted { Noted reader.old reader.new writer.old writer.new result }
+{
+    let Ok(mut room) = zeros(alloc, CHUNK) else {
+        return Err(Fault::Memory);
+    };
+    let buffer = room.as_mut_slice();
+    for _turn in 0..u64::MAX {
+        match reader.read(buffer, writer) {
+            Err(_) => return Err(Fault::Read),
+            Ok(0) => return session.finish(program, writer),
+            Ok(count) => session.hear(program, &buffer[..count], writer)?,
+        }
+    }
+    Err(Fault::Read)
+}
+
 /// Answers every line that the reader gives, up to its end or the first bad line.
 ///
 /// The answers to the lines that one read brought are written before the next read, before a fault
@@ -40,19 +73,8 @@ pub fn serve<P: Program, R: Read, W: Write>(
         program.old program.new result }
     ensures noted { Noted reader.old reader.new writer.old writer.new result }
 {
-    let Ok(mut room) = zeros(alloc, CHUNK) else {
-        return Err(Fault::Memory);
-    };
-    let buffer = room.as_mut_slice();
     let mut session = Session::new(alloc);
-    for _turn in 0..u64::MAX {
-        match reader.read(buffer, writer) {
-            Err(_) => return Err(Fault::Read),
-            Ok(0) => return session.finish(program, writer),
-            Ok(count) => session.hear(program, &buffer[..count], writer)?,
-        }
-    }
-    Err(Fault::Read)
+    converse(alloc, &mut session, program, reader, writer)
 }
 
 /// A whole run of a program: a session, and then the line on standard error that tells its fault,
@@ -64,12 +86,12 @@ pub fn run<P: Program, R: Read, W: Write, E: Write>(
     writer: &mut WatchedWriter<W>,
     errors: &mut WatchedWriter<E>,
 ) -> ExitCode
-    ensures { Ran P.replies P.is_bad P.gives_up P.is_remark reader.old reader.new
+    ensures { Ran P.replies P.is_bad P.gives_up P.says reader.old reader.new
         writer.old writer.new errors.old errors.new program (exit_status result) }
 {
     let mut program = program;
-    let outcome = serve(alloc, &mut program, reader, writer);
-    let remark = program.remark();
+    let mut session = Session::new(alloc);
+    let outcome = converse(alloc, &mut session, &mut program, reader, writer);
     mem::forget(program);
-    end(outcome, remark, errors)
+    end(outcome, session.remark(), errors)
 }

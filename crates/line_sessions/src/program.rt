@@ -1,12 +1,13 @@
 //! What a program answers to a line.
 ghost use Rattle.std.specs.Prelude.{ℕ, List, OnOk, OnErr, IfErr};
-ghost use Rattle.line_sessions.specs.Answers.{Adds, IsPrefix, Refuses};
+ghost use Rattle.line_sessions.specs.Answers.{Adds, Begins, Refuses};
 
 /// Why a line has no answer.
 #[derive(Clone, Copy, Debug, PartialEq, Eq)]
 pub enum Refusal {
-    /// The line asks for nothing that the program knows.
-    Bad,
+    /// The line asks for nothing that the program knows. The text is told behind its number, where it
+    /// isn't empty.
+    Bad(&'static str),
     /// Memory was refused.
     Memory,
 }
@@ -22,8 +23,8 @@ pub trait Program: Drop {
     // What is left of a program where memory was refused at a line.
     ghost gives_up: { Self → List ℕ → Self → Type 0 };
 
-    // What may be told of a bad line, behind its number.
-    ghost is_remark: { List ℕ → Type 0 };
+    // What is told of a bad line, behind its number: the line, and the text.
+    ghost says: { List ℕ → List ℕ → Type 0 };
 
     /// Answers a line, behind the answers that wait. A bad line leaves the program as it was.
     /// After a refusal a part of an answer may stand there, which the session takes away.
@@ -31,12 +32,8 @@ pub trait Program: Drop {
         ensures answered { OnOk result
             (Adds replies line.now self.old self.new answers.old.items answers.new.items) }
         ensures refused { IfErr result
-            (λ why. Refuses is_bad gives_up why line.now self.old self.new) }
-        ensures kept { OnErr result (IsPrefix answers.old.items answers.new.items) };
-
-    /// What is told of the last line that was bad, behind its number; nothing where it is empty.
-    fn remark(&self) -> &'static str
-        ensures { is_remark result.now };
+            (λ why. Refuses is_bad says gives_up why line.now self.old self.new) }
+        ensures kept { OnErr result (Begins answers.old.items answers.new.items) };
 
     // A bad line has no answer.
     ghost bad_is_unanswered: { (p q : Self) (line answer : List ℕ)

@@ -1,9 +1,9 @@
 //! What is answered to the lines of one read after another.
 ghost use Rattle.std.specs.Prelude.{◌≡◌, ◌+◌, ◌||◌, ℕ, List, [], ◌∷◌, ◌++◌, IsFalse, IfSome, IfNone, IfErr, OnOk, OnErr};
-ghost use Rattle.line_sessions.specs.Answers.{Adds, IsAnswer};
+ghost use Rattle.line_sessions.specs.Answers.{Adds, IsLineAnswer, IsToldBad};
 ghost use Rattle.line_sessions.specs.Faults.{tells_write};
 ghost use Rattle.line_sessions.specs.Lines.{HasNoFeed, counted, all_lines, ended_lines};
-ghost use Rattle.line_sessions.specs.Standing.{IsRefusal, IsAt, Goes, Writes, IsCleared, Tells, Sends, Finishes};
+ghost use Rattle.line_sessions.specs.Standing.{IsRefusal, StandsAt, Goes, WritesWaiting, IsCleared, Tells, Sends, Finishes};
 
 use crate::fault::Fault;
 use crate::program::{Program, Refusal};
@@ -27,21 +27,23 @@ fn first_line(bytes: &[u8]) -> Option<(&[u8], &[u8])>
     Some((line, after))
 }
 
-/// The answers that aren't written yet, and the count of lines.
+/// The answers that aren't written yet, the count of lines, and what is told of a bad one.
 #[derive(Drop)]
 struct Conversation {
     answers: Vec<u8>,
     count: u64,
+    remark: &'static str,
 }
 
 impl Conversation {
     /// Answers the line of this number; an empty one has an empty answer. After a refusal the
     /// answers are as before.
     fn reply<P: Program>(&mut self, program: &mut P, line: &[u8], number: u64) -> Result<(), Fault>
-        ensures answered { OnOk result (Adds (IsAnswer P.replies) line.now program.old program.new
+        ensures answered { OnOk result (Adds (IsLineAnswer P.replies) line.now program.old program.new
             self.old.answers.items self.new.answers.items) }
-        ensures refused { IfErr result
-            (λ e. IsRefusal P.is_bad P.gives_up e line.now number program.old program.new) }
+        ensures refused { IfErr result (λ e. IsRefusal
+            (IsToldBad P.is_bad P.says self.new.remark.now) P.gives_up e line.now number
+            program.old program.new) }
         ensures unchanged { OnErr result (self.new.answers.items ≡ self.old.answers.items) }
     {
         if line.is_empty() {
@@ -53,17 +55,21 @@ impl Conversation {
         };
         self.answers.truncate(whole);
         match why {
-            Refusal::Bad => Err(Fault::BadLine(number)),
+            Refusal::Bad(remark) => {
+                self.remark = remark;
+                Err(Fault::BadLine(number))
+            }
             Refusal::Memory => Err(Fault::Memory),
         }
     }
 
     /// Answers and counts a good line. After a refusal the answers are as before.
     fn answer_line<P: Program>(&mut self, program: &mut P, line: &[u8]) -> Result<(), Fault>
-        ensures answered { OnOk result (Adds (IsAnswer P.replies) line.now program.old program.new
+        ensures answered { OnOk result (Adds (IsLineAnswer P.replies) line.now program.old program.new
             self.old.answers.items self.new.answers.items) }
         ensures count { OnOk result (self.new.count ≡ counted (self.old.count + 1)) }
-        ensures refused { IfErr result (λ e. IsRefusal P.is_bad P.gives_up e line.now
+        ensures refused { IfErr result (λ e. IsRefusal
+            (IsToldBad P.is_bad P.says self.new.remark.now) P.gives_up e line.now
             (counted (self.old.count + 1)) program.old program.new) }
         ensures unchanged { OnErr result (self.new.answers.items ≡ self.old.answers.items) }
     {
@@ -91,9 +97,17 @@ impl Session {
             conversation: Conversation {
                 answers: Vec::new(alloc),
                 count: 0,
+                remark: "",
             },
             open_line: Vec::new(alloc),
         }
+    }
+
+    /// What is told of the bad line, behind its number.
+    pub(super) fn remark(&self) -> &'static str
+        ensures { result ≡ self.now.conversation.remark }
+    {
+        self.conversation.remark
     }
 
     /// Keeps bytes of a line that hasn't ended.
@@ -112,9 +126,9 @@ impl Session {
     /// Answers the line that these bytes end.
     fn end_line<P: Program>(&mut self, program: &mut P, bytes: &[u8]) -> Result<(), Fault>
         ensures answered { (b sent : List ℕ) (start : P)
-            → IsAt P.replies b sent start program.old self.old → HasNoFeed bytes.now
-            → Goes P.replies P.is_bad P.gives_up result (b ++ bytes.now ++ 10 ∷ []) sent start
-            program.new self.new }
+            → StandsAt P.replies b sent start program.old self.old → HasNoFeed bytes.now
+            → Goes P.replies (IsToldBad P.is_bad P.says self.new.conversation.remark.now)
+            P.gives_up result (b ++ bytes.now ++ 10 ∷ []) sent start program.new self.new }
         ensures no_write_fault { IsFalse (tells_write result) }
     {
         if self.open_line.is_empty() {
@@ -130,9 +144,10 @@ impl Session {
     /// Answers the bytes after the last line feed, where there are any, as a line.
     fn end_last_line<P: Program>(&mut self, program: &mut P) -> Result<(), Fault>
         ensures answered { (b sent : List ℕ) (start : P)
-            → IsAt P.replies b sent start program.old self.old
+            → StandsAt P.replies b sent start program.old self.old
             → (whole : List ℕ) × (ended_lines whole ≡ all_lines b)
-            × Goes P.replies P.is_bad P.gives_up result whole sent start program.new self.new }
+            × Goes P.replies (IsToldBad P.is_bad P.says self.new.conversation.remark.now)
+            P.gives_up result whole sent start program.new self.new }
         ensures no_write_fault { IsFalse (tells_write result) }
     {
         if self.open_line.is_empty() {
@@ -147,9 +162,10 @@ impl Session {
         outcome: Result<(), Fault>,
         writer: &mut WatchedWriter<W>,
     ) -> Result<(), Fault>
-        ensures sent { Writes outcome result self.old.conversation.answers.items
+        ensures sent { WritesWaiting outcome result self.old.conversation.answers.items
             writer.old.held writer.new.held }
         ensures cleared { OnOk result (IsCleared self.old self.new) }
+        ensures remark { self.new.conversation.remark ≡ self.old.conversation.remark }
         ensures noted { IsFalse (tells_write outcome)
             → writer.new.has_failed ≡ (writer.old.has_failed || tells_write result) }
     {
@@ -166,10 +182,10 @@ impl Session {
         writer: &mut WatchedWriter<W>,
     ) -> Result<(), Fault>
         ensures told { (b sent : List ℕ) (start : P)
-            → IsAt P.replies b sent start program.old self.old → HasNoFeed line.now
-            → Tells P.replies P.is_bad P.gives_up result (b ++ line.now ++ 10 ∷ []) sent
-            writer.old.held writer.new.held start program.new
-            self.new }
+            → StandsAt P.replies b sent start program.old self.old → HasNoFeed line.now
+            → Tells P.replies (IsToldBad P.is_bad P.says self.new.conversation.remark.now)
+            P.gives_up result (b ++ line.now ++ 10 ∷ []) sent writer.old.held writer.new.held start
+            program.new self.new }
         ensures noted { writer.new.has_failed ≡ (writer.old.has_failed || tells_write result) }
     {
         let outcome = self.end_line(program, line);
@@ -187,10 +203,10 @@ impl Session {
         writer: &mut WatchedWriter<W>,
     ) -> Result<(), Fault>
         ensures sent { (b sent : List ℕ) (start : P)
-            → IsAt P.replies b sent start program.old self.old
-            → Sends P.replies P.is_bad P.gives_up result (b ++ bytes.now) sent
-            writer.old.held writer.new.held start program.new
-            self.new }
+            → StandsAt P.replies b sent start program.old self.old
+            → Sends P.replies (IsToldBad P.is_bad P.says self.new.conversation.remark.now)
+            P.gives_up result (b ++ bytes.now) sent writer.old.held writer.new.held start
+            program.new self.new }
         ensures noted { writer.new.has_failed ≡ (writer.old.has_failed || tells_write result) }
     {
         let mut rest = bytes;
@@ -209,9 +225,9 @@ impl Session {
         writer: &mut WatchedWriter<W>,
     ) -> Result<(), Fault>
         ensures sent { (b sent : List ℕ) (start : P)
-            → IsAt P.replies b sent start program.old self.old
-            → Finishes P.replies P.is_bad P.gives_up result b sent
-            writer.old.held writer.new.held start program.new }
+            → StandsAt P.replies b sent start program.old self.old
+            → Finishes P.replies (IsToldBad P.is_bad P.says self.new.conversation.remark.now)
+            P.gives_up result b sent writer.old.held writer.new.held start program.new }
         ensures noted { writer.new.has_failed ≡ (writer.old.has_failed || tells_write result) }
     {
         let outcome = self.end_last_line(program);

@@ -23,7 +23,7 @@ use Rattle.radix_keys.specs.Bits.{first_bits}
 use Rattle.radix_keys.specs.Networks.{Net}
 use Rattle.radix_keys.specs.Order as lists
 use Rattle.radix_keys.proofs.BitLemmas.{network_order}
-use Rattle.route_tool.specs.Aggregates.{Holds, IsAggregate, IsToNetwork, ListGives, Precedes, TableGives, route_of}
+use Rattle.route_tool.specs.Aggregates.{Holds, IsAggregate, IsToNetwork, ListGives, IsRouteBefore, TableGives, route_of}
 use Rattle.route_tool.specs.Numbers.{AreNumbered, IsRowOf, numbered}
 use Rattle.route_tool.specs.Routes.{Route, Routes, AreNetworks, IsHolder, in_order, place}
 
@@ -90,18 +90,18 @@ text_is (h ∷ hops) (suc n) hop lt at = text_is hops n hop (omega arith) at
 module _ {A : Type 0} (w : ℕ) (number : A → ℕ) where
   module _ (code : List ℕ → ℕ) where
     -- what a list gives, the numbers answer
-    answers : (rs : List (Route A)) (n : ℕ) (hop : Option (List ℕ)) → ListGives w number rs n hop → numbers.IsAnswer w (each (numbered number code) rs) n (option_map code hop)
+    answers : (rs : List (Route A)) (n : ℕ) (hop : Option (List ℕ)) → ListGives w number rs n hop → numbers.IsHopOf w (each (numbered number code) rs) n (option_map code hop)
     answers rs n hop (None, none, is) =
-        subst (λ h. numbers.IsAnswer w (each (numbered number code) rs) n (option_map code h)) (sym is) (All-map (λ x. ¬ (numbers.Holds w x n)) (numbered number code) rs none)
+        subst (λ h. numbers.IsHopOf w (each (numbered number code) rs) n (option_map code h)) (sym is) (All-map (λ x. ¬ (numbers.HoldsNumber w x n)) (numbered number code) rs none)
     answers rs n hop (Some r, (at, holds, most), is) =
         let (k, lt, e) = changed_has (numbered number code) rs r at in
-        subst (λ h. numbers.IsAnswer w (each (numbered number code) rs) n (option_map code h)) (sym is)
-        (k, numbered number code r, lt, e, ((holds, All-map (λ x. numbers.Holds w x n → x.bits ≤ r.0.bits) (numbered number code) rs most), refl))
+        subst (λ h. numbers.IsHopOf w (each (numbered number code) rs) n (option_map code h)) (sym is)
+        (k, numbered number code r, lt, e, ((holds, All-map (λ x. numbers.HoldsNumber w x n → x.bits ≤ r.0.bits) (numbered number code) rs most), refl))
 
     -- what the numbers answer, the list gives
-    gives : (rs : List (Route A)) (n : ℕ) (o : Option ℕ) → numbers.IsAnswer w (each (numbered number code) rs) n o
+    gives : (rs : List (Route A)) (n : ℕ) (o : Option ℕ) → numbers.IsHopOf w (each (numbered number code) rs) n o
         → (hop : Option (List ℕ)) × ListGives w number rs n hop × (o ≡ option_map code hop)
-    gives rs n None none = (None, (None, all_changed (λ x. ¬ (numbers.Holds w x n)) (numbered number code) rs none, refl), refl)
+    gives rs n None none = (None, (None, all_changed (λ x. ¬ (numbers.HoldsNumber w x n)) (numbered number code) rs none, refl), refl)
     gives rs n (Some h) (k, x, lt, e, ((holds, most), is)) =
         let (r, at, same) = has_changed (numbered number code) rs x (k, lt, e) in (
           Some r.1,
@@ -109,9 +109,9 @@ module _ {A : Type 0} (w : ℕ) (number : A → ℕ) where
             Some r,
             (
               at,
-              subst (λ y. numbers.Holds w y n) (sym same) holds,
-              all_changed (λ y. numbers.Holds w y n → y.bits ≤ r.0.bits) (numbered number code) rs
-                  (subst (λ (z : chosen.Route). All (λ y. numbers.Holds w y n → y.bits ≤ z.bits) (each (numbered number code) rs)) (sym same) most),
+              subst (λ y. numbers.HoldsNumber w y n) (sym same) holds,
+              all_changed (λ y. numbers.HoldsNumber w y n → y.bits ≤ r.0.bits) (numbered number code) rs
+                  (subst (λ (z : chosen.Route). All (λ y. numbers.HoldsNumber w y n → y.bits ≤ z.bits) (each (numbered number code) rs)) (sym same) most),
             ),
             refl,
           ),
@@ -120,10 +120,10 @@ module _ {A : Type 0} (w : ℕ) (number : A → ℕ) where
 
     -- what numbers answer follows from what the list gives
     carried : (rs ss : List (Route A)) (n : ℕ) (o : Option ℕ) → ((hop : Option (List ℕ)) → ListGives w number rs n hop → ListGives w number ss n hop)
-        → numbers.IsAnswer w (each (numbered number code) rs) n o → numbers.IsAnswer w (each (numbered number code) ss) n o
+        → numbers.IsHopOf w (each (numbered number code) rs) n o → numbers.IsHopOf w (each (numbered number code) ss) n o
     carried rs ss n o to answer =
         let (hop, given, is) = gives rs n o answer in
-        subst (numbers.IsAnswer w (each (numbered number code) ss) n) (sym is) (answers ss n hop (to hop given))
+        subst (numbers.IsHopOf w (each (numbered number code) ss) n) (sym is) (answers ss n hop (to hop given))
 
     -- lists that give the same hops answer the same numbers
     same_numbers : (rs ss : List (Route A)) → ((n : ℕ) (hop : Option (List ℕ)) → n < 2 ^ w → ListGives w number rs n hop ↔ ListGives w number ss n hop)
@@ -142,7 +142,7 @@ module _ {A : Type 0} (w : ℕ) (number : A → ℕ) where
 
       -- where numbers tell the hops, lists that answer the same numbers give the same hops
       same_hops : (rs ss : List (Route A)) → All IsTold rs → All IsTold ss → (n : ℕ) (hop : Option (List ℕ))
-          → (numbers.IsAnswer w (each (numbered number code) rs) n (option_map code hop) → numbers.IsAnswer w (each (numbered number code) ss) n (option_map code hop))
+          → (numbers.IsHopOf w (each (numbered number code) rs) n (option_map code hop) → numbers.IsHopOf w (each (numbered number code) ss) n (option_map code hop))
           → ListGives w number rs n hop → ListGives w number ss n hop
       same_hops rs ss told also n hop to given =
           let (found, other, is) = gives ss n (option_map code hop) (to (answers rs n hop given)) in
@@ -196,7 +196,7 @@ module _ {A : Type 0} (w : ℕ) (number : A → ℕ) where
         )
 
     -- of two routes the one whose network's first bits come first precedes the other
-    precedes : (r s : Route A) → IsToNetwork w number r → IsToNetwork w number s → lists.Precedes (place w number r.0) (place w number s.0) → Precedes w number r s
+    precedes : (r s : Route A) → IsToNetwork w number r → IsToNetwork w number s → lists.Precedes (place w number r.0) (place w number s.0) → IsRouteBefore w number r s
     precedes r s p q h =
         let order = network_order w in
         elim (cases_lt (number r.0.base) (number s.0.base)) [
@@ -222,25 +222,25 @@ module _ {A : Type 0} (w : ℕ) (number : A → ℕ) where
     -- a sorted entry precedes those behind it
     first_precedes : (e : List ℕ) (r : Route A) (es : List (List ℕ × Route A)) → (e ≡ place w number r.0) × IsToNetwork w number r
         → ((f : List ℕ) (s : Route A) → Has es (f, s) → (f ≡ place w number s.0) × IsToNetwork w number s)
-        → T (below_all (slice_cmp nat_cmp) e es) → All (λ x. Precedes w number r x.1) es
-    first_precedes e r [] own at sorted = All-nil (λ (x : List ℕ × Route A). Precedes w number r x.1)
+        → T (below_all (slice_cmp nat_cmp) e es) → All (λ x. IsRouteBefore w number r x.1) es
+    first_precedes e r [] own at sorted = All-nil (λ (x : List ℕ × Route A). IsRouteBefore w number r x.1)
     first_precedes e r (x ∷ es) own at sorted =
         let there = at x.0 x.1 (inl refl) in
-        All-cons (λ (x : List ℕ × Route A). Precedes w number r x.1) x es
+        All-cons (λ (x : List ℕ × Route A). IsRouteBefore w number r x.1) x es
         (precedes r x.1 own.1 there.1 (subst (λ p. lists.Precedes p (place w number x.1.0)) own.0 (subst (lists.Precedes e) there.0 (less_by_test _ (first_of_both _ _ sorted)))))
         (first_precedes e r es own (λ f s has. at f s (inr has)) (second_of_both _ _ sorted))
 
     -- the routes of sorted entries are in order
     entries_order : (es : List (List ℕ × Route A)) → ((f : List ℕ) (s : Route A) → Has es (f, s) → (f ≡ place w number s.0) × IsToNetwork w number s)
-        → T (map.is_sorted (slice_cmp nat_cmp) es) → AllPairs (Precedes w number) (each (λ e. e.1) es)
+        → T (map.is_sorted (slice_cmp nat_cmp) es) → AllPairs (IsRouteBefore w number) (each (λ e. e.1) es)
     entries_order [] at sorted = λ i j d lt le. absurd (omega arith)
     entries_order (x ∷ es) at sorted =
-        AllPairs-cons (Precedes w number) x.1 (each (λ e. e.1) es)
-        (All-map (Precedes w number x.1) (λ (e : List ℕ × Route A). e.1) es (first_precedes x.0 x.1 es (at x.0 x.1 (inl refl)) (λ f s has. at f s (inr has)) (first_of_both _ _ sorted)))
+        AllPairs-cons (IsRouteBefore w number) x.1 (each (λ e. e.1) es)
+        (All-map (IsRouteBefore w number x.1) (λ (e : List ℕ × Route A). e.1) es (first_precedes x.0 x.1 es (at x.0 x.1 (inl refl)) (λ f s has. at f s (inr has)) (first_of_both _ _ sorted)))
         (entries_order es (λ f s has. at f s (inr has)) (second_of_both _ _ sorted))
 
     -- the routes are in order
-    in_order_rises : AllPairs (Precedes w number) (in_order m)
+    in_order_rises : AllPairs (IsRouteBefore w number) (in_order m)
     in_order_rises =
         entries_order (walk m []) (λ f s has. networks f s (entry_stored f s has)) (map.entries_sorted (below m []))
 
@@ -248,7 +248,7 @@ module _ {A : Type 0} (w : ℕ) (number : A → ℕ) where
     pub is_table : (code : List ℕ → ℕ) → numbers.IsTable w (each (numbered number code) (in_order m))
     is_table code = (
       All-map (numbers.IsOfWidth w) (numbered number code) (in_order m) (all_listed (IsToNetwork w number) (λ r at. (stored r at).1)),
-      changed_pairs numbers.Precedes (numbered number code) (in_order m) in_order_rises,
+      changed_pairs numbers.IsSortedBefore (numbered number code) (in_order m) in_order_rises,
     )
 
   module _ (rs : List (Route A)) (xs : List chosen.Route) (hops : List (Bor (List ℕ))) (code : List ℕ → ℕ) (are : xs ≡ each (numbered number code) rs)
@@ -317,7 +317,7 @@ module _ {A : Type 0} (w : ℕ) (number : A → ℕ) (m : Routes A) (networks : 
       let table : numbers.IsTable w (each (numbered number code) ss) = subst (numbers.IsTable w) out_is found.table in
       record {
         networks = all_changed (numbers.IsOfWidth w) (numbered number code) ss table.0;
-        order = pairs_changed numbers.Precedes (numbered number code) ss table.1;
+        order = pairs_changed numbers.IsSortedBefore (numbered number code) ss table.1;
         same = λ n hop lt. (
           λ given. (table_gives w number m networks n hop).0 (same_hops w number code (text_at hops) ss rs also told n hop (same n (option_map code hop) lt).0 given),
           λ given. same_hops w number code (text_at hops) rs ss told also n hop (same n (option_map code hop) lt).1 ((table_gives w number m networks n hop).1 given),

@@ -1,5 +1,5 @@
 -- Answers of parts.
-use Rattle.std.proofs.Common.{◌≡◌, ◌∙◌, ℕ, List, ◌++◌, Result, Ok, Err, OnOk, ap, append_assoc}
+use Rattle.std.proofs.Common.{◌≡◌, ◌∙◌, ◌⊎◌, inr, ℕ, List, ◌++◌, Result, Ok, Err, OnErr, OnOk, ap, append_assoc}
 
 -- three parts, one after another, behind what stood there
 pub three_parts : (old first second third h p q : List ℕ) → first ≡ old ++ h → second ≡ first ++ p → third ≡ second ++ q → third ≡ old ++ (h ++ p ++ q)
@@ -11,3 +11,8 @@ pub answers_too : {X E : Type 0} (r : Result X E) (old new : List ℕ) (P Q : Li
     → OnOk r ((answer : List ℕ) × (new ≡ old ++ answer) × P answer) → OnOk r ((answer : List ℕ) × (new ≡ old ++ answer) × Q answer)
 answers_too (Ok x) old new P Q to (answer, is, p) = (answer, is, to answer p)
 answers_too (Err e) old new P Q to h = h
+
+-- after a refusal a table may be as after an answer
+pub left_after : {T E A : Type 0} (r : Result T E) (Q : Type 0) (P : A → Type 0) (answer : A) → P answer → OnErr r (Q ⊎ ((a : A) × P a))
+left_after (Ok x) Q P answer p = tt
+left_after (Err e) Q P answer p = inr (answer, p)

@@ -5,6 +5,7 @@ use Rattle.std.proofs.Math.Seq.{get_or-append_seam}
 use Rattle.std.proofs.lemmas.Str.Pattern.{IsSplitOnceResult, split_after, split_parts}
 use Rattle.radix_keys.specs.Networks.{Net, IsNetText, IsParted}
 use Rattle.radix_keys.proofs.NetworkLemmas.{no_slash}
+use Rattle.route_tool.specs.Reasons.{IsWorded, ShowsHop}
 use Rattle.route_tool.specs.Requests.{Request, Add, Del, Below, Asks, IsAddition, IsHop, IsTarget, Says, word_of}
 
 -- no part of a text stands before a byte that isn't found
@@ -78,3 +79,29 @@ module _ {A : Type 0} (w : ℕ) (number : A → ℕ) (writes : List ℕ → A �
       pub no_below : word ≡ codes "below" → (r : Request A) → word ≡ word_of r → ¬ (Says w number writes r rest)
       no_below is (Below net) _ says = none net says
       no_below is r other says = omega (arith, same_letter word (codes "below") (word_of r) is other)
+
+-- what is wrong with a text
+module _ (s : List ℕ) where
+  -- a text with no space has no first word
+  pub no_word : IsSplitOnceResult 32 s None → (word rest : List ℕ) → IsWorded s word rest → ⊥
+  no_word found word rest parted = not_parted 32 s word rest found (lit< tt) parted
+
+  -- and shows no hop
+  pub no_space_no_hop : IsSplitOnceResult 32 s None → ShowsHop s → ⊥
+  no_space_no_hop found (word, hop, parted, is) = no_word found word hop parted
+
+  module _ (x : Bor (List ℕ) × Bor (List ℕ)) (found : IsSplitOnceResult 32 s (Some x)) where
+    -- what stands before the first space is the first word
+    pub first_word : (word : List ℕ) → x.0.now ≡ word → IsWorded s word x.1.now
+    first_word word is = subst (λ w. IsWorded s w x.1.now) is (split_parts 32 s (Some x) found (lit< tt))
+
+    -- and no other is
+    pub other_word : (word rest : List ℕ) → (x.0.now ≡ word → ⊥) → IsWorded s word rest → ⊥
+    other_word word rest other parted = other (parted_once 32 s word rest x found (lit< tt) parted).0
+
+    -- a hop is shown where one stands behind the space
+    pub shown_hop : IsHop x.1.now → ShowsHop s
+    shown_hop is = (x.0.now, x.1.now, split_parts 32 s (Some x) found (lit< tt), is)
+
+    pub no_shown_hop : ¬ (IsHop x.1.now) → ShowsHop s → ⊥
+    no_shown_hop wrong (word, hop, parted, is) = wrong (subst IsHop (sym (parted_once 32 s word hop x found (lit< tt) parted).1) is)

@@ -8,7 +8,7 @@ use Rattle.radix_keys.specs.Networks.{IsBase}
 use Rattle.radix_keys.proofs.BitLemmas.{first_bits_prefix, length-first_bits}
 use Rattle.radix_trie.specs.Keys.{IsKeyed}
 use Rattle.radix_trie.specs.Views.{IsPairAbove}
-use Rattle.route_tool.specs.Routes.{Route, Routes, IsHolder, IsLongest, place}
+use Rattle.route_tool.specs.Routes.{Route, Routes, IsHolder, IsLongestRoute, place}
 
 -- what holds of a value holds after a call that changed it so, or not at all
 pub kept : {M X E V : Type 0} (P : M → Type 0) (r : Result X E) (old changed new : M) → P old → (V → P changed) → OnOk r V → OnOk r (new ≡ changed) → OnErr r (new ≡ old) → P new
@@ -25,7 +25,7 @@ module _ {A : Type 0} (w : ℕ) (number : A → ℕ) (m : Routes A) (keyed : IsK
   holder_above r h = (first_bits_prefix w (number r.0.base) n r.0.bits w h.base.0 fits h.base.1 (omega arith)).1 h.holds
 
   -- the pair at the longest stored list above an address's bits is the longest network that holds it
-  pub longest : (found : Option (Route A)) → IsPairAbove m (first_bits w n w) found → IsLongest w number m n found
+  pub longest : (found : Option (Route A)) → IsPairAbove m (first_bits w n w) found → IsLongestRoute w number m n found
   longest None (None, none, e) = λ r h. none (place w number r.0) (stored_of_get m (place w number r.0) r h.stored) (holder_above r h)
   longest (Some r) (None, none, e) = cc
   longest None (Some p, is, e) = absurd (subst (λ (o : Option (Route A)). T (is_some o)) (sym e) is.member)

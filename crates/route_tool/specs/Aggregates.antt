@@ -3,7 +3,7 @@ use Rattle.std.specs.Prelude.{◌≡◌, ℕ, ◌^◌, ◌<◌, ◌≤◌, ◌�
 use Rattle.std.specs.Borrow.{Bor}
 use Rattle.std.specs.List.{All, AllPairs, Contains}
 use Rattle.radix_keys.specs.Networks.{Net, IsBase, AgreeIn}
-use Rattle.route_tool.specs.Routes.{Route, Routes, IsLongest, hop_of}
+use Rattle.route_tool.specs.Routes.{Route, Routes, IsLongestRoute, hop_of}
 
 -- a network and its hop by a reference
 abbrev pub route_of : {A : Type 0} → Net A × Bor (List ℕ) → Route A
@@ -28,7 +28,7 @@ module _ {A : Type 0} (w : ℕ) (number : A → ℕ) where
   -- the table gives the address this hop, or none
   abbrev pub TableGives : Routes A → ℕ → Option (List ℕ) → Type 0
   TableGives m n hop =
-      (found : Option (Route A)) × IsLongest w number m n found × (hop ≡ hop_of found)
+      (found : Option (Route A)) × IsLongestRoute w number m n found × (hop ≡ hop_of found)
 
   -- the list gives each address the hop that the table gives it, and no other
   abbrev pub GivesSameHops : Routes A → List (Route A) → Type 0
@@ -40,14 +40,14 @@ module _ {A : Type 0} (w : ℕ) (number : A → ℕ) where
   IsToNetwork r = IsBase w r.0.bits (number r.0.base)
 
   -- its base is less, or the same with fewer bits
-  abbrev pub Precedes : Route A → Route A → Type 0
-  Precedes r s = (number r.0.base < number s.0.base)
+  abbrev pub IsRouteBefore : Route A → Route A → Type 0
+  IsRouteBefore r s = (number r.0.base < number s.0.base)
       ⊎ ((number r.0.base ≡ number s.0.base) × (r.0.bits < s.0.bits))
 
   -- routes to networks, in strict order and so one for each network, with the hops that the table
   -- gives; no list of routes with these hops is shorter
   pub record IsAggregate (m : Routes A) (routes : List (Route A)) : Type 0 where
     pub networks : All IsToNetwork routes
-    pub order : AllPairs Precedes routes
+    pub order : AllPairs IsRouteBefore routes
     pub same : GivesSameHops m routes
     pub least : (other : List (Route A)) → GivesSameHops m other → length routes ≤ length other

@@ -7,7 +7,7 @@ use Rattle.std.specs.declared.net.ipv6_addr.Ipv6Addr.{Ipv6Addr}
 use Rattle.radix_keys.specs.Networks.{net_text}
 use Rattle.route_tool.specs.Aggregates.{IsAggregate}
 use Rattle.route_tool.specs.Requests.{Request, Add, Del, Below, Look, Find, Asked, V4, V6, Len, All, Aggregate, Compact, Comment}
-use Rattle.route_tool.specs.Routes.{Route, Routes, IsLongest, hop_at, hop_of, in_order, routes_within, with_route, without_route}
+use Rattle.route_tool.specs.Routes.{Route, Routes, IsLongestRoute, hop_at, hop_of, in_order, routes_within, with_route, without_route}
 use Rattle.route_tool.specs.declared.table.Table.{Table}
 
 -- of an added route, by the hop that its network had
@@ -48,9 +48,9 @@ module _ {A : Type 0} (text : A → List ℕ) where
   IsReply w number (Below net) m n answer =
       (answer ≡ below_answer (routes_within w number m net)) × (n ≡ m)
   IsReply w number (Look address) m n answer = (found : Option (Route A))
-      × IsLongest w number m (number address) found × (answer ≡ hop_answer (hop_of found)) × (n ≡ m)
+      × IsLongestRoute w number m (number address) found × (answer ≡ hop_answer (hop_of found)) × (n ≡ m)
   IsReply w number (Find address) m n answer = (found : Option (Route A))
-      × IsLongest w number m (number address) found × (answer ≡ find_answer found) × (n ≡ m)
+      × IsLongestRoute w number m (number address) found × (answer ≡ find_answer found) × (n ≡ m)
 
 abbrev pub ipv4_row : Route Ipv4Addr → List ℕ
 ipv4_row r = row (λ a. ipv4_text (ipv4_octets a)) r

@@ -63,6 +63,6 @@ module _ {A : Type 0} (w : ℕ) (number : A → ℕ) where
     pub holds : AgreeIn w r.0.bits (number r.0.base) n
 
   -- the longest of the networks that hold it, and its hop, or None where none does
-  abbrev pub IsLongest : Routes A → ℕ → Option (Route A) → Type 0
-  IsLongest m n found = MatchOption found ((r : Route A) → ¬ (IsHolder m n r))
+  abbrev pub IsLongestRoute : Routes A → ℕ → Option (Route A) → Type 0
+  IsLongestRoute m n found = MatchOption found ((r : Route A) → ¬ (IsHolder m n r))
       (λ r. IsHolder m n r × ((s : Route A) → IsHolder m n s → s.0.bits ≤ r.0.bits))

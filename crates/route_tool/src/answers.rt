@@ -1,5 +1,5 @@
 //! Carrying out a command, and its answer, straight behind the answers that wait.
-ghost use Rattle.std.specs.Prelude.{◌≡◌, ◌++◌, ◌∷◌, [], ℕ, List, IfSome, OnOk, OnErr, flat_map, map, option_copied};
+ghost use Rattle.std.specs.Prelude.{◌≡◌, ◌⊎◌, ◌++◌, ◌∷◌, [], ℕ, List, IfSome, OnOk, OnErr, flat_map, map, option_copied};
 ghost use Rattle.nibble_map.specs.Lists.{IsPrefix};
 ghost use Rattle.radix_keys.specs.Networks.{net_text};
 ghost use Rattle.route_tool.specs.Answers.{IsAggregateAnswer, IsAnswer, IsReply, added_answer, below_answer, count_answer, hop_answer, list_answer, row};
@@ -62,7 +62,7 @@ fn add_hop_answer(out: &mut Vec<u8>, found: Option<&Hop>) -> Result<(), AllocErr
     }
 }
 
-/// What is written of a network. It has room in the array, so there is always a text.
+/// What is written of a network, where it has room in the array, as each network's text has.
 ///
 /// It isn't written into the answers at once: where such a write is refused, its contract says
 /// nothing of what they then hold.
@@ -76,16 +76,29 @@ fn text_of<A: Address>(network: &Network<A>) -> Option<ArrayString<LONGEST>>
     }
 }
 
+/// Adds what is written of a network. That a text has room in the array no contract of the library
+/// tells, so one that had none would be written into memory of its own first.
+fn add_network<A: Address>(out: &mut Vec<u8>, network: &Network<A>) -> Result<(), AllocError>
+    ensures text { OnOk result
+        (out.new.items ≡ out.old.items ++ net_text A.text network.now) }
+    ensures kept { IsPrefix out.old.items out.new.items }
+{
+    match text_of(network) {
+        Some(text) => out.extend_from_slice(text.as_str().as_bytes()),
+        None => {
+            let text = format!(in *out.allocator(); "{network}")?;
+            out.extend_from_slice(text.as_bytes())
+        }
+    }
+}
+
 /// Adds a network, a space and its hop.
 fn add_row<A: Address>(out: &mut Vec<u8>, network: &Network<A>, hop: &Hop) -> Result<(), AllocError>
     ensures text { OnOk result
         (out.new.items ≡ out.old.items ++ row A.text (network.now, hop.now)) }
     ensures kept { IsPrefix out.old.items out.new.items }
 {
-    let Some(text) = text_of(network) else {
-        return Err(AllocError);
-    };
-    out.extend_from_slice(text.as_str().as_bytes())?;
+    add_network(out, network)?;
     out.extend_from_slice(b" ")?;
     add_hop(out, hop)
 }
@@ -130,6 +143,8 @@ fn add_reply<A: Address>(
 ) -> Result<(), Memory>
     ensures reply { OnOk result ((answer : List ℕ) × (out.new.items ≡ out.old.items ++ answer)
         × IsReply A.text A.BITS A.number (request_of request.now) routes.old routes.new answer) }
+    ensures left { OnErr result ((routes.new ≡ routes.old) ⊎ ((answer : List ℕ)
+        × IsReply A.text A.BITS A.number (request_of request.now) routes.old routes.new answer)) }
     ensures kept { IsPrefix out.old.items out.new.items }
 {
     match request {
@@ -188,6 +203,8 @@ fn add_aggregate(out: &mut Vec<u8>, table: &Table) -> Result<(), Memory>
 pub fn answer(out: &mut Vec<u8>, table: &mut Table, command: &Command<'_>) -> Result<(), Memory>
     ensures answer { OnOk result ((answer : List ℕ) × (out.new.items ≡ out.old.items ++ answer)
         × IsAnswer (asked_of command.now) table.old table.new answer) }
+    ensures left { OnErr result ((table.new ≡ table.old)
+        ⊎ ((answer : List ℕ) × IsAnswer (asked_of command.now) table.old table.new answer)) }
     ensures kept { OnErr result (IsPrefix out.old.items out.new.items) }
 {
     match command {

@@ -1,12 +1,26 @@
 //! Laws of the definitions, and worked words.
 ghost use Rattle.std.specs.Prelude.{◌≡◌, ℕ, List, [], ◌∷◌, codes};
-ghost use Rattle.std.specs.Net.Addr.{ipv4_bits};
-ghost use Rattle.std.specs.Net.Grammar.{IsIpv4Text};
+ghost use Rattle.std.specs.Net.Addr.{IsIpv4Addr, IsIpv6Addr, ipv4_bits, ipv4_octets, ipv6_bits, ipv6_segments};
+ghost use Rattle.std.specs.Net.Grammar.{IsIpv4Text, IsIpv6Text};
+ghost use Rattle.std.specs.Net.Text.{ipv4_text, ipv6_text};
+ghost use Rattle.radix_keys.specs.Networks.{IsBase, IsNetText, Net, net_text};
 ghost use Rattle.route_tool.specs.Requests.{Asked, IsHop, IsRequest, IsTarget};
+
+use std::net::{Ipv4Addr, Ipv6Addr};
 
 /// A line asks for one thing at most.
 pub fn lines_ask_for_one_thing()
     ensures { (line : List ℕ) (c d : Asked) → IsRequest line c → IsRequest line d → c ≡ d }
+{}
+
+/// The text that is written of a network is read as that network.
+pub fn networks_are_read_back()
+    ensures ipv4 { (net : Net Ipv4Addr) → IsIpv4Addr net.base
+        → IsBase 32 net.bits (ipv4_bits net.base)
+        → IsNetText 32 ipv4_bits IsIpv4Text (net_text (λ a. ipv4_text (ipv4_octets a)) net) net }
+    ensures ipv6 { (net : Net Ipv6Addr) → IsIpv6Addr net.base
+        → IsBase 128 net.bits (ipv6_bits net.base)
+        → IsNetText 128 ipv6_bits IsIpv6Text (net_text (λ a. ipv6_text (ipv6_segments a)) net) net }
 {}
 
 /// What is a hop, and what isn't one.

@@ -1,6 +1,6 @@
 //! Why a line asks for nothing, for the person who wrote it.
-ghost use Rattle.std.specs.Prelude.{◌≡◌};
-ghost use Rattle.route_tool.specs.Reasons.{reason_text};
+ghost use Rattle.std.specs.Prelude.{◌≡◌, ◌⊎◌};
+ghost use Rattle.route_tool.specs.Reasons.{ShowsHop, IsReason, IsWrong, reason_text};
 
 use crate::command::is_hop;
 
@@ -30,22 +30,50 @@ impl Reason {
 }
 
 /// What is wrong behind `add`, where no network and hop follow.
-fn wrong_with_addition(rest: &str) -> Reason {
+fn wrong_with_addition(rest: &str) -> Reason
+    ensures { ((result ≡ Reason.NoNetwork) × ShowsHop rest.now)
+        ⊎ ((result ≡ Reason.NoHop) × (ShowsHop rest.now → ⊥)) }
+{
     match rest.split_once(' ') {
-        Some((_, hop)) if is_hop(hop) => Reason::NoNetwork,
-        _ => Reason::NoHop,
+        Some((_, hop)) => {
+            if is_hop(hop) {
+                Reason::NoNetwork
+            } else {
+                Reason::NoHop
+            }
+        }
+        None => Reason::NoHop,
+    }
+}
+
+/// What is wrong with a text that asks for nothing.
+fn wrong_with_text(text: &str) -> Reason
+    ensures { IsWrong result text.now }
+{
+    let Some((word, rest)) = text.split_once(' ') else {
+        return Reason::NoRequest;
+    };
+    if word == "add" {
+        wrong_with_addition(rest)
+    } else if word == "del" {
+        Reason::NoNetwork
+    } else if word == "below" {
+        Reason::NoNetwork
+    } else if word == "look" {
+        Reason::NoAddress
+    } else if word == "find" {
+        Reason::NoAddress
+    } else {
+        Reason::NoRequest
     }
 }
 
 /// What is wrong with a line that asks for nothing.
-pub fn wrong_with(line: &[u8]) -> Reason {
-    let Ok(text) = str::from_utf8(line) else {
-        return Reason::NotUtf8;
-    };
-    match text.split_once(' ') {
-        Some(("add", rest)) => wrong_with_addition(rest),
-        Some(("del" | "below", _)) => Reason::NoNetwork,
-        Some(("look" | "find", _)) => Reason::NoAddress,
-        _ => Reason::NoRequest,
+pub fn wrong_with(line: &[u8]) -> Reason
+    ensures { IsReason result line.now }
+{
+    match str::from_utf8(line) {
+        Ok(text) => wrong_with_text(text),
+        Err(_) => Reason::NotUtf8,
     }
 }

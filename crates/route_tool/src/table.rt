@@ -3,7 +3,7 @@ ghost use Rattle.std.specs.Prelude.{◌≡◌, ◌≤◌, [], length, IfOk, IfSo
 ghost use Rattle.std.specs.FinMap as map;
 ghost use Rattle.radix_trie.specs.Walks.{deref_pair};
 ghost use Rattle.route_tool.specs.Answers.{count_of};
-ghost use Rattle.route_tool.specs.Routes.{AreNetworks, IsLongest, hop_at, hop_of, in_order, routes_within, with_route, without_route};
+ghost use Rattle.route_tool.specs.Routes.{AreNetworks, IsLongestRoute, hop_at, hop_of, in_order, routes_within, with_route, without_route};
 
 use crate::hop::Hop;
 use radix_trie::iter::{Cursor, Iter};
@@ -99,7 +99,7 @@ impl<A: Address> Routes<A> {
     /// Never refused for an IPv4 address.
     pub fn find(&self, address: A) -> Result<Option<(&Network<A>, &Hop)>, Memory>
         ensures longest { IfOk result (λ found.
-            IsLongest A.BITS A.number self.now (A.number address) (option_map deref_pair found)) }
+            IsLongestRoute A.BITS A.number self.now (A.number address) (option_map deref_pair found)) }
         ensures light { A.BITS ≤ 32 → IsOk result }
     {
         let bits = Network::host(address).encode(self.alloc)?;
@@ -111,7 +111,7 @@ impl<A: Address> Routes<A> {
     /// Never refused for an IPv4 address.
     pub fn look(&self, address: A) -> Result<Option<&Hop>, Memory>
         ensures longest { IfOk result (λ hop. (found : _)
-            × IsLongest A.BITS A.number self.now (A.number address) found
+            × IsLongestRoute A.BITS A.number self.now (A.number address) found
             × (option_copied hop ≡ hop_of found)) }
         ensures light { A.BITS ≤ 32 → IsOk result }
     {

@@ -20,6 +20,10 @@ IsRemark remark =
     (remark ≡ codes "not UTF-8") ⊎ ((remark ≡ codes "no such call")
     ⊎ (remark ≡ codes "another count of words"))
 
+-- it is told of any such line
+abbrev pub IsRemarkOf : (line remark : List ℕ) → Type 0
+IsRemarkOf line remark = IsRemark remark
+
 -- a line that asks for nothing has no answer
 pub bad_unanswered : (s t : ⊤) (line answer : List ℕ) → IsBad line → ¬ (Replies s line t answer)
 bad_unanswered s t line answer bad good = let both : false ≡ true = sym bad ∙ good in cc
@@ -33,10 +37,6 @@ RepliesToEach s line t answer =
 -- no line is bad
 abbrev pub IsNever : List ℕ → Type 0
 IsNever line = ⊥
-
--- nothing is told of a bad line, since there is none
-abbrev pub IsEmpty : List ℕ → Type 0
-IsEmpty remark = remark ≡ []
 
 -- no line is bad, so none of the bad ones has an answer
 pub never_unanswered : (s t : ⊤) (line answer : List ℕ) → IsNever line → ¬ (RepliesToEach s line t answer)

@@ -1,9 +1,9 @@
 //! What a session answers to a line.
 ghost use Rattle.std.specs.Prelude.{◌≡◌, [], ◌∷◌, ◌++◌, IfErr, OnOk};
 ghost use Rattle.std.specs.Process.{exit_status};
-ghost use Rattle.line_sessions.specs.Answers.{IsPrefix};
+ghost use Rattle.line_sessions.specs.Answers.{Begins};
 ghost use Rattle.line_sessions.specs.Sessions.{Ran};
-ghost use Rattle.trie_shell.specs.Sessions.{GivesUp, IsBad, IsEmpty, IsNever, IsRemark, Replies, RepliesToEach};
+ghost use Rattle.trie_shell.specs.Sessions.{GivesUp, IsBad, IsNever, IsRemarkOf, Replies, RepliesToEach};
 
 use crate::answer::Answer;
 use crate::call::{Call, Session};
@@ -12,7 +12,7 @@ use crate::calls::files::answer_file;
 use crate::calls::lines::{NO_TYPE, NOT_HERE};
 use crate::calls::parts::answer_part;
 use crate::help::answer_help;
-use crate::request::{Reason, Request, request_of};
+use crate::request::{Request, request_of};
 use crate::store::Store;
 use crate::tries::Tries;
 use line_sessions::{Program, Refusal, WatchedReader, WatchedWriter, run};
@@ -61,7 +61,7 @@ impl<F: Files + AllocGlobal + Drop> Shell<F> {
     /// Answers a line that asks for something, behind the answers that wait.
     fn answer(&mut self, request: Request<'_>, answers: &mut Vec<u8>) -> Result<(), Refusal>
         ensures refused { IfErr result (λ why. why ≡ Refusal.Memory) }
-        ensures kept { IsPrefix answers.old.items answers.new.items }
+        ensures kept { Begins answers.old.items answers.new.items }
     {
         let Request::Call(call, words) = request else {
             return Ok(());
@@ -92,7 +92,7 @@ impl<F: Files + AllocGlobal + Drop> Caller for Shell<F> {
 /// Adds bytes. A growth that is refused is tried a second time.
 fn add(out: &mut Vec<u8>, bytes: &[u8]) -> Result<(), AllocError>
     ensures added { OnOk result (out.new.items ≡ out.old.items ++ bytes.now) }
-    ensures kept { IsPrefix out.old.items out.new.items }
+    ensures kept { Begins out.old.items out.new.items }
 {
     match out.extend_from_slice(bytes) {
         Ok(()) => Ok(()),
@@ -100,11 +100,10 @@ fn add(out: &mut Vec<u8>, bytes: &[u8]) -> Result<(), AllocError>
     }
 }
 
-/// A shell that a bad line ends, and what is wrong with the last line that was bad.
+/// A shell that a bad line ends.
 #[derive(Drop)]
 struct Strict<F: Files + AllocGlobal + Drop> {
     shell: Shell<F>,
-    reason: Reason,
 }
 
 impl<F: Files + AllocGlobal + Drop> Model for Strict<F> {
@@ -116,7 +115,7 @@ impl<F: Files + AllocGlobal + Drop> Model for Strict<F> {
 }
 
 impl<F: Files + AllocGlobal + Drop> Program for Strict<F> {
-    ghost use Rattle.trie_shell.specs.Sessions.{GivesUp, IsBad, IsRemark, Replies, bad_unanswered};
+    ghost use Rattle.trie_shell.specs.Sessions.{GivesUp, IsBad, IsRemarkOf, Replies, bad_unanswered};
 
     ghost replies = { Replies };
 
@@ -124,20 +123,13 @@ impl<F: Files + AllocGlobal + Drop> Program for Strict<F> {
 
     ghost gives_up = { GivesUp };
 
-    ghost is_remark = { IsRemark };
+    ghost says = { IsRemarkOf };
 
     fn answer(&mut self, line: &[u8], answers: &mut Vec<u8>) -> Result<(), Refusal> {
         match request_of(line) {
             Ok(request) => self.shell.answer(request, answers),
-            Err(reason) => {
-                self.reason = reason;
-                Err(Refusal::Bad)
-            }
+            Err(reason) => Err(Refusal::Bad(reason.text())),
         }
-    }
-
-    fn remark(&self) -> &'static str {
-        self.reason.text()
     }
 
     ghost bad_is_unanswered = { bad_unanswered };
@@ -158,7 +150,7 @@ impl<F: Files + AllocGlobal + Drop> Model for Lenient<F> {
 }
 
 impl<F: Files + AllocGlobal + Drop> Program for Lenient<F> {
-    ghost use Rattle.trie_shell.specs.Sessions.{GivesUp, IsEmpty, IsNever, RepliesToEach, never_unanswered};
+    ghost use Rattle.trie_shell.specs.Sessions.{GivesUp, IsNever, IsRemarkOf, RepliesToEach, never_unanswered};
 
     ghost replies = { RepliesToEach };
 
@@ -166,17 +158,13 @@ impl<F: Files + AllocGlobal + Drop> Program for Lenient<F> {
 
     ghost gives_up = { GivesUp };
 
-    ghost is_remark = { IsEmpty };
+    ghost says = { IsRemarkOf };
 
     fn answer(&mut self, line: &[u8], answers: &mut Vec<u8>) -> Result<(), Refusal> {
         match request_of(line) {
             Ok(request) => self.shell.answer(request, answers),
             Err(reason) => add_line(answers, reason.text()),
         }
-    }
-
-    fn remark(&self) -> &'static str {
-        ""
     }
 
     ghost bad_is_unanswered = { never_unanswered };
@@ -186,7 +174,7 @@ impl<F: Files + AllocGlobal + Drop> Program for Lenient<F> {
 fn add_line(out: &mut Vec<u8>, text: &str) -> Result<(), Refusal>
     ensures added { OnOk result (out.new.items ≡ out.old.items ++ (text.now ++ 10 ∷ [])) }
     ensures refused { IfErr result (λ why. why ≡ Refusal.Memory) }
-    ensures kept { IsPrefix out.old.items out.new.items }
+    ensures kept { Begins out.old.items out.new.items }
 {
     match add(out, text.as_bytes()) {
         Ok(()) => add(out, b"\n").map_err(|_| Refusal::Memory),
@@ -203,13 +191,12 @@ pub fn answer_all<F: Files + AllocGlobal + Drop, R: Read, W: Write, E: Write>(
     writer: &mut WatchedWriter<W>,
     errors: &mut WatchedWriter<E>,
 ) -> ExitCode
-    ensures { Ran Replies IsBad GivesUp IsRemark reader.old reader.new
+    ensures { Ran Replies IsBad GivesUp IsRemarkOf reader.old reader.new
         writer.old writer.new errors.old errors.new tt (exit_status result) }
 {
     let alloc = files.alloc();
     let strict = Strict {
         shell: Shell::new(files),
-        reason: Reason::NoCall,
     };
     run(alloc, strict, reader, writer, errors)
 }
@@ -221,7 +208,7 @@ pub fn answer_each<F: Files + AllocGlobal + Drop, R: Read, W: Write, E: Write>(
     writer: &mut WatchedWriter<W>,
     errors: &mut WatchedWriter<E>,
 ) -> ExitCode
-    ensures { Ran RepliesToEach IsNever GivesUp IsEmpty reader.old reader.new
+    ensures { Ran RepliesToEach IsNever GivesUp IsRemarkOf reader.old reader.new
         writer.old writer.new errors.old errors.new tt (exit_status result) }
 {
     let alloc = files.alloc();

@@ -1,5 +1,5 @@
 //! Carrying out a command, and the whole answer to it.
-ghost use Rattle.std.specs.Prelude.{◌≡◌, ◌++◌, ◌∷◌, [], OnOk, map as each, decimal};
+ghost use Rattle.std.specs.Prelude.{◌≡◌, ◌⊎◌, ◌++◌, ◌∷◌, [], OnOk, OnErr, map as each, decimal};
 ghost use Rattle.trie_tool.specs.Command.{request};
 ghost use Rattle.trie_tool.specs.Request.{answer_to, numbers_after, insert_answer, get_answer, foot_answer, below_answer, json_answer, row};
 ghost use Rattle.radix_trie.specs.Views.{pairs_below};
@@ -135,6 +135,8 @@ pub fn answer(out: &mut Vec<u8>, numbers: &mut Numbers, command: Command<'_>) ->
         (out.new.items ≡ out.old.items ++ answer_to (request command.entry) numbers.old) }
     ensures numbers { OnOk result
         (numbers.new ≡ numbers_after (request command.entry) numbers.old) }
+    ensures left { OnErr result ((numbers.new ≡ numbers.old)
+        ⊎ (numbers.new ≡ numbers_after (request command.entry) numbers.old)) }
     ensures kept { IsPrefix out.old.items out.new.items }
 {
     match command {

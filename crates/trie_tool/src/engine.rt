@@ -3,7 +3,7 @@ ghost use Rattle.std.specs.FinMap as map;
 ghost use Rattle.std.specs.Process.{exit_status};
 ghost use Rattle.line_sessions.specs.Sessions.{Ran};
 ghost use Rattle.line_sessions.specs.Watched.{Noted};
-ghost use Rattle.trie_tool.specs.Request.{GivesUp, IsBad, IsRemark, Replies};
+ghost use Rattle.trie_tool.specs.Request.{GivesUp, IsBad, IsRemarkOf, Replies};
 ghost use Rattle.trie_tool.specs.Serve.{ServedNumbers};
 
 use crate::answers::answer;
@@ -17,7 +17,7 @@ use std::mem;
 use std::process::ExitCode;
 
 impl Program for Numbers {
-    ghost use Rattle.trie_tool.specs.Request.{Replies, IsBad, GivesUp, IsRemark, bad_unanswered};
+    ghost use Rattle.trie_tool.specs.Request.{Replies, IsBad, GivesUp, IsRemarkOf, bad_unanswered};
 
     ghost replies = { Replies };
 
@@ -25,17 +25,13 @@ impl Program for Numbers {
 
     ghost gives_up = { GivesUp };
 
-    ghost is_remark = { IsRemark };
+    ghost says = { IsRemarkOf };
 
     fn answer(&mut self, line: &[u8], answers: &mut Vec<u8>) -> Result<(), Refusal> {
         let Some(command) = parse(line) else {
-            return Err(Refusal::Bad);
+            return Err(Refusal::Bad(""));
         };
         answer(answers, self, command).map_err(|_| Refusal::Memory)
-    }
-
-    fn remark(&self) -> &'static str {
-        ""
     }
 
     ghost bad_is_unanswered = { bad_unanswered };
@@ -71,7 +67,7 @@ pub fn answer_all<R: Read, W: Write, E: Write>(
     writer: &mut WatchedWriter<W>,
     errors: &mut WatchedWriter<E>,
 ) -> ExitCode
-    ensures { Ran Replies IsBad GivesUp IsRemark reader.old reader.new
+    ensures { Ran Replies IsBad GivesUp IsRemarkOf reader.old reader.new
         writer.old writer.new errors.old errors.new map.empty (exit_status result) }
 {
     run(alloc, Numbers::new(alloc), reader, writer, errors)

@@ -10,7 +10,7 @@ use Rattle.line_sessions.specs.Faults.{tells_read, tells_write}
 use Rattle.line_sessions.specs.Lines.{all_lines, cut, ended_lines}
 use Rattle.line_sessions.specs.Sessions.{Breaks, Outcome, Served}
 use Rattle.line_sessions.specs.Watched.{Noted, ReaderState, WriterState}
-use Rattle.line_sessions.specs.Standing.{Finishes, IsAt, IsClear, IsDone, Sends}
+use Rattle.line_sessions.specs.Standing.{Finishes, StandsAt, IsClear, IsDone, Sends}
 
 -- a read of no byte consumes nothing
 pub Consumes-none : (u v : Option (List ℕ)) (n : ℕ) (buffer : List ℕ) → n ≡ 0 → Consumes u v (take n buffer) → Consumes u v []
@@ -97,7 +97,7 @@ module _ {S : Type 0} (R : S → List ℕ → S → List ℕ → Type 0) (B : Li
   -- it ends with the input
   pub Served-ended : {U : Type 0} (r : Result U Fault) (unread unread' unread'' held held' held'' : Option (List ℕ)) (s t u : S) (c : Session)
       → Heard R unread unread' held held' s t c → Consumes unread' unread'' [] → IsAtEnd unread''
-      → ((b sent : List ℕ) (start : S) → IsAt R b sent start t c → Finishes R B G r b sent held' held'' start u) → Served R B G unread unread'' held held'' s u r
+      → ((b sent : List ℕ) (start : S) → StandsAt R b sent start t c → Finishes R B G r b sent held' held'' start u) → Served R B G unread unread'' held held'' s u r
   Served-ended r unread unread' unread'' held held' held'' s t u c h took end finishes =
       let done = finishes h.read h.written s h.clear.at in
       record {
@@ -111,7 +111,7 @@ module _ {S : Type 0} (R : S → List ℕ → S → List ℕ → Type 0) (B : Li
   -- one more chunk is heard
   pub Heard-more : {U : Type 0} (r : Result U Fault) (x : U) (unread unread' unread'' held held' held'' : Option (List ℕ)) (s t u : S) (c d : Session) (bytes : List ℕ)
       → Heard R unread unread' held held' s t c → Consumes unread' unread'' bytes → r ≡ Ok x
-      → ((b sent : List ℕ) (start : S) → IsAt R b sent start t c → Sends R B G r (b ++ bytes) sent held' held'' start u d) → Heard R unread unread'' held held'' s u d
+      → ((b sent : List ℕ) (start : S) → StandsAt R b sent start t c → Sends R B G r (b ++ bytes) sent held' held'' start u d) → Heard R unread unread'' held held'' s u d
   Heard-more r x unread unread' unread'' held held' held'' s t u c d bytes h took same hears =
       let sends = subst (λ (q : Result _ Fault). Sends R B G q (h.read ++ bytes) h.written held' held'' s u d) same (hears h.read h.written s h.clear.at) in
       record {
@@ -125,7 +125,7 @@ module _ {S : Type 0} (R : S → List ℕ → S → List ℕ → Type 0) (B : Li
   -- it ends at a fault among the lines of a chunk
   pub Served-broken : {U V : Type 0} (r : Result U Fault) (q : Result V Fault) (e : Fault) (unread unread' unread'' held held' held'' : Option (List ℕ)) (s t u : S) (c d : Session) (bytes : List ℕ)
       → Heard R unread unread' held held' s t c → Consumes unread' unread'' bytes → r ≡ Err e → q ≡ Err e
-      → ((b sent : List ℕ) (start : S) → IsAt R b sent start t c → Sends R B G r (b ++ bytes) sent held' held'' start u d) → Served R B G unread unread'' held held'' s u q
+      → ((b sent : List ℕ) (start : S) → StandsAt R b sent start t c → Sends R B G r (b ++ bytes) sent held' held'' start u d) → Served R B G unread unread'' held held'' s u q
   Served-broken r q e unread unread' unread'' held held' held'' s t u c d bytes h took same out hears =
       let sends = subst (λ (p : Result _ Fault). Sends R B G p (h.read ++ bytes) h.written held' held'' s u d) same (hears h.read h.written s h.clear.at) in
       subst (λ (p : Result _ Fault). Served R B G unread unread'' held held'' s u p) (sym out) (record {
@@ -145,7 +145,7 @@ module _ {S : Type 0} (R : S → List ℕ → S → List ℕ → Type 0) (B : Li
   -- no fault among the lines of a chunk is the reader's
   pub Sends-unread : {U V : Type 0} (r : Result U Fault) (q : Result V Fault) (e : Fault) (unread unread' held held' held'' : Option (List ℕ)) (s t u : S) (c d : Session) (bytes : List ℕ)
       → Heard R unread unread' held held' s t c → r ≡ Err e → q ≡ Err e
-      → ((b sent : List ℕ) (start : S) → IsAt R b sent start t c → Sends R B G r (b ++ bytes) sent held' held'' start u d) → IsFalse (tells_read q)
+      → ((b sent : List ℕ) (start : S) → StandsAt R b sent start t c → Sends R B G r (b ++ bytes) sent held' held'' start u d) → IsFalse (tells_read q)
   Sends-unread r q e unread unread' held held' held'' s t u c d bytes h same out hears =
       let sends = subst (λ (p : Result _ Fault). Sends R B G p (h.read ++ bytes) h.written held' held'' s u d) same (hears h.read h.written s h.clear.at) in
       Breaks-unread q e _ s u _ out sends.why
@@ -156,5 +156,5 @@ module _ {S : Type 0} (R : S → List ℕ → S → List ℕ → Type 0) (B : Li
 
   -- and none at the end of the input is
   pub Finishes-unread : {U : Type 0} (r : Result U Fault) (unread unread' held held' held'' : Option (List ℕ)) (s t u : S) (c : Session)
-      → Heard R unread unread' held held' s t c → ((b sent : List ℕ) (start : S) → IsAt R b sent start t c → Finishes R B G r b sent held' held'' start u) → IsFalse (tells_read r)
+      → Heard R unread unread' held held' s t c → ((b sent : List ℕ) (start : S) → StandsAt R b sent start t c → Finishes R B G r b sent held' held'' start u) → IsFalse (tells_read r)
   Finishes-unread r unread unread' held held' held'' s t u c h finishes = IsDone-unread r _ _ s u (finishes h.read h.written s h.clear.at).why

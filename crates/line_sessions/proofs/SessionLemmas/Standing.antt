@@ -6,10 +6,10 @@ use Rattle.line_sessions.specs.declared.fault.Fault.{Fault}
 use Rattle.line_sessions.specs.declared.fault.Fault.TheVariants.{Read, Write, BadLine, Memory}
 use Rattle.line_sessions.specs.declared.session.Conversation.{Conversation}
 use Rattle.line_sessions.specs.declared.session.Session.{Session}
-use Rattle.line_sessions.specs.Answers.{Adds, AreAnswers, IsAnswer}
+use Rattle.line_sessions.specs.Answers.{Adds, AreAnswers, IsLineAnswer}
 use Rattle.line_sessions.specs.Lines.{HasNoFeed, all_lines, counted, cut, ended_lines}
 use Rattle.line_sessions.specs.Sessions.{Breaks, GaveUp, IsBeginning}
-use Rattle.line_sessions.specs.Standing.{Finishes, Goes, IsAnswered, IsAt, IsClear, IsCleared, IsDone, IsRefusal, Sends, Sent, Tells, Writes}
+use Rattle.line_sessions.specs.Standing.{Finishes, Goes, IsAnswered, StandsAt, IsClear, IsCleared, IsDone, IsRefusal, Sends, Sent, Tells, WritesWaiting}
 use Rattle.line_sessions.proofs.AnswerLemmas.{AreAnswers-onto}
 use Rattle.line_sessions.proofs.LineLemmas.{ended_lines-append, ended_lines-fed, ended_lines-kept, rest-fed, rest-kept}
 
@@ -37,7 +37,7 @@ module _ {S : Type 0} (R : S → List ℕ → S → List ℕ → Type 0) where
 
   -- once its answer is put behind the others, one more line is answered
   IsAnswered-onto : (ls : List (List ℕ)) (line sent : List ℕ) (s t u : S) (c d : Conversation) → IsAnswered R ls sent s t c
-      → Adds (IsAnswer R) line t u c.answers.items d.answers.items → d.count ≡ counted (c.count + 1) → IsAnswered R (ls ++ line ∷ []) sent s u d
+      → Adds (IsLineAnswer R) line t u c.answers.items d.answers.items → d.count ≡ counted (c.count + 1) → IsAnswered R (ls ++ line ∷ []) sent s u d
   IsAnswered-onto ls line sent s t u c d answered adds count = record {
     count = count ∙ counted-next c.count (length ls) answered.count ∙ sym (ap counted (length-append ls (line ∷ [])));
     answers =
@@ -59,16 +59,16 @@ module _ {S : Type 0} (R : S → List ℕ → S → List ℕ → Type 0) where
 
   -- all lines of b are answered, and meanwhile some of the answers were written
   abbrev pub IsOn : (b sent : List ℕ) (held held' : Option (List ℕ)) → S → S → Session → Type 0
-  IsOn b sent held held' s t c = (written : List ℕ) × Appends held held' written × IsAt R b (sent ++ written) s t c
+  IsOn b sent held held' s t c = (written : List ℕ) × Appends held held' written × StandsAt R b (sent ++ written) s t c
 
-  IsAt-unsent : (b sent : List ℕ) (s t : S) (c : Session) → IsAt R b sent s t c → IsAt R b (sent ++ []) s t c
-  IsAt-unsent b sent s t c at = subst (λ (l : List ℕ). IsAt R b l s t c) (sym (append-nil sent)) at
+  IsAt-unsent : (b sent : List ℕ) (s t : S) (c : Session) → StandsAt R b sent s t c → StandsAt R b (sent ++ []) s t c
+  IsAt-unsent b sent s t c at = subst (λ (l : List ℕ). StandsAt R b l s t c) (sym (append-nil sent)) at
 
   -- nothing more was heard, and nothing was written
-  pub IsOn-start : (b sent : List ℕ) (held : Option (List ℕ)) (s t : S) (c : Session) → IsAt R b sent s t c → IsOn (b ++ []) sent held held s t c
-  IsOn-start b sent held s t c at = ([], Appends-nil held, IsAt-unsent (b ++ []) sent s t c (subst (λ (l : List ℕ). IsAt R l sent s t c) (sym (append-nil b)) at))
+  pub IsOn-start : (b sent : List ℕ) (held : Option (List ℕ)) (s t : S) (c : Session) → StandsAt R b sent s t c → IsOn (b ++ []) sent held held s t c
+  IsOn-start b sent held s t c at = ([], Appends-nil held, IsAt-unsent (b ++ []) sent s t c (subst (λ (l : List ℕ). StandsAt R l sent s t c) (sym (append-nil b)) at))
 
-  IsClear-cleared : (b sent : List ℕ) (s t : S) (c d : Session) → IsAt R b sent s t c → IsCleared c d → IsClear R b (sent ++ c.conversation.answers.items) s t d
+  IsClear-cleared : (b sent : List ℕ) (s t : S) (c d : Session) → StandsAt R b sent s t c → IsCleared c d → IsClear R b (sent ++ c.conversation.answers.items) s t d
   IsClear-cleared b sent s t c d at cleared = record {
     at = record {
       rest = cleared.rest ∙ at.rest;
@@ -122,14 +122,14 @@ module _ {S : Type 0} (R : S → List ℕ → S → List ℕ → Type 0) (B : Li
 
   -- once its answer is put behind the others, the ended line is answered
   pub IsAnswered-fed : (b sent line : List ℕ) (s t u : S) (c d : Conversation) → line ≡ (cut b).rest → IsAnswered R (ended_lines b) sent s t c
-      → Adds (IsAnswer R) line t u c.answers.items d.answers.items → d.count ≡ counted (c.count + 1) → IsAnswered R (ended_lines (b ++ 10 ∷ [])) sent s u d
+      → Adds (IsLineAnswer R) line t u c.answers.items d.answers.items → d.count ≡ counted (c.count + 1) → IsAnswered R (ended_lines (b ++ 10 ∷ [])) sent s u d
   IsAnswered-fed b sent line s t u c d ends answered adds count =
       subst (λ (ls : List (List ℕ)). IsAnswered R ls sent s u d) (sym (ended_lines-fed b line ends)) (IsAnswered-onto R (ended_lines b) line sent s t u c d answered adds count)
 
   -- an ended line is answered, or breaks off, whichever bytes it was kept in
   pub Goes-reply : {U : Type 0} (r : Result U Fault) (b sent line : List ℕ) (s t u : S) (c : Conversation) (d : Session)
       → line ≡ (cut b).rest → IsAnswered R (ended_lines b) sent s t c
-      → OnOk r (Adds (IsAnswer R) line t u c.answers.items d.conversation.answers.items) → OnOk r (d.conversation.count ≡ counted (c.count + 1)) → OnOk r (d.open_line.items ≡ [])
+      → OnOk r (Adds (IsLineAnswer R) line t u c.answers.items d.conversation.answers.items) → OnOk r (d.conversation.count ≡ counted (c.count + 1)) → OnOk r (d.open_line.items ≡ [])
       → IfErr r (λ e. IsRefusal B G e line (counted (c.count + 1)) t u) → OnErr r (d.conversation.answers.items ≡ c.answers.items)
       → Goes R B G r (b ++ 10 ∷ []) sent s u d
   Goes-reply (Ok x) b sent line s t u c d ends answered adds count clear why same =
@@ -138,7 +138,7 @@ module _ {S : Type 0} (R : S → List ℕ → S → List ℕ → Type 0) (B : Li
 
   -- bytes of a line that goes on are kept, or there is no room for them
   pub Goes-kept : {U : Type 0} (r : Result U Fault) (b l sent : List ℕ) (s t : S) (c d : Session) → HasNoFeed l → OnOk r (d.open_line.items ≡ c.open_line.items ++ l)
-      → IfErr r (λ e. e ≡ Memory) → d.conversation ≡ c.conversation → IsAt R b sent s t c → Goes R B G r (b ++ l) sent s t d
+      → IfErr r (λ e. e ≡ Memory) → d.conversation ≡ c.conversation → StandsAt R b sent s t c → Goes R B G r (b ++ l) sent s t d
   Goes-kept (Ok x) b l sent s t c d free kept fault same at = record {
     rest = kept ∙ rest-kept b l c.open_line.items free at.rest;
     answered = IsAnswered-kept R b l sent s t d.conversation free (subst (λ (k : Conversation). IsAnswered R (ended_lines b) sent s t k) (sym same) at.answered);
@@ -170,7 +170,7 @@ module _ {S : Type 0} (R : S → List ℕ → S → List ℕ → Type 0) (B : Li
 
   -- what waited was written, or a first part of it
   pub Sends-written : {U : Type 0} (outcome r : Result U Fault) (b sent : List ℕ) (held held' : Option (List ℕ)) (s t : S) (c d : Session)
-      → Goes R B G outcome b sent s t c → Writes outcome r c.conversation.answers.items held held' → OnOk r (IsCleared c d) → Sends R B G r b sent held held' s t d
+      → Goes R B G outcome b sent s t c → WritesWaiting outcome r c.conversation.answers.items held held' → OnOk r (IsCleared c d) → Sends R B G r b sent held held' s t d
   Sends-written outcome r b sent held held' s t c d goes (inl (same, appended)) cleared = record {
     written = c.conversation.answers.items;
     appended = appended;
@@ -213,7 +213,7 @@ module _ {S : Type 0} (R : S → List ℕ → S → List ℕ → Type 0) (B : Li
   IsOn-told r x b c d sent held held' held'' s t u k k' whole same on tells =
       let told = subst (λ (q : Result _ Fault). Tells R B G q c (sent ++ on.0) held' held'' s u k') same tells in
       subst (λ (l : List ℕ). IsOn R l sent held held'' s u k') whole
-      (on.0 ++ told.written, Appends-trans held held' held'' _ _ on.1 told.appended, subst (λ (l : List ℕ). IsAt R c l s u k') (append_assoc sent on.0 told.written) told.why)
+      (on.0 ++ told.written, Appends-trans held held' held'' _ _ on.1 told.appended, subst (λ (l : List ℕ). StandsAt R c l s u k') (append_assoc sent on.0 told.written) told.why)
 
   -- a fault at one of the lines breaks off what is heard
   pub Sends-told : {U V : Type 0} (r : Result U Fault) (q : Result V Fault) (e : Fault) (b c more d sent : List ℕ) (held held' held'' : Option (List ℕ)) (s t u : S) (k k' k'' : Session)

@@ -1,6 +1,6 @@
 -- Lines have one answer.
 use Rattle.std.proofs.Common.{◌≡◌, ◌∙◌, ℕ, List, [], ◌∷◌, ◌++◌, Option, Some, None, ap, sym, subst}
-use Rattle.line_sessions.specs.Answers.{AreAnswers, IsAnswer}
+use Rattle.line_sessions.specs.Answers.{AreAnswers, IsLineAnswer}
 use Rattle.trie_tool.specs.Request.{Numbers, Replies, Request, Len, answer_to, numbers_after, request_of}
 
 abbrev request_in : Option Request → Request
@@ -11,7 +11,7 @@ request_in (Some r) = r
 one_request : (line : List ℕ) (r q : Request) → request_of line ≡ Some r → request_of line ≡ Some q → r ≡ q
 one_request line r q asks also = ap request_in (sym asks ∙ also)
 
-one_answer : (line : List ℕ) (m n left : Numbers) (a b : List ℕ) → IsAnswer Replies m line n a → IsAnswer Replies m line left b → (a ≡ b) × (n ≡ left)
+one_answer : (line : List ℕ) (m n left : Numbers) (a b : List ℕ) → IsLineAnswer Replies m line n a → IsLineAnswer Replies m line left b → (a ≡ b) × (n ≡ left)
 one_answer [] m n left a b (is, says) (also, tells) = (says ∙ sym tells, is ∙ sym also)
 one_answer (c ∷ cs) m n left a b (r, asks, says, is) (q, also, tells, goes) =
     let same = one_request (c ∷ cs) r q asks also in

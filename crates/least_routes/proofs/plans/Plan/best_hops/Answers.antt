@@ -5,15 +5,15 @@ use Rattle.std.specs.List.Sorted.{IsPermutation}
 use Rattle.std.proofs.lemmas.Fn.{filter_same}
 use Rattle.std.proofs.lemmas.Grind.{common_steps}
 use Rattle.std.proofs.lemmas.List.Sorted.{IsNonDecreasingBy-from_sort}
-use Rattle.least_routes.specs.Plans.{tree_of}
+use Rattle.least_routes.specs.Plans.{plan_tree}
 use Rattle.least_routes.specs.Trees.{hops_of, has}
 use Rattle.least_routes.proofs.Hops.{best_shared, best_either}
 use Rattle.least_routes.proofs.plans.Plan.best_hops.Goals as goal
 
 pub returns-then-not-is_empty : goal.returns-then-not-is_empty
 returns-then-not-is_empty c =
-    let low = hops_of (tree_of c.args.low.now) in
-    let high = hops_of (tree_of c.args.high.now) in
+    let low = hops_of (plan_tree c.args.low.now) in
+    let high = hops_of (plan_tree c.args.high.now) in
     let kept = filter_same _ (has high) _
     (λ x b f' k. search rules) c.in_ok-both.both.items c.retain.new.self.items c.retain.ensures.filtered in
     let some : 0 < length c.retain.new.self.items = grind (arith, common_steps) in
@@ -22,8 +22,8 @@ returns-then-not-is_empty c =
 
 pub returns : goal.returns
 returns c =
-    let low = hops_of (tree_of c.args.low.now) in
-    let high = hops_of (tree_of c.args.high.now) in
+    let low = hops_of (plan_tree c.args.low.now) in
+    let high = hops_of (plan_tree c.args.high.now) in
     let kept = filter_same _ (has high) _
     (λ x b f' k. search rules) c.in_ok-both.both.items c.retain.new.self.items c.retain.ensures.filtered in
     let empty : length c.retain.new.self.items ≡ 0 = grind (arith, common_steps) in

@@ -1,4 +1,5 @@
 use Rattle.std.proofs.Common.{◌≡◌, ◌++◌, ◌∷◌, [], ◌∙◌, ap, List, ℕ, refl, append_assoc, rules, sym}
+use Rattle.line_sessions.specs.Answers.{IsToldBad}
 use Rattle.line_sessions.proofs.SessionLemmas.Standing.{Goes-kept, IsOn-start, IsOn-told, Sends-on, Sends-told, Sends-written, append-fed}
 use Rattle.line_sessions.proofs.session.Session.hear.Goals as goal
 
@@ -33,11 +34,12 @@ returns-in_err-hear_line-clause-sent g c = λ b sent start at.
 
 pub returns-clause-sent : goal.returns-clause-sent
 returns-clause-sent g c = λ b sent start at.
+    let B = IsToldBad g.P.Program.is_bad g.P.Program.says c.send.new.self.conversation.remark.now in
     let before = c.loop-line.invariant.heard in
     let on = before.2 b sent start at in
     let heard : List ℕ = (b ++ before.0) ++ c.loop-line.rest.now in
     let whole : heard ≡ b ++ c.args.bytes.now = append_assoc b before.0 c.loop-line.rest.now ∙ ap (λ (l : List ℕ). b ++ l) before.1 in
-    Sends-on _ _ _ c.send.result _ heard _ sent _ _ _ start _ _ _ _ whole on
-    (Sends-written _ _ _ c.keep-outcome.result _ heard (sent ++ on.0) _ _ start _ _ _
-    (Goes-kept g.P.Program.replies g.P.Program.is_bad g.P.Program.gives_up c.keep-outcome.result (b ++ before.0) c.loop-line.rest.now (sent ++ on.0) start _ _ _ c.in_default.ensures.none c.keep-outcome.ensures.kept c.keep-outcome.ensures.fault c.keep-outcome.ensures.conversation on.2)
+    Sends-on _ B _ c.send.result _ heard _ sent _ _ _ start _ _ _ _ whole on
+    (Sends-written _ B _ c.keep-outcome.result _ heard (sent ++ on.0) _ _ start _ _ _
+    (Goes-kept g.P.Program.replies B g.P.Program.gives_up c.keep-outcome.result (b ++ before.0) c.loop-line.rest.now (sent ++ on.0) start _ _ _ c.in_default.ensures.none c.keep-outcome.ensures.kept c.keep-outcome.ensures.fault c.keep-outcome.ensures.conversation on.2)
     c.send.ensures.sent c.send.ensures.cleared)

@@ -1,5 +1,5 @@
 use Rattle.std.proofs.Common.{◌≡◌, List, ℕ, ◌++◌, length}
-use Rattle.line_sessions.specs.Standing.{IsAt}
+use Rattle.line_sessions.specs.Standing.{StandsAt}
 use Rattle.line_sessions.proofs.SessionLemmas.Standing.{IsOn}
 use Rattle.line_sessions.proofs.session.Session.hear.Given as goal
 
@@ -7,7 +7,7 @@ abbrev pub invariant-loop-line : goal.invariant-loop-line
 invariant-loop-line g l = record {
   heard :
       (heard : List ℕ) × (heard ++ l.rest ≡ l.bytes)
-      × ((b sent : List ℕ) (start : _) → IsAt g.P.Program.replies b sent start l.initial.program l.initial.self
+      × ((b sent : List ℕ) (start : _) → StandsAt g.P.Program.replies b sent start l.initial.program l.initial.self
       → IsOn g.P.Program.replies (b ++ heard) sent l.initial.writer.held l.writer.held start l.program l.self);
   noted : l.writer.has_failed ≡ l.initial.writer.has_failed;
 }

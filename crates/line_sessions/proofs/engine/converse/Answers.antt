@@ -1,11 +1,11 @@
 use Rattle.std.proofs.Common.{◌≡◌, ◌<◌, refl, rules, length}
 use Rattle.std.proofs.KnownBytes.{Keeps-refl}
 use Rattle.line_sessions.proofs.SessionLemmas.Serving.{Heard-new, Served-failed, Served-refused, Served-ended, Finishes-unread, Heard-more, Served-broken, Sends-unread, Consumes-none, Noted-unread}
-use Rattle.line_sessions.proofs.engine.serve.Goals as goal
+use Rattle.line_sessions.proofs.engine.converse.Goals as goal
 
 pub loop-turn-init : goal.loop-turn-init
 loop-turn-init g c = record {
-  heard = Heard-new _ _ _ _ _ c.new-session.ensures.line c.new-session.ensures.answers c.new-session.ensures.count;
+  heard = Heard-new _ _ _ _ _ c.requires.line c.requires.answers c.requires.count;
   reads = search rules;
   reader_failed = refl;
   writer_failed = refl;

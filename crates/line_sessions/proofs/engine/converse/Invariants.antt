@@ -1,6 +1,6 @@
 use Rattle.std.proofs.Common.{◌≡◌, ◌+◌, ◌-◌, ◌^◌, min}
 use Rattle.line_sessions.proofs.SessionLemmas.Serving.{Heard}
-use Rattle.line_sessions.proofs.engine.serve.Given as goal
+use Rattle.line_sessions.proofs.engine.converse.Given as goal
 
 abbrev pub invariant-loop-turn : goal.invariant-loop-turn
 invariant-loop-turn g l = record {

@@ -18,7 +18,7 @@ SAME_NAMES = {
     "each program says this of its own lines, and no source reads two of them": {
         **{name: ("route_tool Sessions", "trie_shell Sessions", "trie_tool Request")
            for name in ("GivesUp", "IsBad", "Replies", "bad_unanswered")},
-        "IsRemark": ("route_tool Reasons", "trie_shell Sessions", "trie_tool Request"),
+        "IsRemarkOf": ("route_tool Reasons", "trie_shell Sessions", "trie_tool Request"),
         "Numbers": ("route_tool Numbers", "trie_tool Request"),
         "Request": ("route_tool Requests", "trie_tool Request"),
         "below_answer": ("route_tool Answers", "trie_tool Request"),
@@ -27,42 +27,28 @@ SAME_NAMES = {
         "row": ("route_tool Answers", "trie_shell Requests", "trie_tool Request"),
         "text": ("nibble_map Rows", "trie_tool Numbers"),
     },
-    "two meanings, of which one has to get another name": {
-        "Holds": ("least_routes Routes", "route_tool Aggregates"),
-        "IsAnswer": ("least_routes Routes", "line_sessions Answers", "route_tool Answers"),
-        "IsAt": ("line_sessions Standing", "masked_tree Tree"),
-        "IsLongest": ("least_routes Routes", "nibble_map Answers", "route_tool Routes"),
-        "IsOnWay": ("masked_tree Paths", "radix_trie Walks"),
-        "IsPrefix": ("line_sessions Answers", "nibble_map Lists"),
+    "one is the other, of pairs in place of nodes' keys and values": {
         "LeavesAtPair": ("radix_nodes Values", "radix_trie Values"),
-        "Precedes": ("least_routes Routes", "radix_keys Order", "route_tool Aggregates"),
-        "Removes": ("radix_trie Commands", "radix_trie Retains"),
-        "Tree": ("least_routes Trees", "masked_tree Tree"),
-        "Writes": ("line_sessions Standing", "line_sessions Watched"),
-        "ahead": ("radix_trie Walks", "trie_set Sides"),
-        "comes_before": ("radix_trie Walks", "trie_ranges Ranges"),
-        "gathered": ("nibble_map Computed", "trie_set Sides"),
-        "merged": ("masked_tree Edits", "trie_set Sides"),
+    },
+    "two meanings, of which one has to get another name": {
         "parts_of": ("nibble_map Trees", "radix_keys Parts"),
-        "passes": ("radix_trie Walks", "trie_set Sides"),
-        "text_of": ("line_sessions Faults", "radix_trie Errors"),
-        "tree_of": ("least_routes Plans", "radix_nodes Nodes"),
     },
 }
 
 # Labels of clauses that no page explains yet, by crate.
 LABELS = {
     "radix_keys": "byte fits nibble some turned within",
-    "radix_trie": "any_kind children computed first fragment joins key last pairs sound steps",
+    "radix_trie": "any_kind children computed first fragment key last pairs sound steps",
     "trie_set": "disjoint first last subset superset",
     "trie_tool": "gone noted numbers old_number rows served text",
-    "route_tool": "added answer longest networks old_hop rows v4 v6",
+    "route_tool": "added longest networks old_hop rows v4 v6",
 }
 
 # Calls with no wrong body of their own, each with the function that does its work and has one: where the crate is named,
 # one of a crate below. For integers it is that of another type, by the same text.
 STANDS_FOR = {
     "least_routes": {"is_table": "Route::precedes", "least": "Plan::of"},
+    "line_sessions": {"serve": "converse"},
     "topic_filters": {"matching": "gather"},
     "radix_keys": {
         **{f"{kind}TrieKey::encode": "U32KeyInt::byte" for kind in ("U8", "U16", "U32", "U64", "Usize")},
@@ -86,6 +72,12 @@ STANDS_FOR = {
         "Trie::for_each_value_mut": "Trie::change_values_below",
         **{f"{kind}::children": "Place::children" for kind in ("Trie", "SubTrie", "SubTrieMut")},
         "SubTrieMut::value_mut": "value_behind",
+        "Trie::get_mut": "absent_as_none",
+        "Trie::subtrie_mut": "closed_as_none",
+        "SubTrieMutTrieCommon::key": "key_within",
+        "SubTrieMutTrieCommon::value": "Place::value",
+        "SubTrieMutTrieCommon::first_key_value": "first_within",
+        "SubTrieMutTrieCommon::last_key_value": "last_within",
         **{f"TrieCommon::{name}": f"Place::{name}" for name in ("key", "value", "is_leaf", *WALKS)},
         "TrieCommon::cursor_back": "Place::cursor_back",
         "TrieCommon::prefix": "SubTrie::fragment",
@@ -93,10 +85,9 @@ STANDS_FOR = {
         "SubTrieMutTrieCommon::prefix": "SubTrieMut::fragment",
         **{f"TrieEdit::{name}": f"SubTrieMut::{name}" for name in ("insert", "remove", "remove_prefix", "retain")},
     },
-    "trie_set": {"Gathering::next": "order_beside", "Selection::next": "is_wanted"},
     "trie_tool": {
         "parse": "keyed",
-        "serve": "line_sessions serve",
+        "serve": "line_sessions converse",
         "answer_all": "line_sessions run",
         "Numbers::insert": "radix_trie Trie::insert",
         "Numbers::get": "radix_trie Trie::get",
@@ -108,6 +99,7 @@ STANDS_FOR = {
     },
     "route_tool": {
         "answer_all": "line_sessions run",
+        "wrong_with": "wrong_with_text",
         "Routes::compact": "radix_trie Trie::compact",
         "Routes::look": "Routes::find",
         "Routes::below": "radix_trie Trie::get_raw_descendant",
@@ -132,7 +124,7 @@ NO_EDIT = {
         "route_tool": "Hop::as_bytes Routes::new Table::new",
     },
     "it is a trait's, and each program has a body of its own": {
-        "line_sessions": "Program::answer Program::remark",
+        "line_sessions": "Program::answer",
     },
     "none is written yet": {
         "least_routes": "Route::is_of_width",
@@ -141,3 +133,7 @@ NO_EDIT = {
         "route_tool": "Hop::new Routes::len",
     },
 }
+
+# Functions that make an error for memory where no call was refused: a tree of more levels than `usize` counts, which
+# no memory holds.
+MADE_REFUSALS = {"radix_trie": ("over", "resumed")}

@@ -39,8 +39,8 @@ impl Conversation {
     /// Answers the line of this number; an empty one has an empty answer. After a refusal the
     /// answers are as before.
     fn reply<P: Program>(&mut self, program: &mut P, line: &[u8], number: u64) -> Result<(), Fault>
-        ensures answered { OnOk result (Adds (IsLineAnswer P.replies) line.now program.old program.new
-            self.old.answers.items self.new.answers.items) }
+        ensures answered { OnOk result (Adds (IsLineAnswer P.replies) line.now
+            program.old program.new self.old.answers.items self.new.answers.items) }
         ensures refused { IfErr result (λ e. IsRefusal
             (IsToldBad P.is_bad P.says self.new.remark.now) P.gives_up e line.now number
             program.old program.new) }
@@ -65,8 +65,8 @@ impl Conversation {
 
     /// Answers and counts a good line. After a refusal the answers are as before.
     fn answer_line<P: Program>(&mut self, program: &mut P, line: &[u8]) -> Result<(), Fault>
-        ensures answered { OnOk result (Adds (IsLineAnswer P.replies) line.now program.old program.new
-            self.old.answers.items self.new.answers.items) }
+        ensures answered { OnOk result (Adds (IsLineAnswer P.replies) line.now
+            program.old program.new self.old.answers.items self.new.answers.items) }
         ensures count { OnOk result (self.new.count ≡ counted (self.old.count + 1)) }
         ensures refused { IfErr result (λ e. IsRefusal
             (IsToldBad P.is_bad P.says self.new.remark.now) P.gives_up e line.now

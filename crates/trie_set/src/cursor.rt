@@ -36,7 +36,8 @@ impl<'a, K: TrieKey> KeyCursor<'a, K> {
 impl<'a, K> KeyCursor<'a, K> {
     /// The key that comes next, which stays there.
     pub(crate) fn peek(&mut self) -> Result<Option<(&'a K, &'a ())>, Memory>
-        ensures same { still_ahead self.new.head self.new.rest ≡ still_ahead self.old.head self.old.rest }
+        ensures same { still_ahead self.new.head self.new.rest
+            ≡ still_ahead self.old.head self.old.rest }
         ensures head { IfOk result (λ pair. pair ≡ self.new.head) }
         ensures shown { OnOk result (IsShown self.new.head self.new.rest) }
     {
@@ -61,7 +62,8 @@ impl<'a, K> KeyCursor<'a, K> {
     /// Goes on behind the key that was looked at.
     pub(crate) fn skip(&mut self)
         requires { IsShown self.old.head self.old.rest }
-        ensures { still_ahead self.new.head self.new.rest ≡ drop 1 (still_ahead self.old.head self.old.rest) }
+        ensures { still_ahead self.new.head self.new.rest
+            ≡ drop 1 (still_ahead self.old.head self.old.rest) }
     {
         self.head = None;
     }
@@ -73,7 +75,8 @@ pub(crate) fn order_beside<'a, K: TrieKey>(
     key: &K,
     other: &mut KeyCursor<'a, K>,
 ) -> Result<Ordering, Memory>
-    ensures same { still_ahead other.new.head other.new.rest ≡ still_ahead other.old.head other.old.rest }
+    ensures same { still_ahead other.new.head other.new.rest
+        ≡ still_ahead other.old.head other.old.rest }
     ensures shown { OnOk result (IsShown other.new.head other.new.rest) }
     ensures order { IfOk result (λ order. order
         ≡ order_to K.encoding (K.encoding key.now) (still_ahead other.old.head other.old.rest)) }

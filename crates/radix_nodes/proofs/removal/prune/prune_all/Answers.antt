@@ -1,8 +1,9 @@
-use Rattle.std.proofs.Common.{◌≡◌, ◌+◌, ◌∙◌, length, ap, arith}
-use Rattle.masked_tree.specs.Tree.{nodes_in, nibbles_in}
+use Rattle.std.proofs.Common.{◌≡◌, ◌+◌, ◌∙◌, [], length, ap, subst, sym, arith}
+use Rattle.masked_tree.specs.Tree.{nodes_in, nibbles_in, entries_at}
 use Rattle.masked_tree.specs.Edits.{empty}
 use Rattle.masked_tree.proofs.EditLemmas.Removal.{all_goes}
 use Rattle.radix_nodes.specs.Nodes.{tree_of}
+use Rattle.radix_nodes.specs.Prunes.{IsSmall}
 use Rattle.radix_nodes.proofs.NodeLemmas.Nodes.{fragment-tree_of}
 use Rattle.radix_nodes.proofs.removal.prune.prune_all.Goals as goal
 
@@ -15,3 +16,11 @@ returns-clause-cut g c =
     let top = ap length (fragment-tree_of n ∙ c.requires.top) in
     let nibbles : c.drain-drained.result.nibbles ≡ nibbles_in (tree_of n).children = omega (arith, c.drain-drained.ensures.nibbles, e, top) in
     rw (nodes, nibbles, is) (all_goes (tree_of n) (fragment-tree_of n ∙ c.requires.top))
+
+pub drain-drained-requires-clause-room : goal.drain-drained-requires-clause-room
+drain-drained-requires-clause-room g c =
+    let same = ap (λ n. length (entries_at [] (tree_of n))) c.replace-branch.ensures.value in
+    omega (arith, same, c.count_pairs.ensures, c.in_ok-pairs.ensures.len, c.in_ok-pairs.ensures.capacity)
+
+pub drain-drained-requires-clause-small : goal.drain-drained-requires-clause-small
+drain-drained-requires-clause-small g c = subst (λ n. IsSmall (tree_of n)) (sym c.replace-branch.ensures.value) c.requires.small

@@ -24,7 +24,7 @@ SAME_NAMES = {
         "below_answer": ("route_tool Answers", "trie_tool Request"),
         "is_space": ("trie_shell Requests", "trie_tool Request"),
         "request_of": ("route_tool Commands", "trie_tool Request"),
-        "row": ("route_tool Answers", "trie_shell Requests", "trie_tool Request"),
+        "row": ("route_tool Answers", "trie_tool Request"),
         "text": ("nibble_map Rows", "trie_tool Numbers"),
     },
     "one is the other, of pairs in place of nodes' keys and values": {

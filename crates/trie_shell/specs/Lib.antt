@@ -1,5 +1,3 @@
--- The calls' names, and how many words stand behind each.
-pub mod Usages
 -- Which lines ask for something.
 pub mod Requests
 -- What a session says of a line.

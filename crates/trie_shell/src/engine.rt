@@ -5,29 +5,29 @@ ghost use Rattle.line_sessions.specs.Answers.{Begins};
 ghost use Rattle.line_sessions.specs.Sessions.{Ran};
 ghost use Rattle.trie_shell.specs.Sessions.{GivesUp, IsBad, IsNever, IsRemarkOf, Replies, RepliesToEach};
 
-use crate::answer::Answer;
-use crate::call::{Call, Session};
 use crate::caller::{Caller, make};
 use crate::calls::files::answer_file;
-use crate::calls::lines::{NO_TYPE, NOT_HERE};
-use crate::calls::parts::answer_part;
+use crate::calls::json::answer_text;
+use crate::calls::topics::answer_form;
 use crate::help::answer_help;
 use crate::request::{Request, request_of};
-use crate::store::Store;
 use crate::tries::Tries;
 use line_sessions::{Program, Refusal, WatchedReader, WatchedWriter, run};
 use radix_trie::Memory;
+use shell_words::{Answer, Kind, NO_TYPE, answer_part};
 use std::alloc::AllocError;
 use std::io::{Read, Write};
 use std::marker::Model;
 use std::process::ExitCode;
 use std::rt::Files;
 
-/// The tries, whether refusals are told, and the system's files. A contract sees nothing of it.
+/// The tries and the type of their keys, whether refusals are told, and the system's files. A contract
+/// sees nothing of it.
 #[derive(Drop)]
 struct Shell<F: Files + AllocGlobal + Drop> {
     files: F,
     tries: Tries,
+    kind: Kind,
     is_watched: bool,
 }
 
@@ -35,26 +35,20 @@ impl<F: Files + AllocGlobal + Drop> Shell<F> {
     /// A shell with one trie of texts, which holds nothing.
     fn new(files: F) -> Shell<F> {
         Shell {
-            tries: Tries::Text(Store::new(files.alloc())),
+            tries: Tries::new(files.alloc()),
             files,
+            kind: Kind::Text,
             is_watched: false,
         }
     }
 
-    /// Answers what asks nothing of the library.
-    fn reply(&mut self, call: Session, answer: &mut Answer<'_>) -> Result<(), Memory> {
-        match call {
-            Session::Watch => self.is_watched = true,
-            Session::Keys => match Tries::of(answer.alloc(), answer.next_word().unwrap_or("")) {
-                Some(tries) => self.tries = tries,
-                None => return answer.refuse(NO_TYPE),
-            },
-            Session::Light => return answer.refuse(NOT_HERE),
-            Session::Help => {
-                let name = answer.next_word();
-                return answer_help(name, answer);
-            }
-        }
+    /// Begins with a trie of the type of keys that the next word names.
+    fn answer_type(&mut self, answer: &mut Answer<'_>) -> Result<(), Memory> {
+        let Some(kind) = Kind::of(answer.next_word().unwrap_or("")) else {
+            return answer.refuse(NO_TYPE);
+        };
+        self.kind = kind;
+        self.tries = Tries::new(answer.alloc());
         answer.line("ok")
     }
 
@@ -63,11 +57,11 @@ impl<F: Files + AllocGlobal + Drop> Shell<F> {
         ensures refused { IfErr result (λ why. why ≡ Refusal.Memory) }
         ensures kept { Begins answers.old.items answers.new.items }
     {
-        let Request::Call(call, words) = request else {
+        let Request::Call(words) = request else {
             return Ok(());
         };
-        let mut answer = Answer::new(self.files.alloc(), words, self.is_watched);
-        if make(self, call, &mut answer).is_err() {
+        let mut answer = Answer::new(self.files.alloc(), self.kind, words, self.is_watched);
+        if make(self, &mut answer).is_err() {
             return Err(Refusal::Memory);
         }
         add(answers, answer.as_bytes()).map_err(|_| Refusal::Memory)
@@ -75,12 +69,17 @@ impl<F: Files + AllocGlobal + Drop> Shell<F> {
 }
 
 impl<F: Files + AllocGlobal + Drop> Caller for Shell<F> {
-    fn perform(&mut self, call: Call, answer: &mut Answer<'_>) -> Result<(), Memory> {
-        match call {
-            Call::Session(call) => self.reply(call, answer),
-            Call::Part(call) => answer_part(call, answer),
-            Call::File(call) => answer_file(&self.files, &mut self.tries, call, answer),
-            call => self.tries.answer(call, answer),
+    fn perform(&mut self, answer: &mut Answer<'_>) -> Result<(), Memory> {
+        match answer.name() {
+            "keys" if answer.left() > 0 => self.answer_type(answer),
+            "watch" => {
+                self.is_watched = true;
+                answer.line("ok")
+            }
+            "help" => answer_help(answer),
+            "save" | "load" => answer_file(&self.files, &mut self.tries, answer),
+            _ if answer_form(answer)? || answer_part(answer)? || answer_text(answer)? => Ok(()),
+            _ => self.tries.answer(answer),
         }
     }
 

@@ -2,23 +2,18 @@
 //! output.
 #![tactic(auto)]
 
-mod answer;
-mod call;
 mod caller;
 mod calls;
 mod engine;
 mod help;
-mod keys;
 mod prompt;
 mod request;
 mod start;
-mod store;
 mod tries;
-mod words;
 
 use crate::engine::{answer_all, answer_each};
 use crate::prompt::Prompting;
-use crate::start::{USAGE, goes_on};
+use crate::start::{USAGE, is_strict_start};
 use line_sessions::{WatchedReader, WatchedWriter};
 use std::io;
 use std::io::IsTerminal;
@@ -26,7 +21,7 @@ use std::process::ExitCode;
 
 fn main(rt: HostRuntime) -> ExitCode {
     let is_terminal = rt.stdin().is_terminal();
-    let Some(is_asked) = goes_on(&rt) else {
+    let Some(is_strict) = is_strict_start(&rt) else {
         let _told = eprintln!(rt; "{USAGE}");
         return ExitCode::from(5);
     };
@@ -34,9 +29,9 @@ fn main(rt: HostRuntime) -> ExitCode {
     let mut reader = WatchedReader::new(Prompting::new(rt.reader(), prompts));
     let mut writer = WatchedWriter::new(io::writer(&rt));
     let mut errors = WatchedWriter::new(rt.stderr());
-    if is_terminal || is_asked {
-        answer_each(&rt, &mut reader, &mut writer, &mut errors)
-    } else {
+    if is_strict {
         answer_all(&rt, &mut reader, &mut writer, &mut errors)
+    } else {
+        answer_each(&rt, &mut reader, &mut writer, &mut errors)
     }
 }

@@ -1,14 +1,15 @@
 //! What a line asks for, by its first word and the count of those behind it.
-ghost use Rattle.std.specs.Prelude.{◌≡◌, ◌&&◌, bytes_eq, is_ok, is_some, nat_le};
+ghost use Rattle.std.specs.Prelude.{◌≡◌, drop, is_ok};
 ghost use Rattle.std.specs.List.{before_first, list_any};
+ghost use Rattle.trie_shell.specs.Requests.{begins_words, fits, has_count, is_call, is_colon, is_named, is_remark_line, is_request, is_space, is_text_request, least_words, most_words, words_behind};
 ghost use Rattle.trie_shell.specs.Sessions.{IsRemark};
-ghost use Rattle.trie_shell.specs.Requests.{fits, is_call, is_remark_line, is_request, is_space, is_text_request, row, words_behind};
 
-use crate::answer::Answer;
-use crate::call::{CALLS, Call, Usage, call_of_name};
-use crate::calls::lines::NOT_HERE;
-use crate::words::Words;
+use crate::help::CALLS;
 use radix_trie::Memory;
+use shell_words::{Answer, NOT_HERE, OTHER_COUNT, Words};
+
+/// How many words a line of any number of words has at most.
+const MANY: usize = 1_000_000_000;
 
 fn name_of(text: &str) -> &str
     ensures { result.now ≡ before_first is_space text.now }
@@ -25,40 +26,89 @@ fn count_of(text: &str) -> usize
     text.as_bytes().iter().filter(|byte| **byte == b' ').count()
 }
 
-/// Whether a line with this name and so many words behind it asks for the call.
-fn is_fit(usage: &Usage, name: &str, count: usize) -> bool
-    ensures { result ≡ (bytes_eq name.now usage.now.0.now && nat_le usage.now.1 count
-        && nat_le count usage.now.2) }
+/// The name and the words of the call that a line of the help tells of.
+fn usage_of(line: &str) -> &str
+    ensures { result.now ≡ before_first is_colon line.now }
 {
-    name == usage.0 && usage.1 <= count && count <= usage.2
+    match line.split_once(':') {
+        Some((usage, _)) => usage,
+        None => line,
+    }
 }
 
-/// The first of these calls that a text has the form of.
-fn first_fit(usages: &[Usage], text: &str) -> Option<Call>
-    ensures { is_some result ≡ list_any (λ u. fits text.now (row u)) usages.now }
+/// How many words it has at least.
+fn least_words_of(usage: &str) -> usize
+    ensures { result ≡ least_words usage.now }
+{
+    match usage.split_once('[') {
+        Some((needed, _)) => count_of(needed),
+        None => count_of(usage),
+    }
+}
+
+/// How many words it has at most.
+fn most_words_of(usage: &str) -> usize
+    ensures { result ≡ most_words usage.now }
+{
+    if usage.as_bytes().contains(&b'.') {
+        MANY
+    } else {
+        count_of(usage)
+    }
+}
+
+/// Whether a name ends at this place: a space, a bracket or a colon stands there.
+fn ends_name(line: &[u8], place: usize) -> bool
+    ensures { result ≡ begins_words (drop place line.now) }
+{
+    match line.get(place..) {
+        Some([b' ' | b'[' | b':', ..]) => true,
+        _ => false,
+    }
+}
+
+/// Whether a line of the help tells of the call of this name.
+fn is_named(line: &str, name: &str) -> bool
+    ensures { result ≡ is_named line.now name.now }
+{
+    let (line, name) = (line.as_bytes(), name.as_bytes());
+    line.starts_with(name) && ends_name(line, name.len())
+}
+
+/// Whether the call that a line of the help tells of may have so many words.
+fn has_count(line: &str, count: usize) -> bool
+    ensures { result ≡ has_count line.now count }
+{
+    let usage = usage_of(line);
+    least_words_of(usage) <= count && count <= most_words_of(usage)
+}
+
+/// Whether a text asks for a call that one of these lines tells of.
+fn is_told(lines: &[&str], text: &str) -> bool
+    ensures { result ≡ list_any (λ line. fits text.now line.now) lines.now }
 {
     let name = name_of(text);
     let count = count_of(text);
-    for usage in usages {
-        if is_fit(usage, name, count) {
-            return Some(usage.3);
+    for line in lines {
+        if is_named(*line, name) && has_count(*line, count) {
+            return true;
         }
     }
-    None
+    false
 }
 
-/// The call that a text has the form of.
-fn call_of(text: &str) -> Option<Call>
-    ensures { is_some result ≡ is_call text.now }
+/// Whether a text has the form of a call.
+fn is_call(text: &str) -> bool
+    ensures { result ≡ is_call text.now }
 {
-    first_fit(CALLS, text)
+    is_told(CALLS, text)
 }
 
-/// A call, and the words behind its name.
+/// What a line asks for: nothing, or a call with its words.
 #[derive(Clone, Copy)]
 pub enum Request<'a> {
     Remark,
-    Call(Call, Words<'a>),
+    Call(Words<'a>),
 }
 
 /// Why a line asks for nothing.
@@ -82,11 +132,21 @@ impl Reason {
     }
 }
 
-/// The words behind the first one.
+/// A call and its words.
 fn words_of(text: &str) -> Words<'_> {
     match text.split_once(' ') {
-        Some((_, rest)) => Words::new(rest, count_of(text)),
-        None => Words::new(text, 0),
+        Some((name, rest)) => Words::new(name, rest, count_of(text)),
+        None => Words::new(text, "", 0),
+    }
+}
+
+/// Why a text has the form of no call.
+fn reason_of(text: &str) -> Reason {
+    let name = name_of(text);
+    if CALLS.iter().any(|line| is_named(*line, name)) {
+        Reason::OtherCount
+    } else {
+        Reason::NoCall
     }
 }
 
@@ -94,28 +154,26 @@ fn words_of(text: &str) -> Words<'_> {
 fn call_request(text: &str) -> Result<Request<'_>, Reason>
     ensures { is_ok result ≡ is_call text.now }
 {
-    match call_of(text) {
-        Some(call) => Ok(Request::Call(call, words_of(text))),
-        None => Err(match call_of_name(name_of(text)) {
-            Some(_) => Reason::OtherCount,
-            None => Reason::NoCall,
-        }),
+    if is_call(text) {
+        Ok(Request::Call(words_of(text)))
+    } else {
+        Err(reason_of(text))
     }
 }
 
-/// The call that the words left ask for, as a line does; those behind its name are left then. None:
-/// they ask for none, and the answer says why.
-pub fn next_call(answer: &mut Answer<'_>) -> Result<Option<Call>, Memory> {
+/// Goes on with the call that the words left ask for, as a line does. False: they ask for none, and
+/// the answer says why.
+pub fn read_call(answer: &mut Answer<'_>) -> Result<bool, Memory> {
     let why = match call_request(answer.words().rest()) {
-        Ok(Request::Call(call, words)) => {
+        Ok(Request::Call(words)) => {
             answer.read_on(words);
-            return Ok(Some(call));
+            return Ok(true);
         }
-        Err(reason @ Reason::OtherCount) => reason.text(),
+        Err(Reason::OtherCount) => OTHER_COUNT,
         _ => NOT_HERE,
     };
     answer.refuse(why)?;
-    Ok(None)
+    Ok(false)
 }
 
 /// Whether a line begins with `#`.

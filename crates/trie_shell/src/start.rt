@@ -5,15 +5,15 @@ use std::rt::Env;
 
 /// What is told where it is started with anything else.
 pub const USAGE: &'static str =
-    "trie_shell: it takes lines on standard input, and no argument but --keep-going";
+    "trie_shell: it takes lines on standard input, and no argument but --strict";
 
-/// Whether it is started with `--keep-going`, and nothing else; none where with anything else. It
+/// Whether it is started with `--strict`, and nothing else; none where with anything else. It
 /// takes no memory.
-pub fn goes_on<R: Env>(rt: &R) -> Option<bool> {
+pub fn is_strict_start<R: Env>(rt: &R) -> Option<bool> {
     let mut word = [0u8; 16];
     match rt.arg(1, &mut word) {
         Err(FillError::NotPresent) => Some(false),
-        Ok(count) if word.get(..count) == Some(b"--keep-going".as_slice()) => {
+        Ok(count) if word.get(..count) == Some(b"--strict".as_slice()) => {
             matches!(rt.arg(2, &mut word), Err(FillError::NotPresent)).then_some(true)
         }
         _ => None,

@@ -1,16 +1,11 @@
 //! Changes at a key.
 
-use crate::answer::Answer;
-use crate::call::Edit;
-use crate::calls::entries::answer_entry;
-use crate::calls::lines::{NO_KEY, NO_NUMBER, NONE, NOT_HERE, taken_line, taken_lines};
-use crate::calls::others::answer_others_below;
-use crate::keys::{Query, ShellKey};
+use crate::calls::Table;
+use crate::calls::lines::{taken_line, taken_lines};
 use radix_trie::{
-    FindError, InsertError, InsertWhy, Memory, SubTrieError, SubTrieMut, Trie, TrieKey,
-    TryInsertError, TryInsertWhy,
+    FindError, InsertError, InsertWhy, Memory, SubTrieError, TrieEdit, TryInsertError, TryInsertWhy,
 };
-use std::alloc::Global;
+use shell_words::{Answer, Key, NO_KEY, NO_NUMBER, NONE};
 
 /// What is answered where an insertion that was refused hands another pair back.
 const OTHER: &'static str = "another pair came back";
@@ -24,10 +19,10 @@ pub struct Given<'a> {
 
 /// What an insertion answers: the old value, or why it was refused. Where memory was, key and value
 /// have come back.
-pub fn insert_line<K: ShellKey>(
+pub fn insert_line(
     answer: &mut Answer<'_>,
     given: Given<'_>,
-    outcome: Result<Option<u64>, InsertError<K, u64>>,
+    outcome: Result<Option<u64>, InsertError<Key, u64>>,
 ) -> Result<(), Memory> {
     match outcome {
         Ok(old) => answer.value_line(old),
@@ -36,10 +31,10 @@ pub fn insert_line<K: ShellKey>(
 }
 
 /// What a refused insertion answers.
-pub fn refused_line<K: ShellKey>(
+pub fn refused_line(
     answer: &mut Answer<'_>,
     given: Given<'_>,
-    error: InsertError<K, u64>,
+    error: InsertError<Key, u64>,
 ) -> Result<(), Memory> {
     note_pair(answer, given, &error.key, error.value)?;
     match error.why {
@@ -51,10 +46,10 @@ pub fn refused_line<K: ShellKey>(
 }
 
 /// What an insertion that replaces nothing answers.
-fn try_insert_line<K: ShellKey>(
+fn try_insert_line(
     answer: &mut Answer<'_>,
     given: Given<'_>,
-    outcome: Result<(), TryInsertError<K, u64>>,
+    outcome: Result<(), TryInsertError<Key, u64>>,
 ) -> Result<(), Memory> {
     let Err(error) = outcome else {
         return answer.line("ok");
@@ -69,108 +64,221 @@ fn try_insert_line<K: ShellKey>(
 }
 
 /// Notes where another pair came back than was given.
-pub fn note_pair<K: ShellKey>(
+pub fn note_pair(
     answer: &mut Answer<'_>,
     given: Given<'_>,
-    key: &K,
+    key: &Key,
     value: u64,
 ) -> Result<(), Memory> {
-    let is_key = match is_key_of(answer.alloc(), key, given.word) {
-        Ok(is_key) => is_key,
-        Err(_) => is_key_of(answer.alloc(), key, given.word)?,
+    let read = match Key::read(answer.kind(), answer.alloc(), given.word) {
+        Ok(read) => read,
+        Err(_) => Key::read(answer.kind(), answer.alloc(), given.word)?,
     };
-    if value != given.value || !is_key {
+    if value != given.value || !read.is_some_and(|it| it == *key) {
         answer.note_other();
     }
     Ok(())
 }
 
-/// Whether the word writes this key.
-fn is_key_of<K: ShellKey>(alloc: Global, key: &K, word: &str) -> Result<bool, Memory> {
-    match K::read(alloc, word)? {
-        Some(given) => Ok(given.encode(alloc)? == key.encode(alloc)?),
-        None => Ok(false),
+/// A change that tries and views for writing have in common, and the look-up that they have. False:
+/// the call is none.
+pub fn answer_change<T: TrieEdit<Key, u64>>(
+    of: &mut T,
+    answer: &mut Answer<'_>,
+) -> Result<bool, Memory> {
+    match answer.name() {
+        "insert" => answer_insert(of, answer)?,
+        "get" | "remove" | "remove_prefix" => match answer.next_query()? {
+            Some(key) => answer_change_at(of, &key, answer)?,
+            None => answer.refuse(NO_KEY)?,
+        },
+        "for_each_mut" => match other_and_number(answer)? {
+            Some((other, added)) => {
+                of.for_each_mut(|key: &Key, value: &mut u64| {
+                    add_unless(key, value, &other, added)
+                });
+                answer.line("ok")?
+            }
+            None => {}
+        },
+        "retain" => match answer.next_number() {
+            Some(least) => {
+                of.retain(|_: &Key, value: &u64| *value >= least)?;
+                answer.line("ok")?
+            }
+            None => answer.refuse(NO_NUMBER)?,
+        },
+        _ => return Ok(false),
+    }
+    Ok(true)
+}
+
+/// Stores the pair that the next words write. The answer is the old value.
+fn answer_insert<T: TrieEdit<Key, u64>>(of: &mut T, answer: &mut Answer<'_>) -> Result<(), Memory> {
+    let word = answer.words().next().unwrap_or("");
+    match (answer.next_key()?, answer.next_number()) {
+        (Some(key), Some(value)) => {
+            insert_line(answer, Given { word, value }, of.insert(key, value))
+        }
+        (Some(_), None) => answer.refuse(NO_NUMBER),
+        (None, _) => answer.refuse(NO_KEY),
     }
 }
 
-/// A change of a trie at what the next word writes.
-pub fn answer_edit<K: ShellKey>(
-    trie: &mut Trie<K, u64>,
-    call: Edit,
+/// A look-up or a removal at the key.
+fn answer_change_at<T: TrieEdit<Key, u64>>(
+    of: &mut T,
+    key: &Key,
     answer: &mut Answer<'_>,
 ) -> Result<(), Memory> {
-    if let Edit::Entry
-    | Edit::EntryInsert
-    | Edit::EntryOrInsert
-    | Edit::EntryAndModify
-    | Edit::EntryRemove = call
-    {
-        return answer_entry(trie, call, answer);
-    }
-    if let Edit::Insert | Edit::MapWithDefault | Edit::TryInsert | Edit::GetOrInsert = call {
-        let word = answer.words().next().unwrap_or("");
-        return match answer.next_key::<K>()? {
-            Some(key) => answer_store(trie, key, word, call, answer),
-            None => answer.refuse(NO_KEY),
-        };
-    }
-    match answer.next_query::<K>()? {
-        Some(Query::Key(key)) => answer_at(trie, &key, call, answer),
-        Some(Query::List(list)) => answer_at(trie, &list, call, answer),
-        None => answer.refuse(NO_KEY),
+    match answer.name() {
+        "get" => match of.get(key) {
+            Ok(value) => answer.value_line(value.copied()),
+            Err(error) => outside_line(answer, error),
+        },
+        "remove" => match of.remove(key) {
+            Ok(value) => answer.value_line(value),
+            Err(error) => outside_line(answer, error),
+        },
+        _ => match of.remove_prefix(key) {
+            Ok(taken) => taken_lines(answer, taken.as_slice()),
+            Err(error) => outside_line(answer, error),
+        },
     }
 }
 
-/// A change that may store a pair, by the number that the next word writes.
-fn answer_store<K: ShellKey>(
-    trie: &mut Trie<K, u64>,
-    key: K,
+/// That the key is outside, or that memory was refused.
+pub fn outside_line(answer: &mut Answer<'_>, error: SubTrieError) -> Result<(), Memory> {
+    match error {
+        SubTrieError::Outside => answer.refuse("outside"),
+        SubTrieError::Memory => Err(Memory),
+    }
+}
+
+/// Adds the number to the value, where its key isn't the other one.
+fn add_unless(key: &Key, value: &mut u64, other: &Key, added: u64) {
+    if !(key == other) {
+        *value = value.wrapping_add(added);
+    }
+}
+
+/// The key and the number that the next words write. None: the answer says what is missing.
+fn other_and_number(answer: &mut Answer<'_>) -> Result<Option<(Key, u64)>, Memory> {
+    match (answer.next_key()?, answer.next_number()) {
+        (Some(other), Some(added)) => return Ok(Some((other, added))),
+        (Some(_), None) => answer.refuse(NO_NUMBER)?,
+        (None, _) => answer.refuse(NO_KEY)?,
+    }
+    Ok(None)
+}
+
+/// A change of a trie that may store a pair, by the numbers that the next words write. False: the
+/// call is none.
+pub fn answer_store(trie: &mut Table, answer: &mut Answer<'_>) -> Result<bool, Memory> {
+    match answer.name() {
+        "map_with_default" | "try_insert" | "get_or_insert" => {}
+        _ => return Ok(false),
+    }
+    let word = answer.words().next().unwrap_or("");
+    let Some(key) = answer.next_key()? else {
+        return answer.told(NO_KEY);
+    };
+    let Some(value) = answer.next_number() else {
+        return answer.told(NO_NUMBER);
+    };
+    match answer.name() {
+        "map_with_default" => answer_map(trie, key, word, value, answer)?,
+        "get_or_insert" => answer_filled(trie, key, Given { word, value }, answer)?,
+        _ => try_insert_line(answer, Given { word, value }, trie.try_insert(key, value))?,
+    }
+    Ok(true)
+}
+
+/// Writes the number of the next word where the value at the key stands, or the default, which is
+/// stored first. The answer is what stood there.
+fn answer_filled(
+    trie: &mut Table,
+    key: Key,
+    given: Given<'_>,
+    answer: &mut Answer<'_>,
+) -> Result<(), Memory> {
+    let Some(number) = answer.next_number() else {
+        return answer.refuse(NO_NUMBER);
+    };
+    match trie.get_or_insert(key, given.value) {
+        Ok(value) => {
+            let old = *value;
+            *value = number;
+            answer.value_line(Some(old))
+        }
+        Err(error) => refused_line(answer, given, error),
+    }
+}
+
+/// Adds a number to the value at the key, or stores the default that the next word writes.
+fn answer_map(
+    trie: &mut Table,
+    key: Key,
     word: &str,
-    call: Edit,
+    added: u64,
     answer: &mut Answer<'_>,
 ) -> Result<(), Memory> {
     let Some(value) = answer.next_number() else {
         return answer.refuse(NO_NUMBER);
     };
-    match call {
-        Edit::MapWithDefault => answer_map(trie, key, word, value, answer),
-        Edit::GetOrInsert => answer_filled(trie, key, word, value, answer),
-        Edit::TryInsert => {
-            try_insert_line(answer, Given { word, value }, trie.try_insert(key, value))
-        }
-        _ => insert_line(answer, Given { word, value }, trie.insert(key, value)),
+    let add = |value: &mut u64| *value = value.wrapping_add(added);
+    match trie.map_with_default(key, add, value) {
+        Ok(()) => answer.line("ok"),
+        Err(error) => refused_line(answer, Given { word, value }, error),
     }
 }
 
+/// A change of a trie at what the next word writes. False: the call is none.
+pub fn answer_edit(trie: &mut Table, answer: &mut Answer<'_>) -> Result<bool, Memory> {
+    match answer.name() {
+        "remove_entry"
+        | "get_mut"
+        | "find_mut"
+        | "find_ancestor_mut"
+        | "for_each_value_mut_below"
+        | "for_each_mut_below"
+        | "retain_below" => {}
+        _ => return Ok(false),
+    }
+    match answer.next_query()? {
+        Some(key) => answer_edit_at(trie, &key, answer)?,
+        None => answer.refuse(NO_KEY)?,
+    }
+    Ok(true)
+}
+
 /// A change of what is stored at the key, or below it.
-fn answer_at<K: ShellKey, Q: TrieKey>(
-    trie: &mut Trie<K, u64>,
-    key: &Q,
-    call: Edit,
-    answer: &mut Answer<'_>,
-) -> Result<(), Memory> {
-    match call {
-        Edit::Remove => answer.value_line(trie.remove(key)?),
-        Edit::RemoveEntry => taken_line(answer, &trie.remove_entry(key)?),
-        Edit::RemovePrefix => taken_lines(answer, trie.remove_prefix(key)?.as_slice()),
-        Edit::GetMut => written_or_none(answer, trie.get_mut(key)?),
-        Edit::FindAncestorMut => written_or_absent(answer, trie.find_ancestor_mut(key)),
-        Edit::ForEachValueMutBelow => match answer.next_number() {
-            Some(added) => {
-                trie.for_each_value_mut_below(key, |value| *value = value.wrapping_add(added))?;
+fn answer_edit_at(trie: &mut Table, key: &Key, answer: &mut Answer<'_>) -> Result<(), Memory> {
+    match answer.name() {
+        "remove_entry" => taken_line(answer, &trie.remove_entry(key)?),
+        "get_mut" => written_or_none(answer, trie.get_mut(key)?),
+        "find_mut" => written_or_absent(answer, trie.find_mut(key)),
+        "find_ancestor_mut" => written_or_absent(answer, trie.find_ancestor_mut(key)),
+        "for_each_mut_below" => match other_and_number(answer)? {
+            Some((other, added)) => {
+                trie.for_each_mut_below(key, |key: &Key, value: &mut u64| {
+                    add_unless(key, value, &other, added)
+                })?;
+                answer.line("ok")
+            }
+            None => Ok(()),
+        },
+        name => match answer.next_number() {
+            Some(number) if name == "retain_below" => {
+                trie.retain_below(key, |_: &Key, value: &u64| *value >= number)?;
+                answer.line("ok")
+            }
+            Some(number) => {
+                trie.for_each_value_mut_below(key, |value| *value = value.wrapping_add(number))?;
                 answer.line("ok")
             }
             None => answer.refuse(NO_NUMBER),
         },
-        Edit::ForEachMutBelow => answer_others_below(trie, key, answer),
-        Edit::RetainBelow => match answer.next_number() {
-            Some(least) => {
-                trie.retain_below(key, |_, value| *value >= least)?;
-                answer.line("ok")
-            }
-            None => answer.refuse(NO_NUMBER),
-        },
-        _ => written_or_absent(answer, trie.find_mut(key)),
     }
 }
 
@@ -189,53 +297,6 @@ fn written_or_absent(
     }
 }
 
-/// Writes the number of the next word where the value at the key stands, or the default, which is
-/// stored first. The answer is what stood there.
-fn answer_filled<K: ShellKey>(
-    trie: &mut Trie<K, u64>,
-    key: K,
-    word: &str,
-    default: u64,
-    answer: &mut Answer<'_>,
-) -> Result<(), Memory> {
-    let Some(number) = answer.next_number() else {
-        return answer.refuse(NO_NUMBER);
-    };
-    match trie.get_or_insert(key, default) {
-        Ok(value) => {
-            let old = *value;
-            *value = number;
-            answer.value_line(Some(old))
-        }
-        Err(error) => refused_line(
-            answer,
-            Given {
-                word,
-                value: default,
-            },
-            error,
-        ),
-    }
-}
-
-/// Adds a number to the value at the key, or stores the default that the next word writes.
-fn answer_map<K: ShellKey>(
-    trie: &mut Trie<K, u64>,
-    key: K,
-    word: &str,
-    added: u64,
-    answer: &mut Answer<'_>,
-) -> Result<(), Memory> {
-    let Some(value) = answer.next_number() else {
-        return answer.refuse(NO_NUMBER);
-    };
-    let add = |value: &mut u64| *value = value.wrapping_add(added);
-    match trie.map_with_default(key, add, value) {
-        Ok(()) => answer.line("ok"),
-        Err(error) => refused_line(answer, Given { word, value }, error),
-    }
-}
-
 /// Writes the number of the next word where the value stands, if it stands. The answer is the old
 /// value.
 pub fn written_or_none(answer: &mut Answer<'_>, value: Option<&mut u64>) -> Result<(), Memory> {
@@ -248,76 +309,4 @@ pub fn written_or_none(answer: &mut Answer<'_>, value: Option<&mut u64>) -> Resu
     let old = *value;
     *value = number;
     answer.value_line(Some(old))
-}
-
-/// A change by a view for writing, at what the next word writes.
-pub fn answer_edit_in_view<K: ShellKey>(
-    view: &mut SubTrieMut<'_, K, u64>,
-    call: Edit,
-    answer: &mut Answer<'_>,
-) -> Result<(), Memory> {
-    match call {
-        Edit::Insert => {
-            let word = answer.words().next().unwrap_or("");
-            match (answer.next_key::<K>()?, answer.next_number()) {
-                (Some(key), Some(value)) => {
-                    insert_line(answer, Given { word, value }, view.insert(key, value))
-                }
-                (Some(_), None) => answer.refuse(NO_NUMBER),
-                (None, _) => answer.refuse(NO_KEY),
-            }
-        }
-        Edit::Remove | Edit::RemovePrefix => match answer.next_query::<K>()? {
-            Some(Query::Key(key)) => answer_removal(view, &key, call, answer),
-            Some(Query::List(list)) => answer_removal(view, &list, call, answer),
-            None => answer.refuse(NO_KEY),
-        },
-        _ => answer.refuse(NOT_HERE),
-    }
-}
-
-/// A removal by a view for writing.
-fn answer_removal<K: ShellKey, Q: TrieKey>(
-    view: &mut SubTrieMut<'_, K, u64>,
-    key: &Q,
-    call: Edit,
-    answer: &mut Answer<'_>,
-) -> Result<(), Memory> {
-    match call {
-        Edit::RemovePrefix => match view.remove_prefix(key) {
-            Ok(taken) => taken_lines(answer, taken.as_slice()),
-            Err(error) => outside_line(answer, error),
-        },
-        _ => inside_line(answer, view.remove(key)),
-    }
-}
-
-/// A value, or that the key is outside.
-pub fn inside_line(
-    answer: &mut Answer<'_>,
-    found: Result<Option<u64>, SubTrieError>,
-) -> Result<(), Memory> {
-    match found {
-        Ok(value) => answer.value_line(value),
-        Err(error) => outside_line(answer, error),
-    }
-}
-
-/// A count, or that the key is outside.
-pub fn count_inside_line(
-    answer: &mut Answer<'_>,
-    count: Result<usize, SubTrieError>,
-) -> Result<(), Memory> {
-    match count {
-        Ok(count) => answer.count_line(count),
-        Err(error) => outside_line(answer, error),
-    }
-}
-
-/// That the key is outside, or that memory was refused.
-pub fn outside_line(answer: &mut Answer<'_>, error: SubTrieError) -> Result<(), Memory> {
-    match error {
-        SubTrieError::Outside => answer.refuse("outside"),
-        SubTrieError::Memory => Err(Memory),
-    }
 }

@@ -1,48 +1,54 @@
 //! What is done at a key's entry.
 
-use crate::answer::Answer;
-use crate::call::Edit;
+use crate::calls::Table;
 use crate::calls::edits::{Given, insert_line, note_pair, refused_line};
-use crate::calls::lines::{NO_KEY, NO_NUMBER, taken_line};
-use crate::keys::ShellKey;
-use radix_trie::{EntryError, Memory, Trie};
+use crate::calls::lines::taken_line;
+use radix_trie::{EntryError, Memory};
+use shell_words::{Answer, Key, NO_KEY, NO_NUMBER};
 
-/// A call of the entry of the key that the next word writes.
-pub fn answer_entry<K: ShellKey>(
-    trie: &mut Trie<K, u64>,
-    call: Edit,
+/// A call of the entry of the key that the next word writes. False: the call is none.
+pub fn answer_entry(trie: &mut Table, answer: &mut Answer<'_>) -> Result<bool, Memory> {
+    match answer.name() {
+        "entry" | "entry_insert" | "entry_or_insert" | "entry_and_modify" | "entry_remove" => {}
+        _ => return Ok(false),
+    }
+    let word = answer.words().next().unwrap_or("");
+    match answer.next_key()? {
+        Some(key) => answer_at(trie, key, word, answer)?,
+        None => answer.refuse(NO_KEY)?,
+    }
+    Ok(true)
+}
+
+/// A call of the key's entry.
+fn answer_at(
+    trie: &mut Table,
+    key: Key,
+    word: &str,
     answer: &mut Answer<'_>,
 ) -> Result<(), Memory> {
-    let word = answer.words().next().unwrap_or("");
-    let Some(key) = answer.next_key::<K>()? else {
-        return answer.refuse(NO_KEY);
-    };
-    match call {
-        Edit::EntryInsert => answer_insert(trie, key, word, answer),
-        Edit::EntryOrInsert => answer_or_insert(trie, key, word, answer),
-        Edit::EntryAndModify => answer_and_modify(trie, key, word, answer),
-        Edit::EntryRemove => match trie.entry(key) {
+    match answer.name() {
+        "entry" => answer_shown(trie, key, word, answer),
+        "entry_insert" => answer_insert(trie, key, word, answer),
+        "entry_or_insert" => answer_or_insert(trie, key, word, answer),
+        "entry_and_modify" => answer_and_modify(trie, key, word, answer),
+        _ => match trie.entry(key) {
             Ok(entry) => taken_line(answer, &entry.remove()?),
             Err(error) => no_entry(answer, word, error),
         },
-        _ => answer_shown(trie, key, word, answer),
     }
 }
 
 /// There is no entry for want of memory. Its key has come back.
-fn no_entry<K: ShellKey>(
-    answer: &mut Answer<'_>,
-    word: &str,
-    error: EntryError<K>,
-) -> Result<(), Memory> {
+fn no_entry(answer: &mut Answer<'_>, word: &str, error: EntryError<Key>) -> Result<(), Memory> {
     note_pair(answer, Given { word, value: 0 }, &error.key, 0)?;
     Err(Memory)
 }
 
 /// The entry's key, its value or that there is none, and whether a pair is stored there.
-fn answer_shown<K: ShellKey>(
-    trie: &mut Trie<K, u64>,
-    key: K,
+fn answer_shown(
+    trie: &mut Table,
+    key: Key,
     word: &str,
     answer: &mut Answer<'_>,
 ) -> Result<(), Memory> {
@@ -57,9 +63,9 @@ fn answer_shown<K: ShellKey>(
 }
 
 /// Stores the number that the next word writes. The answer is the old value.
-fn answer_insert<K: ShellKey>(
-    trie: &mut Trie<K, u64>,
-    key: K,
+fn answer_insert(
+    trie: &mut Table,
+    key: Key,
     word: &str,
     answer: &mut Answer<'_>,
 ) -> Result<(), Memory> {
@@ -74,9 +80,9 @@ fn answer_insert<K: ShellKey>(
 
 /// Writes a number where the value stands, or the default, which is stored first. The answer is
 /// what stood there.
-fn answer_or_insert<K: ShellKey>(
-    trie: &mut Trie<K, u64>,
-    key: K,
+fn answer_or_insert(
+    trie: &mut Table,
+    key: Key,
     word: &str,
     answer: &mut Answer<'_>,
 ) -> Result<(), Memory> {
@@ -97,9 +103,9 @@ fn answer_or_insert<K: ShellKey>(
 }
 
 /// Adds a number to the value that is stored there, if one is.
-fn answer_and_modify<K: ShellKey>(
-    trie: &mut Trie<K, u64>,
-    key: K,
+fn answer_and_modify(
+    trie: &mut Table,
+    key: Key,
     word: &str,
     answer: &mut Answer<'_>,
 ) -> Result<(), Memory> {

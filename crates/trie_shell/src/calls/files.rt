@@ -1,11 +1,9 @@
 //! Calls whose answer goes to a file, or whose words come from one.
 
-use crate::answer::Answer;
-use crate::call::{Call, File};
-use crate::request::next_call;
+use crate::request::read_call;
 use crate::tries::Tries;
-use crate::words::Words;
 use radix_trie::Memory;
+use shell_words::{Answer, Words};
 use std::alloc::Global;
 use std::fs::{OpenFile, Permissions};
 use std::io::{Error, ErrorKind, Read, Write};
@@ -19,15 +17,15 @@ const NO_FILE: &'static str = "no file";
 pub fn answer_file<F: Files + AllocGlobal>(
     files: &F,
     tries: &mut Tries,
-    call: File,
     answer: &mut Answer<'_>,
 ) -> Result<(), Memory> {
-    let Some(path) = answer.next_key::<String>()? else {
+    let Some(path) = answer.next_read::<String>()? else {
         return answer.refuse(NO_FILE);
     };
-    match call {
-        File::Save => save(files, path.as_str(), tries, answer),
-        File::Load => load(files, path.as_str(), tries, answer),
+    if answer.name() == "save" {
+        save(files, path.as_str(), tries, answer)
+    } else {
+        load(files, path.as_str(), tries, answer)
     }
 }
 
@@ -39,11 +37,11 @@ fn save<F: Files>(
     tries: &mut Tries,
     answer: &mut Answer<'_>,
 ) -> Result<(), Memory> {
-    let Some(call) = next_call(answer)? else {
+    if !read_call(answer)? {
         return Ok(());
-    };
-    let mut said = Answer::new(answer.alloc(), answer.words(), false);
-    answer_inner(tries, call, &mut said, answer)?;
+    }
+    let mut said = Answer::new(answer.alloc(), answer.kind(), answer.words(), false);
+    answer_inner(tries, &mut said, answer)?;
     if said.is_refusal() {
         return answer.put(said.as_bytes());
     }
@@ -110,9 +108,9 @@ fn load<F: Files>(
     let Ok(text) = str::from_utf8(parted(bytes.as_mut_slice())) else {
         return answer.refuse("not UTF-8");
     };
-    let mut made = Answer::new(answer.alloc(), Words::of(text), false);
-    if let Some(call) = next_call(&mut made)? {
-        answer_inner(tries, call, &mut made, answer)?;
+    let mut made = Answer::new(answer.alloc(), answer.kind(), Words::of(text), false);
+    if read_call(&mut made)? {
+        answer_inner(tries, &mut made, answer)?;
     }
     answer.put(made.as_bytes())
 }
@@ -133,11 +131,10 @@ fn read_behind<F: Files>(alloc: Global, name: &str, files: &F, path: &str) -> io
 /// Makes the call with an answer of its own. What is lost for that one is lost for the whole line.
 fn answer_inner(
     tries: &mut Tries,
-    call: Call,
     inner: &mut Answer<'_>,
     answer: &mut Answer<'_>,
 ) -> Result<(), Memory> {
-    let outcome = tries.answer(call, inner);
+    let outcome = tries.answer(inner);
     if inner.is_lost() {
         answer.lose();
     }

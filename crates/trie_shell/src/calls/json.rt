@@ -1,8 +1,8 @@
-//! Objects as tries, and back.
+//! Objects as tries, and back; and the texts of errors.
 
-use crate::answer::Answer;
-use radix_trie::{JsonError, Memory, Trie, from_value, to_value};
+use radix_trie::{JsonError, Memory, Trie, TrieError, from_value, to_value};
 use serde_json::{Category, Value};
+use shell_words::{Answer, NONE};
 use std::alloc::Global;
 
 /// The value that a text writes, if it writes one.
@@ -25,10 +25,39 @@ fn refused_line(answer: &mut Answer<'_>, error: JsonError) -> Result<(), Memory>
     }
 }
 
-/// Reads the object that a text writes as a trie: its counts of pairs, nodes and nibbles, and the
+/// The call of an object, or of an error. False: it is none.
+pub fn answer_text(answer: &mut Answer<'_>) -> Result<bool, Memory> {
+    match answer.name() {
+        "json" => answer_json(answer)?,
+        "error" => answer_error(answer)?,
+        _ => return Ok(false),
+    }
+    Ok(true)
+}
+
+/// The text of the library's error that the next word names.
+fn answer_error(answer: &mut Answer<'_>) -> Result<(), Memory> {
+    let error = match answer.next_word().unwrap_or("") {
+        "memory" => TrieError::Memory,
+        "full" => TrieError::Full,
+        "outside" => TrieError::Outside,
+        "occupied" => TrieError::Occupied,
+        "overlapping" => TrieError::Overlapping,
+        "absent" => TrieError::Absent,
+        "closed" => TrieError::Closed,
+        "kind" => TrieError::Kind,
+        "float" => TrieError::Float,
+        "odd" => TrieError::Odd,
+        "zero" => TrieError::Zero,
+        _ => return answer.line(NONE),
+    };
+    answer.shown_line(&error)
+}
+
+/// Reads the object that the words write as a trie: its counts of pairs, nodes and nibbles, and the
 /// object that it is written as.
-pub fn answer_json(text: &str, answer: &mut Answer<'_>) -> Result<(), Memory> {
-    let alloc = answer.alloc();
+fn answer_json(answer: &mut Answer<'_>) -> Result<(), Memory> {
+    let (alloc, text) = (answer.alloc(), answer.words().rest());
     let value = match value_of(alloc, text) {
         Ok(value) => value,
         Err(_) => value_of(alloc, text)?,

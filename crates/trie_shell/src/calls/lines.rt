@@ -1,34 +1,13 @@
 //! Answers of several lines, and of what may be missing.
 ghost use Rattle.std.specs.Iterator.{IsFinite};
 
-use crate::answer::Answer;
-use crate::keys::ShellKey;
+use crate::calls::Table;
 use radix_trie::iter::{Children, Keys, Values};
 use radix_trie::{Memory, SubTrie, TrieCommon};
-
-/// What is answered where a word writes no key of the trie's type.
-pub const NO_KEY: &'static str = "no key";
-
-/// What is answered where a word writes no number.
-pub const NO_NUMBER: &'static str = "no number";
-
-/// What is answered where a word writes no list of nibbles.
-pub const NO_LIST: &'static str = "no list";
-
-/// What is answered where there is no type of this name.
-pub const NO_TYPE: &'static str = "no type of keys";
-
-/// What is answered where a view has no such call.
-pub const NOT_HERE: &'static str = "no such call here";
-
-/// What is answered where nothing is.
-pub const NONE: &'static str = "none";
+use shell_words::{Answer, Key, NONE};
 
 /// A pair, or that there is none.
-pub fn pair_line<K: ShellKey>(
-    answer: &mut Answer<'_>,
-    pair: Option<(&K, &u64)>,
-) -> Result<(), Memory> {
+pub fn pair_line(answer: &mut Answer<'_>, pair: Option<(&Key, &u64)>) -> Result<(), Memory> {
     match pair {
         Some((key, value)) => answer.pair_line(key, *value),
         None => answer.line(NONE),
@@ -36,7 +15,7 @@ pub fn pair_line<K: ShellKey>(
 }
 
 /// A key, or that there is none.
-pub fn key_line<K: ShellKey>(answer: &mut Answer<'_>, key: Option<&K>) -> Result<(), Memory> {
+pub fn key_line(answer: &mut Answer<'_>, key: Option<&Key>) -> Result<(), Memory> {
     let Some(key) = key else {
         return answer.line(NONE);
     };
@@ -45,9 +24,9 @@ pub fn key_line<K: ShellKey>(answer: &mut Answer<'_>, key: Option<&K>) -> Result
 }
 
 /// A view, by its path and its value, or that there is none.
-pub fn view_line<K: ShellKey>(
+pub fn view_line(
     answer: &mut Answer<'_>,
-    view: Option<&SubTrie<'_, K, u64>>,
+    view: Option<&SubTrie<'_, Key, u64>>,
 ) -> Result<(), Memory> {
     let Some(view) = view else {
         return answer.line(NONE);
@@ -57,7 +36,7 @@ pub fn view_line<K: ShellKey>(
 }
 
 /// The pairs of a walk, or that there is none.
-pub fn pair_lines<'a, K: ShellKey + 'a, I: Iterator<Item = (&'a K, &'a u64)> + Drop>(
+pub fn pair_lines<'a, I: Iterator<Item = (&'a Key, &'a u64)> + Drop>(
     answer: &mut Answer<'_>,
     walk: I,
 ) -> Result<(), Memory>
@@ -78,10 +57,7 @@ pub fn none_line(answer: &mut Answer<'_>, is_none: bool) -> Result<(), Memory> {
 }
 
 /// The keys of a walk, or that there is none.
-pub fn key_lines<K: ShellKey>(
-    answer: &mut Answer<'_>,
-    keys: Keys<'_, K, u64>,
-) -> Result<(), Memory> {
+pub fn key_lines(answer: &mut Answer<'_>, keys: Keys<'_, Key, u64>) -> Result<(), Memory> {
     let mut is_none = true;
     for key in keys {
         is_none = false;
@@ -91,10 +67,7 @@ pub fn key_lines<K: ShellKey>(
 }
 
 /// The values of a walk, or that there is none.
-pub fn value_lines<K: ShellKey>(
-    answer: &mut Answer<'_>,
-    values: Values<'_, K, u64>,
-) -> Result<(), Memory> {
+pub fn value_lines(answer: &mut Answer<'_>, values: Values<'_, Key, u64>) -> Result<(), Memory> {
     let mut is_none = true;
     for value in values {
         is_none = false;
@@ -104,9 +77,9 @@ pub fn value_lines<K: ShellKey>(
 }
 
 /// The views of children, or that there is none.
-pub fn child_lines<K: ShellKey>(
+pub fn child_lines(
     answer: &mut Answer<'_>,
-    children: Children<'_, K, u64>,
+    children: Children<'_, Key, u64>,
 ) -> Result<(), Memory> {
     let mut is_none = true;
     for child in children {
@@ -117,7 +90,7 @@ pub fn child_lines<K: ShellKey>(
 }
 
 /// Pairs that were taken away, or that there is none.
-pub fn taken_lines<K: ShellKey>(answer: &mut Answer<'_>, taken: &[(K, u64)]) -> Result<(), Memory> {
+pub fn taken_lines(answer: &mut Answer<'_>, taken: &[(Key, u64)]) -> Result<(), Memory> {
     for (key, value) in taken {
         answer.pair_line(key, *value)?;
     }
@@ -125,12 +98,17 @@ pub fn taken_lines<K: ShellKey>(answer: &mut Answer<'_>, taken: &[(K, u64)]) -> 
 }
 
 /// A pair that was taken away, or that there is none.
-pub fn taken_line<K: ShellKey>(
-    answer: &mut Answer<'_>,
-    taken: &Option<(K, u64)>,
-) -> Result<(), Memory> {
+pub fn taken_line(answer: &mut Answer<'_>, taken: &Option<(Key, u64)>) -> Result<(), Memory> {
     match taken {
         Some((key, value)) => answer.pair_line(key, *value),
         None => answer.line(NONE),
     }
+}
+
+/// The counts of nodes and of nibbles in their fragments.
+pub fn footprint_line(trie: &Table, answer: &mut Answer<'_>) -> Result<(), Memory> {
+    let (nodes, nibbles) = trie.footprint();
+    answer.number(nodes)?;
+    answer.number(nibbles)?;
+    answer.end()
 }

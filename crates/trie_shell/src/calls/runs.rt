@@ -1,27 +1,27 @@
 //! Lists of commands, and their replies.
 
-use crate::answer::Answer;
+use crate::calls::Table;
 use crate::calls::lines::none_line;
-use crate::keys::ShellKey;
-use radix_trie::{Command, Memory, Reply, Trie, ViewCommand, run};
+use radix_trie::{Command, Memory, Reply, ViewCommand, run};
+use shell_words::{Answer, Key};
 use std::mem;
 
 /// The commands that were read, and those of a view that are being read.
 #[derive(Drop)]
-struct List<K> {
-    commands: Vec<Command<K, u64>>,
-    inner: Option<(K, Vec<ViewCommand<K, u64>>)>,
+struct List {
+    commands: Vec<Command<Key, u64>>,
+    inner: Option<(Key, Vec<ViewCommand<Key, u64>>)>,
 }
 
 /// A command that tries and views have, of this name.
-fn view_command<K: ShellKey>(
+fn view_command(
     name: &str,
     answer: &mut Answer<'_>,
-) -> Result<Option<ViewCommand<K, u64>>, Memory> {
+) -> Result<Option<ViewCommand<Key, u64>>, Memory> {
     if name == "len" {
         return Ok(Some(ViewCommand::Len));
     }
-    let Some(key) = answer.next_key::<K>()? else {
+    let Some(key) = answer.next_key()? else {
         return Ok(None);
     };
     Ok(match name {
@@ -36,7 +36,7 @@ fn view_command<K: ShellKey>(
 }
 
 /// The same command of a trie.
-fn of_trie<K>(command: ViewCommand<K, u64>) -> Command<K, u64> {
+fn of_trie(command: ViewCommand<Key, u64>) -> Command<Key, u64> {
     match command {
         ViewCommand::Insert(key, value) => Command::Insert(key, value),
         ViewCommand::Remove(key) => Command::Remove(key),
@@ -46,7 +46,7 @@ fn of_trie<K>(command: ViewCommand<K, u64>) -> Command<K, u64> {
     }
 }
 
-impl<K: ShellKey> List<K> {
+impl List {
     /// Adds the command of this name, whose key and value are the next words. False: they are none
     /// of a command.
     fn add(&mut self, name: &str, answer: &mut Answer<'_>) -> Result<bool, Memory> {
@@ -60,12 +60,12 @@ impl<K: ShellKey> List<K> {
                 Some((key, list)) => self.commands.push(Command::Within(key, list))?,
                 None => return Ok(false),
             },
-            "within" | "ancestor" => match (answer.next_key::<K>()?, name) {
+            "within" | "ancestor" => match (answer.next_key()?, name) {
                 (Some(key), "within") => self.inner = Some((key, Vec::new(answer.alloc()))),
                 (Some(key), _) => self.commands.push(Command::Ancestor(key))?,
                 (None, _) => return Ok(false),
             },
-            _ => match (view_command::<K>(name, answer)?, &mut self.inner) {
+            _ => match (view_command(name, answer)?, &mut self.inner) {
                 (Some(command), Some((_, list))) => list.push(command)?,
                 (Some(command), None) => self.commands.push(of_trie(command))?,
                 (None, _) => return Ok(false),
@@ -76,9 +76,7 @@ impl<K: ShellKey> List<K> {
 }
 
 /// The commands that the words write, if they write commands.
-fn commands_of<K: ShellKey>(
-    answer: &mut Answer<'_>,
-) -> Result<Option<Vec<Command<K, u64>>>, Memory> {
+fn commands_of(answer: &mut Answer<'_>) -> Result<Option<Vec<Command<Key, u64>>>, Memory> {
     let mut list = List {
         commands: Vec::new(answer.alloc()),
         inner: None,
@@ -145,16 +143,13 @@ fn add_replies(answer: &mut Answer<'_>, replies: &[Reply<u64>]) -> Result<bool, 
 
 /// Runs the commands that the words write. Where one of them is refused, the trie becomes again
 /// what it was before.
-pub fn answer_run<K: ShellKey>(
-    trie: &mut Trie<K, u64>,
-    answer: &mut Answer<'_>,
-) -> Result<(), Memory> {
+pub fn answer_run(trie: &mut Table, answer: &mut Answer<'_>) -> Result<(), Memory> {
     let (length, words) = (answer.len(), answer.words());
-    let commands = match commands_of::<K>(answer) {
+    let commands = match commands_of(answer) {
         Ok(commands) => commands,
         Err(_) => {
             answer.return_to(length, words);
-            commands_of::<K>(answer)?
+            commands_of(answer)?
         }
     };
     let Some(commands) = commands else {

@@ -1,68 +1,58 @@
 //! Pictures of the tree.
 
-use crate::answer::Answer;
-use crate::call::Tree;
-use crate::calls::lines::{NO_KEY, NONE};
-use crate::keys::{Query, ShellKey};
-use radix_trie::{Memory, Nibblet, SubTrie, Trie, TrieCommon, TrieKey};
+use crate::calls::Table;
+use radix_trie::{Memory, Nibblet, SubTrie, TrieCommon, TrieKey};
+use shell_words::{Answer, Key, NO_KEY, NONE};
 use std::alloc::Global;
 
 /// A point whose line is still to come, and how many points stand above it.
 #[derive(Drop)]
-struct Branch<'a, K: TrieKey> {
-    view: SubTrie<'a, K, u64>,
+struct Branch<'a> {
+    view: SubTrie<'a, Key, u64>,
     depth: usize,
 }
 
-/// A picture of the tree.
-pub fn answer_tree<K: ShellKey>(
-    trie: &Trie<K, u64>,
-    call: Tree,
-    answer: &mut Answer<'_>,
-) -> Result<(), Memory> {
+/// A picture of the tree. False: the call asks for none.
+pub fn answer_tree(trie: &Table, answer: &mut Answer<'_>) -> Result<bool, Memory> {
+    match answer.name() {
+        "draw" | "dot" | "stats" => {}
+        _ => return Ok(false),
+    }
     if answer.left() == 0 {
-        return answer_below(trie, &Nibblet::new(answer.alloc()), call, answer);
+        answer_below(trie, &Nibblet::new(answer.alloc()), answer)?;
+        return Ok(true);
     }
-    match answer.next_query::<K>()? {
-        Some(Query::Key(key)) => answer_below(trie, &key, call, answer),
-        Some(Query::List(list)) => answer_below(trie, &list, call, answer),
-        None => answer.refuse(NO_KEY),
+    match answer.next_query()? {
+        Some(key) => answer_below(trie, &key, answer)?,
+        None => answer.refuse(NO_KEY)?,
     }
+    Ok(true)
 }
 
 /// A picture of the tree from the key's point on.
-fn answer_below<K: ShellKey, Q: TrieKey>(
-    trie: &Trie<K, u64>,
-    key: &Q,
-    call: Tree,
-    answer: &mut Answer<'_>,
-) -> Result<(), Memory> {
+fn answer_below<Q: TrieKey>(trie: &Table, key: &Q, answer: &mut Answer<'_>) -> Result<(), Memory> {
     let Some(root) = trie.subtrie(key)? else {
         return answer.line(NONE);
     };
-    match call {
-        Tree::Draw => {
-            add_points(root, call, answer)?;
+    match answer.name() {
+        "draw" => {
+            add_points(root, answer)?;
             Ok(())
         }
-        Tree::Dot => {
+        "dot" => {
             answer.line("digraph {")?;
-            add_points(root, call, answer)?;
+            add_points(root, answer)?;
             answer.line("}")
         }
-        Tree::Stats => {
-            let depth = add_points(root, call, answer)?;
+        _ => {
+            let depth = add_points(root, answer)?;
             answer_stats(trie, depth, answer)
         }
     }
 }
 
 /// The counts of pairs, nodes and nibbles, and how many points stand above the lowest one.
-fn answer_stats<K: ShellKey>(
-    trie: &Trie<K, u64>,
-    depth: usize,
-    answer: &mut Answer<'_>,
-) -> Result<(), Memory> {
+fn answer_stats(trie: &Table, depth: usize, answer: &mut Answer<'_>) -> Result<(), Memory> {
     let (nodes, nibbles) = trie.footprint();
     let counts = [
         ("pairs", trie.len() as u128),
@@ -80,11 +70,7 @@ fn answer_stats<K: ShellKey>(
 
 /// Goes over the points, each before those below it, and adds what the picture has of each. Gives
 /// the greatest depth.
-fn add_points<K: ShellKey>(
-    root: SubTrie<'_, K, u64>,
-    call: Tree,
-    answer: &mut Answer<'_>,
-) -> Result<usize, Memory> {
+fn add_points(root: SubTrie<'_, Key, u64>, answer: &mut Answer<'_>) -> Result<usize, Memory> {
     let mut branches = Vec::new(answer.alloc());
     branches.push(Branch {
         view: root,
@@ -96,10 +82,10 @@ fn add_points<K: ShellKey>(
             break;
         };
         deepest = deepest.max(branch.depth);
-        match call {
-            Tree::Draw => draw_point(&branch, answer)?,
-            Tree::Dot => add_edges(&branch.view, answer)?,
-            Tree::Stats => {}
+        match answer.name() {
+            "draw" => draw_point(&branch, answer)?,
+            "dot" => add_edges(&branch.view, answer)?,
+            _ => {}
         }
         add_children(answer.alloc(), &branch, &mut branches)?;
     }
@@ -107,7 +93,7 @@ fn add_points<K: ShellKey>(
 }
 
 /// Two spaces for each point above, the fragment, and the pair, or a star where none is stored.
-fn draw_point<K: ShellKey>(branch: &Branch<'_, K>, answer: &mut Answer<'_>) -> Result<(), Memory> {
+fn draw_point(branch: &Branch<'_>, answer: &mut Answer<'_>) -> Result<(), Memory> {
     for _ in 0..branch.depth {
         answer.put(b"  ")?;
     }
@@ -117,10 +103,7 @@ fn draw_point<K: ShellKey>(branch: &Branch<'_, K>, answer: &mut Answer<'_>) -> R
 }
 
 /// The pair of a point, or a star.
-fn add_pair<K: ShellKey>(
-    view: &SubTrie<'_, K, u64>,
-    answer: &mut Answer<'_>,
-) -> Result<(), Memory> {
+fn add_pair(view: &SubTrie<'_, Key, u64>, answer: &mut Answer<'_>) -> Result<(), Memory> {
     match (TrieCommon::key(view), TrieCommon::value(view)) {
         (Some(key), Some(value)) => {
             answer.key(key)?;
@@ -131,10 +114,7 @@ fn add_pair<K: ShellKey>(
 }
 
 /// An edge to each child, by their paths.
-fn add_edges<K: ShellKey>(
-    view: &SubTrie<'_, K, u64>,
-    answer: &mut Answer<'_>,
-) -> Result<(), Memory> {
+fn add_edges(view: &SubTrie<'_, Key, u64>, answer: &mut Answer<'_>) -> Result<(), Memory> {
     for child in view.children()? {
         answer.put(b"  \"")?;
         answer.shown(view.path())?;
@@ -146,13 +126,13 @@ fn add_edges<K: ShellKey>(
 }
 
 /// Adds the children of a point, the first of them last.
-fn add_children<'a, K: ShellKey>(
+fn add_children<'a>(
     alloc: Global,
-    branch: &Branch<'a, K>,
-    branches: &mut Vec<Branch<'a, K>>,
+    branch: &Branch<'a>,
+    branches: &mut Vec<Branch<'a>>,
 ) -> Result<(), Memory> {
     let depth = branch.depth.saturating_add(1);
-    let mut children: Vec<SubTrie<'a, K, u64>> = branch.view.children()?.collect(alloc)?;
+    let mut children: Vec<SubTrie<'a, Key, u64>> = branch.view.children()?.collect(alloc)?;
     for _ in 0..children.len() {
         if let Some(view) = children.pop() {
             branches.push(Branch { view, depth })?;

@@ -1,14 +1,14 @@
 //! Calls of lists of nibbles, and of bits.
 
 use crate::answer::Answer;
-use crate::calls::lines::{NO_KEY, NO_LIST, NO_NUMBER, NONE};
+use crate::says::{NO_KEY, NO_LIST, NO_NUMBER, NONE};
 use crate::words::digit;
-use radix_trie::{Bits, Memory, Nibblet};
+use radix_keys::{Bits, Memory, Nibblet};
 
 /// A call of the list that the next words name, or that makes one.
 pub fn answer_nibblet(name: &str, answer: &mut Answer<'_>) -> Result<(), Memory> {
     if name == "from_byte_vec" {
-        return match answer.next_key::<Vec<u8>>()? {
+        return match answer.next_read::<Vec<u8>>()? {
             Some(bytes) => {
                 let list = Nibblet::from_byte_vec(answer.alloc(), bytes)?;
                 answer.list_line(&list)
@@ -19,9 +19,14 @@ pub fn answer_nibblet(name: &str, answer: &mut Answer<'_>) -> Result<(), Memory>
     if name == "from_hex" {
         return answer_read(answer);
     }
-    let Some(list) = answer.next_key::<Nibblet>()? else {
-        return answer.refuse(NO_LIST);
-    };
+    match answer.next_read::<Nibblet>()? {
+        Some(mut list) => answer_list(name, &mut list, answer),
+        None => answer.refuse(NO_LIST),
+    }
+}
+
+/// A call of the list.
+fn answer_list(name: &str, list: &mut Nibblet, answer: &mut Answer<'_>) -> Result<(), Memory> {
     match name {
         "clone" => answer.list_line(&list.clone()?),
         "len" => answer.count_line(list.len()),
@@ -34,7 +39,7 @@ pub fn answer_nibblet(name: &str, answer: &mut Answer<'_>) -> Result<(), Memory>
 
 /// The list of the digits of the next word's text, if it has no other character.
 fn answer_read(answer: &mut Answer<'_>) -> Result<(), Memory> {
-    let Some(text) = answer.next_key::<String>()? else {
+    let Some(text) = answer.next_read::<String>()? else {
         return answer.refuse(NO_KEY);
     };
     match Nibblet::from_hex(answer.alloc(), text.as_str())? {
@@ -44,8 +49,7 @@ fn answer_read(answer: &mut Answer<'_>) -> Result<(), Memory> {
 }
 
 /// The list with the nibble of the next word, a hexadecimal digit, behind it.
-fn answer_push(list: Nibblet, answer: &mut Answer<'_>) -> Result<(), Memory> {
-    let mut list = list;
+fn answer_push(list: &mut Nibblet, answer: &mut Answer<'_>) -> Result<(), Memory> {
     let nibble = match answer.next_word().unwrap_or("").as_bytes() {
         [byte] => digit(*byte),
         _ => None,
@@ -53,47 +57,44 @@ fn answer_push(list: Nibblet, answer: &mut Answer<'_>) -> Result<(), Memory> {
     match nibble {
         Some(nibble) => {
             list.push(nibble)?;
-            answer.list_line(&list)
+            answer.list_line(list)
         }
         None => answer.refuse(NO_NUMBER),
     }
 }
 
 /// The list with its highest bit turned over.
-fn answer_turned(list: Nibblet, answer: &mut Answer<'_>) -> Result<(), Memory> {
-    let mut list = list;
+fn answer_turned(list: &mut Nibblet, answer: &mut Answer<'_>) -> Result<(), Memory> {
     if !list.is_empty() {
         list.turn_over();
     }
-    answer.list_line(&list)
+    answer.list_line(list)
 }
 
 /// A call of two lists.
-fn answer_two(name: &str, list: Nibblet, answer: &mut Answer<'_>) -> Result<(), Memory> {
-    let Some(other) = answer.next_key::<Nibblet>()? else {
-        return answer.refuse(NO_LIST);
-    };
-    if name == "agreement" {
-        return match answer.next_parsed::<usize>() {
+fn answer_two(name: &str, list: &Nibblet, answer: &mut Answer<'_>) -> Result<(), Memory> {
+    match answer.next_read::<Nibblet>()? {
+        Some(other) if name == "join" => answer_joined(list, &other, answer),
+        Some(other) => match answer.next_parsed::<usize>() {
             Some(depth) if depth <= other.len() => {
                 answer.count_line(list.agreement(&other, depth))
             }
             _ => answer.refuse(NO_NUMBER),
-        };
+        },
+        None => answer.refuse(NO_LIST),
     }
-    answer_joined(list, &other, answer)
 }
 
 /// The two lists as one. Where that is refused, the first one has come back.
-fn answer_joined(list: Nibblet, other: &Nibblet, answer: &mut Answer<'_>) -> Result<(), Memory> {
+fn answer_joined(list: &Nibblet, other: &Nibblet, answer: &mut Answer<'_>) -> Result<(), Memory> {
     let given = match list.clone() {
         Ok(given) => given,
         Err(_) => list.clone()?,
     };
-    match list.join(other) {
+    match given.join(other) {
         Ok(joined) => answer.list_line(&joined),
         Err(back) => {
-            if back != given {
+            if back != *list {
                 answer.note_other();
             }
             Err(Memory)
@@ -102,8 +103,7 @@ fn answer_joined(list: Nibblet, other: &Nibblet, answer: &mut Answer<'_>) -> Res
 }
 
 /// A call at an index, at most the count of nibbles.
-fn answer_cut(name: &str, list: Nibblet, answer: &mut Answer<'_>) -> Result<(), Memory> {
-    let mut list = list;
+fn answer_cut(name: &str, list: &mut Nibblet, answer: &mut Answer<'_>) -> Result<(), Memory> {
     let Some(i) = answer.next_parsed::<usize>() else {
         return answer.refuse(NO_NUMBER);
     };
@@ -113,14 +113,14 @@ fn answer_cut(name: &str, list: Nibblet, answer: &mut Answer<'_>) -> Result<(), 
     match name {
         "split" => {
             let rest = list.split(i)?;
-            answer.list(&list)?;
+            answer.list(list)?;
             answer.list_line(&rest)
         }
         "head" => answer.list_line(&list.head(i)?),
         "tail" => answer.list_line(&list.tail(i)?),
         "truncate" => {
             list.truncate(i);
-            answer.list_line(&list)
+            answer.list_line(list)
         }
         _ if i < list.len() => answer.count_line(list.get(i) as usize),
         _ => answer.refuse(NO_NUMBER),
@@ -130,11 +130,14 @@ fn answer_cut(name: &str, list: Nibblet, answer: &mut Answer<'_>) -> Result<(), 
 /// A call that makes a list of bits.
 pub fn answer_bits(name: &str, answer: &mut Answer<'_>) -> Result<(), Memory> {
     match name {
-        "clone" => match answer.next_key::<Bits>()? {
+        "clone" => match answer.next_read::<Bits>()? {
             Some(bits) => answer.list_line(bits.clone()?.as_list()),
             None => answer.refuse(NO_KEY),
         },
-        "first_of" => match (answer.next_key::<Vec<u8>>()?, answer.next_parsed::<usize>()) {
+        "first_of" => match (
+            answer.next_read::<Vec<u8>>()?,
+            answer.next_parsed::<usize>(),
+        ) {
             (Some(bytes), Some(count)) => {
                 let bits = Bits::first_of(answer.alloc(), bytes.as_slice(), count)?;
                 answer.list_line(bits.as_list())

@@ -1,12 +1,10 @@
 //! Tries by their names.
 
-use crate::answer::Answer;
-use crate::call::{Named, Sides};
-use crate::calls::lines::NO_KEY;
+use crate::calls::Table;
 use crate::calls::sets::answer_sides;
-use crate::keys::{Query, ShellKey};
-use crate::store::{NamedTrie, Store};
+use crate::tries::{NamedTrie, Tries};
 use radix_trie::{AppendWhy, Memory, Trie};
+use shell_words::{Answer, Key, NO_KEY};
 use std::mem;
 
 /// The name of the first trie.
@@ -18,7 +16,7 @@ const NO_NAME: &'static str = "no name";
 /// What is answered where no other trie has the name.
 const NO_TRIE: &'static str = "no other trie";
 
-impl<K: ShellKey> NamedTrie<K> {
+impl NamedTrie {
     fn name(&self) -> &str {
         if self.name.is_empty() {
             FIRST
@@ -28,28 +26,49 @@ impl<K: ShellKey> NamedTrie<K> {
     }
 }
 
-impl<K: ShellKey> Store<K> {
-    /// A call of tries by their names.
-    pub(super) fn answer_named(
-        &mut self,
-        call: Named,
-        answer: &mut Answer<'_>,
-    ) -> Result<(), Memory> {
-        let query = match call {
-            Named::Tries => return self.answer_tries(answer),
-            Named::SplitOffPrefix => answer.next_query::<K>()?,
-            _ => None,
+impl Tries {
+    /// A call of tries by their names. False: it is none.
+    pub(super) fn answer_named(&mut self, answer: &mut Answer<'_>) -> Result<bool, Memory> {
+        let query = match answer.name() {
+            "tries" => {
+                self.answer_tries(answer)?;
+                return Ok(true);
+            }
+            "split_off_prefix" => answer.next_query()?,
+            "use" | "==" | "clone" | "append" => None,
+            "intersection" | "difference" | "union" | "symmetric_difference" => None,
+            "is_subset" | "is_superset" | "is_disjoint" => None,
+            _ => return Ok(false),
         };
         let name = answer.next_word().unwrap_or("");
-        match (call, query) {
-            _ if name.is_empty() => answer.refuse(NO_NAME),
-            (Named::SplitOffPrefix, Some(query)) => self.answer_split(&query, name, answer),
-            (Named::SplitOffPrefix, None) => answer.refuse(NO_KEY),
-            (Named::Equals, _) => self.answer_equals(name, answer),
-            (Named::Clone, _) => self.answer_clone(name, answer),
-            (Named::Append, _) => self.answer_append(name, answer),
-            (Named::Sides(call), _) => self.answer_beside(call, name, answer),
-            _ => self.answer_use(name, answer),
+        if name.is_empty() {
+            return answer.told(NO_NAME);
+        }
+        self.answer_other(&query, name, answer)?;
+        Ok(true)
+    }
+
+    /// A call of the current trie and the one of the name.
+    fn answer_other(
+        &mut self,
+        query: &Option<Key>,
+        name: &str,
+        answer: &mut Answer<'_>,
+    ) -> Result<(), Memory> {
+        match (answer.name(), query) {
+            ("use", _) => self.answer_use(name, answer),
+            ("==", _) => match self.named(name) {
+                Some(other) => answer.truth_line(self.current.trie == *other),
+                None => answer.refuse(NO_TRIE),
+            },
+            ("clone", _) => self.answer_clone(name, answer),
+            ("append", _) => self.answer_append(name, answer),
+            ("split_off_prefix", Some(query)) => self.answer_split(query, name, answer),
+            ("split_off_prefix", None) => answer.refuse(NO_KEY),
+            _ => match self.named(name) {
+                Some(other) => answer_sides(&self.current.trie, other, answer),
+                None => answer.refuse(NO_TRIE),
+            },
         }
     }
 
@@ -59,7 +78,7 @@ impl<K: ShellKey> Store<K> {
     }
 
     /// The trie of this name, which may be the current one.
-    fn named(&self, name: &str) -> Option<&Trie<K, u64>> {
+    fn named(&self, name: &str) -> Option<&Table> {
         if let Some(place) = self.place_of(name) {
             return Some(&self.others.as_slice().get(place)?.trie);
         }
@@ -115,27 +134,6 @@ impl<K: ShellKey> Store<K> {
         Ok(())
     }
 
-    /// Whether the current trie is equal to another.
-    fn answer_equals(&self, name: &str, answer: &mut Answer<'_>) -> Result<(), Memory> {
-        match self.named(name) {
-            Some(other) => answer.truth_line(self.current.trie == *other),
-            None => answer.refuse(NO_TRIE),
-        }
-    }
-
-    /// A call of the keys of the current trie and of another.
-    fn answer_beside(
-        &self,
-        call: Sides,
-        name: &str,
-        answer: &mut Answer<'_>,
-    ) -> Result<(), Memory> {
-        match self.named(name) {
-            Some(other) => answer_sides(&self.current.trie, other, call, answer),
-            None => answer.refuse(NO_TRIE),
-        }
-    }
-
     /// A copy of the current trie, under the name.
     fn answer_clone(&mut self, name: &str, answer: &mut Answer<'_>) -> Result<(), Memory> {
         let place = self.made_place_of(name)?;
@@ -146,17 +144,14 @@ impl<K: ShellKey> Store<K> {
     /// The part of the current trie at and below the key, taken from it, under the name.
     fn answer_split(
         &mut self,
-        query: &Query<K>,
+        key: &Key,
         name: &str,
         answer: &mut Answer<'_>,
     ) -> Result<(), Memory> {
         let Some(place) = self.made_place_of(name)? else {
             return answer.refuse(NO_TRIE);
         };
-        let part = match query {
-            Query::Key(key) => self.current.trie.split_off_prefix(key)?,
-            Query::List(list) => self.current.trie.split_off_prefix(list)?,
-        };
+        let part = self.current.trie.split_off_prefix(key)?;
         self.put(Some(place), part, answer)
     }
 
@@ -174,7 +169,7 @@ impl<K: ShellKey> Store<K> {
     fn put(
         &mut self,
         place: Option<usize>,
-        trie: Trie<K, u64>,
+        trie: Table,
         answer: &mut Answer<'_>,
     ) -> Result<(), Memory> {
         if let Some(place) = place
@@ -188,11 +183,7 @@ impl<K: ShellKey> Store<K> {
 }
 
 /// Appends a trie to another, which leaves it empty. Where that is refused it comes back.
-fn append<K: ShellKey>(
-    trie: &mut Trie<K, u64>,
-    part: &mut Trie<K, u64>,
-    answer: &mut Answer<'_>,
-) -> Result<(), Memory> {
+fn append(trie: &mut Table, part: &mut Table, answer: &mut Answer<'_>) -> Result<(), Memory> {
     match trie.append(mem::replace(part, Trie::new(answer.alloc()))) {
         Ok(()) => answer.line("ok"),
         Err(error) => {

@@ -1,9 +1,9 @@
 //! Calls of networks of one family of addresses.
 
 use crate::answer::Answer;
-use crate::calls::lines::{NO_KEY, NO_NUMBER, NONE};
+use crate::says::{NO_KEY, NO_NUMBER, NONE};
 use crate::words::bytes_of;
-use radix_trie::{Address, Memory, Network};
+use radix_keys::{Address, Memory, Network};
 use std::cmp::Ordering;
 
 /// A call of networks.

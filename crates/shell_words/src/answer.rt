@@ -1,9 +1,11 @@
 //! What a line is answered.
 
-use crate::keys::{Query, ShellKey};
+use crate::key::Key;
+use crate::kind::Kind;
+use crate::read::Read;
 use crate::words::Words;
 use itoa::Buffer;
-use radix_trie::{Memory, Nibblet};
+use radix_keys::{Memory, Nibblet, Parts};
 use std::alloc::Global;
 use std::fmt;
 use std::fmt::Display;
@@ -17,6 +19,7 @@ const ROOM: usize = 512;
 #[derive(Drop)]
 pub struct Answer<'a> {
     alloc: Global,
+    kind: Kind,
     words: Words<'a>,
     bytes: Vec<u8>,
     is_watched: bool,
@@ -26,15 +29,16 @@ pub struct Answer<'a> {
 }
 
 impl<'a> Answer<'a> {
-    /// No answer yet to a line with these words behind its call. Refusals are told of where it is
-    /// watched.
-    pub fn new(alloc: Global, words: Words<'a>, is_watched: bool) -> Answer<'a> {
+    /// No answer yet to a line with these words behind its call, whose keys are of the type. Refusals
+    /// are told of where it is watched.
+    pub fn new(alloc: Global, kind: Kind, words: Words<'a>, is_watched: bool) -> Answer<'a> {
         let bytes = match Vec::with_capacity(alloc, ROOM) {
             Ok(bytes) => bytes,
             Err(_) => Vec::new(alloc),
         };
         Answer {
             alloc,
+            kind,
             words,
             bytes,
             is_watched,
@@ -63,17 +67,27 @@ impl<'a> Answer<'a> {
         self.alloc
     }
 
+    /// The type of the keys.
+    pub fn kind(&self) -> Kind {
+        self.kind
+    }
+
+    /// The name of the call that is answered.
+    pub fn name(&self) -> &'a str {
+        self.words.name()
+    }
+
     /// The words that haven't been read.
     pub fn words(&self) -> Words<'a> {
         self.words
     }
 
-    /// Goes on with these words, in place of those that haven't been read.
+    /// Goes on with this call and these words, in place of those that haven't been read.
     pub fn read_on(&mut self, words: Words<'a>) {
         self.words = words;
     }
 
-    /// Takes the answer back to so many bytes, and to these words.
+    /// Takes the answer back to so many bytes, and to this call and these words.
     pub fn return_to(&mut self, length: usize, words: Words<'a>) {
         self.bytes.truncate(length);
         self.words = words;
@@ -100,25 +114,41 @@ impl<'a> Answer<'a> {
         self.words.next()
     }
 
-    /// The key that the next word writes, if it writes one.
-    pub fn next_key<K: ShellKey>(&mut self) -> Result<Option<K>, Memory> {
+    /// What the next word writes, if it writes such a thing.
+    pub fn next_read<T: Read>(&mut self) -> Result<Option<T>, Memory> {
         let Some(word) = self.words.next() else {
             return Ok(None);
         };
-        match K::read(self.alloc, word) {
+        match T::read(self.alloc, word) {
+            Ok(found) => Ok(found),
+            Err(_) => T::read(self.alloc, word),
+        }
+    }
+
+    /// The key that the next word writes, if it writes one.
+    pub fn next_key(&mut self) -> Result<Option<Key>, Memory> {
+        self.next_key_of(self.kind)
+    }
+
+    /// The same of another type.
+    pub(crate) fn next_key_of(&mut self, kind: Kind) -> Result<Option<Key>, Memory> {
+        let Some(word) = self.words.next() else {
+            return Ok(None);
+        };
+        match Key::read(kind, self.alloc, word) {
             Ok(key) => Ok(key),
-            Err(_) => K::read(self.alloc, word),
+            Err(_) => Key::read(kind, self.alloc, word),
         }
     }
 
     /// What the next word looks up, if it writes a key or a list.
-    pub fn next_query<K: ShellKey>(&mut self) -> Result<Option<Query<K>>, Memory> {
+    pub fn next_query(&mut self) -> Result<Option<Key>, Memory> {
         let Some(word) = self.words.next() else {
             return Ok(None);
         };
-        match Query::read(self.alloc, word) {
+        match Key::read_query(self.kind, self.alloc, word) {
             Ok(query) => Ok(query),
-            Err(_) => Query::read(self.alloc, word),
+            Err(_) => Key::read_query(self.kind, self.alloc, word),
         }
     }
 
@@ -187,13 +217,19 @@ impl<'a> Answer<'a> {
         self.line(why)
     }
 
+    /// The same as the whole answer of a call.
+    pub fn told(&mut self, why: &str) -> Result<bool, Memory> {
+        self.refuse(why)?;
+        Ok(true)
+    }
+
     /// Whether one of its lines tells so.
     pub fn is_refusal(&self) -> bool {
         self.is_refusal
     }
 
     /// Adds a key as a word.
-    pub fn key<K: ShellKey>(&mut self, key: &K) -> Result<(), Memory> {
+    pub fn key(&mut self, key: &Key) -> Result<(), Memory> {
         self.begin_word()?;
         key.write(self)
     }
@@ -204,14 +240,8 @@ impl<'a> Answer<'a> {
             return self.put(b"\"\"");
         }
         for byte in bytes {
-            match *byte {
-                b' ' => self.put(b"\\s")?,
-                b'\\' => self.put(b"\\\\")?,
-                b'"' => self.put(b"\\\"")?,
-                b'#' | b'>' => self.put(&hexadecimal(*byte))?,
-                0x21..=0x7e => self.put(&[*byte])?,
-                other => self.put(&hexadecimal(other))?,
-            }
+            let mut room = [*byte; 4];
+            self.put(escape_of(*byte, &mut room))?;
         }
         Ok(())
     }
@@ -267,6 +297,20 @@ impl<'a> Answer<'a> {
         self.end()
     }
 
+    /// Adds a list of parts as part of a word, each part behind a slash.
+    pub fn parts(&mut self, parts: &Parts) -> Result<(), Memory> {
+        if parts.is_empty() {
+            return self.put(b"\"\"");
+        }
+        for part in parts.iter() {
+            self.put(b"/")?;
+            if !part.is_empty() {
+                self.escaped(part)?;
+            }
+        }
+        Ok(())
+    }
+
     /// Adds a number as a word.
     pub fn number(&mut self, number: u128) -> Result<(), Memory> {
         self.word(Buffer::new().format(number))
@@ -298,10 +342,24 @@ impl<'a> Answer<'a> {
     }
 
     /// Adds a line: a key and its value.
-    pub fn pair_line<K: ShellKey>(&mut self, key: &K, value: u64) -> Result<(), Memory> {
+    pub fn pair_line(&mut self, key: &Key, value: u64) -> Result<(), Memory> {
         self.key(key)?;
         self.number(value as u128)?;
         self.end()
+    }
+}
+
+/// What a byte is written as: itself, where a word of a session may have it.
+fn escape_of(byte: u8, room: &mut [u8; 4]) -> &[u8] {
+    match byte {
+        b' ' => b"\\s",
+        b'\\' => b"\\\\",
+        b'"' => b"\\\"",
+        0x21..=0x7e if byte != b'#' && byte != b'>' => &room[..1],
+        _ => {
+            *room = hexadecimal(byte);
+            room.as_slice()
+        }
     }
 }
 

@@ -2,25 +2,35 @@
 ghost use Rattle.std.specs.Prelude.{◌<◌, IfSome};
 ghost use Rattle.std.specs.Iterator.{at_most};
 
-use radix_trie::Memory;
+use radix_keys::Memory;
 use std::alloc::Global;
 
-/// The words of a text, each parted from the next by one space.
+/// A call's name, and the words behind it, each parted from the next by one space.
 #[derive(Clone, Copy)]
 pub struct Words<'a> {
+    name: &'a str,
     text: &'a str,
     left: usize,
 }
 
 impl<'a> Words<'a> {
-    /// So many words of the text, the first ones.
-    pub fn new(text: &'a str, count: usize) -> Words<'a> {
-        Words { text, left: count }
+    /// The name, and so many words of the text, the first ones.
+    pub fn new(name: &'a str, text: &'a str, count: usize) -> Words<'a> {
+        Words {
+            name,
+            text,
+            left: count,
+        }
     }
 
-    /// All words of the text.
+    /// All words of the text, behind no name.
     pub fn of(text: &'a str) -> Words<'a> {
-        Words::new(text, text.split(' ').count())
+        Words::new("", text, text.split(' ').count())
+    }
+
+    /// The call's name.
+    pub fn name(&self) -> &'a str {
+        self.name
     }
 
     /// The text from the next word on.

@@ -1,0 +1,55 @@
+//! The calls of what keys are made of.
+
+use crate::answer::Answer;
+use crate::encodings::answer_encoding;
+use crate::lists::{answer_bits, answer_nibblet};
+use crate::networks::answer_network;
+use crate::part_lists::answer_parts;
+use crate::says::NOT_HERE;
+use radix_keys::Memory;
+use std::net::{Ipv4Addr, Ipv6Addr};
+
+/// What is answered where a call has another count of words.
+pub const OTHER_COUNT: &'static str = "another count of words";
+
+/// Answers a call of a key, of a list of nibbles, of bits or of parts, or of a network. False: the
+/// call is none of these.
+pub fn answer_part(answer: &mut Answer<'_>) -> Result<bool, Memory> {
+    match answer.name() {
+        "encode" => answer_encoding(false, answer)?,
+        "encode_bytes" => answer_encoding(true, answer)?,
+        family @ ("nibblet" | "bits" | "ipv4" | "ipv6" | "parts") => answer_named(family, answer)?,
+        _ => return Ok(false),
+    }
+    Ok(true)
+}
+
+/// A call that the next word names, where as many words stand behind it as it has.
+fn answer_named(family: &str, answer: &mut Answer<'_>) -> Result<(), Memory> {
+    let name = answer.next_word().unwrap_or("");
+    match (count_behind(family, name), family) {
+        (None, _) => answer.refuse(NOT_HERE),
+        (Some(count), _) if count != answer.left() => answer.refuse(OTHER_COUNT),
+        (_, "nibblet") => answer_nibblet(name, answer),
+        (_, "bits") => answer_bits(name, answer),
+        (_, "ipv4") => answer_network::<Ipv4Addr>(name, answer),
+        (_, "ipv6") => answer_network::<Ipv6Addr>(name, answer),
+        _ => answer_parts(name, answer),
+    }
+}
+
+/// How many words stand behind the name of a call of the family, if it has a call of that name.
+fn count_behind(family: &str, name: &str) -> Option<usize> {
+    Some(match (family, name) {
+        ("nibblet", "from_byte_vec" | "from_hex" | "clone" | "len" | "turn_over") => 1,
+        ("nibblet", "get" | "push" | "join" | "split" | "head" | "tail" | "truncate") => 2,
+        ("nibblet", "agreement") => 3,
+        ("bits", "clone") => 1,
+        ("bits", "first_of" | "first_of_u32" | "first_of_u128") => 2,
+        ("ipv4" | "ipv6", "from_str" | "host" | "base" | "bits" | "clone") => 1,
+        ("ipv4" | "ipv6", "new" | "around" | "holds" | "cmp") => 2,
+        ("parts", "clone" | "len" | "iter" | "rev" | "is_filter" | "is_topic") => 1,
+        ("parts", "split" | "of_path" | "reversed" | "push" | "push_bytes" | "cmp") => 2,
+        _ => return None,
+    })
+}

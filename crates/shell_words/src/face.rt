@@ -1,0 +1,131 @@
+//! What keys of each type are written as.
+
+use crate::answer::Answer;
+use crate::kind::{Kind, Width};
+use crate::read::Read;
+use radix_keys::{Bits, Memory, Network, Nibblet, Parts, TrieKey};
+use std::alloc::Global;
+use std::fmt;
+use std::net::{Ipv4Addr, Ipv6Addr};
+
+/// What a key is written as: a value of its type, or the list of nibbles that it is.
+#[derive(Clone, Drop)]
+pub enum Face {
+    List,
+    Text(String),
+    Bytes(Vec<u8>),
+    Bool(bool),
+    Char(char),
+    Bits(Bits),
+    Ipv4(Network<Ipv4Addr>),
+    Ipv6(Network<Ipv6Addr>),
+    Parts(Parts),
+    Unsigned(u128),
+    Signed(i128),
+}
+
+/// The key's list, if there is a key.
+fn listed<T: TrieKey + Drop>(alloc: Global, key: Option<T>) -> Result<Option<Nibblet>, Memory> {
+    match key {
+        Some(key) => Ok(Some(key.encode(alloc)?)),
+        None => Ok(None),
+    }
+}
+
+/// The list of an unsigned integer, if it is one of the width.
+fn unsigned_list(number: u128, width: Width, alloc: Global) -> Result<Option<Nibblet>, Memory> {
+    match width {
+        Width::W8 => listed(alloc, u8::try_from(number).ok()),
+        Width::W16 => listed(alloc, u16::try_from(number).ok()),
+        Width::W32 => listed(alloc, u32::try_from(number).ok()),
+        Width::W64 => listed(alloc, u64::try_from(number).ok()),
+        Width::W128 => listed(alloc, Some(number)),
+        Width::Size => listed(alloc, usize::try_from(number).ok()),
+    }
+}
+
+/// The list of a signed integer, if it is one of the width.
+fn signed_list(number: i128, width: Width, alloc: Global) -> Result<Option<Nibblet>, Memory> {
+    match width {
+        Width::W8 => listed(alloc, i8::try_from(number).ok()),
+        Width::W16 => listed(alloc, i16::try_from(number).ok()),
+        Width::W32 => listed(alloc, i32::try_from(number).ok()),
+        Width::W64 => listed(alloc, i64::try_from(number).ok()),
+        Width::W128 => listed(alloc, Some(number)),
+        Width::Size => listed(alloc, isize::try_from(number).ok()),
+    }
+}
+
+impl Face {
+    /// What a word writes, if it writes a value of the type, or an integer of another width.
+    pub fn read(kind: Kind, alloc: Global, word: &str) -> Result<Option<Face>, Memory> {
+        Ok(match kind {
+            Kind::Nibbles => None,
+            Kind::Text => String::read(alloc, word)?.map(Face::Text),
+            Kind::Bytes => Vec::<u8>::read(alloc, word)?.map(Face::Bytes),
+            Kind::Bool => bool::read(alloc, word)?.map(Face::Bool),
+            Kind::Char => char::read(alloc, word)?.map(Face::Char),
+            Kind::Bits => Bits::read(alloc, word)?.map(Face::Bits),
+            Kind::Parts => Parts::read(alloc, word)?.map(Face::Parts),
+            Kind::Ipv4 => word.parse().ok().map(Face::Ipv4),
+            Kind::Ipv6 => word.parse().ok().map(Face::Ipv6),
+            Kind::Unsigned(_) => word.parse().ok().map(Face::Unsigned),
+            Kind::Signed(_) => word.parse().ok().map(Face::Signed),
+        })
+    }
+
+    /// The list that the type encodes it as. None: it is an integer of another width.
+    pub fn encode(&self, kind: Kind, alloc: Global) -> Result<Option<Nibblet>, Memory> {
+        match (self, kind) {
+            (Face::Unsigned(number), Kind::Unsigned(width)) => unsigned_list(*number, width, alloc),
+            (Face::Signed(number), Kind::Signed(width)) => signed_list(*number, width, alloc),
+            (Face::Text(text), _) => listed(alloc, Some(text)),
+            (Face::Bytes(bytes), _) => listed(alloc, Some(bytes)),
+            (Face::Bool(truth), _) => listed(alloc, Some(truth)),
+            (Face::Char(character), _) => listed(alloc, Some(character)),
+            (Face::Bits(bits), _) => listed(alloc, Some(bits)),
+            (Face::Parts(parts), _) => listed(alloc, Some(parts)),
+            (Face::Ipv4(network), _) => listed(alloc, Some(network)),
+            (Face::Ipv6(network), _) => listed(alloc, Some(network)),
+            _ => Ok(None),
+        }
+    }
+
+    /// Adds what writes it, as part of a word.
+    pub fn write(&self, answer: &mut Answer<'_>) -> Result<(), Memory> {
+        match self {
+            Face::List => Ok(()),
+            Face::Text(text) => answer.escaped(text.as_bytes()),
+            Face::Bytes(bytes) => answer.escaped(bytes.as_slice()),
+            Face::Bool(truth) => answer.shown(truth),
+            Face::Char(character) => {
+                let mut room = [0u8; 4];
+                answer.escaped(character.encode_utf8(&mut room).as_bytes())
+            }
+            Face::Bits(bits) => answer.list(bits.as_list()),
+            Face::Parts(parts) => answer.parts(parts),
+            Face::Ipv4(network) => answer.shown(network),
+            Face::Ipv6(network) => answer.shown(network),
+            Face::Unsigned(number) => answer.shown(number),
+            Face::Signed(number) => answer.shown(number),
+        }
+    }
+}
+
+impl fmt::Debug for Face {
+    fn fmt<W: fmt::Write>(&self, f: &mut fmt::Formatter<W>) -> fmt::Result {
+        match self {
+            Face::List => Ok(()),
+            Face::Text(text) => fmt::Debug::fmt(text, f),
+            Face::Bytes(bytes) => fmt::Debug::fmt(bytes, f),
+            Face::Bool(truth) => fmt::Debug::fmt(truth, f),
+            Face::Char(character) => fmt::Debug::fmt(character, f),
+            Face::Bits(bits) => fmt::Debug::fmt(bits, f),
+            Face::Parts(parts) => fmt::Debug::fmt(parts, f),
+            Face::Ipv4(network) => fmt::Debug::fmt(network, f),
+            Face::Ipv6(network) => fmt::Debug::fmt(network, f),
+            Face::Unsigned(number) => fmt::Debug::fmt(number, f),
+            Face::Signed(number) => fmt::Debug::fmt(number, f),
+        }
+    }
+}

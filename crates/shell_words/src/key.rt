@@ -1,0 +1,139 @@
+//! Keys of all types in one: each is the list that its type encodes it as, and how it is written.
+
+use crate::answer::Answer;
+use crate::face::Face;
+use crate::kind::Kind;
+use crate::read::Read;
+use radix_keys::{Memory, Nibblet, TrieKey};
+use std::alloc::{AllocError, Global};
+use std::fmt;
+use std::marker::Model;
+
+/// A key: its encoding, and what it is written as. Keys with one encoding are one key, as those of
+/// one type are. A contract sees the encoding.
+#[derive(Drop)]
+pub struct Key {
+    list: Nibblet,
+    face: Face,
+}
+
+impl Model for Key {
+    ghost use Rattle.std.specs.Prelude.{ℕ, List};
+
+    ghost Value = { List ℕ };
+
+    ghost view = { λ key. key.list };
+}
+
+impl Key {
+    /// The key that a word writes, if it writes one of the type.
+    pub fn read(kind: Kind, alloc: Global, word: &str) -> Result<Option<Key>, Memory> {
+        if let Kind::Nibbles = kind {
+            return Ok(Nibblet::read(alloc, word)?.map(Key::of_list));
+        }
+        let Some(face) = Face::read(kind, alloc, word)? else {
+            return Ok(None);
+        };
+        match face.encode(kind, alloc)? {
+            Some(list) => Ok(Some(Key { list, face })),
+            None => Ok(None),
+        }
+    }
+
+    /// What a word looks up: behind `\=` a list of nibbles, and else a key.
+    pub fn read_query(kind: Kind, alloc: Global, word: &str) -> Result<Option<Key>, Memory> {
+        match word.strip_prefix("\\=") {
+            Some("") => Ok(Some(Key::of_list(Nibblet::new(alloc)))),
+            Some(digits) => Ok(Nibblet::read(alloc, digits)?.map(Key::of_list)),
+            None => Key::read(kind, alloc, word),
+        }
+    }
+
+    /// A list of nibbles, which stands for itself.
+    fn of_list(list: Nibblet) -> Key {
+        Key {
+            list,
+            face: Face::List,
+        }
+    }
+
+    /// What the key is written as.
+    pub fn face(&self) -> &Face {
+        &self.face
+    }
+
+    /// Adds what writes the key, as part of a word.
+    pub fn write(&self, answer: &mut Answer<'_>) -> Result<(), Memory> {
+        match &self.face {
+            Face::List => answer.list(&self.list),
+            face => face.write(answer),
+        }
+    }
+}
+
+impl Clone for Key {
+    ghost use Rattle.std.specs.Prelude.{◌≡◌};
+
+    ghost is_clone = { λ key copy. copy ≡ key };
+
+    ghost is_infallible = { λ _. ⊥ };
+
+    fn clone(&self) -> Result<Key, AllocError> {
+        let face = match self.face.clone() {
+            Ok(face) => face,
+            Err(refused) => return Err(refused),
+        };
+        match Clone::clone(&self.list) {
+            Ok(list) => Ok(Key { list, face }),
+            Err(refused) => Err(refused),
+        }
+    }
+}
+
+impl PartialEq for Key {
+    ghost use Rattle.std.specs.Prelude.{nat_eq};
+    ghost use Rattle.std.specs.Cmp.{partial_equiv_from_equiv};
+    ghost use Rattle.std.specs.Cmp.Lexicographic.{nat_list_eq_equiv, pointwise};
+
+    ghost eq = { pointwise nat_eq };
+
+    ghost laws = { partial_equiv_from_equiv nat_list_eq_equiv };
+
+    fn eq(&self, other: &Key) -> bool {
+        self.list == other.list
+    }
+}
+
+impl Eq for Key {
+    ghost use Rattle.std.specs.Cmp.Lexicographic.{nat_list_eq_equiv};
+
+    ghost laws = { nat_list_eq_equiv };
+}
+
+impl TrieKey for Key {
+    ghost use Rattle.std.proofs.lemmas.Slice.Eq.{bytes_eq-Decides};
+    ghost use Rattle.nibble_map.specs.Nibbles.{IsShort};
+
+    ghost encoding = { λ v. v };
+
+    ghost is_light = { IsShort };
+
+    ghost is_value = { λ _. Unit {0} };
+
+    ghost distinct = { λ x y _ _ e. (bytes_eq-Decides x y).1 e };
+
+    ghost light_is_short = { λ _ h. h };
+
+    fn encode(&self, _alloc: Global) -> Result<Nibblet, Memory> {
+        self.list.clone()
+    }
+}
+
+impl fmt::Debug for Key {
+    fn fmt<W: fmt::Write>(&self, f: &mut fmt::Formatter<W>) -> fmt::Result {
+        match &self.face {
+            Face::List => fmt::Display::fmt(&self.list, f),
+            face => fmt::Debug::fmt(face, f),
+        }
+    }
+}

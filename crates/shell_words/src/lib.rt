@@ -1,0 +1,25 @@
+//! The words of a shell's lines: keys of each type as words write them, and the calls of what keys
+//! are made of, which no trie takes part in.
+#![tactic(auto)]
+
+mod answer;
+mod calls;
+mod encodings;
+mod face;
+mod key;
+mod kind;
+mod lists;
+mod networks;
+mod part_lists;
+mod read;
+mod says;
+mod words;
+
+pub use answer::Answer;
+pub use calls::{OTHER_COUNT, answer_part};
+pub use face::Face;
+pub use key::Key;
+pub use kind::{Kind, Width};
+pub use read::Read;
+pub use says::{NO_KEY, NO_LIST, NO_NUMBER, NO_TYPE, NONE, NOT_HERE};
+pub use words::Words;

@@ -4,7 +4,7 @@ ghost use Rattle.radix_trie.specs.Walks.{deref_pairs};
 ghost use Rattle.topic_filters.specs.Filters.{any_rest, filters_of, filters_of_levels, is_reserved, stored_at};
 
 use crate::forms::{ANY_LEVEL, ANY_REST};
-use radix_trie::{Memory, Parts, Trie};
+use radix_trie::{Memory, Parts, Trie, TrieKey};
 use std::alloc::Global;
 
 /// The pairs of all stored filters that match the topic; each once, where `is_topic` lets the list of
@@ -18,11 +18,11 @@ use std::alloc::Global;
 ///
 /// Memory is refused, for the topic's levels, for a list of levels that is looked below and its
 /// encoding, or for the list of pairs.
-pub fn matching<'a, V>(
+pub fn matching<'a, K: TrieKey, V>(
     alloc: Global,
-    filters: &'a Trie<Parts, V>,
+    filters: &'a Trie<K, V>,
     topic: &Parts,
-) -> Result<Vec<(&'a Parts, &'a V)>, Memory>
+) -> Result<Vec<(&'a K, &'a V)>, Memory>
     ensures { IfOk result (λ found. deref_pairs found.items
         ≡ stored_at filters.now (filters_of topic.now)) }
 {
@@ -33,11 +33,11 @@ pub fn matching<'a, V>(
 }
 
 /// Puts the pairs of the stored filters that match the topic of these levels at the end of the list.
-fn gather_all<'a, V>(
+fn gather_all<'a, K: TrieKey, V>(
     alloc: Global,
-    filters: &'a Trie<Parts, V>,
+    filters: &'a Trie<K, V>,
     topic: &[&[u8]],
-    found: &mut Vec<(&'a Parts, &'a V)>,
+    found: &mut Vec<(&'a K, &'a V)>,
 ) -> Result<(), Memory>
     ensures { OnOk result (deref_pairs found.new.items ≡ deref_pairs found.old.items
         ++ stored_at filters.now (filters_of (each (λ t. t.now) topic.now))) }
@@ -74,10 +74,10 @@ fn below(path: &Parts, level: &[u8]) -> Result<Parts, Memory>
 }
 
 /// Puts the pair at a filter, if it is stored, at the end of the list.
-fn gather_one<'a, V>(
-    filters: &'a Trie<Parts, V>,
+fn gather_one<'a, K: TrieKey, V>(
+    filters: &'a Trie<K, V>,
     filter: &Parts,
-    found: &mut Vec<(&'a Parts, &'a V)>,
+    found: &mut Vec<(&'a K, &'a V)>,
 ) -> Result<(), Memory>
     ensures { OnOk result (deref_pairs found.new.items
         ≡ deref_pairs found.old.items ++ stored_at filters.now (filter.now ∷ [])) }
@@ -93,10 +93,10 @@ fn gather_one<'a, V>(
 
 /// Puts the pairs of the stored filters that match where no level is left at the end of the list: that
 /// of the path, and that of the path with any rest.
-fn gather_last<'a, V>(
-    filters: &'a Trie<Parts, V>,
+fn gather_last<'a, K: TrieKey, V>(
+    filters: &'a Trie<K, V>,
     path: &Parts,
-    found: &mut Vec<(&'a Parts, &'a V)>,
+    found: &mut Vec<(&'a K, &'a V)>,
 ) -> Result<(), Memory>
     ensures { OnOk result (deref_pairs found.new.items ≡ deref_pairs found.old.items
         ++ stored_at filters.now (path.now ∷ (path.now ++ any_rest ∷ []) ∷ [])) }
@@ -107,11 +107,11 @@ fn gather_last<'a, V>(
 
 /// Puts the pairs of the stored filters that begin with the path and then match the levels at the
 /// end of the list.
-fn gather<'a, V>(
-    filters: &'a Trie<Parts, V>,
+fn gather<'a, K: TrieKey, V>(
+    filters: &'a Trie<K, V>,
     path: &Parts,
     levels: &[&[u8]],
-    found: &mut Vec<(&'a Parts, &'a V)>,
+    found: &mut Vec<(&'a K, &'a V)>,
 ) -> Result<(), Memory>
     ensures { OnOk result (deref_pairs found.new.items ≡ deref_pairs found.old.items
         ++ stored_at filters.now (each (λ f. path.now ++ f)

@@ -2,5 +2,11 @@ use Rattle.std.proofs.Common.{subst, sym}
 use Rattle.radix_trie.specs.Refusals.{JoinsAreShort}
 use Rattle.radix_trie.proofs.trie.Trie.remove.Goals as goal
 
+pub returns-clause-old_value : goal.returns-clause-old_value
+returns-clause-old_value g c = rw (← c.in_ok-list.ensures.ok) c.take_at.ensures.old_value
+
+pub returns-clause-removed : goal.returns-clause-removed
+returns-clause-removed g c = rw (← c.in_ok-list.ensures.ok) c.take_at.ensures.removed
+
 pub returns-clause-join : goal.returns-clause-join
 returns-clause-join g c = λ light short. c.take_at.ensures.join (subst (JoinsAreShort c.args.self.now) (sym c.in_ok-list.ensures.ok) short)

@@ -13,3 +13,12 @@ pub returns-then-len-eq0-clause-removed : goal.returns-then-len-eq0-clause-remov
 returns-then-len-eq0-clause-removed g c =
     let none = sym c.in_ok-list.ensures.ok ∙ empty_of_length c.in_ok-list.list (omega (arith, c.len.ensures, c.if-len-eq0.true)) in
     c.replace-then-len-eq0.ensures.after ∙ c.new.ensures ∙ sym (ap (without_below c.args.self.now) none ∙ without_below-nil c.args.self.now)
+
+pub returns-clause-split : goal.returns-clause-split
+returns-clause-split g c = rw (← c.in_ok-list.ensures.ok) c.split_at.ensures.split
+
+pub returns-clause-removed : goal.returns-clause-removed
+returns-clause-removed g c = rw (← c.in_ok-list.ensures.ok) c.split_at.ensures.removed
+
+pub returns-clause-light_none : goal.returns-clause-light_none
+returns-clause-light_none g c = λ _ none. c.split_at.ensures.none (rw c.in_ok-list.ensures.ok none)

@@ -10,3 +10,9 @@ returns-clause-keyed g c =
 
 pub returns-clause-leaf : goal.returns-clause-leaf
 returns-clause-leaf g c = λ leaf. c.iter.ensures.leaf (rw (c.find.ensures.map, c.find.ensures.path ∙ c.new-top.ensures) leaf)
+
+pub returns-clause-walk : goal.returns-clause-walk
+returns-clause-walk g c = rw (c.find.ensures.map, c.find.ensures.path ∙ c.new-top.ensures) at c.iter.ensures.walk
+
+pub returns-clause-none : goal.returns-clause-none
+returns-clause-none g c = λ none. c.iter.ensures.none (rw (c.find.ensures.map, c.find.ensures.path ∙ c.new-top.ensures) none)

@@ -12,3 +12,13 @@ returns-clause-keyed g c =
 pub returns-clause-leaf : goal.returns-clause-leaf
 returns-clause-leaf g c = λ leaf.
     c.iter.ensures.leaf (rw (c.find.ensures.map ∙ c.into_parts-path.ensures.map, c.find.ensures.path ∙ c.nibbles.ensures ∙ ap g.P.PathList.list c.into_parts-path.ensures.path) leaf)
+
+pub returns-clause-walk : goal.returns-clause-walk
+returns-clause-walk g c =
+    let path = c.find.ensures.path ∙ c.nibbles.ensures ∙ ap g.P.PathList.list c.into_parts-path.ensures.path in
+    rw (c.find.ensures.map ∙ c.into_parts-path.ensures.map, path) at c.iter.ensures.walk
+
+pub returns-clause-none : goal.returns-clause-none
+returns-clause-none g c = λ none.
+    let path = c.find.ensures.path ∙ c.nibbles.ensures ∙ ap g.P.PathList.list c.into_parts-path.ensures.path in
+    c.iter.ensures.none (rw (c.find.ensures.map ∙ c.into_parts-path.ensures.map, path) none)

@@ -1,0 +1,4 @@
+use Rattle.radix_trie.proofs.trie.Trie.contains_key.Goals as goal
+
+pub returns-clause-stored : goal.returns-clause-stored
+returns-clause-stored g c = rw (← c.in_ok-list.ensures.ok) c.contains.ensures.stored

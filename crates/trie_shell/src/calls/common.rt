@@ -20,7 +20,7 @@ pub fn answer_common<'a, T: TrieCommon<'a, Key, u64> + Drop>(
         "last_key_value" => pair_line(answer, of.last_key_value())?,
         "prefix" => answer.list_line(&of.prefix()?)?,
         "iter" => pair_lines(answer, of.iter()?)?,
-        "keys" => key_lines(answer, of.keys()?)?,
+        "keys" if answer.left() == 0 => key_lines(answer, of.keys()?)?,
         "values" => value_lines(answer, of.values()?)?,
         "cursor" => step_lines(answer, of.cursor()?)?,
         "cursor_back" => step_lines(answer, of.cursor_back())?,

@@ -35,11 +35,11 @@ fn listed<T: TrieKey + Drop>(alloc: Global, key: Option<T>) -> Result<Option<Nib
 /// The list of an unsigned integer, if it is one of the width.
 fn unsigned_list(number: u128, width: Width, alloc: Global) -> Result<Option<Nibblet>, Memory> {
     match width {
-        Width::W8 => listed(alloc, u8::try_from(number).ok()),
-        Width::W16 => listed(alloc, u16::try_from(number).ok()),
-        Width::W32 => listed(alloc, u32::try_from(number).ok()),
-        Width::W64 => listed(alloc, u64::try_from(number).ok()),
-        Width::W128 => listed(alloc, Some(number)),
+        Width::Bits8 => listed(alloc, u8::try_from(number).ok()),
+        Width::Bits16 => listed(alloc, u16::try_from(number).ok()),
+        Width::Bits32 => listed(alloc, u32::try_from(number).ok()),
+        Width::Bits64 => listed(alloc, u64::try_from(number).ok()),
+        Width::Bits128 => listed(alloc, Some(number)),
         Width::Size => listed(alloc, usize::try_from(number).ok()),
     }
 }
@@ -47,11 +47,11 @@ fn unsigned_list(number: u128, width: Width, alloc: Global) -> Result<Option<Nib
 /// The list of a signed integer, if it is one of the width.
 fn signed_list(number: i128, width: Width, alloc: Global) -> Result<Option<Nibblet>, Memory> {
     match width {
-        Width::W8 => listed(alloc, i8::try_from(number).ok()),
-        Width::W16 => listed(alloc, i16::try_from(number).ok()),
-        Width::W32 => listed(alloc, i32::try_from(number).ok()),
-        Width::W64 => listed(alloc, i64::try_from(number).ok()),
-        Width::W128 => listed(alloc, Some(number)),
+        Width::Bits8 => listed(alloc, i8::try_from(number).ok()),
+        Width::Bits16 => listed(alloc, i16::try_from(number).ok()),
+        Width::Bits32 => listed(alloc, i32::try_from(number).ok()),
+        Width::Bits64 => listed(alloc, i64::try_from(number).ok()),
+        Width::Bits128 => listed(alloc, Some(number)),
         Width::Size => listed(alloc, isize::try_from(number).ok()),
     }
 }

@@ -19,11 +19,11 @@ pub enum Kind {
 /// How wide an integer is.
 #[derive(Clone, Copy)]
 pub enum Width {
-    W8,
-    W16,
-    W32,
-    W64,
-    W128,
+    Bits8,
+    Bits16,
+    Bits32,
+    Bits64,
+    Bits128,
     Size,
 }
 
@@ -53,11 +53,11 @@ impl Width {
     /// The width that stands so in an integer type's name.
     fn of(name: &str) -> Option<Width> {
         Some(match name {
-            "8" => Width::W8,
-            "16" => Width::W16,
-            "32" => Width::W32,
-            "64" => Width::W64,
-            "128" => Width::W128,
+            "8" => Width::Bits8,
+            "16" => Width::Bits16,
+            "32" => Width::Bits32,
+            "64" => Width::Bits64,
+            "128" => Width::Bits128,
             "size" => Width::Size,
             _ => return None,
         })

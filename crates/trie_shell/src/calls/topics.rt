@@ -51,11 +51,11 @@ fn answer_matching(filters: &Table, answer: &mut Answer<'_>) -> Result<(), Memor
 /// The walk of the trie of the ascending keys.
 fn answer_ascending(trie: &Table, width: Width, answer: &mut Answer<'_>) -> Result<(), Memory> {
     match width {
-        Width::W8 => ascending_lines::<i8>(trie, answer),
-        Width::W16 => ascending_lines::<i16>(trie, answer),
-        Width::W32 => ascending_lines::<i32>(trie, answer),
-        Width::W64 => ascending_lines::<i64>(trie, answer),
-        Width::W128 => ascending_lines::<i128>(trie, answer),
+        Width::Bits8 => ascending_lines::<i8>(trie, answer),
+        Width::Bits16 => ascending_lines::<i16>(trie, answer),
+        Width::Bits32 => ascending_lines::<i32>(trie, answer),
+        Width::Bits64 => ascending_lines::<i64>(trie, answer),
+        Width::Bits128 => ascending_lines::<i128>(trie, answer),
         Width::Size => ascending_lines::<isize>(trie, answer),
     }
 }

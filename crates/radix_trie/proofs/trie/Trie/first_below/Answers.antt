@@ -1,4 +1,0 @@
-use Rattle.radix_trie.proofs.trie.Trie.first_below.Goals as goal
-
-pub returns-clause-pairs : goal.returns-clause-pairs
-returns-clause-pairs g c = rw (← c.in_ok-list.ensures.ok, ← c.find.ensures.path, ← c.find.ensures.map) c.first_pairs.ensures.pairs

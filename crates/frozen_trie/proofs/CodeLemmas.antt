@@ -1,0 +1,7 @@
+-- Lists in rising order, how they are packed, and their links.
+pub mod Order
+pub mod Parts
+pub mod Links
+pub mod Reading
+pub mod Packed
+pub mod Growing

@@ -1,0 +1,5 @@
+-- The map of pairs in order: what it answers, by the pairs' indices.
+pub mod Rows
+pub mod Queries
+pub mod Growth
+pub mod Whole

@@ -1,0 +1,102 @@
+-- One code more, and its link.
+use Rattle.std.proofs.Common.{◌≡◌, ℕ, ◌-◌, ◌<◌, ◌≤◌, inl, inr, List, [], ◌∷◌, ◌++◌, length, take, drop, get_or, refl, sym, ap, subst, ◌∙◌, arith}
+use Rattle.std.proofs.lemmas.List.{get_or_append_left, length-append, map-append, take-append-drop}
+use Rattle.std.proofs.Math.Seq.{get_or-append_seam}
+use Rattle.radix_keys.proofs.KeyLemmas.Order.{three_ways}
+use Rattle.nibble_map.specs.Lists.{IsBefore, IsPrefix, IsRising, Each, Has}
+use Rattle.nibble_map.proofs.ListLemmas.Rising.{IsRising-append}
+use Rattle.nibble_map.proofs.TreeLemmas.SomePrefixes.{before_through}
+use Rattle.frozen_trie.specs.Codes.{IsLastPrefix, code_at}
+use Rattle.frozen_trie.specs.Frozen.{IsLinked, codes_of}
+use Rattle.frozen_trie.proofs.CodeLemmas.Parts.{rising_at}
+use Rattle.frozen_trie.proofs.FrozenLemmas.Queries.{has_index}
+
+-- what holds of each element of a join holds of each of its first part
+Each-front : {A : Type 0} (Q : A → Type 0) (xs ys : List A) → Each Q (xs ++ ys) → Each Q xs
+Each-front Q [] ys h = tt
+Each-front Q (x ∷ xs) ys h = (h.0, Each-front Q xs ys h.1)
+
+-- the first part of rising codes rises
+pub rising_front : (xs ys : List (List ℕ)) → IsRising (xs ++ ys) → IsRising xs
+rising_front [] ys h = tt
+rising_front (x ∷ xs) ys h = (Each-front (IsBefore x) xs ys h.0, rising_front xs ys h.1)
+
+-- the first codes of rising ones rise
+pub rising_take : {K V : Type 0} (enc : K → List ℕ) (n : ℕ) (ps : List (K × V)) → IsRising (codes_of enc ps) → IsRising (codes_of enc (take n ps))
+rising_take enc n ps h = rising_front _ (codes_of enc (drop n ps))
+    (subst IsRising (ap (codes_of enc) (sym (take-append-drop n ps)) ∙ map-append (λ p. enc p.0) (take n ps) (drop n ps)) h)
+
+-- the code behind some codes
+pub code_behind : (cs : List (List ℕ)) (c : List ℕ) → code_at (cs ++ c ∷ []) (length cs) ≡ c
+code_behind cs c = get_or-append_seam cs c [] []
+
+-- no code is none
+pub rising_alone : (cs : List (List ℕ)) (c : List ℕ) → length cs ≡ 0 → IsRising (cs ++ c ∷ [])
+rising_alone [] c e = (tt, tt)
+rising_alone (d ∷ cs) c e = absurd (omega (arith, e))
+
+-- codes and one more rise where the last comes before it
+pub rising_more : (cs : List (List ℕ)) (c : List ℕ) → 0 < length cs → IsRising cs → IsBefore (code_at cs (length cs - 1)) c → IsRising (cs ++ c ∷ [])
+rising_more cs c some h b = IsRising-append cs (c ∷ []) h (tt, tt) before
+  where
+    before : (x : List ℕ) → Has cs x → (y : List ℕ) → Has (c ∷ []) y → IsBefore x y
+    before x i y (inr k) = absurd k
+    before x i y (inl e) =
+        let r = has_index cs x i in
+        subst (IsBefore x) (sym e) (subst (λ l. IsBefore l c) r.2 (elim (three_ways r.0 (length cs - 1)) [
+          | inl l ↦ before_through _ _ _ (rising_at cs h r.0 (length cs - 1) l (omega (arith, some))) b
+          | inr (inl s) ↦ subst (λ k. IsBefore (code_at cs k) c) (sym s) b
+          | inr (inr g) ↦ absurd (let l = r.1 in omega (arith, l, g))
+        ]))
+
+-- where codes and one more rise the last comes before it
+pub last_before_more : (cs : List (List ℕ)) (c : List ℕ) → 0 < length cs → IsRising (cs ++ c ∷ []) → IsBefore (code_at cs (length cs - 1)) c
+last_before_more cs c some h =
+    let n = length-append cs (c ∷ []) in
+    let b = rising_at (cs ++ c ∷ []) h (length cs - 1) (length cs) (omega (arith, some)) (omega (arith, n)) in
+    subst (IsBefore _) (code_behind cs c) (subst (λ l. IsBefore l (code_at (cs ++ c ∷ []) (length cs))) (get_or_append_left cs (c ∷ []) [] (length cs - 1) (omega (arith, some))) b)
+
+-- all codes come before one more
+pub all_before_more : (cs : List (List ℕ)) (c : List ℕ) → IsRising (cs ++ c ∷ []) → (k : ℕ) → k < length cs → IsBefore (code_at cs k) c
+all_before_more cs c h k l =
+    let n = length-append cs (c ∷ []) in
+    let b = rising_at (cs ++ c ∷ []) h k (length cs) l (omega (arith, n)) in
+    subst (IsBefore _) (code_behind cs c) (subst (λ x. IsBefore x (code_at (cs ++ c ∷ []) (length cs))) (get_or_append_left cs (c ∷ []) [] k l) b)
+
+-- the last prefix among the first n codes stays so with further codes behind
+pub last_prefix_kept : (cs ds : List (List ℕ)) (n : ℕ) (q : List ℕ) (r : ℕ) → n ≤ length cs → IsLastPrefix cs n q r → IsLastPrefix (cs ++ ds) n q r
+last_prefix_kept cs ds n q r within last = record {
+  within = last.within;
+  begins = λ some. subst (λ l. IsPrefix l q) (sym (get_or_append_left cs ds [] (r - 1) (let w = last.within in omega (arith, w, some, within)))) (last.begins some);
+  none = λ k a b p. last.none k a b (subst (λ l. IsPrefix l q) (get_or_append_left cs ds [] k (omega (arith, b, within))) p);
+}
+
+-- no list has no link
+pub linked_none : (cs : List (List ℕ)) (up : List ℕ) → cs ≡ [] → up ≡ [] → IsLinked cs up
+linked_none cs up e f =
+    let none : IsLinked [] [] = record { rising = tt; linked = refl; links = λ i l. absurd (omega (arith, l)) } in
+    subst (λ ds. IsLinked ds up) (sym e) (subst (IsLinked []) (sym f) none)
+
+-- links and one more
+pub linked_more : (cs : List (List ℕ)) (up : List ℕ) (c : List ℕ) (r : ℕ) → IsLinked cs up → IsRising (cs ++ c ∷ []) → IsLastPrefix cs (length cs) c r
+    → IsLinked (cs ++ c ∷ []) (up ++ r ∷ [])
+linked_more cs up c r kept rises last =
+    let n = length-append cs (c ∷ []) in
+    let m = length-append up (r ∷ []) in
+    let same = kept.linked in
+    record {
+      rising = rises;
+      linked = omega (arith, n, m, same);
+      links = λ i l. elim (three_ways i (length cs)) [
+        | inl lt ↦
+            subst (IsLastPrefix (cs ++ c ∷ []) i (code_at (cs ++ c ∷ []) i)) (sym (get_or_append_left up (r ∷ []) 0 i (omega (arith, lt, same))))
+            (subst (λ q. IsLastPrefix (cs ++ c ∷ []) i q (get_or up i 0)) (sym (get_or_append_left cs (c ∷ []) [] i lt))
+            (last_prefix_kept cs (c ∷ []) i (code_at cs i) (get_or up i 0) (omega (arith, lt)) (kept.links i (omega (arith, lt, same)))))
+        | inr (inl e) ↦
+            subst (λ j. IsLastPrefix (cs ++ c ∷ []) j (code_at (cs ++ c ∷ []) j) (get_or (up ++ r ∷ []) j 0)) (sym e)
+            (subst (λ q. IsLastPrefix (cs ++ c ∷ []) (length cs) q (get_or (up ++ r ∷ []) (length cs) 0)) (sym (code_behind cs c))
+            (subst (IsLastPrefix (cs ++ c ∷ []) (length cs) c) (sym (ap (λ j. get_or (up ++ r ∷ []) j 0) (sym same) ∙ get_or-append_seam up r [] 0))
+            (last_prefix_kept cs (c ∷ []) (length cs) c r (omega arith) last)))
+        | inr (inr g) ↦ absurd (omega (arith, g, l, m, same))
+      ];
+    }

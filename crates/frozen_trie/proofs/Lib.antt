@@ -1,0 +1,5 @@
+-- The lemmas, in the order in which they are read.
+-- Lists in rising order, how they are packed, and their links.
+pub mod CodeLemmas
+-- The map of pairs in order: what it answers, by the pairs' indices.
+pub mod FrozenLemmas

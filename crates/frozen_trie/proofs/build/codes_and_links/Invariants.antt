@@ -1,0 +1,9 @@
+use Rattle.std.proofs.Common.{◌≡◌, take}
+use Rattle.frozen_trie.specs.Frozen.{IsLinked, codes_of}
+use Rattle.frozen_trie.proofs.build.codes_and_links.Given as goal
+
+abbrev pub invariant-loop-pair : goal.invariant-loop-pair
+invariant-loop-pair g l = record {
+  keyed : l.codes ≡ codes_of g.K.TrieKey.encoding (take l.pair-index l.pairs);
+  linked : IsLinked l.codes l.up.items;
+}

@@ -1,0 +1,37 @@
+-- What a frozen trie stands for, and what it keeps.
+use Rattle.std.specs.Prelude.{◌≡◌, ℕ, ◌+◌, ◌<◌, List, length, take, map as each}
+use Rattle.std.specs.FinMap as map
+use Rattle.nibble_map.specs.Lists.{IsRising}
+use Rattle.nibble_map.specs.Maps.{PairMap}
+use Rattle.frozen_trie.specs.Codes.{AreLinks}
+
+module _ {K V : Type 0} (enc : K → List ℕ) where
+  -- the encodings of pairs
+  abbrev pub codes_of : List (K × V) → List (List ℕ)
+  codes_of ps = each (λ p. enc p.0) ps
+
+  -- the pairs, each with its encoding
+  abbrev pub coded_pairs : List (K × V) → List (List ℕ × (K × V))
+  coded_pairs ps = each (λ p. (enc p.0, p)) ps
+
+  -- the map from each encoding to its pair
+  abbrev pub map_of_pairs : List (K × V) → PairMap K V
+  map_of_pairs ps = map.from_sorted (coded_pairs ps)
+
+-- the lists rise, and each has its link
+pub record IsLinked (cs : List (List ℕ)) (up : List ℕ) : Type 0 where
+  pub rising : IsRising cs
+  pub linked : length up ≡ length cs
+  pub links : AreLinks cs up
+
+-- the lists are the encodings of the pairs
+pub record IsFrozen {K V : Type 0} (enc : K → List ℕ) (cs : List (List ℕ)) (ps : List (K × V))
+    (up : List ℕ) : Type 0 where
+  pub keyed : cs ≡ codes_of enc ps
+  pub linked : IsLinked cs up
+
+-- the list at i is the first that doesn't come after all those before it
+pub record IsFirstUnsorted (cs : List (List ℕ)) (i : ℕ) : Type 0 where
+  pub within : i < length cs
+  pub before : IsRising (take i cs)
+  pub unsorted : IsRising (take (i + 1) cs) → ⊥

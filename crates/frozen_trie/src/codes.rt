@@ -1,0 +1,194 @@
+//! Lists of nibbles packed in one array, two to a byte.
+ghost use Rattle.std.specs.Prelude.{◌≡◌, ◌≢◌, ◌↔◌, ◌<◌, ◌≤◌, ◌^◌, ◌++◌, [], ◌∷◌, drop, length, slice_index, slice_index_or, take, IsTrue, IfOk, OnOk};
+ghost use Rattle.radix_keys.specs.Packing.{IsPadded, unpacked};
+ghost use Rattle.nibble_map.specs.Lists.{is_prefix};
+ghost use Rattle.frozen_trie.specs.Codes.{code_at, is_before, is_until};
+ghost use Rattle.frozen_trie.specs.Laid.{codes_in, piece_of, start_of, IsLaid};
+
+use crate::pieces::{agreement, compare, count};
+use radix_keys::{Memory, Nibblet};
+use std::alloc::Global;
+use std::marker::Model;
+
+/// Lists of nibbles, each packed in whole bytes behind the one before. A contract sees the lists.
+#[derive(Drop)]
+pub(crate) struct Codes {
+    bytes: Vec<u8>,
+    /// Where the bytes of each list end.
+    ends: Vec<u32>,
+    /// Which lists have an odd count of nibbles: the low half of their last byte is unused.
+    odd: Vec<bool>,
+}
+
+impl Model for Codes {
+    ghost use Rattle.std.specs.Prelude.{ℕ, List};
+    ghost use Rattle.frozen_trie.specs.Laid.{codes_in, IsLaid};
+
+    ghost Value = { List (List ℕ) };
+
+    ghost view = { λ c. codes_in c.bytes.items 0 c.ends.items c.odd.items };
+
+    ghost invariant = { λ c. IsLaid c.bytes.items 0 c.ends.items c.odd.items };
+}
+
+impl Codes {
+    /// No list.
+    pub(crate) fn new(alloc: Global) -> Codes
+        ensures { result ≡ [] }
+    {
+        Codes {
+            bytes: Vec::new(alloc),
+            ends: Vec::new(alloc),
+            odd: Vec::new(alloc),
+        }
+    }
+
+    /// The count of lists.
+    pub(crate) fn len(&self) -> usize
+        ensures { result ≡ length self.now }
+    {
+        self.ends.len()
+    }
+
+    /// The list at an index, packed, and whether its count is odd.
+    fn piece(&self, at: usize) -> (&[u8], bool)
+        requires { at < length self.now }
+        ensures code { unpacked result.0.now result.1 ≡ code_at self.now at }
+        ensures padded { IsPadded result.0.now result.1 }
+        ensures few { length result.0.now < 2 ^ 32 }
+    {
+        piece_in(&self.bytes, &self.ends, &self.odd, at)
+    }
+
+    /// The count of nibbles of the list at an index.
+    pub(crate) fn len_at(&self, at: usize) -> usize
+        requires { at < length self.now }
+        ensures { result ≡ length (code_at self.now at) }
+    {
+        let (bytes, is_odd) = self.piece(at);
+        count(bytes, is_odd)
+    }
+
+    /// How many nibbles the list at an index and another one agree in, from their first on.
+    pub(crate) fn agreement(&self, at: usize, list: &Nibblet) -> usize
+        requires { at < length self.now }
+        ensures within { result ≤ length (code_at self.now at) }
+        ensures inside { result ≤ length list.now }
+        ensures same { take result (code_at self.now at) ≡ take result list.now }
+        ensures apart { result < length (code_at self.now at) → result < length list.now
+            → slice_index (code_at self.now at) result ≢ slice_index list.now result }
+    {
+        let (bytes, is_odd) = self.piece(at);
+        agreement(bytes, is_odd, list)
+    }
+
+    /// Whether the list at an index comes before another one.
+    pub(crate) fn precedes(&self, at: usize, list: &Nibblet) -> bool
+        requires { at < length self.now }
+        ensures { result ≡ is_before (code_at self.now at) list.now }
+    {
+        let (bytes, is_odd) = self.piece(at);
+        compare(bytes, is_odd, list).is_lt()
+    }
+
+    /// Whether the list at an index begins with another one.
+    pub(crate) fn begins(&self, at: usize, list: &Nibblet) -> bool
+        requires { at < length self.now }
+        ensures { result ≡ is_prefix list.now (code_at self.now at) }
+    {
+        self.agreement(at, list) == list.len()
+    }
+
+    /// Whether the list at an index is another one.
+    pub(crate) fn equals(&self, at: usize, list: &Nibblet) -> bool
+        requires { at < length self.now }
+        ensures { IsTrue result ↔ (code_at self.now at ≡ list.now) }
+    {
+        if self.len_at(at) != list.len() {
+            return false;
+        }
+        self.begins(at, list)
+    }
+
+    /// Whether the list at an index comes before another one or begins with it.
+    pub(crate) fn is_within(&self, at: usize, list: &Nibblet) -> bool
+        requires { at < length self.now }
+        ensures { result ≡ is_until (code_at self.now at) list.now }
+    {
+        self.precedes(at, list) || self.begins(at, list)
+    }
+
+    /// The lists, and one more behind them.
+    ///
+    /// # Errors
+    ///
+    /// Memory is refused, or the bytes would be 2^32 or more. The lists are dropped then.
+    pub(crate) fn push(self, list: &Nibblet) -> Result<Codes, Memory>
+        ensures { IfOk result (λ codes. codes ≡ self ++ list.now ∷ []) }
+    {
+        let Codes {
+            mut bytes,
+            mut ends,
+            mut odd,
+        } = self;
+        let is_odd = push_packed(&mut bytes, list)?;
+        let Ok(end) = u32::try_from(bytes.as_slice().len()) else {
+            return Err(Memory);
+        };
+        ends.push(end)?;
+        odd.push(is_odd)?;
+        Ok(Codes { bytes, ends, odd })
+    }
+}
+
+/// Appends the nibbles of a list, two to a byte, and returns whether their count is odd. The low half of the last byte is
+/// zero then.
+fn push_packed(bytes: &mut Vec<u8>, list: &Nibblet) -> Result<bool, Memory>
+    ensures kept { OnOk result
+        (take (length bytes.old.items) bytes.new.items ≡ bytes.old.items) }
+    ensures packed { IfOk result (λ is_odd.
+        unpacked (drop (length bytes.old.items) bytes.new.items) is_odd ≡ list.now) }
+    ensures padded { IfOk result (λ is_odd.
+        IsPadded (drop (length bytes.old.items) bytes.new.items) is_odd) }
+{
+    let whole = list.len() / 2;
+    for pair in 0..whole {
+        bytes.push(list.get(2 * pair) * 16 + list.get(2 * pair + 1))?;
+    }
+    if list.len() == 2 * whole {
+        return Ok(false);
+    }
+    bytes.push(list.get(2 * whole) * 16)?;
+    Ok(true)
+}
+
+/// Where a list begins.
+fn start(ends: &[u32], at: usize) -> usize
+    requires { at < length ends.now }
+    ensures { result ≡ start_of 0 ends.now at }
+{
+    if at == 0 { 0 } else { ends[at - 1] as usize }
+}
+
+/// A list, packed, and whether its count is odd.
+fn piece_in<'a>(bytes: &'a [u8], ends: &[u32], odd: &[bool], at: usize) -> (&'a [u8], bool)
+    requires laid { IsLaid bytes.now 0 ends.now odd.now }
+    requires within { at < length ends.now }
+    ensures code { unpacked result.0.now result.1
+        ≡ slice_index_or (codes_in bytes.now 0 ends.now odd.now) at [] }
+    ensures padded { IsPadded result.0.now result.1 }
+    ensures few { length result.0.now < 2 ^ 32 }
+{
+    let from = start(ends, at);
+    let to = ends[at] as usize;
+    (part(bytes, from, to), odd[at])
+}
+
+/// The bytes from one place up to another.
+fn part(bytes: &[u8], from: usize, to: usize) -> &[u8]
+    requires order { from ≤ to }
+    requires within { to ≤ length bytes.now }
+    ensures { result.now ≡ piece_of bytes.now from to }
+{
+    &bytes[from..to]
+}

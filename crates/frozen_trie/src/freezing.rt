@@ -1,0 +1,88 @@
+//! A trie, made a map for reading.
+ghost use Rattle.std.specs.Prelude.{◌≡◌, ◌≤◌, ◌^◌, [], IfOk, IfErr};
+ghost use Rattle.std.specs.FinMap as map;
+ghost use Rattle.radix_trie.specs.Views.{pairs_below};
+ghost use Rattle.frozen_trie.specs.Frozen.{IsFrozen};
+
+use crate::build::push_linked;
+use crate::codes::Codes;
+use crate::frozen::FrozenTrie;
+use radix_keys::TrieKey;
+use radix_trie::{Trie, TrieCommon, keys_stand_at_their_encodings, split_part_goes_back};
+
+/// Why a trie isn't frozen.
+#[derive(Clone, Copy, PartialEq, Eq, Debug)]
+pub enum FreezeWhy {
+    /// An allocation failed, or the encodings take 2^32 bytes or more.
+    Memory,
+    /// The trie holds 2^32 pairs or more.
+    Full,
+}
+
+/// A trie that isn't frozen: why, and the very trie that was passed.
+#[derive(Drop)]
+pub struct FreezeError<K: TrieKey, V> {
+    pub why: FreezeWhy,
+    pub trie: Trie<K, V>,
+}
+
+/// The same map, for reading, in linear time: the pairs are moved, and the nodes are freed.
+///
+/// # Errors
+///
+/// The trie holds 2^32 pairs or more. Memory is refused, for the walk over the trie, an encoding, the list of them and the
+/// links, or the list of the pairs; the encodings together take less than 2^32 bytes. The trie comes back as it was: the
+/// pairs are moved last.
+pub fn freeze<K: TrieKey + Drop, V: Drop>(
+    trie: Trie<K, V>,
+) -> Result<FrozenTrie<K, V>, FreezeError<K, V>>
+    ensures same { IfOk result (λ frozen. frozen ≡ trie) }
+    ensures handed_back { IfErr result (λ e. e.trie ≡ trie) }
+    ensures full { IfErr result (λ e. e.why ≡ FreezeWhy.Full → 2 ^ 32 ≤ map.len trie) }
+{
+    keys_stand_at_their_encodings(&trie);
+    split_part_goes_back(&trie);
+    let alloc = trie.allocator();
+    match codes_and_links(&trie) {
+        Ok((codes, up)) => match trie.into_pairs() {
+            Ok(pairs) => Ok(FrozenTrie::from_parts(codes, pairs, up, alloc)),
+            Err(trie) => Err(FreezeError {
+                why: FreezeWhy::Memory,
+                trie,
+            }),
+        },
+        Err(why) => Err(FreezeError { why, trie }),
+    }
+}
+
+/// The encodings of a trie's pairs, and their links.
+pub(crate) fn codes_and_links<K: TrieKey, V>(
+    trie: &Trie<K, V>,
+) -> Result<(Codes, Vec<u32>), FreezeWhy>
+    ensures ok { IfOk result
+        (λ r. IsFrozen K.encoding r.0 (pairs_below trie.now []) r.1.items) }
+    ensures full { result ≡ Err FreezeWhy.Full → 2 ^ 32 ≤ map.len trie.now }
+{
+    if trie.len() > u32::MAX as usize {
+        return Err(FreezeWhy::Full);
+    }
+    keys_stand_at_their_encodings(trie);
+    let alloc = trie.allocator();
+    let Ok(mut up) = Vec::with_capacity(alloc, trie.len()) else {
+        return Err(FreezeWhy::Memory);
+    };
+    let Ok(walk) = trie.iter() else {
+        return Err(FreezeWhy::Memory);
+    };
+    let mut codes = Codes::new(alloc);
+    for (key, _) in walk {
+        let Ok(list) = key.encode(alloc) else {
+            return Err(FreezeWhy::Memory);
+        };
+        let Ok(more) = push_linked(codes, &mut up, &list) else {
+            return Err(FreezeWhy::Memory);
+        };
+        codes = more;
+    }
+    Ok((codes, up))
+}

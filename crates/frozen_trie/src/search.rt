@@ -1,0 +1,105 @@
+//! Searches among lists in rising order.
+ghost use Rattle.std.specs.Prelude.{◌≡◌, ◌↔◌, ◌<◌, ◌≤◌, ℕ, length, IsTrue, MatchOption};
+ghost use Rattle.nibble_map.specs.Lists.{IsBefore, IsRising};
+ghost use Rattle.frozen_trie.specs.Codes.{AreLinks, IsCut, IsLastPrefix, is_before, is_until, code_at};
+
+use crate::codes::Codes;
+use radix_keys::Nibblet;
+
+/// How many of the lists come before another one.
+pub(crate) fn lower(codes: &Codes, list: &Nibblet) -> usize
+    requires { IsRising codes.now }
+    ensures { IsCut (λ c. is_before c list.now) codes.now result }
+{
+    let mut lo = 0;
+    let mut hi = codes.len();
+    while lo < hi {
+        let mid = lo + (hi - lo) / 2;
+        if codes.precedes(mid, list) {
+            lo = mid + 1;
+        } else {
+            hi = mid;
+        }
+    }
+    lo
+}
+
+/// How many of the lists come before another one or begin with it.
+pub(crate) fn upper(codes: &Codes, list: &Nibblet) -> usize
+    requires { IsRising codes.now }
+    ensures { IsCut (λ c. is_until c list.now) codes.now result }
+{
+    let mut lo = 0;
+    let mut hi = codes.len();
+    while lo < hi {
+        let mid = lo + (hi - lo) / 2;
+        if codes.is_within(mid, list) {
+            lo = mid + 1;
+        } else {
+            hi = mid;
+        }
+    }
+    lo
+}
+
+/// The last of the first `from` lists that is a prefix of another one, by its index and one more, or 0 where there is none.
+///
+/// It goes from each to the link of it, so at most as often as prefixes of the list before `from` are stored.
+pub(crate) fn climb(codes: &Codes, up: &[u32], from: usize, list: &Nibblet) -> usize
+    requires within { from ≤ length codes.now }
+    requires linked { from ≤ length up.now }
+    requires rising { IsRising codes.now }
+    requires links { AreLinks codes.now up.now }
+    requires before { (k : ℕ) → k < from → IsBefore (code_at codes.now k) list.now }
+    ensures { IsLastPrefix codes.now from list.now result }
+{
+    if from == 0 {
+        return 0;
+    }
+    let shared = codes.agreement(from - 1, list);
+    let mut at = from;
+    while at > 0 {
+        if codes.len_at(at - 1) <= shared {
+            return at;
+        }
+        at = up[at - 1] as usize;
+    }
+    0
+}
+
+/// Whether a list is the one at an index, which may be past the end.
+fn stands_at(codes: &Codes, at: usize, list: &Nibblet) -> bool
+    ensures { IsTrue result ↔ ((at < length codes.now) × (code_at codes.now at ≡ list.now)) }
+{
+    at < codes.len() && codes.equals(at, list)
+}
+
+/// The index of a list.
+pub(crate) fn index_of(codes: &Codes, list: &Nibblet) -> Option<usize>
+    requires { IsRising codes.now }
+    ensures { MatchOption result
+        ((k : ℕ) → k < length codes.now → code_at codes.now k ≡ list.now → ⊥)
+        (λ i. (i < length codes.now) × (code_at codes.now i ≡ list.now)) }
+{
+    let at = lower(codes, list);
+    if stands_at(codes, at, list) {
+        Some(at)
+    } else {
+        None
+    }
+}
+
+/// The last of the lists that is a prefix of another one, by its index and one more, or 0 where there is none.
+pub(crate) fn last_prefix(codes: &Codes, up: &[u32], list: &Nibblet) -> usize
+    requires linked { length up.now ≡ length codes.now }
+    requires rising { IsRising codes.now }
+    requires links { AreLinks codes.now up.now }
+    ensures { IsLastPrefix codes.now (length codes.now) list.now result }
+{
+    let at = lower(codes, list);
+    if stands_at(codes, at, list) {
+        at + 1
+    } else {
+        climb(codes, up, at, list)
+    }
+}

@@ -3,3 +3,6 @@ pub mod Rows
 pub mod Queries
 pub mod Growth
 pub mod Whole
+pub mod Thawed
+pub mod Copied
+pub mod Prefixes

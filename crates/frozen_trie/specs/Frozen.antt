@@ -1,8 +1,9 @@
 -- What a frozen trie stands for, and what it keeps.
-use Rattle.std.specs.Prelude.{◌≡◌, ℕ, ◌+◌, ◌<◌, List, length, take, map as each}
+use Rattle.std.specs.Prelude.{◌≡◌, ℕ, zero, suc, ◌+◌, ◌<◌, List, [], Option, None, Some, length, reverse, slice_get, take, map as each}
 use Rattle.std.specs.FinMap as map
 use Rattle.nibble_map.specs.Lists.{IsRising}
 use Rattle.nibble_map.specs.Maps.{PairMap}
+use Rattle.radix_trie.specs.Views.{pairs_above, pairs_below}
 use Rattle.frozen_trie.specs.Codes.{AreLinks}
 
 module _ {K V : Type 0} (enc : K → List ℕ) where
@@ -17,6 +18,16 @@ module _ {K V : Type 0} (enc : K → List ℕ) where
   -- the map from each encoding to its pair
   abbrev pub map_of_pairs : List (K × V) → PairMap K V
   map_of_pairs ps = map.from_sorted (coded_pairs ps)
+
+  -- the pairs whose encodings are prefixes of that of a pair, if there is one, from the longest up
+  abbrev pub pairs_up_from : PairMap K V → Option (K × V) → List (K × V)
+  pairs_up_from m None = []
+  pairs_up_from m (Some p) = reverse (pairs_above m (enc p.0))
+
+  -- the same of the pair whose index and one more is n, in the order of the encodings; none at 0
+  abbrev pub prefixes_up : PairMap K V → ℕ → List (K × V)
+  prefixes_up m zero = []
+  prefixes_up m (suc i) = pairs_up_from m (slice_get (pairs_below m []) i)
 
 -- the lists rise, and each has its link
 pub record IsLinked (cs : List (List ℕ)) (up : List ℕ) : Type 0 where

@@ -1,12 +1,14 @@
 //! A map for reading alone: its pairs in the order of their encodings.
-ghost use Rattle.std.specs.Prelude.{◌≡◌, ◌↔◌, ◌-◌, [], drop, length, IsTrue, IsOk, IfOk, OnOk, option_copied, option_map, slice_get};
+ghost use Rattle.std.specs.Prelude.{◌≡◌, ◌↔◌, ◌+◌, ◌-◌, ◌<◌, ◌≤◌, [], ◌∷◌, drop, length, reverse, IsTrue, IsOk, IfOk, OnOk, option_copied, option_map, slice_get};
 ghost use Rattle.std.specs.FinMap as map;
+ghost use Rattle.nibble_map.specs.Lists.{IsRising};
 ghost use Rattle.nibble_map.specs.Maps.{IsStored, below, value_at};
-ghost use Rattle.radix_trie.specs.Views.{IsPairAbove, IsValueAbove, pairs_before, pairs_below};
+ghost use Rattle.radix_trie.specs.Views.{IsPairAbove, IsValueAbove, pairs_above, pairs_before, pairs_below};
 ghost use Rattle.radix_trie.specs.Walks.{deref_pair};
-ghost use Rattle.frozen_trie.specs.Frozen.{IsFrozen, map_of_pairs};
+ghost use Rattle.frozen_trie.specs.Frozen.{IsFrozen, codes_of, map_of_pairs, prefixes_up};
 
 use crate::codes::Codes;
+use crate::prefixes::CommonPrefixes;
 use crate::search::{index_of, last_prefix, lower, upper};
 use crate::slices::{entry_at, entry_in, part};
 use radix_keys::{Memory, Nibblet, TrieKey};
@@ -186,6 +188,34 @@ impl<K: TrieKey, V> FrozenTrie<K, V> {
         ensures pairs { result.items ≡ pairs_below self [] }
     {
         self.pairs
+    }
+
+    /// All pairs, and the allocator.
+    pub(crate) fn into_parts(self) -> (Vec<(K, V)>, Global)
+        ensures map { map_of_pairs K.encoding result.0.items ≡ self }
+        ensures rising { IsRising (codes_of K.encoding result.0.items) }
+    {
+        (self.pairs, self.alloc)
+    }
+
+    /// The pair at an index, by its parts, and the link there: the index and one more of the next pair whose encoding is a
+    /// prefix of its own, or 0.
+    pub(crate) fn step_up(&self, at: usize) -> ((&K, &V), usize)
+        requires { at < map.len self.now }
+        ensures walk { prefixes_up K.encoding self.now (at + 1)
+            ≡ deref_pair result.0 ∷ prefixes_up K.encoding self.now result.1 }
+        ensures within { result.1 ≤ at }
+    {
+        (entry_at(&self.pairs, at), self.up[at] as usize)
+    }
+
+    /// The walk over the pairs whose encodings are prefixes of a list of nibbles, from the longest up. It allocates nothing.
+    ///
+    /// It begins where `nearest` ends.
+    pub fn common_prefixes(&self, list: &Nibblet) -> CommonPrefixes<'_, K, V>
+        ensures walk { result ≡ reverse (pairs_above self.now list.now) }
+    {
+        CommonPrefixes::new(self, last_prefix(&self.codes, &self.up, list))
     }
 
     /// The allocator that the memory comes from.

@@ -3,12 +3,18 @@
 
 mod build;
 mod codes;
+mod copies;
 mod freezing;
 mod frozen;
 mod pieces;
+mod prefixes;
 mod search;
 mod slices;
+mod thawing;
 
 pub use build::{SortedError, SortedWhy};
+pub use copies::frozen_copy;
 pub use freezing::{FreezeError, FreezeWhy, freeze};
 pub use frozen::FrozenTrie;
+pub use prefixes::CommonPrefixes;
+pub use thawing::ThawError;

@@ -18,7 +18,7 @@ use Rattle.frozen_trie.proofs.CodeLemmas.Parts.{rising_at}
 use Rattle.frozen_trie.proofs.FrozenLemmas.Rows.{get_at, entries_are_rows, stored_rows, pairs_of_rows, filter_rows, filter_is_part}
 
 -- a test that can't be true is false
-not_true : (b : Bool) → (b ≡ true → ⊥) → b ≡ false
+pub not_true : (b : Bool) → (b ≡ true → ⊥) → b ≡ false
 not_true true h = absurd (h refl)
 not_true false h = refl
 

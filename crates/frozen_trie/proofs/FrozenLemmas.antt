@@ -6,3 +6,4 @@ pub mod Whole
 pub mod Thawed
 pub mod Copied
 pub mod Prefixes
+pub mod Written

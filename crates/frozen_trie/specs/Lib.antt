@@ -1,3 +1,4 @@
 pub mod Codes
 pub mod Laid
 pub mod Frozen
+pub mod Lends

@@ -15,6 +15,8 @@ use radix_keys::{Memory, Nibblet, TrieKey};
 use std::alloc::Global;
 use std::marker::Model;
 
+mod written;
+
 /// A map from keys to values, told apart by the keys' encodings, which is made once and then read: all pairs in the order of
 /// their encodings, one behind the other.
 ///

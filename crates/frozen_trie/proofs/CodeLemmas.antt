@@ -5,3 +5,4 @@ pub mod Links
 pub mod Reading
 pub mod Packed
 pub mod Growing
+pub mod Heads

@@ -1,4 +1,5 @@
 pub mod Codes
 pub mod Laid
+pub mod Heads
 pub mod Frozen
 pub mod Lends

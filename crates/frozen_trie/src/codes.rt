@@ -1,10 +1,11 @@
 //! Lists of nibbles packed in one array, two to a byte.
-ghost use Rattle.std.specs.Prelude.{◌≡◌, ◌≢◌, ◌↔◌, ◌<◌, ◌≤◌, ◌^◌, ◌++◌, [], ◌∷◌, drop, length, slice_index, slice_index_or, take, IsTrue, IfOk, OnOk};
+ghost use Rattle.std.specs.Prelude.{◌≡◌, ◌≢◌, ◌↔◌, ◌<◌, ◌≤◌, ◌^◌, ◌++◌, [], ◌∷◌, ℕ, true, false, drop, length, slice_index, slice_index_or, take, IsTrue, IfOk, OnOk};
 ghost use Rattle.radix_keys.specs.Packing.{IsPadded, unpacked};
-ghost use Rattle.nibble_map.specs.Lists.{is_prefix};
+ghost use Rattle.nibble_map.specs.Lists.{IsRising, is_prefix};
 ghost use Rattle.frozen_trie.specs.Codes.{code_at, is_before, is_until};
 ghost use Rattle.frozen_trie.specs.Laid.{codes_in, piece_of, start_of, IsLaid};
 
+use crate::heads::{count_below, count_through, head_of};
 use crate::pieces::{agreement, compare, count};
 use radix_keys::{Memory, Nibblet};
 use std::alloc::Global;
@@ -18,17 +19,20 @@ pub(crate) struct Codes {
     ends: Vec<u32>,
     /// Which lists have an odd count of nibbles: the low half of their last byte is unused.
     odd: Vec<bool>,
+    /// The first nibbles of each list.
+    heads: Vec<u64>,
 }
 
 impl Model for Codes {
     ghost use Rattle.std.specs.Prelude.{ℕ, List};
-    ghost use Rattle.frozen_trie.specs.Laid.{codes_in, IsLaid};
+    ghost use Rattle.frozen_trie.specs.Heads.{ArePacked};
+    ghost use Rattle.frozen_trie.specs.Laid.{codes_in};
 
     ghost Value = { List (List ℕ) };
 
     ghost view = { λ c. codes_in c.bytes.items 0 c.ends.items c.odd.items };
 
-    ghost invariant = { λ c. IsLaid c.bytes.items 0 c.ends.items c.odd.items };
+    ghost invariant = { λ c. ArePacked c.bytes.items c.ends.items c.odd.items c.heads.items };
 }
 
 impl Codes {
@@ -40,6 +44,7 @@ impl Codes {
             bytes: Vec::new(alloc),
             ends: Vec::new(alloc),
             odd: Vec::new(alloc),
+            heads: Vec::new(alloc),
         }
     }
 
@@ -118,6 +123,21 @@ impl Codes {
         self.precedes(at, list) || self.begins(at, list)
     }
 
+    /// Bounds for a search in rising lists: those in front of the first come before another list, and those from the second
+    /// on don't. Between them stand only lists with the first nibbles of the other one.
+    pub(crate) fn narrowed(&self, list: &Nibblet) -> (usize, usize)
+        requires { IsRising self.now }
+        ensures order { result.0 ≤ result.1 }
+        ensures within { result.1 ≤ length self.now }
+        ensures before { (k : ℕ) → k < result.0 → is_before (code_at self.now k) list.now ≡ true }
+        ensures others { (k : ℕ) → result.1 ≤ k → k < length self.now
+            → is_before (code_at self.now k) list.now ≡ false }
+    {
+        let head = head_of(list);
+        let heads = self.heads.as_slice();
+        (count_below(heads, head), count_through(heads, head))
+    }
+
     /// The lists, and one more behind them.
     ///
     /// # Errors
@@ -130,6 +150,7 @@ impl Codes {
             mut bytes,
             mut ends,
             mut odd,
+            mut heads,
         } = self;
         let is_odd = push_packed(&mut bytes, list)?;
         let Ok(end) = u32::try_from(bytes.as_slice().len()) else {
@@ -137,7 +158,13 @@ impl Codes {
         };
         ends.push(end)?;
         odd.push(is_odd)?;
-        Ok(Codes { bytes, ends, odd })
+        heads.push(head_of(list))?;
+        Ok(Codes {
+            bytes,
+            ends,
+            odd,
+            heads,
+        })
     }
 }
 

@@ -6,6 +6,7 @@ mod codes;
 mod copies;
 mod freezing;
 mod frozen;
+mod heads;
 mod pieces;
 mod prefixes;
 mod search;

@@ -11,8 +11,7 @@ pub(crate) fn lower(codes: &Codes, list: &Nibblet) -> usize
     requires { IsRising codes.now }
     ensures { IsCut (λ c. is_before c list.now) codes.now result }
 {
-    let mut lo = 0;
-    let mut hi = codes.len();
+    let (mut lo, mut hi) = codes.narrowed(list);
     while lo < hi {
         let mid = lo + (hi - lo) / 2;
         if codes.precedes(mid, list) {

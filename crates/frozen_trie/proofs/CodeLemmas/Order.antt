@@ -11,6 +11,14 @@ use Rattle.nibble_map.proofs.ListLemmas.Sorted.{sorted_of_rising, rising_of_sort
 use Rattle.nibble_map.proofs.TreeLemmas.SomePrefixes.{before_through}
 use Rattle.frozen_trie.specs.Codes.{is_before, is_until}
 
+-- of two numbers the first is at most the second where the other way round is absurd
+pub at_most : (a b : ℕ) → (b < a → ⊥) → a ≤ b
+at_most a b h = elim (three_ways a b) [
+  | inl l ↦ omega (arith, l)
+  | inr (inl e) ↦ omega (arith, e)
+  | inr (inr g) ↦ absurd (h g)
+]
+
 -- a test that holds is true
 pub true_of : (b : Bool) → T b → b ≡ true
 true_of true h = refl

@@ -13,7 +13,7 @@ use Rattle.frozen_trie.specs.Codes.{IsCut, IsLastPrefix, is_before, is_until, co
 use Rattle.radix_trie.specs.Views.{IsPairAbove, pairs_below, pairs_before}
 use Rattle.radix_trie.proofs.PathLemmas.Places.{below-nil}
 use Rattle.frozen_trie.specs.Frozen.{codes_of, map_of_pairs}
-use Rattle.frozen_trie.proofs.CodeLemmas.Order.{before_by_test, before_passes, prefix_before, between_begins, begun_not_before, until_by_test, until_by_before, until_by_prefix}
+use Rattle.frozen_trie.proofs.CodeLemmas.Order.{at_most, before_by_test, before_passes, prefix_before, between_begins, begun_not_before, until_by_test, until_by_before, until_by_prefix}
 use Rattle.frozen_trie.proofs.CodeLemmas.Parts.{rising_at}
 use Rattle.frozen_trie.proofs.FrozenLemmas.Rows.{get_at, entries_are_rows, stored_rows, pairs_of_rows, filter_rows, filter_is_part}
 
@@ -21,14 +21,6 @@ use Rattle.frozen_trie.proofs.FrozenLemmas.Rows.{get_at, entries_are_rows, store
 pub not_true : (b : Bool) → (b ≡ true → ⊥) → b ≡ false
 not_true true h = absurd (h refl)
 not_true false h = refl
-
--- of two numbers the first is at most the second where the other way round is absurd
-at_most : (a b : ℕ) → (b < a → ⊥) → a ≤ b
-at_most a b h = elim (three_ways a b) [
-  | inl l ↦ omega (arith, l)
-  | inr (inl e) ↦ omega (arith, e)
-  | inr (inr g) ↦ absurd (h g)
-]
 
 -- an element of a list of codes stands at an index
 pub has_index : (cs : List (List ℕ)) (x : List ℕ) → Has cs x → (k : ℕ) × (k < length cs) × (code_at cs k ≡ x)

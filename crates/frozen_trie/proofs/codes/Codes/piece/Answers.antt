@@ -9,5 +9,5 @@ piece_in-requires-clause-within c =
       c.requires,
       ap length c.deref-2.ensures.value,
       ap length c.self.view_is,
-      (as_many c.self.inside.bytes.items 0 c.self.inside.ends.items c.self.inside.odd.items c.self.invariant).0,
+      (as_many c.self.inside.bytes.items 0 c.self.inside.ends.items c.self.inside.odd.items c.self.invariant.laid).0,
     )

@@ -1,0 +1,24 @@
+-- The first nibbles of a list as a number, which tells the order of most lists.
+use Rattle.std.specs.Prelude.{◌≡◌, ℕ, zero, suc, ◌+◌, ◌*◌, ◌^◌, ◌<◌, List, [], ◌∷◌, length, slice_index, map as each, Bool}
+use Rattle.frozen_trie.specs.Codes.{code_at}
+use Rattle.frozen_trie.specs.Laid.{codes_in, IsLaid}
+
+-- the first n nibbles as a number, with zeros behind a shorter list
+unfoldable pub head_in : ℕ → List ℕ → ℕ
+head_in zero c = 0
+head_in (suc n) [] = 0
+head_in (suc n) (a ∷ c) = a * 16 ^ n + head_in n c
+
+-- the first n of the list are nibbles
+abbrev pub AreNibbles : ℕ → List ℕ → Type 0
+AreNibbles n c = (k : ℕ) → k < n → slice_index c k < 16
+
+-- the numbers are the heads of the lists
+pub record IsHeaded (cs : List (List ℕ)) (hs : List ℕ) : Type 0 where
+  pub heads : hs ≡ each (head_in 16) cs
+  pub nibbles : (k : ℕ) → k < length cs → AreNibbles 16 (code_at cs k)
+
+-- the lists are packed one behind the other, and have these heads
+pub record ArePacked (bytes ends : List ℕ) (odd : List Bool) (hs : List ℕ) : Type 0 where
+  pub laid : IsLaid bytes 0 ends odd
+  pub headed : IsHeaded (codes_in bytes 0 ends odd) hs

@@ -3,11 +3,15 @@ use Rattle.std.specs.Prelude.{◌≡◌, ℕ, zero, suc, ◌+◌, ◌*◌, ◌^�
 use Rattle.frozen_trie.specs.Codes.{code_at}
 use Rattle.frozen_trie.specs.Laid.{codes_in, IsLaid}
 
--- the first n nibbles as a number, with zeros behind a shorter list
-unfoldable pub head_in : ℕ → List ℕ → ℕ
-head_in zero c = 0
-head_in (suc n) [] = 0
-head_in (suc n) (a ∷ c) = a * 16 ^ n + head_in n c
+-- the first n nibbles as a number, with d for each that a shorter list lacks
+unfoldable pub head_padded : ℕ → ℕ → List ℕ → ℕ
+head_padded d zero c = 0
+head_padded d (suc n) [] = d * 16 ^ n + head_padded d n []
+head_padded d (suc n) (a ∷ c) = a * 16 ^ n + head_padded d n c
+
+-- the same with zeros
+abbrev pub head_in : ℕ → List ℕ → ℕ
+head_in n c = head_padded 0 n c
 
 -- the first n of the list are nibbles
 abbrev pub AreNibbles : ℕ → List ℕ → Type 0

@@ -133,9 +133,26 @@ impl Codes {
         ensures others { (k : ℕ) → result.1 ≤ k → k < length self.now
             → is_before (code_at self.now k) list.now ≡ false }
     {
-        let head = head_of(list);
+        let head = head_of(list, 0);
         let heads = self.heads.as_slice();
         (count_below(heads, head), count_through(heads, head))
+    }
+
+    /// The same bounds, for lists that come before another one or begin with it. They meet where that has at most 16 nibbles.
+    pub(crate) fn narrowed_within(&self, list: &Nibblet) -> (usize, usize)
+        requires { IsRising self.now }
+        ensures order { result.0 ≤ result.1 }
+        ensures within { result.1 ≤ length self.now }
+        ensures before { (k : ℕ) → k < result.0 → is_until (code_at self.now k) list.now ≡ true }
+        ensures others { (k : ℕ) → result.1 ≤ k → k < length self.now
+            → is_until (code_at self.now k) list.now ≡ false }
+    {
+        let heads = self.heads.as_slice();
+        let to = count_through(heads, head_of(list, 15));
+        if list.len() <= 16 {
+            return (to, to);
+        }
+        (count_below(heads, head_of(list, 0)).min(to), to)
     }
 
     /// The lists, and one more behind them.
@@ -158,7 +175,7 @@ impl Codes {
         };
         ends.push(end)?;
         odd.push(is_odd)?;
-        heads.push(head_of(list))?;
+        heads.push(head_of(list, 0))?;
         Ok(Codes {
             bytes,
             ends,

@@ -39,12 +39,23 @@ pub(crate) fn agreement(bytes: &[u8], is_odd: bool, list: &Nibblet) -> usize
         → slice_index (unpacked bytes.now is_odd) result ≢ slice_index list.now result }
 {
     let most = count(bytes, is_odd).min(list.len());
-    for i in 0..most {
-        if nibble(bytes, is_odd, i) != list.get(i) {
-            return i;
+    for pair in 0..most / 2 {
+        let byte = bytes[pair];
+        let high = list.get(2 * pair);
+        if byte != high * 16 + list.get(2 * pair + 1) {
+            return if byte / 16 == high {
+                2 * pair + 1
+            } else {
+                2 * pair
+            };
         }
     }
-    most
+    let even = most / 2 * 2;
+    if even < most && nibble(bytes, is_odd, even) == list.get(even) {
+        most
+    } else {
+        even
+    }
 }
 
 /// The order of a packed list to a list: the first nibble in which they differ decides, and a prefix comes first.

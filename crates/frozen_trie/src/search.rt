@@ -28,8 +28,7 @@ pub(crate) fn upper(codes: &Codes, list: &Nibblet) -> usize
     requires { IsRising codes.now }
     ensures { IsCut (λ c. is_until c list.now) codes.now result }
 {
-    let mut lo = 0;
-    let mut hi = codes.len();
+    let (mut lo, mut hi) = codes.narrowed_within(list);
     while lo < hi {
         let mid = lo + (hi - lo) / 2;
         if codes.is_within(mid, list) {

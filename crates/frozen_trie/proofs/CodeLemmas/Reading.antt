@@ -1,5 +1,5 @@
 -- What is read of the lists.
-use Rattle.std.proofs.Common.{◌≡◌, ℕ, zero, suc, ◌-◌, ◌<◌, ◌≤◌, Bool, false, List, [], ◌∷◌, length, get_or, refl, sym, ap, subst, ◌∙◌, arith}
+use Rattle.std.proofs.Common.{◌≡◌, ℕ, zero, suc, ◌-◌, ◌<◌, ◌≤◌, Bool, List, [], ◌∷◌, length, get_or, refl, sym, ap, subst, arith}
 use Rattle.radix_keys.specs.Packing.{IsPadded, unpacked}
 use Rattle.frozen_trie.specs.Laid.{piece_of, start_of, codes_in, IsLaid}
 

@@ -1,18 +1,16 @@
 -- The pairs whose encodings are prefixes of a list, by the links.
-use Rattle.std.proofs.Common.{◌≡◌, ℕ, zero, suc, ◌+◌, ◌-◌, ◌<◌, ◌≤◌, inl, inr, Bool, true, false, cond, List, [], ◌∷◌, ◌++◌, length, map, reverse, take, get_or, slice_get, Some, None, refl, sym, ap, subst, ◌∙◌, arith}
+use Rattle.std.proofs.Common.{◌≡◌, ℕ, zero, suc, ◌+◌, ◌-◌, ◌<◌, ◌≤◌, inl, inr, Bool, false, cond, List, [], ◌∷◌, ◌++◌, length, map, reverse, take, get_or, slice_get, Some, refl, sym, ap, subst, ◌∙◌, arith}
 use Rattle.std.proofs.lemmas.Cmp.{nat_list_cmp_total}
-use Rattle.std.proofs.lemmas.List.{append-nil, reverse-append, take_all, take_more}
+use Rattle.std.proofs.lemmas.List.{reverse-append, take_all, take_more}
 use Rattle.std.proofs.lemmas.List.Elements.{filter-append}
-use Rattle.std.specs.FinMap as fin
 use Rattle.std.specs.List.{filter}
-use Rattle.radix_keys.proofs.KeyLemmas.Order.{three_ways}
 use Rattle.nibble_map.specs.Lists.{IsBefore, IsPrefix, IsRising, is_prefix}
 use Rattle.nibble_map.proofs.ListLemmas.Parted.{is_prefix_true, prefix_by_test, prefix_itself, prefix_through}
 use Rattle.nibble_map.proofs.ListLemmas.Sorted.{tied_lists_equal}
 use Rattle.nibble_map.proofs.MapLemmas.Bridge.{entries-retain_keys}
 use Rattle.nibble_map.proofs.MapLemmas.Edits.{not_None, same_Some}
 use Rattle.nibble_map.proofs.MapLemmas.SameTests.{equal_tests}
-use Rattle.radix_trie.specs.Views.{pairs_above, pairs_below}
+use Rattle.radix_trie.specs.Views.{pairs_above}
 use Rattle.frozen_trie.specs.Codes.{IsLastPrefix, code_at}
 use Rattle.frozen_trie.specs.Frozen.{codes_of, map_of_pairs, pairs_up_from, prefixes_up}
 use Rattle.frozen_trie.proofs.CodeLemmas.Order.{begun_not_before, between_begins, prefix_before}

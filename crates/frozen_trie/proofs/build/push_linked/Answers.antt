@@ -1,4 +1,4 @@
-use Rattle.std.proofs.Common.{◌≡◌, ◌++◌, [], ◌∷◌, length, sym, ap, subst, ◌∙◌, arith}
+use Rattle.std.proofs.Common.{length, subst, arith}
 use Rattle.frozen_trie.specs.Codes.{IsLastPrefix}
 use Rattle.frozen_trie.proofs.FrozenLemmas.Growth.{all_before_more, linked_more}
 use Rattle.frozen_trie.proofs.build.push_linked.Goals as goal

@@ -1,4 +1,4 @@
-use Rattle.std.proofs.Common.{ap, arith}
+use Rattle.std.proofs.Common.{arith}
 use Rattle.frozen_trie.specs.Codes.{code_at}
 use Rattle.frozen_trie.proofs.CodeLemmas.Order.{not_of_length, same_of_length}
 use Rattle.frozen_trie.proofs.codes.Codes.equals.Goals as goal

@@ -1,8 +1,8 @@
-use Rattle.std.proofs.Common.{◌≡◌, ◌<◌, ◌≤◌, length, get_or, sym, ap, subst, ◌∙◌, arith}
+use Rattle.std.proofs.Common.{◌<◌, length, get_or, sym, ap, subst, arith}
 use Rattle.std.proofs.lemmas.List.Sorted.{IsNonDecreasingBy-from_default}
 use Rattle.std.specs.List.Sorted.{IsNonDecreasing}
 use Rattle.frozen_trie.specs.Codes.{code_at}
-use Rattle.frozen_trie.specs.Heads.{IsHeaded, head_in}
+use Rattle.frozen_trie.specs.Heads.{IsHeaded}
 use Rattle.frozen_trie.proofs.CodeLemmas.Heads.{as_many_heads, before_by_head, head_at, heads_rise, not_before_by_head}
 use Rattle.frozen_trie.proofs.CodeLemmas.Order.{at_most}
 use Rattle.frozen_trie.proofs.codes.Codes.narrowed.Goals as goal

@@ -1,4 +1,4 @@
-use Rattle.std.proofs.Common.{length, ap, sym, ◌∙◌, arith}
+use Rattle.std.proofs.Common.{length, ap, arith}
 use Rattle.frozen_trie.proofs.CodeLemmas.Reading.{as_many}
 use Rattle.frozen_trie.proofs.codes.Codes.piece.Goals as goal
 

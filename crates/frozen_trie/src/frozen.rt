@@ -189,7 +189,7 @@ impl<K: TrieKey, V> FrozenTrie<K, V> {
     pub fn into_pairs(self) -> Vec<(K, V)>
         ensures pairs { result.items ≡ pairs_below self [] }
     {
-        self.pairs
+        self.into_parts().0
     }
 
     /// All pairs, and the allocator.

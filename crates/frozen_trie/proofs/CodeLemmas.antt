@@ -6,3 +6,4 @@ pub mod Reading
 pub mod Packed
 pub mod Growing
 pub mod Heads
+pub mod Tops

@@ -1,5 +1,5 @@
 -- The first nibbles of a list as a number, which tells the order of most lists.
-use Rattle.std.specs.Prelude.{◌≡◌, ℕ, zero, suc, ◌+◌, ◌*◌, ◌^◌, ◌<◌, List, [], ◌∷◌, length, slice_index, map as each, Bool}
+use Rattle.std.specs.Prelude.{◌≡◌, ℕ, zero, suc, ◌+◌, ◌*◌, ◌^◌, ◌<◌, ◌≤◌, List, [], ◌∷◌, length, slice_index, map as each, Bool}
 use Rattle.frozen_trie.specs.Codes.{code_at}
 use Rattle.frozen_trie.specs.Laid.{codes_in, IsLaid}
 
@@ -22,7 +22,18 @@ pub record IsHeaded (cs : List (List ℕ)) (hs : List ℕ) : Type 0 where
   pub heads : hs ≡ each (head_in 16) cs
   pub nibbles : (k : ℕ) → k < length cs → AreNibbles 16 (code_at cs k)
 
+-- how many of the numbers are below w times 2 to the 48
+pub record IsTop (hs : List ℕ) (w n : ℕ) : Type 0 where
+  pub within : n ≤ length hs
+  pub below : (k : ℕ) → k < n → slice_index hs k < w * 2 ^ 48
+  pub others : (k : ℕ) → n ≤ k → k < length hs → w * 2 ^ 48 ≤ slice_index hs k
+
+-- each of a table says so for its index
+abbrev pub AreTops : List ℕ → List ℕ → Type 0
+AreTops hs tops = (w : ℕ) → w < length tops → IsTop hs w (slice_index tops w)
+
 -- the lists are packed one behind the other, and have these heads
-pub record ArePacked (bytes ends : List ℕ) (odd : List Bool) (hs : List ℕ) : Type 0 where
+pub record ArePacked (bytes ends : List ℕ) (odd : List Bool) (hs tops : List ℕ) : Type 0 where
   pub laid : IsLaid bytes 0 ends odd
   pub headed : IsHeaded (codes_in bytes 0 ends odd) hs
+  pub topped : AreTops hs tops

@@ -85,6 +85,9 @@ fn codes_and_links<K: TrieKey, V>(
         };
         codes = more;
     }
+    let Ok(codes) = codes.with_tops(alloc) else {
+        return Err(SortedWhy::Memory);
+    };
     Ok((codes, up))
 }
 

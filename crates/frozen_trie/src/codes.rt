@@ -5,11 +5,14 @@ ghost use Rattle.nibble_map.specs.Lists.{IsRising, is_prefix};
 ghost use Rattle.frozen_trie.specs.Codes.{code_at, is_before, is_until};
 ghost use Rattle.frozen_trie.specs.Laid.{codes_in, piece_of, start_of, IsLaid};
 
-use crate::heads::{count_below, count_through, head_of};
+use crate::heads::{count_below, count_through, head_of, tops_of};
 use crate::pieces::{agreement, compare, count};
 use radix_keys::{Memory, Nibblet};
 use std::alloc::Global;
 use std::marker::Model;
+
+/// How many lists are many enough for a table of 65537 counts.
+const MANY: usize = 65536;
 
 /// Lists of nibbles, each packed in whole bytes behind the one before. A contract sees the lists.
 #[derive(Drop)]
@@ -21,6 +24,8 @@ pub(crate) struct Codes {
     odd: Vec<bool>,
     /// The first nibbles of each list.
     heads: Vec<u64>,
+    /// How many of these are below each multiple of 2^48, where the lists are complete and many.
+    tops: Vec<u32>,
 }
 
 impl Model for Codes {
@@ -32,7 +37,7 @@ impl Model for Codes {
 
     ghost view = { λ c. codes_in c.bytes.items 0 c.ends.items c.odd.items };
 
-    ghost invariant = { λ c. ArePacked c.bytes.items c.ends.items c.odd.items c.heads.items };
+    ghost invariant = { λ c. ArePacked c.bytes.items c.ends.items c.odd.items c.heads.items c.tops.items };
 }
 
 impl Codes {
@@ -45,6 +50,7 @@ impl Codes {
             ends: Vec::new(alloc),
             odd: Vec::new(alloc),
             heads: Vec::new(alloc),
+            tops: Vec::new(alloc),
         }
     }
 
@@ -135,7 +141,10 @@ impl Codes {
     {
         let head = head_of(list, 0);
         let heads = self.heads.as_slice();
-        (count_below(heads, head), count_through(heads, head))
+        (
+            count_below(heads, &self.tops, head),
+            count_through(heads, &self.tops, head),
+        )
     }
 
     /// The same bounds, for lists that come before another one or begin with it. They meet where that has at most 16 nibbles.
@@ -148,11 +157,40 @@ impl Codes {
             → is_until (code_at self.now k) list.now ≡ false }
     {
         let heads = self.heads.as_slice();
-        let to = count_through(heads, head_of(list, 15));
+        let to = count_through(heads, &self.tops, head_of(list, 15));
         if list.len() <= 16 {
             return (to, to);
         }
-        (count_below(heads, head_of(list, 0)).min(to), to)
+        (count_below(heads, &self.tops, head_of(list, 0)).min(to), to)
+    }
+
+    /// The same lists, with a table that shortens searches where they are many.
+    ///
+    /// # Errors
+    ///
+    /// Memory for the table is refused. The lists are dropped then.
+    pub(crate) fn with_tops(self, alloc: Global) -> Result<Codes, Memory>
+        requires { IsRising self }
+        ensures { IfOk result (λ codes. codes ≡ self) }
+    {
+        if self.len() < MANY {
+            return Ok(self);
+        }
+        let Codes {
+            bytes,
+            ends,
+            odd,
+            heads,
+            tops: _tops,
+        } = self;
+        let tops = tops_of(alloc, &heads)?;
+        Ok(Codes {
+            bytes,
+            ends,
+            odd,
+            heads,
+            tops,
+        })
     }
 
     /// The lists, and one more behind them.
@@ -168,6 +206,7 @@ impl Codes {
             mut ends,
             mut odd,
             mut heads,
+            mut tops,
         } = self;
         let is_odd = push_packed(&mut bytes, list)?;
         let Ok(end) = u32::try_from(bytes.as_slice().len()) else {
@@ -176,11 +215,13 @@ impl Codes {
         ends.push(end)?;
         odd.push(is_odd)?;
         heads.push(head_of(list, 0))?;
+        tops.clear();
         Ok(Codes {
             bytes,
             ends,
             odd,
             heads,
+            tops,
         })
     }
 }

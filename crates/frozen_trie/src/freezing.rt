@@ -84,5 +84,8 @@ pub(crate) fn codes_and_links<K: TrieKey, V>(
         };
         codes = more;
     }
+    let Ok(codes) = codes.with_tops(alloc) else {
+        return Err(FreezeWhy::Memory);
+    };
     Ok((codes, up))
 }

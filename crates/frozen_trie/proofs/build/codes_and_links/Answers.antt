@@ -1,7 +1,7 @@
 use Rattle.std.proofs.Common.{◌≡◌, ◌+◌, ◌++◌, [], ◌∷◌, true, false, length, take, get_or, refl, sym, ap, subst, ◌∙◌, arith}
 use Rattle.std.proofs.lemmas.List.{length-map, length-take, map_more, take-map, take_all}
 use Rattle.nibble_map.specs.Lists.{IsRising}
-use Rattle.frozen_trie.specs.Frozen.{IsFirstUnsorted, codes_of}
+use Rattle.frozen_trie.specs.Frozen.{IsFirstUnsorted, IsLinked, codes_of}
 use Rattle.frozen_trie.proofs.build.codes_and_links.Goals as goal
 
 pub push_linked-requires-clause-few : goal.push_linked-requires-clause-few
@@ -49,6 +49,6 @@ loop-pair-preserved g c =
 
 pub returns-clause-ok : goal.returns-clause-ok
 returns-clause-ok g c = record {
-  keyed = c.loop-pair.invariant.keyed ∙ ap (codes_of g.K.TrieKey.encoding) (take_all c.loop-pair.pair-index c.args.pairs.now (omega (arith, c.loop-pair-test.false)));
-  linked = c.loop-pair.invariant.linked;
+  keyed = c.in-Ok-with_tops.ensures ∙ c.loop-pair.invariant.keyed ∙ ap (codes_of g.K.TrieKey.encoding) (take_all c.loop-pair.pair-index c.args.pairs.now (omega (arith, c.loop-pair-test.false)));
+  linked = subst (λ cs. IsLinked cs c.loop-pair.up.items) (sym c.in-Ok-with_tops.ensures) c.loop-pair.invariant.linked;
 }

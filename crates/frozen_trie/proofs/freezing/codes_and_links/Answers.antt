@@ -2,7 +2,7 @@ use Rattle.std.proofs.Common.{◌++◌, [], ◌∷◌, length, sym, ap, subst, �
 use Rattle.std.proofs.lemmas.List.{length-append, length-map}
 use Rattle.nibble_map.specs.Lists.{IsRising}
 use Rattle.radix_trie.specs.Views.{pairs_below}
-use Rattle.frozen_trie.specs.Frozen.{codes_of}
+use Rattle.frozen_trie.specs.Frozen.{IsLinked, codes_of}
 use Rattle.frozen_trie.proofs.FrozenLemmas.Growth.{linked_none, rising_front}
 use Rattle.frozen_trie.proofs.FrozenLemmas.Whole.{count_whole}
 use Rattle.frozen_trie.proofs.freezing.codes_and_links.Goals as goal
@@ -57,6 +57,6 @@ loop-key-preserved g c =
 
 pub returns-clause-ok : goal.returns-clause-ok
 returns-clause-ok g c = record {
-  keyed = sym (append-nil c.loop-key.codes) ∙ ap (λ ps. c.loop-key.codes ++ codes_of g.K.TrieKey.encoding ps) (sym c.in-None.ensures.steps.0) ∙ c.loop-key.invariant.keyed;
-  linked = c.loop-key.invariant.linked;
+  keyed = c.in-Ok-with_tops.ensures ∙ sym (append-nil c.loop-key.codes) ∙ ap (λ ps. c.loop-key.codes ++ codes_of g.K.TrieKey.encoding ps) (sym c.in-None.ensures.steps.0) ∙ c.loop-key.invariant.keyed;
+  linked = subst (λ cs. IsLinked cs c.loop-key.up.items) (sym c.in-Ok-with_tops.ensures) c.loop-key.invariant.linked;
 }

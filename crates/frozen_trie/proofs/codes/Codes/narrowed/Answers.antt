@@ -7,14 +7,14 @@ use Rattle.frozen_trie.proofs.CodeLemmas.Heads.{as_many_heads, before_by_head, h
 use Rattle.frozen_trie.proofs.CodeLemmas.Order.{at_most}
 use Rattle.frozen_trie.proofs.codes.Codes.narrowed.Goals as goal
 
-pub count_below-requires : goal.count_below-requires
-count_below-requires c =
+pub count_below-requires-clause-rising : goal.count_below-requires-clause-rising
+count_below-requires-clause-rising c =
     let hs = c.self.inside.heads.items in
     let kept = subst (λ cs. IsHeaded cs hs) c.self.view_is c.self.invariant.headed in
     subst IsNonDecreasing (sym c.as_slice-heads.ensures.value) (IsNonDecreasingBy-from_default (λ n. n) hs 0 (heads_rise c.args.self.now hs kept c.requires))
 
-pub count_through-requires : goal.count_through-requires
-count_through-requires c =
+pub count_through-requires-clause-rising : goal.count_through-requires-clause-rising
+count_through-requires-clause-rising c =
     let hs = c.self.inside.heads.items in
     let kept = subst (λ cs. IsHeaded cs hs) c.self.view_is c.self.invariant.headed in
     subst IsNonDecreasing (sym c.as_slice-heads.ensures.value) (IsNonDecreasingBy-from_default (λ n. n) hs 0 (heads_rise c.args.self.now hs kept c.requires))

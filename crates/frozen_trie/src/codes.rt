@@ -37,7 +37,8 @@ impl Model for Codes {
 
     ghost view = { λ c. codes_in c.bytes.items 0 c.ends.items c.odd.items };
 
-    ghost invariant = { λ c. ArePacked c.bytes.items c.ends.items c.odd.items c.heads.items c.tops.items };
+    ghost invariant = { λ c.
+        ArePacked c.bytes.items c.ends.items c.odd.items c.heads.items c.tops.items };
 }
 
 impl Codes {
@@ -147,7 +148,8 @@ impl Codes {
         )
     }
 
-    /// The same bounds, for lists that come before another one or begin with it. They meet where that has at most 16 nibbles.
+    /// The same bounds, for lists that come before another one or begin with it. They are one where that has at most 16
+    /// nibbles.
     pub(crate) fn narrowed_within(&self, list: &Nibblet) -> (usize, usize)
         requires { IsRising self.now }
         ensures order { result.0 ≤ result.1 }

@@ -11,8 +11,8 @@ use crate::frozen::FrozenTrie;
 use radix_keys::{Memory, TrieKey};
 use radix_trie::{Trie, TrieCommon, keys_stand_at_their_encodings, split_part_goes_back};
 
-/// A frozen trie with the same encodings, each with a clone of its key and of its value, in linear time. The trie stays as it
-/// is.
+/// A frozen trie with the same encodings, each with a clone of its key and of its value, in linear time. The trie stays as
+/// it is.
 ///
 /// Clones of keys have to keep their encodings.
 ///

@@ -22,7 +22,7 @@ SAME_NAMES = {
         "Numbers": ("route_tool Numbers", "trie_tool Request"),
         "Request": ("route_tool Requests", "trie_tool Request"),
         "below_answer": ("route_tool Answers", "trie_tool Request"),
-        "is_space": ("trie_shell Requests", "trie_tool Request"),
+        "is_space": ("shell_words Words", "trie_tool Request"),
         "request_of": ("route_tool Commands", "trie_tool Request"),
         "row": ("route_tool Answers", "trie_tool Request"),
         "text": ("nibble_map Rows", "trie_tool Numbers"),
@@ -40,7 +40,7 @@ LABELS = {
     "radix_keys": "byte fits nibble some turned within",
     "radix_trie": "any_kind children computed first fragment key last pairs sound steps",
     "trie_set": "disjoint first last subset superset",
-    "trie_tool": "gone noted numbers old_number rows served text",
+    "trie_tool": "gone noted numbers old_number rows served",
     "route_tool": "added longest networks old_hop rows v4 v6",
 }
 
@@ -50,6 +50,7 @@ STANDS_FOR = {
     "least_routes": {"is_table": "Route::precedes", "least": "Plan::of"},
     "line_sessions": {"serve": "converse"},
     "topic_filters": {"matching": "gather"},
+    "frozen_trie": {"FrozenTrie::get_mut": "absent_as_none"},
     "radix_keys": {
         **{f"{kind}TrieKey::encode": "U32KeyInt::byte" for kind in ("U8", "U16", "U32", "U64", "Usize")},
         **{f"{kind}TrieKey::encode": "I16KeyInt::byte" for kind in ("I8", "I16", "I32", "I64", "Isize")},

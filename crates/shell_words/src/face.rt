@@ -1,4 +1,8 @@
 //! What keys of each type are written as.
+ghost use Rattle.std.specs.Prelude.{◌≡◌, ◌++◌, [], IsSome, IsTrue, OnErr, OnOk};
+ghost use Rattle.std.specs.Option.{option_map_or};
+ghost use Rattle.shell_words.specs.Faces.{face_text};
+ghost use Rattle.shell_words.specs.Texts.{escaped};
 
 use crate::answer::Answer;
 use crate::kind::{Kind, Width};
@@ -57,11 +61,11 @@ fn signed_list(number: i128, width: Width, alloc: Global) -> Result<Option<Nibbl
 }
 
 impl Face {
-    /// What a word writes, if it writes a value of the type, or an integer of another width.
+    /// What a word writes, if it writes a value of the type, or an integer of another width. Lists
+    /// and texts are no such types.
     pub fn read(kind: Kind, alloc: Global, word: &str) -> Result<Option<Face>, Memory> {
         Ok(match kind {
-            Kind::Nibbles => None,
-            Kind::Text => String::read(alloc, word)?.map(Face::Text),
+            Kind::Nibbles | Kind::Text => None,
             Kind::Bytes => Vec::<u8>::read(alloc, word)?.map(Face::Bytes),
             Kind::Bool => bool::read(alloc, word)?.map(Face::Bool),
             Kind::Char => char::read(alloc, word)?.map(Face::Char),
@@ -79,7 +83,6 @@ impl Face {
         match (self, kind) {
             (Face::Unsigned(number), Kind::Unsigned(width)) => unsigned_list(*number, width, alloc),
             (Face::Signed(number), Kind::Signed(width)) => signed_list(*number, width, alloc),
-            (Face::Text(text), _) => listed(alloc, Some(text)),
             (Face::Bytes(bytes), _) => listed(alloc, Some(bytes)),
             (Face::Bool(truth), _) => listed(alloc, Some(truth)),
             (Face::Char(character), _) => listed(alloc, Some(character)),
@@ -92,7 +95,11 @@ impl Face {
     }
 
     /// Adds what writes it, as part of a word.
-    pub fn write(&self, answer: &mut Answer<'_>) -> Result<(), Memory> {
+    pub fn write(&self, answer: &mut Answer<'_>) -> Result<(), Memory>
+        ensures text { OnOk result (IsSome (face_text self.now) → answer.new.bytes
+            ≡ answer.old.bytes ++ option_map_or escaped (face_text self.now) []) }
+        ensures lost { OnErr result (IsTrue answer.new.is_lost) }
+    {
         match self {
             Face::List => Ok(()),
             Face::Text(text) => answer.escaped(text.as_bytes()),

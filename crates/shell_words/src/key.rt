@@ -1,4 +1,8 @@
 //! Keys of all types in one: each is the list that its type encodes it as, and how it is written.
+ghost use Rattle.std.specs.Prelude.{◌≡◌, ◌++◌, ℕ, List, Some, IfOk, IsSome, IsTrue, OnErr, OnOk, option_map};
+ghost use Rattle.std.specs.Option.{option_and_then};
+ghost use Rattle.shell_words.specs.Answers.{gap, text_key, key_word};
+ghost use Rattle.shell_words.specs.Texts.{written_text};
 
 use crate::answer::Answer;
 use crate::face::Face;
@@ -10,7 +14,7 @@ use std::fmt;
 use std::marker::Model;
 
 /// A key: its encoding, and what it is written as. Keys with one encoding are one key, as those of
-/// one type are. A contract sees the encoding.
+/// one type are. A contract sees the encoding, and the text that the key is, if it is one.
 #[derive(Drop)]
 pub struct Key {
     list: Nibblet,
@@ -18,19 +22,44 @@ pub struct Key {
 }
 
 impl Model for Key {
-    ghost use Rattle.std.specs.Prelude.{ℕ, List};
+    ghost use Rattle.shell_words.specs.Answers.{Spelled};
 
-    ghost Value = { List ℕ };
+    ghost Value = { Spelled };
 
-    ghost view = { λ key. key.list };
+    ghost use Rattle.shell_words.specs.Faces.{face_text};
+
+    ghost view = { λ key. record { list = key.list; text = face_text key.face } };
 }
 
 impl Key {
     /// The key that a word writes, if it writes one of the type.
-    pub fn read(kind: Kind, alloc: Global, word: &str) -> Result<Option<Key>, Memory> {
-        if let Kind::Nibbles = kind {
-            return Ok(Nibblet::read(alloc, word)?.map(Key::of_list));
+    pub fn read(kind: Kind, alloc: Global, word: &str) -> Result<Option<Key>, Memory>
+        ensures { IfOk result
+            (λ key. kind ≡ Kind.Text → key ≡ option_map text_key (written_text word.now)) }
+    {
+        match kind {
+            Kind::Text => Key::read_text(alloc, word),
+            Kind::Nibbles => Ok(Nibblet::read(alloc, word)?.map(Key::of_list)),
+            _ => Key::read_face(kind, alloc, word),
         }
+    }
+
+    /// The text that a word writes, if it writes one.
+    fn read_text(alloc: Global, word: &str) -> Result<Option<Key>, Memory>
+        ensures { IfOk result (λ key. key ≡ option_map text_key (written_text word.now)) }
+    {
+        let Some(text) = String::read(alloc, word)? else {
+            return Ok(None);
+        };
+        let list = text.encode(alloc)?;
+        Ok(Some(Key {
+            list,
+            face: Face::Text(text),
+        }))
+    }
+
+    /// The key of another type that a word writes, if it writes one of it.
+    fn read_face(kind: Kind, alloc: Global, word: &str) -> Result<Option<Key>, Memory> {
         let Some(face) = Face::read(kind, alloc, word)? else {
             return Ok(None);
         };
@@ -41,7 +70,10 @@ impl Key {
     }
 
     /// What a word looks up: behind `\=` a list of nibbles, and else a key.
-    pub fn read_query(kind: Kind, alloc: Global, word: &str) -> Result<Option<Key>, Memory> {
+    pub fn read_query(kind: Kind, alloc: Global, word: &str) -> Result<Option<Key>, Memory>
+        ensures { IfOk result (λ query. (text : List ℕ) → kind ≡ Kind.Text
+            → written_text word.now ≡ Some text → query ≡ Some (text_key text)) }
+    {
         match word.strip_prefix("\\=") {
             Some("") => Ok(Some(Key::of_list(Nibblet::new(alloc)))),
             Some(digits) => Ok(Nibblet::read(alloc, digits)?.map(Key::of_list)),
@@ -63,7 +95,11 @@ impl Key {
     }
 
     /// Adds what writes the key, as part of a word.
-    pub fn write(&self, answer: &mut Answer<'_>) -> Result<(), Memory> {
+    pub fn write(&self, answer: &mut Answer<'_>) -> Result<(), Memory>
+        ensures text { OnOk result (IsSome self.now.text
+            → answer.new.bytes ≡ answer.old.bytes ++ key_word self.now) }
+        ensures lost { OnErr result (IsTrue answer.new.is_lost) }
+    {
         match &self.face {
             Face::List => answer.list(&self.list),
             face => face.write(answer),
@@ -93,11 +129,12 @@ impl Clone for Key {
 impl PartialEq for Key {
     ghost use Rattle.std.specs.Prelude.{nat_eq};
     ghost use Rattle.std.specs.Cmp.{partial_equiv_from_equiv};
-    ghost use Rattle.std.specs.Cmp.Lexicographic.{nat_list_eq_equiv, pointwise};
+    ghost use Rattle.std.specs.Cmp.Lexicographic.{on_texts_equal, pointwise};
+    ghost use Rattle.std.specs.Ordering.{on};
 
-    ghost eq = { pointwise nat_eq };
+    ghost eq = { on (λ key. key.list) (pointwise nat_eq) };
 
-    ghost laws = { partial_equiv_from_equiv nat_list_eq_equiv };
+    ghost laws = { partial_equiv_from_equiv (on_texts_equal (λ key. key.list)) };
 
     fn eq(&self, other: &Key) -> bool {
         self.list == other.list
@@ -105,22 +142,22 @@ impl PartialEq for Key {
 }
 
 impl Eq for Key {
-    ghost use Rattle.std.specs.Cmp.Lexicographic.{nat_list_eq_equiv};
+    ghost use Rattle.std.specs.Cmp.Lexicographic.{on_texts_equal};
 
-    ghost laws = { nat_list_eq_equiv };
+    ghost laws = { on_texts_equal (λ key. key.list) };
 }
 
 impl TrieKey for Key {
     ghost use Rattle.std.proofs.lemmas.Slice.Eq.{bytes_eq-Decides};
     ghost use Rattle.nibble_map.specs.Nibbles.{IsShort};
 
-    ghost encoding = { λ v. v };
+    ghost encoding = { λ v. v.list };
 
-    ghost is_light = { IsShort };
+    ghost is_light = { λ v. IsShort v.list };
 
     ghost is_value = { λ _. Unit {0} };
 
-    ghost distinct = { λ x y _ _ e. (bytes_eq-Decides x y).1 e };
+    ghost distinct = { λ x y _ _ e. (bytes_eq-Decides x.list y.list).1 e };
 
     ghost light_is_short = { λ _ h. h };
 

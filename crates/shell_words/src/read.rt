@@ -1,4 +1,6 @@
 //! What a word writes, where that isn't for the standard library to read.
+ghost use Rattle.std.specs.Prelude.{◌≡◌, ⊤, ℕ, List, Option, IfOk, option_map, string_bytes};
+ghost use Rattle.shell_words.specs.Texts.{written_text};
 
 use crate::words::{bytes_of, digit};
 use radix_keys::{Bits, Memory, Nibblet, Parts, PartsError};
@@ -6,11 +8,17 @@ use std::alloc::Global;
 
 /// What a word of a line may write.
 pub trait Read: Sized {
+    // Holds of a word and what it writes, or that it writes nothing.
+    ghost writes: { List ℕ → Option Self → Type 0 } = { λ _ _. ⊤ };
+
     /// What the word writes, if it writes such a thing.
-    fn read(alloc: Global, word: &str) -> Result<Option<Self>, Memory>;
+    fn read(alloc: Global, word: &str) -> Result<Option<Self>, Memory>
+        ensures { IfOk result (λ found. writes word.now found) };
 }
 
 impl Read for String {
+    ghost writes = { λ word found. option_map string_bytes found ≡ written_text word };
+
     fn read(alloc: Global, word: &str) -> Result<Option<String>, Memory> {
         match bytes_of(alloc, word)? {
             Some(bytes) => Ok(String::from_utf8(bytes).ok()),

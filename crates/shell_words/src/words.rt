@@ -1,6 +1,8 @@
 //! The words of a line, and the bytes that a word stands for.
-ghost use Rattle.std.specs.Prelude.{◌<◌, IfSome};
+ghost use Rattle.std.specs.Prelude.{◌≡◌, ◌-◌, IfOk, option_copied, option_map};
 ghost use Rattle.std.specs.Iterator.{at_most};
+ghost use Rattle.shell_words.specs.Texts.{behind_backslash, bytes_of, digit_of, first_byte};
+ghost use Rattle.shell_words.specs.Words.{text_after, word_at};
 
 use radix_keys::Memory;
 use std::alloc::Global;
@@ -8,39 +10,34 @@ use std::alloc::Global;
 /// A call's name, and the words behind it, each parted from the next by one space.
 #[derive(Clone, Copy)]
 pub struct Words<'a> {
-    name: &'a str,
-    text: &'a str,
-    left: usize,
+    /// The call's name.
+    pub name: &'a str,
+    /// The text from the next word on.
+    pub text: &'a str,
+    /// How many words are left.
+    pub left: usize,
 }
 
 impl<'a> Words<'a> {
-    /// The name, and so many words of the text, the first ones.
-    pub fn new(name: &'a str, text: &'a str, count: usize) -> Words<'a> {
+    /// The name alone.
+    pub fn named(name: &'a str) -> Words<'a>
+        ensures name { result.name.now ≡ name.now }
+        ensures none { result.left ≡ 0 }
+    {
         Words {
             name,
-            text,
-            left: count,
+            text: "",
+            left: 0,
         }
     }
 
     /// All words of the text, behind no name.
     pub fn of(text: &'a str) -> Words<'a> {
-        Words::new("", text, text.split(' ').count())
-    }
-
-    /// The call's name.
-    pub fn name(&self) -> &'a str {
-        self.name
-    }
-
-    /// The text from the next word on.
-    pub fn rest(&self) -> &'a str {
-        self.text
-    }
-
-    /// How many words are left.
-    pub fn left(&self) -> usize {
-        self.left
+        Words {
+            name: "",
+            text,
+            left: text.split(' ').count(),
+        }
     }
 }
 
@@ -48,6 +45,10 @@ impl<'a> Iterator for Words<'a> {
     type Item = &'a str;
 
     ghost remaining = { λ words. at_most words.left };
+
+    ghost next_gives = { λ words found after. (after.name.now ≡ words.name.now)
+        × (option_copied found ≡ word_at words.text.now words.left)
+        × (after.text.now ≡ text_after words.text.now words.left) × (after.left ≡ words.left - 1) };
 
     fn next(&mut self) -> Option<&'a str> {
         if self.left == 0 {
@@ -66,7 +67,7 @@ impl<'a> Iterator for Words<'a> {
 
 /// The value of a hexadecimal digit.
 pub fn digit(byte: u8) -> Option<u8>
-    ensures { IfSome result (λ value. value < 16) }
+    ensures { result ≡ digit_of byte }
 {
     match byte {
         b'0'..=b'9' => Some(byte - b'0'),
@@ -77,7 +78,9 @@ pub fn digit(byte: u8) -> Option<u8>
 }
 
 /// The byte that stands behind a backslash, and what comes after it.
-fn escaped(rest: &[u8]) -> Option<(u8, &[u8])> {
+fn escaped(rest: &[u8]) -> Option<(u8, &[u8])>
+    ensures { option_map (λ p. (p.0, p.1.now)) result ≡ behind_backslash rest.now }
+{
     match rest {
         [b's', after @ ..] => Some((b' ', after)),
         [b'\\', after @ ..] => Some((b'\\', after)),
@@ -89,7 +92,9 @@ fn escaped(rest: &[u8]) -> Option<(u8, &[u8])> {
 
 /// The first byte that the word stands for, and what comes after it. None where it stands for none,
 /// as at a quote.
-fn first_byte(word: &[u8]) -> Option<(u8, &[u8])> {
+fn first_byte(word: &[u8]) -> Option<(u8, &[u8])>
+    ensures { option_map (λ p. (p.0, p.1.now)) result ≡ first_byte word.now }
+{
     match word {
         [b'\\', rest @ ..] => escaped(rest),
         [b'"', ..] => None,
@@ -100,21 +105,27 @@ fn first_byte(word: &[u8]) -> Option<(u8, &[u8])> {
 
 /// The bytes that a word stands for: its own, but for `\s`, a space, `\\`, `\"` and `\xNN`, and for
 /// `""`, which stands for none. None where it stands for no bytes.
-pub fn bytes_of(alloc: Global, word: &str) -> Result<Option<Vec<u8>>, Memory> {
+pub fn bytes_of(alloc: Global, word: &str) -> Result<Option<Vec<u8>>, Memory>
+    ensures { IfOk result
+        (λ found. option_map (λ bytes. bytes.items) found ≡ bytes_of word.now) }
+{
     let mut bytes = Vec::new(alloc);
     if word == "\"\"" {
         return Ok(Some(bytes));
     }
+    if word.is_empty() {
+        return Ok(None);
+    }
     let mut rest = word.as_bytes();
-    for _ in 0..word.len() {
-        if rest.is_empty() {
-            break;
-        }
+    for _place in 0..word.len() {
         let Some((byte, after)) = first_byte(rest) else {
+            if rest.is_empty() {
+                return Ok(Some(bytes));
+            }
             return Ok(None);
         };
         bytes.push(byte)?;
         rest = after;
     }
-    Ok(if bytes.is_empty() { None } else { Some(bytes) })
+    Ok(Some(bytes))
 }

@@ -1,5 +1,5 @@
 -- What texts ask for, and lines that are none.
-use Rattle.std.proofs.Common.{◌≡◌, ℕ, List, Bool, true, false, refl, sym, ap, if◌then◌else◌, OnOk, Result, Ok, Err}
+use Rattle.std.proofs.Common.{◌≡◌, ℕ, List, Bool, true, false, refl, sym, ap, if◌then◌else◌, IfOk, OnOk, is_err, Result, Ok, Err}
 use Rattle.std.specs.Str.{is_utf8, IsUtf8}
 use Rattle.std.proofs.lemmas.Str.{is_utf8-from_IsUtf8, IsUtf8-from_is_utf8}
 use Rattle.trie_shell.specs.Requests.{is_call, is_text_request}
@@ -20,3 +20,16 @@ is_text_request-none line wrong =
 pub OnOk-then : {T E P Q : Type 0} (r : Result T E) → (P → Q) → OnOk r P → OnOk r Q
 OnOk-then (Ok value) f p = f p
 OnOk-then (Err error) f p = p
+
+-- what holds anyway
+pub OnOk-all : {T E P : Type 0} (r : Result T E) → P → OnOk r P
+OnOk-all (Ok value) p = p
+OnOk-all (Err error) p = tt {0}
+
+pub IfOk-then : {T E : Type 0} {P Q : T → Type 0} (r : Result T E) → ((value : T) → P value → Q value) → IfOk r P → IfOk r Q
+IfOk-then (Ok value) f p = f value p
+IfOk-then (Err error) f p = p
+
+pub OnOk-no_error : {T E P : Type 0} (r : Result T E) → is_err r ≡ false → OnOk r P → P
+OnOk-no_error (Ok value) none p = p
+OnOk-no_error (Err error) none p = absurd (let no : ⊥ = (let both : true ≡ false = none in cc) in no)

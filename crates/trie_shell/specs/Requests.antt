@@ -2,10 +2,8 @@
 use Rattle.std.specs.Prelude.{ℕ, Bool, true, false, ◌==◌, ◌&&◌, ◌||◌, nat_le, if◌then◌else◌, List, [], ◌∷◌, bytes_eq, count_by, drop, length, take}
 use Rattle.std.specs.List.{list_any, before_first}
 use Rattle.std.specs.Str.{is_utf8}
+use Rattle.shell_words.specs.Words.{is_space}
 use Rattle.trie_shell.specs.declared.help.TheConstants.{CALLS}
-
-abbrev pub is_space : ℕ → Bool
-is_space byte = byte == 32
 
 abbrev pub is_colon : ℕ → Bool
 is_colon byte = byte == 58

@@ -1,4 +1,6 @@
 //! Calls that are made once more where memory was refused for them.
+ghost use Rattle.std.specs.Prelude.{◌≡◌, ◌≢◌, ◌⊎◌, ⊤, IsTrue, OnErr, OnOk, codes, false};
+ghost use Rattle.shell_words.specs.Answers.{Answering, IsReturned};
 
 use crate::request::read_call;
 use radix_trie::Memory;
@@ -6,8 +8,21 @@ use shell_words::{Answer, Words};
 
 /// What makes calls: a view, or all of a session.
 pub trait Caller {
+    // What a call does: the caller and the answer before it, and both after it.
+    ghost makes: { Self → Answering → Self → Answering → Type 0 } = { λ _ _ _ _. ⊤ };
+
+    // What a refused call leaves, whose answer isn't lost.
+    ghost leaves: { Self → Answering → Self → Answering → Type 0 } = { λ _ _ _ _. ⊤ };
+
     /// Makes the call that the answer is to.
-    fn perform(&mut self, answer: &mut Answer<'_>) -> Result<(), Memory>;
+    fn perform(&mut self, answer: &mut Answer<'_>) -> Result<(), Memory>
+        ensures made { OnOk result (makes self.old answer.old self.new answer.new) }
+        ensures left { OnErr result (IsTrue answer.new.is_lost
+            ⊎ leaves self.old answer.old self.new answer.new) };
+
+    // A call that is made once more behind a refused one does what it would have done.
+    ghost again: { (s t u : Self) (a b c d : Answering) → leaves s a t b → IsReturned a b c
+        → makes t c u d → makes s a u d };
 
     /// Adds all that a refused call may not change.
     fn picture(&mut self, picture: &mut Answer<'_>) -> Result<(), Memory>;
@@ -15,7 +30,10 @@ pub trait Caller {
 
 /// Makes a call, which stands behind `light` where it is promised to take no memory. Where memory is
 /// refused for it, the same call is made once more.
-pub fn make<C: Caller>(caller: &mut C, answer: &mut Answer<'_>) -> Result<(), Memory> {
+pub fn make<C: Caller>(caller: &mut C, answer: &mut Answer<'_>) -> Result<(), Memory>
+    ensures { OnOk result (answer.old.is_watched ≡ false → answer.old.name ≢ codes "light"
+        → C.makes caller.old answer.old caller.new answer.new) }
+{
     if answer.name() != "light" {
         return make_twice(caller, false, answer);
     }
@@ -30,7 +48,10 @@ fn make_twice<C: Caller>(
     caller: &mut C,
     is_light: bool,
     answer: &mut Answer<'_>,
-) -> Result<(), Memory> {
+) -> Result<(), Memory>
+    ensures { OnOk result (answer.old.is_watched ≡ false
+        → C.makes caller.old answer.old caller.new answer.new) }
+{
     let (length, words) = (answer.len(), answer.words());
     let before = if answer.is_watched() {
         Some(picture_of(&mut *caller, &*answer)?)
@@ -47,7 +68,7 @@ fn make_twice<C: Caller>(
     if let Some(before) = before {
         let after = picture_of(&mut *caller, &*answer)?;
         let is_same = before.as_bytes() == after.as_bytes() && !answer.is_other();
-        answer.line(told(words.name(), is_light, is_same))?;
+        answer.line(told(words.name, is_light, is_same))?;
     }
     caller.perform(answer)
 }
@@ -65,7 +86,7 @@ fn told(name: &str, is_light: bool, is_same: bool) -> &'static str {
 
 /// All that a refused call may not change. Where memory is refused for it, it is made once more.
 fn picture_of<C: Caller>(caller: &mut C, answer: &Answer<'_>) -> Result<Answer<'static>, Memory> {
-    let none = Words::new("", "", 0);
+    let none = Words::named("");
     let mut picture = Answer::new(answer.alloc(), answer.kind(), none, false);
     if caller.picture(&mut picture).is_ok() {
         return Ok(picture);

@@ -1,5 +1,7 @@
 //! The calls, each with its answer. A function that answers a call says whether it is one of its
 //! calls, and is refused only where the library's call is: what the shell itself takes is tried twice.
+ghost use Rattle.std.specs.Prelude.{◌≡◌, ◌⊎◌, [], IfOk, IsFalse, IsTrue, OnErr};
+ghost use Rattle.trie_shell.specs.Answers.{DoesCall, IsReread, IsTold};
 
 pub mod common;
 pub mod edits;
@@ -17,17 +19,40 @@ pub mod trees;
 pub mod views;
 
 use crate::calls::common::answer_common;
-use crate::calls::edits::{answer_change, answer_edit, answer_store};
+use crate::calls::edits::{
+    answer_change, answer_edit, answer_get, answer_insert, answer_remove, answer_store,
+};
 use crate::calls::entries::answer_entry;
+use crate::calls::lines::walk_lines;
 use crate::calls::look_ups::{answer_keyed, answer_listed, answer_whole};
 use crate::calls::sweeps::answer_sweep;
 use crate::calls::topics::answer_typed;
 use crate::calls::trees::answer_tree;
-use radix_trie::{Memory, Trie};
-use shell_words::{Answer, Key, NOT_HERE};
+use radix_trie::{Memory, Trie, TrieCommon};
+use shell_words::{Answer, Key, Kind, NOT_HERE};
 
 /// A trie as a session has it.
 pub type Table = Trie<Key, u64>;
+
+/// A call of which a contract tells what a trie of texts answers. False: it is none of them.
+pub fn answer_told(trie: &mut Table, answer: &mut Answer<'_>) -> Result<bool, Memory>
+    ensures answered { IfOk result (λ is_told. IsTrue is_told → answer.old.kind ≡ Kind.Text
+        → DoesCall answer.old answer.new.bytes trie.old trie.new) }
+    ensures passed { IfOk result (λ is_told. IsFalse is_told → (IsTold answer.old.name → ⊥)
+        × (answer.new ≡ answer.old) × (trie.new ≡ trie.old)) }
+    ensures undone { OnErr result (IsTrue answer.new.is_lost
+        ⊎ ((trie.new ≡ trie.old) × IsReread answer.old answer.new)) }
+{
+    match answer.name() {
+        "get" => answer_get(trie, answer)?,
+        "insert" => answer_insert(trie, answer)?,
+        "remove" => answer_remove(trie, answer)?,
+        "len" => answer.count_line(trie.len())?,
+        "iter" => walk_lines(answer, trie.iter()?)?,
+        _ => return Ok(false),
+    }
+    Ok(true)
+}
 
 /// A call of a trie.
 pub fn answer_trie(trie: &mut Table, answer: &mut Answer<'_>) -> Result<(), Memory> {

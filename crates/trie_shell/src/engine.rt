@@ -1,9 +1,11 @@
 //! What a session answers to a line.
-ghost use Rattle.std.specs.Prelude.{◌≡◌, [], ◌∷◌, ◌++◌, IfErr, OnOk};
+ghost use Rattle.std.specs.FinMap as map;
+ghost use Rattle.std.specs.Prelude.{◌≡◌, [], ◌∷◌, ◌++◌, ℕ, List, Some, IfErr, OnOk};
 ghost use Rattle.std.specs.Process.{exit_status};
 ghost use Rattle.line_sessions.specs.Answers.{Begins};
 ghost use Rattle.line_sessions.specs.Sessions.{Ran};
-ghost use Rattle.trie_shell.specs.Sessions.{GivesUp, IsBad, IsNever, IsRemarkOf, Replies, RepliesToEach};
+ghost use Rattle.trie_shell.specs.Asked.{asked};
+ghost use Rattle.trie_shell.specs.Sessions.{GivesUp, IsBad, IsNever, IsRemarkOf, IsReplyTo, Replies, RepliesToEach};
 
 use crate::caller::{Caller, make};
 use crate::calls::files::answer_file;
@@ -22,7 +24,7 @@ use std::process::ExitCode;
 use std::rt::Files;
 
 /// The tries and the type of their keys, whether refusals are told, and the system's files. A contract
-/// sees nothing of it.
+/// sees the current trie, where its keys are texts, refusals aren't told, and no view is open.
 #[derive(Drop)]
 struct Shell<F: Files + AllocGlobal + Drop> {
     files: F,
@@ -31,9 +33,24 @@ struct Shell<F: Files + AllocGlobal + Drop> {
     is_watched: bool,
 }
 
+impl<F: Files + AllocGlobal + Drop> Model for Shell<F> {
+    ghost use Rattle.std.specs.Coded.{coded_option, coded_ℕ};
+    ghost use Rattle.nibble_map.specs.Maps.{pair_map_code};
+    ghost use Rattle.shell_words.specs.Answers.{spelled_code};
+    ghost use Rattle.trie_shell.specs.Sessions.{State, state_of};
+
+    ghost Value = { State };
+
+    ghost coded = { coded_option (pair_map_code spelled_code coded_ℕ) };
+
+    ghost view = { λ s. state_of s.kind s.is_watched s.tries };
+}
+
 impl<F: Files + AllocGlobal + Drop> Shell<F> {
     /// A shell with one trie of texts, which holds nothing.
-    fn new(files: F) -> Shell<F> {
+    fn new(files: F) -> Shell<F>
+        ensures { result ≡ Some map.empty }
+    {
         Shell {
             tries: Tries::new(files.alloc()),
             files,
@@ -56,6 +73,9 @@ impl<F: Files + AllocGlobal + Drop> Shell<F> {
     fn answer(&mut self, request: Request<'_>, answers: &mut Vec<u8>) -> Result<(), Refusal>
         ensures refused { IfErr result (λ why. why ≡ Refusal.Memory) }
         ensures kept { Begins answers.old.items answers.new.items }
+        ensures replied { OnOk result ((bytes : List ℕ)
+            × IsReplyTo (asked request.entry) self.old self.new bytes
+            × (answers.new.items ≡ answers.old.items ++ bytes)) }
     {
         let Request::Call(words) = request else {
             return Ok(());
@@ -64,12 +84,39 @@ impl<F: Files + AllocGlobal + Drop> Shell<F> {
         if make(self, &mut answer).is_err() {
             return Err(Refusal::Memory);
         }
-        add(answers, answer.as_bytes()).map_err(|_| Refusal::Memory)
+        if add(answers, answer.as_bytes()).is_err() {
+            return Err(Refusal::Memory);
+        }
+        Ok(())
     }
 }
 
 impl<F: Files + AllocGlobal + Drop> Caller for Shell<F> {
+    ghost use Rattle.trie_shell.specs.Answers.{Leaves, MakesText};
+    ghost use Rattle.trie_shell.specs.Again.{made_again};
+
+    ghost makes = { λ s a t b. MakesText s a t b.bytes };
+
+    ghost leaves = { Leaves };
+
     fn perform(&mut self, answer: &mut Answer<'_>) -> Result<(), Memory> {
+        if self.tries.answer_told(answer)? {
+            Ok(())
+        } else {
+            self.answer_other(answer)
+        }
+    }
+
+    fn picture(&mut self, picture: &mut Answer<'_>) -> Result<(), Memory> {
+        self.tries.picture(picture)
+    }
+
+    ghost again = { made_again };
+}
+
+impl<F: Files + AllocGlobal + Drop> Shell<F> {
+    /// A call of which no contract tells.
+    fn answer_other(&mut self, answer: &mut Answer<'_>) -> Result<(), Memory> {
         match answer.name() {
             "keys" if answer.left() > 0 => self.answer_type(answer),
             "watch" => {
@@ -81,10 +128,6 @@ impl<F: Files + AllocGlobal + Drop> Caller for Shell<F> {
             _ if answer_form(answer)? || answer_part(answer)? || answer_text(answer)? => Ok(()),
             _ => self.tries.answer(answer),
         }
-    }
-
-    fn picture(&mut self, picture: &mut Answer<'_>) -> Result<(), Memory> {
-        self.tries.picture(picture)
     }
 }
 
@@ -106,11 +149,16 @@ struct Strict<F: Files + AllocGlobal + Drop> {
 }
 
 impl<F: Files + AllocGlobal + Drop> Model for Strict<F> {
-    ghost use Rattle.std.specs.Prelude.{⊤};
+    ghost use Rattle.std.specs.Coded.{coded_option, coded_ℕ};
+    ghost use Rattle.nibble_map.specs.Maps.{pair_map_code};
+    ghost use Rattle.shell_words.specs.Answers.{spelled_code};
+    ghost use Rattle.trie_shell.specs.Sessions.{State};
 
-    ghost Value = { ⊤ };
+    ghost Value = { State };
 
-    ghost view = { λ _. tt };
+    ghost coded = { coded_option (pair_map_code spelled_code coded_ℕ) };
+
+    ghost view = { λ s. s.shell };
 }
 
 impl<F: Files + AllocGlobal + Drop> Program for Strict<F> {
@@ -141,11 +189,16 @@ struct Lenient<F: Files + AllocGlobal + Drop> {
 }
 
 impl<F: Files + AllocGlobal + Drop> Model for Lenient<F> {
-    ghost use Rattle.std.specs.Prelude.{⊤};
+    ghost use Rattle.std.specs.Coded.{coded_option, coded_ℕ};
+    ghost use Rattle.nibble_map.specs.Maps.{pair_map_code};
+    ghost use Rattle.shell_words.specs.Answers.{spelled_code};
+    ghost use Rattle.trie_shell.specs.Sessions.{State};
 
-    ghost Value = { ⊤ };
+    ghost Value = { State };
 
-    ghost view = { λ _. tt };
+    ghost coded = { coded_option (pair_map_code spelled_code coded_ℕ) };
+
+    ghost view = { λ s. s.shell };
 }
 
 impl<F: Files + AllocGlobal + Drop> Program for Lenient<F> {
@@ -191,7 +244,7 @@ pub fn answer_all<F: Files + AllocGlobal + Drop, R: Read, W: Write, E: Write>(
     errors: &mut WatchedWriter<E>,
 ) -> ExitCode
     ensures { Ran Replies IsBad GivesUp IsRemarkOf reader.old reader.new
-        writer.old writer.new errors.old errors.new tt (exit_status result) }
+        writer.old writer.new errors.old errors.new (Some map.empty) (exit_status result) }
 {
     let alloc = files.alloc();
     let strict = Strict {
@@ -208,7 +261,7 @@ pub fn answer_each<F: Files + AllocGlobal + Drop, R: Read, W: Write, E: Write>(
     errors: &mut WatchedWriter<E>,
 ) -> ExitCode
     ensures { Ran RepliesToEach IsNever GivesUp IsRemarkOf reader.old reader.new
-        writer.old writer.new errors.old errors.new tt (exit_status result) }
+        writer.old writer.new errors.old errors.new (Some map.empty) (exit_status result) }
 {
     let alloc = files.alloc();
     let lenient = Lenient {

@@ -1,7 +1,9 @@
 //! What a line asks for, by its first word and the count of those behind it.
-ghost use Rattle.std.specs.Prelude.{◌≡◌, drop, is_ok};
-ghost use Rattle.std.specs.List.{before_first, list_any};
-ghost use Rattle.trie_shell.specs.Requests.{begins_words, fits, has_count, is_call, is_colon, is_named, is_remark_line, is_request, is_space, is_text_request, least_words, most_words, words_behind};
+ghost use Rattle.std.specs.Prelude.{◌≡◌, Some, IfOk, drop, is_ok};
+ghost use Rattle.std.specs.List.{after_first, before_first, list_any};
+ghost use Rattle.trie_shell.specs.Asked.{asked, asked_by, asked_in};
+ghost use Rattle.shell_words.specs.Words.{is_space};
+ghost use Rattle.trie_shell.specs.Requests.{begins_words, fits, has_count, is_call, is_colon, is_named, is_remark_line, is_request, is_text_request, least_words, most_words, words_behind};
 ghost use Rattle.trie_shell.specs.Sessions.{IsRemark};
 
 use crate::help::CALLS;
@@ -132,11 +134,24 @@ impl Reason {
     }
 }
 
-/// A call and its words.
-fn words_of(text: &str) -> Words<'_> {
+/// The words behind the name.
+fn rest_of(text: &str) -> &str
+    ensures { result.now ≡ after_first is_space text.now }
+{
     match text.split_once(' ') {
-        Some((name, rest)) => Words::new(name, rest, count_of(text)),
-        None => Words::new(text, "", 0),
+        Some((_, rest)) => rest,
+        None => "",
+    }
+}
+
+/// A call and its words.
+fn words_of(text: &str) -> Words<'_>
+    ensures { asked (Request.Call result) ≡ Some (asked_by text.now) }
+{
+    Words {
+        name: name_of(text),
+        text: rest_of(text),
+        left: count_of(text),
     }
 }
 
@@ -152,7 +167,8 @@ fn reason_of(text: &str) -> Reason {
 
 /// What a text asks for, if it is no remark.
 fn call_request(text: &str) -> Result<Request<'_>, Reason>
-    ensures { is_ok result ≡ is_call text.now }
+    ensures is_call { is_ok result ≡ is_call text.now }
+    ensures asked { IfOk result (λ request. asked request ≡ Some (asked_by text.now)) }
 {
     if is_call(text) {
         Ok(Request::Call(words_of(text)))
@@ -164,7 +180,7 @@ fn call_request(text: &str) -> Result<Request<'_>, Reason>
 /// Goes on with the call that the words left ask for, as a line does. False: they ask for none, and
 /// the answer says why.
 pub fn read_call(answer: &mut Answer<'_>) -> Result<bool, Memory> {
-    let why = match call_request(answer.words().rest()) {
+    let why = match call_request(answer.words().text) {
         Ok(Request::Call(words)) => {
             answer.read_on(words);
             return Ok(true);
@@ -188,7 +204,8 @@ fn is_remark(line: &[u8]) -> bool
 
 /// What a line that is no remark asks for.
 fn text_request(line: &[u8]) -> Result<Request<'_>, Reason>
-    ensures { is_ok result ≡ is_text_request line.now }
+    ensures is_request { is_ok result ≡ is_text_request line.now }
+    ensures asked { IfOk result (λ request. asked request ≡ Some (asked_by line.now)) }
 {
     match str::from_utf8(line) {
         Ok(text) => call_request(text),
@@ -198,7 +215,8 @@ fn text_request(line: &[u8]) -> Result<Request<'_>, Reason>
 
 /// What a line asks for, or why it asks for nothing.
 pub fn request_of(line: &[u8]) -> Result<Request<'_>, Reason>
-    ensures { is_ok result ≡ is_request line.now }
+    ensures is_request { is_ok result ≡ is_request line.now }
+    ensures asked { IfOk result (λ request. asked request ≡ asked_in line.now) }
 {
     if is_remark(line) {
         Ok(Request::Remark)

@@ -1,14 +1,18 @@
 //! Tries by their names, and the views that are open in the current one.
+ghost use Rattle.std.specs.FinMap as map;
+ghost use Rattle.std.specs.Prelude.{◌≡◌, ◌⊎◌, IfOk, IsFalse, IsTrue, OnErr};
+ghost use Rattle.trie_shell.specs.Answers.{DoesCall, IsReread, IsTold};
 
 mod names;
 mod places;
 
 use crate::calls::views::{answer_in_view, answer_in_write_view, answer_with};
-use crate::calls::{Table, answer_trie};
+use crate::calls::{Table, answer_told, answer_trie};
 pub use places::IN_A_VIEW;
 use radix_trie::{Memory, Nibblet, Trie};
-use shell_words::Answer;
+use shell_words::{Answer, Kind};
 use std::alloc::Global;
+use std::marker::Model;
 
 /// A trie and its name; an empty one is that of the first trie.
 #[derive(Drop)]
@@ -24,7 +28,8 @@ struct Spot {
     is_for_writing: bool,
 }
 
-/// The tries. A view borrows its trie, so each line in it opens it anew at its path.
+/// The tries. A view borrows its trie, so each line in it opens it anew at its path. A contract sees
+/// the current trie, and how many views are open.
 #[derive(Drop)]
 pub struct Tries {
     alloc: Global,
@@ -33,9 +38,22 @@ pub struct Tries {
     spots: Vec<Spot>,
 }
 
+impl Model for Tries {
+    ghost use Rattle.trie_shell.specs.Answers.{Current, current_code};
+    ghost use Rattle.std.specs.Prelude.{length};
+
+    ghost Value = { Current };
+
+    ghost coded = { current_code };
+
+    ghost view = { λ t. record { table = t.current.trie; views = length t.spots.items } };
+}
+
 impl Tries {
     /// One trie, with no pair.
-    pub fn new(alloc: Global) -> Tries {
+    pub fn new(alloc: Global) -> Tries
+        ensures { result ≡ record { table = map.empty; views = 0 } }
+    {
         Tries {
             alloc,
             current: NamedTrie {
@@ -47,7 +65,25 @@ impl Tries {
         }
     }
 
-    /// Answers a call.
+    /// A call of which a contract tells what a trie of texts answers, where no view is open. False: it
+    /// is none of them, or a view is open.
+    pub fn answer_told(&mut self, answer: &mut Answer<'_>) -> Result<bool, Memory>
+        ensures views { self.new.views ≡ self.old.views }
+        ensures answered { IfOk result (λ is_told. IsTrue is_told → answer.old.kind ≡ Kind.Text
+            → DoesCall answer.old answer.new.bytes self.old.table self.new.table) }
+        ensures passed { IfOk result (λ is_told. IsFalse is_told → self.old.views ≡ 0
+            → IsTold answer.old.name → ⊥) }
+        ensures undone { OnErr result (IsTrue answer.new.is_lost
+            ⊎ ((self.new ≡ self.old) × IsReread answer.old answer.new)) }
+    {
+        if self.spots.is_empty() {
+            answer_told(&mut self.current.trie, answer)
+        } else {
+            Ok(false)
+        }
+    }
+
+    /// Answers another call.
     pub fn answer(&mut self, answer: &mut Answer<'_>) -> Result<(), Memory> {
         if self.answer_named(answer)? || self.answer_place(answer)? {
             return Ok(());

@@ -1,6 +1,6 @@
 //! Calls that tries and views have in common.
 
-use crate::calls::lines::{key_line, key_lines, pair_line, pair_lines, value_lines};
+use crate::calls::lines::{key_line, key_lines, pair_line, pair_lines, value_lines, walk_lines};
 use crate::calls::steps::step_lines;
 use radix_trie::{Memory, TrieCommon};
 use shell_words::{Answer, Key, NO_KEY};
@@ -19,7 +19,7 @@ pub fn answer_common<'a, T: TrieCommon<'a, Key, u64> + Drop>(
         "first_key_value" => pair_line(answer, of.first_key_value())?,
         "last_key_value" => pair_line(answer, of.last_key_value())?,
         "prefix" => answer.list_line(&of.prefix()?)?,
-        "iter" => pair_lines(answer, of.iter()?)?,
+        "iter" => walk_lines(answer, of.iter()?)?,
         "keys" if answer.left() == 0 => key_lines(answer, of.keys()?)?,
         "values" => value_lines(answer, of.values()?)?,
         "cursor" => step_lines(answer, of.cursor()?)?,

@@ -1,11 +1,14 @@
 //! Changes at a key.
+ghost use Rattle.std.specs.Prelude.{◌≡◌, ◌≢◌, ◌⊎◌, [], ◌++◌, IsTrue, OnErr, OnOk};
+ghost use Rattle.shell_words.specs.Answers.{gap, value_line};
+ghost use Rattle.trie_shell.specs.Answers.{TellsValue, StoresNumber, IsReread, TakesValue};
 
 use crate::calls::Table;
 use crate::calls::lines::{taken_line, taken_lines};
 use radix_trie::{
     FindError, InsertError, InsertWhy, Memory, SubTrieError, TrieEdit, TryInsertError, TryInsertWhy,
 };
-use shell_words::{Answer, Key, NO_KEY, NO_NUMBER, NONE};
+use shell_words::{Answer, Key, Kind, NO_KEY, NO_NUMBER, NONE};
 
 /// What is answered where an insertion that was refused hands another pair back.
 const OTHER: &'static str = "another pair came back";
@@ -35,7 +38,10 @@ pub fn refused_line(
     answer: &mut Answer<'_>,
     given: Given<'_>,
     error: InsertError<Key, u64>,
-) -> Result<(), Memory> {
+) -> Result<(), Memory>
+    ensures told { OnOk result (error.why ≢ InsertWhy.Memory) }
+    ensures undone { OnErr result ((answer.new ≡ answer.old) ⊎ IsTrue answer.new.is_lost) }
+{
     note_pair(answer, given, &error.key, error.value)?;
     match error.why {
         InsertWhy::Memory => Err(Memory),
@@ -69,7 +75,9 @@ pub fn note_pair(
     given: Given<'_>,
     key: &Key,
     value: u64,
-) -> Result<(), Memory> {
+) -> Result<(), Memory>
+    ensures { answer.new ≡ answer.old }
+{
     let read = match Key::read(answer.kind(), answer.alloc(), given.word) {
         Ok(read) => read,
         Err(_) => Key::read(answer.kind(), answer.alloc(), given.word)?,
@@ -88,8 +96,13 @@ pub fn answer_change<T: TrieEdit<Key, u64>>(
 ) -> Result<bool, Memory> {
     match answer.name() {
         "insert" => answer_insert(of, answer)?,
-        "get" | "remove" | "remove_prefix" => match answer.next_query()? {
-            Some(key) => answer_change_at(of, &key, answer)?,
+        "get" => answer_get(of, answer)?,
+        "remove" => answer_remove(of, answer)?,
+        "remove_prefix" => match answer.next_query()? {
+            Some(key) => match of.remove_prefix(&key) {
+                Ok(taken) => taken_lines(answer, taken.as_slice())?,
+                Err(error) => outside_line(answer, error)?,
+            },
             None => answer.refuse(NO_KEY)?,
         },
         "for_each_mut" => match other_and_number(answer)? {
@@ -114,41 +127,66 @@ pub fn answer_change<T: TrieEdit<Key, u64>>(
 }
 
 /// Stores the pair that the next words write. The answer is the old value.
-fn answer_insert<T: TrieEdit<Key, u64>>(of: &mut T, answer: &mut Answer<'_>) -> Result<(), Memory> {
+pub fn answer_insert<T: TrieEdit<Key, u64>>(
+    of: &mut T,
+    answer: &mut Answer<'_>,
+) -> Result<(), Memory>
+    ensures inserted { OnOk result (answer.old.kind ≡ Kind.Text → T.path of.old ≡ []
+        → StoresNumber answer.old answer.new.bytes (T.map of.old) (T.map of.new)) }
+    ensures undone { OnErr result (IsTrue answer.new.is_lost
+        ⊎ ((T.map of.new ≡ T.map of.old) × IsReread answer.old answer.new)) }
+{
     let word = answer.words().next().unwrap_or("");
     match (answer.next_key()?, answer.next_number()) {
-        (Some(key), Some(value)) => {
-            insert_line(answer, Given { word, value }, of.insert(key, value))
-        }
+        (Some(key), Some(value)) => match of.insert(key, value) {
+            Ok(old) => answer.value_line(old),
+            Err(error) => refused_line(answer, Given { word, value }, error),
+        },
         (Some(_), None) => answer.refuse(NO_NUMBER),
         (None, _) => answer.refuse(NO_KEY),
     }
 }
 
-/// A look-up or a removal at the key.
-fn answer_change_at<T: TrieEdit<Key, u64>>(
+/// Looks up what the next word writes. The answer is the value.
+pub fn answer_get<T: TrieEdit<Key, u64>>(of: &mut T, answer: &mut Answer<'_>) -> Result<(), Memory>
+    ensures got { OnOk result (answer.old.kind ≡ Kind.Text → T.path of.old ≡ []
+        → TellsValue answer.old answer.new.bytes (T.map of.old) (T.map of.new)) }
+    ensures undone { OnErr result (IsTrue answer.new.is_lost
+        ⊎ ((T.map of.new ≡ T.map of.old) × IsReread answer.old answer.new)) }
+{
+    let Some(key) = answer.next_query()? else {
+        return answer.refuse(NO_KEY);
+    };
+    match of.get(&key) {
+        Ok(value) => answer.value_line(value.copied()),
+        Err(error) => outside_line(answer, error),
+    }
+}
+
+/// Removes what the next word writes. The answer is the value.
+pub fn answer_remove<T: TrieEdit<Key, u64>>(
     of: &mut T,
-    key: &Key,
     answer: &mut Answer<'_>,
-) -> Result<(), Memory> {
-    match answer.name() {
-        "get" => match of.get(key) {
-            Ok(value) => answer.value_line(value.copied()),
-            Err(error) => outside_line(answer, error),
-        },
-        "remove" => match of.remove(key) {
-            Ok(value) => answer.value_line(value),
-            Err(error) => outside_line(answer, error),
-        },
-        _ => match of.remove_prefix(key) {
-            Ok(taken) => taken_lines(answer, taken.as_slice()),
-            Err(error) => outside_line(answer, error),
-        },
+) -> Result<(), Memory>
+    ensures removed { OnOk result (answer.old.kind ≡ Kind.Text → T.path of.old ≡ []
+        → TakesValue answer.old answer.new.bytes (T.map of.old) (T.map of.new)) }
+    ensures undone { OnErr result (IsTrue answer.new.is_lost
+        ⊎ ((T.map of.new ≡ T.map of.old) × IsReread answer.old answer.new)) }
+{
+    let Some(key) = answer.next_query()? else {
+        return answer.refuse(NO_KEY);
+    };
+    match of.remove(&key) {
+        Ok(value) => answer.value_line(value),
+        Err(error) => outside_line(answer, error),
     }
 }
 
 /// That the key is outside, or that memory was refused.
-pub fn outside_line(answer: &mut Answer<'_>, error: SubTrieError) -> Result<(), Memory> {
+pub fn outside_line(answer: &mut Answer<'_>, error: SubTrieError) -> Result<(), Memory>
+    ensures told { OnOk result (error ≡ SubTrieError.Outside) }
+    ensures undone { OnErr result ((answer.new ≡ answer.old) ⊎ IsTrue answer.new.is_lost) }
+{
     match error {
         SubTrieError::Outside => answer.refuse("outside"),
         SubTrieError::Memory => Err(Memory),

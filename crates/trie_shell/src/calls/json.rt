@@ -57,7 +57,7 @@ fn answer_error(answer: &mut Answer<'_>) -> Result<(), Memory> {
 /// Reads the object that the words write as a trie: its counts of pairs, nodes and nibbles, and the
 /// object that it is written as.
 fn answer_json(answer: &mut Answer<'_>) -> Result<(), Memory> {
-    let (alloc, text) = (answer.alloc(), answer.words().rest());
+    let (alloc, text) = (answer.alloc(), answer.words().text);
     let value = match value_of(alloc, text) {
         Ok(value) => value,
         Err(_) => value_of(alloc, text)?,

@@ -1,8 +1,12 @@
 //! Answers of several lines, and of what may be missing.
 ghost use Rattle.std.specs.Iterator.{IsFinite};
+ghost use Rattle.std.specs.Prelude.{◌≡◌, ◌++◌, [], IsTrue, OnErr, OnOk};
+ghost use Rattle.nibble_map.specs.Lists.{Each};
+ghost use Rattle.shell_words.specs.Answers.{gap};
+ghost use Rattle.trie_shell.specs.Answers.{IsTextPair, pair_lines};
 
 use crate::calls::Table;
-use radix_trie::iter::{Children, Keys, Values};
+use radix_trie::iter::{Children, Iter, Keys, Values};
 use radix_trie::{Memory, SubTrie, TrieCommon};
 use shell_words::{Answer, Key, NONE};
 
@@ -35,7 +39,24 @@ pub fn view_line(
     answer.value_line(TrieCommon::value(view).copied())
 }
 
-/// The pairs of a walk, or that there is none.
+/// The pairs of the walk of a trie or a view, or that there is none.
+pub fn walk_lines(answer: &mut Answer<'_>, walk: Iter<'_, Key, u64>) -> Result<(), Memory>
+    ensures text { OnOk result (gap answer.old.bytes ≡ [] → Each IsTextPair walk.entry
+        → answer.new.bytes ≡ answer.old.bytes ++ pair_lines walk.entry) }
+    ensures lost { OnErr result (IsTrue answer.new.is_lost) }
+{
+    let mut walk = walk;
+    let Some((key, value)) = walk.next() else {
+        return answer.value_line(None);
+    };
+    answer.pair_line(key, *value)?;
+    while let Some((key, value)) = walk.next() {
+        answer.pair_line(key, *value)?;
+    }
+    Ok(())
+}
+
+/// The pairs of another walk, or that there is none.
 pub fn pair_lines<'a, I: Iterator<Item = (&'a Key, &'a u64)> + Drop>(
     answer: &mut Answer<'_>,
     walk: I,

@@ -77,7 +77,7 @@ fn answer_pairs(trie: &mut Table, answer: &mut Answer<'_>) -> Result<(), Memory>
     let Some(pairs) = pairs else {
         return answer.refuse("no pairs");
     };
-    if words.name() == "from_iter" {
+    if words.name == "from_iter" {
         return match Trie::from_iter(answer.alloc(), pairs.into_iter()) {
             Ok(built) => {
                 *trie = built;

@@ -11,7 +11,7 @@ use topic_filters::{is_filter, is_topic, matching};
 /// Whether a list of parts is a filter, or a topic. False: the line asks for neither.
 pub fn answer_form(answer: &mut Answer<'_>) -> Result<bool, Memory> {
     let mut words = answer.words();
-    let of_filter = match (words.name(), words.next(), words.left()) {
+    let of_filter = match (words.name, words.next(), words.left) {
         ("parts", Some("is_filter"), 1) => true,
         ("parts", Some("is_topic"), 1) => false,
         _ => return Ok(false),

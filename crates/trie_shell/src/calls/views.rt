@@ -141,13 +141,15 @@ fn answer_through(
 }
 
 impl Caller for SubTrieMut<'_, Key, u64> {
+    ghost again = { λ _ _ _ _ _ _ _ _ _ _. tt };
+
     fn perform(&mut self, answer: &mut Answer<'_>) -> Result<(), Memory> {
         answer_through(self, answer)
     }
 
     fn picture(&mut self, picture: &mut Answer<'_>) -> Result<(), Memory> {
         for call in IN_A_VIEW {
-            picture.read_on(Words::new(*call, "", 0));
+            picture.read_on(Words::named(*call));
             answer_through(&mut *self, &mut *picture)?;
         }
         Ok(())
@@ -159,7 +161,7 @@ impl Caller for SubTrieMut<'_, Key, u64> {
 fn are_calls(answer: &mut Answer<'_>) -> Result<bool, Memory> {
     let words = answer.words();
     let mut is_taken = false;
-    for text in words.rest().split(" ; ") {
+    for text in words.text.split(" ; ") {
         if is_taken {
             answer.refuse(NOT_HERE)?;
             return Ok(false);
@@ -181,7 +183,7 @@ fn is_whole_call(answer: &mut Answer<'_>) -> Result<bool, Memory> {
         return Ok(false);
     }
     let words = answer.words();
-    if let "spend" | "into_trie" | "light" = words.name()
+    if let "spend" | "into_trie" | "light" = words.name
         && !read_call(answer)?
     {
         return Ok(false);
@@ -201,7 +203,7 @@ fn answer_calls(
     view: &mut SubTrieMut<'_, Key, u64>,
     answer: &mut Answer<'_>,
 ) -> Result<bool, Memory> {
-    for text in answer.words().rest().split(" ; ") {
+    for text in answer.words().text.split(" ; ") {
         answer.read_on(Words::of(text));
         if !read_call(answer)? {
             break;

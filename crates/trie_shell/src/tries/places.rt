@@ -82,13 +82,13 @@ impl Tries {
     /// of the open view.
     pub fn picture(&mut self, picture: &mut Answer<'_>) -> Result<(), Memory> {
         for call in ["iter", "len"] {
-            picture.read_on(Words::new(call, "", 0));
+            picture.read_on(Words::named(call));
             answer_common(&self.current.trie, &mut *picture)?;
         }
         footprint_line(&self.current.trie, &mut *picture)?;
         if let Some(spot) = self.spots.as_slice().last() {
             for call in IN_A_VIEW {
-                picture.read_on(Words::new(*call, "", 0));
+                picture.read_on(Words::named(*call));
                 answer_at(&mut self.current.trie, spot, &mut *picture)?;
             }
         }

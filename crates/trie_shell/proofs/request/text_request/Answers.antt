@@ -1,10 +1,16 @@
-use Rattle.std.proofs.Common.{◌∙◌, ap}
+use Rattle.std.proofs.Common.{◌≡◌, ◌∙◌, ap, subst, ℕ, List, Some, IfOk}
+use Rattle.trie_shell.specs.Asked.{asked, asked_by}
 use Rattle.trie_shell.specs.Requests.{is_call}
 use Rattle.trie_shell.proofs.RequestLemmas.{is_text_request-text, is_text_request-none}
 use Rattle.trie_shell.proofs.request.text_request.Goals as goal
 
-pub returns-in-Ok : goal.returns-in-Ok
-returns-in-Ok c = c.call_request.ensures ∙ ap is_call c.in-Ok.ensures.cases.0 ∙ is_text_request-text c.args.line.now c.in-Ok.ensures.cases.1
+pub returns-in-Ok-clause-is_request : goal.returns-in-Ok-clause-is_request
+returns-in-Ok-clause-is_request c = c.call_request.ensures.is_call ∙ ap is_call c.in-Ok.ensures.cases.0 ∙ is_text_request-text c.args.line.now c.in-Ok.ensures.cases.1
 
-pub returns-in-Err : goal.returns-in-Err
-returns-in-Err c = is_text_request-none c.args.line.now c.in-Err.ensures.cases.0
+pub returns-in-Ok-clause-asked : goal.returns-in-Ok-clause-asked
+returns-in-Ok-clause-asked c =
+    let Asks : List ℕ → Type 0 = λ text. IfOk c.call_request.result (λ request. asked request ≡ Some (asked_by text)) in
+    subst Asks c.in-Ok.ensures.cases.0 c.call_request.ensures.asked
+
+pub returns-in-Err-clause-is_request : goal.returns-in-Err-clause-is_request
+returns-in-Err-clause-is_request c = is_text_request-none c.args.line.now c.in-Err.ensures.cases.0

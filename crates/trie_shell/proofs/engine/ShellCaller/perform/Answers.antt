@@ -1,0 +1,13 @@
+use Rattle.std.proofs.Common.{subst}
+use Rattle.trie_shell.specs.Answers.{MakesText}
+use Rattle.trie_shell.specs.Sessions.{State, state_of}
+use Rattle.trie_shell.proofs.SessionLemmas.{made}
+use Rattle.trie_shell.proofs.engine.ShellCaller.perform.Goals as goal
+
+pub returns-then-branch-clause-made : goal.returns-then-branch-clause-made
+returns-then-branch-clause-made g c =
+    let shell = c.self.inside in
+    let a = c.args.answer.now in
+    let bytes = c.answer_told.new.answer.bytes in
+    let From : State → Type 0 = λ s. MakesText s a (state_of shell.kind shell.is_watched c.answer_told.new.self) bytes in
+    subst From c.self.view_is (made shell.kind shell.is_watched shell.tries c.answer_told.new.self a bytes c.answer_told.ensures.views (c.in_ok-answer_told.ensures.answered c.if-branch.true))

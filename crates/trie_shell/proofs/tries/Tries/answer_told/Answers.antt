@@ -1,0 +1,6 @@
+use Rattle.trie_shell.proofs.RequestLemmas.{IfOk-then}
+use Rattle.trie_shell.proofs.tries.Tries.answer_told.Goals as goal
+
+pub returns-then-is_empty-clause-passed : goal.returns-then-is_empty-clause-passed
+returns-then-is_empty-clause-passed c =
+    IfOk-then c.answer_told.result (λ is_told passed other none. (passed other).0) c.answer_told.ensures.passed

@@ -4,6 +4,7 @@ ghost use Rattle.std.specs.Cmp.{partial_equiv_from_equiv};
 ghost use Rattle.std.specs.Cmp.Lexicographic.{pointwise, nat_list_eq_equiv};
 ghost use Rattle.nibble_map.specs.Nibbles.{nibbles, IsShort};
 ghost use Rattle.nibble_map.specs.Turned.{turned};
+ghost use Rattle.radix_keys.specs.Packing.{IsPadded, unpacked};
 ghost use Rattle.smallvec.specs.SmallVec.{HasRoomFor};
 
 use smallvec::SmallVec;
@@ -149,6 +150,14 @@ impl NibbleVec {
     {
         let byte = self.bytes.as_slice()[i / 2];
         if i % 2 == 0 { byte / 16 } else { byte % 16 }
+    }
+
+    /// The bytes that hold the nibbles, and whether their count is odd. The low half of the last byte is zero then.
+    pub fn as_packed(&self) -> (&[u8], bool)
+        ensures nibbles { unpacked result.0.now result.1 ≡ self.now }
+        ensures padded { IsPadded result.0.now result.1 }
+    {
+        (self.bytes.as_slice(), self.is_odd)
     }
 
     /// The nibbles at `i` and after it, as one byte.

@@ -6,8 +6,8 @@ ghost use Rattle.frozen_trie.specs.Codes.{code_at, is_before, is_until};
 ghost use Rattle.frozen_trie.specs.Laid.{codes_in, piece_of, start_of, IsLaid};
 
 use crate::heads::{count_below, count_through, head_of, tops_of};
-use crate::pieces::{agreement, compare, count};
-use radix_keys::{Memory, Nibblet};
+use crate::packed::Packed;
+use radix_keys::Memory;
 use std::alloc::Global;
 use std::marker::Model;
 
@@ -62,12 +62,11 @@ impl Codes {
         self.ends.len()
     }
 
-    /// The list at an index, packed, and whether its count is odd.
-    fn piece(&self, at: usize) -> (&[u8], bool)
+    /// The list at an index.
+    fn piece(&self, at: usize) -> Packed<'_>
         requires { at < length self.now }
-        ensures code { unpacked result.0.now result.1 ≡ code_at self.now at }
-        ensures padded { IsPadded result.0.now result.1 }
-        ensures few { length result.0.now < 2 ^ 32 }
+        ensures code { result ≡ code_at self.now at }
+        ensures few { length result < 2 ^ 33 }
     {
         piece_in(&self.bytes, &self.ends, &self.odd, at)
     }
@@ -77,68 +76,62 @@ impl Codes {
         requires { at < length self.now }
         ensures { result ≡ length (code_at self.now at) }
     {
-        let (bytes, is_odd) = self.piece(at);
-        count(bytes, is_odd)
+        self.piece(at).len()
     }
 
     /// How many nibbles the list at an index and another one agree in, from their first on.
-    pub(crate) fn agreement(&self, at: usize, list: &Nibblet) -> usize
+    pub(crate) fn agreement(&self, at: usize, list: Packed<'_>) -> usize
         requires { at < length self.now }
         ensures within { result ≤ length (code_at self.now at) }
-        ensures inside { result ≤ length list.now }
-        ensures same { take result (code_at self.now at) ≡ take result list.now }
-        ensures apart { result < length (code_at self.now at) → result < length list.now
-            → slice_index (code_at self.now at) result ≢ slice_index list.now result }
+        ensures inside { result ≤ length list }
+        ensures same { take result (code_at self.now at) ≡ take result list }
+        ensures apart { result < length (code_at self.now at) → result < length list
+            → slice_index (code_at self.now at) result ≢ slice_index list result }
     {
-        let (bytes, is_odd) = self.piece(at);
-        agreement(bytes, is_odd, list)
+        self.piece(at).agreement(list)
     }
 
     /// Whether the list at an index comes before another one.
-    pub(crate) fn precedes(&self, at: usize, list: &Nibblet) -> bool
+    pub(crate) fn precedes(&self, at: usize, list: Packed<'_>) -> bool
         requires { at < length self.now }
-        ensures { result ≡ is_before (code_at self.now at) list.now }
+        ensures { result ≡ is_before (code_at self.now at) list }
     {
-        let (bytes, is_odd) = self.piece(at);
-        compare(bytes, is_odd, list).is_lt()
+        self.piece(at).compare(list).is_lt()
     }
 
     /// Whether the list at an index begins with another one.
-    pub(crate) fn begins(&self, at: usize, list: &Nibblet) -> bool
+    pub(crate) fn begins(&self, at: usize, list: Packed<'_>) -> bool
         requires { at < length self.now }
-        ensures { result ≡ is_prefix list.now (code_at self.now at) }
+        ensures { result ≡ is_prefix list (code_at self.now at) }
     {
-        self.agreement(at, list) == list.len()
+        !list.has(self.agreement(at, list))
     }
 
     /// Whether the list at an index is another one.
-    pub(crate) fn equals(&self, at: usize, list: &Nibblet) -> bool
+    pub(crate) fn equals(&self, at: usize, list: Packed<'_>) -> bool
         requires { at < length self.now }
-        ensures { IsTrue result ↔ (code_at self.now at ≡ list.now) }
+        ensures { IsTrue result ↔ (code_at self.now at ≡ list) }
     {
-        if self.len_at(at) != list.len() {
-            return false;
-        }
-        self.begins(at, list)
+        self.piece(at).equals(list)
     }
 
     /// Whether the list at an index comes before another one or begins with it.
-    pub(crate) fn is_within(&self, at: usize, list: &Nibblet) -> bool
+    pub(crate) fn is_within(&self, at: usize, list: Packed<'_>) -> bool
         requires { at < length self.now }
-        ensures { result ≡ is_until (code_at self.now at) list.now }
+        ensures { result ≡ is_until (code_at self.now at) list }
     {
         self.precedes(at, list) || self.begins(at, list)
     }
 
     /// Bounds for a search in rising lists: those in front of the first come before another list, and those from the second
     /// on don't. Between them stand only lists with the first nibbles of the other one.
-    pub(crate) fn narrowed(&self, list: &Nibblet) -> (usize, usize)
+    pub(crate) fn narrowed(&self, list: Packed<'_>) -> (usize, usize)
         requires { IsRising self.now }
         ensures order { result.0 ≤ result.1 }
         ensures within { result.1 ≤ length self.now }
-        ensures before { (k : ℕ) → k < result.0 → is_before (code_at self.now k) list.now ≡ true }
+        ensures before { (k : ℕ) → k < result.0 → is_before (code_at self.now k) list ≡ true }
         ensures others { (k : ℕ) → result.1 ≤ k → k < length self.now
-            → is_before (code_at self.now k) list.now ≡ false }
+            → is_before (code_at self.now k) list ≡ false }
     {
         let head = head_of(list, 0);
         let heads = self.heads.as_slice();
@@ -150,17 +143,17 @@ impl Codes {
 
     /// The same bounds, for lists that come before another one or begin with it. They are one where that has at most 16
     /// nibbles.
-    pub(crate) fn narrowed_within(&self, list: &Nibblet) -> (usize, usize)
+    pub(crate) fn narrowed_within(&self, list: Packed<'_>) -> (usize, usize)
         requires { IsRising self.now }
         ensures order { result.0 ≤ result.1 }
         ensures within { result.1 ≤ length self.now }
-        ensures before { (k : ℕ) → k < result.0 → is_until (code_at self.now k) list.now ≡ true }
+        ensures before { (k : ℕ) → k < result.0 → is_until (code_at self.now k) list ≡ true }
         ensures others { (k : ℕ) → result.1 ≤ k → k < length self.now
-            → is_until (code_at self.now k) list.now ≡ false }
+            → is_until (code_at self.now k) list ≡ false }
     {
         let heads = self.heads.as_slice();
         let to = count_through(heads, &self.tops, head_of(list, 15));
-        if list.len() <= 16 {
+        if !list.has(16) {
             return (to, to);
         }
         (count_below(heads, &self.tops, head_of(list, 0)).min(to), to)
@@ -200,8 +193,8 @@ impl Codes {
     /// # Errors
     ///
     /// Memory is refused, or the bytes would be 2^32 or more. The lists are dropped then.
-    pub(crate) fn push(self, list: &Nibblet) -> Result<Codes, Memory>
-        ensures { IfOk result (λ codes. codes ≡ self ++ list.now ∷ []) }
+    pub(crate) fn push(self, list: Packed<'_>) -> Result<Codes, Memory>
+        ensures { IfOk result (λ codes. codes ≡ self ++ list ∷ []) }
     {
         let Codes {
             mut bytes,
@@ -210,7 +203,8 @@ impl Codes {
             mut heads,
             mut tops,
         } = self;
-        let is_odd = push_packed(&mut bytes, list)?;
+        let (more, is_odd) = list.parts();
+        bytes.extend_from_slice(more)?;
         let Ok(end) = u32::try_from(bytes.as_slice().len()) else {
             return Err(Memory);
         };
@@ -228,27 +222,6 @@ impl Codes {
     }
 }
 
-/// Appends the nibbles of a list, two to a byte, and returns whether their count is odd. The low half of the last byte is
-/// zero then.
-fn push_packed(bytes: &mut Vec<u8>, list: &Nibblet) -> Result<bool, Memory>
-    ensures kept { OnOk result
-        (take (length bytes.old.items) bytes.new.items ≡ bytes.old.items) }
-    ensures packed { IfOk result (λ is_odd.
-        unpacked (drop (length bytes.old.items) bytes.new.items) is_odd ≡ list.now) }
-    ensures padded { IfOk result (λ is_odd.
-        IsPadded (drop (length bytes.old.items) bytes.new.items) is_odd) }
-{
-    let whole = list.len() / 2;
-    for pair in 0..whole {
-        bytes.push(list.get(2 * pair) * 16 + list.get(2 * pair + 1))?;
-    }
-    if list.len() == 2 * whole {
-        return Ok(false);
-    }
-    bytes.push(list.get(2 * whole) * 16)?;
-    Ok(true)
-}
-
 /// Where a list begins.
 fn start(ends: &[u32], at: usize) -> usize
     requires { at < length ends.now }
@@ -257,18 +230,16 @@ fn start(ends: &[u32], at: usize) -> usize
     if at == 0 { 0 } else { ends[at - 1] as usize }
 }
 
-/// A list, packed, and whether its count is odd.
-fn piece_in<'a>(bytes: &'a [u8], ends: &[u32], odd: &[bool], at: usize) -> (&'a [u8], bool)
+/// The list at an index.
+fn piece_in<'a>(bytes: &'a [u8], ends: &[u32], odd: &[bool], at: usize) -> Packed<'a>
     requires laid { IsLaid bytes.now 0 ends.now odd.now }
     requires within { at < length ends.now }
-    ensures code { unpacked result.0.now result.1
-        ≡ slice_index_or (codes_in bytes.now 0 ends.now odd.now) at [] }
-    ensures padded { IsPadded result.0.now result.1 }
-    ensures few { length result.0.now < 2 ^ 32 }
+    ensures code { result ≡ slice_index_or (codes_in bytes.now 0 ends.now odd.now) at [] }
+    ensures few { length result < 2 ^ 33 }
 {
     let from = start(ends, at);
     let to = ends[at] as usize;
-    (part(bytes, from, to), odd[at])
+    Packed::new(part(bytes, from, to), odd[at])
 }
 
 /// The bytes from one place up to another.

@@ -7,6 +7,7 @@ ghost use Rattle.frozen_trie.specs.Frozen.{IsFrozen};
 use crate::build::push_linked;
 use crate::codes::Codes;
 use crate::frozen::FrozenTrie;
+use crate::packed::Packed;
 use radix_keys::TrieKey;
 use radix_trie::{Trie, TrieCommon, keys_stand_at_their_encodings, split_part_goes_back};
 
@@ -79,7 +80,7 @@ pub(crate) fn codes_and_links<K: TrieKey, V>(
         let Ok(list) = key.encode(alloc) else {
             return Err(FreezeWhy::Memory);
         };
-        let Ok(more) = push_linked(codes, &mut up, &list) else {
+        let Ok(more) = push_linked(codes, &mut up, Packed::of(&list)) else {
             return Err(FreezeWhy::Memory);
         };
         codes = more;

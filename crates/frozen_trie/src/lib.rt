@@ -7,7 +7,7 @@ mod copies;
 mod freezing;
 mod frozen;
 mod heads;
-mod pieces;
+mod packed;
 mod prefixes;
 mod search;
 mod slices;

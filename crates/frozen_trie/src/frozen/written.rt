@@ -7,6 +7,7 @@ ghost use Rattle.radix_trie.specs.Lends.{absent_as_none};
 ghost use Rattle.frozen_trie.specs.Lends.{lends_second, lends_stored, lends_stored_found, lends_stored_if_ok};
 
 use crate::frozen::FrozenTrie;
+use crate::packed::Packed;
 use crate::search::index_of;
 use radix_keys::{Memory, Nibblet, TrieKey};
 use radix_trie::FindError;
@@ -18,7 +19,7 @@ impl<K: TrieKey, V> FrozenTrie<K, V> {
             (lends_stored K.row V.row K.TrieKey.own K.PartialEq.own self.entry list.now result) }
         ensures value { option_copied_mut result ≡ value_at self.old list.now }
     {
-        match index_of(&self.codes, list) {
+        match index_of(&self.codes, Packed::of(list)) {
             Some(at) => Some(second(&mut self.pairs[at])),
             None => None,
         }

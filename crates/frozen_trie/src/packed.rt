@@ -1,0 +1,145 @@
+//! Lists of nibbles, two to a byte, that are borrowed.
+ghost use Rattle.std.specs.Prelude.{◌≡◌, ◌≢◌, ◌↔◌, ◌<◌, ◌≤◌, ◌^◌, IsTrue, length, slice_index, take};
+ghost use Rattle.std.specs.Cmp.Lexicographic.{slice_cmp};
+ghost use Rattle.std.specs.Ordering.{nat_cmp};
+ghost use Rattle.nibble_map.specs.Nibbles.{nibbles};
+ghost use Rattle.radix_keys.specs.Packing.{IsPadded, unpacked};
+
+use radix_keys::Nibblet;
+use std::cmp::Ordering;
+use std::marker::Model;
+
+/// A list of nibbles in whole bytes, the first of two in the high half of theirs. Where the count is odd, the low half of the
+/// last byte is zero. A contract sees the list.
+#[derive(Clone, Copy)]
+pub(crate) struct Packed<'a> {
+    bytes: &'a [u8],
+    is_odd: bool,
+}
+
+impl<'a> Model for Packed<'a> {
+    ghost use Rattle.std.specs.Prelude.{ℕ, List};
+    ghost use Rattle.radix_keys.specs.Packing.{IsPadded, unpacked};
+
+    ghost Value = { List ℕ };
+
+    ghost view = { λ p. unpacked p.bytes.now p.is_odd };
+
+    ghost invariant = { λ p. IsPadded p.bytes.now p.is_odd };
+}
+
+impl<'a> Packed<'a> {
+    /// The list that these bytes hold.
+    pub(crate) fn new(bytes: &'a [u8], is_odd: bool) -> Packed<'a>
+        requires { IsPadded bytes.now is_odd }
+        ensures { result ≡ unpacked bytes.now is_odd }
+    {
+        Packed { bytes, is_odd }
+    }
+
+    /// A list of nibbles.
+    pub(crate) fn of(list: &'a Nibblet) -> Packed<'a>
+        ensures { result ≡ list.now }
+    {
+        let (bytes, is_odd) = list.as_packed();
+        Packed { bytes, is_odd }
+    }
+
+    /// The nibbles of bytes.
+    pub(crate) fn of_bytes(bytes: &'a [u8]) -> Packed<'a>
+        ensures { result ≡ nibbles bytes.now }
+    {
+        Packed {
+            bytes,
+            is_odd: false,
+        }
+    }
+
+    /// The bytes, and whether the count of nibbles is odd.
+    pub(crate) fn parts(self) -> (&'a [u8], bool)
+        ensures nibbles { unpacked result.0.now result.1 ≡ self }
+        ensures padded { IsPadded result.0.now result.1 }
+    {
+        (self.bytes, self.is_odd)
+    }
+
+    /// The count of nibbles.
+    pub(crate) fn len(self) -> usize
+        requires few { length self < 2 ^ 33 }
+        ensures { result ≡ length self }
+    {
+        let halves = self.bytes.len() * 2;
+        if self.is_odd { halves - 1 } else { halves }
+    }
+
+    /// Whether there is a nibble at an index.
+    pub(crate) fn has(self, i: usize) -> bool
+        ensures { IsTrue result ↔ (i < length self) }
+    {
+        let half = if self.is_odd { i.div_ceil(2) } else { i / 2 };
+        half < self.bytes.len()
+    }
+
+    /// The nibble at an index.
+    pub(crate) fn get(self, i: usize) -> u8
+        requires { i < length self }
+        ensures value { result ≡ slice_index self i }
+        ensures nibble { result < 16 }
+    {
+        let byte = self.bytes[i / 2];
+        if i % 2 == 0 { byte / 16 } else { byte % 16 }
+    }
+
+    /// How many nibbles agree with those of another list, from the first on.
+    pub(crate) fn agreement(self, other: Packed<'_>) -> usize
+        requires few { length self < 2 ^ 33 }
+        ensures within { result ≤ length self }
+        ensures inside { result ≤ length other }
+        ensures same { take result self ≡ take result other }
+        ensures apart { result < length self → result < length other
+            → slice_index self result ≢ slice_index other result }
+    {
+        let most = self.bytes.len().min(other.bytes.len());
+        for i in 0..most {
+            let byte = self.bytes[i];
+            if byte != other.bytes[i] {
+                return if byte / 16 == other.bytes[i] / 16 {
+                    2 * i + 1
+                } else {
+                    2 * i
+                };
+            }
+        }
+        if most == 0 || self.has(2 * most - 1) && other.has(2 * most - 1) {
+            2 * most
+        } else {
+            2 * most - 1
+        }
+    }
+
+    /// The order of the two lists: the first nibble in which they differ decides, and a prefix comes first.
+    pub(crate) fn compare(self, other: Packed<'_>) -> Ordering
+        requires few { length self < 2 ^ 33 }
+        ensures { result ≡ slice_cmp nat_cmp self other }
+    {
+        let same = self.agreement(other);
+        if !other.has(same) {
+            return if self.has(same) {
+                Ordering::Greater
+            } else {
+                Ordering::Equal
+            };
+        }
+        if !self.has(same) {
+            return Ordering::Less;
+        }
+        self.get(same).cmp(&other.get(same))
+    }
+
+    /// Whether the two are one list.
+    pub(crate) fn equals(self, other: Packed<'_>) -> bool
+        ensures { IsTrue result ↔ (self ≡ other) }
+    {
+        self.is_odd == other.is_odd && self.bytes == other.bytes
+    }
+}

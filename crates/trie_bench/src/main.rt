@@ -1,4 +1,4 @@
-//! Times the calls of a trie and those of a `BTreeMap` on the same made keys. A line of standard input names the kind of
+//! Times the calls of a trie, of its frozen form and of a `BTreeMap` on the same made keys. A line of standard input names the kind of
 //! keys and how many, as `words 10000`, and is answered by a row for each call; a third word holds a store in memory.
 #![tactic(auto)]
 

@@ -30,5 +30,6 @@ pub fn answer<R: Print + Clock + AllocGlobal>(rt: &R, line: &str, count: u32) ->
             None => 0,
         }
     });
-    page.print_beside(rt, line, &walk)
+    page.print(rt, line, "page")?;
+    walk.print_beside(rt, line, "walk", &page)
 }

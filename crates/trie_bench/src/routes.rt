@@ -49,7 +49,8 @@ pub fn answer<R: Print + Clock + AllocGlobal>(rt: &R, line: &str, count: u32) ->
         let key = first_bits(network.address, network.bits);
         map.insert(key, network.hop)?.unwrap_or(0) as u64
     });
-    by_trie.print_beside(rt, line, &by_map)?;
+    by_trie.print(rt, line, "trie")?;
+    by_map.print_beside(rt, line, "map", &by_trie)?;
     let addresses = addresses(alloc, networks.as_slice())?;
     let by_trie = timed!(rt, "look", &addresses, |address| {
         let bits = Bits::first_of_u32(alloc, *address, 32)?;
@@ -60,7 +61,8 @@ pub fn answer<R: Print + Clock + AllocGlobal>(rt: &R, line: &str, count: u32) ->
         let hop = lengths.find_map(|bits| map.get(&first_bits(*address, bits)));
         hop.copied().unwrap_or(0) as u64
     });
-    by_trie.print_beside(rt, line, &by_map)
+    by_trie.print(rt, line, "trie")?;
+    by_map.print_beside(rt, line, "map", &by_trie)
 }
 
 /// So many networks, of which every second one has the most bits.

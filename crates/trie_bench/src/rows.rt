@@ -1,12 +1,14 @@
-//! The rows of a sample: each call of a trie and of a map of the same keys.
+//! The rows of a sample: each call of a trie, of its frozen form and of a map of the same keys.
 
 use crate::keys::{Beginning, Stored};
 use crate::sample::{Query, generator};
-use crate::timed::{Times, timed};
+use crate::timed::{Times, print_rows, timed};
 use anyhow::{Result, bail, ensure};
+use frozen_trie::{FrozenTrie, freeze};
 use radix_trie::{Trie, TrieCommon, TrieKey};
 use rand::seq::SliceRandom;
 use std::collections::BTreeMap;
+use std::mem::drop;
 use std::rt::Clock;
 use std::time::Instant;
 
@@ -28,9 +30,10 @@ pub fn answer<R: Print + Clock + AllocGlobal, K: Stored, L: TrieKey, B: Beginnin
 ) -> Result<()> {
     let stores = HELD.checked_div(queries.len()).unwrap_or(0).max(1);
     let pairs = match held {
-        None => return print_rows(rt, line, queries),
+        None => return print_times(rt, line, queries),
         Some("keys") => 0,
         Some("trie") => tries_held(rt, stores, queries)?,
+        Some("frozen") => frozen_held(rt, stores, queries)?,
         Some("map") => maps_held(rt, stores, queries)?,
         Some(other) => bail!("nothing to hold: {other}"),
     };
@@ -38,21 +41,22 @@ pub fn answer<R: Print + Clock + AllocGlobal, K: Stored, L: TrieKey, B: Beginnin
 }
 
 /// Prints the times of all calls. After the insertions, the keys are asked about in another order.
-fn print_rows<R: Print + Clock + AllocGlobal, K: Stored, L: TrieKey, B: Beginning<K>>(
+fn print_times<R: Print + Clock + AllocGlobal, K: Stored, L: TrieKey, B: Beginning<K>>(
     rt: &R,
     line: &str,
     queries: &mut [Query<K, L, B>],
 ) -> Result<()> {
     let (trie, of_trie) = filled_trie(rt, queries)?;
+    of_trie.print(rt, line, "trie")?;
     let (map, of_map) = filled_map(rt, queries)?;
-    of_trie.print_beside(rt, line, &of_map)?;
+    of_map.print_beside(rt, line, "map", &of_trie)?;
     queries.shuffle(&mut generator());
-    let of_trie = trie_rows(rt, trie, queries)?;
-    let of_map = map_rows(rt, map, queries)?;
-    for (trie, map) in of_trie.iter().zip(&of_map) {
-        trie.print_beside(rt, line, map)?;
-    }
-    Ok(())
+    let (copy, of_trie) = trie_rows(rt, trie, queries)?;
+    print_rows(rt, line, "trie", &of_trie, &[])?;
+    let (frozen, freezing) = frozen(rt, copy)?;
+    freezing.print(rt, line, "frozen")?;
+    print_rows(rt, line, "frozen", &frozen_rows(rt, &frozen, queries)?, &of_trie)?;
+    print_rows(rt, line, "map", &map_rows(rt, map, queries)?, &of_trie)
 }
 
 /// A trie of the keys, and the times of the insertions.
@@ -67,12 +71,12 @@ fn filled_trie<K: Stored, L, B>(
     Ok((trie, insert))
 }
 
-/// The times of the other calls of a trie.
+/// The times of the other calls of a trie, and a copy of it, since it is empty then.
 fn trie_rows<K: Stored, L: TrieKey, B: Beginning<K>>(
     rt: &(impl Clock + AllocGlobal),
     mut trie: Trie<K, u64>,
     queries: &[Query<K, L, B>],
-) -> Result<Vec<Times>> {
+) -> Result<(Trie<K, u64>, Vec<Times>)> {
     let get = timed!(rt, "get", queries, |query| value_of(trie.get(&query.key)?));
     let absent = timed!(
         rt,
@@ -90,6 +94,9 @@ fn trie_rows<K: Stored, L: TrieKey, B: Beginning<K>>(
             None => 0,
         }
     });
+    let count = timed!(rt, "count", few, |query| {
+        trie.count_below(&query.beginning)? as u64
+    });
     let start = Instant::now(rt)?;
     let sum = TrieCommon::values(&trie)?.fold(0, add);
     let walk = Times::since(rt, "walk", start, trie.len(), sum)?;
@@ -103,7 +110,48 @@ fn trie_rows<K: Stored, L: TrieKey, B: Beginning<K>>(
         queries,
         |query| trie.remove(&query.key)?.unwrap_or(0)
     );
-    Ok(vec![in rt.alloc(); get, absent, prefix, below, walk, clone, remove]?)
+    let rows = vec![in rt.alloc(); get, absent, prefix, below, count, walk, clone, remove]?;
+    Ok((copy, rows))
+}
+
+/// The frozen form of a trie, and the time that it took for each pair.
+fn frozen<K: Stored>(rt: &impl Clock, trie: Trie<K, u64>) -> Result<(FrozenTrie<K, u64>, Times)> {
+    let count = trie.len();
+    let start = Instant::now(rt)?;
+    let Ok(frozen) = freeze(trie) else {
+        bail!("the trie isn't frozen");
+    };
+    let freezing = Times::since(rt, "freeze", start, count, 0)?;
+    Ok((frozen, freezing))
+}
+
+/// The times of the calls of a frozen trie.
+fn frozen_rows<K: Stored, L: TrieKey, B: Beginning<K>>(
+    rt: &(impl Clock + AllocGlobal),
+    frozen: &FrozenTrie<K, u64>,
+    queries: &[Query<K, L, B>],
+) -> Result<Vec<Times>> {
+    let get = timed!(rt, "get", queries, |query| value_of(
+        frozen.get(&query.key)?
+    ));
+    let absent = timed!(rt, "absent", queries, |query| value_of(
+        frozen.get(&query.absent)?
+    ));
+    let prefix = timed!(rt, "prefix", queries, |query| {
+        value_of(frozen.get_ancestor_value(&query.longer)?)
+    });
+    let few = queries.get(..BEGINNINGS).unwrap_or(queries);
+    let below = timed!(rt, "below", few, |query| {
+        let list = query.beginning.encode(rt.alloc())?;
+        frozen.below(&list).iter().take(SHOWN).fold(0, add_second)
+    });
+    let count = timed!(rt, "count", few, |query| {
+        frozen.count_below(&query.beginning)? as u64
+    });
+    let start = Instant::now(rt)?;
+    let sum = frozen.pairs().iter().fold(0, add_second);
+    let walk = Times::since(rt, "walk", start, frozen.len(), sum)?;
+    Ok(vec![in rt.alloc(); get, absent, prefix, below, count, walk]?)
 }
 
 /// A map of the keys, and the times of the insertions.
@@ -118,7 +166,7 @@ fn filled_map<K: Stored, L, B>(
     Ok((map, insert))
 }
 
-/// The times of the other calls of a map. It has none for a longest prefix, so it is asked for the key that this is.
+/// The times of the other calls of a map, which has none for a longest prefix.
 fn map_rows<K: Stored, L, B: Beginning<K>>(
     rt: &(impl Clock + AllocGlobal),
     mut map: BTreeMap<K, u64>,
@@ -131,9 +179,9 @@ fn map_rows<K: Stored, L, B: Beginning<K>>(
         queries,
         |query| value_of(map.get(&query.absent))
     );
-    let prefix = timed!(rt, "prefix", queries, |query| value_of(map.get(&query.key)));
     let few = queries.get(..BEGINNINGS).unwrap_or(queries);
     let below = timed!(rt, "below", few, |query| sum_below(&map, query));
+    let count = timed!(rt, "count", few, |query| count_below(&map, query));
     let start = Instant::now(rt)?;
     let sum = map.values().fold(0, add);
     let walk = Times::since(rt, "walk", start, map.len(), sum)?;
@@ -147,7 +195,7 @@ fn map_rows<K: Stored, L, B: Beginning<K>>(
         queries,
         |query| map.remove(&query.key).unwrap_or(0)
     );
-    Ok(vec![in rt.alloc(); get, absent, prefix, below, walk, clone, remove]?)
+    Ok(vec![in rt.alloc(); get, absent, below, count, walk, clone, remove]?)
 }
 
 /// A value that was found, and 0 where none was.
@@ -167,9 +215,29 @@ fn sum_below<K: Stored, L, B: Beginning<K>>(map: &BTreeMap<K, u64>, query: &Quer
     sum
 }
 
+/// The count of keys that begin with a prefix.
+fn count_below<K: Stored, L, B: Beginning<K>>(
+    map: &BTreeMap<K, u64>,
+    query: &Query<K, L, B>,
+) -> u64 {
+    let mut count = 0u64;
+    for (key, _) in map.range(query.first..) {
+        if !query.beginning.begins(key) {
+            break;
+        }
+        count = count.wrapping_add(1);
+    }
+    count
+}
+
 /// The sum of so many numbers and of this one.
 fn add(sum: u64, value: &u64) -> u64 {
     sum.wrapping_add(*value)
+}
+
+/// The sum of so many numbers and of the one of a pair.
+fn add_second<K>(sum: u64, pair: &(K, u64)) -> u64 {
+    add(sum, &pair.1)
 }
 
 /// Makes so many tries of the keys that the program's own memory counts for little, and tells how many pairs they have.
@@ -186,6 +254,30 @@ fn tries_held<K: Stored, L, B>(
         tries.push(trie)?;
     }
     Ok(pairs)
+}
+
+/// The same of frozen tries, which are made of pairs in order, so that no trie counts.
+fn frozen_held<K: Stored, L, B>(
+    rt: &(impl Clock + AllocGlobal),
+    stores: usize,
+    queries: &[Query<K, L, B>],
+) -> Result<usize> {
+    let mut all = Vec::new(rt.alloc());
+    let mut count = 0usize;
+    for _ in 0..stores {
+        let (map, _) = filled_map(rt, queries)?;
+        let mut pairs = Vec::with_capacity(rt.alloc(), map.len())?;
+        for (key, value) in &map {
+            pairs.push((*key, *value))?;
+        }
+        drop(map);
+        let Ok(frozen) = FrozenTrie::from_sorted(rt.alloc(), pairs) else {
+            bail!("the pairs aren't frozen");
+        };
+        count = count.saturating_add(frozen.len());
+        all.push(frozen)?;
+    }
+    Ok(count)
 }
 
 /// The same of maps.

@@ -52,14 +52,38 @@ impl Times {
         self.took.as_nanos().checked_div(calls).unwrap_or(0)
     }
 
-    /// Prints the times of the trie beside those of the map, or of another call, which has to answer the same.
-    pub fn print_beside(&self, rt: &impl Print, line: &str, other: &Times) -> Result<()> {
+    /// Prints a line of the store's name and the nanoseconds of one call.
+    pub fn print(&self, rt: &impl Print, line: &str, store: &str) -> Result<()> {
+        Ok(println!(rt; "{line} {} {store} {}", self.call, self.each())?)
+    }
+
+    /// The same, where the answers are those of another store.
+    pub fn print_beside(
+        &self,
+        rt: &impl Print,
+        line: &str,
+        store: &str,
+        other: &Times,
+    ) -> Result<()> {
         let same = self.calls == other.calls && self.sum == other.sum;
         ensure!(same, "{} of {line}: the answers differ", self.call);
-        match self.call {
-            "prefix" => println!(rt; "{line} prefix {} -", self.each())?,
-            call => println!(rt; "{line} {call} {} {}", self.each(), other.each())?,
-        }
-        Ok(())
+        self.print(rt, line, store)
     }
+}
+
+/// Prints the rows of a store, in the order in which they were taken. Another one answers each call that it has the same.
+pub fn print_rows(
+    rt: &impl Print,
+    line: &str,
+    store: &str,
+    rows: &[Times],
+    others: &[Times],
+) -> Result<()> {
+    for row in rows {
+        match others.iter().find(|other| other.call == row.call) {
+            Some(other) => row.print_beside(rt, line, store, other)?,
+            None => row.print(rt, line, store)?,
+        }
+    }
+    Ok(())
 }

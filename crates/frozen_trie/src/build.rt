@@ -78,10 +78,10 @@ fn codes_and_links<K: TrieKey, V>(
         let Ok(list) = pair.0.encode(alloc) else {
             return Err(SortedWhy::Memory);
         };
-        if !follows(&codes, Packed::of(&list)) {
+        if !follows(&codes, &Packed::of(&list)) {
             return Err(SortedWhy::Unsorted(codes.len()));
         }
-        let Ok(more) = push_linked(codes, &mut up, Packed::of(&list)) else {
+        let Ok(more) = push_linked(codes, &mut up, &Packed::of(&list)) else {
             return Err(SortedWhy::Memory);
         };
         codes = more;
@@ -93,9 +93,9 @@ fn codes_and_links<K: TrieKey, V>(
 }
 
 /// Whether a list comes after all of some rising ones.
-fn follows(codes: &Codes, list: Packed<'_>) -> bool
+fn follows(codes: &Codes, list: &Packed<'_>) -> bool
     requires { IsRising codes.now }
-    ensures { IsTrue result ↔ IsRising (codes.now ++ list ∷ []) }
+    ensures { IsTrue result ↔ IsRising (codes.now ++ list.now ∷ []) }
 {
     let count = codes.len();
     count == 0 || codes.precedes(count - 1, list)
@@ -106,11 +106,11 @@ fn follows(codes: &Codes, list: Packed<'_>) -> bool
 /// # Errors
 ///
 /// Memory is refused, or the bytes of all lists would be 2^32 or more. The lists are dropped then.
-pub(crate) fn push_linked(codes: Codes, up: &mut Vec<u32>, list: Packed<'_>) -> Result<Codes, Memory>
+pub(crate) fn push_linked(codes: Codes, up: &mut Vec<u32>, list: &Packed<'_>) -> Result<Codes, Memory>
     requires few { length codes < 2 ^ 32 }
     requires linked { IsLinked codes up.old.items }
-    requires rising { IsRising (codes ++ list ∷ []) }
-    ensures ok { IfOk result (λ more. more ≡ codes ++ list ∷ []) }
+    requires rising { IsRising (codes ++ list.now ∷ []) }
+    ensures ok { IfOk result (λ more. more ≡ codes ++ list.now ∷ []) }
     ensures linked { IfOk result (λ more. IsLinked more up.new.items) }
 {
     let link = climb(&codes, up, codes.len(), list) as u32;

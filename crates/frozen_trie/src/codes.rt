@@ -80,58 +80,58 @@ impl Codes {
     }
 
     /// How many nibbles the list at an index and another one agree in, from their first on.
-    pub(crate) fn agreement(&self, at: usize, list: Packed<'_>) -> usize
+    pub(crate) fn agreement(&self, at: usize, list: &Packed<'_>) -> usize
         requires { at < length self.now }
         ensures within { result ≤ length (code_at self.now at) }
-        ensures inside { result ≤ length list }
-        ensures same { take result (code_at self.now at) ≡ take result list }
+        ensures inside { result ≤ length list.now }
+        ensures same { take result (code_at self.now at) ≡ take result list.now }
         ensures apart { result < length (code_at self.now at) → result < length list
-            → slice_index (code_at self.now at) result ≢ slice_index list result }
+            → slice_index (code_at self.now at) result ≢ slice_index list.now result }
     {
         self.piece(at).agreement(list)
     }
 
     /// Whether the list at an index comes before another one.
-    pub(crate) fn precedes(&self, at: usize, list: Packed<'_>) -> bool
+    pub(crate) fn precedes(&self, at: usize, list: &Packed<'_>) -> bool
         requires { at < length self.now }
-        ensures { result ≡ is_before (code_at self.now at) list }
+        ensures { result ≡ is_before (code_at self.now at) list.now }
     {
         self.piece(at).compare(list).is_lt()
     }
 
     /// Whether the list at an index begins with another one.
-    pub(crate) fn begins(&self, at: usize, list: Packed<'_>) -> bool
+    pub(crate) fn begins(&self, at: usize, list: &Packed<'_>) -> bool
         requires { at < length self.now }
-        ensures { result ≡ is_prefix list (code_at self.now at) }
+        ensures { result ≡ is_prefix list.now (code_at self.now at) }
     {
         !list.has(self.agreement(at, list))
     }
 
     /// Whether the list at an index is another one.
-    pub(crate) fn equals(&self, at: usize, list: Packed<'_>) -> bool
+    pub(crate) fn equals(&self, at: usize, list: &Packed<'_>) -> bool
         requires { at < length self.now }
-        ensures { IsTrue result ↔ (code_at self.now at ≡ list) }
+        ensures { IsTrue result ↔ (code_at self.now at ≡ list.now) }
     {
         self.piece(at).equals(list)
     }
 
     /// Whether the list at an index comes before another one or begins with it.
-    pub(crate) fn is_within(&self, at: usize, list: Packed<'_>) -> bool
+    pub(crate) fn is_within(&self, at: usize, list: &Packed<'_>) -> bool
         requires { at < length self.now }
-        ensures { result ≡ is_until (code_at self.now at) list }
+        ensures { result ≡ is_until (code_at self.now at) list.now }
     {
         self.precedes(at, list) || self.begins(at, list)
     }
 
     /// Bounds for a search in rising lists: those in front of the first come before another list, and those from the second
     /// on don't. Between them stand only lists with the first nibbles of the other one.
-    pub(crate) fn narrowed(&self, list: Packed<'_>) -> (usize, usize)
+    pub(crate) fn narrowed(&self, list: &Packed<'_>) -> (usize, usize)
         requires { IsRising self.now }
         ensures order { result.0 ≤ result.1 }
         ensures within { result.1 ≤ length self.now }
-        ensures before { (k : ℕ) → k < result.0 → is_before (code_at self.now k) list ≡ true }
+        ensures before { (k : ℕ) → k < result.0 → is_before (code_at self.now k) list.now ≡ true }
         ensures others { (k : ℕ) → result.1 ≤ k → k < length self.now
-            → is_before (code_at self.now k) list ≡ false }
+            → is_before (code_at self.now k) list.now ≡ false }
     {
         let head = head_of(list, 0);
         let heads = self.heads.as_slice();
@@ -143,13 +143,13 @@ impl Codes {
 
     /// The same bounds, for lists that come before another one or begin with it. They are one where that has at most 16
     /// nibbles.
-    pub(crate) fn narrowed_within(&self, list: Packed<'_>) -> (usize, usize)
+    pub(crate) fn narrowed_within(&self, list: &Packed<'_>) -> (usize, usize)
         requires { IsRising self.now }
         ensures order { result.0 ≤ result.1 }
         ensures within { result.1 ≤ length self.now }
-        ensures before { (k : ℕ) → k < result.0 → is_until (code_at self.now k) list ≡ true }
+        ensures before { (k : ℕ) → k < result.0 → is_until (code_at self.now k) list.now ≡ true }
         ensures others { (k : ℕ) → result.1 ≤ k → k < length self.now
-            → is_until (code_at self.now k) list ≡ false }
+            → is_until (code_at self.now k) list.now ≡ false }
     {
         let heads = self.heads.as_slice();
         let to = count_through(heads, &self.tops, head_of(list, 15));
@@ -193,8 +193,8 @@ impl Codes {
     /// # Errors
     ///
     /// Memory is refused, or the bytes would be 2^32 or more. The lists are dropped then.
-    pub(crate) fn push(self, list: Packed<'_>) -> Result<Codes, Memory>
-        ensures { IfOk result (λ codes. codes ≡ self ++ list ∷ []) }
+    pub(crate) fn push(self, list: &Packed<'_>) -> Result<Codes, Memory>
+        ensures { IfOk result (λ codes. codes ≡ self ++ list.now ∷ []) }
     {
         let Codes {
             mut bytes,

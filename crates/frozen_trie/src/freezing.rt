@@ -80,7 +80,7 @@ pub(crate) fn codes_and_links<K: TrieKey, V>(
         let Ok(list) = key.encode(alloc) else {
             return Err(FreezeWhy::Memory);
         };
-        let Ok(more) = push_linked(codes, &mut up, Packed::of(&list)) else {
+        let Ok(more) = push_linked(codes, &mut up, &Packed::of(&list)) else {
             return Err(FreezeWhy::Memory);
         };
         codes = more;

@@ -88,7 +88,7 @@ impl<K: TrieKey, V> FrozenTrie<K, V> {
     fn pair_at(&self, list: &Nibblet) -> Option<(&K, &V)>
         ensures pair { option_map deref_pair result ≡ map.get self.now list.now }
     {
-        match index_of(&self.codes, Packed::of(list)) {
+        match index_of(&self.codes, &Packed::of(list)) {
             Some(at) => Some(entry_at(&self.pairs, at)),
             None => None,
         }
@@ -119,7 +119,7 @@ impl<K: TrieKey, V> FrozenTrie<K, V> {
     pub fn nearest(&self, list: &Nibblet) -> Option<(&K, &V)>
         ensures pair { IsPairAbove self.now list.now (option_map deref_pair result) }
     {
-        let found = last_prefix(&self.codes, &self.up, Packed::of(list));
+        let found = last_prefix(&self.codes, &self.up, &Packed::of(list));
         if found == 0 {
             return None;
         }
@@ -139,8 +139,8 @@ impl<K: TrieKey, V> FrozenTrie<K, V> {
     pub fn below(&self, list: &Nibblet) -> &[(K, V)]
         ensures pairs { result.now ≡ pairs_below self.now list.now }
     {
-        let from = lower(&self.codes, Packed::of(list));
-        let to = upper(&self.codes, Packed::of(list));
+        let from = lower(&self.codes, &Packed::of(list));
+        let to = upper(&self.codes, &Packed::of(list));
         part(&self.pairs, from, to)
     }
 
@@ -149,7 +149,7 @@ impl<K: TrieKey, V> FrozenTrie<K, V> {
     pub fn rank(&self, list: &Nibblet) -> usize
         ensures count { result ≡ length (pairs_before self.now [] list.now) }
     {
-        lower(&self.codes, Packed::of(list))
+        lower(&self.codes, &Packed::of(list))
     }
 
     /// The pairs whose encodings are `from` or come after it, and come before `to`, in order: those before `to` without the
@@ -158,8 +158,8 @@ impl<K: TrieKey, V> FrozenTrie<K, V> {
         ensures pairs { result.now ≡ drop (length (pairs_before self.now [] from.now))
             (pairs_before self.now [] to.now) }
     {
-        let start = lower(&self.codes, Packed::of(from));
-        let end = lower(&self.codes, Packed::of(to));
+        let start = lower(&self.codes, &Packed::of(from));
+        let end = lower(&self.codes, &Packed::of(to));
         part(&self.pairs, start, end.max(start))
     }
 
@@ -218,7 +218,7 @@ impl<K: TrieKey, V> FrozenTrie<K, V> {
     pub fn common_prefixes(&self, list: &Nibblet) -> CommonPrefixes<'_, K, V>
         ensures walk { result ≡ reverse (pairs_above self.now list.now) }
     {
-        CommonPrefixes::new(self, last_prefix(&self.codes, &self.up, Packed::of(list)))
+        CommonPrefixes::new(self, last_prefix(&self.codes, &self.up, &Packed::of(list)))
     }
 
     /// The allocator that the memory comes from.

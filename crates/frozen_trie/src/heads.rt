@@ -8,10 +8,10 @@ use radix_keys::Memory;
 use std::alloc::Global;
 
 /// The first 16 nibbles of a list as a number, with `rest` for each that a shorter list lacks.
-pub(crate) fn head_of(list: Packed<'_>, rest: u64) -> u64
+pub(crate) fn head_of(list: &Packed<'_>, rest: u64) -> u64
     requires { rest < 16 }
-    ensures head { result ≡ head_padded rest 16 list }
-    ensures nibbles { AreNibbles 16 list }
+    ensures head { result ≡ head_padded rest 16 list.now }
+    ensures nibbles { AreNibbles 16 list.now }
 {
     let mut head = 0;
     for i in 0..16 {
@@ -21,11 +21,11 @@ pub(crate) fn head_of(list: Packed<'_>, rest: u64) -> u64
 }
 
 /// The nibble at an index, or another number past the end.
-fn nibble_or(list: Packed<'_>, i: usize, rest: u64) -> u64
+fn nibble_or(list: &Packed<'_>, i: usize, rest: u64) -> u64
     requires { rest < 16 }
-    ensures value { result ≡ slice_index_or list i rest }
+    ensures value { result ≡ slice_index_or list.now i rest }
     ensures nibble { result < 16 }
-    ensures own { slice_index list i < 16 }
+    ensures own { slice_index list.now i < 16 }
 {
     if list.has(i) {
         u64::from(list.get(i))

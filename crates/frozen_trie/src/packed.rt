@@ -11,7 +11,7 @@ use std::marker::Model;
 
 /// A list of nibbles in whole bytes, the first of two in the high half of theirs. Where the count is odd, the low half of the
 /// last byte is zero. A contract sees the list.
-#[derive(Clone, Copy)]
+#[derive(Drop)]
 pub(crate) struct Packed<'a> {
     bytes: &'a [u8],
     is_odd: bool,
@@ -56,34 +56,34 @@ impl<'a> Packed<'a> {
     }
 
     /// The bytes, and whether the count of nibbles is odd.
-    pub(crate) fn parts(self) -> (&'a [u8], bool)
-        ensures nibbles { unpacked result.0.now result.1 ≡ self }
+    pub(crate) fn parts(&self) -> (&'a [u8], bool)
+        ensures nibbles { unpacked result.0.now result.1 ≡ self.now }
         ensures padded { IsPadded result.0.now result.1 }
     {
         (self.bytes, self.is_odd)
     }
 
     /// The count of nibbles.
-    pub(crate) fn len(self) -> usize
-        requires few { length self < 2 ^ 33 }
-        ensures { result ≡ length self }
+    pub(crate) fn len(&self) -> usize
+        requires few { length self.now < 2 ^ 33 }
+        ensures { result ≡ length self.now }
     {
         let halves = self.bytes.len() * 2;
         if self.is_odd { halves - 1 } else { halves }
     }
 
     /// Whether there is a nibble at an index.
-    pub(crate) fn has(self, i: usize) -> bool
-        ensures { IsTrue result ↔ (i < length self) }
+    pub(crate) fn has(&self, i: usize) -> bool
+        ensures { IsTrue result ↔ (i < length self.now) }
     {
         let half = if self.is_odd { i.div_ceil(2) } else { i / 2 };
         half < self.bytes.len()
     }
 
     /// The nibble at an index.
-    pub(crate) fn get(self, i: usize) -> u8
-        requires { i < length self }
-        ensures value { result ≡ slice_index self i }
+    pub(crate) fn get(&self, i: usize) -> u8
+        requires { i < length self.now }
+        ensures value { result ≡ slice_index self.now i }
         ensures nibble { result < 16 }
     {
         let byte = self.bytes[i / 2];
@@ -91,13 +91,13 @@ impl<'a> Packed<'a> {
     }
 
     /// How many nibbles agree with those of another list, from the first on.
-    pub(crate) fn agreement(self, other: Packed<'_>) -> usize
-        requires few { length self < 2 ^ 33 }
-        ensures within { result ≤ length self }
-        ensures inside { result ≤ length other }
-        ensures same { take result self ≡ take result other }
-        ensures apart { result < length self → result < length other
-            → slice_index self result ≢ slice_index other result }
+    pub(crate) fn agreement(&self, other: &Packed<'_>) -> usize
+        requires few { length self.now < 2 ^ 33 }
+        ensures within { result ≤ length self.now }
+        ensures inside { result ≤ length other.now }
+        ensures same { take result self.now ≡ take result other.now }
+        ensures apart { result < length self.now → result < length other.now
+            → slice_index self.now result ≢ slice_index other.now result }
     {
         let most = self.bytes.len().min(other.bytes.len());
         for i in 0..most {
@@ -118,9 +118,9 @@ impl<'a> Packed<'a> {
     }
 
     /// The order of the two lists: the first nibble in which they differ decides, and a prefix comes first.
-    pub(crate) fn compare(self, other: Packed<'_>) -> Ordering
-        requires few { length self < 2 ^ 33 }
-        ensures { result ≡ slice_cmp nat_cmp self other }
+    pub(crate) fn compare(&self, other: &Packed<'_>) -> Ordering
+        requires few { length self.now < 2 ^ 33 }
+        ensures { result ≡ slice_cmp nat_cmp self.now other.now }
     {
         let same = self.agreement(other);
         if !other.has(same) {
@@ -137,8 +137,8 @@ impl<'a> Packed<'a> {
     }
 
     /// Whether the two are one list.
-    pub(crate) fn equals(self, other: Packed<'_>) -> bool
-        ensures { IsTrue result ↔ (self ≡ other) }
+    pub(crate) fn equals(&self, other: &Packed<'_>) -> bool
+        ensures { IsTrue result ↔ (self.now ≡ other.now) }
     {
         self.is_odd == other.is_odd && self.bytes == other.bytes
     }

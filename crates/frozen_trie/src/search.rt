@@ -7,9 +7,9 @@ use crate::codes::Codes;
 use crate::packed::Packed;
 
 /// How many of the lists come before another one.
-pub(crate) fn lower(codes: &Codes, list: Packed<'_>) -> usize
+pub(crate) fn lower(codes: &Codes, list: &Packed<'_>) -> usize
     requires { IsRising codes.now }
-    ensures { IsCut (λ c. is_before c list) codes.now result }
+    ensures { IsCut (λ c. is_before c list.now) codes.now result }
 {
     let (mut lo, mut hi) = codes.narrowed(list);
     while lo < hi {
@@ -24,9 +24,9 @@ pub(crate) fn lower(codes: &Codes, list: Packed<'_>) -> usize
 }
 
 /// How many of the lists come before another one or begin with it.
-pub(crate) fn upper(codes: &Codes, list: Packed<'_>) -> usize
+pub(crate) fn upper(codes: &Codes, list: &Packed<'_>) -> usize
     requires { IsRising codes.now }
-    ensures { IsCut (λ c. is_until c list) codes.now result }
+    ensures { IsCut (λ c. is_until c list.now) codes.now result }
 {
     let (mut lo, mut hi) = codes.narrowed_within(list);
     while lo < hi {
@@ -43,13 +43,13 @@ pub(crate) fn upper(codes: &Codes, list: Packed<'_>) -> usize
 /// The last of the first `from` lists that is a prefix of another one, by its index and one more, or 0 where there is none.
 ///
 /// It goes from each to the link of it, so at most as often as prefixes of the list before `from` are stored.
-pub(crate) fn climb(codes: &Codes, up: &[u32], from: usize, list: Packed<'_>) -> usize
+pub(crate) fn climb(codes: &Codes, up: &[u32], from: usize, list: &Packed<'_>) -> usize
     requires within { from ≤ length codes.now }
     requires linked { from ≤ length up.now }
     requires rising { IsRising codes.now }
     requires links { AreLinks codes.now up.now }
-    requires before { (k : ℕ) → k < from → IsBefore (code_at codes.now k) list }
-    ensures { IsLastPrefix codes.now from list result }
+    requires before { (k : ℕ) → k < from → IsBefore (code_at codes.now k) list.now }
+    ensures { IsLastPrefix codes.now from list.now result }
 {
     if from == 0 {
         return 0;
@@ -66,18 +66,18 @@ pub(crate) fn climb(codes: &Codes, up: &[u32], from: usize, list: Packed<'_>) ->
 }
 
 /// Whether a list is the one at an index, which may be past the end.
-fn stands_at(codes: &Codes, at: usize, list: Packed<'_>) -> bool
-    ensures { IsTrue result ↔ ((at < length codes.now) × (code_at codes.now at ≡ list)) }
+fn stands_at(codes: &Codes, at: usize, list: &Packed<'_>) -> bool
+    ensures { IsTrue result ↔ ((at < length codes.now) × (code_at codes.now at ≡ list.now)) }
 {
     at < codes.len() && codes.equals(at, list)
 }
 
 /// The index of a list.
-pub(crate) fn index_of(codes: &Codes, list: Packed<'_>) -> Option<usize>
+pub(crate) fn index_of(codes: &Codes, list: &Packed<'_>) -> Option<usize>
     requires { IsRising codes.now }
     ensures { MatchOption result
         ((k : ℕ) → k < length codes.now → code_at codes.now k ≡ list → ⊥)
-        (λ i. (i < length codes.now) × (code_at codes.now i ≡ list)) }
+        (λ i. (i < length codes.now) × (code_at codes.now i ≡ list.now)) }
 {
     let at = lower(codes, list);
     if stands_at(codes, at, list) {
@@ -88,11 +88,11 @@ pub(crate) fn index_of(codes: &Codes, list: Packed<'_>) -> Option<usize>
 }
 
 /// The last of the lists that is a prefix of another one, by its index and one more, or 0 where there is none.
-pub(crate) fn last_prefix(codes: &Codes, up: &[u32], list: Packed<'_>) -> usize
+pub(crate) fn last_prefix(codes: &Codes, up: &[u32], list: &Packed<'_>) -> usize
     requires linked { length up.now ≡ length codes.now }
     requires rising { IsRising codes.now }
     requires links { AreLinks codes.now up.now }
-    ensures { IsLastPrefix codes.now (length codes.now) list result }
+    ensures { IsLastPrefix codes.now (length codes.now) list.now result }
 {
     let at = lower(codes, list);
     if stands_at(codes, at, list) {

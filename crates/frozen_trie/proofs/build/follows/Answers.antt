@@ -7,7 +7,7 @@ use Rattle.frozen_trie.proofs.build.follows.Goals as goal
 pub returns-else-count-eq0 : goal.returns-else-count-eq0
 returns-else-count-eq0 c =
     let cs = c.args.codes.now in
-    let q = c.args.list in
+    let q = c.args.list.now in
     let some : 0 < length cs = omega (arith, c.if-count-eq0.false) in
     let at : c.len-count.result - 1 ≡ length cs - 1 = ap (λ n. n - 1) c.len-count.ensures in (
       λ t. rising_more cs q some c.requires (before_by_test _ _ (ap (λ k. is_before (code_at cs k) q) (sym at) ∙ sym c.precedes.ensures ∙ t)),

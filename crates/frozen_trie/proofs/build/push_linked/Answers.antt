@@ -4,12 +4,12 @@ use Rattle.frozen_trie.proofs.FrozenLemmas.Growth.{all_before_more, linked_more}
 use Rattle.frozen_trie.proofs.build.push_linked.Goals as goal
 
 pub climb-link-requires-clause-before : goal.climb-link-requires-clause-before
-climb-link-requires-clause-before c = λ k l. all_before_more c.args.codes c.args.list c.requires.rising k (omega (arith, l, c.len.ensures))
+climb-link-requires-clause-before c = λ k l. all_before_more c.args.codes c.args.list.now c.requires.rising k (omega (arith, l, c.len.ensures))
 
 pub returns-clause-linked : goal.returns-clause-linked
 returns-clause-linked c =
     let cs = c.args.codes in
-    let q = c.args.list in
+    let q = c.args.list.now in
     let r = c.climb-link.result in
     let last : IsLastPrefix cs (length cs) q r = subst (λ k. IsLastPrefix cs k q r) c.len.ensures c.climb-link.ensures in
     rw (c.in_ok-more.ensures, c.in_ok-push.ensures.items) (linked_more cs c.args.up.now.items q r c.requires.linked c.requires.rising last)

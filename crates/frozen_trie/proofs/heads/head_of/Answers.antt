@@ -5,10 +5,10 @@ use Rattle.frozen_trie.proofs.CodeLemmas.Heads.{head-fits, head-more, head-none}
 use Rattle.frozen_trie.proofs.heads.head_of.Goals as goal
 
 pub loop-i-init : goal.loop-i-init
-loop-i-init c = record { head = head-none c.args.rest c.args.list; nibbles = λ k l. absurd (omega (arith, l)) }
+loop-i-init c = record { head = head-none c.args.rest c.args.list.now; nibbles = λ k l. absurd (omega (arith, l)) }
 
 pub overflow_mul-head : goal.overflow_mul-head
-overflow_mul-head c = omega (arith, c.loop-i.invariant.head, head-fits c.args.rest c.loop-i.i c.args.list c.requires (omega arith) c.loop-i.invariant.nibbles)
+overflow_mul-head c = omega (arith, c.loop-i.invariant.head, head-fits c.args.rest c.loop-i.i c.args.list.now c.requires (omega arith) c.loop-i.invariant.nibbles)
 
 pub overflow_add-head : goal.overflow_add-head
 overflow_add-head c =
@@ -16,13 +16,13 @@ overflow_add-head c =
       arith,
       c.loop-i.invariant.head,
       c.nibble_or.ensures.nibble,
-      head-fits c.args.rest c.loop-i.i c.args.list c.requires (omega arith) c.loop-i.invariant.nibbles,
+      head-fits c.args.rest c.loop-i.i c.args.list.now c.requires (omega arith) c.loop-i.invariant.nibbles,
     )
 
 pub loop-i-preserved : goal.loop-i-preserved
 loop-i-preserved c =
     let i = c.loop-i.i in
-    let list = c.args.list in
+    let list = c.args.list.now in
     let more : suc i ≡ i + 1 = omega arith in
     record {
       head = ap (λ h. h * 16 + c.nibble_or.result) c.loop-i.invariant.head ∙ ap (λ d. head_padded c.args.rest i list * 16 + d) c.nibble_or.ensures.value

@@ -10,7 +10,7 @@ returns-then-len_at-shared c =
     let at = c.loop-at.at in
     record {
       within = c.loop-at.invariant.within;
-      begins = λ some. shared_prefix (code_at cs (at - 1)) (code_at cs (c.args.from - 1)) c.args.list c.agreement-shared.result
+      begins = λ some. shared_prefix (code_at cs (at - 1)) (code_at cs (c.args.from - 1)) c.args.list.now c.agreement-shared.result
           (c.loop-at.invariant.chain some) c.agreement-shared.ensures.same
           (omega (arith, c.if-len_at-shared.true, c.len_at.ensures));
       none = c.loop-at.invariant.none;
@@ -25,8 +25,8 @@ loop-at-preserved c =
     record {
       within = omega (arith, link.within, c.loop-at.invariant.within);
       chain = λ some. prefix_through _ _ _ (link.begins some) chain;
-      none = climb_on cs c.args.list c.args.from at _ c.requires.rising c.requires.within c.requires.before c.loop-at-test.true c.loop-at.invariant.within
-          (λ p. unshared (code_at cs (at - 1)) (code_at cs (c.args.from - 1)) c.args.list c.agreement-shared.result chain p
+      none = climb_on cs c.args.list.now c.args.from at _ c.requires.rising c.requires.within c.requires.before c.loop-at-test.true c.loop-at.invariant.within
+          (λ p. unshared (code_at cs (at - 1)) (code_at cs (c.args.from - 1)) c.args.list.now c.agreement-shared.result chain p
           (omega (arith, c.if-len_at-shared.false, c.len_at.ensures)) c.agreement-shared.ensures.apart)
           c.loop-at.invariant.none link;
     }

@@ -6,7 +6,7 @@ use Rattle.frozen_trie.proofs.search.upper.Goals as goal
 
 pub loop-lo-preserved-then-is_within : goal.loop-lo-preserved-then-is_within
 loop-lo-preserved-then-is_within c =
-    let q = c.args.list in
+    let q = c.args.list.now in
     let mid = c.loop-lo.lo + (c.loop-lo.hi - c.loop-lo.lo) / 2 in
     let inside : mid < length c.args.codes.now = omega (arith, c.loop-lo-test.true, c.loop-lo.invariant.within) in
     let here : is_until (code_at c.args.codes.now mid) q ≡ true = sym c.is_within.ensures ∙ c.if-is_within.true in
@@ -19,7 +19,7 @@ loop-lo-preserved-then-is_within c =
 
 pub loop-lo-preserved : goal.loop-lo-preserved
 loop-lo-preserved c =
-    let q = c.args.list in
+    let q = c.args.list.now in
     let mid = c.loop-lo.lo + (c.loop-lo.hi - c.loop-lo.lo) / 2 in
     let inside : mid < length c.args.codes.now = omega (arith, c.loop-lo-test.true, c.loop-lo.invariant.within) in
     let here : is_until (code_at c.args.codes.now mid) q ≡ false = sym c.is_within.ensures ∙ c.if-is_within.false in

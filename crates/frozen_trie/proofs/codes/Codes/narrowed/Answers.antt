@@ -40,7 +40,7 @@ returns-clause-before c = λ k l.
     let many = as_many_heads cs hs kept in
     let same = ap length c.as_slice-heads.ensures.value in
     let inside : k < length cs = omega (arith, l, c.count_below.ensures.within, same, many) in
-    before_by_head (code_at cs k) c.args.list c.head_of-head.ensures.nibbles
+    before_by_head (code_at cs k) c.args.list.now c.head_of-head.ensures.nibbles
     (omega (
       arith,
       c.count_below.ensures.below k l,
@@ -56,7 +56,7 @@ returns-clause-others c = λ k l inside.
     let kept = subst (λ xs. IsHeaded xs hs) c.self.view_is c.self.invariant.headed in
     let many = as_many_heads cs hs kept in
     let same = ap length c.as_slice-heads.ensures.value in
-    not_before_by_head (code_at cs k) c.args.list (kept.nibbles k inside)
+    not_before_by_head (code_at cs k) c.args.list.now (kept.nibbles k inside)
     (omega (
       arith,
       c.count_through.ensures.others k l (omega (arith, inside, same, many)),

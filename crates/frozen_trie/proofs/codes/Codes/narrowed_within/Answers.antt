@@ -26,7 +26,7 @@ returns-then-len-le16-clause-before c = λ k l.
     let kept = subst (λ xs. IsHeaded xs hs) c.self.view_is c.self.invariant.headed in
     let same = ap length c.as_slice-heads.ensures.value in
     let inside : k < length cs = omega (arith, l, c.count_through-to.ensures.within, same, as_many_heads cs hs kept) in
-    until_by_head (code_at cs k) c.args.list (omega (arith, c.if-len-le16.true, c.len.ensures)) c.head_of.ensures.nibbles
+    until_by_head (code_at cs k) c.args.list.now (omega (arith, c.if-len-le16.true, c.len.ensures)) c.head_of.ensures.nibbles
     (omega (
       arith,
       c.count_through-to.ensures.through k l,
@@ -41,7 +41,7 @@ returns-then-len-le16-clause-others c = λ k l inside.
     let hs = c.self.inside.heads.items in
     let kept = subst (λ xs. IsHeaded xs hs) c.self.view_is c.self.invariant.headed in
     let same = ap length c.as_slice-heads.ensures.value in
-    not_until_by_head (code_at cs k) c.args.list (kept.nibbles k inside)
+    not_until_by_head (code_at cs k) c.args.list.now (kept.nibbles k inside)
     (omega (
       arith,
       c.count_through-to.ensures.others k l (omega (arith, inside, same, as_many_heads cs hs kept)),
@@ -58,7 +58,7 @@ returns-clause-before c = λ k l.
     let same = ap length c.as_slice-heads.ensures.value in
     let low : k < c.count_below.result = omega (arith, l, c.min.ensures) in
     let inside : k < length cs = omega (arith, low, c.count_below.ensures.within, same, as_many_heads cs hs kept) in
-    until_by_before (code_at cs k) c.args.list (before_by_test (code_at cs k) c.args.list (before_by_head (code_at cs k) c.args.list c.head_of-2.ensures.nibbles
+    until_by_before (code_at cs k) c.args.list.now (before_by_test (code_at cs k) c.args.list.now (before_by_head (code_at cs k) c.args.list.now c.head_of-2.ensures.nibbles
     (omega (
       arith,
       c.count_below.ensures.below k low,
@@ -73,7 +73,7 @@ returns-clause-others c = λ k l inside.
     let hs = c.self.inside.heads.items in
     let kept = subst (λ xs. IsHeaded xs hs) c.self.view_is c.self.invariant.headed in
     let same = ap length c.as_slice-heads.ensures.value in
-    not_until_by_head (code_at cs k) c.args.list (kept.nibbles k inside)
+    not_until_by_head (code_at cs k) c.args.list.now (kept.nibbles k inside)
     (omega (
       arith,
       c.count_through-to.ensures.others k l (omega (arith, inside, same, as_many_heads cs hs kept)),

@@ -16,7 +16,7 @@ invariant_of-result c =
     let whole : now ≡ old ++ more = sym (take-append-drop (length old) now) ∙ ap (λ t. t ++ more) c.in_ok-is_odd.ensures.kept in
     let end : c.in-Ok.end ≡ length (old ++ more) = c.in-Ok.ensures.1 ∙ ap length (c.as_slice.ensures.value ∙ whole) in
     let ends = c.in_ok-push.ensures.items ∙ ap (λ n. c.self.inside.ends.items ++ n ∷ []) end in
-    let list = c.args.list in
+    let list = c.args.list.now in
     let cs = codes_in old 0 c.self.inside.ends.items c.self.inside.odd.items in
     let all = codes_alike _ _ _ _ _ _ whole ends c.in_ok-push-2.ensures.items
     ∙ codes_more old more c.in_ok-is_odd.is_odd 0 c.self.inside.ends.items c.self.inside.odd.items c.self.invariant.laid

@@ -3,9 +3,10 @@ ghost use Rattle.std.specs.Prelude.{◌≡◌, ◌≢◌, ◌↔◌, ◌<◌, �
 ghost use Rattle.radix_keys.specs.Packing.{IsPadded, unpacked};
 ghost use Rattle.nibble_map.specs.Lists.{IsRising, is_prefix};
 ghost use Rattle.frozen_trie.specs.Codes.{code_at, is_before, is_until};
+ghost use Rattle.frozen_trie.specs.Heads.{AreNibbles, head_in, head_padded};
 ghost use Rattle.frozen_trie.specs.Laid.{codes_in, piece_of, start_of, IsLaid};
 
-use crate::heads::{count_below, count_through, head_of, tops_of};
+use crate::heads::{head_of, span, tops_of};
 use crate::packed::Packed;
 use radix_keys::Memory;
 use std::alloc::Global;
@@ -85,7 +86,7 @@ impl Codes {
         ensures within { result ≤ length (code_at self.now at) }
         ensures inside { result ≤ length list.now }
         ensures same { take result (code_at self.now at) ≡ take result list.now }
-        ensures apart { result < length (code_at self.now at) → result < length list
+        ensures apart { result < length (code_at self.now at) → result < length list.now
             → slice_index (code_at self.now at) result ≢ slice_index list.now result }
     {
         self.piece(at).agreement(list)
@@ -123,40 +124,49 @@ impl Codes {
         self.precedes(at, list) || self.begins(at, list)
     }
 
-    /// Bounds for a search in rising lists: those in front of the first come before another list, and those from the second
-    /// on don't. Between them stand only lists with the first nibbles of the other one.
-    pub(crate) fn narrowed(&self, list: &Packed<'_>) -> (usize, usize)
-        requires { IsRising self.now }
-        ensures order { result.0 ≤ result.1 }
-        ensures within { result.1 ≤ length self.now }
-        ensures before { (k : ℕ) → k < result.0 → is_before (code_at self.now k) list.now ≡ true }
-        ensures others { (k : ℕ) → result.1 ≤ k → k < length self.now
-            → is_before (code_at self.now k) list.now ≡ false }
+    /// Whether the list at an index comes before another one, whose first nibbles these are.
+    pub(crate) fn is_below(&self, at: usize, list: &Packed<'_>, head: u64) -> bool
+        requires within { at < length self.now }
+        requires head { head ≡ head_padded 0 16 list.now }
+        requires nibbles { AreNibbles 16 list.now }
+        ensures { result ≡ is_before (code_at self.now at) list.now }
     {
-        let head = head_of(list, 0);
-        let heads = self.heads.as_slice();
-        (
-            count_below(heads, &self.tops, head),
-            count_through(heads, &self.tops, head),
-        )
+        let own = self.heads[at];
+        if own != head {
+            return own < head;
+        }
+        self.precedes(at, list)
     }
 
-    /// The same bounds, for lists that come before another one or begin with it. They are one where that has at most 16
-    /// nibbles.
-    pub(crate) fn narrowed_within(&self, list: &Packed<'_>) -> (usize, usize)
-        requires { IsRising self.now }
+    /// Whether the list at an index comes before another one or begins with it, whose first nibbles these are, with 15 for
+    /// each that it lacks.
+    pub(crate) fn is_through(&self, at: usize, list: &Packed<'_>, last: u64) -> bool
+        requires within { at < length self.now }
+        requires head { last ≡ head_padded 15 16 list.now }
+        requires nibbles { AreNibbles 16 list.now }
+        ensures { result ≡ is_until (code_at self.now at) list.now }
+    {
+        let own = self.heads[at];
+        if own != last {
+            return own < last;
+        }
+        if !list.has(16) {
+            return true;
+        }
+        self.is_within(at, list)
+    }
+
+    /// Bounds for a search by first nibbles: those of the lists in front of the first bound are below a number, and those
+    /// from the second on above it.
+    pub(crate) fn span(&self, bound: u64) -> (usize, usize)
         ensures order { result.0 ≤ result.1 }
         ensures within { result.1 ≤ length self.now }
-        ensures before { (k : ℕ) → k < result.0 → is_until (code_at self.now k) list.now ≡ true }
-        ensures others { (k : ℕ) → result.1 ≤ k → k < length self.now
-            → is_until (code_at self.now k) list.now ≡ false }
+        ensures below { (k : ℕ) → k < result.0 → head_in 16 (code_at self.now k) < bound }
+        ensures above { (k : ℕ) → result.1 ≤ k → k < length self.now
+            → bound < head_in 16 (code_at self.now k) }
+        ensures nibbles { (k : ℕ) → k < length self.now → AreNibbles 16 (code_at self.now k) }
     {
-        let heads = self.heads.as_slice();
-        let to = count_through(heads, &self.tops, head_of(list, 15));
-        if !list.has(16) {
-            return (to, to);
-        }
-        (count_below(heads, &self.tops, head_of(list, 0)).min(to), to)
+        span(&self.heads, &self.tops, bound)
     }
 
     /// The same lists, with a table that shortens searches where they are many.

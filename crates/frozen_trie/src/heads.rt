@@ -1,5 +1,5 @@
 //! The first nibbles of lists as numbers, which tell the order of most lists.
-ghost use Rattle.std.specs.Prelude.{◌≡◌, ◌<◌, ◌≤◌, ℕ, length, slice_index, slice_index_or, IfOk};
+ghost use Rattle.std.specs.Prelude.{◌≡◌, ◌+◌, ◌*◌, ◌<◌, ◌≤◌, ℕ, length, slice_index, slice_index_or, IfOk};
 ghost use Rattle.std.specs.List.Sorted.{IsNonDecreasing};
 ghost use Rattle.frozen_trie.specs.Heads.{AreNibbles, AreTops, head_padded};
 
@@ -14,10 +14,24 @@ pub(crate) fn head_of(list: &Packed<'_>, rest: u64) -> u64
     ensures nibbles { AreNibbles 16 list.now }
 {
     let mut head = 0;
-    for i in 0..16 {
-        head = head * 16 + nibble_or(list, i, rest);
+    for i in 0..8 {
+        let two = two_or(list, i, rest);
+        head = head * 256 + two;
     }
     head
+}
+
+/// Two nibbles of a list as a number, those of the byte at an index, with `rest` for each that it lacks.
+fn two_or(list: &Packed<'_>, i: usize, rest: u64) -> u64
+    requires low { rest < 16 }
+    requires early { i < 8 }
+    ensures value { result ≡ slice_index_or list.now (2 * i) rest * 16
+        + slice_index_or list.now (2 * i + 1) rest }
+    ensures byte { result < 256 }
+    ensures first { slice_index list.now (2 * i) < 16 }
+    ensures second { slice_index list.now (2 * i + 1) < 16 }
+{
+    nibble_or(list, 2 * i, rest) * 16 + nibble_or(list, 2 * i + 1, rest)
 }
 
 /// The nibble at an index, or another number past the end.
@@ -36,7 +50,7 @@ fn nibble_or(list: &Packed<'_>, i: usize, rest: u64) -> u64
 
 /// Bounds for a search among numbers that don't fall, by how many of them are below the multiples of 2^48: those in front of
 /// the first bound are below a number, and those from the second on above it.
-fn span(numbers: &[u64], tops: &[u32], bound: u64) -> (usize, usize)
+pub(crate) fn span(numbers: &[u64], tops: &[u32], bound: u64) -> (usize, usize)
     requires { AreTops numbers.now tops.now }
     ensures order { result.0 ≤ result.1 }
     ensures within { result.1 ≤ length numbers.now }
@@ -52,32 +66,6 @@ fn span(numbers: &[u64], tops: &[u32], bound: u64) -> (usize, usize)
     }
 }
 
-/// How many of some numbers that don't fall are below a bound.
-pub(crate) fn count_below(numbers: &[u64], tops: &[u32], bound: u64) -> usize
-    requires rising { IsNonDecreasing numbers.now }
-    requires tops { AreTops numbers.now tops.now }
-    ensures within { result ≤ length numbers.now }
-    ensures below { (k : ℕ) → k < result → slice_index numbers.now k < bound }
-    ensures others { (k : ℕ) → result ≤ k → k < length numbers.now
-        → bound ≤ slice_index numbers.now k }
-{
-    let (from, to) = span(numbers, tops, bound);
-    from + numbers[from..to].partition_point(|number| *number < bound)
-}
-
-/// How many of some numbers that don't fall are a bound or below it.
-pub(crate) fn count_through(numbers: &[u64], tops: &[u32], bound: u64) -> usize
-    requires rising { IsNonDecreasing numbers.now }
-    requires tops { AreTops numbers.now tops.now }
-    ensures within { result ≤ length numbers.now }
-    ensures through { (k : ℕ) → k < result → slice_index numbers.now k ≤ bound }
-    ensures others { (k : ℕ) → result ≤ k → k < length numbers.now
-        → bound < slice_index numbers.now k }
-{
-    let (from, to) = span(numbers, tops, bound);
-    from + numbers[from..to].partition_point(|number| *number <= bound)
-}
-
 /// How many of some numbers that don't fall are below each multiple of 2^48, from 0 to 2^64.
 ///
 /// # Errors
@@ -89,7 +77,7 @@ pub(crate) fn tops_of(alloc: Global, numbers: &[u64]) -> Result<Vec<u32>, Memory
 {
     let mut tops = Vec::with_capacity(alloc, 65537)?;
     for first in 0..65536 {
-        let Ok(count) = u32::try_from(count_below(numbers, &[], first * (1 << 48))) else {
+        let Ok(count) = u32::try_from(count_below(numbers, first * (1 << 48))) else {
             return Err(Memory);
         };
         tops.push(count)?;
@@ -99,4 +87,15 @@ pub(crate) fn tops_of(alloc: Global, numbers: &[u64]) -> Result<Vec<u32>, Memory
     };
     tops.push(count)?;
     Ok(tops)
+}
+
+/// How many of some numbers that don't fall are below a bound.
+fn count_below(numbers: &[u64], bound: u64) -> usize
+    requires { IsNonDecreasing numbers.now }
+    ensures within { result ≤ length numbers.now }
+    ensures below { (k : ℕ) → k < result → slice_index numbers.now k < bound }
+    ensures others { (k : ℕ) → result ≤ k → k < length numbers.now
+        → bound ≤ slice_index numbers.now k }
+{
+    numbers.partition_point(|number| *number < bound)
 }

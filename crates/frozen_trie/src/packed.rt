@@ -1,5 +1,5 @@
 //! Lists of nibbles, two to a byte, that are borrowed.
-ghost use Rattle.std.specs.Prelude.{◌≡◌, ◌≢◌, ◌↔◌, ◌<◌, ◌≤◌, ◌^◌, IsTrue, length, slice_index, take};
+ghost use Rattle.std.specs.Prelude.{◌≡◌, ◌≢◌, ◌↔◌, ◌⊎◌, ◌+◌, ◌*◌, ◌/◌, ◌<◌, ◌≤◌, ◌^◌, IsTrue, length, slice_index, take};
 ghost use Rattle.std.specs.Cmp.Lexicographic.{slice_cmp};
 ghost use Rattle.std.specs.Ordering.{nat_cmp};
 ghost use Rattle.nibble_map.specs.Nibbles.{nibbles};
@@ -76,8 +76,11 @@ impl<'a> Packed<'a> {
     pub(crate) fn has(&self, i: usize) -> bool
         ensures { IsTrue result ↔ (i < length self.now) }
     {
-        let half = if self.is_odd { i.div_ceil(2) } else { i / 2 };
-        half < self.bytes.len()
+        if self.is_odd {
+            i / 2 + i % 2 < self.bytes.len()
+        } else {
+            i / 2 < self.bytes.len()
+        }
     }
 
     /// The nibble at an index.
@@ -110,10 +113,21 @@ impl<'a> Packed<'a> {
                 };
             }
         }
-        if most == 0 || self.has(2 * most - 1) && other.has(2 * most - 1) {
-            2 * most
+        self.count_in(most).min(other.count_in(most))
+    }
+
+    /// How many nibbles the first bytes hold, so many of them.
+    fn count_in(&self, bytes: usize) -> usize
+        requires few { bytes ≤ 2 ^ 32 }
+        requires within { bytes ≤ (length self.now + 1) / 2 }
+        ensures within { result ≤ length self.now }
+        ensures both { result ≤ 2 * bytes }
+        ensures all { (result ≡ 2 * bytes) ⊎ (result ≡ length self.now) }
+    {
+        if self.is_odd && bytes == self.bytes.len() {
+            2 * bytes - 1
         } else {
-            2 * most - 1
+            2 * bytes
         }
     }
 

@@ -4,6 +4,7 @@ ghost use Rattle.nibble_map.specs.Lists.{IsBefore, IsRising};
 ghost use Rattle.frozen_trie.specs.Codes.{AreLinks, IsCut, IsLastPrefix, is_before, is_until, code_at};
 
 use crate::codes::Codes;
+use crate::heads::head_of;
 use crate::packed::Packed;
 
 /// How many of the lists come before another one.
@@ -11,10 +12,11 @@ pub(crate) fn lower(codes: &Codes, list: &Packed<'_>) -> usize
     requires { IsRising codes.now }
     ensures { IsCut (λ c. is_before c list.now) codes.now result }
 {
-    let (mut lo, mut hi) = codes.narrowed(list);
+    let head = head_of(list, 0);
+    let (mut lo, mut hi) = codes.span(head);
     while lo < hi {
         let mid = lo + (hi - lo) / 2;
-        if codes.precedes(mid, list) {
+        if codes.is_below(mid, list, head) {
             lo = mid + 1;
         } else {
             hi = mid;
@@ -28,10 +30,11 @@ pub(crate) fn upper(codes: &Codes, list: &Packed<'_>) -> usize
     requires { IsRising codes.now }
     ensures { IsCut (λ c. is_until c list.now) codes.now result }
 {
-    let (mut lo, mut hi) = codes.narrowed_within(list);
+    let last = head_of(list, 15);
+    let (mut lo, mut hi) = codes.span(last);
     while lo < hi {
         let mid = lo + (hi - lo) / 2;
-        if codes.is_within(mid, list) {
+        if codes.is_through(mid, list, last) {
             lo = mid + 1;
         } else {
             hi = mid;
@@ -76,7 +79,7 @@ fn stands_at(codes: &Codes, at: usize, list: &Packed<'_>) -> bool
 pub(crate) fn index_of(codes: &Codes, list: &Packed<'_>) -> Option<usize>
     requires { IsRising codes.now }
     ensures { MatchOption result
-        ((k : ℕ) → k < length codes.now → code_at codes.now k ≡ list → ⊥)
+        ((k : ℕ) → k < length codes.now → code_at codes.now k ≡ list.now → ⊥)
         (λ i. (i < length codes.now) × (code_at codes.now i ≡ list.now)) }
 {
     let at = lower(codes, list);

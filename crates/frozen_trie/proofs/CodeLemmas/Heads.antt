@@ -1,6 +1,7 @@
 -- The first nibbles of a list as a number: how it is made, and which order it tells.
-use Rattle.std.proofs.Common.{◌≡◌, ℕ, zero, suc, ◌+◌, ◌-◌, ◌*◌, ◌^◌, ◌<◌, ◌≤◌, inl, inr, Bool, true, false, List, [], ◌∷◌, ◌++◌, length, get_or, map, refl, sym, ap, subst, ◌∙◌, arith}
+use Rattle.std.proofs.Common.{ltb, ◌≡◌, ℕ, zero, suc, ◌+◌, ◌-◌, ◌*◌, ◌^◌, ◌<◌, ◌≤◌, inl, inr, Bool, true, false, List, [], ◌∷◌, ◌++◌, length, get_or, map, refl, sym, ap, subst, ◌∙◌, arith}
 use Rattle.std.proofs.Math.Nat.{mul-le-mul_right, mul_assoc, pow-suc, pow-succ', suc-mul}
+use Rattle.std.proofs.lemmas.Bool.{cases_lt, le-ltb, lt-ltb}
 use Rattle.std.proofs.lemmas.List.{get_or-map, get_or_append_left, length-append, length-map, map-append}
 use Rattle.std.proofs.Math.Seq.{get_or-append_seam}
 use Rattle.radix_keys.proofs.KeyLemmas.Order.{three_ways}
@@ -45,15 +46,6 @@ pow-16-le n (suc d) =
     let more = pow-succ' 16 (n + d) in
     let le = pow-16-le n d in
     subst (λ k. 16 ^ n ≤ 16 ^ k) (sym e) (omega (arith, more, le))
-
--- there is room for one nibble more behind a head of fewer than 16
-pub head-fits : (d n : ℕ) (c : List ℕ) → d < 16 → n < 16 → AreNibbles n c → head_padded d n c * 16 + 15 < 2 ^ 64
-head-fits d n c low l h =
-    let most : 16 ^ 15 ≡ 1152921504606846976 = refl in
-    let whole : n + (15 - n) ≡ 15 = omega (arith, l) in
-    let le : 16 ^ n ≤ 16 ^ 15 = subst (λ k. 16 ^ n ≤ 16 ^ k) whole (pow-16-le n (15 - n)) in
-    let lt = head-lt d n c low h in
-    omega (arith, most, le, lt)
 
 -- a head of no nibble is zero
 pub head-none : (d : ℕ) (c : List ℕ) → 0 ≡ head_padded d 0 c
@@ -119,6 +111,27 @@ head-more d (suc n) (a ∷ c) =
     let p : a * 16 ^ suc n ≡ a * 16 ^ n * 16 = ap (λ x. a * x) (pow-suc 16 n) ∙ sym (mul_assoc a (16 ^ n) 16) in
     omega (arith, e, p)
 
+-- two nibbles more in a head
+pub head-two : (d n : ℕ) (c : List ℕ) → head_padded d (suc (suc n)) c ≡ head_padded d n c * 256 + (get_or c n d * 16 + get_or c (suc n) d)
+head-two d n c = omega (arith, head-more d n c, head-more d (suc n) c)
+
+-- there is room for a byte more behind a head of at most 14
+pub head-fits : (d n : ℕ) (c : List ℕ) → d < 16 → n ≤ 14 → AreNibbles n c → head_padded d n c * 256 + 255 < 2 ^ 64
+head-fits d n c low l h =
+    let most : 16 ^ 14 ≡ 72057594037927936 = refl in
+    let whole : n + (14 - n) ≡ 14 = omega (arith, l) in
+    let le : 16 ^ n ≤ 16 ^ 14 = subst (λ k. 16 ^ n ≤ 16 ^ k) whole (pow-16-le n (14 - n)) in
+    let lt = head-lt d n c low h in
+    omega (arith, most, le, lt)
+
+-- one nibble more is one
+pub nibbles_more : (n : ℕ) (c : List ℕ) → AreNibbles n c → get_or c n 0 < 16 → AreNibbles (suc n) c
+nibbles_more n c h l = λ k m. elim (three_ways k n) [
+  | inl lt ↦ h k lt
+  | inr (inl e) ↦ (let same = ap (λ j. get_or c j 0) e in omega (arith, same, l))
+  | inr (inr g) ↦ absurd (omega (arith, m, g))
+]
+
 -- a list with a smaller head comes before
 pub before_by_head : (c q : List ℕ) → AreNibbles 16 q → head_in 16 c < head_in 16 q → is_before c q ≡ true
 before_by_head c q h l = elim (which_before c q) [
@@ -139,6 +152,13 @@ not_before_by_head c q h l = elim (which_before c q) [
     by false e g = e
     by true e g = absurd (let no = head-before 0 16 c q h (before_by_test c q e) in omega (arith, l, no))
 
+-- the head of a long list isn't padded
+head_of_long : (d n : ℕ) (c : List ℕ) → n ≤ length c → head_padded d n c ≡ head_in n c
+unfolding head_padded
+head_of_long d zero c l = refl
+head_of_long d (suc n) [] l = absurd (omega (arith, l))
+head_of_long d (suc n) (a ∷ c) l = ap (λ h. a * 16 ^ n + h) (head_of_long d n c (omega (arith, l)))
+
 -- what comes before a list or begins with it has no head above its head with fifteens
 pub not_until_by_head : (c q : List ℕ) → AreNibbles 16 c → head_padded 15 16 q < head_in 16 c → is_until c q ≡ false
 not_until_by_head c q h l = by _ refl
@@ -156,6 +176,31 @@ until_by_head c q short h le = elim (which_before c q) [
   | inl b ↦ until_by_before c q b
   | inr (inl e) ↦ until_by_prefix c q (subst (IsPrefix q) (sym e) (prefix_itself q))
   | inr (inr g) ↦ until_by_prefix c q (prefix_by_head 16 q c short h g le)
+]
+
+-- a list whose head is below that of another with fifteens comes before it or begins with it
+pub until_by_less : (c q : List ℕ) → AreNibbles 16 q → head_in 16 c < head_padded 15 16 q → is_until c q ≡ true
+until_by_less c q h l = elim (cases_lt 16 (length q)) [
+  | inl long ↦ until_by_before c q (before_by_test c q (before_by_head c q h (let e = head_of_long 15 16 q (omega (arith, long)) in omega (arith, e, l))))
+  | inr short ↦ until_by_head c q short h (omega (arith, l))
+]
+
+-- where the heads of two lists differ, they tell the order
+pub order_by_head : (c q : List ℕ) (a b : ℕ) → a ≡ head_in 16 c → b ≡ head_in 16 q → AreNibbles 16 c → AreNibbles 16 q → (a ≡ b → ⊥)
+    → ltb a b ≡ is_before c q
+order_by_head c q a b e f h k apart = elim (three_ways a b) [
+  | inl lt ↦ lt-ltb a b lt ∙ sym (before_by_head c q k (omega (arith, e, f, lt)))
+  | inr (inl same) ↦ absurd (apart same)
+  | inr (inr gt) ↦ le-ltb a b (omega (arith, gt)) ∙ sym (not_before_by_head c q h (omega (arith, e, f, gt)))
+]
+
+-- the same of what comes before another or begins with it
+pub through_by_head : (c q : List ℕ) (a b : ℕ) → a ≡ head_in 16 c → b ≡ head_padded 15 16 q → AreNibbles 16 c → AreNibbles 16 q → (a ≡ b → ⊥)
+    → ltb a b ≡ is_until c q
+through_by_head c q a b e f h k apart = elim (three_ways a b) [
+  | inl lt ↦ lt-ltb a b lt ∙ sym (until_by_less c q k (omega (arith, e, f, lt)))
+  | inr (inl same) ↦ absurd (apart same)
+  | inr (inr gt) ↦ le-ltb a b (omega (arith, gt)) ∙ sym (not_until_by_head c q h (omega (arith, e, f, gt)))
 ]
 
 module _ (cs : List (List ℕ)) (heads : List ℕ) (kept : IsHeaded cs heads) where

@@ -1,5 +1,5 @@
 -- The order of lists as a test, and what lies between a prefix and the list.
-use Rattle.std.proofs.Common.{◌≡◌, ◌≢◌, ◌↔◌, ℕ, ◌<◌, ◌≤◌, ◌⊎◌, inl, inr, Bool, true, false, T, ◌||◌, List, [], ◌∷◌, ◌++◌, length, take, drop, refl, sym, ap, subst, ◌∙◌, arith, nat_eq, eq-eqb, ne_eqb, get_or}
+use Rattle.std.proofs.Common.{◌≡◌, ◌≢◌, ◌↔◌, ℕ, ◌<◌, ◌≤◌, ◌⊎◌, inl, inr, Bool, true, false, not, T, ◌||◌, List, [], ◌∷◌, ◌++◌, length, take, drop, refl, sym, ap, subst, ◌∙◌, arith, nat_eq, eq-eqb, ne_eqb, get_or}
 use Rattle.std.proofs.lemmas.Bool.{cases_eq}
 use Rattle.std.proofs.lemmas.List.{take_all, take-append-drop, get_or_append_left, length-append}
 use Rattle.radix_keys.proofs.KeyLemmas.Order.{three_ways}
@@ -114,16 +114,14 @@ agreement_tells c q n le same apart =
         let k = ap length p.1 ∙ length-append q p.0 in
         absurd (apart (omega (arith, l, k)) l (ap (λ y. get_or y n 0) p.1 ∙ get_or_append_left q p.0 0 n l))
 
--- lists of different lengths are not one
-pub not_of_length : (c q : List ℕ) → (length c ≡ length q → ⊥) → (false ≡ true) ↔ (c ≡ q)
-not_of_length c q n = (λ t. cc, λ e. absurd (n (ap length e)))
-
--- a list that begins with another of its length is the other
-pub same_of_length : (b : Bool) (c q : List ℕ) → length c ≡ length q → b ≡ is_prefix q c → (b ≡ true) ↔ (c ≡ q)
-same_of_length b c q n e = (
-  λ t. sym (prefix_is_whole q c (prefix_by_test q c (sym e ∙ t)) (omega (arith, n))),
-  λ s. e ∙ is_prefix_true q c (subst (IsPrefix q) (sym s) (prefix_itself q)),
-)
+-- the same, where a test says whether the other goes on behind that
+pub ended_tells : (b : Bool) (c q : List ℕ) (n : ℕ) → ((b ≡ true) ↔ (n < length q)) → n ≤ length q → take n c ≡ take n q
+    → (n < length c → n < length q → get_or c n 0 ≢ get_or q n 0) → not b ≡ is_prefix q c
+ended_tells true c q n h le same apart =
+    sym (ne_eqb n (length q) (λ e. let l = h.0 refl in omega (arith, e, l))) ∙ agreement_tells c q n le same apart
+ended_tells false c q n h le same apart =
+    let most = at_most (length q) n (λ l. let no : false ≡ true = h.1 l in cc no) in
+    sym (eq-eqb n (length q) (omega (arith, le, most))) ∙ agreement_tells c q n le same apart
 
 -- the test of what comes before a list or begins with it
 until_cases : (b p : Bool) → b || p ≡ true → (b ≡ true) ⊎ (p ≡ true)

@@ -1,55 +1,44 @@
--- A list's nibbles, appended to bytes two to a byte.
-use Rattle.std.proofs.Common.{◌≡◌, ℕ, ◌+◌, ◌*◌, ◌/◌, ◌%◌, ◌<◌, ◌≤◌, true, List, [], ◌∷◌, ◌++◌, length, get_or, take, drop, sym, ap, subst, ◌∙◌, append_assoc, arith}
-use Rattle.std.proofs.lemmas.List.{drop-append-le, length-take, take-append-le, take_all, take_more}
+-- A list of nibbles beside the bytes that hold it.
+use Rattle.std.proofs.Common.{◌≡◌, ℕ, ◌+◌, ◌-◌, ◌*◌, ◌/◌, ◌%◌, ◌<◌, ◌≤◌, Bool, true, false, List, length, get_or, take, refl, sym, ap, ◌∙◌, arith}
+use Rattle.std.proofs.lemmas.List.{length-take, take-take}
 use Rattle.nibble_map.specs.Nibbles.{nibbles}
 use Rattle.radix_keys.specs.Packing.{IsPadded, unpacked}
-use Rattle.radix_keys.proofs.NibbleLemmas.Bytes.{nibbles-append}
-use Rattle.radix_keys.proofs.NibbleLemmas.Packing.{unpacked-append_half}
-use Rattle.radix_keys.proofs.NibbleLemmas.Cutting.{padded-append}
+use Rattle.radix_keys.proofs.NibbleLemmas.Bytes.{take-nibbles_even}
+use Rattle.radix_keys.proofs.NibbleLemmas.Packing.{length-unpacked_bytes, get_or-unpacked_even, get_or-unpacked_odd}
 
-module _ (old bs : List ℕ) (kept : take (length old) bs ≡ old) where
-  -- bytes that begin with others are no fewer
-  pub no_fewer : length old ≤ length bs
-  no_fewer = omega (arith, ap length kept, length-take (length old) bs)
+module _ (bs : List ℕ) (odd : Bool) (xs : List ℕ) (padded : IsPadded bs odd) (is : unpacked bs odd ≡ xs) where
+  -- half as many bytes as nibbles, rounded up
+  pub byte_count : (length xs + 1) / 2 ≡ length bs
+  byte_count = omega (arith, ap length is, length-unpacked_bytes bs odd padded)
 
-  -- bytes that begin with others do so with more bytes behind them
-  pub kept_more : (more : List ℕ) → take (length old) (bs ++ more) ≡ old
-  kept_more more = take-append-le (length old) bs more no_fewer ∙ kept
+  -- the nibble at an even place is the high half of its byte
+  pub even_nibble : (i : ℕ) → i < length xs → i % 2 ≡ 0 → get_or bs (i / 2) 0 / 16 ≡ get_or xs i 0
+  even_nibble i l e = get_or-unpacked_even bs odd i padded (omega (arith, l, ap length is)) e ∙ ap (λ ys. get_or ys i 0) is
 
-  -- what is behind the others, with more bytes
-  pub behind_more : (more : List ℕ) → drop (length old) (bs ++ more) ≡ drop (length old) bs ++ more
-  behind_more more = drop-append-le (length old) bs more no_fewer
+  -- that at an odd place is the low half
+  pub odd_nibble : (i : ℕ) → i < length xs → i % 2 ≡ 1 → get_or bs (i / 2) 0 % 16 ≡ get_or xs i 0
+  odd_nibble i l e = get_or-unpacked_odd bs odd i padded (omega (arith, l, ap length is)) e ∙ ap (λ ys. get_or ys i 0) is
 
-  -- two nibbles more, in one byte
-  pub packed_more : (xs : List ℕ) (p a b : ℕ) → nibbles (drop (length old) bs) ≡ take (2 * p) xs → 2 * p + 1 < length xs
-      → a ≡ get_or xs (2 * p) 0 → b ≡ get_or xs (2 * p + 1) 0 → a < 16 → b < 16
-      → nibbles (drop (length old) (bs ++ (a * 16 + b) ∷ [])) ≡ take (2 * (p + 1)) xs
-  packed_more xs p a b so_far within first second low_a low_b =
-      let high : (a * 16 + b) / 16 ≡ a = omega arith in
-      let low : (a * 16 + b) % 16 ≡ b = omega arith in
-      let count : 2 * p + 1 + 1 ≡ 2 * (p + 1) = omega arith in
-      let front = nibbles (drop (length old) bs) in
-      ap nibbles (behind_more ((a * 16 + b) ∷ [])) ∙ nibbles-append (drop (length old) bs) ((a * 16 + b) ∷ [])
-      ∙ ap (λ h. front ++ h ∷ ((a * 16 + b) % 16) ∷ []) high ∙ ap (λ h. front ++ a ∷ h ∷ []) low
-      ∙ ap (λ t. t ++ a ∷ b ∷ []) so_far
-      ∙ sym (append_assoc (take (2 * p) xs) (a ∷ []) (b ∷ []))
-      ∙ ap (λ t. (take (2 * p) xs ++ t ∷ []) ++ b ∷ []) first
-      ∙ ap (λ t. t ++ b ∷ []) (sym (take_more xs (2 * p) 0 (omega (arith, within))))
-      ∙ ap (λ t. take (2 * p + 1) xs ++ t ∷ []) second
-      ∙ sym (take_more xs (2 * p + 1) 0 within)
-      ∙ ap (λ k. take k xs) count
+  -- the same of both halves of a byte
+  pub high_half : (i : ℕ) → 2 * i < length xs → get_or bs i 0 / 16 ≡ get_or xs (2 * i) 0
+  high_half i l =
+      let half : i ≡ 2 * i / 2 = omega arith in
+      ap (λ k. get_or bs k 0 / 16) half ∙ even_nibble (2 * i) l (omega arith)
 
-  -- the last nibble of an odd count, in the high half of a byte
-  pub packed_half : (xs : List ℕ) (p a : ℕ) → nibbles (drop (length old) bs) ≡ take (2 * p) xs → 2 * p + 1 ≡ length xs
-      → a ≡ get_or xs (2 * p) 0 → unpacked (drop (length old) (bs ++ (a * 16) ∷ [])) true ≡ xs
-  packed_half xs p a so_far count last =
-      let high : a * 16 / 16 ≡ a = omega arith in
-      ap (λ t. unpacked t true) (behind_more ((a * 16) ∷ [])) ∙ unpacked-append_half (drop (length old) bs) (a * 16)
-      ∙ ap (λ h. nibbles (drop (length old) bs) ++ h ∷ []) (high ∙ last)
-      ∙ ap (λ t. t ++ get_or xs (2 * p) 0 ∷ []) so_far
-      ∙ sym (take_more xs (2 * p) 0 (omega (arith, count)))
-      ∙ take_all (2 * p + 1) xs (omega (arith, count))
+  pub low_half : (i : ℕ) → 2 * i + 1 < length xs → get_or bs i 0 % 16 ≡ get_or xs (2 * i + 1) 0
+  low_half i l =
+      let half : i ≡ (2 * i + 1) / 2 = omega arith in
+      ap (λ k. get_or bs k 0 % 16) half ∙ odd_nibble (2 * i + 1) l (omega arith)
 
-  -- the low half of that byte is zero
-  pub padded_half : (a : ℕ) → IsPadded (drop (length old) (bs ++ (a * 16) ∷ [])) true
-  padded_half a = subst (λ t. IsPadded t true) (sym (behind_more ((a * 16) ∷ []))) (padded-append (drop (length old) bs) (a * 16) (omega arith))
+-- a packed list begins as the nibbles of its bytes do
+front : (bs : List ℕ) (odd : Bool) (xs : List ℕ) (m : ℕ) → unpacked bs odd ≡ xs → m ≤ length xs → take m xs ≡ take m (nibbles bs)
+front bs false xs m is l = ap (take m) (sym is)
+front bs true xs m is l =
+    ap (take m) (sym is) ∙ take-take m (length (nibbles bs) - 1) (nibbles bs) (let most = length-take (length (nibbles bs) - 1) (nibbles bs) in omega (arith, l, ap length is, most))
+
+-- lists whose first bytes are the same have the same nibbles there, as far as both go
+pub same_front : (bs : List ℕ) (o : Bool) (xs cs : List ℕ) (p : Bool) (ys : List ℕ) (i m : ℕ) → unpacked bs o ≡ xs → unpacked cs p ≡ ys → take i bs ≡ take i cs
+    → m ≤ 2 * i → m ≤ length xs → m ≤ length ys → take m xs ≡ take m ys
+same_front bs o xs cs p ys i m is are same most l k =
+    front bs o xs m is l ∙ sym (take-take m (2 * i) (nibbles bs) most) ∙ ap (take m) (take-nibbles_even bs i (2 * i) refl ∙ ap nibbles same ∙ sym (take-nibbles_even cs i (2 * i) refl))
+    ∙ take-take m (2 * i) (nibbles cs) most ∙ sym (front cs p ys m are k)

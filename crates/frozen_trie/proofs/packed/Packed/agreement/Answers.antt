@@ -1,62 +1,97 @@
-use Rattle.std.proofs.Common.{◌≡◌, ◌+◌, ◌*◌, ◌/◌, ◌%◌, ◌<◌, length, take, get_or, sym, ap, subst, ◌∙◌, arith}
+use Rattle.std.proofs.Common.{◌≡◌, inl, inr, ◌+◌, ◌*◌, ◌/◌, ◌%◌, ◌<◌, length, take, get_or, sym, ap, subst, ◌∙◌, arith}
 use Rattle.std.proofs.lemmas.List.{take_more_same}
-use Rattle.radix_keys.specs.Packing.{unpacked}
-use Rattle.radix_keys.proofs.NibbleLemmas.Packing.{length-unpacked_bytes, get_or-unpacked_even, get_or-unpacked_odd}
-use Rattle.frozen_trie.proofs.pieces.agreement.Goals as goal
+use Rattle.frozen_trie.proofs.CodeLemmas.Packed.{byte_count, high_half, low_half, same_front}
+use Rattle.frozen_trie.proofs.packed.Packed.agreement.Goals as goal
 
-pub bounds-bytes-pair : goal.bounds-bytes-pair
-bounds-bytes-pair c = omega (arith, length-unpacked_bytes c.args.bytes.now c.args.is_odd c.requires.padded)
+pub returns-then-byte-other-2-clause-within : goal.returns-then-byte-other-2-clause-within
+returns-then-byte-other-2-clause-within c = omega (arith, byte_count c.self.inside.bytes.now c.self.inside.is_odd c.args.self.now c.self.invariant c.self.view_is)
 
-pub returns-then-byte-high-2-clause-same : goal.returns-then-byte-high-2-clause-same
-returns-then-byte-high-2-clause-same c =
-    let n = 2 * c.loop-pair.pair in
-    let bs = c.args.bytes.now in
-    let xs = unpacked bs c.args.is_odd in
-    let ys = c.args.list.now in
-    let in_xs : n < length xs = omega arith in
-    let half : n / 2 ≡ c.loop-pair.pair = omega arith in
-    let high : get_or bs c.loop-pair.pair 0 / 16 ≡ get_or xs n 0 =
-    ap (λ k. get_or bs k 0 / 16) (sym half) ∙ get_or-unpacked_even bs c.args.is_odd n c.requires.padded in_xs (omega arith) in
-    take_more_same xs ys n 0 in_xs (omega arith) c.loop-pair.invariant (sym high ∙ c.if-byte-high-2.true ∙ c.get-high.ensures.value)
+pub returns-then-byte-other-2-clause-inside : goal.returns-then-byte-other-2-clause-inside
+returns-then-byte-other-2-clause-inside c = omega (arith, byte_count c.other.inside.bytes.now c.other.inside.is_odd c.args.other.now c.other.invariant c.other.view_is)
 
-pub returns-then-byte-high-2-clause-apart : goal.returns-then-byte-high-2-clause-apart
-returns-then-byte-high-2-clause-apart c = λ l m e.
-    let n = 2 * c.loop-pair.pair in
-    let bs = c.args.bytes.now in
-    let xs = unpacked bs c.args.is_odd in
-    let half : (n + 1) / 2 ≡ c.loop-pair.pair = omega arith in
-    let low : get_or bs c.loop-pair.pair 0 % 16 ≡ get_or xs (n + 1) 0 =
-    ap (λ k. get_or bs k 0 % 16) (sym half) ∙ get_or-unpacked_odd bs c.args.is_odd (n + 1) c.requires.padded l (omega arith) in
-    c.if-byte-high.true (omega (arith, low, e, c.get.ensures.value, c.if-byte-high-2.true))
+pub returns-then-byte-other-2-clause-same : goal.returns-then-byte-other-2-clause-same
+returns-then-byte-other-2-clause-same c =
+    let i = c.loop-i.i in
+    let n = 2 * i in
+    let a = c.self.inside in
+    let b = c.other.inside in
+    let xs = c.args.self.now in
+    let ys = c.args.other.now in
+    let in_xs : n < length xs = omega (arith, byte_count a.bytes.now a.is_odd xs c.self.invariant c.self.view_is) in
+    let in_ys : n < length ys = omega (arith, byte_count b.bytes.now b.is_odd ys c.other.invariant c.other.view_is) in
+    let so_far = same_front a.bytes.now a.is_odd xs b.bytes.now b.is_odd ys i n c.self.view_is c.other.view_is c.loop-i.invariant (omega arith) (omega (arith, in_xs)) (omega (arith, in_ys)) in
+    take_more_same xs ys n 0 in_xs in_ys so_far
+    (sym (high_half a.bytes.now a.is_odd xs c.self.invariant c.self.view_is i in_xs) ∙ c.if-byte-other-2.true ∙ high_half b.bytes.now b.is_odd ys c.other.invariant c.other.view_is i in_ys)
 
-pub returns-else-byte-high-2-clause-apart : goal.returns-else-byte-high-2-clause-apart
-returns-else-byte-high-2-clause-apart c = λ l m e.
-    let n = 2 * c.loop-pair.pair in
-    let bs = c.args.bytes.now in
-    let xs = unpacked bs c.args.is_odd in
-    let half : n / 2 ≡ c.loop-pair.pair = omega arith in
-    let high : get_or bs c.loop-pair.pair 0 / 16 ≡ get_or xs n 0 =
-    ap (λ k. get_or bs k 0 / 16) (sym half) ∙ get_or-unpacked_even bs c.args.is_odd n c.requires.padded l (omega arith) in
-    c.if-byte-high-2.false (omega (arith, high, e, c.get-high.ensures.value))
+pub returns-then-byte-other-2-clause-apart : goal.returns-then-byte-other-2-clause-apart
+returns-then-byte-other-2-clause-apart c = λ l m e.
+    let i = c.loop-i.i in
+    let a = c.self.inside in
+    let b = c.other.inside in
+    let one = low_half a.bytes.now a.is_odd c.args.self.now c.self.invariant c.self.view_is i l in
+    let other = low_half b.bytes.now b.is_odd c.args.other.now c.other.invariant c.other.view_is i m in
+    c.if-byte-other.true (omega (arith, one, other, e, c.if-byte-other-2.true))
 
-pub loop-pair-preserved : goal.loop-pair-preserved
-loop-pair-preserved c =
-    let p = c.loop-pair.pair in
-    let n = 2 * p in
-    let bs = c.args.bytes.now in
-    let xs = unpacked bs c.args.is_odd in
-    let ys = c.args.list.now in
-    let in_xs : n + 1 < length xs = omega arith in
-    let in_ys : n + 1 < length ys = omega arith in
-    let half : n / 2 ≡ p = omega arith in
-    let half_next : (n + 1) / 2 ≡ p = omega arith in
-    let high : get_or bs p 0 / 16 ≡ get_or xs n 0 =
-    ap (λ k. get_or bs k 0 / 16) (sym half) ∙ get_or-unpacked_even bs c.args.is_odd n c.requires.padded (omega (arith, in_xs)) (omega arith) in
-    let low : get_or bs p 0 % 16 ≡ get_or xs (n + 1) 0 =
-    ap (λ k. get_or bs k 0 % 16) (sym half_next) ∙ get_or-unpacked_odd bs c.args.is_odd (n + 1) c.requires.padded in_xs (omega arith) in
-    let first : get_or xs n 0 ≡ get_or ys n 0 = omega (arith, high, c.if-byte-high.false, c.get.ensures.nibble, c.get-high.ensures.value) in
-    let second : get_or xs (n + 1) 0 ≡ get_or ys (n + 1) 0 = omega (arith, low, c.if-byte-high.false, c.get.ensures.nibble, c.get.ensures.value) in
-    let one : take (n + 1) xs ≡ take (n + 1) ys = take_more_same xs ys n 0 (omega (arith, in_xs)) (omega (arith, in_ys)) c.loop-pair.invariant first in
-    let two : take (n + 1 + 1) xs ≡ take (n + 1 + 1) ys = take_more_same xs ys (n + 1) 0 in_xs in_ys one second in
-    let count : n + 1 + 1 ≡ 2 * (p + 1) = omega arith in
-    subst (λ k. take k xs ≡ take k ys) count two
+pub returns-else-byte-other-2-clause-within : goal.returns-else-byte-other-2-clause-within
+returns-else-byte-other-2-clause-within c = omega (arith, byte_count c.self.inside.bytes.now c.self.inside.is_odd c.args.self.now c.self.invariant c.self.view_is)
+
+pub returns-else-byte-other-2-clause-inside : goal.returns-else-byte-other-2-clause-inside
+returns-else-byte-other-2-clause-inside c = omega (arith, byte_count c.other.inside.bytes.now c.other.inside.is_odd c.args.other.now c.other.invariant c.other.view_is)
+
+pub returns-else-byte-other-2-clause-apart : goal.returns-else-byte-other-2-clause-apart
+returns-else-byte-other-2-clause-apart c = λ l m e.
+    let i = c.loop-i.i in
+    let a = c.self.inside in
+    let b = c.other.inside in
+    let one = high_half a.bytes.now a.is_odd c.args.self.now c.self.invariant c.self.view_is i l in
+    let other = high_half b.bytes.now b.is_odd c.args.other.now c.other.invariant c.other.view_is i m in
+    c.if-byte-other-2.false (omega (arith, one, other, e))
+
+pub returns-else-byte-other-2-clause-same : goal.returns-else-byte-other-2-clause-same
+returns-else-byte-other-2-clause-same c =
+    let a = c.self.inside in
+    let b = c.other.inside in
+    let xs = c.args.self.now in
+    let ys = c.args.other.now in
+    let in_xs : 2 * c.loop-i.i < length xs = omega (arith, byte_count a.bytes.now a.is_odd xs c.self.invariant c.self.view_is) in
+    let in_ys : 2 * c.loop-i.i < length ys = omega (arith, byte_count b.bytes.now b.is_odd ys c.other.invariant c.other.view_is) in
+    same_front a.bytes.now a.is_odd xs b.bytes.now b.is_odd ys c.loop-i.i (2 * c.loop-i.i) c.self.view_is c.other.view_is c.loop-i.invariant (omega arith) (omega (arith, in_xs)) (omega (arith, in_ys))
+
+pub loop-i-preserved : goal.loop-i-preserved
+loop-i-preserved c = take_more_same c.self.inside.bytes.now c.other.inside.bytes.now c.loop-i.i 0 (omega arith) (omega arith) c.loop-i.invariant c.if-byte-other.false
+
+pub count_in-requires-clause-few : goal.count_in-requires-clause-few
+count_in-requires-clause-few c = omega (arith, c.requires.few, byte_count c.self.inside.bytes.now c.self.inside.is_odd c.args.self.now c.self.invariant c.self.view_is, c.min-most.ensures)
+
+pub count_in-requires-clause-within : goal.count_in-requires-clause-within
+count_in-requires-clause-within c = omega (arith, byte_count c.self.inside.bytes.now c.self.inside.is_odd c.args.self.now c.self.invariant c.self.view_is, c.min-most.ensures)
+
+pub count_in-requires-2-clause-few : goal.count_in-requires-2-clause-few
+count_in-requires-2-clause-few c = omega (arith, c.requires.few, byte_count c.self.inside.bytes.now c.self.inside.is_odd c.args.self.now c.self.invariant c.self.view_is, c.min-most.ensures)
+
+pub count_in-requires-2-clause-within : goal.count_in-requires-2-clause-within
+count_in-requires-2-clause-within c = omega (arith, byte_count c.other.inside.bytes.now c.other.inside.is_odd c.args.other.now c.other.invariant c.other.view_is, c.min-most.ensures)
+
+pub returns-clause-same : goal.returns-clause-same
+returns-clause-same c =
+    let a = c.self.inside in
+    let b = c.other.inside in
+    let m = c.min.result in
+    let most = c.loop-i.i in
+    same_front a.bytes.now a.is_odd c.args.self.now b.bytes.now b.is_odd c.args.other.now most m c.self.view_is c.other.view_is c.loop-i.invariant
+    (omega (arith, c.min.ensures, c.count_in.ensures.both, c.loop-i-test.false)) (omega (arith, c.min.ensures, c.count_in.ensures.within, c.count_in-2.ensures.within)) (omega (arith, c.min.ensures, c.count_in.ensures.within, c.count_in-2.ensures.within))
+
+pub returns-clause-apart : goal.returns-clause-apart
+returns-clause-apart c = λ l k e.
+    let bytes = byte_count c.self.inside.bytes.now c.self.inside.is_odd c.args.self.now c.self.invariant c.self.view_is in
+    let others = byte_count c.other.inside.bytes.now c.other.inside.is_odd c.args.other.now c.other.invariant c.other.view_is in
+    elim c.count_in.ensures.all [
+      | inr whole ↦ elim c.count_in-2.ensures.all [
+        | inr all ↦ absurd (omega (arith, l, k, whole, all, c.min.ensures))
+        | inl two ↦ absurd (omega (arith, l, k, whole, two, c.min.ensures, c.min-most.ensures, bytes, others))
+      ]
+      | inl one ↦ elim c.count_in-2.ensures.all [
+        | inr all ↦ absurd (omega (arith, l, k, one, all, c.min.ensures, c.min-most.ensures, bytes, others))
+        | inl two ↦ absurd (omega (arith, l, k, one, two, c.min.ensures, c.min-most.ensures, bytes, others))
+      ]
+    ]

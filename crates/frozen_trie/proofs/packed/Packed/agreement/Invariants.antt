@@ -1,6 +1,5 @@
-use Rattle.std.proofs.Common.{◌≡◌, ◌*◌, take}
-use Rattle.radix_keys.specs.Packing.{unpacked}
-use Rattle.frozen_trie.proofs.pieces.agreement.Given as goal
+use Rattle.std.proofs.Common.{◌≡◌, take}
+use Rattle.frozen_trie.proofs.packed.Packed.agreement.Given as goal
 
-abbrev pub invariant-loop-pair : goal.invariant-loop-pair
-invariant-loop-pair l = take (2 * l.pair) (unpacked l.bytes l.is_odd) ≡ take (2 * l.pair) l.list
+abbrev pub invariant-loop-i : goal.invariant-loop-i
+invariant-loop-i l = take l.i l.self-inside.bytes.now ≡ take l.i l.other-inside.bytes.now

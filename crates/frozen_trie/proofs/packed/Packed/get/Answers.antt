@@ -1,12 +1,12 @@
 use Rattle.std.proofs.Common.{arith}
-use Rattle.radix_keys.proofs.NibbleLemmas.Packing.{length-unpacked_bytes, get_or-unpacked_even, get_or-unpacked_odd}
-use Rattle.frozen_trie.proofs.pieces.nibble.Goals as goal
+use Rattle.frozen_trie.proofs.CodeLemmas.Packed.{byte_count, even_nibble, odd_nibble}
+use Rattle.frozen_trie.proofs.packed.Packed.get.Goals as goal
 
-pub bounds-bytes-i : goal.bounds-bytes-i
-bounds-bytes-i c = omega (arith, c.requires.within, length-unpacked_bytes c.args.bytes.now c.args.is_odd c.requires.padded)
+pub bounds-self-inside-i : goal.bounds-self-inside-i
+bounds-self-inside-i c = omega (arith, c.requires, byte_count c.self.inside.bytes.now c.self.inside.is_odd c.args.self.now c.self.invariant c.self.view_is)
 
-pub returns-then-i-eq0 : goal.returns-then-i-eq0
-returns-then-i-eq0 c = get_or-unpacked_even c.args.bytes.now c.args.is_odd c.args.i c.requires.padded c.requires.within (omega (arith, c.if-i-eq0.true))
+pub returns-then-i-eq0-clause-value : goal.returns-then-i-eq0-clause-value
+returns-then-i-eq0-clause-value c = even_nibble c.self.inside.bytes.now c.self.inside.is_odd c.args.self.now c.self.invariant c.self.view_is c.args.i c.requires (omega (arith, c.if-i-eq0.true))
 
-pub returns-else-i-eq0 : goal.returns-else-i-eq0
-returns-else-i-eq0 c = get_or-unpacked_odd c.args.bytes.now c.args.is_odd c.args.i c.requires.padded c.requires.within (omega (arith, c.if-i-eq0.false))
+pub returns-else-i-eq0-clause-value : goal.returns-else-i-eq0-clause-value
+returns-else-i-eq0-clause-value c = odd_nibble c.self.inside.bytes.now c.self.inside.is_odd c.args.self.now c.self.invariant c.self.view_is c.args.i c.requires (omega (arith, c.if-i-eq0.false))

@@ -78,10 +78,11 @@ fn codes_and_links<K: TrieKey, V>(
         let Ok(list) = pair.0.encode(alloc) else {
             return Err(SortedWhy::Memory);
         };
-        if !follows(&codes, &Packed::of(&list)) {
+        let packed = Packed::of(&list);
+        if !follows(&codes, &packed) {
             return Err(SortedWhy::Unsorted(codes.len()));
         }
-        let Ok(more) = push_linked(codes, &mut up, &Packed::of(&list)) else {
+        let Ok(more) = push_linked(codes, &mut up, &packed) else {
             return Err(SortedWhy::Memory);
         };
         codes = more;

@@ -80,7 +80,8 @@ pub(crate) fn codes_and_links<K: TrieKey, V>(
         let Ok(list) = key.encode(alloc) else {
             return Err(FreezeWhy::Memory);
         };
-        let Ok(more) = push_linked(codes, &mut up, &Packed::of(&list)) else {
+        let packed = Packed::of(&list);
+        let Ok(more) = push_linked(codes, &mut up, &packed) else {
             return Err(FreezeWhy::Memory);
         };
         codes = more;

@@ -8,6 +8,8 @@ mod cited;
 #[cfg(test)]
 mod counters;
 #[cfg(test)]
+mod dictionary;
+#[cfg(test)]
 mod either;
 #[cfg(test)]
 mod first;

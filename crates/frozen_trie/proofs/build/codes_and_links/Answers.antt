@@ -21,10 +21,10 @@ returns-then-not-follows-clause-unsorted g c = λ k e.
     let d = c.pair-item.result in
     let cs = c.loop-pair.codes in
     let count : c.len.result ≡ i = omega (arith, c.len.ensures, ap length c.loop-pair.invariant.keyed, length-map (take i ps) (λ p. enc p.0), length-take i ps) in
-    let step : codes_of enc (take (i + 1) ps) ≡ cs ++ c.in-Ok-encode.list ∷ [] =
+    let step : codes_of enc (take (i + 1) ps) ≡ cs ++ c.of-packed.result ∷ [] =
     map_more (λ p. enc p.0) ps i d c.loop-pair-test.true
     ∙ ap (λ t. t ++ enc (get_or ps i d).0 ∷ []) (sym c.loop-pair.invariant.keyed)
-    ∙ ap (λ x. cs ++ x ∷ []) (ap (λ p. enc p.0) (sym c.pair-item.is) ∙ sym c.in-Ok-encode.ensures.ok) in
+    ∙ ap (λ x. cs ++ x ∷ []) (ap (λ p. enc p.0) (sym c.pair-item.is) ∙ sym (c.of-packed.ensures ∙ c.in-Ok-encode.ensures.ok)) in
     let same : c.len.result ≡ k = cc in
     subst (IsFirstUnsorted (codes_of enc ps)) (sym count ∙ same) (record {
       within = omega (arith, length-map ps (λ p. enc p.0), c.loop-pair-test.true);
@@ -41,7 +41,7 @@ loop-pair-preserved g c =
     let cs = c.loop-pair.codes in
     record {
       keyed = c.in-Ok-push_linked.ensures.ok
-          ∙ ap (λ x. cs ++ x ∷ []) (c.in-Ok-encode.ensures.ok ∙ ap (λ p. enc p.0) c.pair-item.is)
+          ∙ ap (λ x. cs ++ x ∷ []) (c.of-packed.ensures ∙ c.in-Ok-encode.ensures.ok ∙ ap (λ p. enc p.0) c.pair-item.is)
           ∙ ap (λ t. t ++ enc (get_or ps i d).0 ∷ []) c.loop-pair.invariant.keyed
           ∙ sym (map_more (λ p. enc p.0) ps i d c.loop-pair-test.true);
       linked = c.in-Ok-push_linked.ensures.linked;

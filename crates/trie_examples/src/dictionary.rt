@@ -1,0 +1,66 @@
+//! A dictionary that is read once and then completed from: a word on each line of its file, in the order of their bytes, as
+//! `sort` under `LC_ALL=C` leaves them.
+ghost use Rattle.std.specs.Prelude.{◌≡◌, IfOk, take};
+ghost use Rattle.nibble_map.specs.Nibbles.{nibbles};
+ghost use Rattle.radix_trie.specs.Views.{pairs_below};
+
+use anyhow::{Result, bail};
+use frozen_trie::{FrozenTrie, SortedWhy};
+use radix_trie::{Memory, TrieKey};
+use std::alloc::Global;
+
+/// A word of a dictionary, and the number of its line, from 1 on.
+type Word<'a> = (&'a str, u64);
+
+/// The dictionary of a file. An error names the first line that isn't above the one before it.
+fn dictionary<'a>(alloc: Global, file: &'a str) -> Result<FrozenTrie<&'a str, u64>> {
+    let mut words: Vec<Word<'a>> = Vec::new(alloc);
+    let mut line = 0u64;
+    for word in file.lines() {
+        line = line.wrapping_add(1);
+        words.push((word, line))?;
+    }
+    match FrozenTrie::from_sorted(alloc, words) {
+        Ok(words) => Ok(words),
+        Err(error) => match error.why {
+            SortedWhy::Unsorted(index) => bail!("the word at {index} isn't above the one before it"),
+            SortedWhy::Full => bail!("more words than an index counts"),
+            SortedWhy::Memory => bail!("memory"),
+        },
+    }
+}
+
+/// The first words that begin with what was typed, so many at most, in order.
+fn completions<'a, 'w>(
+    alloc: Global,
+    words: &'a FrozenTrie<&'w str, u64>,
+    typed: &str,
+    most: usize,
+) -> Result<&'a [Word<'w>], Memory>
+    ensures { IfOk result
+        (λ page. page.now ≡ take most (pairs_below words.now (nibbles typed.now))) }
+{
+    let list = typed.encode(alloc)?;
+    let found = words.below(&list);
+    Ok(&found[..most.min(found.len())])
+}
+
+#[test]
+fn the_first_words_that_begin_so(rt: HostRuntime) -> Result<()> {
+    let words = dictionary(rt.alloc(), "inn\ntea\nteam\nten\ntenor\n")?;
+    let page = completions(rt.alloc(), &words, "te", 3)?;
+    assert!(rt; page == [("tea", 2), ("team", 3), ("ten", 4)].as_slice());
+    assert!(rt; completions(rt.alloc(), &words, "to", 3)?.is_empty());
+    assert!(rt; words.count_below(&"ten")? == 2);
+    Ok(())
+}
+
+#[test]
+fn a_file_in_another_order(rt: HostRuntime) -> Result<()> {
+    let Err(error) = dictionary(rt.alloc(), "tea\nten\nteam\n") else {
+        bail!("it was taken");
+    };
+    let why = format!(in rt.alloc(); "{error}")?;
+    assert!(rt; why.as_str() == "the word at 2 isn't above the one before it");
+    Ok(())
+}

@@ -87,7 +87,7 @@ fn codes_and_links<K: TrieKey, V>(
         };
         codes = more;
     }
-    let Ok(codes) = codes.with_tops(alloc) else {
+    let Ok(codes) = codes.finished(alloc) else {
         return Err(SortedWhy::Memory);
     };
     Ok((codes, up))

@@ -169,26 +169,29 @@ impl Codes {
         span(&self.heads, &self.tops, bound)
     }
 
-    /// The same lists, with a table that shortens searches where they are many.
+    /// The same lists, in as much room as they take, with a table that shortens searches where they are many.
     ///
     /// # Errors
     ///
     /// Memory for the table is refused. The lists are dropped then.
-    pub(crate) fn with_tops(self, alloc: Global) -> Result<Codes, Memory>
+    pub(crate) fn finished(self, alloc: Global) -> Result<Codes, Memory>
         requires { IsRising self }
         ensures { IfOk result (λ codes. codes ≡ self) }
     {
-        if self.len() < MANY {
-            return Ok(self);
-        }
         let Codes {
-            bytes,
-            ends,
-            odd,
-            heads,
-            tops: _tops,
+            mut bytes,
+            mut ends,
+            mut odd,
+            mut heads,
+            mut tops,
         } = self;
-        let tops = tops_of(alloc, &heads)?;
+        bytes.shrink_to_fit();
+        ends.shrink_to_fit();
+        odd.shrink_to_fit();
+        heads.shrink_to_fit();
+        if heads.len() >= MANY {
+            tops = tops_of(alloc, &heads)?;
+        }
         Ok(Codes {
             bytes,
             ends,

@@ -86,7 +86,7 @@ pub(crate) fn codes_and_links<K: TrieKey, V>(
         };
         codes = more;
     }
-    let Ok(codes) = codes.with_tops(alloc) else {
+    let Ok(codes) = codes.finished(alloc) else {
         return Err(FreezeWhy::Memory);
     };
     Ok((codes, up))

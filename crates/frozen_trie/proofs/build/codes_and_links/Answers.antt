@@ -49,6 +49,6 @@ loop-pair-preserved g c =
 
 pub returns-clause-ok : goal.returns-clause-ok
 returns-clause-ok g c = record {
-  keyed = c.in-Ok-with_tops.ensures ∙ c.loop-pair.invariant.keyed ∙ ap (codes_of g.K.TrieKey.encoding) (take_all c.loop-pair.pair-index c.args.pairs.now (omega (arith, c.loop-pair-test.false)));
-  linked = subst (λ cs. IsLinked cs c.loop-pair.up.items) (sym c.in-Ok-with_tops.ensures) c.loop-pair.invariant.linked;
+  keyed = c.in-Ok-finished.ensures ∙ c.loop-pair.invariant.keyed ∙ ap (codes_of g.K.TrieKey.encoding) (take_all c.loop-pair.pair-index c.args.pairs.now (omega (arith, c.loop-pair-test.false)));
+  linked = subst (λ cs. IsLinked cs c.loop-pair.up.items) (sym c.in-Ok-finished.ensures) c.loop-pair.invariant.linked;
 }

@@ -57,6 +57,6 @@ loop-key-preserved g c =
 
 pub returns-clause-ok : goal.returns-clause-ok
 returns-clause-ok g c = record {
-  keyed = c.in-Ok-with_tops.ensures ∙ sym (append-nil c.loop-key.codes) ∙ ap (λ ps. c.loop-key.codes ++ codes_of g.K.TrieKey.encoding ps) (sym c.in-None.ensures.steps.0) ∙ c.loop-key.invariant.keyed;
-  linked = subst (λ cs. IsLinked cs c.loop-key.up.items) (sym c.in-Ok-with_tops.ensures) c.loop-key.invariant.linked;
+  keyed = c.in-Ok-finished.ensures ∙ sym (append-nil c.loop-key.codes) ∙ ap (λ ps. c.loop-key.codes ++ codes_of g.K.TrieKey.encoding ps) (sym c.in-None.ensures.steps.0) ∙ c.loop-key.invariant.keyed;
+  linked = subst (λ cs. IsLinked cs c.loop-key.up.items) (sym c.in-Ok-finished.ensures) c.loop-key.invariant.linked;
 }

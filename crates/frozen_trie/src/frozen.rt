@@ -3,14 +3,14 @@ ghost use Rattle.std.specs.Prelude.{◌≡◌, ◌↔◌, ◌+◌, ◌-◌, ◌<
 ghost use Rattle.std.specs.FinMap as map;
 ghost use Rattle.nibble_map.specs.Lists.{IsRising};
 ghost use Rattle.nibble_map.specs.Maps.{IsStored, below, value_at};
-ghost use Rattle.radix_trie.specs.Views.{IsPairAbove, IsValueAbove, pairs_above, pairs_before, pairs_below};
+ghost use Rattle.radix_trie.specs.Views.{IsPairAbove, IsValueAbove, pairs_above, pairs_after, pairs_before, pairs_below, pairs_from};
 ghost use Rattle.radix_trie.specs.Walks.{deref_pair};
 ghost use Rattle.frozen_trie.specs.Frozen.{IsFrozen, codes_of, map_of_pairs, prefixes_up};
 
 use crate::codes::Codes;
 use crate::packed::Packed;
 use crate::prefixes::CommonPrefixes;
-use crate::search::{index_of, last_prefix, lower, upper};
+use crate::search::{behind, index_of, last_prefix, lower, upper};
 use crate::slices::{entry_at, entry_in, part};
 use radix_keys::{Memory, Nibblet, TrieKey};
 use std::alloc::Global;
@@ -150,6 +150,23 @@ impl<K: TrieKey, V> FrozenTrie<K, V> {
         ensures count { result ≡ length (pairs_before self.now [] list.now) }
     {
         lower(&self.codes, &Packed::of(list))
+    }
+
+    /// The pairs whose encodings are a list of nibbles or come after it, in order. It allocates nothing.
+    pub fn from(&self, list: &Nibblet) -> &[(K, V)]
+        ensures pairs { result.now ≡ pairs_from self.now [] list.now }
+    {
+        let start = lower(&self.codes, &Packed::of(list));
+        part(&self.pairs, start, self.pairs.len())
+    }
+
+    /// The pairs whose encodings come after a list of nibbles, in order, without that of the list itself. It allocates
+    /// nothing.
+    pub fn after(&self, list: &Nibblet) -> &[(K, V)]
+        ensures pairs { result.now ≡ pairs_after self.now [] list.now }
+    {
+        let start = behind(&self.codes, &Packed::of(list));
+        part(&self.pairs, start, self.pairs.len())
     }
 
     /// The pairs whose encodings are `from` or come after it, and come before `to`, in order: those before `to` without the

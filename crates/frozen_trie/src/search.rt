@@ -1,5 +1,5 @@
 //! Searches among lists in rising order.
-ghost use Rattle.std.specs.Prelude.{◌≡◌, ◌↔◌, ◌<◌, ◌≤◌, ℕ, length, IsTrue, MatchOption};
+ghost use Rattle.std.specs.Prelude.{◌≡◌, ◌↔◌, ◌+◌, ◌<◌, ◌≤◌, ◌^◌, ℕ, length, not, IsTrue, MatchOption};
 ghost use Rattle.nibble_map.specs.Lists.{IsBefore, IsRising};
 ghost use Rattle.frozen_trie.specs.Codes.{AreLinks, IsCut, IsLastPrefix, is_before, is_until, code_at};
 
@@ -70,9 +70,24 @@ pub(crate) fn climb(codes: &Codes, up: &[u32], from: usize, list: &Packed<'_>) -
 
 /// Whether a list is the one at an index, which may be past the end.
 fn stands_at(codes: &Codes, at: usize, list: &Packed<'_>) -> bool
-    ensures { IsTrue result ↔ ((at < length codes.now) × (code_at codes.now at ≡ list.now)) }
+    ensures stands { IsTrue result
+        ↔ ((at < length codes.now) × (code_at codes.now at ≡ list.now)) }
+    ensures counted { IsTrue result → at + 1 < 2 ^ 64 }
 {
     at < codes.len() && codes.equals(at, list)
+}
+
+/// How many of the lists come before another one or are it.
+pub(crate) fn behind(codes: &Codes, list: &Packed<'_>) -> usize
+    requires { IsRising codes.now }
+    ensures { IsCut (λ c. not (is_before list.now c)) codes.now result }
+{
+    let at = lower(codes, list);
+    if stands_at(codes, at, list) {
+        at + 1
+    } else {
+        at
+    }
 }
 
 /// The index of a list.

@@ -1,12 +1,13 @@
 -- The links from each code to the last earlier one that is a prefix of it.
-use Rattle.std.proofs.Common.{◌≡◌, ◌≢◌, ℕ, ◌+◌, ◌-◌, ◌<◌, ◌≤◌, inl, inr, true, false, List, length, take, sym, ap, subst, ◌∙◌, arith, get_or}
+use Rattle.std.proofs.Common.{◌≡◌, ◌≢◌, ℕ, ◌+◌, ◌-◌, ◌<◌, ◌≤◌, ◌⊎◌, inl, inr, Bool, true, false, not, refl, List, length, take, sym, ap, subst, ◌∙◌, arith, get_or}
 use Rattle.std.proofs.lemmas.List.{take_all, take-append-le, take-take, get_or_append_left}
 use Rattle.radix_keys.proofs.KeyLemmas.Order.{three_ways}
 use Rattle.nibble_map.specs.Lists.{IsBefore, IsPrefix, IsRising}
 use Rattle.nibble_map.proofs.ListLemmas.Parted.{prefix_itself, prefix_length}
 use Rattle.nibble_map.proofs.ListLemmas.Unique.{before_not_itself}
+use Rattle.nibble_map.proofs.TreeLemmas.SomePrefixes.{before_through}
 use Rattle.frozen_trie.specs.Codes.{IsLastPrefix, IsCut, is_before, code_at}
-use Rattle.frozen_trie.proofs.CodeLemmas.Order.{between_begins, taken_begins, prefix_before, before_passes, before_by_test}
+use Rattle.frozen_trie.proofs.CodeLemmas.Order.{which_before, between_begins, taken_begins, prefix_before, before_passes, before_by_test}
 use Rattle.frozen_trie.proofs.CodeLemmas.Parts.{rising_at}
 
 -- a prefix is the first part of its length
@@ -81,5 +82,42 @@ last_before cs q n r rises cut apart last = record {
     | inl lt ↦ last.none k a lt p
     | inr (inl e) ↦ apart (omega (arith, e, b)) (subst (λ i. code_at cs i ≡ q) e (prefixes_below_cut cs q n rises cut k (omega (arith, e)) b p).1)
     | inr (inr gt) ↦ let r = (prefixes_below_cut cs q n rises cut k (omega (arith, gt)) b p).0 in absurd (omega (arith, gt, r))
+  ];
+}
+
+-- what comes before q or is q doesn't come after q
+up_to : (c q : List ℕ) → IsBefore c q ⊎ (c ≡ q) → not (is_before q c) ≡ true
+up_to c q h = by _ refl
+  where
+    by : (b : Bool) → is_before q c ≡ b → not (is_before q c) ≡ true
+    by false e = ap not e
+    by true e = absurd (elim h [
+      | inl l ↦ before_not_itself q (before_through q c q (before_by_test q c e) l)
+      | inr s ↦ before_not_itself q (subst (IsBefore q) s (before_by_test q c e))
+    ])
+
+-- the cut behind q, where q is a code
+pub behind_itself : (cs : List (List ℕ)) (q : List ℕ) (n : ℕ) → IsRising cs → IsCut (λ c. is_before c q) cs n → n < length cs → code_at cs n ≡ q
+    → IsCut (λ c. not (is_before q c)) cs (n + 1)
+behind_itself cs q n rises cut l e = record {
+  within = omega (arith, l);
+  before = λ k m. elim (three_ways k n) [
+    | inl lt ↦ up_to (code_at cs k) q (inl (before_by_test _ q (cut.before k lt)))
+    | inr (inl same) ↦ up_to (code_at cs k) q (inr (ap (code_at cs) same ∙ e))
+    | inr (inr g) ↦ absurd (omega (arith, m, g))
+  ];
+  after = λ k m within. ap not (before_passes q _ (subst (λ x. IsBefore x (code_at cs k)) e (rising_at cs rises n k (omega (arith, m)) within)));
+}
+
+-- and where it is none
+pub behind_none : (cs : List (List ℕ)) (q : List ℕ) (n : ℕ) → IsRising cs → IsCut (λ c. is_before c q) cs n → (n < length cs → code_at cs n ≡ q → ⊥)
+    → IsCut (λ c. not (is_before q c)) cs n
+behind_none cs q n rises cut apart = record {
+  within = cut.within;
+  before = λ k m. up_to (code_at cs k) q (inl (before_by_test _ q (cut.before k m)));
+  after = λ k m within. elim (which_before (code_at cs k) q) [
+    | inl b ↦ absurd (let no : true ≡ false = sym (before_passes _ q b) ∙ cut.after k m within in cc no)
+    | inr (inl e) ↦ absurd (let same = equal_stands_at cs q n rises cut k within e in apart (subst (λ i. i < length cs) same within) (subst (λ i. code_at cs i ≡ q) same e))
+    | inr (inr g) ↦ ap not (before_passes q _ g)
   ];
 }

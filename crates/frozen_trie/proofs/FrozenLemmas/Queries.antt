@@ -1,19 +1,25 @@
 -- What the searches' answers say of the map.
-use Rattle.std.proofs.Common.{max, ◌≡◌, ℕ, zero, suc, ◌+◌, ◌-◌, ◌<◌, ◌≤◌, ◌⊎◌, inl, inr, Bool, true, false, List, [], ◌∷◌, length, map, take, drop, get_or, Some, None, refl, sym, ap, subst, ◌∙◌, arith}
+use Rattle.std.proofs.Common.{max, ◌≡◌, ℕ, zero, suc, ◌+◌, ◌-◌, ◌<◌, ◌≤◌, ◌⊎◌, inl, inr, Bool, true, false, not, T, List, [], ◌∷◌, length, map, take, drop, get_or, Some, None, refl, sym, ap, subst, ◌∙◌, arith}
 use Rattle.std.proofs.lemmas.List.{drop-take, drop_all, length-map, length-take-le}
 use Rattle.std.specs.FinMap as fin
 use Rattle.std.specs.List.{filter}
 use Rattle.radix_keys.proofs.KeyLemmas.Order.{three_ways}
-use Rattle.nibble_map.specs.Lists.{IsPrefix, IsRising, Has, is_prefix}
-use Rattle.nibble_map.specs.Maps.{IsStored}
+use Rattle.nibble_map.specs.Lists.{IsBefore, IsPrefix, IsRising, Has, is_prefix}
+use Rattle.std.proofs.lemmas.Bool.{not-false, not-true}
+use Rattle.std.specs.Cmp.Lexicographic.{slice_cmp}
+use Rattle.std.specs.Ordering.{is_le, nat_cmp}
+use Rattle.nibble_map.specs.Maps.{IsStored, walk}
 use Rattle.nibble_map.specs.Stored.{stored}
 use Rattle.nibble_map.proofs.MapLemmas.Edits.{walk-by_entries, stored_by_entries}
+use Rattle.nibble_map.proofs.ListLemmas.Unique.{before_not_itself}
+use Rattle.nibble_map.proofs.TreeLemmas.SomePrefixes.{before_through}
 use Rattle.nibble_map.proofs.ListLemmas.Parted.{prefix_length, is_prefix_true, prefix_by_test}
 use Rattle.frozen_trie.specs.Codes.{IsCut, IsLastPrefix, is_before, is_until, code_at}
-use Rattle.radix_trie.specs.Views.{IsPairAbove, pairs_below, pairs_before}
+use Rattle.radix_trie.specs.Views.{IsPairAbove, pairs_after, pairs_below, pairs_before, pairs_from}
+use Rattle.radix_trie.proofs.LawLemmas.Orders.{from_by_test, test_by_from}
 use Rattle.radix_trie.proofs.PathLemmas.Places.{below-nil}
 use Rattle.frozen_trie.specs.Frozen.{codes_of, map_of_pairs}
-use Rattle.frozen_trie.proofs.CodeLemmas.Order.{at_most, before_by_test, before_passes, prefix_before, between_begins, begun_not_before, until_by_test, until_by_before, until_by_prefix}
+use Rattle.frozen_trie.proofs.CodeLemmas.Order.{true_of, which_before, at_most, before_by_test, before_passes, prefix_before, between_begins, begun_not_before, until_by_test, until_by_before, until_by_prefix}
 use Rattle.frozen_trie.proofs.CodeLemmas.Parts.{rising_at}
 use Rattle.frozen_trie.proofs.FrozenLemmas.Rows.{get_at, entries_are_rows, stored_rows, pairs_of_rows, filter_rows, filter_is_part}
 
@@ -106,6 +112,31 @@ module _ {K V : Type 0} (enc : K → List ℕ) (ps : List (K × V)) (rises : IsR
       ]
       ∙ ap (λ k. drop k (take hi ps)) (count_before_is a lo low)
       ∙ ap (drop (length (pairs_before (map_of_pairs enc ps) [] a))) (before_is b hi high)
+
+  -- the pairs that a test keeps are those from a cut on, where it fails before the cut and holds from it on
+  rest_is : (t : List ℕ → Bool) (lo : ℕ) → lo ≤ length ps → ((k : ℕ) → k < lo → t (code_at (codes_of enc ps) k) ≡ false)
+      → ((k : ℕ) → lo ≤ k → k < length ps → t (code_at (codes_of enc ps) k) ≡ true)
+      → take (length ps - lo) (drop lo ps) ≡ map (λ e. e.1) (filter (λ e. t e.0) (walk (map_of_pairs enc ps) []))
+  rest_is t lo within first last =
+      sym (ap (λ es. map (λ e. e.1) (filter (λ e. t e.0) es)) (ap fin.entries (below-nil (map_of_pairs enc ps)) ∙ entries_are_rows enc ps rises)
+      ∙ filter_rows enc t ps ∙ filter_is_part enc t ps lo (length ps) within (omega arith) first last (λ k l m. absurd (omega (arith, l, m))))
+
+  -- the pairs from the cut before q on are those from q on
+  pub from_is : (q : List ℕ) (lo : ℕ) → IsCut (λ c. is_before c q) (codes_of enc ps) lo → take (length ps - lo) (drop lo ps) ≡ pairs_from (map_of_pairs enc ps) [] q
+  from_is q lo low = rest_is (λ c. is_le (slice_cmp nat_cmp q c)) lo (omega (arith, low.within, as_many))
+      (λ k l. not_true _ (λ t. elim (from_by_test q _ (subst T (sym t) tt)) [
+        | inl e ↦ before_not_itself q (subst (λ x. IsBefore x q) e (before_by_test _ q (low.before k l)))
+        | inr g ↦ before_not_itself q (before_through q _ q g (before_by_test _ q (low.before k l)))
+      ]))
+      (λ k l m. true_of _ (test_by_from q _ (elim (which_before (code_at (codes_of enc ps) k) q) [
+        | inl b ↦ absurd (let no : true ≡ false = sym (before_passes _ q b) ∙ low.after k l (omega (arith, m, as_many)) in cc no)
+        | inr h ↦ h
+      ])))
+
+  -- those from the cut behind q on are those after q
+  pub after_is : (q : List ℕ) (n : ℕ) → IsCut (λ c. not (is_before q c)) (codes_of enc ps) n → take (length ps - n) (drop n ps) ≡ pairs_after (map_of_pairs enc ps) [] q
+  after_is q n cut = rest_is (λ c. is_before q c) n (omega (arith, cut.within, as_many))
+      (λ k l. not-true _ (cut.before k l)) (λ k l m. not-false _ (cut.after k l (omega (arith, m, as_many))))
 
   -- a stored list stands at an index
   stored_index : (x : List ℕ) → IsStored (map_of_pairs enc ps) x → (k : ℕ) × (k < length (codes_of enc ps)) × (code_at (codes_of enc ps) k ≡ x)

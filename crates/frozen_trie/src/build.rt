@@ -107,7 +107,11 @@ fn follows(codes: &Codes, list: &Packed<'_>) -> bool
 /// # Errors
 ///
 /// Memory is refused, or the bytes of all lists would be 2^32 or more. The lists are dropped then.
-pub(crate) fn push_linked(codes: Codes, up: &mut Vec<u32>, list: &Packed<'_>) -> Result<Codes, Memory>
+pub(crate) fn push_linked(
+    codes: Codes,
+    up: &mut Vec<u32>,
+    list: &Packed<'_>,
+) -> Result<Codes, Memory>
     requires few { length codes < 2 ^ 32 }
     requires linked { IsLinked codes up.old.items }
     requires rising { IsRising (codes ++ list.now ∷ []) }

@@ -6,7 +6,7 @@ use Rattle.radix_keys.proofs.KeyLemmas.Order.{three_ways}
 use Rattle.nibble_map.specs.Lists.{IsBefore, IsPrefix, is_prefix}
 use Rattle.nibble_map.proofs.MapLemmas.Bridge.{first_of_both, both_hold}
 use Rattle.nibble_map.proofs.ListLemmas.Cut.{cons_head, cons_tail, cons_same}
-use Rattle.nibble_map.proofs.ListLemmas.Parted.{prefix_by_test, is_prefix_true, prefix_is_whole, prefix_itself}
+use Rattle.nibble_map.proofs.ListLemmas.Parted.{prefix_by_test, is_prefix_true, prefix_itself}
 use Rattle.nibble_map.proofs.ListLemmas.Sorted.{sorted_of_rising, rising_of_sorted}
 use Rattle.nibble_map.proofs.TreeLemmas.SomePrefixes.{before_through}
 use Rattle.frozen_trie.specs.Codes.{is_before, is_until}

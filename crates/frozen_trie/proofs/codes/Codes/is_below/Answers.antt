@@ -1,4 +1,4 @@
-use Rattle.std.proofs.Common.{subst, ◌∙◌, length, arith}
+use Rattle.std.proofs.Common.{subst, ◌∙◌, arith}
 use Rattle.frozen_trie.specs.Codes.{code_at}
 use Rattle.frozen_trie.specs.Heads.{IsHeaded}
 use Rattle.frozen_trie.proofs.CodeLemmas.Heads.{as_many_heads, head_at, order_by_head}

@@ -22,7 +22,7 @@ returns g c =
     let n = c.behind-start.result in
     let cut = subst (λ cs. IsCut (λ x. not (is_before c.args.list.now x)) cs n) c.self.invariant.keyed (subst (λ q. IsCut (λ x. not (is_before q x)) c.self.inside.codes n) c.of.ensures c.behind-start.ensures) in
     record {
-      pairs = c.part.ensures ∙ ap (λ xs. take (c.len.result - n) (drop n xs)) c.deref-2.ensures.value
+      pairs = c.part.ensures ∙ ap (λ xs. take (c.len.result - n) (drop n xs)) c.deref.ensures.value
           ∙ ap (λ m. take (m - n) (drop n ps)) (c.len.ensures ∙ c.self.inside.pairs.ok.0)
           ∙ rw (← c.self.view_is) (after_is g.K.TrieKey.encoding ps (subst IsRising c.self.invariant.keyed c.self.invariant.linked.rising) c.args.list.now n cut);
     }

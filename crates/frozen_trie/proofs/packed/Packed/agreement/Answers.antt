@@ -1,4 +1,4 @@
-use Rattle.std.proofs.Common.{◌≡◌, inl, inr, ◌+◌, ◌*◌, ◌/◌, ◌%◌, ◌<◌, length, take, get_or, sym, ap, subst, ◌∙◌, arith}
+use Rattle.std.proofs.Common.{inl, inr, ◌*◌, ◌<◌, length, sym, ◌∙◌, arith}
 use Rattle.std.proofs.lemmas.List.{take_more_same}
 use Rattle.frozen_trie.proofs.CodeLemmas.Packed.{byte_count, high_half, low_half, same_front}
 use Rattle.frozen_trie.proofs.packed.Packed.agreement.Goals as goal

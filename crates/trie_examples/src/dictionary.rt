@@ -1,6 +1,6 @@
 //! A dictionary that is read once and then completed from: a word on each line of its file, in the order of their bytes, as
 //! `sort` under `LC_ALL=C` leaves them.
-ghost use Rattle.std.specs.Prelude.{◌≡◌, IfOk, take};
+ghost use Rattle.std.specs.Prelude.{◌≡◌, IfOk};
 ghost use Rattle.nibble_map.specs.Nibbles.{nibbles};
 ghost use Rattle.radix_trie.specs.Views.{pairs_below};
 
@@ -23,35 +23,35 @@ fn dictionary<'a>(alloc: Global, file: &'a str) -> Result<FrozenTrie<&'a str, u6
     match FrozenTrie::from_sorted(alloc, words) {
         Ok(words) => Ok(words),
         Err(error) => match error.why {
-            SortedWhy::Unsorted(index) => bail!("the word at {index} isn't above the one before it"),
+            SortedWhy::Unsorted(index) => bail!(
+                "the word at {index} isn't above the one before it"
+            ),
             SortedWhy::Full => bail!("more words than an index counts"),
             SortedWhy::Memory => bail!("memory"),
         },
     }
 }
 
-/// The first words that begin with what was typed, so many at most, in order.
+/// The words that begin with what was typed, in order: a slice of the dictionary, of which a caller shows as many as it likes.
 fn completions<'a, 'w>(
     alloc: Global,
     words: &'a FrozenTrie<&'w str, u64>,
     typed: &str,
-    most: usize,
 ) -> Result<&'a [Word<'w>], Memory>
-    ensures { IfOk result
-        (λ page. page.now ≡ take most (pairs_below words.now (nibbles typed.now))) }
+    ensures { IfOk result (λ page. page.now ≡ pairs_below words.now (nibbles typed.now)) }
 {
     let list = typed.encode(alloc)?;
-    let found = words.below(&list);
-    Ok(&found[..most.min(found.len())])
+    Ok(words.below(&list))
 }
 
 #[test]
-fn the_first_words_that_begin_so(rt: HostRuntime) -> Result<()> {
+fn the_words_that_begin_so(rt: HostRuntime) -> Result<()> {
     let words = dictionary(rt.alloc(), "inn\ntea\nteam\nten\ntenor\n")?;
-    let page = completions(rt.alloc(), &words, "te", 3)?;
-    assert!(rt; page == [("tea", 2), ("team", 3), ("ten", 4)].as_slice());
-    assert!(rt; completions(rt.alloc(), &words, "to", 3)?.is_empty());
-    assert!(rt; words.count_below(&"ten")? == 2);
+    let found = completions(rt.alloc(), &words, "ten")?;
+    assert!(rt; found == [("ten", 4), ("tenor", 5)].as_slice());
+    assert!(rt; completions(rt.alloc(), &words, "te")?.first() == Some(&("tea", 2)));
+    assert!(rt; completions(rt.alloc(), &words, "to")?.is_empty());
+    assert!(rt; words.count_below(&"te")? == 4);
     Ok(())
 }
 

@@ -6,6 +6,7 @@ ghost use Rattle.frozen_trie.specs.Frozen.{IsFirstUnsorted, IsFrozen, IsLinked, 
 
 use crate::codes::Codes;
 use crate::frozen::FrozenTrie;
+use crate::heads::head_of;
 use crate::packed::Packed;
 use crate::search::climb;
 use radix_keys::{Memory, TrieKey};
@@ -99,7 +100,7 @@ fn follows(codes: &Codes, list: &Packed<'_>) -> bool
     ensures { IsTrue result ↔ IsRising (codes.now ++ list.now ∷ []) }
 {
     let count = codes.len();
-    count == 0 || codes.precedes(count - 1, list)
+    count == 0 || codes.side(count - 1, list, head_of(list, 0), false, 0).0
 }
 
 /// Appends a list that comes after all others, and its link.

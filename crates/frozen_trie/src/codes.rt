@@ -2,7 +2,7 @@
 ghost use Rattle.std.specs.Prelude.{◌≡◌, ◌≢◌, ◌↔◌, ◌<◌, ◌≤◌, ◌^◌, ◌++◌, [], ◌∷◌, ℕ, true, false, drop, length, slice_index, slice_index_or, take, IsTrue, IfOk, OnOk};
 ghost use Rattle.radix_keys.specs.Packing.{IsPadded, unpacked};
 ghost use Rattle.nibble_map.specs.Lists.{IsRising, is_prefix};
-ghost use Rattle.frozen_trie.specs.Codes.{code_at, is_before, is_until};
+ghost use Rattle.frozen_trie.specs.Codes.{code_at, is_in_front, pad};
 ghost use Rattle.frozen_trie.specs.Heads.{AreNibbles, head_in, head_padded};
 ghost use Rattle.frozen_trie.specs.Laid.{codes_in, piece_of, start_of, IsLaid};
 
@@ -89,23 +89,7 @@ impl Codes {
         ensures apart { result < length (code_at self.now at) → result < length list.now
             → slice_index (code_at self.now at) result ≢ slice_index list.now result }
     {
-        self.piece(at).agreement(list)
-    }
-
-    /// Whether the list at an index comes before another one.
-    pub(crate) fn precedes(&self, at: usize, list: &Packed<'_>) -> bool
-        requires { at < length self.now }
-        ensures { result ≡ is_before (code_at self.now at) list.now }
-    {
-        self.piece(at).compare(list).is_lt()
-    }
-
-    /// Whether the list at an index begins with another one.
-    pub(crate) fn begins(&self, at: usize, list: &Packed<'_>) -> bool
-        requires { at < length self.now }
-        ensures { result ≡ is_prefix list.now (code_at self.now at) }
-    {
-        !list.has(self.agreement(at, list))
+        self.piece(at).agreement(list, 0)
     }
 
     /// Whether the list at an index is another one.
@@ -116,44 +100,46 @@ impl Codes {
         self.piece(at).equals(list)
     }
 
-    /// Whether the list at an index comes before another one or begins with it.
-    pub(crate) fn is_within(&self, at: usize, list: &Packed<'_>) -> bool
-        requires { at < length self.now }
-        ensures { result ≡ is_until (code_at self.now at) list.now }
-    {
-        self.precedes(at, list) || self.begins(at, list)
-    }
-
-    /// Whether the list at an index comes before another one, whose first nibbles these are.
-    pub(crate) fn is_below(&self, at: usize, list: &Packed<'_>, head: u64) -> bool
+    /// Whether the list at an index comes before another one, or also begins with it where the search is one through it; and
+    /// how many nibbles the two are known to agree in, at least as many as were known before.
+    ///
+    /// The first nibbles of the other list are passed as a number, with 15 for each that it lacks where the search is one
+    /// through it.
+    pub(crate) fn side(
+        &self,
+        at: usize,
+        list: &Packed<'_>,
+        head: u64,
+        is_through: bool,
+        known: usize,
+    ) -> (bool, usize)
         requires within { at < length self.now }
-        requires head { head ≡ head_padded 0 16 list.now }
+        requires head { head ≡ head_padded (pad is_through) 16 list.now }
         requires nibbles { AreNibbles 16 list.now }
-        ensures { result ≡ is_before (code_at self.now at) list.now }
+        requires known { take known (code_at self.now at) ≡ take known list.now }
+        requires inside { known ≤ length list.now }
+        ensures side { result.0 ≡ is_in_front is_through list.now (code_at self.now at) }
+        ensures same { take result.1 (code_at self.now at) ≡ take result.1 list.now }
+        ensures inside { result.1 ≤ length list.now }
     {
         let own = self.heads[at];
         if own != head {
-            return own < head;
+            return (own < head, known);
         }
-        self.precedes(at, list)
-    }
-
-    /// Whether the list at an index comes before another one or begins with it, whose first nibbles these are, with 15 for
-    /// each that it lacks.
-    pub(crate) fn is_through(&self, at: usize, list: &Packed<'_>, last: u64) -> bool
-        requires within { at < length self.now }
-        requires head { last ≡ head_padded 15 16 list.now }
-        requires nibbles { AreNibbles 16 list.now }
-        ensures { result ≡ is_until (code_at self.now at) list.now }
-    {
-        let own = self.heads[at];
-        if own != last {
-            return own < last;
+        if is_through {
+            if !list.has(16) {
+                return (true, known);
+            }
         }
-        if !list.has(16) {
-            return true;
+        let code = self.piece(at);
+        let same = code.agreement(list, known);
+        if !list.has(same) {
+            return (is_through, same);
         }
-        self.is_within(at, list)
+        if !code.has(same) {
+            return (true, same);
+        }
+        (code.get(same) < list.get(same), same)
     }
 
     /// Bounds for a search by first nibbles: those of the lists in front of the first bound are below a number, and those

@@ -93,9 +93,11 @@ impl<'a> Packed<'a> {
         if i % 2 == 0 { byte / 16 } else { byte % 16 }
     }
 
-    /// How many nibbles agree with those of another list, from the first on.
-    pub(crate) fn agreement(&self, other: &Packed<'_>) -> usize
+    /// How many nibbles agree with those of another list, from the first on, where so many are known to do so.
+    pub(crate) fn agreement(&self, other: &Packed<'_>, known: usize) -> usize
         requires few { length self.now < 2 ^ 33 }
+        requires known { take known self.now ≡ take known other.now }
+        requires inside { known ≤ length other.now }
         ensures within { result ≤ length self.now }
         ensures inside { result ≤ length other.now }
         ensures same { take result self.now ≡ take result other.now }
@@ -103,7 +105,7 @@ impl<'a> Packed<'a> {
             → slice_index self.now result ≢ slice_index other.now result }
     {
         let most = self.bytes.len().min(other.bytes.len());
-        for i in 0..most {
+        for i in known / 2..most {
             let byte = self.bytes[i];
             if byte != other.bytes[i] {
                 return if byte / 16 == other.bytes[i] / 16 {
@@ -129,25 +131,6 @@ impl<'a> Packed<'a> {
         } else {
             2 * bytes
         }
-    }
-
-    /// The order of the two lists: the first nibble in which they differ decides, and a prefix comes first.
-    pub(crate) fn compare(&self, other: &Packed<'_>) -> Ordering
-        requires few { length self.now < 2 ^ 33 }
-        ensures { result ≡ slice_cmp nat_cmp self.now other.now }
-    {
-        let same = self.agreement(other);
-        if !other.has(same) {
-            return if self.has(same) {
-                Ordering::Greater
-            } else {
-                Ordering::Equal
-            };
-        }
-        if !self.has(same) {
-            return Ordering::Less;
-        }
-        self.get(same).cmp(&other.get(same))
     }
 
     /// Whether the two are one list.

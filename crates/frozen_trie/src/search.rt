@@ -1,7 +1,7 @@
 //! Searches among lists in rising order.
 ghost use Rattle.std.specs.Prelude.{◌≡◌, ◌↔◌, ◌+◌, ◌<◌, ◌≤◌, ◌^◌, ℕ, length, not, IsTrue, MatchOption};
 ghost use Rattle.nibble_map.specs.Lists.{IsBefore, IsRising};
-ghost use Rattle.frozen_trie.specs.Codes.{AreLinks, IsCut, IsLastPrefix, is_before, is_until, code_at};
+ghost use Rattle.frozen_trie.specs.Codes.{AreLinks, IsCut, IsLastPrefix, is_before, is_in_front, is_until, code_at, pad};
 
 use crate::codes::Codes;
 use crate::heads::head_of;
@@ -12,17 +12,7 @@ pub(crate) fn lower(codes: &Codes, list: &Packed<'_>) -> usize
     requires { IsRising codes.now }
     ensures { IsCut (λ c. is_before c list.now) codes.now result }
 {
-    let head = head_of(list, 0);
-    let (mut lo, mut hi) = codes.span(head);
-    while lo < hi {
-        let mid = lo + (hi - lo) / 2;
-        if codes.is_below(mid, list, head) {
-            lo = mid + 1;
-        } else {
-            hi = mid;
-        }
-    }
-    lo
+    cut(codes, list, false)
 }
 
 /// How many of the lists come before another one or begin with it.
@@ -30,17 +20,40 @@ pub(crate) fn upper(codes: &Codes, list: &Packed<'_>) -> usize
     requires { IsRising codes.now }
     ensures { IsCut (λ c. is_until c list.now) codes.now result }
 {
-    let last = head_of(list, 15);
-    let (mut lo, mut hi) = codes.span(last);
+    cut(codes, list, true)
+}
+
+/// How many of the lists come before another one, or also begin with it where the search is one through it.
+///
+/// A list between two others that agree with the searched one in their first nibbles does so too, so these aren't compared
+/// again.
+fn cut(codes: &Codes, list: &Packed<'_>, is_through: bool) -> usize
+    requires { IsRising codes.now }
+    ensures { IsCut (is_in_front is_through list.now) codes.now result }
+{
+    let head = head_of(list, padding(is_through));
+    let (mut lo, mut hi) = codes.span(head);
+    let (mut low, mut high) = (0usize, 0usize);
     while lo < hi {
         let mid = lo + (hi - lo) / 2;
-        if codes.is_through(mid, list, last) {
+        let (is_in_front, same) = codes.side(mid, list, head, is_through, low.min(high));
+        if is_in_front {
             lo = mid + 1;
+            low = same;
         } else {
             hi = mid;
+            high = same;
         }
     }
     lo
+}
+
+/// What a search puts for each nibble that a list lacks.
+fn padding(is_through: bool) -> u64
+    ensures value { result ≡ pad is_through }
+    ensures nibble { result < 16 }
+{
+    if is_through { 15 } else { 0 }
 }
 
 /// The last of the first `from` lists that is a prefix of another one, by its index and one more, or 0 where there is none.

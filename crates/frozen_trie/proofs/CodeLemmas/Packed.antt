@@ -2,6 +2,7 @@
 use Rattle.std.proofs.Common.{◌≡◌, ℕ, ◌+◌, ◌-◌, ◌*◌, ◌/◌, ◌%◌, ◌<◌, ◌≤◌, Bool, true, false, List, length, get_or, take, refl, sym, ap, ◌∙◌, arith}
 use Rattle.std.proofs.lemmas.List.{length-take, take-take}
 use Rattle.nibble_map.specs.Nibbles.{nibbles}
+use Rattle.radix_keys.specs.Distinct.{nibbles-injective}
 use Rattle.radix_keys.specs.Packing.{IsPadded, unpacked}
 use Rattle.radix_keys.proofs.NibbleLemmas.Bytes.{take-nibbles_even}
 use Rattle.radix_keys.proofs.NibbleLemmas.Packing.{length-unpacked_bytes, get_or-unpacked_even, get_or-unpacked_odd}
@@ -42,3 +43,15 @@ pub same_front : (bs : List ℕ) (o : Bool) (xs cs : List ℕ) (p : Bool) (ys : 
 same_front bs o xs cs p ys i m is are same most l k =
     front bs o xs m is l ∙ sym (take-take m (2 * i) (nibbles bs) most) ∙ ap (take m) (take-nibbles_even bs i (2 * i) refl ∙ ap nibbles same ∙ sym (take-nibbles_even cs i (2 * i) refl))
     ∙ take-take m (2 * i) (nibbles cs) most ∙ sym (front cs p ys m are k)
+
+-- lists that agree so far are held by bytes that do so for half as many
+pub same_bytes : (bs : List ℕ) (o : Bool) (xs cs : List ℕ) (p : Bool) (ys : List ℕ) (k : ℕ) → unpacked bs o ≡ xs → unpacked cs p ≡ ys → take k xs ≡ take k ys → k ≤ length ys
+    → take (k / 2) bs ≡ take (k / 2) cs
+same_bytes bs o xs cs p ys k is are same l =
+    let h = k / 2 in
+    let m = 2 * h in
+    let le : m ≤ k = omega arith in
+    let in_xs : k ≤ length xs = (let n = ap length same in omega (arith, n, length-take k xs, length-take k ys, l)) in
+    let less : take m xs ≡ take m ys = sym (take-take m k xs le) ∙ ap (take m) same ∙ take-take m k ys le in
+    nibbles-injective (take h bs) (take h cs)
+    (sym (take-nibbles_even bs h m refl) ∙ sym (front bs o xs m is (omega (arith, le, in_xs))) ∙ less ∙ front cs p ys m are (omega (arith, le, l)) ∙ take-nibbles_even cs h m refl)

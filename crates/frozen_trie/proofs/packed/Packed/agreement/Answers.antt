@@ -1,6 +1,6 @@
 use Rattle.std.proofs.Common.{inl, inr, ◌*◌, ◌<◌, length, sym, ◌∙◌, arith}
 use Rattle.std.proofs.lemmas.List.{take_more_same}
-use Rattle.frozen_trie.proofs.CodeLemmas.Packed.{byte_count, high_half, low_half, same_front}
+use Rattle.frozen_trie.proofs.CodeLemmas.Packed.{byte_count, high_half, low_half, same_bytes, same_front}
 use Rattle.frozen_trie.proofs.packed.Packed.agreement.Goals as goal
 
 pub returns-then-byte-other-2-clause-within : goal.returns-then-byte-other-2-clause-within
@@ -95,3 +95,6 @@ returns-clause-apart c = λ l k e.
         | inl two ↦ absurd (omega (arith, l, k, one, two, c.min.ensures, c.min-most.ensures, bytes, others))
       ]
     ]
+
+pub loop-i-init : goal.loop-i-init
+loop-i-init c = same_bytes c.self.inside.bytes.now c.self.inside.is_odd c.args.self.now c.other.inside.bytes.now c.other.inside.is_odd c.args.other.now c.args.known c.self.view_is c.other.view_is c.requires.known c.requires.inside

@@ -1,5 +1,5 @@
 //! The first nibbles of lists as numbers, which tell the order of most lists.
-ghost use Rattle.std.specs.Prelude.{◌≡◌, ◌+◌, ◌*◌, ◌<◌, ◌≤◌, ℕ, length, slice_index, slice_index_or, IfOk};
+ghost use Rattle.std.specs.Prelude.{◌≡◌, ◌<◌, ◌≤◌, ℕ, length, slice_index, IfOk};
 ghost use Rattle.std.specs.List.Sorted.{IsNonDecreasing};
 ghost use Rattle.frozen_trie.specs.Heads.{AreNibbles, AreTops, head_padded};
 
@@ -15,37 +15,10 @@ pub(crate) fn head_of(list: &Packed<'_>, rest: u64) -> u64
 {
     let mut head = 0;
     for i in 0..8 {
-        let two = two_or(list, i, rest);
+        let two = list.two_or(i, rest);
         head = head * 256 + two;
     }
     head
-}
-
-/// Two nibbles of a list as a number, those of the byte at an index, with `rest` for each that it lacks.
-fn two_or(list: &Packed<'_>, i: usize, rest: u64) -> u64
-    requires low { rest < 16 }
-    requires early { i < 8 }
-    ensures value { result ≡ slice_index_or list.now (2 * i) rest * 16
-        + slice_index_or list.now (2 * i + 1) rest }
-    ensures byte { result < 256 }
-    ensures first { slice_index list.now (2 * i) < 16 }
-    ensures second { slice_index list.now (2 * i + 1) < 16 }
-{
-    nibble_or(list, 2 * i, rest) * 16 + nibble_or(list, 2 * i + 1, rest)
-}
-
-/// The nibble at an index, or another number past the end.
-fn nibble_or(list: &Packed<'_>, i: usize, rest: u64) -> u64
-    requires { rest < 16 }
-    ensures value { result ≡ slice_index_or list.now i rest }
-    ensures nibble { result < 16 }
-    ensures own { slice_index list.now i < 16 }
-{
-    if list.has(i) {
-        u64::from(list.get(i))
-    } else {
-        rest
-    }
 }
 
 /// Bounds for a search among numbers that don't fall, by how many of them are below the multiples of 2^48: those in front of

@@ -1,5 +1,5 @@
 //! Lists of nibbles, two to a byte, that are borrowed.
-ghost use Rattle.std.specs.Prelude.{◌≡◌, ◌≢◌, ◌↔◌, ◌⊎◌, ◌+◌, ◌*◌, ◌/◌, ◌<◌, ◌≤◌, ◌^◌, IsTrue, length, slice_index, take};
+ghost use Rattle.std.specs.Prelude.{◌≡◌, ◌≢◌, ◌↔◌, ◌⊎◌, ◌+◌, ◌*◌, ◌/◌, ◌<◌, ◌≤◌, ◌^◌, IsTrue, length, slice_index, slice_index_or, take};
 ghost use Rattle.std.specs.Cmp.Lexicographic.{slice_cmp};
 ghost use Rattle.std.specs.Ordering.{nat_cmp};
 ghost use Rattle.nibble_map.specs.Nibbles.{nibbles};
@@ -91,6 +91,28 @@ impl<'a> Packed<'a> {
     {
         let byte = self.bytes[i / 2];
         if i % 2 == 0 { byte / 16 } else { byte % 16 }
+    }
+
+    /// Two nibbles as a number, those of the byte at an index, with `rest` for each that the list lacks.
+    pub(crate) fn two_or(&self, i: usize, rest: u64) -> u64
+        requires low { rest < 16 }
+        requires early { i < 8 }
+        ensures value { result ≡ slice_index_or self.now (2 * i) rest * 16
+            + slice_index_or self.now (2 * i + 1) rest }
+        ensures byte { result < 256 }
+        ensures first { slice_index self.now (2 * i) < 16 }
+        ensures second { slice_index self.now (2 * i + 1) < 16 }
+    {
+        let count = self.bytes.len();
+        if i >= count {
+            return rest * 17;
+        }
+        let two = u64::from(self.bytes[i]);
+        if self.is_odd && i + 1 == count {
+            two + rest
+        } else {
+            two
+        }
     }
 
     /// How many nibbles agree with those of another list, from the first on, where so many are known to do so.

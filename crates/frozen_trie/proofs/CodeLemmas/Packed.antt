@@ -1,6 +1,7 @@
 -- A list of nibbles beside the bytes that hold it.
-use Rattle.std.proofs.Common.{◌≡◌, ℕ, ◌+◌, ◌-◌, ◌*◌, ◌/◌, ◌%◌, ◌<◌, ◌≤◌, Bool, true, false, List, length, get_or, take, refl, sym, ap, ◌∙◌, arith}
-use Rattle.std.proofs.lemmas.List.{length-take, take-take}
+use Rattle.std.proofs.Common.{◌≡◌, ℕ, ◌+◌, ◌-◌, ◌*◌, ◌/◌, ◌%◌, ◌<◌, ◌≤◌, inl, inr, Bool, true, false, List, length, get_or, take, refl, sym, ap, subst, ◌∙◌, arith}
+use Rattle.std.proofs.lemmas.Bool.{cases_eq, cases_lt}
+use Rattle.std.proofs.lemmas.List.{get_or_default, get_or_past, length-take, take-take}
 use Rattle.nibble_map.specs.Nibbles.{nibbles}
 use Rattle.radix_keys.specs.Distinct.{nibbles-injective}
 use Rattle.radix_keys.specs.Packing.{IsPadded, unpacked}
@@ -30,6 +31,37 @@ module _ (bs : List ℕ) (odd : Bool) (xs : List ℕ) (padded : IsPadded bs odd)
   low_half i l =
       let half : i ≡ (2 * i + 1) / 2 = omega arith in
       ap (λ k. get_or bs k 0 % 16) half ∙ odd_nibble (2 * i + 1) l (omega arith)
+
+  -- a nibble is below 16 where its byte is one
+  pub nibble_fits : (k : ℕ) → get_or bs (k / 2) 0 < 256 → get_or xs k 0 < 16
+  nibble_fits k b = elim (cases_lt k (length xs)) [
+    | inr past ↦ (let none = get_or_past xs k 0 past in omega (arith, none))
+    | inl l ↦ elim (cases_eq (k % 2) 0) [
+      | inl even ↦ (let is = even_nibble k l even in omega (arith, is, b))
+      | inr other ↦ (let is = odd_nibble k l (omega (arith, other)) in omega (arith, is))
+    ]
+  ]
+
+  -- the two nibbles of a byte, with another number for each that the list lacks: of a byte behind the list
+  pub two_past : (i d : ℕ) → length bs ≤ i → d * 17 ≡ get_or xs (2 * i) d * 16 + get_or xs (2 * i + 1) d
+  two_past i d l =
+      let few : length xs ≤ 2 * i = omega (arith, byte_count, l) in
+      omega (arith, get_or_past xs (2 * i) d few, get_or_past xs (2 * i + 1) d (omega (arith, few)))
+
+  -- of a whole byte
+  pub two_whole : (i d : ℕ) → 2 * i + 1 < length xs → get_or bs i 0 ≡ get_or xs (2 * i) d * 16 + get_or xs (2 * i + 1) d
+  two_whole i d l =
+      omega (arith, high_half i (omega (arith, l)), low_half i l, get_or_default xs (2 * i) 0 d (omega (arith, l)), get_or_default xs (2 * i + 1) 0 d l)
+
+  -- of a byte whose low half is unused
+  pub two_half : (i d : ℕ) → length xs ≡ 2 * i + 1 → get_or bs i 0 % 16 ≡ 0 → get_or bs i 0 + d ≡ get_or xs (2 * i) d * 16 + get_or xs (2 * i + 1) d
+  two_half i d l z =
+      omega (arith, z, high_half i (omega (arith, l)), get_or_default xs (2 * i) 0 d (omega (arith, l)), get_or_past xs (2 * i + 1) d (omega (arith, l)))
+
+-- the unused half of the last byte of an odd list
+pub last_half : (bs : List ℕ) (odd : Bool) (i : ℕ) → IsPadded bs odd → odd ≡ true → i + 1 ≡ length bs → get_or bs i 0 % 16 ≡ 0
+last_half bs false i p e l = cc
+last_half bs true i p e l = let at : length bs - 1 ≡ i = omega (arith, l) in subst (λ k. get_or bs k 0 % 16 ≡ 0) at p.1
 
 -- a packed list begins as the nibbles of its bytes do
 front : (bs : List ℕ) (odd : Bool) (xs : List ℕ) (m : ℕ) → unpacked bs odd ≡ xs → m ≤ length xs → take m xs ≡ take m (nibbles bs)

@@ -10,6 +10,6 @@ returns-else-count-eq0 c =
     let q = c.args.list.now in
     let some : 0 < length cs = omega (arith, c.if-count-eq0.false) in
     let at : c.len-count.result - 1 ≡ length cs - 1 = ap (λ n. n - 1) c.len-count.ensures in (
-      λ t. rising_more cs q some c.requires (before_by_test _ _ (ap (λ k. is_before (code_at cs k) q) (sym at) ∙ sym c.precedes.ensures ∙ t)),
-      λ h. c.precedes.ensures ∙ ap (λ k. is_before (code_at cs k) q) at ∙ before_passes _ _ (last_before_more cs q some h),
+      λ t. rising_more cs q some c.requires (before_by_test _ _ (ap (λ k. is_before (code_at cs k) q) (sym at) ∙ sym c.side.ensures.side ∙ t)),
+      λ h. c.side.ensures.side ∙ ap (λ k. is_before (code_at cs k) q) at ∙ before_passes _ _ (last_before_more cs q some h),
     )

@@ -1,0 +1,56 @@
+use Rattle.std.proofs.Common.{◌≡◌, ◌+◌, ◌*◌, ◌/◌, ◌<◌, length, get_or, ap, subst, ◌∙◌, arith}
+use Rattle.std.proofs.lemmas.List.{get_or_past}
+use Rattle.radix_keys.proofs.NibbleLemmas.Packing.{length-unpacked_even, length-unpacked_odd}
+use Rattle.frozen_trie.proofs.CodeLemmas.Packed.{byte_count, last_half, nibble_fits, two_half, two_past, two_whole}
+use Rattle.frozen_trie.proofs.packed.Packed.two_or.Goals as goal
+use Rattle.frozen_trie.proofs.packed.Packed.two_or.Goals.{else-self-via-then-self+else-i-count-2, else-self-via-else-self}
+
+pub returns-then-i-count-clause-value : goal.returns-then-i-count-clause-value
+returns-then-i-count-clause-value c = two_past c.self.inside.bytes.now c.self.inside.is_odd c.args.self.now c.self.invariant c.self.view_is c.args.i c.args.rest (omega (arith, c.if-i-count.true))
+
+pub returns-then-i-count-clause-first : goal.returns-then-i-count-clause-first
+returns-then-i-count-clause-first c =
+    let half : c.args.i ≡ 2 * c.args.i / 2 = omega arith in
+    nibble_fits c.self.inside.bytes.now c.self.inside.is_odd c.args.self.now c.self.invariant c.self.view_is (2 * c.args.i) (subst (λ k. get_or c.self.inside.bytes.now k 0 < 256) half (let none = get_or_past c.self.inside.bytes.now c.args.i 0 (omega (arith, c.if-i-count.true)) in omega (arith, none)))
+
+pub returns-then-i-count-clause-second : goal.returns-then-i-count-clause-second
+returns-then-i-count-clause-second c =
+    let half : c.args.i ≡ (2 * c.args.i + 1) / 2 = omega arith in
+    nibble_fits c.self.inside.bytes.now c.self.inside.is_odd c.args.self.now c.self.invariant c.self.view_is (2 * c.args.i + 1) (subst (λ k. get_or c.self.inside.bytes.now k 0 < 256) half (let none = get_or_past c.self.inside.bytes.now c.args.i 0 (omega (arith, c.if-i-count.true)) in omega (arith, none)))
+
+pub returns-then-i-count-2-clause-value : goal.returns-then-i-count-2-clause-value
+returns-then-i-count-2-clause-value c =
+    let count = length-unpacked_odd c.self.inside.bytes.now c.self.inside.is_odd c.self.invariant c.if-self.true in
+    let last = last_half c.self.inside.bytes.now c.self.inside.is_odd c.args.i c.self.invariant c.if-self.true c.if-i-count-2.true in
+    ap (λ b. b + c.args.rest) c.from-two.ensures ∙ two_half c.self.inside.bytes.now c.self.inside.is_odd c.args.self.now c.self.invariant c.self.view_is c.args.i c.args.rest (omega (arith, ap length c.self.view_is, count, c.if-i-count-2.true)) last
+
+pub returns-then-i-count-2-clause-first : goal.returns-then-i-count-2-clause-first
+returns-then-i-count-2-clause-first c =
+    let half : c.args.i ≡ 2 * c.args.i / 2 = omega arith in
+    nibble_fits c.self.inside.bytes.now c.self.inside.is_odd c.args.self.now c.self.invariant c.self.view_is (2 * c.args.i) (subst (λ k. get_or c.self.inside.bytes.now k 0 < 256) half (omega arith))
+
+pub returns-then-i-count-2-clause-second : goal.returns-then-i-count-2-clause-second
+returns-then-i-count-2-clause-second c =
+    let half : c.args.i ≡ (2 * c.args.i + 1) / 2 = omega arith in
+    nibble_fits c.self.inside.bytes.now c.self.inside.is_odd c.args.self.now c.self.invariant c.self.view_is (2 * c.args.i + 1) (subst (λ k. get_or c.self.inside.bytes.now k 0 < 256) half (omega arith))
+
+pub returns-else-self-clause-value : goal.returns-else-self-clause-value
+returns-else-self-clause-value c =
+    let i = c.args.i in
+    let bytes = byte_count c.self.inside.bytes.now c.self.inside.is_odd c.args.self.now c.self.invariant c.self.view_is in
+    let whole : 2 * i + 1 < length c.args.self.now = elim c.else-self.branch [
+      | else-self-via-then-self+else-i-count-2 w ↦ omega (arith, bytes, c.if-i-count.false, w.if-i-count-2.false)
+      | else-self-via-else-self w ↦ omega (arith, ap length c.self.view_is, length-unpacked_even c.self.inside.bytes.now c.self.inside.is_odd w.if-self.false, c.if-i-count.false)
+    ] in
+    c.from-two.ensures ∙ two_whole c.self.inside.bytes.now c.self.inside.is_odd c.args.self.now c.self.invariant c.self.view_is i c.args.rest whole
+
+pub returns-else-self-clause-first : goal.returns-else-self-clause-first
+returns-else-self-clause-first c =
+    let half : c.args.i ≡ 2 * c.args.i / 2 = omega arith in
+    nibble_fits c.self.inside.bytes.now c.self.inside.is_odd c.args.self.now c.self.invariant c.self.view_is (2 * c.args.i) (subst (λ k. get_or c.self.inside.bytes.now k 0 < 256) half (omega arith))
+
+pub returns-else-self-clause-second : goal.returns-else-self-clause-second
+returns-else-self-clause-second c =
+    let half : c.args.i ≡ (2 * c.args.i + 1) / 2 = omega arith in
+    nibble_fits c.self.inside.bytes.now c.self.inside.is_odd c.args.self.now c.self.invariant c.self.view_is (2 * c.args.i + 1) (subst (λ k. get_or c.self.inside.bytes.now k 0 < 256) half (omega arith))
+

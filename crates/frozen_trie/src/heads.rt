@@ -46,7 +46,11 @@ pub(crate) fn span(numbers: &[u64], tops: &[u32], steps: &[u64], bound: u64) -> 
         return (lo, hi);
     }
     let first = not_below(steps, from, to, bound);
-    let start = if from < first { STRIDE * (first - 1) + 1 } else { lo };
+    let start = if from < first {
+        STRIDE * (first - 1) + 1
+    } else {
+        lo
+    };
     let last = above(steps, first, to, bound);
     (start, if last < to { STRIDE * last } else { hi })
 }
@@ -127,7 +131,8 @@ pub(crate) fn tops_of(alloc: Global, numbers: &[u64]) -> Result<Vec<u32>, Memory
     }
     let mut tops = Vec::with_capacity(alloc, 65537)?;
     for first in 0..65536 {
-        let Ok(count) = u32::try_from(not_below(numbers, 0, numbers.len(), first * (1 << 48))) else {
+        let Ok(count) = u32::try_from(not_below(numbers, 0, numbers.len(), first * (1 << 48)))
+        else {
             return Err(Memory);
         };
         tops.push(count)?;

@@ -8,8 +8,11 @@ returns-then-last-to-clause-below c = λ k l. elim c.if-from-first.branch [
   | then-from-first w ↦
       let j = c.not_below-first.result - 1 in
       let step : j < length c.args.steps.now = omega (arith, w.if-from-first.true, c.not_below-first.ensures.to, c.if-to-steps.false) in
-      omega (arith, c.not_below-first.ensures.below j (omega (arith, w.if-from-first.true)) (omega (arith, w.if-from-first.true)),
-      up_to_step c.args.numbers.now c.args.steps.now c.requires.rising c.requires.steps j k step (omega (arith, l, w.start-is)))
+      omega (
+        arith,
+        c.not_below-first.ensures.below j (omega (arith, w.if-from-first.true)) (omega (arith, w.if-from-first.true)),
+        up_to_step c.args.numbers.now c.args.steps.now c.requires.rising c.requires.steps j k step (omega (arith, l, w.start-is)),
+      )
   | else-from-first w ↦ c.top_span-lo.ensures.below k (omega (arith, l, w.start-is))
 ]
 
@@ -24,7 +27,10 @@ returns-else-last-to-clause-below c = λ k l. elim c.if-from-first.branch [
   | then-from-first w ↦
       let j = c.not_below-first.result - 1 in
       let step : j < length c.args.steps.now = omega (arith, w.if-from-first.true, c.not_below-first.ensures.to, c.if-to-steps.false) in
-      omega (arith, c.not_below-first.ensures.below j (omega (arith, w.if-from-first.true)) (omega (arith, w.if-from-first.true)),
-      up_to_step c.args.numbers.now c.args.steps.now c.requires.rising c.requires.steps j k step (omega (arith, l, w.start-is)))
+      omega (
+        arith,
+        c.not_below-first.ensures.below j (omega (arith, w.if-from-first.true)) (omega (arith, w.if-from-first.true)),
+        up_to_step c.args.numbers.now c.args.steps.now c.requires.rising c.requires.steps j k step (omega (arith, l, w.start-is)),
+      )
   | else-from-first w ↦ c.top_span-lo.ensures.below k (omega (arith, l, w.start-is))
 ]

@@ -53,4 +53,3 @@ pub returns-else-self-clause-second : goal.returns-else-self-clause-second
 returns-else-self-clause-second c =
     let half : c.args.i ≡ (2 * c.args.i + 1) / 2 = omega arith in
     nibble_fits c.self.inside.bytes.now c.self.inside.is_odd c.args.self.now c.self.invariant c.self.view_is (2 * c.args.i + 1) (subst (λ k. get_or c.self.inside.bytes.now k 0 < 256) half (omega arith))
-

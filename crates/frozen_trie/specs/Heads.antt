@@ -32,13 +32,8 @@ pub record IsTop (hs : List ℕ) (w n : ℕ) : Type 0 where
 abbrev pub AreTops : List ℕ → List ℕ → Type 0
 AreTops hs tops = (w : ℕ) → w < length tops → IsTop hs w (slice_index tops w)
 
--- each of some numbers is every sixteenth of others, from the first on
-abbrev pub AreSteps : List ℕ → List ℕ → Type 0
-AreSteps hs ss = (j : ℕ) → j < length ss → (16 * j < length hs) × (slice_index ss j ≡ slice_index hs (16 * j))
-
 -- the lists are packed one behind the other, and have these heads
-pub record ArePacked (bytes ends : List ℕ) (odd : List Bool) (hs tops steps : List ℕ) : Type 0 where
+pub record ArePacked (bytes ends : List ℕ) (odd : List Bool) (hs tops : List ℕ) : Type 0 where
   pub laid : IsLaid bytes 0 ends odd
   pub headed : IsHeaded (codes_in bytes 0 ends odd) hs
   pub topped : AreTops hs tops
-  pub stepped : AreSteps hs steps

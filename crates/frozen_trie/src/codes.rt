@@ -6,11 +6,14 @@ ghost use Rattle.frozen_trie.specs.Codes.{code_at, is_in_front, pad};
 ghost use Rattle.frozen_trie.specs.Heads.{AreNibbles, head_in, head_padded};
 ghost use Rattle.frozen_trie.specs.Laid.{codes_in, piece_of, start_of, IsLaid};
 
-use crate::heads::{head_of, span, steps_of, tops_of};
+use crate::heads::{head_of, span, tops_of};
 use crate::packed::Packed;
 use radix_keys::Memory;
 use std::alloc::Global;
 use std::marker::Model;
+
+/// How many lists are many enough for a table of 65537 counts.
+const MANY: usize = 65536;
 
 /// Lists of nibbles, each packed in whole bytes behind the one before. A contract sees the lists.
 #[derive(Drop)]
@@ -24,8 +27,6 @@ pub(crate) struct Codes {
     heads: Vec<u64>,
     /// How many of these are below each multiple of 2^48, where the lists are complete and many.
     tops: Vec<u32>,
-    /// Each sixteenth of these, where the lists are complete.
-    steps: Vec<u64>,
 }
 
 impl Model for Codes {
@@ -38,8 +39,7 @@ impl Model for Codes {
     ghost view = { λ c. codes_in c.bytes.items 0 c.ends.items c.odd.items };
 
     ghost invariant = { λ c.
-        ArePacked c.bytes.items c.ends.items c.odd.items c.heads.items c.tops.items
-        c.steps.items };
+        ArePacked c.bytes.items c.ends.items c.odd.items c.heads.items c.tops.items };
 }
 
 impl Codes {
@@ -53,7 +53,6 @@ impl Codes {
             odd: Vec::new(alloc),
             heads: Vec::new(alloc),
             tops: Vec::new(alloc),
-            steps: Vec::new(alloc),
         }
     }
 
@@ -146,7 +145,6 @@ impl Codes {
     /// Bounds for a search by first nibbles: those of the lists in front of the first bound are below a number, and those
     /// from the second on above it.
     pub(crate) fn span(&self, bound: u64) -> (usize, usize)
-        requires { IsRising self.now }
         ensures order { result.0 ≤ result.1 }
         ensures within { result.1 ≤ length self.now }
         ensures below { (k : ℕ) → k < result.0 → head_in 16 (code_at self.now k) < bound }
@@ -154,14 +152,14 @@ impl Codes {
             → bound < head_in 16 (code_at self.now k) }
         ensures nibbles { (k : ℕ) → k < length self.now → AreNibbles 16 (code_at self.now k) }
     {
-        span(&self.heads, &self.tops, &self.steps, bound)
+        span(&self.heads, &self.tops, bound)
     }
 
-    /// The same lists, in as much room as they take, with tables that shorten searches.
+    /// The same lists, in as much room as they take, with a table that shortens searches where they are many.
     ///
     /// # Errors
     ///
-    /// Memory for the tables is refused. The lists are dropped then.
+    /// Memory for the table is refused. The lists are dropped then.
     pub(crate) fn finished(self, alloc: Global) -> Result<Codes, Memory>
         requires { IsRising self }
         ensures { IfOk result (λ codes. codes ≡ self) }
@@ -171,22 +169,21 @@ impl Codes {
             mut ends,
             mut odd,
             mut heads,
-            tops: _tops,
-            steps: _steps,
+            mut tops,
         } = self;
         bytes.shrink_to_fit();
         ends.shrink_to_fit();
         odd.shrink_to_fit();
         heads.shrink_to_fit();
-        let tops = tops_of(alloc, &heads)?;
-        let steps = steps_of(alloc, &heads)?;
+        if heads.len() >= MANY {
+            tops = tops_of(alloc, &heads)?;
+        }
         Ok(Codes {
             bytes,
             ends,
             odd,
             heads,
             tops,
-            steps,
         })
     }
 
@@ -204,7 +201,6 @@ impl Codes {
             mut odd,
             mut heads,
             mut tops,
-            mut steps,
         } = self;
         let (more, is_odd) = list.parts();
         bytes.extend_from_slice(more)?;
@@ -215,14 +211,12 @@ impl Codes {
         odd.push(is_odd)?;
         heads.push(head_of(list, 0))?;
         tops.clear();
-        steps.clear();
         Ok(Codes {
             bytes,
             ends,
             odd,
             heads,
             tops,
-            steps,
         })
     }
 }

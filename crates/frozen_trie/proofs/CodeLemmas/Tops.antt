@@ -1,10 +1,9 @@
 -- A search among some of the numbers that don't fall.
-use Rattle.std.proofs.Common.{◌≡◌, ℕ, ◌+◌, ◌-◌, ◌*◌, ◌<◌, ◌≤◌, ◌⊎◌, inl, inr, List, [], ◌∷◌, ◌++◌, length, take, drop, get_or, sym, ap, subst, ◌∙◌, arith}
+use Rattle.std.proofs.Common.{◌≡◌, ℕ, ◌+◌, ◌-◌, ◌<◌, ◌≤◌, ◌⊎◌, inl, inr, List, [], ◌∷◌, ◌++◌, length, take, drop, get_or, sym, ap, subst, ◌∙◌, arith}
 use Rattle.std.proofs.lemmas.List.{get_or-drop, get_or-take, get_or_append_left, length-append}
 use Rattle.std.proofs.Math.Seq.{get_or-append_seam}
 use Rattle.radix_keys.proofs.KeyLemmas.Order.{three_ways}
-use Rattle.std.specs.List.Sorted.{IsNonDecreasing}
-use Rattle.frozen_trie.specs.Heads.{AreSteps, AreTops, IsTop}
+use Rattle.frozen_trie.specs.Heads.{AreTops, IsTop}
 
 -- what stands in a part stands in the whole
 pub part_at : (xs : List ℕ) (from to k : ℕ) → from ≤ k → k < to → get_or (take (to - from) (drop from xs)) (k - from) 0 ≡ get_or xs k 0
@@ -31,16 +30,3 @@ tops_more hs tops n kept top w l = elim (three_ways w (length tops)) [
   | inr (inl e) ↦ subst (IsTop hs w) (sym (ap (λ k. get_or (tops ++ n ∷ []) k 0) e ∙ get_or-append_seam tops n [] 0)) (subst (λ k. IsTop hs k n) (sym e) top)
   | inr (inr g) ↦ absurd (let more = length-append tops (n ∷ []) in omega (arith, l, g, more))
 ]
-
--- no steps say anything
-pub no_steps : (hs ss : List ℕ) → ss ≡ [] → AreSteps hs ss
-no_steps hs ss e = λ j l. absurd (let none = ap length e in omega (arith, none, l))
-
-module _ (hs ss : List ℕ) (rises : IsNonDecreasing hs) (steps : AreSteps hs ss) where
-  -- a number up to a step is at most that
-  pub up_to_step : (j k : ℕ) → j < length ss → k ≤ 16 * j → get_or hs k 0 ≤ get_or ss j 0
-  up_to_step j k l m = let s = steps j l in let r = rises k (16 * j) 0 m s.0 in omega (arith, r, s.1)
-
-  -- one from a step on is at least that
-  pub from_step : (j k : ℕ) → j < length ss → 16 * j ≤ k → k < length hs → get_or ss j 0 ≤ get_or hs k 0
-  from_step j k l m n = let s = steps j l in let r = rises (16 * j) k 0 m n in omega (arith, r, s.1)

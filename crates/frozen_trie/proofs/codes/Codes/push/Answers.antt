@@ -4,7 +4,7 @@ use Rattle.frozen_trie.specs.Heads.{IsHeaded}
 use Rattle.frozen_trie.specs.Laid.{codes_in}
 use Rattle.frozen_trie.proofs.CodeLemmas.Growing.{laid_more, codes_more, laid_alike, codes_alike}
 use Rattle.frozen_trie.proofs.CodeLemmas.Heads.{headed_more}
-use Rattle.frozen_trie.proofs.CodeLemmas.Tops.{no_steps, no_tops}
+use Rattle.frozen_trie.proofs.CodeLemmas.Tops.{no_tops}
 use Rattle.frozen_trie.proofs.codes.Codes.push.Goals as goal
 
 pub invariant_of-result : goal.invariant_of-result
@@ -26,7 +26,6 @@ invariant_of-result c =
       headed = subst (λ ds. IsHeaded ds c.push-3.new.self.items) (sym all) (subst (IsHeaded (cs ++ list ∷ [])) (sym c.in_ok-push-3.ensures.items)
           (headed_more cs c.self.inside.heads.items c.self.invariant.headed list c.head_of.result c.head_of.ensures.head c.head_of.ensures.nibbles));
       topped = no_tops _ _ c.clear.ensures.items;
-      stepped = no_steps _ _ c.clear-2.ensures.items;
     }
 
 pub returns : goal.returns

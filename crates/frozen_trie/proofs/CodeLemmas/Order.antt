@@ -1,7 +1,6 @@
 -- The order of lists as a test, and what lies between a prefix and the list.
-use Rattle.std.proofs.Common.{◌≡◌, ◌≢◌, ◌↔◌, ℕ, ◌<◌, ◌≤◌, ◌⊎◌, inl, inr, Bool, true, false, not, T, ◌||◌, List, [], ◌∷◌, ◌++◌, length, take, drop, refl, sym, ap, subst, ◌∙◌, arith, nat_eq, eq-eqb, ne_eqb, get_or}
-use Rattle.std.proofs.lemmas.Bool.{cases_eq}
-use Rattle.std.proofs.lemmas.List.{take_all, take-append-drop, get_or_append_left, length-append}
+use Rattle.std.proofs.Common.{◌≡◌, ℕ, ◌<◌, ◌≤◌, ◌⊎◌, inl, inr, Bool, true, false, T, ◌||◌, List, [], ◌∷◌, ◌++◌, take, drop, refl, sym, ap, subst, arith}
+use Rattle.std.proofs.lemmas.List.{take-append-drop}
 use Rattle.radix_keys.proofs.KeyLemmas.Order.{three_ways}
 use Rattle.nibble_map.specs.Lists.{IsBefore, IsPrefix, is_prefix}
 use Rattle.nibble_map.proofs.MapLemmas.Bridge.{first_of_both, both_hold}
@@ -96,32 +95,6 @@ prefix_before p q h = elim (which_before p q) [
 -- the first n elements of a list begin it
 pub taken_begins : (n : ℕ) (c : List ℕ) → IsPrefix (take n c) c
 taken_begins n c = (drop n c, sym (take-append-drop n c))
-
--- how far a list and another agree tells whether it begins with the other
-pub agreement_tells : (c q : List ℕ) (n : ℕ) → n ≤ length q → take n c ≡ take n q
-    → (n < length c → n < length q → get_or c n 0 ≢ get_or q n 0) → nat_eq n (length q) ≡ is_prefix q c
-agreement_tells c q n le same apart =
-    elim (cases_eq n (length q)) [
-      | inl e ↦ eq-eqb n (length q) e ∙ sym (is_prefix_true q c (subst (λ l. IsPrefix l c) (same ∙ take_all n q (omega (arith, e))) (taken_begins n c)))
-      | inr ne ↦ ne_eqb n (length q) ne ∙ sym (by (is_prefix q c) refl ne)
-    ]
-  where
-    by : (b : Bool) → is_prefix q c ≡ b → n ≢ length q → is_prefix q c ≡ false
-    by false e ne = e
-    by true e ne =
-        let p = prefix_by_test q c e in
-        let l : n < length q = omega (arith, le, ne) in
-        let k = ap length p.1 ∙ length-append q p.0 in
-        absurd (apart (omega (arith, l, k)) l (ap (λ y. get_or y n 0) p.1 ∙ get_or_append_left q p.0 0 n l))
-
--- the same, where a test says whether the other goes on behind that
-pub ended_tells : (b : Bool) (c q : List ℕ) (n : ℕ) → ((b ≡ true) ↔ (n < length q)) → n ≤ length q → take n c ≡ take n q
-    → (n < length c → n < length q → get_or c n 0 ≢ get_or q n 0) → not b ≡ is_prefix q c
-ended_tells true c q n h le same apart =
-    sym (ne_eqb n (length q) (λ e. let l = h.0 refl in omega (arith, e, l))) ∙ agreement_tells c q n le same apart
-ended_tells false c q n h le same apart =
-    let most = at_most (length q) n (λ l. let no : false ≡ true = h.1 l in cc no) in
-    sym (eq-eqb n (length q) (omega (arith, le, most))) ∙ agreement_tells c q n le same apart
 
 -- the test of what comes before a list or begins with it
 until_cases : (b p : Bool) → b || p ≡ true → (b ≡ true) ⊎ (p ≡ true)

@@ -1,17 +1,16 @@
 -- On which side of a search a code lies.
 use Rattle.std.proofs.Common.{ltb, ◌≡◌, ◌≢◌, ℕ, ◌<◌, ◌≤◌, inl, inr, Bool, true, false, ◌||◌, List, length, take, get_or, refl, sym, ap, subst, ◌∙◌, arith}
 use Rattle.std.proofs.lemmas.Bool.{le-ltb, lt-ltb}
-use Rattle.std.proofs.lemmas.List.{get_or_append_left, length-append, length-take-le, take-take, take_all}
+use Rattle.std.proofs.lemmas.List.{get_or_append_left, length-take-le, take-take, take_all}
 use Rattle.std.specs.Cmp.{nat_cmp_is}
-use Rattle.std.specs.Cmp.Lexicographic.{slice_cmp}
-use Rattle.std.specs.Ordering.{is_lt, nat_cmp}
+use Rattle.std.specs.Ordering.{is_lt}
 use Rattle.std.specs.declared.cmp.Ordering.TheVariants.{Less, Greater}
 use Rattle.radix_keys.proofs.KeyLemmas.Order.{three_ways}
 use Rattle.radix_keys.proofs.NibbleLemmas.Comparing.{compare_apart}
 use Rattle.nibble_map.specs.Lists.{IsBefore, IsPrefix, is_prefix}
 use Rattle.nibble_map.proofs.ListLemmas.Parted.{prefix_by_test}
 use Rattle.nibble_map.proofs.TreeLemmas.SomePrefixes.{before_through}
-use Rattle.frozen_trie.specs.Codes.{is_before, is_in_front, is_until, pad}
+use Rattle.frozen_trie.specs.Codes.{is_before, is_in_front, pad}
 use Rattle.frozen_trie.specs.Heads.{head_in, head_padded, AreNibbles}
 use Rattle.frozen_trie.proofs.CodeLemmas.Heads.{before_by_head, not_before_by_head, not_until_by_head, order_by_head, through_by_head, until_by_head, until_by_less}
 use Rattle.frozen_trie.proofs.CodeLemmas.Links.{prefix_is_taken}

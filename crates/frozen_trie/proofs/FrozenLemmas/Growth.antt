@@ -1,13 +1,13 @@
 -- One code more, and its link.
-use Rattle.std.proofs.Common.{◌≡◌, ℕ, ◌-◌, ◌<◌, ◌≤◌, inl, inr, List, [], ◌∷◌, ◌++◌, length, take, drop, get_or, refl, sym, ap, subst, ◌∙◌, arith}
-use Rattle.std.proofs.lemmas.List.{get_or_append_left, length-append, map-append, take-append-drop}
+use Rattle.std.proofs.Common.{◌≡◌, ℕ, ◌-◌, ◌<◌, ◌≤◌, inl, inr, List, [], ◌∷◌, ◌++◌, length, get_or, refl, sym, ap, subst, ◌∙◌, arith}
+use Rattle.std.proofs.lemmas.List.{get_or_append_left, length-append}
 use Rattle.std.proofs.Math.Seq.{get_or-append_seam}
 use Rattle.radix_keys.proofs.KeyLemmas.Order.{three_ways}
 use Rattle.nibble_map.specs.Lists.{IsBefore, IsPrefix, IsRising, Each, Has}
 use Rattle.nibble_map.proofs.ListLemmas.Rising.{IsRising-append}
 use Rattle.nibble_map.proofs.TreeLemmas.SomePrefixes.{before_through}
 use Rattle.frozen_trie.specs.Codes.{IsLastPrefix, code_at}
-use Rattle.frozen_trie.specs.Frozen.{IsLinked, codes_of}
+use Rattle.frozen_trie.specs.Frozen.{IsLinked}
 use Rattle.frozen_trie.proofs.CodeLemmas.Parts.{rising_at}
 use Rattle.frozen_trie.proofs.FrozenLemmas.Queries.{has_index}
 
@@ -20,11 +20,6 @@ Each-front Q (x ∷ xs) ys h = (h.0, Each-front Q xs ys h.1)
 pub rising_front : (xs ys : List (List ℕ)) → IsRising (xs ++ ys) → IsRising xs
 rising_front [] ys h = tt
 rising_front (x ∷ xs) ys h = (Each-front (IsBefore x) xs ys h.0, rising_front xs ys h.1)
-
--- the first codes of rising ones rise
-pub rising_take : {K V : Type 0} (enc : K → List ℕ) (n : ℕ) (ps : List (K × V)) → IsRising (codes_of enc ps) → IsRising (codes_of enc (take n ps))
-rising_take enc n ps h = rising_front _ (codes_of enc (drop n ps))
-    (subst IsRising (ap (codes_of enc) (sym (take-append-drop n ps)) ∙ map-append (λ p. enc p.0) (take n ps) (drop n ps)) h)
 
 -- the code behind some codes
 pub code_behind : (cs : List (List ℕ)) (c : List ℕ) → code_at (cs ++ c ∷ []) (length cs) ≡ c

@@ -1,5 +1,5 @@
 use Rattle.std.proofs.Common.{ltb, ◌≡◌, ◌<◌, false, true, length, take, get_or, refl, sym, ap, subst, ◌∙◌, arith}
-use Rattle.frozen_trie.specs.Codes.{code_at, is_in_front}
+use Rattle.frozen_trie.specs.Codes.{code_at}
 use Rattle.frozen_trie.specs.Heads.{IsHeaded}
 use Rattle.frozen_trie.proofs.CodeLemmas.Heads.{as_many_heads, head_at}
 use Rattle.frozen_trie.proofs.CodeLemmas.Order.{at_most}

@@ -3,3 +3,5 @@
 pub mod CodeLemmas
 -- The map of pairs in order: what it answers, by the pairs' indices.
 pub mod FrozenLemmas
+-- The map of byte strings in order.
+pub mod TextLemmas

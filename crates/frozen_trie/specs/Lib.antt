@@ -2,4 +2,5 @@ pub mod Codes
 pub mod Laid
 pub mod Heads
 pub mod Frozen
+pub mod Texts
 pub mod Lends

@@ -64,7 +64,7 @@ impl Codes {
     }
 
     /// The list at an index.
-    fn piece(&self, at: usize) -> Packed<'_>
+    pub(crate) fn piece(&self, at: usize) -> Packed<'_>
         requires { at < length self.now }
         ensures code { result ≡ code_at self.now at }
         ensures few { length result < 2 ^ 33 }

@@ -11,6 +11,7 @@ mod packed;
 mod prefixes;
 mod search;
 mod slices;
+mod texts;
 mod thawing;
 
 pub use build::{SortedError, SortedWhy};
@@ -18,4 +19,5 @@ pub use copies::frozen_copy;
 pub use freezing::{FreezeError, FreezeWhy, freeze};
 pub use frozen::FrozenTrie;
 pub use prefixes::CommonPrefixes;
+pub use texts::{FrozenTexts, PushError, PushWhy, TextPrefixes, Texts};
 pub use thawing::ThawError;

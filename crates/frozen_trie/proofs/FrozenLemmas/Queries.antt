@@ -139,11 +139,11 @@ module _ {K V : Type 0} (enc : K → List ℕ) (ps : List (K × V)) (rises : IsR
       (λ k l. not-true _ (cut.before k l)) (λ k l m. not-false _ (cut.after k l (omega (arith, m, as_many))))
 
   -- a stored list stands at an index
-  stored_index : (x : List ℕ) → IsStored (map_of_pairs enc ps) x → (k : ℕ) × (k < length (codes_of enc ps)) × (code_at (codes_of enc ps) k ≡ x)
+  pub stored_index : (x : List ℕ) → IsStored (map_of_pairs enc ps) x → (k : ℕ) × (k < length (codes_of enc ps)) × (code_at (codes_of enc ps) k ≡ x)
   stored_index x h = has_index _ x (subst (λ l. Has l x) (ap stored (entries_are_rows enc ps rises) ∙ stored_rows enc ps) ((stored_by_entries (map_of_pairs enc ps) x).1 h))
 
   -- the code at an index is stored
-  index_stored : (k : ℕ) → k < length (codes_of enc ps) → IsStored (map_of_pairs enc ps) (code_at (codes_of enc ps) k)
+  pub index_stored : (k : ℕ) → k < length (codes_of enc ps) → IsStored (map_of_pairs enc ps) (code_at (codes_of enc ps) k)
   index_stored k l = (stored_by_entries (map_of_pairs enc ps) _).0 (subst (λ xs. Has xs (code_at (codes_of enc ps) k)) (sym (ap stored (entries_are_rows enc ps rises) ∙ stored_rows enc ps)) (index_has _ k l))
 
   -- where no code is a prefix of q no pair is above q

@@ -1,0 +1,6 @@
+-- The map of byte strings in order.
+pub mod Bytes
+pub mod Parts
+pub mod Pairs
+pub mod Appended
+pub mod Growth

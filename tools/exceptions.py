@@ -116,6 +116,7 @@ NO_EDIT = {
     },
     "it returns a field or makes what it is from one, and nothing else of that type is at hand": {
         "line_sessions": "Patient::new WatchedReader::new WatchedWriter::new",
+        "frozen_trie": "FrozenTexts::new",
         "radix_keys": "Bits::as_list Bits::into_list BigEndian::value LittleEndian::value Ascending::value "
                       "Network::base Network::bits NibbleVec::new Parts::new",
         "radix_trie": "Entry::key SubTrie::path SubTrieMut::path SubTrieMut::into_trie PathList::nibbles "

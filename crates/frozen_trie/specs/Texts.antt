@@ -7,17 +7,17 @@ use Rattle.nibble_map.specs.Nibbles.{nibbles}
 use Rattle.frozen_trie.specs.Frozen.{IsFrozen, map_of_pairs}
 
 -- the bytes of nibbles, two to a byte; of an odd count the low half of the last byte is zero
-abbrev pub bytes_of : List ℕ → List ℕ
-bytes_of [] = []
-bytes_of (a ∷ []) = (a * 16) ∷ []
-bytes_of (a ∷ b ∷ c) = (a * 16 + b) ∷ bytes_of c
+abbrev pub packed_bytes : List ℕ → List ℕ
+packed_bytes [] = []
+packed_bytes (a ∷ []) = (a * 16) ∷ []
+packed_bytes (a ∷ b ∷ c) = (a * 16 + b) ∷ packed_bytes c
 
 module _ {V : Type 0} where
   -- the bytes of each list of nibbles, with their value
   abbrev pub text_pairs : List (List ℕ) → List V → List (List ℕ × V)
   text_pairs [] vs = []
   text_pairs (c ∷ cs) [] = []
-  text_pairs (c ∷ cs) (v ∷ vs) = (bytes_of c, v) ∷ text_pairs cs vs
+  text_pairs (c ∷ cs) (v ∷ vs) = (packed_bytes c, v) ∷ text_pairs cs vs
 
   -- the map from each list to its bytes and their value
   abbrev pub text_map : List (List ℕ) → List V → PairMap (List ℕ) V

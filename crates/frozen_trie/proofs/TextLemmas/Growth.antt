@@ -9,11 +9,11 @@ use Rattle.nibble_map.specs.Nibbles.{nibbles}
 use Rattle.nibble_map.proofs.MapLemmas.Bridge.{from_sorted-nil}
 use Rattle.radix_trie.specs.Views.{pairs_below}
 use Rattle.frozen_trie.specs.Frozen.{IsLinked, codes_of, map_of_pairs}
-use Rattle.frozen_trie.specs.Texts.{AreTexts, IsBehindAll, bytes_of, text_map, text_pairs}
+use Rattle.frozen_trie.specs.Texts.{AreTexts, IsBehindAll, packed_bytes, text_map, text_pairs}
 use Rattle.frozen_trie.proofs.FrozenLemmas.Growth.{linked_none}
 use Rattle.frozen_trie.proofs.FrozenLemmas.Queries.{whole_is}
 use Rattle.frozen_trie.proofs.TextLemmas.Appended.{behind_if_rising, inserted_last, rising_if_behind}
-use Rattle.frozen_trie.proofs.TextLemmas.Bytes.{bytes_of-nibbles}
+use Rattle.frozen_trie.proofs.TextLemmas.Bytes.{packed_bytes-nibbles}
 use Rattle.frozen_trie.proofs.TextLemmas.Pairs.{all_texts, texts_rise}
 
 module _ {V : Type 0} where
@@ -29,16 +29,16 @@ module _ {V : Type 0} where
 
   -- the pairs of one list more
   text_pairs-more : (cs : List (List ℕ)) (vs : List V) (c : List ℕ) (v : V) → length vs ≡ length cs
-      → text_pairs (cs ++ c ∷ []) (vs ++ v ∷ []) ≡ text_pairs cs vs ++ (bytes_of c, v) ∷ []
+      → text_pairs (cs ++ c ∷ []) (vs ++ v ∷ []) ≡ text_pairs cs vs ++ (packed_bytes c, v) ∷ []
   text_pairs-more [] [] c v e = refl
   text_pairs-more [] (w ∷ vs) c v e = absurd (omega (arith, e))
   text_pairs-more (d ∷ cs) [] c v e = absurd (omega (arith, e))
-  text_pairs-more (d ∷ cs) (w ∷ vs) c v e = ap (λ ps. (bytes_of d, w) ∷ ps) (text_pairs-more cs vs c v (omega (arith, e)))
+  text_pairs-more (d ∷ cs) (w ∷ vs) c v e = ap (λ ps. (packed_bytes d, w) ∷ ps) (text_pairs-more cs vs c v (omega (arith, e)))
 
 module _ {V : Type 0} (cs : List (List ℕ)) (vs : List V) (up : List ℕ) (kept : AreTexts cs vs up) where
   -- the pairs of one byte string more
   pairs_more : (bs : List ℕ) (v : V) → text_pairs (cs ++ nibbles bs ∷ []) (vs ++ v ∷ []) ≡ text_pairs cs vs ++ (bs, v) ∷ []
-  pairs_more bs v = text_pairs-more cs vs (nibbles bs) v kept.valued ∙ ap (λ b. text_pairs cs vs ++ (b, v) ∷ []) (bytes_of-nibbles bs)
+  pairs_more bs v = text_pairs-more cs vs (nibbles bs) v kept.valued ∙ ap (λ b. text_pairs cs vs ++ (b, v) ∷ []) (packed_bytes-nibbles bs)
 
   -- their nibbles
   codes_more : (bs : List ℕ) (v : V) → cs ++ nibbles bs ∷ [] ≡ codes_of nibbles (text_pairs cs vs ++ (bs, v) ∷ [])

@@ -9,7 +9,7 @@ use Rattle.radix_keys.proofs.NibbleLemmas.Bytes.{length-nibbles}
 use Rattle.radix_trie.specs.Views.{IsPairAbove, pairs_above, pairs_before, pairs_below}
 use Rattle.frozen_trie.specs.Codes.{IsCut, IsLastPrefix, is_before, is_until, code_at}
 use Rattle.frozen_trie.specs.Frozen.{codes_of, prefixes_up}
-use Rattle.frozen_trie.specs.Texts.{AreTexts, bytes_of, text_map, text_pairs}
+use Rattle.frozen_trie.specs.Texts.{AreTexts, packed_bytes, text_map, text_pairs}
 use Rattle.frozen_trie.proofs.FrozenLemmas.Prefixes.{step_up, walk_up_whole}
 use Rattle.frozen_trie.proofs.FrozenLemmas.Queries.{above_none, above_some, below_is, between_is, count_before_is, cuts_in_order, whole_is}
 use Rattle.frozen_trie.proofs.FrozenLemmas.Rows.{code_of_pair, get_at, get_none, len_is}
@@ -23,10 +23,10 @@ module _ {V : Type 0} where
 
   -- the pair at an index
   pub text_found : (cs : List (List ℕ)) (vs : List V) (k : ℕ) (v : V) → k < length cs → length vs ≡ length cs → v ≡ get_or vs k v
-      → slice_get (text_pairs cs vs) k ≡ Some (bytes_of (code_at cs k), v)
+      → slice_get (text_pairs cs vs) k ≡ Some (packed_bytes (code_at cs k), v)
   text_found [] vs k v l e h = absurd (omega (arith, l))
   text_found (c ∷ cs) [] k v l e h = absurd (omega (arith, e))
-  text_found (c ∷ cs) (w ∷ vs) zero v l e h = ap (λ x. Some (bytes_of c, x)) (sym h)
+  text_found (c ∷ cs) (w ∷ vs) zero v l e h = ap (λ x. Some (packed_bytes c, x)) (sym h)
   text_found (c ∷ cs) (w ∷ vs) (suc k) v l e h = text_found cs vs k v (omega (arith, l)) (omega (arith, e)) h
 
 module _ {V : Type 0} (cs : List (List ℕ)) (vs : List V) (up : List ℕ) (kept : AreTexts cs vs up) where
@@ -51,24 +51,24 @@ module _ {V : Type 0} (cs : List (List ℕ)) (vs : List V) (up : List ℕ) (kept
   all_count = ap length all_texts ∙ length-text_pairs cs vs kept.valued ∙ code_count
 
   -- the pair at an index
-  pub pair_found : (k : ℕ) (v : V) → k < length cs → v ≡ get_or vs k v → slice_get (pairs_below (text_map cs vs) []) k ≡ Some (bytes_of (code_at cs k), v)
+  pub pair_found : (k : ℕ) (v : V) → k < length cs → v ≡ get_or vs k v → slice_get (pairs_below (text_map cs vs) []) k ≡ Some (packed_bytes (code_at cs k), v)
   pair_found k v l h = ap (λ xs. slice_get xs k) all_texts ∙ text_found cs vs k v l kept.valued h
 
   -- a list is the nibbles of its bytes
-  whole_bytes : (k : ℕ) (v : V) → k < length cs → v ≡ get_or vs k v → code_at cs k ≡ nibbles (bytes_of (code_at cs k))
+  whole_bytes : (k : ℕ) (v : V) → k < length cs → v ≡ get_or vs k v → code_at cs k ≡ nibbles (packed_bytes (code_at cs k))
   whole_bytes k v l h =
       ap (λ ds. code_at ds k) kept.frozen.keyed
-      ∙ code_of_pair nibbles (text_pairs cs vs) k (bytes_of (code_at cs k), v) (omega (arith, l, length-text_pairs cs vs kept.valued))
-      (sym (get_or_from_slice_get (text_pairs cs vs) k (bytes_of (code_at cs k), v) (bytes_of (code_at cs k), v) (text_found cs vs k v l kept.valued h)))
+      ∙ code_of_pair nibbles (text_pairs cs vs) k (packed_bytes (code_at cs k), v) (omega (arith, l, length-text_pairs cs vs kept.valued))
+      (sym (get_or_from_slice_get (text_pairs cs vs) k (packed_bytes (code_at cs k), v) (packed_bytes (code_at cs k), v) (text_found cs vs k v l kept.valued h)))
 
   -- so it has two for each byte
-  pub text_short : (k : ℕ) (v : V) → k < length cs → v ≡ get_or vs k v → length (code_at cs k) < 2 ^ 33 → length (bytes_of (code_at cs k)) < 2 ^ 32
-  text_short k v l h few = omega (arith, few, ap length (whole_bytes k v l h), length-nibbles (bytes_of (code_at cs k)))
+  pub text_short : (k : ℕ) (v : V) → k < length cs → v ≡ get_or vs k v → length (code_at cs k) < 2 ^ 33 → length (packed_bytes (code_at cs k)) < 2 ^ 32
+  text_short k v l h few = omega (arith, few, ap length (whole_bytes k v l h), length-nibbles (packed_bytes (code_at cs k)))
 
   -- the value at a list that stands at an index
   pub value_found : (q : List ℕ) (k : ℕ) (v : V) → k < length cs → v ≡ get_or vs k v → code_at cs k ≡ q → Some v ≡ value_at (text_map cs vs) q
   value_found q k v l h code =
-      let x : List ℕ × V = (bytes_of (code_at cs k), v) in
+      let x : List ℕ × V = (packed_bytes (code_at cs k), v) in
       let inside : k < length (text_pairs cs vs) = omega (arith, l, length-text_pairs cs vs kept.valued) in
       sym (ap (option_map (λ (p : List ℕ × V). p.1)) (get_at nibbles (text_pairs cs vs) q k x texts_rise inside
       (sym (get_or_from_slice_get (text_pairs cs vs) k x x (text_found cs vs k v l kept.valued h))) (subst (λ ds. code_at ds k ≡ q) kept.frozen.keyed code)))

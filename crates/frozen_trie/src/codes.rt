@@ -145,6 +145,7 @@ impl Codes {
     /// Bounds for a search by first nibbles: those of the lists in front of the first bound are below a number, and those
     /// from the second on above it.
     pub(crate) fn span(&self, bound: u64) -> (usize, usize)
+        requires { IsRising self.now }
         ensures order { result.0 ≤ result.1 }
         ensures within { result.1 ≤ length self.now }
         ensures below { (k : ℕ) → k < result.0 → head_in 16 (code_at self.now k) < bound }

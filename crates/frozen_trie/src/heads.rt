@@ -21,9 +21,35 @@ pub(crate) fn head_of(list: &Packed<'_>, rest: u64) -> u64
     head
 }
 
-/// Bounds for a search among numbers that don't fall, by how many of them are below the multiples of 2^48: those in front of
-/// the first bound are below a number, and those from the second on above it.
+/// Bounds for a search among numbers that don't fall: those in front of the first bound are below a number, and those from
+/// the second on above it. They are one where the number isn't among them.
 pub(crate) fn span(numbers: &[u64], tops: &[u32], bound: u64) -> (usize, usize)
+    requires rising { IsNonDecreasing numbers.now }
+    requires tops { AreTops numbers.now tops.now }
+    ensures order { result.0 ≤ result.1 }
+    ensures within { result.1 ≤ length numbers.now }
+    ensures below { (k : ℕ) → k < result.0 → slice_index numbers.now k < bound }
+    ensures above { (k : ℕ) → result.1 ≤ k → k < length numbers.now
+        → bound < slice_index numbers.now k }
+{
+    let (mut lo, mut hi) = top_span(numbers, tops, bound);
+    while lo < hi {
+        let mid = lo + (hi - lo) / 2;
+        let number = numbers[mid];
+        if number == bound {
+            return (lo, hi);
+        }
+        if number < bound {
+            lo = mid + 1;
+        } else {
+            hi = mid;
+        }
+    }
+    (lo, hi)
+}
+
+/// The same by how many numbers are below the multiples of 2^48.
+fn top_span(numbers: &[u64], tops: &[u32], bound: u64) -> (usize, usize)
     requires { AreTops numbers.now tops.now }
     ensures order { result.0 ≤ result.1 }
     ensures within { result.1 ≤ length numbers.now }

@@ -3,4 +3,5 @@ pub mod Laid
 pub mod Heads
 pub mod Frozen
 pub mod Texts
+pub mod Files
 pub mod Lends

@@ -4,6 +4,7 @@
 mod build;
 mod codes;
 mod copies;
+mod file;
 mod freezing;
 mod frozen;
 mod heads;
@@ -16,6 +17,7 @@ mod thawing;
 
 pub use build::{SortedError, SortedWhy};
 pub use copies::frozen_copy;
+pub use file::{FileError, FileWhy};
 pub use freezing::{FreezeError, FreezeWhy, freeze};
 pub use frozen::FrozenTrie;
 pub use prefixes::CommonPrefixes;

@@ -1,0 +1,114 @@
+//! Bytes of a file, read.
+ghost use Rattle.std.specs.Prelude.{◌≡◌, ◌+◌, ◌≤◌, ◌++◌, ℕ, List, length, IfOk, OnOk};
+ghost use Rattle.std.specs.Int.{w32, w64, to_le_bytes};
+ghost use Rattle.std.specs.Io.KnownBytes.{Consumes, IsAtEnd, Keeps};
+
+use crate::file::FileWhy;
+use std::io::{ErrorKind, Read};
+
+/// How many bytes of a key are read at once.
+const MOST: usize = 512;
+
+/// Fills a buffer.
+pub(super) fn fill<R: Read>(input: &mut R, buffer: &mut [u8]) -> Result<(), FileWhy>
+    ensures { OnOk result (Consumes (R.remaining input.old) (R.remaining input.new) buffer.new) }
+{
+    match input.read_exact(buffer) {
+        Ok(()) => Ok(()),
+        Err(error) => {
+            if error.kind() == ErrorKind::UnexpectedEof {
+                Err(FileWhy::Short)
+            } else {
+                Err(FileWhy::Read)
+            }
+        }
+    }
+}
+
+/// A number of 4 bytes.
+pub(super) fn read_u32<R: Read>(input: &mut R) -> Result<u32, FileWhy>
+    ensures { IfOk result
+        (λ n. Consumes (R.remaining input.old) (R.remaining input.new) (to_le_bytes w32 n)) }
+{
+    let mut bytes = [0; 4];
+    fill(input, &mut bytes)?;
+    Ok(u32_of(bytes))
+}
+
+/// A number of 8 bytes.
+pub(super) fn read_u64<R: Read>(input: &mut R) -> Result<u64, FileWhy>
+    ensures { IfOk result
+        (λ n. Consumes (R.remaining input.old) (R.remaining input.new) (to_le_bytes w64 n)) }
+{
+    let mut bytes = [0; 8];
+    fill(input, &mut bytes)?;
+    Ok(u64_of(bytes))
+}
+
+/// The number whose bytes these are, the low ones first.
+fn u32_of(bytes: [u8; 4]) -> u32
+    ensures { to_le_bytes w32 result ≡ bytes }
+{
+    u32::from_le_bytes(bytes)
+}
+
+/// The number whose bytes these are, the low ones first.
+fn u64_of(bytes: [u8; 8]) -> u64
+    ensures { to_le_bytes w64 result ≡ bytes }
+{
+    u64::from_le_bytes(bytes)
+}
+
+/// Reads so many bytes in the place of those that `key` holds. Memory is asked for as they come.
+pub(super) fn read_bytes<R: Read>(
+    input: &mut R,
+    count: u32,
+    key: &mut Vec<u8>,
+) -> Result<(), FileWhy>
+    ensures bytes { OnOk result
+        (Consumes (R.remaining input.old) (R.remaining input.new) key.new.items) }
+    ensures count { OnOk result (length key.new.items ≡ count) }
+{
+    let count = count as usize;
+    key.clear();
+    while key.len() < count {
+        let left = count - key.len();
+        read_part(input, left.min(MOST), key)?;
+    }
+    Ok(())
+}
+
+/// Reads so many bytes behind those that `key` holds.
+fn read_part<R: Read>(input: &mut R, count: usize, key: &mut Vec<u8>) -> Result<(), FileWhy>
+    requires { count ≤ MOST }
+    ensures { OnOk result ((bytes : List ℕ)
+        × Consumes (R.remaining input.old) (R.remaining input.new) bytes
+        × (key.new.items ≡ key.old.items ++ bytes) × (length bytes ≡ count)) }
+{
+    let mut part = [0; MOST];
+    fill(input, &mut part[..count])?;
+    match key.extend_from_slice(&part[..count]) {
+        Ok(()) => Ok(()),
+        Err(_) => Err(FileWhy::Memory),
+    }
+}
+
+/// Reads on, and finds the end. A read that is interrupted is made again.
+pub(super) fn expect_end<R: Read>(input: &mut R) -> Result<(), FileWhy>
+    ensures end { OnOk result (IsAtEnd (R.remaining input.new)) }
+    ensures kept { OnOk result (Keeps (R.remaining input.old) (R.remaining input.new)) }
+{
+    let mut byte = [0; 1];
+    for _again in 0..u64::MAX {
+        match input.read(&mut byte) {
+            Ok(0) => return Ok(()),
+            Ok(_) => return Err(FileWhy::Long),
+            Err(error) => {
+                if error.kind() != ErrorKind::Interrupted {
+                    return Err(FileWhy::Read);
+                }
+            }
+        }
+    }
+    Err(FileWhy::Read)
+}

@@ -50,7 +50,7 @@ STANDS_FOR = {
     "least_routes": {"is_table": "Route::precedes", "least": "Plan::of"},
     "line_sessions": {"serve": "converse"},
     "topic_filters": {"matching": "gather"},
-    "frozen_trie": {"FrozenTrie::get_mut": "absent_as_none"},
+    "frozen_trie": {"FrozenTrie::get_mut": "absent_as_none", "FrozenTexts::read": "read_all"},
     "radix_keys": {
         **{f"{kind}TrieKey::encode": "U32KeyInt::byte" for kind in ("U8", "U16", "U32", "U64", "Usize")},
         **{f"{kind}TrieKey::encode": "I16KeyInt::byte" for kind in ("I8", "I16", "I32", "I64", "Isize")},

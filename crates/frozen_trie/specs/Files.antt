@@ -12,8 +12,8 @@ use Rattle.frozen_trie.specs.Frozen.{map_of_pairs}
 abbrev pub row_of : List ℕ × ℕ → List ℕ
 row_of p = to_le_bytes w32 (length p.0) ++ (p.0 ++ to_le_bytes w64 p.1)
 
-abbrev pub rows_of : List (List ℕ × ℕ) → List ℕ
-rows_of ps = flat_map row_of ps
+abbrev pub file_rows : List (List ℕ × ℕ) → List ℕ
+file_rows ps = flat_map row_of ps
 
 -- what stands before the rows: the name of the form, its version, and the count of rows
 abbrev pub head_of : ℕ → List ℕ
@@ -21,7 +21,7 @@ head_of n = codes "FROZENTX" ++ (to_le_bytes w32 1 ++ to_le_bytes w64 n)
 
 -- the whole file: the rows in the order of the keys
 abbrev pub file_of : PairMap (List ℕ) ℕ → List ℕ
-file_of m = head_of (map.len m) ++ rows_of (pairs_below m [])
+file_of m = head_of (map.len m) ++ file_rows (pairs_below m [])
 
 -- the key's length fits 4 bytes, and the value 8
 abbrev pub FitsRow : List ℕ × ℕ → Type 0

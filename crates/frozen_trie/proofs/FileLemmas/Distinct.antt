@@ -8,7 +8,7 @@ use Rattle.nibble_map.specs.Lists.{Each}
 use Rattle.nibble_map.specs.Maps.{PairMap}
 use Rattle.nibble_map.specs.Nibbles.{nibbles}
 use Rattle.radix_trie.specs.Views.{pairs_below}
-use Rattle.frozen_trie.specs.Files.{FitsRow, IsFileable, file_of, head_of, row_of, rows_of}
+use Rattle.frozen_trie.specs.Files.{FitsRow, IsFileable, file_of, head_of, row_of, file_rows}
 use Rattle.frozen_trie.specs.Frozen.{map_of_pairs}
 use Rattle.frozen_trie.proofs.FrozenLemmas.Whole.{count_whole}
 
@@ -37,18 +37,18 @@ same_row (a, v) (b, w) xs ys f g e =
     (ap (λ x. (x, v)) second.0 ∙ ap (λ y. (b, y)) (same_u64 v w f.1 g.1 third.0), third.1)
 
 -- as many rows that are equal are of equal pairs
-same_rows : (ps qs : List (List ℕ × ℕ)) → length ps ≡ length qs → Each FitsRow ps → Each FitsRow qs → rows_of ps ≡ rows_of qs → ps ≡ qs
+same_rows : (ps qs : List (List ℕ × ℕ)) → length ps ≡ length qs → Each FitsRow ps → Each FitsRow qs → file_rows ps ≡ file_rows qs → ps ≡ qs
 same_rows [] [] n f g e = refl
 same_rows [] (q ∷ qs) n f g e = absurd (omega (arith, n))
 same_rows (p ∷ ps) [] n f g e = absurd (omega (arith, n))
 same_rows (p ∷ ps) (q ∷ qs) n f g e =
-    let one = same_row p q (rows_of ps) (rows_of qs) f.0 g.0 e in
+    let one = same_row p q (file_rows ps) (file_rows qs) f.0 g.0 e in
     ap (λ x. x ∷ ps) one.0 ∙ ap (λ xs. q ∷ xs) (same_rows ps qs (omega (arith, n)) f.1 g.1 one.1)
 
 -- maps with one file are one map
 pub file_tells_map : (m n : PairMap (List ℕ) ℕ) → IsFileable m → IsFileable n → file_of m ≡ file_of n → m ≡ n
 file_tells_map m n f g e =
-    let parts = same_parts (head_of (fin.len m)) (head_of (fin.len n)) (rows_of (pairs_below m [])) (rows_of (pairs_below n [])) refl e in
+    let parts = same_parts (head_of (fin.len m)) (head_of (fin.len n)) (file_rows (pairs_below m [])) (file_rows (pairs_below n [])) refl e in
     let count : fin.len m ≡ fin.len n = same_u64 (fin.len m) (fin.len n) f.few g.few (ap (drop 12) parts.0) in
     let pairs : pairs_below m [] ≡ pairs_below n [] =
     same_rows (pairs_below m []) (pairs_below n []) (count_whole m ∙ count ∙ sym (count_whole n)) f.rows g.rows parts.1 in

@@ -6,19 +6,19 @@ use Rattle.std.proofs.lemmas.Option.{get_or_from_slice_get, slice_get_within}
 use Rattle.std.specs.FinMap as fin
 use Rattle.nibble_map.specs.Maps.{PairMap}
 use Rattle.radix_trie.specs.Views.{pairs_below}
-use Rattle.frozen_trie.specs.Files.{row_of, rows_of}
+use Rattle.frozen_trie.specs.Files.{row_of, file_rows}
 use Rattle.frozen_trie.proofs.FrozenLemmas.Whole.{count_whole}
 
 -- one row more
-pub rows_of-more : (ps : List (List ℕ × ℕ)) (p : List ℕ × ℕ) → rows_of (ps ++ p ∷ []) ≡ rows_of ps ++ row_of p
-rows_of-more ps p = flat_map-append row_of ps (p ∷ []) ∙ ap (λ t. rows_of ps ++ t) (append-nil (row_of p))
+pub file_rows-more : (ps : List (List ℕ × ℕ)) (p : List ℕ × ℕ) → file_rows (ps ++ p ∷ []) ≡ file_rows ps ++ row_of p
+file_rows-more ps p = flat_map-append row_of ps (p ∷ []) ∙ ap (λ t. file_rows ps ++ t) (append-nil (row_of p))
 
 -- one pair more is counted
 pub len-more : {K V : Type 0} (m n : PairMap K V) (p : K × V) → pairs_below n [] ≡ pairs_below m [] ++ p ∷ [] → fin.len n ≡ fin.len m + 1
 len-more m n p e = sym (count_whole n) ∙ ap length e ∙ length_push (pairs_below m []) p ∙ ap (λ k. k + 1) (count_whole m)
 
 -- the rows up to a pair, and its row
-pub rows_of-taken : (ps : List (List ℕ × ℕ)) (k : ℕ) (p : List ℕ × ℕ) → slice_get ps k ≡ Some p → rows_of (take (k + 1) ps) ≡ rows_of (take k ps) ++ row_of p
-rows_of-taken ps k p e =
-    ap rows_of (take_more ps k p (slice_get_within ps k p e) ∙ ap (λ x. take k ps ++ x ∷ []) (get_or_from_slice_get ps k p p e))
-    ∙ rows_of-more (take k ps) p
+pub file_rows-taken : (ps : List (List ℕ × ℕ)) (k : ℕ) (p : List ℕ × ℕ) → slice_get ps k ≡ Some p → file_rows (take (k + 1) ps) ≡ file_rows (take k ps) ++ row_of p
+file_rows-taken ps k p e =
+    ap file_rows (take_more ps k p (slice_get_within ps k p e) ∙ ap (λ x. take k ps ++ x ∷ []) (get_or_from_slice_get ps k p p e))
+    ∙ file_rows-more (take k ps) p

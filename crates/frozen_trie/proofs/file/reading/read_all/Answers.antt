@@ -4,8 +4,8 @@ use Rattle.std.specs.FinMap as fin
 use Rattle.std.specs.Io.KnownBytes.{Consumes}
 use Rattle.nibble_map.specs.Nibbles.{nibbles}
 use Rattle.radix_trie.specs.Views.{pairs_below}
-use Rattle.frozen_trie.specs.Files.{file_of, head_of, rows_of}
-use Rattle.frozen_trie.proofs.FileLemmas.Rows.{len-more, rows_of-more}
+use Rattle.frozen_trie.specs.Files.{file_of, head_of, file_rows}
+use Rattle.frozen_trie.proofs.FileLemmas.Rows.{len-more, file_rows-more}
 use Rattle.frozen_trie.proofs.FileLemmas.Streams.{Consumes-whole}
 use Rattle.frozen_trie.proofs.FrozenLemmas.Thawed.{none_of_empty}
 use Rattle.frozen_trie.proofs.FrozenLemmas.Whole.{count_whole}
@@ -17,7 +17,7 @@ loop-row-init g c =
     let none : pairs_below m [] ≡ [] = ap (λ x. pairs_below x []) c.new-texts.ensures ∙ none_of_empty nibbles in
     record {
       count = sym (count_whole m) ∙ ap length none;
-      read = subst (λ ps. Consumes (g.R.Read.remaining c.read_head.new.input) (g.R.Read.remaining c.read_head.new.input) (rows_of ps)) (sym none) (Consumes-nil _);
+      read = subst (λ ps. Consumes (g.R.Read.remaining c.read_head.new.input) (g.R.Read.remaining c.read_head.new.input) (file_rows ps)) (sym none) (Consumes-nil _);
     }
 
 pub loop-row-preserved : goal.loop-row-preserved
@@ -26,14 +26,14 @@ loop-row-preserved g c =
     let row = c.in-Ok.ensures in
     record {
       count = len-more m c.read_row.new.texts row.0 row.2 ∙ ap (λ n. n + 1) c.loop-row.invariant.count;
-      read = subst (Consumes _ _) (sym (ap rows_of row.2 ∙ rows_of-more (pairs_below m []) row.0)) (Consumes-trans _ _ _ _ _ c.loop-row.invariant.read row.1);
+      read = subst (Consumes _ _) (sym (ap file_rows row.2 ∙ file_rows-more (pairs_below m []) row.0)) (Consumes-trans _ _ _ _ _ c.loop-row.invariant.read row.1);
     }
 
 pub returns-in-Ok-finished-clause-file : goal.returns-in-Ok-finished-clause-file
 returns-in-Ok-finished-clause-file g c =
     let m = c.loop-row.texts in
     let count : c.in_ok-pair.pair ≡ fin.len m = omega (arith, c.loop-row.invariant.count, c.loop-row-test.false, c.loop-row.auto.row-end) in
-    let whole : head_of c.in_ok-pair.pair ++ rows_of (pairs_below m []) ≡ file_of c.in-Ok-finished.texts =
-    ap (λ n. head_of n ++ rows_of (pairs_below m [])) count ∙ ap file_of (sym c.in-Ok-finished.ensures.same) in
+    let whole : head_of c.in_ok-pair.pair ++ file_rows (pairs_below m []) ≡ file_of c.in-Ok-finished.texts =
+    ap (λ n. head_of n ++ file_rows (pairs_below m [])) count ∙ ap file_of (sym c.in-Ok-finished.ensures.same) in
     subst (λ bytes. IfSome (g.R.Read.remaining c.args.input.now) (λ xs. xs ≡ bytes)) whole
     (Consumes-whole _ _ _ _ (Consumes-trans _ _ _ _ _ c.in_ok-pair.ensures c.loop-row.invariant.read) c.in_default.ensures.kept c.in_default.ensures.end)

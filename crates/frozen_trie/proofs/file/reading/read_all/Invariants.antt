@@ -2,11 +2,11 @@ use Rattle.std.proofs.Common.{◌≡◌, []}
 use Rattle.std.specs.FinMap as fin
 use Rattle.std.specs.Io.KnownBytes.{Consumes}
 use Rattle.radix_trie.specs.Views.{pairs_below}
-use Rattle.frozen_trie.specs.Files.{rows_of}
+use Rattle.frozen_trie.specs.Files.{file_rows}
 use Rattle.frozen_trie.proofs.file.reading.read_all.Given as goal
 
 abbrev pub invariant-loop-row : goal.invariant-loop-row
 invariant-loop-row g l = record {
   count : fin.len l.texts ≡ l.row;
-  read : Consumes (g.R.Read.remaining l.initial.input) (g.R.Read.remaining l.input) (rows_of (pairs_below l.texts []));
+  read : Consumes (g.R.Read.remaining l.initial.input) (g.R.Read.remaining l.input) (file_rows (pairs_below l.texts []));
 }

@@ -14,6 +14,8 @@ mod either;
 #[cfg(test)]
 mod first;
 #[cfg(test)]
+mod frozen_file;
+#[cfg(test)]
 mod key_sets;
 #[cfg(test)]
 mod leases;

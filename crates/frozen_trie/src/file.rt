@@ -1,7 +1,8 @@
 //! A map from byte strings to numbers as a file.
-ghost use Rattle.std.specs.Prelude.{◌≡◌, IfOk, IfSome, OnOk};
+ghost use Rattle.std.specs.Prelude.{◌≡◌, ℕ, List, Some, IfOk, IfSome, OnOk};
 ghost use Rattle.std.specs.Io.KnownBytes.{Appends, IsAtEnd};
-ghost use Rattle.frozen_trie.specs.Files.{file_of};
+ghost use Rattle.nibble_map.specs.Maps.{PairMap};
+ghost use Rattle.frozen_trie.specs.Files.{IsFileable, file_of};
 
 use crate::file::reading::read_all;
 use crate::file::writing::{write_head, write_row};
@@ -63,7 +64,9 @@ impl FrozenTexts<u64> {
     pub fn write<W: Write>(&self, out: &mut W) -> io::Result<()>
         ensures written { OnOk result
             (Appends (W.contents out.old) (W.contents out.new) (file_of self.now)) }
+        ensures fileable { OnOk result (IsFileable self.now) }
     {
+        self.is_of_its_pairs();
         let count = self.len();
         write_head(out, count as u64)?;
         for at in 0..count {
@@ -84,6 +87,8 @@ impl FrozenTexts<u64> {
     pub fn read<R: Read>(alloc: Global, input: &mut R) -> Result<FrozenTexts<u64>, FileError>
         ensures file { IfOk result
             (λ texts. IfSome (R.remaining input.old) (λ bytes. bytes ≡ file_of texts)) }
+        ensures same { IfOk result (λ texts. (m : PairMap (List ℕ) ℕ) → IsFileable m
+            → R.remaining input.old ≡ Some (file_of m) → texts ≡ m) }
         ensures end { OnOk result (IsAtEnd (R.remaining input.new)) }
     {
         read_all(alloc, input)

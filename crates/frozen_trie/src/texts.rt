@@ -5,7 +5,7 @@ ghost use Rattle.nibble_map.specs.Maps.{IsStored, value_at};
 ghost use Rattle.nibble_map.specs.Nibbles.{nibbles};
 ghost use Rattle.radix_trie.specs.Views.{IsPairAbove, pairs_above, pairs_before, pairs_below};
 ghost use Rattle.radix_trie.specs.Walks.{deref_pair};
-ghost use Rattle.frozen_trie.specs.Frozen.{prefixes_up};
+ghost use Rattle.frozen_trie.specs.Frozen.{map_of_pairs, prefixes_up};
 
 use crate::codes::Codes;
 use crate::packed::Packed;
@@ -184,6 +184,13 @@ impl<V> FrozenTexts<V> {
         ensures short { length result.0.now < 2 ^ 32 }
     {
         (self.codes.bytes_at(at), &self.values[at])
+    }
+
+    /// The map is that of its pairs.
+    pub(crate) fn is_of_its_pairs(&self)
+        ensures { self.now ≡ map_of_pairs nibbles (pairs_below self.now []) }
+    {
+        let _values = &self.values;
     }
 
     /// The pair at an index, by its parts, and the link there: the index and one more of the next pair whose key is a prefix

@@ -17,8 +17,10 @@ file_rows-more ps p = flat_map-append row_of ps (p ∷ []) ∙ ap (λ t. file_ro
 pub len-more : {K V : Type 0} (m n : PairMap K V) (p : K × V) → pairs_below n [] ≡ pairs_below m [] ++ p ∷ [] → fin.len n ≡ fin.len m + 1
 len-more m n p e = sym (count_whole n) ∙ ap length e ∙ length_push (pairs_below m []) p ∙ ap (λ k. k + 1) (count_whole m)
 
--- the rows up to a pair, and its row
+-- the pairs up to one, and that one
+pub taken : {A : Type 0} (xs : List A) (k : ℕ) (x : A) → slice_get xs k ≡ Some x → take (k + 1) xs ≡ take k xs ++ x ∷ []
+taken xs k x e = take_more xs k x (slice_get_within xs k x e) ∙ ap (λ y. take k xs ++ y ∷ []) (get_or_from_slice_get xs k x x e)
+
+-- their rows, and its row
 pub file_rows-taken : (ps : List (List ℕ × ℕ)) (k : ℕ) (p : List ℕ × ℕ) → slice_get ps k ≡ Some p → file_rows (take (k + 1) ps) ≡ file_rows (take k ps) ++ row_of p
-file_rows-taken ps k p e =
-    ap file_rows (take_more ps k p (slice_get_within ps k p e) ∙ ap (λ x. take k ps ++ x ∷ []) (get_or_from_slice_get ps k p p e))
-    ∙ file_rows-more (take k ps) p
+file_rows-taken ps k p e = ap file_rows (taken ps k p e) ∙ file_rows-more (take k ps) p

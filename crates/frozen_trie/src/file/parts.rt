@@ -1,5 +1,5 @@
 //! Bytes of a file, read.
-ghost use Rattle.std.specs.Prelude.{◌≡◌, ◌+◌, ◌≤◌, ◌++◌, ℕ, List, length, IfOk, OnOk};
+ghost use Rattle.std.specs.Prelude.{◌≡◌, ◌<◌, ◌≤◌, ◌^◌, ◌++◌, ℕ, List, length, IfOk, OnOk};
 ghost use Rattle.std.specs.Int.{w32, w64, to_le_bytes};
 ghost use Rattle.std.specs.Io.KnownBytes.{Consumes, IsAtEnd, Keeps};
 
@@ -27,8 +27,9 @@ pub(super) fn fill<R: Read>(input: &mut R, buffer: &mut [u8]) -> Result<(), File
 
 /// A number of 4 bytes.
 pub(super) fn read_u32<R: Read>(input: &mut R) -> Result<u32, FileWhy>
-    ensures { IfOk result
+    ensures bytes { IfOk result
         (λ n. Consumes (R.remaining input.old) (R.remaining input.new) (to_le_bytes w32 n)) }
+    ensures fits { IfOk result (λ n. n < 2 ^ 32) }
 {
     let mut bytes = [0; 4];
     fill(input, &mut bytes)?;
@@ -37,8 +38,9 @@ pub(super) fn read_u32<R: Read>(input: &mut R) -> Result<u32, FileWhy>
 
 /// A number of 8 bytes.
 pub(super) fn read_u64<R: Read>(input: &mut R) -> Result<u64, FileWhy>
-    ensures { IfOk result
+    ensures bytes { IfOk result
         (λ n. Consumes (R.remaining input.old) (R.remaining input.new) (to_le_bytes w64 n)) }
+    ensures fits { IfOk result (λ n. n < 2 ^ 64) }
 {
     let mut bytes = [0; 8];
     fill(input, &mut bytes)?;

@@ -1,8 +1,9 @@
 //! A file, read row by row.
-ghost use Rattle.std.specs.Prelude.{◌≡◌, ◌++◌, [], ◌∷◌, ℕ, List, IfOk, IfSome, OnOk};
+ghost use Rattle.std.specs.Prelude.{◌≡◌, ◌<◌, ◌^◌, ◌++◌, [], ◌∷◌, ℕ, List, Some, IfOk, IfSome, OnOk};
 ghost use Rattle.std.specs.Io.KnownBytes.{Consumes, IsAtEnd};
+ghost use Rattle.nibble_map.specs.Maps.{PairMap};
 ghost use Rattle.radix_trie.specs.Views.{pairs_below};
-ghost use Rattle.frozen_trie.specs.Files.{file_of, head_of, row_of};
+ghost use Rattle.frozen_trie.specs.Files.{FitsRow, IsFileable, file_of, head_of, row_of};
 
 use crate::file::parts::{expect_end, fill, read_bytes, read_u32, read_u64};
 use crate::file::{FileError, FileWhy, MAGIC, VERSION};
@@ -23,8 +24,9 @@ fn in_head(why: FileWhy, place: u64) -> FileError
 
 /// Reads what stands before the rows, and gives their count.
 fn read_head<R: Read>(input: &mut R) -> Result<u64, FileError>
-    ensures { IfOk result (λ count.
+    ensures bytes { IfOk result (λ count.
         Consumes (R.remaining input.old) (R.remaining input.new) (head_of count)) }
+    ensures fits { IfOk result (λ count. count < 2 ^ 64) }
 {
     let mut magic = [0; 8];
     if let Err(why) = fill(input, &mut magic) {
@@ -53,7 +55,7 @@ fn read_row<R: Read>(
     key: &mut Vec<u8>,
     texts: &mut FrozenTexts<u64>,
 ) -> Result<u64, FileWhy>
-    ensures { OnOk result ((p : List ℕ × ℕ)
+    ensures { OnOk result ((p : List ℕ × ℕ) × FitsRow p
         × Consumes (R.remaining input.old) (R.remaining input.new) (row_of p)
         × (pairs_below texts.new [] ≡ pairs_below texts.old [] ++ p ∷ [])) }
 {
@@ -74,6 +76,8 @@ fn read_row<R: Read>(
 pub(super) fn read_all<R: Read>(alloc: Global, input: &mut R) -> Result<FrozenTexts<u64>, FileError>
     ensures file { IfOk result
         (λ texts. IfSome (R.remaining input.old) (λ bytes. bytes ≡ file_of texts)) }
+    ensures same { IfOk result (λ texts. (m : PairMap (List ℕ) ℕ) → IsFileable m
+        → R.remaining input.old ≡ Some (file_of m) → texts ≡ m) }
     ensures end { OnOk result (IsAtEnd (R.remaining input.new)) }
 {
     let pair = read_head(input)?;
@@ -96,7 +100,10 @@ pub(super) fn read_all<R: Read>(alloc: Global, input: &mut R) -> Result<FrozenTe
         return Err(FileError { why, pair, place });
     }
     match texts.finished() {
-        Ok(texts) => Ok(texts),
+        Ok(texts) => {
+            texts.is_of_its_pairs();
+            Ok(texts)
+        }
         Err(_) => Err(FileError {
             why: FileWhy::Memory,
             pair,

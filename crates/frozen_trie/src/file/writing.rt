@@ -1,7 +1,7 @@
 //! The parts of a file, written.
 ghost use Rattle.std.specs.Prelude.{◌<◌, ◌^◌, length, OnOk};
 ghost use Rattle.std.specs.Io.KnownBytes.{Appends};
-ghost use Rattle.frozen_trie.specs.Files.{head_of, row_of};
+ghost use Rattle.frozen_trie.specs.Files.{FitsRow, head_of, row_of};
 
 use crate::file::{MAGIC, VERSION};
 use std::io;
@@ -20,8 +20,9 @@ pub(super) fn write_head<W: Write>(out: &mut W, count: u64) -> io::Result<()>
 /// Writes a row.
 pub(super) fn write_row<W: Write>(out: &mut W, key: &[u8], value: u64) -> io::Result<()>
     requires { length key.now < 2 ^ 32 }
-    ensures { OnOk result
+    ensures bytes { OnOk result
         (Appends (W.contents out.old) (W.contents out.new) (row_of (key.now, value))) }
+    ensures fits { FitsRow (key.now, value) }
 {
     let len = key.len() as u32;
     out.write_all(&len.to_le_bytes())?;

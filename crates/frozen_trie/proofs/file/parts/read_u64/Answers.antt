@@ -2,5 +2,5 @@ use Rattle.std.proofs.Common.{sym, subst}
 use Rattle.std.specs.Io.KnownBytes.{Consumes}
 use Rattle.frozen_trie.proofs.file.parts.read_u64.Goals as goal
 
-pub returns : goal.returns
-returns g c = subst (Consumes _ _) (sym c.u64_of.ensures) c.in_ok-fill.ensures
+pub returns-clause-bytes : goal.returns-clause-bytes
+returns-clause-bytes g c = subst (Consumes _ _) (sym c.u64_of.ensures) c.in_ok-fill.ensures

@@ -1,4 +1,4 @@
-use Rattle.std.proofs.Common.{ℕ, List, [], ◌∷◌, ◌++◌, sym, ap, subst, ◌∙◌}
+use Rattle.std.proofs.Common.{ℕ, List, [], ◌∷◌, ◌++◌, sym, ap, subst, ◌∙◌, arith}
 use Rattle.std.proofs.KnownBytes.{Consumes-trans}
 use Rattle.std.specs.Int.{w32, to_le_bytes}
 use Rattle.std.specs.Io.KnownBytes.{Consumes}
@@ -9,8 +9,9 @@ pub returns-in-Ok : goal.returns-in-Ok
 returns-in-Ok g c =
     let value = c.in_ok-value.value in
     let row : List ℕ × ℕ = (c.read_bytes.new.key.items, value) in
-    let len = subst (λ n. Consumes (g.R.Read.remaining c.args.input.now) (g.R.Read.remaining c.read_u32.new.input) (to_le_bytes w32 n)) (sym c.in_ok-read_bytes.ensures.count) c.in_ok-len.ensures in (
+    let len = subst (λ n. Consumes (g.R.Read.remaining c.args.input.now) (g.R.Read.remaining c.read_u32.new.input) (to_le_bytes w32 n)) (sym c.in_ok-read_bytes.ensures.count) c.in_ok-len.ensures.bytes in (
       row,
-      Consumes-trans _ _ _ _ _ len (Consumes-trans _ _ _ _ _ c.in_ok-read_bytes.ensures.bytes c.in_ok-value.ensures),
+      (omega (arith, c.in_ok-read_bytes.ensures.count, c.in_ok-len.ensures.fits), c.in_ok-value.ensures.fits),
+      Consumes-trans _ _ _ _ _ len (Consumes-trans _ _ _ _ _ c.in_ok-read_bytes.ensures.bytes c.in_ok-value.ensures.bytes),
       c.in-Ok.ensures.pairs ∙ ap (λ b. pairs_below c.args.texts.now [] ++ (b, value) ∷ []) c.deref.ensures.value,
     )

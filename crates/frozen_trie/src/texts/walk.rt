@@ -31,7 +31,8 @@ impl<'a, V> Model for Texts<'a, V> {
 
     ghost use Rattle.radix_trie.specs.Views.{pairs_below};
 
-    ghost view = { λ walk. take (walk.to - walk.from) (drop walk.from (pairs_below walk.texts.now [])) };
+    ghost view = { λ walk.
+        take (walk.to - walk.from) (drop walk.from (pairs_below walk.texts.now [])) };
 
     ghost invariant = { λ walk. (walk.from ≤ walk.to) × (walk.to ≤ map.len walk.texts.now) };
 }

@@ -4,3 +4,4 @@ pub mod Parts
 pub mod Pairs
 pub mod Appended
 pub mod Growth
+pub mod Written

@@ -4,4 +4,5 @@ pub mod Heads
 pub mod Frozen
 pub mod Texts
 pub mod Files
+pub mod TextLends
 pub mod Lends

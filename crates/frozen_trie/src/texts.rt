@@ -18,6 +18,7 @@ mod bytes;
 mod prefixes;
 mod sorted;
 mod walk;
+mod written;
 
 pub use appended::{PushError, PushWhy};
 pub use prefixes::TextPrefixes;

@@ -55,7 +55,13 @@ fn print_times<R: Print + Clock + AllocGlobal, K: Stored, L: TrieKey, B: Beginni
     print_rows(rt, line, "trie", &of_trie, &[])?;
     let (frozen, freezing) = frozen(rt, copy)?;
     freezing.print(rt, line, "frozen")?;
-    print_rows(rt, line, "frozen", &frozen_rows(rt, &frozen, queries)?, &of_trie)?;
+    print_rows(
+        rt,
+        line,
+        "frozen",
+        &frozen_rows(rt, &frozen, queries)?,
+        &of_trie,
+    )?;
     print_rows(rt, line, "map", &map_rows(rt, map, queries)?, &of_trie)
 }
 
@@ -131,12 +137,18 @@ fn frozen_rows<K: Stored, L: TrieKey, B: Beginning<K>>(
     frozen: &FrozenTrie<K, u64>,
     queries: &[Query<K, L, B>],
 ) -> Result<Vec<Times>> {
-    let get = timed!(rt, "get", queries, |query| value_of(
-        frozen.get(&query.key)?
-    ));
-    let absent = timed!(rt, "absent", queries, |query| value_of(
-        frozen.get(&query.absent)?
-    ));
+    let get = timed!(
+        rt,
+        "get",
+        queries,
+        |query| value_of(frozen.get(&query.key)?)
+    );
+    let absent = timed!(
+        rt,
+        "absent",
+        queries,
+        |query| value_of(frozen.get(&query.absent)?)
+    );
     let prefix = timed!(rt, "prefix", queries, |query| {
         value_of(frozen.get_ancestor_value(&query.longer)?)
     });

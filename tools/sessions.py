@@ -160,7 +160,11 @@ def calls_of(words, place):
         return [f"{PARTS[name]}::{rest[0]}"]
     if name == "check_integrity":
         return ["Trie::check_integrity", "TrieNode::check_integrity_recursive"]
-    plain = {"run": ["run"], "json": ["from_value", "to_value"], "into_children": ["SubTrieMut::into_children"]}
+    if name == "frozen":
+        return [f"FrozenTrie::{it}" for it in rest[1:2]]
+    plain = {"run": ["run"], "json": ["from_value", "to_value"], "into_children": ["SubTrieMut::into_children"],
+             "freeze": ["freeze"], "frozen_copy": ["frozen_copy"],
+             **{it: [f"FrozenTrie::{it}"] for it in ("from_sorted", "thaw")}}
     called = [f"&{place}::{name}" if name in COMMON else f"{place}::{name}", *filter(None, [STEPS.get(name)])]
     return plain.get(name) or called
 

@@ -375,6 +375,17 @@ IN_VIEWS = {**COMMON, **OF_BOTH, "path": ("", lambda v: shown(v.path))}
 IN_READ_VIEWS = {**IN_VIEWS, **OF_READERS}
 IN_WRITE_VIEWS = {**IN_VIEWS, **OF_WRITERS}
 IN_TRIES = {**COMMON, **OF_BOTH, **OF_READERS, **OF_WRITERS, **OF_TRIES}
+# Calls that a frozen trie answers as a trie of the same pairs does, and those that it has alone.
+AS_TRIES = ("len", "is_empty", "iter", "keys", "values", "iter_from", "iter_after", "between", "common_prefixes", "at",
+            "contains", "nearest", "nearest_value", "get", "get_key_value", "contains_key", "get_ancestor",
+            "get_ancestor_value", "count_below", "first_below", "get_mut", "find_mut", "at_mut", "first_key_value",
+            "last_key_value")
+OF_FROZEN = {
+    "below": ("Q", lambda v, at: v.told(starting(v.trie.lists, at))),
+    "nth": ("N", lambda v, place: v.told(v.below[place:][:1])),
+    "rank": ("L", lambda v, at: str(bisect.bisect_left(v.trie.lists, at))),
+}
+IN_FROZEN = {**{name: IN_TRIES[name] for name in AS_TRIES}, **OF_FROZEN}
 SPENT = ("spend", "into_children", "into_trie")
 # Calls of the keys of two tries, a and b, by the lists that each stores: the keys, the first trie's where both have one.
 SIDES = {
@@ -387,6 +398,7 @@ SIDES = {
     "is_disjoint": lambda a, b: truth(not a.keys() & b.keys()),
 }
 NAMED = ("use", "tries", "==", "clone", "split_off_prefix", "append", *SIDES)
+FREEZERS = ("freeze", "frozen_copy", "from_sorted", "thaw", "frozen")
 # What these answer where no point stands at the key.
 OPENERS = {"open": "none", "open_mut": "closed", "subtrie_mut": "none"}
 WITHS = {"with": "closed", "with_subtrie_mut": "none"}
@@ -396,12 +408,15 @@ COMMANDS = {"insert": "KN", "remove": "K", "remove_prefix": "K", "get": "K", "an
 LISTS = re.compile("(?:within( (?!within|ancestor|end)[a-z_]+)* end |(?!within|end)[a-z_]+ )*")
 NO = {"K": "no key", "Q": "no key", "L": "no list", "N": "no number", "P": "no pairs"}
 NOT_HERE, NO_TRIE, OTHER_COUNT = "no such call here", "no other trie", "another count of words"
-# What a line of each call has behind its name: words as above; M a name, c a call that tries and views have in common,
-# t a call of a trie or of a view, v calls of a view, r commands.
-FORMS = {**{name: kinds for name, (kinds, _) in {**IN_TRIES, **IN_WRITE_VIEWS}.items()},
+NO_NAME, NO_FROZEN = "no name", "no frozen trie"
+# What a line of each call has behind its name: words as above; M a name, F that of a frozen trie, S pairs in order, c a
+# call that tries and views have in common, t a call of a trie or of a view, f one of a frozen trie, v calls of a view,
+# r commands.
+FORMS = {**{name: kinds for name, (kinds, _) in {**IN_TRIES, **IN_WRITE_VIEWS, **OF_FROZEN}.items()},
          **dict.fromkeys(OPENERS, "Q"), **dict.fromkeys(WITHS, "Qv"), "close": "", "to_ascending": "", "matching": "K",
          "run": "r", "into_children": "", "into_trie": "t", "spend": "c", "light": "t", "use": "M", "tries": "",
-         "==": "M", "clone": "M", "split_off_prefix": "QM", "append": "M", **dict.fromkeys(SIDES, "M")}
+         "==": "M", "clone": "M", "split_off_prefix": "QM", "append": "M", **dict.fromkeys(SIDES, "M"),
+         "freeze": "F", "frozen_copy": "F", "from_sorted": "FS", "thaw": "F", "frozen": "Ff"}
 
 
 def misfit(line):
@@ -410,19 +425,20 @@ def misfit(line):
     kinds = FORMS.get(name)
     if kinds is None:
         return NOT_HERE
-    least = len(kinds.translate(str.maketrans("", "", "qPr")))
-    most = len(words) if {*kinds} & {*"Ptvr"} else len(kinds) + ("c" in kinds)
+    least = len(kinds.translate(str.maketrans("", "", "qPSr")))
+    most = len(words) if {*kinds} & {*"PStvrf"} else len(kinds) + ("c" in kinds)
     if not least <= len(words) <= most:
         return OTHER_COUNT
     return misfit(" ".join(words)) if kinds in ("c", "t") else ""
 
 
 class Shell:
-    """The tries and their names, the current one first, the views that are open, and the keys by their words."""
+    """The tries and their names, the current one first, the frozen ones by their names, the views that are open, and the
+    keys by their words."""
 
     def __init__(self, kind):
         self.kind, self.keys, self.words, self.views = kind, {}, Words(kind), []
-        self.tries = [["trie", Trie(self.words)]]
+        self.tries, self.frozen = [["trie", Trie(self.words)]], {}
 
     @property
     def trie(self):
@@ -463,6 +479,8 @@ class Shell:
             return misfit(" ".join(words)) or self.call(words[0], iter(words[1:]))
         if name in NAMED:
             return self.named(name, words)
+        if name in FREEZERS:
+            return self.in_frozen(name, next(words), " ".join(words))
         if name in OPENERS:
             return self.open(name, self.read("Q", next(words)))
         if name == "close":
@@ -480,7 +498,7 @@ class Shell:
         at = self.read("Q", next(words)) if name == "split_off_prefix" else ""
         names, other = [it for it, _ in self.tries], next(words)
         if at is None or not other:
-            return NO["Q"] if other else "no name"
+            return NO["Q"] if other else NO_NAME
         if name in SIDES:
             return SIDES[name](self.trie.pairs, dict(self.tries)[other].pairs) if other in names else NO_TRIE
         if name == "==":
@@ -495,6 +513,35 @@ class Shell:
         elif name != "use" and place:
             self.tries[place][1] = Trie(self.words, self.trie.pairs if name == "clone" else self.trie.cut(at))
         return "ok" if name == "use" or place else NO_TRIE
+
+    def in_frozen(self, name, place, line):
+        """A call that makes the frozen trie of this name, takes it, or asks it by a line."""
+        inner, *words = line.split(" ")
+        wrong = "" if name != "frozen" else misfit(line)
+        if wrong or not place:
+            return wrong if place else NO_NAME
+        if name == "thaw" and self.trie.pairs:
+            return "occupied"
+        if name in ("thaw", "frozen"):
+            if place not in self.frozen or inner and inner not in IN_FROZEN:
+                return NOT_HERE if place in self.frozen else NO_FROZEN
+            if name == "frozen":
+                return self.made(IN_FROZEN[inner], View(self.frozen[place]), iter(words))
+            self.tries[0][1] = self.frozen.pop(place)
+        elif name == "from_sorted":
+            return self.from_sorted(place, self.read_pairs(line.split(" ") if line else []))
+        else:
+            self.frozen[place] = Trie(self.words, self.trie.pairs if name == "frozen_copy" else self.trie.cut(""))
+        return "ok"
+
+    def from_sorted(self, place, pairs):
+        if pairs is None:
+            return NO["P"]
+        rising = [one < other for (one, _), (other, _) in itertools.pairwise(pairs)]
+        if not all(rising):
+            return f"unsorted {rising.index(False) + 1}"
+        self.frozen[place] = Trie(self.words, {at: (self.words[at], number) for at, number in pairs})
+        return "ok"
 
     def open(self, name, at):
         if at is None or at not in self.trie.points:

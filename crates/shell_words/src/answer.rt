@@ -317,6 +317,13 @@ impl<'a> Answer<'a> {
         self.line(why)
     }
 
+    /// The same with a count behind it.
+    pub fn refuse_at(&mut self, why: &str, count: usize) -> Result<(), Memory> {
+        self.is_refusal = true;
+        self.word(why)?;
+        self.count_line(count)
+    }
+
     /// The same as the whole answer of a call.
     pub fn told(&mut self, why: &str) -> Result<bool, Memory>
         ensures { OnErr result (IsTrue self.new.is_lost) }

@@ -7,6 +7,7 @@ pub mod common;
 pub mod edits;
 pub mod entries;
 pub mod files;
+pub mod frozen;
 pub mod json;
 pub mod lines;
 pub mod look_ups;
@@ -28,11 +29,15 @@ use crate::calls::look_ups::{answer_keyed, answer_listed, answer_whole};
 use crate::calls::sweeps::answer_sweep;
 use crate::calls::topics::answer_typed;
 use crate::calls::trees::answer_tree;
+use frozen_trie::FrozenTrie;
 use radix_trie::{Memory, Trie, TrieCommon};
 use shell_words::{Answer, Key, Kind, NOT_HERE};
 
 /// A trie as a session has it.
 pub type Table = Trie<Key, u64>;
+
+/// A frozen trie as a session has it.
+pub type FrozenTable = FrozenTrie<Key, u64>;
 
 /// A call of which a contract tells what a trie of texts answers. False: it is none of them.
 pub fn answer_told(trie: &mut Table, answer: &mut Answer<'_>) -> Result<bool, Memory>

@@ -1,13 +1,14 @@
-//! Tries by their names, and the views that are open in the current one.
+//! Tries and frozen ones by their names, and the views that are open in the current one.
 ghost use Rattle.std.specs.FinMap as map;
 ghost use Rattle.std.specs.Prelude.{◌≡◌, ◌⊎◌, IfOk, IsFalse, IsTrue, OnErr};
 ghost use Rattle.trie_shell.specs.Answers.{DoesCall, IsReread, IsTold};
 
+mod frozen;
 mod names;
 mod places;
 
 use crate::calls::views::{answer_in_view, answer_in_write_view, answer_with};
-use crate::calls::{Table, answer_told, answer_trie};
+use crate::calls::{FrozenTable, Table, answer_told, answer_trie};
 pub use places::IN_A_VIEW;
 use radix_trie::{Memory, Nibblet, Trie};
 use shell_words::{Answer, Kind};
@@ -19,6 +20,13 @@ use std::marker::Model;
 struct NamedTrie {
     name: String,
     trie: Table,
+}
+
+/// A name, and the frozen trie that has it, unless that was thawed.
+#[derive(Drop)]
+struct NamedFrozen {
+    name: String,
+    frozen: Option<FrozenTable>,
 }
 
 /// Where an open view stands, and whether it is one for writing.
@@ -35,6 +43,7 @@ pub struct Tries {
     alloc: Global,
     current: NamedTrie,
     others: Vec<NamedTrie>,
+    frozen: Vec<NamedFrozen>,
     spots: Vec<Spot>,
 }
 
@@ -61,6 +70,7 @@ impl Tries {
                 trie: Trie::new(alloc),
             },
             others: Vec::new(alloc),
+            frozen: Vec::new(alloc),
             spots: Vec::new(alloc),
         }
     }
@@ -85,7 +95,7 @@ impl Tries {
 
     /// Answers another call.
     pub fn answer(&mut self, answer: &mut Answer<'_>) -> Result<(), Memory> {
-        if self.answer_named(answer)? || self.answer_place(answer)? {
+        if self.answer_named(answer)? || self.answer_frozen(answer)? || self.answer_place(answer)? {
             return Ok(());
         }
         let trie = &mut self.current.trie;

@@ -4,14 +4,14 @@ ghost use Rattle.shell_words.specs.Answers.{gap, value_line};
 ghost use Rattle.trie_shell.specs.Answers.{TellsValue, StoresNumber, IsReread, TakesValue};
 
 use crate::calls::Table;
-use crate::calls::lines::{taken_line, taken_lines};
+use crate::calls::lines::{listed_lines, taken_line};
 use radix_trie::{
     FindError, InsertError, InsertWhy, Memory, SubTrieError, TrieEdit, TryInsertError, TryInsertWhy,
 };
 use shell_words::{Answer, Key, Kind, NO_KEY, NO_NUMBER, NONE};
 
-/// What is answered where an insertion that was refused hands another pair back.
-const OTHER: &'static str = "another pair came back";
+/// What is answered where a call that was refused hands another pair back.
+pub const OTHER: &'static str = "another pair came back";
 
 /// A pair that is to be stored: the word that writes its key, and the value.
 #[derive(Clone, Copy)]
@@ -100,7 +100,7 @@ pub fn answer_change<T: TrieEdit<Key, u64>>(
         "remove" => answer_remove(of, answer)?,
         "remove_prefix" => match answer.next_query()? {
             Some(key) => match of.remove_prefix(&key) {
-                Ok(taken) => taken_lines(answer, taken.as_slice())?,
+                Ok(taken) => listed_lines(answer, taken.as_slice())?,
                 Err(error) => outside_line(answer, error)?,
             },
             None => answer.refuse(NO_KEY)?,
@@ -321,7 +321,7 @@ fn answer_edit_at(trie: &mut Table, key: &Key, answer: &mut Answer<'_>) -> Resul
 }
 
 /// Writes the number of the next word where a value was found. The answer is the old value.
-fn written_or_absent(
+pub fn written_or_absent(
     answer: &mut Answer<'_>,
     found: Result<&mut u64, FindError>,
 ) -> Result<(), Memory> {

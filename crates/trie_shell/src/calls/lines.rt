@@ -110,12 +110,12 @@ pub fn child_lines(
     none_line(answer, is_none)
 }
 
-/// Pairs that were taken away, or that there is none.
-pub fn taken_lines(answer: &mut Answer<'_>, taken: &[(Key, u64)]) -> Result<(), Memory> {
-    for (key, value) in taken {
+/// The pairs of a list, or that there is none.
+pub fn listed_lines(answer: &mut Answer<'_>, pairs: &[(Key, u64)]) -> Result<(), Memory> {
+    for (key, value) in pairs {
         answer.pair_line(key, *value)?;
     }
-    none_line(answer, taken.is_empty())
+    none_line(answer, pairs.is_empty())
 }
 
 /// A pair that was taken away, or that there is none.

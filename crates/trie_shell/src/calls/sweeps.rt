@@ -2,11 +2,14 @@
 
 use crate::calls::Table;
 use crate::calls::edits::written_or_none;
-use crate::calls::lines::{taken_line, taken_lines};
+use crate::calls::lines::{listed_lines, taken_line};
 use crate::calls::runs::answer_run;
 use radix_trie::{BuildError, InsertWhy, Memory, Nibblet, Trie};
 use shell_words::{Answer, Key, NO_LIST, NO_NUMBER};
 use std::mem;
+
+/// What is answered where the words write no pairs.
+pub const NO_PAIRS: &'static str = "no pairs";
 
 /// A change of the whole trie. False: the call is none.
 pub fn answer_sweep(trie: &mut Table, answer: &mut Answer<'_>) -> Result<bool, Memory> {
@@ -44,7 +47,7 @@ pub fn answer_sweep(trie: &mut Table, answer: &mut Answer<'_>) -> Result<bool, M
 /// All pairs, in place of the trie. Where they are refused the trie comes back.
 fn answer_into_pairs(trie: &mut Table, answer: &mut Answer<'_>) -> Result<(), Memory> {
     match mem::replace(trie, Trie::new(answer.alloc())).into_pairs() {
-        Ok(pairs) => taken_lines(answer, pairs.as_slice()),
+        Ok(pairs) => listed_lines(answer, pairs.as_slice()),
         Err(same) => {
             *trie = same;
             Err(Memory)
@@ -64,20 +67,22 @@ fn pairs_of(answer: &mut Answer<'_>) -> Result<Option<Vec<(Key, u64)>>, Memory> 
     Ok(Some(pairs))
 }
 
+/// The same. Where memory for them is refused, the words are read once more.
+pub fn given_pairs(answer: &mut Answer<'_>) -> Result<Option<Vec<(Key, u64)>>, Memory> {
+    let words = answer.words();
+    if let Ok(pairs) = pairs_of(&mut *answer) {
+        return Ok(pairs);
+    }
+    answer.read_on(words);
+    pairs_of(answer)
+}
+
 /// Adds the pairs that the words write to the trie, or makes it of these alone.
 fn answer_pairs(trie: &mut Table, answer: &mut Answer<'_>) -> Result<(), Memory> {
-    let (length, words) = (answer.len(), answer.words());
-    let pairs = match pairs_of(answer) {
-        Ok(pairs) => pairs,
-        Err(_) => {
-            answer.return_to(length, words);
-            pairs_of(answer)?
-        }
+    let Some(pairs) = given_pairs(answer)? else {
+        return answer.refuse(NO_PAIRS);
     };
-    let Some(pairs) = pairs else {
-        return answer.refuse("no pairs");
-    };
-    if words.name == "from_iter" {
+    if answer.name() == "from_iter" {
         return match Trie::from_iter(answer.alloc(), pairs.into_iter()) {
             Ok(built) => {
                 *trie = built;

@@ -11,7 +11,7 @@ use std::mem;
 const FIRST: &'static str = "trie";
 
 /// What is answered where a word is no name, since it is empty.
-const NO_NAME: &'static str = "no name";
+pub(super) const NO_NAME: &'static str = "no name";
 
 /// What is answered where no other trie has the name.
 const NO_TRIE: &'static str = "no other trie";
@@ -89,6 +89,14 @@ impl Tries {
         }
     }
 
+    /// The name, to be kept.
+    pub(super) fn kept(&self, name: &str) -> Result<String, Memory> {
+        match String::from_str(self.alloc, name) {
+            Ok(name) => Ok(name),
+            Err(_) => Ok(String::from_str(self.alloc, name)?),
+        }
+    }
+
     /// Where the other trie of this name stands, after it was made where there was none. None: the
     /// current trie has it.
     fn made_place_of(&mut self, name: &str) -> Result<Option<usize>, Memory> {
@@ -99,10 +107,7 @@ impl Tries {
             return Ok(Some(place));
         }
         let place = self.others.len();
-        let name = match String::from_str(self.alloc, name) {
-            Ok(name) => name,
-            Err(_) => String::from_str(self.alloc, name)?,
-        };
+        let name = self.kept(name)?;
         let trie = Trie::new(self.alloc);
         match self.others.push(NamedTrie { name, trie }) {
             Ok(()) => Ok(Some(place)),

@@ -78,14 +78,15 @@ impl Tries {
         }
     }
 
-    /// Adds the walk, the length and the footprint of the current trie, and path, fragment and walk
-    /// of the open view.
+    /// Adds the walk, the length and the footprint of the current trie, the pairs of the frozen ones,
+    /// and path, fragment and walk of the open view.
     pub fn picture(&mut self, picture: &mut Answer<'_>) -> Result<(), Memory> {
         for call in ["iter", "len"] {
             picture.read_on(Words::named(call));
             answer_common(&self.current.trie, &mut *picture)?;
         }
         footprint_line(&self.current.trie, &mut *picture)?;
+        self.frozen_picture(&mut *picture)?;
         if let Some(spot) = self.spots.as_slice().last() {
             for call in IN_A_VIEW {
                 picture.read_on(Words::named(*call));

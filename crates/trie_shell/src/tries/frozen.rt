@@ -1,0 +1,224 @@
+//! Frozen tries by their names, which are apart from those of tries.
+
+use crate::calls::edits::OTHER;
+use crate::calls::frozen::answer_frozen;
+use crate::calls::lines::listed_lines;
+use crate::calls::steps::step_again;
+use crate::calls::sweeps::{NO_PAIRS, given_pairs};
+use crate::calls::{FrozenTable, Table};
+use crate::request::read_call;
+use crate::tries::names::NO_NAME;
+use crate::tries::{NamedFrozen, Tries};
+use frozen_trie::{FreezeWhy, FrozenTrie, SortedError, SortedWhy, ThawError, freeze, frozen_copy};
+use radix_trie::{Memory, Trie};
+use shell_words::{Answer, Key, Words};
+use std::mem;
+
+/// What is answered where no frozen trie has the name.
+const NO_FROZEN: &'static str = "no frozen trie";
+
+impl Tries {
+    /// A call that makes a frozen trie, makes one a trie again, or asks one. False: it is none.
+    pub(super) fn answer_frozen(&mut self, answer: &mut Answer<'_>) -> Result<bool, Memory> {
+        match answer.name() {
+            "freeze" | "frozen_copy" | "from_sorted" | "thaw" | "frozen" => {}
+            _ => return Ok(false),
+        }
+        let name = answer.next_word().unwrap_or("");
+        if name.is_empty() {
+            return answer.told(NO_NAME);
+        }
+        match answer.name() {
+            "freeze" => self.answer_freeze(name, answer)?,
+            "frozen_copy" => self.answer_frozen_copy(name, answer)?,
+            "from_sorted" => self.answer_from_sorted(name, answer)?,
+            "thaw" => self.answer_thaw(name, answer)?,
+            _ => self.answer_of_frozen(name, answer)?,
+        }
+        Ok(true)
+    }
+
+    /// Where the frozen trie of this name stands, or stood before it was thawed.
+    fn frozen_place_of(&self, name: &str) -> Option<usize> {
+        self.frozen
+            .iter()
+            .position(|named| named.name.as_str() == name)
+    }
+
+    /// Where a frozen trie of this name may be put: a place with none is made where there is none.
+    fn made_frozen_place_of(&mut self, name: &str) -> Result<usize, Memory> {
+        if let Some(place) = self.frozen_place_of(name) {
+            return Ok(place);
+        }
+        let place = self.frozen.len();
+        let name = self.kept(name)?;
+        match self.frozen.push(NamedFrozen { name, frozen: None }) {
+            Ok(()) => Ok(place),
+            Err(refused) => {
+                self.frozen.push(refused.value)?;
+                Ok(place)
+            }
+        }
+    }
+
+    /// Puts a frozen trie where another one may stand.
+    fn put_frozen(
+        &mut self,
+        place: usize,
+        frozen: FrozenTable,
+        answer: &mut Answer<'_>,
+    ) -> Result<(), Memory> {
+        match self.frozen.get_mut(place) {
+            Some(named) => {
+                named.frozen = Some(frozen);
+                answer.line("ok")
+            }
+            None => answer.refuse(NO_FROZEN),
+        }
+    }
+
+    /// Moves the pairs of the current trie into a frozen one. Where that is refused the trie comes
+    /// back.
+    fn answer_freeze(&mut self, name: &str, answer: &mut Answer<'_>) -> Result<(), Memory> {
+        let place = self.made_frozen_place_of(name)?;
+        let none = Trie::new(self.alloc);
+        match freeze(mem::replace(&mut self.current.trie, none)) {
+            Ok(frozen) => self.put_frozen(place, frozen, answer),
+            Err(error) => {
+                self.current.trie = error.trie;
+                unfrozen_line(answer, error.why)
+            }
+        }
+    }
+
+    /// Copies the pairs of the current trie into a frozen one.
+    fn answer_frozen_copy(&mut self, name: &str, answer: &mut Answer<'_>) -> Result<(), Memory> {
+        let place = self.made_frozen_place_of(name)?;
+        match frozen_copy(&self.current.trie) {
+            Ok(frozen) => self.put_frozen(place, frozen, answer),
+            Err(why) => unfrozen_line(answer, why),
+        }
+    }
+
+    /// The frozen trie of the pairs that the next words write.
+    fn answer_from_sorted(&mut self, name: &str, answer: &mut Answer<'_>) -> Result<(), Memory> {
+        let place = self.made_frozen_place_of(name)?;
+        let words = answer.words();
+        let Some(pairs) = given_pairs(answer)? else {
+            return answer.refuse(NO_PAIRS);
+        };
+        match FrozenTrie::from_sorted(self.alloc, pairs) {
+            Ok(frozen) => self.put_frozen(place, frozen, answer),
+            Err(error) => unsorted_line(answer, words, error),
+        }
+    }
+
+    /// The frozen trie of the name becomes the current trie, where that has no pair.
+    fn answer_thaw(&mut self, name: &str, answer: &mut Answer<'_>) -> Result<(), Memory> {
+        if !self.current.trie.is_empty() {
+            return answer.refuse("occupied");
+        }
+        match self.taken_frozen(name) {
+            Some(frozen) => {
+                self.current.trie = thawed(frozen, &mut *answer)?;
+                answer.line("ok")
+            }
+            None => answer.refuse(NO_FROZEN),
+        }
+    }
+
+    /// The frozen trie of the name, if there is one, which has the name no more.
+    fn taken_frozen(&mut self, name: &str) -> Option<FrozenTable> {
+        let place = self.frozen_place_of(name)?;
+        let named = self.frozen.get_mut(place)?;
+        mem::replace(&mut named.frozen, None)
+    }
+
+    /// A call of the frozen trie of the name, which the next words ask for.
+    fn answer_of_frozen(&mut self, name: &str, answer: &mut Answer<'_>) -> Result<(), Memory> {
+        if !read_call(answer)? {
+            return Ok(());
+        }
+        if let Some(place) = self.frozen_place_of(name)
+            && let Some(named) = self.frozen.get_mut(place)
+            && let Some(frozen) = &mut named.frozen
+        {
+            return answer_frozen(frozen, answer);
+        }
+        answer.refuse(NO_FROZEN)
+    }
+
+    /// Adds the name and the pairs of each frozen trie.
+    pub(super) fn frozen_picture(&self, picture: &mut Answer<'_>) -> Result<(), Memory> {
+        for named in self.frozen.as_slice() {
+            if let Some(frozen) = &named.frozen {
+                picture.line(named.name.as_str())?;
+                listed_lines(&mut *picture, frozen.pairs())?;
+            }
+        }
+        Ok(())
+    }
+}
+
+/// Why a trie isn't frozen.
+fn unfrozen_line(answer: &mut Answer<'_>, why: FreezeWhy) -> Result<(), Memory> {
+    match why {
+        FreezeWhy::Memory => Err(Memory),
+        FreezeWhy::Full => answer.refuse("full"),
+    }
+}
+
+/// Why the pairs that the words write make no frozen trie. They have come back.
+fn unsorted_line<'a>(
+    answer: &mut Answer<'a>,
+    words: Words<'a>,
+    error: SortedError<Key, u64>,
+) -> Result<(), Memory> {
+    answer.read_on(words);
+    let is_same = match given_pairs(&mut *answer)? {
+        Some(given) => given.as_slice() == error.pairs.as_slice(),
+        None => false,
+    };
+    if !is_same {
+        answer.note_other();
+    }
+    match error.why {
+        SortedWhy::Memory => Err(Memory),
+        _ if answer.is_other() => answer.refuse(OTHER),
+        SortedWhy::Full => answer.refuse("full"),
+        SortedWhy::Unsorted(place) => answer.refuse_at("unsorted", place),
+    }
+}
+
+/// The trie of a frozen one's pairs. Where that is refused it is told of, and the pairs that are left
+/// are stored in the trie of the others, as the call would have done. Where this is refused too, the
+/// session ends: neither trie is whole then.
+fn thawed(frozen: FrozenTable, answer: &mut Answer<'_>) -> Result<Table, Memory> {
+    match frozen.thaw() {
+        Ok(trie) => Ok(trie),
+        Err(error) => {
+            step_again(&mut *answer)?;
+            let whole = thawed_on(error);
+            if whole.is_err() {
+                answer.lose();
+            }
+            whole
+        }
+    }
+}
+
+/// Goes on where a refused `thaw` stopped, from the last pair that is left to the first.
+fn thawed_on(error: ThawError<Key, u64>) -> Result<Table, Memory> {
+    let ThawError {
+        mut pairs,
+        mut trie,
+    } = error;
+    for _ in 0..pairs.len() {
+        if let Some((key, value)) = pairs.pop()
+            && trie.insert(key, value).is_err()
+        {
+            return Err(Memory);
+        }
+    }
+    Ok(trie)
+}

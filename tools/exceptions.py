@@ -50,7 +50,11 @@ STANDS_FOR = {
     "least_routes": {"is_table": "Route::precedes", "least": "Plan::of"},
     "line_sessions": {"serve": "converse"},
     "topic_filters": {"matching": "gather"},
-    "frozen_trie": {"FrozenTrie::get_mut": "absent_as_none", "FrozenTexts::read": "read_all"},
+    "frozen_trie": {
+        "FrozenTrie::get_mut": "absent_as_none",
+        "FrozenTrie::for_each_mut": "change",
+        "FrozenTexts::read": "read_all",
+    },
     "radix_keys": {
         **{f"{kind}TrieKey::encode": "U32KeyInt::byte" for kind in ("U8", "U16", "U32", "U64", "Usize")},
         **{f"{kind}TrieKey::encode": "I16KeyInt::byte" for kind in ("I8", "I16", "I32", "I64", "Isize")},
@@ -116,7 +120,8 @@ NO_EDIT = {
     },
     "it returns a field or makes what it is from one, and nothing else of that type is at hand": {
         "line_sessions": "Patient::new WatchedReader::new WatchedWriter::new",
-        "frozen_trie": "FrozenTexts::new",
+        "frozen_trie": "FrozenTexts::new FrozenTrie::new",
+        "frozen_routes": "FrozenRoutes::new",
         "radix_keys": "Bits::as_list Bits::into_list BigEndian::value LittleEndian::value Ascending::value "
                       "Network::base Network::bits NibbleVec::new Parts::new",
         "radix_trie": "Entry::key SubTrie::path SubTrieMut::path SubTrieMut::into_trie PathList::nibbles "
@@ -137,5 +142,5 @@ NO_EDIT = {
 }
 
 # Functions that make an error for memory where no call was refused: a tree of more levels than `usize` counts, which
-# no memory holds.
-MADE_REFUSALS = {"radix_trie": ("over", "resumed")}
+# no memory holds; encodings of 2^31 bytes; and a network with bits behind its first ones, which there is none of.
+MADE_REFUSALS = {"radix_trie": ("over", "resumed"), "frozen_trie": ("push", "append_to")}

@@ -2,10 +2,10 @@
 
 A file of sessions/ is a text of lines: `= ` and a session's name, where it begins; `> ` and a line of input, `< ` and a
 line of the answer to it, `! ` and what stands on standard error at the end; `@ N`: the next line of input is given N
-times, and answered as often; `$ `: the words that the program is started with; `# `: a remark. `\\xNN` is a byte,
-`\\(x*N)` a byte N times, `\\\\` a backslash, and where a single one ends a line of input, no line feed ends it. A file
-of runs/ is one session, or several as above; each of its lines stands for itself, and one that begins with none of
-these marks is a line of the answer.
+times, and answered as often; `$ `: the words that the program is started with; `% `: the name of a file that is there
+before, a space, and its bytes; `# `: a remark. `\\xNN` is a byte, `\\(x*N)` a byte N times, `\\\\` a backslash, and
+where a single one ends a line of input, no line feed ends it. A file of runs/ is one session, or several as above; each
+of its lines but those of `% ` stands for itself, and one that begins with none of these marks is a line of the answer.
 """
 import copy
 import functools
@@ -38,19 +38,19 @@ class Session:
     """A session's name and its lines of input, with what is to be written."""
 
     def __init__(self, name):
-        self.name, self.exchanges, self.latest, self.times, self.words = name, [], 0, 1, []
+        self.name, self.exchanges, self.latest, self.times, self.words, self.files = name, [], 0, 1, [], {}
 
     def add_plain(self, line):
         """Reads one more line of a session in which each line stands for itself."""
-        is_marked = line[:2] in (b"> ", b"! ", b"# ", b"$ ", b">")
+        is_marked = line[:2] in (b"> ", b"! ", b"# ", b"$ ", b"% ", b">")
         mark, text = (line[:1], line[2:]) if is_marked else (b"<", line)
-        self.add(mark + b" " + text.replace(b"\\", b"\\\\"))
+        self.add(mark + b" " + (text if mark == b"%" else text.replace(b"\\", b"\\\\")))
 
     def add(self, line):
         """Reads one more line of a session's text, whose first byte says what it is."""
         mark, text = line[:1], unescaped(line[2:])
-        if line[1:2] not in (b" ", b"") or mark not in b"><!@#$":
-            raise ValueError(f"{self.name}: a line begins with none of '= ', '> ', '< ', '! ', '@ ', '$ ', '# '")
+        if line[1:2] not in (b" ", b"") or mark not in b"><!@#$%":
+            raise ValueError(f"{self.name}: a line begins with none of '= ', '> ', '< ', '! ', '@ ', '$ ', '% ', '# '")
         if mark == b">":
             has_end = not line.endswith(b"\\") or line.endswith(b"\\\\")
             self.exchanges += [Exchange(text + b"\n" if has_end else text[:-1]) for _ in range(self.times)]
@@ -64,6 +64,9 @@ class Session:
             self.times = int(text)
         elif mark == b"$":
             self.words = text.decode().split(" ")
+        elif mark == b"%":
+            name, _, held = text.partition(b" ")
+            self.files[name.decode()] = held
 
     @functools.cached_property
     def text(self):
@@ -71,7 +74,7 @@ class Session:
 
     @property
     def has_files(self):
-        return any(it.line.startswith((b"save ", b"load ")) for it in self.exchanges)
+        return any(it.line.startswith((b"save ", b"load ", b"write ", b"read ")) for it in self.exchanges)
 
     def in_place(self, text):
         """What is run in place of this session: the same, with another text."""
@@ -163,7 +166,8 @@ def calls_of(words, place):
     if name == "frozen":
         return [f"FrozenTrie::{it}" for it in rest[1:2]]
     plain = {"run": ["run"], "json": ["from_value", "to_value"], "into_children": ["SubTrieMut::into_children"],
-             "freeze": ["freeze"], "frozen_copy": ["frozen_copy"],
+             "freeze": ["freeze"], "frozen_copy": ["frozen_copy"], "write": ["FrozenTexts::write"],
+             "read": ["FrozenTexts::read", "FrozenTrie::push", "FrozenTrie::finish"],
              **{it: [f"FrozenTrie::{it}"] for it in ("from_sorted", "thaw")}}
     called = [f"&{place}::{name}" if name in COMMON else f"{place}::{name}", *filter(None, [STEPS.get(name)])]
     return plain.get(name) or called

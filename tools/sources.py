@@ -117,9 +117,9 @@ def bare(name):
 
 def refused_calls():
     """The public calls of tries, frozen ones and keys that return a `Result`, each with its source. Of the crate of
-    nodes users have the checker alone. The shell has no maps from byte strings."""
+    nodes users have the checker alone. The shell has maps from byte strings as files alone, and no format of serde."""
     of_nodes = [it for it in functions_of("radix_nodes") if it[0].endswith("/whole/checker.rt")]
-    of_texts = re.compile(r"/src/(?:texts|file)\b")
+    of_texts = re.compile(r"/src/(?:texts|file|formats)\b")
     of_tries = [*functions_of("radix_trie"), *(it for it in functions_of("frozen_trie") if not of_texts.search(it[0]))]
     for path, item in [*functions_of("radix_keys"), *of_nodes, *of_tries]:
         is_inherited = item.owner and item.owner.kind == "trait" and not item.has_body

@@ -241,6 +241,14 @@ def for_each_mut(v, other, added, path=""):
     return "ok"
 
 
+def push(v, at, number):
+    """Appends a pair behind all others."""
+    if v.trie.lists[-1:] >= [at]:
+        return "unsorted"
+    v.trie.change(at, number)
+    return "ok"
+
+
 def find_ancestor_mut(v, at, number):
     above = beginnings(v.trie.lists, at)
     return written(v, above[-1], number) if above else "absent"
@@ -378,12 +386,14 @@ IN_TRIES = {**COMMON, **OF_BOTH, **OF_READERS, **OF_WRITERS, **OF_TRIES}
 # Calls that a frozen trie answers as a trie of the same pairs does, and those that it has alone.
 AS_TRIES = ("len", "is_empty", "iter", "keys", "values", "iter_from", "iter_after", "between", "common_prefixes", "at",
             "contains", "nearest", "nearest_value", "get", "get_key_value", "contains_key", "get_ancestor",
-            "get_ancestor_value", "count_below", "first_below", "get_mut", "find_mut", "at_mut", "first_key_value",
-            "last_key_value")
+            "get_ancestor_value", "count_below", "first_below", "get_mut", "find_mut", "at_mut", "for_each_value_mut",
+            "for_each_mut", "first_key_value", "last_key_value")
 OF_FROZEN = {
     "below": ("Q", lambda v, at: v.told(starting(v.trie.lists, at))),
     "nth": ("N", lambda v, place: v.told(v.below[place:][:1])),
     "rank": ("L", lambda v, at: str(bisect.bisect_left(v.trie.lists, at))),
+    "push": ("KN", push),
+    "finish": ("", lambda v: "ok"),
 }
 IN_FROZEN = {**{name: IN_TRIES[name] for name in AS_TRIES}, **OF_FROZEN}
 SPENT = ("spend", "into_children", "into_trie")

@@ -1,4 +1,7 @@
--- The file of a map from byte strings to numbers.
+-- The file of a map.
 pub mod Streams
 pub mod Rows
+pub mod Faults
 pub mod Distinct
+pub mod Addresses
+pub mod Maps

@@ -7,3 +7,5 @@ pub mod Thawed
 pub mod Copied
 pub mod Prefixes
 pub mod Written
+pub mod Changed
+pub mod Ups

@@ -5,5 +5,5 @@ pub mod CodeLemmas
 pub mod FrozenLemmas
 -- The map of byte strings in order.
 pub mod TextLemmas
--- The file of a map from byte strings to numbers.
+-- The file of a map.
 pub mod FileLemmas

@@ -5,3 +5,4 @@ pub mod Pairs
 pub mod Appended
 pub mod Growth
 pub mod Written
+pub mod Sorted

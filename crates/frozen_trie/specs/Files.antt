@@ -1,34 +1,64 @@
--- The file of a map from byte strings to numbers.
-use Rattle.std.specs.Prelude.{◌≡◌, ℕ, ◌<◌, ◌^◌, List, [], ◌++◌, codes, length, flat_map}
+-- The file of a map.
+use Rattle.std.specs.Prelude.{◌≡◌, ℕ, ◌<◌, ◌^◌, List, [], ◌∷◌, ⊤, take, map as each}
 use Rattle.std.specs.FinMap as map
-use Rattle.std.specs.Int.{w32, w64, to_le_bytes}
 use Rattle.nibble_map.specs.Lists.{Each}
 use Rattle.nibble_map.specs.Maps.{PairMap}
 use Rattle.nibble_map.specs.Nibbles.{nibbles}
 use Rattle.radix_trie.specs.Views.{pairs_below}
+use Rattle.frozen_trie.specs.FileRows.{FitsRow, file_of_rows}
 use Rattle.frozen_trie.specs.Frozen.{map_of_pairs}
 
--- a row: the length of a key, the key, and its value
-abbrev pub row_of : List ℕ × ℕ → List ℕ
-row_of p = to_le_bytes w32 (length p.0) ++ (p.0 ++ to_le_bytes w64 p.1)
+-- the same at this relation is the same
+abbrev pub IsExact : {A : Type 0} → (A → A → Type 0) → Type 0
+IsExact {A} same = (x y : A) → same x y → x ≡ y
 
-abbrev pub file_rows : List (List ℕ × ℕ) → List ℕ
-file_rows ps = flat_map row_of ps
+module _ {K V : Type 0} where
+  -- the rows of pairs, by the bytes of a key and those of a value
+  abbrev pub pair_rows : (K → List ℕ) → (V → List ℕ) → List (K × V) → List (List ℕ × List ℕ)
+  pair_rows key value ps = each (λ p. (key p.0, value p.1)) ps
 
--- what stands before the rows: the name of the form, its version, and the count of rows
-abbrev pub head_of : ℕ → List ℕ
-head_of n = codes "FROZENTX" ++ (to_le_bytes w32 1 ++ to_le_bytes w64 n)
+  -- the whole file: the rows in the order of the keys
+  abbrev pub file_of : (K → List ℕ) → (V → List ℕ) → PairMap K V → List ℕ
+  file_of key value m = file_of_rows (pair_rows key value (pairs_below m []))
 
--- the whole file: the rows in the order of the keys
-abbrev pub file_of : PairMap (List ℕ) ℕ → List ℕ
-file_of m = head_of (map.len m) ++ file_rows (pairs_below m [])
+  -- each pair is of a key and a value of their types
+  abbrev pub AreItems : (K → Type 0) → (V → Type 0) → List (K × V) → Type 0
+  AreItems is_key is_value ps = Each (λ p. is_key p.0 × is_value p.1) ps
 
--- the key's length fits 4 bytes, and the value 8
-abbrev pub FitsRow : List ℕ × ℕ → Type 0
-FitsRow p = (length p.0 < 2 ^ 32) × (p.1 < 2 ^ 64)
+  -- none of them is looked at
+  pub no_items : (is_key : K → Type 0) (is_value : V → Type 0) (ps : List (K × V)) → AreItems is_key is_value (take 0 ps)
+  no_items is_key is_value [] = tt
+  no_items is_key is_value (p ∷ ps) = tt
 
--- each pair fits a row, the count fits 8 bytes, and the map is that of its pairs
-pub record IsFileable (m : PairMap (List ℕ) ℕ) : Type 0 where
-  pub rows : Each FitsRow (pairs_below m [])
+  -- the pairs are the same one by one
+  abbrev pub AreSamePairs : (K → K → Type 0) → (V → V → Type 0) → List (K × V) → List (K × V) → Type 0
+  AreSamePairs key value [] [] = ⊤
+  AreSamePairs key value [] (q ∷ qs) = ⊥
+  AreSamePairs key value (p ∷ ps) [] = ⊥
+  AreSamePairs key value (p ∷ ps) (q ∷ qs) = key p.0 q.0 × value p.1 q.1 × AreSamePairs key value ps qs
+
+-- the pairs of both maps are the same, and they are one map where that tells keys and values
+pub record IsSameMap {K V : Type 0} (key : K → K → Type 0) (value : V → V → Type 0)
+    (m n : PairMap K V) : Type 0 where
+  pub pairs : AreSamePairs key value (pairs_below m []) (pairs_below n [])
+  pub equal : IsExact key → IsExact value → m ≡ n
+
+-- each pair fits a row, and is of a key and a value of their types; the count of pairs fits 8
+-- bytes, and the map is that of its pairs
+pub record IsFileable {K V : Type 0} (key : K → List ℕ) (value : V → List ℕ) (is_key : K → Type 0)
+    (is_value : V → Type 0) (enc : K → List ℕ) (m : PairMap K V) : Type 0 where
+  pub rows : Each FitsRow (pair_rows key value (pairs_below m []))
+  pub items : AreItems is_key is_value (pairs_below m [])
   pub few : map.len m < 2 ^ 64
-  pub mapped : m ≡ map_of_pairs nibbles (pairs_below m [])
+  pub mapped : m ≡ map_of_pairs enc (pairs_below m [])
+
+-- the same of a map whose keys are byte strings, and stand in the file as they are
+module _ {V : Type 0} (value : V → List ℕ) where
+  abbrev pub text_file : PairMap (List ℕ) V → List ℕ
+  text_file m = file_of (λ bytes. bytes) value m
+
+  abbrev pub IsTextFileable : (V → Type 0) → PairMap (List ℕ) V → Type 0
+  IsTextFileable is_value m = IsFileable (λ bytes. bytes) value (λ _. ⊤) is_value nibbles m
+
+abbrev pub IsSameTextMap : {V : Type 0} → (V → V → Type 0) → (m n : PairMap (List ℕ) V) → Type 0
+IsSameTextMap value m n = IsSameMap (λ a b. a ≡ b) value m n

@@ -1,7 +1,7 @@
 -- The first nibbles of a list as a number, which tells the order of most lists.
-use Rattle.std.specs.Prelude.{◌≡◌, ℕ, zero, suc, ◌+◌, ◌*◌, ◌^◌, ◌<◌, ◌≤◌, List, [], ◌∷◌, length, slice_index, map as each, Bool}
+use Rattle.std.specs.Prelude.{◌≡◌, ℕ, zero, suc, ◌+◌, ◌*◌, ◌^◌, ◌<◌, ◌≤◌, List, [], ◌∷◌, length, min, slice_index, map as each, Bool, true, false}
 use Rattle.frozen_trie.specs.Codes.{code_at}
-use Rattle.frozen_trie.specs.Laid.{codes_in, IsLaid}
+use Rattle.frozen_trie.specs.Laid.{codes_in, halves, odds, IsLaid}
 
 -- the first n nibbles as a number, with d for each that a shorter list lacks
 unfoldable pub head_padded : ℕ → ℕ → List ℕ → ℕ
@@ -9,9 +9,14 @@ head_padded d zero c = 0
 head_padded d (suc n) [] = d * 16 ^ n + head_padded d n []
 head_padded d (suc n) (a ∷ c) = a * 16 ^ n + head_padded d n c
 
--- the same with zeros
-abbrev pub head_in : ℕ → List ℕ → ℕ
-head_in n c = head_padded 0 n c
+-- the first 15 nibbles, with zeros, and how many of these the list has: of fewer than 15 this number tells the list
+abbrev pub head_in : List ℕ → ℕ
+head_in c = head_padded 0 15 c * 16 + min (length c) 15
+
+-- the same of a list that is searched for; where the search is one through it, with 15 for what it lacks and for the count
+abbrev pub bound_of : Bool → List ℕ → ℕ
+bound_of false q = head_in q
+bound_of true q = head_padded 15 15 q * 16 + 15
 
 -- the first n of the list are nibbles
 abbrev pub AreNibbles : ℕ → List ℕ → Type 0
@@ -19,8 +24,12 @@ AreNibbles n c = (k : ℕ) → k < n → slice_index c k < 16
 
 -- the numbers are the heads of the lists
 pub record IsHeaded (cs : List (List ℕ)) (hs : List ℕ) : Type 0 where
-  pub heads : hs ≡ each (head_in 16) cs
-  pub nibbles : (k : ℕ) → k < length cs → AreNibbles 16 (code_at cs k)
+  pub heads : hs ≡ each head_in cs
+  pub nibbles : (k : ℕ) → k < length cs → AreNibbles 15 (code_at cs k)
+
+-- each is the copy of a number, and 16 numbers lie between the beginnings of two
+abbrev pub AreSteps : List ℕ → List ℕ → Type 0
+AreSteps hs steps = (i : ℕ) → i < length steps → slice_index steps i ≡ slice_index hs (i * 16)
 
 -- how many of the numbers are below w times 2 to the 48
 pub record IsTop (hs : List ℕ) (w n : ℕ) : Type 0 where
@@ -33,7 +42,8 @@ abbrev pub AreTops : List ℕ → List ℕ → Type 0
 AreTops hs tops = (w : ℕ) → w < length tops → IsTop hs w (slice_index tops w)
 
 -- the lists are packed one behind the other, and have these heads
-pub record ArePacked (bytes ends : List ℕ) (odd : List Bool) (hs tops : List ℕ) : Type 0 where
-  pub laid : IsLaid bytes 0 ends odd
-  pub headed : IsHeaded (codes_in bytes 0 ends odd) hs
+pub record ArePacked (bytes ends hs steps tops : List ℕ) : Type 0 where
+  pub laid : IsLaid bytes 0 (halves ends) (odds ends)
+  pub headed : IsHeaded (codes_in bytes 0 (halves ends) (odds ends)) hs
+  pub stepped : AreSteps hs steps
   pub topped : AreTops hs tops

@@ -1,45 +1,50 @@
 //! Lists of nibbles packed in one array, two to a byte.
-ghost use Rattle.std.specs.Prelude.{◌≡◌, ◌≢◌, ◌↔◌, ◌<◌, ◌≤◌, ◌^◌, ◌++◌, [], ◌∷◌, ℕ, true, false, drop, length, slice_index, slice_index_or, take, IsTrue, IfOk, OnOk};
+ghost use Rattle.std.specs.Prelude.{◌≡◌, ◌≢◌, ◌↔◌, ◌<◌, ◌≤◌, ◌^◌, ◌++◌, [], ◌∷◌, ℕ, true, false, drop, length, slice_index, slice_index_or, take, IsTrue, IfErr, OnOk};
 ghost use Rattle.radix_keys.specs.Packing.{IsPadded, unpacked};
 ghost use Rattle.nibble_map.specs.Lists.{IsRising, is_prefix};
-ghost use Rattle.frozen_trie.specs.Codes.{code_at, is_in_front, pad};
-ghost use Rattle.frozen_trie.specs.Heads.{AreNibbles, head_in, head_padded};
-ghost use Rattle.frozen_trie.specs.Laid.{codes_in, piece_of, start_of, IsLaid};
+ghost use Rattle.frozen_trie.specs.Codes.{code_at, IsSide};
+ghost use Rattle.frozen_trie.specs.Heads.{AreNibbles, bound_of, head_in};
+ghost use Rattle.frozen_trie.specs.Laid.{codes_in, halves, odds, piece_of, start_of, IsLaid};
 
-use crate::heads::{head_of, span, tops_of};
+use crate::heads::{head_of, span, steps_of, tops_of};
 use crate::packed::Packed;
 use radix_keys::Memory;
 use std::alloc::Global;
+use std::cmp::Ordering;
 use std::marker::Model;
 
-/// How many lists are many enough for a table of 65537 counts.
+/// How many lists are many enough for copies of heads, and a table of 65537 counts.
 const MANY: usize = 65536;
+
+/// How many bytes all lists have at most: twice as many and one more are a number of 32 bits.
+const MOST: usize = (1 << 31) - 1;
 
 /// Lists of nibbles, each packed in whole bytes behind the one before. A contract sees the lists.
 #[derive(Drop)]
 pub(crate) struct Codes {
     bytes: Vec<u8>,
-    /// Where the bytes of each list end.
+    /// Where the bytes of each list end, twice, and one more where its count of nibbles is odd: the low half of its last byte
+    /// is unused then.
     ends: Vec<u32>,
-    /// Which lists have an odd count of nibbles: the low half of their last byte is unused.
-    odd: Vec<bool>,
-    /// The first nibbles of each list.
+    /// The head of each list: its first nibbles, and how many it has of these.
     heads: Vec<u64>,
-    /// How many of these are below each multiple of 2^48, where the lists are complete and many.
+    /// Copies of each sixteenth of these, where the lists are complete and many.
+    steps: Vec<u64>,
+    /// How many heads are below each multiple of 2^48, likewise.
     tops: Vec<u32>,
 }
 
 impl Model for Codes {
     ghost use Rattle.std.specs.Prelude.{ℕ, List};
     ghost use Rattle.frozen_trie.specs.Heads.{ArePacked};
-    ghost use Rattle.frozen_trie.specs.Laid.{codes_in};
+    ghost use Rattle.frozen_trie.specs.Laid.{codes_in, halves, odds};
 
     ghost Value = { List (List ℕ) };
 
-    ghost view = { λ c. codes_in c.bytes.items 0 c.ends.items c.odd.items };
+    ghost view = { λ c. codes_in c.bytes.items 0 (halves c.ends.items) (odds c.ends.items) };
 
     ghost invariant = { λ c.
-        ArePacked c.bytes.items c.ends.items c.odd.items c.heads.items c.tops.items };
+        ArePacked c.bytes.items c.ends.items c.heads.items c.steps.items c.tops.items };
 }
 
 impl Codes {
@@ -50,8 +55,8 @@ impl Codes {
         Codes {
             bytes: Vec::new(alloc),
             ends: Vec::new(alloc),
-            odd: Vec::new(alloc),
             heads: Vec::new(alloc),
+            steps: Vec::new(alloc),
             tops: Vec::new(alloc),
         }
     }
@@ -69,7 +74,7 @@ impl Codes {
         ensures code { result ≡ code_at self.now at }
         ensures few { length result < 2 ^ 33 }
     {
-        piece_in(&self.bytes, &self.ends, &self.odd, at)
+        piece_in(&self.bytes, &self.ends, at)
     }
 
     /// The count of nibbles of the list at an index.
@@ -92,19 +97,11 @@ impl Codes {
         self.piece(at).agreement(list, 0)
     }
 
-    /// Whether the list at an index is another one.
-    pub(crate) fn equals(&self, at: usize, list: &Packed<'_>) -> bool
-        requires { at < length self.now }
-        ensures { IsTrue result ↔ (code_at self.now at ≡ list.now) }
-    {
-        self.piece(at).equals(list)
-    }
-
-    /// Whether the list at an index comes before another one, or also begins with it where the search is one through it; and
-    /// how many nibbles the two are known to agree in, at least as many as were known before.
+    /// On which side of a search the list at an index lies: Less where it comes before the searched one, or also where it begins
+    /// with it and the search is one through it; Equal, of a search that isn't, where it is the searched one; and Greater
+    /// otherwise. And how many nibbles the two are known to agree in, at least as many as were known before.
     ///
-    /// The first nibbles of the other list are passed as a number, with 15 for each that it lacks where the search is one
-    /// through it.
+    /// The head of the searched list is passed.
     pub(crate) fn side(
         &self,
         at: usize,
@@ -112,34 +109,60 @@ impl Codes {
         head: u64,
         is_through: bool,
         known: usize,
-    ) -> (bool, usize)
+    ) -> (Ordering, usize)
         requires within { at < length self.now }
-        requires head { head ≡ head_padded (pad is_through) 16 list.now }
-        requires nibbles { AreNibbles 16 list.now }
+        requires head { head ≡ bound_of is_through list.now }
+        requires nibbles { AreNibbles 15 list.now }
         requires known { take known (code_at self.now at) ≡ take known list.now }
         requires inside { known ≤ length list.now }
-        ensures side { result.0 ≡ is_in_front is_through list.now (code_at self.now at) }
+        ensures side { IsSide is_through list.now (code_at self.now at) result.0 }
         ensures same { take result.1 (code_at self.now at) ≡ take result.1 list.now }
         ensures inside { result.1 ≤ length list.now }
     {
         let own = self.heads[at];
         if own != head {
-            return (own < head, known);
+            return (own.cmp(&head), known);
         }
         if is_through {
-            if !list.has(16) {
-                return (true, known);
+            if !list.has(15) {
+                return (Ordering::Less, known);
             }
+        } else if own % 16 < 15 {
+            return (Ordering::Equal, known);
         }
+        self.side_by_bytes(at, list, is_through, known)
+    }
+
+    /// The same by the bytes of the lists.
+    fn side_by_bytes(
+        &self,
+        at: usize,
+        list: &Packed<'_>,
+        is_through: bool,
+        known: usize,
+    ) -> (Ordering, usize)
+        requires within { at < length self.now }
+        requires known { take known (code_at self.now at) ≡ take known list.now }
+        requires inside { known ≤ length list.now }
+        ensures side { IsSide is_through list.now (code_at self.now at) result.0 }
+        ensures same { take result.1 (code_at self.now at) ≡ take result.1 list.now }
+        ensures inside { result.1 ≤ length list.now }
+    {
         let code = self.piece(at);
         let same = code.agreement(list, known);
         if !list.has(same) {
-            return (is_through, same);
+            if is_through {
+                return (Ordering::Less, same);
+            }
+            if code.has(same) {
+                return (Ordering::Greater, same);
+            }
+            return (Ordering::Equal, same);
         }
         if !code.has(same) {
-            return (true, same);
+            return (Ordering::Less, same);
         }
-        (code.get(same) < list.get(same), same)
+        (code.get(same).cmp(&list.get(same)), same)
     }
 
     /// Bounds for a search by first nibbles: those of the lists in front of the first bound are below a number, and those
@@ -148,98 +171,81 @@ impl Codes {
         requires { IsRising self.now }
         ensures order { result.0 ≤ result.1 }
         ensures within { result.1 ≤ length self.now }
-        ensures below { (k : ℕ) → k < result.0 → head_in 16 (code_at self.now k) < bound }
+        ensures below { (k : ℕ) → k < result.0 → head_in (code_at self.now k) < bound }
         ensures above { (k : ℕ) → result.1 ≤ k → k < length self.now
-            → bound < head_in 16 (code_at self.now k) }
-        ensures nibbles { (k : ℕ) → k < length self.now → AreNibbles 16 (code_at self.now k) }
+            → bound < head_in (code_at self.now k) }
+        ensures nibbles { (k : ℕ) → k < length self.now → AreNibbles 15 (code_at self.now k) }
     {
-        span(&self.heads, &self.tops, bound)
+        span(&self.heads, &self.steps, &self.tops, bound)
     }
 
-    /// The same lists, in as much room as they take, with a table that shortens searches where they are many.
+    /// Takes no more room than the lists need, and makes a table that shortens searches where they are many.
     ///
     /// # Errors
     ///
-    /// Memory for the table is refused. The lists are dropped then.
-    pub(crate) fn finished(self, alloc: Global) -> Result<Codes, Memory>
-        requires { IsRising self }
-        ensures { IfOk result (λ codes. codes ≡ self) }
+    /// Memory for the table is refused.
+    pub(crate) fn finish(&mut self, alloc: Global) -> Result<(), Memory>
+        requires { IsRising self.old }
+        ensures { self.new ≡ self.old }
     {
-        let Codes {
-            mut bytes,
-            mut ends,
-            mut odd,
-            mut heads,
-            mut tops,
-        } = self;
-        bytes.shrink_to_fit();
-        ends.shrink_to_fit();
-        odd.shrink_to_fit();
-        heads.shrink_to_fit();
-        if heads.len() >= MANY {
-            tops = tops_of(alloc, &heads)?;
+        self.bytes.shrink_to_fit();
+        self.ends.shrink_to_fit();
+        self.heads.shrink_to_fit();
+        if self.heads.len() >= MANY {
+            self.steps = steps_of(alloc, &self.heads)?;
+            self.tops = tops_of(alloc, &self.heads)?;
         }
-        Ok(Codes {
-            bytes,
-            ends,
-            odd,
-            heads,
-            tops,
-        })
+        Ok(())
     }
 
-    /// The lists, and one more behind them.
+    /// Appends a list.
     ///
     /// # Errors
     ///
-    /// Memory is refused, or the bytes would be 2^32 or more. The lists are dropped then.
-    pub(crate) fn push(self, list: &Packed<'_>) -> Result<Codes, Memory>
-        ensures { IfOk result (λ codes. codes ≡ self ++ list.now ∷ []) }
+    /// Memory is refused, or the bytes would be 2^31 or more. The lists stay as they are then.
+    pub(crate) fn push(&mut self, list: &Packed<'_>) -> Result<(), Memory>
+        ensures ok { OnOk result (self.new ≡ self.old ++ list.now ∷ []) }
+        ensures kept { IfErr result (λ _. self.new ≡ self.old) }
     {
-        let Codes {
-            mut bytes,
-            mut ends,
-            mut odd,
-            mut heads,
-            mut tops,
-        } = self;
         let (more, is_odd) = list.parts();
-        bytes.extend_from_slice(more)?;
-        let Ok(end) = u32::try_from(bytes.as_slice().len()) else {
+        let end = self.bytes.len() + more.len();
+        if end > MOST {
             return Err(Memory);
-        };
-        ends.push(end)?;
-        odd.push(is_odd)?;
-        heads.push(head_of(list, 0))?;
-        tops.clear();
-        Ok(Codes {
-            bytes,
-            ends,
-            odd,
-            heads,
-            tops,
-        })
+        }
+        self.ends.reserve(1)?;
+        self.heads.reserve(1)?;
+        self.bytes.extend_from_slice(more)?;
+        self.ends.push_reserved(2 * end as u32 + u32::from(is_odd));
+        self.heads.push_reserved(head_of(list, false));
+        self.steps.clear();
+        self.tops.clear();
+        Ok(())
     }
 }
 
 /// Where a list begins.
 fn start(ends: &[u32], at: usize) -> usize
     requires { at < length ends.now }
-    ensures { result ≡ start_of 0 ends.now at }
+    ensures { result ≡ start_of 0 (halves ends.now) at }
 {
-    if at == 0 { 0 } else { ends[at - 1] as usize }
+    if at == 0 {
+        0
+    } else {
+        (ends[at - 1] / 2) as usize
+    }
 }
 
 /// The list at an index.
-fn piece_in<'a>(bytes: &'a [u8], ends: &[u32], odd: &[bool], at: usize) -> Packed<'a>
-    requires laid { IsLaid bytes.now 0 ends.now odd.now }
+fn piece_in<'a>(bytes: &'a [u8], ends: &[u32], at: usize) -> Packed<'a>
+    requires laid { IsLaid bytes.now 0 (halves ends.now) (odds ends.now) }
     requires within { at < length ends.now }
-    ensures code { result ≡ slice_index_or (codes_in bytes.now 0 ends.now odd.now) at [] }
+    ensures code { result
+        ≡ slice_index_or (codes_in bytes.now 0 (halves ends.now) (odds ends.now)) at [] }
     ensures few { length result < 2 ^ 33 }
 {
     let from = start(ends, at);
-    let to = ends[at] as usize;
-    Packed::new(part(bytes, from, to), odd[at])
+    let end = ends[at];
+    Packed::new(part(bytes, from, (end / 2) as usize), end % 2 == 1)
 }
 
 /// The bytes from one place up to another.

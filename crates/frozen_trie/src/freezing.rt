@@ -4,9 +4,9 @@ ghost use Rattle.std.specs.FinMap as map;
 ghost use Rattle.radix_trie.specs.Views.{pairs_below};
 ghost use Rattle.frozen_trie.specs.Frozen.{IsFrozen};
 
-use crate::build::push_linked;
 use crate::codes::Codes;
 use crate::frozen::FrozenTrie;
+use crate::linked::push_linked;
 use crate::packed::Packed;
 use radix_keys::TrieKey;
 use radix_trie::{Trie, TrieCommon, keys_stand_at_their_encodings, split_part_goes_back};
@@ -14,7 +14,7 @@ use radix_trie::{Trie, TrieCommon, keys_stand_at_their_encodings, split_part_goe
 /// Why a trie isn't frozen.
 #[derive(Clone, Copy, PartialEq, Eq, Debug)]
 pub enum FreezeWhy {
-    /// An allocation failed, or the encodings take 2^32 bytes or more.
+    /// An allocation failed, or the encodings take 2^31 bytes or more.
     Memory,
     /// The trie holds 2^32 pairs or more.
     Full,
@@ -32,7 +32,7 @@ pub struct FreezeError<K: TrieKey, V> {
 /// # Errors
 ///
 /// The trie holds 2^32 pairs or more. Memory is refused, for the walk over the trie, an encoding, the list of them and the
-/// links, or the list of the pairs; the encodings together take less than 2^32 bytes. The trie comes back as it was: the
+/// links, or the list of the pairs; the encodings together take less than 2^31 bytes. The trie comes back as it was: the
 /// pairs are moved last.
 pub fn freeze<K: TrieKey + Drop, V: Drop>(
     trie: Trie<K, V>,
@@ -80,14 +80,12 @@ pub(crate) fn codes_and_links<K: TrieKey, V>(
         let Ok(list) = key.encode(alloc) else {
             return Err(FreezeWhy::Memory);
         };
-        let packed = Packed::of(&list);
-        let Ok(more) = push_linked(codes, &mut up, &packed) else {
+        let Ok(()) = push_linked(&mut codes, &mut up, &Packed::of(&list)) else {
             return Err(FreezeWhy::Memory);
         };
-        codes = more;
     }
-    let Ok(codes) = codes.finished(alloc) else {
-        return Err(FreezeWhy::Memory);
-    };
-    Ok((codes, up))
+    match codes.finish(alloc) {
+        Ok(()) => Ok((codes, up)),
+        Err(_) => Err(FreezeWhy::Memory),
+    }
 }

@@ -16,6 +16,8 @@ use radix_keys::{Memory, Nibblet, TrieKey};
 use std::alloc::Global;
 use std::marker::Model;
 
+mod appended;
+mod values;
 mod written;
 
 /// A map from keys to values, told apart by the keys' encodings, which is made once and then read: all pairs in the order of
@@ -216,6 +218,13 @@ impl<K: TrieKey, V> FrozenTrie<K, V> {
         ensures rising { IsRising (codes_of K.encoding result.0.items) }
     {
         (self.pairs, self.alloc)
+    }
+
+    /// The map is that of its pairs.
+    pub(crate) fn is_of_its_pairs(&self)
+        ensures { self.now ≡ map_of_pairs K.encoding (pairs_below self.now []) }
+    {
+        let _pairs = &self.pairs;
     }
 
     /// The pair at an index, by its parts, and the link there: the index and one more of the next pair whose encoding is a

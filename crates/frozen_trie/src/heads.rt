@@ -1,17 +1,57 @@
 //! The first nibbles of lists as numbers, which tell the order of most lists.
-ghost use Rattle.std.specs.Prelude.{◌≡◌, ◌<◌, ◌≤◌, ℕ, length, slice_index, IfOk};
+ghost use Rattle.std.specs.Prelude.{◌≡◌, ◌+◌, ◌*◌, ◌<◌, ◌≤◌, ℕ, length, slice_index, IfOk};
 ghost use Rattle.std.specs.List.Sorted.{IsNonDecreasing};
-ghost use Rattle.frozen_trie.specs.Heads.{AreNibbles, AreTops, head_padded};
+ghost use Rattle.frozen_trie.specs.Heads.{AreNibbles, AreSteps, AreTops, bound_of, head_padded};
 
 use crate::packed::Packed;
 use radix_keys::Memory;
 use std::alloc::Global;
 
-/// The first 16 nibbles of a list as a number, with `rest` for each that a shorter list lacks.
-pub(crate) fn head_of(list: &Packed<'_>, rest: u64) -> u64
+/// The head of a list: its first 15 nibbles, and how many of these it has. Where the search is one through the list, 15 stands
+/// for each nibble that it lacks, and for their count.
+pub(crate) fn head_of(list: &Packed<'_>, is_through: bool) -> u64
+    ensures head { result ≡ bound_of is_through list.now }
+    ensures nibbles { AreNibbles 15 list.now }
+{
+    if list.has(14) {
+        long_head(list)
+    } else {
+        short_head(list, is_through)
+    }
+}
+
+/// The head of a list of 15 nibbles or more.
+fn long_head(list: &Packed<'_>) -> u64
+    requires { 15 ≤ length list.now }
+    ensures head { result ≡ head_padded 0 15 list.now * 16 + 15 }
+    ensures nibbles { AreNibbles 15 list.now }
+{
+    let mut head = 0;
+    for i in 0..8 {
+        let two = list.two(i);
+        head = head * 256 + two;
+    }
+    head / 16 * 16 + 15
+}
+
+/// The head of a list of at most 14 nibbles.
+fn short_head(list: &Packed<'_>, is_through: bool) -> u64
+    requires { length list.now ≤ 14 }
+    ensures head { result ≡ bound_of is_through list.now }
+    ensures nibbles { AreNibbles 15 list.now }
+{
+    if is_through {
+        padded_head(list, 15)
+    } else {
+        padded_head(list, 0) + list.len() as u64
+    }
+}
+
+/// The first 16 nibbles of a list as a number, with `rest` for each that it lacks.
+fn padded_head(list: &Packed<'_>, rest: u64) -> u64
     requires { rest < 16 }
     ensures head { result ≡ head_padded rest 16 list.now }
-    ensures nibbles { AreNibbles 16 list.now }
+    ensures nibbles { AreNibbles 15 list.now }
 {
     let mut head = 0;
     for i in 0..8 {
@@ -21,10 +61,17 @@ pub(crate) fn head_of(list: &Packed<'_>, rest: u64) -> u64
     head
 }
 
+/// How far apart numbers are that are copied, so that the first steps of a search touch few places in memory.
+const APART: usize = 16;
+
+/// How many numbers a search is left with, at most, once it has gone by the copied ones.
+const FEW: usize = 64;
+
 /// Bounds for a search among numbers that don't fall: those in front of the first bound are below a number, and those from
 /// the second on above it. They are one where the number isn't among them.
-pub(crate) fn span(numbers: &[u64], tops: &[u32], bound: u64) -> (usize, usize)
+pub(crate) fn span(numbers: &[u64], steps: &[u64], tops: &[u32], bound: u64) -> (usize, usize)
     requires rising { IsNonDecreasing numbers.now }
+    requires steps { AreSteps numbers.now steps.now }
     requires tops { AreTops numbers.now tops.now }
     ensures order { result.0 ≤ result.1 }
     ensures within { result.1 ≤ length numbers.now }
@@ -32,7 +79,8 @@ pub(crate) fn span(numbers: &[u64], tops: &[u32], bound: u64) -> (usize, usize)
     ensures above { (k : ℕ) → result.1 ≤ k → k < length numbers.now
         → bound < slice_index numbers.now k }
 {
-    let (mut lo, mut hi) = top_span(numbers, tops, bound);
+    let (from, to) = top_span(numbers, tops, bound);
+    let (mut lo, mut hi) = step_span(numbers, steps, (from, to), bound);
     while lo < hi {
         let mid = lo + (hi - lo) / 2;
         let number = numbers[mid];
@@ -46,6 +94,55 @@ pub(crate) fn span(numbers: &[u64], tops: &[u32], bound: u64) -> (usize, usize)
         }
     }
     (lo, hi)
+}
+
+/// Nearer bounds, by the copies of each sixteenth number.
+fn step_span(numbers: &[u64], steps: &[u64], bounds: (usize, usize), bound: u64) -> (usize, usize)
+    requires rising { IsNonDecreasing numbers.now }
+    requires steps { AreSteps numbers.now steps.now }
+    requires order { bounds.0 ≤ bounds.1 }
+    requires within { bounds.1 ≤ length numbers.now }
+    requires below { (k : ℕ) → k < bounds.0 → slice_index numbers.now k < bound }
+    requires above { (k : ℕ) → bounds.1 ≤ k → k < length numbers.now
+        → bound < slice_index numbers.now k }
+    ensures order { result.0 ≤ result.1 }
+    ensures within { result.1 ≤ length numbers.now }
+    ensures below { (k : ℕ) → k < result.0 → slice_index numbers.now k < bound }
+    ensures above { (k : ℕ) → result.1 ≤ k → k < length numbers.now
+        → bound < slice_index numbers.now k }
+{
+    let (mut lo, mut hi) = bounds;
+    while hi - lo > FEW {
+        let step = (lo + (hi - lo) / 2) / APART;
+        if step >= steps.len() {
+            return (lo, hi);
+        }
+        let number = steps[step];
+        if number == bound {
+            return (lo, hi);
+        }
+        if number < bound {
+            lo = step * APART + 1;
+        } else {
+            hi = step * APART;
+        }
+    }
+    (lo, hi)
+}
+
+/// Copies of each sixteenth number.
+///
+/// # Errors
+///
+/// Memory is refused.
+pub(crate) fn steps_of(alloc: Global, numbers: &[u64]) -> Result<Vec<u64>, Memory>
+    ensures { IfOk result (λ steps. AreSteps numbers.now steps.items) }
+{
+    let mut steps = Vec::with_capacity(alloc, numbers.len() / APART)?;
+    for step in 0..numbers.len() / APART {
+        steps.push(numbers[step * APART])?;
+    }
+    Ok(steps)
 }
 
 /// The same by how many numbers are below the multiples of 2^48.

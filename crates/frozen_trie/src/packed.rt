@@ -93,6 +93,17 @@ impl<'a> Packed<'a> {
         if i % 2 == 0 { byte / 16 } else { byte % 16 }
     }
 
+    /// Two nibbles as a number, those of the byte at an index. Where the list has the first of them alone, the other is 0.
+    pub(crate) fn two(&self, i: usize) -> u64
+        requires { 2 * i < length self.now }
+        ensures value { result ≡ slice_index self.now (2 * i) * 16 + slice_index self.now (2 * i + 1) }
+        ensures byte { result < 256 }
+        ensures first { slice_index self.now (2 * i) < 16 }
+        ensures second { slice_index self.now (2 * i + 1) < 16 }
+    {
+        u64::from(self.bytes[i])
+    }
+
     /// Two nibbles as a number, those of the byte at an index, with `rest` for each that the list lacks.
     pub(crate) fn two_or(&self, i: usize, rest: u64) -> u64
         requires low { rest < 16 }
@@ -153,12 +164,5 @@ impl<'a> Packed<'a> {
         } else {
             2 * bytes
         }
-    }
-
-    /// Whether the two are one list.
-    pub(crate) fn equals(&self, other: &Packed<'_>) -> bool
-        ensures { IsTrue result ↔ (self.now ≡ other.now) }
-    {
-        self.is_odd == other.is_odd && self.bytes == other.bytes
     }
 }

@@ -1,18 +1,19 @@
 //! Searches among lists in rising order.
-ghost use Rattle.std.specs.Prelude.{◌≡◌, ◌↔◌, ◌+◌, ◌<◌, ◌≤◌, ◌^◌, ℕ, length, not, IsTrue, MatchOption};
+ghost use Rattle.std.specs.Prelude.{◌≡◌, ◌↔◌, ◌+◌, ◌<◌, ◌≤◌, ◌^◌, ℕ, false, length, not, IsTrue, MatchOption};
 ghost use Rattle.nibble_map.specs.Lists.{IsBefore, IsRising};
-ghost use Rattle.frozen_trie.specs.Codes.{AreLinks, IsCut, IsLastPrefix, is_before, is_in_front, is_until, code_at, pad};
+ghost use Rattle.frozen_trie.specs.Codes.{AreLinks, IsCut, IsLastPrefix, is_before, is_in_front, is_until, code_at};
 
 use crate::codes::Codes;
 use crate::heads::head_of;
 use crate::packed::Packed;
+use std::cmp::Ordering;
 
 /// How many of the lists come before another one.
 pub(crate) fn lower(codes: &Codes, list: &Packed<'_>) -> usize
     requires { IsRising codes.now }
     ensures { IsCut (λ c. is_before c list.now) codes.now result }
 {
-    cut(codes, list, false)
+    cut(codes, list, false).0
 }
 
 /// How many of the lists come before another one or begin with it.
@@ -20,40 +21,40 @@ pub(crate) fn upper(codes: &Codes, list: &Packed<'_>) -> usize
     requires { IsRising codes.now }
     ensures { IsCut (λ c. is_until c list.now) codes.now result }
 {
-    cut(codes, list, true)
+    cut(codes, list, true).0
 }
 
-/// How many of the lists come before another one, or also begin with it where the search is one through it.
+/// How many of the lists come before another one, or also begin with it where the search is one through it; and whether it
+/// stands behind these, of a search that isn't.
 ///
 /// A list between two others that agree with the searched one in their first nibbles does so too, so these aren't compared
 /// again.
-fn cut(codes: &Codes, list: &Packed<'_>, is_through: bool) -> usize
+fn cut(codes: &Codes, list: &Packed<'_>, is_through: bool) -> (usize, bool)
     requires { IsRising codes.now }
-    ensures { IsCut (is_in_front is_through list.now) codes.now result }
+    ensures cut { IsCut (is_in_front is_through list.now) codes.now result.0 }
+    ensures found { is_through ≡ false → IsTrue result.1
+        ↔ ((result.0 < length codes.now) × (code_at codes.now result.0 ≡ list.now)) }
+    ensures counted { IsTrue result.1 → result.0 + 1 < 2 ^ 64 }
 {
-    let head = head_of(list, padding(is_through));
+    let head = head_of(list, is_through);
     let (mut lo, mut hi) = codes.span(head);
     let (mut low, mut high) = (0usize, 0usize);
     while lo < hi {
         let mid = lo + (hi - lo) / 2;
-        let (is_in_front, same) = codes.side(mid, list, head, is_through, low.min(high));
-        if is_in_front {
-            lo = mid + 1;
-            low = same;
-        } else {
-            hi = mid;
-            high = same;
+        let (side, same) = codes.side(mid, list, head, is_through, low.min(high));
+        match side {
+            Ordering::Less => {
+                lo = mid + 1;
+                low = same;
+            }
+            Ordering::Equal => return (mid, true),
+            Ordering::Greater => {
+                hi = mid;
+                high = same;
+            }
         }
     }
-    lo
-}
-
-/// What a search puts for each nibble that a list lacks.
-fn padding(is_through: bool) -> u64
-    ensures value { result ≡ pad is_through }
-    ensures nibble { result < 16 }
-{
-    if is_through { 15 } else { 0 }
+    (lo, false)
 }
 
 /// The last of the first `from` lists that is a prefix of another one, by its index and one more, or 0 where there is none.
@@ -81,26 +82,13 @@ pub(crate) fn climb(codes: &Codes, up: &[u32], from: usize, list: &Packed<'_>) -
     0
 }
 
-/// Whether a list is the one at an index, which may be past the end.
-fn stands_at(codes: &Codes, at: usize, list: &Packed<'_>) -> bool
-    ensures stands { IsTrue result
-        ↔ ((at < length codes.now) × (code_at codes.now at ≡ list.now)) }
-    ensures counted { IsTrue result → at + 1 < 2 ^ 64 }
-{
-    at < codes.len() && codes.equals(at, list)
-}
-
 /// How many of the lists come before another one or are it.
 pub(crate) fn behind(codes: &Codes, list: &Packed<'_>) -> usize
     requires { IsRising codes.now }
     ensures { IsCut (λ c. not (is_before list.now c)) codes.now result }
 {
-    let at = lower(codes, list);
-    if stands_at(codes, at, list) {
-        at + 1
-    } else {
-        at
-    }
+    let (at, is_found) = cut(codes, list, false);
+    if is_found { at + 1 } else { at }
 }
 
 /// The index of a list.
@@ -110,12 +98,8 @@ pub(crate) fn index_of(codes: &Codes, list: &Packed<'_>) -> Option<usize>
         ((k : ℕ) → k < length codes.now → code_at codes.now k ≡ list.now → ⊥)
         (λ i. (i < length codes.now) × (code_at codes.now i ≡ list.now)) }
 {
-    let at = lower(codes, list);
-    if stands_at(codes, at, list) {
-        Some(at)
-    } else {
-        None
-    }
+    let (at, is_found) = cut(codes, list, false);
+    if is_found { Some(at) } else { None }
 }
 
 /// The last of the lists that is a prefix of another one, by its index and one more, or 0 where there is none.
@@ -125,8 +109,8 @@ pub(crate) fn last_prefix(codes: &Codes, up: &[u32], list: &Packed<'_>) -> usize
     requires links { AreLinks codes.now up.now }
     ensures { IsLastPrefix codes.now (length codes.now) list.now result }
 {
-    let at = lower(codes, list);
-    if stands_at(codes, at, list) {
+    let (at, is_found) = cut(codes, list, false);
+    if is_found {
         at + 1
     } else {
         climb(codes, up, at, list)

@@ -20,12 +20,11 @@ mod sorted;
 mod walk;
 mod written;
 
-pub use appended::{PushError, PushWhy};
 pub use prefixes::TextPrefixes;
 pub use walk::Texts;
 
 /// A map from byte strings to values, which is made in the order of the keys and then read. The keys' bytes lie one behind
-/// the other, so a pair takes those of its key, its value and 17 bytes more; a key comes out as the bytes that went in.
+/// the other, so a pair takes those of its key, its value and 17 bytes more at most; a key comes out as the bytes that went in.
 ///
 /// A contract sees it as it sees a `FrozenTrie`: as the finite map from the nibbles of each key to the pair of the key's
 /// bytes and its value. The order of the nibbles is that of the bytes. A call that reads allocates nothing, and none is

@@ -8,65 +8,67 @@ use frozen_trie::{FrozenTrie, freeze};
 use radix_trie::{Trie, TrieCommon, TrieKey};
 use rand::seq::SliceRandom;
 use std::collections::BTreeMap;
-use std::mem::drop;
 use std::rt::Clock;
 use std::time::Instant;
 
 /// How many prefixes are asked for what is below them, at most.
-const BEGINNINGS: usize = 10_000;
+pub const BEGINNINGS: usize = 10_000;
 
 /// How many pairs below a prefix are walked at most.
-const SHOWN: usize = 10;
+pub const SHOWN: usize = 10;
 
-/// How many pairs are held at least, in as many stores as it takes.
-const HELD: usize = 1_000_000;
+/// A trie and a map of the same keys, and the times of the trie's calls.
+#[derive(Drop)]
+pub struct Filled<K: Stored> {
+    pub trie: Trie<K, u64>,
+    map: BTreeMap<K, u64>,
+    pub of_trie: Vec<Times>,
+}
 
-/// Prints the times of all calls, or holds what is named and tells how many pairs it has.
+/// Prints the times of all calls.
 pub fn answer<R: Print + Clock + AllocGlobal, K: Stored, L: TrieKey, B: Beginning<K>>(
     rt: &R,
     line: &str,
-    held: Option<&str>,
     queries: &mut [Query<K, L, B>],
 ) -> Result<()> {
-    let stores = HELD.checked_div(queries.len()).unwrap_or(0).max(1);
-    let pairs = match held {
-        None => return print_times(rt, line, queries),
-        Some("keys") => 0,
-        Some("trie") => tries_held(rt, stores, queries)?,
-        Some("frozen") => frozen_held(rt, stores, queries)?,
-        Some("map") => maps_held(rt, stores, queries)?,
-        Some(other) => bail!("nothing to hold: {other}"),
-    };
-    Ok(println!(rt; "{line} {pairs}")?)
+    let filled = print_filling(rt, line, queries)?;
+    print_others(rt, line, filled, queries)
 }
 
-/// Prints the times of all calls. After the insertions, the keys are asked about in another order.
-fn print_times<R: Print + Clock + AllocGlobal, K: Stored, L: TrieKey, B: Beginning<K>>(
+/// Prints the times of the insertions, and of the other calls of the trie. After the insertions, the keys are asked about in
+/// another order.
+pub fn print_filling<R: Print + Clock + AllocGlobal, K: Stored, L: TrieKey, B: Beginning<K>>(
     rt: &R,
     line: &str,
     queries: &mut [Query<K, L, B>],
-) -> Result<()> {
+) -> Result<Filled<K>> {
     let (trie, of_trie) = filled_trie(rt, queries)?;
     of_trie.print(rt, line, "trie")?;
     let (map, of_map) = filled_map(rt, queries)?;
     of_map.print_beside(rt, line, "map", &of_trie)?;
     queries.shuffle(&mut generator());
-    let (copy, of_trie) = trie_rows(rt, trie, queries)?;
+    let (trie, of_trie) = trie_rows(rt, trie, queries)?;
     print_rows(rt, line, "trie", &of_trie, &[])?;
-    let (frozen, freezing) = frozen(rt, copy)?;
+    Ok(Filled { trie, map, of_trie })
+}
+
+/// Prints the times of the calls of the frozen form and of the map.
+pub fn print_others<R: Print + Clock + AllocGlobal, K: Stored, L: TrieKey, B: Beginning<K>>(
+    rt: &R,
+    line: &str,
+    filled: Filled<K>,
+    queries: &[Query<K, L, B>],
+) -> Result<()> {
+    let Filled { trie, map, of_trie } = filled;
+    let (frozen, freezing) = frozen(rt, trie)?;
     freezing.print(rt, line, "frozen")?;
-    print_rows(
-        rt,
-        line,
-        "frozen",
-        &frozen_rows(rt, &frozen, queries)?,
-        &of_trie,
-    )?;
+    let of_frozen = frozen_rows(rt, &frozen, queries)?;
+    print_rows(rt, line, "frozen", &of_frozen, &of_trie)?;
     print_rows(rt, line, "map", &map_rows(rt, map, queries)?, &of_trie)
 }
 
 /// A trie of the keys, and the times of the insertions.
-fn filled_trie<K: Stored, L, B>(
+pub fn filled_trie<K: Stored, L, B>(
     rt: &(impl Clock + AllocGlobal),
     queries: &[Query<K, L, B>],
 ) -> Result<(Trie<K, u64>, Times)> {
@@ -84,12 +86,9 @@ fn trie_rows<K: Stored, L: TrieKey, B: Beginning<K>>(
     queries: &[Query<K, L, B>],
 ) -> Result<(Trie<K, u64>, Vec<Times>)> {
     let get = timed!(rt, "get", queries, |query| value_of(trie.get(&query.key)?));
-    let absent = timed!(
-        rt,
-        "absent",
-        queries,
-        |query| value_of(trie.get(&query.absent)?)
-    );
+    let absent = timed!(rt, "absent", queries, |query| {
+        value_of(trie.get(&query.absent)?)
+    });
     let prefix = timed!(rt, "prefix", queries, |query| {
         value_of(trie.get_ancestor_value(&query.longer)?)
     });
@@ -110,12 +109,9 @@ fn trie_rows<K: Stored, L: TrieKey, B: Beginning<K>>(
     let copy = trie.clone()?;
     let clone = Times::since(rt, "clone", start, trie.len(), 0)?;
     ensure!(copy == trie);
-    let remove = timed!(
-        rt,
-        "remove",
-        queries,
-        |query| trie.remove(&query.key)?.unwrap_or(0)
-    );
+    let remove = timed!(rt, "remove", queries, |query| {
+        trie.remove(&query.key)?.unwrap_or(0)
+    });
     let rows = vec![in rt.alloc(); get, absent, prefix, below, count, walk, clone, remove]?;
     Ok((copy, rows))
 }
@@ -137,18 +133,12 @@ fn frozen_rows<K: Stored, L: TrieKey, B: Beginning<K>>(
     frozen: &FrozenTrie<K, u64>,
     queries: &[Query<K, L, B>],
 ) -> Result<Vec<Times>> {
-    let get = timed!(
-        rt,
-        "get",
-        queries,
-        |query| value_of(frozen.get(&query.key)?)
-    );
-    let absent = timed!(
-        rt,
-        "absent",
-        queries,
-        |query| value_of(frozen.get(&query.absent)?)
-    );
+    let get = timed!(rt, "get", queries, |query| {
+        value_of(frozen.get(&query.key)?)
+    });
+    let absent = timed!(rt, "absent", queries, |query| {
+        value_of(frozen.get(&query.absent)?)
+    });
     let prefix = timed!(rt, "prefix", queries, |query| {
         value_of(frozen.get_ancestor_value(&query.longer)?)
     });
@@ -167,7 +157,7 @@ fn frozen_rows<K: Stored, L: TrieKey, B: Beginning<K>>(
 }
 
 /// A map of the keys, and the times of the insertions.
-fn filled_map<K: Stored, L, B>(
+pub fn filled_map<K: Stored, L, B>(
     rt: &(impl Clock + AllocGlobal),
     queries: &[Query<K, L, B>],
 ) -> Result<(BTreeMap<K, u64>, Times)> {
@@ -185,12 +175,9 @@ fn map_rows<K: Stored, L, B: Beginning<K>>(
     queries: &[Query<K, L, B>],
 ) -> Result<Vec<Times>> {
     let get = timed!(rt, "get", queries, |query| value_of(map.get(&query.key)));
-    let absent = timed!(
-        rt,
-        "absent",
-        queries,
-        |query| value_of(map.get(&query.absent))
-    );
+    let absent = timed!(rt, "absent", queries, |query| {
+        value_of(map.get(&query.absent))
+    });
     let few = queries.get(..BEGINNINGS).unwrap_or(queries);
     let below = timed!(rt, "below", few, |query| sum_below(&map, query));
     let count = timed!(rt, "count", few, |query| count_below(&map, query));
@@ -201,17 +188,14 @@ fn map_rows<K: Stored, L, B: Beginning<K>>(
     let copy = map.clone()?;
     let clone = Times::since(rt, "clone", start, map.len(), 0)?;
     ensure!(copy == map);
-    let remove = timed!(
-        rt,
-        "remove",
-        queries,
-        |query| map.remove(&query.key).unwrap_or(0)
-    );
+    let remove = timed!(rt, "remove", queries, |query| {
+        map.remove(&query.key).unwrap_or(0)
+    });
     Ok(vec![in rt.alloc(); get, absent, below, count, walk, clone, remove]?)
 }
 
 /// A value that was found, and 0 where none was.
-fn value_of(found: Option<&u64>) -> u64 {
+pub fn value_of(found: Option<&u64>) -> u64 {
     found.copied().unwrap_or(0)
 }
 
@@ -243,67 +227,11 @@ fn count_below<K: Stored, L, B: Beginning<K>>(
 }
 
 /// The sum of so many numbers and of this one.
-fn add(sum: u64, value: &u64) -> u64 {
+pub fn add(sum: u64, value: &u64) -> u64 {
     sum.wrapping_add(*value)
 }
 
 /// The sum of so many numbers and of the one of a pair.
 fn add_second<K>(sum: u64, pair: &(K, u64)) -> u64 {
     add(sum, &pair.1)
-}
-
-/// Makes so many tries of the keys that the program's own memory counts for little, and tells how many pairs they have.
-fn tries_held<K: Stored, L, B>(
-    rt: &(impl Clock + AllocGlobal),
-    stores: usize,
-    queries: &[Query<K, L, B>],
-) -> Result<usize> {
-    let mut tries = Vec::new(rt.alloc());
-    let mut pairs = 0usize;
-    for _ in 0..stores {
-        let (trie, _) = filled_trie(rt, queries)?;
-        pairs = pairs.saturating_add(trie.len());
-        tries.push(trie)?;
-    }
-    Ok(pairs)
-}
-
-/// The same of frozen tries, which are made of pairs in order, so that no trie counts.
-fn frozen_held<K: Stored, L, B>(
-    rt: &(impl Clock + AllocGlobal),
-    stores: usize,
-    queries: &[Query<K, L, B>],
-) -> Result<usize> {
-    let mut all = Vec::new(rt.alloc());
-    let mut count = 0usize;
-    for _ in 0..stores {
-        let (map, _) = filled_map(rt, queries)?;
-        let mut pairs = Vec::with_capacity(rt.alloc(), map.len())?;
-        for (key, value) in &map {
-            pairs.push((*key, *value))?;
-        }
-        drop(map);
-        let Ok(frozen) = FrozenTrie::from_sorted(rt.alloc(), pairs) else {
-            bail!("the pairs aren't frozen");
-        };
-        count = count.saturating_add(frozen.len());
-        all.push(frozen)?;
-    }
-    Ok(count)
-}
-
-/// The same of maps.
-fn maps_held<K: Stored, L, B>(
-    rt: &(impl Clock + AllocGlobal),
-    stores: usize,
-    queries: &[Query<K, L, B>],
-) -> Result<usize> {
-    let mut maps = Vec::new(rt.alloc());
-    let mut pairs = 0usize;
-    for _ in 0..stores {
-        let (map, _) = filled_map(rt, queries)?;
-        pairs = pairs.saturating_add(map.len());
-        maps.push(map)?;
-    }
-    Ok(pairs)
 }

@@ -40,13 +40,16 @@ pub enum Style {
     Numbers,
 }
 
-/// A text: the bytes of a key, and one letter more that no key has.
+/// A text: the bytes of a key, and one letter more.
 #[derive(Drop)]
 pub struct Text {
     whole: String,
     value: u64,
     beginning: usize,
 }
+
+/// How many bytes of a given key are its beginning, at most.
+const GIVEN: usize = 4;
 
 const SYLLABLES: &'static [&'static str] = &[
     "an", "be", "co", "de", "er", "fi", "ga", "ho", "in", "jo", "ka", "lo", "mi", "no", "or", "pe",
@@ -119,6 +122,17 @@ fn add_number(text: &mut String, random: &mut SplitMix64, count: u32) -> Result<
 }
 
 impl Text {
+    /// A given key, which stood on a line: its first bytes are its beginning, and no key has the end of a line.
+    pub fn given(alloc: Global, key: &str, number: usize) -> Result<Text, AllocError> {
+        let mut whole = String::from_str(alloc, key)?;
+        whole.push('\n')?;
+        Ok(Text {
+            whole,
+            value: (number as u64).wrapping_add(1),
+            beginning: key.len().min(GIVEN),
+        })
+    }
+
     /// What is asked about the text's key.
     pub fn query(&self) -> TextQuery<'_> {
         let whole = self.whole.as_bytes();

@@ -16,6 +16,8 @@ mod first;
 #[cfg(test)]
 mod frozen_file;
 #[cfg(test)]
+mod frozen_json;
+#[cfg(test)]
 mod key_sets;
 #[cfg(test)]
 mod leases;

@@ -125,6 +125,7 @@ impl<F: Files + AllocGlobal + Drop> Shell<F> {
             }
             "help" => answer_help(answer),
             "save" | "load" => answer_file(&self.files, &mut self.tries, answer),
+            "write" | "read" => self.tries.answer_frozen_file(&self.files, answer),
             _ if answer_form(answer)? || answer_part(answer)? || answer_text(answer)? => Ok(()),
             _ => self.tries.answer(answer),
         }

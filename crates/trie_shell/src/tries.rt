@@ -4,6 +4,7 @@ ghost use Rattle.std.specs.Prelude.{◌≡◌, ◌⊎◌, IfOk, IsFalse, IsTrue,
 ghost use Rattle.trie_shell.specs.Answers.{DoesCall, IsReread, IsTold};
 
 mod frozen;
+mod frozen_files;
 mod names;
 mod places;
 

@@ -1,9 +1,11 @@
 -- One list more.
-use Rattle.std.proofs.Common.{◌≡◌, ℕ, ◌-◌, ◌≤◌, Bool, List, [], ◌∷◌, ◌++◌, length, take, drop, refl, sym, ap, subst, ◌∙◌, arith}
-use Rattle.std.proofs.lemmas.List.{drop-append-le, take-append-le, take_all, length-append, length-drop}
+use Rattle.std.proofs.Common.{◌≡◌, ℕ, ◌+◌, ◌-◌, ◌*◌, ◌/◌, ◌%◌, ◌≤◌, Bool, true, false, nat_eq, List, [], ◌∷◌, ◌++◌, length, take, drop, refl, sym, ap, subst, ◌∙◌, arith}
+use Rattle.std.proofs.lemmas.List.{drop-append-le, take-append-le, take_all, length-append, length-drop, map-append}
+use Rattle.std.proofs.lemmas.Bool.{eq-eqb, ne_eqb}
+use Rattle.std.specs.Int.{from_bool}
 use Rattle.std.proofs.Math.Seq.{drop-append_seam}
 use Rattle.radix_keys.specs.Packing.{IsPadded, unpacked}
-use Rattle.frozen_trie.specs.Laid.{piece_of, codes_in, IsLaid}
+use Rattle.frozen_trie.specs.Laid.{piece_of, codes_in, halves, odds, IsLaid}
 
 -- a piece stays where more bytes follow
 piece_kept : (bytes more : List ℕ) (from e : ℕ) → from ≤ e → e ≤ length bytes → piece_of (bytes ++ more) from e ≡ piece_of bytes from e
@@ -45,3 +47,35 @@ laid_alike b b' e e' o o' p q r h = subst (λ x. IsLaid x 0 e' o') (sym p) (subs
 -- equal bytes, ends and flags hold the same lists
 pub codes_alike : (b b' : List ℕ) (e e' : List ℕ) (o o' : List Bool) → b' ≡ b → e' ≡ e → o' ≡ o → codes_in b' 0 e' o' ≡ codes_in b 0 e o
 codes_alike b b' e e' o o' p q r = ap (λ x. codes_in x 0 e' o') p ∙ ap (λ x. codes_in b 0 x o') q ∙ ap (λ x. codes_in b 0 e x) r
+
+-- twice a number, and one more where a test passes: half of it is the number
+half_of : (e : ℕ) (o : Bool) → (2 * e + from_bool o) / 2 ≡ e
+half_of e false = omega arith
+half_of e true = omega arith
+
+-- and it is odd where the test passes
+odd_of : (e : ℕ) (o : Bool) → nat_eq ((2 * e + from_bool o) % 2) 1 ≡ o
+odd_of e false = ne_eqb _ _ (λ s. omega (arith, s))
+odd_of e true = eq-eqb _ _ (omega arith)
+
+-- the number that says where a list ends that ends with all bytes, and whether its count is odd
+abbrev pub end_number : List ℕ → Bool → ℕ
+end_number all o = 2 * length all + from_bool o
+
+module _ (bytes more ends : List ℕ) (o : Bool) (laid : IsLaid bytes 0 (halves ends) (odds ends)) where
+  halves_more : halves (ends ++ end_number (bytes ++ more) o ∷ []) ≡ halves ends ++ length (bytes ++ more) ∷ []
+  halves_more = map-append (λ e. e / 2) ends (end_number (bytes ++ more) o ∷ []) ∙ ap (λ n. halves ends ++ n ∷ []) (half_of (length (bytes ++ more)) o)
+
+  odds_more : odds (ends ++ end_number (bytes ++ more) o ∷ []) ≡ odds ends ++ o ∷ []
+  odds_more = map-append (λ e. nat_eq (e % 2) 1) ends (end_number (bytes ++ more) o ∷ []) ∙ ap (λ b. odds ends ++ b ∷ []) (odd_of (length (bytes ++ more)) o)
+
+  module _ (all news : List ℕ) (bytes_are : all ≡ bytes ++ more) (ends_are : news ≡ ends ++ end_number (bytes ++ more) o ∷ []) where
+    -- with one list more the lists are laid
+    pub laid_grown : IsPadded more o → IsLaid all 0 (halves news) (odds news)
+    laid_grown p =
+        laid_alike _ _ _ _ _ _ bytes_are (ap halves ends_are ∙ halves_more) (ap odds ends_are ∙ odds_more) (laid_more bytes more o 0 (halves ends) (odds ends) p laid)
+
+    -- and it stands behind them
+    pub codes_grown : codes_in all 0 (halves news) (odds news) ≡ codes_in bytes 0 (halves ends) (odds ends) ++ unpacked more o ∷ []
+    codes_grown =
+        codes_alike _ _ _ _ _ _ bytes_are (ap halves ends_are ∙ halves_more) (ap odds ends_are ∙ odds_more) ∙ codes_more bytes more o 0 (halves ends) (odds ends) laid

@@ -1,5 +1,5 @@
 -- The first nibbles of a list as a number: how it is made, and which order it tells.
-use Rattle.std.proofs.Common.{ltb, ◌≡◌, ℕ, zero, suc, ◌+◌, ◌-◌, ◌*◌, ◌^◌, ◌<◌, ◌≤◌, inl, inr, Bool, true, false, List, [], ◌∷◌, ◌++◌, length, get_or, map, refl, sym, ap, subst, ◌∙◌, arith}
+use Rattle.std.proofs.Common.{ltb, ◌≡◌, ℕ, zero, suc, ◌+◌, ◌-◌, ◌*◌, ◌%◌, ◌^◌, ◌<◌, ◌≤◌, inl, inr, Bool, true, false, List, [], ◌∷◌, ◌++◌, length, min, get_or, map, refl, sym, ap, subst, ◌∙◌, arith}
 use Rattle.std.proofs.Math.Nat.{mul-le-mul_right, mul_assoc, pow-suc, pow-succ', suc-mul}
 use Rattle.std.proofs.lemmas.Bool.{cases_lt, le-ltb, lt-ltb}
 use Rattle.std.proofs.lemmas.List.{get_or-map, get_or_append_left, length-append, length-map, map-append}
@@ -9,7 +9,7 @@ use Rattle.nibble_map.specs.Lists.{IsBefore, IsPrefix, IsRising}
 use Rattle.nibble_map.proofs.ListLemmas.Cut.{cons_head, cons_same, cons_tail}
 use Rattle.nibble_map.proofs.ListLemmas.Parted.{prefix_itself}
 use Rattle.frozen_trie.specs.Codes.{code_at, is_before, is_until}
-use Rattle.frozen_trie.specs.Heads.{head_in, head_padded, AreNibbles, IsHeaded}
+use Rattle.frozen_trie.specs.Heads.{bound_of, head_in, head_padded, AreNibbles, IsHeaded}
 use Rattle.frozen_trie.proofs.CodeLemmas.Order.{before_by_test, before_passes, until_by_before, until_by_prefix, until_by_test, which_before}
 use Rattle.frozen_trie.proofs.CodeLemmas.Parts.{rising_at}
 
@@ -53,7 +53,7 @@ unfolding head_padded
 head-none d c = refl
 
 -- the head of a list that comes before another isn't above its head, whatever that is padded with
-pub head-before : (p n : ℕ) (c d : List ℕ) → AreNibbles n c → IsBefore c d → head_in n c ≤ head_padded p n d
+pub head-before : (p n : ℕ) (c d : List ℕ) → AreNibbles n c → IsBefore c d → head_padded 0 n c ≤ head_padded p n d
 unfolding head_padded
 head-before p zero c d h b = omega arith
 head-before p (suc n) [] d h b = let e = head-nil n in omega (arith, e)
@@ -73,7 +73,7 @@ head-most zero = omega arith
 head-most (suc n) = let e = head-most n in let p = pow-succ' 16 n in omega (arith, e, p)
 
 -- the head of a list that begins with another isn't above its head with fifteens
-pub head-prefix : (n : ℕ) (q c : List ℕ) → AreNibbles n c → IsPrefix q c → head_in n c ≤ head_padded 15 n q
+pub head-prefix : (n : ℕ) (q c : List ℕ) → AreNibbles n c → IsPrefix q c → head_padded 0 n c ≤ head_padded 15 n q
 unfolding head_padded
 head-prefix zero q c h p = omega arith
 head-prefix (suc n) [] c h p = let lt = head-lt 0 (suc n) c (omega arith) h in let most = head-most (suc n) in omega (arith, lt, most)
@@ -83,7 +83,7 @@ head-prefix (suc n) (a ∷ q) (d ∷ c) h (t, e) =
     omega (arith, r, ap (λ x. x * 16 ^ n) (cons_head e))
 
 -- a list behind a short one whose head isn't above that one's with fifteens begins with it
-pub prefix_by_head : (n : ℕ) (q c : List ℕ) → length q ≤ n → AreNibbles n q → IsBefore q c → head_in n c ≤ head_padded 15 n q → IsPrefix q c
+pub prefix_by_head : (n : ℕ) (q c : List ℕ) → length q ≤ n → AreNibbles n q → IsBefore q c → head_padded 0 n c ≤ head_padded 15 n q → IsPrefix q c
 unfolding head_padded
 prefix_by_head n [] c l h b le = (c, refl)
 prefix_by_head zero (a ∷ q) c l h b le = absurd (omega (arith, l))
@@ -132,61 +132,111 @@ nibbles_more n c h l = λ k m. elim (three_ways k n) [
   | inr (inr g) ↦ absurd (omega (arith, m, g))
 ]
 
+-- of two lists with the same first nibbles the one that comes before has no more of them
+marks_rise : (n : ℕ) (c d : List ℕ) → AreNibbles n c → IsBefore c d → head_padded 0 n c ≡ head_padded 0 n d → min (length c) n ≤ min (length d) n
+unfolding head_padded
+marks_rise zero c d h b e = omega arith
+marks_rise (suc n) [] d h b e = omega arith
+marks_rise (suc n) (a ∷ c) [] h b e = absurd b
+marks_rise (suc n) (a ∷ c) (x ∷ d) h (inl l) e =
+    let rest = head-lt 0 n c (omega arith) (AreNibbles-tail n a c h) in
+    let first : suc a ≤ x = omega (arith, l) in
+    let m : suc a * 16 ^ n ≤ x * 16 ^ n = mul-le-mul_right (16 ^ n) first in
+    absurd (omega (arith, m, suc-mul a (16 ^ n), rest, e))
+marks_rise (suc n) (a ∷ c) (x ∷ d) h (inr (s, b)) e =
+    let r = marks_rise n c d (AreNibbles-tail n a c h) b (let f = ap (λ y. y * 16 ^ n) s in omega (arith, e, f)) in
+    omega (arith, r)
+
+-- the head of a list that comes before another isn't above its head
+pub head_rises : (c d : List ℕ) → AreNibbles 15 c → IsBefore c d → head_in c ≤ head_in d
+head_rises c d h b =
+    let le = head-before 0 15 c d h b in
+    elim (cases_lt (head_padded 0 15 c) (head_padded 0 15 d)) [
+      | inl lt ↦ omega (arith, lt)
+      | inr other ↦ (let marks = marks_rise 15 c d h b (omega (arith, le, other)) in omega (arith, le, other, marks))
+    ]
+
+-- as many nibbles that make the same number are the same
+same_nibbles : (n : ℕ) (c d : List ℕ) → AreNibbles n c → AreNibbles n d → length c ≤ n → length d ≡ length c → head_padded 0 n c ≡ head_padded 0 n d → c ≡ d
+unfolding head_padded
+same_nibbles n [] [] h k l m e = refl
+same_nibbles n [] (x ∷ d) h k l m e = absurd (omega (arith, m))
+same_nibbles n (a ∷ c) [] h k l m e = absurd (omega (arith, m))
+same_nibbles zero (a ∷ c) (x ∷ d) h k l m e = absurd (omega (arith, l))
+same_nibbles (suc n) (a ∷ c) (x ∷ d) h k l m e =
+    let one = head-lt 0 n c (omega arith) (AreNibbles-tail n a c h) in
+    let other = head-lt 0 n d (omega arith) (AreNibbles-tail n x d k) in
+    elim (three_ways a x) [
+      | inl lt ↦ (let le : suc a * 16 ^ n ≤ x * 16 ^ n = mul-le-mul_right (16 ^ n) (omega (arith, lt)) in absurd (omega (arith, le, suc-mul a (16 ^ n), one, e)))
+      | inr (inl s) ↦ cons_same s (same_nibbles n c d (AreNibbles-tail n a c h) (AreNibbles-tail n x d k) (omega (arith, l)) (omega (arith, m))
+          (let f = ap (λ y. y * 16 ^ n) s in omega (arith, e, f)))
+      | inr (inr gt) ↦ (let le : suc x * 16 ^ n ≤ a * 16 ^ n = mul-le-mul_right (16 ^ n) (omega (arith, gt)) in absurd (omega (arith, le, suc-mul x (16 ^ n), other, e)))
+    ]
+
+-- a head that counts fewer than 15 nibbles tells the list
+pub same_by_head : (c q : List ℕ) → AreNibbles 15 c → AreNibbles 15 q → head_in c ≡ head_in q → head_in c % 16 < 15 → c ≡ q
+same_by_head c q h k e l = same_nibbles 15 c q h k (omega (arith, l)) (omega (arith, e, l)) (omega (arith, e))
+
 -- a list with a smaller head comes before
-pub before_by_head : (c q : List ℕ) → AreNibbles 16 q → head_in 16 c < head_in 16 q → is_before c q ≡ true
+pub before_by_head : (c q : List ℕ) → AreNibbles 15 q → head_in c < head_in q → is_before c q ≡ true
 before_by_head c q h l = elim (which_before c q) [
   | inl b ↦ before_passes c q b
-  | inr (inl e) ↦ absurd (let same = ap (head_in 16) e in omega (arith, l, same))
-  | inr (inr g) ↦ absurd (let no = head-before 0 16 q c h g in omega (arith, l, no))
+  | inr (inl e) ↦ absurd (let same = ap head_in e in omega (arith, l, same))
+  | inr (inr g) ↦ absurd (let no = head_rises q c h g in omega (arith, l, no))
 ]
 
 -- a list with a greater head doesn't
-pub not_before_by_head : (c q : List ℕ) → AreNibbles 16 c → head_in 16 q < head_in 16 c → is_before c q ≡ false
+pub not_before_by_head : (c q : List ℕ) → AreNibbles 15 c → head_in q < head_in c → is_before c q ≡ false
 not_before_by_head c q h l = elim (which_before c q) [
-  | inl b ↦ absurd (let no = head-before 0 16 c q h b in omega (arith, l, no))
-  | inr (inl e) ↦ absurd (let same = ap (head_in 16) e in omega (arith, l, same))
+  | inl b ↦ absurd (let no = head_rises c q h b in omega (arith, l, no))
+  | inr (inl e) ↦ absurd (let same = ap head_in e in omega (arith, l, same))
   | inr (inr g) ↦ by _ refl g
 ]
   where
     by : (t : Bool) → is_before c q ≡ t → IsBefore q c → is_before c q ≡ false
     by false e g = e
-    by true e g = absurd (let no = head-before 0 16 c q h (before_by_test c q e) in omega (arith, l, no))
+    by true e g = absurd (let no = head_rises c q h (before_by_test c q e) in omega (arith, l, no))
 
 -- the head of a long list isn't padded
-head_of_long : (d n : ℕ) (c : List ℕ) → n ≤ length c → head_padded d n c ≡ head_in n c
+head_of_long : (d n : ℕ) (c : List ℕ) → n ≤ length c → head_padded d n c ≡ head_padded 0 n c
 unfolding head_padded
 head_of_long d zero c l = refl
 head_of_long d (suc n) [] l = absurd (omega (arith, l))
 head_of_long d (suc n) (a ∷ c) l = ap (λ h. a * 16 ^ n + h) (head_of_long d n c (omega (arith, l)))
 
+-- nor is what a search for one compares with
+pub bound_of_long : (t : Bool) (q : List ℕ) → 15 ≤ length q → head_padded 0 15 q * 16 + 15 ≡ bound_of t q
+bound_of_long false q l = omega (arith, l)
+bound_of_long true q l = let e = head_of_long 15 15 q l in omega (arith, e)
+
 -- what comes before a list or begins with it has no head above its head with fifteens
-pub not_until_by_head : (c q : List ℕ) → AreNibbles 16 c → head_padded 15 16 q < head_in 16 c → is_until c q ≡ false
+pub not_until_by_head : (c q : List ℕ) → AreNibbles 15 c → bound_of true q < head_in c → is_until c q ≡ false
 not_until_by_head c q h l = by _ refl
   where
     by : (t : Bool) → is_until c q ≡ t → is_until c q ≡ false
     by false e = e
     by true e = elim (until_by_test c q e) [
-      | inl b ↦ absurd (let no = head-before 15 16 c q h b in omega (arith, l, no))
-      | inr p ↦ absurd (let no = head-prefix 16 q c h p in omega (arith, l, no))
+      | inl b ↦ absurd (let no = head-before 15 15 c q h b in omega (arith, l, no))
+      | inr p ↦ absurd (let no = head-prefix 15 q c h p in omega (arith, l, no))
     ]
 
 -- of a short list those are all
-pub until_by_head : (c q : List ℕ) → length q ≤ 16 → AreNibbles 16 q → head_in 16 c ≤ head_padded 15 16 q → is_until c q ≡ true
+pub until_by_head : (c q : List ℕ) → length q ≤ 15 → AreNibbles 15 q → head_in c ≤ bound_of true q → is_until c q ≡ true
 until_by_head c q short h le = elim (which_before c q) [
   | inl b ↦ until_by_before c q b
   | inr (inl e) ↦ until_by_prefix c q (subst (IsPrefix q) (sym e) (prefix_itself q))
-  | inr (inr g) ↦ until_by_prefix c q (prefix_by_head 16 q c short h g le)
+  | inr (inr g) ↦ until_by_prefix c q (prefix_by_head 15 q c short h g (omega (arith, le)))
 ]
 
 -- a list whose head is below that of another with fifteens comes before it or begins with it
-pub until_by_less : (c q : List ℕ) → AreNibbles 16 q → head_in 16 c < head_padded 15 16 q → is_until c q ≡ true
-until_by_less c q h l = elim (cases_lt 16 (length q)) [
-  | inl long ↦ until_by_before c q (before_by_test c q (before_by_head c q h (let e = head_of_long 15 16 q (omega (arith, long)) in omega (arith, e, l))))
+pub until_by_less : (c q : List ℕ) → AreNibbles 15 q → head_in c < bound_of true q → is_until c q ≡ true
+until_by_less c q h l = elim (cases_lt 15 (length q)) [
+  | inl long ↦ until_by_before c q (before_by_test c q (before_by_head c q h (let e = head_of_long 15 15 q (omega (arith, long)) in omega (arith, e, l, long))))
   | inr short ↦ until_by_head c q short h (omega (arith, l))
 ]
 
 -- where the heads of two lists differ, they tell the order
-pub order_by_head : (c q : List ℕ) (a b : ℕ) → a ≡ head_in 16 c → b ≡ head_in 16 q → AreNibbles 16 c → AreNibbles 16 q → (a ≡ b → ⊥)
+pub order_by_head : (c q : List ℕ) (a b : ℕ) → a ≡ head_in c → b ≡ head_in q → AreNibbles 15 c → AreNibbles 15 q → (a ≡ b → ⊥)
     → ltb a b ≡ is_before c q
 order_by_head c q a b e f h k apart = elim (three_ways a b) [
   | inl lt ↦ lt-ltb a b lt ∙ sym (before_by_head c q k (omega (arith, e, f, lt)))
@@ -195,7 +245,7 @@ order_by_head c q a b e f h k apart = elim (three_ways a b) [
 ]
 
 -- the same of what comes before another or begins with it
-pub through_by_head : (c q : List ℕ) (a b : ℕ) → a ≡ head_in 16 c → b ≡ head_padded 15 16 q → AreNibbles 16 c → AreNibbles 16 q → (a ≡ b → ⊥)
+pub through_by_head : (c q : List ℕ) (a b : ℕ) → a ≡ head_in c → b ≡ bound_of true q → AreNibbles 15 c → AreNibbles 15 q → (a ≡ b → ⊥)
     → ltb a b ≡ is_until c q
 through_by_head c q a b e f h k apart = elim (three_ways a b) [
   | inl lt ↦ lt-ltb a b lt ∙ sym (until_by_less c q k (omega (arith, e, f, lt)))
@@ -209,8 +259,8 @@ module _ (cs : List (List ℕ)) (heads : List ℕ) (kept : IsHeaded cs heads) wh
   as_many_heads = ap length kept.heads ∙ length-map cs _
 
   -- the head at an index is that of the list there
-  pub head_at : (k : ℕ) → k < length cs → get_or heads k 0 ≡ head_in 16 (code_at cs k)
-  head_at k l = ap (λ hs. get_or hs k 0) kept.heads ∙ get_or-map (head_in 16) cs k [] 0 l
+  pub head_at : (k : ℕ) → k < length cs → get_or heads k 0 ≡ head_in (code_at cs k)
+  head_at k l = ap (λ hs. get_or hs k 0) kept.heads ∙ get_or-map head_in cs k [] 0 l
 
   -- the heads of rising lists don't fall
   pub heads_rise : IsRising cs → (i j : ℕ) → i ≤ j → j < length heads → get_or heads i 0 ≤ get_or heads j 0
@@ -219,18 +269,18 @@ module _ (cs : List (List ℕ)) (heads : List ℕ) (kept : IsHeaded cs heads) wh
       let in_i = head_at i (omega (arith, l, m, n)) in
       let in_j = head_at j (omega (arith, m, n)) in
       elim (three_ways i j) [
-        | inl lt ↦ (let le = head-before 0 16 (code_at cs i) (code_at cs j) (kept.nibbles i (omega (arith, lt, m, n))) (rising_at cs rises i j lt (omega (arith, m, n))) in omega (arith, in_i, in_j, le))
+        | inl lt ↦ (let le = head_rises (code_at cs i) (code_at cs j) (kept.nibbles i (omega (arith, lt, m, n))) (rising_at cs rises i j lt (omega (arith, m, n))) in omega (arith, in_i, in_j, le))
         | inr (inl e) ↦ (let same = ap (λ k. get_or heads k 0) e in omega (arith, same))
         | inr (inr g) ↦ absurd (omega (arith, g, l))
       ]
 
   -- one list more, with its head
-  pub headed_more : (c : List ℕ) (h : ℕ) → h ≡ head_in 16 c → AreNibbles 16 c → IsHeaded (cs ++ c ∷ []) (heads ++ h ∷ [])
+  pub headed_more : (c : List ℕ) (h : ℕ) → h ≡ head_in c → AreNibbles 15 c → IsHeaded (cs ++ c ∷ []) (heads ++ h ∷ [])
   headed_more c h e low = record {
-    heads = ap (λ hs. hs ++ h ∷ []) kept.heads ∙ ap (λ x. map (head_in 16) cs ++ x ∷ []) e ∙ sym (map-append (head_in 16) cs (c ∷ []));
+    heads = ap (λ hs. hs ++ h ∷ []) kept.heads ∙ ap (λ x. map head_in cs ++ x ∷ []) e ∙ sym (map-append head_in cs (c ∷ []));
     nibbles = λ k l. elim (three_ways k (length cs)) [
-      | inl lt ↦ subst (AreNibbles 16) (sym (get_or_append_left cs (c ∷ []) [] k lt)) (kept.nibbles k lt)
-      | inr (inl same) ↦ subst (AreNibbles 16) (sym (ap (code_at (cs ++ c ∷ [])) same ∙ get_or-append_seam cs c [] [])) low
+      | inl lt ↦ subst (AreNibbles 15) (sym (get_or_append_left cs (c ∷ []) [] k lt)) (kept.nibbles k lt)
+      | inr (inl same) ↦ subst (AreNibbles 15) (sym (ap (code_at (cs ++ c ∷ [])) same ∙ get_or-append_seam cs c [] [])) low
       | inr (inr g) ↦ absurd (let n = length-append cs (c ∷ []) in omega (arith, l, g, n))
     ];
   }

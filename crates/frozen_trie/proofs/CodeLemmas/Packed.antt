@@ -6,7 +6,12 @@ use Rattle.nibble_map.specs.Nibbles.{nibbles}
 use Rattle.radix_keys.specs.Distinct.{nibbles-injective}
 use Rattle.radix_keys.specs.Packing.{IsPadded, unpacked}
 use Rattle.radix_keys.proofs.NibbleLemmas.Bytes.{take-nibbles_even}
-use Rattle.radix_keys.proofs.NibbleLemmas.Packing.{length-unpacked_bytes, get_or-unpacked_even, get_or-unpacked_odd}
+use Rattle.radix_keys.proofs.NibbleLemmas.Packing.{length-unpacked_bytes, length-unpacked_even, get_or-unpacked_even, get_or-unpacked_odd}
+
+-- the unused half of the last byte of an odd list
+pub last_half : (bs : List ℕ) (odd : Bool) (i : ℕ) → IsPadded bs odd → odd ≡ true → i + 1 ≡ length bs → get_or bs i 0 % 16 ≡ 0
+last_half bs false i p e l = cc
+last_half bs true i p e l = let at : length bs - 1 ≡ i = omega (arith, l) in subst (λ k. get_or bs k 0 % 16 ≡ 0) at p.1
 
 module _ (bs : List ℕ) (odd : Bool) (xs : List ℕ) (padded : IsPadded bs odd) (is : unpacked bs odd ≡ xs) where
   -- half as many bytes as nibbles, rounded up
@@ -58,10 +63,18 @@ module _ (bs : List ℕ) (odd : Bool) (xs : List ℕ) (padded : IsPadded bs odd)
   two_half i d l z =
       omega (arith, z, high_half i (omega (arith, l)), get_or_default xs (2 * i) 0 d (omega (arith, l)), get_or_past xs (2 * i + 1) d (omega (arith, l)))
 
--- the unused half of the last byte of an odd list
-pub last_half : (bs : List ℕ) (odd : Bool) (i : ℕ) → IsPadded bs odd → odd ≡ true → i + 1 ≡ length bs → get_or bs i 0 % 16 ≡ 0
-last_half bs false i p e l = cc
-last_half bs true i p e l = let at : length bs - 1 ≡ i = omega (arith, l) in subst (λ k. get_or bs k 0 % 16 ≡ 0) at p.1
+  -- of a byte that holds a nibble, where the other may be unused
+  pub two_padded : (i : ℕ) → 2 * i < length xs → get_or bs i 0 ≡ get_or xs (2 * i) 0 * 16 + get_or xs (2 * i + 1) 0
+  two_padded i l = elim (cases_lt (2 * i + 1) (length xs)) [
+    | inl whole ↦ two_whole i 0 whole
+    | inr past ↦ by odd refl past
+  ]
+    where
+      by : (o : Bool) → odd ≡ o → length xs ≤ 2 * i + 1 → get_or bs i 0 ≡ get_or xs (2 * i) 0 * 16 + get_or xs (2 * i + 1) 0
+      by false e past = absurd (omega (arith, l, past, ap length is, length-unpacked_even bs odd e))
+      by true e past =
+          let half = two_half i 0 (omega (arith, l, past)) (last_half bs odd i padded e (omega (arith, l, past, byte_count))) in
+          omega (arith, half)
 
 -- a packed list begins as the nibbles of its bytes do
 front : (bs : List ℕ) (odd : Bool) (xs : List ℕ) (m : ℕ) → unpacked bs odd ≡ xs → m ≤ length xs → take m xs ≡ take m (nibbles bs)

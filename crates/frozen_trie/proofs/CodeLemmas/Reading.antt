@@ -1,7 +1,8 @@
 -- What is read of the lists.
-use Rattle.std.proofs.Common.{◌≡◌, ℕ, zero, suc, ◌-◌, ◌<◌, ◌≤◌, Bool, List, [], ◌∷◌, length, get_or, refl, sym, ap, subst, arith}
+use Rattle.std.proofs.Common.{◌≡◌, ℕ, zero, suc, ◌-◌, ◌/◌, ◌%◌, ◌<◌, ◌≤◌, Bool, false, nat_eq, List, [], ◌∷◌, length, get_or, refl, sym, ap, subst, ◌∙◌, arith}
+use Rattle.std.proofs.lemmas.List.{length-map}
 use Rattle.radix_keys.specs.Packing.{IsPadded, unpacked}
-use Rattle.frozen_trie.specs.Laid.{piece_of, start_of, codes_in, IsLaid}
+use Rattle.frozen_trie.specs.Laid.{piece_of, start_of, codes_in, halves, odds, IsLaid}
 
 -- as many lists as ends, and as flags
 pub as_many : (bytes : List ℕ) (from : ℕ) (ends : List ℕ) (odds : List Bool) → IsLaid bytes from ends odds
@@ -48,3 +49,24 @@ start_is_first ends (suc k) e = absurd (omega (arith, e))
 pub start_is_end : (ends : List ℕ) (k : ℕ) → (k ≡ 0 → ⊥) → get_or ends (k - 1) 0 ≡ start_of 0 ends k
 start_is_end ends zero n = absurd (n refl)
 start_is_end ends (suc k) n = let e : suc k - 1 ≡ k = omega arith in ap (λ i. get_or ends i 0) e
+
+-- half a number among others is the half among theirs
+pub half_at : (es : List ℕ) (k : ℕ) → get_or es k 0 / 2 ≡ get_or (halves es) k 0
+half_at [] k = refl
+half_at (e ∷ es) zero = refl
+half_at (e ∷ es) (suc k) = half_at es k
+
+-- and whether it is odd
+pub odd_at : (es : List ℕ) (k : ℕ) → k < length es → nat_eq (get_or es k 0 % 2) 1 ≡ get_or (odds es) k false
+odd_at [] k l = absurd (omega (arith, l))
+odd_at (e ∷ es) zero l = refl
+odd_at (e ∷ es) (suc k) l = odd_at es k (omega (arith, l))
+
+module _ (bytes ends : List ℕ) (laid : IsLaid bytes 0 (halves ends) (odds ends)) where
+  -- as many lists as numbers that say where they end
+  pub as_many_ends : length ends ≡ length (codes_in bytes 0 (halves ends) (odds ends))
+  as_many_ends = sym (length-map ends (λ e. e / 2)) ∙ (as_many bytes 0 (halves ends) (odds ends) laid).0
+
+  -- what stands at an index
+  pub stands_here : (k : ℕ) → k < length ends → Stands bytes 0 (halves ends) (odds ends) k (nat_eq (get_or ends k 0 % 2) 1)
+  stands_here k l = stands bytes 0 (halves ends) (odds ends) laid k _ false (omega (arith, l, length-map ends (λ e. e / 2))) (odd_at ends k l)

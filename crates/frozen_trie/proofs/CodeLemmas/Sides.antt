@@ -3,15 +3,15 @@ use Rattle.std.proofs.Common.{ltb, ◌≡◌, ◌≢◌, ℕ, ◌<◌, ◌≤◌
 use Rattle.std.proofs.lemmas.Bool.{le-ltb, lt-ltb}
 use Rattle.std.proofs.lemmas.List.{get_or_append_left, length-take-le, take-take, take_all}
 use Rattle.std.specs.Cmp.{nat_cmp_is}
-use Rattle.std.specs.Ordering.{is_lt}
-use Rattle.std.specs.declared.cmp.Ordering.TheVariants.{Less, Greater}
+use Rattle.std.specs.Ordering.{is_lt, nat_cmp}
+use Rattle.std.specs.declared.cmp.Ordering.TheVariants.{Less, Equal, Greater}
 use Rattle.radix_keys.proofs.KeyLemmas.Order.{three_ways}
 use Rattle.radix_keys.proofs.NibbleLemmas.Comparing.{compare_apart}
 use Rattle.nibble_map.specs.Lists.{IsBefore, IsPrefix, is_prefix}
-use Rattle.nibble_map.proofs.ListLemmas.Parted.{prefix_by_test}
+use Rattle.nibble_map.proofs.ListLemmas.Parted.{prefix_by_test, prefix_itself}
 use Rattle.nibble_map.proofs.TreeLemmas.SomePrefixes.{before_through}
-use Rattle.frozen_trie.specs.Codes.{is_before, is_in_front, pad}
-use Rattle.frozen_trie.specs.Heads.{head_in, head_padded, AreNibbles}
+use Rattle.frozen_trie.specs.Codes.{is_before, is_in_front, IsSide}
+use Rattle.frozen_trie.specs.Heads.{bound_of, head_in, AreNibbles}
 use Rattle.frozen_trie.proofs.CodeLemmas.Heads.{before_by_head, not_before_by_head, not_until_by_head, order_by_head, through_by_head, until_by_head, until_by_less}
 use Rattle.frozen_trie.proofs.CodeLemmas.Links.{prefix_is_taken}
 use Rattle.frozen_trie.proofs.CodeLemmas.Order.{before_passes, before_passes_down, begun_not_before, before_by_test, between_begins, prefix_before, taken_begins, until_by_before, until_by_prefix, until_passes_down}
@@ -22,23 +22,23 @@ front_passes_down false q = before_passes_down q
 front_passes_down true q = until_passes_down q
 
 -- where the first nibbles differ, they tell the side
-pub side_by_head : (t : Bool) (c q : List ℕ) (a b : ℕ) → a ≡ head_in 16 c → b ≡ head_padded (pad t) 16 q → AreNibbles 16 c → AreNibbles 16 q → (a ≡ b → ⊥)
+pub side_by_head : (t : Bool) (c q : List ℕ) (a b : ℕ) → a ≡ head_in c → b ≡ bound_of t q → AreNibbles 15 c → AreNibbles 15 q → (a ≡ b → ⊥)
     → ltb a b ≡ is_in_front t q c
 side_by_head false = order_by_head
 side_by_head true = through_by_head
 
 -- a code whose first nibbles are less is in front
-pub front_by_less : (t : Bool) (c q : List ℕ) → AreNibbles 16 q → head_in 16 c < head_padded (pad t) 16 q → is_in_front t q c ≡ true
+pub front_by_less : (t : Bool) (c q : List ℕ) → AreNibbles 15 q → head_in c < bound_of t q → is_in_front t q c ≡ true
 front_by_less false = before_by_head
 front_by_less true = until_by_less
 
 -- and one whose first nibbles are more isn't
-pub behind_by_more : (t : Bool) (c q : List ℕ) → AreNibbles 16 c → head_padded (pad t) 16 q < head_in 16 c → is_in_front t q c ≡ false
+pub behind_by_more : (t : Bool) (c q : List ℕ) → AreNibbles 15 c → bound_of t q < head_in c → is_in_front t q c ≡ false
 behind_by_more false = not_before_by_head
 behind_by_more true = not_until_by_head
 
 -- where they are the same, all of a short list's nibbles are among them
-pub side_of_short : (t : Bool) (c q : List ℕ) → t ≡ true → length q ≤ 16 → AreNibbles 16 q → head_in 16 c ≤ head_padded (pad t) 16 q → true ≡ is_in_front t q c
+pub side_of_short : (t : Bool) (c q : List ℕ) → t ≡ true → length q ≤ 15 → AreNibbles 15 q → head_in c ≤ bound_of t q → true ≡ is_in_front t q c
 side_of_short false c q e short h le = cc
 side_of_short true c q e short h le = sym (until_by_head c q short h le)
 
@@ -88,6 +88,35 @@ side_by_nibble t c q n l m same apart = elim (three_ways (get_or c n 0) (get_or 
         both : (a b : Bool) → a ≡ false → b ≡ false → a || b ≡ false
         both false b h k = k
         both true b h k = h
+
+-- a code in front is on the lesser side
+pub less_side : (t : Bool) (q c : List ℕ) → is_in_front t q c ≡ true → IsSide t q c Less
+less_side t q c e = record { front = sym e; found = λ s. absurd (cc s); apart = λ s. absurd (cc s) }
+
+-- another one on the greater, unless it is the list
+pub greater_side : (t : Bool) (q c : List ℕ) → is_in_front t q c ≡ false → (t ≡ false → c ≡ q → ⊥) → IsSide t q c Greater
+greater_side t q c e other = record { front = sym e; found = λ s. absurd (cc s); apart = λ s. other }
+
+-- the list itself is found
+pub equal_side : (t : Bool) (q c : List ℕ) → t ≡ false → c ≡ q → IsSide t q c Equal
+equal_side t q c e s = record {
+  front = sym e ∙ side_of_begun t c q (subst (IsPrefix q) (sym s) (prefix_itself q));
+  found = λ _. (e, s);
+  apart = λ n. absurd (cc n);
+}
+
+-- two numbers that differ tell the side, where they do so of the one in front
+pub side_by_numbers : (t : Bool) (q c : List ℕ) (a b : ℕ) → ltb a b ≡ is_in_front t q c → (a ≡ b → ⊥) → (t ≡ false → c ≡ q → a ≡ b) → IsSide t q c (nat_cmp a b)
+side_by_numbers t q c a b front apart same = elim (three_ways a b) [
+  | inl lt ↦ subst (IsSide t q c) (nat_cmp_is a b Less lt) (less_side t q c (sym front ∙ lt-ltb a b lt))
+  | inr (inl e) ↦ absurd (apart e)
+  | inr (inr gt) ↦ subst (IsSide t q c) (nat_cmp_is a b Greater gt) (greater_side t q c (sym front ∙ le-ltb a b (omega (arith, gt))) (λ f s. apart (same f s)))
+]
+
+-- a search that isn't one through the list compares with its head
+pub plain_bound : (t : Bool) (q : List ℕ) → t ≡ false → bound_of t q ≡ head_in q
+plain_bound false q e = refl
+plain_bound true q e = absurd (cc e)
 
 -- a list between two others that agree with q in their first nibbles does so too
 pub between_agrees : (n : ℕ) (x y z q : List ℕ) → n ≤ length q → IsBefore x y → IsBefore y z → take n x ≡ take n q → take n z ≡ take n q → take n y ≡ take n q

@@ -3,11 +3,15 @@ use Rattle.std.proofs.Common.{◌≡◌, ℕ, ◌-◌, ◌<◌, ◌≤◌, inl, 
 use Rattle.std.proofs.lemmas.List.{get_or_append_left, length-append}
 use Rattle.std.proofs.Math.Seq.{get_or-append_seam}
 use Rattle.radix_keys.proofs.KeyLemmas.Order.{three_ways}
+use Rattle.std.specs.Cmp.Lexicographic.{slice_cmp}
+use Rattle.std.specs.FinMap as fin
+use Rattle.std.specs.Ordering.{nat_cmp}
 use Rattle.nibble_map.specs.Lists.{IsBefore, IsPrefix, IsRising, Each, Has}
+use Rattle.nibble_map.proofs.MapLemmas.Bridge.{from_sorted-nil}
 use Rattle.nibble_map.proofs.ListLemmas.Rising.{IsRising-append}
 use Rattle.nibble_map.proofs.TreeLemmas.SomePrefixes.{before_through}
 use Rattle.frozen_trie.specs.Codes.{IsLastPrefix, code_at}
-use Rattle.frozen_trie.specs.Frozen.{IsLinked}
+use Rattle.frozen_trie.specs.Frozen.{IsLinked, map_of_pairs}
 use Rattle.frozen_trie.proofs.CodeLemmas.Parts.{rising_at}
 use Rattle.frozen_trie.proofs.FrozenLemmas.Queries.{has_index}
 
@@ -71,6 +75,10 @@ pub linked_none : (cs : List (List ℕ)) (up : List ℕ) → cs ≡ [] → up �
 linked_none cs up e f =
     let none : IsLinked [] [] = record { rising = tt; linked = refl; links = λ i l. absurd (omega (arith, l)) } in
     subst (λ ds. IsLinked ds up) (sym e) (subst (IsLinked []) (sym f) none)
+
+-- no pair is the empty map
+pub no_pair_map : {K V : Type 0} (enc : K → List ℕ) (ps : List (K × V)) → ps ≡ [] → map_of_pairs enc ps ≡ fin.empty
+no_pair_map enc ps e = ap (map_of_pairs enc) e ∙ from_sorted-nil (slice_cmp nat_cmp)
 
 -- links and one more
 pub linked_more : (cs : List (List ℕ)) (up : List ℕ) (c : List ℕ) (r : ℕ) → IsLinked cs up → IsRising (cs ++ c ∷ []) → IsLastPrefix cs (length cs) c r

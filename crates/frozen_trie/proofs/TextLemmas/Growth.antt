@@ -1,5 +1,5 @@
 -- No byte string, and one more behind all others.
-use Rattle.std.proofs.Common.{◌≡◌, ℕ, List, [], ◌∷◌, ◌++◌, length, refl, sym, ap, subst, ◌∙◌, arith}
+use Rattle.std.proofs.Common.{◌≡◌, ℕ, List, [], ◌∷◌, ◌++◌, length, map, refl, sym, ap, subst, ◌∙◌, arith}
 use Rattle.std.proofs.lemmas.List.{length-append, map-append}
 use Rattle.std.specs.Cmp.Lexicographic.{slice_cmp}
 use Rattle.std.specs.FinMap as fin
@@ -34,6 +34,10 @@ module _ {V : Type 0} where
   text_pairs-more [] (w ∷ vs) c v e = absurd (omega (arith, e))
   text_pairs-more (d ∷ cs) [] c v e = absurd (omega (arith, e))
   text_pairs-more (d ∷ cs) (w ∷ vs) c v e = ap (λ ps. (packed_bytes d, w) ∷ ps) (text_pairs-more cs vs c v (omega (arith, e)))
+
+-- the second parts of pairs
+abbrev pub values_of : {A V : Type 0} → List (A × V) → List V
+values_of ps = map (λ p. p.1) ps
 
 module _ {V : Type 0} (cs : List (List ℕ)) (vs : List V) (up : List ℕ) (kept : AreTexts cs vs up) where
   -- the pairs of one byte string more

@@ -1,17 +1,20 @@
 //! Bytes of a file, read.
-ghost use Rattle.std.specs.Prelude.{◌≡◌, ◌<◌, ◌≤◌, ◌^◌, ◌++◌, ℕ, List, length, IfOk, OnOk};
-ghost use Rattle.std.specs.Int.{w32, w64, to_le_bytes};
+ghost use Rattle.std.specs.Prelude.{◌≡◌, ◌<◌, ◌≤◌, ◌^◌, ◌++◌, ℕ, List, length, IfErr, IfOk, OnOk};
+ghost use Rattle.std.specs.Int.{w16, w32, w64, to_le_bytes};
 ghost use Rattle.std.specs.Io.KnownBytes.{Consumes, IsAtEnd, Keeps};
+ghost use Rattle.frozen_trie.specs.FileRows.{IsReaderFault};
 
 use crate::file::FileWhy;
 use std::io::{ErrorKind, Read};
 
-/// How many bytes of a key are read at once.
+/// How many bytes of a key or a value are read at once.
 const MOST: usize = 512;
 
 /// Fills a buffer.
 pub(super) fn fill<R: Read>(input: &mut R, buffer: &mut [u8]) -> Result<(), FileWhy>
-    ensures { OnOk result (Consumes (R.remaining input.old) (R.remaining input.new) buffer.new) }
+    ensures bytes { OnOk result
+        (Consumes (R.remaining input.old) (R.remaining input.new) buffer.new) }
+    ensures fault { IfErr result IsReaderFault }
 {
     match input.read_exact(buffer) {
         Ok(()) => Ok(()),
@@ -30,6 +33,7 @@ pub(super) fn read_u32<R: Read>(input: &mut R) -> Result<u32, FileWhy>
     ensures bytes { IfOk result
         (λ n. Consumes (R.remaining input.old) (R.remaining input.new) (to_le_bytes w32 n)) }
     ensures fits { IfOk result (λ n. n < 2 ^ 32) }
+    ensures fault { IfErr result IsReaderFault }
 {
     let mut bytes = [0; 4];
     fill(input, &mut bytes)?;
@@ -41,6 +45,7 @@ pub(super) fn read_u64<R: Read>(input: &mut R) -> Result<u64, FileWhy>
     ensures bytes { IfOk result
         (λ n. Consumes (R.remaining input.old) (R.remaining input.new) (to_le_bytes w64 n)) }
     ensures fits { IfOk result (λ n. n < 2 ^ 64) }
+    ensures fault { IfErr result IsReaderFault }
 {
     let mut bytes = [0; 8];
     fill(input, &mut bytes)?;
@@ -48,48 +53,55 @@ pub(super) fn read_u64<R: Read>(input: &mut R) -> Result<u64, FileWhy>
 }
 
 /// The number whose bytes these are, the low ones first.
-fn u32_of(bytes: [u8; 4]) -> u32
+pub(super) fn u16_of(bytes: [u8; 2]) -> u16
+    ensures { to_le_bytes w16 result ≡ bytes }
+{
+    u16::from_le_bytes(bytes)
+}
+
+/// The number whose bytes these are, the low ones first.
+pub(super) fn u32_of(bytes: [u8; 4]) -> u32
     ensures { to_le_bytes w32 result ≡ bytes }
 {
     u32::from_le_bytes(bytes)
 }
 
 /// The number whose bytes these are, the low ones first.
-fn u64_of(bytes: [u8; 8]) -> u64
+pub(super) fn u64_of(bytes: [u8; 8]) -> u64
     ensures { to_le_bytes w64 result ≡ bytes }
 {
     u64::from_le_bytes(bytes)
 }
 
-/// Reads so many bytes in the place of those that `key` holds. Memory is asked for as they come.
+/// Reads so many bytes in the place of those that `into` holds. Memory is asked for as they come.
 pub(super) fn read_bytes<R: Read>(
     input: &mut R,
     count: u32,
-    key: &mut Vec<u8>,
+    into: &mut Vec<u8>,
 ) -> Result<(), FileWhy>
     ensures bytes { OnOk result
-        (Consumes (R.remaining input.old) (R.remaining input.new) key.new.items) }
-    ensures count { OnOk result (length key.new.items ≡ count) }
+        (Consumes (R.remaining input.old) (R.remaining input.new) into.new.items) }
+    ensures count { OnOk result (length into.new.items ≡ count) }
 {
     let count = count as usize;
-    key.clear();
-    while key.len() < count {
-        let left = count - key.len();
-        read_part(input, left.min(MOST), key)?;
+    into.clear();
+    while into.len() < count {
+        let left = count - into.len();
+        read_part(input, left.min(MOST), into)?;
     }
     Ok(())
 }
 
-/// Reads so many bytes behind those that `key` holds.
-fn read_part<R: Read>(input: &mut R, count: usize, key: &mut Vec<u8>) -> Result<(), FileWhy>
+/// Reads so many bytes behind those that `into` holds.
+fn read_part<R: Read>(input: &mut R, count: usize, into: &mut Vec<u8>) -> Result<(), FileWhy>
     requires { count ≤ MOST }
     ensures { OnOk result ((bytes : List ℕ)
         × Consumes (R.remaining input.old) (R.remaining input.new) bytes
-        × (key.new.items ≡ key.old.items ++ bytes) × (length bytes ≡ count)) }
+        × (into.new.items ≡ into.old.items ++ bytes) × (length bytes ≡ count)) }
 {
     let mut part = [0; MOST];
     fill(input, &mut part[..count])?;
-    match key.extend_from_slice(&part[..count]) {
+    match into.extend_from_slice(&part[..count]) {
         Ok(()) => Ok(()),
         Err(_) => Err(FileWhy::Memory),
     }

@@ -1,19 +1,18 @@
 //! A file, read row by row.
-ghost use Rattle.std.specs.Prelude.{◌≡◌, ◌<◌, ◌^◌, ◌++◌, [], ◌∷◌, ℕ, List, Some, IfOk, IfSome, OnOk};
+ghost use Rattle.std.specs.Prelude.{◌≡◌, ◌<◌, ◌^◌, ◌++◌, [], ◌∷◌, ℕ, List, length, IfOk, IfErr, IfSome, OnOk};
 ghost use Rattle.std.specs.Io.KnownBytes.{Consumes, IsAtEnd};
-ghost use Rattle.nibble_map.specs.Maps.{PairMap};
-ghost use Rattle.radix_trie.specs.Views.{pairs_below};
-ghost use Rattle.frozen_trie.specs.Files.{FitsRow, IsFileable, file_of, head_of, row_of};
+ghost use Rattle.nibble_map.specs.Lists.{Each};
+ghost use Rattle.frozen_trie.specs.FileRows.{FitsRow, IsFaultAt, IsHeadFault, counted_bytes, file_of_rows, head_of, row_of};
 
 use crate::file::parts::{expect_end, fill, read_bytes, read_u32, read_u64};
+use crate::file::rows::Rows;
 use crate::file::{FileError, FileWhy, MAGIC, VERSION};
-use crate::texts::{FrozenTexts, PushWhy};
-use std::alloc::Global;
 use std::io::Read;
 
 /// The fault of the head's part at this place.
 fn in_head(why: FileWhy, place: u64) -> FileError
-    ensures { result.why ≡ why }
+    ensures why { result.why ≡ why }
+    ensures fault { (result.pair ≡ 0) × (result.place ≡ place) }
 {
     FileError {
         why,
@@ -27,6 +26,8 @@ fn read_head<R: Read>(input: &mut R) -> Result<u64, FileError>
     ensures bytes { IfOk result (λ count.
         Consumes (R.remaining input.old) (R.remaining input.new) (head_of count)) }
     ensures fits { IfOk result (λ count. count < 2 ^ 64) }
+    ensures fault { IfErr result (λ e. IfSome (R.remaining input.old)
+        (λ bytes. IsHeadFault e.why bytes e.pair e.place)) }
 {
     let mut magic = [0; 8];
     if let Err(why) = fill(input, &mut magic) {
@@ -49,43 +50,53 @@ fn read_head<R: Read>(input: &mut R) -> Result<u64, FileError>
     }
 }
 
-/// Reads a row, appends its pair to the map, and gives the count of the row's bytes. `key` is room for the row's key.
-fn read_row<R: Read>(
-    input: &mut R,
-    key: &mut Vec<u8>,
-    texts: &mut FrozenTexts<u64>,
-) -> Result<u64, FileWhy>
-    ensures { OnOk result ((p : List ℕ × ℕ) × FitsRow p
-        × Consumes (R.remaining input.old) (R.remaining input.new) (row_of p)
-        × (pairs_below texts.new [] ≡ pairs_below texts.old [] ++ p ∷ [])) }
+/// Reads bytes behind their count in the place of those that `into` holds.
+fn read_counted<R: Read>(input: &mut R, into: &mut Vec<u8>) -> Result<(), FileWhy>
+    ensures bytes { OnOk result
+        (Consumes (R.remaining input.old) (R.remaining input.new) (counted_bytes into.new.items)) }
+    ensures fits { OnOk result (length into.new.items < 2 ^ 32) }
 {
-    let len = read_u32(input)?;
-    read_bytes(input, len, key)?;
-    let value = read_u64(input)?;
-    match texts.push(key, value) {
-        Ok(()) => Ok(u64::from(len) + 12),
-        Err(error) => Err(match error.why {
-            PushWhy::Memory => FileWhy::Memory,
-            PushWhy::Full => FileWhy::Full,
-            PushWhy::Unsorted => FileWhy::Unsorted,
-        }),
-    }
+    let count = read_u32(input)?;
+    read_bytes(input, count, into)
 }
 
-/// Reads a whole file.
-pub(super) fn read_all<R: Read>(alloc: Global, input: &mut R) -> Result<FrozenTexts<u64>, FileError>
+/// Reads a row, appends its pair to the map, and gives the count of the row's bytes. `key` and `value` are room for the row's.
+fn read_row<R: Read, M: Rows>(
+    input: &mut R,
+    key: &mut Vec<u8>,
+    value: &mut Vec<u8>,
+    map: &mut M,
+) -> Result<u64, FileWhy>
+    ensures row { IfOk result (λ count. (p : List ℕ × List ℕ) × FitsRow p
+        × Consumes (R.remaining input.old) (R.remaining input.new) (row_of p)
+        × (M.rows map.new ≡ M.rows map.old ++ p ∷ []) × (count ≡ length (row_of p))) }
+    ensures items { OnOk result (M.are_items map.old (length (M.rows map.old))
+        → M.are_items map.new (length (M.rows map.new))) }
+{
+    read_counted(input, key)?;
+    read_counted(input, value)?;
+    map.push_row(key, value)?;
+    Ok(8 + key.len() as u64 + value.len() as u64)
+}
+
+/// Reads a whole file into a map of no pair.
+pub(super) fn read_all<R: Read, M: Rows>(input: &mut R, mut map: M) -> Result<M, FileError>
+    requires { M.rows map ≡ [] }
     ensures file { IfOk result
-        (λ texts. IfSome (R.remaining input.old) (λ bytes. bytes ≡ file_of texts)) }
-    ensures same { IfOk result (λ texts. (m : PairMap (List ℕ) ℕ) → IsFileable m
-        → R.remaining input.old ≡ Some (file_of m) → texts ≡ m) }
+        (λ map. IfSome (R.remaining input.old) (λ bytes. bytes ≡ file_of_rows (M.rows map))) }
+    ensures fits { IfOk result (λ map. Each FitsRow (M.rows map)) }
+    ensures few { IfOk result (λ map. length (M.rows map) < 2 ^ 64) }
+    ensures items { IfOk result (λ map. M.are_items map (length (M.rows map))) }
+    ensures fault { IfErr result (λ e. IfSome (R.remaining input.old)
+        (λ bytes. IsFaultAt e.why bytes e.pair e.place)) }
     ensures end { OnOk result (IsAtEnd (R.remaining input.new)) }
 {
     let pair = read_head(input)?;
-    let mut texts = FrozenTexts::new(alloc);
-    let mut key = Vec::new(alloc);
+    let mut key = Vec::new(map.alloc());
+    let mut value = Vec::new(map.alloc());
     let mut place = 20u64;
     for row in 0..pair {
-        match read_row(input, &mut key, &mut texts) {
+        match read_row(input, &mut key, &mut value, &mut map) {
             Ok(count) => place = place.saturating_add(count),
             Err(why) => {
                 return Err(FileError {
@@ -99,15 +110,8 @@ pub(super) fn read_all<R: Read>(alloc: Global, input: &mut R) -> Result<FrozenTe
     if let Err(why) = expect_end(input) {
         return Err(FileError { why, pair, place });
     }
-    match texts.finished() {
-        Ok(texts) => {
-            texts.is_of_its_pairs();
-            Ok(texts)
-        }
-        Err(_) => Err(FileError {
-            why: FileWhy::Memory,
-            pair,
-            place,
-        }),
+    match map.close() {
+        Ok(()) => Ok(map),
+        Err(why) => Err(FileError { why, pair, place }),
     }
 }

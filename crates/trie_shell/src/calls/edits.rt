@@ -105,7 +105,7 @@ pub fn answer_change<T: TrieEdit<Key, u64>>(
             },
             None => answer.refuse(NO_KEY)?,
         },
-        "for_each_mut" => match other_and_number(answer)? {
+        "for_each_mut" => match key_and_number(answer)? {
             Some((other, added)) => {
                 of.for_each_mut(|key: &Key, value: &mut u64| {
                     add_unless(key, value, &other, added)
@@ -194,16 +194,16 @@ pub fn outside_line(answer: &mut Answer<'_>, error: SubTrieError) -> Result<(), 
 }
 
 /// Adds the number to the value, where its key isn't the other one.
-fn add_unless(key: &Key, value: &mut u64, other: &Key, added: u64) {
+pub fn add_unless(key: &Key, value: &mut u64, other: &Key, added: u64) {
     if !(key == other) {
         *value = value.wrapping_add(added);
     }
 }
 
 /// The key and the number that the next words write. None: the answer says what is missing.
-fn other_and_number(answer: &mut Answer<'_>) -> Result<Option<(Key, u64)>, Memory> {
+pub fn key_and_number(answer: &mut Answer<'_>) -> Result<Option<(Key, u64)>, Memory> {
     match (answer.next_key()?, answer.next_number()) {
-        (Some(other), Some(added)) => return Ok(Some((other, added))),
+        (Some(key), Some(number)) => return Ok(Some((key, number))),
         (Some(_), None) => answer.refuse(NO_NUMBER)?,
         (None, _) => answer.refuse(NO_KEY)?,
     }
@@ -297,7 +297,7 @@ fn answer_edit_at(trie: &mut Table, key: &Key, answer: &mut Answer<'_>) -> Resul
         "get_mut" => written_or_none(answer, trie.get_mut(key)?),
         "find_mut" => written_or_absent(answer, trie.find_mut(key)),
         "find_ancestor_mut" => written_or_absent(answer, trie.find_ancestor_mut(key)),
-        "for_each_mut_below" => match other_and_number(answer)? {
+        "for_each_mut_below" => match key_and_number(answer)? {
             Some((other, added)) => {
                 trie.for_each_mut_below(key, |key: &Key, value: &mut u64| {
                     add_unless(key, value, &other, added)

@@ -11,7 +11,7 @@ use std::rt::Files;
 use std::{fs, io};
 
 /// What is answered where a file can't be read or written.
-const NO_FILE: &'static str = "no file";
+pub const NO_FILE: &'static str = "no file";
 
 /// A file's name and the call behind it, which is one of tries and views.
 pub fn answer_file<F: Files + AllocGlobal>(
@@ -61,7 +61,7 @@ fn save<F: Files>(
 
 /// Puts a file that holds the bytes in place of the file of this name, which stays as it is where
 /// that fails: it is written beside it first.
-fn replace<F: Files>(alloc: Global, files: &F, path: &str, bytes: &[u8]) -> io::Result<()> {
+pub fn replace<F: Files>(alloc: Global, files: &F, path: &str, bytes: &[u8]) -> io::Result<()> {
     let permissions = match fs::symlink_metadata(files, path) {
         Ok(found) if found.is_file() => Some(found.permissions()),
         Ok(_) => return Err(Error::from(ErrorKind::InvalidInput)),
@@ -151,6 +151,6 @@ fn parted(bytes: &mut [u8]) -> &[u8] {
     bytes.trim_ascii_end()
 }
 
-fn is_memory(error: &Error) -> bool {
+pub fn is_memory(error: &Error) -> bool {
     error.kind() == ErrorKind::OutOfMemory
 }

@@ -1,8 +1,11 @@
 //! Calls of a frozen trie.
 
 use crate::calls::FrozenTable;
-use crate::calls::edits::{written_or_absent, written_or_none};
-use crate::calls::lines::{key_line, listed_lines, none_line, pair_line};
+use crate::calls::edits::{
+    Given, OTHER, add_unless, key_and_number, note_pair, written_or_absent, written_or_none,
+};
+use crate::calls::lines::{key_line, listed_lines, none_line, pair_line, pair_lines};
+use frozen_trie::PushWhy;
 use radix_trie::{Memory, Nibblet, TrieKey};
 use shell_words::{Answer, Key, NO_KEY, NO_LIST, NO_NUMBER, NONE, NOT_HERE};
 
@@ -11,7 +14,8 @@ pub fn answer_frozen(frozen: &mut FrozenTable, answer: &mut Answer<'_>) -> Resul
     if answer_whole(&*frozen, answer)?
         || answer_listed(&*frozen, answer)?
         || answer_keyed(&*frozen, answer)?
-        || answer_write(frozen, answer)?
+        || answer_write(&mut *frozen, answer)?
+        || answer_appended(frozen, answer)?
     {
         Ok(())
     } else {
@@ -136,11 +140,8 @@ fn answer_part(
             Some(most) => listed_lines(answer, first_of(frozen.below(list), most as usize)),
             None => answer.refuse(NO_NUMBER),
         },
-        "iter_from" => lines_from(frozen.rank(list), frozen, answer),
-        "iter_after" => {
-            let own = if frozen.contains(list) { 1 } else { 0 };
-            lines_from(frozen.rank(list).saturating_add(own), frozen, answer)
-        }
+        "iter_from" => listed_lines(answer, frozen.from(list)),
+        "iter_after" => listed_lines(answer, frozen.after(list)),
         "between" => match answer.next_query()? {
             Some(end) => {
                 let end = list_of(&end, &*answer)?;
@@ -148,7 +149,7 @@ fn answer_part(
             }
             None => answer.refuse(NO_KEY),
         },
-        _ => prefix_lines(frozen, list, answer),
+        _ => pair_lines(answer, frozen.common_prefixes(list).rev()),
     }
 }
 
@@ -160,36 +161,7 @@ fn first_of(pairs: &[(Key, u64)], most: usize) -> &[(Key, u64)] {
     }
 }
 
-/// The pairs from a place on, or that there is none.
-fn lines_from(place: usize, frozen: &FrozenTable, answer: &mut Answer<'_>) -> Result<(), Memory> {
-    match frozen.pairs().get(place..) {
-        Some(rest) => listed_lines(answer, rest),
-        None => answer.line(NONE),
-    }
-}
-
-/// The pairs at prefixes of a list, the shortest first, or that there is none. The walk begins with
-/// the longest one, so they are collected. Where memory for that is refused, they are once more.
-fn prefix_lines(
-    frozen: &FrozenTable,
-    list: &Nibblet,
-    answer: &mut Answer<'_>,
-) -> Result<(), Memory> {
-    let alloc = answer.alloc();
-    let mut pairs: Vec<(&Key, &u64)> = match frozen.common_prefixes(list).collect(alloc) {
-        Ok(pairs) => pairs,
-        Err(_) => frozen.common_prefixes(list).collect(alloc)?,
-    };
-    let is_none = pairs.is_empty();
-    for _ in 0..pairs.len() {
-        if let Some((key, value)) = pairs.pop() {
-            answer.pair_line(key, *value)?;
-        }
-    }
-    none_line(answer, is_none)
-}
-
-/// Writes a value. False: the call writes none.
+/// Writes values. False: the call writes none.
 fn answer_write(frozen: &mut FrozenTable, answer: &mut Answer<'_>) -> Result<bool, Memory> {
     match answer.name() {
         "get_mut" => match answer.next_query()? {
@@ -204,7 +176,54 @@ fn answer_write(frozen: &mut FrozenTable, answer: &mut Answer<'_>) -> Result<boo
             Some(list) => written_or_none(answer, frozen.at_mut(&list))?,
             None => answer.refuse(NO_LIST)?,
         },
+        "for_each_value_mut" => match answer.next_number() {
+            Some(added) => {
+                frozen.for_each_mut(|_: &Key, value: &mut u64| *value = value.wrapping_add(added));
+                answer.line("ok")?
+            }
+            None => answer.refuse(NO_NUMBER)?,
+        },
+        "for_each_mut" => match key_and_number(answer)? {
+            Some((other, added)) => {
+                frozen.for_each_mut(|key: &Key, value: &mut u64| {
+                    add_unless(key, value, &other, added)
+                });
+                answer.line("ok")?
+            }
+            None => {}
+        },
         _ => return Ok(false),
     }
     Ok(true)
+}
+
+/// Appends a pair, or gives back the room that the pairs don't need. False: the call does neither.
+fn answer_appended(frozen: &mut FrozenTable, answer: &mut Answer<'_>) -> Result<bool, Memory> {
+    match answer.name() {
+        "push" => answer_push(frozen, answer)?,
+        "finish" => {
+            frozen.finish()?;
+            answer.line("ok")?
+        }
+        _ => return Ok(false),
+    }
+    Ok(true)
+}
+
+/// Appends the pair that the next words write.
+fn answer_push(frozen: &mut FrozenTable, answer: &mut Answer<'_>) -> Result<(), Memory> {
+    let word = answer.words().next().unwrap_or("");
+    let Some((key, value)) = key_and_number(answer)? else {
+        return Ok(());
+    };
+    let Err(error) = frozen.push(key, value) else {
+        return answer.line("ok");
+    };
+    note_pair(answer, Given { word, value }, &error.value.0, error.value.1)?;
+    match error.why {
+        PushWhy::Memory => Err(Memory),
+        _ if answer.is_other() => answer.refuse(OTHER),
+        PushWhy::Full => answer.refuse("full"),
+        PushWhy::Unsorted => answer.refuse("unsorted"),
+    }
 }

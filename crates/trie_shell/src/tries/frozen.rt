@@ -15,7 +15,7 @@ use shell_words::{Answer, Key, Words};
 use std::mem;
 
 /// What is answered where no frozen trie has the name.
-const NO_FROZEN: &'static str = "no frozen trie";
+pub(super) const NO_FROZEN: &'static str = "no frozen trie";
 
 impl Tries {
     /// A call that makes a frozen trie, makes one a trie again, or asks one. False: it is none.
@@ -46,7 +46,7 @@ impl Tries {
     }
 
     /// Where a frozen trie of this name may be put: a place with none is made where there is none.
-    fn made_frozen_place_of(&mut self, name: &str) -> Result<usize, Memory> {
+    pub(super) fn made_frozen_place_of(&mut self, name: &str) -> Result<usize, Memory> {
         if let Some(place) = self.frozen_place_of(name) {
             return Ok(place);
         }
@@ -62,7 +62,7 @@ impl Tries {
     }
 
     /// Puts a frozen trie where another one may stand.
-    fn put_frozen(
+    pub(super) fn put_frozen(
         &mut self,
         place: usize,
         frozen: FrozenTable,
@@ -139,13 +139,16 @@ impl Tries {
         if !read_call(answer)? {
             return Ok(());
         }
-        if let Some(place) = self.frozen_place_of(name)
-            && let Some(named) = self.frozen.get_mut(place)
-            && let Some(frozen) = &mut named.frozen
-        {
-            return answer_frozen(frozen, answer);
+        match self.frozen_of(name) {
+            Some(frozen) => answer_frozen(frozen, answer),
+            None => answer.refuse(NO_FROZEN),
         }
-        answer.refuse(NO_FROZEN)
+    }
+
+    /// The frozen trie of the name, if there is one.
+    pub(super) fn frozen_of(&mut self, name: &str) -> Option<&mut FrozenTable> {
+        let place = self.frozen_place_of(name)?;
+        self.frozen.get_mut(place)?.frozen.as_mut()
     }
 
     /// Adds the name and the pairs of each frozen trie.

@@ -1,42 +1,47 @@
-use Rattle.std.proofs.Common.{◌-◌, ◌≤◌, false, length, drop, get_or, refl, sym, ap, subst, ◌∙◌, arith}
+use Rattle.std.proofs.Common.{◌-◌, ◌/◌, ◌%◌, length, drop, get_or, nat_eq, sym, ap, subst, ◌∙◌, arith}
 use Rattle.std.proofs.lemmas.List.{length-take}
 use Rattle.radix_keys.specs.Packing.{IsPadded, unpacked}
 use Rattle.radix_keys.proofs.NibbleLemmas.Packing.{length-unpacked_bytes}
-use Rattle.frozen_trie.specs.Laid.{piece_of}
-use Rattle.frozen_trie.proofs.CodeLemmas.Reading.{as_many, stands}
+use Rattle.frozen_trie.specs.Laid.{piece_of, start_of, halves}
+use Rattle.frozen_trie.proofs.CodeLemmas.Reading.{half_at, stands_here}
 use Rattle.frozen_trie.proofs.codes.piece_in.Goals as goal
 
 pub part-requires-clause-order : goal.part-requires-clause-order
 part-requires-clause-order c =
-    let w = stands c.args.bytes.now 0 c.args.ends.now c.args.odd.now c.requires.laid c.args.at _ false c.requires.within refl in
-    subst (λ s. s ≤ get_or c.args.ends.now c.args.at 0) (sym c.start-from.ensures) w.order
+    let w = stands_here c.args.bytes.now c.args.ends.now c.requires.laid c.args.at c.requires.within in
+    omega (arith, w.order, c.start-from.ensures, half_at c.args.ends.now c.args.at)
 
 pub part-requires-clause-within : goal.part-requires-clause-within
-part-requires-clause-within c = (stands c.args.bytes.now 0 c.args.ends.now c.args.odd.now c.requires.laid c.args.at _ false c.requires.within refl).within
-
-pub bounds-odd-at : goal.bounds-odd-at
-bounds-odd-at c = omega (arith, c.requires.within, (as_many c.args.bytes.now 0 c.args.ends.now c.args.odd.now c.requires.laid).1)
+part-requires-clause-within c =
+    let w = stands_here c.args.bytes.now c.args.ends.now c.requires.laid c.args.at c.requires.within in
+    omega (arith, w.within, half_at c.args.ends.now c.args.at)
 
 pub new-requires : goal.new-requires
 new-requires c =
-    let w = stands c.args.bytes.now 0 c.args.ends.now c.args.odd.now c.requires.laid c.args.at _ false c.requires.within refl in
-    subst (λ p. IsPadded p (get_or c.args.odd.now c.args.at false)) (sym (c.part.ensures ∙ ap (λ s. piece_of c.args.bytes.now s (get_or c.args.ends.now c.args.at 0)) c.start-from.ensures)) w.padded
+    let w = stands_here c.args.bytes.now c.args.ends.now c.requires.laid c.args.at c.requires.within in
+    let place = c.part.ensures ∙ ap (λ s. piece_of c.args.bytes.now s (get_or c.args.ends.now c.args.at 0 / 2)) c.start-from.ensures
+    ∙ ap (piece_of c.args.bytes.now (start_of 0 (halves c.args.ends.now) c.args.at)) (half_at c.args.ends.now c.args.at) in
+    subst (λ p. IsPadded p (nat_eq (get_or c.args.ends.now c.args.at 0 % 2) 1)) (sym place) w.padded
 
 pub returns-clause-code : goal.returns-clause-code
 returns-clause-code c =
-    let w = stands c.args.bytes.now 0 c.args.ends.now c.args.odd.now c.requires.laid c.args.at _ false c.requires.within refl in
-    c.new.ensures ∙ ap (λ p. unpacked p (get_or c.args.odd.now c.args.at false)) (c.part.ensures ∙ ap (λ s. piece_of c.args.bytes.now s (get_or c.args.ends.now c.args.at 0)) c.start-from.ensures) ∙ w.code
+    let w = stands_here c.args.bytes.now c.args.ends.now c.requires.laid c.args.at c.requires.within in
+    let place = c.part.ensures ∙ ap (λ s. piece_of c.args.bytes.now s (get_or c.args.ends.now c.args.at 0 / 2)) c.start-from.ensures
+    ∙ ap (piece_of c.args.bytes.now (start_of 0 (halves c.args.ends.now) c.args.at)) (half_at c.args.ends.now c.args.at) in
+    c.new.ensures ∙ ap (λ p. unpacked p (nat_eq (get_or c.args.ends.now c.args.at 0 % 2) 1)) place ∙ w.code
 
 pub returns-clause-few : goal.returns-clause-few
 returns-clause-few c =
-    let odd = get_or c.args.odd.now c.args.at false in
-    let w = stands c.args.bytes.now 0 c.args.ends.now c.args.odd.now c.requires.laid c.args.at _ false c.requires.within refl in
-    let piece = piece_of c.args.bytes.now c.start-from.result (get_or c.args.ends.now c.args.at 0) in
-    let padded = subst (λ p. IsPadded p odd) (sym (ap (λ s. piece_of c.args.bytes.now s (get_or c.args.ends.now c.args.at 0)) c.start-from.ensures)) w.padded in
+    let odd = nat_eq (get_or c.args.ends.now c.args.at 0 % 2) 1 in
+    let half = get_or c.args.ends.now c.args.at 0 / 2 in
+    let w = stands_here c.args.bytes.now c.args.ends.now c.requires.laid c.args.at c.requires.within in
+    let piece = piece_of c.args.bytes.now c.start-from.result half in
+    let place = ap (λ s. piece_of c.args.bytes.now s half) c.start-from.ensures ∙ ap (piece_of c.args.bytes.now (start_of 0 (halves c.args.ends.now) c.args.at)) (half_at c.args.ends.now c.args.at) in
+    let padded = subst (λ p. IsPadded p odd) (sym place) w.padded in
     omega (
       arith,
       ap length (c.new.ensures ∙ ap (λ p. unpacked p odd) c.part.ensures),
       length-unpacked_bytes piece odd padded,
-      length-take (get_or c.args.ends.now c.args.at 0 - c.start-from.result) (drop c.start-from.result c.args.bytes.now),
+      length-take (half - c.start-from.result) (drop c.start-from.result c.args.bytes.now),
       c.type_inv.ends c.args.at,
     )

@@ -35,10 +35,10 @@ push_linked-requires-clause-rising g c =
     let enc = g.K.TrieKey.encoding in
     let cs = c.loop-key.codes in
     let rest = c.next.new.self in
-    let whole = append_assoc cs (c.of-packed.result ∷ []) (codes_of enc rest)
-    ∙ ap (λ x. cs ++ x ∷ codes_of enc rest) (c.of-packed.ensures ∙ c.in-Ok-encode.ensures.ok)
+    let whole = append_assoc cs (c.of.result ∷ []) (codes_of enc rest)
+    ∙ ap (λ x. cs ++ x ∷ codes_of enc rest) (c.of.ensures ∙ c.in-Ok-encode.ensures.ok)
     ∙ ap (λ ps. cs ++ codes_of enc ps) (sym c.in-Some.ensures.steps) ∙ c.loop-key.invariant.keyed in
-    rising_front (cs ++ c.of-packed.result ∷ []) (codes_of enc rest) (subst IsRising (sym whole) (c.keys_stand_at_their_encodings.ensures.rising []))
+    rising_front (cs ++ c.of.result ∷ []) (codes_of enc rest) (subst IsRising (sym whole) (c.keys_stand_at_their_encodings.ensures.rising []))
 
 pub loop-key-preserved : goal.loop-key-preserved
 loop-key-preserved g c =
@@ -49,14 +49,14 @@ loop-key-preserved g c =
       can = tt;
       ends = tt;
       keyed = ap (λ xs. xs ++ codes_of enc rest) c.in-Ok-push_linked.ensures.ok
-          ∙ append_assoc cs (c.of-packed.result ∷ []) (codes_of enc rest)
-          ∙ ap (λ x. cs ++ x ∷ codes_of enc rest) (c.of-packed.ensures ∙ c.in-Ok-encode.ensures.ok)
+          ∙ append_assoc cs (c.of.result ∷ []) (codes_of enc rest)
+          ∙ ap (λ x. cs ++ x ∷ codes_of enc rest) (c.of.ensures ∙ c.in-Ok-encode.ensures.ok)
           ∙ ap (λ ps. cs ++ codes_of enc ps) (sym c.in-Some.ensures.steps) ∙ c.loop-key.invariant.keyed;
       linked = c.in-Ok-push_linked.ensures.linked;
     }
 
-pub returns-clause-ok : goal.returns-clause-ok
-returns-clause-ok g c = record {
-  keyed = c.in-Ok-finished.ensures ∙ sym (append-nil c.loop-key.codes) ∙ ap (λ ps. c.loop-key.codes ++ codes_of g.K.TrieKey.encoding ps) (sym c.in-None.ensures.steps.0) ∙ c.loop-key.invariant.keyed;
-  linked = subst (λ cs. IsLinked cs c.loop-key.up.items) (sym c.in-Ok-finished.ensures) c.loop-key.invariant.linked;
+pub returns-in-Ok-finish-clause-ok : goal.returns-in-Ok-finish-clause-ok
+returns-in-Ok-finish-clause-ok g c = record {
+  keyed = c.in-Ok-finish.ensures ∙ sym (append-nil c.loop-key.codes) ∙ ap (λ ps. c.loop-key.codes ++ codes_of g.K.TrieKey.encoding ps) (sym c.in-None.ensures.steps.0) ∙ c.loop-key.invariant.keyed;
+  linked = subst (λ cs. IsLinked cs c.loop-key.up.items) (sym c.in-Ok-finish.ensures) c.loop-key.invariant.linked;
 }

@@ -13,6 +13,7 @@ invariant-loop-lo l = record {
   low_none : l.lo ≡ 0 → l.low ≡ 0;
   high_same : l.hi < length l.codes → take l.high (code_at l.codes l.hi) ≡ take l.high l.list;
   high_none : length l.codes ≤ l.hi → l.high ≡ 0;
+  apart : l.is_through ≡ false → l.hi < length l.codes → code_at l.codes l.hi ≡ l.list → ⊥;
 }
 
 abbrev pub decreases-loop-lo : goal.decreases-loop-lo

@@ -1,41 +1,46 @@
-use Rattle.std.proofs.Common.{◌≡◌, ◌++◌, [], ◌∷◌, length, sym, ap, subst, ◌∙◌}
+use Rattle.std.proofs.Common.{◌≡◌, ◌++◌, ◌+◌, ◌*◌, [], ◌∷◌, length, sym, ap, subst, ◌∙◌, arith}
+use Rattle.std.proofs.lemmas.List.{length-append}
 use Rattle.radix_keys.specs.Packing.{unpacked}
 use Rattle.frozen_trie.specs.Heads.{IsHeaded}
-use Rattle.frozen_trie.specs.Laid.{codes_in}
-use Rattle.frozen_trie.proofs.CodeLemmas.Growing.{laid_more, codes_more, laid_alike, codes_alike}
+use Rattle.frozen_trie.specs.Laid.{codes_in, halves, odds}
+use Rattle.frozen_trie.proofs.CodeLemmas.Growing.{codes_grown, end_number, laid_grown}
 use Rattle.frozen_trie.proofs.CodeLemmas.Heads.{headed_more}
-use Rattle.frozen_trie.proofs.CodeLemmas.Tops.{no_tops}
+use Rattle.frozen_trie.proofs.CodeLemmas.Tops.{no_steps, no_tops}
 use Rattle.frozen_trie.proofs.codes.Codes.push.Goals as goal
 
-pub invariant_of-result : goal.invariant_of-result
-invariant_of-result c =
-    let old = c.self.inside.bytes.items in
+pub invariant_of-self-2 : goal.invariant_of-self-2
+invariant_of-self-2 c =
+    let bytes = c.self.inside.bytes.items in
+    let ends = c.self.inside.ends.items in
     let more = c.parts-is_odd.result.0.now in
     let is_odd = c.parts-is_odd.result.1 in
-    let whole = c.in_ok-extend_from_slice.ensures.items in
-    let end : c.in-Ok.end ≡ length (old ++ more) = c.in-Ok.ensures.1 ∙ ap length (c.as_slice.ensures.value ∙ whole) in
-    let ends = c.in_ok-push.ensures.items ∙ ap (λ n. c.self.inside.ends.items ++ n ∷ []) end in
     let list = c.args.list.now in
-    let cs = codes_in old 0 c.self.inside.ends.items c.self.inside.odd.items in
-    let all = codes_alike _ _ _ _ _ _ whole ends c.in_ok-push-2.ensures.items
-    ∙ codes_more old more is_odd 0 c.self.inside.ends.items c.self.inside.odd.items c.self.invariant.laid
-    ∙ ap (λ x. cs ++ x ∷ []) c.parts-is_odd.ensures.nibbles in
+    let laid = c.self.invariant.laid in
+    let cs = codes_in bytes 0 (halves ends) (odds ends) in
+    let whole = c.in_ok-extend_from_slice.ensures.items in
+    let number : 2 * (c.len.result + length more) + c.from.result ≡ end_number (bytes ++ more) is_odd =
+    omega (arith, c.len.ensures, c.self.inside.bytes.ok.0, length-append bytes more, c.from.ensures) in
+    let news = c.push_reserved.ensures.items ∙ ap (λ es. es ++ (2 * (c.len.result + length more) + c.from.result) ∷ []) c.in_ok-reserve.ensures.items ∙ ap (λ n. ends ++ n ∷ []) number in
+    let all = codes_grown bytes more ends is_odd laid _ _ whole news ∙ ap (λ x. cs ++ x ∷ []) c.parts-is_odd.ensures.nibbles in
     record {
-      laid = laid_alike _ _ _ _ _ _ whole ends c.in_ok-push-2.ensures.items
-          (laid_more old more is_odd 0 c.self.inside.ends.items c.self.inside.odd.items c.parts-is_odd.ensures.padded c.self.invariant.laid);
-      headed = subst (λ ds. IsHeaded ds c.push-3.new.self.items) (sym all) (subst (IsHeaded (cs ++ list ∷ [])) (sym c.in_ok-push-3.ensures.items)
+      laid = laid_grown bytes more ends is_odd laid _ _ whole news c.parts-is_odd.ensures.padded;
+      headed = subst (λ ds. IsHeaded ds c.push_reserved-2.new.self.items) (sym all)
+          (subst (IsHeaded (cs ++ list ∷ [])) (sym (c.push_reserved-2.ensures.items ∙ ap (λ hs. hs ++ c.head_of.result ∷ []) c.in_ok-reserve-2.ensures.items))
           (headed_more cs c.self.inside.heads.items c.self.invariant.headed list c.head_of.result c.head_of.ensures.head c.head_of.ensures.nibbles));
-      topped = no_tops _ _ c.clear.ensures.items;
+      stepped = no_steps _ _ c.clear.ensures.items;
+      topped = no_tops _ _ c.clear-2.ensures.items;
     }
 
-pub returns : goal.returns
-returns c =
-    let old = c.self.inside.bytes.items in
+pub returns-clause-ok : goal.returns-clause-ok
+returns-clause-ok c =
+    let bytes = c.self.inside.bytes.items in
+    let ends = c.self.inside.ends.items in
     let more = c.parts-is_odd.result.0.now in
     let is_odd = c.parts-is_odd.result.1 in
     let whole = c.in_ok-extend_from_slice.ensures.items in
-    let end : c.in-Ok.end ≡ length (old ++ more) = c.in-Ok.ensures.1 ∙ ap length (c.as_slice.ensures.value ∙ whole) in
-    codes_alike _ _ _ _ _ _ whole (c.in_ok-push.ensures.items ∙ ap (λ n. c.self.inside.ends.items ++ n ∷ []) end) c.in_ok-push-2.ensures.items
-    ∙ codes_more old more is_odd 0 c.self.inside.ends.items c.self.inside.odd.items c.self.invariant.laid
+    let number : 2 * (c.len.result + length more) + c.from.result ≡ end_number (bytes ++ more) is_odd =
+    omega (arith, c.len.ensures, c.self.inside.bytes.ok.0, length-append bytes more, c.from.ensures) in
+    let news = c.push_reserved.ensures.items ∙ ap (λ es. es ++ (2 * (c.len.result + length more) + c.from.result) ∷ []) c.in_ok-reserve.ensures.items ∙ ap (λ n. ends ++ n ∷ []) number in
+    codes_grown bytes more ends is_odd c.self.invariant.laid _ _ whole news
     ∙ ap (λ l. l ++ unpacked more is_odd ∷ []) c.self.view_is
-    ∙ ap (λ x. c.args.self ++ x ∷ []) c.parts-is_odd.ensures.nibbles
+    ∙ ap (λ x. c.args.self.now ++ x ∷ []) c.parts-is_odd.ensures.nibbles

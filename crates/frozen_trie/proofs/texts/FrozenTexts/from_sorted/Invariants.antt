@@ -1,12 +1,12 @@
-use Rattle.std.proofs.Common.{◌≡◌, length}
+use Rattle.std.proofs.Common.{◌≡◌, ◌+◌, ◌≤◌, ◌++◌, length}
+use Rattle.std.specs.Vec.{vec_len, vec_capacity}
 use Rattle.std.specs.Vec.Iter.{into_iter_items, into_iter_len}
-use Rattle.nibble_map.specs.Nibbles.{nibbles}
-use Rattle.frozen_trie.specs.Texts.{byte_pairs}
-use Rattle.frozen_trie.proofs.TextLemmas.Appended.{IsAppended}
+use Rattle.frozen_trie.proofs.TextLemmas.Growth.{values_of}
 use Rattle.frozen_trie.proofs.texts.FrozenTexts.from_sorted.Given as goal
 
-abbrev pub invariant-loop-key : goal.invariant-loop-key
-invariant-loop-key g l = record {
-  appended : IsAppended nibbles (byte_pairs l.fn.pairs.items) (byte_pairs (into_iter_items l.key-iterator)) l.texts;
-  many : into_iter_len l.key-iterator ≡ length (into_iter_items l.key-iterator);
+abbrev pub invariant-loop-value : goal.invariant-loop-value
+invariant-loop-value g l = record {
+  moved : l.values.items ++ values_of (into_iter_items l.value-iterator) ≡ values_of l.fn.pairs.items;
+  many : into_iter_len l.value-iterator ≡ length (into_iter_items l.value-iterator);
+  room : vec_len l.values + length (into_iter_items l.value-iterator) ≤ vec_capacity l.values;
 }

@@ -1,0 +1,30 @@
+use Rattle.std.proofs.Common.{◌-◌, ◌<◌, length, arith, subst, ap, ◌∙◌, get_or}
+use Rattle.frozen_routes.specs.Routes.{IsLastHolder, AreRowsInOrder, row_of_refs, base_numbers, bit_counts}
+use Rattle.frozen_routes.proofs.RouteLemmas.Rows.{is_stored, last_is_longest, none_holds}
+use Rattle.frozen_routes.proofs.frozen.FrozenRoutes.look.Goals as goal
+
+pub returns-then-found-eq0 : goal.returns-then-found-eq0
+returns-then-found-eq0 g c =
+    let w = g.A.Address.BITS in
+    let number = g.A.Address.number in
+    let a = number c.args.address in
+    let found = c.last_holder-found.result in
+    let last = subst (λ rs. IsLastHolder w (base_numbers number rs) (bit_counts rs) (length rs) a found) (c.deref.ensures.value ∙ c.self.view_is) c.last_holder-found.ensures in
+    record { row = none_holds w number c.args.self.now (subst (AreRowsInOrder w number) c.self.view_is c.self.invariant.rising) a found c.if-found-eq0.true last }
+
+pub returns : goal.returns
+returns g c =
+    let w = g.A.Address.BITS in
+    let number = g.A.Address.number in
+    let a = number c.args.address in
+    let found = c.last_holder-found.result in
+    let same = c.deref.ensures.value ∙ c.self.view_is in
+    let last = subst (λ rs. IsLastHolder w (base_numbers number rs) (bit_counts rs) (length rs) a found) same c.last_holder-found.ensures in
+    let some : 0 < found = omega (arith, c.if-found-eq0.false) in
+    let row = row_of_refs c.entry_at.result in
+    let is = c.entry_at.ensures ∙ ap (λ rs. get_or rs (found - 1) row) (c.deref-4.ensures.value ∙ c.self.view_is) in
+    let within : found - 1 < length c.args.self.now = omega (arith, some, last.within) in
+    record {
+      row = last_is_longest w number c.args.self.now (subst (AreRowsInOrder w number) c.self.view_is c.self.invariant.rising) a found row some last
+          (is_stored c.args.self.now (found - 1) row within is);
+    }

@@ -1,0 +1,48 @@
+//! The rows of a table by their numbers.
+ghost use Rattle.std.specs.Prelude.{◌≡◌, ◌↔◌, ◌-◌, ◌/◌, ◌^◌, ◌<◌, ◌≤◌, IsTrue, length, slice_index, slice_index_or};
+ghost use Rattle.radix_keys.specs.Networks.{AgreeIn};
+ghost use Rattle.frozen_routes.specs.Routes.{row_of_refs, base_numbers, bit_counts};
+
+use radix_keys::{Address, Network};
+
+/// The row at an index, by its parts.
+pub(crate) fn entry_at<K, V>(rows: &[(K, V)], at: usize) -> (&K, &V)
+    requires { at < length rows.now }
+    ensures { row_of_refs result ≡ slice_index_or rows.now at (row_of_refs result) }
+{
+    let row = &rows[at];
+    (&row.0, &row.1)
+}
+
+/// The number of the first address of the network at an index.
+pub(crate) fn first_at<A: Address, V>(rows: &[(Network<A>, V)], at: usize) -> u128
+    requires { at < length rows.now }
+    ensures { result ≡ slice_index (base_numbers A.number rows.now) at }
+{
+    rows[at].0.base().to_number()
+}
+
+/// How many bits the addresses of the network at an index share.
+pub(crate) fn bits_at<A: Address, V>(rows: &[(Network<A>, V)], at: usize) -> u8
+    requires { at < length rows.now }
+    ensures { result ≡ slice_index (bit_counts rows.now) at }
+{
+    rows[at].0.bits()
+}
+
+/// Whether the network at an index holds an address.
+pub(crate) fn holds_at<A: Address, V>(rows: &[(Network<A>, V)], at: usize, address: A) -> bool
+    requires { at < length rows.now }
+    ensures { IsTrue result ↔ AgreeIn A.BITS (slice_index (bit_counts rows.now) at)
+        (slice_index (base_numbers A.number rows.now) at) (A.number address) }
+{
+    rows[at].0.holds(address)
+}
+
+/// The number without its last bits.
+pub(crate) fn without_last(number: u128, bits: u8) -> u128
+    requires { bits ≤ 128 }
+    ensures { result ≡ number / 2 ^ bits }
+{
+    if bits == 128 { 0 } else { number >> bits }
+}

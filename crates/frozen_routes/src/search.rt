@@ -1,0 +1,118 @@
+//! Searches among networks in order.
+ghost use Rattle.std.specs.Prelude.{◌≡◌, ◌↔◌, ◌-◌, ◌/◌, ◌^◌, ◌<◌, ◌≤◌, ℕ, IsTrue, length, slice_index};
+ghost use Rattle.frozen_routes.specs.Routes.{AreInFront, AreUplinks, AreRising, AreFirstTops, AreUpTo, IsInFront, IsLastHolder, AreRowsInOrder, base_numbers, bit_counts};
+
+use crate::rows::{bits_at, first_at, holds_at, without_last};
+use crate::tops::top_span;
+use radix_keys::{Address, Network};
+
+/// How many of the networks begin at or before an address, by its number.
+pub(crate) fn count_to<A: Address, V>(rows: &[(Network<A>, V)], tops: &[u32], number: u128) -> usize
+    requires rising { AreRowsInOrder A.BITS A.number rows.now }
+    requires tops { AreFirstTops A.BITS (base_numbers A.number rows.now) tops.now }
+    ensures { AreUpTo (base_numbers A.number rows.now) number result }
+{
+    let (mut lo, mut hi) = top_span(rows, tops, number);
+    while lo < hi {
+        let mid = lo + (hi - lo) / 2;
+        if first_at(rows, mid) <= number {
+            lo = mid + 1;
+        } else {
+            hi = mid;
+        }
+    }
+    lo
+}
+
+/// The last of the first `from` networks that holds an address, by its index and one more, or 0 where there is none.
+///
+/// It goes from each to the link of it, so at most as often as networks hold the first address of the one before `from`.
+pub(crate) fn climb<A: Address, V>(
+    rows: &[(Network<A>, V)],
+    up: &[u32],
+    from: usize,
+    address: A,
+) -> usize
+    requires within { from ≤ length rows.now }
+    requires linked { from ≤ length up.now }
+    requires rising { AreRowsInOrder A.BITS A.number rows.now }
+    requires links { AreUplinks A.BITS (base_numbers A.number rows.now) (bit_counts rows.now)
+        up.now }
+    requires before { (k : ℕ) → k < from
+        → slice_index (base_numbers A.number rows.now) k ≤ A.number address }
+    ensures { IsLastHolder A.BITS (base_numbers A.number rows.now) (bit_counts rows.now) from
+        (A.number address) result }
+{
+    let mut at = from;
+    while at > 0 {
+        if holds_at(rows, at - 1, address) {
+            return at;
+        }
+        at = up[at - 1] as usize;
+    }
+    0
+}
+
+/// The last of the networks that holds an address, by its index and one more, or 0 where there is none.
+pub(crate) fn last_holder<A: Address, V>(
+    rows: &[(Network<A>, V)],
+    up: &[u32],
+    tops: &[u32],
+    address: A,
+) -> usize
+    requires linked { length up.now ≡ length rows.now }
+    requires rising { AreRowsInOrder A.BITS A.number rows.now }
+    requires links { AreUplinks A.BITS (base_numbers A.number rows.now) (bit_counts rows.now)
+        up.now }
+    requires tops { AreFirstTops A.BITS (base_numbers A.number rows.now) tops.now }
+    ensures { IsLastHolder A.BITS (base_numbers A.number rows.now) (bit_counts rows.now)
+        (length rows.now) (A.number address) result }
+{
+    let from = count_to(rows, tops, address.to_number());
+    climb(rows, up, from, address)
+}
+
+/// Whether the network at an index comes in front of those within the network of `bits` bits whose addresses have `quotient`
+/// for these, or of those behind it where the search is one through it.
+fn is_in_front<A: Address, V>(
+    rows: &[(Network<A>, V)],
+    at: usize,
+    bits: u8,
+    quotient: u128,
+    is_through: bool,
+) -> bool
+    requires within { at < length rows.now }
+    ensures { IsTrue result ↔ IsInFront A.BITS is_through bits quotient
+        (slice_index (base_numbers A.number rows.now) at) (slice_index (bit_counts rows.now) at) }
+{
+    let own = without_last(first_at(rows, at), A::BITS.saturating_sub(bits));
+    if own != quotient {
+        return own < quotient;
+    }
+    is_through || bits_at(rows, at) < bits
+}
+
+/// How many of the networks come in front of those within a network, or also those within where the search is one through it.
+pub(crate) fn cut<A: Address, V>(
+    rows: &[(Network<A>, V)],
+    network: &Network<A>,
+    is_through: bool,
+) -> usize
+    requires rising { AreRowsInOrder A.BITS A.number rows.now }
+    ensures { AreInFront A.BITS is_through network.now.bits
+        (A.number network.now.base / 2 ^ (A.BITS - network.now.bits))
+        (base_numbers A.number rows.now) (bit_counts rows.now) result }
+{
+    let bits = network.bits();
+    let quotient = without_last(network.base().to_number(), A::BITS.saturating_sub(bits));
+    let (mut lo, mut hi) = (0usize, rows.len());
+    while lo < hi {
+        let mid = lo + (hi - lo) / 2;
+        if is_in_front(rows, mid, bits, quotient, is_through) {
+            lo = mid + 1;
+        } else {
+            hi = mid;
+        }
+    }
+    lo
+}

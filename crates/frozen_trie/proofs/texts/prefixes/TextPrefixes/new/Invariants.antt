@@ -1,0 +1,13 @@
+use Rattle.std.proofs.Common.{◌≡◌, ◌+◌, ◌≤◌, length}
+use Rattle.nibble_map.specs.Nibbles.{nibbles}
+use Rattle.frozen_trie.specs.Frozen.{prefixes_up}
+use Rattle.frozen_trie.proofs.texts.prefixes.TextPrefixes.new.Given as goal
+
+abbrev pub invariant-loop-at : goal.invariant-loop-at
+invariant-loop-at g l = record {
+  within : l.left + l.at ≤ l.next;
+  counted : l.left + length (prefixes_up nibbles l.texts l.at) ≡ length (prefixes_up nibbles l.texts l.next);
+}
+
+abbrev pub decreases-loop-at : goal.decreases-loop-at
+decreases-loop-at g l = l.at

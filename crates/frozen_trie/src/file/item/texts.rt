@@ -1,0 +1,51 @@
+//! Texts and bytes in a file, as they are.
+ghost use Rattle.std.specs.Prelude.{◌≡◌, List, ℕ, string_bytes};
+
+use crate::file::item::{FileItem, ItemError, append};
+use radix_keys::Memory;
+use std::alloc::Global;
+
+impl FileItem for String {
+    ghost file_bytes = { string_bytes };
+
+    ghost is_item = { λ _. Unit {0} };
+
+    ghost is_same = { λ a b. string_bytes a ≡ string_bytes b };
+
+    ghost told = { λ _ _ _ _ e. e };
+
+    fn append_to(&self, out: &mut Vec<u8>) -> Result<(), Memory> {
+        append(self.as_bytes(), out)
+    }
+
+    fn of_file(bytes: &[u8], alloc: Global) -> Result<String, ItemError> {
+        let Ok(text) = str::from_utf8(bytes) else {
+            return Err(ItemError::Malformed);
+        };
+        match String::from_str(alloc, text) {
+            Ok(text) => Ok(text),
+            Err(_) => Err(ItemError::Memory),
+        }
+    }
+}
+
+impl FileItem for Vec<u8> {
+    ghost file_bytes = { λ v. v.items };
+
+    ghost is_item = { λ _. Unit {0} };
+
+    ghost is_same = { λ a b. a.items ≡ b.items };
+
+    ghost told = { λ _ _ _ _ e. e };
+
+    fn append_to(&self, out: &mut Vec<u8>) -> Result<(), Memory> {
+        append(self, out)
+    }
+
+    fn of_file(bytes: &[u8], alloc: Global) -> Result<Vec<u8>, ItemError> {
+        match Vec::from_slice(alloc, bytes) {
+            Ok(items) => Ok(items),
+            Err(_) => Err(ItemError::Memory),
+        }
+    }
+}

@@ -1,0 +1,77 @@
+//! A frozen trie, made pair by pair in the order of the encodings.
+ghost use Rattle.std.specs.Prelude.{◌≡◌, ◌-◌, ◌≤◌, ◌^◌, ◌++◌, [], ◌∷◌, IfErr, OnOk};
+ghost use Rattle.std.specs.FinMap as map;
+ghost use Rattle.radix_trie.specs.Views.{pairs_below};
+ghost use Rattle.frozen_trie.specs.Texts.{IsBehindAll};
+
+use crate::codes::Codes;
+use crate::frozen::FrozenTrie;
+use crate::linked::{PushError, PushWhy, push_last};
+use crate::packed::Packed;
+use radix_keys::{Memory, TrieKey};
+use std::alloc::Global;
+
+impl<K: TrieKey, V> FrozenTrie<K, V> {
+    /// The frozen trie of no pair. It allocates nothing.
+    pub fn new(alloc: Global) -> FrozenTrie<K, V>
+        ensures { result ≡ map.empty }
+    {
+        FrozenTrie {
+            codes: Codes::new(alloc),
+            pairs: Vec::new(alloc),
+            up: Vec::new(alloc),
+            alloc,
+        }
+    }
+
+    /// Takes no more room than the pairs need, and makes a table that shortens searches where there are 2^16 pairs or more. A
+    /// pair that is appended later drops the table.
+    ///
+    /// # Errors
+    ///
+    /// Memory for the table, of some 2^18 bytes, is refused. Each call answers the same without it.
+    pub fn finish(&mut self) -> Result<(), Memory>
+        ensures same { self.new ≡ self.old }
+    {
+        self.pairs.shrink_to_fit();
+        self.up.shrink_to_fit();
+        self.codes.finish(self.alloc)
+    }
+
+    /// Appends a pair whose encoding comes after all others, in constant time but for the climb to the longest stored prefix.
+    ///
+    /// # Errors
+    ///
+    /// The encoding doesn't come after all others. The map holds 2^32 - 1 pairs. Memory is refused; the encodings together
+    /// take less than 2^31 bytes. The pair comes back, and the map is as before.
+    pub fn push(&mut self, key: K, value: V) -> Result<(), PushError<(K, V)>>
+        ensures stored { OnOk result
+            (self.new ≡ map.insert self.old (K.encoding key) (key, value)) }
+        ensures pairs { OnOk result
+            (pairs_below self.new [] ≡ pairs_below self.old [] ++ (key, value) ∷ []) }
+        ensures behind { OnOk result (IsBehindAll self.old (K.encoding key)) }
+        ensures unsorted { IfErr result (λ e. e.why ≡ PushWhy.Unsorted
+            → IsBehindAll self.old (K.encoding key) → ⊥) }
+        ensures full { IfErr result (λ e. e.why ≡ PushWhy.Full
+            → 2 ^ 32 - 1 ≤ map.len self.old) }
+        ensures handed_back { IfErr result (λ e. e.value ≡ (key, value)) }
+        ensures unchanged { IfErr result (λ _. self.new ≡ self.old) }
+    {
+        let value = (key, value);
+        let Ok(list) = value.0.encode(self.alloc) else {
+            let why = PushWhy::Memory;
+            return Err(PushError { why, value });
+        };
+        if self.pairs.reserve(1).is_err() {
+            let why = PushWhy::Memory;
+            return Err(PushError { why, value });
+        }
+        match push_last(&mut self.codes, &mut self.up, &Packed::of(&list)) {
+            Ok(()) => {
+                self.pairs.push_reserved(value);
+                Ok(())
+            }
+            Err(why) => Err(PushError { why, value }),
+        }
+    }
+}

@@ -1,0 +1,97 @@
+//! Lists in rising order and the link of each, appended one by one.
+ghost use Rattle.std.specs.Prelude.{◌≡◌, ◌↔◌, ◌-◌, ◌<◌, ◌≤◌, ◌^◌, ◌++◌, [], ◌∷◌, length, IsTrue, IfErr, OnOk};
+ghost use Rattle.nibble_map.specs.Lists.{IsRising};
+ghost use Rattle.frozen_trie.specs.Frozen.{IsLinked};
+
+use crate::codes::Codes;
+use crate::heads::head_of;
+use crate::packed::Packed;
+use crate::search::climb;
+use radix_keys::Memory;
+
+/// Why a pair isn't appended.
+#[derive(Clone, Copy, PartialEq, Eq, Debug)]
+pub enum PushWhy {
+    /// An allocation failed, or the keys' encodings would take 2^31 bytes or more.
+    Memory,
+    /// The map holds 2^32 - 1 pairs.
+    Full,
+    /// The key doesn't come after all others.
+    Unsorted,
+}
+
+/// A pair that isn't appended: why, and the very thing that was passed.
+#[derive(Drop)]
+pub struct PushError<V> {
+    pub why: PushWhy,
+    pub value: V,
+}
+
+/// Whether a list comes after all of some rising ones.
+fn follows(codes: &Codes, list: &Packed<'_>) -> bool
+    requires { IsRising codes.now }
+    ensures { IsTrue result ↔ IsRising (codes.now ++ list.now ∷ []) }
+{
+    let count = codes.len();
+    if count == 0 {
+        return true;
+    }
+    let (side, _) = codes.side(count - 1, list, head_of(list, false), false, 0);
+    side.is_lt()
+}
+
+/// Appends a list that comes after all others, and its link.
+///
+/// # Errors
+///
+/// Memory is refused, or the bytes of all lists would be 2^31 or more. The lists and links stay as they are then.
+pub(crate) fn push_linked(
+    codes: &mut Codes,
+    up: &mut Vec<u32>,
+    list: &Packed<'_>,
+) -> Result<(), Memory>
+    requires few { length codes.old < 2 ^ 32 }
+    requires linked { IsLinked codes.old up.old.items }
+    requires rising { IsRising (codes.old ++ list.now ∷ []) }
+    ensures ok { OnOk result (codes.new ≡ codes.old ++ list.now ∷ []) }
+    ensures linked { OnOk result (IsLinked codes.new up.new.items) }
+    ensures codes { IfErr result (λ _. codes.new ≡ codes.old) }
+    ensures links { IfErr result (λ _. up.new.items ≡ up.old.items) }
+{
+    let link = climb(codes, up, codes.len(), list) as u32;
+    up.reserve(1)?;
+    codes.push(list)?;
+    up.push_reserved(link);
+    Ok(())
+}
+
+/// Appends a list, and its link, where it comes after all others.
+///
+/// # Errors
+///
+/// Why it isn't appended. The lists and links stay as they are then.
+pub(crate) fn push_last(
+    codes: &mut Codes,
+    up: &mut Vec<u32>,
+    list: &Packed<'_>,
+) -> Result<(), PushWhy>
+    requires { IsLinked codes.old up.old.items }
+    ensures ok { OnOk result (codes.new ≡ codes.old ++ list.now ∷ []) }
+    ensures linked { OnOk result (IsLinked codes.new up.new.items) }
+    ensures codes { IfErr result (λ _. codes.new ≡ codes.old) }
+    ensures links { IfErr result (λ _. up.new.items ≡ up.old.items) }
+    ensures unsorted { IfErr result (λ why. why ≡ PushWhy.Unsorted
+        → IsRising (codes.old ++ list.now ∷ []) → ⊥) }
+    ensures full { IfErr result (λ why. why ≡ PushWhy.Full → 2 ^ 32 - 1 ≤ length codes.old) }
+{
+    if codes.len() >= u32::MAX as usize {
+        return Err(PushWhy::Full);
+    }
+    if !follows(codes, list) {
+        return Err(PushWhy::Unsorted);
+    }
+    match push_linked(codes, up, list) {
+        Ok(()) => Ok(()),
+        Err(_) => Err(PushWhy::Memory),
+    }
+}

@@ -1,0 +1,42 @@
+//! Frozen settings in JSON: an object whose names stand in order.
+
+use anyhow::{Result, bail};
+use frozen_trie::FrozenTrie;
+use serde_json::{from_str, to_string};
+use std::alloc::Global;
+
+/// Settings by their names.
+type Settings = FrozenTrie<String, u64>;
+
+/// The settings of a JSON object whose names rise in the order of their bytes.
+fn settings(alloc: Global, text: &str) -> Result<Settings> {
+    Ok(from_str(alloc, text)?)
+}
+
+#[test]
+fn settings_are_written_and_read(rt: HostRuntime) -> Result<()> {
+    let text = r#"{"disk":3,"disk.size":80,"net":1}"#;
+    let settings = settings(rt.alloc(), text)?;
+    assert!(rt; settings.get(&"disk.size")? == Some(&80));
+    assert!(rt; settings.get_ancestor_value(&"disk.name")? == Some(&3));
+    let written = to_string(rt.alloc(), &settings)?;
+    assert!(rt; written.as_str() == text);
+    Ok(())
+}
+
+#[test]
+fn no_settings_are_an_object(rt: HostRuntime) -> Result<()> {
+    let written = to_string(rt.alloc(), &settings(rt.alloc(), "{}")?)?;
+    assert!(rt; written.as_str() == "{}");
+    Ok(())
+}
+
+#[test]
+fn names_that_do_not_rise(rt: HostRuntime) -> Result<()> {
+    for text in [r#"{"net":1,"disk":3}"#, r#"{"net":1,"net":1}"#, r#"[1]"#] {
+        if settings(rt.alloc(), text).is_ok() {
+            bail!("it was taken");
+        }
+    }
+    Ok(())
+}

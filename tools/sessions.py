@@ -66,6 +66,8 @@ class Session:
             self.words = text.decode().split(" ")
         elif mark == b"%":
             name, _, held = text.partition(b" ")
+            if b"/" in name:
+                raise ValueError(f"{self.name}: a file stands in the folder itself")
             self.files[name.decode()] = held
 
     @functools.cached_property

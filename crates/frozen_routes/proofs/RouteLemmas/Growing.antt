@@ -97,12 +97,7 @@ module _ (w : ℕ) (fs bs : List ℕ) (f b : ℕ) (even : length bs ≡ length f
         ];
       }
 
-  -- where networks and one more rise it has a base, and comes after the last
-  pub last_base : AreRising w (fs ++ f ∷ []) (bs ++ b ∷ []) → IsBase w b f
-  last_base rising =
-      let n = length-append fs (f ∷ []) in
-      subst (λ m. IsBase w b m) first_added (subst (λ j. IsBase w j (get_or (fs ++ f ∷ []) (length fs) 0)) size_added (rising.bases (length fs) (omega (arith, n))))
-
+  -- where networks and one more rise it comes after the last
   pub last_earlier : AreRising w (fs ++ f ∷ []) (bs ++ b ∷ []) → 0 < length fs
       → IsEarlier (get_or fs (length fs - 1) 0) (get_or bs (length fs - 1) 0) f b
   last_earlier rising some =

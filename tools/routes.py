@@ -90,6 +90,12 @@ class Aggregate:
         return f"a list of {self.count} routes with the same answers"
 
 
+# The words that lines begin with, and how often each is drawn: where routes change often, and where they seldom do.
+WORDS = ("add", "del", "look", "find", "below", "len", "list", "aggregate", "compact", "#", "")
+MIXED = (80, 24, 40, 30, 12, 6, 2, 1, 2, 4, 2)
+SELDOM = (1, 1, 300, 200, 5, 2, 1, 0, 1, 1, 1)
+
+
 class Lines:
     """Random lines of a session, and their answers by a plain list."""
 
@@ -129,12 +135,9 @@ class Lines:
     def hop(self):
         return self.random.choice(("a", "via 192.0.2.1", "é ü", "x" * self.random.randrange(1, 60), "#", "10.0.0.0/8"))
 
-    def next(self):
+    def next(self, shares=MIXED):
         """A line, and the lines of its answer."""
-        word = self.random.choices(
-            ("add", "del", "look", "find", "below", "len", "list", "aggregate", "compact", "#", ""),
-            (80, 24, 40, 30, 12, 6, 2, 1, 2, 4, 2),
-        )[0]
+        word = self.random.choices(WORDS, shares)[0]
         if word in ("look", "find"):
             version = self.random.choice((4, 6))
             number = self.number(version)

@@ -5,3 +5,6 @@ pub mod Tops
 pub mod Growing
 pub mod Rows
 pub mod Parts
+pub mod Above
+pub mod Single
+pub mod Nearest

@@ -1,11 +1,10 @@
 //! A routing table for reading, made row by row in order.
-ghost use Rattle.std.specs.Prelude.{◌≡◌, ◌↔◌, ◌-◌, ◌^◌, ◌<◌, ◌≤◌, ◌++◌, [], ◌∷◌, IsTrue, IfErr, OnOk, length};
-ghost use Rattle.frozen_routes.specs.Routes.{AreRising, AreRowsInOrder, base_numbers, bit_counts};
+ghost use Rattle.std.specs.Prelude.{◌≡◌, ◌-◌, ◌^◌, ◌<◌, ◌≤◌, ◌++◌, [], ◌∷◌, IfErr, OnOk, length};
+ghost use Rattle.frozen_routes.specs.Routes.{AreRowsInOrder};
 
 use crate::frozen::FrozenRoutes;
-use crate::rows::{bits_at, first_at};
-use crate::search::climb;
-use crate::tops::tops_of;
+use crate::linked::link_after;
+use crate::tops::Tops;
 use radix_keys::{Address, Memory, Network};
 use std::alloc::Global;
 
@@ -27,29 +26,6 @@ pub struct PushError<A: Address, V> {
     pub row: (Network<A>, V),
 }
 
-/// Whether a network comes after all of some rising ones.
-fn follows<A: Address, V>(rows: &[(Network<A>, V)], network: &Network<A>) -> bool
-    requires { AreRowsInOrder A.BITS A.number rows.now }
-    ensures { IsTrue result ↔ AreRising A.BITS
-        (base_numbers A.number rows.now ++ A.number network.now.base ∷ [])
-        (bit_counts rows.now ++ network.now.bits ∷ []) }
-{
-    // Each network has its base, but it's a clause of `new` that says so.
-    if Network::new(network.base(), network.bits()).is_none() {
-        return false;
-    }
-    let count = rows.len();
-    if count == 0 {
-        return true;
-    }
-    let number = network.base().to_number();
-    let last = first_at(rows, count - 1);
-    if last != number {
-        return last < number;
-    }
-    bits_at(rows, count - 1) < network.bits()
-}
-
 impl<A: Address, V> FrozenRoutes<A, V> {
     /// The table of no row. It allocates nothing.
     pub fn new(alloc: Global) -> FrozenRoutes<A, V>
@@ -58,18 +34,18 @@ impl<A: Address, V> FrozenRoutes<A, V> {
         FrozenRoutes {
             rows: Vec::new(alloc),
             up: Vec::new(alloc),
-            tops: Vec::new(alloc),
+            tops: Tops::none(alloc),
             alloc,
         }
     }
 
-    /// Appends a row whose network comes after all others: by its first address, or, where another has the same, by more
-    /// bits. It takes constant time but for the climb to the network around it, and drops the table that `finish` made.
+    /// Appends a row whose network comes after all others: by its first address, or, where another has the same, by
+    /// more bits. It takes constant time but for the climb to the network around it, and drops the table of first bits.
     ///
     /// # Errors
     ///
-    /// The network doesn't come after all others. The table holds 2^32 - 1 rows. Memory is refused. The row comes back, and
-    /// the table is as before.
+    /// The network doesn't come after all others. The table holds 2^32 - 1 rows. Memory is refused. The row comes back,
+    /// and the table is as before.
     pub fn push(&mut self, network: Network<A>, value: V) -> Result<(), PushError<A, V>>
         ensures ok { OnOk result (self.new ≡ self.old ++ (network, value) ∷ []) }
         ensures rising { OnOk result (AreRowsInOrder A.BITS A.number self.new) }
@@ -85,35 +61,33 @@ impl<A: Address, V> FrozenRoutes<A, V> {
             let why = PushWhy::Full;
             return Err(PushError { why, row });
         }
-        if !follows(&self.rows, &row.0) {
+        let Some(link) = link_after(&self.rows, &self.up, &row.0) else {
             let why = PushWhy::Unsorted;
             return Err(PushError { why, row });
-        }
+        };
         if self.rows.reserve(1).is_err() || self.up.reserve(1).is_err() {
             let why = PushWhy::Memory;
             return Err(PushError { why, row });
         }
-        let link = climb(&self.rows, &self.up, self.rows.len(), row.0.base()) as u32;
         self.up.push_reserved(link);
         self.rows.push_reserved(row);
-        self.tops.clear();
+        self.tops.counts.clear();
         Ok(())
     }
 
-    /// Takes no more room than the rows need, and makes a table that shortens look-ups where there are 2^16 rows or more. A
-    /// row that is appended later drops the table.
+    /// Takes no more room than the rows need, and makes a table that shortens look-ups where there are 256 rows or
+    /// more, of at most 4 bytes a row and 4 more. A row that is appended later drops the table.
     ///
     /// # Errors
     ///
-    /// Memory for the table, of some 2^18 bytes, is refused. Each call answers the same without it.
+    /// Memory for the table is refused. Each call answers the same without it.
     pub fn finish(&mut self) -> Result<(), Memory>
         ensures same { self.new ≡ self.old }
     {
         self.rows.shrink_to_fit();
         self.up.shrink_to_fit();
-        if self.rows.len() >= 65536 {
-            self.tops = tops_of(self.alloc, &self.rows)?;
-        }
+        let (tops, room) = Tops::with_room::<A>(self.alloc, self.rows.len())?;
+        self.tops = tops.filled(&self.rows, room);
         Ok(())
     }
 }

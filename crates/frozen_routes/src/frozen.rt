@@ -1,10 +1,12 @@
 //! A routing table for reading alone: its networks in order.
-ghost use Rattle.std.specs.Prelude.{◌≡◌, ◌↔◌, ◌<◌, ◌≤◌, IsTrue, length, option_map};
+ghost use Rattle.std.specs.Prelude.{◌≡◌, ◌↔◌, ◌+◌, ◌<◌, ◌≤◌, ◌∷◌, IsTrue, length, option_copied, option_map, reverse};
 ghost use Rattle.std.specs.List.{filter};
-ghost use Rattle.frozen_routes.specs.Routes.{IsLongestRow, AreRowsInOrder, row_of_refs, is_inside};
+ghost use Rattle.frozen_routes.specs.Routes.{IsLongestRow, IsValueOf, AreRowsInOrder, row_of_refs, rows_up, is_holder, is_inside};
 
-use crate::rows::entry_at;
+use crate::above::NetworksAbove;
+use crate::rows::{entry_at, is_of};
 use crate::search::{cut, last_holder};
+use crate::tops::Tops;
 use radix_keys::{Address, Network};
 use std::alloc::Global;
 use std::marker::Model;
@@ -18,8 +20,8 @@ pub struct FrozenRoutes<A: Address, V> {
     pub(crate) rows: Vec<(Network<A>, V)>,
     /// For each row, the index and one more of the last earlier one whose network holds its first address, or 0.
     pub(crate) up: Vec<u32>,
-    /// How many rows come before each value of the first 16 bits; empty where there is no such table.
-    pub(crate) tops: Vec<u32>,
+    /// How many rows come before each value of an address's first bits.
+    pub(crate) tops: Tops,
     pub(crate) alloc: Global,
 }
 
@@ -35,7 +37,7 @@ impl<A: Address, V> Model for FrozenRoutes<A, V> {
     ghost view = { λ f. f.rows.items };
 
     ghost invariant = { λ f. AreLinked A.BITS (base_numbers A.number f.rows.items)
-        (bit_counts f.rows.items) f.up.items f.tops.items };
+        (bit_counts f.rows.items) f.up.items f.tops.rest f.tops.counts.items };
 }
 
 impl<A: Address, V> FrozenRoutes<A, V> {
@@ -63,9 +65,10 @@ impl<A: Address, V> FrozenRoutes<A, V> {
 
     /// The row of the longest network that holds an address, or None where none does. It allocates nothing.
     ///
-    /// It takes as many comparisons as the count of rows has binary digits, and of 2^16 rows or more, once `finish` was
-    /// called, as the count of those that agree in the first 16 bits has; and a step for each network around the last one
-    /// that begins at or before the address, until one holds it.
+    /// It takes as many comparisons as the count of rows has binary digits. With the table of first bits, which
+    /// `from_sorted` and `finish` make from 256 rows on, the count is that of the rows that agree with the address in
+    /// these bits: in as many as 2 to their number is about the count of all rows, 20 at most. Then it takes a step for
+    /// each network around the last one that begins at or before the address, until one holds it.
     pub fn look(&self, address: A) -> Option<(&Network<A>, &V)>
         ensures row { IsLongestRow A.BITS A.number self.now (A.number address)
             (option_map row_of_refs result) }
@@ -75,6 +78,42 @@ impl<A: Address, V> FrozenRoutes<A, V> {
             return None;
         }
         Some(entry_at(&self.rows, found - 1))
+    }
+
+    /// The value of this very network, or None where no row is of it. It allocates nothing.
+    ///
+    /// It takes as many comparisons as the count of rows has binary digits.
+    pub fn get(&self, network: &Network<A>) -> Option<&V>
+        ensures value { IsValueOf A.number self.now network.now (option_copied result) }
+    {
+        let at = cut(&self.rows, network, false);
+        if at >= self.rows.len() || !is_of(&self.rows, at, network) {
+            return None;
+        }
+        let (_, value) = entry_at(&self.rows, at);
+        Some(value)
+    }
+
+    /// The row at an index, by its parts, and the link there: the index and one more of the row of the network around
+    /// its own, or 0.
+    pub(crate) fn step_up(&self, at: usize) -> ((&Network<A>, &V), usize)
+        requires { at < length self.now }
+        ensures walk { rows_up A.BITS A.number self.now (at + 1)
+            ≡ row_of_refs result.0 ∷ rows_up A.BITS A.number self.now result.1 }
+        ensures within { result.1 ≤ at }
+    {
+        (entry_at(&self.rows, at), self.up[at] as usize)
+    }
+
+    /// The walk over the rows whose networks hold an address, the longest first. It allocates nothing.
+    ///
+    /// It takes the time of `look`, and begins with the row that this returns.
+    pub fn networks_above(&self, address: A) -> NetworksAbove<'_, A, V>
+        ensures walk { result ≡ reverse (filter (is_holder A.BITS A.number (A.number address))
+            self.now) }
+    {
+        let next = last_holder(&self.rows, &self.up, &self.tops, address);
+        NetworksAbove::new(self, next)
     }
 
     /// The rows whose networks lie within a network, itself among them, in order. It allocates nothing.

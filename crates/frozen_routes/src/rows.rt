@@ -39,6 +39,20 @@ pub(crate) fn holds_at<A: Address, V>(rows: &[(Network<A>, V)], at: usize, addre
     rows[at].0.holds(address)
 }
 
+/// Whether the network at an index is this one.
+pub(crate) fn is_of<A: Address, V>(
+    rows: &[(Network<A>, V)],
+    at: usize,
+    network: &Network<A>,
+) -> bool
+    requires { at < length rows.now }
+    ensures { IsTrue result
+        ↔ ((slice_index (base_numbers A.number rows.now) at ≡ A.number network.now.base)
+        × (slice_index (bit_counts rows.now) at ≡ network.now.bits)) }
+{
+    rows[at].0 == *network
+}
+
 /// The number without its last bits.
 pub(crate) fn without_last(number: u128, bits: u8) -> u128
     requires { bits ≤ 128 }

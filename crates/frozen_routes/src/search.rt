@@ -1,15 +1,16 @@
 //! Searches among networks in order.
 ghost use Rattle.std.specs.Prelude.{◌≡◌, ◌↔◌, ◌-◌, ◌/◌, ◌^◌, ◌<◌, ◌≤◌, ℕ, IsTrue, length, slice_index};
-ghost use Rattle.frozen_routes.specs.Routes.{AreInFront, AreUplinks, AreRising, AreFirstTops, AreUpTo, IsInFront, IsLastHolder, AreRowsInOrder, base_numbers, bit_counts};
+ghost use Rattle.frozen_routes.specs.Routes.{AreInFront, AreUplinks, AreFirstTops, AreUpTo, IsInFront, IsLastHolder, AreRowsInOrder, base_numbers, bit_counts};
 
 use crate::rows::{bits_at, first_at, holds_at, without_last};
-use crate::tops::top_span;
+use crate::tops::{Tops, top_span};
 use radix_keys::{Address, Network};
 
 /// How many of the networks begin at or before an address, by its number.
-pub(crate) fn count_to<A: Address, V>(rows: &[(Network<A>, V)], tops: &[u32], number: u128) -> usize
+pub(crate) fn count_to<A: Address, V>(rows: &[(Network<A>, V)], tops: &Tops, number: u128) -> usize
     requires rising { AreRowsInOrder A.BITS A.number rows.now }
-    requires tops { AreFirstTops A.BITS (base_numbers A.number rows.now) tops.now }
+    requires tops { AreFirstTops tops.now.rest (base_numbers A.number rows.now)
+        tops.now.counts.items }
     ensures { AreUpTo (base_numbers A.number rows.now) number result }
 {
     let (mut lo, mut hi) = top_span(rows, tops, number);
@@ -26,7 +27,8 @@ pub(crate) fn count_to<A: Address, V>(rows: &[(Network<A>, V)], tops: &[u32], nu
 
 /// The last of the first `from` networks that holds an address, by its index and one more, or 0 where there is none.
 ///
-/// It goes from each to the link of it, so at most as often as networks hold the first address of the one before `from`.
+/// It goes from each to the link of it, so at most as often as networks hold the first address of the one before
+/// `from`.
 pub(crate) fn climb<A: Address, V>(
     rows: &[(Network<A>, V)],
     up: &[u32],
@@ -57,14 +59,15 @@ pub(crate) fn climb<A: Address, V>(
 pub(crate) fn last_holder<A: Address, V>(
     rows: &[(Network<A>, V)],
     up: &[u32],
-    tops: &[u32],
+    tops: &Tops,
     address: A,
 ) -> usize
     requires linked { length up.now ≡ length rows.now }
     requires rising { AreRowsInOrder A.BITS A.number rows.now }
     requires links { AreUplinks A.BITS (base_numbers A.number rows.now) (bit_counts rows.now)
         up.now }
-    requires tops { AreFirstTops A.BITS (base_numbers A.number rows.now) tops.now }
+    requires tops { AreFirstTops tops.now.rest (base_numbers A.number rows.now)
+        tops.now.counts.items }
     ensures { IsLastHolder A.BITS (base_numbers A.number rows.now) (bit_counts rows.now)
         (length rows.now) (A.number address) result }
 {
@@ -72,8 +75,8 @@ pub(crate) fn last_holder<A: Address, V>(
     climb(rows, up, from, address)
 }
 
-/// Whether the network at an index comes in front of those within the network of `bits` bits whose addresses have `quotient`
-/// for these, or of those behind it where the search is one through it.
+/// Whether the network at an index comes in front of those within the network of `bits` bits whose addresses have
+/// `quotient` for these, or of those behind it where the search is one through it.
 fn is_in_front<A: Address, V>(
     rows: &[(Network<A>, V)],
     at: usize,
@@ -92,7 +95,8 @@ fn is_in_front<A: Address, V>(
     is_through || bits_at(rows, at) < bits
 }
 
-/// How many of the networks come in front of those within a network, or also those within where the search is one through it.
+/// How many of the networks come in front of those within a network, or also those within where the search is one
+/// through it.
 pub(crate) fn cut<A: Address, V>(
     rows: &[(Network<A>, V)],
     network: &Network<A>,

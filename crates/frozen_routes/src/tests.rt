@@ -1,28 +1,44 @@
-//! Small tables, with answers by hand, and one with a table by the first 16 bits.
+//! Small tables, with answers by hand, and two with a table by the first bits.
 
-use crate::FrozenRoutes;
+use crate::{FrozenRoutes, SortedWhy};
 use radix_keys::{Address, Network};
 use std::alloc::Global;
 use std::net::{Ipv4Addr, Ipv6Addr};
 
-/// The table of these networks, each with its index.
-fn table<A: Address>(alloc: Global, rows: &[&'static str]) -> Option<FrozenRoutes<A, usize>> {
+/// The rows of these networks, each with its index.
+fn rows_of<A: Address>(alloc: Global, texts: &[&'static str]) -> Option<Vec<(Network<A>, usize)>> {
+    let mut rows = Vec::new(alloc);
+    for (i, text) in texts.iter().enumerate() {
+        rows.push((text.parse::<Network<A>>().ok()?, i)).ok()?;
+    }
+    Some(rows)
+}
+
+/// The table of rows that are pushed one by one.
+fn pushed<A: Address>(
+    alloc: Global,
+    rows: Vec<(Network<A>, usize)>,
+) -> Option<FrozenRoutes<A, usize>> {
     let mut table = FrozenRoutes::new(alloc);
-    for (i, text) in rows.iter().enumerate() {
-        let network = text.parse::<Network<A>>().ok()?;
-        table.push(network, i).ok()?;
+    for (network, value) in rows {
+        table.push(network, value).ok()?;
     }
     table.finish().ok()?;
     Some(table)
 }
 
+/// The table of these networks, each with its index.
+fn table<A: Address>(alloc: Global, texts: &[&'static str]) -> Option<FrozenRoutes<A, usize>> {
+    FrozenRoutes::from_sorted(rows_of(alloc, texts)?).ok()
+}
+
 /// Whether each address is found to be in the network at this index.
 fn are_found<A: Address>(
     alloc: Global,
-    rows: &[&'static str],
+    texts: &[&'static str],
     looks: &[(&'static str, Option<usize>)],
 ) -> Option<bool> {
-    let table = table::<A>(alloc, rows)?;
+    let table = table::<A>(alloc, texts)?;
     for (text, index) in looks {
         let found = match table.look(A::parse(text)?) {
             Some((_, value)) => Some(*value),
@@ -120,38 +136,135 @@ fn networks_within_another(rt: HostRuntime) {
     }
 }
 
+/// Why rows aren't taken, and how many come back.
+fn refused(alloc: Global, texts: &[&'static str]) -> Option<(SortedWhy, usize)> {
+    match FrozenRoutes::from_sorted(rows_of::<Ipv4Addr>(alloc, texts)?) {
+        Ok(_) => None,
+        Err(e) => Some((e.why, e.rows.len())),
+    }
+}
+
 #[test]
 fn networks_out_of_order(rt: HostRuntime) {
-    assert!(rt; table::<Ipv4Addr>(rt.alloc(), &["10.0.0.0/16", "10.0.0.0/8"]).is_none());
-    assert!(rt; table::<Ipv4Addr>(rt.alloc(), &["10.0.0.0/8", "10.0.0.0/8"]).is_none());
-    assert!(rt; table::<Ipv4Addr>(rt.alloc(), &["10.0.0.0/8", "9.0.0.0/8"]).is_none());
-}
-
-/// Every second network of 24 bits, so many of them, each with its index.
-fn every_second(alloc: Global, count: u32) -> Option<FrozenRoutes<Ipv4Addr, u32>> {
-    let mut table = FrozenRoutes::new(alloc);
-    for i in 0..count {
-        let base = Ipv4Addr::from_bits(i.wrapping_mul(512));
-        table.push(Network::new(base, 24)?, i).ok()?;
+    const TABLES: &'static [(&'static [&'static str], usize)] = &[
+        (&["10.0.0.0/16", "10.0.0.0/8"], 1),
+        (&["9.0.0.0/8", "10.0.0.0/8", "10.0.0.0/8"], 2),
+        (&["10.0.0.0/8", "10.1.0.0/16", "9.0.0.0/8", "8.0.0.0/8"], 2),
+    ];
+    for (texts, at) in TABLES {
+        let why = SortedWhy::Unsorted(*at);
+        assert!(rt; refused(rt.alloc(), texts) == Some((why, texts.len())));
+        let rows = rows_of::<Ipv4Addr>(rt.alloc(), texts);
+        assert!(rt; rows.is_some_and(|rows| pushed(rt.alloc(), rows).is_none()));
     }
-    table.finish().ok()?;
-    Some(table)
 }
 
-/// How many of the networks hold their last address, and not the one behind it.
-fn held_alone(table: &FrozenRoutes<Ipv4Addr, u32>, count: u32) -> u32 {
+/// The value of a network, if its text is one of a network that has a row.
+fn value_of<A: Address>(alloc: Global, texts: &[&'static str], text: &str) -> Option<usize> {
+    let network = text.parse::<Network<A>>().ok()?;
+    table::<A>(alloc, texts)?.get(&network).copied()
+}
+
+#[test]
+fn value_of_one_network(rt: HostRuntime) {
+    const ROWS: &'static [&'static str] = &[
+        "10.0.0.0/8",
+        "10.0.0.0/16",
+        "10.0.1.0/24",
+        "11.0.0.0/8",
+    ];
+    const GETS: &'static [(&'static str, Option<usize>)] = &[
+        ("10.0.0.0/8", Some(0)),
+        ("10.0.0.0/16", Some(1)),
+        ("10.0.1.0/24", Some(2)),
+        ("11.0.0.0/8", Some(3)),
+        ("0.0.0.0/0", None),
+        ("10.0.0.0/12", None),
+        ("10.0.0.0/24", None),
+        ("10.0.1.0/32", None),
+        ("12.0.0.0/8", None),
+    ];
+    for (text, value) in GETS {
+        assert!(rt;
+            value_of::<Ipv4Addr>(rt.alloc(), ROWS, text) == *value,
+            "{text}"
+        );
+    }
+}
+
+/// Whether the networks that hold an address are those at these indices, in this order.
+fn are_above<A: Address>(
+    alloc: Global,
+    texts: &[&'static str],
+    text: &str,
+    indices: &[usize],
+) -> Option<bool> {
+    let table = table::<A>(alloc, texts)?;
+    let mut rest = indices.iter();
+    for (_, index) in table.networks_above(A::parse(text)?) {
+        if rest.next() != Some(index) {
+            return Some(false);
+        }
+    }
+    Some(rest.next().is_none())
+}
+
+#[test]
+fn networks_around_an_address(rt: HostRuntime) {
+    const FOUR: &'static [&'static str] = &[
+        "0.0.0.0/0",
+        "10.0.0.0/8",
+        "10.0.0.0/16",
+        "10.0.1.0/24",
+        "10.0.2.0/24",
+        "10.1.0.0/16",
+    ];
+    const ABOVE_FOUR: &'static [(&'static str, &'static [usize])] = &[
+        ("9.0.0.0", &[0]),
+        ("10.0.1.7", &[3, 2, 1, 0]),
+        ("10.0.2.0", &[4, 2, 1, 0]),
+        ("10.0.3.0", &[2, 1, 0]),
+        ("10.1.0.1", &[5, 1, 0]),
+        ("10.2.0.1", &[1, 0]),
+    ];
+    const SIX: &'static [&'static str] = &["2001:db8::/32", "2001:db8::/48", "2001:db8::1/128"];
+    const ABOVE_SIX: &'static [(&'static str, &'static [usize])] = &[
+        ("::", &[]),
+        ("2001:db8::1", &[2, 1, 0]),
+        ("2001:db8::2", &[1, 0]),
+        ("2001:db8:1::", &[0]),
+    ];
+    for (text, indices) in ABOVE_FOUR {
+        let right = are_above::<Ipv4Addr>(rt.alloc(), FOUR, text, indices);
+        assert!(rt; right == Some(true), "{text}");
+    }
+    for (text, indices) in ABOVE_SIX {
+        let right = are_above::<Ipv6Addr>(rt.alloc(), SIX, text, indices);
+        assert!(rt; right == Some(true), "{text}");
+    }
+}
+
+/// So many networks of 24 bits, so far apart, each with its index.
+fn spread(alloc: Global, count: u32, apart: u32) -> Option<Vec<(Network<Ipv4Addr>, usize)>> {
+    let mut rows = Vec::new(alloc);
+    for i in 0..count {
+        let base = Ipv4Addr::from_bits(apart.wrapping_mul(i));
+        rows.push((Network::new(base, 24)?, i as usize)).ok()?;
+    }
+    Some(rows)
+}
+
+/// How many of such networks hold their last address, and not the one behind it.
+fn held_alone(table: &FrozenRoutes<Ipv4Addr, usize>, count: u32, apart: u32) -> u32 {
     let mut held = 0u32;
     for i in 0..count {
-        let last = i.wrapping_mul(512).wrapping_add(255);
+        let last = apart.wrapping_mul(i).wrapping_add(255);
         let found = match table.look(Ipv4Addr::from_bits(last)) {
-            Some((_, value)) => *value == i,
+            Some((_, value)) => *value == i as usize,
             None => false,
         };
-        if found
-            && table
-                .look(Ipv4Addr::from_bits(last.wrapping_add(1)))
-                .is_none()
-        {
+        let behind = Ipv4Addr::from_bits(last.wrapping_add(1));
+        if found && table.look(behind).is_none() {
             held = held.wrapping_add(1);
         }
     }
@@ -159,10 +272,24 @@ fn held_alone(table: &FrozenRoutes<Ipv4Addr, u32>, count: u32) -> u32 {
 }
 
 #[test]
-fn more_networks_than_first_bits(rt: HostRuntime) {
-    let found = match every_second(rt.alloc(), 70_000) {
-        Some(table) => held_alone(&table, 70_000),
-        None => 0,
-    };
-    assert!(rt; found == 70_000);
+fn tables_by_first_bits(rt: HostRuntime) {
+    const TABLES: &'static [(u32, u32)] = &[(300, 1 << 23), (70_000, 1 << 15)];
+    for (count, apart) in TABLES {
+        let held = match spread(rt.alloc(), *count, *apart) {
+            Some(rows) => match FrozenRoutes::from_sorted(rows) {
+                Ok(table) => held_alone(&table, *count, *apart),
+                Err(_) => 0,
+            },
+            None => 0,
+        };
+        assert!(rt; held == *count);
+        let held = match spread(rt.alloc(), *count, *apart) {
+            Some(rows) => match pushed(rt.alloc(), rows) {
+                Some(table) => held_alone(&table, *count, *apart),
+                None => 0,
+            },
+            None => 0,
+        };
+        assert!(rt; held == *count);
+    }
 }

@@ -96,7 +96,8 @@ impl<'a> Packed<'a> {
     /// Two nibbles as a number, those of the byte at an index. Where the list has the first of them alone, the other is 0.
     pub(crate) fn two(&self, i: usize) -> u64
         requires { 2 * i < length self.now }
-        ensures value { result ≡ slice_index self.now (2 * i) * 16 + slice_index self.now (2 * i + 1) }
+        ensures value { result
+            ≡ slice_index self.now (2 * i) * 16 + slice_index self.now (2 * i + 1) }
         ensures byte { result < 256 }
         ensures first { slice_index self.now (2 * i) < 16 }
         ensures second { slice_index self.now (2 * i + 1) < 16 }

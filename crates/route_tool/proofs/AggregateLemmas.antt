@@ -26,17 +26,7 @@ use Rattle.radix_keys.proofs.BitLemmas.{network_order}
 use Rattle.route_tool.specs.Aggregates.{Holds, IsAggregate, IsToNetwork, ListGives, IsRouteBefore, TableGives, route_of}
 use Rattle.route_tool.specs.Numbers.{AreNumbered, IsRowOf, numbered}
 use Rattle.route_tool.specs.Routes.{Route, Routes, AreNetworks, IsHolder, in_order, place}
-
--- an element of a list, changed as all are
-changed_has : {X Y : Type 0} (f : X → Y) (xs : List X) (x : X) → Contains xs x → Contains (each f xs) (f x)
-changed_has f xs x (k, lt, e) = (k, subst (λ n. k < n) (sym (length-map xs f)) lt, get_or-map f xs k x (f x) lt ∙ ap f e)
-
--- an element of a changed list is one of the list, changed
-has_changed : {X Y : Type 0} (f : X → Y) (xs : List X) (y : Y) → Contains (each f xs) y → (x : X) × Contains xs x × (f x ≡ y)
-has_changed f [] y (k, lt, e) = absurd (omega arith)
-has_changed f (x ∷ xs) y (zero, lt, e) = (x, (zero, omega arith, refl), e)
-has_changed f (x ∷ xs) y (suc k, lt, e) =
-    let (z, (j, less, at), is) = has_changed f xs y (k, omega arith, e) in (z, (suc j, omega arith, at), is)
+use Rattle.route_tool.proofs.ListedLemmas.{changed_has, contains_of, entry_stored, has_changed, has_of, listed, stored}
 
 -- what holds of each of a changed list
 all_changed : {X Y : Type 0} (P : Y → Type 0) (f : X → Y) (xs : List X) → All P (each f xs) → All (λ x. P (f x)) xs
@@ -57,17 +47,6 @@ changed_pairs R f (x ∷ xs) all = λ i j d lt le.
     let before : i < length (x ∷ xs) = omega arith in
     subst (R (get_or (each f (x ∷ xs)) i d)) (sym (get_or-map f (x ∷ xs) j x d within))
     (subst (λ y. R y (f (get_or (x ∷ xs) j x))) (sym (get_or-map f (x ∷ xs) i x d before)) (all i j x lt within))
-
--- the two words for an element of a list
-has_of : {X : Type 0} (xs : List X) (x : X) → Contains xs x → Has xs x
-has_of [] x (k, lt, e) = absurd (omega arith)
-has_of (y ∷ ys) x (zero, lt, e) = inl (sym e)
-has_of (y ∷ ys) x (suc k, lt, e) = inr (has_of ys x (k, omega arith, e))
-
-contains_of : {X : Type 0} (xs : List X) (x : X) → Has xs x → Contains xs x
-contains_of [] x h = absurd h
-contains_of (y ∷ ys) x (inl e) = (zero, omega arith, sym e)
-contains_of (y ∷ ys) x (inr h) = let (k, lt, e) = contains_of ys x h in (suc k, omega arith, e)
 
 -- of two lists one precedes the other at most
 one_way : (p q : List ℕ) → lists.Precedes p q → lists.Precedes q p → ⊥
@@ -149,27 +128,9 @@ module _ {A : Type 0} (w : ℕ) (number : A → ℕ) where
           subst (ListGives w number ss n) (sym (given_told ss n found also other) ∙ ap (option_map text) (sym is) ∙ given_told rs n hop told given) other
 
   module _ (m : Routes A) (networks : AreNetworks w number m) where
-    -- a listed entry is stored
-    entry_stored : (e : List ℕ) (r : Route A) → Has (walk m []) (e, r) → map.get m e ≡ Some r
-    entry_stored e r has = ((Has-walk m [] e r).0 has).1
-
-    -- a listed route is stored at its network
-    stored : (r : Route A) → Contains (in_order m) r → (map.get m (place w number r.0) ≡ Some r) × IsToNetwork w number r
-    stored r at =
-        let (e, has, is) = has_changed (λ e. e.1) (walk m []) r at in
-        let got : map.get m e.0 ≡ Some r = entry_stored e.0 e.1 (has_of (walk m []) e has) ∙ ap (λ s. Some s) is in
-        let key = networks e.0 r got in
-        (ap (map.get m) (sym key.0) ∙ got, key.1)
-
-    -- a stored route is listed
-    listed : (r : Route A) → map.get m (place w number r.0) ≡ Some r → Contains (in_order m) r
-    listed r got =
-        changed_has (λ e. e.1) (walk m []) (place w number r.0, r)
-        (contains_of (walk m []) (place w number r.0, r) ((Has-walk m [] (place w number r.0) r).1 ((place w number r.0, refl), got)))
-
     -- a holder is a listed route that holds the address
     holder : (n : ℕ) (r : Route A) → Contains (in_order m) r → Holds w number n r → IsHolder w number m n r
-    holder n r at holds = let (got, base) = stored r at in record { stored = got; base = base; holds = sym holds }
+    holder n r at holds = let (got, base) = stored w number m networks r at in record { stored = got; base = base; holds = sym holds }
 
     -- what is so of each listed route
     all_listed : (P : Route A → Type 0) → ((r : Route A) → Contains (in_order m) r → P r) → All P (in_order m)
@@ -180,10 +141,10 @@ module _ {A : Type 0} (w : ℕ) (number : A → ℕ) where
     table_gives n hop = (to, from)
       where
         to : ListGives w number (in_order m) n hop → TableGives w number m n hop
-        to (None, none, is) = (None, (λ r h. All-contains (λ r. ¬ (Holds w number n r)) (in_order m) r none (listed r h.stored) (sym h.holds)), is)
+        to (None, none, is) = (None, (λ r h. All-contains (λ r. ¬ (Holds w number n r)) (in_order m) r none (listed w number m networks r h.stored) (sym h.holds)), is)
         to (Some r, (at, holds, most), is) = (
           Some r,
-          (holder n r at holds, λ s h. All-contains (λ s. Holds w number n s → s.0.bits ≤ r.0.bits) (in_order m) s most (listed s h.stored) (sym h.holds)),
+          (holder n r at holds, λ s h. All-contains (λ s. Holds w number n s → s.0.bits ≤ r.0.bits) (in_order m) s most (listed w number m networks s h.stored) (sym h.holds)),
           is,
         )
 
@@ -191,7 +152,7 @@ module _ {A : Type 0} (w : ℕ) (number : A → ℕ) where
         from (None, none, is) = (None, all_listed (λ r. ¬ (Holds w number n r)) (λ r at holds. none r (holder n r at holds)), is)
         from (Some r, (h, most), is) = (
           Some r,
-          (listed r h.stored, sym h.holds, all_listed (λ s. Holds w number n s → s.0.bits ≤ r.0.bits) (λ s at holds. most s (holder n s at holds))),
+          (listed w number m networks r h.stored, sym h.holds, all_listed (λ s. Holds w number n s → s.0.bits ≤ r.0.bits) (λ s at holds. most s (holder n s at holds))),
           is,
         )
 
@@ -242,12 +203,12 @@ module _ {A : Type 0} (w : ℕ) (number : A → ℕ) where
     -- the routes are in order
     in_order_rises : AllPairs (IsRouteBefore w number) (in_order m)
     in_order_rises =
-        entries_order (walk m []) (λ f s has. networks f s (entry_stored f s has)) (map.entries_sorted (below m []))
+        entries_order (walk m []) (λ f s has. networks f s (entry_stored w number m networks f s has)) (map.entries_sorted (below m []))
 
     -- with numbers for hops they are a table
     pub is_table : (code : List ℕ → ℕ) → numbers.IsTable w (each (numbered number code) (in_order m))
     is_table code = (
-      All-map (numbers.IsOfWidth w) (numbered number code) (in_order m) (all_listed (IsToNetwork w number) (λ r at. (stored r at).1)),
+      All-map (numbers.IsOfWidth w) (numbered number code) (in_order m) (all_listed (IsToNetwork w number) (λ r at. (stored w number m networks r at).1)),
       changed_pairs numbers.IsSortedBefore (numbered number code) (in_order m) in_order_rises,
     )
 

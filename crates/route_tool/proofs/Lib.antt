@@ -1,5 +1,7 @@
 -- What the lists of a trie say of its networks.
 pub mod RouteLemmas
+-- The routes in order are those that are stored.
+pub mod ListedLemmas
 -- Hops as numbers, one after another.
 pub mod NumberLemmas
 -- Lists of routes, with their hops as texts and as numbers.

@@ -1,5 +1,5 @@
 -- A line asks for one thing at most.
-use Rattle.std.proofs.Common.{◌≡◌, ◌≢◌, ◌∙◌, inl, inr, ℕ, suc, ◌≤◌, List, [], ◌∷◌, ◌++◌, EachIndex, get_or, refl, arith, sym, ap, subst, codes}
+use Rattle.std.proofs.Common.{◌≡◌, ◌≢◌, ◌∙◌, inl, inr, ℕ, ◌≤◌, List, get_or, refl, arith, sym, ap, subst, codes}
 use Rattle.std.specs.Net.Addr.{ipv4_bits, ipv6_bits}
 use Rattle.std.specs.Net.Grammar.{IsIpv4Text, IsIpv6Text}
 use Rattle.std.specs.declared.net.ipv4_addr.Ipv4Addr.{Ipv4Addr}
@@ -9,22 +9,7 @@ use Rattle.std.proofs.NetLemmas.Theorems.{IsIpv4Text_unique, IsIpv6Text_unique}
 use Rattle.std.proofs.lemmas.Fmt.{decimal_injective}
 use Rattle.radix_keys.specs.Networks.{Net, IsParted}
 use Rattle.route_tool.specs.Requests.{Request, Add, Del, Below, Look, Find, Asked, V4, V6, Len, All, Aggregate, Compact, Comment, Asks, IsRequest, IsTarget, IsTextRequest, Says, word_of}
-use Rattle.route_tool.proofs.CommandLemmas.{has_slash}
-
--- a text is parted at a byte in one way
-one_parting : (c : ℕ) (a b d e : List ℕ) → a ++ (c ∷ b) ≡ d ++ (c ∷ e) → EachIndex a (λ i. get_or a i 0 ≢ c) → EachIndex d (λ i. get_or d i 0 ≢ c) → (a ≡ d) × (b ≡ e)
-one_parting c [] b [] e same p q = (refl, cc)
-one_parting c [] b (y ∷ d) e same p q = let first : y ≡ c = cc in absurd (q 0 (omega arith) first)
-one_parting c (x ∷ a) b [] e same p q = let first : x ≡ c = cc in absurd (p 0 (omega arith) first)
-one_parting c (x ∷ a) b (y ∷ d) e same p q =
-    let first : x ≡ y = cc in
-    let others : a ++ (c ∷ b) ≡ d ++ (c ∷ e) = cc in
-    let rest = one_parting c a b d e others (λ i lt. p (suc i) (omega (arith, lt))) (λ i lt. q (suc i) (omega (arith, lt))) in
-    (λ i. first i ∷ rest.0 i, rest.1)
-
--- both parts are one
-pub one_part : (c : ℕ) (s a b d e : List ℕ) → IsParted c s a b → IsParted c s d e → (a ≡ d) × (b ≡ e)
-one_part c s a b d e (is, p) (also, q) = one_parting c a b d e (sym is ∙ also) p q
+use Rattle.route_tool.proofs.CommandLemmas.{has_slash, no_bare, one_part, word_by}
 
 module _ {A : Type 0} (w : ℕ) (narrow : w ≤ 128) (number : A → ℕ) (writes : List ℕ → A → Type 0) (one : (s : List ℕ) (a b : A) → writes s a → writes s b → a ≡ b) where
   -- a network is its base and its bits
@@ -60,33 +45,10 @@ module _ {A : Type 0} (w : ℕ) (narrow : w ≤ 128) (number : A → ℕ) (write
 
 module _ {A : Type 0} (w : ℕ) (number : A → ℕ) (writes : List ℕ → A → Type 0) where
   -- no request is a comment or a word alone
-  no_letters : (r : Request A) (rest : List ℕ) → (get_or (word_of r ++ (32 ∷ rest)) 0 0 ≢ 35) × (word_of r ++ (32 ∷ rest) ≢ codes "len") × (word_of r ++ (32 ∷ rest) ≢ codes "list") × (word_of r ++ (32 ∷ rest) ≢ codes "aggregate") × (word_of r ++ (32 ∷ rest) ≢ codes "compact")
-  no_letters (Look a) rest = (
-    λ e. omega (arith, e),
-    λ e. omega (arith, ap (λ (l : List ℕ). get_or l 1 0) e),
-    λ e. omega (arith, ap (λ (l : List ℕ). get_or l 1 0) e),
-    λ e. omega (arith, ap (λ (l : List ℕ). get_or l 0 0) e),
-    λ e. omega (arith, ap (λ (l : List ℕ). get_or l 0 0) e),
-  )
-  no_letters (Add net hop) rest = (
-    λ e. omega (arith, e),
-    λ e. omega (arith, ap (λ (l : List ℕ). get_or l 0 0) e),
-    λ e. omega (arith, ap (λ (l : List ℕ). get_or l 0 0) e),
-    λ e. omega (arith, ap (λ (l : List ℕ). get_or l 1 0) e),
-    λ e. omega (arith, ap (λ (l : List ℕ). get_or l 0 0) e),
-  )
-  no_letters r rest = (
-    λ e. omega (arith, e),
-    λ e. omega (arith, ap (λ (l : List ℕ). get_or l 0 0) e),
-    λ e. omega (arith, ap (λ (l : List ℕ). get_or l 0 0) e),
-    λ e. omega (arith, ap (λ (l : List ℕ). get_or l 0 0) e),
-    λ e. omega (arith, ap (λ (l : List ℕ). get_or l 0 0) e),
-  )
-
   no_word : (text : List ℕ) (r : Request A) → Asks w number writes text r → (get_or text 0 0 ≢ 35) × (text ≢ codes "len") × (text ≢ codes "list") × (text ≢ codes "aggregate") × (text ≢ codes "compact")
-  no_word text r (rest, (is, _), _) =
-      let letters = no_letters r rest in
-      (λ e. letters.0 (ap (λ l. get_or l 0 0) (sym is) ∙ e), λ e. letters.1 (sym is ∙ e), λ e. letters.2 (sym is ∙ e), λ e. letters.3 (sym is ∙ e), λ e. letters.4 (sym is ∙ e))
+  no_word text r (rest, parted, _) =
+      let by = word_by r in
+      no_bare text by.0 rest (subst (λ word. IsParted 32 text word rest) by.1 parted)
 
 -- no word writes networks of both families
 target_apart : (s : List ℕ) (m : Net Ipv4Addr) (n : Net Ipv6Addr) → IsTarget 32 ipv4_bits IsIpv4Text s m → IsTarget 128 ipv6_bits IsIpv6Text s n → ⊥

@@ -1,9 +1,12 @@
 -- What the code's commands stand for.
+use Rattle.std.specs.Prelude.{ℕ, List, codes}
 use Rattle.route_tool.specs.Requests as asked
 use Rattle.route_tool.specs.declared.command.Command.{Command}
 use Rattle.route_tool.specs.declared.command.Command.TheVariants.{V4, V6, Len, All, Aggregate, Compact, Comment}
 use Rattle.route_tool.specs.declared.command.Request.{Request}
 use Rattle.route_tool.specs.declared.command.Request.TheVariants.{Add, Del, Below, Look, Find}
+use Rattle.route_tool.specs.declared.command.Word.{Word}
+use Rattle.route_tool.specs.declared.command.Word.TheVariants as word
 
 abbrev pub request_of : {A : Type 0} → Request A → asked.Request A
 request_of (Add net hop) = asked.Add net hop.now
@@ -20,3 +23,11 @@ asked_of All = asked.All
 asked_of Aggregate = asked.Aggregate
 asked_of Compact = asked.Compact
 asked_of Comment = asked.Comment
+
+-- the text of a word
+abbrev pub word_text : Word → List ℕ
+word_text word.Add = codes "add"
+word_text word.Del = codes "del"
+word_text word.Below = codes "below"
+word_text word.Look = codes "look"
+word_text word.Find = codes "find"

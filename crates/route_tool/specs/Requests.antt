@@ -66,6 +66,12 @@ module _ {A : Type 0} (w : ℕ) (number : A → ℕ) (writes : List ℕ → A �
   abbrev pub Asks : List ℕ → Request A → Type 0
   Asks text r = (rest : List ℕ) × IsParted 32 text (word_of r) rest × Says r rest
 
+-- one of the first bytes is a dot, as in each text that begins with an IPv4 address
+abbrev pub HasDotEarly : List ℕ → Type 0
+HasDotEarly text =
+    (3 < length text)
+    × ((slice_index text 1 ≡ 46) ⊎ (slice_index text 2 ≡ 46) ⊎ (slice_index text 3 ≡ 46))
+
 -- what a text asks for
 abbrev pub IsTextRequest : List ℕ → Asked → Type 0
 IsTextRequest text (V4 r) = Asks 32 ipv4_bits IsIpv4Text text r

@@ -1,5 +1,5 @@
 -- Networks, each with its hop, and the longest of those that hold an address.
-use Rattle.std.specs.Prelude.{◌≡◌, ℕ, ◌≤◌, List, [], Option, Some, MatchOption, option_map}
+use Rattle.std.specs.Prelude.{◌≡◌, ◌⊎◌, ℕ, ◌≤◌, List, [], Option, Some, MatchOption, option_map}
 use Rattle.std.proofs.Common.{refl}
 use Rattle.std.specs.Coded.{Coded, code_by, coded_list, coded_ℕ, coded×}
 use Rattle.std.specs.FinMap as map
@@ -25,6 +25,10 @@ routes_code {A} a =
 -- the routes in the order of their networks' bits
 abbrev pub in_order : {A : Type 0} → Routes A → List (Route A)
 in_order m = pairs_below m []
+
+-- all routes, in order, or none of them
+abbrev pub AreAllOrNone : {A : Type 0} → Routes A → List (Route A) → Type 0
+AreAllOrNone m rows = (rows ≡ []) ⊎ (rows ≡ in_order m)
 
 -- the hop of a route
 abbrev pub hop_of : {A : Type 0} → Option (Route A) → Option (List ℕ)

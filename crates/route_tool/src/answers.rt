@@ -1,8 +1,9 @@
 //! Carrying out a command, and its answer, straight behind the answers that wait.
-ghost use Rattle.std.specs.Prelude.{◌≡◌, ◌⊎◌, ◌++◌, ◌∷◌, [], ℕ, List, IfSome, OnOk, OnErr, flat_map, map, option_copied};
+ghost use Rattle.std.specs.Prelude.{◌≡◌, ◌⊎◌, ◌++◌, ◌∷◌, [], ℕ, List, IfSome, OnOk, OnErr, flat_map, map, option_copied, option_map};
 ghost use Rattle.nibble_map.specs.Lists.{IsPrefix};
 ghost use Rattle.radix_keys.specs.Networks.{net_text};
-ghost use Rattle.route_tool.specs.Answers.{IsAggregateAnswer, IsAnswer, IsReply, added_answer, below_answer, count_answer, hop_answer, list_answer, row};
+ghost use Rattle.radix_trie.specs.Walks.{deref_pair};
+ghost use Rattle.route_tool.specs.Answers.{IsAggregateAnswer, IsAnswer, IsReply, added_answer, below_answer, count_answer, find_answer, hop_answer, list_answer, row};
 ghost use Rattle.route_tool.specs.Aggregates.{route_of};
 ghost use Rattle.route_tool.specs.Commands.{asked_of, request_of};
 ghost use Rattle.route_tool.specs.Routes.{routes_within};
@@ -135,6 +136,21 @@ fn add_below<A: Address>(
     }
 }
 
+/// Adds a row, or that there is none.
+fn add_found<A: Address>(
+    out: &mut Vec<u8>,
+    found: Option<(&Network<A>, &Hop)>,
+) -> Result<(), AllocError>
+    ensures text { OnOk result (out.new.items ≡ out.old.items
+        ++ find_answer A.text (option_map deref_pair found.entry)) }
+    ensures kept { IsPrefix out.old.items out.new.items }
+{
+    match found {
+        Some((network, hop)) => add_row(out, network, hop),
+        None => out.extend_from_slice(b"none\n"),
+    }
+}
+
 /// Carries out a request of one family, and adds its answer, or after a refusal maybe a part of it.
 fn add_reply<A: Address>(
     out: &mut Vec<u8>,
@@ -154,11 +170,14 @@ fn add_reply<A: Address>(
             add_hop_answer(out, old.as_ref())?
         }
         Request::Below(network) => add_below(out, routes, network)?,
-        Request::Look(address) => add_hop_answer(out, routes.look(*address)?)?,
-        Request::Find(address) => match routes.find(*address)? {
-            Some((network, hop)) => add_row(out, network, hop)?,
-            None => out.extend_from_slice(b"none\n")?,
-        },
+        Request::Look(address) => {
+            routes.expect_look();
+            add_hop_answer(out, routes.look(*address)?)?
+        }
+        Request::Find(address) => {
+            routes.expect_look();
+            add_found(out, routes.find(*address)?)?
+        }
     }
     Ok(())
 }

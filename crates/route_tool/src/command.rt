@@ -1,8 +1,9 @@
 //! Reading a line as a command.
 ghost use Rattle.std.specs.Prelude.{◌≡◌, ◌↔◌, IsTrue, MatchOption};
 ghost use Rattle.std.specs.Str.{IsUtf8};
-ghost use Rattle.route_tool.specs.Commands.{asked_of, request_of};
-ghost use Rattle.route_tool.specs.Requests.{IsAddition, IsHop, IsRequest, IsTarget, IsTextRequest, Says, word_of};
+ghost use Rattle.radix_keys.specs.Networks.{IsParted};
+ghost use Rattle.route_tool.specs.Commands.{asked_of, request_of, word_text};
+ghost use Rattle.route_tool.specs.Requests.{HasDotEarly, IsAddition, IsHop, IsRequest, IsTarget, IsTextRequest, Says, word_of};
 
 use radix_trie::{Address, Network};
 use std::net::{Ipv4Addr, Ipv6Addr};
@@ -27,6 +28,16 @@ pub enum Command<'a> {
     Aggregate,
     Compact,
     Comment,
+}
+
+/// The word of a request that has something behind it.
+#[derive(Clone, Copy)]
+pub enum Word {
+    Add,
+    Del,
+    Below,
+    Look,
+    Find,
 }
 
 /// One byte or more, the first and the last of them no space.
@@ -72,30 +83,85 @@ fn addition<A: Address>(rest: &str) -> Option<(Network<A>, &str)>
     Some((network, hop))
 }
 
-/// What a word and the text behind it ask for.
-fn worded<'a, A: Address>(word: &str, rest: &'a str) -> Option<Request<'a, A>>
+/// The word that a text begins with, where it is one of these and a space follows, and what stands
+/// behind the space.
+pub(crate) fn first_word(text: &str) -> Option<(Word, &str)>
     ensures { MatchOption result
-        ((r : _) → word.now ≡ word_of r → ¬ (Says A.BITS A.number A.is_text r rest.now))
-        (λ r. (word.now ≡ word_of (request_of r))
+        ((word : Word) (rest : _) → ¬ (IsParted 32 text.now (word_text word) rest))
+        (λ p. IsParted 32 text.now (word_text p.0) p.1.now) }
+{
+    if let Some(rest) = text.strip_prefix("look ") {
+        return Some((Word::Look, rest));
+    }
+    if let Some(rest) = text.strip_prefix("find ") {
+        return Some((Word::Find, rest));
+    }
+    if let Some(rest) = text.strip_prefix("add ") {
+        return Some((Word::Add, rest));
+    }
+    if let Some(rest) = text.strip_prefix("del ") {
+        return Some((Word::Del, rest));
+    }
+    if let Some(rest) = text.strip_prefix("below ") {
+        return Some((Word::Below, rest));
+    }
+    None
+}
+
+/// What a word and the text behind it ask for of one family.
+fn said<'a, A: Address>(word: Word, rest: &'a str) -> Option<Request<'a, A>>
+    ensures { MatchOption result
+        ((r : _) → word_text word ≡ word_of r → ¬ (Says A.BITS A.number A.is_text r rest.now))
+        (λ r. (word_text word ≡ word_of (request_of r))
         × Says A.BITS A.number A.is_text (request_of r) rest.now) }
 {
-    if word == "add" {
-        match addition(rest) {
+    match word {
+        Word::Add => match addition(rest) {
             Some((network, hop)) => Some(Request::Add(network, hop)),
             None => None,
+        },
+        Word::Del => {
+            let network = target(rest)?;
+            Some(Request::Del(network))
         }
-    } else if word == "del" {
-        let network = target(rest)?;
-        Some(Request::Del(network))
-    } else if word == "below" {
-        let network = target(rest)?;
-        Some(Request::Below(network))
-    } else if word == "look" {
-        let address = A::parse(rest)?;
-        Some(Request::Look(address))
-    } else if word == "find" {
-        let address = A::parse(rest)?;
-        Some(Request::Find(address))
+        Word::Below => {
+            let network = target(rest)?;
+            Some(Request::Below(network))
+        }
+        Word::Look => {
+            let address = A::parse(rest)?;
+            Some(Request::Look(address))
+        }
+        Word::Find => {
+            let address = A::parse(rest)?;
+            Some(Request::Find(address))
+        }
+    }
+}
+
+/// Whether the second, third or fourth byte is a dot, as in each text that begins with an IPv4
+/// address.
+fn has_dot_early(text: &str) -> bool
+    ensures { IsTrue result ↔ HasDotEarly text.now }
+{
+    let bytes = text.as_bytes();
+    bytes.len() > 3 && (bytes[1] == b'.' || bytes[2] == b'.' || bytes[3] == b'.')
+}
+
+/// What a text that begins with no such word asks for, if it is good.
+fn bare(text: &str) -> Option<Command<'_>>
+    requires { (word : Word) (rest : _) → ¬ (IsParted 32 text.now (word_text word) rest) }
+    ensures { MatchOption result ((c : _) → ¬ (IsTextRequest text.now c))
+        (λ c. IsTextRequest text.now (asked_of c)) }
+{
+    if text == "len" {
+        Some(Command::Len)
+    } else if text == "list" {
+        Some(Command::All)
+    } else if text == "aggregate" {
+        Some(Command::Aggregate)
+    } else if text == "compact" {
+        Some(Command::Compact)
     } else {
         None
     }
@@ -106,25 +172,17 @@ fn parse_text(text: &str) -> Option<Command<'_>>
     ensures { MatchOption result ((c : _) → ¬ (IsTextRequest text.now c))
         (λ c. IsTextRequest text.now (asked_of c)) }
 {
-    if text == "len" {
-        return Some(Command::Len);
+    let Some((word, rest)) = first_word(text) else {
+        return bare(text);
+    };
+    if has_dot_early(rest) {
+        if let Some(request) = said::<Ipv4Addr>(word, rest) {
+            return Some(Command::V4(request));
+        }
     }
-    if text == "list" {
-        return Some(Command::All);
-    }
-    if text == "aggregate" {
-        return Some(Command::Aggregate);
-    }
-    if text == "compact" {
-        return Some(Command::Compact);
-    }
-    let (word, rest) = text.split_once(' ')?;
-    match worded::<Ipv4Addr>(word, rest) {
-        Some(request) => Some(Command::V4(request)),
-        None => match worded::<Ipv6Addr>(word, rest) {
-            Some(request) => Some(Command::V6(request)),
-            None => None,
-        },
+    match said::<Ipv6Addr>(word, rest) {
+        Some(request) => Some(Command::V6(request)),
+        None => None,
     }
 }
 

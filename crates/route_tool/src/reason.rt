@@ -2,7 +2,7 @@
 ghost use Rattle.std.specs.Prelude.{◌≡◌, ◌⊎◌};
 ghost use Rattle.route_tool.specs.Reasons.{ShowsHop, IsReason, IsWrong, reason_text};
 
-use crate::command::is_hop;
+use crate::command::{Word, first_word, is_hop};
 
 /// What is wrong with a line.
 #[derive(Clone, Copy)]
@@ -50,21 +50,13 @@ fn wrong_with_addition(rest: &str) -> Reason
 fn wrong_with_text(text: &str) -> Reason
     ensures { IsWrong result text.now }
 {
-    let Some((word, rest)) = text.split_once(' ') else {
+    let Some((word, rest)) = first_word(text) else {
         return Reason::NoRequest;
     };
-    if word == "add" {
-        wrong_with_addition(rest)
-    } else if word == "del" {
-        Reason::NoNetwork
-    } else if word == "below" {
-        Reason::NoNetwork
-    } else if word == "look" {
-        Reason::NoAddress
-    } else if word == "find" {
-        Reason::NoAddress
-    } else {
-        Reason::NoRequest
+    match word {
+        Word::Add => wrong_with_addition(rest),
+        Word::Del | Word::Below => Reason::NoNetwork,
+        Word::Look | Word::Find => Reason::NoAddress,
     }
 }
 

@@ -1,16 +1,18 @@
 //! The routing table: networks of both families, each with its hop.
-ghost use Rattle.std.specs.Prelude.{◌≡◌, ◌≤◌, [], length, IfOk, IfSome, IfNone, IsOk, OnOk, OnErr, option_copied, option_map};
+ghost use Rattle.std.specs.Prelude.{◌≡◌, [], length, IfOk, IfSome, IfNone, OnOk, OnErr};
 ghost use Rattle.std.specs.FinMap as map;
-ghost use Rattle.radix_trie.specs.Walks.{deref_pair};
 ghost use Rattle.route_tool.specs.Answers.{count_of};
-ghost use Rattle.route_tool.specs.Routes.{AreNetworks, IsLongestRoute, hop_at, hop_of, in_order, routes_within, with_route, without_route};
+ghost use Rattle.route_tool.specs.Routes.{AreNetworks, hop_at, in_order, routes_within, with_route, without_route};
 
 use crate::hop::Hop;
+use crate::table::looks::Frozen;
 use radix_trie::iter::{Cursor, Iter};
-use radix_trie::{Address, Memory, Network, Trie, TrieCommon, TrieKey, stored_keys_are_equal};
+use radix_trie::{Address, Memory, Network, Trie, TrieCommon, stored_keys_are_equal};
 use std::alloc::Global;
 use std::marker::Model;
 use std::net::{Ipv4Addr, Ipv6Addr};
+
+mod looks;
 
 /// A walk over routes.
 pub type Walk<'a, A> = Iter<'a, Network<A>, Hop>;
@@ -28,28 +30,31 @@ pub struct Rows<'a, A: Address> {
 
 /// The routes of one family: networks, each with its hop. A contract sees the finite map from the
 /// first bits of each network, those that its addresses share, to the network and its hop.
+///
+/// The trie is what changes. Where many look-ups come between two changes, they are answered from the same routes in order;
+/// no answer depends on it.
 #[derive(Drop)]
 pub struct Routes<A: Address> {
     alloc: Global,
     trie: Trie<Network<A>, Hop>,
+    frozen: Frozen<A>,
 }
 
 impl<A: Address> Model for Routes<A> {
     ghost use Rattle.std.specs.Prelude.{ℕ, List};
     ghost use Rattle.nibble_map.specs.Maps.{PairMap};
-    ghost use Rattle.radix_keys.specs.Networks.{Net, IsBase};
-    ghost use Rattle.route_tool.specs.Routes.{place, routes_code};
+    ghost use Rattle.radix_keys.specs.Networks.{Net};
+    ghost use Rattle.route_tool.specs.Routes.{routes_code};
 
     ghost Value = { PairMap (Net A) (List ℕ) };
 
     ghost coded = { routes_code A.code };
 
-    ghost use Rattle.radix_trie.specs.Keys.{IsKeyed};
+    ghost use Rattle.route_tool.specs.Routes.{AreNetworks, AreAllOrNone};
 
     ghost view = { λ r. r.trie };
 
-    ghost invariant = { λ r. IsKeyed (place A.BITS A.number)
-        (λ net. IsBase A.BITS net.bits (A.number net.base)) r.trie };
+    ghost invariant = { λ r. AreNetworks A.BITS A.number r.trie × AreAllOrNone r.trie r.frozen.rows };
 }
 
 impl<A: Address> Routes<A> {
@@ -61,6 +66,7 @@ impl<A: Address> Routes<A> {
         Routes {
             alloc,
             trie: Trie::new(alloc),
+            frozen: Frozen::new(alloc),
         }
     }
 
@@ -72,7 +78,8 @@ impl<A: Address> Routes<A> {
         ensures unchanged { OnErr result (self.new ≡ self.old) }
     {
         stored_keys_are_equal::<Network<A>, Hop>();
-        let hop = Hop::new(self.alloc, hop)?;
+        let hop = Hop::new(self.alloc, hop.as_bytes())?;
+        self.frozen.thaw(self.alloc);
         self.trie.insert(network, hop).map_err(|_| Memory)
     }
 
@@ -84,41 +91,17 @@ impl<A: Address> Routes<A> {
         ensures unchanged { OnErr result (self.new ≡ self.old) }
     {
         stored_keys_are_equal::<Network<A>, Hop>();
+        self.frozen.thaw(self.alloc);
         self.trie.remove(network)
     }
 
-    /// Lays the nodes of the tree anew, in the order of the routes.
+    /// Lays the nodes of the tree anew, in the order of the routes, and freezes these. Where it is refused, the tree may be
+    /// laid anew.
     pub fn compact(&mut self) -> Result<(), Memory>
         ensures same { self.new ≡ self.old }
     {
-        self.trie.compact()
-    }
-
-    /// The longest network that holds the address, and its hop.
-    ///
-    /// Never refused for an IPv4 address.
-    pub fn find(&self, address: A) -> Result<Option<(&Network<A>, &Hop)>, Memory>
-        ensures longest { IfOk result (λ found.
-            IsLongestRoute A.BITS A.number self.now (A.number address) (option_map deref_pair found)) }
-        ensures light { A.BITS ≤ 32 → IsOk result }
-    {
-        let bits = Network::host(address).encode(self.alloc)?;
-        Ok(self.trie.nearest(&bits))
-    }
-
-    /// The hop of the longest network that holds the address.
-    ///
-    /// Never refused for an IPv4 address.
-    pub fn look(&self, address: A) -> Result<Option<&Hop>, Memory>
-        ensures longest { IfOk result (λ hop. (found : _)
-            × IsLongestRoute A.BITS A.number self.now (A.number address) found
-            × (option_copied hop ≡ hop_of found)) }
-        ensures light { A.BITS ≤ 32 → IsOk result }
-    {
-        match self.find(address)? {
-            Some((_, hop)) => Ok(Some(hop)),
-            None => Ok(None),
-        }
+        self.trie.compact()?;
+        self.freeze()
     }
 
     /// The routes of the networks within this one, in the order of their bits; None where there is

@@ -45,7 +45,8 @@ fn answer<R: Print + Clock + AllocGlobal>(rt: &R, line: &str, given: &[Text]) ->
             return answer_texts(rt, line, store, first);
         }
         "addresses" => return answer_addresses(rt, line, store, count),
-        "routes" => return routes::answer(rt, line, count),
+        "ipv4" => return routes::answer_ipv4(rt, line, count),
+        "ipv6" => return routes::answer_ipv6(rt, line, count),
         "pages" => return pages::answer(rt, line, count),
         "chain" => return nested::answer(rt, line, count),
         _ => bail!("no such keys: {kind}"),

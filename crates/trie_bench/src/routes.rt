@@ -1,98 +1,193 @@
 //! A table of networks, in which the longest one that holds an address is looked up.
 
 use crate::sample::generator;
-use crate::timed::timed;
-use anyhow::Result;
-use radix_trie::{Bits, Trie};
+use crate::timed::{Times, timed};
+use anyhow::{Context, Result};
+use frozen_routes::FrozenRoutes;
+use radix_trie::{Address, Network, Trie, TrieCommon, TrieKey};
 use rand::RngExt;
 use rand::seq::SliceRandom;
-use rand_core::Rng;
-use std::alloc::{AllocError, Global};
+use std::alloc::Global;
 use std::collections::BTreeMap;
+use std::net::{Ipv4Addr, Ipv6Addr};
 use std::rt::Clock;
+use std::time::Instant;
 
 /// How many addresses are looked up for each network.
 const LOOKED_UP: usize = 10;
 
-/// The bits of the shortest networks.
-const SHORTEST: u32 = 8;
-
-/// The bits of the longest ones.
-const LONGEST: u32 = 24;
-
-/// The first bits of an address of 32 bits, with a hop.
+/// How many bits the networks of a family have.
 #[derive(Clone, Copy)]
-struct Network {
-    address: u32,
-    bits: u32,
+struct Lengths {
+    shortest: u8,
+    longest: u8,
+    /// Up to which percent of the networks have from so many bits to so many.
+    shares: &'static [(u32, u8, u8)],
+}
+
+// Near to what the tables of the internet's routers have.
+const IPV4: Lengths = Lengths {
+    shortest: 8,
+    longest: 32,
+    shares: &[(60, 24, 24), (92, 16, 23), (94, 8, 15), (100, 25, 32)],
+};
+
+const IPV6: Lengths = Lengths {
+    shortest: 29,
+    longest: 64,
+    shares: &[
+        (45, 48, 48),
+        (65, 32, 32),
+        (80, 40, 40),
+        (90, 44, 44),
+        (100, 29, 64),
+    ],
+};
+
+/// A network, its hop, and the bits that its base was made of.
+#[derive(Clone, Copy)]
+struct Drawn<A: Address> {
+    network: Network<A>,
     hop: u32,
+    bits: u128,
 }
 
-/// The first bits of an address as a key of the map: their count, and the address without the others.
-fn first_bits(address: u32, bits: u32) -> (u32, u32) {
-    let others = u32::MAX.checked_shr(bits).unwrap_or(0);
-    (bits, address & !others)
+/// An address of a family that is drawn.
+trait Drawable: Address {
+    /// The address that begins with these bits.
+    fn of(bits: u128) -> Self;
 }
 
-/// Prints the times in which a trie and a map store the networks, and find the longest ones that hold addresses. The
-/// map is asked for each length, the longest first.
-pub fn answer<R: Print + Clock + AllocGlobal>(rt: &R, line: &str, count: u32) -> Result<()> {
+impl Drawable for Ipv4Addr {
+    fn of(bits: u128) -> Ipv4Addr {
+        Ipv4Addr::from_bits((bits >> 96) as u32)
+    }
+}
+
+impl Drawable for Ipv6Addr {
+    /// The same within 2000::/3, where routers know addresses.
+    fn of(bits: u128) -> Ipv6Addr {
+        Ipv6Addr::from_bits((bits >> 3) | (1 << 125))
+    }
+}
+
+/// Prints the times for a table of IPv4 networks.
+pub fn answer_ipv4<R: Print + Clock + AllocGlobal>(rt: &R, line: &str, count: u32) -> Result<()> {
+    answer::<Ipv4Addr, R>(rt, line, count, IPV4)
+}
+
+/// Prints the times for a table of IPv6 networks.
+pub fn answer_ipv6<R: Print + Clock + AllocGlobal>(rt: &R, line: &str, count: u32) -> Result<()> {
+    answer::<Ipv6Addr, R>(rt, line, count, IPV6)
+}
+
+/// The network of so many bits around an address, or that of the address alone where it has fewer.
+fn around<A: Address>(address: A, bits: u8) -> Network<A> {
+    Network::around(address, bits).unwrap_or(Network::host(address))
+}
+
+/// Prints the times in which a trie, a frozen table and a map store the networks, and find the longest ones that hold
+/// addresses.
+fn answer<A: Drawable, R: Print + Clock + AllocGlobal>(
+    rt: &R,
+    line: &str,
+    count: u32,
+    lengths: Lengths,
+) -> Result<()> {
     let alloc = rt.alloc();
-    let networks = networks(alloc, count)?;
-    let mut trie = Trie::new(alloc);
-    let by_trie = timed!(rt, "insert", &networks, |network| {
-        let bits = Bits::first_of_u32(alloc, network.address, network.bits as usize)?;
-        trie.insert(bits, network.hop)?.unwrap_or(0) as u64
-    });
-    let mut map = BTreeMap::new(alloc);
-    let by_map = timed!(rt, "insert", &networks, |network| {
-        let key = first_bits(network.address, network.bits);
-        map.insert(key, network.hop)?.unwrap_or(0) as u64
-    });
-    by_trie.print(rt, line, "trie")?;
-    by_map.print_beside(rt, line, "map", &by_trie)?;
+    let networks: Vec<Drawn<A>> = networks(alloc, count, lengths)?;
     let addresses = addresses(alloc, networks.as_slice())?;
-    let by_trie = timed!(rt, "look", &addresses, |address| {
-        let bits = Bits::first_of_u32(alloc, *address, 32)?;
-        trie.get_ancestor_value(&bits)?.copied().unwrap_or(0) as u64
+    let (stored, found) = answer_trie(rt, line, networks.as_slice(), addresses.as_slice())?;
+    let mut map = BTreeMap::new(alloc);
+    let by_map = timed!(rt, "insert", &networks, |drawn| {
+        map.insert(drawn.network, drawn.hop)?.unwrap_or(0) as u64
     });
+    by_map.print_beside(rt, line, "map", &stored)?;
     let by_map = timed!(rt, "look", &addresses, |address| {
-        let mut lengths = (SHORTEST..=LONGEST).rev();
-        let hop = lengths.find_map(|bits| map.get(&first_bits(*address, bits)));
-        hop.copied().unwrap_or(0) as u64
+        longest(&map, lengths, *address) as u64
     });
-    by_trie.print(rt, line, "trie")?;
-    by_map.print_beside(rt, line, "map", &by_trie)
+    by_map.print_beside(rt, line, "map", &found)
 }
 
-/// So many networks, of which every second one has the most bits.
-fn networks(alloc: Global, count: u32) -> Result<Vec<Network>, AllocError> {
+/// The hop of the longest network that holds an address. The map is asked for each length, the longest first.
+fn longest<A: Address>(map: &BTreeMap<Network<A>, u32>, lengths: Lengths, address: A) -> u32 {
+    for bits in (lengths.shortest..=lengths.longest).rev() {
+        if let Some(hop) = map.get(&around(address, bits)) {
+            return *hop;
+        }
+    }
+    0
+}
+
+/// Prints the times of a trie and of the frozen table that is made from it, and gives those of storing and looking up.
+fn answer_trie<A: Address, R: Print + Clock + AllocGlobal>(
+    rt: &R,
+    line: &str,
+    networks: &[Drawn<A>],
+    addresses: &[A],
+) -> Result<(Times, Times)> {
+    let alloc = rt.alloc();
+    let mut trie = Trie::new(alloc);
+    let stored = timed!(rt, "insert", networks, |drawn| {
+        trie.insert(drawn.network, drawn.hop)?.unwrap_or(0) as u64
+    });
+    stored.print(rt, line, "trie")?;
+    let by_trie = timed!(rt, "look", addresses, |address| {
+        let bits = Network::host(*address).encode(alloc)?;
+        match trie.nearest(&bits) {
+            Some((_, hop)) => *hop as u64,
+            None => 0,
+        }
+    });
+    by_trie.print(rt, line, "trie")?;
+    let start = Instant::now(rt)?;
+    let mut rows = Vec::with_capacity(alloc, networks.len())?;
+    for (network, hop) in TrieCommon::iter(&trie)? {
+        rows.push((*network, *hop))?;
+    }
+    let frozen = FrozenRoutes::from_sorted(rows).ok();
+    let frozen = frozen.context("the rows are refused")?;
+    Times::since(rt, "freeze", start, networks.len(), 0)?.print(rt, line, "frozen")?;
+    let found = timed!(rt, "look", addresses, |address| {
+        match frozen.look(*address) {
+            Some((_, hop)) => *hop as u64,
+            None => 0,
+        }
+    });
+    found.print_beside(rt, line, "frozen", &by_trie)?;
+    Ok((stored, by_trie))
+}
+
+/// So many networks.
+fn networks<A: Drawable>(alloc: Global, count: u32, lengths: Lengths) -> Result<Vec<Drawn<A>>> {
     let mut random = generator();
     let mut networks = Vec::new(alloc);
-    for i in 0..count {
-        let bits = match i % 2 {
-            0 => LONGEST,
-            _ => random.random_range(SHORTEST..=LONGEST),
-        };
-        let address = random.next_u32();
-        networks.push(Network {
-            address,
+    for hop in 0..count {
+        let percent = random.random_range(0..100);
+        let share = lengths.shares.iter().find(|share| percent < share.0);
+        let (_, least, most) = share.context("the shares are less than 100 percent")?;
+        let bits: u128 = random.random();
+        let more = random.random_range(0..=most.saturating_sub(*least));
+        networks.push(Drawn {
+            network: around(A::of(bits), least.saturating_add(more)),
+            hop,
             bits,
-            hop: i,
         })?;
     }
     Ok(networks)
 }
 
 /// Addresses, in a random order: every second one lies in one of the networks, the others anywhere.
-fn addresses(alloc: Global, networks: &[Network]) -> Result<Vec<u32>, AllocError> {
+fn addresses<A: Drawable>(alloc: Global, networks: &[Drawn<A>]) -> Result<Vec<A>> {
     let mut random = generator();
     let mut addresses = Vec::new(alloc);
-    for network in networks {
+    for drawn in networks {
         for i in 0..LOOKED_UP {
+            let other: u128 = random.random();
+            let inside = other.checked_shr(drawn.network.bits() as u32).unwrap_or(0);
             addresses.push(match i % 2 {
-                0 => network.address ^ random.random_range(0..256),
-                _ => random.next_u32(),
+                0 => A::of(drawn.bits ^ inside),
+                _ => A::of(other),
             })?;
         }
     }

@@ -30,6 +30,8 @@ mod makers;
 #[cfg(test)]
 mod moves;
 #[cfg(test)]
+mod networks;
+#[cfg(test)]
 mod one_tree;
 #[cfg(test)]
 mod pages;

@@ -1,5 +1,5 @@
 -- One row more.
-use Rattle.std.proofs.Common.{◌≡◌, ℕ, ◌-◌, ◌<◌, ◌≤◌, ◌↔◌, inl, inr, Bool, true, ltb, Option, Some, None, List, [], ◌∷◌, ◌++◌, length, subst, sym, ap, ◌∙◌, arith, get_or}
+use Rattle.std.proofs.Common.{◌≡◌, ℕ, ◌+◌, ◌-◌, ◌^◌, ◌<◌, ◌≤◌, ◌↔◌, inl, inr, Bool, true, ltb, Option, Some, None, List, [], ◌∷◌, ◌++◌, length, subst, sym, ap, ◌∙◌, arith, get_or}
 use Rattle.std.specs.Prelude.{MatchOption, is_some}
 use Rattle.std.proofs.lemmas.Bool.{lt-ltb, ltb-true}
 use Rattle.std.proofs.lemmas.List.{get_or_append_left, length-append, length-map, map_push}
@@ -8,6 +8,7 @@ use Rattle.radix_keys.proofs.KeyLemmas.Order.{three_ways}
 use Rattle.radix_keys.specs.Networks.{AgreeIn, IsBase, Net}
 use Rattle.frozen_routes.specs.Routes.{AreLinked, AreRising, AreFirstTops, IsEarlier, IsLastHolder, AreRowsInOrder, base_numbers, bit_counts}
 use Rattle.frozen_routes.proofs.RouteLemmas.Blocks.{earlier_le}
+use Rattle.frozen_routes.proofs.RouteLemmas.Tops.{no_tops}
 
 -- what comes before one that comes before a third comes before the third
 pub earlier_through : (a b c d e f : ℕ) → IsEarlier a b c d → IsEarlier c d e f → IsEarlier a b e f
@@ -132,13 +133,14 @@ module _ (w : ℕ) (fs bs : List ℕ) (f b : ℕ) (even : length bs ≡ length f
   }
 
   -- one row more and its link
-  pub linked_more : (up ts us none : List ℕ) (r : ℕ) → AreLinked w fs bs up ts → AreRising w (fs ++ f ∷ []) (bs ++ b ∷ []) → IsLastHolder w fs bs (length fs) f r
-      → us ≡ up ++ r ∷ [] → none ≡ [] → AreLinked w (fs ++ f ∷ []) (bs ++ b ∷ []) us none
-  linked_more up ts us none r kept rising last is empty =
+  pub linked_more : (up us : List ℕ) (e : ℕ) (ts none : List ℕ) (r : ℕ) → AreLinked w fs bs up e ts → length fs + 1 < 2 ^ 32 → AreRising w (fs ++ f ∷ []) (bs ++ b ∷ []) → IsLastHolder w fs bs (length fs) f r
+      → us ≡ up ++ r ∷ [] → none ≡ [] → AreLinked w (fs ++ f ∷ []) (bs ++ b ∷ []) us e none
+  linked_more up us e ts none r kept few rising last is empty =
       let n = length-append fs (f ∷ []) in
       let m = length-append up (r ∷ []) in
       let same = kept.linked in
-      subst (λ vs. AreLinked w (fs ++ f ∷ []) (bs ++ b ∷ []) vs none) (sym is) (record {
+      subst (λ vs. AreLinked w (fs ++ f ∷ []) (bs ++ b ∷ []) vs e none) (sym is) (record {
+        few = omega (arith, few, n);
         rising = rising;
         linked = omega (arith, n, m, same);
         links = λ i l. elim (three_ways i (length fs)) [
@@ -153,14 +155,14 @@ module _ (w : ℕ) (fs bs : List ℕ) (f b : ℕ) (even : length bs ≡ length f
               (holder_kept (length fs) f r (omega arith) last)))
           | inr (inr g) ↦ absurd (omega (arith, g, l, m, same))
         ];
-        tops = λ t l. absurd (let nil = ap length empty in omega (arith, nil, l));
+        tops = no_tops e (fs ++ f ∷ []) none kept.tops.shift empty;
       })
 
 -- each row has both numbers
 pub as_many : {A V : Type 0} (number : A → ℕ) (rows : List (Net A × V)) → length (bit_counts rows) ≡ length (base_numbers number rows)
 as_many number rows = length-map rows (λ r. r.0.bits) ∙ sym (length-map rows (λ r. number r.0.base))
 
--- one row more and its link
+-- rows and one more
 module _ {A V : Type 0} (w : ℕ) (number : A → ℕ) (rows : List (Net A × V)) (row : Net A × V) where
   -- the table of rows and one more, by their numbers
   pub table_more : AreRising w (base_numbers number rows ++ number row.0.base ∷ []) (bit_counts rows ++ row.0.bits ∷ []) → AreRowsInOrder w number (rows ++ row ∷ [])
@@ -168,27 +170,30 @@ module _ {A V : Type 0} (w : ℕ) (number : A → ℕ) (rows : List (Net A × V)
       subst (λ bs. AreRising w (base_numbers number (rows ++ row ∷ [])) bs) (sym (map_push (λ (r : Net A × V). r.0.bits) rows row))
       (subst (λ fs. AreRising w fs (bit_counts rows ++ row.0.bits ∷ [])) (sym (map_push (λ (r : Net A × V). number r.0.base) rows row)) rising)
 
-  pub linked_row : (up ts us none : List ℕ) (more : List (Net A × V)) (r : ℕ) → AreLinked w (base_numbers number rows) (bit_counts rows) up ts
+  -- and back
+  pub table_less : AreRowsInOrder w number (rows ++ row ∷ []) → AreRising w (base_numbers number rows ++ number row.0.base ∷ []) (bit_counts rows ++ row.0.bits ∷ [])
+  table_less rising =
+      subst (λ fs. AreRising w fs (bit_counts rows ++ row.0.bits ∷ [])) (map_push (λ (r : Net A × V). number r.0.base) rows row)
+      (subst (λ bs. AreRising w (base_numbers number (rows ++ row ∷ [])) bs) (map_push (λ (r : Net A × V). r.0.bits) rows row) rising)
+
+  -- one row more and its link
+  pub linked_row : (up us : List ℕ) (e : ℕ) (ts none : List ℕ) (more : List (Net A × V)) (r : ℕ) → AreLinked w (base_numbers number rows) (bit_counts rows) up e ts → length rows + 1 < 2 ^ 32
       → AreRising w (base_numbers number rows ++ number row.0.base ∷ []) (bit_counts rows ++ row.0.bits ∷ [])
       → IsLastHolder w (base_numbers number rows) (bit_counts rows) (length rows) (number row.0.base) r
-      → more ≡ rows ++ row ∷ [] → us ≡ up ++ r ∷ [] → none ≡ [] → AreLinked w (base_numbers number more) (bit_counts more) us none
-  linked_row up ts us none more r kept rising last is ups empty =
+      → more ≡ rows ++ row ∷ [] → us ≡ up ++ r ∷ [] → none ≡ [] → AreLinked w (base_numbers number more) (bit_counts more) us e none
+  linked_row up us e ts none more r kept few rising last is ups empty =
       let all = length-map rows (λ s. number s.0.base) in
       let holder = subst (λ n. IsLastHolder w (base_numbers number rows) (bit_counts rows) n (number row.0.base) r) (sym all) last in
-      let linked = linked_more w (base_numbers number rows) (bit_counts rows) (number row.0.base) row.0.bits (as_many number rows) up ts us none r kept rising holder ups empty in
-      subst (λ rs. AreLinked w (base_numbers number rs) (bit_counts rs) us none) (sym is)
-      (subst (λ bs. AreLinked w (base_numbers number (rows ++ row ∷ [])) bs us none) (sym (map_push (λ (s : Net A × V). s.0.bits) rows row))
-      (subst (λ fs. AreLinked w fs (bit_counts rows ++ row.0.bits ∷ []) us none) (sym (map_push (λ (s : Net A × V). number s.0.base) rows row)) linked))
-
-  -- all begin at or before it
-  pub rows_at_most : AreRising w (base_numbers number rows ++ number row.0.base ∷ []) (bit_counts rows ++ row.0.bits ∷ []) → (k : ℕ) → k < length rows
-      → get_or (base_numbers number rows) k 0 ≤ number row.0.base
-  rows_at_most rising k l =
-      all_at_most w (base_numbers number rows) (bit_counts rows) (number row.0.base) row.0.bits (as_many number rows) rising k (omega (arith, l, length-map rows (λ s. number s.0.base)))
+      let linked =
+      linked_more w (base_numbers number rows) (bit_counts rows) (number row.0.base) row.0.bits (as_many number rows) up us e ts none r kept (omega (arith, few, all)) rising holder ups empty in
+      subst (λ rs. AreLinked w (base_numbers number rs) (bit_counts rs) us e none) (sym is)
+      (subst (λ bs. AreLinked w (base_numbers number (rows ++ row ∷ [])) bs us e none) (sym (map_push (λ (s : Net A × V). s.0.bits) rows row))
+      (subst (λ fs. AreLinked w fs (bit_counts rows ++ row.0.bits ∷ []) us e none) (sym (map_push (λ (s : Net A × V). number s.0.base) rows row)) linked))
 
 -- the same rows and links with another table
-pub topped : {A V : Type 0} (w : ℕ) (number : A → ℕ) (rows again : List (Net A × V)) (up us ts vs : List ℕ) → AreLinked w (base_numbers number rows) (bit_counts rows) up ts
-    → again ≡ rows → us ≡ up → AreFirstTops w (base_numbers number again) vs → AreLinked w (base_numbers number again) (bit_counts again) us vs
-topped w number rows again up us ts vs kept same links tops =
-    let moved = subst (λ rs. AreLinked w (base_numbers number rs) (bit_counts rs) us ts) (sym same) (subst (λ ks. AreLinked w (base_numbers number rows) (bit_counts rows) ks ts) (sym links) kept) in
-    record { rising = moved.rising; linked = moved.linked; links = moved.links; tops = tops }
+pub topped : {A V : Type 0} (w : ℕ) (number : A → ℕ) (rows again : List (Net A × V)) (up us : List ℕ) (e : ℕ) (ts : List ℕ) (d : ℕ) (vs : List ℕ)
+    → AreLinked w (base_numbers number rows) (bit_counts rows) up e ts → again ≡ rows → us ≡ up → AreFirstTops d (base_numbers number again) vs
+    → AreLinked w (base_numbers number again) (bit_counts again) us d vs
+topped w number rows again up us e ts d vs kept same links tops =
+    let moved = subst (λ rs. AreLinked w (base_numbers number rs) (bit_counts rs) us e ts) (sym same) (subst (λ ks. AreLinked w (base_numbers number rows) (bit_counts rows) ks e ts) (sym links) kept) in
+    record { few = moved.few; rising = moved.rising; linked = moved.linked; links = moved.links; tops = tops }

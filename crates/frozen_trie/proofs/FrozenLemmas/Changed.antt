@@ -17,14 +17,6 @@ module _ {K V : Type 0} (R : K × V → V → Type 0) where
   AreChangedTo (suc i) (p ∷ ps) [] = ⊥
   AreChangedTo (suc i) (p ∷ ps) (q ∷ qs) = (q.0 ≡ p.0) × R p q.1 × AreChangedTo i ps qs
 
-  -- there are as many
-  pub as_many_changed : (i : ℕ) (old now : List (K × V)) → AreChangedTo i old now → length now ≡ length old
-  as_many_changed zero old now h = ap length h
-  as_many_changed (suc i) [] [] h = refl
-  as_many_changed (suc i) [] (q ∷ qs) h = absurd h
-  as_many_changed (suc i) (p ∷ ps) [] h = absurd h
-  as_many_changed (suc i) (p ∷ ps) (q ∷ qs) h = let r = as_many_changed i ps qs h.2 in omega (arith, r)
-
   -- the one at the index is as it was
   pub not_changed_yet : (i : ℕ) (old now : List (K × V)) (d : K × V) → AreChangedTo i old now → get_or now i d ≡ get_or old i d
   not_changed_yet zero old now d h = ap (λ xs. get_or xs 0 d) h

@@ -29,11 +29,6 @@ rising_front (x ∷ xs) ys h = (Each-front (IsBefore x) xs ys h.0, rising_front 
 pub code_behind : (cs : List (List ℕ)) (c : List ℕ) → code_at (cs ++ c ∷ []) (length cs) ≡ c
 code_behind cs c = get_or-append_seam cs c [] []
 
--- no code is none
-pub rising_alone : (cs : List (List ℕ)) (c : List ℕ) → length cs ≡ 0 → IsRising (cs ++ c ∷ [])
-rising_alone [] c e = (tt, tt)
-rising_alone (d ∷ cs) c e = absurd (omega (arith, e))
-
 -- codes and one more rise where the last comes before it
 pub rising_more : (cs : List (List ℕ)) (c : List ℕ) → 0 < length cs → IsRising cs → IsBefore (code_at cs (length cs - 1)) c → IsRising (cs ++ c ∷ [])
 rising_more cs c some h b = IsRising-append cs (c ∷ []) h (tt, tt) before

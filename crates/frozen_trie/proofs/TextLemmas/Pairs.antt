@@ -46,10 +46,6 @@ module _ {V : Type 0} (cs : List (List ℕ)) (vs : List V) (up : List ℕ) (kept
   pub all_texts : pairs_below (text_map cs vs) [] ≡ text_pairs cs vs
   all_texts = whole_is nibbles (text_pairs cs vs) texts_rise
 
-  -- as many as the map counts
-  pub all_count : length (pairs_below (text_map cs vs) []) ≡ fin.len (text_map cs vs)
-  all_count = ap length all_texts ∙ length-text_pairs cs vs kept.valued ∙ code_count
-
   -- the pair at an index
   pub pair_found : (k : ℕ) (v : V) → k < length cs → v ≡ get_or vs k v → slice_get (pairs_below (text_map cs vs) []) k ≡ Some (packed_bytes (code_at cs k), v)
   pair_found k v l h = ap (λ xs. slice_get xs k) all_texts ∙ text_found cs vs k v l kept.valued h

@@ -37,10 +37,6 @@ module _ {A : Type 0} where
   pub part_length : (xs : List A) (from to : ℕ) → from ≤ to → to ≤ length xs → length (take (to - from) (drop from xs)) ≡ to - from
   part_length xs from to l m = length-take-le (to - from) (drop from xs) (omega (arith, length-drop from xs, l, m))
 
-  -- where they are the same it has none
-  pub part_none : (xs : List A) (from to : ℕ) → from ≡ to → take (to - from) (drop from xs) ≡ []
-  part_none xs from to e = let n : to - from ≡ 0 = omega (arith, e) in ap (λ k. take k (drop from xs)) n
-
   -- from 0 up to the length it is the list
   pub part_whole : (xs : List A) (to : ℕ) → length xs ≤ to → take (to - 0) (drop 0 xs) ≡ xs
   part_whole xs to l = take_all (to - 0) xs (omega (arith, l))

@@ -1,49 +1,33 @@
-use Rattle.std.proofs.Common.{◌+◌, ◌-◌, ◌/◌, ◌<◌, length, arith, refl, get_or}
+use Rattle.std.proofs.Common.{◌≡◌, ◌*◌, ◌/◌, ◌^◌, ◌<◌, inl, inr, ap, subst, arith, get_or}
+use Rattle.std.proofs.lemmas.Bool.{cases_lt}
 use Rattle.std.proofs.lemmas.List.{length-map}
 use Rattle.frozen_routes.specs.Routes.{base_numbers, bit_counts}
 use Rattle.frozen_routes.proofs.RouteLemmas.Links.{firsts_to}
-use Rattle.frozen_routes.proofs.RouteLemmas.Parts.{own_is}
 use Rattle.frozen_routes.proofs.RouteLemmas.Tops.{quotient_less, quotient_most}
 use Rattle.frozen_routes.proofs.tops.count_below.Goals as goal
 
-pub loop-lo-preserved-then-part-first : goal.loop-lo-preserved-then-part-first
-loop-lo-preserved-then-part-first g c =
-    let w = g.A.Address.BITS in
-    let rows = c.args.rows.now in
-    let fs = base_numbers g.A.Address.number rows in
-    let all = length-map rows (λ r. g.A.Address.number r.0.base) in
-    let mid = c.loop-lo.lo + (c.loop-lo.hi - c.loop-lo.lo) / 2 in
-    let inside : mid < length fs = omega (arith, all, c.loop-lo-test.true, c.loop-lo.invariant.within) in
-    let part = own_is w 16 (get_or fs mid 0) _ _ _ _ c.saturating_sub-rest.ensures c.BITS.ensures c.first_at.ensures refl in
-    let less = quotient_less (get_or fs mid 0) c.args.first (w - 16) (omega (arith, part, c.if-part-first.true)) in
+pub loop-count-preserved : goal.loop-count-preserved
+loop-count-preserved g c =
+    let fs = base_numbers g.A.Address.number c.args.rows.now in
+    let i = c.loop-count.count in
+    let here = quotient_less (get_or fs i 0) c.args.first c.args.rest (omega (arith, ap (λ x. x / 2 ^ c.args.rest) c.first_at.ensures, c.if-first_at-rest.true)) in
     record {
-      order = omega (arith, c.loop-lo-test.true);
-      within = c.loop-lo.invariant.within;
-      below = λ k l. omega (arith, firsts_to w fs (bit_counts rows) k mid c.requires (omega (arith, l)) inside, less);
-      others = c.loop-lo.invariant.others;
+      within = omega (arith, c.loop-count-test.true);
+      below = λ k l. elim (cases_lt k i) [
+        | inl lt ↦ c.loop-count.invariant.below k lt
+        | inr ge ↦ let same : i ≡ k = omega (arith, l, ge) in subst (λ j. get_or fs j 0 < c.args.first * 2 ^ c.args.rest) same here
+      ];
     }
 
-pub loop-lo-preserved : goal.loop-lo-preserved
-loop-lo-preserved g c =
-    let w = g.A.Address.BITS in
+pub returns-else-first_at-rest : goal.returns-else-first_at-rest
+returns-else-first_at-rest g c =
+    let number = g.A.Address.number in
     let rows = c.args.rows.now in
-    let fs = base_numbers g.A.Address.number rows in
-    let all = length-map rows (λ r. g.A.Address.number r.0.base) in
-    let mid = c.loop-lo.lo + (c.loop-lo.hi - c.loop-lo.lo) / 2 in
-    let part = own_is w 16 (get_or fs mid 0) _ _ _ _ c.saturating_sub-rest.ensures c.BITS.ensures c.first_at.ensures refl in
-    let most = quotient_most (get_or fs mid 0) c.args.first (w - 16) (omega (arith, part, c.if-part-first.false)) in
+    let fs = base_numbers number rows in
+    let i = c.loop-count.count in
+    let here = quotient_most (get_or fs i 0) c.args.first c.args.rest (omega (arith, ap (λ x. x / 2 ^ c.args.rest) c.first_at.ensures, c.if-first_at-rest.false)) in
     record {
-      order = omega arith;
-      within = omega (arith, c.loop-lo-test.true, c.loop-lo.invariant.within);
-      below = c.loop-lo.invariant.below;
-      others = λ k l m. omega (arith, firsts_to w fs (bit_counts rows) mid k c.requires l (omega (arith, all, m)), most);
-    }
-
-pub returns : goal.returns
-returns g c =
-    let all = length-map c.args.rows.now (λ r. g.A.Address.number r.0.base) in
-    record {
-      within = omega (arith, all, c.loop-lo.invariant.within, c.loop-lo.invariant.order);
-      below = c.loop-lo.invariant.below;
-      others = λ k l m. c.loop-lo.invariant.others k (omega (arith, l, c.loop-lo-test.false)) (omega (arith, all, m));
+      within = omega (arith, c.loop-count.invariant.within, length-map rows (λ r. number r.0.base));
+      below = c.loop-count.invariant.below;
+      others = λ k l m. omega (arith, firsts_to g.A.Address.BITS fs (bit_counts rows) i k c.requires.rising l m, here);
     }

@@ -10,8 +10,7 @@ use Rattle.std.proofs.lemmas.Fmt.{decimal_is_IsNumeral}
 use Rattle.std.proofs.lemmas.List.Folds.{list_all_at}
 use Rattle.radix_keys.specs.Networks.{Net, IsBase}
 use Rattle.route_tool.specs.Requests.{IsTarget}
-use Rattle.route_tool.proofs.CommandLemmas.{has_slash}
-use Rattle.route_tool.proofs.OneRequest.{one_part}
+use Rattle.route_tool.proofs.CommandLemmas.{has_slash, one_part}
 use Rattle.route_tool.proofs.laws.worked_networks.Goals as goal
 
 -- no byte of these is a slash

@@ -22,7 +22,7 @@ returns g c =
     let last = subst (λ rs. IsLastHolder w (base_numbers number rs) (bit_counts rs) (length rs) a found) same c.last_holder-found.ensures in
     let some : 0 < found = omega (arith, c.if-found-eq0.false) in
     let row = row_of_refs c.entry_at.result in
-    let is = c.entry_at.ensures ∙ ap (λ rs. get_or rs (found - 1) row) (c.deref-4.ensures.value ∙ c.self.view_is) in
+    let is = c.entry_at.ensures ∙ ap (λ rs. get_or rs (found - 1) row) (c.deref-3.ensures.value ∙ c.self.view_is) in
     let within : found - 1 < length c.args.self.now = omega (arith, some, last.within) in
     record {
       row = last_is_longest w number c.args.self.now (subst (AreRowsInOrder w number) c.self.view_is c.self.invariant.rising) a found row some last

@@ -3,7 +3,7 @@ use Rattle.std.proofs.lemmas.List.{length-map}
 use Rattle.radix_keys.specs.Networks.{IsBase}
 use Rattle.frozen_routes.specs.Routes.{base_numbers, bit_counts}
 use Rattle.frozen_routes.proofs.RouteLemmas.Growing.{as_many, by_firsts, by_sizes, follow_by, if_some, tested_as}
-use Rattle.frozen_routes.proofs.appended.follows.Goals as goal
+use Rattle.frozen_routes.proofs.linked.follows.Goals as goal
 
 pub returns-then-count-eq0 : goal.returns-then-count-eq0
 returns-then-count-eq0 g c =

@@ -1,0 +1,46 @@
+use Rattle.std.proofs.Common.{◌≡◌, ◌+◌, ◌++◌, [], ◌∷◌, ◌<◌, ◌^◌, length, take, refl, sym, subst, arith, get_or}
+use Rattle.std.proofs.lemmas.List.{length-take, take_all, take_more}
+use Rattle.frozen_routes.specs.Routes.{IsFirstOutOfOrder, AreRowsInOrder}
+use Rattle.frozen_routes.proofs.RouteLemmas.Growing.{linked_row, table_less, topped}
+use Rattle.frozen_routes.proofs.sorted.links_and_tops.Goals as goal
+
+pub returns-in_default-link_after-clause-unsorted : goal.returns-in_default-link_after-clause-unsorted
+returns-in_default-link_after-clause-unsorted g c = λ k e.
+    let w = g.A.Address.BITS in
+    let number = g.A.Address.number in
+    let rows = c.args.rows.now in
+    let i = c.loop-i.i in
+    let row = get_or rows i c.index-rows-i.result in
+    let same : i ≡ k = cc e in
+    let step : take (i + 1) rows ≡ take i rows ++ row ∷ [] = take_more rows i c.index-rows-i.result c.loop-i-test.true in
+    subst (IsFirstOutOfOrder w number rows) same (record {
+      within = c.loop-i-test.true;
+      before = c.loop-i.invariant.linked.rising;
+      unsorted = λ h. c.in_default-link_after.ensures (table_less w number (take i rows) row (subst (AreRowsInOrder w number) step h));
+    })
+
+pub loop-i-preserved : goal.loop-i-preserved
+loop-i-preserved g c =
+    let w = g.A.Address.BITS in
+    let number = g.A.Address.number in
+    let rows = c.args.rows.now in
+    let i = c.loop-i.i in
+    let row = get_or rows i c.index-rows-i.result in
+    let tops = c.in-Ok-with_room.tops in
+    let step : take (i + 1) rows ≡ take i rows ++ row ∷ [] = take_more rows i c.index-rows-i.result c.loop-i-test.true in
+    let few : length (take i rows) + 1 < 2 ^ 32 = omega (arith, length-take i rows, c.loop-i-test.true, c.if-count.false) in
+    record {
+      linked = linked_row w number (take i rows) row c.loop-i.up.items _ tops.rest tops.counts.items _ _ c.in-Some.link c.loop-i.invariant.linked few c.in-Some.ensures.0 c.in-Some.ensures.1 step
+          c.push_reserved.ensures.items c.in-Ok-with_room.ensures.counts;
+      len = omega (arith, c.push_reserved.ensures.len, c.loop-i.invariant.len);
+      room = omega (arith, c.push_reserved.ensures.capacity, c.loop-i.invariant.room);
+    }
+
+pub returns-clause-ok : goal.returns-clause-ok
+returns-clause-ok g c =
+    let w = g.A.Address.BITS in
+    let number = g.A.Address.number in
+    let rows = c.args.rows.now in
+    let i = c.loop-i.i in
+    let tops = c.in-Ok-with_room.tops in
+    topped w number (take i rows) rows c.loop-i.up.items _ tops.rest tops.counts.items _ _ c.loop-i.invariant.linked (sym (take_all i rows (omega (arith, c.loop-i-test.false)))) refl c.filled.ensures

@@ -1,0 +1,64 @@
+//! A table of networks that changes, and the same routes frozen once it is filled.
+ghost use Rattle.std.specs.Prelude.{◌≡◌, [], IfOk};
+ghost use Rattle.radix_trie.specs.Views.{pairs_below};
+
+use frozen_routes::FrozenRoutes;
+use radix_trie::{Address, Ipv4Network, Memory, Network, Trie, TrieCommon};
+use std::alloc::Global;
+use std::net::Ipv4Addr;
+
+/// The routes of a table in order, for look-ups that allocate nothing.
+fn frozen<A: Address, V: Copy>(
+    alloc: Global,
+    table: &Trie<Network<A>, V>,
+) -> Result<FrozenRoutes<A, V>, Memory>
+    ensures { IfOk result (λ routes. routes ≡ pairs_below table.now []) }
+{
+    let mut rows = Vec::with_capacity(alloc, TrieCommon::len(table))?;
+    for (network, hop) in TrieCommon::iter(table)? {
+        rows.push((*network, *hop))?;
+    }
+    match FrozenRoutes::from_sorted(rows) {
+        Ok(routes) => Ok(routes),
+        Err(_) => Err(Memory),
+    }
+}
+
+/// A table of networks, each with where it leads.
+fn table(alloc: Global, rows: &[(&'static str, u32)]) -> Result<Trie<Ipv4Network, u32>, Memory> {
+    let mut table = Trie::new(alloc);
+    for (text, hop) in rows {
+        if let Ok(network) = text.parse::<Ipv4Network>() {
+            table.insert(network, *hop).map_err(|_| Memory)?;
+        }
+    }
+    Ok(table)
+}
+
+#[test]
+fn frozen_routes_of_a_table(rt: HostRuntime) -> Result<(), Memory> {
+    const NETWORKS: &'static [(&'static str, u32)] = &[
+        ("10.1.2.0/24", 3),
+        ("10.0.0.0/8", 1),
+        ("10.1.0.0/16", 2),
+    ];
+    const ROWS: &'static [(&'static str, Option<u32>)] = &[
+        ("10.1.2.3", Some(3)),
+        ("10.1.3.3", Some(2)),
+        ("10.2.2.3", Some(1)),
+        ("11.1.2.3", None),
+    ];
+    let routes = frozen(rt.alloc(), &table(rt.alloc(), NETWORKS)?)?;
+    for (text, hop) in ROWS {
+        let found = match Ipv4Addr::parse(text) {
+            Some(address) => routes.look(address),
+            None => None,
+        };
+        let found = match found {
+            Some((_, hop)) => Some(*hop),
+            None => None,
+        };
+        assert!(rt; found == *hop, "{text}");
+    }
+    Ok(())
+}

@@ -35,15 +35,6 @@ SAME_NAMES = {
     },
 }
 
-# Labels of clauses that no page explains yet, by crate.
-LABELS = {
-    "radix_keys": "byte fits nibble some turned within",
-    "radix_trie": "any_kind children computed first fragment key last pairs sound steps",
-    "trie_set": "disjoint first last subset superset",
-    "trie_tool": "gone noted numbers old_number rows served",
-    "route_tool": "added longest networks old_hop rows v4 v6",
-}
-
 # Calls with no wrong body of their own, each with the function that does its work and has one: where the crate is named,
 # one of a crate below. For integers it is that of another type, by the same text.
 STANDS_FOR = {

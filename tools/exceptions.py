@@ -119,7 +119,7 @@ NO_EDIT = {
                       "PathList::into_nibbles",
         "trie_set": "TrieSet::new TrieSet::from_trie TrieSet::into_trie TrieSet::as_trie",
         "trie_tool": "Numbers::new",
-        "route_tool": "Hop::as_bytes Routes::new Table::new",
+        "route_tool": "Hop::as_bytes Frozen::new Routes::new Table::new",
     },
     "it is a trait's, and each program has a body of its own": {
         "line_sessions": "Program::answer",

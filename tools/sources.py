@@ -1,7 +1,6 @@
 """Reads the heads of functions, impls and traits in the sources of crates, as `rt fmt` lays them out."""
 import dataclasses
 import functools
-import itertools
 import re
 
 from shared import ROOT, files_in, text_of
@@ -17,8 +16,7 @@ def plain(text):
 
 @dataclasses.dataclass(eq=False)
 class Item:
-    """A function, an impl or a trait. Of a function the owner is the impl or the trait that it stands in, if any. What
-    is told of it are the lines behind `///` above it."""
+    """A function, an impl or a trait. Of a function the owner is the impl or the trait that it stands in, if any."""
 
     place: int
     access: str
@@ -26,7 +24,6 @@ class Item:
     text: str
     has_body: bool
     owner: "Item | None"
-    told: str
 
     @property
     def name(self):
@@ -64,23 +61,15 @@ class Item:
         return [(label, plain(clause)) for label, clause in CLAUSE.findall(text)]
 
 
-def told_above(lines):
-    """What the lines behind `///` tell that end these lines, over attributes and other comments."""
-    above = [*itertools.takewhile(re.compile(r" *(?://|#\[)").match, reversed(lines))]
-    return "\n".join(re.findall(r"^ */// ?(.*)$", "\n".join(reversed(above)), re.M))
-
-
 @functools.cache
 def items_of(path):
     """The items of a source, by its path below the checkout, but for impls with nothing in them."""
     items, block, source = [], None, text_of(path)
-    lines = source.split("\n")
     for found in HEAD.finditer(source):
         indent, access, kind, text, end = found.groups()
         if kind == "fn" or not end.endswith("}"):
             owner, access = block if indent else None, (access or "").strip()
-            told = told_above(lines[: source.count("\n", 0, found.start())])
-            items.append(Item(found.start(), access, kind, text.lstrip(), end != ";", owner, told))
+            items.append(Item(found.start(), access, kind, text.lstrip(), end != ";", owner))
             block = items[-1] if kind != "fn" else block
     return items
 

@@ -1,5 +1,6 @@
 """What the scripts share: plain files, the crates, counts of checks, and processes that end with the script."""
 import contextlib
+import fcntl
 import functools
 import hashlib
 import importlib.machinery
@@ -224,6 +225,15 @@ def run(name, main):
         sys.exit(main(sys.argv[1:]))
     except (OSError, RecursionError, Refused, UnicodeError, subprocess.SubprocessError) as error:
         sys.exit(f"{name}: {error}")
+
+
+def take_turn(file, say):
+    """Waits until no other run holds this file, and says first that it does so."""
+    try:
+        fcntl.flock(file, fcntl.LOCK_EX | fcntl.LOCK_NB)
+    except BlockingIOError:
+        say()
+        fcntl.flock(file, fcntl.LOCK_EX)
 
 
 @functools.cache

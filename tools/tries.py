@@ -6,15 +6,11 @@ defines is computed as it is said there, of all the lists that are stored.
 import bisect
 import functools
 import itertools
-import os
 import re
+from os.path import commonprefix
 
 DIGITS, NUMBERS, QUOTES = "0123456789abcdef", 2**64, '""'
 NOT_HERE, OTHER_COUNT = "no such call here", "another count of words"
-
-
-def agreed(*lists):
-    return os.path.commonprefix(lists)
 
 
 def starting(lists, path):
@@ -48,7 +44,7 @@ class Trie:
     @functools.cached_property
     def points(self):
         """The empty list, the stored ones, and where two of them part: of those that part there, two are neighbours."""
-        return sorted({"", *self.lists, *(agreed(*it) for it in itertools.pairwise(self.lists))})
+        return sorted({"", *self.lists, *map(commonprefix, itertools.pairwise(self.lists))})
 
     def change(self, pairs):
         """Stores each number at its list, or nothing."""
@@ -85,13 +81,13 @@ class Trie:
     def cost(self, at):
         """How many nodes a search visits, those at the points that begin its list, and how many nibbles it compares:
         one more than it finds where it leaves a fragment inside."""
-        common = max((len(agreed(at, it)) for it in self.lists), default=0)
+        common = max((len(commonprefix([at, it])) for it in self.lists), default=0)
         return len(beginnings(self.points, at)), common + (common < len(at) and at[:common] not in self.points)
 
     def footprint(self):
         """The counts of points, and of lists but the empty one that begin stored ones."""
         steps = itertools.pairwise(["", *self.lists])
-        return len(self.points), sum(len(it) - len(agreed(last, it)) for last, it in steps)
+        return len(self.points), sum(len(it) - len(commonprefix([last, it])) for last, it in steps)
 
     def tree(self, path=""):
         """The points at and below a point in order, each with how many of them stand above it."""
@@ -162,8 +158,8 @@ class View:
         return self.change([(it, None) for it in lists if self.pairs[it] < least])
 
     def debug(self):
-        kind = self.shell.kind
-        return "{%s}" % ", ".join(f"{logged(kind, it, self.words[it])}: {self.pairs[it]}" for it in self.below)
+        logged = LOGGED.get(self.shell.kind, lambda at: self.words[at].strip('"'))
+        return "{%s}" % ", ".join(f"{logged(it)}: {self.pairs[it]}" for it in self.below)
 
     def draw(self, path):
         tree = self.tree(path) if path in self.points else ()
@@ -199,7 +195,7 @@ class View:
         with."""
         if part is self.trie:
             return NO["O"]
-        if self.pairs and part.pairs and self.point_below(agreed(*part.lists)) is not None:
+        if self.pairs and part.pairs and self.point_below(commonprefix(part.lists)) is not None:
             return "overlapping"
         return self.change(part.cut().items())
 
@@ -227,17 +223,13 @@ def escaped(text, quote):
     return f"{quote}{inner}{quote}"
 
 
-def logged(kind, at, word):
-    """What a log has of the key with this list and this word, as `{:?}` writes it."""
-    if kind == "bytes":
-        return str([*bytes.fromhex(at)])
-    if kind == "text":
-        return escaped(bytes.fromhex(at).decode(), '"')
-    if kind == "char":
-        return escaped(chr(int(at, 16)), "'")
-    if kind == "parts":
-        return "[%s]" % ", ".join(escaped(it.decode(), '"') for it in levels_of(at))
-    return "" if word == QUOTES else word
+# What a log has of a key with this list, as `{:?}` writes it, where that isn't the key's word.
+LOGGED = {
+    "bytes": lambda at: str([*bytes.fromhex(at)]),
+    "text": lambda at: escaped(bytes.fromhex(at).decode(), '"'),
+    "char": lambda at: escaped(chr(int(at, 16)), "'"),
+    "parts": lambda at: "[%s]" % ", ".join(escaped(it.decode(), '"') for it in levels_of(at)),
+}
 
 
 def inside(call):
@@ -513,15 +505,15 @@ class Shell:
         return NO[kinds[read.index(None)]] if None in read else answer(view, *read)
 
     def use(self, name):
-        if name != self.names[0]:
-            self.tries.setdefault(name, Trie())
-            self.names += [name] if name not in self.names else []
-            place, self.views = self.names.index(name), []
-            self.names[0], self.names[place] = name, self.names[0]
+        """The trie of this name and the current one change places."""
+        if name not in self.names:
+            self.put(name, tuple)
+        place = self.names.index(name)
+        self.names[0], self.names[place], self.views = name, self.names[0], [] if place else self.views
         return "ok"
 
     def put(self, name, pairs):
-        """Makes a trie of the pairs that are made then, under a name that isn't the current trie's."""
+        """Makes a trie of what the function gives, under a name that isn't the current trie's."""
         if name == self.names[0]:
             return NO["O"]
         self.names += [name] if name not in self.names else []

@@ -114,25 +114,19 @@ class View:
     def below(self):
         return starting(self.lists, self.path)
 
-    def value(self, at):
-        return str(self.pairs.get(at, "none"))
-
-    def values(self, lists):
-        return rows(map(self.value, lists))
-
     def told(self, lists):
         """The pairs that are stored at these lists."""
         return rows(f"{self.words[it]} {self.pairs[it]}" for it in lists if it in self.pairs)
 
+    def values(self, *lists):
+        return rows(str(self.pairs[it]) for it in lists if it in self.pairs)
+
     def named(self, lists):
         return rows(self.words[it] for it in sorted(lists))
 
-    def view(self, at):
-        """A line of the view there, or that there is none."""
-        return f"{at or QUOTES} {self.value(at)}" if at in self.points else "none"
-
-    def views(self, lists):
-        return rows(map(self.view, lists))
+    def views(self, *lists):
+        """The lines of the views that stand there."""
+        return rows(f"{it or QUOTES} {self.values(it)}" for it in lists if it in self.points)
 
     def put(self, at, number, absent="none"):
         """Stores the number, or nothing, and tells of the old one."""
@@ -259,7 +253,7 @@ def reply(view, name, read):
     if name in ("len", "end"):
         return name if name == "end" else str(len(view.below))
     if name == "ancestor":
-        return f"found {view.values(view.above(at))}"
+        return f"found {view.values(*view.above(at))}"
     if name == "remove_prefix":
         return " ".join(["gone", *map(str, view.cut(at).values())])
     return f"{'found' if name == 'get' else 'old'} {CALLS[name][2](view, *read)}"
@@ -269,7 +263,7 @@ def opened(v, at, places, absent):
     """Opens a view there, or answers this where no point is."""
     if at in v.points:
         v.shell.views.append((at, places))
-    return v.view(at) if at in v.points else absent
+    return v.views(at) if at in v.points else absent
 
 
 def in_with(v, at, lines, absent):
@@ -289,14 +283,14 @@ def in_with(v, at, lines, absent):
 # nibbles.
 CALLS = {
     "key": ("", "trwcl", lambda v: v.named({v.path} & v.pairs.keys())),
-    "value": ("", "trwcl", lambda v: v.value(v.path)),
+    "value": ("", "trwcl", lambda v: v.values(v.path)),
     "len": ("", "trwcfl", lambda v: str(len(v.below))),
     "is_empty": ("", "trwcfl", lambda v: truth(not v.below)),
     "is_leaf": ("", "trwcl", lambda v: truth(v.below in ([], [v.path]))),
     "prefix": ("", "trwc", lambda v: v.fragment or QUOTES),
     "iter": ("", "trwcf", lambda v: v.told(v.below)),
     "keys": ("", "trwcf", lambda v: v.named(v.below)),
-    "values": ("", "trwcf", lambda v: v.values(v.below)),
+    "values": ("", "trwcf", lambda v: v.values(*v.below)),
     "iter_from": ("Q", "trwcf", lambda v, at: v.told(it for it in v.below if it >= at)),
     "iter_after": ("Q", "trwcf", lambda v, at: v.told(it for it in v.below if it > at)),
     "cursor": ("", "trwc", lambda v: v.told(v.below)),
@@ -308,11 +302,11 @@ CALLS = {
     "first_key_value": ("", "trwcfl", lambda v: v.told(v.below[:1])),
     "last_key_value": ("", "trwcfl", lambda v: v.told(v.below[-1:])),
     "path": ("", "rw", lambda v: v.path or QUOTES),
-    "get": ("Q", "trwfm", inside(lambda v, at: v.value(at))),
+    "get": ("Q", "trwfm", inside(lambda v, at: v.values(at))),
     "count_below": ("Q", "trwfm", inside(lambda v, at: str(len(starting(v.lists, at))))),
-    "children": ("", "trw", lambda v: v.views(v.children(v.path))),
+    "children": ("", "trw", lambda v: v.views(*v.children(v.path))),
     "debug": ("", "trw", lambda v: v.debug()),
-    "subtrie": ("Q", "trm", inside(lambda v, at: v.view(at))),
+    "subtrie": ("Q", "trm", inside(lambda v, at: v.views(at))),
     "first_below": ("QN", "trf", inside(lambda v, at, most: v.told(starting(v.lists, at)[:most]))),
     "insert": ("KN", "tw", inside(lambda v, at, number: v.put(at, number))),
     "remove": ("Q", "tw", inside(lambda v, at: v.put(at, None))),
@@ -321,22 +315,22 @@ CALLS = {
     "for_each_value_mut": ("N", "twfl", lambda v, added: v.add(added, v.below)),
     "for_each_mut": ("KN", "twf", lambda v, other, added: v.add(added, v.below, other)),
     "retain": ("N", "tw", lambda v, least: v.retain(least, v.below)),
-    "get_counted": ("Q", "tm", lambda v, at: f"{v.value(at)} {v.cost(at)[1]}"),
-    "get_with_cost": ("Q", "tm", lambda v, at: f"{v.value(at)} {v.cost(at)[0]} {v.cost(at)[1]}"),
+    "get_counted": ("Q", "tm", lambda v, at: f"{v.values(at)} {v.cost(at)[1]}"),
+    "get_with_cost": ("Q", "tm", lambda v, at: f"{v.values(at)} {v.cost(at)[0]} {v.cost(at)[1]}"),
     "contains_key": ("Q", "tfm", lambda v, at: truth(at in v.pairs)),
     "get_key_value": ("Q", "tfm", lambda v, at: v.told([at])),
-    "get_ancestor": ("Q", "tfm", lambda v, at: v.views(v.above(at))),
-    "get_ancestor_value": ("Q", "tfm", lambda v, at: v.values(v.above(at))),
-    "get_raw_ancestor": ("Q", "tm", lambda v, at: v.view(beginnings(v.points, at)[-1])),
-    "get_raw_descendant": ("Q", "tm", lambda v, at: v.view(v.point_below(at))),
+    "get_ancestor": ("Q", "tfm", lambda v, at: v.views(*v.above(at))),
+    "get_ancestor_value": ("Q", "tfm", lambda v, at: v.values(*v.above(at))),
+    "get_raw_ancestor": ("Q", "tm", lambda v, at: v.views(beginnings(v.points, at)[-1])),
+    "get_raw_descendant": ("Q", "tm", lambda v, at: v.views(v.point_below(at))),
     "common_prefixes": ("Q", "tfm", lambda v, at: v.told(beginnings(v.lists, at))),
     "first_after": ("QQN", "t", lambda v, at, last, n: v.told([it for it in starting(v.lists, at) if it > last][:n])),
     "between": ("QQ", "tf", lambda v, at, end: v.told(it for it in v.lists if at <= it < end)),
     "between_inclusive": ("QQ", "t", lambda v, at, end: v.told(it for it in v.lists if at <= it <= end)),
-    "at": ("L", "tfl", lambda v, at: v.value(at)),
+    "at": ("L", "tfl", lambda v, at: v.values(at)),
     "contains": ("L", "tfl", lambda v, at: truth(at in v.pairs)),
     "nearest": ("L", "tfl", lambda v, at: v.told(v.above(at))),
-    "nearest_value": ("L", "tfl", lambda v, at: v.values(v.above(at))),
+    "nearest_value": ("L", "tfl", lambda v, at: v.values(*v.above(at))),
     "nearest_with_cost": ("L", "tl", lambda v, at: "{} {} {}".format(v.told(v.above(at)), *v.cost(at))),
     "footprint": ("", "tl", lambda v: "{} {}".format(*v.footprint())),
     "check_integrity": ("", "t", lambda v: "true"),
@@ -345,7 +339,7 @@ CALLS = {
                          v.change([(at, number)])),
     "try_insert": ("KN", "t", lambda v, at, number: "occupied" if at in v.pairs else v.change([(at, number)])),
     "get_or_insert": ("KNN", "t", lambda v, at, default, number: v.put(at, number, default)),
-    "entry": ("K", "t", lambda v, at: f"{v.words[at]} {v.value(at)} {truth(at in v.pairs)}"),
+    "entry": ("K", "t", lambda v, at: f"{v.words[at]} {v.values(at)} {truth(at in v.pairs)}"),
     "entry_insert": ("KN", "t", View.put),
     "entry_or_insert": ("KNN", "t", lambda v, at, default, number: v.put(at, number, default)),
     "entry_and_modify": ("KN", "t", lambda v, at, added: v.add(added, [at] if at in v.pairs else [])),
@@ -373,7 +367,7 @@ CALLS = {
     "with": ("Qv", "n", lambda v, at, lines: in_with(v, at, lines, "closed")),
     "with_subtrie_mut": ("Qv", "n", lambda v, at, lines: in_with(v, at, lines, "none")),
     "spend": ("c", "x", lambda v, line: v.shell.call(line, v, "c")),
-    "into_children": ("", "x", lambda v: v.views(v.children(v.path))),
+    "into_children": ("", "x", lambda v: v.views(*v.children(v.path))),
     "into_trie": ("t", "x", lambda v, line: v.shell.call(line, View(v.shell, v.trie), "t")),
     "below": ("Q", "f", lambda v, at: v.told(starting(v.lists, at))),
     "nth": ("N", "f", lambda v, place: v.told(v.lists[place:][:1])),

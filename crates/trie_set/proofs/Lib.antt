@@ -1,3 +1,5 @@
 pub mod SideLemmas
 pub mod SetLemmas
 pub mod OrderLemmas
+-- The algebra of sets, by what their maps answer at each list.
+pub mod AlgebraLemmas

@@ -154,7 +154,7 @@ module _ {P : Type 0} where
   first_else true v o p = refl
   first_else false v o p = refl
 
-  get-with_entries : (es : List (List ℕ × P)) (n : NibbleMap P) (q : List ℕ) → map.get (with_entries es n) q ≡ cond (has_entry es q) (find (slice_cmp nat_cmp) q es) (map.get n q)
+  pub get-with_entries : (es : List (List ℕ × P)) (n : NibbleMap P) (q : List ℕ) → map.get (with_entries es n) q ≡ cond (has_entry es q) (find (slice_cmp nat_cmp) q es) (map.get n q)
   get-with_entries [] n q = refl
   get-with_entries (e ∷ es) n q =
       map.get-insert nat_list_cmp_total (with_entries es n) e.0 e.1 q

@@ -36,7 +36,7 @@ module _ {P : Type 0} where
       (first_before p q es less (second_of_both _ _ h))
 
   -- a list that comes before all entries has none
-  no_entry : (q : List ℕ) (es : List (List ℕ × P)) → IsFirst q es → find (slice_cmp nat_cmp) q es ≡ None
+  pub no_entry : (q : List ℕ) (es : List (List ℕ × P)) → IsFirst q es → find (slice_cmp nat_cmp) q es ≡ None
   no_entry q [] h = refl
   no_entry q (e ∷ es) h =
       ap (λ r. cond (is_eq r) (Some e.1) (find (slice_cmp nat_cmp) q es)) (less_by_test _ (first_of_both _ _ h)) ∙ no_entry q es (second_of_both _ _ h)

@@ -1,6 +1,6 @@
 //! What two sets hold together.
 ghost use Rattle.std.specs.FinMap as map;
-ghost use Rattle.std.specs.Prelude.{◌≡◌, ◌⊎◌, ◌↔◌, ℕ, List, Some, map as each};
+ghost use Rattle.std.specs.Prelude.{◌≡◌, ◌+◌, ◌⊎◌, ◌↔◌, ℕ, List, Some, map as each};
 ghost use Rattle.nibble_map.specs.Lists.{Has, IsRising};
 ghost use Rattle.nibble_map.specs.Maps.{IsStored, NibbleMap};
 ghost use Rattle.trie_set.specs.Sets.{common, joined, key_at, keys_in, lacking};
@@ -22,6 +22,28 @@ pub fn sets_answer_by_both<P>()
         → map.get (joined m n) e ≡ map.get m e }
     ensures other_key { (m n : NibbleMap P) (e : List ℕ) → (IsStored m e → ⊥)
         → map.get (joined m n) e ≡ map.get n e }
+{}
+
+/// The algebra of sets. Where two sets hold keys with one encoding, the first one's stand in what both have in common, and
+/// in what they have together.
+pub fn sets_have_an_algebra<P>()
+    ensures counts { (m n : NibbleMap P)
+        → map.len (joined m n) + map.len (common m n) ≡ map.len m + map.len n }
+    ensures common_over { (m n o : NibbleMap P)
+        → common m (joined n o) ≡ joined (common m n) (common m o) }
+    ensures joined_over { (m n o : NibbleMap P)
+        → joined m (common n o) ≡ common (joined m n) (joined m o) }
+    ensures common_absorbs { (m n : NibbleMap P) → common m (joined m n) ≡ m }
+    ensures joined_absorbs { (m n : NibbleMap P) → joined m (common m n) ≡ m }
+    ensures lacking_both { (m n o : NibbleMap P)
+        → lacking m (joined n o) ≡ lacking (lacking m n) o }
+    ensures lacking_one { (m n o : NibbleMap P)
+        → lacking m (common n o) ≡ joined (lacking m n) (lacking m o) }
+    ensures parts_joined { (m n : NibbleMap P) → joined (common m n) (lacking m n) ≡ m }
+    ensures common_apart { (m n o : NibbleMap P)
+        → common (common m n) o ≡ common m (common n o) }
+    ensures joined_apart { (m n o : NibbleMap P)
+        → joined (joined m n) o ≡ joined m (joined n o) }
 {}
 
 /// The keys of a set, and of two sets side by side, stand in the order of their encodings; those of a set are the keys that

@@ -1,8 +1,5 @@
 """What tools/texts lets pass, each with its reason. What is named here and needs it no more fails too."""
 
-WALKS = ("iter", "iter_from", "iter_after", "cursor", "cursor_from", "cursor_after")
-WALKS += ("cursor_back_from", "cursor_back_before")
-
 # Names that two specifications define, by the reason, with the modules that do.
 SAME_NAMES = {
     "a word for sets of lists and the same one for maps, the second defined by the first": {
@@ -70,15 +67,9 @@ STANDS_FOR = {
         "SubTrieMut::value_mut": "value_behind",
         "Trie::get_mut": "absent_as_none",
         "Trie::subtrie_mut": "closed_as_none",
-        "SubTrieMutTrieCommon::key": "key_within",
-        "SubTrieMutTrieCommon::value": "Place::value",
-        "SubTrieMutTrieCommon::first_key_value": "first_within",
-        "SubTrieMutTrieCommon::last_key_value": "last_within",
-        **{f"TrieCommon::{name}": f"Place::{name}" for name in ("key", "value", "is_leaf", *WALKS)},
-        "TrieCommon::cursor_back": "Place::cursor_back",
-        "TrieCommon::prefix": "SubTrie::fragment",
-        **{f"SubTrieMutTrieCommon::{name}": f"Place::{name}" for name in ("is_empty", "is_leaf")},
-        "SubTrieMutTrieCommon::prefix": "SubTrieMut::fragment",
+        **{f"SubTrieMut::{name}": f"{name}_within" for name in ("key", "value")},
+        "SubTrieMut::first_key_value": "first_within",
+        "SubTrieMut::last_key_value": "last_within",
         **{f"TrieEdit::{name}": f"SubTrieMut::{name}" for name in ("insert", "remove", "remove_prefix", "retain")},
     },
     "trie_tool": {
@@ -90,7 +81,7 @@ STANDS_FOR = {
         "Numbers::remove": "radix_trie Trie::remove",
         "Numbers::prune": "radix_trie Trie::remove_prefix",
         "Numbers::footprint": "radix_trie Trie::footprint",
-        "Numbers::all": "radix_trie Place::iter",
+        "Numbers::all": "radix_trie AnyTrieCommon::iter",
         "add_object": "write_members",
     },
     "route_tool": {
@@ -99,8 +90,8 @@ STANDS_FOR = {
         "Routes::compact": "radix_trie Trie::compact",
         "Routes::look": "Routes::find",
         "Routes::below": "radix_trie Trie::get_raw_descendant",
-        "Routes::rest": "radix_trie Place::cursor",
-        "Routes::walk": "radix_trie Place::iter",
+        "Routes::rest": "radix_trie AnyTrieCommon::cursor",
+        "Routes::walk": "radix_trie AnyTrieCommon::iter",
     },
 }
 
@@ -134,4 +125,4 @@ NO_EDIT = {
 
 # Functions that make an error for memory where no call was refused: a tree of more levels than `usize` counts, which
 # no memory holds; encodings of 2^31 bytes; and a network with bits behind its first ones, which there is none of.
-MADE_REFUSALS = {"radix_trie": ("over", "resumed"), "frozen_trie": ("push", "append_to")}
+MADE_REFUSALS = {"radix_trie": ("row_height",), "frozen_trie": ("push", "append_to")}

@@ -18,11 +18,15 @@ READ_FAILED = b"read failed\n", 1
 # What the calls of trie_shell that open a view are called in the library, and the view.
 OPENERS = {"open": ("subtrie", "SubTrie"), **{it: (it, "SubTrieMut") for it in ("open_mut", "subtrie_mut")}}
 WITHS = {"with": "open_mut", "with_subtrie_mut": "subtrie_mut"}
-# What the lines of walks whose steps may be refused call besides.
-STEPS = {"cursor": "Cursor::next", "cursor_from": "Cursor::next", "cursor_after": "Cursor::next",
-         "cursor_back": "CursorBack::next", "cursor_back_from": "CursorBack::next",
-         "cursor_back_before": "CursorBack::next"}
-COMMON = ("iter", "keys", "values", "iter_from", "iter_after", "prefix", *STEPS)
+# What the lines of walks call: of a trie or a view, and then of a walk.
+WALKS = {"cursor": ("cursor", "Cursor::next"), "cursor_back": ("cursor_back", "CursorBack::next"),
+         **{it: ("range", "Cursor::reserved") for it in ("iter_from", "iter_after")},
+         **{it: ("range", "Cursor::next") for it in ("cursor_from", "cursor_after", "between", "between_inclusive",
+                                                     "between_exclusive")},
+         **{it: ("range_back", "CursorBack::next") for it in ("cursor_back_from", "cursor_back_before",
+                                                              "between_back")}}
+# What references to tries and to views have in common.
+COMMON = ("iter", "keys", "values", "prefix", *(of for of, _ in WALKS.values()))
 PARTS = {"nibblet": "Nibblet", "bits": "Bits", "ipv4": "Network", "ipv6": "Network", "parts": "Parts"}
 ESCAPE = re.compile(rb"\\(?:x([0-9a-f]{2})|\((.)\*(\d+)\)|(\\))")
 
@@ -152,7 +156,8 @@ def calls_of(words, place):
         inner = " ".join(rest[1:]).split(" ; ")
         return [f"Trie::{WITHS[name]}", *(it for call in inner for it in calls_of(call.split(" "), "SubTrieMut"))]
     if name == "spend":
-        return [f"SubTrieMut::{rest[0]}", *filter(None, [STEPS.get(rest[0])])]
+        of, *steps = WALKS.get(rest[0], (rest[0],))
+        return [f"SubTrieMut::{of}", *steps]
     if name == "into_trie":
         return calls_of(rest, "Trie")
     if name in ("encode", "encode_bytes"):
@@ -171,8 +176,8 @@ def calls_of(words, place):
              "freeze": ["freeze"], "frozen_copy": ["frozen_copy"], "write": ["FrozenTexts::write"],
              "read": ["FrozenTexts::read", "FrozenTrie::push", "FrozenTrie::finish"],
              **{it: [f"FrozenTrie::{it}"] for it in ("from_sorted", "thaw")}}
-    called = [f"&{place}::{name}" if name in COMMON else f"{place}::{name}", *filter(None, [STEPS.get(name)])]
-    return plain.get(name) or called
+    of, *steps = WALKS.get(name, (name,))
+    return plain.get(name) or [f"&{place}::{of}" if of in COMMON else f"{place}::{of}", *steps]
 
 
 def shell_calls(session):

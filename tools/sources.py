@@ -104,6 +104,14 @@ def bare(name):
     return name.strip().replace("NibbleVec", "Nibblet")
 
 
+def types_of(path, item):
+    """The types that a function's impl or trait is of: where that is a parameter, those that have its bound."""
+    kind = item.owner.halves[1]
+    bound = re.search(rf"[<,] ?{re.escape(kind)}: (\w+)", plain(item.owner.text))
+    impls = [it for at in sources_of(path.split("/")[1]) for it in items_of(at) if it.kind == "impl"] if bound else []
+    return [bare(it.halves[1]) for it in impls if bare(it.halves[0]) == bound[1]] if bound else [bare(kind)]
+
+
 def refused_calls():
     """The public calls of tries, frozen ones and keys that return a `Result`, each with its source. Of the crate of
     nodes users have the checker alone. The shell has maps from byte strings as files alone, and no format of serde."""
@@ -113,4 +121,5 @@ def refused_calls():
     for path, item in [*functions_of("radix_keys"), *of_nodes, *of_tries]:
         is_inherited = item.owner and item.owner.kind == "trait" and not item.has_body
         if is_called(item) and not is_inherited and re.search(r"->.*\b(?:SubTrie)?Result<", item.signature):
-            yield f"{bare(item.owner.halves[1])}::{item.name}" if item.owner else item.name, path
+            names = [f"{it}::{item.name}" for it in types_of(path, item)] if item.owner else [item.name]
+            yield from ((it, path) for it in names)

@@ -5,3 +5,4 @@ pub mod Asked
 pub mod Pages
 pub mod OneTree
 pub mod Turned
+pub mod Ranges

@@ -2,7 +2,7 @@
 pub mod Parts
 pub mod Places
 pub mod Later
-pub mod Earlier
+pub mod Limits
 pub mod NodesBelow
 pub mod Opened
 pub mod Above

@@ -5,11 +5,11 @@ pub mod Keyed
 pub mod Tested
 pub mod Prefixes
 pub mod Order
-pub mod Beside
-pub mod Resumed
-pub mod LaterRows
+pub mod Cuts
 pub mod Ends
 pub mod FullRows
+pub mod Spans
 pub mod Pages
 pub mod Back
-pub mod Earlier
+pub mod Stacks
+pub mod Steps

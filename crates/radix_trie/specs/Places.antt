@@ -1,5 +1,6 @@
 -- Where a path stands in the tree of a trie.
-use Rattle.std.specs.Prelude.{ℕ, List, [], ◌∷◌, ◌++◌, Option, MatchOption}
+use Rattle.std.specs.FinMap as map
+use Rattle.std.specs.Prelude.{◌<◌, ◌^◌, ℕ, List, [], ◌∷◌, ◌++◌, Option, MatchOption}
 use Rattle.std.specs.Borrow.{Bor}
 use Rattle.masked_tree.specs.Tree.{Tree, Children, none, more}
 use Rattle.masked_tree.specs.Paths.{IsNodeAt, IsPath}
@@ -8,6 +9,7 @@ use Rattle.nibble_map.specs.Maps.{PairMap}
 use Rattle.radix_nodes.specs.declared.trie_node.KeyValue.{KeyValue}
 use Rattle.radix_nodes.specs.declared.trie_node.TrieNode.{TrieNode}
 use Rattle.radix_nodes.specs.Nodes.{tree_of, IsNearest}
+use Rattle.radix_trie.specs.declared.view.place.Place.{Place}
 use Rattle.radix_trie.specs.Roots.{IsRoot}
 use Rattle.radix_trie.specs.Views.{ReadView}
 
@@ -23,6 +25,14 @@ module _ {K V : Type 0} where
   IsPlace enc m p found = (t : Tree (KeyValue K V)) × IsRoot enc m t
       × MatchOption found ((q : List ℕ) → IsPath t q → IsPrefix p q → ⊥)
       (λ r. IsNearest t (tree_of r.0.now) p r.1)
+
+  -- the place is that of p in a trie with the map m
+  abbrev pub IsPlaceIn : (K → List ℕ) → PairMap K V → List ℕ → Place K V → Type 0
+  IsPlaceIn enc m p place = IsPlace enc m p place.found × (map.len m < 2 ^ 64)
+
+  -- the place is that of some path in some trie
+  abbrev pub IsSomePlace : (K → List ℕ) → Place K V → Type 0
+  IsSomePlace enc place = (m : PairMap K V) × (p : List ℕ) × IsPlaceIn enc m p place
 
   -- the views at some children of a node at p
   abbrev pub child_views : PairMap K V → List ℕ → Children (KeyValue K V) → List (ReadView K V)

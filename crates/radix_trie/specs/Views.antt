@@ -1,10 +1,13 @@
--- What clauses see of a view for reading.
-use Rattle.std.specs.Prelude.{◌≡◌, ℕ, List, Option, Some, None, filter, map as each}
+-- What clauses see of a view for reading, and of the bounds of a walk.
+use Rattle.std.specs.Prelude.{◌≡◌, ℕ, Bool, true, false, cond, List, Option, Some, None, filter, map as each, ⊤}
 use Rattle.std.proofs.Common.{refl}
 use Rattle.std.specs.Cmp.Lexicographic.{slice_cmp}
 use Rattle.std.specs.FinMap as finite
 use Rattle.std.specs.Option.{option_map, unwrap_or}
 use Rattle.std.specs.Ordering.{is_le, is_lt, nat_cmp}
+use Rattle.std.specs.Range.Bound.{MatchBound, bound_map}
+use Rattle.std.specs.declared.ops.Bound.{Bound}
+use Rattle.std.specs.declared.ops.Bound.TheVariants.{Included, Excluded, Unbounded}
 use Rattle.std.specs.Coded.{Coded, code_by, coded_list, coded_ℕ, coded×}
 use Rattle.nibble_map.specs.Lists.{is_prefix}
 use Rattle.nibble_map.specs.MapQueries.{IsAncestor}
@@ -19,6 +22,30 @@ abbrev pub read_view_code : {K V : Type 0} → Coded K → Coded V → Coded (Re
 read_view_code {K} {V} k v =
     code_by (PairMap K V × List ℕ) (coded× (pair_map_code k v) (coded_list coded_ℕ))
     (λ r. (r.map, r.path)) (λ p. record { map = p.0; path = p.1 }) (λ _. refl)
+
+-- the bound of a key's encoding
+abbrev pub encoded_bound : {Q : Type 0} → (Q → List ℕ) → Bound Q → Bound (List ℕ)
+encoded_bound enc b = bound_map enc b
+
+-- the bound's key is light, if there is one
+abbrev pub IsLightBound : {Q : Type 0} → (Q → Type 0) → Bound Q → Type 0
+IsLightBound is_light b = MatchBound b is_light is_light ⊤
+
+-- e comes after the lower bound, or is it where that counts
+abbrev pub is_above : Bound (List ℕ) → List ℕ → Bool
+is_above (Included q) e = is_le (slice_cmp nat_cmp q e)
+is_above (Excluded q) e = is_lt (slice_cmp nat_cmp q e)
+is_above Unbounded e = true
+
+-- e comes before the upper bound, or is it where that counts
+abbrev pub is_below : Bound (List ℕ) → List ℕ → Bool
+is_below (Included q) e = is_le (slice_cmp nat_cmp e q)
+is_below (Excluded q) e = is_lt (slice_cmp nat_cmp e q)
+is_below Unbounded e = true
+
+-- e stands within the two bounds
+abbrev pub is_within : Bound (List ℕ) → Bound (List ℕ) → List ℕ → Bool
+is_within low high e = cond (is_below high e) (is_above low e) false
 
 module _ {K V : Type 0} where
   -- the paths of views
@@ -63,6 +90,10 @@ module _ {K V : Type 0} where
   abbrev pub pairs_below : PairMap K V → List ℕ → List (K × V)
   pairs_below m p = each (λ e. e.1) (walk m p)
 
+  -- the same of the lists within two bounds
+  abbrev pub pairs_within : PairMap K V → List ℕ → Bound (List ℕ) → Bound (List ℕ) → List (K × V)
+  pairs_within m p low high = each (λ e. e.1) (filter (λ e. is_within low high e.0) (walk m p))
+
   -- the same from q on: of the lists that are q or come after it in their order
   abbrev pub pairs_from : PairMap K V → List ℕ → List ℕ → List (K × V)
   pairs_from m p q = each (λ e. e.1) (filter (λ e. is_le (slice_cmp nat_cmp q e.0)) (walk m p))
@@ -71,10 +102,6 @@ module _ {K V : Type 0} where
   abbrev pub pairs_after : PairMap K V → List ℕ → List ℕ → List (K × V)
   pairs_after m p q = each (λ e. e.1) (filter (λ e. is_lt (slice_cmp nat_cmp q e.0)) (walk m p))
 
-  -- the pairs at and below a path up to q: of the lists that are q or come before it in their order
-  abbrev pub pairs_until : PairMap K V → List ℕ → List ℕ → List (K × V)
-  pairs_until m p q = each (λ e. e.1) (filter (λ e. is_le (slice_cmp nat_cmp e.0 q)) (walk m p))
-
-  -- the same before q: of the lists that come before it in their order
+  -- the pairs at and below a path before q: of the lists that come before it in their order
   abbrev pub pairs_before : PairMap K V → List ℕ → List ℕ → List (K × V)
   pairs_before m p q = each (λ e. e.1) (filter (λ e. is_lt (slice_cmp nat_cmp e.0 q)) (walk m p))

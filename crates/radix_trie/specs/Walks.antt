@@ -1,12 +1,16 @@
 -- What a walk gives, and the room that it needs.
-use Rattle.std.specs.Prelude.{◌≡◌, ℕ, suc, ◌+◌, ◌-◌, ◌≤◌, Bool, true, false, cond, List, [], ◌∷◌, ◌++◌, drop, filter, length, map, Option, Some, None, Box, ⊤}
+use Rattle.std.specs.Prelude.{◌≡◌, ℕ, suc, ◌+◌, ◌-◌, ◌<◌, ◌≤◌, IfSome, Bool, cond, List, [], ◌∷◌, ◌++◌, drop, filter, get_or, length, map, Option, Some, None, Box, ⊤}
 use Rattle.std.specs.Borrow.{Bor}
 use Rattle.std.specs.declared.alloc.Global.{Global}
 use Rattle.std.specs.declared.cmp.Ordering.{Ordering}
+use Rattle.std.specs.declared.cmp.Ordering.TheVariants.{Greater, Less}
 use Rattle.std.specs.Cmp.Lexicographic.{slice_cmp}
 use Rattle.std.specs.Ordering.{is_le, is_lt, nat_cmp}
+use Rattle.std.specs.Range.Bound.{MatchBound, bound_map}
+use Rattle.std.specs.declared.ops.Bound.{Bound}
+use Rattle.std.specs.declared.ops.Bound.TheVariants.{Unbounded}
 use Rattle.nibble_map.specs.Lists.{is_prefix}
-use Rattle.masked_tree.specs.Tree.{Tree, Children, none, more, plain, IsTreePlaced, entries_in}
+use Rattle.masked_tree.specs.Tree.{Tree, Children, none, more, plain, IsFullBelow, IsTreePlaced, entries_in}
 use Rattle.masked_tree.specs.Sizes.{levels}
 use Rattle.nibble_map.specs.Swaps.{entry}
 use Rattle.nibble_map.specs.Trees.{IsFull}
@@ -14,9 +18,10 @@ use Rattle.radix_nodes.specs.declared.trie_node.KeyValue.{KeyValue}
 use Rattle.radix_nodes.specs.declared.trie_node.TrieNode.{TrieNode}
 use Rattle.radix_nodes.specs.Nodes.{children_of, tree_of}
 use Rattle.radix_nodes.specs.Pairs.{own_pair, pair_of, pairs_in_all, pairs_of}
-use Rattle.radix_trie.specs.declared.iter.back.Rest.{Rest}
+use Rattle.radix_trie.specs.declared.iter.rows.Rest.{Rest}
 use Rattle.radix_trie.specs.declared.iter.side.Side.{Side}
 use Rattle.radix_trie.specs.declared.iter.side.Side.TheVariants as side
+use Rattle.radix_trie.specs.Views.{is_within}
 
 -- what a `(&K, &V)` points to
 abbrev pub deref_pair : {K V : Type 0} → Bor K × Bor V → K × V
@@ -30,46 +35,45 @@ deref_pairs ps = map deref_pair ps
 abbrev pub passes : Bool → Ordering → Bool
 passes itself order = cond itself (is_le order) (is_lt order)
 
--- whether e comes after q, or is q where `itself` says so
-abbrev pub comes_after : Bool → List ℕ → List ℕ → Bool
-comes_after itself q e = passes itself (slice_cmp nat_cmp q e)
+-- a bound that refers to a list, as a bound
+abbrev pub bound_now : {A : Type 0} → Bound (Bor A) → Bound A
+bound_now b = bound_map (λ x. x.now) b
 
--- whether e comes before q, or is q where `itself` says so
-abbrev pub comes_before : Bool → List ℕ → List ℕ → Bool
-comes_before itself q e = passes itself (slice_cmp nat_cmp e q)
+-- what is left of a bound behind `depth` nibbles
+abbrev pub bound_behind : ℕ → Bound (List ℕ) → Bound (List ℕ)
+bound_behind depth b = bound_map (drop depth) b
+
+-- the bound has so many nibbles, if it is one
+abbrev pub ReachesDown : ℕ → Bound (List ℕ) → Type 0
+ReachesDown depth b = MatchBound b (λ q. depth ≤ length q) (λ q. depth ≤ length q) ⊤
 
 -- where the lists that f begins stand beside what is left of a list behind `depth` nibbles
 abbrev pub StandsBeside : List ℕ → List ℕ → ℕ → Side → Type 0
 StandsBeside f list depth side.Before =
-    (itself : Bool) (y : List ℕ) → comes_after itself (drop depth list) (f ++ y) ≡ false
+    (y : List ℕ) → slice_cmp nat_cmp (drop depth list) (f ++ y) ≡ Greater
 StandsBeside f list depth (side.On next) =
     (next ≡ depth + length f) × (next ≤ length list) × (f ++ drop next list ≡ drop depth list)
 StandsBeside f list depth side.After =
-    (itself : Bool) (y : List ℕ) → comes_after itself (drop depth list) (f ++ y) ≡ true
+    (y : List ℕ) → slice_cmp nat_cmp (drop depth list) (f ++ y) ≡ Less
 
 module _ {K V : Type 0} where
   abbrev pub first_pair : Option (Bor (KeyValue K V)) → List (K × V)
   first_pair None = []
   first_pair (Some p) = pair_of p.now ∷ []
 
-  -- the rows of a stack
-  abbrev pub rows_of : List (Bor (List (Box (TrieNode K V) Global)))
-      → List (Children (KeyValue K V))
-  rows_of rs = map (λ r. children_of r.now) rs
-
-  -- what a stack has left: its last row comes first
-  abbrev pub pending : List (Children (KeyValue K V)) → List (K × V)
-  pending [] = []
-  pending (r ∷ rs) = pending rs ++ pairs_in_all r
-
-  -- what a walk from the last pair has left of a node, in the order of the encodings
+  -- what a walk has left of a node, in the order of the encodings
   abbrev pub left_of : Rest K V → List (K × V)
   left_of r = first_pair r.own ++ pairs_in_all (children_of r.row.now)
 
-  -- the same of nodes, each above the next one
+  -- the same of several, the first one first
   abbrev pub left_in : List (Rest K V) → List (K × V)
   left_in [] = []
   left_in (r ∷ rs) = left_of r ++ left_in rs
+
+  -- what a stack of these has left: its last one comes first
+  abbrev pub stacked : List (Rest K V) → List (K × V)
+  stacked [] = []
+  stacked (r ∷ rs) = stacked rs ++ left_of r
 
   -- their rows
   abbrev pub left_rows : List (Rest K V) → List (Children (KeyValue K V))
@@ -79,37 +83,67 @@ module _ {K V : Type 0} where
   abbrev pub pairs_where : (List ℕ → Bool) → List (List ℕ × KeyValue K V) → List (K × V)
   pairs_where test es = pairs_of (filter (λ e. test e.0) es)
 
+  -- the pairs at and below a node whose lists behind it stand within two bounds
+  abbrev pub pairs_of_span : Bound (List ℕ) → Bound (List ℕ) → Tree (KeyValue K V) → List (K × V)
+  pairs_of_span low high t =
+      pairs_where (is_within low high) (entry [] t.pair ++ entries_in [] t.children)
+
+  -- the next node has its children at their places and is full below, stands further down, and the
+  -- bound has the nibbles behind it, if it is one
+  abbrev pub LeadsOn : Bound (List ℕ) → Tree (KeyValue K V) → Option (Bor (TrieNode K V) × ℕ)
+      → Type 0
+  LeadsOn b t way = IfSome way (λ r. ReachesDown r.1 b × IsTreePlaced (tree_of r.0.now)
+      × IsFullBelow (tree_of r.0.now) × (levels (tree_of r.0.now).children < levels t.children))
+
+  -- the pairs above a lower bound, at and below the node that it goes on to
+  abbrev pub way_low : Bound (List ℕ) → Option (Bor (TrieNode K V) × ℕ) → List (K × V)
+  way_low low None = []
+  way_low low (Some r) = pairs_of_span (bound_behind r.1 low) Unbounded (tree_of r.0.now)
+
+  -- the pairs below an upper bound, at and below the node that it goes on to
+  abbrev pub way_high : Bound (List ℕ) → Option (Bor (TrieNode K V) × ℕ) → List (K × V)
+  way_high high None = []
+  way_high high (Some r) = pairs_of_span Unbounded (bound_behind r.1 high) (tree_of r.0.now)
+
+  -- so many boxes come before, and then one that is on the way, if one is
+  abbrev pub past : ℕ → Option (Bor (TrieNode K V) × ℕ) → ℕ
+  past before None = before
+  past before (Some r) = suc before
+
+  -- the node on the way is that of a box, and so many nibbles lie behind it
+  abbrev pub IsWayOf : ℕ → Box (TrieNode K V) Global → Bor (TrieNode K V) × ℕ → Type 0
+  IsWayOf depth b r = (b.value ≡ r.0.now) × (r.1 ≡ depth + length (tree_of b.value).fragment)
+
+  -- if a node is on the way, the box at that place is its
+  abbrev pub HasBoxOnWay : ℕ → List (Box (TrieNode K V) Global) → ℕ → Option (Bor (TrieNode K V) × ℕ)
+      → Type 0
+  HasBoxOnWay depth bs before way = IfSome way (λ r. (b : Box (TrieNode K V) Global)
+      × (get_or bs before b ≡ b) × IsWayOf depth b r)
+
+  -- a node's boxes are cut by what an order, which goes on behind so many nibbles, answers of the
+  -- lists that they begin
+  pub record IsCutBy {X : Type 0} (order : ℕ → List ℕ → X) (early late : X) (depth : ℕ)
+      (bs : List (Box (TrieNode K V) Global)) (before : ℕ) (way : Option (Bor (TrieNode K V) × ℕ))
+      : Type 0 where
+    pub first : (i : ℕ) (b : Box (TrieNode K V) Global) → i < before → get_or bs i b ≡ b
+        → (y : List ℕ) → order depth ((tree_of b.value).fragment ++ y) ≡ early
+    pub last : (i : ℕ) (b : Box (TrieNode K V) Global) → past before way ≤ i → i < length bs
+        → get_or bs i b ≡ b → (y : List ℕ) → order depth ((tree_of b.value).fragment ++ y) ≡ late
+    pub between : (b : Box (TrieNode K V) Global) → before < past before way
+        → get_or bs before b ≡ b → (y : List ℕ) → order depth ((tree_of b.value).fragment ++ y)
+        ≡ order (depth + length (tree_of b.value).fragment) y
+    pub on_way : HasBoxOnWay depth bs before way
+    pub own : 0 < past before way → order depth [] ≡ early
+    pub inside : past before way ≤ length bs
+
+  -- a list cuts a node's boxes, of which so many nibbles lie behind the node
+  abbrev pub IsCutByList : List ℕ → ℕ → List (Box (TrieNode K V) Global) → ℕ
+      → Option (Bor (TrieNode K V) × ℕ) → Type 0
+  IsCutByList list = IsCutBy (λ d. slice_cmp nat_cmp (drop d list)) Greater Less
+
   -- the pairs of the entries whose lists are prefixes of a list
   abbrev pub prefix_pairs : List ℕ → List (List ℕ × KeyValue K V) → List (K × V)
   prefix_pairs list es = pairs_where (λ e. is_prefix e list) es
-
-  -- the pairs at and below a node whose lists behind it come after a list, or are it
-  abbrev pub later_pairs : Bool → List ℕ → Tree (KeyValue K V) → List (K × V)
-  later_pairs itself list t =
-      pairs_where (comes_after itself list) (entry [] t.pair ++ entries_in [] t.children)
-
-  -- the same of the node that a list goes on to, which has so many of its nibbles behind it
-  abbrev pub beyond : Bool → List ℕ → Option (Bor (TrieNode K V) × ℕ) → List (K × V)
-  beyond itself list None = []
-  beyond itself list (Some r) = later_pairs itself (drop r.1 list) (tree_of r.0.now)
-
-  -- the pairs at and below a node whose lists behind it come before a list, or are it
-  abbrev pub earlier_pairs : Bool → List ℕ → Tree (KeyValue K V) → List (K × V)
-  earlier_pairs itself list t =
-      pairs_where (comes_before itself list) (entry [] t.pair ++ entries_in [] t.children)
-
-  -- the same of the node that a list goes on to, which has so many of its nibbles behind it
-  abbrev pub ahead : Bool → List ℕ → Option (Bor (TrieNode K V) × ℕ) → List (K × V)
-  ahead itself list None = []
-  ahead itself list (Some r) = earlier_pairs itself (drop r.1 list) (tree_of r.0.now)
-
-  -- the boxes end with the later ones, and before these with the box of the node that a list goes
-  -- on to, if there is one
-  abbrev pub AreParted : List (Box (TrieNode K V) Global) → Option (Bor (TrieNode K V) × ℕ)
-      → List (Box (TrieNode K V) Global) → Type 0
-  AreParted bs None later = (front : List (Box (TrieNode K V) Global)) × (bs ≡ front ++ later)
-  AreParted bs (Some r) later = (front : List (Box (TrieNode K V) Global))
-      × (b : Box (TrieNode K V) Global) × (bs ≡ front ++ b ∷ later) × (b.value ≡ r.0.now)
 
   -- the pairs that are left on the way down to a list: those of the next node and of the nodes
   -- below whose paths are prefixes of it; so many of its nibbles lie behind that node
@@ -133,6 +167,13 @@ module _ {P : Type 0} where
   abbrev pub with_row : List (Children P) → Children P → List (Children P)
   with_row rs none = rs
   with_row rs (more f o m children others) = rs ++ more f o m children others ∷ []
+
+  -- the rows behind a turn at a node that has these others beside it: they go on where it has no
+  -- child, else they are put aside, if there are any
+  abbrev pub rows_at : List (Children P) → Children P → Children P → List (Children P)
+  rows_at rs none others = rs ++ others ∷ []
+  rows_at rs (more f o m below beside) others =
+      with_row rs others ++ more f o m below beside ∷ []
 
   -- a stack of the capacity `most` has room for all that comes of its rows, of which the first
   -- stands at i

@@ -5,6 +5,7 @@ ghost use Rattle.std.specs.Int.{Width, byte_len};
 ghost use Rattle.std.specs.Ordering.{int_cmp, nat_cmp};
 ghost use Rattle.std.specs.declared.cmp.Ordering.{Ordering};
 ghost use Rattle.std.specs.declared.cmp.Ordering.TheVariants.{Less};
+ghost use Rattle.std.specs.declared.ops.Bound.{Bound};
 ghost use Rattle.std.specs.Prelude.{◌≡◌, ◌↔◌, ◌⊎◌, ◌<◌, ◌+◌, ◌^◌, ◌++◌, ℕ, All, AllPairs, Contains, List, [], Some, map as each, slice_get, take, true};
 ghost use Rattle.nibble_map.specs.Lists.{Each, IsBefore, IsPrefix, IsRising};
 ghost use Rattle.nibble_map.specs.Maps.{PairMap, below, with_value, without_below};
@@ -13,9 +14,9 @@ ghost use Rattle.radix_keys.specs.AscendingKeys.{turned_bytes};
 ghost use Rattle.radix_keys.specs.Integers.{unsigned_key};
 ghost use Rattle.radix_keys.specs.Parts.{AreParts, part_bytes};
 ghost use Rattle.radix_trie.specs.Building.{with_pairs};
-ghost use Rattle.radix_trie.specs.Keys.{IsKeptOrder, IsKeyed};
+ghost use Rattle.radix_trie.specs.Keys.{IsAboveBound, IsBelowBound, IsBoundValue, IsKeptOrder, IsKeyed};
 ghost use Rattle.radix_trie.specs.Refusals.{RefusesAppend};
-ghost use Rattle.radix_trie.specs.Views.{pairs_above, pairs_after, pairs_below, pairs_from, with_value_or};
+ghost use Rattle.radix_trie.specs.Views.{encoded_bound, pairs_above, pairs_after, pairs_below, pairs_from, pairs_within, with_value_or};
 
 use crate::error::AppendWhy;
 use crate::trie::Trie;
@@ -111,8 +112,8 @@ pub fn pages_follow_one_another<K: TrieKey, V>(trie: &Trie<K, V>)
     let _ = trie.root();
 }
 
-/// The keys of a walk, and of a page, rise in each order that their encodings keep, in each map in which every stored key is a value of its
-/// type and stands at its encoding. `numbers_keep_their_order`, `signed_numbers_keep_their_order`, `texts_keep_their_order`
+/// The keys of a walk, and of a page, rise in each order that their encodings keep, in each map in which every stored key
+/// is a value of its type and stands at its encoding. `numbers_keep_their_order`, `signed_numbers_keep_their_order`, `texts_keep_their_order`
 /// and `parts_keep_their_order` name such orders.
 pub fn keys_of_walks_rise<K: TrieKey, V>()
     ensures below { (cmp : K → K → Ordering) → IsKeptOrder K.encoding K.is_value cmp
@@ -130,6 +131,21 @@ pub fn keys_of_walks_rise<K: TrieKey, V>()
     ensures page { (cmp : K → K → Ordering) → IsKeptOrder K.encoding K.is_value cmp
         → (m : PairMap K V) → IsKeyed K.encoding K.is_value m → (e : List ℕ) (n : ℕ)
         → AllPairs (λ x y. cmp x y ≡ Less) (each (λ p. p.0) (take n (pairs_below m e))) }
+{}
+
+/// The pairs of a range are those at and below the path whose keys lie within its bounds in each order that the encodings
+/// keep, and the keys rise in it, in each map in which every stored key is a value of its type and stands at its encoding.
+pub fn keys_of_ranges_rise<K: TrieKey, V>()
+    ensures within { (cmp : K → K → Ordering) → IsKeptOrder K.encoding K.is_value cmp
+        → (m : PairMap K V) → IsKeyed K.encoding K.is_value m → (e : List ℕ)
+        → (low high : Bound K) → IsBoundValue K.is_value low → IsBoundValue K.is_value high
+        → (p : K × V) → Contains (pairs_within m e (encoded_bound K.encoding low)
+        (encoded_bound K.encoding high)) p
+        ↔ (Contains (pairs_below m e) p × IsAboveBound cmp low p.0 × IsBelowBound cmp high p.0) }
+    ensures rising { (cmp : K → K → Ordering) → IsKeptOrder K.encoding K.is_value cmp
+        → (m : PairMap K V) → IsKeyed K.encoding K.is_value m → (e : List ℕ)
+        → (low high : Bound (List ℕ))
+        → AllPairs (λ x y. cmp x y ≡ Less) (each (λ p. p.0) (pairs_within m e low high)) }
 {}
 
 /// Unsigned numbers and characters compare as their encodings do.

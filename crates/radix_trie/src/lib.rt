@@ -17,10 +17,10 @@ pub use error::{
 };
 pub use json::{from_value, objects_are_read_back, to_value};
 pub use key_laws::{
-    encodings_keep_prefixes, keys_of_walks_rise, keys_stand_at_their_encodings,
-    numbers_keep_their_order, pages_follow_one_another, parts_keep_their_order,
-    signed_numbers_keep_their_order, split_part_goes_back, stored_keys_are_equal,
-    texts_keep_their_order, walks_miss_no_key,
+    encodings_keep_prefixes, keys_of_ranges_rise, keys_of_walks_rise,
+    keys_stand_at_their_encodings, numbers_keep_their_order, pages_follow_one_another,
+    parts_keep_their_order, signed_numbers_keep_their_order, split_part_goes_back,
+    stored_keys_are_equal, texts_keep_their_order, walks_miss_no_key,
 };
 pub use map_laws::{equal_lists_have_one_tree, part_answers_below, turned_copies_answer_alike};
 pub use nibble_map::map_laws::{

@@ -188,8 +188,8 @@ fn add_list(out: &mut Vec<u8>, table: &Table) -> Result<(), Memory>
     ensures kept { IsPrefix out.old.items out.new.items }
 {
     add_count(out, table.len())?;
-    add_rest(out, table.v4.rest()?)?;
-    add_rest(out, table.v6.rest()?)
+    add_rest(out, table.v4.rest())?;
+    add_rest(out, table.v6.rest())
 }
 
 /// Adds each row.

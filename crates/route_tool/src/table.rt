@@ -115,7 +115,7 @@ impl<A: Address> Routes<A> {
         match self.trie.get_raw_descendant(network)? {
             Some(view) => {
                 let count = TrieCommon::len(&view);
-                let walk = TrieCommon::cursor(&view)?;
+                let walk = TrieCommon::cursor(&view);
                 Ok(Some(Rows { count, walk }))
             }
             None => Ok(None),
@@ -130,8 +130,8 @@ impl<A: Address> Routes<A> {
     }
 
     /// The same as a cursor, which begins at once.
-    pub fn rest(&self) -> Result<Rest<'_, A>, Memory>
-        ensures { IfOk result (λ rest. rest ≡ in_order self.now) }
+    pub fn rest(&self) -> Rest<'_, A>
+        ensures { result ≡ in_order self.now }
     {
         TrieCommon::cursor(&self.trie)
     }

@@ -1,20 +1,23 @@
 //! The lines of a log between two times.
 ghost use Rattle.std.specs.Ordering.{nat_cmp};
-ghost use Rattle.std.specs.Prelude.{◌≡◌, ◌≤◌, ◌<◌, All, AllPairs, IfOk, map as each, take};
+ghost use Rattle.std.specs.Prelude.{◌≡◌, ◌≤◌, ◌<◌, [], All, AllPairs, IfOk, map as each, take};
 ghost use Rattle.std.specs.declared.cmp.Ordering.TheVariants.{Less};
+ghost use Rattle.std.specs.declared.ops.Bound.TheVariants.{Included, Excluded};
 ghost use Rattle.radix_trie.specs.Keys.{IsKeyed};
 ghost use Rattle.radix_trie.specs.Walks.{deref_pairs};
-ghost use Rattle.trie_ranges.specs.Ranges.{pairs_between};
+ghost use Rattle.radix_trie.specs.Views.{pairs_within};
 
-use radix_trie::{Memory, Trie, TrieError, TrieKey, numbers_keep_their_order};
+use radix_trie::iter::Cursor;
+use radix_trie::{
+    Memory, Trie, TrieCommon, TrieError, TrieKey, keys_of_ranges_rise, numbers_keep_their_order,
+};
 use std::alloc::Global;
-use trie_ranges::{Between, between, keys_of_ranges_rise};
 use trie_samples::{Texts, texts};
 
 /// The first pairs that a walk has left, so many at most.
 fn first_pairs<'a, K: TrieKey, V>(
     alloc: Global,
-    walk: Between<'a, K, V>,
+    walk: Cursor<'a, K, V>,
     most: usize,
 ) -> Result<Vec<(&'a K, &'a V)>, Memory>
     ensures { IfOk result (λ page. deref_pairs page.items ≡ take most walk.entry) }
@@ -40,8 +43,8 @@ fn lines_between<'a, V>(
     most: usize,
 ) -> Result<Vec<(&'a u64, &'a V)>, Memory>
     requires { IsKeyed ⟦<u64 as TrieKey>⟧.encoding ⟦<u64 as TrieKey>⟧.is_value log.now }
-    ensures page { IfOk result (λ page. deref_pairs page.items ≡ take most (pairs_between log.now
-        (⟦<u64 as TrieKey>⟧.encoding from) (⟦<u64 as TrieKey>⟧.encoding to))) }
+    ensures page { IfOk result (λ page. deref_pairs page.items ≡ take most (pairs_within log.now []
+        (Included (⟦<u64 as TrieKey>⟧.encoding from)) (Excluded (⟦<u64 as TrieKey>⟧.encoding to)))) }
     ensures times { IfOk result (λ page. All (λ p. (from ≤ p.0) × (p.0 < to))
         (deref_pairs page.items)) }
     ensures rising { IfOk result (λ page. AllPairs (λ x y. nat_cmp x y ≡ Less)
@@ -49,7 +52,7 @@ fn lines_between<'a, V>(
 {
     keys_of_ranges_rise::<u64, V>();
     numbers_keep_their_order();
-    first_pairs(alloc, between(log, &from, &to)?, most)
+    first_pairs(alloc, log.range(from..to)?, most)
 }
 
 /// A log of four lines.
@@ -76,7 +79,7 @@ fn no_line_from_a_time_to_an_earlier_one(rt: HostRuntime) -> Result<(), TrieErro
     assert!(rt; lines_between(rt.alloc(), &log, 1_300, 1_200, 10)?.is_empty());
     assert!(rt; lines_between(rt.alloc(), &log, 1_300, 1_300, 10)?.is_empty());
     let none: Trie<u64, &'static str> = Trie::new(rt.alloc());
-    assert!(rt; first_pairs(rt.alloc(), between(&none, &0u64, &9u64)?, 10)?.is_empty());
+    assert!(rt; first_pairs(rt.alloc(), none.range(0u64..9u64)?, 10)?.is_empty());
     Ok(())
 }
 
@@ -84,7 +87,7 @@ fn no_line_from_a_time_to_an_earlier_one(rt: HostRuntime) -> Result<(), TrieErro
 #[test]
 fn ended_for_good(rt: HostRuntime) -> Result<(), Memory> {
     let words: Texts = texts(rt.alloc(), &[("tea", 1), ("ten", 2)])?;
-    let mut walk = between(&words, &"te", &"team")?;
+    let mut walk = words.range("te".."team")?;
     assert!(rt; walk.next()?.is_some());
     assert!(rt; walk.next()?.is_none() && walk.next()?.is_none());
     Ok(())

@@ -19,17 +19,15 @@ pub(crate) struct KeyCursor<'a, K> {
 
 impl<'a, K: TrieKey> KeyCursor<'a, K> {
     /// The walk over all keys of a trie.
-    pub(crate) fn over(trie: &'a Trie<K, ()>) -> Result<KeyCursor<'a, K>, Memory>
-        ensures entries { IfOk result (λ cursor. at_encodings K.encoding
-            (still_ahead cursor.head cursor.rest) ≡ map.entries trie.now) }
-        ensures ascends { IfOk result
-            (λ cursor. Ascends K.encoding (still_ahead cursor.head cursor.rest)) }
-        ensures none { map.len trie.now ≡ 0 → IsOk result }
+    pub(crate) fn over(trie: &'a Trie<K, ()>) -> KeyCursor<'a, K>
+        ensures entries { at_encodings K.encoding (still_ahead result.head result.rest)
+            ≡ map.entries trie.now }
+        ensures ascends { Ascends K.encoding (still_ahead result.head result.rest) }
     {
-        Ok(KeyCursor {
+        KeyCursor {
             head: None,
-            rest: TrieCommon::cursor(trie)?,
-        })
+            rest: TrieCommon::cursor(trie),
+        }
     }
 }
 

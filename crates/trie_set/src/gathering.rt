@@ -44,8 +44,8 @@ impl<'a, K: TrieKey> Merging<'a, K> {
         ensures none { map.len keys.now ≡ 0 → map.len others.now ≡ 0 → IsOk result }
     {
         Ok(Merging {
-            keys: KeyCursor::over(keys)?,
-            others: KeyCursor::over(others)?,
+            keys: KeyCursor::over(keys),
+            others: KeyCursor::over(others),
             keeps_common,
             alloc,
         })

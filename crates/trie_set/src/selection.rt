@@ -46,8 +46,8 @@ impl<'a, K: TrieKey> Selecting<'a, K> {
         ensures none { map.len keys.now ≡ 0 → map.len others.now ≡ 0 → IsOk result }
     {
         Ok(Selecting {
-            keys: KeyCursor::over(keys)?,
-            others: KeyCursor::over(others)?,
+            keys: KeyCursor::over(keys),
+            others: KeyCursor::over(others),
             keeps_common,
             alloc,
         })

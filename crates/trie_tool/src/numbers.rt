@@ -98,7 +98,7 @@ impl Numbers {
         match self.trie.get_raw_descendant(&key)? {
             Some(view) => {
                 let count = TrieCommon::len(&view);
-                let walk = TrieCommon::cursor(&view)?;
+                let walk = TrieCommon::cursor(&view);
                 Ok(Some(Rows { count, walk }))
             }
             None => Ok(None),

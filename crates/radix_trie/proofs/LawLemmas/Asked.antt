@@ -91,7 +91,7 @@ module _ {K V : Type 0} (enc : K → List ℕ) where
       let got = part_get m keyed t (enc p.0) p in
       (λ h. got.0 (held.0 h), λ h. held.1 (got.1 h))
 
-true_by_test : (b : Bool) → T b → b ≡ true
+pub true_by_test : (b : Bool) → T b → b ≡ true
 true_by_test true h = refl
 true_by_test false h = absurd h
 
@@ -114,7 +114,7 @@ module _ {K V : Type 0} (enc : K → List ℕ) (m : PairMap K V) (keyed : AreAtE
   above_holds e p = (let held = part_holds enc m keyed (λ q. is_prefix q e) p in let begins = prefix_tests (enc p.0) e in (λ h. (let both = held.0 h in (begins.0 both.0, both.1)), λ h. held.1 (begins.1 h.0, h.1)))
 
   -- what a walk below a path holds that passes
-  passed : (e : List ℕ) (t : List ℕ → Bool) (Passes : List ℕ → Type 0) → ((x : List ℕ) → T (t x) ↔ Passes x) → (p : K × V)
+  pub passed : (e : List ℕ) (t : List ℕ → Bool) (Passes : List ℕ → Type 0) → ((x : List ℕ) → T (t x) ↔ Passes x) → (p : K × V)
       → Contains (each (λ x. x.1) (filter (λ x. t x.0) (walk m e))) p ↔ (Contains (pairs_below m e) p × Passes (enc p.0))
   passed e t Passes tells p =
       let held = walk_holds e t p in

@@ -15,7 +15,7 @@ use Rattle.radix_nodes.specs.Searches.{FindsDeepestPair}
 use Rattle.radix_nodes.proofs.NodeLemmas.Nodes.{fragment-tree_of}
 use Rattle.radix_trie.specs.Places.{IsNodeOf}
 use Rattle.radix_trie.specs.Roots.{IsRoot}
-use Rattle.radix_trie.specs.Views.{IsPairAbove, IsValueAbove, pair_of_list, value_of}
+use Rattle.radix_trie.specs.Views.{IsPairAbove}
 use Rattle.radix_trie.proofs.RootLemmas.Held.{pair_of-node}
 use Rattle.radix_trie.proofs.RootLemmas.Paths.{node_point, point_node}
 use Rattle.radix_trie.proofs.RootLemmas.Roots.{stored-root_entries}
@@ -85,11 +85,3 @@ module _ {K V : Type 0} (enc : K → List ℕ) (m : PairMap K V) (root : TrieNod
   pub found_above : (r : Option (Bor (TrieNode K V) × ℕ)) (p : Option (K × V)) → FindsDeepestPair r root list 0 → MatchOption r (p ≡ None) (λ d. p ≡ option_map pair_of (tree_of d.0.now).pair) → IsPairAbove m list p
   found_above None p free none = subst (IsPairAbove m list) (sym none) (no_pair_above free)
   found_above (Some d) p found some = subst (IsPairAbove m list) (sym some) (pair_above (tree_of d.0.now) d.1 found)
-
--- the value above a list is the value of the pair above it
-pub value_above : {K V : Type 0} (m : PairMap K V) (list : List ℕ) (p : Option (K × V)) → IsPairAbove m list p → IsValueAbove m list (option_map (λ x. x.1) p)
-value_above m list p (a, ancestor, is) = (a, ancestor, ap (option_map (λ x. x.1)) is ∙ second a)
-  where
-    second : (o : Option (List ℕ)) → option_map (λ x. x.1) (pair_of_list m o) ≡ value_of m o
-    second None = refl
-    second (Some e) = refl

@@ -1,5 +1,5 @@
 -- The pairs at and below a path whose lists pass a test, as those that come after a list, by the node that is nearest to the path.
-use Rattle.std.proofs.Common.{◌≡◌, ℕ, Bool, true, false, List, [], ◌++◌, map, filter, drop, Option, Some, None, ap, sym, ◌∙◌, arith, Bor}
+use Rattle.std.proofs.Common.{◌≡◌, ℕ, Bool, false, List, [], ◌++◌, map, filter, drop, Option, Some, None, ap, sym, ◌∙◌, arith, Bor}
 use Rattle.std.proofs.lemmas.List.{length-map}
 use Rattle.std.proofs.lemmas.Simd.{map-map}
 use Rattle.std.specs.Cmp.Lexicographic.{slice_cmp}
@@ -12,17 +12,14 @@ use Rattle.nibble_map.proofs.ListLemmas.Cut.{empty_of_length}
 use Rattle.radix_nodes.specs.declared.trie_node.KeyValue.{KeyValue}
 use Rattle.radix_nodes.specs.declared.trie_node.TrieNode.{TrieNode}
 use Rattle.radix_nodes.specs.Nodes.{fragment_of, tree_of}
-use Rattle.radix_nodes.specs.Pairs.{pairs_in}
 use Rattle.radix_nodes.proofs.NodeLemmas.Nodes.{fragment-tree_of}
-use Rattle.radix_trie.specs.declared.iter.side.Side.TheVariants as side
 use Rattle.radix_trie.specs.Places.{IsPlace}
 use Rattle.radix_trie.specs.Views.{pairs_after}
-use Rattle.radix_trie.specs.Walks.{StandsBeside, comes_after, later_pairs, pairs_where}
+use Rattle.radix_trie.specs.Walks.{pairs_where}
 use Rattle.radix_trie.proofs.PathLemmas.NodesBelow.{filter-map, walk-no_path, walk-node}
 use Rattle.radix_trie.proofs.PathLemmas.Places.{length-filter_le, nearest_found, no_path_found}
 use Rattle.radix_trie.proofs.RootLemmas.Shown.{row_of}
-use Rattle.radix_trie.proofs.WalkLemmas.Resumed.{on_path}
-use Rattle.radix_trie.proofs.WalkLemmas.Tested.{where_behind, where_gone, where_kept}
+use Rattle.radix_trie.proofs.WalkLemmas.Tested.{where_behind, where_gone}
 
 -- where nothing is stored at or below a path, there are no pairs after a list
 pub no_pairs_after : {K V : Type 0} (m : PairMap K V) (p q : List ℕ) → fin.len (below m p) ≡ 0 → pairs_after m p q ≡ []
@@ -69,33 +66,7 @@ module _ {K V : Type 0} (enc : K → List ℕ) (m : PairMap K V) (p : List ℕ) 
     pub found_none : (test : List ℕ → Bool) → ((y : List ℕ) → test (whole ++ y) ≡ false) → [] ≡ passing test
     found_none test gone = sym (where_gone test whole (tree_of r.now) gone) ∙ at_node test
 
-    -- where all of it passes, all are left
-    pub found_all : (test : List ℕ → Bool) → ((y : List ℕ) → test (whole ++ y) ≡ true) → pairs_in (tree_of r.now) ≡ passing test
-    found_all test kept = sym (where_kept test whole (tree_of r.now) kept) ∙ at_node test
-
     -- where another test decides behind it, those are left that pass this one
     pub found_part : (test other : List ℕ → Bool) → ((y : List ℕ) → test (whole ++ y) ≡ other y)
         → pairs_where other (entry [] (tree_of r.now).pair ++ entries_in [] (tree_of r.now).children) ≡ passing test
     found_part test other alike = sym (where_behind test other whole alike (tree_of r.now).pair (tree_of r.now).children) ∙ at_node test
-
-module _ {K V : Type 0} (enc : K → List ℕ) (m : PairMap K V) (p : List ℕ) (found : Option (Bor (TrieNode K V) × ℕ)) (place : IsPlace enc m p found) (itself : Bool) (list : List ℕ) where
-  -- the map's pairs at and below p that come after the list
-  abbrev after_list : List (K × V)
-  after_list = passing enc m p found place (comes_after itself list)
-
-  -- where nothing was found for p, none come after the list
-  pub nothing_found-later : found ≡ None → [] ≡ after_list
-  nothing_found-later = nothing_found-passing enc m p found place (comes_after itself list)
-
-  module _ (r : Bor (TrieNode K V)) (n : ℕ) (is : found ≡ Some (r, n)) where
-    -- where the found node comes before the list, none are left
-    pub found_before : StandsBeside (whole enc m p found place r n is) list 0 side.Before → [] ≡ after_list
-    found_before s = found_none enc m p found place r n is (comes_after itself list) (s itself)
-
-    -- where it comes after the list, all are left
-    pub found_after : StandsBeside (whole enc m p found place r n is) list 0 side.After → pairs_in (tree_of r.now) ≡ after_list
-    found_after s = found_all enc m p found place r n is (comes_after itself list) (s itself)
-
-    -- where the list goes on from it, those behind it are left that come after the rest
-    pub found_on : (next : ℕ) → StandsBeside (whole enc m p found place r n is) list 0 (side.On next) → later_pairs itself (drop next list) (tree_of r.now) ≡ after_list
-    found_on next s = sym (on_path itself (whole enc m p found place r n is) list 0 next (tree_of r.now) s) ∙ at_node enc m p found place r n is (comes_after itself list)

@@ -1,19 +1,24 @@
 -- A path with nothing below it.
-use Rattle.std.proofs.Common.{◌≡◌, ℕ, inl, inr, List, ◌∷◌, length, Option, Some, arith, Bor}
+use Rattle.std.proofs.Common.{◌≡◌, ◌≤◌, ℕ, ap, inl, inr, List, [], ◌∷◌, length, length-append, Option, None, Some, arith, refl, Bor}
 use Rattle.std.proofs.lemmas.Bool.{cases_eq, cases_lt}
 use Rattle.std.specs.FinMap as map
 use Rattle.masked_tree.specs.Sizes.{levels}
+use Rattle.masked_tree.specs.Tree.{Children, more, none}
 use Rattle.nibble_map.specs.MapQueries.{IsLeaf}
 use Rattle.nibble_map.specs.Maps.{PairMap, below}
 use Rattle.radix_nodes.specs.Nodes.{fragment_of, tree_of}
+use Rattle.radix_nodes.specs.Pairs.{own_pair, pairs_in_all}
+use Rattle.radix_nodes.specs.declared.trie_node.KeyValue.{KeyValue}
 use Rattle.radix_nodes.specs.declared.trie_node.TrieNode.{TrieNode}
+use Rattle.radix_nodes.proofs.NodeLemmas.Pairs.{pairs_of-entries_at}
 use Rattle.radix_trie.specs.Places.{IsPlace}
+use Rattle.radix_trie.specs.Views.{pairs_below}
 use Rattle.radix_trie.proofs.ChangeLemmas.Prunings.{nothing_stored_below}
-use Rattle.radix_trie.proofs.PathLemmas.Places.{child_found_no_leaf, first_child, found_placed, inside_no_leaf, whole_or_inside}
+use Rattle.radix_trie.proofs.PathLemmas.Places.{child_found_no_leaf, first_child, found_placed, inside_no_leaf, nothing_found-pairs, pairs_in-found, whole_or_inside}
 
 -- where nothing is at or below a path, nothing is strictly below it
 pub nothing_is_leaf : {P : Type 0} (m : map.FinMap _ P) (p : List ℕ) → map.len (below m p) ≡ 0 → IsLeaf m p
-nothing_is_leaf m p none e stored (a, rest, begins) = nothing_stored_below m p e stored (a ∷ rest, begins) none
+nothing_is_leaf m p bare e stored (a, rest, begins) = nothing_stored_below m p e stored (a ∷ rest, begins) bare
 
 module _ {K V : Type 0} (enc : K → List ℕ) (m : PairMap K V) (p : List ℕ) (found : Option (Bor (TrieNode K V) × ℕ)) (place : IsPlace enc m p found)
     (r : Bor (TrieNode K V)) (n : ℕ) (is : found ≡ Some (r, n)) where
@@ -28,5 +33,27 @@ module _ {K V : Type 0} (enc : K → List ℕ) (m : PairMap K V) (p : List ℕ) 
   pub leaf_has_no_levels : IsLeaf m p → levels (tree_of r.now).children ≡ 0
   leaf_has_no_levels leaf = elim (cases_lt 0 (levels (tree_of r.now).children)) [
     | inl some ↦ absurd (let k = first_child 0 (tree_of r.now).children (found_placed enc m p found place r n is).1 some in child_found_no_leaf enc m p found place r n is (leaf_is_whole leaf) k.0 k.1 k.2 k.3 leaf)
-    | inr none ↦ omega (arith, none)
+    | inr flat ↦ omega (arith, flat)
   ]
+
+-- at a leaf there is at most one pair
+pub leaf_is_small : {K V : Type 0} (enc : K → List ℕ) (m : PairMap K V) (p : List ℕ) (found : Option (Bor (TrieNode K V) × ℕ)) → IsPlace enc m p found → IsLeaf m p → length (pairs_below m p) ≤ 1
+leaf_is_small enc m p None place leaf = omega (arith, ap length (nothing_found-pairs enc m p None place refl))
+leaf_is_small {K} {V} enc m p (Some (r, n)) place leaf =
+    let t = tree_of r.now in
+    omega (
+      arith,
+      ap length (pairs_in-found enc m p (Some (r, n)) place r n refl),
+      ap length (pairs_of-entries_at [] t),
+      length-append (own_pair t.pair) (pairs_in_all t.children),
+      one t.pair,
+      bare t.children (leaf_has_no_levels enc m p (Some (r, n)) place r n refl leaf),
+    )
+  where
+    one : (o : Option (KeyValue K V)) → length (own_pair o) ≤ 1
+    one None = omega arith
+    one (Some x) = omega arith
+
+    bare : (k : Children (KeyValue K V)) → levels k ≡ 0 → length (pairs_in_all k) ≡ 0
+    bare none flat = refl
+    bare (more f o m children others) flat = absurd (omega (arith, flat))

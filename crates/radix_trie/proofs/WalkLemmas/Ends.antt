@@ -39,14 +39,6 @@ module _ {K V : Type 0} where
           (pairs_of-entries_at [] t ∙ ap (λ o. o ++ pairs_in_all t.children) bare ∙ ap pairs_in_all is ∙ pairs_of-append (entries_at [] u) (entries_in [] others))
           ∙ first_item-append (pairs_in u) (pairs_in_all others) (full_has_pair u (here.0, here.1, tt))
 
-  -- a node's own pair comes first
-  pub first_own_pair : (t : Tree (KeyValue K V)) (p : K × V) → Some p ≡ option_map pair_of t.pair → Some p ≡ slice_get (pairs_in t) 0
-  first_own_pair t p is = by t.pair is ∙ sym (ap (λ ps. slice_get ps 0) (pairs_of-entries_at [] t))
-    where
-      by : (o : Option (KeyValue K V)) → Some p ≡ option_map pair_of o → Some p ≡ slice_get (own_pair o ++ pairs_in_all t.children) 0
-      by None e = cc e
-      by (Some x) e = e
-
   -- the entries of some boxes and of others behind them
   pub entries_in-boxes : (bs cs : List (Box (TrieNode K V) Global)) → entries_in [] (children_of (bs ++ cs)) ≡ entries_in [] (children_of bs) ++ entries_in [] (children_of cs)
   entries_in-boxes [] cs = refl

@@ -1,13 +1,13 @@
 -- The pairs of the entries whose lists pass a test, over a tree.
-use Rattle.std.proofs.Common.{◌≡◌, ◌≢◌, ℕ, suc, ◌≤◌, Bool, true, false, cond, List, [], ◌∷◌, ◌++◌, filter, Option, Some, None, refl, ap, sym, ◌∙◌, append_assoc, append-nil, arith}
+use Rattle.std.proofs.Common.{◌≡◌, ℕ, ◌≤◌, Bool, true, false, cond, List, [], ◌∷◌, ◌++◌, filter, length, Option, Some, None, refl, ap, sym, ◌∙◌, append_assoc, append-nil, arith}
 use Rattle.std.proofs.lemmas.List.Elements.{filter-append}
-use Rattle.masked_tree.specs.Tree.{Tree, Children, none, more, IsPlaced, entries_in, entries_at}
+use Rattle.masked_tree.specs.Tree.{Tree, Children, none, more, entries_in, entries_at}
 use Rattle.nibble_map.specs.Swaps.{entry}
-use Rattle.nibble_map.specs.Trees.{first}
 use Rattle.radix_nodes.specs.declared.trie_node.KeyValue.{KeyValue}
-use Rattle.radix_nodes.specs.Pairs.{pairs_in, pairs_in_all, pairs_of}
-use Rattle.radix_nodes.proofs.NodeLemmas.Pairs.{pairs_of-append, pairs_of-entries_of_node}
+use Rattle.radix_nodes.specs.Pairs.{pairs_in, pairs_of}
+use Rattle.radix_nodes.proofs.NodeLemmas.Pairs.{length-pairs_of, pairs_of-append, pairs_of-entries_of_node}
 use Rattle.radix_trie.specs.Walks.{pairs_where}
+use Rattle.radix_trie.proofs.PathLemmas.Places.{length-filter_le}
 
 module _ {K V : Type 0} where
   -- a test that all lists pass keeps all pairs
@@ -71,12 +71,9 @@ module _ {K V : Type 0} where
   pub where_gone : (test : List ℕ → Bool) (p : List ℕ) (t : Tree (KeyValue K V)) → ((y : List ℕ) → test (p ++ y) ≡ false) → pairs_where test (entry p t.pair ++ entries_in p t.children) ≡ []
   where_gone test p t gone = where_behind test (λ _. false) p gone t.pair t.children ∙ where_false (entry [] t.pair ++ entries_in [] t.children)
 
-  -- where each list that isn't empty and doesn't begin below `low` passes a test, the test keeps all pairs of children from `low` on
-  pub where_high : (test : List ℕ → Bool) (low : ℕ) (k : Children (KeyValue K V)) → IsPlaced low k
-      → ((f y : List ℕ) → f ≢ [] → low ≤ first f → test (f ++ y) ≡ true) → pairs_where test (entries_in [] k) ≡ pairs_in_all k
-  where_high test low none h kept = refl
-  where_high test low (more f o m children others) h kept =
-      let t : Tree (KeyValue K V) = record { fragment = f; pair = o; mask = m; children = children } in
-      where-append test (entries_at [] t) (entries_in [] others)
-      ∙ (λ i. where_kept test f t (λ y. kept f y h.0 h.1) i ++ where_high test (suc (first f)) others h.4 (λ g y some le. kept g y some (omega (arith, h.1, le))) i)
-      ∙ sym (pairs_of-append (entries_at [] t) (entries_in [] others))
+  -- no more pairs pass a test than there are
+  pub few_where : (test : List ℕ → Bool) (t : Tree (KeyValue K V)) → length (pairs_where test (entry [] t.pair ++ entries_in [] t.children)) ≤ length (entries_at [] t)
+  few_where test t =
+      let es = entry [] t.pair ++ entries_in [] t.children in
+      let kept = filter (λ e. test e.0) es in
+      omega (arith, length-pairs_of kept, length-filter_le (λ e. test e.0) es, length-pairs_of es, ap length (pairs_of-entries_of_node [] t), length-pairs_of (entries_at [] t))

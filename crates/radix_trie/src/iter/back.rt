@@ -3,15 +3,13 @@ ghost use Rattle.std.specs.Prelude.{◌≡◌, [], IsOk, OnOk, OnErr, IfOk, drop
 ghost use Rattle.masked_tree.specs.Tree.{IsFullBelow};
 ghost use Rattle.radix_nodes.specs.Nodes.{tree_of};
 ghost use Rattle.radix_nodes.specs.Pairs.{pairs_in};
-ghost use Rattle.radix_trie.specs.Walks.{deref_pair};
+ghost use Rattle.radix_trie.specs.Walks.{HasFullRows, deref_pair, left_rows, stacked};
 
-use crate::iter::walk::parts;
+use crate::iter::rows::{Rest, parts};
 use radix_keys::Memory;
-use radix_nodes::trie_node::{KeyValue, TrieNode};
+use radix_nodes::trie_node::TrieNode;
 use std::alloc::Global;
 use std::marker::Model;
-
-mod until;
 
 /// A walk over keys and values that begins in the time of the way down: each pair once, in the
 /// falling order of the encodings, the extensions of an encoding before it.
@@ -21,35 +19,22 @@ mod until;
 /// left, in this order.
 #[derive(Drop)]
 pub struct CursorBack<'a, K, V> {
-    /// The node that the walk stands at.
+    /// What comes next.
     at: Rest<'a, K, V>,
-    /// The nodes above it, the lowest one last.
+    /// What comes after it, the last one first.
     stack: Vec<Rest<'a, K, V>>,
 }
 
-/// What a walk has left of a node.
-#[derive(Drop)]
-struct Rest<'a, K, V> {
-    /// The node's own pair, which comes after all of the row.
-    own: Option<&'a KeyValue<K, V>>,
-    /// Its first children.
-    row: &'a [Box<TrieNode<K, V>>],
-}
-
 impl<'a, K, V> Model for CursorBack<'a, K, V> {
-    ghost use Rattle.std.specs.Prelude.{List, ◌++◌, reverse};
-    ghost use Rattle.masked_tree.specs.Tree.{plain};
-    ghost use Rattle.nibble_map.specs.Trees.{IsFull};
-    ghost use Rattle.radix_nodes.specs.Nodes.{children_of};
+    ghost use Rattle.std.specs.Prelude.{List, [], ◌∷◌, ◌++◌, reverse};
 
     ghost Value = { List (K × V) };
 
-    ghost use Rattle.radix_trie.specs.Walks.{HasFullRows, left_in, left_of, left_rows};
+    ghost use Rattle.radix_trie.specs.Walks.{HasFullRows, left_in, left_rows};
 
-    ghost view = { λ a. reverse (left_in a.stack.items ++ left_of a.at) };
+    ghost view = { λ a. reverse (left_in (a.stack.items ++ a.at ∷ [])) };
 
-    ghost invariant = { λ a. HasFullRows (left_rows a.stack.items)
-        × IsFull (plain (children_of a.at.row.now)) };
+    ghost invariant = { λ a. HasFullRows (left_rows (a.stack.items ++ a.at ∷ [])) };
 }
 
 impl<'a, K, V> CursorBack<'a, K, V> {
@@ -77,6 +62,20 @@ impl<'a, K, V> CursorBack<'a, K, V> {
                 row: &node.children,
             },
             stack: Vec::new(alloc),
+        }
+    }
+
+    /// The walk over what is left in rests, of which the last one comes first in the order of the
+    /// encodings.
+    pub(crate) fn of(alloc: Global, rests: Vec<Rest<'a, K, V>>) -> CursorBack<'a, K, V>
+        requires full { HasFullRows (left_rows rests.items) }
+        ensures { result ≡ reverse (stacked rests.entry.items) }
+    {
+        let mut stack = rests;
+        stack.reverse();
+        match stack.pop() {
+            Some(at) => CursorBack { at, stack },
+            None => CursorBack::empty(alloc),
         }
     }
 

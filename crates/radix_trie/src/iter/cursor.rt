@@ -1,18 +1,16 @@
 //! The ordered walk over keys and values that begins at once, and allocates as it goes.
-ghost use Rattle.std.specs.Prelude.{◌≡◌, ◌+◌, ◌<◌, ◌≤◌, [], IsOk, IfOk, OnOk, OnErr, drop, length, option_map, slice_get, vec_capacity};
+ghost use Rattle.std.specs.Prelude.{◌≡◌, ◌<◌, ◌≤◌, [], IsOk, IfOk, OnOk, OnErr, drop, length, option_map, slice_get, vec_capacity, vec_len};
 ghost use Rattle.masked_tree.specs.Tree.{IsFullBelow};
-ghost use Rattle.masked_tree.specs.Sizes.{levels};
-ghost use Rattle.radix_nodes.specs.Nodes.{children_of, tree_of};
+ghost use Rattle.radix_nodes.specs.Nodes.{out_of, tree_of};
 ghost use Rattle.radix_nodes.specs.Pairs.{pairs_in};
-ghost use Rattle.radix_trie.specs.Walks.{deref_pair, rows_of, with_row};
+ghost use Rattle.radix_trie.specs.Walks.{HasFullRows, deref_pair, left_rows, stacked};
 
-use crate::iter::walk::{parts, push_row};
+use crate::iter::rows::{Rest, enter, parts, row_height};
+use crate::iter::walk::Iter;
 use radix_keys::Memory;
-use radix_nodes::trie_node::{KeyValue, TrieNode};
+use radix_nodes::trie_node::TrieNode;
 use std::alloc::Global;
 use std::marker::Model;
-
-mod resumed;
 
 /// A walk over keys and values that begins in the time of the way down: each pair once, in the order of the encodings, an
 /// encoding before its extensions.
@@ -21,47 +19,62 @@ mod resumed;
 /// then. A contract sees a cursor as the list of the pairs that are left.
 #[derive(Drop)]
 pub struct Cursor<'a, K, V> {
-    /// A pair that comes before all that the stack has left.
-    first: Option<&'a KeyValue<K, V>>,
-    /// The nodes that are left: those of one level in each row, the deepest level last. No row is empty.
-    stack: Vec<&'a [Box<TrieNode<K, V>>]>,
+    /// What comes next.
+    at: Rest<'a, K, V>,
+    /// What comes after it, the last one first.
+    stack: Vec<Rest<'a, K, V>>,
 }
 
 impl<'a, K, V> Model for Cursor<'a, K, V> {
-    ghost use Rattle.std.specs.Prelude.{List, ◌++◌};
+    ghost use Rattle.std.specs.Prelude.{List, [], ◌∷◌, ◌++◌};
 
     ghost Value = { List (K × V) };
 
-    ghost use Rattle.radix_trie.specs.Walks.{first_pair, pending, rows_of, HasFullRows};
+    ghost use Rattle.radix_trie.specs.Walks.{HasFullRows, left_rows, stacked};
 
-    ghost view = { λ a. first_pair a.first ++ pending (rows_of a.stack.items) };
+    ghost view = { λ a. stacked (a.stack.items ++ a.at ∷ []) };
 
-    ghost invariant = { λ a. HasFullRows (rows_of a.stack.items) };
+    ghost invariant = { λ a. HasFullRows (left_rows (a.stack.items ++ a.at ∷ [])) };
 }
 
 impl<'a, K, V> Cursor<'a, K, V> {
-    /// The walk over no pair. It allocates nothing.
+    /// The walk over no pair.
     pub(crate) fn empty(alloc: Global) -> Cursor<'a, K, V>
         ensures { result ≡ [] }
     {
         Cursor {
-            first: None,
+            at: Rest {
+                own: None,
+                row: &[],
+            },
             stack: Vec::new(alloc),
         }
     }
 
-    /// The walk over the pairs at and below a node. Memory is allocated where the node has children.
-    pub(crate) fn over(alloc: Global, node: &'a TrieNode<K, V>) -> Result<Cursor<'a, K, V>, Memory>
+    /// The walk over the pairs at and below a node.
+    pub(crate) fn over(alloc: Global, node: &'a TrieNode<K, V>) -> Cursor<'a, K, V>
         requires full { IsFullBelow (tree_of node.now) }
-        ensures pairs { IfOk result (λ cursor. cursor ≡ pairs_in (tree_of node.now)) }
-        ensures leaf { levels (tree_of node.now).children ≡ 0 → IsOk result }
+        ensures { result ≡ pairs_in (tree_of node.now) }
     {
-        let mut stack = Vec::new(alloc);
-        add_row(&mut stack, &node.children)?;
-        Ok(Cursor {
-            first: node.pair(),
-            stack,
-        })
+        Cursor {
+            at: Rest {
+                own: node.pair(),
+                row: &node.children,
+            },
+            stack: Vec::new(alloc),
+        }
+    }
+
+    /// The walk over what is left in rests, of which the last one comes first.
+    pub(crate) fn of(alloc: Global, rests: Vec<Rest<'a, K, V>>) -> Cursor<'a, K, V>
+        requires full { HasFullRows (left_rows rests.items) }
+        ensures { result ≡ stacked rests.entry.items }
+    {
+        let mut stack = rests;
+        match stack.pop() {
+            Some(at) => Cursor { at, stack },
+            None => Cursor::empty(alloc),
+        }
     }
 
     /// The next pair, in the order of the encodings, or None where none is left, and then at each further call. It takes time
@@ -69,7 +82,7 @@ impl<'a, K, V> Cursor<'a, K, V> {
     ///
     /// # Errors
     ///
-    /// Memory for the row of a node's children is refused. Then the same pairs are left, and the next call tries again.
+    /// Memory for the rows above a node's children is refused. Then the same pairs are left, and the next call tries again.
     /// At the end no memory is allocated.
     ///
     /// # Examples
@@ -81,53 +94,60 @@ impl<'a, K, V> Cursor<'a, K, V> {
         ensures unchanged { OnErr result (self.new ≡ self.old) }
         ensures end { self.old ≡ [] → IsOk result }
     {
-        if let Some(pair) = self.first.take() {
-            return Ok(Some(parts(pair)));
-        }
-        while let Some(nodes) = self.stack.pop() {
-            if let Some((node, others)) = nodes.split_first() {
-                if let Err(refused) = make_room(&mut self.stack, &node.children) {
-                    self.stack.push_reserved(nodes);
-                    return Err(refused);
-                }
-                push_row(&mut self.stack, others);
-                push_row(&mut self.stack, &node.children);
-                if let Some(pair) = node.pair() {
-                    return Ok(Some(parts(pair)));
-                }
+        loop {
+            if let Some(pair) = self.at.own.take() {
+                return Ok(Some(parts(pair)));
+            }
+            let row = self.at.row;
+            if let Some((node, others)) = row.split_first() {
+                make_room(&mut self.stack, node, others)?;
+                self.at = enter(&mut self.stack, node, others);
+            } else {
+                let Some(above) = self.stack.pop() else {
+                    return Ok(None);
+                };
+                self.at = above;
             }
         }
-        Ok(None)
+    }
+
+    /// The walk over the pairs that are left, with all memory that it needs allocated here: its `next` allocates none. The time
+    /// grows with the nodes that are left.
+    ///
+    /// # Errors
+    ///
+    /// Memory for a row for each level is refused. At most one pair needs none.
+    pub fn reserved(self) -> Result<Iter<'a, K, V>, Memory>
+        ensures walk { IfOk result (λ walk. walk ≡ self.entry) }
+        ensures none { length self.entry ≤ 1 → IsOk result }
+    {
+        let Cursor { at, mut stack } = self;
+        let mut most = row_height(at.row)?;
+        for rest in &stack {
+            let tall = row_height(rest.row)?;
+            if most < tall {
+                most = tall;
+            }
+        }
+        // The lowest nodes stand in the row that the walk is at.
+        stack.reserve(most.saturating_sub(1))?;
+        Ok(Iter { at, stack })
     }
 }
 
-/// Makes room for two rows more, that of these children and that of their parent's others, where there are children.
-fn make_room<'a, K, V>(
-    stack: &mut Vec<&'a [Box<TrieNode<K, V>>]>,
-    children: &'a [Box<TrieNode<K, V>>],
+/// Makes room for what stands beside a node, where it is to be put aside.
+fn make_room<K, V>(
+    stack: &mut Vec<Rest<K, V>>,
+    node: &TrieNode<K, V>,
+    others: &[Box<TrieNode<K, V>>],
 ) -> Result<(), Memory>
     ensures same { stack.new.items ≡ stack.old.items }
-    ensures kept { vec_capacity stack.old ≤ vec_capacity stack.new }
-    ensures room { OnOk result (0 < levels (children_of children.now)
-        → length stack.new.items + 2 ≤ vec_capacity stack.new) }
+    ensures room { OnOk result (0 < vec_len (out_of node.now).children → 0 < length others.now
+        → vec_len stack.new < vec_capacity stack.new) }
 {
-    if !children.is_empty() {
-        stack.reserve(2)?;
+    if node.children.is_empty() || others.is_empty() {
+        return Ok(());
     }
-    Ok(())
-}
-
-/// Puts a row on the stack if it isn't empty. Memory is allocated where the stack has no room for it.
-fn add_row<'a, K, V>(
-    stack: &mut Vec<&'a [Box<TrieNode<K, V>>]>,
-    row: &'a [Box<TrieNode<K, V>>],
-) -> Result<(), Memory>
-    ensures rows { OnOk result (rows_of stack.new.items
-        ≡ with_row (rows_of stack.old.items) (children_of row.now)) }
-    ensures none { levels (children_of row.now) ≡ 0 → IsOk result }
-{
-    if !row.is_empty() {
-        stack.push(row)?;
-    }
+    stack.reserve(1)?;
     Ok(())
 }

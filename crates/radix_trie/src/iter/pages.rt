@@ -14,6 +14,7 @@ pub(crate) fn first_pairs<'a, K, V>(
     most: usize,
 ) -> Result<Vec<(&'a K, &'a V)>, Memory>
     ensures pairs { IfOk result (λ list. deref_pairs list.items ≡ take most cursor.entry) }
+    ensures no_page { most ≡ 0 → IsOk result }
     ensures none { cursor.entry ≡ [] → IsOk result }
 {
     let mut left = cursor;

@@ -6,7 +6,7 @@ ghost use Rattle.radix_nodes.specs.Nodes.{tree_of};
 ghost use Rattle.radix_nodes.specs.Pairs.{own_pair};
 ghost use Rattle.radix_trie.specs.Walks.{LeadsTo, deref_pair, pairs_on_way, prefix_pairs};
 
-use crate::iter::walk::parts;
+use crate::iter::rows::parts;
 use radix_keys::Nibblet;
 use radix_nodes::search::step::step;
 use radix_nodes::trie_node::TrieNode;

@@ -1,5 +1,5 @@
 //! Where a path, and all that goes on from it, stands beside a list.
-ghost use Rattle.std.specs.Prelude.{◌≡◌, ◌≤◌, ◌++◌, ℕ, List, drop, length, take};
+ghost use Rattle.std.specs.Prelude.{◌≤◌, length};
 ghost use Rattle.radix_trie.specs.Walks.{StandsBeside};
 
 use radix_keys::Nibblet;
@@ -32,23 +32,5 @@ pub(crate) fn side_of(fragment: &Nibblet, list: &Nibblet, depth: usize) -> Side
         Side::Before
     } else {
         Side::After
-    }
-}
-
-/// The same of a path that ends within a fragment, behind its first `covered` nibbles, and of what goes on from it there.
-pub(crate) fn side_beyond(
-    path: &Nibblet,
-    fragment: &Nibblet,
-    covered: usize,
-    list: &Nibblet,
-) -> Side
-    requires within { covered ≤ length fragment.now }
-    requires ends { (p : List ℕ) × (path.now ≡ p ++ take covered fragment.now) }
-    ensures { StandsBeside (path.now ++ drop covered fragment.now) list.now 0 result }
-{
-    match side_of(path, list, 0) {
-        Side::On(end) => side_of(fragment, list, end - covered),
-        Side::Before => Side::Before,
-        Side::After => Side::After,
     }
 }

@@ -1,6 +1,6 @@
 //! The trie, as a map.
 ghost use Rattle.std.specs.Borrow.{sem};
-ghost use Rattle.std.specs.Prelude.{◌≡◌, ◌↔◌, ◌*◌, ◌<◌, ◌≤◌, length, max, false, None, IsTrue, IsOk, IfOk, OnOk, option_copied, option_map};
+ghost use Rattle.std.specs.Prelude.{◌≡◌, [], ◌↔◌, ◌*◌, ◌<◌, ◌≤◌, length, max, false, None, IsTrue, IsOk, IfOk, OnOk, option_copied, option_map};
 ghost use Rattle.std.specs.Option.{option_copied_mut};
 ghost use Rattle.std.specs.FinMap as map;
 ghost use Rattle.nibble_map.specs.Copies.{IsMapCopy, IsPairClone};
@@ -203,6 +203,13 @@ impl<K: TrieKey, V> Trie<K, V> {
         ensures { IsRoot K.encoding self.now (tree_of result.now) }
     {
         &self.root
+    }
+
+    /// The path of the trie, the empty list.
+    pub(crate) fn top(&self) -> &Nibblet
+        ensures { result.now ≡ [] }
+    {
+        &self.root.fragment
     }
 
     /// The allocator that the trie's memory comes from.

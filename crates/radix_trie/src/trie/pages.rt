@@ -5,9 +5,11 @@ ghost use Rattle.nibble_map.specs.Maps.{below};
 ghost use Rattle.radix_trie.specs.Views.{pairs_after, pairs_below};
 ghost use Rattle.radix_trie.specs.Walks.{deref_pairs};
 
+use crate::iter::{Cursor, first_pairs};
 use crate::trie::Trie;
-use crate::view::place::Place;
-use radix_keys::{Memory, TrieKey};
+use crate::view::place::{Limits, Place};
+use radix_keys::{Memory, Nibblet, TrieKey};
+use std::ops::Bound;
 
 impl<K: TrieKey, V> Trie<K, V> {
     /// The first pairs at and below the key's place, in the order of their encodings: `most` of
@@ -33,7 +35,7 @@ impl<K: TrieKey, V> Trie<K, V> {
             → IsOk result }
     {
         let list = key.encode(self.allocator())?;
-        Place::find(self, &list).first_pairs(most)
+        self.page_below(&list, most)
     }
 
     /// The first pairs at and below the key's place whose encodings come strictly after that of `last`, in the order of their
@@ -60,6 +62,22 @@ impl<K: TrieKey, V> Trie<K, V> {
             → IsOk result }
     {
         let list = key.encode(self.allocator())?;
-        Place::find(self, &list).first_after(last, most)
+        if most == 0 {
+            return Ok(Vec::new(self.allocator()));
+        }
+        let last = last.encode(self.allocator())?;
+        let limits = Limits::of(&list, Bound::Excluded(&last), Bound::Unbounded);
+        let rests = Place::find(self, &list).rests(limits)?;
+        first_pairs(self.allocator(), Cursor::of(self.allocator(), rests), most)
+    }
+
+    /// The first pairs at and below a list, `most` of them where there are so many.
+    pub(crate) fn page_below(&self, list: &Nibblet, most: usize) -> Result<Vec<(&K, &V)>, Memory>
+        ensures pairs { IfOk result (λ page. deref_pairs page.items
+            ≡ take most (pairs_below self.now list.now)) }
+        ensures no_page { most ≡ 0 → IsOk result }
+        ensures none { map.len (below self.now list.now) ≡ 0 → IsOk result }
+    {
+        first_pairs(self.allocator(), Place::find(self, list).cursor(), most)
     }
 }

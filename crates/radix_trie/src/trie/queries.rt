@@ -143,7 +143,7 @@ impl<K: TrieKey, V> Trie<K, V> {
             → IsOk result }
     {
         let list = key.encode(self.allocator())?;
-        Place::find(self, &list).nearest()
+        Place::find(self, &list).nearest(self, &list)
     }
 
     /// The count of pairs at and below the key's place. They are counted, so the time grows with
@@ -193,7 +193,7 @@ impl<K: TrieKey, V> Trie<K, V> {
         ensures same_map { IfOk result (λ children. Each (λ c. c.map ≡ self.now) children) }
         ensures short { ((q : List ℕ) → IsChild self.now [] q → IsShort q) → IsOk result }
     {
-        let top = Nibblet::new(self.allocator());
-        Place::find(self, &top).children()
+        let top = self.top();
+        Place::find(self, top).children(self, top)
     }
 }

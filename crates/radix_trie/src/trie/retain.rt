@@ -108,7 +108,7 @@ impl<K: TrieKey + Drop, V: Drop> Trie<K, V> {
         ensures none { map.len (below self.now list.now) ≡ 0 → IsOk result }
     {
         let mut gone = Vec::new(self.alloc);
-        for (key, value) in Place::find(self, list).iter()? {
+        for (key, value) in Place::find(self, list).cursor().reserved()? {
             if !keeps(keep, key, value) {
                 gone.push(key.encode(self.alloc)?)?;
             }

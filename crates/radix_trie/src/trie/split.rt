@@ -51,7 +51,7 @@ impl<K: TrieKey + Drop, V: Drop> Trie<K, V> {
         ensures unchanged { OnErr result (self.new ≡ self.old) }
         ensures none { map.len (below self.old list.now) ≡ 0 → IsOk result }
     {
-        let path = match Place::find(&*self, list).nearest()? {
+        let path = match Place::find(&*self, list).nearest(&*self, list)? {
             Some(view) => view.into_path(),
             None => return Ok(Trie::new(self.alloc)),
         };

@@ -1,4 +1,5 @@
 //! Views: a trie, and a path in it.
+mod at;
 mod edit;
 pub(crate) mod place;
 mod retain;
@@ -8,4 +9,3 @@ pub(crate) mod subtrie_mut;
 pub(crate) mod trie_common;
 pub(crate) mod trie_edit;
 mod values;
-mod write_common;

@@ -1,16 +1,16 @@
 //! Where a path stands in a trie: what is stored at it and below it.
-ghost use Rattle.std.specs.Prelude.{◌≡◌, ◌<◌, ◌≤◌, ◌^◌, ◌++◌, ◌↔◌, ℕ, List, Some, IsTrue, IsOk, IfOk, IfSome, drop, length, option_copied, option_map};
+ghost use Rattle.std.specs.Prelude.{◌≡◌, ◌<◌, ◌≤◌, ◌-◌, ◌^◌, ◌++◌, ◌↔◌, ℕ, List, Some, IsTrue, IsOk, IfOk, IfSome, drop, length, option_map, reverse, slice_get};
 ghost use Rattle.std.specs.FinMap as finite;
 ghost use Rattle.nibble_map.specs.Lists.{Each, IsPrefix};
-ghost use Rattle.nibble_map.specs.Maps.{below, value_at, walk};
+ghost use Rattle.nibble_map.specs.Maps.{PairMap, below, walk};
 ghost use Rattle.nibble_map.specs.MapQueries.{AreChildren, IsChild, IsLeaf, IsRawDescendant};
 ghost use Rattle.nibble_map.specs.Nibbles.{IsShort};
 ghost use Rattle.radix_nodes.specs.Nodes.{tree_of};
 ghost use Rattle.radix_nodes.specs.Pairs.{pair_of};
-ghost use Rattle.radix_trie.specs.Places.{IsNodeOf, child_views};
+ghost use Rattle.radix_trie.specs.Places.{IsNodeOf, IsPlaceIn, IsSomePlace, child_views};
 ghost use Rattle.radix_trie.specs.Views.{pairs_below, paths_of};
 
-use crate::iter::{Children, Iter};
+use crate::iter::{Children, Cursor, CursorBack, first_pair, last_pair};
 use crate::trie::Trie;
 use crate::view::subtrie::SubTrie;
 use radix_keys::{Memory, Nibblet, TrieKey};
@@ -19,48 +19,31 @@ use radix_nodes::search::compare::compare;
 use radix_nodes::search::queries::shortest;
 use radix_nodes::trie_node::{KeyValue, TrieNode, is_end};
 use radix_nodes::whole::size::count_pairs;
-use std::marker::Model;
+use std::alloc::Global;
 
-mod back;
-mod cursors;
-mod ends;
-mod pages;
-mod resumed;
 mod shown;
+mod within;
 
-/// A path in a trie, a point or not, and what stands at and below it. A contract sees it as the map of the whole trie
-/// and the path.
+pub(crate) use within::{Limits, encoded};
+
+/// What stands at and below a path of a trie, a point or not. Neither of the two is kept: each contract speaks of every map
+/// and every path that the place is that of.
 #[derive(Drop)]
-pub(crate) struct Place<'a, 'p, K: TrieKey, V> {
-    trie: &'a Trie<K, V>,
-    path: &'p Nibblet,
+pub(crate) struct Place<'a, K, V> {
+    pub(crate) alloc: Global,
     /// The node with the shortest path that the path begins, and how many nibbles of its fragment lie within the path.
-    found: Option<(&'a TrieNode<K, V>, usize)>,
+    pub(crate) found: Option<(&'a TrieNode<K, V>, usize)>,
 }
 
-impl<'a, 'p, K: TrieKey, V> Model for Place<'a, 'p, K, V> {
-    ghost use Rattle.radix_trie.specs.Views.{ReadView, read_view_code};
-
-    ghost Value = { ReadView K V };
-
-    ghost coded = { read_view_code K.code V.code };
-
-    ghost use Rattle.radix_trie.specs.Places.{IsPlace};
-
-    ghost view = { λ s. record { map = s.trie.now; path = s.path.now } };
-
-    ghost invariant = { λ s. IsPlace K.encoding s.trie.now s.path.now s.found };
-}
-
-impl<'a, 'p, K: TrieKey, V> Place<'a, 'p, K, V> {
+impl<'a, K: TrieKey, V> Place<'a, K, V> {
     /// The place of any path.
-    pub(crate) fn find(trie: &'a Trie<K, V>, path: &'p Nibblet) -> Place<'a, 'p, K, V>
-        ensures map { result.map ≡ trie.now }
-        ensures path { result.path ≡ path.now }
+    pub(crate) fn find(trie: &'a Trie<K, V>, path: &Nibblet) -> Place<'a, K, V>
+        ensures { IsPlaceIn K.encoding trie.now path.now result }
     {
+        // All pairs are within `usize`.
+        let _pairs = trie.len();
         Place {
-            trie,
-            path,
+            alloc: trie.allocator(),
             found: shortest(trie.root(), path, 0),
         }
     }
@@ -69,23 +52,23 @@ impl<'a, 'p, K: TrieKey, V> Place<'a, 'p, K, V> {
     pub(crate) fn at(
         trie: &'a Trie<K, V>,
         node: &'a TrieNode<K, V>,
-        path: &'p Nibblet,
-    ) -> Place<'a, 'p, K, V>
+        path: &Nibblet,
+    ) -> Place<'a, K, V>
         requires { IsNodeOf K.encoding trie.now path.now (tree_of node.now) }
-        ensures map { result.map ≡ trie.now }
-        ensures path { result.path ≡ path.now }
+        ensures { IsPlaceIn K.encoding trie.now path.now result }
     {
+        // All pairs are within `usize`.
+        let _pairs = trie.len();
         Place {
-            trie,
-            path,
+            alloc: trie.allocator(),
             found: Some((node, node.fragment.len())),
         }
     }
 
     /// The pair that is stored at the path.
     pub(crate) fn pair(&self) -> Option<&'a KeyValue<K, V>>
-        ensures { option_map (λ p. pair_of p.now) result
-            ≡ finite.get self.now.map self.now.path }
+        ensures { (m : PairMap K V) (p : List ℕ) → IsPlaceIn K.encoding m p self.now
+            → option_map (λ x. pair_of x.now) result ≡ finite.get m p }
     {
         match self.found {
             Some((node, covered)) => {
@@ -99,33 +82,12 @@ impl<'a, 'p, K: TrieKey, V> Place<'a, 'p, K, V> {
         }
     }
 
-    /// The key that is stored at the path.
-    pub(crate) fn key(&self) -> Option<&'a K>
-        ensures { option_copied result
-            ≡ option_map (λ p. p.0) (finite.get self.now.map self.now.path) }
-    {
-        match self.pair() {
-            Some(pair) => Some(&pair.key),
-            None => None,
-        }
-    }
-
-    /// The value that is stored at the path.
-    pub(crate) fn value(&self) -> Option<&'a V>
-        ensures { option_copied result ≡ value_at self.now.map self.now.path }
-    {
-        match self.pair() {
-            Some(pair) => Some(&pair.value),
-            None => None,
-        }
-    }
-
     /// The count of pairs at and below the path.
     pub(crate) fn len(&self) -> usize
-        ensures { result ≡ finite.len (below self.now.map self.now.path) }
+        requires { IsSomePlace K.encoding self.now }
+        ensures { (m : PairMap K V) (p : List ℕ) → IsPlaceIn K.encoding m p self.now
+            → result ≡ finite.len (below m p) }
     {
-        // All pairs are within `usize`.
-        let _pairs = self.trie.len();
         match self.found {
             Some((node, _)) => count_pairs(node),
             None => 0,
@@ -134,7 +96,8 @@ impl<'a, 'p, K: TrieKey, V> Place<'a, 'p, K, V> {
 
     /// Whether no pair is at or below the path. No pair is counted.
     pub(crate) fn is_empty(&self) -> bool
-        ensures { IsTrue result ↔ (finite.len (below self.now.map self.now.path) ≡ 0) }
+        ensures { (m : PairMap K V) (p : List ℕ) → IsPlaceIn K.encoding m p self.now
+            → IsTrue result ↔ (finite.len (below m p) ≡ 0) }
     {
         match self.pair() {
             Some(_) => false,
@@ -144,7 +107,8 @@ impl<'a, 'p, K: TrieKey, V> Place<'a, 'p, K, V> {
 
     /// Whether no pair is strictly below the path.
     pub(crate) fn is_leaf(&self) -> bool
-        ensures { IsTrue result ↔ IsLeaf self.now.map self.now.path }
+        ensures { (m : PairMap K V) (p : List ℕ) → IsPlaceIn K.encoding m p self.now
+            → IsTrue result ↔ IsLeaf m p }
     {
         match self.found {
             Some((node, covered)) => {
@@ -158,54 +122,107 @@ impl<'a, 'p, K: TrieKey, V> Place<'a, 'p, K, V> {
         }
     }
 
-    /// The walk over the pairs at and below the path. All memory that it needs is allocated here.
-    pub(crate) fn iter(&self) -> Result<Iter<'a, K, V>, Memory>
-        ensures walk { IfOk result (λ pairs. pairs ≡ pairs_below self.now.map self.now.path) }
-        ensures keyed { Each (λ e. e.0 ≡ K.encoding e.1.0) (walk self.now.map self.now.path) }
-        ensures countable { IfOk result (λ pairs. length pairs < 2 ^ 64) }
-        ensures none { finite.len (below self.now.map self.now.path) ≡ 0 → IsOk result }
-        ensures leaf { IsLeaf self.now.map self.now.path → IsOk result }
+    /// The first pair at and below the path.
+    pub(crate) fn first(&self) -> Option<&'a KeyValue<K, V>>
+        requires { IsSomePlace K.encoding self.now }
+        ensures { (m : PairMap K V) (p : List ℕ) → IsPlaceIn K.encoding m p self.now
+            → option_map (λ x. pair_of x.now) result
+            ≡ slice_get (pairs_below m p) 0 }
     {
-        let _pairs = self.trie.len();
         match self.found {
-            Some((node, _)) => Iter::over(self.trie.allocator(), node),
-            None => Ok(Iter::empty(self.trie.allocator())),
+            Some((node, _)) => first_pair(node),
+            None => None,
+        }
+    }
+
+    /// The last pair at and below the path.
+    pub(crate) fn last(&self) -> Option<&'a KeyValue<K, V>>
+        requires { IsSomePlace K.encoding self.now }
+        ensures { (m : PairMap K V) (p : List ℕ) → IsPlaceIn K.encoding m p self.now
+            → option_map (λ x. pair_of x.now) result
+            ≡ slice_get (pairs_below m p)
+            (length (pairs_below m p) - 1) }
+    {
+        match self.found {
+            Some((node, _)) => last_pair(node),
+            None => None,
+        }
+    }
+
+    /// The walk over the pairs at and below the path.
+    pub(crate) fn cursor(&self) -> Cursor<'a, K, V>
+        requires { IsSomePlace K.encoding self.now }
+        ensures walk { (m : PairMap K V) (p : List ℕ) → IsPlaceIn K.encoding m p self.now
+            → result ≡ pairs_below m p }
+        ensures keyed { (m : PairMap K V) (p : List ℕ) → IsPlaceIn K.encoding m p self.now
+            → Each (λ e. e.0 ≡ K.encoding e.1.0) (walk m p) }
+        ensures countable { length result < 2 ^ 64 }
+    {
+        match self.found {
+            Some((node, _)) => Cursor::over(self.alloc, node),
+            None => Cursor::empty(self.alloc),
+        }
+    }
+
+    /// The walk over the pairs at and below the path, from the last one to the first.
+    pub(crate) fn cursor_back(&self) -> CursorBack<'a, K, V>
+        requires { IsSomePlace K.encoding self.now }
+        ensures walk { (m : PairMap K V) (p : List ℕ) → IsPlaceIn K.encoding m p self.now
+            → result ≡ reverse (pairs_below m p) }
+        ensures keyed { (m : PairMap K V) (p : List ℕ) → IsPlaceIn K.encoding m p self.now
+            → Each (λ e. e.0 ≡ K.encoding e.1.0) (walk m p) }
+        ensures countable { length result < 2 ^ 64 }
+    {
+        match self.found {
+            Some((node, _)) => CursorBack::over(self.alloc, node),
+            None => CursorBack::empty(self.alloc),
         }
     }
 
     /// The view at the shortest point that the path is a prefix of, or None where there is none.
-    pub(crate) fn nearest(&self) -> Result<Option<SubTrie<'a, K, V>>, Memory>
-        ensures nearest { IfOk result
-            (λ o. IsRawDescendant self.now.map self.now.path (option_map (λ view. view.path) o)) }
-        ensures same_map { IfOk result (λ o. IfSome o (λ view. view.map ≡ self.now.map)) }
-        ensures short { ((p : List ℕ) → IsRawDescendant self.now.map self.now.path (Some p)
+    pub(crate) fn nearest(
+        &self,
+        trie: &'a Trie<K, V>,
+        path: &Nibblet,
+    ) -> Result<Option<SubTrie<'a, K, V>>, Memory>
+        requires { IsPlaceIn K.encoding trie.now path.now self.now }
+        ensures nearest { IfOk result (λ o.
+            IsRawDescendant trie.now path.now (option_map (λ view. view.path) o)) }
+        ensures same_map { IfOk result (λ o. IfSome o (λ view. view.map ≡ trie.now)) }
+        ensures short { ((p : List ℕ) → IsRawDescendant trie.now path.now (Some p)
             → IsShort p) → IsOk result }
     {
         match self.found {
             Some((node, covered)) => {
-                let whole = extended(self.path, &node.fragment, covered)?;
-                Ok(Some(SubTrie::new(self.trie, node, whole)))
+                let whole = extended(path, &node.fragment, covered)?;
+                Ok(Some(SubTrie::new(trie, node, whole)))
             }
             None => Ok(None),
         }
     }
 
     /// For each nibble in rising order, the view at the shortest point that goes on from the path by it.
-    pub(crate) fn children(&self) -> Result<Children<'a, K, V>, Memory>
+    pub(crate) fn children(
+        &self,
+        trie: &'a Trie<K, V>,
+        path: &Nibblet,
+    ) -> Result<Children<'a, K, V>, Memory>
+        requires { IsPlaceIn K.encoding trie.now path.now self.now }
         ensures children { IfOk result
-            (λ children. AreChildren self.now.map self.now.path (paths_of children)) }
-        ensures same_map { IfOk result (λ children. Each (λ c. c.map ≡ self.now.map) children) }
-        ensures short { ((q : List ℕ) → IsChild self.now.map self.now.path q → IsShort q)
+            (λ children. AreChildren trie.now path.now (paths_of children)) }
+        ensures same_map { IfOk result
+            (λ children. Each (λ c. c.map ≡ trie.now) children) }
+        ensures short { ((q : List ℕ) → IsChild trie.now path.now q → IsShort q)
             → IsOk result }
     {
         match self.found {
             Some((node, covered)) => {
                 if covered == node.fragment.len() {
-                    return children_of(self.trie, node, self.path);
+                    return children_of(trie, node, path);
                 }
                 let mut children = Children::new();
-                let whole = extended(self.path, &node.fragment, covered)?;
-                children.push(SubTrie::new(self.trie, node, whole));
+                let whole = extended(path, &node.fragment, covered)?;
+                children.push(SubTrie::new(trie, node, whole));
                 Ok(children)
             }
             None => Ok(Children::new()),

@@ -4,15 +4,14 @@ use crate::trie::Trie;
 use crate::view::place::Place;
 use crate::view::subtrie::SubTrie;
 use crate::view::subtrie_mut::SubTrieMut;
-use radix_keys::{Nibblet, TrieKey};
+use radix_keys::TrieKey;
 use std::fmt;
 
 /// The map of the keys and values, in the order of a walk. It allocates nothing, so no pair is left out for want of it; it
 /// goes down by recursion.
 impl<K: TrieKey + fmt::Debug, V: fmt::Debug> fmt::Debug for Trie<K, V> {
     fn fmt<W: fmt::Write>(&self, f: &mut fmt::Formatter<W>) -> fmt::Result {
-        let top = Nibblet::new(self.allocator());
-        Place::find(self, &top).write(f)
+        Place::find(self, self.top()).write(f)
     }
 }
 

@@ -7,6 +7,7 @@ ghost use Rattle.nibble_map.specs.Maps.{IsPoint, below, value_at};
 ghost use Rattle.nibble_map.specs.Nibbles.{IsShort};
 ghost use Rattle.radix_nodes.specs.Nodes.{tree_of};
 ghost use Rattle.radix_nodes.specs.Pairs.{pair_of};
+ghost use Rattle.radix_trie.specs.Places.{IsPlaceIn};
 ghost use Rattle.radix_trie.specs.Views.{pairs_below, paths_of};
 ghost use Rattle.radix_trie.specs.Walks.{deref_pairs};
 
@@ -17,6 +18,7 @@ use crate::view::place::{Place, begins};
 use radix_keys::{Memory, Nibblet, TrieKey};
 use radix_nodes::search::find::find;
 use radix_nodes::trie_node::{KeyValue, TrieNode};
+use std::alloc::Global;
 use std::marker::Model;
 
 /// A view for reading: a point of a trie, which doesn't change while the view lives.
@@ -189,7 +191,7 @@ impl<'a, K: TrieKey, V> SubTrie<'a, K, V> {
             → result ≢ Err SubTrieError.Memory }
     {
         let list = self.inside(key)?;
-        Ok(Place::find(self.trie, &list).first_pairs(most)?)
+        Ok(self.trie.page_below(&list, most)?)
     }
 
     /// For each nibble in rising order, the view at the shortest point that goes on from the path
@@ -205,23 +207,25 @@ impl<'a, K: TrieKey, V> SubTrie<'a, K, V> {
         ensures short { ((q : List ℕ) → IsChild self.now.map self.now.path q → IsShort q)
             → IsOk result }
     {
-        self.place().children()
+        self.place().children(self.trie, &self.path)
     }
 
     /// The fragment of the view's point.
-    pub(crate) fn fragment(&self) -> Result<Nibblet, Memory>
-        ensures fragment { IfOk result (λ f. IsFragment self.now.map self.now.path f) }
-        ensures short { ((f : List ℕ) → IsFragment self.now.map self.now.path f → IsShort f)
-            → IsOk result }
+    pub(crate) fn fragment(&self) -> &Nibblet
+        ensures { IsFragment self.now.map self.now.path result.now }
     {
-        self.node.fragment.clone()
+        &self.node.fragment
     }
 
     /// The place of the view's path.
-    pub(crate) fn place(&self) -> Place<'a, '_, K, V>
-        ensures map { result.map ≡ self.now.map }
-        ensures path { result.path ≡ self.now.path }
+    pub(crate) fn place(&self) -> Place<'a, K, V>
+        ensures { IsPlaceIn K.encoding self.now.map self.now.path result }
     {
         Place::at(self.trie, self.node, &self.path)
+    }
+
+    /// The allocator of the trie.
+    pub(crate) fn allocator(&self) -> Global {
+        self.trie.allocator()
     }
 }

@@ -1,18 +1,18 @@
 //! What tries and views have in common.
-ghost use Rattle.std.specs.Prelude.{◌≡◌, ◌<◌, ◌^◌, ◌-◌, ◌↔◌, ℕ, List, [], IsTrue, IsOk, IfOk, length, map as each, option_copied, option_map, reverse, slice_get};
+ghost use Rattle.std.specs.Prelude.{◌≡◌, ◌<◌, ◌^◌, ◌-◌, ◌↔◌, ℕ, List, IsTrue, IsOk, IfOk, length, map as each, option_copied, option_map, reverse, slice_get};
 ghost use Rattle.std.specs.FinMap as finite;
 ghost use Rattle.nibble_map.specs.Lists.{Each};
-ghost use Rattle.nibble_map.specs.MapQueries.{IsFragment, IsLeaf};
+ghost use Rattle.nibble_map.specs.MapQueries.{IsLeaf};
 ghost use Rattle.nibble_map.specs.Maps.{PairMap, below, value_at, walk};
 ghost use Rattle.nibble_map.specs.Nibbles.{IsShort};
-ghost use Rattle.radix_trie.specs.Views.{pairs_after, pairs_before, pairs_below, pairs_from, pairs_until};
-ghost use Rattle.radix_trie.specs.Walks.{deref_pair};
+ghost use Rattle.radix_trie.specs.Views.{IsLightBound, encoded_bound, pairs_below, pairs_within};
+ghost use Rattle.radix_trie.specs.Walks.{HasFullRows, deref_pair, left_rows, stacked};
 
-use crate::iter::{Cursor, CursorBack, Iter, Keys, Values};
-use crate::trie::Trie;
-use crate::view::place::Place;
-use crate::view::subtrie::SubTrie;
+use crate::iter::{Cursor, CursorBack, Iter, Keys, Rest, Values, key_of, parts_of, value_of};
+use crate::view::at::At;
+use crate::view::place::{Limits, encoded};
 use radix_keys::{Memory, Nibblet, TrieKey};
+use std::ops::RangeBounds;
 
 /// What a trie and its views return, by the map of the trie and a path in it. The path of a trie is the empty list.
 ///
@@ -37,7 +37,7 @@ pub trait TrieCommon<'a, K: TrieKey + 'a, V: 'a>: Sized {
     fn value(self) -> Option<&'a V>
         ensures { option_copied result ≡ value_at (map self) (path self) };
 
-    /// The count of pairs at and below the path.
+    /// The count of pairs at and below the path. They are counted, so the time grows with their number.
     fn len(self) -> usize
         ensures { result ≡ finite.len (below (map self) (path self)) };
 
@@ -52,7 +52,9 @@ pub trait TrieCommon<'a, K: TrieKey + 'a, V: 'a>: Sized {
     /// The walk over the pairs at and below the path, in the order of their encodings, a prefix
     /// before its extensions.
     ///
-    /// All memory that the walk needs is allocated here: its `next` allocates none.
+    /// All memory that the walk needs is allocated here: its `next` allocates none. How much that is takes one pass over all
+    /// nodes at and below the path, before the first pair. Each step takes time up to the depth below the path, and the
+    /// whole walk the time of the nodes there. Of a few pairs `cursor` is the walk, or a page of `Trie::first_below`.
     ///
     /// # Errors
     ///
@@ -69,7 +71,7 @@ pub trait TrieCommon<'a, K: TrieKey + 'a, V: 'a>: Sized {
         ensures none { finite.len (below (map self) (path self)) ≡ 0 → IsOk result }
         ensures leaf { IsLeaf (map self) (path self) → IsOk result };
 
-    /// The keys of the walk of `iter`.
+    /// The keys of the walk of `iter`, in its time.
     ///
     /// # Errors
     ///
@@ -81,7 +83,7 @@ pub trait TrieCommon<'a, K: TrieKey + 'a, V: 'a>: Sized {
         ensures none { finite.len (below (map self) (path self)) ≡ 0 → IsOk result }
         ensures leaf { IsLeaf (map self) (path self) → IsOk result };
 
-    /// The values of the walk of `iter`.
+    /// The values of the walk of `iter`, in its time.
     ///
     /// # Errors
     ///
@@ -93,148 +95,83 @@ pub trait TrieCommon<'a, K: TrieKey + 'a, V: 'a>: Sized {
         ensures none { finite.len (below (map self) (path self)) ≡ 0 → IsOk result }
         ensures leaf { IsLeaf (map self) (path self) → IsOk result };
 
-    /// The walk over the pairs at and below the path from the key's encoding on: those whose
-    /// encodings are the key's or come after it, in their order. The key needn't be stored, nor lie
-    /// below the path.
-    ///
-    /// All memory that the walk needs is allocated here: its `next` allocates none.
-    ///
-    /// # Errors
-    ///
-    /// Memory is refused, for the key's encoding or for the walk. That never comes where the key is
-    /// light and no pair is at or below the path.
-    ///
-    /// # Examples
-    ///
-    /// `walks_from_texts` in `crates/trie_tests/src/further/resumed.rt`.
-    fn iter_from<Q: TrieKey>(self, key: &Q) -> Result<Iter<'a, K, V>, Memory>
-        ensures walk { IfOk result (λ pairs. pairs
-            ≡ pairs_from (map self) (path self) (Q.encoding key.now)) }
-        ensures countable { IfOk result (λ pairs. length pairs < 2 ^ 64) }
-        ensures light_none { Q.is_light key.now
-            → finite.len (below (map self) (path self)) ≡ 0
-            → IsOk result };
-
-    /// The walk over the pairs at and below the path that come after the key's encoding, in the
-    /// order of their encodings: a walk that was left at this key goes on so. The key needn't be
-    /// stored, nor lie below the path.
-    ///
-    /// # Errors
-    ///
-    /// Those of `iter_from`.
-    fn iter_after<Q: TrieKey>(self, key: &Q) -> Result<Iter<'a, K, V>, Memory>
-        ensures walk { IfOk result (λ pairs. pairs
-            ≡ pairs_after (map self) (path self) (Q.encoding key.now)) }
-        ensures countable { IfOk result (λ pairs. length pairs < 2 ^ 64) }
-        ensures light_none { Q.is_light key.now
-            → finite.len (below (map self) (path self)) ≡ 0
-            → IsOk result };
-
     /// The walk over the pairs at and below the path, as that of `iter`, which allocates as it goes.
     ///
-    /// It begins in the time of the way down to the path. Each step takes time up to the depth below the path, and a whole
-    /// walk as much as that of `iter`. Memory for at most a row of nodes for each level below the path is allocated as the
-    /// steps need it, so a step may be refused.
-    ///
-    /// # Errors
-    ///
-    /// Memory for the first row is refused. None is allocated where no pair is strictly below the path.
+    /// It begins in the time of the way down to the path, and allocates nothing then. Each step takes time up to the depth
+    /// below the path, and a whole walk as much as that of `iter`. Memory for at most a row of nodes for each level below
+    /// the path is allocated as the steps need it, so a step may be refused.
     ///
     /// # Examples
     ///
     /// `first_pairs` in `crates/radix_trie/src/iter/pages.rt` takes some pairs of a cursor.
-    fn cursor(self) -> Result<Cursor<'a, K, V>, Memory>
-        ensures walk { IfOk result (λ pairs. pairs ≡ pairs_below (map self) (path self)) }
+    fn cursor(self) -> Cursor<'a, K, V>
+        ensures walk { result ≡ pairs_below (map self) (path self) }
         ensures keyed { Each (λ e. e.0 ≡ K.encoding e.1.0) (walk (map self) (path self)) }
-        ensures countable { IfOk result (λ pairs. length pairs < 2 ^ 64) }
-        ensures none { finite.len (below (map self) (path self)) ≡ 0 → IsOk result }
-        ensures leaf { IsLeaf (map self) (path self) → IsOk result };
+        ensures countable { length result < 2 ^ 64 };
 
     /// The walk over the pairs at and below the path from the last to the first: in the falling
-    /// order of their encodings, the extensions of a prefix before it.
-    ///
-    /// It begins in the time of the way down to the path, and allocates nothing then. Each step
-    /// takes time up to the depth below the path, and a whole walk as much as that of `iter`.
-    /// Memory for at most a row of nodes for each level below the path is allocated as the steps
-    /// need it, so a step may be refused.
+    /// order of their encodings, the extensions of a prefix before it. It takes the time and the memory of that of
+    /// `cursor`.
     fn cursor_back(self) -> CursorBack<'a, K, V>
         ensures walk { result ≡ reverse (pairs_below (map self) (path self)) }
         ensures keyed { Each (λ e. e.0 ≡ K.encoding e.1.0) (walk (map self) (path self)) }
         ensures countable { length result < 2 ^ 64 };
 
-    /// The walk of `cursor_back` from the key's encoding on: over the pairs at and below the path
-    /// whose encodings are the key's or come before it, from the last to the first. The key needn't
-    /// be stored, nor lie below the path.
+    /// The walk of `cursor` over the pairs at and below the path whose encodings lie within a range of keys, by the order
+    /// of the encodings. The keys needn't be stored, nor lie below the path. Where the first comes after the last, no pair
+    /// lies between.
     ///
-    /// It begins in the time of the way down to the key's encoding, at and below the path. Its
-    /// steps take the time and the memory of those of `cursor_back`.
+    /// A walk that was left at a key goes on by `(Excluded(&key), Unbounded)`. It begins in the time of the way down to
+    /// the two keys' encodings. Its steps take the time and the memory of those of `cursor`, and encode no key.
     ///
     /// # Errors
     ///
-    /// Memory is refused, for the key's encoding or for the rows on the way down. That never comes where the key is light
+    /// Memory is refused, for a key's encoding or for the rows on the way down. That never comes where the keys are light
     /// and no pair is at or below the path.
-    fn cursor_back_from<Q: TrieKey>(self, key: &Q) -> Result<CursorBack<'a, K, V>, Memory>
-        ensures walk { IfOk result (λ pairs. pairs
-            ≡ reverse (pairs_until (map self) (path self) (Q.encoding key.now))) }
+    ///
+    /// # Examples
+    ///
+    /// `lines_between` in `crates/trie_examples/src/log_lines.rt` takes a page of a range.
+    fn range<Q: TrieKey, R: RangeBounds<Q>>(self, range: R) -> Result<Cursor<'a, K, V>, Memory>
+        ensures walk { R.has_bounds range → IfOk result (λ pairs. pairs
+            ≡ pairs_within (map self) (path self)
+            (encoded_bound Q.encoding (R.start_bound range))
+            (encoded_bound Q.encoding (R.end_bound range))) }
         ensures countable { IfOk result (λ pairs. length pairs < 2 ^ 64) }
-        ensures light_none { Q.is_light key.now
+        ensures light_none { R.has_bounds range
+            → IsLightBound Q.is_light (R.start_bound range)
+            → IsLightBound Q.is_light (R.end_bound range)
             → finite.len (below (map self) (path self)) ≡ 0
             → IsOk result };
 
-    /// The walk of `cursor_back` over the pairs at and below the path that come before the key's
-    /// encoding, from the last to the first: a walk that was left at this key goes on so. Its steps
-    /// take the time and the memory of those of `cursor_back`.
+    /// The walk of `range` from the last pair to the first, with the time and the memory of that walk.
     ///
     /// # Errors
     ///
-    /// Those of `cursor_back_from`.
-    fn cursor_back_before<Q: TrieKey>(self, key: &Q) -> Result<CursorBack<'a, K, V>, Memory>
-        ensures walk { IfOk result (λ pairs. pairs
-            ≡ reverse (pairs_before (map self) (path self) (Q.encoding key.now))) }
+    /// Those of `range`.
+    fn range_back<Q: TrieKey, R: RangeBounds<Q>>(
+        self,
+        range: R,
+    ) -> Result<CursorBack<'a, K, V>, Memory>
+        ensures walk { R.has_bounds range → IfOk result (λ pairs. pairs
+            ≡ reverse (pairs_within (map self) (path self)
+            (encoded_bound Q.encoding (R.start_bound range))
+            (encoded_bound Q.encoding (R.end_bound range)))) }
         ensures countable { IfOk result (λ pairs. length pairs < 2 ^ 64) }
-        ensures light_none { Q.is_light key.now
-            → finite.len (below (map self) (path self)) ≡ 0
-            → IsOk result };
-
-    /// The walk of `iter_from`, which allocates as it goes.
-    ///
-    /// It begins in the time of the way down to the key's encoding, at and below the path. Its steps take the time and the
-    /// memory of those of `cursor`.
-    ///
-    /// # Errors
-    ///
-    /// Memory is refused, for the key's encoding or for the rows on the way down. That never comes where the key is light
-    /// and no pair is at or below the path.
-    fn cursor_from<Q: TrieKey>(self, key: &Q) -> Result<Cursor<'a, K, V>, Memory>
-        ensures walk { IfOk result (λ pairs. pairs
-            ≡ pairs_from (map self) (path self) (Q.encoding key.now)) }
-        ensures countable { IfOk result (λ pairs. length pairs < 2 ^ 64) }
-        ensures light_none { Q.is_light key.now
-            → finite.len (below (map self) (path self)) ≡ 0
-            → IsOk result };
-
-    /// The walk of `iter_after`, which allocates as it goes: a walk that was left at this key goes on so, in the time of the
-    /// way down to the key's encoding. Its steps take the time and the memory of those of `cursor`.
-    ///
-    /// # Errors
-    ///
-    /// Those of `cursor_from`.
-    fn cursor_after<Q: TrieKey>(self, key: &Q) -> Result<Cursor<'a, K, V>, Memory>
-        ensures walk { IfOk result (λ pairs. pairs
-            ≡ pairs_after (map self) (path self) (Q.encoding key.now)) }
-        ensures countable { IfOk result (λ pairs. length pairs < 2 ^ 64) }
-        ensures light_none { Q.is_light key.now
+        ensures light_none { R.has_bounds range
+            → IsLightBound Q.is_light (R.start_bound range)
+            → IsLightBound Q.is_light (R.end_bound range)
             → finite.len (below (map self) (path self)) ≡ 0
             → IsOk result };
 
     /// The key and the value of the first pair at and below the path, in the order of the encodings, if there is one. It
-    /// allocates nothing.
+    /// allocates nothing, and takes the time of the way down to the pair.
     fn first_key_value(self) -> Option<(&'a K, &'a V)>
         ensures { option_map deref_pair result
             ≡ slice_get (pairs_below (map self) (path self)) 0 };
 
     /// The key and the value of the last pair at and below the path, in the order of the encodings, if there is one. It
-    /// allocates nothing.
+    /// allocates nothing, and takes the time of the way down to the pair.
     fn last_key_value(self) -> Option<(&'a K, &'a V)>
         ensures { option_map deref_pair result
             ≡ slice_get (pairs_below (map self) (path self))
@@ -250,117 +187,19 @@ pub trait TrieCommon<'a, K: TrieKey + 'a, V: 'a>: Sized {
         ensures short { ((f : List ℕ) → is_prefix self f → IsShort f) → IsOk result };
 }
 
-impl<'a, K: TrieKey, V> TrieCommon<'a, K, V> for &'a Trie<K, V> {
-    ghost map = { λ t. t.now };
+impl<'a, K: TrieKey + 'a, V: 'a, T: At<'a, K, V>> TrieCommon<'a, K, V> for T {
+    ghost map = { λ t. T.At.map t };
 
-    ghost path = { λ t. [] };
+    ghost path = { λ t. T.At.path t };
 
-    ghost is_prefix = { λ t. IsFragment t.now [] };
+    ghost is_prefix = { λ t. T.At.is_prefix t };
 
     fn key(self) -> Option<&'a K> {
-        let top = Nibblet::new(self.allocator());
-        Place::find(self, &top).key()
+        key_of(self.place().pair())
     }
 
     fn value(self) -> Option<&'a V> {
-        let top = Nibblet::new(self.allocator());
-        Place::find(self, &top).value()
-    }
-
-    fn len(self) -> usize {
-        Trie::len(self)
-    }
-
-    fn is_empty(self) -> bool {
-        TrieCommon::len(self) == 0
-    }
-
-    fn is_leaf(self) -> bool {
-        let top = Nibblet::new(self.allocator());
-        Place::find(self, &top).is_leaf()
-    }
-
-    fn iter(self) -> Result<Iter<'a, K, V>, Memory> {
-        let top = Nibblet::new(self.allocator());
-        Place::find(self, &top).iter()
-    }
-
-    fn keys(self) -> Result<Keys<'a, K, V>, Memory> {
-        Ok(Keys::new(TrieCommon::iter(self)?))
-    }
-
-    fn values(self) -> Result<Values<'a, K, V>, Memory> {
-        Ok(Values::new(TrieCommon::iter(self)?))
-    }
-
-    fn iter_from<Q: TrieKey>(self, key: &Q) -> Result<Iter<'a, K, V>, Memory> {
-        let top = Nibblet::new(self.allocator());
-        Place::find(self, &top).iter_from(key)
-    }
-
-    fn iter_after<Q: TrieKey>(self, key: &Q) -> Result<Iter<'a, K, V>, Memory> {
-        let top = Nibblet::new(self.allocator());
-        Place::find(self, &top).iter_after(key)
-    }
-
-    fn cursor(self) -> Result<Cursor<'a, K, V>, Memory> {
-        let top = Nibblet::new(self.allocator());
-        Place::find(self, &top).cursor()
-    }
-
-    fn cursor_back(self) -> CursorBack<'a, K, V> {
-        let top = Nibblet::new(self.allocator());
-        Place::find(self, &top).cursor_back()
-    }
-
-    fn cursor_back_from<Q: TrieKey>(self, key: &Q) -> Result<CursorBack<'a, K, V>, Memory> {
-        let top = Nibblet::new(self.allocator());
-        Place::find(self, &top).cursor_back_from(key)
-    }
-
-    fn cursor_back_before<Q: TrieKey>(self, key: &Q) -> Result<CursorBack<'a, K, V>, Memory> {
-        let top = Nibblet::new(self.allocator());
-        Place::find(self, &top).cursor_back_before(key)
-    }
-
-    fn cursor_from<Q: TrieKey>(self, key: &Q) -> Result<Cursor<'a, K, V>, Memory> {
-        let top = Nibblet::new(self.allocator());
-        Place::find(self, &top).cursor_from(key)
-    }
-
-    fn cursor_after<Q: TrieKey>(self, key: &Q) -> Result<Cursor<'a, K, V>, Memory> {
-        let top = Nibblet::new(self.allocator());
-        Place::find(self, &top).cursor_after(key)
-    }
-
-    fn first_key_value(self) -> Option<(&'a K, &'a V)> {
-        let top = Nibblet::new(self.allocator());
-        Place::find(self, &top).first_key_value()
-    }
-
-    fn last_key_value(self) -> Option<(&'a K, &'a V)> {
-        let top = Nibblet::new(self.allocator());
-        Place::find(self, &top).last_key_value()
-    }
-
-    fn prefix(self) -> Result<Nibblet, Memory> {
-        Ok(Nibblet::new(self.allocator()))
-    }
-}
-
-impl<'a, 'b, K: TrieKey, V> TrieCommon<'a, K, V> for &'b SubTrie<'a, K, V> {
-    ghost map = { λ s. s.now.map };
-
-    ghost path = { λ s. s.now.path };
-
-    ghost is_prefix = { λ s. IsFragment s.now.map s.now.path };
-
-    fn key(self) -> Option<&'a K> {
-        self.place().key()
-    }
-
-    fn value(self) -> Option<&'a V> {
-        self.place().value()
+        value_of(self.place().pair())
     }
 
     fn len(self) -> usize {
@@ -376,26 +215,18 @@ impl<'a, 'b, K: TrieKey, V> TrieCommon<'a, K, V> for &'b SubTrie<'a, K, V> {
     }
 
     fn iter(self) -> Result<Iter<'a, K, V>, Memory> {
-        self.place().iter()
+        self.place().cursor().reserved()
     }
 
     fn keys(self) -> Result<Keys<'a, K, V>, Memory> {
-        Ok(Keys::new(self.place().iter()?))
+        Ok(Keys::new(TrieCommon::iter(self)?))
     }
 
     fn values(self) -> Result<Values<'a, K, V>, Memory> {
-        Ok(Values::new(self.place().iter()?))
+        Ok(Values::new(TrieCommon::iter(self)?))
     }
 
-    fn iter_from<Q: TrieKey>(self, key: &Q) -> Result<Iter<'a, K, V>, Memory> {
-        self.place().iter_from(key)
-    }
-
-    fn iter_after<Q: TrieKey>(self, key: &Q) -> Result<Iter<'a, K, V>, Memory> {
-        self.place().iter_after(key)
-    }
-
-    fn cursor(self) -> Result<Cursor<'a, K, V>, Memory> {
+    fn cursor(self) -> Cursor<'a, K, V> {
         self.place().cursor()
     }
 
@@ -403,31 +234,52 @@ impl<'a, 'b, K: TrieKey, V> TrieCommon<'a, K, V> for &'b SubTrie<'a, K, V> {
         self.place().cursor_back()
     }
 
-    fn cursor_back_from<Q: TrieKey>(self, key: &Q) -> Result<CursorBack<'a, K, V>, Memory> {
-        self.place().cursor_back_from(key)
+    fn range<Q: TrieKey, R: RangeBounds<Q>>(self, range: R) -> Result<Cursor<'a, K, V>, Memory> {
+        let alloc = self.allocator();
+        Ok(Cursor::of(alloc, rests_in(self, range)?))
     }
 
-    fn cursor_back_before<Q: TrieKey>(self, key: &Q) -> Result<CursorBack<'a, K, V>, Memory> {
-        self.place().cursor_back_before(key)
-    }
-
-    fn cursor_from<Q: TrieKey>(self, key: &Q) -> Result<Cursor<'a, K, V>, Memory> {
-        self.place().cursor_from(key)
-    }
-
-    fn cursor_after<Q: TrieKey>(self, key: &Q) -> Result<Cursor<'a, K, V>, Memory> {
-        self.place().cursor_after(key)
+    fn range_back<Q: TrieKey, R: RangeBounds<Q>>(
+        self,
+        range: R,
+    ) -> Result<CursorBack<'a, K, V>, Memory> {
+        let alloc = self.allocator();
+        Ok(CursorBack::of(alloc, rests_in(self, range)?))
     }
 
     fn first_key_value(self) -> Option<(&'a K, &'a V)> {
-        self.place().first_key_value()
+        parts_of(self.place().first())
     }
 
     fn last_key_value(self) -> Option<(&'a K, &'a V)> {
-        self.place().last_key_value()
+        parts_of(self.place().last())
     }
 
     fn prefix(self) -> Result<Nibblet, Memory> {
-        self.fragment()
+        self.fragment().clone()
     }
+}
+
+/// The rows of the walk over the pairs at and below a path whose encodings lie within a range of keys.
+fn rests_in<'a, K: TrieKey + 'a, V: 'a, T: At<'a, K, V>, Q: TrieKey, R: RangeBounds<Q>>(
+    at: T,
+    range: R,
+) -> Result<Vec<Rest<'a, K, V>>, Memory>
+    ensures walk { R.has_bounds range → IfOk result (λ rests. stacked rests.items
+        ≡ pairs_within (T.At.map at) (T.At.path at)
+        (encoded_bound Q.encoding (R.start_bound range))
+        (encoded_bound Q.encoding (R.end_bound range))) }
+    ensures countable { IfOk result (λ rests. length (stacked rests.items) < 2 ^ 64) }
+    ensures rows { IfOk result (λ rests. HasFullRows (left_rows rests.items)) }
+    ensures light_none { R.has_bounds range
+        → IsLightBound Q.is_light (R.start_bound range)
+        → IsLightBound Q.is_light (R.end_bound range)
+        → finite.len (below (T.At.map at) (T.At.path at)) ≡ 0
+        → IsOk result }
+{
+    let alloc = at.allocator();
+    let low = encoded(range.start_bound(), alloc)?;
+    let high = encoded(range.end_bound(), alloc)?;
+    let limits = Limits::of(at.path(), low.as_ref(), high.as_ref());
+    at.place().rests(limits)
 }

@@ -4,6 +4,7 @@ use crate::calls::lines::{key_line, key_lines, pair_line, pair_lines, value_line
 use crate::calls::steps::step_lines;
 use radix_trie::{Memory, TrieCommon};
 use shell_words::{Answer, Key, NO_KEY};
+use std::ops::Bound::{Excluded, Unbounded};
 
 /// What such a call of a trie or a view answers. False: it is none.
 pub fn answer_common<'a, T: TrieCommon<'a, Key, u64> + Drop>(
@@ -22,7 +23,7 @@ pub fn answer_common<'a, T: TrieCommon<'a, Key, u64> + Drop>(
         "iter" => walk_lines(answer, of.iter()?)?,
         "keys" if answer.left() == 0 => key_lines(answer, of.keys()?)?,
         "values" => value_lines(answer, of.values()?)?,
-        "cursor" => step_lines(answer, of.cursor()?)?,
+        "cursor" => step_lines(answer, of.cursor())?,
         "cursor_back" => step_lines(answer, of.cursor_back())?,
         "iter_from"
         | "iter_after"
@@ -33,6 +34,12 @@ pub fn answer_common<'a, T: TrieCommon<'a, Key, u64> + Drop>(
             Some(key) => resumed_lines(of, &key, answer)?,
             None => answer.refuse(NO_KEY)?,
         },
+        "between" | "between_inclusive" | "between_exclusive" | "between_back" => {
+            match (answer.next_query()?, answer.next_query()?) {
+                (Some(from), Some(to)) => range_lines(of, &from, &to, answer)?,
+                _ => answer.refuse(NO_KEY)?,
+            }
+        }
         _ => return Ok(false),
     }
     Ok(true)
@@ -45,11 +52,32 @@ fn resumed_lines<'a, T: TrieCommon<'a, Key, u64> + Drop>(
     answer: &mut Answer<'_>,
 ) -> Result<(), Memory> {
     match answer.name() {
-        "iter_from" => pair_lines(answer, of.iter_from(key)?),
-        "iter_after" => pair_lines(answer, of.iter_after(key)?),
-        "cursor_from" => step_lines(answer, of.cursor_from(key)?),
-        "cursor_after" => step_lines(answer, of.cursor_after(key)?),
-        "cursor_back_from" => step_lines(answer, of.cursor_back_from(key)?),
-        _ => step_lines(answer, of.cursor_back_before(key)?),
+        "iter_from" => pair_lines(answer, of.range::<Key, _>(key..)?.reserved()?),
+        "iter_after" => pair_lines(
+            answer,
+            of.range::<Key, _>((Excluded(key), Unbounded))?.reserved()?,
+        ),
+        "cursor_from" => step_lines(answer, of.range::<Key, _>(key..)?),
+        "cursor_after" => step_lines(answer, of.range::<Key, _>((Excluded(key), Unbounded))?),
+        "cursor_back_from" => step_lines(answer, of.range_back::<Key, _>(..=key)?),
+        _ => step_lines(answer, of.range_back::<Key, _>(..key)?),
+    }
+}
+
+/// The walk between two keys, or back.
+fn range_lines<'a, T: TrieCommon<'a, Key, u64> + Drop>(
+    of: T,
+    from: &Key,
+    to: &Key,
+    answer: &mut Answer<'_>,
+) -> Result<(), Memory> {
+    match answer.name() {
+        "between" => step_lines(answer, of.range::<Key, _>(from..to)?),
+        "between_inclusive" => step_lines(answer, of.range::<Key, _>(from..=to)?),
+        "between_exclusive" => step_lines(
+            answer,
+            of.range::<Key, _>((Excluded(from), Excluded(to)))?,
+        ),
+        _ => step_lines(answer, of.range_back::<Key, _>(from..to)?),
     }
 }

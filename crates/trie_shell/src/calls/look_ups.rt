@@ -2,10 +2,8 @@
 
 use crate::calls::Table;
 use crate::calls::lines::{child_lines, footprint_line, pair_line, pair_lines, view_line};
-use crate::calls::steps::step_lines;
 use radix_trie::{Memory, Nibblet};
 use shell_words::{Answer, Key, NO_KEY, NO_LIST, NO_NUMBER, NONE};
-use trie_ranges::{between, between_inclusive};
 
 /// A look-up of what the next word writes. False: the call is none.
 pub fn answer_keyed(trie: &Table, answer: &mut Answer<'_>) -> Result<bool, Memory> {
@@ -22,9 +20,7 @@ pub fn answer_keyed(trie: &Table, answer: &mut Answer<'_>) -> Result<bool, Memor
         | "common_prefixes"
         | "count_below"
         | "first_below"
-        | "first_after"
-        | "between"
-        | "between_inclusive" => {}
+        | "first_after" => {}
         _ => return Ok(false),
     }
     match answer.next_query()? {
@@ -57,26 +53,27 @@ fn answer_at(trie: &Table, key: &Key, answer: &mut Answer<'_>) -> Result<(), Mem
             Some(most) => pair_lines(answer, trie.first_below(key, most as usize)?.into_iter()),
             None => answer.refuse(NO_NUMBER),
         },
-        "first_after" | "between" | "between_inclusive" => match answer.next_query()? {
-            Some(other) => answer_two(trie, key, &other, answer),
+        "first_after" => match answer.next_query()? {
+            Some(other) => answer_page(trie, key, &other, answer),
             None => answer.refuse(NO_KEY),
         },
         _ => answer_view(trie, key, answer),
     }
 }
 
-/// A page below the key that begins after the other, or the pairs from the key to the other.
-fn answer_two(trie: &Table, key: &Key, other: &Key, answer: &mut Answer<'_>) -> Result<(), Memory> {
-    match answer.name() {
-        "between" => step_lines(answer, between(trie, key, other)?),
-        "between_inclusive" => step_lines(answer, between_inclusive(trie, key, other)?),
-        _ => match answer.next_number() {
-            Some(most) => {
-                let page = trie.first_after(key, other, most as usize)?;
-                pair_lines(answer, page.into_iter())
-            }
-            None => answer.refuse(NO_NUMBER),
-        },
+/// A page below the key that begins after the other.
+fn answer_page(
+    trie: &Table,
+    key: &Key,
+    other: &Key,
+    answer: &mut Answer<'_>,
+) -> Result<(), Memory> {
+    match answer.next_number() {
+        Some(most) => {
+            let page = trie.first_after(key, other, most as usize)?;
+            pair_lines(answer, page.into_iter())
+        }
+        None => answer.refuse(NO_NUMBER),
     }
 }
 

@@ -4,7 +4,6 @@ use crate::calls::lines::{key_line, none_line};
 use radix_trie::Memory;
 use radix_trie::iter::{Cursor, CursorBack};
 use shell_words::{Answer, Key};
-use trie_ranges::Between;
 use trie_set::{Gathering, Selection};
 
 /// A walk over keys, or over pairs. A refused step leaves the same ones.
@@ -20,12 +19,6 @@ impl<'a> Steps<'a> for Cursor<'a, Key, u64> {
 }
 
 impl<'a> Steps<'a> for CursorBack<'a, Key, u64> {
-    fn step(&mut self) -> Result<Option<(&'a Key, Option<u64>)>, Memory> {
-        Ok(with_value(self.next()?))
-    }
-}
-
-impl<'a> Steps<'a> for Between<'a, Key, u64> {
     fn step(&mut self) -> Result<Option<(&'a Key, Option<u64>)>, Memory> {
         Ok(with_value(self.next()?))
     }

@@ -3,6 +3,7 @@
 use crate::pairs::{IN_ORDER, is_pair};
 use radix_trie::iter::Iter;
 use radix_trie::{Memory, TrieCommon, TrieKey};
+use std::ops::Bound::{Excluded, Unbounded};
 use trie_samples::{SAMPLE, Texts, texts};
 
 /// Whether a walk gives these pairs, in their order, and none comes after them.
@@ -20,7 +21,9 @@ fn goes_on<Q: TrieKey>(trie: &Texts, key: &Q, from: usize, after: usize) -> Resu
     let (Some(since), Some(later)) = (IN_ORDER.get(from..), IN_ORDER.get(after..)) else {
         return Ok(false);
     };
-    Ok(gives(trie.iter_from(key)?, since) && gives(trie.iter_after(key)?, later))
+    let from_key = trie.range::<Q, _>(key..)?.reserved()?;
+    let after_key = trie.range::<Q, _>((Excluded(key), Unbounded))?.reserved()?;
+    Ok(gives(from_key, since) && gives(after_key, later))
 }
 
 /// Keys that are stored, that lie between stored ones, and that are prefixes of stored ones or go on from them.

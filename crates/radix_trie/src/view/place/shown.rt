@@ -18,7 +18,7 @@ fn write_pairs<K: fmt::Debug, V: fmt::Debug, W: fmt::Write>(
     }
 }
 
-impl<K: TrieKey + fmt::Debug, V: fmt::Debug> Place<'_, '_, K, V> {
+impl<K: fmt::Debug, V: fmt::Debug> Place<'_, K, V> {
     /// Writes the pairs at and below the path as a map. It allocates nothing.
     pub(crate) fn write<W: fmt::Write>(&self, f: &mut fmt::Formatter<W>) -> fmt::Result {
         let mut map = f.debug_map();

@@ -8,6 +8,7 @@ ghost use Rattle.nibble_map.specs.MapQueries.{AreChildren, IsChild};
 ghost use Rattle.nibble_map.specs.Maps.{below, value_at};
 ghost use Rattle.nibble_map.specs.Nibbles.{IsShort};
 ghost use Rattle.radix_trie.specs.Lends.{lends_behind, lends_own};
+ghost use Rattle.radix_trie.specs.Places.{IsPlaceIn};
 ghost use Rattle.radix_trie.specs.Views.{paths_of};
 ghost use Rattle.radix_trie.specs.WriteViews.{map_behind, path_of, prefix_of, lender_of};
 
@@ -19,7 +20,6 @@ use crate::trie::Trie;
 use crate::view::place::{Place, begins};
 use radix_keys::{Memory, Nibblet, TrieKey};
 use radix_nodes::trie_node::KeyValue;
-pub(crate) use spent::{first_within, key_within, last_within, value_within};
 
 /// The value that the trie behind a reference holds at a list, for writing.
 fn value_behind<'s, 'a, K: TrieKey, V>(
@@ -103,9 +103,8 @@ impl<'a, K: TrieKey, V> SubTrieMut<'a, K, V> {
     }
 
     /// The place of the view's path.
-    pub(crate) fn place(&self) -> Place<'_, '_, K, V>
-        ensures map { result.map ≡ map_behind self.now }
-        ensures path { result.path ≡ path_of self.now }
+    pub(crate) fn place(&self) -> Place<'_, K, V>
+        ensures { IsPlaceIn K.encoding (map_behind self.now) (path_of self.now) result }
     {
         Place::find(self.trie, &self.path)
     }
@@ -125,7 +124,7 @@ impl<'a, K: TrieKey, V> SubTrieMut<'a, K, V> {
         ensures short { ((q : List ℕ) → IsChild (map_behind self.now) (path_of self.now) q
             → IsShort q) → IsOk result }
     {
-        self.place().children()
+        self.place().children(self.trie, &self.path)
     }
 
     /// The views that `children` returns, for as long as the trie's borrow. The view is spent.
@@ -142,7 +141,7 @@ impl<'a, K: TrieKey, V> SubTrieMut<'a, K, V> {
             → IsShort q) → IsOk result }
     {
         let (trie, path) = self.into_parts();
-        Place::find(trie, &path).children()
+        Place::find(trie, &path).children(trie, &path)
     }
 
     /// The value at the path, for writing, if one is stored there. It allocates nothing.
@@ -155,14 +154,6 @@ impl<'a, K: TrieKey, V> SubTrieMut<'a, K, V> {
             ≡ value_at (map_behind self.old) (path_of self.old) }
     {
         value_behind(&mut self.trie, &self.path)
-    }
-
-    /// The path's fragment when the view was made.
-    pub(crate) fn fragment(&self) -> Result<Nibblet, Memory>
-        ensures fragment { IfOk result (λ f. f ≡ prefix_of self.now) }
-        ensures short { IsShort (prefix_of self.now) → IsOk result }
-    {
-        self.prefix.clone()
     }
 
     /// The key's encoding, where the path is a prefix of it.

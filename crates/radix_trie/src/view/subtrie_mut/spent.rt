@@ -9,17 +9,16 @@ ghost use Rattle.radix_trie.specs.Views.{pairs_below};
 ghost use Rattle.radix_trie.specs.Walks.{deref_pair};
 ghost use Rattle.radix_trie.specs.WriteViews.{map_behind, kept_path, kept_prefix, lender_of};
 
+use crate::iter::{key_of, parts_of, value_of};
 use crate::trie::Trie;
 use crate::view::place::Place;
 use crate::view::subtrie_mut::{PathList, SubTrieMut};
 use radix_keys::{Nibblet, TrieKey};
+use std::alloc::Global;
 
 impl<'a, K: TrieKey, V, P: PathList> SubTrieMut<'a, K, V, P> {
     /// The reference to the trie that the view was made of, for as long as the trie's borrow. The view is spent, and
     /// the trie is as the view leaves it.
-    ///
-    /// The calls of `TrieCommon` spend a view too, and return what lasts as long; but a caller of this one goes on
-    /// knowing what the trie is.
     pub fn into_trie(self) -> &'a mut Trie<K, V>
         ensures same_reference { result.ghost_name ≡ lender_of self.entry }
         ensures map { result.now ≡ map_behind self.entry }
@@ -30,6 +29,11 @@ impl<'a, K: TrieKey, V, P: PathList> SubTrieMut<'a, K, V, P> {
             prefix: _,
         } = self;
         trie
+    }
+
+    /// The allocator of the trie.
+    pub(crate) fn allocator(&self) -> Global {
+        self.trie.allocator()
     }
 
     /// The trie and the path. The view is spent: its reference for writing becomes one for reading.
@@ -59,8 +63,58 @@ impl<'a, K: TrieKey, V, P: PathList> SubTrieMut<'a, K, V, P> {
         (trie, path)
     }
 
+    /// The key that is stored at the path. The view is spent. As of each call here of the name of one of `TrieCommon`, a
+    /// caller goes on knowing what the trie is.
+    pub fn key(self) -> Option<&'a K>
+        ensures* kept { sem 𝓛
+            (stays_as K.row V.row K.TrieKey.own K.PartialEq.own (lender_of self.entry)
+            (map_behind self.entry)) }
+        ensures key { option_copied result ≡ option_map (λ p. p.0)
+            (map.get (map_behind self.entry) (P.list (kept_path self.entry))) }
+    {
+        let parts = self.into_owned_parts();
+        key_within(parts.0, parts.1)
+    }
+
+    /// The value that is stored at the path. The view is spent.
+    pub fn value(self) -> Option<&'a V>
+        ensures* kept { sem 𝓛
+            (stays_as K.row V.row K.TrieKey.own K.PartialEq.own (lender_of self.entry)
+            (map_behind self.entry)) }
+        ensures value { option_copied result
+            ≡ value_at (map_behind self.entry) (P.list (kept_path self.entry)) }
+    {
+        let parts = self.into_owned_parts();
+        value_within(parts.0, parts.1)
+    }
+
+    /// The first pair at and below the path, in the order of the encodings, if there is one. The view is spent.
+    pub fn first_key_value(self) -> Option<(&'a K, &'a V)>
+        ensures* kept { sem 𝓛
+            (stays_as K.row V.row K.TrieKey.own K.PartialEq.own (lender_of self.entry)
+            (map_behind self.entry)) }
+        ensures first { option_map deref_pair result ≡ slice_get
+            (pairs_below (map_behind self.entry) (P.list (kept_path self.entry))) 0 }
+    {
+        let parts = self.into_owned_parts();
+        first_within(parts.0, parts.1)
+    }
+
+    /// The last pair at and below the path, in the order of the encodings, if there is one. The view is spent.
+    pub fn last_key_value(self) -> Option<(&'a K, &'a V)>
+        ensures* kept { sem 𝓛
+            (stays_as K.row V.row K.TrieKey.own K.PartialEq.own (lender_of self.entry)
+            (map_behind self.entry)) }
+        ensures last { option_map deref_pair result ≡ slice_get
+            (pairs_below (map_behind self.entry) (P.list (kept_path self.entry)))
+            (length (pairs_below (map_behind self.entry) (P.list (kept_path self.entry))) - 1) }
+    {
+        let parts = self.into_owned_parts();
+        last_within(parts.0, parts.1)
+    }
+
     /// The count of pairs at and below the path. The view is spent.
-    pub(crate) fn count(self) -> usize
+    pub fn len(self) -> usize
         ensures count { result
             ≡ map.len (below (map_behind self.entry) (P.list (kept_path self.entry))) }
         ensures kept { self.exit.0.now ≡ map_behind self.entry }
@@ -74,8 +128,8 @@ impl<'a, K: TrieKey, V, P: PathList> SubTrieMut<'a, K, V, P> {
     }
 
     /// Whether no pair is at or below the path. The view is spent.
-    pub(crate) fn is_bare(self) -> bool
-        ensures bare { IsTrue result
+    pub fn is_empty(self) -> bool
+        ensures empty { IsTrue result
             ↔ (map.len (below (map_behind self.entry) (P.list (kept_path self.entry))) ≡ 0) }
         ensures kept { self.exit.0.now ≡ map_behind self.entry }
     {
@@ -88,7 +142,7 @@ impl<'a, K: TrieKey, V, P: PathList> SubTrieMut<'a, K, V, P> {
     }
 
     /// Whether no pair is strictly below the path. The view is spent.
-    pub(crate) fn ends(self) -> bool
+    pub fn is_leaf(self) -> bool
         ensures leaf { IsTrue result
             ↔ IsLeaf (map_behind self.entry) (P.list (kept_path self.entry)) }
         ensures kept { self.exit.0.now ≡ map_behind self.entry }
@@ -102,7 +156,7 @@ impl<'a, K: TrieKey, V, P: PathList> SubTrieMut<'a, K, V, P> {
     }
 
     /// The path's fragment when the view was made. The view is spent.
-    pub(crate) fn into_prefix(self) -> Nibblet
+    pub fn into_prefix(self) -> Nibblet
         ensures prefix { result ≡ P.list (kept_prefix self.entry) }
         ensures kept { self.exit.0.now ≡ map_behind self.entry }
     {
@@ -116,32 +170,26 @@ impl<'a, K: TrieKey, V, P: PathList> SubTrieMut<'a, K, V, P> {
 }
 
 /// The key that is stored at a path, for as long as the trie's borrow, in which nothing is written.
-pub(crate) fn key_within<'a, K: TrieKey, V, P: PathList>(
-    trie: &'a mut Trie<K, V>,
-    path: P,
-) -> Option<&'a K>
+fn key_within<'a, K: TrieKey, V, P: PathList>(trie: &'a mut Trie<K, V>, path: P) -> Option<&'a K>
     ensures* kept { sem 𝓛
         (stays_as K.row V.row K.TrieKey.own K.PartialEq.own trie.entry.ghost_name trie.old) }
     ensures key { option_copied result
         ≡ option_map (λ p. p.0) (map.get trie.old (P.list path)) }
 {
-    Place::find(trie, path.nibbles()).key()
+    key_of(Place::find(trie, path.nibbles()).pair())
 }
 
 /// The value that is stored at a path, as `key_within` returns the key.
-pub(crate) fn value_within<'a, K: TrieKey, V, P: PathList>(
-    trie: &'a mut Trie<K, V>,
-    path: P,
-) -> Option<&'a V>
+fn value_within<'a, K: TrieKey, V, P: PathList>(trie: &'a mut Trie<K, V>, path: P) -> Option<&'a V>
     ensures* kept { sem 𝓛
         (stays_as K.row V.row K.TrieKey.own K.PartialEq.own trie.entry.ghost_name trie.old) }
     ensures value { option_copied result ≡ value_at trie.old (P.list path) }
 {
-    Place::find(trie, path.nibbles()).value()
+    value_of(Place::find(trie, path.nibbles()).pair())
 }
 
 /// The first pair at and below a path, as `key_within` returns the key.
-pub(crate) fn first_within<'a, K: TrieKey, V, P: PathList>(
+fn first_within<'a, K: TrieKey, V, P: PathList>(
     trie: &'a mut Trie<K, V>,
     path: P,
 ) -> Option<(&'a K, &'a V)>
@@ -150,11 +198,11 @@ pub(crate) fn first_within<'a, K: TrieKey, V, P: PathList>(
     ensures first { option_map deref_pair result
         ≡ slice_get (pairs_below trie.old (P.list path)) 0 }
 {
-    Place::find(trie, path.nibbles()).first_key_value()
+    parts_of(Place::find(trie, path.nibbles()).first())
 }
 
 /// The last pair at and below a path, as `key_within` returns the key.
-pub(crate) fn last_within<'a, K: TrieKey, V, P: PathList>(
+fn last_within<'a, K: TrieKey, V, P: PathList>(
     trie: &'a mut Trie<K, V>,
     path: P,
 ) -> Option<(&'a K, &'a V)>
@@ -164,5 +212,5 @@ pub(crate) fn last_within<'a, K: TrieKey, V, P: PathList>(
         ≡ slice_get (pairs_below trie.old (P.list path))
         (length (pairs_below trie.old (P.list path)) - 1) }
 {
-    Place::find(trie, path.nibbles()).last_key_value()
+    parts_of(Place::find(trie, path.nibbles()).last())
 }

@@ -14,15 +14,15 @@ returns-then-same-len c =
 
 pub returns-then-end-len : goal.returns-then-end-len
 returns-then-end-len c =
-    λ itself y.
-    after_ended itself c.args.fragment.now (drop c.args.depth c.args.list.now) c.compare-same.result.same y c.compare-same.ensures.same
+    λ y.
+    after_ended c.args.fragment.now (drop c.args.depth c.args.list.now) c.compare-same.result.same y c.compare-same.ensures.same
     (omega (arith, c.compare-same.ensures.within, c.if-same-len.false, c.len.ensures))
     (omega (arith, length-drop c.args.depth c.args.list.now, c.if-end-len.true, c.len-2.ensures))
 
 pub returns-then-get : goal.returns-then-get
 returns-then-get c =
-    λ itself y.
-    before_parted itself c.args.fragment.now (drop c.args.depth c.args.list.now) c.compare-same.result.same y c.compare-same.ensures.same
+    λ y.
+    before_parted c.args.fragment.now (drop c.args.depth c.args.list.now) c.compare-same.result.same y c.compare-same.ensures.same
     (omega (arith, c.compare-same.ensures.within, c.if-same-len.false, c.len.ensures))
     (omega (arith, length-drop c.args.depth c.args.list.now, c.compare-same.ensures.inside, c.if-end-len.false, c.len-2.ensures))
     (omega (arith, c.if-get.true, c.get.ensures.value, c.get-2.ensures.value, get_or-drop c.args.depth c.args.list.now c.compare-same.result.same 0))
@@ -31,7 +31,7 @@ pub returns-else-get : goal.returns-else-get
 returns-else-get c =
     let lt : c.compare-same.result.same < length c.args.fragment.now = omega (arith, c.compare-same.ensures.within, c.if-same-len.false, c.len.ensures) in
     let in_list : c.args.depth + c.compare-same.result.same < length c.args.list.now = omega (arith, c.compare-same.ensures.inside, c.if-end-len.false, c.len-2.ensures) in
-    λ itself y.
-    after_parted itself c.args.fragment.now (drop c.args.depth c.args.list.now) c.compare-same.result.same y c.compare-same.ensures.same lt
+    λ y.
+    after_parted c.args.fragment.now (drop c.args.depth c.args.list.now) c.compare-same.result.same y c.compare-same.ensures.same lt
     (omega (arith, length-drop c.args.depth c.args.list.now, in_list))
     (omega (arith, c.compare-same.ensures.apart lt in_list, c.if-get.false, c.get.ensures.value, c.get-2.ensures.value, get_or-drop c.args.depth c.args.list.now c.compare-same.result.same 0))

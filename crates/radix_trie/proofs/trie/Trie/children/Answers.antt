@@ -1,4 +1,4 @@
-use Rattle.std.proofs.Common.{subst, ◌∙◌, List, ℕ}
+use Rattle.std.proofs.Common.{subst, List, ℕ}
 use Rattle.std.specs.Prelude.{IsOk, IfOk}
 use Rattle.nibble_map.specs.MapQueries.{AreChildren, IsChild}
 use Rattle.nibble_map.specs.Nibbles.{IsShort}
@@ -7,13 +7,8 @@ use Rattle.radix_trie.proofs.trie.Trie.children.Goals as goal
 
 pub returns-clause-short : goal.returns-clause-short
 returns-clause-short g c =
-    subst (λ p. ((q : List ℕ) → IsChild c.args.self.now p q → IsShort q) → IsOk c.children.result) (c.find.ensures.path ∙ c.new-top.ensures)
-    (rw (← c.find.ensures.map) c.children.ensures.short)
+    subst (λ p. ((q : List ℕ) → IsChild c.args.self.now p q → IsShort q) → IsOk c.children.result) c.top-top.ensures c.children.ensures.short
 
 pub returns-clause-children : goal.returns-clause-children
 returns-clause-children g c =
-    subst (λ p. IfOk c.children.result (λ children. AreChildren c.args.self.now p (paths_of children))) (c.find.ensures.path ∙ c.new-top.ensures)
-    (rw (← c.find.ensures.map) c.children.ensures.children)
-
-pub returns-clause-same_map : goal.returns-clause-same_map
-returns-clause-same_map g c = rw (← c.find.ensures.map) c.children.ensures.same_map
+    subst (λ p. IfOk c.children.result (λ children. AreChildren c.args.self.now p (paths_of children))) c.top-top.ensures c.children.ensures.children

@@ -1,4 +1,4 @@
-use Rattle.std.proofs.Common.{◌≡◌, ◌∙◌, [], All, ap, sym, subst}
+use Rattle.std.proofs.Common.{◌∙◌, [], All, ap, sym, subst}
 use Rattle.radix_nodes.specs.Nodes.{tree_of}
 use Rattle.radix_trie.specs.Values.{LeavesAtPair, TakesPairAtMut}
 use Rattle.radix_trie.specs.Views.{pairs_below}

@@ -1,4 +1,4 @@
 use Rattle.radix_trie.proofs.trie.Trie.get_raw_descendant.Goals as goal
 
 pub returns-clause-nearest : goal.returns-clause-nearest
-returns-clause-nearest g c = rw (← c.in_ok-list.ensures.ok, ← c.find.ensures.path, ← c.find.ensures.map) c.nearest.ensures.nearest
+returns-clause-nearest g c = rw (← c.in_ok-list.ensures.ok) c.nearest.ensures.nearest

@@ -2,13 +2,13 @@ use Rattle.std.proofs.Common.{◌∙◌, inl, inr, [], ◌∷◌, ◌++◌, All,
 use Rattle.std.proofs.lemmas.List.Elements.{All-head, All-tail}
 use Rattle.radix_trie.specs.Retains.{ReturnsAtPair, Sifts, TakesPairAt}
 use Rattle.radix_trie.specs.Views.{pairs_below}
-use Rattle.radix_trie.proofs.PathLemmas.Places.{no_pairs_below}
+use Rattle.radix_trie.proofs.PathLemmas.Places.{false_is_not_true, no_pairs_below}
 use Rattle.radix_trie.proofs.trie.Trie.not_kept.Goals as goal
 
 pub loop-key-init : goal.loop-key-init
 loop-key-init g c =
     let S = Sifts (ReturnsAtPair g.F.Fn c.args.keep.now) g.K.TrieKey.encoding in
-    let walk = c.into_iter-key-iterator.ensures.into_iter_gives ∙ c.in_ok-items.ensures.walk ∙ ap (λ m. pairs_below m c.find.result.path) c.find.ensures.map ∙ ap (pairs_below c.args.self.now) c.find.ensures.path in
+    let walk = c.into_iter-key-iterator.ensures.into_iter_gives ∙ c.in_ok-items.ensures.walk ∙ c.cursor.ensures.walk _ _ c.find.ensures in
     record {
       can = tt;
       ends = tt;
@@ -16,6 +16,11 @@ loop-key-init g c =
       sifted = λ more s. subst (λ xs. S (pairs_below c.args.self.now c.args.list.now) (xs ++ more)) (sym c.new-gone.ensures.items) (subst (λ ps. S ps more) walk s);
       none = λ e. ap length walk ∙ ap length (no_pairs_below c.args.self.now c.args.list.now e);
     }
+
+pub returns-in_err-key-items-clause-none : goal.returns-in_err-key-items-clause-none
+returns-in_err-key-items-clause-none g c = λ e.
+    absurd (false_is_not_true (c.in_err-items.ensures.none
+    (omega (arith, ap length (c.cursor.ensures.walk _ _ c.find.ensures), ap length (no_pairs_below c.args.self.now c.args.list.now e)))))
 
 pub keeps-requires : goal.keeps-requires
 keeps-requires g c =

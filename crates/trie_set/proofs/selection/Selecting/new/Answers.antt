@@ -4,5 +4,5 @@ use Rattle.trie_set.proofs.selection.Selecting.new.Goals as goal
 
 pub returns-clause-keys : goal.returns-clause-keys
 returns-clause-keys g c =
-    selected-sides g.K.TrieKey.encoding c.args.keys.now c.args.others.now (still_ahead c.in_ok-over.field-0.head c.in_ok-over.field-0.rest)
-    (still_ahead c.in_ok-over-2.field-0.head c.in_ok-over-2.field-0.rest) c.in_ok-over.ensures.entries c.in_ok-over-2.ensures.entries c.args.keeps_common
+    selected-sides g.K.TrieKey.encoding c.args.keys.now c.args.others.now (still_ahead c.over.result.head c.over.result.rest)
+    (still_ahead c.over-2.result.head c.over-2.result.rest) c.over.ensures.entries c.over-2.ensures.entries c.args.keeps_common

@@ -1,73 +1,67 @@
-use Rattle.std.proofs.Common.{◌≡◌, ◌++◌, ◌∷◌, Some, None, drop, slice_get, sym, ap, ◌∙◌}
+use Rattle.std.proofs.Common.{◌≡◌, ◌<◌, [], ◌∷◌, ◌++◌, drop, length, slice_get, ap, sym, subst, ◌∙◌, arith}
+use Rattle.masked_tree.specs.Tree.{front}
 use Rattle.radix_nodes.specs.Nodes.{children_of, tree_of}
-use Rattle.radix_nodes.specs.Pairs.{own_pair}
-use Rattle.radix_trie.specs.Walks.{deref_pair, first_pair, pending, rows_of, with_row}
+use Rattle.radix_nodes.specs.Pairs.{pairs_in, pairs_in_all}
 use Rattle.radix_nodes.proofs.EditLemmas.Removal.{children_of-no_boxes}
-use Rattle.radix_trie.proofs.WalkLemmas.FullRows.{popped_full, row_has_pair, turned_full}
-use Rattle.radix_trie.proofs.WalkLemmas.Rows.{first_own, rows_of-popped, rows_of-turn}
-use Rattle.radix_trie.proofs.WalkLemmas.Walks.{end_turns_fall, node_turns_fall, pending-end, pending-node}
+use Rattle.radix_trie.specs.Walks.{HasFullRows, deref_pair, first_pair, left_of, left_rows, rows_at, stacked}
+use Rattle.radix_trie.proofs.WalkLemmas.Back.{full-popped, row_stacked, turns-up}
+use Rattle.radix_trie.proofs.WalkLemmas.Walks.{turns_left}
+use Rattle.radix_trie.proofs.WalkLemmas.Steps.{bare-up, node-next, own-first, turn_falls, turn_full}
 use Rattle.radix_trie.proofs.iter.cursor.Cursor.next.Given.{Over}
 use Rattle.radix_trie.proofs.iter.cursor.Cursor.next.Goals as goal
 
-pub returns-in-Err-clause-end : goal.returns-in-Err-clause-end
-returns-in-Err-clause-end g c = λ bare.
-    absurd (row_has_pair _ _ _ (rows_of-popped _ _ _ c.in-Some-pop.ensures.items) _ _ (ap children_of c.in-Some-split_first.ensures.cases.0)
-    c.loop-nodes.invariant.full (c.loop-nodes.invariant.same ∙ bare))
-
-pub invariant_of-self-in-Some-pair : goal.invariant_of-self-in-Some-pair
-invariant_of-self-in-Some-pair g c =
-    let beside = c.push_row.ensures.rows ∙ ap (λ x. with_row (rows_of x) (children_of c.in-Some-split_first.others.now)) c.make_room.ensures.same in
-    turned_full _ _ _ (rows_of-popped _ _ _ c.in-Some-pop.ensures.items) _ _ (ap children_of c.in-Some-split_first.ensures.cases.0)
-    _ (rows_of-turn _ _ _ _ _ _ _ beside c.push_row-in-Some-split_first.ensures.rows c.deref-in-Some-split_first-3.ensures.value c.deref-in-Some-split_first-2.ensures) c.loop-nodes.invariant.full
-
--- the pair of a node with one comes first, and then what the stack has left
-comes_next : (g : Over) (c : goal.After-parts-in-Some-pair g)
-    → c.args.self.now ≡ deref_pair c.parts-in-Some-pair.result ∷ pending (rows_of c.push_row-in-Some-split_first.new.stack.items)
+-- the own pair comes first, and then what is left without it
+comes_next : (g : Over) (c : goal.After-parts g)
+    → c.args.self.now
+    ≡ deref_pair c.parts.result ∷ stacked (c.loop-pair.self-inside.stack.items ++ record { own = c.take.new.self; row = c.loop-pair.self-inside.at.row } ∷ [])
 comes_next g c =
-    let left = pending (rows_of c.push_row-in-Some-split_first.new.stack.items) in
-    let beside = c.push_row.ensures.rows ∙ ap (λ x. with_row (rows_of x) (children_of c.in-Some-split_first.others.now)) c.make_room.ensures.same in
-    sym c.loop-nodes.invariant.same
-    ∙ pending-node _ _ _ (rows_of-popped _ _ _ c.in-Some-pop.ensures.items) _ _ (ap children_of c.in-Some-split_first.ensures.cases.0)
-    _ (rows_of-turn _ _ _ _ _ _ _ beside c.push_row-in-Some-split_first.ensures.rows c.deref-in-Some-split_first-3.ensures.value c.deref-in-Some-split_first-2.ensures)
-    ∙ ap (λ x. x ++ left) (sym (first_own (Some c.in-Some-pair.pair) (tree_of c.deref-in-Some-split_first-4.result.now).pair c.in-Some-pair.ensures ∙ ap (λ n. own_pair (tree_of n).pair) c.deref-in-Some-split_first-4.ensures))
-    ∙ ap (λ x. x ∷ left) (sym c.parts-in-Some-pair.ensures)
+    sym c.loop-pair.invariant.same ∙ own-first c.loop-pair.self-inside.stack.items c.loop-pair.self-inside.at c.in-Some.pair (sym c.in-Some.ensures.value)
+    ∙ (λ i. sym c.parts.ensures i ∷ stacked (c.loop-pair.self-inside.stack.items ++ record { own = sym c.in-Some.ensures.after i; row = c.loop-pair.self-inside.at.row } ∷ []))
 
-pub returns-in-Some-pair-clause-pair : goal.returns-in-Some-pair-clause-pair
-returns-in-Some-pair-clause-pair g c = sym (ap (λ s. slice_get s 0) (comes_next g c))
+pub returns-in-Some-clause-pair : goal.returns-in-Some-clause-pair
+returns-in-Some-clause-pair g c = sym (ap (λ s. slice_get s 0) (comes_next g c))
 
-pub returns-in-Some-pair-clause-rest : goal.returns-in-Some-pair-clause-rest
-returns-in-Some-pair-clause-rest g c =
-    let left = pending (rows_of c.push_row-in-Some-split_first.new.stack.items) in
-    ap (λ x. first_pair x ++ left) c.loop-nodes.invariant.no_first ∙ sym (ap (λ s. drop 1 s) (comes_next g c))
+pub returns-in-Some-clause-rest : goal.returns-in-Some-clause-rest
+returns-in-Some-clause-rest g c = sym (ap (λ s. drop 1 s) (comes_next g c))
 
-pub loop-nodes-smaller-in_default-pair : goal.loop-nodes-smaller-in_default-pair
-loop-nodes-smaller-in_default-pair g c =
-    let beside = c.push_row.ensures.rows ∙ ap (λ x. with_row (rows_of x) (children_of c.in-Some-split_first.others.now)) c.make_room.ensures.same in
-    node_turns_fall 0 _ _ _ (rows_of-popped _ _ _ c.in-Some-pop.ensures.items) _ _ (ap children_of c.in-Some-split_first.ensures.cases.0)
-    _ (rows_of-turn _ _ _ _ _ _ _ beside c.push_row-in-Some-split_first.ensures.rows c.deref-in-Some-split_first-3.ensures.value c.deref-in-Some-split_first-2.ensures)
+pub returns-in_err-make_room-clause-end : goal.returns-in_err-make_room-clause-end
+returns-in_err-make_room-clause-end g c = λ bare.
+    let some : 0 < length c.loop-pair.self-inside.at.row.now = omega (arith, ap length c.in-Some-split_first.ensures.cases.0) in
+    absurd (row_stacked c.loop-pair.self-inside.stack.items c.loop-pair.self-inside.at some c.loop-pair.invariant.full (c.loop-pair.invariant.same ∙ bare))
 
-pub loop-nodes-preserved-in_default-pair : goal.loop-nodes-preserved-in_default-pair
-loop-nodes-preserved-in_default-pair g c =
-    let top = rows_of-popped _ _ _ c.in-Some-pop.ensures.items in
-    let front = ap children_of c.in-Some-split_first.ensures.cases.0 in
-    let beside = c.push_row.ensures.rows ∙ ap (λ x. with_row (rows_of x) (children_of c.in-Some-split_first.others.now)) c.make_room.ensures.same in
-    let rows = rows_of-turn _ _ _ _ _ _ _ beside c.push_row-in-Some-split_first.ensures.rows c.deref-in-Some-split_first-3.ensures.value c.deref-in-Some-split_first-2.ensures in
-    let none = first_own None (tree_of c.deref-in-Some-split_first-4.result.now).pair c.in_default-pair.ensures ∙ ap (λ n. own_pair (tree_of n).pair) c.deref-in-Some-split_first-4.ensures in
+pub loop-pair-smaller-in-Some-split_first : goal.loop-pair-smaller-in-Some-split_first
+loop-pair-smaller-in-Some-split_first g c =
+    let others = children_of c.in-Some-split_first.others.now in
+    let t = tree_of c.deref-in-Some-split_first.result.now in
+    let is = ap children_of c.in-Some-split_first.ensures.cases.0 ∙ ap (λ n. front (tree_of n) others) (sym c.deref-in-Some-split_first.ensures) in
+    let rows = c.enter-self-inside.ensures.rows ∙ ap (λ rs. rows_at (left_rows rs) t.children others) c.make_room.ensures.same in
+    turn_falls c.loop-pair.self-inside.stack.items c.loop-pair.self-inside.at t others is _ rows
+
+pub loop-pair-preserved-in-Some-split_first : goal.loop-pair-preserved-in-Some-split_first
+loop-pair-preserved-in-Some-split_first g c =
+    let rs = c.loop-pair.self-inside.stack.items in
+    let at = c.loop-pair.self-inside.at in
+    let t = tree_of c.deref-in-Some-split_first.result.now in
+    let others = children_of c.in-Some-split_first.others.now in
+    let is = ap children_of c.in-Some-split_first.ensures.cases.0 ∙ ap (λ n. front (tree_of n) others) (sym c.deref-in-Some-split_first.ensures) in
+    let rows = c.enter-self-inside.ensures.rows ∙ ap (λ qs. rows_at (left_rows qs) t.children others) c.make_room.ensures.same in
     record {
-      no_first = c.loop-nodes.invariant.no_first;
-      same = ap (λ x. x ++ pending (rows_of c.push_row-in-Some-split_first.new.stack.items)) none
-          ∙ sym (pending-node _ _ _ top _ _ front _ rows) ∙ c.loop-nodes.invariant.same;
-      full = turned_full _ _ _ top _ _ front _ rows c.loop-nodes.invariant.full;
+      same = c.enter-self-inside.ensures.pairs ∙ ap (λ qs. pairs_in t ++ (pairs_in_all others ++ stacked qs)) c.make_room.ensures.same
+          ∙ sym (node-next rs at t others (sym c.in_default.ensures.value) is) ∙ c.loop-pair.invariant.same;
+      full = turn_full rs at t others is _ rows c.loop-pair.invariant.full;
     }
 
-pub loop-nodes-smaller : goal.loop-nodes-smaller
-loop-nodes-smaller g c = end_turns_fall 0 _ _ _ (rows_of-popped _ _ _ c.in-Some-pop.ensures.items)
+pub loop-pair-smaller : goal.loop-pair-smaller
+loop-pair-smaller g c =
+    let self = c.loop-pair.self-inside in
+    subst (λ rs. turns_left (left_rows rs) < turns_left (left_rows (self.stack.items ++ self.at ∷ []))) c.in-Some-pop.ensures.items (turns-up self.stack.items self.at)
 
-pub loop-nodes-preserved : goal.loop-nodes-preserved
-loop-nodes-preserved g c =
-    let top = rows_of-popped _ _ _ c.in-Some-pop.ensures.items in
+pub loop-pair-preserved : goal.loop-pair-preserved
+loop-pair-preserved g c =
+    let self = c.loop-pair.self-inside in
+    let none = children_of-no_boxes _ c.in_default-split_first.ensures.cases in
+    let bare : left_of self.at ≡ [] = (λ i. first_pair (sym c.in_default.ensures.value i) ++ pairs_in_all (none i)) in
     record {
-      no_first = c.loop-nodes.invariant.no_first;
-      same = sym (pending-end _ _ _ top (children_of-no_boxes _ c.in_default-split_first.ensures.cases)) ∙ c.loop-nodes.invariant.same;
-      full = popped_full _ _ _ top c.loop-nodes.invariant.full;
+      same = ap stacked (sym c.in-Some-pop.ensures.items) ∙ sym (bare-up self.stack.items self.at bare) ∙ c.loop-pair.invariant.same;
+      full = subst (λ rs. HasFullRows (left_rows rs)) c.in-Some-pop.ensures.items (full-popped self.stack.items self.at c.loop-pair.invariant.full).0;
     }

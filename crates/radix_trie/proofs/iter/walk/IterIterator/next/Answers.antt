@@ -1,83 +1,79 @@
-use Rattle.std.proofs.Common.{◌++◌, ◌∷◌, Some, None, length, arith, sym, ap, ◌∙◌}
-use Rattle.masked_tree.specs.Sizes.{levels}
+use Rattle.std.proofs.Common.{◌≡◌, ◌<◌, [], ◌∷◌, ◌++◌, suc, vec_capacity, ap, sym, subst, ◌∙◌, arith}
+use Rattle.masked_tree.specs.Tree.{front}
 use Rattle.radix_nodes.specs.Nodes.{children_of, tree_of}
-use Rattle.radix_trie.specs.Walks.{deref_pair, first_pair, pending, rows_of}
-use Rattle.radix_nodes.specs.Pairs.{own_pair}
-use Rattle.radix_trie.proofs.WalkLemmas.Walks.{item_progress, end_room, end_turns_fall, pending-end, others_fit, children_fit, node_room, node_turns_fall, pending-node}
-use Rattle.radix_trie.proofs.WalkLemmas.Rows.{first_own, children_of-row, rows_of-popped, rows_of-turn}
-use Rattle.radix_trie.proofs.iter.walk.IterIterator.next.Goals as goal
+use Rattle.radix_nodes.specs.Pairs.{pairs_in_all}
 use Rattle.radix_nodes.proofs.EditLemmas.Removal.{children_of-no_boxes}
+use Rattle.radix_trie.specs.Walks.{HasRowRoom, deref_pair, first_pair, left_of, left_rows, stacked}
+use Rattle.radix_nodes.specs.declared.trie_node.TrieNode.{out-TrieNode}
+use Rattle.radix_nodes.proofs.NodeLemmas.Sizes.{levels_out}
+use Rattle.radix_trie.proofs.WalkLemmas.Rows.{levels-some}
+use Rattle.radix_trie.proofs.WalkLemmas.Back.{turns-up}
+use Rattle.radix_trie.proofs.WalkLemmas.Walks.{item_progress, turns_left}
+use Rattle.radix_trie.proofs.WalkLemmas.Steps.{bare-up, node-next, own-first, room-up, turn_falls, turn_fits, turn_room}
+use Rattle.radix_trie.proofs.iter.walk.IterIterator.next.Given.{Over}
+use Rattle.radix_trie.proofs.iter.walk.IterIterator.next.Goals as goal
 
-pub push_row-requires : goal.push_row-requires
-push_row-requires g c = λ some.
-    omega (
-      arith,
-      some,
-      c.pop.ensures.capacity,
-      others_fit _ _ _ _ (rows_of-popped _ _ _ c.in-Some-pop.ensures.items)
-          _ _ (ap children_of c.in-Some-split_first.ensures.cases.0) c.loop-nodes.invariant.room,
-    )
+-- the own pair comes first, and then what is left without it
+comes_next : (g : Over) (c : goal.After-parts g)
+    → c.args.self.now
+    ≡ deref_pair c.parts.result ∷ stacked (c.loop-pair.self-inside.stack.items ++ record { own = c.take.new.self; row = c.loop-pair.self-inside.at.row } ∷ [])
+comes_next g c =
+    sym c.loop-pair.invariant.same ∙ own-first c.loop-pair.self-inside.stack.items c.loop-pair.self-inside.at c.in-Some.pair (sym c.in-Some.ensures.value)
+    ∙ (λ i. sym c.parts.ensures i ∷ stacked (c.loop-pair.self-inside.stack.items ++ record { own = sym c.in-Some.ensures.after i; row = c.loop-pair.self-inside.at.row } ∷ []))
 
-pub push_row-requires-in-Some-split_first : goal.push_row-requires-in-Some-split_first
-push_row-requires-in-Some-split_first g c =
-    let children = children_of-row _ _ c.deref-in-Some-split_first.ensures.value ∙ ap (λ n. (tree_of n).children) c.deref.ensures in
-    λ some.
-    omega (
-      arith,
-      some,
-      ap length c.push_row.ensures.rows,
-      c.push_row.ensures.capacity,
-      c.pop.ensures.capacity,
-      ap levels children,
-      children_fit _ _ _ _ (rows_of-popped _ _ _ c.in-Some-pop.ensures.items) _ _ (ap children_of c.in-Some-split_first.ensures.cases.0) c.loop-nodes.invariant.room,
-    )
+pub returns-in-Some-clause-steps : goal.returns-in-Some-clause-steps
+returns-in-Some-clause-steps g c = comes_next g c
 
-pub invariant_of-self-in-Some-pair : goal.invariant_of-self-in-Some-pair
-invariant_of-self-in-Some-pair g c =
-    node_room _ _ _ _ (rows_of-popped _ _ _ c.in-Some-pop.ensures.items) _ _ (ap children_of c.in-Some-split_first.ensures.cases.0)
-    _ (rows_of-turn _ _ _ _ _ _ _ c.push_row.ensures.rows c.push_row-in-Some-split_first.ensures.rows c.deref-in-Some-split_first.ensures.value c.deref.ensures)
-    _ (c.push_row-in-Some-split_first.ensures.capacity ∙ c.push_row.ensures.capacity ∙ c.pop.ensures.capacity) c.loop-nodes.invariant.room
+pub returns-in-Some-clause-goes : goal.returns-in-Some-clause-goes
+returns-in-Some-clause-goes g c = item_progress _ _ _ _ (comes_next g c)
 
-pub returns-in-Some-pair-clause-steps : goal.returns-in-Some-pair-clause-steps
-returns-in-Some-pair-clause-steps g c =
-    let left = pending (rows_of c.push_row-in-Some-split_first.new.stack.items) in
-    sym c.loop-nodes.invariant.same
-    ∙ pending-node _ _ _ (rows_of-popped _ _ _ c.in-Some-pop.ensures.items) _ _ (ap children_of c.in-Some-split_first.ensures.cases.0)
-    _ (rows_of-turn _ _ _ _ _ _ _ c.push_row.ensures.rows c.push_row-in-Some-split_first.ensures.rows c.deref-in-Some-split_first.ensures.value c.deref.ensures)
-    ∙ ap (λ x. x ++ left) (sym (first_own (Some c.in-Some-pair.pair) (tree_of c.deref-in-Some-split_first-2.result.now).pair c.in-Some-pair.ensures ∙ ap (λ n. own_pair (tree_of n).pair) c.deref-in-Some-split_first-2.ensures))
-    ∙ ap (λ x. x ∷ left) (sym c.parts-in-Some-pair.ensures)
-    ∙ ap (λ x. deref_pair c.parts-in-Some-pair.result ∷ (first_pair x ++ left)) (sym c.loop-nodes.invariant.no_first)
-
-pub returns-in-Some-pair-clause-goes : goal.returns-in-Some-pair-clause-goes
-returns-in-Some-pair-clause-goes g c = item_progress _ _ _ _ (returns-in-Some-pair-clause-steps g c)
-
-pub loop-nodes-smaller-in_default-pair : goal.loop-nodes-smaller-in_default-pair
-loop-nodes-smaller-in_default-pair g c =
-    node_turns_fall 0 _ _ _ (rows_of-popped _ _ _ c.in-Some-pop.ensures.items) _ _ (ap children_of c.in-Some-split_first.ensures.cases.0)
-    _ (rows_of-turn _ _ _ _ _ _ _ c.push_row.ensures.rows c.push_row-in-Some-split_first.ensures.rows c.deref-in-Some-split_first.ensures.value c.deref.ensures)
-
-pub loop-nodes-preserved-in_default-pair : goal.loop-nodes-preserved-in_default-pair
-loop-nodes-preserved-in_default-pair g c =
-    let top = rows_of-popped _ _ _ c.in-Some-pop.ensures.items in
-    let front = ap children_of c.in-Some-split_first.ensures.cases.0 in
-    let rows = rows_of-turn _ _ _ _ _ _ _ c.push_row.ensures.rows c.push_row-in-Some-split_first.ensures.rows c.deref-in-Some-split_first.ensures.value c.deref.ensures in
-    let none = first_own None (tree_of c.deref-in-Some-split_first-2.result.now).pair c.in_default-pair.ensures ∙ ap (λ n. own_pair (tree_of n).pair) c.deref-in-Some-split_first-2.ensures in
+pub enter-self-inside-requires : goal.enter-self-inside-requires
+enter-self-inside-requires g c =
+    let self = c.loop-pair.self-inside in
+    let others = children_of c.in-Some-split_first.others.now in
+    let n = c.deref.result.now in
+    let boxes = (out-TrieNode g.row.K.Denot g.row.V.Denot n).children in
+    let is = ap children_of c.in-Some-split_first.ensures.cases.0 ∙ ap (λ n. front (tree_of n) others) (sym c.deref.ensures) in
     record {
-      no_first = c.loop-nodes.invariant.no_first;
-      same = ap (λ x. x ++ pending (rows_of c.push_row-in-Some-split_first.new.stack.items)) none
-          ∙ sym (pending-node _ _ _ top _ _ front _ rows) ∙ c.loop-nodes.invariant.same;
-      room = node_room _ _ _ _ top _ _ front _ rows _
-          (c.push_row-in-Some-split_first.ensures.capacity ∙ c.push_row.ensures.capacity ∙ c.pop.ensures.capacity) c.loop-nodes.invariant.room;
+      room = λ some beside.
+          let tall = levels-some boxes.items (omega (arith, some, boxes.ok.0)) in
+          omega (arith, turn_fits self.stack.items self.at (tree_of n) others is _ c.loop-pair.invariant.room (omega (arith, tall, levels_out n)), self.stack.ok.0);
     }
 
-pub loop-nodes-smaller : goal.loop-nodes-smaller
-loop-nodes-smaller g c = end_turns_fall 0 _ _ _ (rows_of-popped _ _ _ c.in-Some-pop.ensures.items)
+pub loop-pair-smaller-in-Some-split_first : goal.loop-pair-smaller-in-Some-split_first
+loop-pair-smaller-in-Some-split_first g c =
+    let others = children_of c.in-Some-split_first.others.now in
+    let t = tree_of c.deref.result.now in
+    let is = ap children_of c.in-Some-split_first.ensures.cases.0 ∙ ap (λ n. front (tree_of n) others) (sym c.deref.ensures) in
+    let rows = c.enter-self-inside.ensures.rows in
+    turn_falls c.loop-pair.self-inside.stack.items c.loop-pair.self-inside.at t others is _ rows
 
-pub loop-nodes-preserved : goal.loop-nodes-preserved
-loop-nodes-preserved g c =
-    let top = rows_of-popped _ _ _ c.in-Some-pop.ensures.items in
+pub loop-pair-preserved-in-Some-split_first : goal.loop-pair-preserved-in-Some-split_first
+loop-pair-preserved-in-Some-split_first g c =
+    let rs = c.loop-pair.self-inside.stack.items in
+    let at = c.loop-pair.self-inside.at in
+    let t = tree_of c.deref.result.now in
+    let others = children_of c.in-Some-split_first.others.now in
+    let is = ap children_of c.in-Some-split_first.ensures.cases.0 ∙ ap (λ n. front (tree_of n) others) (sym c.deref.ensures) in
+    let rows = c.enter-self-inside.ensures.rows in
     record {
-      no_first = c.loop-nodes.invariant.no_first;
-      same = sym (pending-end _ _ _ top (children_of-no_boxes _ c.in_default-split_first.ensures.cases)) ∙ c.loop-nodes.invariant.same;
-      room = end_room _ _ _ _ top _ c.pop.ensures.capacity c.loop-nodes.invariant.room;
+      same = c.enter-self-inside.ensures.pairs
+          ∙ sym (node-next rs at t others (sym c.in_default.ensures.value) is) ∙ c.loop-pair.invariant.same;
+      room = turn_room rs at t others is _ rows _ _ (omega (arith, c.enter-self-inside.ensures.capacity)) c.loop-pair.invariant.room;
+    }
+
+pub loop-pair-smaller : goal.loop-pair-smaller
+loop-pair-smaller g c =
+    let self = c.loop-pair.self-inside in
+    subst (λ rs. turns_left (left_rows rs) < turns_left (left_rows (self.stack.items ++ self.at ∷ []))) c.in_ok-self-inside.ensures.items (turns-up self.stack.items self.at)
+
+pub loop-pair-preserved : goal.loop-pair-preserved
+loop-pair-preserved g c =
+    let self = c.loop-pair.self-inside in
+    let none = children_of-no_boxes _ c.in_default-split_first.ensures.cases in
+    let bare : left_of self.at ≡ [] = (λ i. first_pair (sym c.in_default.ensures.value i) ++ pairs_in_all (none i)) in
+    record {
+      same = ap stacked (sym c.in_ok-self-inside.ensures.items) ∙ sym (bare-up self.stack.items self.at bare) ∙ c.loop-pair.invariant.same;
+      room = subst (λ n. HasRowRoom n 0 (left_rows (c.pop.new.self.items ++ c.in_ok-self-inside.field-0 ∷ []))) (ap suc (sym c.pop.ensures.capacity))
+          (subst (λ rs. HasRowRoom (suc (vec_capacity self.stack)) 0 (left_rows rs)) c.in_ok-self-inside.ensures.items (room-up self.stack.items self.at _ c.loop-pair.invariant.room));
     }

@@ -1,10 +1,9 @@
+use Rattle.std.proofs.Common.{arith, subst, sym}
+use Rattle.radix_trie.specs.Places.{IsPlaceIn}
 use Rattle.radix_trie.proofs.view.subtrie.SubTrie.children.Goals as goal
 
-pub returns-clause-short : goal.returns-clause-short
-returns-clause-short g c = rw (← c.place.ensures.map, ← c.place.ensures.path) c.children.ensures.short
-
-pub returns-clause-children : goal.returns-clause-children
-returns-clause-children g c = rw (← c.place.ensures.map, ← c.place.ensures.path) c.children.ensures.children
+pub children-requires : goal.children-requires
+children-requires g c = (omega arith, subst (λ v. IsPlaceIn g.K.TrieKey.encoding v.map v.path c.place.result) (sym c.self.view_is) c.place.ensures)
 
 pub returns-clause-same_map : goal.returns-clause-same_map
-returns-clause-same_map g c = rw (← c.place.ensures.map) c.children.ensures.same_map
+returns-clause-same_map g c = rw (← c.self.view_is) c.children.ensures.same_map

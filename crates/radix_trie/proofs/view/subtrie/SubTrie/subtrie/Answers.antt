@@ -1,4 +1,4 @@
-use Rattle.std.proofs.Common.{sym, ap, subst, ◌∙◌}
+use Rattle.std.proofs.Common.{sym, subst}
 use Rattle.nibble_map.specs.Maps.{IsPoint}
 use Rattle.radix_trie.proofs.view.subtrie.SubTrie.subtrie.Goals as goal
 

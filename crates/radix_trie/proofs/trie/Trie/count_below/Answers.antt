@@ -1,0 +1,7 @@
+use Rattle.std.proofs.Common.{ap, ◌∙◌}
+use Rattle.std.specs.FinMap as map
+use Rattle.nibble_map.specs.Maps.{below}
+use Rattle.radix_trie.proofs.trie.Trie.count_below.Goals as goal
+
+pub returns-clause-count : goal.returns-clause-count
+returns-clause-count g c = c.len.ensures _ _ c.find.ensures ∙ ap (λ l. map.len (below c.args.self.now l)) c.in_ok-list.ensures.ok

@@ -1,0 +1,25 @@
+use Rattle.std.proofs.Common.{◌≡◌, ap, sym, subst, take, ◌∙◌}
+use Rattle.std.specs.FinMap as map
+use Rattle.std.specs.declared.ops.Bound.TheVariants.{Excluded, Unbounded}
+use Rattle.std.proofs.lemmas.Result.{IfOk-weaker}
+use Rattle.nibble_map.specs.Maps.{below}
+use Rattle.radix_trie.specs.Views.{pairs_after}
+use Rattle.radix_trie.proofs.PathLemmas.Later.{no_pairs_after}
+use Rattle.radix_trie.proofs.PathLemmas.Places.{false_is_not_true}
+use Rattle.radix_trie.proofs.trie.Trie.first_after.Goals as goal
+
+pub returns-in_err-rests-clause-light_none : goal.returns-in_err-rests-clause-light_none
+returns-in_err-rests-clause-light_none g c = λ light last none.
+    absurd (false_is_not_true (c.in_err-rests.ensures.none _ _ c.find.ensures (subst (λ l. map.len (below c.args.self.now l) ≡ 0) (sym c.in_ok-list.ensures.ok) none)))
+
+pub returns-clause-pairs : goal.returns-clause-pairs
+returns-clause-pairs g c =
+    let left = c.of.ensures ∙ c.in_ok-rests.ensures.walk c.args.self.now c.in_ok-list.list (Excluded c.in_ok-last.last) Unbounded c.find.ensures c.of-limits.ensures
+    ∙ (λ i. pairs_after c.args.self.now (c.in_ok-list.ensures.ok i) (c.in_ok-last.ensures.ok i)) in
+    IfOk-weaker c.first_pairs.result _ _ (λ page is. is ∙ ap (take c.args.most) left) c.first_pairs.ensures.pairs
+
+pub returns-clause-light_none : goal.returns-clause-light_none
+returns-clause-light_none g c = λ light last none.
+    let left = c.of.ensures ∙ c.in_ok-rests.ensures.walk c.args.self.now c.in_ok-list.list (Excluded c.in_ok-last.last) Unbounded c.find.ensures c.of-limits.ensures
+    ∙ (λ i. pairs_after c.args.self.now (c.in_ok-list.ensures.ok i) (c.in_ok-last.ensures.ok i)) in
+    c.first_pairs.ensures.none (left ∙ no_pairs_after c.args.self.now _ _ none)

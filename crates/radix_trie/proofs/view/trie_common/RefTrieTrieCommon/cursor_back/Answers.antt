@@ -1,9 +1,0 @@
-use Rattle.std.proofs.Common.{◌≡◌, ◌∙◌, subst}
-use Rattle.nibble_map.specs.Lists.{Each}
-use Rattle.nibble_map.specs.Maps.{walk}
-use Rattle.radix_trie.proofs.view.trie_common.RefTrieTrieCommon.cursor_back.Goals as goal
-
-pub returns-clause-keyed : goal.returns-clause-keyed
-returns-clause-keyed g c =
-    subst (λ p. Each (λ e. e.0 ≡ g.K.TrieKey.encoding e.1.0) (walk c.args.self.now p)) (c.find.ensures.path ∙ c.new-top.ensures)
-    (rw (← c.find.ensures.map) c.cursor_back.ensures.keyed)

@@ -19,7 +19,7 @@ returns-clause-times g c =
     let all = All-weaker (Contains pairs) (λ p. (from ≤ p.0) × (p.0 < to))
     (λ p h. (let at = (held p).0 h in (le_from_is_le from p.0 at.1, ranked p.0 to Less (sym at.2)))) pairs (All-contains_itself pairs) in
     let page = All-take (λ p. (from ≤ p.0) × (p.0 < to)) c.args.most c.in_ok-range.field-0
-    (subst (All (λ p. (from ≤ p.0) × (p.0 < to))) (sym c.in_ok-range.ensures.walk) all) in
+    (subst (All (λ p. (from ≤ p.0) × (p.0 < to))) (sym (c.in_ok-range.ensures.walk tt)) all) in
     IfOk-weaker c.first_pairs.result _ _ (λ lines is. subst (All (λ p. (from ≤ p.0) × (p.0 < to))) (sym is) page) c.first_pairs.ensures
 
 pub returns-clause-rising : goal.returns-clause-rising
@@ -27,5 +27,5 @@ returns-clause-rising g c =
     let rising = c.keys_of_ranges_rise.ensures.rising nat_cmp (c.numbers_keep_their_order.ensures w64) c.args.log.now c.requires []
     (Included (unsigned_key w64 c.args.from)) (Excluded (unsigned_key w64 c.args.to)) in
     let page = pairs_of_page (λ p. p.0) (λ x y. nat_cmp x y ≡ Less) c.args.most c.in_ok-range.field-0
-    (subst (λ ps. AllPairs (λ x y. nat_cmp x y ≡ Less) (each (λ p. p.0) ps)) (sym c.in_ok-range.ensures.walk) rising) in
+    (subst (λ ps. AllPairs (λ x y. nat_cmp x y ≡ Less) (each (λ p. p.0) ps)) (sym (c.in_ok-range.ensures.walk tt)) rising) in
     IfOk-weaker c.first_pairs.result _ _ (λ lines is. subst (λ ps. AllPairs (λ x y. nat_cmp x y ≡ Less) (each (λ p. p.0) ps)) (sym is) page) c.first_pairs.ensures

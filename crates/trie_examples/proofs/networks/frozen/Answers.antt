@@ -1,5 +1,5 @@
 -- A row more for each pair of the walk.
-use Rattle.std.proofs.Common.{[], ◌++◌, ◌∙◌, ap, sym}
+use Rattle.std.proofs.Common.{◌++◌, ◌∙◌, ap, sym}
 use Rattle.std.proofs.lemmas.List.{append-nil, append_assoc}
 use Rattle.trie_examples.proofs.networks.frozen.Goals as goal
 

@@ -1,4 +1,4 @@
-use Rattle.std.proofs.Common.{◌≡◌, [], ap, sym, ◌∙◌, map}
+use Rattle.std.proofs.Common.{[], ap, sym, ◌∙◌, map}
 use Rattle.std.proofs.lemmas.Result.{IfOk-weaker}
 use Rattle.std.specs.FinMap as finite
 use Rattle.nibble_map.proofs.MapLemmas.Bridge.{from_sorted-nil}

@@ -126,7 +126,7 @@ impl<A: Address> Routes<A> {
     pub fn len(&self) -> usize
         ensures { result ≡ length (in_order self.now) }
     {
-        TrieCommon::len(&self.trie)
+        self.trie.len()
     }
 
     /// The same as a cursor, which begins at once.

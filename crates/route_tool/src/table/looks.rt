@@ -67,7 +67,7 @@ fn rows_of<A: Address>(
 ) -> Result<Vec<(Network<A>, Hop)>, Memory>
     ensures { IfOk result (λ rows. rows.items ≡ pairs_below trie.now []) }
 {
-    let mut rows = Vec::with_capacity(alloc, TrieCommon::len(trie))?;
+    let mut rows = Vec::with_capacity(alloc, trie.len())?;
     for (network, hop) in TrieCommon::iter(trie)? {
         rows.push((*network, Hop::new(alloc, hop.as_bytes())?))?;
     }

@@ -62,7 +62,6 @@ STANDS_FOR = {
         "Trie::len": "Trie::take_entry_at",
         "Trie::retain": "Trie::not_kept",
         "Trie::get_or_insert": "Trie::fill",
-        "Trie::for_each_value_mut": "Trie::change_values_below",
         **{f"{kind}::children": "Place::children" for kind in ("Trie", "SubTrie", "SubTrieMut")},
         "SubTrieMut::value_mut": "value_behind",
         "Trie::get_mut": "absent_as_none",

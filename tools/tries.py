@@ -184,7 +184,7 @@ class View:
         found = sorted((way, it) for it in self.lists for way in matches(levels_of(it), levels))
         return self.told(it for way, it in found if not (is_reserved and way[0]))
 
-    def append(self, part):
+    def graft(self, part):
         """Moves all pairs of the part to the trie, unless a point stands at or below the list that all of them begin
         with."""
         if part is self.trie:
@@ -316,7 +316,6 @@ CALLS = {
     "remove": ("Q", "tw", inside(lambda v, at: v.put(at, None))),
     "remove_prefix": ("Q", "tw", inside(lambda v, at: v.taken(starting(v.lists, at)))),
     "value_mut": ("N", "twl", lambda v, number: v.written(v.path, number)),
-    "for_each_value_mut": ("N", "twfl", lambda v, added: v.add(added, v.below)),
     "for_each_mut": ("KN", "twf", lambda v, other, added: v.add(added, v.below, other)),
     "retain": ("N", "tw", lambda v, least: v.retain(least, v.below)),
     "get_counted": ("Q", "tm", lambda v, at: f"{v.values(at)} {v.cost(at)[1]}"),
@@ -355,7 +354,6 @@ CALLS = {
     "into_pairs": ("", "t", lambda v: v.taken(v.below)),
     "clear": ("", "tl", lambda v: v.retain(NUMBERS, v.below)),
     "compact": ("", "t", lambda v: "ok"),
-    "for_each_value_mut_below": ("QN", "tm", lambda v, at, added: v.add(added, starting(v.lists, at))),
     "for_each_mut_below": ("QKN", "t", lambda v, at, other, added: v.add(added, starting(v.lists, at), other)),
     "retain_below": ("QN", "t", lambda v, at, least: v.retain(least, starting(v.lists, at))),
     "extend": ("P", "t", lambda v, pairs: v.change(pairs)),
@@ -385,7 +383,8 @@ CALLS = {
     "tries": ("", "s", lambda v: rows(v.shell.names)),
     "clone": ("M", "s", lambda v, name: v.shell.put(name, lambda: v.pairs)),
     "split_off_prefix": ("QM", "s", lambda v, at, name: v.shell.put(name, lambda: v.cut(at))),
-    "append": ("O", "s", View.append),
+    "graft": ("O", "s", View.graft),
+    "merge": ("O", "s", lambda v, other: v.change(other.pairs.items())),
     "==": ("O", "s", lambda v, other: truth(v.pairs == other.pairs)),
     "intersection": ("O", "s", lambda v, other: v.named(v.pairs.keys() & other.pairs.keys())),
     "difference": ("O", "s", lambda v, other: v.named(v.pairs.keys() - other.pairs.keys())),

@@ -1,12 +1,16 @@
 -- The map of pairs that are inserted one after another.
 use Rattle.std.specs.Prelude.{◌≡◌, ℕ, List, [], ◌∷◌, ◌++◌, fold, ⊤}
 use Rattle.std.specs.FinMap as map
+use Rattle.std.specs.Vec.Iter.{into_iter_items}
 use Rattle.nibble_map.specs.Maps.{PairMap}
 use Rattle.radix_trie.specs.Refusals.{RefusesInsert}
 use Rattle.radix_trie.specs.declared.error.BuildError.{BuildError}
 use Rattle.radix_trie.specs.declared.error.BuildError.TheVariants as build
+use Rattle.radix_trie.specs.Views.{pairs_below}
 use Rattle.radix_trie.specs.declared.error.InsertWhy.{InsertWhy}
 use Rattle.radix_trie.specs.declared.error.InsertWhy.TheVariants as why
+use Rattle.radix_trie.specs.declared.error.MergeError.{MergeError}
+use Rattle.radix_trie.specs.declared.error.MergeError.TheVariants as merging
 
 -- the same reason for the insertion of one pair
 abbrev pub why_of : BuildError → InsertWhy
@@ -32,3 +36,12 @@ module _ {K V : Type 0} (enc : K → List ℕ) where
   IsRefusedAtLast light ps e =
       (others : List (K × V)) × (last : K × V) × (ps ≡ others ++ last ∷ [])
       × RefusesInsert (pairs_in_order others) (enc last.0) ⊤ (light last.0) (why_of e)
+
+  -- n is m with the pairs of the map `part` before one that is refused, behind which the rest is left;
+  -- or the list of its pairs is refused, and n is m
+  abbrev pub IsPartlyMerged : (K → Type 0) → (m part n : PairMap K V) → MergeError K V → Type 0
+  IsPartlyMerged light m part n (merging.Unlisted whole) = (n ≡ m) × (whole ≡ part)
+  IsPartlyMerged light m part n (merging.Stopped e rest) = (done : List (K × V))
+      × (pairs_below part [] ≡ done ++ (e.key, e.value) ∷ into_iter_items rest)
+      × (n ≡ with_pairs m done)
+      × RefusesInsert n (enc e.key) ⊤ (light e.key) e.why

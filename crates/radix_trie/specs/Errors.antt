@@ -5,8 +5,8 @@ use Rattle.radix_keys.specs.declared.nibbles.BytesError.{BytesError}
 use Rattle.radix_keys.specs.declared.nibbles.BytesError.TheVariants as bytes
 use Rattle.radix_keys.specs.declared.parts.PartsError.{PartsError}
 use Rattle.radix_keys.specs.declared.parts.PartsError.TheVariants as parts
-use Rattle.radix_trie.specs.declared.error.AppendWhy.{AppendWhy}
-use Rattle.radix_trie.specs.declared.error.AppendWhy.TheVariants as appending
+use Rattle.radix_trie.specs.declared.error.GraftWhy.{GraftWhy}
+use Rattle.radix_trie.specs.declared.error.GraftWhy.TheVariants as grafting
 use Rattle.radix_trie.specs.declared.error.BuildError.{BuildError}
 use Rattle.radix_trie.specs.declared.error.BuildError.TheVariants as build
 use Rattle.radix_trie.specs.declared.error.FindError.{FindError}
@@ -15,6 +15,8 @@ use Rattle.radix_trie.specs.declared.error.InsertWhy.{InsertWhy}
 use Rattle.radix_trie.specs.declared.error.InsertWhy.TheVariants as insert
 use Rattle.radix_trie.specs.declared.error.JsonError.{JsonError}
 use Rattle.radix_trie.specs.declared.error.JsonError.TheVariants as json
+use Rattle.radix_trie.specs.declared.error.MergeError.{MergeError}
+use Rattle.radix_trie.specs.declared.error.MergeError.TheVariants as merging
 use Rattle.radix_trie.specs.declared.error.OpenError.{OpenError}
 use Rattle.radix_trie.specs.declared.error.OpenError.TheVariants as opening
 use Rattle.radix_trie.specs.declared.error.SubTrieError.{SubTrieError}
@@ -34,10 +36,14 @@ of_try_insert try_insert.Memory = whole.Memory
 of_try_insert try_insert.Full = whole.Full
 of_try_insert try_insert.Occupied = whole.Occupied
 
-abbrev pub of_append : AppendWhy → TrieError
-of_append appending.Memory = whole.Memory
-of_append appending.Full = whole.Full
-of_append appending.Overlapping = whole.Overlapping
+abbrev pub of_graft : GraftWhy → TrieError
+of_graft grafting.Memory = whole.Memory
+of_graft grafting.Full = whole.Full
+of_graft grafting.Overlapping = whole.Overlapping
+
+abbrev pub of_merge : {K V : Type 0} → MergeError K V → TrieError
+of_merge (merging.Unlisted _) = whole.Memory
+of_merge (merging.Stopped error rest) = of_insert error.why
 
 abbrev pub of_build : BuildError → TrieError
 of_build build.Memory = whole.Memory

@@ -9,7 +9,7 @@ use Rattle.nibble_map.specs.Maps.{PairMap}
 use Rattle.radix_nodes.specs.declared.trie_node.KeyValue.{KeyValue}
 use Rattle.radix_nodes.specs.declared.trie_node.TrieNode.{TrieNode}
 use Rattle.radix_nodes.specs.Nodes.{tree_of, IsNearest}
-use Rattle.radix_trie.specs.declared.view.place.Place.{Place}
+use Rattle.radix_trie.specs.declared.place.Place.{Place}
 use Rattle.radix_trie.specs.Roots.{IsRoot}
 use Rattle.radix_trie.specs.Views.{ReadView}
 

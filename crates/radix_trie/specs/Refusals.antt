@@ -7,8 +7,8 @@ use Rattle.nibble_map.specs.Lists.{IsPrefix}
 use Rattle.nibble_map.specs.MapQueries.{AreChildren, IsFragment, IsLeaf}
 use Rattle.nibble_map.specs.Maps.{PairMap, IsPoint, IsStored, below}
 use Rattle.nibble_map.specs.Nibbles.{IsShort}
-use Rattle.radix_trie.specs.declared.error.AppendWhy.{AppendWhy}
-use Rattle.radix_trie.specs.declared.error.AppendWhy.TheVariants as appending
+use Rattle.radix_trie.specs.declared.error.GraftWhy.{GraftWhy}
+use Rattle.radix_trie.specs.declared.error.GraftWhy.TheVariants as grafting
 use Rattle.radix_trie.specs.declared.error.SubTrieError.{SubTrieError}
 use Rattle.radix_trie.specs.declared.error.SubTrieError.TheVariants as error
 use Rattle.radix_trie.specs.declared.error.InsertWhy.{InsertWhy}
@@ -69,11 +69,11 @@ module _ {K V : Type 0} where
   abbrev pub IsFreeFor : (m part : PairMap K V) → Type 0
   IsFreeFor m part = (l : List ℕ) × AllBegin part l × (map.len (below m l) ≡ 0)
 
-  -- the map `part` isn't appended to the map m: the pairs of both can't be counted; or m has a point
+  -- the map `part` isn't grafted onto the map m: the pairs of both can't be counted; or m has a point
   -- at or below each list with which all of part's begin, so also the longest such list; or memory,
   -- and then m stores nothing at or below one of these lists
-  abbrev pub RefusesAppend : (m part : PairMap K V) → AppendWhy → Type 0
-  RefusesAppend m part appending.Full = 2 ^ 64 ≤ map.len m + map.len part
-  RefusesAppend m part appending.Overlapping =
+  abbrev pub RefusesGraft : (m part : PairMap K V) → GraftWhy → Type 0
+  RefusesGraft m part grafting.Full = 2 ^ 64 ≤ map.len m + map.len part
+  RefusesGraft m part grafting.Overlapping =
       (l : List ℕ) → AllBegin part l → (q : List ℕ) × IsPoint m q × IsPrefix l q
-  RefusesAppend m part appending.Memory = IsFreeFor m part
+  RefusesGraft m part grafting.Memory = IsFreeFor m part

@@ -23,10 +23,6 @@ module _ {K V : Type 0} where
   abbrev pub ChangesEachPair : (K × V → V → Type 0) → PairMap K V → PairMap K V → Type 0
   ChangesEachPair R old new = IsMapCopy (λ p q. (q.0 ≡ p.0) × R p q.1) old new
 
-  -- the same, and R holds of the values v before and w after
-  abbrev pub ChangesEachValue : (V → V → Type 0) → PairMap K V → PairMap K V → Type 0
-  ChangesEachValue R old new = ChangesEachPair (λ p w. R p.1 w) old new
-
   -- new is old with the pair p at e, where old had none there, and else it is old
   abbrev pub IsFilled : PairMap K V → List ℕ → K × V → PairMap K V → Type 0
   IsFilled old e p new = MatchOption (map.get old e) (new ≡ map.insert old e p) (λ _. new ≡ old)

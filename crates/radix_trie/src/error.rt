@@ -4,6 +4,7 @@ ghost use Rattle.std.specs.Prelude.{◌≡◌};
 use crate::trie::Trie;
 use radix_keys::{Memory, TrieKey};
 use std::alloc::AllocError;
+use std::vec::IntoIter;
 
 mod text;
 mod whole;
@@ -48,9 +49,9 @@ pub struct TryInsertError<K, V> {
     pub value: V,
 }
 
-/// Why a trie wasn't appended.
+/// Why a trie wasn't grafted.
 #[derive(Clone, Copy, PartialEq, Eq, Debug)]
-pub enum AppendWhy {
+pub enum GraftWhy {
     /// An allocation failed.
     Memory,
     /// The pairs of both tries are more than `usize::MAX`.
@@ -60,11 +61,20 @@ pub enum AppendWhy {
     Overlapping,
 }
 
-/// A refused `append`: why, and the very trie that was passed.
+/// A refused `graft`: why, and the very trie that was passed.
 #[derive(Drop)]
-pub struct AppendError<K: TrieKey, V> {
-    pub why: AppendWhy,
+pub struct GraftError<K: TrieKey, V> {
+    pub why: GraftWhy,
     pub part: Trie<K, V>,
+}
+
+/// A refused `merge`.
+#[derive(Drop)]
+pub enum MergeError<K: TrieKey, V> {
+    /// Memory for the list of the other trie's pairs was refused. Nothing has changed, and this is the other trie.
+    Unlisted(Trie<K, V>),
+    /// A pair was refused, for this reason. Those before it are stored, and those behind it are the rest.
+    Stopped(InsertError<K, V>, IntoIter<(K, V)>),
 }
 
 /// Why a trie wasn't built.

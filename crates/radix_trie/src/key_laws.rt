@@ -15,10 +15,10 @@ ghost use Rattle.radix_keys.specs.Integers.{unsigned_key};
 ghost use Rattle.radix_keys.specs.Parts.{AreParts, part_bytes};
 ghost use Rattle.radix_trie.specs.Building.{with_pairs};
 ghost use Rattle.radix_trie.specs.Keys.{IsAboveBound, IsBelowBound, IsBoundValue, IsKeptOrder, IsKeyed};
-ghost use Rattle.radix_trie.specs.Refusals.{RefusesAppend};
+ghost use Rattle.radix_trie.specs.Refusals.{RefusesGraft};
 ghost use Rattle.radix_trie.specs.Views.{encoded_bound, pairs_above, pairs_after, pairs_below, pairs_from, pairs_within, with_value_or};
 
-use crate::error::AppendWhy;
+use crate::error::GraftWhy;
 use crate::trie::Trie;
 use radix_keys::{KeySigned, TrieKey};
 
@@ -51,14 +51,14 @@ pub fn stored_keys_are_equal<K: TrieKey, V>()
 {}
 
 /// What was split off goes back: the map without all below a list, with the pairs of the part that is below it stored one by
-/// one, as `Trie::append` stores them, is the trie's map. The one reason that `Trie::append` can be refused for is memory,
-/// where the rest has a pair; where it has none, `append` isn't refused.
+/// one, as `Trie::graft` stores them, is the trie's map. The one reason that `Trie::graft` can be refused for is memory,
+/// where the rest has a pair; where it has none, `graft` isn't refused.
 pub fn split_part_goes_back<K: TrieKey, V>(trie: &Trie<K, V>)
     ensures same { (e : List ℕ) → with_pairs K.encoding (without_below trie.now e)
         (pairs_below (below trie.now e) []) ≡ trie.now }
-    ensures why { (e : List ℕ) (why : AppendWhy)
-        → RefusesAppend (without_below trie.now e) (below trie.now e) why
-        → (map.len (without_below trie.now e) ≡ 0) ⊎ (why ≡ AppendWhy.Memory) }
+    ensures why { (e : List ℕ) (why : GraftWhy)
+        → RefusesGraft (without_below trie.now e) (below trie.now e) why
+        → (map.len (without_below trie.now e) ≡ 0) ⊎ (why ≡ GraftWhy.Memory) }
 {
     let _ = trie.root();
     let _count = trie.len();

@@ -7,13 +7,14 @@ pub mod iter;
 mod json;
 mod key_laws;
 mod map_laws;
+mod place;
 mod trie;
 mod view;
 
 pub use commands::{Command, Reply, ViewCommand, run};
 pub use error::{
-    AppendError, AppendWhy, BuildError, FindError, InsertError, InsertWhy, JsonError, OpenError,
-    SubTrieError, SubTrieResult, TrieError, TryInsertError, TryInsertWhy,
+    BuildError, FindError, GraftError, GraftWhy, InsertError, InsertWhy, JsonError, MergeError,
+    OpenError, SubTrieError, SubTrieResult, TrieError, TryInsertError, TryInsertWhy,
 };
 pub use json::{from_value, objects_are_read_back, to_value};
 pub use key_laws::{
@@ -28,6 +29,7 @@ pub use nibble_map::map_laws::{
 };
 pub use nibble_map::query_laws::descendants_hold_all_below;
 pub use nibble_map::walk_laws::{edits_change_one_answer, rest_answers_elsewhere, walks_lie_below};
+pub use place::PathList;
 pub use radix_keys::laws::{
     bits_keep_prefixes, first_bits_are_digits, first_bits_tell_networks, nibbles_keep_prefixes,
     parts_keep_prefixes,
@@ -40,6 +42,6 @@ pub use radix_keys::{
 pub use radix_nodes::search::find::LookUpCost;
 pub use trie::{Entry, EntryError, Trie};
 pub use view::subtrie::SubTrie;
-pub use view::subtrie_mut::{PathList, SubTrieMut};
+pub use view::subtrie_mut::SubTrieMut;
 pub use view::trie_common::TrieCommon;
 pub use view::trie_edit::TrieEdit;

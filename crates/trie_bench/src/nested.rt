@@ -33,7 +33,7 @@ pub fn answer<R: Print + Clock + AllocGlobal>(rt: &R, line: &str, count: u32) ->
     tell(rt, line, "insert", start)?;
     read(rt, line, &nested, keys.as_slice())?;
     let mut copy = copied(rt, line, &nested)?;
-    hung(rt, line, &mut copy)?;
+    grafted(rt, line, &mut copy)?;
     let start = Instant::now(rt)?;
     for key in keys.iter().rev() {
         ensure!(nested.remove(key)? == Some(key.len()));
@@ -73,16 +73,16 @@ fn copied<'a, R: Print + Clock>(rt: &R, line: &str, nested: &Nested<'a>) -> Resu
     Ok(copy)
 }
 
-/// Hangs the longest key in, below all others.
-fn hung<R: Print + Clock>(rt: &R, line: &str, nested: &mut Nested) -> Result<()> {
+/// Grafts the longest key, below all others.
+fn grafted<R: Print + Clock>(rt: &R, line: &str, nested: &mut Nested) -> Result<()> {
     let Some((key, _)) = nested.last_key_value() else {
         return Ok(());
     };
     let key = *key;
     let part = nested.split_off_prefix(&key)?;
     let start = Instant::now(rt)?;
-    nested.append(part)?;
-    tell(rt, line, "append", start)?;
+    nested.graft(part)?;
+    tell(rt, line, "graft", start)?;
     ensure!(nested.get(&key)? == Some(&key.len()));
     Ok(())
 }
@@ -91,8 +91,8 @@ fn hung<R: Print + Clock>(rt: &R, line: &str, nested: &mut Nested) -> Result<()>
 fn cut<R: Print + Clock>(rt: &R, line: &str, mut nested: Nested) -> Result<()> {
     let count = nested.len();
     let start = Instant::now(rt)?;
-    nested.for_each_value_mut(|length| *length = length.wrapping_add(1));
-    tell(rt, line, "for_each_value_mut", start)?;
+    nested.for_each_mut(|_, length| *length = length.wrapping_add(1));
+    tell(rt, line, "for_each_mut", start)?;
     let start = Instant::now(rt)?;
     let mut part = nested.split_off_prefix(&b'a')?;
     tell(rt, line, "split_off_prefix", start)?;

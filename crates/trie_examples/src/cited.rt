@@ -52,7 +52,7 @@ fn beside<K: TrieKey + Drop, V: Copy + Drop, Q: TrieKey>(
     Ok(trie.get(other)?.copied())
 }
 
-/// Splits all below a key off, and appends it again: the trie is as it was.
+/// Splits all below a key off, and grafts it again: the trie is as it was.
 fn put_back<K: TrieKey + Drop, V: Drop, Q: TrieKey>(
     trie: &mut Trie<K, V>,
     key: &Q,
@@ -61,7 +61,7 @@ fn put_back<K: TrieKey + Drop, V: Drop, Q: TrieKey>(
 {
     split_part_goes_back(&*trie);
     let part = trie.split_off_prefix(key)?;
-    Ok(trie.append(part)?)
+    Ok(trie.graft(part)?)
 }
 
 /// Takes all below a key away, and looks a key up that isn't below it: it has the value that it had.

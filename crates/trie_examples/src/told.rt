@@ -109,8 +109,8 @@ fn one_more_each<K: TrieKey>(counts: &mut Trie<K, u64>)
     ensures { (e : List ℕ)
         → map.get counts.new e ≡ option_map (λ p. (p.0, p.1 + 1)) (map.get counts.old e) }
 {
-    counts.for_each_value_mut(
-        |n: &mut u64|
+    counts.for_each_mut(
+        |_: &K, n: &mut u64|
             requires { n.old + 1 < 2 ^ 64 }
             ensures { n.new ≡ n.old + 1 }
         { *n += 1 },

@@ -73,12 +73,12 @@ fn make_twice<C: Caller>(
     caller.perform(answer)
 }
 
-/// What is told of a refusal. Where `extend` is refused the pairs before the refused one stay, and
+/// What is told of a refusal. Where `extend` or `merge` is refused the pairs before the refused one stay, and
 /// where `retain` is, some pairs may be gone.
 fn told(name: &str, is_light: bool, is_same: bool) -> &'static str {
     match name {
         _ if is_light => "refused, though light",
-        "extend" | "retain" | "retain_below" => "refused",
+        "extend" | "merge" | "retain" | "retain_below" => "refused",
         _ if is_same => "refused",
         _ => "refused, and changed",
     }

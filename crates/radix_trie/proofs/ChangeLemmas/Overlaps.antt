@@ -1,5 +1,5 @@
 -- Where a trie doesn't go into another: the longest list with which all of its lists begin is the path of a node.
-use Rattle.std.proofs.Common.{◌≡◌, ◌≢◌, ℕ, ◌+◌, ◌<◌, ◌^◌, ◌⊎◌, inl, inr, T, false, true, Option, Some, None, IsSome, is_some, option_map, map, List, [], ◌∷◌, ◌++◌, length, vec_len, refl, ap, sym, subst, ◌∙◌, append_assoc, arith}
+use Rattle.std.proofs.Common.{◌≡◌, ◌≢◌, ℕ, ◌<◌, ◌^◌, ◌⊎◌, inl, inr, T, false, true, Option, Some, None, IsSome, is_some, option_map, map, List, [], ◌∷◌, ◌++◌, length, vec_len, refl, ap, sym, subst, ◌∙◌, append_assoc, arith}
 use Rattle.std.specs.FinMap as fin
 use Rattle.masked_tree.specs.Edits.{IsOne, merged}
 use Rattle.masked_tree.specs.Paths.{IsChildAt, IsNodeAt, IsOccupied, IsPath}
@@ -16,10 +16,10 @@ use Rattle.radix_nodes.specs.Nodes.{tree_of}
 use Rattle.radix_nodes.specs.Pairs.{pair_of}
 use Rattle.radix_nodes.proofs.EditLemmas.Insertion.{length-firsts_of_boxes}
 use Rattle.radix_nodes.proofs.NodeLemmas.Nodes.{children-tree_of}
-use Rattle.radix_trie.specs.Refusals.{AllBegin, RefusesAppend}
+use Rattle.radix_trie.specs.Refusals.{AllBegin, RefusesGraft}
 use Rattle.radix_trie.specs.Roots.{IsKept, IsRoot, entries_of, map_of}
-use Rattle.radix_trie.specs.declared.error.AppendWhy.{AppendWhy}
-use Rattle.radix_trie.specs.declared.error.AppendWhy.TheVariants as appending
+use Rattle.radix_trie.specs.declared.error.GraftWhy.{GraftWhy}
+use Rattle.radix_trie.specs.declared.error.GraftWhy.TheVariants as grafting
 use Rattle.radix_trie.proofs.ChangeLemmas.Joined.{over}
 use Rattle.radix_trie.proofs.LawLemmas.Parts.{stored-part}
 use Rattle.radix_trie.proofs.PathLemmas.Places.{below-nil}
@@ -147,12 +147,12 @@ module _ {K V : Type 0} (m : PairMap K V) (p : List ℕ) where
       no_cons clash = cc
 
   -- the rest takes the part back, but for memory
-  pub part_goes_back : (why : AppendWhy) → fin.len m < 2 ^ 64 → RefusesAppend (without_below m p) (below m p) why → (fin.len (without_below m p) ≡ 0) ⊎ (why ≡ appending.Memory)
-  part_goes_back appending.Full few refused = absurd (let n = len-without_below p m in omega (arith, refused, n, few))
-  part_goes_back appending.Overlapping few refused =
+  pub part_goes_back : (why : GraftWhy) → fin.len m < 2 ^ 64 → RefusesGraft (without_below m p) (below m p) why → (fin.len (without_below m p) ≡ 0) ⊎ (why ≡ grafting.Memory)
+  part_goes_back grafting.Full few refused = absurd (let n = len-without_below p m in omega (arith, refused, n, few))
+  part_goes_back grafting.Overlapping few refused =
       let at = refused p (λ e stored. ((stored-part m p e).0 stored).0) in
       let whole : p ≡ [] = prefix_of_nil p (subst (IsPrefix p) (rest_point at.0 at.1 at.2) at.2) in
       let n = len-without_below p m in
       let b = ap fin.len (ap (below m) whole ∙ below-nil m) in
       inl (omega (arith, n, b))
-  part_goes_back appending.Memory few refused = inr refl
+  part_goes_back grafting.Memory few refused = inr refl

@@ -9,7 +9,7 @@ use Rattle.std.specs.declared.ops.Bound.TheVariants.{Included, Excluded, Unbound
 use Rattle.radix_trie.specs.declared.iter.side.Side.TheVariants as side
 use Rattle.radix_trie.specs.Limits.{AreLimits, BoundGoesOn, GoesOn, IsLimit}
 use Rattle.radix_trie.specs.Places.{IsPlace}
-use Rattle.radix_trie.specs.declared.view.place.within.Limits.{Limits}
+use Rattle.radix_trie.specs.declared.place.within.Limits.{Limits}
 use Rattle.nibble_map.specs.Maps.{PairMap}
 use Rattle.radix_nodes.specs.declared.trie_node.TrieNode.{TrieNode}
 use Rattle.radix_nodes.specs.Nodes.{fragment_of}

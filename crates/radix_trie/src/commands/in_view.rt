@@ -5,7 +5,7 @@ ghost use Rattle.radix_trie.specs.WriteViews.{map_behind, path_of, SameView};
 
 use crate::commands::{Reply, ViewCommand, take_values};
 use crate::error::{InsertError, InsertWhy, SubTrieError};
-use crate::view::place::begins;
+use crate::view::inside::begins;
 use crate::view::subtrie_mut::SubTrieMut;
 use radix_keys::TrieKey;
 

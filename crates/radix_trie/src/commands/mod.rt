@@ -7,8 +7,8 @@ ghost use Rattle.radix_trie.specs.Commands.{Step, Steps, values_below};
 mod in_view;
 
 use crate::error::{InsertError, InsertWhy, OpenError, SubTrieError};
+use crate::place::Place;
 use crate::trie::Trie;
-use crate::view::place::{Place, begins};
 use crate::view::subtrie_mut::SubTrieMut;
 use in_view::run_view;
 use radix_keys::{Memory, Nibblet, TrieKey};

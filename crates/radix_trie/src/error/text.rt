@@ -1,10 +1,10 @@
 //! What errors say of themselves. Each has its text by what it becomes as a `TrieError`.
 ghost use Rattle.std.specs.Prelude.{Some};
-ghost use Rattle.radix_trie.specs.Errors.{of_append, of_build, of_find, of_insert, of_json, of_open, of_try_insert, of_view, text_of};
+ghost use Rattle.radix_trie.specs.Errors.{of_graft, of_build, of_find, of_insert, of_json, of_merge, of_open, of_try_insert, of_view, text_of};
 
 use crate::error::{
-    AppendError, AppendWhy, BuildError, FindError, InsertError, InsertWhy, JsonError, OpenError,
-    SubTrieError, TrieError, TryInsertError, TryInsertWhy,
+    BuildError, FindError, GraftError, GraftWhy, InsertError, InsertWhy, JsonError, MergeError,
+    OpenError, SubTrieError, TrieError, TryInsertError, TryInsertWhy,
 };
 use radix_keys::TrieKey;
 use std::error::Error;
@@ -52,15 +52,15 @@ impl fmt::Display for TryInsertWhy {
 
 impl Error for TryInsertWhy {}
 
-impl fmt::Display for AppendWhy {
-    ghost output = { λ error. Some (text_of (of_append error)) };
+impl fmt::Display for GraftWhy {
+    ghost output = { λ error. Some (text_of (of_graft error)) };
 
     fn fmt<W: fmt::Write>(&self, f: &mut fmt::Formatter<W>) -> fmt::Result {
         fmt::Display::fmt(&TrieError::from(*self), f)
     }
 }
 
-impl Error for AppendWhy {}
+impl Error for GraftWhy {}
 
 impl fmt::Display for BuildError {
     ghost output = { λ error. Some (text_of (of_build error)) };
@@ -150,8 +150,8 @@ impl<K, V> fmt::Debug for TryInsertError<K, V> {
 
 impl<K: Drop, V: Drop> Error for TryInsertError<K, V> {}
 
-impl<K: TrieKey, V> fmt::Display for AppendError<K, V> {
-    ghost output = { λ refused. Some (text_of (of_append refused.why)) };
+impl<K: TrieKey, V> fmt::Display for GraftError<K, V> {
+    ghost output = { λ refused. Some (text_of (of_graft refused.why)) };
 
     fn fmt<W: fmt::Write>(&self, f: &mut fmt::Formatter<W>) -> fmt::Result {
         fmt::Display::fmt(&self.why, f)
@@ -159,12 +159,34 @@ impl<K: TrieKey, V> fmt::Display for AppendError<K, V> {
 }
 
 /// As `Display`: keys and values may be of types that write nothing.
-impl<K: TrieKey, V> fmt::Debug for AppendError<K, V> {
-    ghost debug_output = { λ refused. Some (text_of (of_append refused.why)) };
+impl<K: TrieKey, V> fmt::Debug for GraftError<K, V> {
+    ghost debug_output = { λ refused. Some (text_of (of_graft refused.why)) };
 
     fn fmt<W: fmt::Write>(&self, f: &mut fmt::Formatter<W>) -> fmt::Result {
         fmt::Display::fmt(self, f)
     }
 }
 
-impl<K: TrieKey + Drop, V: Drop> Error for AppendError<K, V> {}
+impl<K: TrieKey + Drop, V: Drop> Error for GraftError<K, V> {}
+
+impl<K: TrieKey, V> fmt::Display for MergeError<K, V> {
+    ghost output = { λ refused. Some (text_of (of_merge refused)) };
+
+    fn fmt<W: fmt::Write>(&self, f: &mut fmt::Formatter<W>) -> fmt::Result {
+        match self {
+            MergeError::Unlisted(_) => fmt::Display::fmt(&TrieError::Memory, f),
+            MergeError::Stopped(error, _) => fmt::Display::fmt(&error.why, f),
+        }
+    }
+}
+
+/// As `Display`: keys and values may be of types that write nothing.
+impl<K: TrieKey, V> fmt::Debug for MergeError<K, V> {
+    ghost debug_output = { λ refused. Some (text_of (of_merge refused)) };
+
+    fn fmt<W: fmt::Write>(&self, f: &mut fmt::Formatter<W>) -> fmt::Result {
+        fmt::Display::fmt(self, f)
+    }
+}
+
+impl<K: TrieKey + Drop, V: Drop> Error for MergeError<K, V> {}

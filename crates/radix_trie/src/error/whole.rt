@@ -1,11 +1,11 @@
 //! One error for all calls, so that `?` serves in a function that makes several.
 ghost use Rattle.std.specs.Prelude.{◌≡◌};
 ghost use Rattle.radix_trie.specs.declared.error.whole.TrieError.TheVariants.{Memory as memory};
-ghost use Rattle.radix_trie.specs.Errors.{of_append, of_build, of_bytes, of_find, of_insert, of_json, of_open, of_parts, of_try_insert, of_view};
+ghost use Rattle.radix_trie.specs.Errors.{of_graft, of_build, of_bytes, of_find, of_insert, of_json, of_merge, of_open, of_parts, of_try_insert, of_view};
 
 use crate::error::{
-    AppendError, AppendWhy, BuildError, FindError, InsertError, InsertWhy, JsonError, OpenError,
-    SubTrieError, TryInsertError, TryInsertWhy,
+    BuildError, FindError, GraftError, GraftWhy, InsertError, InsertWhy, JsonError, MergeError,
+    OpenError, SubTrieError, TryInsertError, TryInsertWhy,
 };
 use radix_keys::{BytesError, Memory, PartsError, TrieKey};
 use std::alloc::AllocError;
@@ -21,7 +21,7 @@ pub enum TrieError {
     Outside,
     /// A pair is stored at the key's encoding.
     Occupied,
-    /// A point stands where a trie was to be hung in.
+    /// A point stands where a trie was to be grafted.
     Overlapping,
     /// No value is stored at the key's encoding.
     Absent,
@@ -95,24 +95,36 @@ impl<K: Drop, V: Drop> From<TryInsertError<K, V>> for TrieError {
     }
 }
 
-impl From<AppendWhy> for TrieError {
-    ghost from_gives = { λ why e. e ≡ of_append why };
+impl From<GraftWhy> for TrieError {
+    ghost from_gives = { λ why e. e ≡ of_graft why };
 
-    fn from(why: AppendWhy) -> TrieError {
+    fn from(why: GraftWhy) -> TrieError {
         match why {
-            AppendWhy::Memory => TrieError::Memory,
-            AppendWhy::Full => TrieError::Full,
-            AppendWhy::Overlapping => TrieError::Overlapping,
+            GraftWhy::Memory => TrieError::Memory,
+            GraftWhy::Full => TrieError::Full,
+            GraftWhy::Overlapping => TrieError::Overlapping,
         }
     }
 }
 
 /// The trie that was passed is dropped.
-impl<K: TrieKey + Drop, V: Drop> From<AppendError<K, V>> for TrieError {
-    ghost from_gives = { λ error e. e ≡ of_append error.why };
+impl<K: TrieKey + Drop, V: Drop> From<GraftError<K, V>> for TrieError {
+    ghost from_gives = { λ error e. e ≡ of_graft error.why };
 
-    fn from(error: AppendError<K, V>) -> TrieError {
+    fn from(error: GraftError<K, V>) -> TrieError {
         TrieError::from(error.why)
+    }
+}
+
+/// What was passed is dropped.
+impl<K: TrieKey + Drop, V: Drop> From<MergeError<K, V>> for TrieError {
+    ghost from_gives = { λ error e. e ≡ of_merge error };
+
+    fn from(error: MergeError<K, V>) -> TrieError {
+        match error {
+            MergeError::Unlisted(_) => TrieError::Memory,
+            MergeError::Stopped(error, _) => TrieError::from(error.why),
+        }
     }
 }
 

@@ -1,7 +1,6 @@
 //! Walks over the pairs of a trie, in the order of the encodings.
 
 mod back;
-mod children;
 mod cursor;
 mod ends;
 mod halves;
@@ -12,8 +11,8 @@ mod side;
 mod span;
 mod walk;
 
+pub use crate::view::children::Children;
 pub use back::CursorBack;
-pub use children::Children;
 pub use cursor::Cursor;
 pub(crate) use ends::{first_pair, last_pair};
 pub use halves::{Keys, Values};

@@ -1,12 +1,14 @@
 //! Tries built from pairs.
-ghost use Rattle.std.specs.Prelude.{◌≡◌, ◌≢◌, ⊤, IfOk, IfErr, OnOk};
+ghost use Rattle.std.specs.FinMap as map;
+ghost use Rattle.std.specs.Prelude.{◌≡◌, ◌≢◌, ⊤, [], IsOk, IfOk, IfErr, OnOk};
 ghost use Rattle.std.specs.Iterator.{IsFinite};
 ghost use Rattle.std.specs.Iterator.Runs.{SomeRun, WholeRun};
-ghost use Rattle.radix_trie.specs.Building.{IsRefusedAtLast, IsStoppedAt, pairs_in_order, why_of, with_pairs};
+ghost use Rattle.radix_trie.specs.Building.{IsPartlyMerged, IsRefusedAtLast, IsStoppedAt, pairs_in_order, why_of, with_pairs};
 ghost use Rattle.radix_trie.specs.Keys.{IsKeyed};
 ghost use Rattle.radix_trie.specs.Refusals.{RefusesInsert};
+ghost use Rattle.radix_trie.specs.Views.{pairs_below};
 
-use crate::error::{BuildError, InsertError, InsertWhy};
+use crate::error::{BuildError, InsertError, InsertWhy, MergeError};
 use crate::trie::Trie;
 use radix_keys::TrieKey;
 use std::alloc::Global;
@@ -71,6 +73,36 @@ impl<K: TrieKey + Drop, V: Drop> Trie<K, V> {
         for (key, value) in iter {
             if let Err(error) = self.insert(key, value) {
                 return Err(error);
+            }
+        }
+        Ok(())
+    }
+
+    /// Moves all pairs of another trie here, in the order of their encodings: where both have a pair
+    /// at an encoding, that of the other trie stays, with its key. Where they don't overlap, `graft`
+    /// takes the time of one way down.
+    ///
+    /// # Errors
+    ///
+    /// Memory for the list of the other trie's pairs, before anything changes; and those of `insert`,
+    /// for one of these pairs. Those before it are stored then, and no pair is lost.
+    pub fn merge(&mut self, other: Trie<K, V>) -> Result<(), MergeError<K, V>>
+        ensures merged { OnOk result
+            (self.new ≡ with_pairs K.encoding self.old (pairs_below other [])) }
+        ensures stopped { IfErr result
+            (λ e. IsPartlyMerged K.encoding K.is_light self.old other self.new e) }
+        ensures keyed { IsKeyed K.encoding K.is_value self.old
+            → IsKeyed K.encoding K.is_value self.new }
+        ensures none { map.len other ≡ 0 → IsOk result }
+    {
+        let pairs = match other.into_pairs() {
+            Ok(pairs) => pairs,
+            Err(other) => return Err(MergeError::Unlisted(other)),
+        };
+        let mut rest = pairs.into_iter();
+        while let Some((key, value)) = rest.next() {
+            if let Err(error) = self.insert(key, value) {
+                return Err(MergeError::Stopped(error, rest));
             }
         }
         Ok(())

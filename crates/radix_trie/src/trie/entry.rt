@@ -10,8 +10,8 @@ ghost use Rattle.radix_trie.specs.Refusals.{IsFullAt, JoinsAreShort, RefusesInse
 mod error;
 
 use crate::error::InsertError;
+use crate::place::PathList;
 use crate::trie::Trie;
-use crate::view::subtrie_mut::PathList;
 pub use error::EntryError;
 use radix_keys::{Memory, Nibblet, TrieKey};
 use radix_nodes::trie_node::KeyValue;

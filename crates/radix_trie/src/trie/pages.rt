@@ -6,8 +6,8 @@ ghost use Rattle.radix_trie.specs.Views.{pairs_after, pairs_below};
 ghost use Rattle.radix_trie.specs.Walks.{deref_pairs};
 
 use crate::iter::{Cursor, first_pairs};
+use crate::place::{Limits, Place};
 use crate::trie::Trie;
-use crate::view::place::{Limits, Place};
 use radix_keys::{Memory, Nibblet, TrieKey};
 use std::ops::Bound;
 

@@ -4,8 +4,8 @@ ghost use Rattle.std.specs.FinMap as map;
 ghost use Rattle.nibble_map.specs.Maps.{below, without_below};
 ghost use Rattle.radix_trie.specs.Views.{pairs_below};
 
+use crate::place::Place;
 use crate::trie::Trie;
-use crate::view::place::Place;
 use radix_keys::{Memory, Nibblet, TrieKey};
 use radix_nodes::removal::prune::{prune_all, prune_root};
 

@@ -1,103 +1,15 @@
-//! Queries of a trie: the views at points, and at the nearest points to a key, and what stands below and above one.
-ghost use Rattle.std.specs.Prelude.{◌≡◌, ◌≤◌, ℕ, List, [], Some, IsOk, IfOk, IfSome, MatchOption, length, option_copied, option_map, take};
+//! Queries of a trie that make no view: what stands above and below a key's place.
+ghost use Rattle.std.specs.Prelude.{◌≡◌, IsOk, IfOk, option_copied};
 ghost use Rattle.std.specs.FinMap as map;
-ghost use Rattle.nibble_map.specs.Lists.{Each};
-ghost use Rattle.nibble_map.specs.MapQueries.{AreChildren, IsAncestor, IsChild, IsRawAncestor, IsRawDescendant};
-ghost use Rattle.nibble_map.specs.Maps.{IsPoint, below};
-ghost use Rattle.nibble_map.specs.Nibbles.{IsShort};
-ghost use Rattle.radix_nodes.specs.Nodes.{tree_of};
-ghost use Rattle.radix_trie.specs.Places.{IsNodeOf};
-ghost use Rattle.radix_trie.specs.Views.{IsValueAbove, pairs_above, paths_of};
+ghost use Rattle.nibble_map.specs.Maps.{below};
+ghost use Rattle.radix_trie.specs.Views.{IsValueAbove, pairs_above};
 
-use crate::iter::{Children, CommonPrefixes};
+use crate::iter::CommonPrefixes;
+use crate::place::Place;
 use crate::trie::Trie;
-use crate::view::place::Place;
-use crate::view::subtrie::SubTrie;
-use radix_keys::{Memory, Nibblet, TrieKey};
-use radix_nodes::search::queries::{deepest, deepest_pair};
-use radix_nodes::trie_node::TrieNode;
+use radix_keys::{Memory, TrieKey};
 
 impl<K: TrieKey, V> Trie<K, V> {
-    /// The view at the key's encoding, or None where no point stands there.
-    ///
-    /// # Errors
-    ///
-    /// Memory for the path is refused, which a light key never meets.
-    pub fn subtrie<Q: TrieKey>(&self, key: &Q) -> Result<Option<SubTrie<'_, K, V>>, Memory>
-        ensures point { IfOk result
-            (λ o. MatchOption o (IsPoint self.now (Q.encoding key.now) → ⊥)
-            (λ _. IsPoint self.now (Q.encoding key.now))) }
-        ensures path { IfOk result (λ o. IfSome o (λ view. view.path ≡ Q.encoding key.now)) }
-        ensures same_map { IfOk result (λ o. IfSome o (λ view. view.map ≡ self.now)) }
-        ensures light { Q.is_light key.now → IsOk result }
-    {
-        let path = key.encode(self.allocator())?;
-        let Some(node) = self.node_at(&path) else {
-            return Ok(None);
-        };
-        Ok(Some(SubTrie::new(self, node, path)))
-    }
-
-    /// The view at the longest stored list that is a prefix of the key's encoding, or None where
-    /// there is none.
-    ///
-    /// # Errors
-    ///
-    /// Memory for the encoding is refused, which a light key never meets. The view's path is the
-    /// encoding cut short.
-    ///
-    /// # Examples
-    ///
-    /// `route` in `crates/trie_examples/src/answers.rt` finds the longest network that holds an
-    /// address.
-    pub fn get_ancestor<Q: TrieKey>(&self, key: &Q) -> Result<Option<SubTrie<'_, K, V>>, Memory>
-        ensures nearest { IfOk result
-            (λ o. IsAncestor self.now (Q.encoding key.now) (option_map (λ view. view.path) o)) }
-        ensures same_map { IfOk result (λ o. IfSome o (λ view. view.map ≡ self.now)) }
-        ensures light { Q.is_light key.now → IsOk result }
-    {
-        let list = key.encode(self.allocator())?;
-        let Some((node, depth)) = deepest_pair(self.root(), &list, 0) else {
-            return Ok(None);
-        };
-        Ok(Some(self.view_within(node, list, depth)))
-    }
-
-    /// The view at the longest point that is a prefix of the key's encoding. There is always one,
-    /// the empty list at least.
-    ///
-    /// # Errors
-    ///
-    /// Memory for the encoding is refused, which a light key never meets. The view's path is the
-    /// encoding cut short.
-    pub fn get_raw_ancestor<Q: TrieKey>(&self, key: &Q) -> Result<SubTrie<'_, K, V>, Memory>
-        ensures nearest { IfOk result
-            (λ view. IsRawAncestor self.now (Q.encoding key.now) view.path) }
-        ensures same_map { IfOk result (λ view. view.map ≡ self.now) }
-        ensures light { Q.is_light key.now → IsOk result }
-    {
-        let list = key.encode(self.allocator())?;
-        let (node, depth) = deepest(self.root(), &list, 0);
-        Ok(self.view_within(node, list, depth))
-    }
-
-    /// The view at the node that stands after the first nibbles of a list, so many of them.
-    fn view_within<'a>(
-        &'a self,
-        node: &'a TrieNode<K, V>,
-        list: Nibblet,
-        depth: usize,
-    ) -> SubTrie<'a, K, V>
-        requires within { depth ≤ length list }
-        requires node { IsNodeOf K.encoding self.now (take depth list) (tree_of node.now) }
-        ensures path { result.path ≡ take depth list }
-        ensures same_map { result.map ≡ self.now }
-    {
-        let mut path = list;
-        path.truncate(depth);
-        SubTrie::new(self, node, path)
-    }
-
     /// The value of the longest stored list that is a prefix of the key's encoding, or None where
     /// there is none.
     ///
@@ -116,34 +28,6 @@ impl<K: TrieKey, V> Trie<K, V> {
     {
         let list = key.encode(self.allocator())?;
         Ok(self.nearest_value(&list))
-    }
-
-    /// The view at the shortest point that the key's encoding is a prefix of, or None where there
-    /// is none.
-    ///
-    /// # Errors
-    ///
-    /// Memory for the encoding and the view's path is refused. That never comes where the key is
-    /// light and the result is None or its path has at most 32 nibbles.
-    ///
-    /// # Examples
-    ///
-    /// `completions` in `crates/trie_examples/src/uses.rt` finds the words with a beginning.
-    pub fn get_raw_descendant<Q: TrieKey>(
-        &self,
-        key: &Q,
-    ) -> Result<Option<SubTrie<'_, K, V>>, Memory>
-        ensures nearest { IfOk result
-            (λ o. IsRawDescendant self.now (Q.encoding key.now)
-            (option_map (λ view. view.path) o)) }
-        ensures same_map { IfOk result (λ o. IfSome o (λ view. view.map ≡ self.now)) }
-        ensures short { Q.is_light key.now
-            → ((p : List ℕ) → IsRawDescendant self.now (Q.encoding key.now) (Some p)
-            → IsShort p)
-            → IsOk result }
-    {
-        let list = key.encode(self.allocator())?;
-        Place::find(self, &list).nearest(self, &list)
     }
 
     /// The count of pairs at and below the key's place. They are counted, so the time grows with
@@ -180,20 +64,5 @@ impl<K: TrieKey, V> Trie<K, V> {
     {
         let list = key.encode(self.allocator())?;
         Ok(CommonPrefixes::new(self.root(), list))
-    }
-
-    /// For each nibble in rising order, the view at the shortest point that begins with it, with
-    /// its whole path.
-    ///
-    /// # Errors
-    ///
-    /// Memory for the paths is refused. That never comes where each of them has at most 32 nibbles.
-    pub fn children(&self) -> Result<Children<'_, K, V>, Memory>
-        ensures children { IfOk result (λ children. AreChildren self.now [] (paths_of children)) }
-        ensures same_map { IfOk result (λ children. Each (λ c. c.map ≡ self.now) children) }
-        ensures short { ((q : List ℕ) → IsChild self.now [] q → IsShort q) → IsOk result }
-    {
-        let top = self.top();
-        Place::find(self, top).children(self, top)
     }
 }

@@ -7,8 +7,8 @@ ghost use Rattle.radix_trie.specs.Retains.{RemovesAll, RemovesBeforeOne, Removes
 ghost use Rattle.radix_trie.specs.Views.{pairs_below};
 
 use crate::key_laws::keys_stand_at_their_encodings;
+use crate::place::Place;
 use crate::trie::Trie;
-use crate::view::place::Place;
 use radix_keys::{Memory, Nibblet, TrieKey};
 
 impl<K: TrieKey + Drop, V: Drop> Trie<K, V> {

@@ -3,8 +3,8 @@ ghost use Rattle.std.specs.Prelude.{[], ◌≡◌, ◌<◌, length, None, IsOk, 
 ghost use Rattle.std.specs.FinMap as map;
 ghost use Rattle.nibble_map.specs.Maps.{below, without_below};
 
+use crate::place::Place;
 use crate::trie::Trie;
-use crate::view::place::Place;
 use radix_keys::{Memory, Nibblet, TrieKey};
 use radix_nodes::insertion::attach::make_upper;
 use radix_nodes::removal::cut_branch::cut_branch;
@@ -51,9 +51,8 @@ impl<K: TrieKey + Drop, V: Drop> Trie<K, V> {
         ensures unchanged { OnErr result (self.new ≡ self.old) }
         ensures none { map.len (below self.old list.now) ≡ 0 → IsOk result }
     {
-        let path = match Place::find(&*self, list).nearest(&*self, list)? {
-            Some(view) => view.into_path(),
-            None => return Ok(Trie::new(self.alloc)),
+        let Some((_, path)) = Place::find(&*self, list).nearest(list)? else {
+            return Ok(Trie::new(self.alloc));
         };
         let upper = make_upper(self.alloc, Nibblet::new(self.alloc), &path)?;
         match cut_branch(&mut self.root, list) {

@@ -1,9 +1,8 @@
 //! Changes of all values, and of those below a key.
 ghost use Rattle.std.specs.Prelude.{◌≡◌, [], All, IsOk, OnErr, OnOk};
-ghost use Rattle.std.specs.Fn.{FnOnceReturnsAtMut, FnOnceTakesAtMut};
 ghost use Rattle.nibble_map.specs.Maps.{below, without_below};
 ghost use Rattle.radix_trie.specs.Keys.{IsKeyed};
-ghost use Rattle.radix_trie.specs.Values.{ChangesEachPair, ChangesEachValue, LeavesAtPair, TakesPairAtMut};
+ghost use Rattle.radix_trie.specs.Values.{ChangesEachPair, LeavesAtPair, TakesPairAtMut};
 ghost use Rattle.radix_trie.specs.Views.{pairs_below};
 
 use crate::trie::Trie;
@@ -56,54 +55,6 @@ impl<K: TrieKey, V> Trie<K, V> {
         Ok(())
     }
 
-    /// Changes each value by one call of the closure, as `for_each_mut` does.
-    ///
-    /// The closure has to be callable on each stored value.
-    ///
-    /// # Examples
-    ///
-    /// `each_value_is_doubled` in `crates/trie_tests/src/further/changed.rt`.
-    pub fn for_each_value_mut<F: Fn(&mut V)>(&mut self, f: F)
-        requires callable { All (λ p. FnOnceTakesAtMut F.FnOnce f p.1) (pairs_below self.old []) }
-        ensures changed { ChangesEachValue (λ v w. FnOnceReturnsAtMut F.FnOnce f v tt w)
-            self.old self.new }
-        ensures keyed { IsKeyed K.encoding K.is_value self.old
-            → IsKeyed K.encoding K.is_value self.new }
-    {
-        let whole = Nibblet::new(self.alloc);
-        self.change_values_below(&whole, &f);
-    }
-
-    /// Changes each value at and below the key's place by one call of the closure, as
-    /// `for_each_mut_below` does.
-    ///
-    /// The closure has to be callable on each of these values.
-    ///
-    /// # Errors
-    ///
-    /// Those of `for_each_mut_below`.
-    pub fn for_each_value_mut_below<Q: TrieKey, F: Fn(&mut V)>(
-        &mut self,
-        key: &Q,
-        f: F,
-    ) -> Result<(), Memory>
-        requires callable { All (λ p. FnOnceTakesAtMut F.FnOnce f p.1)
-            (pairs_below self.old (Q.encoding key.now)) }
-        ensures changed { OnOk result
-            (ChangesEachValue (λ v w. FnOnceReturnsAtMut F.FnOnce f v tt w)
-            (below self.old (Q.encoding key.now)) (below self.new (Q.encoding key.now))) }
-        ensures elsewhere { without_below self.new (Q.encoding key.now)
-            ≡ without_below self.old (Q.encoding key.now) }
-        ensures unchanged { OnErr result (self.new ≡ self.old) }
-        ensures keyed { IsKeyed K.encoding K.is_value self.old
-            → IsKeyed K.encoding K.is_value self.new }
-        ensures light { Q.is_light key.now → IsOk result }
-    {
-        let list = key.encode(self.alloc)?;
-        self.change_values_below(&list, &f);
-        Ok(())
-    }
-
     /// What `for_each_mut_below` does, with the key's encoding in hand.
     pub(crate) fn change_below<F: Fn(&K, &mut V)>(&mut self, list: &Nibblet, f: &F)
         requires callable { All (TakesPairAtMut F.Fn f.now) (pairs_below self.old list.now) }
@@ -116,22 +67,5 @@ impl<K: TrieKey, V> Trie<K, V> {
         } else {
             change_branch(&mut self.root, list, 0, f);
         }
-    }
-
-    /// What `for_each_value_mut_below` does, with the key's encoding in hand.
-    pub(crate) fn change_values_below<F: Fn(&mut V)>(&mut self, list: &Nibblet, f: &F)
-        requires callable { All (λ p. FnOnceTakesAtMut F.FnOnce f.now p.1)
-            (pairs_below self.old list.now) }
-        ensures changed { ChangesEachValue (λ v w. FnOnceReturnsAtMut F.FnOnce f.now v tt w)
-            (below self.old list.now) (below self.new list.now) }
-        ensures elsewhere { without_below self.new list.now ≡ without_below self.old list.now }
-    {
-        let change = |_: &K, value: &mut V|
-            requires { FnOnceTakesAtMut F.FnOnce f.now value.old }
-            ensures { FnOnceReturnsAtMut F.FnOnce f.entry.now value.old tt value.new }
-        {
-            f(value);
-        };
-        self.change_below(list, &change);
     }
 }

@@ -1,14 +1,15 @@
 //! What stands at a path of a trie.
 ghost use Rattle.std.specs.Prelude.{◌≡◌, [], ℕ, List};
+ghost use Rattle.std.specs.FinMap as finite;
 ghost use Rattle.nibble_map.specs.MapQueries.{IsFragment};
-ghost use Rattle.nibble_map.specs.Maps.{PairMap};
+ghost use Rattle.nibble_map.specs.Maps.{PairMap, below};
 ghost use Rattle.radix_trie.specs.Places.{IsPlaceIn};
 ghost use Rattle.radix_trie.specs.WriteViews.{kept_path, kept_prefix, map_behind, path_of, prefix_of};
 
+use crate::place::{PathList, Place};
 use crate::trie::Trie;
-use crate::view::place::Place;
 use crate::view::subtrie::SubTrie;
-use crate::view::subtrie_mut::{PathList, SubTrieMut};
+use crate::view::subtrie_mut::SubTrieMut;
 use radix_keys::{Nibblet, TrieKey};
 use std::alloc::Global;
 
@@ -26,6 +27,10 @@ pub(crate) trait At<'a, K: TrieKey + 'a, V: 'a>: Sized + Drop {
     /// The place of the path.
     fn place(self) -> Place<'a, K, V>
         ensures { IsPlaceIn K.encoding (map self) (path self) result };
+
+    /// The count of pairs at and below the path. They are counted, but those of a whole trie.
+    fn count(self) -> usize
+        ensures { result ≡ finite.len (below (map self) (path self)) };
 
     /// The path.
     fn path(&self) -> &Nibblet
@@ -48,6 +53,10 @@ impl<'a, K: TrieKey, V> At<'a, K, V> for &'a Trie<K, V> {
 
     fn place(self) -> Place<'a, K, V> {
         Place::at(self, self.root(), self.top())
+    }
+
+    fn count(self) -> usize {
+        Trie::len(self)
     }
 
     fn path(&self) -> &Nibblet {
@@ -74,6 +83,10 @@ impl<'a, 'b, K: TrieKey, V> At<'a, K, V> for &'b SubTrie<'a, K, V> {
         SubTrie::place(self)
     }
 
+    fn count(self) -> usize {
+        SubTrie::place(self).len()
+    }
+
     fn path(&self) -> &Nibblet {
         SubTrie::path(self)
     }
@@ -96,6 +109,10 @@ impl<'a, 'b, K: TrieKey, V> At<'b, K, V> for &'b SubTrieMut<'a, K, V> {
 
     fn place(self) -> Place<'b, K, V> {
         SubTrieMut::place(self)
+    }
+
+    fn count(self) -> usize {
+        SubTrieMut::place(self).len()
     }
 
     fn path(&self) -> &Nibblet {
@@ -123,6 +140,10 @@ impl<'a, K: TrieKey, V, P: PathList> At<'a, K, V> for SubTrieMut<'a, K, V, P> {
     fn place(self) -> Place<'a, K, V> {
         let (trie, path) = self.into_parts();
         Place::find(trie, path.nibbles())
+    }
+
+    fn count(self) -> usize {
+        At::place(self).len()
     }
 
     fn path(&self) -> &Nibblet {

@@ -9,7 +9,7 @@ ghost use Rattle.radix_trie.specs.WriteViews.{map_behind, path_of, SameView};
 
 use crate::error::{InsertError, InsertWhy, SubTrieError, SubTrieResult};
 use crate::trie::edit::{encoding_of, refused};
-use crate::view::place::begins;
+use crate::view::inside::{begins, inside};
 use crate::view::subtrie_mut::SubTrieMut;
 use radix_keys::TrieKey;
 use radix_nodes::trie_node::KeyValue;
@@ -69,7 +69,7 @@ impl<'a, K: TrieKey + Drop, V: Drop> SubTrieMut<'a, K, V> {
             RefusesBelow (map_behind self.old) (Q.encoding key.now)
             (IsPrefix (path_of self.old) (Q.encoding key.now)) (Q.is_light key.now) e) }
     {
-        let list = self.inside(key)?;
+        let list = inside(&self.path, key, self.trie.allocator())?;
         Ok(self.trie.prune_at(&list)?)
     }
 
@@ -92,7 +92,7 @@ impl<'a, K: TrieKey + Drop, V: Drop> SubTrieMut<'a, K, V> {
             RefusesRemove (map_behind self.old) (Q.encoding key.now)
             (IsPrefix (path_of self.old) (Q.encoding key.now)) (Q.is_light key.now) e) }
     {
-        let list = self.inside(key)?;
+        let list = inside(&self.path, key, self.trie.allocator())?;
         match self.trie.take_at(&list) {
             Ok(old) => Ok(old),
             Err(_) => Err(SubTrieError::Memory),

@@ -1,7 +1,10 @@
 //! Views: a trie, and a path in it.
 mod at;
+pub(crate) mod children;
 mod edit;
-pub(crate) mod place;
+pub(crate) mod inside;
+mod opens;
+mod queries;
 mod retain;
 mod shown;
 pub(crate) mod subtrie;

@@ -1,7 +1,7 @@
 //! How a trie and its views are written for a reader of logs: as a map, its pairs in the order of their encodings.
 
+use crate::place::Place;
 use crate::trie::Trie;
-use crate::view::place::Place;
 use crate::view::subtrie::SubTrie;
 use crate::view::subtrie_mut::SubTrieMut;
 use radix_keys::TrieKey;

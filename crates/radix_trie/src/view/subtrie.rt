@@ -12,9 +12,10 @@ ghost use Rattle.radix_trie.specs.Views.{pairs_below, paths_of};
 ghost use Rattle.radix_trie.specs.Walks.{deref_pairs};
 
 use crate::error::{SubTrieError, SubTrieResult};
-use crate::iter::Children;
+use crate::place::Place;
 use crate::trie::Trie;
-use crate::view::place::{Place, begins};
+use crate::view::children::Children;
+use crate::view::inside::inside;
 use radix_keys::{Memory, Nibblet, TrieKey};
 use radix_nodes::search::find::find;
 use radix_nodes::trie_node::{KeyValue, TrieNode};
@@ -63,35 +64,11 @@ impl<'a, K: TrieKey, V> SubTrie<'a, K, V> {
         SubTrie { trie, node, path }
     }
 
-    /// The view's path.
-    pub(crate) fn into_path(self) -> Nibblet
-        ensures { result ≡ self.entry.path }
-    {
-        let SubTrie { path, .. } = self;
-        path
-    }
-
     /// The whole path, of which the last part is the view's fragment.
     pub fn path(&self) -> &Nibblet
         ensures { result.now ≡ self.now.path }
     {
         &self.path
-    }
-
-    /// The key's encoding, where the path is a prefix of it.
-    fn inside<Q: TrieKey>(&self, key: &Q) -> Result<Nibblet, SubTrieError>
-        ensures list { IfOk result (λ list. list ≡ Q.encoding key.now) }
-        ensures inside { OnOk result (IsPrefix self.now.path (Q.encoding key.now)) }
-        ensures outside { result ≡ Err SubTrieError.Outside
-            → IsPrefix self.now.path (Q.encoding key.now) → ⊥ }
-        ensures light { Q.is_light key.now → result ≢ Err SubTrieError.Memory }
-    {
-        let list = key.encode(self.trie.allocator())?;
-        if begins(&self.path, &list) {
-            Ok(list)
-        } else {
-            Err(SubTrieError::Outside)
-        }
     }
 
     /// The value that is stored at the key's encoding, if there is one.
@@ -108,7 +85,7 @@ impl<'a, K: TrieKey, V> SubTrie<'a, K, V> {
             → IsPrefix self.now.path (Q.encoding key.now) → ⊥ }
         ensures light { Q.is_light key.now → result ≢ Err SubTrieError.Memory }
     {
-        let list = self.inside(key)?;
+        let list = inside(&self.path, key, self.trie.allocator())?;
         match self.pair_at(&list) {
             Some(pair) => Ok(Some(&pair.value)),
             None => Ok(None),
@@ -143,7 +120,7 @@ impl<'a, K: TrieKey, V> SubTrie<'a, K, V> {
             → IsPrefix self.now.path (Q.encoding key.now) → ⊥ }
         ensures light { Q.is_light key.now → result ≢ Err SubTrieError.Memory }
     {
-        let path = self.inside(key)?;
+        let path = inside(&self.path, key, self.trie.allocator())?;
         match self.trie.node_at(&path) {
             Some(node) => Ok(Some(SubTrie::new(self.trie, node, path))),
             None => Ok(None),
@@ -164,7 +141,7 @@ impl<'a, K: TrieKey, V> SubTrie<'a, K, V> {
             → IsPrefix self.now.path (Q.encoding key.now) → ⊥ }
         ensures light { Q.is_light key.now → result ≢ Err SubTrieError.Memory }
     {
-        let list = self.inside(key)?;
+        let list = inside(&self.path, key, self.trie.allocator())?;
         Ok(Place::find(self.trie, &list).len())
     }
 
@@ -190,7 +167,7 @@ impl<'a, K: TrieKey, V> SubTrie<'a, K, V> {
             → map.len (below self.now.map (Q.encoding key.now)) ≡ 0
             → result ≢ Err SubTrieError.Memory }
     {
-        let list = self.inside(key)?;
+        let list = inside(&self.path, key, self.trie.allocator())?;
         Ok(self.trie.page_below(&list, most)?)
     }
 

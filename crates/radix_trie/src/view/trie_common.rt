@@ -9,8 +9,8 @@ ghost use Rattle.radix_trie.specs.Views.{IsLightBound, encoded_bound, pairs_belo
 ghost use Rattle.radix_trie.specs.Walks.{HasFullRows, deref_pair, left_rows, stacked};
 
 use crate::iter::{Cursor, CursorBack, Iter, Keys, Rest, Values, key_of, parts_of, value_of};
+use crate::place::{Limits, encoded};
 use crate::view::at::At;
-use crate::view::place::{Limits, encoded};
 use radix_keys::{Memory, Nibblet, TrieKey};
 use std::ops::RangeBounds;
 
@@ -37,7 +37,8 @@ pub trait TrieCommon<'a, K: TrieKey + 'a, V: 'a>: Sized {
     fn value(self) -> Option<&'a V>
         ensures { option_copied result ≡ value_at (map self) (path self) };
 
-    /// The count of pairs at and below the path. They are counted, so the time grows with their number.
+    /// The count of pairs at and below the path. A trie knows its own; a view's are counted, so the time grows with their
+    /// number.
     fn len(self) -> usize
         ensures { result ≡ finite.len (below (map self) (path self)) };
 
@@ -203,7 +204,7 @@ impl<'a, K: TrieKey + 'a, V: 'a, T: At<'a, K, V>> TrieCommon<'a, K, V> for T {
     }
 
     fn len(self) -> usize {
-        self.place().len()
+        self.count()
     }
 
     fn is_empty(self) -> bool {

@@ -1,9 +1,8 @@
 //! Changes of all values within a view.
 ghost use Rattle.std.specs.Prelude.{◌≡◌, All};
-ghost use Rattle.std.specs.Fn.{FnOnceReturnsAtMut, FnOnceTakesAtMut};
 ghost use Rattle.nibble_map.specs.Maps.{below, without_below};
 ghost use Rattle.radix_trie.specs.Keys.{IsKeyed};
-ghost use Rattle.radix_trie.specs.Values.{ChangesEachPair, ChangesEachValue, LeavesAtPair, TakesPairAtMut};
+ghost use Rattle.radix_trie.specs.Values.{ChangesEachPair, LeavesAtPair, TakesPairAtMut};
 ghost use Rattle.radix_trie.specs.Views.{pairs_below};
 ghost use Rattle.radix_trie.specs.WriteViews.{map_behind, path_of, SameView};
 
@@ -28,23 +27,5 @@ impl<'a, K: TrieKey, V> SubTrieMut<'a, K, V> {
             → IsKeyed K.encoding K.is_value (map_behind self.new) }
     {
         self.trie.change_below(&self.path, &f);
-    }
-
-    /// Changes each value at and below the path by one call of the closure, as `for_each_mut` does.
-    ///
-    /// The closure has to be callable on each of these values.
-    pub fn for_each_value_mut<F: Fn(&mut V)>(&mut self, f: F)
-        requires callable { All (λ p. FnOnceTakesAtMut F.FnOnce f p.1)
-            (pairs_below (map_behind self.old) (path_of self.old)) }
-        ensures same_view { SameView self.old self.new }
-        ensures changed { ChangesEachValue (λ v w. FnOnceReturnsAtMut F.FnOnce f v tt w)
-            (below (map_behind self.old) (path_of self.old))
-            (below (map_behind self.new) (path_of self.old)) }
-        ensures elsewhere { without_below (map_behind self.new) (path_of self.old)
-            ≡ without_below (map_behind self.old) (path_of self.old) }
-        ensures keyed { IsKeyed K.encoding K.is_value (map_behind self.old)
-            → IsKeyed K.encoding K.is_value (map_behind self.new) }
-    {
-        self.trie.change_values_below(&self.path, &f);
     }
 }

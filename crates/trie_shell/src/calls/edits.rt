@@ -278,7 +278,6 @@ pub fn answer_edit(trie: &mut Table, answer: &mut Answer<'_>) -> Result<bool, Me
         | "get_mut"
         | "find_mut"
         | "find_ancestor_mut"
-        | "for_each_value_mut_below"
         | "for_each_mut_below"
         | "retain_below" => {}
         _ => return Ok(false),
@@ -306,13 +305,9 @@ fn answer_edit_at(trie: &mut Table, key: &Key, answer: &mut Answer<'_>) -> Resul
             }
             None => Ok(()),
         },
-        name => match answer.next_number() {
-            Some(number) if name == "retain_below" => {
-                trie.retain_below(key, |_: &Key, value: &u64| *value >= number)?;
-                answer.line("ok")
-            }
-            Some(number) => {
-                trie.for_each_value_mut_below(key, |value| *value = value.wrapping_add(number))?;
+        _ => match answer.next_number() {
+            Some(least) => {
+                trie.retain_below(key, |_: &Key, value: &u64| *value >= least)?;
                 answer.line("ok")
             }
             None => answer.refuse(NO_NUMBER),

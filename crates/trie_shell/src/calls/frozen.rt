@@ -176,13 +176,6 @@ fn answer_write(frozen: &mut FrozenTable, answer: &mut Answer<'_>) -> Result<boo
             Some(list) => written_or_none(answer, frozen.at_mut(&list))?,
             None => answer.refuse(NO_LIST)?,
         },
-        "for_each_value_mut" => match answer.next_number() {
-            Some(added) => {
-                frozen.for_each_mut(|_: &Key, value: &mut u64| *value = value.wrapping_add(added));
-                answer.line("ok")?
-            }
-            None => answer.refuse(NO_NUMBER)?,
-        },
         "for_each_mut" => match key_and_number(answer)? {
             Some((other, added)) => {
                 frozen.for_each_mut(|key: &Key, value: &mut u64| {

@@ -26,13 +26,6 @@ pub fn answer_sweep(trie: &mut Table, answer: &mut Answer<'_>) -> Result<bool, M
             answer.line("ok")?
         }
         "extend" | "from_iter" => answer_pairs(trie, answer)?,
-        "for_each_value_mut" => match answer.next_number() {
-            Some(added) => {
-                trie.for_each_value_mut(|value| *value = value.wrapping_add(added));
-                answer.line("ok")?
-            }
-            None => answer.refuse(NO_NUMBER)?,
-        },
         "at_mut" => match answer.next_read::<Nibblet>()? {
             Some(list) => written_or_none(answer, trie.at_mut(&list))?,
             None => answer.refuse(NO_LIST)?,

@@ -129,13 +129,6 @@ fn answer_through(
         "debug" => answer.debug_line(&*view),
         "path" => answer.list_line(view.path()),
         "value_mut" => written_or_none(answer, view.value_mut()),
-        "for_each_value_mut" => match answer.next_number() {
-            Some(added) => {
-                view.for_each_value_mut(|value| *value = value.wrapping_add(added));
-                answer.line("ok")
-            }
-            None => answer.refuse(NO_NUMBER),
-        },
         _ => answer.refuse(NOT_HERE),
     }
 }

@@ -3,7 +3,7 @@
 use crate::calls::Table;
 use crate::calls::sets::answer_sides;
 use crate::tries::{NamedTrie, Tries};
-use radix_trie::{AppendWhy, Memory, Trie};
+use radix_trie::{GraftWhy, InsertWhy, Memory, MergeError, Trie};
 use shell_words::{Answer, Key, NO_KEY};
 use std::mem;
 
@@ -35,7 +35,7 @@ impl Tries {
                 return Ok(true);
             }
             "split_off_prefix" => answer.next_query()?,
-            "use" | "==" | "clone" | "append" => None,
+            "use" | "==" | "clone" | "graft" | "merge" => None,
             "intersection" | "difference" | "union" | "symmetric_difference" => None,
             "is_subset" | "is_superset" | "is_disjoint" => None,
             _ => return Ok(false),
@@ -62,7 +62,8 @@ impl Tries {
                 None => answer.refuse(NO_TRIE),
             },
             ("clone", _) => self.answer_clone(name, answer),
-            ("append", _) => self.answer_append(name, answer),
+            ("graft", _) => self.answer_graft(name, answer),
+            ("merge", _) => self.answer_merge(name, answer),
             ("split_off_prefix", Some(query)) => self.answer_split(query, name, answer),
             ("split_off_prefix", None) => answer.refuse(NO_KEY),
             _ => match self.named(name) {
@@ -160,14 +161,29 @@ impl Tries {
         self.put(Some(place), part, answer)
     }
 
-    /// Appends the other trie of the name to the current one.
-    fn answer_append(&mut self, name: &str, answer: &mut Answer<'_>) -> Result<(), Memory> {
+    /// Grafts the other trie of the name onto the current one.
+    fn answer_graft(&mut self, name: &str, answer: &mut Answer<'_>) -> Result<(), Memory> {
         if let Some(place) = self.place_of(name)
             && let Some(other) = self.others.get_mut(place)
         {
-            return append(&mut self.current.trie, &mut other.trie, answer);
+            return graft(&mut self.current.trie, &mut other.trie, answer);
         }
         answer.refuse(NO_TRIE)
+    }
+
+    /// Stores the pairs of a copy of the other trie of the name in the current one.
+    fn answer_merge(&mut self, name: &str, answer: &mut Answer<'_>) -> Result<(), Memory> {
+        let Some(other) = self.named(name) else {
+            return answer.refuse(NO_TRIE);
+        };
+        let copy = other.clone()?;
+        match self.current.trie.merge(copy) {
+            Ok(()) => answer.line("ok"),
+            Err(MergeError::Stopped(error, _)) if error.why == InsertWhy::Full => {
+                answer.refuse("full")
+            }
+            Err(_) => Err(Memory),
+        }
     }
 
     /// Puts a trie where another stands.
@@ -187,16 +203,16 @@ impl Tries {
     }
 }
 
-/// Appends a trie to another, which leaves it empty. Where that is refused it comes back.
-fn append(trie: &mut Table, part: &mut Table, answer: &mut Answer<'_>) -> Result<(), Memory> {
-    match trie.append(mem::replace(part, Trie::new(answer.alloc()))) {
+/// Grafts a trie onto another, which leaves it empty. Where that is refused it comes back.
+fn graft(trie: &mut Table, part: &mut Table, answer: &mut Answer<'_>) -> Result<(), Memory> {
+    match trie.graft(mem::replace(part, Trie::new(answer.alloc()))) {
         Ok(()) => answer.line("ok"),
         Err(error) => {
             *part = error.part;
             match error.why {
-                AppendWhy::Memory => Err(Memory),
-                AppendWhy::Full => answer.refuse("full"),
-                AppendWhy::Overlapping => answer.refuse("overlapping"),
+                GraftWhy::Memory => Err(Memory),
+                GraftWhy::Full => answer.refuse("full"),
+                GraftWhy::Overlapping => answer.refuse("overlapping"),
             }
         }
     }

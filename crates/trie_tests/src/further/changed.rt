@@ -26,7 +26,7 @@ fn check_multiplied(rt: &impl Abort, trie: &Texts, times: u64, more: u64) -> Res
 #[test]
 fn each_value_is_doubled(rt: HostRuntime) -> Result<(), Memory> {
     let mut trie = texts(rt.alloc(), SAMPLE)?;
-    trie.for_each_value_mut(|value| *value = value.wrapping_mul(2));
+    trie.for_each_mut(|_, value| *value = value.wrapping_mul(2));
     check_multiplied(&rt, &trie, 2, 0)
 }
 
@@ -36,7 +36,7 @@ fn each_value_is_raised_twice(rt: HostRuntime) -> Result<(), Memory> {
     let mut trie = texts(rt.alloc(), SAMPLE)?;
     let added = 5u64;
     for _ in 0..2 {
-        trie.for_each_value_mut(|value| *value = value.wrapping_add(added));
+        trie.for_each_mut(|_, value| *value = value.wrapping_add(added));
     }
     check_multiplied(&rt, &trie, 1, 10)
 }

@@ -42,7 +42,7 @@ fn part_is_put_back(rt: HostRuntime) -> Result<(), TrieError> {
     for row in ROWS.iter() {
         let mut trie = texts(rt.alloc(), SAMPLE)?;
         let part = trie.split_off_prefix(&row.key)?;
-        trie.append(part)?;
+        trie.graft(part)?;
         assert!(rt; trie == whole, "{}", row.key);
         assert!(rt; trie.check_integrity()?, "{}", row.key);
     }

@@ -15,9 +15,10 @@ ghost use Rattle.radix_trie.specs.WriteViews.{map_behind, path_of, prefix_of, le
 mod spent;
 
 use crate::error::{SubTrieError, SubTrieResult};
-use crate::iter::Children;
+use crate::place::Place;
 use crate::trie::Trie;
-use crate::view::place::{Place, begins};
+use crate::view::children::Children;
+use crate::view::inside::inside;
 use radix_keys::{Memory, Nibblet, TrieKey};
 use radix_nodes::trie_node::KeyValue;
 
@@ -42,33 +43,6 @@ pub struct SubTrieMut<'a, K: TrieKey, V, P = Nibblet> {
     pub(crate) trie: &'a mut Trie<K, V>,
     pub(crate) path: P,
     pub(crate) prefix: P,
-}
-
-/// What a view for writing keeps its path as, and an entry the encoding of its key: always a
-/// `Nibblet`.
-pub trait PathList: Drop {
-    /// The path.
-    ghost list: { Self → List ℕ };
-
-    /// The path.
-    fn nibbles(&self) -> &Nibblet
-        ensures { result.now ≡ list self.now };
-
-    /// The path, and nothing of it is left.
-    fn into_nibbles(self) -> Nibblet
-        ensures { result ≡ list self };
-}
-
-impl PathList for Nibblet {
-    ghost list = { λ n. n };
-
-    fn nibbles(&self) -> &Nibblet {
-        self
-    }
-
-    fn into_nibbles(self) -> Nibblet {
-        self
-    }
 }
 
 impl<K: TrieKey, V, P: Drop> Drop for SubTrieMut<'_, K, V, P> {
@@ -156,22 +130,6 @@ impl<'a, K: TrieKey, V> SubTrieMut<'a, K, V> {
         value_behind(&mut self.trie, &self.path)
     }
 
-    /// The key's encoding, where the path is a prefix of it.
-    pub(crate) fn inside<Q: TrieKey>(&self, key: &Q) -> Result<Nibblet, SubTrieError>
-        ensures list { IfOk result (λ list. list ≡ Q.encoding key.now) }
-        ensures inside { OnOk result (IsPrefix (path_of self.now) (Q.encoding key.now)) }
-        ensures outside { result ≡ Err SubTrieError.Outside
-            → IsPrefix (path_of self.now) (Q.encoding key.now) → ⊥ }
-        ensures light { Q.is_light key.now → result ≢ Err SubTrieError.Memory }
-    {
-        let list = key.encode(self.trie.allocator())?;
-        if begins(&self.path, &list) {
-            Ok(list)
-        } else {
-            Err(SubTrieError::Outside)
-        }
-    }
-
     /// The value that the trie holds at the key's encoding, if there is one.
     ///
     /// # Errors
@@ -187,7 +145,7 @@ impl<'a, K: TrieKey, V> SubTrieMut<'a, K, V> {
             → IsPrefix (path_of self.now) (Q.encoding key.now) → ⊥ }
         ensures light { Q.is_light key.now → result ≢ Err SubTrieError.Memory }
     {
-        let list = self.inside(key)?;
+        let list = inside(&self.path, key, self.trie.allocator())?;
         Ok(self.trie.at(&list))
     }
 
@@ -205,7 +163,7 @@ impl<'a, K: TrieKey, V> SubTrieMut<'a, K, V> {
             → IsPrefix (path_of self.now) (Q.encoding key.now) → ⊥ }
         ensures light { Q.is_light key.now → result ≢ Err SubTrieError.Memory }
     {
-        let list = self.inside(key)?;
+        let list = inside(&self.path, key, self.trie.allocator())?;
         Ok(Place::find(self.trie, &list).len())
     }
 }

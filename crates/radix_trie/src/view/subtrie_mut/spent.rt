@@ -10,9 +10,9 @@ ghost use Rattle.radix_trie.specs.Walks.{deref_pair};
 ghost use Rattle.radix_trie.specs.WriteViews.{map_behind, kept_path, kept_prefix, lender_of};
 
 use crate::iter::{key_of, parts_of, value_of};
+use crate::place::{PathList, Place};
 use crate::trie::Trie;
-use crate::view::place::Place;
-use crate::view::subtrie_mut::{PathList, SubTrieMut};
+use crate::view::subtrie_mut::SubTrieMut;
 use radix_keys::{Nibblet, TrieKey};
 use std::alloc::Global;
 

@@ -1,10 +1,8 @@
 use Rattle.std.proofs.Common.{◌≡◌, ◌+◌, ◌-◌, ◌∙◌, [], length, ap, sym, subst, arith, rules, refl}
-use Rattle.std.specs.FinMap as fin
 use Rattle.masked_tree.specs.Edits.{lowered}
 use Rattle.masked_tree.specs.Paths.{IsPath}
 use Rattle.masked_tree.specs.Tree.{entries_at, nodes_in, nibbles_in}
 use Rattle.nibble_map.specs.Lists.{IsPrefix}
-use Rattle.nibble_map.specs.Maps.{below}
 use Rattle.radix_nodes.specs.Nodes.{tree_of, fragment_of}
 use Rattle.radix_nodes.specs.Pairs.{pairs_in}
 use Rattle.radix_nodes.specs.Prunes.{IsSmall, branch_of, nodes_gone, nibbles_gone}
@@ -17,27 +15,27 @@ use Rattle.radix_trie.proofs.ChangeLemmas.Splits.{cut_is_small, nearest_in_equal
 use Rattle.radix_trie.proofs.PathLemmas.Places.{false_is_not_true}
 use Rattle.radix_trie.proofs.trie.Trie.split_at.Goals as goal
 
-pub returns-in_err-view-clause-none : goal.returns-in_err-view-clause-none
-returns-in_err-view-clause-none g c = λ none.
-    absurd (false_is_not_true (c.in_err-view.ensures.short (λ q near. absurd (point_below_has_stored _ c.args.list.now q c.requires.some near.member near.below none))))
+pub returns-in_err-path-clause-none : goal.returns-in_err-path-clause-none
+returns-in_err-path-clause-none g c = λ none.
+    absurd (false_is_not_true (c.in_err-path.ensures.short _ c.find.ensures (λ q near. absurd (point_below_has_stored _ c.args.list.now q c.requires.some near.member near.below none))))
 
-pub returns-in-None-clause-split : goal.returns-in-None-clause-split
-returns-in-None-clause-split g c =
+pub returns-in_default-clause-split : goal.returns-in_default-clause-split
+returns-in_default-clause-split g c =
     let root = c.self.inside.root in
-    let points = apart_in_equal _ (map_of (tree_of root)) c.args.list.now c.args.list.now (sym c.self.view_is) refl (rw c.in-None.is at c.in_ok-view.ensures.nearest) in
+    let points = apart_in_equal _ (map_of (tree_of root)) c.args.list.now c.args.list.now (sym c.self.view_is) refl (rw c.in_default.is at c.in_ok-path.ensures.nearest _ c.find.ensures) in
     let apart = points_apart-paths g.K.TrieKey.encoding (tree_of root) _ _ _ c.self.invariant c.args.list.now points in
     rw (← c.self.view_is) (c.new.ensures ∙ sym (below-nothing_below g.K.TrieKey.encoding (tree_of root) _ _ _ c.self.invariant c.args.list.now apart))
 
-pub returns-in-None-clause-removed : goal.returns-in-None-clause-removed
-returns-in-None-clause-removed g c =
+pub returns-in_default-clause-removed : goal.returns-in_default-clause-removed
+returns-in_default-clause-removed g c =
     let root = c.self.inside.root in
-    let points = apart_in_equal _ (map_of (tree_of root)) c.args.list.now c.args.list.now (sym c.self.view_is) refl (rw c.in-None.is at c.in_ok-view.ensures.nearest) in
+    let points = apart_in_equal _ (map_of (tree_of root)) c.args.list.now c.args.list.now (sym c.self.view_is) refl (rw c.in_default.is at c.in_ok-path.ensures.nearest _ c.find.ensures) in
     let apart = points_apart-paths g.K.TrieKey.encoding (tree_of root) _ _ _ c.self.invariant c.args.list.now points in
     rw (← c.self.view_is) (map_of-nothing_below g.K.TrieKey.encoding (tree_of root) _ _ _ c.self.invariant c.args.list.now apart (tree_of root) refl)
 
 pub returns-in_err-upper-clause-none : goal.returns-in_err-upper-clause-none
 returns-in_err-upper-clause-none g c = λ none.
-    let near = rw c.in-Some.is at c.in_ok-view.ensures.nearest in
+    let near = rw c.in-Some.is at c.in_ok-path.ensures.nearest _ c.find.ensures in
     absurd (point_below_has_stored _ c.args.list.now _ c.requires.some near.member near.below none)
 
 pub measure-length-requires : goal.measure-length-requires
@@ -60,12 +58,12 @@ overflow_add-nibbles g c =
     let root = c.self.inside.root in
     let b = c.in-Ok-Some.branch in
     let u = branch_of b in
-    let q = c.into_path-path.result in
+    let q = c.in-Some.path in
     let o = rw c.in-Ok-Some.field-0-is at c.in-Ok-Some.ensures in
     let small = cut_is_small g.K.TrieKey.encoding (tree_of root) _ _ _ c.self.invariant (search rules) (tree_of c.cut_branch.new.root) b o.0 o.2 in
     let held = c.measure-length.ensures.nibbles ∙ ap (λ n. length (tree_of n).fragment + nibbles_in (tree_of n).children) c.deref.ensures in
     let own = c.len.ensures ∙ ap (λ n. length (fragment_of n)) c.deref-in-Ok-Some.ensures ∙ ap length (sym (fragment-tree_of b.top.value)) in
-    let near = nearest_in_equal _ (map_of (tree_of root)) c.args.list.now c.args.list.now c.in-Some.view.path q (sym c.self.view_is) refl (sym c.into_path-path.ensures) (rw c.in-Some.is at c.in_ok-view.ensures.nearest) in
+    let near = nearest_in_equal _ (map_of (tree_of root)) c.args.list.now c.args.list.now q q (sym c.self.view_is) refl refl (rw c.in-Some.is at c.in_ok-path.ensures.nearest _ c.find.ensures) in
     let part = part_kept g.K.TrieKey.encoding (tree_of root) _ _ _ c.self.invariant (tree_of c.cut_branch.new.root) c.args.list.now o.0 u _ _ (branch_at root u c.args.list.now o.0 c.self.invariant.top o.1) o.2 c.requires.some q near c.in_ok-upper.ensures.5 _ _ _ refl refl refl in
     let fits = small_root g.K.TrieKey.encoding (lowered [] q u) _ _ _ part small.pairs in
     omega (arith, held, own, c.len-in-Ok-Some.ensures, fits.nibbles)
@@ -92,13 +90,13 @@ invariant_of-result g c =
     let root = c.self.inside.root in
     let b = c.in-Ok-Some.branch in
     let u = branch_of b in
-    let q = c.into_path-path.result in
+    let q = c.in-Some.path in
     let o = rw c.in-Ok-Some.field-0-is at c.in-Ok-Some.ensures in
     let count = c.measure-length.ensures.pairs ∙ ap (λ n. length (entries_at [] (tree_of n))) c.deref.ensures in
     let nodes = c.measure-length.ensures.nodes ∙ ap (λ n. nodes_in (tree_of n).children) c.deref.ensures in
     let held = c.measure-length.ensures.nibbles ∙ ap (λ n. length (tree_of n).fragment + nibbles_in (tree_of n).children) c.deref.ensures in
     let own = c.len.ensures ∙ ap (λ n. length (fragment_of n)) c.deref-in-Ok-Some.ensures ∙ ap length (sym (fragment-tree_of b.top.value)) in
-    let near = nearest_in_equal _ (map_of (tree_of root)) c.args.list.now c.args.list.now c.in-Some.view.path q (sym c.self.view_is) refl (sym c.into_path-path.ensures) (rw c.in-Some.is at c.in_ok-view.ensures.nearest) in
+    let near = nearest_in_equal _ (map_of (tree_of root)) c.args.list.now c.args.list.now q q (sym c.self.view_is) refl refl (rw c.in-Some.is at c.in_ok-path.ensures.nearest _ c.find.ensures) in
     let is = c.rooted.ensures ∙ ap (λ f. lowered f q u) (c.in_ok-upper.ensures.0 ∙ c.new-2.ensures) in
     let part = part_kept g.K.TrieKey.encoding (tree_of root) _ _ _ c.self.invariant (tree_of c.cut_branch.new.root) c.args.list.now o.0 u _ _ (branch_at root u c.args.list.now o.0 c.self.invariant.top o.1) o.2 c.requires.some q near c.in_ok-upper.ensures.5 _ _ _ count (omega (arith, nodes)) (omega (arith, held, own, c.len-in-Ok-Some.ensures)) in
     subst (λ t. IsKept g.K.TrieKey.encoding t c.measure-length.result.0 (c.measure-length.result.1.nodes + 2) (c.measure-length.result.1.nibbles - c.len.result + c.len-in-Ok-Some.result)) (sym is) part
@@ -120,9 +118,9 @@ pub returns-in-Ok-Some-clause-split : goal.returns-in-Ok-Some-clause-split
 returns-in-Ok-Some-clause-split g c =
     let root = c.self.inside.root in
     let u = branch_of c.in-Ok-Some.branch in
-    let q = c.into_path-path.result in
+    let q = c.in-Some.path in
     let o = rw c.in-Ok-Some.field-0-is at c.in-Ok-Some.ensures in
-    let near = nearest_in_equal _ (map_of (tree_of root)) c.args.list.now c.args.list.now c.in-Some.view.path q (sym c.self.view_is) refl (sym c.into_path-path.ensures) (rw c.in-Some.is at c.in_ok-view.ensures.nearest) in
+    let near = nearest_in_equal _ (map_of (tree_of root)) c.args.list.now c.args.list.now q q (sym c.self.view_is) refl refl (rw c.in-Some.is at c.in_ok-path.ensures.nearest _ c.find.ensures) in
     let is = c.rooted.ensures ∙ ap (λ f. lowered f q u) (c.in_ok-upper.ensures.0 ∙ c.new-2.ensures) in
     rw (← c.self.view_is) (ap map_of is ∙ map_of-part g.K.TrieKey.encoding (tree_of root) _ _ _ c.self.invariant (tree_of c.cut_branch.new.root) c.args.list.now o.0 u _ _ (branch_at root u c.args.list.now o.0 c.self.invariant.top o.1) o.2 c.requires.some q near c.in_ok-upper.ensures.5)
 

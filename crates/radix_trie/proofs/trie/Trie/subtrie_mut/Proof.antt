@@ -61,9 +61,9 @@ use Rattle.radix_trie.proofs.view.subtrie_mut.SubTrieMut.TheLaws.{the_row_laws a
 use Rattle.radix_trie.proofs.NestedLemmas.{Both, facts, first_leaves, second_wants, second_leaves, both_leave}
 use Rattle.radix_trie.specs.contracts.trie.Trie.subtrie_mut as f
 use Rattle.radix_trie.specs.contracts.trie.Trie.open_mut as om
-use Rattle.radix_trie.specs.contracts.trie.opens.closed_as_none as cn
+use Rattle.radix_trie.specs.contracts.view.opens.closed_as_none as cn
 use Rattle.radix_trie.proofs.trie.Trie.open_mut.Met.{met as open_mut_met}
-use Rattle.radix_trie.proofs.trie.opens.closed_as_none.Met.{met as closed_as_none_met}
+use Rattle.radix_trie.proofs.view.opens.closed_as_none.Met.{met as closed_as_none_met}
 use Rattle.radix_trie.proofs.trie.Trie.subtrie_mut.Statement.{statement}
 use Rattle.radix_trie.proofs.trie.Trie.subtrie_mut.Code as code
 
@@ -217,7 +217,7 @@ subtrie_mut_spec 𝓤 𝓛 𝓜 𝓡 wired K V Q LK LV LQ key d equal d' eq d'' 
     lands_as ! refl refl ((opened_laws.lawful 𝓛).typed u (v ∷ []) is).0 $
     use2 𝓛 (raw (Cn.pre (z₂ u v)) ⊛ raw (Kept u)) (second_wants 𝓛 all taken left (Opened.own_val u (v ∷ [])) Given
     (qed 𝓛 [] ∵ nothing ! $ use0 𝓛 (raw (fact 𝓤 (κs.1.1.1.0 ⊑ V.lives))) (fact_i 𝓤 _ (emp 𝓤) inV) $ join ! $ use0 𝓛 (raw (fact 𝓤 (κs.1.1.0 ⊑ K.lives))) (fact_i 𝓤 _ (emp 𝓤) inK) $ join ! $ done !) (Kept u)) $ split ! $
-    calls_at ! (framed 𝓤 𝓛.H 𝓜 (tables 𝓤 𝓛.H 𝓜 𝓡 𝓡.env)) Cn (closed_as_none_met 𝓤 𝓛 𝓜 𝓡 (code.calls-radix_trie::trie::opens::closed_as_none 𝓡.env wired) K V LK LV key d equal d' eq d'' met met' met'') (z₂ u v)
+    calls_at ! (framed 𝓤 𝓛.H 𝓜 (tables 𝓤 𝓛.H 𝓜 𝓡 𝓡.env)) Cn (closed_as_none_met 𝓤 𝓛 𝓜 𝓡 (code.calls-radix_trie::view::opens::closed_as_none 𝓡.env wired) K V LK LV key d equal d' eq d'' met met' met'') (z₂ u v)
     (and_then ! (get ! refl) (no_more !)) (λ v₂.
     use1 𝓛 (later (some (λ (u₂ : Result₂). raw (Second u u₂ v₂)))) (id⊢ 𝓤 _) $
     await ! tt $ pick ! (λ u₂.

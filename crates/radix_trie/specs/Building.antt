@@ -40,7 +40,7 @@ module _ {K V : Type 0} (enc : K → List ℕ) where
   -- n is m with the pairs of the map `part` before one that is refused, behind which the rest is left;
   -- or the list of its pairs is refused, and n is m
   abbrev pub IsPartlyMerged : (K → Type 0) → (m part n : PairMap K V) → MergeError K V → Type 0
-  IsPartlyMerged light m part n (merging.Unlisted whole) = (n ≡ m) × (whole ≡ part)
+  IsPartlyMerged light m part n (merging.Memory whole) = (n ≡ m) × (whole ≡ part)
   IsPartlyMerged light m part n (merging.Stopped e rest) = (done : List (K × V))
       × (pairs_below part [] ≡ done ++ (e.key, e.value) ∷ into_iter_items rest)
       × (n ≡ with_pairs m done)

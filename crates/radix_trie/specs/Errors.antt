@@ -42,7 +42,7 @@ of_graft grafting.Full = whole.Full
 of_graft grafting.Overlapping = whole.Overlapping
 
 abbrev pub of_merge : {K V : Type 0} → MergeError K V → TrieError
-of_merge (merging.Unlisted _) = whole.Memory
+of_merge (merging.Memory _) = whole.Memory
 of_merge (merging.Stopped error rest) = of_insert error.why
 
 abbrev pub of_build : BuildError → TrieError

@@ -72,7 +72,7 @@ pub struct GraftError<K: TrieKey, V> {
 #[derive(Drop)]
 pub enum MergeError<K: TrieKey, V> {
     /// Memory for the list of the other trie's pairs was refused. Nothing has changed, and this is the other trie.
-    Unlisted(Trie<K, V>),
+    Memory(Trie<K, V>),
     /// A pair was refused, for this reason. Those before it are stored, and those behind it are the rest.
     Stopped(InsertError<K, V>, IntoIter<(K, V)>),
 }

@@ -174,7 +174,7 @@ impl<K: TrieKey, V> fmt::Display for MergeError<K, V> {
 
     fn fmt<W: fmt::Write>(&self, f: &mut fmt::Formatter<W>) -> fmt::Result {
         match self {
-            MergeError::Unlisted(_) => fmt::Display::fmt(&TrieError::Memory, f),
+            MergeError::Memory(_) => fmt::Display::fmt(&TrieError::Memory, f),
             MergeError::Stopped(error, _) => fmt::Display::fmt(&error.why, f),
         }
     }

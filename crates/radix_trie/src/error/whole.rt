@@ -122,7 +122,7 @@ impl<K: TrieKey + Drop, V: Drop> From<MergeError<K, V>> for TrieError {
 
     fn from(error: MergeError<K, V>) -> TrieError {
         match error {
-            MergeError::Unlisted(_) => TrieError::Memory,
+            MergeError::Memory(_) => TrieError::Memory,
             MergeError::Stopped(error, _) => TrieError::from(error.why),
         }
     }

@@ -97,7 +97,7 @@ impl<K: TrieKey + Drop, V: Drop> Trie<K, V> {
     {
         let pairs = match other.into_pairs() {
             Ok(pairs) => pairs,
-            Err(other) => return Err(MergeError::Unlisted(other)),
+            Err(other) => return Err(MergeError::Memory(other)),
         };
         let mut rest = pairs.into_iter();
         while let Some((key, value)) = rest.next() {

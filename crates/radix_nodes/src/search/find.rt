@@ -9,7 +9,7 @@ ghost use Rattle.masked_tree.specs.Paths.{IsNodeAt, IsOnWay};
 ghost use Rattle.radix_nodes.specs.Nodes.{tree_of, fragment_of};
 ghost use Rattle.radix_nodes.specs.Searches.{FindsDeepestPair, FindsNode, Visits};
 
-use crate::search::step::meet;
+use crate::search::step::{meet, step};
 use crate::trie_node::{TrieNode, has_pair};
 use radix_keys::Nibblet;
 
@@ -46,7 +46,18 @@ pub fn find<'a, K, V>(
     requires placed { IsTreePlaced (tree_of node.now) }
     ensures { FindsNode result node.now list.now depth }
 {
-    search(node, list, depth).found
+    let mut at = node;
+    let mut done = depth;
+    while done < list.len() {
+        match step(at, list, done) {
+            Some((i, next)) => {
+                at = &at.children[i];
+                done = next;
+            }
+            None => return None,
+        }
+    }
+    Some(at)
 }
 
 // The same, the deepest pair on the way, and what the search costs. It is inlined, so a caller pays for what it takes alone.

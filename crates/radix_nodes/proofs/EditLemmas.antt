@@ -1,4 +1,4 @@
--- What an insertion, a removal, a cut and a branch that is hung in do at nodes.
+-- What an insertion, a removal, a cut and a branch that is grafted do at nodes.
 pub mod Insertion
 pub mod KeyParts
 pub mod Steps
@@ -7,7 +7,7 @@ pub mod Merging
 pub mod Placed
 pub mod Branches
 pub mod Grafts
-pub mod Appended
+pub mod GraftedRoots
 pub mod Drains
 pub mod Settling
 pub mod Ends

@@ -1,7 +1,7 @@
 -- The lemmas, in the order in which they are read.
 -- From nodes to plain trees, field by field.
 pub mod NodeLemmas
--- What an insertion, a removal, a cut and a branch that is hung in do at nodes.
+-- What an insertion, a removal, a cut and a branch that is grafted do at nodes.
 pub mod EditLemmas
 -- What a search below a child tells of the node.
 pub mod SearchLemmas

@@ -1,4 +1,4 @@
--- The steps of a branch that is hung in, at nodes.
+-- The steps of a branch that is grafted in, at nodes.
 use Rattle.std.proofs.Common.{◌≡◌, ◌≢◌, ℕ, ◌+◌, ◌<◌, ◌^◌, List, ◌++◌, length, take, drop, slice_index, get_or, Result, Ok, Err, refl, ap, sym, subst, ◌∙◌, arith}
 use Rattle.masked_tree.specs.Mask.{IsMask, IsRisingFrom, IsPlaceOf}
 use Rattle.masked_tree.specs.Paths.{IsOccupied, IsVacant}
@@ -15,11 +15,11 @@ use Rattle.std.specs.Vec.{with_item}
 use Rattle.radix_nodes.specs.declared.trie_node.KeyValue.{KeyValue}
 use Rattle.radix_nodes.specs.declared.trie_node.TrieNode.{TrieNode, out-TrieNode, roll-TrieNode}
 use Rattle.radix_nodes.specs.declared.search.compare.Agreement.{Agreement}
-use Rattle.radix_nodes.specs.declared.insertion.graft.Hung.{Hung}
+use Rattle.radix_nodes.specs.declared.insertion.graft.Grafted.{Grafted}
 use Rattle.radix_nodes.specs.declared.insertion.graft.Ungrafted.{Ungrafted}
 use Rattle.radix_nodes.specs.declared.insertion.graft.Ungrafted.TheVariants as why
 use Rattle.radix_nodes.specs.Nodes.{tree_of, fragment_of, IsMet}
-use Rattle.radix_nodes.specs.Grafts.{told, HangOutcome, HangChildOutcome, GraftOutcome}
+use Rattle.radix_nodes.specs.Grafts.{told, BranchOutcome, ChildBranchOutcome, GraftOutcome}
 use Rattle.radix_nodes.proofs.NodeLemmas.Nodes.{fragment-tree_of}
 use Rattle.radix_nodes.proofs.SearchLemmas.Compared.{append-met_rest}
 use Rattle.radix_nodes.proofs.SearchLemmas.Nearest.{nearest_here, nearest_inside, nearest_parted, none_through_child}
@@ -31,13 +31,13 @@ use Rattle.radix_nodes.proofs.EditLemmas.Steps.{child_is_met}
 
 module _ {K V : Type 0} where
   -- a branch whose fragment is written, as a list and its own behind, has that list in front
-  pub refitted_is_hung : (b m r : TrieNode K V) (f rest : List ℕ) → m ≡ b → f ≡ rest ++ fragment_of m → tree_of r ≡ with_fragment f (tree_of b) →
+  pub refitted_is_grafted : (b m r : TrieNode K V) (f rest : List ℕ) → m ≡ b → f ≡ rest ++ fragment_of m → tree_of r ≡ with_fragment f (tree_of b) →
       tree_of r ≡ with_fragment (rest ++ (tree_of b).fragment) (tree_of b)
-  refitted_is_hung b m r f rest em ef is = is ∙ ap (λ f. with_fragment f (tree_of b)) (ef ∙ ap (λ m. rest ++ fragment_of m) em ∙ ap (λ g. rest ++ g) (sym (fragment-tree_of b)))
+  refitted_is_grafted b m r f rest em ef is = is ∙ ap (λ f. with_fragment f (tree_of b)) (ef ∙ ap (λ m. rest ++ fragment_of m) em ∙ ap (λ g. rest ++ g) (sym (fragment-tree_of b)))
 
-  -- what a hanging returns and does where no node stood at or below the place
-  pub told_outcome : (r : Result Hung (Box (TrieNode K V) Global)) (branch : Box (TrieNode K V) Global) (p : List ℕ) (old new : Tree (KeyValue K V)) →
-      IsVacant old p → HangOutcome r branch p old new → GraftOutcome (told r) branch p old new
+  -- what a graft returns and does where no node stood at or below the place
+  pub told_outcome : (r : Result Grafted (Box (TrieNode K V) Global)) (branch : Box (TrieNode K V) Global) (p : List ℕ) (old new : Tree (KeyValue K V)) →
+      IsVacant old p → BranchOutcome r branch p old new → GraftOutcome (told r) branch p old new
   told_outcome (Ok made) branch p old new free s = (free, s)
   told_outcome (Err back) branch p old new free s = (s.0, s.1, free)
 
@@ -93,9 +93,9 @@ module _ {K V : Type 0} where
       come_up : (u : Tree (KeyValue K V)) (p : List ℕ) (k l : ℕ) → path ≡ fragment_of n ++ p → GraftsChild p u k l (tree_of b.value) (tree_of b'.value) → Grafts path u k l (tree_of n) new
       come_up u p k l ep d = rw (tree_of-with_child n i b', ep, ← fragment-tree_of n) (child_grafted (tree_of n) (tree_of b.value) (tree_of b'.value) u i p k l h (box_is_child n i b h inside is) d)
 
-      -- what a split of the child returns and does is what a hanging below the node does
-      pub split_through_child : (r : Result Hung (Box (TrieNode K V) Global)) (branch : Box (TrieNode K V) Global) → a.same ≢ length (fragment_of b.value) → depth + a.same ≢ length key →
-          HangChildOutcome r branch (take a.same (fragment_of b.value) ++ drop (depth + a.same) key) (tree_of b.value) (tree_of b'.value) → GraftOutcome (told r) branch path (tree_of n) new
+      -- what a split of the child returns and does is what a graft below the node does
+      pub split_through_child : (r : Result Grafted (Box (TrieNode K V) Global)) (branch : Box (TrieNode K V) Global) → a.same ≢ length (fragment_of b.value) → depth + a.same ≢ length key →
+          ChildBranchOutcome r branch (take a.same (fragment_of b.value) ++ drop (depth + a.same) key) (tree_of b.value) (tree_of b'.value) → GraftOutcome (told r) branch path (tree_of n) new
       split_through_child (Ok made) branch part on s =
           let alike = (met.agrees (tree_of b.value) (box_is_child n i b h inside is)).alike in
           let same = subst (λ f. take a.same f ≡ take a.same (drop depth key)) (fragment-tree_of b.value) alike in (
@@ -104,8 +104,8 @@ module _ {K V : Type 0} where
           )
       split_through_child (Err back) branch part on s = (s.0, kept s.1, nearest_parted n key depth h b.value i a lt met b is refl part on)
 
-      -- what a hanging returns and does below the child is what it returns and does below the node
-      pub graft_through_child : (r : Result Hung (Ungrafted K V)) (branch : Box (TrieNode K V) Global) → a.same ≡ length (fragment_of b.value) →
+      -- what a graft returns and does below the child is what it returns and does below the node
+      pub graft_through_child : (r : Result Grafted (Ungrafted K V)) (branch : Box (TrieNode K V) Global) → a.same ≡ length (fragment_of b.value) →
           GraftOutcome r branch (fragment_of b.value ++ drop (depth + a.same) key) (tree_of b.value) (tree_of b'.value) → GraftOutcome r branch path (tree_of n) new
       graft_through_child (Ok made) branch e s = (
         none_through_child n key depth h b.value i a lt met b is refl e s.0,

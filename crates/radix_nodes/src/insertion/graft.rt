@@ -1,11 +1,11 @@
-//! A branch is hung into a tree, with all that is below it: no pair is moved. All that may fail
+//! A branch is grafted into a tree, with all that is below it: no pair is moved. All that may fail
 //! comes first, so a refusal leaves the tree as it was, and returns the branch as it was.
 ghost use Rattle.std.specs.Prelude.{◌≡◌, ◌≢◌, ◌<◌, ◌≤◌, ◌++◌, length, take, drop, slice_index, Err};
 ghost use Rattle.masked_tree.specs.Edits.{with_fragment};
 ghost use Rattle.masked_tree.specs.Mask.{IsPlaceOf};
 ghost use Rattle.masked_tree.specs.Tree.{IsTreePlaced, IsTreeFull, firsts};
 ghost use Rattle.radix_nodes.specs.Nodes.{tree_of, fragment_of};
-ghost use Rattle.radix_nodes.specs.Grafts.{GraftOutcome, HangOutcome, HangChildOutcome, told};
+ghost use Rattle.radix_nodes.specs.Grafts.{GraftOutcome, BranchOutcome, ChildBranchOutcome, told};
 
 use crate::fragments::joined_tail;
 use crate::insertion::attach::make_split;
@@ -19,12 +19,12 @@ use std::alloc::Global;
 /// How many nodes came besides those below the branch's own, and how many nibbles of fragments
 /// besides those of the branch.
 #[derive(Drop)]
-pub struct Hung {
+pub struct Grafted {
     pub nodes: usize,
     pub nibbles: usize,
 }
 
-/// Why a branch isn't hung in, with the branch as it was.
+/// Why a branch isn't grafted, with the branch as it was.
 #[derive(Drop)]
 pub enum Ungrafted<K, V> {
     /// A node stands at or below the list.
@@ -33,7 +33,7 @@ pub enum Ungrafted<K, V> {
     Memory(Box<TrieNode<K, V>>),
 }
 
-/// Hangs the branch in at the list's place, below a node that stands at `depth`: what the branch
+/// Grafts the branch at the list's place, below a node that stands at `depth`: what the branch
 /// holds at a list stands behind this list then. It is refused as occupied where a node stands at or
 /// below the list, and where an allocation fails.
 pub fn graft<K: Drop, V: Drop>(
@@ -42,7 +42,7 @@ pub fn graft<K: Drop, V: Drop>(
     list: &Nibblet,
     depth: usize,
     branch: Box<TrieNode<K, V>>,
-) -> Result<Hung, Ungrafted<K, V>>
+) -> Result<Grafted, Ungrafted<K, V>>
     requires depth { depth ≤ length list.now }
     requires placed { IsTreePlaced (tree_of node.old) }
     requires below { IsTreePlaced (tree_of branch.value) }
@@ -71,11 +71,11 @@ pub fn graft<K: Drop, V: Drop>(
 }
 
 // A refusal is one for memory.
-fn tell<K, V>(outcome: Result<Hung, Box<TrieNode<K, V>>>) -> Result<Hung, Ungrafted<K, V>>
+fn tell<K, V>(outcome: Result<Grafted, Box<TrieNode<K, V>>>) -> Result<Grafted, Ungrafted<K, V>>
     ensures { result ≡ told outcome }
 {
     match outcome {
-        Ok(hung) => Ok(hung),
+        Ok(grafted) => Ok(grafted),
         Err(branch) => Err(Ungrafted::Memory(branch)),
     }
 }
@@ -97,14 +97,14 @@ fn add_branch<K: Drop, V: Drop>(
     list: &Nibblet,
     depth: usize,
     branch: Box<TrieNode<K, V>>,
-) -> Result<Hung, Box<TrieNode<K, V>>>
+) -> Result<Grafted, Box<TrieNode<K, V>>>
     requires depth { depth < length list.now }
     requires placed { IsTreePlaced (tree_of node.old) }
     requires gap { IsPlaceOf (slice_index list.now depth) (firsts (tree_of node.old).children)
         (Err i) }
     requires below { IsTreePlaced (tree_of branch.value) }
     requires full { IsTreeFull (tree_of branch.value) }
-    ensures { HangOutcome result branch (fragment_of node.old ++ drop depth list.now)
+    ensures { BranchOutcome result branch (fragment_of node.old ++ drop depth list.now)
         (tree_of node.old) (tree_of node.new) }
 {
     let Ok(()) = node.children.reserve(1) else {
@@ -114,7 +114,7 @@ fn add_branch<K: Drop, V: Drop>(
         return Err(branch);
     };
     link(node, i, refitted(branch, fragment), list.get(depth));
-    Ok(Hung {
+    Ok(Grafted {
         nodes: 1,
         nibbles: list.len() - depth,
     })
@@ -130,7 +130,7 @@ fn split_beside<K: Drop, V: Drop>(
     list: &Nibblet,
     depth: usize,
     branch: Box<TrieNode<K, V>>,
-) -> Result<Hung, Box<TrieNode<K, V>>>
+) -> Result<Grafted, Box<TrieNode<K, V>>>
     requires some { 0 < n }
     requires within { n < length (fragment_of slot.old.value) }
     requires depth { depth < length list.now }
@@ -138,7 +138,7 @@ fn split_beside<K: Drop, V: Drop>(
     requires placed { IsTreePlaced (tree_of slot.old.value) }
     requires below { IsTreePlaced (tree_of branch.value) }
     requires full { IsTreeFull (tree_of branch.value) }
-    ensures { HangChildOutcome result branch
+    ensures { ChildBranchOutcome result branch
         (take n (fragment_of slot.old.value) ++ drop depth list.now)
         (tree_of slot.old.value) (tree_of slot.new.value) }
 {
@@ -155,7 +155,7 @@ fn split_beside<K: Drop, V: Drop>(
         refitted(branch, fragment),
         list.get(depth),
     );
-    Ok(Hung {
+    Ok(Grafted {
         nodes: 2,
         nibbles: list.len() - depth,
     })

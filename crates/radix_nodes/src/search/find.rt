@@ -60,8 +60,13 @@ pub fn find<'a, K, V>(
     Some(at)
 }
 
-// The same, the deepest pair on the way, and what the search costs.
-fn search<'a, K, V>(node: &'a TrieNode<K, V>, list: &Nibblet, depth: usize) -> Searched<'a, K, V>
+// The same, the deepest pair on the way, and what the search costs. It is inlined, so a caller pays for what it takes alone.
+#[inline(always)]
+pub(super) fn search<'a, K, V>(
+    node: &'a TrieNode<K, V>,
+    list: &Nibblet,
+    depth: usize,
+) -> Searched<'a, K, V>
     requires depth { depth ≤ length list.now }
     requires placed { IsTreePlaced (tree_of node.now) }
     ensures found { FindsNode result.found node.now list.now depth }

@@ -11,10 +11,10 @@ use Rattle.nibble_map.specs.Swaps.{Swaps, entry}
 use Rattle.nibble_map.proofs.MapLemmas.Edits.{walk-by_entries}
 use Rattle.nibble_map.proofs.MapLemmas.Rebuilt.{put_rows, put_rows-entries}
 use Rattle.nibble_map.proofs.MapLemmas.Without.{from_sorted-run_cut, put_rows-walk, stored_without}
-use Rattle.radix_nodes.specs.Grafts.{AppendOutcome}
+use Rattle.radix_nodes.specs.Grafts.{GraftRootOutcome}
 use Rattle.radix_nodes.specs.Nodes.{fragment_of, tree_of}
-use Rattle.radix_nodes.specs.declared.insertion.append.Unhung.{Unhung}
-use Rattle.radix_nodes.specs.declared.insertion.graft.Hung.{Hung}
+use Rattle.radix_nodes.specs.declared.insertion.graft_root.Ungraftable.{Ungraftable}
+use Rattle.radix_nodes.specs.declared.insertion.graft.Grafted.{Grafted}
 use Rattle.radix_nodes.specs.declared.trie_node.KeyValue.{KeyValue}
 use Rattle.radix_nodes.specs.declared.trie_node.TrieNode.{TrieNode}
 use Rattle.radix_nodes.proofs.NodeLemmas.Nodes.{fragment-tree_of}
@@ -188,7 +188,7 @@ module _ {K V : Type 0} (enc : K → List ℕ) (old : Tree (KeyValue K V)) (coun
         (subst (AllKeyed enc) (sym branch_rows) owned.keyed) (omega (arith, a, b, counted)) nodes' nibbles' (omega (arith, noded)) (omega (arith, nibbled))
 
   -- the counts that a trie keeps once the other is hung in, whose longest common list has `top` nibbles
-  pub appended_counts : (hung : Hung) (rest new : Tree (KeyValue K V)) (top : ℕ) → AppendOutcome (Ok hung) [] part rest old new → top ≡ length path → count + pairs < 2 ^ 64
+  pub appended_counts : (hung : Grafted) (rest new : Tree (KeyValue K V)) (top : ℕ) → GraftRootOutcome (Ok hung) [] part rest old new → top ≡ length path → count + pairs < 2 ^ 64
       → (top ≤ nibbled) × IsKept enc new (count + pairs) (nodes + (held - 2 + hung.nodes)) (nibbles + (nibbled - top + hung.nibbles))
       × (nodes + (held - 2 + hung.nodes) < 2 ^ 128) × (nibbles + (nibbled - top + hung.nibbles) < 2 ^ 128)
   appended_counts hung rest new top s is room =
@@ -200,6 +200,6 @@ module _ {K V : Type 0} (enc : K → List ℕ) (old : Tree (KeyValue K V)) (coun
       (under, now, omega (arith, few, room), nibbles_within enc new _ _ _ now room)
 
 -- what is returned and done behind the root's fragment, which is empty, is so from the empty list on
-pub hung_from_root : {K V : Type 0} (root : TrieNode K V) (part rest new : Tree (KeyValue K V)) (r : Result Hung Unhung) → (tree_of root).fragment ≡ []
-    → AppendOutcome r (fragment_of root) part rest (tree_of root) new → AppendOutcome r [] part rest (tree_of root) new
-hung_from_root root part rest new r top s = subst (λ p. AppendOutcome r p part rest (tree_of root) new) (sym (fragment-tree_of root) ∙ top) s
+pub hung_from_root : {K V : Type 0} (root : TrieNode K V) (part rest new : Tree (KeyValue K V)) (r : Result Grafted Ungraftable) → (tree_of root).fragment ≡ []
+    → GraftRootOutcome r (fragment_of root) part rest (tree_of root) new → GraftRootOutcome r [] part rest (tree_of root) new
+hung_from_root root part rest new r top s = subst (λ p. GraftRootOutcome r p part rest (tree_of root) new) (sym (fragment-tree_of root) ∙ top) s

@@ -13,7 +13,7 @@ ghost use Rattle.radix_trie.specs.Views.{pairs_below};
 use crate::error::{GraftError, GraftWhy};
 use crate::trie::Trie;
 use radix_keys::TrieKey;
-use radix_nodes::insertion::append::{Unhung, append};
+use radix_nodes::insertion::graft_root::{Ungraftable, graft_root};
 use radix_nodes::trie_node::{TrieNode, has_pair};
 
 // Whether the root has no pair and one child, below which all pairs are.
@@ -141,15 +141,15 @@ impl<K: TrieKey + Drop, V: Drop> Trie<K, V> {
             return Err(GraftWhy::Overlapping);
         }
         let top = root.children[0].fragment.len() as u128;
-        match append(&mut self.root, self.alloc, root) {
+        match graft_root(&mut self.root, self.alloc, root) {
             Ok(hung) => {
                 self.length += length;
                 self.nodes += nodes - 2 + hung.nodes as u128;
                 self.nibbles += nibbles - top + hung.nibbles as u128;
                 Ok(())
             }
-            Err(Unhung::Occupied) => Err(GraftWhy::Overlapping),
-            Err(Unhung::Memory) => Err(GraftWhy::Memory),
+            Err(Ungraftable::Occupied) => Err(GraftWhy::Overlapping),
+            Err(Ungraftable::Memory) => Err(GraftWhy::Memory),
         }
     }
 }

@@ -3,7 +3,7 @@ use Rattle.radix_nodes.specs.declared.trie_node.TrieNode.{out-TrieNode, out-roll
 use Rattle.radix_nodes.specs.Nodes.{tree_of, fragment_of}
 use Rattle.radix_nodes.proofs.NodeLemmas.Nodes.{tree_of-same_children, fragment-tree_of}
 use Rattle.radix_nodes.proofs.EditLemmas.Insertion.{branch_step, gap_is_within}
-use Rattle.radix_nodes.proofs.EditLemmas.Grafts.{refitted_is_hung}
+use Rattle.radix_nodes.proofs.EditLemmas.Grafts.{refitted_is_grafted}
 use Rattle.radix_nodes.proofs.insertion.graft.add_branch.Goals as goal
 
 pub returns-in_default : goal.returns-in_default
@@ -26,5 +26,5 @@ returns g c =
     let b = c.args.branch.value in
     branch_step (tree_of b) c.args.list.now c.args.depth c.get.result c.requires.depth c.get.ensures.value c.get.ensures.nibble c.requires.below c.requires.full
     (tree_of n) (tree_of c.link.new.node) _ (tree_of c.refitted.result.value) (fragment_of n) c.args.i _ (sym (fragment-tree_of n)) c.requires.placed c.requires.gap
-    (refitted_is_hung b c.deref.result.now c.refitted.result.value c.in-Ok-joined_tail.fragment (drop c.args.depth c.args.list.now) c.deref.ensures c.in-Ok-joined_tail.ensures c.refitted.ensures)
+    (refitted_is_grafted b c.deref.result.now c.refitted.result.value c.in-Ok-joined_tail.fragment (drop c.args.depth c.args.list.now) c.deref.ensures c.in-Ok-joined_tail.ensures c.refitted.ensures)
     (tree_of-same_children n c.reserve.new.self c.in-Ok.ensures.items) c.link.ensures (ap (λ l. l - c.args.depth) c.len.ensures)

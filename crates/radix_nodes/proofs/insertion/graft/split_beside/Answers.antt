@@ -3,7 +3,7 @@ use Rattle.nibble_map.specs.Trees.{first}
 use Rattle.radix_nodes.specs.Nodes.{tree_of, fragment_of}
 use Rattle.radix_nodes.proofs.NodeLemmas.Nodes.{fragment-tree_of}
 use Rattle.radix_nodes.proofs.EditLemmas.Insertion.{parted_firsts, branch_beside_step}
-use Rattle.radix_nodes.proofs.EditLemmas.Grafts.{refitted_is_hung}
+use Rattle.radix_nodes.proofs.EditLemmas.Grafts.{refitted_is_grafted}
 use Rattle.radix_nodes.proofs.insertion.graft.split_beside.Goals as goal
 
 pub lower_beside-requires-clause-apart : goal.lower_beside-requires-clause-apart
@@ -26,6 +26,6 @@ returns g c =
     (subst (λ z. first z < 16) (sym c.in-Ok.ensures.1) c.in-Ok.ensures.0.5)
     c.requires.placed
     (parted_firsts s c.in-Ok.tail key c.args.depth n c.get.result tail c.get.ensures.value c.requires.apart)
-    (refitted_is_hung b c.deref-2.result.now c.refitted.result.value c.in-Ok-joined_tail.fragment (drop c.args.depth key) c.deref-2.ensures c.in-Ok-joined_tail.ensures c.refitted.ensures)
+    (refitted_is_grafted b c.deref-2.result.now c.refitted.result.value c.in-Ok-joined_tail.fragment (drop c.args.depth key) c.deref-2.ensures c.in-Ok-joined_tail.ensures c.refitted.ensures)
     c.lower_beside.ensures
     (ap (λ l. l - c.args.depth) c.len.ensures)

@@ -6,11 +6,11 @@ use Rattle.masked_tree.proofs.TreeLemmas.Children.{child_tree_is_placed}
 use Rattle.radix_nodes.specs.declared.trie_node.TrieNode.{out-TrieNode}
 use Rattle.radix_nodes.specs.Grafts.{GraftOutcome}
 use Rattle.radix_nodes.specs.Nodes.{fragment_of, tree_of}
-use Rattle.radix_nodes.proofs.EditLemmas.Appended.{appended, only_is_full, stays_for_memory, stays_occupied}
+use Rattle.radix_nodes.proofs.EditLemmas.GraftedRoots.{grafted_root, only_is_full, stays_for_memory, stays_occupied}
 use Rattle.radix_nodes.proofs.EditLemmas.KeyParts.{length_some}
 use Rattle.radix_nodes.proofs.EditLemmas.Merging.{has_one_child}
 use Rattle.radix_nodes.proofs.NodeLemmas.Nodes.{fragment-tree_of}
-use Rattle.radix_nodes.proofs.insertion.append.append.Goals as goal
+use Rattle.radix_nodes.proofs.insertion.graft_root.graft_root.Goals as goal
 
 pub graft-requires-clause-below : goal.graft-requires-clause-below
 graft-requires-clause-below g c =
@@ -46,7 +46,7 @@ returns-in-Ok g c =
     let listed = c.take_fragment-list.ensures.fragment ∙ ap fragment_of c.deref_mut.ensures.value ∙ sym (fragment-tree_of b) in
     let branch = with_value c.unlink-branch.result c.take_fragment-list.new.node in
     let freed = c.take_fragment-list.ensures.tree ∙ ap (λ n. with_fragment [] (tree_of n)) c.deref_mut.ensures.value in
-    appended (tree_of n) (tree_of b) top c.unlink-branch.ensures.child _ listed branch freed c.in-Ok.hung (fragment_of c.args.root.now) (tree_of n) (tree_of c.args.root.now) (tree_of c.graft.new.node) c.in-Ok.ensures
+    grafted_root (tree_of n) (tree_of b) top c.unlink-branch.ensures.child _ listed branch freed c.in-Ok.grafted (fragment_of c.args.root.now) (tree_of n) (tree_of c.args.root.now) (tree_of c.graft.new.node) c.in-Ok.ensures
 
 pub returns-in-Err-Occupied : goal.returns-in-Err-Occupied
 returns-in-Err-Occupied g c =

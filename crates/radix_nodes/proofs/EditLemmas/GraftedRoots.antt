@@ -1,4 +1,4 @@
--- An only child that is taken out, and hung into another tree or put back.
+-- An only child that is taken out, and grafted into another tree or put back.
 use Rattle.std.proofs.Common.{◌≡◌, ℕ, ◌<◌, ◌==◌, Bool, true, false, cond, List, [], ◌∷◌, ◌++◌, Ok, Err, refl, ap, sym, subst, ◌∙◌}
 use Rattle.std.proofs.lemmas.Nat.Bits.{same_from_bits}
 use Rattle.masked_tree.specs.Edits.{IsOne, merged, with_fragment, with_new_child, without_child}
@@ -10,10 +10,10 @@ use Rattle.masked_tree.specs.Paths.{IsOccupied, IsVacant}
 use Rattle.nibble_map.specs.Trees.{IsFull, first}
 use Rattle.std.specs.declared.alloc.Global.{Global}
 use Rattle.std.specs.declared.boxed.Box.{Box}
-use Rattle.radix_nodes.specs.Grafts.{AppendOutcome, GraftOutcome, nibbles_come, nodes_come}
+use Rattle.radix_nodes.specs.Grafts.{GraftRootOutcome, GraftOutcome, nibbles_come, nodes_come}
 use Rattle.radix_nodes.specs.Nodes.{tree_of}
-use Rattle.radix_nodes.specs.declared.insertion.append.Unhung.TheVariants as stays
-use Rattle.radix_nodes.specs.declared.insertion.graft.Hung.{Hung}
+use Rattle.radix_nodes.specs.declared.insertion.graft_root.Ungraftable.TheVariants as stays
+use Rattle.radix_nodes.specs.declared.insertion.graft.Grafted.{Grafted}
 use Rattle.radix_nodes.specs.declared.insertion.graft.Ungrafted.TheVariants as why
 use Rattle.radix_nodes.specs.declared.trie_node.KeyValue.{KeyValue}
 use Rattle.radix_nodes.specs.declared.trie_node.TrieNode.{TrieNode}
@@ -68,11 +68,11 @@ module _ {K V : Type 0} (t u : Tree (KeyValue K V)) (top : t.fragment ≡ []) (a
   at_path : (P : List ℕ → Type 0) (p : List ℕ) → P (p ++ list) → P (p ++ (merged t).fragment)
   at_path P p = subst (λ l. P (p ++ l)) (listed ∙ ap (λ m. m.fragment) (sym (only_is_merged t u top at)))
 
-  -- the only child comes where its branch is hung in
-  pub appended : (hung : Hung) (p : List ℕ) (part old new : Tree (KeyValue K V)) → GraftOutcome (Ok hung) branch (p ++ list) old new → AppendOutcome (Ok hung) p t part old new
-  appended hung p part old new s =
-      let come = at_path (λ q. IsVacant old q × Grafts q (tree_of branch.value) (nodes_come hung (tree_of branch.value)) (nibbles_come hung (tree_of branch.value)) old new) p s in
-      subst (λ b. IsVacant old (p ++ (merged t).fragment) × Grafts (p ++ (merged t).fragment) b (nodes_come hung b) (nibbles_come hung b) old new)
+  -- the only child comes where its branch is grafted in
+  pub grafted_root : (grafted : Grafted) (p : List ℕ) (part old new : Tree (KeyValue K V)) → GraftOutcome (Ok grafted) branch (p ++ list) old new → GraftRootOutcome (Ok grafted) p t part old new
+  grafted_root grafted p part old new s =
+      let come = at_path (λ q. IsVacant old q × Grafts q (tree_of branch.value) (nodes_come grafted (tree_of branch.value)) (nibbles_come grafted (tree_of branch.value)) old new) p s in
+      subst (λ b. IsVacant old (p ++ (merged t).fragment) × Grafts (p ++ (merged t).fragment) b (nodes_come grafted b) (nibbles_come grafted b) old new)
       (freed ∙ ap (λ m. with_fragment [] m) (sym (only_is_merged t u top at))) come
 
   -- what is put back after a refusal leaves both trees as they were
@@ -86,8 +86,8 @@ module _ {K V : Type 0} (t u : Tree (KeyValue K V)) (top : t.fragment ≡ []) (a
         ∙ ap (λ w. with_new_child 0 (first u.fragment) u w) gone
         ∙ put_back-unlinked t u placed one at low
 
-    pub stays_occupied : (p : List ℕ) (old new : Tree (KeyValue K V)) → GraftOutcome (Err (why.Occupied back)) branch (p ++ list) old new → AppendOutcome (Err stays.Occupied) p t part old new
+    pub stays_occupied : (p : List ℕ) (old new : Tree (KeyValue K V)) → GraftOutcome (Err (why.Occupied back)) branch (p ++ list) old new → GraftRootOutcome (Err stays.Occupied) p t part old new
     stays_occupied p old new s = (is_back s.0, s.1, at_path (λ q. IsOccupied old q) p s.2)
 
-    pub stays_for_memory : (p : List ℕ) (old new : Tree (KeyValue K V)) → GraftOutcome (Err (why.Memory back)) branch (p ++ list) old new → AppendOutcome (Err stays.Memory) p t part old new
+    pub stays_for_memory : (p : List ℕ) (old new : Tree (KeyValue K V)) → GraftOutcome (Err (why.Memory back)) branch (p ++ list) old new → GraftRootOutcome (Err stays.Memory) p t part old new
     stays_for_memory p old new s = (is_back s.0, s.1, at_path (λ q. IsVacant old q) p s.2)

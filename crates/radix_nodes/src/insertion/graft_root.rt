@@ -1,12 +1,12 @@
-//! The branch of a root that has no pair and one child is hung into another tree, or stays where it is.
+//! The branch of a root that has no pair and one child is grafted into another tree, or stays where it is.
 ghost use Rattle.std.specs.Prelude.{◌≡◌, ◌<◌, [], length, vec_len};
 ghost use Rattle.nibble_map.specs.Trees.{first};
 ghost use Rattle.masked_tree.specs.Edits.{with_fragment, with_new_child};
 ghost use Rattle.masked_tree.specs.Tree.{IsTreePlaced, IsFullBelow};
 ghost use Rattle.radix_nodes.specs.Nodes.{tree_of, fragment_of, out_of, HasRoom};
-ghost use Rattle.radix_nodes.specs.Grafts.{AppendOutcome};
+ghost use Rattle.radix_nodes.specs.Grafts.{GraftRootOutcome};
 
-use crate::insertion::graft::{Hung, Ungrafted, graft, refitted};
+use crate::insertion::graft::{Grafted, Ungrafted, graft, refitted};
 use crate::trie_node::TrieNode;
 use crate::trie_node::links::{link, unlink};
 use radix_keys::Nibblet;
@@ -15,7 +15,7 @@ use std::mem;
 
 /// Why a branch stays where it is.
 #[derive(Clone, Copy)]
-pub enum Unhung {
+pub enum Ungraftable {
     /// A node stands at or below its path in the other tree.
     Occupied,
     /// An allocation failed.
@@ -41,32 +41,32 @@ fn put_back<K, V>(root: &mut TrieNode<K, V>, fragment: Nibblet, branch: Box<Trie
     link(root, 0, refitted(branch, fragment), nibble);
 }
 
-/// Hangs the one child of `part` into the tree below `root`, at that child's path. It is refused as `graft` is, and both trees are
+/// Grafts the one child of `part` into the tree below `root`, at that child's path. It is refused as `graft` is, and both trees are
 /// as before then.
-pub fn append<K: Drop, V: Drop>(
+pub fn graft_root<K: Drop, V: Drop>(
     root: &mut TrieNode<K, V>,
     alloc: Global,
     part: &mut TrieNode<K, V>,
-) -> Result<Hung, Unhung>
+) -> Result<Grafted, Ungraftable>
     requires placed { IsTreePlaced (tree_of root.old) }
     requires top { fragment_of part.old ≡ [] }
     requires one { vec_len (out_of part.old).children ≡ 1 }
     requires below { IsTreePlaced (tree_of part.old) }
     requires full { IsFullBelow (tree_of part.old) }
-    ensures { AppendOutcome result (fragment_of root.old) (tree_of part.old) (tree_of part.new)
+    ensures { GraftRootOutcome result (fragment_of root.old) (tree_of part.old) (tree_of part.new)
         (tree_of root.old) (tree_of root.new) }
 {
     let mut branch = unlink(part, 0);
     let list = take_fragment(&mut branch, alloc);
     match graft(root, alloc, &list, 0, branch) {
-        Ok(hung) => Ok(hung),
+        Ok(grafted) => Ok(grafted),
         Err(Ungrafted::Occupied(branch)) => {
             put_back(part, list, branch);
-            Err(Unhung::Occupied)
+            Err(Ungraftable::Occupied)
         }
         Err(Ungrafted::Memory(branch)) => {
             put_back(part, list, branch);
-            Err(Unhung::Memory)
+            Err(Ungraftable::Memory)
         }
     }
 }

@@ -1,4 +1,4 @@
--- What a trie that is hung into another does to its map, and to what it keeps.
+-- What a trie that is grafted onto another does to its map, and to what it keeps.
 use Rattle.std.proofs.Common.{◌≡◌, ℕ, ◌+◌, ◌-◌, ◌<◌, ◌≤◌, ◌^◌, None, List, [], ◌∷◌, ◌++◌, map, filter, length, Result, Ok, refl, ap, sym, subst, ◌∙◌, append-nil, arith}
 use Rattle.std.specs.FinMap as fin
 use Rattle.masked_tree.specs.Alters.{Grafts, all_of, none_of}
@@ -101,10 +101,10 @@ module _ {K V : Type 0} (enc : K → List ℕ) where
 pub none_stored : {P : Type 0} (m : NibbleMap P) (e : List ℕ) → fin.len m ≡ 0 → IsStored m e → ⊥
 none_stored m e empty stored = nothing_stored_below m [] e stored (e, refl) (ap fin.len (below-nil m) ∙ empty)
 
--- a trie whose root has no pair and one child is hung into another
+-- a trie whose root has no pair and one child is grafted onto another
 module _ {K V : Type 0} (enc : K → List ℕ) (old : Tree (KeyValue K V)) (count nodes nibbles : ℕ) (kept : IsKept enc old count nodes nibbles)
     (part : Tree (KeyValue K V)) (pairs held nibbled : ℕ) (owned : IsKept enc part pairs held nibbled) (bare : part.pair ≡ None) (one : IsOne part.children) where
-  -- the child, its path, and the branch that is hung in there
+  -- the child, its path, and the branch that is grafted there
   abbrev only : Tree (KeyValue K V)
   only = merged part
 
@@ -175,31 +175,31 @@ module _ {K V : Type 0} (enc : K → List ℕ) (old : Tree (KeyValue K V)) (coun
     lists_apart e here there = (stored_without path (map_of new) e (subst (λ m. IsStored m e) (sym rest_is) here)).1 (part_begins e there)
 
     -- the new map is keyed where both were
-    pub appended_keyed : (is : K → Type 0) → IsKeyed enc is (map_of old) → IsKeyed enc is (map_of part) → IsKeyed enc is (map_of new)
-    appended_keyed is here there =
+    pub grafted_keyed : (is : K → Type 0) → IsKeyed enc is (map_of old) → IsKeyed enc is (map_of part) → IsKeyed enc is (map_of new)
+    grafted_keyed is here there =
         let come : below (map_of new) path ≡ map_of part = fin.same_entries_map _ _ (walk_is ∙ sym (entries-map_of part owned.masked owned.full)) in
         keyed_joined enc is (map_of new) path (subst (IsKeyed enc is) (sym come) there) (subst (IsKeyed enc is) (sym rest_is) here)
 
     -- the new root is kept, with the counts that add up
-    pub appended_kept : (count' nodes' nibbles' : ℕ) → count' ≡ count + pairs → nodes' ≡ nodes + n → nibbles' ≡ nibbles + k → IsKept enc new count' nodes' nibbles'
-    appended_kept count' nodes' nibbles' counted noded nibbled =
+    pub grafted_kept : (count' nodes' nibbles' : ℕ) → count' ≡ count + pairs → nodes' ≡ nodes + n → nibbles' ≡ nibbles + k → IsKept enc new count' nodes' nibbles'
+    grafted_kept count' nodes' nibbles' counted noded nibbled =
         let a = ap length branch_rows in let b = owned.counted in
         run_kept enc old new count nodes nibbles none_of (all_of path branch) n 0 k 0 kept graft.root count'
         (subst (AllKeyed enc) (sym branch_rows) owned.keyed) (omega (arith, a, b, counted)) nodes' nibbles' (omega (arith, noded)) (omega (arith, nibbled))
 
-  -- the counts that a trie keeps once the other is hung in, whose longest common list has `top` nibbles
-  pub appended_counts : (hung : Grafted) (rest new : Tree (KeyValue K V)) (top : ℕ) → GraftRootOutcome (Ok hung) [] part rest old new → top ≡ length path → count + pairs < 2 ^ 64
-      → (top ≤ nibbled) × IsKept enc new (count + pairs) (nodes + (held - 2 + hung.nodes)) (nibbles + (nibbled - top + hung.nibbles))
-      × (nodes + (held - 2 + hung.nodes) < 2 ^ 128) × (nibbles + (nibbled - top + hung.nibbles) < 2 ^ 128)
-  appended_counts hung rest new top s is room =
+  -- the counts that a trie keeps once the other is grafted, whose longest common list has `top` nibbles
+  pub grafted_counts : (grafted : Grafted) (rest new : Tree (KeyValue K V)) (top : ℕ) → GraftRootOutcome (Ok grafted) [] part rest old new → top ≡ length path → count + pairs < 2 ^ 64
+      → (top ≤ nibbled) × IsKept enc new (count + pairs) (nodes + (held - 2 + grafted.nodes)) (nibbles + (nibbled - top + grafted.nibbles))
+      × (nodes + (held - 2 + grafted.nodes) < 2 ^ 128) × (nibbles + (nibbled - top + grafted.nibbles) < 2 ^ 128)
+  grafted_counts grafted rest new top s is room =
       let a = only_nodes part one in let b = owned.noded in
       let c = only_nibbles part owned.top one in let d = owned.nibbled in
       let under : top ≤ nibbled = omega (arith, c, d, is) in
-      let now = appended_kept s.0 new _ _ s.1 (count + pairs) (nodes + (held - 2 + hung.nodes)) (nibbles + (nibbled - top + hung.nibbles)) refl (omega (arith, a, b)) (omega (arith, c, d, is, under)) in
+      let now = grafted_kept s.0 new _ _ s.1 (count + pairs) (nodes + (held - 2 + grafted.nodes)) (nibbles + (nibbled - top + grafted.nibbles)) refl (omega (arith, a, b)) (omega (arith, c, d, is, under)) in
       let few = nodes_fit enc new _ _ _ now in
       (under, now, omega (arith, few, room), nibbles_within enc new _ _ _ now room)
 
 -- what is returned and done behind the root's fragment, which is empty, is so from the empty list on
-pub hung_from_root : {K V : Type 0} (root : TrieNode K V) (part rest new : Tree (KeyValue K V)) (r : Result Grafted Ungraftable) → (tree_of root).fragment ≡ []
+pub grafted_from_root : {K V : Type 0} (root : TrieNode K V) (part rest new : Tree (KeyValue K V)) (r : Result Grafted Ungraftable) → (tree_of root).fragment ≡ []
     → GraftRootOutcome r (fragment_of root) part rest (tree_of root) new → GraftRootOutcome r [] part rest (tree_of root) new
-hung_from_root root part rest new r top s = subst (λ p. GraftRootOutcome r p part rest (tree_of root) new) (sym (fragment-tree_of root) ∙ top) s
+grafted_from_root root part rest new r top s = subst (λ p. GraftRootOutcome r p part rest (tree_of root) new) (sym (fragment-tree_of root) ∙ top) s

@@ -1,8 +1,9 @@
 -- Pages: the first pairs that a cursor has left.
-use Rattle.std.proofs.Common.{◌≡◌, ℕ, ◌≤◌, List, [], ◌∷◌, ◌++◌, length, take, Some, None, ap, sym, ◌∙◌, append-nil, arith}
+use Rattle.std.proofs.Common.{◌≡◌, ℕ, ◌≤◌, List, [], ◌∷◌, ◌++◌, drop, length, take, Option, Some, None, option_map, Bor, ap, sym, ◌∙◌, append-nil, arith}
 use Rattle.std.proofs.lemmas.List.{take_all}
 use Rattle.std.proofs.Math.Seq.{take-append_seam}
 use Rattle.std.specs.List.{slice_get}
+use Rattle.radix_trie.specs.Walks.{deref_pair}
 
 module _ {A : Type 0} where
   -- where two lists are empty together, the second is empty
@@ -30,3 +31,20 @@ module _ {A : Type 0} where
       where
         size : length xs ≡ n
         size = omega (arith, few, enough)
+
+module _ {K V : Type 0} (ps : List (K × V)) (found : Option (Bor K × Bor V)) (at : option_map deref_pair found ≡ slice_get ps 0) where
+  -- a walk of which a step has returned a pair has that one and then its rest
+  pub next_pair : (p : Bor K × Bor V) (rest : List (K × V)) → found ≡ Some p → rest ≡ drop 1 ps → ps ≡ deref_pair p ∷ rest
+  next_pair p rest is left = by ps (sym (ap (option_map deref_pair) is) ∙ at) ∙ ap (λ qs. deref_pair p ∷ qs) (sym left)
+    where
+      by : (qs : List (K × V)) → Some (deref_pair p) ≡ slice_get qs 0 → qs ≡ deref_pair p ∷ drop 1 qs
+      by [] e = cc
+      by (q ∷ qs) e = cc e
+
+  -- one of which a step has returned none is over
+  pub no_next_pair : found ≡ None → ps ≡ []
+  no_next_pair is = by ps (sym (ap (option_map deref_pair) is) ∙ at)
+    where
+      by : (qs : List (K × V)) → None ≡ slice_get qs 0 → qs ≡ []
+      by [] e = λ i. []
+      by (q ∷ qs) e = cc

@@ -142,10 +142,10 @@ impl<K: TrieKey + Drop, V: Drop> Trie<K, V> {
         }
         let top = root.children[0].fragment.len() as u128;
         match graft_root(&mut self.root, self.alloc, root) {
-            Ok(hung) => {
+            Ok(grafted) => {
                 self.length += length;
-                self.nodes += nodes - 2 + hung.nodes as u128;
-                self.nibbles += nibbles - top + hung.nibbles as u128;
+                self.nodes += nodes - 2 + grafted.nodes as u128;
+                self.nibbles += nibbles - top + grafted.nibbles as u128;
                 Ok(())
             }
             Err(Ungraftable::Occupied) => Err(GraftWhy::Overlapping),

@@ -108,7 +108,8 @@ impl<K: TrieKey + Drop, V: Drop> Trie<K, V> {
         ensures none { map.len (below self.now list.now) ≡ 0 → IsOk result }
     {
         let mut gone = Vec::new(self.alloc);
-        for (key, value) in Place::find(self, list).cursor().reserved()? {
+        let mut pairs = Place::find(self, list).cursor();
+        while let Some((key, value)) = pairs.next()? {
             if !keeps(keep, key, value) {
                 gone.push(key.encode(self.alloc)?)?;
             }

@@ -24,17 +24,17 @@ module _ {K V : Type 0} where
   nibbles_come grafted u = grafted.nibbles + (length u.fragment + nibbles_in u.children)
 
   -- the branch comes below p, or comes back and nothing has changed: to a node, and to a child
-  abbrev pub BranchOutcome : Result Grafted (Box (TrieNode K V) Global) → Box (TrieNode K V) Global
+  abbrev pub GraftNodeOutcome : Result Grafted (Box (TrieNode K V) Global) → Box (TrieNode K V) Global
       → List ℕ → Tree (KeyValue K V) → Tree (KeyValue K V) → Type 0
-  BranchOutcome (Ok grafted) branch p old new = let u = tree_of branch.value in
+  GraftNodeOutcome (Ok grafted) branch p old new = let u = tree_of branch.value in
       Grafts p u (nodes_come grafted u) (nibbles_come grafted u) old new
-  BranchOutcome (Err back) branch p old new = (back ≡ branch) × (new ≡ old)
+  GraftNodeOutcome (Err back) branch p old new = (back ≡ branch) × (new ≡ old)
 
-  abbrev pub ChildBranchOutcome : Result Grafted (Box (TrieNode K V) Global) → Box (TrieNode K V) Global
+  abbrev pub GraftChildOutcome : Result Grafted (Box (TrieNode K V) Global) → Box (TrieNode K V) Global
       → List ℕ → Tree (KeyValue K V) → Tree (KeyValue K V) → Type 0
-  ChildBranchOutcome (Ok grafted) branch p old new = let u = tree_of branch.value in
+  GraftChildOutcome (Ok grafted) branch p old new = let u = tree_of branch.value in
       GraftsChild p u (nodes_come grafted u) (nibbles_come grafted u) old new
-  ChildBranchOutcome (Err back) branch p old new = (back ≡ branch) × (new ≡ old)
+  GraftChildOutcome (Err back) branch p old new = (back ≡ branch) × (new ≡ old)
 
   -- a refusal with the branch alone is one for memory
   abbrev pub told : Result Grafted (Box (TrieNode K V) Global) → Result Grafted (Ungrafted K V)

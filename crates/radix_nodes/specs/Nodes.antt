@@ -118,14 +118,6 @@ module _ {K : Type 0} {V : Type 0} where
   Settles (Err e) old new O =
       MatchOption old.was ⊥ (λ x. MatchOption new.was ⊥ (λ y. O x (Err y)))
 
-  -- the result and the change left say that outcome
-  abbrev pub IsSettled : {A E : Type 0} → Result (Change K V) (KeyValue K V) → Result A E
-      → Change K V → Type 0
-  IsSettled (Ok change) (Ok a) new = new ≡ change
-  IsSettled (Ok change) (Err e) new = ⊥
-  IsSettled (Err y) (Ok a) new = ⊥
-  IsSettled (Err y) (Err e) new = new.was ≡ Some y
-
   -- what a removal of the pair at p returns, and does to a tree: None where p holds nothing; it is
   -- refused only where p holds a pair whose removal joins two fragments that have more than 32
   -- nibbles together

@@ -19,7 +19,7 @@ use Rattle.radix_nodes.specs.declared.insertion.graft.Grafted.{Grafted}
 use Rattle.radix_nodes.specs.declared.insertion.graft.Ungrafted.{Ungrafted}
 use Rattle.radix_nodes.specs.declared.insertion.graft.Ungrafted.TheVariants as why
 use Rattle.radix_nodes.specs.Nodes.{tree_of, fragment_of, IsMet}
-use Rattle.radix_nodes.specs.Grafts.{told, BranchOutcome, ChildBranchOutcome, GraftOutcome}
+use Rattle.radix_nodes.specs.Grafts.{told, GraftNodeOutcome, GraftChildOutcome, GraftOutcome}
 use Rattle.radix_nodes.proofs.NodeLemmas.Nodes.{fragment-tree_of}
 use Rattle.radix_nodes.proofs.SearchLemmas.Compared.{append-met_rest}
 use Rattle.radix_nodes.proofs.SearchLemmas.Nearest.{nearest_here, nearest_inside, nearest_parted, none_through_child}
@@ -37,7 +37,7 @@ module _ {K V : Type 0} where
 
   -- what a graft returns and does where no node stood at or below the place
   pub told_outcome : (r : Result Grafted (Box (TrieNode K V) Global)) (branch : Box (TrieNode K V) Global) (p : List ℕ) (old new : Tree (KeyValue K V)) →
-      IsVacant old p → BranchOutcome r branch p old new → GraftOutcome (told r) branch p old new
+      IsVacant old p → GraftNodeOutcome r branch p old new → GraftOutcome (told r) branch p old new
   told_outcome (Ok made) branch p old new free s = (free, s)
   told_outcome (Err back) branch p old new free s = (s.0, s.1, free)
 
@@ -95,7 +95,7 @@ module _ {K V : Type 0} where
 
       -- what a split of the child returns and does is what a graft below the node does
       pub split_through_child : (r : Result Grafted (Box (TrieNode K V) Global)) (branch : Box (TrieNode K V) Global) → a.same ≢ length (fragment_of b.value) → depth + a.same ≢ length key →
-          ChildBranchOutcome r branch (take a.same (fragment_of b.value) ++ drop (depth + a.same) key) (tree_of b.value) (tree_of b'.value) → GraftOutcome (told r) branch path (tree_of n) new
+          GraftChildOutcome r branch (take a.same (fragment_of b.value) ++ drop (depth + a.same) key) (tree_of b.value) (tree_of b'.value) → GraftOutcome (told r) branch path (tree_of n) new
       split_through_child (Ok made) branch part on s =
           let alike = (met.agrees (tree_of b.value) (box_is_child n i b h inside is)).alike in
           let same = subst (λ f. take a.same f ≡ take a.same (drop depth key)) (fragment-tree_of b.value) alike in (

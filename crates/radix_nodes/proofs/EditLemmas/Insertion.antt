@@ -84,30 +84,30 @@ module _ {K V : Type 0} where
   leaf_as_entry A p x k a = let e : k + 0 ≡ k = omega arith in subst (λ come. A come k) (all_of-leaf p x) (subst (λ k. A (all_of p (leaf [] x)) k) e a)
 
   -- a new leaf with the rest of the key, in its place, inserts x by one node and its nibbles
-  pub leaf_step : (t t' mid lf : Tree (KeyValue K V)) (f key : List ℕ) (x : KeyValue K V) (depth i y k : ℕ) → f ≡ t.fragment → depth < length key → y ≡ slice_index key depth → y < 16 →
-      IsTreePlaced t → IsPlaceOf (slice_index key depth) (firsts t.children) (Err i) → lf ≡ leaf (drop depth key) x → mid ≡ t → t' ≡ with_new_child i y lf mid → k ≡ length key - depth →
-      Edits (f ++ drop depth key) x None 1 k t t'
-  leaf_step t t' mid lf f key x depth i y k ef lt ey low h at el em et ek =
-      leaf_as_entry (λ come k. AltersNode none_of come 1 0 k 0 t t') (f ++ drop depth key) x k
-      (branch_step (leaf [] x) key depth y lt ey low (leaf_is_placed [] x) (leaf_is_full [] x) t t' mid lf f i k ef h at (el ∙ ap (λ r. leaf r x) (sym (append-nil (drop depth key)))) em et ek)
+  pub leaf_step : (t t' mid lf : Tree (KeyValue K V)) (f key : List ℕ) (x : KeyValue K V) (was : Option (KeyValue K V)) (depth i y k : ℕ) → f ≡ t.fragment → depth < length key → y ≡ slice_index key depth → y < 16 →
+      IsTreePlaced t → IsPlaceOf (slice_index key depth) (firsts t.children) (Err i) → lf ≡ leaf (drop depth key) x → mid ≡ t → t' ≡ with_new_child i y lf mid → was ≡ None → k ≡ length key - depth →
+      Edits (f ++ drop depth key) x was 1 k t t'
+  leaf_step t t' mid lf f key x was depth i y k ef lt ey low h at el em et ew ek =
+      rw ew (leaf_as_entry (λ come k. AltersNode none_of come 1 0 k 0 t t') (f ++ drop depth key) x k
+      (branch_step (leaf [] x) key depth y lt ey low (leaf_is_placed [] x) (leaf_is_full [] x) t t' mid lf f i k ef h at (el ∙ ap (λ r. leaf r x) (sym (append-nil (drop depth key)))) em et ek))
 
   -- the pair goes into the new node
   -- a split where the key ends, with x in the new upper node, inserts x by one node and no nibbles
-  pub here_step : (t t' : Tree (KeyValue K V)) (whole f g rest : List ℕ) (n : ℕ) (x : KeyValue K V) → whole ≡ t.fragment → f ≡ take n whole → g ≡ drop n whole →
-      0 < n → n < length whole → first g < 16 → IsTreePlaced t → rest ≡ [] → t' ≡ with_pair x (lowered f g t) → Replaces (take n whole ++ rest) x None 1 0 t t'
-  here_step t t' whole f g rest n x ew ef eg p l low h er et =
+  pub here_step : (t t' : Tree (KeyValue K V)) (whole f g rest : List ℕ) (n k : ℕ) (x : KeyValue K V) (was : Option (KeyValue K V)) → whole ≡ t.fragment → f ≡ take n whole → g ≡ drop n whole →
+      0 < n → n < length whole → first g < 16 → IsTreePlaced t → rest ≡ [] → t' ≡ with_pair x (lowered f g t) → was ≡ None → k ≡ 0 → Replaces (take n whole ++ rest) x was 1 k t t'
+  here_step t t' whole f g rest n k x was ew ef eg p l low h er et none ek =
       let cut : t.fragment ≡ f ++ g = sym ew ∙ sym (take-append-drop n whole) ∙ (λ i. sym ef i ++ sym eg i) in
       let e = split_here t f g cut (λ z. take_some whole n p l (sym ef ∙ z)) (λ z. drop_some whole n l (sym eg ∙ z)) low h x in
-      rw (er, et, append-nil, ← ef) e
+      rw (er, et, none, ek, append-nil, ← ef) e
 
   -- the pair goes into a leaf beside
   -- a split where the key parts, x in a new leaf beside, inserts x by two nodes and its nibbles
-  pub beside_step : (t t' lf : Tree (KeyValue K V)) (whole f g key : List ℕ) (n depth y k : ℕ) (x : KeyValue K V) → whole ≡ t.fragment → f ≡ take n whole → g ≡ drop n whole →
+  pub beside_step : (t t' lf : Tree (KeyValue K V)) (whole f g key : List ℕ) (n depth y k : ℕ) (x : KeyValue K V) (was : Option (KeyValue K V)) → whole ≡ t.fragment → f ≡ take n whole → g ≡ drop n whole →
       0 < n → n < length whole → first g < 16 → IsTreePlaced t → depth < length key → y ≡ slice_index key depth → y < 16 → first g ≢ y →
-      lf ≡ leaf (drop depth key) x → t' ≡ with_new_child (rank y (first g ∷ [])) y lf (lowered f g t) → k ≡ length key - depth → Replaces (take n whole ++ drop depth key) x None 2 k t t'
-  beside_step t t' lf whole f g key n depth y k x ew ef eg p l low h lt ey small apart el et ek =
-      leaf_as_entry (λ come k. AltersChild none_of come 2 0 k 0 t t') (take n whole ++ drop depth key) x k
-      (branch_beside_step (leaf [] x) key depth y lt ey small (leaf_is_placed [] x) (leaf_is_full [] x) t t' lf whole f g n k ew ef eg p l low h apart (el ∙ ap (λ r. leaf r x) (sym (append-nil (drop depth key)))) et ek)
+      lf ≡ leaf (drop depth key) x → t' ≡ with_new_child (rank y (first g ∷ [])) y lf (lowered f g t) → was ≡ None → k ≡ length key - depth → Replaces (take n whole ++ drop depth key) x was 2 k t t'
+  beside_step t t' lf whole f g key n depth y k x was ew ef eg p l low h lt ey small apart el et none ek =
+      rw none (leaf_as_entry (λ come k. AltersChild none_of come 2 0 k 0 t t') (take n whole ++ drop depth key) x k
+      (branch_beside_step (leaf [] x) key depth y lt ey small (leaf_is_placed [] x) (leaf_is_full [] x) t t' lf whole f g n k ew ef eg p l low h apart (el ∙ ap (λ r. leaf r x) (sym (append-nil (drop depth key)))) et ek))
 
   -- a write of the node's own pair is the insertion at a key that ends there, or its refusal
   pub set_step : (r : Result (Change K V) (KeyValue K V)) (n : TrieNode K V) (at : Option (Box (KeyValue K V) Global)) (x : KeyValue K V) (rest : List ℕ) →

@@ -5,7 +5,7 @@ ghost use Rattle.masked_tree.specs.Edits.{with_fragment};
 ghost use Rattle.masked_tree.specs.Mask.{IsPlaceOf};
 ghost use Rattle.masked_tree.specs.Tree.{IsTreePlaced, IsTreeFull, firsts};
 ghost use Rattle.radix_nodes.specs.Nodes.{tree_of, fragment_of};
-ghost use Rattle.radix_nodes.specs.Grafts.{GraftOutcome, BranchOutcome, ChildBranchOutcome, told};
+ghost use Rattle.radix_nodes.specs.Grafts.{GraftOutcome, GraftNodeOutcome, GraftChildOutcome, told};
 
 use crate::fragments::joined_tail;
 use crate::insertion::attach::make_split;
@@ -104,7 +104,7 @@ fn add_branch<K: Drop, V: Drop>(
         (Err i) }
     requires below { IsTreePlaced (tree_of branch.value) }
     requires full { IsTreeFull (tree_of branch.value) }
-    ensures { BranchOutcome result branch (fragment_of node.old ++ drop depth list.now)
+    ensures { GraftNodeOutcome result branch (fragment_of node.old ++ drop depth list.now)
         (tree_of node.old) (tree_of node.new) }
 {
     let Ok(()) = node.children.reserve(1) else {
@@ -138,7 +138,7 @@ fn split_beside<K: Drop, V: Drop>(
     requires placed { IsTreePlaced (tree_of slot.old.value) }
     requires below { IsTreePlaced (tree_of branch.value) }
     requires full { IsTreeFull (tree_of branch.value) }
-    ensures { ChildBranchOutcome result branch
+    ensures { GraftChildOutcome result branch
         (take n (fragment_of slot.old.value) ++ drop depth list.now)
         (tree_of slot.old.value) (tree_of slot.new.value) }
 {

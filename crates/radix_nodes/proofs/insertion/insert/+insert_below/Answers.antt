@@ -14,10 +14,10 @@ use Rattle.nibble_map.proofs.ListLemmas.Cut.{first-append, append-some}
 
 pub returns-then-depth-len : goal.returns-then-depth-len
 returns-then-depth-len g t c =
-    settles_map c.set_by_reference.result c.args.change.now c.set_by_reference.new.change
-    (λ x outcome. set_step outcome c.args.node.now c.set_by_reference.new.at x _
+    settles_map c.set_pair.result c.args.change.now c.set_pair.new.change
+    (λ x outcome. set_step outcome c.args.node.now c.set_pair.new.at x _
     (ap (λ d. drop d c.args.list.now) (c.if-depth-len.true ∙ c.len.ensures) ∙ drop-length c.args.list.now) c.requires.placed)
-    c.set_by_reference.ensures
+    c.set_pair.ensures
 
 pub index_mut-child-requires : goal.index_mut-child-requires
 index_mut-child-requires g t c =
@@ -52,8 +52,8 @@ insert_below-requires g t c =
     let inside = agreed_inside _ c.args.list.now c.args.depth c.agreed-n.result.same c.agreed-n.result.compared (omega (arith, c.requires.depth)) c.agreed-n.ensures.agrees in
     λ κs l. (omega (arith, c.decreases, some, len, inside), (l.0, (l.1, (inside, (placed, c.requires.given)))))
 
-pub split_by_reference-requires-clause-some : goal.split_by_reference-requires-clause-some
-split_by_reference-requires-clause-some g t c =
+pub split_and_insert-requires-clause-some : goal.split_and_insert-requires-clause-some
+split_and_insert-requires-clause-some g t c =
     let n = c.args.node.now in
     let b = c.index_mut-child.result.now in
     let at = place_by_mask n c.get.result (Ok c.in-Ok.i) c.requires.placed c.in-Ok.ensures in
@@ -66,12 +66,12 @@ split_by_reference-requires-clause-some g t c =
     (omega (arith, c.requires.depth, c.if-depth-len.false, c.len.ensures))
     (subst (λ m. c.agreed-n.result.same < length (fragment_of m) → c.args.depth + c.agreed-n.result.same < length c.args.list.now → slice_index (fragment_of m) c.agreed-n.result.same ≢ slice_index c.args.list.now (c.args.depth + c.agreed-n.result.same)) c.deref.ensures (agreed_apart _ c.args.list.now c.args.depth c.agreed-n.result.same c.agreed-n.result.compared c.agreed-n.ensures.agrees))
 
-pub split_by_reference-requires-clause-depth : goal.split_by_reference-requires-clause-depth
-split_by_reference-requires-clause-depth g t c =
+pub split_and_insert-requires-clause-depth : goal.split_and_insert-requires-clause-depth
+split_and_insert-requires-clause-depth g t c =
     agreed_inside _ c.args.list.now c.args.depth c.agreed-n.result.same c.agreed-n.result.compared (omega (arith, c.requires.depth)) c.agreed-n.ensures.agrees
 
-pub split_by_reference-requires-clause-apart : goal.split_by_reference-requires-clause-apart
-split_by_reference-requires-clause-apart g t c =
+pub split_and_insert-requires-clause-apart : goal.split_and_insert-requires-clause-apart
+split_and_insert-requires-clause-apart g t c =
     let b = c.index_mut-child.result.now in
     let n = c.agreed-n.result.same in
     let agrees = subst (λ m. Agrees (fragment_of m) (drop c.args.depth c.args.list.now) n c.agreed-n.result.compared) c.deref.ensures c.agreed-n.ensures.agrees in
@@ -79,15 +79,15 @@ split_by_reference-requires-clause-apart g t c =
     let most = agrees.within in
     agreed_apart (fragment_of b.value) c.args.list.now c.args.depth n c.agreed-n.result.compared agrees (omega (arith, most, len, c.if-n-len.false))
 
-pub split_by_reference-requires-clause-placed : goal.split_by_reference-requires-clause-placed
-split_by_reference-requires-clause-placed g t c =
+pub split_and_insert-requires-clause-placed : goal.split_and_insert-requires-clause-placed
+split_and_insert-requires-clause-placed g t c =
     let n = c.args.node.now in
     let at = place_by_mask n c.get.result (Ok c.in-Ok.i) c.requires.placed c.in-Ok.ensures in
     let lt = place_is_within n c.in-Ok.i c.get.result c.requires.placed at in
     (boxed_child_is_placed n c.in-Ok.i c.index_mut-child.result.now c.requires.placed lt (sym c.index_mut-child.ensures.value)).1
 
-pub add_by_reference-requires-clause-gap : goal.add_by_reference-requires-clause-gap
-add_by_reference-requires-clause-gap g t c =
+pub add_leaf-requires-clause-gap : goal.add_leaf-requires-clause-gap
+add_leaf-requires-clause-gap g t c =
     let n = c.args.node.now in
     subst (λ y. IsPlaceOf y (firsts (tree_of n).children) (Err c.in-Err.i)) c.get.ensures.value (place_by_mask n c.get.result (Err c.in-Err.i) c.requires.placed c.in-Err.ensures)
 
@@ -132,9 +132,9 @@ returns-else-n-len g t c =
     (first-fragment_at_place node c.in-Ok.i b c.requires.placed c.get.result lt is at) c.get.ensures.value (omega (arith, c.requires.depth, c.if-depth-len.false, c.len.ensures))
     (subst (λ m. n < length (fragment_of m) → depth + n < length key → slice_index (fragment_of m) n ≢ slice_index key (depth + n)) c.deref.ensures (agreed_apart _ c.args.list.now c.args.depth c.agreed-n.result.same c.agreed-n.result.compared c.agreed-n.ensures.agrees)) in
     let part = take_some (fragment_of b.value) n positive within in
-    settles_map c.split_by_reference.result c.args.change.now c.split_by_reference.new.change
-    (λ x outcome. edit_through_child node c.in-Ok.i b c.requires.placed outcome c.split_by_reference.new.slot x (take n (fragment_of b.value) ++ drop (depth + n) key) (fragment_of node ++ drop depth key) lt is
+    settles_map c.split_and_insert.result c.args.change.now c.split_and_insert.new.change
+    (λ x outcome. edit_through_child node c.in-Ok.i b c.requires.placed outcome c.split_and_insert.new.slot x (take n (fragment_of b.value) ++ drop (depth + n) key) (fragment_of node ++ drop depth key) lt is
     (ap (λ p. fragment_of node ++ p) (sym (append-agreed_part (fragment_of b.value) key depth n same)))
     (append-some (take n (fragment_of b.value)) rest part)
     (first-append (take n (fragment_of b.value)) rest part ∙ first-take (fragment_of b.value) n positive))
-    c.split_by_reference.ensures
+    c.split_and_insert.ensures

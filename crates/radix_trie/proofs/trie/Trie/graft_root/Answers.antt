@@ -15,8 +15,8 @@ use Rattle.radix_trie.proofs.ChangeLemmas.Prunings.{len-nothing_below}
 use Rattle.radix_trie.proofs.RootLemmas.Shown.{len-map_of_kept}
 use Rattle.radix_trie.proofs.trie.Trie.graft_root.Goals as goal
 
-pub append-requires-clause-top : goal.append-requires-clause-top
-append-requires-clause-top g c = sym (fragment-tree_of c.args.root.now) ∙ c.requires.kept.top
+pub graft_root-requires-clause-top : goal.graft_root-requires-clause-top
+graft_root-requires-clause-top g c = sym (fragment-tree_of c.args.root.now) ∙ c.requires.kept.top
 
 pub returns-then-not-is_one_branch-clause-why : goal.returns-then-not-is_one_branch-clause-why
 returns-then-not-is_one_branch-clause-why g c =

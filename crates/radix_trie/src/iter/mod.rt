@@ -2,6 +2,7 @@
 
 mod back;
 mod children;
+mod combination;
 mod cursor;
 mod ends;
 mod halves;
@@ -14,6 +15,7 @@ mod walk;
 
 pub use back::CursorBack;
 pub use children::Children;
+pub use combination::{Combination, Operation};
 pub use cursor::Cursor;
 pub(crate) use ends::{first_pair, last_pair};
 pub use halves::{Keys, Values};

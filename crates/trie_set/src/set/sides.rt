@@ -4,9 +4,9 @@ ghost use Rattle.std.specs.Prelude.{◌≡◌, ◌↔◌, ◌⊎◌, ℕ, List, 
 ghost use Rattle.nibble_map.specs.Maps.{IsStored};
 ghost use Rattle.trie_set.specs.Sets.{common, joined, keys_in, lacking};
 
-use crate::gathering::Gathering;
 use crate::selection::Selection;
 use crate::set::TrieSet;
+use radix_trie::iter::Operation;
 use radix_trie::{Memory, TrieKey};
 
 impl<K: TrieKey> TrieSet<K> {
@@ -21,7 +21,7 @@ impl<K: TrieKey> TrieSet<K> {
         ensures keys { IfOk result (λ walk. walk ≡ keys_in (common self.now other.now)) }
         ensures none { map.len self.now ≡ 0 → map.len other.now ≡ 0 → IsOk result }
     {
-        Selection::new(self.alloc, &self.trie, &other.trie, true)
+        Selection::new(&self.trie, &other.trie, Operation::Intersection)
     }
 
     /// The walk over the keys of this set at whose encodings the other set has none, in the time of `intersection`.
@@ -33,7 +33,7 @@ impl<K: TrieKey> TrieSet<K> {
         ensures keys { IfOk result (λ walk. walk ≡ keys_in (lacking self.now other.now)) }
         ensures none { map.len self.now ≡ 0 → map.len other.now ≡ 0 → IsOk result }
     {
-        Selection::new(self.alloc, &self.trie, &other.trie, false)
+        Selection::new(&self.trie, &other.trie, Operation::Difference)
     }
 
     /// The walk over the keys of both sets, in the order of the encodings; where both have a key, this set's is given. It
@@ -42,11 +42,11 @@ impl<K: TrieKey> TrieSet<K> {
     /// # Errors
     ///
     /// Those of `intersection`.
-    pub fn union<'a>(&'a self, other: &'a TrieSet<K>) -> Result<Gathering<'a, K>, Memory>
+    pub fn union<'a>(&'a self, other: &'a TrieSet<K>) -> Result<Selection<'a, K>, Memory>
         ensures keys { IfOk result (λ walk. walk ≡ keys_in (joined self.now other.now)) }
         ensures none { map.len self.now ≡ 0 → map.len other.now ≡ 0 → IsOk result }
     {
-        Gathering::new(self.alloc, &self.trie, &other.trie, true)
+        Selection::new(&self.trie, &other.trie, Operation::Union)
     }
 
     /// The walk over the keys of each set at whose encodings the other one has none, in the order of the encodings, in the
@@ -58,12 +58,12 @@ impl<K: TrieKey> TrieSet<K> {
     pub fn symmetric_difference<'a>(
         &'a self,
         other: &'a TrieSet<K>,
-    ) -> Result<Gathering<'a, K>, Memory>
+    ) -> Result<Selection<'a, K>, Memory>
         ensures keys { IfOk result (λ walk. walk
             ≡ keys_in (joined (lacking self.now other.now) (lacking other.now self.now))) }
         ensures none { map.len self.now ≡ 0 → map.len other.now ≡ 0 → IsOk result }
     {
-        Gathering::new(self.alloc, &self.trie, &other.trie, false)
+        Selection::new(&self.trie, &other.trie, Operation::SymmetricDifference)
     }
 
     /// Whether the other set has a key at each encoding at which this set has one, in the time of `intersection`.

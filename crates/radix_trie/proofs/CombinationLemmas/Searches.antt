@@ -87,15 +87,15 @@ module _ {K V : Type 0} where
   second_given operation.Difference None (Some q) some kept = absurd (cc)
   second_given operation.SymmetricDifference None (Some q) some kept = refl
 
-  -- a branch without its own pair
-  abbrev pub bare_branch : Branch K V → Branch K V
-  bare_branch b = record { own = None; row = b.row; offset = b.offset }
-
-  abbrev pub bare_branches : Branches K V → Branches K V
-  bare_branches b = record { first = bare_branch b.first; second = bare_branch b.second }
+  -- two branches with these in place of their own pairs
+  abbrev pub with_own : Branches K V → Option (Bor (KeyValue K V)) → Option (Bor (KeyValue K V)) → Branches K V
+  with_own b a c = record {
+    first = record { own = a; row = b.first.row; offset = b.first.offset };
+    second = record { own = c; row = b.second.row; offset = b.second.offset };
+  }
 
   -- the own pairs come first
-  pub own_given : (op : Operation) (b : Branches K V) → ArePlaced b → pairs_left op b ≡ given op b.first.own b.second.own ++ pairs_left op (bare_branches b)
+  own_given : (op : Operation) (b : Branches K V) → ArePlaced b → pairs_left op b ≡ given op b.first.own b.second.own ++ pairs_left op (with_own b None None)
   own_given op b placed =
       let one = entry [] (own_of b.first.own) in
       let two = entry [] (own_of b.second.own) in
@@ -120,6 +120,24 @@ module _ {K V : Type 0} where
   pub turns-push : (bs : List (Branches K V)) (b : Branches K V) → turns (bs ++ b ∷ []) ≡ turns bs + (2 * nibbles_left b + 1)
   turns-push [] b = omega arith
   turns-push (x ∷ bs) b = omega (arith, turns-push bs b)
+
+  -- the search stands at two branches whose own pairs were taken, of which r is given
+  module _ (op : Operation) (bs : List (Branches K V)) (b : Branches K V) (placed : AreAllPlaced (bs ++ b ∷ [])) (a c x y r : Option (Bor (KeyValue K V)))
+      (first_taken : a ≡ b.first.own) (second_taken : c ≡ b.second.own) (first_left : x ≡ None) (second_left : y ≡ None) (chosen : first_pair r ≡ given op a c) where
+    pub given_first : all_left op (bs ++ b ∷ []) ≡ first_pair r ++ all_left op (bs ++ with_own b x y ∷ [])
+    given_first =
+        left-push op bs b ∙ ap (λ ps. ps ++ all_left op bs) (own_given op b (placed-pop bs b placed).1)
+        ∙ append_assoc (given op b.first.own b.second.own) (pairs_left op (with_own b None None)) (all_left op bs)
+        ∙ (λ i. sym (chosen ∙ (λ j. given op (first_taken j) (second_taken j))) i ++ (pairs_left op (with_own b (sym first_left i) (sym second_left i)) ++ all_left op bs))
+        ∙ ap (λ ps. first_pair r ++ ps) (sym (left-push op bs (with_own b x y)))
+
+    -- where none is given, the same pairs are left
+    pub none_first : r ≡ None → all_left op (bs ++ b ∷ []) ≡ all_left op (bs ++ with_own b x y ∷ [])
+    none_first none = given_first ∙ ap (λ o. first_pair o ++ all_left op (bs ++ with_own b x y ∷ [])) none
+
+    -- where nothing else is left of both, those of the others
+    pub ended : r ≡ None → pairs_left op (with_own b x y) ≡ [] → all_left op (bs ++ b ∷ []) ≡ all_left op bs
+    ended none bare = none_first none ∙ left-push op bs (with_own b x y) ∙ ap (λ ps. ps ++ all_left op bs) bare
 
   -- two branches that were parted: the later one is dropped, or the first one, or the later one is put aside
   module _ (op : Operation) (bs : List (Branches K V)) (below beside : Branches K V) where

@@ -1,8 +1,8 @@
 -- Sets of keys: maps from lists of nibbles, which hold at each list its key, and nothing else with it.
-use Rattle.std.specs.Prelude.{◌≡◌, ℕ, Bool, true, false, cond, not, List, [], ◌∷◌, Option, map as each, option_map}
+use Rattle.std.specs.Prelude.{◌≡◌, ℕ, cond, List, Option, map as each, option_map}
 use Rattle.std.specs.FinMap as map
 use Rattle.nibble_map.specs.MapQueries.{IsAncestor}
-use Rattle.nibble_map.specs.Maps.{NibbleMap, PairMap}
+use Rattle.nibble_map.specs.Maps.{PairMap}
 use Rattle.radix_trie.specs.Views.{pair_of_list}
 
 -- a set of keys, by their encodings

@@ -9,6 +9,8 @@ pub mod PathLemmas
 pub mod MappedLemmas
 -- The walk: the rows of its stack, and the pairs that it gives.
 pub mod WalkLemmas
+-- Two tries side by side: the cut of both at one path, and what their maps hold together.
+pub mod CombinationLemmas
 -- What callers cite: what parts, walks and pages of a map hold, and the order of keys.
 pub mod LawLemmas
 -- A view for writing that is borrowed: its parts.

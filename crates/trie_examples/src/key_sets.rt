@@ -1,6 +1,7 @@
 //! Two sets of words side by side.
 ghost use Rattle.std.specs.Prelude.{◌≡◌, IfOk, option_copied, slice_get};
-ghost use Rattle.trie_set.specs.Sets.{keys_in, lacking};
+ghost use Rattle.radix_trie.specs.Sets.{lacking};
+ghost use Rattle.trie_set.specs.Sets.{keys_in};
 
 use radix_trie::{Memory, TrieError, TrieKey};
 use std::alloc::Global;

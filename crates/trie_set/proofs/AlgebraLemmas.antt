@@ -1,16 +1,16 @@
 -- The algebra of sets, by what their maps answer at each list.
-use Rattle.std.proofs.Common.{◌≡◌, ◌+◌, ℕ, true, false, cond, not, T, List, [], ◌∷◌, filter, length, Option, Some, None, is_some, nat_cmp, refl, sym, ap, ◌∙◌, arith}
+use Rattle.std.proofs.Common.{◌≡◌, ◌+◌, ℕ, true, false, cond, not, T, List, [], ◌∷◌, filter, length, Option, Some, None, is_eq, is_some, nat_cmp, refl, sym, ap, ◌∙◌, arith}
 use Rattle.std.proofs.lemmas.Cmp.{nat_list_cmp_total}
 use Rattle.std.proofs.lemmas.List.Filters.{length-filter_both}
 use Rattle.std.specs.Cmp.Lexicographic.{slice_cmp}
 use Rattle.std.specs.FinMap as map
-use Rattle.std.specs.FinMap.{is_sorted}
+use Rattle.std.specs.FinMap.{find, is_sorted}
+use Rattle.std.specs.FinMap.Entries.{below_all}
 use Rattle.nibble_map.specs.Maps.{NibbleMap}
 use Rattle.nibble_map.proofs.ListLemmas.Sorted.{tied_lists_equal}
-use Rattle.nibble_map.proofs.MapLemmas.Bridge.{entries-retain_keys, first_of_both, second_of_both}
-use Rattle.trie_set.specs.Sets.{common, joined, lacking, with_entries}
-use Rattle.trie_set.proofs.SetLemmas.{get-joined, get-part_beside, get-with_entries}
-use Rattle.trie_set.proofs.SideLemmas.{no_entry}
+use Rattle.nibble_map.proofs.MapLemmas.Bridge.{entries-retain_keys, first_of_both, less_by_test, second_of_both}
+use Rattle.radix_trie.specs.Sets.{common, joined, lacking, with_entries}
+use Rattle.trie_set.proofs.SetLemmas.{get-common, get-joined, get-lacking, get-with_entries}
 
 module _ {P : Type 0} where
   -- what two maps answer together
@@ -88,11 +88,11 @@ module _ {P : Type 0} where
 
     -- in common
     common_as : map.get (common m n) e ≡ both_of a b
-    common_as = get-part_beside true m n e ∙ ap (λ x. both_of x (map.get n e)) ours ∙ ap (both_of a) theirs
+    common_as = get-common m n e ∙ ap (λ x. both_of x (map.get n e)) ours ∙ ap (both_of a) theirs
 
     -- and of the first without the other
     lacking_as : map.get (lacking m n) e ≡ first_without a b
-    lacking_as = get-part_beside false m n e ∙ ap (λ x. first_without x (map.get n e)) ours ∙ ap (first_without a) theirs
+    lacking_as = get-lacking m n e ∙ ap (λ x. first_without x (map.get n e)) ours ∙ ap (first_without a) theirs
 
   -- maps that answer alike are equal
   by_answers : (m n : NibbleMap P) → ((e : List ℕ) → map.get m e ≡ map.get n e) → m ≡ n
@@ -146,6 +146,12 @@ module _ {P : Type 0} where
   common_apart m n o = by_answers _ _ (λ e.
       common_as (common m n) o e _ _ (common_as m n e _ _ refl refl) refl ∙ both_apart (map.get m e) (map.get n e) (map.get o e)
       ∙ sym (common_as m (common n o) e _ _ refl (common_as n o e _ _ refl refl)))
+
+  -- a list that comes before all entries has none
+  no_entry : (q : List ℕ) (es : List (List ℕ × P)) → T (below_all (slice_cmp nat_cmp) q es) → find (slice_cmp nat_cmp) q es ≡ None
+  no_entry q [] h = refl
+  no_entry q (e ∷ es) h =
+      ap (λ r. cond (is_eq r) (Some e.1) (find (slice_cmp nat_cmp) q es)) (less_by_test _ (first_of_both _ _ h)) ∙ no_entry q es (second_of_both _ _ h)
 
   -- entries that come to a map are those at whose lists it holds nothing
   len-with_entries : (es : List (List ℕ × P)) (n : NibbleMap P) → T (is_sorted (slice_cmp nat_cmp) es)

@@ -1,4 +1,3 @@
-pub mod SideLemmas
 pub mod SetLemmas
 pub mod OrderLemmas
 -- The algebra of sets, by what their maps answer at each list.

@@ -4,11 +4,12 @@ use Rattle.std.specs.FinMap as map
 use Rattle.nibble_map.specs.Lists.{Each, Has, IsRising}
 use Rattle.nibble_map.specs.Maps.{PairMap}
 use Rattle.nibble_map.proofs.ListLemmas.Rising.{Each-from_has}
+use Rattle.nibble_map.proofs.MapLemmas.Below.{get-retained_lists}
 use Rattle.nibble_map.proofs.MapLemmas.Edits.{has_get, keys_list_stored, not_None, same_Some}
 use Rattle.radix_trie.proofs.LawLemmas.Asked.{AreAtEncodings}
-use Rattle.trie_set.specs.Sets.{joined, key_at, keys_in, part_beside}
-use Rattle.trie_set.specs.Sides.{kept_as}
-use Rattle.trie_set.proofs.SetLemmas.{get-joined, get-part_beside}
+use Rattle.radix_trie.specs.Sets.{joined}
+use Rattle.trie_set.specs.Sets.{key_at, keys_in}
+use Rattle.trie_set.proofs.SetLemmas.{get-joined}
 
 module _ {K V : Type 0} (enc : K → List ℕ) where
   encodings_of_keys : (es : List (List ℕ × (K × V))) → Each (λ e. e.0 ≡ enc e.1.0) es → each (λ e. e.0) es ≡ each enc (each (λ e. e.1.0) es)
@@ -20,8 +21,8 @@ module _ {K V : Type 0} (enc : K → List ℕ) where
   keys_rise m keyed = subst IsRising (encodings_of_keys (map.entries m) (Each-from_has (λ e. e.0 ≡ enc e.1.0) (map.entries m) (λ e h. keyed e.0 e.1 ((has_get m e.0 e.1).0 h)))) (keys_list_stored m).rising
 
   -- in a part of a map each stands there too
-  pub part_keyed : (keeps : Bool) (m n : PairMap K V) → AreAtEncodings enc m → AreAtEncodings enc (part_beside keeps m n)
-  part_keyed keeps m n keyed e p at = by (kept_as keeps (map.contains_key n e)) (sym (get-part_beside keeps m n e) ∙ at)
+  pub part_keyed : (t : List ℕ → Bool) (m : PairMap K V) → AreAtEncodings enc m → AreAtEncodings enc (map.retain_keys m t)
+  part_keyed t m keyed e p at = by (t e) (sym (get-retained_lists m t e) ∙ at)
     where
       by : (b : Bool) → cond b (map.get m e) None ≡ Some p → e ≡ enc p.0
       by true h = keyed e p h

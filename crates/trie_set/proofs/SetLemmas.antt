@@ -18,8 +18,10 @@ use Rattle.nibble_map.proofs.MapLemmas.Below.{get-retained_lists}
 use Rattle.nibble_map.proofs.MapLemmas.Bridge.{entries-retain_keys}
 use Rattle.nibble_map.proofs.MapLemmas.Edits.{has_get}
 use Rattle.radix_trie.specs.Views.{pairs_below}
-use Rattle.trie_set.specs.Sets.{common, joined, keys_in, lacking, part_beside, whole_beside, with_entries}
-use Rattle.trie_set.specs.Sides.{Ascends, at_encodings, gathered_keys, has_entry, merged_entries, kept_as, picked, selected, united, found_first}
+use Rattle.radix_trie.specs.Combinations.{has_entry}
+use Rattle.radix_trie.specs.Sets.{common, joined, lacking, with_entries}
+use Rattle.radix_trie.proofs.CombinationLemmas.Maps.{whole_walk}
+use Rattle.trie_set.specs.Sets.{keys_in}
 
 true_by_test : (b : Bool) → T b → b ≡ true
 true_by_test true h = refl
@@ -37,39 +39,6 @@ negated false = (λ h k. k, λ h. tt)
 by_two : (b : Bool) → ((T b → ⊥) → ⊥) → T b
 by_two true h = tt
 by_two false h = absurd (h (λ k. k))
-
-module _ {P : Type 0} where
-  -- the entries of a part of a map are those that a walk picks
-  pub entries-part_beside : (keeps : Bool) (m n : NibbleMap P) → map.entries (part_beside keeps m n) ≡ picked keeps (map.entries m) (map.entries n)
-  entries-part_beside true m n =
-      entries-retain_keys (slice_cmp nat_cmp) nat_list_cmp_total tied_lists_equal m (λ e. map.contains_key n e)
-      ∙ (λ i. where_key (slice_cmp nat_cmp) (λ q. is_some (map.get-entries n q i)) (map.entries m))
-  entries-part_beside false m n =
-      entries-retain_keys (slice_cmp nat_cmp) nat_list_cmp_total tied_lists_equal m (λ e. not (map.contains_key n e))
-      ∙ (λ i. where_key (slice_cmp nat_cmp) (λ q. not (is_some (map.get-entries n q i))) (map.entries m))
-
-  entries-with_entries : (es : List (List ℕ × P)) (n : NibbleMap P) → map.entries (with_entries es n) ≡ merged_entries es (map.entries n)
-  entries-with_entries [] n = refl
-  entries-with_entries (e ∷ es) n =
-      map.entries-insert nat_list_cmp_total (with_entries es n) e.0 e.1 ∙ ap (put (slice_cmp nat_cmp) e.0 e.1) (entries-with_entries es n)
-
-  -- the entries of two maps together are the merged ones
-  pub entries-joined : (m n : NibbleMap P) → map.entries (joined m n) ≡ merged_entries (map.entries m) (map.entries n)
-  entries-joined m n = entries-with_entries (map.entries m) n
-
-  -- the same of both walks
-  pub entries-whole_beside : (keeps : Bool) (m n : NibbleMap P) → map.entries (whole_beside keeps m n) ≡ united keeps (map.entries m) (map.entries n)
-  entries-whole_beside true m n = entries-joined m n
-  entries-whole_beside false m n =
-      entries-joined (lacking m n) (lacking n m) ∙ (λ i. merged_entries (entries-part_beside false m n i) (entries-part_beside false n m i))
-
-  all_begun : (es : List (List ℕ × P)) → where_key (slice_cmp nat_cmp) (is_prefix []) es ≡ es
-  all_begun [] = refl
-  all_begun (e ∷ es) = ap (λ xs. e ∷ xs) (all_begun es)
-
-  -- the walk below the empty list is over all entries
-  pub whole_walk : (m : NibbleMap P) → walk m [] ≡ map.entries m
-  whole_walk m = entries-retain_keys (slice_cmp nat_cmp) nat_list_cmp_total tied_lists_equal m (is_prefix []) ∙ all_begun (map.entries m)
 
 module _ {K V : Type 0} where
   keys_of_pairs : (es : List (List ℕ × (K × V))) → each (λ p. p.0) (each (λ e. e.1) es) ≡ each (λ e. e.1.0) es
@@ -99,29 +68,6 @@ module _ {K V : Type 0} where
       → option_map (λ p. p.0) o ≡ slice_get (keys_in m) (length (keys_in m) - 1)
   last_by_walk m o same = ap (option_map (λ p. p.0)) same ∙ sym (last_of_walk m)
 
-  module _ (enc : K → List ℕ) where
-    entries_again : (es : List (List ℕ × (K × V))) → Each (λ e. e.0 ≡ enc e.1.0) es → at_encodings enc (each (λ e. e.1) es) ≡ es
-    entries_again [] h = refl
-    entries_again (e ∷ es) h = (let first = h.0 in let rest = entries_again es h.1 in λ i. (sym first i, e.1) ∷ rest i)
-
-    module _ (m : PairMap K V) (cursor : List (K × V)) (same : cursor ≡ pairs_below m []) (keyed : Each (λ e. e.0 ≡ enc e.1.0) (walk m [])) where
-      -- the pairs of a whole walk, at their keys' encodings, are the map's entries
-      pub entries_of_cursor : at_encodings enc cursor ≡ map.entries m
-      entries_of_cursor = ap (at_encodings enc) same ∙ entries_again (walk m []) keyed ∙ whole_walk m
-
-      -- so the encodings of its keys rise
-      pub cursor_ascends : Ascends enc cursor
-      cursor_ascends = subst (λ es. T (is_sorted (slice_cmp nat_cmp) es)) (sym entries_of_cursor) (map.entries_sorted m)
-
-    module _ (m n : PairMap K V) (ps qs : List (K × V)) (ours : at_encodings enc ps ≡ map.entries m) (theirs : at_encodings enc qs ≡ map.entries n) where
-      -- the keys of two walks that are selected are those of the part of the map
-      pub selected-sides : (keeps : Bool) → selected enc keeps ps qs ≡ keys_in (part_beside keeps m n)
-      selected-sides keeps = (λ i. each (λ e. e.1.0) (picked keeps (ours i) (theirs i))) ∙ sym (ap (each (λ e. e.1.0)) (entries-part_beside keeps m n))
-
-      -- the keys of two walks together are those of the maps together
-      pub gathered-sides : (keeps : Bool) → gathered_keys enc keeps ps qs ≡ keys_in (whole_beside keeps m n)
-      gathered-sides keeps = (λ i. each (λ e. e.1.0) (united keeps (ours i) (theirs i))) ∙ sym (ap (each (λ e. e.1.0)) (entries-whole_beside keeps m n))
-
 -- the walk below the empty list is over as many pairs as the map has
 pub len-whole : {P : Type 0} (m : NibbleMap P) → map.len (below m []) ≡ map.len m
 len-whole m = map.len-entries (below m []) ∙ ap length (whole_walk m) ∙ sym (map.len-entries m)
@@ -129,9 +75,11 @@ len-whole m = map.len-entries (below m []) ∙ ap length (whole_walk m) ∙ sym 
 -- what the maps of two sets hold
 module _ {P : Type 0} where
   -- a part answers as the map does at the lists that it keeps
-  pub get-part_beside : (keeps : Bool) (m n : NibbleMap P) (e : List ℕ) → map.get (part_beside keeps m n) e ≡ cond (kept_as keeps (map.contains_key n e)) (map.get m e) None
-  get-part_beside true m n e = get-retained_lists m (λ q. map.contains_key n q) e
-  get-part_beside false m n e = get-retained_lists m (λ q. not (map.contains_key n q)) e
+  pub get-common : (m n : NibbleMap P) (e : List ℕ) → map.get (common m n) e ≡ cond (map.contains_key n e) (map.get m e) None
+  get-common m n e = get-retained_lists m (λ q. map.contains_key n q) e
+
+  pub get-lacking : (m n : NibbleMap P) (e : List ℕ) → map.get (lacking m n) e ≡ cond (not (map.contains_key n e)) (map.get m e) None
+  get-lacking m n e = get-retained_lists m (λ q. not (map.contains_key n q)) e
 
   kept : (b : Bool) (o : Option P) → T (is_some (cond b o None)) ↔ (T (is_some o) × T b)
   kept true o = (λ h. (h, tt), λ h. h.0)
@@ -139,13 +87,13 @@ module _ {P : Type 0} where
 
   pub stored-common : (m n : NibbleMap P) (e : List ℕ) → IsStored (common m n) e ↔ (IsStored m e × IsStored n e)
   stored-common m n e =
-      let same = ap is_some (get-part_beside true m n e) in
+      let same = ap is_some (get-common m n e) in
       let both = kept (map.contains_key n e) (map.get m e) in
       (λ h. both.0 (subst T same h), λ h. subst T (sym same) (both.1 h))
 
   pub stored-lacking : (m n : NibbleMap P) (e : List ℕ) → IsStored (lacking m n) e ↔ (IsStored m e × (IsStored n e → ⊥))
   stored-lacking m n e =
-      let same = ap is_some (get-part_beside false m n e) in
+      let same = ap is_some (get-lacking m n e) in
       let both = kept (not (map.contains_key n e)) (map.get m e) in
       let no = negated (map.contains_key n e) in
       (λ h. (let k = both.0 (subst T same h) in (k.0, no.0 k.1)), λ h. subst T (sym same) (both.1 (h.0, no.1 h.1)))
@@ -175,8 +123,8 @@ module _ {P : Type 0} where
       let either = one (map.get m e) (map.get n e) in
       (λ h. either.0 (subst T same h), λ h. subst T (sym same) (either.1 h))
 
-  pub get-common : (m n : NibbleMap P) (e : List ℕ) → IsStored n e → map.get (common m n) e ≡ map.get m e
-  get-common m n e h = get-part_beside true m n e ∙ ap (λ b. cond b (map.get m e) None) (true_by_test (map.contains_key n e) h)
+  pub get-common_ours : (m n : NibbleMap P) (e : List ℕ) → IsStored n e → map.get (common m n) e ≡ map.get m e
+  get-common_ours m n e h = get-common m n e ∙ ap (λ b. cond b (map.get m e) None) (true_by_test (map.contains_key n e) h)
 
   pub get-joined_ours : (m n : NibbleMap P) (e : List ℕ) → IsStored m e → map.get (joined m n) e ≡ map.get m e
   get-joined_ours m n e h = get-joined m n e ∙ ap (λ b. cond b (map.get m e) (map.get n e)) (true_by_test (map.contains_key m e) h)
@@ -245,28 +193,3 @@ module _ {K V : Type 0} (m : PairMap K V) (P : K → Type 0) where
 
   pub last_holds : ForSome (slice_get (keys_in m) (length (keys_in m) - 1)) P → ForSome (slice_get (pairs_below m []) (length (pairs_below m []) - 1)) (λ p. P p.0)
   last_holds h = λ p same. h p.0 (last_of_walk m ∙ ap (option_map (λ q. q.0)) same)
-
--- what is found first, and what is left then, are the whole
-pub found_first-step : {K : Type 0} (o : Option (Bor K)) (keys : List K) → option_copied o ≡ slice_get keys 0 → found_first o (drop 1 keys) ≡ keys
-found_first-step None [] found = refl
-found_first-step None (k ∷ keys) found = absurd (let never : None ≡ Some k = found in cc)
-found_first-step (Some x) [] found = absurd (let never : Some x.now ≡ None = found in cc)
-found_first-step (Some x) (k ∷ keys) found = (let is : Some x.now ≡ Some k = found in let same : x.now ≡ k = cc in ap (λ y. y ∷ keys) same)
-
-module _ {K V : Type 0} where
-  -- a map without pairs has no entry
-  entries_none : (m : PairMap K V) → map.len m ≡ 0 → map.entries m ≡ []
-  entries_none m empty = empty_of_length (map.entries m) (sym (map.len-entries m) ∙ empty)
-
-  -- a set without keys has none beside another
-  pub none_selected : (keeps : Bool) (m n : PairMap K V) → map.len m ≡ 0 → keys_in (part_beside keeps m n) ≡ []
-  none_selected keeps m n empty = ap (each (λ e. e.1.0)) (entries-part_beside keeps m n ∙ ap (λ es. picked keeps es (map.entries n)) (entries_none m empty))
-
-  -- two sets without keys have none together
-  pub none_gathered : (keeps : Bool) (m n : PairMap K V) → map.len m ≡ 0 → map.len n ≡ 0 → keys_in (whole_beside keeps m n) ≡ []
-  none_gathered keeps m n empty other =
-      ap (each (λ e. e.1.0)) (entries-whole_beside keeps m n ∙ (λ i. united keeps (entries_none m empty i) (entries_none n other i)) ∙ nothing keeps)
-    where
-      nothing : (keeps : Bool) → united {P = K × V} keeps [] [] ≡ []
-      nothing true = refl
-      nothing false = refl

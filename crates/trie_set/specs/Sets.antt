@@ -1,41 +1,13 @@
 -- Sets of keys: maps from lists of nibbles, which hold at each list its key, and nothing else with it.
-use Rattle.std.specs.Prelude.{◌≡◌, ℕ, Bool, true, false, cond, not, List, [], ◌∷◌, Option, map as each, option_map}
+use Rattle.std.specs.Prelude.{◌≡◌, ℕ, cond, List, Option, map as each, option_map}
 use Rattle.std.specs.FinMap as map
 use Rattle.nibble_map.specs.MapQueries.{IsAncestor}
-use Rattle.nibble_map.specs.Maps.{NibbleMap, PairMap}
+use Rattle.nibble_map.specs.Maps.{PairMap}
 use Rattle.radix_trie.specs.Views.{pair_of_list}
 
 -- a set of keys, by their encodings
 abbrev pub KeyMap : Type 0 → Type 0
 KeyMap K = PairMap K (Unit {0})
-
-module _ {P : Type 0} where
-  -- the part of m whose lists n stores too
-  abbrev pub common : NibbleMap P → NibbleMap P → NibbleMap P
-  common m n = map.retain_keys m (λ e. map.contains_key n e)
-
-  -- the part of m whose lists n doesn't store
-  abbrev pub lacking : NibbleMap P → NibbleMap P → NibbleMap P
-  lacking m n = map.retain_keys m (λ e. not (map.contains_key n e))
-
-  -- the part of m whose lists n stores too, or that whose lists it doesn't
-  abbrev pub part_beside : Bool → NibbleMap P → NibbleMap P → NibbleMap P
-  part_beside true m n = common m n
-  part_beside false m n = lacking m n
-
-  -- the map with these entries, each in place of what it holds there
-  abbrev pub with_entries : List (List ℕ × P) → NibbleMap P → NibbleMap P
-  with_entries [] n = n
-  with_entries (e ∷ es) n = map.insert (with_entries es n) e.0 e.1
-
-  -- all lists of m and of n; at those of both stands what m holds
-  abbrev pub joined : NibbleMap P → NibbleMap P → NibbleMap P
-  joined m n = with_entries (map.entries m) n
-
-  -- all lists of m and of n, or those of one of them alone
-  abbrev pub whole_beside : Bool → NibbleMap P → NibbleMap P → NibbleMap P
-  whole_beside true m n = joined m n
-  whole_beside false m n = joined (lacking m n) (lacking n m)
 
 module _ {K V : Type 0} where
   -- the key at e

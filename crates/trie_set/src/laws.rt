@@ -3,7 +3,8 @@ ghost use Rattle.std.specs.FinMap as map;
 ghost use Rattle.std.specs.Prelude.{◌≡◌, ◌+◌, ◌⊎◌, ◌↔◌, ℕ, List, Some, map as each};
 ghost use Rattle.nibble_map.specs.Lists.{Has, IsRising};
 ghost use Rattle.nibble_map.specs.Maps.{IsStored, NibbleMap};
-ghost use Rattle.trie_set.specs.Sets.{common, joined, key_at, keys_in, lacking};
+ghost use Rattle.radix_trie.specs.Sets.{common, joined, lacking};
+ghost use Rattle.trie_set.specs.Sets.{key_at, keys_in};
 
 use crate::set::TrieSet;
 use radix_trie::{TrieKey, keys_stand_at_their_encodings};

@@ -1,13 +1,10 @@
 //! Sets of keys, kept in a radix trie: membership, prefixes, and two sets side by side.
 #![tactic(auto)]
 
-mod cursor;
-mod gathering;
 mod laws;
 mod selection;
 mod set;
 
-pub use gathering::Gathering;
 pub use laws::{keys_of_sets_rise, sets_answer_by_both};
 pub use selection::Selection;
 pub use set::TrieSet;

@@ -290,7 +290,7 @@ fn key_of<K>(pair: Option<(K, ())>) -> Option<K>
 }
 
 /// The key of a borrowed pair, if there is one.
-fn key_behind<'a, K>(pair: Option<(&'a K, &'a ())>) -> Option<&'a K>
+pub(crate) fn key_behind<'a, K>(pair: Option<(&'a K, &'a ())>) -> Option<&'a K>
     ensures { option_copied result ≡ option_map (λ p. p.0) (option_map deref_pair pair.entry) }
 {
     let (key, _) = pair?;

@@ -1,6 +1,7 @@
 //! Walks over the pairs of a trie, in the order of the encodings.
 
 mod back;
+mod combination;
 mod cursor;
 mod ends;
 mod halves;
@@ -13,6 +14,7 @@ mod walk;
 
 pub use crate::view::children::Children;
 pub use back::CursorBack;
+pub use combination::{Combination, Operation};
 pub use cursor::Cursor;
 pub(crate) use ends::{first_pair, last_pair};
 pub use halves::{Keys, Values};

@@ -2,29 +2,31 @@
 ghost use Rattle.std.specs.FinMap as map;
 ghost use Rattle.std.specs.Prelude.{◌≡◌, ◌↔◌, ◌⊎◌, ℕ, List, IsTrue, IsOk, IfOk};
 ghost use Rattle.nibble_map.specs.Maps.{IsStored};
-ghost use Rattle.trie_set.specs.Sets.{common, joined, keys_in, lacking};
+ghost use Rattle.radix_trie.specs.Sets.{common, joined, lacking};
+ghost use Rattle.trie_set.specs.Sets.{keys_in};
 
-use crate::gathering::Gathering;
 use crate::selection::Selection;
 use crate::set::TrieSet;
+use radix_trie::iter::Operation;
 use radix_trie::{Memory, TrieKey};
 
 impl<K: TrieKey> TrieSet<K> {
     /// The walk over the keys of this set at whose encodings the other set has keys too.
     ///
-    /// A whole walk takes the time of a walk over each of the two sets. The first key is found here.
+    /// A whole walk takes at most the time of the ways down to the keys of the smaller set. The first key is found here.
     ///
     /// # Errors
     ///
-    /// Memory is refused, for rows of nodes of each set, and as in a step. None is allocated for empty sets.
+    /// Memory is refused, as in a step. None is allocated for empty sets.
     pub fn intersection<'a>(&'a self, other: &'a TrieSet<K>) -> Result<Selection<'a, K>, Memory>
         ensures keys { IfOk result (λ walk. walk ≡ keys_in (common self.now other.now)) }
         ensures none { map.len self.now ≡ 0 → map.len other.now ≡ 0 → IsOk result }
     {
-        Selection::new(self.alloc, &self.trie, &other.trie, true)
+        Selection::new(&self.trie, &other.trie, Operation::Intersection)
     }
 
-    /// The walk over the keys of this set at whose encodings the other set has none, in the time of `intersection`.
+    /// The walk over the keys of this set at whose encodings the other set has none. A whole walk takes at
+    /// most the time of a walk over this set.
     ///
     /// # Errors
     ///
@@ -33,24 +35,24 @@ impl<K: TrieKey> TrieSet<K> {
         ensures keys { IfOk result (λ walk. walk ≡ keys_in (lacking self.now other.now)) }
         ensures none { map.len self.now ≡ 0 → map.len other.now ≡ 0 → IsOk result }
     {
-        Selection::new(self.alloc, &self.trie, &other.trie, false)
+        Selection::new(&self.trie, &other.trie, Operation::Difference)
     }
 
-    /// The walk over the keys of both sets, in the order of the encodings; where both have a key, this set's is given. It
-    /// takes the time of `intersection`.
+    /// The walk over the keys of both sets, in the order of the encodings; where both have a key, this set's is given. A
+    /// whole walk takes at most the time of a walk over each of the two sets.
     ///
     /// # Errors
     ///
     /// Those of `intersection`.
-    pub fn union<'a>(&'a self, other: &'a TrieSet<K>) -> Result<Gathering<'a, K>, Memory>
+    pub fn union<'a>(&'a self, other: &'a TrieSet<K>) -> Result<Selection<'a, K>, Memory>
         ensures keys { IfOk result (λ walk. walk ≡ keys_in (joined self.now other.now)) }
         ensures none { map.len self.now ≡ 0 → map.len other.now ≡ 0 → IsOk result }
     {
-        Gathering::new(self.alloc, &self.trie, &other.trie, true)
+        Selection::new(&self.trie, &other.trie, Operation::Union)
     }
 
     /// The walk over the keys of each set at whose encodings the other one has none, in the order of the encodings, in the
-    /// time of `intersection`.
+    /// time of `union`.
     ///
     /// # Errors
     ///
@@ -58,15 +60,15 @@ impl<K: TrieKey> TrieSet<K> {
     pub fn symmetric_difference<'a>(
         &'a self,
         other: &'a TrieSet<K>,
-    ) -> Result<Gathering<'a, K>, Memory>
+    ) -> Result<Selection<'a, K>, Memory>
         ensures keys { IfOk result (λ walk. walk
             ≡ keys_in (joined (lacking self.now other.now) (lacking other.now self.now))) }
         ensures none { map.len self.now ≡ 0 → map.len other.now ≡ 0 → IsOk result }
     {
-        Gathering::new(self.alloc, &self.trie, &other.trie, false)
+        Selection::new(&self.trie, &other.trie, Operation::SymmetricDifference)
     }
 
-    /// Whether the other set has a key at each encoding at which this set has one, in the time of `intersection`.
+    /// Whether the other set has a key at each encoding at which this set has one, in the time of `difference`.
     ///
     /// # Errors
     ///
@@ -83,7 +85,8 @@ impl<K: TrieKey> TrieSet<K> {
         Ok(missing.next()?.is_none())
     }
 
-    /// Whether this set has a key at each encoding at which the other set has one, in the time of `intersection`.
+    /// Whether this set has a key at each encoding at which the other set has one, in the time of the other
+    /// set's `difference`.
     ///
     /// # Errors
     ///

@@ -4,7 +4,7 @@ use crate::calls::lines::{key_line, none_line};
 use radix_trie::Memory;
 use radix_trie::iter::{Cursor, CursorBack};
 use shell_words::{Answer, Key};
-use trie_set::{Gathering, Selection};
+use trie_set::Selection;
 
 /// A walk over keys, or over pairs. A refused step leaves the same ones.
 pub trait Steps<'a> {
@@ -25,12 +25,6 @@ impl<'a> Steps<'a> for CursorBack<'a, Key, u64> {
 }
 
 impl<'a> Steps<'a> for Selection<'a, Key> {
-    fn step(&mut self) -> Result<Option<(&'a Key, Option<u64>)>, Memory> {
-        Ok(without_value(self.next()?))
-    }
-}
-
-impl<'a> Steps<'a> for Gathering<'a, Key> {
     fn step(&mut self) -> Result<Option<(&'a Key, Option<u64>)>, Memory> {
         Ok(without_value(self.next()?))
     }

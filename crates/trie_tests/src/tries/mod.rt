@@ -1,6 +1,7 @@
 //! Tries: values of other types than numbers, texts of tries, walks that are left, large and deep
 //! tries.
 
+mod combined;
 mod copies;
 mod deep_chain;
 mod equality;

@@ -1,6 +1,7 @@
-use Rattle.std.proofs.Common.{false, true, subst}
+use Rattle.std.proofs.Common.{not, subst}
+use Rattle.std.specs.FinMap as map
 use Rattle.radix_trie.proofs.LawLemmas.Asked.{AreAtEncodings}
-use Rattle.trie_set.specs.Sets.{joined, part_beside}
+use Rattle.radix_trie.specs.Sets.{common, joined, lacking}
 use Rattle.trie_set.proofs.OrderLemmas.{joined_keyed, keys_held, keys_rise, part_keyed}
 use Rattle.trie_set.proofs.laws.keys_of_sets_rise.Goals as goal
 
@@ -14,7 +15,7 @@ returns g c =
     record {
       held = keys_held enc m ours;
       all = keys_rise enc m ours;
-      common = keys_rise enc (part_beside true m n) (part_keyed enc true m n ours);
-      lacking = keys_rise enc (part_beside false m n) (part_keyed enc false m n ours);
+      common = keys_rise enc (common m n) (part_keyed enc (λ e. map.contains_key n e) m ours);
+      lacking = keys_rise enc (lacking m n) (part_keyed enc (λ e. not (map.contains_key n e)) m ours);
       joined = keys_rise enc (joined m n) (joined_keyed enc m n ours theirs);
     }

@@ -1,6 +1,8 @@
-use Rattle.std.proofs.Common.{◌∙◌, refl, sym}
-use Rattle.trie_set.proofs.SetLemmas.{found_first-step, none_selected}
+use Rattle.std.proofs.Common.{◌∙◌, ap, map as each}
+use Rattle.radix_trie.specs.Sets.{combined}
+use Rattle.trie_set.proofs.SetLemmas.{keys_of_walk}
 use Rattle.trie_set.proofs.selection.Selection.new.Goals as goal
 
-pub returns-then-is_empty-clause-keys : goal.returns-then-is_empty-clause-keys
-returns-then-is_empty-clause-keys g c = sym (none_selected c.args.keeps_common c.args.keys.now c.args.others.now (c.if-is_empty.ensures.0 refl))
+pub returns-clause-keys : goal.returns-clause-keys
+returns-clause-keys g c =
+    ap (each (λ p. p.0)) c.in_ok-pairs.ensures.pairs ∙ keys_of_walk (combined c.args.operation c.args.first.now c.args.second.now)

@@ -1,0 +1,157 @@
+-- What a search over two sides has left, and the turns that it takes.
+use Rattle.std.proofs.Common.{◌≡◌, ◌+◌, ◌*◌, ◌<◌, ◌≤◌, ℕ, Bool, true, false, not, ◌⊎◌, inl, inr, List, [], ◌∷◌, ◌++◌, Option, Some, None, Bor, is_some, refl, ap, sym, subst, ◌∙◌, arith, append_assoc, append-nil}
+use Rattle.masked_tree.specs.Tree.{Tree, IsTreePlaced, IsPlaced, entries_in}
+use Rattle.nibble_map.specs.Swaps.{entry}
+use Rattle.radix_nodes.specs.declared.trie_node.KeyValue.{KeyValue}
+use Rattle.radix_nodes.specs.Pairs.{pair_of, pairs_of}
+use Rattle.radix_nodes.proofs.NodeLemmas.Pairs.{pairs_of-append}
+use Rattle.radix_trie.specs.declared.iter.combination.Operation.{Operation}
+use Rattle.radix_trie.specs.declared.iter.combination.Operation.TheVariants as operation
+use Rattle.radix_trie.specs.declared.iter.combination.branches.Branch.{Branch}
+use Rattle.radix_trie.specs.declared.iter.combination.branches.Branches.{Branches}
+use Rattle.radix_trie.specs.Combinations.{AreAllPlaced, ArePlaced, all_left, combined_entries, entries_left, entries_of_node, keeps, nibbles_left, own_of, pairs_left, picked, row_of_branch, turns}
+use Rattle.radix_trie.specs.Walks.{first_pair}
+use Rattle.radix_trie.proofs.CombinationLemmas.Lists.{IsEarly, combined_cut}
+use Rattle.radix_trie.proofs.CombinationLemmas.Trees.{placed_late}
+
+module _ {P : Type 0} where
+  -- no entry is common with none
+  none_common : (es : List (List ℕ × P)) → picked true es [] ≡ []
+  none_common [] = refl
+  none_common (e ∷ es) = none_common es
+
+  -- where a side is known to be empty, an operation that keeps nothing of the other gives nothing
+  pub nothing_given : (op : Operation) (bare other : Bool) (es fs : List (List ℕ × P)) → (bare ≡ true → es ≡ []) → (other ≡ true → fs ≡ [])
+      → ((bare ≡ false) × (other ≡ true)) ⊎ (bare ≡ true) → keeps op (not bare) (not other) ≡ false → combined_entries op es fs ≡ []
+  nothing_given op false false es fs one two (inl h) kept = absurd (let never : false ≡ true = h.1 in cc)
+  nothing_given op false false es fs one two (inr h) kept = absurd (let never : false ≡ true = h in cc)
+  nothing_given operation.Union true true es fs one two some kept = λ i. combined_entries operation.Union (one refl i) (two refl i)
+  nothing_given operation.Intersection true true es fs one two some kept = λ i. combined_entries operation.Intersection (one refl i) (two refl i)
+  nothing_given operation.Difference true true es fs one two some kept = λ i. combined_entries operation.Difference (one refl i) (two refl i)
+  nothing_given operation.SymmetricDifference true true es fs one two some kept = λ i. combined_entries operation.SymmetricDifference (one refl i) (two refl i)
+  nothing_given operation.Union true false es fs one two some kept = absurd (cc)
+  nothing_given operation.Intersection true false es fs one two some kept = ap (λ xs. combined_entries operation.Intersection xs fs) (one refl)
+  nothing_given operation.Difference true false es fs one two some kept = ap (λ xs. combined_entries operation.Difference xs fs) (one refl)
+  nothing_given operation.SymmetricDifference true false es fs one two some kept = absurd (cc)
+  nothing_given operation.Union false true es fs one two some kept = absurd (cc)
+  nothing_given operation.Intersection false true es fs one two some kept = ap (combined_entries operation.Intersection es) (two refl) ∙ none_common es
+  nothing_given operation.Difference false true es fs one two some kept = absurd (cc)
+  nothing_given operation.SymmetricDifference false true es fs one two some kept = absurd (cc)
+
+  early_own : (o : Option P) → IsEarly 0 (entry [] o)
+  early_own None = tt
+  early_own (Some x) = (omega arith, tt)
+
+module _ {K V : Type 0} where
+  -- the pairs of an operation's choice at one list
+  abbrev pub given : Operation → Option (Bor (KeyValue K V)) → Option (Bor (KeyValue K V)) → List (K × V)
+  given op a b = pairs_of (combined_entries op (entry [] (own_of a)) (entry [] (own_of b)))
+
+  pub none_given : (op : Operation) (a b : Option (Bor (KeyValue K V))) → keeps op (is_some a) (is_some b) ≡ false → [] ≡ given op a b
+  none_given operation.Union None None kept = refl
+  none_given operation.Union None (Some q) kept = absurd (cc)
+  none_given operation.Union (Some p) b kept = absurd (cc)
+  none_given operation.Intersection None b kept = refl
+  none_given operation.Intersection (Some p) None kept = refl
+  none_given operation.Intersection (Some p) (Some q) kept = absurd (cc)
+  none_given operation.Difference None b kept = refl
+  none_given operation.Difference (Some p) None kept = absurd (cc)
+  none_given operation.Difference (Some p) (Some q) kept = refl
+  none_given operation.SymmetricDifference None None kept = refl
+  none_given operation.SymmetricDifference None (Some q) kept = absurd (cc)
+  none_given operation.SymmetricDifference (Some p) None kept = absurd (cc)
+  none_given operation.SymmetricDifference (Some p) (Some q) kept = refl
+
+  pub first_given : (op : Operation) (a b : Option (Bor (KeyValue K V))) → is_some a ≡ true → keeps op (is_some a) (is_some b) ≡ true → first_pair a ≡ given op a b
+  first_given op None b some kept = absurd (cc)
+  first_given operation.Union (Some p) None some kept = refl
+  first_given operation.Union (Some p) (Some q) some kept = refl
+  first_given operation.Intersection (Some p) None some kept = absurd (cc)
+  first_given operation.Intersection (Some p) (Some q) some kept = refl
+  first_given operation.Difference (Some p) None some kept = refl
+  first_given operation.Difference (Some p) (Some q) some kept = absurd (cc)
+  first_given operation.SymmetricDifference (Some p) None some kept = refl
+  first_given operation.SymmetricDifference (Some p) (Some q) some kept = absurd (cc)
+
+  pub second_given : (op : Operation) (a b : Option (Bor (KeyValue K V))) → is_some a ≡ false → keeps op (is_some a) (is_some b) ≡ true → first_pair b ≡ given op a b
+  second_given op (Some p) b some kept = absurd (cc)
+  second_given op None None some kept = by op
+    where
+      by : (o : Operation) → [] ≡ given o None None
+      by operation.Union = refl
+      by operation.Intersection = refl
+      by operation.Difference = refl
+      by operation.SymmetricDifference = refl
+  second_given operation.Union None (Some q) some kept = refl
+  second_given operation.Intersection None (Some q) some kept = absurd (cc)
+  second_given operation.Difference None (Some q) some kept = absurd (cc)
+  second_given operation.SymmetricDifference None (Some q) some kept = refl
+
+  -- two branches with these in place of their own pairs
+  abbrev pub with_own : Branches K V → Option (Bor (KeyValue K V)) → Option (Bor (KeyValue K V)) → Branches K V
+  with_own b a c = record {
+    first = record { own = a; row = b.first.row; offset = b.first.offset };
+    second = record { own = c; row = b.second.row; offset = b.second.offset };
+  }
+
+  -- the own pairs come first
+  own_given : (op : Operation) (b : Branches K V) → ArePlaced b → pairs_left op b ≡ given op b.first.own b.second.own ++ pairs_left op (with_own b None None)
+  own_given op b placed =
+      let one = entry [] (own_of b.first.own) in
+      let two = entry [] (own_of b.second.own) in
+      let ones = entries_in [] (row_of_branch b.first) in
+      let twos = entries_in [] (row_of_branch b.second) in
+      ap pairs_of (combined_cut 0 op one ones two twos (early_own (own_of b.first.own)) (placed_late 0 _ placed.0) (early_own (own_of b.second.own)) (placed_late 0 _ placed.1))
+      ∙ pairs_of-append (combined_entries op one two) (combined_entries op ones twos)
+
+  -- one more on a stack comes first
+  pub left-push : (op : Operation) (bs : List (Branches K V)) (b : Branches K V) → all_left op (bs ++ b ∷ []) ≡ pairs_left op b ++ all_left op bs
+  left-push op [] b = sym (append-nil (pairs_left op b))
+  left-push op (x ∷ bs) b = ap (λ ps. ps ++ pairs_left op x) (left-push op bs b) ∙ append_assoc (pairs_left op b) (all_left op bs) (pairs_left op x)
+
+  pub placed-push : (bs : List (Branches K V)) (b : Branches K V) → AreAllPlaced bs → ArePlaced b → AreAllPlaced (bs ++ b ∷ [])
+  placed-push [] b all placed = (placed, tt)
+  placed-push (x ∷ bs) b all placed = (all.0, placed-push bs b all.1 placed)
+
+  pub placed-pop : (bs : List (Branches K V)) (b : Branches K V) → AreAllPlaced (bs ++ b ∷ []) → AreAllPlaced bs × ArePlaced b
+  placed-pop [] b all = (tt, all.0)
+  placed-pop (x ∷ bs) b all = let rest = placed-pop bs b all.1 in ((all.0, rest.0), rest.1)
+
+  pub turns-push : (bs : List (Branches K V)) (b : Branches K V) → turns (bs ++ b ∷ []) ≡ turns bs + (2 * nibbles_left b + 1)
+  turns-push [] b = omega arith
+  turns-push (x ∷ bs) b = omega (arith, turns-push bs b)
+
+  -- the search stands at two branches whose own pairs were taken, of which r is given
+  module _ (op : Operation) (bs : List (Branches K V)) (b : Branches K V) (placed : AreAllPlaced (bs ++ b ∷ [])) (a c x y r : Option (Bor (KeyValue K V)))
+      (first_taken : a ≡ b.first.own) (second_taken : c ≡ b.second.own) (first_left : x ≡ None) (second_left : y ≡ None) (chosen : first_pair r ≡ given op a c) where
+    pub given_first : all_left op (bs ++ b ∷ []) ≡ first_pair r ++ all_left op (bs ++ with_own b x y ∷ [])
+    given_first =
+        left-push op bs b ∙ ap (λ ps. ps ++ all_left op bs) (own_given op b (placed-pop bs b placed).1)
+        ∙ append_assoc (given op b.first.own b.second.own) (pairs_left op (with_own b None None)) (all_left op bs)
+        ∙ (λ i. sym (chosen ∙ (λ j. given op (first_taken j) (second_taken j))) i ++ (pairs_left op (with_own b (sym first_left i) (sym second_left i)) ++ all_left op bs))
+        ∙ ap (λ ps. first_pair r ++ ps) (sym (left-push op bs (with_own b x y)))
+
+    -- where none is given, the same pairs are left
+    pub none_first : r ≡ None → all_left op (bs ++ b ∷ []) ≡ all_left op (bs ++ with_own b x y ∷ [])
+    none_first none = given_first ∙ ap (λ o. first_pair o ++ all_left op (bs ++ with_own b x y ∷ [])) none
+
+    -- where nothing else is left of both, those of the others
+    pub ended : r ≡ None → pairs_left op (with_own b x y) ≡ [] → all_left op (bs ++ b ∷ []) ≡ all_left op bs
+    ended none bare = none_first none ∙ left-push op bs (with_own b x y) ∙ ap (λ ps. ps ++ all_left op bs) bare
+
+  -- two branches that were parted: the later one is dropped, or the first one, or the later one is put aside
+  module _ (op : Operation) (bs : List (Branches K V)) (below beside : Branches K V) where
+    pub only_beside : pairs_left op below ≡ [] → all_left op (bs ++ beside ∷ []) ≡ (pairs_left op below ++ pairs_left op beside) ++ all_left op bs
+    only_beside bare = left-push op bs beside ∙ ap (λ ps. (ps ++ pairs_left op beside) ++ all_left op bs) (sym bare)
+
+    pub only_below : pairs_left op beside ≡ [] → all_left op (bs ++ below ∷ []) ≡ (pairs_left op below ++ pairs_left op beside) ++ all_left op bs
+    only_below bare = left-push op bs below ∙ ap (λ ps. ps ++ all_left op bs) (sym (ap (λ ps. pairs_left op below ++ ps) bare ∙ append-nil (pairs_left op below)))
+
+    pub first_below : (new : List (Branches K V)) → new ≡ bs ++ beside ∷ [] → all_left op (new ++ below ∷ []) ≡ (pairs_left op below ++ pairs_left op beside) ++ all_left op bs
+    first_below new pushed =
+        left-push op new below ∙ ap (λ n. pairs_left op below ++ all_left op n) pushed ∙ ap (λ ps. pairs_left op below ++ ps) (left-push op bs beside)
+        ∙ sym (append_assoc (pairs_left op below) (pairs_left op beside) (all_left op bs))
+
+  -- the entries of a branch over a node
+  pub branch_over : (b : Branch K V) (t : Tree (KeyValue K V)) → own_of b.own ≡ t.pair → row_of_branch b ≡ t.children → entries_left b ≡ entries_of_node t
+  branch_over b t own row = λ i. entry [] (own i) ++ entries_in [] (row i)

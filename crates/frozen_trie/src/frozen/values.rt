@@ -1,7 +1,6 @@
 //! Changes of all values, each by one call of a closure. No pair moves, so encodings and links stay.
 ghost use Rattle.std.specs.Prelude.{◌≡◌, [], All};
-ghost use Rattle.std.specs.Fn.{FnOnceReturnsAtMut, FnOnceTakesAtMut};
-ghost use Rattle.radix_trie.specs.Values.{ChangesEachPair, ChangesEachValue, LeavesAtPair, TakesPairAtMut};
+ghost use Rattle.radix_trie.specs.Values.{ChangesEachPair, LeavesAtPair, TakesPairAtMut};
 ghost use Rattle.radix_trie.specs.Views.{pairs_below};
 ghost use Rattle.frozen_trie.specs.Changes.{AreChanged};
 

@@ -151,7 +151,3 @@ module _ {K V : Type 0} where
     first_below new pushed =
         left-push op new below ∙ ap (λ n. pairs_left op below ++ all_left op n) pushed ∙ ap (λ ps. pairs_left op below ++ ps) (left-push op bs beside)
         ∙ sym (append_assoc (pairs_left op below) (pairs_left op beside) (all_left op bs))
-
-  -- the entries of a branch over a node
-  pub branch_over : (b : Branch K V) (t : Tree (KeyValue K V)) → own_of b.own ≡ t.pair → row_of_branch b ≡ t.children → entries_left b ≡ entries_of_node t
-  branch_over b t own row = λ i. entry [] (own i) ++ entries_in [] (row i)

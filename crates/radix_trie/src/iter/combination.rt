@@ -169,12 +169,14 @@ fn descend<'a, K, V>(
     Ok(below)
 }
 
-/// A walk over the pairs of two tries, by an operation: each encoding once, in their order. Of two pairs with one encoding
-/// the first trie's is given.
+/// A walk over the pairs of two tries that an operation gives: each encoding once, in their order. Of two pairs with one
+/// encoding the first trie's is given.
 ///
-/// No key is encoded, and a branch that the operation leaves out is passed over whole. A step may be refused, since it may
-/// allocate: memory for at most two rows of nodes for each level. The same pairs are left then. A contract sees the walk as
-/// the list of the pairs that are left.
+/// The nodes of both tries are gone along side by side. No key is encoded, and what the operation leaves out is passed over
+/// branch by branch.
+///
+/// A step may be refused, since it may allocate: memory for the rows of nodes beside the ways down. The same pairs are left
+/// then. A contract sees the walk as the list of the pairs that are left.
 #[derive(Drop)]
 pub struct Combination<'a, K, V> {
     /// The pair that the next step returns.
@@ -194,6 +196,13 @@ impl<'a, K, V> Model for Combination<'a, K, V> {
 
 impl<'a, K, V> Combination<'a, K, V> {
     /// The walk over two tries. The first pair is found here.
+    ///
+    /// A whole walk takes at most the time of a walk over each of the two; by `Intersection`, at most that of the ways down to
+    /// the keys of the smaller one.
+    ///
+    /// # Errors
+    ///
+    /// Memory is refused, as in a step. None is allocated where neither trie has a pair.
     pub fn new(
         first: &'a Trie<K, V>,
         second: &'a Trie<K, V>,
@@ -216,7 +225,13 @@ impl<'a, K, V> Combination<'a, K, V> {
         Ok(Combination { found, search })
     }
 
-    /// The next pair, in the order of the encodings, or None where none is left, and then at each further call.
+    /// The next pair, in the order of the encodings, or None where none is left, and then at each further call. The pair
+    /// behind it is looked for too.
+    ///
+    /// # Errors
+    ///
+    /// Memory is refused, for rows of nodes that are put aside. Then the same pairs are left, and the next call goes on where
+    /// this one stopped. At the end no memory is allocated.
     pub fn next(&mut self) -> Result<Option<(&'a K, &'a V)>, Memory>
         ensures pair { IfOk result (λ pair. option_map deref_pair pair ≡ slice_get self.old 0) }
         ensures rest { OnOk result (self.new ≡ drop 1 self.old) }

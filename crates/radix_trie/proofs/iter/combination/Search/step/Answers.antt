@@ -64,7 +64,7 @@ pub returns-in_default-pop-clause-pair : goal.returns-in_default-pop-clause-pair
 returns-in_default-pop-clause-pair g c =
     let s = c.loop-pair.self-inside in
     let same = ended s.operation s.stack.items s.at c.loop-pair.invariant.placed _ _ _ _ _ c.take-first.ensures.value c.take-second.ensures.value c.take-first.ensures.after c.take-second.ensures.after c.choice.ensures c.in_default.is
-        (c.in_default-part.ensures.none refl s.operation) in
+    (c.in_default-part.ensures.none refl s.operation) in
     let none = empty_of_length s.stack.items (sym s.stack.ok.0 ∙ c.in_default-pop.ensures.cases.0) in
     sym (ap (λ l. slice_get l 0) (sym c.loop-pair.invariant.same ∙ same ∙ ap (all_left s.operation) none))
 
@@ -86,7 +86,7 @@ pub loop-pair-preserved : goal.loop-pair-preserved
 loop-pair-preserved g c =
     let s = c.loop-pair.self-inside in
     let same = ended s.operation s.stack.items s.at c.loop-pair.invariant.placed _ _ _ _ _ c.take-first.ensures.value c.take-second.ensures.value c.take-first.ensures.after c.take-second.ensures.after c.choice.ensures c.in_default.is
-        (c.in_default-part.ensures.none refl s.operation) in
+    (c.in_default-part.ensures.none refl s.operation) in
     let items = c.in-Some-pop.ensures.items in
     record {
       same = ap (all_left s.operation) (sym items) ∙ sym same ∙ c.loop-pair.invariant.same;

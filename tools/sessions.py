@@ -175,7 +175,9 @@ def calls_of(words, place):
     plain = {"run": ["run"], "json": ["from_value", "to_value"], "into_children": ["SubTrieMut::into_children"],
              "freeze": ["freeze"], "frozen_copy": ["frozen_copy"], "write": ["FrozenTexts::write"],
              "read": ["FrozenTexts::read", "FrozenTrie::push", "FrozenTrie::finish"],
-             **{it: [f"FrozenTrie::{it}"] for it in ("from_sorted", "thaw")}}
+             **{it: [f"FrozenTrie::{it}"] for it in ("from_sorted", "thaw")},
+             **{it: ["Combination::new", "Combination::next"] for it in ("union", "intersection", "difference",
+                                                                        "symmetric_difference")}}
     of, *steps = WALKS.get(name, (name,))
     return plain.get(name) or [f"&{place}::{of}" if of in COMMON else f"{place}::{of}", *steps]
 

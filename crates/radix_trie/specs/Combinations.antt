@@ -1,12 +1,11 @@
 -- What a walk over two tries has left.
-use Rattle.std.specs.Prelude.{◌≡◌, ◌≢◌, ◌⊎◌, ℕ, zero, suc, ◌+◌, ◌*◌, ◌≤◌, ◌<◌, Bool, true, false, cond, not, ◌&&◌, ◌||◌, List, [], ◌∷◌, ◌++◌, drop, length, take, Option, None, Some, map as each, is_some, option_map, ⊤}
+use Rattle.std.specs.Prelude.{◌≡◌, ◌⊎◌, ℕ, zero, suc, ◌+◌, ◌*◌, ◌≤◌, ◌<◌, Bool, true, false, cond, not, ◌&&◌, ◌||◌, List, [], ◌∷◌, ◌++◌, drop, length, take, Option, None, Some, map as each, is_some, option_map, ⊤}
 use Rattle.std.specs.Borrow.{Bor}
 use Rattle.std.specs.Cmp.Lexicographic.{slice_cmp}
 use Rattle.std.specs.FinMap.{find, put}
 use Rattle.std.specs.FinMap.Entries.{where_key}
 use Rattle.std.specs.Ordering.{nat_cmp}
 use Rattle.masked_tree.specs.Tree.{Tree, Children, none, more, IsPlaced, entries_in, nibbles_in}
-use Rattle.nibble_map.specs.Lists.{Each}
 use Rattle.nibble_map.specs.Swaps.{entry}
 use Rattle.nibble_map.specs.Trees.{first}
 use Rattle.radix_nodes.specs.declared.trie_node.KeyValue.{KeyValue}

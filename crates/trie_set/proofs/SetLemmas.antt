@@ -1,21 +1,18 @@
 -- Sets side by side, and the walks that stand for them.
-use Rattle.std.proofs.Common.{◌≡◌, ◌-◌, ◌↔◌, ◌⊎◌, inl, inr, ℕ, Bool, true, false, cond, not, T, List, [], ◌∷◌, drop, length, slice_get, Option, Some, None, IsTrue, is_some, option_copied, option_map, map as each, nat_cmp, refl, sym, ap, ◌∙◌, subst}
+use Rattle.std.proofs.Common.{◌≡◌, ◌-◌, ◌↔◌, ◌⊎◌, inl, inr, ℕ, Bool, true, false, cond, not, T, List, [], ◌∷◌, length, slice_get, Option, Some, None, IsTrue, is_some, option_copied, option_map, map as each, nat_cmp, refl, sym, ap, ◌∙◌, subst}
 use Rattle.std.proofs.lemmas.Cmp.{nat_list_cmp_total}
 use Rattle.std.proofs.lemmas.List.{length-map}
 use Rattle.std.proofs.lemmas.Option.{slice_get-map}
 use Rattle.std.specs.Cmp.Lexicographic.{slice_cmp}
 use Rattle.std.specs.Borrow.{Bor}
 use Rattle.std.specs.FinMap as map
-use Rattle.std.specs.FinMap.{find, is_sorted, put}
-use Rattle.std.specs.FinMap.Entries.{where_key}
+use Rattle.std.specs.FinMap.{find}
 use Rattle.std.specs.Option.{ForSome}
 use Rattle.std.specs.Ordering.{eq_by_cmp}
-use Rattle.nibble_map.specs.Lists.{Each, Has, is_prefix}
-use Rattle.nibble_map.specs.Maps.{IsStored, NibbleMap, PairMap, below, walk}
+use Rattle.nibble_map.specs.Lists.{Has}
+use Rattle.nibble_map.specs.Maps.{IsStored, NibbleMap, PairMap, below}
 use Rattle.nibble_map.proofs.ListLemmas.Cut.{empty_of_length}
-use Rattle.nibble_map.proofs.ListLemmas.Sorted.{tied_lists_equal}
 use Rattle.nibble_map.proofs.MapLemmas.Below.{get-retained_lists}
-use Rattle.nibble_map.proofs.MapLemmas.Bridge.{entries-retain_keys}
 use Rattle.nibble_map.proofs.MapLemmas.Edits.{has_get}
 use Rattle.radix_trie.specs.Views.{pairs_below}
 use Rattle.radix_trie.specs.Combinations.{has_entry}

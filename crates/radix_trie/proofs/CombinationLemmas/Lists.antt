@@ -1,5 +1,5 @@
 -- The entries of two sides together, cut where all of both come before all others.
-use Rattle.std.proofs.Common.{◌≡◌, ◌≢◌, ◌<◌, ◌≤◌, ℕ, suc, Bool, true, false, cond, not, List, [], ◌∷◌, ◌++◌, Some, is_some, is_eq, Less, Equal, Greater, nat_cmp, refl, ap, sym, subst, ◌∙◌, arith, map as each}
+use Rattle.std.proofs.Common.{◌≡◌, ◌<◌, ◌≤◌, ℕ, suc, Bool, true, false, cond, not, List, [], ◌∷◌, ◌++◌, Some, is_some, is_eq, Less, Equal, Greater, nat_cmp, refl, ap, sym, ◌∙◌, arith, map as each}
 use Rattle.std.proofs.lemmas.List.Elements.{filter-append}
 use Rattle.std.specs.Cmp.{nat_cmp_is}
 use Rattle.std.specs.Cmp.Lexicographic.{slice_cmp}

@@ -1,5 +1,5 @@
 -- The first node of a row, of which some nibbles of the fragment lie above.
-use Rattle.std.proofs.Common.{◌≡◌, ◌+◌, ◌<◌, ℕ, ◌∷◌, Box, Global, length, ap, sym, ◌∙◌, arith, drop}
+use Rattle.std.proofs.Common.{◌≡◌, ◌+◌, ◌<◌, ℕ, ◌∷◌, Box, Global, length, ap, sym, ◌∙◌, drop}
 use Rattle.masked_tree.specs.Tree.{IsPlaced, front}
 use Rattle.radix_nodes.specs.declared.trie_node.TrieNode.{TrieNode, out-TrieNode}
 use Rattle.radix_nodes.specs.Nodes.{children_of, tree_of}

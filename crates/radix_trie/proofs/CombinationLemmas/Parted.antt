@@ -1,6 +1,6 @@
 -- Two sides that stand at one path, parted into what lies below a longer one and what comes later.
-use Rattle.std.proofs.Common.{◌≡◌, ◌≢◌, ◌+◌, ◌<◌, ◌≤◌, ◌⊎◌, inl, inr, ℕ, zero, suc, List, [], ◌∷◌, ◌++◌, Option, None, Bor, length, take, refl, ap, sym, subst, ◌∙◌, arith}
-use Rattle.masked_tree.specs.Tree.{Children, none, more, IsPlaced, entries_in, nibbles_in}
+use Rattle.std.proofs.Common.{◌≡◌, ◌≢◌, ◌+◌, ◌<◌, ◌≤◌, ◌⊎◌, inl, inr, ℕ, zero, suc, List, [], ◌∷◌, ◌++◌, Option, None, length, take, refl, ap, sym, subst, ◌∙◌, arith}
+use Rattle.masked_tree.specs.Tree.{Children, none, IsPlaced, entries_in, nibbles_in}
 use Rattle.nibble_map.specs.Swaps.{entry}
 use Rattle.nibble_map.specs.Trees.{first}
 use Rattle.radix_nodes.specs.declared.trie_node.KeyValue.{KeyValue}
@@ -8,8 +8,8 @@ use Rattle.radix_nodes.specs.Pairs.{pairs_of}
 use Rattle.radix_nodes.proofs.NodeLemmas.Pairs.{pairs_of-append}
 use Rattle.radix_trie.specs.declared.iter.combination.Operation.{Operation}
 use Rattle.radix_trie.specs.declared.iter.combination.branches.Branches.{Branches}
-use Rattle.radix_trie.specs.Combinations.{ArePlaced, AreParted, IsCutBehind, IsCutOff, LeadOn, combined_entries, entries_left, lead, nibbles_left, own_of, pairs_left, row_of_branch, under}
-use Rattle.radix_trie.proofs.CombinationLemmas.Lists.{IsEarly, IsLate, combined-moved, combined_cut}
+use Rattle.radix_trie.specs.Combinations.{AreParted, IsCutBehind, IsCutOff, LeadOn, combined_entries, entries_left, lead, nibbles_left, own_of, row_of_branch, under}
+use Rattle.radix_trie.proofs.CombinationLemmas.Lists.{IsLate, combined-moved, combined_cut}
 use Rattle.radix_trie.proofs.CombinationLemmas.Trees.{early_under, placed_from, placed_late}
 use Rattle.radix_trie.proofs.WalkLemmas.Order.{order-behind}
 

@@ -1,15 +1,14 @@
 -- What a search over two sides has left, and the turns that it takes.
-use Rattle.std.proofs.Common.{◌≡◌, ◌+◌, ◌*◌, ◌<◌, ◌≤◌, ℕ, Bool, true, false, not, ◌⊎◌, inl, inr, List, [], ◌∷◌, ◌++◌, Option, Some, None, Bor, is_some, refl, ap, sym, subst, ◌∙◌, arith, append_assoc, append-nil}
-use Rattle.masked_tree.specs.Tree.{Tree, IsTreePlaced, IsPlaced, entries_in}
+use Rattle.std.proofs.Common.{◌≡◌, ◌+◌, ◌*◌, ℕ, Bool, true, false, not, ◌⊎◌, inl, inr, List, [], ◌∷◌, ◌++◌, Option, Some, None, Bor, is_some, refl, ap, sym, ◌∙◌, arith, append_assoc, append-nil}
+use Rattle.masked_tree.specs.Tree.{entries_in}
 use Rattle.nibble_map.specs.Swaps.{entry}
 use Rattle.radix_nodes.specs.declared.trie_node.KeyValue.{KeyValue}
-use Rattle.radix_nodes.specs.Pairs.{pair_of, pairs_of}
+use Rattle.radix_nodes.specs.Pairs.{pairs_of}
 use Rattle.radix_nodes.proofs.NodeLemmas.Pairs.{pairs_of-append}
 use Rattle.radix_trie.specs.declared.iter.combination.Operation.{Operation}
 use Rattle.radix_trie.specs.declared.iter.combination.Operation.TheVariants as operation
-use Rattle.radix_trie.specs.declared.iter.combination.branches.Branch.{Branch}
 use Rattle.radix_trie.specs.declared.iter.combination.branches.Branches.{Branches}
-use Rattle.radix_trie.specs.Combinations.{AreAllPlaced, ArePlaced, all_left, combined_entries, entries_left, entries_of_node, keeps, nibbles_left, own_of, pairs_left, picked, row_of_branch, turns}
+use Rattle.radix_trie.specs.Combinations.{AreAllPlaced, ArePlaced, all_left, combined_entries, keeps, nibbles_left, own_of, pairs_left, picked, row_of_branch, turns}
 use Rattle.radix_trie.specs.Walks.{first_pair}
 use Rattle.radix_trie.proofs.CombinationLemmas.Lists.{IsEarly, combined_cut}
 use Rattle.radix_trie.proofs.CombinationLemmas.Trees.{placed_late}
@@ -46,46 +45,6 @@ module _ {K V : Type 0} where
   -- the pairs of an operation's choice at one list
   abbrev pub given : Operation → Option (Bor (KeyValue K V)) → Option (Bor (KeyValue K V)) → List (K × V)
   given op a b = pairs_of (combined_entries op (entry [] (own_of a)) (entry [] (own_of b)))
-
-  pub none_given : (op : Operation) (a b : Option (Bor (KeyValue K V))) → keeps op (is_some a) (is_some b) ≡ false → [] ≡ given op a b
-  none_given operation.Union None None kept = refl
-  none_given operation.Union None (Some q) kept = absurd (cc)
-  none_given operation.Union (Some p) b kept = absurd (cc)
-  none_given operation.Intersection None b kept = refl
-  none_given operation.Intersection (Some p) None kept = refl
-  none_given operation.Intersection (Some p) (Some q) kept = absurd (cc)
-  none_given operation.Difference None b kept = refl
-  none_given operation.Difference (Some p) None kept = absurd (cc)
-  none_given operation.Difference (Some p) (Some q) kept = refl
-  none_given operation.SymmetricDifference None None kept = refl
-  none_given operation.SymmetricDifference None (Some q) kept = absurd (cc)
-  none_given operation.SymmetricDifference (Some p) None kept = absurd (cc)
-  none_given operation.SymmetricDifference (Some p) (Some q) kept = refl
-
-  pub first_given : (op : Operation) (a b : Option (Bor (KeyValue K V))) → is_some a ≡ true → keeps op (is_some a) (is_some b) ≡ true → first_pair a ≡ given op a b
-  first_given op None b some kept = absurd (cc)
-  first_given operation.Union (Some p) None some kept = refl
-  first_given operation.Union (Some p) (Some q) some kept = refl
-  first_given operation.Intersection (Some p) None some kept = absurd (cc)
-  first_given operation.Intersection (Some p) (Some q) some kept = refl
-  first_given operation.Difference (Some p) None some kept = refl
-  first_given operation.Difference (Some p) (Some q) some kept = absurd (cc)
-  first_given operation.SymmetricDifference (Some p) None some kept = refl
-  first_given operation.SymmetricDifference (Some p) (Some q) some kept = absurd (cc)
-
-  pub second_given : (op : Operation) (a b : Option (Bor (KeyValue K V))) → is_some a ≡ false → keeps op (is_some a) (is_some b) ≡ true → first_pair b ≡ given op a b
-  second_given op (Some p) b some kept = absurd (cc)
-  second_given op None None some kept = by op
-    where
-      by : (o : Operation) → [] ≡ given o None None
-      by operation.Union = refl
-      by operation.Intersection = refl
-      by operation.Difference = refl
-      by operation.SymmetricDifference = refl
-  second_given operation.Union None (Some q) some kept = refl
-  second_given operation.Intersection None (Some q) some kept = absurd (cc)
-  second_given operation.Difference None (Some q) some kept = absurd (cc)
-  second_given operation.SymmetricDifference None (Some q) some kept = refl
 
   -- two branches with these in place of their own pairs
   abbrev pub with_own : Branches K V → Option (Bor (KeyValue K V)) → Option (Bor (KeyValue K V)) → Branches K V

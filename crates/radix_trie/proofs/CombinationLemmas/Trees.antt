@@ -1,7 +1,7 @@
 -- The children of two sides, cut behind the nibbles that lead on.
-use Rattle.std.proofs.Common.{◌≡◌, ◌≢◌, ◌+◌, ◌<◌, ◌≤◌, ℕ, zero, suc, List, [], ◌∷◌, ◌++◌, Option, Some, None, drop, length, slice_index, take, refl, ap, sym, subst, ◌∙◌, arith, append_assoc, append-nil, length-drop}
-use Rattle.std.proofs.lemmas.List.{drop-drop, get_or-drop, map-append, take_all, take-append-drop}
-use Rattle.masked_tree.specs.Tree.{Tree, Children, none, more, front, IsPlaced, entries_in, nibbles_in}
+use Rattle.std.proofs.Common.{◌≡◌, ◌≢◌, ◌+◌, ◌<◌, ◌≤◌, ℕ, zero, suc, List, [], ◌∷◌, ◌++◌, Option, Some, None, drop, length, take, refl, ap, sym, subst, ◌∙◌, arith, append_assoc, append-nil, length-drop}
+use Rattle.std.proofs.lemmas.List.{drop-drop, map-append, take_all, take-append-drop}
+use Rattle.masked_tree.specs.Tree.{Tree, Children, none, more, front, IsPlaced, entries_in}
 use Rattle.nibble_map.specs.Swaps.{entry}
 use Rattle.nibble_map.specs.Trees.{first}
 use Rattle.radix_trie.specs.Combinations.{behind, lead, under, IsCutBehind, IsCutOff}
@@ -125,11 +125,3 @@ module _ {P : Type 0} where
       cut_off_within within pair children =
           let h = cut_within (drop d t.fragment) t.pair t.mask t.children others (subst (IsPlaced 0) is placed) n (omega (arith, within, length-drop d t.fragment)) some in
           rw (is, pair, children, aside) (cut_off n some (subst (λ f. IsCutBehind n (behind d (front t others)) None (more f t.pair t.mask t.children none) others) (drop-drop n d t.fragment) h))
-
-  -- the first nibble below the path
-  first_lead : (k : Children P) (d : ℕ) (f : List ℕ) → lead k ≡ drop d f → first (lead k) ≡ slice_index f d
-  first_lead k d f is = ap first is ∙ get_or-drop d f 0 0 ∙ ap (slice_index f) (omega arith)
-
-  -- where both go on by different nibbles, the lower one leads on alone
-  pub lower_leads : (k l : Children P) (d e : ℕ) (f g : List ℕ) → lead k ≡ drop d f → lead l ≡ drop e g → IsPlaced 0 l → slice_index f d < slice_index g e → IsPlaced (suc (first (lead k))) l
-  lower_leads k l d e f g one two placed lt = placed_from 0 (suc (first (lead k))) l placed (λ some. omega (arith, first_lead k d f one, first_lead l e g two, lt))

@@ -1,8 +1,6 @@
-use Rattle.std.proofs.Common.{◌≡◌, ◌++◌, ◌∷◌, [], ap, arith, subst, sym, ◌∙◌, Vec, Global}
-use Rattle.radix_trie.specs.declared.iter.combination.branches.Branches.{Branches}
-use Rattle.radix_trie.specs.Combinations.{AreAllPlaced, all_left, pairs_left, turns}
+use Rattle.std.proofs.Common.{◌++◌, ◌∷◌, [], ap, arith, subst, sym, ◌∙◌}
+use Rattle.radix_trie.specs.Combinations.{AreAllPlaced, all_left, turns}
 use Rattle.radix_trie.proofs.CombinationLemmas.Searches.{first_below, only_below, only_beside, placed-push, turns-push}
-use Rattle.radix_trie.proofs.iter.combination.descend.Given.{Over}
 use Rattle.radix_trie.proofs.iter.combination.descend.Goals.{then-may_give+in_ok-push, else-may_give}
 use Rattle.radix_trie.proofs.iter.combination.descend.Goals as goal
 

@@ -1,4 +1,4 @@
-use Rattle.std.proofs.Common.{◌∙◌, ap, refl, sym}
+use Rattle.std.proofs.Common.{◌∙◌, ap, sym}
 use Rattle.radix_nodes.specs.Nodes.{tree_of}
 use Rattle.radix_trie.specs.Combinations.{found_first}
 use Rattle.radix_trie.proofs.CombinationLemmas.Maps.{combined_none, combined_roots, found_first-step}

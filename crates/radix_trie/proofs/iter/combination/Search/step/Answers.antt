@@ -1,9 +1,8 @@
-use Rattle.std.proofs.Common.{rules, ◌≡◌, ◌<◌, [], ◌∷◌, ◌++◌, drop, slice_get, ap, sym, subst, ◌∙◌, arith, refl}
+use Rattle.std.proofs.Common.{rules, [], ◌∷◌, ◌++◌, drop, slice_get, ap, sym, subst, ◌∙◌, arith, refl}
 use Rattle.nibble_map.proofs.ListLemmas.Cut.{empty_of_length}
 use Rattle.radix_trie.specs.Combinations.{AreAllPlaced, all_left, turns}
 use Rattle.radix_trie.specs.Walks.{first_pair}
 use Rattle.radix_trie.proofs.CombinationLemmas.Searches.{ended, given_first, left-push, none_first, placed-pop, placed-push, turns-push, with_own}
-use Rattle.radix_trie.proofs.iter.combination.Search.step.Given.{Over}
 use Rattle.radix_trie.proofs.iter.combination.Search.step.Goals as goal
 
 pub invariant_of-self : goal.invariant_of-self

@@ -1,4 +1,4 @@
-use Rattle.std.proofs.Common.{◌-◌, ◌≡◌, ◌≤◌, take, drop, length}
+use Rattle.std.proofs.Common.{◌-◌, ◌≡◌, ◌≤◌, take, drop}
 use Rattle.radix_trie.proofs.iter.combination.branches.shared.Given as goal
 
 abbrev pub invariant-loop-same : goal.invariant-loop-same

@@ -1,6 +1,5 @@
-use Rattle.std.proofs.Common.{◌≡◌, ◌<◌, ◌≤◌, inl, inr, ap, arith, length, refl, sym, take, ◌∙◌}
+use Rattle.std.proofs.Common.{◌<◌, inl, ap, arith, length, sym, take, ◌∙◌}
 use Rattle.std.proofs.lemmas.Bool.Decides.{nat_tests}
-use Rattle.radix_trie.proofs.CombinationLemmas.Trees.{lower_leads}
 use Rattle.radix_trie.proofs.iter.combination.branches.turn.Goals as goal
 
 pub returns-then-same-gt0 : goal.returns-then-same-gt0

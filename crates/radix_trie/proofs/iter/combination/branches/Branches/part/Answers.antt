@@ -1,7 +1,6 @@
-use Rattle.std.proofs.Common.{◌<◌, ◌⊎◌, inl, inr, arith}
+use Rattle.std.proofs.Common.{inl, inr, arith}
 use Rattle.std.proofs.lemmas.Bool.Decides.{nat_tests}
 use Rattle.radix_trie.proofs.CombinationLemmas.Parted.{led_on}
-use Rattle.radix_trie.proofs.iter.combination.branches.Branches.part.Given.{Over}
 use Rattle.radix_trie.proofs.iter.combination.branches.Branches.part.Goals.{else-ahead-eq0-via-then-ahead-eq0+else-other_ahead-eq0, else-ahead-eq0-via-else-ahead-eq0}
 use Rattle.radix_trie.proofs.iter.combination.branches.Branches.part.Goals as goal
 

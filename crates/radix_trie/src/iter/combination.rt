@@ -103,8 +103,8 @@ impl<'a, K, V> Search<'a, K, V> {
     ) -> Search<'a, K, V>
         requires first { IsTreePlaced (tree_of first.now) }
         requires second { IsTreePlaced (tree_of second.now) }
-        ensures { result ≡ pairs_of (combined_entries operation (entries_of_node (tree_of first.now))
-            (entries_of_node (tree_of second.now))) }
+        ensures { result ≡ pairs_of (combined_entries operation
+            (entries_of_node (tree_of first.now)) (entries_of_node (tree_of second.now))) }
     {
         Search {
             operation,

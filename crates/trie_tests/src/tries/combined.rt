@@ -29,13 +29,23 @@ fn first_pair_is_given(rt: HostRuntime) -> Result<(), TrieError> {
     check_pairs(
         &rt,
         walk,
-        &[("inn", 4), ("tea", 1), ("team", 2), ("teams", 6), ("ten", 3)],
+        &[
+            ("inn", 4),
+            ("tea", 1),
+            ("team", 2),
+            ("teams", 6),
+            ("ten", 3),
+        ],
     )?;
     let walk = Combination::new(&first, &second, Operation::Intersection)?;
     check_pairs(&rt, walk, &[("tea", 1)])?;
     let walk = Combination::new(&first, &second, Operation::Difference)?;
     check_pairs(&rt, walk, &[("team", 2), ("ten", 3)])?;
     let walk = Combination::new(&first, &second, Operation::SymmetricDifference)?;
-    check_pairs(&rt, walk, &[("inn", 4), ("team", 2), ("teams", 6), ("ten", 3)])?;
+    check_pairs(
+        &rt,
+        walk,
+        &[("inn", 4), ("team", 2), ("teams", 6), ("ten", 3)],
+    )?;
     Ok(())
 }

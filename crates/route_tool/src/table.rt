@@ -54,7 +54,8 @@ impl<A: Address> Model for Routes<A> {
 
     ghost view = { λ r. r.trie };
 
-    ghost invariant = { λ r. AreNetworks A.BITS A.number r.trie × AreAllOrNone r.trie r.frozen.rows };
+    ghost invariant = { λ r. AreNetworks A.BITS A.number r.trie
+        × AreAllOrNone r.trie r.frozen.rows };
 }
 
 impl<A: Address> Routes<A> {

@@ -44,7 +44,8 @@ fn lines_between<'a, V>(
 ) -> Result<Vec<(&'a u64, &'a V)>, Memory>
     requires { IsKeyed ⟦<u64 as TrieKey>⟧.encoding ⟦<u64 as TrieKey>⟧.is_value log.now }
     ensures page { IfOk result (λ page. deref_pairs page.items ≡ take most (pairs_within log.now []
-        (Included (⟦<u64 as TrieKey>⟧.encoding from)) (Excluded (⟦<u64 as TrieKey>⟧.encoding to)))) }
+        (Included (⟦<u64 as TrieKey>⟧.encoding from))
+        (Excluded (⟦<u64 as TrieKey>⟧.encoding to)))) }
     ensures times { IfOk result (λ page. All (λ p. (from ≤ p.0) × (p.0 < to))
         (deref_pairs page.items)) }
     ensures rising { IfOk result (λ page. AllPairs (λ x y. nat_cmp x y ≡ Less)

@@ -31,7 +31,8 @@ pub(crate) fn rests_within<'a, K, V>(
     requires placed { IsTreePlaced (tree_of node.now) }
     requires full { IsFullBelow (tree_of node.now) }
     ensures pairs { IfOk result (λ rests. stacked rests.items
-        ≡ pairs_of_span (bound_behind depth (bound_now low.entry)) (bound_behind depth (bound_now high.entry))
+        ≡ pairs_of_span (bound_behind depth (bound_now low.entry))
+        (bound_behind depth (bound_now high.entry))
         (tree_of node.now)) }
     ensures none { pairs_of_span (bound_behind depth (bound_now low.entry))
         (bound_behind depth (bound_now high.entry)) (tree_of node.now) ≡ [] → IsOk result }

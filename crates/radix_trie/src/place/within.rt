@@ -106,7 +106,8 @@ fn upper_limit<'l>(
 impl<'a, K: TrieKey, V> Place<'a, K, V> {
     /// The rows of the walk over the pairs at and below the path whose lists are within the bounds that the limits are of.
     pub(crate) fn rests(&self, limits: Option<Limits<'_>>) -> Result<Vec<Rest<'a, K, V>>, Memory>
-        requires { (m : PairMap K V) × (p : List ℕ) × (low : Bound (List ℕ)) × (high : Bound (List ℕ))
+        requires { (m : PairMap K V) × (p : List ℕ)
+            × (low : Bound (List ℕ)) × (high : Bound (List ℕ))
             × IsPlaceIn K.encoding m p self.now × AreLimits p low high limits }
         ensures walk { (m : PairMap K V) (p : List ℕ) (low high : Bound (List ℕ))
             → IsPlaceIn K.encoding m p self.now → AreLimits p low high limits.entry

@@ -104,7 +104,8 @@ impl<A: Address> Routes<A> {
     /// The longest network that holds the address, and its hop, by the trie.
     fn find_in_trie(&self, address: A) -> Result<Option<(&Network<A>, &Hop)>, Memory>
         ensures longest { IfOk result (λ found.
-            IsLongestRoute A.BITS A.number self.now (A.number address) (option_map deref_pair found)) }
+            IsLongestRoute A.BITS A.number self.now (A.number address)
+            (option_map deref_pair found)) }
         ensures light { A.BITS ≤ 32 → IsOk result }
     {
         let bits = Network::host(address).encode(self.alloc)?;
@@ -116,7 +117,8 @@ impl<A: Address> Routes<A> {
     /// Never refused for an IPv4 address, nor where the routes are frozen.
     pub fn find(&self, address: A) -> Result<Option<(&Network<A>, &Hop)>, Memory>
         ensures longest { IfOk result (λ found.
-            IsLongestRoute A.BITS A.number self.now (A.number address) (option_map deref_pair found)) }
+            IsLongestRoute A.BITS A.number self.now (A.number address)
+            (option_map deref_pair found)) }
         ensures light { A.BITS ≤ 32 → IsOk result }
     {
         if self.frozen.rows.is_empty() {

@@ -94,6 +94,25 @@ pub fn bump<K: TrieKey + Drop>(counts: &mut Trie<K, u64>, key: K) -> Result<(), 
     )
 }
 
+/// Sets the value of a key, also where it has none. A stored key stays.
+///
+/// # Errors
+///
+/// Those of `Trie::get_or_insert`.
+pub fn assign<K: TrieKey + Drop, V: Copy + Drop>(
+    trie: &mut Trie<K, V>,
+    key: K,
+    value: V,
+) -> Result<(), InsertError<K, V>>
+    ensures stored { OnOk result (keyed_map K.encoding trie.new key ≡ Some value) }
+    ensures others { OnOk result ((j : K) → K.is_value j → K.eq key j ≡ false
+        → keyed_map K.encoding trie.new j ≡ keyed_map K.encoding trie.old j) }
+{
+    keyed_maps_follow_values::<K, V>();
+    *trie.get_or_insert(key, value)? = value;
+    Ok(())
+}
+
 /// The value of a key, as a cache has it: where none is stored, the one that is passed is stored first.
 ///
 /// # Errors

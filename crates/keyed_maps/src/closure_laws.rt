@@ -5,7 +5,7 @@ ghost use Rattle.nibble_map.specs.Maps.{PairMap};
 ghost use Rattle.radix_trie.specs.Keys.{IsKeyed};
 ghost use Rattle.radix_trie.specs.Retains.{Retains, RetainsAtLeast, ReturnsAtPair};
 ghost use Rattle.radix_trie.specs.Values.{ChangesEachPair, LeavesAtPair};
-ghost use Rattle.keyed_maps.specs.KeyedMaps.{keyed_map};
+ghost use Rattle.keyed_maps.specs.KeyedMaps.{AlwaysLeaves, keyed_map};
 
 use radix_trie::TrieKey;
 
@@ -46,8 +46,7 @@ pub fn keyed_maps_follow_changes<K: TrieKey, V, F: Fn(&K, &mut V)>(f: &F)
         × (IsKeyed K.encoding K.is_value m → K.is_value k → K.eq j k ≡ true) }
     ensures get_changed_to { (m n : PairMap K V) → ChangesEachPair (LeavesAtPair F.Fn f.now) m n
         → (k : K) (v u : V) → keyed_map K.encoding m k ≡ Some v
-        → ((j : K) (w : V) → LeavesAtPair F.Fn f.now (j, v) w → w ≡ u)
-        → keyed_map K.encoding n k ≡ Some u }
+        → AlwaysLeaves F.Fn f.now v u → keyed_map K.encoding n k ≡ Some u }
     ensures changed_none { (m n : PairMap K V) → ChangesEachPair (LeavesAtPair F.Fn f.now) m n
         → (k : K) → keyed_map K.encoding m k ≡ None → keyed_map K.encoding n k ≡ None }
 {}

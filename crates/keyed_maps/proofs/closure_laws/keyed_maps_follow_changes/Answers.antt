@@ -1,4 +1,4 @@
-use Rattle.std.proofs.Common.{◌∙◌, Some, ap}
+use Rattle.std.proofs.Common.{◌∙◌, Some, ap, sym}
 use Rattle.keyed_maps.proofs.PartLemmas as parts
 use Rattle.keyed_maps.proofs.closure_laws.keyed_maps_follow_changes.Goals as goal
 
@@ -8,6 +8,9 @@ returns g c =
     let changed = parts.get_changed enc g.K.TrieKey.is_value g.K.PartialEq.eq g.met.K.TrieKey.distinct _ in
     record {
       get_changed = changed;
-      get_changed_to = λ m n copy k v u h only. (let at = changed m n copy k v h in at.3 ∙ ap Some (only at.0 at.1 at.2));
+      get_changed_to = λ m n copy k v u h always.
+          let at = changed m n copy k v h in
+          let left = at.2 in
+          at.3 ∙ ap Some (sym left.leaves ∙ always left.key left.value left.left left.shows.1 left.met);
       changed_none = parts.copy_none enc _;
     }

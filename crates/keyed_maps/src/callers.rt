@@ -3,11 +3,12 @@ ghost use Rattle.std.specs.FinMap as map;
 ghost use Rattle.std.specs.Option.{option_or, unwrap_or};
 ghost use Rattle.std.specs.Prelude.{◌≡◌, ◌+◌, ◌-◌, ◌<◌, ◌≤◌, ◌↔◌, ◌^◌, ℕ, IsTrue, None, Some, IfOk, OnErr, OnOk, false, min, true};
 ghost use Rattle.radix_trie.specs.Lists.{IsPrefix};
-ghost use Rattle.keyed_maps.specs.KeyedMaps.{keyed_map};
+ghost use Rattle.keyed_maps.specs.KeyedMaps.{keyed_insert, keyed_map};
 
 use crate::closure_laws::keyed_maps_follow_retain;
 use crate::count_laws::counts_follow_keys;
-use crate::edit_laws::{edits_by_key_compose, keyed_maps_follow_edits};
+use crate::edit_laws::{edits_by_key_compose, equal_keys_have_one_value, keyed_maps_follow_edits};
+use crate::equality_laws::equal_keys_are_encoded_alike;
 use crate::part_laws::{keyed_maps_follow_parts, keyed_maps_follow_tries};
 use crate::value_laws::keyed_maps_follow_values;
 use radix_trie::{InsertError, Memory, Trie, TrieError, TrieKey};
@@ -250,4 +251,25 @@ pub fn forget_rare<K: TrieKey + Drop>(counts: &mut Trie<K, u64>, least: u64) -> 
     { *n >= least };
     keyed_maps_follow_retain::<K, u64, _>(&keep);
     counts.retain(keep)
+}
+
+/// Stores a value by a text: the map by texts is what it was, with this value at the text.
+///
+/// # Errors
+///
+/// Those of `Trie::insert`.
+pub fn insert_text<V: Drop>(
+    texts: &mut Trie<String, V>,
+    text: String,
+    value: V,
+) -> Result<(), TrieError>
+    ensures { OnOk result ((j : _)
+        → keyed_map ⟦<String as TrieKey>⟧.encoding texts.new j
+        ≡ keyed_insert ⟦<String as PartialEq>⟧.eq
+        (keyed_map ⟦<String as TrieKey>⟧.encoding texts.old) text value j) }
+{
+    equal_keys_have_one_value::<String, V>();
+    equal_keys_are_encoded_alike::<String>();
+    let _ = texts.insert(text, value)?;
+    Ok(())
 }

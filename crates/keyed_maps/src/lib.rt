@@ -11,7 +11,7 @@ mod value_laws;
 
 pub use callers::{
     absorb, assign, bump, forget_all, forget_rare, get_or_store, insert_in_either_order,
-    insert_new, insert_then_get, move_value, remove_then_get, take_below,
+    insert_new, insert_text, insert_then_get, move_value, remove_then_get, take_below,
 };
 pub use closure_laws::{
     keyed_maps_follow_changes, keyed_maps_follow_clones, keyed_maps_follow_retain,

@@ -24,7 +24,7 @@ cond_commute false false u v o not_both = refl
 
 module _ {P : Type 0} where
   -- the map n is m with o at the list e, a pair or none
-  abbrev pub IsEdited : NibbleMap P → List ℕ → Option P → NibbleMap P → Type 0
+  abbrev IsEdited : NibbleMap P → List ℕ → Option P → NibbleMap P → Type 0
   IsEdited m e o n = (q : List ℕ) → map.get n q ≡ cond (is_one q e) o (map.get m q)
 
   pub inserted : (m : NibbleMap P) (e : List ℕ) (p : P) → IsEdited m e (Some p) (map.insert m e p)

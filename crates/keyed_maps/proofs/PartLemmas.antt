@@ -24,12 +24,12 @@ use Rattle.keyed_maps.proofs.KeyLemmas.{TellsKeys, get_insert_other, get_insert_
 
 -- a copy of a map has a pair where the map has one, and none where it has none
 module _ {P Q : Type 0} where
-  pub copied_pair : {R : P → Q → Type 0} (o : Option P) (u : Option Q) → (T (is_some o) → T (is_some u)) → ((x : P) (y : Q) → o ≡ Some x → u ≡ Some y → R x y)
+  copied_pair : {R : P → Q → Type 0} (o : Option P) (u : Option Q) → (T (is_some o) → T (is_some u)) → ((x : P) (y : Q) → o ≡ Some x → u ≡ Some y → R x y)
       → (p : P) → o ≡ Some p → (q : Q) × (u ≡ Some q) × R p q
   copied_pair o None to pairs p at = absurd (to (subst (λ z. T (is_some z)) (sym at) tt))
   copied_pair o (Some q) to pairs p at = (q, refl, pairs p q at refl)
 
-  pub copied_none : (o : Option P) (u : Option Q) → (T (is_some u) → T (is_some o)) → o ≡ None → u ≡ None
+  copied_none : (o : Option P) (u : Option Q) → (T (is_some u) → T (is_some o)) → o ≡ None → u ≡ None
   copied_none o None from none = refl
   copied_none o (Some q) from none = absurd (subst (λ z. T (is_some z)) none (from tt))
 

@@ -1,0 +1,4 @@
+pub mod EditLemmas
+pub mod EqualityLemmas
+pub mod KeyLemmas
+pub mod PartLemmas

@@ -1,0 +1,7 @@
+use Rattle.keyed_maps.proofs.PartLemmas as parts
+use Rattle.keyed_maps.proofs.closure_laws.keyed_maps_follow_clones.Goals as goal
+
+pub returns : goal.returns
+returns g c =
+    let enc = g.K.TrieKey.encoding in
+    record { get_cloned = parts.get_cloned enc _ _; cloned_none = parts.copy_none enc _ }

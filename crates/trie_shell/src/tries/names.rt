@@ -3,7 +3,7 @@
 use crate::calls::Table;
 use crate::calls::sets::answer_sides;
 use crate::tries::{NamedTrie, Tries};
-use radix_trie::{GraftWhy, InsertWhy, Memory, MergeError, Trie};
+use radix_trie::{GraftWhy, Memory, Trie, TrieError};
 use shell_words::{Answer, Key, NO_KEY};
 use std::mem;
 
@@ -179,10 +179,10 @@ impl Tries {
         let copy = other.clone()?;
         match self.current.trie.merge(copy) {
             Ok(()) => answer.line("ok"),
-            Err(MergeError::Stopped(error, _)) if error.why == InsertWhy::Full => {
-                answer.refuse("full")
-            }
-            Err(_) => Err(Memory),
+            Err(error) => match TrieError::from(error) {
+                TrieError::Full => answer.refuse("full"),
+                _ => Err(Memory),
+            },
         }
     }
 

@@ -32,8 +32,8 @@ SAME_NAMES = {
     },
 }
 
-# Calls with no wrong body of their own, each with the function that does its work and has one: where the crate is named,
-# one of a crate below. For integers it is that of another type, by the same text.
+# Calls with no wrong body of their own, each with the function that does its work and has one: where the crate is
+# named, one of a crate below. For integers it is that of another type, by the same text.
 STANDS_FOR = {
     "least_routes": {"is_table": "Route::precedes", "least": "Plan::of"},
     "line_sessions": {"serve": "converse"},
@@ -62,6 +62,7 @@ STANDS_FOR = {
         "Trie::len": "Trie::take_entry_at",
         "Trie::retain": "Trie::not_kept",
         "Trie::get_or_insert": "Trie::fill",
+        "Entry::get_mut": "value_at_list",
         **{f"{kind}::children": "Place::children" for kind in ("Trie", "SubTrie", "SubTrieMut")},
         "SubTrieMut::value_mut": "value_behind",
         "Trie::get_mut": "absent_as_none",

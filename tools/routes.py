@@ -41,8 +41,7 @@ class Table:
         return [str(len(routes)), *(f"{net} {hop}" for net, hop in routes)]
 
     def below(self, network):
-        found = [it for it in self.routes.values() if it[0].bits >= network.bits and network.holds(it[0].version, it[0].base)]
-        return sorted(found, key=lambda it: it[0].place)
+        return [(net, hop) for net, hop in self.all() if net.bits >= network.bits and network.holds(*net.place[:2])]
 
     def longest(self, version, number):
         found = [it for it in self.routes.values() if it[0].holds(version, number)]
@@ -99,16 +98,21 @@ SELDOM = (1, 1, 300, 200, 5, 2, 1, 0, 1, 1, 1)
 class Lines:
     """Random lines of a session, and their answers by a plain list."""
 
+    # How many first bits of an address drawn before are kept at least.
+    kept = 0
+
     def __init__(self, seed):
         self.random, self.table, self.pool = random.Random(seed), Table(), []
 
+    def fresh(self, version):
+        return self.random.getrandbits(WIDTHS[version])
+
     def number(self, version):
         """An address, mostly one near to others that were drawn."""
-        width = WIDTHS[version]
-        number = self.random.getrandbits(width)
+        width, number = WIDTHS[version], self.fresh(version)
         near = [it for it in self.pool if it[0] == version]
         if near and self.random.random() < 0.8:
-            kept = self.random.choice((self.random.randrange(width + 1), width))
+            kept = self.random.choice((self.random.randrange(self.kept, width + 1), width))
             number = self.random.choice(near)[1] >> (width - kept) << (width - kept) | number & (1 << width - kept) - 1
         self.pool = [*self.pool[-200:], (version, number)]
         return number

@@ -12,6 +12,7 @@ import signal
 import stat
 import subprocess
 import sys
+import tempfile
 import threading
 
 ROOT = os.path.dirname(os.path.dirname(os.path.realpath(__file__)))
@@ -26,6 +27,16 @@ STARTED, STARTING, ENDED_BY = set(), [], []
 
 class Refused(Exception):
     """What stands in the way, in one line."""
+
+
+class WrongUse(Exception):
+    """A script's words aren't right: why, where there is more to say than how it is called."""
+
+
+def check_use(is_right, why=""):
+    """Ends a script with status 2 where its words aren't right."""
+    if not is_right:
+        raise WrongUse(why)
 
 
 def bytes_of(path, links=os.O_NOFOLLOW):
@@ -91,7 +102,7 @@ def room_name(number):
 
 
 def sweep(folder):
-    """Removes the rooms in a folder that a run which was killed has left. The caller keeps other runs out."""
+    """Removes the rooms in a folder that a run which was killed has left."""
     for name in os.listdir(folder):
         found = re.fullmatch(r"\.room-([0-9a-f]{16})-[0-9a-f]{16}", name)
         if found and name == room_name(found[1]):
@@ -100,7 +111,9 @@ def sweep(folder):
 
 @contextlib.contextmanager
 def room_in(folder):
-    """A room: a folder for what is being made, which goes where this is left."""
+    """A room: a folder for what is being made, which goes where this is left, with those that killed runs have left.
+    The caller keeps other runs out."""
+    sweep(folder)
     room = f"{folder}/{room_name(os.urandom(8).hex())}"
     os.mkdir(room, 0o700)
     try:
@@ -195,10 +208,15 @@ def started(words, **how):
 
 
 def ran(words, given=None, seconds=None, **how):
-    """What a process writes and its status, once it has ended: bytes, or texts where `how` says so."""
-    streams = {it: subprocess.PIPE for it in ("stdout", "stderr", *(["stdin"] if given is not None else []))}
-    with started(words, **{**streams, **how}) as process:
-        said, told = process.communicate(given, seconds)
+    """What a process writes and its status, once it has ended: bytes, or texts where `how` says so. The given bytes, if
+    any, it reads from a file."""
+    with contextlib.ExitStack() as stack:
+        if given is not None:
+            how["stdin"] = stack.enter_context(tempfile.TemporaryFile())
+            how["stdin"].write(given)
+            how["stdin"].seek(0)
+        process = stack.enter_context(started(words, **{"stdout": subprocess.PIPE, "stderr": subprocess.PIPE, **how}))
+        said, told = process.communicate(timeout=seconds)
     return subprocess.CompletedProcess(words, process.returncode, said, told)
 
 
@@ -213,18 +231,27 @@ def end(number, _):
         sys.exit(128 + number)
 
 
-def run(name, main):
-    """Runs a script of this name: where a signal ends it, what it has made for itself goes, and what stands in its way
-    is one line. --help prints its text."""
+def heed_signals():
+    """Has a signal that ends the script end all that it has started too."""
     for number in ENDING:
         signal.signal(number, end)
+
+
+def run(main):
+    """Runs a script: where a signal ends it, what it has made for itself goes, and what stands in its way is one line.
+    --help prints its text, of which wrong use prints a line."""
+    path, text = main.__globals__["__file__"], main.__globals__["__doc__"].strip()
+    heed_signals()
     try:
         if sys.argv[1:] == ["--help"]:
-            os.write(1, f"{main.__globals__['__doc__'].strip()}\n".encode())
+            os.write(1, f"{text}\n".encode())
             sys.exit(0)
         sys.exit(main(sys.argv[1:]))
+    except WrongUse as why:
+        print(re.search("^usage: .*", text, re.M)[0], *filter(None, why.args), sep=": ", file=sys.stderr)
+        sys.exit(2)
     except (OSError, RecursionError, Refused, UnicodeError, subprocess.SubprocessError) as error:
-        sys.exit(f"{name}: {error}")
+        sys.exit(f"{os.path.relpath(os.path.realpath(path), ROOT)}: {error}")
 
 
 def take_turn(file, say):
@@ -245,13 +272,9 @@ def script(name):
     return made
 
 
-def compiled(room):
-    """Makes the library of tools/faults.c in this folder, and answers why that can't be done, if so."""
-    compiler = os.environ.get("CC") or "cc"
-    words = [*compiler.split(), "-O1", "-shared", "-fPIC", "-o", f"{room}/faults.so", f"{ROOT}/tools/faults.c"]
-    try:
-        made = ran(words, text=True, errors="replace")
-    except OSError as error:
-        return f"{compiler}: {error.strerror}"
-    is_made = made.returncode == 0 and os.path.isfile(f"{room}/faults.so")
-    return "" if is_made else made.stderr.strip().split("\n")[0] or f"{compiler} made no library"
+def compile_faults(room):
+    """Makes the library of tools/faults.c in this folder, by CC, cc or clang, which the toolchain needs too."""
+    compiler = (os.environ.get("CC") or ("cc" if shutil.which("cc") else "clang")).split()
+    made = ran([*compiler, "-O1", "-shared", "-fPIC", "-o", f"{room}/faults.so", f"{ROOT}/tools/faults.c"], text=True)
+    if made.returncode or not os.path.isfile(f"{room}/faults.so"):
+        raise Refused(f"{compiler[0]} made no library: {made.stderr.strip()[:200]}")

@@ -3,7 +3,7 @@ import dataclasses
 import functools
 import re
 
-from shared import ROOT, files_in, text_of
+from shared import ROOT, end, files_in, text_of
 
 HEAD = re.compile(r"^( *)(pub(?:\([^)]*\))? )?(?:const )?(fn|impl|trait)\b(.*?)(^\1\{|;$| \{\}?$)", re.M | re.S)
 WORD = "(?:requires|ensures)"

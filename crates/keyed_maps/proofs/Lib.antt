@@ -1,4 +1,6 @@
 pub mod EditLemmas
 pub mod EqualityLemmas
 pub mod KeyLemmas
+pub mod MergeLemmas
+pub mod NearestLemmas
 pub mod PartLemmas

@@ -6,7 +6,7 @@ use Rattle.std.specs.Option.{option_or}
 use Rattle.std.specs.Prelude.{MatchOption}
 use Rattle.nibble_map.specs.Copies.{IsMapCopy}
 use Rattle.nibble_map.specs.Lists.{Each, IsPrefix, is_prefix}
-use Rattle.nibble_map.specs.Maps.{PairMap, below, walk, without_below}
+use Rattle.nibble_map.specs.Maps.{NibbleMap, PairMap, below, walk, without_below}
 use Rattle.nibble_map.proofs.ListLemmas.Parted.{is_prefix_true, prefix_by_test}
 use Rattle.nibble_map.proofs.MapLemmas.Below.{get-retained_lists}
 use Rattle.nibble_map.proofs.MapLemmas.Edits.{same_Some}
@@ -19,7 +19,7 @@ use Rattle.radix_trie.specs.Retains.{Retains, RetainsAtLeast}
 use Rattle.radix_trie.specs.Views.{pairs_below}
 use Rattle.radix_trie.proofs.LawLemmas.Asked.{AreAtEncodings}
 use Rattle.radix_trie.proofs.PathLemmas.Places.{below-nil}
-use Rattle.keyed_maps.specs.KeyedMaps.{keyed_map}
+use Rattle.keyed_maps.specs.KeyedMaps.{keyed_map, stored_key}
 use Rattle.keyed_maps.proofs.KeyLemmas.{TellsKeys, get_insert_other, get_insert_same, keyed-get, value_none, value_pair}
 
 -- a copy of a map has a pair where the map has one, and none where it has none
@@ -32,6 +32,18 @@ module _ {P Q : Type 0} where
   copied_none : (o : Option P) (u : Option Q) → (T (is_some u) → T (is_some o)) → o ≡ None → u ≡ None
   copied_none o None from none = refl
   copied_none o (Some q) from none = absurd (subst (λ z. T (is_some z)) none (from tt))
+
+-- where g of a copied pair is f of the pair, the copy answers as the map does
+module _ {P Q X : Type 0} {R : P → Q → Type 0} (f : P → X) (g : Q → X) where
+  copied_alike : (m : NibbleMap P) (n : NibbleMap Q) → IsMapCopy R m n → ((p : P) (q : Q) → R p q → g q ≡ f p) → (e : List ℕ)
+      → option_map g (map.get n e) ≡ option_map f (map.get m e)
+  copied_alike m n copy alike e = by (map.get m e) refl
+    where
+      by : (o : Option P) → map.get m e ≡ o → option_map g (map.get n e) ≡ option_map f (map.get m e)
+      by None at = ap (option_map g) (copied_none (map.get m e) (map.get n e) (copy.same_lists e).1 at) ∙ sym (ap (option_map f) at)
+      by (Some p) at =
+          let left = copied_pair (map.get m e) (map.get n e) (copy.same_lists e).0 (copy.copied_pairs e) p at in
+          ap (option_map g) left.1 ∙ ap Some (alike p left.0 left.2) ∙ sym (ap (option_map f) at)
 
 module _ {K V : Type 0} (enc : K → List ℕ) where
   -- the part below a list, and the rest
@@ -63,13 +75,17 @@ module _ {K V : Type 0} (enc : K → List ℕ) where
   value_or None u = refl
   value_or (Some p) u = refl
 
-  pub get_merged : (n : PairMap K V) → AreAtEncodings enc n → (m : PairMap K V) (k : K) → keyed_map enc (with_pairs enc m (pairs_below n [])) k ≡ option_or (keyed_map enc n k) (keyed_map enc m k)
-  get_merged n keyed m k =
-      ap (option_map (λ p. p.1)) (
-      ap (λ x. map.get x (enc k)) (sym (rows_stored m (walk n []) (Each-from_has _ _ (λ e h. keyed e.0 e.1 ((Has-walk n [] e.0 e.1).0 h).1))))
-      ∙ get-put_rows (walk n []) m (enc k) (map.entries_sorted (below n []))
-      ∙ ap (λ o. cond (is_some o) o (map.get m (enc k))) (sym (map.get-entries (below n []) (enc k)) ∙ ap (λ x. map.get x (enc k)) (below-nil n)))
-      ∙ value_or (map.get n (enc k)) (map.get m (enc k))
+  abbrev pub merged : PairMap K V → PairMap K V → PairMap K V
+  merged m n = with_pairs enc m (pairs_below n [])
+
+  pub get-merged : (n : PairMap K V) → AreAtEncodings enc n → (m : PairMap K V) (q : List ℕ) → map.get (merged m n) q ≡ cond (is_some (map.get n q)) (map.get n q) (map.get m q)
+  get-merged n keyed m q =
+      ap (λ x. map.get x q) (sym (rows_stored m (walk n []) (Each-from_has _ _ (λ e h. keyed e.0 e.1 ((Has-walk n [] e.0 e.1).0 h).1))))
+      ∙ get-put_rows (walk n []) m q (map.entries_sorted (below n []))
+      ∙ ap (λ o. cond (is_some o) o (map.get m q)) (sym (map.get-entries (below n []) q) ∙ ap (λ x. map.get x q) (below-nil n))
+
+  pub get_merged : (n : PairMap K V) → AreAtEncodings enc n → (m : PairMap K V) (k : K) → keyed_map enc (merged m n) k ≡ option_or (keyed_map enc n k) (keyed_map enc m k)
+  get_merged n keyed m k = ap (option_map (λ p. p.1)) (get-merged n keyed m (enc k)) ∙ value_or (map.get n (enc k)) (map.get m (enc k))
 
   -- pairs that are stored one by one
   module _ (is : K → Type 0) (eq : K → K → Bool) (tells : TellsKeys enc is eq) where
@@ -117,6 +133,20 @@ module _ {K V : Type 0} (enc : K → List ℕ) where
       let left = copied_pair (map.get m (enc k)) (map.get n (enc k)) (copy.same_lists (enc k)).0 (copy.copied_pairs (enc k)) at.0 at.1 in
       (at.0.0, left.0.1, subst (λ x. R (at.0.0, x) left.0.1) at.2 left.2.1, keyed-get enc n k (Some left.0) left.1, λ keyed here. stored_equal is eq tells m keyed k here at.0 at.1)
 
+  -- the same, of a closure that leaves of each value what a function makes of it
+  pub get_mapped : (R : K × V → V → Type 0) (f : V → V) (m n : PairMap K V) → IsMapCopy (λ p q. (q.0 ≡ p.0) × R p q.1) m n → ((p : K × V) (w : V) → R p w → w ≡ f p.1)
+      → (k : K) → keyed_map enc n k ≡ option_map f (keyed_map enc m k)
+  get_mapped R f m n copy leaves k =
+      copied_alike (λ p. f p.1) (λ q. q.1) m n copy (λ p q is. leaves p q.1 is.1) (enc k) ∙ sym (mapped_value (map.get m (enc k)))
+    where
+      mapped_value : (o : Option (K × V)) → option_map f (option_map (λ p. p.1) o) ≡ option_map (λ p. f p.1) o
+      mapped_value None = refl
+      mapped_value (Some p) = refl
+
+  -- and the stored keys stay
+  pub keys_stay : (R : K × V → V → Type 0) (m n : PairMap K V) → IsMapCopy (λ p q. (q.0 ≡ p.0) × R p q.1) m n → (k : K) → stored_key enc n k ≡ stored_key enc m k
+  keys_stay R m n copy k = copied_alike (λ p. p.0) (λ q. q.0) m n copy (λ p q is. is.0) (enc k)
+
   pub get_at_least : (R : K × V → Bool → Type 0) (m n : PairMap K V) → RetainsAtLeast R m n → (k : K) → (keyed_map enc n k ≡ keyed_map enc m k) ⊎ (keyed_map enc n k ≡ None)
   get_at_least R m n least k = by (least (enc k))
     where
@@ -131,6 +161,10 @@ module _ {K V : Type 0} (enc : K → List ℕ) where
       let at = value_pair (map.get m (enc k)) v h in
       let left = copied_pair (map.get m (enc k)) (map.get n (enc k)) (copy.same_lists (enc k)).0 (copy.copied_pairs (enc k)) at.0 at.1 in
       (left.0.1, subst (λ x. S x left.0.1) at.2 left.2.1, keyed-get enc n k (Some left.0) left.1)
+
+  pub get_same : (R : K → K → Type 0) (S : V → V → Type 0) (m n : PairMap K V) → IsMapCopy (λ p q. R p.0 q.0 × S p.1 q.1) m n → ((v w : V) → S v w → w ≡ v)
+      → (k : K) → keyed_map enc n k ≡ keyed_map enc m k
+  get_same R S m n copy same k = copied_alike (λ p. p.1) (λ q. q.1) m n copy (λ p q is. same p.1 q.1 is.1) (enc k)
 
   pub copy_none : (R : K × V → K × V → Type 0) (m n : PairMap K V) → IsMapCopy R m n → (k : K) → keyed_map enc m k ≡ None → keyed_map enc n k ≡ None
   copy_none R m n copy k h = keyed-get enc n k None (copied_none (map.get m (enc k)) (map.get n (enc k)) (copy.same_lists (enc k)).1 (value_none (map.get m (enc k)) h))

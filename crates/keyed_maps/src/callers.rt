@@ -1,17 +1,23 @@
-//! Callers whose contracts speak by keys alone: each names one law, and is proved without a proof file.
+//! Callers whose contracts speak by keys: each names the laws that it needs, and all but `compare_alike` and `nearest_value` are
+//! proved without a proof file.
 ghost use Rattle.std.specs.FinMap as map;
 ghost use Rattle.std.specs.Option.{option_or, unwrap_or};
-ghost use Rattle.std.specs.Prelude.{◌≡◌, ◌+◌, ◌-◌, ◌<◌, ◌≤◌, ◌↔◌, ◌^◌, ℕ, IsTrue, None, Some, IfOk, OnErr, OnOk, false, min, true};
+ghost use Rattle.std.specs.Prelude.{◌≡◌, ◌+◌, ◌-◌, ◌<◌, ◌≤◌, ◌↔◌, ◌^◌, ℕ, Contains, IsTrue, None, Some, IfOk, OnErr, OnOk, false, min, option_map, true};
+ghost use Rattle.radix_trie.specs.Keys.{IsKeyed};
 ghost use Rattle.radix_trie.specs.Lists.{IsPrefix};
 ghost use Rattle.keyed_maps.specs.KeyedMaps.{keyed_insert, keyed_map};
 
-use crate::closure_laws::keyed_maps_follow_retain;
-use crate::count_laws::counts_follow_keys;
+use crate::closure_laws::{
+    keyed_maps_follow_changes, keyed_maps_follow_clones, keyed_maps_follow_retain,
+};
+use crate::count_laws::{counts_follow_keys, walks_give_each_key};
 use crate::edit_laws::{edits_by_key_compose, equal_keys_have_one_value, keyed_maps_follow_edits};
-use crate::equality_laws::equal_keys_are_encoded_alike;
-use crate::part_laws::{keyed_maps_follow_parts, keyed_maps_follow_tries};
+use crate::equality_laws::{equal_keyed_maps_are_equal, equal_keys_are_encoded_alike};
+use crate::nearest_laws::keyed_maps_follow_nearest;
+use crate::part_laws::{keyed_maps_follow_parts, keyed_maps_follow_tries, merges_by_key_compose};
 use crate::value_laws::keyed_maps_follow_values;
-use radix_trie::{InsertError, Memory, Trie, TrieError, TrieKey};
+use radix_trie::iter::Iter;
+use radix_trie::{InsertError, Memory, Trie, TrieCommon, TrieError, TrieKey};
 
 /// Stores a value, and returns what a look-up of the key finds then.
 ///
@@ -272,4 +278,109 @@ pub fn insert_text<V: Drop>(
     equal_keys_are_encoded_alike::<String>();
     let _ = texts.insert(text, value)?;
     Ok(())
+}
+
+/// Counts each key once more, up to the greatest number.
+pub fn bump_all<K: TrieKey>(counts: &mut Trie<K, u64>)
+    ensures { (k : K) → keyed_map K.encoding counts.new k
+        ≡ option_map (λ n. min (n + 1) (2 ^ 64 - 1)) (keyed_map K.encoding counts.old k) }
+{
+    let more = |_: &K, n: &mut u64|
+        ensures { n.new ≡ min (n.old + 1) (2 ^ 64 - 1) }
+    { *n = n.saturating_add(1) };
+    keyed_maps_follow_changes::<K, u64, _>(&more);
+    counts.for_each_mut(more);
+}
+
+/// A copy of counts, in which each key has the count that it has in these.
+///
+/// # Errors
+///
+/// Those of `Trie::clone`.
+pub fn copy_counts<K: TrieKey + Clone>(counts: &Trie<K, u64>) -> Result<Trie<K, u64>, Memory>
+    requires same_encoding { (key copy : K) → K.is_clone key copy
+        → K.encoding copy ≡ K.encoding key }
+    ensures { IfOk result (λ copy. (k : K)
+        → keyed_map K.encoding copy k ≡ keyed_map K.encoding counts.now k) }
+{
+    keyed_maps_follow_clones::<K, u64>();
+    Ok(counts.clone()?)
+}
+
+/// A walk over all pairs: each key that has a value is equal to a key of it.
+///
+/// # Errors
+///
+/// Those of `TrieCommon::iter`.
+pub fn walk_each_key<K: TrieKey, V>(trie: &Trie<K, V>) -> Result<Iter<'_, K, V>, Memory>
+    requires keyed { IsKeyed K.encoding K.is_value trie.now }
+    ensures given { IfOk result (λ pairs. (k : K) (v : V) → K.is_value k
+        → keyed_map K.encoding trie.now k ≡ Some v
+        → (j : K) × (K.eq j k ≡ true) × Contains pairs (j, v)) }
+    ensures has_value { IfOk result (λ pairs. (p : K × V) → Contains pairs p
+        → keyed_map K.encoding trie.now p.0 ≡ Some p.1) }
+{
+    walks_give_each_key::<K, V>();
+    Ok(TrieCommon::iter(trie)?)
+}
+
+/// Compares two tries that answer each key alike: they are equal.
+pub fn compare_alike<K: TrieKey, V: Eq>(first: &Trie<K, V>, second: &Trie<K, V>) -> bool
+    requires keyed { IsKeyed K.encoding K.is_value first.now }
+    requires other_keyed { IsKeyed K.encoding K.is_value second.now }
+    requires alike { (k : K) → K.is_value k
+        → keyed_map K.encoding first.now k ≡ keyed_map K.encoding second.now k }
+    ensures { IsTrue result }
+{
+    equal_keyed_maps_are_equal::<K, V>();
+    *first == *second
+}
+
+/// Merges two tries none of whose keys has a value in both, the smaller one into the larger, since a merge takes an insertion
+/// for each pair. The order makes no difference.
+///
+/// # Errors
+///
+/// Those of `Trie::merge`.
+pub fn merge_smaller<K: TrieKey + Drop, V: Drop>(
+    one: Trie<K, V>,
+    other: Trie<K, V>,
+) -> Result<Trie<K, V>, TrieError>
+    requires apart { (k : K) (v w : V) → keyed_map K.encoding one k ≡ Some v
+        → keyed_map K.encoding other k ≡ Some w → ⊥ }
+    ensures { IfOk result (λ both. (k : K) → keyed_map K.encoding both k
+        ≡ option_or (keyed_map K.encoding other k) (keyed_map K.encoding one k)) }
+{
+    keyed_maps_follow_tries(&other);
+    merges_by_key_compose(&one, &other);
+    let (mut large, small) = if one.len() < other.len() {
+        (other, one)
+    } else {
+        (one, other)
+    };
+    large.merge(small)?;
+    Ok(large)
+}
+
+/// The value of the longest stored prefix of a key: of a stored key whose encoding begins that of the key, and which each
+/// other such encoding is a prefix of.
+///
+/// # Errors
+///
+/// Those of `Trie::get_ancestor_value`.
+pub fn nearest_value<K: TrieKey, V: Copy, Q: TrieKey>(
+    trie: &Trie<K, V>,
+    key: &Q,
+) -> Result<Option<V>, Memory>
+    ensures found { IfOk result (λ found. (v : V) → found ≡ Some v
+        → (k : K) × IsPrefix (K.encoding k) (Q.encoding key.now)
+        × (keyed_map K.encoding trie.now k ≡ Some v)
+        × ((j : K) (w : V) → IsPrefix (K.encoding j) (Q.encoding key.now)
+        → keyed_map K.encoding trie.now j ≡ Some w → IsPrefix (K.encoding j) (K.encoding k))) }
+    ensures none { IfOk result (λ found. found ≡ None
+        → (k : K) → IsPrefix (K.encoding k) (Q.encoding key.now)
+        → keyed_map K.encoding trie.now k ≡ None) }
+{
+    keyed_maps_follow_nearest(trie);
+    Ok(trie.get_ancestor_value(key)?.copied())
 }

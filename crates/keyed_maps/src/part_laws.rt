@@ -40,3 +40,25 @@ pub fn keyed_maps_follow_tries<K: TrieKey, V>(part: &Trie<K, V>)
 {
     keys_stand_at_their_encodings(part);
 }
+
+/// The pairs of two tries stored into a map, one trie after the other: it is as if those of the second were stored into the
+/// first before. If no key has a value in both tries, either may be stored into the other. What is stored twice is stored
+/// once.
+pub fn merges_by_key_compose<K: TrieKey, V>(one: &Trie<K, V>, other: &Trie<K, V>)
+    ensures commute { ((k : K) (v w : V) → keyed_map K.encoding one.now k ≡ Some v
+        → keyed_map K.encoding other.now k ≡ Some w → ⊥)
+        → with_pairs K.encoding one.now (pairs_below other.now [])
+        ≡ with_pairs K.encoding other.now (pairs_below one.now []) }
+    ensures associate { (m : PairMap K V)
+        → with_pairs K.encoding (with_pairs K.encoding m (pairs_below one.now []))
+        (pairs_below other.now [])
+        ≡ with_pairs K.encoding m
+        (pairs_below (with_pairs K.encoding one.now (pairs_below other.now [])) []) }
+    ensures merge_merge { (m : PairMap K V)
+        → with_pairs K.encoding (with_pairs K.encoding m (pairs_below one.now []))
+        (pairs_below one.now [])
+        ≡ with_pairs K.encoding m (pairs_below one.now []) }
+{
+    keys_stand_at_their_encodings(one);
+    keys_stand_at_their_encodings(other);
+}

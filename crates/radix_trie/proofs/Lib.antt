@@ -14,6 +14,8 @@ pub mod CombinationLemmas
 -- What callers cite: what parts, walks and pages of a map hold, and the order of keys.
 pub mod LawLemmas
 -- A view for writing that is borrowed: its parts.
+pub mod PartLemmas
+pub mod EntryLemmas
 pub mod ViewLemmas
 -- A call that says another call's result a second way.
 pub mod NestedLemmas

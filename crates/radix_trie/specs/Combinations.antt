@@ -15,6 +15,8 @@ use Rattle.radix_trie.specs.declared.iter.combination.Operation.{Operation}
 use Rattle.radix_trie.specs.declared.iter.combination.Operation.TheVariants as operation
 use Rattle.radix_trie.specs.declared.iter.combination.branches.Branch.{Branch}
 use Rattle.radix_trie.specs.declared.iter.combination.branches.Branches.{Branches}
+use Rattle.radix_trie.specs.declared.iter.combination.branches.Turn.{Turn}
+use Rattle.radix_trie.specs.declared.iter.combination.branches.Turn.TheVariants as turn
 
 -- whether an operation gives a list that the first has, or hasn't, and the second
 abbrev pub keeps : Operation → Bool → Bool → Bool
@@ -89,6 +91,19 @@ module _ {P : Type 0} where
       ⊎ (((a ≡ 0) × (0 < b) × IsPlaced (suc (first (lead l))) k)
       ⊎ ((a ≡ 0) × (b ≡ 0) × (k ≡ none) × (l ≡ none)))))
 
+  -- how many nibbles of the first fragment of each side lead on at a turn
+  abbrev pub nibbles_of_first : Turn → Children P → ℕ
+  nibbles_of_first turn.End k = 0
+  nibbles_of_first turn.First k = length (lead k)
+  nibbles_of_first turn.Second k = 0
+  nibbles_of_first (turn.Both n) k = n
+
+  abbrev pub nibbles_of_second : Turn → Children P → ℕ
+  nibbles_of_second turn.End l = 0
+  nibbles_of_second turn.First l = 0
+  nibbles_of_second turn.Second l = length (lead l)
+  nibbles_of_second (turn.Both n) l = n
+
 module _ {K V : Type 0} where
   -- the pair at the path, if it is left
   abbrev pub own_of : Option (Bor (KeyValue K V)) → Option (KeyValue K V)
@@ -139,4 +154,6 @@ module _ {K V : Type 0} where
     pub pairs : (op : Operation) → pairs_left op b ≡ pairs_left op below ++ pairs_left op beside
     pub below_placed : ArePlaced below
     pub beside_placed : ArePlaced beside
+    pub first_bare : beside.first.own ≡ None
+    pub second_bare : beside.second.own ≡ None
     pub fewer : nibbles_left below + nibbles_left beside < nibbles_left b

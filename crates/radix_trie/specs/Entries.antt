@@ -1,11 +1,13 @@
 -- What clauses see of an entry, a key's place in a trie.
-use Rattle.std.specs.Borrow.{Fml, GName, RattleType, MutBor, RestsIfErr, follows_if, name_if_ok}
-use Rattle.std.specs.Prelude.{◌≡◌, ℕ, List, Result}
+use mir.Syntax.{named}
+use Rattle.std.specs.Borrow.{Fml, GName, RattleType, MutBor, LendsIf, RestsIfErr, follows_if, name_if_ok}
+use Rattle.std.specs.Prelude.{◌≡◌, ℕ, List, [], Option, Result}
 use Rattle.std.specs.declared.cmp.PartialEq as eqs
-use Rattle.nibble_map.specs.Maps.{PairMap}
+use Rattle.nibble_map.specs.Maps.{PairMap, with_value}
 use Rattle.radix_keys.specs.declared.keys.TrieKey as keys
 use Rattle.radix_trie.specs.Lends.{trie_row}
 use Rattle.radix_trie.specs.Views.{with_value_or}
+use Rattle.radix_trie.specs.contracts.trie.entry.Entry as entry
 use Rattle.radix_trie.specs.declared.trie.entry.Entry.{Entry}
 use Rattle.radix_trie.specs.declared.place.path_list.PathList as paths
 
@@ -25,6 +27,11 @@ module _ {K V P : Type 0} {key : keys.Ghosts K} {eq : eqs.Ghosts K} {path : path
   abbrev pub entry_list : Entry K V P key eq path → List ℕ
   entry_list e = key.encoding e.key
 
+  -- e, with the value w at its list
+  abbrev pub with_entry_value : Entry K V P key eq path → V → Entry K V P key eq path
+  with_entry_value e w =
+      record e { trie = record e.trie { now = with_value (entry_map e) (entry_list e) w } }
+
 module _ (K V : RattleType) (key : keys.Ghosts K.Denot) (eq : eqs.Ghosts K.Denot) where
   -- the trie ends as the entry's trie does, and at `Err` it stays as it is
   abbrev pub entry_rests_if_err : {P : Type 0} → {path : paths.Ghosts P}
@@ -41,3 +48,12 @@ module _ (K V P : RattleType) (key : keys.Ghosts K.Denot) (eq : eqs.Ghosts K.Den
   entry_lends e r =
       follows_if (trie_row K V key eq) V (entry_lender e) (name_if_ok (λ x. x.ghost_name) r)
       (with_value_or (entry_map e) (entry_list e) (entry_key e)) (entry_map e)
+
+  abbrev pub entry_row : RattleType
+  entry_row = entry.the_row (record { mir = named 1; lft = [] }) K V P key eq path
+
+  -- the entry ends with the last value written through r at its list, and at `None` it stays as it
+  -- is
+  abbrev pub entry_lends_own : MutBor (Entry K.Denot V.Denot P.Denot key eq path)
+      → Option (MutBor V.Denot) → Fml
+  entry_lends_own e r = LendsIf entry_row V e r (with_entry_value e.now) e.now

@@ -1,4 +1,3 @@
-mod LeaseLemmas
 mod PageLemmas
 mod TextLemmas
 mod WordLemmas

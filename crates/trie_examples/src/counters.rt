@@ -1,22 +1,22 @@
 //! A counter for each word.
 ghost use Rattle.std.specs.Option.{unwrap_or};
-ghost use Rattle.std.specs.Prelude.{◌≡◌, ◌≢◌, ◌+◌, ◌<◌, ◌^◌, ℕ, List, OnOk, OnErr, string_bytes};
-ghost use Rattle.radix_trie.specs.Maps.{value_at};
-ghost use Rattle.radix_trie.specs.Nibbles.{nibbles};
+ghost use Rattle.std.specs.Prelude.{◌≡◌, ◌+◌, ◌<◌, ◌^◌, OnOk, OnErr, false};
+ghost use Rattle.keyed_maps.specs.KeyedMaps.{keyed_map};
 
-use radix_trie::{Trie, TrieError, edits_change_one_answer};
+use keyed_maps::{keyed_maps_follow_edits, keyed_maps_follow_values};
+use radix_trie::{Trie, TrieError, TrieKey};
 
 /// Counts a word: one more of it, and no more of any other. A word that isn't stored has the count 0.
-fn count(counts: &mut Trie<String, u64>, word: String) -> Result<(), TrieError>
-    requires room { unwrap_or (value_at counts.old (nibbles (string_bytes word))) 0 + 1 < 2 ^ 64 }
-    ensures one_more { OnOk result
-        (unwrap_or (value_at counts.new (nibbles (string_bytes word))) 0
-        ≡ unwrap_or (value_at counts.old (nibbles (string_bytes word))) 0 + 1) }
-    ensures others { (q : List ℕ) → q ≢ nibbles (string_bytes word)
-        → value_at counts.new q ≡ value_at counts.old q }
+fn count<K: TrieKey + Drop>(counts: &mut Trie<K, u64>, word: K) -> Result<(), TrieError>
+    requires room { unwrap_or (keyed_map K.encoding counts.old word) 0 + 1 < 2 ^ 64 }
+    ensures one_more { OnOk result (unwrap_or (keyed_map K.encoding counts.new word) 0
+        ≡ unwrap_or (keyed_map K.encoding counts.old word) 0 + 1) }
+    ensures others { OnOk result ((other : K) → K.is_value other → K.eq word other ≡ false
+        → keyed_map K.encoding counts.new other ≡ keyed_map K.encoding counts.old other) }
     ensures unchanged { OnErr result (counts.new ≡ counts.old) }
 {
-    edits_change_one_answer::<(String, u64)>();
+    keyed_maps_follow_edits::<K, u64>();
+    keyed_maps_follow_values::<K, u64>();
     counts.map_with_default(
         word,
         |n: &mut u64|

@@ -1,11 +1,10 @@
 //! Leases of addresses, each with the time at which it ends: those of one network that are over are removed.
-ghost use Rattle.std.specs.Prelude.{◌≡◌, ◌<◌, ◌≤◌, ◌↔◌, ℕ, List, None, Some, IsTrue, OnOk};
+ghost use Rattle.std.specs.Prelude.{◌≡◌, ◌<◌, ◌≤◌, ◌↔◌, ℕ, None, Some, IsTrue, OnOk};
 ghost use Rattle.radix_trie.specs.Lists.{IsPrefix};
-ghost use Rattle.radix_trie.specs.Maps.{value_at};
+ghost use Rattle.keyed_maps.specs.KeyedMaps.{keyed_map};
 
-use radix_trie::{
-    Ipv4Network, Memory, Trie, TrieError, TrieKey, part_answers_below, rest_answers_elsewhere,
-};
+use keyed_maps::{keyed_maps_follow_parts, keyed_maps_follow_retain};
+use radix_trie::{Ipv4Network, Memory, Trie, TrieError, TrieKey};
 
 /// Removes the leases at and below a key that are over at a time: that end then, or have ended before. Where memory is
 /// refused, some of these may be left.
@@ -14,23 +13,23 @@ fn remove_ended<K: TrieKey + Drop, Q: TrieKey>(
     key: &Q,
     time: u64,
 ) -> Result<(), Memory>
-    ensures over { OnOk result ((e : List ℕ) (end : ℕ) → IsPrefix (Q.encoding key.now) e
-        → value_at leases.old e ≡ Some end → end ≤ time → value_at leases.new e ≡ None) }
-    ensures running { (e : List ℕ) (end : ℕ) → IsPrefix (Q.encoding key.now) e
-        → value_at leases.old e ≡ Some end → time < end → value_at leases.new e ≡ Some end }
-    ensures none { (e : List ℕ) → IsPrefix (Q.encoding key.now) e
-        → value_at leases.old e ≡ None → value_at leases.new e ≡ None }
-    ensures elsewhere { (e : List ℕ) → (IsPrefix (Q.encoding key.now) e → ⊥)
-        → value_at leases.new e ≡ value_at leases.old e }
+    ensures over { OnOk result ((k : K) (end : ℕ) → IsPrefix (Q.encoding key.now) (K.encoding k)
+        → keyed_map K.encoding leases.old k ≡ Some end → end ≤ time
+        → keyed_map K.encoding leases.new k ≡ None) }
+    ensures running { (k : K) (end : ℕ) → IsPrefix (Q.encoding key.now) (K.encoding k)
+        → keyed_map K.encoding leases.old k ≡ Some end → time < end
+        → keyed_map K.encoding leases.new k ≡ Some end }
+    ensures none { (k : K) → IsPrefix (Q.encoding key.now) (K.encoding k)
+        → keyed_map K.encoding leases.old k ≡ None → keyed_map K.encoding leases.new k ≡ None }
+    ensures elsewhere { (k : K) → (IsPrefix (Q.encoding key.now) (K.encoding k) → ⊥)
+        → keyed_map K.encoding leases.new k ≡ keyed_map K.encoding leases.old k }
 {
-    part_answers_below::<(K, u64)>();
-    rest_answers_elsewhere::<(K, u64)>();
-    leases.retain_below(
-        key,
-        |_: &K, end: &u64|
-            ensures { IsTrue result ↔ (time < end.now) }
-        { *end > time },
-    )
+    let runs = |_: &K, end: &u64| -> bool
+        ensures { IsTrue result ↔ (time < end.now) }
+    { *end > time };
+    keyed_maps_follow_parts::<K, u64>();
+    keyed_maps_follow_retain::<K, u64, _>(&runs);
+    leases.retain_below(key, runs)
 }
 
 /// The leases of two networks, three of them over at 200.

@@ -11,7 +11,7 @@ use crate::caller::{Caller, make};
 use crate::calls::files::answer_file;
 use crate::calls::json::answer_text;
 use crate::calls::topics::answer_form;
-use crate::help::answer_help;
+use crate::help::{answer_complete, answer_help};
 use crate::request::{Request, request_of};
 use crate::tries::Tries;
 use line_sessions::{Program, Refusal, WatchedReader, WatchedWriter, run};
@@ -123,7 +123,8 @@ impl<F: Files + AllocGlobal + Drop> Shell<F> {
                 self.is_watched = true;
                 answer.line("ok")
             }
-            "help" => answer_help(answer),
+            "help" | ".help" => answer_help(answer),
+            "complete" => answer_complete(answer),
             "save" | "load" => answer_file(&self.files, &mut self.tries, answer),
             "write" | "read" => self.tries.answer_frozen_file(&self.files, answer),
             _ if answer_form(answer)? || answer_part(answer)? || answer_text(answer)? => Ok(()),

@@ -12,8 +12,11 @@ pub const CALLS: &'static [&'static str] = &[
     "get_or_insert KEY DEFAULT VALUE: writes the value at the key, or the default that is stored first.",
     "get_or_insert KEY DEFAULT VALUE: The old value, or the default.",
     "entry KEY: the key's entry: the key, the value that is stored there or none, and whether one is.",
+    "entry_into_key KEY: the key's entry gives its key back.",
+    "entry_get_mut KEY VALUE: writes the value at the key's entry, if one is stored. The old value, or none.",
     "entry_insert KEY VALUE: stores the value by the key's entry. The old value, or none.",
     "entry_or_insert KEY DEFAULT VALUE: as get_or_insert, by the key's entry.",
+    "entry_or_insert_with KEY DEFAULT VALUE: the same; a closure makes the default.",
     "entry_and_modify KEY NUMBER: adds the number to the value at the key's entry, if one is stored.",
     "entry_remove KEY: removes the pair at the key's entry: the pair, or none.",
     "get KEY: the value at the key, or none; outside, in a view.",
@@ -50,6 +53,8 @@ pub const CALLS: &'static [&'static str] = &[
     "compact: lays the nodes anew, in the order of walks.",
     "iter: the pairs in order, or none.",
     "keys: their keys, or none.",
+    "keys TYPE: begins with a trie of this type of keys: text, bytes, nibbles, u8, u16, u32, u64,",
+    "keys TYPE: u128, usize, i8, i16, i32, i64, i128, isize, bool, char, bits, ipv4, ipv6, parts.",
     "values: their values, or none.",
     "iter_from KEY: the pairs from the key on, or none.",
     "iter_after KEY: the pairs after the key, or none.",
@@ -179,8 +184,6 @@ pub const CALLS: &'static [&'static str] = &[
     "write NAME FILE: writes the frozen trie of this name to the file, anew; not text; no file.",
     "read NAME FILE: the frozen trie of the file, under this name; not text; no file; magic, version,",
     "read NAME FILE: short, value, unsorted, long or full, at pair NUMBER, byte NUMBER.",
-    "keys TYPE: begins with a trie of this type of keys: text, bytes, nibbles, u8, u16, u32, u64,",
-    "keys TYPE: u128, usize, i8, i16, i32, i64, i128, isize, bool, char, bits, ipv4, ipv6, parts.",
     "save FILE CALL[ ..]: writes what the call of a trie or a view answers to the file, anew; no file.",
     "load FILE CALL: makes the call with the words of the file behind it; no file.",
     "draw: the tree, a point on each line: its fragment, and its pair, or a star where none is stored.",
@@ -191,21 +194,45 @@ pub const CALLS: &'static [&'static str] = &[
     "light CALL[ ..]: makes the call, which is promised to take no memory.",
     "help: a line for each call.",
     "help CALL: the lines of this call.",
+    ".help[ CALL]: the same as help.",
+    "complete BEGINNING: the names of the calls that begin so, or none.",
 ];
+
+/// The name of the call that a line tells of.
+fn name_of(line: &'static str) -> &'static str {
+    match line.split_once([' ', '[', ':']) {
+        Some((name, _)) => name,
+        None => line,
+    }
+}
 
 /// What is told of a call, or of all of them where no name is given.
 pub fn answer_help(answer: &mut Answer<'_>) -> Result<(), Memory> {
     let meant = answer.next_word();
     let mut is_none = true;
     for line in CALLS {
-        let name = match line.split_once([' ', '[', ':']) {
-            Some((name, _)) => name,
-            None => *line,
-        };
-        if meant.is_none_or(|it| it == name) {
+        if meant.is_none_or(|it| it == name_of(*line)) {
             is_none = false;
             answer.line(*line)?;
         }
     }
     if is_none { answer.line(NONE) } else { Ok(()) }
+}
+
+/// The names of the calls that begin with a word, each once. The lines of a call stand together.
+pub fn answer_complete(answer: &mut Answer<'_>) -> Result<(), Memory> {
+    let beginning = answer.next_word().unwrap_or("");
+    let mut last = "";
+    for line in CALLS {
+        let name = name_of(*line);
+        if name != last && name.starts_with(beginning) {
+            last = name;
+            answer.line(name)?;
+        }
+    }
+    if last.is_empty() {
+        answer.line(NONE)
+    } else {
+        Ok(())
+    }
 }

@@ -8,7 +8,9 @@ use Rattle.radix_nodes.specs.Pairs.{pairs_of}
 use Rattle.radix_nodes.proofs.NodeLemmas.Pairs.{pairs_of-append}
 use Rattle.radix_trie.specs.declared.iter.combination.Operation.{Operation}
 use Rattle.radix_trie.specs.declared.iter.combination.branches.Branches.{Branches}
-use Rattle.radix_trie.specs.Combinations.{AreParted, IsCutBehind, IsCutOff, LeadOn, combined_entries, entries_left, lead, nibbles_left, own_of, row_of_branch, under}
+use Rattle.radix_trie.specs.declared.iter.combination.branches.Turn.{Turn}
+use Rattle.radix_trie.specs.declared.iter.combination.branches.Turn.TheVariants as turn
+use Rattle.radix_trie.specs.Combinations.{AreParted, IsCutBehind, IsCutOff, LeadOn, combined_entries, entries_left, lead, nibbles_left, nibbles_of_first, nibbles_of_second, own_of, row_of_branch, under}
 use Rattle.radix_trie.proofs.CombinationLemmas.Lists.{IsLate, combined-moved, combined_cut}
 use Rattle.radix_trie.proofs.CombinationLemmas.Trees.{early_under, placed_from, placed_late}
 use Rattle.radix_trie.proofs.WalkLemmas.Order.{order-behind}
@@ -48,6 +50,13 @@ module _ {P : Type 0} where
       fewer = omega (arith, ap nibbles_in stays.1, ap nibbles_in stays.2);
     }
 
+  -- a turn that is known, and isn't the end
+  pub led_by : (k l : Children P) (r known : Turn) → r ≡ known → (known ≡ turn.End → ⊥)
+      → LeadOn k l (nibbles_of_first r k) (nibbles_of_second r l) → ((r ≡ turn.End → ⊥) → 0 < nibbles_of_first r k + nibbles_of_second r l)
+      → LeadOn k l (nibbles_of_first known k) (nibbles_of_second known l) × (0 < nibbles_of_first known k + nibbles_of_second known l)
+  led_by k l r known is goes_on on some =
+      (subst (λ t. LeadOn k l (nibbles_of_first t k) (nibbles_of_second t l)) is on, subst (λ t. (t ≡ turn.End → ⊥) → 0 < nibbles_of_first t k + nibbles_of_second t l) is some goes_on)
+
   -- what lies below the path comes first, and what comes later then
   entries_parted : (op : Operation) (p : List ℕ) → p ≢ [] → (es fs xs ys : List (List ℕ × P)) → IsLate (suc (first p)) fs → IsLate (suc (first p)) ys
       → combined_entries op (under p es ++ fs) (under p xs ++ ys) ≡ under p (combined_entries op es xs) ++ combined_entries op fs ys
@@ -76,6 +85,8 @@ module _ {K V : Type 0} where
           ++ pairs_of (combined_entries op (entry [] (own_of (sym first_aside i)) ++ entries_in [] (row_of_branch beside.first)) (entry [] (own_of (sym second_aside i)) ++ entries_in [] (row_of_branch beside.second))));
       below_placed = (one.below_placed, two.below_placed);
       beside_placed = (one.beside_placed, two.beside_placed);
+      first_bare = first_aside;
+      second_bare = second_aside;
       fewer = fewer;
     }
 

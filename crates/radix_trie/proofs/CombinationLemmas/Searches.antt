@@ -1,6 +1,6 @@
 -- What a search over two sides has left, and the turns that it takes.
-use Rattle.std.proofs.Common.{◌≡◌, ◌+◌, ◌*◌, ℕ, Bool, true, false, not, ◌⊎◌, inl, inr, List, [], ◌∷◌, ◌++◌, Option, Some, None, Bor, is_some, refl, ap, sym, ◌∙◌, arith, append_assoc, append-nil}
-use Rattle.masked_tree.specs.Tree.{entries_in}
+use Rattle.std.proofs.Common.{◌≡◌, ◌+◌, ◌*◌, ℕ, Bool, true, false, not, ◌⊎◌, inl, inr, List, [], ◌∷◌, ◌++◌, Option, Some, None, Bor, refl, ap, sym, ◌∙◌, arith, append_assoc, append-nil}
+use Rattle.masked_tree.specs.Tree.{none as no_children, entries_in}
 use Rattle.nibble_map.specs.Swaps.{entry}
 use Rattle.radix_nodes.specs.declared.trie_node.KeyValue.{KeyValue}
 use Rattle.radix_nodes.specs.Pairs.{pairs_of}
@@ -36,6 +36,12 @@ module _ {P : Type 0} where
   nothing_given operation.Intersection false true es fs one two some kept = ap (combined_entries operation.Intersection es) (two refl) ∙ none_common es
   nothing_given operation.Difference false true es fs one two some kept = absurd (cc)
   nothing_given operation.SymmetricDifference false true es fs one two some kept = absurd (cc)
+
+  nothing_of_none : (op : Operation) → combined_entries {P = P} op [] [] ≡ []
+  nothing_of_none operation.Union = refl
+  nothing_of_none operation.Intersection = refl
+  nothing_of_none operation.Difference = refl
+  nothing_of_none operation.SymmetricDifference = refl
 
   early_own : (o : Option P) → IsEarly 0 (entry [] o)
   early_own None = tt
@@ -110,3 +116,14 @@ module _ {K V : Type 0} where
     first_below new pushed =
         left-push op new below ∙ ap (λ n. pairs_left op below ++ all_left op n) pushed ∙ ap (λ ps. pairs_left op below ++ ps) (left-push op bs beside)
         ∙ sym (append_assoc (pairs_left op below) (pairs_left op beside) (all_left op bs))
+
+    -- or no node is left below, and the own pairs there come right before the later one
+    pub leaf_below : ArePlaced below → ArePlaced beside → row_of_branch below.first ≡ no_children → row_of_branch below.second ≡ no_children → beside.first.own ≡ None → beside.second.own ≡ None
+        → all_left op (bs ++ with_own beside below.first.own below.second.own ∷ []) ≡ (pairs_left op below ++ pairs_left op beside) ++ all_left op bs
+    leaf_below placed beside_placed first_leaf second_leaf first_bare second_bare =
+        let at = with_own beside below.first.own below.second.own in
+        let own = given op below.first.own below.second.own in
+        let bare = (λ i. pairs_of (combined_entries op (entries_in [] (first_leaf i)) (entries_in [] (second_leaf i)))) ∙ ap pairs_of (nothing_of_none op) in
+        let alone = own_given op below placed ∙ ap (λ ps. own ++ ps) bare ∙ append-nil own in
+        left-push op bs at
+        ∙ ap (λ ps. ps ++ all_left op bs) (own_given op at beside_placed ∙ (λ i. sym alone i ++ pairs_left op (with_own beside (sym first_bare i) (sym second_bare i))))

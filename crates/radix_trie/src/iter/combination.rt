@@ -142,7 +142,7 @@ impl<'a, K, V> Search<'a, K, V> {
 }
 
 /// What comes next of what lies below a path and of what lies beside it: the first, where a pair may be given of it, and then
-/// the other one, which is put aside.
+/// the other one. That one is put aside where nodes lie below the path; else the pairs at the path come right before it.
 fn descend<'a, K, V>(
     operation: Operation,
     stack: &mut Vec<Branches<'a, K, V>>,
@@ -152,6 +152,8 @@ fn descend<'a, K, V>(
     requires placed { AreAllPlaced stack.old.items }
     requires below { ArePlaced below }
     requires beside { ArePlaced beside }
+    requires first_bare { beside.first.own ≡ None }
+    requires second_bare { beside.second.own ≡ None }
     ensures pairs { IfOk result (λ at. all_left operation (stack.new.items ++ at ∷ [])
         ≡ (pairs_left operation below.entry ++ pairs_left operation beside.entry)
         ++ all_left operation stack.old.items) }
@@ -162,6 +164,20 @@ fn descend<'a, K, V>(
 {
     if !operation.may_give(&below) {
         return Ok(beside);
+    }
+    if below.first.is_leaf() && below.second.is_leaf() {
+        return Ok(Branches {
+            first: Branch {
+                own: below.first.own,
+                row: beside.first.row,
+                offset: beside.first.offset,
+            },
+            second: Branch {
+                own: below.second.own,
+                row: beside.second.row,
+                offset: beside.second.offset,
+            },
+        });
     }
     if operation.may_give(&beside) {
         stack.push(beside)?;

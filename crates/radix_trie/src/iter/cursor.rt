@@ -87,6 +87,12 @@ impl<'a, K, V> Cursor<'a, K, V> {
     ///
     /// # Examples
     ///
+    /// ```
+    /// let Some(pair) = left.next()? else {
+    ///     return Ok(list);
+    /// };
+    /// ```
+    ///
     /// `first_pairs` in `crates/radix_trie/src/iter/pages.rt` takes some pairs.
     pub fn next(&mut self) -> Result<Option<(&'a K, &'a V)>, Memory>
         ensures pair { IfOk result (λ pair. option_map deref_pair pair ≡ slice_get self.old 0) }

@@ -26,7 +26,11 @@ impl<K: TrieKey + Drop, V: Drop> Trie<K, V> {
     ///
     /// # Examples
     ///
-    /// `built_from_a_vector` in `crates/trie_tests/src/building/built.rt`.
+    /// ```
+    /// let log: Trie<u64, &'static str> = Trie::from_iter(rt.alloc(), LINES.iter().copied())?;
+    /// ```
+    ///
+    /// `lines_of_a_while` in `crates/trie_examples/src/log_lines.rt` builds a log of its lines.
     pub fn from_iter<I: Iterator<Item = (K, V)> + Drop>(
         alloc: Global,
         iter: I,

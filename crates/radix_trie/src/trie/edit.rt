@@ -48,6 +48,11 @@ impl<K: TrieKey + Drop, V: Drop> Trie<K, V> {
     ///
     /// # Examples
     ///
+    /// ```
+    /// assert!(rt; matches!(trie.insert("haskell", 18), Ok(None)));
+    /// assert!(rt; matches!(trie.insert("haskell", 36), Ok(Some(18))));
+    /// ```
+    ///
     /// `first_steps` in `crates/trie_examples/src/first.rt` stores a pair twice.
     pub fn insert(&mut self, key: K, value: V) -> Result<Option<V>, InsertError<K, V>>
         ensures old_value { IfOk result (λ old. old ≡ value_at self.old (K.encoding key)) }

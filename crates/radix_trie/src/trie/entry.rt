@@ -1,10 +1,12 @@
 //! A key's place in a trie: a pair is stored there or none, and one acts on it then.
 ghost use Rattle.std.specs.FinMap as map;
 ghost use Rattle.std.specs.Fn.{FnOnceReturnsAtMut, FnOnceTakesAtMut};
-ghost use Rattle.std.specs.Option.{ForSome};
+ghost use Rattle.std.specs.Borrow.{sem};
+ghost use Rattle.std.specs.Option.{ForSome, option_copied_mut};
 ghost use Rattle.std.specs.Prelude.{◌≡◌, ◌↔◌, ⊤, ℕ, List, None, IsTrue, IsOk, IfOk, OnOk, IfErr, OnErr, MatchOption, option_copied};
 ghost use Rattle.nibble_map.specs.Maps.{IsStored, value_at, with_value};
 ghost use Rattle.nibble_map.specs.Nibbles.{IsShort};
+ghost use Rattle.radix_trie.specs.Lends.{lends_behind};
 ghost use Rattle.radix_trie.specs.Refusals.{IsFullAt, JoinsAreShort, RefusesInsert};
 
 mod error;
@@ -19,13 +21,14 @@ use radix_nodes::trie_node::KeyValue;
 /// The place of a key in a trie: a pair is stored at the key's encoding, or none.
 ///
 /// `Trie::entry` encodes the key, once for all calls. An entry keeps no node, so each of its calls
-/// but `key` goes down the trie.
+/// but `key` and `into_key` goes down the trie.
 // The parameter `P` lets a caller's proof follow the trie past the entry's end; it is always
 // `Nibblet`.
+// The list stands before the key: the proof of `get_mut` shares the second field beside the first.
 pub struct Entry<'a, K: TrieKey, V, P: PathList = Nibblet> {
     trie: &'a mut Trie<K, V>,
-    key: K,
     list: P,
+    key: K,
     ghost encoded: { P.list list ≡ K.encoding key },
 }
 
@@ -56,6 +59,10 @@ impl<K: TrieKey, V> Trie<K, V> {
     ///
     /// # Examples
     ///
+    /// ```
+    /// *counts.entry(word)?.or_insert(0)? += 1;
+    /// ```
+    ///
     /// `count` in `crates/trie_examples/src/tallies.rt` counts a word.
     pub fn entry(&mut self, key: K) -> Result<Entry<'_, K, V>, EntryError<K>>
         ensures* rests { sem 𝓛
@@ -79,14 +86,43 @@ impl<K: TrieKey, V> Trie<K, V> {
     }
 }
 
+/// The value that the trie behind a reference holds at an entry's list, for writing.
+fn value_at_list<'s, 'a, K: TrieKey, V, P: PathList>(
+    trie: &'s mut &'a mut Trie<K, V>,
+    list: &'s P,
+) -> Option<&'s mut V>
+    ensures* writes_back { sem 𝓛
+        (lends_behind K.row V.row K.TrieKey.own K.PartialEq.own trie.entry (P.list list.now)
+        result) }
+    ensures value { option_copied_mut result ≡ value_at trie.old.now (P.list list.now) }
+{
+    trie.at_mut(list.nibbles())
+}
+
 impl<'a, K: TrieKey, V, P: PathList> Entry<'a, K, V, P> {
-    ghost use Rattle.radix_trie.specs.Entries.{entry_key, entry_list, entry_map};
+    ghost use Rattle.std.specs.Borrow.{sem};
+    ghost use Rattle.std.specs.Option.{option_copied_mut};
+    ghost use Rattle.radix_trie.specs.Entries.{entry_key, entry_lends_own, entry_list, entry_map};
 
     /// The key that was passed to `Trie::entry`.
     pub fn key(&self) -> &K
         ensures { result.now ≡ entry_key self.now }
     {
         &self.key
+    }
+
+    /// The very key that was passed to `Trie::entry`. The entry is spent, and the trie stays as it
+    /// is.
+    pub fn into_key(self) -> K
+        ensures key { result ≡ entry_key self.entry }
+        ensures unchanged { self.exit.0.now ≡ entry_map self.entry }
+    {
+        let Entry {
+            trie: _,
+            key,
+            list: _,
+        } = self;
+        key
     }
 
     /// The value that is stored at the key's encoding, if there is one. It allocates nothing.
@@ -104,11 +140,25 @@ impl<'a, K: TrieKey, V, P: PathList> Entry<'a, K, V, P> {
     {
         self.trie.contains(self.list.nibbles())
     }
+
+    /// The value that is stored at the key's encoding, for writing, if there is one. It allocates
+    /// nothing.
+    ///
+    /// Once the value has been written, the entry's map has it there, and all else is as before.
+    pub fn get_mut(&mut self) -> Option<&mut V>
+        ensures* writes_back { sem 𝓛
+            (entry_lends_own K.row V.row P.row K.TrieKey.own K.PartialEq.own P.PathList
+            self.entry result) }
+        ensures value { option_copied_mut result
+            ≡ value_at (entry_map self.old) (entry_list self.old) }
+    {
+        value_at_list(&mut self.trie, &self.list)
+    }
 }
 
 impl<'a, K: TrieKey + Drop, V: Drop, P: PathList> Entry<'a, K, V, P> {
     ghost use Rattle.std.specs.Borrow.{sem};
-    ghost use Rattle.std.specs.Option.{unwrap_or};
+    ghost use Rattle.std.specs.Option.{ForNone, UnwrapsOrElse, unwrap_or};
     ghost use Rattle.radix_trie.specs.Entries.{entry_key, entry_lender, entry_lends, entry_list, entry_map};
 
     /// Calls the closure once on the value that is stored at the key's encoding, where there is
@@ -196,13 +246,48 @@ impl<'a, K: TrieKey + Drop, V: Drop, P: PathList> Entry<'a, K, V, P> {
         let Entry { trie, key, list } = self;
         let list = list.into_nibbles();
         let _nibbles = list.len();
-        trie.filled_at(
-            &list,
-            KeyValue {
-                key,
-                value: default,
-            },
-        )
+        trie.filled_at(&list, key, move || default)
+    }
+
+    /// The value that is stored at the key's encoding, for writing, where the value that the closure
+    /// makes is stored first if nothing is. The entry is spent.
+    ///
+    /// The closure is called once, where nothing is stored there, and else not at all: it has to be
+    /// callable in that case alone. If a pair is stored there, its key stays, and the entry's key
+    /// and the closure are dropped. A caller learns from this call what the trie ends as. A stored
+    /// encoding takes two ways down, and a new one three.
+    ///
+    /// # Errors
+    ///
+    /// Those of `insert`, in its order, after the closure's call. The trie is as before then, and
+    /// the error holds the very key and the value that was made.
+    pub fn or_insert_with<F: FnOnce() -> V>(
+        self,
+        default: F,
+    ) -> Result<&'a mut V, InsertError<K, V>>
+        requires callable { ForNone (value_at (entry_map self) (entry_list self))
+            (F.pre default) }
+        ensures* writes_back { sem 𝓛
+            (entry_lends K.row V.row P.row K.TrieKey.own K.PartialEq.own P.PathList
+            self.entry result) }
+        ensures value { IfOk result (λ value.
+            UnwrapsOrElse (value_at (entry_map self.entry) (entry_list self.entry))
+            (F.post default) value.now) }
+
+        ensures handed_back { IfErr result
+            (λ e. (e.key ≡ entry_key self.entry) × F.post default e.value) }
+
+        ensures occupied { IsStored (entry_map self.entry) (entry_list self.entry)
+            → IsOk result }
+        ensures room { OnOk result
+            (IsFullAt (entry_map self.entry) (entry_list self.entry) → ⊥) }
+        ensures why { IfErr result
+            (λ e. RefusesInsert (entry_map self.entry) (entry_list self.entry) ⊤ ⊤ e.why) }
+    {
+        let Entry { trie, key, list } = self;
+        let list = list.into_nibbles();
+        let _nibbles = list.len();
+        trie.filled_at(&list, key, default)
     }
 
     /// Removes the pair at the key's encoding, and returns the stored key and its value. Where none

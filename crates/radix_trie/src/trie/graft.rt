@@ -44,7 +44,12 @@ impl<K: TrieKey + Drop, V: Drop> Trie<K, V> {
     ///
     /// # Examples
     ///
-    /// `part_is_put_back` in `crates/trie_tests/src/removal/splits.rt` grafts what it split off.
+    /// ```
+    /// let part = trie.split_off_prefix(key)?;
+    /// Ok(trie.graft(part)?)
+    /// ```
+    ///
+    /// `put_back` in `crates/trie_examples/src/cited.rt` grafts what it split off.
     pub fn graft(&mut self, part: Trie<K, V>) -> Result<(), GraftError<K, V>>
         ensures grafted { OnOk result
             (self.new ≡ with_pairs K.encoding self.old (pairs_below part [])) }

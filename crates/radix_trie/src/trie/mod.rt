@@ -133,7 +133,12 @@ impl<K: TrieKey, V> Trie<K, V> {
     ///
     /// # Examples
     ///
-    /// `first_steps` in `crates/trie_examples/src/first.rt` inserts, looks up and removes.
+    /// ```
+    /// assert!(rt; matches!(trie.insert("haskell", 36), Ok(Some(18))));
+    /// assert!(rt; trie.get(&"haskell")? == Some(&36));
+    /// ```
+    ///
+    /// `first_steps` in `crates/trie_examples/src/first.rt` looks up what it inserted.
     pub fn get<Q: TrieKey>(&self, key: &Q) -> Result<Option<&V>, Memory>
         ensures value { IfOk result
             (λ found. option_copied found ≡ value_at self.now (Q.encoding key.now)) }

@@ -24,8 +24,11 @@ impl<K: TrieKey, V> Trie<K, V> {
     ///
     /// # Examples
     ///
-    /// `first_pairs_below_texts` in `crates/trie_tests/src/further/pages.rt` takes pages of the sample
-    /// of texts.
+    /// ```
+    /// words.first_below(&typed, most)
+    /// ```
+    ///
+    /// `page` in `crates/trie_examples/src/pages.rt` takes the first completions of what was typed.
     pub fn first_below<Q: TrieKey>(&self, key: &Q, most: usize) -> Result<Vec<(&K, &V)>, Memory>
         ensures pairs { IfOk result (λ list. deref_pairs list.items
             ≡ take most (pairs_below self.now (Q.encoding key.now))) }

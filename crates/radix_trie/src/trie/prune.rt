@@ -23,8 +23,11 @@ impl<K: TrieKey + Drop, V: Drop> Trie<K, V> {
     ///
     /// # Examples
     ///
-    /// `by_the_trie` in `crates/trie_tests/src/removal/rows.rt` takes what is below each of some texts
-    /// away.
+    /// ```
+    /// for (key, value) in all.remove_prefix(&from)? {
+    /// ```
+    ///
+    /// `move_below` in `crates/trie_examples/src/moves.rt` takes what lies below a name away, to store it elsewhere.
     pub fn remove_prefix<Q: TrieKey>(&mut self, key: &Q) -> Result<Vec<(K, V)>, Memory>
         ensures pairs { IfOk result
             (λ gone. gone.items ≡ pairs_below self.old (Q.encoding key.now)) }

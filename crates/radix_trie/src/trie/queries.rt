@@ -19,8 +19,14 @@ impl<K: TrieKey, V> Trie<K, V> {
     ///
     /// # Examples
     ///
-    /// `inherited` in `crates/trie_examples/src/uses.rt` finds the setting of the nearest path at
-    /// or above another.
+    /// ```
+    /// settings
+    ///     .get_ancestor_value(path)?
+    ///     .copied()
+    ///     .unwrap_or(default),
+    /// ```
+    ///
+    /// `inherited` in `crates/trie_examples/src/uses.rt` finds the setting of the nearest path at or above another.
     pub fn get_ancestor_value<Q: TrieKey>(&self, key: &Q) -> Result<Option<&V>, Memory>
         ensures value { IfOk result
             (λ found. IsValueAbove self.now (Q.encoding key.now) (option_copied found)) }
@@ -56,7 +62,11 @@ impl<K: TrieKey, V> Trie<K, V> {
     ///
     /// # Examples
     ///
-    /// `prefixes_of_texts` in `crates/trie_tests/src/further/prefixes.rt`.
+    /// ```
+    /// for (name, rules) in all.common_prefixes(host)? {
+    /// ```
+    ///
+    /// `suffix_len` in `crates/trie_examples/src/suffixes.rt` goes over the rules of a host's public suffix.
     pub fn common_prefixes<Q: TrieKey>(&self, key: &Q) -> Result<CommonPrefixes<'_, K, V>, Memory>
         ensures walk { IfOk result
             (λ pairs. pairs ≡ pairs_above self.now (Q.encoding key.now)) }

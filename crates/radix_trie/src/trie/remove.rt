@@ -21,6 +21,11 @@ impl<K: TrieKey + Drop, V: Drop> Trie<K, V> {
     ///
     /// # Examples
     ///
+    /// ```
+    /// let _ = trie.remove(key)?;
+    /// Ok(trie.get(key)?.copied())
+    /// ```
+    ///
     /// `taken_away` in `crates/trie_examples/src/cited.rt` looks a key up that was removed.
     pub fn remove<Q: TrieKey>(&mut self, key: &Q) -> Result<Option<V>, Memory>
         ensures old_value { IfOk result (λ old. old ≡ value_at self.old (Q.encoding key.now)) }

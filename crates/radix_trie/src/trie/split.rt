@@ -26,7 +26,11 @@ impl<K: TrieKey + Drop, V: Drop> Trie<K, V> {
     ///
     /// # Examples
     ///
-    /// `part_is_split_off` in `crates/trie_tests/src/removal/splits.rt` splits texts off.
+    /// ```
+    /// let part = trie.split_off_prefix(key)?;
+    /// ```
+    ///
+    /// `put_back` in `crates/trie_examples/src/cited.rt` splits off what it grafts again.
     pub fn split_off_prefix<Q: TrieKey>(&mut self, key: &Q) -> Result<Trie<K, V>, Memory>
         ensures split { IfOk result (λ part. part ≡ below self.old (Q.encoding key.now)) }
         ensures removed { OnOk result (self.new ≡ without_below self.old (Q.encoding key.now)) }

@@ -1,6 +1,6 @@
 //! Insertions that leave a stored pair as it is.
 ghost use Rattle.std.specs.Borrow.{sem};
-ghost use Rattle.std.specs.Option.{unwrap_or};
+ghost use Rattle.std.specs.Option.{ForNone, UnwrapsOrElse, unwrap_or};
 ghost use Rattle.std.specs.FinMap as map;
 ghost use Rattle.std.specs.Prelude.{◌≡◌, ◌≢◌, ⊤, ◌<◌, ◌^◌, length, IsOk, IfOk, OnOk, IfErr, OnErr};
 ghost use Rattle.nibble_map.specs.Maps.{IsStored, value_at};
@@ -104,50 +104,61 @@ impl<K: TrieKey + Drop, V: Drop> Trie<K, V> {
         ensures why { IfErr result
             (λ e. RefusesInsert self.old (K.encoding key) ⊤ (K.is_light key) e.why) }
     {
-        let pair = KeyValue {
-            key,
-            value: default,
+        let Ok(list) = encoding_of(self.alloc, &key) else {
+            return Err(refused(
+                InsertWhy::Memory,
+                KeyValue {
+                    key,
+                    value: default,
+                },
+            ));
         };
-        let Ok(list) = encoding_of(self.alloc, &pair.key) else {
-            return Err(refused(InsertWhy::Memory, pair));
-        };
-        self.filled_at(&list, pair)
+        self.filled_at(&list, key, move || default)
     }
 
-    /// What `get_or_insert` does, with the key's encoding in hand.
-    pub(crate) fn filled_at(
+    /// What `get_or_insert` does, with the key's encoding in hand, and a default that is made where
+    /// nothing is stored.
+    pub(crate) fn filled_at<F: FnOnce() -> V>(
         &mut self,
         list: &Nibblet,
-        pair: KeyValue<K, V>,
+        key: K,
+        default: F,
     ) -> Result<&mut V, InsertError<K, V>>
-        requires encoding { list.now ≡ K.encoding pair.key }
+        requires encoding { list.now ≡ K.encoding key }
         requires fits { length list.now < 2 ^ 64 }
+        requires callable { ForNone (value_at self.old list.now) (F.pre default) }
         ensures* writes_back { sem 𝓛
             (lends_or_stored K.row V.row K.TrieKey.own K.PartialEq.own self.entry list.now
-            pair.key result) }
-        ensures value { IfOk result
-            (λ value. value.now ≡ unwrap_or (value_at self.old list.now) pair.value) }
-        ensures handed_back { IfErr result
-            (λ e. (e.key ≡ pair.key) × (e.value ≡ pair.value)) }
+            key result) }
+        ensures value { IfOk result (λ value.
+            UnwrapsOrElse (value_at self.old list.now) (F.post default) value.now) }
+        ensures handed_back { IfErr result (λ e. (e.key ≡ key) × F.post default e.value) }
         ensures stored { IsStored self.old list.now → IsOk result }
         ensures room { OnOk result (IsFullAt self.old list.now → ⊥) }
         ensures why { IfErr result (λ e. RefusesInsert self.old list.now ⊤ ⊤ e.why) }
     {
-        self.fill(list, pair)?;
+        self.fill(list, key, default)?;
         match self.at_mut(list) {
             Some(value) => Ok(value),
             None => unreachable!(),
         }
     }
 
-    /// Stores a pair where nothing is stored at its key's encoding; else the pair is dropped.
-    fn fill(&mut self, list: &Nibblet, pair: KeyValue<K, V>) -> Result<(), InsertError<K, V>>
-        requires encoding { list.now ≡ K.encoding pair.key }
+    /// Stores the key with a default that is made then, where nothing is stored at its encoding;
+    /// else both are dropped.
+    fn fill<F: FnOnce() -> V>(
+        &mut self,
+        list: &Nibblet,
+        key: K,
+        default: F,
+    ) -> Result<(), InsertError<K, V>>
+        requires encoding { list.now ≡ K.encoding key }
         requires fits { length list.now < 2 ^ 64 }
-        ensures filled { OnOk result
-            (IsFilled self.old list.now (pair.key, pair.value) self.new) }
-        ensures handed_back { IfErr result
-            (λ e. (e.key ≡ pair.key) × (e.value ≡ pair.value)) }
+        requires callable { ForNone (value_at self.old list.now) (F.pre default) }
+        ensures filled { OnOk result ((v : V)
+            × UnwrapsOrElse (value_at self.old list.now) (F.post default) v
+            × IsFilled self.old list.now (key, v) self.new) }
+        ensures handed_back { IfErr result (λ e. (e.key ≡ key) × F.post default e.value) }
         ensures unchanged { OnErr result (self.new ≡ self.old) }
         ensures stored { IsStored self.old list.now → IsOk result }
         ensures room { OnOk result (IsFullAt self.old list.now → ⊥) }
@@ -156,7 +167,8 @@ impl<K: TrieKey + Drop, V: Drop> Trie<K, V> {
         if self.contains(list) {
             return Ok(());
         }
-        self.insert_at(list, pair)?;
+        let value = default();
+        self.insert_at(list, KeyValue { key, value })?;
         Ok(())
     }
 }

@@ -58,7 +58,11 @@ impl<K: TrieKey, V> Trie<K, V> {
     ///
     /// # Examples
     ///
-    /// `close` in `crates/trie_examples/src/topics.rt` removes a topic through a view of it.
+    /// ```
+    /// let mut view = names.open_mut(&"tea")?;
+    /// ```
+    ///
+    /// `names_are_stored_once` in `crates/trie_examples/src/either.rt` opens a view for writing.
     pub fn open_mut<Q: TrieKey>(&mut self, key: &Q) -> Result<SubTrieMut<'_, K, V>, OpenError>
         ensures* rests { sem 𝓛
             (rests_if_err K.row V.row K.TrieKey.own K.PartialEq.own self.entry result) }

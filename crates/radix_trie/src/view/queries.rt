@@ -47,8 +47,12 @@ impl<K: TrieKey, V> Trie<K, V> {
     ///
     /// # Examples
     ///
-    /// `route` in `crates/trie_examples/src/answers.rt` finds the longest network that holds an
-    /// address.
+    /// ```
+    /// match table.get_ancestor(&bits)? {
+    ///     Some(view) => Ok(Some(view)),
+    /// ```
+    ///
+    /// `route` in `crates/trie_examples/src/answers.rt` finds the longest network that holds an address.
     pub fn get_ancestor<Q: TrieKey>(&self, key: &Q) -> Result<Option<SubTrie<'_, K, V>>, Memory>
         ensures nearest { IfOk result
             (λ o. IsAncestor self.now (Q.encoding key.now) (option_map (λ view. view.path) o)) }
@@ -106,6 +110,13 @@ impl<K: TrieKey, V> Trie<K, V> {
     /// light and the result is None or its path has at most 32 nibbles.
     ///
     /// # Examples
+    ///
+    /// ```
+    /// match words.get_raw_descendant(beginning)? {
+    ///     Some(view) => collected(alloc, TrieCommon::values(&view)?),
+    ///     None => Ok(Vec::new(alloc)),
+    /// }
+    /// ```
     ///
     /// `completions` in `crates/trie_examples/src/uses.rt` finds the words with a beginning.
     pub fn get_raw_descendant<Q: TrieKey>(

@@ -64,7 +64,13 @@ pub trait TrieCommon<'a, K: TrieKey + 'a, V: 'a>: Sized {
     ///
     /// # Examples
     ///
-    /// `count` and `total` in `crates/trie_examples/src/walk_callers.rt` go over a walk.
+    /// ```
+    /// for (_, value) in walk {
+    ///     total += *value as u64;
+    /// }
+    /// ```
+    ///
+    /// `total` in `crates/trie_examples/src/walk_callers.rt` goes over a walk.
     fn iter(self) -> Result<Iter<'a, K, V>, Memory>
         ensures walk { IfOk result (λ pairs. pairs ≡ pairs_below (map self) (path self)) }
         ensures keyed { Each (λ e. e.0 ≡ K.encoding e.1.0) (walk (map self) (path self)) }
@@ -104,7 +110,11 @@ pub trait TrieCommon<'a, K: TrieKey + 'a, V: 'a>: Sized {
     ///
     /// # Examples
     ///
-    /// `first_pairs` in `crates/radix_trie/src/iter/pages.rt` takes some pairs of a cursor.
+    /// ```
+    /// let walk = TrieCommon::cursor(&view);
+    /// ```
+    ///
+    /// `below` in `crates/route_tool/src/table.rt` begins a walk over the routes within a network.
     fn cursor(self) -> Cursor<'a, K, V>
         ensures walk { result ≡ pairs_below (map self) (path self) }
         ensures keyed { Each (λ e. e.0 ≡ K.encoding e.1.0) (walk (map self) (path self)) }
@@ -131,6 +141,10 @@ pub trait TrieCommon<'a, K: TrieKey + 'a, V: 'a>: Sized {
     /// and no pair is at or below the path.
     ///
     /// # Examples
+    ///
+    /// ```
+    /// first_pairs(alloc, log.range(from..to)?, most)
+    /// ```
     ///
     /// `lines_between` in `crates/trie_examples/src/log_lines.rt` takes a page of a range.
     fn range<Q: TrieKey, R: RangeBounds<Q>>(self, range: R) -> Result<Cursor<'a, K, V>, Memory>

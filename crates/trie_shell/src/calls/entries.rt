@@ -1,15 +1,22 @@
 //! What is done at a key's entry.
 
 use crate::calls::Table;
-use crate::calls::edits::{Given, insert_line, note_pair, refused_line};
-use crate::calls::lines::taken_line;
+use crate::calls::edits::{Given, insert_line, note_pair, refused_line, written_or_none};
+use crate::calls::lines::{key_line, taken_line};
 use radix_trie::{EntryError, Memory};
 use shell_words::{Answer, Key, NO_KEY, NO_NUMBER};
 
 /// A call of the entry of the key that the next word writes. False: the call is none.
 pub fn answer_entry(trie: &mut Table, answer: &mut Answer<'_>) -> Result<bool, Memory> {
     match answer.name() {
-        "entry" | "entry_insert" | "entry_or_insert" | "entry_and_modify" | "entry_remove" => {}
+        "entry"
+        | "entry_into_key"
+        | "entry_get_mut"
+        | "entry_insert"
+        | "entry_or_insert"
+        | "entry_or_insert_with"
+        | "entry_and_modify"
+        | "entry_remove" => {}
         _ => return Ok(false),
     }
     let word = answer.words().next().unwrap_or("");
@@ -30,8 +37,16 @@ fn answer_at(
     match answer.name() {
         "entry" => answer_shown(trie, key, word, answer),
         "entry_insert" => answer_insert(trie, key, word, answer),
-        "entry_or_insert" => answer_or_insert(trie, key, word, answer),
+        "entry_or_insert" | "entry_or_insert_with" => answer_or_insert(trie, key, word, answer),
         "entry_and_modify" => answer_and_modify(trie, key, word, answer),
+        "entry_into_key" => match trie.entry(key) {
+            Ok(entry) => key_line(answer, Some(&entry.into_key())),
+            Err(error) => no_entry(answer, word, error),
+        },
+        "entry_get_mut" => match trie.entry(key) {
+            Ok(mut entry) => written_or_none(answer, entry.get_mut()),
+            Err(error) => no_entry(answer, word, error),
+        },
         _ => match trie.entry(key) {
             Ok(entry) => taken_line(answer, &entry.remove()?),
             Err(error) => no_entry(answer, word, error),
@@ -90,14 +105,21 @@ fn answer_or_insert(
         return answer.refuse(NO_NUMBER);
     };
     match trie.entry(key) {
-        Ok(entry) => match entry.or_insert(value) {
-            Ok(stored) => {
-                let old = *stored;
-                *stored = number;
-                answer.value_line(Some(old))
+        Ok(entry) => {
+            let filled = if answer.name() == "entry_or_insert_with" {
+                entry.or_insert_with(move || value)
+            } else {
+                entry.or_insert(value)
+            };
+            match filled {
+                Ok(stored) => {
+                    let old = *stored;
+                    *stored = number;
+                    answer.value_line(Some(old))
+                }
+                Err(error) => refused_line(answer, Given { word, value }, error),
             }
-            Err(error) => refused_line(answer, Given { word, value }, error),
-        },
+        }
         Err(error) => no_entry(answer, word, error),
     }
 }

@@ -1,6 +1,7 @@
 //! Entries: a key's place in a trie, at keys of each length, and by callers with contracts of their
 //! own.
-ghost use Rattle.std.specs.Prelude.{◌≡◌, OnOk, OnErr};
+ghost use Rattle.std.specs.Prelude.{◌≡◌, false, IsTrue, IfOk, OnOk, OnErr};
+ghost use Rattle.radix_trie.specs.Maps.{with_value};
 ghost use Rattle.radix_trie.specs.Values.{IsFilled};
 
 use radix_trie::{EntryError, Trie, TrieError, TrieKey};
@@ -22,6 +23,25 @@ fn stored_if_vacant<K: TrieKey + Drop, V: Drop>(
     }
     entry.insert(value)?;
     Ok(true)
+}
+
+/// Writes the value at a key, where one is stored there. Whether it is written so.
+fn written_if_stored<K: TrieKey + Drop, V: Drop>(
+    trie: &mut Trie<K, V>,
+    key: K,
+    value: V,
+) -> Result<bool, TrieError>
+    ensures written { IfOk result (λ was. IsTrue was
+        → (trie.new ≡ with_value trie.old (K.encoding key) value)) }
+    ensures absent { IfOk result (λ was. was ≡ false → (trie.new ≡ trie.old)) }
+    ensures unchanged { OnErr result (trie.new ≡ trie.old) }
+{
+    let mut entry = trie.entry(key)?;
+    if let Some(found) = entry.get_mut() {
+        *found = value;
+        return Ok(true);
+    }
+    Ok(false)
 }
 
 #[test]
@@ -118,6 +138,28 @@ fn values_are_lent_by_entries(rt: HostRuntime) -> Result<(), TrieError> {
     drop(trie.entry("tea")?.and_modify(|n: &mut u64| { *n = 3 }));
     drop(trie.entry("toe")?.and_modify(|n: &mut u64| { *n = 3 }));
     assert!(rt; trie.get(&"tea")? == Some(&3) && trie.get(&"toe")?.is_none());
+    Ok(())
+}
+
+/// A default is made where nothing is stored, and there alone; a stored value is written; an entry
+/// gives its key back.
+#[test]
+fn defaults_are_made_by_entries(rt: HostRuntime) -> Result<(), TrieError> {
+    let mut trie = texts(rt.alloc(), &[("tea", 1)])?;
+    let mut made = false;
+    *trie.entry("tea")?.or_insert_with(|| {
+        made = true;
+        7
+    })? = 8;
+    assert!(rt; !made && trie.get(&"tea")? == Some(&8));
+    let value = *trie.entry("ten")?.or_insert_with(|| {
+        made = true;
+        7
+    })?;
+    assert!(rt; made && value == 7 && trie.get(&"ten")? == Some(&7));
+    assert!(rt; written_if_stored(&mut trie, "ten", 9)? && trie.get(&"ten")? == Some(&9));
+    assert!(rt; !written_if_stored(&mut trie, "toe", 9)?);
+    assert!(rt; trie.entry("toe")?.into_key() == "toe" && trie.len() == 2);
     Ok(())
 }
 

@@ -12,5 +12,8 @@ returns g c =
           let at = changed m n copy k v h in
           let left = at.2 in
           at.3 ∙ ap Some (sym left.leaves ∙ always left.key left.value left.left left.shows.1 left.met);
+      get_mapped = λ m n copy f always. parts.get_mapped enc _ f m n copy
+          (λ p w left. sym left.leaves ∙ always p.1 left.key left.value left.left left.shows.1 left.met);
+      keys_stay = parts.keys_stay enc _;
       changed_none = parts.copy_none enc _;
     }

@@ -1,8 +1,8 @@
 //! What two tries have left at and below one path.
-ghost use Rattle.std.specs.Prelude.{◌≡◌, ◌≢◌, ◌+◌, ◌<◌, ◌≤◌, [], None, Some, IfSome, length, take, drop, slice_index, false, true};
+ghost use Rattle.std.specs.Prelude.{◌≡◌, ◌+◌, ◌<◌, ◌≤◌, [], None, IfSome, length, take, drop, slice_index, true};
 ghost use Rattle.masked_tree.specs.Tree.{IsPlaced, IsTreePlaced, none};
 ghost use Rattle.radix_nodes.specs.Nodes.{tree_of};
-ghost use Rattle.radix_trie.specs.Combinations.{ArePlaced, AreParted, IsCutOff, LeadOn, entries_left, lead, own_of, pairs_left, row_of_branch};
+ghost use Rattle.radix_trie.specs.Combinations.{ArePlaced, AreParted, IsCutOff, LeadOn, entries_left, lead, nibbles_of_first, nibbles_of_second, own_of, pairs_left, row_of_branch};
 ghost use Rattle.radix_trie.specs.declared.iter.combination.Operation.{Operation as Op};
 
 use radix_keys::Nibblet;
@@ -58,6 +58,13 @@ impl<'a, K, V> Branch<'a, K, V> {
         self.own.is_none() && self.row.is_empty()
     }
 
+    /// Whether no node is left.
+    pub(super) fn is_leaf(&self) -> bool
+        ensures { result ≡ true → row_of_branch self.now ≡ none }
+    {
+        self.row.is_empty()
+    }
+
     /// The first node's fragment, if there is a node.
     fn fragment(&self) -> Option<&'a Nibblet>
         requires { IsPlaced 0 (row_of_branch self.now) }
@@ -70,52 +77,63 @@ impl<'a, K, V> Branch<'a, K, V> {
         Some(&node.fragment)
     }
 
-    /// How many nibbles the first node's fragment has below the path: 0 where there is no node.
-    fn ahead(&self) -> usize
-        requires { IsPlaced 0 (row_of_branch self.now) }
-        ensures { result ≡ length (lead (row_of_branch self.now)) }
+    /// The nodes that are left, without an own pair.
+    fn rest(&self) -> Branch<'a, K, V>
+        ensures own { result.own ≡ None }
+        ensures row { row_of_branch result ≡ row_of_branch self.now }
     {
-        match self.fragment() {
-            Some(fragment) => fragment.len() - self.offset,
-            None => 0,
+        Branch {
+            own: None,
+            row: self.row,
+            offset: self.offset,
         }
     }
 
-    /// What is left of the first node's branch so many nibbles below the path, and what is left beside that node. At 0
-    /// nibbles nothing is taken from the branch.
-    fn cut(&self, nibbles: usize) -> (Branch<'a, K, V>, Branch<'a, K, V>)
-        requires placed { IsPlaced 0 (row_of_branch self.now) }
-        requires within { nibbles ≤ length (lead (row_of_branch self.now)) }
-        ensures cut { IsCutOff nibbles (row_of_branch self.now) (own_of result.0.own)
-            (row_of_branch result.0) (row_of_branch result.1) }
+    /// What is left at and below the first node, and what is left beside it: no pair where there is no node.
+    fn enter(&self) -> (Branch<'a, K, V>, Branch<'a, K, V>)
+        requires { IsPlaced 0 (row_of_branch self.now) }
+        ensures cut { IsCutOff (length (lead (row_of_branch self.now))) (row_of_branch self.now)
+            (own_of result.0.own) (row_of_branch result.0) (row_of_branch result.1) }
         ensures beside { result.1.own ≡ None }
     {
         let row = self.row;
         let Some((node, others)) = row.split_first() else {
             return (Branch::empty(), Branch::empty());
         };
-        if nibbles == 0 {
-            let beside = Branch {
-                own: None,
-                row,
-                offset: self.offset,
-            };
-            return (Branch::empty(), beside);
-        }
         let beside = Branch {
             own: None,
             row: others,
             offset: 0,
         };
-        if node.fragment.len() - self.offset == nibbles {
-            return (Branch::over(node), beside);
+        (Branch::over(node), beside)
+    }
+
+    /// What is left of the first node's branch so many nibbles below the path, at least one, and what is left beside that node.
+    fn cut(&self, nibbles: usize) -> (Branch<'a, K, V>, Branch<'a, K, V>)
+        requires placed { IsPlaced 0 (row_of_branch self.now) }
+        requires some { 0 < nibbles }
+        requires within { nibbles ≤ length (lead (row_of_branch self.now)) }
+        ensures cut { IsCutOff nibbles (row_of_branch self.now) (own_of result.0.own)
+            (row_of_branch result.0) (row_of_branch result.1) }
+        ensures beside { result.1.own ≡ None }
+    {
+        let row = self.row;
+        if let Some((node, others)) = row.split_first() {
+            if node.fragment.len() - self.offset > nibbles {
+                let beside = Branch {
+                    own: None,
+                    row: others,
+                    offset: 0,
+                };
+                let below = Branch {
+                    own: None,
+                    row: &row[..1],
+                    offset: self.offset + nibbles,
+                };
+                return (below, beside);
+            }
         }
-        let below = Branch {
-            own: None,
-            row: &row[..1],
-            offset: self.offset + nibbles,
-        };
-        (below, beside)
+        self.enter()
     }
 }
 
@@ -129,12 +147,13 @@ impl<'a, K, V> Branches<'a, K, V> {
         ensures parted { IfSome result (λ r. AreParted self.now r.0 r.1) }
         ensures none { result ≡ None → ((o : Op) → pairs_left o self.now ≡ []) }
     {
-        let (ahead, other_ahead) = turn(&self.first, &self.second);
-        if ahead == 0 && other_ahead == 0 {
-            return None;
-        }
-        let (first, first_beside) = self.first.cut(ahead);
-        let (second, second_beside) = self.second.cut(other_ahead);
+        let parts = match next_turn(&self.first, &self.second) {
+            Turn::End => return None,
+            Turn::First => (self.first.enter(), (Branch::empty(), self.second.rest())),
+            Turn::Second => ((Branch::empty(), self.first.rest()), self.second.enter()),
+            Turn::Both(nibbles) => (self.first.cut(nibbles), self.second.cut(nibbles)),
+        };
+        let ((first, first_beside), (second, second_beside)) = parts;
         let below = Branches { first, second };
         let beside = Branches {
             first: first_beside,
@@ -144,43 +163,62 @@ impl<'a, K, V> Branches<'a, K, V> {
     }
 }
 
-/// How many nibbles each of two branches goes on by to the end of what they share, or to the end of the lower one's first
-/// fragment: 0 for the other one then.
-fn turn<K, V>(first: &Branch<K, V>, second: &Branch<K, V>) -> (usize, usize)
+/// What comes first of what two branches have below one path.
+enum Turn {
+    /// Nothing, since no node is left.
+    End,
+    /// The first branch's first node, whose first nibble is lower than that of the second's.
+    First,
+    /// The same of the second branch.
+    Second,
+    /// So many nibbles that both begin with.
+    Both(usize),
+}
+
+/// What comes first of two branches.
+fn next_turn<K, V>(first: &Branch<K, V>, second: &Branch<K, V>) -> Turn
     requires first { IsPlaced 0 (row_of_branch first.now) }
     requires second { IsPlaced 0 (row_of_branch second.now) }
-    ensures { LeadOn (row_of_branch first.now) (row_of_branch second.now) result.0 result.1 }
+    ensures on { LeadOn (row_of_branch first.now) (row_of_branch second.now)
+        (nibbles_of_first result (row_of_branch first.now))
+        (nibbles_of_second result (row_of_branch second.now)) }
+    ensures some { (result ≡ Turn.End → ⊥) → 0 < nibbles_of_first result (row_of_branch first.now)
+        + nibbles_of_second result (row_of_branch second.now) }
 {
-    let Some(fragment) = first.fragment() else {
-        return (0, second.ahead());
-    };
-    let Some(other) = second.fragment() else {
-        return (first.ahead(), 0);
-    };
-    let same = shared(fragment, first.offset, other, second.offset);
-    if same > 0 {
-        (same, same)
-    } else if fragment.get(first.offset) < other.get(second.offset) {
-        (first.ahead(), 0)
-    } else {
-        (0, second.ahead())
+    match (first.fragment(), second.fragment()) {
+        (None, None) => Turn::End,
+        (Some(_), None) => Turn::First,
+        (None, Some(_)) => Turn::Second,
+        (Some(fragment), Some(other)) => {
+            let nibble = fragment.get(first.offset);
+            let other_nibble = other.get(second.offset);
+            if nibble < other_nibble {
+                Turn::First
+            } else if other_nibble < nibble {
+                Turn::Second
+            } else {
+                Turn::Both(shared(fragment, first.offset, other, second.offset))
+            }
+        }
     }
 }
 
-/// How many nibbles two fragments share, from one place of each on.
+/// How many nibbles two fragments share from one place of each on, where the next nibble is the same, or fewer: where both
+/// places lie within the fragments the next one alone, since two branches that were parted there have no more in common.
 fn shared(fragment: &Nibblet, from: usize, other: &Nibblet, at: usize) -> usize
-    requires from { from ≤ length fragment.now }
-    requires at { at ≤ length other.now }
+    requires from { from < length fragment.now }
+    requires at { at < length other.now }
+    requires next { slice_index fragment.now from ≡ slice_index other.now at }
+    ensures some { 0 < result }
     ensures within { result ≤ length (drop from fragment.now) }
     ensures inside { result ≤ length (drop at other.now) }
     ensures same { take result (drop from fragment.now) ≡ take result (drop at other.now) }
-    ensures apart { result ≡ 0 → from < length fragment.now → at < length other.now
-        → slice_index fragment.now from ≢ slice_index other.now at }
 {
-    let most = (fragment.len() - from).min(other.len() - at);
-    let mut same = 0;
-    while same < most && fragment.get(from + same) == other.get(at + same) {
-        same += 1;
+    if from == 0 {
+        return fragment.agreement(other, at);
     }
-    same
+    if at == 0 {
+        return other.agreement(fragment, from);
+    }
+    1
 }

@@ -40,7 +40,8 @@ use Rattle.nibble_map.specs.Maps.{PairMap, value_at, with_value}
 use Rattle.radix_keys.specs.contracts.nibbles.NibbleVec.{the_row as list_row}
 use Rattle.radix_keys.specs.declared.nibbles.NibbleVec.{NibbleVec}
 use Rattle.radix_nodes.proofs.LendingLemmas.Lent.{loan_through_part}
-use Rattle.radix_trie.proofs.ViewLemmas as parts
+use Rattle.radix_trie.proofs.PartLemmas as parts
+use Rattle.radix_trie.proofs.ViewLemmas as whole
 use Rattle.radix_trie.specs.Lends.{lends_own, lends_behind}
 use Rattle.radix_trie.specs.declared.view.subtrie_mut.SubTrieMut.{SubTrieMut}
 use Rattle.radix_trie.specs.contracts.view.subtrie_mut.SubTrieMut.{the_row}
@@ -75,12 +76,12 @@ value_mut_spec 𝓤 𝓛 𝓜 𝓡 wired K V LK LV key d equal d' eq d'' met met
     let κ = κs.0 in let r = a.0 in let x = r.now in let b = r.ref_ptr.0 in let o = r.ref_ptr.1 in
     let Toks₃ : Item 𝓤 = ‵ (flft κs.1.0 qs.1.0) ⊛ ‵ (flft κs.1.1.0 qs.1.1.0) ⊛ ‵ (flft κs.1.1.1.0 qs.1.1.1.0) ⊛ ‵ ftrue in
     let Toks : Item 𝓤 = ‵ (flft κ qs.0) ⊛ Toks₃ in
-    let View = parts.View (param 0 K) (param 1 V) key eq κs.1.0 in
-    let Ref = parts.Ref (param 0 K) (param 1 V) key eq κs.1.0 in
+    let View = whole.View (param 0 K) (param 1 V) key eq κs.1.0 in
+    let Ref = whole.Ref (param 0 K) (param 1 V) key eq κs.1.0 in
     let Lent : RattleType = option_row (MutRef (named 0) κ (param 1 V)) in
     let lent_laws : Laws Lent = option_laws (MutRef (named 0) κ (param 1 V)) (mut_laws V κ LV) in
-    let trie : GName → MutBor (MutBor (PairMap K.Denot V.Denot)) = parts.trie_ref (param 0 K) (param 1 V) key eq κs.1.0 x b o in
-    let path : Bor (List ℕ) = parts.path_ref (param 0 K) (param 1 V) key eq κs.1.0 x b o in
+    let trie : GName → MutBor (MutBor (PairMap K.Denot V.Denot)) = parts.ref_of Ref list_row list_row b o x.trie in
+    let path : Bor (List ℕ) = parts.second_of Ref list_row list_row b o x.path in
     let put : MutBor (PairMap K.Denot V.Denot) → SubTrieMut K.Denot V.Denot NibbleVec = λ w. record x { trie = w } in
     let found = value_at x.trie.now x.path in
     let W = walk_of 𝓛 ended stayed c in
@@ -96,7 +97,7 @@ value_mut_spec 𝓤 𝓛 𝓜 𝓡 wired K V LK LV key d equal d' eq d'' met met
     fsplit3 ! $ feq_l ! (λ _. move ! (2 ∷ []) $ split ! $ move ! (2 ∷ 3 ∷ 0 ∷ []) $
     use3 𝓛 (later (some (λ (γ' : GName). ‵ ((MutRef (named 0) κ Ref).own_val (trie γ') (mut_vals (trie γ'))) ⊛ ‵ ((ShrRef (named 0) κ list_row).own_val path (shr_vals path)) ⊛
     ‵ (flft κ qs.0) ⊛ ‵ (follows View Ref r.ghost_name γ' put))))
-    (parts.view_splits (param 0 K) (param 1 V) key eq κs.1.0 𝓛 x b o κ qs.0 r.ghost_name (⊑_static κ)) $ await ! tt $ pick ! (λ γ'.
+    (whole.view_splits (param 0 K) (param 1 V) key eq κs.1.0 𝓛 x b o κ qs.0 r.ghost_name (⊑_static κ)) $ await ! tt $ pick ! (λ γ'.
     split3 ! $ move ! (2 ∷ []) $ split ! $ move ! (0 ∷ 4 ∷ []) $ join ! $
     -- [the tokens; how the view follows its reference; the reference; the path]
     let z : Vb.Ghost = ((κs, qs, (bounds.0, (bounds.1.1.1.0, (bounds.1.1.1.1.0, (bounds.1.1.0, tt)))), (trie γ', (path, tt)), (mut_vals (trie γ'), (shr_vals path, tt))), tt) in

@@ -3,7 +3,7 @@ use Rattle.std.proofs.Common.{◌≡◌, ◌∙◌, ℕ, List, ◌++◌, ◌||�
 use Rattle.std.specs.Io.KnownBytes.{Appends}
 use Rattle.std.proofs.KnownBytes.{Appends-trans}
 use Rattle.line_sessions.specs.declared.fault.Fault.{Fault}
-use Rattle.line_sessions.specs.Watched.{WriterState, Puts, Writes}
+use Rattle.line_sessions.specs.Watched.{WriterState, Puts}
 
 or_true : (b : Bool) → (b || true) ≡ true
 or_true b = elim b as (λ v. (v || true) ≡ true) [ true ↦ refl | false ↦ refl ]
@@ -41,9 +41,3 @@ Puts-then (Ok u) q a b c bytes more first good next = record {
     behind : {W : Type 0} (s : Result W Fault) → OnOk s (Appends b.held c.held more) → OnOk s (Appends a.held c.held (bytes ++ more))
     behind (Ok v) all = Appends-trans a.held b.held c.held bytes more first.all all
     behind (Err e) all = tt
-
--- all is written unless a write has failed
-pub Puts-Writes : {U : Type 0} (r : Result U Fault) (a b : WriterState) (bytes : List ℕ) → Puts r a b bytes → Writes a b bytes
-Puts-Writes (Ok u) a b bytes puts = record { whole = λ good. puts.all; part = puts.part }
-Puts-Writes (Err e) a b bytes puts =
-    record { whole = λ good. absurd (true≢false (sym (or_true a.has_failed) ∙ sym puts.noted ∙ good)); part = puts.part }

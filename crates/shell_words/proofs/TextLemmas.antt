@@ -58,10 +58,6 @@ bytes_of-within word quotes some =
     sym (ap (λ (b : Bool). if b then Some [] else (if length word == 0 then None else bytes_within (length word) word)) quotes
     ∙ ap (λ (b : Bool). if b then None else bytes_within (length word) word) some)
 
--- none are read yet
-pub bytes_within-all : (most : ℕ) (word : List ℕ) → option_map (λ m. [] ++ m) (bytes_within most word) ≡ bytes_within most word
-bytes_within-all most word = elim (bytes_within most word) as (λ o. option_map (λ m. [] ++ m) o ≡ o) [ None ↦ refl | Some m ↦ refl ]
-
 -- bytes that are read as a text, where they are one
 pub read_text : {E : Type 0} (r : Result (String Global) E) (bytes : Vec ℕ Global) → IfOk r (λ t. string_vec t ≡ bytes) → (IsUtf8 bytes.items → IsOk r) →
     option_map string_bytes (result_ok r) ≡ (if is_utf8 bytes.items then Some bytes.items else None)

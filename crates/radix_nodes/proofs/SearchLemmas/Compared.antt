@@ -44,10 +44,6 @@ module _ {K V : Type 0} (n : TrieNode K V) (key : List ℕ) (depth : ℕ) (h : I
     walked-met_child : walked (plain (tree_of n).children) (drop depth key) ≡ along (tree_of m).fragment (drop depth key) (λ rest. walked (plain (tree_of m).children) rest)
     walked-met_child = walked-child (tree_of n) (tree_of m) i (drop depth key) h met_child (drop_some key depth lt) (first-drop key depth ∙ sym (met.start (tree_of m) met_child))
 
-    -- where a child's whole fragment agrees, as many nibbles are compared as it has
-    pub compared-whole_fragment : a.same ≡ length (fragment_of m) → a.compared ≡ a.same
-    compared-whole_fragment e = agrees.ended (inl (e ∙ ap length (sym (fragment-tree_of m))))
-
     -- past a whole fragment, what was compared along it and what is compared below are all
     pub count_step : a.same ≡ length (fragment_of m) → a.compared + walked (plain (tree_of m).children) (drop (depth + a.same) key) ≡ walked (plain (tree_of n).children) (drop depth key)
     count_step e =

@@ -5,7 +5,6 @@ use Rattle.std.specs.FinMap as fin
 use Rattle.masked_tree.specs.Tree.{Tree, Children, none, more, plain, entries_in, entries_at}
 use Rattle.masked_tree.specs.Same.{IsFullRoot, IsCopy, AreEntryCopies}
 use Rattle.nibble_map.specs.Copies.{IsMapCopy}
-use Rattle.nibble_map.specs.Maps.{NibbleMap, below}
 use Rattle.nibble_map.specs.Swaps.{entry}
 use Rattle.nibble_map.specs.Trees.{AreMany, IsFull}
 use Rattle.nibble_map.proofs.MapLemmas.SameTests.{anything_of_false}
@@ -13,7 +12,6 @@ use Rattle.masked_tree.proofs.SameLemmas.Copies.{root_copied, nodes_in-copy, nib
 use Rattle.radix_nodes.specs.declared.trie_node.KeyValue.{KeyValue}
 use Rattle.radix_nodes.specs.Pairs.{pair_of}
 use Rattle.radix_trie.specs.Roots.{map_of, AllKeyed, IsKept}
-use Rattle.radix_trie.proofs.PathLemmas.Places.{below-nil}
 use Rattle.radix_trie.proofs.RootLemmas.Shown.{row_of, entries_of-root}
 
 module _ {K V : Type 0} (enc : K → List ℕ) (S : K × V → K × V → Type 0) (same : (x y : K × V) → S x y → enc y.0 ≡ enc x.0) where
@@ -95,8 +93,3 @@ module _ {K V : Type 0} where
     -- a kept root of no pairs has no child
     pub children-empty_root : t.children ≡ none
     children-empty_root = no_children t.fragment t.children kept.full (omega (arith, length_rows))
-
--- a copy of all that is below the empty list is one of the whole map
-pub whole_copied : {P Q : Type 0} (R : P → Q → Type 0) (m : NibbleMap P) (n : NibbleMap Q) (p : List ℕ) → p ≡ [] → IsMapCopy R (below m p) (below n p) → IsMapCopy R m n
-whole_copied R m n p whole copy =
-    subst (λ m. IsMapCopy R m n) (below-nil m) (subst (IsMapCopy R (below m [])) (below-nil n) (subst (λ p. IsMapCopy R (below m p) (below n p)) whole copy))

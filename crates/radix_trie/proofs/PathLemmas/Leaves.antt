@@ -1,11 +1,10 @@
 -- A path with nothing below it.
-use Rattle.std.proofs.Common.{◌≡◌, ◌≤◌, ℕ, ap, inl, inr, List, [], ◌∷◌, length, length-append, Option, None, Some, arith, refl, Bor}
+use Rattle.std.proofs.Common.{◌≡◌, ◌≤◌, ℕ, ap, inl, inr, List, [], length, length-append, Option, None, Some, arith, refl, Bor}
 use Rattle.std.proofs.lemmas.Bool.{cases_eq, cases_lt}
-use Rattle.std.specs.FinMap as map
 use Rattle.masked_tree.specs.Sizes.{levels}
 use Rattle.masked_tree.specs.Tree.{Children, more, none}
 use Rattle.nibble_map.specs.MapQueries.{IsLeaf}
-use Rattle.nibble_map.specs.Maps.{PairMap, below}
+use Rattle.nibble_map.specs.Maps.{PairMap}
 use Rattle.radix_nodes.specs.Nodes.{fragment_of, tree_of}
 use Rattle.radix_nodes.specs.Pairs.{own_pair, pairs_in_all}
 use Rattle.radix_nodes.specs.declared.trie_node.KeyValue.{KeyValue}
@@ -13,12 +12,7 @@ use Rattle.radix_nodes.specs.declared.trie_node.TrieNode.{TrieNode}
 use Rattle.radix_nodes.proofs.NodeLemmas.Pairs.{pairs_of-entries_at}
 use Rattle.radix_trie.specs.Places.{IsPlace}
 use Rattle.radix_trie.specs.Views.{pairs_below}
-use Rattle.radix_trie.proofs.ChangeLemmas.Prunings.{nothing_stored_below}
 use Rattle.radix_trie.proofs.PathLemmas.Places.{child_found_no_leaf, first_child, found_placed, inside_no_leaf, nothing_found-pairs, pairs_in-found, whole_or_inside}
-
--- where nothing is at or below a path, nothing is strictly below it
-pub nothing_is_leaf : {P : Type 0} (m : map.FinMap _ P) (p : List ℕ) → map.len (below m p) ≡ 0 → IsLeaf m p
-nothing_is_leaf m p bare e stored (a, rest, begins) = nothing_stored_below m p e stored (a ∷ rest, begins) bare
 
 module _ {K V : Type 0} (enc : K → List ℕ) (m : PairMap K V) (p : List ℕ) (found : Option (Bor (TrieNode K V) × ℕ)) (place : IsPlace enc m p found)
     (r : Bor (TrieNode K V)) (n : ℕ) (is : found ≡ Some (r, n)) where

@@ -10,7 +10,7 @@ use radix_trie::{
     InsertError, Memory, SubTrieMut, Trie, TrieCommon, TrieError, TrieKey, edits_change_one_answer,
     keys_stand_at_their_encodings, rest_answers_elsewhere, split_part_goes_back,
 };
-use trie_samples::texts;
+use trie_tests::samples::texts;
 
 /// Stores a pair, and looks the key up again: the value is there.
 fn stored<K: TrieKey + Copy + Drop, V: Copy + Drop>(

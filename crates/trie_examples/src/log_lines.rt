@@ -12,7 +12,7 @@ use radix_trie::{
     Memory, Trie, TrieCommon, TrieError, TrieKey, keys_of_ranges_rise, numbers_keep_their_order,
 };
 use std::alloc::Global;
-use trie_samples::{Texts, texts};
+use trie_tests::samples::{Texts, texts};
 
 /// The first pairs that a walk has left, so many at most.
 fn first_pairs<'a, K: TrieKey, V>(

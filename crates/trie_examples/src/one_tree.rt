@@ -3,7 +3,7 @@ ghost use Rattle.std.specs.Prelude.{◌↔◌, ◌≡◌, ℕ, List, true};
 ghost use Rattle.radix_trie.specs.Maps.{IsStored};
 
 use radix_trie::{Memory, Trie, TrieKey, equal_lists_have_one_tree};
-use trie_samples::texts;
+use trie_tests::samples::texts;
 
 /// Whether two tries have as many nodes and as many nibbles in them: so they have where they store the same lists, whatever was
 /// inserted and removed before.

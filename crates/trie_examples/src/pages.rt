@@ -14,7 +14,7 @@ use radix_trie::{
     pages_follow_one_another, texts_keep_their_order,
 };
 use std::alloc::Global;
-use trie_samples::texts;
+use trie_tests::samples::texts;
 
 /// Words, each with its value.
 type Page<'a, V> = Vec<(&'a &'static str, &'a V)>;

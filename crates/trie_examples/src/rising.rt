@@ -11,7 +11,7 @@ use radix_trie::{
     keys_stand_at_their_encodings, numbers_keep_their_order, signed_numbers_keep_their_order,
     texts_keep_their_order,
 };
-use trie_samples::{SAMPLE, texts};
+use trie_tests::samples::{SAMPLE, texts};
 
 /// The keys of a trie of numbers, each of which came in by insertion, rise.
 fn numbers<V>(trie: &Trie<u32, V>) -> Result<Keys<'_, u32, V>, Memory>

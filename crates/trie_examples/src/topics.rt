@@ -7,7 +7,7 @@ use radix_trie::iter::Children;
 use radix_trie::{Memory, OpenError, SubTrieError, SubTrieMut, Trie, TrieCommon, TrieKey};
 use std::alloc::{AllocError, Global};
 use std::process::Abort;
-use trie_samples::{Texts, texts};
+use trie_tests::samples::{Texts, texts};
 
 /// Closes a topic: takes it away, and leaves the topics below it. Answers how many these are.
 fn close<K: TrieKey + Drop, V: Drop>(topics: &mut Trie<K, V>, topic: &K) -> Result<usize, OpenError>

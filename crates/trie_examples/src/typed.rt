@@ -7,7 +7,7 @@ use radix_trie::{
     Memory, Trie, TrieCommon, descendants_hold_all_below, encodings_keep_prefixes,
     keys_stand_at_their_encodings,
 };
-use trie_samples::texts;
+use trie_tests::samples::texts;
 
 /// The words that begin with what was typed, in their order, or None where there is none.
 fn completed<'a, V>(

@@ -7,7 +7,7 @@ use radix_trie::iter::Values;
 use radix_trie::{Bits, Memory, Trie, TrieCommon, TrieKey};
 use std::alloc::Global;
 use std::process::Abort;
-use trie_samples::texts;
+use trie_tests::samples::texts;
 
 /// Where the longest stored prefix of an address leads.
 fn next_hop<V: Copy>(table: &Trie<Bits, V>, address: &Bits) -> Result<Option<V>, Memory>

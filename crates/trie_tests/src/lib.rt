@@ -1,12 +1,10 @@
 //! Tests of what no line of the shell says: values and keys of other types, queries by keys of
 //! other types, closures, what outlives the view that it comes from, texts of tries, sizes, nodes,
-//! and tables with their least lists; and callers that the library's pages name as examples.
+//! and tables with their least lists; and what tests and examples share.
 #![tactic(auto)]
 
 #[cfg(test)]
 mod building;
-#[cfg(test)]
-mod further;
 #[cfg(test)]
 mod fussy;
 #[cfg(test)]
@@ -17,8 +15,7 @@ mod map;
 mod nodes;
 #[cfg(test)]
 mod pairs;
-#[cfg(test)]
-mod removal;
+pub mod samples;
 #[cfg(test)]
 mod spent;
 #[cfg(test)]

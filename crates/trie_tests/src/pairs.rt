@@ -1,6 +1,6 @@
 //! Pairs of texts and numbers, and what is asked of a trie of them.
 
-use trie_samples::Texts;
+use crate::samples::Texts;
 
 /// The sample's pairs, in the order of walks.
 pub(crate) const IN_ORDER: &'static [(&'static str, u64)] = &[
@@ -12,20 +12,6 @@ pub(crate) const IN_ORDER: &'static [(&'static str, u64)] = &[
     ("acbdef", 30),
     ("bcdefgh", 29),
 ];
-
-/// Whether the pair that was found is this one, or none as wanted.
-pub(crate) fn is_pair(
-    found: Option<(&&'static str, &u64)>,
-    wanted: Option<(&'static str, u64)>,
-) -> bool {
-    match (found, wanted) {
-        (Some((key, value)), Some((wanted_key, wanted_value))) => {
-            *key == wanted_key && *value == wanted_value
-        }
-        (None, None) => true,
-        _ => false,
-    }
-}
 
 /// Whether the key has this value.
 pub(crate) fn has_value(trie: &Texts, key: &'static str, value: Option<u64>) -> bool {

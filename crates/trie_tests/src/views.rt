@@ -1,8 +1,8 @@
 //! Views for reading: what they hand out outlives them.
 
+use crate::samples::{SAMPLE, Texts, texts};
 use radix_trie::iter::Children;
 use radix_trie::{Memory, SubTrie, SubTrieError, TrieCommon};
-use trie_samples::{SAMPLE, Texts, texts};
 
 /// The value at the view of a key, which lasts longer than the view.
 fn value_of<'t>(trie: &'t Texts, key: &'static str) -> Option<&'t u64> {

@@ -1,9 +1,9 @@
 //! A trie that is built from pairs.
 
 use crate::pairs::holds;
+use crate::samples::Texts;
 use radix_trie::{Memory, Trie};
 use std::alloc::Global;
-use trie_samples::Texts;
 
 /// A trie of a vector's pairs.
 fn of_vector(alloc: Global) -> Result<Texts, Memory> {

@@ -1,10 +1,10 @@
 //! Encodings of keys that the shell has no type for.
 
 use crate::keys::digits::encodes;
+use crate::samples::list;
 use radix_keys::{BigEndian, BytesError, Memory, Nibblet, TrieKey};
 use std::alloc::Global;
 use std::test::Fail;
-use trie_samples::list;
 
 #[test]
 fn vectors(rt: HostRuntime) -> Result<(), Fail> {

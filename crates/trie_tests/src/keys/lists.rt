@@ -1,9 +1,9 @@
 //! Lists of nibbles and of bits that are asked again after they were changed or made.
 
 use crate::keys::digits::reads;
+use crate::samples::list;
 use radix_keys::Bits;
 use std::test::Fail;
-use trie_samples::list;
 
 #[test]
 fn a_list_is_cut_short(rt: HostRuntime) -> Result<(), Fail> {

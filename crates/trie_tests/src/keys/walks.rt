@@ -1,8 +1,8 @@
 //! The nibbles of a list in order, the order of lists, and their text.
 
+use crate::samples::list;
 use std::cmp::Ordering;
 use std::test::Fail;
-use trie_samples::list;
 
 #[test]
 fn nibbles_come_in_order(rt: HostRuntime) -> Result<(), Fail> {

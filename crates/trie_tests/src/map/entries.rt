@@ -4,9 +4,9 @@ ghost use Rattle.std.specs.Prelude.{◌≡◌, false, IsTrue, IfOk, OnOk, OnErr}
 ghost use Rattle.radix_trie.specs.Maps.{with_value};
 ghost use Rattle.radix_trie.specs.Values.{IsFilled};
 
+use crate::samples::{Texts, texts};
 use radix_trie::{EntryError, Trie, TrieError, TrieKey};
 use std::process::Abort;
-use trie_samples::{Texts, texts};
 
 /// Stores the pair where nothing is stored at its key. Whether it is stored so.
 fn stored_if_vacant<K: TrieKey + Drop, V: Drop>(

@@ -4,8 +4,8 @@ ghost use Rattle.radix_trie.specs.Maps.{with_value};
 ghost use Rattle.radix_trie.specs.Views.{IsWrittenAbove, with_value_or};
 
 use crate::pairs::{has_value, holds};
+use crate::samples::{SAMPLE, Texts, list, texts};
 use radix_trie::{FindError, InsertError, Memory, Nibblet, Trie, TrieKey};
-use trie_samples::{SAMPLE, Texts, list, texts};
 
 /// Writes the value at a key.
 fn write<K: TrieKey, V: Drop>(trie: &mut Trie<K, V>, key: &K, value: V) -> Result<(), FindError>

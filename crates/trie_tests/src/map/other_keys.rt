@@ -1,9 +1,9 @@
 //! Keys of other types, and queries by them.
 
+use crate::samples::texts;
 use radix_trie::{Memory, Trie};
 use std::alloc::{AllocError, Global};
 use std::process::Abort;
-use trie_samples::texts;
 
 /// Queries by a text and by bytes.
 fn check_owned(rt: &impl Abort, trie: &Trie<String, u64>) -> Result<(), Memory> {

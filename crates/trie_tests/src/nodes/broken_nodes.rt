@@ -2,10 +2,10 @@
 ghost use Rattle.std.specs.Prelude.{◌≤◌, ◌+◌, length, IfOk};
 ghost use Rattle.radix_nodes.specs.Soundness.{pair_count_of, pair_count_of_all};
 
+use crate::samples::list;
 use radix_keys::{Memory, Nibblet};
 use radix_nodes::trie_node::{KeyValue, TrieNode};
 use std::alloc::Global;
-use trie_samples::list;
 
 type Node = TrieNode<Nibblet, ()>;
 

@@ -3,8 +3,8 @@ ghost use Rattle.std.specs.FinMap as map;
 ghost use Rattle.std.specs.Prelude.{◌≡◌, IfOk, OnOk, OnErr, IsTrue, IsFalse};
 ghost use Rattle.radix_trie.specs.Maps.{with_value};
 
+use crate::samples::{Texts, texts};
 use radix_trie::{InsertError, InsertWhy, Memory, OpenError, Trie, TrieKey};
-use trie_samples::{Texts, texts};
 
 /// Stores a pair through a view at a key. False: no point stands there.
 fn put_within<K: TrieKey + Drop, V: Drop>(

@@ -3,9 +3,9 @@ ghost use Rattle.std.specs.FinMap as map;
 ghost use Rattle.std.specs.Prelude.{◌≡◌, IfOk};
 ghost use Rattle.radix_trie.specs.Maps.{below};
 
+use crate::samples::{SAMPLE, texts};
 use radix_trie::{Memory, OpenError, Trie, TrieCommon, TrieKey};
 use std::alloc::{AllocError, Global};
-use trie_samples::{SAMPLE, texts};
 
 /// How many pairs are at and below a key's encoding. The view is spent, and the trie stays as it
 /// is.

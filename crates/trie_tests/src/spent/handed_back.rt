@@ -2,8 +2,8 @@
 ghost use Rattle.std.specs.FinMap as map;
 ghost use Rattle.std.specs.Prelude.{◌≡◌, IfOk, OnOk, OnErr};
 
+use crate::samples::{Texts, texts};
 use radix_trie::{InsertError, InsertWhy, Memory, OpenError, Trie, TrieCommon, TrieKey};
-use trie_samples::{Texts, texts};
 
 /// Stores a pair through a view at a key, and counts all pairs of the trie that the view hands
 /// back.

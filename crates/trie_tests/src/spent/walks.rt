@@ -3,9 +3,9 @@ ghost use Rattle.std.specs.Prelude.{IfOk};
 ghost use Rattle.radix_trie.specs.MapQueries.{AreChildren};
 ghost use Rattle.radix_trie.specs.Views.{paths_of};
 
+use crate::samples::{SAMPLE, Texts, list, texts};
 use radix_trie::iter::{Children, Keys, Values};
 use radix_trie::{Memory, OpenError, Trie, TrieCommon, TrieKey};
-use trie_samples::{SAMPLE, Texts, list, texts};
 
 /// The children of the point at a key's encoding, which outlive the view.
 fn children_at<'t, K: TrieKey, V, Q: TrieKey>(

@@ -1,9 +1,9 @@
 //! Two tries side by side.
 
+use crate::samples::{Texts, texts};
 use radix_trie::iter::{Combination, Operation};
 use radix_trie::{Memory, TrieError};
 use std::process::Abort;
-use trie_samples::{Texts, texts};
 
 /// The walk gives these pairs, and then none.
 fn check_pairs(

@@ -1,11 +1,11 @@
 //! A thousand texts, each the beginning of the next one.
 
+use crate::samples::{Texts, texts};
 use radix_trie::{Command, Memory, Reply, Trie, TrieCommon, run, to_value};
 use serde_json::Value;
 use std::alloc::{AllocError, Global};
 use std::process::Abort;
 use std::test::Fail;
-use trie_samples::{Texts, texts};
 
 /// The longest text. The others are its beginnings.
 const LETTERS: &'static [u8] = &[b'a'; 1000];

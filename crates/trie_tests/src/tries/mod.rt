@@ -1,10 +1,12 @@
-//! Tries: values of other types than numbers, texts of tries, walks that are left, large and deep
-//! tries.
+//! Tries: values of other types than numbers, values that closures change, texts of tries, walks that are left, large and
+//! deep tries.
 
+mod changed;
 mod combined;
 mod copies;
 mod deep_chain;
 mod equality;
+mod indexed;
 mod json;
 mod many;
 mod shown;

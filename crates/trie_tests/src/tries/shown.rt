@@ -1,7 +1,7 @@
 //! How tries and views are written.
 
+use crate::samples::texts;
 use radix_trie::Memory;
-use trie_samples::texts;
 
 #[test]
 fn tries_and_views_are_written_as_maps(rt: HostRuntime) -> Result<(), Memory> {

@@ -1,7 +1,7 @@
 //! A walk that is left before its end.
 
+use crate::samples::{SAMPLE, Texts, texts};
 use radix_trie::{Memory, TrieCommon};
-use trie_samples::{SAMPLE, Texts, texts};
 
 /// Whether these are the walk's first two pairs. The walk is dropped then.
 fn begins(trie: &Texts) -> Result<bool, Memory> {

@@ -1,7 +1,7 @@
 //! The value at a list that is known to be stored.
 
+use crate::samples::texts;
 use radix_trie::{Memory, TrieKey};
-use trie_samples::texts;
 
 #[test]
 fn stored_lists_are_indexed(rt: HostRuntime) -> Result<(), Memory> {

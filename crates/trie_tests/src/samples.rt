@@ -1,5 +1,4 @@
-//! What the crates of tests share: small tries of texts, and lists of nibbles.
-#![tactic(auto)]
+//! What tests and examples share: small tries of texts, and lists of nibbles.
 
 ghost use Rattle.std.specs.Prelude.{◌≡◌, ◌≤◌, ◌<◌, ◌↔◌, All, IfOk, IsOk, IsTrue, length};
 ghost use Rattle.radix_trie.specs.Building.{pairs_in_order};

@@ -1,9 +1,9 @@
 //! Changes of all values.
 
 use crate::pairs::IN_ORDER;
+use crate::samples::{SAMPLE, Texts, texts};
 use radix_trie::{Memory, TrieCommon};
 use std::process::Abort;
-use trie_samples::{SAMPLE, Texts, texts};
 
 /// The trie has the sample's texts, each with so many times its number and one more.
 fn check_multiplied(rt: &impl Abort, trie: &Texts, times: u64, more: u64) -> Result<(), Memory> {

@@ -1,4 +1,0 @@
-//! Callers of the removal of all pairs below a prefix.
-
-mod rows;
-mod splits;

@@ -1,0 +1,274 @@
+//! How an answer is written: words, lines, keys, numbers.
+ghost use Rattle.std.specs.Prelude.{◌≡◌, ◌<◌, ◌∷◌, [], ◌++◌, IsSome, IsTrue, OnErr, OnOk, decimal};
+ghost use Rattle.shell_words.specs.Answers.{gap, key_word, pair_line, value_line, value_word};
+ghost use Rattle.shell_words.specs.Texts.{escape, escaped, hexadecimal};
+
+use crate::answer::Answer;
+use crate::key::Key;
+use itoa::Buffer;
+use radix_keys::{Memory, Nibblet, Parts};
+use std::fmt;
+use std::fmt::Display;
+
+impl<'a> Answer<'a> {
+    /// Adds bytes.
+    pub fn put(&mut self, bytes: &[u8]) -> Result<(), Memory>
+        ensures text { OnOk result (self.new.bytes ≡ self.old.bytes ++ bytes.now) }
+        ensures lost { OnErr result (IsTrue self.new.is_lost) }
+    {
+        if self.bytes.extend_from_slice(bytes).is_ok()
+            || self.bytes.extend_from_slice(bytes).is_ok()
+        {
+            return Ok(());
+        }
+        self.is_lost = true;
+        Err(Memory)
+    }
+
+    /// Begins a word: a space parts it from the one before.
+    pub fn begin_word(&mut self) -> Result<(), Memory>
+        ensures text { OnOk result (self.new.bytes ≡ self.old.bytes ++ gap self.old.bytes) }
+        ensures lost { OnErr result (IsTrue self.new.is_lost) }
+    {
+        match self.bytes.as_slice().last() {
+            None | Some(b'\n' | b' ') => Ok(()),
+            Some(_) => self.put(b" "),
+        }
+    }
+
+    /// Adds a word.
+    pub fn word(&mut self, text: &str) -> Result<(), Memory>
+        ensures text { OnOk result
+            (self.new.bytes ≡ self.old.bytes ++ gap self.old.bytes ++ text.now) }
+        ensures lost { OnErr result (IsTrue self.new.is_lost) }
+    {
+        self.begin_word()?;
+        self.put(text.as_bytes())
+    }
+
+    /// Ends the line.
+    pub fn end(&mut self) -> Result<(), Memory>
+        ensures text { OnOk result (self.new.bytes ≡ self.old.bytes ++ 10 ∷ []) }
+        ensures ended { OnOk result (gap self.new.bytes ≡ []) }
+        ensures lost { OnErr result (IsTrue self.new.is_lost) }
+    {
+        self.put(b"\n")
+    }
+
+    /// Adds a line of its own.
+    pub fn line(&mut self, text: &str) -> Result<(), Memory>
+        ensures { OnErr result (IsTrue self.new.is_lost) }
+    {
+        self.word(text)?;
+        self.end()
+    }
+
+    /// Adds a line that tells why a call isn't made, or that it is refused.
+    pub fn refuse(&mut self, why: &str) -> Result<(), Memory>
+        ensures { OnErr result (IsTrue self.new.is_lost) }
+    {
+        self.is_refusal = true;
+        self.line(why)
+    }
+
+    /// The same with a count behind it.
+    pub fn refuse_at(&mut self, why: &str, count: usize) -> Result<(), Memory> {
+        self.is_refusal = true;
+        self.word(why)?;
+        self.count_line(count)
+    }
+
+    /// The same as the whole answer of a call.
+    pub fn told(&mut self, why: &str) -> Result<bool, Memory>
+        ensures { OnErr result (IsTrue self.new.is_lost) }
+    {
+        self.refuse(why)?;
+        Ok(true)
+    }
+
+    /// Whether one of its lines tells so.
+    pub fn is_refusal(&self) -> bool {
+        self.is_refusal
+    }
+
+    /// Adds a key as a word.
+    pub fn key(&mut self, key: &Key) -> Result<(), Memory>
+        ensures text { OnOk result (IsSome key.now.text
+            → self.new.bytes ≡ self.old.bytes ++ gap self.old.bytes ++ key_word key.now) }
+        ensures lost { OnErr result (IsTrue self.new.is_lost) }
+    {
+        self.begin_word()?;
+        key.write(self)
+    }
+
+    /// Adds bytes as a word that stands for them.
+    pub fn escaped(&mut self, bytes: &[u8]) -> Result<(), Memory>
+        ensures text { OnOk result (self.new.bytes ≡ self.old.bytes ++ escaped bytes.now) }
+        ensures lost { OnErr result (IsTrue self.new.is_lost) }
+    {
+        if bytes.is_empty() {
+            return self.put(b"\"\"");
+        }
+        for byte in bytes {
+            self.escape(*byte)?;
+        }
+        Ok(())
+    }
+
+    /// Adds what a byte is written as: itself, where a word of a session may have it.
+    fn escape(&mut self, byte: u8) -> Result<(), Memory>
+        ensures text { OnOk result (self.new.bytes ≡ self.old.bytes ++ escape byte) }
+        ensures lost { OnErr result (IsTrue self.new.is_lost) }
+    {
+        match byte {
+            b' ' => self.put(b"\\s"),
+            b'\\' => self.put(b"\\\\"),
+            b'"' => self.put(b"\\\""),
+            0x21..=0x7e if byte != b'#' && byte != b'>' => self.put(&[byte]),
+            _ => self.put(&[b'\\', b'x', hexadecimal(byte >> 4), hexadecimal(byte % 16)]),
+        }
+    }
+
+    /// Adds what is shown of a value, as part of a word.
+    pub fn shown<T: Display>(&mut self, value: &T) -> Result<(), Memory>
+        ensures { OnErr result (IsTrue self.new.is_lost) }
+    {
+        let text = match format!(in self.alloc; "{value}") {
+            Ok(text) => Ok(text),
+            Err(_) => format!(in self.alloc; "{value}"),
+        };
+        self.made(text.ok())
+    }
+
+    /// Adds a text that was made, if it was.
+    fn made(&mut self, text: Option<String>) -> Result<(), Memory>
+        ensures { OnErr result (IsTrue self.new.is_lost) }
+    {
+        match text {
+            Some(text) => self.put(text.as_bytes()),
+            None => {
+                self.is_lost = true;
+                Err(Memory)
+            }
+        }
+    }
+
+    /// Adds a line: what `{:?}` writes of a value.
+    pub fn debug_line<T: fmt::Debug>(&mut self, value: &T) -> Result<(), Memory> {
+        let text = match format!(in self.alloc; "{value:?}") {
+            Ok(text) => Ok(text),
+            Err(_) => format!(in self.alloc; "{value:?}"),
+        };
+        self.made(text.ok())?;
+        self.end()
+    }
+
+    /// Adds a line: what is shown of a value.
+    pub fn shown_line<T: Display>(&mut self, value: &T) -> Result<(), Memory> {
+        self.shown(value)?;
+        self.end()
+    }
+
+    /// Adds a list of nibbles as a word, a hexadecimal digit for each.
+    pub fn list(&mut self, list: &Nibblet) -> Result<(), Memory>
+        ensures { OnErr result (IsTrue self.new.is_lost) }
+    {
+        self.begin_word()?;
+        if list.is_empty() {
+            return self.put(b"\"\"");
+        }
+        self.shown(list)
+    }
+
+    /// Adds a line: a list of nibbles.
+    pub fn list_line(&mut self, list: &Nibblet) -> Result<(), Memory> {
+        self.list(list)?;
+        self.end()
+    }
+
+    /// Adds a list of parts as part of a word, each part behind a slash.
+    pub fn parts(&mut self, parts: &Parts) -> Result<(), Memory>
+        ensures { OnErr result (IsTrue self.new.is_lost) }
+    {
+        if parts.is_empty() {
+            return self.put(b"\"\"");
+        }
+        for part in parts.iter() {
+            self.put(b"/")?;
+            if !part.is_empty() {
+                self.escaped(part)?;
+            }
+        }
+        Ok(())
+    }
+
+    /// Adds a number as a word.
+    pub fn number(&mut self, number: u128) -> Result<(), Memory>
+        ensures text { OnOk result
+            (self.new.bytes ≡ self.old.bytes ++ gap self.old.bytes ++ decimal number) }
+        ensures lost { OnErr result (IsTrue self.new.is_lost) }
+    {
+        self.word(Buffer::new().format(number))
+    }
+
+    /// Adds a value as a word, or that there is none.
+    pub fn value(&mut self, value: Option<u64>) -> Result<(), Memory>
+        ensures text { OnOk result
+            (self.new.bytes ≡ self.old.bytes ++ gap self.old.bytes ++ value_word value) }
+        ensures lost { OnErr result (IsTrue self.new.is_lost) }
+    {
+        match value {
+            Some(number) => self.number(number as u128),
+            None => self.word("none"),
+        }
+    }
+
+    /// Adds a line: the value, or that there is none.
+    pub fn value_line(&mut self, value: Option<u64>) -> Result<(), Memory>
+        ensures text { OnOk result
+            (self.new.bytes ≡ self.old.bytes ++ gap self.old.bytes ++ value_line value) }
+        ensures lost { OnErr result (IsTrue self.new.is_lost) }
+    {
+        self.value(value)?;
+        self.end()
+    }
+
+    /// Adds a line: a count.
+    pub fn count_line(&mut self, count: usize) -> Result<(), Memory>
+        ensures text { OnOk result
+            (self.new.bytes ≡ self.old.bytes ++ gap self.old.bytes ++ (decimal count ++ 10 ∷ [])) }
+        ensures lost { OnErr result (IsTrue self.new.is_lost) }
+    {
+        self.number(count as u128)?;
+        self.end()
+    }
+
+    /// Adds a line: true or false.
+    pub fn truth_line(&mut self, is_true: bool) -> Result<(), Memory> {
+        self.line(if is_true { "true" } else { "false" })
+    }
+
+    /// Adds a line: a key and its value.
+    pub fn pair_line(&mut self, key: &Key, value: u64) -> Result<(), Memory>
+        ensures text { OnOk result (IsSome key.now.text → self.new.bytes
+            ≡ self.old.bytes ++ gap self.old.bytes ++ pair_line (key.now, value)) }
+        ensures ended { OnOk result (gap self.new.bytes ≡ []) }
+        ensures lost { OnErr result (IsTrue self.new.is_lost) }
+    {
+        self.key(key)?;
+        self.put(b" ")?;
+        self.put(Buffer::new().format(value).as_bytes())?;
+        self.end()
+    }
+}
+
+/// The digit of a number below 16.
+fn hexadecimal(number: u8) -> u8
+    requires { number < 16 }
+    ensures { result ≡ hexadecimal number }
+{
+    match number {
+        0..=9 => b'0' + number,
+        _ => b'a' + (number - 10),
+    }
+}

@@ -1,5 +1,7 @@
+pub mod CostLemmas
 pub mod EditLemmas
 pub mod EqualityLemmas
+pub mod HistoryLemmas
 pub mod KeyLemmas
 pub mod MergeLemmas
 pub mod NearestLemmas

@@ -2,13 +2,15 @@
 use Rattle.std.proofs.Common.{◌≡◌, inl, inr, ℕ, List, [], ◌∷◌, ◌++◌, length, Option, None, Some, T, is_some, option_map, refl, ap, sym, subst, ◌∙◌, arith}
 use Rattle.std.proofs.lemmas.List.{length-append}
 use Rattle.std.specs.FinMap as map
-use Rattle.nibble_map.specs.Maps.{IsStored, PairMap, value_at}
+use Rattle.nibble_map.specs.Maps.{PairMap}
 use Rattle.radix_trie.specs.Commands.{Step, Steps, at_start, then_step}
 use Rattle.radix_trie.specs.declared.commands.Command.{Command}
 use Rattle.radix_trie.specs.declared.commands.Command.TheVariants.{Insert}
 use Rattle.radix_trie.specs.declared.commands.Reply.{Reply}
 use Rattle.radix_trie.specs.declared.commands.Reply.TheVariants.{Old}
 use Rattle.radix_trie.specs.Values.{ChangesEachPair}
+use Rattle.keyed_maps.specs.KeyedMaps.{keyed_map}
+use Rattle.keyed_maps.proofs.KeyLemmas.{value_pair}
 
 module _ {K V : Type 0} where
   -- where one call changes the value of a pair p to f p, so does the change of all values to each of them
@@ -37,17 +39,17 @@ module _ {K V : Type 0} (enc : K → List ℕ) (light : K → Type 0) where
   nothing_run m n cs rs at_start none = (refl, refl)
   nothing_run m n cs rs (then_step {cs = others} c r o before step) none = absurd (omega (arith, ap length none, length-append others (c ∷ [])))
 
-  module _ (k : K) (v : V) (is : light k) where
-    -- an insertion by a light key at whose list a pair is stored replies the old value
-    inserted_over : (m n : PairMap K V) (r : Reply V) → IsStored m (enc k) → Step enc light m (Insert k v) r n → r ≡ Old (value_at m (enc k))
-    inserted_over m n r stored (inl (old, _, _)) = old
-    inserted_over m n r stored (inr (_, refused)) = absurd (refused is stored)
+  module _ (k : K) (v w : V) (is : light k) where
+    -- an insertion by a light key with a value replies this value
+    inserted_over : (m n : PairMap K V) (r : Reply V) → keyed_map enc m k ≡ Some w → Step enc light m (Insert k v) r n → r ≡ Old (Some w)
+    inserted_over m n r has (inl (old, _, _)) = old ∙ ap Old has
+    inserted_over m n r has (inr (_, refused)) = absurd (refused is (subst (λ o. T (is_some o)) (sym (value_pair (map.get m (enc k)) w has).1) tt))
 
     -- and so does a run of it alone
-    pub run_over : (m n : PairMap K V) (cs : List (Command K V)) (rs : List (Reply V)) → IsStored m (enc k) → cs ≡ Insert k v ∷ [] → Steps enc light m cs rs n → rs ≡ Old (value_at m (enc k)) ∷ []
-    run_over m n cs rs stored one at_start = absurd (omega (arith, ap length one))
-    run_over m n cs rs stored one (then_step {cs = others} {rs = replies} {n = middle} c r o before step) =
+    pub run_over : (m n : PairMap K V) (cs : List (Command K V)) (rs : List (Reply V)) → keyed_map enc m k ≡ Some w → cs ≡ Insert k v ∷ [] → Steps enc light m cs rs n → rs ≡ Old (Some w) ∷ []
+    run_over m n cs rs has one at_start = absurd (omega (arith, ap length one))
+    run_over m n cs rs has one (then_step {cs = others} {rs = replies} {n = middle} c r o before step) =
         let first = only_one others c (Insert k v) one in
         let start = nothing_run m middle others replies before first.0 in
         let last = subst (λ (d : Command K V). Step enc light m d r o) first.1 (subst (λ x. Step enc light x c r o) start.1 step) in
-        rw (start.0, inserted_over m o r stored last) refl
+        rw (start.0, inserted_over m o r has last) refl

@@ -1,11 +1,19 @@
 //! A table of networks that changes, and the same routes frozen once it is filled.
-ghost use Rattle.std.specs.Prelude.{◌≡◌, [], IfOk};
+ghost use Rattle.std.specs.Prelude.{◌≡◌, [], IfOk, map};
 ghost use Rattle.radix_trie.specs.Views.{pairs_below};
 
 use frozen_routes::FrozenRoutes;
+use radix_trie::iter::Iter;
 use radix_trie::{Address, Ipv4Network, Memory, Network, Trie, TrieCommon};
-use std::alloc::Global;
+use std::alloc::{AllocError, Global};
 use std::net::Ipv4Addr;
+
+/// The pairs of a walk.
+fn rows<K: Copy, V: Copy>(alloc: Global, walk: Iter<'_, K, V>) -> Result<Vec<(K, V)>, AllocError>
+    ensures { IfOk result (λ rows. rows.items ≡ map (λ p. p) walk.entry) }
+{
+    walk.map(|(key, value)| (*key, *value)).collect(alloc)
+}
 
 /// The routes of a table in order, for look-ups that allocate nothing.
 fn frozen<A: Address, V: Copy>(
@@ -14,11 +22,7 @@ fn frozen<A: Address, V: Copy>(
 ) -> Result<FrozenRoutes<A, V>, Memory>
     ensures { IfOk result (λ routes. routes ≡ pairs_below table.now []) }
 {
-    let mut rows = Vec::with_capacity(alloc, TrieCommon::len(table))?;
-    for (network, hop) in TrieCommon::iter(table)? {
-        rows.push((*network, *hop))?;
-    }
-    match FrozenRoutes::from_sorted(rows) {
+    match FrozenRoutes::from_sorted(rows(alloc, TrieCommon::iter(table)?)?) {
         Ok(routes) => Ok(routes),
         Err(_) => Err(Memory),
     }

@@ -1,7 +1,7 @@
 //! A map by encodings is a map by keys: the key that is stored at a key's encoding equals it.
-ghost use Rattle.std.specs.FinMap as map;
 ghost use Rattle.std.specs.Prelude.{◌≡◌, OnOk, Some, true};
 ghost use Rattle.radix_trie.specs.Keys.{IsKeyed};
+ghost use Rattle.keyed_maps.specs.KeyedMaps.{stored_key};
 
 use radix_trie::{InsertError, Trie, TrieKey, stored_keys_are_equal};
 
@@ -13,8 +13,8 @@ fn stored_again<K: TrieKey + Drop, V: Drop>(
 ) -> Result<Option<V>, InsertError<K, V>>
     requires keyed { IsKeyed K.encoding K.is_value trie.old }
     ensures keyed { OnOk result (IsKeyed K.encoding K.is_value trie.new) }
-    ensures equal { OnOk result ((p : K × V) → map.get trie.old (K.encoding key) ≡ Some p
-        → K.eq p.0 key ≡ true) }
+    ensures equal { OnOk result ((k : K) → stored_key K.encoding trie.old key ≡ Some k
+        → K.eq k key ≡ true) }
 {
     stored_keys_are_equal::<K, V>();
     match trie.insert(key, value) {

@@ -1,12 +1,14 @@
 //! What callers are told by words of contracts: a nearest value, why a change is refused, all values changed at once, and
 //! the order of pairs of numbers.
 ghost use Rattle.std.specs.FinMap as map;
-ghost use Rattle.std.specs.Prelude.{◌≡◌, ◌+◌, ◌<◌, ◌^◌, ◌-◌, ◌∷◌, ℕ, [], All, List, None, Ok, IfErr, IfOk, IsOk, OnErr, option_map};
+ghost use Rattle.std.specs.Prelude.{◌≡◌, ◌+◌, ◌<◌, ◌^◌, ◌-◌, ◌∷◌, ℕ, [], All, List, None, Some, Ok, IfErr, IfOk, IsOk, OnErr, option_map};
 ghost use Rattle.radix_trie.specs.Lists.{IsBefore, IsPrefix};
-ghost use Rattle.radix_trie.specs.Maps.{IsStored, below, value_at};
+ghost use Rattle.radix_trie.specs.Maps.{below};
 ghost use Rattle.radix_trie.specs.Views.{pairs_below};
 ghost use Rattle.radix_trie.specs.WriteViews.{map_behind, path_of};
+ghost use Rattle.keyed_maps.specs.KeyedMaps.{keyed_map, stored_key};
 
+use keyed_maps::keyed_maps_follow_changes;
 use radix_trie::{
     Command, InsertError, InsertWhy, Memory, Nibblet, Reply, SubTrieError, SubTrieMut, Trie,
     TrieKey, run,
@@ -14,15 +16,15 @@ use radix_trie::{
 use std::alloc::Global;
 use std::iter::once;
 
-/// The nearest value above a list at which a pair is stored: the value there.
-fn nearest_at<K: TrieKey, V: Copy>(trie: &Trie<K, V>, list: &Nibblet) -> Option<V>
-    requires { IsStored trie.now list.now }
-    ensures { result ≡ value_at trie.now list.now }
+/// The nearest value above a key that has a value: its own.
+fn nearest_at<K: TrieKey, V: Copy>(trie: &Trie<K, V>, key: &K) -> Result<Option<V>, Memory>
+    ensures { IfOk result (λ found. (v : V)
+        → keyed_map K.encoding trie.now key.now ≡ Some v → found ≡ Some v) }
 {
-    trie.nearest_value(list).copied()
+    Ok(trie.get_ancestor_value(key)?.copied())
 }
 
-/// Replaces the pair at a light key through a view, at whose path or below it stands. It isn't refused.
+/// Replaces the value of a light key through a view, at whose path or below it stands. It isn't refused.
 fn replaced<K: TrieKey + Drop, V: Drop>(
     view: &mut SubTrieMut<'_, K, V>,
     key: K,
@@ -30,8 +32,8 @@ fn replaced<K: TrieKey + Drop, V: Drop>(
 ) -> Result<Option<V>, InsertError<K, V>>
     requires light { K.is_light key }
     requires inside { IsPrefix (path_of view.old) (K.encoding key) }
-    requires stored { IsStored (map_behind view.old) (K.encoding key) }
-    ensures { IsOk result }
+    ensures { (v : V) → keyed_map K.encoding (map_behind view.old) key ≡ Some v
+        → result ≡ Ok (Some v) }
 {
     view.insert(key, value)
 }
@@ -70,9 +72,9 @@ fn replaced_by_run<K: TrieKey + Drop, V: Copy>(
 ) -> Result<Vec<Reply<V>>, Memory>
     requires one { commands.items ≡ Command.Insert key.now value ∷ [] }
     requires light { K.is_light key.now }
-    requires stored { IsStored trie.old (K.encoding key.now) }
-    ensures { IfOk result (λ replies.
-        replies.items ≡ Reply.Old (value_at trie.old (K.encoding key.now)) ∷ []) }
+    ensures { IfOk result (λ replies. (v : V)
+        → keyed_map K.encoding trie.old key.now ≡ Some v
+        → replies.items ≡ Reply.Old (Some v) ∷ []) }
 {
     run(trie, commands)
 }
@@ -90,14 +92,14 @@ fn pruned<K: TrieKey + Drop, V: Drop, Q: TrieKey>(
     view.remove_prefix(key)
 }
 
-/// Takes the pair at a light key away through a view, where there is none. It isn't refused.
-fn removed<K: TrieKey + Drop, V: Drop, Q: TrieKey>(
+/// Takes the value of a light key away through a view, where it has none. It isn't refused.
+fn removed<K: TrieKey + Drop, V: Drop>(
     view: &mut SubTrieMut<'_, K, V>,
-    key: &Q,
+    key: &K,
 ) -> Result<Option<V>, SubTrieError>
-    requires light { Q.is_light key.now }
-    requires inside { IsPrefix (path_of view.old) (Q.encoding key.now) }
-    requires none { map.get (map_behind view.old) (Q.encoding key.now) ≡ None }
+    requires light { K.is_light key.now }
+    requires inside { IsPrefix (path_of view.old) (K.encoding key.now) }
+    requires none { keyed_map K.encoding (map_behind view.old) key.now ≡ None }
     ensures { result ≡ Ok None }
 {
     view.remove(key)
@@ -106,25 +108,24 @@ fn removed<K: TrieKey + Drop, V: Drop, Q: TrieKey>(
 /// Adds one to each count. The keys stay.
 fn one_more_each<K: TrieKey>(counts: &mut Trie<K, u64>)
     requires room { All (λ p. p.1 + 1 < 2 ^ 64) (pairs_below counts.old []) }
-    ensures { (e : List ℕ)
-        → map.get counts.new e ≡ option_map (λ p. (p.0, p.1 + 1)) (map.get counts.old e) }
+    ensures counted { (k : K) → keyed_map K.encoding counts.new k
+        ≡ option_map (λ n. n + 1) (keyed_map K.encoding counts.old k) }
+    ensures keys { (k : K)
+        → stored_key K.encoding counts.new k ≡ stored_key K.encoding counts.old k }
 {
-    counts.for_each_mut(
-        |_: &K, n: &mut u64|
-            requires { n.old + 1 < 2 ^ 64 }
-            ensures { n.new ≡ n.old + 1 }
-        { *n += 1 },
-    );
+    let more = |_: &K, n: &mut u64|
+        requires { n.old + 1 < 2 ^ 64 }
+        ensures { n.new ≡ n.old + 1 }
+    { *n += 1 };
+    keyed_maps_follow_changes::<K, u64, _>(&more);
+    counts.for_each_mut(more);
 }
 
 /// Adds one to each count, and looks a key up: it has one more than before, or none as before.
-fn one_more<K: TrieKey, Q: TrieKey>(
-    counts: &mut Trie<K, u64>,
-    key: &Q,
-) -> Result<Option<u64>, Memory>
+fn one_more<K: TrieKey>(counts: &mut Trie<K, u64>, key: &K) -> Result<Option<u64>, Memory>
     requires room { All (λ p. p.1 + 1 < 2 ^ 64) (pairs_below counts.old []) }
     ensures { IfOk result (λ found.
-        found ≡ option_map (λ n. n + 1) (value_at counts.old (Q.encoding key.now))) }
+        found ≡ option_map (λ n. n + 1) (keyed_map K.encoding counts.old key.now)) }
 {
     one_more_each(counts);
     Ok(counts.get(key)?.copied())

@@ -1,4 +1,4 @@
-use Rattle.keyed_maps.proofs.callers.compare_alike.Goals as goal
+use Rattle.keyed_maps.proofs.callers.walks.compare_alike.Goals as goal
 
 pub returns : goal.returns
 returns g c =

@@ -1,4 +1,5 @@
-//! Examples of the trie's uses. What each answers is proved of it where it has a contract, and it is run as a test.
+//! Examples of the trie's uses. The program is that of the README: limits of folders, each inherited from the nearest one
+//! above. What the other examples answer is proved where they have a contract, and they are run as tests.
 #![tactic(auto)]
 
 #[cfg(test)]
@@ -38,6 +39,8 @@ mod pages;
 #[cfg(test)]
 mod rising;
 #[cfg(test)]
+mod round_trips;
+#[cfg(test)]
 mod same_keys;
 #[cfg(test)]
 mod subscribers;
@@ -55,3 +58,15 @@ mod typed;
 mod uses;
 #[cfg(test)]
 mod walk_callers;
+
+use radix_trie::Trie;
+
+fn main(rt: HostRuntime) -> anyhow::Result<()> {
+    let mut limits: Trie<&'static str, u64> = Trie::new(rt.alloc());
+    for (path, limit) in [("/home/ann/", 30), ("/", 10), ("/home/", 20)] {
+        limits.insert(path, limit)?;
+    }
+    let nearest = limits.get_ancestor_value(&"/home/ann/letters")?;
+    println!(rt; "{nearest:?}")?;
+    Ok(())
+}

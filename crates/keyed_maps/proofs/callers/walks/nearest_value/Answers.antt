@@ -1,6 +1,6 @@
 use Rattle.std.proofs.Common.{subst, sym, ◌∙◌}
 use Rattle.radix_trie.specs.Views.{IsValueAbove}
-use Rattle.keyed_maps.proofs.callers.nearest_value.Goals as goal
+use Rattle.keyed_maps.proofs.callers.walks.nearest_value.Goals as goal
 
 pub returns-clause-found : goal.returns-clause-found
 returns-clause-found g c v is =

@@ -31,6 +31,16 @@ pub fn equal_keyed_maps_are_equal<K: TrieKey, V>()
         → m ≡ n }
 {}
 
+/// The same of values of a type whose `==` is an equivalence: two maps that answer each key alike are the same by it.
+pub fn alike_keyed_maps_are_same<K: TrieKey, V: Eq>()
+    ensures { (m n : PairMap K V)
+        → IsKeyed K.encoding K.is_value m → IsKeyed K.encoding K.is_value n
+        → ((k : K) → K.is_value k → keyed_map K.encoding m k ≡ keyed_map K.encoding n k)
+        → IsSame V.eq m n }
+{
+    equal_keyed_maps_are_equal::<K, V>();
+}
+
 /// Equal keys have equal encodings, of unsigned numbers and of keys whose encodings are the nibbles of their bytes, as
 /// texts.
 pub fn equal_keys_are_encoded_alike<K>()

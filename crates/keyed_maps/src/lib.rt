@@ -21,14 +21,16 @@ pub use callers::either::cached;
 pub use callers::histories::{insert_and_look_up, insert_another_and_look_up};
 pub use callers::parts::{absorb, merge_smaller, take_below};
 pub use callers::values::{assign, bump, bump_all, copy_counts, forget_rare};
-pub use callers::walks::{compare_alike, nearest_value, walk_each_key};
+pub use callers::walks::{compare_alike, has_nearest, nearest_value, walk_each_key};
 pub use closure_laws::{
     keyed_maps_follow_changes, keyed_maps_follow_clones, keyed_maps_follow_retain,
 };
 pub use cost_laws::{edits_make_few_nibbles, edits_make_few_nodes};
 pub use count_laws::{counts_follow_keys, walks_give_each_key};
 pub use edit_laws::{edits_by_key_compose, equal_keys_have_one_value, keyed_maps_follow_edits};
-pub use equality_laws::{equal_keyed_maps_are_equal, equal_keys_are_encoded_alike};
+pub use equality_laws::{
+    alike_keyed_maps_are_same, equal_keyed_maps_are_equal, equal_keys_are_encoded_alike,
+};
 pub use history::{Action, Answer, replay};
 pub use nearest_laws::keyed_maps_follow_nearest;
 pub use part_laws::{keyed_maps_follow_parts, keyed_maps_follow_tries, merges_by_key_compose};

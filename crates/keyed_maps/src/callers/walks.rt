@@ -1,11 +1,11 @@
 //! Callers that read a trie: walks, comparisons and nearest values.
-ghost use Rattle.std.specs.Prelude.{◌≡◌, Contains, IsTrue, None, Some, IfOk, true};
+ghost use Rattle.std.specs.Prelude.{◌≡◌, Contains, IsTrue, None, Some, IfOk, false, true};
 ghost use Rattle.radix_trie.specs.Keys.{IsKeyed};
 ghost use Rattle.radix_trie.specs.Lists.{IsPrefix};
 ghost use Rattle.keyed_maps.specs.KeyedMaps.{keyed_map};
 
 use crate::count_laws::walks_give_each_key;
-use crate::equality_laws::equal_keyed_maps_are_equal;
+use crate::equality_laws::alike_keyed_maps_are_same;
 use crate::nearest_laws::keyed_maps_follow_nearest;
 use radix_trie::iter::Iter;
 use radix_trie::{Memory, Trie, TrieCommon, TrieKey};
@@ -35,8 +35,22 @@ pub fn compare_alike<K: TrieKey, V: Eq>(first: &Trie<K, V>, second: &Trie<K, V>)
         → keyed_map K.encoding first.now k ≡ keyed_map K.encoding second.now k }
     ensures { IsTrue result }
 {
-    equal_keyed_maps_are_equal::<K, V>();
+    alike_keyed_maps_are_same::<K, V>();
     *first == *second
+}
+
+/// Whether a key has a stored prefix. If not, no key whose encoding begins its encoding has a value.
+///
+/// # Errors
+///
+/// Those of `Trie::get_ancestor_value`.
+pub fn has_nearest<K: TrieKey, V, Q: TrieKey>(trie: &Trie<K, V>, key: &Q) -> Result<bool, Memory>
+    ensures { IfOk result (λ has. has ≡ false
+        → (k : K) → IsPrefix (K.encoding k) (Q.encoding key.now)
+        → keyed_map K.encoding trie.now k ≡ None) }
+{
+    keyed_maps_follow_nearest(trie);
+    Ok(trie.get_ancestor_value(key)?.is_some())
 }
 
 /// The value of the longest stored prefix of a key: of a stored key whose encoding begins that of the key, and which each

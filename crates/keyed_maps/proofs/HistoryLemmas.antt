@@ -6,10 +6,12 @@ use Rattle.keyed_maps.specs.declared.history.Action.{Action}
 use Rattle.keyed_maps.specs.declared.history.Answer.{Answer}
 
 module _ {K V : Type 0} (enc : K → List ℕ) (is : K → Type 0) (eq : K → K → Bool) where
+  -- pairs that are stored one after another, and one more behind them
   pub then_put : (m : PairMap K V) (ps : List (K × V)) (n : PairMap K V) (p : K × V) (o : PairMap K V) → StoresEach enc is eq m ps n → StoresAt enc is eq n p.0 p.1 o → StoresEach enc is eq m (ps ++ p ∷ []) o
   then_put m [] n p o same put = (o, subst (λ x. StoresAt enc is eq x p.0 p.1 o) same put, refl)
   then_put m (q ∷ ps) n p o all put = (all.0, all.1, then_put all.0 ps n p o all.2 put)
 
+  -- a history, and one more action behind it
   pub then_act : (light : K → Type 0) (m : PairMap K V) (cs : List (Action K V)) (rs : List (Answer V)) (n : PairMap K V) (c : Action K V) (r : Answer V) (o : PairMap K V)
       → History enc is eq light m cs rs n → Acts enc is eq light n c r o → History enc is eq light m (cs ++ c ∷ []) (rs ++ r ∷ []) o
   then_act light m [] rs n c r o none acts = (r, [], o, ap (λ x. x ++ r ∷ []) none.0, subst (λ x. Acts enc is eq light x c r o) none.1 acts, (refl, refl))

@@ -21,6 +21,11 @@ pub fn insert_and_look_up<K: TrieKey + Copy + Drop, V: Copy + Drop>(
         × ((first ≡ Answer.Refused) ⊎ ((last ≡ Answer.Refused)
         ⊎ ((first ≡ Answer.Old (keyed_map K.encoding trie.old key))
         × (last ≡ Answer.Found (Some value)))))) }
+    ensures stored { IfOk result (λ answers. (last : Answer V)
+        → answers.items ≡ Answer.Old (keyed_map K.encoding trie.old key) ∷ last ∷ []
+        → keyed_map K.encoding trie.new key ≡ Some value) }
+    ensures others { (j : K) → K.is_value key → K.is_value j → K.eq key j ≡ false
+        → keyed_map K.encoding trie.new j ≡ keyed_map K.encoding trie.old j }
     ensures unchanged { OnErr result (trie.new ≡ trie.old) }
 {
     let mut actions = Vec::new(trie.allocator());
@@ -44,6 +49,9 @@ pub fn insert_another_and_look_up<K: TrieKey + Copy + Drop, V: Copy + Drop>(
         → (first second last : Answer V) × (answers.items ≡ first ∷ second ∷ last ∷ [])
         × ((first ≡ Answer.Refused) ⊎ ((last ≡ Answer.Refused)
         ⊎ (last ≡ Answer.Found (Some one.1))))) }
+    ensures others { (j : K) → K.is_value one.0 → K.is_value other.0 → K.is_value j
+        → K.eq one.0 j ≡ false → K.eq other.0 j ≡ false
+        → keyed_map K.encoding trie.new j ≡ keyed_map K.encoding trie.old j }
     ensures unchanged { OnErr result (trie.new ≡ trie.old) }
 {
     let mut actions = Vec::new(trie.allocator());

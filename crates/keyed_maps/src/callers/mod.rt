@@ -1,5 +1,5 @@
-//! Callers whose contracts speak by keys: each names the laws that it needs, and all but `nearest_value` and `insert_measured` are
-//! proved without a proof file.
+//! Callers whose contracts speak by keys: each names the laws that it needs, and all but `nearest_value`, `has_nearest` and
+//! `insert_measured` are proved without a proof file.
 
 pub mod costs;
 pub mod edits;

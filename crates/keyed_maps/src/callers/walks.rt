@@ -45,7 +45,10 @@ pub fn compare_alike<K: TrieKey, V: Eq>(first: &Trie<K, V>, second: &Trie<K, V>)
 ///
 /// Those of `Trie::get_ancestor_value`.
 pub fn has_nearest<K: TrieKey, V, Q: TrieKey>(trie: &Trie<K, V>, key: &Q) -> Result<bool, Memory>
-    ensures { IfOk result (λ has. has ≡ false
+    ensures some { IfOk result (λ has. has ≡ true
+        → (k : K) × (v : V) × IsPrefix (K.encoding k) (Q.encoding key.now)
+        × (keyed_map K.encoding trie.now k ≡ Some v)) }
+    ensures none { IfOk result (λ has. has ≡ false
         → (k : K) → IsPrefix (K.encoding k) (Q.encoding key.now)
         → keyed_map K.encoding trie.now k ≡ None) }
 {

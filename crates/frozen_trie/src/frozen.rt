@@ -1,22 +1,20 @@
 //! A map for reading alone: its pairs in the order of their encodings.
-ghost use Rattle.std.specs.Prelude.{◌≡◌, ◌↔◌, ◌+◌, ◌-◌, ◌<◌, ◌≤◌, [], ◌∷◌, drop, length, reverse, IsTrue, IsOk, IfOk, OnOk, option_copied, option_map, slice_get};
+ghost use Rattle.std.specs.Prelude.{◌≡◌, ◌↔◌, ◌+◌, ◌-◌, ◌<◌, ◌≤◌, [], ◌∷◌, length, IsTrue, option_map, slice_get};
 ghost use Rattle.std.specs.FinMap as map;
 ghost use Rattle.nibble_map.specs.Lists.{IsRising};
-ghost use Rattle.nibble_map.specs.Maps.{IsStored, below, value_at};
-ghost use Rattle.radix_trie.specs.Views.{IsPairAbove, IsValueAbove, pairs_above, pairs_after, pairs_before, pairs_below, pairs_from};
+ghost use Rattle.radix_trie.specs.Views.{pairs_below};
 ghost use Rattle.radix_trie.specs.Walks.{deref_pair};
 ghost use Rattle.frozen_trie.specs.Frozen.{IsFrozen, codes_of, map_of_pairs, prefixes_up};
 
 use crate::codes::Codes;
-use crate::packed::Packed;
-use crate::prefixes::CommonPrefixes;
-use crate::search::{behind, index_of, last_prefix, lower, upper};
-use crate::slices::{entry_at, entry_in, part};
-use radix_keys::{Memory, Nibblet, TrieKey};
+use crate::slices::{entry_at, entry_in};
+use radix_keys::TrieKey;
 use std::alloc::Global;
 use std::marker::Model;
 
 mod appended;
+mod keys;
+mod lists;
 mod values;
 mod written;
 
@@ -86,102 +84,6 @@ impl<K: TrieKey, V> FrozenTrie<K, V> {
         self.pairs.as_slice()
     }
 
-    /// The key and the value at a list of nibbles, if a pair is stored there.
-    fn pair_at(&self, list: &Nibblet) -> Option<(&K, &V)>
-        ensures pair { option_map deref_pair result ≡ map.get self.now list.now }
-    {
-        match index_of(&self.codes, &Packed::of(list)) {
-            Some(at) => Some(entry_at(&self.pairs, at)),
-            None => None,
-        }
-    }
-
-    /// The value at a list of nibbles, if one is stored there. It allocates nothing.
-    pub fn at(&self, list: &Nibblet) -> Option<&V>
-        ensures value { option_copied result ≡ value_at self.now list.now }
-    {
-        match self.pair_at(list) {
-            Some((_, value)) => Some(value),
-            None => None,
-        }
-    }
-
-    /// Whether a pair is stored at a list of nibbles. It allocates nothing.
-    pub fn contains(&self, list: &Nibblet) -> bool
-        ensures stored { IsTrue result ↔ IsStored self.now list.now }
-    {
-        self.pair_at(list).is_some()
-    }
-
-    /// The key and the value at the longest stored list that is a prefix of a list of nibbles, or None where there is none.
-    /// It allocates nothing.
-    ///
-    /// Where the list isn't stored, the stored prefixes of the pair before it are gone through, from the longest on, until
-    /// one of them is a prefix of the list too.
-    pub fn nearest(&self, list: &Nibblet) -> Option<(&K, &V)>
-        ensures pair { IsPairAbove self.now list.now (option_map deref_pair result) }
-    {
-        let found = last_prefix(&self.codes, &self.up, &Packed::of(list));
-        if found == 0 {
-            return None;
-        }
-        Some(entry_at(&self.pairs, found - 1))
-    }
-
-    /// The value at the longest stored list that is a prefix of a list of nibbles, or None where there is none, as `nearest`
-    /// finds it. It allocates nothing.
-    pub fn nearest_value(&self, list: &Nibblet) -> Option<&V>
-        ensures value { IsValueAbove self.now list.now (option_copied result) }
-    {
-        let (_, value) = self.nearest(list)?;
-        Some(value)
-    }
-
-    /// The pairs whose encodings begin with a list of nibbles, in order. It allocates nothing.
-    pub fn below(&self, list: &Nibblet) -> &[(K, V)]
-        ensures pairs { result.now ≡ pairs_below self.now list.now }
-    {
-        let from = lower(&self.codes, &Packed::of(list));
-        let to = upper(&self.codes, &Packed::of(list));
-        part(&self.pairs, from, to)
-    }
-
-    /// How many of the stored encodings come before a list of nibbles: the index at which it is stored, or would be. It
-    /// allocates nothing.
-    pub fn rank(&self, list: &Nibblet) -> usize
-        ensures count { result ≡ length (pairs_before self.now [] list.now) }
-    {
-        lower(&self.codes, &Packed::of(list))
-    }
-
-    /// The pairs whose encodings are a list of nibbles or come after it, in order. It allocates nothing.
-    pub fn from(&self, list: &Nibblet) -> &[(K, V)]
-        ensures pairs { result.now ≡ pairs_from self.now [] list.now }
-    {
-        let start = lower(&self.codes, &Packed::of(list));
-        part(&self.pairs, start, self.pairs.len())
-    }
-
-    /// The pairs whose encodings come after a list of nibbles, in order, without that of the list itself. It allocates
-    /// nothing.
-    pub fn after(&self, list: &Nibblet) -> &[(K, V)]
-        ensures pairs { result.now ≡ pairs_after self.now [] list.now }
-    {
-        let start = behind(&self.codes, &Packed::of(list));
-        part(&self.pairs, start, self.pairs.len())
-    }
-
-    /// The pairs whose encodings are `from` or come after it, and come before `to`, in order: those before `to` without the
-    /// first ones, which come before `from`. Where `from` isn't before `to` there is none. It allocates nothing.
-    pub fn between(&self, from: &Nibblet, to: &Nibblet) -> &[(K, V)]
-        ensures pairs { result.now ≡ drop (length (pairs_before self.now [] from.now))
-            (pairs_before self.now [] to.now) }
-    {
-        let start = lower(&self.codes, &Packed::of(from));
-        let end = lower(&self.codes, &Packed::of(to));
-        part(&self.pairs, start, end.max(start))
-    }
-
     /// The key and the value of the pair at an index, in the order of the encodings, or None past the end. It takes constant
     /// time.
     pub fn nth(&self, index: usize) -> Option<(&K, &V)>
@@ -238,113 +140,8 @@ impl<K: TrieKey, V> FrozenTrie<K, V> {
         (entry_at(&self.pairs, at), self.up[at] as usize)
     }
 
-    /// The walk over the pairs whose encodings are prefixes of a list of nibbles, from the longest up. It allocates nothing.
-    ///
-    /// It begins where `nearest` ends.
-    pub fn common_prefixes(&self, list: &Nibblet) -> CommonPrefixes<'_, K, V>
-        ensures walk { result ≡ reverse (pairs_above self.now list.now) }
-    {
-        CommonPrefixes::new(self, last_prefix(&self.codes, &self.up, &Packed::of(list)))
-    }
-
     /// The allocator that the memory comes from.
     pub fn allocator(&self) -> Global {
         self.alloc
-    }
-}
-
-/// Calls by a key.
-impl<K: TrieKey, V> FrozenTrie<K, V> {
-    /// The value that is stored at the key's encoding, if there is one.
-    ///
-    /// The key may be of another type than the stored keys: its encoding alone decides.
-    ///
-    /// # Errors
-    ///
-    /// Memory for the encoding is refused, which a light key never meets.
-    pub fn get<Q: TrieKey>(&self, key: &Q) -> Result<Option<&V>, Memory>
-        ensures value { IfOk result
-            (λ found. option_copied found ≡ value_at self.now (Q.encoding key.now)) }
-        ensures is_value { OnOk result (Q.is_value key.now) }
-        ensures light { Q.is_light key.now → IsOk result }
-    {
-        let list = key.encode(self.alloc)?;
-        Ok(self.at(&list))
-    }
-
-    /// The key and the value that are stored at the key's encoding, if a pair is.
-    ///
-    /// The key may be of another type than the stored keys: its encoding alone decides.
-    ///
-    /// # Errors
-    ///
-    /// Memory for the encoding is refused, which a light key never meets.
-    pub fn get_key_value<Q: TrieKey>(&self, key: &Q) -> Result<Option<(&K, &V)>, Memory>
-        ensures pair { IfOk result (λ found. option_map deref_pair found
-            ≡ map.get self.now (Q.encoding key.now)) }
-        ensures is_value { OnOk result (Q.is_value key.now) }
-        ensures light { Q.is_light key.now → IsOk result }
-    {
-        let list = key.encode(self.alloc)?;
-        Ok(self.pair_at(&list))
-    }
-
-    /// Whether a pair is stored at the key's encoding.
-    ///
-    /// # Errors
-    ///
-    /// Memory for the encoding is refused, which a light key never meets.
-    pub fn contains_key<Q: TrieKey>(&self, key: &Q) -> Result<bool, Memory>
-        ensures stored { IfOk result
-            (λ found. IsTrue found ↔ IsStored self.now (Q.encoding key.now)) }
-        ensures is_value { OnOk result (Q.is_value key.now) }
-        ensures light { Q.is_light key.now → IsOk result }
-    {
-        let list = key.encode(self.alloc)?;
-        Ok(self.contains(&list))
-    }
-
-    /// The key and the value at the longest stored encoding that is a prefix of the key's, or None where there is none, as
-    /// `nearest` finds them.
-    ///
-    /// # Errors
-    ///
-    /// Memory for the encoding is refused, which a light key never meets.
-    pub fn get_ancestor<Q: TrieKey>(&self, key: &Q) -> Result<Option<(&K, &V)>, Memory>
-        ensures pair { IfOk result (λ found. IsPairAbove self.now (Q.encoding key.now)
-            (option_map deref_pair found)) }
-        ensures light { Q.is_light key.now → IsOk result }
-    {
-        let list = key.encode(self.alloc)?;
-        Ok(self.nearest(&list))
-    }
-
-    /// The value of the longest stored encoding that is a prefix of the key's, or None where there is none, as `nearest`
-    /// finds it.
-    ///
-    /// # Errors
-    ///
-    /// Memory for the encoding is refused, which a light key never meets.
-    pub fn get_ancestor_value<Q: TrieKey>(&self, key: &Q) -> Result<Option<&V>, Memory>
-        ensures value { IfOk result
-            (λ found. IsValueAbove self.now (Q.encoding key.now) (option_copied found)) }
-        ensures light { Q.is_light key.now → IsOk result }
-    {
-        let list = key.encode(self.alloc)?;
-        Ok(self.nearest_value(&list))
-    }
-
-    /// The count of pairs at and below the key's place. The key needn't be stored.
-    ///
-    /// # Errors
-    ///
-    /// Memory for the encoding is refused, which a light key never meets.
-    pub fn count_below<Q: TrieKey>(&self, key: &Q) -> Result<usize, Memory>
-        ensures count { IfOk result
-            (λ count. count ≡ map.len (below self.now (Q.encoding key.now))) }
-        ensures light { Q.is_light key.now → IsOk result }
-    {
-        let list = key.encode(self.alloc)?;
-        Ok(self.below(&list).len())
     }
 }

@@ -1,16 +1,17 @@
 //! Lists of nibbles, two to a byte.
-ghost use Rattle.std.specs.Prelude.{◌≡◌, ◌≢◌, ℕ, ◌+◌, ◌*◌, ◌/◌, ◌%◌, ◌<◌, ◌≤◌, ◌==◌, List, [], ◌∷◌, ◌++◌, length, take, drop, slice_index, IsOk, IfOk, OnOk, OnErr, IfErr, nat_eq};
+ghost use Rattle.std.specs.Prelude.{◌≡◌, ◌≢◌, ◌+◌, ◌/◌, ◌%◌, ◌<◌, ◌≤◌, ◌==◌, [], length, take, drop, slice_index, IsOk, IfOk, nat_eq};
 ghost use Rattle.std.specs.Cmp.{partial_equiv_from_equiv};
 ghost use Rattle.std.specs.Cmp.Lexicographic.{pointwise, nat_list_eq_equiv};
 ghost use Rattle.nibble_map.specs.Nibbles.{nibbles, IsShort};
 ghost use Rattle.nibble_map.specs.Turned.{turned};
 ghost use Rattle.radix_keys.specs.Packing.{IsPadded, unpacked};
-ghost use Rattle.smallvec.specs.SmallVec.{HasRoomFor};
 
 use smallvec::SmallVec;
 use std::alloc::{AllocError, AllocFailed, Global};
 use std::marker::Model;
 
+mod append;
+mod cut;
 mod iter;
 mod order;
 mod refusals;
@@ -203,28 +204,6 @@ impl NibbleVec {
         }
     }
 
-    /// Appends a nibble, a number of at most 15.
-    ///
-    /// # Errors
-    ///
-    /// Memory is refused, for a list of at least 32 nibbles. The list is as before then.
-    pub fn push(&mut self, n: u8) -> Result<(), Memory>
-        requires { n < 16 }
-        ensures ok { OnOk result (self.new ≡ self.old ++ n ∷ []) }
-        ensures err { OnErr result (self.new ≡ self.old) }
-        ensures succeeds { length self.old < 32 → IsOk result }
-    {
-        if self.is_odd {
-            let last = self.bytes.len() - 1;
-            self.bytes[last] += n;
-            self.is_odd = false;
-            return Ok(());
-        }
-        self.bytes.push(n * 16)?;
-        self.is_odd = true;
-        Ok(())
-    }
-
     /// The same list.
     ///
     /// # Errors
@@ -237,180 +216,12 @@ impl NibbleVec {
         Ok(Clone::clone(self)?)
     }
 
-    /// Keeps the first `i` nibbles, at most all, and hands out the rest. What it keeps gives back the
-    /// room of the rest, where the allocator grants that.
-    ///
-    /// # Errors
-    ///
-    /// Memory is refused, where the rest has more than 32 nibbles. The list is as before then.
-    pub fn split(&mut self, i: usize) -> Result<NibbleVec, Memory>
-        requires { i ≤ length self.old }
-        ensures kept { OnOk result (self.new ≡ take i self.old) }
-        ensures rest { IfOk result (λ r. r ≡ drop i self.old) }
-        ensures err { OnErr result (self.new ≡ self.old) }
-        ensures succeeds { IsShort (drop i self.old) → IsOk result }
-    {
-        let rest = self.tail(i)?;
-        self.truncate(i);
-        self.shrink_to_fit();
-        Ok(rest)
-    }
-
-    /// Keeps the first `i` nibbles, at most all. It takes no memory.
-    pub fn truncate(&mut self, i: usize)
-        requires { i ≤ length self.old }
-        ensures { self.new ≡ take i self.old }
-    {
-        let whole = i / 2;
-        if i % 2 == 0 {
-            self.bytes.truncate(whole);
-            self.is_odd = false;
-        } else {
-            self.bytes.truncate(whole + 1);
-            let byte = self.bytes[whole];
-            self.bytes[whole] = byte - byte % 16;
-            self.is_odd = true;
-        }
-    }
-
-    /// Gives back the room that the list doesn't need. Where a smaller room is refused, it stays as it is.
-    fn shrink_to_fit(&mut self)
-        ensures { self.new ≡ self.old }
-    {
-        self.bytes.shrink_to_fit();
-        let _ = self.bytes.spilled();
-    }
-
     /// Turns the highest bit of the first nibble over. It takes no memory.
     pub fn turn_over(&mut self)
         requires { 0 < length self.old }
         ensures { self.new ≡ turned self.old }
     {
         self.bytes[0] ^= 0x80;
-    }
-
-    /// The list followed by the other.
-    ///
-    /// # Errors
-    ///
-    /// Memory is refused, where the two have more than 32 nibbles together. The list comes back.
-    pub fn join(self, other: &NibbleVec) -> Result<NibbleVec, NibbleVec>
-        ensures ok { IfOk result (λ v. v ≡ self ++ other.now) }
-        ensures err { IfErr result (λ v. v ≡ self) }
-        ensures succeeds { IsShort (self ++ other.now) → IsOk result }
-    {
-        let mut joined = self;
-        match joined.append(other) {
-            Ok(()) => Ok(joined),
-            Err(_) => Err(joined),
-        }
-    }
-
-    /// The first `i` nibbles, at most all.
-    ///
-    /// # Errors
-    ///
-    /// Memory is refused, where these are more than 32.
-    pub fn head(&self, i: usize) -> Result<NibbleVec, Memory>
-        requires { i ≤ length self.now }
-        ensures ok { IfOk result (λ r. r ≡ take i self.now) }
-        ensures succeeds { IsShort (take i self.now) → IsOk result }
-    {
-        if i == self.len() {
-            return self.clone();
-        }
-        let whole = &self.bytes.as_slice()[..i.div_ceil(2)];
-        let bytes = SmallVec::from_slice(*self.bytes.allocator(), whole)?;
-        let _ = bytes.spilled();
-        let mut head = NibbleVec::from_small(bytes);
-        head.truncate(i);
-        Ok(head)
-    }
-
-    /// The nibbles from `i` on, which is at most the count.
-    ///
-    /// # Errors
-    ///
-    /// Memory is refused, where these are more than 32.
-    pub fn tail(&self, i: usize) -> Result<NibbleVec, Memory>
-        requires { i ≤ length self.now }
-        ensures ok { IfOk result (λ r. r ≡ drop i self.now) }
-        ensures succeeds { IsShort (drop i self.now) → IsOk result }
-    {
-        if i % 2 == 1 {
-            return self.tail_shifted(i);
-        }
-        let bytes = SmallVec::from_slice(*self.bytes.allocator(), &self.bytes.as_slice()[i / 2..])?;
-        let _ = bytes.spilled();
-        Ok(NibbleVec {
-            bytes,
-            is_odd: self.is_odd,
-        })
-    }
-
-    /// The nibbles from an odd place on.
-    fn tail_shifted(&self, i: usize) -> Result<NibbleVec, Memory>
-        requires within { i ≤ length self.now }
-        requires odd { i % 2 ≡ 1 }
-        ensures ok { IfOk result (λ r. r ≡ drop i self.now) }
-        ensures succeeds { IsShort (drop i self.now) → IsOk result }
-    {
-        let count = self.len() - i;
-        let mut rest = SmallVec::with_capacity(*self.bytes.allocator(), count.div_ceil(2))?;
-        let bytes = self.bytes.as_slice();
-        let last = push_shifted(&mut rest, bytes[i / 2] % 16, &bytes[i / 2 + 1..]);
-        if self.is_odd {
-            return Ok(NibbleVec::from_small(rest));
-        }
-        rest.push_reserved(last * 16);
-        Ok(NibbleVec {
-            bytes: rest,
-            is_odd: true,
-        })
-    }
-
-    /// Appends the nibbles of another list.
-    fn append(&mut self, other: &NibbleVec) -> Result<(), Memory>
-        ensures ok { OnOk result (self.new ≡ self.old ++ other.now) }
-        ensures err { OnErr result (self.new ≡ self.old) }
-        ensures succeeds { IsShort (self.old ++ other.now) → IsOk result }
-    {
-        if self.is_odd {
-            return self.append_shifted(other);
-        }
-        self.bytes.extend_from_slice(other.bytes.as_slice())?;
-        self.is_odd = other.is_odd;
-        Ok(())
-    }
-
-    /// Appends the nibbles of the bytes to a list of an even count.
-    pub(crate) fn push_bytes(&mut self, bytes: &[u8]) -> Result<(), Memory>
-        requires { length self.old % 2 ≡ 0 }
-        ensures ok { OnOk result (self.new ≡ self.old ++ nibbles bytes.now) }
-        ensures err { OnErr result (self.new ≡ self.old) }
-        ensures succeeds { IsShort (self.old ++ nibbles bytes.now) → IsOk result }
-    {
-        Ok(self.bytes.extend_from_slice(bytes)?)
-    }
-
-    /// Appends the nibbles of another list to an odd one.
-    fn append_shifted(&mut self, other: &NibbleVec) -> Result<(), Memory>
-        requires { length self.old % 2 ≡ 1 }
-        ensures ok { OnOk result (self.new ≡ self.old ++ other.now) }
-        ensures err { OnErr result (self.new ≡ self.old) }
-        ensures succeeds { IsShort (self.old ++ other.now) → IsOk result }
-    {
-        self.bytes.reserve(other.len() / 2)?;
-        let end = self.bytes.len() - 1;
-        let high = self.bytes[end] / 16;
-        self.bytes.truncate(end);
-        let last = push_shifted(&mut self.bytes, high, other.bytes.as_slice());
-        if other.is_odd {
-            self.is_odd = false;
-            return Ok(());
-        }
-        self.bytes.push_reserved(last * 16);
-        Ok(())
     }
 
     /// The bytes of a list of whole bytes, or Odd.
@@ -427,24 +238,6 @@ impl NibbleVec {
             Err(_) => Err(BytesError::Memory),
         }
     }
-}
-
-/// Appends the nibble `high` and the nibbles of the bytes but the last, which it answers.
-fn push_shifted(out: &mut SmallVec<u8, 16>, high: u8, bytes: &[u8]) -> u8
-    requires half { high < 16 }
-    requires room { HasRoomFor out.old (length bytes.now) }
-    ensures nibbles { nibbles out.new.items ++ result ∷ [] ≡ nibbles out.old.items
-        ++ high ∷ nibbles bytes.now }
-    ensures count { length out.new.items ≡ length out.old.items + length bytes.now }
-    ensures half { result < 16 }
-    ensures capacity { out.new.capacity ≡ out.old.capacity }
-{
-    let mut half = high;
-    for byte in bytes {
-        out.push_reserved(half * 16 + byte / 16);
-        half = byte % 16;
-    }
-    half
 }
 
 // The same list, for code that is generic over `Clone`, such as a trie's own `clone`.

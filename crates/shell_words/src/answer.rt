@@ -28,6 +28,7 @@ pub struct Answer<'a> {
     is_watched: bool,
     is_other: bool,
     is_refusal: bool,
+    is_coloured: bool,
     is_lost: bool,
 }
 
@@ -73,8 +74,16 @@ impl<'a> Answer<'a> {
             is_watched,
             is_other: false,
             is_refusal: false,
+            is_coloured: false,
             is_lost: false,
         }
+    }
+
+    /// Writes in colours what has some, as a terminal shows them.
+    pub fn colour(&mut self)
+        ensures { self.new ≡ self.old }
+    {
+        self.is_coloured = true;
     }
 
     /// Whether refusals are told of.

@@ -49,6 +49,8 @@ mod suffixes;
 #[cfg(test)]
 mod tallies;
 #[cfg(test)]
+mod threads;
+#[cfg(test)]
 mod told;
 #[cfg(test)]
 mod topics;

@@ -14,18 +14,18 @@ pub mod look_ups;
 pub mod runs;
 pub mod sets;
 pub mod steps;
+pub mod stores;
 pub mod sweeps;
 pub mod topics;
 pub mod trees;
 pub mod views;
 
 use crate::calls::common::answer_common;
-use crate::calls::edits::{
-    answer_change, answer_edit, answer_get, answer_insert, answer_remove, answer_store,
-};
+use crate::calls::edits::{answer_change, answer_get, answer_insert, answer_remove};
 use crate::calls::entries::answer_entry;
 use crate::calls::lines::walk_lines;
 use crate::calls::look_ups::{answer_keyed, answer_listed, answer_whole};
+use crate::calls::stores::{answer_edit, answer_store};
 use crate::calls::sweeps::answer_sweep;
 use crate::calls::topics::answer_typed;
 use crate::calls::trees::answer_tree;

@@ -23,14 +23,16 @@ use std::marker::Model;
 use std::process::ExitCode;
 use std::rt::Files;
 
-/// The tries and the type of their keys, whether refusals are told, and the system's files. A contract
-/// sees the current trie, where its keys are texts, refusals aren't told, and no view is open.
+/// The tries and the type of their keys, whether refusals are told, whether answers are in colours, and
+/// the system's files. A contract sees the current trie, where its keys are texts, refusals aren't told,
+/// and no view is open.
 #[derive(Drop)]
 struct Shell<F: Files + AllocGlobal + Drop> {
     files: F,
     tries: Tries,
     kind: Kind,
     is_watched: bool,
+    is_coloured: bool,
 }
 
 impl<F: Files + AllocGlobal + Drop> Model for Shell<F> {
@@ -48,7 +50,7 @@ impl<F: Files + AllocGlobal + Drop> Model for Shell<F> {
 
 impl<F: Files + AllocGlobal + Drop> Shell<F> {
     /// A shell with one trie of texts, which holds nothing.
-    fn new(files: F) -> Shell<F>
+    fn new(files: F, is_coloured: bool) -> Shell<F>
         ensures { result ≡ Some map.empty }
     {
         Shell {
@@ -56,6 +58,7 @@ impl<F: Files + AllocGlobal + Drop> Shell<F> {
             files,
             kind: Kind::Text,
             is_watched: false,
+            is_coloured,
         }
     }
 
@@ -117,6 +120,9 @@ impl<F: Files + AllocGlobal + Drop> Caller for Shell<F> {
 impl<F: Files + AllocGlobal + Drop> Shell<F> {
     /// A call of which no contract tells.
     fn answer_other(&mut self, answer: &mut Answer<'_>) -> Result<(), Memory> {
+        if self.is_coloured {
+            answer.colour();
+        }
         match answer.name() {
             "keys" if answer.left() > 0 => self.answer_type(answer),
             "watch" => {
@@ -241,6 +247,7 @@ fn add_line(out: &mut Vec<u8>, text: &str) -> Result<(), Refusal>
 /// with.
 pub fn answer_all<F: Files + AllocGlobal + Drop, R: Read, W: Write, E: Write>(
     files: F,
+    is_coloured: bool,
     reader: &mut WatchedReader<R>,
     writer: &mut WatchedWriter<W>,
     errors: &mut WatchedWriter<E>,
@@ -250,7 +257,7 @@ pub fn answer_all<F: Files + AllocGlobal + Drop, R: Read, W: Write, E: Write>(
 {
     let alloc = files.alloc();
     let strict = Strict {
-        shell: Shell::new(files),
+        shell: Shell::new(files, is_coloured),
     };
     run(alloc, strict, reader, writer, errors)
 }
@@ -258,6 +265,7 @@ pub fn answer_all<F: Files + AllocGlobal + Drop, R: Read, W: Write, E: Write>(
 /// The same program, but no line ends it: where one is bad, its answer says why.
 pub fn answer_each<F: Files + AllocGlobal + Drop, R: Read, W: Write, E: Write>(
     files: F,
+    is_coloured: bool,
     reader: &mut WatchedReader<R>,
     writer: &mut WatchedWriter<W>,
     errors: &mut WatchedWriter<E>,
@@ -267,7 +275,7 @@ pub fn answer_each<F: Files + AllocGlobal + Drop, R: Read, W: Write, E: Write>(
 {
     let alloc = files.alloc();
     let lenient = Lenient {
-        shell: Shell::new(files),
+        shell: Shell::new(files, is_coloured),
     };
     run(alloc, lenient, reader, writer, errors)
 }

@@ -19,3 +19,18 @@ pub fn is_strict_start<R: Env>(rt: &R) -> Option<bool> {
         _ => None,
     }
 }
+
+/// Whether colours may be written to a terminal: not to one whose `TERM` is `dumb`, and not where
+/// `NO_COLOR` is set and isn't empty.
+pub fn allows_colours<R: Env>(rt: &R) -> bool {
+    let mut value = [0u8; 4];
+    let is_dumb = match rt.var("TERM", &mut value) {
+        Ok(count) => value.get(..count) == Some(b"dumb".as_slice()),
+        Err(_) => false,
+    };
+    !is_dumb
+        && matches!(
+            rt.var("NO_COLOR", &mut value),
+            Err(FillError::NotPresent) | Ok(0)
+        )
+}

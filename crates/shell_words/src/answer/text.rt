@@ -174,6 +174,26 @@ impl<'a> Answer<'a> {
         ensures { OnErr result (IsTrue self.new.is_lost) }
     {
         self.begin_word()?;
+        self.digits(list)
+    }
+
+    /// The same, in cyan where the answer is in colours.
+    pub fn coloured_list(&mut self, list: &Nibblet) -> Result<(), Memory>
+        ensures { OnErr result (IsTrue self.new.is_lost) }
+    {
+        self.begin_word()?;
+        if !self.is_coloured {
+            return self.digits(list);
+        }
+        self.put(b"\x1b[36m")?;
+        self.digits(list)?;
+        self.put(b"\x1b[0m")
+    }
+
+    /// Adds the digits of a list of nibbles.
+    fn digits(&mut self, list: &Nibblet) -> Result<(), Memory>
+        ensures { OnErr result (IsTrue self.new.is_lost) }
+    {
         if list.is_empty() {
             return self.put(b"\"\"");
         }

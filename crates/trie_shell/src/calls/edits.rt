@@ -1,10 +1,9 @@
-//! Changes at a key.
+//! Changes that tries and views for writing have in common, and what their answers are made of.
 ghost use Rattle.std.specs.Prelude.{◌≡◌, ◌≢◌, ◌⊎◌, [], ◌++◌, IsTrue, OnErr, OnOk};
 ghost use Rattle.shell_words.specs.Answers.{gap, value_line};
 ghost use Rattle.trie_shell.specs.Answers.{TellsValue, StoresNumber, IsReread, TakesValue};
 
-use crate::calls::Table;
-use crate::calls::lines::{listed_lines, taken_line};
+use crate::calls::lines::listed_lines;
 use radix_trie::{
     FindError, InsertError, InsertWhy, Memory, SubTrieError, TrieEdit, TryInsertError, TryInsertWhy,
 };
@@ -52,7 +51,7 @@ pub fn refused_line(
 }
 
 /// What an insertion that replaces nothing answers.
-fn try_insert_line(
+pub fn try_insert_line(
     answer: &mut Answer<'_>,
     given: Given<'_>,
     outcome: Result<(), TryInsertError<Key, u64>>,
@@ -208,111 +207,6 @@ pub fn key_and_number(answer: &mut Answer<'_>) -> Result<Option<(Key, u64)>, Mem
         (None, _) => answer.refuse(NO_KEY)?,
     }
     Ok(None)
-}
-
-/// A change of a trie that may store a pair, by the numbers that the next words write. False: the
-/// call is none.
-pub fn answer_store(trie: &mut Table, answer: &mut Answer<'_>) -> Result<bool, Memory> {
-    match answer.name() {
-        "map_with_default" | "try_insert" | "get_or_insert" => {}
-        _ => return Ok(false),
-    }
-    let word = answer.words().next().unwrap_or("");
-    let Some(key) = answer.next_key()? else {
-        return answer.told(NO_KEY);
-    };
-    let Some(value) = answer.next_number() else {
-        return answer.told(NO_NUMBER);
-    };
-    match answer.name() {
-        "map_with_default" => answer_map(trie, key, word, value, answer)?,
-        "get_or_insert" => answer_filled(trie, key, Given { word, value }, answer)?,
-        _ => try_insert_line(answer, Given { word, value }, trie.try_insert(key, value))?,
-    }
-    Ok(true)
-}
-
-/// Writes the number of the next word where the value at the key stands, or the default, which is
-/// stored first. The answer is what stood there.
-fn answer_filled(
-    trie: &mut Table,
-    key: Key,
-    given: Given<'_>,
-    answer: &mut Answer<'_>,
-) -> Result<(), Memory> {
-    let Some(number) = answer.next_number() else {
-        return answer.refuse(NO_NUMBER);
-    };
-    match trie.get_or_insert(key, given.value) {
-        Ok(value) => {
-            let old = *value;
-            *value = number;
-            answer.value_line(Some(old))
-        }
-        Err(error) => refused_line(answer, given, error),
-    }
-}
-
-/// Adds a number to the value at the key, or stores the default that the next word writes.
-fn answer_map(
-    trie: &mut Table,
-    key: Key,
-    word: &str,
-    added: u64,
-    answer: &mut Answer<'_>,
-) -> Result<(), Memory> {
-    let Some(value) = answer.next_number() else {
-        return answer.refuse(NO_NUMBER);
-    };
-    let add = |value: &mut u64| *value = value.wrapping_add(added);
-    match trie.map_with_default(key, add, value) {
-        Ok(()) => answer.line("ok"),
-        Err(error) => refused_line(answer, Given { word, value }, error),
-    }
-}
-
-/// A change of a trie at what the next word writes. False: the call is none.
-pub fn answer_edit(trie: &mut Table, answer: &mut Answer<'_>) -> Result<bool, Memory> {
-    match answer.name() {
-        "remove_entry"
-        | "get_mut"
-        | "find_mut"
-        | "find_ancestor_mut"
-        | "for_each_mut_below"
-        | "retain_below" => {}
-        _ => return Ok(false),
-    }
-    match answer.next_query()? {
-        Some(key) => answer_edit_at(trie, &key, answer)?,
-        None => answer.refuse(NO_KEY)?,
-    }
-    Ok(true)
-}
-
-/// A change of what is stored at the key, or below it.
-fn answer_edit_at(trie: &mut Table, key: &Key, answer: &mut Answer<'_>) -> Result<(), Memory> {
-    match answer.name() {
-        "remove_entry" => taken_line(answer, &trie.remove_entry(key)?),
-        "get_mut" => written_or_none(answer, trie.get_mut(key)?),
-        "find_mut" => written_or_absent(answer, trie.find_mut(key)),
-        "find_ancestor_mut" => written_or_absent(answer, trie.find_ancestor_mut(key)),
-        "for_each_mut_below" => match key_and_number(answer)? {
-            Some((other, added)) => {
-                trie.for_each_mut_below(key, |key: &Key, value: &mut u64| {
-                    add_unless(key, value, &other, added)
-                })?;
-                answer.line("ok")
-            }
-            None => Ok(()),
-        },
-        _ => match answer.next_number() {
-            Some(least) => {
-                trie.retain_below(key, |_: &Key, value: &u64| *value >= least)?;
-                answer.line("ok")
-            }
-            None => answer.refuse(NO_NUMBER),
-        },
-    }
 }
 
 /// Writes the number of the next word where a value was found. The answer is the old value.

@@ -97,7 +97,7 @@ fn draw_point(branch: &Branch<'_>, answer: &mut Answer<'_>) -> Result<(), Memory
     for _ in 0..branch.depth {
         answer.put(b"  ")?;
     }
-    answer.list(&TrieCommon::prefix(&branch.view)?)?;
+    answer.coloured_list(&TrieCommon::prefix(&branch.view)?)?;
     add_pair(&branch.view, answer)?;
     answer.end()
 }

@@ -1,6 +1,6 @@
 use Rattle.std.proofs.Common.{◌≡◌, ◌+◌, ◌<◌, ◌++◌, [], ◌∷◌, length, take}
 use Rattle.nibble_map.specs.Nibbles.{nibbles}
-use Rattle.radix_keys.proofs.nibbles.push_shifted.Given as goal
+use Rattle.radix_keys.proofs.nibbles.append.push_shifted.Given as goal
 
 abbrev pub invariant-loop-byte : goal.invariant-loop-byte
 invariant-loop-byte l = record {

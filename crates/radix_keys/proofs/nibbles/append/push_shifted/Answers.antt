@@ -2,7 +2,7 @@ use Rattle.std.proofs.Common.{◌+◌, ◌*◌, ◌/◌, ◌%◌, ◌++◌, [], 
 use Rattle.std.proofs.lemmas.List.{take_more, length-append}
 use Rattle.nibble_map.specs.Nibbles.{nibbles}
 use Rattle.radix_keys.proofs.NibbleLemmas.Bytes.{nibbles-append, nibbles-append_shifted}
-use Rattle.radix_keys.proofs.nibbles.push_shifted.Goals as goal
+use Rattle.radix_keys.proofs.nibbles.append.push_shifted.Goals as goal
 
 pub loop-byte-preserved : goal.loop-byte-preserved
 loop-byte-preserved c =

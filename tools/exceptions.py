@@ -1,105 +1,69 @@
 """What tools/texts lets pass, each with its reason. What is named here and needs it no more fails too."""
 
-# Names that two specifications define, by the reason, with the modules that do.
+# Names that two specifications define, by the modules that do.
 SAME_NAMES = {
-    "a word for sets of lists and the same one for maps, the second defined by the first": {
-        **{name: ("nibble_map Answers", "nibble_map MapQueries")
-           for name in ("AreChildren", "IsAncestor", "IsChild", "IsCompared", "IsFragment", "IsRawAncestor",
-                        "IsRawDescendant", "IsVisited")},
-        **{name: ("nibble_map Maps", "nibble_map Points")
-           for name in ("IsBranchPoint", "IsPoint", "IsReached", "IsSomePrefix")},
-    },
-    "a word for rows of lists and the same one for maps": {
-        name: ("nibble_map Maps", "nibble_map Stored") for name in ("IsStored", "below")
-    },
-    "each program says this of its own lines, and no source reads two of them": {
-        **{name: ("route_tool Sessions", "trie_shell Sessions", "trie_tool Request")
-           for name in ("GivesUp", "IsBad", "Replies", "bad_unanswered")},
-        "IsRemarkOf": ("route_tool Reasons", "trie_shell Sessions", "trie_tool Request"),
-        "Numbers": ("route_tool Numbers", "trie_tool Request"),
-        "Request": ("route_tool Requests", "trie_tool Request"),
-        "below_answer": ("route_tool Answers", "trie_tool Request"),
-        "is_space": ("shell_words Words", "trie_tool Request"),
-        "request_of": ("route_tool Commands", "trie_tool Request"),
-        "row": ("route_tool Answers", "trie_tool Request"),
-        "text": ("nibble_map Rows", "trie_tool Numbers"),
-    },
-    "one is the other, of pairs in place of nodes' keys and values": {
-        "LeavesAtPair": ("radix_nodes Values", "radix_trie Values"),
-    },
-    "two meanings, of which one has to get another name": {
-        "parts_of": ("nibble_map Trees", "radix_keys Parts"),
-    },
+    # A word for sets of lists and the same one for maps, the second defined by the first.
+    "nibble_map Answers, nibble_map MapQueries":
+        "AreChildren IsAncestor IsChild IsCompared IsFragment IsRawAncestor IsRawDescendant IsVisited",
+    "nibble_map Maps, nibble_map Points": "IsBranchPoint IsPoint IsReached IsSomePrefix",
+    # A word for rows of lists and the same one for maps.
+    "nibble_map Maps, nibble_map Stored": "IsStored below",
+    # Each program says this of its own lines, and no source reads two of them.
+    "route_tool Sessions, trie_shell Sessions, trie_tool Request": "GivesUp IsBad Replies bad_unanswered",
+    "route_tool Reasons, trie_shell Sessions, trie_tool Request": "IsRemarkOf",
+    "route_tool Numbers, trie_tool Request": "Numbers",
+    "route_tool Requests, trie_tool Request": "Request",
+    "route_tool Answers, trie_tool Request": "below_answer row",
+    "shell_words Words, trie_tool Request": "is_space",
+    "route_tool Commands, trie_tool Request": "request_of",
+    "nibble_map Rows, trie_tool Numbers": "text",
+    # One is the other, of pairs in place of nodes' keys and values.
+    "radix_nodes Values, radix_trie Values": "LeavesAtPair",
+    # Two meanings, of which one has to get another name.
+    "nibble_map Trees, radix_keys Parts": "parts_of",
 }
 
-# Calls with no wrong body of their own, each with the function that does its work and has one: where the crate is
-# named, one of a crate below. For integers it is that of another type, by the same text.
+# The functions that do the work of calls with no wrong body of their own, and have one: where the crate is named, one
+# of a crate below. For integers it is that of another type, by the same text; for Trie::len, what counts its field.
 STANDS_FOR = {
-    "least_routes": {"is_table": "Route::precedes", "least": "Plan::of"},
-    "line_sessions": {"serve": "converse"},
-    "topic_filters": {"matching": "gather"},
-    "frozen_trie": {
-        "FrozenTrie::get_mut": "absent_as_none",
-        "FrozenTrie::for_each_mut": "change",
-        "FrozenTexts::read": "read_all",
-    },
-    "radix_keys": {
-        **{f"{kind}TrieKey::encode": "U32KeyInt::byte" for kind in ("U8", "U16", "U32", "U64", "Usize")},
-        **{f"{kind}TrieKey::encode": "I16KeyInt::byte" for kind in ("I8", "I16", "I32", "I64", "Isize")},
-        "U128TrieKey::encode": "U128KeyInt::byte",
-        "I128TrieKey::encode": "I128KeyInt::byte",
-        **{f"{kind}TrieKey::encode": "NibbleVec::from_slice" for kind in ("String", "RefStr", "RefSliceU8")},
-        "NibbleVec::from_byte_vec": "NibbleVec::from_slice",
-        "NibbleVec::is_empty": "NibbleVec::len",
-        "NibbleVec::clone": "NibbleVecClone::clone",
-        "NibbleVec::tail": "NibbleVec::tail_shifted",
-        "Parts::push": "Parts::push_bytes",
-        "Parts::iter": "PartsIterIterator::next",
-    },
-    "radix_trie": {
-        "Trie::default": "Trie::new",
-        # It returns the field that this one counts.
-        "Trie::len": "Trie::take_entry_at",
-        "Trie::retain": "Trie::not_kept",
-        "Trie::get_or_insert": "Trie::fill",
-        "Entry::get_mut": "value_at_list",
-        **{f"{kind}::children": "Place::children" for kind in ("Trie", "SubTrie", "SubTrieMut")},
-        "SubTrieMut::value_mut": "value_behind",
-        "Trie::get_mut": "absent_as_none",
-        "Trie::subtrie_mut": "closed_as_none",
-        **{f"SubTrieMut::{name}": f"{name}_within" for name in ("key", "value")},
-        "SubTrieMut::first_key_value": "first_within",
-        "SubTrieMut::last_key_value": "last_within",
-        **{f"TrieEdit::{name}": f"SubTrieMut::{name}" for name in ("insert", "remove", "remove_prefix", "retain")},
-    },
-    "trie_tool": {
-        "parse": "keyed",
-        "serve": "line_sessions converse",
-        "answer_all": "line_sessions run",
-        "Numbers::insert": "radix_trie Trie::insert",
-        "Numbers::get": "radix_trie Trie::get",
-        "Numbers::remove": "radix_trie Trie::remove",
-        "Numbers::prune": "radix_trie Trie::remove_prefix",
-        "Numbers::footprint": "radix_trie Trie::footprint",
-        "Numbers::all": "radix_trie AnyTrieCommon::iter",
-        "add_object": "write_members",
-    },
-    "route_tool": {
-        "answer_all": "line_sessions run",
-        "wrong_with": "wrong_with_text",
-        "Routes::compact": "radix_trie Trie::compact",
-        "Routes::look": "Routes::find",
-        "Routes::below": "radix_trie Trie::get_raw_descendant",
-        "Routes::rest": "radix_trie AnyTrieCommon::cursor",
-        "Routes::walk": "radix_trie AnyTrieCommon::iter",
-    },
+    "least_routes": "Route::precedes for is_table; Plan::of for least",
+    "line_sessions": "converse for serve",
+    "topic_filters": "gather for matching",
+    "frozen_trie": "absent_as_none for FrozenTrie::get_mut; change for FrozenTrie::for_each_mut; "
+                   "read_all for FrozenTexts::read",
+    "radix_keys": "U32KeyInt::byte for U8TrieKey::encode U16TrieKey::encode U32TrieKey::encode U64TrieKey::encode "
+                  "UsizeTrieKey::encode; "
+                  "I16KeyInt::byte for I8TrieKey::encode I16TrieKey::encode I32TrieKey::encode I64TrieKey::encode "
+                  "IsizeTrieKey::encode; "
+                  "U128KeyInt::byte for U128TrieKey::encode; I128KeyInt::byte for I128TrieKey::encode; "
+                  "NibbleVec::from_slice for StringTrieKey::encode RefStrTrieKey::encode RefSliceU8TrieKey::encode "
+                  "NibbleVec::from_byte_vec; "
+                  "NibbleVec::len for NibbleVec::is_empty; NibbleVecClone::clone for NibbleVec::clone; "
+                  "NibbleVec::tail_shifted for NibbleVec::tail; Parts::push_bytes for Parts::push; "
+                  "PartsIterIterator::next for Parts::iter",
+    "radix_trie": "Trie::new for Trie::default; Trie::take_entry_at for Trie::len; Trie::not_kept for Trie::retain; "
+                  "Trie::fill for Trie::get_or_insert; value_at_list for Entry::get_mut; "
+                  "Place::children for Trie::children SubTrie::children SubTrieMut::children; "
+                  "value_behind for SubTrieMut::value_mut; absent_as_none for Trie::get_mut; "
+                  "closed_as_none for Trie::subtrie_mut; key_within for SubTrieMut::key; "
+                  "value_within for SubTrieMut::value; first_within for SubTrieMut::first_key_value; "
+                  "last_within for SubTrieMut::last_key_value; SubTrieMut::insert for TrieEdit::insert; "
+                  "SubTrieMut::remove for TrieEdit::remove; SubTrieMut::retain for TrieEdit::retain; "
+                  "SubTrieMut::remove_prefix for TrieEdit::remove_prefix",
+    "trie_tool": "keyed for parse; line_sessions converse for serve; line_sessions run for answer_all; "
+                 "radix_trie Trie::insert for Numbers::insert; radix_trie Trie::get for Numbers::get; "
+                 "radix_trie Trie::remove for Numbers::remove; radix_trie Trie::remove_prefix for Numbers::prune; "
+                 "radix_trie Trie::footprint for Numbers::footprint; radix_trie AnyTrieCommon::iter for Numbers::all; "
+                 "write_members for add_object",
+    "route_tool": "line_sessions run for answer_all; wrong_with_text for wrong_with; Routes::find for Routes::look; "
+                  "radix_trie Trie::compact for Routes::compact; radix_trie AnyTrieCommon::cursor for Routes::rest; "
+                  "radix_trie AnyTrieCommon::iter for Routes::walk; "
+                  "radix_trie Trie::get_raw_descendant for Routes::below",
 }
 
 # Calls with no wrong body, by the reason.
 NO_EDIT = {
-    "it ends a borrow, and does nothing else": {
-        "radix_trie": "Entry::drop SubTrieMut::drop",
-    },
+    "it ends a borrow, and does nothing else": {"radix_trie": "Entry::drop SubTrieMut::drop"},
     "it returns a field or makes what it is from one, and nothing else of that type is at hand": {
         "line_sessions": "Patient::new WatchedReader::new WatchedWriter::new",
         "frozen_trie": "FrozenTexts::new FrozenTrie::new",
@@ -112,9 +76,7 @@ NO_EDIT = {
         "trie_tool": "Numbers::new",
         "route_tool": "Hop::as_bytes Frozen::new Routes::new Table::new",
     },
-    "it is a trait's, and each program has a body of its own": {
-        "line_sessions": "Program::answer",
-    },
+    "it is a trait's, and each program has a body of its own": {"line_sessions": "Program::answer"},
     "none is written yet": {
         "least_routes": "Route::is_of_width",
         "radix_keys": "Address::parse Address::to_number Tuple2::encode",
@@ -125,4 +87,4 @@ NO_EDIT = {
 
 # Functions that make an error for memory where no call was refused: a tree of more levels than `usize` counts, which
 # no memory holds; encodings of 2^31 bytes; and a network with bits behind its first ones, which there is none of.
-MADE_REFUSALS = {"radix_trie": ("row_height",), "frozen_trie": ("push", "append_to")}
+MADE_REFUSALS = {"radix_trie": "row_height", "frozen_trie": "push append_to"}

@@ -13,24 +13,22 @@
 
 extern void *__libc_malloc(size_t), *__libc_calloc(size_t, size_t), *__libc_realloc(void *, size_t);
 extern void __libc_free(void *);
-static long allocations, allocation, from, held, reads, failing_read, longest_read;
-static long writes, failing_write, longest_write, fault;
-
-static long number(const char *name) {
-  const char *text = getenv(name);
-  return text ? atol(text) : 0;
-}
+enum { ALLOCATION, FROM, READ, READS, WRITE, WRITES, FAULT, LIVE };
+static const char *const names[] = {"ALLOCATION", "FROM", "READ", "READS", "WRITE", "WRITES", "FAULT", "LIVE"};
+static long set[LIVE + 1], allocations, held, reads, writes;
 
 __attribute__((constructor)) static void begin(void) {
-  fault = number("FAULT");
-  failing_read = number("READ"), longest_read = number("READS");
-  failing_write = number("WRITE"), longest_write = number("WRITES");
-  allocation = number("ALLOCATION"), from = number("FROM"), allocations = 0;
+  for (int it = 0; it <= LIVE; it++) set[it] = getenv(names[it]) ? atol(getenv(names[it])) : 0;
+  allocations = 0;
+}
+
+__attribute__((destructor)) static void end(void) {
+  if (set[LIVE]) dprintf(STDERR_FILENO, "%ld pieces of memory\n", held);
 }
 
 static int is_refused(void) {
   allocations++;
-  if (allocations != allocation && (from == 0 || allocations < from)) return 0;
+  if (allocations != set[ALLOCATION] && (set[FROM] == 0 || allocations < set[FROM])) return 0;
   errno = ENOMEM;
   return 1;
 }
@@ -53,25 +51,21 @@ void free(void *memory) {
   __libc_free(memory);
 }
 
-__attribute__((destructor)) static void end(void) {
-  if (number("LIVE")) dprintf(STDERR_FILENO, "%ld pieces of memory\n", held);
-}
-
 static size_t bounded(size_t count, long most) { return most && count > (size_t)most ? (size_t)most : count; }
 
 static ssize_t failed(void) {
-  errno = (int)fault;
-  return fault ? -1 : 0;
+  errno = (int)set[FAULT];
+  return errno ? -1 : 0;
 }
 
 ssize_t read(int file, void *bytes, size_t count) {
-  if (file == STDIN_FILENO && ++reads == failing_read) return failed();
-  struct iovec part = {bytes, file == STDIN_FILENO ? bounded(count, longest_read) : count};
+  if (file == STDIN_FILENO && ++reads == set[READ]) return failed();
+  struct iovec part = {bytes, bounded(count, file == STDIN_FILENO ? set[READS] : 0)};
   return readv(file, &part, 1);
 }
 
 ssize_t write(int file, const void *bytes, size_t count) {
-  if (file == STDOUT_FILENO && ++writes == failing_write) return failed();
-  struct iovec part = {(void *)bytes, file == STDOUT_FILENO ? bounded(count, longest_write) : count};
+  if (file == STDOUT_FILENO && ++writes == set[WRITE]) return failed();
+  struct iovec part = {(void *)bytes, bounded(count, file == STDOUT_FILENO ? set[WRITES] : 0)};
   return writev(file, &part, 1);
 }

@@ -1,41 +1,38 @@
 """Files of a script's own below a folder, by the sums in its manifest: no other file is replaced or removed."""
-import contextlib
 import hashlib
 import os
-import re
+import sys
 
-from shared import Refused, bytes_of, put_bytes, remove, room_in, sum_of, sweep
-
-
-def found(prefix, manifest, places):
-    """Which of these files are there. Where one isn't what was put there, it is named, and nothing is touched."""
-    known = re.findall("[0-9a-f]{64}", (bytes_of(f"{prefix}/{manifest}") or b"").decode("latin-1"))
-    there = [it for it in places if os.path.lexists(f"{prefix}/{it}")]
-    for place in (it for it in there if sum_of(f"{prefix}/{it}") not in known):
-        raise Refused(f"{prefix}/{place} is not what was put there: nothing was touched")
-    return there
+from shared import bytes_of, put_bytes, room_in, take_turn
 
 
-def put(prefix, manifest, there, made):
-    """Puts files, each by its place, its mode and its bytes, and says so. The manifest keeps the sums of what was there
-    too: a run that is killed leaves some of each."""
-    sums = [*(sum_of(f"{prefix}/{it}") for it in there), *(hashlib.sha256(text).hexdigest() for *_, text in made)]
+def hold(script, folders):
+    """Waits until no other run works in these folders, and keeps others out until this one ends."""
+    for folder in folders:
+        turn = os.open(folder, os.O_RDONLY | os.O_DIRECTORY)
+        take_turn(turn, lambda at=folder: print(f"{script}: waiting for another run in {at}", file=sys.stderr))
+
+
+def row(place, found):
+    return f'"{place}": "{found}"'
+
+
+def strange(manifest, there, new):
+    """Of places, each with the sum of what is there, those where that is neither what was put there nor new."""
+    text = (bytes_of(manifest) or b"").decode(errors="surrogateescape")
+    # Earlier versions wrote the rows of a manifest as JSON, or the sums alone.
+    known = {it.strip(" ,") for it in text.split("\n")} | {row(*it) for it in new.items()}
+    return [place for place, found in there.items() if not (found and known & {row(place, found), found})]
+
+
+def put(prefix, manifest, known, made):
+    """Puts files, each by its place, its mode and its bytes. The manifest keeps what is known to be there too, each
+    place with its sum: a run that is killed leaves some of each."""
     # What is no folder is told before any file is put.
     for place, *_ in made:
         os.makedirs(os.path.dirname(f"{prefix}/{place}"), exist_ok=True)
     with room_in(os.path.dirname(f"{prefix}/{manifest}")) as room:
-        put_bytes("\n".join(sums).encode(), f"{prefix}/{manifest}", room)
+        rows = {row(*it) for it in known} | {row(place, hashlib.sha256(text).hexdigest()) for place, _, text in made}
+        put_bytes("\n".join(sorted(rows)).encode(errors="surrogateescape"), f"{prefix}/{manifest}", room)
         for place, mode, text in made:
             put_bytes(text, f"{prefix}/{place}", room, mode)
-            print(f"install: {prefix}/{place}")
-
-
-def take_away(prefix, manifest, there):
-    """Removes these files, and what killed runs have left. Folders that others use stay, also where they are empty."""
-    own = os.path.dirname(f"{prefix}/{manifest}")
-    with contextlib.suppress(FileNotFoundError):
-        sweep(own)
-        for place in [*there, manifest]:
-            remove(f"{prefix}/{place}", os.path.dirname(own))
-    with contextlib.suppress(OSError):
-        os.rmdir(own)

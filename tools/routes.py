@@ -1,12 +1,15 @@
 """A routing table as a plain list, and random lines about it, for the checks of route_tool."""
 import ipaddress
+import os
 import random
+from typing import NamedTuple
 
-from aggregates import answer_alike, fewest
-from shared import ROOT, Refused, ran
+from shared import ROOT, Refused, check_use, ran
 
 WIDTHS = {4: 32, 6: 128}
 PROGRAM = f"{ROOT}/crates/route_tool/out/route_tool"
+NEVER = float("inf")
+OTHER = "a hop that the block hasn't"
 
 
 def text_of_address(version, number):
@@ -16,74 +19,111 @@ def text_of_address(version, number):
     return str((ipaddress.IPv4Address if version == 4 else ipaddress.IPv6Address)(number))
 
 
-class Network:
+class Network(NamedTuple):
     """The addresses of a family that agree in their first bits."""
 
-    def __init__(self, version, number, bits):
-        self.version, self.bits, self.rest = version, bits, WIDTHS[version] - bits
-        self.base = number >> self.rest << self.rest
-        self.place = (version, self.base, bits)
+    version: int
+    base: int
+    bits: int
 
-    def holds(self, version, number):
-        return version == self.version and number >> self.rest == self.base >> self.rest
+    @property
+    def rest(self):
+        return WIDTHS[self.version] - self.bits
 
     def __str__(self):
         return f"{text_of_address(self.version, self.base)}/{self.bits}"
 
 
-class Table:
-    """Networks and their hops, asked one by one."""
+def network_at(version, number, bits):
+    rest = WIDTHS[version] - bits
+    return Network(version, number >> rest << rest, bits)
 
-    def __init__(self):
-        self.routes = {}
 
-    def rows(self, routes):
-        return [str(len(routes)), *(f"{net} {hop}" for net, hop in routes)]
+def network_of(text):
+    read = ipaddress.ip_network(text)
+    return Network(read.version, int(read.network_address), read.prefixlen)
 
-    def below(self, network):
-        return [(net, hop) for net, hop in self.all() if net.bits >= network.bits and network.holds(*net.place[:2])]
+
+class Table(dict):
+    """Hops by their networks."""
+
+    def rows(self, networks):
+        return [str(len(networks)), *(f"{it} {self[it]}" for it in networks)]
 
     def longest(self, version, number):
-        found = [it for it in self.routes.values() if it[0].holds(version, number)]
-        return max(found, key=lambda it: it[0].bits, default=None)
+        """The network of the most bits that holds the address, or nothing."""
+        places = ((version, number >> rest << rest, WIDTHS[version] - rest) for rest in range(WIDTHS[version] + 1))
+        return next((Network(*it) for it in places if it in self), None)
 
-    def add(self, network, hop):
-        old = self.routes.get(network.place)
-        self.routes[network.place] = (network, hop)
-        return f"old {old[1]}" if old else "new"
+    def hop_at(self, version, number):
+        return self.get(self.longest(version, number))
 
-    def remove(self, network):
-        old = self.routes.pop(network.place, None)
-        return old[1] if old else "none"
+    def answer(self, line):
+        """The lines of the answer."""
+        word, text, hop = [*line.split(" ", 2), "", ""][:3]
+        if word in ("", "#"):
+            return []
+        if word in ("len", "compact"):
+            return [str(len(self))]
+        if word == "aggregate":
+            return Aggregate(self)
+        if word == "list":
+            return self.rows(sorted(self))
+        network = network_of(text)
+        if word == "below":
+            last = network.base + (1 << network.rest) - 1
+            found = (it for it in self if it.version == network.version and it.bits >= network.bits)
+            return self.rows(sorted(it for it in found if network.base <= it.base <= last))
+        if word in ("look", "find"):
+            found = self.longest(*network[:2])
+            return ["none" if found is None else f"{found} {self[found]}" if word == "find" else self[found]]
+        old = self.pop(network, None)
+        if word == "del":
+            return [old or "none"]
+        self[network] = hop
+        return [f"old {old}" if old else "new"]
 
-    def all(self):
-        return sorted(self.routes.values(), key=lambda it: it[0].place)
+
+def costs(rows, base, rest, above):
+    """How many routes a block of addresses needs by what is given from above: a hop, None for nothing, or OTHER. The
+    block's addresses differ in `rest` last bits, its networks and hops are in order, and where none of them holds an
+    address its answer is `above`."""
+    if rows and rows[0][0].rest == rest:
+        above, rows = rows[0][1], rows[1:]
+    if not rows:
+        return {above: 0, OTHER: NEVER if above is None else 1}
+    middle = base + (1 << rest - 1)
+    low = costs([it for it in rows if it[0].base < middle], base, rest - 1, above)
+    high = costs([it for it in rows if it[0].base >= middle], middle, rest - 1, above)
+    both = {hop: low.get(hop, low[OTHER]) + high.get(hop, high[OTHER]) for hop in {*low, *high}}
+    own = 1 + min(cost for hop, cost in both.items() if hop is not None)
+    return {hop: min(cost, own) for hop, cost in both.items()}
 
 
 class Aggregate:
     """The answer to `aggregate`: any list that is least."""
 
     def __init__(self, table):
-        self.routes = self.by_family(table.all())
-        self.count = sum(fewest(self.routes[it], width) for it, width in WIDTHS.items())
-
-    def by_family(self, routes):
-        return {it: [(net.base, net.bits, hop) for net, hop in routes if net.version == it] for it in WIDTHS}
+        self.table, self.count = Table(table), 0
+        for version, width in WIDTHS.items():
+            found = costs(sorted(it for it in table.items() if it[0].version == version), 0, width, None)
+            self.count += found.get(None, found[OTHER])
 
     def __len__(self):
         return 1 + self.count
 
     def __eq__(self, lines):
         rows = [line.split(" ", 1) for line in lines[1:]]
-        read = [ipaddress.ip_network(text) for text, _ in rows]
-        nets = [Network(it.version, int(it.network_address), it.prefixlen) for it in read]
-        routes = self.by_family([*zip(nets, (hop for _, hop in rows))])
-        return (
-            lines[:1] == [str(self.count)]
-            and [str(it) for it in nets] == [text for text, _ in rows]
-            and [it.place for it in nets] == sorted({it.place for it in nets})
-            and all(answer_alike(self.routes[it], routes[it], width) for it, width in WIDTHS.items())
-        )
+        networks = [network_of(text) for text, _ in rows]
+        return (lines[:1] == [str(self.count)] and [str(it) for it in networks] == [text for text, _ in rows]
+                and networks == sorted({*networks}) and self.is_alike(Table(zip(networks, (hop for _, hop in rows)))))
+
+    def is_alike(self, other):
+        """Whether both answer the same for the first address of each network and the first behind it: between these
+        neither answer changes."""
+        ends = {(it.version, end) for it in (*self.table, *other) for end in (it.base, it.base + (1 << it.rest))}
+        ends = [it for it in (*ends, (4, 0), (6, 0)) if it[1] < 1 << WIDTHS[it[0]]]
+        return all(self.table.hop_at(*it) == other.hop_at(*it) for it in ends)
 
     def __repr__(self):
         return f"a list of {self.count} routes with the same answers"
@@ -95,82 +135,69 @@ MIXED = (80, 24, 40, 30, 12, 6, 2, 1, 2, 4, 2)
 SELDOM = (1, 1, 300, 200, 5, 2, 1, 0, 1, 1, 1)
 
 
-class Lines:
-    """Random lines of a session, and their answers by a plain list."""
+class Lines(random.Random):
+    """Random lines of a session."""
 
     # How many first bits of an address drawn before are kept at least.
     kept = 0
 
     def __init__(self, seed):
-        self.random, self.table, self.pool = random.Random(seed), Table(), []
+        super().__init__(seed)
+        self.pool = []
 
     def fresh(self, version):
-        return self.random.getrandbits(WIDTHS[version])
+        return self.getrandbits(WIDTHS[version])
 
     def number(self, version):
         """An address, mostly one near to others that were drawn."""
         width, number = WIDTHS[version], self.fresh(version)
         near = [it for it in self.pool if it[0] == version]
-        if near and self.random.random() < 0.8:
-            kept = self.random.choice((self.random.randrange(self.kept, width + 1), width))
-            number = self.random.choice(near)[1] >> (width - kept) << (width - kept) | number & (1 << width - kept) - 1
+        if near and self.random() < 0.8:
+            rest = width - self.choice((self.randrange(self.kept, width + 1), width))
+            number = self.choice(near)[1] >> rest << rest | number & (1 << rest) - 1
         self.pool = [*self.pool[-200:], (version, number)]
         return number
 
     def network(self):
-        version = self.random.choice((4, 6))
-        bits = self.random.choice((self.random.randrange(WIDTHS[version] + 1), WIDTHS[version], 8, 16, 24))
-        return Network(version, self.number(version), bits)
+        version = self.choice((4, 6))
+        bits = self.choice((self.randrange(WIDTHS[version] + 1), WIDTHS[version], 8, 16, 24))
+        return network_at(version, self.number(version), bits)
 
     def written(self, version, number):
         """One of the forms of an address."""
         if version == 4:
             return text_of_address(4, number)
         address = ipaddress.IPv6Address(number)
-        groups = address.exploded.split(":")
-        dotted = ":".join((*groups[:6], str(ipaddress.IPv4Address(number & 0xFFFFFFFF))))
-        return self.random.choice((address.compressed, address.exploded, address.exploded.upper(), dotted))
+        dotted = f"{address.exploded[:30]}{ipaddress.IPv4Address(number & 0xFFFFFFFF)}"
+        return self.choice((address.compressed, address.exploded, address.exploded.upper(), dotted))
 
     def text(self, network):
-        text = self.written(network.version, network.base)
-        is_host = network.bits == WIDTHS[network.version]
-        return text if is_host and self.random.random() < 0.5 else f"{text}/{network.bits}"
+        text = self.written(*network[:2])
+        return text if not network.rest and self.random() < 0.5 else f"{text}/{network.bits}"
 
     def hop(self):
-        return self.random.choice(("a", "via 192.0.2.1", "é ü", "x" * self.random.randrange(1, 60), "#", "10.0.0.0/8"))
+        return self.choice(("a", "via 192.0.2.1", "é ü", "x" * self.randrange(1, 60), "#", "10.0.0.0/8"))
 
     def next(self, shares=MIXED):
-        """A line, and the lines of its answer."""
-        word = self.random.choices(WORDS, shares)[0]
+        word = self.choices(WORDS, shares)[0]
         if word in ("look", "find"):
-            version = self.random.choice((4, 6))
-            number = self.number(version)
-            found = self.table.longest(version, number)
-            answer = "none" if found is None else found[1] if word == "look" else f"{found[0]} {found[1]}"
-            return f"{word} {self.written(version, number)}", [answer]
+            version = self.choice((4, 6))
+            return f"{word} {self.written(version, self.number(version))}"
         if word in ("add", "del", "below"):
-            network = self.network()
-            line = f"{word} {self.text(network)}"
-            if word == "add":
-                hop = self.hop()
-                return f"{line} {hop}", [self.table.add(network, hop)]
-            return line, [self.table.remove(network)] if word == "del" else self.table.rows(self.table.below(network))
-        if word == "#":
-            return f"# {self.hop()}", []
-        if word == "list":
-            return word, self.table.rows(self.table.all())
-        if word == "aggregate":
-            return word, Aggregate(self.table)
-        return word, [str(len(self.table.routes))] if word in ("len", "compact") else []
+            line = f"{word} {self.text(self.network())}"
+            return f"{line} {self.hop()}" if word == "add" else line
+        return f"# {self.hop()}" if word == "#" else word
 
 
 def answers(lines, program=PROGRAM):
     """What route_tool answers to these lines, by lines, its text on standard error and its status."""
-    given = "".join(f"{it}\n" for it in lines).encode()
-    said = ran([program], given, 120)
+    said = ran([program], "".join(f"{it}\n" for it in lines).encode(), 120)
     return said.stdout.decode().splitlines(), said.stderr.decode(), said.returncode
 
 
-def need_program():
-    if ran(["test", "-x", PROGRAM]).returncode:
+def seed_of(words):
+    """The seed that a script is started with, or 1. It needs the program."""
+    check_use(len(words) <= 1 and all(it.isascii() and it.isdigit() for it in words))
+    if not os.access(PROGRAM, os.X_OK):
         raise Refused("crates/route_tool isn't built: `rt ci route_tool` builds it")
+    return int(words[0]) if words else 1

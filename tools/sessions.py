@@ -9,25 +9,52 @@ of its lines but those of `% ` stands for itself, and one that begins with none 
 """
 import copy
 import functools
-import os
+import itertools
+import pathlib
 import re
+import time
 
 from shared import ROOT
 
 READ_FAILED = b"read failed\n", 1
-# What the calls of trie_shell that open a view are called in the library, and the view.
-OPENERS = {"open": ("subtrie", "SubTrie"), **{it: (it, "SubTrieMut") for it in ("open_mut", "subtrie_mut")}}
-WITHS = {"with": "open_mut", "with_subtrie_mut": "subtrie_mut"}
-# What the lines of walks call: of a trie or a view, and then of a walk.
-WALKS = {"cursor": ("cursor", "Cursor::next"), "cursor_back": ("cursor_back", "CursorBack::next"),
-         **{it: ("range", "Cursor::reserved") for it in ("iter_from", "iter_after")},
-         **{it: ("range", "Cursor::next") for it in ("cursor_from", "cursor_after", "between", "between_inclusive",
-                                                     "between_exclusive")},
-         **{it: ("range_back", "CursorBack::next") for it in ("cursor_back_from", "cursor_back_before",
-                                                              "between_back")}}
-# What references to tries and to views have in common.
-COMMON = ("iter", "keys", "values", "prefix", *(of for of, _ in WALKS.values()))
-PARTS = {"nibblet": "Nibblet", "bits": "Bits", "ipv4": "Network", "ipv6": "Network", "parts": "Parts"}
+# Failing lines are left out for at most so long.
+SECONDS = 30
+# What a line of trie_shell calls in the library, by the first pattern that its beginning is like, up to a space or the
+# end; PLACE is the view that is open, or the trie. Views and tries have in common what is called by a reference.
+CALLS = [
+    (r"frozen \S* (\S*)", r"FrozenTrie::\1"),
+    (r"frozen|keys \S*", ""),
+    (r"open", "Trie::subtrie"),
+    (r"open_mut|with", "Trie::open_mut"),
+    (r"subtrie_mut|with_subtrie_mut", "Trie::subtrie_mut"),
+    (r"encode &String.*", "&T::encode"),
+    (r"encode &mut.*", "&mut T::encode"),
+    (r"encode \[.*", "[u8; N]::encode"),
+    (r"encode \(.*", "(A, B)::encode"),
+    (r"encode ([^ <]*).*", r"\1::encode"),
+    (r"encode_bytes", "TrieKey::encode_bytes"),
+    (r"entry", "Trie::entry + Entry::key + Entry::get + Entry::is_occupied"),
+    (r"entry_(\S*)", r"Trie::entry + Entry::\1"),
+    (r"nibblet (\S*)", r"Nibblet::\1"),
+    (r"bits (\S*)", r"Bits::\1"),
+    (r"ipv[46] (\S*)", r"Network::\1"),
+    (r"parts (\S*)", r"Parts::\1"),
+    (r"check_integrity", "Trie::check_integrity + TrieNode::check_integrity_recursive"),
+    (r"json", "from_value + to_value"),
+    (r"write", "FrozenTexts::write"),
+    (r"read", "FrozenTexts::read + FrozenTrie::push + FrozenTrie::finish"),
+    (r"(run|freeze|frozen_copy)", r"\1"),
+    (r"(from_sorted|thaw)", r"FrozenTrie::\1"),
+    (r"into_children", "SubTrieMut::into_children"),
+    (r"intersection|union|difference", "Combination::new + Combination::next"),
+    (r"cursor", "&PLACE::cursor + Cursor::next"),
+    (r"cursor_back", "&PLACE::cursor_back + CursorBack::next"),
+    (r"iter_from|iter_after", "&PLACE::range + Cursor::reserved"),
+    (r"cursor_from|cursor_after|between|between_inclusive|between_exclusive", "&PLACE::range + Cursor::next"),
+    (r"cursor_back_from|cursor_back_before|between_back", "&PLACE::range_back + CursorBack::next"),
+    (r"(iter|keys|values|prefix)", r"&PLACE::\1"),
+    (r"(\S*)", r"PLACE::\1"),
+]
 ESCAPE = re.compile(rb"\\(?:x([0-9a-f]{2})|\((.)\*(\d+)\)|(\\))")
 
 
@@ -78,10 +105,6 @@ class Session:
     def text(self):
         return b"".join(it.line for it in self.exchanges)
 
-    @property
-    def has_files(self):
-        return any(it.line.startswith((b"save ", b"load ", b"write ", b"read ")) for it in self.exchanges)
-
     def in_place(self, text):
         """What is run in place of this session: the same, with another text."""
         found = copy.copy(self)
@@ -103,10 +126,7 @@ class Session:
 
     def beginnings(self):
         """The answers to the first lines, for each count of lines."""
-        found = [b""]
-        for it in self.exchanges:
-            found.append(found[-1] + it.answer)
-        return found
+        return [*itertools.accumulate((it.answer for it in self.exchanges), initial=b"")]
 
 
 def unescaped(text):
@@ -121,15 +141,12 @@ def sessions_of(program):
     """The sessions of all files in the program's folder."""
     found = []
     for kind in ("sessions", "runs"):
-        folder = f"{ROOT}/crates/{program}/{kind}"
-        for name in sorted(os.listdir(folder)) if os.path.isdir(folder) else []:
-            with open(f"{folder}/{name}", "rb") as file:
-                lines = [*filter(None, file.read().split(b"\n"))]
-            found += [Session(name)] if kind == "runs" else []
-            for line in lines:
+        for path in sorted(pathlib.Path(ROOT, "crates", program, kind).glob("*")):
+            found += [Session(path.name)] if kind == "runs" else []
+            for line in filter(None, path.read_bytes().split(b"\n")):
                 if line.startswith(b"= "):
                     title = line[2:].decode()
-                    found.append(Session(f"{name}: {title}" if kind == "runs" else title))
+                    found.append(Session(f"{path.name}: {title}" if kind == "runs" else title))
                 elif kind == "runs":
                     found[-1].add_plain(line)
                 else:
@@ -137,62 +154,55 @@ def sessions_of(program):
     return [it for it in found if it.exchanges]
 
 
-def bare_type(name):
-    """A type as tools/texts names it, by the word that trie_shell has for it."""
-    for start, bare in (("&String", "&T"), ("&mut", "&mut T"), ("[", "[u8; N]"), ("(", "(A, B)")):
-        if name.startswith(start):
-            return bare
-    return name.split("<")[0]
+def unlike(lines, answers, said):
+    """The first wrong one of the answers to these lines, each of which is a list of lines or equals one, or nothing."""
+    at = 0
+    for number, (line, answer) in enumerate(zip(lines, answers), 1):
+        came = said[at : at + len(answer)]
+        at += len(answer)
+        if answer != came:
+            rows = itertools.zip_longest(answer, came) if isinstance(answer, list) else [(answer, came)]
+            one, other = next(it for it in rows if it[0] != it[1])
+            return f"line {number}, {line!r:.200}: wanted {one!r:.200}, came {other!r:.200}"
+    return f"{said[at]!r:.200} came behind all answers" if at < len(said) else ""
 
 
-def calls_of(words, place):
+def least(lines, fault, kept=0):
+    """Says which of the lines still fail without the others: these go many at a time, and at last one by one, but for
+    so many first ones."""
+    size, end = len(lines) // 2, time.monotonic() + SECONDS
+    while size:
+        for place in range(len(lines) - size, kept - 1, -size):
+            rest = [*lines[:place], *lines[place + size :]]
+            lines = rest if time.monotonic() < end and fault(rest) else lines
+        size //= 2
+    return "; without its other lines:\n" + "".join(f"{it}\n" for it in lines)
+
+
+def calls_of(line, place):
     """The library's calls that a line of trie_shell makes, in the view that is open, or in the trie."""
-    name, *rest = words or [""]
-    if name == "keys" and rest:
-        return []
-    if name in OPENERS:
-        return [f"Trie::{OPENERS[name][0]}"]
-    if name in WITHS:
-        inner = " ".join(rest[1:]).split(" ; ")
-        return [f"Trie::{WITHS[name]}", *(it for call in inner for it in calls_of(call.split(" "), "SubTrieMut"))]
-    if name == "spend":
-        of, *steps = WALKS.get(rest[0], (rest[0],))
-        return [f"SubTrieMut::{of}", *steps]
+    name, _, rest = line.partition(" ")
     if name == "into_trie":
         return calls_of(rest, "Trie")
-    if name in ("encode", "encode_bytes"):
-        return [f"{bare_type(rest[0])}::encode"] if name == "encode" else ["TrieKey::encode_bytes"]
-    if name == "entry":
-        return ["Trie::entry", "Entry::key", "Entry::get", "Entry::is_occupied"]
-    if name.startswith("entry_"):
-        return ["Trie::entry", f"Entry::{name.removeprefix('entry_')}"]
-    if name in PARTS:
-        return [f"{PARTS[name]}::{rest[0]}"]
-    if name == "check_integrity":
-        return ["Trie::check_integrity", "TrieNode::check_integrity_recursive"]
-    if name == "frozen":
-        return [f"FrozenTrie::{it}" for it in rest[1:2]]
-    plain = {"run": ["run"], "json": ["from_value", "to_value"], "into_children": ["SubTrieMut::into_children"],
-             "freeze": ["freeze"], "frozen_copy": ["frozen_copy"], "write": ["FrozenTexts::write"],
-             "read": ["FrozenTexts::read", "FrozenTrie::push", "FrozenTrie::finish"],
-             **{it: [f"FrozenTrie::{it}"] for it in ("from_sorted", "thaw")},
-             **{it: ["Combination::new", "Combination::next"] for it in ("intersection", "union", "difference")}}
-    of, *steps = WALKS.get(name, (name,))
-    return plain.get(name) or [f"&{place}::{of}" if of in COMMON else f"{place}::{of}", *steps]
+    if name == "spend":
+        return [it.removeprefix("&") for it in calls_of(rest, "SubTrieMut")]
+    finds = ((re.fullmatch(f"(?:{pattern})(?: .*)?", line), calls) for pattern, calls in CALLS)
+    text = next(found.expand(calls) for found, calls in finds if found).replace("PLACE", place)
+    inner = rest.partition(" ")[2].split(" ; ") if name in ("with", "with_subtrie_mut") else []
+    return [*filter(None, text.split(" + ")), *(it for call in inner for it in calls_of(call, "SubTrieMut"))]
 
 
 def shell_calls(session):
     """Each exchange of a session of trie_shell, the library's calls in it, and whether they are said to be light."""
     places = ["Trie"]
     for it in session.exchanges:
-        words = it.line.decode(errors="replace").rstrip("\n").split(" ")
-        is_light = words[0] == "light"
-        words = words[is_light:]
-        yield it, calls_of(words, places[-1]), is_light
-        if words[0] in OPENERS and b" " in it.answer.replace(b"no key", b""):
-            places.append(OPENERS[words[0]][1])
-        elif words[0] == "close":
-            places = places[:-1]
-        elif words[0] == "use" or words[:1] == ["keys"] and len(words) == 2:
+        line = it.line.decode(errors="replace").rstrip("\n")
+        is_light, line = line.split(" ")[0] == "light", line.removeprefix("light ")
+        yield it, calls_of(line, places[-1]), is_light
+        name, *rest = line.split(" ")
+        if name in ("open", "open_mut", "subtrie_mut") and b" " in it.answer.replace(b"no key", b""):
+            places.append("SubTrie" if name == "open" else "SubTrieMut")
+        elif name == "close":
+            places = places[:-1] or places
+        elif name == "use" or name == "keys" and len(rest) == 1:
             places = ["Trie"]
-        places = places or ["Trie"]

@@ -21,6 +21,8 @@ MOST = 64_000_000
 # What the C library's allocator is set to for a program where the user has set nothing (docs/BENCHMARKS.md): large
 # pages, and no bins of small pieces that are merged late. A library that knows no such setting passes over it.
 ALLOCATOR = "glibc.malloc.hugetlb=1:glibc.malloc.mxfast=0"
+# A folder for what a run makes: a name that nobody gives by chance, and that no two users share.
+ROOM = f".room-of-nifazombi-{os.geteuid()}"
 ENDING = (signal.SIGHUP, signal.SIGINT, signal.SIGTERM)
 STARTED, STARTING, ENDED_BY = set(), [], []
 
@@ -43,30 +45,25 @@ def bytes_of(path, links=os.O_NOFOLLOW):
     """The bytes of a plain file, or None where there is nothing. A pipe or a folder is refused, and so is a huge file,
     and a link where these aren't followed."""
     try:
-        file = os.open(path, os.O_RDONLY | os.O_NONBLOCK | links)
+        file = open(path, "rb", opener=lambda it, _: os.open(it, os.O_RDONLY | os.O_NONBLOCK | links))
     except (FileNotFoundError, NotADirectoryError):
         return None
-    except PermissionError:
-        raise Refused(f"{path} can't be read") from None
-    except OSError:
-        raise Refused(f"{path} is no plain file") from None
-    try:
-        found = os.fstat(file)
+    except OSError as error:
+        raise Refused(f"{path} is no plain file that can be read: {error.strerror}") from None
+    with file:
+        found = os.fstat(file.fileno())
         if not stat.S_ISREG(found.st_mode) or found.st_size > MOST:
             raise Refused(f"{path} is no plain file, or one of more than {MOST:,} bytes")
-        with open(file, "rb", closefd=False) as opened:
-            return opened.read()
-    finally:
-        os.close(file)
+        return file.read()
 
 
-def read_text(path):
+def read_text(path, errors="strict"):
     """The text of a plain file, or of one behind links. Where there is none, or it isn't UTF-8, it is refused."""
     found = bytes_of(path, 0)
     if found is None:
         raise Refused(f"{path} isn't there")
     try:
-        return found.decode()
+        return found.decode(errors=errors)
     except UnicodeDecodeError:
         raise Refused(f"{path} isn't UTF-8") from None
 
@@ -83,11 +80,8 @@ def put_bytes(text, to, room, mode=0o644):
     """Writes a file by way of the folder room, on the same disk, so that no half of it is ever there. With the mode
     None a file that stands there keeps its own, and its owner as far as that can be."""
     os.makedirs(os.path.dirname(to), exist_ok=True)
-    with open(f"{room}/file", "wb") as file:
+    with open(f"{room}/file", "wb", opener=lambda it, flags: os.open(it, flags, mode or 0o644)) as file:
         file.write(text)
-    mask = os.umask(0)
-    os.umask(mask)
-    os.chmod(f"{room}/file", (0o644 if mode is None else mode) & ~mask)
     if mode is None and os.path.exists(to):
         found = os.stat(to)
         with contextlib.suppress(OSError):
@@ -96,30 +90,20 @@ def put_bytes(text, to, room, mode=0o644):
     os.replace(f"{room}/file", to)
 
 
-def room_name(number):
-    """The name of a room: one that nobody gives by chance, since its second half is a sum of its first."""
-    return f".room-{number}-{hashlib.sha256(f'a room of nifazombi, {number}'.encode()).hexdigest()[:16]}"
-
-
 def sweep(folder):
-    """Removes the rooms in a folder that a run which was killed has left."""
-    for name in os.listdir(folder):
-        found = re.fullmatch(r"\.room-([0-9a-f]{16})-[0-9a-f]{16}", name)
-        if found and name == room_name(found[1]):
-            shutil.rmtree(f"{folder}/{name}", ignore_errors=True)
+    """Removes the room in a folder that a run which was killed has left."""
+    shutil.rmtree(f"{folder}/{ROOM}", ignore_errors=True)
 
 
 @contextlib.contextmanager
 def room_in(folder):
-    """A room: a folder for what is being made, which goes where this is left, with those that killed runs have left.
-    The caller keeps other runs out."""
+    """A room: a folder for what is being made, which goes where this is left. The caller keeps other runs out."""
     sweep(folder)
-    room = f"{folder}/{room_name(os.urandom(8).hex())}"
-    os.mkdir(room, 0o700)
+    os.mkdir(f"{folder}/{ROOM}", 0o700)
     try:
-        yield room
+        yield f"{folder}/{ROOM}"
     finally:
-        shutil.rmtree(room, ignore_errors=True)
+        sweep(folder)
 
 
 def remove(path, top):
@@ -150,10 +134,8 @@ def files_in(folder, but=None):
 
 def uses_of_crates():
     """The crates of crates.txt, each with those that its line names."""
-    text = bytes_of(f"{ROOT}/crates.txt", 0)
-    if text is None:
-        raise Refused(f"{ROOT}/crates.txt isn't there")
-    rows = [row.partition("#")[0].partition(":") for row in text.decode(errors="surrogateescape").split("\n")]
+    lines = read_text(f"{ROOT}/crates.txt", "surrogateescape").split("\n")
+    rows = [line.partition("#")[0].partition(":") for line in lines]
     return {head.split()[0]: uses.split() for head, found, uses in rows if found and head.split()}
 
 
@@ -169,12 +151,14 @@ class Tally:
         self.passed = self.failed = 0
         self.alone = threading.Lock()
 
-    def count(self, name, is_well, said=""):
+    def add(self, passed, failed, *lines):
+        """Adds to the counts, and says these lines."""
         with self.alone:
-            self.passed += bool(is_well)
-            self.failed += not is_well
-            if not is_well:
-                print(f"FAILED: {name}{': ' if said else ''}{said}", flush=True)
+            self.passed, self.failed = self.passed + passed, self.failed + failed
+            print(*(f"{it}\n" for it in lines), sep="", end="", flush=True)
+
+    def count(self, name, is_well, said=""):
+        self.add(bool(is_well), not is_well, *([] if is_well else [f"FAILED: {name}{': ' if said else ''}{said}"]))
 
     def told(self):
         """Says the counts, and answers the status."""

@@ -27,10 +27,6 @@ def rows(lines):
     return "\n".join(lines) or "none"
 
 
-def truth(is_so):
-    return "true" if is_so else "false"
-
-
 class Trie:
     """Numbers by their lists, and the points of these."""
 
@@ -49,13 +45,11 @@ class Trie:
     def change(self, pairs):
         """Stores each number at its list, or nothing."""
         for at, number in pairs:
-            if (at in self.pairs) != (number is not None):
-                self.__dict__.pop("lists", None)
-                self.__dict__.pop("points", None)
+            self.pairs[at] = number
             if number is None:
-                self.pairs.pop(at, None)
-            else:
-                self.pairs[at] = number
+                del self.pairs[at]
+        for it in ("lists", "points"):
+            self.__dict__.pop(it, None)
         return "ok"
 
     def cut(self, path=""):
@@ -239,24 +233,10 @@ def run(v, commands):
             view, is_open = View(v.shell, v.trie, *read), read[0] in v.points
             said.append("replies" if is_open else "closed")
         elif is_open:
-            said.append(reply(view, name, read))
+            said.append(inside(COMMANDS[name][1])(view, *read) if read else COMMANDS[name][1](view))
         if name == "end":
             view, is_open = v, True
     return rows(said)
-
-
-def reply(view, name, read):
-    """The line of a reply to a command in the view, or the one behind all of them."""
-    at = read[0] if read else view.path
-    if not at.startswith(view.path):
-        return "outside"
-    if name in ("len", "end"):
-        return name if name == "end" else str(len(view.below))
-    if name == "ancestor":
-        return f"found {view.values(*view.above(at))}"
-    if name == "remove_prefix":
-        return " ".join(["gone", *map(str, view.cut(at).values())])
-    return f"{'found' if name == 'get' else 'old'} {CALLS[name][2](view, *read)}"
 
 
 def opened(v, at, places, absent):
@@ -274,137 +254,135 @@ def in_with(v, at, lines, absent):
     return "\n".join(v.shell.call(it.removeprefix("light "), view, "wx") for it in lines)
 
 
-# A call's words, where it can be made, and what it answers. The words: K a key to store, T a topic, Q a key or a list
-# to look up, q none or one, L a list, N a number, P pairs, S pairs in order, M a name, O that of a trie that there is,
-# F that of a frozen trie, G that of one that there is, c a call that tries and views have in common, t a call of a trie
-# or of a view, f one of a frozen trie, v calls of a view, r commands. The places: t tries, n the current one where no
-# view is open, r views for reading, w views for writing, x these, which the call takes, c behind `spend`, f frozen
-# tries, s anywhere, but behind no other call. And l: it takes no memory, m: it takes none where its list has at most 32
-# nibbles.
-CALLS = {
-    "key": ("", "trwcl", lambda v: v.named({v.path} & v.pairs.keys())),
-    "value": ("", "trwcl", lambda v: v.values(v.path)),
-    "len": ("", "trwcfl", lambda v: str(len(v.below))),
-    "is_empty": ("", "trwcfl", lambda v: truth(not v.below)),
-    "is_leaf": ("", "trwcl", lambda v: truth(v.below in ([], [v.path]))),
-    "prefix": ("", "trwc", lambda v: v.fragment or QUOTES),
-    "iter": ("", "trwcf", lambda v: v.told(v.below)),
-    "keys": ("", "trwcf", lambda v: v.named(v.below)),
-    "values": ("", "trwcf", lambda v: v.values(*v.below)),
-    "iter_from": ("Q", "trwcf", lambda v, at: v.told(it for it in v.below if it >= at)),
-    "iter_after": ("Q", "trwcf", lambda v, at: v.told(it for it in v.below if it > at)),
-    "cursor": ("", "trwc", lambda v: v.told(v.below)),
-    "cursor_from": ("Q", "trwc", lambda v, at: v.told(it for it in v.below if it >= at)),
-    "cursor_after": ("Q", "trwc", lambda v, at: v.told(it for it in v.below if it > at)),
-    "cursor_back": ("", "trwc", lambda v: v.told(reversed(v.below))),
-    "cursor_back_from": ("Q", "trwc", lambda v, at: v.told(it for it in reversed(v.below) if it <= at)),
-    "cursor_back_before": ("Q", "trwc", lambda v, at: v.told(it for it in reversed(v.below) if it < at)),
-    "between": ("QQ", "trwf", lambda v, at, end: v.told(it for it in v.below if at <= it < end)),
-    "between_inclusive": ("QQ", "trw", lambda v, at, end: v.told(it for it in v.below if at <= it <= end)),
-    "between_exclusive": ("QQ", "trw", lambda v, at, end: v.told(it for it in v.below if at < it < end)),
-    "between_back": ("QQ", "trw", lambda v, at, end: v.told(it for it in reversed(v.below) if at <= it < end)),
-    "first_key_value": ("", "trwcfl", lambda v: v.told(v.below[:1])),
-    "last_key_value": ("", "trwcfl", lambda v: v.told(v.below[-1:])),
-    "path": ("", "rw", lambda v: v.path or QUOTES),
-    "get": ("Q", "trwfm", inside(lambda v, at: v.values(at))),
-    "count_below": ("Q", "trwfm", inside(lambda v, at: str(len(starting(v.lists, at))))),
-    "children": ("", "trw", lambda v: v.views(*v.children(v.path))),
-    "debug": ("", "trw", lambda v: v.debug()),
-    "subtrie": ("Q", "trm", inside(lambda v, at: v.views(at))),
-    "first_below": ("QN", "trf", inside(lambda v, at, most: v.told(starting(v.lists, at)[:most]))),
-    "insert": ("KN", "tw", inside(lambda v, at, number: v.put(at, number))),
-    "remove": ("Q", "tw", inside(lambda v, at: v.put(at, None))),
-    "remove_prefix": ("Q", "tw", inside(lambda v, at: v.taken(starting(v.lists, at)))),
-    "value_mut": ("N", "twl", lambda v, number: v.written(v.path, number)),
-    "for_each_mut": ("KN", "twf", lambda v, other, added: v.add(added, v.below, other)),
-    "retain": ("N", "tw", lambda v, least: v.retain(least, v.below)),
-    "get_counted": ("Q", "tm", lambda v, at: f"{v.values(at)} {v.cost(at)[1]}"),
-    "get_with_cost": ("Q", "tm", lambda v, at: f"{v.values(at)} {v.cost(at)[0]} {v.cost(at)[1]}"),
-    "contains_key": ("Q", "tfm", lambda v, at: truth(at in v.pairs)),
-    "get_key_value": ("Q", "tfm", lambda v, at: v.told([at])),
-    "get_ancestor": ("Q", "tfm", lambda v, at: v.views(*v.above(at))),
-    "get_ancestor_value": ("Q", "tfm", lambda v, at: v.values(*v.above(at))),
-    "get_raw_ancestor": ("Q", "tm", lambda v, at: v.views(beginnings(v.points, at)[-1])),
-    "get_raw_descendant": ("Q", "tm", lambda v, at: v.views(v.point_below(at))),
-    "common_prefixes": ("Q", "tfm", lambda v, at: v.told(beginnings(v.lists, at))),
-    "first_after": ("QQN", "t", lambda v, at, last, n: v.told([it for it in starting(v.lists, at) if it > last][:n])),
-    "at": ("L", "tfl", lambda v, at: v.values(at)),
-    "contains": ("L", "tfl", lambda v, at: truth(at in v.pairs)),
-    "nearest": ("L", "tfl", lambda v, at: v.told(v.above(at))),
-    "nearest_value": ("L", "tfl", lambda v, at: v.values(*v.above(at))),
-    "nearest_with_cost": ("L", "tl", lambda v, at: "{} {} {}".format(v.told(v.above(at)), *v.cost(at))),
-    "footprint": ("", "tl", lambda v: "{} {}".format(*v.footprint())),
-    "check_integrity": ("", "t", lambda v: "true"),
-    "remove_entry": ("Q", "t", lambda v, at: v.taken([at])),
-    "map_with_default": ("KNN", "t", lambda v, at, added, number: v.add(added, [at]) if at in v.pairs else
-                         v.change([(at, number)])),
-    "try_insert": ("KN", "t", lambda v, at, number: "occupied" if at in v.pairs else v.change([(at, number)])),
-    "get_or_insert": ("KNN", "t", lambda v, at, default, number: v.put(at, number, default)),
-    "entry": ("K", "t", lambda v, at: f"{v.words[at]} {v.values(at)} {truth(at in v.pairs)}"),
-    "entry_into_key": ("K", "t", lambda v, at: v.words[at]),
-    "entry_get_mut": ("KN", "t", View.written),
-    "entry_insert": ("KN", "t", View.put),
-    "entry_or_insert": ("KNN", "t", lambda v, at, default, number: v.put(at, number, default)),
-    "entry_or_insert_with": ("KNN", "t", lambda v, at, default, number: v.put(at, number, default)),
-    "entry_and_modify": ("KN", "t", lambda v, at, added: v.add(added, [at] if at in v.pairs else [])),
-    "entry_remove": ("K", "t", lambda v, at: v.taken([at])),
-    "get_mut": ("QN", "tfm", View.written),
-    "find_mut": ("QN", "tfm", lambda v, at, number: v.written(at, number, "absent")),
-    "find_ancestor_mut": ("QN", "tm", lambda v, at, number: v.put(*v.above(at), number) if v.above(at) else "absent"),
-    "at_mut": ("LN", "tfl", View.written),
-    "pop_first": ("", "t", lambda v: v.taken(v.below[:1])),
-    "pop_last": ("", "t", lambda v: v.taken(v.below[-1:])),
-    "into_pairs": ("", "t", lambda v: v.taken(v.below)),
-    "clear": ("", "tl", lambda v: v.retain(NUMBERS, v.below)),
-    "compact": ("", "t", lambda v: "ok"),
-    "for_each_mut_below": ("QKN", "t", lambda v, at, other, added: v.add(added, starting(v.lists, at), other)),
-    "retain_below": ("QN", "t", lambda v, at, least: v.retain(least, starting(v.lists, at))),
-    "extend": ("P", "t", lambda v, pairs: v.change(pairs)),
-    "from_iter": ("P", "t", lambda v, pairs: v.change([*((it, None) for it in v.below), *pairs])),
-    "draw": ("q", "t", View.draw),
-    "dot": ("", "t", View.dot),
-    "stats": ("", "t", View.stats),
-    "to_ascending": ("", "t", View.to_ascending),
-    "matching": ("T", "t", View.matching),
-    "run": ("r", "t", run),
-    "with": ("Qv", "n", lambda v, at, lines: in_with(v, at, lines, "closed")),
-    "with_subtrie_mut": ("Qv", "n", lambda v, at, lines: in_with(v, at, lines, "none")),
-    "spend": ("c", "x", lambda v, line: v.shell.call(line, v, "c")),
-    "into_children": ("", "x", lambda v: v.views(*v.children(v.path))),
-    "into_trie": ("t", "x", lambda v, line: v.shell.call(line, View(v.shell, v.trie), "t")),
-    "below": ("Q", "f", lambda v, at: v.told(starting(v.lists, at))),
-    "nth": ("N", "f", lambda v, place: v.told(v.lists[place:][:1])),
-    "rank": ("L", "f", lambda v, at: str(bisect.bisect_left(v.lists, at))),
-    "push": ("KN", "f", lambda v, at, number: "unsorted" if v.lists[-1:] >= [at] else v.change([(at, number)])),
-    "finish": ("", "f", lambda v: "ok"),
-    "open": ("Q", "sm", lambda v, at: opened(v, at, "r", "none")),
-    "open_mut": ("Q", "sm", lambda v, at: opened(v, at, "wx", "closed")),
-    "subtrie_mut": ("Q", "sm", lambda v, at: opened(v, at, "wx", "none")),
-    "close": ("", "s", lambda v: "ok" if v.shell.views and v.shell.views.pop() else "none"),
-    "light": ("t", "s", lambda v, line: v.shell.answer(line)),
-    "use": ("M", "s", lambda v, name: v.shell.use(name)),
-    "tries": ("", "s", lambda v: rows(v.shell.names)),
-    "clone": ("M", "s", lambda v, name: v.shell.put(name, lambda: v.pairs)),
-    "split_off_prefix": ("QM", "s", lambda v, at, name: v.shell.put(name, lambda: v.cut(at))),
-    "graft": ("O", "s", View.graft),
-    "merge": ("O", "s", lambda v, other: v.change(other.pairs.items())),
-    "==": ("O", "s", lambda v, other: truth(v.pairs == other.pairs)),
-    "intersection": ("O", "s", lambda v, other: v.named(v.pairs.keys() & other.pairs.keys())),
-    "difference": ("O", "s", lambda v, other: v.named(v.pairs.keys() - other.pairs.keys())),
-    "union": ("O", "s", lambda v, other: v.named(v.pairs.keys() | other.pairs.keys())),
-    "symmetric_difference": ("O", "s", lambda v, other: v.named(v.pairs.keys() ^ other.pairs.keys())),
-    "is_subset": ("O", "s", lambda v, other: truth(v.pairs.keys() <= other.pairs.keys())),
-    "is_superset": ("O", "s", lambda v, other: truth(v.pairs.keys() >= other.pairs.keys())),
-    "is_disjoint": ("O", "s", lambda v, other: truth(not v.pairs.keys() & other.pairs.keys())),
-    "freeze": ("F", "s", lambda v, name: v.shell.freeze(name, v.cut())),
-    "frozen_copy": ("F", "s", lambda v, name: v.shell.freeze(name, v.pairs)),
-    "from_sorted": ("FS", "s", lambda v, name, pairs: v.shell.from_sorted(name, pairs)),
-    "thaw": ("F", "s", lambda v, name: "occupied" if v.pairs else v.shell.thaw(name)),
-    "frozen": ("Gf", "s", lambda v, frozen, line: v.shell.call(line, View(v.shell, frozen), "f")),
+# What calls answer, by their names, each with its words and the places where it can be made. The words: K a key to
+# store, T a topic, Q a key or a list to look up, q none or one, L a list, N a number, P pairs, S pairs in order, M a
+# name, O that of a trie that there is, F that of a frozen trie, G that of one that there is, c a call that tries and
+# views have in common, t a call of a trie or of a view, f one of a frozen trie, v calls of a view, r commands. The
+# places: t tries, n the current one where no view is open, r views for reading, w views for writing, x these, which the
+# call takes, c behind `spend`, f frozen tries, s anywhere, but behind no other call. And l: it takes no memory, m: it
+# takes none where its list has at most 32 nibbles.
+ANSWERS = {
+    "key - trwcl": lambda v: v.named({v.path} & v.pairs.keys()),
+    "value - trwcl": lambda v: v.values(v.path),
+    "len - trwcfl": lambda v: len(v.below),
+    "is_empty - trwcfl": lambda v: not v.below,
+    "is_leaf - trwcl": lambda v: v.below in ([], [v.path]),
+    "prefix - trwc": lambda v: v.fragment or QUOTES,
+    "iter - trwcf, cursor - trwc": lambda v: v.told(v.below),
+    "keys - trwcf": lambda v: v.named(v.below),
+    "values - trwcf": lambda v: v.values(*v.below),
+    "iter_from Q trwcf, cursor_from Q trwc": lambda v, at: v.told(it for it in v.below if it >= at),
+    "iter_after Q trwcf, cursor_after Q trwc": lambda v, at: v.told(it for it in v.below if it > at),
+    "cursor_back - trwc": lambda v: v.told(reversed(v.below)),
+    "cursor_back_from Q trwc": lambda v, at: v.told(it for it in reversed(v.below) if it <= at),
+    "cursor_back_before Q trwc": lambda v, at: v.told(it for it in reversed(v.below) if it < at),
+    "between QQ trwf": lambda v, at, end: v.told(it for it in v.below if at <= it < end),
+    "between_inclusive QQ trw": lambda v, at, end: v.told(it for it in v.below if at <= it <= end),
+    "between_exclusive QQ trw": lambda v, at, end: v.told(it for it in v.below if at < it < end),
+    "between_back QQ trw": lambda v, at, end: v.told(it for it in reversed(v.below) if at <= it < end),
+    "first_key_value - trwcfl": lambda v: v.told(v.below[:1]),
+    "last_key_value - trwcfl": lambda v: v.told(v.below[-1:]),
+    "path - rw": lambda v: v.path or QUOTES,
+    "get Q trwfm, at L tfl": inside(lambda v, at: v.values(at)),
+    "count_below Q trwfm": inside(lambda v, at: len(starting(v.lists, at))),
+    "children - trw, into_children - x": lambda v: v.views(*v.children(v.path)),
+    "debug - trw": lambda v: v.debug(),
+    "subtrie Q trm": inside(lambda v, at: v.views(at)),
+    "first_below QN trf": inside(lambda v, at, most: v.told(starting(v.lists, at)[:most])),
+    "insert KN tw, entry_insert KN t": inside(lambda v, at, number: v.put(at, number)),
+    "remove Q tw": inside(lambda v, at: v.put(at, None)),
+    "remove_prefix Q tw": inside(lambda v, at: v.taken(starting(v.lists, at))),
+    "value_mut N twl": lambda v, number: v.written(v.path, number),
+    "for_each_mut KN twf": lambda v, other, added: v.add(added, v.below, other),
+    "retain N tw": lambda v, least: v.retain(least, v.below),
+    "get_counted Q tm": lambda v, at: f"{v.values(at)} {v.cost(at)[1]}",
+    "get_with_cost Q tm": lambda v, at: f"{v.values(at)} {v.cost(at)[0]} {v.cost(at)[1]}",
+    "contains_key Q tfm, contains L tfl": lambda v, at: at in v.pairs,
+    "get_key_value Q tfm": lambda v, at: v.told([at]),
+    "get_ancestor Q tfm": lambda v, at: v.views(*v.above(at)),
+    "get_ancestor_value Q tfm, nearest_value L tfl": lambda v, at: v.values(*v.above(at)),
+    "get_raw_ancestor Q tm": lambda v, at: v.views(beginnings(v.points, at)[-1]),
+    "get_raw_descendant Q tm": lambda v, at: v.views(v.point_below(at)),
+    "common_prefixes Q tfm": lambda v, at: v.told(beginnings(v.lists, at)),
+    "first_after QQN t": lambda v, at, last, n: v.told([it for it in starting(v.lists, at) if it > last][:n]),
+    "nearest L tfl": lambda v, at: v.told(v.above(at)),
+    "nearest_with_cost L tl": lambda v, at: "{} {} {}".format(v.told(v.above(at)), *v.cost(at)),
+    "footprint - tl": lambda v: "{} {}".format(*v.footprint()),
+    "check_integrity - t": lambda v: True,
+    "remove_entry Q t, entry_remove K t": lambda v, at: v.taken([at]),
+    "map_with_default KNN t":
+        lambda v, at, added, number: v.add(added, [at]) if at in v.pairs else v.change([(at, number)]),
+    "try_insert KN t": lambda v, at, number: "occupied" if at in v.pairs else v.change([(at, number)]),
+    "get_or_insert KNN t, entry_or_insert KNN t, entry_or_insert_with KNN t":
+        lambda v, at, default, number: v.put(at, number, default),
+    "entry K t": lambda v, at: f"{v.words[at]} {v.values(at)} {str(at in v.pairs).lower()}",
+    "entry_into_key K t": lambda v, at: v.words[at],
+    "entry_and_modify KN t": lambda v, at, added: v.add(added, [at] if at in v.pairs else []),
+    "get_mut QN tfm, entry_get_mut KN t, at_mut LN tfl": View.written,
+    "find_mut QN tfm": lambda v, at, number: v.written(at, number, "absent"),
+    "find_ancestor_mut QN tm": lambda v, at, number: v.put(*v.above(at), number) if v.above(at) else "absent",
+    "pop_first - t": lambda v: v.taken(v.below[:1]),
+    "pop_last - t": lambda v: v.taken(v.below[-1:]),
+    "into_pairs - t": lambda v: v.taken(v.below),
+    "clear - tl": lambda v: v.retain(NUMBERS, v.below),
+    "compact - t, finish - f": lambda v: "ok",
+    "for_each_mut_below QKN t": lambda v, at, other, added: v.add(added, starting(v.lists, at), other),
+    "retain_below QN t": lambda v, at, least: v.retain(least, starting(v.lists, at)),
+    "extend P t": lambda v, pairs: v.change(pairs),
+    "from_iter P t": lambda v, pairs: v.change([*((it, None) for it in v.below), *pairs]),
+    "draw q t": View.draw,
+    "dot - t": View.dot,
+    "stats - t": View.stats,
+    "to_ascending - t": View.to_ascending,
+    "matching T t": View.matching,
+    "run r t": run,
+    "with Qv n": lambda v, at, lines: in_with(v, at, lines, "closed"),
+    "with_subtrie_mut Qv n": lambda v, at, lines: in_with(v, at, lines, "none"),
+    "spend c x": lambda v, line: v.shell.call(line, v, "c"),
+    "into_trie t x": lambda v, line: v.shell.call(line, View(v.shell, v.trie), "t"),
+    "below Q f": lambda v, at: v.told(starting(v.lists, at)),
+    "nth N f": lambda v, place: v.told(v.lists[place:][:1]),
+    "rank L f": lambda v, at: bisect.bisect_left(v.lists, at),
+    "push KN f": lambda v, at, number: "unsorted" if v.lists[-1:] >= [at] else v.change([(at, number)]),
+    "open Q sm": lambda v, at: opened(v, at, "r", "none"),
+    "open_mut Q sm": lambda v, at: opened(v, at, "wx", "closed"),
+    "subtrie_mut Q sm": lambda v, at: opened(v, at, "wx", "none"),
+    "close - s": lambda v: "ok" if v.shell.views and v.shell.views.pop() else "none",
+    "light t s": lambda v, line: v.shell.answer(line),
+    "use M s": lambda v, name: v.shell.use(name),
+    "tries - s": lambda v: rows(v.shell.names),
+    "clone M s": lambda v, name: v.shell.put(name, lambda: v.pairs),
+    "split_off_prefix QM s": lambda v, at, name: v.shell.put(name, lambda: v.cut(at)),
+    "graft O s": View.graft,
+    "merge O s": lambda v, other: v.change(other.pairs.items()),
+    "== O s": lambda v, other: v.pairs == other.pairs,
+    "intersection O s": lambda v, other: v.named(v.pairs.keys() & other.pairs.keys()),
+    "difference O s": lambda v, other: v.named(v.pairs.keys() - other.pairs.keys()),
+    "union O s": lambda v, other: v.named(v.pairs.keys() | other.pairs.keys()),
+    "symmetric_difference O s": lambda v, other: v.named(v.pairs.keys() ^ other.pairs.keys()),
+    "is_subset O s": lambda v, other: v.pairs.keys() <= other.pairs.keys(),
+    "is_superset O s": lambda v, other: v.pairs.keys() >= other.pairs.keys(),
+    "is_disjoint O s": lambda v, other: not v.pairs.keys() & other.pairs.keys(),
+    "freeze F s": lambda v, name: v.shell.freeze(name, v.cut()),
+    "frozen_copy F s": lambda v, name: v.shell.freeze(name, v.pairs),
+    "from_sorted FS s": lambda v, name, pairs: v.shell.from_sorted(name, pairs),
+    "thaw F s": lambda v, name: "occupied" if v.pairs else v.shell.thaw(name),
+    "frozen Gf s": lambda v, frozen, line: v.shell.call(line, View(v.shell, frozen), "f"),
 }
+CALLS = {name: (words.strip("-"), places, answer) for names, answer in ANSWERS.items()
+         for name, words, places in (it.split(" ") for it in names.split(", "))}
 PLACES = {place: [it for it, (_, places, _) in CALLS.items() if place in places] for place in "trwxcf"}
-COMMANDS = {"insert": "KN", "remove": "K", "remove_prefix": "K", "get": "K", "ancestor": "K", "len": "", "within": "K",
-            "end": ""}
+# The words of commands, and what replies to them.
+COMMANDS = {
+    "insert": ("KN", lambda v, at, number: f"old {v.put(at, number)}"),
+    "remove": ("K", lambda v, at: f"old {v.put(at, None)}"),
+    "remove_prefix": ("K", lambda v, at: " ".join(["gone", *map(str, v.cut(at).values())])),
+    "get": ("K", lambda v, at: f"found {v.values(at)}"),
+    "ancestor": ("K", lambda v, at: f"found {v.values(*v.above(at))}"),
+    "len": ("", lambda v: str(len(v.below))),
+    "within": ("K", None),
+    "end": ("", lambda v: "end"),
+}
 # Lists of commands: those of a view stand between `within` and `end`, and none of them has a view or an ancestor.
 LISTS = re.compile("(?:within( (?!within|ancestor|end)[a-z_]+)* end |(?!within|end)[a-z_]+ )*")
 # What is answered where a word stands for nothing.
@@ -461,7 +439,7 @@ class Shell:
         if kind == "v":
             return " ".join(words).split(" ; ")
         if kind == "r":
-            read = [(it, [self.read(kind, words) for kind in COMMANDS.get(it, "K")]) for it in words]
+            read = [(it, [self.read(kind, words) for kind in COMMANDS.get(it, ("K",))[0]]) for it in words]
             is_list = LISTS.fullmatch("".join(f"{name} " for name, _ in read))
             return read if is_list and not any(None in it for _, it in read) else None
         if kind in "PS":
@@ -500,7 +478,8 @@ class Shell:
             return why
         words = iter(words)
         read = [self.read(it, words) for it in kinds]
-        return NO[kinds[read.index(None)]] if None in read else answer(view, *read)
+        said = NO[kinds[read.index(None)]] if None in read else answer(view, *read)
+        return said if isinstance(said, str) else str(said).lower()
 
     def use(self, name):
         """The trie of this name and the current one change places."""

@@ -1,0 +1,86 @@
+"""The programs of this checkout: what each is built from, whether it is built, and its build."""
+import contextlib
+import hashlib
+import os
+import shutil
+import subprocess
+
+from shared import ROOT, Refused, below, bytes_of, files_in, ran, read_text, started, sum_of, take_turn, uses_of_crates
+
+PAGES = {"trie_tool": "docs/PROGRAM.md", "route_tool": "docs/ROUTES.md", "trie_shell": "docs/SHELL.md"}
+WORDS = {"trie_shell": ["--strict"]}
+
+
+class Program:
+    """A program of this checkout."""
+
+    def __init__(self, name):
+        self.name, self.crate = name, f"{ROOT}/crates/{name}"
+        self.path, self.record = f"{self.crate}/out/{name}", f"{self.crate}/out/launcher.record"
+
+    def say(self, text):
+        """Writes to standard error. Where that takes nothing, what is told is lost, and no more than that."""
+        with contextlib.suppress(OSError):
+            os.write(2, f"{self.name}: {text}\n".encode(errors="surrogateescape"))
+
+    def recorded(self):
+        """What the last whole build was of, and the sum of its program."""
+        return (bytes_of(self.record) or b"").decode(errors="replace")
+
+    def toolchain(self):
+        """The toolchain's line, or where there is none the record's."""
+        said = ran(["rt", "version"]).stdout if shutil.which("rt") else b""
+        return " ".join(said.decode(errors="backslashreplace").split()) or self.recorded().partition("\n")[0]
+
+    def origin(self):
+        """The toolchain, and the sum of all that the program is built from."""
+        crates = [*below(self.name, uses_of_crates()), self.name]
+        folders = [f"{ROOT}/crates/{it}/{part}" for it in crates for part in ("src", "specs", "proofs")]
+        paths = [f"{ROOT}/crates.txt", *(it for folder in folders for it in files_in(folder))]
+        texts = "".join(repr((os.fsencode(os.path.relpath(it, ROOT)), bytes_of(it))) for it in paths)
+        return f"{self.toolchain()}\n{hashlib.sha256(texts.encode()).hexdigest()}\n"
+
+    def version(self):
+        """The version by CHANGELOG.md, the commit where git tells it, and the toolchain."""
+        number = [*read_text(f"{ROOT}/CHANGELOG.md").partition("\n## ")[2].split(), "unknown"][0]
+        commit = ran(["env", "git", f"--git-dir={ROOT}/.git", "rev-parse", "--short", "HEAD"]).stdout.decode().strip()
+        built_by = self.recorded().partition("\n")[0] or self.toolchain() or "unknown"
+        return f"{self.name} {number}, commit {commit or 'unknown'}, toolchain {built_by}"
+
+    def is_current(self):
+        built = os.access(self.path, os.X_OK) and sum_of(self.path)
+        return built and self.recorded() == f"{self.origin()}{built}"
+
+    def keep(self, before):
+        """Records that the program, which was just built, is of the origin before its build, so that no start builds it
+        again. After an edit during the build nobody can tell which text was built: there is no record then."""
+        if os.access(self.path, os.X_OK) and before == self.origin():
+            with open(self.record, "w", encoding="utf-8") as record:
+                record.write(f"{before}{sum_of(self.path)}")
+
+    def make(self):
+        """Builds the program, one build in this checkout at a time, unless another one has done so meanwhile."""
+        self.say("proving and building it and the crates below it, once: that takes a quarter of an hour to an hour on "
+                 "four processors, and 4 GB of disk; --unproved runs it at once, with nothing proved")
+        os.makedirs(f"{ROOT}/out", exist_ok=True)
+        turn = os.open(f"{ROOT}/out/launcher.lock", os.O_CREAT | os.O_NOFOLLOW | os.O_NONBLOCK, 0o600)
+        take_turn(turn, lambda: self.say("another build is under way in this checkout: waiting for that"))
+        if not self.is_current():
+            before = self.origin()
+            self.prove(turn)
+            self.keep(before)
+        os.close(turn)
+
+    def prove(self, turn):
+        """Has the toolchain prove and build all, and hands on how far it is. The turn is the toolchain's too: where
+        this process is killed, the next start waits until that has ended."""
+        said, streams = "", {"stdout": subprocess.PIPE, "stderr": subprocess.STDOUT, "text": True, "errors": "replace"}
+        with started(["rt", "run"], cwd=self.crate, pass_fds=[turn], **streams) as builder:
+            for line in builder.stdout:
+                if line.startswith(("rt: chose --jobs ", "so far: ")):
+                    self.say(line.strip())
+                elif not line.startswith("checked "):
+                    said += line
+        if builder.returncode or not os.access(self.path, os.X_OK):
+            self.say(said.strip())
+            raise Refused(f"the program could not be built: rt ended with status {builder.returncode}")

@@ -4,10 +4,10 @@ import os
 import random
 from typing import NamedTuple
 
-from shared import ROOT, Refused, check_use, ran
+from shared import Refused, built, check_use, ran
 
 WIDTHS = {4: 32, 6: 128}
-PROGRAM = f"{ROOT}/crates/route_tool/out/route_tool"
+PROGRAM = built("route_tool")
 NEVER = float("inf")
 OTHER = "a hop that the block hasn't"
 
@@ -199,5 +199,5 @@ def seed_of(words):
     """The seed that a script is started with, or 1. It needs the program."""
     check_use(len(words) <= 1 and all(it.isascii() and it.isdigit() for it in words))
     if not os.access(PROGRAM, os.X_OK):
-        raise Refused("crates/route_tool isn't built: `rt ci route_tool` builds it")
+        raise Refused(f"{PROGRAM} isn't there: ./check or ./route_tool builds it")
     return int(words[0]) if words else 1

@@ -204,6 +204,29 @@ def ran(words, given=None, seconds=None, **how):
     return subprocess.CompletedProcess(words, process.returncode, said, told)
 
 
+def built(name, ending=""):
+    """The path of a program, as `rt ci` or its launcher built it, or in the folder PROGRAMS."""
+    return f"{os.environ.get('PROGRAMS') or f'{ROOT}/crates/{name}/out'}/{name}{ending}"
+
+
+def add(tally, command, folder, **surroundings):
+    """Shows what a command says, and adds all its checks, which it counts in its last line. How many passed."""
+    last, known = b"", {it: value for it, value in os.environ.items() if it != "CDPATH"}
+    how = {"cwd": folder, "env": {**known, **surroundings, "LC_ALL": "C"}}
+    with started(command.split(), stdout=subprocess.PIPE, stderr=subprocess.STDOUT, **how) as process:
+        while part := process.stdout.read1():
+            sys.stdout.buffer.write(part)
+            sys.stdout.buffer.flush()
+            last = (last + part)[-1000:]
+    counts = re.match(rb"(\d+) passed, (\d+) failed", last.rstrip().split(b"\n")[-1])
+    passed, failed = map(int, counts.groups()) if counts else (0, 0)
+    tally.add(passed, failed)
+    if not counts or process.returncode and not failed:
+        why = f"it ended with status {process.returncode}" + (", and with no count" if not counts else "")
+        tally.count(command, False, why)
+    return passed
+
+
 def end(number, _):
     """Ends the script by this signal, with all that it has started, once what is being started is known."""
     ENDED_BY.append(number)

@@ -3,7 +3,19 @@ import hashlib
 import os
 import sys
 
-from shared import bytes_of, put_bytes, room_in, take_turn
+from shared import Refused, bytes_of, put_bytes, room_in, take_turn
+
+
+def check_ways(prefix, places):
+    """Refuses places where a folder stands, or something else in the place of a folder, before anything is made."""
+    for place in places:
+        if os.path.isdir(f"{prefix}/{place}"):
+            raise Refused(f"{prefix}/{place} is a folder: nothing was touched")
+        way = os.path.dirname(f"{prefix}/{place}")
+        while not os.path.lexists(way):
+            way = os.path.dirname(way)
+        if not os.path.isdir(way):
+            raise Refused(f"{way} is no folder: nothing was touched")
 
 
 def hold(script, folders):
@@ -20,18 +32,17 @@ def row(place, found):
 def strange(manifest, there, new):
     """Of places, each with the sum of what is there, those where that is neither what was put there nor new."""
     text = (bytes_of(manifest) or b"").decode(errors="surrogateescape")
-    # Earlier versions wrote the rows of a manifest as JSON, or the sums alone.
+    # Earlier versions wrote the rows of a manifest as JSON.
     known = {it.strip(" ,") for it in text.split("\n")} | {row(*it) for it in new.items()}
-    return [place for place, found in there.items() if not (found and known & {row(place, found), found})]
+    return [place for place, found in there.items() if not found or row(place, found) not in known]
 
 
 def put(prefix, manifest, known, made):
     """Puts files, each by its place, its mode and its bytes. The manifest keeps what is known to be there too, each
     place with its sum: a run that is killed leaves some of each."""
-    # What is no folder is told before any file is put.
-    for place, *_ in made:
-        os.makedirs(os.path.dirname(f"{prefix}/{place}"), exist_ok=True)
-    with room_in(os.path.dirname(f"{prefix}/{manifest}")) as room:
+    at = os.path.dirname(f"{prefix}/{manifest}")
+    os.makedirs(at, exist_ok=True)
+    with room_in(at) as room:
         rows = {row(*it) for it in known} | {row(place, hashlib.sha256(text).hexdigest()) for place, _, text in made}
         put_bytes("\n".join(sorted(rows)).encode(errors="surrogateescape"), f"{prefix}/{manifest}", room)
         for place, mode, text in made:

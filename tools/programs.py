@@ -8,7 +8,8 @@ import subprocess
 from shared import ROOT, Refused, below, bytes_of, files_in, ran, read_text, started, sum_of, take_turn, uses_of_crates
 
 PAGES = {"trie_tool": "docs/PROGRAM.md", "route_tool": "docs/ROUTES.md", "trie_shell": "docs/SHELL.md"}
-WORDS = {"trie_shell": ["--strict"]}
+SHELL = "trie_shell"
+WORDS = {SHELL: ["--strict"]}
 
 
 class Program:
@@ -19,9 +20,13 @@ class Program:
         self.path, self.record = f"{self.crate}/out/{name}", f"{self.crate}/out/launcher.record"
 
     def say(self, text):
+        self.tell(f"{self.name}: {text}\n".encode(errors="surrogateescape"))
+
+    @staticmethod
+    def tell(text):
         """Writes to standard error. Where that takes nothing, what is told is lost, and no more than that."""
         with contextlib.suppress(OSError):
-            os.write(2, f"{self.name}: {text}\n".encode(errors="surrogateescape"))
+            os.write(2, text)
 
     def recorded(self):
         """What the last whole build was of, and the sum of its program."""
@@ -61,7 +66,7 @@ class Program:
     def make(self):
         """Builds the program, one build in this checkout at a time, unless another one has done so meanwhile."""
         self.say("proving and building it and the crates below it, once: that takes a quarter of an hour to an hour on "
-                 "four processors, and 4 GB of disk; --unproved runs it at once, with nothing proved")
+                 "four processors, and 4 GB of disk; --unproved runs it within minutes, slowly, with nothing proved")
         os.makedirs(f"{ROOT}/out", exist_ok=True)
         turn = os.open(f"{ROOT}/out/launcher.lock", os.O_CREAT | os.O_NOFOLLOW | os.O_NONBLOCK, 0o600)
         take_turn(turn, lambda: self.say("another build is under way in this checkout: waiting for that"))

@@ -139,9 +139,12 @@ def uses_of_crates():
     return {head.split()[0]: uses.split() for head, found, uses in rows if found and head.split()}
 
 
-def below(name, uses):
+def below(name, uses, above=()):
     """The repository's crates that a crate stands on, each after those that it uses."""
-    return [*dict.fromkeys(it for used in uses.get(name, ()) if used in uses for it in (*below(used, uses), used))]
+    way = (*above, name)
+    if name in above:
+        raise Refused(f"crates.txt has a cycle: {', '.join(way[way.index(name):])}")
+    return [*dict.fromkeys(it for used in uses.get(name, ()) if used in uses for it in (*below(used, uses, way), used))]
 
 
 class Tally:
@@ -185,7 +188,8 @@ def started(words, **how):
             sys.exit(128 + ENDED_BY[0])
         yield process
     finally:
-        if process.poll() is None:
+        # Told twice to end, `rt` would leave what it has started.
+        if process in STARTED and process.poll() is None:
             kill(process)
         process.wait()
         STARTED.discard(process)
@@ -232,8 +236,8 @@ def end(number, _):
     ENDED_BY.append(number)
     for it in ENDING:
         signal.signal(it, lambda *_: None)
-    for process in [*STARTED]:
-        kill(process)
+    while STARTED:
+        kill(STARTED.pop())
     if not STARTING:
         sys.exit(128 + number)
 

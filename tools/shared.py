@@ -236,8 +236,9 @@ def end(number, _):
     ENDED_BY.append(number)
     for it in ENDING:
         signal.signal(it, lambda *_: None)
-    while STARTED:
-        kill(STARTED.pop())
+    for process in [*STARTED]:
+        STARTED.discard(process)
+        kill(process)
     if not STARTING:
         sys.exit(128 + number)
 

@@ -7,7 +7,7 @@ rlwrap=$(command -v rlwrap) || told="$told; where rlwrap is installed it edits l
 trap '' INT
 echo "$name: $told" >&2
 # A terminal that is dumb or has no width rlwrap doesn't take.
-case ${TERM:-dumb}$(stty size) in dumb* | *' 0') rlwrap= ;; esac
+case "${TERM:-dumb} $(stty size)" in 'dumb '* | *' 0') rlwrap= ;; esac
 [ "$rlwrap" ] && [ -t 1 ] || exec "$@"
 # The key is one for rlwrap once the terminal that it makes for the shell has none.
 export INPUTRC="${INPUTRC-${0%/*}/inputrc}"

@@ -1,21 +1,39 @@
 """Files of a script's own below a folder, by the sums in its manifest: no other file is replaced or removed."""
+import contextlib
 import hashlib
 import os
 import sys
 
-from shared import Refused, bytes_of, put_bytes, room_in, take_turn
+from shared import Refused, bytes_of, put_bytes, remove_empty, room_in, take_turn
+
+
+def standing(path):
+    """What there is of the way to this path: the path, or else the nearest above it."""
+    while not os.path.lexists(path):
+        path = os.path.dirname(path)
+    return path
 
 
 def check_ways(prefix, places):
     """Refuses places where a folder stands, or something else in the place of a folder, before anything is made."""
     for place in places:
-        if os.path.isdir(f"{prefix}/{place}"):
-            raise Refused(f"{prefix}/{place} is a folder: nothing was touched")
-        way = os.path.dirname(f"{prefix}/{place}")
-        while not os.path.lexists(way):
-            way = os.path.dirname(way)
+        way = standing(os.path.dirname(f"{prefix}/{place}"))
         if not os.path.isdir(way):
             raise Refused(f"{way} is no folder: nothing was touched")
+        if os.path.isdir(f"{prefix}/{place}"):
+            raise Refused(f"{prefix}/{place} is a folder: nothing was touched")
+
+
+@contextlib.contextmanager
+def folder(path):
+    """Makes a folder, and those above it, which go again where they are empty and this is left by a failure."""
+    top = standing(path)
+    os.makedirs(path, exist_ok=True)
+    try:
+        yield
+    except BaseException:
+        remove_empty(path, top)
+        raise
 
 
 def hold(script, folders):

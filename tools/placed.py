@@ -14,19 +14,17 @@ def standing(path):
     return path
 
 
-def check_ways(prefix, places):
-    """Refuses places where a folder stands, or something else in the place of a folder, before anything is made."""
-    for place in places:
-        way = standing(os.path.dirname(f"{prefix}/{place}"))
-        if not os.path.isdir(way):
-            raise Refused(f"{way} is no folder: nothing was touched")
-        if os.path.isdir(f"{prefix}/{place}"):
-            raise Refused(f"{prefix}/{place} is a folder: nothing was touched")
-
-
 @contextlib.contextmanager
-def folder(path):
-    """Makes a folder, and those above it, which go again where they are empty and this is left by a failure."""
+def folder(path, places, is_folder=os.path.isdir):
+    """Makes a folder for these places, unless a folder stands in one, or something else in the place of a folder. Where
+    this is left by a failure, it goes again if it is empty. Others may read what is made here, whatever the umask."""
+    for place in places:
+        way = standing(os.path.dirname(f"{path}/{place}"))
+        if not is_folder(way):
+            raise Refused(f"{way} is no plain folder: nothing was touched")
+        if os.path.isdir(f"{path}/{place}"):
+            raise Refused(f"{path}/{place} is a folder: nothing was touched")
+    os.umask(0o022)
     top = standing(path)
     os.makedirs(path, exist_ok=True)
     try:

@@ -7,6 +7,8 @@ pub mod NodesBelow
 pub mod Opened
 pub mod Above
 pub mod Nearest
+pub mod Further
+pub mod Behind
 pub mod ChildViews
 pub mod Children
 pub mod Joins

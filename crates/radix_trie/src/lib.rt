@@ -41,6 +41,7 @@ pub use radix_keys::{
 };
 pub use radix_nodes::search::find::LookUpCost;
 pub use trie::{Entry, EntryError, Trie};
+pub use view::descent::Descent;
 pub use view::subtrie::SubTrie;
 pub use view::subtrie_mut::SubTrieMut;
 pub use view::trie_common::TrieCommon;

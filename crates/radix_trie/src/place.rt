@@ -17,6 +17,7 @@ use radix_nodes::trie_node::{KeyValue, TrieNode, is_end};
 use radix_nodes::whole::size::count_pairs;
 use std::alloc::Global;
 
+mod further;
 mod path_list;
 mod shown;
 mod within;

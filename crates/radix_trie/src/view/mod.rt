@@ -1,6 +1,7 @@
 //! Views: a trie, and a path in it.
 mod at;
 pub(crate) mod children;
+pub(crate) mod descent;
 mod edit;
 pub(crate) mod inside;
 mod opens;

@@ -1,3 +1,4 @@
 pub mod FilterLemmas
 pub mod StoredLemmas
 pub mod FormLemmas
+pub mod SearchLemmas

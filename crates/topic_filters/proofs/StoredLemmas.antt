@@ -1,33 +1,22 @@
 -- What is stored at filters that begin with one path.
-use Rattle.std.proofs.Common.{◌≡◌, ◌≢◌, ◌↔◌, ◌∙◌, inl, inr, ℕ, All, List, [], ◌∷◌, ◌++◌, map, flat_map, Option, Some, None, T, nat_cmp, refl, sym, ap, subst, append_assoc, arith}
+use Rattle.std.proofs.Common.{◌≡◌, ◌≢◌, ◌↔◌, ◌∙◌, inl, inr, ℕ, All, List, [], ◌∷◌, ◌++◌, map, flat_map, Option, Some, None, refl, sym, ap, subst, append_assoc, arith}
 use Rattle.std.proofs.lemmas.Grind.{flat_map-append}
 use Rattle.std.proofs.lemmas.List.{map-append}
 use Rattle.std.proofs.lemmas.List.Elements.{All-cons, All-nil}
 use Rattle.std.proofs.lemmas.List.Kept.{AllPairs-cons}
 use Rattle.std.specs.List.{AllPairs}
-use Rattle.std.specs.Cmp.Lexicographic.{slice_cmp}
 use Rattle.std.specs.FinMap as finite
 use Rattle.std.specs.Prelude.{option_to_list}
-use Rattle.nibble_map.specs.Lists.{Has, IsPrefix}
-use Rattle.nibble_map.specs.MapQueries.{IsRawDescendant}
+use Rattle.nibble_map.specs.Lists.{Has}
 use Rattle.nibble_map.specs.Maps.{PairMap}
 use Rattle.nibble_map.specs.Nibbles.{nibbles}
 use Rattle.nibble_map.proofs.ListLemmas.Members.{Has-cases, Has-left, Has-right}
-use Rattle.nibble_map.proofs.ListLemmas.Parted.{is_prefix_true}
-use Rattle.nibble_map.proofs.MapLemmas.Below.{get-below}
-use Rattle.nibble_map.proofs.PointLemmas.Descendant.{below-no_descendant}
 use Rattle.radix_keys.specs.Distinct.{nibbles-injective}
 use Rattle.radix_keys.specs.PartBytes.{parts_of-part_bytes}
 use Rattle.radix_keys.specs.Parts.{AreParts, part_bytes, parts_of}
-use Rattle.radix_keys.proofs.NibbleLemmas.Bytes.{nibbles-append}
 use Rattle.radix_trie.specs.Keys.{IsKeyed}
 use Rattle.topic_filters.proofs.FilterLemmas.{AreApart, filters_listed, matched_parts, topic_filters_apart}
 use Rattle.topic_filters.specs.Filters.{IsTopic, Levels, Matches, any_level, any_rest, filters_of, filters_of_levels, stored_at}
-
--- a filter's encoding begins with that of its first levels
-prefix_of_longer : (p f : Levels) → IsPrefix (nibbles (part_bytes p)) (nibbles (part_bytes (p ++ f)))
-prefix_of_longer p f =
-    (nibbles (part_bytes f), ap nibbles (flat_map-append (λ part. part ++ 0 ∷ []) p f) ∙ nibbles-append (part_bytes p) (part_bytes f))
 
 module _ {A B : Type 0} (h : A → List B) where
   -- what comes from a list comes from one of its elements
@@ -119,16 +108,6 @@ module _ {K V : Type 0} (m : PairMap K V) where
   pub stored_behind-top : (fs : List Levels) → stored_behind [] fs ≡ stored_at m fs
   stored_behind-top [] = refl
   stored_behind-top (f ∷ fs) = ap (λ xs. option_to_list (finite.get m (nibbles (part_bytes f))) ++ xs) (stored_behind-top fs)
-
-  -- none, where no point stands at or below the path
-  pub stored_behind-none : (p : Levels) → IsRawDescendant m (nibbles (part_bytes p)) None → (fs : List Levels) → stored_behind p fs ≡ []
-  stored_behind-none p none [] = refl
-  stored_behind-none p none (f ∷ fs) =
-      let e = nibbles (part_bytes (p ++ f)) in
-      let begins = is_prefix_true (nibbles (part_bytes p)) e (prefix_of_longer p f) in
-      let absent = sym (get-below m (nibbles (part_bytes p)) e (subst T (sym begins) tt)) ∙ ap (λ n. finite.get n e) (below-no_descendant m (nibbles (part_bytes p)) none)
-      ∙ finite.get-empty (slice_cmp nat_cmp) e in
-      (λ i. option_to_list (absent i) ++ stored_behind-none p none fs i)
 
   -- where a level is left: the filters that go on by it, by any level, and the one by any rest
   pub stored_behind-step : (p : Levels) (t : List ℕ) (ts : Levels) → stored_behind p (filters_of_levels (t ∷ ts))

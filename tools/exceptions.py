@@ -28,7 +28,6 @@ SAME_NAMES = {
 STANDS_FOR = {
     "least_routes": "Route::precedes for is_table; Plan::of for least",
     "line_sessions": "converse for serve",
-    "topic_filters": "gather for matching",
     "frozen_trie": "absent_as_none for FrozenTrie::get_mut; change for FrozenTrie::for_each_mut; "
                    "read_all for FrozenTexts::read",
     "radix_keys": "U32KeyInt::byte for U8TrieKey::encode U16TrieKey::encode U32TrieKey::encode U64TrieKey::encode "

@@ -195,13 +195,11 @@ def levels_of(at):
 
 def matches(filter, topic):
     """Each way in which the filter matches the levels: 0 for the same level, 1 for any, 2 for the rest."""
-    if filter == [b"#"]:
-        yield (2,)
-    if not filter and not topic:
-        yield ()
-    for way, level in enumerate((topic[0], b"+") if filter and topic else ()):
-        if filter[0] == level:
-            yield from ((way, *rest) for rest in matches(filter[1:], topic[1:]))
+    ways = [[way for way, it in enumerate((level, b"+")) if it == part] for part, level in zip(filter, topic)]
+    if len(filter) == len(topic):
+        yield from itertools.product(*ways)
+    if filter[-1:] == [b"#"] and len(filter) <= len(topic) + 1:
+        yield from ((*before, 2) for before in itertools.product(*ways[: len(filter) - 1]))
 
 
 def escaped(text, quote):

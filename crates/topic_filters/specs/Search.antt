@@ -18,14 +18,14 @@ abbrev pub level_lists : Levels → List (List ℕ)
 level_lists = each level_list
 
 -- the turns that a search for so many levels takes at most
-abbrev pub turns : List (List ℕ) → ℕ
-turns [] = 1
-turns (l ∷ ls) = 1 + (turns ls + (turns ls + 1))
+abbrev pub turns_for : List (List ℕ) → ℕ
+turns_for [] = 1
+turns_for (l ∷ ls) = 1 + (turns_for ls + (turns_for ls + 1))
 
 -- the same at one place
 abbrev pub turns_at : Option (Bor (List (List ℕ))) → ℕ
 turns_at None = 1
-turns_at (Some levels) = turns levels.now
+turns_at (Some levels) = turns_for levels.now
 
 module _ {K V : Type 0} where
   -- the pair at a list

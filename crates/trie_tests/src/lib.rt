@@ -6,6 +6,8 @@
 #[cfg(test)]
 mod building;
 #[cfg(test)]
+mod descents;
+#[cfg(test)]
 mod fussy;
 #[cfg(test)]
 mod keys;

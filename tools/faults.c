@@ -1,24 +1,38 @@
 /* Preloaded into a program that the toolchain built, has its calls fail where the environment says so: ALLOCATION=N
    refuses the Nth allocation or growth of memory, FROM=N all from the Nth on; READ=N and WRITE=N fail the Nth read of
    standard input and the Nth write on standard output, with the error number FAULT, or with no byte where that is 0;
-   READS=N and WRITES=N bound the bytes of each of these calls. LIVE=1 has it say on standard error at its end how many
-   pieces of memory it still holds. */
+   READS=N and WRITES=N bound the bytes of each of these calls. STATX=N, OPEN=N, FILL=N (a write to another file),
+   FCHMOD=N, LCHOWN=N, FSYNC=N, RENAME=N and UNLINK=N fail the Nth of these calls with the error number FAULT; with
+   STOP=1 it isn't failed, but the program stopped before it by SIGSTOP. LIVE=1 has it say on standard error at its end
+   how many pieces of memory it still holds. */
 #define _GNU_SOURCE
 #include <errno.h>
+#include <fcntl.h>
+#include <signal.h>
+#include <stdarg.h>
 #include <stddef.h>
 #include <stdio.h>
 #include <stdlib.h>
+#include <sys/stat.h>
+#include <sys/syscall.h>
 #include <sys/uio.h>
 #include <unistd.h>
 
 extern void *__libc_malloc(size_t), *__libc_calloc(size_t, size_t), *__libc_realloc(void *, size_t);
 extern void __libc_free(void *);
-enum { ALLOCATION, FROM, READ, READS, WRITE, WRITES, FAULT, LIVE };
-static const char *const names[] = {"ALLOCATION", "FROM", "READ", "READS", "WRITE", "WRITES", "FAULT", "LIVE"};
-static long set[LIVE + 1], allocations, held, reads, writes;
+enum {
+  ALLOCATION, FROM, READ, READS, WRITE, WRITES, FAULT, LIVE, STOP,
+  STATX, OPEN, FILL, FCHMOD, LCHOWN, FSYNC, RENAME, UNLINK
+};
+static const char *const names[] = {"ALLOCATION", "FROM", "READ", "READS", "WRITE", "WRITES", "FAULT", "LIVE", "STOP",
+                                    "STATX", "OPEN", "FILL", "FCHMOD", "LCHOWN", "FSYNC", "RENAME", "UNLINK"};
+static long set[UNLINK + 1], calls[UNLINK + 1], allocations, held, reads, writes;
 
 __attribute__((constructor)) static void begin(void) {
-  for (int it = 0; it <= LIVE; it++) set[it] = getenv(names[it]) ? atol(getenv(names[it])) : 0;
+  for (int it = 0; it <= UNLINK; it++) {
+    set[it] = getenv(names[it]) ? atol(getenv(names[it])) : 0;
+    calls[it] = 0;
+  }
   allocations = 0;
 }
 
@@ -64,8 +78,36 @@ ssize_t read(int file, void *bytes, size_t count) {
   return readv(file, &part, 1);
 }
 
+/* Whether this call of the kind fails. */
+static int fails(int kind) {
+  if (++calls[kind] != set[kind]) return 0;
+  errno = (int)set[FAULT];
+  return set[STOP] ? raise(SIGSTOP) : 1;
+}
+
 ssize_t write(int file, const void *bytes, size_t count) {
   if (file == STDOUT_FILENO && ++writes == set[WRITE]) return failed();
+  if (file > STDERR_FILENO && fails(FILL)) return -1;
   struct iovec part = {(void *)bytes, bounded(count, file == STDOUT_FILENO ? set[WRITES] : 0)};
   return writev(file, &part, 1);
 }
+
+int open(const char *path, int flags, ...) {
+  va_list rest;
+  va_start(rest, flags);
+  mode_t mode = flags & O_CREAT ? va_arg(rest, mode_t) : 0;
+  va_end(rest);
+  return fails(OPEN) ? -1 : openat(AT_FDCWD, path, flags, mode);
+}
+
+int statx(int file, const char *restrict path, int flags, unsigned mask, struct statx *restrict found) {
+  return fails(STATX) ? -1 : (int)syscall(SYS_statx, file, path, flags, mask, found);
+}
+
+int fchmod(int file, mode_t mode) { return fails(FCHMOD) ? -1 : (int)syscall(SYS_fchmod, file, mode); }
+int lchown(const char *path, uid_t user, gid_t group) {
+  return fails(LCHOWN) ? -1 : fchownat(AT_FDCWD, path, user, group, AT_SYMLINK_NOFOLLOW);
+}
+int fsync(int file) { return fails(FSYNC) ? -1 : (int)syscall(SYS_fsync, file); }
+int rename(const char *from, const char *to) { return fails(RENAME) ? -1 : renameat(AT_FDCWD, from, AT_FDCWD, to); }
+int unlink(const char *path) { return fails(UNLINK) ? -1 : unlinkat(AT_FDCWD, path, 0); }

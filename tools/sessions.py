@@ -23,7 +23,7 @@ SECONDS = 30
 # end; PLACE is the view that is open, or the trie. Views and tries have in common what is called by a reference.
 CALLS = [
     (r"frozen \S* (\S*)", r"FrozenTrie::\1"),
-    (r"frozen|keys \S*", ""),
+    (r"frozen|keys \S*|begin", ""),
     (r"open", "Trie::subtrie"),
     (r"open_mut|with", "Trie::open_mut"),
     (r"subtrie_mut|with_subtrie_mut", "Trie::subtrie_mut"),
@@ -204,5 +204,5 @@ def shell_calls(session):
             places.append("SubTrie" if name == "open" else "SubTrieMut")
         elif name == "close":
             places = places[:-1] or places
-        elif name == "use" or name == "keys" and len(rest) == 1:
+        elif name in ("use", "begin") or name == "keys" and rest and it.answer == b"ok\n":
             places = ["Trie"]

@@ -10,7 +10,18 @@ import re
 from os.path import commonprefix
 
 DIGITS, NUMBERS, QUOTES = "0123456789abcdef", 2**64, '""'
+# The types of integers, each with its bytes, and all types of keys.
+BYTES = {"u8": 1, "u16": 2, "u32": 4, "u64": 8, "u128": 16, "usize": 8, "i8": 1, "i16": 2, "i32": 4, "i64": 8,
+         "i128": 16, "isize": 8}
+KINDS = ["text", "bytes", "nibbles", "bits", "bool", "char", "ipv4", "ipv6", "parts", *BYTES]
+PLAIN = {it: chr(it) for it in range(0x21, 0x7F) if it not in b"#>"}
+ESCAPES = {**PLAIN, **{ord(it): f"\\{it}" for it in '\\"'}, ord(" "): "\\s"}
 NOT_HERE, OTHER_COUNT = "no such call here", "another count of words"
+
+
+def word_of(data):
+    """The word that stands for these bytes."""
+    return "".join(ESCAPES.get(it, f"\\x{it:02x}") for it in data) or QUOTES
 
 
 def starting(lists, path):
@@ -254,11 +265,11 @@ def in_with(v, at, lines, absent):
 
 # What calls answer, by their names, each with its words and the places where it can be made. The words: K a key to
 # store, T a topic, Q a key or a list to look up, q none or one, L a list, N a number, P pairs, S pairs in order, M a
-# name, O that of a trie that there is, F that of a frozen trie, G that of one that there is, c a call that tries and
-# views have in common, t a call of a trie or of a view, f one of a frozen trie, v calls of a view, r commands. The
-# places: t tries, n the current one where no view is open, r views for reading, w views for writing, x these, which the
-# call takes, c behind `spend`, f frozen tries, s anywhere, but behind no other call. And l: it takes no memory, m: it
-# takes none where its list has at most 32 nibbles.
+# name, O that of a trie that there is, F that of a frozen trie, G that of one that there is, Y a type of keys, c a call
+# that tries and views have in common, t a call of a trie or of a view, f one of a frozen trie, v calls of a view, r
+# commands. The places: t tries, n the current one where no view is open, r views for reading, w views for writing, x
+# these, which the call takes, c behind `spend`, f frozen tries, s anywhere, but behind no other call. And l: it takes
+# no memory, m: it takes none where its list has at most 32 nibbles.
 ANSWERS = {
     "key - trwcl": lambda v: v.named({v.path} & v.pairs.keys()),
     "value - trwcl": lambda v: v.values(v.path),
@@ -347,8 +358,9 @@ ANSWERS = {
     "subtrie_mut Q sm": lambda v, at: opened(v, at, "wx", "none"),
     "close - s": lambda v: "ok" if v.shell.views and v.shell.views.pop() else "none",
     "light t s": lambda v, line: v.shell.answer(line),
+    "begin Y s": lambda v, kind: v.shell.begin(kind),
     "use M s": lambda v, name: v.shell.use(name),
-    "tries - s": lambda v: rows(v.shell.names),
+    "tries - s": lambda v: rows(word_of(it.encode()) for it in v.shell.names),
     "clone M s": lambda v, name: v.shell.put(name, lambda: v.pairs),
     "split_off_prefix QM s": lambda v, at, name: v.shell.put(name, lambda: v.cut(at)),
     "graft O s": View.graft,
@@ -385,7 +397,7 @@ COMMANDS = {
 LISTS = re.compile("(?:within( (?!within|ancestor|end)[a-z_]+)* end |(?!within|end)[a-z_]+ )*")
 # What is answered where a word stands for nothing.
 NO = {"K": "no key", "T": "no key", "Q": "no key", "q": "no key", "L": "no list", "N": "no number", "P": "no pairs",
-      "S": "no pairs", "r": "no commands", "O": "no other trie", "G": "no frozen trie"}
+      "S": "no pairs", "r": "no commands", "O": "no other trie", "G": "no frozen trie", "Y": "no type of keys"}
 
 
 def misfit(line):
@@ -410,7 +422,7 @@ def hindrance(kinds, words):
     for line in text.split(" ; ") if "v" in kinds else [text] if {*kinds} & {*"ctf"} else []:
         if why := NOT_HERE if is_taken else misfit(line):
             return why
-        is_taken = line.split(" ")[0] in PLACES["x"]
+        is_taken = line.removeprefix("light ").split(" ")[0] in PLACES["x"]
     return ""
 
 
@@ -419,8 +431,18 @@ class Shell:
     keys by their words."""
 
     def __init__(self, kind):
-        self.kind, self.keys, self.words, self.views = kind, {}, {}, []
+        self.keys, self.words = {}, {}
+        self.begin(kind)
+
+    def begin(self, kind):
+        """Drops all tries. The words of keys stay known."""
+        self.kind, self.views = kind, []
         self.names, self.tries, self.frozen = ["trie"], {"trie": Trie()}, {}
+        return "ok"
+
+    @property
+    def holds_pairs(self):
+        return any(it.pairs for it in (*self.tries.values(), *self.frozen.values()))
 
     @property
     def trie(self):
@@ -455,13 +477,18 @@ class Shell:
             return int(word) if word.isdigit() and int(word) < NUMBERS else None
         if kind == "T" and self.kind != "parts":
             return ""
+        if kind == "Y":
+            return word if word in KINDS else None
         return word if kind in "MF" else {"O": self.tries, "G": self.frozen}.get(kind, self.keys).get(word)
 
     def answer(self, line):
         """The lines of the answer, or an empty text."""
         name, *words = line.split(" ")
-        if name == "watch" or name == "keys" and words:
+        if name == "watch":
             return "ok"
+        if name == "keys" and words:
+            kind = self.meaning("Y", words[0])
+            return "tries hold pairs" if kind and self.holds_pairs else self.begin(kind) if kind else NO["Y"]
         if "s" in CALLS[name][1]:
             return self.call(line, View(self, self.trie), "s")
         path, places = self.views[-1] if self.views else ("", "tn")

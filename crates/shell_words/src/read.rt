@@ -110,7 +110,7 @@ const MOST_BITS: usize = 128;
 impl Read for Bits {
     fn read(alloc: Global, word: &str) -> Result<Option<Bits>, Memory> {
         let count = if word == "\"\"" { 0 } else { word.len() };
-        if count > MOST_BITS {
+        if word.is_empty() || count > MOST_BITS {
             return Ok(None);
         }
         let mut number = 0u128;

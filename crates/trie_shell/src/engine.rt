@@ -62,11 +62,15 @@ impl<F: Files + AllocGlobal + Drop> Shell<F> {
         }
     }
 
-    /// Begins with a trie of the type of keys that the next word names.
+    /// Begins with a trie of the type of keys that the next word names. But for `begin` no pair may be
+    /// stored then.
     fn answer_type(&mut self, answer: &mut Answer<'_>) -> Result<(), Memory> {
         let Some(kind) = Kind::of(answer.next_word().unwrap_or("")) else {
             return answer.refuse(NO_TYPE);
         };
+        if answer.name() != "begin" && self.tries.hold_pairs() {
+            return answer.refuse("tries hold pairs");
+        }
         self.kind = kind;
         self.tries = Tries::new(answer.alloc());
         answer.line("ok")
@@ -124,6 +128,7 @@ impl<F: Files + AllocGlobal + Drop> Shell<F> {
             answer.colour();
         }
         match answer.name() {
+            "begin" => self.answer_type(answer),
             "keys" if answer.left() > 0 => self.answer_type(answer),
             "watch" => {
                 self.is_watched = true;

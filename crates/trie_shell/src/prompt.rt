@@ -1,53 +1,102 @@
 //! A reader that asks for lines at a terminal.
-ghost use Rattle.std.specs.Prelude.{◌≡◌};
 
 use std::io;
-use std::io::{Read, Write};
-use std::marker::Model;
+use std::io::{ErrorKind, Read, Write};
 
-/// A reader that writes a prompt before each read, where it has a writer for that. A contract sees
-/// the bytes that are still to be read, where they are known.
+/// How many bytes of a line a terminal keeps: it drops all behind them but the line feed.
+const KEPT: usize = 4_095;
+
+/// What is told of a line that the terminal has cut.
+const CUT: &'static str =
+    "not read: the terminal cuts a line of 4,095 bytes and more; `load FILE CALL` takes longer ones\n";
+
+/// Where the next read goes on: at a line's beginning, or in one that was handed on so far, or in one
+/// that is cut.
+#[derive(Clone, Copy, PartialEq)]
+enum Place {
+    Beginning,
+    Within,
+    Cut,
+}
+
+/// A reader at a terminal, which gives a line at most to each read. It writes a prompt before each one,
+/// and reads again where the terminal has cut a line, which is told of.
 #[derive(Drop)]
 pub struct Prompting<R: Read, P: Write> {
     reader: R,
-    prompts: Option<P>,
+    prompts: P,
+    place: Place,
 }
 
-impl<R: Read, P: Write> Model for Prompting<R, P> {
-    ghost use Rattle.std.specs.Prelude.{ℕ, List, Option};
-
-    ghost Value = { Option (List ℕ) };
-
-    ghost view = { λ p. R.remaining p.reader };
+/// Whether the bytes begin with as many of one line as a terminal keeps.
+fn is_cut(bytes: &[u8]) -> bool {
+    match bytes.get(..KEPT) {
+        Some(kept) => !kept.contains(&b'\n'),
+        None => false,
+    }
 }
 
 impl<R: Read, P: Write> Prompting<R, P> {
     /// The reader, not read yet, and the writer for prompts.
-    pub fn new(reader: R, prompts: Option<P>) -> Prompting<R, P>
-        ensures { result ≡ R.remaining reader }
-    {
-        Prompting { reader, prompts }
+    pub fn new(reader: R, prompts: P) -> Prompting<R, P> {
+        Prompting {
+            reader,
+            prompts,
+            place: Place::Beginning,
+        }
     }
 
     /// Writes to the terminal. Whether that succeeds changes nothing that is read.
-    fn tell(&mut self, text: &str)
-        ensures { self.new ≡ self.old }
-    {
-        if let Some(prompts) = &mut self.prompts {
-            let _told = prompts.write_all(text.as_bytes());
+    fn tell(&mut self, text: &str) {
+        let _told = self.prompts.write_all(text.as_bytes());
+    }
+
+    /// Reads once. None: what came is of a line that is cut, and isn't handed on. The beginning of one may
+    /// have been, where Ctrl-D parted it; it becomes a bad line then.
+    fn read_once(&mut self, buffer: &mut [u8]) -> io::Result<Option<usize>> {
+        self.tell("> ");
+        let count = self.reader.read(buffer)?;
+        let bytes = buffer.get(..count).unwrap_or(&[]);
+        let (place, is_ended) = (self.place, matches!(bytes, [] | [.., b'\n']));
+        let is_cut = place == Place::Cut || is_cut(bytes);
+        self.place = match is_cut {
+            _ if is_ended => Place::Beginning,
+            true => Place::Cut,
+            false => Place::Within,
+        };
+        if bytes.is_empty() {
+            self.tell("\n");
+        } else if is_cut {
+            if place != Place::Cut {
+                self.tell(CUT);
+            }
+            return Ok(if place == Place::Within {
+                spoilt(buffer)
+            } else {
+                None
+            });
         }
+        Ok(Some(count))
     }
 }
 
-impl<R: Read, P: Write> Read for Prompting<R, P> {
-    ghost remaining = { λ unread. unread };
+/// Ends a line as one that isn't UTF-8.
+fn spoilt(buffer: &mut [u8]) -> Option<usize> {
+    let [first, second, ..] = buffer else {
+        return None;
+    };
+    *first = 0xff;
+    *second = b'\n';
+    Some(2)
+}
 
+impl<R: Read, P: Write> Read for Prompting<R, P> {
     fn read(&mut self, buffer: &mut [u8]) -> io::Result<usize> {
-        self.tell("> ");
-        let found = self.reader.read(buffer);
-        if let Ok(0) = found {
-            self.tell("\n");
+        for _ in 0..u64::MAX {
+            if let Some(count) = self.read_once(buffer)? {
+                return Ok(count);
+            }
         }
-        found
+        Err(ErrorKind::TimedOut.into())
     }
 }

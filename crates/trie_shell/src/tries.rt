@@ -76,6 +76,16 @@ impl Tries {
         }
     }
 
+    /// Whether a trie, or a frozen one, holds a pair.
+    pub fn hold_pairs(&self) -> bool {
+        !self.current.trie.is_empty()
+            || self.others.iter().any(|other| !other.trie.is_empty())
+            || self.frozen.iter().any(|named| match &named.frozen {
+                Some(frozen) => !frozen.is_empty(),
+                None => false,
+            })
+    }
+
     /// A call of which a contract tells what a trie of texts answers, where no view is open. False: it
     /// is none of them, or a view is open.
     pub fn answer_told(&mut self, answer: &mut Answer<'_>) -> Result<bool, Memory>

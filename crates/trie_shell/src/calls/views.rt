@@ -11,7 +11,7 @@ use radix_trie::{Memory, Nibblet, OpenError, SubTrie, SubTrieError, SubTrieMut};
 use shell_words::{Answer, Key, NO_KEY, NO_NUMBER, NONE, NOT_HERE, Words};
 
 /// What is answered where the point that a view stands at is gone.
-const CLOSED: &'static str = "closed";
+pub const CLOSED: &'static str = "closed";
 
 /// A call of a view for reading at the path.
 pub fn answer_in_view(trie: &Table, path: &Nibblet, answer: &mut Answer<'_>) -> Result<(), Memory> {
@@ -170,19 +170,28 @@ fn are_calls(answer: &mut Answer<'_>) -> Result<bool, Memory> {
 }
 
 /// Whether the words left ask for a call, and those behind one that makes another for that. The
-/// answer goes on with the first one.
+/// answer goes on with the first one, or with the one behind `light`.
 fn is_whole_call(answer: &mut Answer<'_>) -> Result<bool, Memory> {
-    if !read_call(answer)? {
+    if !read_call(answer)? || !is_call_behind_light(answer)? {
         return Ok(false);
     }
     let words = answer.words();
-    if let "spend" | "into_trie" | "light" = words.name
+    if let "spend" | "into_trie" = words.name
         && !read_call(answer)?
     {
         return Ok(false);
     }
     answer.read_on(words);
     Ok(true)
+}
+
+/// Goes on with the call behind `light`, if the answer is to that. False: none stands there.
+fn is_call_behind_light(answer: &mut Answer<'_>) -> Result<bool, Memory> {
+    if answer.name() == "light" {
+        read_call(answer)
+    } else {
+        Ok(true)
+    }
 }
 
 /// Whether it is a call that takes the view.
@@ -201,9 +210,14 @@ fn answer_calls(
         if !read_call(answer)? {
             break;
         }
+        let words = answer.words();
+        if !is_call_behind_light(answer)? {
+            break;
+        }
         if takes_view(answer.name()) {
             return Ok(true);
         }
+        answer.read_on(words);
         make(&mut *view, answer)?;
     }
     Ok(false)

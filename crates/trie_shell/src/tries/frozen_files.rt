@@ -1,7 +1,7 @@
 //! Frozen tries as files.
 
 use crate::calls::FrozenTable;
-use crate::calls::files::{NO_FILE, is_memory, replace};
+use crate::files::{FileFault, replace};
 use crate::tries::Tries;
 use crate::tries::frozen::NO_FROZEN;
 use crate::tries::names::NO_NAME;
@@ -9,9 +9,9 @@ use frozen_trie::{FileError, FileWhy, FrozenTexts, FrozenTrie};
 use radix_trie::Memory;
 use shell_words::{Answer, Face, Key, Kind, Words};
 use std::alloc::Global;
+use std::fs;
 use std::io::BufReader;
 use std::rt::Files;
-use std::{fs, io};
 
 /// What is answered where a key is no text.
 const NO_TEXT: &'static str = "not text";
@@ -28,7 +28,7 @@ impl Tries {
             return answer.refuse(NO_NAME);
         }
         let Some(path) = answer.next_read::<String>()? else {
-            return answer.refuse(NO_FILE);
+            return FileFault::BadName.tell(answer);
         };
         if answer.name() == "write" {
             return match self.frozen_of(name) {
@@ -55,8 +55,7 @@ impl Tries {
         let place = self.made_frozen_place_of(name)?;
         let mut input = match opened(self.alloc, files, path) {
             Ok(input) => input,
-            Err(error) if is_memory(&error) => return Err(Memory),
-            Err(_) => return answer.refuse(NO_FILE),
+            Err(fault) => return fault.tell(answer),
         };
         let texts = match FrozenTexts::read(self.alloc, &mut input) {
             Ok(texts) => texts,
@@ -82,12 +81,11 @@ fn write<F: Files>(
     let mut bytes = Vec::new(answer.alloc());
     let written = match texts.write(&mut bytes) {
         Ok(()) => replace(answer.alloc(), files, path, bytes.as_slice()),
-        failed => failed,
+        Err(error) => Err(error.into()),
     };
     match written {
         Ok(()) => answer.line("ok"),
-        Err(error) if is_memory(&error) => Err(Memory),
-        Err(_) => answer.refuse(NO_FILE),
+        Err(fault) => fault.tell(answer),
     }
 }
 
@@ -131,8 +129,11 @@ fn key_of(bytes: &[u8], answer: &Answer<'_>) -> Result<Option<Key>, Memory> {
 }
 
 /// The file or the stream of this name.
-fn opened<F: Files>(alloc: Global, files: &F, path: &str) -> io::Result<BufReader<F::File>> {
-    BufReader::new(alloc, fs::open(files, path)?)
+fn opened<F: Files>(alloc: Global, files: &F, path: &str) -> Result<BufReader<F::File>, FileFault> {
+    if fs::metadata(files, path)?.is_dir() {
+        return Err(FileFault::Folder);
+    }
+    Ok(BufReader::new(alloc, fs::open(files, path)?)?)
 }
 
 /// Whether the name is that of a device or a pipe, or a link to one.
@@ -148,7 +149,7 @@ fn fault_line(answer: &mut Answer<'_>, error: FileError) -> Result<(), Memory> {
     let FileError { why, pair, place } = error;
     let reason = match why {
         FileWhy::Memory => return Err(Memory),
-        FileWhy::Read => return answer.refuse(NO_FILE),
+        FileWhy::Read => return FileFault::Failed.tell(answer),
         FileWhy::Magic => "magic",
         FileWhy::Version => "version",
         FileWhy::Short => "short",

@@ -133,9 +133,9 @@ impl Tries {
 
     /// The names, that of the current trie first.
     fn answer_tries(&self, answer: &mut Answer<'_>) -> Result<(), Memory> {
-        answer.line(self.current.name())?;
+        name_line(answer, self.current.name())?;
         for other in self.others.as_slice() {
-            answer.line(other.name())?;
+            name_line(answer, other.name())?;
         }
         Ok(())
     }
@@ -201,6 +201,13 @@ impl Tries {
         }
         answer.refuse(NO_TRIE)
     }
+}
+
+/// A name, as a text is written.
+fn name_line(answer: &mut Answer<'_>, name: &str) -> Result<(), Memory> {
+    answer.begin_word()?;
+    answer.escaped(name.as_bytes())?;
+    answer.end()
 }
 
 /// Grafts a trie onto another, which leaves it empty. Where that is refused it comes back.

@@ -2,6 +2,7 @@
 
 use crate::calls::common::answer_common;
 use crate::calls::lines::footprint_line;
+use crate::calls::views::CLOSED;
 use crate::tries::{Spot, Tries, answer_at};
 use radix_trie::{Memory, Nibblet, OpenError, TrieCommon};
 use shell_words::{Answer, Key, NO_KEY, NONE, Words};
@@ -53,7 +54,7 @@ impl Tries {
     fn open(&self, key: &Key, answer: &mut Answer<'_>) -> Result<Option<Nibblet>, Memory> {
         match self.current.trie.subtrie(key)? {
             Some(view) => place_line(view.path(), TrieCommon::value(&view).copied(), answer),
-            None => none_open(NONE, answer),
+            None => none_open(answer),
         }
     }
 
@@ -61,7 +62,10 @@ impl Tries {
     fn open_mut(&mut self, key: &Key, answer: &mut Answer<'_>) -> Result<Option<Nibblet>, Memory> {
         match self.current.trie.open_mut(key) {
             Ok(view) => place_line(view.path(), TrieCommon::value(&view).copied(), answer),
-            Err(OpenError::Closed) => none_open("closed", answer),
+            Err(OpenError::Closed) => {
+                answer.refuse(CLOSED)?;
+                Ok(None)
+            }
             Err(OpenError::Memory) => Err(Memory),
         }
     }
@@ -74,7 +78,7 @@ impl Tries {
     ) -> Result<Option<Nibblet>, Memory> {
         match self.current.trie.subtrie_mut(key)? {
             Some(view) => place_line(view.path(), TrieCommon::value(&view).copied(), answer),
-            None => none_open(NONE, answer),
+            None => none_open(answer),
         }
     }
 
@@ -112,8 +116,8 @@ fn place_line(
     Ok(Some(kept))
 }
 
-/// Why no view is opened.
-fn none_open(why: &str, answer: &mut Answer<'_>) -> Result<Option<Nibblet>, Memory> {
-    answer.refuse(why)?;
+/// Says that no view is opened.
+fn none_open(answer: &mut Answer<'_>) -> Result<Option<Nibblet>, Memory> {
+    answer.line(NONE)?;
     Ok(None)
 }

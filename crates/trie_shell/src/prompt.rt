@@ -51,32 +51,34 @@ impl<R: Read, P: Write> Prompting<R, P> {
         let _told = self.prompts.write_all(text.as_bytes());
     }
 
-    /// Reads once. None: what came is of a line that is cut, and isn't handed on. The beginning of one may
-    /// have been, where Ctrl-D parted it; it becomes a bad line then.
+    /// Reads once. None: what came is of a line that is cut, and isn't handed on. If the beginning of the
+    /// line was, which Ctrl-D parts from the rest, it becomes a bad line.
     fn read_once(&mut self, buffer: &mut [u8]) -> io::Result<Option<usize>> {
         self.tell("> ");
         let count = self.reader.read(buffer)?;
         let bytes = buffer.get(..count).unwrap_or(&[]);
-        let (place, is_ended) = (self.place, matches!(bytes, [] | [.., b'\n']));
-        let is_cut = place == Place::Cut || is_cut(bytes);
-        self.place = match is_cut {
-            _ if is_ended => Place::Beginning,
-            true => Place::Cut,
-            false => Place::Within,
+        let before = self.place;
+        let is_dropped = before == Place::Cut || is_cut(bytes);
+        self.place = match bytes {
+            [] | [.., b'\n'] => Place::Beginning,
+            _ if is_dropped => Place::Cut,
+            _ => Place::Within,
         };
         if bytes.is_empty() {
             self.tell("\n");
-        } else if is_cut {
-            if place != Place::Cut {
-                self.tell(CUT);
-            }
-            return Ok(if place == Place::Within {
-                spoilt(buffer)
-            } else {
-                None
-            });
+            return Ok(Some(0));
         }
-        Ok(Some(count))
+        if !is_dropped {
+            return Ok(Some(count));
+        }
+        if before != Place::Cut {
+            self.tell(CUT);
+        }
+        Ok(if before == Place::Within {
+            spoilt(buffer)
+        } else {
+            None
+        })
     }
 }
 

@@ -1,4 +1,5 @@
 //! A reader that asks for lines at a terminal.
+ghost use Rattle.std.specs.Prelude.{◌≤◌, IfOk, IfSome, length};
 
 use std::io;
 use std::io::{ErrorKind, Read, Write};
@@ -53,7 +54,9 @@ impl<R: Read, P: Write> Prompting<R, P> {
 
     /// Reads once. None: what came is of a line that is cut, and isn't handed on. If the beginning of the
     /// line was, which Ctrl-D parts from the rest, it becomes a bad line.
-    fn read_once(&mut self, buffer: &mut [u8]) -> io::Result<Option<usize>> {
+    fn read_once(&mut self, buffer: &mut [u8]) -> io::Result<Option<usize>>
+        ensures bound { IfOk result (λ found. IfSome found (λ count. count ≤ length buffer.new)) }
+    {
         self.tell("> ");
         let count = self.reader.read(buffer)?;
         let bytes = buffer.get(..count).unwrap_or(&[]);
@@ -83,7 +86,9 @@ impl<R: Read, P: Write> Prompting<R, P> {
 }
 
 /// Ends a line as one that isn't UTF-8.
-fn spoilt(buffer: &mut [u8]) -> Option<usize> {
+fn spoilt(buffer: &mut [u8]) -> Option<usize>
+    ensures { IfSome result (λ count. count ≤ length buffer.new) }
+{
     let [first, second, ..] = buffer else {
         return None;
     };

@@ -204,5 +204,5 @@ def shell_calls(session):
             places.append("SubTrie" if name == "open" else "SubTrieMut")
         elif name == "close":
             places = places[:-1] or places
-        elif name in ("use", "begin") or name == "keys" and rest and it.answer == b"ok\n":
+        elif name == "use" or name in ("begin", "keys") and rest and it.answer == b"ok\n":
             places = ["Trie"]

@@ -3,7 +3,7 @@
 
 use frozen_trie::FrozenTrie;
 use radix_trie::iter::Cursor;
-use radix_trie::{Entry, SubTrie, SubTrieMut, Trie, TrieKey};
+use radix_trie::{Descent, Entry, SubTrie, SubTrieMut, Trie, TrieKey};
 use trie_set::TrieSet;
 
 fn crosses<T: Send + Sync>(_value: &T) {}
@@ -13,6 +13,7 @@ pub fn cross_threads<K: TrieKey + Send + Sync, V: Send + Sync>(
     trie: &Trie<K, V>,
     view: &SubTrie<'_, K, V>,
     write_view: &SubTrieMut<'_, K, V>,
+    descent: &Descent<'_, K, V>,
     walk: &Cursor<'_, K, V>,
     entry: &Entry<'_, K, V>,
     set: &TrieSet<K>,
@@ -21,6 +22,7 @@ pub fn cross_threads<K: TrieKey + Send + Sync, V: Send + Sync>(
     crosses(trie);
     crosses(view);
     crosses(write_view);
+    crosses(descent);
     crosses(walk);
     crosses(entry);
     crosses(set);

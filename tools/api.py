@@ -12,8 +12,8 @@ FIRST = ["Trie", "SubTrie", "SubTrieMut", "TrieCommon", "TrieEdit", "Entry", "Cu
 FUNCTIONS = "functions and laws"
 HEAD = """# All public calls
 
-Made by `tools/texts --write` of the sources' own texts. By library and type: what a call returns, when it fails, what it
-costs where that isn't the way down to its key, and an example where there is one. What is proved of each call, its
+Made by `tools/texts --write` of the sources' own texts. By library and type: what a call returns, when it fails, what
+it costs where that isn't the way down to its key, and an example where there is one. What is proved of each call, its
 clauses, stands in the library's page for callers.
 """
 # The lines of a comment right above an item, and of that the head of a section.

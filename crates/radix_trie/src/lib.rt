@@ -8,6 +8,7 @@ mod json;
 mod key_laws;
 mod map_laws;
 mod place;
+pub mod prelude;
 mod trie;
 mod view;
 

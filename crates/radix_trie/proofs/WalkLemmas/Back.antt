@@ -2,7 +2,7 @@
 use Rattle.std.proofs.Common.{◌≡◌, ℕ, suc, ◌+◌, ◌<◌, ◌≤◌, max, List, [], ◌∷◌, ◌++◌, drop, get_or, length, reverse, refl, ap, sym, subst, ◌∙◌, append_assoc, append-nil, length-append, add-one, drop-cons, arith, Bor, Box, Global, Some, None}
 use Rattle.std.proofs.lemmas.List.{drop_all, length-reverse, map-append, reverse-append}
 use Rattle.masked_tree.specs.Sizes.{levels}
-use Rattle.masked_tree.specs.Tree.{none, plain, entries_in, entries_at, nodes_in}
+use Rattle.masked_tree.specs.Tree.{Tree, Children, none, front, plain, entries_in, entries_at, nodes_in}
 use Rattle.nibble_map.specs.Trees.{IsFull}
 use Rattle.radix_nodes.specs.declared.trie_node.KeyValue.{KeyValue}
 use Rattle.radix_nodes.specs.declared.trie_node.TrieNode.{TrieNode}
@@ -94,13 +94,14 @@ module _ {K V : Type 0} where
     a_pair : 0 < length (stacked (rs ++ at ∷ []))
     a_pair = omega (arith, levels-some at.row.now some, tallest-push rs at, few-levels (rs ++ at ∷ []) full)
 
-    -- of a walk to the last one
-    pub row_stacked : stacked (rs ++ at ∷ []) ≡ [] → ⊥
-    row_stacked bare = omega (arith, a_pair, ap length bare)
-
     -- of a walk to the first one
     pub row_left : reverse (left_in (rs ++ at ∷ [])) ≡ [] → ⊥
     row_left bare = omega (arith, a_pair, ap length bare, length-reverse (left_in (rs ++ at ∷ [])), left-length (rs ++ at ∷ []))
+
+  -- where the next node has a child, two pairs are left
+  pub two_stacked : (rs : List (Rest K V)) (at : Rest K V) (t : Tree (KeyValue K V)) (others : Children (KeyValue K V)) → children_of at.row.now ≡ front t others → 0 < levels t.children → HasFullRows (left_rows (rs ++ at ∷ []))
+      → 1 < length (stacked (rs ++ at ∷ []))
+  two_stacked rs at t others is some full = omega (arith, ap levels is, some, tallest-push rs at, few-levels (rs ++ at ∷ []) full)
 
   -- the nodes of some children are those of the others, the last one, and those below it
   nodes_in-last_box : (pre : List (Box (TrieNode K V) Global)) (b : Box (TrieNode K V) Global)

@@ -83,7 +83,7 @@ impl<'a, K, V> Cursor<'a, K, V> {
     /// # Errors
     ///
     /// Memory for the rows above a node's children is refused. Then the same pairs are left, and the next call tries again.
-    /// At the end no memory is allocated.
+    /// No step to the last pair fails, and none at the end.
     ///
     /// # Examples
     ///
@@ -98,7 +98,7 @@ impl<'a, K, V> Cursor<'a, K, V> {
         ensures pair { IfOk result (λ pair. option_map deref_pair pair ≡ slice_get self.old 0) }
         ensures rest { OnOk result (self.new ≡ drop 1 self.old) }
         ensures unchanged { OnErr result (self.new ≡ self.old) }
-        ensures end { self.old ≡ [] → IsOk result }
+        ensures end { length self.old ≤ 1 → IsOk result }
     {
         loop {
             if let Some(pair) = self.at.own.take() {
@@ -150,6 +150,7 @@ fn make_room<K, V>(
     ensures same { stack.new.items ≡ stack.old.items }
     ensures room { OnOk result (0 < vec_len (out_of node.now).children → 0 < length others.now
         → vec_len stack.new < vec_capacity stack.new) }
+    ensures parent { OnErr result (0 < vec_len (out_of node.now).children) }
 {
     if node.children.is_empty() || others.is_empty() {
         return Ok(());

@@ -1,9 +1,8 @@
 //! The rows of the walks over the pairs at and below a path within bounds.
-ghost use Rattle.std.specs.Prelude.{◌≡◌, ◌<◌, ◌^◌, ℕ, List, IsOk, IfOk, Some, None, length, option_map};
-ghost use Rattle.std.specs.FinMap as finite;
+ghost use Rattle.std.specs.Prelude.{◌≡◌, ◌<◌, ◌^◌, [], ℕ, List, IsOk, IfOk, Some, None, length, option_map};
 ghost use Rattle.std.specs.Range.Bound.{MatchBound};
 ghost use Rattle.std.specs.declared.ops.Bound.{Bound};
-ghost use Rattle.nibble_map.specs.Maps.{PairMap, below};
+ghost use Rattle.nibble_map.specs.Maps.{PairMap};
 ghost use Rattle.radix_trie.specs.Limits.{AreLimits, IsLimit, limit_now};
 ghost use Rattle.radix_trie.specs.Places.{IsPlaceIn};
 ghost use Rattle.radix_trie.specs.Views.{IsLightBound, encoded_bound, is_above, is_below, pairs_within};
@@ -114,9 +113,9 @@ impl<'a, K: TrieKey, V> Place<'a, K, V> {
             → IfOk result (λ rests. stacked rests.items ≡ pairs_within m p low high) }
         ensures countable { IfOk result (λ rests. length (stacked rests.items) < 2 ^ 64) }
         ensures rows { IfOk result (λ rests. HasFullRows (left_rows rests.items)) }
-        ensures none { (m : PairMap K V) (p : List ℕ) → IsPlaceIn K.encoding m p self.now
-            → finite.len (below m p) ≡ 0
-            → IsOk result }
+        ensures none { (m : PairMap K V) (p : List ℕ) (low high : Bound (List ℕ))
+            → IsPlaceIn K.encoding m p self.now → AreLimits p low high limits.entry
+            → pairs_within m p low high ≡ [] → IsOk result }
     {
         let alloc = self.alloc;
         let Some((node, covered)) = self.found else {

@@ -1,5 +1,5 @@
 //! What tries and views have in common.
-ghost use Rattle.std.specs.Prelude.{◌≡◌, ◌<◌, ◌^◌, ◌-◌, ◌↔◌, ℕ, List, IsTrue, IsOk, IfOk, length, map as each, option_copied, option_map, reverse, slice_get};
+ghost use Rattle.std.specs.Prelude.{◌≡◌, ◌<◌, ◌^◌, ◌-◌, ◌↔◌, [], ℕ, List, IsTrue, IsOk, IfOk, length, map as each, option_copied, option_map, reverse, slice_get};
 ghost use Rattle.std.specs.FinMap as finite;
 ghost use Rattle.nibble_map.specs.Lists.{Each};
 ghost use Rattle.nibble_map.specs.MapQueries.{IsLeaf};
@@ -138,7 +138,7 @@ pub trait TrieCommon<'a, K: TrieKey + 'a, V: 'a>: Sized {
     /// # Errors
     ///
     /// Memory is refused, for a key's encoding or for the rows on the way down. That never comes where the keys are light
-    /// and no pair is at or below the path.
+    /// and no pair is within the range.
     ///
     /// # Examples
     ///
@@ -156,7 +156,9 @@ pub trait TrieCommon<'a, K: TrieKey + 'a, V: 'a>: Sized {
         ensures light_none { R.has_bounds range
             → IsLightBound Q.is_light (R.start_bound range)
             → IsLightBound Q.is_light (R.end_bound range)
-            → finite.len (below (map self) (path self)) ≡ 0
+            → pairs_within (map self) (path self)
+            (encoded_bound Q.encoding (R.start_bound range))
+            (encoded_bound Q.encoding (R.end_bound range)) ≡ []
             → IsOk result };
 
     /// The walk of `range` from the last pair to the first, with the time and the memory of that walk.
@@ -176,7 +178,9 @@ pub trait TrieCommon<'a, K: TrieKey + 'a, V: 'a>: Sized {
         ensures light_none { R.has_bounds range
             → IsLightBound Q.is_light (R.start_bound range)
             → IsLightBound Q.is_light (R.end_bound range)
-            → finite.len (below (map self) (path self)) ≡ 0
+            → pairs_within (map self) (path self)
+            (encoded_bound Q.encoding (R.start_bound range))
+            (encoded_bound Q.encoding (R.end_bound range)) ≡ []
             → IsOk result };
 
     /// The key and the value of the first pair at and below the path, in the order of the encodings, if there is one. It
@@ -289,7 +293,9 @@ fn rests_in<'a, K: TrieKey + 'a, V: 'a, T: At<'a, K, V>, Q: TrieKey, R: RangeBou
     ensures light_none { R.has_bounds range
         → IsLightBound Q.is_light (R.start_bound range)
         → IsLightBound Q.is_light (R.end_bound range)
-        → finite.len (below (T.At.map at) (T.At.path at)) ≡ 0
+        → pairs_within (T.At.map at) (T.At.path at)
+        (encoded_bound Q.encoding (R.start_bound range))
+        (encoded_bound Q.encoding (R.end_bound range)) ≡ []
         → IsOk result }
 {
     let alloc = at.allocator();

@@ -1,4 +1,4 @@
-use Rattle.std.proofs.Common.{ap, arith, option_map, sym, ◌∙◌}
+use Rattle.std.proofs.Common.{ap, arith, length, option_map, sym, ◌∙◌}
 use Rattle.std.proofs.lemmas.List.{length-map}
 use Rattle.radix_trie.specs.Walks.{deref_pair, deref_pairs}
 use Rattle.radix_trie.proofs.PathLemmas.Places.{false_is_not_true}
@@ -7,7 +7,8 @@ use Rattle.radix_trie.proofs.iter.pages.first_pairs.Goals as goal
 
 pub returns-in_err-pair-clause-none : goal.returns-in_err-pair-clause-none
 returns-in_err-pair-clause-none g c = λ bare.
-    absurd (false_is_not_true (c.in_err-pair.ensures.end (rest_is_empty (deref_pairs c.loop-left.list.items) c.loop-left.left (c.loop-left.invariant.same ∙ bare))))
+    let none = rest_is_empty (deref_pairs c.loop-left.list.items) c.loop-left.left (c.loop-left.invariant.same ∙ bare) in
+    absurd (false_is_not_true (c.in_err-pair.ensures.end (omega (arith, ap length none))))
 
 pub returns-in_err-push-clause-none : goal.returns-in_err-push-clause-none
 returns-in_err-push-clause-none g c = λ bare.

@@ -1,14 +1,17 @@
-use Rattle.std.proofs.Common.{◌+◌, ◌-◌, ◌≤◌, ◌++◌, Some, ap, append_assoc, arith, cond, drop, false, length, subst, sym, ◌∙◌}
+use Rattle.std.proofs.Common.{◌≡◌, ℕ, List, ◌+◌, ◌-◌, ◌≤◌, ◌++◌, Some, ap, append_assoc, arith, cond, drop, false, length, subst, sym, ◌∙◌}
 use Rattle.std.proofs.lemmas.Result.{IfOk-weaker}
-use Rattle.nibble_map.proofs.ListLemmas.Cut.{empty_of_length}
 use Rattle.radix_nodes.specs.Nodes.{fragment_of, tree_of}
+use Rattle.std.specs.declared.ops.Bound.{Bound}
+use Rattle.nibble_map.specs.Maps.{PairMap}
 use Rattle.radix_trie.specs.Limits.{AreLimits, IsLimit}
-use Rattle.radix_trie.specs.Views.{is_above, is_below, is_within}
-use Rattle.radix_trie.specs.Walks.{bound_behind, bound_now, stacked}
+use Rattle.radix_trie.specs.Places.{IsPlaceIn}
+use Rattle.radix_trie.specs.Views.{is_above, is_below, is_within, pairs_within}
+use Rattle.radix_trie.specs.Walks.{bound_behind, bound_now, pairs_of_span, stacked}
 use Rattle.radix_trie.proofs.PathLemmas.Later.{found_none, found_part, nothing_found-passing}
 use Rattle.radix_trie.proofs.PathLemmas.Limits.{front_size, none_above, reaches, within_limits}
-use Rattle.radix_trie.proofs.PathLemmas.Places.{found_full, found_is_small, found_placed, length-found_entries}
+use Rattle.radix_trie.proofs.PathLemmas.Places.{found_full, found_is_small, found_placed}
 use Rattle.radix_trie.proofs.WalkLemmas.Tested.{few_where}
+use Rattle.radix_trie.proofs.place.Place.rests.Given.{Over}
 use Rattle.radix_trie.proofs.place.Place.rests.Goals as goal
 
 pub returns-in_default-clause-walk : goal.returns-in_default-clause-walk
@@ -59,8 +62,10 @@ rests_within-requires-clause-placed g c = found_placed g.K.TrieKey.encoding c.re
 pub rests_within-requires-clause-full : goal.rests_within-requires-clause-full
 rests_within-requires-clause-full g c = found_full g.K.TrieKey.encoding c.requires.0 c.requires.1 c.args.self.now.found c.requires.4.0 c.in-Some.node c.in-Some.covered c.in-Some.is
 
-pub returns-clause-walk : goal.returns-clause-walk
-returns-clause-walk g c = λ m p low high place limits.
+-- what the rows that are found have left are the pairs within the bounds
+span_is : (g : Over) (c : goal.After-rests_within g) (m : PairMap g.row.K.Denot g.row.V.Denot) (p : List ℕ) (low high : Bound (List ℕ)) → IsPlaceIn g.K.TrieKey.encoding m p c.args.self.now → AreLimits p low high c.args.limits
+    → pairs_of_span (bound_behind c.max.result (bound_now c.in-Some-lower_limit.low)) (bound_behind c.max.result (bound_now c.in-Some-upper_limit.high)) (tree_of c.in-Some.node.now) ≡ pairs_within m p low high
+span_is g c m p low high place limits =
     let l = c.in-Some-limits.limits in
     let both = subst (AreLimits p low high) c.in-Some-limits.is limits in
     let front = l.depth - c.in-Some.covered in
@@ -74,12 +79,14 @@ returns-clause-walk g c = λ m p low high place limits.
     let most : k ≤ front + length f = omega (arith, c.max.ensures, lower.0, upper.0) in
     let low_at = (reaches lo f front c.in-Some-lower_limit.low_depth k lower.1 (omega (arith, c.max.ensures)) most).0 in
     let high_at = (reaches hi f front c.in-Some-upper_limit.high_depth k upper.1 (omega (arith, c.max.ensures)) most).0 in
-    IfOk-weaker c.rests_within.result _ _
-    (λ rests is. is ∙ found_part g.K.TrieKey.encoding m p c.args.self.now.found place.0 c.in-Some.node c.in-Some.covered c.in-Some.is (is_within low high) (is_within (bound_behind k lo) (bound_behind k hi))
+    found_part g.K.TrieKey.encoding m p c.args.self.now.found place.0 c.in-Some.node c.in-Some.covered c.in-Some.is (is_within low high) (is_within (bound_behind k lo) (bound_behind k hi))
     (λ y. within_limits g.K.TrieKey.encoding m p c.args.self.now.found place.0 c.in-Some.node c.in-Some.covered c.in-Some.is low high l both front at y
     ∙ (λ i. cond (upper.2 y i) (lower.2 y i) false)
-    ∙ (λ i. cond (is_below (sym high_at i) y) (is_above (sym low_at i) y) false)))
-    c.rests_within.ensures.pairs
+    ∙ (λ i. cond (is_below (sym high_at i) y) (is_above (sym low_at i) y) false))
+
+pub returns-clause-walk : goal.returns-clause-walk
+returns-clause-walk g c = λ m p low high place limits.
+    IfOk-weaker c.rests_within.result _ _ (λ rests is. is ∙ span_is g c m p low high place limits) c.rests_within.ensures.pairs
 
 pub returns-clause-countable : goal.returns-clause-countable
 returns-clause-countable g c =
@@ -89,7 +96,4 @@ returns-clause-countable g c =
     IfOk-weaker c.rests_within.result _ _ (λ rests is. omega (arith, ap length is, few, small)) c.rests_within.ensures.pairs
 
 pub returns-clause-none : goal.returns-clause-none
-returns-clause-none g c = λ m p place none.
-    let k = c.max.result in
-    let test = is_within (bound_behind k (bound_now c.in-Some-lower_limit.low)) (bound_behind k (bound_now c.in-Some-upper_limit.high)) in
-    c.rests_within.ensures.none (empty_of_length _ (omega (arith, few_where test (tree_of c.in-Some.node.now), length-found_entries g.K.TrieKey.encoding m p c.args.self.now.found place.0 c.in-Some.node c.in-Some.covered c.in-Some.is, none)))
+returns-clause-none g c = λ m p low high place limits none. c.rests_within.ensures.none (span_is g c m p low high place limits ∙ none)

@@ -10,7 +10,8 @@ use Rattle.radix_trie.proofs.trie.Trie.first_after.Goals as goal
 
 pub returns-in_err-rests-clause-light_none : goal.returns-in_err-rests-clause-light_none
 returns-in_err-rests-clause-light_none g c = λ light last none.
-    absurd (false_is_not_true (c.in_err-rests.ensures.none _ _ c.find.ensures (subst (λ l. map.len (below c.args.self.now l) ≡ 0) (sym c.in_ok-list.ensures.ok) none)))
+    let bare = subst (λ l. map.len (below c.args.self.now l) ≡ 0) (sym c.in_ok-list.ensures.ok) none in
+    absurd (false_is_not_true (c.in_err-rests.ensures.none c.args.self.now c.in_ok-list.list (Excluded c.in_ok-last.last) Unbounded c.find.ensures c.of-limits.ensures (no_pairs_after c.args.self.now _ _ bare)))
 
 pub returns-clause-pairs : goal.returns-clause-pairs
 returns-clause-pairs g c =

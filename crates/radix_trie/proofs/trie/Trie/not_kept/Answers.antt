@@ -1,6 +1,5 @@
 use Rattle.std.proofs.Common.{◌∙◌, inl, inr, [], ◌∷◌, ◌++◌, All, length, refl, sym, ap, subst, arith, append_assoc, append-nil}
 use Rattle.std.proofs.lemmas.List.Elements.{All-head, All-tail}
-use Rattle.nibble_map.proofs.ListLemmas.Cut.{empty_of_length}
 use Rattle.radix_trie.specs.Retains.{ReturnsAtPair, Sifts, TakesPairAt}
 use Rattle.radix_trie.specs.Views.{pairs_below}
 use Rattle.radix_trie.proofs.PathLemmas.Places.{false_is_not_true, no_pairs_below}
@@ -19,7 +18,7 @@ loop-pairs-init g c =
 
 pub returns-in_err-key-clause-none : goal.returns-in_err-key-clause-none
 returns-in_err-key-clause-none g c = λ e.
-    absurd (false_is_not_true (c.in_err-key.ensures.end (empty_of_length c.loop-pairs.pairs (c.loop-pairs.invariant.none e))))
+    absurd (false_is_not_true (c.in_err-key.ensures.end (omega (arith, c.loop-pairs.invariant.none e))))
 
 pub keeps-requires : goal.keeps-requires
 keeps-requires g c =

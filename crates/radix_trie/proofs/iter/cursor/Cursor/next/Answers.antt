@@ -1,10 +1,14 @@
 use Rattle.std.proofs.Common.{◌≡◌, ◌<◌, [], ◌∷◌, ◌++◌, drop, length, slice_get, ap, sym, subst, ◌∙◌, arith}
+use Rattle.masked_tree.specs.Sizes.{levels}
 use Rattle.masked_tree.specs.Tree.{front}
+use Rattle.radix_nodes.specs.declared.trie_node.TrieNode.{out-TrieNode}
 use Rattle.radix_nodes.specs.Nodes.{children_of, tree_of}
 use Rattle.radix_nodes.specs.Pairs.{pairs_in, pairs_in_all}
 use Rattle.radix_nodes.proofs.EditLemmas.Removal.{children_of-no_boxes}
 use Rattle.radix_trie.specs.Walks.{HasFullRows, deref_pair, first_pair, left_of, left_rows, rows_at, stacked}
-use Rattle.radix_trie.proofs.WalkLemmas.Back.{full-popped, row_stacked, turns-up}
+use Rattle.radix_trie.proofs.WalkLemmas.Back.{full-popped, turns-up, two_stacked}
+use Rattle.radix_nodes.proofs.NodeLemmas.Sizes.{levels_out}
+use Rattle.radix_trie.proofs.WalkLemmas.Rows.{levels-some}
 use Rattle.radix_trie.proofs.WalkLemmas.Walks.{turns_left}
 use Rattle.radix_trie.proofs.WalkLemmas.Steps.{bare-up, node-next, own-first, turn_falls, turn_full}
 use Rattle.radix_trie.proofs.iter.cursor.Cursor.next.Given.{Over}
@@ -25,9 +29,15 @@ pub returns-in-Some-clause-rest : goal.returns-in-Some-clause-rest
 returns-in-Some-clause-rest g c = sym (ap (λ s. drop 1 s) (comes_next g c))
 
 pub returns-in_err-make_room-clause-end : goal.returns-in_err-make_room-clause-end
-returns-in_err-make_room-clause-end g c = λ bare.
-    let some : 0 < length c.loop-pair.self-inside.at.row.now = omega (arith, ap length c.in-Some-split_first.ensures.cases.0) in
-    absurd (row_stacked c.loop-pair.self-inside.stack.items c.loop-pair.self-inside.at some c.loop-pair.invariant.full (c.loop-pair.invariant.same ∙ bare))
+returns-in_err-make_room-clause-end g c = λ few.
+    let self = c.loop-pair.self-inside in
+    let others = children_of c.in-Some-split_first.others.now in
+    let node = c.deref.result.now in
+    let is = ap children_of c.in-Some-split_first.ensures.cases.0 ∙ ap (λ n. front (tree_of n) others) (sym c.deref.ensures) in
+    let out = out-TrieNode g.row.K.Denot g.row.V.Denot node in
+    let child : 0 < length out.children.items = omega (arith, c.in_err-make_room.ensures.parent, out.children.ok.0) in
+    let some : 0 < levels (tree_of node).children = omega (arith, levels-some _ child, levels_out node) in
+    absurd (omega (arith, few, ap length c.loop-pair.invariant.same, two_stacked self.stack.items self.at (tree_of node) others is some c.loop-pair.invariant.full))
 
 pub loop-pair-smaller-in-Some-split_first : goal.loop-pair-smaller-in-Some-split_first
 loop-pair-smaller-in-Some-split_first g c =

@@ -6,3 +6,4 @@ pub mod KeyLemmas
 pub mod MergeLemmas
 pub mod NearestLemmas
 pub mod PartLemmas
+pub mod WalkLemmas

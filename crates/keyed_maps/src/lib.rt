@@ -11,6 +11,7 @@ mod history;
 mod nearest_laws;
 mod part_laws;
 mod value_laws;
+mod walk_laws;
 
 pub use callers::costs::insert_measured;
 pub use callers::edits::{
@@ -35,3 +36,6 @@ pub use history::{Action, Answer, replay};
 pub use nearest_laws::keyed_maps_follow_nearest;
 pub use part_laws::{keyed_maps_follow_parts, keyed_maps_follow_tries, merges_by_key_compose};
 pub use value_laws::keyed_maps_follow_values;
+pub use walk_laws::{
+    keys_below_are_given, keys_of_pages_are_given, keys_within_are_given, prefixes_are_given,
+};

@@ -1,12 +1,14 @@
 //! What two sets hold together.
 ghost use Rattle.std.specs.FinMap as map;
-ghost use Rattle.std.specs.Prelude.{◌≡◌, ◌+◌, ◌⊎◌, ◌↔◌, ℕ, List, Some, map as each};
+ghost use Rattle.std.specs.Option.{option_or};
+ghost use Rattle.std.specs.Prelude.{◌≡◌, ◌+◌, ◌⊎◌, ◌↔◌, ℕ, List, None, Some, map as each};
 ghost use Rattle.nibble_map.specs.Lists.{Has, IsRising};
-ghost use Rattle.nibble_map.specs.Maps.{IsStored, NibbleMap};
-ghost use Rattle.radix_trie.specs.Sets.{common, joined, lacking};
+ghost use Rattle.nibble_map.specs.Maps.{IsStored, NibbleMap, PairMap, value_at};
+ghost use Rattle.radix_trie.specs.Sets.{combined, common, joined, lacking};
 ghost use Rattle.trie_set.specs.Sets.{key_at, keys_in};
 
 use crate::set::TrieSet;
+use radix_trie::iter::Operation;
 use radix_trie::{TrieKey, keys_stand_at_their_encodings};
 
 /// What is stored in the parts and in the union that walks go over, and by which key.
@@ -23,6 +25,28 @@ pub fn sets_answer_by_both<P>()
         → map.get (joined m n) e ≡ map.get m e }
     ensures other_key { (m n : NibbleMap P) (e : List ℕ) → (IsStored m e → ⊥)
         → map.get (joined m n) e ≡ map.get n e }
+{}
+
+/// The value at a list, as a key's encoding is, of what a `Combination` walks over: of a union the first map's, or else the
+/// second's; of an intersection the first map's where the second stores the list too; of a difference the first map's where
+/// the second doesn't; of a symmetric difference that of the one map that stores it.
+pub fn combinations_have_values<K, V>()
+    ensures union { (m n : PairMap K V) (e : List ℕ) → value_at (combined Operation.Union m n) e
+        ≡ option_or (value_at m e) (value_at n e) }
+    ensures intersection { (m n : PairMap K V) (e : List ℕ) → IsStored n e
+        → value_at (combined Operation.Intersection m n) e ≡ value_at m e }
+    ensures intersection_none { (m n : PairMap K V) (e : List ℕ) → value_at n e ≡ None
+        → value_at (combined Operation.Intersection m n) e ≡ None }
+    ensures difference { (m n : PairMap K V) (e : List ℕ) → value_at n e ≡ None
+        → value_at (combined Operation.Difference m n) e ≡ value_at m e }
+    ensures difference_none { (m n : PairMap K V) (e : List ℕ) → IsStored n e
+        → value_at (combined Operation.Difference m n) e ≡ None }
+    ensures first_alone { (m n : PairMap K V) (e : List ℕ) → value_at n e ≡ None
+        → value_at (combined Operation.SymmetricDifference m n) e ≡ value_at m e }
+    ensures second_alone { (m n : PairMap K V) (e : List ℕ) → value_at m e ≡ None
+        → value_at (combined Operation.SymmetricDifference m n) e ≡ value_at n e }
+    ensures neither { (m n : PairMap K V) (e : List ℕ) → IsStored m e → IsStored n e
+        → value_at (combined Operation.SymmetricDifference m n) e ≡ None }
 {}
 
 /// The algebra of sets. Where two sets hold keys with one encoding, the first one's stand in what both have in common, and

@@ -1,0 +1,16 @@
+use Rattle.radix_trie.proofs.PathLemmas.Below.{len-pairs_below}
+use Rattle.keyed_maps.proofs.WalkLemmas as walks
+use Rattle.keyed_maps.proofs.walk_laws.keys_below_are_given.Goals as goal
+
+pub returns : goal.returns
+returns g c =
+    let enc = g.K.TrieKey.encoding in
+    let is = g.K.TrieKey.is_value in
+    let eq = g.K.PartialEq.eq in
+    let tells = g.met.K.TrieKey.distinct in
+    record {
+      given = λ m keyed e. walks.given_below enc is eq m keyed e tells;
+      begins = λ m keyed e. walks.begins_below enc is eq m keyed e;
+      has_value = λ m keyed e. walks.value_below enc is eq m keyed e;
+      count = λ m e. len-pairs_below m e;
+    }

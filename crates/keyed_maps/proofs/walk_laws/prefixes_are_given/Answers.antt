@@ -1,0 +1,14 @@
+use Rattle.keyed_maps.proofs.WalkLemmas as walks
+use Rattle.keyed_maps.proofs.walk_laws.prefixes_are_given.Goals as goal
+
+pub returns : goal.returns
+returns g c =
+    let enc = g.K.TrieKey.encoding in
+    let is = g.K.TrieKey.is_value in
+    let eq = g.K.PartialEq.eq in
+    let tells = g.met.K.TrieKey.distinct in
+    record {
+      given = λ m keyed e. walks.given_above enc is eq m keyed e tells;
+      begins = λ m keyed e. walks.begins_above enc is eq m keyed e;
+      has_value = λ m keyed e. walks.value_above enc is eq m keyed e;
+    }

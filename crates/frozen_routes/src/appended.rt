@@ -1,5 +1,5 @@
 //! A routing table for reading, made row by row in order.
-ghost use Rattle.std.specs.Prelude.{◌≡◌, ◌-◌, ◌^◌, ◌<◌, ◌≤◌, ◌++◌, [], ◌∷◌, IfErr, OnOk, length};
+ghost use Rattle.std.specs.Prelude.{◌≡◌, ◌≢◌, ◌-◌, ◌^◌, ◌<◌, ◌≤◌, ◌++◌, [], ◌∷◌, IfErr, IsOk, OnOk, length};
 ghost use Rattle.frozen_routes.specs.Routes.{AreRowsInOrder};
 
 use crate::frozen::FrozenRoutes;
@@ -44,8 +44,8 @@ impl<A: Address, V> FrozenRoutes<A, V> {
     ///
     /// # Errors
     ///
-    /// The network doesn't come after all others. The table holds 2^32 - 1 rows. Memory is refused. The row comes back,
-    /// and the table is as before.
+    /// In this order: the table holds 2^32 - 1 rows; the network doesn't come after all others; memory
+    /// is refused. The row comes back, and the table is as before.
     pub fn push(&mut self, network: Network<A>, value: V) -> Result<(), PushError<A, V>>
         ensures ok { OnOk result (self.new ≡ self.old ++ (network, value) ∷ []) }
         ensures rising { OnOk result (AreRowsInOrder A.BITS A.number self.new) }
@@ -53,6 +53,9 @@ impl<A: Address, V> FrozenRoutes<A, V> {
             → AreRowsInOrder A.BITS A.number (self.old ++ (network, value) ∷ []) → ⊥) }
         ensures full { IfErr result (λ e. e.why ≡ PushWhy.Full
             → 2 ^ 32 - 1 ≤ length self.old) }
+        ensures room { IfErr result (λ e. e.why ≢ PushWhy.Full → length self.old < 2 ^ 32 - 1) }
+        ensures memory { IfErr result (λ e. e.why ≡ PushWhy.Memory
+            → AreRowsInOrder A.BITS A.number (self.old ++ (network, value) ∷ [])) }
         ensures handed_back { IfErr result (λ e. e.row ≡ (network, value)) }
         ensures unchanged { IfErr result (λ _. self.new ≡ self.old) }
     {
@@ -80,9 +83,11 @@ impl<A: Address, V> FrozenRoutes<A, V> {
     ///
     /// # Errors
     ///
-    /// Memory for the table is refused. Each call answers the same without it.
+    /// Memory for the table is refused, which fewer than 256 rows never meet. Each call returns the same
+    /// without it.
     pub fn finish(&mut self) -> Result<(), Memory>
         ensures same { self.new ≡ self.old }
+        ensures few { length self.old < 256 → IsOk result }
     {
         self.rows.shrink_to_fit();
         self.up.shrink_to_fit();

@@ -1,5 +1,5 @@
 //! A routing table for reading, made of all its rows in order.
-ghost use Rattle.std.specs.Prelude.{◌≡◌, ◌^◌, ◌<◌, ◌≤◌, ℕ, IfErr, IfOk, OnOk, length};
+ghost use Rattle.std.specs.Prelude.{◌≡◌, ◌^◌, ◌<◌, ◌≤◌, ℕ, IfErr, IfOk, IsOk, OnOk, length};
 ghost use Rattle.frozen_routes.specs.Routes.{AreLinked, AreRowsInOrder, IsFirstOutOfOrder, base_numbers, bit_counts};
 
 use crate::frozen::FrozenRoutes;
@@ -35,7 +35,7 @@ impl<A: Address, V> FrozenRoutes<A, V> {
     ///
     /// A network doesn't come after that of the row before it, and the error says of the first such row where it
     /// stands. There are 2^32 rows or more. Memory for the links or for the table of first bits is refused, before any
-    /// row is read. The rows come back.
+    /// row is read. The rows come back. Of no row the call never fails.
     pub fn from_sorted(rows: Vec<(Network<A>, V)>) -> Result<FrozenRoutes<A, V>, SortedError<A, V>>
         ensures ok { IfOk result (λ routes. routes ≡ rows.items) }
         ensures rising { OnOk result (AreRowsInOrder A.BITS A.number rows.items) }
@@ -43,6 +43,7 @@ impl<A: Address, V> FrozenRoutes<A, V> {
         ensures unsorted { IfErr result (λ e. (i : ℕ) → e.why ≡ SortedWhy.Unsorted i
             → IsFirstOutOfOrder A.BITS A.number rows.items i) }
         ensures full { IfErr result (λ e. e.why ≡ SortedWhy.Full → 2 ^ 32 ≤ length rows.items) }
+        ensures none { length rows.items ≡ 0 → IsOk result }
     {
         let alloc = *rows.allocator();
         match links_and_tops(alloc, &rows) {
@@ -67,6 +68,7 @@ fn links_and_tops<A: Address, V>(
     ensures unsorted { IfErr result (λ why. (i : ℕ) → why ≡ SortedWhy.Unsorted i
         → IsFirstOutOfOrder A.BITS A.number rows.now i) }
     ensures full { IfErr result (λ why. why ≡ SortedWhy.Full → 2 ^ 32 ≤ length rows.now) }
+    ensures none { length rows.now ≡ 0 → IsOk result }
 {
     let count = rows.len();
     if count > u32::MAX as usize {

@@ -1,5 +1,5 @@
 //! A table of how many networks come before each value of an address's first bits, which shortens searches.
-ghost use Rattle.std.specs.Prelude.{◌≡◌, ◌+◌, ◌*◌, ◌-◌, ◌^◌, ◌<◌, ◌≤◌, ℕ, [], IfOk, length, slice_index};
+ghost use Rattle.std.specs.Prelude.{◌≡◌, ◌+◌, ◌*◌, ◌-◌, ◌^◌, ◌<◌, ◌≤◌, ℕ, [], IfOk, IsOk, length, slice_index};
 ghost use Rattle.std.specs.Vec.{vec_capacity};
 ghost use Rattle.frozen_routes.specs.Routes.{AreFirstTops, AreRowsInOrder, IsFirstTop, base_numbers};
 
@@ -94,6 +94,7 @@ impl Tops {
         ensures rest { IfOk result (λ made. made.0.rest < 128) }
         ensures counts { IfOk result (λ made. made.0.counts.items ≡ []) }
         ensures room { IfOk result (λ made. made.1 ≤ vec_capacity made.0.counts) }
+        ensures few { networks < 256 → IsOk result }
     {
         if networks < 256 {
             return Ok((Tops::none(alloc), 0));

@@ -5,3 +5,4 @@ pub mod Faults
 pub mod Distinct
 pub mod Addresses
 pub mod Maps
+pub mod Whole

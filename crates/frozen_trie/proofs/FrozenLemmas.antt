@@ -9,3 +9,4 @@ pub mod Prefixes
 pub mod Written
 pub mod Changed
 pub mod Ups
+pub mod Laws

@@ -1,7 +1,8 @@
 //! Pairs in order, made a map for reading.
-ghost use Rattle.std.specs.Prelude.{◌≡◌, ◌≤◌, ◌^◌, ℕ, length, IfOk, IfErr, OnOk};
+ghost use Rattle.std.specs.Prelude.{◌≡◌, ◌≤◌, ◌^◌, ℕ, All, length, IfOk, IfErr, IsOk, OnOk};
 ghost use Rattle.nibble_map.specs.Lists.{IsRising};
 ghost use Rattle.radix_trie.specs.Building.{pairs_in_order};
+ghost use Rattle.radix_trie.specs.Keys.{IsKeyed};
 ghost use Rattle.frozen_trie.specs.Frozen.{IsFirstUnsorted, IsFrozen, codes_of};
 
 use crate::codes::Codes;
@@ -36,7 +37,7 @@ impl<K: TrieKey, V> FrozenTrie<K, V> {
     ///
     /// The encoding of a pair isn't above that of the pair before it, and the error says of the first such pair where it
     /// stands. There are 2^32 pairs or more. Memory is refused, for an encoding, or for the list of them and the links; the
-    /// encodings together take less than 2^31 bytes. The pairs come back.
+    /// encodings together take less than 2^31 bytes. The pairs come back. Of no pair the call never fails.
     pub fn from_sorted(
         alloc: Global,
         pairs: Vec<(K, V)>,
@@ -49,6 +50,8 @@ impl<K: TrieKey, V> FrozenTrie<K, V> {
             → IsFirstUnsorted (codes_of K.encoding pairs.items) i) }
         ensures full { IfErr result (λ e. e.why ≡ SortedWhy.Full
             → 2 ^ 32 ≤ length pairs.items) }
+        ensures none { length pairs.items ≡ 0 → IsOk result }
+        ensures keyed { IfOk result (IsKeyed K.encoding K.is_value) }
     {
         match codes_and_links(alloc, &pairs) {
             Ok((codes, up)) => Ok(FrozenTrie::from_parts(codes, pairs, up, alloc)),
@@ -66,6 +69,8 @@ pub(crate) fn codes_and_links<K: TrieKey, V>(
     ensures unsorted { (i : ℕ) → result ≡ Err (SortedWhy.Unsorted i)
         → IsFirstUnsorted (codes_of K.encoding pairs.now) i }
     ensures full { result ≡ Err SortedWhy.Full → 2 ^ 32 ≤ length pairs.now }
+    ensures none { length pairs.now ≡ 0 → IsOk result }
+    ensures values { OnOk result (All (λ p. K.is_value p.0) pairs.now) }
 {
     let Ok(mut up) = Vec::with_capacity(alloc, pairs.len()) else {
         return Err(SortedWhy::Memory);

@@ -1,5 +1,5 @@
 //! Lists of nibbles packed in one array, two to a byte.
-ghost use Rattle.std.specs.Prelude.{◌≡◌, ◌≢◌, ◌↔◌, ◌<◌, ◌≤◌, ◌^◌, ◌++◌, [], ◌∷◌, ℕ, true, false, drop, length, slice_index, slice_index_or, take, IsTrue, IfErr, OnOk};
+ghost use Rattle.std.specs.Prelude.{◌≡◌, ◌≢◌, ◌↔◌, ◌-◌, ◌<◌, ◌≤◌, ◌^◌, ◌++◌, [], ◌∷◌, ℕ, true, false, drop, length, slice_index, slice_index_or, take, IsFalse, IsTrue, IfErr, IsOk, OnOk};
 ghost use Rattle.radix_keys.specs.Packing.{IsPadded, unpacked};
 ghost use Rattle.nibble_map.specs.Lists.{IsRising, is_prefix};
 ghost use Rattle.frozen_trie.specs.Codes.{code_at, IsSide};
@@ -66,6 +66,14 @@ impl Codes {
         ensures { result ≡ length self.now }
     {
         self.ends.len()
+    }
+
+    /// Whether there are as many lists as links can count.
+    pub(crate) fn is_full(&self) -> bool
+        ensures full { IsTrue result → 2 ^ 32 - 1 ≤ length self.now }
+        ensures room { IsFalse result → length self.now < 2 ^ 32 - 1 }
+    {
+        self.len() >= u32::MAX as usize
     }
 
     /// The list at an index.
@@ -186,7 +194,8 @@ impl Codes {
     /// Memory for the table is refused.
     pub(crate) fn finish(&mut self, alloc: Global) -> Result<(), Memory>
         requires { IsRising self.old }
-        ensures { self.new ≡ self.old }
+        ensures same { self.new ≡ self.old }
+        ensures few { length self.old < 2 ^ 16 → IsOk result }
     {
         self.bytes.shrink_to_fit();
         self.ends.shrink_to_fit();

@@ -1,8 +1,9 @@
 //! A frozen copy of a trie that stays.
-ghost use Rattle.std.specs.Prelude.{◌≡◌, ◌≤◌, ◌^◌, [], IfOk};
+ghost use Rattle.std.specs.Prelude.{◌≡◌, ◌≤◌, ◌^◌, [], IfOk, IsOk};
 ghost use Rattle.std.specs.FinMap as map;
 ghost use Rattle.nibble_map.specs.Copies.{IsMapCopy, IsPairClone};
 ghost use Rattle.masked_tree.specs.Same.{AreEntryCopies};
+ghost use Rattle.radix_trie.specs.Keys.{IsKeyed};
 ghost use Rattle.radix_trie.specs.Views.{pairs_below};
 ghost use Rattle.frozen_trie.specs.Frozen.{coded_pairs};
 
@@ -18,7 +19,8 @@ use radix_trie::{Trie, TrieCommon, keys_stand_at_their_encodings, split_part_goe
 ///
 /// # Errors
 ///
-/// The trie holds 2^32 pairs or more. Memory is refused, as by `freeze`, or in a clone of a key or a value.
+/// The trie holds 2^32 pairs or more. Memory is refused, as by `freeze`, or in a clone of a key or a value. Of no pair the
+/// call never fails.
 pub fn frozen_copy<K: TrieKey + Clone, V: Clone>(
     trie: &Trie<K, V>,
 ) -> Result<FrozenTrie<K, V>, FreezeWhy>
@@ -26,7 +28,11 @@ pub fn frozen_copy<K: TrieKey + Clone, V: Clone>(
         ≡ K.encoding key }
     ensures copy { IfOk result
         (λ copy. IsMapCopy (IsPairClone K.is_clone V.is_clone) trie.now copy) }
+    ensures keyed { IfOk result (λ copy.
+        ((key clone : K) → K.is_clone key clone → K.is_value key → K.is_value clone)
+        → IsKeyed K.encoding K.is_value trie.now → IsKeyed K.encoding K.is_value copy) }
     ensures full { result ≡ Err FreezeWhy.Full → 2 ^ 32 ≤ map.len trie.now }
+    ensures none { map.len trie.now ≡ 0 → IsOk result }
 {
     keys_stand_at_their_encodings(trie);
     split_part_goes_back(trie);
@@ -41,9 +47,13 @@ pub fn frozen_copy<K: TrieKey + Clone, V: Clone>(
 fn cloned_pairs<K: TrieKey + Clone, V: Clone>(trie: &Trie<K, V>) -> Result<Vec<(K, V)>, Memory>
     requires same_encoding { (key copy : K) → K.is_clone key copy → K.encoding copy
         ≡ K.encoding key }
-    ensures { IfOk result (λ pairs. AreEntryCopies (IsPairClone K.is_clone V.is_clone)
+    ensures copies { IfOk result (λ pairs. AreEntryCopies (IsPairClone K.is_clone V.is_clone)
         (coded_pairs K.encoding (pairs_below trie.now [])) (coded_pairs K.encoding pairs.items)) }
+    ensures none { map.len trie.now ≡ 0 → IsOk result }
 {
+    if trie.is_empty() {
+        return Ok(Vec::new(trie.allocator()));
+    }
     let mut pairs = Vec::with_capacity(trie.allocator(), trie.len())?;
     for (key, value) in trie.iter()? {
         let pair = (key.clone()?, value.clone()?);

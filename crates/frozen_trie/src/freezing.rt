@@ -1,5 +1,5 @@
 //! A trie, made a map for reading.
-ghost use Rattle.std.specs.Prelude.{◌≡◌, ◌≤◌, ◌^◌, [], IfOk, IfErr};
+ghost use Rattle.std.specs.Prelude.{◌≡◌, ◌≤◌, ◌^◌, [], IfOk, IfErr, IsOk};
 ghost use Rattle.std.specs.FinMap as map;
 ghost use Rattle.radix_trie.specs.Views.{pairs_below};
 ghost use Rattle.frozen_trie.specs.Frozen.{IsFrozen};
@@ -33,13 +33,14 @@ pub struct FreezeError<K: TrieKey, V> {
 ///
 /// The trie holds 2^32 pairs or more. Memory is refused, for the walk over the trie, an encoding, the list of them and the
 /// links, or the list of the pairs; the encodings together take less than 2^31 bytes. The trie comes back as it was: the
-/// pairs are moved last.
+/// pairs are moved last. Of no pair the call never fails.
 pub fn freeze<K: TrieKey + Drop, V: Drop>(
     trie: Trie<K, V>,
 ) -> Result<FrozenTrie<K, V>, FreezeError<K, V>>
     ensures same { IfOk result (λ frozen. frozen ≡ trie) }
     ensures handed_back { IfErr result (λ e. e.trie ≡ trie) }
     ensures full { IfErr result (λ e. e.why ≡ FreezeWhy.Full → 2 ^ 32 ≤ map.len trie) }
+    ensures none { map.len trie ≡ 0 → IsOk result }
 {
     keys_stand_at_their_encodings(&trie);
     split_part_goes_back(&trie);
@@ -63,6 +64,7 @@ pub(crate) fn codes_and_links<K: TrieKey, V>(
     ensures ok { IfOk result
         (λ r. IsFrozen K.encoding r.0 (pairs_below trie.now []) r.1.items) }
     ensures full { result ≡ Err FreezeWhy.Full → 2 ^ 32 ≤ map.len trie.now }
+    ensures none { map.len trie.now ≡ 0 → IsOk result }
 {
     if trie.len() > u32::MAX as usize {
         return Err(FreezeWhy::Full);

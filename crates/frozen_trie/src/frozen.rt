@@ -124,7 +124,8 @@ impl<K: TrieKey, V> FrozenTrie<K, V> {
 
     /// The map is that of its pairs.
     pub(crate) fn is_of_its_pairs(&self)
-        ensures { self.now ≡ map_of_pairs K.encoding (pairs_below self.now []) }
+        ensures mapped { self.now ≡ map_of_pairs K.encoding (pairs_below self.now []) }
+        ensures rising { IsRising (codes_of K.encoding (pairs_below self.now [])) }
     {
         let _pairs = &self.pairs;
     }

@@ -9,6 +9,7 @@ mod formats;
 mod freezing;
 mod frozen;
 mod heads;
+mod laws;
 mod linked;
 mod packed;
 mod prefixes;
@@ -22,6 +23,10 @@ pub use copies::frozen_copy;
 pub use file::{FileError, FileItem, FileWhy, ItemError};
 pub use freezing::{FreezeError, FreezeWhy, freeze};
 pub use frozen::FrozenTrie;
+pub use laws::{
+    files_have_no_fault, frozen_stands_at_its_encodings, text_files_have_no_fault,
+    texts_stand_at_their_bytes,
+};
 pub use linked::{PushError, PushWhy};
 pub use prefixes::CommonPrefixes;
 pub use texts::{FrozenTexts, TextPrefixes, Texts};

@@ -28,7 +28,7 @@ pub struct PushError<V> {
 }
 
 /// Whether a list comes after all of some rising ones.
-fn follows(codes: &Codes, list: &Packed<'_>) -> bool
+pub(crate) fn follows(codes: &Codes, list: &Packed<'_>) -> bool
     requires { IsRising codes.now }
     ensures { IsTrue result ↔ IsRising (codes.now ++ list.now ∷ []) }
 {
@@ -84,7 +84,7 @@ pub(crate) fn push_last(
         → IsRising (codes.old ++ list.now ∷ []) → ⊥) }
     ensures full { IfErr result (λ why. why ≡ PushWhy.Full → 2 ^ 32 - 1 ≤ length codes.old) }
 {
-    if codes.len() >= u32::MAX as usize {
+    if codes.is_full() {
         return Err(PushWhy::Full);
     }
     if !follows(codes, list) {

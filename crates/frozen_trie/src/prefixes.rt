@@ -1,7 +1,8 @@
 //! The pairs whose encodings are prefixes of a list, from the longest up or in order.
-ghost use Rattle.std.specs.Prelude.{◌≡◌, ◌-◌, ◌≤◌, length};
+ghost use Rattle.std.specs.Prelude.{◌≡◌, ◌-◌, ◌≤◌, IfSome, Some, length};
 ghost use Rattle.std.specs.FinMap as map;
-ghost use Rattle.std.specs.Iterator.{YieldsFirstBy, YieldsLastBy, item_count};
+ghost use Rattle.std.specs.Iterator.{UpTo, YieldsFirstBy, YieldsLastBy, at_most, item_count};
+ghost use Rattle.std.specs.Iterator.SizeHint.{IsWithinCount};
 ghost use Rattle.radix_trie.specs.Walks.{deref_pair};
 ghost use Rattle.frozen_trie.specs.Frozen.{prefixes_up};
 
@@ -71,7 +72,11 @@ impl<'a, K: TrieKey, V> Iterator for CommonPrefixes<'a, K, V> {
         Some(pair)
     }
 
-    fn size_hint(&self) -> (usize, Option<usize>) {
+    fn size_hint(&self) -> (usize, Option<usize>)
+        ensures lower { IsWithinCount result.0 (at_most (length self.now)) }
+        ensures upper { IfSome result.1 (UpTo (at_most (length self.now))) }
+        ensures exact { result ≡ (length self.now, Some (length self.now)) }
+    {
         let len = self.len();
         (len, Some(len))
     }

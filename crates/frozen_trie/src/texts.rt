@@ -1,11 +1,13 @@
 //! A map from byte strings for reading: its keys are packed, and no key is an object of its own.
-ghost use Rattle.std.specs.Prelude.{◌≡◌, ◌↔◌, ◌+◌, ◌-◌, ◌<◌, ◌≤◌, ◌^◌, [], ◌∷◌, Some, drop, length, reverse, IsTrue, option_copied, option_map, slice_get};
+ghost use Rattle.std.specs.Prelude.{◌≡◌, ◌↔◌, ◌+◌, ◌-◌, ◌<◌, ◌≤◌, ◌^◌, [], ◌∷◌, Some, length, reverse, IsTrue, option_copied, option_map, slice_get};
 ghost use Rattle.std.specs.FinMap as map;
+ghost use Rattle.std.specs.declared.ops.Bound.TheVariants.{Excluded, Included};
+ghost use Rattle.nibble_map.specs.Lists.{IsRising};
 ghost use Rattle.nibble_map.specs.Maps.{IsStored, value_at};
 ghost use Rattle.nibble_map.specs.Nibbles.{nibbles};
-ghost use Rattle.radix_trie.specs.Views.{IsPairAbove, pairs_above, pairs_before, pairs_below};
+ghost use Rattle.radix_trie.specs.Views.{IsPairAbove, pairs_above, pairs_before, pairs_below, pairs_within};
 ghost use Rattle.radix_trie.specs.Walks.{deref_pair};
-ghost use Rattle.frozen_trie.specs.Frozen.{map_of_pairs, prefixes_up};
+ghost use Rattle.frozen_trie.specs.Frozen.{codes_of, map_of_pairs, prefixes_up};
 
 use crate::codes::Codes;
 use crate::packed::Packed;
@@ -23,8 +25,10 @@ mod written;
 pub use prefixes::TextPrefixes;
 pub use walk::Texts;
 
-/// A map from byte strings to values, which is made in the order of the keys and then read. The keys' bytes lie one behind
-/// the other, so a pair takes those of its key, its value and 17 bytes more at most; a key comes out as the bytes that went in.
+/// A map from byte strings to values, which is made in the order of the keys and then read. The keys'
+/// bytes lie one behind the other, so a pair takes those of its key, its value and 16 bytes more, once
+/// `finish` has dropped spare room; from 65,536 pairs on its table takes 2^18 bytes and half a byte a
+/// pair besides, 21 bytes more a pair at most. A key comes out as the bytes that went in.
 ///
 /// A contract sees it as it sees a `FrozenTrie`: as the finite map from the nibbles of each key to the pair of the key's
 /// bytes and its value. The order of the nibbles is that of the bytes. A call that reads allocates nothing, and none is
@@ -118,11 +122,11 @@ impl<V> FrozenTexts<V> {
         Texts::new(self, 0, self.len())
     }
 
-    /// The pairs whose keys are `from` or come after it, and come before `to`, in order: those before `to` without the first
-    /// ones, which come before `from`. Where `from` isn't before `to` there is none.
+    /// The pairs whose keys are `from` or come after it, and come before `to`, in order. Where
+    /// `from` isn't before `to` there is none.
     pub fn between(&self, from: &[u8], to: &[u8]) -> Texts<'_, V>
-        ensures walk { result ≡ drop (length (pairs_before self.now [] (nibbles from.now)))
-            (pairs_before self.now [] (nibbles to.now)) }
+        ensures walk { result ≡ pairs_within self.now [] (Included (nibbles from.now))
+            (Excluded (nibbles to.now)) }
     {
         let start = lower(&self.codes, &Packed::of_bytes(from));
         let end = lower(&self.codes, &Packed::of_bytes(to));
@@ -188,7 +192,8 @@ impl<V> FrozenTexts<V> {
 
     /// The map is that of its pairs.
     pub(crate) fn is_of_its_pairs(&self)
-        ensures { self.now ≡ map_of_pairs nibbles (pairs_below self.now []) }
+        ensures mapped { self.now ≡ map_of_pairs nibbles (pairs_below self.now []) }
+        ensures rising { IsRising (codes_of nibbles (pairs_below self.now [])) }
     {
         let _values = &self.values;
     }

@@ -1,5 +1,6 @@
 //! A frozen trie, made a trie again.
-ghost use Rattle.std.specs.Prelude.{◌≡◌, ◌++◌, [], IfOk, IfErr};
+ghost use Rattle.std.specs.Prelude.{◌≡◌, ◌++◌, [], IfOk, IfErr, IsOk};
+ghost use Rattle.std.specs.FinMap as map;
 ghost use Rattle.radix_trie.specs.Views.{pairs_below};
 
 use crate::frozen::FrozenTrie;
@@ -20,12 +21,13 @@ impl<K: TrieKey + Drop, V: Drop> FrozenTrie<K, V> {
     ///
     /// # Errors
     ///
-    /// Memory is refused, for a key's encoding or a node of the trie. No pair is lost, and none is dropped: those that are
+    /// Memory is refused, for a key's encoding or a node of the trie; of no pair it never is. No pair is lost, and none is dropped: those that are
     /// stored in the trie come back with it, and the others beside it, so that a caller can go on where the call stopped.
     pub fn thaw(self) -> Result<Trie<K, V>, ThawError<K, V>>
         ensures same { IfOk result (λ trie. trie ≡ self) }
         ensures handed_back { IfErr result
             (λ e. e.pairs.items ++ pairs_below e.trie [] ≡ pairs_below self []) }
+        ensures none { map.len self ≡ 0 → IsOk result }
     {
         let (pairs, alloc) = self.into_parts();
         let mut rest = pairs;

@@ -1,21 +1,29 @@
 -- The rows of maps, and the map of a file.
-use Rattle.std.proofs.Common.{◌≡◌, ℕ, ◌+◌, ◌<◌, ◌^◌, List, [], ◌∷◌, length, take, slice_get, Some, Result, Ok, Err, OnOk, refl, sym, ap, subst, ◌∙◌, arith}
+use Rattle.std.proofs.Common.{◌≡◌, ℕ, ◌+◌, ◌<◌, ◌^◌, List, [], ◌∷◌, ◌++◌, length, take, slice_get, IfSome, None, Option, Some, inl, inr, Result, Ok, Err, OnOk, refl, sym, ap, subst, ◌∙◌, arith}
 use Rattle.std.proofs.lemmas.List.{length-map, take_all}
 use Rattle.nibble_map.proofs.ListLemmas.Rising.{Each-append}
-use Rattle.nibble_map.specs.Lists.{Each}
+use Rattle.nibble_map.specs.Lists.{Each, IsRising}
 use Rattle.nibble_map.specs.Maps.{PairMap}
 use Rattle.radix_trie.specs.Views.{pairs_below}
-use Rattle.frozen_trie.specs.FileRows.{FitsRow}
-use Rattle.frozen_trie.specs.Files.{AreItems, AreSamePairs, IsExact, IsFileable, IsSameMap, file_of, pair_rows}
-use Rattle.frozen_trie.specs.Frozen.{map_of_pairs}
+use Rattle.frozen_trie.specs.FileRows.{FitsRow, IsFault, IsFaultBehind}
+use Rattle.frozen_trie.specs.Files.{AreItems, AreSamePairs, IsExact, IsFileFault, IsFileable, IsSameMap, RefusesRow, file_of, pair_rows}
+use Rattle.frozen_trie.specs.Frozen.{codes_of, map_of_pairs}
+use Rattle.frozen_trie.specs.Texts.{IsBehindAll}
+use Rattle.frozen_trie.specs.declared.file.FileWhy.{FileWhy}
 use Rattle.frozen_trie.proofs.FileLemmas.Distinct.{file_tells_rows}
 use Rattle.frozen_trie.proofs.FileLemmas.Rows.{taken}
 use Rattle.frozen_trie.proofs.FrozenLemmas.Whole.{count_whole}
+use Rattle.frozen_trie.proofs.TextLemmas.Appended.{behind_if_rising}
 
 -- what follows of two facts at `Ok`
 pub on_ok_both : {T E P Q S : Type 0} (r : Result T E) → (P → Q → S) → OnOk r P → OnOk r Q → OnOk r S
 on_ok_both (Ok x) f p q = f p q
 on_ok_both (Err e) f p q = tt
+
+-- what comes behind no pair of a map keeps the codes from rising
+pub not_rising : {K V : Type 0} (enc : K → List ℕ) (m : PairMap K V) (e : List ℕ) → m ≡ map_of_pairs enc (pairs_below m []) → IsRising (codes_of enc (pairs_below m []))
+    → (IsBehindAll m e → ⊥) → IsRising (codes_of enc (pairs_below m []) ++ e ∷ []) → ⊥
+not_rising enc m e mapped rises front more = front (subst (λ x. IsBehindAll x e) (sym mapped) (behind_if_rising enc (pairs_below m []) rises e more))
 
 module _ {K V : Type 0} (key : K → List ℕ) (value : V → List ℕ) where
   -- as many rows as pairs
@@ -42,6 +50,29 @@ module _ {K V : Type 0} (key : K → List ℕ) (value : V → List ℕ) where
       few = omega (arith, few, count_rows (pairs_below m []), count_whole m);
       mapped = mapped;
     }
+
+    -- what is at fault behind pairs that were all looked at
+    pub fault_of_map : (enc : K → List ℕ) (why : FileWhy) (known : Option (List ℕ)) (pair place : ℕ)
+        → IfSome known (λ bytes. IsFault (λ m. pair_rows key value (pairs_below m []))
+        (λ m. AreItems is_key is_value (take (length (pair_rows key value (pairs_below m []))) (pairs_below m []))) (RefusesRow key value is_key is_value enc) why bytes pair place)
+        → IfSome known (λ bytes. IsFileFault key value is_key is_value enc why bytes pair place)
+    fault_of_map enc why None pair place h = tt
+    fault_of_map enc why (Some x) pair place (inl h) = inl h
+    fault_of_map enc why (Some x) pair place (inr h) =
+        let behind : IsFaultBehind (λ (m : PairMap K V). pair_rows key value (pairs_below m [])) (λ m. AreItems is_key is_value (pairs_below m [])) (RefusesRow key value is_key is_value enc) why x pair place =
+        record {
+          map = h.map;
+          count = h.count;
+          rest = h.rest;
+          few = h.few;
+          fits = h.fits;
+          items = all_items (pairs_below h.map []) h.items;
+          begin = h.begin;
+          pairs = h.pairs;
+          ends = h.ends;
+          fault = h.fault;
+        } in
+        inr behind
 
     module _ (same_key : K → K → Type 0) (same_value : V → V → Type 0) (told_key : (x y : K) → is_key x → is_key y → key x ≡ key y → same_key x y)
         (told_value : (x y : V) → is_value x → is_value y → value x ≡ value y → same_value x y) where

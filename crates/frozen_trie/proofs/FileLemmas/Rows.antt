@@ -1,5 +1,5 @@
 -- The rows of a file.
-use Rattle.std.proofs.Common.{◌≡◌, ℕ, ◌+◌, List, [], ◌∷◌, ◌++◌, take, slice_get, Some, append-nil, sym, ap, ◌∙◌}
+use Rattle.std.proofs.Common.{◌≡◌, ℕ, ◌+◌, List, [], ◌∷◌, ◌++◌, drop, take, slice_get, Some, append-nil, append_assoc, sym, ap, ◌∙◌, take-append-drop}
 use Rattle.std.proofs.lemmas.Grind.{flat_map-append}
 use Rattle.std.proofs.lemmas.List.{take_more}
 use Rattle.std.proofs.lemmas.Option.{get_or_from_slice_get, slice_get_within}
@@ -20,3 +20,18 @@ file_rows-taken rs k r e = ap file_rows (taken rs k r e) ∙ file_rows-more (tak
 -- the row at an index by the names of its parts
 pub row_by_parts : (rs : List (List ℕ × List ℕ)) (at : ℕ) (a b k v : List ℕ) → slice_get rs at ≡ Some (a, b) → k ≡ a → v ≡ b → slice_get rs at ≡ Some (k, v)
 row_by_parts rs at a b k v e f g = e ∙ ap (λ x. Some (x, b)) (sym f) ∙ ap (λ x. Some (k, x)) (sym g)
+
+-- a file's bytes up to a row, and those from it on
+pub file_rows-parted : (head : List ℕ) (rs : List (List ℕ × List ℕ)) (k : ℕ) → head ++ file_rows rs ≡ (head ++ file_rows (take k rs)) ++ file_rows (drop k rs)
+file_rows-parted head rs k =
+    ap (λ (xs : List (List ℕ × List ℕ)). head ++ file_rows xs) (sym (take-append-drop k rs))
+    ∙ ap (λ (l : List ℕ). head ++ l) (flat_map-append row_of (take k rs) (drop k rs)) ∙ sym (append_assoc head (file_rows (take k rs)) (file_rows (drop k rs)))
+
+-- up to a row, the row's, and those behind it
+pub file_rows-at : (head : List ℕ) (rs : List (List ℕ × List ℕ)) (k : ℕ) (r : List ℕ × List ℕ) → slice_get rs k ≡ Some r
+    → head ++ file_rows rs ≡ (head ++ file_rows (take k rs)) ++ (row_of r ++ file_rows (drop (k + 1) rs))
+file_rows-at head rs k r e =
+    file_rows-parted head rs (k + 1)
+    ∙ ap (λ (l : List ℕ). (head ++ l) ++ file_rows (drop (k + 1) rs)) (file_rows-taken rs k r e)
+    ∙ ap (λ (l : List ℕ). l ++ file_rows (drop (k + 1) rs)) (sym (append_assoc head (file_rows (take k rs)) (row_of r)))
+    ∙ append_assoc (head ++ file_rows (take k rs)) (row_of r) (file_rows (drop (k + 1) rs))

@@ -1,6 +1,6 @@
 -- What the searches' answers say of the map.
-use Rattle.std.proofs.Common.{max, ◌≡◌, ℕ, zero, suc, ◌+◌, ◌-◌, ◌<◌, ◌≤◌, ◌⊎◌, inl, inr, Bool, true, false, not, T, List, [], ◌∷◌, length, map, take, drop, get_or, Some, None, refl, sym, ap, subst, ◌∙◌, arith}
-use Rattle.std.proofs.lemmas.List.{drop-take, drop_all, length-map, length-take-le}
+use Rattle.std.proofs.Common.{max, ◌≡◌, ℕ, zero, suc, ◌-◌, ◌<◌, ◌≤◌, ◌⊎◌, inl, inr, Bool, true, false, cond, not, T, List, [], ◌∷◌, length, map, take, drop, get_or, Some, None, refl, sym, ap, subst, ◌∙◌, arith}
+use Rattle.std.proofs.lemmas.List.{length-map, length-take-le}
 use Rattle.std.specs.FinMap as fin
 use Rattle.std.specs.List.{filter}
 use Rattle.radix_keys.proofs.KeyLemmas.Order.{three_ways}
@@ -8,6 +8,7 @@ use Rattle.nibble_map.specs.Lists.{IsBefore, IsPrefix, IsRising, Has, is_prefix}
 use Rattle.std.proofs.lemmas.Bool.{not-false, not-true}
 use Rattle.std.specs.Cmp.Lexicographic.{slice_cmp}
 use Rattle.std.specs.Ordering.{is_le, nat_cmp}
+use Rattle.std.specs.declared.ops.Bound.TheVariants.{Excluded, Included}
 use Rattle.nibble_map.specs.Maps.{IsStored, walk}
 use Rattle.nibble_map.specs.Stored.{stored}
 use Rattle.nibble_map.proofs.MapLemmas.Edits.{walk-by_entries, stored_by_entries}
@@ -15,7 +16,7 @@ use Rattle.nibble_map.proofs.ListLemmas.Unique.{before_not_itself}
 use Rattle.nibble_map.proofs.TreeLemmas.SomePrefixes.{before_through}
 use Rattle.nibble_map.proofs.ListLemmas.Parted.{prefix_length, is_prefix_true, prefix_by_test}
 use Rattle.frozen_trie.specs.Codes.{IsCut, IsLastPrefix, is_before, is_until, code_at}
-use Rattle.radix_trie.specs.Views.{IsPairAbove, pairs_after, pairs_below, pairs_before, pairs_from}
+use Rattle.radix_trie.specs.Views.{IsPairAbove, is_within, pairs_after, pairs_below, pairs_before, pairs_from, pairs_within}
 use Rattle.radix_trie.proofs.LawLemmas.Orders.{from_by_test, test_by_from}
 use Rattle.radix_trie.proofs.PathLemmas.Places.{below-nil}
 use Rattle.frozen_trie.specs.Frozen.{codes_of, map_of_pairs}
@@ -27,6 +28,11 @@ use Rattle.frozen_trie.proofs.FrozenLemmas.Rows.{get_at, entries_are_rows, store
 pub not_true : (b : Bool) → (b ≡ true → ⊥) → b ≡ false
 not_true true h = absurd (h refl)
 not_true false h = refl
+
+-- two tests of which the second fails
+second_fails : (b c : Bool) → c ≡ false → cond b c false ≡ false
+second_fails true c e = e
+second_fails false c e = refl
 
 -- an element of a list of codes stands at an index
 pub has_index : (cs : List (List ℕ)) (x : List ℕ) → Has cs x → (k : ℕ) × (k < length cs) × (code_at cs k ≡ x)
@@ -98,20 +104,54 @@ module _ {K V : Type 0} (enc : K → List ℕ) (ps : List (K × V)) (rises : IsR
   pub count_before_is : (q : List ℕ) (lo : ℕ) → IsCut (λ c. is_before c q) (codes_of enc ps) lo → lo ≡ length (pairs_before (map_of_pairs enc ps) [] q)
   count_before_is q lo low = sym (length-take-le lo ps (omega (arith, low.within, as_many))) ∙ ap length (before_is q lo low)
 
-  -- the pairs between the cuts before a and before b are those before b without those before a
-  pub between_is : (a b : List ℕ) (lo hi end : ℕ) → IsCut (λ c. is_before c a) (codes_of enc ps) lo → IsCut (λ c. is_before c b) (codes_of enc ps) hi
-      → lo ≤ end → (end ≡ hi) ⊎ ((end ≡ lo) × (hi ≤ lo))
-      → take (end - lo) (drop lo ps) ≡ drop (length (pairs_before (map_of_pairs enc ps) [] a)) (pairs_before (map_of_pairs enc ps) [] b)
-  between_is a b lo hi end low high l which =
-      elim which [
-        | inl e ↦ let n : hi ≡ lo + (end - lo) = omega (arith, e, l) in sym (drop-take lo (end - lo) ps) ∙ ap (λ k. drop lo (take k ps)) (sym n)
-        | inr e ↦
-            let n : end - lo ≡ 0 = (let same = e.0 in omega (arith, same)) in
-            ap (λ k. take k (drop lo ps)) n
-            ∙ sym (drop_all lo (take hi ps) (let less = e.1 in omega (arith, less, length-take-le hi ps (omega (arith, high.within, as_many)))))
+  -- no code in front of the cut before q is q or behind it
+  not_from : (q : List ℕ) (lo : ℕ) → IsCut (λ c. is_before c q) (codes_of enc ps) lo → (k : ℕ) → k < lo → is_le (slice_cmp nat_cmp q (code_at (codes_of enc ps) k)) ≡ false
+  not_from q lo low k l = not_true _ (λ t. elim (from_by_test q _ (subst T (sym t) tt)) [
+    | inl e ↦ before_not_itself q (subst (λ x. IsBefore x q) e (before_by_test _ q (low.before k l)))
+    | inr g ↦ before_not_itself q (before_through q _ q g (before_by_test _ q (low.before k l)))
+  ])
+
+  -- and each from the cut on is
+  from_on : (q : List ℕ) (lo : ℕ) → IsCut (λ c. is_before c q) (codes_of enc ps) lo → (k : ℕ) → lo ≤ k → k < length ps
+      → is_le (slice_cmp nat_cmp q (code_at (codes_of enc ps) k)) ≡ true
+  from_on q lo low k l m = true_of _ (test_by_from q _ (elim (which_before (code_at (codes_of enc ps) k) q) [
+    | inl b ↦ absurd (let no : true ≡ false = sym (before_passes _ q b) ∙ low.after k l (omega (arith, m, as_many)) in cc no)
+    | inr h ↦ h
+  ]))
+
+  -- the pairs between the cuts before a and before b are those within these bounds
+  pub within_is : (a b : List ℕ) (lo hi end : ℕ) → IsCut (λ c. is_before c a) (codes_of enc ps) lo → IsCut (λ c. is_before c b) (codes_of enc ps) hi
+      → lo ≤ end → (end ≡ hi) ⊎ ((end ≡ lo) × (hi ≤ lo)) → take (end - lo) (drop lo ps) ≡ pairs_within (map_of_pairs enc ps) [] (Included a) (Excluded b)
+  within_is a b lo hi end low high l which =
+      sym (ap (λ es. map (λ e. e.1) (filter (λ e. is_within (Included a) (Excluded b) e.0) es)) (ap fin.entries (below-nil (map_of_pairs enc ps)) ∙ entries_are_rows enc ps rises)
+      ∙ filter_rows enc (is_within (Included a) (Excluded b)) ps
+      ∙ filter_is_part enc (is_within (Included a) (Excluded b)) ps lo end l inside first middle last)
+    where
+      after_high : hi ≤ end
+      after_high = elim which [
+        | inl e ↦ omega (arith, e)
+        | inr e ↦ (let same = e.0 in let less = e.1 in omega (arith, same, less))
       ]
-      ∙ ap (λ k. drop k (take hi ps)) (count_before_is a lo low)
-      ∙ ap (drop (length (pairs_before (map_of_pairs enc ps) [] a))) (before_is b hi high)
+
+      inside : end ≤ length ps
+      inside = elim which [
+        | inl e ↦ omega (arith, e, high.within, as_many)
+        | inr e ↦ (let same = e.0 in omega (arith, same, low.within, as_many))
+      ]
+
+      first : (k : ℕ) → k < lo → is_within (Included a) (Excluded b) (code_at (codes_of enc ps) k) ≡ false
+      first k m = second_fails _ _ (not_from a lo low k m)
+
+      middle : (k : ℕ) → lo ≤ k → k < end → is_within (Included a) (Excluded b) (code_at (codes_of enc ps) k) ≡ true
+      middle k m n = elim which [
+        | inl e ↦
+            ap (λ c. cond c (is_le (slice_cmp nat_cmp a (code_at (codes_of enc ps) k))) false) (high.before k (omega (arith, e, n)))
+            ∙ from_on a lo low k m (omega (arith, n, inside))
+        | inr e ↦ absurd (let same = e.0 in omega (arith, same, m, n))
+      ]
+
+      last : (k : ℕ) → end ≤ k → k < length ps → is_within (Included a) (Excluded b) (code_at (codes_of enc ps) k) ≡ false
+      last k m n = ap (λ c. cond c (is_le (slice_cmp nat_cmp a (code_at (codes_of enc ps) k))) false) (high.after k (omega (arith, m, after_high)) (omega (arith, n, as_many)))
 
   -- the pairs that a test keeps are those from a cut on, where it fails before the cut and holds from it on
   rest_is : (t : List ℕ → Bool) (lo : ℕ) → lo ≤ length ps → ((k : ℕ) → k < lo → t (code_at (codes_of enc ps) k) ≡ false)
@@ -123,15 +163,7 @@ module _ {K V : Type 0} (enc : K → List ℕ) (ps : List (K × V)) (rises : IsR
 
   -- the pairs from the cut before q on are those from q on
   pub from_is : (q : List ℕ) (lo : ℕ) → IsCut (λ c. is_before c q) (codes_of enc ps) lo → take (length ps - lo) (drop lo ps) ≡ pairs_from (map_of_pairs enc ps) [] q
-  from_is q lo low = rest_is (λ c. is_le (slice_cmp nat_cmp q c)) lo (omega (arith, low.within, as_many))
-      (λ k l. not_true _ (λ t. elim (from_by_test q _ (subst T (sym t) tt)) [
-        | inl e ↦ before_not_itself q (subst (λ x. IsBefore x q) e (before_by_test _ q (low.before k l)))
-        | inr g ↦ before_not_itself q (before_through q _ q g (before_by_test _ q (low.before k l)))
-      ]))
-      (λ k l m. true_of _ (test_by_from q _ (elim (which_before (code_at (codes_of enc ps) k) q) [
-        | inl b ↦ absurd (let no : true ≡ false = sym (before_passes _ q b) ∙ low.after k l (omega (arith, m, as_many)) in cc no)
-        | inr h ↦ h
-      ])))
+  from_is q lo low = rest_is (λ c. is_le (slice_cmp nat_cmp q c)) lo (omega (arith, low.within, as_many)) (not_from q lo low) (from_on q lo low)
 
   -- those from the cut behind q on are those after q
   pub after_is : (q : List ℕ) (n : ℕ) → IsCut (λ c. not (is_before q c)) (codes_of enc ps) n → take (length ps - n) (drop n ps) ≡ pairs_after (map_of_pairs enc ps) [] q

@@ -2,16 +2,17 @@
 use Rattle.std.proofs.Common.{◌≡◌, ℕ, zero, suc, ◌+◌, ◌-◌, ◌^◌, ◌<◌, ◌≤◌, ◌⊎◌, List, [], ◌∷◌, length, reverse, take, drop, get_or, option_map, slice_get, Some, None, refl, sym, ap, subst, ◌∙◌, arith}
 use Rattle.std.proofs.lemmas.Option.{get_or_from_slice_get}
 use Rattle.std.specs.FinMap as fin
+use Rattle.std.specs.declared.ops.Bound.TheVariants.{Excluded, Included}
 use Rattle.nibble_map.specs.Lists.{IsRising}
 use Rattle.nibble_map.specs.Maps.{value_at}
 use Rattle.nibble_map.specs.Nibbles.{nibbles}
 use Rattle.radix_keys.proofs.NibbleLemmas.Bytes.{length-nibbles}
-use Rattle.radix_trie.specs.Views.{IsPairAbove, pairs_above, pairs_before, pairs_below}
+use Rattle.radix_trie.specs.Views.{IsPairAbove, pairs_above, pairs_before, pairs_below, pairs_within}
 use Rattle.frozen_trie.specs.Codes.{IsCut, IsLastPrefix, is_before, is_until, code_at}
 use Rattle.frozen_trie.specs.Frozen.{codes_of, prefixes_up}
 use Rattle.frozen_trie.specs.Texts.{AreTexts, packed_bytes, text_map, text_pairs}
 use Rattle.frozen_trie.proofs.FrozenLemmas.Prefixes.{step_up, walk_up_whole}
-use Rattle.frozen_trie.proofs.FrozenLemmas.Queries.{above_none, above_some, below_is, between_is, count_before_is, cuts_in_order, whole_is}
+use Rattle.frozen_trie.proofs.FrozenLemmas.Queries.{above_none, above_some, below_is, count_before_is, cuts_in_order, whole_is, within_is}
 use Rattle.frozen_trie.proofs.FrozenLemmas.Rows.{code_of_pair, get_at, get_none, len_is}
 
 module _ {V : Type 0} where
@@ -100,13 +101,13 @@ module _ {V : Type 0} (cs : List (List ℕ)) (vs : List V) (up : List ℕ) (kept
       ∙ below_is nibbles (text_pairs cs vs) texts_rise q lo hi (subst (λ ds. IsCut (λ c. is_before c q) ds lo) kept.frozen.keyed low)
       (subst (λ ds. IsCut (λ c. is_until c q) ds hi) kept.frozen.keyed high)
 
-  -- the pairs between the cuts before a and before b are those before b without those before a
-  pub texts_between : (a b : List ℕ) (lo hi end : ℕ) → IsCut (λ c. is_before c a) cs lo → IsCut (λ c. is_before c b) cs hi
+  -- the pairs between the cuts before a and before b are those within these bounds
+  pub texts_within : (a b : List ℕ) (lo hi end : ℕ) → IsCut (λ c. is_before c a) cs lo → IsCut (λ c. is_before c b) cs hi
       → lo ≤ end → (end ≡ hi) ⊎ ((end ≡ lo) × (hi ≤ lo))
-      → take (end - lo) (drop lo (pairs_below (text_map cs vs) [])) ≡ drop (length (pairs_before (text_map cs vs) [] a)) (pairs_before (text_map cs vs) [] b)
-  texts_between a b lo hi end low high l which =
+      → take (end - lo) (drop lo (pairs_below (text_map cs vs) [])) ≡ pairs_within (text_map cs vs) [] (Included a) (Excluded b)
+  texts_within a b lo hi end low high l which =
       ap (λ xs. take (end - lo) (drop lo xs)) all_texts
-      ∙ between_is nibbles (text_pairs cs vs) texts_rise a b lo hi end (subst (λ ds. IsCut (λ c. is_before c a) ds lo) kept.frozen.keyed low)
+      ∙ within_is nibbles (text_pairs cs vs) texts_rise a b lo hi end (subst (λ ds. IsCut (λ c. is_before c a) ds lo) kept.frozen.keyed low)
       (subst (λ ds. IsCut (λ c. is_before c b) ds hi) kept.frozen.keyed high) l which
 
   -- the cut before q counts the pairs before it

@@ -1,31 +1,53 @@
 //! Bytes of a file, read.
-ghost use Rattle.std.specs.Prelude.{◌≡◌, ◌<◌, ◌≤◌, ◌^◌, ◌++◌, ℕ, List, length, IfErr, IfOk, OnOk};
+ghost use Rattle.std.specs.Prelude.{◌≡◌, ◌≢◌, ◌<◌, ◌≤◌, ◌^◌, ◌++◌, ℕ, List, length, IfErr, IfOk, OnOk};
 ghost use Rattle.std.specs.Int.{w16, w32, w64, to_le_bytes};
-ghost use Rattle.std.specs.Io.KnownBytes.{Consumes, IsAtEnd, Keeps};
-ghost use Rattle.frozen_trie.specs.FileRows.{IsReaderFault};
+ghost use Rattle.std.specs.Io.{ReadsAtMost};
+ghost use Rattle.std.specs.Io.KnownBytes.{Consumes, IsAtEnd, Keeps, ReadConsumes};
+ghost use Rattle.std.specs.IoError.{error_kind};
+ghost use Rattle.frozen_trie.specs.FileRows.{IsEndFault, IsPartFault, IsReaderFault};
 
 use crate::file::FileWhy;
+use std::io;
 use std::io::{ErrorKind, Read};
 
 /// How many bytes of a key or a value are read at once.
 const MOST: usize = 512;
 
+/// Reads once. A read that is interrupted is made again.
+fn read_again<R: Read>(input: &mut R, buffer: &mut [u8]) -> io::Result<usize>
+    ensures bound { ReadsAtMost result buffer.new }
+    ensures bytes { ReadConsumes (R.remaining input.old) (R.remaining input.new) result buffer.new }
+    ensures retried { IfErr result (λ fault. error_kind fault ≢ ErrorKind.Interrupted) }
+{
+    for _again in 0..u64::MAX {
+        match input.read(buffer) {
+            Ok(count) => return Ok(count),
+            Err(fault) => {
+                if fault.kind() != ErrorKind::Interrupted {
+                    return Err(fault);
+                }
+            }
+        }
+    }
+    Err(ErrorKind::TimedOut.into())
+}
+
 /// Fills a buffer.
 pub(super) fn fill<R: Read>(input: &mut R, buffer: &mut [u8]) -> Result<(), FileWhy>
     ensures bytes { OnOk result
         (Consumes (R.remaining input.old) (R.remaining input.new) buffer.new) }
-    ensures fault { IfErr result IsReaderFault }
+    ensures fault { IfErr result
+        (λ why. IsReaderFault why (R.remaining input.old) (length buffer.old)) }
 {
-    match input.read_exact(buffer) {
-        Ok(()) => Ok(()),
-        Err(error) => {
-            if error.kind() == ErrorKind::UnexpectedEof {
-                Err(FileWhy::Short)
-            } else {
-                Err(FileWhy::Read)
-            }
+    let mut filled = 0;
+    while filled < buffer.len() {
+        match read_again(input, &mut buffer[filled..]) {
+            Ok(0) => return Err(FileWhy::Short),
+            Ok(count) => filled += count,
+            Err(_) => return Err(FileWhy::Read),
         }
     }
+    Ok(())
 }
 
 /// A number of 4 bytes.
@@ -33,7 +55,7 @@ pub(super) fn read_u32<R: Read>(input: &mut R) -> Result<u32, FileWhy>
     ensures bytes { IfOk result
         (λ n. Consumes (R.remaining input.old) (R.remaining input.new) (to_le_bytes w32 n)) }
     ensures fits { IfOk result (λ n. n < 2 ^ 32) }
-    ensures fault { IfErr result IsReaderFault }
+    ensures fault { IfErr result (λ why. IsReaderFault why (R.remaining input.old) 4) }
 {
     let mut bytes = [0; 4];
     fill(input, &mut bytes)?;
@@ -45,7 +67,7 @@ pub(super) fn read_u64<R: Read>(input: &mut R) -> Result<u64, FileWhy>
     ensures bytes { IfOk result
         (λ n. Consumes (R.remaining input.old) (R.remaining input.new) (to_le_bytes w64 n)) }
     ensures fits { IfOk result (λ n. n < 2 ^ 64) }
-    ensures fault { IfErr result IsReaderFault }
+    ensures fault { IfErr result (λ why. IsReaderFault why (R.remaining input.old) 8) }
 {
     let mut bytes = [0; 8];
     fill(input, &mut bytes)?;
@@ -82,6 +104,7 @@ pub(super) fn read_bytes<R: Read>(
     ensures bytes { OnOk result
         (Consumes (R.remaining input.old) (R.remaining input.new) into.new.items) }
     ensures count { OnOk result (length into.new.items ≡ count) }
+    ensures fault { IfErr result (λ why. IsPartFault why (R.remaining input.old) count) }
 {
     let count = count as usize;
     into.clear();
@@ -95,9 +118,10 @@ pub(super) fn read_bytes<R: Read>(
 /// Reads so many bytes behind those that `into` holds.
 fn read_part<R: Read>(input: &mut R, count: usize, into: &mut Vec<u8>) -> Result<(), FileWhy>
     requires { count ≤ MOST }
-    ensures { OnOk result ((bytes : List ℕ)
+    ensures bytes { OnOk result ((bytes : List ℕ)
         × Consumes (R.remaining input.old) (R.remaining input.new) bytes
         × (into.new.items ≡ into.old.items ++ bytes) × (length bytes ≡ count)) }
+    ensures fault { IfErr result (λ why. IsPartFault why (R.remaining input.old) count) }
 {
     let mut part = [0; MOST];
     fill(input, &mut part[..count])?;
@@ -107,22 +131,16 @@ fn read_part<R: Read>(input: &mut R, count: usize, into: &mut Vec<u8>) -> Result
     }
 }
 
-/// Reads on, and finds the end. A read that is interrupted is made again.
+/// Reads on, and finds the end.
 pub(super) fn expect_end<R: Read>(input: &mut R) -> Result<(), FileWhy>
     ensures end { OnOk result (IsAtEnd (R.remaining input.new)) }
     ensures kept { OnOk result (Keeps (R.remaining input.old) (R.remaining input.new)) }
+    ensures fault { IfErr result (λ why. IsEndFault why (R.remaining input.old)) }
 {
     let mut byte = [0; 1];
-    for _again in 0..u64::MAX {
-        match input.read(&mut byte) {
-            Ok(0) => return Ok(()),
-            Ok(_) => return Err(FileWhy::Long),
-            Err(error) => {
-                if error.kind() != ErrorKind::Interrupted {
-                    return Err(FileWhy::Read);
-                }
-            }
-        }
+    match read_again(input, &mut byte) {
+        Ok(0) => Ok(()),
+        Ok(_) => Err(FileWhy::Long),
+        Err(_) => Err(FileWhy::Read),
     }
-    Err(FileWhy::Read)
 }

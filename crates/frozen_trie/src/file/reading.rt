@@ -2,7 +2,7 @@
 ghost use Rattle.std.specs.Prelude.{◌≡◌, ◌<◌, ◌^◌, ◌++◌, [], ◌∷◌, ℕ, List, length, IfOk, IfErr, IfSome, OnOk};
 ghost use Rattle.std.specs.Io.KnownBytes.{Consumes, IsAtEnd};
 ghost use Rattle.nibble_map.specs.Lists.{Each};
-ghost use Rattle.frozen_trie.specs.FileRows.{FitsRow, IsFaultAt, IsHeadFault, counted_bytes, file_of_rows, head_of, row_of};
+ghost use Rattle.frozen_trie.specs.FileRows.{FitsRow, IsCountedFault, IsFault, IsHeadFault, IsUnreadRow, counted_bytes, file_of_rows, head_of, row_of};
 
 use crate::file::parts::{expect_end, fill, read_bytes, read_u32, read_u64};
 use crate::file::rows::Rows;
@@ -55,6 +55,7 @@ fn read_counted<R: Read>(input: &mut R, into: &mut Vec<u8>) -> Result<(), FileWh
     ensures bytes { OnOk result
         (Consumes (R.remaining input.old) (R.remaining input.new) (counted_bytes into.new.items)) }
     ensures fits { OnOk result (length into.new.items < 2 ^ 32) }
+    ensures fault { IfErr result (λ why. IsCountedFault why (R.remaining input.old)) }
 {
     let count = read_u32(input)?;
     read_bytes(input, count, into)
@@ -72,6 +73,9 @@ fn read_row<R: Read, M: Rows>(
         × (M.rows map.new ≡ M.rows map.old ++ p ∷ []) × (count ≡ length (row_of p))) }
     ensures items { OnOk result (M.are_items map.old (length (M.rows map.old))
         → M.are_items map.new (length (M.rows map.new))) }
+    ensures kept { OnOk result (M.is_kept map.old → M.is_kept map.new) }
+    ensures fault { IfErr result (λ why. IfSome (R.remaining input.old)
+        (λ bytes. IsUnreadRow M.refuses why map.old bytes)) }
 {
     read_counted(input, key)?;
     read_counted(input, value)?;
@@ -81,14 +85,17 @@ fn read_row<R: Read, M: Rows>(
 
 /// Reads a whole file into a map of no pair.
 pub(super) fn read_all<R: Read, M: Rows>(input: &mut R, mut map: M) -> Result<M, FileError>
-    requires { M.rows map ≡ [] }
+    requires empty { M.rows map ≡ [] }
+    requires kept { M.is_kept map }
     ensures file { IfOk result
         (λ map. IfSome (R.remaining input.old) (λ bytes. bytes ≡ file_of_rows (M.rows map))) }
     ensures fits { IfOk result (λ map. Each FitsRow (M.rows map)) }
     ensures few { IfOk result (λ map. length (M.rows map) < 2 ^ 64) }
     ensures items { IfOk result (λ map. M.are_items map (length (M.rows map))) }
+    ensures kept { IfOk result M.is_kept }
     ensures fault { IfErr result (λ e. IfSome (R.remaining input.old)
-        (λ bytes. IsFaultAt e.why bytes e.pair e.place)) }
+        (λ bytes. IsFault M.rows (λ m. M.are_items m (length (M.rows m))) M.refuses
+        e.why bytes e.pair e.place)) }
     ensures end { OnOk result (IsAtEnd (R.remaining input.new)) }
 {
     let pair = read_head(input)?;

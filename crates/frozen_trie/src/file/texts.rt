@@ -2,9 +2,10 @@
 ghost use Rattle.std.specs.Prelude.{◌≡◌, [], List, Some, ⊤, IfErr, IfOk, IfSome, OnOk, take, ℕ};
 ghost use Rattle.std.specs.Io.KnownBytes.{Appends, IsAtEnd};
 ghost use Rattle.nibble_map.specs.Maps.{PairMap};
+ghost use Rattle.nibble_map.specs.Nibbles.{nibbles};
 ghost use Rattle.radix_trie.specs.Views.{pairs_below};
-ghost use Rattle.frozen_trie.specs.FileRows.{IsFaultAt};
-ghost use Rattle.frozen_trie.specs.Files.{AreItems, IsSameTextMap, IsTextFileable, no_items, pair_rows, text_file};
+ghost use Rattle.frozen_trie.specs.FileRows.{WritesPart};
+ghost use Rattle.frozen_trie.specs.Files.{AreItems, IsSameTextMap, IsTextFault, IsTextFileable, RefusesRow, no_items, pair_rows, text_file};
 
 use crate::file::item::append;
 use crate::file::reading::read_all;
@@ -21,6 +22,10 @@ impl<V: FileItem + Drop> Rows for FrozenTexts<V> {
     ghost rows = { λ m. pair_rows (λ bytes. bytes) V.file_bytes (pairs_below m []) };
 
     ghost are_items = { λ m n. AreItems (λ _. ⊤) V.is_item (take n (pairs_below m [])) };
+
+    ghost is_kept = { λ _. ⊤ };
+
+    ghost refuses = { RefusesRow (λ bytes. bytes) V.file_bytes (λ _. ⊤) V.is_item nibbles };
 
     ghost none_before = { λ m. no_items (λ _. ⊤) V.is_item (pairs_below m []) };
 
@@ -41,6 +46,7 @@ impl<V: FileItem + Drop> Rows for FrozenTexts<V> {
     }
 
     fn push_row(&mut self, key: &[u8], value: &[u8]) -> Result<(), FileWhy> {
+        self.is_of_its_pairs();
         let value = made::<V>(value, self.allocator(), FileWhy::Value)?;
         match self.push(key, value) {
             Ok(()) => Ok(()),
@@ -58,7 +64,7 @@ impl<V: FileItem + Drop> Rows for FrozenTexts<V> {
 
 /// As a file.
 impl<V: FileItem + Drop> FrozenTexts<V> {
-    /// Writes the map as a file: `FROZENTX`, the version 2 in 4 bytes, the count of pairs in 8; then for each pair, in the
+    /// WritesInFull the map as a file: `FROZENTX`, the version 2 in 4 bytes, the count of pairs in 8; then for each pair, in the
     /// order of the keys, the count of the key's bytes in 4 bytes, the key, the count of the value's bytes in 4, and these.
     /// The low bytes of a number come first.
     ///
@@ -68,10 +74,12 @@ impl<V: FileItem + Drop> FrozenTexts<V> {
     /// # Errors
     ///
     /// A write fails, or takes no byte. `OutOfMemory`, where room for a pair's bytes is refused; `InvalidInput`, where a
-    /// value takes 2^32 bytes or more. What was written until then is part of a file.
+    /// value takes 2^32 bytes or more. What was written until then is a beginning of the file.
     pub fn write<W: Write>(&self, out: &mut W) -> io::Result<()>
         ensures written { OnOk result (Appends (W.contents out.old) (W.contents out.new)
             (text_file V.file_bytes self.now)) }
+        ensures part { WritesPart (W.contents out.old) (W.contents out.new)
+            (text_file V.file_bytes self.now) }
         ensures fileable { OnOk result (IsTextFileable V.file_bytes V.is_item self.now) }
     {
         self.is_of_its_pairs();
@@ -95,7 +103,7 @@ impl<V: FileItem + Drop> FrozenTexts<V> {
             → R.remaining input.old ≡ Some (text_file V.file_bytes m)
             → IsSameTextMap V.is_same texts m) }
         ensures fault { IfErr result (λ e. IfSome (R.remaining input.old)
-            (λ bytes. IsFaultAt e.why bytes e.pair e.place)) }
+            (λ bytes. IsTextFault V.file_bytes V.is_item e.why bytes e.pair e.place)) }
         ensures end { OnOk result (IsAtEnd (R.remaining input.new)) }
     {
         let texts: FrozenTexts<V> = read_all(input, FrozenTexts::new(alloc))?;

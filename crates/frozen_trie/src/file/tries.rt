@@ -2,9 +2,10 @@
 ghost use Rattle.std.specs.Prelude.{◌≡◌, [], Some, IfErr, IfOk, IfSome, OnOk, take};
 ghost use Rattle.std.specs.Io.KnownBytes.{Appends, IsAtEnd};
 ghost use Rattle.nibble_map.specs.Maps.{PairMap};
+ghost use Rattle.radix_trie.specs.Keys.{IsKeyed};
 ghost use Rattle.radix_trie.specs.Views.{pairs_below};
-ghost use Rattle.frozen_trie.specs.FileRows.{IsFaultAt};
-ghost use Rattle.frozen_trie.specs.Files.{AreItems, IsFileable, IsSameMap, file_of, no_items, pair_rows};
+ghost use Rattle.frozen_trie.specs.FileRows.{WritesPart};
+ghost use Rattle.frozen_trie.specs.Files.{AreItems, IsFileFault, IsFileable, IsSameMap, RefusesRow, file_of, no_items, pair_rows};
 
 use crate::file::reading::read_all;
 use crate::file::rows::{Rows, made, refused};
@@ -21,6 +22,10 @@ impl<K: TrieKey + FileItem + Drop, V: FileItem + Drop> Rows for FrozenTrie<K, V>
     ghost rows = { λ m. pair_rows K.file_bytes V.file_bytes (pairs_below m []) };
 
     ghost are_items = { λ m n. AreItems K.is_item V.is_item (take n (pairs_below m [])) };
+
+    ghost is_kept = { IsKeyed K.encoding K.is_value };
+
+    ghost refuses = { RefusesRow K.file_bytes V.file_bytes K.is_item V.is_item K.encoding };
 
     ghost none_before = { λ m. no_items K.is_item V.is_item (pairs_below m []) };
 
@@ -41,6 +46,7 @@ impl<K: TrieKey + FileItem + Drop, V: FileItem + Drop> Rows for FrozenTrie<K, V>
     }
 
     fn push_row(&mut self, key: &[u8], value: &[u8]) -> Result<(), FileWhy> {
+        self.is_of_its_pairs();
         let key = made::<K>(key, self.allocator(), FileWhy::Key)?;
         let value = made::<V>(value, self.allocator(), FileWhy::Value)?;
         match self.push(key, value) {
@@ -59,7 +65,7 @@ impl<K: TrieKey + FileItem + Drop, V: FileItem + Drop> Rows for FrozenTrie<K, V>
 
 /// As a file.
 impl<K: TrieKey + FileItem + Drop, V: FileItem + Drop> FrozenTrie<K, V> {
-    /// Writes the frozen trie as a file, as `FrozenTexts::write` writes a map: the pairs in the order of their encodings, and
+    /// WritesInFull the frozen trie as a file, as `FrozenTexts::write` writes a map: the pairs in the order of their encodings, and
     /// of each the bytes that `FileItem` names, those of the key and those of the value.
     ///
     /// A write that is interrupted is made again. `out` is written to twice for each key and value, so it should have a
@@ -68,10 +74,12 @@ impl<K: TrieKey + FileItem + Drop, V: FileItem + Drop> FrozenTrie<K, V> {
     /// # Errors
     ///
     /// A write fails, or takes no byte. `OutOfMemory`, where room for a pair's bytes is refused; `InvalidInput`, where a key
-    /// or a value takes 2^32 bytes or more. What was written until then is part of a file.
+    /// or a value takes 2^32 bytes or more. What was written until then is a beginning of the file.
     pub fn write<W: Write>(&self, out: &mut W) -> io::Result<()>
         ensures written { OnOk result (Appends (W.contents out.old) (W.contents out.new)
             (file_of K.file_bytes V.file_bytes self.now)) }
+        ensures part { WritesPart (W.contents out.old) (W.contents out.new)
+            (file_of K.file_bytes V.file_bytes self.now) }
         ensures fileable { OnOk result (IsFileable K.file_bytes V.file_bytes K.is_item V.is_item
             K.encoding self.now) }
     {
@@ -92,12 +100,14 @@ impl<K: TrieKey + FileItem + Drop, V: FileItem + Drop> FrozenTrie<K, V> {
             (λ bytes. bytes ≡ file_of K.file_bytes V.file_bytes frozen)) }
         ensures fileable { IfOk result (IsFileable K.file_bytes V.file_bytes K.is_item V.is_item
             K.encoding) }
+        ensures keyed { IfOk result (IsKeyed K.encoding K.is_value) }
         ensures same { IfOk result (λ frozen. (m : PairMap K V)
             → IsFileable K.file_bytes V.file_bytes K.is_item V.is_item K.encoding m
             → R.remaining input.old ≡ Some (file_of K.file_bytes V.file_bytes m)
             → IsSameMap K.is_same V.is_same frozen m) }
         ensures fault { IfErr result (λ e. IfSome (R.remaining input.old)
-            (λ bytes. IsFaultAt e.why bytes e.pair e.place)) }
+            (λ bytes. IsFileFault K.file_bytes V.file_bytes K.is_item V.is_item K.encoding
+            e.why bytes e.pair e.place)) }
         ensures end { OnOk result (IsAtEnd (R.remaining input.new)) }
     {
         let frozen: FrozenTrie<K, V> = read_all(input, FrozenTrie::new(alloc))?;

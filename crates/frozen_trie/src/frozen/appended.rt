@@ -1,12 +1,12 @@
 //! A frozen trie, made pair by pair in the order of the encodings.
-ghost use Rattle.std.specs.Prelude.{◌≡◌, ◌-◌, ◌≤◌, ◌^◌, ◌++◌, [], ◌∷◌, IfErr, OnOk};
+ghost use Rattle.std.specs.Prelude.{◌≡◌, ◌≢◌, ◌-◌, ◌<◌, ◌≤◌, ◌^◌, ◌++◌, [], ◌∷◌, IfErr, IsOk, OnOk};
 ghost use Rattle.std.specs.FinMap as map;
 ghost use Rattle.radix_trie.specs.Views.{pairs_below};
 ghost use Rattle.frozen_trie.specs.Texts.{IsBehindAll};
 
 use crate::codes::Codes;
 use crate::frozen::FrozenTrie;
-use crate::linked::{PushError, PushWhy, push_last};
+use crate::linked::{PushError, PushWhy, follows, push_linked};
 use crate::packed::Packed;
 use radix_keys::{Memory, TrieKey};
 use std::alloc::Global;
@@ -29,9 +29,11 @@ impl<K: TrieKey, V> FrozenTrie<K, V> {
     ///
     /// # Errors
     ///
-    /// Memory for the table, of some 2^18 bytes, is refused. Each call answers the same without it.
+    /// Memory for the table, of some 2^18 bytes and half a byte a pair, is refused. Each call returns
+    /// the same without it.
     pub fn finish(&mut self) -> Result<(), Memory>
         ensures same { self.new ≡ self.old }
+        ensures few { map.len self.old < 2 ^ 16 → IsOk result }
     {
         self.pairs.shrink_to_fit();
         self.up.shrink_to_fit();
@@ -42,36 +44,54 @@ impl<K: TrieKey, V> FrozenTrie<K, V> {
     ///
     /// # Errors
     ///
-    /// The encoding doesn't come after all others. The map holds 2^32 - 1 pairs. Memory is refused; the encodings together
-    /// take less than 2^31 bytes. The pair comes back, and the map is as before.
+    /// In this order: the map holds 2^32 - 1 pairs; memory for the encoding is refused, which a light key
+    /// never meets; the encoding doesn't come after all others; other memory is refused, or the encodings
+    /// together would take 2^31 bytes or more. The pair comes back, and the map is as before.
     pub fn push(&mut self, key: K, value: V) -> Result<(), PushError<(K, V)>>
         ensures stored { OnOk result
             (self.new ≡ map.insert self.old (K.encoding key) (key, value)) }
         ensures pairs { OnOk result
             (pairs_below self.new [] ≡ pairs_below self.old [] ++ (key, value) ∷ []) }
         ensures behind { OnOk result (IsBehindAll self.old (K.encoding key)) }
+        ensures is_value { OnOk result (K.is_value key) }
         ensures unsorted { IfErr result (λ e. e.why ≡ PushWhy.Unsorted
             → IsBehindAll self.old (K.encoding key) → ⊥) }
         ensures full { IfErr result (λ e. e.why ≡ PushWhy.Full
             → 2 ^ 32 - 1 ≤ map.len self.old) }
+        ensures room { IfErr result (λ e. e.why ≢ PushWhy.Full
+            → map.len self.old < 2 ^ 32 - 1) }
+        ensures memory { IfErr result (λ e. e.why ≡ PushWhy.Memory
+            → K.is_light key → IsBehindAll self.old (K.encoding key)) }
         ensures handed_back { IfErr result (λ e. e.value ≡ (key, value)) }
         ensures unchanged { IfErr result (λ _. self.new ≡ self.old) }
     {
         let value = (key, value);
+        if self.codes.is_full() {
+            let why = PushWhy::Full;
+            return Err(PushError { why, value });
+        }
         let Ok(list) = value.0.encode(self.alloc) else {
             let why = PushWhy::Memory;
             return Err(PushError { why, value });
         };
+        let list = Packed::of(&list);
+        if !follows(&self.codes, &list) {
+            let why = PushWhy::Unsorted;
+            return Err(PushError { why, value });
+        }
         if self.pairs.reserve(1).is_err() {
             let why = PushWhy::Memory;
             return Err(PushError { why, value });
         }
-        match push_last(&mut self.codes, &mut self.up, &Packed::of(&list)) {
+        match push_linked(&mut self.codes, &mut self.up, &list) {
             Ok(()) => {
                 self.pairs.push_reserved(value);
                 Ok(())
             }
-            Err(why) => Err(PushError { why, value }),
+            Err(_) => {
+                let why = PushWhy::Memory;
+                Err(PushError { why, value })
+            }
         }
     }
 }

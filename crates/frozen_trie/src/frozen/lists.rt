@@ -1,8 +1,9 @@
 //! Calls by a list of nibbles, which allocate nothing.
-ghost use Rattle.std.specs.Prelude.{◌≡◌, ◌↔◌, [], drop, length, reverse, IsTrue, option_copied, option_map};
+ghost use Rattle.std.specs.Prelude.{◌≡◌, ◌↔◌, [], length, reverse, IsTrue, option_copied, option_map};
 ghost use Rattle.std.specs.FinMap as map;
+ghost use Rattle.std.specs.declared.ops.Bound.TheVariants.{Excluded, Included};
 ghost use Rattle.nibble_map.specs.Maps.{IsStored, value_at};
-ghost use Rattle.radix_trie.specs.Views.{IsPairAbove, IsValueAbove, pairs_above, pairs_after, pairs_before, pairs_below, pairs_from};
+ghost use Rattle.radix_trie.specs.Views.{IsPairAbove, IsValueAbove, pairs_above, pairs_after, pairs_before, pairs_below, pairs_from, pairs_within};
 ghost use Rattle.radix_trie.specs.Walks.{deref_pair};
 
 use crate::frozen::FrozenTrie;
@@ -98,11 +99,11 @@ impl<K: TrieKey, V> FrozenTrie<K, V> {
         part(&self.pairs, start, self.pairs.len())
     }
 
-    /// The pairs whose encodings are `from` or come after it, and come before `to`, in order: those before `to` without the
-    /// first ones, which come before `from`. Where `from` isn't before `to` there is none. It allocates nothing.
+    /// The pairs whose encodings are `from` or come after it, and come before `to`, in order. Where
+    /// `from` isn't before `to` there is none. It allocates nothing.
     pub fn between(&self, from: &Nibblet, to: &Nibblet) -> &[(K, V)]
-        ensures pairs { result.now ≡ drop (length (pairs_before self.now [] from.now))
-            (pairs_before self.now [] to.now) }
+        ensures pairs { result.now
+            ≡ pairs_within self.now [] (Included from.now) (Excluded to.now) }
     {
         let start = lower(&self.codes, &Packed::of(from));
         let end = lower(&self.codes, &Packed::of(to));

@@ -1,12 +1,12 @@
 //! A map from byte strings, made pair by pair in the order of the keys.
-ghost use Rattle.std.specs.Prelude.{◌≡◌, ◌-◌, ◌≤◌, ◌^◌, ◌++◌, [], ◌∷◌, IfErr, OnOk};
+ghost use Rattle.std.specs.Prelude.{◌≡◌, ◌≢◌, ◌-◌, ◌<◌, ◌≤◌, ◌^◌, ◌++◌, [], ◌∷◌, IfErr, IsOk, OnOk};
 ghost use Rattle.std.specs.FinMap as map;
 ghost use Rattle.nibble_map.specs.Nibbles.{nibbles};
 ghost use Rattle.radix_trie.specs.Views.{pairs_below};
 ghost use Rattle.frozen_trie.specs.Texts.{IsBehindAll};
 
 use crate::codes::Codes;
-use crate::linked::{PushError, PushWhy, push_last};
+use crate::linked::{PushError, PushWhy, follows, push_linked};
 use crate::packed::Packed;
 use crate::texts::FrozenTexts;
 use radix_keys::Memory;
@@ -30,9 +30,11 @@ impl<V> FrozenTexts<V> {
     ///
     /// # Errors
     ///
-    /// Memory for the table, of some 2^18 bytes, is refused. Each call answers the same without it.
+    /// Memory for the table, of some 2^18 bytes and half a byte a pair, is refused. Each call returns
+    /// the same without it.
     pub fn finish(&mut self) -> Result<(), Memory>
         ensures same { self.new ≡ self.old }
+        ensures few { map.len self.old < 2 ^ 16 → IsOk result }
     {
         self.values.shrink_to_fit();
         self.up.shrink_to_fit();
@@ -43,8 +45,9 @@ impl<V> FrozenTexts<V> {
     ///
     /// # Errors
     ///
-    /// The key doesn't come after all others. The map holds 2^32 - 1 pairs. Memory is refused; the keys together take less
-    /// than 2^31 bytes. The value comes back, and the map is as before.
+    /// In this order: the map holds 2^32 - 1 pairs; the key doesn't come after all others; memory is
+    /// refused, or the keys together would take 2^31 bytes or more. The value comes back, and the map is
+    /// as before.
     pub fn push(&mut self, key: &[u8], value: V) -> Result<(), PushError<V>>
         ensures stored { OnOk result
             (self.new ≡ map.insert self.old (nibbles key.now) (key.now, value)) }
@@ -55,19 +58,35 @@ impl<V> FrozenTexts<V> {
             → IsBehindAll self.old (nibbles key.now) → ⊥) }
         ensures full { IfErr result (λ e. e.why ≡ PushWhy.Full
             → 2 ^ 32 - 1 ≤ map.len self.old) }
+        ensures room { IfErr result (λ e. e.why ≢ PushWhy.Full
+            → map.len self.old < 2 ^ 32 - 1) }
+        ensures memory { IfErr result (λ e. e.why ≡ PushWhy.Memory
+            → IsBehindAll self.old (nibbles key.now)) }
         ensures handed_back { IfErr result (λ e. e.value ≡ value) }
         ensures unchanged { IfErr result (λ _. self.new ≡ self.old) }
     {
+        if self.codes.is_full() {
+            let why = PushWhy::Full;
+            return Err(PushError { why, value });
+        }
+        let list = Packed::of_bytes(key);
+        if !follows(&self.codes, &list) {
+            let why = PushWhy::Unsorted;
+            return Err(PushError { why, value });
+        }
         if self.values.reserve(1).is_err() {
             let why = PushWhy::Memory;
             return Err(PushError { why, value });
         }
-        match push_last(&mut self.codes, &mut self.up, &Packed::of_bytes(key)) {
+        match push_linked(&mut self.codes, &mut self.up, &list) {
             Ok(()) => {
                 self.values.push_reserved(value);
                 Ok(())
             }
-            Err(why) => Err(PushError { why, value }),
+            Err(_) => {
+                let why = PushWhy::Memory;
+                Err(PushError { why, value })
+            }
         }
     }
 }

@@ -1,5 +1,5 @@
 //! A map from byte strings, made of pairs in order.
-ghost use Rattle.std.specs.Prelude.{◌≡◌, ◌≤◌, ◌^◌, ℕ, length, IfErr, IfOk, OnOk};
+ghost use Rattle.std.specs.Prelude.{◌≡◌, ◌≤◌, ◌^◌, ℕ, length, IfErr, IfOk, IsOk, OnOk};
 ghost use Rattle.nibble_map.specs.Lists.{IsRising};
 ghost use Rattle.nibble_map.specs.Nibbles.{nibbles};
 ghost use Rattle.radix_trie.specs.Building.{pairs_in_order};
@@ -17,7 +17,7 @@ impl<V: Drop> FrozenTexts<V> {
     ///
     /// The text of a pair doesn't come after that of the pair before it, and the error says of the first such pair where it
     /// stands. There are 2^32 pairs or more. Memory is refused; the texts together take less than 2^31 bytes. The pairs come
-    /// back.
+    /// back. Of no pair the call never fails.
     pub fn from_sorted(
         alloc: Global,
         pairs: Vec<(String, V)>,
@@ -30,6 +30,7 @@ impl<V: Drop> FrozenTexts<V> {
             → IsFirstUnsorted (codes_of nibbles (byte_pairs pairs.items)) i) }
         ensures full { IfErr result (λ e. e.why ≡ SortedWhy.Full
             → 2 ^ 32 ≤ length pairs.items) }
+        ensures none { length pairs.items ≡ 0 → IsOk result }
     {
         let (codes, up) = match codes_and_links(alloc, &pairs) {
             Ok(made) => made,

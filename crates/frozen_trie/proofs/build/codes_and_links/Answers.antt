@@ -1,5 +1,6 @@
-use Rattle.std.proofs.Common.{◌≡◌, ◌+◌, ◌++◌, [], ◌∷◌, length, take, get_or, sym, ap, subst, ◌∙◌, arith}
+use Rattle.std.proofs.Common.{◌≡◌, ◌+◌, All, ◌++◌, [], ◌∷◌, length, take, get_or, sym, ap, subst, ◌∙◌, arith}
 use Rattle.std.proofs.lemmas.List.{length-map, length-take, map_more, take-map, take_all}
+use Rattle.std.proofs.lemmas.List.Elements.{All-more}
 use Rattle.nibble_map.specs.Lists.{IsRising}
 use Rattle.frozen_trie.specs.Frozen.{IsFirstUnsorted, IsLinked, codes_of}
 use Rattle.frozen_trie.proofs.build.codes_and_links.Goals as goal
@@ -44,10 +45,15 @@ loop-pair-preserved g c =
           ∙ ap (λ t. t ++ enc (get_or ps i d).0 ∷ []) c.loop-pair.invariant.keyed
           ∙ sym (map_more (λ p. enc p.0) ps i d c.loop-pair-test.true);
       linked = c.in_default-push_last.ensures.linked;
+      values = All-more (λ p. g.K.TrieKey.is_value p.0) ps i d c.loop-pair-test.true c.loop-pair.invariant.values (subst (λ p. g.K.TrieKey.is_value p.0) c.pair-item.is c.in-Ok-encode.ensures.value);
     }
 
 pub returns-in-Ok-finish-clause-ok : goal.returns-in-Ok-finish-clause-ok
 returns-in-Ok-finish-clause-ok g c = record {
-  keyed = c.finish.ensures ∙ c.loop-pair.invariant.keyed ∙ ap (codes_of g.K.TrieKey.encoding) (take_all c.loop-pair.pair-index c.args.pairs.now (omega (arith, c.loop-pair-test.false)));
-  linked = subst (λ cs. IsLinked cs c.loop-pair.up.items) (sym c.finish.ensures) c.loop-pair.invariant.linked;
+  keyed = c.finish.ensures.same ∙ c.loop-pair.invariant.keyed ∙ ap (codes_of g.K.TrieKey.encoding) (take_all c.loop-pair.pair-index c.args.pairs.now (omega (arith, c.loop-pair-test.false)));
+  linked = subst (λ cs. IsLinked cs c.loop-pair.up.items) (sym c.finish.ensures.same) c.loop-pair.invariant.linked;
 }
+
+pub returns-in-Ok-finish-clause-values : goal.returns-in-Ok-finish-clause-values
+returns-in-Ok-finish-clause-values g c =
+    subst (All (λ p. g.K.TrieKey.is_value p.0)) (take_all c.loop-pair.pair-index c.args.pairs.now (omega (arith, c.loop-pair-test.false))) c.loop-pair.invariant.values

@@ -1,7 +1,9 @@
 use Rattle.std.proofs.Common.{◌++◌, [], ◌∷◌, length, sym, ap, subst, ◌∙◌, append_assoc, append-nil, arith}
 use Rattle.std.proofs.lemmas.List.{length-append, length-map}
 use Rattle.nibble_map.specs.Lists.{IsRising}
+use Rattle.std.specs.FinMap as fin
 use Rattle.radix_trie.specs.Views.{pairs_below}
+use Rattle.radix_trie.proofs.PathLemmas.Places.{below-nil}
 use Rattle.frozen_trie.specs.Frozen.{IsLinked, codes_of}
 use Rattle.frozen_trie.proofs.FrozenLemmas.Growth.{linked_none, rising_front}
 use Rattle.frozen_trie.proofs.FrozenLemmas.Whole.{count_whole}
@@ -57,6 +59,52 @@ loop-key-preserved g c =
 
 pub returns-in-Ok-finish-clause-ok : goal.returns-in-Ok-finish-clause-ok
 returns-in-Ok-finish-clause-ok g c = record {
-  keyed = c.in-Ok-finish.ensures ∙ sym (append-nil c.loop-key.codes) ∙ ap (λ ps. c.loop-key.codes ++ codes_of g.K.TrieKey.encoding ps) (sym c.in-None.ensures.steps.0) ∙ c.loop-key.invariant.keyed;
-  linked = subst (λ cs. IsLinked cs c.loop-key.up.items) (sym c.in-Ok-finish.ensures) c.loop-key.invariant.linked;
+  keyed = c.in-Ok-finish.ensures.same ∙ sym (append-nil c.loop-key.codes) ∙ ap (λ ps. c.loop-key.codes ++ codes_of g.K.TrieKey.encoding ps) (sym c.in-None.ensures.steps.0) ∙ c.loop-key.invariant.keyed;
+  linked = subst (λ cs. IsLinked cs c.loop-key.up.items) (sym c.in-Ok-finish.ensures.same) c.loop-key.invariant.linked;
 }
+
+pub returns-in_default-iter-clause-none : goal.returns-in_default-iter-clause-none
+returns-in_default-iter-clause-none g c = λ none. c.in_default-iter.ensures.none (ap fin.len (below-nil c.args.trie.now) ∙ none)
+
+pub returns-in_default-encode-clause-none : goal.returns-in_default-encode-clause-none
+returns-in_default-encode-clause-none g c = λ none.
+    let enc = g.K.TrieKey.encoding in
+    let rest = c.loop-key.key-iterator in
+    absurd (omega (
+      arith,
+      none,
+      ap length c.loop-key.invariant.keyed,
+      length-append c.loop-key.codes (codes_of enc rest),
+      length-map rest (λ p. enc p.0),
+      length-map (pairs_below c.args.trie.now []) (λ p. enc p.0),
+      count_whole c.args.trie.now,
+      ap length c.in-Some.ensures.steps,
+    ))
+
+pub returns-in_default-push_linked-clause-none : goal.returns-in_default-push_linked-clause-none
+returns-in_default-push_linked-clause-none g c = λ none.
+    let enc = g.K.TrieKey.encoding in
+    let rest = c.loop-key.key-iterator in
+    absurd (omega (
+      arith,
+      none,
+      ap length c.loop-key.invariant.keyed,
+      length-append c.loop-key.codes (codes_of enc rest),
+      length-map rest (λ p. enc p.0),
+      length-map (pairs_below c.args.trie.now []) (λ p. enc p.0),
+      count_whole c.args.trie.now,
+      ap length c.in-Some.ensures.steps,
+    ))
+
+pub returns-in-Err-clause-none : goal.returns-in-Err-clause-none
+returns-in-Err-clause-none g c = λ none.
+    let enc = g.K.TrieKey.encoding in
+    let rest = c.loop-key.key-iterator in
+    c.in-Err.ensures.few (omega (
+      arith,
+      none,
+      ap length c.loop-key.invariant.keyed,
+      length-append c.loop-key.codes (codes_of enc rest),
+      length-map (pairs_below c.args.trie.now []) (λ p. enc p.0),
+      count_whole c.args.trie.now,
+    ))

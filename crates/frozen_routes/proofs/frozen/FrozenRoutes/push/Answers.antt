@@ -16,9 +16,20 @@ returns g c =
       rising = subst (AreRowsInOrder w number) (sym is) (table_more w number rows row rising);
       unsorted = tt;
       full = tt;
+      room = tt;
+      memory = tt;
       handed_back = tt;
       unchanged = tt;
     }
+
+pub returns-then-is_err-clause-memory : goal.returns-then-is_err-clause-memory
+returns-then-is_err-clause-memory g c = λ e.
+    let w = g.A.Address.BITS in
+    let number = g.A.Address.number in
+    let rows = c.self.inside.rows.items in
+    let row : _ × g.row.V.Denot = (c.args.network, c.args.value) in
+    let rising = subst (λ rs. AreRising w (base_numbers number rs ++ number c.args.network.base ∷ []) (bit_counts rs ++ c.args.network.bits ∷ [])) c.deref.ensures.value c.in-Some.ensures.0 in
+    subst (λ rs. AreRowsInOrder w number (rs ++ row ∷ [])) c.self.view_is (table_more w number rows row rising)
 
 pub invariant_of-self-2 : goal.invariant_of-self-2
 invariant_of-self-2 g c =

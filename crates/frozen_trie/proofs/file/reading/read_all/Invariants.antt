@@ -11,5 +11,6 @@ invariant-loop-row g l = record {
   count : length (g.M.Rows.rows l.map) ≡ l.row;
   read : Consumes (g.R.Read.remaining l.initial.input) (g.R.Read.remaining l.input) (file_rows (g.M.Rows.rows l.map));
   place : l.place ≡ u64_saturate (20 + length (file_rows (g.M.Rows.rows l.map)));
+  kept : g.M.Rows.is_kept l.map;
   items : g.M.Rows.are_items l.map (length (g.M.Rows.rows l.map));
 }

@@ -1,6 +1,9 @@
-use Rattle.std.proofs.Common.{◌++◌, [], ◌∷◌, append-nil, sym, ap, subst, ◌∙◌}
+use Rattle.std.proofs.Common.{◌++◌, [], ◌∷◌, append-nil, arith, length, sym, ap, subst, ◌∙◌}
+use Rattle.std.proofs.lemmas.List.{length-append}
+use Rattle.std.specs.FinMap as fin
 use Rattle.radix_trie.specs.Views.{pairs_below}
 use Rattle.frozen_trie.proofs.FrozenLemmas.Queries.{whole_is}
+use Rattle.frozen_trie.proofs.FrozenLemmas.Rows.{len_is}
 use Rattle.frozen_trie.proofs.FrozenLemmas.Thawed.{IsThawed, none_thawed, one_thawed}
 use Rattle.frozen_trie.proofs.frozen.FrozenTrie.thaw.Goals as goal
 
@@ -36,3 +39,20 @@ returns-in-Err-clause-handed_back g c =
     ∙ c.loop-key.invariant.order
     ∙ sym (whole_is enc all c.into_parts-pairs.ensures.rising)
     ∙ ap (λ m. pairs_below m []) c.into_parts-pairs.ensures.map
+
+pub returns-in-Err-clause-none : goal.returns-in-Err-clause-none
+returns-in-Err-clause-none g c = λ none.
+    let enc = g.K.TrieKey.encoding in
+    let all = c.into_parts-pairs.result.0.items in
+    let front = c.pop.new.self.items in
+    let rest = c.loop-key.rest.items in
+    absurd (omega (
+      arith,
+      none,
+      ap fin.len c.into_parts-pairs.ensures.map,
+      len_is enc all c.into_parts-pairs.ensures.rising,
+      ap length c.loop-key.invariant.order,
+      length-append rest (pairs_below c.loop-key.trie []),
+      ap length c.in-Some.ensures.items,
+      length-append front ((c.in-Some.key, c.in-Some.value) ∷ []),
+    ))

@@ -18,7 +18,6 @@ use Rattle.least_routes.proofs.LeastLemmas.{IsLeast}
 use Rattle.nibble_map.specs.Lists.{Has}
 use Rattle.nibble_map.specs.Maps.{walk, below}
 use Rattle.nibble_map.proofs.MapLemmas.Bridge.{first_of_both, second_of_both, less_by_test, greater_by_less}
-use Rattle.nibble_map.proofs.MapLemmas.Walks.{Has-walk}
 use Rattle.radix_keys.specs.Bits.{first_bits}
 use Rattle.radix_keys.specs.Networks.{Net}
 use Rattle.radix_keys.specs.Order as lists
@@ -26,7 +25,7 @@ use Rattle.radix_keys.proofs.BitLemmas.{network_order}
 use Rattle.route_tool.specs.Aggregates.{Holds, IsAggregate, IsToNetwork, ListGives, IsRouteBefore, TableGives, route_of}
 use Rattle.route_tool.specs.Numbers.{AreNumbered, IsRowOf, numbered}
 use Rattle.route_tool.specs.Routes.{Route, Routes, AreNetworks, IsHolder, in_order, place}
-use Rattle.route_tool.proofs.ListedLemmas.{changed_has, contains_of, entry_stored, has_changed, has_of, listed, stored}
+use Rattle.route_tool.proofs.ListedLemmas.{changed_has, entry_stored, has_changed, listed, stored}
 
 -- what holds of each of a changed list
 all_changed : {X Y : Type 0} (P : Y → Type 0) (f : X → Y) (xs : List X) → All P (each f xs) → All (λ x. P (f x)) xs

@@ -1,5 +1,5 @@
 -- Answers of parts.
-use Rattle.std.proofs.Common.{◌≡◌, ◌∙◌, ◌⊎◌, inr, ℕ, List, ◌++◌, Result, Ok, Err, OnErr, OnOk, ap, append_assoc}
+use Rattle.std.proofs.Common.{◌≡◌, ◌∙◌, ◌⊎◌, inr, ℕ, List, ◌++◌, Result, Ok, Err, OnErr, OnOk, ap, append_assoc, is_ok, true≢false}
 
 -- three parts, one after another, behind what stood there
 pub three_parts : (old first second third h p q : List ℕ) → first ≡ old ++ h → second ≡ first ++ p → third ≡ second ++ q → third ≡ old ++ (h ++ p ++ q)
@@ -16,3 +16,10 @@ answers_too (Err e) old new P Q to h = h
 pub left_after : {T E A : Type 0} (r : Result T E) (Q : Type 0) (P : A → Type 0) (answer : A) → P answer → OnErr r (Q ⊎ ((a : A) × P a))
 left_after (Ok x) Q P answer p = tt
 left_after (Err e) Q P answer p = inr (answer, p)
+
+-- what holds after a call that was well holds where its error was mapped
+pub still_ok : {X Y E D : Type 0} (r : Result X E) (s : Result Y D) (P Q : Type 0) → is_ok s ≡ is_ok r → (P → Q) → OnOk r P → OnOk s Q
+still_ok (Ok x) (Ok y) P Q same to p = to p
+still_ok (Err e) (Ok y) P Q same to p = absurd (true≢false same)
+still_ok (Ok x) (Err d) P Q same to p = tt
+still_ok (Err e) (Err d) P Q same to p = tt

@@ -1,5 +1,5 @@
 -- What a line asks for.
-use Rattle.std.proofs.Common.{◌≡◌, ◌≢◌, ◌∙◌, inl, inr, ℕ, suc, ◌<◌, ◌≤◌, [], ◌∷◌, ◌++◌, List, Some, None, EachIndex, length, get_or, arith, refl, sym, ap, subst, lit<, codes, length-append, decimal, append_assoc, zero, ◌^◌}
+use Rattle.std.proofs.Common.{◌≡◌, ◌≢◌, ◌∙◌, ◌⊎◌, inl, inr, Bool, true, false, bytes_eq, not, ◌==◌, true≢false, if◌then◌else◌, ℕ, suc, ◌<◌, ◌≤◌, [], ◌∷◌, ◌++◌, List, Some, None, EachIndex, length, get_or, arith, refl, sym, ap, subst, lit<, codes, length-append, decimal, append_assoc, zero, ◌^◌}
 use Rattle.std.specs.Borrow.{Bor}
 use Rattle.std.specs.Net.Addr.{ipv4_bits, ipv6_bits}
 use Rattle.std.specs.Net.Grammar.{IsIpv4Text, IsIpv6Text}
@@ -7,6 +7,10 @@ use Rattle.std.specs.declared.net.ipv4_addr.Ipv4Addr.{Ipv4Addr}
 use Rattle.std.specs.declared.net.ipv6_addr.Ipv6Addr.{Ipv6Addr}
 use Rattle.std.proofs.Math.ListN.{get_or-append}
 use Rattle.std.proofs.Math.Seq.{get_or-append_seam}
+use Rattle.std.specs.List.{list_all}
+use Rattle.std.proofs.lemmas.Bool.Decides.{eqb_tells}
+use Rattle.std.proofs.lemmas.List.Folds.{list_all_at}
+use Rattle.std.proofs.lemmas.Slice.Eq.{bytes_eq-Decides}
 use Rattle.std.proofs.lemmas.Fmt.{decimal_nonempty, length-decimal-le}
 use Rattle.std.proofs.lemmas.Str.Pattern.{IsSplitOnceResult, split_after, split_parts}
 use Rattle.radix_keys.specs.Networks.{Net, IsNetText, IsParted}
@@ -15,7 +19,7 @@ use Rattle.route_tool.specs.Commands.{word_text}
 use Rattle.route_tool.specs.declared.command.Word.{Word}
 use Rattle.route_tool.specs.declared.command.Word.TheVariants as word
 use Rattle.route_tool.specs.Reasons.{IsWorded, ShowsHop}
-use Rattle.route_tool.specs.Requests.{Request, Add, Del, Below, Look, Find, Asked, V4, V6, Len, All, Aggregate, Compact, Comment, Asks, HasDotEarly, IsAddition, IsHop, IsTarget, IsTextRequest, Says, word_of}
+use Rattle.route_tool.specs.Requests.{Request, Add, Del, Below, Look, Find, Asked, V4, V6, Len, All, Dump, Aggregate, Compact, Load, Help, Comment, Asks, HasDotEarly, IsAddition, IsHop, IsTarget, IsTextRequest, MayBeIpv4, Says, WritesNetwork, in_full, word_of}
 
 -- no part of a text stands before a byte that isn't found
 not_parted : (c : ℕ) (s a b : List ℕ) → IsSplitOnceResult c s None → c < 128 → ¬ (IsParted c s a b)
@@ -25,10 +29,22 @@ not_parted c s a b found low (is, before) = split_after c s a b None found low i
 parted_once : (c : ℕ) (s a b : List ℕ) (x : Bor (List ℕ) × Bor (List ℕ)) → IsSplitOnceResult c s (Some x) → c < 128 → IsParted c s a b → (x.0.now ≡ a) × (x.1.now ≡ b)
 parted_once c s a b x found low (is, before) = split_after c s a b (Some x) found low is before
 
--- a text with a slash has one
+-- a text that is parted at a byte has one
+pub has_byte : (c : ℕ) (s a b : List ℕ) → IsParted c s a b → ¬ (EachIndex s (λ i. get_or s i 0 ≢ c))
+has_byte c s a b (is, before) free =
+    free (length a) (omega (arith, ap length is, length-append a (c ∷ b))) (ap (λ l. get_or l (length a) 0) is ∙ get_or-append_seam a c b 0)
+
+-- so has one with a slash
 pub has_slash : (s a b : List ℕ) → IsParted 47 s a b → ¬ (EachIndex s (λ i. get_or s i 0 ≢ 47))
-has_slash s a b (is, before) free =
-    free (length a) (omega (arith, ap length is, length-append a (47 ∷ b))) (ap (λ l. get_or l (length a) 0) is ∙ get_or-append_seam a 47 b 0)
+has_slash s a b parted free = has_byte 47 s a b parted free
+
+-- a byte that a list doesn't have is none of its elements
+pub free_of : (c : ℕ) (bytes : List ℕ) → list_all (λ b. not (b == c)) bytes ≡ true → EachIndex bytes (λ i. get_or bytes i 0 ≢ c)
+free_of c bytes none i lt is =
+    elim (eqb_tells c c) [
+      | inl same ↦ true≢false (sym none ∙ list_all_at (λ b. not (b == c)) bytes i 0 lt (ap (λ b. not (b == c)) is ∙ ap not same.0))
+      | inr differs ↦ differs.1 refl
+    ]
 
 -- a text is parted at a byte in one way
 one_parting : (c : ℕ) (a b d e : List ℕ) → a ++ (c ∷ b) ≡ d ++ (c ∷ e) → EachIndex a (λ i. get_or a i 0 ≢ c) → EachIndex d (λ i. get_or d i 0 ≢ c) → (a ≡ d) × (b ≡ e)
@@ -57,44 +73,59 @@ word_by (Below net) = (word.Below, refl)
 word_by (Look address) = (word.Look, refl)
 word_by (Find address) = (word.Find, refl)
 
--- no text that begins with a word and a space is a comment or one word
-pub no_bare : (text : List ℕ) (word : Word) (rest : List ℕ) → IsParted 32 text (word_text word) rest → (get_or text 0 0 ≢ 35) × (text ≢ codes "len") × (text ≢ codes "list") × (text ≢ codes "aggregate") × (text ≢ codes "compact")
-no_bare text word.Look rest (is, _) = (
-  λ e. omega (arith, ap (λ (l : List ℕ). get_or l 0 0) is, e),
-  λ e. omega (arith, ap (λ (l : List ℕ). get_or l 1 0) (sym is ∙ e)),
-  λ e. omega (arith, ap (λ (l : List ℕ). get_or l 1 0) (sym is ∙ e)),
-  λ e. omega (arith, ap (λ (l : List ℕ). get_or l 0 0) (sym is ∙ e)),
-  λ e. omega (arith, ap (λ (l : List ℕ). get_or l 0 0) (sym is ∙ e)),
-)
-no_bare text word.Add rest (is, _) = (
-  λ e. omega (arith, ap (λ (l : List ℕ). get_or l 0 0) is, e),
-  λ e. omega (arith, ap (λ (l : List ℕ). get_or l 0 0) (sym is ∙ e)),
-  λ e. omega (arith, ap (λ (l : List ℕ). get_or l 0 0) (sym is ∙ e)),
-  λ e. omega (arith, ap (λ (l : List ℕ). get_or l 1 0) (sym is ∙ e)),
-  λ e. omega (arith, ap (λ (l : List ℕ). get_or l 0 0) (sym is ∙ e)),
-)
-no_bare text word rest (is, _) = (
-  λ e. omega (arith, ap (λ (l : List ℕ). get_or l 0 0) is, e),
-  λ e. omega (arith, ap (λ (l : List ℕ). get_or l 0 0) (sym is ∙ e)),
-  λ e. omega (arith, ap (λ (l : List ℕ). get_or l 0 0) (sym is ∙ e)),
-  λ e. omega (arith, ap (λ (l : List ℕ). get_or l 0 0) (sym is ∙ e)),
-  λ e. omega (arith, ap (λ (l : List ℕ). get_or l 0 0) (sym is ∙ e)),
-)
+-- no text that begins with a word and a space is a comment
+no_hash : (text : List ℕ) (word : Word) (rest : List ℕ) → IsParted 32 text (word_text word) rest → get_or text 0 0 ≢ 35
+no_hash text word.Add rest (is, _) = λ e. omega (arith, ap (λ (l : List ℕ). get_or l 0 0) is, e)
+no_hash text word.Del rest (is, _) = λ e. omega (arith, ap (λ (l : List ℕ). get_or l 0 0) is, e)
+no_hash text word.Below rest (is, _) = λ e. omega (arith, ap (λ (l : List ℕ). get_or l 0 0) is, e)
+no_hash text word.Look rest (is, _) = λ e. omega (arith, ap (λ (l : List ℕ). get_or l 0 0) is, e)
+no_hash text word.Find rest (is, _) = λ e. omega (arith, ap (λ (l : List ℕ). get_or l 0 0) is, e)
+
+-- nor is one with a space a word alone
+pub no_space_in : (text front rest bare : List ℕ) → IsParted 32 text front rest → text ≡ bare → list_all (λ b. not (b == 32)) bare ≡ true → ⊥
+no_space_in text front rest bare parted is free = has_byte 32 text front rest parted (subst (λ l. EachIndex l (λ i. get_or l i 0 ≢ 32)) (sym is) (free_of 32 bare free))
+
+-- no word is load
+not_load : (word : Word) → word_text word ≡ codes "load" → ⊥
+not_load word.Look e = omega (arith, ap (λ (l : List ℕ). get_or l 2 0) e)
+not_load word.Add e = omega (arith, ap (λ (l : List ℕ). get_or l 0 0) e)
+not_load word.Del e = omega (arith, ap (λ (l : List ℕ). get_or l 0 0) e)
+not_load word.Below e = omega (arith, ap (λ (l : List ℕ). get_or l 0 0) e)
+not_load word.Find e = omega (arith, ap (λ (l : List ℕ). get_or l 0 0) e)
+
+-- what begins with load asks for nothing else
+pub load_apart : {A : Type 0} (text : List ℕ) (r : Request A) (rest path : List ℕ) → IsParted 32 text (word_of r) rest → IsParted 32 text (codes "load") path → ⊥
+load_apart text r rest path p q =
+    let by = word_by r in
+    not_load by.0 (sym by.1 ∙ (one_part 32 text (word_of r) rest (codes "load") path p q).0)
+
+-- so it is neither
+pub no_bare : (text : List ℕ) (word : Word) (rest : List ℕ) → IsParted 32 text (word_text word) rest
+    → (get_or text 0 0 ≢ 35) × ((bare : List ℕ) → text ≡ bare → list_all (λ b. not (b == 32)) bare ≡ true → ⊥)
+no_bare text word rest parted = (no_hash text word rest parted, λ bare. no_space_in text (word_text word) rest bare parted)
+
+-- default stands for a network, and any other text for itself
+full_by : (s : List ℕ) (v : Bool) → bytes_eq s (codes "default") ≡ v → ((s ≡ codes "default") × (in_full s ≡ codes "0.0.0.0/0")) ⊎ (in_full s ≡ s)
+full_by s true e = inl ((bytes_eq-Decides s (codes "default")).0 e, ap (λ (v : Bool). if v then codes "0.0.0.0/0" else s) e)
+full_by s false e = inr (ap (λ (v : Bool). if v then codes "0.0.0.0/0" else s) e)
+
+pub full_of : (s : List ℕ) → ((s ≡ codes "default") × (in_full s ≡ codes "0.0.0.0/0")) ⊎ (in_full s ≡ s)
+full_of s = full_by s (bytes_eq s (codes "default")) refl
 
 module _ {A : Type 0} (w : ℕ) (number : A → ℕ) (writes : List ℕ → A → Type 0) where
   -- a word with a slash that writes no network in full writes none
-  pub no_network : (s : List ℕ) (x : Bor (List ℕ) × Bor (List ℕ)) → IsSplitOnceResult 47 s (Some x) → ((net : Net A) → ¬ (IsNetText w number writes s net)) → (net : Net A) → ¬ (IsTarget w number writes s net)
+  pub no_network : (s : List ℕ) (x : Bor (List ℕ) × Bor (List ℕ)) → IsSplitOnceResult 47 s (Some x) → ((net : Net A) → ¬ (IsNetText w number writes s net)) → (net : Net A) → ¬ (WritesNetwork w number writes s net)
   no_network s x found none net (inl is) = none net is
   no_network s x found none net (inr (free, _, _)) = has_slash s x.0.now x.1.now (split_parts 47 s (Some x) found (lit< tt)) free
 
   module _ (s : List ℕ) (found : IsSplitOnceResult 47 s None) where
     -- nor does one with no slash that writes no address
-    pub no_host : w ≤ 128 → ((a : A) → ¬ (writes s a)) → (net : Net A) → ¬ (IsTarget w number writes s net)
+    pub no_host : w ≤ 128 → ((a : A) → ¬ (writes s a)) → (net : Net A) → ¬ (WritesNetwork w number writes s net)
     no_host narrow none net (inl is) = no_slash writes number w narrow s found net is
     no_host narrow none net (inr (_, is, _)) = none net.base is
 
     -- a word with no slash that writes an address writes the network of it alone
-    pub is_host : (net : Net A) → writes s net.base → net.bits ≡ w → IsTarget w number writes s net
+    pub is_host : (net : Net A) → writes s net.base → net.bits ≡ w → WritesNetwork w number writes s net
     is_host net is bits = inr (split_parts 47 s None found (lit< tt), is, bits)
 
   -- a text with no space is no addition
@@ -143,11 +174,9 @@ module _ (text : List ℕ) (word : Word) (rest : List ℕ) (parted : IsParted 32
   pub no_request : ((r : Request Ipv4Addr) → word_text word ≡ word_of r → ¬ (Says 32 ipv4_bits IsIpv4Text r rest)) → ((r : Request Ipv6Addr) → word_text word ≡ word_of r → ¬ (Says 128 ipv6_bits IsIpv6Text r rest)) → (c : Asked) → ¬ (IsTextRequest text c)
   no_request none4 none6 (V4 r) asks = says_nothing 32 ipv4_bits IsIpv4Text none4 r asks
   no_request none4 none6 (V6 r) asks = says_nothing 128 ipv6_bits IsIpv6Text none6 r asks
-  no_request none4 none6 Len is = (no_bare text word rest parted).1 is
-  no_request none4 none6 All is = (no_bare text word rest parted).2 is
-  no_request none4 none6 Aggregate is = (no_bare text word rest parted).3 is
-  no_request none4 none6 Compact is = (no_bare text word rest parted).4 is
   no_request none4 none6 Comment is = is
+  no_request none4 none6 (Load path) is = not_load word (one_part 32 text (word_text word) rest (codes "load") path parted is).0
+  no_request none4 none6 c is = (no_bare text word rest parted).1 _ is refl
 
 -- what a text asks for that begins with none
 module _ (text : List ℕ) (unworded : (word : Word) (rest : List ℕ) → ¬ (IsParted 32 text (word_text word) rest)) where
@@ -155,14 +184,17 @@ module _ (text : List ℕ) (unworded : (word : Word) (rest : List ℕ) → ¬ (I
   asks_nothing w number writes r (rest, parted, _) = let by = word_by r in unworded by.0 rest (subst (λ word. IsParted 32 text word rest) by.1 parted)
 
   -- nothing, where it is no bare word
-  pub no_text : text ≢ codes "len" → text ≢ codes "list" → text ≢ codes "aggregate" → text ≢ codes "compact" → (c : Asked) → ¬ (IsTextRequest text c)
-  no_text len list aggregate compact (V4 r) asks = asks_nothing 32 ipv4_bits IsIpv4Text r asks
-  no_text len list aggregate compact (V6 r) asks = asks_nothing 128 ipv6_bits IsIpv6Text r asks
-  no_text len list aggregate compact Len is = len is
-  no_text len list aggregate compact All is = list is
-  no_text len list aggregate compact Aggregate is = aggregate is
-  no_text len list aggregate compact Compact is = compact is
-  no_text len list aggregate compact Comment is = is
+  pub no_text : text ≢ codes "len" → text ≢ codes "list" → text ≢ codes "dump" → text ≢ codes "aggregate" → text ≢ codes "compact" → text ≢ codes "help" → ((path : List ℕ) → ¬ (IsParted 32 text (codes "load") path)) → (c : Asked) → ¬ (IsTextRequest text c)
+  no_text len list dump aggregate compact help load (V4 r) asks = asks_nothing 32 ipv4_bits IsIpv4Text r asks
+  no_text len list dump aggregate compact help load (V6 r) asks = asks_nothing 128 ipv6_bits IsIpv6Text r asks
+  no_text len list dump aggregate compact help load Len is = len is
+  no_text len list dump aggregate compact help load All is = list is
+  no_text len list dump aggregate compact help load Dump is = dump is
+  no_text len list dump aggregate compact help load Aggregate is = aggregate is
+  no_text len list dump aggregate compact help load Compact is = compact is
+  no_text len list dump aggregate compact help load Help is = help is
+  no_text len list dump aggregate compact help load (Load path) is = load path is
+  no_text len list dump aggregate compact help load Comment is = is
 
 -- a dot early in a text stands there in front of more
 still_dot : (s more : List ℕ) → HasDotEarly s → HasDotEarly (s ++ more)
@@ -189,20 +221,31 @@ ipv4_dot s a is =
     dot_at s (length (decimal is.a)) some (length-decimal-le 3 is.a (omega arith) (omega (arith, is.fit.0)) wide) long
     (ap (λ l. get_or l (length (decimal is.a)) 0) shown ∙ get_or-append_seam (decimal is.a) 46 rest 0)
 
-target_dot : (s : List ℕ) (net : Net Ipv4Addr) → IsTarget 32 ipv4_bits IsIpv4Text s net → HasDotEarly s
-target_dot s net (inl (base, digits, (is, _), address, _, _)) = subst HasDotEarly (sym is) (still_dot base (47 ∷ digits) (ipv4_dot base net.base address))
-target_dot s net (inr (_, address, _)) = ipv4_dot s net.base address
+writes_dot : (s : List ℕ) (net : Net Ipv4Addr) → WritesNetwork 32 ipv4_bits IsIpv4Text s net → HasDotEarly s
+writes_dot s net (inl (base, digits, (is, _), address, _, _)) = subst HasDotEarly (sym is) (still_dot base (47 ∷ digits) (ipv4_dot base net.base address))
+writes_dot s net (inr (_, address, _)) = ipv4_dot s net.base address
+
+-- more may stand behind such a beginning
+still_ipv4 : (s more : List ℕ) → MayBeIpv4 s → MayBeIpv4 (s ++ more)
+still_ipv4 s more (inl dot) = inl (still_dot s more dot)
+still_ipv4 s more (inr (rest, is)) = inr (rest ++ more, ap (λ l. l ++ more) is ∙ append_assoc (codes "default") rest more)
+
+target_ipv4 : (s : List ℕ) (net : Net Ipv4Addr) → IsTarget 32 ipv4_bits IsIpv4Text s net → MayBeIpv4 s
+target_ipv4 s net target = elim (full_of s) [
+  | inl default ↦ inr ([], default.0)
+  | inr same ↦ inl (writes_dot s net (subst (λ t. WritesNetwork 32 ipv4_bits IsIpv4Text t net) same target))
+]
 
 -- and so does each text that asks something of IPv4
-says_dot : (r : Request Ipv4Addr) (rest : List ℕ) → Says 32 ipv4_bits IsIpv4Text r rest → HasDotEarly rest
-says_dot (Add net hop) rest (front, (is, _), target, _) = subst HasDotEarly (sym is) (still_dot front (32 ∷ hop) (target_dot front net target))
-says_dot (Del net) rest says = target_dot rest net says
-says_dot (Below net) rest says = target_dot rest net says
-says_dot (Look address) rest says = ipv4_dot rest address says
-says_dot (Find address) rest says = ipv4_dot rest address says
+says_ipv4 : (r : Request Ipv4Addr) (rest : List ℕ) → Says 32 ipv4_bits IsIpv4Text r rest → MayBeIpv4 rest
+says_ipv4 (Add net hop) rest (front, (is, _), target, _) = subst MayBeIpv4 (sym is) (still_ipv4 front (32 ∷ hop) (target_ipv4 front net target))
+says_ipv4 (Del net) rest says = target_ipv4 rest net says
+says_ipv4 (Below net) rest says = target_ipv4 rest net says
+says_ipv4 (Look address) rest says = inl (ipv4_dot rest address says)
+says_ipv4 (Find address) rest says = inl (ipv4_dot rest address says)
 
-pub no_ipv4 : (rest : List ℕ) → ¬ (HasDotEarly rest) → (r : Request Ipv4Addr) → ¬ (Says 32 ipv4_bits IsIpv4Text r rest)
-no_ipv4 rest none r says = none (says_dot r rest says)
+pub no_ipv4 : (rest : List ℕ) → ¬ (MayBeIpv4 rest) → (r : Request Ipv4Addr) → ¬ (Says 32 ipv4_bits IsIpv4Text r rest)
+no_ipv4 rest none r says = none (says_ipv4 r rest says)
 
 -- what is wrong with a text
 module _ (s : List ℕ) where

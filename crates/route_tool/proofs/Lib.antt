@@ -12,3 +12,7 @@ pub mod AnswerLemmas
 pub mod CommandLemmas
 -- A line asks for one thing at most.
 pub mod OneRequest
+-- What is written of a network is read as it.
+pub mod WrittenLemmas
+-- The lines of a file, one after another.
+pub mod LoadLemmas

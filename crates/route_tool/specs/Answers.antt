@@ -1,13 +1,18 @@
 -- What is answered to a request.
-use Rattle.std.specs.Prelude.{◌≡◌, ℕ, ◌+◌, List, [], ◌∷◌, ◌++◌, length, flat_map, Option, None, Some, codes, decimal}
+use Rattle.std.specs.Prelude.{◌≡◌, ℕ, ◌+◌, List, [], ◌∷◌, ◌++◌, ◌⊎◌, length, flat_map, Option, None, Some, codes, decimal}
 use Rattle.std.specs.Net.Addr.{ipv4_bits, ipv6_bits, ipv4_octets, ipv6_segments}
 use Rattle.std.specs.Net.Text.{ipv4_text, ipv6_text}
 use Rattle.std.specs.declared.net.ipv4_addr.Ipv4Addr.{Ipv4Addr}
 use Rattle.std.specs.declared.net.ipv6_addr.Ipv6Addr.{Ipv6Addr}
 use Rattle.radix_keys.specs.Networks.{net_text}
 use Rattle.route_tool.specs.Aggregates.{IsAggregate}
-use Rattle.route_tool.specs.Requests.{Request, Add, Del, Below, Look, Find, Asked, V4, V6, Len, All, Aggregate, Compact, Comment}
+use Rattle.route_tool.specs.Loads.{AreCarriedOut, IsFirstBad, IsLoadedInPart, file_fault_text, lines_in}
+use Rattle.route_tool.specs.Reasons.{reason_text}
+use Rattle.route_tool.specs.Requests.{Request, Add, Del, Below, Look, Find, Asked, V4, V6, Len, All, Dump, Aggregate, Compact, Load, Help, Comment}
 use Rattle.route_tool.specs.Routes.{Route, Routes, IsLongestRoute, hop_at, hop_of, in_order, routes_within, with_route, without_route}
+use Rattle.route_tool.specs.declared.files.FileFault.{FileFault}
+use Rattle.route_tool.specs.declared.reason.Reason.{Reason}
+use Rattle.route_tool.specs.declared.help.TheConstants.{HELP}
 use Rattle.route_tool.specs.declared.table.Table.{Table}
 
 -- of an added route, by the hop that its network had
@@ -20,6 +25,10 @@ abbrev pub hop_answer : Option (List ℕ) → List ℕ
 hop_answer None = codes "none\n"
 hop_answer (Some hop) = hop ++ 10 ∷ []
 
+-- of a bad line, by what is told of it
+abbrev pub bad_answer : List ℕ → List ℕ
+bad_answer remark = codes "bad line: " ++ remark ++ 10 ∷ []
+
 -- how many routes there are
 abbrev pub count_answer : ℕ → List ℕ
 count_answer count = decimal count ++ 10 ∷ []
@@ -29,6 +38,10 @@ module _ {A : Type 0} (text : A → List ℕ) where
   -- a network, a space and its hop
   abbrev pub row : Route A → List ℕ
   row r = net_text text r.0 ++ codes " " ++ r.1 ++ 10 ∷ []
+
+  -- the line that asks for the addition of the route
+  abbrev pub addition : Route A → List ℕ
+  addition r = codes "add " ++ net_text text r.0 ++ codes " " ++ r.1
 
   -- a row, or that there is none
   abbrev pub find_answer : Option (Route A) → List ℕ
@@ -71,11 +84,48 @@ rows_answer v4 v6 = count_answer (length v4 + length v6)
 abbrev pub list_answer : Table → List ℕ
 list_answer t = rows_answer (in_order t.v4) (in_order t.v6)
 
+abbrev pub ipv4_addition : Route Ipv4Addr → List ℕ
+ipv4_addition r = addition (λ a. ipv4_text (ipv4_octets a)) r
+
+abbrev pub ipv6_addition : Route Ipv6Addr → List ℕ
+ipv6_addition r = addition (λ a. ipv6_text (ipv6_segments a)) r
+
+-- a line for each route, those of IPv4 first
+abbrev pub dump_answer : Table → List ℕ
+dump_answer t = flat_map (λ r. ipv4_addition r ++ 10 ∷ []) (in_order t.v4)
+    ++ flat_map (λ r. ipv6_addition r ++ 10 ∷ []) (in_order t.v6)
+
 -- the least lists of routes that give each address of their family the hop that the table gives it
 abbrev pub IsAggregateAnswer : Table → List ℕ → Type 0
 IsAggregateAnswer t answer = (v4 : List (Route Ipv4Addr)) × (v6 : List (Route Ipv6Addr))
     × IsAggregate 32 ipv4_bits t.v4 v4 × IsAggregate 128 ipv6_bits t.v6 v6
     × (answer ≡ rows_answer v4 v6)
+
+-- of a file that isn't read
+abbrev pub no_file_answer : FileFault → List ℕ
+no_file_answer fault = codes "no file: " ++ file_fault_text fault ++ 10 ∷ []
+
+-- of the first bad line of a file
+abbrev pub bad_edit_answer : ℕ → Reason → List ℕ
+bad_edit_answer n reason = codes "bad line " ++ decimal n ++ codes ": " ++ reason_text reason ++ 10 ∷ []
+
+-- a text is loaded: all its lines are carried out, or none, where one is bad
+abbrev pub IsLoad : (text : List ℕ) → Table → Table → List ℕ → Type 0
+IsLoad text t u answer =
+    (AreCarriedOut (lines_in text) t u × (answer ≡ count_answer (count_of u)))
+    ⊎ ((n : ℕ) × (reason : Reason) × IsFirstBad (lines_in text) n reason × (u ≡ t)
+    × (answer ≡ bad_edit_answer n reason))
+
+-- a file is loaded, whatever it holds, or it isn't read
+abbrev pub IsFileLoad : Table → Table → List ℕ → Type 0
+IsFileLoad t u answer =
+    ((text : List ℕ) × IsLoad text t u answer)
+    ⊎ ((fault : FileFault) × (u ≡ t) × (answer ≡ no_file_answer fault))
+
+-- memory was refused while what is asked was carried out
+abbrev pub IsBegun : Asked → Table → Table → Type 0
+IsBegun (Load path) t u = (text : List ℕ) × IsLoadedInPart text t u
+IsBegun c t u = ⊥
 
 -- the answer to what is asked, and the table after it
 abbrev pub IsAnswer : Asked → Table → Table → List ℕ → Type 0
@@ -85,6 +135,9 @@ IsAnswer (V6 r) t u answer =
     IsReply (λ a. ipv6_text (ipv6_segments a)) 128 ipv6_bits r t.v6 u.v6 answer × (u.v4 ≡ t.v4)
 IsAnswer Len t u answer = (answer ≡ count_answer (count_of t)) × (u ≡ t)
 IsAnswer All t u answer = (answer ≡ list_answer t) × (u ≡ t)
+IsAnswer Dump t u answer = (answer ≡ dump_answer t) × (u ≡ t)
 IsAnswer Aggregate t u answer = IsAggregateAnswer t answer × (u ≡ t)
 IsAnswer Compact t u answer = (answer ≡ count_answer (count_of t)) × (u ≡ t)
+IsAnswer (Load path) t u answer = IsFileLoad t u answer
+IsAnswer Help t u answer = (answer ≡ HELP.now) × (u ≡ t)
 IsAnswer Comment t u answer = (answer ≡ []) × (u ≡ t)

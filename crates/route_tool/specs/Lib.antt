@@ -3,6 +3,7 @@ pub mod Requests
 pub mod Aggregates
 pub mod Numbers
 pub mod Commands
-pub mod Answers
 pub mod Reasons
+pub mod Loads
+pub mod Answers
 pub mod Sessions

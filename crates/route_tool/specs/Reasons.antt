@@ -4,15 +4,16 @@ use Rattle.std.specs.Str.{IsUtf8}
 use Rattle.radix_keys.specs.Networks.{IsParted}
 use Rattle.route_tool.specs.Requests.{IsHop}
 use Rattle.route_tool.specs.declared.reason.Reason.{Reason}
-use Rattle.route_tool.specs.declared.reason.Reason.TheVariants.{NotUtf8, NoRequest, NoNetwork, NoHop, NoAddress}
+use Rattle.route_tool.specs.declared.reason.Reason.TheVariants.{NotUtf8, NoRequest, NoNetwork, NoHop, NoAddress, NoChange}
 
 -- the text of a reason
 abbrev pub reason_text : Reason → List ℕ
 reason_text NotUtf8 = codes "not UTF-8"
-reason_text NoRequest = codes "no such request"
-reason_text NoNetwork = codes "no network"
-reason_text NoHop = codes "no hop"
-reason_text NoAddress = codes "no address"
+reason_text NoRequest = codes "no such request: help lists them"
+reason_text NoNetwork = codes "no network, as 10.0.0.0/8"
+reason_text NoHop = codes "no hop, as via 192.0.2.1"
+reason_text NoAddress = codes "no address, as 192.0.2.1"
+reason_text NoChange = codes "no add, del or comment"
 
 -- the text is the word, a space and the rest
 abbrev pub IsWorded : (text word rest : List ℕ) → Type 0
@@ -25,6 +26,7 @@ ShowsHop rest = (word : List ℕ) × (hop : List ℕ) × IsWorded rest word hop 
 -- what is wrong with a text that asks for nothing, by its first word
 abbrev pub IsWrong : Reason → List ℕ → Type 0
 IsWrong NotUtf8 text = ⊥
+IsWrong NoChange text = ⊥
 IsWrong NoHop text = (rest : List ℕ) × IsWorded text (codes "add") rest × (ShowsHop rest → ⊥)
 IsWrong NoNetwork text = (rest : List ℕ) × ((IsWorded text (codes "add") rest × ShowsHop rest)
     ⊎ (IsWorded text (codes "del") rest ⊎ IsWorded text (codes "below") rest))

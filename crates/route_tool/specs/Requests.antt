@@ -1,10 +1,11 @@
 -- What a line asks for.
-use Rattle.std.specs.Prelude.{◌≡◌, ◌≢◌, ℕ, ◌-◌, ◌<◌, ◌⊎◌, EachIndex, List, length, slice_index, codes}
+use Rattle.std.specs.Prelude.{◌≡◌, ◌≢◌, ℕ, ◌-◌, ◌<◌, ◌⊎◌, EachIndex, List, bytes_eq, if◌then◌else◌, length, slice_index, codes}
 use Rattle.std.specs.Net.Addr.{ipv4_bits, ipv6_bits}
 use Rattle.std.specs.Net.Grammar.{IsIpv4Text, IsIpv6Text}
 use Rattle.std.specs.Str.{IsUtf8}
 use Rattle.std.specs.declared.net.ipv4_addr.Ipv4Addr.{Ipv4Addr}
 use Rattle.std.specs.declared.net.ipv6_addr.Ipv6Addr.{Ipv6Addr}
+use Rattle.line_sessions.specs.Answers.{Begins}
 use Rattle.radix_keys.specs.Networks.{Net, IsNetText, IsParted}
 
 -- what is asked of the routes of one family
@@ -21,8 +22,11 @@ pub data Asked : Type 0 where
   V6 : Request Ipv6Addr → Asked
   Len : Asked
   All : Asked
+  Dump : Asked
   Aggregate : Asked
   Compact : Asked
+  Load : (path : List ℕ) → Asked
+  Help : Asked
   Comment : Asked
 
 -- a text of one byte or more, the first and the last of them no space
@@ -38,6 +42,10 @@ word_of (Below net) = codes "below"
 word_of (Look address) = codes "look"
 word_of (Find address) = codes "find"
 
+-- the text of a network in full: default stands for the network of all IPv4 addresses
+abbrev pub in_full : List ℕ → List ℕ
+in_full word = if bytes_eq word (codes "default") then codes "0.0.0.0/0" else word
+
 -- addresses have w bits and these numbers, and are written by these texts
 module _ {A : Type 0} (w : ℕ) (number : A → ℕ) (writes : List ℕ → A → Type 0) where
   -- the word has no slash, and writes an address: that of a network of this address alone
@@ -46,8 +54,12 @@ module _ {A : Type 0} (w : ℕ) (number : A → ℕ) (writes : List ℕ → A �
       EachIndex word (λ i. slice_index word i ≢ 47) × writes word net.base × (net.bits ≡ w)
 
   -- the word writes the network, with the count of its bits or without
+  abbrev pub WritesNetwork : List ℕ → Net A → Type 0
+  WritesNetwork word net = IsNetText w number writes word net ⊎ IsHostText word net
+
+  -- the word in full writes the network
   abbrev pub IsTarget : List ℕ → Net A → Type 0
-  IsTarget word net = IsNetText w number writes word net ⊎ IsHostText word net
+  IsTarget word net = WritesNetwork (in_full word) net
 
   -- a network, a space and a hop
   abbrev pub IsAddition : List ℕ → Net A → List ℕ → Type 0
@@ -72,14 +84,21 @@ HasDotEarly text =
     (3 < length text)
     × ((slice_index text 1 ≡ 46) ⊎ (slice_index text 2 ≡ 46) ⊎ (slice_index text 3 ≡ 46))
 
+-- the text begins as each one does that asks something of IPv4 routes behind its first word
+abbrev pub MayBeIpv4 : List ℕ → Type 0
+MayBeIpv4 text = HasDotEarly text ⊎ Begins (codes "default") text
+
 -- what a text asks for
 abbrev pub IsTextRequest : List ℕ → Asked → Type 0
 IsTextRequest text (V4 r) = Asks 32 ipv4_bits IsIpv4Text text r
 IsTextRequest text (V6 r) = Asks 128 ipv6_bits IsIpv6Text text r
 IsTextRequest text Len = text ≡ codes "len"
 IsTextRequest text All = text ≡ codes "list"
+IsTextRequest text Dump = text ≡ codes "dump"
 IsTextRequest text Aggregate = text ≡ codes "aggregate"
 IsTextRequest text Compact = text ≡ codes "compact"
+IsTextRequest text (Load path) = IsParted 32 text (codes "load") path
+IsTextRequest text Help = text ≡ codes "help"
 IsTextRequest text Comment = ⊥
 
 -- what a line asks for: nothing, where it begins with #, and else what its text does

@@ -3,26 +3,31 @@ ghost use Rattle.std.specs.Prelude.{◌≡◌, ◌⊎◌, ◌++◌, ◌∷◌, [
 ghost use Rattle.nibble_map.specs.Lists.{IsPrefix};
 ghost use Rattle.radix_keys.specs.Networks.{net_text};
 ghost use Rattle.radix_trie.specs.Walks.{deref_pair};
-ghost use Rattle.route_tool.specs.Answers.{IsAggregateAnswer, IsAnswer, IsReply, added_answer, below_answer, count_answer, find_answer, hop_answer, list_answer, row};
+ghost use Rattle.route_tool.specs.Answers.{IsAggregateAnswer, IsAnswer, IsBegun, IsReply, added_answer, addition, bad_answer, below_answer, count_answer, dump_answer, find_answer, hop_answer, list_answer, row};
 ghost use Rattle.route_tool.specs.Aggregates.{route_of};
 ghost use Rattle.route_tool.specs.Commands.{asked_of, request_of};
+ghost use Rattle.route_tool.specs.Reasons.{reason_text};
 ghost use Rattle.route_tool.specs.Routes.{routes_within};
 
 use crate::aggregate::aggregate;
 use crate::command::{Command, Request};
+use crate::help::HELP;
 use crate::hop::Hop;
+use crate::load::load;
+use crate::reason::Reason;
 use crate::table::{Rest, Routes, Table};
 use arrayvec::ArrayString;
 use itoa::Buffer;
 use radix_trie::{Address, Memory, Network};
 use std::alloc::AllocError;
 use std::fmt::Write;
+use std::rt::Files;
 
 // How many bytes the longest text of a network has: that of eight segments of four digits.
 const LONGEST: usize = 43;
 
 /// Adds a number and a line feed.
-fn add_count(out: &mut Vec<u8>, count: u128) -> Result<(), AllocError>
+pub(crate) fn add_count(out: &mut Vec<u8>, count: u128) -> Result<(), AllocError>
     ensures text { OnOk result (out.new.items ≡ out.old.items ++ count_answer count) }
     ensures kept { IsPrefix out.old.items out.new.items }
 {
@@ -192,6 +197,42 @@ fn add_list(out: &mut Vec<u8>, table: &Table) -> Result<(), Memory>
     add_rest(out, table.v6.rest())
 }
 
+/// Adds the line that asks for the addition of a route.
+fn add_addition<A: Address>(
+    out: &mut Vec<u8>,
+    network: &Network<A>,
+    hop: &Hop,
+) -> Result<(), AllocError>
+    ensures text { OnOk result (out.new.items
+        ≡ out.old.items ++ addition A.text (network.now, hop.now) ++ 10 ∷ []) }
+    ensures kept { IsPrefix out.old.items out.new.items }
+{
+    out.extend_from_slice(b"add ")?;
+    add_row(out, network, hop)
+}
+
+/// Adds such a line for each route.
+fn add_additions<A: Address>(out: &mut Vec<u8>, rest: Rest<'_, A>) -> Result<(), Memory>
+    ensures text { OnOk result (out.new.items
+        ≡ out.old.items ++ flat_map (λ r. addition A.text r ++ 10 ∷ []) rest.entry) }
+    ensures kept { IsPrefix out.old.items out.new.items }
+{
+    let mut rest = rest;
+    while let Some((network, hop)) = rest.next()? {
+        add_addition(out, network, hop)?;
+    }
+    Ok(())
+}
+
+/// Adds a line for each route, those of IPv4 first.
+fn add_dump(out: &mut Vec<u8>, table: &Table) -> Result<(), Memory>
+    ensures text { OnOk result (out.new.items ≡ out.old.items ++ dump_answer table.now) }
+    ensures kept { IsPrefix out.old.items out.new.items }
+{
+    add_additions(out, table.v4.rest())?;
+    add_additions(out, table.v6.rest())
+}
+
 /// Adds each row.
 fn add_rows<A: Address>(out: &mut Vec<u8>, rows: &[(Network<A>, &Hop)]) -> Result<(), AllocError>
     ensures text { OnOk result
@@ -218,12 +259,29 @@ fn add_aggregate(out: &mut Vec<u8>, table: &Table) -> Result<(), Memory>
     Ok(add_rows(out, &v6)?)
 }
 
+/// Adds that a line is bad, and what is wrong with it.
+pub fn add_reason(out: &mut Vec<u8>, reason: Reason) -> Result<(), AllocError>
+    ensures text { OnOk result
+        (out.new.items ≡ out.old.items ++ bad_answer (reason_text reason)) }
+    ensures kept { IsPrefix out.old.items out.new.items }
+{
+    out.extend_from_slice(b"bad line: ")?;
+    out.extend_from_slice(reason.text().as_bytes())?;
+    out.extend_from_slice(b"\n")
+}
+
 /// Carries out a command, and adds its answer, or after a refusal maybe a part of it.
-pub fn answer(out: &mut Vec<u8>, table: &mut Table, command: &Command<'_>) -> Result<(), Memory>
+pub fn answer<F: Files>(
+    files: &F,
+    out: &mut Vec<u8>,
+    table: &mut Table,
+    command: &Command<'_>,
+) -> Result<(), Memory>
     ensures answer { OnOk result ((answer : List ℕ) × (out.new.items ≡ out.old.items ++ answer)
         × IsAnswer (asked_of command.now) table.old table.new answer) }
     ensures left { OnErr result ((table.new ≡ table.old)
-        ⊎ ((answer : List ℕ) × IsAnswer (asked_of command.now) table.old table.new answer)) }
+        ⊎ (((answer : List ℕ) × IsAnswer (asked_of command.now) table.old table.new answer)
+        ⊎ IsBegun (asked_of command.now) table.old table.new)) }
     ensures kept { OnErr result (IsPrefix out.old.items out.new.items) }
 {
     match command {
@@ -231,11 +289,14 @@ pub fn answer(out: &mut Vec<u8>, table: &mut Table, command: &Command<'_>) -> Re
         Command::V6(request) => add_reply(out, &mut table.v6, request),
         Command::Len => Ok(add_count(out, table.len())?),
         Command::All => add_list(out, table),
+        Command::Dump => add_dump(out, table),
         Command::Aggregate => add_aggregate(out, table),
         Command::Compact => {
             table.compact()?;
             Ok(add_count(out, table.len())?)
         }
+        Command::Load(path) => load(files, out, table, path),
+        Command::Help => Ok(out.extend_from_slice(HELP.as_bytes())?),
         Command::Comment => Ok(()),
     }
 }

@@ -3,7 +3,7 @@ ghost use Rattle.std.specs.Prelude.{◌≡◌, ◌↔◌, IsTrue, MatchOption};
 ghost use Rattle.std.specs.Str.{IsUtf8};
 ghost use Rattle.radix_keys.specs.Networks.{IsParted};
 ghost use Rattle.route_tool.specs.Commands.{asked_of, request_of, word_text};
-ghost use Rattle.route_tool.specs.Requests.{HasDotEarly, IsAddition, IsHop, IsRequest, IsTarget, IsTextRequest, Says, word_of};
+ghost use Rattle.route_tool.specs.Requests.{HasDotEarly, IsAddition, IsHop, IsRequest, IsTarget, IsTextRequest, MayBeIpv4, Says, WritesNetwork, in_full, word_of};
 
 use radix_trie::{Address, Network};
 use std::net::{Ipv4Addr, Ipv6Addr};
@@ -25,8 +25,11 @@ pub enum Command<'a> {
     V6(Request<'a, Ipv6Addr>),
     Len,
     All,
+    Dump,
     Aggregate,
     Compact,
+    Load(&'a str),
+    Help,
     Comment,
 }
 
@@ -51,11 +54,19 @@ pub fn is_hop(text: &str) -> bool
     bytes[0] != b' ' && bytes[bytes.len() - 1] != b' '
 }
 
+/// The text of a network in full: that of the network of all IPv4 addresses for `default`, and else
+/// the text itself.
+fn in_full(text: &str) -> &str
+    ensures { result.now ≡ in_full text.now }
+{
+    if text == "default" { "0.0.0.0/0" } else { text }
+}
+
 /// The network that a text writes, with the count of its bits or without, if it writes one.
-fn target<A: Address>(text: &str) -> Option<Network<A>>
+fn network_of<A: Address>(text: &str) -> Option<Network<A>>
     ensures { MatchOption result
-        ((net : _) → ¬ (IsTarget A.BITS A.number A.is_text text.now net))
-        (IsTarget A.BITS A.number A.is_text text.now) }
+        ((net : _) → ¬ (WritesNetwork A.BITS A.number A.is_text text.now net))
+        (WritesNetwork A.BITS A.number A.is_text text.now) }
 {
     match text.split_once('/') {
         Some(_) => match text.parse::<Network<A>>() {
@@ -67,6 +78,15 @@ fn target<A: Address>(text: &str) -> Option<Network<A>>
             Some(Network::host(host))
         }
     }
+}
+
+/// The network that a text stands for, if it stands for one.
+fn target<A: Address>(text: &str) -> Option<Network<A>>
+    ensures { MatchOption result
+        ((net : _) → ¬ (IsTarget A.BITS A.number A.is_text text.now net))
+        (IsTarget A.BITS A.number A.is_text text.now) }
+{
+    network_of(in_full(text))
 }
 
 /// A network, one space and a hop.
@@ -148,6 +168,13 @@ fn has_dot_early(text: &str) -> bool
     bytes.len() > 3 && (bytes[1] == b'.' || bytes[2] == b'.' || bytes[3] == b'.')
 }
 
+/// Whether a text begins as each one does that asks something of IPv4 routes.
+fn may_be_ipv4(text: &str) -> bool
+    ensures { MayBeIpv4 text.now → IsTrue result }
+{
+    has_dot_early(text) || text.starts_with("default")
+}
+
 /// What a text that begins with no such word asks for, if it is good.
 fn bare(text: &str) -> Option<Command<'_>>
     requires { (word : Word) (rest : _) → ¬ (IsParted 32 text.now (word_text word) rest) }
@@ -158,12 +185,19 @@ fn bare(text: &str) -> Option<Command<'_>>
         Some(Command::Len)
     } else if text == "list" {
         Some(Command::All)
+    } else if text == "dump" {
+        Some(Command::Dump)
     } else if text == "aggregate" {
         Some(Command::Aggregate)
     } else if text == "compact" {
         Some(Command::Compact)
+    } else if text == "help" {
+        Some(Command::Help)
     } else {
-        None
+        match text.strip_prefix("load ") {
+            Some(path) => Some(Command::Load(path)),
+            None => None,
+        }
     }
 }
 
@@ -175,7 +209,7 @@ fn parse_text(text: &str) -> Option<Command<'_>>
     let Some((word, rest)) = first_word(text) else {
         return bare(text);
     };
-    if has_dot_early(rest) {
+    if may_be_ipv4(rest) {
         if let Some(request) = said::<Ipv4Addr>(word, rest) {
             return Some(Command::V4(request));
         }

@@ -12,6 +12,8 @@ pub enum Reason {
     NoNetwork,
     NoHop,
     NoAddress,
+    /// Of a line in a file, which asks for something else than a change of a route.
+    NoChange,
 }
 
 impl Reason {
@@ -21,10 +23,11 @@ impl Reason {
     {
         match self {
             Reason::NotUtf8 => "not UTF-8",
-            Reason::NoRequest => "no such request",
-            Reason::NoNetwork => "no network",
-            Reason::NoHop => "no hop",
-            Reason::NoAddress => "no address",
+            Reason::NoRequest => "no such request: help lists them",
+            Reason::NoNetwork => "no network, as 10.0.0.0/8",
+            Reason::NoHop => "no hop, as via 192.0.2.1",
+            Reason::NoChange => "no add, del or comment",
+            Reason::NoAddress => "no address, as 192.0.2.1",
         }
     }
 }

@@ -6,7 +6,7 @@ use Rattle.route_tool.proofs.AnswerLemmas.{answers_too}
 use Rattle.route_tool.proofs.answers.answer.Goals as goal
 
 pub returns-in-Aggregate-clause-answer : goal.returns-in-Aggregate-clause-answer
-returns-in-Aggregate-clause-answer c =
+returns-in-Aggregate-clause-answer g c =
     rw c.in-Aggregate.is
     (answers_too c.add_aggregate.result c.args.out.now.items c.add_aggregate.new.out.items (IsAggregateAnswer c.args.table.now) (IsAnswer asked.Aggregate c.args.table.now c.args.table.now)
     (λ answer is. (is, refl)) c.add_aggregate.ensures.answer)

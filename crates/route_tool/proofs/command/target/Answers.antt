@@ -1,18 +1,9 @@
-use Rattle.std.proofs.Common.{refl}
-use Rattle.route_tool.proofs.CommandLemmas.{no_network, no_host, is_host}
+use Rattle.std.proofs.Common.{List, MatchOption, ℕ, subst}
+use Rattle.radix_keys.specs.Networks.{Net}
+use Rattle.route_tool.specs.Requests.{WritesNetwork}
 use Rattle.route_tool.proofs.command.target.Goals as goal
 
-pub returns-in-Err : goal.returns-in-Err
-returns-in-Err g c =
-    no_network g.A.Address.BITS g.A.Address.number g.A.Address.is_text c.args.text.now c.in-Some.field-0 c.in-Some.ensures.cases c.in-Err.ensures.value
-
-pub returns-in_err-host-in-None : goal.returns-in_err-host-in-None
-returns-in_err-host-in-None g c =
-    rw c.from_residual.ensures
-    (no_host g.A.Address.BITS g.A.Address.number g.A.Address.is_text c.args.text.now c.in-None.ensures.cases g.met.A.Address.bits_fit.1 c.in_err-host-in-None.ensures)
-
-pub returns-in_ok-host-in-None : goal.returns-in_ok-host-in-None
-returns-in_ok-host-in-None g c =
-    rw c.host.ensures
-    (is_host g.A.Address.BITS g.A.Address.number g.A.Address.is_text c.args.text.now c.in-None.ensures.cases
-    (record { base = c.in_ok-host-in-None.host; bits = g.A.Address.BITS }) c.in_ok-host-in-None.ensures refl)
+pub returns : goal.returns
+returns g c =
+    let Reads : List ℕ → Net g.row.A.Denot → Type 0 = WritesNetwork g.A.Address.BITS g.A.Address.number g.A.Address.is_text in
+    subst (λ text. MatchOption c.network_of.result ((net : _) → ¬ (Reads text net)) (Reads text)) c.in_full.ensures c.network_of.ensures

@@ -1,0 +1,24 @@
+//! What the program is started with.
+
+use std::env::FillError;
+use std::rt::Env;
+
+/// What is told where it is started with anything else.
+pub const USAGE: &'static str =
+    "route_tool: it takes lines on standard input, and no argument but --read-on";
+
+/// What is told at a terminal.
+pub const HINT: &'static str = "route_tool: help lists the requests, Ctrl-D ends";
+
+/// Whether it is started with `--read-on`, and nothing else; none where with anything else. It
+/// takes no memory.
+pub fn is_read_on_start<R: Env>(rt: &R) -> Option<bool> {
+    let mut word = [0u8; 16];
+    match rt.arg(1, &mut word) {
+        Err(FillError::NotPresent) => Some(false),
+        Ok(count) if word.get(..count) == Some(b"--read-on".as_slice()) => {
+            matches!(rt.arg(2, &mut word), Err(FillError::NotPresent)).then_some(true)
+        }
+        _ => None,
+    }
+}

@@ -1,5 +1,5 @@
 -- An answer and a key, as contracts see them.
-use Rattle.std.specs.Prelude.{◌≡◌, ◌-◌, refl, ℕ, Bool, ◌==◌, ◌||◌, if◌then◌else◌, List, [], ◌∷◌, ◌++◌, length, decimal, slice_get, take, Option, None, Some, codes}
+use Rattle.std.specs.Prelude.{◌≡◌, ◌-◌, refl, ℕ, Bool, true, ◌==◌, ◌||◌, if◌then◌else◌, List, [], ◌∷◌, ◌++◌, length, decimal, slice_get, take, Option, None, Some, codes}
 use Rattle.std.specs.Coded.{Coded, code_by, coded_list, coded_option, coded_ℕ, coded×}
 use Rattle.std.specs.Option.{option_and_then, option_map_or}
 use Rattle.nibble_map.specs.Nibbles.{nibbles}
@@ -48,6 +48,10 @@ gap bytes =
     option_map_or (λ byte. if byte == 10 || byte == 32 then [] else 32 ∷ [])
     (slice_get bytes (length bytes - 1)) []
 
+-- what is written next begins a line
+abbrev pub begins_line : List ℕ → Bool
+begins_line bytes = option_map_or (λ byte. byte == 10) (slice_get bytes (length bytes - 1)) true
+
 -- a key's encoding, and the text that the key is, if it is one
 pub record Spelled : Type 0 where
   pub list : List ℕ
@@ -63,9 +67,9 @@ spelled_code =
 abbrev pub text_key : List ℕ → Spelled
 text_key text = record { list = nibbles text; text = Some text }
 
--- the word that a text's key is written as
-abbrev pub key_word : Spelled → List ℕ
-key_word key = option_map_or escaped key.text []
+-- the word that a text's key is written as, where it begins a line or doesn't
+abbrev pub key_word : (begins : Bool) → Spelled → List ℕ
+key_word begins key = option_map_or (escaped begins) key.text []
 
 -- a value, or that there is none
 abbrev pub value_word : Option ℕ → List ℕ
@@ -76,5 +80,5 @@ value_word (Some number) = decimal number
 abbrev pub value_line : Option ℕ → List ℕ
 value_line value = value_word value ++ 10 ∷ []
 
-abbrev pub pair_line : Spelled × ℕ → List ℕ
-pair_line p = key_word p.0 ++ 32 ∷ (decimal p.1 ++ 10 ∷ [])
+abbrev pub pair_line : (begins : Bool) → Spelled × ℕ → List ℕ
+pair_line begins p = key_word begins p.0 ++ 32 ∷ (decimal p.1 ++ 10 ∷ [])

@@ -1,13 +1,16 @@
 //! What a line is answered: its words, read one after another.
 ghost use Rattle.std.specs.Prelude.{◌≡◌, ℕ, List, [], false, Some, IfOk, length, option_copied, option_map, take};
 ghost use Rattle.shell_words.specs.Answers.{IsNextNumber, behind_next, next_text, next_word, text_key};
+ghost use Rattle.shell_words.specs.Texts.{written_text};
 
+mod escapes;
 mod text;
 
 use crate::key::Key;
 use crate::kind::Kind;
 use crate::read::Read;
 use crate::words::Words;
+pub use escapes::is_hidden;
 use radix_keys::Memory;
 use std::alloc::Global;
 use std::marker::Model;
@@ -225,9 +228,17 @@ impl<'a> Answer<'a> {
         ensures text { IfOk result (λ query. (text : List ℕ) → self.old.kind ≡ Kind.Text
             → next_text self.old ≡ Some text → query ≡ Some (text_key text)) }
     {
-        let Some(word) = self.words.next() else {
-            return Ok(None);
-        };
+        match self.words.next() {
+            Some(word) => self.query_of(word),
+            None => Ok(None),
+        }
+    }
+
+    /// What a word looks up, if it writes a key or a list.
+    pub fn query_of(&self, word: &str) -> Result<Option<Key>, Memory>
+        ensures { IfOk result (λ query. (text : List ℕ) → self.now.kind ≡ Kind.Text
+            → written_text word.now ≡ Some text → query ≡ Some (text_key text)) }
+    {
         match Key::read_query(self.kind, self.alloc, word) {
             Ok(query) => Ok(query),
             Err(_) => Key::read_query(self.kind, self.alloc, word),

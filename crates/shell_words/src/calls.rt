@@ -10,7 +10,7 @@ use radix_keys::Memory;
 use std::net::{Ipv4Addr, Ipv6Addr};
 
 /// What is answered where a call has another count of words.
-pub const OTHER_COUNT: &'static str = "another count of words";
+const OTHER_COUNT: &'static str = "another count of words";
 
 /// Answers a call of a key, of a list of nibbles, of bits or of parts, or of a network. False: the
 /// call is none of these.

@@ -1,13 +1,14 @@
 //! What keys of each type are written as.
 ghost use Rattle.std.specs.Prelude.{◌≡◌, ◌++◌, [], IsSome, IsTrue, OnErr, OnOk};
 ghost use Rattle.std.specs.Option.{option_map_or};
+ghost use Rattle.shell_words.specs.Answers.{begins_line};
 ghost use Rattle.shell_words.specs.Faces.{face_text};
 ghost use Rattle.shell_words.specs.Texts.{escaped};
 
 use crate::answer::Answer;
 use crate::kind::{Kind, Width};
 use crate::read::Read;
-use radix_keys::{Bits, Memory, Network, Nibblet, Parts, TrieKey};
+use radix_keys::{Address, Bits, Memory, Network, Nibblet, Parts, TrieKey};
 use std::alloc::Global;
 use std::fmt;
 use std::net::{Ipv4Addr, Ipv6Addr};
@@ -60,6 +61,14 @@ fn signed_list(number: i128, width: Width, alloc: Global) -> Result<Option<Nibbl
     }
 }
 
+/// The network that a word writes, or that of the address alone that it writes.
+fn network_of<A: Address>(word: &str) -> Option<Network<A>> {
+    match word.parse::<Network<A>>() {
+        Ok(network) => Some(network),
+        Err(_) => A::parse(word).map(Network::host),
+    }
+}
+
 impl Face {
     /// What a word writes, if it writes a value of the type, or an integer of another width. Lists
     /// and texts are no such types.
@@ -71,8 +80,8 @@ impl Face {
             Kind::Char => char::read(alloc, word)?.map(Face::Char),
             Kind::Bits => Bits::read(alloc, word)?.map(Face::Bits),
             Kind::Parts => Parts::read(alloc, word)?.map(Face::Parts),
-            Kind::Ipv4 => word.parse().ok().map(Face::Ipv4),
-            Kind::Ipv6 => word.parse().ok().map(Face::Ipv6),
+            Kind::Ipv4 => network_of(word).map(Face::Ipv4),
+            Kind::Ipv6 => network_of(word).map(Face::Ipv6),
             Kind::Unsigned(_) => word.parse().ok().map(Face::Unsigned),
             Kind::Signed(_) => word.parse().ok().map(Face::Signed),
         })
@@ -97,7 +106,8 @@ impl Face {
     /// Adds what writes it, as part of a word.
     pub fn write(&self, answer: &mut Answer<'_>) -> Result<(), Memory>
         ensures text { OnOk result (IsSome (face_text self.now) → answer.new.bytes
-            ≡ answer.old.bytes ++ option_map_or escaped (face_text self.now) []) }
+            ≡ answer.old.bytes
+            ++ option_map_or (escaped (begins_line answer.old.bytes)) (face_text self.now) []) }
         ensures lost { OnErr result (IsTrue answer.new.is_lost) }
     {
         match self {

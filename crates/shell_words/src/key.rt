@@ -1,7 +1,7 @@
 //! Keys of all types in one: each is the list that its type encodes it as, and how it is written.
 ghost use Rattle.std.specs.Prelude.{◌≡◌, ◌++◌, ℕ, List, Some, IfOk, IsSome, IsTrue, OnErr, OnOk, option_map};
 ghost use Rattle.std.specs.Option.{option_and_then};
-ghost use Rattle.shell_words.specs.Answers.{gap, text_key, key_word};
+ghost use Rattle.shell_words.specs.Answers.{begins_line, text_key, key_word};
 ghost use Rattle.shell_words.specs.Texts.{written_text};
 
 use crate::answer::Answer;
@@ -81,6 +81,22 @@ impl Key {
         }
     }
 
+    /// The key that the bytes of a line of a file are: a text or bytes as they stand, and else what
+    /// they write, if they write a key of the type.
+    pub fn of_line(kind: Kind, alloc: Global, line: &[u8]) -> Result<Option<Key>, Memory> {
+        let face = match (kind, str::from_utf8(line)) {
+            (Kind::Bytes, _) => Face::Bytes(line.to_vec(alloc)?),
+            (Kind::Text, Ok(text)) => Face::Text(text.to_string(alloc)?),
+            (_, Ok(text)) => return Key::read(kind, alloc, text),
+            _ => return Ok(None),
+        };
+        let list = match &face {
+            Face::Text(text) => text.encode(alloc)?,
+            _ => line.encode(alloc)?,
+        };
+        Ok(Some(Key { list, face }))
+    }
+
     /// A list of nibbles, which stands for itself.
     fn of_list(list: Nibblet) -> Key {
         Key {
@@ -97,7 +113,8 @@ impl Key {
     /// Adds what writes the key, as part of a word.
     pub fn write(&self, answer: &mut Answer<'_>) -> Result<(), Memory>
         ensures text { OnOk result (IsSome self.now.text
-            → answer.new.bytes ≡ answer.old.bytes ++ key_word self.now) }
+            → answer.new.bytes
+            ≡ answer.old.bytes ++ key_word (begins_line answer.old.bytes) self.now) }
         ensures lost { OnErr result (IsTrue answer.new.is_lost) }
     {
         match &self.face {

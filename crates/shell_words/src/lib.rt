@@ -13,13 +13,15 @@ mod networks;
 mod part_lists;
 mod read;
 mod says;
+mod word_laws;
 mod words;
 
-pub use answer::Answer;
-pub use calls::{OTHER_COUNT, answer_part};
+pub use answer::{Answer, is_hidden};
+pub use calls::answer_part;
 pub use face::Face;
 pub use key::Key;
 pub use kind::{Kind, Width};
 pub use read::Read;
 pub use says::{NO_KEY, NO_LIST, NO_NUMBER, NO_TYPE, NONE, NOT_HERE};
+pub use word_laws::words_are_read_back;
 pub use words::Words;

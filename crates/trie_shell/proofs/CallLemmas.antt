@@ -1,5 +1,5 @@
 -- Calls of the trie of texts.
-use Rattle.std.proofs.Common.{◌≡◌, ◌≢◌, ◌∙◌, ap, sym, subst, refl, ℕ, List, [], ◌∷◌, ◌++◌, IsSome, append-nil, append_assoc, flat_map, Option, None, Some, option_map, true, false, bytes_eq, codes}
+use Rattle.std.proofs.Common.{◌≡◌, ◌≢◌, ◌∙◌, ap, sym, subst, refl, ℕ, List, [], ◌∷◌, ◌++◌, IsSome, append-nil, append_assoc, flat_map, Option, None, Some, option_map, Bool, true, false, bytes_eq, codes}
 use Rattle.std.proofs.lemmas.Slice.Eq.{bytes_eq-Decides}
 use Rattle.std.specs.FinMap as map
 use Rattle.nibble_map.specs.Lists.{Each, IsPrefix}
@@ -7,7 +7,8 @@ use Rattle.nibble_map.specs.Maps.{PairMap}
 use Rattle.radix_trie.specs.Refusals.{IsFullAt, RefusesInsert}
 use Rattle.radix_trie.specs.declared.error.InsertWhy.{InsertWhy}
 use Rattle.radix_trie.specs.declared.error.InsertWhy.TheVariants.{Full, Memory, Outside}
-use Rattle.shell_words.specs.Answers.{Answering, IsNextNumber, Spelled, behind_next, gap, next_text, pair_line, text_key}
+use Rattle.shell_words.proofs.WordLemmas.{gap-begun}
+use Rattle.shell_words.specs.Answers.{Answering, IsNextNumber, Spelled, begins_line, behind_next, gap, next_text, pair_line, text_key}
 use Rattle.radix_trie.specs.Views.{pairs_below}
 use Rattle.radix_trie.proofs.PathLemmas.Places.{below-nil}
 use Rattle.trie_shell.specs.Answers.{TellsValue, StoresNumber, DoesCall, IsTextPair, Table, TellsPairs, pair_lines}
@@ -42,14 +43,21 @@ no_other_refusal m l inside light Full other refused within room = room refused.
 no_other_refusal m l inside light Outside other refused within room = refused within
 
 -- the line of one pair, and then those of the others
-pub walked : (pairs rest : List (Spelled × ℕ)) (p : Spelled × ℕ) (old bytes all : List ℕ) → pairs ≡ p ∷ rest → Each IsTextPair pairs → gap old ≡ []
-    → (IsSome p.0.text → bytes ≡ old ++ gap old ++ pair_line p) → gap bytes ≡ [] → old ++ flat_map pair_line pairs ≡ all
-    → Each IsTextPair rest × (gap bytes ≡ []) × (bytes ++ flat_map pair_line rest ≡ all)
+pub walked : (pairs rest : List (Spelled × ℕ)) (p : Spelled × ℕ) (old bytes all : List ℕ) → pairs ≡ p ∷ rest → Each IsTextPair pairs → begins_line old ≡ true
+    → (IsSome p.0.text → bytes ≡ old ++ gap old ++ pair_line (begins_line old) p) → begins_line bytes ≡ true → old ++ flat_map (pair_line true) pairs ≡ all
+    → Each IsTextPair rest × (begins_line bytes ≡ true) × (bytes ++ flat_map (pair_line true) rest ≡ all)
 walked pairs rest p old bytes all is texts begun added ended so_far =
     let Texts : List (Spelled × ℕ) → Type 0 = λ ps. Each IsTextPair ps in
     let each : Each IsTextPair (p ∷ rest) = subst Texts is texts in
-    let line : bytes ≡ old ++ pair_line p = added each.0 ∙ ap (λ (between : List ℕ). old ++ between ++ pair_line p) begun ∙ ap (λ (front : List ℕ). front ++ pair_line p) (append-nil old) in
-    (each.1, ended, ap (λ (front : List ℕ). front ++ flat_map pair_line rest) line ∙ append_assoc old (pair_line p) (flat_map pair_line rest) ∙ ap (λ (ps : List (Spelled × ℕ)). old ++ flat_map pair_line ps) (sym is) ∙ so_far)
+    let line : bytes ≡ old ++ pair_line true p =
+    added each.0 ∙ ap (λ (begins : Bool). old ++ gap old ++ pair_line begins p) begun
+    ∙ ap (λ (between : List ℕ). old ++ between ++ pair_line true p) (gap-begun old begun) ∙ ap (λ (front : List ℕ). front ++ pair_line true p) (append-nil old)
+    in (
+      each.1,
+      ended,
+      ap (λ (front : List ℕ). front ++ flat_map (pair_line true) rest) line ∙ append_assoc old (pair_line true p) (flat_map (pair_line true) rest)
+          ∙ ap (λ (ps : List (Spelled × ℕ)). old ++ flat_map (pair_line true) ps) (sym is) ∙ so_far,
+    )
 
 -- two names that aren't one
 pub apart : (x y name : List ℕ) → bytes_eq x y ≡ false → name ≡ x → name ≡ y → ⊥
@@ -86,8 +94,8 @@ module _ (a : Answering) (bytes : List ℕ) (m n : Table) where
 
 -- the walk of all pairs, as a contract has it
 pub walk_all : (m : Table) (walk : List (Spelled × ℕ)) (a : Answering) (bytes : List ℕ) → walk ≡ pairs_below m []
-    → (gap a.bytes ≡ [] → Each IsTextPair walk → bytes ≡ a.bytes ++ pair_lines walk)
-    → gap a.bytes ≡ [] → Each IsTextPair (map.values m) → bytes ≡ a.bytes ++ pair_lines (map.values m)
+    → (begins_line a.bytes ≡ true → Each IsTextPair walk → bytes ≡ a.bytes ++ pair_lines walk)
+    → begins_line a.bytes ≡ true → Each IsTextPair (map.values m) → bytes ≡ a.bytes ++ pair_lines (map.values m)
 walk_all m walk a bytes is lines begun texts =
     let all : walk ≡ map.values m = is ∙ ap (λ (part : Table). map.values part) (below-nil m) in
     let Texts : List (Spelled × ℕ) → Type 0 = λ ps. Each IsTextPair ps in

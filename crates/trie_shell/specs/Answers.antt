@@ -1,13 +1,13 @@
 -- What calls of a trie of texts answer, and what becomes of it.
 use Rattle.std.specs.FinMap as map
-use Rattle.std.specs.Prelude.{◌≡◌, ◌⊎◌, ⊤, ℕ, List, [], ◌∷◌, ◌++◌, IsSome, flat_map, decimal, refl, Option, Some, None, codes}
+use Rattle.std.specs.Prelude.{◌≡◌, ◌⊎◌, ⊤, ℕ, List, [], ◌∷◌, ◌++◌, IsSome, flat_map, decimal, refl, Option, Some, None, codes, true}
 use Rattle.std.specs.Coded.{Coded, code_by, coded_ℕ, coded×}
 use Rattle.nibble_map.specs.Lists.{Each}
 use Rattle.nibble_map.specs.Maps.{PairMap, pair_map_code, value_at}
 use Rattle.nibble_map.specs.Nibbles.{nibbles}
 use Rattle.radix_trie.specs.Refusals.{IsFullAt}
 use Rattle.shell_words.specs.declared.kind.Kind.TheVariants.{Text}
-use Rattle.shell_words.specs.Answers.{Answering, IsNextNumber, Spelled, behind_next, gap, next_text, pair_line, spelled_code, text_key, value_line}
+use Rattle.shell_words.specs.Answers.{Answering, IsNextNumber, Spelled, begins_line, behind_next, gap, next_text, pair_line, spelled_code, text_key, value_line}
 
 -- keys and their numbers, each at its key's encoding
 abbrev pub Table : Type 0
@@ -30,7 +30,7 @@ IsTextPair p = IsSome p.0.text
 -- the lines of pairs, or that there is none
 abbrev pub pair_lines : List (Spelled × ℕ) → List ℕ
 pair_lines [] = codes "none\n"
-pair_lines (p ∷ ps) = flat_map pair_line (p ∷ ps)
+pair_lines (p ∷ ps) = flat_map (pair_line true) (p ∷ ps)
 
 -- the calls of which it is told here
 abbrev pub IsTold : List ℕ → Type 0
@@ -67,7 +67,7 @@ module _ (a : Answering) (bytes : List ℕ) where
 
     -- all pairs, in the order of their encodings
     abbrev pub TellsPairs : Type 0
-    TellsPairs = (n ≡ m) × (gap a.bytes ≡ [] → Each IsTextPair (map.values m)
+    TellsPairs = (n ≡ m) × (begins_line a.bytes ≡ true → Each IsTextPair (map.values m)
         → bytes ≡ a.bytes ++ pair_lines (map.values m))
 
     -- what each of these calls does

@@ -4,6 +4,8 @@ pub mod Again
 pub mod Answers
 -- The call that a line asks for.
 pub mod Asked
+-- What is told of a line that asks for nothing.
+pub mod Remarks
 -- Which lines ask for something.
 pub mod Requests
 -- What a session says of a line.

@@ -7,6 +7,7 @@ use Rattle.shell_words.specs.declared.kind.Kind.{Kind}
 use Rattle.shell_words.specs.declared.kind.Kind.TheVariants.{Text}
 use Rattle.trie_shell.specs.Answers.{Current, Makes, Table}
 use Rattle.trie_shell.specs.Asked.{asked_in}
+use Rattle.trie_shell.specs.Remarks.{IsRemark, why_bad}
 use Rattle.trie_shell.specs.Requests.{is_request}
 
 abbrev pub State : Type 0
@@ -28,12 +29,6 @@ IsBad line = is_request line ≡ false
 abbrev pub GivesUp : State → (line : List ℕ) → State → Type 0
 GivesUp s line t = ⊤
 
--- what may be told of a line that asks for nothing
-abbrev pub IsRemark : List ℕ → Type 0
-IsRemark remark =
-    (remark ≡ codes "not UTF-8") ⊎ ((remark ≡ codes "no such call")
-    ⊎ (remark ≡ codes "another count of words"))
-
 -- it is told of any such line
 abbrev pub IsRemarkOf : (line remark : List ℕ) → Type 0
 IsRemarkOf line remark = IsRemark remark
@@ -45,8 +40,7 @@ bad_unanswered s t line answer bad good = let both : false ≡ true = sym bad �
 -- of a session that no line ends: the line asks for something, or its answer says why it doesn't
 abbrev pub RepliesToEach : State → (line : List ℕ) → State → (answer : List ℕ) → Type 0
 RepliesToEach s line t answer =
-    Replies s line t answer ⊎ (IsBad line × (t ≡ s) × (remark : List ℕ) × IsRemark remark
-    × (answer ≡ remark ++ 10 ∷ []))
+    Replies s line t answer ⊎ (IsBad line × (t ≡ s) × (answer ≡ why_bad line ++ 10 ∷ []))
 
 -- no line is bad
 abbrev pub IsNever : List ℕ → Type 0

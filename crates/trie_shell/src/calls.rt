@@ -3,6 +3,7 @@
 ghost use Rattle.std.specs.Prelude.{◌≡◌, ◌⊎◌, [], IfOk, IsFalse, IsTrue, OnErr};
 ghost use Rattle.trie_shell.specs.Answers.{DoesCall, IsReread, IsTold};
 
+pub mod bounds;
 pub mod common;
 pub mod edits;
 pub mod entries;

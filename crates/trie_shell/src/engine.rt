@@ -5,6 +5,7 @@ ghost use Rattle.std.specs.Process.{exit_status};
 ghost use Rattle.line_sessions.specs.Answers.{Begins};
 ghost use Rattle.line_sessions.specs.Sessions.{Ran};
 ghost use Rattle.trie_shell.specs.Asked.{asked};
+ghost use Rattle.trie_shell.specs.Remarks.{reason_line};
 ghost use Rattle.trie_shell.specs.Sessions.{GivesUp, IsBad, IsNever, IsRemarkOf, IsReplyTo, Replies, RepliesToEach};
 
 use crate::caller::{Caller, make};
@@ -12,7 +13,8 @@ use crate::calls::files::answer_file;
 use crate::calls::json::answer_text;
 use crate::calls::topics::answer_form;
 use crate::help::{answer_complete, answer_help};
-use crate::request::{Request, request_of};
+use crate::prompt::NO_TERMINAL;
+use crate::request::{Reason, Request, request_of};
 use crate::tries::Tries;
 use line_sessions::{Program, Refusal, WatchedReader, WatchedWriter, run};
 use radix_trie::Memory;
@@ -136,6 +138,7 @@ impl<F: Files + AllocGlobal + Drop> Shell<F> {
             }
             "help" | ".help" => answer_help(answer),
             "complete" => answer_complete(answer),
+            "quit" | "exit" => answer.refuse(NO_TERMINAL),
             "save" | "load" => answer_file(&self.files, &mut self.tries, answer),
             "write" | "read" => self.tries.answer_frozen_file(&self.files, answer),
             _ if answer_form(answer)? || answer_part(answer)? || answer_text(answer)? => Ok(()),
@@ -175,6 +178,7 @@ impl<F: Files + AllocGlobal + Drop> Model for Strict<F> {
 }
 
 impl<F: Files + AllocGlobal + Drop> Program for Strict<F> {
+    ghost use Rattle.trie_shell.specs.Remarks.{reason_line};
     ghost use Rattle.trie_shell.specs.Sessions.{GivesUp, IsBad, IsRemarkOf, Replies, bad_unanswered};
 
     ghost replies = { Replies };
@@ -215,6 +219,7 @@ impl<F: Files + AllocGlobal + Drop> Model for Lenient<F> {
 }
 
 impl<F: Files + AllocGlobal + Drop> Program for Lenient<F> {
+    ghost use Rattle.trie_shell.specs.Remarks.{reason_line};
     ghost use Rattle.trie_shell.specs.Sessions.{GivesUp, IsNever, IsRemarkOf, RepliesToEach, never_unanswered};
 
     ghost replies = { RepliesToEach };
@@ -228,23 +233,32 @@ impl<F: Files + AllocGlobal + Drop> Program for Lenient<F> {
     fn answer(&mut self, line: &[u8], answers: &mut Vec<u8>) -> Result<(), Refusal> {
         match request_of(line) {
             Ok(request) => self.shell.answer(request, answers),
-            Err(reason) => add_line(answers, reason.text()),
+            Err(reason) => add_reason(answers, reason),
         }
     }
 
     ghost bad_is_unanswered = { never_unanswered };
 }
 
-/// Adds a text and a line feed.
-fn add_line(out: &mut Vec<u8>, text: &str) -> Result<(), Refusal>
-    ensures added { OnOk result (out.new.items ≡ out.old.items ++ (text.now ++ 10 ∷ [])) }
+/// Adds a line that tells why another asks for nothing.
+fn add_reason(out: &mut Vec<u8>, reason: Reason) -> Result<(), Refusal>
+    ensures added { OnOk result (out.new.items ≡ out.old.items ++ (reason_line reason ++ 10 ∷ [])) }
     ensures refused { IfErr result (λ why. why ≡ Refusal.Memory) }
     ensures kept { Begins out.old.items out.new.items }
 {
-    match add(out, text.as_bytes()) {
-        Ok(()) => add(out, b"\n").map_err(|_| Refusal::Memory),
-        Err(_) => Err(Refusal::Memory),
-    }
+    let (why, form) = reason.parts();
+    add_text(out, why)?;
+    add_text(out, form)?;
+    add_text(out, "\n")
+}
+
+/// Adds a text.
+fn add_text(out: &mut Vec<u8>, text: &str) -> Result<(), Refusal>
+    ensures added { OnOk result (out.new.items ≡ out.old.items ++ text.now) }
+    ensures refused { IfErr result (λ why. why ≡ Refusal.Memory) }
+    ensures kept { Begins out.old.items out.new.items }
+{
+    add(out, text.as_bytes()).map_err(|_| Refusal::Memory)
 }
 
 /// The whole program: a session that begins with one trie of texts, and then the line on standard

@@ -56,20 +56,14 @@ pub const CALLS: &'static [&'static str] = &[
     "keys TYPE: the same as begin where no trie holds a pair; tries hold pairs, where one does.",
     "begin TYPE: drops all tries, and begins with one of this type of keys: text, bytes, nibbles, u8,",
     "begin TYPE: u16, u32, u64, u128, usize, i8, i16, i32, i64, i128, isize, bool, char, bits, ipv4,",
-    "begin TYPE: ipv6, parts.",
+    "begin TYPE: ipv6, parts. A network is 10.0.0.0/8, or an address alone; parts each stand behind /.",
     "values: their values, or none.",
-    "iter_from KEY: the pairs from the key on, or none.",
-    "iter_after KEY: the pairs after the key, or none.",
     "cursor: the pairs in order, or none. A refused step is made once more.",
-    "cursor_from KEY: the same from the key on.",
-    "cursor_after KEY: the same after the key.",
     "cursor_back: the pairs from the last to the first, or none. A refused step is made once more.",
-    "cursor_back_from KEY: the same of the pairs at the key and before it.",
-    "cursor_back_before KEY: the same of the pairs before the key.",
-    "between FROM TO: the pairs from the key FROM on and before the key TO, or none. A refused step is made once more.",
-    "between_inclusive FROM TO: the same, with that at the key TO.",
-    "between_exclusive FROM TO: the same as between, without that at the key FROM.",
-    "between_back FROM TO: the pairs of between from the last to the first.",
+    "range[ FROM][ TO]: the pairs within the bounds, or none. FROM is >=KEY or >KEY, TO is <=KEY or",
+    "range[ FROM][ TO]: <KEY; no range. A refused step is made once more.",
+    "range_back[ FROM][ TO]: the same pairs from the last to the first.",
+    "reserved[ FROM][ TO]: the pairs of range, by a walk whose memory is allocated first.",
     "count_below KEY: the count of pairs at and below the key; outside, in a view.",
     "first_below KEY COUNT: the first pairs at and below the key, so many at most, or none; outside, in a view.",
     "first_after KEY LAST COUNT: the same of those after the key LAST.",
@@ -103,7 +97,7 @@ pub const CALLS: &'static [&'static str] = &[
     "with_subtrie_mut KEY CALL[ ; CALL ..]: the same of a view that subtrie_mut opens, or none.",
     "into_children: the children of the open view, which the call takes.",
     "into_trie CALL[ ..]: what the whole trie answers, which is handed back for the open view.",
-    "spend CALL[ KEY]: what the call answers that takes the open view.",
+    "spend CALL[ ..]: what the call answers that takes the open view.",
     "close: leaves the open view.",
     "run[ COMMAND ..]: the replies to a list of commands; within KEY COMMAND .. end runs some in a view.",
     "json TEXT[ ..]: the counts of an object's trie, and the object that it is written as; kind; float.",
@@ -178,6 +172,9 @@ pub const CALLS: &'static [&'static str] = &[
     "frozen NAME CALL[ ..]: get_ancestor, get_ancestor_value, count_below, first_below, get_mut,",
     "frozen NAME CALL[ ..]: find_mut, at_mut, for_each_mut, first_key_value,",
     "frozen NAME CALL[ ..]: last_key_value; below, nth, rank, push, finish.",
+    "iter_from KEY: the pairs from the key on, or none: of a frozen trie.",
+    "iter_after KEY: the pairs after the key, or none: of a frozen trie.",
+    "between FROM TO: the pairs from the key FROM on and before the key TO, or none: of a frozen trie.",
     "below KEY: the pairs at and below the key, or none: of a frozen trie.",
     "nth PLACE: the pair at this place in their order, from 0 on, or none: of a frozen trie.",
     "rank LIST: how many stored lists come before this one: of a frozen trie.",
@@ -188,17 +185,216 @@ pub const CALLS: &'static [&'static str] = &[
     "read NAME FILE: short, value, unsorted, long or full, at pair NUMBER, byte NUMBER.",
     "save FILE CALL[ ..]: writes what the call of a trie or a view answers to the file, anew; no file.",
     "load FILE CALL: makes the call with the words of the file behind it; no file.",
+    "load FILE lines: stores each line of the file as a key, with the line's number, from 1 on, as its",
+    "load FILE lines: value, and skips empty lines; no file; no key at line NUMBER.",
     "draw: the tree, a point on each line: its fragment, and its pair, or a star where none is stored.",
     "draw KEY: the same from the key's point on, or none.",
-    "dot: the tree as a graph for graphviz.",
+    "dot: the tree as a graph for graphviz: a box for each pair, a circle where keys part.",
     "stats: the counts of pairs, nodes and nibbles, and how many points stand above the lowest one.",
     "watch: tells of each refusal from here on: refused; refused, and changed; refused, though light.",
     "light CALL[ ..]: makes the call, which is promised to take no memory.",
-    "help: a line for each call.",
+    "help: the groups of calls.",
+    "help GROUP: a line for each call of the group, or of all: where GROUP is all.",
     "help CALL: the lines of this call.",
     ".help[ CALL]: the same as help.",
+    "quit: ends the session at a terminal; elsewhere, not at a terminal: the end of the input ends the session.",
+    "exit: the same as quit.",
     "complete BEGINNING: the names of the calls that begin so, or none.",
 ];
+
+/// Calls of one kind: what they are called together, what they are for, and their names.
+struct Group {
+    name: &'static str,
+    about: &'static str,
+    calls: &'static [&'static str],
+}
+
+/// Each call stands in one group.
+const GROUPS: &'static [Group] = &[
+    Group {
+        name: "pairs",
+        about: "one pair: lookups, insertions, removals, and the entry of a key.",
+        calls: &[
+            "insert",
+            "try_insert",
+            "get_or_insert",
+            "entry",
+            "entry_into_key",
+            "entry_get_mut",
+            "entry_insert",
+            "entry_or_insert",
+            "entry_or_insert_with",
+            "entry_and_modify",
+            "entry_remove",
+            "get",
+            "get_counted",
+            "get_with_cost",
+            "contains_key",
+            "get_key_value",
+            "get_mut",
+            "find_mut",
+            "at",
+            "at_mut",
+            "contains",
+            "remove",
+            "remove_entry",
+            "map_with_default",
+        ],
+    },
+    Group {
+        name: "prefixes",
+        about: "the longest stored prefix of a key, and the pairs below one.",
+        calls: &[
+            "find_ancestor_mut",
+            "nearest",
+            "nearest_value",
+            "nearest_with_cost",
+            "remove_prefix",
+            "split_off_prefix",
+            "for_each_mut_below",
+            "retain_below",
+            "count_below",
+            "first_below",
+            "first_after",
+            "common_prefixes",
+            "get_ancestor",
+            "get_ancestor_value",
+            "get_raw_ancestor",
+            "get_raw_descendant",
+            "matching",
+        ],
+    },
+    Group {
+        name: "walks",
+        about: "pairs, keys and values in order, ranges of them, the first and the last.",
+        calls: &[
+            "iter",
+            "keys",
+            "values",
+            "cursor",
+            "cursor_back",
+            "range",
+            "range_back",
+            "reserved",
+            "first_key_value",
+            "last_key_value",
+            "pop_first",
+            "pop_last",
+            "to_ascending",
+        ],
+    },
+    Group {
+        name: "changes",
+        about: "many pairs at once.",
+        calls: &[
+            "graft",
+            "merge",
+            "for_each_mut",
+            "retain",
+            "extend",
+            "from_iter",
+            "into_pairs",
+            "clear",
+            "compact",
+            "run",
+            "json",
+        ],
+    },
+    Group {
+        name: "views",
+        about: "the part of a trie below a key as a trie of its own.",
+        calls: &[
+            "children",
+            "key",
+            "value",
+            "value_mut",
+            "prefix",
+            "path",
+            "subtrie",
+            "open",
+            "open_mut",
+            "subtrie_mut",
+            "with",
+            "with_subtrie_mut",
+            "into_children",
+            "into_trie",
+            "spend",
+            "close",
+        ],
+    },
+    Group {
+        name: "whole",
+        about: "the whole trie: counts and pictures; several tries, and sets of their keys.",
+        calls: &[
+            "begin",
+            "len",
+            "is_empty",
+            "is_leaf",
+            "footprint",
+            "check_integrity",
+            "debug",
+            "use",
+            "tries",
+            "clone",
+            "==",
+            "intersection",
+            "difference",
+            "union",
+            "symmetric_difference",
+            "is_subset",
+            "is_superset",
+            "is_disjoint",
+            "draw",
+            "dot",
+            "stats",
+        ],
+    },
+    Group {
+        name: "freezing",
+        about: "frozen tries, and files of them.",
+        calls: &[
+            "freeze",
+            "frozen_copy",
+            "from_sorted",
+            "thaw",
+            "frozen",
+            "iter_from",
+            "iter_after",
+            "between",
+            "below",
+            "nth",
+            "rank",
+            "push",
+            "finish",
+            "write",
+            "read",
+        ],
+    },
+    Group {
+        name: "types",
+        about: "keys of each type, lists of nibbles, bits, networks, lists of parts.",
+        calls: &[
+            "encode",
+            "encode_bytes",
+            "nibblet",
+            "bits",
+            "ipv4",
+            "ipv6",
+            "parts",
+        ],
+    },
+    Group {
+        name: "session",
+        about: "files of answers and words, refused memory, and the shell itself.",
+        calls: &[
+            "error", "save", "load", "watch", "light", "help", ".help", "quit", "exit", "complete",
+        ],
+    },
+];
+
+/// What the list of groups ends with.
+const MORE: &'static str =
+    "help GROUP lists a group's calls, help CALL explains one, and help all lists all of them.";
 
 /// The name of the call that a line tells of.
 fn name_of(line: &'static str) -> &'static str {
@@ -208,17 +404,37 @@ fn name_of(line: &'static str) -> &'static str {
     }
 }
 
-/// What is told of a call, or of all of them where no name is given.
+/// Whether a call stands in a group.
+fn is_in(group: &Group, name: &str) -> bool {
+    group.calls.iter().any(|call| *call == name)
+}
+
+/// What is told of a call, of those of a group, or of all, and without a word of the groups.
 pub fn answer_help(answer: &mut Answer<'_>) -> Result<(), Memory> {
-    let meant = answer.next_word();
+    let Some(meant) = answer.next_word() else {
+        return answer_groups(answer);
+    };
+    let group = GROUPS.iter().find(|group| group.name == meant);
     let mut is_none = true;
     for line in CALLS {
-        if meant.is_none_or(|it| it == name_of(*line)) {
+        let name = name_of(*line);
+        if meant == "all" || meant == name || group.is_some_and(|it| is_in(it, name)) {
             is_none = false;
             answer.line(*line)?;
         }
     }
     if is_none { answer.line(NONE) } else { Ok(()) }
+}
+
+/// The groups, each with what it is for.
+fn answer_groups(answer: &mut Answer<'_>) -> Result<(), Memory> {
+    for group in GROUPS {
+        answer.put(group.name.as_bytes())?;
+        answer.put(b": ")?;
+        answer.put(group.about.as_bytes())?;
+        answer.end()?;
+    }
+    answer.line(MORE)
 }
 
 /// The names of the calls that begin with a word, each once. The lines of a call stand together.

@@ -7,21 +7,29 @@ use std::io::{ErrorKind, Read, Write};
 /// How many bytes of a line a terminal keeps: it drops all behind them but the line feed.
 const KEPT: usize = 4_095;
 
+/// What is told before the first line is asked for.
+const GREETING: &'static str = "trie_shell: help lists the calls, quit ends\n";
+
+/// What is answered to a line that ends a session at a terminal, elsewhere.
+pub const NO_TERMINAL: &'static str = "not at a terminal: the end of the input ends the session";
+
 /// What is told of a line that the terminal has cut.
 const CUT: &'static str =
     "not read: the terminal cuts a line of 4,095 bytes and more; `load FILE CALL` takes longer ones\n";
 
-/// Where the next read goes on: at a line's beginning, or in one that was handed on so far, or in one
-/// that is cut.
+/// Where the next read goes on: before the first line, at a line's beginning, or in one that was
+/// handed on so far, or in one that is cut.
 #[derive(Clone, Copy, PartialEq)]
 enum Place {
+    Start,
     Beginning,
     Within,
     Cut,
 }
 
 /// A reader at a terminal, which gives a line at most to each read. It writes a prompt before each one,
-/// and reads again where the terminal has cut a line, which is told of.
+/// and reads again where the terminal has cut a line, which is told of. A line `quit` or `exit` is the
+/// end of what is read.
 #[derive(Drop)]
 pub struct Prompting<R: Read, P: Write> {
     reader: R,
@@ -37,13 +45,18 @@ fn is_cut(bytes: &[u8]) -> bool {
     }
 }
 
+/// Whether the bytes are a line that ends the session.
+fn is_last(bytes: &[u8]) -> bool {
+    matches!(bytes, b"quit\n" | b"exit\n")
+}
+
 impl<R: Read, P: Write> Prompting<R, P> {
     /// The reader, not read yet, and the writer for prompts.
     pub fn new(reader: R, prompts: P) -> Prompting<R, P> {
         Prompting {
             reader,
             prompts,
-            place: Place::Beginning,
+            place: Place::Start,
         }
     }
 
@@ -57,10 +70,16 @@ impl<R: Read, P: Write> Prompting<R, P> {
     fn read_once(&mut self, buffer: &mut [u8]) -> io::Result<Option<usize>>
         ensures bound { IfOk result (λ found. IfSome found (λ count. count ≤ length buffer.new)) }
     {
+        let before = self.place;
+        if before == Place::Start {
+            self.tell(GREETING);
+        }
         self.tell("> ");
         let count = self.reader.read(buffer)?;
         let bytes = buffer.get(..count).unwrap_or(&[]);
-        let before = self.place;
+        if is_last(bytes) && before != Place::Within && before != Place::Cut {
+            return Ok(Some(0));
+        }
         let is_dropped = before == Place::Cut || is_cut(bytes);
         self.place = match bytes {
             [] | [.., b'\n'] => Place::Beginning,

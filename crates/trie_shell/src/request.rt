@@ -1,14 +1,14 @@
 //! What a line asks for, by its first word and the count of those behind it.
-ghost use Rattle.std.specs.Prelude.{◌≡◌, Some, IfOk, drop, is_ok};
+ghost use Rattle.std.specs.Prelude.{◌≡◌, ◌++◌, Some, IfErr, IfOk, drop, is_ok, option_map};
 ghost use Rattle.std.specs.List.{after_first, before_first, list_any};
 ghost use Rattle.trie_shell.specs.Asked.{asked, asked_by, asked_in};
 ghost use Rattle.shell_words.specs.Words.{is_space};
 ghost use Rattle.trie_shell.specs.Requests.{begins_words, fits, has_count, is_call, is_colon, is_named, is_remark_line, is_request, is_text_request, least_words, most_words, words_behind};
-ghost use Rattle.trie_shell.specs.Sessions.{IsRemark};
+ghost use Rattle.trie_shell.specs.Remarks.{IsRemark, form_in, form_of, misfit, reason_line, why_bad};
 
 use crate::help::CALLS;
 use radix_trie::Memory;
-use shell_words::{Answer, NOT_HERE, OTHER_COUNT, Words};
+use shell_words::{Answer, NOT_HERE, Words};
 
 /// How many words a line of any number of words has at most.
 const MANY: usize = 1_000_000_000;
@@ -113,23 +113,35 @@ pub enum Request<'a> {
     Call(Words<'a>),
 }
 
-/// Why a line asks for nothing.
+/// Why a line asks for nothing. Of a call that has other words, the form that its help gives it.
 #[derive(Clone, Copy)]
 pub enum Reason {
     NotUtf8,
     NoCall,
-    OtherCount,
+    OtherCount(&'static str),
 }
 
 impl Reason {
-    /// What is told of it.
+    /// What is told of it on one line of standard error.
     pub fn text(self) -> &'static str
         ensures { IsRemark result.now }
     {
         match self {
             Reason::NotUtf8 => "not UTF-8",
             Reason::NoCall => "no such call",
-            Reason::OtherCount => "another count of words",
+            Reason::OtherCount(_) => "another count of words",
+        }
+    }
+
+    /// What is answered in two parts, the second of which is a call's form, or tells where the
+    /// calls are listed.
+    pub fn parts(self) -> (&'static str, &'static str)
+        ensures { result.0.now ++ result.1.now ≡ reason_line self }
+    {
+        match self {
+            Reason::NotUtf8 => ("not UTF-8", ""),
+            Reason::NoCall => ("no such call: ", "help lists them"),
+            Reason::OtherCount(form) => ("another count of words: ", form),
         }
     }
 }
@@ -155,13 +167,33 @@ fn words_of(text: &str) -> Words<'_>
     }
 }
 
+/// The form that the first of these lines gives the call of this name, if one of them tells of it.
+fn form_in(lines: &[&'static str], name: &str) -> Option<&'static str>
+    ensures { option_map (λ form. form.now) result
+        ≡ form_in (λ line. line.now) lines.now name.now }
+{
+    for line in lines {
+        if is_named(*line, name) {
+            return Some(usage_of(*line));
+        }
+    }
+    None
+}
+
+/// The form of the call of this name, if there is one.
+fn form_of(name: &str) -> Option<&'static str>
+    ensures { option_map (λ form. form.now) result ≡ form_of name.now }
+{
+    form_in(CALLS, name)
+}
+
 /// Why a text has the form of no call.
-fn reason_of(text: &str) -> Reason {
-    let name = name_of(text);
-    if CALLS.iter().any(|line| is_named(*line, name)) {
-        Reason::OtherCount
-    } else {
-        Reason::NoCall
+fn reason_of(text: &str) -> Reason
+    ensures { reason_line result ≡ misfit text.now }
+{
+    match form_of(name_of(text)) {
+        Some(form) => Reason::OtherCount(form),
+        None => Reason::NoCall,
     }
 }
 
@@ -169,6 +201,7 @@ fn reason_of(text: &str) -> Reason {
 fn call_request(text: &str) -> Result<Request<'_>, Reason>
     ensures is_call { is_ok result ≡ is_call text.now }
     ensures asked { IfOk result (λ request. asked request ≡ Some (asked_by text.now)) }
+    ensures told { IfErr result (λ why. reason_line why ≡ misfit text.now) }
 {
     if is_call(text) {
         Ok(Request::Call(words_of(text)))
@@ -180,15 +213,17 @@ fn call_request(text: &str) -> Result<Request<'_>, Reason>
 /// Goes on with the call that the words left ask for, as a line does. False: they ask for none, and
 /// the answer says why.
 pub fn read_call(answer: &mut Answer<'_>) -> Result<bool, Memory> {
-    let why = match call_request(answer.words().text) {
+    match call_request(answer.words().text) {
         Ok(Request::Call(words)) => {
             answer.read_on(words);
             return Ok(true);
         }
-        Err(Reason::OtherCount) => OTHER_COUNT,
-        _ => NOT_HERE,
-    };
-    answer.refuse(why)?;
+        Err(why @ Reason::OtherCount(_)) => {
+            let (told, form) = why.parts();
+            answer.refuse_by(told, form)?;
+        }
+        _ => answer.refuse(NOT_HERE)?,
+    }
     Ok(false)
 }
 
@@ -206,6 +241,7 @@ fn is_remark(line: &[u8]) -> bool
 fn text_request(line: &[u8]) -> Result<Request<'_>, Reason>
     ensures is_request { is_ok result ≡ is_text_request line.now }
     ensures asked { IfOk result (λ request. asked request ≡ Some (asked_by line.now)) }
+    ensures told { IfErr result (λ why. reason_line why ≡ why_bad line.now) }
 {
     match str::from_utf8(line) {
         Ok(text) => call_request(text),
@@ -217,6 +253,7 @@ fn text_request(line: &[u8]) -> Result<Request<'_>, Reason>
 pub fn request_of(line: &[u8]) -> Result<Request<'_>, Reason>
     ensures is_request { is_ok result ≡ is_request line.now }
     ensures asked { IfOk result (λ request. asked request ≡ asked_in line.now) }
+    ensures told { IfErr result (λ why. reason_line why ≡ why_bad line.now) }
 {
     if is_remark(line) {
         Ok(Request::Remark)

@@ -8,11 +8,12 @@ mod frozen_files;
 mod names;
 mod places;
 
+use crate::calls::sweeps::answer_lines;
 use crate::calls::views::{answer_in_view, answer_in_write_view, answer_with};
 use crate::calls::{FrozenTable, Table, answer_told, answer_trie};
 pub use places::IN_A_VIEW;
 use radix_trie::{Memory, Nibblet, Trie};
-use shell_words::{Answer, Kind};
+use shell_words::{Answer, Kind, NOT_HERE};
 use std::alloc::Global;
 use std::marker::Model;
 
@@ -114,6 +115,17 @@ impl Tries {
             Some(spot) => answer_at(trie, spot, answer),
             None if answer_with(&mut *trie, answer)? => Ok(()),
             None => answer_trie(trie, answer),
+        }
+    }
+}
+
+impl Tries {
+    /// Stores the lines of a file in the current trie, where no view is open.
+    pub fn answer_lines(&mut self, text: &[u8], answer: &mut Answer<'_>) -> Result<(), Memory> {
+        if self.spots.is_empty() {
+            answer_lines(&mut self.current.trie, text, answer)
+        } else {
+            answer.refuse(NOT_HERE)
         }
     }
 }

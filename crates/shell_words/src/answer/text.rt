@@ -1,7 +1,6 @@
 //! How an answer is written: words, lines, keys, numbers.
-ghost use Rattle.std.specs.Prelude.{◌≡◌, ◌<◌, ◌∷◌, [], ◌++◌, IsSome, IsTrue, OnErr, OnOk, decimal};
-ghost use Rattle.shell_words.specs.Answers.{gap, key_word, pair_line, value_line, value_word};
-ghost use Rattle.shell_words.specs.Texts.{escape, escaped, hexadecimal};
+ghost use Rattle.std.specs.Prelude.{◌≡◌, ◌∷◌, [], ◌++◌, IsSome, IsTrue, OnErr, OnOk, decimal, true};
+ghost use Rattle.shell_words.specs.Answers.{begins_line, gap, key_word, pair_line, value_line, value_word};
 
 use crate::answer::Answer;
 use crate::key::Key;
@@ -36,6 +35,13 @@ impl<'a> Answer<'a> {
         }
     }
 
+    /// Whether what is written next begins a line.
+    pub fn begins_line(&self) -> bool
+        ensures { result ≡ begins_line self.now.bytes }
+    {
+        matches!(self.bytes.as_slice().last(), None | Some(b'\n'))
+    }
+
     /// Adds a word.
     pub fn word(&mut self, text: &str) -> Result<(), Memory>
         ensures text { OnOk result
@@ -49,7 +55,8 @@ impl<'a> Answer<'a> {
     /// Ends the line.
     pub fn end(&mut self) -> Result<(), Memory>
         ensures text { OnOk result (self.new.bytes ≡ self.old.bytes ++ 10 ∷ []) }
-        ensures ended { OnOk result (gap self.new.bytes ≡ []) }
+        ensures ended { OnOk result (begins_line self.new.bytes ≡ true) }
+        ensures parted { OnOk result (gap self.new.bytes ≡ []) }
         ensures lost { OnErr result (IsTrue self.new.is_lost) }
     {
         self.put(b"\n")
@@ -69,6 +76,16 @@ impl<'a> Answer<'a> {
     {
         self.is_refusal = true;
         self.line(why)
+    }
+
+    /// The same in two parts.
+    pub fn refuse_by(&mut self, why: &str, more: &str) -> Result<(), Memory>
+        ensures { OnErr result (IsTrue self.new.is_lost) }
+    {
+        self.is_refusal = true;
+        self.word(why)?;
+        self.put(more.as_bytes())?;
+        self.end()
     }
 
     /// The same with a count behind it.
@@ -94,39 +111,12 @@ impl<'a> Answer<'a> {
     /// Adds a key as a word.
     pub fn key(&mut self, key: &Key) -> Result<(), Memory>
         ensures text { OnOk result (IsSome key.now.text
-            → self.new.bytes ≡ self.old.bytes ++ gap self.old.bytes ++ key_word key.now) }
+            → self.new.bytes ≡ self.old.bytes ++ gap self.old.bytes
+            ++ key_word (begins_line self.old.bytes) key.now) }
         ensures lost { OnErr result (IsTrue self.new.is_lost) }
     {
         self.begin_word()?;
         key.write(self)
-    }
-
-    /// Adds bytes as a word that stands for them.
-    pub fn escaped(&mut self, bytes: &[u8]) -> Result<(), Memory>
-        ensures text { OnOk result (self.new.bytes ≡ self.old.bytes ++ escaped bytes.now) }
-        ensures lost { OnErr result (IsTrue self.new.is_lost) }
-    {
-        if bytes.is_empty() {
-            return self.put(b"\"\"");
-        }
-        for byte in bytes {
-            self.escape(*byte)?;
-        }
-        Ok(())
-    }
-
-    /// Adds what a byte is written as: itself, where a word of a session may have it.
-    fn escape(&mut self, byte: u8) -> Result<(), Memory>
-        ensures text { OnOk result (self.new.bytes ≡ self.old.bytes ++ escape byte) }
-        ensures lost { OnErr result (IsTrue self.new.is_lost) }
-    {
-        match byte {
-            b' ' => self.put(b"\\s"),
-            b'\\' => self.put(b"\\\\"),
-            b'"' => self.put(b"\\\""),
-            0x21..=0x7e if byte != b'#' && byte != b'>' => self.put(&[byte]),
-            _ => self.put(&[b'\\', b'x', hexadecimal(byte >> 4), hexadecimal(byte % 16)]),
-        }
     }
 
     /// Adds what is shown of a value, as part of a word.
@@ -271,24 +261,15 @@ impl<'a> Answer<'a> {
     /// Adds a line: a key and its value.
     pub fn pair_line(&mut self, key: &Key, value: u64) -> Result<(), Memory>
         ensures text { OnOk result (IsSome key.now.text → self.new.bytes
-            ≡ self.old.bytes ++ gap self.old.bytes ++ pair_line (key.now, value)) }
-        ensures ended { OnOk result (gap self.new.bytes ≡ []) }
+            ≡ self.old.bytes ++ gap self.old.bytes
+            ++ pair_line (begins_line self.old.bytes) (key.now, value)) }
+        ensures ended { OnOk result (begins_line self.new.bytes ≡ true) }
+        ensures parted { OnOk result (gap self.new.bytes ≡ []) }
         ensures lost { OnErr result (IsTrue self.new.is_lost) }
     {
         self.key(key)?;
         self.put(b" ")?;
         self.put(Buffer::new().format(value).as_bytes())?;
         self.end()
-    }
-}
-
-/// The digit of a number below 16.
-fn hexadecimal(number: u8) -> u8
-    requires { number < 16 }
-    ensures { result ≡ hexadecimal number }
-{
-    match number {
-        0..=9 => b'0' + number,
-        _ => b'a' + (number - 10),
     }
 }

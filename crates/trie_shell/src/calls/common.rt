@@ -1,10 +1,10 @@
 //! Calls that tries and views have in common.
 
-use crate::calls::lines::{key_line, key_lines, pair_line, pair_lines, value_lines, walk_lines};
+use crate::calls::bounds::{Bounds, next_bounds};
+use crate::calls::lines::{key_line, key_lines, pair_line, value_lines, walk_lines};
 use crate::calls::steps::step_lines;
 use radix_trie::{Memory, TrieCommon};
-use shell_words::{Answer, Key, NO_KEY};
-use std::ops::Bound::{Excluded, Unbounded};
+use shell_words::{Answer, Key};
 
 /// What such a call of a trie or a view answers. False: it is none.
 pub fn answer_common<'a, T: TrieCommon<'a, Key, u64> + Drop>(
@@ -25,59 +25,24 @@ pub fn answer_common<'a, T: TrieCommon<'a, Key, u64> + Drop>(
         "values" => value_lines(answer, of.values()?)?,
         "cursor" => step_lines(answer, of.cursor())?,
         "cursor_back" => step_lines(answer, of.cursor_back())?,
-        "iter_from"
-        | "iter_after"
-        | "cursor_from"
-        | "cursor_after"
-        | "cursor_back_from"
-        | "cursor_back_before" => match answer.next_query()? {
-            Some(key) => resumed_lines(of, &key, answer)?,
-            None => answer.refuse(NO_KEY)?,
+        "range" | "range_back" | "reserved" => match next_bounds(answer)? {
+            Some(bounds) => range_lines(of, bounds, answer)?,
+            None => {}
         },
-        "between" | "between_inclusive" | "between_exclusive" | "between_back" => {
-            match (answer.next_query()?, answer.next_query()?) {
-                (Some(from), Some(to)) => range_lines(of, &from, &to, answer)?,
-                _ => answer.refuse(NO_KEY)?,
-            }
-        }
         _ => return Ok(false),
     }
     Ok(true)
 }
 
-/// The walk from a key on, or after it, or back before it.
-fn resumed_lines<'a, T: TrieCommon<'a, Key, u64> + Drop>(
-    of: T,
-    key: &Key,
-    answer: &mut Answer<'_>,
-) -> Result<(), Memory> {
-    match answer.name() {
-        "iter_from" => pair_lines(answer, of.range::<Key, _>(key..)?.reserved()?),
-        "iter_after" => pair_lines(
-            answer,
-            of.range::<Key, _>((Excluded(key), Unbounded))?.reserved()?,
-        ),
-        "cursor_from" => step_lines(answer, of.range::<Key, _>(key..)?),
-        "cursor_after" => step_lines(answer, of.range::<Key, _>((Excluded(key), Unbounded))?),
-        "cursor_back_from" => step_lines(answer, of.range_back::<Key, _>(..=key)?),
-        _ => step_lines(answer, of.range_back::<Key, _>(..key)?),
-    }
-}
-
-/// The walk between two keys, or back.
+/// The walk between two bounds, or back, or with its memory allocated first.
 fn range_lines<'a, T: TrieCommon<'a, Key, u64> + Drop>(
     of: T,
-    from: &Key,
-    to: &Key,
+    bounds: Bounds,
     answer: &mut Answer<'_>,
 ) -> Result<(), Memory> {
     match answer.name() {
-        "between" => step_lines(answer, of.range::<Key, _>(from..to)?),
-        "between_inclusive" => step_lines(answer, of.range::<Key, _>(from..=to)?),
-        "between_exclusive" => step_lines(
-            answer,
-            of.range::<Key, _>((Excluded(from), Excluded(to)))?,
-        ),
-        _ => step_lines(answer, of.range_back::<Key, _>(from..to)?),
+        "range" => step_lines(answer, of.range::<Key, _>(bounds)?),
+        "range_back" => step_lines(answer, of.range_back::<Key, _>(bounds)?),
+        _ => walk_lines(answer, of.range::<Key, _>(bounds)?.reserved()?),
     }
 }

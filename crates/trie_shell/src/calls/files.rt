@@ -5,7 +5,6 @@ use crate::request::read_call;
 use crate::tries::Tries;
 use radix_trie::Memory;
 use shell_words::{Answer, Words};
-use std::alloc::Global;
 use std::fs;
 use std::io::Read;
 use std::rt::Files;
@@ -56,7 +55,7 @@ fn save<F: Files>(
     }
 }
 
-/// Makes the call with the words of the file behind it.
+/// Makes the call with the words of the file behind it, or stores the file's lines.
 fn load<F: Files>(
     files: &F,
     path: &str,
@@ -64,10 +63,17 @@ fn load<F: Files>(
     answer: &mut Answer<'_>,
 ) -> Result<(), Memory> {
     let name = answer.next_word().unwrap_or("");
-    let mut bytes = match read_behind(answer.alloc(), name, files, path) {
-        Ok(bytes) => bytes,
-        Err(fault) => return fault.tell(answer),
-    };
+    let mut bytes = Vec::new(answer.alloc());
+    if name != "lines" {
+        bytes.extend_from_slice(name.as_bytes())?;
+        bytes.push(b' ')?;
+    }
+    if let Err(fault) = read_behind(files, path, &mut bytes) {
+        return fault.tell(answer);
+    }
+    if name == "lines" {
+        return tries.answer_lines(bytes.as_slice(), answer);
+    }
     let Ok(text) = str::from_utf8(parted(bytes.as_mut_slice())) else {
         return answer.refuse("not UTF-8");
     };
@@ -78,13 +84,8 @@ fn load<F: Files>(
     answer.put(made.as_bytes())
 }
 
-/// The call's name, a space, and the bytes of the file.
-fn read_behind<F: Files>(
-    alloc: Global,
-    name: &str,
-    files: &F,
-    path: &str,
-) -> Result<Vec<u8>, FileFault> {
+/// Adds the bytes of the file.
+fn read_behind<F: Files>(files: &F, path: &str, bytes: &mut Vec<u8>) -> Result<(), FileFault> {
     let found = fs::metadata(files, path)?;
     if found.is_dir() {
         return Err(FileFault::Folder);
@@ -93,11 +94,8 @@ fn read_behind<F: Files>(
         return Err(FileFault::NotPlain);
     }
     let mut file = fs::open(files, path)?;
-    let mut bytes = Vec::new(alloc);
-    bytes.extend_from_slice(name.as_bytes())?;
-    bytes.extend_from_slice(b" ")?;
-    file.read_to_end(&mut bytes)?;
-    Ok(bytes)
+    file.read_to_end(bytes)?;
+    Ok(())
 }
 
 /// Makes the call with an answer of its own. What is lost for that one is lost for the whole line.

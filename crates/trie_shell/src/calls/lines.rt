@@ -1,8 +1,8 @@
 //! Answers of several lines, and of what may be missing.
 ghost use Rattle.std.specs.Iterator.{IsFinite};
-ghost use Rattle.std.specs.Prelude.{◌≡◌, ◌++◌, [], IsTrue, OnErr, OnOk};
+ghost use Rattle.std.specs.Prelude.{◌≡◌, ◌++◌, IsTrue, OnErr, OnOk, true};
 ghost use Rattle.nibble_map.specs.Lists.{Each};
-ghost use Rattle.shell_words.specs.Answers.{gap};
+ghost use Rattle.shell_words.specs.Answers.{begins_line};
 ghost use Rattle.trie_shell.specs.Answers.{IsTextPair, pair_lines};
 
 use crate::calls::Table;
@@ -41,7 +41,7 @@ pub fn view_line(
 
 /// The pairs of the walk of a trie or a view, or that there is none.
 pub fn walk_lines(answer: &mut Answer<'_>, walk: Iter<'_, Key, u64>) -> Result<(), Memory>
-    ensures text { OnOk result (gap answer.old.bytes ≡ [] → Each IsTextPair walk.entry
+    ensures text { OnOk result (begins_line answer.old.bytes ≡ true → Each IsTextPair walk.entry
         → answer.new.bytes ≡ answer.old.bytes ++ pair_lines walk.entry) }
     ensures lost { OnErr result (IsTrue answer.new.is_lost) }
 {

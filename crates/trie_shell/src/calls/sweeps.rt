@@ -11,6 +11,9 @@ use std::mem;
 /// What is answered where the words write no pairs.
 pub const NO_PAIRS: &'static str = "no pairs";
 
+/// What is answered where a line of a file is no key, before the line's number.
+const NO_KEY_AT: &'static str = "no key at line";
+
 /// A change of the whole trie. False: the call is none.
 pub fn answer_sweep(trie: &mut Table, answer: &mut Answer<'_>) -> Result<bool, Memory> {
     match answer.name() {
@@ -85,6 +88,15 @@ fn answer_pairs(trie: &mut Table, answer: &mut Answer<'_>) -> Result<(), Memory>
             Err(BuildError::Memory) => Err(Memory),
         };
     }
+    extend_line(trie, pairs, answer)
+}
+
+/// Stores pairs.
+fn extend_line(
+    trie: &mut Table,
+    pairs: Vec<(Key, u64)>,
+    answer: &mut Answer<'_>,
+) -> Result<(), Memory> {
     match trie.extend(pairs.into_iter()) {
         Ok(()) => answer.line("ok"),
         Err(error) => match error.why {
@@ -92,4 +104,21 @@ fn answer_pairs(trie: &mut Table, answer: &mut Answer<'_>) -> Result<(), Memory>
             InsertWhy::Full | InsertWhy::Outside => answer.refuse("full"),
         },
     }
+}
+
+/// Stores each line as a key, with its number as the value, but for those that are empty.
+pub fn answer_lines(trie: &mut Table, text: &[u8], answer: &mut Answer<'_>) -> Result<(), Memory> {
+    let mut pairs = Vec::new(answer.alloc());
+    let mut number = 0u64;
+    for line in text.split(|byte| *byte == b'\n') {
+        number = number.saturating_add(1);
+        let line = line.strip_suffix(b"\r").unwrap_or(line);
+        if !line.is_empty() {
+            match Key::of_line(answer.kind(), answer.alloc(), line)? {
+                Some(key) => pairs.push((key, number))?,
+                None => return answer.refuse_at(NO_KEY_AT, number as usize),
+            }
+        }
+    }
+    extend_line(trie, pairs, answer)
 }

@@ -1,8 +1,8 @@
 //! Pictures of the tree.
 
 use crate::calls::Table;
-use radix_trie::{Memory, Nibblet, SubTrie, TrieCommon, TrieKey};
-use shell_words::{Answer, Key, NO_KEY, NONE};
+use radix_trie::{BytesError, Memory, Nibblet, SubTrie, TrieCommon, TrieKey};
+use shell_words::{Answer, Key, Kind, NO_KEY, NONE, Words, is_hidden};
 use std::alloc::Global;
 
 /// A point whose line is still to come, and how many points stand above it.
@@ -41,6 +41,7 @@ fn answer_below<Q: TrieKey>(trie: &Table, key: &Q, answer: &mut Answer<'_>) -> R
         }
         "dot" => {
             answer.line("digraph {")?;
+            answer.put(b"  node [shape=box]\n")?;
             add_points(root, answer)?;
             answer.line("}")
         }
@@ -84,7 +85,10 @@ fn add_points(root: SubTrie<'_, Key, u64>, answer: &mut Answer<'_>) -> Result<us
         deepest = deepest.max(branch.depth);
         match answer.name() {
             "draw" => draw_point(&branch, answer)?,
-            "dot" => add_edges(&branch.view, answer)?,
+            "dot" => {
+                add_node(&branch.view, answer)?;
+                add_edges(&branch.view, answer)?
+            }
             _ => {}
         }
         add_children(answer.alloc(), &branch, &mut branches)?;
@@ -113,14 +117,81 @@ fn add_pair(view: &SubTrie<'_, Key, u64>, answer: &mut Answer<'_>) -> Result<(),
     }
 }
 
-/// An edge to each child, by their paths.
+/// A box with the pair of a point, or a small circle.
+fn add_node(view: &SubTrie<'_, Key, u64>, answer: &mut Answer<'_>) -> Result<(), Memory> {
+    answer.put(b"  \"")?;
+    answer.shown(view.path())?;
+    if TrieCommon::key(view).is_none() {
+        return answer.put(b"\" [shape=circle, label=\"\", width=0.2]\n");
+    }
+    let mut label = scratch(&*answer)?;
+    add_pair(view, &mut label)?;
+    answer.put(b"\" [label=\"")?;
+    add_quoted(label.as_bytes(), answer)?;
+    answer.put(b"\"]\n")
+}
+
+/// An edge to each child, by their paths, with what stands between them.
 fn add_edges(view: &SubTrie<'_, Key, u64>, answer: &mut Answer<'_>) -> Result<(), Memory> {
+    let is_whole = view.path().len() % 2 == 0;
     for child in view.children()? {
+        let label = fragment_of(is_whole, &TrieCommon::prefix(&child)?, &*answer)?;
         answer.put(b"  \"")?;
         answer.shown(view.path())?;
         answer.put(b"\" -> \"")?;
         answer.shown(child.path())?;
-        answer.put(b"\"\n")?;
+        answer.put(b"\" [label=\"")?;
+        add_quoted(label.as_bytes(), answer)?;
+        answer.put(b"\"]\n")?;
+    }
+    Ok(())
+}
+
+/// What is written apart. A space before it, which isn't shown, says that it begins no line.
+fn scratch(answer: &Answer<'_>) -> Result<Answer<'static>, Memory> {
+    let none = Words::named("");
+    let mut label = Answer::new(answer.alloc(), answer.kind(), none, false);
+    label.put(b" ")?;
+    Ok(label)
+}
+
+/// A fragment that begins at a whole byte or inside one: characters, where it is some of a text,
+/// and else its nibbles.
+fn fragment_of(
+    is_whole: bool,
+    fragment: &Nibblet,
+    answer: &Answer<'_>,
+) -> Result<Answer<'static>, Memory> {
+    let mut label = scratch(answer)?;
+    if is_whole && matches!(answer.kind(), Kind::Text | Kind::Bytes) {
+        match fragment.encode_bytes(answer.alloc()) {
+            Ok(bytes) if is_shown(bytes.as_slice()) => {
+                label.escaped(bytes.as_slice())?;
+                return Ok(label);
+            }
+            Err(BytesError::Memory) => return Err(Memory),
+            _ => {}
+        }
+    }
+    label.list(fragment)?;
+    Ok(label)
+}
+
+/// Whether the bytes are a text that a reader sees, spaces and all.
+fn is_shown(bytes: &[u8]) -> bool {
+    match str::from_utf8(bytes) {
+        Ok(text) => text.chars().all(|it| it == ' ' || !is_hidden(it)),
+        Err(_) => false,
+    }
+}
+
+/// Adds what stands behind the first byte, with a backslash before each backslash and each quote.
+fn add_quoted(label: &[u8], answer: &mut Answer<'_>) -> Result<(), Memory> {
+    for byte in label.get(1..).unwrap_or(&[]) {
+        if matches!(*byte, b'\\' | b'"') {
+            answer.put(b"\\")?;
+        }
+        answer.put(&[*byte])?;
     }
     Ok(())
 }

@@ -1,6 +1,7 @@
-use Rattle.std.proofs.Common.{[], ◌∷◌, ◌++◌, refl, sym, subst, inl, inr, Option}
+use Rattle.std.proofs.Common.{ℕ, List, [], ◌∷◌, ◌++◌, ap, refl, sym, subst, inl, inr, Option}
 use Rattle.shell_words.specs.Answers.{Answering}
 use Rattle.trie_shell.specs.Asked.{asked_in}
+use Rattle.trie_shell.specs.Remarks.{reason_line}
 use Rattle.trie_shell.specs.Sessions.{IsReplyTo, State}
 use Rattle.trie_shell.proofs.RequestLemmas.{OnOk-then}
 use Rattle.trie_shell.proofs.engine.LenientProgram.answer.Goals as goal
@@ -17,6 +18,10 @@ returns-in-Ok-clause-answered g c =
 
 pub returns-in-Err-clause-answered : goal.returns-in-Err-clause-answered
 returns-in-Err-clause-answered g c =
-    OnOk-then c.add_line.result
-    (λ added. (c.text.result.now ++ 10 ∷ [], inr (sym c.in-Err.ensures.is_request, refl, c.text.result.now, c.text.ensures, refl), added))
-    c.add_line.ensures.added
+    OnOk-then c.add_reason.result
+    (λ added. (
+      reason_line c.in-Err.reason ++ 10 ∷ [],
+      inr (sym c.in-Err.ensures.is_request, refl, ap (λ (remark : List ℕ). remark ++ 10 ∷ []) c.in-Err.ensures.told),
+      added,
+    ))
+    c.add_reason.ensures.added

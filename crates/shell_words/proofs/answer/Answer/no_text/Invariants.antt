@@ -1,6 +1,6 @@
 use Rattle.std.proofs.Common.{◌≡◌, ◌++◌, drop, flat_map}
 use Rattle.shell_words.specs.Texts.{escape}
-use Rattle.shell_words.proofs.answer.Answer.escaped.Given as goal
+use Rattle.shell_words.proofs.answer.Answer.no_text.Given as goal
 
 abbrev pub invariant-loop-byte : goal.invariant-loop-byte
 invariant-loop-byte l =

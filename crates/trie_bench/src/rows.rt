@@ -14,7 +14,7 @@ use std::time::Instant;
 /// How many prefixes are asked for what is below them, at most.
 pub const BEGINNINGS: usize = 10_000;
 
-/// How many pairs below a prefix are walked at most.
+/// How many pairs below a prefix are asked for at most.
 pub const SHOWN: usize = 10;
 
 /// A trie and a map of the same keys, and the times of the trie's calls.
@@ -94,10 +94,8 @@ fn trie_rows<K: Stored, L: TrieKey, B: Beginning<K>>(
     });
     let few = queries.get(..BEGINNINGS).unwrap_or(queries);
     let below = timed!(rt, "below", few, |query| {
-        match trie.get_raw_descendant(&query.beginning)? {
-            Some(view) => TrieCommon::values(&view)?.take(SHOWN).fold(0, add),
-            None => 0,
-        }
+        let page = trie.first_below(&query.beginning, SHOWN)?;
+        page.iter().fold(0, |sum, (_, value)| add(sum, *value))
     });
     let count = timed!(rt, "count", few, |query| {
         trie.count_below(&query.beginning)? as u64

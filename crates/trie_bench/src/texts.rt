@@ -13,7 +13,7 @@ use std::mem::drop;
 use std::rt::Clock;
 use std::time::Instant;
 
-/// Prints the times of all calls, or holds what is named and tells how many pairs it has.
+/// Prints the times of all calls, or the keys, or holds what is named and tells how many pairs it has.
 pub fn answer<R: Print + Clock + AllocGlobal>(
     rt: &R,
     line: &str,
@@ -26,12 +26,23 @@ pub fn answer<R: Print + Clock + AllocGlobal>(
             print_times(rt, line, &filled, queries)?;
             print_others(rt, line, filled, queries)
         }
+        Some("list") => list(rt, queries),
         Some("texts") => {
             let pairs = texts_held(rt, queries)?;
             Ok(println!(rt; "{line} {pairs}")?)
         }
         Some(other) => held::answer(rt, line, other, queries),
     }
+}
+
+/// Prints each key and how many bytes of it are its beginning, for a program that times other stores.
+fn list<R: Print + AllocGlobal>(rt: &R, queries: &[TextQuery<'_>]) -> Result<()> {
+    let mut lines = String::new(rt.alloc());
+    for query in queries {
+        let key = String::from_utf8_lossy(rt.alloc(), query.key)?;
+        write!(lines, "{key} {}\n", query.beginning.len())?;
+    }
+    Ok(print!(rt; "{lines}")?)
 }
 
 /// Prints the times of all calls.

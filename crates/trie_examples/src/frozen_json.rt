@@ -24,6 +24,30 @@ fn settings_are_written_and_read(rt: HostRuntime) -> Result<()> {
     Ok(())
 }
 
+/// So many settings, each named by its value in four digits, from 0 on.
+fn numbered(alloc: Global, count: u64) -> Result<Settings> {
+    let mut settings = FrozenTrie::new(alloc);
+    for number in 0..count {
+        let name = format!(in alloc; "{number:04}")?;
+        if settings.push(name, number).is_err() {
+            bail!("the names rise");
+        }
+    }
+    Ok(settings)
+}
+
+#[test]
+fn as_many_settings_are_read_as_were_written(rt: HostRuntime) -> Result<()> {
+    for count in [4, 2_000] {
+        let written = numbered(rt.alloc(), count)?;
+        let text = to_string(rt.alloc(), &written)?;
+        let read = settings(rt.alloc(), &text)?;
+        assert!(rt; read.len() as u64 == count);
+        assert!(rt; read.pairs() == written.pairs());
+    }
+    Ok(())
+}
+
 #[test]
 fn no_settings_are_an_object(rt: HostRuntime) -> Result<()> {
     let written = to_string(rt.alloc(), &settings(rt.alloc(), "{}")?)?;

@@ -2,6 +2,20 @@
 //! above. What the other examples answer is proved where they have a contract, and they are run as tests.
 #![tactic(auto)]
 
+use radix_trie::prelude::*;
+
+fn main(rt: HostRuntime) -> anyhow::Result<()> {
+    let mut limits: Trie<&'static str, u64> = Trie::new(rt.alloc());
+    for (path, limit) in [("/home/ann/", 30), ("/", 10), ("/home/", 20)] {
+        limits.insert(path, limit)?;
+    }
+    println!(rt; "{:?}", limits.get_ancestor_value(&"/home/ann/letters")?)?;
+    for (path, limit) in limits.iter()? {
+        println!(rt; "{path} {limit}")?;
+    }
+    Ok(())
+}
+
 #[cfg(test)]
 mod answers;
 #[cfg(test)]
@@ -18,6 +32,10 @@ mod first;
 mod frozen_file;
 #[cfg(test)]
 mod frozen_json;
+#[cfg(test)]
+mod given;
+#[cfg(test)]
+mod histories;
 #[cfg(test)]
 mod key_sets;
 #[cfg(test)]
@@ -60,15 +78,3 @@ mod typed;
 mod uses;
 #[cfg(test)]
 mod walk_callers;
-
-use radix_trie::Trie;
-
-fn main(rt: HostRuntime) -> anyhow::Result<()> {
-    let mut limits: Trie<&'static str, u64> = Trie::new(rt.alloc());
-    for (path, limit) in [("/home/ann/", 30), ("/", 10), ("/home/", 20)] {
-        limits.insert(path, limit)?;
-    }
-    let nearest = limits.get_ancestor_value(&"/home/ann/letters")?;
-    println!(rt; "{nearest:?}")?;
-    Ok(())
-}

@@ -59,6 +59,16 @@ def calls_of(crate):
     return groups
 
 
+def hidden():
+    """The documented functions of no type that a library's root doesn't hand on, so that none can call them."""
+    for crate in CRATES:
+        root = text_of(f"crates/{crate}/src/lib.rt")
+        for item in calls_of(crate).get(FUNCTIONS, ()):
+            module = item.path.partition("/src/")[2].partition("/")[0].removesuffix(".rt")
+            if not re.search(rf"\bpub mod {module};|\b{item.name}\b", root):
+                yield f"{item.path}: {item.name} is public, and no caller can name it"
+
+
 def page():
     """The whole page."""
     contents, parts = [], []

@@ -10,6 +10,7 @@ SAME_NAMES = {
     "nibble_map Maps, nibble_map Stored": "IsStored below",
     # Each program says this of its own lines, and no source reads two of them.
     "route_tool Sessions, trie_shell Sessions, trie_tool Request": "GivesUp IsBad Replies bad_unanswered",
+    "route_tool Sessions, trie_shell Sessions": "IsNever RepliesToEach never_unanswered",
     "route_tool Reasons, trie_shell Sessions, trie_tool Request": "IsRemarkOf",
     "route_tool Numbers, trie_tool Request": "Numbers",
     "route_tool Requests, trie_tool Request": "Request",
@@ -54,7 +55,7 @@ STANDS_FOR = {
                  "radix_trie Trie::remove for Numbers::remove; radix_trie Trie::remove_prefix for Numbers::prune; "
                  "radix_trie Trie::footprint for Numbers::footprint; radix_trie AnyTrieCommon::iter for Numbers::all; "
                  "write_members for add_object",
-    "route_tool": "line_sessions run for answer_all; wrong_with_text for wrong_with; Routes::find for Routes::look; "
+    "route_tool": "line_sessions run for answer_all answer_each; wrong_with_text for wrong_with; Routes::find for Routes::look; "
                   "radix_trie Trie::compact for Routes::compact; radix_trie AnyTrieCommon::cursor for Routes::rest; "
                   "radix_trie AnyTrieCommon::iter for Routes::walk; "
                   "radix_trie Trie::get_raw_descendant for Routes::below",
@@ -76,14 +77,12 @@ NO_EDIT = {
         "route_tool": "Hop::as_bytes Frozen::new Routes::new Table::new",
     },
     "it is a trait's, and each program has a body of its own": {"line_sessions": "Program::answer"},
-    "none is written yet": {
-        "least_routes": "Route::is_of_width",
-        "radix_keys": "Address::parse Address::to_number Tuple2::encode",
-        "trie_tool": "Numbers::len",
-        "route_tool": "Hop::new Routes::len",
+    "it has one, `pair_of_the_first_key_twice`, but what stands in a tuple's impl has no path": {
+        "radix_keys": "Tuple2::encode",
     },
 }
 
 # Functions that make an error for memory where no call was refused: a tree of more levels than `usize` counts, which
-# no memory holds; encodings of 2^31 bytes; and a network with bits behind its first ones, which there is none of.
-MADE_REFUSALS = {"radix_trie": "row_height", "frozen_trie": "push append_to"}
+# no memory holds; encodings of 2^31 bytes; a network with bits behind its first ones, which there is none of; and what
+# the system says of a file.
+MADE_REFUSALS = {"radix_trie": "row_height", "frozen_trie": "push append_to", "route_tool": "from"}

@@ -1,6 +1,7 @@
 /* Preloaded into a program that the toolchain built, has its calls fail where the environment says so: ALLOCATION=N
    refuses the Nth allocation or growth of memory, FROM=N all from the Nth on; READ=N and WRITE=N fail the Nth read of
-   standard input and the Nth write on standard output, with the error number FAULT, or with no byte where that is 0;
+   standard input, and with TIMES=M those behind it, M in all, and the Nth write on standard output, with the error
+   number FAULT, or with no byte where that is 0;
    READS=N and WRITES=N bound the bytes of each of these calls. STATX=N, OPEN=N, FILL=N (a write to another file),
    FCHMOD=N, LCHOWN=N, FSYNC=N, RENAME=N and UNLINK=N fail the Nth of these calls with the error number FAULT; with
    STOP=1 it isn't failed, but the program stopped before it by SIGSTOP. LIVE=1 has it say on standard error at its end
@@ -21,11 +22,11 @@
 extern void *__libc_malloc(size_t), *__libc_calloc(size_t, size_t), *__libc_realloc(void *, size_t);
 extern void __libc_free(void *);
 enum {
-  ALLOCATION, FROM, READ, READS, WRITE, WRITES, FAULT, LIVE, STOP,
+  ALLOCATION, FROM, READ, TIMES, READS, WRITE, WRITES, FAULT, LIVE, STOP,
   STATX, OPEN, FILL, FCHMOD, LCHOWN, FSYNC, RENAME, UNLINK
 };
-static const char *const names[] = {"ALLOCATION", "FROM", "READ", "READS", "WRITE", "WRITES", "FAULT", "LIVE", "STOP",
-                                    "STATX", "OPEN", "FILL", "FCHMOD", "LCHOWN", "FSYNC", "RENAME", "UNLINK"};
+static const char *const names[] = {"ALLOCATION", "FROM", "READ", "TIMES", "READS", "WRITE", "WRITES", "FAULT", "LIVE",
+                                    "STOP", "STATX", "OPEN", "FILL", "FCHMOD", "LCHOWN", "FSYNC", "RENAME", "UNLINK"};
 static long set[UNLINK + 1], calls[UNLINK + 1], allocations, held, reads, writes;
 
 __attribute__((constructor)) static void begin(void) {
@@ -73,7 +74,8 @@ static ssize_t failed(void) {
 }
 
 ssize_t read(int file, void *bytes, size_t count) {
-  if (file == STDIN_FILENO && ++reads == set[READ]) return failed();
+  if (file == STDIN_FILENO && set[READ] && ++reads >= set[READ] && reads < set[READ] + (set[TIMES] ? set[TIMES] : 1))
+    return failed();
   struct iovec part = {bytes, bounded(count, file == STDIN_FILENO ? set[READS] : 0)};
   return readv(file, &part, 1);
 }

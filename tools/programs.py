@@ -9,7 +9,7 @@ from shared import ROOT, Refused, below, bytes_of, files_in, ran, read_text, sta
 
 PAGES = {"trie_tool": "docs/PROGRAM.md", "route_tool": "docs/ROUTES.md", "trie_shell": "docs/SHELL.md"}
 SHELL = "trie_shell"
-WORDS = {SHELL: ["--strict"]}
+WORDS = {SHELL: ["--strict"], "route_tool": ["--read-on"]}
 
 
 class Program:

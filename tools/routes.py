@@ -4,12 +4,14 @@ import os
 import random
 from typing import NamedTuple
 
-from shared import Refused, built, check_use, ran
+from shared import ROOT, Refused, built, check_use, ran, read_text
 
 WIDTHS = {4: 32, 6: 128}
 PROGRAM = built("route_tool")
 NEVER = float("inf")
 OTHER = "a hop that the block hasn't"
+# What `help` answers: the lines of the constant text in the program's source.
+HELP = read_text(f"{ROOT}/crates/route_tool/src/help.rt").partition('"\\\n')[2].partition('"')[0].splitlines()
 
 
 def text_of_address(version, number):
@@ -69,7 +71,11 @@ class Table(dict):
             return Aggregate(self)
         if word == "list":
             return self.rows(sorted(self))
-        network = network_of(text)
+        if word == "dump":
+            return [f"add {it} {self[it]}" for it in sorted(self)]
+        if word == "help":
+            return HELP
+        network = network_of("0.0.0.0/0" if text == "default" else text)
         if word == "below":
             last = network.base + (1 << network.rest) - 1
             found = (it for it in self if it.version == network.version and it.bits >= network.bits)
@@ -130,9 +136,9 @@ class Aggregate:
 
 
 # The words that lines begin with, and how often each is drawn: where routes change often, and where they seldom do.
-WORDS = ("add", "del", "look", "find", "below", "len", "list", "aggregate", "compact", "#", "")
-MIXED = (80, 24, 40, 30, 12, 6, 2, 1, 2, 4, 2)
-SELDOM = (1, 1, 300, 200, 5, 2, 1, 0, 1, 1, 1)
+WORDS = ("add", "del", "look", "find", "below", "len", "list", "dump", "aggregate", "compact", "help", "#", "")
+MIXED = (80, 24, 40, 30, 12, 6, 2, 2, 1, 2, 1, 4, 2)
+SELDOM = (1, 1, 300, 200, 5, 2, 1, 1, 0, 1, 1, 1, 1)
 
 
 class Lines(random.Random):
@@ -172,6 +178,8 @@ class Lines(random.Random):
         return self.choice((address.compressed, address.exploded, address.exploded.upper(), dotted))
 
     def text(self, network):
+        if network == network_at(4, 0, 0) and self.random() < 0.5:
+            return "default"
         text = self.written(*network[:2])
         return text if not network.rest and self.random() < 0.5 else f"{text}/{network.bits}"
 

@@ -49,9 +49,9 @@ CALLS = [
     (r"intersection|union|difference", "Combination::new + Combination::next"),
     (r"cursor", "&PLACE::cursor + Cursor::next"),
     (r"cursor_back", "&PLACE::cursor_back + CursorBack::next"),
-    (r"iter_from|iter_after", "&PLACE::range + Cursor::reserved"),
-    (r"cursor_from|cursor_after|between|between_inclusive|between_exclusive", "&PLACE::range + Cursor::next"),
-    (r"cursor_back_from|cursor_back_before|between_back", "&PLACE::range_back + CursorBack::next"),
+    (r"range", "&PLACE::range + Cursor::next"),
+    (r"range_back", "&PLACE::range_back + CursorBack::next"),
+    (r"reserved", "&PLACE::range + Cursor::reserved"),
     (r"(iter|keys|values|prefix)", r"&PLACE::\1"),
     (r"(\S*)", r"PLACE::\1"),
 ]

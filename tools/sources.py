@@ -112,6 +112,12 @@ def types_of(item):
     return [bare(it.halves[1]) for it in impls if bare(it.halves[0]) == bound[1]]
 
 
+def shell_forms():
+    """The calls of trie_shell, each with the form that the first line of its help gives it."""
+    told = re.findall(r'^    "(([^\s:\[]+)[^:]*):', text_of("crates/trie_shell/src/help.rt"), re.M)
+    return {name: form for form, name in reversed(told)}
+
+
 def refused_calls():
     """The public calls of tries, frozen ones and keys that return a `Result`, each with its source. Of the crate of
     nodes users have the checker alone. The shell has maps from byte strings as files alone, and no format of serde."""

@@ -2,10 +2,9 @@
 # Starts a shell. At a terminal the interrupt key ends the line that is being typed, and not the session, and rlwrap
 # edits the lines, where it is installed.
 [ -t 0 ] || exec "$@"
-name=${1##*/} told='help lists the calls, Ctrl-D ends the session'
-rlwrap=$(command -v rlwrap) || told="$told; where rlwrap is installed it edits lines"
+name=${1##*/}
+rlwrap=$(command -v rlwrap) || echo "$name: where rlwrap is installed it edits lines" >&2
 trap '' INT
-echo "$name: $told" >&2
 # A terminal that is dumb or has no width rlwrap doesn't take.
 case "${TERM:-dumb} $(stty size)" in 'dumb '* | *' 0') rlwrap= ;; esac
 [ "$rlwrap" ] && [ -t 1 ] || exec "$@"

@@ -4,24 +4,48 @@ A list of nibbles is a text of hexadecimal digits, and these stand in the nibble
 defines is computed as it is said there, of all the lists that are stored.
 """
 import bisect
+import contextlib
 import functools
 import itertools
 import re
 from os.path import commonprefix
+
+from sources import shell_forms
 
 DIGITS, NUMBERS, QUOTES = "0123456789abcdef", 2**64, '""'
 # The types of integers, each with its bytes, and all types of keys.
 BYTES = {"u8": 1, "u16": 2, "u32": 4, "u64": 8, "u128": 16, "usize": 8, "i8": 1, "i16": 2, "i32": 4, "i64": 8,
          "i128": 16, "isize": 8}
 KINDS = ["text", "bytes", "nibbles", "bits", "bool", "char", "ipv4", "ipv6", "parts", *BYTES]
-PLAIN = {it: chr(it) for it in range(0x21, 0x7F) if it not in b"#>"}
+PLAIN = {it: chr(it) for it in range(0x21, 0x7F)}
 ESCAPES = {**PLAIN, **{ord(it): f"\\{it}" for it in '\\"'}, ord(" "): "\\s"}
-NOT_HERE, OTHER_COUNT = "no such call here", "another count of words"
+# Characters that show as nothing or as a space, or turn the text around them, from the first to the last of each row:
+# controls, white space, what Unicode lets be ignored (DerivedCoreProperties.txt), and signs of annotations.
+HIDDEN = [(0x0, 0x20), (0x7F, 0xA0), (0xAD, 0xAD), (0x34F, 0x34F), (0x61C, 0x61C), (0x115F, 0x1160), (0x1680, 0x1680),
+          (0x17B4, 0x17B5), (0x180B, 0x180F), (0x2000, 0x200F), (0x2028, 0x202F), (0x205F, 0x206F), (0x3000, 0x3000),
+          (0x3164, 0x3164), (0xFE00, 0xFE0F), (0xFEFF, 0xFEFF), (0xFFA0, 0xFFA0), (0xFFF0, 0xFFFB), (0x1BCA0, 0x1BCA3),
+          (0x1D173, 0x1D17A), (0xE0000, 0xE0FFF)]
+NOT_HERE, OTHER_COUNT, FORMS = "no such call here", "another count of words", shell_forms()
+
+
+def is_shown(character):
+    return not any(first <= ord(character) <= last for first, last in HIDDEN)
 
 
 def word_of(data):
-    """The word that stands for these bytes."""
-    return "".join(ESCAPES.get(it, f"\\x{it:02x}") for it in data) or QUOTES
+    """The word that stands for these bytes: of a text its characters, where a reader sees them."""
+    with contextlib.suppress(UnicodeDecodeError):
+        return "".join(it if it > "\x7f" and is_shown(it) else bytewise(it.encode()) for it in data.decode()) or QUOTES
+    return bytewise(data)
+
+
+def bytewise(data):
+    return "".join(ESCAPES.get(it, f"\\x{it:02x}") for it in data)
+
+
+def begun(word):
+    """The same word where it begins a line of an answer."""
+    return f"\\x{ord(word[0]):02x}{word[1:]}" if word[0] in "#>" else word
 
 
 def starting(lists, path):
@@ -121,13 +145,16 @@ class View:
 
     def told(self, lists):
         """The pairs that are stored at these lists."""
-        return rows(f"{self.words[it]} {self.pairs[it]}" for it in lists if it in self.pairs)
+        return rows(begun(self.pair(it)) for it in lists if it in self.pairs)
+
+    def pair(self, at):
+        return f"{self.words[at]} {self.pairs[at]}"
 
     def values(self, *lists):
         return rows(str(self.pairs[it]) for it in lists if it in self.pairs)
 
     def named(self, lists):
-        return rows(self.words[it] for it in sorted(lists))
+        return rows(begun(self.words[it]) for it in sorted(lists))
 
     def views(self, *lists):
         """The lines of the views that stand there."""
@@ -163,11 +190,29 @@ class View:
     def draw(self, path):
         tree = self.tree(path) if path in self.points else ()
         found = [(f"{'  ' * depth}{self.trie.fragment(it) or QUOTES}", it) for depth, it in tree]
-        return rows(f"{start} {self.told([it]) if it in self.pairs else '*'}" for start, it in found)
+        return rows(f"{start} {self.pair(it) if it in self.pairs else '*'}" for start, it in found)
 
     def dot(self):
-        edges = (f'  "{it}" -> "{child}"' for it in self.points for child in self.children(it))
-        return rows(["digraph {", *edges, "}"])
+        """A box for each pair, a circle for each other point, and what stands between two of them."""
+        lines = []
+        for it in self.points:
+            label = f"label={quoted(self.pair(it))}" if it in self.pairs else 'shape=circle, label="", width=0.2'
+            lines.append(f'  "{it}" [{label}]')
+            lines += (f'  "{it}" -> "{child}" [label={self.edge(it, child)}]' for child in self.children(it))
+        return rows(["digraph {", "  node [shape=box]", *lines, "}"])
+
+    def edge(self, path, child):
+        """The characters between two points, if they are whole and seen, or the nibbles."""
+        part = child[len(path) :]
+        if self.shell.kind in ("text", "bytes") and len(path) % 2 == len(part) % 2 == 0:
+            with contextlib.suppress(UnicodeDecodeError):
+                if all(it == " " or is_shown(it) for it in bytes.fromhex(part).decode()):
+                    return quoted(word_of(bytes.fromhex(part)))
+        return quoted(part)
+
+    def within(self, bounds, lists):
+        """The pairs of these lists between two bounds, or what is wrong with them."""
+        return bounds if isinstance(bounds, str) else self.told(it for it in lists if all(has(it) for has in bounds))
 
     def stats(self):
         counts = len(self.pairs), *self.footprint(), max(depth for depth, _ in self.tree())
@@ -197,6 +242,11 @@ class View:
         if self.pairs and part.pairs and self.point_below(commonprefix(part.lists)) is not None:
             return "overlapping"
         return self.change(part.cut().items())
+
+
+def quoted(text):
+    """A text as a file for graphviz has it."""
+    return '"%s"' % text.replace("\\", "\\\\").replace('"', '\\"')
 
 
 def levels_of(at):
@@ -264,12 +314,12 @@ def in_with(v, at, lines, absent):
 
 
 # What calls answer, by their names, each with its words and the places where it can be made. The words: K a key to
-# store, T a topic, Q a key or a list to look up, q none or one, L a list, N a number, P pairs, S pairs in order, M a
-# name, O that of a trie that there is, F that of a frozen trie, G that of one that there is, Y a type of keys, c a call
-# that tries and views have in common, t a call of a trie or of a view, f one of a frozen trie, v calls of a view, r
-# commands. The places: t tries, n the current one where no view is open, r views for reading, w views for writing, x
-# these, which the call takes, c behind `spend`, f frozen tries, s anywhere, but behind no other call. And l: it takes
-# no memory, m: it takes none where its list has at most 32 nibbles.
+# store, T a topic, Q a key or a list to look up, q none or one, b two bounds at most, L a list, N a number, P pairs, S
+# pairs in order, M a name, O that of a trie that there is, F that of a frozen trie, G that of one that there is, Y a
+# type of keys, c a call that tries and views have in common, t a call of a trie or of a view, f one of a frozen trie, v
+# calls of a view, r commands. The places: t tries, n the current one where no view is open, r views for reading, w
+# views for writing, x these, which the call takes, c behind `spend`, f frozen tries, s anywhere, but behind no other
+# call. And l: it takes no memory, m: it takes none where its list has at most 32 nibbles.
 ANSWERS = {
     "key - trwcl": lambda v: v.named({v.path} & v.pairs.keys()),
     "value - trwcl": lambda v: v.values(v.path),
@@ -278,17 +328,14 @@ ANSWERS = {
     "is_leaf - trwcl": lambda v: v.below in ([], [v.path]),
     "prefix - trwc": lambda v: v.fragment or QUOTES,
     "iter - trwcf, cursor - trwc": lambda v: v.told(v.below),
+    "cursor_back - trwc": lambda v: v.told(reversed(v.below)),
     "keys - trwcf": lambda v: v.named(v.below),
     "values - trwcf": lambda v: v.values(*v.below),
-    "iter_from Q trwcf, cursor_from Q trwc": lambda v, at: v.told(it for it in v.below if it >= at),
-    "iter_after Q trwcf, cursor_after Q trwc": lambda v, at: v.told(it for it in v.below if it > at),
-    "cursor_back - trwc": lambda v: v.told(reversed(v.below)),
-    "cursor_back_from Q trwc": lambda v, at: v.told(it for it in reversed(v.below) if it <= at),
-    "cursor_back_before Q trwc": lambda v, at: v.told(it for it in reversed(v.below) if it < at),
-    "between QQ trwf": lambda v, at, end: v.told(it for it in v.below if at <= it < end),
-    "between_inclusive QQ trw": lambda v, at, end: v.told(it for it in v.below if at <= it <= end),
-    "between_exclusive QQ trw": lambda v, at, end: v.told(it for it in v.below if at < it < end),
-    "between_back QQ trw": lambda v, at, end: v.told(it for it in reversed(v.below) if at <= it < end),
+    "range b trwc, reserved b trwc": lambda v, bounds: v.within(bounds, v.below),
+    "range_back b trwc": lambda v, bounds: v.within(bounds, reversed(v.below)),
+    "iter_from Q f": lambda v, at: v.told(it for it in v.below if it >= at),
+    "iter_after Q f": lambda v, at: v.told(it for it in v.below if it > at),
+    "between QQ f": lambda v, at, end: v.told(it for it in v.below if at <= it < end),
     "first_key_value - trwcfl": lambda v: v.told(v.below[:1]),
     "last_key_value - trwcfl": lambda v: v.told(v.below[-1:]),
     "path - rw": lambda v: v.path or QUOTES,
@@ -324,8 +371,8 @@ ANSWERS = {
     "try_insert KN t": lambda v, at, number: "occupied" if at in v.pairs else v.change([(at, number)]),
     "get_or_insert KNN t, entry_or_insert KNN t, entry_or_insert_with KNN t":
         lambda v, at, default, number: v.put(at, number, default),
-    "entry K t": lambda v, at: f"{v.words[at]} {v.values(at)} {str(at in v.pairs).lower()}",
-    "entry_into_key K t": lambda v, at: v.words[at],
+    "entry K t": lambda v, at: f"{begun(v.words[at])} {v.values(at)} {str(at in v.pairs).lower()}",
+    "entry_into_key K t": lambda v, at: begun(v.words[at]),
     "entry_and_modify KN t": lambda v, at, added: v.add(added, [at] if at in v.pairs else []),
     "get_mut QN tfm, entry_get_mut KN t, at_mut LN tfl": View.written,
     "find_mut QN tfm": lambda v, at, number: v.written(at, number, "absent"),
@@ -360,7 +407,7 @@ ANSWERS = {
     "light t s": lambda v, line: v.shell.answer(line),
     "begin Y s": lambda v, kind: v.shell.begin(kind),
     "use M s": lambda v, name: v.shell.use(name),
-    "tries - s": lambda v: rows(word_of(it.encode()) for it in v.shell.names),
+    "tries - s": lambda v: rows(begun(word_of(it.encode())) for it in v.shell.names),
     "clone M s": lambda v, name: v.shell.put(name, lambda: v.pairs),
     "split_off_prefix QM s": lambda v, at, name: v.shell.put(name, lambda: v.cut(at)),
     "graft O s": View.graft,
@@ -395,6 +442,9 @@ COMMANDS = {
 }
 # Lists of commands: those of a view stand between `within` and `end`, and none of them has a view or an ancestor.
 LISTS = re.compile("(?:within( (?!within|ancestor|end)[a-z_]+)* end |(?!within|end)[a-z_]+ )*")
+# The tests of lists that bounds are, by their signs.
+BOUNDS = {">": lambda at: lambda it: it > at, ">=": lambda at: lambda it: it >= at,
+          "<": lambda at: lambda it: it < at, "<=": lambda at: lambda it: it <= at}
 # What is answered where a word stands for nothing.
 NO = {"K": "no key", "T": "no key", "Q": "no key", "q": "no key", "L": "no list", "N": "no number", "P": "no pairs",
       "S": "no pairs", "r": "no commands", "O": "no other trie", "G": "no frozen trie", "Y": "no type of keys"}
@@ -406,10 +456,10 @@ def misfit(line):
     if name not in CALLS:
         return NOT_HERE
     kinds = CALLS[name][0]
-    least = sum(it not in "qPSr" for it in kinds)
-    most = len(words) if {*kinds} & {*"PStvrf"} else len(kinds) + ("c" in kinds)
+    least = sum(it not in "qbPSr" for it in kinds)
+    most = len(words) if {*kinds} & {*"PStvrfc"} else len(kinds) + ("b" in kinds)
     if not least <= len(words) <= most:
-        return OTHER_COUNT
+        return f"{OTHER_COUNT}: {FORMS[name]}"
     return misfit(" ".join(words)) if kinds in ("c", "t") else ""
 
 
@@ -462,10 +512,24 @@ class Shell:
             read = [(it, [self.read(kind, words) for kind in COMMANDS.get(it, ("K",))[0]]) for it in words]
             is_list = LISTS.fullmatch("".join(f"{name} " for name, _ in read))
             return read if is_list and not any(None in it for _, it in read) else None
+        if kind == "b":
+            return self.bounds([*words])
         if kind in "PS":
             read = [(self.keys.get(it), self.read("N", words)) for it in words]
             return None if any(None in it for it in read) else read
         return self.meaning(kind, next(words, "\\="))
+
+    def bounds(self, words):
+        """Tests of lists, by words that write from where and up to where these go, or what is wrong with the words."""
+        tests = []
+        signs = ">" if len(words) == 2 else "<" if words and words[0][:1] == "<" else ">"
+        for sign, word in zip(signs + "<", words):
+            found = re.fullmatch(f"{sign}(=?)(.*)", word, re.S)
+            at = found and self.meaning("Q", found[2])
+            if at is None:
+                return NO["Q"] if found else "no range"
+            tests.append(BOUNDS[sign + found[1]](at))
+        return tests
 
     def meaning(self, kind, word):
         """What a word stands for, or None."""

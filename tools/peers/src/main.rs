@@ -57,53 +57,52 @@ fn shuffled(count: usize) -> Vec<usize> {
     order
 }
 
-/// Makes a call for each of the items, prints its time, and gives the sum of what is returned.
-fn timed<'t, T>(call: &str, store: &str, items: &'t [T], mut value: impl FnMut(&'t T) -> u64) -> u64 {
+/// Prints how long so many calls took, a call, and gives what they return.
+fn timed(call: &str, store: &str, count: usize, calls: impl FnOnce() -> u64) -> u64 {
     let start = Instant::now();
-    let sum = items.iter().fold(0u64, |sum, item| sum.wrapping_add(value(item)));
-    let took = start.elapsed().as_nanos() / items.len().max(1) as u128;
-    println!("{call} {store} {took}");
+    let sum = calls();
+    println!("{call} {store} {}", start.elapsed().as_nanos() / count.max(1) as u128);
     black_box(sum)
 }
 
-fn times_of_map<'t>(texts: &'t [Text], order: &[&'t Text]) -> [u64; 2] {
+fn sum_of(values: impl Iterator<Item = u64>) -> u64 {
+    values.fold(0, u64::wrapping_add)
+}
+
+fn times_of_map(texts: &[Text], order: &[&Text]) -> [u64; 2] {
+    let name = "hash_map";
     let mut map: HashMap<&str, u64> = HashMap::new();
-    let mut number = 0;
-    timed("insert", "hash_map", texts, |text| {
-        number += 1;
-        map.insert(text.key(), number).unwrap_or(0)
+    timed("insert", name, texts.len(), || {
+        sum_of(texts.iter().zip(1..).map(|(text, number)| map.insert(text.key(), number).unwrap_or(0)))
     });
-    let get = timed("get", "hash_map", order, |text| map[text.key()]);
+    let get = timed("get", name, order.len(), || sum_of(order.iter().map(|text| map[text.key()])));
     // A lookup for each length, the longest first.
-    let prefix = timed("prefix", "hash_map", order, |text| {
+    let longest = |text: &Text| {
         let lengths = (0..=text.longer.len()).rev();
         lengths.filter_map(|length| map.get(text.longer.get(..length)?)).next().copied().unwrap_or(0)
-    });
-    let start = Instant::now();
-    black_box(map.values().fold(0u64, |sum, value| sum.wrapping_add(*value)));
-    println!("walk hash_map {}", start.elapsed().as_nanos() / map.len().max(1) as u128);
+    };
+    let prefix = timed("prefix", name, order.len(), || sum_of(order.iter().map(|text| longest(text))));
+    timed("walk", name, map.len(), || sum_of(map.values().copied()));
     [get, prefix]
 }
 
-fn times_of_crate<'t>(texts: &'t [Text], order: &[&'t Text]) -> [u64; 2] {
+fn times_of_crate(texts: &[Text], order: &[&Text]) -> [u64; 2] {
+    let name = "crate";
     let mut trie: Trie<&str, u64> = Trie::new();
-    let mut number = 0;
-    timed("insert", "crate", texts, |text| {
-        number += 1;
-        trie.insert(text.key(), number).unwrap_or(0)
+    timed("insert", name, texts.len(), || {
+        sum_of(texts.iter().zip(1..).map(|(text, number)| trie.insert(text.key(), number).unwrap_or(0)))
     });
-    let get = timed("get", "crate", order, |text| trie.get(text.key()).copied().unwrap_or(0));
-    let prefix = timed("prefix", "crate", order, |text| {
-        trie.get_ancestor_value(text.longer.as_str()).copied().unwrap_or(0)
-    });
+    let value = |text: &Text| trie.get(text.key()).copied().unwrap_or(0);
+    let get = timed("get", name, order.len(), || sum_of(order.iter().map(|text| value(text))));
+    let longest = |text: &Text| trie.get_ancestor_value(text.longer.as_str()).copied().unwrap_or(0);
+    let prefix = timed("prefix", name, order.len(), || sum_of(order.iter().map(|text| longest(text))));
     let few = &order[..order.len().min(BEGINNINGS)];
-    timed("below", "crate", few, |text| match trie.get_raw_descendant(text.beginning()) {
-        Some(view) => view.values().take(SHOWN).fold(0u64, |sum, value| sum.wrapping_add(*value)),
+    let first = |text: &Text| match trie.get_raw_descendant(text.beginning()) {
+        Some(view) => sum_of(view.values().take(SHOWN).copied()),
         None => 0,
-    });
-    let start = Instant::now();
-    black_box(trie.values().fold(0u64, |sum, value| sum.wrapping_add(*value)));
-    println!("walk crate {}", start.elapsed().as_nanos() / trie.len().max(1) as u128);
+    };
+    timed("below", name, few.len(), || sum_of(few.iter().map(|text| first(text))));
+    timed("walk", name, trie.len(), || sum_of(trie.values().copied()));
     [get, prefix]
 }
 

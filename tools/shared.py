@@ -214,7 +214,7 @@ def ran(words, given=None, seconds=None, **how):
 
 def built(name, ending=""):
     """The path of a program, as `rt ci` or its launcher built it, or in the folder PROGRAMS."""
-    return f"{os.environ.get('PROGRAMS') or f'{ROOT}/crates/{name}/out'}/{name}{ending}"
+    return os.path.abspath(f"{os.environ.get('PROGRAMS') or f'{ROOT}/crates/{name}/out'}/{name}{ending}")
 
 
 def add(tally, command, folder, **surroundings):

@@ -41,6 +41,20 @@ module _ {K V : Type 0} (enc : K → List ℕ) (is : K → Type 0) (eq : K → K
     has_in : (p : K × V) → Contains walk p → Has (enc p.0)
     has_in p h = ((holds p).0 h).0
 
+    -- the same of its first pairs, which are all where there are no more
+    module _ (most : ℕ) where
+      given_first : TellsKeys enc is eq → length walk ≤ most → (k : K) (v : V) → is k → keyed_map enc m k ≡ Some v → Has (enc k)
+          → (j : K) × (eq j k ≡ true) × Contains (take most walk) (j, v)
+      given_first tells few k v here h has =
+          let found = given_in tells k v here h has in
+          (found.0, found.1, subst (λ ps. Contains ps (found.0, v)) (sym (take_all most walk few)) found.2)
+
+      value_first : (p : K × V) → Contains (take most walk) p → keyed_map enc m p.0 ≡ Some p.1
+      value_first p h = value_in p (contained_take most walk p h)
+
+      has_first : (p : K × V) → Contains (take most walk) p → Has (enc p.0)
+      has_first p h = has_in p (contained_take most walk p h)
+
   module _ (e : List ℕ) where
     pub given_below : TellsKeys enc is eq → (k : K) (v : V) → is k → keyed_map enc m k ≡ Some v → IsPrefix e (enc k) → (j : K) × (eq j k ≡ true) × Contains (pairs_below m e) (j, v)
     given_below = given_in (pairs_below m e) (IsPrefix e) (below_holds enc m placed e)
@@ -50,6 +64,17 @@ module _ {K V : Type 0} (enc : K → List ℕ) (is : K → Type 0) (eq : K → K
 
     pub begins_below : (p : K × V) → Contains (pairs_below m e) p → IsPrefix e (enc p.0)
     begins_below = has_in (pairs_below m e) (IsPrefix e) (below_holds enc m placed e)
+
+    module _ (most : ℕ) where
+      pub given_first_page : TellsKeys enc is eq → length (pairs_below m e) ≤ most → (k : K) (v : V) → is k → keyed_map enc m k ≡ Some v → IsPrefix e (enc k)
+          → (j : K) × (eq j k ≡ true) × Contains (take most (pairs_below m e)) (j, v)
+      given_first_page = given_first (pairs_below m e) (IsPrefix e) (below_holds enc m placed e) most
+
+      pub value_first_page : (p : K × V) → Contains (take most (pairs_below m e)) p → keyed_map enc m p.0 ≡ Some p.1
+      value_first_page = value_first (pairs_below m e) (IsPrefix e) (below_holds enc m placed e) most
+
+      pub begins_first_page : (p : K × V) → Contains (take most (pairs_below m e)) p → IsPrefix e (enc p.0)
+      begins_first_page = has_first (pairs_below m e) (IsPrefix e) (below_holds enc m placed e) most
 
     pub given_above : TellsKeys enc is eq → (k : K) (v : V) → is k → keyed_map enc m k ≡ Some v → IsPrefix (enc k) e → (j : K) × (eq j k ≡ true) × Contains (pairs_above m e) (j, v)
     given_above = given_in (pairs_above m e) (λ q. IsPrefix q e) (above_holds enc m placed e)
@@ -94,18 +119,13 @@ module _ {K V : Type 0} (enc : K → List ℕ) (is : K → Type 0) (eq : K → K
       pub given_page : TellsKeys enc is eq → length (pairs_after m e last) ≤ most → (k : K) (v : V) → is k → keyed_map enc m k ≡ Some v → IsPrefix e (enc k) → IsBefore last (enc k)
           → (j : K) × (eq j k ≡ true) × Contains (take most (pairs_after m e last)) (j, v)
       given_page tells few k v here h begins later =
-          let found = given_in (pairs_after m e last) (λ q. IsPrefix e q × IsBefore last q) later_holds tells k v here h (begins, later) in
-          (found.0, found.1, subst (λ ps. Contains ps (found.0, v)) (sym (take_all most (pairs_after m e last) few)) found.2)
-
-      -- a page is of the walk
-      of_page : (p : K × V) → Contains (take most (pairs_after m e last)) p → Contains (pairs_after m e last) p
-      of_page p h = contained_take most (pairs_after m e last) p h
+          given_first (pairs_after m e last) (λ q. IsPrefix e q × IsBefore last q) later_holds most tells few k v here h (begins, later)
 
       pub value_page : (p : K × V) → Contains (take most (pairs_after m e last)) p → keyed_map enc m p.0 ≡ Some p.1
-      value_page p h = value_in (pairs_after m e last) (λ q. IsPrefix e q × IsBefore last q) later_holds p (of_page p h)
+      value_page = value_first (pairs_after m e last) (λ q. IsPrefix e q × IsBefore last q) later_holds most
 
       pub begins_page : (p : K × V) → Contains (take most (pairs_after m e last)) p → IsPrefix e (enc p.0)
-      begins_page p h = (has_in (pairs_after m e last) (λ q. IsPrefix e q × IsBefore last q) later_holds p (of_page p h)).0
+      begins_page p h = (has_first (pairs_after m e last) (λ q. IsPrefix e q × IsBefore last q) later_holds most p h).0
 
       pub after_page : (p : K × V) → Contains (take most (pairs_after m e last)) p → IsBefore last (enc p.0)
-      after_page p h = (has_in (pairs_after m e last) (λ q. IsPrefix e q × IsBefore last q) later_holds p (of_page p h)).1
+      after_page p h = (has_first (pairs_after m e last) (λ q. IsPrefix e q × IsBefore last q) later_holds most p h).1

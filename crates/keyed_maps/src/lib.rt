@@ -1,6 +1,7 @@
 //! The map from keys to values that a trie is: laws of what it answers by keys alone, and callers of these laws.
 #![tactic(auto)]
 
+mod call_laws;
 mod callers;
 mod closure_laws;
 mod cost_laws;
@@ -13,6 +14,9 @@ mod part_laws;
 mod value_laws;
 mod walk_laws;
 
+pub use call_laws::{
+    common_prefixes_are_given, first_after_is_given, first_below_is_given, range_is_given,
+};
 pub use callers::costs::insert_measured;
 pub use callers::edits::{
     forget_all, get_or_store, insert_in_either_order, insert_new, insert_text, insert_then_get,

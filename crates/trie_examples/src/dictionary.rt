@@ -1,12 +1,13 @@
 //! A dictionary that is read once and then completed from: a word on each line of its file, in the order of their bytes, as
 //! `sort` under `LC_ALL=C` leaves them.
-ghost use Rattle.std.specs.Prelude.{◌≡◌, IfOk};
+ghost use Rattle.std.specs.Prelude.{◌≡◌, IfOk, map as each};
+ghost use Rattle.nibble_map.specs.Lists.{Each, IsPrefix};
 ghost use Rattle.nibble_map.specs.Nibbles.{nibbles};
 ghost use Rattle.radix_trie.specs.Views.{pairs_below};
 
 use anyhow::{Result, bail};
-use frozen_trie::{FrozenTrie, SortedWhy};
-use radix_trie::{Memory, TrieKey};
+use frozen_trie::{FrozenTrie, SortedWhy, frozen_stands_at_its_encodings};
+use radix_trie::{Memory, TrieKey, encodings_keep_prefixes};
 use std::alloc::Global;
 
 /// A word of a dictionary, and the number of its line, from 1 on.
@@ -38,8 +39,12 @@ fn completions<'a, 'w>(
     words: &'a FrozenTrie<&'w str, u64>,
     typed: &str,
 ) -> Result<&'a [Word<'w>], Memory>
-    ensures { IfOk result (λ page. page.now ≡ pairs_below words.now (nibbles typed.now)) }
+    ensures pairs { IfOk result (λ page. page.now ≡ pairs_below words.now (nibbles typed.now)) }
+    ensures begins { IfOk result (λ page. Each (λ word. IsPrefix typed.now word.now)
+        (each (λ p. p.0) page.now)) }
 {
+    frozen_stands_at_its_encodings(words);
+    encodings_keep_prefixes::<&'w str>();
     let list = typed.encode(alloc)?;
     Ok(words.below(&list))
 }

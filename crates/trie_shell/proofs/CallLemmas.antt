@@ -1,17 +1,18 @@
 -- Calls of the trie of texts.
-use Rattle.std.proofs.Common.{◌≡◌, ◌≢◌, ◌∙◌, ap, sym, subst, refl, ℕ, List, [], ◌∷◌, ◌++◌, IsSome, append-nil, append_assoc, flat_map, Option, None, Some, option_map, Bool, true, false, bytes_eq, codes}
+use Rattle.std.proofs.Common.{◌≡◌, ◌≢◌, ◌∙◌, ◌⊎◌, inl, inr, ap, sym, subst, refl, ℕ, List, [], ◌∷◌, ◌++◌, IsSome, append-nil, append_assoc, flat_map, Option, None, Some, option_map, Bool, true, false, bytes_eq, codes}
 use Rattle.std.proofs.lemmas.Slice.Eq.{bytes_eq-Decides}
 use Rattle.std.specs.FinMap as map
 use Rattle.nibble_map.specs.Lists.{Each, IsPrefix}
-use Rattle.nibble_map.specs.Maps.{PairMap}
+use Rattle.nibble_map.specs.Maps.{PairMap, value_at}
 use Rattle.radix_trie.specs.Refusals.{IsFullAt, RefusesInsert}
 use Rattle.radix_trie.specs.declared.error.InsertWhy.{InsertWhy}
 use Rattle.radix_trie.specs.declared.error.InsertWhy.TheVariants.{Full, Memory, Outside}
 use Rattle.shell_words.proofs.WordLemmas.{gap-begun}
-use Rattle.shell_words.specs.Answers.{Answering, IsNextNumber, Spelled, begins_line, behind_next, gap, next_text, pair_line, text_key}
+use Rattle.shell_words.specs.declared.kind.Kind.TheVariants.{Text}
+use Rattle.shell_words.specs.Answers.{Answering, IsNextNumber, Spelled, begins_line, behind_next, gap, next_text, pair_line, text_key, value_line}
 use Rattle.radix_trie.specs.Views.{pairs_below}
 use Rattle.radix_trie.proofs.PathLemmas.Places.{below-nil}
-use Rattle.trie_shell.specs.Answers.{TellsValue, StoresNumber, DoesCall, IsTextPair, Table, TellsPairs, pair_lines}
+use Rattle.trie_shell.specs.Answers.{TakesValue, TellsValue, StoresNumber, DoesCall, IsTextPair, Table, TellsPairs, pair_lines}
 
 -- all lists begin with the path of a trie
 pub at_root : (path list : List ℕ) → path ≡ [] → IsPrefix path list
@@ -83,6 +84,15 @@ module _ (a : Answering) (bytes : List ℕ) (m n : Table) where
     iter = λ named. absurd (apart (codes "insert") (codes "iter") a.name refl is named);
   }
 
+  pub only_remove : a.name ≡ codes "remove" → TakesValue a bytes m n → DoesCall a bytes m n
+  only_remove is takes = record {
+    get = λ named. absurd (apart (codes "remove") (codes "get") a.name refl is named);
+    insert = λ named. absurd (apart (codes "remove") (codes "insert") a.name refl is named);
+    remove = λ _. takes;
+    len = λ named. absurd (apart (codes "remove") (codes "len") a.name refl is named);
+    iter = λ named. absurd (apart (codes "remove") (codes "iter") a.name refl is named);
+  }
+
   pub only_iter : a.name ≡ codes "iter" → TellsPairs a bytes m n → DoesCall a bytes m n
   only_iter is walks = record {
     get = λ named. absurd (apart (codes "iter") (codes "get") a.name refl is named);
@@ -91,6 +101,23 @@ module _ (a : Answering) (bytes : List ℕ) (m n : Table) where
     len = λ named. absurd (apart (codes "iter") (codes "len") a.name refl is named);
     iter = λ _. walks;
   }
+
+-- an insertion of the pair that two words write stores it, and tells what was there
+pub stores : (a b : Answering) (found : Option Spelled) (key : Spelled) (counted : Option ℕ) (value : ℕ) (m n : Table) (old : Option ℕ)
+    → b ≡ behind_next a → found ≡ option_map text_key (next_text a) → found ≡ Some key → ((number : ℕ) → IsNextNumber b number → counted ≡ Some number) → counted ≡ Some value
+    → n ≡ map.insert m key.list (key, value) → old ≡ value_at m key.list → StoresNumber a (a.bytes ++ gap a.bytes ++ value_line old) m n
+stores a b found key counted value m n old rest is_key is counts counted_is stored was text number asks writes room =
+    let pair = given a b found key counted value text number rest is_key is counts counted_is asks writes in (
+      stored ∙ ap (λ (p : Spelled × ℕ). map.insert m p.0.list p) pair,
+      ap (λ (o : Option ℕ). a.bytes ++ gap a.bytes ++ value_line o) (was ∙ ap (λ (p : Spelled × ℕ). value_at m p.0.list) pair),
+    )
+
+-- what a refused change leaves is what a refused call does
+pub left_by : (a : Answering) (m n : Table) (Does : List ℕ → Type 0) → ((bytes : List ℕ) → Does bytes → DoesCall a bytes m n)
+    → (path : List ℕ) → path ≡ [] → (n ≡ m) ⊎ ((bytes : List ℕ) × (a.kind ≡ Text → path ≡ [] → Does bytes))
+    → (n ≡ m) ⊎ ((bytes : List ℕ) × (a.kind ≡ Text → DoesCall a bytes m n))
+left_by a m n Does only path root (inl same) = inl same
+left_by a m n Does only path root (inr (bytes, does)) = inr (bytes, λ kind. only bytes (does kind root))
 
 -- the walk of all pairs, as a contract has it
 pub walk_all : (m : Table) (walk : List (Spelled × ℕ)) (a : Answering) (bytes : List ℕ) → walk ≡ pairs_below m []

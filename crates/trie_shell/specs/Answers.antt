@@ -96,3 +96,9 @@ MakesText s a t bytes = a.kind ≡ Text → Makes s a t bytes
 abbrev pub Leaves : Option Table → Answering → Option Table → Answering → Type 0
 Leaves None a t b = ⊤
 Leaves (Some m) a t b = IsTold a.name → (t ≡ Some m) × IsReread a b
+
+-- where it is refused, the trie is as before it, or as after it
+abbrev pub Halts : Option Table → Answering → Option Table → Type 0
+Halts None a t = ⊤
+Halts (Some m) a t =
+    IsTold a.name → (t ≡ Some m) ⊎ ((bytes : List ℕ) × MakesText (Some m) a t bytes)

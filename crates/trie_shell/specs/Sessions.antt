@@ -18,6 +18,10 @@ abbrev pub IsReplyTo : Option Answering → State → State → (answer : List �
 IsReplyTo None s t answer = (t ≡ s) × (answer ≡ [])
 IsReplyTo (Some a) s t answer = Makes s a t answer
 
+-- where memory was refused for it
+abbrev pub HaltsAt : Option Answering → State → State → Type 0
+HaltsAt asked s t = (t ≡ s) ⊎ ((answer : List ℕ) × IsReplyTo asked s t answer)
+
 -- the line asks for something, and this is its answer
 abbrev pub Replies : State → (line : List ℕ) → State → (answer : List ℕ) → Type 0
 Replies s line t answer = (is_request line ≡ true) × IsReplyTo (asked_in line) s t answer
@@ -26,8 +30,9 @@ Replies s line t answer = (is_request line ≡ true) × IsReplyTo (asked_in line
 abbrev pub IsBad : List ℕ → Type 0
 IsBad line = is_request line ≡ false
 
+-- where memory was refused at a line, the state is as before it, or as after it
 abbrev pub GivesUp : State → (line : List ℕ) → State → Type 0
-GivesUp s line t = ⊤
+GivesUp s line t = (t ≡ s) ⊎ ((answer : List ℕ) × Replies s line t answer)
 
 -- it is told of any such line
 abbrev pub IsRemarkOf : (line remark : List ℕ) → Type 0

@@ -14,15 +14,23 @@ pub trait Caller {
     // What a refused call leaves, whose answer isn't lost.
     ghost leaves: { Self → Answering → Self → Answering → Type 0 } = { λ _ _ _ _. ⊤ };
 
+    // What each refused call leaves of the caller.
+    ghost halts: { Self → Answering → Self → Type 0 } = { λ _ _ _. ⊤ };
+
     /// Makes the call that the answer is to.
     fn perform(&mut self, answer: &mut Answer<'_>) -> Result<(), Memory>
         ensures made { OnOk result (makes self.old answer.old self.new answer.new) }
-        ensures left { OnErr result (IsTrue answer.new.is_lost
-            ⊎ leaves self.old answer.old self.new answer.new) };
+        ensures undone { OnErr result (IsTrue answer.new.is_lost
+            ⊎ leaves self.old answer.old self.new answer.new) }
+        ensures left { OnErr result (halts self.old answer.old self.new) };
 
     // A call that is made once more behind a refused one does what it would have done.
     ghost again: { (s t u : Self) (a b c d : Answering) → leaves s a t b → IsReturned a b c
         → makes t c u d → makes s a u d };
+
+    // Nor does it leave anything else, where it is refused too.
+    ghost halts_again: { (s t u : Self) (a b c : Answering) → leaves s a t b → IsReturned a b c
+        → halts t c u → halts s a u };
 
     /// Adds all that a refused call may not change.
     fn picture(&mut self, picture: &mut Answer<'_>) -> Result<(), Memory>;
@@ -31,8 +39,10 @@ pub trait Caller {
 /// Makes a call, which stands behind `light` where it is promised to take no memory. Where memory is
 /// refused for it, the same call is made once more.
 pub fn make<C: Caller>(caller: &mut C, answer: &mut Answer<'_>) -> Result<(), Memory>
-    ensures { OnOk result (answer.old.is_watched ≡ false → answer.old.name ≢ codes "light"
+    ensures made { OnOk result (answer.old.is_watched ≡ false → answer.old.name ≢ codes "light"
         → C.makes caller.old answer.old caller.new answer.new) }
+    ensures left { OnErr result (answer.old.is_watched ≡ false
+        → answer.old.name ≢ codes "light" → C.halts caller.old answer.old caller.new) }
 {
     if answer.name() != "light" {
         return make_twice(caller, false, answer);
@@ -49,8 +59,10 @@ fn make_twice<C: Caller>(
     is_light: bool,
     answer: &mut Answer<'_>,
 ) -> Result<(), Memory>
-    ensures { OnOk result (answer.old.is_watched ≡ false
+    ensures made { OnOk result (answer.old.is_watched ≡ false
         → C.makes caller.old answer.old caller.new answer.new) }
+    ensures left { OnErr result (answer.old.is_watched ≡ false
+        → C.halts caller.old answer.old caller.new) }
 {
     let (length, words) = (answer.len(), answer.words());
     let before = if answer.is_watched() {

@@ -1,6 +1,6 @@
 //! The calls, each with its answer. A function that answers a call says whether it is one of its
 //! calls, and is refused only where the library's call is: what the shell itself takes is tried twice.
-ghost use Rattle.std.specs.Prelude.{◌≡◌, ◌⊎◌, [], IfOk, IsFalse, IsTrue, OnErr};
+ghost use Rattle.std.specs.Prelude.{◌≡◌, ◌⊎◌, ℕ, List, [], IfOk, IsFalse, IsTrue, OnErr};
 ghost use Rattle.trie_shell.specs.Answers.{DoesCall, IsReread, IsTold};
 
 pub mod bounds;
@@ -48,6 +48,8 @@ pub fn answer_told(trie: &mut Table, answer: &mut Answer<'_>) -> Result<bool, Me
         × (answer.new ≡ answer.old) × (trie.new ≡ trie.old)) }
     ensures undone { OnErr result (IsTrue answer.new.is_lost
         ⊎ ((trie.new ≡ trie.old) × IsReread answer.old answer.new)) }
+    ensures left { OnErr result ((trie.new ≡ trie.old) ⊎ ((bytes : List ℕ)
+        × (answer.old.kind ≡ Kind.Text → DoesCall answer.old bytes trie.old trie.new))) }
 {
     match answer.name() {
         "get" => answer_get(trie, answer)?,

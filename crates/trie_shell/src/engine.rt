@@ -1,12 +1,12 @@
 //! What a session answers to a line.
 ghost use Rattle.std.specs.FinMap as map;
-ghost use Rattle.std.specs.Prelude.{◌≡◌, [], ◌∷◌, ◌++◌, ℕ, List, Some, IfErr, OnOk};
+ghost use Rattle.std.specs.Prelude.{◌≡◌, [], ◌∷◌, ◌++◌, ℕ, List, Some, IfErr, OnErr, OnOk};
 ghost use Rattle.std.specs.Process.{exit_status};
 ghost use Rattle.line_sessions.specs.Answers.{Begins};
 ghost use Rattle.line_sessions.specs.Sessions.{Ran};
 ghost use Rattle.trie_shell.specs.Asked.{asked};
 ghost use Rattle.trie_shell.specs.Remarks.{reason_line};
-ghost use Rattle.trie_shell.specs.Sessions.{GivesUp, IsBad, IsNever, IsRemarkOf, IsReplyTo, Replies, RepliesToEach};
+ghost use Rattle.trie_shell.specs.Sessions.{GivesUp, HaltsAt, IsBad, IsNever, IsRemarkOf, IsReplyTo, Replies, RepliesToEach};
 
 use crate::caller::{Caller, make};
 use crate::calls::files::answer_file;
@@ -81,6 +81,7 @@ impl<F: Files + AllocGlobal + Drop> Shell<F> {
     /// Answers a line that asks for something, behind the answers that wait.
     fn answer(&mut self, request: Request<'_>, answers: &mut Vec<u8>) -> Result<(), Refusal>
         ensures refused { IfErr result (λ why. why ≡ Refusal.Memory) }
+        ensures left { OnErr result (HaltsAt (asked request.entry) self.old self.new) }
         ensures kept { Begins answers.old.items answers.new.items }
         ensures replied { OnOk result ((bytes : List ℕ)
             × IsReplyTo (asked request.entry) self.old self.new bytes
@@ -101,12 +102,14 @@ impl<F: Files + AllocGlobal + Drop> Shell<F> {
 }
 
 impl<F: Files + AllocGlobal + Drop> Caller for Shell<F> {
-    ghost use Rattle.trie_shell.specs.Answers.{Leaves, MakesText};
-    ghost use Rattle.trie_shell.specs.Again.{made_again};
+    ghost use Rattle.trie_shell.specs.Answers.{Halts, Leaves, MakesText};
+    ghost use Rattle.trie_shell.specs.Again.{halted_again, made_again};
 
     ghost makes = { λ s a t b. MakesText s a t b.bytes };
 
     ghost leaves = { Leaves };
+
+    ghost halts = { Halts };
 
     fn perform(&mut self, answer: &mut Answer<'_>) -> Result<(), Memory> {
         if self.tries.answer_told(answer)? {
@@ -121,6 +124,8 @@ impl<F: Files + AllocGlobal + Drop> Caller for Shell<F> {
     }
 
     ghost again = { made_again };
+
+    ghost halts_again = { halted_again };
 }
 
 impl<F: Files + AllocGlobal + Drop> Shell<F> {

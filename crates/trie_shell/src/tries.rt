@@ -1,6 +1,6 @@
 //! Tries and frozen ones by their names, and the views that are open in the current one.
 ghost use Rattle.std.specs.FinMap as map;
-ghost use Rattle.std.specs.Prelude.{◌≡◌, ◌⊎◌, IfOk, IsFalse, IsTrue, OnErr};
+ghost use Rattle.std.specs.Prelude.{◌≡◌, ◌⊎◌, ℕ, List, IfOk, IsFalse, IsTrue, OnErr};
 ghost use Rattle.trie_shell.specs.Answers.{DoesCall, IsReread, IsTold};
 
 mod frozen;
@@ -97,6 +97,9 @@ impl Tries {
             → IsTold answer.old.name → ⊥) }
         ensures undone { OnErr result (IsTrue answer.new.is_lost
             ⊎ ((self.new ≡ self.old) × IsReread answer.old answer.new)) }
+        ensures left { OnErr result ((self.new.table ≡ self.old.table) ⊎ ((bytes : List ℕ)
+            × (answer.old.kind ≡ Kind.Text
+            → DoesCall answer.old bytes self.old.table self.new.table))) }
     {
         if self.spots.is_empty() {
             answer_told(&mut self.current.trie, answer)

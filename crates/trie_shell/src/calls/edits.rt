@@ -1,5 +1,5 @@
 //! Changes that tries and views for writing have in common, and what their answers are made of.
-ghost use Rattle.std.specs.Prelude.{◌≡◌, ◌≢◌, ◌⊎◌, [], ◌++◌, IsTrue, OnErr, OnOk};
+ghost use Rattle.std.specs.Prelude.{◌≡◌, ◌≢◌, ◌⊎◌, ℕ, List, [], ◌++◌, IsTrue, OnErr, OnOk};
 ghost use Rattle.shell_words.specs.Answers.{gap, value_line};
 ghost use Rattle.trie_shell.specs.Answers.{TellsValue, StoresNumber, IsReread, TakesValue};
 
@@ -134,6 +134,9 @@ pub fn answer_insert<T: TrieEdit<Key, u64>>(
         → StoresNumber answer.old answer.new.bytes (T.map of.old) (T.map of.new)) }
     ensures undone { OnErr result (IsTrue answer.new.is_lost
         ⊎ ((T.map of.new ≡ T.map of.old) × IsReread answer.old answer.new)) }
+    ensures left { OnErr result ((T.map of.new ≡ T.map of.old) ⊎ ((bytes : List ℕ)
+        × (answer.old.kind ≡ Kind.Text → T.path of.old ≡ []
+        → StoresNumber answer.old bytes (T.map of.old) (T.map of.new)))) }
 {
     let word = answer.words().next().unwrap_or("");
     match (answer.next_key()?, answer.next_number()) {
@@ -152,6 +155,7 @@ pub fn answer_get<T: TrieEdit<Key, u64>>(of: &mut T, answer: &mut Answer<'_>) ->
         → TellsValue answer.old answer.new.bytes (T.map of.old) (T.map of.new)) }
     ensures undone { OnErr result (IsTrue answer.new.is_lost
         ⊎ ((T.map of.new ≡ T.map of.old) × IsReread answer.old answer.new)) }
+    ensures kept { OnErr result (T.map of.new ≡ T.map of.old) }
 {
     let Some(key) = answer.next_query()? else {
         return answer.refuse(NO_KEY);
@@ -171,6 +175,9 @@ pub fn answer_remove<T: TrieEdit<Key, u64>>(
         → TakesValue answer.old answer.new.bytes (T.map of.old) (T.map of.new)) }
     ensures undone { OnErr result (IsTrue answer.new.is_lost
         ⊎ ((T.map of.new ≡ T.map of.old) × IsReread answer.old answer.new)) }
+    ensures left { OnErr result ((T.map of.new ≡ T.map of.old) ⊎ ((bytes : List ℕ)
+        × (answer.old.kind ≡ Kind.Text → T.path of.old ≡ []
+        → TakesValue answer.old bytes (T.map of.old) (T.map of.new)))) }
 {
     let Some(key) = answer.next_query()? else {
         return answer.refuse(NO_KEY);

@@ -136,6 +136,8 @@ fn answer_through(
 impl Caller for SubTrieMut<'_, Key, u64> {
     ghost again = { λ _ _ _ _ _ _ _ _ _ _. tt };
 
+    ghost halts_again = { λ _ _ _ _ _ _ _ _ _. tt };
+
     fn perform(&mut self, answer: &mut Answer<'_>) -> Result<(), Memory> {
         answer_through(self, answer)
     }

@@ -66,3 +66,28 @@ fn frozen_routes_of_a_table(rt: HostRuntime) -> Result<(), Memory> {
     }
     Ok(())
 }
+
+/// So many networks of 24 bits, each with its number, appended one by one.
+fn numbered(alloc: Global, count: u32) -> Option<FrozenRoutes<Ipv4Addr, u32>> {
+    let mut routes = FrozenRoutes::new(alloc);
+    for number in 0..count {
+        let network = Network::new(Ipv4Addr::from_bits(number << 8), 24)?;
+        routes.push(network, number).ok()?;
+    }
+    routes.finish().ok()?;
+    Some(routes)
+}
+
+#[test]
+fn as_many_routes_are_appended_as_are_given(rt: HostRuntime) {
+    const COUNT: u32 = 100_100;
+    let last = Ipv4Addr::from_bits((COUNT - 1) << 8);
+    let found = match numbered(rt.alloc(), COUNT) {
+        Some(routes) => match routes.look(last) {
+            Some((_, number)) => Some(*number),
+            None => None,
+        },
+        None => None,
+    };
+    assert!(rt; found == Some(COUNT - 1));
+}

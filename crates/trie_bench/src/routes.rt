@@ -2,7 +2,7 @@
 
 use crate::sample::generator;
 use crate::timed::{Times, timed};
-use anyhow::{Context, Result};
+use anyhow::{Context, Result, ensure};
 use frozen_routes::FrozenRoutes;
 use radix_trie::{Address, Network, Trie, TrieCommon, TrieKey};
 use rand::RngExt;
@@ -141,12 +141,11 @@ fn answer_trie<A: Address, R: Print + Clock + AllocGlobal>(
     });
     by_trie.print(rt, line, "trie")?;
     let start = Instant::now(rt)?;
-    let mut rows = Vec::with_capacity(alloc, networks.len())?;
+    let mut frozen = FrozenRoutes::new(alloc);
     for (network, hop) in TrieCommon::iter(&trie)? {
-        rows.push((*network, *hop))?;
+        ensure!(frozen.push(*network, *hop).is_ok(), "a row isn't appended");
     }
-    let frozen = FrozenRoutes::from_sorted(rows).ok();
-    let frozen = frozen.context("the rows are refused")?;
+    frozen.finish()?;
     Times::since(rt, "freeze", start, networks.len(), 0)?.print(rt, line, "frozen")?;
     let found = timed!(rt, "look", addresses, |address| {
         match frozen.look(*address) {

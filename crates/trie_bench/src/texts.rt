@@ -6,9 +6,10 @@ use crate::rows::{
 };
 use crate::sample::TextQuery;
 use crate::timed::{Times, print_rows, timed};
-use anyhow::{Result, ensure};
+use anyhow::{Result, bail, ensure};
 use frozen_trie::FrozenTexts;
 use radix_trie::{Trie, TrieCommon};
+use std::alloc::Global;
 use std::mem::drop;
 use std::rt::Clock;
 use std::time::Instant;
@@ -70,7 +71,17 @@ fn frozen(
     }
     texts.finish()?;
     let freezing = Times::since(rt, "freeze", start, trie.len(), 0)?;
-    Ok((texts, freezing))
+    Ok((read_back(rt.alloc(), &texts)?, freezing))
+}
+
+/// The map that its file is read back as, so that the lookups show that it has its table too.
+fn read_back(alloc: Global, texts: &FrozenTexts<u64>) -> Result<FrozenTexts<u64>> {
+    let mut file = Vec::new(alloc);
+    texts.write(&mut file)?;
+    let Ok(read) = FrozenTexts::read(alloc, &mut file.as_slice()) else {
+        bail!("the file isn't read back");
+    };
+    Ok(read)
 }
 
 /// Appends a pair.

@@ -12,7 +12,8 @@ use std::alloc::{AllocError, Global};
 use std::fmt;
 use std::marker::Model;
 
-/// A list of bits, each kept as a nibble, 0 or 1. Up to 32 of them take no memory.
+/// A list of bits, each stored as a nibble, 0 or 1. Up to 32 are stored inline, without an
+/// allocation.
 #[derive(Drop)]
 pub struct Bits {
     list: Nibblet,
@@ -39,12 +40,12 @@ fn bits_in_pairs(byte: u8) -> [u8; 4]
 }
 
 impl Bits {
-    /// The first `count` bits of the bytes, the highest bit of each byte first; all of them where
-    /// there are no more.
+    /// The first `count` bits of the bytes, the highest bit of each byte first; all of them if
+    /// there are fewer.
     ///
     /// # Errors
     ///
-    /// Memory is refused, for more than 32 bits.
+    /// `Memory`: an allocation fails; up to 32 bits need none.
     pub fn first_of(alloc: Global, bytes: &[u8], count: usize) -> Result<Bits, Memory>
         ensures ok { IfOk result (λ b. b ≡ take count (bits_of bytes.now)) }
         ensures succeeds { IsShort (take count (bits_of bytes.now)) → IsOk result }
@@ -63,11 +64,11 @@ impl Bits {
         Ok(Bits { list })
     }
 
-    /// The first `count` bits of the number, the highest first; all 32 where more are asked for.
+    /// The first `count` bits of the number, at most 32, the highest first.
     ///
     /// # Errors
     ///
-    /// None: a list of 32 bits takes no memory.
+    /// Never fails: 32 bits need no allocation.
     pub fn first_of_u32(alloc: Global, number: u32, count: usize) -> Result<Bits, Memory>
         ensures ok { IfOk result (λ b. b ≡ first_bits 32 number count) }
         ensures succeeds { IsOk result }
@@ -76,11 +77,11 @@ impl Bits {
         Bits::first_of(alloc, &bytes, count)
     }
 
-    /// The first `count` bits of the number, the highest first; all 128 where more are asked for.
+    /// The first `count` bits of the number, at most 128, the highest first.
     ///
     /// # Errors
     ///
-    /// Memory is refused, for more than 32 bits.
+    /// `Memory`: an allocation fails; up to 32 bits need none.
     pub fn first_of_u128(alloc: Global, number: u128, count: usize) -> Result<Bits, Memory>
         ensures ok { IfOk result (λ b. b ≡ first_bits 128 number count) }
         ensures succeeds { IsShort (first_bits 128 number count) → IsOk result }

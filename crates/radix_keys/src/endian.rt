@@ -50,7 +50,7 @@ impl<T> Model for BigEndian<T> {
 }
 
 impl<T: KeyInt> BigEndian<T> {
-    /// The integer that the wrapper was made from.
+    /// The wrapped integer.
     pub fn value(&self) -> T
         ensures { result ≡ self.now }
     {
@@ -95,7 +95,7 @@ impl<T> Model for LittleEndian<T> {
 }
 
 impl<T: KeyInt> LittleEndian<T> {
-    /// The integer that the wrapper was made from.
+    /// The wrapped integer.
     pub fn value(&self) -> T
         ensures { result ≡ self.now }
     {
@@ -140,7 +140,7 @@ impl<T> Model for Ascending<T> {
 }
 
 impl<T: KeyInt> Ascending<T> {
-    /// The integer that the wrapper was made from.
+    /// The wrapped integer.
     pub fn value(&self) -> T
         ensures { result ≡ self.now }
     {

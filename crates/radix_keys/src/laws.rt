@@ -19,7 +19,7 @@ pub fn bits_keep_prefixes()
 {}
 
 /// The encoding of a list of parts begins with that of another exactly where the list does: where
-/// the other is above it, or is it.
+/// the other is a prefix of it.
 pub fn parts_keep_prefixes()
     ensures { (p q : List (List ℕ)) → AreParts p → AreParts q
         → IsPrefix (nibbles (part_bytes p)) (nibbles (part_bytes q)) ↔ IsPartsPrefix p q }

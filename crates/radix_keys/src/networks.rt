@@ -59,7 +59,7 @@ fn with_last_cleared(number: u128, bits: u8) -> u128
 }
 
 impl<A: Address> Network<A> {
-    /// The network of so many first bits of its base; None where the address has fewer bits, or
+    /// The network of the first `bits` bits of its base; None if the address has fewer bits, or
     /// another bit of it isn't 0.
     pub fn new(base: A, bits: u8) -> Option<Network<A>>
         ensures { MatchOption result (¬ (IsBase A.BITS bits (A.number base)))
@@ -89,8 +89,8 @@ impl<A: Address> Network<A> {
         }
     }
 
-    /// The network of the addresses that agree with this one in the first `bits`; None where an
-    /// address has fewer bits.
+    /// The network of the addresses that agree with this one in the first `bits` bits; None if an
+    /// address has fewer.
     pub fn around(address: A, bits: u8) -> Option<Network<A>>
         ensures some { IfSome result
             (λ net. (net.bits ≡ bits) × IsBase A.BITS bits (A.number net.base)
@@ -107,7 +107,7 @@ impl<A: Address> Network<A> {
         })
     }
 
-    /// Whether the network has the address.
+    /// Whether the address is in the network.
     pub fn holds(&self, address: A) -> bool
         ensures { IsTrue result
             ↔ AgreeIn A.BITS self.now.bits (A.number self.now.base) (A.number address) }
@@ -123,7 +123,7 @@ impl<A: Address> Network<A> {
         self.base
     }
 
-    /// How many first bits the addresses share.
+    /// How many first bits the addresses share: the prefix length, in bits.
     pub fn bits(&self) -> u8
         ensures { result ≡ self.now.bits }
     {

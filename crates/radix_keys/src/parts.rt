@@ -18,9 +18,9 @@ pub use iter::PartsIter;
 /// Why a part isn't added, or a text has no list of parts.
 #[derive(Clone, Copy, PartialEq, Eq, Debug)]
 pub enum PartsError {
-    /// Memory was refused.
+    /// An allocation failed.
     Memory,
-    /// A byte is 0, which is what ends a part.
+    /// A byte is 0, which ends a part.
     Zero,
 }
 
@@ -35,10 +35,10 @@ impl From<Memory> for PartsError {
     }
 }
 
-/// A list of parts, each of any bytes but 0. Above it are the lists that it begins with, part by part:
-/// `home` is above `home`, `ann`, and not above `homer`.
+/// A list of parts, each of any bytes but 0. Its prefixes are the lists that it begins with, part
+/// by part: `home` is a prefix of `home`, `ann`, and not of `homer`.
 ///
-/// It is kept as the bytes of the parts, one after another, with a 0 behind each.
+/// It is stored as the bytes of the parts, one after another, with a 0 behind each.
 #[derive(Drop)]
 pub struct Parts {
     bytes: Vec<u8>,
@@ -56,7 +56,7 @@ impl Model for Parts {
 }
 
 impl Parts {
-    /// The list without a part. It takes no memory.
+    /// The empty list. It allocates nothing.
     pub fn new(alloc: Global) -> Parts
         ensures { result ≡ [] }
     {
@@ -70,7 +70,7 @@ impl Parts {
     ///
     /// # Errors
     ///
-    /// `Zero`, exactly where the text has a byte 0; else memory.
+    /// Decided in this order. `Zero`: the text has a byte 0. `Memory`: an allocation fails.
     pub fn split(alloc: Global, text: &str, separator: u8) -> Result<Parts, PartsError>
         ensures ok { IfOk result (λ parts. parts ≡ slice_split (λ b. b == separator) text.now) }
         ensures zero { (result ≡ Err PartsError.Zero) ↔ Contains text.now 0 }
@@ -87,7 +87,7 @@ impl Parts {
     ///
     /// # Errors
     ///
-    /// `Zero`, exactly where the text has a byte 0; else memory.
+    /// Decided in this order. `Zero`: the text has a byte 0. `Memory`: an allocation fails.
     pub fn of_path(alloc: Global, text: &str, separator: u8) -> Result<Parts, PartsError>
         ensures ok { IfOk result (λ parts.
             parts ≡ filter (λ part. not (length part == 0)) (slice_split (λ b. b == separator) text.now)) }
@@ -108,7 +108,7 @@ impl Parts {
     ///
     /// # Errors
     ///
-    /// `Zero`, exactly where the text has a byte 0; else memory.
+    /// Decided in this order. `Zero`: the text has a byte 0. `Memory`: an allocation fails.
     pub fn reversed(alloc: Global, text: &str, separator: u8) -> Result<Parts, PartsError>
         ensures ok { IfOk result (λ parts.
             parts ≡ reverse (slice_split (λ b. b == separator) text.now)) }
@@ -125,7 +125,8 @@ impl Parts {
     ///
     /// # Errors
     ///
-    /// `Zero`, exactly where the part has a byte 0; else memory. The list is as before then.
+    /// Decided in this order. `Zero`: the part has a byte 0. `Memory`: an allocation fails. On
+    /// failure the list is as before.
     pub fn push(&mut self, part: &str) -> Result<(), PartsError>
         ensures ok { OnOk result (self.new ≡ self.old ++ part.now ∷ []) }
         ensures zero { (result ≡ Err PartsError.Zero) ↔ Contains part.now 0 }
@@ -138,7 +139,8 @@ impl Parts {
     ///
     /// # Errors
     ///
-    /// `Zero`, exactly where a byte is 0; else memory. The list is as before then.
+    /// Decided in this order. `Zero`: a byte is 0. `Memory`: an allocation fails. On failure the
+    /// list is as before.
     pub fn push_bytes(&mut self, part: &[u8]) -> Result<(), PartsError>
         ensures ok { OnOk result (self.new ≡ self.old ++ part.now ∷ []) }
         ensures zero { (result ≡ Err PartsError.Zero) ↔ Contains part.now 0 }
@@ -179,8 +181,8 @@ impl Parts {
         self.bytes.is_empty()
     }
 
-    /// The parts, from the first to the last, or from the back. It takes no memory, and a step reads
-    /// the part that it gives.
+    /// The parts, from the first to the last, or from the back. It allocates nothing, and a step
+    /// reads the part that it returns.
     pub fn iter(&self) -> PartsIter<'_>
         ensures { result ≡ self.now }
     {

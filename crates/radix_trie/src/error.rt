@@ -1,4 +1,4 @@
-//! Why a call is refused.
+//! Why a call fails.
 ghost use Rattle.std.specs.Prelude.{◌≡◌};
 
 use crate::trie::Trie;
@@ -11,10 +11,10 @@ mod whole;
 
 pub use whole::TrieError;
 
-/// Why an insertion was refused.
+/// Why an insertion failed.
 #[derive(Clone, Copy, PartialEq, Eq, Debug)]
 pub enum InsertWhy {
-    /// An allocation failed, or a nibble count would pass `usize::MAX`.
+    /// An allocation failed, or a count of nibbles would exceed `usize::MAX`.
     Memory,
     /// The trie holds `usize::MAX` pairs, and the key isn't among them.
     Full,
@@ -22,7 +22,7 @@ pub enum InsertWhy {
     Outside,
 }
 
-/// A refused insertion: why, and the very key and value that were passed.
+/// A failed insertion: why, and the key and value that were passed.
 #[derive(Drop)]
 pub struct InsertError<K, V> {
     pub why: InsertWhy,
@@ -33,7 +33,7 @@ pub struct InsertError<K, V> {
 /// Why a pair wasn't stored where none is to be replaced.
 #[derive(Clone, Copy, PartialEq, Eq, Debug)]
 pub enum TryInsertWhy {
-    /// An allocation failed, or a nibble count would pass `usize::MAX`.
+    /// An allocation failed, or a count of nibbles would exceed `usize::MAX`.
     Memory,
     /// The trie holds `usize::MAX` pairs.
     Full,
@@ -41,7 +41,7 @@ pub enum TryInsertWhy {
     Occupied,
 }
 
-/// A refused `try_insert`: why, and the very key and value that were passed.
+/// A failed `try_insert`: why, and the key and value that were passed.
 #[derive(Drop)]
 pub struct TryInsertError<K, V> {
     pub why: TryInsertWhy,
@@ -61,26 +61,28 @@ pub enum GraftWhy {
     Overlapping,
 }
 
-/// A refused `graft`: why, and the very trie that was passed.
+/// A failed `graft`: why, and the trie that was passed.
 #[derive(Drop)]
 pub struct GraftError<K: TrieKey, V> {
     pub why: GraftWhy,
     pub part: Trie<K, V>,
 }
 
-/// A refused `merge`.
+/// A failed `merge`.
 #[derive(Drop)]
 pub enum MergeError<K: TrieKey, V> {
-    /// Memory for the list of the other trie's pairs was refused. Nothing has changed, and this is the other trie.
+    /// The allocation of the list of the other trie's pairs failed. Nothing has changed, and this
+    /// is the other trie.
     Memory(Trie<K, V>),
-    /// A pair was refused, for this reason. Those before it are stored, and those behind it are the rest.
+    /// The insertion of a pair failed, for this reason. The pairs before it are stored, and those
+    /// after it are the rest.
     Stopped(InsertError<K, V>, IntoIter<(K, V)>),
 }
 
 /// Why a trie wasn't built.
 #[derive(Clone, Copy, PartialEq, Eq, Debug)]
 pub enum BuildError {
-    /// An allocation failed, or a nibble count would pass `usize::MAX`.
+    /// An allocation failed, or a count of nibbles would exceed `usize::MAX`.
     Memory,
     /// `usize::MAX` pairs were stored, and a key came that wasn't among them.
     Full,
@@ -107,7 +109,7 @@ pub enum OpenError {
 /// Why a view returns no pair.
 #[derive(Clone, Copy, PartialEq, Eq, Debug)]
 pub enum SubTrieError {
-    /// An allocation failed, or a nibble count would pass `usize::MAX`.
+    /// An allocation failed, or a count of nibbles would exceed `usize::MAX`.
     Memory,
     /// The view's path isn't a prefix of the key's encoding.
     Outside,

@@ -50,9 +50,9 @@ pub fn stored_keys_are_equal<K: TrieKey, V>()
         → IsKeyed K.encoding K.is_value (with_pairs K.encoding m ps) }
 {}
 
-/// What was split off goes back: the map without all below a list, with the pairs of the part that is below it stored one by
-/// one, as `Trie::graft` stores them, is the trie's map. The one reason that `Trie::graft` can be refused for is memory,
-/// where the rest has a pair; where it has none, `graft` isn't refused.
+/// What was split off goes back: the map without all below a list, with the pairs of the part that
+/// is below it stored one by one, as `Trie::graft` stores them, is the trie's map. `Trie::graft`
+/// can then fail only for memory, and never where the rest has no pair.
 pub fn split_part_goes_back<K: TrieKey, V>(trie: &Trie<K, V>)
     ensures same { (e : List ℕ) → with_pairs K.encoding (without_below trie.now e)
         (pairs_below (below trie.now e) []) ≡ trie.now }

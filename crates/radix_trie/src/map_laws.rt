@@ -7,8 +7,9 @@ ghost use Rattle.nibble_map.specs.MapQueries.{AreChildren, IsFragment};
 ghost use Rattle.nibble_map.specs.Maps.{IsPoint, IsSomePrefix, IsStored, NibbleMap, PairMap, below};
 ghost use Rattle.nibble_map.specs.Turned.{IsSameFootprint, IsTurnedCopy, turned};
 
-/// What the part of a map below a path answers: at the lists that have the path as a prefix what the map answers, and none
-/// elsewhere. So it holds the stored lists that have the prefix and no other, and its count is how many these are.
+/// What the part of a map below a path holds: at the lists that have the path as a prefix what the
+/// map holds, and none elsewhere. So it holds the stored lists that have the prefix and no other,
+/// and its count is how many these are.
 pub fn part_answers_below<P>()
     ensures inside { (m : NibbleMap P) (p e : List ℕ) → IsPrefix p e
         → map.get (below m p) e ≡ map.get m e }
@@ -41,8 +42,9 @@ pub fn equal_lists_have_one_tree<P, Q>()
         → (j k : ℕ) → Counts (IsSomePrefix m) j → Counts (IsSomePrefix n) k → j ≡ k }
 {}
 
-/// What the trie of ascending keys answers that `to_ascending` makes: at each list turned over the key and a clone of the
-/// value that the first trie holds at the list, and none where that holds none. It has as many nodes and nibbles.
+/// What the trie of ascending keys holds that `to_ascending` makes: at each list, with the top bit
+/// of its first nibble flipped, the key and a clone of the value that the first trie holds at the
+/// list, and none where that holds none. It has as many nodes and nibbles.
 pub fn turned_copies_answer_alike<K, V: Clone>()
     ensures stored { (m n : PairMap K V)
         → IsTurnedCopy (IsPairClone (λ x y. y ≡ x) V.is_clone) m n

@@ -11,7 +11,7 @@ impl NibbleVec {
     ///
     /// # Errors
     ///
-    /// Memory is refused, for a list of at least 32 nibbles. The list is as before then.
+    /// `Memory`: an allocation fails; up to 32 nibbles need none. On failure the list is as before.
     pub fn push(&mut self, n: u8) -> Result<(), Memory>
         requires { n < 16 }
         ensures ok { OnOk result (self.new ≡ self.old ++ n ∷ []) }
@@ -33,7 +33,7 @@ impl NibbleVec {
     ///
     /// # Errors
     ///
-    /// Memory is refused, where the two have more than 32 nibbles together. The list comes back.
+    /// The list itself: an allocation fails; up to 32 nibbles together need none.
     pub fn join(self, other: &NibbleVec) -> Result<NibbleVec, NibbleVec>
         ensures ok { IfOk result (λ v. v ≡ self ++ other.now) }
         ensures err { IfErr result (λ v. v ≡ self) }
@@ -91,7 +91,7 @@ impl NibbleVec {
     }
 }
 
-/// Appends the nibble `high` and the nibbles of the bytes but the last, which it answers.
+/// Appends the nibble `high` and the nibbles of the bytes but the last, which it returns.
 pub(super) fn push_shifted(out: &mut SmallVec<u8, 16>, high: u8, bytes: &[u8]) -> u8
     requires half { high < 16 }
     requires room { HasRoomFor out.old (length bytes.now) }

@@ -7,12 +7,13 @@ use crate::nibbles::{Memory, NibbleVec};
 use smallvec::SmallVec;
 
 impl NibbleVec {
-    /// Keeps the first `i` nibbles, at most all, and hands out the rest. What it keeps gives back the
-    /// room of the rest, where the allocator grants that.
+    /// Keeps the first `i` nibbles, at most all, and returns the rest. The list's allocation
+    /// shrinks to what it keeps, if the allocator can do that.
     ///
     /// # Errors
     ///
-    /// Memory is refused, where the rest has more than 32 nibbles. The list is as before then.
+    /// `Memory`: an allocation fails; a rest of up to 32 nibbles needs none. On failure the list is
+    /// as before.
     pub fn split(&mut self, i: usize) -> Result<NibbleVec, Memory>
         requires { i ≤ length self.old }
         ensures kept { OnOk result (self.new ≡ take i self.old) }
@@ -26,7 +27,7 @@ impl NibbleVec {
         Ok(rest)
     }
 
-    /// Keeps the first `i` nibbles, at most all. It takes no memory.
+    /// Keeps the first `i` nibbles, at most all. It allocates nothing.
     pub fn truncate(&mut self, i: usize)
         requires { i ≤ length self.old }
         ensures { self.new ≡ take i self.old }
@@ -43,7 +44,7 @@ impl NibbleVec {
         }
     }
 
-    /// Gives back the room that the list doesn't need. Where a smaller room is refused, it stays as it is.
+    /// Shrinks the list's allocation to what it needs. If that fails, it stays as it is.
     fn shrink_to_fit(&mut self)
         ensures { self.new ≡ self.old }
     {
@@ -55,7 +56,7 @@ impl NibbleVec {
     ///
     /// # Errors
     ///
-    /// Memory is refused, where these are more than 32.
+    /// `Memory`: an allocation fails; up to 32 nibbles need none.
     pub fn head(&self, i: usize) -> Result<NibbleVec, Memory>
         requires { i ≤ length self.now }
         ensures ok { IfOk result (λ r. r ≡ take i self.now) }
@@ -76,7 +77,7 @@ impl NibbleVec {
     ///
     /// # Errors
     ///
-    /// Memory is refused, where these are more than 32.
+    /// `Memory`: an allocation fails; up to 32 nibbles need none.
     pub fn tail(&self, i: usize) -> Result<NibbleVec, Memory>
         requires { i ≤ length self.now }
         ensures ok { IfOk result (λ r. r ≡ drop i self.now) }

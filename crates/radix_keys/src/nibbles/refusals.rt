@@ -1,4 +1,4 @@
-//! What refusals say of themselves.
+//! The messages of errors.
 ghost use Rattle.std.specs.Prelude.{Some};
 ghost use Rattle.radix_keys.specs.Errors.{bytes_text, memory_text};
 

@@ -15,7 +15,7 @@ impl NibbleVec {
     ///
     /// # Errors
     ///
-    /// Memory is refused, for more than 32 bytes of text.
+    /// `Memory`: an allocation fails; up to 32 bytes of text need none.
     pub fn from_hex(alloc: Global, text: &str) -> Result<Option<NibbleVec>, Memory>
         ensures ok { IfOk result (λ found.
             SomeIff found (All (λ c. digit_value c < 16) text.now) (map digit_value text.now)) }

@@ -1,4 +1,4 @@
-//! How a list of parts is shown, and what refusals say of themselves.
+//! How a list of parts is shown, and the messages of errors.
 ghost use Rattle.std.specs.Prelude.{Some};
 ghost use Rattle.radix_keys.specs.Errors.{parts_text};
 

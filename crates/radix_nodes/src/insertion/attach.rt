@@ -1,5 +1,6 @@
-//! What an insertion attaches at its place: a pair, a leaf, or a node above. All that may fail comes first. The pair comes in
-//! `change.was`, where the replaced pair is left, or after a refusal the pair again.
+//! What an insertion attaches at its place: a pair, a leaf, or a node above. All that may fail
+//! comes first. The pair comes in `change.was`, where the replaced pair is left, or on failure the
+//! pair again.
 ghost use Rattle.std.specs.Prelude.{◌≡◌, ◌≢◌, ◌<◌, ◌≤◌, ◌++◌, length, take, drop, slice_index, IfOk, OnOk, OnErr, IsSome, MatchOption, Err};
 ghost use Rattle.masked_tree.specs.Mask.{IsPlaceOf};
 ghost use Rattle.masked_tree.specs.Tree.{IsTreePlaced, firsts};

@@ -1,5 +1,5 @@
 //! A branch is grafted into a tree, with all that is below it: no pair is moved. All that may fail
-//! comes first, so a refusal leaves the tree as it was, and returns the branch as it was.
+//! comes first, so a failure leaves the tree as it was, and returns the branch as it was.
 ghost use Rattle.std.specs.Prelude.{◌≡◌, ◌≢◌, ◌<◌, ◌≤◌, ◌++◌, length, take, drop, slice_index, Err};
 ghost use Rattle.masked_tree.specs.Edits.{with_fragment};
 ghost use Rattle.masked_tree.specs.Mask.{IsPlaceOf};
@@ -34,8 +34,8 @@ pub enum Ungrafted<K, V> {
 }
 
 /// Grafts the branch at the list's place, below a node that stands at `depth`: what the branch
-/// holds at a list stands behind this list then. It is refused as occupied where a node stands at or
-/// below the list, and where an allocation fails.
+/// holds at a list stands behind this list then. It fails with `Occupied` if a node stands at or
+/// below the list, and with `Memory` if an allocation fails.
 pub fn graft<K: Drop, V: Drop>(
     node: &mut TrieNode<K, V>,
     alloc: Global,
@@ -70,7 +70,7 @@ pub fn graft<K: Drop, V: Drop>(
     }
 }
 
-// A refusal is one for memory.
+// The branch comes back only if an allocation failed.
 fn tell<K, V>(outcome: Result<Grafted, Box<TrieNode<K, V>>>) -> Result<Grafted, Ungrafted<K, V>>
     ensures { result ≡ told outcome }
 {

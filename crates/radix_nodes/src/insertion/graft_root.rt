@@ -41,8 +41,8 @@ fn put_back<K, V>(root: &mut TrieNode<K, V>, fragment: Nibblet, branch: Box<Trie
     link(root, 0, refitted(branch, fragment), nibble);
 }
 
-/// Grafts the one child of `part` into the tree below `root`, at that child's path. It is refused as `graft` is, and both trees are
-/// as before then.
+/// Grafts the one child of `part` into the tree below `root`, at that child's path. It fails as
+/// `graft` does, and both trees are as before then.
 pub fn graft_root<K: Drop, V: Drop>(
     root: &mut TrieNode<K, V>,
     alloc: Global,

@@ -1,4 +1,4 @@
-//! Insertion. All that may fail comes first, so a refusal leaves the tree as it was.
+//! Insertion. All that may fail comes first, so a failure leaves the tree as it was.
 //!
 //! What stands at the place of the change is kept out of line: its variables aren't on the stack at each level above then.
 ghost use Rattle.std.specs.Prelude.{◌≤◌, ◌++◌, length, drop, IsSome};
@@ -38,8 +38,8 @@ pub fn insert<K: Drop, V: Drop>(
     }
 }
 
-// The same with the pair in `change.was`, where the replaced pair is left, or after a refusal the pair again. So a frame holds neither
-// a pair nor a result.
+// The same with the pair in `change.was`, where the replaced pair is left, or on failure the pair
+// again. So a frame holds neither a pair nor a result.
 fn insert_below<K: Drop, V: Drop>(
     node: &mut TrieNode<K, V>,
     alloc: Global,

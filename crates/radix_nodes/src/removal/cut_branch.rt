@@ -1,4 +1,5 @@
-//! The branch at and below a path is cut off. What may fail comes first, so a refusal leaves the tree as it was.
+//! The branch at and below a path is cut off. What may fail comes first, so a failure leaves the
+//! tree as it was.
 ghost use Rattle.std.specs.Prelude.{◌≡◌, ◌≢◌, ◌<◌, ◌++◌, [], length, drop, None};
 ghost use Rattle.masked_tree.specs.Tree.{IsTreePlaced};
 ghost use Rattle.radix_nodes.specs.Nodes.{tree_of, fragment_of, returned};

@@ -1,4 +1,5 @@
-//! A child is cut off with all below it. What may fail comes first, so a refusal leaves the tree as it was.
+//! A child is cut off with all below it. What may fail comes first, so a failure leaves the tree as
+//! it was.
 ghost use Rattle.std.specs.Prelude.{◌≡◌, ◌≢◌, ◌+◌, ◌<◌, ◌≤◌, ◌⊎◌, [], ◌++◌, length, IfOk, OnErr, IsSome, MatchBool, None, vec_len};
 ghost use Rattle.masked_tree.specs.Tree.{IsTreePlaced, IsAt};
 ghost use Rattle.radix_nodes.specs.Nodes.{tree_of, fragment_of, out_of, unboxed, IsLongWithout};

@@ -1,4 +1,5 @@
-//! All pairs at and below a path are removed. What may fail comes first, so a refusal leaves the tree as it was.
+//! All pairs at and below a path are removed. What may fail comes first, so a failure leaves the
+//! tree as it was.
 ghost use Rattle.std.specs.Prelude.{◌≡◌, ◌<◌, ◌≤◌, ◌++◌, [], length, IfOk, IsOk, OnErr, vec_capacity};
 ghost use Rattle.masked_tree.specs.Alters.{PrunesRoot};
 ghost use Rattle.masked_tree.specs.Tree.{IsTreePlaced, entries_at};

@@ -1,4 +1,4 @@
-//! Removal. All that may fail comes first, so a refusal leaves the tree as it was.
+//! Removal. All that may fail comes first, so a failure leaves the tree as it was.
 //!
 //! What stands at the place of the change is kept out of line: its variables aren't on the stack at each level above then.
 ghost use Rattle.std.specs.Prelude.{◌≡◌, ◌≢◌, ◌<◌, ◌≤◌, [], ◌++◌, length, drop, MatchOption, Some, None, vec_len};

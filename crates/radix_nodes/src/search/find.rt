@@ -1,4 +1,4 @@
-//! Look-ups.
+//! Lookups.
 ghost use Rattle.nibble_map.specs.Answers.{IsCompared};
 ghost use Rattle.nibble_map.specs.Lists.{Counts};
 ghost use Rattle.nibble_map.specs.Stored.{IsStored};
@@ -13,26 +13,27 @@ use crate::search::step::{meet, step};
 use crate::trie_node::{TrieNode, has_pair};
 use radix_keys::Nibblet;
 
-/// What a look-up costs: how many nodes it visits, and how many nibbles it compares.
+/// What a lookup costs: how many nodes it visits, and how many nibbles it compares.
 #[derive(Clone, Copy, PartialEq, Eq, Debug)]
 pub struct LookUpCost {
-    /// The nodes on the way down: the root, and each node below it whose path begins the query.
+    /// The nodes on the way down: the root, and each node below it whose path is a prefix of the
+    /// query.
     ///
-    /// Besides these a look-up reads one node at most: that whose fragment the query leaves, or
-    /// ends in, before the fragment's end.
+    /// Besides these a lookup reads one node at most: that whose fragment the query leaves, or ends
+    /// in, before the fragment's end.
     pub nodes: u128,
     /// The nibbles of the query that are compared with nibbles of fragments, none of them twice.
     pub nibbles: usize,
 }
 
-/// What a search for a list returns.
+/// What a lookup of a list returns.
 #[derive(Drop)]
 pub struct Searched<'a, K, V> {
     /// The node whose path is the list.
     pub found: Option<&'a TrieNode<K, V>>,
     /// The node with the longest path that begins the list and holds a pair, and how many nibbles of the list that is.
     pub nearest: Option<(&'a TrieNode<K, V>, usize)>,
-    /// What the search costs.
+    /// What the lookup costs.
     pub cost: LookUpCost,
 }
 
@@ -60,7 +61,8 @@ pub fn find<'a, K, V>(
     Some(at)
 }
 
-// The same, the deepest pair on the way, and what the search costs. It is inlined, so a caller pays for what it takes alone.
+// The same, the deepest pair on the way, and what the lookup costs. It is inlined, so a caller pays
+// for what it takes alone.
 #[inline(always)]
 pub(super) fn search<'a, K, V>(
     node: &'a TrieNode<K, V>,
@@ -115,7 +117,7 @@ pub(super) fn search<'a, K, V>(
     }
 }
 
-/// The search for a list from the root on.
+/// The lookup of a list from the root on, with its cost.
 pub fn find_counted<'a, K, V>(root: &'a TrieNode<K, V>, list: &Nibblet) -> Searched<'a, K, V>
     requires top { fragment_of root.now ≡ [] }
     requires placed { IsTreePlaced (tree_of root.now) }

@@ -62,8 +62,8 @@ impl<K, V> TrieNode<K, V> {
     }
 }
 
-// No recursion and no memory: the node at the top and one below it change places until all are gone. A child is linked only where
-// another was taken out. Nothing reads the masks any more.
+// No recursion and no allocation: the node at the top and one below it change places until all are
+// gone. A child is linked only where another was taken out. Nothing reads the masks any more.
 impl<K: Drop, V: Drop> Drop for TrieNode<K, V> {
     fn drop(mut self) {
         loop {

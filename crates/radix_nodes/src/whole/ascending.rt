@@ -1,4 +1,4 @@
-//! A copy of a root for keys that turn the highest bit of their encodings over.
+//! A copy of a root for keys that flip the top bit of their encodings.
 ghost use Rattle.std.specs.Prelude.{◌≡◌, ◌<◌, length, IfOk, OnOk, IsOk, None};
 ghost use Rattle.masked_tree.specs.Tree.{Children, none, IsTreePlaced};
 ghost use Rattle.masked_tree.specs.Same.{AreChildCopies, IsCopy};
@@ -20,7 +20,7 @@ fn is_in_half(high: bool, nibble: u8) -> bool
     if high { nibble > 7 } else { nibble < 8 }
 }
 
-// A copy of a child with its first nibble turned over.
+// A copy of a child with the top bit of its first nibble flipped.
 fn turned_child<K, L: CopyOf<K>, V: Clone>(
     child: &TrieNode<K, V>,
     alloc: Global,
@@ -34,7 +34,8 @@ fn turned_child<K, L: CopyOf<K>, V: Clone>(
     Ok(copy)
 }
 
-// Appends copies of the children whose first nibble is in a half, with that nibble turned over.
+// Appends copies of the children whose first nibble is in a half, with the top bit of that nibble
+// flipped.
 fn push_half<K, L: CopyOf<K>, V: Clone>(
     node: &TrieNode<K, V>,
     alloc: Global,
@@ -58,11 +59,12 @@ fn push_half<K, L: CopyOf<K>, V: Clone>(
     Ok(())
 }
 
-/// A copy of a root in which the highest bit of the first nibble of each child's fragment is turned
-/// over, and the children stand in the order that they have then.
+/// A copy of a root in which the top bit of the first nibble of each child's fragment is flipped,
+/// and the children stand in the order that they have then.
 ///
-/// Keys are copied and values cloned as in every copy. Where an allocation fails, what was copied is dropped. A
-/// root with no pair, no child and at most 32 nibbles is copied without memory.
+/// Keys are copied and values cloned as in every copy. Where an allocation fails, what was copied
+/// is dropped. A root with no pair, no child and at most 32 nibbles is copied without an
+/// allocation.
 pub fn turned_copy<K, L: CopyOf<K>, V: Clone>(
     root: &TrieNode<K, V>,
     alloc: Global,

@@ -83,9 +83,9 @@ fn move_contents<K, V>(from: &mut TrieNode<K, V>, into: &mut TrieNode<K, V>)
 }
 
 /// Lays the nodes below the root anew, each before those below it and those after it, as a walk
-/// comes to them. All memory is allocated before anything is moved, so a refusal changes nothing. Boxes
-/// of pairs stay where they are, and so do the nibbles of long fragments: what refers to them is
-/// moved. For a root without children none is allocated.
+/// comes to them. All memory is allocated before anything is moved, so a failure changes nothing.
+/// Boxes of pairs stay where they are, and so do the nibbles of long fragments: what refers to them
+/// is moved. For a root without children none is allocated.
 pub fn lay_anew<K: Drop, V: Drop>(root: &mut TrieNode<K, V>, alloc: Global) -> Result<(), Memory>
     ensures same { tree_of root.new ≡ tree_of root.old }
     ensures light { (tree_of root.old).children ≡ none → IsOk result }

@@ -16,7 +16,7 @@ pub trait CopyOf<K>: Drop {
     // Whether a key is what is made of another.
     ghost is_copy: { K → Self → Type 0 };
 
-    /// The key that is made of another. The one reason for a refusal is memory.
+    /// The key that is made of another. It fails only if an allocation fails.
     fn copy_of(key: &K) -> Result<Self, Memory>
         ensures { IfOk result (λ copy. is_copy key.now copy) };
 }
@@ -89,7 +89,8 @@ fn boxed_alone<K, L: CopyOf<K>, V: Clone>(
     Ok(Box::new(alloc, copy)?)
 }
 
-// Adds a copy, or drops it where those below it were refused: out of line, since a drop takes a node's place on the stack.
+// Adds a copy, or drops it if the copies of those below it failed: out of line, since a drop takes
+// a node's place on the stack.
 #[inline(never)]
 pub(super) fn push_copy<L: Drop, V: Drop>(
     copies: &mut Vec<Box<TrieNode<L, V>>>,
@@ -124,8 +125,8 @@ fn copy_children<K, L: CopyOf<K>, V: Clone>(
 }
 
 /// A copy of a node and all below it: the same fragments, masks and children, with a copy of each
-/// key and a clone of each value. Where an allocation fails, what was copied is dropped. A node with no pair, no
-/// child and at most 32 nibbles is copied without memory.
+/// key and a clone of each value. Where an allocation fails, what was copied is dropped. A node
+/// with no pair, no child and at most 32 nibbles is copied without an allocation.
 pub fn copied<K, L: CopyOf<K>, V: Clone>(
     node: &TrieNode<K, V>,
     alloc: Global,

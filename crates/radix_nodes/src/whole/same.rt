@@ -1,4 +1,4 @@
-//! Equality of two trees, side by side, without memory.
+//! Equality of two trees, side by side, without an allocation.
 ghost use Rattle.std.specs.Prelude.{◌≡◌};
 ghost use Rattle.masked_tree.specs.Same.{same_pair, same_tree};
 ghost use Rattle.radix_nodes.specs.Nodes.{tree_of, unboxed};

@@ -64,7 +64,8 @@ pub fn measure<K, V>(node: &TrieNode<K, V>) -> (usize, Measured)
     (pairs, held)
 }
 
-/// How many nodes stand on the longest way down from the node, with it. None: no `usize` can say it.
+/// How many nodes stand on the longest way down from the node, with it; None if that is more than
+/// `usize::MAX`.
 #[tactic(auto, using(crate::proofs::NodeLemmas::Sizes::levels_out, crate::proofs::NodeLemmas::Sizes::levels_next))]
 pub fn height<K, V>(node: &TrieNode<K, V>) -> Option<usize>
     ensures { MatchOption result (2 ^ 64 ≤ suc (levels (tree_of node.now).children))

@@ -18,13 +18,13 @@ use radix_keys::{Memory, Nibblet, TrieKey};
 pub enum Command<K, V> {
     /// Stores a pair.
     Insert(K, V),
-    /// Takes the pair at a key's encoding away.
+    /// Removes the pair at a key's encoding.
     Remove(K),
-    /// Takes all pairs at and below a key's place away.
+    /// Removes all pairs at and below a key's place.
     RemovePrefix(K),
-    /// Looks the value at a key's encoding up.
+    /// Looks up the value at a key's encoding.
     Get(K),
-    /// Looks the value of the longest stored list up that is a prefix of a key's encoding.
+    /// Looks up the value of the longest stored list that is a prefix of a key's encoding.
     Ancestor(K),
     /// Counts the pairs.
     Len,
@@ -37,11 +37,11 @@ pub enum Command<K, V> {
 pub enum ViewCommand<K, V> {
     /// Stores a pair.
     Insert(K, V),
-    /// Takes the pair at a key's encoding away.
+    /// Removes the pair at a key's encoding.
     Remove(K),
-    /// Takes all pairs at and below a key's place away.
+    /// Removes all pairs at and below a key's place.
     RemovePrefix(K),
-    /// Looks the value at a key's encoding up.
+    /// Looks up the value at a key's encoding.
     Get(K),
     /// Counts the pairs at and below the view's path.
     Len,
@@ -64,17 +64,18 @@ pub enum Reply<V> {
     Replies(Vec<Reply<V>>),
     /// Of a command in a view: the view's path isn't a prefix of the key's encoding, and nothing has changed.
     Outside,
-    /// No memory, or no room for one more pair, and nothing has changed.
+    /// The command failed: an allocation failed, or `usize::MAX` pairs are stored. Nothing has
+    /// changed.
     Refused,
 }
 
-/// Runs the commands in order, and returns one reply to each. A refused command returns `Refused`
-/// and changes nothing, and the run goes on.
+/// Runs the commands in order, and returns one reply to each. A command that fails returns
+/// `Refused` and changes nothing, and the run goes on.
 ///
 /// # Errors
 ///
-/// Memory for the list of replies is refused, which is reserved first; none is where there is no
-/// command. No command is run then, and the trie is as before.
+/// `Memory`: the allocation of the list of replies fails, which comes before any command; an empty
+/// list of commands needs none. On failure the trie is as before.
 pub fn run<K: TrieKey + Drop, V: Copy>(
     trie: &mut Trie<K, V>,
     commands: Vec<Command<K, V>>,

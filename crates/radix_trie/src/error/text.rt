@@ -1,4 +1,4 @@
-//! What errors say of themselves. Each has its text by what it becomes as a `TrieError`.
+//! The messages of errors. Each has that of the `TrieError` that it becomes.
 ghost use Rattle.std.specs.Prelude.{Some};
 ghost use Rattle.radix_trie.specs.Errors.{of_graft, of_build, of_find, of_insert, of_json, of_merge, of_open, of_try_insert, of_view, text_of};
 

@@ -10,10 +10,10 @@ use crate::error::{
 use radix_keys::{BytesError, Memory, PartsError, TrieKey};
 use std::alloc::AllocError;
 
-/// Why a call was refused, whichever call it was.
+/// Why a call failed, whichever call it was.
 #[derive(Clone, Copy, PartialEq, Eq, Debug)]
 pub enum TrieError {
-    /// An allocation failed, or a nibble count would pass `usize::MAX`.
+    /// An allocation failed, or a count of nibbles would exceed `usize::MAX`.
     Memory,
     /// `usize::MAX` pairs are stored, and the key isn't among them.
     Full,

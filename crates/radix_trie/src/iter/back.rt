@@ -11,12 +11,12 @@ use radix_nodes::trie_node::TrieNode;
 use std::alloc::Global;
 use std::marker::Model;
 
-/// A walk over keys and values that begins in the time of the way down: each pair once, in the
-/// falling order of the encodings, the extensions of an encoding before it.
+/// A walk over keys and values that begins in the time of a lookup: each pair once, in the falling
+/// order of the encodings, the extensions of an encoding before it.
 ///
-/// A step may be refused, since it may allocate: memory for at most a row of nodes for each level.
-/// The same pairs are left then. A contract sees such a cursor as the list of the pairs that are
-/// left, in this order.
+/// A step may fail, since it may allocate: at most a row of nodes for each level. The same pairs
+/// are left then. A contract sees such a cursor as the list of the pairs that are left, in this
+/// order.
 #[derive(Drop)]
 pub struct CursorBack<'a, K, V> {
     /// What comes next.
@@ -85,8 +85,8 @@ impl<'a, K, V> CursorBack<'a, K, V> {
     ///
     /// # Errors
     ///
-    /// Memory for what is left of a node above is refused. Then the same pairs are left, and the
-    /// next call tries again. At the end no memory is allocated.
+    /// `Memory`: an allocation fails, for what is left of a node above. The same pairs are left
+    /// then, and the next call tries again. At the end nothing is allocated.
     pub fn next(&mut self) -> Result<Option<(&'a K, &'a V)>, Memory>
         ensures pair { IfOk result (λ pair. option_map deref_pair pair ≡ slice_get self.old 0) }
         ensures rest { OnOk result (self.new ≡ drop 1 self.old) }

@@ -72,7 +72,7 @@ impl Operation {
     }
 }
 
-/// What is left of two tries that are gone along side by side.
+/// What is left of two tries that are walked side by side.
 #[derive(Drop)]
 struct Search<'a, K, V> {
     operation: Operation,
@@ -116,7 +116,7 @@ impl<'a, K, V> Search<'a, K, V> {
         }
     }
 
-    /// Looks for the next pair. After a refusal the next call goes on where this one stopped.
+    /// Looks for the next pair. After a failure the next call goes on where this one stopped.
     fn step(&mut self) -> Result<Option<&'a KeyValue<K, V>>, Memory>
         ensures pair { IfOk result
             (λ pair. option_map (λ p. pair_of p.now) pair ≡ slice_get self.old 0) }
@@ -188,11 +188,11 @@ fn descend<'a, K, V>(
 /// A walk over the pairs of two tries that an operation gives: each encoding once, in their order. Of two pairs with one
 /// encoding the first trie's is given.
 ///
-/// The nodes of both tries are gone along side by side. No key is encoded, and what the operation leaves out is passed over
-/// branch by branch.
+/// The nodes of both tries are walked side by side. No key is encoded, and what the operation
+/// leaves out is skipped branch by branch.
 ///
-/// A step may be refused, since it may allocate: memory for the rows of nodes beside the ways down. The same pairs are left
-/// then. A contract sees the walk as the list of the pairs that are left.
+/// A step may fail, since it may allocate: rows of the nodes beside the ways down. The same pairs
+/// are left then. A contract sees the walk as the list of the pairs that are left.
 #[derive(Drop)]
 pub struct Combination<'a, K, V> {
     /// The pair that the next step returns.
@@ -213,12 +213,12 @@ impl<'a, K, V> Model for Combination<'a, K, V> {
 impl<'a, K, V> Combination<'a, K, V> {
     /// The walk over two tries. The first pair is found here.
     ///
-    /// A whole walk takes at most the time of a walk over each of the two; by `Intersection`, at most that of the ways down to
-    /// the keys of the smaller one.
+    /// A whole walk takes at most the time of a walk over each of the two; by `Intersection`, at
+    /// most that of a lookup of each key of the smaller one.
     ///
     /// # Errors
     ///
-    /// Memory is refused, as in a step. None is allocated where neither trie has a pair.
+    /// `Memory`: an allocation fails, as in a step. Two tries without pairs need none.
     pub fn new(
         first: &'a Trie<K, V>,
         second: &'a Trie<K, V>,
@@ -241,13 +241,13 @@ impl<'a, K, V> Combination<'a, K, V> {
         Ok(Combination { found, search })
     }
 
-    /// The next pair, in the order of the encodings, or None where none is left, and then at each further call. The pair
-    /// behind it is looked for too.
+    /// The next pair, in the order of the encodings, or None where none is left, and then at each
+    /// further call. It finds the pair after that too.
     ///
     /// # Errors
     ///
-    /// Memory is refused, for rows of nodes that are put aside. Then the same pairs are left, and the next call goes on where
-    /// this one stopped. At the end no memory is allocated.
+    /// `Memory`: an allocation fails, for rows of nodes that are put aside. The same pairs are left
+    /// then, and the next call goes on where this one stopped. At the end nothing is allocated.
     pub fn next(&mut self) -> Result<Option<(&'a K, &'a V)>, Memory>
         ensures pair { IfOk result (λ pair. option_map deref_pair pair ≡ slice_get self.old 0) }
         ensures rest { OnOk result (self.new ≡ drop 1 self.old) }

@@ -12,11 +12,11 @@ use radix_nodes::trie_node::TrieNode;
 use std::alloc::Global;
 use std::marker::Model;
 
-/// A walk over keys and values that begins in the time of the way down: each pair once, in the order of the encodings, an
-/// encoding before its extensions.
+/// A walk over keys and values that begins in the time of a lookup: each pair once, in the order of
+/// the encodings, an encoding before its extensions.
 ///
-/// A step may be refused, since it may allocate: memory for at most a row of nodes for each level. The same pairs are left
-/// then. A contract sees a cursor as the list of the pairs that are left.
+/// A step may fail, since it may allocate: at most a row of nodes for each level. The same pairs
+/// are left then. A contract sees a cursor as the list of the pairs that are left.
 #[derive(Drop)]
 pub struct Cursor<'a, K, V> {
     /// What comes next.
@@ -82,8 +82,8 @@ impl<'a, K, V> Cursor<'a, K, V> {
     ///
     /// # Errors
     ///
-    /// Memory for the rows above a node's children is refused. Then the same pairs are left, and the next call tries again.
-    /// No step to the last pair fails, and none at the end.
+    /// `Memory`: an allocation fails, for the rows above a node's children. The same pairs are left
+    /// then, and the next call tries again. No step to the last pair fails, and none at the end.
     ///
     /// # Examples
     ///
@@ -122,7 +122,7 @@ impl<'a, K, V> Cursor<'a, K, V> {
     ///
     /// # Errors
     ///
-    /// Memory for a row for each level is refused. At most one pair needs none.
+    /// `Memory`: an allocation fails, for a row for each level. At most one pair needs none.
     pub fn reserved(self) -> Result<Iter<'a, K, V>, Memory>
         ensures walk { IfOk result (λ walk. walk ≡ self.entry) }
         ensures none { length self.entry ≤ 1 → IsOk result }

@@ -1,4 +1,4 @@
-//! The ends of a walk, without its memory: the first pair at and below a node, and the last.
+//! The ends of a walk, without an allocation: the first pair at and below a node, and the last.
 ghost use Rattle.std.specs.Prelude.{◌≡◌, ◌-◌, length, option_map, slice_get};
 ghost use Rattle.masked_tree.specs.Tree.{IsFullBelow};
 ghost use Rattle.radix_nodes.specs.Nodes.{tree_of};

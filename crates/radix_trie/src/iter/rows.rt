@@ -51,7 +51,7 @@ pub(super) fn enter<'a, K, V>(
     }
 }
 
-/// The nodes on the longest way down from a row. Memory: no `usize` can say it.
+/// The nodes on the longest way down from a row. `Memory` if they are more than `usize::MAX`.
 pub(super) fn row_height<K, V>(row: &[Box<TrieNode<K, V>>]) -> Result<usize, Memory>
     ensures count { IfOk result (λ h. h ≡ levels (children_of row.now)) }
     ensures low { levels (children_of row.now) ≤ 1 → IsOk result }

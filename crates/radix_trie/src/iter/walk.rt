@@ -1,4 +1,4 @@
-//! The ordered walk over keys and values that has its memory before it begins.
+//! The ordered walk over keys and values that allocates all it needs before it begins.
 ghost use Rattle.std.specs.Iterator.{YieldsFirstBy, item_count};
 ghost use Rattle.radix_trie.specs.Walks.{deref_pair};
 

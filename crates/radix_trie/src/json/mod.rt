@@ -39,8 +39,8 @@ fn walk(trie: &Trie<String, Value>) -> Result<Iter<'_, String, Value>, Memory>
 ///
 /// # Errors
 ///
-/// In the order in which they are decided: memory for the walk; a float somewhere in a value;
-/// memory for the object.
+/// Decided in this order. `Memory`: an allocation for the walk fails. `Float`: a float stands
+/// somewhere in a value. `Memory`: an allocation for the object fails.
 pub fn to_value(alloc: Global, trie: &Trie<String, Value>) -> Result<Value, JsonError>
     ensures object { IfOk result (λ value. view value ≡ object_of trie.now) }
     ensures members { IfOk result (λ value. (name : List ℕ) → get name (view value)
@@ -62,12 +62,12 @@ pub fn to_value(alloc: Global, trie: &Trie<String, Value>) -> Result<Value, Json
     Ok(Value::Object(members))
 }
 
-/// The trie of an object's entries. Null gives the empty trie. The value is only read.
+/// The trie of an object's members. Null gives the empty trie. The value is only read.
 ///
 /// # Errors
 ///
-/// In the order in which they are decided: the value's kind, where it is neither null nor an
-/// object; a float somewhere in it; memory. Null is never refused.
+/// Decided in this order. `Kind`: the value is neither null nor an object. `Float`: a float stands
+/// somewhere in it. `Memory`: an allocation fails. Of null the call never fails.
 pub fn from_value(alloc: Global, value: &Value) -> Result<Trie<String, Value>, JsonError>
     ensures object { IfOk result (λ trie. object_of trie ≡ read_as (view value.now)) }
     ensures members { IfOk result (λ trie. (name : List ℕ)
@@ -112,7 +112,7 @@ fn from_members(
     Ok(trie)
 }
 
-/// Stores a member in a trie that has room for it. The one refusal is that of memory.
+/// Stores a member in a trie that has room for it. It fails only if an allocation fails.
 fn store(trie: &mut Trie<String, Value>, key: String, member: Value) -> Result<(), JsonError>
     requires room { map.len trie.old < usize.MAX }
     ensures stored { OnOk result

@@ -9,7 +9,7 @@ use radix_nodes::search::compare::compare;
 use radix_nodes::search::queries::shortest;
 
 impl<'a, K: TrieKey, V> Place<'a, K, V> {
-    /// The place of the path and a list behind it. The search goes on from the node that was found.
+    /// The place of the path and a list behind it. The lookup goes on from the node that was found.
     pub(crate) fn below(&self, list: &Nibblet) -> Place<'a, K, V>
         requires { IsSomePlace K.encoding self.now }
         ensures { (m : PairMap K V) (p : List ℕ) → IsPlaceIn K.encoding m p self.now

@@ -14,14 +14,14 @@ use radix_nodes::whole::ascending::turned_copy;
 impl<T: KeySigned, V: Clone> Trie<T, V> {
     /// The trie of the same keys in ascending order: the wrapper of each key, with a clone of its
     /// value, and nothing else. The new trie has as many nodes and nibbles. The trie without pairs
-    /// is moved without memory.
+    /// needs no allocation.
     ///
     /// # Errors
     ///
-    /// Memory is refused, for the nodes or in a clone of a value. What was built is dropped, and
-    /// the trie itself stays as it is.
+    /// `Memory`: an allocation fails, for the nodes or in a clone of a value. What was built is
+    /// dropped, and the trie itself stays as it is.
     pub fn to_ascending(&self) -> Result<Trie<Ascending<T>, V>, Memory>
-        // Each list comes with its highest bit turned over, as the wrapper's encoding has it.
+        // Each list comes with its top bit flipped, as the wrapper's encoding has it.
         ensures moved { IfOk result (λ moved.
             IsTurnedCopy (IsPairClone (λ x y. y ≡ x) V.is_clone) self.now moved) }
         ensures keyed { IfOk result (λ moved.

@@ -57,7 +57,7 @@ impl<K: TrieKey + Drop, V: Drop> Trie<K, V> {
     ///
     /// # Errors
     ///
-    /// Those of `insert`, for one of the pairs: the error holds that very pair, those before it are
+    /// Those of `insert`, for one of the pairs: the error holds that pair, those before it are
     /// stored, and the iterator is dropped with those behind it.
     pub fn extend<I: Iterator<Item = (K, V)> + Drop>(
         &mut self,
@@ -82,14 +82,15 @@ impl<K: TrieKey + Drop, V: Drop> Trie<K, V> {
         Ok(())
     }
 
-    /// Moves all pairs of another trie here, in the order of their encodings: where both have a pair
-    /// at an encoding, that of the other trie stays, with its key. Where they don't overlap, `graft`
-    /// takes the time of one way down.
+    /// Moves all pairs of another trie here, in the order of their encodings: where both have a
+    /// pair at an encoding, that of the other trie stays, with its key. Where they don't overlap,
+    /// `graft` takes the time of one lookup.
     ///
     /// # Errors
     ///
-    /// Memory for the list of the other trie's pairs, before anything changes; and those of `insert`,
-    /// for one of these pairs. Those before it are stored then, and no pair is lost.
+    /// `Memory`: the allocation of the list of the other trie's pairs fails, before anything
+    /// changes. `Stopped`: the `insert` of one of these pairs fails. Those before it are stored
+    /// then, and no pair is lost.
     pub fn merge(&mut self, other: Trie<K, V>) -> Result<(), MergeError<K, V>>
         ensures merged { OnOk result
             (self.new ≡ with_pairs K.encoding self.old (pairs_below other [])) }
@@ -113,7 +114,7 @@ impl<K: TrieKey + Drop, V: Drop> Trie<K, V> {
     }
 }
 
-/// The refusal of a build by that of an insertion into a trie, where no key is outside.
+/// The error of a build by that of an insertion into a trie, where no key is outside.
 fn why_not_built<K: Drop, V: Drop>(error: InsertError<K, V>) -> BuildError
     requires { error.why ≢ InsertWhy.Outside }
     ensures { error.why ≡ why_of result }

@@ -7,7 +7,7 @@ use radix_keys::{Memory, TrieKey};
 use radix_nodes::whole::compact::lay_anew;
 
 impl<K: TrieKey + Drop, V: Drop> Trie<K, V> {
-    /// Lays the nodes anew in memory, in the order in which a walk comes to them. The map, the
+    /// Lays the nodes anew in memory, in the order in which a walk comes to them. The map and the
     /// counts stay the same, and so does what each call returns.
     ///
     /// A trie that was filled in any other order has its nodes scattered, so this is for a table
@@ -22,7 +22,7 @@ impl<K: TrieKey + Drop, V: Drop> Trie<K, V> {
     ///
     /// # Errors
     ///
-    /// Memory is refused. Nothing has been moved then.
+    /// `Memory`: an allocation fails. Nothing has been moved then.
     pub fn compact(&mut self) -> Result<(), Memory>
         ensures same { self.new ≡ self.old }
         ensures light { map.len self.old ≡ 0 → IsOk result }

@@ -1,4 +1,4 @@
-//! The look-ups that tell what they cost.
+//! The lookups that return what they cost.
 ghost use Rattle.std.specs.Prelude.{◌≡◌, ◌*◌, ◌≤◌, IfOk, IsOk, MatchOption, None, length, max, option_copied, option_map, suc};
 ghost use Rattle.std.specs.FinMap as map;
 ghost use Rattle.nibble_map.specs.MapQueries.{IsCompared, IsVisited};
@@ -15,17 +15,17 @@ use radix_nodes::search::find::{LookUpCost, Searched, find_counted};
 use radix_nodes::trie_node::TrieNode;
 
 impl<K: TrieKey, V> Trie<K, V> {
-    /// The value that is stored at the key's encoding, as `get` returns it, and what the look-up
+    /// The value that is stored at the key's encoding, as `get` returns it, and what the lookup
     /// costs: how many nodes it visits, and how many nibbles of the encoding it compares.
     ///
     /// The stored encodings alone tell both. The nodes stand at the points that are prefixes of the
     /// encoding, the root among them: at most one for each nibble, and the root; and at most two a
-    /// pair, or the root alone. Besides these a look-up reads one node at most, whose fragment the
+    /// pair, or the root alone. Besides these a lookup reads one node at most, whose fragment the
     /// encoding leaves, or ends in. No nibble is compared twice.
     ///
     /// # Errors
     ///
-    /// Memory for the encoding is refused, which a light key never meets.
+    /// `Memory`: the encoding's allocation fails; an inline key needs none.
     pub fn get_with_cost<Q: TrieKey>(&self, key: &Q) -> Result<(Option<&V>, LookUpCost), Memory>
         ensures value { IfOk result
             (λ r. option_copied r.0 ≡ value_at self.now (Q.encoding key.now)) }
@@ -43,11 +43,11 @@ impl<K: TrieKey, V> Trie<K, V> {
     }
 
     /// The value that is stored at the key's encoding, as `get` returns it, and how many nibbles of
-    /// the encoding the search compared with nibbles of fragments. No nibble is compared twice.
+    /// the encoding the lookup compared with nibbles of fragments. No nibble is compared twice.
     ///
     /// # Errors
     ///
-    /// Memory for the encoding is refused, which a light key never meets.
+    /// `Memory`: the encoding's allocation fails; an inline key needs none.
     pub fn get_counted<Q: TrieKey>(&self, key: &Q) -> Result<(Option<&V>, usize), Memory>
         ensures value { IfOk result
             (λ r. option_copied r.0 ≡ value_at self.now (Q.encoding key.now)) }
@@ -59,8 +59,8 @@ impl<K: TrieKey, V> Trie<K, V> {
         Ok((found, cost.nibbles))
     }
 
-    /// What `nearest` returns, and what that look-up costs: as much as that of the list itself, of
-    /// which `get_with_cost` tells. It allocates nothing.
+    /// What `nearest` returns, and what that lookup costs: as much as that of the list itself, as
+    /// `get_with_cost` returns it. It allocates nothing.
     pub fn nearest_with_cost(&self, list: &Nibblet) -> (Option<(&K, &V)>, LookUpCost)
         ensures pair { IsPairAbove self.now list.now (option_map deref_pair result.0) }
         ensures nodes { IsVisited self.now list.now result.1.nodes }

@@ -25,7 +25,7 @@ pub(crate) fn encoding_of<Q: TrieKey>(alloc: Global, key: &Q) -> Result<Nibblet,
     Ok(list)
 }
 
-/// The refusal that returns a pair.
+/// The error that returns a pair.
 pub(crate) fn refused<K, V>(why: InsertWhy, pair: KeyValue<K, V>) -> InsertError<K, V>
     ensures why { result.why ≡ why }
     ensures key { result.key ≡ pair.key }
@@ -41,10 +41,10 @@ impl<K: TrieKey + Drop, V: Drop> Trie<K, V> {
     ///
     /// # Errors
     ///
-    /// In the order in which they are decided: memory for the encoding; `Full`, where `usize::MAX`
-    /// pairs are stored and the encoding isn't among them; memory for the change, which a stored
-    /// encoding never needs. The trie is as before then, and the error holds the very key and
-    /// value.
+    /// Decided in this order. `Memory`: the encoding's allocation fails; an inline key needs none.
+    /// `Full`: `usize::MAX` pairs are stored, and the encoding isn't among them. `Memory`: an
+    /// allocation for the change fails; a stored encoding needs none. On failure the trie is as
+    /// before, and the error holds the key and value that were passed.
     ///
     /// # Examples
     ///
@@ -129,7 +129,7 @@ impl<K: TrieKey + Drop, V: Drop> Trie<K, V> {
     }
 
     /// Changes the value at the key's encoding by one call of the closure, or stores the default
-    /// where there is none.
+    /// where there is none. A stored encoding takes one lookup, and a new one two.
     ///
     /// Where a value is stored, its key stays, and the key and the default that were passed are
     /// dropped. Where none is, the closure isn't called. The closure has to be callable on a stored
@@ -138,7 +138,7 @@ impl<K: TrieKey + Drop, V: Drop> Trie<K, V> {
     /// # Errors
     ///
     /// Those of `insert`, in its order. They come before the closure's call: the trie is as before
-    /// then, and the error holds the very key and default.
+    /// then, and the error holds the key and default that were passed.
     pub fn map_with_default<F: Fn(&mut V)>(
         &mut self,
         key: K,

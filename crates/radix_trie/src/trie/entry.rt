@@ -18,13 +18,13 @@ pub use error::EntryError;
 use radix_keys::{Memory, Nibblet, TrieKey};
 use radix_nodes::trie_node::KeyValue;
 
+// The parameter `P` lets a caller's proof follow the trie past the entry's end; it is always
+// `Nibblet`.
+// The list stands before the key: the proof of `get_mut` shares the second field beside the first.
 /// The place of a key in a trie: a pair is stored at the key's encoding, or none.
 ///
 /// `Trie::entry` encodes the key, once for all calls. An entry keeps no node, so each of its calls
 /// but `key` and `into_key` goes down the trie.
-// The parameter `P` lets a caller's proof follow the trie past the entry's end; it is always
-// `Nibblet`.
-// The list stands before the key: the proof of `get_mut` shares the second field beside the first.
 pub struct Entry<'a, K: TrieKey, V, P: PathList = Nibblet> {
     trie: &'a mut Trie<K, V>,
     list: P,
@@ -49,13 +49,13 @@ impl<K: TrieKey, V> Trie<K, V> {
     ghost use Rattle.std.specs.Borrow.{sem};
     ghost use Rattle.radix_trie.specs.Entries.{entry_key, entry_lender, entry_map, entry_rests_if_err};
 
-    /// The key's place, to look a pair up there, and to store, change or remove it, with one
+    /// The key's place, to look up a pair there, and to store, change or remove it, with one
     /// encoding of the key. It goes down to no node.
     ///
     /// # Errors
     ///
-    /// Memory for the encoding is refused, which a light key never meets. The trie is as before
-    /// then, and the error holds the very key.
+    /// The encoding's allocation fails; an inline key needs none. On failure the trie is as before,
+    /// and the error holds the key that was passed.
     ///
     /// # Examples
     ///
@@ -111,8 +111,7 @@ impl<'a, K: TrieKey, V, P: PathList> Entry<'a, K, V, P> {
         &self.key
     }
 
-    /// The very key that was passed to `Trie::entry`. The entry is spent, and the trie stays as it
-    /// is.
+    /// The key that was passed to `Trie::entry`. The entry is spent, and the trie stays as it is.
     pub fn into_key(self) -> K
         ensures key { result ≡ entry_key self.entry }
         ensures unchanged { self.exit.0.now ≡ entry_map self.entry }
@@ -164,7 +163,7 @@ impl<'a, K: TrieKey + Drop, V: Drop, P: PathList> Entry<'a, K, V, P> {
     /// Calls the closure once on the value that is stored at the key's encoding, where there is
     /// one.
     ///
-    /// The closure has to be callable on a stored value alone. It takes one way down.
+    /// The closure has to be callable on a stored value alone. It takes one lookup.
     pub fn and_modify<F: FnOnce(&mut V)>(self, f: F) -> Self
         requires callable { ForSome (value_at (entry_map self) (entry_list self))
             (FnOnceTakesAtMut F.FnOnce f) }
@@ -184,13 +183,13 @@ impl<'a, K: TrieKey + Drop, V: Drop, P: PathList> Entry<'a, K, V, P> {
     /// Stores the pair of the entry's key and a value, and returns the value that was stored there.
     /// A stored key is replaced by the entry's too. The entry is spent.
     ///
-    /// It takes one way down.
+    /// It takes one lookup.
     ///
     /// # Errors
     ///
-    /// In the order in which they are decided: `Full`, where `usize::MAX` pairs are stored and the
-    /// key's encoding isn't among them; memory for the change. Where a pair is stored there,
-    /// neither comes. The trie is as before then, and the error holds the very key and value.
+    /// Decided in this order. `Full`: `usize::MAX` pairs are stored, and the key's encoding isn't
+    /// among them. `Memory`: an allocation for the change fails. Where a pair is stored there, the
+    /// call never fails. On failure the trie is as before, and the error holds the key and value.
     pub fn insert(self, value: V) -> Result<Option<V>, InsertError<K, V>>
         ensures old_value { IfOk result
             (λ old. old ≡ value_at (entry_map self.entry) (entry_list self.entry)) }
@@ -219,12 +218,12 @@ impl<'a, K: TrieKey + Drop, V: Drop, P: PathList> Entry<'a, K, V, P> {
     /// first if nothing is. The entry is spent.
     ///
     /// If a pair is stored there, its key stays, and the entry's key and the default are dropped. A
-    /// caller learns from this call what the trie ends as. A stored encoding takes two ways down,
-    /// and a new one three.
+    /// caller's proof learns from this call what the trie ends as. A stored encoding takes two
+    /// lookups, and a new one three.
     ///
     /// # Errors
     ///
-    /// Those of `insert`, in its order. The trie is as before then, and the error holds the very
+    /// Those of `insert`, in its order. On failure the trie is as before, and the error holds the
     /// key and default.
     pub fn or_insert(self, default: V) -> Result<&'a mut V, InsertError<K, V>>
         ensures* writes_back { sem 𝓛
@@ -254,13 +253,13 @@ impl<'a, K: TrieKey + Drop, V: Drop, P: PathList> Entry<'a, K, V, P> {
     ///
     /// The closure is called once, where nothing is stored there, and else not at all: it has to be
     /// callable in that case alone. If a pair is stored there, its key stays, and the entry's key
-    /// and the closure are dropped. A caller learns from this call what the trie ends as. A stored
-    /// encoding takes two ways down, and a new one three.
+    /// and the closure are dropped. A caller's proof learns from this call what the trie ends as. A
+    /// stored encoding takes two lookups, and a new one three.
     ///
     /// # Errors
     ///
-    /// Those of `insert`, in its order, after the closure's call. The trie is as before then, and
-    /// the error holds the very key and the value that was made.
+    /// Those of `insert`, in its order, after the closure's call. On failure the trie is as before,
+    /// and the error holds the key and the value that was made.
     pub fn or_insert_with<F: FnOnce() -> V>(
         self,
         default: F,
@@ -293,12 +292,12 @@ impl<'a, K: TrieKey + Drop, V: Drop, P: PathList> Entry<'a, K, V, P> {
     /// Removes the pair at the key's encoding, and returns the stored key and its value. Where none
     /// is stored there, nothing changes. The entry is spent, and its key is dropped.
     ///
-    /// It takes one way down.
+    /// It takes one lookup.
     ///
     /// # Errors
     ///
-    /// Memory is refused, for joining two fragments, as `Trie::remove` has it. The trie is as
-    /// before then.
+    /// `Memory`: an allocation fails, for joining two fragments, as `Trie::remove` says. On failure
+    /// the trie is as before.
     pub fn remove(self) -> Result<Option<(K, V)>, Memory>
         ensures old_pair { IfOk result
             (λ old. old ≡ map.get (entry_map self.entry) (entry_list self.entry)) }

@@ -33,14 +33,14 @@ impl<K: TrieKey + Drop, V: Drop> Trie<K, V> {
     /// all their encodings begin with. What `split_off_prefix` cut off goes back so.
     ///
     /// All pairs come, or none does. No pair is moved: the node is grafted with all that is below
-    /// it, in the time of one way down. Where the tries overlap, `merge` moves pair by pair.
+    /// it, in the time of one lookup. Where the tries overlap, `merge` moves pair by pair.
     ///
     /// # Errors
     ///
-    /// In the order in which they are decided: `Full`, where the pairs of both are more than
-    /// `usize::MAX`; `Overlapping`, where a point stands at or below that list; memory for the
-    /// change. The trie is as before then, and the error holds the very trie that was passed. A
-    /// trie without pairs takes all, and one is taken by all.
+    /// Decided in this order. `Full`: the pairs of both are more than `usize::MAX`. `Overlapping`:
+    /// a point stands at or below that list. `Memory`: an allocation for the change fails. On
+    /// failure the trie is as before, and the error holds the trie that was passed. Where either
+    /// has no pair, the call never fails.
     ///
     /// # Examples
     ///

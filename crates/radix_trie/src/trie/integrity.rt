@@ -10,7 +10,7 @@ impl<K: TrieKey, V> Trie<K, V> {
     ///
     /// # Errors
     ///
-    /// Memory is refused, for the paths and the keys' encodings.
+    /// `Memory`: an allocation fails, for the paths and the keys' encodings.
     pub fn check_integrity(&self) -> Result<bool, Memory>
         ensures sound { IfOk result (λ sound. sound ≡ true) }
     {

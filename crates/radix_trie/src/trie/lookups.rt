@@ -1,4 +1,4 @@
-//! Look-ups by a list of nibbles in hand. They allocate nothing, and none is refused.
+//! Lookups of a list of nibbles in hand. They allocate nothing, and never fail.
 ghost use Rattle.std.specs.Prelude.{◌≡◌, ◌↔◌, IsTrue, MatchOption, None, option_copied, option_map};
 ghost use Rattle.std.specs.FinMap as map;
 ghost use Rattle.nibble_map.specs.Maps.{IsStored, value_at};
@@ -67,7 +67,7 @@ impl<K: TrieKey, V> Trie<K, V> {
     }
 }
 
-/// The pair in the node that a search has found, if there is one.
+/// The pair in the node that a lookup has found, if there is one.
 pub(super) fn pair_in<'a, K, V>(
     nearest: Option<(&'a TrieNode<K, V>, usize)>,
 ) -> Option<&'a KeyValue<K, V>>

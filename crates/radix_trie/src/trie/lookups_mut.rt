@@ -23,13 +23,13 @@ impl<K: TrieKey, V> Trie<K, V> {
         self.at_mut(&top)
     }
 
-    /// The value at the key's encoding, for writing, or that it is absent. A caller's proof learns
-    /// from this call what the trie ends as.
+    /// The value at the key's encoding, for writing. A caller's proof learns from this call what
+    /// the trie ends as.
     ///
     /// # Errors
     ///
-    /// `Absent`, exactly where no value is stored there; and memory for the encoding, which a light
-    /// key never meets. The trie is as before then.
+    /// `Absent`: no value is stored there. `Memory`: the encoding's allocation fails; an inline key
+    /// needs none. On failure the trie is as before.
     pub fn find_mut<Q: TrieKey>(&mut self, key: &Q) -> Result<&mut V, FindError>
         ensures* writes_back { sem 𝓛
             (lends_if_ok K.row V.row K.TrieKey.own K.PartialEq.own self.entry
@@ -50,13 +50,13 @@ impl<K: TrieKey, V> Trie<K, V> {
         }
     }
 
-    /// The value at the longest stored list that is a prefix of the key's encoding, for writing, or
-    /// that there is none. A caller learns from this call what the trie ends as.
+    /// The value at the longest stored list that is a prefix of the key's encoding, for writing. A
+    /// caller's proof learns from this call what the trie ends as.
     ///
     /// # Errors
     ///
-    /// `Absent`, exactly where there is no such list; and memory for the encoding, which a light key
-    /// never meets. The trie is as before then.
+    /// `Absent`: there is no such list. `Memory`: the encoding's allocation fails; an inline key
+    /// needs none. On failure the trie is as before.
     pub fn find_ancestor_mut<Q: TrieKey>(&mut self, key: &Q) -> Result<&mut V, FindError>
         ensures* writes_back { sem 𝓛
             (lends_above K.row V.row K.TrieKey.own K.PartialEq.own self.entry
@@ -98,8 +98,8 @@ impl<K: TrieKey, V> Trie<K, V> {
     ///
     /// # Errors
     ///
-    /// Memory for the encoding is refused, which a light key never meets. The trie is as before
-    /// then.
+    /// `Memory`: the encoding's allocation fails; an inline key needs none. On failure the trie is
+    /// as before.
     pub fn get_mut<Q: TrieKey>(&mut self, key: &Q) -> Result<Option<&mut V>, Memory>
         ensures* writes_back { sem 𝓛
             (lends_found K.row V.row K.TrieKey.own K.PartialEq.own self.entry

@@ -45,7 +45,8 @@ mod split;
 mod vacant;
 mod values;
 
-/// A map from keys to values, told apart by the keys' encodings.
+/// A map from keys to values. Keys are told apart by their encodings, and one is *inline* if it is
+/// encoded without an allocation (`is_light`): of the key types here each of at most 32 nibbles.
 ///
 /// A contract sees it as the finite map from each stored encoding, a list of nibbles, to the pair
 /// of the key and the value that are stored there.
@@ -129,7 +130,7 @@ impl<K: TrieKey, V> Trie<K, V> {
     ///
     /// # Errors
     ///
-    /// Memory for the encoding is refused, which a light key never meets.
+    /// `Memory`: the encoding's allocation fails; an inline key needs none.
     ///
     /// # Examples
     ///
@@ -155,7 +156,7 @@ impl<K: TrieKey, V> Trie<K, V> {
     ///
     /// # Errors
     ///
-    /// Memory for the encoding is refused, which a light key never meets.
+    /// `Memory`: the encoding's allocation fails; an inline key needs none.
     pub fn get_key_value<Q: TrieKey>(&self, key: &Q) -> Result<Option<(&K, &V)>, Memory>
         ensures pair { IfOk result (λ found. option_map deref_pair found
             ≡ map.get self.now (Q.encoding key.now)) }
@@ -170,7 +171,7 @@ impl<K: TrieKey, V> Trie<K, V> {
     ///
     /// # Errors
     ///
-    /// Memory for the encoding is refused, which a light key never meets.
+    /// `Memory`: the encoding's allocation fails; an inline key needs none.
     pub fn contains_key<Q: TrieKey>(&self, key: &Q) -> Result<bool, Memory>
         ensures stored { IfOk result
             (λ found. IsTrue found ↔ IsStored self.now (Q.encoding key.now)) }
@@ -225,14 +226,14 @@ impl<K: TrieKey, V> Trie<K, V> {
 
 impl<K: TrieKey + Clone, V: Clone> Trie<K, V> {
     /// A trie with the same encodings, each with a clone of its key and of its value. The trie
-    /// without pairs is copied without memory.
+    /// without pairs is copied without an allocation.
     ///
     /// Clones of keys have to keep their encodings.
     ///
     /// # Errors
     ///
-    /// Memory is refused, for the nodes or in a clone of a key or a value. What was copied is
-    /// dropped, and the trie itself stays as it is.
+    /// `Memory`: an allocation fails, for the nodes or in a clone of a key or a value. What was
+    /// copied is dropped, and the trie itself stays as it is.
     pub fn clone(&self) -> Result<Trie<K, V>, Memory>
         requires same_encoding { (key copy : K) → K.is_clone key copy → K.encoding copy
             ≡ K.encoding key }

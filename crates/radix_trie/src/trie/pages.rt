@@ -20,7 +20,7 @@ impl<K: TrieKey, V> Trie<K, V> {
     ///
     /// # Errors
     ///
-    /// Memory is refused, for the encoding or the list of pairs.
+    /// `Memory`: an allocation fails, for the encoding or the list of pairs.
     ///
     /// # Examples
     ///
@@ -41,15 +41,17 @@ impl<K: TrieKey, V> Trie<K, V> {
         self.page_below(&list, most)
     }
 
-    /// The first pairs at and below the key's place whose encodings come strictly after that of `last`, in the order of their
-    /// encodings: `most` of them, or all where there are fewer. So the page after one whose last key is `last`. The time is
-    /// that of the way down and of the page, and doesn't grow with how many pairs stand there or come before.
+    /// The first pairs at and below the key's place whose encodings come strictly after that of
+    /// `last`, in the order of their encodings: `most` of them, or all where there are fewer. So
+    /// the page after one whose last key is `last`. The time is that of a lookup and of the page,
+    /// and doesn't grow with how many pairs stand there or come before.
     ///
     /// The keys needn't be stored, nor be points, and `last` needn't lie below the key's place.
     ///
     /// # Errors
     ///
-    /// Memory is refused, for an encoding, for a row of nodes on the way or for the list of pairs.
+    /// `Memory`: an allocation fails, for an encoding, for a row of nodes on the way or for the
+    /// list of pairs.
     pub fn first_after<Q: TrieKey, R: TrieKey>(
         &self,
         key: &Q,

@@ -18,9 +18,9 @@ impl<K: TrieKey + Drop, V: Drop> Trie<K, V> {
     ///
     /// # Errors
     ///
-    /// Memory is refused for joining two fragments: that of a node which is left with no pair and
-    /// one child, and that of this child, where they have more than 32 nibbles together. The trie
-    /// is as before then.
+    /// `Memory`: an allocation fails, for joining two fragments: that of a node which is left with
+    /// no pair and one child, and that of this child, where they have more than 32 nibbles
+    /// together. On failure the trie is as before.
     pub fn pop_first(&mut self) -> Result<Option<(K, V)>, Memory>
         ensures first { IfOk result (λ first. first ≡ slice_get (pairs_below self.old []) 0) }
         ensures removed { IfOk result (λ first. MatchOption first (self.new ≡ self.old)
@@ -38,7 +38,7 @@ impl<K: TrieKey + Drop, V: Drop> Trie<K, V> {
     ///
     /// # Errors
     ///
-    /// Those of `pop_first`. The trie is as before then.
+    /// Those of `pop_first`. On failure the trie is as before.
     pub fn pop_last(&mut self) -> Result<Option<(K, V)>, Memory>
         ensures last { IfOk result (λ last. last ≡ slice_get (pairs_below self.old [])
             (length (pairs_below self.old []) - 1)) }

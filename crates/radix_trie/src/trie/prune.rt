@@ -14,12 +14,12 @@ impl<K: TrieKey + Drop, V: Drop> Trie<K, V> {
     /// encodings.
     ///
     /// The key needn't be stored, nor be a point. Where nothing stands there nothing changes, and
-    /// the list is empty.
+    /// the list is empty. The time is that of a lookup and of two walks over these pairs.
     ///
     /// # Errors
     ///
-    /// Memory is refused, for the encoding, the list of pairs, or for joining two fragments. The
-    /// trie is as before then.
+    /// `Memory`: an allocation fails, for the encoding, the list of pairs, or for joining two
+    /// fragments. On failure the trie is as before.
     ///
     /// # Examples
     ///
@@ -68,7 +68,7 @@ impl<K: TrieKey + Drop, V: Drop> Trie<K, V> {
     ///
     /// # Errors
     ///
-    /// Memory for their list is refused. The trie comes back as it was.
+    /// The trie itself, as it was: the allocation of the list fails.
     pub fn into_pairs(self) -> Result<Vec<(K, V)>, Trie<K, V>>
         ensures pairs { IfOk result (λ pairs. pairs.items ≡ pairs_below self []) }
         ensures handed_back { IfErr result (λ trie. trie ≡ self) }

@@ -15,7 +15,7 @@ impl<K: TrieKey, V> Trie<K, V> {
     ///
     /// # Errors
     ///
-    /// Memory for the encoding is refused, which a light key never meets.
+    /// `Memory`: the encoding's allocation fails; an inline key needs none.
     ///
     /// # Examples
     ///
@@ -43,7 +43,7 @@ impl<K: TrieKey, V> Trie<K, V> {
     ///
     /// # Errors
     ///
-    /// Memory for the encoding is refused, which a light key never meets.
+    /// `Memory`: the encoding's allocation fails; an inline key needs none.
     pub fn count_below<Q: TrieKey>(&self, key: &Q) -> Result<usize, Memory>
         ensures count { IfOk result
             (λ count. count ≡ map.len (below self.now (Q.encoding key.now))) }
@@ -54,11 +54,12 @@ impl<K: TrieKey, V> Trie<K, V> {
     }
 
     /// The walk over all pairs whose encodings are prefixes of the key's encoding, from the
-    /// shortest to the longest. Its `next` allocates nothing.
+    /// shortest to the longest. Its `next` allocates nothing, and the whole walk takes the time of
+    /// one lookup.
     ///
     /// # Errors
     ///
-    /// Memory for the encoding is refused, which a light key never meets.
+    /// `Memory`: the encoding's allocation fails; an inline key needs none.
     ///
     /// # Examples
     ///

@@ -15,9 +15,9 @@ impl<K: TrieKey + Drop, V: Drop> Trie<K, V> {
     ///
     /// # Errors
     ///
-    /// Memory is refused, for the encoding or for joining two fragments: that of a node which is
-    /// left with no pair and one child, and that of this child, where they have more than 32
-    /// nibbles together. The trie is as before then.
+    /// `Memory`: an allocation fails, for the encoding or for joining two fragments: that of a node
+    /// which is left with no pair and one child, and that of this child, where they have more than
+    /// 32 nibbles together. On failure the trie is as before.
     ///
     /// # Examples
     ///
@@ -26,7 +26,7 @@ impl<K: TrieKey + Drop, V: Drop> Trie<K, V> {
     /// Ok(trie.get(key)?.copied())
     /// ```
     ///
-    /// `taken_away` in `crates/trie_examples/src/cited.rt` looks a key up that was removed.
+    /// `taken_away` in `crates/trie_examples/src/cited.rt` looks up a key that was removed.
     pub fn remove<Q: TrieKey>(&mut self, key: &Q) -> Result<Option<V>, Memory>
         ensures old_value { IfOk result (λ old. old ≡ value_at self.old (Q.encoding key.now)) }
         ensures removed { OnOk result (self.new ≡ map.remove self.old (Q.encoding key.now)) }
@@ -49,7 +49,7 @@ impl<K: TrieKey + Drop, V: Drop> Trie<K, V> {
     ///
     /// # Errors
     ///
-    /// Those of `remove`. The trie is as before then.
+    /// Those of `remove`. On failure the trie is as before.
     pub fn remove_entry<Q: TrieKey>(&mut self, key: &Q) -> Result<Option<(K, V)>, Memory>
         ensures old_pair { IfOk result (λ old. old ≡ map.get self.old (Q.encoding key.now)) }
         ensures removed { OnOk result (self.new ≡ map.remove self.old (Q.encoding key.now)) }

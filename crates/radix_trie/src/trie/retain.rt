@@ -15,7 +15,7 @@ impl<K: TrieKey + Drop, V: Drop> Trie<K, V> {
     /// Keeps the pairs of which the closure returns true, and removes all others. It is called once
     /// for each pair, in the order of the encodings, before the first one is removed.
     ///
-    /// The closure has to be callable on each pair. The time is that of the walk, and of the way down
+    /// The closure has to be callable on each pair. The time is that of the walk, and of a lookup
     /// for each pair that is removed.
     ///
     /// # Errors
@@ -40,14 +40,13 @@ impl<K: TrieKey + Drop, V: Drop> Trie<K, V> {
     /// encodings, before the first one is removed.
     ///
     /// The closure has to be callable on each of these pairs. The key needn't be stored, nor be a
-    /// point. The time is that of the walk below it, and of the way down for each pair that is
-    /// removed.
+    /// point. The time is that of the walk below it, and of a lookup for each pair that is removed.
     ///
     /// # Errors
     ///
-    /// Memory is refused, for an encoding, the walk, the list of encodings, or for joining two
-    /// fragments, as in `remove`. Where it is refused for a join, the pairs before it that weren't
-    /// kept are gone, and no other; else nothing has changed.
+    /// `Memory`: an allocation fails, for an encoding, the walk, the list of encodings, or for
+    /// joining two fragments, as in `remove`. If it fails for a join, the pairs before it that
+    /// weren't kept are gone, and no other; else nothing has changed.
     pub fn retain_below<Q: TrieKey, F: Fn(&K, &V) -> bool>(
         &mut self,
         key: &Q,

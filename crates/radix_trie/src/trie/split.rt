@@ -21,8 +21,8 @@ impl<K: TrieKey + Drop, V: Drop> Trie<K, V> {
     ///
     /// # Errors
     ///
-    /// Memory is refused, for the encoding, for joining two fragments where it was cut, or for the
-    /// new trie's node above it. The trie is as before then.
+    /// `Memory`: an allocation fails, for the encoding, for joining two fragments where it was cut,
+    /// or for the new trie's node above it. On failure the trie is as before.
     ///
     /// # Examples
     ///

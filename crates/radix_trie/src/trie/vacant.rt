@@ -15,7 +15,7 @@ use crate::trie::edit::{encoding_of, refused};
 use radix_keys::{Nibblet, TrieKey};
 use radix_nodes::trie_node::KeyValue;
 
-/// The refusal that returns a pair.
+/// The error that returns a pair.
 fn not_stored<K, V>(why: TryInsertWhy, pair: KeyValue<K, V>) -> TryInsertError<K, V>
     ensures why { result.why ≡ why }
     ensures key { result.key ≡ pair.key }
@@ -25,7 +25,7 @@ fn not_stored<K, V>(why: TryInsertWhy, pair: KeyValue<K, V>) -> TryInsertError<K
     TryInsertError { why, key, value }
 }
 
-/// The refusal of a pair that replaces nothing by that of an insertion into a trie, where no key is
+/// The error of a pair that replaces nothing by that of an insertion into a trie, where no key is
 /// outside.
 fn of_insertion<K, V>(error: InsertError<K, V>) -> TryInsertError<K, V>
     requires { error.why ≢ InsertWhy.Outside }
@@ -45,13 +45,14 @@ fn of_insertion<K, V>(error: InsertError<K, V>) -> TryInsertError<K, V>
 impl<K: TrieKey + Drop, V: Drop> Trie<K, V> {
     /// Stores the pair at the key's encoding, where nothing is stored there.
     ///
-    /// A new pair takes two ways down: one to see that nothing is stored, and one to store it.
+    /// A new pair takes two lookups: one to see that nothing is stored, and one to store it.
     ///
     /// # Errors
     ///
-    /// In the order in which they are decided: memory for the encoding; `Occupied`, where a pair is
-    /// stored there; `Full`, where `usize::MAX` pairs are stored; memory for the change. The trie is
-    /// as before then, and the error holds the very key and value.
+    /// Decided in this order. `Memory`: the encoding's allocation fails; an inline key needs none.
+    /// `Occupied`: a pair is stored there. `Full`: `usize::MAX` pairs are stored. `Memory`: an
+    /// allocation for the change fails. On failure the trie is as before, and the error holds the
+    /// key and value that were passed.
     pub fn try_insert(&mut self, key: K, value: V) -> Result<(), TryInsertError<K, V>>
         ensures stored { OnOk result
             (self.new ≡ map.insert self.old (K.encoding key) (key, value)) }
@@ -81,13 +82,13 @@ impl<K: TrieKey + Drop, V: Drop> Trie<K, V> {
     /// The value at the key's encoding, for writing, where the default is stored first if nothing is.
     /// If a pair is stored there, its key stays, and the key and the default are dropped.
     ///
-    /// A caller learns from this call what the trie ends as. A stored encoding takes two ways down,
-    /// and a new one three.
+    /// A caller's proof learns from this call what the trie ends as. A stored encoding takes two
+    /// lookups, and a new one three.
     ///
     /// # Errors
     ///
-    /// Those of `insert`, in its order. The trie is as before then, and the error holds the very key
-    /// and default.
+    /// Those of `insert`, in its order. On failure the trie is as before, and the error holds the
+    /// key and default.
     pub fn get_or_insert(&mut self, key: K, default: V) -> Result<&mut V, InsertError<K, V>>
         ensures* writes_back { sem 𝓛
             (lends_or_stored K.row V.row K.TrieKey.own K.PartialEq.own self.entry

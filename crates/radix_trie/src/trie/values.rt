@@ -24,16 +24,16 @@ impl<K: TrieKey, V> Trie<K, V> {
     }
 
     /// Changes each value at and below the key's place by one call of the closure with the pair's
-    /// key. The encodings and the keys stay. The time is that of the way down and of the pairs below
-    /// it.
+    /// key. The encodings and the keys stay. The time is that of a lookup and of the pairs below
+    /// the key.
     ///
     /// The closure has to be callable on each of these pairs. The key needn't be stored, nor be a
     /// point.
     ///
     /// # Errors
     ///
-    /// Memory for the encoding is refused, which a light key never meets. The trie is as before
-    /// then.
+    /// `Memory`: the encoding's allocation fails; an inline key needs none. On failure the trie is
+    /// as before.
     pub fn for_each_mut_below<Q: TrieKey, F: Fn(&K, &mut V)>(
         &mut self,
         key: &Q,

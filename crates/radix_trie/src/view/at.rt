@@ -13,7 +13,8 @@ use crate::view::subtrie_mut::SubTrieMut;
 use radix_keys::{Nibblet, TrieKey};
 use std::alloc::Global;
 
-/// A trie and a path in it, whose place hands out what lasts for `'a`. Each type that is one has the calls of `TrieCommon`.
+/// A trie and a path in it, whose place returns what lasts for `'a`. Each type that is one has the
+/// calls of `TrieCommon`.
 pub(crate) trait At<'a, K: TrieKey + 'a, V: 'a>: Sized + Drop {
     /// The map of the whole trie.
     ghost map: { Self → PairMap K V };

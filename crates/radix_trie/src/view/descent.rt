@@ -14,7 +14,7 @@ use std::marker::Model;
 ///
 /// A few words in size, and it keeps no list: several may go on from one, as for a search with
 /// choices. A contract sees it as the map of what the trie holds behind the list: each stored
-/// encoding that the list begins, without the list.
+/// encoding that the list is a prefix of, without the list.
 #[derive(Drop)]
 pub struct Descent<'a, K: TrieKey, V> {
     place: Place<'a, K, V>,
@@ -36,7 +36,7 @@ impl<'a, K: TrieKey, V> Model for Descent<'a, K, V> {
 }
 
 impl<K: TrieKey, V> Trie<K, V> {
-    /// The descent that the empty list leads to. It allocates nothing.
+    /// The descent at the empty list. It allocates nothing.
     pub fn descent(&self) -> Descent<'_, K, V>
         ensures { result ≡ self.now }
     {
@@ -66,7 +66,7 @@ impl<'a, K: TrieKey, V> Descent<'a, K, V> {
         parts_of(self.place.pair())
     }
 
-    /// Whether the list begins no stored encoding. It takes constant time.
+    /// Whether the list is a prefix of no stored encoding. It takes constant time.
     pub fn is_empty(&self) -> bool
         ensures { IsTrue result ↔ (map.len self.now ≡ 0) }
     {

@@ -19,10 +19,11 @@ impl<'a, K: TrieKey + Drop, V: Drop> SubTrieMut<'a, K, V> {
     ///
     /// # Errors
     ///
-    /// In the order in which they are decided: memory for the encoding; `Outside`, where the view's
-    /// path isn't a prefix of the encoding; `Full`, where `usize::MAX` pairs are stored and the
-    /// encoding isn't among them; memory for the change, which a stored encoding never needs. The
-    /// trie is as before then, and the error holds the very key and value.
+    /// Decided in this order. `Memory`: the encoding's allocation fails; an inline key needs none.
+    /// `Outside`: the view's path isn't a prefix of the encoding. `Full`: `usize::MAX` pairs are
+    /// stored, and the encoding isn't among them. `Memory`: an allocation for the change fails; a
+    /// stored encoding needs none. On failure the trie is as before, and the error holds the key
+    /// and value that were passed.
     pub fn insert(&mut self, key: K, value: V) -> Result<Option<V>, InsertError<K, V>>
         ensures same_view { SameView self.old self.new }
         ensures inside { OnOk result (IsPrefix (path_of self.old) (K.encoding key)
@@ -54,8 +55,8 @@ impl<'a, K: TrieKey + Drop, V: Drop> SubTrieMut<'a, K, V> {
     ///
     /// # Errors
     ///
-    /// `Outside`, where the view's path isn't a prefix of the key's encoding; and those of
-    /// `Trie::remove_prefix`. The trie is as before then.
+    /// `Outside`: the view's path isn't a prefix of the key's encoding. Else those of
+    /// `Trie::remove_prefix`. On failure the trie is as before.
     pub fn remove_prefix<Q: TrieKey>(&mut self, key: &Q) -> Result<Vec<(K, V)>, SubTrieError>
         ensures same_view { SameView self.old self.new }
         ensures inside { OnOk result (IsPrefix (path_of self.old) (Q.encoding key.now)) }
@@ -77,8 +78,8 @@ impl<'a, K: TrieKey + Drop, V: Drop> SubTrieMut<'a, K, V> {
     ///
     /// # Errors
     ///
-    /// `Outside`, where the view's path isn't a prefix of the encoding; and memory, for the
-    /// encoding or for joining two fragments. The trie is as before then.
+    /// `Outside`: the view's path isn't a prefix of the encoding. `Memory`: an allocation fails,
+    /// for the encoding or for joining two fragments. On failure the trie is as before.
     pub fn remove<Q: TrieKey>(&mut self, key: &Q) -> SubTrieResult<V>
         ensures same_view { SameView self.old self.new }
         ensures inside { OnOk result (IsPrefix (path_of self.old) (Q.encoding key.now)) }

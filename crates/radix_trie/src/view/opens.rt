@@ -30,7 +30,7 @@ impl<K: TrieKey, V> Trie<K, V> {
 
     /// The key's encoding and the fragment of the point there, if one stands there.
     ///
-    /// The one refusal is that of memory for the two, which a light key never meets.
+    /// It fails only if an allocation for the two fails; an inline key needs none.
     fn place_of<Q: TrieKey>(&self, key: &Q) -> Result<Option<(Nibblet, Nibblet)>, Memory>
         ensures point { IfOk result
             (λ o. MatchOption o (IsPoint self.now (Q.encoding key.now) → ⊥)
@@ -53,8 +53,8 @@ impl<K: TrieKey, V> Trie<K, V> {
     ///
     /// # Errors
     ///
-    /// `Closed`, exactly where no point stands there; and memory for the path and the fragment that
-    /// the view keeps, which a light key never meets. The trie is as before then.
+    /// `Closed`: no point stands there. `Memory`: an allocation fails, for the path or the fragment
+    /// that the view keeps; an inline key needs none. On failure the trie is as before.
     ///
     /// # Examples
     ///
@@ -89,8 +89,8 @@ impl<K: TrieKey, V> Trie<K, V> {
     ///
     /// # Errors
     ///
-    /// Memory for the path and the fragment that the view keeps is refused, which a light key never
-    /// meets. The trie is as before then.
+    /// `Memory`: an allocation fails, for the path or the fragment that the view keeps; an inline
+    /// key needs none. On failure the trie is as before.
     pub fn subtrie_mut<Q: TrieKey>(
         &mut self,
         key: &Q,

@@ -21,7 +21,7 @@ impl<K: TrieKey, V> Trie<K, V> {
     ///
     /// # Errors
     ///
-    /// Memory for the path is refused, which a light key never meets.
+    /// `Memory`: the path's allocation fails; an inline key needs none.
     pub fn subtrie<Q: TrieKey>(&self, key: &Q) -> Result<Option<SubTrie<'_, K, V>>, Memory>
         ensures point { IfOk result
             (λ o. MatchOption o (IsPoint self.now (Q.encoding key.now) → ⊥)
@@ -42,7 +42,7 @@ impl<K: TrieKey, V> Trie<K, V> {
     ///
     /// # Errors
     ///
-    /// Memory for the encoding is refused, which a light key never meets. The view's path is the
+    /// `Memory`: the encoding's allocation fails; an inline key needs none. The view's path is the
     /// encoding cut short.
     ///
     /// # Examples
@@ -71,7 +71,7 @@ impl<K: TrieKey, V> Trie<K, V> {
     ///
     /// # Errors
     ///
-    /// Memory for the encoding is refused, which a light key never meets. The view's path is the
+    /// `Memory`: the encoding's allocation fails; an inline key needs none. The view's path is the
     /// encoding cut short.
     pub fn get_raw_ancestor<Q: TrieKey>(&self, key: &Q) -> Result<SubTrie<'_, K, V>, Memory>
         ensures nearest { IfOk result
@@ -106,8 +106,8 @@ impl<K: TrieKey, V> Trie<K, V> {
     ///
     /// # Errors
     ///
-    /// Memory for the encoding and the view's path is refused. That never comes where the key is
-    /// light and the result is None or its path has at most 32 nibbles.
+    /// `Memory`: an allocation fails, for the encoding or the view's path. An inline key needs none
+    /// where the result is None or its path has at most 32 nibbles.
     ///
     /// # Examples
     ///
@@ -118,7 +118,7 @@ impl<K: TrieKey, V> Trie<K, V> {
     /// }
     /// ```
     ///
-    /// `completions` in `crates/trie_examples/src/uses.rt` finds the words with a beginning.
+    /// `completions` in `crates/trie_examples/src/uses.rt` finds the words with a prefix.
     pub fn get_raw_descendant<Q: TrieKey>(
         &self,
         key: &Q,
@@ -144,7 +144,7 @@ impl<K: TrieKey, V> Trie<K, V> {
     ///
     /// # Errors
     ///
-    /// Memory for the paths is refused. That never comes where each of them has at most 32 nibbles.
+    /// `Memory`: an allocation fails, for the paths; those of up to 32 nibbles need none.
     pub fn children(&self) -> Result<Children<'_, K, V>, Memory>
         ensures children { IfOk result (λ children. AreChildren self.now [] (paths_of children)) }
         ensures same_map { IfOk result (λ children. Each (λ c. c.map ≡ self.now) children) }

@@ -75,8 +75,8 @@ impl<'a, K: TrieKey, V> SubTrie<'a, K, V> {
     ///
     /// # Errors
     ///
-    /// `Outside`, where the view's path isn't a prefix of the encoding; and memory for the
-    /// encoding, which a light key never meets.
+    /// `Outside`: the view's path isn't a prefix of the encoding. `Memory`: the encoding's
+    /// allocation fails; an inline key needs none.
     pub fn get<Q: TrieKey>(&self, key: &Q) -> SubTrieResult<&V>
         ensures value { IfOk result
             (λ found. option_copied found ≡ value_at self.now.map (Q.encoding key.now)) }
@@ -92,7 +92,7 @@ impl<'a, K: TrieKey, V> SubTrie<'a, K, V> {
         }
     }
 
-    /// The pair at a list that the path begins. The search goes on from the view's node.
+    /// The pair at a list that the path begins. The lookup goes on from the view's node.
     fn pair_at(&self, list: &Nibblet) -> Option<&'a KeyValue<K, V>>
         requires { IsPrefix self.now.path list.now }
         ensures { option_map (λ p. pair_of p.now) result ≡ map.get self.now.map list.now }
@@ -150,7 +150,7 @@ impl<'a, K: TrieKey, V> SubTrie<'a, K, V> {
     ///
     /// # Errors
     ///
-    /// Those of `get`, and memory for the list of pairs.
+    /// Those of `get`, and `Memory`: the allocation of the list of pairs fails.
     pub fn first_below<Q: TrieKey>(
         &self,
         key: &Q,
@@ -176,7 +176,7 @@ impl<'a, K: TrieKey, V> SubTrie<'a, K, V> {
     ///
     /// # Errors
     ///
-    /// Memory for the paths is refused. That never comes where each of them has at most 32 nibbles.
+    /// `Memory`: an allocation fails, for the paths; those of up to 32 nibbles need none.
     pub fn children(&self) -> Result<Children<'a, K, V>, Memory>
         ensures children { IfOk result
             (λ children. AreChildren self.now.map self.now.path (paths_of children)) }

@@ -53,14 +53,15 @@ pub trait TrieCommon<'a, K: TrieKey + 'a, V: 'a>: Sized {
     /// The walk over the pairs at and below the path, in the order of their encodings, a prefix
     /// before its extensions.
     ///
-    /// All memory that the walk needs is allocated here: its `next` allocates none. How much that is takes one pass over all
-    /// nodes at and below the path, before the first pair. Each step takes time up to the depth below the path, and the
-    /// whole walk the time of the nodes there. Of a few pairs `cursor` is the walk, or a page of `Trie::first_below`.
+    /// All memory that the walk needs is allocated here: its `next` allocates none. To know how
+    /// much that is, it goes over all nodes at and below the path once, before the first pair. Each
+    /// step takes time up to the depth below the path, and the whole walk the time of the nodes
+    /// there. For a few pairs there is `cursor`, or a page of `Trie::first_below`.
     ///
     /// # Errors
     ///
-    /// Memory for the walk is refused. It grows with the height below the path, and not with the
-    /// count of pairs, so none is allocated where no pair is strictly below the path.
+    /// `Memory`: the walk's allocation fails. Its size grows with the height below the path, and
+    /// not with the count of pairs, so none is made where no pair is strictly below the path.
     ///
     /// # Examples
     ///
@@ -104,9 +105,10 @@ pub trait TrieCommon<'a, K: TrieKey + 'a, V: 'a>: Sized {
 
     /// The walk over the pairs at and below the path, as that of `iter`, which allocates as it goes.
     ///
-    /// It begins in the time of the way down to the path, and allocates nothing then. Each step takes time up to the depth
-    /// below the path, and a whole walk as much as that of `iter`. Memory for at most a row of nodes for each level below
-    /// the path is allocated as the steps need it, so a step may be refused.
+    /// It begins in the time of the way down to the path, and allocates nothing then. Each step
+    /// takes time up to the depth below the path, and a whole walk as much as that of `iter`.
+    /// Memory for at most a row of nodes for each level below the path is allocated as the steps
+    /// need it, so a step may fail.
     ///
     /// # Examples
     ///
@@ -132,13 +134,14 @@ pub trait TrieCommon<'a, K: TrieKey + 'a, V: 'a>: Sized {
     /// of the encodings. The keys needn't be stored, nor lie below the path. Where the first comes after the last, no pair
     /// lies between.
     ///
-    /// A walk that was left at a key goes on by `(Excluded(&key), Unbounded)`. It begins in the time of the way down to
-    /// the two keys' encodings. Its steps take the time and the memory of those of `cursor`, and encode no key.
+    /// A walk that was left at a key goes on by `(Excluded(&key), Unbounded)`. It begins in the
+    /// time of a lookup of each of the two keys. Its steps take the time and the memory of those of
+    /// `cursor`, and encode no key.
     ///
     /// # Errors
     ///
-    /// Memory is refused, for a key's encoding or for the rows on the way down. That never comes where the keys are light
-    /// and no pair is within the range.
+    /// `Memory`: an allocation fails, for a key's encoding or for the rows on the way down. Inline
+    /// keys need none where no pair is within the range.
     ///
     /// # Examples
     ///
@@ -200,7 +203,7 @@ pub trait TrieCommon<'a, K: TrieKey + 'a, V: 'a>: Sized {
     ///
     /// # Errors
     ///
-    /// Memory for the fragment is refused. That never comes where it has at most 32 nibbles.
+    /// `Memory`: the fragment's allocation fails; up to 32 nibbles need none.
     fn prefix(self) -> Result<Nibblet, Memory>
         ensures fragment { IfOk result (λ f. is_prefix self f) }
         ensures short { ((f : List ℕ) → is_prefix self f → IsShort f) → IsOk result };

@@ -30,8 +30,8 @@ pub trait TrieEdit<K: TrieKey, V> {
     ///
     /// # Errors
     ///
-    /// `Outside`, where the path isn't a prefix of the encoding; and memory for the encoding, which a
-    /// light key never meets.
+    /// `Outside`: the path isn't a prefix of the encoding. `Memory`: the encoding's allocation
+    /// fails; an inline key needs none.
     fn get<Q: TrieKey>(&self, key: &Q) -> SubTrieResult<&V>
         ensures value { IfOk result
             (λ found. option_copied found ≡ value_at (map self.now) (Q.encoding key.now)) }

@@ -7,8 +7,7 @@ use crate::error::TrieError;
 use std::error::Error;
 use std::fmt;
 
-/// A refused `entry`: memory for the key's encoding was refused, and here is the very key that was
-/// passed.
+/// A failed `entry`: the allocation of the key's encoding failed. It holds the key that was passed.
 #[derive(Drop)]
 pub struct EntryError<K> {
     pub key: K,

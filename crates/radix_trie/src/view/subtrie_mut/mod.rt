@@ -34,11 +34,11 @@ fn value_behind<'s, 'a, K: TrieKey, V>(
     trie.at_mut(list)
 }
 
+// The parameter `P` lets a caller's proof follow the trie past the view's end; it is always `Nibblet`.
 /// A view for writing: a trie, and a path in it, at which a point stood when the view was made.
 ///
 /// Its calls are the trie's own, for the keys whose encodings the path is a prefix of. It stays usable where its path is no
 /// longer a point, as after the removal of its own pair.
-// The parameter `P` lets a caller's proof follow the trie past the view's end; it is always `Nibblet`.
 pub struct SubTrieMut<'a, K: TrieKey, V, P = Nibblet> {
     pub(crate) trie: &'a mut Trie<K, V>,
     pub(crate) path: P,
@@ -88,7 +88,7 @@ impl<'a, K: TrieKey, V> SubTrieMut<'a, K, V> {
     ///
     /// # Errors
     ///
-    /// Memory for the paths is refused. That never comes where each of them has at most 32 nibbles.
+    /// `Memory`: an allocation fails, for the paths; those of up to 32 nibbles need none.
     pub fn children(&self) -> Result<Children<'_, K, V>, Memory>
         ensures children { IfOk result
             (λ children. AreChildren (map_behind self.now) (path_of self.now)
@@ -134,8 +134,8 @@ impl<'a, K: TrieKey, V> SubTrieMut<'a, K, V> {
     ///
     /// # Errors
     ///
-    /// `Outside`, where the view's path isn't a prefix of the encoding; and memory for the
-    /// encoding, which a light key never meets.
+    /// `Outside`: the view's path isn't a prefix of the encoding. `Memory`: the encoding's
+    /// allocation fails; an inline key needs none.
     pub fn get<Q: TrieKey>(&self, key: &Q) -> SubTrieResult<&V>
         ensures value { IfOk result
             (λ found. option_copied found

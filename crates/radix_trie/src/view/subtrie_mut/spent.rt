@@ -63,8 +63,8 @@ impl<'a, K: TrieKey, V, P: PathList> SubTrieMut<'a, K, V, P> {
         (trie, path)
     }
 
-    /// The key that is stored at the path. The view is spent. As of each call here of the name of one of `TrieCommon`, a
-    /// caller goes on knowing what the trie is.
+    /// The key that is stored at the path. The view is spent. A caller's proof still knows the trie
+    /// then, as after each call here that has its name from `TrieCommon`.
     pub fn key(self) -> Option<&'a K>
         ensures* kept { sem 𝓛
             (stays_as K.row V.row K.TrieKey.own K.PartialEq.own (lender_of self.entry)

@@ -14,8 +14,8 @@ use radix_keys::TrieKey;
 use std::alloc::Global;
 
 impl<K: TrieKey + Drop, V: Drop> Trie<K, V> {
-    /// The trie of an iterator's pairs, inserted in order: of the pairs with one encoding the last
-    /// one stays, with its key.
+    /// The trie of an iterator's pairs, inserted in order, each in the time of an `insert`: of the
+    /// pairs with one encoding the last one stays, with its key.
     ///
     /// The iterator has to end.
     ///
@@ -50,8 +50,8 @@ impl<K: TrieKey + Drop, V: Drop> Trie<K, V> {
         }
     }
 
-    /// Inserts an iterator's pairs in order: of the pairs with one encoding the last one stays,
-    /// with its key.
+    /// Inserts an iterator's pairs in order, each in the time of an `insert`: of the pairs with one
+    /// encoding the last one stays, with its key.
     ///
     /// The iterator has to end.
     ///
@@ -82,9 +82,9 @@ impl<K: TrieKey + Drop, V: Drop> Trie<K, V> {
         Ok(())
     }
 
-    /// Moves all pairs of another trie here, in the order of their encodings: where both have a
-    /// pair at an encoding, that of the other trie stays, with its key. Where they don't overlap,
-    /// `graft` takes the time of one lookup.
+    /// Moves all pairs of another trie here, in the order of their encodings, each in the time of
+    /// an `insert`: where both have a pair at an encoding, that of the other trie stays, with its
+    /// key. Where they don't overlap, `graft` takes the time of one lookup.
     ///
     /// # Errors
     ///

@@ -98,7 +98,7 @@ impl<K: TrieKey, V> Trie<K, V> {
         Trie::new(alloc)
     }
 
-    /// The count of pairs.
+    /// The count of pairs, in constant time.
     pub fn len(&self) -> usize
         ensures { result ≡ map.len self.now }
     {
@@ -112,7 +112,8 @@ impl<K: TrieKey, V> Trie<K, V> {
         self.length == 0
     }
 
-    /// The count of nodes, the root among them, and the count of nibbles of all their fragments.
+    /// The count of nodes, the root among them, and the count of nibbles of all their fragments, in
+    /// constant time.
     ///
     /// Whatever the history, these are the count of the map's points, and the count of the distinct
     /// non-empty prefixes of the stored encodings. There are at most two nodes a pair, or the root alone.
@@ -225,8 +226,8 @@ impl<K: TrieKey, V> Trie<K, V> {
 }
 
 impl<K: TrieKey + Clone, V: Clone> Trie<K, V> {
-    /// A trie with the same encodings, each with a clone of its key and of its value. The trie
-    /// without pairs is copied without an allocation.
+    /// A trie with the same encodings, each with a clone of its key and of its value. It takes the
+    /// time of a walk and of the clones. The trie without pairs is copied without an allocation.
     ///
     /// Clones of keys have to keep their encodings.
     ///

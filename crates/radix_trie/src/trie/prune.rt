@@ -64,7 +64,7 @@ impl<K: TrieKey + Drop, V: Drop> Trie<K, V> {
         }
     }
 
-    /// All pairs, in the order of their encodings.
+    /// All pairs, in the order of their encodings. It takes the time of a walk.
     ///
     /// # Errors
     ///

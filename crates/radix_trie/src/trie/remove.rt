@@ -104,7 +104,7 @@ impl<K: TrieKey + Drop, V: Drop> Trie<K, V> {
         }
     }
 
-    /// Removes all pairs. It allocates nothing.
+    /// Removes all pairs, in the time of a walk. It allocates nothing.
     pub fn clear(&mut self)
         ensures empty { self.new ≡ map.empty }
     {

@@ -10,8 +10,8 @@ use radix_keys::{Memory, Nibblet, TrieKey};
 use radix_nodes::whole::values::{change_branch, change_values};
 
 impl<K: TrieKey, V> Trie<K, V> {
-    /// Changes each value by one call of the closure with the pair's key. The encodings and the keys
-    /// stay, and no memory is allocated.
+    /// Changes each value by one call of the closure with the pair's key, in the time of a walk.
+    /// The encodings and the keys stay, and no memory is allocated.
     ///
     /// The closure has to be callable on each pair.
     pub fn for_each_mut<F: Fn(&K, &mut V)>(&mut self, f: F)

@@ -20,8 +20,6 @@ SAME_NAMES = {
     "nibble_map Rows, trie_tool Numbers": "text",
     # One is the other, of pairs in place of nodes' keys and values.
     "radix_nodes Values, radix_trie Values": "LeavesAtPair",
-    # Two meanings, of which one has to get another name.
-    "nibble_map Trees, radix_keys Parts": "parts_of",
 }
 
 # The functions that do the work of calls with no wrong body of their own, and have one: where the crate is named, one

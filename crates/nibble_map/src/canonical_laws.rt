@@ -5,7 +5,7 @@ ghost use Rattle.nibble_map.specs.Canonical.{IsCanonical};
 ghost use Rattle.nibble_map.specs.Lists.{Counts, Each, Has, is_prefix};
 ghost use Rattle.nibble_map.specs.MapQueries.{IsFragment, IsRawAncestor, IsRawDescendant, IsCompared, IsVisited};
 ghost use Rattle.nibble_map.specs.Maps.{NibbleMap, IsStored, IsPoint, IsSomePrefix};
-ghost use Rattle.nibble_map.specs.Trees.{FragmentTree, nodes, paths, entries, fragment_nibbles, IsShaped, IsForestPlaced, IsFull, walked, parts_of};
+ghost use Rattle.nibble_map.specs.Trees.{FragmentTree, nodes, paths, entries, fragment_nibbles, IsShaped, IsForestPlaced, IsFull, walked, paths_and_fragments};
 ghost use Rattle.std.specs.FinMap as map;
 ghost use Rattle.std.specs.Prelude.{filter, length, List, max, None, Some, ◌*◌, ◌↔◌, ◌≡◌, ◌≤◌, ℕ};
 
@@ -56,8 +56,8 @@ pub fn stored_lists_shape_the_tree<P, Q>()
     ensures { (t : FragmentTree P) (m : NibbleMap P) (u : FragmentTree Q) (n : NibbleMap Q)
         → IsCanonical t m
         → IsCanonical u n
-        → ((e : List ℕ) → IsStored m e ↔ IsStored n e) → parts_of (nodes t)
-        ≡ parts_of (nodes u) }
+        → ((e : List ℕ) → IsStored m e ↔ IsStored n e) → paths_and_fragments (nodes t)
+        ≡ paths_and_fragments (nodes u) }
 {}
 
 /// An insertion and a removal lead from a canonical tree to one, and a removal right after an insertion leads back.

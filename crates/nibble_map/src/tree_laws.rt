@@ -5,7 +5,7 @@ ghost use Rattle.nibble_map.specs.Answers.{IsFragment, IsCompared};
 ghost use Rattle.nibble_map.specs.Canonical.{IsCanonicalAt, IsLocal};
 ghost use Rattle.nibble_map.specs.Lists.{Lists, Counts, Each, IsRising};
 ghost use Rattle.nibble_map.specs.Stored.{IsStored, stored, IsSetAt, IsCutAt};
-ghost use Rattle.nibble_map.specs.Trees.{FragmentTree, nodes, paths, entries, fragment_nibbles, IsShaped, IsForestPlaced, IsFull, Forest, walked, parts_of};
+ghost use Rattle.nibble_map.specs.Trees.{FragmentTree, nodes, paths, entries, fragment_nibbles, IsShaped, IsForestPlaced, IsFull, Forest, walked, paths_and_fragments};
 ghost use Rattle.std.specs.Prelude.{Option, ◌↔◌, ◌≤◌, ◌*◌, max, length, ℕ, List, ◌≡◌};
 
 /// The paths of a tree's nodes are the points of its entries.
@@ -91,5 +91,5 @@ pub fn equal_lists_give_equal_trees<V, W>()
     ensures { (t : FragmentTree V) (u : FragmentTree W) → IsShaped 0 t.children
         → IsShaped 0 u.children →
         ((e : List ℕ) → IsStored (entries (nodes t)) e ↔ IsStored (entries (nodes u)) e)
-        → parts_of (nodes t) ≡ parts_of (nodes u) }
+        → paths_and_fragments (nodes t) ≡ paths_and_fragments (nodes u) }
 {}

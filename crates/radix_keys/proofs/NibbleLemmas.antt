@@ -4,3 +4,5 @@ pub mod Packing
 pub mod Cutting
 pub mod Turning
 pub mod Comparing
+pub mod Slices
+pub mod Words

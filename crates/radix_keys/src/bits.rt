@@ -8,6 +8,7 @@ ghost use Rattle.radix_keys.specs.Bits.{bits_high_first, bits_of, first_bits};
 
 use crate::keys::TrieKey;
 use crate::nibbles::{Memory, Nibblet};
+use crate::slices::NibbleSlice;
 use std::alloc::{AllocError, Global};
 use std::fmt;
 use std::marker::Model;
@@ -150,6 +151,8 @@ impl TrieKey for Bits {
 
     ghost is_light = { IsShort };
 
+    ghost is_lent = { λ _. Unit {0} };
+
     ghost is_value = { λ _. Unit {0} };
 
     ghost distinct = { λ x y _ _ e. (bytes_eq-Decides x y).1 e };
@@ -159,6 +162,10 @@ impl TrieKey for Bits {
     /// The list of the bits.
     fn encode(&self, _alloc: Global) -> Result<Nibblet, Memory> {
         self.list.clone()
+    }
+
+    fn as_nibbles(&self) -> Option<NibbleSlice<'_>> {
+        Some(self.list.as_slice())
     }
 }
 

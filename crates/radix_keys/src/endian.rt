@@ -1,5 +1,5 @@
 //! Integers as keys: their bytes, and wrappers that fix the order of the bytes.
-ghost use Rattle.std.specs.Prelude.{◌≡◌, ℕ, ◌<◌, List, length, slice_index, true};
+ghost use Rattle.std.specs.Prelude.{◌≡◌, ℕ, ◌<◌, List, length, slice_index, true, flat_map, All, IfSome, OnSome};
 
 use std::marker::Model;
 
@@ -26,6 +26,14 @@ pub trait KeyInt: Copy + Eq {
         requires { i < WIDTH }
         ensures byte { result ≡ slice_index (bytes self.now) i }
         ensures value { is_value self.now };
+
+    /// The bytes of some integers, borrowed, where these are bytes themselves; else `None`.
+    fn as_bytes(items: &[Self]) -> Option<&[u8]>
+        ensures bytes { IfSome result (λ lent. lent.now ≡ flat_map bytes items.now) }
+        ensures values { OnSome result (All is_value items.now) }
+    {
+        None
+    }
 
     ghost width_positive: { 0 < WIDTH };
 

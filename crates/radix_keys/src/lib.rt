@@ -2,16 +2,20 @@
 #![tactic(auto)]
 
 pub mod bits;
+pub mod encoding;
 pub mod endian;
 pub mod keys;
 pub mod laws;
 pub mod networks;
 pub mod nibbles;
 pub mod parts;
+pub mod slices;
 
 pub use bits::Bits;
+pub use encoding::Encoding;
 pub use endian::{Ascending, BigEndian, KeyInt, LittleEndian};
 pub use keys::{FixedWidth, KeySigned, TrieKey};
 pub use networks::{Address, Ipv4Network, Ipv6Network, Network, NetworkParseError};
 pub use nibbles::{BytesError, Memory, NibbleIter, NibbleVec, Nibblet};
 pub use parts::{Parts, PartsError, PartsIter};
+pub use slices::NibbleSlice;

@@ -116,9 +116,10 @@ impl<A: Address> Network<A> {
         without_last(self.base.to_number(), rest) == without_last(address.to_number(), rest)
     }
 
-    /// The first address of the network.
+    /// The first address of the network: each of its bits behind the shared ones is 0.
     pub fn base(&self) -> A
-        ensures { result ≡ self.now.base }
+        ensures value { result ≡ self.now.base }
+        ensures first { IsBase A.BITS self.now.bits (A.number self.now.base) }
     {
         self.base
     }

@@ -4,8 +4,8 @@ ghost use Rattle.std.specs.Cmp.{partial_equiv_from_equiv};
 ghost use Rattle.std.specs.Cmp.Lexicographic.{pointwise, nat_list_eq_equiv};
 ghost use Rattle.nibble_map.specs.Nibbles.{nibbles, IsShort};
 ghost use Rattle.nibble_map.specs.Turned.{turned};
-ghost use Rattle.radix_keys.specs.Packing.{IsPadded, unpacked};
 
+use crate::slices::NibbleSlice;
 use smallvec::SmallVec;
 use std::alloc::{AllocError, AllocFailed, Global};
 use std::marker::Model;
@@ -19,7 +19,7 @@ mod text;
 
 pub use iter::NibbleIter;
 
-/// Memory was refused, or a count of nibbles would pass `usize::MAX`.
+/// An allocation failed, or a count of nibbles would exceed `usize::MAX`.
 #[derive(Clone, Copy, PartialEq, Eq, Debug)]
 pub struct Memory;
 
@@ -42,13 +42,14 @@ impl<T: Drop> From<AllocFailed<T>> for Memory {
 /// Why a key gives no bytes.
 #[derive(Clone, Copy, PartialEq, Eq, Debug)]
 pub enum BytesError {
-    /// Memory was refused, or a count of nibbles would pass `usize::MAX`.
+    /// An allocation failed, or a count of nibbles would exceed `usize::MAX`.
     Memory,
     /// The encoding has an odd count of nibbles.
     Odd,
 }
 
-/// A list of nibbles, numbers from 0 to 15. Up to 32 of them take no memory.
+/// A list of nibbles, numbers from 0 to 15. Up to 32 of them are stored inline, without an
+/// allocation.
 ///
 /// Each byte holds two nibbles, the first in its high half. Where the count is odd the low half
 /// of the last byte is unused, and zero.
@@ -108,7 +109,8 @@ impl NibbleVec {
     ///
     /// # Errors
     ///
-    /// Memory is refused, for more than 16 bytes. The vector is dropped, after a refusal too.
+    /// `Memory`: an allocation fails; up to 16 bytes need none. The vector is dropped, on failure
+    /// too.
     pub fn from_byte_vec(alloc: Global, bytes: Vec<u8>) -> Result<NibbleVec, Memory>
         ensures ok { IfOk result (λ v. v ≡ nibbles bytes.items) }
         ensures succeeds { IsShort (nibbles bytes.items) → IsOk result }
@@ -153,12 +155,11 @@ impl NibbleVec {
         if i % 2 == 0 { byte / 16 } else { byte % 16 }
     }
 
-    /// The bytes that hold the nibbles, and whether their count is odd. The low half of the last byte is zero then.
-    pub fn as_packed(&self) -> (&[u8], bool)
-        ensures nibbles { unpacked result.0.now result.1 ≡ self.now }
-        ensures padded { IsPadded result.0.now result.1 }
+    /// The list, borrowed.
+    pub fn as_slice(&self) -> NibbleSlice<'_>
+        ensures { result ≡ self.now }
     {
-        (self.bytes.as_slice(), self.is_odd)
+        NibbleSlice::from_packed(self.bytes.as_slice(), self.is_odd)
     }
 
     /// The nibbles at `i` and after it, as one byte.
@@ -208,7 +209,7 @@ impl NibbleVec {
     ///
     /// # Errors
     ///
-    /// Memory is refused, for more than 32 nibbles.
+    /// `Memory`: an allocation fails; up to 32 nibbles need none.
     pub fn clone(&self) -> Result<NibbleVec, Memory>
         ensures ok { IfOk result (λ v. v ≡ self.now) }
         ensures succeeds { IsShort self.now → IsOk result }
@@ -216,7 +217,7 @@ impl NibbleVec {
         Ok(Clone::clone(self)?)
     }
 
-    /// Turns the highest bit of the first nibble over. It takes no memory.
+    /// Flips the top bit of the first nibble. It allocates nothing.
     pub fn turn_over(&mut self)
         requires { 0 < length self.old }
         ensures { self.new ≡ turned self.old }
@@ -224,7 +225,7 @@ impl NibbleVec {
         self.bytes[0] ^= 0x80;
     }
 
-    /// The bytes of a list of whole bytes, or Odd.
+    /// The bytes of a list of whole bytes, or `Odd`.
     pub(crate) fn to_bytes(&self, alloc: Global) -> Result<Vec<u8>, BytesError>
         ensures ok { IfOk result (λ v. nibbles v.items ≡ self.now) }
         ensures odd { result ≡ Err BytesError.Odd → length self.now % 2 ≡ 1 }

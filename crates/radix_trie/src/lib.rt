@@ -36,9 +36,9 @@ pub use radix_keys::laws::{
     parts_keep_prefixes,
 };
 pub use radix_keys::{
-    Address, Ascending, BigEndian, Bits, BytesError, FixedWidth, Ipv4Network, Ipv6Network, KeyInt,
-    KeySigned, LittleEndian, Memory, Network, NetworkParseError, NibbleIter, NibbleVec, Nibblet,
-    Parts, PartsError, PartsIter, TrieKey,
+    Address, Ascending, BigEndian, Bits, BytesError, Encoding, FixedWidth, Ipv4Network,
+    Ipv6Network, KeyInt, KeySigned, LittleEndian, Memory, Network, NetworkParseError, NibbleIter,
+    NibbleSlice, NibbleVec, Nibblet, Parts, PartsError, PartsIter, TrieKey,
 };
 pub use radix_nodes::search::find::LookUpCost;
 pub use trie::{Entry, EntryError, Trie};

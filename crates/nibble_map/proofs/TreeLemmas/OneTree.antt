@@ -12,7 +12,7 @@ use Rattle.nibble_map.specs.MapQueries as map_queries
 use Rattle.nibble_map.specs.Maps.{NibbleMap, IsStored, IsPoint, IsSomePrefix}
 use Rattle.nibble_map.specs.Stored as stored
 use Rattle.nibble_map.specs.Stored.{IsSetAt, IsCutAt}
-use Rattle.nibble_map.specs.Trees.{Forest, bare, grow, FragmentTree, Node, nodes, paths, entries, fragment_nibbles, parts_of, walked, IsShaped, IsForestPlaced, IsFull}
+use Rattle.nibble_map.specs.Trees.{Forest, bare, grow, FragmentTree, Node, nodes, paths, entries, fragment_nibbles, paths_and_fragments, walked, IsShaped, IsForestPlaced, IsFull}
 use Rattle.nibble_map.proofs.TreeLemmas.Canonical.{full_iff_points}
 use Rattle.nibble_map.proofs.TreeLemmas.Fragments.{tree_fragments}
 use Rattle.nibble_map.proofs.TreeLemmas.Full.{shaped_by_fullness}
@@ -20,7 +20,7 @@ use Rattle.nibble_map.proofs.MapLemmas.Edits.{stored_by_entries, set_is_insert, 
 use Rattle.nibble_map.proofs.PointLemmas.Moves.{Within, point_moves, some_prefix_moves, lists_moves, longest_moves, shortest_moves, fragment_moves, compared_moves}
 use Rattle.nibble_map.proofs.PointLemmas.Visited.{prefixes_counted}
 use Rattle.nibble_map.proofs.TreeLemmas.Points.{tree_points}
-use Rattle.nibble_map.proofs.TreeLemmas.Same.{parts_of-same_stored}
+use Rattle.nibble_map.proofs.TreeLemmas.Same.{paths_and_fragments-same_stored}
 use Rattle.nibble_map.proofs.TreeLemmas.Sizes.{nodes_bound}
 use Rattle.nibble_map.proofs.ListLemmas.Sorted.{tied_lists_equal, sorted_of_rising}
 use Rattle.nibble_map.proofs.TreeLemmas.Steps.{tree_inserted, tree_removed}
@@ -161,10 +161,10 @@ not_later n ns p v es r i e =
     before_not_itself n.path (subst (IsBefore n.path) (sym i) (Each-has (IsBefore n.path) (paths ns) p r.0 (stored_path ns p (subst (λ es. Has (stored.stored es) p) (sym e) (inl refl)))))
 
 -- nodes with rising paths are equal where paths, fragments and entries are
-nodes_same : {P : Type 0} (ns ks : List (Node P)) → IsRising (paths ns) → IsRising (paths ks) → parts_of ns ≡ parts_of ks → entries ns ≡ entries ks → ns ≡ ks
+nodes_same : {P : Type 0} (ns ks : List (Node P)) → IsRising (paths ns) → IsRising (paths ks) → paths_and_fragments ns ≡ paths_and_fragments ks → entries ns ≡ entries ks → ns ≡ ks
 nodes_same [] [] r s e f = refl
-nodes_same [] (k ∷ ks) r s e f = absurd (let i : [] ≡ (k.path, k.fragment) ∷ parts_of ks = e in cc i)
-nodes_same (n ∷ ns) [] r s e f = absurd (let i : (n.path, n.fragment) ∷ parts_of ns ≡ [] = e in cc i)
+nodes_same [] (k ∷ ks) r s e f = absurd (let i : [] ≡ (k.path, k.fragment) ∷ paths_and_fragments ks = e in cc i)
+nodes_same (n ∷ ns) [] r s e f = absurd (let i : (n.path, n.fragment) ∷ paths_and_fragments ns ≡ [] = e in cc i)
 nodes_same {P} (n ∷ ns) (k ∷ ks) r s e f = by n.pair k.pair refl refl f (nodes_same ns ks r.1 s.1 (cons_tail e))
   where
     path : n.path ≡ k.path
@@ -187,15 +187,15 @@ nodes_same {P} (n ∷ ns) (k ∷ ks) r s e f = by n.pair k.pair refl refl f (nod
 -- two canonical trees of one map have equal nodes
 pub nodes-canonical : {P : Type 0} (t u : FragmentTree P) (m : NibbleMap P) → IsCanonical t m → IsCanonical u m → nodes t ≡ nodes u
 nodes-canonical t u m c d =
-    nodes_same (nodes t) (nodes u) c.exact.rising d.exact.rising (parts_of-same_stored t u (canonical_shaped t m c) (canonical_shaped u m d) (λ e. (subst (λ es. stored.IsStored es e) pairs, subst (λ es. stored.IsStored es e) (sym pairs)))) pairs
+    nodes_same (nodes t) (nodes u) c.exact.rising d.exact.rising (paths_and_fragments-same_stored t u (canonical_shaped t m c) (canonical_shaped u m d) (λ e. (subst (λ es. stored.IsStored es e) pairs, subst (λ es. stored.IsStored es e) (sym pairs)))) pairs
   where
     pairs : entries (nodes t) ≡ entries (nodes u)
     pairs = c.pairs ∙ sym d.pairs
 
 -- canonical trees of maps with the same stored lists have the same paths and fragments
-pub parts_of-canonical : {P Q : Type 0} (t : FragmentTree P) (m : NibbleMap P) (u : FragmentTree Q) (n : NibbleMap Q) → IsCanonical t m → IsCanonical u n →
-    ((e : List ℕ) → IsStored m e ↔ IsStored n e) → parts_of (nodes t) ≡ parts_of (nodes u)
-parts_of-canonical t m u n c d h = parts_of-same_stored t u (canonical_shaped t m c) (canonical_shaped u n d) (λ e. (
+pub paths_and_fragments-canonical : {P Q : Type 0} (t : FragmentTree P) (m : NibbleMap P) (u : FragmentTree Q) (n : NibbleMap Q) → IsCanonical t m → IsCanonical u n →
+    ((e : List ℕ) → IsStored m e ↔ IsStored n e) → paths_and_fragments (nodes t) ≡ paths_and_fragments (nodes u)
+paths_and_fragments-canonical t m u n c d h = paths_and_fragments-same_stored t u (canonical_shaped t m c) (canonical_shaped u n d) (λ e. (
   (λ i. tree_of_map u n d.pairs e ((h e).0 (map_of_tree t m c.pairs e i))),
   (λ i. tree_of_map t m c.pairs e ((h e).1 (map_of_tree u n d.pairs e i))),
 ))

@@ -3,7 +3,7 @@ use Rattle.nibble_map.specs.Answers.{IsFragment}
 use Rattle.std.proofs.Common.{◌≡◌, ℕ, ◌↔◌, List, [], ◌∷◌, refl, sym, subst}
 use Rattle.nibble_map.specs.Lists.{Each}
 use Rattle.nibble_map.specs.Stored.{IsStored}
-use Rattle.nibble_map.specs.Trees.{FragmentTree, Node, nodes, paths, entries, IsShaped, parts_of}
+use Rattle.nibble_map.specs.Trees.{FragmentTree, Node, nodes, paths, entries, IsShaped, paths_and_fragments}
 use Rattle.nibble_map.proofs.ListLemmas.Cut.{cons_tail, cons_head}
 use Rattle.nibble_map.proofs.PointLemmas.Moves.{point_moves, fragment_moves}
 use Rattle.nibble_map.proofs.ListLemmas.Parted.{fragment_unique}
@@ -23,7 +23,7 @@ paths-same_stored t u s s' h =
 
 -- nodes with the same paths, and their points' fragments, have the same paths and fragments
 parts_zipped : {P Q : Type 0} (m : List (List ℕ × P)) (n : List (List ℕ × Q)) → ((e : List ℕ) → IsStored m e → IsStored n e) → ((e : List ℕ) → IsStored n e → IsStored m e) →
-    (ns : List (Node P)) (ks : List (Node Q)) → paths ns ≡ paths ks → Each (λ a. IsFragment (IsStored m) a.path a.fragment) ns → Each (λ a. IsFragment (IsStored n) a.path a.fragment) ks → parts_of ns ≡ parts_of ks
+    (ns : List (Node P)) (ks : List (Node Q)) → paths ns ≡ paths ks → Each (λ a. IsFragment (IsStored m) a.path a.fragment) ns → Each (λ a. IsFragment (IsStored n) a.path a.fragment) ks → paths_and_fragments ns ≡ paths_and_fragments ks
 parts_zipped m n to from [] [] e h k = refl
 parts_zipped m n to from [] (b ∷ ks) e h k = absurd (let i : [] ≡ b.path ∷ paths ks = e in cc i)
 parts_zipped m n to from (a ∷ ns) [] e h k = absurd (let i : a.path ∷ paths ns ≡ [] = e in cc i)
@@ -35,10 +35,10 @@ parts_zipped m n to from (a ∷ ns) (b ∷ ks) e h k = both (parts_zipped m n to
     pair : {x y u v : List ℕ} → x ≡ y → u ≡ v → Path (List ℕ × List ℕ) (x, u) (y, v)
     pair i j = λ d. (i d, j d)
 
-    both : parts_of ns ≡ parts_of ks → parts_of (a ∷ ns) ≡ parts_of (b ∷ ks)
+    both : paths_and_fragments ns ≡ paths_and_fragments ks → paths_and_fragments (a ∷ ns) ≡ paths_and_fragments (b ∷ ks)
     both i = rw (pair (cons_head e) fragments, i) refl
 
 -- shaped trees with the same stored lists have the same paths and fragments
-pub parts_of-same_stored : {P Q : Type 0} (t : FragmentTree P) (u : FragmentTree Q) → IsShaped 0 t.children → IsShaped 0 u.children →
-    ((e : List ℕ) → IsStored (entries (nodes t)) e ↔ IsStored (entries (nodes u)) e) → parts_of (nodes t) ≡ parts_of (nodes u)
-parts_of-same_stored t u s s' h = parts_zipped _ _ (λ e. (h e).0) (λ e. (h e).1) (nodes t) (nodes u) (paths-same_stored t u s s' h) (tree_fragments t s) (tree_fragments u s')
+pub paths_and_fragments-same_stored : {P Q : Type 0} (t : FragmentTree P) (u : FragmentTree Q) → IsShaped 0 t.children → IsShaped 0 u.children →
+    ((e : List ℕ) → IsStored (entries (nodes t)) e ↔ IsStored (entries (nodes u)) e) → paths_and_fragments (nodes t) ≡ paths_and_fragments (nodes u)
+paths_and_fragments-same_stored t u s s' h = parts_zipped _ _ (λ e. (h e).0) (λ e. (h e).1) (nodes t) (nodes u) (paths-same_stored t u s s' h) (tree_fragments t s) (tree_fragments u s')

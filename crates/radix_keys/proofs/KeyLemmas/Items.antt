@@ -1,5 +1,6 @@
 -- Keys that are encoded item by item.
-use Rattle.std.proofs.Common.{◌≡◌, ℕ, zero, suc, ◌+◌, ◌-◌, ◌<◌, ◌≤◌, List, [], ◌∷◌, ◌++◌, length, get_or, take, drop, reverse, flat_map, All, arith, sym, ◌∙◌, ap}
+use Rattle.std.proofs.Common.{◌≡◌, ℕ, zero, suc, ◌+◌, ◌-◌, ◌%◌, ◌<◌, ◌≤◌, List, [], ◌∷◌, ◌++◌, length, get_or, take, drop, reverse, flat_map, All, refl, arith, sym, ◌∙◌, ap}
+use Rattle.std.specs.Int.{w8, to_be_bytes}
 use Rattle.std.proofs.lemmas.Grind.{flat_map-append}
 use Rattle.std.proofs.lemmas.List.{append-nil, get_or-reverse, length-append, length-reverse, length-take-le, take_more, take-append-drop}
 use Rattle.std.proofs.lemmas.List.Elements.{All-append}
@@ -48,3 +49,10 @@ take-reverse_more xs n i e lt =
 -- i bytes from the end are i bytes, where there are as many
 pub length-take-reverse : (xs : List ℕ) (i : ℕ) → i ≤ length xs → length (take i (reverse xs)) ≡ i
 length-take-reverse xs i le = length-take-le i (reverse xs) (omega (arith, length-reverse xs))
+
+-- the bytes of bytes are these
+pub bytes_of_bytes : (bs : List ℕ) → ((k : ℕ) → get_or bs k 0 < 256) → bs ≡ flat_map (to_be_bytes w8) bs
+bytes_of_bytes [] fits = refl
+bytes_of_bytes (b ∷ bs) fits =
+    let low : b ≡ b % 256 = (let byte = fits 0 in omega (arith, byte)) in
+    ap (λ x. x ∷ bs) low ∙ ap (λ t. (b % 256) ∷ t) (bytes_of_bytes bs (λ k. fits (suc k)))

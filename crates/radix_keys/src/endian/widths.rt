@@ -26,6 +26,10 @@ impl KeyInt for u8 {
         let value: u8 = *self;
         value.to_be_bytes()[i]
     }
+
+    fn as_bytes(items: &[u8]) -> Option<&[u8]> {
+        Some(items)
+    }
 }
 
 impl KeyInt for u16 {

@@ -12,6 +12,7 @@ use crate::endian::{Ascending, KeyInt};
 use crate::keys::TrieKey;
 use crate::keys::integers::push_bytes;
 use crate::nibbles::{Memory, Nibblet};
+use crate::slices::NibbleSlice;
 use smallvec::SmallVec;
 use std::alloc::Global;
 
@@ -118,13 +119,13 @@ impl<T: KeySigned> TrieKey for Ascending<T> {
 
     ghost light_is_short = { λ _ h. h };
 
-    /// The nibbles of the bytes, the highest first, with the highest bit of the first byte turned
-    /// over. The smaller number has the smaller encoding.
+    /// The nibbles of the bytes, the highest first, with the top bit of the first byte
+    /// flipped. The smaller number has the smaller encoding.
     fn encode(&self, alloc: Global) -> Result<Nibblet, Memory>
         ensures ok { IfOk result (λ v. v ≡ nibbles (turned_bytes (T.KeyInt.bytes self.now))) }
         ensures value { OnOk result (T.KeyInt.is_value self.now) }
         ensures light { IsShort (nibbles (turned_bytes (T.KeyInt.bytes self.now))) → IsOk result }
-        // It is the plain encoding with the highest bit of its first nibble turned over.
+        // It is the plain encoding with the top bit of its first nibble flipped.
         ensures turned { (x : T)
             → nibbles (turned_bytes (T.KeyInt.bytes x)) ≡ turned (T.TrieKey.encoding x) }
         ensures order { (x y : T) → T.KeyInt.is_value x → T.KeyInt.is_value y
@@ -137,5 +138,9 @@ impl<T: KeySigned> TrieKey for Ascending<T> {
         let mut list = Nibblet::from_small(bytes);
         list.turn_over();
         Ok(list)
+    }
+
+    fn as_nibbles(&self) -> Option<NibbleSlice<'_>> {
+        None
     }
 }

@@ -9,6 +9,7 @@ ghost use Rattle.radix_keys.specs.Order.{KeepsUnsignedOrder, KeepsSignedOrder};
 use crate::endian::{BigEndian, KeyInt, LittleEndian};
 use crate::keys::TrieKey;
 use crate::nibbles::{Memory, Nibblet};
+use crate::slices::NibbleSlice;
 use smallvec::SmallVec;
 use std::alloc::Global;
 
@@ -25,7 +26,7 @@ impl TrieKey for u8 {
 
     /// The nibbles of the bytes, the highest first. The smaller number has the smaller encoding.
     ///
-    /// Never refused.
+    /// Never fails.
     fn encode(&self, alloc: Global) -> Result<Nibblet, Memory>
         ensures ok { IfOk result (λ v. v ≡ unsigned_key w8 self.now) }
         ensures value { self.now < 2 ^ 8 }
@@ -33,6 +34,10 @@ impl TrieKey for u8 {
         ensures order { KeepsUnsignedOrder w8 }
     {
         encode_integer(alloc, self)
+    }
+
+    fn as_nibbles(&self) -> Option<NibbleSlice<'_>> {
+        None
     }
 }
 
@@ -49,7 +54,7 @@ impl TrieKey for u16 {
 
     /// The nibbles of the bytes, the highest first. The smaller number has the smaller encoding.
     ///
-    /// Never refused.
+    /// Never fails.
     fn encode(&self, alloc: Global) -> Result<Nibblet, Memory>
         ensures ok { IfOk result (λ v. v ≡ unsigned_key w16 self.now) }
         ensures value { self.now < 2 ^ 16 }
@@ -57,6 +62,10 @@ impl TrieKey for u16 {
         ensures order { KeepsUnsignedOrder w16 }
     {
         encode_integer(alloc, self)
+    }
+
+    fn as_nibbles(&self) -> Option<NibbleSlice<'_>> {
+        None
     }
 }
 
@@ -73,7 +82,7 @@ impl TrieKey for u32 {
 
     /// The nibbles of the bytes, the highest first. The smaller number has the smaller encoding.
     ///
-    /// Never refused.
+    /// Never fails.
     fn encode(&self, alloc: Global) -> Result<Nibblet, Memory>
         ensures ok { IfOk result (λ v. v ≡ unsigned_key w32 self.now) }
         ensures value { self.now < 2 ^ 32 }
@@ -81,6 +90,10 @@ impl TrieKey for u32 {
         ensures order { KeepsUnsignedOrder w32 }
     {
         encode_integer(alloc, self)
+    }
+
+    fn as_nibbles(&self) -> Option<NibbleSlice<'_>> {
+        None
     }
 }
 
@@ -97,7 +110,7 @@ impl TrieKey for u64 {
 
     /// The nibbles of the bytes, the highest first. The smaller number has the smaller encoding.
     ///
-    /// Never refused.
+    /// Never fails.
     fn encode(&self, alloc: Global) -> Result<Nibblet, Memory>
         ensures ok { IfOk result (λ v. v ≡ unsigned_key w64 self.now) }
         ensures value { self.now < 2 ^ 64 }
@@ -105,6 +118,10 @@ impl TrieKey for u64 {
         ensures order { KeepsUnsignedOrder w64 }
     {
         encode_integer(alloc, self)
+    }
+
+    fn as_nibbles(&self) -> Option<NibbleSlice<'_>> {
+        None
     }
 }
 
@@ -121,7 +138,7 @@ impl TrieKey for usize {
 
     /// The nibbles of the bytes, the highest first. The smaller number has the smaller encoding.
     ///
-    /// Never refused.
+    /// Never fails.
     fn encode(&self, alloc: Global) -> Result<Nibblet, Memory>
         ensures ok { IfOk result (λ v. v ≡ unsigned_key w64 self.now) }
         ensures value { self.now < 2 ^ 64 }
@@ -129,6 +146,10 @@ impl TrieKey for usize {
         ensures order { KeepsUnsignedOrder w64 }
     {
         encode_integer(alloc, self)
+    }
+
+    fn as_nibbles(&self) -> Option<NibbleSlice<'_>> {
+        None
     }
 }
 
@@ -145,7 +166,7 @@ impl TrieKey for i8 {
 
     /// The nibbles of the bytes in two's complement, the highest first. Encodings rise from 0 upward, and then over the negative numbers upward.
     ///
-    /// Never refused.
+    /// Never fails.
     fn encode(&self, alloc: Global) -> Result<Nibblet, Memory>
         ensures ok { IfOk result (λ v. v ≡ signed_key w8 self.now) }
         ensures value { FitsSigned w8 self.now }
@@ -153,6 +174,10 @@ impl TrieKey for i8 {
         ensures order { KeepsSignedOrder w8 }
     {
         encode_integer(alloc, self)
+    }
+
+    fn as_nibbles(&self) -> Option<NibbleSlice<'_>> {
+        None
     }
 }
 
@@ -169,7 +194,7 @@ impl TrieKey for i16 {
 
     /// The nibbles of the bytes in two's complement, the highest first. Encodings rise from 0 upward, and then over the negative numbers upward.
     ///
-    /// Never refused.
+    /// Never fails.
     fn encode(&self, alloc: Global) -> Result<Nibblet, Memory>
         ensures ok { IfOk result (λ v. v ≡ signed_key w16 self.now) }
         ensures value { FitsSigned w16 self.now }
@@ -177,6 +202,10 @@ impl TrieKey for i16 {
         ensures order { KeepsSignedOrder w16 }
     {
         encode_integer(alloc, self)
+    }
+
+    fn as_nibbles(&self) -> Option<NibbleSlice<'_>> {
+        None
     }
 }
 
@@ -193,7 +222,7 @@ impl TrieKey for i32 {
 
     /// The nibbles of the bytes in two's complement, the highest first. Encodings rise from 0 upward, and then over the negative numbers upward.
     ///
-    /// Never refused.
+    /// Never fails.
     fn encode(&self, alloc: Global) -> Result<Nibblet, Memory>
         ensures ok { IfOk result (λ v. v ≡ signed_key w32 self.now) }
         ensures value { FitsSigned w32 self.now }
@@ -201,6 +230,10 @@ impl TrieKey for i32 {
         ensures order { KeepsSignedOrder w32 }
     {
         encode_integer(alloc, self)
+    }
+
+    fn as_nibbles(&self) -> Option<NibbleSlice<'_>> {
+        None
     }
 }
 
@@ -217,7 +250,7 @@ impl TrieKey for i64 {
 
     /// The nibbles of the bytes in two's complement, the highest first. Encodings rise from 0 upward, and then over the negative numbers upward.
     ///
-    /// Never refused.
+    /// Never fails.
     fn encode(&self, alloc: Global) -> Result<Nibblet, Memory>
         ensures ok { IfOk result (λ v. v ≡ signed_key w64 self.now) }
         ensures value { FitsSigned w64 self.now }
@@ -225,6 +258,10 @@ impl TrieKey for i64 {
         ensures order { KeepsSignedOrder w64 }
     {
         encode_integer(alloc, self)
+    }
+
+    fn as_nibbles(&self) -> Option<NibbleSlice<'_>> {
+        None
     }
 }
 
@@ -241,7 +278,7 @@ impl TrieKey for isize {
 
     /// The nibbles of the bytes in two's complement, the highest first. Encodings rise from 0 upward, and then over the negative numbers upward.
     ///
-    /// Never refused.
+    /// Never fails.
     fn encode(&self, alloc: Global) -> Result<Nibblet, Memory>
         ensures ok { IfOk result (λ v. v ≡ signed_key w64 self.now) }
         ensures value { FitsSigned w64 self.now }
@@ -249,6 +286,10 @@ impl TrieKey for isize {
         ensures order { KeepsSignedOrder w64 }
     {
         encode_integer(alloc, self)
+    }
+
+    fn as_nibbles(&self) -> Option<NibbleSlice<'_>> {
+        None
     }
 }
 
@@ -265,6 +306,10 @@ impl<T: KeyInt> TrieKey for BigEndian<T> {
 
     fn encode(&self, alloc: Global) -> Result<Nibblet, Memory> {
         encode_integer(alloc, &self.value())
+    }
+
+    fn as_nibbles(&self) -> Option<NibbleSlice<'_>> {
+        None
     }
 }
 
@@ -288,6 +333,10 @@ impl<T: KeyInt> TrieKey for LittleEndian<T> {
         }
         Ok(Nibblet::from_small(out))
     }
+
+    fn as_nibbles(&self) -> Option<NibbleSlice<'_>> {
+        None
+    }
 }
 
 impl<T: KeyInt> TrieKey for Vec<T> {
@@ -309,6 +358,13 @@ impl<T: KeyInt> TrieKey for Vec<T> {
             push_bytes(&mut out, x)?;
         }
         Ok(Nibblet::from_small(out))
+    }
+
+    fn as_nibbles(&self) -> Option<NibbleSlice<'_>> {
+        match T::as_bytes(self.as_slice()) {
+            Some(bytes) => Some(NibbleSlice::from_bytes(bytes)),
+            None => None,
+        }
     }
 }
 

@@ -12,6 +12,7 @@ use crate::endian::{Ascending, BigEndian, KeyInt, LittleEndian};
 use crate::keys::TrieKey;
 use crate::keys::ascending::KeySigned;
 use crate::nibbles::{Memory, Nibblet};
+use crate::slices::NibbleSlice;
 use std::alloc::Global;
 
 /// A key type whose values all have encodings of one length.
@@ -174,6 +175,10 @@ impl<A: FixedWidth, B: FixedWidth> TrieKey for (A, B) {
             Ok(both) => Ok(both),
             Err(_) => Err(Memory),
         }
+    }
+
+    fn as_nibbles(&self) -> Option<NibbleSlice<'_>> {
+        None
     }
 }
 

@@ -10,6 +10,7 @@ ghost use Rattle.radix_keys.specs.Order.{KeepsByteOrder, KeepsUnsignedOrder};
 use crate::keys::TrieKey;
 use crate::keys::integers::encode_integer;
 use crate::nibbles::{Memory, Nibblet};
+use crate::slices::NibbleSlice;
 use std::alloc::Global;
 
 impl TrieKey for bool {
@@ -25,13 +26,17 @@ impl TrieKey for bool {
 
     /// The nibbles of one byte, 0 of false and 1 of true.
     ///
-    /// Never refused.
+    /// Never fails.
     fn encode(&self, alloc: Global) -> Result<Nibblet, Memory>
         ensures ok { IfOk result (λ v. v ≡ nibbles (from_bool self.now ∷ [])) }
         ensures value { OnOk result (⟦<bool as TrieKey>⟧.is_value self.now) }
         ensures light { IsOk result }
     {
         Nibblet::from_slice(alloc, &[u8::from(*self)])
+    }
+
+    fn as_nibbles(&self) -> Option<NibbleSlice<'_>> {
+        None
     }
 }
 
@@ -48,7 +53,7 @@ impl TrieKey for char {
 
     /// The nibbles of the scalar value's four bytes, the highest first. The smaller scalar value has the smaller encoding.
     ///
-    /// Never refused.
+    /// Never fails.
     fn encode(&self, alloc: Global) -> Result<Nibblet, Memory>
         ensures ok { IfOk result (λ v. v ≡ unsigned_key w32 self.now) }
         ensures value { self.now < 2 ^ 32 }
@@ -57,12 +62,18 @@ impl TrieKey for char {
     {
         encode_integer(alloc, &u32::from(*self))
     }
+
+    fn as_nibbles(&self) -> Option<NibbleSlice<'_>> {
+        None
+    }
 }
 
 impl<const N: usize> TrieKey for [u8; N] {
     ghost encoding = { nibbles };
 
     ghost is_light = { λ bytes. IsShort (nibbles bytes) };
+
+    ghost is_lent = { λ _. Unit {0} };
 
     ghost is_value = { λ bytes. length bytes ≡ N };
 
@@ -72,7 +83,7 @@ impl<const N: usize> TrieKey for [u8; N] {
 
     /// The nibbles of the bytes. The smaller array has the smaller encoding.
     ///
-    /// Never refused for at most 16 bytes.
+    /// Never fails for at most 16 bytes.
     fn encode(&self, alloc: Global) -> Result<Nibblet, Memory>
         ensures ok { IfOk result (λ v. v ≡ nibbles self.now) }
         ensures value { OnOk result (length self.now ≡ N) }
@@ -81,5 +92,9 @@ impl<const N: usize> TrieKey for [u8; N] {
         ensures order { KeepsByteOrder }
     {
         Nibblet::from_slice(alloc, self.as_slice())
+    }
+
+    fn as_nibbles(&self) -> Option<NibbleSlice<'_>> {
+        Some(NibbleSlice::from_bytes(self.as_slice()))
     }
 }

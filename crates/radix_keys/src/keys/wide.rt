@@ -12,6 +12,7 @@ use crate::keys::TrieKey;
 use crate::keys::ascending::KeySigned;
 use crate::keys::integers::encode_integer;
 use crate::nibbles::{Memory, Nibblet};
+use crate::slices::NibbleSlice;
 use std::alloc::Global;
 
 impl KeyInt for u128 {
@@ -69,7 +70,7 @@ impl TrieKey for u128 {
 
     /// The nibbles of the bytes, the highest first. The smaller number has the smaller encoding.
     ///
-    /// Never refused.
+    /// Never fails.
     fn encode(&self, alloc: Global) -> Result<Nibblet, Memory>
         ensures ok { IfOk result (λ v. v ≡ unsigned_key w128 self.now) }
         ensures value { self.now < 2 ^ 128 }
@@ -77,6 +78,10 @@ impl TrieKey for u128 {
         ensures order { KeepsUnsignedOrder w128 }
     {
         encode_integer(alloc, self)
+    }
+
+    fn as_nibbles(&self) -> Option<NibbleSlice<'_>> {
+        None
     }
 }
 
@@ -94,7 +99,7 @@ impl TrieKey for i128 {
     /// The nibbles of the bytes in two's complement, the highest first. Encodings rise from 0
     /// upward, and then over the negative numbers upward.
     ///
-    /// Never refused.
+    /// Never fails.
     fn encode(&self, alloc: Global) -> Result<Nibblet, Memory>
         ensures ok { IfOk result (λ v. v ≡ signed_key w128 self.now) }
         ensures value { FitsSigned w128 self.now }
@@ -102,6 +107,10 @@ impl TrieKey for i128 {
         ensures order { KeepsSignedOrder w128 }
     {
         encode_integer(alloc, self)
+    }
+
+    fn as_nibbles(&self) -> Option<NibbleSlice<'_>> {
+        None
     }
 }
 

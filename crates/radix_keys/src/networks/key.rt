@@ -10,6 +10,7 @@ use crate::bits::Bits;
 use crate::keys::TrieKey;
 use crate::networks::{Address, Network};
 use crate::nibbles::{Memory, Nibblet};
+use crate::slices::NibbleSlice;
 use std::alloc::Global;
 
 impl<A: Address> TrieKey for Network<A> {
@@ -39,5 +40,9 @@ impl<A: Address> TrieKey for Network<A> {
             Ok(bits) => Ok(bits.into_list()),
             Err(refused) => Err(refused),
         }
+    }
+
+    fn as_nibbles(&self) -> Option<NibbleSlice<'_>> {
+        None
     }
 }

@@ -7,12 +7,15 @@ ghost use Rattle.radix_keys.specs.Parts.{AreParts, part_bytes, KeepsPartsOrder};
 use crate::keys::TrieKey;
 use crate::nibbles::{Memory, Nibblet};
 use crate::parts::Parts;
+use crate::slices::NibbleSlice;
 use std::alloc::Global;
 
 impl TrieKey for Parts {
     ghost encoding = { λ parts. nibbles (part_bytes parts) };
 
     ghost is_light = { λ parts. IsShort (nibbles (part_bytes parts)) };
+
+    ghost is_lent = { λ _. Unit {0} };
 
     ghost is_value = { AreParts };
 
@@ -28,5 +31,9 @@ impl TrieKey for Parts {
         ensures order { KeepsPartsOrder }
     {
         Nibblet::from_slice(alloc, self.bytes.as_slice())
+    }
+
+    fn as_nibbles(&self) -> Option<NibbleSlice<'_>> {
+        Some(NibbleSlice::from_bytes(self.bytes.as_slice()))
     }
 }

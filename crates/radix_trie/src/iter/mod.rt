@@ -20,7 +20,7 @@ pub(crate) use ends::{first_pair, last_pair};
 pub use halves::{Keys, Values};
 pub(crate) use pages::first_pairs;
 pub use prefixes::CommonPrefixes;
-pub(crate) use rows::{Rest, key_of, parts_of, value_of};
+pub(crate) use rows::{Rest, key_of, key_value_of, value_of};
 pub(crate) use side::{Side, side_of};
 pub(crate) use span::rests_within;
 pub use walk::Iter;

@@ -76,7 +76,7 @@ pub(super) fn parts<K, V>(pair: &KeyValue<K, V>) -> (&K, &V)
 }
 
 /// The key and the value, if there is a pair.
-pub(crate) fn parts_of<K, V>(pair: Option<&KeyValue<K, V>>) -> Option<(&K, &V)>
+pub(crate) fn key_value_of<K, V>(pair: Option<&KeyValue<K, V>>) -> Option<(&K, &V)>
     ensures { option_map deref_pair result ≡ option_map (λ p. pair_of p.now) pair.entry }
 {
     match pair {

@@ -7,7 +7,7 @@ ghost use Rattle.radix_nodes.specs.Nodes.{tree_of};
 ghost use Rattle.radix_trie.specs.Views.{IsPairAbove};
 ghost use Rattle.radix_trie.specs.Walks.{deref_pair};
 
-use crate::iter::parts_of;
+use crate::iter::key_value_of;
 use crate::trie::Trie;
 use crate::trie::lookups::pair_in;
 use radix_keys::{Memory, Nibblet, TrieKey};
@@ -70,7 +70,7 @@ impl<K: TrieKey, V> Trie<K, V> {
         ensures at_most_once { result.1.nibbles ≤ length list.now }
     {
         let Searched { nearest, cost, .. } = find_counted(self.root(), list);
-        (parts_of(pair_in(nearest)), cost)
+        (key_value_of(pair_in(nearest)), cost)
     }
 }
 

@@ -7,7 +7,7 @@ ghost use Rattle.radix_nodes.specs.Pairs.{pair_of};
 ghost use Rattle.radix_trie.specs.Views.{IsPairAbove, IsValueAbove};
 ghost use Rattle.radix_trie.specs.Walks.{deref_pair};
 
-use crate::iter::parts_of;
+use crate::iter::key_value_of;
 use crate::trie::Trie;
 use radix_keys::{Nibblet, TrieKey};
 use radix_nodes::search::find::find;
@@ -54,7 +54,7 @@ impl<K: TrieKey, V> Trie<K, V> {
     pub fn nearest(&self, list: &Nibblet) -> Option<(&K, &V)>
         ensures pair { IsPairAbove self.now list.now (option_map deref_pair result) }
     {
-        parts_of(self.pair_above(list))
+        key_value_of(self.pair_above(list))
     }
 
     /// The value at the longest stored list that is a prefix of a list of nibbles, or None where there is none. It allocates

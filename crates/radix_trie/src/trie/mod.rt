@@ -12,7 +12,7 @@ ghost use Rattle.radix_trie.specs.Lends.{lends_at};
 ghost use Rattle.radix_trie.specs.Refusals.{IsFullAt};
 ghost use Rattle.radix_trie.specs.Walks.{deref_pair};
 
-use crate::iter::parts_of;
+use crate::iter::key_value_of;
 pub use entry::{Entry, EntryError};
 use radix_keys::{Memory, Nibblet, TrieKey};
 use radix_nodes::search::find::find;
@@ -165,7 +165,7 @@ impl<K: TrieKey, V> Trie<K, V> {
         ensures light { Q.is_light key.now → IsOk result }
     {
         let list = key.encode(self.alloc)?;
-        Ok(parts_of(self.pair_at(&list)))
+        Ok(key_value_of(self.pair_at(&list)))
     }
 
     /// Whether a pair is stored at the key's encoding.

@@ -3,7 +3,7 @@ ghost use Rattle.std.specs.Prelude.{◌≡◌, ◌↔◌, ◌++◌, [], ℕ, Lis
 ghost use Rattle.std.specs.FinMap as map;
 ghost use Rattle.radix_trie.specs.Walks.{deref_pair};
 
-use crate::iter::parts_of;
+use crate::iter::key_value_of;
 use crate::place::Place;
 use crate::trie::Trie;
 use radix_keys::{Nibblet, TrieKey};
@@ -63,7 +63,7 @@ impl<'a, K: TrieKey, V> Descent<'a, K, V> {
     pub fn get_key_value(&self) -> Option<(&'a K, &'a V)>
         ensures { option_map deref_pair result ≡ map.get self.now [] }
     {
-        parts_of(self.place.pair())
+        key_value_of(self.place.pair())
     }
 
     /// Whether the list is a prefix of no stored encoding. It takes constant time.

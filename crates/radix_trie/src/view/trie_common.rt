@@ -8,7 +8,7 @@ ghost use Rattle.nibble_map.specs.Nibbles.{IsShort};
 ghost use Rattle.radix_trie.specs.Views.{IsLightBound, encoded_bound, pairs_below, pairs_within};
 ghost use Rattle.radix_trie.specs.Walks.{HasFullRows, deref_pair, left_rows, stacked};
 
-use crate::iter::{Cursor, CursorBack, Iter, Keys, Rest, Values, key_of, parts_of, value_of};
+use crate::iter::{Cursor, CursorBack, Iter, Keys, Rest, Values, key_of, key_value_of, value_of};
 use crate::place::{Limits, encoded};
 use crate::view::at::At;
 use radix_keys::{Memory, Nibblet, TrieKey};
@@ -270,11 +270,11 @@ impl<'a, K: TrieKey + 'a, V: 'a, T: At<'a, K, V>> TrieCommon<'a, K, V> for T {
     }
 
     fn first_key_value(self) -> Option<(&'a K, &'a V)> {
-        parts_of(self.place().first())
+        key_value_of(self.place().first())
     }
 
     fn last_key_value(self) -> Option<(&'a K, &'a V)> {
-        parts_of(self.place().last())
+        key_value_of(self.place().last())
     }
 
     fn prefix(self) -> Result<Nibblet, Memory> {

@@ -1,5 +1,5 @@
-use Rattle.nibble_map.proofs.TreeLemmas.Same.{parts_of-same_stored}
+use Rattle.nibble_map.proofs.TreeLemmas.Same.{paths_and_fragments-same_stored}
 use Rattle.nibble_map.proofs.tree_laws.equal_lists_give_equal_trees.Goals as goal
 
 pub returns : goal.returns
-returns g c = parts_of-same_stored
+returns g c = paths_and_fragments-same_stored

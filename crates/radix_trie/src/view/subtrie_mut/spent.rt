@@ -9,7 +9,7 @@ ghost use Rattle.radix_trie.specs.Views.{pairs_below};
 ghost use Rattle.radix_trie.specs.Walks.{deref_pair};
 ghost use Rattle.radix_trie.specs.WriteViews.{map_behind, kept_path, kept_prefix, lender_of};
 
-use crate::iter::{key_of, parts_of, value_of};
+use crate::iter::{key_of, key_value_of, value_of};
 use crate::place::{PathList, Place};
 use crate::trie::Trie;
 use crate::view::subtrie_mut::SubTrieMut;
@@ -198,7 +198,7 @@ fn first_within<'a, K: TrieKey, V, P: PathList>(
     ensures first { option_map deref_pair result
         ≡ slice_get (pairs_below trie.old (P.list path)) 0 }
 {
-    parts_of(Place::find(trie, path.nibbles()).first())
+    key_value_of(Place::find(trie, path.nibbles()).first())
 }
 
 /// The last pair at and below a path, as `key_within` returns the key.
@@ -212,5 +212,5 @@ fn last_within<'a, K: TrieKey, V, P: PathList>(
         ≡ slice_get (pairs_below trie.old (P.list path))
         (length (pairs_below trie.old (P.list path)) - 1) }
 {
-    parts_of(Place::find(trie, path.nibbles()).last())
+    key_value_of(Place::find(trie, path.nibbles()).last())
 }

@@ -16,7 +16,7 @@ find_counted-requires-clause-full g c = root_is_full_below g.K.TrieKey.encoding 
 
 pub returns-clause-pair : goal.returns-clause-pair
 returns-clause-pair g c =
-    subst (IsPairAbove c.args.self.now c.args.list.now) (sym c.parts_of.ensures)
+    subst (IsPairAbove c.args.self.now c.args.list.now) (sym c.key_value_of.ensures)
     (found_above g.K.TrieKey.encoding _ _ _ c.root.ensures c.find_counted.result.nearest _ c.find_counted.ensures.nearest c.pair_in.ensures)
 
 pub returns-clause-nodes : goal.returns-clause-nodes

@@ -1,4 +1,4 @@
-use Rattle.std.proofs.Common.{◌<◌, get_or, subst, arith}
+use Rattle.std.proofs.Common.{arith}
 use Rattle.std.proofs.lemmas.List.{get_or_default}
 use Rattle.radix_keys.proofs.KeyLemmas.Items.{bytes_of_bytes}
 use Rattle.radix_keys.proofs.endian.widths.U8KeyInt.as_bytes.Goals as goal

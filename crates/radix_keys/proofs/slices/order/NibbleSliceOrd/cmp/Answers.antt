@@ -1,4 +1,4 @@
-use Rattle.std.proofs.Common.{◌≡◌, ◌≢◌, inl, inr, ◌+◌, ◌<◌, ◌≤◌, length, get_or, arith, ap, ◌∙◌}
+use Rattle.std.proofs.Common.{◌≡◌, ◌≢◌, inl, inr, ◌<◌, ◌≤◌, length, get_or, arith, ap, ◌∙◌}
 use Rattle.std.specs.Ordering.{nat_cmp}
 use Rattle.radix_keys.proofs.NibbleLemmas.Comparing.{compare_apart, compare_ended}
 use Rattle.radix_keys.proofs.slices.order.NibbleSliceOrd.cmp.Goals as goal

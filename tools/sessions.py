@@ -22,6 +22,7 @@ SECONDS = 30
 # What a line of trie_shell calls in the library, by the first pattern that its beginning is like, up to a space or the
 # end; PLACE is the view that is open, or the trie. Views and tries have in common what is called by a reference.
 CALLS = [
+    (r"frozen \S* get 2001:.*", "FrozenTrie::get + Encoding::of"),
     (r"frozen \S* (\S*)", r"FrozenTrie::\1"),
     (r"frozen|keys \S*|begin", ""),
     (r"open", "Trie::subtrie"),

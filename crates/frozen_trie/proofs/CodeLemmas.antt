@@ -3,7 +3,6 @@ pub mod Order
 pub mod Parts
 pub mod Links
 pub mod Reading
-pub mod Packed
 pub mod Growing
 pub mod Heads
 pub mod Tops

@@ -8,8 +8,7 @@ ghost use Rattle.frozen_trie.specs.Frozen.{IsFirstUnsorted, IsFrozen, codes_of};
 use crate::codes::Codes;
 use crate::frozen::FrozenTrie;
 use crate::linked::{PushWhy, push_last};
-use crate::packed::Packed;
-use radix_keys::TrieKey;
+use radix_keys::{Encoding, TrieKey};
 use std::alloc::Global;
 
 /// Why pairs aren't frozen.
@@ -77,10 +76,10 @@ pub(crate) fn codes_and_links<K: TrieKey, V>(
     };
     let mut codes = Codes::new(alloc);
     for pair in pairs {
-        let Ok(list) = pair.0.encode(alloc) else {
+        let Ok(list) = Encoding::of(alloc, &pair.0) else {
             return Err(SortedWhy::Memory);
         };
-        if let Err(why) = push_last(&mut codes, &mut up, &Packed::of(&list)) {
+        if let Err(why) = push_last(&mut codes, &mut up, &list.as_slice()) {
             return Err(why_unsorted(why, codes.len()));
         }
     }

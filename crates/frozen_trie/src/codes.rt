@@ -7,8 +7,7 @@ ghost use Rattle.frozen_trie.specs.Heads.{AreNibbles, bound_of, head_in};
 ghost use Rattle.frozen_trie.specs.Laid.{codes_in, halves, odds, piece_of, start_of, IsLaid};
 
 use crate::heads::{head_of, span, steps_of, tops_of};
-use crate::packed::Packed;
-use radix_keys::Memory;
+use radix_keys::{Memory, NibbleSlice};
 use std::alloc::Global;
 use std::cmp::Ordering;
 use std::marker::Model;
@@ -77,7 +76,7 @@ impl Codes {
     }
 
     /// The list at an index.
-    pub(crate) fn piece(&self, at: usize) -> Packed<'_>
+    pub(crate) fn piece(&self, at: usize) -> NibbleSlice<'_>
         requires { at < length self.now }
         ensures code { result ≡ code_at self.now at }
         ensures few { length result < 2 ^ 33 }
@@ -94,7 +93,7 @@ impl Codes {
     }
 
     /// How many nibbles the list at an index and another one agree in, from their first on.
-    pub(crate) fn agreement(&self, at: usize, list: &Packed<'_>) -> usize
+    pub(crate) fn agreement(&self, at: usize, list: &NibbleSlice<'_>) -> usize
         requires { at < length self.now }
         ensures within { result ≤ length (code_at self.now at) }
         ensures inside { result ≤ length list.now }
@@ -113,7 +112,7 @@ impl Codes {
     pub(crate) fn side(
         &self,
         at: usize,
-        list: &Packed<'_>,
+        list: &NibbleSlice<'_>,
         head: u64,
         is_through: bool,
         known: usize,
@@ -132,7 +131,7 @@ impl Codes {
             return (own.cmp(&head), known);
         }
         if is_through {
-            if !list.has(15) {
+            if list.len() <= 15 {
                 return (Ordering::Less, known);
             }
         } else if own % 16 < 15 {
@@ -145,7 +144,7 @@ impl Codes {
     fn side_by_bytes(
         &self,
         at: usize,
-        list: &Packed<'_>,
+        list: &NibbleSlice<'_>,
         is_through: bool,
         known: usize,
     ) -> (Ordering, usize)
@@ -158,16 +157,16 @@ impl Codes {
     {
         let code = self.piece(at);
         let same = code.agreement(list, known);
-        if !list.has(same) {
+        if list.len() <= same {
             if is_through {
                 return (Ordering::Less, same);
             }
-            if code.has(same) {
+            if same < code.len() {
                 return (Ordering::Greater, same);
             }
             return (Ordering::Equal, same);
         }
-        if !code.has(same) {
+        if code.len() <= same {
             return (Ordering::Less, same);
         }
         (code.get(same).cmp(&list.get(same)), same)
@@ -212,11 +211,11 @@ impl Codes {
     /// # Errors
     ///
     /// Memory is refused, or the bytes would be 2^31 or more. The lists stay as they are then.
-    pub(crate) fn push(&mut self, list: &Packed<'_>) -> Result<(), Memory>
+    pub(crate) fn push(&mut self, list: &NibbleSlice<'_>) -> Result<(), Memory>
         ensures ok { OnOk result (self.new ≡ self.old ++ list.now ∷ []) }
         ensures kept { IfErr result (λ _. self.new ≡ self.old) }
     {
-        let (more, is_odd) = list.parts();
+        let (more, is_odd) = list.as_packed();
         let end = self.bytes.len() + more.len();
         if end > MOST {
             return Err(Memory);
@@ -245,7 +244,7 @@ fn start(ends: &[u32], at: usize) -> usize
 }
 
 /// The list at an index.
-fn piece_in<'a>(bytes: &'a [u8], ends: &[u32], at: usize) -> Packed<'a>
+fn piece_in<'a>(bytes: &'a [u8], ends: &[u32], at: usize) -> NibbleSlice<'a>
     requires laid { IsLaid bytes.now 0 (halves ends.now) (odds ends.now) }
     requires within { at < length ends.now }
     ensures code { result
@@ -254,7 +253,7 @@ fn piece_in<'a>(bytes: &'a [u8], ends: &[u32], at: usize) -> Packed<'a>
 {
     let from = start(ends, at);
     let end = ends[at];
-    Packed::new(part(bytes, from, (end / 2) as usize), end % 2 == 1)
+    NibbleSlice::from_packed(part(bytes, from, (end / 2) as usize), end % 2 == 1)
 }
 
 /// The bytes from one place up to another.

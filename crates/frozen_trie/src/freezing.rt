@@ -7,8 +7,7 @@ ghost use Rattle.frozen_trie.specs.Frozen.{IsFrozen};
 use crate::codes::Codes;
 use crate::frozen::FrozenTrie;
 use crate::linked::push_linked;
-use crate::packed::Packed;
-use radix_keys::TrieKey;
+use radix_keys::{Encoding, TrieKey};
 use radix_trie::{Trie, TrieCommon, keys_stand_at_their_encodings, split_part_goes_back};
 
 /// Why a trie isn't frozen.
@@ -79,10 +78,10 @@ pub(crate) fn codes_and_links<K: TrieKey, V>(
     };
     let mut codes = Codes::new(alloc);
     for (key, _) in walk {
-        let Ok(list) = key.encode(alloc) else {
+        let Ok(list) = Encoding::of(alloc, key) else {
             return Err(FreezeWhy::Memory);
         };
-        let Ok(()) = push_linked(&mut codes, &mut up, &Packed::of(&list)) else {
+        let Ok(()) = push_linked(&mut codes, &mut up, &list.as_slice()) else {
             return Err(FreezeWhy::Memory);
         };
     }

@@ -1,19 +1,18 @@
 //! The first nibbles of lists as numbers, which tell the order of most lists.
-ghost use Rattle.std.specs.Prelude.{◌≡◌, ◌+◌, ◌*◌, ◌<◌, ◌≤◌, ℕ, length, slice_index, IfOk};
+ghost use Rattle.std.specs.Prelude.{◌≡◌, ◌+◌, ◌*◌, ◌<◌, ◌≤◌, ℕ, length, slice_index, slice_index_or, IfOk};
 ghost use Rattle.std.specs.List.Sorted.{IsNonDecreasing};
 ghost use Rattle.frozen_trie.specs.Heads.{AreNibbles, AreSteps, AreTops, bound_of, head_padded};
 
-use crate::packed::Packed;
-use radix_keys::Memory;
+use radix_keys::{Memory, NibbleSlice};
 use std::alloc::Global;
 
 /// The head of a list: its first 15 nibbles, and how many of these it has. Where the search is one through the list, 15 stands
 /// for each nibble that it lacks, and for their count.
-pub(crate) fn head_of(list: &Packed<'_>, is_through: bool) -> u64
+pub(crate) fn head_of(list: &NibbleSlice<'_>, is_through: bool) -> u64
     ensures head { result ≡ bound_of is_through list.now }
     ensures nibbles { AreNibbles 15 list.now }
 {
-    if list.has(14) {
+    if 14 < list.len() {
         long_head(list)
     } else {
         short_head(list, is_through)
@@ -21,21 +20,21 @@ pub(crate) fn head_of(list: &Packed<'_>, is_through: bool) -> u64
 }
 
 /// The head of a list of 15 nibbles or more.
-fn long_head(list: &Packed<'_>) -> u64
+fn long_head(list: &NibbleSlice<'_>) -> u64
     requires { 15 ≤ length list.now }
     ensures head { result ≡ head_padded 0 15 list.now * 16 + 15 }
     ensures nibbles { AreNibbles 15 list.now }
 {
     let mut head = 0;
     for i in 0..8 {
-        let two = list.two(i);
+        let two = two(list, i);
         head = head * 256 + two;
     }
     head / 16 * 16 + 15
 }
 
 /// The head of a list of at most 14 nibbles.
-fn short_head(list: &Packed<'_>, is_through: bool) -> u64
+fn short_head(list: &NibbleSlice<'_>, is_through: bool) -> u64
     requires { length list.now ≤ 14 }
     ensures head { result ≡ bound_of is_through list.now }
     ensures nibbles { AreNibbles 15 list.now }
@@ -48,17 +47,52 @@ fn short_head(list: &Packed<'_>, is_through: bool) -> u64
 }
 
 /// The first 16 nibbles of a list as a number, with `rest` for each that it lacks.
-fn padded_head(list: &Packed<'_>, rest: u64) -> u64
+fn padded_head(list: &NibbleSlice<'_>, rest: u64) -> u64
     requires { rest < 16 }
     ensures head { result ≡ head_padded rest 16 list.now }
     ensures nibbles { AreNibbles 15 list.now }
 {
     let mut head = 0;
     for i in 0..8 {
-        let two = list.two_or(i, rest);
+        let two = two_or(list, i, rest);
         head = head * 256 + two;
     }
     head
+}
+
+/// Two nibbles as a number, those of the byte at an index. Where the list has the first of them alone, the other is 0.
+fn two(list: &NibbleSlice<'_>, i: usize) -> u64
+    requires { 2 * i < length list.now }
+    ensures value { result
+        ≡ slice_index list.now (2 * i) * 16 + slice_index list.now (2 * i + 1) }
+    ensures byte { result < 256 }
+    ensures first { slice_index list.now (2 * i) < 16 }
+    ensures second { slice_index list.now (2 * i + 1) < 16 }
+{
+    let (bytes, _) = list.as_packed();
+    u64::from(bytes[i])
+}
+
+/// Two nibbles as a number, those of the byte at an index, with `rest` for each that the list lacks.
+fn two_or(list: &NibbleSlice<'_>, i: usize, rest: u64) -> u64
+    requires low { rest < 16 }
+    requires early { i < 8 }
+    ensures value { result ≡ slice_index_or list.now (2 * i) rest * 16
+        + slice_index_or list.now (2 * i + 1) rest }
+    ensures byte { result < 256 }
+    ensures first { slice_index list.now (2 * i) < 16 }
+    ensures second { slice_index list.now (2 * i + 1) < 16 }
+{
+    let (bytes, is_odd) = list.as_packed();
+    if i >= bytes.len() {
+        return rest * 17;
+    }
+    let two = u64::from(bytes[i]);
+    if is_odd && i + 1 == bytes.len() {
+        two + rest
+    } else {
+        two
+    }
 }
 
 /// How far apart numbers are that are copied, so that the first steps of a search touch few places in memory.

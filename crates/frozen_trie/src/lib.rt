@@ -11,7 +11,6 @@ mod frozen;
 mod heads;
 mod laws;
 mod linked;
-mod packed;
 mod prefixes;
 mod search;
 mod slices;

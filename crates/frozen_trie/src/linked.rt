@@ -5,9 +5,8 @@ ghost use Rattle.frozen_trie.specs.Frozen.{IsLinked};
 
 use crate::codes::Codes;
 use crate::heads::head_of;
-use crate::packed::Packed;
 use crate::search::climb;
-use radix_keys::Memory;
+use radix_keys::{Memory, NibbleSlice};
 
 /// Why a pair isn't appended.
 #[derive(Clone, Copy, PartialEq, Eq, Debug)]
@@ -28,7 +27,7 @@ pub struct PushError<V> {
 }
 
 /// Whether a list comes after all of some rising ones.
-pub(crate) fn follows(codes: &Codes, list: &Packed<'_>) -> bool
+pub(crate) fn follows(codes: &Codes, list: &NibbleSlice<'_>) -> bool
     requires { IsRising codes.now }
     ensures { IsTrue result ↔ IsRising (codes.now ++ list.now ∷ []) }
 {
@@ -48,7 +47,7 @@ pub(crate) fn follows(codes: &Codes, list: &Packed<'_>) -> bool
 pub(crate) fn push_linked(
     codes: &mut Codes,
     up: &mut Vec<u32>,
-    list: &Packed<'_>,
+    list: &NibbleSlice<'_>,
 ) -> Result<(), Memory>
     requires few { length codes.old < 2 ^ 32 }
     requires linked { IsLinked codes.old up.old.items }
@@ -73,7 +72,7 @@ pub(crate) fn push_linked(
 pub(crate) fn push_last(
     codes: &mut Codes,
     up: &mut Vec<u32>,
-    list: &Packed<'_>,
+    list: &NibbleSlice<'_>,
 ) -> Result<(), PushWhy>
     requires { IsLinked codes.old up.old.items }
     ensures ok { OnOk result (codes.new ≡ codes.old ++ list.now ∷ []) }

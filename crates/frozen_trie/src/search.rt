@@ -5,11 +5,11 @@ ghost use Rattle.frozen_trie.specs.Codes.{AreLinks, IsCut, IsLastPrefix, is_befo
 
 use crate::codes::Codes;
 use crate::heads::head_of;
-use crate::packed::Packed;
+use radix_keys::NibbleSlice;
 use std::cmp::Ordering;
 
 /// How many of the lists come before another one.
-pub(crate) fn lower(codes: &Codes, list: &Packed<'_>) -> usize
+pub(crate) fn lower(codes: &Codes, list: &NibbleSlice<'_>) -> usize
     requires { IsRising codes.now }
     ensures { IsCut (λ c. is_before c list.now) codes.now result }
 {
@@ -17,7 +17,7 @@ pub(crate) fn lower(codes: &Codes, list: &Packed<'_>) -> usize
 }
 
 /// How many of the lists come before another one or begin with it.
-pub(crate) fn upper(codes: &Codes, list: &Packed<'_>) -> usize
+pub(crate) fn upper(codes: &Codes, list: &NibbleSlice<'_>) -> usize
     requires { IsRising codes.now }
     ensures { IsCut (λ c. is_until c list.now) codes.now result }
 {
@@ -29,7 +29,7 @@ pub(crate) fn upper(codes: &Codes, list: &Packed<'_>) -> usize
 ///
 /// A list between two others that agree with the searched one in their first nibbles does so too, so these aren't compared
 /// again.
-fn cut(codes: &Codes, list: &Packed<'_>, is_through: bool) -> (usize, bool)
+fn cut(codes: &Codes, list: &NibbleSlice<'_>, is_through: bool) -> (usize, bool)
     requires { IsRising codes.now }
     ensures cut { IsCut (is_in_front is_through list.now) codes.now result.0 }
     ensures found { is_through ≡ false → IsTrue result.1
@@ -60,7 +60,7 @@ fn cut(codes: &Codes, list: &Packed<'_>, is_through: bool) -> (usize, bool)
 /// The last of the first `from` lists that is a prefix of another one, by its index and one more, or 0 where there is none.
 ///
 /// It goes from each to the link of it, so at most as often as prefixes of the list before `from` are stored.
-pub(crate) fn climb(codes: &Codes, up: &[u32], from: usize, list: &Packed<'_>) -> usize
+pub(crate) fn climb(codes: &Codes, up: &[u32], from: usize, list: &NibbleSlice<'_>) -> usize
     requires within { from ≤ length codes.now }
     requires linked { from ≤ length up.now }
     requires rising { IsRising codes.now }
@@ -83,7 +83,7 @@ pub(crate) fn climb(codes: &Codes, up: &[u32], from: usize, list: &Packed<'_>) -
 }
 
 /// How many of the lists come before another one or are it.
-pub(crate) fn behind(codes: &Codes, list: &Packed<'_>) -> usize
+pub(crate) fn behind(codes: &Codes, list: &NibbleSlice<'_>) -> usize
     requires { IsRising codes.now }
     ensures { IsCut (λ c. not (is_before list.now c)) codes.now result }
 {
@@ -92,7 +92,7 @@ pub(crate) fn behind(codes: &Codes, list: &Packed<'_>) -> usize
 }
 
 /// The index of a list.
-pub(crate) fn index_of(codes: &Codes, list: &Packed<'_>) -> Option<usize>
+pub(crate) fn index_of(codes: &Codes, list: &NibbleSlice<'_>) -> Option<usize>
     requires { IsRising codes.now }
     ensures { MatchOption result
         ((k : ℕ) → k < length codes.now → code_at codes.now k ≡ list.now → ⊥)
@@ -103,7 +103,7 @@ pub(crate) fn index_of(codes: &Codes, list: &Packed<'_>) -> Option<usize>
 }
 
 /// The last of the lists that is a prefix of another one, by its index and one more, or 0 where there is none.
-pub(crate) fn last_prefix(codes: &Codes, up: &[u32], list: &Packed<'_>) -> usize
+pub(crate) fn last_prefix(codes: &Codes, up: &[u32], list: &NibbleSlice<'_>) -> usize
     requires linked { length up.now ≡ length codes.now }
     requires rising { IsRising codes.now }
     requires links { AreLinks codes.now up.now }

@@ -10,8 +10,8 @@ ghost use Rattle.radix_trie.specs.Walks.{deref_pair};
 ghost use Rattle.frozen_trie.specs.Frozen.{codes_of, map_of_pairs, prefixes_up};
 
 use crate::codes::Codes;
-use crate::packed::Packed;
 use crate::search::{index_of, last_prefix, lower, upper};
+use radix_keys::NibbleSlice;
 use std::alloc::Global;
 use std::marker::Model;
 
@@ -79,7 +79,7 @@ impl<V> FrozenTexts<V> {
     pub fn get(&self, key: &[u8]) -> Option<&V>
         ensures value { option_copied result ≡ value_at self.now (nibbles key.now) }
     {
-        match index_of(&self.codes, &Packed::of_bytes(key)) {
+        match index_of(&self.codes, &NibbleSlice::from_bytes(key)) {
             Some(at) => Some(&self.values[at]),
             None => None,
         }
@@ -99,7 +99,7 @@ impl<V> FrozenTexts<V> {
     pub fn nearest(&self, key: &[u8]) -> Option<(&[u8], &V)>
         ensures pair { IsPairAbove self.now (nibbles key.now) (option_map deref_pair result) }
     {
-        let found = last_prefix(&self.codes, &self.up, &Packed::of_bytes(key));
+        let found = last_prefix(&self.codes, &self.up, &NibbleSlice::from_bytes(key));
         if found == 0 {
             return None;
         }
@@ -110,8 +110,8 @@ impl<V> FrozenTexts<V> {
     pub fn below(&self, prefix: &[u8]) -> Texts<'_, V>
         ensures walk { result ≡ pairs_below self.now (nibbles prefix.now) }
     {
-        let from = lower(&self.codes, &Packed::of_bytes(prefix));
-        let to = upper(&self.codes, &Packed::of_bytes(prefix));
+        let from = lower(&self.codes, &NibbleSlice::from_bytes(prefix));
+        let to = upper(&self.codes, &NibbleSlice::from_bytes(prefix));
         Texts::new(self, from, to)
     }
 
@@ -128,8 +128,8 @@ impl<V> FrozenTexts<V> {
         ensures walk { result ≡ pairs_within self.now [] (Included (nibbles from.now))
             (Excluded (nibbles to.now)) }
     {
-        let start = lower(&self.codes, &Packed::of_bytes(from));
-        let end = lower(&self.codes, &Packed::of_bytes(to));
+        let start = lower(&self.codes, &NibbleSlice::from_bytes(from));
+        let end = lower(&self.codes, &NibbleSlice::from_bytes(to));
         Texts::new(self, start, end.max(start))
     }
 
@@ -137,7 +137,7 @@ impl<V> FrozenTexts<V> {
     pub fn rank(&self, key: &[u8]) -> usize
         ensures count { result ≡ length (pairs_before self.now [] (nibbles key.now)) }
     {
-        lower(&self.codes, &Packed::of_bytes(key))
+        lower(&self.codes, &NibbleSlice::from_bytes(key))
     }
 
     /// The key at an index, in order, and its value, or None past the end. It takes constant time.
@@ -172,7 +172,7 @@ impl<V> FrozenTexts<V> {
     {
         TextPrefixes::new(
             self,
-            last_prefix(&self.codes, &self.up, &Packed::of_bytes(key)),
+            last_prefix(&self.codes, &self.up, &NibbleSlice::from_bytes(key)),
         )
     }
 

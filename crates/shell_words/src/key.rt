@@ -8,7 +8,7 @@ use crate::answer::Answer;
 use crate::face::Face;
 use crate::kind::Kind;
 use crate::read::Read;
-use radix_keys::{Memory, Nibblet, TrieKey};
+use radix_keys::{Memory, NibbleSlice, Nibblet, TrieKey};
 use std::alloc::{AllocError, Global};
 use std::fmt;
 use std::marker::Model;
@@ -180,6 +180,15 @@ impl TrieKey for Key {
 
     fn encode(&self, _alloc: Global) -> Result<Nibblet, Memory> {
         self.list.clone()
+    }
+
+    /// The list, where a key of the type lends its own.
+    fn as_nibbles(&self) -> Option<NibbleSlice<'_>> {
+        match &self.face {
+            Face::Bool(_) | Face::Char(_) | Face::Unsigned(_) | Face::Signed(_) => None,
+            Face::Ipv4(_) | Face::Ipv6(_) => None,
+            _ => Some(self.list.as_slice()),
+        }
     }
 }
 

@@ -5,7 +5,7 @@ use crate::sample::{Query, generator};
 use crate::timed::{Times, print_rows, timed};
 use anyhow::{Result, bail, ensure};
 use frozen_trie::{FrozenTrie, freeze};
-use radix_trie::{Trie, TrieCommon, TrieKey};
+use radix_trie::{Encoding, Trie, TrieCommon, TrieKey};
 use rand::seq::SliceRandom;
 use std::collections::BTreeMap;
 use std::rt::Clock;
@@ -142,8 +142,8 @@ fn frozen_rows<K: Stored, L: TrieKey, B: Beginning<K>>(
     });
     let few = queries.get(..BEGINNINGS).unwrap_or(queries);
     let below = timed!(rt, "below", few, |query| {
-        let list = query.beginning.encode(rt.alloc())?;
-        frozen.below(&list).iter().take(SHOWN).fold(0, add_second)
+        let list = Encoding::of(rt.alloc(), &query.beginning)?;
+        frozen.below(&list.as_slice()).iter().take(SHOWN).fold(0, add_second)
     });
     let count = timed!(rt, "count", few, |query| {
         frozen.count_below(&query.beginning)? as u64

@@ -1,13 +1,13 @@
 //! A dictionary that is read once and then completed from: a word on each line of its file, in the order of their bytes, as
 //! `sort` under `LC_ALL=C` leaves them.
-ghost use Rattle.std.specs.Prelude.{◌≡◌, IfOk, map as each};
+ghost use Rattle.std.specs.Prelude.{◌≡◌, map as each};
 ghost use Rattle.nibble_map.specs.Lists.{Each, IsPrefix};
 ghost use Rattle.nibble_map.specs.Nibbles.{nibbles};
 ghost use Rattle.radix_trie.specs.Views.{pairs_below};
 
 use anyhow::{Result, bail};
 use frozen_trie::{FrozenTrie, SortedWhy, frozen_stands_at_its_encodings};
-use radix_trie::{Memory, TrieKey, encodings_keep_prefixes};
+use radix_trie::{NibbleSlice, encodings_keep_prefixes};
 use std::alloc::Global;
 
 /// A word of a dictionary, and the number of its line, from 1 on.
@@ -35,27 +35,24 @@ fn dictionary<'a>(alloc: Global, file: &'a str) -> Result<FrozenTrie<&'a str, u6
 
 /// The words that begin with what was typed, in order: a slice of the dictionary, of which a caller shows as many as it likes.
 fn completions<'a, 'w>(
-    alloc: Global,
     words: &'a FrozenTrie<&'w str, u64>,
     typed: &str,
-) -> Result<&'a [Word<'w>], Memory>
-    ensures pairs { IfOk result (λ page. page.now ≡ pairs_below words.now (nibbles typed.now)) }
-    ensures begins { IfOk result (λ page. Each (λ word. IsPrefix typed.now word.now)
-        (each (λ p. p.0) page.now)) }
+) -> &'a [Word<'w>]
+    ensures pairs { result.now ≡ pairs_below words.now (nibbles typed.now) }
+    ensures begins { Each (λ word. IsPrefix typed.now word.now) (each (λ p. p.0) result.now) }
 {
     frozen_stands_at_its_encodings(words);
     encodings_keep_prefixes::<&'w str>();
-    let list = typed.encode(alloc)?;
-    Ok(words.below(&list))
+    words.below(&NibbleSlice::from_bytes(typed.as_bytes()))
 }
 
 #[test]
 fn the_words_that_begin_so(rt: HostRuntime) -> Result<()> {
     let words = dictionary(rt.alloc(), "inn\ntea\nteam\nten\ntenor\n")?;
-    let found = completions(rt.alloc(), &words, "ten")?;
+    let found = completions(&words, "ten");
     assert!(rt; found == [("ten", 4), ("tenor", 5)].as_slice());
-    assert!(rt; completions(rt.alloc(), &words, "te")?.first() == Some(&("tea", 2)));
-    assert!(rt; completions(rt.alloc(), &words, "to")?.is_empty());
+    assert!(rt; completions(&words, "te").first() == Some(&("tea", 2)));
+    assert!(rt; completions(&words, "to").is_empty());
     assert!(rt; words.count_below(&"te")? == 4);
     Ok(())
 }

@@ -7,7 +7,6 @@ ghost use Rattle.frozen_trie.specs.Texts.{IsBehindAll};
 use crate::codes::Codes;
 use crate::frozen::FrozenTrie;
 use crate::linked::{PushError, PushWhy, follows, push_linked};
-use crate::packed::Packed;
 use radix_keys::{Memory, TrieKey};
 use std::alloc::Global;
 
@@ -74,7 +73,7 @@ impl<K: TrieKey, V> FrozenTrie<K, V> {
             let why = PushWhy::Memory;
             return Err(PushError { why, value });
         };
-        let list = Packed::of(&list);
+        let list = list.as_slice();
         if !follows(&self.codes, &list) {
             let why = PushWhy::Unsorted;
             return Err(PushError { why, value });

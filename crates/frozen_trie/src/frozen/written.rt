@@ -7,19 +7,18 @@ ghost use Rattle.radix_trie.specs.Lends.{absent_as_none};
 ghost use Rattle.frozen_trie.specs.Lends.{lends_second, lends_stored, lends_stored_found, lends_stored_if_ok};
 
 use crate::frozen::FrozenTrie;
-use crate::packed::Packed;
 use crate::search::index_of;
-use radix_keys::{Memory, Nibblet, TrieKey};
+use radix_keys::{Encoding, Memory, NibbleSlice, TrieKey};
 use radix_trie::FindError;
 
 impl<K: TrieKey, V> FrozenTrie<K, V> {
     /// The value at a list of nibbles, for writing, if one is stored there. It allocates nothing.
-    pub fn at_mut(&mut self, list: &Nibblet) -> Option<&mut V>
+    pub fn at_mut(&mut self, list: &NibbleSlice<'_>) -> Option<&mut V>
         ensures* writes_back { sem 𝓛
             (lends_stored K.row V.row K.TrieKey.own K.PartialEq.own self.entry list.now result) }
         ensures value { option_copied_mut result ≡ value_at self.old list.now }
     {
-        match index_of(&self.codes, &Packed::of(list)) {
+        match index_of(&self.codes, list) {
             Some(at) => Some(second(&mut self.pairs[at])),
             None => None,
         }
@@ -41,12 +40,13 @@ impl<K: TrieKey, V> FrozenTrie<K, V> {
         ensures absent { IfErr result (λ e. e ≡ FindError.Absent
             → value_at self.old (Q.encoding key.now) ≡ None) }
         ensures light { Q.is_light key.now → IfErr result (λ e. e ≡ FindError.Absent) }
+        ensures lent { Q.is_lent key.now → IfErr result (λ e. e ≡ FindError.Absent) }
     {
-        let list = match key.encode(self.alloc) {
+        let list = match Encoding::of(self.alloc, key) {
             Ok(list) => list,
             Err(_) => return Err(FindError::Memory),
         };
-        match self.at_mut(&list) {
+        match self.at_mut(list) {
             Some(value) => Ok(value),
             None => Err(FindError::Absent),
         }
@@ -56,7 +56,7 @@ impl<K: TrieKey, V> FrozenTrie<K, V> {
     ///
     /// # Errors
     ///
-    /// Memory for the encoding is refused, which a light key never meets. The frozen trie is as
+    /// `Memory`: the encoding's allocation fails; a key that is inline, or lends its encoding, needs none. The frozen trie is as
     /// before then.
     pub fn get_mut<Q: TrieKey>(&mut self, key: &Q) -> Result<Option<&mut V>, Memory>
         ensures* writes_back { sem 𝓛
@@ -65,6 +65,7 @@ impl<K: TrieKey, V> FrozenTrie<K, V> {
         ensures value { IfOk result (λ found. option_copied_mut found
             ≡ value_at self.old (Q.encoding key.now)) }
         ensures light { Q.is_light key.now → IsOk result }
+        ensures lent { Q.is_lent key.now → IsOk result }
     {
         absent_as_none(self.find_mut(key))
     }

@@ -7,9 +7,8 @@ ghost use Rattle.frozen_trie.specs.Texts.{IsBehindAll};
 
 use crate::codes::Codes;
 use crate::linked::{PushError, PushWhy, follows, push_linked};
-use crate::packed::Packed;
 use crate::texts::FrozenTexts;
-use radix_keys::Memory;
+use radix_keys::{Memory, NibbleSlice};
 use std::alloc::Global;
 
 impl<V> FrozenTexts<V> {
@@ -69,7 +68,7 @@ impl<V> FrozenTexts<V> {
             let why = PushWhy::Full;
             return Err(PushError { why, value });
         }
-        let list = Packed::of_bytes(key);
+        let list = NibbleSlice::from_bytes(key);
         if !follows(&self.codes, &list) {
             let why = PushWhy::Unsorted;
             return Err(PushError { why, value });

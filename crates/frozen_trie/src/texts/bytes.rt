@@ -12,6 +12,6 @@ impl Codes {
         ensures bytes { result.now ≡ packed_bytes (code_at self.now at) }
         ensures few { length (code_at self.now at) < 2 ^ 33 }
     {
-        self.piece(at).parts().0
+        self.piece(at).as_packed().0
     }
 }

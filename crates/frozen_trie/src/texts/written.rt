@@ -6,9 +6,9 @@ ghost use Rattle.nibble_map.specs.Maps.{value_at};
 ghost use Rattle.nibble_map.specs.Nibbles.{nibbles};
 ghost use Rattle.frozen_trie.specs.TextLends.{lends_text};
 
-use crate::packed::Packed;
 use crate::search::index_of;
 use crate::texts::FrozenTexts;
+use radix_keys::NibbleSlice;
 
 impl<V> FrozenTexts<V> {
     /// The value of a key, for writing, if it is stored.
@@ -16,7 +16,7 @@ impl<V> FrozenTexts<V> {
         ensures* writes_back { sem 𝓛 (lends_text V.row self.entry (nibbles key.now) result) }
         ensures value { option_copied_mut result ≡ value_at self.old (nibbles key.now) }
     {
-        match index_of(&self.codes, &Packed::of_bytes(key)) {
+        match index_of(&self.codes, &NibbleSlice::from_bytes(key)) {
             Some(at) => Some(&mut self.values[at]),
             None => None,
         }

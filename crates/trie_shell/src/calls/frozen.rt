@@ -6,7 +6,7 @@ use crate::calls::edits::{
 };
 use crate::calls::lines::{key_line, listed_lines, none_line, pair_line, pair_lines};
 use frozen_trie::PushWhy;
-use radix_trie::{Memory, Nibblet, TrieKey};
+use radix_trie::{Encoding, Memory, NibbleSlice, Nibblet, TrieKey};
 use shell_words::{Answer, Key, NO_KEY, NO_LIST, NO_NUMBER, NONE, NOT_HERE};
 
 /// A call of a frozen trie, which answers it as a trie does.
@@ -68,11 +68,11 @@ fn answer_listed(frozen: &FrozenTable, answer: &mut Answer<'_>) -> Result<bool, 
         return answer.told(NO_LIST);
     };
     match answer.name() {
-        "at" => answer.value_line(frozen.at(&list).copied())?,
-        "contains" => answer.truth_line(frozen.contains(&list))?,
-        "nearest" => pair_line(answer, frozen.nearest(&list))?,
-        "nearest_value" => answer.value_line(frozen.nearest_value(&list).copied())?,
-        _ => answer.count_line(frozen.rank(&list))?,
+        "at" => answer.value_line(frozen.at(&list.as_slice()).copied())?,
+        "contains" => answer.truth_line(frozen.contains(&list.as_slice()))?,
+        "nearest" => pair_line(answer, frozen.nearest(&list.as_slice()))?,
+        "nearest_value" => answer.value_line(frozen.nearest_value(&list.as_slice()).copied())?,
+        _ => answer.count_line(frozen.rank(&list.as_slice()))?,
     }
     Ok(true)
 }
@@ -92,8 +92,8 @@ fn answer_keyed(frozen: &FrozenTable, answer: &mut Answer<'_>) -> Result<bool, M
     if is_of_key {
         answer_at(frozen, &key, answer)?;
     } else {
-        let list = list_of(&key, &*answer)?;
-        answer_part(frozen, &list, answer)?;
+        let list = Encoding::of(answer.alloc(), &key)?;
+        answer_part(frozen, &list.as_slice(), answer)?;
     }
     Ok(true)
 }
@@ -131,7 +131,7 @@ fn ancestor_line(answer: &mut Answer<'_>, pair: Option<(&Key, &u64)>) -> Result<
 /// Some of the pairs, told by a list.
 fn answer_part(
     frozen: &FrozenTable,
-    list: &Nibblet,
+    list: &NibbleSlice<'_>,
     answer: &mut Answer<'_>,
 ) -> Result<(), Memory> {
     match answer.name() {
@@ -144,8 +144,8 @@ fn answer_part(
         "iter_after" => listed_lines(answer, frozen.after(list)),
         "between" => match answer.next_query()? {
             Some(end) => {
-                let end = list_of(&end, &*answer)?;
-                listed_lines(answer, frozen.between(list, &end))
+                let end = Encoding::of(answer.alloc(), &end)?;
+                listed_lines(answer, frozen.between(list, &end.as_slice()))
             }
             None => answer.refuse(NO_KEY),
         },
@@ -173,7 +173,7 @@ fn answer_write(frozen: &mut FrozenTable, answer: &mut Answer<'_>) -> Result<boo
             None => answer.refuse(NO_KEY)?,
         },
         "at_mut" => match answer.next_read::<Nibblet>()? {
-            Some(list) => written_or_none(answer, frozen.at_mut(&list))?,
+            Some(list) => written_or_none(answer, frozen.at_mut(&list.as_slice()))?,
             None => answer.refuse(NO_LIST)?,
         },
         "for_each_mut" => match key_and_number(answer)? {

@@ -2,7 +2,7 @@
 
 use crate::keys::digits::encodes;
 use crate::samples::list;
-use radix_keys::{BigEndian, BytesError, Memory, Nibblet, TrieKey};
+use radix_keys::{BigEndian, BytesError, Memory, NibbleSlice, Nibblet, TrieKey};
 use std::alloc::Global;
 use std::test::Fail;
 
@@ -64,6 +64,10 @@ impl TrieKey for Digit {
         } else {
             Err(Memory)
         }
+    }
+
+    fn as_nibbles(&self) -> Option<NibbleSlice<'_>> {
+        None
     }
 }
 

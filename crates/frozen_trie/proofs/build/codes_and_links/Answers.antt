@@ -14,10 +14,10 @@ returns-in-Err-clause-unsorted g c = λ k e.
     let cs = c.loop-pair.codes in
     let why = c.why_unsorted.ensures.unsorted k (cc e) in
     let count : k ≡ i = omega (arith, why.1, c.len.ensures, ap length c.in-Err.ensures.codes, ap length c.loop-pair.invariant.keyed, length-map (take i ps) (λ p. enc p.0), length-take i ps, c.loop-pair-test.true) in
-    let step : codes_of enc (take (i + 1) ps) ≡ cs ++ c.of.result ∷ [] =
+    let step : codes_of enc (take (i + 1) ps) ≡ cs ++ c.as_slice.result ∷ [] =
     map_more (λ p. enc p.0) ps i d c.loop-pair-test.true
     ∙ ap (λ t. t ++ enc (get_or ps i d).0 ∷ []) (sym c.loop-pair.invariant.keyed)
-    ∙ ap (λ x. cs ++ x ∷ []) (ap (λ p. enc p.0) (sym c.pair-item.is) ∙ sym (c.of.ensures ∙ c.in-Ok-encode.ensures.ok)) in
+    ∙ ap (λ x. cs ++ x ∷ []) (ap (λ p. enc p.0) (sym c.pair-item.is) ∙ sym (c.as_slice.ensures ∙ c.in-Ok-encode.ensures.ok)) in
     subst (IsFirstUnsorted (codes_of enc ps)) (sym count) (record {
       within = omega (arith, length-map ps (λ p. enc p.0), c.loop-pair-test.true);
       before = subst IsRising (c.loop-pair.invariant.keyed ∙ sym (take-map (λ p. enc p.0) i ps)) c.loop-pair.invariant.linked.rising;
@@ -41,7 +41,7 @@ loop-pair-preserved g c =
     let cs = c.loop-pair.codes in
     record {
       keyed = c.in_default-push_last.ensures.ok
-          ∙ ap (λ x. cs ++ x ∷ []) (c.of.ensures ∙ c.in-Ok-encode.ensures.ok ∙ ap (λ p. enc p.0) c.pair-item.is)
+          ∙ ap (λ x. cs ++ x ∷ []) (c.as_slice.ensures ∙ c.in-Ok-encode.ensures.ok ∙ ap (λ p. enc p.0) c.pair-item.is)
           ∙ ap (λ t. t ++ enc (get_or ps i d).0 ∷ []) c.loop-pair.invariant.keyed
           ∙ sym (map_more (λ p. enc p.0) ps i d c.loop-pair-test.true);
       linked = c.in_default-push_last.ensures.linked;

@@ -28,7 +28,7 @@ returns-clause-code c =
     let w = stands_here c.args.bytes.now c.args.ends.now c.requires.laid c.args.at c.requires.within in
     let place = c.part.ensures ∙ ap (λ s. piece_of c.args.bytes.now s (get_or c.args.ends.now c.args.at 0 / 2)) c.start-from.ensures
     ∙ ap (piece_of c.args.bytes.now (start_of 0 (halves c.args.ends.now) c.args.at)) (half_at c.args.ends.now c.args.at) in
-    c.new.ensures ∙ ap (λ p. unpacked p (nat_eq (get_or c.args.ends.now c.args.at 0 % 2) 1)) place ∙ w.code
+    c.from_packed.ensures ∙ ap (λ p. unpacked p (nat_eq (get_or c.args.ends.now c.args.at 0 % 2) 1)) place ∙ w.code
 
 pub returns-clause-few : goal.returns-clause-few
 returns-clause-few c =
@@ -40,7 +40,7 @@ returns-clause-few c =
     let padded = subst (λ p. IsPadded p odd) (sym place) w.padded in
     omega (
       arith,
-      ap length (c.new.ensures ∙ ap (λ p. unpacked p odd) c.part.ensures),
+      ap length (c.from_packed.ensures ∙ ap (λ p. unpacked p odd) c.part.ensures),
       length-unpacked_bytes piece odd padded,
       length-take (half - c.start-from.result) (drop c.start-from.result c.args.bytes.now),
       c.type_inv.ends c.args.at,

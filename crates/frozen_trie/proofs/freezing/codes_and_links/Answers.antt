@@ -37,10 +37,10 @@ push_linked-requires-clause-rising g c =
     let enc = g.K.TrieKey.encoding in
     let cs = c.loop-key.codes in
     let rest = c.next.new.self in
-    let whole = append_assoc cs (c.of.result ∷ []) (codes_of enc rest)
-    ∙ ap (λ x. cs ++ x ∷ codes_of enc rest) (c.of.ensures ∙ c.in-Ok-encode.ensures.ok)
+    let whole = append_assoc cs (c.as_slice.result ∷ []) (codes_of enc rest)
+    ∙ ap (λ x. cs ++ x ∷ codes_of enc rest) (c.as_slice.ensures ∙ c.in-Ok-encode.ensures.ok)
     ∙ ap (λ ps. cs ++ codes_of enc ps) (sym c.in-Some.ensures.steps) ∙ c.loop-key.invariant.keyed in
-    rising_front (cs ++ c.of.result ∷ []) (codes_of enc rest) (subst IsRising (sym whole) (c.keys_stand_at_their_encodings.ensures.rising []))
+    rising_front (cs ++ c.as_slice.result ∷ []) (codes_of enc rest) (subst IsRising (sym whole) (c.keys_stand_at_their_encodings.ensures.rising []))
 
 pub loop-key-preserved : goal.loop-key-preserved
 loop-key-preserved g c =
@@ -51,8 +51,8 @@ loop-key-preserved g c =
       can = tt;
       ends = tt;
       keyed = ap (λ xs. xs ++ codes_of enc rest) c.in-Ok-push_linked.ensures.ok
-          ∙ append_assoc cs (c.of.result ∷ []) (codes_of enc rest)
-          ∙ ap (λ x. cs ++ x ∷ codes_of enc rest) (c.of.ensures ∙ c.in-Ok-encode.ensures.ok)
+          ∙ append_assoc cs (c.as_slice.result ∷ []) (codes_of enc rest)
+          ∙ ap (λ x. cs ++ x ∷ codes_of enc rest) (c.as_slice.ensures ∙ c.in-Ok-encode.ensures.ok)
           ∙ ap (λ ps. cs ++ codes_of enc ps) (sym c.in-Some.ensures.steps) ∙ c.loop-key.invariant.keyed;
       linked = c.in-Ok-push_linked.ensures.linked;
     }

@@ -20,7 +20,7 @@ pub returns : goal.returns
 returns g c =
     let ps = c.self.inside.pairs.items in
     let n = c.behind-start.result in
-    let cut = subst (λ cs. IsCut (λ x. not (is_before c.args.list.now x)) cs n) c.self.invariant.keyed (subst (λ q. IsCut (λ x. not (is_before q x)) c.self.inside.codes n) c.of.ensures c.behind-start.ensures) in
+    let cut = subst (λ cs. IsCut (λ x. not (is_before c.args.list.now x)) cs n) c.self.invariant.keyed c.behind-start.ensures in
     record {
       pairs = c.part.ensures ∙ ap (λ xs. take (c.len.result - n) (drop n xs)) c.deref.ensures.value
           ∙ ap (λ m. take (m - n) (drop n ps)) (c.len.ensures ∙ c.self.inside.pairs.ok.0)

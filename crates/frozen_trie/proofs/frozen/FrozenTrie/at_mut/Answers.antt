@@ -21,7 +21,7 @@ returns-in-Some g c =
     let x = c.index_mut.result.now in
     let rises = subst IsRising c.self.invariant.keyed c.self.invariant.linked.rising in
     let inside : c.in-Some.at < length ps = omega (arith, c.in-Some.ensures.0, ap length c.self.invariant.keyed, as_many enc ps rises) in
-    let code = subst (λ cs. code_at cs c.in-Some.at ≡ list) c.self.invariant.keyed (c.in-Some.ensures.1 ∙ c.of.ensures) in (
+    let code = subst (λ cs. code_at cs c.in-Some.at ≡ list) c.self.invariant.keyed c.in-Some.ensures.1 in (
       same_after _ _ _ (λ w. rw (← c.self.view_is) (map_written enc ps list c.in-Some.at x w rises inside c.index_mut.ensures.value code)),
       record {
         writes_back = tt;
@@ -33,7 +33,7 @@ pub returns-in-None : goal.returns-in-None
 returns-in-None g c =
     let enc = g.K.TrieKey.encoding in
     let rises = subst IsRising c.self.invariant.keyed c.self.invariant.linked.rising in
-    let absent = subst (λ cs. (k : ℕ) → k < length cs → code_at cs k ≡ c.args.list.now → ⊥) c.self.invariant.keyed (subst (λ q. (k : ℕ) → k < length c.self.inside.codes → code_at c.self.inside.codes k ≡ q → ⊥) c.of.ensures c.in-None.ensures) in (
+    let absent = subst (λ cs. (k : ℕ) → k < length cs → code_at cs k ≡ c.args.list.now → ⊥) c.self.invariant.keyed c.in-None.ensures in (
       ap inr c.self.view_is,
       record {
         writes_back = tt;

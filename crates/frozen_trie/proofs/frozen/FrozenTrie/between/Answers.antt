@@ -9,7 +9,7 @@ returns g c = record {
   pairs = c.part.ensures ∙ ap (λ ps. take (c.max.result - c.lower-start.result) (drop c.lower-start.result ps)) c.deref.ensures.value
       ∙ rw (← c.self.view_is) (within_is g.K.TrieKey.encoding c.self.inside.pairs.items (subst IsRising c.self.invariant.keyed c.self.invariant.linked.rising)
       c.args.from.now c.args.to.now c.lower-start.result c.lower-end.result c.max.result
-      (subst (λ cs. IsCut (λ x. is_before x c.args.from.now) cs c.lower-start.result) c.self.invariant.keyed (subst (λ q. IsCut (λ x. is_before x q) c.self.inside.codes c.lower-start.result) c.of.ensures c.lower-start.ensures))
-      (subst (λ cs. IsCut (λ x. is_before x c.args.to.now) cs c.lower-end.result) c.self.invariant.keyed (subst (λ q. IsCut (λ x. is_before x q) c.self.inside.codes c.lower-end.result) c.of-2.ensures c.lower-end.ensures))
+      (subst (λ cs. IsCut (λ x. is_before x c.args.from.now) cs c.lower-start.result) c.self.invariant.keyed c.lower-start.ensures)
+      (subst (λ cs. IsCut (λ x. is_before x c.args.to.now) cs c.lower-end.result) c.self.invariant.keyed c.lower-end.ensures)
       (omega (arith, c.max.ensures)) (greatest c.lower-end.result c.lower-start.result c.max.result c.max.ensures));
 }

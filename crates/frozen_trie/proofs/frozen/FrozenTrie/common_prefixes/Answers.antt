@@ -11,7 +11,7 @@ new-requires g c =
     let enc = g.K.TrieKey.encoding in
     let ps = c.self.inside.pairs.items in
     let rises = subst IsRising c.self.invariant.keyed c.self.invariant.linked.rising in
-    let last = subst (λ cs. IsLastPrefix cs (length cs) c.args.list.now c.last_prefix.result) c.self.invariant.keyed (subst (λ q. IsLastPrefix c.self.inside.codes (length c.self.inside.codes) q c.last_prefix.result) c.of.ensures c.last_prefix.ensures) in
+    let last = subst (λ cs. IsLastPrefix cs (length cs) c.args.list.now c.last_prefix.result) c.self.invariant.keyed c.last_prefix.ensures in
     rw (← c.self.view_is) (omega (arith, last.within, as_many enc ps rises, len_is enc ps rises))
 
 pub returns : goal.returns
@@ -19,5 +19,5 @@ returns g c =
     let enc = g.K.TrieKey.encoding in
     let ps = c.self.inside.pairs.items in
     let rises = subst IsRising c.self.invariant.keyed c.self.invariant.linked.rising in
-    let last = subst (λ cs. IsLastPrefix cs (length cs) c.args.list.now c.last_prefix.result) c.self.invariant.keyed (subst (λ q. IsLastPrefix c.self.inside.codes (length c.self.inside.codes) q c.last_prefix.result) c.of.ensures c.last_prefix.ensures) in
+    let last = subst (λ cs. IsLastPrefix cs (length cs) c.args.list.now c.last_prefix.result) c.self.invariant.keyed c.last_prefix.ensures in
     record { walk = c.new.ensures ∙ rw (← c.self.view_is) (walk_up_whole enc ps rises c.args.list.now c.last_prefix.result last) }

@@ -20,7 +20,7 @@ pub returns : goal.returns
 returns g c =
     let ps = c.self.inside.pairs.items in
     let n = c.lower-start.result in
-    let cut = subst (λ cs. IsCut (λ x. is_before x c.args.list.now) cs n) c.self.invariant.keyed (subst (λ q. IsCut (λ x. is_before x q) c.self.inside.codes n) c.of.ensures c.lower-start.ensures) in
+    let cut = subst (λ cs. IsCut (λ x. is_before x c.args.list.now) cs n) c.self.invariant.keyed c.lower-start.ensures in
     record {
       pairs = c.part.ensures ∙ ap (λ xs. take (c.len.result - n) (drop n xs)) c.deref.ensures.value
           ∙ ap (λ m. take (m - n) (drop n ps)) (c.len.ensures ∙ c.self.inside.pairs.ok.0)

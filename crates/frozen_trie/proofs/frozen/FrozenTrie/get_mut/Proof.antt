@@ -151,6 +151,7 @@ get_mut_spec 𝓤 𝓛 𝓜 𝓡 wired K V Q LK LV LQ key d equal d' eq d'' key�
     let told_laws : Laws Told = result_laws (option_row Ref) memory_row (option_laws Ref (mut_laws V κ LV)) memory_laws in
     let w = value_at m e in
     let Light : Type 0 = key₂.is_light a.1.0.now in
+    let Lends : Type 0 = key₂.is_lent a.1.0.now in
     let W = walk_of 𝓛 ended stayed c in
     let y' : W.Ghost = ((κs, qs, bounds, a, (mut_vals r, (shr_vals a.1.0, tt))), g) in
     let z : Fm.Ghost = ((κs, qs, bounds, a, (mut_vals r, (shr_vals a.1.0, tt))), tt) in
@@ -162,9 +163,9 @@ get_mut_spec 𝓤 𝓛 𝓜 𝓡 wired K V Q LK LV LQ key d equal d' eq d'' key�
     let an-ended : Ended = an.ended V in
     let Loan = λ (u : Result₁). lends_stored_if_ok (param 0 K) (param 1 V) key eq r e u in
     let Value = λ (u : Result₁). IfOk u (λ x. w ≡ Some x.now) in
-    let said : Result₁ → List (Type 0) = λ u. IfErr u (λ x. x ≡ find.Absent → w ≡ None) ∷ (Light → IfErr u (λ x. x ≡ find.Absent)) ∷ [] in
+    let said : Result₁ → List (Type 0) = λ u. IfErr u (λ x. x ≡ find.Absent → w ≡ None) ∷ (Light → IfErr u (λ x. x ≡ find.Absent)) ∷ (Lends → IfErr u (λ x. x ≡ find.Absent)) ∷ [] in
     let Tells = λ (u : Result₂). IfOk u (λ found. option_copied_mut found ≡ w) in
-    let tells : Result₂ → List (Type 0) = λ u. (Light → IsOk u) ∷ [] in
+    let tells : Result₂ → List (Type 0) = λ u. (Light → IsOk u) ∷ (Lends → IsOk u) ∷ [] in
     let First = λ (u : Result₁) (v : Val). sep 𝓤 (sep 𝓤 all (sem 𝓛 (Found.own_val u (v ∷ []))))
     (ex 𝓤 (λ (ws : Lasts fm-ended κs a). sep 𝓤 (sem 𝓛 (lasts fm-ended κs a ws)) (sep 𝓤 (sem 𝓛 (Loan u)) (facts 𝓤 (Value u) (said u))))) in
     let Kept = λ (u : Result₁). sep 𝓤 left (sep 𝓤 (sem 𝓛 (Loan u)) (fact 𝓤 (Both (Value u) (said u)))) in
@@ -202,5 +203,5 @@ get_mut_spec 𝓤 𝓛 𝓜 𝓡 wired K V Q LK LV LQ key d equal d' eq d'' key�
     (sep 𝓤 (sem 𝓛 (lends_stored_found (param 0 K) (param 1 V) key eq r e u₂)) (facts 𝓤 (Tells u₂) (tells u₂)))))
     (both_leave 𝓛 all taken left (whole 𝓛 t₀ t₁ t₂ t₃ t₄) (Told.own_val u₂ (v₂ ∷ [])) (Loan u) (lends_stored_found (param 0 K) (param 1 V) key eq r e u₂) (u₂ ≡ absent_as_none u) (Both (Value u) (said u)) (Tells u₂) (tells u₂)
     (λ same. subst (λ (x : Result₂). ent 𝓤 (sem 𝓛 (Loan u)) (sem 𝓛 (lends_stored_found (param 0 K) (param 1 V) key eq r e x))) (sym same) (same_loan 𝓛 (param 0 K) (param 1 V) key eq r e u))
-    (λ same s. subst (λ (x : Result₂). Both (Tells x) (tells x)) (sym same) (found_as_none w u s.0 s.1.0, ok_as_none Light u s.1.1))) $
+    (λ same s. subst (λ (x : Result₂). Both (Tells x) (tells x)) (sym same) (found_as_none w u s.0 s.1.0, (ok_as_none Light u s.1.1.0, ok_as_none Lends u s.1.1.1)))) $
     done !)))))))))))))

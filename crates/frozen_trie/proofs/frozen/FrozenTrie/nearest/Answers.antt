@@ -10,7 +10,7 @@ returns-then-found-eq0 g c =
     record {
       pair = rw (← c.self.view_is) (above_none g.K.TrieKey.encoding c.self.inside.pairs.items (subst IsRising c.self.invariant.keyed c.self.invariant.linked.rising)
           c.args.list.now c.last_prefix-found.result c.if-found-eq0.true
-          (subst (λ cs. IsLastPrefix cs (length cs) c.args.list.now c.last_prefix-found.result) c.self.invariant.keyed (subst (λ q. IsLastPrefix c.self.inside.codes (length c.self.inside.codes) q c.last_prefix-found.result) c.of.ensures c.last_prefix-found.ensures)));
+          (subst (λ cs. IsLastPrefix cs (length cs) c.args.list.now c.last_prefix-found.result) c.self.invariant.keyed c.last_prefix-found.ensures));
     }
 
 pub returns : goal.returns
@@ -19,6 +19,6 @@ returns g c =
     record {
       pair = rw (← c.self.view_is) (above_some g.K.TrieKey.encoding c.self.inside.pairs.items (subst IsRising c.self.invariant.keyed c.self.invariant.linked.rising)
           c.args.list.now c.last_prefix-found.result x (omega (arith, c.if-found-eq0.false))
-          (subst (λ cs. IsLastPrefix cs (length cs) c.args.list.now c.last_prefix-found.result) c.self.invariant.keyed (subst (λ q. IsLastPrefix c.self.inside.codes (length c.self.inside.codes) q c.last_prefix-found.result) c.of.ensures c.last_prefix-found.ensures))
+          (subst (λ cs. IsLastPrefix cs (length cs) c.args.list.now c.last_prefix-found.result) c.self.invariant.keyed c.last_prefix-found.ensures)
           (c.entry_at.ensures ∙ ap (λ l. get_or l (c.last_prefix-found.result - 1) x) c.deref-2.ensures.value));
     }

@@ -17,7 +17,7 @@ returns-in-Some g c =
       pair = rw (← c.self.view_is) (sym (get_at enc ps c.args.list.now c.in-Some.at x rises
           (omega (arith, c.in-Some.ensures.0, ap length same, as_many enc ps rises))
           (c.entry_at.ensures ∙ ap (λ l. get_or l c.in-Some.at x) c.deref.ensures.value)
-          (subst (λ cs. code_at cs c.in-Some.at ≡ c.args.list.now) same (c.in-Some.ensures.1 ∙ c.of.ensures))));
+          (subst (λ cs. code_at cs c.in-Some.at ≡ c.args.list.now) same c.in-Some.ensures.1)));
     }
 
 pub returns-in-None : goal.returns-in-None
@@ -26,5 +26,5 @@ returns-in-None g c =
     let rises = subst IsRising c.self.invariant.keyed c.self.invariant.linked.rising in
     record {
       pair = rw (← c.self.view_is) (sym (get_none enc c.self.inside.pairs.items c.args.list.now rises
-          (subst (λ cs. (k : ℕ) → k < length cs → code_at cs k ≡ c.args.list.now → ⊥) c.self.invariant.keyed (subst (λ q. (k : ℕ) → k < length c.self.inside.codes → code_at c.self.inside.codes k ≡ q → ⊥) c.of.ensures c.in-None.ensures))));
+          (subst (λ cs. (k : ℕ) → k < length cs → code_at cs k ≡ c.args.list.now → ⊥) c.self.invariant.keyed c.in-None.ensures)));
     }

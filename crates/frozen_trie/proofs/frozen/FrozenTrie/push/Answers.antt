@@ -16,7 +16,7 @@ returns-in-Ok-push_linked-clause-stored g c =
     let key = c.args.key in
     let p : g.row.K.Denot × g.row.V.Denot = (key, c.args.value) in
     let rises = subst IsRising c.self.invariant.keyed c.self.invariant.linked.rising in
-    let codes = c.in-Ok-push_linked.ensures.ok ∙ ap (λ x. c.self.inside.codes ++ x ∷ []) (c.of-list.ensures ∙ c.in-Ok.ensures.ok) ∙ ap (λ cs. cs ++ enc key ∷ []) c.self.invariant.keyed in
+    let codes = c.in-Ok-push_linked.ensures.ok ∙ ap (λ x. c.self.inside.codes ++ x ∷ []) (c.as_slice-list.ensures ∙ c.in-Ok.ensures.ok) ∙ ap (λ cs. cs ++ enc key ∷ []) c.self.invariant.keyed in
     let more = subst IsRising (codes ∙ sym (codes_of-more enc ps rises p)) c.in-Ok-push_linked.ensures.linked.rising in
     ap (map_of_pairs enc) (c.push_reserved.ensures.items ∙ ap (λ xs. xs ++ p ∷ []) c.reserve.ensures.items)
     ∙ sym (inserted_last enc ps rises p more) ∙ ap (λ m. fin.insert m (enc key) p) c.self.view_is
@@ -28,7 +28,7 @@ returns-in-Ok-push_linked-clause-pairs g c =
     let key = c.args.key in
     let p : g.row.K.Denot × g.row.V.Denot = (key, c.args.value) in
     let rises = subst IsRising c.self.invariant.keyed c.self.invariant.linked.rising in
-    let codes = c.in-Ok-push_linked.ensures.ok ∙ ap (λ x. c.self.inside.codes ++ x ∷ []) (c.of-list.ensures ∙ c.in-Ok.ensures.ok) ∙ ap (λ cs. cs ++ enc key ∷ []) c.self.invariant.keyed in
+    let codes = c.in-Ok-push_linked.ensures.ok ∙ ap (λ x. c.self.inside.codes ++ x ∷ []) (c.as_slice-list.ensures ∙ c.in-Ok.ensures.ok) ∙ ap (λ cs. cs ++ enc key ∷ []) c.self.invariant.keyed in
     let more = subst IsRising (codes ∙ sym (codes_of-more enc ps rises p)) c.in-Ok-push_linked.ensures.linked.rising in
     ap (λ xs. pairs_below (map_of_pairs enc xs) []) (c.push_reserved.ensures.items ∙ ap (λ xs. xs ++ p ∷ []) c.reserve.ensures.items)
     ∙ whole_is enc (ps ++ p ∷ []) more ∙ ap (λ xs. xs ++ p ∷ []) (sym (whole_is enc ps rises)) ∙ ap (λ m. pairs_below m [] ++ p ∷ []) c.self.view_is
@@ -39,7 +39,7 @@ returns-in-Ok-push_linked-clause-behind g c =
     let ps = c.self.inside.pairs.items in
     let key = c.args.key in
     let rises = subst IsRising c.self.invariant.keyed c.self.invariant.linked.rising in
-    let codes = c.in-Ok-push_linked.ensures.ok ∙ ap (λ x. c.self.inside.codes ++ x ∷ []) (c.of-list.ensures ∙ c.in-Ok.ensures.ok) ∙ ap (λ cs. cs ++ enc key ∷ []) c.self.invariant.keyed in
+    let codes = c.in-Ok-push_linked.ensures.ok ∙ ap (λ x. c.self.inside.codes ++ x ∷ []) (c.as_slice-list.ensures ∙ c.in-Ok.ensures.ok) ∙ ap (λ cs. cs ++ enc key ∷ []) c.self.invariant.keyed in
     subst (λ m. IsBehindAll m (enc key)) c.self.view_is (behind_if_rising enc ps rises (enc key) (subst IsRising codes c.in-Ok-push_linked.ensures.linked.rising))
 
 pub returns-then-is_full-clause-full : goal.returns-then-is_full-clause-full
@@ -62,7 +62,7 @@ returns-then-not-follows-clause-unsorted g c = λ e behind.
     let ps = c.self.inside.pairs.items in
     let key = c.args.key in
     let rises = subst IsRising c.self.invariant.keyed c.self.invariant.linked.rising in
-    let codes = ap (λ x. c.self.inside.codes ++ x ∷ []) (c.of-list.ensures ∙ c.in-Ok.ensures.ok) ∙ ap (λ cs. cs ++ enc key ∷ []) c.self.invariant.keyed in
+    let codes = ap (λ x. c.self.inside.codes ++ x ∷ []) (c.as_slice-list.ensures ∙ c.in-Ok.ensures.ok) ∙ ap (λ cs. cs ++ enc key ∷ []) c.self.invariant.keyed in
     let more = subst IsRising (sym codes) (rising_if_behind enc ps rises (enc key) (subst (λ m. IsBehindAll m (enc key)) (sym c.self.view_is) behind)) in
     let no : false ≡ true = c.if-not-follows.ensures.1 more in true≢false (sym no)
 
@@ -86,7 +86,7 @@ returns-then-is_err-clause-memory g c = λ e light.
     let ps = c.self.inside.pairs.items in
     let key = c.args.key in
     let rises = subst IsRising c.self.invariant.keyed c.self.invariant.linked.rising in
-    let codes = ap (λ x. c.self.inside.codes ++ x ∷ []) (c.of-list.ensures ∙ c.in-Ok.ensures.ok) ∙ ap (λ cs. cs ++ enc key ∷ []) c.self.invariant.keyed in
+    let codes = ap (λ x. c.self.inside.codes ++ x ∷ []) (c.as_slice-list.ensures ∙ c.in-Ok.ensures.ok) ∙ ap (λ cs. cs ++ enc key ∷ []) c.self.invariant.keyed in
     subst (λ m. IsBehindAll m (enc key)) c.self.view_is (behind_if_rising enc ps rises (enc key) (subst IsRising codes (c.if-not-follows.ensures.0 refl)))
 
 pub returns-clause-room : goal.returns-clause-room
@@ -102,5 +102,5 @@ returns-clause-memory g c = λ e light.
     let ps = c.self.inside.pairs.items in
     let key = c.args.key in
     let rises = subst IsRising c.self.invariant.keyed c.self.invariant.linked.rising in
-    let codes = ap (λ x. c.self.inside.codes ++ x ∷ []) (c.of-list.ensures ∙ c.in-Ok.ensures.ok) ∙ ap (λ cs. cs ++ enc key ∷ []) c.self.invariant.keyed in
+    let codes = ap (λ x. c.self.inside.codes ++ x ∷ []) (c.as_slice-list.ensures ∙ c.in-Ok.ensures.ok) ∙ ap (λ cs. cs ++ enc key ∷ []) c.self.invariant.keyed in
     subst (λ m. IsBehindAll m (enc key)) c.self.view_is (behind_if_rising enc ps rises (enc key) (subst IsRising codes (c.if-not-follows.ensures.0 refl)))

@@ -7,5 +7,5 @@ use Rattle.frozen_trie.proofs.frozen.FrozenTrie.rank.Goals as goal
 pub returns : goal.returns
 returns g c = record {
   count = rw (← c.self.view_is) (count_before_is g.K.TrieKey.encoding c.self.inside.pairs.items (subst IsRising c.self.invariant.keyed c.self.invariant.linked.rising)
-      c.args.list.now c.lower.result (subst (λ cs. IsCut (λ x. is_before x c.args.list.now) cs c.lower.result) c.self.invariant.keyed (subst (λ q. IsCut (λ x. is_before x q) c.self.inside.codes c.lower.result) c.of.ensures c.lower.ensures)));
+      c.args.list.now c.lower.result (subst (λ cs. IsCut (λ x. is_before x c.args.list.now) cs c.lower.result) c.self.invariant.keyed c.lower.ensures));
 }

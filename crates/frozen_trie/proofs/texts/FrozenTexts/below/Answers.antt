@@ -8,8 +8,8 @@ use Rattle.frozen_trie.proofs.texts.FrozenTexts.below.Goals as goal
 pub new-requires-clause-order : goal.new-requires-clause-order
 new-requires-clause-order g c =
     let cs = c.self.inside.codes in
-    let low = subst (λ q. IsCut (λ x. is_before x q) cs c.lower-from.result) c.of_bytes.ensures c.lower-from.ensures in
-    let high = subst (λ q. IsCut (λ x. is_until x q) cs c.upper-to.result) c.of_bytes-2.ensures c.upper-to.ensures in
+    let low = subst (λ q. IsCut (λ x. is_before x q) cs c.lower-from.result) c.from_bytes.ensures c.lower-from.ensures in
+    let high = subst (λ q. IsCut (λ x. is_until x q) cs c.upper-to.result) c.from_bytes-2.ensures c.upper-to.ensures in
     text_cuts _ _ _ c.self.invariant (nibbles c.args.prefix.now) c.lower-from.result c.upper-to.result low high
 
 pub new-requires-clause-within : goal.new-requires-clause-within
@@ -18,8 +18,8 @@ new-requires-clause-within g c = omega (arith, c.upper-to.ensures.within, code_c
 pub returns : goal.returns
 returns g c =
     let cs = c.self.inside.codes in
-    let low = subst (λ q. IsCut (λ x. is_before x q) cs c.lower-from.result) c.of_bytes.ensures c.lower-from.ensures in
-    let high = subst (λ q. IsCut (λ x. is_until x q) cs c.upper-to.result) c.of_bytes-2.ensures c.upper-to.ensures in
+    let low = subst (λ q. IsCut (λ x. is_before x q) cs c.lower-from.result) c.from_bytes.ensures c.lower-from.ensures in
+    let high = subst (λ q. IsCut (λ x. is_until x q) cs c.upper-to.result) c.from_bytes-2.ensures c.upper-to.ensures in
     record {
       walk = c.new.ensures ∙ rw (← c.self.view_is) (texts_below _ _ _ c.self.invariant (nibbles c.args.prefix.now) c.lower-from.result c.upper-to.result low high);
     }

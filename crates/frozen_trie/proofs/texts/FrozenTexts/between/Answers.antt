@@ -13,8 +13,8 @@ new-requires-clause-within g c =
 pub returns : goal.returns
 returns g c =
     let cs = c.self.inside.codes in
-    let low = subst (λ q. IsCut (λ x. is_before x q) cs c.lower-start.result) c.of_bytes.ensures c.lower-start.ensures in
-    let high = subst (λ q. IsCut (λ x. is_before x q) cs c.lower-end.result) c.of_bytes-2.ensures c.lower-end.ensures in
+    let low = subst (λ q. IsCut (λ x. is_before x q) cs c.lower-start.result) c.from_bytes.ensures c.lower-start.ensures in
+    let high = subst (λ q. IsCut (λ x. is_before x q) cs c.lower-end.result) c.from_bytes-2.ensures c.lower-end.ensures in
     record {
       walk = c.new.ensures ∙ rw (← c.self.view_is) (texts_within _ _ _ c.self.invariant (nibbles c.args.from.now) (nibbles c.args.to.now)
           c.lower-start.result c.lower-end.result c.max.result low high

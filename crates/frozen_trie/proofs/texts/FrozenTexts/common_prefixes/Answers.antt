@@ -12,5 +12,5 @@ pub returns : goal.returns
 returns g c =
     let cs = c.self.inside.codes in
     let r = c.last_prefix.result in
-    let last = subst (λ q. IsLastPrefix cs (length cs) q r) c.of_bytes.ensures c.last_prefix.ensures in
+    let last = subst (λ q. IsLastPrefix cs (length cs) q r) c.from_bytes.ensures c.last_prefix.ensures in
     record { walk = c.new.ensures ∙ rw (← c.self.view_is) (texts_up _ _ _ c.self.invariant (nibbles c.args.key.now) r last) }

@@ -9,7 +9,7 @@ index-requires g c = omega (arith, c.in-Some.ensures.0, c.self.inside.values.ok.
 
 pub returns-in-Some : goal.returns-in-Some
 returns-in-Some g c = record {
-  value = rw (← c.self.view_is) (value_found _ _ _ c.self.invariant (nibbles c.args.key.now) c.in-Some.at c.index.result.now c.in-Some.ensures.0 c.index.ensures (c.in-Some.ensures.1 ∙ c.of_bytes.ensures));
+  value = rw (← c.self.view_is) (value_found _ _ _ c.self.invariant (nibbles c.args.key.now) c.in-Some.at c.index.result.now c.in-Some.ensures.0 c.index.ensures (c.in-Some.ensures.1 ∙ c.from_bytes.ensures));
 }
 
 pub returns-in-None : goal.returns-in-None
@@ -17,5 +17,5 @@ returns-in-None g c =
     let cs = c.self.inside.codes in
     record {
       value = rw (← c.self.view_is) (no_value _ _ _ c.self.invariant (nibbles c.args.key.now)
-          (subst (λ q. (k : ℕ) → k < length cs → code_at cs k ≡ q → ⊥) c.of_bytes.ensures c.in-None.ensures));
+          (subst (λ q. (k : ℕ) → k < length cs → code_at cs k ≡ q → ⊥) c.from_bytes.ensures c.in-None.ensures));
     }

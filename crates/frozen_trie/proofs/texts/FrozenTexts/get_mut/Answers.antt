@@ -17,7 +17,7 @@ pub returns-in-Some : goal.returns-in-Some
 returns-in-Some g c =
     let list = nibbles c.args.key.now in
     let v = c.index_mut.result.now in
-    let code = c.in-Some.ensures.1 ∙ c.of_bytes.ensures in (
+    let code = c.in-Some.ensures.1 ∙ c.from_bytes.ensures in (
       same_after _ _ _ (λ w. rw (← c.self.view_is) (text_map_written _ _ _ c.self.invariant c.in-Some.at v w c.in-Some.ensures.0 c.index_mut.ensures.value list code)),
       record {
         writes_back = tt;
@@ -31,6 +31,6 @@ returns-in-None g c =
       ap inr c.self.view_is,
       record {
         writes_back = tt;
-        value = rw (← c.self.view_is) (no_value _ _ _ c.self.invariant (nibbles c.args.key.now) (subst (λ q. (k : ℕ) → k < length cs → code_at cs k ≡ q → ⊥) c.of_bytes.ensures c.in-None.ensures));
+        value = rw (← c.self.view_is) (no_value _ _ _ c.self.invariant (nibbles c.args.key.now) (subst (λ q. (k : ℕ) → k < length cs → code_at cs k ≡ q → ⊥) c.from_bytes.ensures c.in-None.ensures));
       },
     )

@@ -11,7 +11,7 @@ pub returns-then-found-eq0 : goal.returns-then-found-eq0
 returns-then-found-eq0 g c =
     let cs = c.self.inside.codes in
     let r = c.last_prefix-found.result in
-    let last = subst (λ q. IsLastPrefix cs (length cs) q r) c.of_bytes.ensures c.last_prefix-found.ensures in
+    let last = subst (λ q. IsLastPrefix cs (length cs) q r) c.from_bytes.ensures c.last_prefix-found.ensures in
     record { pair = rw (← c.self.view_is) (no_text_above _ _ _ c.self.invariant (nibbles c.args.key.now) r c.if-found-eq0.true last) }
 
 pub pair_at-requires : goal.pair_at-requires
@@ -23,7 +23,7 @@ returns g c =
     let cs = c.self.inside.codes in
     let r = c.last_prefix-found.result in
     let x = deref_pair c.pair_at.result in
-    let last = subst (λ q. IsLastPrefix cs (length cs) q r) c.of_bytes.ensures c.last_prefix-found.ensures in
+    let last = subst (λ q. IsLastPrefix cs (length cs) q r) c.from_bytes.ensures c.last_prefix-found.ensures in
     record {
       pair = rw (← c.self.view_is) (text_above _ _ _ c.self.invariant (nibbles c.args.key.now) r x (omega (arith, c.if-found-eq0.false)) last
           (subst (λ m. slice_get (pairs_below m []) (r - 1) ≡ Some x) (sym c.self.view_is) c.pair_at.ensures.pair));

@@ -7,5 +7,5 @@ use Rattle.frozen_trie.proofs.texts.FrozenTexts.rank.Goals as goal
 pub returns : goal.returns
 returns g c =
     let cs = c.self.inside.codes in
-    let low = subst (λ q. IsCut (λ x. is_before x q) cs c.lower.result) c.of_bytes.ensures c.lower.ensures in
+    let low = subst (λ q. IsCut (λ x. is_before x q) cs c.lower.result) c.from_bytes.ensures c.lower.ensures in
     record { count = rw (← c.self.view_is) (texts_before _ _ _ c.self.invariant (nibbles c.args.key.now) c.lower.result low) }

@@ -1,5 +1,6 @@
 //! The first nibbles of lists as numbers, which tell the order of most lists.
 ghost use Rattle.std.specs.Prelude.{◌≡◌, ◌+◌, ◌*◌, ◌<◌, ◌≤◌, ℕ, length, slice_index, slice_index_or, IfOk};
+ghost use Rattle.std.specs.Int.{w64, from_be_bytes};
 ghost use Rattle.std.specs.List.Sorted.{IsNonDecreasing};
 ghost use Rattle.frozen_trie.specs.Heads.{AreNibbles, AreSteps, AreTops, bound_of, head_padded};
 
@@ -25,12 +26,19 @@ fn long_head(list: &NibbleSlice<'_>) -> u64
     ensures head { result ≡ head_padded 0 15 list.now * 16 + 15 }
     ensures nibbles { AreNibbles 15 list.now }
 {
-    let mut head = 0;
-    for i in 0..8 {
-        let two = two(list, i);
-        head = head * 256 + two;
-    }
-    head / 16 * 16 + 15
+    let (bytes, _) = list.as_packed();
+    first_word(bytes) / 16 * 16 + 15
+}
+
+/// The first eight bytes as a number, the first the highest.
+fn first_word(bytes: &[u8]) -> u64
+    requires { 8 ≤ length bytes.now }
+    ensures word { result ≡ from_be_bytes w64 bytes.now }
+    ensures bytes { (i : ℕ) → slice_index bytes.now i < 256 }
+{
+    u64::from_be_bytes([
+        bytes[0], bytes[1], bytes[2], bytes[3], bytes[4], bytes[5], bytes[6], bytes[7],
+    ])
 }
 
 /// The head of a list of at most 14 nibbles.
@@ -58,19 +66,6 @@ fn padded_head(list: &NibbleSlice<'_>, rest: u64) -> u64
         head = head * 256 + two;
     }
     head
-}
-
-/// Two nibbles as a number, those of the byte at an index. Where the list has the first of them alone, the other is 0.
-fn two(list: &NibbleSlice<'_>, i: usize) -> u64
-    requires { 2 * i < length list.now }
-    ensures value { result
-        ≡ slice_index list.now (2 * i) * 16 + slice_index list.now (2 * i + 1) }
-    ensures byte { result < 256 }
-    ensures first { slice_index list.now (2 * i) < 16 }
-    ensures second { slice_index list.now (2 * i + 1) < 16 }
-{
-    let (bytes, _) = list.as_packed();
-    u64::from(bytes[i])
 }
 
 /// Two nibbles as a number, those of the byte at an index, with `rest` for each that the list lacks.

@@ -9,6 +9,7 @@ use Rattle.nibble_map.specs.Lists.{IsBefore, IsPrefix, IsRising}
 use Rattle.nibble_map.proofs.ListLemmas.Cut.{cons_head, cons_same, cons_tail}
 use Rattle.nibble_map.proofs.ListLemmas.Parted.{prefix_itself}
 use Rattle.frozen_trie.specs.Codes.{code_at, is_before, is_until}
+use Rattle.std.specs.Int.{w64, from_be_bytes}
 use Rattle.frozen_trie.specs.Heads.{bound_of, head_in, head_padded, AreNibbles, IsHeaded}
 use Rattle.frozen_trie.proofs.CodeLemmas.Order.{before_by_test, before_passes, until_by_before, until_by_prefix, until_by_test, which_before}
 use Rattle.frozen_trie.proofs.CodeLemmas.Parts.{rising_at}
@@ -284,3 +285,38 @@ module _ (cs : List (List ℕ)) (heads : List ℕ) (kept : IsHeaded cs heads) wh
       | inr (inr g) ↦ absurd (let n = length-append cs (c ∷ []) in omega (arith, l, g, n))
     ];
   }
+
+-- the first eight bytes of a list as one number are its first 16 nibbles
+pub word_head : (bs c : List ℕ) → ((i : ℕ) → i < 8 → get_or bs i 0 ≡ get_or c (2 * i) 0 * 16 + get_or c (2 * i + 1) 0) → from_be_bytes w64 bs ≡ head_padded 0 16 c
+word_head bs c two =
+    let byte = get_or bs in
+    let word : from_be_bytes w64 bs ≡ byte 0 0 * 256 ^ 7 + byte 1 0 * 256 ^ 6 + byte 2 0 * 256 ^ 5 + byte 3 0 * 256 ^ 4 + byte 4 0 * 256 ^ 3 + byte 5 0 * 256 ^ 2 + byte 6 0 * 256 + byte 7 0 = refl in
+    let e₀ : byte 0 0 ≡ get_or c 0 0 * 16 + get_or c 1 0 = two 0 (omega arith) in
+    let e₁ : byte 1 0 ≡ get_or c 2 0 * 16 + get_or c 3 0 = two 1 (omega arith) in
+    let e₂ : byte 2 0 ≡ get_or c 4 0 * 16 + get_or c 5 0 = two 2 (omega arith) in
+    let e₃ : byte 3 0 ≡ get_or c 6 0 * 16 + get_or c 7 0 = two 3 (omega arith) in
+    let e₄ : byte 4 0 ≡ get_or c 8 0 * 16 + get_or c 9 0 = two 4 (omega arith) in
+    let e₅ : byte 5 0 ≡ get_or c 10 0 * 16 + get_or c 11 0 = two 5 (omega arith) in
+    let e₆ : byte 6 0 ≡ get_or c 12 0 * 16 + get_or c 13 0 = two 6 (omega arith) in
+    let e₇ : byte 7 0 ≡ get_or c 14 0 * 16 + get_or c 15 0 = two 7 (omega arith) in
+    omega (
+      arith,
+      word,
+      e₀,
+      e₁,
+      e₂,
+      e₃,
+      e₄,
+      e₅,
+      e₆,
+      e₇,
+      head-none 0 c,
+      head-two 0 0 c,
+      head-two 0 2 c,
+      head-two 0 4 c,
+      head-two 0 6 c,
+      head-two 0 8 c,
+      head-two 0 10 c,
+      head-two 0 12 c,
+      head-two 0 14 c,
+    )

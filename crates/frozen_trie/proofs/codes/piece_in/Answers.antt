@@ -16,8 +16,8 @@ part-requires-clause-within c =
     let w = stands_here c.args.bytes.now c.args.ends.now c.requires.laid c.args.at c.requires.within in
     omega (arith, w.within, half_at c.args.ends.now c.args.at)
 
-pub new-requires : goal.new-requires
-new-requires c =
+pub from_packed-requires : goal.from_packed-requires
+from_packed-requires c =
     let w = stands_here c.args.bytes.now c.args.ends.now c.requires.laid c.args.at c.requires.within in
     let place = c.part.ensures ∙ ap (λ s. piece_of c.args.bytes.now s (get_or c.args.ends.now c.args.at 0 / 2)) c.start-from.ensures
     ∙ ap (piece_of c.args.bytes.now (start_of 0 (halves c.args.ends.now) c.args.at)) (half_at c.args.ends.now c.args.at) in

@@ -73,11 +73,14 @@ pub(crate) fn codes_and_links<K: TrieKey, V>(
     let Ok(mut up) = Vec::with_capacity(alloc, trie.len()) else {
         return Err(FreezeWhy::Memory);
     };
-    let Ok(walk) = trie.iter() else {
-        return Err(FreezeWhy::Memory);
-    };
+    let mut walk = trie.cursor();
     let mut codes = Codes::new(alloc);
-    for (key, _) in walk {
+    loop {
+        let key = match walk.next() {
+            Ok(Some((key, _))) => key,
+            Ok(None) => break,
+            Err(_) => return Err(FreezeWhy::Memory),
+        };
         let Ok(list) = Encoding::of(alloc, key) else {
             return Err(FreezeWhy::Memory);
         };

@@ -46,7 +46,7 @@ impl<K: TrieKey, V> FrozenTrie<K, V> {
             Ok(list) => list,
             Err(_) => return Err(FindError::Memory),
         };
-        match self.at_mut(list) {
+        match self.at_mut(&list.as_slice()) {
             Some(value) => Ok(value),
             None => Err(FindError::Absent),
         }

@@ -18,7 +18,7 @@ loop-network-preserved g c =
       begun = one_more number c.loop-network.numbers c.number_of.new.numbers c.args.walk c.loop-network.network-iterator c.next.new.self (c.in-Some.network.now, c.in-Some.hop.now)
           (record { base = c.to_number.result; bits = c.bits.result; hop = c.in_ok-hop.hop }) c.loop-network.routes.items c.push.new.self.items c.loop-network.invariant.begun
           c.in_ok-hop.ensures.kept c.in-Some.ensures.steps
-          (record { base = ap number (sym c.base.ensures) ∙ sym c.to_number.ensures.value; bits = sym c.bits.ensures; hop = c.in_ok-hop.ensures.number }) c.in_ok-push.ensures.items;
+          (record { base = ap number (sym c.base.ensures.value) ∙ sym c.to_number.ensures.value; bits = sym c.bits.ensures; hop = c.in_ok-hop.ensures.number }) c.in_ok-push.ensures.items;
     }
 
 pub returns : goal.returns

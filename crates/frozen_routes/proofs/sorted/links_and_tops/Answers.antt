@@ -30,8 +30,8 @@ loop-i-preserved g c =
     let step : take (i + 1) rows ≡ take i rows ++ row ∷ [] = take_more rows i c.index-rows-i.result c.loop-i-test.true in
     let few : length (take i rows) + 1 < 2 ^ 32 = omega (arith, length-take i rows, c.loop-i-test.true, c.if-count.false) in
     record {
-      linked = linked_row w number (take i rows) row c.loop-i.up.items _ tops.rest tops.counts.items _ _ c.in-Some.link c.loop-i.invariant.linked few c.in-Some.ensures.0 c.in-Some.ensures.1 step
-          c.push_reserved.ensures.items c.in-Ok-with_room.ensures.counts;
+      linked = linked_row w number (take i rows) row c.loop-i.up.items _ tops.rest tops.rest tops.cells.items _ tops.uppers.items _ _ c.in-Some.link c.loop-i.invariant.linked few c.in-Some.ensures.0 c.in-Some.ensures.1 step
+          c.push_reserved.ensures.items c.in-Ok-with_room.ensures.rest c.in-Ok-with_room.ensures.cells c.in-Ok-with_room.ensures.uppers;
       len = omega (arith, c.push_reserved.ensures.len, c.loop-i.invariant.len);
       room = omega (arith, c.push_reserved.ensures.capacity, c.loop-i.invariant.room);
     }
@@ -43,4 +43,4 @@ returns-clause-ok g c =
     let rows = c.args.rows.now in
     let i = c.loop-i.i in
     let tops = c.in-Ok-with_room.tops in
-    topped w number (take i rows) rows c.loop-i.up.items _ tops.rest tops.counts.items _ _ c.loop-i.invariant.linked (sym (take_all i rows (omega (arith, c.loop-i-test.false)))) refl c.filled.ensures
+    topped w number (take i rows) rows c.loop-i.up.items _ tops.rest tops.cells.items tops.uppers.items _ _ _ c.loop-i.invariant.linked (sym (take_all i rows (omega (arith, c.loop-i-test.false)))) refl c.filled-tops.ensures.cells c.filled-tops.ensures.uppers

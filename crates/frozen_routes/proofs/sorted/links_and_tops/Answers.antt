@@ -1,6 +1,6 @@
 use Rattle.std.proofs.Common.{◌≡◌, ◌+◌, ◌++◌, [], ◌∷◌, ◌<◌, ◌^◌, length, take, refl, sym, subst, arith, get_or}
 use Rattle.std.proofs.lemmas.List.{length-take, take_all, take_more}
-use Rattle.frozen_routes.specs.Routes.{IsFirstOutOfOrder, AreRowsInOrder}
+use Rattle.frozen_routes.specs.Routes.{IsFirstOutOfOrder, AreRowsInOrder, AreUplinks, base_numbers, bit_counts}
 use Rattle.frozen_routes.proofs.RouteLemmas.Growing.{linked_row, table_less, topped}
 use Rattle.frozen_routes.proofs.sorted.links_and_tops.Goals as goal
 
@@ -44,3 +44,20 @@ returns-clause-ok g c =
     let i = c.loop-i.i in
     let tops = c.in-Ok-with_room.tops in
     topped w number (take i rows) rows c.loop-i.up.items _ tops.rest tops.cells.items tops.uppers.items _ _ _ c.loop-i.invariant.linked (sym (take_all i rows (omega (arith, c.loop-i-test.false)))) refl c.filled-tops.ensures.cells c.filled-tops.ensures.uppers
+
+pub link_after-requires-clause-rising : goal.link_after-requires-clause-rising
+link_after-requires-clause-rising g c = c.loop-i.invariant.linked.rising
+
+pub link_after-requires-clause-links : goal.link_after-requires-clause-links
+link_after-requires-clause-links g c = rw (c.deref.ensures.value) c.loop-i.invariant.linked.links
+
+pub filled-tops-requires-clause-rising : goal.filled-tops-requires-clause-rising
+filled-tops-requires-clause-rising g c =
+    subst (AreRowsInOrder g.A.Address.BITS g.A.Address.number) (take_all c.loop-i.i c.args.rows.now (omega (arith, c.loop-i-test.false))) c.loop-i.invariant.linked.rising
+
+pub filled-tops-requires-clause-links : goal.filled-tops-requires-clause-links
+filled-tops-requires-clause-links g c =
+    let w = g.A.Address.BITS in
+    let number = g.A.Address.number in
+    rw (c.deref-2.ensures.value)
+    (subst (λ rs. AreUplinks w (base_numbers number rs) (bit_counts rs) c.loop-i.up.items) (take_all c.loop-i.i c.args.rows.now (omega (arith, c.loop-i-test.false))) c.loop-i.invariant.linked.links)

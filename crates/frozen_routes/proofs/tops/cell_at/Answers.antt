@@ -29,3 +29,26 @@ returns g c =
             subst (IsLastHolder w fs (bit_counts rows) count start) (sym b.around-is) (none_behind w fs (bit_counts rows) count start c.requires.rising c.count_below-count.ensures.within behind)
       ];
     }
+
+pub climb-around-requires-clause-rising : goal.climb-around-requires-clause-rising
+climb-around-requires-clause-rising g c = c.requires.rising
+
+pub climb-around-requires-clause-links : goal.climb-around-requires-clause-links
+climb-around-requires-clause-links g c = c.requires.links
+
+pub climb-around-requires-clause-before : goal.climb-around-requires-clause-before
+climb-around-requires-clause-before g c = λ k l.
+    let below = c.count_below-count.ensures.below k l in
+    let start = c.in-Some.ensures.1 in
+    let whole = ap (λ n. c.args.first * n) (shl_whole 1 1 c.args.rest 128 (omega arith) (omega (arith, c.requires.shift)) ∙ one-mul (2 ^ c.args.rest)) in
+    omega (arith, below, start, whole)
+
+pub climb-around-requires-clause-around : goal.climb-around-requires-clause-around
+climb-around-requires-clause-around g c = record {
+  within = omega arith;
+  holds = λ some. absurd (omega (arith, some));
+  none = λ k l m. absurd (omega (arith, m));
+}
+
+pub count_below-count-requires-clause-rising : goal.count_below-count-requires-clause-rising
+count_below-count-requires-clause-rising g c = c.requires.rising

@@ -13,3 +13,9 @@ invariant_of-self-2 g c =
     tops.rest tops.cells.items tops.uppers.items c.self.invariant c.shrink_to_fit.ensures.items c.shrink_to_fit-2.ensures.items
     (subst (λ rs. AreTopCells tops.rest w (base_numbers number rs) (bit_counts rs) tops.cells.items) c.deref.ensures.value c.filled.ensures.cells)
     (subst (λ rs. AreUppers (base_numbers number rs) tops.uppers.items) c.deref.ensures.value c.filled.ensures.uppers)
+
+pub filled-requires-clause-rising : goal.filled-requires-clause-rising
+filled-requires-clause-rising g c = rw (c.deref.ensures.value, c.shrink_to_fit.ensures.items) c.self.invariant.rising
+
+pub filled-requires-clause-links : goal.filled-requires-clause-links
+filled-requires-clause-links g c = rw (c.deref.ensures.value, c.shrink_to_fit.ensures.items, c.deref-2.ensures.value, c.shrink_to_fit-2.ensures.items) c.self.invariant.links

@@ -45,3 +45,9 @@ invariant_of-self-2 g c =
     let few : length rows + 1 < 2 ^ 32 = omega (arith, c.len.ensures, c.if-len.false) in
     let had = c.self.inside.tops in
     linked_row w number rows row c.self.inside.up.items _ had.rest _ had.cells.items _ had.uppers.items _ _ link c.self.invariant few rising last is ups c.none.ensures.rest c.none.ensures.cells c.none.ensures.uppers
+
+pub link_after-requires-clause-rising : goal.link_after-requires-clause-rising
+link_after-requires-clause-rising g c = rw (c.deref.ensures.value) c.self.invariant.rising
+
+pub link_after-requires-clause-links : goal.link_after-requires-clause-links
+link_after-requires-clause-links g c = rw (c.deref.ensures.value, c.deref-2.ensures.value) c.self.invariant.links

@@ -22,3 +22,12 @@ loop-first-preserved g c =
       within = omega (arith, top.count.within, length-map rows (λ r. number r.0.base));
       below = before_next e fs t c.cell_at-cell.result.count top.count;
     }
+
+pub cell_at-cell-requires-clause-rising : goal.cell_at-cell-requires-clause-rising
+cell_at-cell-requires-clause-rising g c = c.requires.rising
+
+pub cell_at-cell-requires-clause-links : goal.cell_at-cell-requires-clause-links
+cell_at-cell-requires-clause-links g c = c.requires.links
+
+pub cell_at-cell-requires-clause-below : goal.cell_at-cell-requires-clause-below
+cell_at-cell-requires-clause-below g c = c.loop-first.invariant.below

@@ -40,7 +40,8 @@ impl<A: Address, V> FrozenRoutes<A, V> {
     }
 
     /// Appends a row whose network comes after all others: by its first address, or, where another has the same, by
-    /// more bits. It takes constant time but for the climb to the network around it, and drops the table of first bits.
+    /// more bits. It takes constant time but for the climb to the network around it, and drops what `finish` made to
+    /// shorten look-ups.
     ///
     /// # Errors
     ///
@@ -74,17 +75,19 @@ impl<A: Address, V> FrozenRoutes<A, V> {
         }
         self.up.push_reserved(link);
         self.rows.push_reserved(row);
-        self.tops.counts.clear();
+        self.tops = Tops::none(self.alloc);
         Ok(())
     }
 
-    /// Takes no more room than the rows need, and makes a table that shortens look-ups where there are 256 rows or
-    /// more, of at most 4 bytes a row and 4 more. A row that is appended later drops the table.
+    /// Takes no more room than the rows need, and makes what shortens look-ups where there are 256 rows or more: a
+    /// table by the first bits of an address, of at most 16 bytes a row and 8 more, and of IPv6 the upper halves of the
+    /// first addresses, of 8 bytes a row. A row that is appended later drops both. It takes linear time but for the
+    /// climb to the network around each value of the first bits.
     ///
     /// # Errors
     ///
-    /// Memory for the table is refused, which fewer than 256 rows never meet. Each call returns the same
-    /// without it.
+    /// Memory for these is refused, which fewer than 256 rows never meet. Each call returns the same
+    /// without them.
     pub fn finish(&mut self) -> Result<(), Memory>
         ensures same { self.new ≡ self.old }
         ensures few { length self.old < 256 → IsOk result }
@@ -92,7 +95,7 @@ impl<A: Address, V> FrozenRoutes<A, V> {
         self.rows.shrink_to_fit();
         self.up.shrink_to_fit();
         let (tops, room) = Tops::with_room::<A>(self.alloc, self.rows.len())?;
-        self.tops = tops.filled(&self.rows, room);
+        self.tops = tops.filled(&self.rows, &self.up, room);
         Ok(())
     }
 }

@@ -20,7 +20,7 @@ pub struct FrozenRoutes<A: Address, V> {
     pub(crate) rows: Vec<(Network<A>, V)>,
     /// For each row, the index and one more of the last earlier one whose network holds its first address, or 0.
     pub(crate) up: Vec<u32>,
-    /// How many rows come before each value of an address's first bits.
+    /// What is known of the rows at each value of an address's first bits.
     pub(crate) tops: Tops,
     pub(crate) alloc: Global,
 }
@@ -37,7 +37,7 @@ impl<A: Address, V> Model for FrozenRoutes<A, V> {
     ghost view = { λ f. f.rows.items };
 
     ghost invariant = { λ f. AreLinked A.BITS (base_numbers A.number f.rows.items)
-        (bit_counts f.rows.items) f.up.items f.tops.rest f.tops.counts.items };
+        (bit_counts f.rows.items) f.up.items f.tops.rest f.tops.cells.items f.tops.uppers.items };
 }
 
 impl<A: Address, V> FrozenRoutes<A, V> {
@@ -65,10 +65,11 @@ impl<A: Address, V> FrozenRoutes<A, V> {
 
     /// The row of the longest network that holds an address, or None where none does. It allocates nothing.
     ///
-    /// It takes as many comparisons as the count of rows has binary digits. With the table of first bits, which
-    /// `from_sorted` and `finish` make from 256 rows on, the count is that of the rows that agree with the address in
-    /// these bits: in as many as 2 to their number is about the count of all rows, 20 at most. Then it takes a step for
-    /// each network around the last one that begins at or before the address, until one holds it.
+    /// It takes as many comparisons as the count of rows has binary digits, and then a step for each network around the
+    /// last one that begins at or before the address, until one holds it. With the table of first bits, which
+    /// `from_sorted` and `finish` make from 256 rows on, both go over those rows alone whose first address agrees with
+    /// this one in these bits, of which there are as many as the count of all rows has binary digits, but at most 21:
+    /// where none of them holds the address, the table says which row does.
     pub fn look(&self, address: A) -> Option<(&Network<A>, &V)>
         ensures row { IsLongestRow A.BITS A.number self.now (A.number address)
             (option_map row_of_refs result) }

@@ -4,6 +4,7 @@ ghost use Rattle.frozen_routes.specs.Routes.{AreRising, AreRowsInOrder, AreUplin
 
 use crate::rows::{bits_at, first_at};
 use crate::search::climb;
+use crate::tops::Cell;
 use radix_keys::{Address, Network};
 
 /// Whether a network comes after all of some rising ones.
@@ -52,5 +53,10 @@ pub(crate) fn link_after<A: Address, V>(
     if !follows(rows, network) {
         return None;
     }
-    Some(climb(rows, up, rows.len(), network.base()) as u32)
+    let floor = Cell {
+        count: 0,
+        around: 0,
+    };
+    let number = network.base().to_number();
+    Some(climb(rows, up, rows.len(), floor, number) as u32)
 }

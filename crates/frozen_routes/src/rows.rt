@@ -30,13 +30,14 @@ pub(crate) fn bits_at<A: Address, V>(rows: &[(Network<A>, V)], at: usize) -> u8
     rows[at].0.bits()
 }
 
-/// Whether the network at an index holds an address.
-pub(crate) fn holds_at<A: Address, V>(rows: &[(Network<A>, V)], at: usize, address: A) -> bool
+/// Whether the network at an index holds an address, by its number.
+pub(crate) fn holds_at<A: Address, V>(rows: &[(Network<A>, V)], at: usize, number: u128) -> bool
     requires { at < length rows.now }
     ensures { IsTrue result ↔ AgreeIn A.BITS (slice_index (bit_counts rows.now) at)
-        (slice_index (base_numbers A.number rows.now) at) (A.number address) }
+        (slice_index (base_numbers A.number rows.now) at) number }
 {
-    rows[at].0.holds(address)
+    let rest = A::BITS.saturating_sub(bits_at(rows, at));
+    without_last(first_at(rows, at), rest) == without_last(number, rest)
 }
 
 /// Whether the network at an index is this one.

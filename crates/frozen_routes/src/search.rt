@@ -1,22 +1,56 @@
 //! Searches among networks in order.
 ghost use Rattle.std.specs.Prelude.{◌≡◌, ◌↔◌, ◌-◌, ◌/◌, ◌^◌, ◌<◌, ◌≤◌, ℕ, IsTrue, length, slice_index};
-ghost use Rattle.frozen_routes.specs.Routes.{AreInFront, AreUplinks, AreFirstTops, AreUpTo, IsInFront, IsLastHolder, AreRowsInOrder, base_numbers, bit_counts};
+ghost use Rattle.frozen_routes.specs.Routes.{AreInFront, AreUplinks, AreTopCells, AreUpTo, AreUppers, IsInFront, IsLastHolder, AreRowsInOrder, base_numbers, bit_counts};
 
 use crate::rows::{bits_at, first_at, holds_at, without_last};
-use crate::tops::{Tops, top_span};
+use crate::tops::{Cell, Tops, top_span};
 use radix_keys::{Address, Network};
 
-/// How many of the networks begin at or before an address, by its number.
-pub(crate) fn count_to<A: Address, V>(rows: &[(Network<A>, V)], tops: &Tops, number: u128) -> usize
-    requires rising { AreRowsInOrder A.BITS A.number rows.now }
-    requires tops { AreFirstTops tops.now.rest (base_numbers A.number rows.now)
-        tops.now.counts.items }
-    ensures { AreUpTo (base_numbers A.number rows.now) number result }
+/// Whether the network at an index begins at or before an address, by its number. The upper half of its own number tells
+/// so where there is one that differs.
+fn begins_by<A: Address, V>(
+    rows: &[(Network<A>, V)],
+    uppers: &[u64],
+    at: usize,
+    number: u128,
+) -> bool
+    requires within { at < length rows.now }
+    requires uppers { AreUppers (base_numbers A.number rows.now) uppers.now }
+    ensures { IsTrue result ↔ (slice_index (base_numbers A.number rows.now) at ≤ number) }
 {
-    let (mut lo, mut hi) = top_span(rows, tops, number);
+    if at < uppers.len() {
+        let own = uppers[at];
+        let upper = (number >> 64) as u64;
+        if own != upper {
+            return own < upper;
+        }
+    }
+    first_at(rows, at) <= number
+}
+
+/// How many of the networks begin at or before an address, by its number, where it's known that the first `lo` do, and
+/// none from `hi` on.
+fn count_to<A: Address, V>(
+    rows: &[(Network<A>, V)],
+    uppers: &[u64],
+    number: u128,
+    mut lo: usize,
+    mut hi: usize,
+) -> usize
+    requires order { lo ≤ hi }
+    requires within { hi ≤ length rows.now }
+    requires rising { AreRowsInOrder A.BITS A.number rows.now }
+    requires uppers { AreUppers (base_numbers A.number rows.now) uppers.now }
+    requires below { (k : ℕ) → k < lo
+        → slice_index (base_numbers A.number rows.now) k ≤ number }
+    requires above { (k : ℕ) → hi ≤ k → k < length rows.now
+        → number < slice_index (base_numbers A.number rows.now) k }
+    ensures count { AreUpTo (base_numbers A.number rows.now) number result }
+    ensures least { lo ≤ result }
+{
     while lo < hi {
         let mid = lo + (hi - lo) / 2;
-        if first_at(rows, mid) <= number {
+        if begins_by(rows, uppers, mid, number) {
             lo = mid + 1;
         } else {
             hi = mid;
@@ -25,34 +59,39 @@ pub(crate) fn count_to<A: Address, V>(rows: &[(Network<A>, V)], tops: &Tops, num
     lo
 }
 
-/// The last of the first `from` networks that holds an address, by its index and one more, or 0 where there is none.
+/// The last of the first `from` networks that holds an address, by its index and one more, or 0 where there is none; the
+/// floor says so of as many as it counts.
 ///
-/// It goes from each to the link of it, so at most as often as networks hold the first address of the one before
-/// `from`.
+/// It goes from each to the link of it, down to the floor, so at most as often as networks hold the first address of the
+/// one before `from`.
 pub(crate) fn climb<A: Address, V>(
     rows: &[(Network<A>, V)],
     up: &[u32],
     from: usize,
-    address: A,
+    floor: Cell,
+    number: u128,
 ) -> usize
     requires within { from ≤ length rows.now }
+    requires floor { floor.count ≤ from }
     requires linked { from ≤ length up.now }
     requires rising { AreRowsInOrder A.BITS A.number rows.now }
     requires links { AreUplinks A.BITS (base_numbers A.number rows.now) (bit_counts rows.now)
         up.now }
     requires before { (k : ℕ) → k < from
-        → slice_index (base_numbers A.number rows.now) k ≤ A.number address }
+        → slice_index (base_numbers A.number rows.now) k ≤ number }
+    requires around { IsLastHolder A.BITS (base_numbers A.number rows.now) (bit_counts rows.now)
+        floor.count number floor.around }
     ensures { IsLastHolder A.BITS (base_numbers A.number rows.now) (bit_counts rows.now) from
-        (A.number address) result }
+        number result }
 {
     let mut at = from;
-    while at > 0 {
-        if holds_at(rows, at - 1, address) {
+    while at > floor.count as usize {
+        if holds_at(rows, at - 1, number) {
             return at;
         }
         at = up[at - 1] as usize;
     }
-    0
+    floor.around as usize
 }
 
 /// The last of the networks that holds an address, by its index and one more, or 0 where there is none.
@@ -66,13 +105,16 @@ pub(crate) fn last_holder<A: Address, V>(
     requires rising { AreRowsInOrder A.BITS A.number rows.now }
     requires links { AreUplinks A.BITS (base_numbers A.number rows.now) (bit_counts rows.now)
         up.now }
-    requires tops { AreFirstTops tops.now.rest (base_numbers A.number rows.now)
-        tops.now.counts.items }
+    requires tops { AreTopCells tops.now.rest A.BITS (base_numbers A.number rows.now)
+        (bit_counts rows.now) tops.now.cells.items }
+    requires uppers { AreUppers (base_numbers A.number rows.now) tops.now.uppers.items }
     ensures { IsLastHolder A.BITS (base_numbers A.number rows.now) (bit_counts rows.now)
         (length rows.now) (A.number address) result }
 {
-    let from = count_to(rows, tops, address.to_number());
-    climb(rows, up, from, address)
+    let number = address.to_number();
+    let (floor, hi) = top_span(rows, tops, number);
+    let from = count_to(rows, &tops.uppers, number, floor.count as usize, hi);
+    climb(rows, up, from, floor, number)
 }
 
 /// Whether the network at an index comes in front of those within the network of `bits` bits whose addresses have

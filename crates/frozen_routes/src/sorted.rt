@@ -29,12 +29,12 @@ pub struct SortedError<A: Address, V> {
 impl<A: Address, V> FrozenRoutes<A, V> {
     /// The table of rows whose networks rise: by their first addresses, and of one first address by their bits. The
     /// vector is kept as it is, and what `finish` makes to shorten look-ups is made too. It takes linear time but for
-    /// the climb from each network to the one around it.
+    /// the climbs to the network around each network, and around each value of the first bits.
     ///
     /// # Errors
     ///
     /// A network doesn't come after that of the row before it, and the error says of the first such row where it
-    /// stands. There are 2^32 rows or more. Memory for the links or for the table of first bits is refused, before any
+    /// stands. There are 2^32 rows or more. Memory for the links, or for what shortens look-ups, is refused, before any
     /// row is read. The rows come back. Of no row the call never fails.
     pub fn from_sorted(rows: Vec<(Network<A>, V)>) -> Result<FrozenRoutes<A, V>, SortedError<A, V>>
         ensures ok { IfOk result (λ routes. routes ≡ rows.items) }
@@ -58,13 +58,13 @@ impl<A: Address, V> FrozenRoutes<A, V> {
     }
 }
 
-/// The links of rows, and the table of their first bits.
+/// The links of rows, and the table of their first bits with what it has beside it.
 fn links_and_tops<A: Address, V>(
     alloc: Global,
     rows: &[(Network<A>, V)],
 ) -> Result<(Vec<u32>, Tops), SortedWhy>
     ensures ok { IfOk result (λ made. AreLinked A.BITS (base_numbers A.number rows.now)
-        (bit_counts rows.now) made.0.items made.1.rest made.1.counts.items) }
+        (bit_counts rows.now) made.0.items made.1.rest made.1.cells.items made.1.uppers.items) }
     ensures unsorted { IfErr result (λ why. (i : ℕ) → why ≡ SortedWhy.Unsorted i
         → IsFirstOutOfOrder A.BITS A.number rows.now i) }
     ensures full { IfErr result (λ why. why ≡ SortedWhy.Full → 2 ^ 32 ≤ length rows.now) }
@@ -86,5 +86,6 @@ fn links_and_tops<A: Address, V>(
         };
         up.push_reserved(link);
     }
-    Ok((up, tops.filled(rows, room)))
+    let tops = tops.filled(rows, &up, room);
+    Ok((up, tops))
 }

@@ -1,4 +1,4 @@
-//! Small tables, with answers by hand, and two with a table by the first bits.
+//! Small tables, with answers by hand, and some with a table by the first bits.
 
 use crate::{FrozenRoutes, SortedWhy};
 use radix_keys::{Address, Network};
@@ -292,4 +292,65 @@ fn tables_by_first_bits(rt: HostRuntime) {
         };
         assert!(rt; held == *count);
     }
+}
+
+/// The first address of `2000::/3`, of the networks within it, and of `4000::/3`.
+const WIDE: u128 = 0x2000 << 112;
+
+const WITHIN: u128 = 0x2001_0db8 << 96;
+
+const BEHIND: u128 = 0x4000 << 112;
+
+/// A table of `2000::/3`, and of networks of 120 bits side by side within it, so many in all, each with its index.
+fn side_by_side(alloc: Global, count: u32) -> Option<FrozenRoutes<Ipv6Addr, u32>> {
+    let mut table = FrozenRoutes::new(alloc);
+    let wide = Network::new(Ipv6Addr::from_bits(WIDE), 3)?;
+    table.push(wide, 0).ok()?;
+    for i in 1..count {
+        let base = Ipv6Addr::from_bits(WITHIN.wrapping_add((i as u128) << 8));
+        table.push(Network::new(base, 120)?, i).ok()?;
+    }
+    table.finish().ok()?;
+    Some(table)
+}
+
+/// The value of the row that holds the address of a number.
+fn found_at(table: &FrozenRoutes<Ipv6Addr, u32>, number: u128) -> Option<u32> {
+    match table.look(Ipv6Addr::from_bits(number)) {
+        Some((_, value)) => Some(*value),
+        None => None,
+    }
+}
+
+/// Whether such a table finds its networks, and this one behind them.
+fn are_side_by_side(table: &FrozenRoutes<Ipv6Addr, u32>, count: u32, behind: Option<u32>) -> bool {
+    for i in 1..count {
+        let first = WITHIN.wrapping_add((i as u128) << 8);
+        let last = first.wrapping_add(255);
+        if found_at(table, first) != Some(i) || found_at(table, last) != Some(i) {
+            return false;
+        }
+    }
+    found_at(table, WIDE - 1).is_none()
+        && found_at(table, WIDE) == Some(0)
+        && found_at(table, WITHIN) == Some(0)
+        && found_at(table, WITHIN + (1 << 64)) == Some(0)
+        && found_at(table, BEHIND - 1) == Some(0)
+        && found_at(table, BEHIND) == behind
+}
+
+/// Whether it does before a network behind all others is appended, after that, and with its table anew.
+fn are_found_through_a_push(alloc: Global, count: u32) -> Option<bool> {
+    let mut table = side_by_side(alloc, count)?;
+    let before = are_side_by_side(&table, count, None);
+    let behind = Network::new(Ipv6Addr::from_bits(BEHIND), 3)?;
+    table.push(behind, count).ok()?;
+    let after = are_side_by_side(&table, count, Some(count));
+    table.finish().ok()?;
+    Some(before && after && are_side_by_side(&table, count, Some(count)))
+}
+
+#[test]
+fn networks_with_equal_upper_halves(rt: HostRuntime) {
+    assert!(rt; are_found_through_a_push(rt.alloc(), 300) == Some(true));
 }

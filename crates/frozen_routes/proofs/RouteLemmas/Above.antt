@@ -5,12 +5,11 @@ use Rattle.std.specs.List.{filter}
 use Rattle.std.proofs.lemmas.Bool.{eq-eqb, eqb-true, ne_eqb}
 use Rattle.std.proofs.lemmas.List.{length-map, reverse-append, take_all, take_more}
 use Rattle.std.proofs.lemmas.List.Elements.{filter-append}
-use Rattle.std.proofs.lemmas.Nat.{shr-shr}
 use Rattle.nibble_map.proofs.MapLemmas.SameTests.{equal_tests}
 use Rattle.radix_keys.proofs.KeyLemmas.Order.{three_ways}
 use Rattle.radix_keys.specs.Networks.{Net, AgreeIn}
 use Rattle.frozen_routes.specs.Routes.{AreRowsInOrder, IsLastHolder, base_numbers, bit_counts, is_holder, rows_up}
-use Rattle.frozen_routes.proofs.RouteLemmas.Blocks.{base_first, nested, sandwich}
+use Rattle.frozen_routes.proofs.RouteLemmas.Blocks.{base_first, coarser, nested, sandwich}
 use Rattle.frozen_routes.proofs.RouteLemmas.Links.{firsts_to}
 
 -- tests that agree on the first n items keep the same of these
@@ -34,12 +33,6 @@ cut_filter t zero (suc m) (x ∷ xs) l h =
     ∙ cut_filter t zero m xs (omega arith) (λ k a b d. h (suc k) (omega arith) (omega (arith, b)) (omega (arith, d)))
 cut_filter t (suc n) (suc m) (x ∷ xs) l h =
     ap (λ l. cond (t x) (x ∷ l) l) (cut_filter t n m xs (omega (arith, l)) (λ k a b d. h (suc k) (omega (arith, a)) (omega (arith, b)) (omega (arith, d))))
-
--- numbers that agree in more bits agree in fewer
-pub coarser : (m a e d : ℕ) → e ≤ d → m / 2 ^ e ≡ a / 2 ^ e → m / 2 ^ d ≡ a / 2 ^ d
-coarser m a e d le same =
-    let whole : e + (d - e) ≡ d = omega (arith, le) in
-    subst (λ k. m / 2 ^ k ≡ a / 2 ^ k) whole (sym (shr-shr m e (d - e)) ∙ ap (λ x. x / 2 ^ (d - e)) same ∙ shr-shr a e (d - e))
 
 module _ {A V : Type 0} (w : ℕ) (number : A → ℕ) where
   -- the test of a row by its numbers

@@ -1,7 +1,7 @@
 -- Blocks of numbers: those that agree in all but their last bits. Networks nest or are apart.
-use Rattle.std.proofs.Common.{◌≡◌, ℕ, ◌+◌, ◌-◌, ◌*◌, ◌/◌, ◌%◌, ◌^◌, ◌≤◌, inl, inr, ap, sym, subst, arith}
+use Rattle.std.proofs.Common.{◌≡◌, ℕ, ◌+◌, ◌-◌, ◌*◌, ◌/◌, ◌%◌, ◌^◌, ◌≤◌, inl, inr, ap, sym, subst, ◌∙◌, arith}
 use Rattle.std.proofs.lemmas.Bool.{cases_lt}
-use Rattle.std.proofs.lemmas.Nat.{le-div, mod-pow-add, pow_pos, shr_split}
+use Rattle.std.proofs.lemmas.Nat.{le-div, mod-pow-add, pow_pos, shr-shr, shr_split}
 use Rattle.std.proofs.Math.Nat.{div-mul-le_self}
 use Rattle.radix_keys.specs.Networks.{IsBase, AgreeIn}
 use Rattle.frozen_routes.specs.Routes.{IsEarlier}
@@ -30,6 +30,12 @@ finer m e d le none =
     let split = mod-pow-add m (d - e) e in
     let z = subst (λ k. m % 2 ^ k ≡ 0) whole none in
     omega (arith, split, z)
+
+-- numbers that agree in more bits agree in fewer
+pub coarser : (m a e d : ℕ) → e ≤ d → m / 2 ^ e ≡ a / 2 ^ e → m / 2 ^ d ≡ a / 2 ^ d
+coarser m a e d le same =
+    let whole : e + (d - e) ≡ d = omega (arith, le) in
+    subst (λ k. m / 2 ^ k ≡ a / 2 ^ k) whole (sym (shr-shr m e (d - e)) ∙ ap (λ x. x / 2 ^ (d - e)) same ∙ shr-shr a e (d - e))
 
 -- of two networks the earlier one begins at or before the other
 pub earlier_le : (m k n j : ℕ) → IsEarlier m k n j → m ≤ n

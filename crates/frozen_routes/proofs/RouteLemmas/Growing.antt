@@ -6,9 +6,10 @@ use Rattle.std.proofs.lemmas.List.{get_or_append_left, length-append, length-map
 use Rattle.std.proofs.Math.Seq.{get_or-append_seam}
 use Rattle.radix_keys.proofs.KeyLemmas.Order.{three_ways}
 use Rattle.radix_keys.specs.Networks.{AgreeIn, IsBase, Net}
-use Rattle.frozen_routes.specs.Routes.{AreLinked, AreRising, AreFirstTops, IsEarlier, IsLastHolder, AreRowsInOrder, base_numbers, bit_counts}
+use Rattle.frozen_routes.specs.declared.tops.Cell.{Cell}
+use Rattle.frozen_routes.specs.Routes.{AreLinked, AreRising, AreTopCells, AreUppers, IsEarlier, IsLastHolder, AreRowsInOrder, base_numbers, bit_counts}
 use Rattle.frozen_routes.proofs.RouteLemmas.Blocks.{earlier_le}
-use Rattle.frozen_routes.proofs.RouteLemmas.Tops.{no_tops}
+use Rattle.frozen_routes.proofs.RouteLemmas.Tops.{no_cells}
 
 -- what comes before one that comes before a third comes before the third
 pub earlier_through : (a b c d e f : ℕ) → IsEarlier a b c d → IsEarlier c d e f → IsEarlier a b e f
@@ -132,14 +133,14 @@ module _ (w : ℕ) (fs bs : List ℕ) (f b : ℕ) (even : length bs ≡ length f
         (subst (λ i. AgreeIn w (get_or (bs ++ b ∷ []) k 0) i a) (first_kept k before) p));
   }
 
-  -- one row more and its link
-  pub linked_more : (up us : List ℕ) (e : ℕ) (ts none : List ℕ) (r : ℕ) → AreLinked w fs bs up e ts → length fs + 1 < 2 ^ 32 → AreRising w (fs ++ f ∷ []) (bs ++ b ∷ []) → IsLastHolder w fs bs (length fs) f r
-      → us ≡ up ++ r ∷ [] → none ≡ [] → AreLinked w (fs ++ f ∷ []) (bs ++ b ∷ []) us e none
-  linked_more up us e ts none r kept few rising last is empty =
+  -- one row more and its link, and no table
+  pub linked_more : (up us : List ℕ) (e d : ℕ) (ts none : List Cell) (hs nil : List ℕ) (r : ℕ) → AreLinked w fs bs up e ts hs → length fs + 1 < 2 ^ 32 → AreRising w (fs ++ f ∷ []) (bs ++ b ∷ [])
+      → IsLastHolder w fs bs (length fs) f r → us ≡ up ++ r ∷ [] → d < 128 → none ≡ [] → nil ≡ [] → AreLinked w (fs ++ f ∷ []) (bs ++ b ∷ []) us d none nil
+  linked_more up us e d ts none hs nil r kept few rising last is shift empty bare =
       let n = length-append fs (f ∷ []) in
       let m = length-append up (r ∷ []) in
       let same = kept.linked in
-      subst (λ vs. AreLinked w (fs ++ f ∷ []) (bs ++ b ∷ []) vs e none) (sym is) (record {
+      subst (λ vs. AreLinked w (fs ++ f ∷ []) (bs ++ b ∷ []) vs d none nil) (sym is) (record {
         few = omega (arith, few, n);
         rising = rising;
         linked = omega (arith, n, m, same);
@@ -155,7 +156,8 @@ module _ (w : ℕ) (fs bs : List ℕ) (f b : ℕ) (even : length bs ≡ length f
               (holder_kept (length fs) f r (omega arith) last)))
           | inr (inr g) ↦ absurd (omega (arith, g, l, m, same))
         ];
-        tops = no_tops e (fs ++ f ∷ []) none kept.tops.shift empty;
+        tops = no_cells d w (fs ++ f ∷ []) (bs ++ b ∷ []) none shift empty;
+        uppers = λ i l. absurd (let none = ap length bare in omega (arith, none, l));
       })
 
 -- each row has both numbers
@@ -177,23 +179,24 @@ module _ {A V : Type 0} (w : ℕ) (number : A → ℕ) (rows : List (Net A × V)
       (subst (λ bs. AreRising w (base_numbers number (rows ++ row ∷ [])) bs) (map_push (λ (r : Net A × V). r.0.bits) rows row) rising)
 
   -- one row more and its link
-  pub linked_row : (up us : List ℕ) (e : ℕ) (ts none : List ℕ) (more : List (Net A × V)) (r : ℕ) → AreLinked w (base_numbers number rows) (bit_counts rows) up e ts → length rows + 1 < 2 ^ 32
+  pub linked_row : (up us : List ℕ) (e d : ℕ) (ts none : List Cell) (hs nil : List ℕ) (more : List (Net A × V)) (r : ℕ) → AreLinked w (base_numbers number rows) (bit_counts rows) up e ts hs
+      → length rows + 1 < 2 ^ 32
       → AreRising w (base_numbers number rows ++ number row.0.base ∷ []) (bit_counts rows ++ row.0.bits ∷ [])
       → IsLastHolder w (base_numbers number rows) (bit_counts rows) (length rows) (number row.0.base) r
-      → more ≡ rows ++ row ∷ [] → us ≡ up ++ r ∷ [] → none ≡ [] → AreLinked w (base_numbers number more) (bit_counts more) us e none
-  linked_row up us e ts none more r kept few rising last is ups empty =
+      → more ≡ rows ++ row ∷ [] → us ≡ up ++ r ∷ [] → d < 128 → none ≡ [] → nil ≡ [] → AreLinked w (base_numbers number more) (bit_counts more) us d none nil
+  linked_row up us e d ts none hs nil more r kept few rising last is ups shift empty bare =
       let all = length-map rows (λ s. number s.0.base) in
       let holder = subst (λ n. IsLastHolder w (base_numbers number rows) (bit_counts rows) n (number row.0.base) r) (sym all) last in
       let linked =
-      linked_more w (base_numbers number rows) (bit_counts rows) (number row.0.base) row.0.bits (as_many number rows) up us e ts none r kept (omega (arith, few, all)) rising holder ups empty in
-      subst (λ rs. AreLinked w (base_numbers number rs) (bit_counts rs) us e none) (sym is)
-      (subst (λ bs. AreLinked w (base_numbers number (rows ++ row ∷ [])) bs us e none) (sym (map_push (λ (s : Net A × V). s.0.bits) rows row))
-      (subst (λ fs. AreLinked w fs (bit_counts rows ++ row.0.bits ∷ []) us e none) (sym (map_push (λ (s : Net A × V). number s.0.base) rows row)) linked))
+      linked_more w (base_numbers number rows) (bit_counts rows) (number row.0.base) row.0.bits (as_many number rows) up us e d ts none hs nil r kept (omega (arith, few, all)) rising holder ups shift empty bare in
+      subst (λ rs. AreLinked w (base_numbers number rs) (bit_counts rs) us d none nil) (sym is)
+      (subst (λ bs. AreLinked w (base_numbers number (rows ++ row ∷ [])) bs us d none nil) (sym (map_push (λ (s : Net A × V). s.0.bits) rows row))
+      (subst (λ fs. AreLinked w fs (bit_counts rows ++ row.0.bits ∷ []) us d none nil) (sym (map_push (λ (s : Net A × V). number s.0.base) rows row)) linked))
 
 -- the same rows and links with another table
-pub topped : {A V : Type 0} (w : ℕ) (number : A → ℕ) (rows again : List (Net A × V)) (up us : List ℕ) (e : ℕ) (ts : List ℕ) (d : ℕ) (vs : List ℕ)
-    → AreLinked w (base_numbers number rows) (bit_counts rows) up e ts → again ≡ rows → us ≡ up → AreFirstTops d (base_numbers number again) vs
-    → AreLinked w (base_numbers number again) (bit_counts again) us d vs
-topped w number rows again up us e ts d vs kept same links tops =
-    let moved = subst (λ rs. AreLinked w (base_numbers number rs) (bit_counts rs) us e ts) (sym same) (subst (λ ks. AreLinked w (base_numbers number rows) (bit_counts rows) ks e ts) (sym links) kept) in
-    record { few = moved.few; rising = moved.rising; linked = moved.linked; links = moved.links; tops = tops }
+pub topped : {A V : Type 0} (w : ℕ) (number : A → ℕ) (rows again : List (Net A × V)) (up us : List ℕ) (e : ℕ) (ts : List Cell) (hs : List ℕ) (d : ℕ) (vs : List Cell) (halves : List ℕ)
+    → AreLinked w (base_numbers number rows) (bit_counts rows) up e ts hs → again ≡ rows → us ≡ up → AreTopCells d w (base_numbers number again) (bit_counts again) vs
+    → AreUppers (base_numbers number again) halves → AreLinked w (base_numbers number again) (bit_counts again) us d vs halves
+topped w number rows again up us e ts hs d vs halves kept same links tops uppers =
+    let moved = subst (λ rs. AreLinked w (base_numbers number rs) (bit_counts rs) us e ts hs) (sym same) (subst (λ ks. AreLinked w (base_numbers number rows) (bit_counts rows) ks e ts hs) (sym links) kept) in
+    record { few = moved.few; rising = moved.rising; linked = moved.linked; links = moved.links; tops = tops; uppers = uppers }

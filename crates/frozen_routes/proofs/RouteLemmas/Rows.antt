@@ -1,5 +1,5 @@
 -- What the numbers of rows say of the rows.
-use Rattle.std.proofs.Common.{◌≡◌, ℕ, zero, suc, ◌-◌, ◌<◌, ◌≤◌, ◌↔◌, inl, inr, Bool, true, List, [], ◌∷◌, Some, length, map as each, subst, sym, ap, arith, get_or, slice_get}
+use Rattle.std.proofs.Common.{◌≡◌, ℕ, zero, suc, ◌-◌, ◌<◌, ◌≤◌, inl, inr, List, [], ◌∷◌, Some, length, map as each, subst, sym, ap, arith, get_or, slice_get}
 use Rattle.std.proofs.lemmas.List.{length-map}
 use Rattle.radix_keys.proofs.KeyLemmas.Order.{three_ways}
 use Rattle.radix_keys.specs.Networks.{Net, AgreeIn}
@@ -18,13 +18,6 @@ pub is_stored : {X : Type 0} (xs : List X) (i : ℕ) (x : X) → i < length xs �
 is_stored [] i x l e = absurd (omega (arith, l))
 is_stored (y ∷ ys) zero x l e = ap Some (sym e)
 is_stored (y ∷ ys) (suc i) x l e = is_stored ys i x (omega (arith, l)) e
-
--- what tells whether a network holds a tells it of the same numbers
-pub agree_by : (t : Bool) (w k k' n n' a : ℕ) → k ≡ k' → n ≡ n' → (t ≡ true) ↔ AgreeIn w k n a → (t ≡ true) ↔ AgreeIn w k' n' a
-agree_by t w k k' n n' a p q h = (
-  λ e. subst (λ i. AgreeIn w i n' a) p (subst (λ i. AgreeIn w k i a) q (h.0 e)),
-  λ r. h.1 (subst (λ i. AgreeIn w i n a) (sym p) (subst (λ i. AgreeIn w k' i a) (sym q) r)),
-)
 
 module _ {A V : Type 0} (w : ℕ) (number : A → ℕ) (rows : List (Net A × V)) (rising : AreRowsInOrder w number rows) where
   -- what a stored row's numbers are

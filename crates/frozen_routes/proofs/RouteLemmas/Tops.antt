@@ -1,10 +1,14 @@
--- How many networks come before each value of the first bits.
-use Rattle.std.proofs.Common.{◌≡◌, ℕ, ◌+◌, ◌*◌, ◌/◌, ◌^◌, ◌<◌, ◌≤◌, ◌++◌, [], ◌∷◌, inl, inr, List, length, ap, sym, subst, ◌∙◌, arith, get_or, add-mul, one-mul}
+-- What is known at each value of the first bits.
+use Rattle.std.proofs.Common.{◌≡◌, ℕ, zero, suc, ◌+◌, ◌-◌, ◌*◌, ◌/◌, ◌^◌, ◌<◌, ◌≤◌, ◌⊎◌, ◌++◌, [], ◌∷◌, inl, inr, Some, List, length, ap, refl, sym, subst, ◌∙◌, arith, get_or, slice_get, add-mul, one-mul}
 use Rattle.std.proofs.lemmas.Bool.{cases_lt}
 use Rattle.std.proofs.lemmas.List.{get_or_append_left, length-append}
+use Rattle.std.proofs.lemmas.Nat.{mod_below, mul-le, pow-add, pow_pos, shr_split}
+use Rattle.std.proofs.Math.Nat.{mul-div_cancel, mul-mod_left}
 use Rattle.std.proofs.Math.Seq.{get_or-append_seam}
-use Rattle.std.proofs.lemmas.Nat.{mod_below, mul-le, pow_pos, shr_split}
-use Rattle.frozen_routes.specs.Routes.{AreFirstTops, IsFirstTop}
+use Rattle.radix_keys.specs.Networks.{AgreeIn}
+use Rattle.frozen_routes.specs.declared.tops.Cell.{Cell}
+use Rattle.frozen_routes.specs.Routes.{AreRising, AreTopCells, AreUppers, IsFirstTop, IsLastHolder, IsTopCell}
+use Rattle.frozen_routes.proofs.RouteLemmas.Blocks.{coarser, finer, sandwich, start_is_least}
 
 -- the next block begins behind this one
 next_block : (q e : ℕ) → (q + 1) * 2 ^ e ≡ q * 2 ^ e + 2 ^ e
@@ -18,6 +22,10 @@ quotient_less f t e h =
 -- and one of another block isn't
 pub quotient_most : (f t e : ℕ) → t ≤ f / 2 ^ e → t * 2 ^ e ≤ f
 quotient_most f t e h = omega (arith, shr_split f e, mul-le t (2 ^ e) (f / 2 ^ e) (2 ^ e) h (omega arith))
+
+-- so many numbers are the blocks of a power of two
+whole_power : (w k : ℕ) → k ≤ w → 2 ^ k * 2 ^ (w - k) ≡ 2 ^ w
+whole_power w k le = let whole : k + (w - k) ≡ w = omega (arith, le) in sym (pow-add 2 k (w - k)) ∙ ap (λ n. 2 ^ n) whole
 
 -- those before the block of a number begin at or before it
 pub top_below : (e : ℕ) (fs : List ℕ) (a t n k : ℕ) → IsFirstTop e fs t n → t ≡ a / 2 ^ e → k < n → get_or fs k 0 ≤ a
@@ -48,24 +56,92 @@ top_order e fs t m n x y = elim (cases_lt n m) [
 pub before_next : (e : ℕ) (fs : List ℕ) (t n : ℕ) → IsFirstTop e fs t n → (k : ℕ) → k < n → get_or fs k 0 < (t + 1) * 2 ^ e
 before_next e fs t n top k l = let below = top.below k l in omega (arith, below, next_block t e)
 
+-- a network that begins before a block and holds the block's first number holds each of its numbers
+whole_block : (w k m t e a : ℕ) → m < t * 2 ^ e → t ≡ a / 2 ^ e → AgreeIn w k m (t * 2 ^ e) → AgreeIn w k m a
+whole_block w k m t e a before is holds = elim (cases_lt e (w - k)) [
+  | inl lt ↦ holds ∙ coarser (t * 2 ^ e) a e (w - k) (omega (arith, lt)) (mul-div_cancel t (pow_pos e) ∙ is)
+  | inr le ↦
+      let none = finer (t * 2 ^ e) (w - k) e le (mul-mod_left t (2 ^ e)) in
+      let same = start_is_least m (t * 2 ^ e) (w - k) (omega (arith, before)) none holds in
+      absurd (omega (arith, before, same))
+]
+
+-- so the last holder of a block's first number is that of each of its numbers
+pub top_around : (e w : ℕ) (fs bs : List ℕ) (t a : ℕ) (cell : Cell) → IsTopCell e w fs bs t cell → t ≡ a / 2 ^ e → IsLastHolder w fs bs cell.count a cell.around
+top_around e w fs bs t a cell top is = record {
+  within = top.around.within;
+  holds = λ some. let le = top.around.within in
+      whole_block w _ _ t e a (top.count.below (cell.around - 1) (omega (arith, some, le))) is (top.around.holds some);
+  none = λ k l m p.
+      let below = top.count.below k m in
+      top.around.none k l m (sandwich (get_or fs k 0) (t * 2 ^ e) a (w - get_or bs k 0) (omega (arith, below)) (quotient_most a t e (omega (arith, is))) p);
+}
+
+-- a number is of fewer blocks than its bits count
+fewer_blocks : (w k m : ℕ) → k ≤ w → m < 2 ^ w → m / 2 ^ (w - k) < 2 ^ k
+fewer_blocks w k m le few = elim (cases_lt (m / 2 ^ (w - k)) (2 ^ k)) [
+  | inl lt ↦ lt
+  | inr ge ↦
+      let most = quotient_most m (2 ^ k) (w - k) ge in
+      absurd (omega (arith, most, few, whole_power w k le))
+]
+
+-- no network holds a number behind the last address
+pub none_behind : (w : ℕ) (fs bs : List ℕ) (n a : ℕ) → AreRising w fs bs → n ≤ length fs → 2 ^ w ≤ a → IsLastHolder w fs bs n a 0
+none_behind w fs bs n a rising within behind = record {
+  within = omega arith;
+  holds = λ some. absurd (omega (arith, some));
+  none = λ k l m p.
+      let base = rising.bases k (omega (arith, m, within)) in
+      let size = get_or bs k 0 in
+      let few = fewer_blocks w size (get_or fs k 0) base.1 base.0 in
+      let less = quotient_less a (2 ^ size) (w - size) (omega (arith, few, p)) in
+      absurd (omega (arith, less, behind, whole_power w size base.1));
+}
+
 -- no table says anything
-pub no_tops : (e : ℕ) (fs ts : List ℕ) → e < 128 → ts ≡ [] → AreFirstTops e fs ts
-no_tops e fs ts few none = record { shift = few; counts = λ t l. absurd (let nil = ap length none in omega (arith, nil, l)) }
+pub no_cells : (e w : ℕ) (fs bs : List ℕ) (cells : List Cell) → e < 128 → cells ≡ [] → AreTopCells e w fs bs cells
+no_cells e w fs bs cells few none = record {
+  shift = few;
+  cells = λ t cell at. absurd (let no = subst (λ cs. slice_get cs t ≡ Some cell) none at in cc no);
+}
+
+-- what is stored in a list and one more
+stored_more : {X : Type 0} (xs : List X) (x : X) (i : ℕ) (y : X) → slice_get (xs ++ x ∷ []) i ≡ Some y → (slice_get xs i ≡ Some y) ⊎ ((i ≡ length xs) × (x ≡ y))
+stored_more [] x zero y at = inr (refl, cc at)
+stored_more [] x (suc i) y at = absurd (cc at)
+stored_more (z ∷ zs) x zero y at = inl at
+stored_more (z ∷ zs) x (suc i) y at = elim (stored_more zs x i y at) [
+  | inl h ↦ inl h
+  | inr h ↦ let same = h.0 in inr (omega (arith, same), h.1)
+]
 
 -- one more of the table
-pub tops_more : (e : ℕ) (fs ts us : List ℕ) (t n : ℕ) → AreFirstTops e fs ts → length ts ≡ t → IsFirstTop e fs t n → us ≡ ts ++ n ∷ []
-    → (length us ≡ t + 1) × AreFirstTops e fs us
-tops_more e fs ts us t n tops many top is =
-    let long : length us ≡ t + 1 = omega (arith, ap length is, length-append ts (n ∷ []), many) in (
-      long,
+pub cells_more : (e w : ℕ) (fs bs : List ℕ) (cells more : List Cell) (t : ℕ) (cell : Cell) → AreTopCells e w fs bs cells → length cells ≡ t
+    → IsTopCell e w fs bs t cell → more ≡ cells ++ cell ∷ [] → (length more ≡ t + 1) × AreTopCells e w fs bs more
+cells_more e w fs bs cells more t cell tops many top is =
+    let long = ap length is in (
+      omega (arith, long, length-append cells (cell ∷ []), many),
       record {
         shift = tops.shift;
-        counts = λ s l. subst (λ vs. IsFirstTop e fs s (get_or vs s 0)) (sym is) (elim (cases_lt s t) [
-          | inl lt ↦ subst (IsFirstTop e fs s) (sym (get_or_append_left ts (n ∷ []) 0 s (omega (arith, lt, many)))) (tops.counts s (omega (arith, lt, many)))
-          | inr ge ↦
-              let same : t ≡ s = omega (arith, l, long, ge) in
-              let here = ap (λ k. get_or (ts ++ n ∷ []) k 0) (sym many) ∙ get_or-append_seam ts n [] 0 in
-              subst (λ k. IsFirstTop e fs k (get_or (ts ++ n ∷ []) k 0)) same (subst (IsFirstTop e fs t) (sym here) top)
-        ]);
+        cells = λ s c at. elim (stored_more cells cell s c (subst (λ cs. slice_get cs s ≡ Some c) is at)) [
+          | inl h ↦ tops.cells s c h
+          | inr h ↦ subst (λ k. IsTopCell e w fs bs k c) (sym (h.0 ∙ many)) (subst (IsTopCell e w fs bs t) h.1 top)
+        ];
       },
+    )
+
+-- one more of the upper halves
+pub uppers_more : (fs us more : List ℕ) (i f : ℕ) → AreUppers fs us → length us ≡ i → f ≡ get_or fs i 0 → more ≡ us ++ (f / 2 ^ 64) ∷ [] → (length more ≡ i + 1) × AreUppers fs more
+uppers_more fs us more i f kept many first is =
+    let long = ap length is in
+    let all : length more ≡ i + 1 = omega (arith, long, length-append us ((f / 2 ^ 64) ∷ []), many) in (
+      all,
+      λ k l. ap (λ vs. get_or vs k 0) is ∙ elim (cases_lt k i) [
+        | inl lt ↦ get_or_append_left us ((f / 2 ^ 64) ∷ []) 0 k (omega (arith, lt, many)) ∙ kept k (omega (arith, lt, many))
+        | inr ge ↦
+            let same : i ≡ k = omega (arith, l, all, ge) in
+            subst (λ j. get_or (us ++ (f / 2 ^ 64) ∷ []) j 0 ≡ get_or fs j 0 / 2 ^ 64) same
+            (ap (λ j. get_or (us ++ (f / 2 ^ 64) ∷ []) j 0) (sym many) ∙ get_or-append_seam us (f / 2 ^ 64) [] 0 ∙ ap (λ n. n / 2 ^ 64) first)
+      ],
     )

@@ -1,4 +1,5 @@
-use Rattle.std.proofs.Common.{◌-◌, arith}
+use Rattle.std.proofs.Common.{◌-◌, ◌<◌, inl, inr, arith}
+use Rattle.std.proofs.lemmas.Bool.{cases_lt}
 use Rattle.std.proofs.lemmas.List.{length-map}
 use Rattle.frozen_routes.specs.Routes.{base_numbers, bit_counts}
 use Rattle.frozen_routes.proofs.RouteLemmas.Links.{climb_on}
@@ -17,18 +18,24 @@ loop-at-preserved g c =
     let rows = c.args.rows.now in
     let at = c.loop-at.at in
     let all = length-map rows (λ r. number r.0.base) in
-    let link = c.requires.links (at - 1) (omega (arith, c.requires.linked, c.loop-at.invariant.within, c.loop-at-test.true)) in
+    let some : 0 < at = omega (arith, c.loop-at-test.true) in
+    let link = c.requires.links (at - 1) (omega (arith, c.requires.linked, c.loop-at.invariant.within, some)) in
     record {
       within = omega (arith, link.within, c.loop-at.invariant.within);
-      none = climb_on g.A.Address.BITS (base_numbers number rows) (bit_counts rows) (number c.args.address) c.args.from at _ c.requires.rising
-          (omega (arith, all, c.requires.within)) c.requires.before c.loop-at-test.true c.loop-at.invariant.within
+      none = climb_on g.A.Address.BITS (base_numbers number rows) (bit_counts rows) c.args.number c.args.from at _ c.requires.rising
+          (omega (arith, all, c.requires.within)) c.requires.before some c.loop-at.invariant.within
           (λ p. let no = c.holds_at.ensures.1 p in let same = c.if-holds_at.false in cc (no, same))
           c.loop-at.invariant.none link;
     }
 
 pub returns : goal.returns
-returns g c = record {
-  within = omega arith;
-  holds = λ some. absurd (omega (arith, some));
-  none = λ k l m. c.loop-at.invariant.none k (omega (arith, c.loop-at-test.false)) m;
-}
+returns g c =
+    let around = c.requires.around in
+    record {
+      within = omega (arith, around.within, c.requires.floor);
+      holds = around.holds;
+      none = λ k l m. elim (cases_lt k c.args.floor.count) [
+        | inl lt ↦ around.none k l lt
+        | inr ge ↦ c.loop-at.invariant.none k (omega (arith, ge, c.loop-at-test.false)) m
+      ];
+    }

@@ -6,7 +6,7 @@ use Rattle.frozen_routes.proofs.search.climb.Given as goal
 abbrev pub invariant-loop-at : goal.invariant-loop-at
 invariant-loop-at g l = record {
   within : l.at ≤ l.from;
-  none : (k : ℕ) → l.at ≤ k → k < l.from → AgreeIn g.A.Address.BITS (get_or (bit_counts l.rows) k 0) (get_or (base_numbers g.A.Address.number l.rows) k 0) (g.A.Address.number l.address) → ⊥;
+  none : (k : ℕ) → l.at ≤ k → k < l.from → AgreeIn g.A.Address.BITS (get_or (bit_counts l.rows) k 0) (get_or (base_numbers g.A.Address.number l.rows) k 0) l.number → ⊥;
 }
 
 abbrev pub decreases-loop-at : goal.decreases-loop-at

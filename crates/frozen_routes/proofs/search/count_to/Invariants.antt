@@ -4,6 +4,7 @@ use Rattle.frozen_routes.proofs.search.count_to.Given as goal
 
 abbrev pub invariant-loop-lo : goal.invariant-loop-lo
 invariant-loop-lo g l = record {
+  least : l.fn.lo ≤ l.lo;
   order : l.lo ≤ l.hi;
   within : l.hi ≤ length l.rows;
   below : (k : ℕ) → k < l.lo → get_or (base_numbers g.A.Address.number l.rows) k 0 ≤ l.number;

@@ -1,6 +1,6 @@
-use Rattle.std.proofs.Common.{subst}
+use Rattle.std.proofs.Common.{length, subst}
 use Rattle.std.proofs.lemmas.List.{length-map}
-use Rattle.frozen_routes.specs.Routes.{AreUpTo, IsLastHolder, base_numbers, bit_counts}
+use Rattle.frozen_routes.specs.Routes.{IsLastHolder, base_numbers, bit_counts}
 use Rattle.frozen_routes.proofs.RouteLemmas.Links.{among_all}
 use Rattle.frozen_routes.proofs.search.last_holder.Goals as goal
 
@@ -9,7 +9,19 @@ returns g c =
     let w = g.A.Address.BITS in
     let rows = c.args.rows.now in
     let fs = base_numbers g.A.Address.number rows in
-    let a = g.A.Address.number c.args.address in
-    let from = c.count_to-from.result in
-    subst (λ n. IsLastHolder w fs (bit_counts rows) n a c.climb.result) (length-map rows (λ r. g.A.Address.number r.0.base))
-    (among_all w fs (bit_counts rows) a from c.climb.result c.requires.rising (subst (λ n. AreUpTo fs n from) c.to_number.ensures.value c.count_to-from.ensures) c.climb.ensures)
+    let a = c.to_number-number.result in
+    let last = among_all w fs (bit_counts rows) a c.count_to-from.result c.climb.result c.requires.rising c.count_to-from.ensures.count c.climb.ensures in
+    subst (λ n. IsLastHolder w fs (bit_counts rows) n (g.A.Address.number c.args.address) c.climb.result) (length-map rows (λ r. g.A.Address.number r.0.base))
+    (subst (λ n. IsLastHolder w fs (bit_counts rows) (length fs) n c.climb.result) c.to_number-number.ensures.value last)
+
+pub count_to-from-requires-clause-rising : goal.count_to-from-requires-clause-rising
+count_to-from-requires-clause-rising g c = c.requires.rising
+
+pub count_to-from-requires-clause-uppers : goal.count_to-from-requires-clause-uppers
+count_to-from-requires-clause-uppers g c = rw (c.deref.ensures.value) c.requires.uppers
+
+pub climb-requires-clause-rising : goal.climb-requires-clause-rising
+climb-requires-clause-rising g c = c.requires.rising
+
+pub climb-requires-clause-links : goal.climb-requires-clause-links
+climb-requires-clause-links g c = c.requires.links

@@ -5,7 +5,7 @@ use Rattle.frozen_routes.proofs.sorted.links_and_tops.Given as goal
 
 abbrev pub invariant-loop-i : goal.invariant-loop-i
 invariant-loop-i g l = record {
-  linked : AreLinked g.A.Address.BITS (base_numbers g.A.Address.number (take l.i l.rows)) (bit_counts (take l.i l.rows)) l.up.items l.tops.rest l.tops.counts.items;
+  linked : AreLinked g.A.Address.BITS (base_numbers g.A.Address.number (take l.i l.rows)) (bit_counts (take l.i l.rows)) l.up.items l.tops.rest l.tops.cells.items l.tops.uppers.items;
   len : vec_len l.up ≡ l.i;
   room : l.count ≤ vec_capacity l.up;
 }

@@ -3,9 +3,9 @@ use Rattle.frozen_routes.proofs.tops.bits_for.Given as goal
 
 abbrev pub invariant-loop-bits : goal.invariant-loop-bits
 invariant-loop-bits l = record {
-  some : 8 ≤ l.bits;
-  few : l.bits ≤ 20;
+  some : 9 ≤ l.bits;
+  few : l.bits ≤ 21;
 }
 
 abbrev pub decreases-loop-bits : goal.decreases-loop-bits
-decreases-loop-bits l = 20 - l.bits
+decreases-loop-bits l = 21 - l.bits

@@ -1,7 +1,8 @@
-use Rattle.std.proofs.Common.{◌+◌, ◌/◌, ◌^◌, ◌<◌, length, arith, refl, sym, subst}
-use Rattle.std.proofs.lemmas.List.{get_or_read, length-map}
-use Rattle.frozen_routes.specs.Routes.{IsFirstTop, base_numbers}
-use Rattle.frozen_routes.proofs.RouteLemmas.Tops.{top_above, top_below, top_order}
+use Rattle.std.proofs.Common.{◌+◌, ◌/◌, ◌^◌, ◌<◌, length, arith, refl}
+use Rattle.std.proofs.lemmas.List.{length-map}
+use Rattle.frozen_routes.specs.Routes.{base_numbers}
+use Rattle.frozen_routes.proofs.RouteLemmas.Rows.{is_stored}
+use Rattle.frozen_routes.proofs.RouteLemmas.Tops.{top_above, top_around, top_below, top_order}
 use Rattle.frozen_routes.proofs.tops.top_span.Goals as goal
 
 pub returns-then-first-last : goal.returns-then-first-last
@@ -11,14 +12,15 @@ returns-then-first-last g c =
     let all = length-map rows (λ r. g.A.Address.number r.0.base) in
     let e = c.args.tops.now.rest in
     let t = c.args.number / 2 ^ e in
-    let ts = c.args.tops.now.counts.items in
-    let here : t < length ts = omega (arith, c.if-first-last.true, c.saturating_sub-last.ensures) in
-    let after : t + 1 < length ts = omega (arith, c.if-first-last.true, c.saturating_sub-last.ensures) in
-    let first = subst (IsFirstTop e fs t) (sym (get_or_read ts t c.index.result.now here c.index.ensures 0)) (c.requires.counts t here) in
-    let next = subst (IsFirstTop e fs (t + 1)) (sym (get_or_read ts (t + 1) c.index-then-first-last.result.now after c.index-then-first-last.ensures 0)) (c.requires.counts (t + 1) after) in
+    let cells = c.args.tops.now.cells.items in
+    let here : t < length cells = omega (arith, c.if-first-last.true, c.saturating_sub-last.ensures) in
+    let after : t + 1 < length cells = omega (arith, c.if-first-last.true, c.saturating_sub-last.ensures) in
+    let first = c.requires.cells t c.index.result.now (is_stored cells t c.index.result.now here c.index.ensures) in
+    let next = (c.requires.cells (t + 1) c.index-then-first-last.result.now (is_stored cells (t + 1) c.index-then-first-last.result.now after c.index-then-first-last.ensures)).count in
     record {
-      order = top_order e fs t _ _ first next;
+      order = top_order e fs t _ _ first.count next;
       within = omega (arith, all, next.within);
-      below = λ k l. top_below e fs c.args.number t _ k first refl l;
+      below = λ k l. top_below e fs c.args.number t _ k first.count refl l;
       above = λ k l m. top_above e fs c.args.number t _ k next refl l (omega (arith, all, m));
+      around = top_around e g.A.Address.BITS fs _ t c.args.number _ first refl;
     }

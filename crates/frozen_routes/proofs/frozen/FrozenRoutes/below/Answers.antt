@@ -35,3 +35,9 @@ returns g c =
       rows = ap (λ rs. take (c.cut-to.result - c.cut-from.result) (drop c.cut-from.result rs)) (c.deref-3.ensures.value ∙ c.self.view_is)
           ∙ part_within w number net c.args.self.now c.cut-from.result c.cut-to.result from to;
     }
+
+pub cut-from-requires : goal.cut-from-requires
+cut-from-requires g c = record { rising = rw (c.deref.ensures.value) c.self.invariant.rising }
+
+pub cut-to-requires : goal.cut-to-requires
+cut-to-requires g c = record { rising = rw (c.deref-2.ensures.value) c.self.invariant.rising }

@@ -1,5 +1,5 @@
 use Rattle.std.proofs.Common.{subst}
-use Rattle.frozen_routes.specs.Routes.{AreFirstTops, base_numbers}
+use Rattle.frozen_routes.specs.Routes.{AreTopCells, AreUppers, base_numbers, bit_counts}
 use Rattle.frozen_routes.proofs.RouteLemmas.Growing.{topped}
 use Rattle.frozen_routes.proofs.frozen.FrozenRoutes.finish.Goals as goal
 
@@ -7,7 +7,15 @@ pub invariant_of-self-2 : goal.invariant_of-self-2
 invariant_of-self-2 g c =
     let w = g.A.Address.BITS in
     let number = g.A.Address.number in
+    let had = c.self.inside in
     let tops = c.filled.result in
-    topped w number c.self.inside.rows.items c.shrink_to_fit.new.self.items c.self.inside.up.items c.shrink_to_fit-2.new.self.items c.self.inside.tops.rest c.self.inside.tops.counts.items
-    tops.rest tops.counts.items c.self.invariant c.shrink_to_fit.ensures.items c.shrink_to_fit-2.ensures.items
-    (subst (λ rs. AreFirstTops tops.rest (base_numbers number rs) tops.counts.items) c.deref.ensures.value c.filled.ensures)
+    topped w number had.rows.items c.shrink_to_fit.new.self.items had.up.items c.shrink_to_fit-2.new.self.items had.tops.rest had.tops.cells.items had.tops.uppers.items
+    tops.rest tops.cells.items tops.uppers.items c.self.invariant c.shrink_to_fit.ensures.items c.shrink_to_fit-2.ensures.items
+    (subst (λ rs. AreTopCells tops.rest w (base_numbers number rs) (bit_counts rs) tops.cells.items) c.deref.ensures.value c.filled.ensures.cells)
+    (subst (λ rs. AreUppers (base_numbers number rs) tops.uppers.items) c.deref.ensures.value c.filled.ensures.uppers)
+
+pub filled-requires-clause-rising : goal.filled-requires-clause-rising
+filled-requires-clause-rising g c = rw (c.deref.ensures.value, c.shrink_to_fit.ensures.items) c.self.invariant.rising
+
+pub filled-requires-clause-links : goal.filled-requires-clause-links
+filled-requires-clause-links g c = rw (c.deref.ensures.value, c.shrink_to_fit.ensures.items, c.deref-2.ensures.value, c.shrink_to_fit-2.ensures.items) c.self.invariant.links

@@ -28,3 +28,15 @@ returns g c =
       row = last_is_longest w number c.args.self.now (subst (AreRowsInOrder w number) c.self.view_is c.self.invariant.rising) a found row some last
           (is_stored c.args.self.now (found - 1) row within is);
     }
+
+pub last_holder-found-requires-clause-rising : goal.last_holder-found-requires-clause-rising
+last_holder-found-requires-clause-rising g c = rw (c.deref.ensures.value) c.self.invariant.rising
+
+pub last_holder-found-requires-clause-links : goal.last_holder-found-requires-clause-links
+last_holder-found-requires-clause-links g c = rw (c.deref.ensures.value, c.deref-2.ensures.value) c.self.invariant.links
+
+pub last_holder-found-requires-clause-tops : goal.last_holder-found-requires-clause-tops
+last_holder-found-requires-clause-tops g c = rw (c.deref.ensures.value) c.self.invariant.tops
+
+pub last_holder-found-requires-clause-uppers : goal.last_holder-found-requires-clause-uppers
+last_holder-found-requires-clause-uppers g c = rw (c.deref.ensures.value) c.self.invariant.uppers

@@ -12,4 +12,4 @@ climb-requires-clause-before g c = λ k l.
     let most =
     all_at_most g.A.Address.BITS (base_numbers number rows) (bit_counts rows) (number c.args.network.now.base) c.args.network.now.bits (as_many number rows)
     (c.follows.ensures.0 c.if-not-follows.false) k few in
-    omega (arith, most, ap number c.base.ensures)
+    omega (arith, most, ap number c.base.ensures.value)

@@ -42,7 +42,7 @@ returns g c =
     let all = length-map rows (λ r. g.A.Address.number r.0.base) in
     let t = c.args.is_through in
     let rest = c.saturating_sub.ensures ∙ ap (λ n. n - c.bits-bits.result) c.BITS.ensures ∙ ap (λ n. w - n) c.bits-bits.ensures in
-    let value = c.to_number.ensures.value ∙ ap g.A.Address.number c.base.ensures in
+    let value = c.to_number.ensures.value ∙ ap g.A.Address.number c.base.ensures.value in
     let quotient = c.without_last-quotient.ensures ∙ ap (λ n. n / 2 ^ c.saturating_sub.result) value
     ∙ ap (λ e. g.A.Address.number c.args.network.now.base / 2 ^ e) rest in
     subst (λ q. AreInFront w t c.args.network.now.bits q fs (bit_counts rows) c.loop-lo.lo) quotient

@@ -1,7 +1,7 @@
 -- Slots of lists, which are found by their hashes.
-use Rattle.std.proofs.Common.{◌≡◌, ℕ, suc, ◌+◌, ◌-◌, ◌*◌, ◌/◌, ◌<◌, ◌≤◌, inl, inr, Bool, true, false, List, length, nat_eq, get_or, set, refl, sym, ap, subst, ◌∙◌, arith}
+use Rattle.std.proofs.Common.{◌≡◌, ℕ, ◌+◌, ◌-◌, ◌/◌, ◌<◌, ◌≤◌, inl, inr, Bool, true, List, ◌++◌, length, drop, take, nat_eq, get_or, set, refl, sym, ap, subst, ◌∙◌, arith}
 use Rattle.std.proofs.lemmas.Bool.{cases_eq, le-ltb, lt-ltb}
-use Rattle.std.proofs.lemmas.List.{get_or-set_other, get_or-set_same, length-set}
+use Rattle.std.proofs.lemmas.List.{get_or-set_other, get_or-set_same, take-append-le, take_all}
 use Rattle.std.proofs.lemmas.Slice.Eq.{bytes_eq-Decides}
 use Rattle.std.specs.Cmp.Lexicographic.{pointwise}
 use Rattle.radix_keys.proofs.KeyLemmas.Order.{three_ways}
@@ -22,6 +22,10 @@ hash_of_many bytes l = rw (le-ltb (length bytes) 8 l) refl
 -- the test of two lists tells whether they are one
 pub decides_lists : (xs ys : List ℕ) (r : Bool) → r ≡ pointwise nat_eq xs ys → (r ≡ true → xs ≡ ys) × (xs ≡ ys → r ≡ true)
 decides_lists xs ys r e = (λ t. (bytes_eq-Decides xs ys).0 (sym e ∙ t), λ s. e ∙ (bytes_eq-Decides xs ys).1 s)
+
+-- a list as long as another, in the place of that one's elements
+pub in_place : (xs ys : List ℕ) (n : ℕ) → n ≡ length ys → length xs ≡ length ys → take n (xs ++ drop (length xs) ys) ≡ xs
+in_place xs ys n e same = take-append-le n xs (drop (length xs) ys) (omega (arith, e, same)) ∙ take_all n xs (omega (arith, e, same))
 
 module _ (slots : List ℕ) (p v : ℕ) (inside : p < length slots) (some : 0 < v) (free : get_or slots p 0 ≡ 0) where
   -- a slot that is free once another one is filled was free before, and isn't that one
@@ -58,10 +62,6 @@ module _ (slots : List ℕ) (p v : ℕ) (inside : p < length slots) (some : 0 < 
   }
 
 module _ (cs : List (List ℕ)) (slots : List ℕ) (tags : ℕ) where
-  -- no list is placed at first
-  pub none_placed : ArePlaced cs 0 slots tags
-  none_placed = λ k l. absurd (omega (arith, l))
-
   -- one list more is placed
   pub one_more : (n : ℕ) → ArePlaced cs n slots tags
       → IsPlaced slots (first_slot (length slots - 64) (hash_of_list (code_at cs n))) (entry_of tags (hash_of_list (code_at cs n)) n)

@@ -1,5 +1,5 @@
-use Rattle.std.proofs.Common.{◌≡◌, suc, ◌+◌, ◌-◌, ◌*◌, ◌/◌, true, false, length, refl, sym, ap, ◌∙◌, arith}
-use Rattle.frozen_trie.specs.Index.{hash_of_words, mixed_with, number_of, word_in}
+use Rattle.std.proofs.Common.{◌≡◌, suc, ◌+◌, ◌-◌, ◌/◌, length, refl, ap, ◌∙◌, arith}
+use Rattle.frozen_trie.specs.Index.{hash_of_words, mixed_with}
 use Rattle.frozen_trie.proofs.CodeLemmas.Slots.{hash_of_few, hash_of_many}
 use Rattle.frozen_trie.proofs.hash.hash_bytes.Goals as goal
 

@@ -1,4 +1,4 @@
-use Rattle.std.proofs.Common.{nat_eq, sym, ap, ◌∙◌}
+use Rattle.std.proofs.Common.{nat_eq, ap, ◌∙◌}
 use Rattle.std.specs.Cmp.Lexicographic.{pointwise}
 use Rattle.radix_keys.specs.Packing.{unpacked}
 use Rattle.radix_keys.proofs.NibbleLemmas.Packing.{eq-other_flag, eq-same_flag}

@@ -1,4 +1,4 @@
-use Rattle.std.proofs.Common.{◌≡◌, suc, ◌+◌, ◌-◌, ◌<◌, inl, inr, true, false, length, get_or, bit_and, sym, ap, subst, ◌∙◌, arith}
+use Rattle.std.proofs.Common.{◌≡◌, ◌+◌, ◌-◌, ◌<◌, inl, inr, true, false, length, get_or, bit_and, sym, ap, subst, ◌∙◌, arith}
 use Rattle.radix_keys.proofs.KeyLemmas.Order.{three_ways}
 use Rattle.frozen_trie.specs.Codes.{code_at}
 use Rattle.frozen_trie.specs.Index.{AreSlots, entry_of, first_slot}

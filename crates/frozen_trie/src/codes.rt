@@ -8,10 +8,9 @@ ghost use Rattle.frozen_trie.specs.Laid.{codes_in, halves, odds, piece_of, start
 
 mod index;
 
-pub(crate) use index::Look;
-
 use crate::heads::{head_of, span, steps_of, tops_of};
 use crate::packed::Packed;
+pub(crate) use index::Look;
 use radix_keys::Memory;
 use std::alloc::Global;
 use std::cmp::Ordering;
@@ -54,7 +53,7 @@ impl Model for Codes {
 
     ghost invariant = { λ c.
         ArePacked c.bytes.items c.ends.items c.heads.items c.steps.items c.tops.items
-          c.slots.items c.tags };
+        c.slots.items c.tags };
 }
 
 impl Codes {

@@ -1,6 +1,6 @@
 //! Hashes of lists of nibbles.
 ghost use Rattle.std.specs.Prelude.{◌≡◌, ◌+◌, ◌<◌, ◌≤◌, length};
-ghost use Rattle.frozen_trie.specs.Index.{hash_of_bytes, hash_of_list, mixed_with, number_of, word_in};
+ghost use Rattle.frozen_trie.specs.Index.{hash_of_bytes, hash_of_list, mixed_with, number_in, word_in};
 
 use crate::packed::Packed;
 
@@ -57,7 +57,7 @@ fn word(bytes: &[u8], at: usize) -> u64
 
 /// Fewer bytes as a number.
 fn number(bytes: &[u8]) -> u64
-    ensures { result ≡ number_of bytes.now (length bytes.now) }
+    ensures { result ≡ number_in bytes.now (length bytes.now) }
 {
     let mut number = 0u64;
     for i in 0..bytes.len() {

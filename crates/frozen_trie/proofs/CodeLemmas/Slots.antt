@@ -6,10 +6,10 @@ use Rattle.std.proofs.lemmas.Slice.Eq.{bytes_eq-Decides}
 use Rattle.std.specs.Cmp.Lexicographic.{pointwise}
 use Rattle.radix_keys.proofs.KeyLemmas.Order.{three_ways}
 use Rattle.frozen_trie.specs.Codes.{code_at}
-use Rattle.frozen_trie.specs.Index.{ArePlaced, IsFirstFree, IsHeld, IsPlaced, entry_of, first_slot, hash_of_bytes, hash_of_list, hash_of_words, mixed_with, number_of, word_in}
+use Rattle.frozen_trie.specs.Index.{AreSlotted, IsFirstFree, IsEntered, IsSlotted, entry_of, first_slot, hash_of_bytes, hash_of_list, hash_of_words, mixed_with, number_in, word_in}
 
 -- the hash of fewer than eight bytes
-pub hash_of_few : (bytes : List ℕ) → length bytes < 8 → mixed_with (length bytes) (number_of bytes (length bytes)) ≡ hash_of_bytes bytes
+pub hash_of_few : (bytes : List ℕ) → length bytes < 8 → mixed_with (length bytes) (number_in bytes (length bytes)) ≡ hash_of_bytes bytes
 unfolding hash_of_bytes
 hash_of_few bytes l = rw (lt-ltb (length bytes) 8 l) refl
 
@@ -36,21 +36,21 @@ module _ (slots : List ℕ) (p v : ℕ) (inside : p < length slots) (some : 0 < 
   ]
 
   -- an entry stays where a free slot is filled
-  still_held : (from to entry : ℕ) → 0 < entry → IsHeld slots from to entry → IsHeld (set slots p v) from to entry
-  still_held from to entry more h = record {
+  still_entered : (from to entry : ℕ) → 0 < entry → IsEntered slots from to entry → IsEntered (set slots p v) from to entry
+  still_entered from to entry more h = record {
     at = h.at;
     start = h.start;
     before = h.before;
     held = get_or-set_other slots p h.at v 0 (λ e. (let same = ap (λ i. get_or slots i 0) e in let held = h.held in omega (arith, same, held, free, more))) ∙ h.held;
   }
 
-  -- so does what is placed
-  pub still_placed : (from entry : ℕ) → 0 < entry → IsPlaced slots from entry → IsPlaced (set slots p v) from entry
-  still_placed from entry more h = λ s l m e. still_held from s entry more (h s l m (still_free s e).0)
+  -- so does what is slotted
+  pub still_slotted : (from entry : ℕ) → 0 < entry → IsSlotted slots from entry → IsSlotted (set slots p v) from entry
+  still_slotted from entry more h = λ s l m e. still_entered from s entry more (h s l m (still_free s e).0)
 
-  -- and what fills the first free slot is placed
-  pub now_placed : (from : ℕ) → IsFirstFree slots from p → IsPlaced (set slots p v) from v
-  now_placed from f = λ s l m e. record {
+  -- and what fills the first free slot is slotted
+  pub now_slotted : (from : ℕ) → IsFirstFree slots from p → IsSlotted (set slots p v) from v
+  now_slotted from f = λ s l m e. record {
     at = p;
     start = f.start;
     before = elim (three_ways s p) [
@@ -62,33 +62,33 @@ module _ (slots : List ℕ) (p v : ℕ) (inside : p < length slots) (some : 0 < 
   }
 
 module _ (cs : List (List ℕ)) (slots : List ℕ) (tags : ℕ) where
-  -- one list more is placed
-  pub one_more : (n : ℕ) → ArePlaced cs n slots tags
-      → IsPlaced slots (first_slot (length slots - 64) (hash_of_list (code_at cs n))) (entry_of tags (hash_of_list (code_at cs n)) n)
-      → ArePlaced cs (n + 1) slots tags
+  -- one list more is slotted
+  pub one_more : (n : ℕ) → AreSlotted cs n slots tags
+      → IsSlotted slots (first_slot (length slots - 64) (hash_of_list (code_at cs n))) (entry_of tags (hash_of_list (code_at cs n)) n)
+      → AreSlotted cs (n + 1) slots tags
   one_more n h new = λ k l. elim (three_ways k n) [
     | inl lt ↦ h k lt
-    | inr (inl e) ↦ subst (λ i. IsPlaced slots (first_slot (length slots - 64) (hash_of_list (code_at cs i))) (entry_of tags (hash_of_list (code_at cs i)) i)) (sym e) new
+    | inr (inl e) ↦ subst (λ i. IsSlotted slots (first_slot (length slots - 64) (hash_of_list (code_at cs i))) (entry_of tags (hash_of_list (code_at cs i)) i)) (sym e) new
     | inr (inr g) ↦ absurd (omega (arith, l, g))
   ]
 
-  -- those that are placed stay so among slots in which each entry does
-  pub all_still_placed : (n : ℕ) (more : List ℕ) → length more ≡ length slots
-      → ((from entry : ℕ) → 0 < entry → IsPlaced slots from entry → IsPlaced more from entry) → ArePlaced cs n slots tags → ArePlaced cs n more tags
-  all_still_placed n more same kept h = λ k l.
+  -- those that are slotted stay so among slots in which each entry does
+  pub all_still_slotted : (n : ℕ) (more : List ℕ) → length more ≡ length slots
+      → ((from entry : ℕ) → 0 < entry → IsSlotted slots from entry → IsSlotted more from entry) → AreSlotted cs n slots tags → AreSlotted cs n more tags
+  all_still_slotted n more same kept h = λ k l.
       let hash = hash_of_list (code_at cs k) in
-      subst (λ m. IsPlaced more (first_slot (m - 64) hash) (entry_of tags hash k)) (sym same)
+      subst (λ m. IsSlotted more (first_slot (m - 64) hash) (entry_of tags hash k)) (sym same)
       (kept (first_slot (length slots - 64) hash) (entry_of tags hash k) (omega arith) (h k l))
 
 -- a list whose hash leads to a free slot before its entry isn't there
-pub none_behind_free : (cs : List (List ℕ)) (slots : List ℕ) (tags : ℕ) → ArePlaced cs (length cs) slots tags → (q : List ℕ) (first tag at : ℕ)
+pub none_behind_free : (cs : List (List ℕ)) (slots : List ℕ) (tags : ℕ) → AreSlotted cs (length cs) slots tags → (q : List ℕ) (first tag at : ℕ)
     → first ≡ first_slot (length slots - 64) (hash_of_list q) → (k : ℕ) → k < length cs → code_at cs k ≡ q → entry_of tags (hash_of_list q) k ≡ tag + (k + 1)
     → first ≤ at → at < first + 64 → get_or slots at 0 ≡ 0
     → ((s : ℕ) → first ≤ s → s < at → get_or slots s 0 ≡ tag + (k + 1) → ⊥) → ⊥
-none_behind_free cs slots tags placed q first tag at f k inside same entry l m free others =
-    let here : IsPlaced slots first (tag + (k + 1)) =
-    subst (λ e. IsPlaced slots first e) entry
-    (subst (λ s. IsPlaced slots s (entry_of tags (hash_of_list q) k)) (sym f)
-    (subst (λ c. IsPlaced slots (first_slot (length slots - 64) (hash_of_list c)) (entry_of tags (hash_of_list c) k)) same (placed k inside))) in
+none_behind_free cs slots tags slotted q first tag at f k inside same entry l m free others =
+    let here : IsSlotted slots first (tag + (k + 1)) =
+    subst (λ e. IsSlotted slots first e) entry
+    (subst (λ s. IsSlotted slots s (entry_of tags (hash_of_list q) k)) (sym f)
+    (subst (λ c. IsSlotted slots (first_slot (length slots - 64) (hash_of_list c)) (entry_of tags (hash_of_list c) k)) same (slotted k inside))) in
     let held = here at l m free in
     others held.at held.start held.before held.held

@@ -1,7 +1,7 @@
 //! An index of lists by hashes, for searches of one list.
 ghost use Rattle.std.specs.Prelude.{◌≡◌, ◌↔◌, ◌+◌, ◌-◌, ◌<◌, ◌≤◌, ◌^◌, ℕ, length, slice_index, IfOk, IsTrue, MatchOption};
 ghost use Rattle.frozen_trie.specs.Codes.{code_at};
-ghost use Rattle.frozen_trie.specs.Index.{AreSlots, IsFirstFree, IsPlaced, first_slot};
+ghost use Rattle.frozen_trie.specs.Index.{AreSlots, IsFirstFree, IsSlotted, first_slot};
 
 use crate::codes::Codes;
 use crate::hash::hash_of;
@@ -16,15 +16,15 @@ const REACH: usize = 64;
 const MOST: usize = 1 << 30;
 
 /// What an index of hashes says of a list: where it is, that it isn't there, or nothing.
-#[derive(Clone, Copy, PartialEq, Eq, Debug)]
+#[derive(Clone, Copy)]
 pub(crate) enum Look {
     Found(usize),
     Absent,
     Unknown,
 }
 
-/// What a slot says of a list: that no list lies in it, another one, or maybe this one, by its index.
-#[derive(Clone, Copy, PartialEq, Eq, Debug)]
+/// What a slot says of a list: that none lies in it, or another one, or maybe this one, which has an index.
+#[derive(Clone, Copy)]
 enum Slot {
     Free,
     Other,
@@ -137,9 +137,9 @@ fn put(slots: &mut [u32], first: usize, entry: u32)
     requires within { first + 64 ≤ length slots.old }
     requires some { 0 < entry }
     ensures same { length slots.new ≡ length slots.old }
-    ensures placed { IsPlaced slots.new first entry }
+    ensures slotted { IsSlotted slots.new first entry }
     ensures kept { (from other : ℕ) → 0 < other
-        → IsPlaced slots.old from other → IsPlaced slots.new from other }
+        → IsSlotted slots.old from other → IsSlotted slots.new from other }
 {
     if let Some(at) = free_slot(slots, first) {
         slots[at] = entry;

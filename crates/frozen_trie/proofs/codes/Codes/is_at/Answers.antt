@@ -12,10 +12,10 @@ returns-then-own_is_odd-is_odd c =
     let other = c.parts-is_odd.result in
     let is = c.parts-own_is_odd.ensures.nibbles ∙ c.piece.ensures.code in
     decides_lists _ _ _ (
-      c.eq.ensures
-      ∙ eq-same_flag own.0.now other.0.now own.1 other.1 c.parts-own_is_odd.ensures.padded c.parts-is_odd.ensures.padded c.if-own_is_odd-is_odd.true
-      ∙ ap (λ xs. pointwise nat_eq xs (unpacked other.0.now other.1)) is
-      ∙ ap (pointwise nat_eq (code_at c.args.self.now c.args.at)) c.parts-is_odd.ensures.nibbles
+    c.eq.ensures
+    ∙ eq-same_flag own.0.now other.0.now own.1 other.1 c.parts-own_is_odd.ensures.padded c.parts-is_odd.ensures.padded c.if-own_is_odd-is_odd.true
+    ∙ ap (λ xs. pointwise nat_eq xs (unpacked other.0.now other.1)) is
+    ∙ ap (pointwise nat_eq (code_at c.args.self.now c.args.at)) c.parts-is_odd.ensures.nibbles
     )
 
 pub returns-else-own_is_odd-is_odd : goal.returns-else-own_is_odd-is_odd
@@ -24,7 +24,7 @@ returns-else-own_is_odd-is_odd c =
     let other = c.parts-is_odd.result in
     let is = c.parts-own_is_odd.ensures.nibbles ∙ c.piece.ensures.code in
     decides_lists _ _ _ (
-      eq-other_flag own.0.now other.0.now own.1 other.1 c.parts-own_is_odd.ensures.padded c.parts-is_odd.ensures.padded c.if-own_is_odd-is_odd.false
-      ∙ ap (λ xs. pointwise nat_eq xs (unpacked other.0.now other.1)) is
-      ∙ ap (pointwise nat_eq (code_at c.args.self.now c.args.at)) c.parts-is_odd.ensures.nibbles
+    eq-other_flag own.0.now other.0.now own.1 other.1 c.parts-own_is_odd.ensures.padded c.parts-is_odd.ensures.padded c.if-own_is_odd-is_odd.false
+    ∙ ap (λ xs. pointwise nat_eq xs (unpacked other.0.now other.1)) is
+    ∙ ap (pointwise nat_eq (code_at c.args.self.now c.args.at)) c.parts-is_odd.ensures.nibbles
     )

@@ -18,7 +18,7 @@ returns-in-Free-clause-absent c = λ _ k l e.
     let first = c.first_of-first.ensures.first ∙ ap (λ xs. first_slot (length xs - 64) hash) c.deref.ensures.value ∙ ap (first_slot (length slots - 64)) c.hash_of-hash.ensures in
     let inside : at < length slots = omega (arith, c.loop-at-test.true, c.first_of-first.ensures.within, ap length c.deref.ensures.value) in
     let here : get_or slots at 0 ≡ 0 = sym (stands_at slots at c.index.result.now 0 inside c.index.ensures) ∙ c.slot_of.ensures.free c.in-Free.is in
-    none_behind_free c.args.self.now slots tags kept.placed c.args.list.now c.first_of-first.result (bit_and hash tags) at first k l e
+    none_behind_free c.args.self.now slots tags kept.slotted c.args.list.now c.first_of-first.result (bit_and hash tags) at first k l e
     (sym (ap (λ h. entry_of tags h k) c.hash_of-hash.ensures)) c.loop-at.auto.at (omega (arith, c.loop-at-test.true)) here (λ s m n. c.loop-at.invariant s m n k l e)
 
 pub is_at-requires : goal.is_at-requires

@@ -4,7 +4,7 @@ ghost use Rattle.frozen_trie.specs.Index.{hash_of_bytes, hash_of_list, mixed_wit
 
 use crate::packed::Packed;
 
-/// An odd number with as many ones as zeros, and no pattern: 2^64 divided by the golden ratio.
+/// 2^64 divided by the golden ratio: an odd number whose bits have no pattern.
 const FACTOR: u64 = 0x9e37_79b9_7f4a_7c15;
 
 /// The hash of a list, in a multiplication for each eight bytes and one more.

@@ -114,7 +114,8 @@ fn first_of(slots: &[u32], hash: u64) -> usize
     ensures first { result ≡ first_slot (length slots.now - 64) hash }
     ensures within { result + 64 < length slots.now }
 {
-    ((hash >> 32) * (slots.len() - REACH) as u64 >> 32) as usize
+    let places = (slots.len() - REACH) as u64;
+    (((hash >> 32) * places) >> 32) as usize
 }
 
 /// The first free slot from one on, if it is among the next 64.

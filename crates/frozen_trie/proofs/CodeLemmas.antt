@@ -7,3 +7,4 @@ pub mod Growing
 pub mod Heads
 pub mod Tops
 pub mod Sides
+pub mod Slots

@@ -1,6 +1,7 @@
 -- The first nibbles of a list as a number, which tells the order of most lists.
 use Rattle.std.specs.Prelude.{◌≡◌, ℕ, zero, suc, ◌+◌, ◌*◌, ◌^◌, ◌<◌, ◌≤◌, List, [], ◌∷◌, length, min, slice_index, map as each, Bool, true, false}
 use Rattle.frozen_trie.specs.Codes.{code_at}
+use Rattle.frozen_trie.specs.Index.{IsIndexed}
 use Rattle.frozen_trie.specs.Laid.{codes_in, halves, odds, IsLaid}
 
 -- the first n nibbles as a number, with d for each that a shorter list lacks
@@ -41,9 +42,10 @@ pub record IsTop (hs : List ℕ) (w n : ℕ) : Type 0 where
 abbrev pub AreTops : List ℕ → List ℕ → Type 0
 AreTops hs tops = (w : ℕ) → w < length tops → IsTop hs w (slice_index tops w)
 
--- the lists are packed one behind the other, and have these heads
-pub record ArePacked (bytes ends hs steps tops : List ℕ) : Type 0 where
+-- the lists are packed one behind the other, and have these heads and slots
+pub record ArePacked (bytes ends hs steps tops slots : List ℕ) (tags : ℕ) : Type 0 where
   pub laid : IsLaid bytes 0 (halves ends) (odds ends)
   pub headed : IsHeaded (codes_in bytes 0 (halves ends) (odds ends)) hs
   pub stepped : AreSteps hs steps
   pub topped : AreTops hs tops
+  pub indexed : IsIndexed (codes_in bytes 0 (halves ends) (odds ends)) slots tags

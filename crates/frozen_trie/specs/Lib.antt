@@ -1,8 +1,9 @@
 pub mod Codes
 pub mod Laid
-pub mod Heads
 pub mod Frozen
 pub mod Texts
+pub mod Index
+pub mod Heads
 pub mod FileItems
 pub mod FileRows
 pub mod Files

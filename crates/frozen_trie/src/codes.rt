@@ -6,7 +6,10 @@ ghost use Rattle.frozen_trie.specs.Codes.{code_at, IsSide};
 ghost use Rattle.frozen_trie.specs.Heads.{AreNibbles, bound_of, head_in};
 ghost use Rattle.frozen_trie.specs.Laid.{codes_in, halves, odds, piece_of, start_of, IsLaid};
 
+mod index;
+
 use crate::heads::{head_of, span, steps_of, tops_of};
+pub(crate) use index::Look;
 use radix_keys::{Memory, NibbleSlice};
 use std::alloc::Global;
 use std::cmp::Ordering;
@@ -31,6 +34,11 @@ pub(crate) struct Codes {
     steps: Vec<u64>,
     /// How many heads are below each multiple of 2^48, likewise.
     tops: Vec<u32>,
+    /// Where the lists are complete, many and long, the index and one more of each, in a slot by its hash, and bits of the hash
+    /// above; or 0.
+    slots: Vec<u32>,
+    /// Which bits of a hash these are.
+    tags: u64,
 }
 
 impl Model for Codes {
@@ -43,7 +51,8 @@ impl Model for Codes {
     ghost view = { λ c. codes_in c.bytes.items 0 (halves c.ends.items) (odds c.ends.items) };
 
     ghost invariant = { λ c.
-        ArePacked c.bytes.items c.ends.items c.heads.items c.steps.items c.tops.items };
+        ArePacked c.bytes.items c.ends.items c.heads.items c.steps.items c.tops.items
+        c.slots.items c.tags };
 }
 
 impl Codes {
@@ -57,6 +66,8 @@ impl Codes {
             heads: Vec::new(alloc),
             steps: Vec::new(alloc),
             tops: Vec::new(alloc),
+            slots: Vec::new(alloc),
+            tags: 0,
         }
     }
 
@@ -202,6 +213,11 @@ impl Codes {
         if self.heads.len() >= MANY {
             self.steps = steps_of(alloc, &self.heads)?;
             self.tops = tops_of(alloc, &self.heads)?;
+            if self.is_for_slots() {
+                let (slots, tags) = self.slots_of(alloc)?;
+                self.slots = slots;
+                self.tags = tags;
+            }
         }
         Ok(())
     }
@@ -227,6 +243,7 @@ impl Codes {
         self.heads.push_reserved(head_of(list, false));
         self.steps.clear();
         self.tops.clear();
+        self.slots.clear();
         Ok(())
     }
 }

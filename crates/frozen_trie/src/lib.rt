@@ -8,6 +8,7 @@ mod file;
 mod formats;
 mod freezing;
 mod frozen;
+mod hash;
 mod heads;
 mod laws;
 mod linked;

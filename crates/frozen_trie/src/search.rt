@@ -3,7 +3,7 @@ ghost use Rattle.std.specs.Prelude.{◌≡◌, ◌↔◌, ◌+◌, ◌<◌, ◌�
 ghost use Rattle.nibble_map.specs.Lists.{IsBefore, IsRising};
 ghost use Rattle.frozen_trie.specs.Codes.{AreLinks, IsCut, IsLastPrefix, is_before, is_in_front, is_until, code_at};
 
-use crate::codes::Codes;
+use crate::codes::{Codes, Look};
 use crate::heads::head_of;
 use radix_keys::NibbleSlice;
 use std::cmp::Ordering;
@@ -93,6 +93,20 @@ pub(crate) fn behind(codes: &Codes, list: &NibbleSlice<'_>) -> usize
 
 /// The index of a list.
 pub(crate) fn index_of(codes: &Codes, list: &NibbleSlice<'_>) -> Option<usize>
+    requires { IsRising codes.now }
+    ensures { MatchOption result
+        ((k : ℕ) → k < length codes.now → code_at codes.now k ≡ list.now → ⊥)
+        (λ i. (i < length codes.now) × (code_at codes.now i ≡ list.now)) }
+{
+    match codes.look(list) {
+        Look::Found(at) => Some(at),
+        Look::Absent => None,
+        Look::Unknown => index_by_order(codes, list),
+    }
+}
+
+/// The same by the order of the lists.
+fn index_by_order(codes: &Codes, list: &NibbleSlice<'_>) -> Option<usize>
     requires { IsRising codes.now }
     ensures { MatchOption result
         ((k : ℕ) → k < length codes.now → code_at codes.now k ≡ list.now → ⊥)

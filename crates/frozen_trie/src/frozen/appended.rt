@@ -23,13 +23,13 @@ impl<K: TrieKey, V> FrozenTrie<K, V> {
         }
     }
 
-    /// Takes no more room than the pairs need, and makes a table that shortens searches where there are 2^16 pairs or more. A
-    /// pair that is appended later drops the table.
+    /// Takes no more room than the pairs need, and makes tables that shorten searches where there are 2^16 pairs or more. A
+    /// pair that is appended later drops the tables.
     ///
     /// # Errors
     ///
-    /// Memory for the table, of some 2^18 bytes and half a byte a pair, is refused. Each call returns
-    /// the same without it.
+    /// Memory for the tables is refused: some 2^18 bytes and half a byte a pair, and 5 bytes a pair more
+    /// where one encoding in 16 has 15 nibbles or more. Each call returns the same without them.
     pub fn finish(&mut self) -> Result<(), Memory>
         ensures same { self.new ≡ self.old }
         ensures few { map.len self.old < 2 ^ 16 → IsOk result }

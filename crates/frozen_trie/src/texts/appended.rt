@@ -24,13 +24,13 @@ impl<V> FrozenTexts<V> {
         }
     }
 
-    /// Takes no more room than the pairs need, and makes a table that shortens searches where there are 2^16 pairs or more. A
-    /// pair that is appended later drops the table.
+    /// Takes no more room than the pairs need, and makes tables that shorten searches where there are 2^16 pairs or more. A
+    /// pair that is appended later drops the tables.
     ///
     /// # Errors
     ///
-    /// Memory for the table, of some 2^18 bytes and half a byte a pair, is refused. Each call returns
-    /// the same without it.
+    /// Memory for the tables is refused: some 2^18 bytes and half a byte a pair, and 5 bytes a pair more
+    /// where one key in 16 takes 8 bytes or more. Each call returns the same without them.
     pub fn finish(&mut self) -> Result<(), Memory>
         ensures same { self.new ≡ self.old }
         ensures few { map.len self.old < 2 ^ 16 → IsOk result }

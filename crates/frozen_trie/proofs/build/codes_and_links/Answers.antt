@@ -17,7 +17,7 @@ returns-in-Err-clause-unsorted g c = λ k e.
     let step : codes_of enc (take (i + 1) ps) ≡ cs ++ c.as_slice.result ∷ [] =
     map_more (λ p. enc p.0) ps i d c.loop-pair-test.true
     ∙ ap (λ t. t ++ enc (get_or ps i d).0 ∷ []) (sym c.loop-pair.invariant.keyed)
-    ∙ ap (λ x. cs ++ x ∷ []) (ap (λ p. enc p.0) (sym c.pair-item.is) ∙ sym (c.as_slice.ensures ∙ c.in-Ok-encode.ensures.ok)) in
+    ∙ ap (λ x. cs ++ x ∷ []) (ap (λ p. enc p.0) (sym c.pair-item.is) ∙ sym (c.as_slice.ensures ∙ c.in-Ok-of.ensures.ok)) in
     subst (IsFirstUnsorted (codes_of enc ps)) (sym count) (record {
       within = omega (arith, length-map ps (λ p. enc p.0), c.loop-pair-test.true);
       before = subst IsRising (c.loop-pair.invariant.keyed ∙ sym (take-map (λ p. enc p.0) i ps)) c.loop-pair.invariant.linked.rising;
@@ -41,11 +41,11 @@ loop-pair-preserved g c =
     let cs = c.loop-pair.codes in
     record {
       keyed = c.in_default-push_last.ensures.ok
-          ∙ ap (λ x. cs ++ x ∷ []) (c.as_slice.ensures ∙ c.in-Ok-encode.ensures.ok ∙ ap (λ p. enc p.0) c.pair-item.is)
+          ∙ ap (λ x. cs ++ x ∷ []) (c.as_slice.ensures ∙ c.in-Ok-of.ensures.ok ∙ ap (λ p. enc p.0) c.pair-item.is)
           ∙ ap (λ t. t ++ enc (get_or ps i d).0 ∷ []) c.loop-pair.invariant.keyed
           ∙ sym (map_more (λ p. enc p.0) ps i d c.loop-pair-test.true);
       linked = c.in_default-push_last.ensures.linked;
-      values = All-more (λ p. g.K.TrieKey.is_value p.0) ps i d c.loop-pair-test.true c.loop-pair.invariant.values (subst (λ p. g.K.TrieKey.is_value p.0) c.pair-item.is c.in-Ok-encode.ensures.value);
+      values = All-more (λ p. g.K.TrieKey.is_value p.0) ps i d c.loop-pair-test.true c.loop-pair.invariant.values (subst (λ p. g.K.TrieKey.is_value p.0) c.pair-item.is c.in-Ok-of.ensures.value);
     }
 
 pub returns-in-Ok-finish-clause-ok : goal.returns-in-Ok-finish-clause-ok

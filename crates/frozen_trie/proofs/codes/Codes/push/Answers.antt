@@ -5,7 +5,7 @@ use Rattle.frozen_trie.specs.Heads.{IsHeaded}
 use Rattle.frozen_trie.specs.Laid.{codes_in, halves, odds}
 use Rattle.frozen_trie.proofs.CodeLemmas.Growing.{codes_grown, end_number, laid_grown}
 use Rattle.frozen_trie.proofs.CodeLemmas.Heads.{headed_more}
-use Rattle.frozen_trie.proofs.CodeLemmas.Tops.{no_steps, no_tops}
+use Rattle.frozen_trie.proofs.CodeLemmas.Tops.{no_slots, no_steps, no_tops}
 use Rattle.frozen_trie.proofs.codes.Codes.push.Goals as goal
 
 pub invariant_of-self-2 : goal.invariant_of-self-2
@@ -29,6 +29,7 @@ invariant_of-self-2 c =
           (headed_more cs c.self.inside.heads.items c.self.invariant.headed list c.head_of.result c.head_of.ensures.head c.head_of.ensures.nibbles));
       stepped = no_steps _ _ c.clear.ensures.items;
       topped = no_tops _ _ c.clear-2.ensures.items;
+      indexed = no_slots _ _ _ c.clear-3.ensures.items;
     }
 
 pub returns-clause-ok : goal.returns-clause-ok

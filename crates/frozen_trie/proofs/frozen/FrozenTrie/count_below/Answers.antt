@@ -5,5 +5,6 @@ use Rattle.nibble_map.specs.Maps.{below, walk}
 use Rattle.frozen_trie.proofs.frozen.FrozenTrie.count_below.Goals as goal
 
 pub returns-clause-count : goal.returns-clause-count
-returns-clause-count g c = rw (← c.in_ok-list.ensures.ok)
-    (ap length c.below.ensures.pairs ∙ length-map (walk c.args.self.now c.in_ok-list.list) _ ∙ sym (fin.len-entries (below c.args.self.now c.in_ok-list.list)))
+returns-clause-count g c =
+    rw (← c.in_ok-list.ensures.ok, ← c.as_slice.ensures)
+    (ap length c.below.ensures.pairs ∙ length-map (walk c.args.self.now c.as_slice.result) _ ∙ sym (fin.len-entries (below c.args.self.now c.as_slice.result)))

@@ -143,7 +143,11 @@ fn frozen_rows<K: Stored, L: TrieKey, B: Beginning<K>>(
     let few = queries.get(..BEGINNINGS).unwrap_or(queries);
     let below = timed!(rt, "below", few, |query| {
         let list = Encoding::of(rt.alloc(), &query.beginning)?;
-        frozen.below(&list.as_slice()).iter().take(SHOWN).fold(0, add_second)
+        frozen
+            .below(&list.as_slice())
+            .iter()
+            .take(SHOWN)
+            .fold(0, add_second)
     });
     let count = timed!(rt, "count", few, |query| {
         frozen.count_below(&query.beginning)? as u64

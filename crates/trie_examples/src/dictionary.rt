@@ -34,10 +34,7 @@ fn dictionary<'a>(alloc: Global, file: &'a str) -> Result<FrozenTrie<&'a str, u6
 }
 
 /// The words that begin with what was typed, in order: a slice of the dictionary, of which a caller shows as many as it likes.
-fn completions<'a, 'w>(
-    words: &'a FrozenTrie<&'w str, u64>,
-    typed: &str,
-) -> &'a [Word<'w>]
+fn completions<'a, 'w>(words: &'a FrozenTrie<&'w str, u64>, typed: &str) -> &'a [Word<'w>]
     ensures pairs { result.now ≡ pairs_below words.now (nibbles typed.now) }
     ensures begins { Each (λ word. IsPrefix typed.now word.now) (each (λ p. p.0) result.now) }
 {

@@ -7,4 +7,9 @@ pub mod Growing
 pub mod Heads
 pub mod Tops
 pub mod Sides
+pub mod Behind
+pub mod Blocks
+pub mod Levels
+pub mod Plain
+pub mod Making
 pub mod Slots

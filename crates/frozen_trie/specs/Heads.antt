@@ -1,8 +1,5 @@
 -- The first nibbles of a list as a number, which tells the order of most lists.
-use Rattle.std.specs.Prelude.{◌≡◌, ℕ, zero, suc, ◌+◌, ◌*◌, ◌^◌, ◌<◌, ◌≤◌, List, [], ◌∷◌, length, min, slice_index, map as each, Bool, true, false}
-use Rattle.frozen_trie.specs.Codes.{code_at}
-use Rattle.frozen_trie.specs.Index.{IsIndexed}
-use Rattle.frozen_trie.specs.Laid.{codes_in, halves, odds, IsLaid}
+use Rattle.std.specs.Prelude.{◌≡◌, ℕ, zero, suc, ◌+◌, ◌*◌, ◌^◌, ◌<◌, ◌≤◌, List, [], ◌∷◌, drop, length, min, slice_index, Bool, true, false}
 
 -- the first n nibbles as a number, with d for each that a shorter list lacks
 unfoldable pub head_padded : ℕ → ℕ → List ℕ → ℕ
@@ -19,14 +16,13 @@ abbrev pub bound_of : Bool → List ℕ → ℕ
 bound_of false q = head_in q
 bound_of true q = head_padded 15 15 q * 16 + 15
 
+-- the head of what stands in a list behind its first n nibbles
+abbrev pub head_behind : ℕ → List ℕ → ℕ
+head_behind n c = head_in (drop n c)
+
 -- the first n of the list are nibbles
 abbrev pub AreNibbles : ℕ → List ℕ → Type 0
 AreNibbles n c = (k : ℕ) → k < n → slice_index c k < 16
-
--- the numbers are the heads of the lists
-pub record IsHeaded (cs : List (List ℕ)) (hs : List ℕ) : Type 0 where
-  pub heads : hs ≡ each head_in cs
-  pub nibbles : (k : ℕ) → k < length cs → AreNibbles 15 (code_at cs k)
 
 -- each is the copy of a number, and 16 numbers lie between the beginnings of two
 abbrev pub AreSteps : List ℕ → List ℕ → Type 0
@@ -41,11 +37,3 @@ pub record IsTop (hs : List ℕ) (w n : ℕ) : Type 0 where
 -- each of a table says so for its index
 abbrev pub AreTops : List ℕ → List ℕ → Type 0
 AreTops hs tops = (w : ℕ) → w < length tops → IsTop hs w (slice_index tops w)
-
--- the lists are packed one behind the other, and have these heads and slots
-pub record ArePacked (bytes ends hs steps tops slots : List ℕ) (tags : ℕ) : Type 0 where
-  pub laid : IsLaid bytes 0 (halves ends) (odds ends)
-  pub headed : IsHeaded (codes_in bytes 0 (halves ends) (odds ends)) hs
-  pub stepped : AreSteps hs steps
-  pub topped : AreTops hs tops
-  pub indexed : IsIndexed (codes_in bytes 0 (halves ends) (odds ends)) slots tags

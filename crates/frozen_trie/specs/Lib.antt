@@ -4,6 +4,8 @@ pub mod Frozen
 pub mod Texts
 pub mod Index
 pub mod Heads
+pub mod Blocks
+pub mod Packed
 pub mod FileItems
 pub mod FileRows
 pub mod Files

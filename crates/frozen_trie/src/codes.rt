@@ -1,15 +1,19 @@
 //! Lists of nibbles packed in one array, two to a byte.
-ghost use Rattle.std.specs.Prelude.{◌≡◌, ◌≢◌, ◌↔◌, ◌-◌, ◌<◌, ◌≤◌, ◌^◌, ◌++◌, [], ◌∷◌, ℕ, true, false, drop, length, slice_index, slice_index_or, take, IsFalse, IsTrue, IfErr, IsOk, OnOk};
+ghost use Rattle.std.specs.Prelude.{◌≡◌, ◌≢◌, ◌↔◌, ◌+◌, ◌-◌, ◌<◌, ◌≤◌, ◌^◌, ◌++◌, [], ◌∷◌, ℕ, true, false, drop, length, slice_index, slice_index_or, take, IsFalse, IsTrue, IfErr, IsOk, OnOk};
 ghost use Rattle.radix_keys.specs.Packing.{IsPadded, unpacked};
 ghost use Rattle.nibble_map.specs.Lists.{IsRising, is_prefix};
-ghost use Rattle.frozen_trie.specs.Codes.{code_at, IsSide};
-ghost use Rattle.frozen_trie.specs.Heads.{AreNibbles, bound_of, head_in};
-ghost use Rattle.frozen_trie.specs.Laid.{codes_in, halves, odds, piece_of, start_of, IsLaid};
+ghost use Rattle.frozen_trie.specs.Codes.{code_at, is_in_front, IsCut, IsSide};
+ghost use Rattle.frozen_trie.specs.Laid.{codes_in, halves, odds, start_of, IsLaid};
 
+mod blocks;
 mod index;
+mod levels;
 
-use crate::heads::{head_of, span, steps_of, tops_of};
+use crate::heads::{head_of, steps_of, tops_of};
+pub(crate) use blocks::{Level, Sought};
 pub(crate) use index::Look;
+use crate::slices::part;
+use levels::{fill_heads, forget_levels};
 use radix_keys::{Memory, NibbleSlice};
 use std::alloc::Global;
 use std::cmp::Ordering;
@@ -28,9 +32,13 @@ pub(crate) struct Codes {
     /// Where the bytes of each list end, twice, and one more where its count of nibbles is odd: the low half of its last byte
     /// is unused then.
     ends: Vec<u32>,
-    /// The head of each list: its first nibbles, and how many it has of these.
+    /// The head of each list: its first nibbles, and how many it has of these; behind what its block of 16 skips.
     heads: Vec<u64>,
-    /// Copies of each sixteenth of these, where the lists are complete and many.
+    /// Where the lists are complete, many and alike, how many bytes each block of heads skips; else empty.
+    skips: Vec<u32>,
+    /// The levels above these blocks, the lowest first, likewise.
+    levels: Vec<Level>,
+    /// Copies of each sixteenth head, where the lists are complete and many, but not alike.
     steps: Vec<u64>,
     /// How many heads are below each multiple of 2^48, likewise.
     tops: Vec<u32>,
@@ -43,16 +51,16 @@ pub(crate) struct Codes {
 
 impl Model for Codes {
     ghost use Rattle.std.specs.Prelude.{ℕ, List};
-    ghost use Rattle.frozen_trie.specs.Heads.{ArePacked};
     ghost use Rattle.frozen_trie.specs.Laid.{codes_in, halves, odds};
+    ghost use Rattle.frozen_trie.specs.Packed.{ArePacked};
 
     ghost Value = { List (List ℕ) };
 
     ghost view = { λ c. codes_in c.bytes.items 0 (halves c.ends.items) (odds c.ends.items) };
 
     ghost invariant = { λ c.
-        ArePacked c.bytes.items c.ends.items c.heads.items c.steps.items c.tops.items
-        c.slots.items c.tags };
+        ArePacked c.bytes.items c.ends.items c.heads.items c.skips.items c.levels.items
+        c.steps.items c.tops.items c.slots.items c.tags };
 }
 
 impl Codes {
@@ -64,6 +72,8 @@ impl Codes {
             bytes: Vec::new(alloc),
             ends: Vec::new(alloc),
             heads: Vec::new(alloc),
+            skips: Vec::new(alloc),
+            levels: Vec::new(alloc),
             steps: Vec::new(alloc),
             tops: Vec::new(alloc),
             slots: Vec::new(alloc),
@@ -117,55 +127,16 @@ impl Codes {
 
     /// On which side of a search the list at an index lies: Less where it comes before the searched one, or also where it begins
     /// with it and the search is one through it; Equal, of a search that isn't, where it is the searched one; and Greater
-    /// otherwise. And how many nibbles the two are known to agree in, at least as many as were known before.
-    ///
-    /// The head of the searched list is passed.
-    pub(crate) fn side(
-        &self,
-        at: usize,
-        list: &NibbleSlice<'_>,
-        head: u64,
-        is_through: bool,
-        known: usize,
-    ) -> (Ordering, usize)
+    /// otherwise. And how many nibbles the two agree in. So many as are known to agree aren't read.
+    pub(crate) fn side(&self, at: usize, sought: Sought<'_>, known: usize) -> (Ordering, usize)
         requires within { at < length self.now }
-        requires head { head ≡ bound_of is_through list.now }
-        requires nibbles { AreNibbles 15 list.now }
-        requires known { take known (code_at self.now at) ≡ take known list.now }
-        requires inside { known ≤ length list.now }
-        ensures side { IsSide is_through list.now (code_at self.now at) result.0 }
-        ensures same { take result.1 (code_at self.now at) ≡ take result.1 list.now }
-        ensures inside { result.1 ≤ length list.now }
+        requires known { take known (code_at self.now at) ≡ take known sought.list.now }
+        requires inside { known ≤ length sought.list.now }
+        ensures side { IsSide sought.entry.is_through sought.entry.list.now (code_at self.now at) result.0 }
+        ensures same { take result.1 (code_at self.now at) ≡ take result.1 sought.entry.list.now }
+        ensures inside { result.1 ≤ length sought.entry.list.now }
     {
-        let own = self.heads[at];
-        if own != head {
-            return (own.cmp(&head), known);
-        }
-        if is_through {
-            if list.len() <= 15 {
-                return (Ordering::Less, known);
-            }
-        } else if own % 16 < 15 {
-            return (Ordering::Equal, known);
-        }
-        self.side_by_bytes(at, list, is_through, known)
-    }
-
-    /// The same by the bytes of the lists.
-    fn side_by_bytes(
-        &self,
-        at: usize,
-        list: &NibbleSlice<'_>,
-        is_through: bool,
-        known: usize,
-    ) -> (Ordering, usize)
-        requires within { at < length self.now }
-        requires known { take known (code_at self.now at) ≡ take known list.now }
-        requires inside { known ≤ length list.now }
-        ensures side { IsSide is_through list.now (code_at self.now at) result.0 }
-        ensures same { take result.1 (code_at self.now at) ≡ take result.1 list.now }
-        ensures inside { result.1 ≤ length list.now }
-    {
+        let Sought { list, is_through } = sought;
         let code = self.piece(at);
         let same = code.agreement(list, known);
         if list.len() <= same {
@@ -183,18 +154,25 @@ impl Codes {
         (code.get(same).cmp(&list.get(same)), same)
     }
 
-    /// Bounds for a search by first nibbles: those of the lists in front of the first bound are below a number, and those
-    /// from the second on above it.
-    pub(crate) fn span(&self, bound: u64) -> (usize, usize)
+    /// How many of the lists come before another one, or also begin with it where the search is one through it; and whether it
+    /// stands behind these, of a search that isn't.
+    pub(crate) fn cut(&self, list: &NibbleSlice<'_>, is_through: bool) -> (usize, bool)
         requires { IsRising self.now }
-        ensures order { result.0 ≤ result.1 }
-        ensures within { result.1 ≤ length self.now }
-        ensures below { (k : ℕ) → k < result.0 → head_in (code_at self.now k) < bound }
-        ensures above { (k : ℕ) → result.1 ≤ k → k < length self.now
-            → bound < head_in (code_at self.now k) }
-        ensures nibbles { (k : ℕ) → k < length self.now → AreNibbles 15 (code_at self.now k) }
+        ensures cut { IsCut (is_in_front is_through list.now) self.now result.0 }
+        ensures found { is_through ≡ false → IsTrue result.1
+            ↔ ((result.0 < length self.now) × (code_at self.now result.0 ≡ list.now)) }
+        ensures counted { IsTrue result.1 → result.0 + 1 < 2 ^ 64 }
     {
-        span(&self.heads, &self.steps, &self.tops, bound)
+        let sought = Sought { list, is_through };
+        let heads = self.heads.as_slice();
+        if self.levels.is_empty() {
+            return self.cut_by_heads(heads, &self.steps, &self.tops, sought);
+        }
+        let (at, is_found) = self.go_down(&self.levels, sought);
+        if is_found {
+            return (at, true);
+        }
+        self.descend((1, heads, &self.skips), at, sought)
     }
 
     /// Takes no more room than the lists need, and makes a table that shortens searches where they are many.
@@ -210,15 +188,66 @@ impl Codes {
         self.bytes.shrink_to_fit();
         self.ends.shrink_to_fit();
         self.heads.shrink_to_fit();
-        if self.heads.len() >= MANY {
-            self.steps = steps_of(alloc, &self.heads)?;
-            self.tops = tops_of(alloc, &self.heads)?;
-            if self.is_for_slots() {
-                let (slots, tags) = self.slots_of(alloc)?;
-                self.slots = slots;
-                self.tags = tags;
-            }
+        if self.heads.len() < MANY {
+            return Ok(());
         }
+        self.add_slots(alloc)?;
+        self.add_tables(alloc)
+    }
+
+    /// Makes an index of hashes where searches gain by one.
+    ///
+    /// # Errors
+    ///
+    /// Memory for it is refused.
+    fn add_slots(&mut self, alloc: Global) -> Result<(), Memory>
+        ensures same { self.new ≡ self.old }
+    {
+        if self.is_for_slots() {
+            let (slots, tags) = self.slots_of(alloc)?;
+            self.slots = slots;
+            self.tags = tags;
+        }
+        Ok(())
+    }
+
+    /// Makes levels, or else tables of all heads, unless there are levels.
+    ///
+    /// # Errors
+    ///
+    /// Memory for these is refused.
+    fn add_tables(&mut self, alloc: Global) -> Result<(), Memory>
+        requires { IsRising self.old }
+        ensures same { self.new ≡ self.old }
+    {
+        if !self.levels.is_empty() {
+            return Ok(());
+        }
+        if self.is_for_levels() {
+            return self.add_levels(alloc);
+        }
+        self.steps = steps_of(alloc, &self.heads)?;
+        self.tops = tops_of(alloc, &self.heads)?;
+        Ok(())
+    }
+
+    /// Makes levels, and heads that skip what their blocks share.
+    ///
+    /// # Errors
+    ///
+    /// Memory for these is refused.
+    fn add_levels(&mut self, alloc: Global) -> Result<(), Memory>
+        requires few { length self.old < 2 ^ 32 }
+        requires some { 16 ≤ length self.old }
+        ensures same { self.new ≡ self.old }
+    {
+        let levels = self.levels_of(alloc)?;
+        let skips = self.skips_of(alloc, 1)?;
+        fill_heads(&self.bytes, &self.ends, &mut self.heads, &skips, 1);
+        self.skips = skips;
+        self.levels = levels;
+        self.steps.clear();
+        self.tops.clear();
         Ok(())
     }
 
@@ -236,14 +265,22 @@ impl Codes {
         if end > MOST {
             return Err(Memory);
         }
+        self.bytes.reserve(more.len())?;
         self.ends.reserve(1)?;
         self.heads.reserve(1)?;
-        self.bytes.extend_from_slice(more)?;
-        self.ends.push_reserved(2 * end as u32 + u32::from(is_odd));
-        self.heads.push_reserved(head_of(list, false));
+        forget_levels(
+            &self.bytes,
+            &self.ends,
+            &mut self.heads,
+            &mut self.skips,
+            &mut self.levels,
+        );
         self.steps.clear();
         self.tops.clear();
         self.slots.clear();
+        self.bytes.extend_from_slice(more)?;
+        self.ends.push_reserved(2 * end as u32 + u32::from(is_odd));
+        self.heads.push_reserved(head_of(list, false));
         Ok(())
     }
 }
@@ -271,13 +308,4 @@ fn piece_in<'a>(bytes: &'a [u8], ends: &[u32], at: usize) -> NibbleSlice<'a>
     let from = start(ends, at);
     let end = ends[at];
     NibbleSlice::from_packed(part(bytes, from, (end / 2) as usize), end % 2 == 1)
-}
-
-/// The bytes from one place up to another.
-fn part(bytes: &[u8], from: usize, to: usize) -> &[u8]
-    requires order { from ≤ to }
-    requires within { to ≤ length bytes.now }
-    ensures { result.now ≡ piece_of bytes.now from to }
-{
-    &bytes[from..to]
 }

@@ -11,7 +11,7 @@ use std::alloc::Global;
 /// for each nibble that it lacks, and for their count.
 pub(crate) fn head_of(list: &NibbleSlice<'_>, is_through: bool) -> u64
     ensures head { result ≡ bound_of is_through list.now }
-    ensures nibbles { AreNibbles 15 list.now }
+    ensures nibbles { (k : ℕ) → slice_index list.now k < 16 }
 {
     if 14 < list.len() {
         long_head(list)
@@ -24,7 +24,7 @@ pub(crate) fn head_of(list: &NibbleSlice<'_>, is_through: bool) -> u64
 fn long_head(list: &NibbleSlice<'_>) -> u64
     requires { 15 ≤ length list.now }
     ensures head { result ≡ head_padded 0 15 list.now * 16 + 15 }
-    ensures nibbles { AreNibbles 15 list.now }
+    ensures nibbles { (k : ℕ) → slice_index list.now k < 16 }
 {
     let (bytes, _) = list.as_packed();
     first_word(bytes) / 16 * 16 + 15

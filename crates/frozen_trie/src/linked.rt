@@ -3,8 +3,7 @@ ghost use Rattle.std.specs.Prelude.{◌≡◌, ◌↔◌, ◌-◌, ◌<◌, ◌�
 ghost use Rattle.nibble_map.specs.Lists.{IsRising};
 ghost use Rattle.frozen_trie.specs.Frozen.{IsLinked};
 
-use crate::codes::Codes;
-use crate::heads::head_of;
+use crate::codes::{Codes, Sought};
 use crate::search::climb;
 use radix_keys::{Memory, NibbleSlice};
 
@@ -35,7 +34,11 @@ pub(crate) fn follows(codes: &Codes, list: &NibbleSlice<'_>) -> bool
     if count == 0 {
         return true;
     }
-    let (side, _) = codes.side(count - 1, list, head_of(list, false), false, 0);
+    let sought = Sought {
+        list,
+        is_through: false,
+    };
+    let (side, _) = codes.side(count - 1, sought, 0);
     side.is_lt()
 }
 

@@ -1,19 +1,17 @@
 //! Searches among lists in rising order.
-ghost use Rattle.std.specs.Prelude.{◌≡◌, ◌↔◌, ◌+◌, ◌<◌, ◌≤◌, ◌^◌, ℕ, false, length, not, IsTrue, MatchOption};
+ghost use Rattle.std.specs.Prelude.{◌≡◌, ◌↔◌, ◌+◌, ◌<◌, ◌≤◌, ℕ, length, not, IsTrue, MatchOption};
 ghost use Rattle.nibble_map.specs.Lists.{IsBefore, IsRising};
-ghost use Rattle.frozen_trie.specs.Codes.{AreLinks, IsCut, IsLastPrefix, is_before, is_in_front, is_until, code_at};
+ghost use Rattle.frozen_trie.specs.Codes.{AreLinks, IsCut, IsLastPrefix, is_before, is_until, code_at};
 
 use crate::codes::{Codes, Look};
-use crate::heads::head_of;
 use radix_keys::NibbleSlice;
-use std::cmp::Ordering;
 
 /// How many of the lists come before another one.
 pub(crate) fn lower(codes: &Codes, list: &NibbleSlice<'_>) -> usize
     requires { IsRising codes.now }
     ensures { IsCut (λ c. is_before c list.now) codes.now result }
 {
-    cut(codes, list, false).0
+    codes.cut(list, false).0
 }
 
 /// How many of the lists come before another one or begin with it.
@@ -21,40 +19,7 @@ pub(crate) fn upper(codes: &Codes, list: &NibbleSlice<'_>) -> usize
     requires { IsRising codes.now }
     ensures { IsCut (λ c. is_until c list.now) codes.now result }
 {
-    cut(codes, list, true).0
-}
-
-/// How many of the lists come before another one, or also begin with it where the search is one through it; and whether it
-/// stands behind these, of a search that isn't.
-///
-/// A list between two others that agree with the searched one in their first nibbles does so too, so these aren't compared
-/// again.
-fn cut(codes: &Codes, list: &NibbleSlice<'_>, is_through: bool) -> (usize, bool)
-    requires { IsRising codes.now }
-    ensures cut { IsCut (is_in_front is_through list.now) codes.now result.0 }
-    ensures found { is_through ≡ false → IsTrue result.1
-        ↔ ((result.0 < length codes.now) × (code_at codes.now result.0 ≡ list.now)) }
-    ensures counted { IsTrue result.1 → result.0 + 1 < 2 ^ 64 }
-{
-    let head = head_of(list, is_through);
-    let (mut lo, mut hi) = codes.span(head);
-    let (mut low, mut high) = (0usize, 0usize);
-    while lo < hi {
-        let mid = lo + (hi - lo) / 2;
-        let (side, same) = codes.side(mid, list, head, is_through, low.min(high));
-        match side {
-            Ordering::Less => {
-                lo = mid + 1;
-                low = same;
-            }
-            Ordering::Equal => return (mid, true),
-            Ordering::Greater => {
-                hi = mid;
-                high = same;
-            }
-        }
-    }
-    (lo, false)
+    codes.cut(list, true).0
 }
 
 /// The last of the first `from` lists that is a prefix of another one, by its index and one more, or 0 where there is none.
@@ -87,7 +52,7 @@ pub(crate) fn behind(codes: &Codes, list: &NibbleSlice<'_>) -> usize
     requires { IsRising codes.now }
     ensures { IsCut (λ c. not (is_before list.now c)) codes.now result }
 {
-    let (at, is_found) = cut(codes, list, false);
+    let (at, is_found) = codes.cut(list, false);
     if is_found { at + 1 } else { at }
 }
 
@@ -112,7 +77,7 @@ fn index_by_order(codes: &Codes, list: &NibbleSlice<'_>) -> Option<usize>
         ((k : ℕ) → k < length codes.now → code_at codes.now k ≡ list.now → ⊥)
         (λ i. (i < length codes.now) × (code_at codes.now i ≡ list.now)) }
 {
-    let (at, is_found) = cut(codes, list, false);
+    let (at, is_found) = codes.cut(list, false);
     if is_found { Some(at) } else { None }
 }
 
@@ -123,7 +88,7 @@ pub(crate) fn last_prefix(codes: &Codes, up: &[u32], list: &NibbleSlice<'_>) -> 
     requires links { AreLinks codes.now up.now }
     ensures { IsLastPrefix codes.now (length codes.now) list.now result }
 {
-    let (at, is_found) = cut(codes, list, false);
+    let (at, is_found) = codes.cut(list, false);
     if is_found {
         at + 1
     } else {

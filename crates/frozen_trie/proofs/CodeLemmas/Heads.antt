@@ -10,7 +10,7 @@ use Rattle.nibble_map.proofs.ListLemmas.Cut.{cons_head, cons_same, cons_tail}
 use Rattle.nibble_map.proofs.ListLemmas.Parted.{prefix_itself}
 use Rattle.frozen_trie.specs.Codes.{code_at, is_before, is_until}
 use Rattle.std.specs.Int.{w64, from_be_bytes}
-use Rattle.frozen_trie.specs.Heads.{bound_of, head_in, head_padded, AreNibbles, IsHeaded}
+use Rattle.frozen_trie.specs.Heads.{bound_of, head_in, head_padded, AreNibbles}
 use Rattle.frozen_trie.proofs.CodeLemmas.Order.{before_by_test, before_passes, until_by_before, until_by_prefix, until_by_test, which_before}
 use Rattle.frozen_trie.proofs.CodeLemmas.Parts.{rising_at}
 
@@ -254,37 +254,17 @@ through_by_head c q a b e f h k apart = elim (three_ways a b) [
   | inr (inr gt) ↦ le-ltb a b (omega (arith, gt)) ∙ sym (not_until_by_head c q h (omega (arith, e, f, gt)))
 ]
 
-module _ (cs : List (List ℕ)) (heads : List ℕ) (kept : IsHeaded cs heads) where
-  -- as many heads as lists
-  pub as_many_heads : length heads ≡ length cs
-  as_many_heads = ap length kept.heads ∙ length-map cs _
-
-  -- the head at an index is that of the list there
-  pub head_at : (k : ℕ) → k < length cs → get_or heads k 0 ≡ head_in (code_at cs k)
-  head_at k l = ap (λ hs. get_or hs k 0) kept.heads ∙ get_or-map head_in cs k [] 0 l
-
-  -- the heads of rising lists don't fall
-  pub heads_rise : IsRising cs → (i j : ℕ) → i ≤ j → j < length heads → get_or heads i 0 ≤ get_or heads j 0
-  heads_rise rises i j l m =
-      let n = as_many_heads in
-      let in_i = head_at i (omega (arith, l, m, n)) in
-      let in_j = head_at j (omega (arith, m, n)) in
-      elim (three_ways i j) [
-        | inl lt ↦ (let le = head_rises (code_at cs i) (code_at cs j) (kept.nibbles i (omega (arith, lt, m, n))) (rising_at cs rises i j lt (omega (arith, m, n))) in omega (arith, in_i, in_j, le))
-        | inr (inl e) ↦ (let same = ap (λ k. get_or heads k 0) e in omega (arith, same))
-        | inr (inr g) ↦ absurd (omega (arith, g, l))
-      ]
-
-  -- one list more, with its head
-  pub headed_more : (c : List ℕ) (h : ℕ) → h ≡ head_in c → AreNibbles 15 c → IsHeaded (cs ++ c ∷ []) (heads ++ h ∷ [])
-  headed_more c h e low = record {
-    heads = ap (λ hs. hs ++ h ∷ []) kept.heads ∙ ap (λ x. map head_in cs ++ x ∷ []) e ∙ sym (map-append head_in cs (c ∷ []));
-    nibbles = λ k l. elim (three_ways k (length cs)) [
-      | inl lt ↦ subst (AreNibbles 15) (sym (get_or_append_left cs (c ∷ []) [] k lt)) (kept.nibbles k lt)
-      | inr (inl same) ↦ subst (AreNibbles 15) (sym (ap (code_at (cs ++ c ∷ [])) same ∙ get_or-append_seam cs c [] [])) low
-      | inr (inr g) ↦ absurd (let n = length-append cs (c ∷ []) in omega (arith, l, g, n))
-    ];
-  }
+-- numbers that are the heads of rising lists don't fall
+pub heads_rise : (cs : List (List ℕ)) (heads : List ℕ) → IsRising cs → ((i : ℕ) → i < length cs → AreNibbles 15 (code_at cs i)) → length heads ≡ length cs
+    → ((i : ℕ) → i < length cs → get_or heads i 0 ≡ head_in (code_at cs i)) → (i j : ℕ) → i ≤ j → j < length heads → get_or heads i 0 ≤ get_or heads j 0
+heads_rise cs heads rises nibbles many at i j l m =
+    let in_i = at i (omega (arith, l, m, many)) in
+    let in_j = at j (omega (arith, m, many)) in
+    elim (three_ways i j) [
+      | inl lt ↦ (let le = head_rises (code_at cs i) (code_at cs j) (nibbles i (omega (arith, lt, m, many))) (rising_at cs rises i j lt (omega (arith, m, many))) in omega (arith, in_i, in_j, le))
+      | inr (inl e) ↦ (let same = ap (λ k. get_or heads k 0) e in omega (arith, same))
+      | inr (inr g) ↦ absurd (omega (arith, g, l))
+    ]
 
 -- the first eight bytes of a list as one number are its first 16 nibbles
 pub word_head : (bs c : List ℕ) → ((i : ℕ) → i < 8 → get_or bs i 0 ≡ get_or c (2 * i) 0 * 16 + get_or c (2 * i + 1) 0) → from_be_bytes w64 bs ≡ head_padded 0 16 c

@@ -9,7 +9,7 @@ first_word-requires c =
     omega (arith, c.requires, byte_count c.as_packed.result.0.now c.as_packed.result.1 c.args.list.now c.as_packed.ensures.padded c.as_packed.ensures.nibbles)
 
 pub returns-clause-nibbles : goal.returns-clause-nibbles
-returns-clause-nibbles c = λ k _.
+returns-clause-nibbles c = λ k.
     nibble_fits c.as_packed.result.0.now c.as_packed.result.1 c.args.list.now c.as_packed.ensures.padded c.as_packed.ensures.nibbles k (c.first_word.ensures.bytes (k / 2))
 
 pub returns-clause-head : goal.returns-clause-head

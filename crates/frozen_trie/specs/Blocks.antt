@@ -1,0 +1,67 @@
+-- Heads in blocks, each behind what the lists of its block share, and a tree of such blocks.
+use Rattle.std.specs.Prelude.{◌≡◌, ℕ, ◌+◌, ◌-◌, ◌*◌, ◌/◌, ◌^◌, ◌<◌, ◌≤◌, ◌⊎◌, List, Some, drop, length, slice_get, slice_index, take, Bool, true, false}
+use Rattle.frozen_trie.specs.Codes.{code_at, is_in_front}
+use Rattle.frozen_trie.specs.Heads.{head_behind}
+use Rattle.frozen_trie.specs.declared.codes.blocks.Level.{Level}
+
+-- all numbers in the lists are nibbles
+abbrev pub AreOfNibbles : List (List ℕ) → Type 0
+AreOfNibbles cs = (i k : ℕ) → slice_index (code_at cs i) k < 16
+
+-- the lists at `first`, `first + step`, .. have these heads behind n nibbles, and are as many
+pub record IsBlock (cs : List (List ℕ)) (hs : List ℕ) (first step n : ℕ) : Type 0 where
+  pub nibbles : AreOfNibbles cs
+  pub counted : length cs < 2 ^ 64
+  pub apart : 0 < step
+  pub within : (j : ℕ) → j < length hs → first + j * step < length cs
+  pub heads : (j : ℕ) → j < length hs
+      → slice_index hs j ≡ head_behind n (code_at cs (first + j * step))
+
+-- each of these begins with the first n nibbles of q
+pub record IsSharedBy (cs : List (List ℕ)) (count first step n : ℕ) (q : List ℕ) : Type 0 where
+  pub long : n ≤ length q
+  pub same : (j : ℕ) → j < count
+      → take n (code_at cs (first + j * step)) ≡ take n q
+
+-- the a-th and the b-th list, counted from 1, agree in s bytes; none where one of them isn't there
+pub record IsSkip (cs : List (List ℕ)) (a b s : ℕ) : Type 0 where
+  pub long : 2 * s ≤ length (code_at cs (a - 1))
+  pub same : take (2 * s) (code_at cs (a - 1)) ≡ take (2 * s) (code_at cs (b - 1))
+  pub edge : (a ≡ 0) ⊎ (length cs < b) → s ≡ 0
+
+-- the first n numbers are the heads of the last of each S lists, each behind what its block of 16 skips
+abbrev pub AreHeads : List (List ℕ) → ℕ → (hs skips : List ℕ) → ℕ → Type 0
+AreHeads cs S hs skips n = (i : ℕ) → i < n
+    → slice_index hs i ≡ head_behind (2 * slice_index skips (i / 16)) (code_at cs (S * (i + 1) - 1))
+
+-- the bytes that the blocks skip: in which the list before a block and its last one agree
+abbrev pub AreSkips : List (List ℕ) → ℕ → List ℕ → Type 0
+AreSkips cs S skips = (k : ℕ) → IsSkip cs (S * (16 * k)) (S * (16 * k + 16)) (slice_index skips k)
+
+-- of each S lists the last, by its head behind what its block skips
+pub record IsLevel (cs : List (List ℕ)) (S : ℕ) (hs ks : List ℕ) : Type 0 where
+  pub nibbles : AreOfNibbles cs
+  pub apart : 0 < S
+  pub few : S ≤ length cs + 1
+  pub many : S * length hs ≤ length cs
+  pub rest : length cs < S * (length hs + 1)
+  pub heads : AreHeads cs S hs ks (length hs)
+  pub skips : AreSkips cs S ks
+
+-- levels, of which each takes each sixteenth list of the one before, the first of all lists; the last is one block
+pub record AreLevels (cs : List (List ℕ)) (levels : List Level) : Type 0 where
+  pub few : length cs < 16 ^ (length levels + 1)
+  pub each : (t : ℕ) (l : Level) → slice_get levels t ≡ Some l
+      → (l.step ≡ 16 ^ (t + 1)) × IsLevel cs l.step l.heads.items l.skips.items
+
+-- the first S n lists come in front, and the last of the next S and all behind it don't
+pub record IsAround (t : Bool) (q : List ℕ) (cs : List (List ℕ)) (S n : ℕ) : Type 0 where
+  pub within : S * n ≤ length cs
+  pub before : (i : ℕ) → i < S * n → is_in_front t q (code_at cs i) ≡ true
+  pub after : (i : ℕ) → S * (n + 1) ≤ i + 1 → i < length cs
+      → is_in_front t q (code_at cs i) ≡ false
+
+-- the last of the S lists behind the first S n is q
+pub record IsEndOf (q : List ℕ) (cs : List (List ℕ)) (S n : ℕ) : Type 0 where
+  pub within : S * (n + 1) ≤ length cs
+  pub same : code_at cs (S * (n + 1) - 1) ≡ q

@@ -1,5 +1,5 @@
 -- An index of lists by hashes of their bytes.
-use Rattle.std.specs.Prelude.{◌≡◌, ℕ, zero, suc, ◌+◌, ◌-◌, ◌*◌, ◌/◌, ◌%◌, ◌^◌, ◌<◌, ◌≤◌, List, [], ◌∷◌, length, slice_index, nat_lt, bit_and, bit_xor, if◌then◌else◌}
+use Rattle.std.specs.Prelude.{◌≡◌, ℕ, zero, suc, ◌+◌, ◌-◌, ◌*◌, ◌/◌, ◌%◌, ◌^◌, ◌<◌, ◌≤◌, List, [], ◌∷◌, length, slice_index, slice_index_or, nat_lt, bit_and, bit_xor, if◌then◌else◌}
 use Rattle.std.specs.Int.{w64, from_le_bytes}
 use Rattle.frozen_trie.specs.Codes.{code_at}
 use Rattle.frozen_trie.specs.Texts.{packed_bytes}
@@ -76,3 +76,8 @@ pub record IsFirstFree (slots : List ℕ) (from at : ℕ) : Type 0 where
   pub within : at < from + 64
   pub free : slice_index slots at ≡ 0
   pub first : (s : ℕ) → from ≤ s → s < at → slice_index slots s ≡ 0 → ⊥
+
+-- the list at each pair's index is its encoding; of lists without pairs there is none to be compared
+abbrev pub AreKeys : {K V : Type 0} → (K → List ℕ) → List (K × V) → List (List ℕ) → Type 0
+AreKeys enc ps cs = (i : ℕ) (p : _) → i < length ps → p ≡ slice_index_or ps i p
+    → code_at cs i ≡ enc p.0

@@ -2,9 +2,10 @@
 ghost use Rattle.std.specs.Prelude.{◌≡◌, ◌↔◌, ◌+◌, ◌<◌, ◌≤◌, ℕ, length, not, IsTrue, MatchOption};
 ghost use Rattle.nibble_map.specs.Lists.{IsBefore, IsRising};
 ghost use Rattle.frozen_trie.specs.Codes.{AreLinks, IsCut, IsLastPrefix, is_before, is_until, code_at};
+ghost use Rattle.frozen_trie.specs.Index.{AreKeys};
 
 use crate::codes::{Codes, Look};
-use radix_keys::NibbleSlice;
+use radix_keys::{NibbleSlice, TrieKey};
 
 /// How many of the lists come before another one.
 pub(crate) fn lower(codes: &Codes, list: &NibbleSlice<'_>) -> usize
@@ -56,14 +57,19 @@ pub(crate) fn behind(codes: &Codes, list: &NibbleSlice<'_>) -> usize
     if is_found { at + 1 } else { at }
 }
 
-/// The index of a list.
-pub(crate) fn index_of(codes: &Codes, list: &NibbleSlice<'_>) -> Option<usize>
-    requires { IsRising codes.now }
+/// The index of a list. The pairs of the lists are passed, or none.
+pub(crate) fn index_of<K: TrieKey, V>(
+    codes: &Codes,
+    pairs: &[(K, V)],
+    list: &NibbleSlice<'_>,
+) -> Option<usize>
+    requires rising { IsRising codes.now }
+    requires keyed { AreKeys K.encoding pairs.now codes.now }
     ensures { MatchOption result
         ((k : ℕ) → k < length codes.now → code_at codes.now k ≡ list.now → ⊥)
         (λ i. (i < length codes.now) × (code_at codes.now i ≡ list.now)) }
 {
-    match codes.look(list) {
+    match codes.look(pairs, list) {
         Look::Found(at) => Some(at),
         Look::Absent => None,
         Look::Unknown => index_by_order(codes, list),

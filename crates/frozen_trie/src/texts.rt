@@ -28,7 +28,7 @@ pub use walk::Texts;
 /// A map from byte strings to values, which is made in the order of the keys and then read. The keys'
 /// bytes lie one behind the other, so a pair takes those of its key, its value and 16 bytes more, once
 /// `finish` has dropped spare room; from 65,536 pairs on its tables take 2^18 bytes and half a byte a
-/// pair besides, and 5 bytes a pair where one key in 16 takes 8 bytes or more: 26 bytes more a pair at
+/// pair besides, and 5 bytes a pair where keys take more than 4 bytes on average: 26 bytes more a pair at
 /// most. A key comes out as the bytes that went in.
 ///
 /// A contract sees it as it sees a `FrozenTrie`: as the finite map from the nibbles of each key to the pair of the key's
@@ -80,7 +80,7 @@ impl<V> FrozenTexts<V> {
     pub fn get(&self, key: &[u8]) -> Option<&V>
         ensures value { option_copied result ≡ value_at self.now (nibbles key.now) }
     {
-        match index_of(&self.codes, &NibbleSlice::from_bytes(key)) {
+        match index_of::<u8, ()>(&self.codes, &[], &NibbleSlice::from_bytes(key)) {
             Some(at) => Some(&self.values[at]),
             None => None,
         }

@@ -15,6 +15,7 @@ use Rattle.nibble_map.proofs.ListLemmas.Sorted.{tied_lists_equal, sorted_of_risi
 use Rattle.nibble_map.proofs.ListLemmas.Unique.{before_not_itself}
 use Rattle.frozen_trie.specs.Codes.{code_at}
 use Rattle.frozen_trie.specs.Frozen.{codes_of, coded_pairs, map_of_pairs}
+use Rattle.frozen_trie.specs.Index.{AreKeys}
 use Rattle.frozen_trie.proofs.CodeLemmas.Parts.{Each-at}
 
 -- a list ties with itself
@@ -57,6 +58,10 @@ module _ {K V : Type 0} (enc : K → List ℕ) where
   code_of_pair [] i x l e = absurd (omega (arith, l))
   code_of_pair (p ∷ ps) zero x l e = ap (λ y. enc y.0) (sym e)
   code_of_pair (p ∷ ps) (suc i) x l e = code_of_pair ps i x (omega (arith, l)) e
+
+  -- so the pairs' keys are those of the codes
+  pub keys_of_codes : (cs : List (List ℕ)) (ps : List (K × V)) → cs ≡ codes_of enc ps → AreKeys enc ps cs
+  keys_of_codes cs ps e = subst (AreKeys enc ps) (sym e) (code_of_pair ps)
 
   -- the pair at an index is found at its code
   find_at : (ps : List (K × V)) (q : List ℕ) (i : ℕ) (x : K × V) → IsRising (codes_of enc ps) → i < length ps → x ≡ get_or ps i x

@@ -1,11 +1,11 @@
 //! An index of lists by hashes, for searches of one list.
 ghost use Rattle.std.specs.Prelude.{◌≡◌, ◌↔◌, ◌+◌, ◌-◌, ◌<◌, ◌≤◌, ◌^◌, ℕ, length, slice_index, IfOk, IsTrue, MatchOption};
 ghost use Rattle.frozen_trie.specs.Codes.{code_at};
-ghost use Rattle.frozen_trie.specs.Index.{AreSlots, IsFirstFree, IsSlotted, first_slot};
+ghost use Rattle.frozen_trie.specs.Index.{AreKeys, AreSlots, IsFirstFree, IsSlotted, first_slot};
 
 use crate::codes::Codes;
 use crate::hash::hash_of;
-use radix_keys::{Memory, NibbleSlice};
+use radix_keys::{Memory, NibbleSlice, TrieKey};
 use std::alloc::Global;
 
 /// How many slots a list may lie in.
@@ -31,8 +31,9 @@ enum Slot {
 }
 
 impl Codes {
-    /// Looks for a list by its hash, in 64 slots at most.
-    pub(crate) fn look(&self, list: &NibbleSlice<'_>) -> Look
+    /// Looks for a list by its hash, in 64 slots at most. The pairs of the lists are passed, or none.
+    pub(crate) fn look<K: TrieKey, V>(&self, pairs: &[(K, V)], list: &NibbleSlice<'_>) -> Look
+        requires { AreKeys K.encoding pairs.now self.now }
         ensures found { (i : ℕ) → result ≡ Look.Found i
             → (i < length self.now) × (code_at self.now i ≡ list.now) }
         ensures absent { result ≡ Look.Absent → (k : ℕ) → k < length self.now
@@ -50,7 +51,7 @@ impl Codes {
                 Slot::Free => return Look::Absent,
                 Slot::Other => {}
                 Slot::Holds(i) => {
-                    if self.is_at(i, list) {
+                    if self.is_at(pairs, i, list) {
                         return Look::Found(i);
                     }
                 }
@@ -59,11 +60,18 @@ impl Codes {
         Look::Unknown
     }
 
-    /// Whether a list is the one at an index.
-    fn is_at(&self, at: usize, list: &NibbleSlice<'_>) -> bool
-        requires { at < length self.now }
+    /// Whether a list is the one at an index. Where the pair there has a key that lends its encoding, it is compared with that:
+    /// who finds the list reads the pair next, and needn't read where the packed list lies, nor the list.
+    fn is_at<K: TrieKey, V>(&self, pairs: &[(K, V)], at: usize, list: &NibbleSlice<'_>) -> bool
+        requires within { at < length self.now }
+        requires keyed { AreKeys K.encoding pairs.now self.now }
         ensures { IsTrue result ↔ (code_at self.now at ≡ list.now) }
     {
+        if let Some((key, _)) = pairs.get(at) {
+            if let Some(own) = key.as_nibbles() {
+                return own == *list;
+            }
+        }
         self.piece(at) == *list
     }
 
@@ -87,12 +95,13 @@ impl Codes {
         Ok((slots, tags))
     }
 
-    /// Whether searches gain by slots: one in sixteen lists or more is longer than its head, and they aren't too many.
+    /// Whether searches gain by slots: the lists aren't too many, and take more bytes each than a number of 32 bits on average,
+    /// since those that take fewer are found by their heads as soon.
     pub(super) fn is_for_slots(&self) -> bool
         ensures { IsTrue result → length self.now ≤ 2 ^ 30 }
     {
-        let long = self.heads.iter().filter(|head| **head % 16 == 15).count();
-        self.len() <= MOST && long >= self.len() / 16
+        let count = self.len();
+        count <= MOST && self.bytes.len() > 4 * count
     }
 }
 

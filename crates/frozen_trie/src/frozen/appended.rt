@@ -29,7 +29,7 @@ impl<K: TrieKey, V> FrozenTrie<K, V> {
     /// # Errors
     ///
     /// Memory for the tables is refused: some 2^18 bytes and half a byte a pair, and 5 bytes a pair more
-    /// where one encoding in 16 has 15 nibbles or more. Each call returns the same without them.
+    /// where encodings take more than 4 bytes on average. Each call returns the same without them.
     pub fn finish(&mut self) -> Result<(), Memory>
         ensures same { self.new ≡ self.old }
         ensures few { map.len self.old < 2 ^ 16 → IsOk result }

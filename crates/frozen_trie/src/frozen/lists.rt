@@ -17,7 +17,7 @@ impl<K: TrieKey, V> FrozenTrie<K, V> {
     pub(super) fn pair_at(&self, list: &NibbleSlice<'_>) -> Option<(&K, &V)>
         ensures pair { option_map deref_pair result ≡ map.get self.now list.now }
     {
-        match index_of(&self.codes, list) {
+        match index_of(&self.codes, &self.pairs, list) {
             Some(at) => Some(entry_at(&self.pairs, at)),
             None => None,
         }

@@ -18,7 +18,7 @@ impl<K: TrieKey, V> FrozenTrie<K, V> {
             (lends_stored K.row V.row K.TrieKey.own K.PartialEq.own self.entry list.now result) }
         ensures value { option_copied_mut result ≡ value_at self.old list.now }
     {
-        match index_of(&self.codes, list) {
+        match index_of(&self.codes, &self.pairs, list) {
             Some(at) => Some(second(&mut self.pairs[at])),
             None => None,
         }

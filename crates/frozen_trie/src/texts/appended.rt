@@ -30,7 +30,7 @@ impl<V> FrozenTexts<V> {
     /// # Errors
     ///
     /// Memory for the tables is refused: some 2^18 bytes and half a byte a pair, and 5 bytes a pair more
-    /// where one key in 16 takes 8 bytes or more. Each call returns the same without them.
+    /// where keys take more than 4 bytes on average. Each call returns the same without them.
     pub fn finish(&mut self) -> Result<(), Memory>
         ensures same { self.new ≡ self.old }
         ensures few { map.len self.old < 2 ^ 16 → IsOk result }

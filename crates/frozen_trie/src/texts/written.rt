@@ -16,7 +16,7 @@ impl<V> FrozenTexts<V> {
         ensures* writes_back { sem 𝓛 (lends_text V.row self.entry (nibbles key.now) result) }
         ensures value { option_copied_mut result ≡ value_at self.old (nibbles key.now) }
     {
-        match index_of(&self.codes, &NibbleSlice::from_bytes(key)) {
+        match index_of::<u8, ()>(&self.codes, &[], &NibbleSlice::from_bytes(key)) {
             Some(at) => Some(&mut self.values[at]),
             None => None,
         }

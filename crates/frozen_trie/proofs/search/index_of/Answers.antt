@@ -1,4 +1,4 @@
 use Rattle.frozen_trie.proofs.search.index_of.Goals as goal
 
 pub returns-in-Found : goal.returns-in-Found
-returns-in-Found c = c.look.ensures.found c.in-Found.at c.in-Found.is
+returns-in-Found g c = c.look.ensures.found c.in-Found.at c.in-Found.is

@@ -8,7 +8,7 @@ use Rattle.frozen_trie.proofs.codes.Codes.look.Goals.{in-Other, in-Holds+else-is
 use Rattle.frozen_trie.proofs.codes.Codes.look.Goals as goal
 
 pub returns-in-Free-clause-absent : goal.returns-in-Free-clause-absent
-returns-in-Free-clause-absent c = λ _ k l e.
+returns-in-Free-clause-absent g c = λ _ k l e.
     let slots = c.self.inside.slots.items in
     let tags = c.self.inside.tags in
     let hash = c.hash_of-hash.result in
@@ -22,17 +22,17 @@ returns-in-Free-clause-absent c = λ _ k l e.
     (sym (ap (λ h. entry_of tags h k) c.hash_of-hash.ensures)) c.loop-at.auto.at (omega (arith, c.loop-at-test.true)) here (λ s m n. c.loop-at.invariant s m n k l e)
 
 pub is_at-requires : goal.is_at-requires
-is_at-requires c = let holds = c.slot_of.ensures.holds c.in-Holds.i c.in-Holds.is in omega (arith, holds.0, c.len-count.ensures)
+is_at-requires g c = let holds = c.slot_of.ensures.holds c.in-Holds.i c.in-Holds.is in record { within = omega (arith, holds.0, c.len-count.ensures); keyed = c.requires }
 
 pub returns-then-is_at-clause-found : goal.returns-then-is_at-clause-found
-returns-then-is_at-clause-found c = λ i e.
+returns-then-is_at-clause-found g c = λ i e.
     let same : c.in-Holds.i ≡ i = cc e in
     let holds = c.slot_of.ensures.holds c.in-Holds.i c.in-Holds.is in
     let here : c.in-Holds.i < length c.args.self.now = omega (arith, holds.0, c.len-count.ensures) in
     subst (λ n. (n < length c.args.self.now) × (code_at c.args.self.now n ≡ c.args.list.now)) same (here, c.is_at.ensures.0 c.if-is_at.true)
 
 pub loop-at-preserved : goal.loop-at-preserved
-loop-at-preserved c = λ s m n k l e f.
+loop-at-preserved g c = λ s m n k l e f.
     let slots = c.self.inside.slots.items in
     let tag = bit_and c.hash_of-hash.result c.self.inside.tags in
     let at = c.loop-at.at in

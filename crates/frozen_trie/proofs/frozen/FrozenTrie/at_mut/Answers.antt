@@ -2,10 +2,15 @@ use Rattle.std.proofs.Common.{◌≡◌, ℕ, ◌<◌, Some, inr, length, option
 use Rattle.nibble_map.specs.Lists.{IsRising}
 use Rattle.radix_trie.proofs.ChangeLemmas.Written.{same_after}
 use Rattle.frozen_trie.specs.Codes.{code_at}
+use Rattle.frozen_trie.specs.Index.{AreKeys}
 use Rattle.frozen_trie.proofs.FrozenLemmas.Queries.{as_many}
-use Rattle.frozen_trie.proofs.FrozenLemmas.Rows.{get_at, get_none}
+use Rattle.frozen_trie.proofs.FrozenLemmas.Rows.{get_at, get_none, keys_of_codes}
 use Rattle.frozen_trie.proofs.FrozenLemmas.Written.{codes_written, map_written}
 use Rattle.frozen_trie.proofs.frozen.FrozenTrie.at_mut.Goals as goal
+
+pub index_of-requires-clause-keyed : goal.index_of-requires-clause-keyed
+index_of-requires-clause-keyed g c =
+    subst (λ ps. AreKeys g.K.TrieKey.encoding ps c.self.inside.codes) (sym c.deref.ensures.value) (keys_of_codes g.K.TrieKey.encoding _ _ c.self.invariant.keyed)
 
 pub invariant_of-self-lent : goal.invariant_of-self-lent
 invariant_of-self-lent g c w = record {

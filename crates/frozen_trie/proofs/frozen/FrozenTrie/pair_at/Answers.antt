@@ -1,10 +1,15 @@
 use Rattle.std.proofs.Common.{◌≡◌, ◌<◌, ℕ, length, arith, get_or, subst, sym, ap, ◌∙◌}
 use Rattle.nibble_map.specs.Lists.{IsRising}
 use Rattle.frozen_trie.specs.Codes.{code_at}
+use Rattle.frozen_trie.specs.Index.{AreKeys}
 use Rattle.radix_trie.specs.Walks.{deref_pair}
-use Rattle.frozen_trie.proofs.FrozenLemmas.Rows.{get_at, get_none}
+use Rattle.frozen_trie.proofs.FrozenLemmas.Rows.{get_at, get_none, keys_of_codes}
 use Rattle.frozen_trie.proofs.FrozenLemmas.Queries.{as_many}
 use Rattle.frozen_trie.proofs.frozen.FrozenTrie.pair_at.Goals as goal
+
+pub index_of-requires-clause-keyed : goal.index_of-requires-clause-keyed
+index_of-requires-clause-keyed g c =
+    subst (λ ps. AreKeys g.K.TrieKey.encoding ps c.self.inside.codes) (sym c.deref.ensures.value) (keys_of_codes g.K.TrieKey.encoding _ _ c.self.invariant.keyed)
 
 pub returns-in-Some : goal.returns-in-Some
 returns-in-Some g c =
@@ -16,7 +21,7 @@ returns-in-Some g c =
     record {
       pair = rw (← c.self.view_is) (sym (get_at enc ps c.args.list.now c.in-Some.at x rises
           (omega (arith, c.in-Some.ensures.0, ap length same, as_many enc ps rises))
-          (c.entry_at.ensures ∙ ap (λ l. get_or l c.in-Some.at x) c.deref.ensures.value)
+          (c.entry_at.ensures ∙ ap (λ l. get_or l c.in-Some.at x) c.deref-in-Some.ensures.value)
           (subst (λ cs. code_at cs c.in-Some.at ≡ c.args.list.now) same c.in-Some.ensures.1)));
     }
 

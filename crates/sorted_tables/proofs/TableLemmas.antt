@@ -1,0 +1,3 @@
+-- Items in order: where they are parted, their links, and walks by these.
+pub mod Links
+pub mod Walks

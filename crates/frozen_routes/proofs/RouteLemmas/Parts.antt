@@ -7,6 +7,7 @@ use Rattle.std.proofs.lemmas.List.{length-map}
 use Rattle.radix_keys.specs.Networks.{Net, IsBase}
 use Rattle.frozen_routes.specs.Routes.{AreInFront, AreRising, IsEarlier, IsInFront, base_numbers, is_inside, bit_counts}
 use Rattle.frozen_routes.proofs.RouteLemmas.Blocks.{div_up, earlier_le, finer, start_is_least}
+use Rattle.sorted_tables.proofs.TableLemmas.Links.{parted_in_order}
 
 -- the first bits of a network by those of calls
 pub own_is : (w n m m' own rest b : ℕ) → rest ≡ b - n → b ≡ w → m' ≡ m → own ≡ m' / 2 ^ rest → own ≡ m / 2 ^ (w - n)
@@ -142,10 +143,7 @@ through w n q m k front = elim front [ inl less ↦ inl less | inr at ↦ inr (a
 
 -- those in front of the networks within another come before those behind
 pub cuts_in_order : (w n q : ℕ) (fs bs : List ℕ) (from to : ℕ) → AreInFront w false n q fs bs from → AreInFront w true n q fs bs to → from ≤ to
-cuts_in_order w n q fs bs from to x y = elim (cases_lt to from) [
-  | inl lt ↦ absurd (y.after to (omega arith) (let within = x.within in omega (arith, lt, within)) (through w n q _ _ (x.before to lt)))
-  | inr ge ↦ ge
-]
+cuts_in_order w n q fs bs from to x y = parted_in_order _ _ _ _ (length fs) from to (λ k p apart. apart (through w n q _ _ p)) x y
 
 -- the rows between are those within
 pub part_within : {A V : Type 0} (w : ℕ) (number : A → ℕ) (net : Net A) (rows : List (Net A × V)) (from to : ℕ)

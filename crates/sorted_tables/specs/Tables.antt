@@ -24,7 +24,7 @@ module _ {X : Type 0} where
     pub before : is_rising (take i xs)
     pub unsorted : is_rising (take (i + 1) xs) → ⊥
 
-  -- of the items up to the one on whose index and one more is n, those that are around it, from the last up; none at 0
+  -- those of the first n items that are around the last of these, from the last up; none at 0
   abbrev pub items_up : (is_around : ℕ → X → Bool) → List X → ℕ → List X
   items_up is_around xs zero = []
   items_up is_around xs (suc i) = reverse (filter (is_around i) (take (suc i) xs))

@@ -2,7 +2,7 @@
 use Rattle.std.specs.Prelude.{ℕ, zero, suc, ◌+◌, ◌-◌, ◌<◌, ◌≤◌, Bool, List, [], filter, length, reverse, slice_index, take}
 
 -- front holds of the first c of n items, and behind of the others
-pub record IsParted (front behind : ℕ → Type 0) (n c : ℕ) : Type 0 where
+pub record IsPartedAt (front behind : ℕ → Type 0) (n c : ℕ) : Type 0 where
   pub within : c ≤ n
   pub before : (k : ℕ) → k < c → front k
   pub after : (k : ℕ) → c ≤ k → k < n → behind k

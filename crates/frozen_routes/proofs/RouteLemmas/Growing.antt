@@ -7,7 +7,7 @@ use Rattle.std.proofs.Math.Seq.{get_or-append_seam}
 use Rattle.radix_keys.proofs.KeyLemmas.Order.{three_ways}
 use Rattle.radix_keys.specs.Networks.{AgreeIn, IsBase, Net}
 use Rattle.frozen_routes.specs.declared.tops.Cell.{Cell}
-use Rattle.frozen_routes.specs.Routes.{AreLinked, AreRising, AreTopCells, AreUplinks, AreUppers, IsEarlier, IsHolder, IsLastHolder, AreRowsInOrder, base_numbers, bit_counts}
+use Rattle.frozen_routes.specs.Routes.{AreLinked, AreRising, AreTopCells, AreUplinks, AreUppers, IsEarlier, IsHolderAt, IsLastHolder, AreRowsInOrder, base_numbers, bit_counts}
 use Rattle.frozen_routes.proofs.RouteLemmas.Blocks.{earlier_le}
 use Rattle.frozen_routes.proofs.RouteLemmas.Tops.{no_cells}
 use Rattle.sorted_tables.proofs.TableLemmas.Links.{last_of_same, links_more}
@@ -123,7 +123,7 @@ module _ (w : ℕ) (fs bs : List ℕ) (f b : ℕ) (even : length bs ≡ length f
       omega (arith, most, first_kept k l, first_added)
 
   -- a network of the shorter lists holds the same
-  holder_kept : (a k : ℕ) → k < length fs → IsHolder w fs bs a k ↔ IsHolder w (fs ++ f ∷ []) (bs ++ b ∷ []) a k
+  holder_kept : (a k : ℕ) → k < length fs → IsHolderAt w fs bs a k ↔ IsHolderAt w (fs ++ f ∷ []) (bs ++ b ∷ []) a k
   holder_kept a k l = (
     λ p. subst (λ m. AgreeIn w (get_or (bs ++ b ∷ []) k 0) m a) (sym (first_kept k l)) (subst (λ j. AgreeIn w j (get_or fs k 0) a) (sym (size_kept k l)) p),
     λ p. subst (λ j. AgreeIn w j (get_or fs k 0) a) (size_kept k l) (subst (λ m. AgreeIn w (get_or (bs ++ b ∷ []) k 0) m a) (first_kept k l) p),
@@ -132,12 +132,12 @@ module _ (w : ℕ) (fs bs : List ℕ) (f b : ℕ) (even : length bs ≡ length f
   -- one link more
   uplinks_more : (up : List ℕ) (r : ℕ) → length up ≡ length fs → AreUplinks w fs bs up → IsLastHolder w fs bs (length fs) f r → AreUplinks w (fs ++ f ∷ []) (bs ++ b ∷ []) (up ++ r ∷ [])
   uplinks_more up r same links last =
-      links_more (λ k i. IsHolder w fs bs (get_or fs i 0) k) (λ k i. IsHolder w (fs ++ f ∷ []) (bs ++ b ∷ []) (get_or (fs ++ f ∷ []) i 0) k) up r
-      (λ k i l m. subst (λ a. IsHolder w fs bs (get_or fs i 0) k ↔ IsHolder w (fs ++ f ∷ []) (bs ++ b ∷ []) a k) (sym (first_kept i (omega (arith, m, same))))
+      links_more (λ k i. IsHolderAt w fs bs (get_or fs i 0) k) (λ k i. IsHolderAt w (fs ++ f ∷ []) (bs ++ b ∷ []) (get_or (fs ++ f ∷ []) i 0) k) up r
+      (λ k i l m. subst (λ a. IsHolderAt w fs bs (get_or fs i 0) k ↔ IsHolderAt w (fs ++ f ∷ []) (bs ++ b ∷ []) a k) (sym (first_kept i (omega (arith, m, same))))
       (holder_kept (get_or fs i 0) k (omega (arith, l, m, same)))) links
       (subst (λ n. IsLastHolder w (fs ++ f ∷ []) (bs ++ b ∷ []) n (get_or (fs ++ f ∷ []) n 0) r) (sym same)
       (subst (λ a. IsLastHolder w (fs ++ f ∷ []) (bs ++ b ∷ []) (length fs) a r) (sym first_added)
-      (last_of_same (IsHolder w fs bs f) (IsHolder w (fs ++ f ∷ []) (bs ++ b ∷ []) f) (length fs) r (holder_kept f) last)))
+      (last_of_same (IsHolderAt w fs bs f) (IsHolderAt w (fs ++ f ∷ []) (bs ++ b ∷ []) f) (length fs) r (holder_kept f) last)))
 
   -- one row more and its link, and no table
   pub linked_more : (up us : List ℕ) (e d : ℕ) (ts none : List Cell) (hs nil : List ℕ) (r : ℕ) → AreLinked w fs bs up e ts hs → length fs + 1 < 2 ^ 32 → AreRising w (fs ++ f ∷ []) (bs ++ b ∷ [])

@@ -7,7 +7,7 @@ use Rattle.std.proofs.Math.Nat.{mul-div_cancel, mul-mod_left}
 use Rattle.std.proofs.Math.Seq.{get_or-append_seam}
 use Rattle.radix_keys.specs.Networks.{AgreeIn}
 use Rattle.frozen_routes.specs.declared.tops.Cell.{Cell}
-use Rattle.frozen_routes.specs.Routes.{AreRising, AreTopCells, AreUppers, IsFirstTop, IsHolder, IsLastHolder, IsTopCell}
+use Rattle.frozen_routes.specs.Routes.{AreRising, AreTopCells, AreUppers, IsFirstTop, IsHolderAt, IsLastHolder, IsTopCell}
 use Rattle.sorted_tables.proofs.TableLemmas.Links.{last_of_same, parted_in_order}
 use Rattle.frozen_routes.proofs.RouteLemmas.Blocks.{coarser, finer, sandwich, start_is_least}
 
@@ -62,7 +62,7 @@ whole_block w k m t e a before is holds = elim (cases_lt e (w - k)) [
 
 -- so the last holder of a block's first number is that of each of its numbers
 pub top_around : (e w : ℕ) (fs bs : List ℕ) (t a : ℕ) (cell : Cell) → IsTopCell e w fs bs t cell → t ≡ a / 2 ^ e → IsLastHolder w fs bs cell.count a cell.around
-top_around e w fs bs t a cell top is = last_of_same (IsHolder w fs bs (t * 2 ^ e)) (IsHolder w fs bs a) cell.count cell.around (λ k l.
+top_around e w fs bs t a cell top is = last_of_same (IsHolderAt w fs bs (t * 2 ^ e)) (IsHolderAt w fs bs a) cell.count cell.around (λ k l.
     let below = top.count.before k l in (
       whole_block w _ _ t e a below is,
       sandwich (get_or fs k 0) (t * 2 ^ e) a (w - get_or bs k 0) (omega (arith, below)) (quotient_most a t e (omega (arith, is))),

@@ -3,11 +3,11 @@ use Rattle.std.proofs.Common.{◌≡◌, ℕ, ◌-◌, ◌<◌, ◌≤◌, ◌�
 use Rattle.std.proofs.lemmas.Bool.{cases_lt}
 use Rattle.std.proofs.lemmas.List.{get_or_append_left, length-append}
 use Rattle.std.proofs.Math.Seq.{get_or-append_seam}
-use Rattle.sorted_tables.specs.Tables.{AreLinksOf, IsLastOf, IsParted}
+use Rattle.sorted_tables.specs.Tables.{AreLinksOf, IsLastOf, IsPartedAt}
 
 -- where nothing in front of one parting is behind another, the first is no later
 pub parted_in_order : (front behind front' behind' : ℕ → Type 0) (n c d : ℕ) → ((k : ℕ) → front k → behind' k → ⊥)
-    → IsParted front behind n c → IsParted front' behind' n d → c ≤ d
+    → IsPartedAt front behind n c → IsPartedAt front' behind' n d → c ≤ d
 parted_in_order front behind front' behind' n c d apart x y = elim (cases_lt d c) [
   | inl lt ↦ absurd (apart d (x.before d lt) (y.after d (omega arith) (let within = x.within in omega (arith, lt, within))))
   | inr ge ↦ ge

@@ -1,7 +1,7 @@
 use Rattle.std.proofs.Common.{◌-◌, ◌<◌, inl, inr, arith, get_or}
 use Rattle.std.proofs.lemmas.Bool.{cases_lt}
 use Rattle.std.proofs.lemmas.List.{length-map}
-use Rattle.frozen_routes.specs.Routes.{IsHolder, base_numbers, bit_counts}
+use Rattle.frozen_routes.specs.Routes.{IsHolderAt, base_numbers, bit_counts}
 use Rattle.frozen_routes.proofs.RouteLemmas.Links.{holds_first}
 use Rattle.sorted_tables.proofs.TableLemmas.Links.{climb_on}
 use Rattle.frozen_routes.proofs.search.climb.Goals as goal
@@ -25,7 +25,7 @@ loop-at-preserved g c =
     let link = c.requires.links (at - 1) (omega (arith, c.requires.linked, c.loop-at.invariant.within, some)) in
     record {
       within = omega (arith, link.within, c.loop-at.invariant.within);
-      none = climb_on (IsHolder w fs bs c.args.number) (IsHolder w fs bs (get_or fs (at - 1) 0)) c.args.from at _ some
+      none = climb_on (IsHolderAt w fs bs c.args.number) (IsHolderAt w fs bs (get_or fs (at - 1) 0)) c.args.from at _ some
           (λ k l. holds_first w fs bs c.args.number (at - 1) k c.requires.rising l (omega (arith, all, some, c.loop-at.invariant.within, c.requires.within))
           (c.requires.before (at - 1) (omega (arith, some, c.loop-at.invariant.within))))
           (λ p. let no = c.holds_at.ensures.1 p in let same = c.if-holds_at.false in cc (no, same))

@@ -1,5 +1,5 @@
 -- The networks within another one.
-use Rattle.std.proofs.Common.{◌≡◌, ℕ, zero, suc, ◌+◌, ◌-◌, ◌/◌, ◌^◌, ◌<◌, ◌≤◌, ◌&&◌, ◌↔◌, inl, inr, Bool, true, false, not, ltb, cond, List, [], ◌∷◌, length, take, drop, map as each, refl, subst, sym, ap, ◌∙◌, arith, get_or}
+use Rattle.std.proofs.Common.{◌≡◌, ℕ, zero, suc, ◌+◌, ◌-◌, ◌/◌, ◌^◌, ◌<◌, ◌≤◌, ◌&&◌, ◌↔◌, inl, inr, Bool, true, false, not, ltb, List, [], ◌∷◌, length, take, drop, map as each, refl, subst, sym, ap, ◌∙◌, arith, get_or}
 use Rattle.std.specs.Prelude.{nat_eq}
 use Rattle.std.specs.List.{filter}
 use Rattle.std.proofs.lemmas.Bool.{cases_lt, eq-eqb, le-ltb, lt-ltb, ltb-true, ne_eqb}
@@ -8,6 +8,7 @@ use Rattle.radix_keys.specs.Networks.{Net, IsBase}
 use Rattle.frozen_routes.specs.Routes.{AreInFront, AreRising, IsEarlier, IsInFront, base_numbers, is_inside, bit_counts}
 use Rattle.frozen_routes.proofs.RouteLemmas.Blocks.{div_up, earlier_le, finer, start_is_least}
 use Rattle.sorted_tables.proofs.TableLemmas.Links.{parted_in_order}
+use Rattle.sorted_tables.proofs.TableLemmas.Parts.{filter_part}
 
 -- the first bits of a network by those of calls
 pub own_is : (w n m m' own rest b : ℕ) → rest ≡ b - n → b ≡ w → m' ≡ m → own ≡ m' / 2 ^ rest → own ≡ m / 2 ^ (w - n)
@@ -66,34 +67,6 @@ front_to w t n q fs bs j k rising l m front = elim (cases_lt j k) [
   | inl lt ↦ front_down w t n q _ _ _ _ (rising.bases k m) (rising.order j k lt m) front
   | inr ge ↦ let same : k ≡ j = omega (arith, l, ge) in subst (λ i. IsInFront w t n q (get_or fs i 0) (get_or bs i 0)) same front
 ]
-
--- a part of a list is what passes a test, where those of the part pass and no others do
-pub filter_part : {X : Type 0} (t : X → Bool) (xs : List X) (from to : ℕ) → from ≤ to → to ≤ length xs
-    → ((k : ℕ) → k < from → get_or (each t xs) k false ≡ false)
-    → ((k : ℕ) → from ≤ k → k < to → get_or (each t xs) k false ≡ true)
-    → ((k : ℕ) → to ≤ k → k < length xs → get_or (each t xs) k false ≡ false)
-    → take (to - from) (drop from xs) ≡ filter t xs
-filter_part t [] zero zero h l a b c = refl
-filter_part t [] zero (suc to) h l a b c = absurd (omega (arith, l))
-filter_part t [] (suc from) to h l a b c = absurd (omega (arith, h, l))
-filter_part t (x ∷ xs) zero zero h l a b c =
-    filter_part t xs zero zero (omega arith) (omega arith) (λ k m. absurd (omega (arith, m))) (λ k m n. absurd (omega (arith, n)))
-    (λ k m n. c (suc k) (omega arith) (omega (arith, n)))
-    ∙ sym (ap (λ p. cond p (x ∷ filter t xs) (filter t xs)) (c 0 (omega arith) (omega arith)))
-filter_part t (x ∷ xs) zero (suc to) h l a b c =
-    let one : suc to - 0 ≡ suc to = omega arith in
-    let less : to ≡ to - 0 = omega arith in
-    ap (λ n. take n (x ∷ xs)) one
-    ∙ ap (λ ys. x ∷ ys) (ap (λ n. take n xs) less ∙ filter_part t xs zero to (omega arith) (omega (arith, l)) (λ k m. absurd (omega (arith, m)))
-    (λ k m n. b (suc k) (omega arith) (omega (arith, n))) (λ k m n. c (suc k) (omega (arith, m)) (omega (arith, n))))
-    ∙ sym (ap (λ p. cond p (x ∷ filter t xs) (filter t xs)) (b 0 (omega arith) (omega arith)))
-filter_part t (x ∷ xs) (suc from) zero h l a b c = absurd (omega (arith, h))
-filter_part t (x ∷ xs) (suc from) (suc to) h l a b c =
-    let less : suc to - suc from ≡ to - from = omega arith in
-    ap (λ n. take n (drop from xs)) less
-    ∙ filter_part t xs from to (omega (arith, h)) (omega (arith, l)) (λ k m. a (suc k) (omega (arith, m)))
-    (λ k m n. b (suc k) (omega (arith, m)) (omega (arith, n))) (λ k m n. c (suc k) (omega (arith, m)) (omega (arith, n)))
-    ∙ sym (ap (λ p. cond p (x ∷ filter t xs) (filter t xs)) (a 0 (omega arith)))
 
 -- whether a network of these numbers lies within the one of n bits whose addresses have q for these
 abbrev inside : (w n q m k : ℕ) → Bool

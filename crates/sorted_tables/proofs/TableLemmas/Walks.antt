@@ -1,32 +1,10 @@
 -- Walks by the links, from an item to those around it.
-use Rattle.std.proofs.Common.{◌≡◌, ℕ, zero, suc, ◌+◌, ◌-◌, ◌<◌, ◌≤◌, Bool, true, false, cond, List, [], ◌∷◌, ◌++◌, length, map as each, reverse, take, get_or, refl, sym, ap, subst, ◌∙◌, arith}
+use Rattle.std.proofs.Common.{◌≡◌, ℕ, zero, suc, ◌+◌, ◌-◌, ◌<◌, ◌≤◌, Bool, true, false, cond, List, [], ◌∷◌, ◌++◌, length, map as each, reverse, take, get_or, sym, ap, subst, ◌∙◌, arith}
 use Rattle.std.specs.List.{filter}
 use Rattle.std.proofs.lemmas.List.{reverse-append, take_more}
 use Rattle.std.proofs.lemmas.List.Elements.{filter-append}
 use Rattle.sorted_tables.specs.Tables.{IsLastOf, items_up}
-
-module _ {X : Type 0} where
-  -- tests that agree on the first n items keep the same of these
-  same_filter : (t u : X → Bool) (n : ℕ) (xs : List X) → ((k : ℕ) → k < n → k < length xs → get_or (each t xs) k false ≡ get_or (each u xs) k false)
-      → filter t (take n xs) ≡ filter u (take n xs)
-  same_filter t u zero xs h = refl
-  same_filter t u (suc n) [] h = refl
-  same_filter t u (suc n) (x ∷ xs) h =
-      ap (λ b. cond b (x ∷ filter t (take n xs)) (filter t (take n xs))) (h 0 (omega arith) (omega arith))
-      ∙ ap (λ l. cond (u x) (x ∷ l) l) (same_filter t u n xs (λ k l m. h (suc k) (omega (arith, l)) (omega (arith, m))))
-
-  -- a test that fails from n up to m keeps the same of the first m items as of the first n
-  pub cut_filter : (t : X → Bool) (n m : ℕ) (xs : List X) → n ≤ m → ((k : ℕ) → n ≤ k → k < m → k < length xs → get_or (each t xs) k false ≡ false)
-      → filter t (take m xs) ≡ filter t (take n xs)
-  cut_filter t zero zero xs l h = refl
-  cut_filter t (suc n) zero xs l h = absurd (omega (arith, l))
-  cut_filter t zero (suc m) [] l h = refl
-  cut_filter t (suc n) (suc m) [] l h = refl
-  cut_filter t zero (suc m) (x ∷ xs) l h =
-      ap (λ b. cond b (x ∷ filter t (take m xs)) (filter t (take m xs))) (h 0 (omega arith) (omega arith) (omega arith))
-      ∙ cut_filter t zero m xs (omega arith) (λ k a b d. h (suc k) (omega arith) (omega (arith, b)) (omega (arith, d)))
-  cut_filter t (suc n) (suc m) (x ∷ xs) l h =
-      ap (λ l. cond (t x) (x ∷ l) l) (cut_filter t n m xs (omega (arith, l)) (λ k a b d. h (suc k) (omega (arith, a)) (omega (arith, b)) (omega (arith, d))))
+use Rattle.sorted_tables.proofs.TableLemmas.Parts.{cut_filter, same_filter}
 
 module _ {X : Type 0} (is_around : ℕ → X → Bool) (xs : List X) where
   -- the walk up from the last of the first n items that is sought

@@ -6,25 +6,8 @@ use crate::frozen::FrozenRoutes;
 use crate::linked::link_after;
 use crate::tops::Tops;
 use radix_keys::{Address, Memory, Network};
+use sorted_tables::{PushError, PushWhy};
 use std::alloc::Global;
-
-/// Why a row isn't appended.
-#[derive(Clone, Copy, PartialEq, Eq, Debug)]
-pub enum PushWhy {
-    /// An allocation failed.
-    Memory,
-    /// The table holds 2^32 - 1 rows.
-    Full,
-    /// The network doesn't come after all others.
-    Unsorted,
-}
-
-/// A row that isn't appended: why, and the very network and value that were passed.
-#[derive(Drop)]
-pub struct PushError<A: Address, V> {
-    pub why: PushWhy,
-    pub row: (Network<A>, V),
-}
 
 impl<A: Address, V> FrozenRoutes<A, V> {
     /// The table of no row. It allocates nothing.
@@ -41,13 +24,13 @@ impl<A: Address, V> FrozenRoutes<A, V> {
 
     /// Appends a row whose network comes after all others: by its first address, or, where another has the same, by
     /// more bits. It takes constant time but for the climb to the network around it, and drops what `finish` made to
-    /// shorten look-ups.
+    /// shorten lookups.
     ///
     /// # Errors
     ///
     /// In this order: the table holds 2^32 - 1 rows; the network doesn't come after all others; memory
     /// is refused. The row comes back, and the table is as before.
-    pub fn push(&mut self, network: Network<A>, value: V) -> Result<(), PushError<A, V>>
+    pub fn push(&mut self, network: Network<A>, value: V) -> Result<(), PushError<(Network<A>, V)>>
         ensures ok { OnOk result (self.new ≡ self.old ++ (network, value) ∷ []) }
         ensures rising { OnOk result (AreRowsInOrder A.BITS A.number self.new) }
         ensures unsorted { IfErr result (λ e. e.why ≡ PushWhy.Unsorted
@@ -57,21 +40,21 @@ impl<A: Address, V> FrozenRoutes<A, V> {
         ensures room { IfErr result (λ e. e.why ≢ PushWhy.Full → length self.old < 2 ^ 32 - 1) }
         ensures memory { IfErr result (λ e. e.why ≡ PushWhy.Memory
             → AreRowsInOrder A.BITS A.number (self.old ++ (network, value) ∷ [])) }
-        ensures handed_back { IfErr result (λ e. e.row ≡ (network, value)) }
+        ensures handed_back { IfErr result (λ e. e.value ≡ (network, value)) }
         ensures unchanged { IfErr result (λ _. self.new ≡ self.old) }
     {
         let row = (network, value);
         if self.rows.len() >= u32::MAX as usize {
             let why = PushWhy::Full;
-            return Err(PushError { why, row });
+            return Err(PushError { why, value: row });
         }
         let Some(link) = link_after(&self.rows, &self.up, &row.0) else {
             let why = PushWhy::Unsorted;
-            return Err(PushError { why, row });
+            return Err(PushError { why, value: row });
         };
         if self.rows.reserve(1).is_err() || self.up.reserve(1).is_err() {
             let why = PushWhy::Memory;
-            return Err(PushError { why, row });
+            return Err(PushError { why, value: row });
         }
         self.up.push_reserved(link);
         self.rows.push_reserved(row);
@@ -79,7 +62,7 @@ impl<A: Address, V> FrozenRoutes<A, V> {
         Ok(())
     }
 
-    /// Takes no more room than the rows need, and makes what shortens look-ups where there are 256 rows or more: a
+    /// Takes no more room than the rows need, and makes what shortens lookups where there are 256 rows or more: a
     /// table by the first bits of an address, of at most 16 bytes a row and 8 more, and of IPv6 the upper halves of the
     /// first addresses, of 8 bytes a row. A row that is appended later drops both. It takes linear time but for the
     /// climb to the network around each value of the first bits.

@@ -14,7 +14,7 @@ use std::marker::Model;
 /// Networks of one family, each with a value, which are put in once and then read: all rows in the order of the first
 /// addresses, and of one first address the wider network first.
 ///
-/// A contract sees it as the list of its rows. A look-up allocates nothing, and none is refused.
+/// A contract sees it as the list of its rows. A lookup allocates nothing, and none is refused.
 #[derive(Drop)]
 pub struct FrozenRoutes<A: Address, V> {
     pub(crate) rows: Vec<(Network<A>, V)>,

@@ -12,10 +12,9 @@ mod sorted;
 mod tops;
 
 pub use above::NetworksAbove;
-pub use appended::{PushError, PushWhy};
 pub use frozen::FrozenRoutes;
 pub use laws::{longest_rows_are_nearest, networks_hold_by_prefix};
-pub use sorted::{SortedError, SortedWhy};
+pub use sorted_tables::{PushError, PushWhy, SortedError, SortedWhy};
 
 #[cfg(test)]
 mod tests;

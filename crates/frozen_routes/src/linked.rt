@@ -53,10 +53,6 @@ pub(crate) fn link_after<A: Address, V>(
     if !follows(rows, network) {
         return None;
     }
-    let floor = Cell {
-        count: 0,
-        around: 0,
-    };
     let number = network.base().to_number();
-    Some(climb(rows, up, rows.len(), floor, number) as u32)
+    Some(climb(rows, up, rows.len(), Cell::NONE, number) as u32)
 }

@@ -6,40 +6,25 @@ use crate::frozen::FrozenRoutes;
 use crate::linked::link_after;
 use crate::tops::Tops;
 use radix_keys::{Address, Network};
+use sorted_tables::{SortedError, SortedWhy};
 use std::alloc::Global;
-
-/// Why rows aren't taken.
-#[derive(Clone, Copy, PartialEq, Eq, Debug)]
-pub enum SortedWhy {
-    /// An allocation failed.
-    Memory,
-    /// There are 2^32 rows or more.
-    Full,
-    /// The network of the row at this index doesn't come after that of the row before it.
-    Unsorted(usize),
-}
-
-/// Rows that aren't taken: why, and the very rows that were passed.
-#[derive(Drop)]
-pub struct SortedError<A: Address, V> {
-    pub why: SortedWhy,
-    pub rows: Vec<(Network<A>, V)>,
-}
 
 impl<A: Address, V> FrozenRoutes<A, V> {
     /// The table of rows whose networks rise: by their first addresses, and of one first address by their bits. The
-    /// vector is kept as it is, and what `finish` makes to shorten look-ups is made too. It takes linear time but for
+    /// vector is kept as it is, and what `finish` makes to shorten lookups is made too. It takes linear time but for
     /// the climbs to the network around each network, and around each value of the first bits.
     ///
     /// # Errors
     ///
     /// A network doesn't come after that of the row before it, and the error says of the first such row where it
-    /// stands. There are 2^32 rows or more. Memory for the links, or for what shortens look-ups, is refused, before any
+    /// stands. There are 2^32 rows or more. Memory for the links, or for what shortens lookups, is refused, before any
     /// row is read. The rows come back. Of no row the call never fails.
-    pub fn from_sorted(rows: Vec<(Network<A>, V)>) -> Result<FrozenRoutes<A, V>, SortedError<A, V>>
+    pub fn from_sorted(
+        rows: Vec<(Network<A>, V)>,
+    ) -> Result<FrozenRoutes<A, V>, SortedError<(Network<A>, V)>>
         ensures ok { IfOk result (λ routes. routes ≡ rows.items) }
         ensures rising { OnOk result (AreRowsInOrder A.BITS A.number rows.items) }
-        ensures handed_back { IfErr result (λ e. e.rows ≡ rows) }
+        ensures handed_back { IfErr result (λ e. e.items ≡ rows) }
         ensures unsorted { IfErr result (λ e. (i : ℕ) → e.why ≡ SortedWhy.Unsorted i
             → IsFirstOutOfOrder A.BITS A.number rows.items i) }
         ensures full { IfErr result (λ e. e.why ≡ SortedWhy.Full → 2 ^ 32 ≤ length rows.items) }
@@ -53,7 +38,7 @@ impl<A: Address, V> FrozenRoutes<A, V> {
                 tops,
                 alloc,
             }),
-            Err(why) => Err(SortedError { why, rows }),
+            Err(why) => Err(SortedError { why, items: rows }),
         }
     }
 }

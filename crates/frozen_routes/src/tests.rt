@@ -140,7 +140,7 @@ fn networks_within_another(rt: HostRuntime) {
 fn refused(alloc: Global, texts: &[&'static str]) -> Option<(SortedWhy, usize)> {
     match FrozenRoutes::from_sorted(rows_of::<Ipv4Addr>(alloc, texts)?) {
         Ok(_) => None,
-        Err(e) => Some((e.why, e.rows.len())),
+        Err(e) => Some((e.why, e.items.len())),
     }
 }
 

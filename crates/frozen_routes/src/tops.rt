@@ -17,6 +17,14 @@ pub(crate) struct Cell {
     pub(crate) around: u32,
 }
 
+impl Cell {
+    /// The cell that counts no network.
+    pub(crate) const NONE: Cell = Cell {
+        count: 0,
+        around: 0,
+    };
+}
+
 /// The table. It has no cell where there are too few networks for one.
 #[derive(Drop)]
 pub(crate) struct Tops {
@@ -52,13 +60,7 @@ pub(crate) fn top_span<A: Address, V>(
         let first = first as usize;
         (tops.cells[first], tops.cells[first + 1].count as usize)
     } else {
-        (
-            Cell {
-                count: 0,
-                around: 0,
-            },
-            rows.len(),
-        )
+        (Cell::NONE, rows.len())
     }
 }
 
@@ -101,16 +103,7 @@ fn cell_at<A: Address, V>(
 {
     let count = count_below(rows, from, first, rest);
     let around = match first.checked_mul(1 << rest) {
-        Some(start) => climb(
-            rows,
-            up,
-            count,
-            Cell {
-                count: 0,
-                around: 0,
-            },
-            start,
-        ),
+        Some(start) => climb(rows, up, count, Cell::NONE, start),
         // No address is behind the last one.
         None => 0,
     };

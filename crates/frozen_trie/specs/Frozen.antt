@@ -1,9 +1,10 @@
 -- What a frozen trie stands for, and what it keeps.
-use Rattle.std.specs.Prelude.{◌≡◌, ℕ, zero, suc, ◌+◌, ◌<◌, List, [], Option, None, Some, length, reverse, slice_get, take, map as each}
+use Rattle.std.specs.Prelude.{◌≡◌, ℕ, zero, suc, List, [], Option, None, Some, length, reverse, slice_get, map as each}
 use Rattle.std.specs.FinMap as map
 use Rattle.nibble_map.specs.Lists.{IsRising}
 use Rattle.nibble_map.specs.Maps.{PairMap}
 use Rattle.radix_trie.specs.Views.{pairs_above, pairs_below}
+use Rattle.sorted_tables.specs.Tables.{IsFirstUnordered}
 use Rattle.frozen_trie.specs.Codes.{AreLinks}
 
 module _ {K V : Type 0} (enc : K → List ℕ) where
@@ -42,7 +43,5 @@ pub record IsFrozen {K V : Type 0} (enc : K → List ℕ) (cs : List (List ℕ))
   pub linked : IsLinked cs up
 
 -- the list at i is the first that doesn't come after all those before it
-pub record IsFirstUnsorted (cs : List (List ℕ)) (i : ℕ) : Type 0 where
-  pub within : i < length cs
-  pub before : IsRising (take i cs)
-  pub unsorted : IsRising (take (i + 1) cs) → ⊥
+abbrev pub IsFirstUnsorted : List (List ℕ) → ℕ → Type 0
+IsFirstUnsorted cs i = IsFirstUnordered IsRising cs i

@@ -7,27 +7,10 @@ ghost use Rattle.frozen_trie.specs.Frozen.{IsFirstUnsorted, IsFrozen, codes_of};
 
 use crate::codes::Codes;
 use crate::frozen::FrozenTrie;
-use crate::linked::{PushWhy, push_last};
+use crate::linked::push_last;
 use radix_keys::{Encoding, TrieKey};
+use sorted_tables::{PushWhy, SortedError, SortedWhy};
 use std::alloc::Global;
-
-/// Why pairs aren't frozen.
-#[derive(Clone, Copy, PartialEq, Eq, Debug)]
-pub enum SortedWhy {
-    /// An allocation failed, or the encodings take 2^31 bytes or more.
-    Memory,
-    /// There are 2^32 pairs or more.
-    Full,
-    /// The encoding of the pair at this index isn't above that of the pair before it.
-    Unsorted(usize),
-}
-
-/// Pairs that aren't frozen: why, and the very pairs that were passed.
-#[derive(Drop)]
-pub struct SortedError<K, V> {
-    pub why: SortedWhy,
-    pub pairs: Vec<(K, V)>,
-}
 
 impl<K: TrieKey, V> FrozenTrie<K, V> {
     /// The frozen trie of pairs whose encodings rise, in linear time.
@@ -40,11 +23,11 @@ impl<K: TrieKey, V> FrozenTrie<K, V> {
     pub fn from_sorted(
         alloc: Global,
         pairs: Vec<(K, V)>,
-    ) -> Result<FrozenTrie<K, V>, SortedError<K, V>>
+    ) -> Result<FrozenTrie<K, V>, SortedError<(K, V)>>
         ensures pairs { IfOk result
             (λ frozen. frozen ≡ pairs_in_order K.encoding pairs.items) }
         ensures rising { OnOk result (IsRising (codes_of K.encoding pairs.items)) }
-        ensures handed_back { IfErr result (λ e. e.pairs ≡ pairs) }
+        ensures handed_back { IfErr result (λ e. e.items ≡ pairs) }
         ensures unsorted { IfErr result (λ e. (i : ℕ) → e.why ≡ SortedWhy.Unsorted i
             → IsFirstUnsorted (codes_of K.encoding pairs.items) i) }
         ensures full { IfErr result (λ e. e.why ≡ SortedWhy.Full
@@ -54,7 +37,7 @@ impl<K: TrieKey, V> FrozenTrie<K, V> {
     {
         match codes_and_links(alloc, &pairs) {
             Ok((codes, up)) => Ok(FrozenTrie::from_parts(codes, pairs, up, alloc)),
-            Err(why) => Err(SortedError { why, pairs }),
+            Err(why) => Err(SortedError { why, items: pairs }),
         }
     }
 }

@@ -4,9 +4,9 @@ ghost use Rattle.serde.specs.Event.{WritesMap};
 ghost use Rattle.radix_trie.specs.Views.{pairs_below};
 
 use crate::frozen::FrozenTrie;
-use crate::linked::PushWhy;
 use radix_keys::TrieKey;
 use serde::{Described, Deserialize, Deserializer, Format, Serialize, Serializer};
+use sorted_tables::PushWhy;
 use std::alloc::Global;
 
 /// A contract sees the events of a map of all pairs, in the order of their encodings.

@@ -18,7 +18,6 @@ mod slices;
 mod texts;
 mod thawing;
 
-pub use build::{SortedError, SortedWhy};
 pub use copies::frozen_copy;
 pub use file::{FileError, FileItem, FileWhy, ItemError};
 pub use freezing::{FreezeError, FreezeWhy, freeze};
@@ -27,7 +26,7 @@ pub use laws::{
     files_have_no_fault, frozen_stands_at_its_encodings, text_files_have_no_fault,
     texts_stand_at_their_bytes,
 };
-pub use linked::{PushError, PushWhy};
 pub use prefixes::CommonPrefixes;
+pub use sorted_tables::{PushError, PushWhy, SortedError, SortedWhy};
 pub use texts::{FrozenTexts, TextPrefixes, Texts};
 pub use thawing::ThawError;

@@ -6,24 +6,7 @@ ghost use Rattle.frozen_trie.specs.Frozen.{IsLinked};
 use crate::codes::{Codes, Sought};
 use crate::search::climb;
 use radix_keys::{Memory, NibbleSlice};
-
-/// Why a pair isn't appended.
-#[derive(Clone, Copy, PartialEq, Eq, Debug)]
-pub enum PushWhy {
-    /// An allocation failed, or the keys' encodings would take 2^31 bytes or more.
-    Memory,
-    /// The map holds 2^32 - 1 pairs.
-    Full,
-    /// The key doesn't come after all others.
-    Unsorted,
-}
-
-/// A pair that isn't appended: why, and the very thing that was passed.
-#[derive(Drop)]
-pub struct PushError<V> {
-    pub why: PushWhy,
-    pub value: V,
-}
+use sorted_tables::PushWhy;
 
 /// Whether a list comes after all of some rising ones.
 pub(crate) fn follows(codes: &Codes, list: &NibbleSlice<'_>) -> bool

@@ -1,38 +1,16 @@
 -- The networks that hold an address, by the links.
-use Rattle.std.proofs.Common.{◌≡◌, ℕ, zero, suc, ◌+◌, ◌-◌, ◌/◌, ◌^◌, ◌<◌, ◌≤◌, ◌↔◌, inl, inr, Bool, false, cond, List, [], ◌∷◌, ◌++◌, length, map as each, reverse, take, get_or, refl, sym, ap, subst, ◌∙◌, arith}
+use Rattle.std.proofs.Common.{◌≡◌, ℕ, zero, suc, ◌+◌, ◌-◌, ◌/◌, ◌^◌, ◌<◌, ◌≤◌, ◌↔◌, inl, inr, false, List, [], ◌∷◌, length, map as each, reverse, take, get_or, refl, sym, ap, subst, ◌∙◌, arith}
 use Rattle.std.specs.Prelude.{nat_eq}
 use Rattle.std.specs.List.{filter}
 use Rattle.std.proofs.lemmas.Bool.{eq-eqb, eqb-true, ne_eqb}
-use Rattle.std.proofs.lemmas.List.{length-map, reverse-append, take_all, take_more}
-use Rattle.std.proofs.lemmas.List.Elements.{filter-append}
+use Rattle.std.proofs.lemmas.List.{length-map, take_all}
 use Rattle.nibble_map.proofs.MapLemmas.SameTests.{equal_tests}
 use Rattle.radix_keys.proofs.KeyLemmas.Order.{three_ways}
 use Rattle.radix_keys.specs.Networks.{Net, AgreeIn}
 use Rattle.frozen_routes.specs.Routes.{AreRowsInOrder, IsLastHolder, base_numbers, bit_counts, is_holder, rows_up}
 use Rattle.frozen_routes.proofs.RouteLemmas.Blocks.{base_first, coarser, nested, sandwich}
 use Rattle.frozen_routes.proofs.RouteLemmas.Links.{firsts_to}
-
--- tests that agree on the first n items keep the same of these
-same_filter : {X : Type 0} (t u : X → Bool) (n : ℕ) (xs : List X) → ((k : ℕ) → k < n → k < length xs → get_or (each t xs) k false ≡ get_or (each u xs) k false)
-    → filter t (take n xs) ≡ filter u (take n xs)
-same_filter t u zero xs h = refl
-same_filter t u (suc n) [] h = refl
-same_filter t u (suc n) (x ∷ xs) h =
-    ap (λ b. cond b (x ∷ filter t (take n xs)) (filter t (take n xs))) (h 0 (omega arith) (omega arith))
-    ∙ ap (λ l. cond (u x) (x ∷ l) l) (same_filter t u n xs (λ k l m. h (suc k) (omega (arith, l)) (omega (arith, m))))
-
--- a test that fails from n up to m keeps the same of the first m items as of the first n
-cut_filter : {X : Type 0} (t : X → Bool) (n m : ℕ) (xs : List X) → n ≤ m → ((k : ℕ) → n ≤ k → k < m → k < length xs → get_or (each t xs) k false ≡ false)
-    → filter t (take m xs) ≡ filter t (take n xs)
-cut_filter t zero zero xs l h = refl
-cut_filter t (suc n) zero xs l h = absurd (omega (arith, l))
-cut_filter t zero (suc m) [] l h = refl
-cut_filter t (suc n) (suc m) [] l h = refl
-cut_filter t zero (suc m) (x ∷ xs) l h =
-    ap (λ b. cond b (x ∷ filter t (take m xs)) (filter t (take m xs))) (h 0 (omega arith) (omega arith) (omega arith))
-    ∙ cut_filter t zero m xs (omega arith) (λ k a b d. h (suc k) (omega arith) (omega (arith, b)) (omega (arith, d)))
-cut_filter t (suc n) (suc m) (x ∷ xs) l h =
-    ap (λ l. cond (t x) (x ∷ l) l) (cut_filter t n m xs (omega (arith, l)) (λ k a b d. h (suc k) (omega (arith, a)) (omega (arith, b)) (omega (arith, d))))
+use Rattle.sorted_tables.proofs.TableLemmas.Walks.{walk_up as walk_by_links, one_up as step_by_links}
 
 module _ {A V : Type 0} (w : ℕ) (number : A → ℕ) where
   -- the test of a row by its numbers
@@ -74,17 +52,13 @@ module _ {A V : Type 0} (w : ℕ) (number : A → ℕ) (rows : List (Net A × V)
   -- the walk up from the last of the first n networks that holds a number
   pub walk_up : (a n r : ℕ) → n ≤ length rows → IsLastHolder w (base_numbers number rows) (bit_counts rows) n a r
       → reverse (filter (is_holder w number a) (take n rows)) ≡ rows_up w number rows r
-  walk_up a n zero l last = ap reverse (cut_filter (is_holder w number a) 0 n rows (omega arith) (λ k h m d. not_holder k a d (last.none k h m)))
-  walk_up a n (suc i) l last =
-      let within : i < length rows = (let le = last.within in omega (arith, le, l)) in
-      let back : suc i - 1 ≡ i = omega arith in
-      let here : Holds i a = subst (λ j. Holds j a) back (last.holds (omega arith)) in
-      ap reverse (cut_filter (is_holder w number a) (suc i) n rows last.within (λ k h m d. not_holder k a d (last.none k h m))
-      ∙ same_filter (is_holder w number a) (is_holder w number (get_or (base_numbers number rows) i 0)) (suc i) rows (λ k h m.
-      let both = same_holders i k a within here (omega (arith, h)) in
-      holder_at w number a rows k m
+  walk_up a n r l last = walk_by_links (λ i. is_holder w number (get_or (base_numbers number rows) i 0)) rows (is_holder w number a) (λ k. Holds k a) n r l (λ k within apart. not_holder k a within apart)
+      (λ i k within here le.
+      let both = same_holders i k a within here le in
+      let before : k < length rows = omega (arith, le, within) in
+      holder_at w number a rows k before
       ∙ equal_tests _ _ (λ t. eq-eqb _ _ (both.0 (eqb-true _ _ t))) (λ t. eq-eqb _ _ (both.1 (eqb-true _ _ t)))
-      ∙ sym (holder_at w number (get_or (base_numbers number rows) i 0) rows k m)))
+      ∙ sym (holder_at w number (get_or (base_numbers number rows) i 0) rows k before)) last
 
   -- the walk up from the last that holds it
   pub whole_walk_up : (a r : ℕ) → IsLastHolder w (base_numbers number rows) (bit_counts rows) (length rows) a r
@@ -97,13 +71,5 @@ module _ {A V : Type 0} (w : ℕ) (number : A → ℕ) (rows : List (Net A × V)
       → IsLastHolder w (base_numbers number rows) (bit_counts rows) i (get_or (base_numbers number rows) i 0) r
       → rows_up w number rows (i + 1) ≡ p ∷ rows_up w number rows r
   one_up i r p l at first last =
-      let f = get_or (base_numbers number rows) i 0 in
-      let more : i + 1 ≡ suc i = omega arith in
-      let plus : suc i ≡ i + 1 = omega arith in
-      ap (rows_up w number rows) more
-      ∙ ap (λ n. reverse (filter (is_holder w number f) (take n rows))) plus
-      ∙ ap (λ xs. reverse (filter (is_holder w number f) xs)) (take_more rows i p l ∙ ap (λ x. take i rows ++ x ∷ []) (sym at))
-      ∙ ap reverse (filter-append (is_holder w number f) (take i rows) (p ∷ []))
-      ∙ ap (λ b. reverse (filter (is_holder w number f) (take i rows) ++ cond b (p ∷ []) [])) (eq-eqb _ _ (ap (λ n. n / 2 ^ (w - p.0.bits)) (sym first)))
-      ∙ reverse-append (filter (is_holder w number f) (take i rows)) (p ∷ [])
-      ∙ ap (λ xs. p ∷ xs) (walk_up f i r (omega (arith, l)) last)
+      step_by_links (λ j. is_holder w number (get_or (base_numbers number rows) j 0)) rows i r p l at (eq-eqb _ _ (ap (λ n. n / 2 ^ (w - p.0.bits)) (sym first)))
+      (walk_up (get_or (base_numbers number rows) i 0) i r (omega (arith, l)) last)

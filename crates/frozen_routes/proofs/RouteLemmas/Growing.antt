@@ -7,9 +7,10 @@ use Rattle.std.proofs.Math.Seq.{get_or-append_seam}
 use Rattle.radix_keys.proofs.KeyLemmas.Order.{three_ways}
 use Rattle.radix_keys.specs.Networks.{AgreeIn, IsBase, Net}
 use Rattle.frozen_routes.specs.declared.tops.Cell.{Cell}
-use Rattle.frozen_routes.specs.Routes.{AreLinked, AreRising, AreTopCells, AreUppers, IsEarlier, IsLastHolder, AreRowsInOrder, base_numbers, bit_counts}
+use Rattle.frozen_routes.specs.Routes.{AreLinked, AreRising, AreTopCells, AreUplinks, AreUppers, IsEarlier, IsHolderAt, IsLastHolder, AreRowsInOrder, base_numbers, bit_counts}
 use Rattle.frozen_routes.proofs.RouteLemmas.Blocks.{earlier_le}
 use Rattle.frozen_routes.proofs.RouteLemmas.Tops.{no_cells}
+use Rattle.sorted_tables.proofs.TableLemmas.Links.{last_of_same, links_more}
 
 -- what comes before one that comes before a third comes before the third
 pub earlier_through : (a b c d e f : ℕ) → IsEarlier a b c d → IsEarlier c d e f → IsEarlier a b e f
@@ -121,17 +122,22 @@ module _ (w : ℕ) (fs bs : List ℕ) (f b : ℕ) (even : length bs ≡ length f
       let most = earlier_le _ _ _ _ (rising.order k (length fs) l (omega (arith, n))) in
       omega (arith, most, first_kept k l, first_added)
 
-  -- the last holder among the first n stays so
-  holder_kept : (n a r : ℕ) → n ≤ length fs → IsLastHolder w fs bs n a r → IsLastHolder w (fs ++ f ∷ []) (bs ++ b ∷ []) n a r
-  holder_kept n a r within last = record {
-    within = last.within;
-    holds = λ some. let before : r - 1 < length fs = (let le = last.within in omega (arith, le, some, within)) in
-        subst (λ m. AgreeIn w (get_or (bs ++ b ∷ []) (r - 1) 0) m a) (sym (first_kept (r - 1) before))
-        (subst (λ j. AgreeIn w j (get_or fs (r - 1) 0) a) (sym (size_kept (r - 1) before)) (last.holds some));
-    none = λ k l m p. let before : k < length fs = omega (arith, m, within) in
-        last.none k l m (subst (λ j. AgreeIn w j (get_or fs k 0) a) (size_kept k before)
-        (subst (λ i. AgreeIn w (get_or (bs ++ b ∷ []) k 0) i a) (first_kept k before) p));
-  }
+  -- a network of the shorter lists holds the same
+  holder_kept : (a k : ℕ) → k < length fs → IsHolderAt w fs bs a k ↔ IsHolderAt w (fs ++ f ∷ []) (bs ++ b ∷ []) a k
+  holder_kept a k l = (
+    λ p. subst (λ m. AgreeIn w (get_or (bs ++ b ∷ []) k 0) m a) (sym (first_kept k l)) (subst (λ j. AgreeIn w j (get_or fs k 0) a) (sym (size_kept k l)) p),
+    λ p. subst (λ j. AgreeIn w j (get_or fs k 0) a) (size_kept k l) (subst (λ m. AgreeIn w (get_or (bs ++ b ∷ []) k 0) m a) (first_kept k l) p),
+  )
+
+  -- one link more
+  uplinks_more : (up : List ℕ) (r : ℕ) → length up ≡ length fs → AreUplinks w fs bs up → IsLastHolder w fs bs (length fs) f r → AreUplinks w (fs ++ f ∷ []) (bs ++ b ∷ []) (up ++ r ∷ [])
+  uplinks_more up r same links last =
+      links_more (λ k i. IsHolderAt w fs bs (get_or fs i 0) k) (λ k i. IsHolderAt w (fs ++ f ∷ []) (bs ++ b ∷ []) (get_or (fs ++ f ∷ []) i 0) k) up r
+      (λ k i l m. subst (λ a. IsHolderAt w fs bs (get_or fs i 0) k ↔ IsHolderAt w (fs ++ f ∷ []) (bs ++ b ∷ []) a k) (sym (first_kept i (omega (arith, m, same))))
+      (holder_kept (get_or fs i 0) k (omega (arith, l, m, same)))) links
+      (subst (λ n. IsLastHolder w (fs ++ f ∷ []) (bs ++ b ∷ []) n (get_or (fs ++ f ∷ []) n 0) r) (sym same)
+      (subst (λ a. IsLastHolder w (fs ++ f ∷ []) (bs ++ b ∷ []) (length fs) a r) (sym first_added)
+      (last_of_same (IsHolderAt w fs bs f) (IsHolderAt w (fs ++ f ∷ []) (bs ++ b ∷ []) f) (length fs) r (holder_kept f) last)))
 
   -- one row more and its link, and no table
   pub linked_more : (up us : List ℕ) (e d : ℕ) (ts none : List Cell) (hs nil : List ℕ) (r : ℕ) → AreLinked w fs bs up e ts hs → length fs + 1 < 2 ^ 32 → AreRising w (fs ++ f ∷ []) (bs ++ b ∷ [])
@@ -144,18 +150,7 @@ module _ (w : ℕ) (fs bs : List ℕ) (f b : ℕ) (even : length bs ≡ length f
         few = omega (arith, few, n);
         rising = rising;
         linked = omega (arith, n, m, same);
-        links = λ i l. elim (three_ways i (length fs)) [
-          | inl lt ↦
-              subst (IsLastHolder w (fs ++ f ∷ []) (bs ++ b ∷ []) i (get_or (fs ++ f ∷ []) i 0)) (sym (get_or_append_left up (r ∷ []) 0 i (omega (arith, lt, same))))
-              (subst (λ a. IsLastHolder w (fs ++ f ∷ []) (bs ++ b ∷ []) i a (get_or up i 0)) (sym (first_kept i lt))
-              (holder_kept i (get_or fs i 0) (get_or up i 0) (omega (arith, lt)) (kept.links i (omega (arith, lt, same)))))
-          | inr (inl e) ↦
-              subst (λ j. IsLastHolder w (fs ++ f ∷ []) (bs ++ b ∷ []) j (get_or (fs ++ f ∷ []) j 0) (get_or (up ++ r ∷ []) j 0)) (sym e)
-              (subst (λ a. IsLastHolder w (fs ++ f ∷ []) (bs ++ b ∷ []) (length fs) a (get_or (up ++ r ∷ []) (length fs) 0)) (sym first_added)
-              (subst (IsLastHolder w (fs ++ f ∷ []) (bs ++ b ∷ []) (length fs) f) (sym (ap (λ j. get_or (up ++ r ∷ []) j 0) (sym same) ∙ get_or-append_seam up r [] 0))
-              (holder_kept (length fs) f r (omega arith) last)))
-          | inr (inr g) ↦ absurd (omega (arith, g, l, m, same))
-        ];
+        links = uplinks_more up r same kept.links last;
         tops = no_cells d w (fs ++ f ∷ []) (bs ++ b ∷ []) none shift empty;
         uppers = λ i l. absurd (let none = ap length bare in omega (arith, none, l));
       })

@@ -1,5 +1,5 @@
 -- The networks within another one.
-use Rattle.std.proofs.Common.{◌≡◌, ℕ, zero, suc, ◌+◌, ◌-◌, ◌/◌, ◌^◌, ◌<◌, ◌≤◌, ◌&&◌, ◌↔◌, inl, inr, Bool, true, false, not, ltb, cond, List, [], ◌∷◌, length, take, drop, map as each, refl, subst, sym, ap, ◌∙◌, arith, get_or}
+use Rattle.std.proofs.Common.{◌≡◌, ℕ, zero, suc, ◌+◌, ◌-◌, ◌/◌, ◌^◌, ◌<◌, ◌≤◌, ◌&&◌, ◌↔◌, inl, inr, Bool, true, false, not, ltb, List, [], ◌∷◌, length, take, drop, map as each, refl, subst, sym, ap, ◌∙◌, arith, get_or}
 use Rattle.std.specs.Prelude.{nat_eq}
 use Rattle.std.specs.List.{filter}
 use Rattle.std.proofs.lemmas.Bool.{cases_lt, eq-eqb, le-ltb, lt-ltb, ltb-true, ne_eqb}
@@ -7,6 +7,8 @@ use Rattle.std.proofs.lemmas.List.{length-map}
 use Rattle.radix_keys.specs.Networks.{Net, IsBase}
 use Rattle.frozen_routes.specs.Routes.{AreInFront, AreRising, IsEarlier, IsInFront, base_numbers, is_inside, bit_counts}
 use Rattle.frozen_routes.proofs.RouteLemmas.Blocks.{div_up, earlier_le, finer, start_is_least}
+use Rattle.sorted_tables.proofs.TableLemmas.Links.{parted_in_order}
+use Rattle.sorted_tables.proofs.TableLemmas.Parts.{filter_part}
 
 -- the first bits of a network by those of calls
 pub own_is : (w n m m' own rest b : ℕ) → rest ≡ b - n → b ≡ w → m' ≡ m → own ≡ m' / 2 ^ rest → own ≡ m / 2 ^ (w - n)
@@ -66,34 +68,6 @@ front_to w t n q fs bs j k rising l m front = elim (cases_lt j k) [
   | inr ge ↦ let same : k ≡ j = omega (arith, l, ge) in subst (λ i. IsInFront w t n q (get_or fs i 0) (get_or bs i 0)) same front
 ]
 
--- a part of a list is what passes a test, where those of the part pass and no others do
-pub filter_part : {X : Type 0} (t : X → Bool) (xs : List X) (from to : ℕ) → from ≤ to → to ≤ length xs
-    → ((k : ℕ) → k < from → get_or (each t xs) k false ≡ false)
-    → ((k : ℕ) → from ≤ k → k < to → get_or (each t xs) k false ≡ true)
-    → ((k : ℕ) → to ≤ k → k < length xs → get_or (each t xs) k false ≡ false)
-    → take (to - from) (drop from xs) ≡ filter t xs
-filter_part t [] zero zero h l a b c = refl
-filter_part t [] zero (suc to) h l a b c = absurd (omega (arith, l))
-filter_part t [] (suc from) to h l a b c = absurd (omega (arith, h, l))
-filter_part t (x ∷ xs) zero zero h l a b c =
-    filter_part t xs zero zero (omega arith) (omega arith) (λ k m. absurd (omega (arith, m))) (λ k m n. absurd (omega (arith, n)))
-    (λ k m n. c (suc k) (omega arith) (omega (arith, n)))
-    ∙ sym (ap (λ p. cond p (x ∷ filter t xs) (filter t xs)) (c 0 (omega arith) (omega arith)))
-filter_part t (x ∷ xs) zero (suc to) h l a b c =
-    let one : suc to - 0 ≡ suc to = omega arith in
-    let less : to ≡ to - 0 = omega arith in
-    ap (λ n. take n (x ∷ xs)) one
-    ∙ ap (λ ys. x ∷ ys) (ap (λ n. take n xs) less ∙ filter_part t xs zero to (omega arith) (omega (arith, l)) (λ k m. absurd (omega (arith, m)))
-    (λ k m n. b (suc k) (omega arith) (omega (arith, n))) (λ k m n. c (suc k) (omega (arith, m)) (omega (arith, n))))
-    ∙ sym (ap (λ p. cond p (x ∷ filter t xs) (filter t xs)) (b 0 (omega arith) (omega arith)))
-filter_part t (x ∷ xs) (suc from) zero h l a b c = absurd (omega (arith, h))
-filter_part t (x ∷ xs) (suc from) (suc to) h l a b c =
-    let less : suc to - suc from ≡ to - from = omega arith in
-    ap (λ n. take n (drop from xs)) less
-    ∙ filter_part t xs from to (omega (arith, h)) (omega (arith, l)) (λ k m. a (suc k) (omega (arith, m)))
-    (λ k m n. b (suc k) (omega (arith, m)) (omega (arith, n))) (λ k m n. c (suc k) (omega (arith, m)) (omega (arith, n)))
-    ∙ sym (ap (λ p. cond p (x ∷ filter t xs) (filter t xs)) (a 0 (omega arith)))
-
 -- whether a network of these numbers lies within the one of n bits whose addresses have q for these
 abbrev inside : (w n q m k : ℕ) → Bool
 inside w n q m k = not (ltb k n) && nat_eq (m / 2 ^ (w - n)) q
@@ -142,10 +116,7 @@ through w n q m k front = elim front [ inl less ↦ inl less | inr at ↦ inr (a
 
 -- those in front of the networks within another come before those behind
 pub cuts_in_order : (w n q : ℕ) (fs bs : List ℕ) (from to : ℕ) → AreInFront w false n q fs bs from → AreInFront w true n q fs bs to → from ≤ to
-cuts_in_order w n q fs bs from to x y = elim (cases_lt to from) [
-  | inl lt ↦ absurd (y.after to (omega arith) (let within = x.within in omega (arith, lt, within)) (through w n q _ _ (x.before to lt)))
-  | inr ge ↦ ge
-]
+cuts_in_order w n q fs bs from to x y = parted_in_order _ _ _ _ (length fs) from to (λ k p apart. apart (through w n q _ _ p)) x y
 
 -- the rows between are those within
 pub part_within : {A V : Type 0} (w : ℕ) (number : A → ℕ) (net : Net A) (rows : List (Net A × V)) (from to : ℕ)

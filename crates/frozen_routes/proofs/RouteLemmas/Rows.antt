@@ -13,12 +13,6 @@ stored_at f [] i x e = absurd (cc)
 stored_at f (y ∷ ys) zero x e = (let same : y ≡ x = cc in (omega arith, ap f same))
 stored_at f (y ∷ ys) (suc i) x e = let r = stored_at f ys i x e in (let l = r.0 in omega (arith, l), r.1)
 
--- the item at an index is stored there
-pub is_stored : {X : Type 0} (xs : List X) (i : ℕ) (x : X) → i < length xs → x ≡ get_or xs i x → slice_get xs i ≡ Some x
-is_stored [] i x l e = absurd (omega (arith, l))
-is_stored (y ∷ ys) zero x l e = ap Some (sym e)
-is_stored (y ∷ ys) (suc i) x l e = is_stored ys i x (omega (arith, l)) e
-
 module _ {A V : Type 0} (w : ℕ) (number : A → ℕ) (rows : List (Net A × V)) (rising : AreRowsInOrder w number rows) where
   -- what a stored row's numbers are
   holder_at : (a : ℕ) (s : Net A × V) (h : IsHoldingRow w number rows a s) → (h.at < length rows) × AgreeIn w (get_or (bit_counts rows) h.at 0) (get_or (base_numbers number rows) h.at 0) a

@@ -7,7 +7,8 @@ use Rattle.std.proofs.Math.Nat.{mul-div_cancel, mul-mod_left}
 use Rattle.std.proofs.Math.Seq.{get_or-append_seam}
 use Rattle.radix_keys.specs.Networks.{AgreeIn}
 use Rattle.frozen_routes.specs.declared.tops.Cell.{Cell}
-use Rattle.frozen_routes.specs.Routes.{AreRising, AreTopCells, AreUppers, IsFirstTop, IsLastHolder, IsTopCell}
+use Rattle.frozen_routes.specs.Routes.{AreRising, AreTopCells, AreUppers, IsFirstTop, IsHolderAt, IsLastHolder, IsTopCell}
+use Rattle.sorted_tables.proofs.TableLemmas.Links.{last_of_same, parted_in_order}
 use Rattle.frozen_routes.proofs.RouteLemmas.Blocks.{coarser, finer, sandwich, start_is_least}
 
 -- the next block begins behind this one
@@ -30,31 +31,24 @@ whole_power w k le = let whole : k + (w - k) ≡ w = omega (arith, le) in sym (p
 -- those before the block of a number begin at or before it
 pub top_below : (e : ℕ) (fs : List ℕ) (a t n k : ℕ) → IsFirstTop e fs t n → t ≡ a / 2 ^ e → k < n → get_or fs k 0 ≤ a
 top_below e fs a t n k top is l =
-    let below = top.below k l in
+    let below = top.before k l in
     let start = quotient_most a t e (omega (arith, is)) in
     omega (arith, below, start)
 
 -- and those of the next block behind it
 pub top_above : (e : ℕ) (fs : List ℕ) (a t n k : ℕ) → IsFirstTop e fs (t + 1) n → t ≡ a / 2 ^ e → n ≤ k → k < length fs → a < get_or fs k 0
 top_above e fs a t n k top is l m =
-    let others = top.others k l m in
+    let after = top.after k l m in
     let end = quotient_less a (t + 1) e (omega (arith, is)) in
-    omega (arith, others, end)
+    omega (arith, after, end)
 
 -- no fewer come before the next block
 pub top_order : (e : ℕ) (fs : List ℕ) (t m n : ℕ) → IsFirstTop e fs t m → IsFirstTop e fs (t + 1) n → m ≤ n
-top_order e fs t m n x y = elim (cases_lt n m) [
-  | inl lt ↦
-      let below = x.below n lt in
-      let within = x.within in
-      let others = y.others n (omega arith) (omega (arith, within, lt)) in
-      absurd (omega (arith, below, others, next_block t e))
-  | inr ge ↦ ge
-]
+top_order e fs t m n x y = parted_in_order _ _ _ _ (length fs) m n (λ k p q. omega (arith, p, q, next_block t e)) x y
 
 -- those before a block come before the next one
 pub before_next : (e : ℕ) (fs : List ℕ) (t n : ℕ) → IsFirstTop e fs t n → (k : ℕ) → k < n → get_or fs k 0 < (t + 1) * 2 ^ e
-before_next e fs t n top k l = let below = top.below k l in omega (arith, below, next_block t e)
+before_next e fs t n top k l = let below = top.before k l in omega (arith, below, next_block t e)
 
 -- a network that begins before a block and holds the block's first number holds each of its numbers
 whole_block : (w k m t e a : ℕ) → m < t * 2 ^ e → t ≡ a / 2 ^ e → AgreeIn w k m (t * 2 ^ e) → AgreeIn w k m a
@@ -68,14 +62,11 @@ whole_block w k m t e a before is holds = elim (cases_lt e (w - k)) [
 
 -- so the last holder of a block's first number is that of each of its numbers
 pub top_around : (e w : ℕ) (fs bs : List ℕ) (t a : ℕ) (cell : Cell) → IsTopCell e w fs bs t cell → t ≡ a / 2 ^ e → IsLastHolder w fs bs cell.count a cell.around
-top_around e w fs bs t a cell top is = record {
-  within = top.around.within;
-  holds = λ some. let le = top.around.within in
-      whole_block w _ _ t e a (top.count.below (cell.around - 1) (omega (arith, some, le))) is (top.around.holds some);
-  none = λ k l m p.
-      let below = top.count.below k m in
-      top.around.none k l m (sandwich (get_or fs k 0) (t * 2 ^ e) a (w - get_or bs k 0) (omega (arith, below)) (quotient_most a t e (omega (arith, is))) p);
-}
+top_around e w fs bs t a cell top is = last_of_same (IsHolderAt w fs bs (t * 2 ^ e)) (IsHolderAt w fs bs a) cell.count cell.around (λ k l.
+    let below = top.count.before k l in (
+      whole_block w _ _ t e a below is,
+      sandwich (get_or fs k 0) (t * 2 ^ e) a (w - get_or bs k 0) (omega (arith, below)) (quotient_most a t e (omega (arith, is))),
+    )) top.around
 
 -- a number is of fewer blocks than its bits count
 fewer_blocks : (w k m : ℕ) → k ≤ w → m < 2 ^ w → m / 2 ^ (w - k) < 2 ^ k

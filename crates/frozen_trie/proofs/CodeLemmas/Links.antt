@@ -9,6 +9,7 @@ use Rattle.nibble_map.proofs.TreeLemmas.SomePrefixes.{before_through}
 use Rattle.frozen_trie.specs.Codes.{IsLastPrefix, IsCut, is_before, code_at}
 use Rattle.frozen_trie.proofs.CodeLemmas.Order.{which_before, between_begins, taken_begins, prefix_before, before_passes, before_by_test}
 use Rattle.frozen_trie.proofs.CodeLemmas.Parts.{rising_at}
+use Rattle.sorted_tables.proofs.TableLemmas.Links.{last_of_more}
 
 -- a prefix is the first part of its length
 pub prefix_is_taken : (p x : List ℕ) → IsPrefix p x → take (length p) x ≡ p
@@ -29,20 +30,10 @@ unshared p x q n h k l apart =
     apart (omega (arith, l, a)) (omega (arith, l, b))
     (ap (λ z. get_or z n 0) h.1 ∙ get_or_append_left p h.0 0 n l ∙ sym (ap (λ z. get_or z n 0) k.1 ∙ get_or_append_left p k.0 0 n l))
 
--- one link on: the code before `at` isn't a prefix of q, and r is its link
-pub climb_on : (cs : List (List ℕ)) (q : List ℕ) (from at r : ℕ) → IsRising cs → from ≤ length cs
-    → ((k : ℕ) → k < from → IsBefore (code_at cs k) q) → 0 < at → at ≤ from
-    → (IsPrefix (code_at cs (at - 1)) q → ⊥)
-    → ((k : ℕ) → at ≤ k → k < from → IsPrefix (code_at cs k) q → ⊥)
-    → IsLastPrefix cs (at - 1) (code_at cs (at - 1)) r
-    → (k : ℕ) → r ≤ k → k < from → IsPrefix (code_at cs k) q → ⊥
-climb_on cs q from at r rises within before some le apart none link k l m p =
-    elim (three_ways k (at - 1)) [
-      | inl lt ↦ link.none k l lt (between_begins (code_at cs k) (code_at cs (at - 1)) q p
-          (rising_at cs rises k (at - 1) lt (omega (arith, some, le, within))) (before (at - 1) (omega (arith, some, le))))
-      | inr (inl e) ↦ apart (subst (λ i. IsPrefix (code_at cs i) q) e p)
-      | inr (inr g) ↦ none k (omega (arith, g)) m p
-    ]
+-- a code that begins q begins each later one that comes before q
+pub begins_later : (cs : List (List ℕ)) (q : List ℕ) (j k : ℕ) → IsRising cs → k < j → j < length cs → IsBefore (code_at cs j) q
+    → IsPrefix (code_at cs k) q → IsPrefix (code_at cs k) (code_at cs j)
+begins_later cs q j k rises l m b p = between_begins (code_at cs k) (code_at cs j) q p (rising_at cs rises k j l m) b
 
 -- the cut before q: a code that is q stands right at it
 pub equal_stands_at : (cs : List (List ℕ)) (q : List ℕ) (n : ℕ) → IsRising cs → IsCut (λ c. is_before c q) cs n
@@ -68,22 +59,16 @@ last_is_itself cs q n rises cut l e =
     let back : n ≡ n + 1 - 1 = omega arith in
     record {
       within = omega (arith, l);
-      begins = λ some. subst (λ i. IsPrefix (code_at cs i) q) back (subst (λ x. IsPrefix x q) (sym e) (prefix_itself q));
+      holds = λ some. subst (λ i. IsPrefix (code_at cs i) q) back (subst (λ x. IsPrefix x q) (sym e) (prefix_itself q));
       none = λ k a b p. let r = (prefixes_below_cut cs q n rises cut k (omega (arith, a)) b p).0 in absurd (omega (arith, a, r));
     }
 
 -- where q is no code, its last prefix is the last among those before it
 pub last_before : (cs : List (List ℕ)) (q : List ℕ) (n r : ℕ) → IsRising cs → IsCut (λ c. is_before c q) cs n
     → (n < length cs → code_at cs n ≡ q → ⊥) → IsLastPrefix cs n q r → IsLastPrefix cs (length cs) q r
-last_before cs q n r rises cut apart last = record {
-  within = omega (arith, last.within, cut.within);
-  begins = last.begins;
-  none = λ k a b p. elim (three_ways k n) [
-    | inl lt ↦ last.none k a lt p
-    | inr (inl e) ↦ apart (omega (arith, e, b)) (subst (λ i. code_at cs i ≡ q) e (prefixes_below_cut cs q n rises cut k (omega (arith, e)) b p).1)
-    | inr (inr gt) ↦ let r = (prefixes_below_cut cs q n rises cut k (omega (arith, gt)) b p).0 in absurd (omega (arith, gt, r))
-  ];
-}
+last_before cs q n r rises cut apart last = last_of_more (λ k. IsPrefix (code_at cs k) q) n (length cs) r cut.within (λ k l m p.
+    let here = prefixes_below_cut cs q n rises cut k l m p in
+    apart (subst (λ i. i < length cs) here.0 m) (subst (λ i. code_at cs i ≡ q) here.0 here.1)) last
 
 -- what comes before q or is q doesn't come after q
 up_to : (c q : List ℕ) → IsBefore c q ⊎ (c ≡ q) → not (is_before q c) ≡ true

@@ -8,8 +8,8 @@ use Rattle.nibble_map.specs.Lists.{Each}
 use Rattle.frozen_trie.specs.declared.file.FileError.{FileError}
 use Rattle.frozen_trie.specs.declared.file.FileWhy.{FileWhy}
 use Rattle.frozen_trie.specs.declared.file.FileWhy.TheVariants.{Full, Long, Memory, Read, Short, Unsorted, Version}
-use Rattle.frozen_trie.specs.declared.linked.PushWhy.{PushWhy}
-use Rattle.frozen_trie.specs.declared.linked.PushWhy.TheVariants as push
+use Rattle.sorted_tables.specs.declared.errors.PushWhy.{PushWhy}
+use Rattle.sorted_tables.specs.declared.errors.PushWhy.TheVariants as push
 use Rattle.frozen_trie.specs.FileRows.{FitsRow, HasNoCounted, HasNoRow, IsCountedFault, IsEndFault, IsFault, IsFaultBehind, IsHeadFault, IsHeadPart, IsReaderFault, IsRefusedRow, IsRestFault, IsUnreadRow, counted_bytes, file_rows, head_of, row_of}
 use Rattle.frozen_trie.proofs.FileLemmas.Distinct.{same_counted}
 

@@ -1,5 +1,5 @@
 -- One code more, and its link.
-use Rattle.std.proofs.Common.{◌≡◌, ℕ, ◌-◌, ◌<◌, ◌≤◌, inl, inr, List, [], ◌∷◌, ◌++◌, length, get_or, refl, sym, ap, subst, ◌∙◌, arith}
+use Rattle.std.proofs.Common.{◌≡◌, ℕ, ◌-◌, ◌<◌, ◌↔◌, inl, inr, List, [], ◌∷◌, ◌++◌, length, refl, sym, ap, subst, ◌∙◌, arith}
 use Rattle.std.proofs.lemmas.List.{get_or_append_left, length-append}
 use Rattle.std.proofs.Math.Seq.{get_or-append_seam}
 use Rattle.radix_keys.proofs.KeyLemmas.Order.{three_ways}
@@ -14,6 +14,7 @@ use Rattle.frozen_trie.specs.Codes.{IsLastPrefix, code_at}
 use Rattle.frozen_trie.specs.Frozen.{IsLinked, map_of_pairs}
 use Rattle.frozen_trie.proofs.CodeLemmas.Parts.{rising_at}
 use Rattle.frozen_trie.proofs.FrozenLemmas.Queries.{has_index}
+use Rattle.sorted_tables.proofs.TableLemmas.Links.{last_of_same, links_more}
 
 -- what holds of each element of a join holds of each of its first part
 Each-front : {A : Type 0} (Q : A → Type 0) (xs ys : List A) → Each Q (xs ++ ys) → Each Q xs
@@ -57,13 +58,11 @@ all_before_more cs c h k l =
     let b = rising_at (cs ++ c ∷ []) h k (length cs) l (omega (arith, n)) in
     subst (IsBefore _) (code_behind cs c) (subst (λ x. IsBefore x (code_at (cs ++ c ∷ []) (length cs))) (get_or_append_left cs (c ∷ []) [] k l) b)
 
--- the last prefix among the first n codes stays so with further codes behind
-pub last_prefix_kept : (cs ds : List (List ℕ)) (n : ℕ) (q : List ℕ) (r : ℕ) → n ≤ length cs → IsLastPrefix cs n q r → IsLastPrefix (cs ++ ds) n q r
-last_prefix_kept cs ds n q r within last = record {
-  within = last.within;
-  begins = λ some. subst (λ l. IsPrefix l q) (sym (get_or_append_left cs ds [] (r - 1) (let w = last.within in omega (arith, w, some, within)))) (last.begins some);
-  none = λ k a b p. last.none k a b (subst (λ l. IsPrefix l q) (get_or_append_left cs ds [] k (omega (arith, b, within))) p);
-}
+-- a code begins the same lists with one more behind
+prefix_kept : (cs : List (List ℕ)) (c q : List ℕ) (k : ℕ) → k < length cs → IsPrefix (code_at cs k) q ↔ IsPrefix (code_at (cs ++ c ∷ []) k) q
+prefix_kept cs c q k l =
+    let same = get_or_append_left cs (c ∷ []) [] k l in
+    (λ p. subst (λ d. IsPrefix d q) (sym same) p, λ p. subst (λ d. IsPrefix d q) same p)
 
 -- no list has no link
 pub linked_none : (cs : List (List ℕ)) (up : List ℕ) → cs ≡ [] → up ≡ [] → IsLinked cs up
@@ -85,16 +84,10 @@ linked_more cs up c r kept rises last =
     record {
       rising = rises;
       linked = omega (arith, n, m, same);
-      links = λ i l. elim (three_ways i (length cs)) [
-        | inl lt ↦
-            subst (IsLastPrefix (cs ++ c ∷ []) i (code_at (cs ++ c ∷ []) i)) (sym (get_or_append_left up (r ∷ []) 0 i (omega (arith, lt, same))))
-            (subst (λ q. IsLastPrefix (cs ++ c ∷ []) i q (get_or up i 0)) (sym (get_or_append_left cs (c ∷ []) [] i lt))
-            (last_prefix_kept cs (c ∷ []) i (code_at cs i) (get_or up i 0) (omega (arith, lt)) (kept.links i (omega (arith, lt, same)))))
-        | inr (inl e) ↦
-            subst (λ j. IsLastPrefix (cs ++ c ∷ []) j (code_at (cs ++ c ∷ []) j) (get_or (up ++ r ∷ []) j 0)) (sym e)
-            (subst (λ q. IsLastPrefix (cs ++ c ∷ []) (length cs) q (get_or (up ++ r ∷ []) (length cs) 0)) (sym (code_behind cs c))
-            (subst (IsLastPrefix (cs ++ c ∷ []) (length cs) c) (sym (ap (λ j. get_or (up ++ r ∷ []) j 0) (sym same) ∙ get_or-append_seam up r [] 0))
-            (last_prefix_kept cs (c ∷ []) (length cs) c r (omega arith) last)))
-        | inr (inr g) ↦ absurd (omega (arith, g, l, m, same))
-      ];
+      links = links_more (λ k i. IsPrefix (code_at cs k) (code_at cs i)) (λ k i. IsPrefix (code_at (cs ++ c ∷ []) k) (code_at (cs ++ c ∷ []) i)) up r
+          (λ k i l m'. subst (λ q. IsPrefix (code_at cs k) (code_at cs i) ↔ IsPrefix (code_at (cs ++ c ∷ []) k) q) (sym (get_or_append_left cs (c ∷ []) [] i (omega (arith, m', same))))
+          (prefix_kept cs c (code_at cs i) k (omega (arith, l, m', same)))) kept.links
+          (subst (λ j. IsLastPrefix (cs ++ c ∷ []) j (code_at (cs ++ c ∷ []) j) r) (sym same)
+          (subst (λ q. IsLastPrefix (cs ++ c ∷ []) (length cs) q r) (sym (code_behind cs c))
+          (last_of_same (λ k. IsPrefix (code_at cs k) c) (λ k. IsPrefix (code_at (cs ++ c ∷ []) k) c) (length cs) r (prefix_kept cs c c) last)));
     }

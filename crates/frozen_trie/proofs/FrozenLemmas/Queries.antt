@@ -22,6 +22,7 @@ use Rattle.radix_trie.proofs.PathLemmas.Places.{below-nil}
 use Rattle.frozen_trie.specs.Frozen.{codes_of, map_of_pairs}
 use Rattle.frozen_trie.proofs.CodeLemmas.Order.{true_of, which_before, at_most, before_by_test, before_passes, prefix_before, between_begins, begun_not_before, until_by_test, until_by_before, until_by_prefix}
 use Rattle.frozen_trie.proofs.CodeLemmas.Parts.{rising_at}
+use Rattle.sorted_tables.proofs.TableLemmas.Links.{parted_in_order}
 use Rattle.frozen_trie.proofs.FrozenLemmas.Rows.{get_at, entries_are_rows, stored_rows, pairs_of_rows, filter_rows, filter_is_part}
 
 -- a test that can't be true is false
@@ -65,8 +66,8 @@ module _ {K V : Type 0} (enc : K → List ℕ) (ps : List (K × V)) (rises : IsR
 
   -- the two cuts are in order
   pub cuts_in_order : (q : List ℕ) (lo hi : ℕ) → IsCut (λ c. is_before c q) (codes_of enc ps) lo → IsCut (λ c. is_until c q) (codes_of enc ps) hi → lo ≤ hi
-  cuts_in_order q lo hi low high = at_most lo hi (λ g.
-      let no : true ≡ false = sym (until_by_before _ q (before_by_test _ q (low.before hi g))) ∙ high.after hi (omega arith) (omega (arith, g, low.within)) in cc no)
+  cuts_in_order q lo hi low high = parted_in_order _ _ _ _ (length (codes_of enc ps)) lo hi
+      (λ k front behind. let no : true ≡ false = sym (until_by_before _ q (before_by_test _ q front)) ∙ behind in cc no) low high
 
   -- the pairs below q are those between the two cuts
   pub below_is : (q : List ℕ) (lo hi : ℕ) → IsCut (λ c. is_before c q) (codes_of enc ps) lo → IsCut (λ c. is_until c q) (codes_of enc ps) hi
@@ -189,11 +190,11 @@ module _ {K V : Type 0} (enc : K → List ℕ) (ps : List (K × V)) (rises : IsR
     Some (code_at (codes_of enc ps) (r - 1)),
     record {
       member = index_stored (r - 1) inside;
-      above = last.begins some;
+      above = last.holds some;
       longest = λ y s p. let i = stored_index y s in
           subst (λ l. length l ≤ length (code_at (codes_of enc ps) (r - 1))) i.2
           (longer_later (codes_of enc ps) q i.0 (r - 1) rises (at_most i.0 (r - 1) (λ g. last.none i.0 (omega (arith, g)) i.1 (subst (λ l. IsPrefix l q) (sym i.2) p)))
-          inside (subst (λ l. IsPrefix l q) (sym i.2) p) (last.begins some));
+          inside (subst (λ l. IsPrefix l q) (sym i.2) p) (last.holds some));
     },
     sym (get_at enc ps (code_at (codes_of enc ps) (r - 1)) (r - 1) x rises (omega (arith, inside, as_many)) at refl),
   )

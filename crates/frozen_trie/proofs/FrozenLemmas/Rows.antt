@@ -13,6 +13,7 @@ use Rattle.nibble_map.specs.Stored.{stored}
 use Rattle.nibble_map.proofs.MapLemmas.Bridge.{equal_by_test}
 use Rattle.nibble_map.proofs.ListLemmas.Sorted.{tied_lists_equal, sorted_of_rising}
 use Rattle.nibble_map.proofs.ListLemmas.Unique.{before_not_itself}
+use Rattle.sorted_tables.proofs.TableLemmas.Parts.{filter_part}
 use Rattle.frozen_trie.specs.Codes.{code_at}
 use Rattle.frozen_trie.specs.Frozen.{codes_of, coded_pairs, map_of_pairs}
 use Rattle.frozen_trie.specs.Index.{AreKeys}
@@ -104,26 +105,19 @@ module _ {K V : Type 0} (enc : K → List ℕ) where
       by true e = ap (λ l. p ∷ l) e
       by false e = e
 
+  -- a test of a pair's encoding is one of the code at its index
+  pub test_at : (t : List ℕ → Bool) (ps : List (K × V)) (k : ℕ) → k < length ps → get_or (map (λ (p : K × V). t (enc p.0)) ps) k false ≡ t (code_at (codes_of enc ps) k)
+  test_at t [] k l = absurd (omega (arith, l))
+  test_at t (p ∷ ps) zero l = refl
+  test_at t (p ∷ ps) (suc k) l = test_at t ps k (omega (arith, l))
+
   -- where a test passes the codes from lo up to hi alone, it keeps the pairs from lo up to hi
   pub filter_is_part : (t : List ℕ → Bool) (ps : List (K × V)) (lo hi : ℕ) → lo ≤ hi → hi ≤ length ps
       → ((k : ℕ) → k < lo → t (code_at (codes_of enc ps) k) ≡ false)
       → ((k : ℕ) → lo ≤ k → k < hi → t (code_at (codes_of enc ps) k) ≡ true)
       → ((k : ℕ) → hi ≤ k → k < length ps → t (code_at (codes_of enc ps) k) ≡ false)
       → filter (λ p. t (enc p.0)) ps ≡ take (hi - lo) (drop lo ps)
-  filter_is_part t [] zero zero a b f g h = refl
-  filter_is_part t [] lo (suc hi) a b f g h = absurd (omega (arith, b))
-  filter_is_part t [] (suc lo) zero a b f g h = absurd (omega (arith, a))
-  filter_is_part t (p ∷ ps) (suc lo) zero a b f g h = absurd (omega (arith, a))
-  filter_is_part t (p ∷ ps) zero zero a b f g h =
-      ap (λ c. cond c (p ∷ filter (λ p. t (enc p.0)) ps) (filter (λ p. t (enc p.0)) ps)) (h 0 (omega arith) (omega arith))
-      ∙ filter_is_part t ps zero zero a (omega arith) (λ k l. absurd (omega (arith, l))) (λ k l m. absurd (omega (arith, m))) (λ k l m. h (suc k) (omega arith) (omega (arith, m)))
-  filter_is_part t (p ∷ ps) zero (suc hi) a b f g h =
-      let e : suc hi - 0 ≡ suc (hi - 0) = omega arith in
-      ap (λ c. cond c (p ∷ filter (λ p. t (enc p.0)) ps) (filter (λ p. t (enc p.0)) ps)) (g 0 (omega arith) (omega arith))
-      ∙ ap (λ l. p ∷ l) (filter_is_part t ps zero hi (omega arith) (omega (arith, b)) (λ k l. absurd (omega (arith, l))) (λ k l m. g (suc k) (omega arith) (omega (arith, m))) (λ k l m. h (suc k) (omega (arith, l)) (omega (arith, m))))
-      ∙ ap (λ n. take n (p ∷ ps)) (sym e)
-  filter_is_part t (p ∷ ps) (suc lo) (suc hi) a b f g h =
-      let e : suc hi - suc lo ≡ hi - lo = omega arith in
-      ap (λ c. cond c (p ∷ filter (λ p. t (enc p.0)) ps) (filter (λ p. t (enc p.0)) ps)) (f 0 (omega arith))
-      ∙ filter_is_part t ps lo hi (omega (arith, a)) (omega (arith, b)) (λ k l. f (suc k) (omega (arith, l))) (λ k l m. g (suc k) (omega (arith, l)) (omega (arith, m))) (λ k l m. h (suc k) (omega (arith, l)) (omega (arith, m)))
-      ∙ ap (λ n. take n (drop lo ps)) (sym e)
+  filter_is_part t ps lo hi a b f g h = sym (filter_part (λ p. t (enc p.0)) ps lo hi a b
+      (λ k l. test_at t ps k (omega (arith, l, a, b)) ∙ f k l)
+      (λ k l m. test_at t ps k (omega (arith, m, b)) ∙ g k l m)
+      (λ k l m. test_at t ps k m ∙ h k l m))

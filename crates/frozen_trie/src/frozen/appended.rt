@@ -6,8 +6,9 @@ ghost use Rattle.frozen_trie.specs.Texts.{IsBehindAll};
 
 use crate::codes::Codes;
 use crate::frozen::FrozenTrie;
-use crate::linked::{PushError, PushWhy, follows, push_linked};
+use crate::linked::{follows, push_linked};
 use radix_keys::{Memory, TrieKey};
+use sorted_tables::{PushError, PushWhy};
 use std::alloc::Global;
 
 impl<K: TrieKey, V> FrozenTrie<K, V> {

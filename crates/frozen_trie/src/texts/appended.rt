@@ -6,9 +6,10 @@ ghost use Rattle.radix_trie.specs.Views.{pairs_below};
 ghost use Rattle.frozen_trie.specs.Texts.{IsBehindAll};
 
 use crate::codes::Codes;
-use crate::linked::{PushError, PushWhy, follows, push_linked};
+use crate::linked::{follows, push_linked};
 use crate::texts::FrozenTexts;
 use radix_keys::{Memory, NibbleSlice};
+use sorted_tables::{PushError, PushWhy};
 use std::alloc::Global;
 
 impl<V> FrozenTexts<V> {

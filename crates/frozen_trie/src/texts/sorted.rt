@@ -6,8 +6,9 @@ ghost use Rattle.radix_trie.specs.Building.{pairs_in_order};
 ghost use Rattle.frozen_trie.specs.Frozen.{IsFirstUnsorted, codes_of};
 ghost use Rattle.frozen_trie.specs.Texts.{byte_pairs};
 
-use crate::build::{SortedError, SortedWhy, codes_and_links};
+use crate::build::codes_and_links;
 use crate::texts::FrozenTexts;
+use sorted_tables::{SortedError, SortedWhy};
 use std::alloc::Global;
 
 impl<V: Drop> FrozenTexts<V> {
@@ -21,11 +22,11 @@ impl<V: Drop> FrozenTexts<V> {
     pub fn from_sorted(
         alloc: Global,
         pairs: Vec<(String, V)>,
-    ) -> Result<FrozenTexts<V>, SortedError<String, V>>
+    ) -> Result<FrozenTexts<V>, SortedError<(String, V)>>
         ensures pairs { IfOk result
             (λ texts. texts ≡ pairs_in_order nibbles (byte_pairs pairs.items)) }
         ensures rising { OnOk result (IsRising (codes_of nibbles (byte_pairs pairs.items))) }
-        ensures handed_back { IfErr result (λ e. e.pairs ≡ pairs) }
+        ensures handed_back { IfErr result (λ e. e.items ≡ pairs) }
         ensures unsorted { IfErr result (λ e. (i : ℕ) → e.why ≡ SortedWhy.Unsorted i
             → IsFirstUnsorted (codes_of nibbles (byte_pairs pairs.items)) i) }
         ensures full { IfErr result (λ e. e.why ≡ SortedWhy.Full
@@ -34,11 +35,11 @@ impl<V: Drop> FrozenTexts<V> {
     {
         let (codes, up) = match codes_and_links(alloc, &pairs) {
             Ok(made) => made,
-            Err(why) => return Err(SortedError { why, pairs }),
+            Err(why) => return Err(SortedError { why, items: pairs }),
         };
         let Ok(mut values) = Vec::with_capacity(alloc, pairs.len()) else {
             let why = SortedWhy::Memory;
-            return Err(SortedError { why, pairs });
+            return Err(SortedError { why, items: pairs });
         };
         for (_, value) in pairs {
             values.push_reserved(value);

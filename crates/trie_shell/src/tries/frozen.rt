@@ -175,11 +175,11 @@ fn unfrozen_line(answer: &mut Answer<'_>, why: FreezeWhy) -> Result<(), Memory> 
 fn unsorted_line<'a>(
     answer: &mut Answer<'a>,
     words: Words<'a>,
-    error: SortedError<Key, u64>,
+    error: SortedError<(Key, u64)>,
 ) -> Result<(), Memory> {
     answer.read_on(words);
     let is_same = match given_pairs(&mut *answer)? {
-        Some(given) => given.as_slice() == error.pairs.as_slice(),
+        Some(given) => given.as_slice() == error.items.as_slice(),
         None => false,
     };
     if !is_same {

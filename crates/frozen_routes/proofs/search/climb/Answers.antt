@@ -1,8 +1,9 @@
-use Rattle.std.proofs.Common.{◌-◌, ◌<◌, inl, inr, arith}
+use Rattle.std.proofs.Common.{◌-◌, ◌<◌, inl, inr, arith, get_or}
 use Rattle.std.proofs.lemmas.Bool.{cases_lt}
 use Rattle.std.proofs.lemmas.List.{length-map}
-use Rattle.frozen_routes.specs.Routes.{base_numbers, bit_counts}
-use Rattle.frozen_routes.proofs.RouteLemmas.Links.{climb_on}
+use Rattle.frozen_routes.specs.Routes.{IsHolderAt, base_numbers, bit_counts}
+use Rattle.frozen_routes.proofs.RouteLemmas.Links.{holds_first}
+use Rattle.sorted_tables.proofs.TableLemmas.Links.{climb_on}
 use Rattle.frozen_routes.proofs.search.climb.Goals as goal
 
 pub returns-then-holds_at : goal.returns-then-holds_at
@@ -14,16 +15,19 @@ returns-then-holds_at g c = record {
 
 pub loop-at-preserved : goal.loop-at-preserved
 loop-at-preserved g c =
-    let number = g.A.Address.number in
+    let w = g.A.Address.BITS in
     let rows = c.args.rows.now in
+    let fs = base_numbers g.A.Address.number rows in
+    let bs = bit_counts rows in
     let at = c.loop-at.at in
-    let all = length-map rows (λ r. number r.0.base) in
+    let all = length-map rows (λ r. g.A.Address.number r.0.base) in
     let some : 0 < at = omega (arith, c.loop-at-test.true) in
     let link = c.requires.links (at - 1) (omega (arith, c.requires.linked, c.loop-at.invariant.within, some)) in
     record {
       within = omega (arith, link.within, c.loop-at.invariant.within);
-      none = climb_on g.A.Address.BITS (base_numbers number rows) (bit_counts rows) c.args.number c.args.from at _ c.requires.rising
-          (omega (arith, all, c.requires.within)) c.requires.before some c.loop-at.invariant.within
+      none = climb_on (IsHolderAt w fs bs c.args.number) (IsHolderAt w fs bs (get_or fs (at - 1) 0)) c.args.from at _ some
+          (λ k l. holds_first w fs bs c.args.number (at - 1) k c.requires.rising l (omega (arith, all, some, c.loop-at.invariant.within, c.requires.within))
+          (c.requires.before (at - 1) (omega (arith, some, c.loop-at.invariant.within))))
           (λ p. let no = c.holds_at.ensures.1 p in let same = c.if-holds_at.false in cc (no, same))
           c.loop-at.invariant.none link;
     }

@@ -38,7 +38,7 @@ climb-around-requires-clause-links g c = c.requires.links
 
 pub climb-around-requires-clause-before : goal.climb-around-requires-clause-before
 climb-around-requires-clause-before g c = λ k l.
-    let below = c.count_below-count.ensures.below k l in
+    let below = c.count_below-count.ensures.before k l in
     let start = c.in-Some.ensures.1 in
     let whole = ap (λ n. c.args.first * n) (shl_whole 1 1 c.args.rest 128 (omega arith) (omega (arith, c.requires.shift)) ∙ one-mul (2 ^ c.args.rest)) in
     omega (arith, below, start, whole)

@@ -28,6 +28,6 @@ returns-else-first_at-rest g c =
     let here = quotient_most (get_or fs i 0) c.args.first c.args.rest (omega (arith, ap (λ x. x / 2 ^ c.args.rest) c.first_at.ensures, c.if-first_at-rest.false)) in
     record {
       within = omega (arith, c.loop-count.invariant.within, length-map rows (λ r. number r.0.base));
-      below = c.loop-count.invariant.below;
-      others = λ k l m. omega (arith, firsts_to g.A.Address.BITS fs (bit_counts rows) i k c.requires.rising l m, here);
+      before = c.loop-count.invariant.below;
+      after = λ k l m. omega (arith, firsts_to g.A.Address.BITS fs (bit_counts rows) i k c.requires.rising l m, here);
     }

@@ -1,7 +1,7 @@
 use Rattle.std.proofs.Common.{◌+◌, ◌/◌, ◌^◌, ◌<◌, length, arith, refl}
 use Rattle.std.proofs.lemmas.List.{length-map}
+use Rattle.std.proofs.lemmas.Option.{slice_get_read}
 use Rattle.frozen_routes.specs.Routes.{base_numbers}
-use Rattle.frozen_routes.proofs.RouteLemmas.Rows.{is_stored}
 use Rattle.frozen_routes.proofs.RouteLemmas.Tops.{top_above, top_around, top_below, top_order}
 use Rattle.frozen_routes.proofs.tops.top_span.Goals as goal
 
@@ -15,8 +15,8 @@ returns-then-first-last g c =
     let cells = c.args.tops.now.cells.items in
     let here : t < length cells = omega (arith, c.if-first-last.true, c.saturating_sub-last.ensures) in
     let after : t + 1 < length cells = omega (arith, c.if-first-last.true, c.saturating_sub-last.ensures) in
-    let first = c.requires.cells t c.index.result.now (is_stored cells t c.index.result.now here c.index.ensures) in
-    let next = (c.requires.cells (t + 1) c.index-then-first-last.result.now (is_stored cells (t + 1) c.index-then-first-last.result.now after c.index-then-first-last.ensures)).count in
+    let first = c.requires.cells t c.index.result.now (slice_get_read cells (length cells) t c.index.result.now refl here c.index.ensures) in
+    let next = (c.requires.cells (t + 1) c.index-then-first-last.result.now (slice_get_read cells (length cells) (t + 1) c.index-then-first-last.result.now refl after c.index-then-first-last.ensures)).count in
     record {
       order = top_order e fs t _ _ first.count next;
       within = omega (arith, all, next.within);

@@ -1,6 +1,7 @@
 use Rattle.std.proofs.Common.{◌≡◌, ◌-◌, ◌/◌, ◌^◌, ◌<◌, false, length, refl, ap, sym, subst, ◌∙◌, arith, get_or}
+use Rattle.std.proofs.lemmas.Option.{slice_get_read}
 use Rattle.frozen_routes.specs.Routes.{AreInFront, AreRowsInOrder, row_of_refs, base_numbers, bit_counts}
-use Rattle.frozen_routes.proofs.RouteLemmas.Rows.{is_stored, stored_at}
+use Rattle.frozen_routes.proofs.RouteLemmas.Rows.{stored_at}
 use Rattle.frozen_routes.proofs.RouteLemmas.Single.{row_at_cut}
 use Rattle.frozen_routes.proofs.frozen.FrozenRoutes.get.Goals as goal
 use Rattle.frozen_routes.proofs.frozen.FrozenRoutes.get.Goals.{then-at-len-via-then-at-len, then-at-len-via-else-at-len+then-not-is_of}
@@ -32,7 +33,7 @@ returns g c =
     let row = row_of_refs c.entry_at.result in
     let is = c.entry_at.ensures ∙ ap (λ rs. get_or rs at row) (c.deref-2.ensures.value ∙ c.self.view_is) in
     let within : at < length rows = omega (arith, c.if-at-len.false, ap length c.self.view_is) in
-    let stored = is_stored rows at row within is in
+    let stored = slice_get_read rows (length rows) at row refl within is in
     let of = subst (λ rs. (get_or (base_numbers number rs) at 0 ≡ number c.args.network.now.base) × (get_or (bit_counts rs) at 0 ≡ c.args.network.now.bits))
     (c.deref-else-at-len.ensures.value ∙ c.self.view_is) (c.is_of.ensures.0 c.if-not-is_of.false) in
     record {

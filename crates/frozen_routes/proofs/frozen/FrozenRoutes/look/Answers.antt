@@ -1,6 +1,7 @@
-use Rattle.std.proofs.Common.{◌-◌, ◌<◌, length, arith, subst, ap, ◌∙◌, get_or}
+use Rattle.std.proofs.Common.{◌-◌, ◌<◌, length, arith, subst, ap, ◌∙◌, get_or, refl}
+use Rattle.std.proofs.lemmas.Option.{slice_get_read}
 use Rattle.frozen_routes.specs.Routes.{IsLastHolder, AreRowsInOrder, row_of_refs, base_numbers, bit_counts}
-use Rattle.frozen_routes.proofs.RouteLemmas.Rows.{is_stored, last_is_longest, none_holds}
+use Rattle.frozen_routes.proofs.RouteLemmas.Rows.{last_is_longest, none_holds}
 use Rattle.frozen_routes.proofs.frozen.FrozenRoutes.look.Goals as goal
 
 pub returns-then-found-eq0 : goal.returns-then-found-eq0
@@ -26,7 +27,7 @@ returns g c =
     let within : found - 1 < length c.args.self.now = omega (arith, some, last.within) in
     record {
       row = last_is_longest w number c.args.self.now (subst (AreRowsInOrder w number) c.self.view_is c.self.invariant.rising) a found row some last
-          (is_stored c.args.self.now (found - 1) row within is);
+          (slice_get_read c.args.self.now (length c.args.self.now) (found - 1) row refl within is);
     }
 
 pub last_holder-found-requires-clause-rising : goal.last_holder-found-requires-clause-rising

@@ -1,11 +1,12 @@
-use Rattle.std.proofs.Common.{◌≡◌, ◌+◌, ◌<◌, suc, length, get_or, sym, ap, subst, ◌∙◌, arith}
+use Rattle.std.proofs.Common.{◌≡◌, ◌+◌, ◌<◌, suc, length, get_or, refl, sym, ap, subst, ◌∙◌, arith}
 use Rattle.std.proofs.lemmas.List.{get_or_read}
+use Rattle.std.proofs.lemmas.Option.{slice_get_read}
 use Rattle.std.specs.FinMap as fin
 use Rattle.nibble_map.specs.Lists.{IsRising}
 use Rattle.radix_trie.specs.Walks.{deref_pair}
 use Rattle.frozen_trie.specs.Codes.{IsLastPrefix, code_at}
 use Rattle.frozen_trie.specs.Frozen.{prefixes_up, map_of_pairs}
-use Rattle.frozen_trie.proofs.FrozenLemmas.Prefixes.{found_at_index, step_up}
+use Rattle.frozen_trie.proofs.FrozenLemmas.Prefixes.{step_up}
 use Rattle.frozen_trie.proofs.FrozenLemmas.Queries.{as_many}
 use Rattle.frozen_trie.proofs.FrozenLemmas.Rows.{len_is}
 use Rattle.frozen_trie.proofs.frozen.FrozenTrie.step_up.Goals as goal
@@ -52,7 +53,7 @@ returns-clause-walk g c =
     let more : at + 1 ≡ suc at = omega arith in
     rw (← c.self.view_is) (ap (prefixes_up enc (map_of_pairs enc ps)) more
     ∙ step_up enc ps rises at r x inside
-    (found_at_index ps at x inside (c.entry_at.ensures ∙ ap (λ l. get_or l at x) c.deref.ensures.value))
+    (slice_get_read ps (length ps) at x refl inside (c.entry_at.ensures ∙ ap (λ l. get_or l at x) c.deref.ensures.value))
     (subst (λ ds. IsLastPrefix ds at (code_at ds at) r) c.self.invariant.keyed link))
 
 pub returns-clause-within : goal.returns-clause-within

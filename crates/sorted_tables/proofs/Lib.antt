@@ -1,0 +1,2 @@
+-- The lemmas, in the order in which they are read.
+pub mod TableLemmas

@@ -1,5 +1,5 @@
 -- Heads in blocks, each behind what the lists of its block share, and a tree of such blocks.
-use Rattle.std.specs.Prelude.{◌≡◌, ℕ, ◌+◌, ◌-◌, ◌*◌, ◌/◌, ◌^◌, ◌<◌, ◌≤◌, ◌⊎◌, List, Some, drop, length, slice_get, slice_index, take, Bool, true, false}
+use Rattle.std.specs.Prelude.{◌≡◌, ℕ, ◌+◌, ◌-◌, ◌*◌, ◌/◌, ◌^◌, ◌<◌, ◌≤◌, ◌⊎◌, List, Some, length, slice_get, slice_index, take, Bool, true, false}
 use Rattle.frozen_trie.specs.Codes.{code_at, is_in_front}
 use Rattle.frozen_trie.specs.Heads.{head_behind}
 use Rattle.frozen_trie.specs.declared.codes.blocks.Level.{Level}

@@ -10,9 +10,9 @@ mod index;
 mod levels;
 
 use crate::heads::{head_of, steps_of, tops_of};
+use crate::slices::part;
 pub(crate) use blocks::{Level, Sought};
 pub(crate) use index::Look;
-use crate::slices::part;
 use levels::{fill_heads, forget_levels};
 use radix_keys::{Memory, NibbleSlice};
 use std::alloc::Global;

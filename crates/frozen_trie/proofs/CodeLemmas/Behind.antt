@@ -12,7 +12,7 @@ use Rattle.nibble_map.specs.Nibbles.{nibbles}
 use Rattle.nibble_map.proofs.ListLemmas.Cut.{cons_head, cons_tail}
 use Rattle.radix_keys.specs.Packing.{IsPadded, unpacked}
 use Rattle.radix_keys.specs.Widths.{length-nibbles}
-use Rattle.frozen_trie.specs.Codes.{is_before, is_in_front, is_until}
+use Rattle.frozen_trie.specs.Codes.{is_before, is_in_front}
 
 -- the nibbles behind some bytes are those of the bytes behind
 nibbles-drop : (s : ℕ) (bs : List ℕ) → nibbles (drop s bs) ≡ drop (2 * s) (nibbles bs)

@@ -1,12 +1,11 @@
 -- Blocks of heads: on which side of a search their lists lie, and which lists share what a block skips.
-use Rattle.std.proofs.Common.{ltb, ◌≡◌, ℕ, suc, ◌+◌, ◌-◌, ◌*◌, ◌%◌, ◌<◌, ◌≤◌, inl, inr, Bool, true, false, List, length, take, drop, get_or, refl, sym, ap, subst, ◌∙◌, arith}
-use Rattle.std.proofs.Math.Nat.{mul-le-mul_left, mul-le-mul_right, suc-mul}
-use Rattle.std.proofs.lemmas.Bool.{cases_lt}
+use Rattle.std.proofs.Common.{◌≡◌, ℕ, suc, ◌+◌, ◌-◌, ◌*◌, ◌%◌, ◌<◌, ◌≤◌, Bool, true, false, List, length, take, drop, get_or, sym, ap, subst, ◌∙◌, arith}
+use Rattle.std.proofs.Math.Nat.{mul-le-mul_right, suc-mul}
 use Rattle.std.proofs.lemmas.List.{get_or-drop, length-drop}
 use Rattle.std.specs.Ordering.{nat_cmp}
 use Rattle.std.specs.declared.cmp.Ordering.TheVariants.{Less, Equal}
 use Rattle.nibble_map.specs.Lists.{IsBefore, IsRising}
-use Rattle.frozen_trie.specs.Blocks.{AreOfNibbles, IsBlock, IsSharedBy}
+use Rattle.frozen_trie.specs.Blocks.{IsBlock}
 use Rattle.frozen_trie.specs.Codes.{code_at, is_in_front, IsSide}
 use Rattle.frozen_trie.specs.Heads.{AreNibbles, bound_of, head_in}
 use Rattle.frozen_trie.proofs.CodeLemmas.Behind.{front_behind, same_behind}

@@ -1,12 +1,11 @@
 -- One level down: from a block of which each head stands for S lists to the S lists of one head.
-use Rattle.std.proofs.Common.{◌≡◌, ◌≢◌, ℕ, zero, suc, ◌+◌, ◌-◌, ◌*◌, ◌/◌, ◌^◌, ◌<◌, ◌≤◌, ◌⊎◌, inl, inr, Bool, true, false, List, length, take, drop, get_or, min, refl, sym, ap, subst, ◌∙◌, arith}
+use Rattle.std.proofs.Common.{◌≡◌, ℕ, zero, suc, ◌+◌, ◌-◌, ◌*◌, ◌/◌, ◌^◌, ◌<◌, ◌≤◌, inl, inr, Bool, true, false, List, length, take, drop, get_or, min, refl, sym, ap, subst, ◌∙◌, arith}
 use Rattle.std.proofs.Math.Nat.{mul-le-mul_left, mul-suc, mul_assoc, mul_comm}
 use Rattle.std.proofs.lemmas.Bool.{cases_eq, cases_lt}
-use Rattle.std.proofs.lemmas.List.{get_or-drop, get_or-take, length-drop, length-take, length-take-le, take-append-le, take_all}
+use Rattle.std.proofs.lemmas.List.{get_or-drop, get_or-take, length-drop, length-take, take-append-le, take_all}
 use Rattle.nibble_map.specs.Lists.{IsBefore, IsPrefix, IsRising}
 use Rattle.nibble_map.proofs.ListLemmas.Parted.{prefix_itself}
-use Rattle.radix_keys.proofs.KeyLemmas.Order.{three_ways}
-use Rattle.frozen_trie.specs.Blocks.{IsAround, IsBlock, IsEndOf, IsLevel, IsSharedBy, IsSkip}
+use Rattle.frozen_trie.specs.Blocks.{IsAround, IsBlock, IsEndOf, IsLevel, IsSharedBy}
 use Rattle.frozen_trie.specs.Codes.{code_at, is_in_front, IsCut}
 use Rattle.frozen_trie.specs.Heads.{head_behind}
 use Rattle.frozen_trie.proofs.CodeLemmas.Links.{prefix_is_taken}
@@ -90,9 +89,9 @@ module _ (t : Bool) (q : List ℕ) (cs : List (List ℕ)) (rises : IsRising cs) 
   pub skipped : (j : ℕ) → j < 16 → 16 * at + j < length hs → (2 * get_or ks at 0 ≤ length q) × (take (2 * get_or ks at 0) (code_at cs (S * (16 * at + j + 1) - 1)) ≡ take (2 * get_or ks at 0) q)
   skipped j few l = elim (cases_eq (get_or ks at 0) 0) [
     | inl none ↦ (
-        omega (arith, none),
-        (let z : 0 ≡ 2 * get_or ks at 0 = omega (arith, none) in subst (λ n. take n (code_at cs (S * (16 * at + j + 1) - 1)) ≡ take n q) z refl),
-      )
+      omega (arith, none),
+      (let z : 0 ≡ 2 * get_or ks at 0 = omega (arith, none) in subst (λ n. take n (code_at cs (S * (16 * at + j + 1) - 1)) ≡ take n q) z refl),
+    )
     | inr some ↦
         let n = 2 * get_or ks at 0 in
         let a = S * (16 * at) in
@@ -115,7 +114,7 @@ module _ (t : Bool) (q : List ℕ) (cs : List (List ℕ)) (rises : IsRising cs) 
         let up : a - 1 < here = omega (arith, first, more, step, level.apart) in
         let order : IsBefore x z = rising_at cs rises (a - 1) (b - 1) (omega (arith, up, most)) (omega (arith, last, most, up)) in
         let agree = shared_between n x z q order is.long is.same t (around.before (a - 1) (omega (arith, first, so_many)))
-            (around.after (b - 1) (omega (arith, so_many_more)) (omega (arith, last, most, up))) in
+        (around.after (b - 1) (omega (arith, so_many_more)) (omega (arith, last, most, up))) in
         let own : take n (code_at cs here) ≡ take n x = elim (cases_lt here (b - 1)) [
           | inl lt ↦ between_agrees n x (code_at cs here) z x is.long (rising_at cs rises (a - 1) here up (omega (arith, lt, last)))
               (rising_at cs rises here (b - 1) lt (omega (arith, last, most, up))) refl (sym is.same)
@@ -209,7 +208,7 @@ module _ (t : Bool) (q : List ℕ) (cs : List (List ℕ)) (rises : IsRising cs) 
               let e : 16 * at + 15 + 1 ≡ 16 * at + 16 = omega arith in
               let some : S * 1 ≤ S * (16 * at + 15 + 1) = mul-le-mul_left S (omega arith) in
               let there = around.after (S * (16 * at + 15 + 1) - 1) (omega (arith, so_many_more, ap (λ x. S * x) e))
-                  (omega (arith, place_within 15 (omega (arith, all)), some, level.apart)) in
+              (omega (arith, place_within 15 (omega (arith, all)), some, level.apart)) in
               absurd (let no : true ≡ false = sym here ∙ there in cc no)
         ]
       ]

@@ -1,13 +1,13 @@
 -- Levels in the making.
-use Rattle.std.proofs.Common.{◌≡◌, ℕ, suc, ◌+◌, ◌-◌, ◌*◌, ◌/◌, ◌^◌, ◌<◌, ◌≤◌, inl, inr, List, [], ◌∷◌, ◌++◌, Some, length, take, drop, get_or, set, refl, sym, ap, subst, ◌∙◌, arith}
-use Rattle.std.proofs.Math.Nat.{lt-mul-div-succ, mul-div-le, mul-le-mul_left, pow-suc}
+use Rattle.std.proofs.Common.{◌≡◌, ℕ, ◌+◌, ◌-◌, ◌*◌, ◌/◌, ◌^◌, ◌<◌, ◌≤◌, inl, inr, List, [], ◌∷◌, ◌++◌, Some, length, take, drop, get_or, set, refl, sym, ap, subst, ◌∙◌, arith}
+use Rattle.std.proofs.Math.Nat.{lt-mul-div-succ, mul-div-le}
 use Rattle.std.proofs.lemmas.Bool.{cases_lt}
 use Rattle.std.proofs.lemmas.List.{get_or-set_other, get_or-set_same, get_or_append_left, get_or_past, length-append}
 use Rattle.std.proofs.lemmas.Option.{get_or_from_slice_get, slice_get-get_or, slice_get_within}
 use Rattle.std.proofs.Math.Seq.{get_or-append_seam, take-append_seam}
 use Rattle.std.specs.List.{slice_get}
 use Rattle.radix_keys.proofs.KeyLemmas.Order.{three_ways}
-use Rattle.frozen_trie.specs.Blocks.{AreHeads, AreLevels, AreOfNibbles, AreSkips, IsLevel, IsSkip}
+use Rattle.frozen_trie.specs.Blocks.{AreHeads, AreOfNibbles, AreSkips, IsLevel, IsSkip}
 use Rattle.frozen_trie.specs.Codes.{code_at}
 use Rattle.frozen_trie.specs.Heads.{head_behind}
 use Rattle.frozen_trie.specs.Packed.{AreHeaded}
@@ -99,17 +99,17 @@ level_more cs hs c h kept e low =
     ])
     (omega (arith, many, length-append cs (c ∷ []), length-append hs (h ∷ [])))
     (λ i l.
-      let back : 1 * (i + 1) - 1 ≡ i = omega arith in
-      let forth : i ≡ 1 * (i + 1) - 1 = omega arith in
-      elim (three_ways i (length hs)) [
-        | inl lt ↦ get_or_append_left hs (h ∷ []) 0 i lt ∙ kept.heads i lt
-            ∙ ap (head_behind 0) (ap (code_at cs) back ∙ sym (get_or_append_left cs (c ∷ []) [] i (omega (arith, lt, many))) ∙ ap (code_at (cs ++ c ∷ [])) forth)
-        | inr (inl s) ↦
-            let at : i ≡ length cs = omega (arith, s, many) in
-            ap (λ j. get_or (hs ++ h ∷ []) j 0) s ∙ get_or-append_seam hs h [] 0 ∙ e
-            ∙ ap (head_behind 0) (sym (get_or-append_seam cs c [] []) ∙ ap (code_at (cs ++ c ∷ [])) (sym at ∙ forth))
-        | inr (inr g) ↦ absurd (omega (arith, l, g, length-append hs (h ∷ [])))
-      ])
+    let back : 1 * (i + 1) - 1 ≡ i = omega arith in
+    let forth : i ≡ 1 * (i + 1) - 1 = omega arith in
+    elim (three_ways i (length hs)) [
+      | inl lt ↦ get_or_append_left hs (h ∷ []) 0 i lt ∙ kept.heads i lt
+          ∙ ap (head_behind 0) (ap (code_at cs) back ∙ sym (get_or_append_left cs (c ∷ []) [] i (omega (arith, lt, many))) ∙ ap (code_at (cs ++ c ∷ [])) forth)
+      | inr (inl s) ↦
+          let at : i ≡ length cs = omega (arith, s, many) in
+          ap (λ j. get_or (hs ++ h ∷ []) j 0) s ∙ get_or-append_seam hs h [] 0 ∙ e
+          ∙ ap (head_behind 0) (sym (get_or-append_seam cs c [] []) ∙ ap (code_at (cs ++ c ∷ [])) (sym at ∙ forth))
+      | inr (inr g) ↦ absurd (omega (arith, l, g, length-append hs (h ∷ [])))
+    ])
     (λ k. no_skip (cs ++ c ∷ []) _ _ _ refl)
 
 -- plain heads are heads

@@ -19,7 +19,12 @@ impl Codes {
         ensures some { IsTrue result → 16 ≤ length self.now }
     {
         let others = self.heads.iter().skip(1);
-        let alike = self.heads.iter().zip(others).filter(|(a, b)| a == b).count();
+        let alike = self
+            .heads
+            .iter()
+            .zip(others)
+            .filter(|(a, b)| a == b)
+            .count();
         (BLOCK..=u32::MAX as usize).contains(&self.len()) && alike > self.len() / 2
     }
 
@@ -93,13 +98,7 @@ impl Codes {
 }
 
 /// Sets heads to those of the last of each so many lists, each behind what its block skips.
-pub(super) fn fill_heads(
-    bytes: &[u8],
-    ends: &[u32],
-    heads: &mut [u64],
-    skips: &[u32],
-    step: usize,
-)
+pub(super) fn fill_heads(bytes: &[u8], ends: &[u32], heads: &mut [u64], skips: &[u32], step: usize)
     requires laid { IsLaid bytes.now 0 (halves ends.now) (odds ends.now) }
     requires some { 0 < step }
     requires within { step * length heads.old ≤ length ends.now }

@@ -1,4 +1,4 @@
-use Rattle.std.proofs.Common.{◌≡◌, ◌+◌, ◌*◌, ◌^◌, ◌<◌, ◌≤◌, length, sym, ap, subst, ◌∙◌, arith}
+use Rattle.std.proofs.Common.{◌≡◌, ◌+◌, ◌^◌, ◌<◌, length, sym, ap, subst, ◌∙◌, arith}
 use Rattle.frozen_trie.specs.Blocks.{AreHeads, AreLevels, AreSkips}
 use Rattle.frozen_trie.specs.Laid.{codes_in, halves, odds}
 use Rattle.frozen_trie.specs.Packed.{AreHeaded}
@@ -33,10 +33,10 @@ invariant_of-self c =
             (subst (λ xs. AreHeads cs 1 hs xs (length hs)) c.deref-3.ensures.value (subst (λ xs. AreHeads xs 1 hs c.deref-3.result.now (length hs)) is c.fill_heads.ensures.heads))
             (subst (λ xs. AreSkips xs 1 ks) (sym c.self.view_is) c.in_ok-skips.ensures);
         plain = λ none. absurd (
-          let few = subst (λ n. length cs < 16 ^ (n + 1)) none levels.few in
-          let some = c.requires.some in
-          omega (arith, few, some, ap length c.self.view_is)
-        );
+            let few = subst (λ n. length cs < 16 ^ (n + 1)) none levels.few in
+            let some = c.requires.some in
+            omega (arith, few, some, ap length c.self.view_is)
+            );
         levels = λ _. levels;
       });
       stepped = no_steps _ _ c.clear.ensures.items;

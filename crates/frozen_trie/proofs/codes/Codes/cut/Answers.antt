@@ -1,4 +1,4 @@
-use Rattle.std.proofs.Common.{◌≡◌, ◌↔◌, ◌+◌, ◌-◌, ◌*◌, ◌<◌, ◌≤◌, ℕ, inl, inr, Bool, true, false, [], length, refl, sym, ap, subst, ◌∙◌, arith}
+use Rattle.std.proofs.Common.{◌≡◌, ◌+◌, ◌-◌, ◌*◌, ◌<◌, inl, inr, Bool, true, false, [], length, refl, sym, ap, subst, ◌∙◌, arith}
 use Rattle.std.proofs.lemmas.Bool.{cases_eq, eq-eqb, eqb-true}
 use Rattle.frozen_trie.specs.Blocks.{AreLevels, IsLevel}
 use Rattle.frozen_trie.specs.Codes.{code_at}
@@ -57,13 +57,13 @@ returns-clause-cut c = cut_of_around c.args.is_through c.args.list.now c.args.se
 
 pub returns-clause-found : goal.returns-clause-found
 returns-clause-found c = λ plain. (
-    λ h.
+  λ h.
       let end = (c.descend.ensures.found h).1 in
       let back : 1 * (c.descend.result.0 + 1) - 1 ≡ c.descend.result.0 = omega arith in
       let within = end.within in
       (omega (arith, within), ap (code_at c.args.self.now) (sym back) ∙ end.same),
-    λ h. by c.descend.result.1 refl plain h,
-  )
+  λ h. by c.descend.result.1 refl plain h,
+)
   where
     by : (b : Bool) → c.descend.result.1 ≡ b → c.args.is_through ≡ false
         → (c.descend.result.0 < length c.args.self.now) × (code_at c.args.self.now c.descend.result.0 ≡ c.args.list.now) → c.descend.result.1 ≡ true

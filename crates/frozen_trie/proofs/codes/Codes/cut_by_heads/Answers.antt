@@ -1,6 +1,5 @@
-use Rattle.std.proofs.Common.{◌≡◌, ◌+◌, ◌-◌, ◌*◌, ◌<◌, ◌≤◌, ℕ, length, get_or, take, drop, sym, ap, subst, ◌∙◌, arith}
+use Rattle.std.proofs.Common.{length, sym, ap, subst, arith}
 use Rattle.frozen_trie.specs.Blocks.{IsBlock}
-use Rattle.frozen_trie.specs.Heads.{bound_of}
 use Rattle.frozen_trie.proofs.CodeLemmas.Plain.{plain_apart, plain_block, plain_cut, plain_rise, plain_shared}
 use Rattle.frozen_trie.proofs.codes.Codes.cut_by_heads.Goals as goal
 
@@ -22,7 +21,7 @@ returns-clause-cut c =
     let head = c.head_of-head.ensures.head in
     let got = c.count_in-count.ensures in
     plain_cut c.args.self.now c.args.heads.now c.requires.heads c.span-from.result.0 c.span-from.result.1 c.span-from.ensures.order c.span-from.ensures.within
-    c.args.sought.is_through c.args.sought.list.now c.head_of-head.ensures.nibbles
+    c.args.sought.is_through c.args.sought.list.now (λ k _. c.head_of-head.ensures.nibbles k)
     (λ k l. omega (arith, c.span-from.ensures.below k l, head)) (λ k l m. omega (arith, c.span-from.ensures.above k l m, head))
     c.count_in-count.result.0 (omega (arith, got.within, same)) got.before (λ i l m. got.after i l (omega (arith, m, same)))
 
@@ -32,6 +31,6 @@ returns-clause-apart c = λ h plain.
     let head = c.head_of-head.ensures.head in
     let got = c.count_in-count.ensures in
     plain_apart c.args.self.now c.args.heads.now c.requires.heads c.span-from.result.0 c.span-from.result.1 c.span-from.ensures.order c.span-from.ensures.within
-    c.args.sought.is_through c.args.sought.list.now c.head_of-head.ensures.nibbles
+    c.args.sought.is_through c.args.sought.list.now (λ k _. c.head_of-head.ensures.nibbles k)
     (λ k l. omega (arith, c.span-from.ensures.below k l, head)) (λ k l m. omega (arith, c.span-from.ensures.above k l m, head))
     c.count_in-count.result.0 (omega (arith, got.within, same)) plain (λ l. got.apart h plain (omega (arith, l, same)))

@@ -1,6 +1,5 @@
-use Rattle.std.proofs.Common.{◌≡◌, ◌+◌, ◌-◌, ◌*◌, ◌<◌, ◌≤◌, Bool, true, false, length, take, drop, get_or, sym, ap, subst, ◌∙◌, arith}
+use Rattle.std.proofs.Common.{◌+◌, ◌-◌, ◌*◌, length, take, drop, sym, ap, subst, arith}
 use Rattle.frozen_trie.specs.Blocks.{IsBlock, IsSharedBy}
-use Rattle.frozen_trie.specs.Codes.{code_at, is_in_front}
 use Rattle.frozen_trie.proofs.CodeLemmas.Levels.{around_of, block_of, block_within, end_of, of_end, shared_by_block}
 use Rattle.frozen_trie.proofs.codes.Codes.descend.Goals as goal
 
@@ -37,7 +36,7 @@ returns-clause-found c = λ h.
     let got = c.count_in-count.ensures.found h in (
       got.0,
       end_of c.args.sought.is_through c.args.sought.list.now c.args.self.now c.requires.rising c.args.level.0 c.args.level.1.now c.args.level.2.now c.requires.level c.args.at c.requires.around c.min-to.result c.requires.counted c.min-to.ensures
-      c.count_in-count.result.0 (omega (arith, got.1, same)) got.2,
+          c.count_in-count.result.0 (omega (arith, got.1, same)) got.2,
     )
 
 pub returns-clause-apart : goal.returns-clause-apart

@@ -1,6 +1,6 @@
-use Rattle.std.proofs.Common.{◌≡◌, ◌+◌, ◌*◌, ◌/◌, ◌≤◌, List, ℕ, length, sym, ap, subst, ◌∙◌, arith}
+use Rattle.std.proofs.Common.{◌≡◌, ◌*◌, ◌/◌, ◌≤◌, length, sym, ap, subst, ◌∙◌, arith}
 use Rattle.std.proofs.Math.Nat.{mul-div-le}
-use Rattle.frozen_trie.specs.Blocks.{AreHeads, AreSkips, IsLevel}
+use Rattle.frozen_trie.specs.Blocks.{AreHeads, IsLevel}
 use Rattle.frozen_trie.specs.Laid.{codes_in, halves, odds}
 use Rattle.frozen_trie.specs.Packed.{AreHeaded}
 use Rattle.frozen_trie.proofs.CodeLemmas.Making.{all_written, level_of_parts}

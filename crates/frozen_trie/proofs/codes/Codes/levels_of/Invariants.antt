@@ -1,4 +1,4 @@
-use Rattle.std.proofs.Common.{◌≡◌, ◌+◌, ◌-◌, ◌^◌, ◌<◌, ◌≤◌, length}
+use Rattle.std.proofs.Common.{◌≡◌, ◌+◌, ◌-◌, ◌^◌, ◌<◌, length}
 use Rattle.frozen_trie.proofs.CodeLemmas.Making.{AreEachLevels}
 use Rattle.frozen_trie.proofs.codes.Codes.levels_of.Given as goal
 

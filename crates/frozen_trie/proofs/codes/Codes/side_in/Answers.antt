@@ -1,8 +1,7 @@
-use Rattle.std.proofs.Common.{◌≡◌, ◌+◌, ◌*◌, ◌%◌, ◌<◌, ◌≤◌, drop, get_or, true, sym, ap, subst, ◌∙◌, arith}
+use Rattle.std.proofs.Common.{◌≡◌, ◌+◌, ◌*◌, ◌%◌, ◌<◌, ◌≤◌, drop, get_or, sym, subst, ◌∙◌, arith}
 use Rattle.frozen_trie.specs.Codes.{code_at, IsSide}
 use Rattle.frozen_trie.specs.Heads.{bound_of, head_in}
 use Rattle.frozen_trie.proofs.CodeLemmas.Blocks.{nibbles_behind, side_behind, side_of_few, side_of_told}
-use Rattle.frozen_trie.proofs.CodeLemmas.Parts.{stands_at}
 use Rattle.frozen_trie.proofs.codes.Codes.side_in.Goals as goal
 
 pub returns-then-own-head-clause-side : goal.returns-then-own-head-clause-side

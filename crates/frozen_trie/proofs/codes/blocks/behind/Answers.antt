@@ -1,9 +1,9 @@
-use Rattle.std.proofs.Common.{◌≡◌, ◌-◌, ◌*◌, length, drop, take, sym, ap, ◌∙◌, arith}
+use Rattle.std.proofs.Common.{◌-◌, ◌*◌, length, drop, sym, ap, ◌∙◌, arith}
 use Rattle.std.proofs.Math.ListN.{drop_of_length-le}
 use Rattle.std.proofs.lemmas.List.{length-drop, take_all}
 use Rattle.radix_keys.specs.Packing.{unpacked}
 use Rattle.radix_keys.proofs.NibbleLemmas.Slices.{byte_count}
-use Rattle.frozen_trie.proofs.CodeLemmas.Behind.{padded-drop, unpacked-drop}
+use Rattle.frozen_trie.proofs.CodeLemmas.Behind.{unpacked-drop}
 use Rattle.frozen_trie.proofs.codes.blocks.behind.Goals as goal
 
 pub returns-then-skip-bytes : goal.returns-then-skip-bytes

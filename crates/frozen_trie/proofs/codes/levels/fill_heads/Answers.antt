@@ -1,6 +1,5 @@
-use Rattle.std.proofs.Common.{◌≡◌, ◌+◌, ◌-◌, ◌*◌, ◌/◌, length, drop, sym, ap, ◌∙◌, arith}
+use Rattle.std.proofs.Common.{◌*◌, drop, ap, ◌∙◌, arith}
 use Rattle.std.proofs.lemmas.List.{length-set}
-use Rattle.frozen_trie.specs.Codes.{code_at}
 use Rattle.frozen_trie.specs.Heads.{head_behind, head_in}
 use Rattle.frozen_trie.specs.Laid.{codes_in, halves, odds}
 use Rattle.frozen_trie.proofs.CodeLemmas.Making.{heads_more}

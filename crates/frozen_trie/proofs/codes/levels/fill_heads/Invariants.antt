@@ -1,4 +1,4 @@
-use Rattle.std.proofs.Common.{◌≡◌, ◌*◌, ◌≤◌, length}
+use Rattle.std.proofs.Common.{◌≡◌, length}
 use Rattle.frozen_trie.specs.Blocks.{AreHeads}
 use Rattle.frozen_trie.specs.Laid.{codes_in, halves, odds}
 use Rattle.frozen_trie.proofs.codes.levels.fill_heads.Given as goal

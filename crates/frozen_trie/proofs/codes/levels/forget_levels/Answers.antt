@@ -1,4 +1,4 @@
-use Rattle.std.proofs.Common.{◌≡◌, ◌*◌, ◌≤◌, [], length, refl, sym, subst, ◌∙◌, arith}
+use Rattle.std.proofs.Common.{[], refl, sym, subst, ◌∙◌, arith}
 use Rattle.std.proofs.lemmas.Bool.{eqb-true}
 use Rattle.frozen_trie.specs.Blocks.{IsLevel}
 use Rattle.frozen_trie.specs.Laid.{codes_in, halves, odds}

@@ -19,7 +19,7 @@ use std::alloc::Global;
 use std::cmp::Ordering;
 use std::marker::Model;
 
-/// How many lists are many enough for copies of heads, and a table of 65537 counts.
+/// How many lists are many enough for an index, and for levels or else copies of heads and a table of 65537 counts.
 const MANY: usize = 65536;
 
 /// How many bytes all lists have at most: twice as many and one more are a number of 32 bits.
@@ -175,11 +175,11 @@ impl Codes {
         self.descend((1, heads, &self.skips), at, sought)
     }
 
-    /// Takes no more room than the lists need, and makes a table that shortens searches where they are many.
+    /// Takes no more room than the lists need, and makes what shortens searches where they are many.
     ///
     /// # Errors
     ///
-    /// Memory for the table is refused.
+    /// Memory for it is refused.
     pub(crate) fn finish(&mut self, alloc: Global) -> Result<(), Memory>
         requires { IsRising self.old }
         ensures same { self.new ≡ self.old }

@@ -25,12 +25,14 @@ impl<K: TrieKey, V> FrozenTrie<K, V> {
     }
 
     /// Takes no more room than the pairs need, and makes tables that shorten searches where there are 2^16 pairs or more. A
-    /// pair that is appended later drops the tables.
+    /// pair that is appended later drops the tables, in linear time where encodings are alike: where most of them begin with
+    /// the same 15 nibbles as the one before.
     ///
     /// # Errors
     ///
-    /// Memory for the tables is refused: some 2^18 bytes and half a byte a pair, and 5 bytes a pair more
-    /// where encodings take more than 4 bytes on average. Each call returns the same without them.
+    /// Memory for the tables is refused: some 2^18 bytes and half a byte a pair, or a byte a pair where encodings are
+    /// alike; and 5 bytes a pair more where encodings take more than 4 bytes on average. Each call returns the same
+    /// without them.
     pub fn finish(&mut self) -> Result<(), Memory>
         ensures same { self.new ≡ self.old }
         ensures few { map.len self.old < 2 ^ 16 → IsOk result }

@@ -10,6 +10,7 @@ pub mod Sides
 pub mod Behind
 pub mod Blocks
 pub mod Levels
+pub mod Narrowing
 pub mod Plain
 pub mod Making
 pub mod Slots

@@ -128,15 +128,16 @@ impl Codes {
     /// On which side of a search the list at an index lies: Less where it comes before the searched one, or also where it begins
     /// with it and the search is one through it; Equal, of a search that isn't, where it is the searched one; and Greater
     /// otherwise. And how many nibbles the two agree in. So many as are known to agree aren't read.
-    pub(crate) fn side(&self, at: usize, sought: Sought<'_>, known: usize) -> (Ordering, usize)
+    pub(crate) fn side(&self, at: usize, sought: &Sought<'_>, known: usize) -> (Ordering, usize)
         requires within { at < length self.now }
-        requires known { take known (code_at self.now at) ≡ take known sought.list.now }
-        requires inside { known ≤ length sought.list.now }
-        ensures side { IsSide sought.entry.is_through sought.entry.list.now (code_at self.now at) result.0 }
-        ensures same { take result.1 (code_at self.now at) ≡ take result.1 sought.entry.list.now }
-        ensures inside { result.1 ≤ length sought.entry.list.now }
+        requires known { take known (code_at self.now at) ≡ take known sought.now.list.now }
+        requires inside { known ≤ length sought.now.list.now }
+        ensures side { IsSide sought.now.is_through sought.now.list.now (code_at self.now at)
+            result.0 }
+        ensures same { take result.1 (code_at self.now at) ≡ take result.1 sought.now.list.now }
+        ensures inside { result.1 ≤ length sought.now.list.now }
     {
-        let Sought { list, is_through } = sought;
+        let (list, is_through) = (sought.list, sought.is_through);
         let code = self.piece(at);
         let same = code.agreement(list, known);
         if list.len() <= same {
@@ -163,7 +164,7 @@ impl Codes {
             ↔ ((result.0 < length self.now) × (code_at self.now result.0 ≡ list.now)) }
         ensures counted { IsTrue result.1 → result.0 + 1 < 2 ^ 64 }
     {
-        let sought = Sought { list, is_through };
+        let sought = &Sought { list, is_through };
         let heads = self.heads.as_slice();
         if self.levels.is_empty() {
             return self.cut_by_heads(heads, &self.steps, &self.tops, sought);
@@ -172,7 +173,7 @@ impl Codes {
         if is_found {
             return (at, true);
         }
-        self.descend((1, heads, &self.skips), at, sought)
+        self.descend((1, heads, &self.skips), &[], at, sought)
     }
 
     /// Takes no more room than the lists need, and makes what shortens searches where they are many.
@@ -203,7 +204,7 @@ impl Codes {
     fn add_slots(&mut self, alloc: Global) -> Result<(), Memory>
         ensures same { self.new ≡ self.old }
     {
-        if self.is_for_slots() {
+        if self.slots.is_empty() && self.is_for_slots() {
             let (slots, tags) = self.slots_of(alloc)?;
             self.slots = slots;
             self.tags = tags;
@@ -211,7 +212,7 @@ impl Codes {
         Ok(())
     }
 
-    /// Makes levels, or else tables of all heads, unless there are levels.
+    /// Makes levels, or else tables of all heads, unless there are such.
     ///
     /// # Errors
     ///
@@ -220,7 +221,7 @@ impl Codes {
         requires { IsRising self.old }
         ensures same { self.new ≡ self.old }
     {
-        if !self.levels.is_empty() {
+        if !self.levels.is_empty() || !self.tops.is_empty() {
             return Ok(());
         }
         if self.is_for_levels() {
@@ -243,7 +244,7 @@ impl Codes {
     {
         let levels = self.levels_of(alloc)?;
         let skips = self.skips_of(alloc, 1)?;
-        fill_heads(&self.bytes, &self.ends, &mut self.heads, &skips, 1);
+        fill_heads(&self.bytes, &self.ends, &mut self.heads, &skips, 1, 0);
         self.skips = skips;
         self.levels = levels;
         self.steps.clear();

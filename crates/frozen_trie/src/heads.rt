@@ -7,87 +7,59 @@ ghost use Rattle.frozen_trie.specs.Heads.{AreNibbles, AreSteps, AreTops, bound_o
 use radix_keys::{Memory, NibbleSlice};
 use std::alloc::Global;
 
-/// The head of a list: its first 15 nibbles, and how many of these it has. Where the search is one through the list, 15 stands
+/// The head of a list: its first 15 nibbles, and how many it has of these. Where the search is one through the list, 15 stands
 /// for each nibble that it lacks, and for their count.
 pub(crate) fn head_of(list: &NibbleSlice<'_>, is_through: bool) -> u64
     ensures head { result ≡ bound_of is_through list.now }
     ensures nibbles { (k : ℕ) → slice_index list.now k < 16 }
 {
-    if 14 < list.len() {
-        long_head(list)
+    let head = padded_head(list);
+    let len = list.len();
+    if 14 < len {
+        head / 16 * 16 + 15
+    } else if is_through {
+        head + (u64::MAX >> (4 * len))
     } else {
-        short_head(list, is_through)
+        head + len as u64
     }
 }
 
-/// The head of a list of 15 nibbles or more.
-fn long_head(list: &NibbleSlice<'_>) -> u64
-    requires { 15 ≤ length list.now }
-    ensures head { result ≡ head_padded 0 15 list.now * 16 + 15 }
+/// The first 16 nibbles of a list as a number, with a zero for each that it lacks.
+fn padded_head(list: &NibbleSlice<'_>) -> u64
+    ensures head { result ≡ head_padded 0 16 list.now }
     ensures nibbles { (k : ℕ) → slice_index list.now k < 16 }
 {
     let (bytes, _) = list.as_packed();
-    first_word(bytes) / 16 * 16 + 15
+    first_word(bytes)
 }
 
-/// The first eight bytes as a number, the first the highest.
+/// The first eight bytes as a number, the first the highest, with a zero for each that is lacking.
 fn first_word(bytes: &[u8]) -> u64
-    requires { 8 ≤ length bytes.now }
     ensures word { result ≡ from_be_bytes w64 bytes.now }
     ensures bytes { (i : ℕ) → slice_index bytes.now i < 256 }
 {
+    if bytes.len() < 8 {
+        return u64::from_be_bytes([
+            byte_or_zero(bytes, 0),
+            byte_or_zero(bytes, 1),
+            byte_or_zero(bytes, 2),
+            byte_or_zero(bytes, 3),
+            byte_or_zero(bytes, 4),
+            byte_or_zero(bytes, 5),
+            byte_or_zero(bytes, 6),
+            0,
+        ]);
+    }
     u64::from_be_bytes([
         bytes[0], bytes[1], bytes[2], bytes[3], bytes[4], bytes[5], bytes[6], bytes[7],
     ])
 }
 
-/// The head of a list of at most 14 nibbles.
-fn short_head(list: &NibbleSlice<'_>, is_through: bool) -> u64
-    requires { length list.now ≤ 14 }
-    ensures head { result ≡ bound_of is_through list.now }
-    ensures nibbles { AreNibbles 15 list.now }
+/// The byte at an index, and zero past the end.
+fn byte_or_zero(bytes: &[u8], i: usize) -> u8
+    ensures { result ≡ slice_index bytes.now i }
 {
-    if is_through {
-        padded_head(list, 15)
-    } else {
-        padded_head(list, 0) + list.len() as u64
-    }
-}
-
-/// The first 16 nibbles of a list as a number, with `rest` for each that it lacks.
-fn padded_head(list: &NibbleSlice<'_>, rest: u64) -> u64
-    requires { rest < 16 }
-    ensures head { result ≡ head_padded rest 16 list.now }
-    ensures nibbles { AreNibbles 15 list.now }
-{
-    let mut head = 0;
-    for i in 0..8 {
-        let two = two_or(list, i, rest);
-        head = head * 256 + two;
-    }
-    head
-}
-
-/// Two nibbles as a number, those of the byte at an index, with `rest` for each that the list lacks.
-fn two_or(list: &NibbleSlice<'_>, i: usize, rest: u64) -> u64
-    requires low { rest < 16 }
-    requires early { i < 8 }
-    ensures value { result ≡ slice_index_or list.now (2 * i) rest * 16
-        + slice_index_or list.now (2 * i + 1) rest }
-    ensures byte { result < 256 }
-    ensures first { slice_index list.now (2 * i) < 16 }
-    ensures second { slice_index list.now (2 * i + 1) < 16 }
-{
-    let (bytes, is_odd) = list.as_packed();
-    if i >= bytes.len() {
-        return rest * 17;
-    }
-    let two = u64::from(bytes[i]);
-    if is_odd && i + 1 == bytes.len() {
-        two + rest
-    } else {
-        two
-    }
+    if i < bytes.len() { bytes[i] } else { 0 }
 }
 
 /// How far apart numbers are that are copied, so that the first steps of a search touch few places in memory.
@@ -108,21 +80,7 @@ pub(crate) fn span(numbers: &[u64], steps: &[u64], tops: &[u32], bound: u64) -> 
     ensures above { (k : ℕ) → result.1 ≤ k → k < length numbers.now
         → bound < slice_index numbers.now k }
 {
-    let (from, to) = top_span(numbers, tops, bound);
-    let (mut lo, mut hi) = step_span(numbers, steps, (from, to), bound);
-    while lo < hi {
-        let mid = lo + (hi - lo) / 2;
-        let number = numbers[mid];
-        if number == bound {
-            return (lo, hi);
-        }
-        if number < bound {
-            lo = mid + 1;
-        } else {
-            hi = mid;
-        }
-    }
-    (lo, hi)
+    step_span(numbers, steps, top_span(numbers, tops, bound), bound)
 }
 
 /// Nearer bounds, by the copies of each sixteenth number.
@@ -215,7 +173,7 @@ pub(crate) fn tops_of(alloc: Global, numbers: &[u64]) -> Result<Vec<u32>, Memory
 }
 
 /// How many of some numbers that don't fall are below a bound.
-fn count_below(numbers: &[u64], bound: u64) -> usize
+pub(crate) fn count_below(numbers: &[u64], bound: u64) -> usize
     requires { IsNonDecreasing numbers.now }
     ensures within { result ≤ length numbers.now }
     ensures below { (k : ℕ) → k < result → slice_index numbers.now k < bound }
@@ -223,4 +181,15 @@ fn count_below(numbers: &[u64], bound: u64) -> usize
         → bound ≤ slice_index numbers.now k }
 {
     numbers.partition_point(|number| *number < bound)
+}
+
+/// How many of some numbers that don't fall are at most a bound.
+pub(crate) fn count_up_to(numbers: &[u64], bound: u64) -> usize
+    requires { IsNonDecreasing numbers.now }
+    ensures within { result ≤ length numbers.now }
+    ensures below { (k : ℕ) → k < result → slice_index numbers.now k ≤ bound }
+    ensures others { (k : ℕ) → result ≤ k → k < length numbers.now
+        → bound < slice_index numbers.now k }
+{
+    numbers.partition_point(|number| *number <= bound)
 }

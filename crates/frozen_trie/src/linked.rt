@@ -21,7 +21,7 @@ pub(crate) fn follows(codes: &Codes, list: &NibbleSlice<'_>) -> bool
         list,
         is_through: false,
     };
-    let (side, _) = codes.side(count - 1, sought, 0);
+    let (side, _) = codes.side(count - 1, &sought, 0);
     side.is_lt()
 }
 

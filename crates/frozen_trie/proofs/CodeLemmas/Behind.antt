@@ -42,7 +42,7 @@ padded-drop bs true s l p =
     )
 
 -- the order behind what two lists share is theirs
-before_behind : (n : ℕ) (c q : List ℕ) → take n c ≡ take n q → n ≤ length q → is_before (drop n c) (drop n q) ≡ is_before c q
+pub before_behind : (n : ℕ) (c q : List ℕ) → take n c ≡ take n q → n ≤ length q → is_before (drop n c) (drop n q) ≡ is_before c q
 before_behind zero c q e l = refl
 before_behind (suc n) c [] e l = absurd (omega (arith, l))
 before_behind (suc n) [] (b ∷ q) e l = cc e

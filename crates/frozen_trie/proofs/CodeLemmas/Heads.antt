@@ -1,7 +1,8 @@
 -- The first nibbles of a list as a number: how it is made, and which order it tells.
-use Rattle.std.proofs.Common.{ltb, ◌≡◌, ℕ, zero, suc, ◌+◌, ◌-◌, ◌*◌, ◌%◌, ◌^◌, ◌<◌, ◌≤◌, inl, inr, Bool, true, false, List, [], ◌∷◌, ◌++◌, length, min, get_or, refl, sym, ap, subst, ◌∙◌, arith}
-use Rattle.std.proofs.Math.Nat.{mul-le-mul_right, mul_assoc, pow-suc, pow-succ', suc-mul}
+use Rattle.std.proofs.Common.{ltb, ◌≡◌, ℕ, zero, suc, ◌+◌, ◌-◌, ◌*◌, ◌/◌, ◌%◌, ◌^◌, ◌<◌, ◌≤◌, inl, inr, Bool, true, false, List, [], ◌∷◌, ◌++◌, length, min, take, get_or, refl, sym, ap, subst, ◌∙◌, pow_pos, pow-add, arith}
+use Rattle.std.proofs.Math.Nat.{div-eq_of_lt-le, mul-le-mul_right, mul_assoc, mul_comm, pow-suc, pow-succ', suc-mul}
 use Rattle.std.proofs.lemmas.Bool.{cases_lt, le-ltb, lt-ltb}
+use Rattle.std.proofs.lemmas.List.{get_or_past, take_all}
 use Rattle.radix_keys.proofs.KeyLemmas.Order.{three_ways}
 use Rattle.nibble_map.specs.Lists.{IsBefore, IsPrefix, IsRising}
 use Rattle.nibble_map.proofs.ListLemmas.Cut.{cons_head, cons_same, cons_tail}
@@ -36,15 +37,6 @@ head-lt d (suc n) (a ∷ c) low h =
     let first : suc a ≤ 16 = (let here : a < 16 = h 0 (omega arith) in omega (arith, here)) in
     let m : suc a * 16 ^ n ≤ 16 * 16 ^ n = mul-le-mul_right (16 ^ n) first in
     rw (pow-succ' 16 n) (omega (arith, m, suc-mul a (16 ^ n), rest))
-
--- a power of 16 is no greater than a later one
-pow-16-le : (n d : ℕ) → 16 ^ n ≤ 16 ^ (n + d)
-pow-16-le n zero = let e : n + 0 ≡ n = omega arith in subst (λ k. 16 ^ n ≤ 16 ^ k) (sym e) (omega arith)
-pow-16-le n (suc d) =
-    let e : n + suc d ≡ suc (n + d) = omega arith in
-    let more = pow-succ' 16 (n + d) in
-    let le = pow-16-le n d in
-    subst (λ k. 16 ^ n ≤ 16 ^ k) (sym e) (omega (arith, more, le))
 
 -- a head of no nibble is zero
 pub head-none : (d : ℕ) (c : List ℕ) → 0 ≡ head_padded d 0 c
@@ -114,23 +106,6 @@ head-more d (suc n) (a ∷ c) =
 pub head-two : (d n : ℕ) (c : List ℕ) → head_padded d (suc (suc n)) c ≡ head_padded d n c * 256 + (get_or c n d * 16 + get_or c (suc n) d)
 head-two d n c = omega (arith, head-more d n c, head-more d (suc n) c)
 
--- there is room for a byte more behind a head of at most 14
-pub head-fits : (d n : ℕ) (c : List ℕ) → d < 16 → n ≤ 14 → AreNibbles n c → head_padded d n c * 256 + 255 < 2 ^ 64
-head-fits d n c low l h =
-    let most : 16 ^ 14 ≡ 72057594037927936 = refl in
-    let whole : n + (14 - n) ≡ 14 = omega (arith, l) in
-    let le : 16 ^ n ≤ 16 ^ 14 = subst (λ k. 16 ^ n ≤ 16 ^ k) whole (pow-16-le n (14 - n)) in
-    let lt = head-lt d n c low h in
-    omega (arith, most, le, lt)
-
--- one nibble more is one
-pub nibbles_more : (n : ℕ) (c : List ℕ) → AreNibbles n c → get_or c n 0 < 16 → AreNibbles (suc n) c
-nibbles_more n c h l = λ k m. elim (three_ways k n) [
-  | inl lt ↦ h k lt
-  | inr (inl e) ↦ (let same = ap (λ j. get_or c j 0) e in omega (arith, same, l))
-  | inr (inr g) ↦ absurd (omega (arith, m, g))
-]
-
 -- of two lists with the same first nibbles the one that comes before has no more of them
 marks_rise : (n : ℕ) (c d : List ℕ) → AreNibbles n c → IsBefore c d → head_padded 0 n c ≡ head_padded 0 n d → min (length c) n ≤ min (length d) n
 unfolding head_padded
@@ -155,26 +130,30 @@ head_rises c d h b =
       | inr other ↦ (let marks = marks_rise 15 c d h b (omega (arith, le, other)) in omega (arith, le, other, marks))
     ]
 
--- as many nibbles that make the same number are the same
-same_nibbles : (n : ℕ) (c d : List ℕ) → AreNibbles n c → AreNibbles n d → length c ≤ n → length d ≡ length c → head_padded 0 n c ≡ head_padded 0 n d → c ≡ d
+-- of two lists that have as many of the first n nibbles these are the same where they make the same number
+same_first : (n : ℕ) (c d : List ℕ) → AreNibbles n c → AreNibbles n d → min (length c) n ≡ min (length d) n → head_padded 0 n c ≡ head_padded 0 n d → take n c ≡ take n d
 unfolding head_padded
-same_nibbles n [] [] h k l m e = refl
-same_nibbles n [] (x ∷ d) h k l m e = absurd (omega (arith, m))
-same_nibbles n (a ∷ c) [] h k l m e = absurd (omega (arith, m))
-same_nibbles zero (a ∷ c) (x ∷ d) h k l m e = absurd (omega (arith, l))
-same_nibbles (suc n) (a ∷ c) (x ∷ d) h k l m e =
+same_first zero c d h k m e = refl
+same_first (suc n) [] [] h k m e = refl
+same_first (suc n) [] (x ∷ d) h k m e = absurd (omega (arith, m))
+same_first (suc n) (a ∷ c) [] h k m e = absurd (omega (arith, m))
+same_first (suc n) (a ∷ c) (x ∷ d) h k m e =
     let one = head-lt 0 n c (omega arith) (AreNibbles-tail n a c h) in
     let other = head-lt 0 n d (omega arith) (AreNibbles-tail n x d k) in
     elim (three_ways a x) [
       | inl lt ↦ (let le : suc a * 16 ^ n ≤ x * 16 ^ n = mul-le-mul_right (16 ^ n) (omega (arith, lt)) in absurd (omega (arith, le, suc-mul a (16 ^ n), one, e)))
-      | inr (inl s) ↦ cons_same s (same_nibbles n c d (AreNibbles-tail n a c h) (AreNibbles-tail n x d k) (omega (arith, l)) (omega (arith, m))
+      | inr (inl s) ↦ cons_same s (same_first n c d (AreNibbles-tail n a c h) (AreNibbles-tail n x d k) (omega (arith, m))
           (let f = ap (λ y. y * 16 ^ n) s in omega (arith, e, f)))
       | inr (inr gt) ↦ (let le : suc x * 16 ^ n ≤ a * 16 ^ n = mul-le-mul_right (16 ^ n) (omega (arith, gt)) in absurd (omega (arith, le, suc-mul x (16 ^ n), other, e)))
     ]
 
+-- lists with the same head agree in 15 nibbles
+pub taken_by_head : (c q : List ℕ) → AreNibbles 15 c → AreNibbles 15 q → head_in c ≡ head_in q → take 15 c ≡ take 15 q
+taken_by_head c q h k e = same_first 15 c q h k (omega (arith, e)) (omega (arith, e))
+
 -- a head that counts fewer than 15 nibbles tells the list
 pub same_by_head : (c q : List ℕ) → AreNibbles 15 c → AreNibbles 15 q → head_in c ≡ head_in q → head_in c % 16 < 15 → c ≡ q
-same_by_head c q h k e l = same_nibbles 15 c q h k (omega (arith, l)) (omega (arith, e, l)) (omega (arith, e))
+same_by_head c q h k e l = sym (take_all 15 c (omega (arith, l))) ∙ taken_by_head c q h k e ∙ take_all 15 q (omega (arith, e, l))
 
 -- a list with a smaller head comes before
 pub before_by_head : (c q : List ℕ) → AreNibbles 15 q → head_in c < head_in q → is_before c q ≡ true
@@ -234,24 +213,6 @@ until_by_less c q h l = elim (cases_lt 15 (length q)) [
   | inr short ↦ until_by_head c q short h (omega (arith, l))
 ]
 
--- where the heads of two lists differ, they tell the order
-pub order_by_head : (c q : List ℕ) (a b : ℕ) → a ≡ head_in c → b ≡ head_in q → AreNibbles 15 c → AreNibbles 15 q → (a ≡ b → ⊥)
-    → ltb a b ≡ is_before c q
-order_by_head c q a b e f h k apart = elim (three_ways a b) [
-  | inl lt ↦ lt-ltb a b lt ∙ sym (before_by_head c q k (omega (arith, e, f, lt)))
-  | inr (inl same) ↦ absurd (apart same)
-  | inr (inr gt) ↦ le-ltb a b (omega (arith, gt)) ∙ sym (not_before_by_head c q h (omega (arith, e, f, gt)))
-]
-
--- the same of what comes before another or begins with it
-pub through_by_head : (c q : List ℕ) (a b : ℕ) → a ≡ head_in c → b ≡ bound_of true q → AreNibbles 15 c → AreNibbles 15 q → (a ≡ b → ⊥)
-    → ltb a b ≡ is_until c q
-through_by_head c q a b e f h k apart = elim (three_ways a b) [
-  | inl lt ↦ lt-ltb a b lt ∙ sym (until_by_less c q k (omega (arith, e, f, lt)))
-  | inr (inl same) ↦ absurd (apart same)
-  | inr (inr gt) ↦ le-ltb a b (omega (arith, gt)) ∙ sym (not_until_by_head c q h (omega (arith, e, f, gt)))
-]
-
 -- numbers that are the heads of rising lists don't fall
 pub heads_rise : (cs : List (List ℕ)) (heads : List ℕ) → IsRising cs → ((i : ℕ) → i < length cs → AreNibbles 15 (code_at cs i)) → length heads ≡ length cs
     → ((i : ℕ) → i < length cs → get_or heads i 0 ≡ head_in (code_at cs i)) → (i j : ℕ) → i ≤ j → j < length heads → get_or heads i 0 ≤ get_or heads j 0
@@ -298,3 +259,48 @@ word_head bs c two =
       head-two 0 12 c,
       head-two 0 14 c,
     )
+
+-- with fifteens for what a list lacks the number is greater by as many ones
+head_filled : (n : ℕ) (q : List ℕ) → length q ≤ n → head_padded 15 n q + 1 ≡ head_padded 0 n q + 16 ^ (n - length q)
+unfolding head_padded
+head_filled zero [] l = omega arith
+head_filled zero (a ∷ q) l = absurd (omega (arith, l))
+head_filled (suc n) [] l =
+    let all : suc n - 0 ≡ suc n = omega arith in
+    omega (arith, head-most (suc n), head-nil (suc n), ap (λ m. 16 ^ m) all)
+head_filled (suc n) (a ∷ q) l =
+    let rest = head_filled n q (omega (arith, l)) in
+    let left : suc n - suc (length q) ≡ n - length q = omega arith in
+    omega (arith, rest, ap (λ m. 16 ^ m) left)
+
+two_four : (m : ℕ) → 2 ^ (4 * m) ≡ 16 ^ m
+two_four zero = refl
+two_four (suc m) =
+    let next : 4 * suc m ≡ 4 + 4 * m = omega arith in
+    let four : 2 ^ 4 ≡ 16 = refl in
+    ap (λ n. 2 ^ n) next ∙ pow-add 2 4 (4 * m) ∙ ap (λ n. n * 2 ^ (4 * m)) four ∙ ap (λ n. 16 * n) (two_four m) ∙ sym (pow-succ' 16 m)
+
+-- so many ones, of eight bytes
+ones_behind : (m : ℕ) → m ≤ 16 → 18446744073709551615 / 2 ^ (4 * m) + 1 ≡ 16 ^ (16 - m)
+ones_behind m l =
+    let x = 2 ^ (4 * m) in
+    let y = 16 ^ (16 - m) in
+    let whole : m + (16 - m) ≡ 16 = omega (arith, l) in
+    let power : 16 ^ 16 ≡ 18446744073709551616 = refl in
+    let all : y * x ≡ 18446744073709551616 =
+    mul_comm y x ∙ ap (λ n. n * y) (two_four m) ∙ sym (pow-add 16 m (16 - m)) ∙ ap (λ n. 16 ^ n) whole ∙ power in
+    let some : 0 < x = pow_pos (4 * m) in
+    let more : 0 < y = subst (λ n. 0 < n) (two_four (16 - m)) (pow_pos (4 * (16 - m))) in
+    let back : suc (y - 1) ≡ y = omega (arith, more) in
+    let next : y - 1 + 1 ≡ y = omega (arith, more) in
+    let less : (y - 1) * x + x ≡ 18446744073709551616 = omega (arith, suc-mul (y - 1) x, ap (λ n. n * x) back, all) in
+    let there : (y - 1 + 1) * x ≡ 18446744073709551616 = ap (λ n. n * x) next ∙ all in
+    let count : 18446744073709551615 / x ≡ y - 1 = div-eq_of_lt-le x (omega (arith, less, some)) (omega (arith, there)) in
+    omega (arith, count, more)
+
+-- the head that a search through a short list compares with
+pub filled_head : (q : List ℕ) → ((k : ℕ) → get_or q k 0 < 16) → length q ≤ 14 → head_padded 0 16 q + 18446744073709551615 / 2 ^ (4 * length q) ≡ bound_of true q
+filled_head q nibbles l =
+    let filled = head_filled 16 q (omega (arith, l)) in
+    let ones = ones_behind (length q) (omega (arith, l)) in
+    omega (arith, filled, ones, head-more 15 15 q, get_or_past q 15 15 (omega (arith, l)))

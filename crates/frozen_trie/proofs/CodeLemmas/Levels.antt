@@ -5,9 +5,9 @@ use Rattle.std.proofs.lemmas.Bool.{cases_eq, cases_lt}
 use Rattle.std.proofs.lemmas.List.{get_or-drop, get_or-take, length-drop, length-take, take-append-le, take_all}
 use Rattle.nibble_map.specs.Lists.{IsBefore, IsPrefix, IsRising}
 use Rattle.nibble_map.proofs.ListLemmas.Parted.{prefix_itself}
-use Rattle.frozen_trie.specs.Blocks.{IsAround, IsBlock, IsEndOf, IsLevel, IsSharedBy}
+use Rattle.frozen_trie.specs.Blocks.{AreFurther, AreHeads, IsAround, IsBlock, IsCounted, IsEndOf, IsLevel, IsReached, IsSharedBy, IsSoughtIn}
 use Rattle.frozen_trie.specs.Codes.{code_at, is_in_front, IsCut}
-use Rattle.frozen_trie.specs.Heads.{head_behind}
+use Rattle.frozen_trie.specs.Heads.{AreNibbles, bound_of, head_behind}
 use Rattle.frozen_trie.proofs.CodeLemmas.Links.{prefix_is_taken}
 use Rattle.frozen_trie.proofs.CodeLemmas.Order.{before_by_test, before_passes, until_by_before, until_by_prefix, until_by_test, which_before}
 use Rattle.frozen_trie.proofs.CodeLemmas.Parts.{fails_after, passes_before, rising_at}
@@ -21,7 +21,7 @@ times_plus S m (suc k) =
     omega (arith, ap (λ x. S * x) next, mul-suc S (m + k), mul-suc S k, times_plus S m k)
 
 -- a list that agrees with another one in n nibbles, which that one has, has them too
-long_as : (n : ℕ) (x q : List ℕ) → n ≤ length x → take n q ≡ take n x → n ≤ length q
+pub long_as : (n : ℕ) (x q : List ℕ) → n ≤ length x → take n q ≡ take n x → n ≤ length q
 long_as n x q l e = omega (arith, ap length e, length-take n q, length-take n x, l)
 
 -- where x is in front of a search and z isn't, the searched list agrees with both in what they share
@@ -124,32 +124,45 @@ module _ (t : Bool) (q : List ℕ) (cs : List (List ℕ)) (rises : IsRising cs) 
   ]
 
   module _ (to : ℕ) (counted : length cs < 2 ^ 62) (to_is : to ≡ min (length hs) (16 * at + 16)) where
+    -- what of a list of numbers belongs to the block
+    abbrev of_block : List ℕ → List ℕ
+    of_block xs = take (to - 16 * at) (drop (16 * at) xs)
+
+    of_block_length : (xs : List ℕ) → length xs ≡ length hs → length (of_block xs) ≡ to - 16 * at
+    of_block_length xs many = omega (arith, length-take (to - 16 * at) (drop (16 * at) xs), length-drop (16 * at) xs, to_is, many)
+
     -- the heads of the block
     abbrev block_heads : List ℕ
-    block_heads = take (to - 16 * at) (drop (16 * at) hs)
+    block_heads = of_block hs
 
-    pub block_length : length block_heads ≡ to - 16 * at
-    block_length = omega (arith, length-take (to - 16 * at) (drop (16 * at) hs), length-drop (16 * at) hs, to_is)
+    block_length : length block_heads ≡ to - 16 * at
+    block_length = of_block_length hs refl
 
     in_block : (j : ℕ) → j < length block_heads → (j < 16) × (16 * at + j < length hs)
     in_block j l = (omega (arith, l, block_length, to_is), omega (arith, l, block_length, to_is))
 
-    -- the block, and that the searched list shares what it skips
-    pub block_of : IsBlock cs block_heads (S * (16 * at + 1) - 1) S (2 * get_or ks at 0)
-    block_of = record {
+    -- heads of all its lists, behind so many bytes more than it skips, are a block
+    block_of : (m : ℕ) (xs : List ℕ) → m < 2 ^ 32 → get_or ks at 0 < 2 ^ 32 → length xs ≡ length hs → AreHeads cs S m xs ks (length hs)
+        → IsBlock cs (of_block xs) (S * (16 * at + 1) - 1) S (2 * (m + get_or ks at 0))
+    block_of m xs few near many heads = record {
       nibbles = level.nibbles;
       counted = omega (arith, counted);
       apart = level.apart;
-      within = λ j l. let some : S * 1 ≤ S * (16 * at + j + 1) = mul-le-mul_left S (omega arith) in omega (arith, place_in j, place_within j (in_block j l).1, some, level.apart);
+      near = omega (arith, few, near);
+      within = λ j l.
+          let some : S * 1 ≤ S * (16 * at + j + 1) = mul-le-mul_left S (omega arith) in
+          omega (arith, place_in j, place_within j (in_block j (omega (arith, l, of_block_length xs many, block_length))).1, some, level.apart);
       heads = λ j l.
-          let number : (16 * at + j) / 16 ≡ at = (let few = (in_block j l).0 in omega (arith, few)) in
-          get_or-take (to - 16 * at) (drop (16 * at) hs) j 0 (omega (arith, l, block_length)) ∙ get_or-drop (16 * at) hs j 0
-          ∙ level.heads (16 * at + j) (in_block j l).1
-          ∙ ap (λ k. head_behind (2 * get_or ks k 0) (code_at cs (S * (16 * at + j + 1) - 1))) number
-          ∙ ap (λ i. head_behind (2 * get_or ks at 0) (code_at cs i)) (sym (place_in j));
+          let inside = in_block j (omega (arith, l, of_block_length xs many, block_length)) in
+          let number : (16 * at + j) / 16 ≡ at = (let few = inside.0 in omega (arith, few)) in
+          get_or-take (to - 16 * at) (drop (16 * at) xs) j 0 (omega (arith, l, of_block_length xs many)) ∙ get_or-drop (16 * at) xs j 0
+          ∙ heads (16 * at + j) inside.1
+          ∙ ap (λ k. head_behind (2 * (m + get_or ks k 0)) (code_at cs (S * (16 * at + j + 1) - 1))) number
+          ∙ ap (λ i. head_behind (2 * (m + get_or ks at 0)) (code_at cs i)) (sym (place_in j));
     }
 
-    pub shared_by_block : IsSharedBy cs (length block_heads) (S * (16 * at + 1) - 1) S (2 * get_or ks at 0) q
+    -- the searched list shares what it skips
+    shared_by_block : IsSharedBy cs (length block_heads) (S * (16 * at + 1) - 1) S (2 * get_or ks at 0) q
     shared_by_block = record {
       long = elim (cases_lt 0 (length block_heads)) [
         | inl some ↦ let b = in_block 0 some in (skipped 0 b.0 b.1).0
@@ -161,11 +174,34 @@ module _ (t : Bool) (q : List ℕ) (cs : List (List ℕ)) (rises : IsRising cs) 
       same = λ j l. let b = in_block j l in subst (λ i. take (2 * get_or ks at 0) (code_at cs i) ≡ take (2 * get_or ks at 0) q) (sym (place_in j)) (skipped j b.0 b.1).1;
     }
 
+    module _ (skip : ℕ) (is : skip ≡ get_or ks at 0) (near : skip < 2 ^ 32) where
+      -- so the list is searched for in it by its head
+      pub sought_in_block : (xs : List ℕ) (h : ℕ) → xs ≡ block_heads → h ≡ bound_of t (drop (2 * skip) q) → AreNibbles 15 (drop (2 * skip) q)
+          → IsSoughtIn t q cs xs (S * (16 * at + 1) - 1) S (2 * skip) h
+      sought_in_block xs h e head nibbles =
+          let none : 0 + get_or ks at 0 ≡ skip = omega (arith, is) in
+          let back : get_or ks at 0 ≡ skip = sym is in
+          subst (λ ys. IsSoughtIn t q cs ys (S * (16 * at + 1) - 1) S (2 * skip) h) (sym e) (record {
+            block = subst (λ n. IsBlock cs block_heads (S * (16 * at + 1) - 1) S (2 * n)) none (block_of 0 hs (omega arith) (omega (arith, near, is)) refl level.heads);
+            shared = subst (λ n. IsSharedBy cs (length block_heads) (S * (16 * at + 1) - 1) S (2 * n) q) back shared_by_block;
+            head = head;
+            nibbles = nibbles;
+          })
+
+      -- and so are the heads behind seven bytes more
+      pub further_in_block : (more xs : List ℕ) → AreFurther cs S (length hs) ks more → xs ≡ of_block more
+          → IsBlock cs xs (S * (16 * at + 1) - 1) S (2 * (7 + skip)) × (length xs ≡ length block_heads)
+      further_in_block more xs further e = (
+        subst (λ ys. IsBlock cs ys (S * (16 * at + 1) - 1) S (2 * (7 + skip))) (sym e)
+            (subst (λ n. IsBlock cs (of_block more) (S * (16 * at + 1) - 1) S (2 * (7 + n))) (sym is) (block_of 7 more (omega arith) (omega (arith, near, is)) further.many further.heads)),
+        omega (arith, ap length e, of_block_length more further.many, block_length),
+      )
+
     module _ (count : ℕ) (within : count ≤ length block_heads)
         (front : (i : ℕ) → i < count → is_in_front t q (code_at cs (S * (16 * at + 1) - 1 + i * S)) ≡ true)
         (behind : (i : ℕ) → count ≤ i → i < length block_heads → is_in_front t q (code_at cs (S * (16 * at + 1) - 1 + i * S)) ≡ false) where
       -- so many heads of the block tell how many lists come in front, up to the S lists of one head
-      pub around_of : IsAround t q cs S (16 * at + count)
+      around_of : IsAround t q cs S (16 * at + count)
       around_of = record {
         within = let le : S * (16 * at + count) ≤ S * length hs = mul-le-mul_left S (omega (arith, within, block_length, to_is, block_within)) in omega (arith, le, level.many);
         before = λ i l. elim (cases_eq count 0) [
@@ -196,7 +232,7 @@ module _ (t : Bool) (q : List ℕ) (cs : List (List ℕ)) (rises : IsRising cs) 
       }
 
       -- where none of them is the searched list, neither does it end the S lists behind those in front
-      pub of_end : (count < length block_heads → code_at cs (S * (16 * at + 1) - 1 + count * S) ≡ q → ⊥) → IsEndOf q cs S (16 * at + count) → ⊥
+      of_end : (count < length block_heads → code_at cs (S * (16 * at + 1) - 1 + count * S) ≡ q → ⊥) → IsEndOf q cs S (16 * at + count) → ⊥
       of_end apart end = elim (cases_lt count (length block_heads)) [
         | inl lt ↦ apart lt (ap (code_at cs) (place_in count) ∙ end.same)
         | inr ge ↦ elim (cases_lt (length hs) (16 * at + 16)) [
@@ -214,10 +250,18 @@ module _ (t : Bool) (q : List ℕ) (cs : List (List ℕ)) (rises : IsRising cs) 
       ]
 
     -- where the list of a head of the block is the searched one, it ends the S lists of its head
-    pub end_of : (count : ℕ) → count < length block_heads → code_at cs (S * (16 * at + 1) - 1 + count * S) ≡ q → IsEndOf q cs S (16 * at + count)
+    end_of : (count : ℕ) → count < length block_heads → code_at cs (S * (16 * at + 1) - 1 + count * S) ≡ q → IsEndOf q cs S (16 * at + count)
     end_of count l e = record {
       within = place_within count (in_block count l).1;
       same = ap (code_at cs) (sym (place_in count)) ∙ e;
+    }
+
+    -- so what a search in the block says tells how many S lists come in front
+    pub reached : (count : ℕ) (is_found : Bool) → IsCounted t q cs (S * (16 * at + 1) - 1) S (length block_heads) count is_found → IsReached t q cs S (16 * at + count) is_found
+    reached count is_found counted = record {
+      around = around_of count counted.within counted.before counted.after;
+      found = λ f. let got = counted.found f in (got.0, end_of count got.1 got.2);
+      apart = λ f plain. of_end count counted.within counted.before counted.after (counted.apart f plain);
     }
 
 -- where there are levels enough, no list stands behind the first block of the last level

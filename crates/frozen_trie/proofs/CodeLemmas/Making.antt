@@ -7,19 +7,19 @@ use Rattle.std.proofs.lemmas.Option.{get_or_from_slice_get, slice_get-get_or, sl
 use Rattle.std.proofs.Math.Seq.{get_or-append_seam, take-append_seam}
 use Rattle.std.specs.List.{slice_get}
 use Rattle.radix_keys.proofs.KeyLemmas.Order.{three_ways}
-use Rattle.frozen_trie.specs.Blocks.{AreHeads, AreOfNibbles, AreSkips, IsLevel, IsSkip}
+use Rattle.frozen_trie.specs.Blocks.{AreHeads, AreOfNibbles, AreSkips, IsLevel, IsLevelOf, IsSkip}
 use Rattle.frozen_trie.specs.Codes.{code_at}
 use Rattle.frozen_trie.specs.Heads.{head_behind}
 use Rattle.frozen_trie.specs.Packed.{AreHeaded}
 use Rattle.frozen_trie.specs.declared.codes.blocks.Level.{Level}
 
 -- one head more
-pub heads_more : (cs : List (List ℕ)) (S : ℕ) (hs ks : List ℕ) (n h : ℕ) → AreHeads cs S hs ks n → n < length hs
-    → h ≡ head_behind (2 * get_or ks (n / 16) 0) (code_at cs (S * (n + 1) - 1)) → AreHeads cs S (set hs n h) ks (n + 1)
-heads_more cs S hs ks n h kept l e = λ i m. elim (three_ways i n) [
+pub heads_more : (cs : List (List ℕ)) (S m : ℕ) (hs ks : List ℕ) (n h : ℕ) → AreHeads cs S m hs ks n → n < length hs
+    → h ≡ head_behind (2 * (m + get_or ks (n / 16) 0)) (code_at cs (S * (n + 1) - 1)) → AreHeads cs S m (set hs n h) ks (n + 1)
+heads_more cs S m hs ks n h kept l e = λ i k. elim (three_ways i n) [
   | inl lt ↦ get_or-set_other hs n i h 0 (λ s. omega (arith, s, lt)) ∙ kept i lt
-  | inr (inl s) ↦ subst (λ j. get_or (set hs n h) j 0 ≡ head_behind (2 * get_or ks (j / 16) 0) (code_at cs (S * (j + 1) - 1))) (sym s) (get_or-set_same hs n h 0 l ∙ e)
-  | inr (inr g) ↦ absurd (omega (arith, m, g))
+  | inr (inl s) ↦ subst (λ j. get_or (set hs n h) j 0 ≡ head_behind (2 * (m + get_or ks (j / 16) 0)) (code_at cs (S * (j + 1) - 1))) (sym s) (get_or-set_same hs n h 0 l ∙ e)
+  | inr (inr g) ↦ absurd (omega (arith, k, g))
 ]
 
 -- what holds of each number holds with one more behind them
@@ -47,7 +47,7 @@ all_skips cs S ks n many kept = λ k. elim (cases_lt k n) [
 
 -- as many heads as there are whole parts of S lists
 pub level_of_parts : (cs : List (List ℕ)) (S : ℕ) (hs ks : List ℕ) → AreOfNibbles cs → 0 < S → S ≤ length cs + 1 → length hs ≡ length cs / S
-    → AreHeads cs S hs ks (length hs) → AreSkips cs S ks → IsLevel cs S hs ks
+    → AreHeads cs S 0 hs ks (length hs) → AreSkips cs S ks → IsLevel cs S hs ks
 level_of_parts cs S hs ks nibbles apart few many heads skips = record {
   nibbles = nibbles;
   apart = apart;
@@ -60,10 +60,10 @@ level_of_parts cs S hs ks nibbles apart few many heads skips = record {
 
 -- each of some levels is one
 abbrev pub AreEachLevels : List (List ℕ) → List Level → Type 0
-AreEachLevels cs ls = (t : ℕ) (l : Level) → slice_get ls t ≡ Some l → (l.step ≡ 16 ^ (t + 1)) × IsLevel cs l.step l.heads.items l.skips.items
+AreEachLevels cs ls = (t : ℕ) (l : Level) → slice_get ls t ≡ Some l → (l.step ≡ 16 ^ (t + 1)) × IsLevelOf cs l
 
 -- one level more
-pub levels_more : (cs : List (List ℕ)) (ls : List Level) (l : Level) → AreEachLevels cs ls → l.step ≡ 16 ^ (length ls + 1) → IsLevel cs l.step l.heads.items l.skips.items
+pub levels_more : (cs : List (List ℕ)) (ls : List Level) (l : Level) → AreEachLevels cs ls → l.step ≡ 16 ^ (length ls + 1) → IsLevelOf cs l
     → AreEachLevels cs (ls ++ l ∷ [])
 levels_more cs ls l kept step is = λ t m at.
     let inside = slice_get_within (ls ++ l ∷ []) t m at in
@@ -72,7 +72,7 @@ levels_more cs ls l kept step is = λ t m at.
       | inl lt ↦ kept t m (slice_get-get_or ls t l lt ∙ ap Some (sym (get_or_append_left ls (l ∷ []) l t lt) ∙ get_or_from_slice_get all t m l at))
       | inr (inl e) ↦
           let same : l ≡ m = sym (ap (λ i. get_or all i l) e ∙ get_or-append_seam ls l [] l) ∙ get_or_from_slice_get all t m l at in
-          subst (λ x. (x.step ≡ 16 ^ (t + 1)) × IsLevel cs x.step x.heads.items x.skips.items) same (step ∙ ap (λ n. 16 ^ (n + 1)) (sym e), is)
+          subst (λ x. (x.step ≡ 16 ^ (t + 1)) × IsLevelOf cs x) same (step ∙ ap (λ n. 16 ^ (n + 1)) (sym e), is)
       | inr (inr g) ↦ absurd (omega (arith, inside, g, length-append ls (l ∷ [])))
     ]
 
@@ -81,7 +81,7 @@ pub all_written : (n : ℕ) (xs ys : List ℕ) → n ≡ length xs → take n (x
 all_written n xs ys e = ap (λ k. take k (xs ++ drop (length xs) ys)) e ∙ take-append_seam xs (drop (length xs) ys)
 
 -- a head for each list is a level
-pub level_of_all : (cs : List (List ℕ)) (hs ks : List ℕ) → AreOfNibbles cs → length hs ≡ length cs → AreHeads cs 1 hs ks (length hs) → AreSkips cs 1 ks → IsLevel cs 1 hs ks
+pub level_of_all : (cs : List (List ℕ)) (hs ks : List ℕ) → AreOfNibbles cs → length hs ≡ length cs → AreHeads cs 1 0 hs ks (length hs) → AreSkips cs 1 ks → IsLevel cs 1 hs ks
 level_of_all cs hs ks nibbles many heads skips =
     let one : length cs ≡ length cs / 1 = omega arith in
     level_of_parts cs 1 hs ks nibbles (omega arith) (omega arith) (many ∙ one) heads skips

@@ -37,6 +37,7 @@ module _ (cs : List (List ℕ)) (hs : List ℕ) (level : IsLevel cs 1 hs []) whe
       nibbles = level.nibbles;
       counted = counted;
       apart = omega arith;
+      near = omega arith;
       within = λ j l. omega (arith, l, between_length, plain_many, within);
       heads = λ j l.
           let one : from + j ≡ from + j * 1 = omega arith in

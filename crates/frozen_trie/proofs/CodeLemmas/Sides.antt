@@ -12,7 +12,7 @@ use Rattle.nibble_map.proofs.ListLemmas.Parted.{prefix_by_test, prefix_itself}
 use Rattle.nibble_map.proofs.TreeLemmas.SomePrefixes.{before_through}
 use Rattle.frozen_trie.specs.Codes.{is_before, is_in_front, IsSide}
 use Rattle.frozen_trie.specs.Heads.{bound_of, head_in, AreNibbles}
-use Rattle.frozen_trie.proofs.CodeLemmas.Heads.{before_by_head, not_before_by_head, not_until_by_head, order_by_head, through_by_head, until_by_head, until_by_less}
+use Rattle.frozen_trie.proofs.CodeLemmas.Heads.{before_by_head, not_before_by_head, not_until_by_head, until_by_head, until_by_less}
 use Rattle.frozen_trie.proofs.CodeLemmas.Links.{prefix_is_taken}
 use Rattle.frozen_trie.proofs.CodeLemmas.Order.{before_passes, before_passes_down, begun_not_before, before_by_test, between_begins, prefix_before, taken_begins, until_by_before, until_by_prefix, until_passes_down}
 
@@ -20,12 +20,6 @@ use Rattle.frozen_trie.proofs.CodeLemmas.Order.{before_passes, before_passes_dow
 pub front_passes_down : (t : Bool) (q x y : List ℕ) → IsBefore x y → is_in_front t q y ≡ true → is_in_front t q x ≡ true
 front_passes_down false q = before_passes_down q
 front_passes_down true q = until_passes_down q
-
--- where the first nibbles differ, they tell the side
-pub side_by_head : (t : Bool) (c q : List ℕ) (a b : ℕ) → a ≡ head_in c → b ≡ bound_of t q → AreNibbles 15 c → AreNibbles 15 q → (a ≡ b → ⊥)
-    → ltb a b ≡ is_in_front t q c
-side_by_head false = order_by_head
-side_by_head true = through_by_head
 
 -- a code whose first nibbles are less is in front
 pub front_by_less : (t : Bool) (c q : List ℕ) → AreNibbles 15 q → head_in c < bound_of t q → is_in_front t q c ≡ true

@@ -1,18 +1,21 @@
 //! Heads in blocks, each behind what the lists of its block share, and a search that goes down a tree of such blocks.
 ghost use Rattle.std.specs.Prelude.{◌≡◌, ◌↔◌, ◌+◌, ◌-◌, ◌*◌, ◌<◌, ◌≤◌, ◌^◌, ℕ, [], false, true, drop, length, slice_index, take, IsTrue};
 ghost use Rattle.nibble_map.specs.Lists.{IsRising};
-ghost use Rattle.frozen_trie.specs.Blocks.{AreLevels, IsAround, IsBlock, IsEndOf, IsLevel, IsSharedBy};
-ghost use Rattle.frozen_trie.specs.Codes.{IsCut, IsSide, code_at, is_in_front};
-ghost use Rattle.frozen_trie.specs.Heads.{AreNibbles, AreSteps, AreTops, bound_of};
+ghost use Rattle.frozen_trie.specs.Blocks.{AreFurther, AreLevels, IsAround, IsBlock, IsCounted, IsLevel, IsNarrowed, IsReached, IsSharedBy, IsSoughtIn};
+ghost use Rattle.frozen_trie.specs.Codes.{IsCut, code_at, is_in_front};
+ghost use Rattle.frozen_trie.specs.Heads.{AreSteps, AreTops};
 
 use crate::codes::Codes;
-use crate::heads::{head_of, span};
+use crate::heads::{count_below, count_up_to, head_of, span};
 use crate::slices::part;
 use radix_keys::NibbleSlice;
 use std::cmp::Ordering;
 
 /// How many heads a block has.
 pub(super) const BLOCK: usize = 16;
+
+/// How many bytes the other heads of a level stand behind the first ones.
+pub(super) const FURTHER: usize = 7;
 
 /// The last of each so many lists, by its head.
 #[derive(Drop)]
@@ -21,6 +24,8 @@ pub(crate) struct Level {
     pub(crate) step: usize,
     /// The heads, in blocks of 16.
     pub(crate) heads: Vec<u64>,
+    /// The heads of the same lists behind seven bytes more.
+    pub(crate) more: Vec<u64>,
     /// How many bytes the heads of a block stand behind: those in which the list before the block and its last one agree.
     pub(crate) skips: Vec<u32>,
 }
@@ -33,7 +38,7 @@ pub(crate) struct Block<'a> {
     pub(crate) first: usize,
     /// How far they are from each other.
     pub(crate) step: usize,
-    /// How many nibbles the heads stand behind.
+    /// How many bytes the heads stand behind.
     pub(crate) skip: usize,
 }
 
@@ -46,80 +51,55 @@ pub(crate) struct Sought<'a> {
 }
 
 impl Codes {
-    /// On which side of a search the list at an index of a block lies: Less where it comes in front, Equal where it is the
-    /// searched one, of a search that isn't one through it, and Greater otherwise. And how many nibbles the two are known to
-    /// agree in, at least as many as were known before.
+    /// Bounds of what the heads of a block leave to be compared: the lists in front of the first bound come in front of the
+    /// search, and those from the second on don't. Those between agree with the searched list in 15 nibbles behind what the
+    /// block skips; where there is none, whether the list at the bound is the searched one, of a search that isn't one
+    /// through it.
     ///
-    /// The head of what stands behind the first bytes of the searched list is passed.
-    fn side_in(
-        &self,
-        block: Block<'_>,
-        i: usize,
-        sought: Sought<'_>,
-        head: u64,
-        known: usize,
-    ) -> (Ordering, usize)
-        requires within { i < length block.heads.now }
-        requires block { IsBlock self.now block.heads.now block.first block.step block.skip }
-        requires shared { IsSharedBy self.now (length block.heads.now) block.first block.step
-            block.skip sought.list.now }
-        requires head { head
-            ≡ bound_of sought.is_through (drop block.skip sought.list.now) }
-        requires nibbles { AreNibbles 15 (drop block.skip sought.list.now) }
-        requires known { take known (code_at self.now (block.first + i * block.step))
-            ≡ take known sought.list.now }
-        requires inside { known ≤ length sought.list.now }
-        ensures side { IsSide sought.entry.is_through sought.entry.list.now
-            (code_at self.now (block.entry.first + i * block.entry.step)) result.0 }
-        ensures same { take result.1 (code_at self.now (block.entry.first + i * block.entry.step))
-            ≡ take result.1 sought.entry.list.now }
-        ensures inside { result.1 ≤ length sought.entry.list.now }
+    /// The head of what stands in the searched list behind the same bytes is passed.
+    fn bounds_in(&self, block: &Block<'_>, sought: &Sought<'_>, head: u64) -> (usize, usize, bool)
+        requires rising { IsRising self.now }
+        requires sought { IsSoughtIn sought.now.is_through sought.now.list.now self.now
+            block.now.heads.now block.now.first block.now.step (2 * block.now.skip) head }
+        ensures { IsNarrowed sought.now.is_through sought.now.list.now self.now block.now.first
+            block.now.step (length block.now.heads.now) (2 * block.now.skip + 15)
+            result.0 result.1 result.2 }
     {
-        let own = block.heads[i];
-        if own != head {
-            return (own.cmp(&head), known);
+        let heads = block.heads;
+        let from = count_below(heads, head);
+        if from == heads.len() || heads[from] != head {
+            return (from, from, false);
         }
-        if sought.is_through {
-            if sought.list.len() - block.skip <= 15 {
-                return (Ordering::Less, known);
-            }
-        } else if own % 16 < 15 {
-            return (Ordering::Equal, known);
+        if !sought.is_through && head % 16 < 15 {
+            return (from, from, true);
         }
-        self.side(block.first + i * block.step, sought, known)
+        let to = count_up_to(heads, head);
+        if sought.is_through && sought.list.len() - 2 * block.skip <= 15 {
+            return (to, to, false);
+        }
+        (from, to, false)
     }
 
-    /// How many of the lists of a block come in front; and whether the one behind these is the searched list, of a search
-    /// that isn't one through it.
+    /// How many of the lists of a block come in front, where all are known to agree with the searched one in so many nibbles;
+    /// and whether the one behind these is the searched list, of a search that isn't one through it.
     ///
     /// A list between two others that agree with the searched one in their first nibbles does so too, so these aren't compared
     /// again.
-    pub(super) fn count_in(&self, block: Block<'_>, sought: Sought<'_>, head: u64) -> (usize, bool)
+    fn count_by_bytes(&self, block: &Block<'_>, sought: &Sought<'_>, known: usize) -> (usize, bool)
         requires rising { IsRising self.now }
-        requires block { IsBlock self.now block.heads.now block.first block.step block.skip }
-        requires shared { IsSharedBy self.now (length block.heads.now) block.first block.step
-            block.skip sought.list.now }
-        requires head { head
-            ≡ bound_of sought.is_through (drop block.skip sought.list.now) }
-        requires nibbles { AreNibbles 15 (drop block.skip sought.list.now) }
-        ensures within { result.0 ≤ length block.entry.heads.now }
-        ensures before { (i : ℕ) → i < result.0 → is_in_front sought.entry.is_through sought.entry.list.now
-            (code_at self.now (block.entry.first + i * block.entry.step)) ≡ true }
-        ensures after { (i : ℕ) → result.0 ≤ i → i < length block.entry.heads.now
-            → is_in_front sought.entry.is_through sought.entry.list.now
-            (code_at self.now (block.entry.first + i * block.entry.step)) ≡ false }
-        ensures found { IsTrue result.1 → (sought.entry.is_through ≡ false)
-            × (result.0 < length block.entry.heads.now)
-            × (code_at self.now (block.entry.first + result.0 * block.entry.step) ≡ sought.entry.list.now) }
-        ensures apart { result.1 ≡ false → sought.entry.is_through ≡ false
-            → result.0 < length block.entry.heads.now
-            → code_at self.now (block.entry.first + result.0 * block.entry.step) ≡ sought.entry.list.now → ⊥ }
+        requires block { IsBlock self.now block.now.heads.now block.now.first block.now.step
+            (2 * block.now.skip) }
+        requires shared { IsSharedBy self.now (length block.now.heads.now) block.now.first
+            block.now.step known sought.now.list.now }
+        ensures { IsCounted sought.now.is_through sought.now.list.now self.now block.now.first
+            block.now.step (length block.now.heads.now) result.0 result.1 }
     {
         let (mut lo, mut hi) = (0, block.heads.len());
-        let (mut low, mut high) = (block.skip, block.skip);
+        let (mut low, mut high) = (known, known);
         while lo < hi {
             let mid = lo + (hi - lo) / 2;
-            let (side, same) = self.side_in(block, mid, sought, head, low.min(high));
+            let at = block.first + mid * block.step;
+            let (side, same) = self.side(at, sought, low.min(high));
             match side {
                 Ordering::Less => {
                     lo = mid + 1;
@@ -135,58 +115,127 @@ impl Codes {
         (lo, false)
     }
 
+    /// How many of the lists of a block come in front; and whether the one behind these is the searched list, of a search that
+    /// isn't one through it.
+    ///
+    /// The head of what stands in the searched list behind the same bytes is passed.
+    pub(super) fn count_in(
+        &self,
+        block: &Block<'_>,
+        sought: &Sought<'_>,
+        head: u64,
+    ) -> (usize, bool)
+        requires rising { IsRising self.now }
+        requires sought { IsSoughtIn sought.now.is_through sought.now.list.now self.now
+            block.now.heads.now block.now.first block.now.step (2 * block.now.skip) head }
+        ensures { IsCounted sought.now.is_through sought.now.list.now self.now block.now.first
+            block.now.step (length block.now.heads.now) result.0 result.1 }
+    {
+        let (from, to, is_found) = self.bounds_in(block, sought, head);
+        if from == to {
+            return (from, is_found);
+        }
+        let alike = Block {
+            heads: part(block.heads, from, to),
+            first: block.first + from * block.step,
+            step: block.step,
+            skip: block.skip,
+        };
+        let (count, is_found) = self.count_by_bytes(&alike, sought, 2 * block.skip + 15);
+        (from + count, is_found)
+    }
+
+    /// The same where the heads of the lists behind seven bytes more are there too.
+    fn count_in_both(
+        &self,
+        block: &Block<'_>,
+        more: &[u64],
+        sought: &Sought<'_>,
+        head: u64,
+    ) -> (usize, bool)
+        requires rising { IsRising self.now }
+        requires sought { IsSoughtIn sought.now.is_through sought.now.list.now self.now
+            block.now.heads.now block.now.first block.now.step (2 * block.now.skip) head }
+        requires more { IsBlock self.now more.now block.now.first block.now.step
+            (2 * (7 + block.now.skip)) }
+        requires many { length more.now ≡ length block.now.heads.now }
+        ensures { IsCounted sought.now.is_through sought.now.list.now self.now block.now.first
+            block.now.step (length block.now.heads.now) result.0 result.1 }
+    {
+        let (from, to, is_found) = self.bounds_in(block, sought, head);
+        if from == to {
+            return (from, is_found);
+        }
+        let alike = Block {
+            heads: part(more, from, to),
+            first: block.first + from * block.step,
+            step: block.step,
+            skip: FURTHER + block.skip,
+        };
+        let head = head_of(&behind(sought.list, alike.skip), sought.is_through);
+        let (count, is_found) = self.count_in(&alike, sought, head);
+        (from + count, is_found)
+    }
+
     /// How many lists of a level come in front, where it's known in which of its blocks the first lies that doesn't; and
     /// whether that one is the searched list, of a search that isn't one through it.
+    ///
+    /// The level is passed by its step, heads and skips, and then the heads behind seven bytes more, or none.
     pub(super) fn descend(
         &self,
         level: (usize, &[u64], &[u32]),
+        more: &[u64],
         at: usize,
-        sought: Sought<'_>,
+        sought: &Sought<'_>,
     ) -> (usize, bool)
         requires rising { IsRising self.now }
         requires counted { length self.now < 2 ^ 62 }
         requires level { IsLevel self.now level.0 level.1.now level.2.now }
-        requires around { IsAround sought.is_through sought.list.now self.now (level.0 * 16) at }
-        ensures around { IsAround sought.entry.is_through sought.entry.list.now self.now level.entry.0 result.0 }
-        ensures found { IsTrue result.1 → (sought.entry.is_through ≡ false)
-            × IsEndOf sought.entry.list.now self.now level.entry.0 result.0 }
-        ensures apart { result.1 ≡ false → sought.entry.is_through ≡ false
-            → IsEndOf sought.entry.list.now self.now level.entry.0 result.0 → ⊥ }
+        requires more { 0 < length more.now
+            → AreFurther self.now level.0 (length level.1.now) level.2.now more.now }
+        requires around { IsAround sought.now.is_through sought.now.list.now self.now
+            (level.0 * 16) at }
+        ensures { IsReached sought.now.is_through sought.now.list.now self.now level.entry.0
+            result.0 result.1 }
     {
         let (step, heads, skips) = level;
         let from = BLOCK * at;
         let to = heads.len().min(from + BLOCK);
-        let skip = skip_at(skips, at) as usize;
         let block = Block {
             heads: part(heads, from, to),
             first: step * (from + 1) - 1,
             step,
-            skip: 2 * skip,
+            skip: skip_at(skips, at) as usize,
         };
-        let head = head_of(&behind(sought.list, skip), sought.is_through);
-        let (count, is_found) = self.count_in(block, sought, head);
+        let head = head_of(&behind(sought.list, block.skip), sought.is_through);
+        let (count, is_found) = if more.is_empty() {
+            self.count_in(&block, sought, head)
+        } else {
+            self.count_in_both(&block, part(more, from, to), sought, head)
+        };
         (from + count, is_found)
     }
 
     /// Goes down levels, the last of which is one block: to the block of all heads in which the first list lies that doesn't
     /// come in front. Or to a list that is the searched one, of a search that isn't one through it.
-    pub(super) fn go_down(&self, levels: &[Level], sought: Sought<'_>) -> (usize, bool)
+    pub(super) fn go_down(&self, levels: &[Level], sought: &Sought<'_>) -> (usize, bool)
         requires rising { IsRising self.now }
         requires counted { length self.now < 2 ^ 62 }
         requires levels { AreLevels self.now levels.now }
         ensures around { result.1 ≡ false
-            → IsAround sought.entry.is_through sought.entry.list.now self.now 16 result.0 }
-        ensures found { IsTrue result.1 → (sought.entry.is_through ≡ false)
-            × (result.0 < length self.now) × (code_at self.now result.0 ≡ sought.entry.list.now) }
+            → IsAround sought.now.is_through sought.now.list.now self.now 16 result.0 }
+        ensures found { IsTrue result.1 → (sought.now.is_through ≡ false)
+            × (result.0 < length self.now) × (code_at self.now result.0 ≡ sought.now.list.now) }
     {
         let mut at = 0;
         let mut left = levels.len();
         while left > 0 {
             left -= 1;
-            let Level { step, heads, skips } = &levels[left];
-            let (next, is_found) = self.descend((*step, heads, skips), at, sought);
+            let level = &levels[left];
+            let columns = (level.step, level.heads.as_slice(), level.skips.as_slice());
+            let (next, is_found) = self.descend(columns, &level.more, at, sought);
             if is_found {
-                return (step * (next + 1) - 1, true);
+                return (level.step * (next + 1) - 1, true);
             }
             at = next;
         }
@@ -199,19 +248,19 @@ impl Codes {
         heads: &[u64],
         steps: &[u64],
         tops: &[u32],
-        sought: Sought<'_>,
+        sought: &Sought<'_>,
     ) -> (usize, bool)
         requires rising { IsRising self.now }
         requires counted { length self.now < 2 ^ 62 }
         requires heads { IsLevel self.now 1 heads.now [] }
         requires steps { AreSteps heads.now steps.now }
         requires tops { AreTops heads.now tops.now }
-        ensures cut { IsCut (is_in_front sought.entry.is_through sought.entry.list.now) self.now result.0 }
-        ensures found { IsTrue result.1 → (sought.entry.is_through ≡ false)
-            × (result.0 < length self.now) × (code_at self.now result.0 ≡ sought.entry.list.now) }
-        ensures apart { result.1 ≡ false → sought.entry.is_through ≡ false
+        ensures cut { IsCut (is_in_front sought.now.is_through sought.now.list.now) self.now result.0 }
+        ensures found { IsTrue result.1 → (sought.now.is_through ≡ false)
+            × (result.0 < length self.now) × (code_at self.now result.0 ≡ sought.now.list.now) }
+        ensures apart { result.1 ≡ false → sought.now.is_through ≡ false
             → result.0 < length self.now
-            → code_at self.now result.0 ≡ sought.entry.list.now → ⊥ }
+            → code_at self.now result.0 ≡ sought.now.list.now → ⊥ }
     {
         let head = head_of(sought.list, sought.is_through);
         let (from, to) = span(heads, steps, tops, head);
@@ -221,7 +270,7 @@ impl Codes {
             step: 1,
             skip: 0,
         };
-        let (count, is_found) = self.count_in(block, sought, head);
+        let (count, is_found) = self.count_in(&block, sought, head);
         (from + count, is_found)
     }
 }

@@ -1,11 +1,11 @@
 //! The levels of heads above lists that are alike, made where the lists are complete.
 ghost use Rattle.std.specs.Prelude.{◌≡◌, ◌+◌, ◌-◌, ◌*◌, ◌/◌, ◌<◌, ◌≤◌, ◌^◌, ℕ, [], IfOk, IsTrue, length, slice_index};
 ghost use Rattle.nibble_map.specs.Lists.{IsRising};
-ghost use Rattle.frozen_trie.specs.Blocks.{AreHeads, AreLevels, AreSkips, IsLevel, IsSkip};
+ghost use Rattle.frozen_trie.specs.Blocks.{AreHeads, AreLevels, AreSkips, IsLevel, IsLevelOf, IsSkip};
 ghost use Rattle.frozen_trie.specs.Laid.{codes_in, halves, odds, IsLaid};
 ghost use Rattle.frozen_trie.specs.Packed.{AreHeaded};
 
-use crate::codes::blocks::{BLOCK, Level, behind, skip_at};
+use crate::codes::blocks::{BLOCK, FURTHER, Level, behind, skip_at};
 use crate::codes::{Codes, piece_in};
 use crate::heads::head_of;
 use radix_keys::Memory;
@@ -56,13 +56,42 @@ impl Codes {
         requires some { 0 < step }
         requires within { step ≤ length self.now }
         ensures step { IfOk result (λ level. level.step ≡ step) }
-        ensures level { IfOk result
-            (λ level. IsLevel self.now step level.heads.items level.skips.items) }
+        ensures level { IfOk result (IsLevelOf self.now) }
     {
+        // The proof needs the invariant, which says that these are lists of nibbles.
+        let _ = &self.heads;
         let skips = self.skips_of(alloc, step)?;
+        let heads = self.heads_of(alloc, step, &skips, 0)?;
+        let more = self.heads_of(alloc, step, &skips, FURTHER)?;
+        Ok(Level {
+            step,
+            heads,
+            more,
+            skips,
+        })
+    }
+
+    /// The heads of a level with one for each so many lists, behind what its blocks skip and so many bytes more.
+    ///
+    /// # Errors
+    ///
+    /// Memory for them is refused.
+    fn heads_of(
+        &self,
+        alloc: Global,
+        step: usize,
+        skips: &[u32],
+        further: usize,
+    ) -> Result<Vec<u64>, Memory>
+        requires some { 0 < step }
+        requires near { further < 2 ^ 32 }
+        ensures many { IfOk result (λ heads. length heads.items ≡ length self.now / step) }
+        ensures heads { IfOk result (λ heads. AreHeads self.now step further heads.items
+            skips.now (length heads.items)) }
+    {
         let mut heads = vec![in alloc; 0u64; self.len() / step]?;
-        fill_heads(&self.bytes, &self.ends, &mut heads, &skips, step);
-        Ok(Level { step, heads, skips })
+        fill_heads(&self.bytes, &self.ends, &mut heads, skips, step, further);
+        Ok(heads)
     }
 
     /// How many bytes each block skips of a level with a head for each so many lists.
@@ -97,18 +126,27 @@ impl Codes {
     }
 }
 
-/// Sets heads to those of the last of each so many lists, each behind what its block skips.
-pub(super) fn fill_heads(bytes: &[u8], ends: &[u32], heads: &mut [u64], skips: &[u32], step: usize)
+/// Sets heads to those of the last of each so many lists, each behind what its block skips and so many bytes more.
+pub(super) fn fill_heads(
+    bytes: &[u8],
+    ends: &[u32],
+    heads: &mut [u64],
+    skips: &[u32],
+    step: usize,
+    further: usize,
+)
     requires laid { IsLaid bytes.now 0 (halves ends.now) (odds ends.now) }
     requires some { 0 < step }
     requires within { step * length heads.old ≤ length ends.now }
+    requires near { further < 2 ^ 32 }
     ensures many { length heads.new ≡ length heads.old }
     ensures heads { AreHeads (codes_in bytes.now 0 (halves ends.now) (odds ends.now)) step
-        heads.new skips.now (length heads.new) }
+        further heads.new skips.now (length heads.new) }
 {
     for i in 0..heads.len() {
         let list = piece_in(bytes, ends, step * (i + 1) - 1);
-        heads[i] = head_of(&behind(&list, skip_at(skips, i / BLOCK) as usize), false);
+        let skip = further + skip_at(skips, i / BLOCK) as usize;
+        heads[i] = head_of(&behind(&list, skip), false);
     }
 }
 
@@ -132,7 +170,7 @@ pub(super) fn forget_levels(
     if levels.is_empty() {
         return;
     }
-    fill_heads(bytes, ends, heads, &[], 1);
+    fill_heads(bytes, ends, heads, &[], 1, 0);
     skips.clear();
     levels.clear();
 }

@@ -30,7 +30,7 @@ invariant_of-self c =
       laid = c.self.invariant.laid;
       headed = subst (λ xs. AreHeaded cs xs ks ls) (sym (all_written own.len hs own.items (own.ok.0 ∙ sym same))) (record {
         level = level_of_all cs hs ks kept.level.nibbles (omega (arith, same, kept.level.many, kept.level.rest))
-            (subst (λ xs. AreHeads cs 1 hs xs (length hs)) c.deref-3.ensures.value (subst (λ xs. AreHeads xs 1 hs c.deref-3.result.now (length hs)) is c.fill_heads.ensures.heads))
+            (subst (λ xs. AreHeads cs 1 0 hs xs (length hs)) c.deref-3.ensures.value (subst (λ xs. AreHeads xs 1 0 hs c.deref-3.result.now (length hs)) is c.fill_heads.ensures.heads))
             (subst (λ xs. AreSkips xs 1 ks) (sym c.self.view_is) c.in_ok-skips.ensures);
         plain = λ none. absurd (
             let few = subst (λ n. length cs < 16 ^ (n + 1)) none levels.few in

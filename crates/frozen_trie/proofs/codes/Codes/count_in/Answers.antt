@@ -1,133 +1,42 @@
-use Rattle.std.proofs.Common.{◌≡◌, suc, ◌+◌, ◌-◌, ◌/◌, ◌<◌, ◌≤◌, inl, inr, true, false, length, take, refl, sym, ap, subst, ◌∙◌, arith}
-use Rattle.std.proofs.lemmas.Bool.{cases_eq, cases_lt}
-use Rattle.nibble_map.specs.Lists.{IsBefore}
-use Rattle.frozen_trie.specs.Codes.{is_in_front}
-use Rattle.frozen_trie.proofs.CodeLemmas.Order.{before_passes}
-use Rattle.std.specs.Ordering.{is_lt}
-use Rattle.frozen_trie.proofs.CodeLemmas.Blocks.{behind_from, block_rises, code_in, front_up_to}
-use Rattle.frozen_trie.proofs.CodeLemmas.Sides.{agree_less, between_agrees}
+use Rattle.std.proofs.Common.{◌≡◌, ◌+◌, ◌-◌, ◌*◌, length, sym, ap, subst, ◌∙◌, arith}
+use Rattle.frozen_trie.specs.Blocks.{IsBlock, IsCounted, IsSharedBy}
+use Rattle.frozen_trie.proofs.CodeLemmas.Blocks.{block_part, part_length}
+use Rattle.frozen_trie.proofs.CodeLemmas.Narrowing.{counted_between}
 use Rattle.frozen_trie.proofs.codes.Codes.count_in.Goals as goal
 
-pub loop-lo-init : goal.loop-lo-init
-loop-lo-init c = record {
-  order = omega arith;
-  within = omega arith;
-  before = λ k l. absurd (omega (arith, l));
-  after = λ k l m. absurd (omega (arith, l, m));
-  low_inside = c.requires.shared.long;
-  low_same = λ k e. absurd (cc e);
-  low_none = λ e. refl;
-  high_same = λ l. absurd (omega (arith, l));
-  high_none = λ l. refl;
-  apart = λ f l. absurd (omega (arith, l));
-}
+pub returns-then-from-to : goal.returns-then-from-to
+returns-then-from-to c = c.bounds_in-from.ensures.whole c.if-from-to.true
 
-pub side_in-side-requires-clause-within : goal.side_in-side-requires-clause-within
-side_in-side-requires-clause-within c = omega (arith, c.loop-lo-test.true, c.loop-lo.invariant.within)
+pub part-requires-clause-within : goal.part-requires-clause-within
+part-requires-clause-within c = c.bounds_in-from.ensures.within
 
-pub side_in-side-requires-clause-inside : goal.side_in-side-requires-clause-inside
-side_in-side-requires-clause-inside c = omega (arith, c.min.ensures, c.loop-lo.invariant.low_inside)
+pub part-requires-clause-order : goal.part-requires-clause-order
+part-requires-clause-order c = c.bounds_in-from.ensures.order
 
-pub side_in-side-requires-clause-known : goal.side_in-side-requires-clause-known
-side_in-side-requires-clause-known c =
-    let cs = c.args.self.now in
-    let q = c.args.sought.list.now in
-    let b = c.args.block in
-    let code = code_in cs b.first b.step in
-    let lo = c.loop-lo.lo in
-    let hi = c.loop-lo.hi in
-    let mid = lo + (hi - lo) / 2 in
-    let n = c.min.result in
-    let inside : mid < length b.heads.now = omega (arith, c.loop-lo-test.true, c.loop-lo.invariant.within) in
-    let least : n ≤ c.loop-lo.low = omega (arith, c.min.ensures) in
-    let most : n ≤ c.loop-lo.high = omega (arith, c.min.ensures) in
-    elim (cases_eq lo 0) [
-      | inl z ↦
-          let few : n ≤ b.skip = (let low = c.loop-lo.invariant.low_none z in omega (arith, least, low)) in
-          agree_less n b.skip (code mid) q few (c.requires.shared.same mid inside)
-      | inr some ↦ elim (cases_lt hi (length b.heads.now)) [
-        | inr past ↦
-            let few : n ≤ b.skip = (let high = c.loop-lo.invariant.high_none past in omega (arith, most, high)) in
-            agree_less n b.skip (code mid) q few (c.requires.shared.same mid inside)
-        | inl within ↦
-            let back : lo ≡ suc (lo - 1) = omega (arith, some) in
-            between_agrees n (code (lo - 1)) (code mid) (code hi) q (omega (arith, least, c.loop-lo.invariant.low_inside))
-            (block_rises cs c.requires.rising b.heads.now b.first b.step b.skip c.requires.block (lo - 1) mid (omega (arith, some)) inside)
-            (block_rises cs c.requires.rising b.heads.now b.first b.step b.skip c.requires.block mid hi (omega (arith, c.loop-lo-test.true)) within)
-            (agree_less n c.loop-lo.low (code (lo - 1)) q least (c.loop-lo.invariant.low_same (lo - 1) back))
-            (agree_less n c.loop-lo.high (code hi) q most (c.loop-lo.invariant.high_same within))
-      ]
-    ]
+pub count_by_bytes-count-requires-clause-block : goal.count_by_bytes-count-requires-clause-block
+count_by_bytes-count-requires-clause-block c =
+    let b = c.args.block.now in
+    let from = c.bounds_in-from.result.0 in
+    subst (λ hs. IsBlock c.args.self.now hs (b.first + from * b.step) b.step (2 * b.skip)) (sym c.part.ensures)
+    (block_part c.args.self.now c.requires.rising b.heads.now b.first b.step (2 * b.skip) c.requires.sought.block from c.bounds_in-from.result.1 c.bounds_in-from.ensures.order c.bounds_in-from.ensures.within)
 
-pub loop-lo-preserved-in-Less : goal.loop-lo-preserved-in-Less
-loop-lo-preserved-in-Less c =
-    let cs = c.args.self.now in
-    let q = c.args.sought.list.now in
-    let t = c.args.sought.is_through in
-    let b = c.args.block in
-    let code = code_in cs b.first b.step in
-    let mid = c.loop-lo.lo + (c.loop-lo.hi - c.loop-lo.lo) / 2 in
-    let same = c.side_in-side.result.1 in
-    let inside : mid < length b.heads.now = omega (arith, c.loop-lo-test.true, c.loop-lo.invariant.within) in
-    let here : is_in_front t q (code mid) ≡ true = sym c.side_in-side.ensures.side.front ∙ ap is_lt c.in-Less.is in
-    record {
-      order = omega (arith, c.loop-lo-test.true);
-      within = c.loop-lo.invariant.within;
-      before = front_up_to cs c.requires.rising b.heads.now b.first b.step b.skip c.requires.block t q mid inside here;
-      after = c.loop-lo.invariant.after;
-      low_inside = c.side_in-side.ensures.inside;
-      low_same = λ k e. (let at : mid ≡ k = omega (arith, e) in subst (λ i. take same (code i) ≡ take same q) at c.side_in-side.ensures.same);
-      low_none = λ e. absurd (omega (arith, e));
-      high_same = c.loop-lo.invariant.high_same;
-      high_none = c.loop-lo.invariant.high_none;
-      apart = c.loop-lo.invariant.apart;
-    }
+pub count_by_bytes-count-requires-clause-shared : goal.count_by_bytes-count-requires-clause-shared
+count_by_bytes-count-requires-clause-shared c =
+    let b = c.args.block.now in
+    let from = c.bounds_in-from.result.0 in
+    let to = c.bounds_in-from.result.1 in
+    let many : length c.part.result.now ≡ to - from = ap length c.part.ensures ∙ part_length b.heads.now from to c.bounds_in-from.ensures.within in
+    subst (λ m. IsSharedBy c.args.self.now m (b.first + from * b.step) b.step (2 * b.skip + 15) c.args.sought.now.list.now) (sym many)
+    (c.bounds_in-from.ensures.shared (omega (arith, c.bounds_in-from.ensures.order, c.if-from-to.false)))
 
-pub loop-lo-preserved : goal.loop-lo-preserved
-loop-lo-preserved c =
-    let cs = c.args.self.now in
-    let q = c.args.sought.list.now in
-    let t = c.args.sought.is_through in
-    let b = c.args.block in
-    let mid = c.loop-lo.lo + (c.loop-lo.hi - c.loop-lo.lo) / 2 in
-    let inside : mid < length b.heads.now = omega (arith, c.loop-lo-test.true, c.loop-lo.invariant.within) in
-    let here : is_in_front t q (code_in cs b.first b.step mid) ≡ false = sym c.side_in-side.ensures.side.front ∙ ap is_lt c.in-Greater.is in
-    record {
-      order = omega arith;
-      within = omega (arith, inside);
-      before = c.loop-lo.invariant.before;
-      after = behind_from cs c.requires.rising b.heads.now b.first b.step b.skip c.requires.block t q mid here;
-      low_inside = c.loop-lo.invariant.low_inside;
-      low_same = c.loop-lo.invariant.low_same;
-      low_none = c.loop-lo.invariant.low_none;
-      high_same = λ l. c.side_in-side.ensures.same;
-      high_none = λ l. absurd (omega (arith, l, inside));
-      apart = λ f l. c.side_in-side.ensures.side.apart c.in-Greater.is f;
-    }
-
-pub returns-in-Equal-clause-within : goal.returns-in-Equal-clause-within
-returns-in-Equal-clause-within c = omega (arith, c.loop-lo-test.true, c.loop-lo.invariant.within)
-
-pub returns-in-Equal-clause-before : goal.returns-in-Equal-clause-before
-returns-in-Equal-clause-before c = λ i l.
-    let cs = c.args.self.now in
-    let q = c.args.sought.list.now in
-    let b = c.args.block in
-    let code = code_in cs b.first b.step in
-    let mid = c.loop-lo.lo + (c.loop-lo.hi - c.loop-lo.lo) / 2 in
-    let inside : mid < length b.heads.now = omega (arith, c.loop-lo-test.true, c.loop-lo.invariant.within) in
-    let found = c.side_in-side.ensures.side.found c.in-Equal.is in
-    subst (λ u. is_in_front u q (code i) ≡ true) (sym found.0)
-    (before_passes _ q (subst (IsBefore (code i)) found.1 (block_rises cs c.requires.rising b.heads.now b.first b.step b.skip c.requires.block i mid l inside)))
-
-pub returns-in-Equal-clause-after : goal.returns-in-Equal-clause-after
-returns-in-Equal-clause-after c =
-    let b = c.args.block in
-    let mid = c.loop-lo.lo + (c.loop-lo.hi - c.loop-lo.lo) / 2 in
-    behind_from c.args.self.now c.requires.rising b.heads.now b.first b.step b.skip c.requires.block c.args.sought.is_through c.args.sought.list.now mid
-    (sym c.side_in-side.ensures.side.front ∙ ap is_lt c.in-Equal.is)
-
-pub returns-in-Equal-clause-found : goal.returns-in-Equal-clause-found
-returns-in-Equal-clause-found c = λ _.
-    let found = c.side_in-side.ensures.side.found c.in-Equal.is in
-    (found.0, omega (arith, c.loop-lo-test.true, c.loop-lo.invariant.within), found.1)
+pub returns : goal.returns
+returns c =
+    let b = c.args.block.now in
+    let from = c.bounds_in-from.result.0 in
+    let to = c.bounds_in-from.result.1 in
+    let t = c.args.sought.now.is_through in
+    let q = c.args.sought.now.list.now in
+    let many : length c.part.result.now ≡ to - from = ap length c.part.ensures ∙ part_length b.heads.now from to c.bounds_in-from.ensures.within in
+    counted_between t q c.args.self.now b.first b.step (length b.heads.now) (2 * b.skip + 15) from to c.bounds_in-from.result.2 c.bounds_in-from.ensures
+    (omega (arith, c.bounds_in-from.ensures.order, c.if-from-to.false)) c.count_by_bytes-count.result.0 c.count_by_bytes-count.result.1
+    (subst (λ m. IsCounted t q c.args.self.now (b.first + from * b.step) b.step m c.count_by_bytes-count.result.0 c.count_by_bytes-count.result.1) many c.count_by_bytes-count.ensures)

@@ -1,7 +1,7 @@
-use Rattle.std.proofs.Common.{◌≡◌, ◌+◌, ◌*◌, ◌^◌, suc, [], ◌∷◌, length, sym, ap, subst, ◌∙◌, arith}
+use Rattle.std.proofs.Common.{◌≡◌, ◌+◌, ◌*◌, ◌^◌, suc, List, [], ◌∷◌, length, sym, ap, subst, ◌∙◌, arith}
 use Rattle.std.proofs.Math.Nat.{pow-suc}
 use Rattle.std.proofs.lemmas.List.{length-append}
-use Rattle.frozen_trie.specs.Blocks.{IsLevel}
+use Rattle.frozen_trie.specs.declared.codes.blocks.Level.{Level}
 use Rattle.frozen_trie.proofs.CodeLemmas.Making.{AreEachLevels, levels_more}
 use Rattle.frozen_trie.proofs.codes.Codes.levels_of.Goals as goal
 
@@ -16,6 +16,5 @@ loop-step-preserved c =
     record {
       some = omega (arith, c.loop-step.invariant.some);
       step = ap (λ n. n * 16) c.loop-step.invariant.step ∙ sym (pow-suc 16 (length ls + 1)) ∙ ap (λ n. 16 ^ n) count;
-      each = subst (AreEachLevels cs) (sym items) (levels_more cs ls l c.loop-step.invariant.each (is.step ∙ c.loop-step.invariant.step)
-          (subst (λ S. IsLevel cs S l.heads.items l.skips.items) (sym is.step) is.level));
+      each = subst (AreEachLevels cs) (sym {A = List Level} items) (levels_more cs ls l c.loop-step.invariant.each (is.step ∙ c.loop-step.invariant.step) is.level);
     }

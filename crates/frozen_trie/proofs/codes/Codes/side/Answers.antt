@@ -7,8 +7,8 @@ use Rattle.frozen_trie.proofs.codes.Codes.side.Goals as goal
 pub returns-then-is_through-clause-side : goal.returns-then-is_through-clause-side
 returns-then-is_through-clause-side c =
     let code = code_at c.args.self.now c.args.at in
-    let q = c.args.sought.list.now in
-    let t = c.args.sought.is_through in
+    let q = c.args.sought.now.list.now in
+    let t = c.args.sought.now.is_through in
     let n = c.agreement-same.result in
     let same = subst (λ p. take n p ≡ take n q) c.piece-code.ensures.code c.agreement-same.ensures.same in
     let begins = begun code q n same (omega (arith, c.len.ensures, c.if-len-same.true)) in
@@ -17,8 +17,8 @@ returns-then-is_through-clause-side c =
 pub returns-then-same-len-clause-side : goal.returns-then-same-len-clause-side
 returns-then-same-len-clause-side c =
     let code = code_at c.args.self.now c.args.at in
-    let q = c.args.sought.list.now in
-    let t = c.args.sought.is_through in
+    let q = c.args.sought.now.list.now in
+    let t = c.args.sought.now.is_through in
     let n = c.agreement-same.result in
     let is = c.piece-code.ensures.code in
     let same = subst (λ p. take n p ≡ take n q) is c.agreement-same.ensures.same in
@@ -29,29 +29,29 @@ returns-then-same-len-clause-side c =
 pub returns-then-len-same-clause-side : goal.returns-then-len-same-clause-side
 returns-then-len-same-clause-side c =
     let code = code_at c.args.self.now c.args.at in
-    let q = c.args.sought.list.now in
+    let q = c.args.sought.now.list.now in
     let n = c.agreement-same.result in
     let is = c.piece-code.ensures.code in
     let same = subst (λ p. take n p ≡ take n q) is c.agreement-same.ensures.same in
     let all : length q ≤ n = omega (arith, c.len.ensures, c.if-len-same.true) in
     let none : length code ≤ n = omega (arith, ap length is, c.len-then-len-same.ensures, c.if-same-len.false) in
-    equal_side c.args.sought.is_through q code c.if-is_through.false (sym (take_all n code none) ∙ same ∙ take_all n q all)
+    equal_side c.args.sought.now.is_through q code c.if-is_through.false (sym (take_all n code none) ∙ same ∙ take_all n q all)
 
 pub returns-then-len-same-2-clause-side : goal.returns-then-len-same-2-clause-side
 returns-then-len-same-2-clause-side c =
     let code = code_at c.args.self.now c.args.at in
-    let q = c.args.sought.list.now in
+    let q = c.args.sought.now.list.now in
     let n = c.agreement-same.result in
     let is = c.piece-code.ensures.code in
     let same = subst (λ p. take n p ≡ take n q) is c.agreement-same.ensures.same in
     let all : length code ≤ n = omega (arith, ap length is, c.len-2.ensures, c.if-len-same-2.true) in
-    less_side c.args.sought.is_through q code (sym (side_of_prefix c.args.sought.is_through code q (goes_on code q n same all (omega (arith, c.len.ensures, c.if-len-same.false)))))
+    less_side c.args.sought.now.is_through q code (sym (side_of_prefix c.args.sought.now.is_through code q (goes_on code q n same all (omega (arith, c.len.ensures, c.if-len-same.false)))))
 
 pub returns-clause-side : goal.returns-clause-side
 returns-clause-side c =
     let code = code_at c.args.self.now c.args.at in
-    let q = c.args.sought.list.now in
-    let t = c.args.sought.is_through in
+    let q = c.args.sought.now.list.now in
+    let t = c.args.sought.now.is_through in
     let n = c.agreement-same.result in
     let is = c.piece-code.ensures.code in
     let same = subst (λ p. take n p ≡ take n q) is c.agreement-same.ensures.same in

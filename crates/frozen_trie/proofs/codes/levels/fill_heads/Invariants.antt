@@ -6,5 +6,5 @@ use Rattle.frozen_trie.proofs.codes.levels.fill_heads.Given as goal
 abbrev pub invariant-loop-i : goal.invariant-loop-i
 invariant-loop-i l = record {
   many : length l.heads ≡ l.i-end;
-  heads : AreHeads (codes_in l.bytes 0 (halves l.ends) (odds l.ends)) l.step l.heads l.skips l.i;
+  heads : AreHeads (codes_in l.bytes 0 (halves l.ends) (odds l.ends)) l.step l.further l.heads l.skips l.i;
 }

@@ -1,9 +1,0 @@
-use Rattle.std.proofs.Common.{◌≡◌, ◌*◌}
-use Rattle.frozen_trie.specs.Heads.{AreNibbles, head_padded}
-use Rattle.frozen_trie.proofs.heads.padded_head.Given as goal
-
-abbrev pub invariant-loop-i : goal.invariant-loop-i
-invariant-loop-i l = record {
-  head : l.head ≡ head_padded l.rest (2 * l.i) l.list;
-  nibbles : AreNibbles (2 * l.i) l.list;
-}

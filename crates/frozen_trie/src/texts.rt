@@ -28,7 +28,7 @@ pub use walk::Texts;
 /// A map from byte strings to values, which is made in the order of the keys and then read. The keys'
 /// bytes lie one behind the other, so a pair takes those of its key, its value and 16 bytes more, once
 /// `finish` has dropped spare room; from 65,536 pairs on its tables take 2^18 bytes and half a byte a
-/// pair besides, or a byte a pair where keys are alike, and 5 bytes a pair where keys take more than 4
+/// pair besides, or 1.4 bytes a pair where keys are alike, and 5 bytes a pair where keys take more than 4
 /// bytes on average: 26 bytes more a pair at most. A key comes out as the bytes that went in.
 ///
 /// A contract sees it as it sees a `FrozenTrie`: as the finite map from the nibbles of each key to the pair of the key's

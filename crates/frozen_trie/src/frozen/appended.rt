@@ -30,7 +30,7 @@ impl<K: TrieKey, V> FrozenTrie<K, V> {
     ///
     /// # Errors
     ///
-    /// Memory for the tables is refused: some 2^18 bytes and half a byte a pair, or a byte a pair where encodings are
+    /// Memory for the tables is refused: some 2^18 bytes and half a byte a pair, or 1.4 bytes a pair where encodings are
     /// alike; and 5 bytes a pair more where encodings take more than 4 bytes on average. Each call returns the same
     /// without them.
     pub fn finish(&mut self) -> Result<(), Memory>

@@ -31,7 +31,7 @@ impl<V> FrozenTexts<V> {
     ///
     /// # Errors
     ///
-    /// Memory for the tables is refused: some 2^18 bytes and half a byte a pair, or a byte a pair where keys are
+    /// Memory for the tables is refused: some 2^18 bytes and half a byte a pair, or 1.4 bytes a pair where keys are
     /// alike; and 5 bytes a pair more where keys take more than 4 bytes on average. Each call returns the same
     /// without them.
     pub fn finish(&mut self) -> Result<(), Memory>

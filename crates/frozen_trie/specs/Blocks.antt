@@ -105,7 +105,7 @@ pub record IsEndOf (q : List ℕ) (cs : List (List ℕ)) (S n : ℕ) : Type 0 wh
   pub same : code_at cs (S * (n + 1) - 1) ≡ q
 
 -- S n lists come in front, up to the next S; and whether the last of these is q, of a search that isn't one through it
-pub record IsReached (t : Bool) (q : List ℕ) (cs : List (List ℕ)) (S n : ℕ) (is_found : Bool) : Type 0 where
+pub record IsLocated (t : Bool) (q : List ℕ) (cs : List (List ℕ)) (S n : ℕ) (is_found : Bool) : Type 0 where
   pub around : IsAround t q cs S n
   pub found : IsTrue is_found → (t ≡ false) × IsEndOf q cs S n
   pub apart : is_found ≡ false → t ≡ false → IsEndOf q cs S n → ⊥

@@ -5,7 +5,7 @@ use Rattle.std.proofs.lemmas.Bool.{cases_eq, cases_lt}
 use Rattle.std.proofs.lemmas.List.{get_or-drop, get_or-take, length-drop, length-take, take-append-le, take_all}
 use Rattle.nibble_map.specs.Lists.{IsBefore, IsPrefix, IsRising}
 use Rattle.nibble_map.proofs.ListLemmas.Parted.{prefix_itself}
-use Rattle.frozen_trie.specs.Blocks.{AreFurther, AreHeads, IsAround, IsBlock, IsCounted, IsEndOf, IsLevel, IsReached, IsSharedBy, IsSoughtIn}
+use Rattle.frozen_trie.specs.Blocks.{AreFurther, AreHeads, IsAround, IsBlock, IsCounted, IsEndOf, IsLevel, IsLocated, IsSharedBy, IsSoughtIn}
 use Rattle.frozen_trie.specs.Codes.{code_at, is_in_front, IsCut}
 use Rattle.frozen_trie.specs.Heads.{AreNibbles, bound_of, head_behind}
 use Rattle.frozen_trie.proofs.CodeLemmas.Links.{prefix_is_taken}
@@ -257,7 +257,7 @@ module _ (t : Bool) (q : List ℕ) (cs : List (List ℕ)) (rises : IsRising cs) 
     }
 
     -- so what a search in the block says tells how many S lists come in front
-    pub reached : (count : ℕ) (is_found : Bool) → IsCounted t q cs (S * (16 * at + 1) - 1) S (length block_heads) count is_found → IsReached t q cs S (16 * at + count) is_found
+    pub reached : (count : ℕ) (is_found : Bool) → IsCounted t q cs (S * (16 * at + 1) - 1) S (length block_heads) count is_found → IsLocated t q cs S (16 * at + count) is_found
     reached count is_found counted = record {
       around = around_of count counted.within counted.before counted.after;
       found = λ f. let got = counted.found f in (got.0, end_of count got.1 got.2);

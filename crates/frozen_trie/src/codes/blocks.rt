@@ -1,7 +1,7 @@
 //! Heads in blocks, each behind what the lists of its block share, and a search that goes down a tree of such blocks.
 ghost use Rattle.std.specs.Prelude.{◌≡◌, ◌↔◌, ◌+◌, ◌-◌, ◌*◌, ◌<◌, ◌≤◌, ◌^◌, ℕ, [], false, true, drop, length, slice_index, take, IsTrue};
 ghost use Rattle.nibble_map.specs.Lists.{IsRising};
-ghost use Rattle.frozen_trie.specs.Blocks.{AreFurther, AreLevels, IsAround, IsBlock, IsCounted, IsLevel, IsNarrowed, IsReached, IsSharedBy, IsSoughtIn};
+ghost use Rattle.frozen_trie.specs.Blocks.{AreFurther, AreLevels, IsAround, IsBlock, IsCounted, IsLevel, IsNarrowed, IsLocated, IsSharedBy, IsSoughtIn};
 ghost use Rattle.frozen_trie.specs.Codes.{IsCut, code_at, is_in_front};
 ghost use Rattle.frozen_trie.specs.Heads.{AreSteps, AreTops};
 
@@ -195,7 +195,7 @@ impl Codes {
             → AreFurther self.now level.0 (length level.1.now) level.2.now more.now }
         requires around { IsAround sought.now.is_through sought.now.list.now self.now
             (level.0 * 16) at }
-        ensures { IsReached sought.now.is_through sought.now.list.now self.now level.entry.0
+        ensures { IsLocated sought.now.is_through sought.now.list.now self.now level.entry.0
             result.0 result.1 }
     {
         let (step, heads, skips) = level;

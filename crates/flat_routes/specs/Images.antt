@@ -1,0 +1,152 @@
+-- A routing table laid into one run of bytes: the numbers that stand there, and when the bytes are such a table.
+use Rattle.std.specs.Prelude.{◌≡◌, ℕ, zero, suc, ◌+◌, ◌-◌, ◌*◌, ◌/◌, ◌^◌, ◌<◌, ◌≤◌, Bool, true, false, List, [], ◌∷◌, ◌++◌, Option, None, Some, codes, length, slice_index}
+use Rattle.std.specs.Int.{w32, w64, from_le_bytes}
+use Rattle.radix_keys.specs.Networks.{Net, IsBase}
+use Rattle.frozen_routes.specs.declared.tops.Cell.{Cell}
+use Rattle.frozen_routes.specs.Routes.{AreRising, AreTopCells, AreUplinks, IsEarlier, IsLastHolder, base_numbers, bit_counts}
+use Rattle.flat_routes.specs.declared.head.Plan.{Plan}
+
+-- the number of 4 bytes from the place a on, the low byte first
+unfoldable pub u32_in : List ℕ → ℕ → ℕ
+u32_in bs a = from_le_bytes w32 (slice_index bs a ∷ slice_index bs (a + 1) ∷ slice_index bs (a + 2) ∷ slice_index bs (a + 3) ∷ [])
+
+-- the number of 8 bytes
+unfoldable pub u64_in : List ℕ → ℕ → ℕ
+u64_in bs a = from_le_bytes w64
+    (slice_index bs a ∷ slice_index bs (a + 1) ∷ slice_index bs (a + 2) ∷ slice_index bs (a + 3)
+    ∷ slice_index bs (a + 4) ∷ slice_index bs (a + 5) ∷ slice_index bs (a + 6) ∷ slice_index bs (a + 7) ∷ [])
+
+-- the number of 16 bytes
+abbrev pub u128_in : List ℕ → ℕ → ℕ
+u128_in bs a = u64_in bs a + 2 ^ 64 * u64_in bs (a + 8)
+
+-- the first n values of a function
+unfoldable pub listed : {X : Type 0} → (ℕ → X) → ℕ → List X
+listed f zero = []
+listed f (suc n) = listed f n ++ f n ∷ []
+
+-- what differs between the families, of which `true` is IPv6: how many bits an address has
+abbrev pub width : Bool → ℕ
+width false = 32
+width true = 128
+
+-- how many bytes a row takes
+abbrev pub row_size : Bool → ℕ
+row_size false = 16
+row_size true = 32
+
+-- the number of an image's first 8 bytes
+abbrev pub mark : Bool → ℕ
+mark false = from_le_bytes w64 (codes "NZIPV4.1")
+mark true = from_le_bytes w64 (codes "NZIPV6.1")
+
+-- what the head says: how many rows and parts there are, where the rows and the cells begin, how many cells there are, and
+-- how many bits of an address come behind the first ones
+abbrev pub row_count : List ℕ → ℕ
+row_count bs = u32_in bs 8
+
+abbrev pub part_count : List ℕ → ℕ
+part_count bs = u32_in bs 12
+
+abbrev pub rows_place : List ℕ → ℕ
+rows_place bs = u64_in bs 24
+
+abbrev pub rest_of : List ℕ → ℕ
+rest_of bs = u32_in bs 44
+
+abbrev pub cells_place : List ℕ → ℕ
+cells_place bs = u64_in bs 48
+
+abbrev pub cell_count : List ℕ → ℕ
+cell_count bs = u64_in bs 56 / 8
+
+-- the first address of the row at i, how many bits its addresses share, its link, and its value
+abbrev pub first_in : Bool → List ℕ → ℕ → ℕ
+first_in false bs i = u32_in bs (rows_place bs + 16 * i)
+first_in true bs i = u128_in bs (rows_place bs + 32 * i)
+
+abbrev pub bits_in : Bool → List ℕ → ℕ → ℕ
+bits_in false bs i = u32_in bs (rows_place bs + 16 * i + 4)
+bits_in true bs i = u32_in bs (rows_place bs + 32 * i + 16)
+
+abbrev pub link_in : Bool → List ℕ → ℕ → ℕ
+link_in false bs i = u32_in bs (rows_place bs + 16 * i + 8)
+link_in true bs i = u32_in bs (rows_place bs + 32 * i + 20)
+
+abbrev pub value_in : Bool → List ℕ → ℕ → ℕ
+value_in false bs i = u32_in bs (rows_place bs + 16 * i + 12)
+value_in true bs i = u64_in bs (rows_place bs + 32 * i + 24)
+
+-- the row at i: a network and its value
+abbrev pub row_in : Bool → List ℕ → ℕ → Net ℕ × ℕ
+row_in wide bs i = (record { base = first_in wide bs i; bits = bits_in wide bs i }, value_in wide bs i)
+
+-- the row whose index and one more is r, or None at 0
+abbrev pub found_row : Bool → List ℕ → ℕ → Option (Net ℕ × ℕ)
+found_row wide bs zero = None
+found_row wide bs (suc i) = Some (row_in wide bs i)
+
+-- the cell at t
+abbrev pub cell_in : List ℕ → ℕ → Cell
+cell_in bs t = record { count = u32_in bs (cells_place bs + 8 * t); around = u32_in bs (cells_place bs + 8 * t + 4) }
+
+-- the rows of an image
+abbrev pub image_rows : Bool → List ℕ → List (Net ℕ × ℕ)
+image_rows wide bs = listed (row_in wide bs) (row_count bs)
+
+-- their first addresses, their bits and their links, and the cells
+abbrev pub firsts : Bool → List ℕ → List ℕ
+firsts wide bs = base_numbers (λ n. n) (image_rows wide bs)
+
+abbrev pub sizes : Bool → List ℕ → List ℕ
+sizes wide bs = bit_counts (image_rows wide bs)
+
+abbrev pub links : Bool → List ℕ → List ℕ
+links wide bs = listed (link_in wide bs) (row_count bs)
+
+abbrev pub image_cells : List ℕ → List Cell
+image_cells bs = listed (cell_in bs) (cell_count bs)
+
+-- the part listed at the place a is of this kind, and lies inside the bytes
+pub record IsPart (bs : List ℕ) (a kind : ℕ) : Type 0 where
+  pub of_kind : u32_in bs a ≡ kind
+  pub inside : u64_in bs (a + 8) + u64_in bs (a + 16) ≤ length bs
+
+-- the head is of this family and version, and the first two parts that it lists are the rows and the cells
+pub record HasHead (wide : Bool) (bs : List ℕ) : Type 0 where
+  pub marked : u64_in bs 0 ≡ mark wide
+  pub some : 2 ≤ part_count bs
+  pub fits : 16 + 24 * part_count bs ≤ length bs
+  pub rows : IsPart bs 16 1
+  pub plain : u32_in bs 20 ≡ 0
+  pub rows_size : u64_in bs 32 ≡ row_size wide * row_count bs
+  pub cells : IsPart bs 40 2
+  pub shift : rest_of bs < 128
+  pub cells_size : u64_in bs 56 ≡ 8 * cell_count bs
+
+-- the bytes are an image: its networks rise, each has its link, and each cell is right
+pub record IsImage (wide : Bool) (bs : List ℕ) : Type 0 where
+  pub head : HasHead wide bs
+  pub rising : AreRising (width wide) (firsts wide bs) (sizes wide bs)
+  pub linked : AreUplinks (width wide) (firsts wide bs) (sizes wide bs) (links wide bs)
+  pub tops : AreTopCells (rest_of bs) (width wide) (firsts wide bs) (sizes wide bs) (image_cells bs)
+
+-- a plan says what the head says
+pub record IsPlanOf (wide : Bool) (bs : List ℕ) (plan : Plan) : Type 0 where
+  pub head : HasHead wide bs
+  pub rows : plan.rows ≡ row_count bs
+  pub rows_at : plan.rows_at ≡ rows_place bs
+  pub rest : plan.rest ≡ rest_of bs
+  pub cells : plan.cells ≡ cell_count bs
+  pub cells_at : plan.cells_at ≡ cells_place bs
+
+-- the network at i is one, and comes after the one before it
+pub record IsNext (w : ℕ) (fs bs : List ℕ) (i : ℕ) : Type 0 where
+  pub base : IsBase w (slice_index bs i) (slice_index fs i)
+  pub after : 0 < i
+      → IsEarlier (slice_index fs (i - 1)) (slice_index bs (i - 1)) (slice_index fs i) (slice_index bs i)
+
+-- the first n networks rise, and each has its link
+pub record AreLinkedTo (w : ℕ) (fs bs up : List ℕ) (n : ℕ) : Type 0 where
+  pub next : (k : ℕ) → k < n → IsNext w fs bs k
+  pub links : (k : ℕ) → k < n → IsLastHolder w fs bs k (slice_index fs k) (slice_index up k)

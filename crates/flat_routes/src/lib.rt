@@ -1,0 +1,11 @@
+//! A routing table laid into one run of bytes, which is searched in place: a slice of a file that is mapped, or of any
+//! other memory.
+#![tactic(auto)]
+
+mod check;
+mod head;
+pub mod ipv4;
+pub mod ipv6;
+mod loads;
+mod rows;
+mod search;

@@ -11,7 +11,7 @@ use Rattle.frozen_routes.proofs.RouteLemmas.Tops.{top_above, top_around, top_bel
 use Rattle.radix_keys.proofs.KeyLemmas.Order.{three_ways}
 use Rattle.sorted_tables.specs.Tables.{IsLastOf, IsPartedAt}
 use Rattle.flat_routes.specs.declared.head.Plan.{Plan}
-use Rattle.flat_routes.specs.Images.{AreLinkedTo, IsImage, IsNext, IsPlanOf, bits_in, cell_in, first_in, firsts, found_row, image_cells, image_rows, link_in, links, listed, rest_of, row_count, row_in, sizes, u128_in, u32_in, width}
+use Rattle.flat_routes.specs.Images.{AreLinkedTo, IsImage, IsNext, IsPlanOf, bits_in, cell_in, first_in, firsts, found_row, image_cells, image_rows, link_in, links, listed, network, rest_of, row_count, row_in, sizes, u128_in, u32_in, value_in, width}
 
 -- as many as are listed
 pub length-listed : {X : Type 0} (f : ℕ → X) (n : ℕ) → length (listed f n) ≡ n
@@ -164,6 +164,11 @@ past [] i x l at = cc at
 past (y ∷ xs) zero x l at = omega (arith, l)
 past (y ∷ xs) (suc i) x l at = past xs i x (omega (arith, l)) at
 
+none_past : {X : Type 0} (xs : List X) (i : ℕ) → length xs ≤ i → slice_get xs i ≡ None
+none_past [] i l = refl
+none_past (y ∷ xs) zero l = absurd (omega (arith, l))
+none_past (y ∷ xs) (suc i) l = none_past xs i (omega (arith, l))
+
 -- the last of all networks that holds an address is the longest
 found_longest : (wide : Bool) (bs : List ℕ) (a r : ℕ) → IsImage wide bs
     → IsLastHolder (width wide) (firsts wide bs) (sizes wide bs) (length (image_rows wide bs)) a r
@@ -267,3 +272,20 @@ parted_by w fs bs up n a c linked all within below from =
 pub width_most : (wide : Bool) → 2 ^ width wide ≤ 2 ^ 128
 width_most false = omega arith
 width_most true = omega arith
+
+-- as many rows as the head says
+pub length-rows : (wide : Bool) (bs : List ℕ) → length (image_rows wide bs) ≡ row_count bs
+length-rows wide bs = length-listed (row_in wide bs) (row_count bs)
+
+-- no row stands behind the last
+pub no_row : (wide : Bool) (bs : List ℕ) (i : ℕ) → row_count bs ≤ i → slice_get (image_rows wide bs) i ≡ None
+no_row wide bs i l = none_past (image_rows wide bs) i (omega (arith, l, length-rows wide bs))
+
+-- the row of numbers that are read at an index
+pub row_is : (wide : Bool) (bs : List ℕ) (i f b v : ℕ) → i < row_count bs → f ≡ get_or (firsts wide bs) i 0 → b ≡ get_or (sizes wide bs) i 0 → v ≡ value_in wide bs i
+    → slice_get (image_rows wide bs) i ≡ Some (network f b, v)
+row_is wide bs i f b v l first size value =
+    listed_at (row_in wide bs) (row_count bs) i l
+    ∙ sym (ap (λ x. Some (network x b, v)) (first ∙ first_stored wide bs i l)
+    ∙ ap (λ x. Some (network (first_in wide bs i) x, v)) (size ∙ size_stored wide bs i l)
+    ∙ ap (λ x. Some (network (first_in wide bs i) (bits_in wide bs i), x)) value)

@@ -5,6 +5,8 @@ use Rattle.radix_keys.specs.Networks.{Net, IsBase}
 use Rattle.frozen_routes.specs.declared.tops.Cell.{Cell}
 use Rattle.frozen_routes.specs.Routes.{AreRising, AreTopCells, AreUplinks, IsEarlier, IsLastHolder, base_numbers, bit_counts}
 use Rattle.flat_routes.specs.declared.head.Plan.{Plan}
+use Rattle.flat_routes.specs.declared.ipv4.Row.{Row as Row4}
+use Rattle.flat_routes.specs.declared.ipv6.Row.{Row as Row6}
 
 -- the number of 4 bytes from the place a on, the low byte first
 unfoldable pub u32_in : List ℕ → ℕ → ℕ
@@ -77,9 +79,20 @@ abbrev pub value_in : Bool → List ℕ → ℕ → ℕ
 value_in false bs i = u32_in bs (rows_place bs + 16 * i + 12)
 value_in true bs i = u64_in bs (rows_place bs + 32 * i + 24)
 
+-- the network with a first address and so many shared bits
+abbrev pub network : ℕ → ℕ → Net ℕ
+network first bits = record { base = first; bits = bits }
+
 -- the row at i: a network and its value
 abbrev pub row_in : Bool → List ℕ → ℕ → Net ℕ × ℕ
-row_in wide bs i = (record { base = first_in wide bs i; bits = bits_in wide bs i }, value_in wide bs i)
+row_in wide bs i = (network (first_in wide bs i) (bits_in wide bs i), value_in wide bs i)
+
+-- a row as the calls give it
+abbrev pub row4_of : Row4 → Net ℕ × ℕ
+row4_of r = (network r.first r.bits, r.value)
+
+abbrev pub row6_of : Row6 → Net ℕ × ℕ
+row6_of r = (network r.first r.bits, r.value)
 
 -- the row whose index and one more is r, or None at 0
 abbrev pub found_row : Bool → List ℕ → ℕ → Option (Net ℕ × ℕ)
@@ -135,6 +148,7 @@ pub record IsImage (wide : Bool) (bs : List ℕ) : Type 0 where
 pub record IsPlanOf (wide : Bool) (bs : List ℕ) (plan : Plan) : Type 0 where
   pub head : HasHead wide bs
   pub rows : plan.rows ≡ row_count bs
+  pub few : plan.rows < 2 ^ 32
   pub rows_at : plan.rows_at ≡ rows_place bs
   pub rest : plan.rest ≡ rest_of bs
   pub cells : plan.cells ≡ cell_count bs

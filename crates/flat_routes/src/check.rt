@@ -99,7 +99,7 @@ pub(crate) fn is_image(image: &[u8], wide: bool) -> bool
         }
         let first = first_at(image, wide, plan, at);
         let link = climb(image, wide, plan, at, Cell::NONE, first);
-        if link != link_at(image, wide, plan, at) {
+        if link != link_at(image, wide, plan, at) as usize {
             return false;
         }
     }

@@ -1,15 +1,116 @@
-//! Images of IPv4 networks.
-ghost use Rattle.std.specs.Prelude.{◌<◌, IfSome, false, option_map};
-ghost use Rattle.frozen_routes.specs.Routes.{IsLongestRow};
-ghost use Rattle.flat_routes.specs.Images.{IsImage, image_rows, row_count, row_in};
+//! Images of IPv4 networks. Each call is total: whatever the bytes are, it ends, and reads none but them.
+ghost use Rattle.std.specs.Prelude.{◌≡◌, ◌↔◌, ◌+◌, ◌<◌, ◌≤◌, ℕ, IfSome, IsTrue, MatchOption, false, drop, length, min, option_map, slice_get, slice_index, take};
+ghost use Rattle.std.specs.List.{filter};
+ghost use Rattle.radix_keys.specs.Networks.{Net};
+ghost use Rattle.frozen_routes.specs.Routes.{IsLongestRow, IsOwnRow, is_inside};
+ghost use Rattle.flat_routes.specs.Images.{IsImage, found_row, image_rows, link_in, network, row4_of, row_count, row_in};
+
+use crate::head::plan_of;
+use crate::rows::{bits_at, first_at, link_at, value_at};
+use crate::search::find;
+use crate::{check, networks, search};
+
+/// A row as it lies in an image, in 16 bytes: a network by its first address and how many bits its addresses share, the
+/// index and one more of the row of the network around it, or 0, and the network's value.
+#[repr(C)]
+#[derive(Clone, Copy)]
+pub struct Row {
+    pub first: u32,
+    pub bits: u32,
+    pub link: u32,
+    pub value: u32,
+}
+
+/// Whether bytes are an image of IPv4 networks. It takes linear time, but for the climbs from each network, and from each
+/// value of the first bits, to the network around it.
+pub fn is_image(image: &[u8]) -> bool
+    ensures { IsTrue result ↔ IsImage false image.now }
+{
+    check::is_image(image, false)
+}
+
+/// The count of rows. Of bytes that are no image it is some number.
+pub fn len(image: &[u8]) -> usize
+    ensures { IsImage false image.now → result ≡ length (image_rows false image.now) }
+{
+    match plan_of(image, false) {
+        Some(plan) => plan.rows,
+        None => 0,
+    }
+}
+
+/// The row at an index, or None where there is none.
+pub fn row_at(image: &[u8], at: usize) -> Option<Row>
+    ensures row { IsImage false image.now
+        → slice_get (image_rows false image.now) at ≡ option_map row4_of result }
+    ensures link { IfSome result (λ r. r.link ≡ link_in false image.now at) }
+{
+    let Some(plan) = plan_of(image, false) else {
+        return None;
+    };
+    if at >= plan.rows {
+        return None;
+    }
+    Some(Row {
+        first: first_at(image, false, plan, at) as u32,
+        bits: bits_at(image, false, plan, at),
+        link: link_at(image, false, plan, at),
+        value: value_at(image, false, plan, at) as u32,
+    })
+}
 
 /// The index of the row of the longest network that holds an address, or None where none does.
 ///
-/// Of bytes that are no image it returns None or the index of some row.
+/// It takes as many comparisons as the rows of the address's block have binary digits, and a step for each network around
+/// the last one that begins at or before it, until one holds it. Of bytes that are no image it returns None or the index
+/// of some row.
 pub fn look(image: &[u8], address: u32) -> Option<usize>
     ensures within { IfSome result (λ at. at < row_count image.now) }
     ensures row { IsImage false image.now → IsLongestRow 32 (λ n. n) (image_rows false image.now)
         address (option_map (row_in false image.now) result) }
 {
-    crate::search::look(image, false, u128::from(address))
+    search::look(image, false, u128::from(address))
+}
+
+/// Looks up addresses as `look` does, as many as there are of both, and puts for each the index of its row and one more,
+/// or 0, into `found`. It returns how many.
+pub fn look_many(image: &[u8], addresses: &[u32], found: &mut [u32]) -> usize
+    ensures count { result ≤ min (length addresses.now) (length found.new) }
+    ensures all { IsImage false image.now
+        → result ≡ min (length addresses.now) (length found.new) }
+    ensures rows { IsImage false image.now → (k : ℕ) → k < result
+        → IsLongestRow 32 (λ n. n) (image_rows false image.now) (slice_index addresses.now k)
+        (found_row false image.now (slice_index found.new k)) }
+{
+    let Some(plan) = plan_of(image, false) else {
+        return 0;
+    };
+    let count = addresses.len().min(found.len());
+    for i in 0..count {
+        found[i] = find(image, false, plan, u128::from(addresses[i])) as u32;
+    }
+    count
+}
+
+/// The index of the row of this very network, by its first address and how many bits its addresses share, or None where
+/// no row is of it. It takes as many comparisons as the count of rows has binary digits.
+pub fn get(image: &[u8], first: u32, bits: u32) -> Option<usize>
+    ensures within { IfSome result (λ at. at < row_count image.now) }
+    ensures row { IsImage false image.now → MatchOption result
+        ((r : Net ℕ × ℕ) → IsOwnRow (λ n. n) (image_rows false image.now) (network first bits) r → ⊥)
+        (λ at. IsOwnRow (λ n. n) (image_rows false image.now) (network first bits)
+        (row_in false image.now at)) }
+{
+    networks::get(image, false, u128::from(first), bits)
+}
+
+/// The rows whose networks lie within a network, itself among them: the index of the first, and how many there are. It
+/// takes twice as many comparisons as the count of rows has binary digits.
+pub fn below(image: &[u8], first: u32, bits: u32) -> (usize, usize)
+    ensures within { result.0 + result.1 ≤ row_count image.now }
+    ensures rows { IsImage false image.now
+        → take result.1 (drop result.0 (image_rows false image.now))
+        ≡ filter (is_inside 32 (λ n. n) (network first bits)) (image_rows false image.now) }
+{
+    networks::below(image, false, u128::from(first), bits)
 }

@@ -7,5 +7,6 @@ mod head;
 pub mod ipv4;
 pub mod ipv6;
 mod loads;
+mod networks;
 mod rows;
 mod search;

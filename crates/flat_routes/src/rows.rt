@@ -1,5 +1,5 @@
 //! The rows and the cells of an image by their numbers.
-ghost use Rattle.std.specs.Prelude.{◌≡◌, ◌↔◌, ◌+◌, ◌*◌, ◌/◌, ◌^◌, ◌<◌, ◌≤◌, Some, IsTrue, length, slice_get, slice_index};
+ghost use Rattle.std.specs.Prelude.{◌≡◌, ◌↔◌, ◌+◌, ◌*◌, ◌/◌, ◌^◌, ◌<◌, ◌≤◌, Some, false, IsTrue, length, slice_get, slice_index};
 ghost use Rattle.frozen_routes.specs.Routes.{IsHolderAt};
 ghost use Rattle.flat_routes.specs.Images.{IsPlanOf, cell_in, firsts, image_cells, links, sizes, value_in, width};
 
@@ -63,15 +63,29 @@ pub(crate) fn bits_at(image: &[u8], wide: bool, plan: Plan, at: usize) -> u32
 
 /// The link of the network at an index.
 #[inline(always)]
-pub(crate) fn link_at(image: &[u8], wide: bool, plan: Plan, at: usize) -> usize
+pub(crate) fn link_at(image: &[u8], wide: bool, plan: Plan, at: usize) -> u32
     requires plan { IsPlanOf wide image.now plan }
     requires within { at < plan.rows }
     ensures { result ≡ slice_index (links wide image.now) at }
 {
     if wide {
-        u32_at(image, plan.rows_at + 32 * at + 20) as usize
+        u32_at(image, plan.rows_at + 32 * at + 20)
     } else {
-        u32_at(image, plan.rows_at + 16 * at + 8) as usize
+        u32_at(image, plan.rows_at + 16 * at + 8)
+    }
+}
+
+/// The value of the row at an index.
+pub(crate) fn value_at(image: &[u8], wide: bool, plan: Plan, at: usize) -> u64
+    requires plan { IsPlanOf wide image.now plan }
+    requires within { at < plan.rows }
+    ensures value { result ≡ value_in wide image.now at }
+    ensures fits { wide ≡ false → result < 2 ^ 32 }
+{
+    if wide {
+        u64_at(image, plan.rows_at + 32 * at + 24)
+    } else {
+        u64::from(u32_at(image, plan.rows_at + 16 * at + 12))
     }
 }
 

@@ -87,7 +87,7 @@ pub(crate) fn climb(
         if holds_at(image, wide, plan, at - 1, number) {
             return at;
         }
-        let link = link_at(image, wide, plan, at - 1);
+        let link = link_at(image, wide, plan, at - 1) as usize;
         if link >= at {
             return 0;
         }

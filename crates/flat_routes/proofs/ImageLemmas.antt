@@ -1,7 +1,8 @@
 -- The numbers of an image, and what they say of its rows.
-use Rattle.std.proofs.Common.{◌≡◌, ℕ, zero, suc, ◌+◌, ◌-◌, ◌*◌, ◌/◌, ◌^◌, ◌<◌, ◌≤◌, inl, inr, Bool, true, false, List, [], ◌∷◌, ◌++◌, Some, None, length, get_or, slice_get, refl, ap, sym, subst, ◌∙◌, arith}
+use Rattle.std.proofs.Common.{◌≡◌, ℕ, zero, suc, ◌+◌, ◌-◌, ◌*◌, ◌/◌, ◌^◌, ◌<◌, ◌≤◌, inl, inr, Bool, true, false, List, [], ◌∷◌, ◌++◌, Some, None, length, get_or, slice_get, take, map as each, refl, ap, sym, subst, ◌∙◌, arith}
 use Rattle.std.proofs.lemmas.Bool.{cases_lt}
-use Rattle.std.proofs.lemmas.List.{length-append, length-map}
+use Rattle.std.proofs.lemmas.List.{length-append, length-map, map_push, take_more}
+use Rattle.radix_keys.specs.Networks.{Net}
 use Rattle.frozen_routes.specs.Routes.{AreRising, AreUpTo, IsEarlier, IsFirstTop, IsHolderAt, IsLastHolder, IsLongestRow}
 use Rattle.frozen_routes.proofs.RouteLemmas.Blocks.{earlier_le, sandwich}
 use Rattle.frozen_routes.proofs.RouteLemmas.Growing.{earlier_through}
@@ -18,6 +19,14 @@ pub length-listed : {X : Type 0} (f : ℕ → X) (n : ℕ) → length (listed f 
 unfolding listed
 length-listed f zero = refl
 length-listed f (suc n) = omega (arith, length-append (listed f n) (f n ∷ []), length-listed f n)
+
+listed_next : {X : Type 0} (f : ℕ → X) (n : ℕ) → listed f (suc n) ≡ listed f n ++ f n ∷ []
+unfolding listed
+listed_next f n = refl
+
+-- one more is listed
+listed_more : {X : Type 0} (f : ℕ → X) (n : ℕ) → listed f (n + 1) ≡ listed f n ++ f n ∷ []
+listed_more f n = let next : suc n ≡ n + 1 = omega arith in subst (λ m. listed f m ≡ listed f n ++ f n ∷ []) next (listed_next f n)
 
 -- what is stored in a list is stored in it and one more
 stored_left : {X : Type 0} (xs ys : List X) (i : ℕ) (x : X) → slice_get xs i ≡ Some x → slice_get (xs ++ ys) i ≡ Some x
@@ -282,10 +291,22 @@ pub no_row : (wide : Bool) (bs : List ℕ) (i : ℕ) → row_count bs ≤ i → 
 no_row wide bs i l = none_past (image_rows wide bs) i (omega (arith, l, length-rows wide bs))
 
 -- the row of numbers that are read at an index
+pub row_read : (wide : Bool) (bs : List ℕ) (i f b v : ℕ) → i < row_count bs → f ≡ get_or (firsts wide bs) i 0 → b ≡ get_or (sizes wide bs) i 0 → v ≡ value_in wide bs i
+    → row_in wide bs i ≡ (network f b, v)
+row_read wide bs i f b v l first size value =
+    sym (ap (λ x. (network x b, v)) (first ∙ first_stored wide bs i l)
+    ∙ ap (λ x. (network (first_in wide bs i) x, v)) (size ∙ size_stored wide bs i l)
+    ∙ ap (λ x. (network (first_in wide bs i) (bits_in wide bs i), x)) value)
+
 pub row_is : (wide : Bool) (bs : List ℕ) (i f b v : ℕ) → i < row_count bs → f ≡ get_or (firsts wide bs) i 0 → b ≡ get_or (sizes wide bs) i 0 → v ≡ value_in wide bs i
     → slice_get (image_rows wide bs) i ≡ Some (network f b, v)
 row_is wide bs i f b v l first size value =
-    listed_at (row_in wide bs) (row_count bs) i l
-    ∙ sym (ap (λ x. Some (network x b, v)) (first ∙ first_stored wide bs i l)
-    ∙ ap (λ x. Some (network (first_in wide bs i) x, v)) (size ∙ size_stored wide bs i l)
-    ∙ ap (λ x. Some (network (first_in wide bs i) (bits_in wide bs i), x)) value)
+    listed_at (row_in wide bs) (row_count bs) i l ∙ ap (λ r. Some r) (row_read wide bs i f b v l first size value)
+
+-- one more of an image's rows that are those of a list
+pub rows_more : {R : Type 0} (of : R → Net ℕ × ℕ) (wide : Bool) (bs : List ℕ) (rows : List R) (i : ℕ) (d : R) → i < length rows
+    → listed (row_in wide bs) i ≡ each of (take i rows) → row_in wide bs i ≡ of (get_or rows i d)
+    → listed (row_in wide bs) (i + 1) ≡ each of (take (i + 1) rows)
+rows_more of wide bs rows i d l same here =
+    listed_more (row_in wide bs) i ∙ ap (λ rs. rs ++ row_in wide bs i ∷ []) same ∙ ap (λ r. each of (take i rows) ++ r ∷ []) here
+    ∙ sym (ap (λ rs. each of rs) (take_more rows i d l) ∙ map_push of (take i rows) (get_or rows i d))

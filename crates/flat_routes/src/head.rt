@@ -53,9 +53,10 @@ fn part_at(image: &[u8], entry: usize, kind: u32) -> Option<(usize, usize)>
 }
 
 /// How many bytes so many rows take.
-fn size_of_rows(wide: bool, rows: usize) -> usize
+pub(crate) fn size_of_rows(wide: bool, rows: usize) -> usize
     requires { rows < 2 ^ 32 }
-    ensures { result ≡ row_size wide * rows }
+    ensures value { result ≡ row_size wide * rows }
+    ensures most { result ≤ 32 * rows }
 {
     if wide { 32 * rows } else { 16 * rows }
 }

@@ -1,11 +1,12 @@
 //! Images of IPv6 networks. Each call is total: whatever the bytes are, it ends, and reads none but them.
-ghost use Rattle.std.specs.Prelude.{◌≡◌, ◌↔◌, ◌+◌, ◌<◌, ◌≤◌, ℕ, IfSome, IsTrue, MatchOption, true, drop, length, min, option_map, slice_get, slice_index, take};
+ghost use Rattle.std.specs.Prelude.{◌≡◌, ◌↔◌, ◌+◌, ◌*◌, ◌^◌, ◌<◌, ◌≤◌, ℕ, IfSome, IsSome, IsTrue, MatchOption, OnOk, true, drop, length, min, option_map, slice_get, slice_index, take, map as each};
 ghost use Rattle.std.specs.List.{filter};
 ghost use Rattle.radix_keys.specs.Networks.{Net};
 ghost use Rattle.frozen_routes.specs.Routes.{IsLongestRow, IsOwnRow, is_inside};
-ghost use Rattle.flat_routes.specs.Images.{IsImage, found_row, image_rows, link_in, network, row6_of, row_count, row_in};
+ghost use Rattle.flat_routes.specs.Images.{IsImage, found_row, image_rows, link_in, network, row6_of, row_count, row_in, row_size};
 
 use crate::head::plan_of;
+use crate::layout::{WriteError, layout, next_row, put_cells, put_head, put_u32, put_u64};
 use crate::rows::{bits_at, first_at, link_at, value_at};
 use crate::search::find;
 use crate::{check, networks, search};
@@ -113,4 +114,84 @@ pub fn below(image: &[u8], first: u128, bits: u32) -> (usize, usize)
         ≡ filter (is_inside 128 (λ n. n) (network first bits)) (image_rows true image.now) }
 {
     networks::below(image, true, first, bits)
+}
+
+/// How many bytes the image of so many rows takes, as `write` lays it out, or None of 2^32 rows or more.
+pub fn image_len(rows: usize) -> Option<usize>
+    ensures least { IfSome result (λ len. 64 + row_size true * rows ≤ len) }
+    ensures some { rows < 2 ^ 32 → IsSome result }
+{
+    match layout(true, rows) {
+        Some(plan) => Some(plan.cells_at + 8 * plan.cells),
+        None => None,
+    }
+}
+
+/// Puts a row behind those before it, with its link.
+fn put_row(out: &mut [u8], at: usize, row: Row) -> bool {
+    let Some((place, link)) = next_row(out, true, at, row.first) else {
+        return false;
+    };
+    put_u64(out, place, (row.first % (1 << 64)) as u64);
+    put_u64(out, place + 8, (row.first >> 64) as u64);
+    put_u32(out, place + 16, row.bits);
+    put_u32(out, place + 20, link);
+    put_u64(out, place + 24, row.value);
+    true
+}
+
+/// Whether the rows of an image are these, but for their links.
+fn are_rows(image: &[u8], rows: &[Row]) -> bool
+    ensures { IsTrue result → image_rows true image.now ≡ each row6_of rows.now }
+{
+    let Some(plan) = plan_of(image, true) else {
+        return false;
+    };
+    if plan.rows != rows.len() {
+        return false;
+    }
+    for at in 0..rows.len() {
+        let row = rows[at];
+        if first_at(image, true, plan, at) != row.first {
+            return false;
+        }
+        if bits_at(image, true, plan, at) != row.bits {
+            return false;
+        }
+        if value_at(image, true, plan, at) != row.value {
+            return false;
+        }
+    }
+    true
+}
+
+/// Writes the image of rows, which rise by their first addresses, and of one first address by their bits, into a buffer
+/// of `image_len` bytes or more. Of a row's link it takes no notice. Bytes behind the image stay as they are. It takes
+/// linear time, but for the climbs to the network around each network, and around each value of the first bits.
+///
+/// # Errors
+///
+/// There are too many rows, the buffer is too short, or the rows aren't in order; the buffer may hold part of an image
+/// then. What is written is checked, so at Ok it is an image of these very rows.
+pub fn write(rows: &[Row], out: &mut [u8]) -> Result<(), WriteError>
+    ensures image { OnOk result (IsImage true out.new) }
+    ensures rows { OnOk result (image_rows true out.new ≡ each row6_of rows.now) }
+{
+    let count = rows.len();
+    let Some(plan) = layout(true, count) else {
+        return Err(WriteError::Full);
+    };
+    put_head(out, true, count)?;
+    for at in 0..count {
+        if !put_row(out, at, rows[at]) {
+            return Err(WriteError::Unsorted);
+        }
+    }
+    if !put_cells(out, true, plan.cells) {
+        return Err(WriteError::Unsorted);
+    }
+    if !check::is_image(out, true) || !are_rows(out, rows) {
+        return Err(WriteError::Unsorted);
+    }
+    Ok(())
 }

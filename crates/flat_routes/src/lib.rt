@@ -6,7 +6,10 @@ mod check;
 mod head;
 pub mod ipv4;
 pub mod ipv6;
+mod layout;
 mod loads;
 mod networks;
 mod rows;
 mod search;
+
+pub use layout::WriteError;

@@ -13,3 +13,6 @@ mod rows;
 mod search;
 
 pub use layout::WriteError;
+
+#[cfg(test)]
+mod tests;

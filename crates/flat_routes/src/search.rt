@@ -35,7 +35,14 @@ fn top_span(image: &[u8], wide: bool, plan: Plan, number: u128) -> (Cell, usize)
 
 /// How many of the networks begin at or before an address, by its number, where the first `lo` do, and none from `hi` on.
 #[inline(always)]
-fn count_to(image: &[u8], wide: bool, plan: Plan, number: u128, mut lo: usize, mut hi: usize) -> usize
+fn count_to(
+    image: &[u8],
+    wide: bool,
+    plan: Plan,
+    number: u128,
+    mut lo: usize,
+    mut hi: usize,
+) -> usize
     requires plan { IsPlanOf wide image.now plan }
     requires order { lo ≤ hi }
     requires within { hi ≤ plan.rows }

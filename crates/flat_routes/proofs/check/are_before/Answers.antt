@@ -15,7 +15,7 @@ returns-then-count-plan c =
       | else-count-gt0-via-else-count-gt0 b ↦ λ some. absurd (omega (arith, some, b.if-count-gt0))
     ] in (
       λ yes. parted_by (width wide) fs (sizes wide bs) (links wide bs) c.args.plan.rows c.args.number c.args.count c.requires.linked
-      (omega (arith, length-firsts wide bs, c.requires.plan.rows)) c.requires.within below (λ l. absurd (omega (arith, l, c.if-count-plan.true))),
+          (omega (arith, length-firsts wide bs, c.requires.plan.rows)) c.requires.within below (λ l. absurd (omega (arith, l, c.if-count-plan.true))),
       λ parted. refl,
     )
 

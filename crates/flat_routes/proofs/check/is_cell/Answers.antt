@@ -1,7 +1,7 @@
-use Rattle.std.proofs.Common.{◌*◌, ◌^◌, ◌<◌, ◌≤◌, inl, inr, ap, length, arith, get_or, one-mul, subst, sym, ◌∙◌}
+use Rattle.std.proofs.Common.{◌≡◌, ◌*◌, ◌^◌, ◌<◌, ◌≤◌, inl, inr, ap, length, arith, one-mul, subst, sym, ◌∙◌}
 use Rattle.std.proofs.lemmas.Bool.{cases_lt, eq-eqb, eqb-true}
 use Rattle.std.proofs.lemmas.Nat.{shl_whole}
-use Rattle.frozen_routes.specs.Routes.{IsFirstTop, IsLastHolder}
+use Rattle.frozen_routes.specs.Routes.{IsLastHolder}
 use Rattle.frozen_routes.proofs.RouteLemmas.Tops.{none_behind}
 use Rattle.flat_routes.specs.Images.{cell_in, firsts, links, sizes, width}
 use Rattle.flat_routes.proofs.ImageLemmas.{all_rise, length-firsts, linked_less, none_of_none, one_last, width_most}
@@ -79,7 +79,7 @@ returns c =
     (λ k l. let less = parted.before k l in omega (arith, less)) (none_of_none w fs bs c.in-Some.start) in
     let own = subst (λ n. IsLastHolder w fs bs n (c.args.at * 2 ^ e) c.climb.result) c.cell_at-cell.ensures.count
     (subst (λ a. IsLastHolder w fs bs count a c.climb.result) start holder) in (
-      λ yes. let same = eqb-true _ _ yes in record {
+      λ yes. let same : c.climb.result ≡ c.cell_at-cell.result.around = eqb-true _ _ yes in record {
         count = record {
           within = omega (arith, parted.within, c.cell_at-cell.ensures.count);
           before = λ k l. let less = parted.before k (omega (arith, l, c.cell_at-cell.ensures.count)) in omega (arith, less, start);

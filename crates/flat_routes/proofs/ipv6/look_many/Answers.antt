@@ -1,4 +1,4 @@
-use Rattle.std.proofs.Common.{◌≡◌, ℕ, ◌<◌, true, below_more, sym, subst, arith, get_or}
+use Rattle.std.proofs.Common.{ℕ, true, below_more, sym, subst, arith, get_or}
 use Rattle.std.proofs.lemmas.List.{get_or-set_other, get_or-set_same}
 use Rattle.std.proofs.Math.ListN.{set}
 use Rattle.frozen_routes.specs.Routes.{IsLongestRow}

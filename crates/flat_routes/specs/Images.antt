@@ -10,7 +10,8 @@ use Rattle.flat_routes.specs.declared.ipv6.Row.{Row as Row6}
 
 -- the number of 4 bytes from the place a on, the low byte first
 unfoldable pub u32_in : List ℕ → ℕ → ℕ
-u32_in bs a = from_le_bytes w32 (slice_index bs a ∷ slice_index bs (a + 1) ∷ slice_index bs (a + 2) ∷ slice_index bs (a + 3) ∷ [])
+u32_in bs a = from_le_bytes w32
+    (slice_index bs a ∷ slice_index bs (a + 1) ∷ slice_index bs (a + 2) ∷ slice_index bs (a + 3) ∷ [])
 
 -- the number of 8 bytes
 unfoldable pub u64_in : List ℕ → ℕ → ℕ
@@ -27,7 +28,14 @@ unfoldable pub listed : {X : Type 0} → (ℕ → X) → ℕ → List X
 listed f zero = []
 listed f (suc n) = listed f n ++ f n ∷ []
 
--- what differs between the families, of which `true` is IPv6: how many bits an address has
+-- the families
+abbrev pub of_ipv4 : Bool
+of_ipv4 = false
+
+abbrev pub of_ipv6 : Bool
+of_ipv6 = true
+
+-- what differs between them: how many bits an address has
 abbrev pub width : Bool → ℕ
 width false = 32
 width true = 128

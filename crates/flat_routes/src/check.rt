@@ -1,5 +1,5 @@
 //! Whether bytes are an image.
-ghost use Rattle.std.specs.Prelude.{◌≡◌, ◌↔◌, ◌+◌, ◌*◌, ◌-◌, ◌%◌, ◌^◌, ◌<◌, ◌≤◌, IsTrue, length, slice_index};
+ghost use Rattle.std.specs.Prelude.{◌↔◌, ◌-◌, ◌%◌, ◌^◌, ◌<◌, ◌≤◌, IsTrue, length, slice_index};
 ghost use Rattle.radix_keys.specs.Networks.{IsBase};
 ghost use Rattle.sorted_tables.specs.Tables.{IsPartedAt};
 ghost use Rattle.frozen_routes.specs.Routes.{IsTopCell};
@@ -28,7 +28,8 @@ fn is_base(wide: bool, bits: u32, first: u128) -> bool
 fn is_next(image: &[u8], wide: bool, plan: Plan, at: usize) -> bool
     requires plan { IsPlanOf wide image.now plan }
     requires within { at < plan.rows }
-    ensures { IsTrue result ↔ IsNext (width wide) (firsts wide image.now) (sizes wide image.now) at }
+    ensures { IsTrue result
+        ↔ IsNext (width wide) (firsts wide image.now) (sizes wide image.now) at }
 {
     let first = first_at(image, wide, plan, at);
     let bits = bits_at(image, wide, plan, at);
@@ -52,7 +53,8 @@ fn are_before(image: &[u8], wide: bool, plan: Plan, count: usize, number: u128) 
     requires linked { AreLinkedTo (width wide) (firsts wide image.now) (sizes wide image.now)
         (links wide image.now) plan.rows }
     ensures { IsTrue result ↔ IsPartedAt (λ k. slice_index (firsts wide image.now) k < number)
-        (λ k. number ≤ slice_index (firsts wide image.now) k) (length (firsts wide image.now)) count }
+        (λ k. number ≤ slice_index (firsts wide image.now) k) (length (firsts wide image.now))
+        count }
 {
     if count > 0 && first_at(image, wide, plan, count - 1) >= number {
         return false;

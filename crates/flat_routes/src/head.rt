@@ -20,6 +20,7 @@ pub(crate) struct Plan {
 }
 
 /// Whether the bytes begin as an image of the family does, with room for a list of two parts or more.
+#[inline(always)]
 fn is_marked(image: &[u8], wide: bool) -> bool
     requires { 64 ≤ length image.now }
     ensures { IsTrue result ↔ ((u64_in image.now 0 ≡ mark wide) × (2 ≤ part_count image.now)
@@ -38,6 +39,7 @@ fn is_marked(image: &[u8], wide: bool) -> bool
 }
 
 /// The place and the length in bytes of the part listed at a place, if it is of this kind and lies inside the bytes.
+#[inline(always)]
 fn part_at(image: &[u8], entry: usize, kind: u32) -> Option<(usize, usize)>
     requires { entry + 24 ≤ length image.now }
     ensures { MatchOption result (IsPart image.now entry kind → ⊥)
@@ -53,6 +55,7 @@ fn part_at(image: &[u8], entry: usize, kind: u32) -> Option<(usize, usize)>
 }
 
 /// How many bytes so many rows take.
+#[inline(always)]
 pub(crate) fn size_of_rows(wide: bool, rows: usize) -> usize
     requires { rows < 2 ^ 32 }
     ensures value { result ≡ row_size wide * rows }
@@ -62,6 +65,7 @@ pub(crate) fn size_of_rows(wide: bool, rows: usize) -> usize
 }
 
 /// Where the parts of an image lie, or None where the head is not one of the family.
+#[inline(always)]
 pub(crate) fn plan_of(image: &[u8], wide: bool) -> Option<Plan>
     ensures { MatchOption result (HasHead wide image.now → ⊥)
         (λ plan. IsPlanOf wide image.now plan) }

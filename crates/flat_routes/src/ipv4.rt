@@ -1,9 +1,9 @@
 //! Images of IPv4 networks. Each call is total: whatever the bytes are, it ends, and reads none but them.
-ghost use Rattle.std.specs.Prelude.{◌≡◌, ◌↔◌, ◌+◌, ◌*◌, ◌^◌, ◌<◌, ◌≤◌, ℕ, IfSome, IsSome, IsTrue, MatchOption, OnOk, false, drop, length, min, option_map, slice_get, slice_index, take, map as each};
+ghost use Rattle.std.specs.Prelude.{◌≡◌, ◌↔◌, ◌+◌, ◌*◌, ◌^◌, ◌<◌, ◌≤◌, ℕ, IfSome, IsSome, IsTrue, MatchOption, OnOk, drop, length, min, option_map, slice_get, slice_index, take, map as each};
 ghost use Rattle.std.specs.List.{filter};
 ghost use Rattle.radix_keys.specs.Networks.{Net};
 ghost use Rattle.frozen_routes.specs.Routes.{IsLongestRow, IsOwnRow, is_inside};
-ghost use Rattle.flat_routes.specs.Images.{IsImage, found_row, image_rows, link_in, network, row4_of, row_count, row_in, row_size};
+ghost use Rattle.flat_routes.specs.Images.{IsImage, found_row, image_rows, link_in, network, of_ipv4, row4_of, row_count, row_in, row_size};
 
 use crate::head::plan_of;
 use crate::layout::{WriteError, layout, next_row, put_cells, put_head, put_u32};
@@ -25,14 +25,14 @@ pub struct Row {
 /// Whether bytes are an image of IPv4 networks. It takes linear time, but for the climbs from each network, and from each
 /// value of the first bits, to the network around it.
 pub fn is_image(image: &[u8]) -> bool
-    ensures { IsTrue result ↔ IsImage false image.now }
+    ensures { IsTrue result ↔ IsImage of_ipv4 image.now }
 {
     check::is_image(image, false)
 }
 
 /// The count of rows. Of bytes that are no image it is some number.
 pub fn len(image: &[u8]) -> usize
-    ensures { IsImage false image.now → result ≡ length (image_rows false image.now) }
+    ensures { IsImage of_ipv4 image.now → result ≡ length (image_rows of_ipv4 image.now) }
 {
     match plan_of(image, false) {
         Some(plan) => plan.rows,
@@ -42,9 +42,9 @@ pub fn len(image: &[u8]) -> usize
 
 /// The row at an index, or None where there is none.
 pub fn row_at(image: &[u8], at: usize) -> Option<Row>
-    ensures row { IsImage false image.now
-        → slice_get (image_rows false image.now) at ≡ option_map row4_of result }
-    ensures link { IfSome result (λ r. r.link ≡ link_in false image.now at) }
+    ensures row { IsImage of_ipv4 image.now
+        → slice_get (image_rows of_ipv4 image.now) at ≡ option_map row4_of result }
+    ensures link { IfSome result (λ r. r.link ≡ link_in of_ipv4 image.now at) }
 {
     let Some(plan) = plan_of(image, false) else {
         return None;
@@ -67,8 +67,8 @@ pub fn row_at(image: &[u8], at: usize) -> Option<Row>
 /// of some row.
 pub fn look(image: &[u8], address: u32) -> Option<usize>
     ensures within { IfSome result (λ at. at < row_count image.now) }
-    ensures row { IsImage false image.now → IsLongestRow 32 (λ n. n) (image_rows false image.now)
-        address (option_map (row_in false image.now) result) }
+    ensures row { IsImage of_ipv4 image.now → IsLongestRow 32 (λ n. n)
+        (image_rows of_ipv4 image.now) address (option_map (row_in of_ipv4 image.now) result) }
 {
     search::look(image, false, u128::from(address))
 }
@@ -77,11 +77,11 @@ pub fn look(image: &[u8], address: u32) -> Option<usize>
 /// or 0, into `found`. It returns how many.
 pub fn look_many(image: &[u8], addresses: &[u32], found: &mut [u32]) -> usize
     ensures count { result ≤ min (length addresses.now) (length found.new) }
-    ensures all { IsImage false image.now
+    ensures all { IsImage of_ipv4 image.now
         → result ≡ min (length addresses.now) (length found.new) }
-    ensures rows { IsImage false image.now → (k : ℕ) → k < result
-        → IsLongestRow 32 (λ n. n) (image_rows false image.now) (slice_index addresses.now k)
-        (found_row false image.now (slice_index found.new k)) }
+    ensures rows { IsImage of_ipv4 image.now → (k : ℕ) → k < result
+        → IsLongestRow 32 (λ n. n) (image_rows of_ipv4 image.now) (slice_index addresses.now k)
+        (found_row of_ipv4 image.now (slice_index found.new k)) }
 {
     let Some(plan) = plan_of(image, false) else {
         return 0;
@@ -97,10 +97,11 @@ pub fn look_many(image: &[u8], addresses: &[u32], found: &mut [u32]) -> usize
 /// no row is of it. It takes as many comparisons as the count of rows has binary digits.
 pub fn get(image: &[u8], first: u32, bits: u32) -> Option<usize>
     ensures within { IfSome result (λ at. at < row_count image.now) }
-    ensures row { IsImage false image.now → MatchOption result
-        ((r : Net ℕ × ℕ) → IsOwnRow (λ n. n) (image_rows false image.now) (network first bits) r → ⊥)
-        (λ at. IsOwnRow (λ n. n) (image_rows false image.now) (network first bits)
-        (row_in false image.now at)) }
+    ensures row { IsImage of_ipv4 image.now → MatchOption result
+        ((r : Net ℕ × ℕ) → IsOwnRow (λ n. n) (image_rows of_ipv4 image.now) (network first bits) r
+        → ⊥)
+        (λ at. IsOwnRow (λ n. n) (image_rows of_ipv4 image.now) (network first bits)
+        (row_in of_ipv4 image.now at)) }
 {
     networks::get(image, false, u128::from(first), bits)
 }
@@ -109,16 +110,16 @@ pub fn get(image: &[u8], first: u32, bits: u32) -> Option<usize>
 /// takes twice as many comparisons as the count of rows has binary digits.
 pub fn below(image: &[u8], first: u32, bits: u32) -> (usize, usize)
     ensures within { result.0 + result.1 ≤ row_count image.now }
-    ensures rows { IsImage false image.now
-        → take result.1 (drop result.0 (image_rows false image.now))
-        ≡ filter (is_inside 32 (λ n. n) (network first bits)) (image_rows false image.now) }
+    ensures rows { IsImage of_ipv4 image.now
+        → take result.1 (drop result.0 (image_rows of_ipv4 image.now))
+        ≡ filter (is_inside 32 (λ n. n) (network first bits)) (image_rows of_ipv4 image.now) }
 {
     networks::below(image, false, u128::from(first), bits)
 }
 
 /// How many bytes the image of so many rows takes, as `write` lays it out, or None of 2^32 rows or more.
 pub fn image_len(rows: usize) -> Option<usize>
-    ensures least { IfSome result (λ len. 64 + row_size false * rows ≤ len) }
+    ensures least { IfSome result (λ len. 64 + row_size of_ipv4 * rows ≤ len) }
     ensures some { rows < 2 ^ 32 → IsSome result }
 {
     match layout(false, rows) {
@@ -141,7 +142,7 @@ fn put_row(out: &mut [u8], at: usize, row: Row) -> bool {
 
 /// Whether the rows of an image are these, but for their links.
 fn are_rows(image: &[u8], rows: &[Row]) -> bool
-    ensures { IsTrue result → image_rows false image.now ≡ each row4_of rows.now }
+    ensures { IsTrue result → image_rows of_ipv4 image.now ≡ each row4_of rows.now }
 {
     let Some(plan) = plan_of(image, false) else {
         return false;
@@ -173,8 +174,8 @@ fn are_rows(image: &[u8], rows: &[Row]) -> bool
 /// There are too many rows, the buffer is too short, or the rows aren't in order; the buffer may hold part of an image
 /// then. What is written is checked, so at Ok it is an image of these very rows.
 pub fn write(rows: &[Row], out: &mut [u8]) -> Result<(), WriteError>
-    ensures image { OnOk result (IsImage false out.new) }
-    ensures rows { OnOk result (image_rows false out.new ≡ each row4_of rows.now) }
+    ensures image { OnOk result (IsImage of_ipv4 out.new) }
+    ensures rows { OnOk result (image_rows of_ipv4 out.new ≡ each row4_of rows.now) }
 {
     let count = rows.len();
     let Some(plan) = layout(false, count) else {

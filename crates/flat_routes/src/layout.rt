@@ -1,5 +1,5 @@
 //! How an image is laid out and written. Nothing is said here of the bytes: `write` checks what it wrote.
-ghost use Rattle.std.specs.Prelude.{◌≡◌, ◌+◌, ◌*◌, ◌^◌, ◌<◌, ◌≤◌, IfOk, IfSome, IsSome, IsTrue, length};
+ghost use Rattle.std.specs.Prelude.{◌≡◌, ◌+◌, ◌*◌, ◌^◌, ◌<◌, ◌≤◌, IfSome, IsSome, length};
 ghost use Rattle.flat_routes.specs.Images.{row_size};
 
 use crate::head::{Plan, plan_of, size_of_rows};

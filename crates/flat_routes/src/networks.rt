@@ -1,5 +1,5 @@
 //! The row of one network, and those within one.
-ghost use Rattle.std.specs.Prelude.{◌≡◌, ◌↔◌, ◌+◌, ◌-◌, ◌/◌, ◌^◌, ◌<◌, ◌≤◌, ℕ, IfSome, IsTrue, MatchOption, drop, length, slice_index, take};
+ghost use Rattle.std.specs.Prelude.{◌≡◌, ◌↔◌, ◌+◌, ◌-◌, ◌/◌, ◌^◌, ◌<◌, ◌≤◌, ℕ, IfSome, IsTrue, MatchOption, drop, slice_index, take};
 ghost use Rattle.std.specs.List.{filter};
 ghost use Rattle.radix_keys.specs.Networks.{Net};
 ghost use Rattle.frozen_routes.specs.Routes.{AreInFront, IsInFront, IsOwnRow, is_inside};
@@ -85,7 +85,8 @@ pub(crate) fn below(image: &[u8], wide: bool, first: u128, bits: u32) -> (usize,
     ensures within { result.0 + result.1 ≤ row_count image.now }
     ensures rows { IsImage wide image.now
         → take result.1 (drop result.0 (image_rows wide image.now))
-        ≡ filter (is_inside (width wide) (λ n. n) (network first bits)) (image_rows wide image.now) }
+        ≡ filter (is_inside (width wide) (λ n. n) (network first bits))
+        (image_rows wide image.now) }
 {
     let Some(plan) = plan_of(image, wide) else {
         return (0, 0);

@@ -1,5 +1,5 @@
 //! The rows and the cells of an image by their numbers.
-ghost use Rattle.std.specs.Prelude.{◌≡◌, ◌↔◌, ◌+◌, ◌*◌, ◌/◌, ◌^◌, ◌<◌, ◌≤◌, Some, false, IsTrue, length, slice_get, slice_index};
+ghost use Rattle.std.specs.Prelude.{◌≡◌, ◌↔◌, ◌+◌, ◌*◌, ◌/◌, ◌^◌, ◌<◌, ◌≤◌, Some, false, IsTrue, slice_get, slice_index};
 ghost use Rattle.frozen_routes.specs.Routes.{IsHolderAt};
 ghost use Rattle.flat_routes.specs.Images.{IsPlanOf, cell_in, firsts, image_cells, links, sizes, value_in, width};
 

@@ -1,5 +1,5 @@
 //! Searches in an image. Each is total: whatever the bytes are, it ends, and reads none but them.
-ghost use Rattle.std.specs.Prelude.{◌≡◌, ◌↔◌, ◌+◌, ◌*◌, ◌-◌, ◌/◌, ◌^◌, ◌<◌, ◌≤◌, ℕ, IfSome, IsTrue, length, option_map, slice_index};
+ghost use Rattle.std.specs.Prelude.{◌+◌, ◌-◌, ◌/◌, ◌<◌, ◌≤◌, ℕ, IfSome, option_map, slice_index};
 ghost use Rattle.frozen_routes.specs.Routes.{AreUpTo, IsLastHolder, IsLongestRow};
 ghost use Rattle.flat_routes.specs.Images.{AreLinkedTo, IsImage, IsPlanOf, firsts, found_row, image_rows, links, row_count, row_in, sizes, width};
 
@@ -84,8 +84,8 @@ pub(crate) fn climb(
     ensures last { AreLinkedTo (width wide) (firsts wide image.now) (sizes wide image.now)
         (links wide image.now) from
         → ((k : ℕ) → k < from → slice_index (firsts wide image.now) k ≤ number)
-        → IsLastHolder (width wide) (firsts wide image.now) (sizes wide image.now) floor.count number
-        floor.around
+        → IsLastHolder (width wide) (firsts wide image.now) (sizes wide image.now) floor.count
+        number floor.around
         → IsLastHolder (width wide) (firsts wide image.now) (sizes wide image.now) from number
         result }
 {

@@ -97,6 +97,15 @@ fn stored_image_of_ipv6(rt: HostRuntime) {
     assert!(rt; ipv6::below(&IPV6, 0x2001_0db8 << 96, 32) == (1, 3));
 }
 
+/// The bytes of `IPV4` with another one at an index.
+fn spoilt(at: usize, byte: u8) -> [u8; 277] {
+    let mut bytes = IPV4;
+    if at < 277 {
+        bytes[at] = byte;
+    }
+    bytes
+}
+
 #[test]
 fn spoilt_images(rt: HostRuntime) {
     const SPOILT: &'static [(usize, u8)] = &[
@@ -133,9 +142,7 @@ fn spoilt_images(rt: HostRuntime) {
         assert!(rt; !ipv4::is_image(&IPV4[..end]), "{end}");
     }
     for (at, byte) in SPOILT {
-        let mut bytes = IPV4;
-        bytes[*at] = *byte;
-        assert!(rt; !ipv4::is_image(&bytes), "{at} {byte}");
+        assert!(rt; !ipv4::is_image(&spoilt(*at, *byte)), "{at} {byte}");
     }
 }
 
@@ -177,7 +184,8 @@ fn written_image(rt: HostRuntime) {
     assert!(rt; ipv4::image_len(7) == Some(176));
     assert!(rt; ipv4::write(&rows, &mut out) == Ok(()));
     assert!(rt; out == PLAIN);
-    assert!(rt; ipv4::write(&rows, &mut out[..175]) == Err(WriteError::Short));
+    let mut short = [0u8; 175];
+    assert!(rt; ipv4::write(&rows, &mut short) == Err(WriteError::Short));
     rows[2].bits = 15;
     assert!(rt; ipv4::write(&rows, &mut out) == Err(WriteError::Unsorted));
 }

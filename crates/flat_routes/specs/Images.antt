@@ -139,15 +139,16 @@ pub record HasHead (wide : Bool) (bs : List ℕ) : Type 0 where
   pub some : 2 ≤ part_count bs
   pub fits : 16 + 24 * part_count bs ≤ length bs
   pub rows : IsPart bs 16 1
-  pub plain : u32_in bs 20 ≡ 0
   pub rows_size : u64_in bs 32 ≡ row_size wide * row_count bs
   pub cells : IsPart bs 40 2
   pub shift : rest_of bs < 128
-  pub cells_size : u64_in bs 56 ≡ 8 * cell_count bs
 
--- the bytes are an image: its networks rise, each has its link, and each cell is right
+-- the bytes are an image: the rows have no detail, the cells fill their part, the networks rise, each has its link, and each
+-- cell is right
 pub record IsImage (wide : Bool) (bs : List ℕ) : Type 0 where
   pub head : HasHead wide bs
+  pub plain : u32_in bs 20 ≡ 0
+  pub whole : u64_in bs 56 ≡ 8 * cell_count bs
   pub rising : AreRising (width wide) (firsts wide bs) (sizes wide bs)
   pub linked : AreUplinks (width wide) (firsts wide bs) (sizes wide bs) (links wide bs)
   pub tops : AreTopCells (rest_of bs) (width wide) (firsts wide bs) (sizes wide bs) (image_cells bs)

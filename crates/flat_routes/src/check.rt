@@ -1,11 +1,12 @@
 //! Whether bytes are an image.
-ghost use Rattle.std.specs.Prelude.{◌↔◌, ◌-◌, ◌%◌, ◌^◌, ◌<◌, ◌≤◌, IsTrue, length, slice_index};
+ghost use Rattle.std.specs.Prelude.{◌≡◌, ◌↔◌, ◌*◌, ◌-◌, ◌%◌, ◌^◌, ◌<◌, ◌≤◌, IsTrue, length, slice_index};
 ghost use Rattle.radix_keys.specs.Networks.{IsBase};
 ghost use Rattle.sorted_tables.specs.Tables.{IsPartedAt};
 ghost use Rattle.frozen_routes.specs.Routes.{IsTopCell};
-ghost use Rattle.flat_routes.specs.Images.{AreLinkedTo, IsImage, IsNext, IsPlanOf, cell_in, firsts, links, sizes, width};
+ghost use Rattle.flat_routes.specs.Images.{AreLinkedTo, IsImage, IsNext, IsPlanOf, cell_count, cell_in, firsts, links, sizes, u32_in, u64_in, width};
 
 use crate::head::{Plan, plan_of};
+use crate::loads::{u32_at, u64_at};
 use crate::rows::{Cell, bits_at, bits_of, cell_at, first_at, link_at};
 use crate::search::climb;
 
@@ -88,6 +89,15 @@ fn is_cell(image: &[u8], wide: bool, plan: Plan, at: usize) -> bool
     climb(image, wide, plan, cell.count, Cell::NONE, start) == cell.around
 }
 
+/// Whether the rows have no detail, and the cells fill their part.
+fn is_whole(image: &[u8]) -> bool
+    requires { 64 ≤ length image.now }
+    ensures { IsTrue result ↔ ((u32_in image.now 20 ≡ 0)
+        × (u64_in image.now 56 ≡ 8 * cell_count image.now)) }
+{
+    u32_at(image, 20) == 0 && u64_at(image, 56) % 8 == 0
+}
+
 /// Whether bytes are an image of the family.
 pub(crate) fn is_image(image: &[u8], wide: bool) -> bool
     ensures { IsTrue result ↔ IsImage wide image.now }
@@ -95,6 +105,9 @@ pub(crate) fn is_image(image: &[u8], wide: bool) -> bool
     let Some(plan) = plan_of(image, wide) else {
         return false;
     };
+    if !is_whole(image) {
+        return false;
+    }
     for at in 0..plan.rows {
         if !is_next(image, wide, plan, at) {
             return false;

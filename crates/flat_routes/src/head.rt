@@ -81,10 +81,7 @@ pub(crate) fn plan_of(image: &[u8], wide: bool) -> Option<Plan>
     };
     let rows = u32_at(image, 8) as usize;
     let rest = u32_at(image, 44);
-    if u32_at(image, 20) != 0 || rest >= 128 {
-        return None;
-    }
-    if rows_size != size_of_rows(wide, rows) || cells_size % 8 != 0 {
+    if rest >= 128 || rows_size != size_of_rows(wide, rows) {
         return None;
     }
     Some(Plan {

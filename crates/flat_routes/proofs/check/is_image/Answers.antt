@@ -82,6 +82,8 @@ returns c = (
       let end : length fs ≤ c.loop-at.at = omega (arith, all, c.in-Some.ensures.rows, c.loop-at-test.false) in
       record {
         head = c.in-Some.ensures.head;
+        plain = (c.is_whole.ensures.0 c.if-not-is_whole.false).0;
+        whole = (c.is_whole.ensures.0 c.if-not-is_whole.false).1;
         rising = all_rise w fs bs (links c.args.wide bytes) c.loop-at.at c.loop-at.invariant end;
         linked = λ k l. c.loop-at.invariant.links k (omega (arith, l, length-links c.args.wide bytes, all, end));
         tops = record {

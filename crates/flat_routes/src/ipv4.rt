@@ -1,5 +1,5 @@
 //! Images of IPv4 networks. Each call is total: whatever the bytes are, it ends, and reads none but them.
-ghost use Rattle.std.specs.Prelude.{◌≡◌, ◌↔◌, ◌+◌, ◌*◌, ◌^◌, ◌<◌, ◌≤◌, ℕ, IfSome, IsSome, IsTrue, MatchOption, OnOk, drop, length, min, option_map, slice_get, slice_index, take, map as each};
+ghost use Rattle.std.specs.Prelude.{◌≡◌, ◌↔◌, ◌+◌, ◌*◌, ◌^◌, ◌<◌, ◌≤◌, ℕ, IfErr, IfSome, IsSome, IsTrue, MatchOption, OnOk, drop, length, min, option_map, slice_get, slice_index, take, map as each};
 ghost use Rattle.std.specs.List.{filter};
 ghost use Rattle.radix_keys.specs.Networks.{Net};
 ghost use Rattle.frozen_routes.specs.Routes.{IsLongestRow, IsOwnRow, is_inside};
@@ -174,6 +174,7 @@ fn are_rows(image: &[u8], rows: &[Row]) -> bool
 /// There are too many rows, the buffer is too short, or the rows aren't in order; the buffer may hold part of an image
 /// then. What is written is checked, so at Ok it is an image of these very rows.
 pub fn write(rows: &[Row], out: &mut [u8]) -> Result<(), WriteError>
+    ensures full { IfErr result (λ e. e ≡ WriteError.Full → 2 ^ 32 ≤ length rows.now) }
     ensures image { OnOk result (IsImage of_ipv4 out.new) }
     ensures rows { OnOk result (image_rows of_ipv4 out.new ≡ each row4_of rows.now) }
 {
@@ -181,7 +182,9 @@ pub fn write(rows: &[Row], out: &mut [u8]) -> Result<(), WriteError>
     let Some(plan) = layout(false, count) else {
         return Err(WriteError::Full);
     };
-    put_head(out, false, count)?;
+    if !put_head(out, false, plan) {
+        return Err(WriteError::Short);
+    }
     for at in 0..count {
         if !put_row(out, at, rows[at]) {
             return Err(WriteError::Unsorted);

@@ -94,13 +94,14 @@ fn put_entry(out: &mut [u8], at: usize, kind: u32, detail: u32, place: usize, si
     put_u64(out, at + 16, size as u64);
 }
 
-/// Puts the head of an image of so many rows.
-pub(crate) fn put_head(out: &mut [u8], wide: bool, rows: usize) -> Result<(), WriteError> {
-    let Some(plan) = layout(wide, rows) else {
-        return Err(WriteError::Full);
-    };
-    if out.len() < plan.cells_at + 8 * plan.cells {
-        return Err(WriteError::Short);
+/// Puts the head of an image, if there is room for all of it.
+pub(crate) fn put_head(out: &mut [u8], wide: bool, plan: Plan) -> bool
+    requires rows { plan.rows < 2 ^ 32 }
+    requires cells { plan.cells < 2 ^ 22 }
+{
+    let rows_size = size_of_rows(wide, plan.rows);
+    if out.len() < 64 + rows_size + 8 * plan.cells {
+        return false;
     }
     let mark = if wide {
         u64::from_le_bytes(*b"NZIPV6.1")
@@ -110,9 +111,9 @@ pub(crate) fn put_head(out: &mut [u8], wide: bool, rows: usize) -> Result<(), Wr
     put_u64(out, 0, mark);
     put_u32(out, 8, plan.rows as u32);
     put_u32(out, 12, 2);
-    put_entry(out, 16, 1, 0, plan.rows_at, size_of_rows(wide, rows));
+    put_entry(out, 16, 1, 0, plan.rows_at, rows_size);
     put_entry(out, 40, 2, plan.rest, plan.cells_at, 8 * plan.cells);
-    Ok(())
+    true
 }
 
 /// The place of the row at an index, and its link, where the rows before it stand.

@@ -12,7 +12,7 @@ use Rattle.frozen_routes.proofs.RouteLemmas.Tops.{top_above, top_around, top_bel
 use Rattle.radix_keys.proofs.KeyLemmas.Order.{three_ways}
 use Rattle.sorted_tables.specs.Tables.{IsLastOf, IsPartedAt}
 use Rattle.flat_routes.specs.declared.head.Plan.{Plan}
-use Rattle.flat_routes.specs.Images.{AreLinkedTo, IsImage, IsNext, IsPlanOf, bits_in, cell_in, first_in, firsts, found_row, image_cells, image_rows, link_in, links, listed, network, rest_of, row_count, row_in, sizes, u128_in, u32_in, value_in, width}
+use Rattle.flat_routes.specs.Images.{AreLinkedTo, IsImage, IsNext, IsPlanOf, bits_in, cell_in, first_in, bases, found_row, image_cells, image_rows, link_in, links, listed, network, rest_of, row_count, row_in, sizes, u128_in, u32_in, value_in, width}
 
 -- as many as are listed
 pub length-listed : {X : Type 0} (f : ℕ → X) (n : ℕ) → length (listed f n) ≡ n
@@ -53,14 +53,14 @@ listed_at f (suc n) i l = elim (cases_lt i n) [
 ]
 
 -- as many first addresses, bits and links as rows
-pub length-firsts : (wide : Bool) (bs : List ℕ) → length (firsts wide bs) ≡ row_count bs
+pub length-firsts : (wide : Bool) (bs : List ℕ) → length (bases wide bs) ≡ row_count bs
 length-firsts wide bs = length-map (image_rows wide bs) (λ r. r.0.base) ∙ length-listed (row_in wide bs) (row_count bs)
 
 pub length-links : (wide : Bool) (bs : List ℕ) → length (links wide bs) ≡ row_count bs
 length-links wide bs = length-listed (link_in wide bs) (row_count bs)
 
 -- the first address, the bits and the link at an index
-pub first_stored : (wide : Bool) (bs : List ℕ) (i : ℕ) → i < row_count bs → get_or (firsts wide bs) i 0 ≡ first_in wide bs i
+pub first_stored : (wide : Bool) (bs : List ℕ) (i : ℕ) → i < row_count bs → get_or (bases wide bs) i 0 ≡ first_in wide bs i
 first_stored wide bs i l = (stored_at (λ r. r.0.base) (image_rows wide bs) i (row_in wide bs i) (listed_at (row_in wide bs) (row_count bs) i l)).1
 
 pub size_stored : (wide : Bool) (bs : List ℕ) (i : ℕ) → i < row_count bs → get_or (sizes wide bs) i 0 ≡ bits_in wide bs i
@@ -77,7 +77,7 @@ link_stored wide bs i l = read_at (links wide bs) i (link_in wide bs i) (listed_
 
 -- what stands where a row of IPv6 has its first address, its bits and its link
 pub wide_first : (wide : Bool) (bs : List ℕ) (plan : Plan) (i : ℕ) → wide ≡ true → IsPlanOf wide bs plan → i < plan.rows
-    → u128_in bs (plan.rows_at + 32 * i) ≡ get_or (firsts wide bs) i 0
+    → u128_in bs (plan.rows_at + 32 * i) ≡ get_or (bases wide bs) i 0
 wide_first false bs plan i is of l = absurd (cc is)
 wide_first true bs plan i is of l =
     ap (λ a. u128_in bs (a + 32 * i)) of.rows_at ∙ sym (first_stored true bs i (omega (arith, l, of.rows)))
@@ -96,7 +96,7 @@ wide_link true bs plan i is of l =
 
 -- and of IPv4
 pub narrow_first : (wide : Bool) (bs : List ℕ) (plan : Plan) (i : ℕ) → wide ≡ false → IsPlanOf wide bs plan → i < plan.rows
-    → u32_in bs (plan.rows_at + 16 * i) ≡ get_or (firsts wide bs) i 0
+    → u32_in bs (plan.rows_at + 16 * i) ≡ get_or (bases wide bs) i 0
 narrow_first true bs plan i is of l = absurd (cc is)
 narrow_first false bs plan i is of l =
     ap (λ a. u32_in bs (a + 16 * i)) of.rows_at ∙ sym (first_stored false bs i (omega (arith, l, of.rows)))
@@ -117,22 +117,22 @@ narrow_link false bs plan i is of l =
 module _ (wide : Bool) (bs : List ℕ) (image : IsImage wide bs) (a e t c : ℕ) (same : e ≡ rest_of bs) (at : slice_get (image_cells bs) t ≡ Some (cell_in bs t))
     (count : c ≡ (cell_in bs t).count) where
   -- the networks before the block begin at or before it
-  pub span_below : (k : ℕ) → t ≡ a / 2 ^ e → k < c → get_or (firsts wide bs) k 0 ≤ a
-  span_below k is l = top_below (rest_of bs) (firsts wide bs) a t c k (subst (IsFirstTop (rest_of bs) (firsts wide bs) t) (sym count) (image.tops.cells t (cell_in bs t) at).count)
+  pub span_below : (k : ℕ) → t ≡ a / 2 ^ e → k < c → get_or (bases wide bs) k 0 ≤ a
+  span_below k is l = top_below (rest_of bs) (bases wide bs) a t c k (subst (IsFirstTop (rest_of bs) (bases wide bs) t) (sym count) (image.tops.cells t (cell_in bs t) at).count)
       (is ∙ ap (λ d. a / 2 ^ d) same) l
 
   -- and those behind it don't
-  pub span_above : (s k : ℕ) → t ≡ s + 1 → s ≡ a / 2 ^ e → c ≤ k → k < row_count bs → a < get_or (firsts wide bs) k 0
-  span_above s k next is l m = top_above (rest_of bs) (firsts wide bs) a s c k
-      (subst (λ u. IsFirstTop (rest_of bs) (firsts wide bs) u c) next (subst (IsFirstTop (rest_of bs) (firsts wide bs) t) (sym count) (image.tops.cells t (cell_in bs t) at).count))
+  pub span_above : (s k : ℕ) → t ≡ s + 1 → s ≡ a / 2 ^ e → c ≤ k → k < row_count bs → a < get_or (bases wide bs) k 0
+  span_above s k next is l m = top_above (rest_of bs) (bases wide bs) a s c k
+      (subst (λ u. IsFirstTop (rest_of bs) (bases wide bs) u c) next (subst (IsFirstTop (rest_of bs) (bases wide bs) t) (sym count) (image.tops.cells t (cell_in bs t) at).count))
       (is ∙ ap (λ d. a / 2 ^ d) same) l (omega (arith, m, length-firsts wide bs))
 
   -- and one of them is the last that holds it
-  pub span_around : (r : ℕ) → t ≡ a / 2 ^ e → r ≡ (cell_in bs t).around → IsLastHolder (width wide) (firsts wide bs) (sizes wide bs) c a r
+  pub span_around : (r : ℕ) → t ≡ a / 2 ^ e → r ≡ (cell_in bs t).around → IsLastHolder (width wide) (bases wide bs) (sizes wide bs) c a r
   span_around r is around =
-      subst (λ n. IsLastHolder (width wide) (firsts wide bs) (sizes wide bs) n a r) (sym count)
-      (subst (IsLastHolder (width wide) (firsts wide bs) (sizes wide bs) (cell_in bs t).count a) (sym around)
-      (top_around (rest_of bs) (width wide) (firsts wide bs) (sizes wide bs) t a (cell_in bs t) (image.tops.cells t (cell_in bs t) at) (is ∙ ap (λ d. a / 2 ^ d) same)))
+      subst (λ n. IsLastHolder (width wide) (bases wide bs) (sizes wide bs) n a r) (sym count)
+      (subst (IsLastHolder (width wide) (bases wide bs) (sizes wide bs) (cell_in bs t).count a) (sym around)
+      (top_around (rest_of bs) (width wide) (bases wide bs) (sizes wide bs) t a (cell_in bs t) (image.tops.cells t (cell_in bs t) at) (is ∙ ap (λ d. a / 2 ^ d) same)))
 
 -- the first n networks rise, and have their links
 module _ (w : ℕ) (fs bs up : List ℕ) (n : ℕ) (linked : AreLinkedTo w fs bs up n) where
@@ -158,7 +158,7 @@ module _ (w : ℕ) (fs bs up : List ℕ) (n : ℕ) (linked : AreLinkedTo w fs bs
 
 -- those of an image do
 pub image_linked : (wide : Bool) (bs : List ℕ) (n : ℕ) → IsImage wide bs → n ≤ row_count bs
-    → AreLinkedTo (width wide) (firsts wide bs) (sizes wide bs) (links wide bs) n
+    → AreLinkedTo (width wide) (bases wide bs) (sizes wide bs) (links wide bs) n
 image_linked wide bs n image within = record {
   next = λ k l. record {
     base = image.rising.bases k (omega (arith, l, within, length-firsts wide bs));
@@ -180,7 +180,7 @@ none_past (y ∷ xs) (suc i) l = none_past xs i (omega (arith, l))
 
 -- the last of all networks that holds an address is the longest
 found_longest : (wide : Bool) (bs : List ℕ) (a r : ℕ) → IsImage wide bs
-    → IsLastHolder (width wide) (firsts wide bs) (sizes wide bs) (length (image_rows wide bs)) a r
+    → IsLastHolder (width wide) (bases wide bs) (sizes wide bs) (length (image_rows wide bs)) a r
     → IsLongestRow (width wide) (λ m. m) (image_rows wide bs) a (found_row wide bs r)
 found_longest wide bs a zero image last = none_holds (width wide) (λ m. m) (image_rows wide bs) image.rising a 0 refl last
 found_longest wide bs a (suc i) image last =
@@ -190,13 +190,13 @@ found_longest wide bs a (suc i) image last =
     (listed_at (row_in wide bs) (row_count bs) i (let le = last.within in omega (arith, le, length-listed (row_in wide bs) (row_count bs)))))
 
 -- the last of those that begin by an address too
-pub longest : (wide : Bool) (bs : List ℕ) (a n r : ℕ) → IsImage wide bs → AreUpTo (firsts wide bs) a n
-    → IsLastHolder (width wide) (firsts wide bs) (sizes wide bs) n a r
+pub longest : (wide : Bool) (bs : List ℕ) (a n r : ℕ) → IsImage wide bs → AreUpTo (bases wide bs) a n
+    → IsLastHolder (width wide) (bases wide bs) (sizes wide bs) n a r
     → IsLongestRow (width wide) (λ m. m) (image_rows wide bs) a (found_row wide bs r)
 longest wide bs a n r image count last =
     let rows = image_rows wide bs in
-    let whole = among_all (width wide) (firsts wide bs) (sizes wide bs) a n r image.rising count last in
-    found_longest wide bs a r image (subst (λ k. IsLastHolder (width wide) (firsts wide bs) (sizes wide bs) k a r) (length-map rows (λ s. s.0.base)) whole)
+    let whole = among_all (width wide) (bases wide bs) (sizes wide bs) a n r image.rising count last in
+    found_longest wide bs a r image (subst (λ k. IsLastHolder (width wide) (bases wide bs) (sizes wide bs) k a r) (length-map rows (λ s. s.0.base)) whole)
 
 -- the first n networks rise with one more that comes after them, and with its link
 pub linked_more : (w : ℕ) (fs bs up : List ℕ) (n : ℕ) → AreLinkedTo w fs bs up n → IsNext w fs bs n → IsLastHolder w fs bs n (get_or fs n 0) (get_or up n 0)
@@ -291,14 +291,14 @@ pub no_row : (wide : Bool) (bs : List ℕ) (i : ℕ) → row_count bs ≤ i → 
 no_row wide bs i l = none_past (image_rows wide bs) i (omega (arith, l, length-rows wide bs))
 
 -- the row of numbers that are read at an index
-pub row_read : (wide : Bool) (bs : List ℕ) (i f b v : ℕ) → i < row_count bs → f ≡ get_or (firsts wide bs) i 0 → b ≡ get_or (sizes wide bs) i 0 → v ≡ value_in wide bs i
+pub row_read : (wide : Bool) (bs : List ℕ) (i f b v : ℕ) → i < row_count bs → f ≡ get_or (bases wide bs) i 0 → b ≡ get_or (sizes wide bs) i 0 → v ≡ value_in wide bs i
     → row_in wide bs i ≡ (network f b, v)
 row_read wide bs i f b v l first size value =
     sym (ap (λ x. (network x b, v)) (first ∙ first_stored wide bs i l)
     ∙ ap (λ x. (network (first_in wide bs i) x, v)) (size ∙ size_stored wide bs i l)
     ∙ ap (λ x. (network (first_in wide bs i) (bits_in wide bs i), x)) value)
 
-pub row_is : (wide : Bool) (bs : List ℕ) (i f b v : ℕ) → i < row_count bs → f ≡ get_or (firsts wide bs) i 0 → b ≡ get_or (sizes wide bs) i 0 → v ≡ value_in wide bs i
+pub row_is : (wide : Bool) (bs : List ℕ) (i f b v : ℕ) → i < row_count bs → f ≡ get_or (bases wide bs) i 0 → b ≡ get_or (sizes wide bs) i 0 → v ≡ value_in wide bs i
     → slice_get (image_rows wide bs) i ≡ Some (network f b, v)
 row_is wide bs i f b v l first size value =
     listed_at (row_in wide bs) (row_count bs) i l ∙ ap (λ r. Some r) (row_read wide bs i f b v l first size value)

@@ -116,8 +116,8 @@ abbrev pub image_rows : Bool → List ℕ → List (Net ℕ × ℕ)
 image_rows wide bs = listed (row_in wide bs) (row_count bs)
 
 -- their first addresses, their bits and their links, and the cells
-abbrev pub firsts : Bool → List ℕ → List ℕ
-firsts wide bs = base_numbers (λ n. n) (image_rows wide bs)
+abbrev pub bases : Bool → List ℕ → List ℕ
+bases wide bs = base_numbers (λ n. n) (image_rows wide bs)
 
 abbrev pub sizes : Bool → List ℕ → List ℕ
 sizes wide bs = bit_counts (image_rows wide bs)
@@ -128,8 +128,8 @@ links wide bs = listed (link_in wide bs) (row_count bs)
 abbrev pub image_cells : List ℕ → List Cell
 image_cells bs = listed (cell_in bs) (cell_count bs)
 
--- the part listed at the place a is of this kind, and lies inside the bytes
-pub record IsPart (bs : List ℕ) (a kind : ℕ) : Type 0 where
+-- a part of this kind is listed at the place a, and lies inside the bytes
+pub record IsListed (bs : List ℕ) (a kind : ℕ) : Type 0 where
   pub of_kind : u32_in bs a ≡ kind
   pub inside : u64_in bs (a + 8) + u64_in bs (a + 16) ≤ length bs
 
@@ -138,9 +138,9 @@ pub record HasHead (wide : Bool) (bs : List ℕ) : Type 0 where
   pub marked : u64_in bs 0 ≡ mark wide
   pub some : 2 ≤ part_count bs
   pub fits : 16 + 24 * part_count bs ≤ length bs
-  pub rows : IsPart bs 16 1
+  pub rows : IsListed bs 16 1
   pub rows_size : u64_in bs 32 ≡ row_size wide * row_count bs
-  pub cells : IsPart bs 40 2
+  pub cells : IsListed bs 40 2
   pub shift : rest_of bs < 128
 
 -- the bytes are an image: the rows have no detail, the cells fill their part, the networks rise, each has its link, and each
@@ -149,9 +149,9 @@ pub record IsImage (wide : Bool) (bs : List ℕ) : Type 0 where
   pub head : HasHead wide bs
   pub plain : u32_in bs 20 ≡ 0
   pub whole : u64_in bs 56 ≡ 8 * cell_count bs
-  pub rising : AreRising (width wide) (firsts wide bs) (sizes wide bs)
-  pub linked : AreUplinks (width wide) (firsts wide bs) (sizes wide bs) (links wide bs)
-  pub tops : AreTopCells (rest_of bs) (width wide) (firsts wide bs) (sizes wide bs) (image_cells bs)
+  pub rising : AreRising (width wide) (bases wide bs) (sizes wide bs)
+  pub linked : AreUplinks (width wide) (bases wide bs) (sizes wide bs) (links wide bs)
+  pub tops : AreTopCells (rest_of bs) (width wide) (bases wide bs) (sizes wide bs) (image_cells bs)
 
 -- a plan says what the head says
 pub record IsPlanOf (wide : Bool) (bs : List ℕ) (plan : Plan) : Type 0 where

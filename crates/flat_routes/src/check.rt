@@ -3,7 +3,7 @@ ghost use Rattle.std.specs.Prelude.{◌≡◌, ◌↔◌, ◌*◌, ◌-◌, ◌%
 ghost use Rattle.radix_keys.specs.Networks.{IsBase};
 ghost use Rattle.sorted_tables.specs.Tables.{IsPartedAt};
 ghost use Rattle.frozen_routes.specs.Routes.{IsTopCell};
-ghost use Rattle.flat_routes.specs.Images.{AreLinkedTo, IsImage, IsNext, IsPlanOf, cell_count, cell_in, firsts, links, sizes, u32_in, u64_in, width};
+ghost use Rattle.flat_routes.specs.Images.{AreLinkedTo, IsImage, IsNext, IsPlanOf, cell_count, cell_in, bases, links, sizes, u32_in, u64_in, width};
 
 use crate::head::{Plan, plan_of};
 use crate::loads::{u32_at, u64_at};
@@ -30,7 +30,7 @@ fn is_next(image: &[u8], wide: bool, plan: Plan, at: usize) -> bool
     requires plan { IsPlanOf wide image.now plan }
     requires within { at < plan.rows }
     ensures { IsTrue result
-        ↔ IsNext (width wide) (firsts wide image.now) (sizes wide image.now) at }
+        ↔ IsNext (width wide) (bases wide image.now) (sizes wide image.now) at }
 {
     let first = first_at(image, wide, plan, at);
     let bits = bits_at(image, wide, plan, at);
@@ -51,10 +51,10 @@ fn is_next(image: &[u8], wide: bool, plan: Plan, at: usize) -> bool
 fn are_before(image: &[u8], wide: bool, plan: Plan, count: usize, number: u128) -> bool
     requires plan { IsPlanOf wide image.now plan }
     requires within { count ≤ plan.rows }
-    requires linked { AreLinkedTo (width wide) (firsts wide image.now) (sizes wide image.now)
+    requires linked { AreLinkedTo (width wide) (bases wide image.now) (sizes wide image.now)
         (links wide image.now) plan.rows }
-    ensures { IsTrue result ↔ IsPartedAt (λ k. slice_index (firsts wide image.now) k < number)
-        (λ k. number ≤ slice_index (firsts wide image.now) k) (length (firsts wide image.now))
+    ensures { IsTrue result ↔ IsPartedAt (λ k. slice_index (bases wide image.now) k < number)
+        (λ k. number ≤ slice_index (bases wide image.now) k) (length (bases wide image.now))
         count }
 {
     if count > 0 && first_at(image, wide, plan, count - 1) >= number {
@@ -70,9 +70,9 @@ fn are_before(image: &[u8], wide: bool, plan: Plan, count: usize, number: u128) 
 fn is_cell(image: &[u8], wide: bool, plan: Plan, at: usize) -> bool
     requires plan { IsPlanOf wide image.now plan }
     requires within { at < plan.cells }
-    requires linked { AreLinkedTo (width wide) (firsts wide image.now) (sizes wide image.now)
+    requires linked { AreLinkedTo (width wide) (bases wide image.now) (sizes wide image.now)
         (links wide image.now) plan.rows }
-    ensures { IsTrue result ↔ IsTopCell plan.rest (width wide) (firsts wide image.now)
+    ensures { IsTrue result ↔ IsTopCell plan.rest (width wide) (bases wide image.now)
         (sizes wide image.now) at (cell_in image.now at) }
 {
     let cell = cell_at(image, wide, plan, at);

@@ -1,6 +1,6 @@
 //! The head of an image, and where its parts lie.
 ghost use Rattle.std.specs.Prelude.{◌≡◌, ◌↔◌, ◌+◌, ◌*◌, ◌^◌, ◌<◌, ◌≤◌, IsTrue, MatchOption, length};
-ghost use Rattle.flat_routes.specs.Images.{HasHead, IsPart, IsPlanOf, mark, part_count, row_size, u64_in};
+ghost use Rattle.flat_routes.specs.Images.{HasHead, IsListed, IsPlanOf, mark, part_count, row_size, u64_in};
 
 use crate::loads::{u32_at, u64_at};
 
@@ -42,8 +42,8 @@ fn is_marked(image: &[u8], wide: bool) -> bool
 #[inline(always)]
 fn part_at(image: &[u8], entry: usize, kind: u32) -> Option<(usize, usize)>
     requires { entry + 24 ≤ length image.now }
-    ensures { MatchOption result (IsPart image.now entry kind → ⊥)
-        (λ part. IsPart image.now entry kind × (part.0 ≡ u64_in image.now (entry + 8))
+    ensures { MatchOption result (IsListed image.now entry kind → ⊥)
+        (λ part. IsListed image.now entry kind × (part.0 ≡ u64_in image.now (entry + 8))
         × (part.1 ≡ u64_in image.now (entry + 16))) }
 {
     let place = u64_at(image, entry + 8) as usize;

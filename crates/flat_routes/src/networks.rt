@@ -3,7 +3,7 @@ ghost use Rattle.std.specs.Prelude.{◌≡◌, ◌↔◌, ◌+◌, ◌-◌, ◌/
 ghost use Rattle.std.specs.List.{filter};
 ghost use Rattle.radix_keys.specs.Networks.{Net};
 ghost use Rattle.frozen_routes.specs.Routes.{AreInFront, IsInFront, IsOwnRow, is_inside};
-ghost use Rattle.flat_routes.specs.Images.{IsImage, IsPlanOf, firsts, image_rows, network, row_count, row_in, sizes, width};
+ghost use Rattle.flat_routes.specs.Images.{IsImage, IsPlanOf, bases, image_rows, network, row_count, row_in, sizes, width};
 
 use crate::head::{Plan, plan_of};
 use crate::rows::{bits_at, bits_of, first_at, without_last};
@@ -29,7 +29,7 @@ fn is_in_front(
     requires plan { IsPlanOf wide image.now plan }
     requires within { at < plan.rows }
     ensures { IsTrue result ↔ IsInFront (width wide) is_through bits quotient
-        (slice_index (firsts wide image.now) at) (slice_index (sizes wide image.now) at) }
+        (slice_index (bases wide image.now) at) (slice_index (sizes wide image.now) at) }
 {
     let own = first_bits(wide, first_at(image, wide, plan, at), bits);
     if own != quotient {
@@ -44,7 +44,7 @@ fn cut(image: &[u8], wide: bool, plan: Plan, first: u128, bits: u32, is_through:
     requires plan { IsPlanOf wide image.now plan }
     ensures within { result ≤ plan.rows }
     ensures front { IsImage wide image.now → AreInFront (width wide) is_through bits
-        (first / 2 ^ (width wide - bits)) (firsts wide image.now) (sizes wide image.now) result }
+        (first / 2 ^ (width wide - bits)) (bases wide image.now) (sizes wide image.now) result }
 {
     let quotient = first_bits(wide, first, bits);
     let (mut lo, mut hi) = (0usize, plan.rows);

@@ -1,7 +1,7 @@
 //! The rows and the cells of an image by their numbers.
 ghost use Rattle.std.specs.Prelude.{◌≡◌, ◌↔◌, ◌+◌, ◌*◌, ◌/◌, ◌^◌, ◌<◌, ◌≤◌, Some, false, IsTrue, slice_get, slice_index};
 ghost use Rattle.frozen_routes.specs.Routes.{IsHolderAt};
-ghost use Rattle.flat_routes.specs.Images.{IsPlanOf, cell_in, firsts, image_cells, links, sizes, value_in, width};
+ghost use Rattle.flat_routes.specs.Images.{IsPlanOf, cell_in, bases, image_cells, links, sizes, value_in, width};
 
 use crate::head::Plan;
 use crate::loads::{u32_at, u64_at, u128_at};
@@ -37,7 +37,7 @@ pub(crate) fn bits_of(wide: bool) -> u32
 pub(crate) fn first_at(image: &[u8], wide: bool, plan: Plan, at: usize) -> u128
     requires plan { IsPlanOf wide image.now plan }
     requires within { at < plan.rows }
-    ensures value { result ≡ slice_index (firsts wide image.now) at }
+    ensures value { result ≡ slice_index (bases wide image.now) at }
     ensures fits { result < 2 ^ width wide }
 {
     if wide {
@@ -119,7 +119,7 @@ pub(crate) fn holds_at(image: &[u8], wide: bool, plan: Plan, at: usize, number: 
     requires plan { IsPlanOf wide image.now plan }
     requires within { at < plan.rows }
     ensures { slice_index (sizes wide image.now) at ≤ width wide → IsTrue result
-        ↔ IsHolderAt (width wide) (firsts wide image.now) (sizes wide image.now) number at }
+        ↔ IsHolderAt (width wide) (bases wide image.now) (sizes wide image.now) number at }
 {
     let bits = bits_at(image, wide, plan, at);
     let all = bits_of(wide);

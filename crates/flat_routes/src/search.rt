@@ -1,7 +1,7 @@
 //! Searches in an image. Each is total: whatever the bytes are, it ends, and reads none but them.
 ghost use Rattle.std.specs.Prelude.{◌+◌, ◌-◌, ◌/◌, ◌<◌, ◌≤◌, ℕ, IfSome, option_map, slice_index};
 ghost use Rattle.frozen_routes.specs.Routes.{AreUpTo, IsLastHolder, IsLongestRow};
-ghost use Rattle.flat_routes.specs.Images.{AreLinkedTo, IsImage, IsPlanOf, firsts, found_row, image_rows, links, row_count, row_in, sizes, width};
+ghost use Rattle.flat_routes.specs.Images.{AreLinkedTo, IsImage, IsPlanOf, bases, found_row, image_rows, links, row_count, row_in, sizes, width};
 
 use crate::head::{Plan, plan_of};
 use crate::rows::{Cell, cell_at, first_at, holds_at, link_at};
@@ -15,11 +15,11 @@ fn top_span(image: &[u8], wide: bool, plan: Plan, number: u128) -> (Cell, usize)
     ensures order { result.0.count ≤ result.1 }
     ensures within { result.1 ≤ plan.rows }
     ensures below { IsImage wide image.now → (k : ℕ) → k < result.0.count
-        → slice_index (firsts wide image.now) k ≤ number }
+        → slice_index (bases wide image.now) k ≤ number }
     ensures above { IsImage wide image.now → (k : ℕ) → result.1 ≤ k → k < plan.rows
-        → number < slice_index (firsts wide image.now) k }
+        → number < slice_index (bases wide image.now) k }
     ensures around { IsImage wide image.now
-        → IsLastHolder (width wide) (firsts wide image.now) (sizes wide image.now) result.0.count
+        → IsLastHolder (width wide) (bases wide image.now) (sizes wide image.now) result.0.count
         number result.0.around }
 {
     let first = number >> plan.rest;
@@ -47,12 +47,12 @@ fn count_to(
     requires order { lo ≤ hi }
     requires within { hi ≤ plan.rows }
     requires below { IsImage wide image.now → (k : ℕ) → k < lo
-        → slice_index (firsts wide image.now) k ≤ number }
+        → slice_index (bases wide image.now) k ≤ number }
     requires above { IsImage wide image.now → (k : ℕ) → hi ≤ k → k < plan.rows
-        → number < slice_index (firsts wide image.now) k }
+        → number < slice_index (bases wide image.now) k }
     ensures least { lo ≤ result }
     ensures most { result ≤ plan.rows }
-    ensures count { IsImage wide image.now → AreUpTo (firsts wide image.now) number result }
+    ensures count { IsImage wide image.now → AreUpTo (bases wide image.now) number result }
 {
     while lo < hi {
         let mid = lo + (hi - lo) / 2;
@@ -81,12 +81,12 @@ pub(crate) fn climb(
     requires floor { floor.count ≤ from }
     requires around { floor.around ≤ floor.count }
     ensures within { result ≤ from }
-    ensures last { AreLinkedTo (width wide) (firsts wide image.now) (sizes wide image.now)
+    ensures last { AreLinkedTo (width wide) (bases wide image.now) (sizes wide image.now)
         (links wide image.now) from
-        → ((k : ℕ) → k < from → slice_index (firsts wide image.now) k ≤ number)
-        → IsLastHolder (width wide) (firsts wide image.now) (sizes wide image.now) floor.count
+        → ((k : ℕ) → k < from → slice_index (bases wide image.now) k ≤ number)
+        → IsLastHolder (width wide) (bases wide image.now) (sizes wide image.now) floor.count
         number floor.around
-        → IsLastHolder (width wide) (firsts wide image.now) (sizes wide image.now) from number
+        → IsLastHolder (width wide) (bases wide image.now) (sizes wide image.now) from number
         result }
 {
     let mut at = from;

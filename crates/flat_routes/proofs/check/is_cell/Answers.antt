@@ -3,7 +3,7 @@ use Rattle.std.proofs.lemmas.Bool.{cases_lt, eq-eqb, eqb-true}
 use Rattle.std.proofs.lemmas.Nat.{shl_whole}
 use Rattle.frozen_routes.specs.Routes.{IsLastHolder}
 use Rattle.frozen_routes.proofs.RouteLemmas.Tops.{none_behind}
-use Rattle.flat_routes.specs.Images.{cell_in, firsts, links, sizes, width}
+use Rattle.flat_routes.specs.Images.{cell_in, bases, links, sizes, width}
 use Rattle.flat_routes.proofs.ImageLemmas.{all_rise, length-firsts, linked_less, none_of_none, one_last, width_most}
 use Rattle.flat_routes.proofs.check.is_cell.Goals as goal
 
@@ -18,7 +18,7 @@ returns-then-cell-plan c = (
 pub returns-then-cell-plan-2 : goal.returns-then-cell-plan-2
 returns-then-cell-plan-2 c =
     let w = width c.args.wide in
-    let fs = firsts c.args.wide c.args.image.now in
+    let fs = bases c.args.wide c.args.image.now in
     let bs = sizes c.args.wide c.args.image.now in
     let cell = cell_in c.args.image.now c.args.at in
     let all = length-firsts c.args.wide c.args.image.now in
@@ -45,7 +45,7 @@ returns-then-cell-plan-2 c =
 pub returns-else-cell-plan-2 : goal.returns-else-cell-plan-2
 returns-else-cell-plan-2 c =
     let w = width c.args.wide in
-    let fs = firsts c.args.wide c.args.image.now in
+    let fs = bases c.args.wide c.args.image.now in
     let bs = sizes c.args.wide c.args.image.now in
     let cell = cell_in c.args.image.now c.args.at in
     let all = length-firsts c.args.wide c.args.image.now in
@@ -66,7 +66,7 @@ returns-else-cell-plan-2 c =
 pub returns : goal.returns
 returns c =
     let w = width c.args.wide in
-    let fs = firsts c.args.wide c.args.image.now in
+    let fs = bases c.args.wide c.args.image.now in
     let bs = sizes c.args.wide c.args.image.now in
     let up = links c.args.wide c.args.image.now in
     let cell = cell_in c.args.image.now c.args.at in

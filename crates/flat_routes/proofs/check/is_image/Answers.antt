@@ -1,7 +1,7 @@
 use Rattle.std.proofs.Common.{◌≡◌, ◌≤◌, inl, inr, length, refl, arith, get_or, subst, sym, ◌∙◌}
 use Rattle.std.proofs.lemmas.Bool.{cases_lt}
 use Rattle.frozen_routes.specs.Routes.{IsLastHolder, IsTopCell}
-use Rattle.flat_routes.specs.Images.{cell_count, cell_in, firsts, links, sizes, width}
+use Rattle.flat_routes.specs.Images.{cell_count, cell_in, bases, links, sizes, width}
 use Rattle.flat_routes.proofs.ImageLemmas.{all_rise, at_most_next, image_linked, length-firsts, length-links, linked_more, listed_at, listed_is, none_of_none, one_last}
 use Rattle.flat_routes.proofs.check.is_image.Goals as goal
 
@@ -20,7 +20,7 @@ returns-then-link-link_at c = (
   λ e. absurd (cc e),
   λ image.
       let w = width c.args.wide in
-      let fs = firsts c.args.wide c.args.image.now in
+      let fs = bases c.args.wide c.args.image.now in
       let bs = sizes c.args.wide c.args.image.now in
       let up = links c.args.wide c.args.image.now in
       let at = c.loop-at.at in
@@ -35,7 +35,7 @@ returns-then-link-link_at c = (
 pub loop-at-preserved : goal.loop-at-preserved
 loop-at-preserved c =
     let w = width c.args.wide in
-    let fs = firsts c.args.wide c.args.image.now in
+    let fs = bases c.args.wide c.args.image.now in
     let bs = sizes c.args.wide c.args.image.now in
     let up = links c.args.wide c.args.image.now in
     let at = c.loop-at.at in
@@ -50,7 +50,7 @@ returns-then-not-is_cell c = (
   λ e. absurd (cc e),
   λ image.
       let w = width c.args.wide in
-      let fs = firsts c.args.wide c.args.image.now in
+      let fs = bases c.args.wide c.args.image.now in
       let bs = sizes c.args.wide c.args.image.now in
       let t = c.loop-first.first in
       let cell = cell_in c.args.image.now t in
@@ -68,7 +68,7 @@ loop-first-preserved c = λ t l. elim (cases_lt t c.loop-first.first) [
       let w = width c.args.wide in
       let bytes = c.args.image.now in
       let same : c.loop-first.first ≡ t = omega (arith, l, ge) in
-      subst (λ s. IsTopCell c.in-Some.plan.rest w (firsts c.args.wide bytes) (sizes c.args.wide bytes) s (cell_in bytes s)) same (c.is_cell.ensures.0 c.if-not-is_cell.false)
+      subst (λ s. IsTopCell c.in-Some.plan.rest w (bases c.args.wide bytes) (sizes c.args.wide bytes) s (cell_in bytes s)) same (c.is_cell.ensures.0 c.if-not-is_cell.false)
 ]
 
 pub returns : goal.returns
@@ -76,7 +76,7 @@ returns c = (
   λ yes.
       let w = width c.args.wide in
       let bytes = c.args.image.now in
-      let fs = firsts c.args.wide bytes in
+      let fs = bases c.args.wide bytes in
       let bs = sizes c.args.wide bytes in
       let all = length-firsts c.args.wide bytes in
       let end : length fs ≤ c.loop-at.at = omega (arith, all, c.in-Some.ensures.rows, c.loop-at-test.false) in

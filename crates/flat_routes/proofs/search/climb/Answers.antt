@@ -2,7 +2,7 @@ use Rattle.std.proofs.Common.{◌-◌, ◌<◌, inl, inr, arith, get_or, subst, 
 use Rattle.std.proofs.lemmas.Bool.{cases_lt}
 use Rattle.frozen_routes.specs.Routes.{IsHolderAt, IsLastHolder}
 use Rattle.sorted_tables.proofs.TableLemmas.Links.{climb_on}
-use Rattle.flat_routes.specs.Images.{firsts, links, sizes, width}
+use Rattle.flat_routes.specs.Images.{bases, links, sizes, width}
 use Rattle.flat_routes.proofs.ImageLemmas.{around_first}
 use Rattle.flat_routes.proofs.search.climb.Goals as goal
 
@@ -23,7 +23,7 @@ loop-at-preserved c = record {
   within = omega (arith, c.if-link-at.false, c.loop-at.invariant.within);
   none = λ linked before.
       let w = width c.args.wide in
-      let fs = firsts c.args.wide c.args.image.now in
+      let fs = bases c.args.wide c.args.image.now in
       let bs = sizes c.args.wide c.args.image.now in
       let at = c.loop-at.at in
       let some : 0 < at = omega (arith, c.loop-at-test.true) in

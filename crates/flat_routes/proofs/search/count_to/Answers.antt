@@ -1,6 +1,6 @@
 use Rattle.std.proofs.Common.{◌+◌, ◌-◌, ◌/◌, arith}
 use Rattle.frozen_routes.proofs.RouteLemmas.Links.{firsts_to}
-use Rattle.flat_routes.specs.Images.{firsts, sizes, width}
+use Rattle.flat_routes.specs.Images.{bases, sizes, width}
 use Rattle.flat_routes.proofs.ImageLemmas.{length-firsts}
 use Rattle.flat_routes.proofs.search.count_to.Goals as goal
 
@@ -14,7 +14,7 @@ loop-lo-preserved-then-first_at-number c =
       order = omega (arith, c.loop-lo-test.true);
       within = c.loop-lo.invariant.within;
       below = λ image k l.
-          let le = firsts_to (width wide) (firsts wide bs) (sizes wide bs) k mid image.rising (omega (arith, l))
+          let le = firsts_to (width wide) (bases wide bs) (sizes wide bs) k mid image.rising (omega (arith, l))
           (omega (arith, length-firsts wide bs, c.requires.plan.rows, c.loop-lo-test.true, c.loop-lo.invariant.within)) in
           omega (arith, le, c.first_at.ensures.value, c.if-first_at-number.true);
       above = c.loop-lo.invariant.above;
@@ -31,7 +31,7 @@ loop-lo-preserved c =
       within = omega (arith, c.loop-lo-test.true, c.loop-lo.invariant.within);
       below = c.loop-lo.invariant.below;
       above = λ image k l m.
-          let le = firsts_to (width wide) (firsts wide bs) (sizes wide bs) mid k image.rising l (omega (arith, length-firsts wide bs, c.requires.plan.rows, m)) in
+          let le = firsts_to (width wide) (bases wide bs) (sizes wide bs) mid k image.rising l (omega (arith, length-firsts wide bs, c.requires.plan.rows, m)) in
           omega (arith, le, c.first_at.ensures.value, c.if-first_at-number.false);
     }
 

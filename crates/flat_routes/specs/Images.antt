@@ -28,14 +28,15 @@ unfoldable pub listed : {X : Type 0} → (ℕ → X) → ℕ → List X
 listed f zero = []
 listed f (suc n) = listed f n ++ f n ∷ []
 
--- the families
+-- the family of IPv4
 abbrev pub of_ipv4 : Bool
 of_ipv4 = false
 
+-- the family of IPv6
 abbrev pub of_ipv6 : Bool
 of_ipv6 = true
 
--- what differs between them: how many bits an address has
+-- how many bits an address of a family has
 abbrev pub width : Bool → ℕ
 width false = 32
 width true = 128
@@ -45,44 +46,51 @@ abbrev pub row_size : Bool → ℕ
 row_size false = 16
 row_size true = 32
 
--- the number of an image's first 8 bytes
+-- the number of the first 8 bytes of a family's images
 abbrev pub mark : Bool → ℕ
 mark false = from_le_bytes w64 (codes "NZIPV4.1")
 mark true = from_le_bytes w64 (codes "NZIPV6.1")
 
--- what the head says: how many rows and parts there are, where the rows and the cells begin, how many cells there are, and
--- how many bits of an address come behind the first ones
+-- how many rows there are, as the head says
 abbrev pub row_count : List ℕ → ℕ
 row_count bs = u32_in bs 8
 
+-- how many parts it lists
 abbrev pub part_count : List ℕ → ℕ
 part_count bs = u32_in bs 12
 
+-- where the rows begin
 abbrev pub rows_place : List ℕ → ℕ
 rows_place bs = u64_in bs 24
 
+-- how many bits of an address come behind the first ones
 abbrev pub rest_of : List ℕ → ℕ
 rest_of bs = u32_in bs 44
 
+-- where the cells begin
 abbrev pub cells_place : List ℕ → ℕ
 cells_place bs = u64_in bs 48
 
+-- how many cells there are
 abbrev pub cell_count : List ℕ → ℕ
 cell_count bs = u64_in bs 56 / 8
 
--- the first address of the row at i, how many bits its addresses share, its link, and its value
+-- the first address of the row at i
 abbrev pub first_in : Bool → List ℕ → ℕ → ℕ
 first_in false bs i = u32_in bs (rows_place bs + 16 * i)
 first_in true bs i = u128_in bs (rows_place bs + 32 * i)
 
+-- how many bits its addresses share
 abbrev pub bits_in : Bool → List ℕ → ℕ → ℕ
 bits_in false bs i = u32_in bs (rows_place bs + 16 * i + 4)
 bits_in true bs i = u32_in bs (rows_place bs + 32 * i + 16)
 
+-- its link
 abbrev pub link_in : Bool → List ℕ → ℕ → ℕ
 link_in false bs i = u32_in bs (rows_place bs + 16 * i + 8)
 link_in true bs i = u32_in bs (rows_place bs + 32 * i + 20)
 
+-- its value
 abbrev pub value_in : Bool → List ℕ → ℕ → ℕ
 value_in false bs i = u32_in bs (rows_place bs + 16 * i + 12)
 value_in true bs i = u64_in bs (rows_place bs + 32 * i + 24)
@@ -95,10 +103,11 @@ network first bits = record { base = first; bits = bits }
 abbrev pub row_in : Bool → List ℕ → ℕ → Net ℕ × ℕ
 row_in wide bs i = (network (first_in wide bs i) (bits_in wide bs i), value_in wide bs i)
 
--- a row as the calls give it
+-- a row of IPv4 as the calls give it
 abbrev pub row4_of : Row4 → Net ℕ × ℕ
 row4_of r = (network r.first r.bits, r.value)
 
+-- a row of IPv6
 abbrev pub row6_of : Row6 → Net ℕ × ℕ
 row6_of r = (network r.first r.bits, r.value)
 
@@ -115,16 +124,19 @@ cell_in bs t = record { count = u32_in bs (cells_place bs + 8 * t); around = u32
 abbrev pub image_rows : Bool → List ℕ → List (Net ℕ × ℕ)
 image_rows wide bs = listed (row_in wide bs) (row_count bs)
 
--- their first addresses, their bits and their links, and the cells
+-- their first addresses
 abbrev pub bases : Bool → List ℕ → List ℕ
 bases wide bs = base_numbers (λ n. n) (image_rows wide bs)
 
+-- how many bits the addresses of each share
 abbrev pub sizes : Bool → List ℕ → List ℕ
 sizes wide bs = bit_counts (image_rows wide bs)
 
+-- their links
 abbrev pub links : Bool → List ℕ → List ℕ
 links wide bs = listed (link_in wide bs) (row_count bs)
 
+-- the cells
 abbrev pub image_cells : List ℕ → List Cell
 image_cells bs = listed (cell_in bs) (cell_count bs)
 

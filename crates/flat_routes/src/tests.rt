@@ -190,6 +190,34 @@ fn written_image(rt: HostRuntime) {
     assert!(rt; ipv4::write(&rows, &mut out) == Err(WriteError::Unsorted));
 }
 
+/// A row that is to be written.
+fn wide_row(first: u128, bits: u32, value: u64) -> ipv6::Row {
+    ipv6::Row {
+        first,
+        bits,
+        link: 0,
+        value,
+    }
+}
+
+#[test]
+fn written_image_of_ipv6(rt: HostRuntime) {
+    let rows = [
+        wide_row(0, 0, 100),
+        wide_row(0x2001_0db8 << 96, 32, 101),
+        wide_row(0x2001_0db8 << 96, 48, 102),
+        wide_row((0x2001_0db8 << 96) + (1 << 64), 64, 103),
+        wide_row(0xfe80 << 112, 10, 104),
+    ];
+    let mut out = [0u8; 224];
+    assert!(rt; ipv6::image_len(5) == Some(224));
+    assert!(rt; ipv6::write(&rows, &mut out) == Ok(()));
+    assert!(rt; out[64..] == IPV6[64..224]);
+    let mut found = [9u32; 2];
+    let count = ipv6::look_many(&out, &[0, (0x2001_0db8 << 96) + (1 << 64)], &mut found);
+    assert!(rt; count == 2 && found == [1, 4]);
+}
+
 /// Whether the image of so many networks of 24 bits, one behind another, has each at its index.
 fn are_found(alloc: Global, count: u32) -> Option<bool> {
     let mut rows = Vec::new(alloc);

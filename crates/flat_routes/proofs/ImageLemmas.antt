@@ -1,0 +1,312 @@
+-- The numbers of an image, and what they say of its rows.
+use Rattle.std.proofs.Common.{◌≡◌, ℕ, zero, suc, ◌+◌, ◌-◌, ◌*◌, ◌/◌, ◌^◌, ◌<◌, ◌≤◌, inl, inr, Bool, true, false, List, [], ◌∷◌, ◌++◌, Some, None, length, get_or, slice_get, take, map as each, refl, ap, sym, subst, ◌∙◌, arith}
+use Rattle.std.proofs.lemmas.Bool.{cases_lt}
+use Rattle.std.proofs.lemmas.List.{length-append, length-map, map_push, take_more}
+use Rattle.radix_keys.specs.Networks.{Net}
+use Rattle.frozen_routes.specs.Routes.{AreRising, AreUpTo, IsEarlier, IsFirstTop, IsHolderAt, IsLastHolder, IsLongestRow}
+use Rattle.frozen_routes.proofs.RouteLemmas.Blocks.{earlier_le, sandwich}
+use Rattle.frozen_routes.proofs.RouteLemmas.Growing.{earlier_through}
+use Rattle.frozen_routes.proofs.RouteLemmas.Links.{among_all, firsts_to}
+use Rattle.frozen_routes.proofs.RouteLemmas.Rows.{last_is_longest, none_holds, stored_at}
+use Rattle.frozen_routes.proofs.RouteLemmas.Tops.{top_above, top_around, top_below}
+use Rattle.radix_keys.proofs.KeyLemmas.Order.{three_ways}
+use Rattle.sorted_tables.specs.Tables.{IsLastOf, IsPartedAt}
+use Rattle.flat_routes.specs.declared.head.Plan.{Plan}
+use Rattle.flat_routes.specs.Images.{AreLinkedTo, IsImage, IsNext, IsPlanOf, bits_in, cell_in, first_in, bases, found_row, image_cells, image_rows, link_in, links, listed, network, rest_of, row_count, row_in, sizes, u128_in, u32_in, value_in, width}
+
+-- as many as are listed
+pub length-listed : {X : Type 0} (f : ℕ → X) (n : ℕ) → length (listed f n) ≡ n
+unfolding listed
+length-listed f zero = refl
+length-listed f (suc n) = omega (arith, length-append (listed f n) (f n ∷ []), length-listed f n)
+
+listed_next : {X : Type 0} (f : ℕ → X) (n : ℕ) → listed f (suc n) ≡ listed f n ++ f n ∷ []
+unfolding listed
+listed_next f n = refl
+
+-- one more is listed
+listed_more : {X : Type 0} (f : ℕ → X) (n : ℕ) → listed f (n + 1) ≡ listed f n ++ f n ∷ []
+listed_more f n = let next : suc n ≡ n + 1 = omega arith in subst (λ m. listed f m ≡ listed f n ++ f n ∷ []) next (listed_next f n)
+
+-- what is stored in a list is stored in it and one more
+stored_left : {X : Type 0} (xs ys : List X) (i : ℕ) (x : X) → slice_get xs i ≡ Some x → slice_get (xs ++ ys) i ≡ Some x
+stored_left [] ys i x at = absurd (cc at)
+stored_left (y ∷ xs) ys zero x at = at
+stored_left (y ∷ xs) ys (suc i) x at = stored_left xs ys i x at
+
+-- and the last one at the length of the others
+stored_last : {X : Type 0} (xs : List X) (x : X) (i : ℕ) → length xs ≡ i → slice_get (xs ++ x ∷ []) i ≡ Some x
+stored_last [] x zero is = refl
+stored_last [] x (suc i) is = absurd (omega (arith, is))
+stored_last (y ∷ xs) x zero is = absurd (omega (arith, is))
+stored_last (y ∷ xs) x (suc i) is = stored_last xs x i (omega (arith, is))
+
+-- the one at an index
+pub listed_at : {X : Type 0} (f : ℕ → X) (n i : ℕ) → i < n → slice_get (listed f n) i ≡ Some (f i)
+unfolding listed
+listed_at f zero i l = absurd (omega (arith, l))
+listed_at f (suc n) i l = elim (cases_lt i n) [
+  | inl lt ↦ stored_left (listed f n) (f n ∷ []) i (f i) (listed_at f n i lt)
+  | inr ge ↦
+      let same : n ≡ i = omega (arith, l, ge) in
+      subst (λ j. slice_get (listed f n ++ f n ∷ []) j ≡ Some (f j)) same (stored_last (listed f n) (f n) n (length-listed f n))
+]
+
+-- as many first addresses, bits and links as rows
+pub length-firsts : (wide : Bool) (bs : List ℕ) → length (bases wide bs) ≡ row_count bs
+length-firsts wide bs = length-map (image_rows wide bs) (λ r. r.0.base) ∙ length-listed (row_in wide bs) (row_count bs)
+
+pub length-links : (wide : Bool) (bs : List ℕ) → length (links wide bs) ≡ row_count bs
+length-links wide bs = length-listed (link_in wide bs) (row_count bs)
+
+-- the first address, the bits and the link at an index
+pub first_stored : (wide : Bool) (bs : List ℕ) (i : ℕ) → i < row_count bs → get_or (bases wide bs) i 0 ≡ first_in wide bs i
+first_stored wide bs i l = (stored_at (λ r. r.0.base) (image_rows wide bs) i (row_in wide bs i) (listed_at (row_in wide bs) (row_count bs) i l)).1
+
+pub size_stored : (wide : Bool) (bs : List ℕ) (i : ℕ) → i < row_count bs → get_or (sizes wide bs) i 0 ≡ bits_in wide bs i
+size_stored wide bs i l = (stored_at (λ r. r.0.bits) (image_rows wide bs) i (row_in wide bs i) (listed_at (row_in wide bs) (row_count bs) i l)).1
+
+-- a number read at an index
+read_at : (xs : List ℕ) (i x : ℕ) → slice_get xs i ≡ Some x → get_or xs i 0 ≡ x
+read_at [] i x at = absurd (cc at)
+read_at (y ∷ ys) zero x at = cc at
+read_at (y ∷ ys) (suc i) x at = read_at ys i x at
+
+pub link_stored : (wide : Bool) (bs : List ℕ) (i : ℕ) → i < row_count bs → get_or (links wide bs) i 0 ≡ link_in wide bs i
+link_stored wide bs i l = read_at (links wide bs) i (link_in wide bs i) (listed_at (link_in wide bs) (row_count bs) i l)
+
+-- what stands where a row of IPv6 has its first address, its bits and its link
+pub wide_first : (wide : Bool) (bs : List ℕ) (plan : Plan) (i : ℕ) → wide ≡ true → IsPlanOf wide bs plan → i < plan.rows
+    → u128_in bs (plan.rows_at + 32 * i) ≡ get_or (bases wide bs) i 0
+wide_first false bs plan i is of l = absurd (cc is)
+wide_first true bs plan i is of l =
+    ap (λ a. u128_in bs (a + 32 * i)) of.rows_at ∙ sym (first_stored true bs i (omega (arith, l, of.rows)))
+
+pub wide_size : (wide : Bool) (bs : List ℕ) (plan : Plan) (i : ℕ) → wide ≡ true → IsPlanOf wide bs plan → i < plan.rows
+    → u32_in bs (plan.rows_at + 32 * i + 16) ≡ get_or (sizes wide bs) i 0
+wide_size false bs plan i is of l = absurd (cc is)
+wide_size true bs plan i is of l =
+    ap (λ a. u32_in bs (a + 32 * i + 16)) of.rows_at ∙ sym (size_stored true bs i (omega (arith, l, of.rows)))
+
+pub wide_link : (wide : Bool) (bs : List ℕ) (plan : Plan) (i : ℕ) → wide ≡ true → IsPlanOf wide bs plan → i < plan.rows
+    → u32_in bs (plan.rows_at + 32 * i + 20) ≡ get_or (links wide bs) i 0
+wide_link false bs plan i is of l = absurd (cc is)
+wide_link true bs plan i is of l =
+    ap (λ a. u32_in bs (a + 32 * i + 20)) of.rows_at ∙ sym (link_stored true bs i (omega (arith, l, of.rows)))
+
+-- and of IPv4
+pub narrow_first : (wide : Bool) (bs : List ℕ) (plan : Plan) (i : ℕ) → wide ≡ false → IsPlanOf wide bs plan → i < plan.rows
+    → u32_in bs (plan.rows_at + 16 * i) ≡ get_or (bases wide bs) i 0
+narrow_first true bs plan i is of l = absurd (cc is)
+narrow_first false bs plan i is of l =
+    ap (λ a. u32_in bs (a + 16 * i)) of.rows_at ∙ sym (first_stored false bs i (omega (arith, l, of.rows)))
+
+pub narrow_size : (wide : Bool) (bs : List ℕ) (plan : Plan) (i : ℕ) → wide ≡ false → IsPlanOf wide bs plan → i < plan.rows
+    → u32_in bs (plan.rows_at + 16 * i + 4) ≡ get_or (sizes wide bs) i 0
+narrow_size true bs plan i is of l = absurd (cc is)
+narrow_size false bs plan i is of l =
+    ap (λ a. u32_in bs (a + 16 * i + 4)) of.rows_at ∙ sym (size_stored false bs i (omega (arith, l, of.rows)))
+
+pub narrow_link : (wide : Bool) (bs : List ℕ) (plan : Plan) (i : ℕ) → wide ≡ false → IsPlanOf wide bs plan → i < plan.rows
+    → u32_in bs (plan.rows_at + 16 * i + 8) ≡ get_or (links wide bs) i 0
+narrow_link true bs plan i is of l = absurd (cc is)
+narrow_link false bs plan i is of l =
+    ap (λ a. u32_in bs (a + 16 * i + 8)) of.rows_at ∙ sym (link_stored false bs i (omega (arith, l, of.rows)))
+
+-- the cell of the block of a number says what it does of the number
+module _ (wide : Bool) (bs : List ℕ) (image : IsImage wide bs) (a e t c : ℕ) (same : e ≡ rest_of bs) (at : slice_get (image_cells bs) t ≡ Some (cell_in bs t))
+    (count : c ≡ (cell_in bs t).count) where
+  -- the networks before the block begin at or before it
+  pub span_below : (k : ℕ) → t ≡ a / 2 ^ e → k < c → get_or (bases wide bs) k 0 ≤ a
+  span_below k is l = top_below (rest_of bs) (bases wide bs) a t c k (subst (IsFirstTop (rest_of bs) (bases wide bs) t) (sym count) (image.tops.cells t (cell_in bs t) at).count)
+      (is ∙ ap (λ d. a / 2 ^ d) same) l
+
+  -- and those behind it don't
+  pub span_above : (s k : ℕ) → t ≡ s + 1 → s ≡ a / 2 ^ e → c ≤ k → k < row_count bs → a < get_or (bases wide bs) k 0
+  span_above s k next is l m = top_above (rest_of bs) (bases wide bs) a s c k
+      (subst (λ u. IsFirstTop (rest_of bs) (bases wide bs) u c) next (subst (IsFirstTop (rest_of bs) (bases wide bs) t) (sym count) (image.tops.cells t (cell_in bs t) at).count))
+      (is ∙ ap (λ d. a / 2 ^ d) same) l (omega (arith, m, length-firsts wide bs))
+
+  -- and one of them is the last that holds it
+  pub span_around : (r : ℕ) → t ≡ a / 2 ^ e → r ≡ (cell_in bs t).around → IsLastHolder (width wide) (bases wide bs) (sizes wide bs) c a r
+  span_around r is around =
+      subst (λ n. IsLastHolder (width wide) (bases wide bs) (sizes wide bs) n a r) (sym count)
+      (subst (IsLastHolder (width wide) (bases wide bs) (sizes wide bs) (cell_in bs t).count a) (sym around)
+      (top_around (rest_of bs) (width wide) (bases wide bs) (sizes wide bs) t a (cell_in bs t) (image.tops.cells t (cell_in bs t) at) (is ∙ ap (λ d. a / 2 ^ d) same)))
+
+-- the first n networks rise, and have their links
+module _ (w : ℕ) (fs bs up : List ℕ) (n : ℕ) (linked : AreLinkedTo w fs bs up n) where
+  -- one comes after the one before it
+  step : (k : ℕ) → suc k < n → IsEarlier (get_or fs k 0) (get_or bs k 0) (get_or fs (suc k) 0) (get_or bs (suc k) 0)
+  step k l =
+      let back : suc k - 1 ≡ k = omega arith in
+      subst (λ j. IsEarlier (get_or fs j 0) (get_or bs j 0) (get_or fs (suc k) 0) (get_or bs (suc k) 0)) back ((linked.next (suc k) l).after (omega arith))
+
+  -- and after each before it
+  pub ordered : (j k : ℕ) → j < k → k < n → IsEarlier (get_or fs j 0) (get_or bs j 0) (get_or fs k 0) (get_or bs k 0)
+  ordered j zero l m = absurd (omega (arith, l))
+  ordered j (suc k) l m = elim (cases_lt j k) [
+    | inl lt ↦ earlier_through _ _ _ _ _ _ (ordered j k lt (omega (arith, m))) (step k m)
+    | inr ge ↦
+        let same : k ≡ j = omega (arith, l, ge) in
+        subst (λ i. IsEarlier (get_or fs i 0) (get_or bs i 0) (get_or fs (suc k) 0) (get_or bs (suc k) 0)) same (step k m)
+  ]
+
+  -- what holds an address holds the first one of each later network that begins at or before it
+  pub around_first : (a j k : ℕ) → k < j → j < n → get_or fs j 0 ≤ a → IsHolderAt w fs bs a k → IsHolderAt w fs bs (get_or fs j 0) k
+  around_first a j k l m le p = sandwich (get_or fs k 0) (get_or fs j 0) a (w - get_or bs k 0) (earlier_le _ _ _ _ (ordered k j l m)) le p
+
+-- those of an image do
+pub image_linked : (wide : Bool) (bs : List ℕ) (n : ℕ) → IsImage wide bs → n ≤ row_count bs
+    → AreLinkedTo (width wide) (bases wide bs) (sizes wide bs) (links wide bs) n
+image_linked wide bs n image within = record {
+  next = λ k l. record {
+    base = image.rising.bases k (omega (arith, l, within, length-firsts wide bs));
+    after = λ some. image.rising.order (k - 1) k (omega (arith, some)) (omega (arith, l, within, length-firsts wide bs));
+  };
+  links = λ k l. image.linked k (omega (arith, l, within, length-links wide bs));
+}
+
+-- nothing is stored behind a list
+past : {X : Type 0} (xs : List X) (i : ℕ) (x : X) → length xs ≤ i → slice_get xs i ≡ Some x → ⊥
+past [] i x l at = cc at
+past (y ∷ xs) zero x l at = omega (arith, l)
+past (y ∷ xs) (suc i) x l at = past xs i x (omega (arith, l)) at
+
+none_past : {X : Type 0} (xs : List X) (i : ℕ) → length xs ≤ i → slice_get xs i ≡ None
+none_past [] i l = refl
+none_past (y ∷ xs) zero l = absurd (omega (arith, l))
+none_past (y ∷ xs) (suc i) l = none_past xs i (omega (arith, l))
+
+-- the last of all networks that holds an address is the longest
+found_longest : (wide : Bool) (bs : List ℕ) (a r : ℕ) → IsImage wide bs
+    → IsLastHolder (width wide) (bases wide bs) (sizes wide bs) (length (image_rows wide bs)) a r
+    → IsLongestRow (width wide) (λ m. m) (image_rows wide bs) a (found_row wide bs r)
+found_longest wide bs a zero image last = none_holds (width wide) (λ m. m) (image_rows wide bs) image.rising a 0 refl last
+found_longest wide bs a (suc i) image last =
+    let back : i ≡ suc i - 1 = omega arith in
+    last_is_longest (width wide) (λ m. m) (image_rows wide bs) image.rising a (suc i) (row_in wide bs i) (omega arith) last
+    (subst (λ k. slice_get (image_rows wide bs) k ≡ Some (row_in wide bs i)) back
+    (listed_at (row_in wide bs) (row_count bs) i (let le = last.within in omega (arith, le, length-listed (row_in wide bs) (row_count bs)))))
+
+-- the last of those that begin by an address too
+pub longest : (wide : Bool) (bs : List ℕ) (a n r : ℕ) → IsImage wide bs → AreUpTo (bases wide bs) a n
+    → IsLastHolder (width wide) (bases wide bs) (sizes wide bs) n a r
+    → IsLongestRow (width wide) (λ m. m) (image_rows wide bs) a (found_row wide bs r)
+longest wide bs a n r image count last =
+    let rows = image_rows wide bs in
+    let whole = among_all (width wide) (bases wide bs) (sizes wide bs) a n r image.rising count last in
+    found_longest wide bs a r image (subst (λ k. IsLastHolder (width wide) (bases wide bs) (sizes wide bs) k a r) (length-map rows (λ s. s.0.base)) whole)
+
+-- the first n networks rise with one more that comes after them, and with its link
+pub linked_more : (w : ℕ) (fs bs up : List ℕ) (n : ℕ) → AreLinkedTo w fs bs up n → IsNext w fs bs n → IsLastHolder w fs bs n (get_or fs n 0) (get_or up n 0)
+    → AreLinkedTo w fs bs up (n + 1)
+linked_more w fs bs up n linked next last = record {
+  next = λ k l. elim (cases_lt k n) [
+    | inl lt ↦ linked.next k lt
+    | inr ge ↦ let same : n ≡ k = omega (arith, l, ge) in subst (IsNext w fs bs) same next
+  ];
+  links = λ k l. elim (cases_lt k n) [
+    | inl lt ↦ linked.links k lt
+    | inr ge ↦ let same : n ≡ k = omega (arith, l, ge) in subst (λ j. IsLastHolder w fs bs j (get_or fs j 0) (get_or up j 0)) same last
+  ];
+}
+
+-- those before it begin at or before it
+pub at_most_next : (w : ℕ) (fs bs up : List ℕ) (n : ℕ) → AreLinkedTo w fs bs up n → IsNext w fs bs n → (k : ℕ) → k < n → get_or fs k 0 ≤ get_or fs n 0
+at_most_next w fs bs up n linked next k l =
+    let last = earlier_le _ _ _ _ (next.after (omega (arith, l))) in
+    elim (cases_lt k (n - 1)) [
+      | inl lt ↦ let le = earlier_le _ _ _ _ (ordered w fs bs up n linked k (n - 1) lt (omega (arith, l))) in omega (arith, le, last)
+      | inr ge ↦ let same : k ≡ n - 1 = omega (arith, l, ge) in let e = ap (λ i. get_or fs i 0) same in omega (arith, e, last)
+    ]
+
+-- all that are linked rise
+pub all_rise : (w : ℕ) (fs bs up : List ℕ) (n : ℕ) → AreLinkedTo w fs bs up n → length fs ≤ n → AreRising w fs bs
+all_rise w fs bs up n linked all = record {
+  bases = λ k l. (linked.next k (omega (arith, l, all))).base;
+  order = λ j k l m. ordered w fs bs up n linked j k l (omega (arith, m, all));
+}
+
+-- there is one last of those that are sought
+pub one_last : (P : ℕ → Type 0) (n r s : ℕ) → IsLastOf P n r → IsLastOf P n s → r ≡ s
+one_last P n r s x y = elim (three_ways r s) [
+  | inl lt ↦ absurd (x.none (s - 1) (omega (arith, lt)) (let le = y.within in omega (arith, lt, le)) (y.holds (omega (arith, lt))))
+  | inr (inl e) ↦ e
+  | inr (inr gt) ↦ absurd (y.none (r - 1) (omega (arith, gt)) (let le = x.within in omega (arith, gt, le)) (x.holds (omega (arith, gt))))
+]
+
+-- an item of a list is a value at an index that it has
+pub listed_is : {X : Type 0} (f : ℕ → X) (n i : ℕ) (x : X) → slice_get (listed f n) i ≡ Some x → (i < n) × (f i ≡ x)
+listed_is f n i x at = elim (cases_lt i n) [
+  | inl lt ↦ (lt, let own = listed_at f n i lt in cc (own, at))
+  | inr ge ↦ absurd (past (listed f n) i x (omega (arith, ge, length-listed f n)) at)
+]
+
+-- the row on whose index and one more is r
+pub found_back : (wide : Bool) (bs : List ℕ) (r : ℕ) → 0 < r → found_row wide bs r ≡ Some (row_in wide bs (r - 1))
+found_back wide bs zero some = absurd (omega (arith, some))
+found_back wide bs (suc i) some = let back : i ≡ suc i - 1 = omega arith in ap (λ j. Some (row_in wide bs j)) back
+
+-- fewer that are linked
+pub linked_less : (w : ℕ) (fs bs up : List ℕ) (m n : ℕ) → AreLinkedTo w fs bs up n → m ≤ n → AreLinkedTo w fs bs up m
+linked_less w fs bs up m n linked le = record { next = λ k l. linked.next k (omega (arith, l, le)); links = λ k l. linked.links k (omega (arith, l, le)) }
+
+-- no network of none is the last that holds an address
+pub none_of_none : (w : ℕ) (fs bs : List ℕ) (a : ℕ) → IsLastHolder w fs bs 0 a 0
+none_of_none w fs bs a = record {
+  within = omega arith;
+  holds = λ some. absurd (omega (arith, some));
+  none = λ k l m. absurd (omega (arith, m));
+}
+
+-- a count of networks that the ones at its sides bear out
+pub parted_by : (w : ℕ) (fs bs up : List ℕ) (n a c : ℕ) → AreLinkedTo w fs bs up n → length fs ≡ n → c ≤ n → (0 < c → get_or fs (c - 1) 0 < a)
+    → (c < n → a ≤ get_or fs c 0) → IsPartedAt (λ k. get_or fs k 0 < a) (λ k. a ≤ get_or fs k 0) (length fs) c
+parted_by w fs bs up n a c linked all within below from =
+    let rising = all_rise w fs bs up n linked (omega (arith, all)) in
+    record {
+      within = omega (arith, all, within);
+      before = λ k l.
+          let last = below (omega (arith, l)) in
+          let most = firsts_to w fs bs k (c - 1) rising (omega (arith, l)) (omega (arith, all, l, within)) in
+          omega (arith, last, most);
+      after = λ k l m.
+          let next = from (omega (arith, l, m, all)) in
+          let least = firsts_to w fs bs c k rising l m in
+          omega (arith, next, least);
+    }
+
+-- an address has no more than 128 bits
+pub width_most : (wide : Bool) → 2 ^ width wide ≤ 2 ^ 128
+width_most false = omega arith
+width_most true = omega arith
+
+-- as many rows as the head says
+pub length-rows : (wide : Bool) (bs : List ℕ) → length (image_rows wide bs) ≡ row_count bs
+length-rows wide bs = length-listed (row_in wide bs) (row_count bs)
+
+-- no row stands behind the last
+pub no_row : (wide : Bool) (bs : List ℕ) (i : ℕ) → row_count bs ≤ i → slice_get (image_rows wide bs) i ≡ None
+no_row wide bs i l = none_past (image_rows wide bs) i (omega (arith, l, length-rows wide bs))
+
+-- the row of numbers that are read at an index
+pub row_read : (wide : Bool) (bs : List ℕ) (i f b v : ℕ) → i < row_count bs → f ≡ get_or (bases wide bs) i 0 → b ≡ get_or (sizes wide bs) i 0 → v ≡ value_in wide bs i
+    → row_in wide bs i ≡ (network f b, v)
+row_read wide bs i f b v l first size value =
+    sym (ap (λ x. (network x b, v)) (first ∙ first_stored wide bs i l)
+    ∙ ap (λ x. (network (first_in wide bs i) x, v)) (size ∙ size_stored wide bs i l)
+    ∙ ap (λ x. (network (first_in wide bs i) (bits_in wide bs i), x)) value)
+
+pub row_is : (wide : Bool) (bs : List ℕ) (i f b v : ℕ) → i < row_count bs → f ≡ get_or (bases wide bs) i 0 → b ≡ get_or (sizes wide bs) i 0 → v ≡ value_in wide bs i
+    → slice_get (image_rows wide bs) i ≡ Some (network f b, v)
+row_is wide bs i f b v l first size value =
+    listed_at (row_in wide bs) (row_count bs) i l ∙ ap (λ r. Some r) (row_read wide bs i f b v l first size value)
+
+-- one more of an image's rows that are those of a list
+pub rows_more : {R : Type 0} (of : R → Net ℕ × ℕ) (wide : Bool) (bs : List ℕ) (rows : List R) (i : ℕ) (d : R) → i < length rows
+    → listed (row_in wide bs) i ≡ each of (take i rows) → row_in wide bs i ≡ of (get_or rows i d)
+    → listed (row_in wide bs) (i + 1) ≡ each of (take (i + 1) rows)
+rows_more of wide bs rows i d l same here =
+    listed_more (row_in wide bs) i ∙ ap (λ rs. rs ++ row_in wide bs i ∷ []) same ∙ ap (λ r. each of (take i rows) ++ r ∷ []) here
+    ∙ sym (ap (λ rs. each of rs) (take_more rows i d l) ∙ map_push of (take i rows) (get_or rows i d))

@@ -1,0 +1,12 @@
+use Rattle.std.proofs.Common.{◌^◌, ◌≤◌, arith, one-mul, ◌∙◌}
+use Rattle.std.proofs.Math.Pow.{pow_mono}
+use Rattle.std.proofs.lemmas.Nat.{shl_whole}
+use Rattle.flat_routes.proofs.layout.layout.Goals as goal
+
+pub returns-clause-few : goal.returns-clause-few
+returns-clause-few c =
+    let bits = c.bits_for-bits.result in
+    let few = c.bits_for-bits.ensures.few in
+    let whole = shl_whole 1 1 bits 64 (omega arith) (omega (arith, few)) ∙ one-mul (2 ^ bits) in
+    let most : 2 ^ bits ≤ 2 ^ 21 = pow_mono few in
+    omega (arith, whole, most)

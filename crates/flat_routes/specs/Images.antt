@@ -1,0 +1,187 @@
+-- A routing table laid into one run of bytes: the numbers that stand there, and when the bytes are such a table.
+use Rattle.std.specs.Prelude.{◌≡◌, ℕ, zero, suc, ◌+◌, ◌-◌, ◌*◌, ◌/◌, ◌^◌, ◌<◌, ◌≤◌, Bool, true, false, List, [], ◌∷◌, ◌++◌, Option, None, Some, codes, length, slice_index}
+use Rattle.std.specs.Int.{w32, w64, from_le_bytes}
+use Rattle.radix_keys.specs.Networks.{Net, IsBase}
+use Rattle.frozen_routes.specs.declared.tops.Cell.{Cell}
+use Rattle.frozen_routes.specs.Routes.{AreRising, AreTopCells, AreUplinks, IsEarlier, IsLastHolder, base_numbers, bit_counts}
+use Rattle.flat_routes.specs.declared.head.Plan.{Plan}
+use Rattle.flat_routes.specs.declared.ipv4.Row.{Row as Row4}
+use Rattle.flat_routes.specs.declared.ipv6.Row.{Row as Row6}
+
+-- the number of 4 bytes from the place a on, the low byte first
+unfoldable pub u32_in : List ℕ → ℕ → ℕ
+u32_in bs a = from_le_bytes w32
+    (slice_index bs a ∷ slice_index bs (a + 1) ∷ slice_index bs (a + 2) ∷ slice_index bs (a + 3) ∷ [])
+
+-- the number of 8 bytes
+unfoldable pub u64_in : List ℕ → ℕ → ℕ
+u64_in bs a = from_le_bytes w64
+    (slice_index bs a ∷ slice_index bs (a + 1) ∷ slice_index bs (a + 2) ∷ slice_index bs (a + 3)
+    ∷ slice_index bs (a + 4) ∷ slice_index bs (a + 5) ∷ slice_index bs (a + 6) ∷ slice_index bs (a + 7) ∷ [])
+
+-- the number of 16 bytes
+abbrev pub u128_in : List ℕ → ℕ → ℕ
+u128_in bs a = u64_in bs a + 2 ^ 64 * u64_in bs (a + 8)
+
+-- the first n values of a function
+unfoldable pub listed : {X : Type 0} → (ℕ → X) → ℕ → List X
+listed f zero = []
+listed f (suc n) = listed f n ++ f n ∷ []
+
+-- the family of IPv4
+abbrev pub of_ipv4 : Bool
+of_ipv4 = false
+
+-- the family of IPv6
+abbrev pub of_ipv6 : Bool
+of_ipv6 = true
+
+-- how many bits an address of a family has
+abbrev pub width : Bool → ℕ
+width false = 32
+width true = 128
+
+-- how many bytes a row takes
+abbrev pub row_size : Bool → ℕ
+row_size false = 16
+row_size true = 32
+
+-- the number of the first 8 bytes of a family's images
+abbrev pub mark : Bool → ℕ
+mark false = from_le_bytes w64 (codes "NZIPV4.1")
+mark true = from_le_bytes w64 (codes "NZIPV6.1")
+
+-- how many rows there are, as the head says
+abbrev pub row_count : List ℕ → ℕ
+row_count bs = u32_in bs 8
+
+-- how many parts it lists
+abbrev pub part_count : List ℕ → ℕ
+part_count bs = u32_in bs 12
+
+-- where the rows begin
+abbrev pub rows_place : List ℕ → ℕ
+rows_place bs = u64_in bs 24
+
+-- how many bits of an address come behind the first ones
+abbrev pub rest_of : List ℕ → ℕ
+rest_of bs = u32_in bs 44
+
+-- where the cells begin
+abbrev pub cells_place : List ℕ → ℕ
+cells_place bs = u64_in bs 48
+
+-- how many cells there are
+abbrev pub cell_count : List ℕ → ℕ
+cell_count bs = u64_in bs 56 / 8
+
+-- the first address of the row at i
+abbrev pub first_in : Bool → List ℕ → ℕ → ℕ
+first_in false bs i = u32_in bs (rows_place bs + 16 * i)
+first_in true bs i = u128_in bs (rows_place bs + 32 * i)
+
+-- how many bits its addresses share
+abbrev pub bits_in : Bool → List ℕ → ℕ → ℕ
+bits_in false bs i = u32_in bs (rows_place bs + 16 * i + 4)
+bits_in true bs i = u32_in bs (rows_place bs + 32 * i + 16)
+
+-- its link
+abbrev pub link_in : Bool → List ℕ → ℕ → ℕ
+link_in false bs i = u32_in bs (rows_place bs + 16 * i + 8)
+link_in true bs i = u32_in bs (rows_place bs + 32 * i + 20)
+
+-- its value
+abbrev pub value_in : Bool → List ℕ → ℕ → ℕ
+value_in false bs i = u32_in bs (rows_place bs + 16 * i + 12)
+value_in true bs i = u64_in bs (rows_place bs + 32 * i + 24)
+
+-- the network with a first address and so many shared bits
+abbrev pub network : ℕ → ℕ → Net ℕ
+network first bits = record { base = first; bits = bits }
+
+-- the row at i: a network and its value
+abbrev pub row_in : Bool → List ℕ → ℕ → Net ℕ × ℕ
+row_in wide bs i = (network (first_in wide bs i) (bits_in wide bs i), value_in wide bs i)
+
+-- a row of IPv4 as the calls give it
+abbrev pub row4_of : Row4 → Net ℕ × ℕ
+row4_of r = (network r.first r.bits, r.value)
+
+-- a row of IPv6
+abbrev pub row6_of : Row6 → Net ℕ × ℕ
+row6_of r = (network r.first r.bits, r.value)
+
+-- the row whose index and one more is r, or None at 0
+abbrev pub found_row : Bool → List ℕ → ℕ → Option (Net ℕ × ℕ)
+found_row wide bs zero = None
+found_row wide bs (suc i) = Some (row_in wide bs i)
+
+-- the cell at t
+abbrev pub cell_in : List ℕ → ℕ → Cell
+cell_in bs t = record { count = u32_in bs (cells_place bs + 8 * t); around = u32_in bs (cells_place bs + 8 * t + 4) }
+
+-- the rows of an image
+abbrev pub image_rows : Bool → List ℕ → List (Net ℕ × ℕ)
+image_rows wide bs = listed (row_in wide bs) (row_count bs)
+
+-- their first addresses
+abbrev pub bases : Bool → List ℕ → List ℕ
+bases wide bs = base_numbers (λ n. n) (image_rows wide bs)
+
+-- how many bits the addresses of each share
+abbrev pub sizes : Bool → List ℕ → List ℕ
+sizes wide bs = bit_counts (image_rows wide bs)
+
+-- their links
+abbrev pub links : Bool → List ℕ → List ℕ
+links wide bs = listed (link_in wide bs) (row_count bs)
+
+-- the cells
+abbrev pub image_cells : List ℕ → List Cell
+image_cells bs = listed (cell_in bs) (cell_count bs)
+
+-- a part of this kind is listed at the place a, and lies inside the bytes
+pub record IsListed (bs : List ℕ) (a kind : ℕ) : Type 0 where
+  pub of_kind : u32_in bs a ≡ kind
+  pub inside : u64_in bs (a + 8) + u64_in bs (a + 16) ≤ length bs
+
+-- the head is of this family and version, and the first two parts that it lists are the rows and the cells
+pub record HasHead (wide : Bool) (bs : List ℕ) : Type 0 where
+  pub marked : u64_in bs 0 ≡ mark wide
+  pub some : 2 ≤ part_count bs
+  pub fits : 16 + 24 * part_count bs ≤ length bs
+  pub rows : IsListed bs 16 1
+  pub rows_size : u64_in bs 32 ≡ row_size wide * row_count bs
+  pub cells : IsListed bs 40 2
+  pub shift : rest_of bs < 128
+
+-- the bytes are an image: the rows have no detail, the cells fill their part, the networks rise, each has its link, and each
+-- cell is right
+pub record IsImage (wide : Bool) (bs : List ℕ) : Type 0 where
+  pub head : HasHead wide bs
+  pub plain : u32_in bs 20 ≡ 0
+  pub whole : u64_in bs 56 ≡ 8 * cell_count bs
+  pub rising : AreRising (width wide) (bases wide bs) (sizes wide bs)
+  pub linked : AreUplinks (width wide) (bases wide bs) (sizes wide bs) (links wide bs)
+  pub tops : AreTopCells (rest_of bs) (width wide) (bases wide bs) (sizes wide bs) (image_cells bs)
+
+-- a plan says what the head says
+pub record IsPlanOf (wide : Bool) (bs : List ℕ) (plan : Plan) : Type 0 where
+  pub head : HasHead wide bs
+  pub rows : plan.rows ≡ row_count bs
+  pub few : plan.rows < 2 ^ 32
+  pub rows_at : plan.rows_at ≡ rows_place bs
+  pub rest : plan.rest ≡ rest_of bs
+  pub cells : plan.cells ≡ cell_count bs
+  pub cells_at : plan.cells_at ≡ cells_place bs
+
+-- the network at i is one, and comes after the one before it
+pub record IsNext (w : ℕ) (fs bs : List ℕ) (i : ℕ) : Type 0 where
+  pub base : IsBase w (slice_index bs i) (slice_index fs i)
+  pub after : 0 < i
+      → IsEarlier (slice_index fs (i - 1)) (slice_index bs (i - 1)) (slice_index fs i) (slice_index bs i)
+
+-- the first n networks rise, and each has its link
+pub record AreLinkedTo (w : ℕ) (fs bs up : List ℕ) (n : ℕ) : Type 0 where
+  pub next : (k : ℕ) → k < n → IsNext w fs bs k
+  pub links : (k : ℕ) → k < n → IsLastHolder w fs bs k (slice_index fs k) (slice_index up k)

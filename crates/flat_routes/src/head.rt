@@ -1,0 +1,94 @@
+//! The head of an image, and where its parts lie.
+ghost use Rattle.std.specs.Prelude.{◌≡◌, ◌↔◌, ◌+◌, ◌*◌, ◌^◌, ◌<◌, ◌≤◌, IsTrue, MatchOption, length};
+ghost use Rattle.flat_routes.specs.Images.{HasHead, IsListed, IsPlanOf, mark, part_count, row_size, u64_in};
+
+use crate::loads::{u32_at, u64_at};
+
+/// Where the parts of an image lie.
+#[derive(Clone, Copy)]
+pub(crate) struct Plan {
+    /// How many rows there are.
+    pub(crate) rows: usize,
+    /// The place of the first.
+    pub(crate) rows_at: usize,
+    /// How many bits of an address come behind the first ones.
+    pub(crate) rest: u32,
+    /// How many cells there are.
+    pub(crate) cells: usize,
+    /// The place of the first.
+    pub(crate) cells_at: usize,
+}
+
+/// Whether the bytes begin as an image of the family does, with room for a list of two parts or more.
+#[inline(always)]
+fn is_marked(image: &[u8], wide: bool) -> bool
+    requires { 64 ≤ length image.now }
+    ensures { IsTrue result ↔ ((u64_in image.now 0 ≡ mark wide) × (2 ≤ part_count image.now)
+        × (16 + 24 * part_count image.now ≤ length image.now)) }
+{
+    let own = u64_at(image, 0);
+    let parts = u32_at(image, 12) as usize;
+    if parts < 2 || 16 + 24 * parts > image.len() {
+        return false;
+    }
+    if wide {
+        own == u64::from_le_bytes(*b"NZIPV6.1")
+    } else {
+        own == u64::from_le_bytes(*b"NZIPV4.1")
+    }
+}
+
+/// The place and the length in bytes of the part listed at a place, if it is of this kind and lies inside the bytes.
+#[inline(always)]
+fn part_at(image: &[u8], entry: usize, kind: u32) -> Option<(usize, usize)>
+    requires { entry + 24 ≤ length image.now }
+    ensures { MatchOption result (IsListed image.now entry kind → ⊥)
+        (λ part. IsListed image.now entry kind × (part.0 ≡ u64_in image.now (entry + 8))
+        × (part.1 ≡ u64_in image.now (entry + 16))) }
+{
+    let place = u64_at(image, entry + 8) as usize;
+    let size = u64_at(image, entry + 16) as usize;
+    if u32_at(image, entry) != kind || place > image.len() || size > image.len() - place {
+        return None;
+    }
+    Some((place, size))
+}
+
+/// How many bytes so many rows take.
+#[inline(always)]
+pub(crate) fn size_of_rows(wide: bool, rows: usize) -> usize
+    requires { rows < 2 ^ 32 }
+    ensures value { result ≡ row_size wide * rows }
+    ensures most { result ≤ 32 * rows }
+{
+    if wide { 32 * rows } else { 16 * rows }
+}
+
+/// Where the parts of an image lie, or None where the head is not one of the family.
+#[inline(always)]
+pub(crate) fn plan_of(image: &[u8], wide: bool) -> Option<Plan>
+    ensures { MatchOption result (HasHead wide image.now → ⊥)
+        (λ plan. IsPlanOf wide image.now plan) }
+{
+    if image.len() < 64 || !is_marked(image, wide) {
+        return None;
+    }
+    let Some((rows_at, rows_size)) = part_at(image, 16, 1) else {
+        return None;
+    };
+    let Some((cells_at, cells_size)) = part_at(image, 40, 2) else {
+        return None;
+    };
+    let rows = u32_at(image, 8) as usize;
+    let rest = u32_at(image, 44);
+    if rest >= 128 || rows_size != size_of_rows(wide, rows) {
+        return None;
+    }
+    Some(Plan {
+        rows,
+        rows_at,
+        rest,
+        cells: cells_size / 8,
+        cells_at,
+    })
+}

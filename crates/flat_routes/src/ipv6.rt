@@ -1,0 +1,201 @@
+//! Images of IPv6 networks. Each call is total: whatever the bytes are, it ends, and reads none but them.
+ghost use Rattle.std.specs.Prelude.{◌≡◌, ◌↔◌, ◌+◌, ◌*◌, ◌^◌, ◌<◌, ◌≤◌, ℕ, IfErr, IfSome, IsSome, IsTrue, MatchOption, OnOk, drop, length, min, option_map, slice_get, slice_index, take, map as each};
+ghost use Rattle.std.specs.List.{filter};
+ghost use Rattle.radix_keys.specs.Networks.{Net};
+ghost use Rattle.frozen_routes.specs.Routes.{IsLongestRow, IsOwnRow, is_inside};
+ghost use Rattle.flat_routes.specs.Images.{IsImage, found_row, image_rows, link_in, network, of_ipv6, row6_of, row_count, row_in, row_size};
+
+use crate::head::plan_of;
+use crate::layout::{WriteError, layout, next_row, put_cells, put_head, put_u32, put_u64};
+use crate::rows::{bits_at, first_at, link_at, value_at};
+use crate::search::find;
+use crate::{check, networks, search};
+
+/// A row as it lies in an image, in 32 bytes: a network by its first address and how many bits its addresses share, the
+/// index and one more of the row of the network around it, or 0, and the network's value.
+#[repr(C)]
+#[derive(Clone, Copy)]
+pub struct Row {
+    pub first: u128,
+    pub bits: u32,
+    pub link: u32,
+    pub value: u64,
+}
+
+/// Whether bytes are an image of IPv6 networks. It takes linear time, but for the climbs from each network, and from each
+/// value of the first bits, to the network around it.
+pub fn is_image(image: &[u8]) -> bool
+    ensures { IsTrue result ↔ IsImage of_ipv6 image.now }
+{
+    check::is_image(image, true)
+}
+
+/// The count of rows. Of bytes that are no image it is some number.
+pub fn len(image: &[u8]) -> usize
+    ensures { IsImage of_ipv6 image.now → result ≡ length (image_rows of_ipv6 image.now) }
+{
+    match plan_of(image, true) {
+        Some(plan) => plan.rows,
+        None => 0,
+    }
+}
+
+/// The row at an index, or None where there is none.
+pub fn row_at(image: &[u8], at: usize) -> Option<Row>
+    ensures row { IsImage of_ipv6 image.now
+        → slice_get (image_rows of_ipv6 image.now) at ≡ option_map row6_of result }
+    ensures link { IfSome result (λ r. r.link ≡ link_in of_ipv6 image.now at) }
+{
+    let Some(plan) = plan_of(image, true) else {
+        return None;
+    };
+    if at >= plan.rows {
+        return None;
+    }
+    Some(Row {
+        first: first_at(image, true, plan, at),
+        bits: bits_at(image, true, plan, at),
+        link: link_at(image, true, plan, at),
+        value: value_at(image, true, plan, at),
+    })
+}
+
+/// The index of the row of the longest network that holds an address, or None where none does.
+///
+/// It takes as many comparisons as the rows of the address's block have binary digits, and a step for each network around
+/// the last one that begins at or before it, until one holds it. Of bytes that are no image it returns None or the index
+/// of some row.
+pub fn look(image: &[u8], address: u128) -> Option<usize>
+    ensures within { IfSome result (λ at. at < row_count image.now) }
+    ensures row { IsImage of_ipv6 image.now → IsLongestRow 128 (λ n. n)
+        (image_rows of_ipv6 image.now) address (option_map (row_in of_ipv6 image.now) result) }
+{
+    search::look(image, true, address)
+}
+
+/// Looks up addresses as `look` does, as many as there are of both, and puts for each the index of its row and one more,
+/// or 0, into `found`. It returns how many.
+pub fn look_many(image: &[u8], addresses: &[u128], found: &mut [u32]) -> usize
+    ensures count { result ≤ min (length addresses.now) (length found.new) }
+    ensures all { IsImage of_ipv6 image.now
+        → result ≡ min (length addresses.now) (length found.new) }
+    ensures rows { IsImage of_ipv6 image.now → (k : ℕ) → k < result
+        → IsLongestRow 128 (λ n. n) (image_rows of_ipv6 image.now) (slice_index addresses.now k)
+        (found_row of_ipv6 image.now (slice_index found.new k)) }
+{
+    let Some(plan) = plan_of(image, true) else {
+        return 0;
+    };
+    let count = addresses.len().min(found.len());
+    for i in 0..count {
+        found[i] = find(image, true, plan, addresses[i]) as u32;
+    }
+    count
+}
+
+/// The index of the row of this very network, by its first address and how many bits its addresses share, or None where
+/// no row is of it. It takes as many comparisons as the count of rows has binary digits.
+pub fn get(image: &[u8], first: u128, bits: u32) -> Option<usize>
+    ensures within { IfSome result (λ at. at < row_count image.now) }
+    ensures row { IsImage of_ipv6 image.now → MatchOption result
+        ((r : Net ℕ × ℕ) → IsOwnRow (λ n. n) (image_rows of_ipv6 image.now) (network first bits) r
+        → ⊥)
+        (λ at. IsOwnRow (λ n. n) (image_rows of_ipv6 image.now) (network first bits)
+        (row_in of_ipv6 image.now at)) }
+{
+    networks::get(image, true, first, bits)
+}
+
+/// The rows whose networks lie within a network, itself among them: the index of the first, and how many there are. It
+/// takes twice as many comparisons as the count of rows has binary digits.
+pub fn below(image: &[u8], first: u128, bits: u32) -> (usize, usize)
+    ensures within { result.0 + result.1 ≤ row_count image.now }
+    ensures rows { IsImage of_ipv6 image.now
+        → take result.1 (drop result.0 (image_rows of_ipv6 image.now))
+        ≡ filter (is_inside 128 (λ n. n) (network first bits)) (image_rows of_ipv6 image.now) }
+{
+    networks::below(image, true, first, bits)
+}
+
+/// How many bytes the image of so many rows takes, as `write` lays it out, or None of 2^32 rows or more.
+pub fn image_len(rows: usize) -> Option<usize>
+    ensures least { IfSome result (λ len. 64 + row_size of_ipv6 * rows ≤ len) }
+    ensures some { rows < 2 ^ 32 → IsSome result }
+{
+    match layout(true, rows) {
+        Some(plan) => Some(plan.cells_at + 8 * plan.cells),
+        None => None,
+    }
+}
+
+/// Puts a row behind those before it, with its link.
+fn put_row(out: &mut [u8], at: usize, row: Row) -> bool {
+    let Some((place, link)) = next_row(out, true, at, row.first) else {
+        return false;
+    };
+    put_u64(out, place, (row.first % (1 << 64)) as u64);
+    put_u64(out, place + 8, (row.first >> 64) as u64);
+    put_u32(out, place + 16, row.bits);
+    put_u32(out, place + 20, link);
+    put_u64(out, place + 24, row.value);
+    true
+}
+
+/// Whether the rows of an image are these, but for their links.
+fn are_rows(image: &[u8], rows: &[Row]) -> bool
+    ensures { IsTrue result → image_rows of_ipv6 image.now ≡ each row6_of rows.now }
+{
+    let Some(plan) = plan_of(image, true) else {
+        return false;
+    };
+    if plan.rows != rows.len() {
+        return false;
+    }
+    for at in 0..rows.len() {
+        let row = rows[at];
+        if first_at(image, true, plan, at) != row.first {
+            return false;
+        }
+        if bits_at(image, true, plan, at) != row.bits {
+            return false;
+        }
+        if value_at(image, true, plan, at) != row.value {
+            return false;
+        }
+    }
+    true
+}
+
+/// Writes the image of rows, which rise by their first addresses, and of one first address by their bits, into a buffer
+/// of `image_len` bytes or more. Of a row's link it takes no notice. Bytes behind the image stay as they are. It takes
+/// linear time, but for the climbs to the network around each network, and around each value of the first bits.
+///
+/// # Errors
+///
+/// There are too many rows, the buffer is too short, or the rows aren't in order; the buffer may hold part of an image
+/// then. What is written is checked, so at Ok it is an image of these very rows.
+pub fn write(rows: &[Row], out: &mut [u8]) -> Result<(), WriteError>
+    ensures full { IfErr result (λ e. e ≡ WriteError.Full → 2 ^ 32 ≤ length rows.now) }
+    ensures image { OnOk result (IsImage of_ipv6 out.new) }
+    ensures rows { OnOk result (image_rows of_ipv6 out.new ≡ each row6_of rows.now) }
+{
+    let count = rows.len();
+    let Some(plan) = layout(true, count) else {
+        return Err(WriteError::Full);
+    };
+    if !put_head(out, true, plan) {
+        return Err(WriteError::Short);
+    }
+    for at in 0..count {
+        if !put_row(out, at, rows[at]) {
+            return Err(WriteError::Unsorted);
+        }
+    }
+    if !put_cells(out, true, plan.cells) {
+        return Err(WriteError::Unsorted);
+    }
+    if !check::is_image(out, true) || !are_rows(out, rows) {
+        return Err(WriteError::Unsorted);
+    }
+    Ok(())
+}

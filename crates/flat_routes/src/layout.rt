@@ -1,0 +1,178 @@
+//! How an image is laid out and written. Nothing is said here of the bytes: `write` checks what it wrote.
+ghost use Rattle.std.specs.Prelude.{◌≡◌, ◌+◌, ◌*◌, ◌^◌, ◌<◌, ◌≤◌, IfSome, IsSome, length};
+ghost use Rattle.flat_routes.specs.Images.{row_size};
+
+use crate::head::{Plan, plan_of, size_of_rows};
+use crate::rows::{Cell, bits_of, first_at};
+use crate::search::climb;
+
+/// Why no image was written.
+#[derive(Debug, Clone, Copy, PartialEq, Eq)]
+pub enum WriteError {
+    /// There are 2^32 rows or more.
+    Full,
+    /// The buffer is shorter than the image.
+    Short,
+    /// A row is of no network, or doesn't come after the row before it.
+    Unsorted,
+}
+
+/// By how many first bits the cells of so many rows are: as many as the count has binary digits, but at least 9 and at most
+/// 21.
+fn bits_for(rows: usize) -> u32
+    ensures some { 9 ≤ result }
+    ensures few { result ≤ 21 }
+{
+    let mut bits = 9u32;
+    while bits < 21 && rows >> bits > 0 {
+        bits += 1;
+    }
+    bits
+}
+
+/// Where the parts of an image of so many rows lie, or None of 2^32 rows or more. Below 256 rows there are no cells.
+pub(crate) fn layout(wide: bool, rows: usize) -> Option<Plan>
+    ensures rows { IfSome result (λ plan. plan.rows ≡ rows) }
+    ensures place { IfSome result (λ plan. plan.rows_at ≡ 64) }
+    ensures cells { IfSome result (λ plan. plan.cells_at ≡ 64 + row_size wide * rows) }
+    ensures few { IfSome result (λ plan. plan.cells < 2 ^ 22) }
+    ensures most { IfSome result (λ plan. plan.rows < 2 ^ 32) }
+    ensures some { rows < 2 ^ 32 → IsSome result }
+{
+    if rows > u32::MAX as usize {
+        return None;
+    }
+    let cells_at = 64 + size_of_rows(wide, rows);
+    if rows < 256 {
+        return Some(Plan {
+            rows,
+            rows_at: 64,
+            rest: 0,
+            cells: 0,
+            cells_at,
+        });
+    }
+    let bits = bits_for(rows);
+    Some(Plan {
+        rows,
+        rows_at: 64,
+        rest: bits_of(wide) - bits,
+        cells: (1usize << bits) + 1,
+        cells_at,
+    })
+}
+
+/// Puts a number into 4 bytes, the low one first.
+pub(crate) fn put_u32(out: &mut [u8], at: usize, number: u32)
+    requires { at + 4 ≤ length out.old }
+    ensures { length out.new ≡ length out.old }
+{
+    let [a, b, c, d] = number.to_le_bytes();
+    out[at] = a;
+    out[at + 1] = b;
+    out[at + 2] = c;
+    out[at + 3] = d;
+}
+
+/// Puts a number into 8 bytes, the low one first.
+pub(crate) fn put_u64(out: &mut [u8], at: usize, number: u64)
+    requires { at + 8 ≤ length out.old }
+    ensures { length out.new ≡ length out.old }
+{
+    put_u32(out, at, (number % (1 << 32)) as u32);
+    put_u32(out, at + 4, (number >> 32) as u32);
+}
+
+/// Puts what the head lists of a part.
+fn put_entry(out: &mut [u8], at: usize, kind: u32, detail: u32, place: usize, size: usize)
+    requires { at + 24 ≤ length out.old }
+    ensures { length out.new ≡ length out.old }
+{
+    put_u32(out, at, kind);
+    put_u32(out, at + 4, detail);
+    put_u64(out, at + 8, place as u64);
+    put_u64(out, at + 16, size as u64);
+}
+
+/// Puts the head of an image, if there is room for all of it.
+pub(crate) fn put_head(out: &mut [u8], wide: bool, plan: Plan) -> bool
+    requires rows { plan.rows < 2 ^ 32 }
+    requires cells { plan.cells < 2 ^ 22 }
+{
+    let rows_size = size_of_rows(wide, plan.rows);
+    if out.len() < 64 + rows_size + 8 * plan.cells {
+        return false;
+    }
+    let mark = if wide {
+        u64::from_le_bytes(*b"NZIPV6.1")
+    } else {
+        u64::from_le_bytes(*b"NZIPV4.1")
+    };
+    put_u64(out, 0, mark);
+    put_u32(out, 8, plan.rows as u32);
+    put_u32(out, 12, 2);
+    put_entry(out, 16, 1, 0, plan.rows_at, rows_size);
+    put_entry(out, 40, 2, plan.rest, plan.cells_at, 8 * plan.cells);
+    true
+}
+
+/// The place of the row at an index, and its link, where the rows before it stand.
+pub(crate) fn next_row(image: &[u8], wide: bool, at: usize, first: u128) -> Option<(usize, u32)>
+    ensures { IfSome result (λ next. next.0 + row_size wide ≤ length image.now) }
+{
+    let Some(plan) = plan_of(image, wide) else {
+        return None;
+    };
+    if at >= plan.rows {
+        return None;
+    }
+    let link = climb(image, wide, plan, at, Cell::NONE, first);
+    let place = if wide {
+        plan.rows_at + 32 * at
+    } else {
+        plan.rows_at + 16 * at
+    };
+    Some((place, link as u32))
+}
+
+/// The place of the cell at an index, and the cell, where all rows stand, and the first `from` begin before it.
+fn next_cell(image: &[u8], wide: bool, at: usize, from: usize) -> Option<(usize, Cell)>
+    ensures place { IfSome result (λ next. next.0 + 8 ≤ length image.now) }
+    ensures count { IfSome result (λ next. next.1.count < 2 ^ 32) }
+    ensures around { IfSome result (λ next. next.1.around < 2 ^ 32) }
+{
+    let Some(plan) = plan_of(image, wide) else {
+        return None;
+    };
+    if at >= plan.cells || from > plan.rows {
+        return None;
+    }
+    let place = plan.cells_at + 8 * at;
+    let Some(start) = (at as u128).checked_mul(1u128 << plan.rest) else {
+        let cell = Cell {
+            count: plan.rows,
+            around: 0,
+        };
+        return Some((place, cell));
+    };
+    let mut count = from;
+    while count < plan.rows && first_at(image, wide, plan, count) < start {
+        count += 1;
+    }
+    let around = climb(image, wide, plan, count, Cell::NONE, start);
+    Some((place, Cell { count, around }))
+}
+
+/// Puts so many cells, where all rows stand.
+pub(crate) fn put_cells(out: &mut [u8], wide: bool, cells: usize) -> bool {
+    let mut count = 0;
+    for at in 0..cells {
+        let Some((place, cell)) = next_cell(out, wide, at, count) else {
+            return false;
+        };
+        count = cell.count;
+        put_u32(out, place, count as u32);
+        put_u32(out, place + 4, cell.around as u32);
+    }
+    true
+}

@@ -1,0 +1,41 @@
+//! Numbers in bytes, the low byte first.
+ghost use Rattle.std.specs.Prelude.{◌≡◌, ◌+◌, ◌≤◌, length};
+ghost use Rattle.flat_routes.specs.Images.{u32_in, u64_in, u128_in};
+
+/// The number of the 4 bytes from a place on.
+#[inline(always)]
+#[tactic(auto, unfolding(crate::specs::Images::u32_in))]
+pub(crate) fn u32_at(bytes: &[u8], at: usize) -> u32
+    requires { at + 4 ≤ length bytes.now }
+    ensures { result ≡ u32_in bytes.now at }
+{
+    u32::from_le_bytes([bytes[at], bytes[at + 1], bytes[at + 2], bytes[at + 3]])
+}
+
+/// The number of the 8 bytes from a place on.
+#[inline(always)]
+#[tactic(auto, unfolding(crate::specs::Images::u64_in))]
+pub(crate) fn u64_at(bytes: &[u8], at: usize) -> u64
+    requires { at + 8 ≤ length bytes.now }
+    ensures { result ≡ u64_in bytes.now at }
+{
+    u64::from_le_bytes([
+        bytes[at],
+        bytes[at + 1],
+        bytes[at + 2],
+        bytes[at + 3],
+        bytes[at + 4],
+        bytes[at + 5],
+        bytes[at + 6],
+        bytes[at + 7],
+    ])
+}
+
+/// The number of the 16 bytes from a place on.
+#[inline(always)]
+pub(crate) fn u128_at(bytes: &[u8], at: usize) -> u128
+    requires { at + 16 ≤ length bytes.now }
+    ensures { result ≡ u128_in bytes.now at }
+{
+    u128::from(u64_at(bytes, at)) + (1u128 << 64) * u128::from(u64_at(bytes, at + 8))
+}

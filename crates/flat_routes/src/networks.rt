@@ -1,0 +1,97 @@
+//! The row of one network, and those within one.
+ghost use Rattle.std.specs.Prelude.{◌≡◌, ◌↔◌, ◌+◌, ◌-◌, ◌/◌, ◌^◌, ◌<◌, ◌≤◌, ℕ, IfSome, IsTrue, MatchOption, drop, slice_index, take};
+ghost use Rattle.std.specs.List.{filter};
+ghost use Rattle.radix_keys.specs.Networks.{Net};
+ghost use Rattle.frozen_routes.specs.Routes.{AreInFront, IsInFront, IsOwnRow, is_inside};
+ghost use Rattle.flat_routes.specs.Images.{IsImage, IsPlanOf, bases, image_rows, network, row_count, row_in, sizes, width};
+
+use crate::head::{Plan, plan_of};
+use crate::rows::{bits_at, bits_of, first_at, without_last};
+
+/// The number without the bits that come behind so many.
+fn first_bits(wide: bool, number: u128, bits: u32) -> u128
+    ensures { result ≡ number / 2 ^ (width wide - bits) }
+{
+    without_last(number, bits_of(wide).saturating_sub(bits))
+}
+
+/// Whether the network at an index comes in front of those within the network of `bits` bits whose addresses have
+/// `quotient` for these, or of those behind it where the search is one through it.
+fn is_in_front(
+    image: &[u8],
+    wide: bool,
+    plan: Plan,
+    at: usize,
+    bits: u32,
+    quotient: u128,
+    is_through: bool,
+) -> bool
+    requires plan { IsPlanOf wide image.now plan }
+    requires within { at < plan.rows }
+    ensures { IsTrue result ↔ IsInFront (width wide) is_through bits quotient
+        (slice_index (bases wide image.now) at) (slice_index (sizes wide image.now) at) }
+{
+    let own = first_bits(wide, first_at(image, wide, plan, at), bits);
+    if own != quotient {
+        return own < quotient;
+    }
+    is_through || bits_at(image, wide, plan, at) < bits
+}
+
+/// How many of the networks come in front of those within a network, or also those within where the search is one
+/// through it.
+fn cut(image: &[u8], wide: bool, plan: Plan, first: u128, bits: u32, is_through: bool) -> usize
+    requires plan { IsPlanOf wide image.now plan }
+    ensures within { result ≤ plan.rows }
+    ensures front { IsImage wide image.now → AreInFront (width wide) is_through bits
+        (first / 2 ^ (width wide - bits)) (bases wide image.now) (sizes wide image.now) result }
+{
+    let quotient = first_bits(wide, first, bits);
+    let (mut lo, mut hi) = (0usize, plan.rows);
+    while lo < hi {
+        let mid = lo + (hi - lo) / 2;
+        if is_in_front(image, wide, plan, mid, bits, quotient, is_through) {
+            lo = mid + 1;
+        } else {
+            hi = mid;
+        }
+    }
+    lo
+}
+
+/// The index of the row of this very network, by its first address and how many bits its addresses share.
+pub(crate) fn get(image: &[u8], wide: bool, first: u128, bits: u32) -> Option<usize>
+    ensures within { IfSome result (λ at. at < row_count image.now) }
+    ensures row { IsImage wide image.now → MatchOption result
+        ((r : Net ℕ × ℕ) → IsOwnRow (λ n. n) (image_rows wide image.now) (network first bits) r → ⊥)
+        (λ at. IsOwnRow (λ n. n) (image_rows wide image.now) (network first bits)
+        (row_in wide image.now at)) }
+{
+    let Some(plan) = plan_of(image, wide) else {
+        return None;
+    };
+    let at = cut(image, wide, plan, first, bits, false);
+    if at >= plan.rows {
+        return None;
+    }
+    if first_at(image, wide, plan, at) != first || bits_at(image, wide, plan, at) != bits {
+        return None;
+    }
+    Some(at)
+}
+
+/// The rows whose networks lie within a network: the index of the first, and how many there are.
+pub(crate) fn below(image: &[u8], wide: bool, first: u128, bits: u32) -> (usize, usize)
+    ensures within { result.0 + result.1 ≤ row_count image.now }
+    ensures rows { IsImage wide image.now
+        → take result.1 (drop result.0 (image_rows wide image.now))
+        ≡ filter (is_inside (width wide) (λ n. n) (network first bits))
+        (image_rows wide image.now) }
+{
+    let Some(plan) = plan_of(image, wide) else {
+        return (0, 0);
+    };
+    let from = cut(image, wide, plan, first, bits, false);
+    let to = cut(image, wide, plan, first, bits, true);
+    (from, to.saturating_sub(from))
+}

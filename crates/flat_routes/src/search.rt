@@ -1,0 +1,134 @@
+//! Searches in an image. Each is total: whatever the bytes are, it ends, and reads none but them.
+ghost use Rattle.std.specs.Prelude.{◌+◌, ◌-◌, ◌/◌, ◌<◌, ◌≤◌, ℕ, IfSome, option_map, slice_index};
+ghost use Rattle.frozen_routes.specs.Routes.{AreUpTo, IsLastHolder, IsLongestRow};
+ghost use Rattle.flat_routes.specs.Images.{AreLinkedTo, IsImage, IsPlanOf, bases, found_row, image_rows, links, row_count, row_in, sizes, width};
+
+use crate::head::{Plan, plan_of};
+use crate::rows::{Cell, cell_at, first_at, holds_at, link_at};
+
+/// What bounds the search of a number: the cell of its block, and how many networks begin before the next block. Where
+/// there is no such cell it's all of them, and a cell that counts none.
+#[inline(always)]
+fn top_span(image: &[u8], wide: bool, plan: Plan, number: u128) -> (Cell, usize)
+    requires plan { IsPlanOf wide image.now plan }
+    ensures around_within { result.0.around ≤ result.0.count }
+    ensures order { result.0.count ≤ result.1 }
+    ensures within { result.1 ≤ plan.rows }
+    ensures below { IsImage wide image.now → (k : ℕ) → k < result.0.count
+        → slice_index (bases wide image.now) k ≤ number }
+    ensures above { IsImage wide image.now → (k : ℕ) → result.1 ≤ k → k < plan.rows
+        → number < slice_index (bases wide image.now) k }
+    ensures around { IsImage wide image.now
+        → IsLastHolder (width wide) (bases wide image.now) (sizes wide image.now) result.0.count
+        number result.0.around }
+{
+    let first = number >> plan.rest;
+    if first < plan.cells.saturating_sub(1) as u128 {
+        let cell = cell_at(image, wide, plan, first as usize);
+        let next = cell_at(image, wide, plan, first as usize + 1).count;
+        if cell.around <= cell.count && cell.count <= next && next <= plan.rows {
+            return (cell, next);
+        }
+    }
+    (Cell::NONE, plan.rows)
+}
+
+/// How many of the networks begin at or before an address, by its number, where the first `lo` do, and none from `hi` on.
+#[inline(always)]
+fn count_to(
+    image: &[u8],
+    wide: bool,
+    plan: Plan,
+    number: u128,
+    mut lo: usize,
+    mut hi: usize,
+) -> usize
+    requires plan { IsPlanOf wide image.now plan }
+    requires order { lo ≤ hi }
+    requires within { hi ≤ plan.rows }
+    requires below { IsImage wide image.now → (k : ℕ) → k < lo
+        → slice_index (bases wide image.now) k ≤ number }
+    requires above { IsImage wide image.now → (k : ℕ) → hi ≤ k → k < plan.rows
+        → number < slice_index (bases wide image.now) k }
+    ensures least { lo ≤ result }
+    ensures most { result ≤ plan.rows }
+    ensures count { IsImage wide image.now → AreUpTo (bases wide image.now) number result }
+{
+    while lo < hi {
+        let mid = lo + (hi - lo) / 2;
+        if first_at(image, wide, plan, mid) <= number {
+            lo = mid + 1;
+        } else {
+            hi = mid;
+        }
+    }
+    lo
+}
+
+/// The last of the first `from` networks that holds an address, by its index and one more, or 0 where there is none; the
+/// floor says so of as many as it counts.
+#[inline(always)]
+pub(crate) fn climb(
+    image: &[u8],
+    wide: bool,
+    plan: Plan,
+    from: usize,
+    floor: Cell,
+    number: u128,
+) -> usize
+    requires plan { IsPlanOf wide image.now plan }
+    requires within { from ≤ plan.rows }
+    requires floor { floor.count ≤ from }
+    requires around { floor.around ≤ floor.count }
+    ensures within { result ≤ from }
+    ensures last { AreLinkedTo (width wide) (bases wide image.now) (sizes wide image.now)
+        (links wide image.now) from
+        → ((k : ℕ) → k < from → slice_index (bases wide image.now) k ≤ number)
+        → IsLastHolder (width wide) (bases wide image.now) (sizes wide image.now) floor.count
+        number floor.around
+        → IsLastHolder (width wide) (bases wide image.now) (sizes wide image.now) from number
+        result }
+{
+    let mut at = from;
+    while at > floor.count {
+        if holds_at(image, wide, plan, at - 1, number) {
+            return at;
+        }
+        let link = link_at(image, wide, plan, at - 1) as usize;
+        if link >= at {
+            return 0;
+        }
+        at = link;
+    }
+    floor.around
+}
+
+/// The row of the longest network that holds an address, by its index and one more, or 0 where none does.
+#[inline(always)]
+pub(crate) fn find(image: &[u8], wide: bool, plan: Plan, number: u128) -> usize
+    requires { IsPlanOf wide image.now plan }
+    ensures within { result ≤ plan.rows }
+    ensures row { IsImage wide image.now → IsLongestRow (width wide) (λ n. n)
+        (image_rows wide image.now) number (found_row wide image.now result) }
+{
+    let (floor, hi) = top_span(image, wide, plan, number);
+    let from = count_to(image, wide, plan, number, floor.count, hi);
+    climb(image, wide, plan, from, floor, number)
+}
+
+/// The index of the row of the longest network that holds an address, by its number.
+#[inline(always)]
+pub(crate) fn look(image: &[u8], wide: bool, number: u128) -> Option<usize>
+    ensures within { IfSome result (λ at. at < row_count image.now) }
+    ensures row { IsImage wide image.now → IsLongestRow (width wide) (λ n. n)
+        (image_rows wide image.now) number (option_map (row_in wide image.now) result) }
+{
+    let Some(plan) = plan_of(image, wide) else {
+        return None;
+    };
+    let found = find(image, wide, plan, number);
+    if found == 0 {
+        return None;
+    }
+    Some(found - 1)
+}

@@ -1,0 +1,243 @@
+//! Stored images, which tools of other languages made from docs/IMAGES.md, and what is found there.
+
+use crate::ipv4::Row;
+use crate::{WriteError, ipv4, ipv6};
+use std::alloc::Global;
+
+/// 10.0.0.0/8, 10.0.0.0/16, 10.1.0.0/16, 10.1.2.0/24, 128.0.0.0/2, 192.0.2.0/24 and 255.255.255.255/32, with cells by three
+/// bits, and five bytes of the user's own before the rows.
+const IPV4: [u8; 277] = [
+    78, 90, 73, 80, 86, 52, 46, 49, 7, 0, 0, 0, 3, 0, 0, 0, 1, 0, 0, 0, 0, 0, 0, 0, 93, 0, 0, 0, 0,
+    0, 0, 0, 112, 0, 0, 0, 0, 0, 0, 0, 2, 0, 0, 0, 29, 0, 0, 0, 205, 0, 0, 0, 0, 0, 0, 0, 72, 0, 0,
+    0, 0, 0, 0, 0, 3, 0, 0, 0, 7, 0, 0, 0, 88, 0, 0, 0, 0, 0, 0, 0, 5, 0, 0, 0, 0, 0, 0, 0, 104,
+    101, 108, 108, 111, 0, 0, 0, 10, 8, 0, 0, 0, 0, 0, 0, 0, 100, 0, 0, 0, 0, 0, 0, 10, 16, 0, 0,
+    0, 1, 0, 0, 0, 101, 0, 0, 0, 0, 0, 1, 10, 16, 0, 0, 0, 1, 0, 0, 0, 102, 0, 0, 0, 0, 2, 1, 10,
+    24, 0, 0, 0, 3, 0, 0, 0, 103, 0, 0, 0, 0, 0, 0, 128, 2, 0, 0, 0, 0, 0, 0, 0, 104, 0, 0, 0, 0,
+    2, 0, 192, 24, 0, 0, 0, 0, 0, 0, 0, 105, 0, 0, 0, 255, 255, 255, 255, 32, 0, 0, 0, 0, 0, 0, 0,
+    106, 0, 0, 0, 0, 0, 0, 0, 0, 0, 0, 0, 4, 0, 0, 0, 0, 0, 0, 0, 4, 0, 0, 0, 0, 0, 0, 0, 4, 0, 0,
+    0, 0, 0, 0, 0, 4, 0, 0, 0, 0, 0, 0, 0, 5, 0, 0, 0, 5, 0, 0, 0, 5, 0, 0, 0, 0, 0, 0, 0, 6, 0, 0,
+    0, 0, 0, 0, 0, 7, 0, 0, 0, 0, 0, 0, 0,
+];
+
+/// ::/0, 2001:db8::/32, 2001:db8::/48, 2001:db8:0:1::/64 and fe80::/10, with cells by three bits.
+const IPV6: [u8; 296] = [
+    78, 90, 73, 80, 86, 54, 46, 49, 5, 0, 0, 0, 2, 0, 0, 0, 1, 0, 0, 0, 0, 0, 0, 0, 64, 0, 0, 0, 0,
+    0, 0, 0, 160, 0, 0, 0, 0, 0, 0, 0, 2, 0, 0, 0, 125, 0, 0, 0, 224, 0, 0, 0, 0, 0, 0, 0, 72, 0,
+    0, 0, 0, 0, 0, 0, 0, 0, 0, 0, 0, 0, 0, 0, 0, 0, 0, 0, 0, 0, 0, 0, 0, 0, 0, 0, 0, 0, 0, 0, 100,
+    0, 0, 0, 0, 0, 0, 0, 0, 0, 0, 0, 0, 0, 0, 0, 0, 0, 0, 0, 184, 13, 1, 32, 32, 0, 0, 0, 1, 0, 0,
+    0, 101, 0, 0, 0, 0, 0, 0, 0, 0, 0, 0, 0, 0, 0, 0, 0, 0, 0, 0, 0, 184, 13, 1, 32, 48, 0, 0, 0,
+    2, 0, 0, 0, 102, 0, 0, 0, 0, 0, 0, 0, 0, 0, 0, 0, 0, 0, 0, 0, 1, 0, 0, 0, 184, 13, 1, 32, 64,
+    0, 0, 0, 3, 0, 0, 0, 103, 0, 0, 0, 0, 0, 0, 0, 0, 0, 0, 0, 0, 0, 0, 0, 0, 0, 0, 0, 0, 0, 128,
+    254, 10, 0, 0, 0, 1, 0, 0, 0, 104, 0, 0, 0, 0, 0, 0, 0, 0, 0, 0, 0, 0, 0, 0, 0, 1, 0, 0, 0, 1,
+    0, 0, 0, 4, 0, 0, 0, 1, 0, 0, 0, 4, 0, 0, 0, 1, 0, 0, 0, 4, 0, 0, 0, 1, 0, 0, 0, 4, 0, 0, 0, 1,
+    0, 0, 0, 4, 0, 0, 0, 1, 0, 0, 0, 4, 0, 0, 0, 1, 0, 0, 0, 5, 0, 0, 0, 0, 0, 0, 0,
+];
+
+/// The rows of `IPV4` with no cells and no other part.
+const PLAIN: [u8; 176] = [
+    78, 90, 73, 80, 86, 52, 46, 49, 7, 0, 0, 0, 2, 0, 0, 0, 1, 0, 0, 0, 0, 0, 0, 0, 64, 0, 0, 0, 0,
+    0, 0, 0, 112, 0, 0, 0, 0, 0, 0, 0, 2, 0, 0, 0, 0, 0, 0, 0, 176, 0, 0, 0, 0, 0, 0, 0, 0, 0, 0,
+    0, 0, 0, 0, 0, 0, 0, 0, 10, 8, 0, 0, 0, 0, 0, 0, 0, 100, 0, 0, 0, 0, 0, 0, 10, 16, 0, 0, 0, 1,
+    0, 0, 0, 101, 0, 0, 0, 0, 0, 1, 10, 16, 0, 0, 0, 1, 0, 0, 0, 102, 0, 0, 0, 0, 2, 1, 10, 24, 0,
+    0, 0, 3, 0, 0, 0, 103, 0, 0, 0, 0, 0, 0, 128, 2, 0, 0, 0, 0, 0, 0, 0, 104, 0, 0, 0, 0, 2, 0,
+    192, 24, 0, 0, 0, 0, 0, 0, 0, 105, 0, 0, 0, 255, 255, 255, 255, 32, 0, 0, 0, 0, 0, 0, 0, 106,
+    0, 0, 0,
+];
+
+#[test]
+fn stored_image_of_ipv4(rt: HostRuntime) {
+    const LOOKS: &'static [(u32, Option<usize>)] = &[
+        (0x0000_0000, None),
+        (0x0a00_ffff, Some(1)),
+        (0x0a01_0203, Some(3)),
+        (0x0a01_0300, Some(2)),
+        (0x0aff_0001, Some(0)),
+        (0x0b00_0000, None),
+        (0x8000_0000, Some(4)),
+        (0xa000_0001, Some(4)),
+        (0xbfff_ffff, Some(4)),
+        (0xc000_0209, Some(5)),
+        (0xc000_0300, None),
+        (0xffff_fffe, None),
+        (0xffff_ffff, Some(6)),
+    ];
+    assert!(rt; ipv4::is_image(&IPV4) && ipv4::len(&IPV4) == 7);
+    assert!(rt; !ipv6::is_image(&IPV4));
+    for (address, index) in LOOKS {
+        assert!(rt; ipv4::look(&IPV4, *address) == *index, "{address}");
+    }
+    assert!(rt;
+        ipv4::row_at(&IPV4, 3).is_some_and(|row| row.first == 0x0a01_0200 && row.link == 3)
+    );
+    assert!(rt; ipv4::row_at(&IPV4, 3).is_some_and(|row| row.bits == 24 && row.value == 103));
+    assert!(rt; ipv4::row_at(&IPV4, 7).is_none());
+}
+
+#[test]
+fn stored_image_of_ipv6(rt: HostRuntime) {
+    const LOOKS: &'static [(u128, Option<usize>)] = &[
+        (0, Some(0)),
+        (0x2001_0db7 << 96, Some(0)),
+        ((0x2001_0db8 << 96) + 1, Some(2)),
+        ((0x2001_0db8 << 96) + (1 << 64) + 1, Some(3)),
+        ((0x2001_0db8 << 96) + (1 << 80), Some(1)),
+        (1 << 126, Some(0)),
+        ((0xfe80 << 112) + 1, Some(4)),
+        (0xffff << 112, Some(0)),
+    ];
+    assert!(rt; ipv6::is_image(&IPV6) && ipv6::len(&IPV6) == 5);
+    for (address, index) in LOOKS {
+        assert!(rt; ipv6::look(&IPV6, *address) == *index, "{address}");
+    }
+    assert!(rt;
+        ipv6::row_at(&IPV6, 4).is_some_and(|row| row.first == 0xfe80 << 112 && row.link == 1)
+    );
+    assert!(rt; ipv6::row_at(&IPV6, 4).is_some_and(|row| row.bits == 10 && row.value == 104));
+    assert!(rt; ipv6::get(&IPV6, 0x2001_0db8 << 96, 48) == Some(2));
+    assert!(rt; ipv6::below(&IPV6, 0x2001_0db8 << 96, 32) == (1, 3));
+}
+
+/// The bytes of `IPV4` with another one at an index.
+fn spoilt(at: usize, byte: u8) -> [u8; 277] {
+    let mut bytes = IPV4;
+    if at < 277 {
+        bytes[at] = byte;
+    }
+    bytes
+}
+
+#[test]
+fn spoilt_images(rt: HostRuntime) {
+    const SPOILT: &'static [(usize, u8)] = &[
+        (0, 79),
+        (6, 0),
+        (7, 50),
+        (8, 6),
+        (12, 1),
+        (12, 255),
+        (16, 2),
+        (20, 1),
+        (24, 94),
+        (31, 1),
+        (32, 113),
+        (40, 3),
+        (44, 28),
+        (44, 128),
+        (48, 206),
+        (56, 80),
+        (63, 255),
+        (93, 1),
+        (97, 33),
+        (117, 0),
+        (117, 2),
+        (133, 3),
+        (205, 1),
+        (245, 4),
+        (249, 0),
+        (249, 6),
+        (269, 6),
+        (273, 7),
+    ];
+    for end in 0..IPV4.len() {
+        assert!(rt; !ipv4::is_image(&IPV4[..end]), "{end}");
+    }
+    for (at, byte) in SPOILT {
+        assert!(rt; !ipv4::is_image(&spoilt(*at, *byte)), "{at} {byte}");
+    }
+}
+
+#[test]
+fn networks_and_many_addresses(rt: HostRuntime) {
+    assert!(rt; ipv4::get(&IPV4, 0x0a00_0000, 8) == Some(0));
+    assert!(rt; ipv4::get(&IPV4, 0x0a00_0000, 16) == Some(1));
+    assert!(rt; ipv4::get(&IPV4, 0x0a00_0000, 9).is_none());
+    assert!(rt; ipv4::below(&IPV4, 0x0a00_0000, 8) == (0, 4));
+    assert!(rt; ipv4::below(&IPV4, 0x0a00_0000, 15) == (1, 3));
+    assert!(rt; ipv4::below(&IPV4, 0, 0) == (0, 7));
+    let mut found = [9u32; 4];
+    let count = ipv4::look_many(&IPV4, &[0xffff_ffff, 1, 0x0a01_0203], &mut found);
+    assert!(rt; count == 3 && found == [7, 0, 4, 9]);
+}
+
+/// A row that is to be written.
+fn row(first: u32, bits: u32, value: u32) -> Row {
+    Row {
+        first,
+        bits,
+        link: 0,
+        value,
+    }
+}
+
+#[test]
+fn written_image(rt: HostRuntime) {
+    let mut rows = [
+        row(0x0a00_0000, 8, 100),
+        row(0x0a00_0000, 16, 101),
+        row(0x0a01_0000, 16, 102),
+        row(0x0a01_0200, 24, 103),
+        row(0x8000_0000, 2, 104),
+        row(0xc000_0200, 24, 105),
+        row(0xffff_ffff, 32, 106),
+    ];
+    let mut out = [0u8; 176];
+    assert!(rt; ipv4::image_len(7) == Some(176));
+    assert!(rt; ipv4::write(&rows, &mut out) == Ok(()));
+    assert!(rt; out == PLAIN);
+    let mut short = [0u8; 175];
+    assert!(rt; ipv4::write(&rows, &mut short) == Err(WriteError::Short));
+    rows[2].bits = 15;
+    assert!(rt; ipv4::write(&rows, &mut out) == Err(WriteError::Unsorted));
+}
+
+/// A row that is to be written.
+fn wide_row(first: u128, bits: u32, value: u64) -> ipv6::Row {
+    ipv6::Row {
+        first,
+        bits,
+        link: 0,
+        value,
+    }
+}
+
+#[test]
+fn written_image_of_ipv6(rt: HostRuntime) {
+    let rows = [
+        wide_row(0, 0, 100),
+        wide_row(0x2001_0db8 << 96, 32, 101),
+        wide_row(0x2001_0db8 << 96, 48, 102),
+        wide_row((0x2001_0db8 << 96) + (1 << 64), 64, 103),
+        wide_row(0xfe80 << 112, 10, 104),
+    ];
+    let mut out = [0u8; 224];
+    assert!(rt; ipv6::image_len(5) == Some(224));
+    assert!(rt; ipv6::write(&rows, &mut out) == Ok(()));
+    assert!(rt; out[64..] == IPV6[64..224]);
+    let mut found = [9u32; 2];
+    let count = ipv6::look_many(&out, &[0, (0x2001_0db8 << 96) + (1 << 64)], &mut found);
+    assert!(rt; count == 2 && found == [1, 4]);
+}
+
+/// Whether the image of so many networks of 24 bits, one behind another, has each at its index.
+fn are_found(alloc: Global, count: u32) -> Option<bool> {
+    let mut rows = Vec::new(alloc);
+    for i in 0..count {
+        rows.push(row(i << 8, 24, i)).ok()?;
+    }
+    let len = ipv4::image_len(rows.len())?;
+    let mut out = Vec::from_elem(alloc, 0u8, len).ok()?;
+    if ipv4::write(&rows, &mut out) != Ok(()) {
+        return Some(false);
+    }
+    for i in 0..count {
+        if ipv4::look(&out, (i << 8) + 255) != Some(i as usize) {
+            return Some(false);
+        }
+    }
+    Some(ipv4::look(&out, count << 8).is_none())
+}
+
+#[test]
+fn written_image_with_cells(rt: HostRuntime) {
+    assert!(rt; are_found(rt.alloc(), 600) == Some(true));
+}

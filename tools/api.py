@@ -32,10 +32,17 @@ def documentation(item):
     return comment(DOCUMENTED.search(text_of(item.path)[: item.place])[1])
 
 
+def module_of(item):
+    """The public module of a library that an item's file is, or None."""
+    crate, _, file = item.path.partition("/src/")
+    name = file.removesuffix(".rt")
+    return name if f"\npub mod {name};" in text_of(f"{crate}/src/lib.rt") else None
+
+
 def owner_of(item):
-    """The type, or the trait, under which a call stands: functions of no type together."""
+    """The type, the trait or the public module under which a call stands: functions of none together."""
     names = map(bare, reversed(item.owner.halves)) if item.owner else ()
-    return next((it for it in names if len(it) > 1), FUNCTIONS)
+    return next((it for it in names if len(it) > 1), module_of(item) or FUNCTIONS)
 
 
 def rank(owner):

@@ -19,6 +19,18 @@ pub(crate) struct Plan {
     pub(crate) cells_at: usize,
 }
 
+/// The number of the family's first 8 bytes.
+#[inline(always)]
+pub(crate) fn mark_of(wide: bool) -> u64
+    ensures { result ≡ mark wide }
+{
+    if wide {
+        u64::from_le_bytes(*b"NZIPV6.1")
+    } else {
+        u64::from_le_bytes(*b"NZIPV4.1")
+    }
+}
+
 /// Whether the bytes begin as an image of the family does, with room for a list of two parts or more.
 #[inline(always)]
 fn is_marked(image: &[u8], wide: bool) -> bool
@@ -31,11 +43,7 @@ fn is_marked(image: &[u8], wide: bool) -> bool
     if parts < 2 || 16 + 24 * parts > image.len() {
         return false;
     }
-    if wide {
-        own == u64::from_le_bytes(*b"NZIPV6.1")
-    } else {
-        own == u64::from_le_bytes(*b"NZIPV4.1")
-    }
+    own == mark_of(wide)
 }
 
 /// The place and the length in bytes of the part listed at a place, if it is of this kind and lies inside the bytes.

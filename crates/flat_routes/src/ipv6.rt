@@ -79,6 +79,8 @@ pub fn look_many(image: &[u8], addresses: &[u128], found: &mut [u32]) -> usize
     ensures count { result ≤ min (length addresses.now) (length found.new) }
     ensures all { IsImage of_ipv6 image.now
         → result ≡ min (length addresses.now) (length found.new) }
+    ensures rest { (k : ℕ) → result ≤ k
+        → slice_index found.new k ≡ slice_index found.old k }
     ensures rows { IsImage of_ipv6 image.now → (k : ℕ) → k < result
         → IsLongestRow 128 (λ n. n) (image_rows of_ipv6 image.now) (slice_index addresses.now k)
         (found_row of_ipv6 image.now (slice_index found.new k)) }
@@ -120,6 +122,8 @@ pub fn below(image: &[u8], first: u128, bits: u32) -> (usize, usize)
 /// How many bytes the image of so many rows takes, as `write` lays it out, or None of 2^32 rows or more.
 pub fn image_len(rows: usize) -> Option<usize>
     ensures least { IfSome result (λ len. 64 + row_size of_ipv6 * rows ≤ len) }
+    ensures most { IfSome result (λ len. len < 64 + row_size of_ipv6 * rows + 2 ^ 25) }
+    ensures few { rows < 256 → IfSome result (λ len. len ≡ 64 + row_size of_ipv6 * rows) }
     ensures some { rows < 2 ^ 32 → IsSome result }
 {
     match layout(true, rows) {
@@ -176,6 +180,10 @@ fn are_rows(image: &[u8], rows: &[Row]) -> bool
 /// then. What is written is checked, so at Ok it is an image of these very rows.
 pub fn write(rows: &[Row], out: &mut [u8]) -> Result<(), WriteError>
     ensures full { IfErr result (λ e. e ≡ WriteError.Full → 2 ^ 32 ≤ length rows.now) }
+    ensures short { IfErr result (λ e. e ≡ WriteError.Short
+        → length out.old < 64 + row_size of_ipv6 * length rows.now + 2 ^ 25) }
+    ensures short_few { IfErr result (λ e. e ≡ WriteError.Short → length rows.now < 256
+        → length out.old < 64 + row_size of_ipv6 * length rows.now) }
     ensures image { OnOk result (IsImage of_ipv6 out.new) }
     ensures rows { OnOk result (image_rows of_ipv6 out.new ≡ each row6_of rows.now) }
 {

@@ -1,8 +1,8 @@
 //! How an image is laid out and written. Nothing is said here of the bytes: `write` checks what it wrote.
-ghost use Rattle.std.specs.Prelude.{◌≡◌, ◌+◌, ◌*◌, ◌^◌, ◌<◌, ◌≤◌, IfSome, IsSome, length};
+ghost use Rattle.std.specs.Prelude.{◌≡◌, ◌+◌, ◌*◌, ◌^◌, ◌<◌, ◌≤◌, IfSome, IsFalse, IsSome, length};
 ghost use Rattle.flat_routes.specs.Images.{row_size};
 
-use crate::head::{Plan, plan_of, size_of_rows};
+use crate::head::{Plan, mark_of, plan_of, size_of_rows};
 use crate::rows::{Cell, bits_of, first_at};
 use crate::search::climb;
 
@@ -36,6 +36,7 @@ pub(crate) fn layout(wide: bool, rows: usize) -> Option<Plan>
     ensures place { IfSome result (λ plan. plan.rows_at ≡ 64) }
     ensures cells { IfSome result (λ plan. plan.cells_at ≡ 64 + row_size wide * rows) }
     ensures few { IfSome result (λ plan. plan.cells < 2 ^ 22) }
+    ensures none { rows < 256 → IfSome result (λ plan. plan.cells ≡ 0) }
     ensures most { IfSome result (λ plan. plan.rows < 2 ^ 32) }
     ensures some { rows < 2 ^ 32 → IsSome result }
 {
@@ -98,17 +99,14 @@ fn put_entry(out: &mut [u8], at: usize, kind: u32, detail: u32, place: usize, si
 pub(crate) fn put_head(out: &mut [u8], wide: bool, plan: Plan) -> bool
     requires rows { plan.rows < 2 ^ 32 }
     requires cells { plan.cells < 2 ^ 22 }
+    ensures short { IsFalse result → length out.old
+        < 64 + row_size wide * plan.rows + 8 * plan.cells }
 {
     let rows_size = size_of_rows(wide, plan.rows);
     if out.len() < 64 + rows_size + 8 * plan.cells {
         return false;
     }
-    let mark = if wide {
-        u64::from_le_bytes(*b"NZIPV6.1")
-    } else {
-        u64::from_le_bytes(*b"NZIPV4.1")
-    };
-    put_u64(out, 0, mark);
+    put_u64(out, 0, mark_of(wide));
     put_u32(out, 8, plan.rows as u32);
     put_u32(out, 12, 2);
     put_entry(out, 16, 1, 0, plan.rows_at, rows_size);

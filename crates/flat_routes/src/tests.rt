@@ -180,10 +180,10 @@ fn written_image(rt: HostRuntime) {
         row(0xc000_0200, 24, 105),
         row(0xffff_ffff, 32, 106),
     ];
-    let mut out = [0u8; 176];
+    let mut out = [7u8; 180];
     assert!(rt; ipv4::image_len(7) == Some(176));
     assert!(rt; ipv4::write(&rows, &mut out) == Ok(()));
-    assert!(rt; out == PLAIN);
+    assert!(rt; out.starts_with(&PLAIN) && out.ends_with(&[7u8; 4]));
     let mut short = [0u8; 175];
     assert!(rt; ipv4::write(&rows, &mut short) == Err(WriteError::Short));
     rows[2].bits = 15;

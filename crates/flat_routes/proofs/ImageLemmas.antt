@@ -1,8 +1,10 @@
 -- The numbers of an image, and what they say of its rows.
 use Rattle.std.proofs.Common.{◌≡◌, ℕ, zero, suc, ◌+◌, ◌-◌, ◌*◌, ◌/◌, ◌^◌, ◌<◌, ◌≤◌, inl, inr, Bool, true, false, List, [], ◌∷◌, ◌++◌, Some, None, length, get_or, slice_get, take, map as each, refl, ap, sym, subst, ◌∙◌, arith}
 use Rattle.std.proofs.lemmas.Bool.{cases_lt}
-use Rattle.std.proofs.lemmas.List.{length-append, length-map, map_push, take_more}
+use Rattle.std.proofs.lemmas.List.{length-map, map_push, take_more}
 use Rattle.radix_keys.specs.Networks.{Net}
+use Rattle.image_parts.specs.Parts.{listed, row_count, u128_in, u32_in}
+use Rattle.image_parts.proofs.ByteLemmas.{length-listed, listed_at, listed_more, none_past}
 use Rattle.frozen_routes.specs.Routes.{AreRising, AreUpTo, IsEarlier, IsFirstTop, IsHolderAt, IsLastHolder, IsLongestRow}
 use Rattle.frozen_routes.proofs.RouteLemmas.Blocks.{earlier_le, sandwich}
 use Rattle.frozen_routes.proofs.RouteLemmas.Growing.{earlier_through}
@@ -12,45 +14,7 @@ use Rattle.frozen_routes.proofs.RouteLemmas.Tops.{top_above, top_around, top_bel
 use Rattle.radix_keys.proofs.KeyLemmas.Order.{three_ways}
 use Rattle.sorted_tables.specs.Tables.{IsLastOf, IsPartedAt}
 use Rattle.flat_routes.specs.declared.head.Plan.{Plan}
-use Rattle.flat_routes.specs.Images.{AreLinkedTo, IsImage, IsNext, IsPlanOf, bits_in, cell_in, first_in, bases, found_row, image_cells, image_rows, link_in, links, listed, network, rest_of, row_count, row_in, sizes, u128_in, u32_in, value_in, width}
-
--- as many as are listed
-pub length-listed : {X : Type 0} (f : ℕ → X) (n : ℕ) → length (listed f n) ≡ n
-unfolding listed
-length-listed f zero = refl
-length-listed f (suc n) = omega (arith, length-append (listed f n) (f n ∷ []), length-listed f n)
-
-listed_next : {X : Type 0} (f : ℕ → X) (n : ℕ) → listed f (suc n) ≡ listed f n ++ f n ∷ []
-unfolding listed
-listed_next f n = refl
-
--- one more is listed
-listed_more : {X : Type 0} (f : ℕ → X) (n : ℕ) → listed f (n + 1) ≡ listed f n ++ f n ∷ []
-listed_more f n = let next : suc n ≡ n + 1 = omega arith in subst (λ m. listed f m ≡ listed f n ++ f n ∷ []) next (listed_next f n)
-
--- what is stored in a list is stored in it and one more
-stored_left : {X : Type 0} (xs ys : List X) (i : ℕ) (x : X) → slice_get xs i ≡ Some x → slice_get (xs ++ ys) i ≡ Some x
-stored_left [] ys i x at = absurd (cc at)
-stored_left (y ∷ xs) ys zero x at = at
-stored_left (y ∷ xs) ys (suc i) x at = stored_left xs ys i x at
-
--- and the last one at the length of the others
-stored_last : {X : Type 0} (xs : List X) (x : X) (i : ℕ) → length xs ≡ i → slice_get (xs ++ x ∷ []) i ≡ Some x
-stored_last [] x zero is = refl
-stored_last [] x (suc i) is = absurd (omega (arith, is))
-stored_last (y ∷ xs) x zero is = absurd (omega (arith, is))
-stored_last (y ∷ xs) x (suc i) is = stored_last xs x i (omega (arith, is))
-
--- the one at an index
-pub listed_at : {X : Type 0} (f : ℕ → X) (n i : ℕ) → i < n → slice_get (listed f n) i ≡ Some (f i)
-unfolding listed
-listed_at f zero i l = absurd (omega (arith, l))
-listed_at f (suc n) i l = elim (cases_lt i n) [
-  | inl lt ↦ stored_left (listed f n) (f n ∷ []) i (f i) (listed_at f n i lt)
-  | inr ge ↦
-      let same : n ≡ i = omega (arith, l, ge) in
-      subst (λ j. slice_get (listed f n ++ f n ∷ []) j ≡ Some (f j)) same (stored_last (listed f n) (f n) n (length-listed f n))
-]
+use Rattle.flat_routes.specs.Images.{AreLinkedTo, IsImage, IsNext, IsPlanOf, bits_in, cell_in, first_in, bases, found_row, image_cells, image_rows, link_in, links, network, rest_of, row_in, sizes, value_in, width}
 
 -- as many first addresses, bits and links as rows
 pub length-firsts : (wide : Bool) (bs : List ℕ) → length (bases wide bs) ≡ row_count bs
@@ -167,17 +131,6 @@ image_linked wide bs n image within = record {
   links = λ k l. image.linked k (omega (arith, l, within, length-links wide bs));
 }
 
--- nothing is stored behind a list
-past : {X : Type 0} (xs : List X) (i : ℕ) (x : X) → length xs ≤ i → slice_get xs i ≡ Some x → ⊥
-past [] i x l at = cc at
-past (y ∷ xs) zero x l at = omega (arith, l)
-past (y ∷ xs) (suc i) x l at = past xs i x (omega (arith, l)) at
-
-none_past : {X : Type 0} (xs : List X) (i : ℕ) → length xs ≤ i → slice_get xs i ≡ None
-none_past [] i l = refl
-none_past (y ∷ xs) zero l = absurd (omega (arith, l))
-none_past (y ∷ xs) (suc i) l = none_past xs i (omega (arith, l))
-
 -- the last of all networks that holds an address is the longest
 found_longest : (wide : Bool) (bs : List ℕ) (a r : ℕ) → IsImage wide bs
     → IsLastHolder (width wide) (bases wide bs) (sizes wide bs) (length (image_rows wide bs)) a r
@@ -234,13 +187,6 @@ one_last P n r s x y = elim (three_ways r s) [
   | inl lt ↦ absurd (x.none (s - 1) (omega (arith, lt)) (let le = y.within in omega (arith, lt, le)) (y.holds (omega (arith, lt))))
   | inr (inl e) ↦ e
   | inr (inr gt) ↦ absurd (y.none (r - 1) (omega (arith, gt)) (let le = x.within in omega (arith, gt, le)) (x.holds (omega (arith, gt))))
-]
-
--- an item of a list is a value at an index that it has
-pub listed_is : {X : Type 0} (f : ℕ → X) (n i : ℕ) (x : X) → slice_get (listed f n) i ≡ Some x → (i < n) × (f i ≡ x)
-listed_is f n i x at = elim (cases_lt i n) [
-  | inl lt ↦ (lt, let own = listed_at f n i lt in cc (own, at))
-  | inr ge ↦ absurd (past (listed f n) i x (omega (arith, ge, length-listed f n)) at)
 ]
 
 -- the row on whose index and one more is r

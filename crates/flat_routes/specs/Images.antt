@@ -1,32 +1,13 @@
 -- A routing table laid into one run of bytes: the numbers that stand there, and when the bytes are such a table.
-use Rattle.std.specs.Prelude.{◌≡◌, ℕ, zero, suc, ◌+◌, ◌-◌, ◌*◌, ◌/◌, ◌^◌, ◌<◌, ◌≤◌, Bool, true, false, List, [], ◌∷◌, ◌++◌, Option, None, Some, codes, length, slice_index}
-use Rattle.std.specs.Int.{w32, w64, from_le_bytes}
+use Rattle.std.specs.Prelude.{◌≡◌, ℕ, zero, suc, ◌+◌, ◌-◌, ◌*◌, ◌/◌, ◌^◌, ◌<◌, ◌≤◌, Bool, true, false, List, Option, None, Some, codes, length, slice_index}
+use Rattle.std.specs.Int.{w64, from_le_bytes}
 use Rattle.radix_keys.specs.Networks.{Net, IsBase}
+use Rattle.image_parts.specs.Parts.{IsListed, listed, part_count, row_count, u128_in, u32_in, u64_in}
 use Rattle.frozen_routes.specs.declared.tops.Cell.{Cell}
 use Rattle.frozen_routes.specs.Routes.{AreRising, AreTopCells, AreUplinks, IsEarlier, IsLastHolder, base_numbers, bit_counts}
 use Rattle.flat_routes.specs.declared.head.Plan.{Plan}
 use Rattle.flat_routes.specs.declared.ipv4.Row.{Row as Row4}
 use Rattle.flat_routes.specs.declared.ipv6.Row.{Row as Row6}
-
--- the number of 4 bytes from the place a on, the low byte first
-unfoldable pub u32_in : List ℕ → ℕ → ℕ
-u32_in bs a = from_le_bytes w32
-    (slice_index bs a ∷ slice_index bs (a + 1) ∷ slice_index bs (a + 2) ∷ slice_index bs (a + 3) ∷ [])
-
--- the number of 8 bytes
-unfoldable pub u64_in : List ℕ → ℕ → ℕ
-u64_in bs a = from_le_bytes w64
-    (slice_index bs a ∷ slice_index bs (a + 1) ∷ slice_index bs (a + 2) ∷ slice_index bs (a + 3)
-    ∷ slice_index bs (a + 4) ∷ slice_index bs (a + 5) ∷ slice_index bs (a + 6) ∷ slice_index bs (a + 7) ∷ [])
-
--- the number of 16 bytes
-abbrev pub u128_in : List ℕ → ℕ → ℕ
-u128_in bs a = u64_in bs a + 2 ^ 64 * u64_in bs (a + 8)
-
--- the first n values of a function
-unfoldable pub listed : {X : Type 0} → (ℕ → X) → ℕ → List X
-listed f zero = []
-listed f (suc n) = listed f n ++ f n ∷ []
 
 -- the family of IPv4
 abbrev pub of_ipv4 : Bool
@@ -50,14 +31,6 @@ row_size true = 32
 abbrev pub mark : Bool → ℕ
 mark false = from_le_bytes w64 (codes "NZIPV4.1")
 mark true = from_le_bytes w64 (codes "NZIPV6.1")
-
--- how many rows there are, as the head says
-abbrev pub row_count : List ℕ → ℕ
-row_count bs = u32_in bs 8
-
--- how many parts it lists
-abbrev pub part_count : List ℕ → ℕ
-part_count bs = u32_in bs 12
 
 -- where the rows begin
 abbrev pub rows_place : List ℕ → ℕ
@@ -139,11 +112,6 @@ links wide bs = listed (link_in wide bs) (row_count bs)
 -- the cells
 abbrev pub image_cells : List ℕ → List Cell
 image_cells bs = listed (cell_in bs) (cell_count bs)
-
--- a part of this kind is listed at the place a, and lies inside the bytes
-pub record IsListed (bs : List ℕ) (a kind : ℕ) : Type 0 where
-  pub of_kind : u32_in bs a ≡ kind
-  pub inside : u64_in bs (a + 8) + u64_in bs (a + 16) ≤ length bs
 
 -- the head is of this family and version, and the first two parts that it lists are the rows and the cells
 pub record HasHead (wide : Bool) (bs : List ℕ) : Type 0 where

@@ -3,15 +3,16 @@ ghost use Rattle.std.specs.Prelude.{◌≡◌, ◌↔◌, ◌*◌, ◌-◌, ◌%
 ghost use Rattle.radix_keys.specs.Networks.{IsBase};
 ghost use Rattle.sorted_tables.specs.Tables.{IsPartedAt};
 ghost use Rattle.frozen_routes.specs.Routes.{IsTopCell};
-ghost use Rattle.flat_routes.specs.Images.{AreLinkedTo, IsImage, IsNext, IsPlanOf, cell_count, cell_in, bases, links, sizes, u32_in, u64_in, width};
+ghost use Rattle.image_parts.specs.Parts.{u32_in, u64_in};
+ghost use Rattle.flat_routes.specs.Images.{AreLinkedTo, IsImage, IsNext, IsPlanOf, cell_count, cell_in, bases, links, sizes, width};
 
 use crate::head::{Plan, plan_of};
-use crate::loads::{u32_at, u64_at};
 use crate::rows::{Cell, bits_at, bits_of, cell_at, first_at, link_at};
 use crate::search::climb;
+use image_parts::{u32_at, u64_at};
 
 /// Whether a network of so many bits begins at an address.
-fn is_base(wide: bool, bits: u32, first: u128) -> bool
+pub(crate) fn is_base(wide: bool, bits: u32, first: u128) -> bool
     requires { first < 2 ^ width wide }
     ensures { IsTrue result ↔ IsBase (width wide) bits first }
 {

@@ -1,8 +1,9 @@
 //! The head of an image, and where its parts lie.
 ghost use Rattle.std.specs.Prelude.{◌≡◌, ◌↔◌, ◌+◌, ◌*◌, ◌^◌, ◌<◌, ◌≤◌, IsTrue, MatchOption, length};
-ghost use Rattle.flat_routes.specs.Images.{HasHead, IsListed, IsPlanOf, mark, part_count, row_size, u64_in};
+ghost use Rattle.image_parts.specs.Parts.{part_count, u64_in};
+ghost use Rattle.flat_routes.specs.Images.{HasHead, IsPlanOf, mark, row_size};
 
-use crate::loads::{u32_at, u64_at};
+use image_parts::{part_at, u32_at, u64_at};
 
 /// Where the parts of an image lie.
 #[derive(Clone, Copy)]
@@ -44,22 +45,6 @@ fn is_marked(image: &[u8], wide: bool) -> bool
         return false;
     }
     own == mark_of(wide)
-}
-
-/// The place and the length in bytes of the part listed at a place, if it is of this kind and lies inside the bytes.
-#[inline(always)]
-fn part_at(image: &[u8], entry: usize, kind: u32) -> Option<(usize, usize)>
-    requires { entry + 24 ≤ length image.now }
-    ensures { MatchOption result (IsListed image.now entry kind → ⊥)
-        (λ part. IsListed image.now entry kind × (part.0 ≡ u64_in image.now (entry + 8))
-        × (part.1 ≡ u64_in image.now (entry + 16))) }
-{
-    let place = u64_at(image, entry + 8) as usize;
-    let size = u64_at(image, entry + 16) as usize;
-    if u32_at(image, entry) != kind || place > image.len() || size > image.len() - place {
-        return None;
-    }
-    Some((place, size))
 }
 
 /// How many bytes so many rows take.

@@ -3,13 +3,15 @@ ghost use Rattle.std.specs.Prelude.{◌≡◌, ◌↔◌, ◌+◌, ◌*◌, ◌^
 ghost use Rattle.std.specs.List.{filter};
 ghost use Rattle.radix_keys.specs.Networks.{Net};
 ghost use Rattle.frozen_routes.specs.Routes.{IsLongestRow, IsOwnRow, is_inside};
-ghost use Rattle.flat_routes.specs.Images.{IsImage, found_row, image_rows, link_in, network, of_ipv6, row6_of, row_count, row_in, row_size};
+ghost use Rattle.image_parts.specs.Parts.{row_count};
+ghost use Rattle.flat_routes.specs.Images.{IsImage, found_row, image_rows, link_in, network, of_ipv6, row6_of, row_in, row_size};
 
 use crate::head::plan_of;
-use crate::layout::{WriteError, layout, next_row, put_cells, put_head, put_u32, put_u64};
+use crate::layout::{layout, next_row, put_cells, put_head};
 use crate::rows::{bits_at, first_at, link_at, value_at};
 use crate::search::find;
 use crate::{check, networks, search};
+use image_parts::{WriteError, put_u32, put_u64};
 
 /// A row as it lies in an image, in 32 bytes: a network by its first address and how many bits its addresses share, the
 /// index and one more of the row of the network around it, or 0, and the network's value.
@@ -170,6 +172,25 @@ fn are_rows(image: &[u8], rows: &[Row]) -> bool
     true
 }
 
+/// Whether a row is of a network.
+fn is_network(row: Row) -> bool {
+    check::is_base(true, row.bits, row.first)
+}
+
+/// The index of the first row that is of no network, or doesn't come after the row before it.
+fn unsorted(rows: &[Row]) -> Option<usize> {
+    for at in 0..rows.len() {
+        let row = rows[at];
+        if !is_network(row) {
+            return Some(at);
+        }
+        if at > 0 && (rows[at - 1].first, rows[at - 1].bits) >= (row.first, row.bits) {
+            return Some(at);
+        }
+    }
+    None
+}
+
 /// Writes the image of rows, which rise by their first addresses, and of one first address by their bits, into a buffer
 /// of `image_len` bytes or more. Of a row's link it takes no notice. Bytes behind the image stay as they are. It takes
 /// linear time, but for the climbs to the network around each network, and around each value of the first bits.
@@ -191,19 +212,22 @@ pub fn write(rows: &[Row], out: &mut [u8]) -> Result<(), WriteError>
     let Some(plan) = layout(true, count) else {
         return Err(WriteError::Full);
     };
+    if let Some(at) = unsorted(rows) {
+        return Err(WriteError::Unsorted(at));
+    }
     if !put_head(out, true, plan) {
         return Err(WriteError::Short);
     }
     for at in 0..count {
         if !put_row(out, at, rows[at]) {
-            return Err(WriteError::Unsorted);
+            return Err(WriteError::Unsorted(at));
         }
     }
     if !put_cells(out, true, plan.cells) {
-        return Err(WriteError::Unsorted);
+        return Err(WriteError::Unsorted(count));
     }
     if !check::is_image(out, true) || !are_rows(out, rows) {
-        return Err(WriteError::Unsorted);
+        return Err(WriteError::Unsorted(count));
     }
     Ok(())
 }

@@ -5,17 +5,7 @@ ghost use Rattle.flat_routes.specs.Images.{row_size};
 use crate::head::{Plan, mark_of, plan_of, size_of_rows};
 use crate::rows::{Cell, bits_of, first_at};
 use crate::search::climb;
-
-/// Why no image was written.
-#[derive(Debug, Clone, Copy, PartialEq, Eq)]
-pub enum WriteError {
-    /// There are 2^32 rows or more.
-    Full,
-    /// The buffer is shorter than the image.
-    Short,
-    /// A row is of no network, or doesn't come after the row before it.
-    Unsorted,
-}
+use image_parts::{put_part, put_u32, put_u64};
 
 /// By how many first bits the cells of so many rows are: as many as the count has binary digits, but at least 9 and at most
 /// 21.
@@ -63,38 +53,6 @@ pub(crate) fn layout(wide: bool, rows: usize) -> Option<Plan>
     })
 }
 
-/// Puts a number into 4 bytes, the low one first.
-pub(crate) fn put_u32(out: &mut [u8], at: usize, number: u32)
-    requires { at + 4 ≤ length out.old }
-    ensures { length out.new ≡ length out.old }
-{
-    let [a, b, c, d] = number.to_le_bytes();
-    out[at] = a;
-    out[at + 1] = b;
-    out[at + 2] = c;
-    out[at + 3] = d;
-}
-
-/// Puts a number into 8 bytes, the low one first.
-pub(crate) fn put_u64(out: &mut [u8], at: usize, number: u64)
-    requires { at + 8 ≤ length out.old }
-    ensures { length out.new ≡ length out.old }
-{
-    put_u32(out, at, (number % (1 << 32)) as u32);
-    put_u32(out, at + 4, (number >> 32) as u32);
-}
-
-/// Puts what the head lists of a part.
-fn put_entry(out: &mut [u8], at: usize, kind: u32, detail: u32, place: usize, size: usize)
-    requires { at + 24 ≤ length out.old }
-    ensures { length out.new ≡ length out.old }
-{
-    put_u32(out, at, kind);
-    put_u32(out, at + 4, detail);
-    put_u64(out, at + 8, place as u64);
-    put_u64(out, at + 16, size as u64);
-}
-
 /// Puts the head of an image, if there is room for all of it.
 pub(crate) fn put_head(out: &mut [u8], wide: bool, plan: Plan) -> bool
     requires rows { plan.rows < 2 ^ 32 }
@@ -109,8 +67,8 @@ pub(crate) fn put_head(out: &mut [u8], wide: bool, plan: Plan) -> bool
     put_u64(out, 0, mark_of(wide));
     put_u32(out, 8, plan.rows as u32);
     put_u32(out, 12, 2);
-    put_entry(out, 16, 1, 0, plan.rows_at, rows_size);
-    put_entry(out, 40, 2, plan.rest, plan.cells_at, 8 * plan.cells);
+    put_part(out, 16, 1, 0, plan.rows_at, rows_size);
+    put_part(out, 40, 2, plan.rest, plan.cells_at, 8 * plan.cells);
     true
 }
 

@@ -7,12 +7,11 @@ mod head;
 pub mod ipv4;
 pub mod ipv6;
 mod layout;
-mod loads;
 mod networks;
 mod rows;
 mod search;
 
-pub use layout::WriteError;
+pub use image_parts::WriteError;
 
 #[cfg(test)]
 mod tests;

@@ -3,7 +3,8 @@ ghost use Rattle.std.specs.Prelude.{◌≡◌, ◌↔◌, ◌+◌, ◌-◌, ◌/
 ghost use Rattle.std.specs.List.{filter};
 ghost use Rattle.radix_keys.specs.Networks.{Net};
 ghost use Rattle.frozen_routes.specs.Routes.{AreInFront, IsInFront, IsOwnRow, is_inside};
-ghost use Rattle.flat_routes.specs.Images.{IsImage, IsPlanOf, bases, image_rows, network, row_count, row_in, sizes, width};
+ghost use Rattle.image_parts.specs.Parts.{row_count};
+ghost use Rattle.flat_routes.specs.Images.{IsImage, IsPlanOf, bases, image_rows, network, row_in, sizes, width};
 
 use crate::head::{Plan, plan_of};
 use crate::rows::{bits_at, bits_of, first_at, without_last};

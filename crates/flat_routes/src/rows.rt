@@ -4,7 +4,7 @@ ghost use Rattle.frozen_routes.specs.Routes.{IsHolderAt};
 ghost use Rattle.flat_routes.specs.Images.{IsPlanOf, cell_in, bases, image_cells, links, sizes, value_in, width};
 
 use crate::head::Plan;
-use crate::loads::{u32_at, u64_at, u128_at};
+use image_parts::{u32_at, u64_at, u128_at};
 
 /// What is known at a value of the first bits.
 #[derive(Clone, Copy)]

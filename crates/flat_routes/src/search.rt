@@ -1,7 +1,8 @@
 //! Searches in an image. Each is total: whatever the bytes are, it ends, and reads none but them.
 ghost use Rattle.std.specs.Prelude.{◌+◌, ◌-◌, ◌/◌, ◌<◌, ◌≤◌, ℕ, IfSome, option_map, slice_index};
 ghost use Rattle.frozen_routes.specs.Routes.{AreUpTo, IsLastHolder, IsLongestRow};
-ghost use Rattle.flat_routes.specs.Images.{AreLinkedTo, IsImage, IsPlanOf, bases, found_row, image_rows, links, row_count, row_in, sizes, width};
+ghost use Rattle.image_parts.specs.Parts.{row_count};
+ghost use Rattle.flat_routes.specs.Images.{AreLinkedTo, IsImage, IsPlanOf, bases, found_row, image_rows, links, row_in, sizes, width};
 
 use crate::head::{Plan, plan_of};
 use crate::rows::{Cell, cell_at, first_at, holds_at, link_at};

@@ -187,7 +187,7 @@ fn written_image(rt: HostRuntime) {
     let mut short = [0u8; 175];
     assert!(rt; ipv4::write(&rows, &mut short) == Err(WriteError::Short));
     rows[2].bits = 15;
-    assert!(rt; ipv4::write(&rows, &mut out) == Err(WriteError::Unsorted));
+    assert!(rt; ipv4::write(&rows, &mut out) == Err(WriteError::Unsorted(2)));
 }
 
 /// A row that is to be written.

@@ -2,7 +2,8 @@ use Rattle.std.proofs.Common.{◌≡◌, ◌≤◌, inl, inr, length, refl, arit
 use Rattle.std.proofs.lemmas.Bool.{cases_lt}
 use Rattle.frozen_routes.specs.Routes.{IsLastHolder, IsTopCell}
 use Rattle.flat_routes.specs.Images.{cell_count, cell_in, bases, links, sizes, width}
-use Rattle.flat_routes.proofs.ImageLemmas.{all_rise, at_most_next, image_linked, length-firsts, length-links, linked_more, listed_at, listed_is, none_of_none, one_last}
+use Rattle.image_parts.proofs.ByteLemmas.{listed_at, listed_is}
+use Rattle.flat_routes.proofs.ImageLemmas.{all_rise, at_most_next, image_linked, length-firsts, length-links, linked_more, none_of_none, one_last}
 use Rattle.flat_routes.proofs.check.is_image.Goals as goal
 
 pub returns-then-not-is_next : goal.returns-then-not-is_next

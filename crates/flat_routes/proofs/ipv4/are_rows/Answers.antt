@@ -1,6 +1,7 @@
 use Rattle.std.proofs.Common.{◌<◌, false, refl, arith, get_or, sym, ◌∙◌}
 use Rattle.flat_routes.specs.declared.ipv4.Row.{Row}
-use Rattle.flat_routes.specs.Images.{listed, row4_of, row_count}
+use Rattle.image_parts.specs.Parts.{listed, row_count}
+use Rattle.flat_routes.specs.Images.{row4_of}
 use Rattle.flat_routes.proofs.ImageLemmas.{row_read, rows_more}
 use Rattle.flat_routes.proofs.ipv4.are_rows.Goals as goal
 

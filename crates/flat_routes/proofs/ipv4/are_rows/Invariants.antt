@@ -1,5 +1,6 @@
 use Rattle.std.proofs.Common.{◌≡◌, false, take, map as each}
-use Rattle.flat_routes.specs.Images.{listed, row4_of, row_in}
+use Rattle.image_parts.specs.Parts.{listed}
+use Rattle.flat_routes.specs.Images.{row4_of, row_in}
 use Rattle.flat_routes.proofs.ipv4.are_rows.Given as goal
 
 abbrev pub invariant-loop-at : goal.invariant-loop-at

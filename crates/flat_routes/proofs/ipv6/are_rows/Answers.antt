@@ -1,6 +1,7 @@
 use Rattle.std.proofs.Common.{◌<◌, true, refl, arith, get_or, sym, ◌∙◌}
 use Rattle.flat_routes.specs.declared.ipv6.Row.{Row}
-use Rattle.flat_routes.specs.Images.{listed, row6_of, row_count}
+use Rattle.image_parts.specs.Parts.{listed, row_count}
+use Rattle.flat_routes.specs.Images.{row6_of}
 use Rattle.flat_routes.proofs.ImageLemmas.{row_read, rows_more}
 use Rattle.flat_routes.proofs.ipv6.are_rows.Goals as goal
 

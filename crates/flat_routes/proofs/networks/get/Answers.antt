@@ -1,7 +1,9 @@
 use Rattle.std.proofs.Common.{◌<◌, arith, sym, ◌∙◌}
 use Rattle.frozen_routes.proofs.RouteLemmas.Single.{row_at_cut}
-use Rattle.flat_routes.specs.Images.{image_rows, network, row_count, row_in, width}
-use Rattle.flat_routes.proofs.ImageLemmas.{first_stored, length-rows, listed_at, size_stored}
+use Rattle.image_parts.specs.Parts.{row_count}
+use Rattle.flat_routes.specs.Images.{image_rows, network, row_in, width}
+use Rattle.image_parts.proofs.ByteLemmas.{listed_at}
+use Rattle.flat_routes.proofs.ImageLemmas.{first_stored, length-rows, size_stored}
 use Rattle.flat_routes.proofs.networks.get.Goals as goal
 use Rattle.flat_routes.proofs.networks.get.Goals.{then-first_at-first-via-then-first_at-first, then-first_at-first-via-else-first_at-first+then-bits_at-bits}
 

@@ -1,6 +1,6 @@
 use Rattle.std.proofs.Common.{arith}
 use Rattle.flat_routes.specs.Images.{cell_count, cell_in}
-use Rattle.flat_routes.proofs.ImageLemmas.{listed_at}
+use Rattle.image_parts.proofs.ByteLemmas.{listed_at}
 use Rattle.flat_routes.proofs.rows.cell_at.Goals as goal
 
 pub returns-clause-stored : goal.returns-clause-stored

@@ -1,11 +1,11 @@
 //! Numbers in bytes, the low byte first.
 ghost use Rattle.std.specs.Prelude.{◌≡◌, ◌+◌, ◌≤◌, length};
-ghost use Rattle.flat_routes.specs.Images.{u32_in, u64_in, u128_in};
+ghost use Rattle.image_parts.specs.Parts.{u32_in, u64_in, u128_in};
 
 /// The number of the 4 bytes from a place on.
 #[inline(always)]
-#[tactic(auto, unfolding(crate::specs::Images::u32_in))]
-pub(crate) fn u32_at(bytes: &[u8], at: usize) -> u32
+#[tactic(auto, unfolding(crate::specs::Parts::u32_in))]
+pub fn u32_at(bytes: &[u8], at: usize) -> u32
     requires { at + 4 ≤ length bytes.now }
     ensures { result ≡ u32_in bytes.now at }
 {
@@ -14,8 +14,8 @@ pub(crate) fn u32_at(bytes: &[u8], at: usize) -> u32
 
 /// The number of the 8 bytes from a place on.
 #[inline(always)]
-#[tactic(auto, unfolding(crate::specs::Images::u64_in))]
-pub(crate) fn u64_at(bytes: &[u8], at: usize) -> u64
+#[tactic(auto, unfolding(crate::specs::Parts::u64_in))]
+pub fn u64_at(bytes: &[u8], at: usize) -> u64
     requires { at + 8 ≤ length bytes.now }
     ensures { result ≡ u64_in bytes.now at }
 {
@@ -33,7 +33,7 @@ pub(crate) fn u64_at(bytes: &[u8], at: usize) -> u64
 
 /// The number of the 16 bytes from a place on.
 #[inline(always)]
-pub(crate) fn u128_at(bytes: &[u8], at: usize) -> u128
+pub fn u128_at(bytes: &[u8], at: usize) -> u128
     requires { at + 16 ≤ length bytes.now }
     ensures { result ≡ u128_in bytes.now at }
 {

@@ -1,0 +1,129 @@
+-- What numbers in bytes say when bytes are put, and what is listed of a function.
+use Rattle.std.proofs.Common.{◌≡◌, ℕ, zero, suc, ◌+◌, ◌^◌, ◌<◌, ◌≤◌, inl, inr, List, [], ◌∷◌, ◌++◌, Some, None, length, slice_get, slice_index, take, drop, refl, ap, sym, subst, ◌∙◌, arith}
+use Rattle.std.specs.Int.{w32, w64, from_le_bytes, to_le_bytes}
+use Rattle.std.proofs.lemmas.Bool.{cases_lt}
+use Rattle.std.proofs.lemmas.List.{drop_more, length-append}
+use Rattle.std.proofs.lemmas.Nat.{from_le_bytes-to_le_bytes_4, from_le_bytes-to_le_bytes_8}
+use Rattle.image_parts.specs.Parts.{listed, u32_in, u64_in}
+
+-- the byte at a place, and those behind it
+byte_on : (bs : List ℕ) (a b : ℕ) → b ≡ a + 1 → b ≤ length bs → drop a bs ≡ slice_index bs a ∷ drop b bs
+byte_on bs a b next l = drop_more bs a 0 (omega (arith, next, l)) ∙ ap (λ m. slice_index bs a ∷ drop m bs) (sym next)
+
+-- the first 4 bytes behind a place
+four : (bs : List ℕ) (a : ℕ) → a + 4 ≤ length bs
+    → take 4 (drop a bs) ≡ slice_index bs a ∷ slice_index bs (a + 1) ∷ slice_index bs (a + 2) ∷ slice_index bs (a + 3) ∷ []
+four bs a l = ap (take 4) (byte_on bs a (a + 1) (omega arith) (omega (arith, l))
+    ∙ ap (λ r. slice_index bs a ∷ r) (byte_on bs (a + 1) (a + 2) (omega arith) (omega (arith, l))
+    ∙ ap (λ r. slice_index bs (a + 1) ∷ r) (byte_on bs (a + 2) (a + 3) (omega arith) (omega (arith, l))
+    ∙ ap (λ r. slice_index bs (a + 2) ∷ r) (byte_on bs (a + 3) (a + 4) (omega arith) l))))
+
+-- the first 8
+eight : (bs : List ℕ) (a : ℕ) → a + 8 ≤ length bs
+    → take 8 (drop a bs) ≡ slice_index bs a ∷ slice_index bs (a + 1) ∷ slice_index bs (a + 2) ∷ slice_index bs (a + 3)
+    ∷ slice_index bs (a + 4) ∷ slice_index bs (a + 5) ∷ slice_index bs (a + 6) ∷ slice_index bs (a + 7) ∷ []
+eight bs a l = ap (take 8) (byte_on bs a (a + 1) (omega arith) (omega (arith, l))
+    ∙ ap (λ r. slice_index bs a ∷ r) (byte_on bs (a + 1) (a + 2) (omega arith) (omega (arith, l))
+    ∙ ap (λ r. slice_index bs (a + 1) ∷ r) (byte_on bs (a + 2) (a + 3) (omega arith) (omega (arith, l))
+    ∙ ap (λ r. slice_index bs (a + 2) ∷ r) (byte_on bs (a + 3) (a + 4) (omega arith) (omega (arith, l))
+    ∙ ap (λ r. slice_index bs (a + 3) ∷ r) (byte_on bs (a + 4) (a + 5) (omega arith) (omega (arith, l))
+    ∙ ap (λ r. slice_index bs (a + 4) ∷ r) (byte_on bs (a + 5) (a + 6) (omega arith) (omega (arith, l))
+    ∙ ap (λ r. slice_index bs (a + 5) ∷ r) (byte_on bs (a + 6) (a + 7) (omega arith) (omega (arith, l))
+    ∙ ap (λ r. slice_index bs (a + 6) ∷ r) (byte_on bs (a + 7) (a + 8) (omega arith) l))))))))
+
+-- they are its number
+pub u32_part : (bs : List ℕ) (a : ℕ) → a + 4 ≤ length bs → from_le_bytes w32 (take 4 (drop a bs)) ≡ u32_in bs a
+unfolding u32_in
+u32_part bs a l = ap (from_le_bytes w32) (four bs a l)
+
+pub u64_part : (bs : List ℕ) (a : ℕ) → a + 8 ≤ length bs → from_le_bytes w64 (take 8 (drop a bs)) ≡ u64_in bs a
+unfolding u64_in
+u64_part bs a l = ap (from_le_bytes w64) (eight bs a l)
+
+-- a number stays where its bytes do
+pub u32_kept : (xs ys : List ℕ) (a : ℕ) → ((k : ℕ) → a ≤ k → k < a + 4 → slice_index ys k ≡ slice_index xs k) → u32_in ys a ≡ u32_in xs a
+unfolding u32_in
+u32_kept xs ys a same =
+    let s0 = same a (omega arith) (omega arith) in
+    let s1 = same (a + 1) (omega arith) (omega arith) in
+    let s2 = same (a + 2) (omega arith) (omega arith) in
+    let s3 = same (a + 3) (omega arith) (omega arith) in
+    cc (s0, s1, s2, s3)
+
+pub u64_kept : (xs ys : List ℕ) (a : ℕ) → ((k : ℕ) → a ≤ k → k < a + 8 → slice_index ys k ≡ slice_index xs k) → u64_in ys a ≡ u64_in xs a
+unfolding u64_in
+u64_kept xs ys a same =
+    let s0 = same a (omega arith) (omega arith) in
+    let s1 = same (a + 1) (omega arith) (omega arith) in
+    let s2 = same (a + 2) (omega arith) (omega arith) in
+    let s3 = same (a + 3) (omega arith) (omega arith) in
+    let s4 = same (a + 4) (omega arith) (omega arith) in
+    let s5 = same (a + 5) (omega arith) (omega arith) in
+    let s6 = same (a + 6) (omega arith) (omega arith) in
+    let s7 = same (a + 7) (omega arith) (omega arith) in
+    cc (s0, s1, s2, s3, s4, s5, s6, s7)
+
+-- a number is read where its bytes were put
+pub u32_written : (zs : List ℕ) (a e n : ℕ) → a + 4 ≤ length zs → e ≡ 4 → n < 2 ^ 32 → take e (drop a zs) ≡ to_le_bytes w32 n → u32_in zs a ≡ n
+u32_written zs a e n l is fits put =
+    sym (u32_part zs a l) ∙ ap (from_le_bytes w32) (ap (λ k. take k (drop a zs)) (sym is) ∙ put) ∙ from_le_bytes-to_le_bytes_4 n fits
+
+pub u64_written : (zs : List ℕ) (a e n : ℕ) → a + 8 ≤ length zs → e ≡ 8 → n < 2 ^ 64 → take e (drop a zs) ≡ to_le_bytes w64 n → u64_in zs a ≡ n
+u64_written zs a e n l is fits put =
+    sym (u64_part zs a l) ∙ ap (from_le_bytes w64) (ap (λ k. take k (drop a zs)) (sym is) ∙ put) ∙ from_le_bytes-to_le_bytes_8 n fits
+
+-- as many as are listed
+pub length-listed : {X : Type 0} (f : ℕ → X) (n : ℕ) → length (listed f n) ≡ n
+unfolding listed
+length-listed f zero = refl
+length-listed f (suc n) = omega (arith, length-append (listed f n) (f n ∷ []), length-listed f n)
+
+listed_next : {X : Type 0} (f : ℕ → X) (n : ℕ) → listed f (suc n) ≡ listed f n ++ f n ∷ []
+unfolding listed
+listed_next f n = refl
+
+-- one more is listed
+pub listed_more : {X : Type 0} (f : ℕ → X) (n : ℕ) → listed f (n + 1) ≡ listed f n ++ f n ∷ []
+listed_more f n = let next : suc n ≡ n + 1 = omega arith in subst (λ m. listed f m ≡ listed f n ++ f n ∷ []) next (listed_next f n)
+
+-- what is stored in a list is stored in it and one more
+stored_left : {X : Type 0} (xs ys : List X) (i : ℕ) (x : X) → slice_get xs i ≡ Some x → slice_get (xs ++ ys) i ≡ Some x
+stored_left [] ys i x at = absurd (cc at)
+stored_left (y ∷ xs) ys zero x at = at
+stored_left (y ∷ xs) ys (suc i) x at = stored_left xs ys i x at
+
+-- and the last one at the length of the others
+stored_last : {X : Type 0} (xs : List X) (x : X) (i : ℕ) → length xs ≡ i → slice_get (xs ++ x ∷ []) i ≡ Some x
+stored_last [] x zero is = refl
+stored_last [] x (suc i) is = absurd (omega (arith, is))
+stored_last (y ∷ xs) x zero is = absurd (omega (arith, is))
+stored_last (y ∷ xs) x (suc i) is = stored_last xs x i (omega (arith, is))
+
+-- the one at an index
+pub listed_at : {X : Type 0} (f : ℕ → X) (n i : ℕ) → i < n → slice_get (listed f n) i ≡ Some (f i)
+unfolding listed
+listed_at f zero i l = absurd (omega (arith, l))
+listed_at f (suc n) i l = elim (cases_lt i n) [
+  | inl lt ↦ stored_left (listed f n) (f n ∷ []) i (f i) (listed_at f n i lt)
+  | inr ge ↦
+      let same : n ≡ i = omega (arith, l, ge) in
+      subst (λ j. slice_get (listed f n ++ f n ∷ []) j ≡ Some (f j)) same (stored_last (listed f n) (f n) n (length-listed f n))
+]
+
+-- nothing is stored behind a list
+past : {X : Type 0} (xs : List X) (i : ℕ) (x : X) → length xs ≤ i → slice_get xs i ≡ Some x → ⊥
+past [] i x l at = cc at
+past (y ∷ xs) zero x l at = omega (arith, l)
+past (y ∷ xs) (suc i) x l at = past xs i x (omega (arith, l)) at
+
+pub none_past : {X : Type 0} (xs : List X) (i : ℕ) → length xs ≤ i → slice_get xs i ≡ None
+none_past [] i l = refl
+none_past (y ∷ xs) zero l = absurd (omega (arith, l))
+none_past (y ∷ xs) (suc i) l = none_past xs i (omega (arith, l))
+
+-- an item of a list is a value at an index that it has
+pub listed_is : {X : Type 0} (f : ℕ → X) (n i : ℕ) (x : X) → slice_get (listed f n) i ≡ Some x → (i < n) × (f i ≡ x)
+listed_is f n i x at = elim (cases_lt i n) [
+  | inl lt ↦ (lt, let own = listed_at f n i lt in cc (own, at))
+  | inr ge ↦ absurd (past (listed f n) i x (omega (arith, ge, length-listed f n)) at)
+]

@@ -1,0 +1,36 @@
+-- What all images have in common: the numbers that stand in bytes, and the list of the parts.
+use Rattle.std.specs.Prelude.{◌≡◌, ℕ, zero, suc, ◌+◌, ◌*◌, ◌^◌, ◌≤◌, List, [], ◌∷◌, ◌++◌, length, slice_index}
+use Rattle.std.specs.Int.{w32, w64, from_le_bytes}
+
+-- the number of 4 bytes from the place a on, the low byte first
+unfoldable pub u32_in : List ℕ → ℕ → ℕ
+u32_in bs a = from_le_bytes w32
+    (slice_index bs a ∷ slice_index bs (a + 1) ∷ slice_index bs (a + 2) ∷ slice_index bs (a + 3) ∷ [])
+
+-- the number of 8 bytes
+unfoldable pub u64_in : List ℕ → ℕ → ℕ
+u64_in bs a = from_le_bytes w64
+    (slice_index bs a ∷ slice_index bs (a + 1) ∷ slice_index bs (a + 2) ∷ slice_index bs (a + 3)
+    ∷ slice_index bs (a + 4) ∷ slice_index bs (a + 5) ∷ slice_index bs (a + 6) ∷ slice_index bs (a + 7) ∷ [])
+
+-- the number of 16 bytes
+abbrev pub u128_in : List ℕ → ℕ → ℕ
+u128_in bs a = u64_in bs a + 2 ^ 64 * u64_in bs (a + 8)
+
+-- the first n values of a function
+unfoldable pub listed : {X : Type 0} → (ℕ → X) → ℕ → List X
+listed f zero = []
+listed f (suc n) = listed f n ++ f n ∷ []
+
+-- how many rows there are, as the head says
+abbrev pub row_count : List ℕ → ℕ
+row_count bs = u32_in bs 8
+
+-- how many parts it lists
+abbrev pub part_count : List ℕ → ℕ
+part_count bs = u32_in bs 12
+
+-- a part of this kind is listed at the place a, and lies inside the bytes
+pub record IsListed (bs : List ℕ) (a kind : ℕ) : Type 0 where
+  pub of_kind : u32_in bs a ≡ kind
+  pub inside : u64_in bs (a + 8) + u64_in bs (a + 16) ≤ length bs

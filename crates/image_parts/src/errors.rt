@@ -1,0 +1,29 @@
+//! Why bytes are no image, and why none was written.
+
+/// Why bytes are no image. An index is counted from 0.
+#[derive(Debug, Clone, Copy, PartialEq, Eq)]
+pub enum ImageError {
+    /// There is no room for the head and the list of the parts.
+    Short,
+    /// The first bytes aren't those of such an image.
+    Mark,
+    /// The image is of another version.
+    Version,
+    /// The part listed at this index is missing, lies outside the bytes, or has another size.
+    Part(usize),
+    /// The row at this index is none, doesn't come after the row before it, or has another link.
+    Row(usize),
+    /// The cell at this index counts wrongly.
+    Cell(usize),
+}
+
+/// Why no image was written.
+#[derive(Debug, Clone, Copy, PartialEq, Eq)]
+pub enum WriteError {
+    /// There are 2^32 rows or more, or so many bytes of keys.
+    Full,
+    /// The buffer is shorter than the image.
+    Short,
+    /// The row at this index, from 0, is none, or doesn't come after the row before it.
+    Unsorted(usize),
+}

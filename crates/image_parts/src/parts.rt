@@ -1,0 +1,39 @@
+//! The list of the parts: what is listed at each place, in 24 bytes.
+ghost use Rattle.std.specs.Prelude.{◌≡◌, ◌+◌, ◌<◌, ◌≤◌, ℕ, MatchOption, length, slice_index};
+ghost use Rattle.image_parts.specs.Parts.{IsListed, u32_in, u64_in};
+
+use crate::loads::{u32_at, u64_at};
+use crate::stores::{put_u32, put_u64};
+
+/// The place and the length in bytes of the part listed at a place, if it is of this kind and lies inside the bytes.
+#[inline(always)]
+pub fn part_at(image: &[u8], entry: usize, kind: u32) -> Option<(usize, usize)>
+    requires { entry + 24 ≤ length image.now }
+    ensures { MatchOption result (IsListed image.now entry kind → ⊥)
+        (λ part. IsListed image.now entry kind × (part.0 ≡ u64_in image.now (entry + 8))
+        × (part.1 ≡ u64_in image.now (entry + 16))) }
+{
+    let place = u64_at(image, entry + 8) as usize;
+    let size = u64_at(image, entry + 16) as usize;
+    if u32_at(image, entry) != kind || place > image.len() || size > image.len() - place {
+        return None;
+    }
+    Some((place, size))
+}
+
+/// Lists a part.
+pub fn put_part(out: &mut [u8], entry: usize, kind: u32, detail: u32, place: usize, size: usize)
+    requires { entry + 24 ≤ length out.old }
+    ensures kind { u32_in out.new entry ≡ kind }
+    ensures detail { u32_in out.new (entry + 4) ≡ detail }
+    ensures place { u64_in out.new (entry + 8) ≡ place }
+    ensures size { u64_in out.new (entry + 16) ≡ size }
+    ensures before { (k : ℕ) → k < entry → slice_index out.new k ≡ slice_index out.old k }
+    ensures behind { (k : ℕ) → entry + 24 ≤ k → slice_index out.new k ≡ slice_index out.old k }
+    ensures length { length out.new ≡ length out.old }
+{
+    put_u32(out, entry, kind);
+    put_u32(out, entry + 4, detail);
+    put_u64(out, entry + 8, place as u64);
+    put_u64(out, entry + 16, size as u64);
+}

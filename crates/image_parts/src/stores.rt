@@ -1,0 +1,25 @@
+//! Numbers are put into bytes, the low byte first.
+ghost use Rattle.std.specs.Prelude.{◌≡◌, ◌+◌, ◌<◌, ◌≤◌, ℕ, length, slice_index};
+ghost use Rattle.image_parts.specs.Parts.{u32_in, u64_in};
+
+/// Puts a number into the 4 bytes from a place on.
+pub fn put_u32(out: &mut [u8], at: usize, number: u32)
+    requires { at + 4 ≤ length out.old }
+    ensures number { u32_in out.new at ≡ number }
+    ensures before { (k : ℕ) → k < at → slice_index out.new k ≡ slice_index out.old k }
+    ensures behind { (k : ℕ) → at + 4 ≤ k → slice_index out.new k ≡ slice_index out.old k }
+    ensures length { length out.new ≡ length out.old }
+{
+    out[at..at + 4].copy_from_slice(&number.to_le_bytes());
+}
+
+/// Puts a number into the 8 bytes from a place on.
+pub fn put_u64(out: &mut [u8], at: usize, number: u64)
+    requires { at + 8 ≤ length out.old }
+    ensures number { u64_in out.new at ≡ number }
+    ensures before { (k : ℕ) → k < at → slice_index out.new k ≡ slice_index out.old k }
+    ensures behind { (k : ℕ) → at + 8 ≤ k → slice_index out.new k ≡ slice_index out.old k }
+    ensures length { length out.new ≡ length out.old }
+{
+    out[at..at + 8].copy_from_slice(&number.to_le_bytes());
+}

@@ -1,0 +1,16 @@
+use Rattle.std.proofs.Common.{ℕ, subst, arith}
+use Rattle.radix_keys.specs.Networks.{Net}
+use Rattle.frozen_routes.specs.Routes.{IsOwnRow}
+use Rattle.flat_routes.specs.Images.{image_rows, network, of_ipv6}
+use Rattle.image_parts.proofs.ByteLemmas.{u32_fits}
+use Rattle.nifazombi_c.proofs.ipv6.nifazombi_ipv6_get.Goals as goal
+
+pub overflow_add-result : goal.overflow_add-result
+overflow_add-result c =
+    let few = u32_fits c.args.image.now 8 c.type_inv.image in
+    record { fits = omega (arith, few, c.in-Some.ensures.within) }
+
+pub returns-in-None-clause-row : goal.returns-in-None-clause-row
+returns-in-None-clause-row c = λ image.
+    subst (λ a. (r : Net ℕ × ℕ) → IsOwnRow (λ n. n) (image_rows of_ipv6 c.args.image.now) (network a c.args.bits) r → ⊥) c.number.ensures
+    (c.in-None.ensures.row image)

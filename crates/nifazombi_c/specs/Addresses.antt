@@ -1,0 +1,15 @@
+-- Addresses and rows of IPv6 as C has them.
+use Rattle.std.specs.Prelude.{ℕ}
+use Rattle.std.specs.Int.{w128, from_be_bytes}
+use Rattle.radix_keys.specs.Networks.{Net}
+use Rattle.flat_routes.specs.Images.{network}
+use Rattle.nifazombi_c.specs.declared.ipv6.Address.{Address}
+use Rattle.nifazombi_c.specs.declared.ipv6.Row.{Row}
+
+-- the number of an address
+abbrev pub number_of : Address → ℕ
+number_of a = from_be_bytes w128 a.octets
+
+-- a row as a network and its value
+abbrev pub row_of : Row → Net ℕ × ℕ
+row_of r = (network (number_of r.first) r.bits, r.value)

@@ -1,0 +1,146 @@
+"""The declarations of what nifazombi_c exports, for C and for Rust, as its sources have them."""
+import re
+
+from shared import text_of
+from sources import paths
+
+CRATE, HEADER, RUST = "crates/nifazombi_c", "bindings/c/nifazombi.h", "bindings/rust/src/exports.rs"
+# The structs that callers pass stand there, and in these sources of the libraries below.
+BELOW = ["crates/flat_routes/src/ipv4.rt"]
+DOCUMENTED = r"((?:^///.*\n)+)"
+EXPORT = re.compile(DOCUMENTED + r'^#\[unsafe\(no_mangle\)\]\npub extern "C" fn (\w+)\(([^)]*)\)(?: -> (\w+))?', re.M)
+STRUCT = re.compile(DOCUMENTED + r"^#\[repr\(C\)\]\n(?:#\[.*\]\n)*pub struct (\w+)(?:<'a>)? \{\n((?:    .*\n)*)\}", re.M)
+CONSTANT = re.compile(DOCUMENTED + r"^pub const (\w+): u32 = (\d+);", re.M)
+FIELD = re.compile(r"^    pub (\w+): (.+),$", re.M)
+NUMBERS = {"u8": "uint8_t", "u32": "uint32_t", "u64": "uint64_t", "usize": "size_t", "bool": "bool"}
+HEAD = """// Made by `tools/texts --write` of the sources of crates/nifazombi_c.
+//
+// Tables in one run of bytes, searched where they lie. Each call takes any bytes whatever, ends, and reads only inside
+// them; nothing is allocated, and nothing is kept between two calls. A pointer may be anything where its length is 0.
+// What a call only reads, nobody may write to during the call, and what it writes to is of no use to anybody else.
+"""
+RUST_HEAD = """// Made by `tools/texts --write` of the sources of crates/nifazombi_c.
+//
+// What the archive exports, and for each export a function that passes it live memory: a pointer and a length are those
+// of one slice, which is borrowed for the call. An export asks for nothing else, so each of these functions is safe.
+"""
+
+
+def sources():
+    return [(re.search(r"(\w+)\.rt", it)[1], text_of(it)) for it in [*BELOW, *paths(f"{CRATE}/src/*.rt")]]
+
+
+def comment(lines, by, behind=""):
+    """A comment's lines with another beginning, and behind each name of a call nothing but that."""
+    return re.sub(r"^/// ?", lambda _: f"{behind}{by}", lines, flags=re.M).replace(f"{by}\n", f"{by.rstrip()}\n")
+
+
+def structs():
+    """Each struct by its module and its name: its comment and its fields."""
+    return {(module, it[2]): (it[1], FIELD.findall(it[3])) for module, text in sources() for it in STRUCT.finditer(text)}
+
+
+def owner(module, name, known):
+    """The module that declares a struct which a module names."""
+    return module if (module, name) in known else next(at for at, it in known if it == name)
+
+
+def c_name(module, name):
+    return f"nifazombi_{name.lower()}" if module == "results" else f"nifazombi_{module}_{name.lower()}"
+
+
+def rust_name(module, name):
+    return name if module == "results" else f"{module.capitalize()}{name}"
+
+
+def c_type(kind, module, known):
+    kind = kind.removesuffix("<'_>")
+    return NUMBERS.get(kind) or c_name(owner(module, kind, known), kind)
+
+
+def c_field(name, kind, module, known):
+    octets = re.fullmatch(r"\[u8; (\d+)\]", kind)
+    if octets:
+        return f"uint8_t {name}[{octets[1]}]"
+    if kind == "&'a [u8]":
+        return f"const uint8_t *{name};\n    size_t {name}_len"
+    return f"{c_type(kind, module, known)} {name}"
+
+
+def parameters(text):
+    return [tuple(it.strip().split(": ", 1)) for it in text.replace("\n", " ").split(",") if it.strip()]
+
+
+def c_parameter(name, kind, module, known):
+    form = re.fullmatch(r"&(mut )?(\[)?([\w<>'_]+)\]?", kind)
+    if not form:
+        return c_type(kind, module, known) + f" {name}"
+    length = f", size_t {name}_len" if form[2] else ""
+    return f"{'' if form[1] else 'const '}{c_type(form[3], module, known)} *{name}{length}"
+
+
+def folded(head, items):
+    """A declaration in one line, or with each parameter in a line of its own."""
+    line = f"{head}({', '.join(items)})"
+    return line if len(line) < 120 else f"{head}(\n    " + ",\n    ".join(items) + ")"
+
+
+def header():
+    known, made = structs(), [HEAD, "#ifndef NIFAZOMBI_H\n#define NIFAZOMBI_H\n\n#include <stdbool.h>\n#include <stddef.h>\n"
+                              "#include <stdint.h>\n\n#ifdef __cplusplus\nextern \"C\" {\n#endif\n"]
+    for _, text in sources():
+        for lines, name, number in CONSTANT.findall(text):
+            made.append(f"{comment(lines, '// ')}#define {name} {number}\n")
+    for (module, name), (lines, fields) in known.items():
+        rows = "".join(f"    {c_field(*it, module, known)};\n" for it in fields)
+        made.append(f"{comment(lines, '// ')}typedef struct {{\n{rows}}} {c_name(module, name)};\n")
+    for module, text in sources():
+        for lines, name, passed, result in EXPORT.findall(text):
+            kind = NUMBERS[result] if result else "void"
+            items = [c_parameter(*it, module, known) for it in parameters(passed)]
+            made.append(f"{comment(lines, '// ')}{folded(f'{kind} {name}', items)};\n")
+    return "\n".join([*made, "#ifdef __cplusplus\n}\n#endif\n\n#endif\n"])
+
+
+def rust_type(kind, module, known):
+    name = re.sub(r"&(?:mut |'\w+ )?|[\[\]]|<'\w>|; \d+", "", kind)
+    return kind if name in NUMBERS else kind.replace(name, rust_name(owner(module, name, known), name))
+
+
+def rust_passed(name, kind, module, known):
+    """A parameter of an export: how it is declared, and what is passed."""
+    form = re.fullmatch(r"&(mut )?(\[)?([\w<>'_]+)\]?", kind)
+    if not form:
+        return [(f"{name}: {kind}", name)]
+    pointer = f"*{'mut' if form[1] else 'const'} {rust_type(form[3], module, known)}"
+    if not form[2]:
+        return [(f"{name}: {pointer}", name)]
+    at = f"{name}.as_{'mut_' if form[1] else ''}ptr()"
+    return [(f"{name}: {pointer}", at), (f"{name}_len: usize", f"{name}.len()")]
+
+
+def rust():
+    known, made, declared = structs(), [RUST_HEAD], []
+    for _, text in sources():
+        made += [f"pub(crate) const {it[1].removeprefix('NIFAZOMBI_')}: u32 = {it[2]};\n" for it in CONSTANT.findall(text)]
+    for (module, name), (lines, fields) in known.items():
+        life = "<'a>" if any("'a" in kind for _, kind in fields) else ""
+        rows = "".join(f"    pub(crate) {it}: {rust_type(kind, module, known)},\n" for it, kind in fields)
+        made.append(f"{comment(lines, '/// ')}#[repr(C)]\n#[derive(Clone, Copy, Debug, Default)]\n"
+                    f"pub(crate) struct {rust_name(module, name)}{life} {{\n{rows}}}\n")
+    for module, text in sources():
+        for lines, name, passed, result in EXPORT.findall(text):
+            back = f" -> {result}" if result else ""
+            each = [it for one in parameters(passed) for it in rust_passed(*one, module, known)]
+            declared.append(f"    safe fn {name}({', '.join(it for it, _ in each)}){back};\n")
+            taken = [f"{it}: {rust_type(kind, module, known)}" for it, kind in parameters(passed)]
+            own = name.removeprefix("nifazombi_")
+            made.append(f"{comment(lines, '/// ')}pub(crate) fn {own}({', '.join(taken)}){back} {{\n"
+                        f"    {name}({', '.join(it for _, it in each)})\n}}\n")
+    made.insert(1, 'unsafe extern "C" {\n' + "".join(declared) + "}\n")
+    return "\n".join(made)
+
+
+def made():
+    """Each file of declarations, and what it has to say."""
+    return {HEADER: header(), RUST: rust()}

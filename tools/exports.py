@@ -1,10 +1,11 @@
-"""The declarations of what nifazombi_c exports, for C and for Rust, as its sources have them."""
+"""The declarations of what nifazombi_c exports, for C, Rust and Python, as its sources have them."""
 import re
 
 from shared import text_of
 from sources import paths
 
 CRATE, HEADER, RUST = "crates/nifazombi_c", "bindings/c/nifazombi.h", "bindings/rust/src/exports.rs"
+PYTHON = "bindings/python/nifazombi/_exports.py"
 # The structs that callers pass stand there, and in these sources of the libraries below.
 BELOW = ["crates/flat_routes/src/ipv4.rt"]
 DOCUMENTED = r"((?:^///.*\n)+)"
@@ -23,6 +24,9 @@ RUST_HEAD = """// Made by `tools/texts --write` of the sources of crates/nifazom
 //
 // What the archive exports, and for each export a function that passes it live memory: a pointer and a length are those
 // of one slice, which is borrowed for the call. An export asks for nothing else, so each of these functions is safe.
+"""
+PYTHON_HEAD = """# Made by `tools/texts --write` of the sources of crates/nifazombi_c.
+from ctypes import POINTER, Structure, c_bool, c_size_t, c_uint8, c_uint32, c_uint64, c_void_p
 """
 
 
@@ -141,6 +145,39 @@ def rust():
     return "\n".join(made)
 
 
+def python_type(kind, module, known):
+    """What ctypes calls a type, as one or more: a slice is a pointer and a length."""
+    form = re.fullmatch(r"&(?:'\w+ |mut )?(\[)?([\w<>'_]+)\]?", kind)
+    if form and form[1]:
+        return ["c_void_p", "c_size_t"]
+    octets = re.fullmatch(r"\[u8; (\d+)\]", kind)
+    if octets:
+        return [f"c_uint8 * {octets[1]}"]
+    name = form[2] if form else kind
+    plain = NUMBERS.get(name)
+    own = f"c_{plain.removesuffix('_t')}" if plain and plain.startswith("uint") else {"bool": "c_bool", "size_t": "c_size_t"}.get(plain)
+    own = own or rust_name(owner(module, name, known), name)
+    return [f"POINTER({own})"] if form else [own]
+
+
+def python():
+    known, made = structs(), [PYTHON_HEAD]
+    for _, text in sources():
+        made += [f"{it[1].removeprefix('NIFAZOMBI_')} = {it[2]}" for it in CONSTANT.findall(text)]
+    for (module, name), (lines, fields) in known.items():
+        rows = [(f'"{it}"', f'"{it}_len"') for it, _ in fields]
+        kinds = [python_type(kind, module, known) for _, kind in fields]
+        each = [f"({it}, {kind})" for names, own in zip(rows, kinds) for it, kind in zip(names, own)]
+        made.append(f"\n\nclass {rust_name(module, name)}(Structure):\n    _fields_ = [{', '.join(each)}]")
+    made.append("\n\n# The name of each export, its result and its parameters.\nEXPORTS = [")
+    for module, text in sources():
+        for _, name, passed, result in EXPORT.findall(text):
+            kinds = [it for _, kind in parameters(passed) for it in python_type(kind, module, known)]
+            back = python_type(result, module, known)[0] if result else "None"
+            made.append(f'    ("{name}", {back}, [{", ".join(kinds)}]),')
+    return "\n".join([*made, "]\n"])
+
+
 def made():
     """Each file of declarations, and what it has to say."""
-    return {HEADER: header(), RUST: rust()}
+    return {HEADER: header(), RUST: rust(), PYTHON: python()}

@@ -1,5 +1,5 @@
 -- What numbers in bytes say when bytes are put, and what is listed of a function.
-use Rattle.std.proofs.Common.{◌≡◌, ℕ, zero, suc, ◌+◌, ◌^◌, ◌<◌, ◌≤◌, inl, inr, List, [], ◌∷◌, ◌++◌, Some, None, length, slice_get, slice_index, take, drop, refl, ap, sym, subst, ◌∙◌, arith}
+use Rattle.std.proofs.Common.{◌≡◌, ℕ, zero, suc, ◌+◌, ◌^◌, ◌<◌, ◌≤◌, inl, inr, List, [], ◌∷◌, ◌++◌, Some, None, length, slice_get, slice_index, take, drop, Fits, w8, refl, ap, sym, subst, ◌∙◌, arith}
 use Rattle.std.specs.Int.{w32, w64, from_le_bytes, to_le_bytes}
 use Rattle.std.proofs.lemmas.Bool.{cases_lt}
 use Rattle.std.proofs.lemmas.List.{drop_more, length-append}
@@ -39,6 +39,16 @@ u32_part bs a l = ap (from_le_bytes w32) (four bs a l)
 pub u64_part : (bs : List ℕ) (a : ℕ) → a + 8 ≤ length bs → from_le_bytes w64 (take 8 (drop a bs)) ≡ u64_in bs a
 unfolding u64_in
 u64_part bs a l = ap (from_le_bytes w64) (eight bs a l)
+
+-- it is below 2^32
+pub u32_fits : (bs : List ℕ) (a : ℕ) → ((i : ℕ) → Fits w8 (slice_index bs i)) → u32_in bs a < 2 ^ 32
+unfolding u32_in
+u32_fits bs a byte =
+    let b0 = (byte a).fits in
+    let b1 = (byte (a + 1)).fits in
+    let b2 = (byte (a + 2)).fits in
+    let b3 = (byte (a + 3)).fits in
+    omega (arith, b0, b1, b2, b3)
 
 -- a number stays where its bytes do
 pub u32_kept : (xs ys : List ℕ) (a : ℕ) → ((k : ℕ) → a ≤ k → k < a + 4 → slice_index ys k ≡ slice_index xs k) → u32_in ys a ≡ u32_in xs a

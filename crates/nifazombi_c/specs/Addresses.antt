@@ -7,9 +7,9 @@ use Rattle.nifazombi_c.specs.declared.ipv6.Address.{Address}
 use Rattle.nifazombi_c.specs.declared.ipv6.Row.{Row}
 
 -- the number of an address
-abbrev pub number_of : Address → ℕ
-number_of a = from_be_bytes w128 a.octets
+abbrev pub number_of_octets : Address → ℕ
+number_of_octets a = from_be_bytes w128 a.octets
 
 -- a row as a network and its value
-abbrev pub row_of : Row → Net ℕ × ℕ
-row_of r = (network (number_of r.first) r.bits, r.value)
+abbrev pub row_of_octets : Row → Net ℕ × ℕ
+row_of_octets r = (network (number_of_octets r.first) r.bits, r.value)

@@ -5,7 +5,7 @@ ghost use Rattle.radix_keys.specs.Networks.{Net};
 ghost use Rattle.image_parts.specs.Parts.{row_count};
 ghost use Rattle.frozen_routes.specs.Routes.{IsLongestRow, IsOwnRow, is_inside};
 ghost use Rattle.flat_routes.specs.Images.{IsImage, found_row, image_rows, network, of_ipv6};
-ghost use Rattle.nifazombi_c.specs.Addresses.{number_of, row_of};
+ghost use Rattle.nifazombi_c.specs.Addresses.{number_of_octets, row_of_octets};
 
 use crate::results::Span;
 use flat_routes::ipv6;
@@ -31,7 +31,7 @@ pub struct Row {
 impl Address {
     /// The address of a number.
     fn of(number: u128) -> Address
-        ensures { number_of result ≡ number }
+        ensures { number_of_octets result ≡ number }
     {
         Address {
             octets: number.to_be_bytes(),
@@ -40,7 +40,7 @@ impl Address {
 
     /// The address as a number.
     fn number(&self) -> u128
-        ensures { result ≡ number_of self.now }
+        ensures { result ≡ number_of_octets self.now }
     {
         u128::from_be_bytes(self.octets)
     }
@@ -66,7 +66,7 @@ pub extern "C" fn nifazombi_ipv6_len(image: &[u8]) -> usize
 #[unsafe(no_mangle)]
 pub extern "C" fn nifazombi_ipv6_row(image: &[u8], at: usize, row: &mut Row) -> bool
     ensures row { IsTrue result → IsImage of_ipv6 image.now
-        → slice_get (image_rows of_ipv6 image.now) at ≡ Some (row_of row.new) }
+        → slice_get (image_rows of_ipv6 image.now) at ≡ Some (row_of_octets row.new) }
 {
     let Some(found) = ipv6::row_at(image, at) else {
         return false;
@@ -85,7 +85,7 @@ pub extern "C" fn nifazombi_ipv6_row(image: &[u8], at: usize, row: &mut Row) -> 
 pub extern "C" fn nifazombi_ipv6_look(image: &[u8], address: &Address) -> usize
     ensures within { result ≤ row_count image.now }
     ensures row { IsImage of_ipv6 image.now → IsLongestRow 128 (λ n. n)
-        (image_rows of_ipv6 image.now) (number_of address.now)
+        (image_rows of_ipv6 image.now) (number_of_octets address.now)
         (found_row of_ipv6 image.now result) }
 {
     match ipv6::look(image, address.number()) {
@@ -105,7 +105,7 @@ pub extern "C" fn nifazombi_ipv6_look_many(
     ensures count { result ≡ min (length addresses.now) (length found.new) }
     ensures rows { IsImage of_ipv6 image.now → (k : ℕ) → k < result
         → IsLongestRow 128 (λ n. n) (image_rows of_ipv6 image.now)
-        (slice_index (each number_of addresses.now) k)
+        (slice_index (each number_of_octets addresses.now) k)
         (found_row of_ipv6 image.now (slice_index found.new k)) }
 {
     let count = addresses.len().min(found.len());
@@ -122,8 +122,8 @@ pub extern "C" fn nifazombi_ipv6_get(image: &[u8], first: &Address, bits: u32) -
     ensures row { IsImage of_ipv6 image.now
         → MatchOption (found_row of_ipv6 image.now result)
         ((r : Net ℕ × ℕ) → IsOwnRow (λ n. n) (image_rows of_ipv6 image.now)
-        (network (number_of first.now) bits) r → ⊥)
-        (IsOwnRow (λ n. n) (image_rows of_ipv6 image.now) (network (number_of first.now) bits)) }
+        (network (number_of_octets first.now) bits) r → ⊥)
+        (IsOwnRow (λ n. n) (image_rows of_ipv6 image.now) (network (number_of_octets first.now) bits)) }
 {
     match ipv6::get(image, first.number(), bits) {
         Some(at) => at + 1,
@@ -137,7 +137,7 @@ pub extern "C" fn nifazombi_ipv6_below(image: &[u8], first: &Address, bits: u32,
     ensures within { span.new.first + span.new.count ≤ row_count image.now }
     ensures rows { IsImage of_ipv6 image.now
         → take span.new.count (drop span.new.first (image_rows of_ipv6 image.now))
-        ≡ filter (is_inside 128 (λ n. n) (network (number_of first.now) bits))
+        ≡ filter (is_inside 128 (λ n. n) (network (number_of_octets first.now) bits))
         (image_rows of_ipv6 image.now) }
 {
     let (first, count) = ipv6::below(image, first.number(), bits);

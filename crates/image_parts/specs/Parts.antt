@@ -1,5 +1,5 @@
 -- What all images have in common: the numbers that stand in bytes, and the list of the parts.
-use Rattle.std.specs.Prelude.{◌≡◌, ℕ, zero, suc, ◌+◌, ◌*◌, ◌^◌, ◌≤◌, List, [], ◌∷◌, ◌++◌, length, slice_index}
+use Rattle.std.specs.Prelude.{◌≡◌, ℕ, zero, suc, ◌+◌, ◌*◌, ◌^◌, ◌<◌, ◌≤◌, List, [], ◌∷◌, ◌++◌, drop, length, slice_index, take}
 use Rattle.std.specs.Int.{w32, w64, from_le_bytes}
 
 -- the number of 4 bytes from the place a on, the low byte first
@@ -34,3 +34,20 @@ part_count bs = u32_in bs 12
 pub record IsListed (bs : List ℕ) (a kind : ℕ) : Type 0 where
   pub of_kind : u32_in bs a ≡ kind
   pub inside : u64_in bs (a + 8) + u64_in bs (a + 16) ≤ length bs
+
+-- the user's own bytes are so many from a place on: the first listed part of kind 3 says so, and lies inside the bytes, as the
+-- list does
+pub record IsPayload (bs : List ℕ) (place size : ℕ) : Type 0 where
+  pub at : ℕ
+  pub within : at < part_count bs
+  pub list : 16 + 24 * part_count bs ≤ length bs
+  pub listed : IsListed bs (16 + 24 * at) 3
+  pub first : (k : ℕ) → k < at → u32_in bs (16 + 24 * k) ≡ 3 → ⊥
+  pub place_is : u64_in bs (16 + 24 * at + 8) ≡ place
+  pub size_is : u64_in bs (16 + 24 * at + 16) ≡ size
+
+-- the user's own bytes are these
+pub record HoldsPayload (bs payload : List ℕ) : Type 0 where
+  pub place : ℕ
+  pub part : IsPayload bs place (length payload)
+  pub bytes : take (length payload) (drop place bs) ≡ payload

@@ -1,6 +1,6 @@
 //! The list of the parts: what is listed at each place, in 24 bytes.
-ghost use Rattle.std.specs.Prelude.{◌≡◌, ◌+◌, ◌<◌, ◌≤◌, ℕ, MatchOption, length, slice_index};
-ghost use Rattle.image_parts.specs.Parts.{IsListed, u32_in, u64_in};
+ghost use Rattle.std.specs.Prelude.{◌≡◌, ◌+◌, ◌<◌, ◌≤◌, ℕ, IfSome, MatchOption, length, slice_index};
+ghost use Rattle.image_parts.specs.Parts.{IsListed, IsPayload, u32_in, u64_in};
 
 use crate::loads::{u32_at, u64_at};
 use crate::stores::{put_u32, put_u64};
@@ -19,6 +19,29 @@ pub fn part_at(image: &[u8], entry: usize, kind: u32) -> Option<(usize, usize)>
         return None;
     }
     Some((place, size))
+}
+
+/// The place and the length in bytes of the user's own bytes: of the first listed part of kind 3. It is None where there is
+/// none, where this part lies outside the bytes, and where the list does. Images of all kinds have such a list, and no mark
+/// is tested.
+pub fn payload(image: &[u8]) -> Option<(usize, usize)>
+    ensures part { MatchOption result ((place size : ℕ) → IsPayload image.now place size → ⊥)
+        (λ part. IsPayload image.now part.0 part.1) }
+    ensures inside { IfSome result (λ part. part.0 + part.1 ≤ length image.now) }
+{
+    if image.len() < 16 {
+        return None;
+    }
+    let parts = u32_at(image, 12) as usize;
+    if 16 + 24 * parts > image.len() {
+        return None;
+    }
+    for i in 0..parts {
+        if u32_at(image, 16 + 24 * i) == 3 {
+            return part_at(image, 16 + 24 * i, 3);
+        }
+    }
+    None
 }
 
 /// Lists a part.

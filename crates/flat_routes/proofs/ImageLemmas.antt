@@ -1,11 +1,12 @@
 -- The numbers of an image, and what they say of its rows.
-use Rattle.std.proofs.Common.{◌≡◌, ℕ, zero, suc, ◌+◌, ◌-◌, ◌*◌, ◌/◌, ◌^◌, ◌<◌, ◌≤◌, inl, inr, Bool, true, false, List, [], ◌∷◌, ◌++◌, Some, None, length, get_or, slice_get, take, map as each, refl, ap, sym, subst, ◌∙◌, arith}
+use Rattle.std.proofs.Common.{◌≡◌, ℕ, zero, suc, ◌+◌, ◌-◌, ◌*◌, ◌/◌, ◌^◌, ◌<◌, ◌≤◌, inl, inr, Bool, true, false, List, [], ◌∷◌, ◌++◌, Option, Some, None, length, get_or, slice_get, take, map as each, option_map, refl, ap, sym, subst, ◌∙◌, arith}
+use Rattle.std.specs.Option.{SomeIff}
 use Rattle.std.proofs.lemmas.Bool.{cases_lt}
-use Rattle.std.proofs.lemmas.List.{length-map, map_push, take_more}
-use Rattle.radix_keys.specs.Networks.{Net}
+use Rattle.std.proofs.lemmas.List.{get_or-take, length-map, length-take-le, map_push, take-map, take_more}
+use Rattle.radix_keys.specs.Networks.{AgreeIn, IsBase, Net}
 use Rattle.image_parts.specs.Parts.{listed, row_count, u128_in, u32_in}
-use Rattle.image_parts.proofs.ByteLemmas.{length-listed, listed_at, listed_more, none_past}
-use Rattle.frozen_routes.specs.Routes.{AreRising, AreUpTo, IsEarlier, IsFirstTop, IsHolderAt, IsLastHolder, IsLongestRow}
+use Rattle.image_parts.proofs.ByteLemmas.{length-listed, listed_at, listed_more, none_past, take_listed}
+use Rattle.frozen_routes.specs.Routes.{AreRising, AreRowsInOrder, AreUpTo, IsEarlier, IsFirstTop, IsHolderAt, IsLastHolder, IsLongestRow, base_numbers, bit_counts}
 use Rattle.frozen_routes.proofs.RouteLemmas.Blocks.{earlier_le, sandwich}
 use Rattle.frozen_routes.proofs.RouteLemmas.Growing.{earlier_through}
 use Rattle.frozen_routes.proofs.RouteLemmas.Links.{among_all, firsts_to}
@@ -13,8 +14,15 @@ use Rattle.frozen_routes.proofs.RouteLemmas.Rows.{last_is_longest, none_holds, s
 use Rattle.frozen_routes.proofs.RouteLemmas.Tops.{top_above, top_around, top_below}
 use Rattle.radix_keys.proofs.KeyLemmas.Order.{three_ways}
 use Rattle.sorted_tables.specs.Tables.{IsLastOf, IsPartedAt}
+use Rattle.image_parts.specs.declared.errors.ImageError.{ImageError}
+use Rattle.image_parts.specs.declared.errors.ImageError.TheVariants.{Short, Mark, Version, Part, Row, Cell}
 use Rattle.flat_routes.specs.declared.head.Plan.{Plan}
-use Rattle.flat_routes.specs.Images.{AreLinkedTo, IsImage, IsNext, IsPlanOf, bits_in, cell_in, first_in, bases, found_row, image_cells, image_rows, link_in, links, network, rest_of, row_in, sizes, value_in, width}
+use Rattle.flat_routes.specs.Faults.{IsFault, family}
+use Rattle.flat_routes.specs.Images.{AreLinkedTo, IsImage, IsNext, IsPlanOf, bits_in, cell_count, cell_in, first_in, bases, found_row, image_cells, image_rows, link_in, links, network, rest_of, row_in, sizes, value_in, width}
+
+-- as many rows as the head says
+pub length-rows : (wide : Bool) (bs : List ℕ) → length (image_rows wide bs) ≡ row_count bs
+length-rows wide bs = length-listed (row_in wide bs) (row_count bs)
 
 -- as many first addresses, bits and links as rows
 pub length-firsts : (wide : Bool) (bs : List ℕ) → length (bases wide bs) ≡ row_count bs
@@ -120,6 +128,51 @@ module _ (w : ℕ) (fs bs up : List ℕ) (n : ℕ) (linked : AreLinkedTo w fs bs
   pub around_first : (a j k : ℕ) → k < j → j < n → get_or fs j 0 ≤ a → IsHolderAt w fs bs a k → IsHolderAt w fs bs (get_or fs j 0) k
   around_first a j k l m le p = sandwich (get_or fs k 0) (get_or fs j 0) a (w - get_or bs k 0) (earlier_le _ _ _ _ (ordered k j l m)) le p
 
+-- all that are linked rise
+pub all_rise : (w : ℕ) (fs bs up : List ℕ) (n : ℕ) → AreLinkedTo w fs bs up n → length fs ≤ n → AreRising w fs bs
+all_rise w fs bs up n linked all = record {
+  bases = λ k l. (linked.next k (omega (arith, l, all))).base;
+  order = λ j k l m. ordered w fs bs up n linked j k l (omega (arith, m, all));
+}
+
+-- what the first n networks say is said of any lists with the same first n numbers
+module _ (w : ℕ) (fs bs gs cs : List ℕ) (n : ℕ) (firsts : (k : ℕ) → k < n → get_or gs k 0 ≡ get_or fs k 0)
+    (counts : (k : ℕ) → k < n → get_or cs k 0 ≡ get_or bs k 0) where
+  holder_there : (a k : ℕ) → k < n → IsHolderAt w fs bs a k → IsHolderAt w gs cs a k
+  holder_there a k l p =
+      subst (λ f. AgreeIn w (get_or cs k 0) f a) (sym (firsts k l)) (subst (λ b. AgreeIn w b (get_or fs k 0) a) (sym (counts k l)) p)
+
+  holder_here : (a k : ℕ) → k < n → IsHolderAt w gs cs a k → IsHolderAt w fs bs a k
+  holder_here a k l p = subst (λ f. AgreeIn w (get_or bs k 0) f a) (firsts k l) (subst (λ b. AgreeIn w b (get_or gs k 0) a) (counts k l) p)
+
+  -- which of them is the last that holds an address
+  pub last_there : (m a r : ℕ) → m ≤ n → IsLastHolder w fs bs m a r → IsLastHolder w gs cs m a r
+  last_there m a r le last = record {
+    within = last.within;
+    holds = λ some. let most = last.within in holder_there a (r - 1) (omega (arith, some, most, le)) (last.holds some);
+    none = λ k l lt p. last.none k l lt (holder_here a k (omega (arith, lt, le)) p);
+  }
+
+  -- that they rise, and have their links
+  pub linked_there : (up vs : List ℕ) → ((k : ℕ) → k < n → get_or vs k 0 ≡ get_or up k 0) → AreLinkedTo w fs bs up n → AreLinkedTo w gs cs vs n
+  linked_there up vs ups linked = record {
+    next = λ k l.
+        let own = linked.next k l in
+        record {
+          base = subst (λ f. IsBase w (get_or cs k 0) f) (sym (firsts k l)) (subst (λ b. IsBase w b (get_or fs k 0)) (sym (counts k l)) own.base);
+          after = λ some.
+              let before : k - 1 < n = omega (arith, l) in
+              let e1 = firsts (k - 1) before in
+              let e2 = counts (k - 1) before in
+              let e3 = firsts k l in
+              let e4 = counts k l in
+              rw (e1, e2, e3, e4) (own.after some);
+        };
+    links = λ k l.
+        subst (λ a. IsLastHolder w gs cs k a (get_or vs k 0)) (sym (firsts k l)) (subst (IsLastHolder w gs cs k (get_or fs k 0)) (sym (ups k l))
+        (last_there k (get_or fs k 0) (get_or up k 0) (omega (arith, l)) (linked.links k l)));
+  }
+
 -- those of an image do
 pub image_linked : (wide : Bool) (bs : List ℕ) (n : ℕ) → IsImage wide bs → n ≤ row_count bs
     → AreLinkedTo (width wide) (bases wide bs) (sizes wide bs) (links wide bs) n
@@ -131,16 +184,16 @@ image_linked wide bs n image within = record {
   links = λ k l. image.linked k (omega (arith, l, within, length-links wide bs));
 }
 
--- the last of all networks that holds an address is the longest
-found_longest : (wide : Bool) (bs : List ℕ) (a r : ℕ) → IsImage wide bs
-    → IsLastHolder (width wide) (bases wide bs) (sizes wide bs) (length (image_rows wide bs)) a r
-    → IsLongestRow (width wide) (λ m. m) (image_rows wide bs) a (found_row wide bs r)
-found_longest wide bs a zero image last = none_holds (width wide) (λ m. m) (image_rows wide bs) image.rising a 0 refl last
-found_longest wide bs a (suc i) image last =
+-- the last of some rising networks that holds an address is the longest of these
+found_longest : (wide : Bool) (bs : List ℕ) (rows : List (Net ℕ × ℕ)) (a r : ℕ) → AreRowsInOrder (width wide) (λ m. m) rows
+    → ((i : ℕ) → i < length rows → slice_get rows i ≡ Some (row_in wide bs i))
+    → IsLastHolder (width wide) (base_numbers (λ m. m) rows) (bit_counts rows) (length rows) a r
+    → IsLongestRow (width wide) (λ m. m) rows a (found_row wide bs r)
+found_longest wide bs rows a zero rising stored last = none_holds (width wide) (λ m. m) rows rising a 0 refl last
+found_longest wide bs rows a (suc i) rising stored last =
     let back : i ≡ suc i - 1 = omega arith in
-    last_is_longest (width wide) (λ m. m) (image_rows wide bs) image.rising a (suc i) (row_in wide bs i) (omega arith) last
-    (subst (λ k. slice_get (image_rows wide bs) k ≡ Some (row_in wide bs i)) back
-    (listed_at (row_in wide bs) (row_count bs) i (let le = last.within in omega (arith, le, length-listed (row_in wide bs) (row_count bs)))))
+    last_is_longest (width wide) (λ m. m) rows rising a (suc i) (row_in wide bs i) (omega arith) last
+    (subst (λ k. slice_get rows k ≡ Some (row_in wide bs i)) back (stored i (let le = last.within in omega (arith, le))))
 
 -- the last of those that begin by an address too
 pub longest : (wide : Bool) (bs : List ℕ) (a n r : ℕ) → IsImage wide bs → AreUpTo (bases wide bs) a n
@@ -149,7 +202,32 @@ pub longest : (wide : Bool) (bs : List ℕ) (a n r : ℕ) → IsImage wide bs �
 longest wide bs a n r image count last =
     let rows = image_rows wide bs in
     let whole = among_all (width wide) (bases wide bs) (sizes wide bs) a n r image.rising count last in
-    found_longest wide bs a r image (subst (λ k. IsLastHolder (width wide) (bases wide bs) (sizes wide bs) k a r) (length-map rows (λ s. s.0.base)) whole)
+    found_longest wide bs rows a r image.rising (λ i l. listed_at (row_in wide bs) (row_count bs) i (omega (arith, l, length-rows wide bs))) (subst (λ k. IsLastHolder (width wide) (bases wide bs) (sizes wide bs) k a r) (length-map rows (λ s. s.0.base)) whole)
+
+-- of the rows before one the last that holds its first address is the longest
+pub longest_before : (wide : Bool) (bs : List ℕ) (n r : ℕ) → IsImage wide bs → n < row_count bs → r ≡ get_or (links wide bs) n 0
+    → IsLongestRow (width wide) (λ m. m) (take n (image_rows wide bs)) (first_in wide bs n) (found_row wide bs r)
+longest_before wide bs n r image inside is =
+    let w = width wide in
+    let rows = image_rows wide bs in
+    let fs = bases wide bs in
+    let bits = sizes wide bs in
+    let before = take n rows in
+    let many : length before ≡ n = length-take-le n rows (omega (arith, inside, length-rows wide bs)) in
+    let firsts : (k : ℕ) → k < n → get_or (base_numbers (λ m. m) before) k 0 ≡ get_or fs k 0 =
+    λ k l. ap (λ xs. get_or xs k 0) (sym (take-map (λ s. s.0.base) n rows)) ∙ get_or-take n fs k 0 l in
+    let counts : (k : ℕ) → k < n → get_or (bit_counts before) k 0 ≡ get_or bits k 0 =
+    λ k l. ap (λ xs. get_or xs k 0) (sym (take-map (λ s. s.0.bits) n rows)) ∙ get_or-take n bits k 0 l in
+    let linked = linked_there w fs bits (base_numbers (λ m. m) before) (bit_counts before) n firsts counts (links wide bs) (links wide bs) (λ k l. refl)
+    (image_linked wide bs n image (omega (arith, inside))) in
+    let rising = all_rise w _ _ _ n linked (omega (arith, length-map before (λ s. s.0.base), many)) in
+    let last = image.linked n (omega (arith, inside, length-links wide bs)) in
+    found_longest wide bs before (first_in wide bs n) r rising
+    (λ i l. let lt : i < n = omega (arith, l, many) in
+    ap (λ xs. slice_get xs i) (take_listed (row_in wide bs) n (row_count bs) (omega (arith, inside))) ∙ listed_at (row_in wide bs) n i lt)
+    (subst (λ k. IsLastHolder w (base_numbers (λ m. m) before) (bit_counts before) k (first_in wide bs n) r) (sym many)
+    (last_there w fs bits (base_numbers (λ m. m) before) (bit_counts before) n firsts counts n _ r (omega arith)
+    (subst (λ a. IsLastHolder w fs bits n a r) (first_stored wide bs n inside) (subst (IsLastHolder w fs bits n (get_or fs n 0)) (sym is) last))))
 
 -- the first n networks rise with one more that comes after them, and with its link
 pub linked_more : (w : ℕ) (fs bs up : List ℕ) (n : ℕ) → AreLinkedTo w fs bs up n → IsNext w fs bs n → IsLastHolder w fs bs n (get_or fs n 0) (get_or up n 0)
@@ -174,13 +252,6 @@ at_most_next w fs bs up n linked next k l =
       | inr ge ↦ let same : k ≡ n - 1 = omega (arith, l, ge) in let e = ap (λ i. get_or fs i 0) same in omega (arith, e, last)
     ]
 
--- all that are linked rise
-pub all_rise : (w : ℕ) (fs bs up : List ℕ) (n : ℕ) → AreLinkedTo w fs bs up n → length fs ≤ n → AreRising w fs bs
-all_rise w fs bs up n linked all = record {
-  bases = λ k l. (linked.next k (omega (arith, l, all))).base;
-  order = λ j k l m. ordered w fs bs up n linked j k l (omega (arith, m, all));
-}
-
 -- there is one last of those that are sought
 pub one_last : (P : ℕ → Type 0) (n r s : ℕ) → IsLastOf P n r → IsLastOf P n s → r ≡ s
 one_last P n r s x y = elim (three_ways r s) [
@@ -193,6 +264,13 @@ one_last P n r s x y = elim (three_ways r s) [
 pub found_back : (wide : Bool) (bs : List ℕ) (r : ℕ) → 0 < r → found_row wide bs r ≡ Some (row_in wide bs (r - 1))
 found_back wide bs zero some = absurd (omega (arith, some))
 found_back wide bs (suc i) some = let back : i ≡ suc i - 1 = omega arith in ap (λ j. Some (row_in wide bs j)) back
+
+-- and what a number less one makes of it
+pub found_less : (wide : Bool) (bs : List ℕ) (r : ℕ) (o : Option ℕ) → SomeIff o (1 ≤ r) (r - 1) → found_row wide bs r ≡ option_map (row_in wide bs) o
+found_less wide bs zero None one = refl
+found_less wide bs zero (Some i) one = absurd (let some = one.0 in omega (arith, some))
+found_less wide bs (suc r) None one = absurd (one (omega arith))
+found_less wide bs (suc r) (Some i) one = let same : r ≡ i = (let is = one.1 in omega (arith, is)) in ap (λ j. Some (row_in wide bs j)) same
 
 -- fewer that are linked
 pub linked_less : (w : ℕ) (fs bs up : List ℕ) (m n : ℕ) → AreLinkedTo w fs bs up n → m ≤ n → AreLinkedTo w fs bs up m
@@ -228,10 +306,6 @@ pub width_most : (wide : Bool) → 2 ^ width wide ≤ 2 ^ 128
 width_most false = omega arith
 width_most true = omega arith
 
--- as many rows as the head says
-pub length-rows : (wide : Bool) (bs : List ℕ) → length (image_rows wide bs) ≡ row_count bs
-length-rows wide bs = length-listed (row_in wide bs) (row_count bs)
-
 -- no row stands behind the last
 pub no_row : (wide : Bool) (bs : List ℕ) (i : ℕ) → row_count bs ≤ i → slice_get (image_rows wide bs) i ≡ None
 no_row wide bs i l = none_past (image_rows wide bs) i (omega (arith, l, length-rows wide bs))
@@ -256,3 +330,18 @@ pub rows_more : {R : Type 0} (of : R → Net ℕ × ℕ) (wide : Bool) (bs : Lis
 rows_more of wide bs rows i d l same here =
     listed_more (row_in wide bs) i ∙ ap (λ rs. rs ++ row_in wide bs i ∷ []) same ∙ ap (λ r. each of (take i rows) ++ r ∷ []) here
     ∙ sym (ap (λ rs. each of rs) (take_more rows i d l) ∙ map_push of (take i rows) (get_or rows i d))
+
+-- an image has no fault
+pub no_fault : (wide : Bool) (bs : List ℕ) (e : ImageError) → IsFault wide bs e → IsImage wide bs → ⊥
+no_fault wide bs Short f image = let some = image.head.some in let fits = image.head.fits in elim f [ inl l ↦ omega (arith, l, some, fits) | inr l ↦ omega (arith, l, fits) ]
+no_fault wide bs Mark f image = f (ap family image.head.marked)
+no_fault wide bs Version f image = f.1 image.head.marked
+no_fault wide bs (Part zero) f image =
+    let some = image.head.some in
+    f.1 (omega (arith, some)) (record { listed = image.head.rows; plain = image.plain; size = image.head.rows_size })
+no_fault wide bs (Part (suc i)) f image =
+    let two = f.0 in
+    let some = image.head.some in
+    f.1 (omega (arith, two, some)) (record { listed = image.head.cells; shift = image.head.shift; whole = image.whole })
+no_fault wide bs (Row i) f image = let inside = f.within in f.wrong (image_linked wide bs (i + 1) image (omega (arith, inside)))
+no_fault wide bs (Cell t) f image = f.wrong (image.tops.cells t (cell_in bs t) (listed_at (cell_in bs) (cell_count bs) t f.within))

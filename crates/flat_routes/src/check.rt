@@ -1,15 +1,16 @@
-//! Whether bytes are an image.
-ghost use Rattle.std.specs.Prelude.{◌≡◌, ◌↔◌, ◌*◌, ◌-◌, ◌%◌, ◌^◌, ◌<◌, ◌≤◌, IsTrue, length, slice_index};
+//! Whether bytes are an image, and what is wrong where they aren't.
+ghost use Rattle.std.specs.Prelude.{◌≡◌, ◌↔◌, ◌+◌, ◌*◌, ◌-◌, ◌%◌, ◌^◌, ◌<◌, ◌≤◌, IfErr, IfOk, IsOk, IsTrue, OnOk, length, slice_index};
 ghost use Rattle.radix_keys.specs.Networks.{IsBase};
 ghost use Rattle.sorted_tables.specs.Tables.{IsPartedAt};
 ghost use Rattle.frozen_routes.specs.Routes.{IsTopCell};
 ghost use Rattle.image_parts.specs.Parts.{u32_in, u64_in};
+ghost use Rattle.flat_routes.specs.Faults.{AreRowsRight, IsFault, IsRowsPart};
 ghost use Rattle.flat_routes.specs.Images.{AreLinkedTo, IsImage, IsNext, IsPlanOf, cell_count, cell_in, bases, links, sizes, width};
 
-use crate::head::{Plan, plan_of};
+use crate::head::{Plan, mark_of, plan_of, size_of_rows};
 use crate::rows::{Cell, bits_at, bits_of, cell_at, first_at, link_at};
 use crate::search::climb;
-use image_parts::{u32_at, u64_at};
+use image_parts::{ImageError, part_at, u32_at, u64_at};
 
 /// Whether a network of so many bits begins at an address.
 pub(crate) fn is_base(wide: bool, bits: u32, first: u128) -> bool
@@ -90,39 +91,81 @@ fn is_cell(image: &[u8], wide: bool, plan: Plan, at: usize) -> bool
     climb(image, wide, plan, cell.count, Cell::NONE, start) == cell.around
 }
 
-/// Whether the rows have no detail, and the cells fill their part.
-fn is_whole(image: &[u8]) -> bool
+/// Whether the part listed first is that of the rows.
+fn is_rows_part(image: &[u8], wide: bool) -> bool
     requires { 64 ≤ length image.now }
-    ensures { IsTrue result ↔ ((u32_in image.now 20 ≡ 0)
-        × (u64_in image.now 56 ≡ 8 * cell_count image.now)) }
+    ensures { IsTrue result ↔ IsRowsPart wide image.now }
 {
-    u32_at(image, 20) == 0 && u64_at(image, 56) % 8 == 0
-}
-
-/// Whether bytes are an image of the family.
-pub(crate) fn is_image(image: &[u8], wide: bool) -> bool
-    ensures { IsTrue result ↔ IsImage wide image.now }
-{
-    let Some(plan) = plan_of(image, wide) else {
+    let Some((_, size)) = part_at(image, 16, 1) else {
         return false;
     };
-    if !is_whole(image) {
+    u32_at(image, 20) == 0 && size == size_of_rows(wide, u32_at(image, 8) as usize)
+}
+
+/// Where the parts of an image lie, by its head alone.
+fn check_head(image: &[u8], wide: bool) -> Result<Plan, ImageError>
+    ensures plan { IfOk result (IsPlanOf wide image.now) }
+    ensures plain { OnOk result (u32_in image.now 20 ≡ 0) }
+    ensures whole { OnOk result (u64_in image.now 56 ≡ 8 * cell_count image.now) }
+    ensures fault { IfErr result (IsFault wide image.now) }
+{
+    if image.len() < 64 {
+        return Err(ImageError::Short);
+    }
+    let (own, mark) = (u64_at(image, 0), mark_of(wide));
+    if own % (1 << 56) != mark % (1 << 56) {
+        return Err(ImageError::Mark);
+    }
+    if own != mark {
+        return Err(ImageError::Version);
+    }
+    let parts = u32_at(image, 12) as usize;
+    if 16 + 24 * parts > image.len() {
+        return Err(ImageError::Short);
+    }
+    if parts < 2 {
+        return Err(ImageError::Part(parts));
+    }
+    if !is_rows_part(image, wide) {
+        return Err(ImageError::Part(0));
+    }
+    // What is left is the part of the cells.
+    match plan_of(image, wide) {
+        Some(plan) if u64_at(image, 56) % 8 == 0 => Ok(plan),
+        _ => Err(ImageError::Part(1)),
+    }
+}
+
+/// Whether the row at an index is of a network that comes after the one before it, and has its link.
+fn is_row(image: &[u8], wide: bool, plan: Plan, at: usize) -> bool
+    requires plan { IsPlanOf wide image.now plan }
+    requires within { at < plan.rows }
+    requires before { AreRowsRight wide image.now at }
+    ensures { IsTrue result ↔ AreRowsRight wide image.now (at + 1) }
+{
+    if !is_next(image, wide, plan, at) {
         return false;
     }
+    let first = first_at(image, wide, plan, at);
+    let link = climb(image, wide, plan, at, Cell::NONE, first);
+    link == link_at(image, wide, plan, at) as usize
+}
+
+/// Whether bytes are an image of the family, or the first of their faults.
+pub(crate) fn check(image: &[u8], wide: bool) -> Result<(), ImageError>
+    ensures image { IsOk result ↔ IsImage wide image.now }
+    ensures fault { IfErr result (IsFault wide image.now) }
+{
+    let plan = check_head(image, wide)?;
     for at in 0..plan.rows {
-        if !is_next(image, wide, plan, at) {
-            return false;
-        }
-        let first = first_at(image, wide, plan, at);
-        let link = climb(image, wide, plan, at, Cell::NONE, first);
-        if link != link_at(image, wide, plan, at) as usize {
-            return false;
+        if !is_row(image, wide, plan, at) {
+            return Err(ImageError::Row(at));
         }
     }
     for first in 0..plan.cells {
         if !is_cell(image, wide, plan, first) {
-            return false;
+            return Err(ImageError::Cell(first));
         }
     }
-    true
+    Ok(())
 }

@@ -1,17 +1,18 @@
 //! Images of IPv6 networks. Each call is total: whatever the bytes are, it ends, and reads none but them.
-ghost use Rattle.std.specs.Prelude.{◌≡◌, ◌↔◌, ◌+◌, ◌*◌, ◌^◌, ◌<◌, ◌≤◌, ℕ, IfErr, IfSome, IsSome, IsTrue, MatchOption, OnOk, drop, length, min, option_map, slice_get, slice_index, take, map as each};
+ghost use Rattle.std.specs.Prelude.{◌≡◌, ◌↔◌, ◌+◌, ◌*◌, ◌^◌, ◌<◌, ◌≤◌, ℕ, IfErr, IfSome, IsNone, IsOk, IsSome, IsTrue, MatchOption, OnOk, drop, length, min, option_map, slice_get, slice_index, take, map as each};
 ghost use Rattle.std.specs.List.{filter};
 ghost use Rattle.radix_keys.specs.Networks.{Net};
 ghost use Rattle.frozen_routes.specs.Routes.{IsLongestRow, IsOwnRow, is_inside};
 ghost use Rattle.image_parts.specs.Parts.{row_count};
-ghost use Rattle.flat_routes.specs.Images.{IsImage, found_row, image_rows, link_in, network, of_ipv6, row6_of, row_in, row_size};
+ghost use Rattle.flat_routes.specs.Faults.{IsFault};
+ghost use Rattle.flat_routes.specs.Images.{IsImage, first_in, found_row, image_rows, link_in, network, of_ipv6, row6_of, row_in, row_size};
 
 use crate::head::plan_of;
 use crate::layout::{layout, next_row, put_cells, put_head};
 use crate::rows::{bits_at, first_at, link_at, value_at};
 use crate::search::find;
 use crate::{check, networks, search};
-use image_parts::{WriteError, put_u32, put_u64};
+use image_parts::{ImageError, WriteError, put_u32, put_u64};
 
 /// A row as it lies in an image, in 32 bytes: a network by its first address and how many bits its addresses share, the
 /// index and one more of the row of the network around it, or 0, and the network's value.
@@ -24,12 +25,25 @@ pub struct Row {
     pub value: u64,
 }
 
-/// Whether bytes are an image of IPv6 networks. It takes linear time, but for the climbs from each network, and from each
-/// value of the first bits, to the network around it.
+/// Whether bytes are an image of IPv6 networks; where they aren't, an error says why. It takes linear time, but for the
+/// climbs from each network, and from each value of the first bits, to the network around it.
+///
+/// # Errors
+///
+/// What is told is the first fault in the order of the reasons, but that a list that ends outside the bytes is told after
+/// the mark and the version.
+pub fn check(image: &[u8]) -> Result<(), ImageError>
+    ensures image { IsOk result ↔ IsImage of_ipv6 image.now }
+    ensures fault { IfErr result (IsFault of_ipv6 image.now) }
+{
+    check::check(image, true)
+}
+
+/// Whether bytes are an image of IPv6 networks. It takes the time of `check`.
 pub fn is_image(image: &[u8]) -> bool
     ensures { IsTrue result ↔ IsImage of_ipv6 image.now }
 {
-    check::is_image(image, true)
+    check(image).is_ok()
 }
 
 /// The count of rows. Of bytes that are no image it is some number.
@@ -119,6 +133,19 @@ pub fn below(image: &[u8], first: u128, bits: u32) -> (usize, usize)
         ≡ filter (is_inside 128 (λ n. n) (network first bits)) (image_rows of_ipv6 image.now) }
 {
     networks::below(image, true, first, bits)
+}
+
+/// The index of the row of the network around that of the row at an index: of the longest other one that holds it. It is
+/// None where no other one holds it, and where there is no such row. It takes constant time. Whatever the bytes are, a
+/// result is less than the index, so a walk upward ends.
+pub fn above(image: &[u8], at: usize) -> Option<usize>
+    ensures within { IfSome result (λ up. up < at) }
+    ensures past { row_count image.now ≤ at → IsNone result }
+    ensures row { IsImage of_ipv6 image.now → at < row_count image.now
+        → IsLongestRow 128 (λ n. n) (take at (image_rows of_ipv6 image.now))
+        (first_in of_ipv6 image.now at) (option_map (row_in of_ipv6 image.now) result) }
+{
+    search::above(image, true, at)
 }
 
 /// How many bytes the image of so many rows takes, as `write` lays it out, or None of 2^32 rows or more.
@@ -226,7 +253,7 @@ pub fn write(rows: &[Row], out: &mut [u8]) -> Result<(), WriteError>
     if !put_cells(out, true, plan.cells) {
         return Err(WriteError::Unsorted(count));
     }
-    if !check::is_image(out, true) || !are_rows(out, rows) {
+    if !is_image(out) || !are_rows(out, rows) {
         return Err(WriteError::Unsorted(count));
     }
     Ok(())

@@ -11,7 +11,7 @@ mod networks;
 mod rows;
 mod search;
 
-pub use image_parts::WriteError;
+pub use image_parts::{ImageError, WriteError, payload};
 
 #[cfg(test)]
 mod tests;

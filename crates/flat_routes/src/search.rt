@@ -1,8 +1,8 @@
 //! Searches in an image. Each is total: whatever the bytes are, it ends, and reads none but them.
-ghost use Rattle.std.specs.Prelude.{◌+◌, ◌-◌, ◌/◌, ◌<◌, ◌≤◌, ℕ, IfSome, option_map, slice_index};
+ghost use Rattle.std.specs.Prelude.{◌+◌, ◌-◌, ◌/◌, ◌<◌, ◌≤◌, ℕ, IfSome, IsNone, option_map, slice_index, take};
 ghost use Rattle.frozen_routes.specs.Routes.{AreUpTo, IsLastHolder, IsLongestRow};
 ghost use Rattle.image_parts.specs.Parts.{row_count};
-ghost use Rattle.flat_routes.specs.Images.{AreLinkedTo, IsImage, IsPlanOf, bases, found_row, image_rows, links, row_in, sizes, width};
+ghost use Rattle.flat_routes.specs.Images.{AreLinkedTo, IsImage, IsPlanOf, bases, first_in, found_row, image_rows, links, row_in, sizes, width};
 
 use crate::head::{Plan, plan_of};
 use crate::rows::{Cell, cell_at, first_at, holds_at, link_at};
@@ -132,4 +132,25 @@ pub(crate) fn look(image: &[u8], wide: bool, number: u128) -> Option<usize>
         return None;
     }
     Some(found - 1)
+}
+
+/// The index of the row of the longest network around that of the row at an index.
+pub(crate) fn above(image: &[u8], wide: bool, at: usize) -> Option<usize>
+    ensures within { IfSome result (λ up. up < at) }
+    ensures past { row_count image.now ≤ at → IsNone result }
+    ensures row { IsImage wide image.now → at < row_count image.now
+        → IsLongestRow (width wide) (λ n. n) (take at (image_rows wide image.now))
+        (first_in wide image.now at) (option_map (row_in wide image.now) result) }
+{
+    let Some(plan) = plan_of(image, wide) else {
+        return None;
+    };
+    if at >= plan.rows {
+        return None;
+    }
+    let link = link_at(image, wide, plan, at) as usize;
+    if link > at {
+        return None;
+    }
+    link.checked_sub(1)
 }

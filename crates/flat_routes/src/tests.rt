@@ -1,7 +1,7 @@
 //! Stored images, which tools of other languages made from docs/IMAGES.md, and what is found there.
 
 use crate::ipv4::Row;
-use crate::{WriteError, ipv4, ipv6};
+use crate::{ImageError, WriteError, ipv4, ipv6, payload};
 use std::alloc::Global;
 
 /// 10.0.0.0/8, 10.0.0.0/16, 10.1.0.0/16, 10.1.2.0/24, 128.0.0.0/2, 192.0.2.0/24 and 255.255.255.255/32, with cells by three
@@ -71,6 +71,10 @@ fn stored_image_of_ipv4(rt: HostRuntime) {
     );
     assert!(rt; ipv4::row_at(&IPV4, 3).is_some_and(|row| row.bits == 24 && row.value == 103));
     assert!(rt; ipv4::row_at(&IPV4, 7).is_none());
+    let around = [None, Some(0), Some(0), Some(2), None, None, None, None];
+    for (at, up) in around.iter().enumerate() {
+        assert!(rt; ipv4::above(&IPV4, at) == *up, "{at}");
+    }
 }
 
 #[test]
@@ -94,6 +98,7 @@ fn stored_image_of_ipv6(rt: HostRuntime) {
     );
     assert!(rt; ipv6::row_at(&IPV6, 4).is_some_and(|row| row.bits == 10 && row.value == 104));
     assert!(rt; ipv6::get(&IPV6, 0x2001_0db8 << 96, 48) == Some(2));
+    assert!(rt; ipv6::above(&IPV6, 3) == Some(2) && ipv6::above(&IPV6, 0).is_none());
     assert!(rt; ipv6::below(&IPV6, 0x2001_0db8 << 96, 32) == (1, 3));
 }
 
@@ -108,42 +113,68 @@ fn spoilt(at: usize, byte: u8) -> [u8; 277] {
 
 #[test]
 fn spoilt_images(rt: HostRuntime) {
-    const SPOILT: &'static [(usize, u8)] = &[
-        (0, 79),
-        (6, 0),
-        (7, 50),
-        (8, 6),
-        (12, 1),
-        (12, 255),
-        (16, 2),
-        (20, 1),
-        (24, 94),
-        (31, 1),
-        (32, 113),
-        (40, 3),
-        (44, 28),
-        (44, 128),
-        (48, 206),
-        (56, 80),
-        (63, 255),
-        (93, 1),
-        (97, 33),
-        (117, 0),
-        (117, 2),
-        (133, 3),
-        (205, 1),
-        (245, 4),
-        (249, 0),
-        (249, 6),
-        (269, 6),
-        (273, 7),
+    const SPOILT: &'static [(usize, u8, ImageError)] = &[
+        (0, 79, ImageError::Mark),
+        (6, 0, ImageError::Mark),
+        (7, 50, ImageError::Version),
+        (8, 6, ImageError::Part(0)),
+        (12, 0, ImageError::Part(0)),
+        (12, 1, ImageError::Part(1)),
+        (12, 255, ImageError::Short),
+        (16, 2, ImageError::Part(0)),
+        (20, 1, ImageError::Part(0)),
+        (24, 94, ImageError::Row(0)),
+        (31, 1, ImageError::Part(0)),
+        (32, 113, ImageError::Part(0)),
+        (40, 3, ImageError::Part(1)),
+        (44, 28, ImageError::Cell(5)),
+        (44, 128, ImageError::Part(1)),
+        (48, 206, ImageError::Part(1)),
+        (56, 71, ImageError::Part(1)),
+        (56, 80, ImageError::Part(1)),
+        (63, 255, ImageError::Part(1)),
+        (93, 1, ImageError::Row(0)),
+        (97, 33, ImageError::Row(0)),
+        (113, 8, ImageError::Row(1)),
+        (117, 0, ImageError::Row(1)),
+        (117, 2, ImageError::Row(1)),
+        (133, 3, ImageError::Row(2)),
+        (205, 1, ImageError::Cell(0)),
+        (245, 4, ImageError::Cell(5)),
+        (249, 0, ImageError::Cell(5)),
+        (249, 6, ImageError::Cell(5)),
+        (269, 6, ImageError::Cell(8)),
+        (273, 7, ImageError::Cell(8)),
     ];
+    for (at, byte, error) in SPOILT {
+        assert!(rt;
+            ipv4::check(&spoilt(*at, *byte)) == Err(*error),
+            "{at} {byte}"
+        );
+    }
+}
+
+#[test]
+fn cut_images(rt: HostRuntime) {
+    // The list ends at 88, the rows at 205, and the cells with the image.
     for end in 0..IPV4.len() {
-        assert!(rt; !ipv4::is_image(&IPV4[..end]), "{end}");
+        let error = match end {
+            0..88 => ImageError::Short,
+            88..205 => ImageError::Part(0),
+            _ => ImageError::Part(1),
+        };
+        assert!(rt; ipv4::check(&IPV4[..end]) == Err(error), "{end}");
     }
-    for (at, byte) in SPOILT {
-        assert!(rt; !ipv4::is_image(&spoilt(*at, *byte)), "{at} {byte}");
-    }
+}
+
+#[test]
+fn payloads(rt: HostRuntime) {
+    assert!(rt; payload(&IPV4) == Some((88, 5)));
+    assert!(rt; payload(&IPV4[..93]) == Some((88, 5)));
+    assert!(rt; payload(&IPV4[..92]).is_none());
+    assert!(rt; payload(&IPV6).is_none() && payload(&[]).is_none());
+    assert!(rt; payload(&spoilt(40, 3)) == Some((205, 72)));
+    assert!(rt; payload(&spoilt(79, 1)).is_none());
 }
 
 #[test]

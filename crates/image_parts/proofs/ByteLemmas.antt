@@ -2,7 +2,7 @@
 use Rattle.std.proofs.Common.{◌≡◌, ℕ, zero, suc, ◌+◌, ◌^◌, ◌<◌, ◌≤◌, inl, inr, List, [], ◌∷◌, ◌++◌, Some, None, length, slice_get, slice_index, take, drop, Fits, w8, refl, ap, sym, subst, ◌∙◌, arith}
 use Rattle.std.specs.Int.{w32, w64, from_le_bytes, to_le_bytes}
 use Rattle.std.proofs.lemmas.Bool.{cases_lt}
-use Rattle.std.proofs.lemmas.List.{drop_more, length-append}
+use Rattle.std.proofs.lemmas.List.{drop_more, length-append, take-append-le, take_all}
 use Rattle.std.proofs.lemmas.Nat.{from_le_bytes-to_le_bytes_4, from_le_bytes-to_le_bytes_8}
 use Rattle.image_parts.specs.Parts.{listed, u32_in, u64_in}
 
@@ -136,4 +136,15 @@ pub listed_is : {X : Type 0} (f : ℕ → X) (n i : ℕ) (x : X) → slice_get (
 listed_is f n i x at = elim (cases_lt i n) [
   | inl lt ↦ (lt, let own = listed_at f n i lt in cc (own, at))
   | inr ge ↦ absurd (past (listed f n) i x (omega (arith, ge, length-listed f n)) at)
+]
+
+-- the first ones are fewer that are listed
+pub take_listed : {X : Type 0} (f : ℕ → X) (m n : ℕ) → m ≤ n → take m (listed f n) ≡ listed f m
+unfolding listed
+take_listed f m zero le = let none : m ≡ 0 = omega (arith, le) in subst (λ k. take k (listed f zero) ≡ listed f k) (sym none) refl
+take_listed f m (suc n) le = elim (cases_lt m (suc n)) [
+  | inl lt ↦ take-append-le m (listed f n) (f n ∷ []) (omega (arith, lt, length-listed f n)) ∙ take_listed f m n (omega (arith, lt))
+  | inr ge ↦
+      let same : m ≡ suc n = omega (arith, le, ge) in
+      subst (λ k. take k (listed f (suc n)) ≡ listed f k) (sym same) (take_all (suc n) (listed f (suc n)) (omega (arith, length-listed f (suc n))))
 ]

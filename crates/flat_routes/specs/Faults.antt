@@ -1,0 +1,58 @@
+-- Why bytes are no image of a routing table.
+use Rattle.std.specs.Prelude.{◌≡◌, ◌≢◌, ℕ, zero, suc, ◌+◌, ◌*◌, ◌%◌, ◌^◌, ◌<◌, ◌⊎◌, Bool, List, length}
+use Rattle.image_parts.specs.declared.errors.ImageError.{ImageError}
+use Rattle.image_parts.specs.declared.errors.ImageError.TheVariants.{Short, Mark, Version, Part, Row, Cell}
+use Rattle.image_parts.specs.Parts.{IsListed, part_count, row_count, u32_in, u64_in}
+use Rattle.frozen_routes.specs.Routes.{IsTopCell}
+use Rattle.flat_routes.specs.Images.{AreLinkedTo, bases, cell_count, cell_in, links, mark, rest_of, row_size, sizes, width}
+
+-- the number of the first 7 of 8 bytes, which tell the family
+abbrev pub family : ℕ → ℕ
+family n = n % 2 ^ 56
+
+-- the part listed first is that of the rows
+pub record IsRowsPart (wide : Bool) (bs : List ℕ) : Type 0 where
+  pub listed : IsListed bs 16 1
+  pub plain : u32_in bs 20 ≡ 0
+  pub size : u64_in bs 32 ≡ row_size wide * row_count bs
+
+-- the part listed second is that of the cells
+pub record IsCellsPart (bs : List ℕ) : Type 0 where
+  pub listed : IsListed bs 40 2
+  pub shift : rest_of bs < 128
+  pub whole : u64_in bs 56 ≡ 8 * cell_count bs
+
+-- the part listed at the index i is the one that an image has there
+abbrev pub IsPart : Bool → List ℕ → ℕ → Type 0
+IsPart wide bs zero = IsRowsPart wide bs
+IsPart wide bs (suc i) = IsCellsPart bs
+
+-- the first n rows are of networks that rise, and have their links
+abbrev pub AreRowsRight : Bool → List ℕ → ℕ → Type 0
+AreRowsRight wide bs n = AreLinkedTo (width wide) (bases wide bs) (sizes wide bs) (links wide bs) n
+
+-- the cell at t is right
+abbrev pub IsCellRight : Bool → List ℕ → ℕ → Type 0
+IsCellRight wide bs t = IsTopCell (rest_of bs) (width wide) (bases wide bs) (sizes wide bs) t (cell_in bs t)
+
+-- the row at i is the first that isn't right
+pub record IsFirstWrongRow (wide : Bool) (bs : List ℕ) (i : ℕ) : Type 0 where
+  pub within : i < row_count bs
+  pub before : AreRowsRight wide bs i
+  pub wrong : AreRowsRight wide bs (i + 1) → ⊥
+
+-- the cell at t is the first that isn't right; all rows are
+pub record IsFirstWrongCell (wide : Bool) (bs : List ℕ) (t : ℕ) : Type 0 where
+  pub within : t < cell_count bs
+  pub rows : AreRowsRight wide bs (row_count bs)
+  pub before : (s : ℕ) → s < t → IsCellRight wide bs s
+  pub wrong : IsCellRight wide bs t → ⊥
+
+-- the error says what is wrong
+abbrev pub IsFault : Bool → List ℕ → ImageError → Type 0
+IsFault wide bs Short = (length bs < 64) ⊎ (length bs < 16 + 24 * part_count bs)
+IsFault wide bs Mark = family (u64_in bs 0) ≢ family (mark wide)
+IsFault wide bs Version = (family (u64_in bs 0) ≡ family (mark wide)) × (u64_in bs 0 ≢ mark wide)
+IsFault wide bs (Part i) = (i < 2) × (i < part_count bs → IsPart wide bs i → ⊥)
+IsFault wide bs (Row i) = IsFirstWrongRow wide bs i
+IsFault wide bs (Cell t) = IsFirstWrongCell wide bs t

@@ -1,0 +1,5 @@
+-- The lemmas, in the order in which they are read.
+-- The first bytes of keys as numbers, and which order they tell.
+pub mod HeadLemmas
+-- What stands in an image, and what it says of the keys.
+pub mod ImageLemmas

@@ -1,0 +1,138 @@
+-- A map from byte strings to numbers, laid into one run of bytes: what stands there, and when the bytes are such a map.
+use Rattle.std.specs.Prelude.{◌≡◌, ℕ, zero, suc, ◌+◌, ◌-◌, ◌*◌, ◌/◌, ◌^◌, ◌<◌, ◌≤◌, Bool, true, false, List, codes, drop, length, take}
+use Rattle.std.specs.Int.{w64, from_le_bytes}
+use Rattle.nibble_map.specs.Lists.{IsBefore, IsPrefix}
+use Rattle.nibble_map.specs.Nibbles.{nibbles}
+use Rattle.sorted_tables.specs.Tables.{IsLastOf}
+use Rattle.frozen_trie.specs.Heads.{IsTop, head_padded}
+use Rattle.frozen_trie.specs.Laid.{piece_of}
+use Rattle.image_parts.specs.Parts.{IsListed, listed, part_count, row_count, u32_in, u64_in}
+use Rattle.flat_texts.specs.declared.head.Plan.{Plan}
+
+-- the number of the first 8 bytes of an image
+abbrev pub text_mark : ℕ
+text_mark = from_le_bytes w64 (codes "NZTEXT.1")
+
+-- where the heads begin
+abbrev pub heads_place : List ℕ → ℕ
+heads_place bs = u64_in bs 24
+
+-- where the pairs begin
+abbrev pub pairs_place : List ℕ → ℕ
+pairs_place bs = u64_in bs 48
+
+-- where the counts begin
+abbrev pub counts_place : List ℕ → ℕ
+counts_place bs = u64_in bs 72
+
+-- how many counts there are
+abbrev pub counts_listed : List ℕ → ℕ
+counts_listed bs = u64_in bs 80 / 4
+
+-- where the keys' bytes begin
+abbrev pub keys_place : List ℕ → ℕ
+keys_place bs = u64_in bs 96
+
+-- how many there are
+abbrev pub keys_size : List ℕ → ℕ
+keys_size bs = u64_in bs 104
+
+-- the head at i
+abbrev pub stored_head : List ℕ → ℕ → ℕ
+stored_head bs i = u64_in bs (heads_place bs + 8 * i)
+
+-- where the key at i ends among the keys' bytes
+abbrev pub key_end : List ℕ → ℕ → ℕ
+key_end bs i = u32_in bs (pairs_place bs + 16 * i)
+
+-- where it begins
+abbrev pub key_start : List ℕ → ℕ → ℕ
+key_start bs zero = 0
+key_start bs (suc i) = key_end bs i
+
+-- its link
+abbrev pub stored_link : List ℕ → ℕ → ℕ
+stored_link bs i = u32_in bs (pairs_place bs + 16 * i + 4)
+
+-- its value
+abbrev pub stored_value : List ℕ → ℕ → ℕ
+stored_value bs i = u64_in bs (pairs_place bs + 16 * i + 8)
+
+-- the count at t
+abbrev pub stored_count : List ℕ → ℕ → ℕ
+stored_count bs t = u32_in bs (counts_place bs + 4 * t)
+
+-- the keys' bytes, one behind the other
+abbrev pub key_bytes : List ℕ → List ℕ
+key_bytes bs = take (keys_size bs) (drop (keys_place bs) bs)
+
+-- the key at i
+abbrev pub key_in : List ℕ → ℕ → List ℕ
+key_in bs i = piece_of (key_bytes bs) (key_start bs i) (key_end bs i)
+
+-- its nibbles
+abbrev pub key_code : List ℕ → ℕ → List ℕ
+key_code bs i = nibbles (key_in bs i)
+
+-- those of all keys
+abbrev pub key_codes : List ℕ → List (List ℕ)
+key_codes bs = listed (key_code bs) (row_count bs)
+
+-- the first 8 bytes of a key as a number, the first the highest, with a zero for each that it lacks
+abbrev pub key_head : List ℕ → ℕ
+key_head key = head_padded 0 16 (nibbles key)
+
+-- the same of what is searched for, by its nibbles; where the search is one through it, with 15 for each that it lacks
+abbrev pub key_bound : Bool → List ℕ → ℕ
+key_bound false q = head_padded 0 16 q
+key_bound true q = head_padded 15 16 q
+
+-- the heads
+abbrev pub stored_heads : List ℕ → List ℕ
+stored_heads bs = listed (stored_head bs) (row_count bs)
+
+-- the head is of this version, and lists the heads, the pairs, the counts and the keys' bytes first
+pub record HasTextHead (bs : List ℕ) : Type 0 where
+  pub marked : u64_in bs 0 ≡ text_mark
+  pub some : 4 ≤ part_count bs
+  pub fits : 16 + 24 * part_count bs ≤ length bs
+  pub heads : IsListed bs 16 4
+  pub heads_size : u64_in bs 32 ≡ 8 * row_count bs
+  pub pairs : IsListed bs 40 5
+  pub pairs_size : u64_in bs 56 ≡ 16 * row_count bs
+  pub counts : IsListed bs 64 6
+  pub keys : IsListed bs 88 7
+
+-- a plan says what the head says
+pub record IsTextPlan (bs : List ℕ) (plan : Plan) : Type 0 where
+  pub head : HasTextHead bs
+  pub pairs : plan.pairs ≡ row_count bs
+  pub few : plan.pairs < 2 ^ 32
+  pub heads_at : plan.heads_at ≡ heads_place bs
+  pub pairs_at : plan.pairs_at ≡ pairs_place bs
+  pub counts : plan.counts ≡ counts_listed bs
+  pub counts_at : plan.counts_at ≡ counts_place bs
+  pub keys_at : plan.keys_at ≡ keys_place bs
+  pub keys_len : plan.keys_len ≡ keys_size bs
+
+-- the pair at i ends at or behind where it begins, among the keys' bytes; it has the head of its key, which comes after the
+-- one before it; and its link leads to the last earlier key that is a prefix of its own
+pub record IsRightPair (bs : List ℕ) (i : ℕ) : Type 0 where
+  pub order : key_start bs i ≤ key_end bs i
+  pub within : key_end bs i ≤ keys_size bs
+  pub head : stored_head bs i ≡ key_head (key_in bs i)
+  pub after : 0 < i → IsBefore (key_code bs (i - 1)) (key_code bs i)
+  pub link : IsLastOf (λ k. IsPrefix (key_code bs k) (key_code bs i)) i (stored_link bs i)
+
+-- the first n pairs are right
+abbrev pub AreRightPairs : List ℕ → ℕ → Type 0
+AreRightPairs bs n = (i : ℕ) → i < n → IsRightPair bs i
+
+-- the bytes are an image: the first four parts have no detail, the counts fill theirs, each pair is right, and each count says
+-- how many heads are below its index times 2 to the 48
+pub record IsTextImage (bs : List ℕ) : Type 0 where
+  pub head : HasTextHead bs
+  pub plain : (u32_in bs 20 ≡ 0) × (u32_in bs 44 ≡ 0) × (u32_in bs 68 ≡ 0) × (u32_in bs 92 ≡ 0)
+  pub whole : u64_in bs 80 ≡ 4 * counts_listed bs
+  pub pairs : AreRightPairs bs (row_count bs)
+  pub counts : (t : ℕ) → t < counts_listed bs → IsTop (stored_heads bs) t (stored_count bs t)

@@ -1,5 +1,5 @@
 -- What stands in an image, and what it says of the keys.
-use Rattle.std.proofs.Common.{◌≡◌, ℕ, zero, suc, ◌+◌, ◌-◌, ◌*◌, ◌^◌, ◌<◌, ◌≤◌, inl, inr, Bool, true, false, List, [], ◌∷◌, length, take, drop, get_or, refl, sym, ap, subst, ◌∙◌, arith}
+use Rattle.std.proofs.Common.{◌≡◌, ℕ, zero, suc, ◌+◌, ◌-◌, ◌*◌, ◌^◌, ◌<◌, ◌≤◌, inl, inr, Bool, true, false, List, [], ◌∷◌, length, take, drop, get_or, sym, ap, subst, ◌∙◌, arith}
 use Rattle.std.proofs.lemmas.Bool.{cases_lt}
 use Rattle.std.proofs.lemmas.List.{get_or-drop, get_or-take, get_or_past, length-take}
 use Rattle.std.proofs.lemmas.Option.{get_or_from_slice_get}
@@ -9,9 +9,12 @@ use Rattle.nibble_map.proofs.TreeLemmas.SomePrefixes.{before_through}
 use Rattle.frozen_trie.specs.Codes.{IsLastPrefix, IsSide, code_at, is_in_front}
 use Rattle.sorted_tables.specs.Tables.{IsLastOf}
 use Rattle.sorted_tables.proofs.TableLemmas.Links.{last_of_same}
+use Rattle.radix_keys.proofs.KeyLemmas.Order.{three_ways}
+use Rattle.frozen_trie.specs.Heads.{IsTop}
+use Rattle.frozen_trie.proofs.CodeLemmas.Heads.{head-before}
 use Rattle.image_parts.specs.Parts.{listed, row_count}
 use Rattle.image_parts.proofs.ByteLemmas.{length-listed, listed_at}
-use Rattle.flat_texts.specs.TextImages.{AreRightPairs, IsTextImage, counts_listed, key_bound, key_bytes, key_code, key_codes, key_end, key_head, key_in, key_start, keys_place, keys_size, stored_count, stored_head}
+use Rattle.flat_texts.specs.TextImages.{AreRightPairs, IsTextImage, counts_listed, key_bound, key_bytes, key_code, key_codes, key_end, key_head, key_in, key_start, keys_place, keys_size, stored_count, stored_head, stored_heads}
 use Rattle.flat_texts.proofs.HeadLemmas.{behind_by_head, front_by_head, nibbles_fit, other_by_head}
 
 -- parts of bytes are bytes
@@ -119,3 +122,56 @@ last_of_codes bs n r q within last = last_of_same (λ k. IsPrefix (key_code bs k
       λ p. subst (λ x. IsPrefix x q) (sym same) p,
       λ p. subst (λ x. IsPrefix x q) same p,
     )) last
+
+-- heads of right pairs don't fall
+pub heads_rise : (bs : List ℕ) (n i j : ℕ) → ((k : ℕ) → get_or bs k 0 < 256) → AreRightPairs bs n → i ≤ j → j < n → stored_head bs i ≤ stored_head bs j
+heads_rise bs n i j fits right l m = elim (cases_lt i j) [
+  | inl lt ↦
+      let le = head-before 0 16 (key_code bs i) (key_code bs j) (λ k _. code_fits bs fits i k) (code_before bs n i j right lt m) in
+      omega (arith, le, (right i (omega (arith, lt, m))).head, (right j m).head)
+  | inr ge ↦ let same : i ≡ j = omega (arith, l, ge) in let e = ap (stored_head bs) same in omega (arith, e)
+]
+
+-- the keys of right pairs come before one that comes after the last of them
+pub before_next : (bs : List ℕ) (n : ℕ) → AreRightPairs bs n → (0 < n → IsBefore (key_code bs (n - 1)) (key_code bs n)) → (k : ℕ) → k < n → IsBefore (key_code bs k) (key_code bs n)
+before_next bs n right after k l = elim (cases_lt k (n - 1)) [
+  | inl lt ↦ before_through (key_code bs k) (key_code bs (n - 1)) (key_code bs n) (code_before bs n k (n - 1) right lt (omega (arith, l))) (after (omega (arith, l)))
+  | inr ge ↦ let same : n - 1 ≡ k = omega (arith, l, ge) in subst (λ j. IsBefore (key_code bs j) (key_code bs n)) same (after (omega (arith, l)))
+]
+
+-- there is one last of those that are sought
+pub one_last : (P : ℕ → Type 0) (n r s : ℕ) → IsLastOf P n r → IsLastOf P n s → r ≡ s
+one_last P n r s x y = elim (three_ways r s) [
+  | inl lt ↦ absurd (x.none (s - 1) (omega (arith, lt)) (let le = y.within in omega (arith, lt, le)) (y.holds (omega (arith, lt))))
+  | inr (inl e) ↦ e
+  | inr (inr gt) ↦ absurd (y.none (r - 1) (omega (arith, gt)) (let le = x.within in omega (arith, gt, le)) (x.holds (omega (arith, gt))))
+]
+
+-- a count is right where the heads at its sides bear it out
+pub count_right : (bs : List ℕ) (t c : ℕ) → c ≡ stored_count bs t → c ≤ row_count bs → ((k : ℕ) → k < c → stored_head bs k < t * 2 ^ 48)
+    → ((k : ℕ) → c ≤ k → k < row_count bs → t * 2 ^ 48 ≤ stored_head bs k) → IsTop (stored_heads bs) t (stored_count bs t)
+count_right bs t c is within below from = record {
+  within = omega (arith, within, is, length-listed (stored_head bs) (row_count bs));
+  below = λ k l.
+      let less = below k (omega (arith, l, is)) in
+      omega (arith, less, listed_read (stored_head bs) (row_count bs) k 0 (omega (arith, l, is, within)));
+  others = λ k l m.
+      let inside : k < row_count bs = omega (arith, m, length-listed (stored_head bs) (row_count bs)) in
+      let least = from k (omega (arith, l, is)) inside in
+      omega (arith, least, listed_read (stored_head bs) (row_count bs) k 0 inside);
+}
+
+-- and bears out those
+module _ (bs : List ℕ) (t c : ℕ) (is : c ≡ stored_count bs t) (top : IsTop (stored_heads bs) t (stored_count bs t)) where
+  pub right_within : c ≤ row_count bs
+  right_within = omega (arith, top.within, is, length-listed (stored_head bs) (row_count bs))
+
+  pub right_below : (k : ℕ) → k < c → stored_head bs k < t * 2 ^ 48
+  right_below k l =
+      let less = top.below k (omega (arith, l, is)) in
+      omega (arith, less, listed_read (stored_head bs) (row_count bs) k 0 (omega (arith, l, right_within)))
+
+  pub right_from : (k : ℕ) → c ≤ k → k < row_count bs → t * 2 ^ 48 ≤ stored_head bs k
+  right_from k l m =
+      let least = top.others k (omega (arith, l, is)) (omega (arith, m, length-listed (stored_head bs) (row_count bs))) in
+      omega (arith, least, listed_read (stored_head bs) (row_count bs) k 0 m)

@@ -1,11 +1,13 @@
 -- A map from byte strings to numbers, laid into one run of bytes: what stands there, and when the bytes are such a map.
-use Rattle.std.specs.Prelude.{◌≡◌, ℕ, zero, suc, ◌+◌, ◌-◌, ◌*◌, ◌/◌, ◌^◌, ◌<◌, ◌≤◌, Bool, true, false, List, codes, drop, length, take}
+use Rattle.std.specs.Prelude.{◌≡◌, ◌≢◌, ℕ, zero, suc, ◌+◌, ◌-◌, ◌*◌, ◌/◌, ◌%◌, ◌^◌, ◌<◌, ◌≤◌, ◌⊎◌, Bool, true, false, List, codes, drop, length, take}
 use Rattle.std.specs.Int.{w64, from_le_bytes}
 use Rattle.nibble_map.specs.Lists.{IsBefore, IsPrefix}
 use Rattle.nibble_map.specs.Nibbles.{nibbles}
 use Rattle.sorted_tables.specs.Tables.{IsLastOf}
 use Rattle.frozen_trie.specs.Heads.{IsTop, head_padded}
 use Rattle.frozen_trie.specs.Laid.{piece_of}
+use Rattle.image_parts.specs.declared.errors.ImageError.{ImageError}
+use Rattle.image_parts.specs.declared.errors.ImageError.TheVariants.{Cell, Mark, Part, Row, Short, Version}
 use Rattle.image_parts.specs.Parts.{IsListed, listed, part_count, row_count, u32_in, u64_in}
 use Rattle.flat_texts.specs.declared.head.Plan.{Plan}
 
@@ -128,11 +130,28 @@ pub record IsRightPair (bs : List ℕ) (i : ℕ) : Type 0 where
 abbrev pub AreRightPairs : List ℕ → ℕ → Type 0
 AreRightPairs bs n = (i : ℕ) → i < n → IsRightPair bs i
 
--- the bytes are an image: the first four parts have no detail, the counts fill theirs, each pair is right, and each count says
--- how many heads are below its index times 2 to the 48
+-- the first four parts have no detail, and the counts fill theirs
+pub record HasNoRest (bs : List ℕ) : Type 0 where
+  pub heads : u32_in bs 20 ≡ 0
+  pub pairs : u32_in bs 44 ≡ 0
+  pub counts : u32_in bs 68 ≡ 0
+  pub whole : u64_in bs 80 ≡ 4 * counts_listed bs
+  pub keys : u32_in bs 92 ≡ 0
+
+-- the bytes are an image: head and parts are such, each pair is right, and each count says how many heads are below its index
+-- times 2 to the 48
 pub record IsTextImage (bs : List ℕ) : Type 0 where
   pub head : HasTextHead bs
-  pub plain : (u32_in bs 20 ≡ 0) × (u32_in bs 44 ≡ 0) × (u32_in bs 68 ≡ 0) × (u32_in bs 92 ≡ 0)
-  pub whole : u64_in bs 80 ≡ 4 * counts_listed bs
+  pub parts : HasNoRest bs
   pub pairs : AreRightPairs bs (row_count bs)
   pub counts : (t : ℕ) → t < counts_listed bs → IsTop (stored_heads bs) t (stored_count bs t)
+
+-- so many bytes aren't enough for the head and the list of the parts, or the first 8 bytes are others, or of another version;
+-- one of the first four parts isn't as it must be; or this is the first pair, or count, that isn't right
+abbrev pub IsImageFault : List ℕ → ImageError → Type 0
+IsImageFault bs Short = (length bs < 112) ⊎ (length bs < 16 + 24 * part_count bs)
+IsImageFault bs Mark = u64_in bs 0 % 2 ^ 56 ≢ text_mark % 2 ^ 56
+IsImageFault bs Version = (u64_in bs 0 % 2 ^ 56 ≡ text_mark % 2 ^ 56) × (u64_in bs 0 ≢ text_mark)
+IsImageFault bs (Part i) = i < 4
+IsImageFault bs (Row i) = (i < row_count bs) × AreRightPairs bs i × (IsRightPair bs i → ⊥)
+IsImageFault bs (Cell t) = (t < counts_listed bs) × (IsTop (stored_heads bs) t (stored_count bs t) → ⊥)

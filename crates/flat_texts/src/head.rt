@@ -1,9 +1,9 @@
 //! The head of an image, and where its parts lie.
-ghost use Rattle.std.specs.Prelude.{◌≡◌, ◌↔◌, ◌+◌, ◌*◌, ◌≤◌, MatchOption, IsTrue, length};
+ghost use Rattle.std.specs.Prelude.{◌≡◌, ◌≢◌, ◌+◌, ◌*◌, ◌%◌, ◌^◌, ◌≤◌, IfErr, IfOk, length};
 ghost use Rattle.image_parts.specs.Parts.{part_count, u64_in};
-ghost use Rattle.flat_texts.specs.TextImages.{HasTextHead, IsTextPlan, text_mark};
+ghost use Rattle.flat_texts.specs.TextImages.{HasTextHead, IsImageFault, IsTextPlan, text_mark};
 
-use image_parts::{part_at, u32_at, u64_at};
+use image_parts::{ImageError, part_at, u32_at, u64_at};
 
 /// Where the parts of an image lie.
 #[derive(Clone, Copy)]
@@ -32,47 +32,82 @@ pub(crate) fn mark() -> u64
     u64::from_le_bytes(*b"NZTEXT.1")
 }
 
-/// Whether the bytes begin as an image does, with room for a list of four parts or more.
-#[inline(always)]
-fn is_marked(image: &[u8]) -> bool
-    requires { 112 ≤ length image.now }
-    ensures { IsTrue result ↔ ((u64_in image.now 0 ≡ text_mark) × (4 ≤ part_count image.now)
-        × (16 + 24 * part_count image.now ≤ length image.now)) }
+/// Why bytes that begin with another number are no image: they are of another version where the number's last 7 bytes are
+/// the same.
+fn other_mark(own: u64) -> ImageError
+    requires { own ≢ text_mark }
+    ensures version { result ≡ ImageError.Version → own % 2 ^ 56 ≡ text_mark % 2 ^ 56 }
+    ensures mark { result ≢ ImageError.Version
+        → (result ≡ ImageError.Mark) × (own % 2 ^ 56 ≢ text_mark % 2 ^ 56) }
 {
-    let own = u64_at(image, 0);
-    let parts = u32_at(image, 12) as usize;
-    if parts < 4 || 16 + 24 * parts > image.len() {
-        return false;
+    if own % (1 << 56) == mark() % (1 << 56) {
+        return ImageError::Version;
     }
-    own == mark()
+    ImageError::Mark
 }
 
-/// Where the parts of an image lie, or None where the head is none.
+/// Where the parts of an image lie.
+///
+/// # Errors
+///
+/// The head is none, or doesn't list the parts.
 #[inline(always)]
-pub(crate) fn plan_of(image: &[u8]) -> Option<Plan>
-    ensures { MatchOption result (HasTextHead image.now → ⊥)
-        (λ plan. IsTextPlan image.now plan) }
+pub(crate) fn plan_of(image: &[u8]) -> Result<Plan, ImageError>
+    ensures plan { IfOk result (λ plan. IsTextPlan image.now plan) }
+    ensures refused { IfErr result (λ _. HasTextHead image.now → ⊥) }
+    ensures fault { IfErr result (λ e. IsImageFault image.now e) }
 {
-    if image.len() < 112 || !is_marked(image) {
-        return None;
+    if image.len() < 112 {
+        return Err(ImageError::Short);
     }
+    let own = u64_at(image, 0);
+    if own != mark() {
+        return Err(other_mark(own));
+    }
+    let parts = u32_at(image, 12) as usize;
+    if parts < 4 {
+        return Err(ImageError::Part(parts));
+    }
+    if 16 + 24 * parts > image.len() {
+        return Err(ImageError::Short);
+    }
+    parts_of(image)
+}
+
+/// The same where the list of the parts is inside the bytes.
+///
+/// # Errors
+///
+/// A part isn't listed where it has to be.
+#[inline(always)]
+fn parts_of(image: &[u8]) -> Result<Plan, ImageError>
+    requires marked { u64_in image.now 0 ≡ text_mark }
+    requires some { 4 ≤ part_count image.now }
+    requires fits { 16 + 24 * part_count image.now ≤ length image.now }
+    ensures plan { IfOk result (λ plan. IsTextPlan image.now plan) }
+    ensures refused { IfErr result (λ _. HasTextHead image.now → ⊥) }
+    ensures fault { IfErr result (λ e. IsImageFault image.now e) }
+{
     let Some((heads_at, heads_len)) = part_at(image, 16, 4) else {
-        return None;
+        return Err(ImageError::Part(0));
     };
     let Some((pairs_at, pairs_len)) = part_at(image, 40, 5) else {
-        return None;
+        return Err(ImageError::Part(1));
     };
     let Some((counts_at, counts_len)) = part_at(image, 64, 6) else {
-        return None;
+        return Err(ImageError::Part(2));
     };
     let Some((keys_at, keys_len)) = part_at(image, 88, 7) else {
-        return None;
+        return Err(ImageError::Part(3));
     };
     let pairs = u32_at(image, 8) as usize;
-    if heads_len != 8 * pairs || pairs_len != 16 * pairs {
-        return None;
+    if heads_len != 8 * pairs {
+        return Err(ImageError::Part(0));
     }
-    Some(Plan {
+    if pairs_len != 16 * pairs {
+        return Err(ImageError::Part(1));
+    }
+    Ok(Plan {
         pairs,
         heads_at,
         pairs_at,

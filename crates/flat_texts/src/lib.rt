@@ -2,6 +2,7 @@
 //! mapped, or of any other memory.
 #![tactic(auto)]
 
+mod check;
 mod head;
 mod heads;
 mod pairs;

@@ -3,3 +3,5 @@
 pub mod HeadLemmas
 -- What stands in an image, and what it says of the keys.
 pub mod ImageLemmas
+-- Pairs that are to be written.
+pub mod WriteLemmas

@@ -1,5 +1,5 @@
 -- A map from byte strings to numbers, laid into one run of bytes: what stands there, and when the bytes are such a map.
-use Rattle.std.specs.Prelude.{◌≡◌, ◌≢◌, ℕ, zero, suc, ◌+◌, ◌-◌, ◌*◌, ◌/◌, ◌%◌, ◌^◌, ◌<◌, ◌≤◌, ◌⊎◌, Bool, true, false, List, codes, drop, length, take}
+use Rattle.std.specs.Prelude.{◌≡◌, ◌≢◌, ℕ, zero, suc, ◌+◌, ◌-◌, ◌*◌, ◌/◌, ◌%◌, ◌^◌, ◌<◌, ◌≤◌, ◌⊎◌, Bool, true, false, List, [], if◌then◌else◌, codes, drop, length, nat_lt, slice_index_or, sum_by, take, map as each}
 use Rattle.std.specs.Int.{w64, from_le_bytes}
 use Rattle.nibble_map.specs.Lists.{IsBefore, IsPrefix}
 use Rattle.nibble_map.specs.Nibbles.{nibbles}
@@ -10,6 +10,7 @@ use Rattle.image_parts.specs.declared.errors.ImageError.{ImageError}
 use Rattle.image_parts.specs.declared.errors.ImageError.TheVariants.{Cell, Mark, Part, Row, Short, Version}
 use Rattle.image_parts.specs.Parts.{IsListed, listed, part_count, row_count, u32_in, u64_in}
 use Rattle.flat_texts.specs.declared.head.Plan.{Plan}
+use Rattle.flat_texts.specs.declared.pair.Pair.{Pair}
 
 -- the number of the first 8 bytes of an image
 abbrev pub text_mark : ℕ
@@ -72,7 +73,15 @@ key_bytes bs = take (keys_size bs) (drop (keys_place bs) bs)
 abbrev pub key_in : List ℕ → ℕ → List ℕ
 key_in bs i = piece_of (key_bytes bs) (key_start bs i) (key_end bs i)
 
--- its nibbles
+-- the pair at i
+abbrev pub pair_in : List ℕ → ℕ → List ℕ × ℕ
+pair_in bs i = (key_in bs i, stored_value bs i)
+
+-- the pairs of an image
+abbrev pub image_pairs : List ℕ → List (List ℕ × ℕ)
+image_pairs bs = listed (pair_in bs) (row_count bs)
+
+-- the nibbles of the key at i
 abbrev pub key_code : List ℕ → ℕ → List ℕ
 key_code bs i = nibbles (key_in bs i)
 
@@ -155,3 +164,28 @@ IsImageFault bs Version = (u64_in bs 0 % 2 ^ 56 ≡ text_mark % 2 ^ 56) × (u64_
 IsImageFault bs (Part i) = i < 4
 IsImageFault bs (Row i) = (i < row_count bs) × AreRightPairs bs i × (IsRightPair bs i → ⊥)
 IsImageFault bs (Cell t) = (t < counts_listed bs) × (IsTop (stored_heads bs) t (stored_count bs t) → ⊥)
+
+-- a pair as the calls take and give it
+abbrev pub pair_of : Pair → List ℕ × ℕ
+pair_of p = (p.key.now, p.value)
+
+-- the key of the pair at i
+abbrev pub key_of : List Pair → ℕ → List ℕ
+key_of ps i = slice_index_or (each (λ p. p.key.now) ps) i []
+
+-- how many bytes the keys of pairs have
+abbrev pub keys_len : List Pair → ℕ
+keys_len ps = sum_by (λ p. length p.key.now) ps
+
+-- how many bytes the counts of so many pairs take, as they are written
+abbrev pub counts_size : ℕ → ℕ
+counts_size n = if nat_lt n 65536 then 0 else 262148
+
+-- how many bytes an image takes, as it is written
+abbrev pub image_size : List Pair → ℕ
+image_size ps = 112 + 24 * length ps + counts_size (length ps) + keys_len ps
+
+-- the key at i doesn't come after the one before it
+abbrev pub IsUnsorted : List Pair → ℕ → Type 0
+IsUnsorted ps i = (0 < i) × (i < length ps)
+    × (IsBefore (nibbles (key_of ps (i - 1))) (nibbles (key_of ps i)) → ⊥)

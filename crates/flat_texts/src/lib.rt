@@ -2,8 +2,16 @@
 //! mapped, or of any other memory.
 #![tactic(auto)]
 
-mod check;
+mod checking;
 mod head;
 mod heads;
+mod layout;
+mod pair;
 mod pairs;
 mod search;
+mod writing;
+
+pub use checking::check;
+pub use image_parts::{ImageError, WriteError};
+pub use pair::Pair;
+pub use writing::{image_len, write};

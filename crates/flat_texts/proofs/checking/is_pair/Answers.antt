@@ -5,7 +5,7 @@ use Rattle.nibble_map.specs.Nibbles.{nibbles}
 use Rattle.sorted_tables.specs.Tables.{IsLastOf}
 use Rattle.flat_texts.specs.TextImages.{key_code, key_head}
 use Rattle.flat_texts.proofs.ImageLemmas.{before_next, one_last}
-use Rattle.flat_texts.proofs.check.is_pair.Goals as goal
+use Rattle.flat_texts.proofs.checking.is_pair.Goals as goal
 
 pub returns : goal.returns
 returns c =

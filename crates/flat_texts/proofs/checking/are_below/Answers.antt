@@ -1,7 +1,7 @@
 use Rattle.std.proofs.Common.{◌-◌, arith}
 use Rattle.std.proofs.lemmas.Bool.{lt-ltb, ltb-true}
 use Rattle.flat_texts.proofs.ImageLemmas.{heads_rise}
-use Rattle.flat_texts.proofs.check.are_below.Goals as goal
+use Rattle.flat_texts.proofs.checking.are_below.Goals as goal
 
 pub returns : goal.returns
 returns c = (

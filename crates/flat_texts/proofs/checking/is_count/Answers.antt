@@ -1,6 +1,6 @@
 use Rattle.std.proofs.Common.{arith}
 use Rattle.flat_texts.proofs.ImageLemmas.{count_right, right_below, right_from, right_within}
-use Rattle.flat_texts.proofs.check.is_count.Goals as goal
+use Rattle.flat_texts.proofs.checking.is_count.Goals as goal
 
 pub returns-then-count-plan : goal.returns-then-count-plan
 returns-then-count-plan c = (

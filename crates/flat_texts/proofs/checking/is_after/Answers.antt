@@ -4,7 +4,7 @@ use Rattle.nibble_map.specs.Nibbles.{nibbles}
 use Rattle.frozen_trie.specs.Codes.{is_before}
 use Rattle.frozen_trie.proofs.CodeLemmas.Order.{before_by_test, before_passes}
 use Rattle.flat_texts.specs.TextImages.{key_code}
-use Rattle.flat_texts.proofs.check.is_after.Goals as goal
+use Rattle.flat_texts.proofs.checking.is_after.Goals as goal
 
 pub returns : goal.returns
 returns c =

@@ -1,7 +1,7 @@
 use Rattle.std.proofs.Common.{ℕ, ◌<◌}
 use Rattle.frozen_trie.specs.Heads.{IsTop}
 use Rattle.flat_texts.specs.TextImages.{AreRightPairs, stored_count, stored_heads}
-use Rattle.flat_texts.proofs.check.check.Given as goal
+use Rattle.flat_texts.proofs.checking.check.Given as goal
 
 abbrev pub invariant-loop-at : goal.invariant-loop-at
 invariant-loop-at l = AreRightPairs l.image l.at

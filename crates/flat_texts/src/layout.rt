@@ -1,0 +1,122 @@
+//! How an image is laid out and filled. Nothing is said here of the bytes: `write` checks what it wrote.
+ghost use Rattle.std.specs.Prelude.{◌≡◌, ◌+◌, ◌*◌, ◌^◌, ◌<◌, ◌≤◌, IfSome, IsFalse, length};
+ghost use Rattle.flat_texts.specs.TextImages.{counts_size};
+
+use crate::head::{Plan, mark, plan_of};
+use crate::heads::head_of;
+use crate::pair::Pair;
+use crate::pairs::{head_at, start_at};
+use crate::search::climb;
+use image_parts::{put_part, put_u32, put_u64};
+
+/// From how many pairs on an image has counts.
+const MANY: usize = 65536;
+
+/// How many counts an image of so many pairs has.
+fn counts_for(pairs: usize) -> usize
+    ensures size { 4 * result ≡ counts_size pairs }
+    ensures most { result ≤ 65537 }
+{
+    if pairs < MANY { 0 } else { 65537 }
+}
+
+/// Where the parts of an image of so many pairs lie, whose keys have so many bytes.
+pub(crate) fn layout(pairs: usize, keys_len: usize) -> Plan
+    requires few { pairs < 2 ^ 32 }
+    requires short { keys_len < 2 ^ 32 }
+    ensures pairs { result.pairs ≡ pairs }
+    ensures counts { result.counts ≤ 65537 }
+    ensures start { 112 ≤ result.keys_at }
+    ensures end { result.keys_at + result.keys_len
+        ≡ 112 + 24 * pairs + counts_size pairs + keys_len }
+{
+    let counts = counts_for(pairs);
+    let counts_at = 112 + 24 * pairs;
+    Plan {
+        pairs,
+        heads_at: 112,
+        pairs_at: 112 + 8 * pairs,
+        counts,
+        counts_at,
+        keys_at: counts_at + 4 * counts,
+        keys_len,
+    }
+}
+
+/// Puts the head of an image, if there is room for all of it.
+pub(crate) fn put_head(out: &mut [u8], plan: Plan) -> bool
+    requires few { plan.pairs < 2 ^ 32 }
+    requires counts { plan.counts ≤ 65537 }
+    requires start { 112 ≤ plan.keys_at }
+    requires end { plan.keys_at + plan.keys_len < 2 ^ 40 }
+    ensures short { IsFalse result → length out.old < plan.keys_at + plan.keys_len }
+{
+    if out.len() < plan.keys_at + plan.keys_len {
+        return false;
+    }
+    put_u64(out, 0, mark());
+    put_u32(out, 8, plan.pairs as u32);
+    put_u32(out, 12, 4);
+    put_part(out, 16, 4, 0, plan.heads_at, 8 * plan.pairs);
+    put_part(out, 40, 5, 0, plan.pairs_at, 16 * plan.pairs);
+    put_part(out, 64, 6, 0, plan.counts_at, 4 * plan.counts);
+    put_part(out, 88, 7, 0, plan.keys_at, plan.keys_len);
+    true
+}
+
+/// Puts the pair at an index, where those before it stand. Where there is no room for it nothing is put.
+pub(crate) fn put_pair(out: &mut [u8], at: usize, pair: Pair<'_>) -> bool {
+    let Ok(plan) = plan_of(out) else {
+        return false;
+    };
+    if at >= plan.pairs {
+        return false;
+    }
+    let from = start_at(out, plan, at);
+    if from > plan.keys_len || pair.key.len() > plan.keys_len - from {
+        return false;
+    }
+    let to = from + pair.key.len();
+    let Ok(end) = u32::try_from(to) else {
+        return false;
+    };
+    let link = climb(out, plan, at, pair.key);
+    put_u64(out, plan.heads_at + 8 * at, head_of(pair.key));
+    put_u32(out, plan.pairs_at + 16 * at, end);
+    put_u32(out, plan.pairs_at + 16 * at + 4, link as u32);
+    put_u64(out, plan.pairs_at + 16 * at + 8, pair.value);
+    out[plan.keys_at + from..plan.keys_at + to].copy_from_slice(pair.key);
+    true
+}
+
+/// The place of the count at an index, and how many heads are below it times 2^48, where the first `from` are; all heads
+/// stand.
+fn next_count(image: &[u8], at: usize, from: usize) -> Option<(usize, usize)>
+    ensures place { IfSome result (λ next. next.0 + 4 ≤ length image.now) }
+    ensures count { IfSome result (λ next. next.1 < 2 ^ 32) }
+{
+    let Ok(plan) = plan_of(image) else {
+        return None;
+    };
+    if at >= plan.counts {
+        return None;
+    }
+    let mut count = from.min(plan.pairs);
+    while count < plan.pairs && ((head_at(image, plan, count) >> 48) as usize) < at {
+        count += 1;
+    }
+    Some((plan.counts_at + 4 * at, count))
+}
+
+/// Puts so many counts, where all heads stand.
+pub(crate) fn put_counts(out: &mut [u8], counts: usize) -> bool {
+    let mut from = 0;
+    for at in 0..counts {
+        let Some((place, count)) = next_count(out, at, from) else {
+            return false;
+        };
+        from = count;
+        put_u32(out, place, count as u32);
+    }
+    true
+}

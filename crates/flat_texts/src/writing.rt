@@ -1,0 +1,119 @@
+//! Images are written.
+ghost use Rattle.std.specs.Prelude.{◌≡◌, ◌^◌, ◌<◌, ◌≤◌, ◌⊎◌, ℕ, IfErr, IfNone, IfSome, IsTrue, OnOk, length, map as each};
+ghost use Rattle.flat_texts.specs.TextImages.{IsTextImage, IsUnsorted, image_pairs, image_size, keys_len, pair_of};
+
+use crate::checking::check;
+use crate::head::plan_of;
+use crate::layout::{layout, put_counts, put_head, put_pair};
+use crate::pair::Pair;
+use crate::pairs::{key_at, value_at};
+use image_parts::WriteError;
+use radix_keys::NibbleSlice;
+
+/// How many bytes the keys have, or None of 2^32 bytes or more.
+fn len_of_keys(pairs: &[Pair<'_>]) -> Option<usize>
+    ensures len { IfSome result (λ len. len ≡ keys_len pairs.now) }
+    ensures short { IfSome result (λ len. len < 2 ^ 32) }
+    ensures long { IfNone result (2 ^ 32 ≤ keys_len pairs.now) }
+{
+    let mut len = 0usize;
+    for at in 0..pairs.len() {
+        let own = pairs[at].key.len();
+        if own > u32::MAX as usize - len {
+            return None;
+        }
+        len += own;
+    }
+    Some(len)
+}
+
+/// How many bytes the image of pairs takes, as `write` lays it out, or None of 2^32 pairs or more, or as many bytes of keys.
+pub fn image_len(pairs: &[Pair<'_>]) -> Option<usize>
+    ensures len { IfSome result (λ len. len ≡ image_size pairs.now) }
+    ensures full { IfNone result
+        ((2 ^ 32 ≤ length pairs.now) ⊎ (2 ^ 32 ≤ keys_len pairs.now)) }
+{
+    if pairs.len() > u32::MAX as usize {
+        return None;
+    }
+    let Some(len) = len_of_keys(pairs) else {
+        return None;
+    };
+    let plan = layout(pairs.len(), len);
+    Some(plan.keys_at + plan.keys_len)
+}
+
+/// The index of the first pair whose key doesn't come after the one before it.
+fn unsorted(pairs: &[Pair<'_>]) -> Option<usize>
+    ensures { IfSome result (λ at. IsUnsorted pairs.now at) }
+{
+    for at in 1..pairs.len() {
+        let last = NibbleSlice::from_bytes(pairs[at - 1].key);
+        let own = NibbleSlice::from_bytes(pairs[at].key);
+        if !last.cmp(&own).is_lt() {
+            return Some(at);
+        }
+    }
+    None
+}
+
+/// Whether the pairs of an image are these.
+fn are_pairs(image: &[u8], pairs: &[Pair<'_>]) -> bool
+    ensures { IsTrue result → image_pairs image.now ≡ each pair_of pairs.now }
+{
+    let Ok(plan) = plan_of(image) else {
+        return false;
+    };
+    if plan.pairs != pairs.len() {
+        return false;
+    }
+    for at in 0..pairs.len() {
+        let pair = pairs[at];
+        if key_at(image, plan, at) != pair.key {
+            return false;
+        }
+        if value_at(image, plan, at) != pair.value {
+            return false;
+        }
+    }
+    true
+}
+
+/// Writes the image of pairs whose keys rise in the order of their bytes into a buffer of `image_len` bytes or more. Bytes
+/// behind the image stay as they are. It takes linear time, but for the climb from each key to its longest stored prefix.
+///
+/// # Errors
+///
+/// There are too many pairs or bytes of keys, the buffer is too short, or a key doesn't come after the one before it; the
+/// buffer may hold part of an image then. What is written is checked, so at Ok it is an image of these very pairs.
+pub fn write(pairs: &[Pair<'_>], out: &mut [u8]) -> Result<(), WriteError>
+    ensures full { IfErr result (λ e. e ≡ WriteError.Full
+        → (2 ^ 32 ≤ length pairs.now) ⊎ (2 ^ 32 ≤ keys_len pairs.now)) }
+    ensures short { IfErr result (λ e. e ≡ WriteError.Short
+        → length out.old < image_size pairs.now) }
+    ensures image { OnOk result (IsTextImage out.new) }
+    ensures pairs { OnOk result (image_pairs out.new ≡ each pair_of pairs.now) }
+{
+    if pairs.len() > u32::MAX as usize {
+        return Err(WriteError::Full);
+    }
+    let Some(len) = len_of_keys(pairs) else {
+        return Err(WriteError::Full);
+    };
+    if let Some(at) = unsorted(pairs) {
+        return Err(WriteError::Unsorted(at));
+    }
+    let plan = layout(pairs.len(), len);
+    if !put_head(out, plan) {
+        return Err(WriteError::Short);
+    }
+    for at in 0..pairs.len() {
+        if !put_pair(out, at, pairs[at]) {
+            return Err(WriteError::Unsorted(at));
+        }
+    }
+    if !put_counts(out, plan.counts) || check(out).is_err() || !are_pairs(out, pairs) {
+        return Err(WriteError::Unsorted(pairs.len()));
+    }
+    Ok(())
+}

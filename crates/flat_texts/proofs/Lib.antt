@@ -3,5 +3,7 @@
 pub mod HeadLemmas
 -- What stands in an image, and what it says of the keys.
 pub mod ImageLemmas
+-- The map of an image: what it answers, by the pairs' indices.
+pub mod MapLemmas
 -- Pairs that are to be written.
 pub mod WriteLemmas

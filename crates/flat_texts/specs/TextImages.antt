@@ -1,9 +1,11 @@
 -- A map from byte strings to numbers, laid into one run of bytes: what stands there, and when the bytes are such a map.
-use Rattle.std.specs.Prelude.{◌≡◌, ◌≢◌, ℕ, zero, suc, ◌+◌, ◌-◌, ◌*◌, ◌/◌, ◌%◌, ◌^◌, ◌<◌, ◌≤◌, ◌⊎◌, Bool, true, false, List, [], if◌then◌else◌, codes, drop, length, nat_lt, slice_index_or, sum_by, take, map as each}
+use Rattle.std.specs.Prelude.{◌≡◌, ◌≢◌, ℕ, zero, suc, ◌+◌, ◌-◌, ◌*◌, ◌/◌, ◌%◌, ◌^◌, ◌<◌, ◌≤◌, ◌⊎◌, Bool, true, false, List, [], Option, None, Some, if◌then◌else◌, codes, drop, length, nat_lt, slice_index_or, sum_by, take, map as each}
 use Rattle.std.specs.Int.{w64, from_le_bytes}
 use Rattle.nibble_map.specs.Lists.{IsBefore, IsPrefix}
+use Rattle.nibble_map.specs.Maps.{PairMap}
 use Rattle.nibble_map.specs.Nibbles.{nibbles}
 use Rattle.sorted_tables.specs.Tables.{IsLastOf}
+use Rattle.frozen_trie.specs.Frozen.{map_of_pairs}
 use Rattle.frozen_trie.specs.Heads.{IsTop, head_padded}
 use Rattle.frozen_trie.specs.Laid.{piece_of}
 use Rattle.image_parts.specs.declared.errors.ImageError.{ImageError}
@@ -80,6 +82,15 @@ pair_in bs i = (key_in bs i, stored_value bs i)
 -- the pairs of an image
 abbrev pub image_pairs : List ℕ → List (List ℕ × ℕ)
 image_pairs bs = listed (pair_in bs) (row_count bs)
+
+-- the map from each key's nibbles to its pair
+abbrev pub image_map : List ℕ → PairMap (List ℕ) ℕ
+image_map bs = map_of_pairs nibbles (image_pairs bs)
+
+-- an index and one more, or 0 where there is none
+abbrev pub place_of : Option ℕ → ℕ
+place_of None = 0
+place_of (Some i) = suc i
 
 -- the nibbles of the key at i
 abbrev pub key_code : List ℕ → ℕ → List ℕ

@@ -140,3 +140,10 @@ pub fn check(image: &[u8]) -> Result<(), ImageError>
     }
     Ok(())
 }
+
+/// Whether bytes are an image: whether `check` is Ok.
+pub fn is_image(image: &[u8]) -> bool
+    ensures { IsTrue result ↔ IsTextImage image.now }
+{
+    check(image).is_ok()
+}

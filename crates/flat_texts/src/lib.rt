@@ -8,10 +8,17 @@ mod heads;
 mod layout;
 mod pair;
 mod pairs;
+mod ranges;
+mod reading;
 mod search;
 mod writing;
 
-pub use checking::check;
+pub use checking::{check, is_image};
 pub use image_parts::{ImageError, WriteError};
 pub use pair::Pair;
+pub use ranges::{below, between, rank};
+pub use reading::{above, get, len, nearest, nth, prefixes};
 pub use writing::{image_len, write};
+
+#[cfg(test)]
+mod tests;

@@ -43,8 +43,8 @@ loop-at-preserved c =
     let is = c.from_bytes-before.ensures ∙ ap nibbles c.key_at.ensures in
     let asked = c.from_bytes.ensures in
     let apart : n < length (key_code bs (c.args.from - 1)) → n < length q → get_or (key_code bs (c.args.from - 1)) n 0 ≢ get_or q n 0 = λ l m e.
-        c.agreement-shared.ensures.apart (omega (arith, l, ap length is)) (omega (arith, m, ap length asked))
-        (ap (λ p. get_or p n 0) is ∙ e ∙ sym (ap (λ p. get_or p n 0) asked)) in
+    c.agreement-shared.ensures.apart (omega (arith, l, ap length is)) (omega (arith, m, ap length asked))
+    (ap (λ p. get_or p n 0) is ∙ e ∙ sym (ap (λ p. get_or p n 0) asked)) in
     let inside : at - 1 < c.args.from = omega (arith, c.loop-at.invariant.within, c.loop-at-test.true) in
     record {
       within = omega (arith, c.if-link-at.false, c.loop-at.invariant.within);

@@ -41,8 +41,8 @@ returns c = λ head.
     let value = c.get.ensures.value ∙ ap (λ p. get_or p n 0) is in
     let other = c.get-2.ensures.value ∙ ap (λ p. get_or p n 0) asked in
     let differ : get_or code n 0 ≡ get_or q n 0 → ⊥ = λ e.
-        c.agreement-same.ensures.apart (omega (arith, here, ap length is)) (omega (arith, there, ap length asked))
-        (ap (λ p. get_or p n 0) is ∙ e ∙ sym (ap (λ p. get_or p n 0) asked)) in
+    c.agreement-same.ensures.apart (omega (arith, here, ap length is)) (omega (arith, there, ap length asked))
+    (ap (λ p. get_or p n 0) is ∙ e ∙ sym (ap (λ p. get_or p n 0) asked)) in
     subst (IsSide t q code) (sym c.cmp.ensures)
     (side_by_numbers t q code c.get.result c.get-2.result
     (ap (λ a. ltb a c.get-2.result) value ∙ ap (λ b. ltb (get_or code n 0) b) other ∙ side_by_nibble t code q n here there same differ)

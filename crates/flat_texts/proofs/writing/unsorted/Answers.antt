@@ -16,8 +16,7 @@ returns-then-not-is_lt c =
     let last = c.from_bytes-last.ensures ∙ ap nibbles (sym (get_or-map (λ (p : Pair). p.key.now) ps (at - 1) none [] (omega (arith, c.loop-at-test.true)))) in
     let own = c.from_bytes-own.ensures ∙ ap nibbles (sym (get_or-map (λ (p : Pair). p.key.now) ps at none [] c.loop-at-test.true)) in
     let test : c.is_lt.result ≡ is_before (nibbles (key_of ps (at - 1))) (nibbles (key_of ps at)) =
-    c.is_lt.ensures ∙ ap is_lt c.cmp.ensures ∙ ap (λ x. is_before x c.from_bytes-own.result) last ∙ ap (is_before (nibbles (key_of ps (at - 1)))) own in
-    (
+    c.is_lt.ensures ∙ ap is_lt c.cmp.ensures ∙ ap (λ x. is_before x c.from_bytes-own.result) last ∙ ap (is_before (nibbles (key_of ps (at - 1)))) own in (
       omega (arith, c.loop-at.invariant),
       c.loop-at-test.true,
       λ before. let no : true ≡ false = sym (before_passes _ _ before) ∙ sym test ∙ c.if-not-is_lt.true in cc no,

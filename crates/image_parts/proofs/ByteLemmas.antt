@@ -4,7 +4,7 @@ use Rattle.std.specs.Int.{w32, w64, from_le_bytes, to_le_bytes}
 use Rattle.std.proofs.lemmas.Bool.{cases_lt}
 use Rattle.std.proofs.lemmas.List.{drop_more, length-append, take-append-le, take_all}
 use Rattle.std.proofs.lemmas.Nat.{from_le_bytes-to_le_bytes_4, from_le_bytes-to_le_bytes_8}
-use Rattle.image_parts.specs.Parts.{listed, u32_in, u64_in}
+use Rattle.image_parts.specs.Parts.{IsEntry, listed, u32_in, u64_in}
 
 -- the byte at a place, and those behind it
 byte_on : (bs : List ℕ) (a b : ℕ) → b ≡ a + 1 → b ≤ length bs → drop a bs ≡ slice_index bs a ∷ drop b bs
@@ -72,6 +72,16 @@ u64_kept xs ys a same =
     let s6 = same (a + 6) (omega arith) (omega arith) in
     let s7 = same (a + 7) (omega arith) (omega arith) in
     cc (s0, s1, s2, s3, s4, s5, s6, s7)
+
+-- and what is listed
+pub entry_kept : (xs ys : List ℕ) (a kind detail place size : ℕ) → ((k : ℕ) → a ≤ k → k < a + 24 → slice_index ys k ≡ slice_index xs k)
+    → IsEntry xs a kind detail place size → IsEntry ys a kind detail place size
+entry_kept xs ys a kind detail place size same entry = record {
+  kind_is = u32_kept xs ys a (λ k l m. same k l (omega (arith, m))) ∙ entry.kind_is;
+  detail_is = u32_kept xs ys (a + 4) (λ k l m. same k (omega (arith, l)) (omega (arith, m))) ∙ entry.detail_is;
+  place_is = u64_kept xs ys (a + 8) (λ k l m. same k (omega (arith, l)) (omega (arith, m))) ∙ entry.place_is;
+  size_is = u64_kept xs ys (a + 16) (λ k l m. same k (omega (arith, l)) (omega (arith, m))) ∙ entry.size_is;
+}
 
 -- a number is read where its bytes were put
 pub u32_written : (zs : List ℕ) (a e n : ℕ) → a + 4 ≤ length zs → e ≡ 4 → n < 2 ^ 32 → take e (drop a zs) ≡ to_le_bytes w32 n → u32_in zs a ≡ n

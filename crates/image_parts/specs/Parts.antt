@@ -35,6 +35,13 @@ pub record IsListed (bs : List ℕ) (a kind : ℕ) : Type 0 where
   pub of_kind : u32_in bs a ≡ kind
   pub inside : u64_in bs (a + 8) + u64_in bs (a + 16) ≤ length bs
 
+-- what is listed at the place a: a part of this kind and detail, where it lies, and its length
+pub record IsEntry (bs : List ℕ) (a kind detail place size : ℕ) : Type 0 where
+  pub kind_is : u32_in bs a ≡ kind
+  pub detail_is : u32_in bs (a + 4) ≡ detail
+  pub place_is : u64_in bs (a + 8) ≡ place
+  pub size_is : u64_in bs (a + 16) ≡ size
+
 -- the user's own bytes are so many from a place on: the first listed part of kind 3 says so, and lies inside the bytes, as the
 -- list does
 pub record IsPayload (bs : List ℕ) (place size : ℕ) : Type 0 where

@@ -9,4 +9,4 @@ mod stores;
 pub use errors::{ImageError, WriteError};
 pub use loads::{u32_at, u64_at, u128_at};
 pub use parts::{part_at, payload, put_part};
-pub use stores::{put_u32, put_u64};
+pub use stores::{put_bytes, put_u32, put_u64};

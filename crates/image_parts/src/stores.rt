@@ -1,6 +1,18 @@
-//! Numbers are put into bytes, the low byte first.
-ghost use Rattle.std.specs.Prelude.{◌≡◌, ◌+◌, ◌<◌, ◌≤◌, ℕ, length, slice_index};
+//! Numbers are put into bytes, the low byte first, and bytes themselves.
+ghost use Rattle.std.specs.Prelude.{◌≡◌, ◌+◌, ◌<◌, ◌≤◌, ℕ, drop, length, slice_index, take};
 ghost use Rattle.image_parts.specs.Parts.{u32_in, u64_in};
+
+/// Puts bytes in from a place on.
+pub fn put_bytes(out: &mut [u8], at: usize, bytes: &[u8])
+    requires { at + length bytes.now ≤ length out.old }
+    ensures bytes { take (length bytes.now) (drop at out.new) ≡ bytes.now }
+    ensures before { (k : ℕ) → k < at → slice_index out.new k ≡ slice_index out.old k }
+    ensures behind { (k : ℕ) → at + length bytes.now ≤ k
+        → slice_index out.new k ≡ slice_index out.old k }
+    ensures length { length out.new ≡ length out.old }
+{
+    out[at..at + bytes.len()].copy_from_slice(bytes);
+}
 
 /// Puts a number into the 4 bytes from a place on.
 pub fn put_u32(out: &mut [u8], at: usize, number: u32)
@@ -10,7 +22,7 @@ pub fn put_u32(out: &mut [u8], at: usize, number: u32)
     ensures behind { (k : ℕ) → at + 4 ≤ k → slice_index out.new k ≡ slice_index out.old k }
     ensures length { length out.new ≡ length out.old }
 {
-    out[at..at + 4].copy_from_slice(&number.to_le_bytes());
+    put_bytes(out, at, &number.to_le_bytes());
 }
 
 /// Puts a number into the 8 bytes from a place on.
@@ -21,5 +33,5 @@ pub fn put_u64(out: &mut [u8], at: usize, number: u64)
     ensures behind { (k : ℕ) → at + 8 ≤ k → slice_index out.new k ≡ slice_index out.old k }
     ensures length { length out.new ≡ length out.old }
 {
-    out[at..at + 8].copy_from_slice(&number.to_le_bytes());
+    put_bytes(out, at, &number.to_le_bytes());
 }

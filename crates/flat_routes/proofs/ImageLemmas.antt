@@ -106,13 +106,13 @@ module _ (wide : Bool) (bs : List ℕ) (image : IsImage wide bs) (a e t c : ℕ)
       (subst (IsLastHolder (width wide) (bases wide bs) (sizes wide bs) (cell_in bs t).count a) (sym around)
       (top_around (rest_of bs) (width wide) (bases wide bs) (sizes wide bs) t a (cell_in bs t) (image.tops.cells t (cell_in bs t) at) (is ∙ ap (λ d. a / 2 ^ d) same)))
 
--- the first n networks rise, and have their links
-module _ (w : ℕ) (fs bs up : List ℕ) (n : ℕ) (linked : AreLinkedTo w fs bs up n) where
+-- the first n networks rise
+module _ (w : ℕ) (fs bs : List ℕ) (n : ℕ) (next : (k : ℕ) → k < n → IsNext w fs bs k) where
   -- one comes after the one before it
   step : (k : ℕ) → suc k < n → IsEarlier (get_or fs k 0) (get_or bs k 0) (get_or fs (suc k) 0) (get_or bs (suc k) 0)
   step k l =
       let back : suc k - 1 ≡ k = omega arith in
-      subst (λ j. IsEarlier (get_or fs j 0) (get_or bs j 0) (get_or fs (suc k) 0) (get_or bs (suc k) 0)) back ((linked.next (suc k) l).after (omega arith))
+      subst (λ j. IsEarlier (get_or fs j 0) (get_or bs j 0) (get_or fs (suc k) 0) (get_or bs (suc k) 0)) back ((next (suc k) l).after (omega arith))
 
   -- and after each before it
   pub ordered : (j k : ℕ) → j < k → k < n → IsEarlier (get_or fs j 0) (get_or bs j 0) (get_or fs k 0) (get_or bs k 0)
@@ -128,12 +128,12 @@ module _ (w : ℕ) (fs bs up : List ℕ) (n : ℕ) (linked : AreLinkedTo w fs bs
   pub around_first : (a j k : ℕ) → k < j → j < n → get_or fs j 0 ≤ a → IsHolderAt w fs bs a k → IsHolderAt w fs bs (get_or fs j 0) k
   around_first a j k l m le p = sandwich (get_or fs k 0) (get_or fs j 0) a (w - get_or bs k 0) (earlier_le _ _ _ _ (ordered k j l m)) le p
 
--- all that are linked rise
-pub all_rise : (w : ℕ) (fs bs up : List ℕ) (n : ℕ) → AreLinkedTo w fs bs up n → length fs ≤ n → AreRising w fs bs
-all_rise w fs bs up n linked all = record {
-  bases = λ k l. (linked.next k (omega (arith, l, all))).base;
-  order = λ j k l m. ordered w fs bs up n linked j k l (omega (arith, m, all));
-}
+  -- and so do all where there are no more
+  pub all_rise : length fs ≤ n → AreRising w fs bs
+  all_rise all = record {
+    bases = λ k l. (next k (omega (arith, l, all))).base;
+    order = λ j k l m. ordered j k l (omega (arith, m, all));
+  }
 
 -- what the first n networks say is said of any lists with the same first n numbers
 module _ (w : ℕ) (fs bs gs cs : List ℕ) (n : ℕ) (firsts : (k : ℕ) → k < n → get_or gs k 0 ≡ get_or fs k 0)
@@ -153,34 +153,40 @@ module _ (w : ℕ) (fs bs gs cs : List ℕ) (n : ℕ) (firsts : (k : ℕ) → k 
     none = λ k l lt p. last.none k l lt (holder_here a k (omega (arith, lt, le)) p);
   }
 
+  -- that one comes after the one before it
+  pub next_there : (k : ℕ) → k < n → IsNext w fs bs k → IsNext w gs cs k
+  next_there k l own = record {
+    base = subst (λ f. IsBase w (get_or cs k 0) f) (sym (firsts k l)) (subst (λ b. IsBase w b (get_or fs k 0)) (sym (counts k l)) own.base);
+    after = λ some.
+        let before : k - 1 < n = omega (arith, l) in
+        let e1 = firsts (k - 1) before in
+        let e2 = counts (k - 1) before in
+        let e3 = firsts k l in
+        let e4 = counts k l in
+        rw (e1, e2, e3, e4) (own.after some);
+  }
+
   -- that they rise, and have their links
   pub linked_there : (up vs : List ℕ) → ((k : ℕ) → k < n → get_or vs k 0 ≡ get_or up k 0) → AreLinkedTo w fs bs up n → AreLinkedTo w gs cs vs n
   linked_there up vs ups linked = record {
-    next = λ k l.
-        let own = linked.next k l in
-        record {
-          base = subst (λ f. IsBase w (get_or cs k 0) f) (sym (firsts k l)) (subst (λ b. IsBase w b (get_or fs k 0)) (sym (counts k l)) own.base);
-          after = λ some.
-              let before : k - 1 < n = omega (arith, l) in
-              let e1 = firsts (k - 1) before in
-              let e2 = counts (k - 1) before in
-              let e3 = firsts k l in
-              let e4 = counts k l in
-              rw (e1, e2, e3, e4) (own.after some);
-        };
+    next = λ k l. next_there k l (linked.next k l);
     links = λ k l.
         subst (λ a. IsLastHolder w gs cs k a (get_or vs k 0)) (sym (firsts k l)) (subst (IsLastHolder w gs cs k (get_or fs k 0)) (sym (ups k l))
         (last_there k (get_or fs k 0) (get_or up k 0) (omega (arith, l)) (linked.links k l)));
   }
 
--- those of an image do
+-- of rising networks each comes after the one before it
+pub rising_next : (w : ℕ) (fs bs : List ℕ) → AreRising w fs bs → (k : ℕ) → k < length fs → IsNext w fs bs k
+rising_next w fs bs rising k l = record {
+  base = rising.bases k l;
+  after = λ some. rising.order (k - 1) k (omega (arith, some)) l;
+}
+
+-- those of an image rise, and have their links
 pub image_linked : (wide : Bool) (bs : List ℕ) (n : ℕ) → IsImage wide bs → n ≤ row_count bs
     → AreLinkedTo (width wide) (bases wide bs) (sizes wide bs) (links wide bs) n
 image_linked wide bs n image within = record {
-  next = λ k l. record {
-    base = image.rising.bases k (omega (arith, l, within, length-firsts wide bs));
-    after = λ some. image.rising.order (k - 1) k (omega (arith, some)) (omega (arith, l, within, length-firsts wide bs));
-  };
+  next = λ k l. rising_next (width wide) (bases wide bs) (sizes wide bs) image.rising k (omega (arith, l, within, length-firsts wide bs));
   links = λ k l. image.linked k (omega (arith, l, within, length-links wide bs));
 }
 
@@ -204,6 +210,10 @@ longest wide bs a n r image count last =
     let whole = among_all (width wide) (bases wide bs) (sizes wide bs) a n r image.rising count last in
     found_longest wide bs rows a r image.rising (λ i l. listed_at (row_in wide bs) (row_count bs) i (omega (arith, l, length-rows wide bs))) (subst (λ k. IsLastHolder (width wide) (bases wide bs) (sizes wide bs) k a r) (length-map rows (λ s. s.0.base)) whole)
 
+-- the first n of some rows have their numbers
+pub front_number : {X : Type 0} (f : X → ℕ) (xs : List X) (n k : ℕ) → k < n → get_or (each f (take n xs)) k 0 ≡ get_or (each f xs) k 0
+front_number f xs n k l = ap (λ ys. get_or ys k 0) (sym (take-map f n xs)) ∙ get_or-take n (each f xs) k 0 l
+
 -- of the rows before one the last that holds its first address is the longest
 pub longest_before : (wide : Bool) (bs : List ℕ) (n r : ℕ) → IsImage wide bs → n < row_count bs → r ≡ get_or (links wide bs) n 0
     → IsLongestRow (width wide) (λ m. m) (take n (image_rows wide bs)) (first_in wide bs n) (found_row wide bs r)
@@ -214,13 +224,11 @@ longest_before wide bs n r image inside is =
     let bits = sizes wide bs in
     let before = take n rows in
     let many : length before ≡ n = length-take-le n rows (omega (arith, inside, length-rows wide bs)) in
-    let firsts : (k : ℕ) → k < n → get_or (base_numbers (λ m. m) before) k 0 ≡ get_or fs k 0 =
-    λ k l. ap (λ xs. get_or xs k 0) (sym (take-map (λ s. s.0.base) n rows)) ∙ get_or-take n fs k 0 l in
-    let counts : (k : ℕ) → k < n → get_or (bit_counts before) k 0 ≡ get_or bits k 0 =
-    λ k l. ap (λ xs. get_or xs k 0) (sym (take-map (λ s. s.0.bits) n rows)) ∙ get_or-take n bits k 0 l in
+    let firsts = front_number (λ s. s.0.base) rows n in
+    let counts = front_number (λ s. s.0.bits) rows n in
     let linked = linked_there w fs bits (base_numbers (λ m. m) before) (bit_counts before) n firsts counts (links wide bs) (links wide bs) (λ k l. refl)
     (image_linked wide bs n image (omega (arith, inside))) in
-    let rising = all_rise w _ _ _ n linked (omega (arith, length-map before (λ s. s.0.base), many)) in
+    let rising = all_rise w _ _ n linked.next (omega (arith, length-map before (λ s. s.0.base), many)) in
     let last = image.linked n (omega (arith, inside, length-links wide bs)) in
     found_longest wide bs before (first_in wide bs n) r rising
     (λ i l. let lt : i < n = omega (arith, l, many) in
@@ -248,7 +256,7 @@ pub at_most_next : (w : ℕ) (fs bs up : List ℕ) (n : ℕ) → AreLinkedTo w f
 at_most_next w fs bs up n linked next k l =
     let last = earlier_le _ _ _ _ (next.after (omega (arith, l))) in
     elim (cases_lt k (n - 1)) [
-      | inl lt ↦ let le = earlier_le _ _ _ _ (ordered w fs bs up n linked k (n - 1) lt (omega (arith, l))) in omega (arith, le, last)
+      | inl lt ↦ let le = earlier_le _ _ _ _ (ordered w fs bs n linked.next k (n - 1) lt (omega (arith, l))) in omega (arith, le, last)
       | inr ge ↦ let same : k ≡ n - 1 = omega (arith, l, ge) in let e = ap (λ i. get_or fs i 0) same in omega (arith, e, last)
     ]
 
@@ -288,7 +296,7 @@ none_of_none w fs bs a = record {
 pub parted_by : (w : ℕ) (fs bs up : List ℕ) (n a c : ℕ) → AreLinkedTo w fs bs up n → length fs ≡ n → c ≤ n → (0 < c → get_or fs (c - 1) 0 < a)
     → (c < n → a ≤ get_or fs c 0) → IsPartedAt (λ k. get_or fs k 0 < a) (λ k. a ≤ get_or fs k 0) (length fs) c
 parted_by w fs bs up n a c linked all within below from =
-    let rising = all_rise w fs bs up n linked (omega (arith, all)) in
+    let rising = all_rise w fs bs n linked.next (omega (arith, all)) in
     record {
       within = omega (arith, all, within);
       before = λ k l.

@@ -1,2 +1,3 @@
 -- The lemmas.
 pub mod ImageLemmas
+pub mod WriteLemmas

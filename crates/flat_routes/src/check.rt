@@ -2,7 +2,7 @@
 ghost use Rattle.std.specs.Prelude.{◌≡◌, ◌↔◌, ◌+◌, ◌*◌, ◌-◌, ◌%◌, ◌^◌, ◌<◌, ◌≤◌, IfErr, IfOk, IsOk, IsTrue, OnOk, length, slice_index};
 ghost use Rattle.radix_keys.specs.Networks.{IsBase};
 ghost use Rattle.sorted_tables.specs.Tables.{IsPartedAt};
-ghost use Rattle.frozen_routes.specs.Routes.{IsTopCell};
+ghost use Rattle.frozen_routes.specs.Routes.{IsEarlier, IsTopCell};
 ghost use Rattle.image_parts.specs.Parts.{u32_in, u64_in};
 ghost use Rattle.flat_routes.specs.Faults.{AreRowsRight, IsFault, IsRowsPart};
 ghost use Rattle.flat_routes.specs.Images.{AreLinkedTo, IsImage, IsNext, IsPlanOf, cell_count, cell_in, bases, links, sizes, width};
@@ -27,6 +27,16 @@ pub(crate) fn is_base(wide: bool, bits: u32, first: u128) -> bool
     first % (1u128 << (all - bits)) == 0
 }
 
+/// Whether one network comes before another one: by the first addresses, and of one first address by their bits.
+pub(crate) fn is_earlier(first: u128, bits: u32, next_first: u128, next_bits: u32) -> bool
+    ensures { IsTrue result ↔ IsEarlier first bits next_first next_bits }
+{
+    if first != next_first {
+        return first < next_first;
+    }
+    bits < next_bits
+}
+
 /// Whether the network at an index is one, and comes after the one before it.
 fn is_next(image: &[u8], wide: bool, plan: Plan, at: usize) -> bool
     requires plan { IsPlanOf wide image.now plan }
@@ -43,10 +53,7 @@ fn is_next(image: &[u8], wide: bool, plan: Plan, at: usize) -> bool
         return true;
     }
     let last = first_at(image, wide, plan, at - 1);
-    if last != first {
-        return last < first;
-    }
-    bits_at(image, wide, plan, at - 1) < bits
+    is_earlier(last, bits_at(image, wide, plan, at - 1), first, bits)
 }
 
 /// Whether so many of the networks begin before an address, by its number.

@@ -1,17 +1,19 @@
 //! Images of IPv4 networks. Each call is total: whatever the bytes are, it ends, and reads none but them.
-ghost use Rattle.std.specs.Prelude.{◌≡◌, ◌↔◌, ◌+◌, ◌*◌, ◌^◌, ◌<◌, ◌≤◌, ℕ, IfErr, IfSome, IsNone, IsOk, IsSome, IsTrue, MatchOption, OnOk, drop, length, min, option_map, slice_get, slice_index, take, map as each};
+ghost use Rattle.std.specs.Prelude.{◌≡◌, ◌↔◌, ◌+◌, ◌*◌, ◌^◌, ◌<◌, ◌≤◌, ℕ, IfErr, IfSome, IsNone, IsOk, IsSome, IsTrue, MatchOption, OnErr, OnOk, false, true, drop, length, min, option_map, slice_get, slice_index, take, map as each};
 ghost use Rattle.std.specs.List.{filter};
+ghost use Rattle.std.specs.Option.{SomeIff};
 ghost use Rattle.radix_keys.specs.Networks.{Net};
 ghost use Rattle.frozen_routes.specs.Routes.{IsLongestRow, IsOwnRow, is_inside};
-ghost use Rattle.image_parts.specs.Parts.{row_count};
+ghost use Rattle.image_parts.specs.Parts.{HoldsPayload, row_count};
 ghost use Rattle.flat_routes.specs.Faults.{IsFault};
-ghost use Rattle.flat_routes.specs.Images.{IsImage, first_in, found_row, image_rows, link_in, network, of_ipv4, row4_of, row_in, row_size};
+ghost use Rattle.flat_routes.specs.Written.{CanWrite, ChangesWithin, IsWriteFault, image_size};
+ghost use Rattle.flat_routes.specs.Images.{IsImage, first_in, found_row, image_rows, link_in, network, of_ipv4, row4_of, row_in};
 
 use crate::head::plan_of;
-use crate::layout::{layout, next_row, put_cells, put_head};
 use crate::rows::{bits_at, first_at, link_at, value_at};
 use crate::search::find;
-use crate::{check, networks, search};
+use crate::write::FlatRow;
+use crate::{check, layout, networks, search, write};
 use image_parts::{ImageError, WriteError, put_u32};
 
 /// A row as it lies in an image, in 16 bytes: a network by its first address and how many bits its addresses share, the
@@ -23,6 +25,31 @@ pub struct Row {
     pub bits: u32,
     pub link: u32,
     pub value: u32,
+}
+
+impl FlatRow for Row {
+    ghost use Rattle.flat_routes.specs.Images.{row4_of};
+
+    ghost WIDE = { false };
+
+    ghost shown = { row4_of };
+
+    const WIDE: bool = false;
+
+    fn first(self) -> u128 {
+        u128::from(self.first)
+    }
+
+    fn bits(self) -> u32 {
+        self.bits
+    }
+
+    fn put(self, out: &mut [u8], place: usize, link: u32) {
+        put_u32(out, place, self.first);
+        put_u32(out, place + 4, self.bits);
+        put_u32(out, place + 8, link);
+        put_u32(out, place + 12, self.value);
+    }
 }
 
 /// Whether bytes are an image of IPv4 networks; where they aren't, an error says why. It takes linear time, but for the
@@ -148,112 +175,34 @@ pub fn above(image: &[u8], at: usize) -> Option<usize>
     search::above(image, false, at)
 }
 
-/// How many bytes the image of so many rows takes, as `write` lays it out, or None of 2^32 rows or more.
-pub fn image_len(rows: usize) -> Option<usize>
-    ensures least { IfSome result (λ len. 64 + row_size of_ipv4 * rows ≤ len) }
-    ensures most { IfSome result (λ len. len < 64 + row_size of_ipv4 * rows + 2 ^ 25) }
-    ensures few { rows < 256 → IfSome result (λ len. len ≡ 64 + row_size of_ipv4 * rows) }
-    ensures some { rows < 2 ^ 32 → IsSome result }
+/// How many bytes the image of so many rows takes, with so many bytes of the user's own, as `write` lays it out, or None of
+/// 2^32 rows or more, or where a `usize` doesn't count them.
+pub fn image_len(rows: usize, payload: usize) -> Option<usize>
+    ensures { SomeIff result ((rows < 2 ^ 32) × (image_size of_ipv4 rows payload < 2 ^ 64))
+        (image_size of_ipv4 rows payload) }
 {
-    match layout(false, rows) {
-        Some(plan) => Some(plan.cells_at + 8 * plan.cells),
-        None => None,
-    }
+    layout::image_len(false, rows, payload)
 }
 
-/// Puts a row behind those before it, with its link.
-fn put_row(out: &mut [u8], at: usize, row: Row) -> bool {
-    let Some((place, link)) = next_row(out, false, at, u128::from(row.first)) else {
-        return false;
-    };
-    put_u32(out, place, row.first);
-    put_u32(out, place + 4, row.bits);
-    put_u32(out, place + 8, link);
-    put_u32(out, place + 12, row.value);
-    true
-}
-
-/// Whether the rows of an image are these, but for their links.
-fn are_rows(image: &[u8], rows: &[Row]) -> bool
-    ensures { IsTrue result → image_rows of_ipv4 image.now ≡ each row4_of rows.now }
-{
-    let Some(plan) = plan_of(image, false) else {
-        return false;
-    };
-    if plan.rows != rows.len() {
-        return false;
-    }
-    for at in 0..rows.len() {
-        let row = rows[at];
-        if first_at(image, false, plan, at) != u128::from(row.first) {
-            return false;
-        }
-        if bits_at(image, false, plan, at) != row.bits {
-            return false;
-        }
-        if value_at(image, false, plan, at) != u64::from(row.value) {
-            return false;
-        }
-    }
-    true
-}
-
-/// Whether a row is of a network.
-fn is_network(row: Row) -> bool {
-    check::is_base(false, row.bits, u128::from(row.first))
-}
-
-/// The index of the first row that is of no network, or doesn't come after the row before it.
-fn unsorted(rows: &[Row]) -> Option<usize> {
-    for at in 0..rows.len() {
-        let row = rows[at];
-        if !is_network(row) {
-            return Some(at);
-        }
-        if at > 0 && (rows[at - 1].first, rows[at - 1].bits) >= (row.first, row.bits) {
-            return Some(at);
-        }
-    }
-    None
-}
-
-/// Writes the image of rows, which rise by their first addresses, and of one first address by their bits, into a buffer
-/// of `image_len` bytes or more. Of a row's link it takes no notice. Bytes behind the image stay as they are. It takes
-/// linear time, but for the climbs to the network around each network, and around each value of the first bits.
+/// Writes the image of rows, which rise by their first addresses, and of one first address by their bits, with the user's
+/// own bytes, into a buffer of `image_len` bytes or more. Of a row's link it takes no notice. Bytes behind the image stay as
+/// they are. It takes linear time, but for the climbs to the network around each network, and around each value of the
+/// first bits, and allocates nothing.
 ///
 /// # Errors
 ///
-/// There are too many rows, the buffer is too short, or the rows aren't in order; the buffer may hold part of an image
-/// then. What is written is checked, so at Ok it is an image of these very rows.
-pub fn write(rows: &[Row], out: &mut [u8]) -> Result<(), WriteError>
-    ensures full { IfErr result (λ e. e ≡ WriteError.Full → 2 ^ 32 ≤ length rows.now) }
-    ensures short { IfErr result (λ e. e ≡ WriteError.Short
-        → length out.old < 64 + row_size of_ipv4 * length rows.now + 2 ^ 25) }
-    ensures short_few { IfErr result (λ e. e ≡ WriteError.Short → length rows.now < 256
-        → length out.old < 64 + row_size of_ipv4 * length rows.now) }
+/// In this order: there are too many rows, the buffer is too short, or the rows aren't in order. The buffer is as before.
+pub fn write(rows: &[Row], payload: &[u8], out: &mut [u8]) -> Result<(), WriteError>
+    ensures ok { IsOk result ↔ CanWrite of_ipv4 (each row4_of rows.now) (length payload.now)
+        (length out.old) }
+    ensures fault { IfErr result (IsWriteFault of_ipv4 (each row4_of rows.now)
+        (length payload.now) (length out.old)) }
     ensures image { OnOk result (IsImage of_ipv4 out.new) }
     ensures rows { OnOk result (image_rows of_ipv4 out.new ≡ each row4_of rows.now) }
+    ensures payload { OnOk result (HoldsPayload out.new payload.now) }
+    ensures change { ChangesWithin 0 (image_size of_ipv4 (length rows.now) (length payload.now))
+        out.old out.new }
+    ensures unchanged { OnErr result (out.new ≡ out.old) }
 {
-    let count = rows.len();
-    let Some(plan) = layout(false, count) else {
-        return Err(WriteError::Full);
-    };
-    if let Some(at) = unsorted(rows) {
-        return Err(WriteError::Unsorted(at));
-    }
-    if !put_head(out, false, plan) {
-        return Err(WriteError::Short);
-    }
-    for at in 0..count {
-        if !put_row(out, at, rows[at]) {
-            return Err(WriteError::Unsorted(at));
-        }
-    }
-    if !put_cells(out, false, plan.cells) {
-        return Err(WriteError::Unsorted(count));
-    }
-    if !is_image(out) || !are_rows(out, rows) {
-        return Err(WriteError::Unsorted(count));
-    }
-    Ok(())
+    write::write(rows, payload, out)
 }

@@ -10,6 +10,7 @@ mod layout;
 mod networks;
 mod rows;
 mod search;
+mod write;
 
 pub use image_parts::{ImageError, WriteError, payload};
 

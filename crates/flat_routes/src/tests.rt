@@ -33,15 +33,16 @@ const IPV6: [u8; 296] = [
     0, 0, 0, 4, 0, 0, 0, 1, 0, 0, 0, 4, 0, 0, 0, 1, 0, 0, 0, 5, 0, 0, 0, 0, 0, 0, 0,
 ];
 
-/// The rows of `IPV4` with no cells and no other part.
-const PLAIN: [u8; 176] = [
-    78, 90, 73, 80, 86, 52, 46, 49, 7, 0, 0, 0, 2, 0, 0, 0, 1, 0, 0, 0, 0, 0, 0, 0, 64, 0, 0, 0, 0,
-    0, 0, 0, 112, 0, 0, 0, 0, 0, 0, 0, 2, 0, 0, 0, 0, 0, 0, 0, 176, 0, 0, 0, 0, 0, 0, 0, 0, 0, 0,
-    0, 0, 0, 0, 0, 0, 0, 0, 10, 8, 0, 0, 0, 0, 0, 0, 0, 100, 0, 0, 0, 0, 0, 0, 10, 16, 0, 0, 0, 1,
-    0, 0, 0, 101, 0, 0, 0, 0, 0, 1, 10, 16, 0, 0, 0, 1, 0, 0, 0, 102, 0, 0, 0, 0, 2, 1, 10, 24, 0,
-    0, 0, 3, 0, 0, 0, 103, 0, 0, 0, 0, 0, 0, 128, 2, 0, 0, 0, 0, 0, 0, 0, 104, 0, 0, 0, 0, 2, 0,
-    192, 24, 0, 0, 0, 0, 0, 0, 0, 105, 0, 0, 0, 255, 255, 255, 255, 32, 0, 0, 0, 0, 0, 0, 0, 106,
-    0, 0, 0,
+/// The rows of `IPV4` and five bytes of the user's own, with no cells, as `write` lays them out.
+const PLAIN: [u8; 205] = [
+    78, 90, 73, 80, 86, 52, 46, 49, 7, 0, 0, 0, 3, 0, 0, 0, 1, 0, 0, 0, 0, 0, 0, 0, 88, 0, 0, 0, 0,
+    0, 0, 0, 112, 0, 0, 0, 0, 0, 0, 0, 2, 0, 0, 0, 0, 0, 0, 0, 200, 0, 0, 0, 0, 0, 0, 0, 0, 0, 0,
+    0, 0, 0, 0, 0, 3, 0, 0, 0, 0, 0, 0, 0, 200, 0, 0, 0, 0, 0, 0, 0, 5, 0, 0, 0, 0, 0, 0, 0, 0, 0,
+    0, 10, 8, 0, 0, 0, 0, 0, 0, 0, 100, 0, 0, 0, 0, 0, 0, 10, 16, 0, 0, 0, 1, 0, 0, 0, 101, 0, 0,
+    0, 0, 0, 1, 10, 16, 0, 0, 0, 1, 0, 0, 0, 102, 0, 0, 0, 0, 2, 1, 10, 24, 0, 0, 0, 3, 0, 0, 0,
+    103, 0, 0, 0, 0, 0, 0, 128, 2, 0, 0, 0, 0, 0, 0, 0, 104, 0, 0, 0, 0, 2, 0, 192, 24, 0, 0, 0, 0,
+    0, 0, 0, 105, 0, 0, 0, 255, 255, 255, 255, 32, 0, 0, 0, 0, 0, 0, 0, 106, 0, 0, 0, 104, 101,
+    108, 108, 111,
 ];
 
 #[test]
@@ -200,9 +201,9 @@ fn row(first: u32, bits: u32, value: u32) -> Row {
     }
 }
 
-#[test]
-fn written_image(rt: HostRuntime) {
-    let mut rows = [
+/// The rows of `IPV4`.
+fn rows_of_ipv4() -> [Row; 7] {
+    [
         row(0x0a00_0000, 8, 100),
         row(0x0a00_0000, 16, 101),
         row(0x0a01_0000, 16, 102),
@@ -210,15 +211,77 @@ fn written_image(rt: HostRuntime) {
         row(0x8000_0000, 2, 104),
         row(0xc000_0200, 24, 105),
         row(0xffff_ffff, 32, 106),
-    ];
-    let mut out = [7u8; 180];
-    assert!(rt; ipv4::image_len(7) == Some(176));
-    assert!(rt; ipv4::write(&rows, &mut out) == Ok(()));
+    ]
+}
+
+#[test]
+fn written_image(rt: HostRuntime) {
+    let rows = rows_of_ipv4();
+    let mut out = [7u8; 209];
+    assert!(rt; ipv4::write(&rows, b"hello", &mut out) == Ok(()));
     assert!(rt; out.starts_with(&PLAIN) && out.ends_with(&[7u8; 4]));
-    let mut short = [0u8; 175];
-    assert!(rt; ipv4::write(&rows, &mut short) == Err(WriteError::Short));
-    rows[2].bits = 15;
-    assert!(rt; ipv4::write(&rows, &mut out) == Err(WriteError::Unsorted(2)));
+    assert!(rt; payload(&out) == Some((200, 5)));
+    assert!(rt; ipv4::write(&rows, b"hello", &mut out[..204]) == Err(WriteError::Short));
+    assert!(rt; ipv4::write(&rows, &[], &mut out[..200]) == Ok(()));
+    assert!(rt; payload(&out) == Some((200, 0)) && ipv4::is_image(&out[..200]));
+}
+
+#[test]
+fn image_of_no_row(rt: HostRuntime) {
+    let mut out = [0u8; 88];
+    assert!(rt; ipv4::write(&[], &[], &mut out) == Ok(()));
+    assert!(rt; ipv4::check(&out) == Ok(()) && ipv4::len(&out) == 0);
+    assert!(rt; ipv4::look(&out, 0).is_none() && ipv6::check(&out) == Err(ImageError::Mark));
+}
+
+#[test]
+fn lengths_of_images(rt: HostRuntime) {
+    const LENGTHS: &'static [(usize, usize, Option<usize>)] = &[
+        (0, 0, Some(88)),
+        (7, 5, Some(205)),
+        (255, 0, Some(4_168)),
+        (256, 0, Some(8_288)),
+        (511, 0, Some(12_368)),
+        (512, 0, Some(16_480)),
+        (600, 3, Some(17_891)),
+        (2_097_152, 0, Some(50_331_744)),
+        (4_294_967_295, 0, Some(68_736_254_032)),
+        (4_294_967_296, 0, None),
+        (
+            0,
+            18_446_744_073_709_551_527,
+            Some(18_446_744_073_709_551_615),
+        ),
+        (0, 18_446_744_073_709_551_528, None),
+    ];
+    for (rows, own, len) in LENGTHS {
+        assert!(rt; ipv4::image_len(*rows, *own) == *len, "{rows} {own}");
+    }
+    assert!(rt; ipv6::image_len(5, 1) == Some(249));
+}
+
+#[test]
+fn rows_out_of_order(rt: HostRuntime) {
+    const CHANGED: &'static [(usize, u32, u32)] = &[
+        (0, 0x0a00_0000, 33),
+        (0, 0x0a00_0001, 8),
+        (1, 0x0a00_0000, 8),
+        (2, 0x0a00_0000, 15),
+        (3, 0x0901_0200, 24),
+        (6, 0xffff_ffff, 31),
+    ];
+    let mut out = [7u8; 205];
+    for (at, first, bits) in CHANGED {
+        let mut rows = rows_of_ipv4();
+        if *at < 7 {
+            rows[*at] = row(*first, *bits, 0);
+        }
+        assert!(rt;
+            ipv4::write(&rows, b"hello", &mut out) == Err(WriteError::Unsorted(*at)),
+            "{at}"
+        );
+    }
+    assert!(rt; out == [7u8; 205]);
 }
 
 /// A row that is to be written.
@@ -240,10 +303,9 @@ fn written_image_of_ipv6(rt: HostRuntime) {
         wide_row((0x2001_0db8 << 96) + (1 << 64), 64, 103),
         wide_row(0xfe80 << 112, 10, 104),
     ];
-    let mut out = [0u8; 224];
-    assert!(rt; ipv6::image_len(5) == Some(224));
-    assert!(rt; ipv6::write(&rows, &mut out) == Ok(()));
-    assert!(rt; out[64..] == IPV6[64..224]);
+    let mut out = [0u8; 248];
+    assert!(rt; ipv6::write(&rows, &[], &mut out) == Ok(()));
+    assert!(rt; out[88..] == IPV6[64..224]);
     let mut found = [9u32; 2];
     let count = ipv6::look_many(&out, &[0, (0x2001_0db8 << 96) + (1 << 64)], &mut found);
     assert!(rt; count == 2 && found == [1, 4]);
@@ -255,9 +317,12 @@ fn are_found(alloc: Global, count: u32) -> Option<bool> {
     for i in 0..count {
         rows.push(row(i << 8, 24, i)).ok()?;
     }
-    let len = ipv4::image_len(rows.len())?;
+    let len = ipv4::image_len(rows.len(), 3)?;
     let mut out = Vec::from_elem(alloc, 0u8, len).ok()?;
-    if ipv4::write(&rows, &mut out) != Ok(()) {
+    if ipv4::write(&rows, b"end", &mut out) != Ok(()) || !ipv4::is_image(&out) {
+        return Some(false);
+    }
+    if payload(&out) != Some((len.saturating_sub(3), 3)) || !out.ends_with(b"end") {
         return Some(false);
     }
     for i in 0..count {

@@ -1,8 +1,9 @@
 -- What numbers in bytes say when bytes are put, and what is listed of a function.
-use Rattle.std.proofs.Common.{◌≡◌, ℕ, zero, suc, ◌+◌, ◌^◌, ◌<◌, ◌≤◌, inl, inr, List, [], ◌∷◌, ◌++◌, Some, None, length, slice_get, slice_index, take, drop, Fits, w8, refl, ap, sym, subst, ◌∙◌, arith}
+use Rattle.std.proofs.Common.{◌≡◌, ℕ, zero, suc, ◌+◌, ◌^◌, ◌<◌, ◌≤◌, inl, inr, List, [], ◌∷◌, ◌++◌, Some, None, length, slice_get, slice_index, take, drop, unwrap_or, Fits, w8, refl, ap, sym, subst, ◌∙◌, arith}
 use Rattle.std.specs.Int.{w32, w64, from_le_bytes, to_le_bytes}
 use Rattle.std.proofs.lemmas.Bool.{cases_lt}
-use Rattle.std.proofs.lemmas.List.{drop_more, length-append, take-append-le, take_all}
+use Rattle.std.proofs.lemmas.List.{drop_more, ext_get_or, length-append, take-append-le, take_all}
+use Rattle.std.proofs.lemmas.Option.{unwrap_or-slice_get}
 use Rattle.std.proofs.lemmas.Nat.{from_le_bytes-to_le_bytes_4, from_le_bytes-to_le_bytes_8}
 use Rattle.image_parts.specs.Parts.{IsEntry, listed, u32_in, u64_in}
 
@@ -106,6 +107,12 @@ listed_next f n = refl
 pub listed_more : {X : Type 0} (f : ℕ → X) (n : ℕ) → listed f (n + 1) ≡ listed f n ++ f n ∷ []
 listed_more f n = let next : suc n ≡ n + 1 = omega arith in subst (λ m. listed f m ≡ listed f n ++ f n ∷ []) next (listed_next f n)
 
+-- of functions with the same values the same is listed
+pub listed_same : {X : Type 0} (f g : ℕ → X) (n : ℕ) → ((k : ℕ) → k < n → f k ≡ g k) → listed f n ≡ listed g n
+unfolding listed
+listed_same f g zero same = refl
+listed_same f g (suc n) same = ap (λ xs. xs ++ f n ∷ []) (listed_same f g n (λ k l. same k (omega (arith, l)))) ∙ ap (λ x. listed g n ++ x ∷ []) (same n (omega arith))
+
 -- what is stored in a list is stored in it and one more
 stored_left : {X : Type 0} (xs ys : List X) (i : ℕ) (x : X) → slice_get xs i ≡ Some x → slice_get (xs ++ ys) i ≡ Some x
 stored_left [] ys i x at = absurd (cc at)
@@ -140,6 +147,14 @@ pub none_past : {X : Type 0} (xs : List X) (i : ℕ) → length xs ≤ i → sli
 none_past [] i l = refl
 none_past (y ∷ xs) zero l = absurd (omega (arith, l))
 none_past (y ∷ xs) (suc i) l = none_past xs i (omega (arith, l))
+
+-- a list whose items are a function's values is what is listed of it
+pub listed_all : {X : Type 0} (f : ℕ → X) (xs : List X) (n : ℕ) → length xs ≡ n → ((k : ℕ) → k < n → slice_get xs k ≡ Some (f k)) → listed f n ≡ xs
+listed_all f xs n many stored =
+    let d = f 0 in
+    ext_get_or d (listed f n) xs (length-listed f n ∙ sym many) (λ k l.
+        let inside : k < n = omega (arith, l, length-listed f n) in
+        sym (unwrap_or-slice_get (listed f n) k d) ∙ ap (λ o. unwrap_or o d) (listed_at f n k inside ∙ sym (stored k inside)) ∙ unwrap_or-slice_get xs k d)
 
 -- an item of a list is a value at an index that it has
 pub listed_is : {X : Type 0} (f : ℕ → X) (n i : ℕ) (x : X) → slice_get (listed f n) i ≡ Some x → (i < n) × (f i ≡ x)

@@ -4,7 +4,7 @@ use Rattle.std.proofs.lemmas.Bool.{cases_lt}
 use Rattle.frozen_routes.specs.Routes.{IsTopCell}
 use Rattle.image_parts.proofs.ByteLemmas.{listed_at, listed_is}
 use Rattle.flat_routes.specs.Faults.{IsCellRight}
-use Rattle.flat_routes.specs.Images.{cell_count, cell_in, bases, links, sizes, width}
+use Rattle.flat_routes.specs.Images.{cell_count, cell_in, bases, sizes, width}
 use Rattle.flat_routes.proofs.ImageLemmas.{all_rise, length-firsts, length-links, no_fault}
 use Rattle.flat_routes.proofs.check.check.Goals as goal
 
@@ -66,7 +66,7 @@ returns-clause-image c = (
         head = c.in_ok-plan.ensures.plan.head;
         plain = c.in_ok-plan.ensures.plain;
         whole = c.in_ok-plan.ensures.whole;
-        rising = all_rise w fs bs (links c.args.wide bytes) c.loop-at.at c.loop-at.invariant end;
+        rising = all_rise w fs bs c.loop-at.at c.loop-at.invariant.next end;
         linked = λ k l. c.loop-at.invariant.links k (omega (arith, l, length-links c.args.wide bytes, all, end));
         tops = record {
           shift = c.in_ok-plan.ensures.plan.head.shift;

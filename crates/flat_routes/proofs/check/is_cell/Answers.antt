@@ -29,7 +29,7 @@ returns-then-cell-plan-2 c =
       | inr ge ↦ (let most = width_most c.args.wide in omega (arith, most, ge))
     ] in
     let within : cell.count ≤ length fs = omega (arith, all, c.requires.plan.rows, c.cell_at-cell.ensures.count, c.if-cell-plan.false) in
-    let rising = all_rise w fs bs (links c.args.wide c.args.image.now) c.args.plan.rows c.requires.linked (omega (arith, all, c.requires.plan.rows)) in
+    let rising = all_rise w fs bs c.args.plan.rows c.requires.linked.next (omega (arith, all, c.requires.plan.rows)) in
     let none = none_behind w fs bs cell.count start rising within behind in (
       λ yes. record {
         count = record {

@@ -2,7 +2,7 @@ use Rattle.std.proofs.Common.{◌-◌, ◌<◌, inl, inr, arith, get_or, subst, 
 use Rattle.std.proofs.lemmas.Bool.{cases_lt}
 use Rattle.frozen_routes.specs.Routes.{IsHolderAt, IsLastHolder}
 use Rattle.sorted_tables.proofs.TableLemmas.Links.{climb_on}
-use Rattle.flat_routes.specs.Images.{bases, links, sizes, width}
+use Rattle.flat_routes.specs.Images.{bases, sizes, width}
 use Rattle.flat_routes.proofs.ImageLemmas.{around_first}
 use Rattle.flat_routes.proofs.search.climb.Goals as goal
 
@@ -31,7 +31,7 @@ loop-at-preserved c = record {
       let link = subst (IsLastHolder w fs bs (at - 1) (get_or fs (at - 1) 0)) (sym c.link_at-link.ensures) (linked.links (at - 1) inside) in
       let size = ((linked.next (at - 1) inside).base).1 in
       climb_on (IsHolderAt w fs bs c.args.number) (IsHolderAt w fs bs (get_or fs (at - 1) 0)) c.args.from at _ some
-      (λ k l. around_first w fs bs (links c.args.wide c.args.image.now) c.args.from linked c.args.number (at - 1) k l inside (before (at - 1) inside))
+      (λ k l. around_first w fs bs c.args.from linked.next c.args.number (at - 1) k l inside (before (at - 1) inside))
       (λ p. let no = (c.holds_at.ensures size).1 p in let same = c.if-holds_at.false in cc (no, same))
       (c.loop-at.invariant.none linked before) link;
 }

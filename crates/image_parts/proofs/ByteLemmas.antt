@@ -153,8 +153,8 @@ pub listed_all : {X : Type 0} (f : ℕ → X) (xs : List X) (n : ℕ) → length
 listed_all f xs n many stored =
     let d = f 0 in
     ext_get_or d (listed f n) xs (length-listed f n ∙ sym many) (λ k l.
-        let inside : k < n = omega (arith, l, length-listed f n) in
-        sym (unwrap_or-slice_get (listed f n) k d) ∙ ap (λ o. unwrap_or o d) (listed_at f n k inside ∙ sym (stored k inside)) ∙ unwrap_or-slice_get xs k d)
+    let inside : k < n = omega (arith, l, length-listed f n) in
+    sym (unwrap_or-slice_get (listed f n) k d) ∙ ap (λ o. unwrap_or o d) (listed_at f n k inside ∙ sym (stored k inside)) ∙ unwrap_or-slice_get xs k d)
 
 -- an item of a list is a value at an index that it has
 pub listed_is : {X : Type 0} (f : ℕ → X) (n i : ℕ) (x : X) → slice_get (listed f n) i ≡ Some x → (i < n) × (f i ≡ x)

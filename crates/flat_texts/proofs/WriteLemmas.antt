@@ -1,11 +1,17 @@
 -- Pairs that are to be written.
-use Rattle.std.proofs.Common.{◌≡◌, ℕ, zero, suc, ◌+◌, ◌<◌, ◌≤◌, Bool, false, eqb, not, List, [], ◌∷◌, ◌++◌, length, map as each, get_or, take, refl, ap, sym, ◌∙◌, arith}
+use Rattle.std.proofs.Common.{◌≡◌, ℕ, zero, suc, ◌+◌, ◌-◌, ◌<◌, ◌≤◌, Bool, false, eqb, not, List, [], ◌∷◌, ◌++◌, length, map as each, get_or, take, refl, ap, subst, sym, ◌∙◌, arith}
 use Rattle.std.proofs.lemmas.Bool.{not-false}
 use Rattle.std.proofs.lemmas.Bool.Decides.{Decides-eqb}
-use Rattle.std.proofs.lemmas.List.{map_push, take_more}
+use Rattle.std.proofs.lemmas.List.{get_or-map, get_or-take, length-map, length-take-le, map_push, take_more}
 use Rattle.std.proofs.lemmas.List.Sums.{sum_by-cons}
 use Rattle.std.proofs.lemmas.Slice.Eq.{slice_eq-Decides}
 use Rattle.std.specs.Cmp.Lexicographic.{pointwise}
+use Rattle.nibble_map.specs.Lists.{IsBefore, IsRising}
+use Rattle.nibble_map.specs.Nibbles.{nibbles}
+use Rattle.frozen_trie.specs.Codes.{code_at}
+use Rattle.frozen_trie.specs.Frozen.{codes_of}
+use Rattle.frozen_trie.proofs.CodeLemmas.Parts.{rising_at}
+use Rattle.frozen_trie.proofs.FrozenLemmas.Growth.{rising_more}
 use Rattle.image_parts.specs.Parts.{listed}
 use Rattle.image_parts.proofs.ByteLemmas.{listed_more}
 use Rattle.flat_texts.specs.TextImages.{key_in, keys_len, pair_in, pair_of, stored_value}
@@ -32,3 +38,36 @@ pairs_more bs ps i d l same key value =
     ∙ ap (λ k. each pair_of (take i ps) ++ (k, stored_value bs i) ∷ []) key
     ∙ ap (λ v. each pair_of (take i ps) ++ ((get_or ps i d).key.now, v) ∷ []) value
     ∙ sym (ap (λ qs. each pair_of qs) (take_more ps i d l) ∙ map_push pair_of (take i ps) (get_or ps i d))
+
+-- the nibbles of the key at an index
+pub code_of : (ps : List Pair) (i : ℕ) (d : Pair) → i < length ps → code_at (codes_of nibbles (each pair_of ps)) i ≡ nibbles ((get_or ps i d).key.now)
+code_of ps i d l =
+    get_or-map (λ (p : List ℕ × ℕ). nibbles p.0) (each pair_of ps) i (pair_of d) [] (omega (arith, l, length-map ps pair_of))
+    ∙ ap (λ (p : List ℕ × ℕ). nibbles p.0) (get_or-map pair_of ps i d (pair_of d) l)
+
+-- as many as pairs
+pub length-pair_codes : (ps : List Pair) → length (codes_of nibbles (each pair_of ps)) ≡ length ps
+length-pair_codes ps = omega (arith, length-map (each pair_of ps) (λ (p : List ℕ × ℕ). nibbles p.0), length-map ps pair_of)
+
+-- one list rises
+pub one_rises : (cs : List (List ℕ)) → IsRising (take 1 cs)
+one_rises [] = tt
+one_rises (c ∷ cs) = (tt, tt)
+
+-- rising lists rise with one more that comes after the last of them
+pub next_rises : (cs : List (List ℕ)) (i : ℕ) → 0 < i → i < length cs → IsRising (take i cs) → IsBefore (code_at cs (i - 1)) (code_at cs i) → IsRising (take (i + 1) cs)
+next_rises cs i some l rises before =
+    let all : length (take i cs) ≡ i = length-take-le i cs (omega (arith, l)) in
+    let last : code_at (take i cs) (length (take i cs) - 1) ≡ code_at cs (i - 1) =
+    ap (λ n. code_at (take i cs) (n - 1)) all ∙ get_or-take i cs (i - 1) [] (omega (arith, some)) in
+    subst IsRising (sym (take_more cs i [] l))
+    (rising_more (take i cs) (code_at cs i) (omega (arith, all, some)) rises (subst (λ c. IsBefore c (code_at cs i)) (sym last) before))
+
+-- and of those that do the last comes after the one before it
+pub next_before : (cs : List (List ℕ)) (i : ℕ) → 0 < i → i < length cs → IsRising (take (i + 1) cs) → IsBefore (code_at cs (i - 1)) (code_at cs i)
+next_before cs i some l rises =
+    let all : length (take (i + 1) cs) ≡ i + 1 = length-take-le (i + 1) cs (omega (arith, l)) in
+    let first : code_at (take (i + 1) cs) (i - 1) ≡ code_at cs (i - 1) = get_or-take (i + 1) cs (i - 1) [] (omega arith) in
+    let last : code_at (take (i + 1) cs) i ≡ code_at cs i = get_or-take (i + 1) cs i [] (omega arith) in
+    subst (IsBefore (code_at cs (i - 1))) last (subst (λ c. IsBefore c (code_at (take (i + 1) cs) i)) first
+    (rising_at (take (i + 1) cs) rises (i - 1) i (omega (arith, some)) (omega (arith, all))))

@@ -1,5 +1,5 @@
 -- A map from byte strings to numbers, laid into one run of bytes: what stands there, and when the bytes are such a map.
-use Rattle.std.specs.Prelude.{◌≡◌, ◌≢◌, ℕ, zero, suc, ◌+◌, ◌-◌, ◌*◌, ◌/◌, ◌%◌, ◌^◌, ◌<◌, ◌≤◌, ◌⊎◌, Bool, true, false, List, [], Option, None, Some, if◌then◌else◌, codes, drop, length, nat_lt, slice_index_or, sum_by, take, map as each}
+use Rattle.std.specs.Prelude.{◌≡◌, ◌≢◌, ℕ, zero, suc, ◌+◌, ◌-◌, ◌*◌, ◌%◌, ◌^◌, ◌<◌, ◌≤◌, ◌⊎◌, Bool, true, false, List, Option, None, Some, if◌then◌else◌, codes, drop, length, nat_lt, sum_by, take}
 use Rattle.std.specs.Int.{w64, from_le_bytes}
 use Rattle.nibble_map.specs.Lists.{IsBefore, IsPrefix}
 use Rattle.nibble_map.specs.Maps.{PairMap}
@@ -18,29 +18,33 @@ use Rattle.flat_texts.specs.declared.pair.Pair.{Pair}
 abbrev pub text_mark : ℕ
 text_mark = from_le_bytes w64 (codes "NZTEXT.1")
 
--- where the heads begin
+-- where the one part begins that is listed first, with the heads
 abbrev pub heads_place : List ℕ → ℕ
 heads_place bs = u64_in bs 24
 
--- where the pairs begin
-abbrev pub pairs_place : List ℕ → ℕ
-pairs_place bs = u64_in bs 48
-
--- where the counts begin
-abbrev pub counts_place : List ℕ → ℕ
-counts_place bs = u64_in bs 72
+-- how many bytes it has
+abbrev pub texts_size : List ℕ → ℕ
+texts_size bs = u64_in bs 32
 
 -- how many counts there are
 abbrev pub counts_listed : List ℕ → ℕ
-counts_listed bs = u64_in bs 80 / 4
+counts_listed bs = u32_in bs 20
 
--- where the keys' bytes begin
+-- where the pairs begin, behind the heads
+abbrev pub pairs_place : List ℕ → ℕ
+pairs_place bs = heads_place bs + 8 * row_count bs
+
+-- where the counts begin, behind the pairs
+abbrev pub counts_place : List ℕ → ℕ
+counts_place bs = heads_place bs + 24 * row_count bs
+
+-- where the keys' bytes begin, behind the counts
 abbrev pub keys_place : List ℕ → ℕ
-keys_place bs = u64_in bs 96
+keys_place bs = heads_place bs + 24 * row_count bs + 4 * counts_listed bs
 
--- how many there are
+-- how many there are, up to the end of the part
 abbrev pub keys_size : List ℕ → ℕ
-keys_size bs = u64_in bs 104
+keys_size bs = texts_size bs - (24 * row_count bs + 4 * counts_listed bs)
 
 -- the head at i
 abbrev pub stored_head : List ℕ → ℕ → ℕ
@@ -113,17 +117,13 @@ key_bound true q = head_padded 15 16 q
 abbrev pub stored_heads : List ℕ → List ℕ
 stored_heads bs = listed (stored_head bs) (row_count bs)
 
--- the head is of this version, and lists the heads, the pairs, the counts and the keys' bytes first
+-- the head is of this version, and the first part that it lists has room for the heads, the pairs and the counts
 pub record HasTextHead (bs : List ℕ) : Type 0 where
   pub marked : u64_in bs 0 ≡ text_mark
-  pub some : 4 ≤ part_count bs
+  pub some : 1 ≤ part_count bs
   pub fits : 16 + 24 * part_count bs ≤ length bs
-  pub heads : IsListed bs 16 4
-  pub heads_size : u64_in bs 32 ≡ 8 * row_count bs
-  pub pairs : IsListed bs 40 5
-  pub pairs_size : u64_in bs 56 ≡ 16 * row_count bs
-  pub counts : IsListed bs 64 6
-  pub keys : IsListed bs 88 7
+  pub part : IsListed bs 16 4
+  pub room : 24 * row_count bs + 4 * counts_listed bs ≤ texts_size bs
 
 -- a plan says what the head says
 pub record IsTextPlan (bs : List ℕ) (plan : Plan) : Type 0 where
@@ -150,39 +150,26 @@ pub record IsRightPair (bs : List ℕ) (i : ℕ) : Type 0 where
 abbrev pub AreRightPairs : List ℕ → ℕ → Type 0
 AreRightPairs bs n = (i : ℕ) → i < n → IsRightPair bs i
 
--- the first four parts have no detail, and the counts fill theirs
-pub record HasNoRest (bs : List ℕ) : Type 0 where
-  pub heads : u32_in bs 20 ≡ 0
-  pub pairs : u32_in bs 44 ≡ 0
-  pub counts : u32_in bs 68 ≡ 0
-  pub whole : u64_in bs 80 ≡ 4 * counts_listed bs
-  pub keys : u32_in bs 92 ≡ 0
-
--- the bytes are an image: head and parts are such, each pair is right, and each count says how many heads are below its index
--- times 2 to the 48
+-- the bytes are an image: the head is one, each pair is right, and each count says how many heads are below its index times 2
+-- to the 48
 pub record IsTextImage (bs : List ℕ) : Type 0 where
   pub head : HasTextHead bs
-  pub parts : HasNoRest bs
   pub pairs : AreRightPairs bs (row_count bs)
   pub counts : (t : ℕ) → t < counts_listed bs → IsTop (stored_heads bs) t (stored_count bs t)
 
--- so many bytes aren't enough for the head and the list of the parts, or the first 8 bytes are others, or of another version;
--- one of the first four parts isn't as it must be; or this is the first pair, or count, that isn't right
+-- why bytes are no image: there is no room for the head and the list of the parts; the first 8 bytes are others, or of another
+-- version; the part isn't listed first, or too small; or this is the first pair, or a count, that isn't right
 abbrev pub IsImageFault : List ℕ → ImageError → Type 0
-IsImageFault bs Short = (length bs < 112) ⊎ (length bs < 16 + 24 * part_count bs)
+IsImageFault bs Short = (length bs < 40) ⊎ (length bs < 16 + 24 * part_count bs)
 IsImageFault bs Mark = u64_in bs 0 % 2 ^ 56 ≢ text_mark % 2 ^ 56
 IsImageFault bs Version = (u64_in bs 0 % 2 ^ 56 ≡ text_mark % 2 ^ 56) × (u64_in bs 0 ≢ text_mark)
-IsImageFault bs (Part i) = i < 4
+IsImageFault bs (Part i) = (i ≡ 0) × (HasTextHead bs → ⊥)
 IsImageFault bs (Row i) = (i < row_count bs) × AreRightPairs bs i × (IsRightPair bs i → ⊥)
 IsImageFault bs (Cell t) = (t < counts_listed bs) × (IsTop (stored_heads bs) t (stored_count bs t) → ⊥)
 
 -- a pair as the calls take and give it
 abbrev pub pair_of : Pair → List ℕ × ℕ
 pair_of p = (p.key.now, p.value)
-
--- the key of the pair at i
-abbrev pub key_of : List Pair → ℕ → List ℕ
-key_of ps i = slice_index_or (each (λ p. p.key.now) ps) i []
 
 -- how many bytes the keys of pairs have
 abbrev pub keys_len : List Pair → ℕ
@@ -194,9 +181,4 @@ counts_size n = if nat_lt n 65536 then 0 else 262148
 
 -- how many bytes an image takes, as it is written
 abbrev pub image_size : List Pair → ℕ
-image_size ps = 112 + 24 * length ps + counts_size (length ps) + keys_len ps
-
--- the key at i doesn't come after the one before it
-abbrev pub IsUnsorted : List Pair → ℕ → Type 0
-IsUnsorted ps i = (0 < i) × (i < length ps)
-    × (IsBefore (nibbles (key_of ps (i - 1))) (nibbles (key_of ps i)) → ⊥)
+image_size ps = 40 + 24 * length ps + counts_size (length ps) + keys_len ps

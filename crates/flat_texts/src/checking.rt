@@ -1,15 +1,15 @@
 //! Whether bytes are an image.
-ghost use Rattle.std.specs.Prelude.{◌≡◌, ◌↔◌, ◌*◌, ◌-◌, ◌^◌, ◌<◌, ◌≤◌, ℕ, IfErr, IfSome, IsNone, IsOk, IsTrue, length};
+ghost use Rattle.std.specs.Prelude.{◌≡◌, ◌↔◌, ◌*◌, ◌-◌, ◌^◌, ◌<◌, ◌≤◌, ℕ, IfErr, IsOk, IsTrue, length};
 ghost use Rattle.nibble_map.specs.Lists.{IsBefore};
 ghost use Rattle.frozen_trie.specs.Heads.{IsTop};
 ghost use Rattle.image_parts.specs.Parts.{row_count};
-ghost use Rattle.flat_texts.specs.TextImages.{AreRightPairs, HasNoRest, IsImageFault, IsRightPair, IsTextImage, IsTextPlan, key_code, stored_count, stored_head, stored_heads};
+ghost use Rattle.flat_texts.specs.TextImages.{AreRightPairs, IsImageFault, IsRightPair, IsTextImage, IsTextPlan, key_code, stored_count, stored_head, stored_heads};
 
 use crate::head::{Plan, plan_of};
 use crate::heads::head_of;
 use crate::pairs::{count_at, end_at, head_at, key_at, link_at, start_at};
 use crate::search::climb;
-use image_parts::{ImageError, u32_at, u64_at};
+use image_parts::ImageError;
 use radix_keys::NibbleSlice;
 
 /// Whether the key at an index comes after the one before it.
@@ -91,27 +91,6 @@ fn is_count(image: &[u8], plan: Plan, at: usize) -> bool
     are_from(image, plan, count, at)
 }
 
-/// The first of the four parts that has a detail, or leaves a rest behind its counts.
-fn part_with_rest(image: &[u8]) -> Option<usize>
-    requires { 112 ≤ length image.now }
-    ensures none { IsNone result ↔ HasNoRest image.now }
-    ensures within { IfSome result (λ part. part < 4) }
-{
-    if u32_at(image, 20) != 0 {
-        return Some(0);
-    }
-    if u32_at(image, 44) != 0 {
-        return Some(1);
-    }
-    if u32_at(image, 68) != 0 || u64_at(image, 80) % 4 != 0 {
-        return Some(2);
-    }
-    if u32_at(image, 92) != 0 {
-        return Some(3);
-    }
-    None
-}
-
 /// Whether bytes are an image. It takes linear time, but for the climb from each key to its longest stored prefix.
 ///
 /// # Errors
@@ -125,9 +104,6 @@ pub fn check(image: &[u8]) -> Result<(), ImageError>
         Ok(plan) => plan,
         Err(error) => return Err(error),
     };
-    if let Some(part) = part_with_rest(image) {
-        return Err(ImageError::Part(part));
-    }
     for at in 0..plan.pairs {
         if !is_pair(image, plan, at) {
             return Err(ImageError::Row(at));

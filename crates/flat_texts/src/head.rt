@@ -50,14 +50,14 @@ fn other_mark(own: u64) -> ImageError
 ///
 /// # Errors
 ///
-/// The head is none, or doesn't list the parts.
+/// The head is none, or the part of an image isn't listed first.
 #[inline(always)]
 pub(crate) fn plan_of(image: &[u8]) -> Result<Plan, ImageError>
     ensures plan { IfOk result (λ plan. IsTextPlan image.now plan) }
     ensures refused { IfErr result (λ _. HasTextHead image.now → ⊥) }
     ensures fault { IfErr result (λ e. IsImageFault image.now e) }
 {
-    if image.len() < 112 {
+    if image.len() < 40 {
         return Err(ImageError::Short);
     }
     let own = u64_at(image, 0);
@@ -65,55 +65,28 @@ pub(crate) fn plan_of(image: &[u8]) -> Result<Plan, ImageError>
         return Err(other_mark(own));
     }
     let parts = u32_at(image, 12) as usize;
-    if parts < 4 {
-        return Err(ImageError::Part(parts));
+    if parts < 1 {
+        return Err(ImageError::Part(0));
     }
     if 16 + 24 * parts > image.len() {
         return Err(ImageError::Short);
     }
-    parts_of(image)
-}
-
-/// The same where the list of the parts is inside the bytes.
-///
-/// # Errors
-///
-/// A part isn't listed where it has to be.
-#[inline(always)]
-fn parts_of(image: &[u8]) -> Result<Plan, ImageError>
-    requires marked { u64_in image.now 0 ≡ text_mark }
-    requires some { 4 ≤ part_count image.now }
-    requires fits { 16 + 24 * part_count image.now ≤ length image.now }
-    ensures plan { IfOk result (λ plan. IsTextPlan image.now plan) }
-    ensures refused { IfErr result (λ _. HasTextHead image.now → ⊥) }
-    ensures fault { IfErr result (λ e. IsImageFault image.now e) }
-{
-    let Some((heads_at, heads_len)) = part_at(image, 16, 4) else {
+    let Some((heads_at, len)) = part_at(image, 16, 4) else {
         return Err(ImageError::Part(0));
-    };
-    let Some((pairs_at, pairs_len)) = part_at(image, 40, 5) else {
-        return Err(ImageError::Part(1));
-    };
-    let Some((counts_at, counts_len)) = part_at(image, 64, 6) else {
-        return Err(ImageError::Part(2));
-    };
-    let Some((keys_at, keys_len)) = part_at(image, 88, 7) else {
-        return Err(ImageError::Part(3));
     };
     let pairs = u32_at(image, 8) as usize;
-    if heads_len != 8 * pairs {
+    let counts = u32_at(image, 20) as usize;
+    let keys = 24 * pairs + 4 * counts;
+    if keys > len {
         return Err(ImageError::Part(0));
-    }
-    if pairs_len != 16 * pairs {
-        return Err(ImageError::Part(1));
     }
     Ok(Plan {
         pairs,
         heads_at,
-        pairs_at,
-        counts: counts_len / 4,
-        counts_at,
-        keys_at,
-        keys_len,
+        pairs_at: heads_at + 8 * pairs,
+        counts,
+        counts_at: heads_at + 24 * pairs,
+        keys_at: heads_at + keys,
+        keys_len: len - keys,
     })
 }

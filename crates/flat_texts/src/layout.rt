@@ -26,16 +26,17 @@ pub(crate) fn layout(pairs: usize, keys_len: usize) -> Plan
     requires short { keys_len < 2 ^ 32 }
     ensures pairs { result.pairs ≡ pairs }
     ensures counts { result.counts ≤ 65537 }
-    ensures start { 112 ≤ result.keys_at }
+    ensures start { 40 ≤ result.keys_at }
+    ensures heads { result.heads_at ≡ 40 }
     ensures end { result.keys_at + result.keys_len
-        ≡ 112 + 24 * pairs + counts_size pairs + keys_len }
+        ≡ 40 + 24 * pairs + counts_size pairs + keys_len }
 {
     let counts = counts_for(pairs);
-    let counts_at = 112 + 24 * pairs;
+    let counts_at = 40 + 24 * pairs;
     Plan {
         pairs,
-        heads_at: 112,
-        pairs_at: 112 + 8 * pairs,
+        heads_at: 40,
+        pairs_at: 40 + 8 * pairs,
         counts,
         counts_at,
         keys_at: counts_at + 4 * counts,
@@ -47,7 +48,8 @@ pub(crate) fn layout(pairs: usize, keys_len: usize) -> Plan
 pub(crate) fn put_head(out: &mut [u8], plan: Plan) -> bool
     requires few { plan.pairs < 2 ^ 32 }
     requires counts { plan.counts ≤ 65537 }
-    requires start { 112 ≤ plan.keys_at }
+    requires heads { plan.heads_at ≡ 40 }
+    requires start { 40 ≤ plan.keys_at }
     requires end { plan.keys_at + plan.keys_len < 2 ^ 40 }
     ensures short { IsFalse result → length out.old < plan.keys_at + plan.keys_len }
 {
@@ -56,11 +58,9 @@ pub(crate) fn put_head(out: &mut [u8], plan: Plan) -> bool
     }
     put_u64(out, 0, mark());
     put_u32(out, 8, plan.pairs as u32);
-    put_u32(out, 12, 4);
-    put_part(out, 16, 4, 0, plan.heads_at, 8 * plan.pairs);
-    put_part(out, 40, 5, 0, plan.pairs_at, 16 * plan.pairs);
-    put_part(out, 64, 6, 0, plan.counts_at, 4 * plan.counts);
-    put_part(out, 88, 7, 0, plan.keys_at, plan.keys_len);
+    put_u32(out, 12, 1);
+    let len = plan.keys_at + plan.keys_len - plan.heads_at;
+    put_part(out, 16, 4, plan.counts as u32, plan.heads_at, len);
     true
 }
 

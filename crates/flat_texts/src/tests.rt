@@ -8,41 +8,37 @@ use std::alloc::Global;
 
 /// Nine pairs, whose keys share first bytes, go on from one another, and end with zeros: "", "a", "a" and a zero, "abc",
 /// "abcdefgh", the same and a zero, "abcdefghi", "abd", and nine bytes 255. Their values are 10 and more. There are three
-/// counts, and five bytes of the user's own before the pairs, the heads, the counts and the keys.
-const STORED: [u8; 413] = [
-    78, 90, 84, 69, 88, 84, 46, 49, 9, 0, 0, 0, 5, 0, 0, 0, 4, 0, 0, 0, 0, 0, 0, 0, 29, 1, 0, 0, 0,
-    0, 0, 0, 72, 0, 0, 0, 0, 0, 0, 0, 5, 0, 0, 0, 0, 0, 0, 0, 141, 0, 0, 0, 0, 0, 0, 0, 144, 0, 0,
-    0, 0, 0, 0, 0, 6, 0, 0, 0, 0, 0, 0, 0, 101, 1, 0, 0, 0, 0, 0, 0, 12, 0, 0, 0, 0, 0, 0, 0, 7, 0,
-    0, 0, 0, 0, 0, 0, 113, 1, 0, 0, 0, 0, 0, 0, 44, 0, 0, 0, 0, 0, 0, 0, 3, 0, 0, 0, 99, 0, 0, 0,
-    136, 0, 0, 0, 0, 0, 0, 0, 5, 0, 0, 0, 0, 0, 0, 0, 104, 101, 108, 108, 111, 0, 0, 0, 0, 0, 0, 0,
-    0, 10, 0, 0, 0, 0, 0, 0, 0, 1, 0, 0, 0, 1, 0, 0, 0, 11, 0, 0, 0, 0, 0, 0, 0, 3, 0, 0, 0, 2, 0,
-    0, 0, 12, 0, 0, 0, 0, 0, 0, 0, 6, 0, 0, 0, 2, 0, 0, 0, 13, 0, 0, 0, 0, 0, 0, 0, 14, 0, 0, 0, 4,
-    0, 0, 0, 14, 0, 0, 0, 0, 0, 0, 0, 23, 0, 0, 0, 5, 0, 0, 0, 15, 0, 0, 0, 0, 0, 0, 0, 32, 0, 0,
-    0, 5, 0, 0, 0, 16, 0, 0, 0, 0, 0, 0, 0, 35, 0, 0, 0, 2, 0, 0, 0, 17, 0, 0, 0, 0, 0, 0, 0, 44,
-    0, 0, 0, 1, 0, 0, 0, 18, 0, 0, 0, 0, 0, 0, 0, 0, 0, 0, 0, 0, 0, 0, 0, 0, 0, 0, 0, 0, 0, 0, 97,
-    0, 0, 0, 0, 0, 0, 0, 97, 0, 0, 0, 0, 0, 99, 98, 97, 104, 103, 102, 101, 100, 99, 98, 97, 104,
-    103, 102, 101, 100, 99, 98, 97, 104, 103, 102, 101, 100, 99, 98, 97, 0, 0, 0, 0, 0, 100, 98,
-    97, 255, 255, 255, 255, 255, 255, 255, 255, 0, 0, 0, 0, 1, 0, 0, 0, 1, 0, 0, 0, 97, 97, 0, 97,
-    98, 99, 97, 98, 99, 100, 101, 102, 103, 104, 97, 98, 99, 100, 101, 102, 103, 104, 0, 97, 98,
-    99, 100, 101, 102, 103, 104, 105, 97, 98, 100, 255, 255, 255, 255, 255, 255, 255, 255, 255,
+/// counts, and before them all five bytes of the user's own.
+const STORED: [u8; 341] = [
+    78, 90, 84, 69, 88, 84, 46, 49, 9, 0, 0, 0, 2, 0, 0, 0, 4, 0, 0, 0, 3, 0, 0, 0, 69, 0, 0, 0, 0,
+    0, 0, 0, 16, 1, 0, 0, 0, 0, 0, 0, 3, 0, 0, 0, 99, 0, 0, 0, 64, 0, 0, 0, 0, 0, 0, 0, 5, 0, 0, 0,
+    0, 0, 0, 0, 104, 101, 108, 108, 111, 0, 0, 0, 0, 0, 0, 0, 0, 0, 0, 0, 0, 0, 0, 0, 97, 0, 0, 0,
+    0, 0, 0, 0, 97, 0, 0, 0, 0, 0, 99, 98, 97, 104, 103, 102, 101, 100, 99, 98, 97, 104, 103, 102,
+    101, 100, 99, 98, 97, 104, 103, 102, 101, 100, 99, 98, 97, 0, 0, 0, 0, 0, 100, 98, 97, 255,
+    255, 255, 255, 255, 255, 255, 255, 0, 0, 0, 0, 0, 0, 0, 0, 10, 0, 0, 0, 0, 0, 0, 0, 1, 0, 0, 0,
+    1, 0, 0, 0, 11, 0, 0, 0, 0, 0, 0, 0, 3, 0, 0, 0, 2, 0, 0, 0, 12, 0, 0, 0, 0, 0, 0, 0, 6, 0, 0,
+    0, 2, 0, 0, 0, 13, 0, 0, 0, 0, 0, 0, 0, 14, 0, 0, 0, 4, 0, 0, 0, 14, 0, 0, 0, 0, 0, 0, 0, 23,
+    0, 0, 0, 5, 0, 0, 0, 15, 0, 0, 0, 0, 0, 0, 0, 32, 0, 0, 0, 5, 0, 0, 0, 16, 0, 0, 0, 0, 0, 0, 0,
+    35, 0, 0, 0, 2, 0, 0, 0, 17, 0, 0, 0, 0, 0, 0, 0, 44, 0, 0, 0, 1, 0, 0, 0, 18, 0, 0, 0, 0, 0,
+    0, 0, 0, 0, 0, 0, 1, 0, 0, 0, 1, 0, 0, 0, 97, 97, 0, 97, 98, 99, 97, 98, 99, 100, 101, 102,
+    103, 104, 97, 98, 99, 100, 101, 102, 103, 104, 0, 97, 98, 99, 100, 101, 102, 103, 104, 105, 97,
+    98, 100, 255, 255, 255, 255, 255, 255, 255, 255, 255,
 ];
 
 /// The same pairs as they are written, with no counts and no other part.
-const PLAIN: [u8; 372] = [
-    78, 90, 84, 69, 88, 84, 46, 49, 9, 0, 0, 0, 4, 0, 0, 0, 4, 0, 0, 0, 0, 0, 0, 0, 112, 0, 0, 0,
-    0, 0, 0, 0, 72, 0, 0, 0, 0, 0, 0, 0, 5, 0, 0, 0, 0, 0, 0, 0, 184, 0, 0, 0, 0, 0, 0, 0, 144, 0,
-    0, 0, 0, 0, 0, 0, 6, 0, 0, 0, 0, 0, 0, 0, 72, 1, 0, 0, 0, 0, 0, 0, 0, 0, 0, 0, 0, 0, 0, 0, 7,
-    0, 0, 0, 0, 0, 0, 0, 72, 1, 0, 0, 0, 0, 0, 0, 44, 0, 0, 0, 0, 0, 0, 0, 0, 0, 0, 0, 0, 0, 0, 0,
-    0, 0, 0, 0, 0, 0, 0, 97, 0, 0, 0, 0, 0, 0, 0, 97, 0, 0, 0, 0, 0, 99, 98, 97, 104, 103, 102,
-    101, 100, 99, 98, 97, 104, 103, 102, 101, 100, 99, 98, 97, 104, 103, 102, 101, 100, 99, 98, 97,
-    0, 0, 0, 0, 0, 100, 98, 97, 255, 255, 255, 255, 255, 255, 255, 255, 0, 0, 0, 0, 0, 0, 0, 0, 10,
-    0, 0, 0, 0, 0, 0, 0, 1, 0, 0, 0, 1, 0, 0, 0, 11, 0, 0, 0, 0, 0, 0, 0, 3, 0, 0, 0, 2, 0, 0, 0,
-    12, 0, 0, 0, 0, 0, 0, 0, 6, 0, 0, 0, 2, 0, 0, 0, 13, 0, 0, 0, 0, 0, 0, 0, 14, 0, 0, 0, 4, 0, 0,
-    0, 14, 0, 0, 0, 0, 0, 0, 0, 23, 0, 0, 0, 5, 0, 0, 0, 15, 0, 0, 0, 0, 0, 0, 0, 32, 0, 0, 0, 5,
-    0, 0, 0, 16, 0, 0, 0, 0, 0, 0, 0, 35, 0, 0, 0, 2, 0, 0, 0, 17, 0, 0, 0, 0, 0, 0, 0, 44, 0, 0,
-    0, 1, 0, 0, 0, 18, 0, 0, 0, 0, 0, 0, 0, 97, 97, 0, 97, 98, 99, 97, 98, 99, 100, 101, 102, 103,
-    104, 97, 98, 99, 100, 101, 102, 103, 104, 0, 97, 98, 99, 100, 101, 102, 103, 104, 105, 97, 98,
-    100, 255, 255, 255, 255, 255, 255, 255, 255, 255,
+const PLAIN: [u8; 300] = [
+    78, 90, 84, 69, 88, 84, 46, 49, 9, 0, 0, 0, 1, 0, 0, 0, 4, 0, 0, 0, 0, 0, 0, 0, 40, 0, 0, 0, 0,
+    0, 0, 0, 4, 1, 0, 0, 0, 0, 0, 0, 0, 0, 0, 0, 0, 0, 0, 0, 0, 0, 0, 0, 0, 0, 0, 97, 0, 0, 0, 0,
+    0, 0, 0, 97, 0, 0, 0, 0, 0, 99, 98, 97, 104, 103, 102, 101, 100, 99, 98, 97, 104, 103, 102,
+    101, 100, 99, 98, 97, 104, 103, 102, 101, 100, 99, 98, 97, 0, 0, 0, 0, 0, 100, 98, 97, 255,
+    255, 255, 255, 255, 255, 255, 255, 0, 0, 0, 0, 0, 0, 0, 0, 10, 0, 0, 0, 0, 0, 0, 0, 1, 0, 0, 0,
+    1, 0, 0, 0, 11, 0, 0, 0, 0, 0, 0, 0, 3, 0, 0, 0, 2, 0, 0, 0, 12, 0, 0, 0, 0, 0, 0, 0, 6, 0, 0,
+    0, 2, 0, 0, 0, 13, 0, 0, 0, 0, 0, 0, 0, 14, 0, 0, 0, 4, 0, 0, 0, 14, 0, 0, 0, 0, 0, 0, 0, 23,
+    0, 0, 0, 5, 0, 0, 0, 15, 0, 0, 0, 0, 0, 0, 0, 32, 0, 0, 0, 5, 0, 0, 0, 16, 0, 0, 0, 0, 0, 0, 0,
+    35, 0, 0, 0, 2, 0, 0, 0, 17, 0, 0, 0, 0, 0, 0, 0, 44, 0, 0, 0, 1, 0, 0, 0, 18, 0, 0, 0, 0, 0,
+    0, 0, 97, 97, 0, 97, 98, 99, 97, 98, 99, 100, 101, 102, 103, 104, 97, 98, 99, 100, 101, 102,
+    103, 104, 0, 97, 98, 99, 100, 101, 102, 103, 104, 105, 97, 98, 100, 255, 255, 255, 255, 255,
+    255, 255, 255, 255,
 ];
 
 const A: &'static [u8] = &[97];
@@ -183,19 +179,20 @@ fn prefixes_from_the_longest_up(rt: HostRuntime) {
 }
 
 /// The bytes of `STORED` with one bit the other way round.
-fn flipped(at: usize, bit: u32) -> [u8; 413] {
+fn flipped(at: usize, bit: u32) -> [u8; 341] {
     let mut bytes = STORED;
-    if at < 413 && bit < 8 {
+    if at < 341 && bit < 8 {
         bytes[at] ^= 1 << bit;
     }
     bytes
 }
 
-/// Whether a byte of `STORED` may be any other: one of the user's part, of what is listed of it, of a value, or of the count
-/// of the parts, which may be more where there is room for them.
+/// Whether a byte of `STORED` may be another one: of the user's part, of what is listed of it, or of a value; of how many
+/// parts are listed, which may be more; or the ninth byte of a key, the last one.
 fn is_free(at: usize) -> bool {
-    (12..16).contains(&at)
-        || (112..141).contains(&at)
+    at == 12
+        || [319, 328, 340].contains(&at)
+        || (40..69).contains(&at)
         || ((141..285).contains(&at) && (at - 141) % 16 >= 8)
 }
 
@@ -218,7 +215,7 @@ fn are_answered(image: &[u8]) -> bool {
 
 #[test]
 fn flipped_bits(rt: HostRuntime) {
-    for at in 0..413 {
+    for at in 0..341 {
         for bit in 0..8 {
             let image = flipped(at, bit);
             assert!(rt; are_answered(&image), "{at} {bit}");
@@ -229,7 +226,7 @@ fn flipped_bits(rt: HostRuntime) {
 
 #[test]
 fn truncated_images(rt: HostRuntime) {
-    for end in 0..413 {
+    for end in 0..341 {
         assert!(rt;
             are_answered(&STORED[..end]) && check(&STORED[..end]).is_err(),
             "{end}"
@@ -242,22 +239,20 @@ fn what_is_wrong(rt: HostRuntime) {
     const WRONG: &'static [(usize, u32, ImageError)] = &[
         (0, 0, ImageError::Mark),
         (7, 0, ImageError::Version),
-        (12, 2, ImageError::Part(1)),
+        (12, 1, ImageError::Part(0)),
         (13, 0, ImageError::Short),
         (16, 0, ImageError::Part(0)),
-        (20, 0, ImageError::Part(0)),
-        (40, 0, ImageError::Part(1)),
-        (56, 0, ImageError::Part(1)),
-        (80, 0, ImageError::Part(2)),
-        (88, 0, ImageError::Part(3)),
-        (109, 0, ImageError::Part(3)),
+        (31, 0, ImageError::Part(0)),
+        (32, 4, ImageError::Row(6)),
+        (33, 0, ImageError::Part(0)),
+        (69, 0, ImageError::Row(0)),
+        (101, 0, ImageError::Row(4)),
         (141, 0, ImageError::Row(0)),
         (161, 0, ImageError::Row(1)),
         (193, 1, ImageError::Row(3)),
-        (317, 0, ImageError::Row(4)),
-        (358, 0, ImageError::Cell(0)),
-        (365, 0, ImageError::Cell(2)),
-        (412, 0, ImageError::Row(8)),
+        (285, 0, ImageError::Cell(0)),
+        (293, 0, ImageError::Cell(2)),
+        (339, 0, ImageError::Row(8)),
     ];
     for (at, bit, error) in WRONG {
         assert!(rt; check(&flipped(*at, *bit)) == Err(*error), "{at} {bit}");
@@ -274,11 +269,11 @@ fn written_image(rt: HostRuntime) {
             value: 10 + at as u64,
         };
     }
-    let mut out = [7u8; 376];
-    assert!(rt; image_len(&pairs) == Some(372));
+    let mut out = [7u8; 304];
+    assert!(rt; image_len(&pairs) == Some(300));
     assert!(rt; write(&pairs, &mut out) == Ok(()));
     assert!(rt; out.starts_with(&PLAIN) && out.ends_with(&[7u8; 4]));
-    let mut short = [0u8; 371];
+    let mut short = [0u8; 299];
     assert!(rt; write(&pairs, &mut short) == Err(WriteError::Short));
     pairs[3].key = A_ZERO;
     assert!(rt; write(&pairs, &mut out) == Err(WriteError::Unsorted(3)));
@@ -288,9 +283,9 @@ fn written_image(rt: HostRuntime) {
 
 #[test]
 fn written_image_of_no_pair(rt: HostRuntime) {
-    let mut out = [7u8; 113];
-    assert!(rt; image_len(&[]) == Some(112));
-    assert!(rt; write(&[], &mut out) == Ok(()) && is_image(&out) && out[112] == 7);
+    let mut out = [7u8; 41];
+    assert!(rt; image_len(&[]) == Some(40));
+    assert!(rt; write(&[], &mut out) == Ok(()) && is_image(&out) && out[40] == 7);
     assert!(rt; len(&out) == 0 && get(&out, b"").is_none() && nearest(&out, A).is_none());
     assert!(rt; rank(&out, A) == 0 && below(&out, b"") == (0, 0));
 }
@@ -322,7 +317,7 @@ fn are_found(alloc: Global, count: usize) -> Option<bool> {
     }
     let len = image_len(&pairs)?;
     let mut out = Vec::from_elem(alloc, 0u8, len).ok()?;
-    if write(&pairs, &mut out) != Ok(()) || (len > 112 + 30 * count) != (count >= 65536) {
+    if write(&pairs, &mut out) != Ok(()) || (len > 40 + 30 * count) != (count >= 65536) {
         return Some(false);
     }
     for i in 0..count {

@@ -1,6 +1,8 @@
 //! Images are written.
 ghost use Rattle.std.specs.Prelude.{◌≡◌, ◌^◌, ◌<◌, ◌≤◌, ◌⊎◌, ℕ, IfErr, IfNone, IfSome, IsTrue, OnOk, length, map as each};
-ghost use Rattle.flat_texts.specs.TextImages.{IsTextImage, IsUnsorted, image_pairs, image_size, keys_len, pair_of};
+ghost use Rattle.nibble_map.specs.Nibbles.{nibbles};
+ghost use Rattle.frozen_trie.specs.Frozen.{IsFirstUnsorted, codes_of};
+ghost use Rattle.flat_texts.specs.TextImages.{IsTextImage, image_pairs, image_size, keys_len, pair_of};
 
 use crate::checking::check;
 use crate::head::plan_of;
@@ -45,7 +47,8 @@ pub fn image_len(pairs: &[Pair<'_>]) -> Option<usize>
 
 /// The index of the first pair whose key doesn't come after the one before it.
 fn unsorted(pairs: &[Pair<'_>]) -> Option<usize>
-    ensures { IfSome result (λ at. IsUnsorted pairs.now at) }
+    ensures { IfSome result
+        (λ at. IsFirstUnsorted (codes_of nibbles (each pair_of pairs.now)) at) }
 {
     for at in 1..pairs.len() {
         let last = NibbleSlice::from_bytes(pairs[at - 1].key);
@@ -84,13 +87,16 @@ fn are_pairs(image: &[u8], pairs: &[Pair<'_>]) -> bool
 ///
 /// # Errors
 ///
-/// There are too many pairs or bytes of keys, the buffer is too short, or a key doesn't come after the one before it; the
-/// buffer may hold part of an image then. What is written is checked, so at Ok it is an image of these very pairs.
+/// There are too many pairs or bytes of keys; a key doesn't come after the one before it, and the error has the index of the
+/// first; or the buffer is too short. What is written is checked, so at Ok it is an image of these very pairs.
 pub fn write(pairs: &[Pair<'_>], out: &mut [u8]) -> Result<(), WriteError>
     ensures full { IfErr result (λ e. e ≡ WriteError.Full
         → (2 ^ 32 ≤ length pairs.now) ⊎ (2 ^ 32 ≤ keys_len pairs.now)) }
     ensures short { IfErr result (λ e. e ≡ WriteError.Short
         → length out.old < image_size pairs.now) }
+    ensures unsorted { IfErr result (λ e. (i : ℕ) → e ≡ WriteError.Unsorted i
+        → i < length pairs.now
+        → IsFirstUnsorted (codes_of nibbles (each pair_of pairs.now)) i) }
     ensures image { OnOk result (IsTextImage out.new) }
     ensures pairs { OnOk result (image_pairs out.new ≡ each pair_of pairs.now) }
 {
@@ -109,7 +115,7 @@ pub fn write(pairs: &[Pair<'_>], out: &mut [u8]) -> Result<(), WriteError>
     }
     for at in 0..pairs.len() {
         if !put_pair(out, at, pairs[at]) {
-            return Err(WriteError::Unsorted(at));
+            return Err(WriteError::Unsorted(pairs.len()));
         }
     }
     if !put_counts(out, plan.counts) || check(out).is_err() || !are_pairs(out, pairs) {

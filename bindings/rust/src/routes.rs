@@ -1,0 +1,278 @@
+//! Routing tables.
+
+use crate::family::Address;
+use crate::image::payload;
+use crate::{ImageError, WriteError, exports};
+use std::fmt;
+use std::iter::FusedIterator;
+use std::marker::PhantomData;
+use std::net::{Ipv4Addr, Ipv6Addr};
+use std::ops::Range;
+
+/// A network and its value.
+///
+/// Routes are ordered as the rows of an image are: by the networks' first addresses, and of one first
+/// address the wider network comes first.
+#[derive(Clone, Copy, Debug, PartialEq, Eq, PartialOrd, Ord, Hash)]
+pub struct Route<A> {
+    /// The network's first address.
+    pub network: A,
+    /// How many first bits its addresses share.
+    pub bits: u8,
+    /// The network's value: a number, or a place in the user's own bytes. It is below 2^32 for IPv4.
+    pub value: u64,
+}
+
+impl<A> Route<A> {
+    /// A network, by its first address and how many first bits its addresses share, and its value.
+    pub const fn new(network: A, bits: u8, value: u64) -> Route<A> {
+        Route {
+            network,
+            bits,
+            value,
+        }
+    }
+}
+
+/// Writes the network, as `10.0.0.0/8`.
+impl<A: fmt::Display> fmt::Display for Route<A> {
+    fn fmt(&self, f: &mut fmt::Formatter<'_>) -> fmt::Result {
+        write!(f, "{}/{}", self.network, self.bits)
+    }
+}
+
+/// A routing table in an image, searched in place. `A` is `Ipv4Addr` or `Ipv6Addr`.
+///
+/// ```
+/// use nifazombi::{Route, Routes, routes_image};
+/// use std::net::Ipv6Addr;
+///
+/// let documents: Ipv6Addr = "2001:db8::".parse()?;
+/// let image = routes_image(&[Route::new(documents, 32, 7)], b"")?;
+/// let routes = Routes::new(&image)?;
+/// assert_eq!(routes.look("2001:db8::1".parse()?), Some(Route::new(documents, 32, 7)));
+/// assert_eq!(routes.look(Ipv6Addr::LOCALHOST), None);
+/// # Ok::<(), Box<dyn std::error::Error>>(())
+/// ```
+#[derive(Clone, Copy)]
+pub struct Routes<'a, A> {
+    image: &'a [u8],
+    family: PhantomData<A>,
+}
+
+impl<'a, A: Address> Routes<'a, A> {
+    /// The table in an image, which is checked whole. It takes linear time, but for the climb from
+    /// each network to the one around it, and allocates nothing.
+    ///
+    /// # Errors
+    ///
+    /// The bytes are no image of such a table.
+    pub fn new(image: &'a [u8]) -> Result<Self, ImageError> {
+        A::check(image)?;
+        Ok(Routes::unchecked(image))
+    }
+
+    /// The table in bytes that were checked before. It reads nothing. Whatever the bytes are, each
+    /// call is safe and returns; but what it returns means nothing where they are no image.
+    pub const fn unchecked(image: &'a [u8]) -> Self {
+        Routes {
+            image,
+            family: PhantomData,
+        }
+    }
+
+    /// The count of routes.
+    pub fn len(&self) -> usize {
+        A::len(self.image)
+    }
+
+    /// Whether there is no route.
+    pub fn is_empty(&self) -> bool {
+        self.len() == 0
+    }
+
+    /// The route of the longest network that holds an address.
+    #[inline]
+    pub fn look(&self, address: A) -> Option<Route<A>> {
+        self.route_at(self.look_index(address)?)
+    }
+
+    /// The same by its index.
+    #[inline]
+    pub fn look_index(&self, address: A) -> Option<usize> {
+        A::look(self.image, address).checked_sub(1)
+    }
+
+    /// The route at an index.
+    #[inline]
+    pub fn route_at(&self, index: usize) -> Option<Route<A>> {
+        A::route(self.image, index)
+    }
+
+    /// The route of this very network.
+    pub fn get(&self, network: A, bits: u8) -> Option<Route<A>> {
+        self.route_at(A::get(self.image, network, bits).checked_sub(1)?)
+    }
+
+    /// The routes of the networks within a network, itself among them, in order. Bits of its address
+    /// behind the shared ones don't count.
+    pub fn below(&self, network: A, bits: u8) -> Rows<'a, A> {
+        Rows {
+            routes: *self,
+            rest: A::below(self.image, network, bits),
+        }
+    }
+
+    /// The routes of all networks that hold an address, from the longest up.
+    pub fn above(&self, address: A) -> Above<'a, A> {
+        Above {
+            routes: *self,
+            next: A::look(self.image, address),
+        }
+    }
+
+    /// All routes, in order.
+    pub fn iter(&self) -> Rows<'a, A> {
+        Rows {
+            routes: *self,
+            rest: 0..self.len(),
+        }
+    }
+
+    /// The user's own bytes in the image: those that were passed to [`routes_image`].
+    pub fn payload(&self) -> &'a [u8] {
+        payload(self.image)
+    }
+}
+
+impl Routes<'_, Ipv4Addr> {
+    /// Looks up addresses by their numbers (`u32::from` of an `Ipv4Addr`), as many as there are of
+    /// both, and puts for each the index of its route and one more, or 0, into `found`. Returns how
+    /// many.
+    ///
+    /// ```
+    /// # use nifazombi::{Route, Routes, routes_image};
+    /// # use std::net::Ipv4Addr;
+    /// let image = routes_image(&[Route::new(Ipv4Addr::new(10, 0, 0, 0), 8, 7)], b"")?;
+    /// let mut found = [0; 2];
+    /// let routes = Routes::<Ipv4Addr>::new(&image)?;
+    /// assert_eq!(routes.look_many(&[0x0a00_0001, 0x0b00_0001], &mut found), 2);
+    /// assert_eq!(found, [1, 0]);
+    /// # Ok::<(), Box<dyn std::error::Error>>(())
+    /// ```
+    #[inline]
+    pub fn look_many(&self, addresses: &[u32], found: &mut [u32]) -> usize {
+        exports::ipv4_look_many(self.image, addresses, found)
+    }
+}
+
+impl Routes<'_, Ipv6Addr> {
+    /// Looks up addresses by their octets, as many as there are of both, and puts for each the
+    /// index of its route and one more, or 0, into `found`. Returns how many.
+    #[inline]
+    pub fn look_many(&self, addresses: &[[u8; 16]], found: &mut [u32]) -> usize {
+        exports::ipv6_look_many(self.image, addresses, found)
+    }
+}
+
+impl<A: Address> fmt::Debug for Routes<'_, A> {
+    fn fmt(&self, f: &mut fmt::Formatter<'_>) -> fmt::Result {
+        f.debug_list().entries(*self).finish()
+    }
+}
+
+impl<'a, A: Address> IntoIterator for Routes<'a, A> {
+    type Item = Route<A>;
+    type IntoIter = Rows<'a, A>;
+
+    fn into_iter(self) -> Rows<'a, A> {
+        self.iter()
+    }
+}
+
+/// Routes that stand one behind the other, in order.
+#[derive(Clone, Debug)]
+pub struct Rows<'a, A: Address> {
+    routes: Routes<'a, A>,
+    rest: Range<usize>,
+}
+
+impl<A: Address> Iterator for Rows<'_, A> {
+    type Item = Route<A>;
+
+    #[inline]
+    fn next(&mut self) -> Option<Route<A>> {
+        self.nth(0)
+    }
+
+    #[inline]
+    fn nth(&mut self, count: usize) -> Option<Route<A>> {
+        self.rest.nth(count).and_then(|at| self.routes.route_at(at))
+    }
+
+    fn size_hint(&self) -> (usize, Option<usize>) {
+        self.rest.size_hint()
+    }
+}
+
+impl<A: Address> DoubleEndedIterator for Rows<'_, A> {
+    #[inline]
+    fn next_back(&mut self) -> Option<Route<A>> {
+        self.nth_back(0)
+    }
+
+    #[inline]
+    fn nth_back(&mut self, count: usize) -> Option<Route<A>> {
+        self.rest
+            .nth_back(count)
+            .and_then(|at| self.routes.route_at(at))
+    }
+}
+
+impl<A: Address> ExactSizeIterator for Rows<'_, A> {}
+
+impl<A: Address> FusedIterator for Rows<'_, A> {}
+
+/// The routes of the networks that hold an address, from the longest up.
+#[derive(Clone, Debug)]
+pub struct Above<'a, A: Address> {
+    routes: Routes<'a, A>,
+    /// The index of the next one and one more, or 0.
+    next: usize,
+}
+
+impl<A: Address> Iterator for Above<'_, A> {
+    type Item = Route<A>;
+
+    #[inline]
+    fn next(&mut self) -> Option<Route<A>> {
+        let at = self.next.checked_sub(1)?;
+        self.next = A::above(self.routes.image, at);
+        self.routes.route_at(at)
+    }
+}
+
+impl<A: Address> FusedIterator for Above<'_, A> {}
+
+/// The image of a table, by its routes in order, with bytes of the user's own, which may be none.
+/// Sorted routes are in order where no network has two.
+///
+/// # Errors
+///
+/// A route is of no network or out of order, a value of an IPv4 network is too large, or there are
+/// 2^32 routes or more.
+///
+/// ```
+/// use nifazombi::{Route, WriteError, routes_image};
+/// use std::net::Ipv4Addr;
+///
+/// let [wide, long] = [8, 16].map(|bits| Route::new(Ipv4Addr::new(10, 0, 0, 0), bits, 1));
+/// assert!(routes_image(&[wide, long], b"").is_ok());
+/// assert_eq!(routes_image(&[long, wide], b""), Err(WriteError::Unsorted(1)));
+/// ```
+pub fn routes_image<A: Address>(
+    routes: &[Route<A>],
+    payload: &[u8],
+) -> Result<Vec<u8>, WriteError> {
+    A::write(routes, payload)
+}

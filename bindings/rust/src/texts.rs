@@ -1,0 +1,224 @@
+//! Maps from byte strings to numbers.
+
+use crate::exports::{self, TextsPair, TextsPlace};
+use crate::image::{checked, payload, span, written};
+use crate::{ImageError, WriteError};
+use std::fmt;
+use std::iter::FusedIterator;
+use std::ops::Range;
+
+/// A map from byte strings to numbers in an image, searched in place. Keys are in the order of their
+/// bytes.
+///
+/// ```
+/// use nifazombi::{Texts, texts_image};
+///
+/// let image = texts_image(&[("car", 1), ("carpet", 2), ("cat", 3)])?;
+/// let words = Texts::new(&image)?;
+/// assert_eq!(words.get("cat"), Some(3));
+/// assert_eq!(words.nearest("carpets"), Some((&b"carpet"[..], 2)));
+/// assert_eq!(words.below("car").map(|(_, value)| value).collect::<Vec<_>>(), [1, 2]);
+/// # Ok::<(), Box<dyn std::error::Error>>(())
+/// ```
+#[derive(Clone, Copy)]
+pub struct Texts<'a> {
+    image: &'a [u8],
+}
+
+impl<'a> Texts<'a> {
+    /// The map in an image, which is checked whole. It takes linear time, but for the climb from each
+    /// key to its longest stored prefix, and allocates nothing.
+    ///
+    /// # Errors
+    ///
+    /// The bytes are no image of such a map.
+    pub fn new(image: &'a [u8]) -> Result<Self, ImageError> {
+        checked(|at| exports::texts_check(image, at))?;
+        Ok(Texts::unchecked(image))
+    }
+
+    /// The map in bytes that were checked before. It reads nothing. Whatever the bytes are, each
+    /// call is safe and returns; but what it returns means nothing where they are no image.
+    pub const fn unchecked(image: &'a [u8]) -> Self {
+        Texts { image }
+    }
+
+    /// The count of pairs.
+    pub fn len(&self) -> usize {
+        exports::texts_len(self.image)
+    }
+
+    /// Whether there is no pair.
+    pub fn is_empty(&self) -> bool {
+        self.len() == 0
+    }
+
+    /// The value of a key.
+    #[inline]
+    pub fn get(&self, key: impl AsRef<[u8]>) -> Option<u64> {
+        let at = exports::texts_get(self.image, key.as_ref()).checked_sub(1)?;
+        self.place(at).map(|place| place.value)
+    }
+
+    /// Whether a key is stored.
+    #[inline]
+    pub fn contains_key(&self, key: impl AsRef<[u8]>) -> bool {
+        exports::texts_get(self.image, key.as_ref()) != 0
+    }
+
+    /// The pair of the longest stored prefix of a key, which may be the key itself.
+    #[inline]
+    pub fn nearest(&self, key: impl AsRef<[u8]>) -> Option<(&'a [u8], u64)> {
+        self.nth(exports::texts_nearest(self.image, key.as_ref()).checked_sub(1)?)
+    }
+
+    /// The pairs of all stored prefixes of a key, from the longest up.
+    pub fn prefixes(&self, key: impl AsRef<[u8]>) -> Prefixes<'a> {
+        Prefixes {
+            texts: *self,
+            next: exports::texts_nearest(self.image, key.as_ref()),
+        }
+    }
+
+    /// The pairs whose keys begin with a prefix, in order.
+    pub fn below(&self, prefix: impl AsRef<[u8]>) -> Pairs<'a> {
+        let rest = span(|it| exports::texts_below(self.image, prefix.as_ref(), it));
+        Pairs { texts: *self, rest }
+    }
+
+    /// The pairs whose keys are `from` or come after it, and come before `to`, in order.
+    pub fn between(&self, from: impl AsRef<[u8]>, to: impl AsRef<[u8]>) -> Pairs<'a> {
+        let rest = span(|it| exports::texts_between(self.image, from.as_ref(), to.as_ref(), it));
+        Pairs { texts: *self, rest }
+    }
+
+    /// All pairs, in order.
+    pub fn iter(&self) -> Pairs<'a> {
+        Pairs {
+            texts: *self,
+            rest: 0..self.len(),
+        }
+    }
+
+    /// How many keys come before a key, which needn't be stored.
+    pub fn rank(&self, key: impl AsRef<[u8]>) -> usize {
+        exports::texts_rank(self.image, key.as_ref())
+    }
+
+    /// The pair at an index.
+    #[inline]
+    pub fn nth(&self, index: usize) -> Option<(&'a [u8], u64)> {
+        let place = self.place(index)?;
+        let key = self.image.get(place.first..)?.get(..place.len)?;
+        Some((key, place.value))
+    }
+
+    /// The user's own bytes in the image.
+    pub fn payload(&self) -> &'a [u8] {
+        payload(self.image)
+    }
+
+    /// Where the key at an index lies, and its value.
+    #[inline]
+    fn place(&self, index: usize) -> Option<TextsPlace> {
+        let mut place = TextsPlace::default();
+        exports::texts_pair_at(self.image, index, &mut place).then_some(place)
+    }
+}
+
+/// Writes each key as text, with what is no UTF-8 replaced.
+impl fmt::Debug for Texts<'_> {
+    fn fmt(&self, f: &mut fmt::Formatter<'_>) -> fmt::Result {
+        f.debug_map()
+            .entries(
+                self.iter()
+                    .map(|(key, value)| (String::from_utf8_lossy(key), value)),
+            )
+            .finish()
+    }
+}
+
+impl<'a> IntoIterator for Texts<'a> {
+    type Item = (&'a [u8], u64);
+    type IntoIter = Pairs<'a>;
+
+    fn into_iter(self) -> Pairs<'a> {
+        self.iter()
+    }
+}
+
+/// Pairs that stand one behind the other, in order.
+#[derive(Clone, Debug)]
+pub struct Pairs<'a> {
+    texts: Texts<'a>,
+    rest: Range<usize>,
+}
+
+impl<'a> Iterator for Pairs<'a> {
+    type Item = (&'a [u8], u64);
+
+    #[inline]
+    fn next(&mut self) -> Option<(&'a [u8], u64)> {
+        self.nth(0)
+    }
+
+    #[inline]
+    fn nth(&mut self, count: usize) -> Option<(&'a [u8], u64)> {
+        self.rest.nth(count).and_then(|at| self.texts.nth(at))
+    }
+
+    fn size_hint(&self) -> (usize, Option<usize>) {
+        self.rest.size_hint()
+    }
+}
+
+impl<'a> DoubleEndedIterator for Pairs<'a> {
+    #[inline]
+    fn next_back(&mut self) -> Option<(&'a [u8], u64)> {
+        self.nth_back(0)
+    }
+
+    #[inline]
+    fn nth_back(&mut self, count: usize) -> Option<(&'a [u8], u64)> {
+        self.rest.nth_back(count).and_then(|at| self.texts.nth(at))
+    }
+}
+
+impl ExactSizeIterator for Pairs<'_> {}
+
+impl FusedIterator for Pairs<'_> {}
+
+/// The pairs of the stored prefixes of a key, from the longest up.
+#[derive(Clone, Debug)]
+pub struct Prefixes<'a> {
+    texts: Texts<'a>,
+    /// The index of the next one and one more, or 0.
+    next: usize,
+}
+
+impl<'a> Iterator for Prefixes<'a> {
+    type Item = (&'a [u8], u64);
+
+    #[inline]
+    fn next(&mut self) -> Option<(&'a [u8], u64)> {
+        let at = self.next.checked_sub(1)?;
+        self.next = exports::texts_above(self.texts.image, at);
+        self.texts.nth(at)
+    }
+}
+
+impl FusedIterator for Prefixes<'_> {}
+
+/// The image of a map, by its pairs in the order of their keys, of which no two are equal.
+///
+/// # Errors
+///
+/// A key doesn't come after the one before it, or there are 2^32 pairs or bytes of keys, or more.
+pub fn texts_image<K: AsRef<[u8]>>(pairs: &[(K, u64)]) -> Result<Vec<u8>, WriteError> {
+    let pairs: Vec<_> = pairs
+        .iter()
+        .map(|(key, value)| TextsPair::new(key.as_ref(), *value))
+        .collect();
+    let len = exports::texts_image_len(&pairs);
+    written(len, |out, at| exports::texts_write(&pairs, out, at))
+}

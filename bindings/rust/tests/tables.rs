@@ -1,0 +1,424 @@
+//! Routing tables: by hand, and beside a search through all rows.
+mod common;
+
+use common::{Random, assert_both_ends, flipped};
+use nifazombi::{Address, ImageError, Route, Routes, WriteError, routes_image};
+use std::cmp::Reverse;
+use std::net::{Ipv4Addr, Ipv6Addr};
+
+/// The bytes with another one at an index.
+fn spoilt(bytes: &[u8], at: usize, byte: u8) -> Vec<u8> {
+    let mut bytes = bytes.to_vec();
+    bytes[at] = byte;
+    bytes
+}
+
+/// A head and parts: the mark, and then numbers of 4 bytes.
+fn image(mark: &[u8; 8], numbers: &[u32]) -> Vec<u8> {
+    let numbers = numbers.iter().flat_map(|number| number.to_le_bytes());
+    mark.iter().copied().chain(numbers).collect()
+}
+
+/// 10.0.0.0/8, 10.1.0.0/16 and 192.0.2.0/24: each by its first address, its bits, the index and one more of the row of
+/// the network around it, and its value.
+const ROWS: [[u32; 4]; 3] = [
+    [0x0a00_0000, 8, 0, 100],
+    [0x0a01_0000, 16, 1, 101],
+    [0xc000_0200, 24, 0, 102],
+];
+
+/// The image of rows, with no cells and nothing else.
+fn image_by_hand(rows: [[u32; 4]; 3]) -> Vec<u8> {
+    let head = [3, 2, 1, 0, 64, 0, 48, 0, 2, 0, 112, 0, 0, 0];
+    image(b"NZIPV4.1", &[&head[..], rows.as_flattened()].concat())
+}
+
+/// The same with three cells, by an address's first bit: how many networks begin before 0, 2^31 and 2^32, and none is
+/// around these.
+fn image_with_cells() -> Vec<u8> {
+    let head = [3, 2, 1, 0, 64, 0, 48, 0, 2, 31, 112, 0, 24, 0];
+    let numbers = [&head, ROWS.as_flattened(), &[0, 0, 2, 0, 3, 0]].concat();
+    image(b"NZIPV4.1", &numbers)
+}
+
+/// ::/0 and 2001:db8::/32.
+fn wide_image_by_hand() -> Vec<u8> {
+    let head = [2, 2, 1, 0, 64, 0, 64, 0, 2, 0, 128, 0, 0, 0];
+    let rows = [
+        [0, 0, 0, 0, 0, 0, 7, 0],
+        [0, 0, 0, 0x2001_0db8, 32, 1, 8, 1],
+    ];
+    image(b"NZIPV6.1", &[&head[..], rows.as_flattened()].concat())
+}
+
+fn route(network: &str, bits: u8, value: u64) -> Route<Ipv4Addr> {
+    Route::new(network.parse().unwrap(), bits, value)
+}
+
+/// Why bytes are no image of IPv4 networks.
+fn fault(bytes: &[u8]) -> Option<ImageError> {
+    Routes::<Ipv4Addr>::new(bytes).err()
+}
+
+#[test]
+fn lookups_by_hand() {
+    const LOOKS: [(&str, Option<usize>); 8] = [
+        ("0.0.0.0", None),
+        ("10.0.255.255", Some(0)),
+        ("10.1.0.0", Some(1)),
+        ("10.1.255.255", Some(1)),
+        ("10.2.0.0", Some(0)),
+        ("11.0.0.0", None),
+        ("192.0.2.255", Some(2)),
+        ("255.255.255.255", None),
+    ];
+    for image in [image_by_hand(ROWS), image_with_cells()] {
+        let routes = Routes::<Ipv4Addr>::new(&image).unwrap();
+        for (address, index) in LOOKS {
+            let found = routes.look_index(address.parse().unwrap());
+            assert_eq!(found, index, "{address}");
+        }
+    }
+}
+
+#[test]
+fn rows_by_hand() {
+    let image = image_by_hand(ROWS);
+    let routes = Routes::<Ipv4Addr>::new(&image).unwrap();
+    let wide = route("10.0.0.0", 8, 100);
+    let long = route("10.1.0.0", 16, 101);
+    let other = route("192.0.2.0", 24, 102);
+    assert_eq!(routes.look(Ipv4Addr::new(10, 1, 2, 3)), Some(long));
+    assert_eq!(
+        [0, 1, 2, 3].map(|at| routes.route_at(at)),
+        [Some(wide), Some(long), Some(other), None]
+    );
+    assert_eq!(routes.get(long.network, 16), Some(long));
+    assert_eq!(routes.get(long.network, 17), None);
+    assert_eq!(routes.get(Ipv4Addr::new(10, 1, 0, 1), 16), None);
+    assert!(routes.above(Ipv4Addr::new(10, 1, 2, 3)).eq([long, wide]));
+    assert!(routes.above(Ipv4Addr::new(11, 0, 0, 0)).eq([]));
+    assert_both_ends(routes.below(Ipv4Addr::new(10, 0, 0, 0), 8), &[wide, long]);
+    assert_both_ends(routes.below(Ipv4Addr::new(10, 1, 2, 3), 9), &[long]);
+    assert_both_ends(routes.below(Ipv4Addr::new(10, 1, 0, 0), 17), &[]);
+    assert_both_ends(routes.iter(), &[wide, long, other]);
+    assert_eq!(
+        (routes.len(), routes.is_empty(), routes.payload()),
+        (3, false, &b""[..])
+    );
+    assert_eq!(format!("{wide} {other}"), "10.0.0.0/8 192.0.2.0/24");
+}
+
+#[test]
+fn a_wide_image_by_hand() {
+    let image = wide_image_by_hand();
+    assert_eq!(fault(&image), Some(ImageError::Mark));
+    let routes = Routes::<Ipv6Addr>::new(&image).unwrap();
+    let all = Route::new(Ipv6Addr::UNSPECIFIED, 0, 7);
+    let documents = Route::new("2001:db8::".parse().unwrap(), 32, (1 << 32) + 8);
+    assert_both_ends(routes.into_iter(), &[all, documents]);
+    assert_eq!(routes.look(Ipv6Addr::LOCALHOST), Some(all));
+    let address = "2001:db8::1".parse().unwrap();
+    assert!(routes.above(address).eq([documents, all]));
+    assert_eq!(routes.get(documents.network, 32), Some(documents));
+    let addresses = [address, Ipv6Addr::LOCALHOST].map(|it| it.octets());
+    let mut found = [9; 3];
+    assert_eq!(routes.look_many(&addresses, &mut found), 2);
+    assert_eq!(found, [2, 1, 9]);
+}
+
+#[test]
+fn images_with_another_byte() {
+    use ImageError::*;
+    const SPOILT: [(usize, u8, ImageError); 21] = [
+        (0, b'M', Mark),
+        (5, b'6', Mark),
+        (7, b'2', Version),
+        (8, 4, Part(0)),
+        (12, 0, Part(0)),
+        (12, 1, Part(1)),
+        (12, 200, Short),
+        (16, 2, Part(0)),
+        (20, 1, Part(0)),
+        (24, 65, Part(0)),
+        (31, 255, Part(0)),
+        (32, 47, Part(0)),
+        (40, 1, Part(1)),
+        (44, 128, Part(1)),
+        (48, 113, Part(1)),
+        (56, 8, Part(1)),
+        (64, 1, Row(0)),
+        (68, 33, Row(0)),
+        (83, 9, Row(1)),
+        (88, 0, Row(1)),
+        (104, 2, Row(2)),
+    ];
+    for (at, byte, error) in SPOILT {
+        assert_eq!(
+            fault(&spoilt(&image_by_hand(ROWS), at, byte)),
+            Some(error),
+            "{at}"
+        );
+    }
+    for (at, cell) in [(112, 0), (116, 0), (120, 1), (124, 1), (132, 2)] {
+        assert_eq!(
+            fault(&spoilt(&image_with_cells(), at, 9)),
+            Some(Cell(cell)),
+            "{at}"
+        );
+    }
+    assert_eq!(
+        Part(1).to_string(),
+        "no image: part 1 is missing or out of place"
+    );
+}
+
+#[test]
+fn images_that_end_early() {
+    let image = image_by_hand(ROWS);
+    for end in 0..image.len() {
+        let error = [ImageError::Short, ImageError::Part(0)][usize::from(end >= 64)];
+        assert_eq!(fault(&image[..end]), Some(error), "{end}");
+    }
+}
+
+#[test]
+fn a_row_of_more_bits_than_a_byte_tells() {
+    let spoilt = spoilt(&image_by_hand(ROWS), 69, 1);
+    let routes = Routes::<Ipv4Addr>::unchecked(&spoilt);
+    assert_eq!(routes.route_at(0), Some(route("10.0.0.0", u8::MAX, 100)));
+}
+
+/// The first of these rows that is no network, doesn't come after the one before it, or has another link.
+fn first_wrong(rows: &[[u32; 4]; 3]) -> Option<usize> {
+    let holds =
+        |row: &[u32; 4], address: u32| row[1] == 0 || (row[0] ^ address) >> (32 - row[1]) == 0;
+    (0..rows.len()).find(|&at| {
+        let [first, bits, link, _] = rows[at];
+        let is_network = bits <= 32 && (u64::from(first) << bits) as u32 == 0;
+        let is_next = at == 0 || (rows[at - 1][0], rows[at - 1][1]) < (first, bits);
+        let around = rows[..at].iter().rposition(|row| holds(row, first));
+        !is_network || !is_next || link as usize != around.map_or(0, |it| it + 1)
+    })
+}
+
+#[test]
+fn each_flipped_bit_of_the_rows() {
+    for bit in 0..8 * 48 {
+        let mut rows = ROWS;
+        rows.as_flattened_mut()[bit / 32] ^= 1 << (bit % 32);
+        let wrong = first_wrong(&rows).map(ImageError::Row);
+        assert_eq!(fault(&image_by_hand(rows)), wrong, "{bit}");
+    }
+}
+
+/// An address as a number.
+trait Number: Address {
+    const BITS: u32;
+    fn of(number: u128) -> Self;
+    fn number(self) -> u128;
+}
+
+impl Number for Ipv4Addr {
+    const BITS: u32 = 32;
+
+    fn of(number: u128) -> Ipv4Addr {
+        (number as u32).into()
+    }
+
+    fn number(self) -> u128 {
+        u32::from(self).into()
+    }
+}
+
+impl Number for Ipv6Addr {
+    const BITS: u32 = 128;
+
+    fn of(number: u128) -> Ipv6Addr {
+        number.into()
+    }
+
+    fn number(self) -> u128 {
+        self.into()
+    }
+}
+
+/// The first address of the network of so many bits that holds an address.
+fn network_of<A: Number>(address: A, bits: u8) -> A {
+    let first_bits = u128::MAX
+        .checked_shl(A::BITS - u32::from(bits))
+        .unwrap_or(0);
+    A::of(address.number() & first_bits)
+}
+
+fn holds<A: Number>(route: &Route<A>, address: A) -> bool {
+    network_of(address, route.bits) == route.network
+}
+
+/// An address near one of few, so that networks lie within each other.
+fn random_address<A: Number>(random: &mut Random) -> A {
+    let near = [0, u128::MAX, 0xc0a8 << 112, 0x2001_0db8 << 96][random.below(4)];
+    let number = u128::from(random.next()) << 64 | u128::from(random.next());
+    A::of((near ^ number >> random.below(128)) >> (128 - A::BITS))
+}
+
+fn random_bits<A: Number>(random: &mut Random) -> u8 {
+    random.below(A::BITS as usize + 1) as u8
+}
+
+/// So many routes of random networks, or somewhat fewer, in order.
+fn random_table<A: Number>(random: &mut Random, count: usize) -> Vec<Route<A>> {
+    let mut table: Vec<_> = (0..count)
+        .map(|value| {
+            let bits = random_bits::<A>(random);
+            Route::new(network_of(random_address(random), bits), bits, value as u64)
+        })
+        .collect();
+    table.sort();
+    table.dedup_by_key(|route| (route.network, route.bits));
+    table
+}
+
+fn compare_lookups<A: Number>(routes: Routes<A>, table: &[Route<A>], address: A) {
+    let mut around = table.to_vec();
+    around.retain(|it| holds(it, address));
+    around.sort_by_key(|it| Reverse(it.bits));
+    let longest = around.first().copied();
+    assert_eq!(routes.look(address), longest);
+    let index = routes.look_index(address);
+    assert_eq!(index.and_then(|at| routes.route_at(at)), longest);
+    assert!(routes.above(address).eq(around), "{address}");
+}
+
+fn compare_networks<A: Number>(routes: Routes<A>, table: &[Route<A>], address: A, bits: u8) {
+    let network = Route::new(network_of(address, bits), bits, 0);
+    let mut below = table.to_vec();
+    below.retain(|it| it.bits >= bits && holds(&network, it.network));
+    assert_both_ends(routes.below(address, bits), &below);
+    below.retain(|it| it.bits == bits);
+    assert_eq!(routes.get(network.network, bits), below.first().copied());
+}
+
+fn compare_with_a_search_through_all<A: Number>(count: usize) {
+    let mut random = Random::new(count as u64);
+    let table = random_table::<A>(&mut random, count);
+    let image = routes_image(&table, b"payload").unwrap();
+    let routes = Routes::<A>::new(&image).unwrap();
+    assert_both_ends(routes.iter(), &table);
+    assert_eq!(routes.payload(), b"payload");
+    for _ in 0..500 {
+        let address = random_address(&mut random);
+        compare_lookups(routes, &table, address);
+        compare_networks(routes, &table, address, random_bits::<A>(&mut random));
+    }
+    for route in &table {
+        compare_networks(routes, &table, route.network, route.bits);
+    }
+}
+
+#[test]
+fn random_tables() {
+    for count in [0, 1, 7, 60, 200, 400] {
+        compare_with_a_search_through_all::<Ipv4Addr>(count);
+        compare_with_a_search_through_all::<Ipv6Addr>(count);
+    }
+}
+
+#[test]
+fn many_addresses() {
+    let mut random = Random::new(1);
+    let image = routes_image(&random_table::<Ipv4Addr>(&mut random, 300), b"").unwrap();
+    let routes = Routes::<Ipv4Addr>::new(&image).unwrap();
+    let addresses: Vec<u32> = (0..500)
+        .map(|_| random_address::<Ipv4Addr>(&mut random).into())
+        .collect();
+    let mut found = vec![0; 500];
+    assert_eq!(routes.look_many(&addresses, &mut found), 500);
+    for (address, found) in addresses.iter().zip(found) {
+        let index = routes.look_index((*address).into());
+        assert_eq!(found as usize, index.map_or(0, |at| at + 1));
+    }
+    assert_eq!(routes.look_many(&addresses, &mut [0; 3]), 3);
+    assert_eq!(routes.look_many(&[], &mut [0; 3]), 0);
+}
+
+/// Calls everything on bytes that may be no image. The answers may be any.
+fn call_all<A: Number>(bytes: &[u8], random: &mut Random) {
+    let routes = Routes::<A>::unchecked(bytes);
+    let is_image = Routes::<A>::new(bytes).is_ok();
+    for _ in 0..4 {
+        let address = random_address(random);
+        let bits = random.below(256) as u8;
+        let index = routes.look_index(address);
+        assert_eq!(
+            routes.look(address),
+            index.and_then(|at| routes.route_at(at))
+        );
+        assert!(index.is_none_or(|at| at < routes.len()));
+        assert!(routes.above(address).count() <= routes.len());
+        let own = routes.get(address, bits);
+        assert!(own.is_none_or(|it| (it.network, it.bits) == (address, bits)));
+        let below = routes.below(address, bits);
+        assert_eq!(below.len(), below.rev().count());
+    }
+    assert_eq!(routes.iter().count(), routes.len());
+    assert!(!is_image || routes.iter().is_sorted());
+    assert!(routes.payload().len() <= bytes.len());
+    assert!(format!("{routes:?}").starts_with('['));
+}
+
+fn call_all_on_what_is_nearly_an_image<A: Number>() {
+    let mut random = Random::new(2);
+    let small = routes_image(&random_table::<A>(&mut random, 5), b"seven").unwrap();
+    for bit in 0..8 * small.len() {
+        call_all::<A>(&flipped(&small, bit), &mut random);
+    }
+    let own_at = small.len() - b"seven".len();
+    for end in 0..small.len() {
+        call_all::<A>(&small[..end], &mut random);
+        assert_eq!(Routes::<A>::new(&small[..end]).is_ok(), end >= own_at);
+        assert_eq!(Routes::<A>::unchecked(&small[..end]).payload(), b"");
+    }
+    let large = routes_image(&random_table::<A>(&mut random, 300), b"").unwrap();
+    for _ in 0..300 {
+        call_all::<A>(&flipped(&large, random.below(8 * large.len())), &mut random);
+        call_all::<A>(&large[..random.below(large.len())], &mut random);
+    }
+    for _ in 0..300 {
+        let mut bytes: Vec<u8> = (0..random.below(400))
+            .map(|_| random.next() as u8)
+            .collect();
+        let kept = random.below(65).min(bytes.len());
+        bytes[..kept].copy_from_slice(&small[..kept]);
+        call_all::<A>(&bytes, &mut random);
+    }
+}
+
+#[test]
+fn any_bytes() {
+    call_all_on_what_is_nearly_an_image::<Ipv4Addr>();
+    call_all_on_what_is_nearly_an_image::<Ipv6Addr>();
+}
+
+#[test]
+fn what_is_not_written() {
+    use WriteError::*;
+    let (wide, long) = (route("10.0.0.0", 8, 1), route("10.0.0.0", 16, 2));
+    let refused = |table: &[_]| routes_image(table, b"").err();
+    assert_eq!(refused(&[]), None);
+    assert_eq!(refused(&[wide, long]), None);
+    assert_eq!(refused(&[long, wide]), Some(Unsorted(1)));
+    assert_eq!(refused(&[wide, wide]), Some(Unsorted(1)));
+    assert_eq!(
+        refused(&[wide, route("10.0.0.1", 31, 1)]),
+        Some(Unsorted(1))
+    );
+    assert_eq!(refused(&[route("10.0.0.0", 33, 1)]), Some(Unsorted(0)));
+    assert_eq!(refused(&[route("10.0.0.0", 8, u32::MAX.into())]), None);
+    assert_eq!(
+        refused(&[wide, route("10.0.0.0", 9, 1 << 32)]),
+        Some(Value(1))
+    );
+    let far = Route::new(Ipv6Addr::UNSPECIFIED, 129, u64::MAX);
+    assert_eq!(routes_image(&[far], b"").err(), Some(Unsorted(0)));
+}

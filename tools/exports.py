@@ -6,13 +6,17 @@ from sources import paths
 
 CRATE, HEADER, RUST = "crates/nifazombi_c", "bindings/c/nifazombi.h", "bindings/rust/src/exports.rs"
 PYTHON = "bindings/python/nifazombi/_exports.py"
-# The structs that callers pass stand there, and in these sources of the libraries below.
-BELOW = ["crates/flat_routes/src/ipv4.rt"]
+# The structs that callers pass stand there, and in these sources of the libraries below, each by the module of its calls.
+BELOW = {"ipv4": "crates/flat_routes/src/ipv4.rt", "ipv6": "crates/flat_routes/src/ipv6.rt",
+         "texts": "crates/flat_texts/src/pair.rt"}
 DOCUMENTED = r"((?:^///.*\n)+)"
 EXPORT = re.compile(DOCUMENTED + r'^#\[unsafe\(no_mangle\)\]\npub extern "C" fn (\w+)\(([^)]*)\)(?: -> (\w+))?', re.M)
 STRUCT = re.compile(DOCUMENTED + r"^#\[repr\(C\)\]\n(?:#\[.*\]\n)*pub struct (\w+)(?:<'a>)? \{\n((?:    .*\n)*)\}", re.M)
 CONSTANT = re.compile(DOCUMENTED + r"^pub const (\w+): u32 = (\d+);", re.M)
 FIELD = re.compile(r"^    pub (\w+): (.+),$", re.M)
+# A parameter that points: whether it may be written to, whether it is a slice, and of what it is.
+POINTER = re.compile(r"&(mut )?(?:\[(\[u8; \d+\]|[\w<>'_]+)\]|(\[u8; \d+\]|[\w<>'_]+))")
+OCTETS = re.compile(r"\[u8; (\d+)\]")
 NUMBERS = {"u8": "uint8_t", "u32": "uint32_t", "u64": "uint64_t", "usize": "size_t", "bool": "bool"}
 HEAD = """// Made by `tools/texts --write` of the sources of crates/nifazombi_c.
 //
@@ -20,10 +24,27 @@ HEAD = """// Made by `tools/texts --write` of the sources of crates/nifazombi_c.
 // them; nothing is allocated, and nothing is kept between two calls. A pointer may be anything where its length is 0.
 // What a call only reads, nobody may write to during the call, and what it writes to is of no use to anybody else.
 """
+# A key and a value: C has a pointer and a length where Rust has a slice, which is borrowed as long as the pair is there.
+LENT = """pub(crate) struct {name}<'a> {{
+{rows}    lent: PhantomData<&'a [u8]>,
+}}
+
+impl<'a> {name}<'a> {{
+    pub(crate) fn new(key: &'a [u8], value: u64) -> Self {{
+        {name} {{
+            key: key.as_ptr(),
+            key_len: key.len(),
+            value,
+            lent: PhantomData,
+        }}
+    }}
+}}
+"""
 RUST_HEAD = """// Made by `tools/texts --write` of the sources of crates/nifazombi_c.
 //
 // What the archive exports, and for each export a function that passes it live memory: a pointer and a length are those
 // of one slice, which is borrowed for the call. An export asks for nothing else, so each of these functions is safe.
+use std::marker::PhantomData;
 """
 PYTHON_HEAD = """# Made by `tools/texts --write` of the sources of crates/nifazombi_c.
 from ctypes import POINTER, Structure, c_bool, c_size_t, c_uint8, c_uint32, c_uint64, c_void_p
@@ -31,7 +52,8 @@ from ctypes import POINTER, Structure, c_bool, c_size_t, c_uint8, c_uint32, c_ui
 
 
 def sources():
-    return [(re.search(r"(\w+)\.rt", it)[1], text_of(it)) for it in [*BELOW, *paths(f"{CRATE}/src/*.rt")]]
+    own = {re.search(r"(\w+)\.rt", it)[1]: it for it in paths(f"{CRATE}/src/*.rt")}
+    return [(module, text_of(it)) for module, it in (*BELOW.items(), *own.items())]
 
 
 def comment(lines, by, behind=""):
@@ -63,7 +85,7 @@ def c_type(kind, module, known):
 
 
 def c_field(name, kind, module, known):
-    octets = re.fullmatch(r"\[u8; (\d+)\]", kind)
+    octets = OCTETS.fullmatch(kind)
     if octets:
         return f"uint8_t {name}[{octets[1]}]"
     if kind == "&'a [u8]":
@@ -76,11 +98,14 @@ def parameters(text):
 
 
 def c_parameter(name, kind, module, known):
-    form = re.fullmatch(r"&(mut )?(\[)?([\w<>'_]+)\]?", kind)
+    form = POINTER.fullmatch(kind)
     if not form:
         return c_type(kind, module, known) + f" {name}"
-    length = f", size_t {name}_len" if form[2] else ""
-    return f"{'' if form[1] else 'const '}{c_type(form[3], module, known)} *{name}{length}"
+    access, octets = "" if form[1] else "const ", OCTETS.fullmatch(form[2] or form[3])
+    if octets and form[3]:
+        return f"{access}uint8_t {name}[{octets[1]}]"
+    pointer = f"uint8_t (*{name})[{octets[1]}]" if octets else f"{c_type(form[2] or form[3], module, known)} *{name}"
+    return access + pointer + (f", size_t {name}_len" if form[2] else "")
 
 
 def folded(head, items):
@@ -111,12 +136,18 @@ def rust_type(kind, module, known):
     return kind if name in NUMBERS else kind.replace(name, rust_name(owner(module, name, known), name))
 
 
+def rust_field(name, kind, module, known):
+    if kind == "&'a [u8]":
+        return f"    {name}: *const u8,\n    {name}_len: usize,\n"
+    return f"    {'pub(crate) '}{name}: {rust_type(kind, module, known)},\n"
+
+
 def rust_passed(name, kind, module, known):
     """A parameter of an export: how it is declared, and what is passed."""
-    form = re.fullmatch(r"&(mut )?(\[)?([\w<>'_]+)\]?", kind)
+    form = POINTER.fullmatch(kind)
     if not form:
         return [(f"{name}: {kind}", name)]
-    pointer = f"*{'mut' if form[1] else 'const'} {rust_type(form[3], module, known)}"
+    pointer = f"*{'mut' if form[1] else 'const'} {rust_type(form[2] or form[3], module, known)}"
     if not form[2]:
         return [(f"{name}: {pointer}", name)]
     at = f"{name}.as_{'mut_' if form[1] else ''}ptr()"
@@ -128,10 +159,11 @@ def rust():
     for _, text in sources():
         made += [f"pub(crate) const {it[1].removeprefix('NIFAZOMBI_')}: u32 = {it[2]};\n" for it in CONSTANT.findall(text)]
     for (module, name), (lines, fields) in known.items():
-        life = "<'a>" if any("'a" in kind for _, kind in fields) else ""
-        rows = "".join(f"    pub(crate) {it}: {rust_type(kind, module, known)},\n" for it, kind in fields)
-        made.append(f"{comment(lines, '/// ')}#[repr(C)]\n#[derive(Clone, Copy, Debug, Default)]\n"
-                    f"pub(crate) struct {rust_name(module, name)}{life} {{\n{rows}}}\n")
+        own, is_lent = rust_name(module, name), any("'a" in kind for _, kind in fields)
+        rows = "".join(rust_field(*it, module, known) for it in fields)
+        derived = "Clone, Copy, Debug" if is_lent else "Clone, Copy, Debug, Default"
+        made.append(f"{comment(lines, '/// ')}#[repr(C)]\n#[derive({derived})]\n" + (
+            LENT.format(name=own, rows=rows) if is_lent else f"pub(crate) struct {own} {{\n{rows}}}\n"))
     for module, text in sources():
         for lines, name, passed, result in EXPORT.findall(text):
             back = f" -> {result}" if result else ""
@@ -139,7 +171,7 @@ def rust():
             declared.append(f"    safe fn {name}({', '.join(it for it, _ in each)}){back};\n")
             taken = [f"{it}: {rust_type(kind, module, known)}" for it, kind in parameters(passed)]
             own = name.removeprefix("nifazombi_")
-            made.append(f"{comment(lines, '/// ')}pub(crate) fn {own}({', '.join(taken)}){back} {{\n"
+            made.append(f"{comment(lines, '/// ')}#[inline]\npub(crate) fn {own}({', '.join(taken)}){back} {{\n"
                         f"    {name}({', '.join(it for _, it in each)})\n}}\n")
     made.insert(1, 'unsafe extern "C" {\n' + "".join(declared) + "}\n")
     return "\n".join(made)
@@ -147,13 +179,12 @@ def rust():
 
 def python_type(kind, module, known):
     """What ctypes calls a type, as one or more: a slice is a pointer and a length."""
-    form = re.fullmatch(r"&(?:'\w+ |mut )?(\[)?([\w<>'_]+)\]?", kind)
-    if form and form[1]:
-        return ["c_void_p", "c_size_t"]
-    octets = re.fullmatch(r"\[u8; (\d+)\]", kind)
+    form, octets = POINTER.fullmatch(kind.replace("'a ", "")), OCTETS.fullmatch(kind)
     if octets:
         return [f"c_uint8 * {octets[1]}"]
-    name = form[2] if form else kind
+    if form and (form[2] or OCTETS.fullmatch(form[3])):
+        return ["c_void_p", "c_size_t"][: 2 if form[2] else 1]
+    name = form[3] if form else kind
     plain = NUMBERS.get(name)
     own = f"c_{plain.removesuffix('_t')}" if plain and plain.startswith("uint") else {"bool": "c_bool", "size_t": "c_size_t"}.get(plain)
     own = own or rust_name(owner(module, name, known), name)

@@ -9,11 +9,14 @@ from shared import ROOT, Refused, below, bytes_of, files_in, ran, read_text, sta
 
 PAGES = {"trie_tool": "docs/PROGRAM.md", "route_tool": "docs/ROUTES.md", "trie_shell": "docs/SHELL.md"}
 SHELL = "trie_shell"
+ARCHIVE, BY_LLVM = "out/libnifazombi_c.a", ".by-llvm"
 WORDS = {SHELL: ["--strict"], "route_tool": ["--read-on"]}
 
 
 class Program:
     """A program of this checkout."""
+
+    COMMAND = ["rt", "run"]
 
     def __init__(self, name):
         self.name, self.crate = name, f"{ROOT}/crates/{name}"
@@ -52,14 +55,17 @@ class Program:
         built_by = self.recorded().partition("\n")[0] or self.toolchain() or "unknown"
         return f"{self.name} {number}, commit {commit or 'unknown'}, toolchain {built_by}"
 
+    def is_built(self):
+        return os.access(self.path, os.X_OK)
+
     def is_current(self):
-        built = os.access(self.path, os.X_OK) and sum_of(self.path)
+        built = self.is_built() and sum_of(self.path)
         return built and self.recorded() == f"{self.origin()}{built}"
 
     def keep(self, before):
         """Records that the program, which was just built, is of the origin before its build, so that no start builds it
         again. After an edit during the build nobody can tell which text was built: there is no record then."""
-        if os.access(self.path, os.X_OK) and before == self.origin():
+        if self.is_built() and before == self.origin():
             with open(self.record, "w", encoding="utf-8") as record:
                 record.write(f"{before}{sum_of(self.path)}")
 
@@ -80,12 +86,37 @@ class Program:
         """Has the toolchain prove and build all, and hands on how far it is. The turn is the toolchain's too: where
         this process is killed, the next start waits until that has ended."""
         said, streams = "", {"stdout": subprocess.PIPE, "stderr": subprocess.STDOUT, "text": True, "errors": "replace"}
-        with started(["rt", "run"], cwd=self.crate, pass_fds=[turn], **streams) as builder:
+        with started(self.COMMAND, cwd=self.crate, pass_fds=[turn], **streams) as builder:
             for line in builder.stdout:
                 if line.startswith(("rt: chose --jobs ", "so far: ")):
                     self.say(line.strip())
                 elif not line.startswith("checked "):
                     said += line
-        if builder.returncode or not os.access(self.path, os.X_OK):
+        if builder.returncode or not self.is_built():
             self.say(said.strip())
-            raise Refused(f"the program could not be built: rt ended with status {builder.returncode}")
+            raise Refused(f"{self.name} could not be built: rt ended with status {builder.returncode}")
+
+
+class Archive(Program):
+    """The static library for other languages, as Rattle's own compiler makes it."""
+
+    COMMAND = ["rt", "lib", "--backend", "rattle"]
+
+    def __init__(self):
+        super().__init__("nifazombi_c")
+        self.path = f"{self.crate}/{ARCHIVE}"
+
+    def is_built(self):
+        return os.path.isfile(self.path)
+
+
+def build_archives(crate):
+    """Builds the library in its crate's folder by both compilers, whose archives have one name: that of LLVM is moved
+    aside. What went wrong, if anything."""
+    for words in (["rt", "lib"], Archive.COMMAND):
+        done = ran(words, cwd=crate, text=True)
+        if done.returncode:
+            return f"{' '.join(words)}: {done.stdout[-2000:]}{done.stderr[-2000:]}"
+        if words != Archive.COMMAND:
+            os.replace(f"{crate}/{ARCHIVE}", f"{crate}/{ARCHIVE}{BY_LLVM}")
+    return ""

@@ -15,6 +15,30 @@
 extern "C" {
 #endif
 
+// There is no room for the head and the list of the parts, or for the image that is to be written.
+#define NIFAZOMBI_SHORT 1
+
+// The first bytes aren't those of such an image.
+#define NIFAZOMBI_MARK 2
+
+// The image is of another version.
+#define NIFAZOMBI_VERSION 3
+
+// The part listed at this index is missing, lies outside the bytes, or has another size.
+#define NIFAZOMBI_PART 4
+
+// The row at this index is none, doesn't come after the row before it, or has another link.
+#define NIFAZOMBI_ROW 5
+
+// The cell at this index counts wrongly.
+#define NIFAZOMBI_CELL 6
+
+// There are 2^32 rows or more, or so many bytes of keys.
+#define NIFAZOMBI_FULL 7
+
+// The row at this index is none, or doesn't come after the row before it.
+#define NIFAZOMBI_UNSORTED 8
+
 // A row as it lies in an image, in 16 bytes: a network by its first address and how many bits its addresses share, the
 // index and one more of the row of the network around it, or 0, and the network's value.
 typedef struct {
@@ -24,19 +48,28 @@ typedef struct {
     uint32_t value;
 } nifazombi_ipv4_row;
 
-// An address, in network order.
+// A row: a network by its first address, in network order, and how many bits its addresses share, the index and one more
+// of the row of the network around it, or 0, and the network's value.
 typedef struct {
-    uint8_t octets[16];
-} nifazombi_ipv6_address;
-
-// A row: a network by its first address and how many bits its addresses share, the index and one more of the row of the
-// network around it, or 0, and the network's value.
-typedef struct {
-    nifazombi_ipv6_address first;
+    uint8_t first[16];
     uint32_t bits;
     uint32_t link;
     uint64_t value;
 } nifazombi_ipv6_row;
+
+// A key and its value.
+typedef struct {
+    const uint8_t *key;
+    size_t key_len;
+    uint64_t value;
+} nifazombi_texts_pair;
+
+// Where a key lies in an image, by the place of its first byte and how many bytes it has, and its value.
+typedef struct {
+    size_t first;
+    size_t len;
+    uint64_t value;
+} nifazombi_texts_place;
 
 // Some rows that stand one behind the other, or some bytes: the first, and how many there are.
 typedef struct {
@@ -44,14 +77,15 @@ typedef struct {
     size_t count;
 } nifazombi_span;
 
-// Whether bytes are an image of IPv4 networks. It takes linear time.
-bool nifazombi_ipv4_is_image(const uint8_t *image, size_t image_len);
+// Checks whether bytes are an image of IPv4 networks, in linear time. Returns 0 of an image, and else why they are none:
+// one of the numbers above; the index that belongs to it is put into `at`.
+uint32_t nifazombi_ipv4_check(const uint8_t *image, size_t image_len, size_t *at);
 
 // The count of rows.
 size_t nifazombi_ipv4_len(const uint8_t *image, size_t image_len);
 
 // Puts the row at an index into `row`, and returns whether there is one.
-bool nifazombi_ipv4_row(const uint8_t *image, size_t image_len, size_t at, nifazombi_ipv4_row *row);
+bool nifazombi_ipv4_row_at(const uint8_t *image, size_t image_len, size_t at, nifazombi_ipv4_row *row);
 
 // The row of the longest network that holds an address, by its index and one more, or 0 where none does.
 size_t nifazombi_ipv4_look(const uint8_t *image, size_t image_len, uint32_t address);
@@ -69,34 +103,124 @@ size_t nifazombi_ipv4_get(const uint8_t *image, size_t image_len, uint32_t first
 // Puts the rows whose networks lie within a network, itself among them, into `span`.
 void nifazombi_ipv4_below(const uint8_t *image, size_t image_len, uint32_t first, uint32_t bits, nifazombi_span *span);
 
-// Whether bytes are an image of IPv6 networks. It takes linear time.
-bool nifazombi_ipv6_is_image(const uint8_t *image, size_t image_len);
+// The row of the network around that of the row at an index, the longest other one that holds it, by its index and one
+// more, or 0 where there is none. It is at most `at`, so a walk upward ends.
+size_t nifazombi_ipv4_above(const uint8_t *image, size_t image_len, size_t at);
+
+// How many bytes the image of so many rows takes, with so many bytes of the user's own, or 0 of 2^32 rows or more.
+size_t nifazombi_ipv4_image_len(size_t rows, size_t payload);
+
+// Writes the image of rows in order, by first address and then by bits, whose links count for nothing, and of the user's own
+// bytes into `out`. Returns 0, or why it couldn't: one of the numbers above; the index that belongs to it is put into
+// `at`, and `out` is as before then.
+uint32_t nifazombi_ipv4_write(
+    const nifazombi_ipv4_row *rows, size_t rows_len,
+    const uint8_t *payload, size_t payload_len,
+    uint8_t *out, size_t out_len,
+    size_t *at);
+
+// Checks whether bytes are an image of IPv6 networks, in linear time. Returns 0 of an image, and else why they are none:
+// one of the numbers above; the index that belongs to it is put into `at`.
+uint32_t nifazombi_ipv6_check(const uint8_t *image, size_t image_len, size_t *at);
 
 // The count of rows.
 size_t nifazombi_ipv6_len(const uint8_t *image, size_t image_len);
 
 // Puts the row at an index into `row`, and returns whether there is one.
-bool nifazombi_ipv6_row(const uint8_t *image, size_t image_len, size_t at, nifazombi_ipv6_row *row);
+bool nifazombi_ipv6_row_at(const uint8_t *image, size_t image_len, size_t at, nifazombi_ipv6_row *row);
 
 // The row of the longest network that holds an address, by its index and one more, or 0 where none does.
-size_t nifazombi_ipv6_look(const uint8_t *image, size_t image_len, const nifazombi_ipv6_address *address);
+size_t nifazombi_ipv6_look(const uint8_t *image, size_t image_len, const uint8_t address[16]);
 
 // Looks up addresses, as many as there are of both, and puts for each what `nifazombi_ipv6_look` returns into `found`.
 // Returns how many.
 size_t nifazombi_ipv6_look_many(
     const uint8_t *image, size_t image_len,
-    const nifazombi_ipv6_address *addresses, size_t addresses_len,
+    const uint8_t (*addresses)[16], size_t addresses_len,
     uint32_t *found, size_t found_len);
 
 // The row of this very network, by its index and one more, or 0 where no row is of it.
-size_t nifazombi_ipv6_get(const uint8_t *image, size_t image_len, const nifazombi_ipv6_address *first, uint32_t bits);
+size_t nifazombi_ipv6_get(const uint8_t *image, size_t image_len, const uint8_t first[16], uint32_t bits);
 
 // Puts the rows whose networks lie within a network, itself among them, into `span`.
 void nifazombi_ipv6_below(
     const uint8_t *image, size_t image_len,
-    const nifazombi_ipv6_address *first,
+    const uint8_t first[16],
     uint32_t bits,
     nifazombi_span *span);
+
+// The row of the network around that of the row at an index, the longest other one that holds it, by its index and one
+// more, or 0 where there is none. It is at most `at`, so a walk upward ends.
+size_t nifazombi_ipv6_above(const uint8_t *image, size_t image_len, size_t at);
+
+// How many bytes the image of so many rows takes, with so many bytes of the user's own, or 0 of 2^32 rows or more.
+size_t nifazombi_ipv6_image_len(size_t rows, size_t payload);
+
+// Writes the image of rows in order, by first address and then by bits, whose links count for nothing, and of the user's own
+// bytes into `out`. Returns 0, or why it couldn't: one of the numbers above; the index that belongs to it is put into
+// `at`, and `out` is as before then.
+uint32_t nifazombi_ipv6_write(
+    const nifazombi_ipv6_row *rows, size_t rows_len,
+    const uint8_t *payload, size_t payload_len,
+    uint8_t *out, size_t out_len,
+    size_t *at);
+
+// Puts where the user's own bytes in an image of any kind lie, and how many they are, into `span`, and returns whether
+// there are any.
+bool nifazombi_payload(const uint8_t *image, size_t image_len, nifazombi_span *span);
+
+// Checks whether bytes are an image of texts, in linear time. Returns 0 of an image, and else why they are none: one of the
+// numbers above; the index that belongs to it is put into `at`.
+uint32_t nifazombi_texts_check(const uint8_t *image, size_t image_len, size_t *at);
+
+// The count of pairs.
+size_t nifazombi_texts_len(const uint8_t *image, size_t image_len);
+
+// Puts where the pair at an index lies, in the order of the keys, into `place`, and returns whether there is one.
+bool nifazombi_texts_pair_at(const uint8_t *image, size_t image_len, size_t at, nifazombi_texts_place *place);
+
+// The pair of a key, by its index and one more, or 0 where it isn't stored.
+size_t nifazombi_texts_get(const uint8_t *image, size_t image_len, const uint8_t *key, size_t key_len);
+
+// The pair of the longest stored key that is a prefix of some bytes, by its index and one more, or 0 where there is none.
+size_t nifazombi_texts_nearest(const uint8_t *image, size_t image_len, const uint8_t *key, size_t key_len);
+
+// The pair of the longest stored key that is a prefix of the key at an index, and not this one, by its index and one more,
+// or 0 where there is none. It is at most `at`, so a walk upward ends.
+size_t nifazombi_texts_above(const uint8_t *image, size_t image_len, size_t at);
+
+// Puts the indices of the pairs whose keys are prefixes of some bytes into `found`, from the longest up, as many as it has
+// room for. Returns how many.
+size_t nifazombi_texts_prefixes(
+    const uint8_t *image, size_t image_len,
+    const uint8_t *key, size_t key_len,
+    uint32_t *found, size_t found_len);
+
+// How many of the keys come before some bytes: the index at which these are stored, or would be.
+size_t nifazombi_texts_rank(const uint8_t *image, size_t image_len, const uint8_t *key, size_t key_len);
+
+// Puts the pairs whose keys begin with some bytes into `span`.
+void nifazombi_texts_below(
+    const uint8_t *image, size_t image_len,
+    const uint8_t *prefix, size_t prefix_len,
+    nifazombi_span *span);
+
+// Puts the pairs whose keys are `from` or come after it, and come before `to`, into `span`.
+void nifazombi_texts_between(
+    const uint8_t *image, size_t image_len,
+    const uint8_t *from, size_t from_len,
+    const uint8_t *to, size_t to_len,
+    nifazombi_span *span);
+
+// How many bytes the image of pairs takes, or 0 of 2^32 pairs or more, or as many bytes of keys.
+size_t nifazombi_texts_image_len(const nifazombi_texts_pair *pairs, size_t pairs_len);
+
+// Writes the image of pairs whose keys rise in the order of their bytes into `out`. Returns 0, or why it couldn't: one of the
+// numbers above; the index that belongs to it is put into `at`. Bytes behind the image stay as they are.
+uint32_t nifazombi_texts_write(
+    const nifazombi_texts_pair *pairs, size_t pairs_len,
+    uint8_t *out, size_t out_len,
+    size_t *at);
 
 #ifdef __cplusplus
 }

@@ -56,7 +56,7 @@ class _Ipv6:
 
     @staticmethod
     def passed(address):
-        return exports.Ipv6Address.from_buffer_copy(ipaddress.IPv6Address(address).packed)
+        return ipaddress.IPv6Address(address).packed
 
     @staticmethod
     def many(addresses):
@@ -70,7 +70,7 @@ class _Ipv6:
 
     @staticmethod
     def first(row):
-        return bytes(row.first.octets)
+        return bytes(row.first)
 
 
 class Routes(Table):
@@ -113,7 +113,7 @@ class Routes(Table):
 
     def _route(self, index):
         row = self._family.row()
-        if not self._family.call("row")(self._at, self._len, index, row) or row.bits > self._family.width:
+        if not self._family.call("row_at")(self._at, self._len, index, row) or row.bits > self._family.width:
             raise ImageError("this is no image: " + REASONS[exports.ROW].format(index))
         return Route(self._family.network((self._family.first(row), row.bits), strict=False), row.value)
 

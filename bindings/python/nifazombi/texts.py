@@ -46,10 +46,10 @@ class Texts(Table, collections.abc.Mapping):
 
     def nth(self, index):
         """The pair at an index, in order."""
-        place = exports.Place()
-        if index < 0 or not library.nifazombi_texts_pair(self._at, self._len, index, place):
+        place = exports.TextsPlace()
+        if index < 0 or not library.nifazombi_texts_pair_at(self._at, self._len, index, place):
             raise IndexError(index)
-        return bytes(self._image[place.first : place.first + place.count]), place.value
+        return bytes(self._image[place.first : place.first + place.len]), place.value
 
     def _found(self, call, key):
         key = _bytes_of(key)

@@ -1,3 +1,5 @@
 -- The lemmas.
 pub mod ImageLemmas
 pub mod WriteLemmas
+-- The octets of an address, and its number.
+pub mod AddressLemmas

@@ -1,6 +1,6 @@
 -- A routing table laid into one run of bytes: the numbers that stand there, and when the bytes are such a table.
 use Rattle.std.specs.Prelude.{◌≡◌, ℕ, zero, suc, ◌+◌, ◌-◌, ◌*◌, ◌/◌, ◌^◌, ◌<◌, ◌≤◌, Bool, true, false, List, Option, None, Some, codes, length, slice_index}
-use Rattle.std.specs.Int.{w64, from_le_bytes}
+use Rattle.std.specs.Int.{w64, w128, from_le_bytes, from_be_bytes}
 use Rattle.radix_keys.specs.Networks.{Net, IsBase}
 use Rattle.image_parts.specs.Parts.{IsListed, listed, part_count, row_count, u128_in, u32_in, u64_in}
 use Rattle.frozen_routes.specs.declared.tops.Cell.{Cell}
@@ -80,9 +80,13 @@ row_in wide bs i = (network (first_in wide bs i) (bits_in wide bs i), value_in w
 abbrev pub row4_of : Row4 → Net ℕ × ℕ
 row4_of r = (network r.first r.bits, r.value)
 
+-- the number of an address of 16 octets, the first the highest
+abbrev pub octet_number : List ℕ → ℕ
+octet_number octets = from_be_bytes w128 octets
+
 -- a row of IPv6
 abbrev pub row6_of : Row6 → Net ℕ × ℕ
-row6_of r = (network r.first r.bits, r.value)
+row6_of r = (network (octet_number r.first) r.bits, r.value)
 
 -- the row whose index and one more is r, or None at 0
 abbrev pub found_row : Bool → List ℕ → ℕ → Option (Net ℕ × ℕ)

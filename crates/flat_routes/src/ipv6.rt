@@ -16,12 +16,12 @@ use crate::write::FlatRow;
 use crate::{check, layout, networks, search, write};
 use image_parts::{ImageError, WriteError, put_u32, put_u64};
 
-/// A row as it lies in an image, in 32 bytes: a network by its first address and how many bits its addresses share, the
-/// index and one more of the row of the network around it, or 0, and the network's value.
+/// A row: a network by its first address, in network order, and how many bits its addresses share, the index and one more
+/// of the row of the network around it, or 0, and the network's value.
 #[repr(C)]
 #[derive(Clone, Copy)]
 pub struct Row {
-    pub first: u128,
+    pub first: [u8; 16],
     pub bits: u32,
     pub link: u32,
     pub value: u64,
@@ -37,7 +37,7 @@ impl FlatRow for Row {
     const WIDE: bool = true;
 
     fn first(self) -> u128 {
-        self.first
+        u128::from_be_bytes(self.first)
     }
 
     fn bits(self) -> u32 {
@@ -45,8 +45,9 @@ impl FlatRow for Row {
     }
 
     fn put(self, out: &mut [u8], place: usize, link: u32) {
-        put_u64(out, place, (self.first % (1 << 64)) as u64);
-        put_u64(out, place + 8, (self.first >> 64) as u64);
+        let first = self.first();
+        put_u64(out, place, (first % (1 << 64)) as u64);
+        put_u64(out, place + 8, (first >> 64) as u64);
         put_u32(out, place + 16, self.bits);
         put_u32(out, place + 20, link);
         put_u64(out, place + 24, self.value);
@@ -97,7 +98,7 @@ pub fn row_at(image: &[u8], at: usize) -> Option<Row>
         return None;
     }
     Some(Row {
-        first: first_at(image, true, plan, at),
+        first: first_at(image, true, plan, at).to_be_bytes(),
         bits: bits_at(image, true, plan, at),
         link: link_at(image, true, plan, at),
         value: value_at(image, true, plan, at),

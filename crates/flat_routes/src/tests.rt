@@ -95,7 +95,7 @@ fn stored_image_of_ipv6(rt: HostRuntime) {
         assert!(rt; ipv6::look(&IPV6, *address) == *index, "{address}");
     }
     assert!(rt;
-        ipv6::row_at(&IPV6, 4).is_some_and(|row| row.first == 0xfe80 << 112 && row.link == 1)
+        ipv6::row_at(&IPV6, 4).is_some_and(|row| row.first == (0xfe80u128 << 112).to_be_bytes() && row.link == 1)
     );
     assert!(rt; ipv6::row_at(&IPV6, 4).is_some_and(|row| row.bits == 10 && row.value == 104));
     assert!(rt; ipv6::get(&IPV6, 0x2001_0db8 << 96, 48) == Some(2));
@@ -287,7 +287,7 @@ fn rows_out_of_order(rt: HostRuntime) {
 /// A row that is to be written.
 fn wide_row(first: u128, bits: u32, value: u64) -> ipv6::Row {
     ipv6::Row {
-        first,
+        first: first.to_be_bytes(),
         bits,
         link: 0,
         value,

@@ -7,3 +7,5 @@ pub mod ImageLemmas
 pub mod MapLemmas
 -- Pairs that are to be written.
 pub mod WriteLemmas
+-- Where a key lies in an image.
+pub mod PlaceLemmas

@@ -13,6 +13,7 @@ use Rattle.image_parts.specs.declared.errors.ImageError.TheVariants.{Cell, Mark,
 use Rattle.image_parts.specs.Parts.{IsListed, listed, part_count, row_count, u32_in, u64_in}
 use Rattle.flat_texts.specs.declared.head.Plan.{Plan}
 use Rattle.flat_texts.specs.declared.pair.Pair.{Pair}
+use Rattle.flat_texts.specs.declared.pair.Place.{Place}
 
 -- the number of the first 8 bytes of an image
 abbrev pub text_mark : ℕ
@@ -82,6 +83,10 @@ key_in bs i = piece_of (key_bytes bs) (key_start bs i) (key_end bs i)
 -- the pair at i
 abbrev pub pair_in : List ℕ → ℕ → List ℕ × ℕ
 pair_in bs i = (key_in bs i, stored_value bs i)
+
+-- the pair that lies there
+abbrev pub placed_pair : List ℕ → Place → List ℕ × ℕ
+placed_pair bs place = (take place.len (drop place.first bs), place.value)
 
 -- the pairs of an image
 abbrev pub image_pairs : List ℕ → List (List ℕ × ℕ)

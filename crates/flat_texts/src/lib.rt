@@ -15,9 +15,9 @@ mod writing;
 
 pub use checking::{check, is_image};
 pub use image_parts::{ImageError, WriteError};
-pub use pair::Pair;
+pub use pair::{Pair, Place};
 pub use ranges::{below, between, rank};
-pub use reading::{above, get, len, nearest, nth, prefixes};
+pub use reading::{above, get, len, nearest, nth, place_at, prefixes};
 pub use writing::{image_len, write};
 
 #[cfg(test)]

@@ -1,15 +1,15 @@
 //! What an image holds of a key.
-ghost use Rattle.std.specs.Prelude.{◌≡◌, ◌+◌, ◌<◌, ◌≤◌, ◌∷◌, ℕ, IfSome, length, map as each, option_map, reverse, slice_get, slice_index, take};
+ghost use Rattle.std.specs.Prelude.{◌≡◌, ◌+◌, ◌<◌, ◌≤◌, ◌∷◌, ℕ, IfSome, drop, length, map as each, option_map, reverse, slice_get, slice_index, take};
 ghost use Rattle.nibble_map.specs.Maps.{value_at};
 ghost use Rattle.nibble_map.specs.Nibbles.{nibbles};
 ghost use Rattle.radix_trie.specs.Views.{IsPairAbove, pairs_above};
 ghost use Rattle.frozen_trie.specs.Frozen.{prefixes_up};
 ghost use Rattle.image_parts.specs.Parts.{row_count};
-ghost use Rattle.flat_texts.specs.TextImages.{IsTextImage, image_map, image_pairs, key_in, pair_in, pair_of, place_of, stored_value};
+ghost use Rattle.flat_texts.specs.TextImages.{IsTextImage, image_map, image_pairs, key_in, pair_in, pair_of, place_of, placed_pair, stored_value};
 
 use crate::head::plan_of;
-use crate::pair::Pair;
-use crate::pairs::{key_at, link_at, value_at};
+use crate::pair::{Pair, Place};
+use crate::pairs::{key_at, link_at, start_at, value_at};
 use crate::search::{cut, last_prefix};
 
 /// The count of pairs. Of bytes that are no image it is some number.
@@ -35,6 +35,26 @@ pub fn nth(image: &[u8], at: usize) -> Option<Pair<'_>>
     }
     Some(Pair {
         key: key_at(image, plan, at),
+        value: value_at(image, plan, at),
+    })
+}
+
+/// Where the pair at an index lies, in the order of the keys, or None where there is none. It takes constant time.
+pub fn place_at(image: &[u8], at: usize) -> Option<Place>
+    ensures inside { IfSome result (λ place. place.first + place.len ≤ length image.now) }
+    ensures pair { IsTextImage image.now
+        → option_map (placed_pair image.now) result ≡ slice_get (image_pairs image.now) at }
+{
+    let Ok(plan) = plan_of(image) else {
+        return None;
+    };
+    if at >= plan.pairs {
+        return None;
+    }
+    let from = start_at(image, plan, at).min(plan.keys_len);
+    Some(Place {
+        first: plan.keys_at + from,
+        len: key_at(image, plan, at).len(),
         value: value_at(image, plan, at),
     })
 }

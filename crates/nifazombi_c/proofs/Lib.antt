@@ -1,2 +1,3 @@
 -- The lemmas.
-pub mod AddressLemmas
+-- What the numbers mean that calls return.
+pub mod ResultLemmas

@@ -1,1 +1,1 @@
-pub mod Addresses
+pub mod Results

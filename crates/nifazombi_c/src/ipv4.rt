@@ -1,20 +1,22 @@
 //! Images of IPv4 networks. An address is a number: 192.0.2.1 is 0xc0000201.
-ghost use Rattle.std.specs.Prelude.{◌≡◌, ◌↔◌, ◌<◌, ◌≤◌, ◌+◌, ℕ, IsTrue, MatchOption, drop, length, min, slice_get, slice_index, take, Some};
+ghost use Rattle.std.specs.Prelude.{◌≡◌, ◌↔◌, ◌<◌, ◌≤◌, ◌+◌, ℕ, IsTrue, MatchOption, drop, length, min, slice_get, slice_index, take, Some, ◌^◌, map as each};
 ghost use Rattle.std.specs.List.{filter};
 ghost use Rattle.radix_keys.specs.Networks.{Net};
-ghost use Rattle.image_parts.specs.Parts.{row_count};
+ghost use Rattle.image_parts.specs.Parts.{HoldsPayload, row_count};
 ghost use Rattle.frozen_routes.specs.Routes.{IsLongestRow, IsOwnRow, is_inside};
-ghost use Rattle.flat_routes.specs.Images.{IsImage, found_row, image_rows, network, of_ipv4, row4_of};
+ghost use Rattle.flat_routes.specs.Written.{CanWrite, ChangesWithin, image_size};
+ghost use Rattle.flat_routes.specs.Images.{IsImage, first_in, found_row, image_rows, network, of_ipv4, row4_of};
 
-use crate::results::Span;
+use crate::results::{Span, code_of, status_of};
 use flat_routes::ipv4::{self, Row};
 
-/// Whether bytes are an image of IPv4 networks. It takes linear time.
+/// Checks whether bytes are an image of IPv4 networks, in linear time. Returns 0 of an image, and else why they are none:
+/// one of the numbers above; the index that belongs to it is put into `at`.
 #[unsafe(no_mangle)]
-pub extern "C" fn nifazombi_ipv4_is_image(image: &[u8]) -> bool
-    ensures { IsTrue result ↔ IsImage of_ipv4 image.now }
+pub extern "C" fn nifazombi_ipv4_check(image: &[u8], at: &mut usize) -> u32
+    ensures { (result ≡ 0) ↔ IsImage of_ipv4 image.now }
 {
-    ipv4::is_image(image)
+    code_of(ipv4::check(image), at)
 }
 
 /// The count of rows.
@@ -27,7 +29,7 @@ pub extern "C" fn nifazombi_ipv4_len(image: &[u8]) -> usize
 
 /// Puts the row at an index into `row`, and returns whether there is one.
 #[unsafe(no_mangle)]
-pub extern "C" fn nifazombi_ipv4_row(image: &[u8], at: usize, row: &mut Row) -> bool
+pub extern "C" fn nifazombi_ipv4_row_at(image: &[u8], at: usize, row: &mut Row) -> bool
     ensures row { IsTrue result → IsImage of_ipv4 image.now
         → slice_get (image_rows of_ipv4 image.now) at ≡ Some (row4_of row.new) }
 {
@@ -95,4 +97,52 @@ pub extern "C" fn nifazombi_ipv4_below(image: &[u8], first: u32, bits: u32, span
 {
     let (first, count) = ipv4::below(image, first, bits);
     *span = Span { first, count };
+}
+
+/// The row of the network around that of the row at an index, the longest other one that holds it, by its index and one
+/// more, or 0 where there is none. It is at most `at`, so a walk upward ends.
+#[unsafe(no_mangle)]
+pub extern "C" fn nifazombi_ipv4_above(image: &[u8], at: usize) -> usize
+    ensures within { result ≤ at }
+    ensures row { IsImage of_ipv4 image.now → at < row_count image.now
+        → IsLongestRow 32 (λ n. n) (take at (image_rows of_ipv4 image.now))
+        (first_in of_ipv4 image.now at) (found_row of_ipv4 image.now result) }
+{
+    match ipv4::above(image, at) {
+        Some(up) => up + 1,
+        None => 0,
+    }
+}
+
+/// How many bytes the image of so many rows takes, with so many bytes of the user's own, or 0 of 2^32 rows or more.
+#[unsafe(no_mangle)]
+pub extern "C" fn nifazombi_ipv4_image_len(rows: usize, payload: usize) -> usize
+    ensures { rows < 2 ^ 32 → image_size of_ipv4 rows payload < 2 ^ 64
+        → result ≡ image_size of_ipv4 rows payload }
+{
+    match ipv4::image_len(rows, payload) {
+        Some(len) => len,
+        None => 0,
+    }
+}
+
+/// Writes the image of rows in order, by first address and then by bits, whose links count for nothing, and of the user's own
+/// bytes into `out`. Returns 0, or why it couldn't: one of the numbers above; the index that belongs to it is put into
+/// `at`, and `out` is as before then.
+#[unsafe(no_mangle)]
+pub extern "C" fn nifazombi_ipv4_write(
+    rows: &[Row],
+    payload: &[u8],
+    out: &mut [u8],
+    at: &mut usize,
+) -> u32
+    ensures ok { (result ≡ 0) ↔ CanWrite of_ipv4 (each row4_of rows.now) (length payload.now)
+        (length out.old) }
+    ensures image { result ≡ 0 → IsImage of_ipv4 out.new }
+    ensures rows { result ≡ 0 → image_rows of_ipv4 out.new ≡ each row4_of rows.now }
+    ensures payload { result ≡ 0 → HoldsPayload out.new payload.now }
+    ensures change { ChangesWithin 0 (image_size of_ipv4 (length rows.now) (length payload.now))
+        out.old out.new }
+{
+    status_of(ipv4::write(rows, payload, out), at)
 }

@@ -1,57 +1,22 @@
 //! Images of IPv6 networks. An address is its 16 octets in network order, as in `struct in6_addr`.
-ghost use Rattle.std.specs.Prelude.{◌≡◌, ◌↔◌, ◌<◌, ◌≤◌, ◌+◌, ℕ, IsTrue, MatchOption, Some, drop, length, min, slice_get, slice_index, take, map as each};
+ghost use Rattle.std.specs.Prelude.{◌≡◌, ◌↔◌, ◌<◌, ◌≤◌, ◌+◌, ℕ, IsTrue, MatchOption, Some, drop, length, min, slice_get, slice_index, take, map as each, ◌^◌};
 ghost use Rattle.std.specs.List.{filter};
 ghost use Rattle.radix_keys.specs.Networks.{Net};
-ghost use Rattle.image_parts.specs.Parts.{row_count};
+ghost use Rattle.image_parts.specs.Parts.{HoldsPayload, row_count};
 ghost use Rattle.frozen_routes.specs.Routes.{IsLongestRow, IsOwnRow, is_inside};
-ghost use Rattle.flat_routes.specs.Images.{IsImage, found_row, image_rows, network, of_ipv6};
-ghost use Rattle.nifazombi_c.specs.Addresses.{number_of_octets, row_of_octets};
+ghost use Rattle.flat_routes.specs.Written.{CanWrite, ChangesWithin, image_size};
+ghost use Rattle.flat_routes.specs.Images.{IsImage, first_in, found_row, image_rows, network, octet_number, of_ipv6, row6_of};
 
-use crate::results::Span;
-use flat_routes::ipv6;
+use crate::results::{Span, code_of, status_of};
+use flat_routes::ipv6::{self, Row};
 
-/// An address, in network order.
-#[repr(C)]
-#[derive(Clone, Copy)]
-pub struct Address {
-    pub octets: [u8; 16],
-}
-
-/// A row: a network by its first address and how many bits its addresses share, the index and one more of the row of the
-/// network around it, or 0, and the network's value.
-#[repr(C)]
-#[derive(Clone, Copy)]
-pub struct Row {
-    pub first: Address,
-    pub bits: u32,
-    pub link: u32,
-    pub value: u64,
-}
-
-impl Address {
-    /// The address of a number.
-    fn of(number: u128) -> Address
-        ensures { number_of_octets result ≡ number }
-    {
-        Address {
-            octets: number.to_be_bytes(),
-        }
-    }
-
-    /// The address as a number.
-    fn number(&self) -> u128
-        ensures { result ≡ number_of_octets self.now }
-    {
-        u128::from_be_bytes(self.octets)
-    }
-}
-
-/// Whether bytes are an image of IPv6 networks. It takes linear time.
+/// Checks whether bytes are an image of IPv6 networks, in linear time. Returns 0 of an image, and else why they are none:
+/// one of the numbers above; the index that belongs to it is put into `at`.
 #[unsafe(no_mangle)]
-pub extern "C" fn nifazombi_ipv6_is_image(image: &[u8]) -> bool
-    ensures { IsTrue result ↔ IsImage of_ipv6 image.now }
+pub extern "C" fn nifazombi_ipv6_check(image: &[u8], at: &mut usize) -> u32
+    ensures { (result ≡ 0) ↔ IsImage of_ipv6 image.now }
 {
-    ipv6::is_image(image)
+    code_of(ipv6::check(image), at)
 }
 
 /// The count of rows.
@@ -64,31 +29,26 @@ pub extern "C" fn nifazombi_ipv6_len(image: &[u8]) -> usize
 
 /// Puts the row at an index into `row`, and returns whether there is one.
 #[unsafe(no_mangle)]
-pub extern "C" fn nifazombi_ipv6_row(image: &[u8], at: usize, row: &mut Row) -> bool
+pub extern "C" fn nifazombi_ipv6_row_at(image: &[u8], at: usize, row: &mut Row) -> bool
     ensures row { IsTrue result → IsImage of_ipv6 image.now
-        → slice_get (image_rows of_ipv6 image.now) at ≡ Some (row_of_octets row.new) }
+        → slice_get (image_rows of_ipv6 image.now) at ≡ Some (row6_of row.new) }
 {
     let Some(found) = ipv6::row_at(image, at) else {
         return false;
     };
-    *row = Row {
-        first: Address::of(found.first),
-        bits: found.bits,
-        link: found.link,
-        value: found.value,
-    };
+    *row = found;
     true
 }
 
 /// The row of the longest network that holds an address, by its index and one more, or 0 where none does.
 #[unsafe(no_mangle)]
-pub extern "C" fn nifazombi_ipv6_look(image: &[u8], address: &Address) -> usize
+pub extern "C" fn nifazombi_ipv6_look(image: &[u8], address: &[u8; 16]) -> usize
     ensures within { result ≤ row_count image.now }
     ensures row { IsImage of_ipv6 image.now → IsLongestRow 128 (λ n. n)
-        (image_rows of_ipv6 image.now) (number_of_octets address.now)
+        (image_rows of_ipv6 image.now) (octet_number address.now)
         (found_row of_ipv6 image.now result) }
 {
-    match ipv6::look(image, address.number()) {
+    match ipv6::look(image, u128::from_be_bytes(*address)) {
         Some(at) => at + 1,
         None => 0,
     }
@@ -99,13 +59,13 @@ pub extern "C" fn nifazombi_ipv6_look(image: &[u8], address: &Address) -> usize
 #[unsafe(no_mangle)]
 pub extern "C" fn nifazombi_ipv6_look_many(
     image: &[u8],
-    addresses: &[Address],
+    addresses: &[[u8; 16]],
     found: &mut [u32],
 ) -> usize
     ensures count { result ≡ min (length addresses.now) (length found.new) }
     ensures rows { IsImage of_ipv6 image.now → (k : ℕ) → k < result
         → IsLongestRow 128 (λ n. n) (image_rows of_ipv6 image.now)
-        (slice_index (each number_of_octets addresses.now) k)
+        (slice_index (each octet_number addresses.now) k)
         (found_row of_ipv6 image.now (slice_index found.new k)) }
 {
     let count = addresses.len().min(found.len());
@@ -117,15 +77,15 @@ pub extern "C" fn nifazombi_ipv6_look_many(
 
 /// The row of this very network, by its index and one more, or 0 where no row is of it.
 #[unsafe(no_mangle)]
-pub extern "C" fn nifazombi_ipv6_get(image: &[u8], first: &Address, bits: u32) -> usize
+pub extern "C" fn nifazombi_ipv6_get(image: &[u8], first: &[u8; 16], bits: u32) -> usize
     ensures within { result ≤ row_count image.now }
     ensures row { IsImage of_ipv6 image.now
         → MatchOption (found_row of_ipv6 image.now result)
         ((r : Net ℕ × ℕ) → IsOwnRow (λ n. n) (image_rows of_ipv6 image.now)
-        (network (number_of_octets first.now) bits) r → ⊥)
-        (IsOwnRow (λ n. n) (image_rows of_ipv6 image.now) (network (number_of_octets first.now) bits)) }
+        (network (octet_number first.now) bits) r → ⊥)
+        (IsOwnRow (λ n. n) (image_rows of_ipv6 image.now) (network (octet_number first.now) bits)) }
 {
-    match ipv6::get(image, first.number(), bits) {
+    match ipv6::get(image, u128::from_be_bytes(*first), bits) {
         Some(at) => at + 1,
         None => 0,
     }
@@ -133,13 +93,61 @@ pub extern "C" fn nifazombi_ipv6_get(image: &[u8], first: &Address, bits: u32) -
 
 /// Puts the rows whose networks lie within a network, itself among them, into `span`.
 #[unsafe(no_mangle)]
-pub extern "C" fn nifazombi_ipv6_below(image: &[u8], first: &Address, bits: u32, span: &mut Span)
+pub extern "C" fn nifazombi_ipv6_below(image: &[u8], first: &[u8; 16], bits: u32, span: &mut Span)
     ensures within { span.new.first + span.new.count ≤ row_count image.now }
     ensures rows { IsImage of_ipv6 image.now
         → take span.new.count (drop span.new.first (image_rows of_ipv6 image.now))
-        ≡ filter (is_inside 128 (λ n. n) (network (number_of_octets first.now) bits))
+        ≡ filter (is_inside 128 (λ n. n) (network (octet_number first.now) bits))
         (image_rows of_ipv6 image.now) }
 {
-    let (first, count) = ipv6::below(image, first.number(), bits);
+    let (first, count) = ipv6::below(image, u128::from_be_bytes(*first), bits);
     *span = Span { first, count };
+}
+
+/// The row of the network around that of the row at an index, the longest other one that holds it, by its index and one
+/// more, or 0 where there is none. It is at most `at`, so a walk upward ends.
+#[unsafe(no_mangle)]
+pub extern "C" fn nifazombi_ipv6_above(image: &[u8], at: usize) -> usize
+    ensures within { result ≤ at }
+    ensures row { IsImage of_ipv6 image.now → at < row_count image.now
+        → IsLongestRow 128 (λ n. n) (take at (image_rows of_ipv6 image.now))
+        (first_in of_ipv6 image.now at) (found_row of_ipv6 image.now result) }
+{
+    match ipv6::above(image, at) {
+        Some(up) => up + 1,
+        None => 0,
+    }
+}
+
+/// How many bytes the image of so many rows takes, with so many bytes of the user's own, or 0 of 2^32 rows or more.
+#[unsafe(no_mangle)]
+pub extern "C" fn nifazombi_ipv6_image_len(rows: usize, payload: usize) -> usize
+    ensures { rows < 2 ^ 32 → image_size of_ipv6 rows payload < 2 ^ 64
+        → result ≡ image_size of_ipv6 rows payload }
+{
+    match ipv6::image_len(rows, payload) {
+        Some(len) => len,
+        None => 0,
+    }
+}
+
+/// Writes the image of rows in order, by first address and then by bits, whose links count for nothing, and of the user's own
+/// bytes into `out`. Returns 0, or why it couldn't: one of the numbers above; the index that belongs to it is put into
+/// `at`, and `out` is as before then.
+#[unsafe(no_mangle)]
+pub extern "C" fn nifazombi_ipv6_write(
+    rows: &[Row],
+    payload: &[u8],
+    out: &mut [u8],
+    at: &mut usize,
+) -> u32
+    ensures ok { (result ≡ 0) ↔ CanWrite of_ipv6 (each row6_of rows.now) (length payload.now)
+        (length out.old) }
+    ensures image { result ≡ 0 → IsImage of_ipv6 out.new }
+    ensures rows { result ≡ 0 → image_rows of_ipv6 out.new ≡ each row6_of rows.now }
+    ensures payload { result ≡ 0 → HoldsPayload out.new payload.now }
+    ensures change { ChangesWithin 0 (image_size of_ipv6 (length rows.now) (length payload.now))
+        out.old out.new }
+{
+    status_of(ipv6::write(rows, payload, out), at)
 }

@@ -6,3 +6,4 @@
 mod ipv4;
 mod ipv6;
 mod results;
+mod texts;

@@ -1,4 +1,32 @@
-//! What calls put into their callers' memory.
+//! What calls put into their callers' memory, and what the numbers mean that they return.
+ghost use Rattle.std.specs.Prelude.{◌≡◌, ◌↔◌, ◌+◌, ◌≤◌, IsOk, IsTrue, MatchOption, length};
+ghost use Rattle.image_parts.specs.Parts.{IsPayload};
+
+use image_parts::{ImageError, WriteError, payload};
+
+/// There is no room for the head and the list of the parts, or for the image that is to be written.
+pub const NIFAZOMBI_SHORT: u32 = 1;
+
+/// The first bytes aren't those of such an image.
+pub const NIFAZOMBI_MARK: u32 = 2;
+
+/// The image is of another version.
+pub const NIFAZOMBI_VERSION: u32 = 3;
+
+/// The part listed at this index is missing, lies outside the bytes, or has another size.
+pub const NIFAZOMBI_PART: u32 = 4;
+
+/// The row at this index is none, doesn't come after the row before it, or has another link.
+pub const NIFAZOMBI_ROW: u32 = 5;
+
+/// The cell at this index counts wrongly.
+pub const NIFAZOMBI_CELL: u32 = 6;
+
+/// There are 2^32 rows or more, or so many bytes of keys.
+pub const NIFAZOMBI_FULL: u32 = 7;
+
+/// The row at this index is none, or doesn't come after the row before it.
+pub const NIFAZOMBI_UNSORTED: u32 = 8;
 
 /// Some rows that stand one behind the other, or some bytes: the first, and how many there are.
 #[repr(C)]
@@ -6,4 +34,57 @@
 pub struct Span {
     pub first: usize,
     pub count: usize,
+}
+
+/// The number of what a check has found, 0 of an image. Where it tells an index, that is put into `at`.
+pub(crate) fn code_of(found: Result<(), ImageError>, at: &mut usize) -> u32
+    ensures { (result ≡ 0) ↔ IsOk found }
+{
+    match found {
+        Ok(()) => 0,
+        Err(ImageError::Short) => NIFAZOMBI_SHORT,
+        Err(ImageError::Mark) => NIFAZOMBI_MARK,
+        Err(ImageError::Version) => NIFAZOMBI_VERSION,
+        Err(ImageError::Part(index)) => {
+            *at = index;
+            NIFAZOMBI_PART
+        }
+        Err(ImageError::Row(index)) => {
+            *at = index;
+            NIFAZOMBI_ROW
+        }
+        Err(ImageError::Cell(index)) => {
+            *at = index;
+            NIFAZOMBI_CELL
+        }
+    }
+}
+
+/// The number of what a write has come to, 0 where the image is written. Where it tells an index, that is put into `at`.
+pub(crate) fn status_of(written: Result<(), WriteError>, at: &mut usize) -> u32
+    ensures { (result ≡ 0) ↔ IsOk written }
+{
+    match written {
+        Ok(()) => 0,
+        Err(WriteError::Full) => NIFAZOMBI_FULL,
+        Err(WriteError::Short) => NIFAZOMBI_SHORT,
+        Err(WriteError::Unsorted(index)) => {
+            *at = index;
+            NIFAZOMBI_UNSORTED
+        }
+    }
+}
+
+/// Puts where the user's own bytes in an image of any kind lie, and how many they are, into `span`, and returns whether
+/// there are any.
+#[unsafe(no_mangle)]
+pub extern "C" fn nifazombi_payload(image: &[u8], span: &mut Span) -> bool
+    ensures found { IsTrue result → IsPayload image.now span.new.first span.new.count }
+    ensures inside { IsTrue result → span.new.first + span.new.count ≤ length image.now }
+{
+    let Some((first, count)) = payload(image) else {
+        return false;
+    };
+    *span = Span { first, count };
+    true
 }

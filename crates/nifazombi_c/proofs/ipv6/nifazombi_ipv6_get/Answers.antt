@@ -12,5 +12,5 @@ overflow_add-result c =
 
 pub returns-in-None-clause-row : goal.returns-in-None-clause-row
 returns-in-None-clause-row c = λ image.
-    subst (λ a. (r : Net ℕ × ℕ) → IsOwnRow (λ n. n) (image_rows of_ipv6 c.args.image.now) (network a c.args.bits) r → ⊥) c.number.ensures
+    subst (λ a. (r : Net ℕ × ℕ) → IsOwnRow (λ n. n) (image_rows of_ipv6 c.args.image.now) (network a c.args.bits) r → ⊥) c.from_be_bytes.ensures
     (c.in-None.ensures.row image)

@@ -11,4 +11,4 @@ overflow_add-result c =
 
 pub returns-in-None-clause-row : goal.returns-in-None-clause-row
 returns-in-None-clause-row c = λ image.
-    subst (λ a. IsLongestRow 128 (λ n. n) (image_rows of_ipv6 c.args.image.now) a None) c.number.ensures (c.in-None.ensures.row image)
+    subst (λ a. IsLongestRow 128 (λ n. n) (image_rows of_ipv6 c.args.image.now) a None) c.from_be_bytes.ensures (c.in-None.ensures.row image)

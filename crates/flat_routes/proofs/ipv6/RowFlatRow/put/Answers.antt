@@ -13,8 +13,8 @@ returns-clause-row c =
     let high = u64_kept _ _ (a + 8) (λ k l m. by5 k (omega (arith, m)) ∙ by4 k (omega (arith, m)) ∙ by3 k (omega (arith, m))) ∙ c.put_u64-2.ensures.number in
     let bits = u32_kept _ _ (a + 16) (λ k l m. by5 k (omega (arith, m)) ∙ by4 k (omega (arith, m))) ∙ c.put_u32.ensures.number in
     let value = c.put_u64-3.ensures.number in
-    let first : u128_in c.put_u64-3.new.out a ≡ c.args.self.first = omega (arith, low, high) in
-    cc (first, bits, value)
+    let first : u128_in c.put_u64-3.new.out a ≡ c.first-first.result = omega (arith, low, high) in
+    cc (first, c.first-first.ensures.value, bits, value)
 
 pub returns-clause-link : goal.returns-clause-link
 returns-clause-link c =

@@ -1,13 +1,14 @@
 -- The octets of an address, and its number.
 use Rattle.std.proofs.Common.{◌≡◌, ℕ, ◌+◌, ◌*◌, ◌/◌, ◌%◌, ◌^◌, ◌<◌, arith}
 use Rattle.std.proofs.Math.Nat.{div-div-eq-div-mul}
-use Rattle.std.specs.Int.{w128, from_be_bytes, to_be_bytes}
+use Rattle.std.specs.Int.{w128, to_be_bytes}
+use Rattle.flat_routes.specs.Images.{octet_number}
 
 octet_and_rest : (n p : ℕ) → n / p ≡ n / p % 256 + n / (p * 256) * 256
 octet_and_rest n p = omega (arith, div-div-eq-div-mul n p 256)
 
 -- the number of the octets of a number is that number
-pub octets_back : (n : ℕ) → n < 2 ^ 128 → from_be_bytes w128 (to_be_bytes w128 n) ≡ n
+pub octets_back : (n : ℕ) → n < 2 ^ 128 → octet_number (to_be_bytes w128 n) ≡ n
 octets_back n fits =
     let r1 = octet_and_rest n 256 in
     let r2 = octet_and_rest n 65536 in

@@ -1,0 +1,151 @@
+"""Checks the package nifazombi against plain lists and against images written by their format alone (tools/images.py)."""
+import array
+import ipaddress
+import os
+import random
+import tempfile
+
+import images
+from nifazombi import ImageError, Route, Routes, Texts
+
+ROUTES, ASKED, HOSTILE = 400, 2_000, 3_000
+FAMILIES = {4: (32, ipaddress.IPv4Address), 6: (128, ipaddress.IPv6Address)}
+
+
+def drawn(version):
+    """Networks near to one another, each with a number, in no order."""
+    width, found = FAMILIES[version][0], {}
+    while len(found) < ROUTES:
+        number = random.getrandbits(width)
+        if found and random.random() < 0.7:
+            number = int(random.choice([*found]).network_address) ^ random.getrandbits(random.randrange(1, width))
+        bits = random.randrange(width + 1)
+        network = ipaddress.ip_network((number >> (width - bits) << (width - bits), bits))
+        if network.version == version:
+            found[network] = random.getrandbits(32)
+    return found
+
+
+def near(version, networks):
+    """Addresses at the borders of networks, and anywhere."""
+    width, kind = FAMILIES[version]
+    for _ in range(ASKED):
+        network = random.choice(networks)
+        at = random.choice((int(network.network_address), int(network.broadcast_address), random.getrandbits(width)))
+        yield kind((at + random.randrange(-1, 2)) % 2**width)
+
+
+def try_routes(version):
+    found = drawn(version)
+    image = Routes.build(found.items(), payload=b"own bytes")
+    assert image == images.routes_image(found.items(), b"own bytes"), "the image isn't by the format"
+    routes, order = Routes(image), sorted(found, key=lambda it: (int(it.network_address), it.prefixlen))
+    assert routes.version == version and routes.payload == b"own bytes" and len(routes) == len(order)
+    assert [*routes] == [Route(it, found[it]) for it in order]
+    addresses = [*near(version, order)]
+    longest = [images.longest(found.items(), it) for it in addresses]
+    assert [routes.look(it) for it in addresses] == [it and Route(*it) for it in longest]
+    assert routes.look_many(addresses) == [it and it[1] for it in longest]
+    packed = array.array("I", map(int, addresses)) if version == 4 else b"".join(it.packed for it in addresses)
+    assert routes.look_many(packed) == [it and it[1] for it in longest]
+    for address in addresses[:200]:
+        around = sorted((it for it in order if address in it), key=lambda it: -it.prefixlen)
+        assert [it.network for it in routes.above(address)] == around and (address in routes) == bool(around)
+    for network in order[:200]:
+        assert routes.exact(network) == Route(network, found[network]) and routes.exact(str(network)).value == found[network]
+        within = [it for it in order if it.subnet_of(network)]
+        below = routes.below(network)
+        assert [it.network for it in below] == within and [it.network for it in reversed(below)] == within[::-1]
+        assert below[-1].network == within[-1] and len(below[1:]) == len(within) - 1
+
+
+def try_texts():
+    found = {bytes(random.choices(b"ab\0\xff", k=random.randrange(20))): random.getrandbits(64) for _ in range(ROUTES)}
+    image = Texts.build(found)
+    assert image == images.texts_image(found.items()), "the image isn't by the format"
+    texts, order = Texts(image), sorted(found)
+    assert dict(texts) == found and [*texts] == order and len(texts) == len(order)
+    for _ in range(ASKED):
+        key = bytes(random.choices(b"ab\0\xff", k=random.randrange(20)))
+        above = [it for it in reversed(order) if key.startswith(it)]
+        assert [it for it, _ in texts.prefixes(key)] == above
+        assert texts.nearest(key) == ((above[0], found[above[0]]) if above else None)
+        assert texts.get(key) == found.get(key) and (key in texts) == (key in found)
+        assert texts.rank(key) == sum(it < key for it in order)
+        assert [it for it, _ in texts.items(key[:3])] == [it for it in order if it.startswith(key[:3])]
+        other = bytes(random.choices(b"ab\0\xff", k=random.randrange(20)))
+        assert [it for it, _ in texts.between(key, other)] == [it for it in order if key <= it < other]
+
+
+def refused(call, error, said):
+    try:
+        call()
+    except error as told:
+        assert said in str(told), told
+    else:
+        raise AssertionError(f"not refused: {said}")
+
+
+def try_refusals():
+    image = Routes.build([("10.0.0.0/8", 1), ("10.1.0.0/16", 2)])
+    later, gone, turned = bytearray(image), bytearray(image), bytearray(image)
+    later[7:8], gone[40:44], turned[88:104], turned[104:120] = b"2", b"\t\0\0\0", image[104:120], image[88:104]
+    for wrong, why in ((b"", "too short"), (image[:-1], "part "), (b"x" * 200, "another kind"), (later, "another version"),
+                       (gone, "part 1"), (turned, "row 0")):
+        refused(lambda wrong=wrong: Routes(bytes(wrong)), ImageError, why)
+    refused(lambda: Texts(image), ImageError, "another kind")
+    refused(lambda: Routes.build([("10.0.0.0/8", 1), ("10.0.0.0/8", 2)]), ValueError, "10.0.0.0/8 is there twice")
+    refused(lambda: Routes.build([("10.0.0.0/8", 1), ("::/0", 2)]), ValueError, "one family")
+    refused(lambda: Routes.build([("10.0.0.0/8", 1 << 32)]), ValueError, "doesn't fit")
+    refused(lambda: Routes.build([("10.0.0.1/8", 1)]), ValueError, "host bits")
+    refused(lambda: Texts.build([("a", 1), (b"a", 2)]), ValueError, "b'a' is there twice")
+    refused(lambda: Texts.build({"a": -1}), ValueError, "64 bits")
+    refused(lambda: Routes(image)["11.0.0.1"], KeyError, "11.0.0.1")
+    refused(lambda: Routes(image).look("::1"), ValueError, "::1")
+    refused(lambda: Texts(Texts.build({})).nth(0), IndexError, "0")
+    refused(lambda: Routes.open("/nowhere/table"), FileNotFoundError, "nowhere")
+
+
+def try_files(room):
+    path = f"{room}/table"
+    Routes.write(path, [("10.0.0.0/8", 1)])
+    with Routes.open(path) as old:
+        Routes.write(path, [("10.0.0.0/8", 2)], payload=b"new")
+        with Routes.open(path) as new:
+            assert (old["10.1.1.1"], new["10.1.1.1"], new.payload) == (1, 2, b"new")
+    assert len(old) == 0 and old.look("10.1.1.1") is None, "a closed table answers"
+    refused(lambda: Routes.write(path, [("10.0.0.0/8", -1)]), ValueError, "doesn't fit")
+    assert os.listdir(room) == ["table"] and Routes.open(path)["10.1.1.1"] == 2
+    open(f"{room}/none", "w").close()
+    refused(lambda: Texts.open(f"{room}/none"), ImageError, "too short")
+
+
+def try_hostile():
+    """Unchecked bytes answer something, and end."""
+    wide, texts = Routes.build(drawn(6).items()), Texts.build({"a": 1, "ab": 2, "abc": 3, "b": 4})
+    for _ in range(HOSTILE):
+        for image, kind in ((wide, Routes), (texts, Texts)):
+            wrong = bytearray(image)
+            for _ in range(random.randrange(1, 6)):
+                wrong[random.randrange(8, min(len(wrong), random.choice((130, len(wrong)))))] = random.randrange(256)
+            table = kind(bytes(wrong[: random.choice((len(wrong), random.randrange(len(wrong))))] or b"N"), check=False)
+            if kind is Texts:
+                table.get("ab"), table.nearest("abcd"), table.rank("b"), [*zip(range(9), table.prefixes("abc"))]
+            elif table.version == 6:
+                address = ipaddress.IPv6Address(random.getrandbits(128))
+                table._family.call("look")(table._at, table._len, table._family.passed(address))
+
+
+def main():
+    random.seed(1)
+    try_routes(4)
+    try_routes(6)
+    try_texts()
+    try_refusals()
+    with tempfile.TemporaryDirectory() as room:
+        try_files(room)
+    try_hostile()
+
+
+if __name__ == "__main__":
+    main()

@@ -184,6 +184,17 @@ keys_len ps = sum_by (λ p. length p.key.now) ps
 abbrev pub counts_size : ℕ → ℕ
 counts_size n = if nat_lt n 65536 then 0 else 262148
 
--- how many bytes an image takes, as it is written
-abbrev pub image_size : List Pair → ℕ
-image_size ps = 40 + 24 * length ps + counts_size (length ps) + keys_len ps
+-- how many bytes an image takes as it is written, with so many bytes of the user's own
+abbrev pub text_image_size : List Pair → ℕ → ℕ
+text_image_size ps payload = 64 + 24 * length ps + counts_size (length ps) + keys_len ps + payload
+
+-- a plan says where the parts of an image of these pairs are laid, one behind another
+pub record IsTextLayout (ps : List Pair) (plan : Plan) : Type 0 where
+  pub pairs : plan.pairs ≡ length ps
+  pub heads_at : plan.heads_at ≡ 64
+  pub pairs_at : plan.pairs_at ≡ 64 + 8 * length ps
+  pub counts : 4 * plan.counts ≡ counts_size (length ps)
+  pub few : plan.counts ≤ 65537
+  pub counts_at : plan.counts_at ≡ 64 + 24 * length ps
+  pub keys_at : plan.keys_at ≡ 64 + 24 * length ps + counts_size (length ps)
+  pub keys_len : plan.keys_len ≡ keys_len ps

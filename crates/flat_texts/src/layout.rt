@@ -1,5 +1,5 @@
 //! How an image is laid out and filled. Nothing is said here of the bytes: `write` checks what it wrote.
-ghost use Rattle.std.specs.Prelude.{◌≡◌, ◌+◌, ◌*◌, ◌^◌, ◌<◌, ◌≤◌, IfSome, IsFalse, length};
+ghost use Rattle.std.specs.Prelude.{◌≡◌, ◌+◌, ◌*◌, ◌^◌, ◌<◌, ◌≤◌, IfSome, length};
 ghost use Rattle.flat_texts.specs.TextImages.{counts_size};
 
 use crate::head::{Plan, mark, plan_of};
@@ -7,7 +7,10 @@ use crate::heads::head_of;
 use crate::pair::Pair;
 use crate::pairs::{head_at, start_at};
 use crate::search::climb;
-use image_parts::{put_part, put_u32, put_u64};
+use image_parts::{put_bytes, put_part, put_u32, put_u64};
+
+/// How many bytes the head takes, which lists two parts.
+const HEAD: usize = 64;
 
 /// From how many pairs on an image has counts.
 const MANY: usize = 65536;
@@ -25,18 +28,20 @@ pub(crate) fn layout(pairs: usize, keys_len: usize) -> Plan
     requires few { pairs < 2 ^ 32 }
     requires short { keys_len < 2 ^ 32 }
     ensures pairs { result.pairs ≡ pairs }
-    ensures counts { result.counts ≤ 65537 }
-    ensures start { 40 ≤ result.keys_at }
-    ensures heads { result.heads_at ≡ 40 }
-    ensures end { result.keys_at + result.keys_len
-        ≡ 40 + 24 * pairs + counts_size pairs + keys_len }
+    ensures heads_at { result.heads_at ≡ 64 }
+    ensures pairs_at { result.pairs_at ≡ 64 + 8 * pairs }
+    ensures counts { 4 * result.counts ≡ counts_size pairs }
+    ensures few { result.counts ≤ 65537 }
+    ensures counts_at { result.counts_at ≡ 64 + 24 * pairs }
+    ensures keys_at { result.keys_at ≡ 64 + 24 * pairs + counts_size pairs }
+    ensures keys_len { result.keys_len ≡ keys_len }
 {
     let counts = counts_for(pairs);
-    let counts_at = 40 + 24 * pairs;
+    let counts_at = HEAD + 24 * pairs;
     Plan {
         pairs,
-        heads_at: 40,
-        pairs_at: 40 + 8 * pairs,
+        heads_at: HEAD,
+        pairs_at: HEAD + 8 * pairs,
         counts,
         counts_at,
         keys_at: counts_at + 4 * counts,
@@ -44,28 +49,29 @@ pub(crate) fn layout(pairs: usize, keys_len: usize) -> Plan
     }
 }
 
-/// Puts the head of an image, if there is room for all of it.
-pub(crate) fn put_head(out: &mut [u8], plan: Plan) -> bool
+/// Puts the head of an image, which lists so many bytes of the user's own behind the keys.
+pub(crate) fn put_head(out: &mut [u8], plan: Plan, payload: usize)
     requires few { plan.pairs < 2 ^ 32 }
     requires counts { plan.counts ≤ 65537 }
-    requires heads { plan.heads_at ≡ 40 }
-    requires start { 40 ≤ plan.keys_at }
-    requires end { plan.keys_at + plan.keys_len < 2 ^ 40 }
-    ensures short { IsFalse result → length out.old < plan.keys_at + plan.keys_len }
+    requires heads { plan.heads_at ≡ 64 }
+    requires start { 64 ≤ plan.keys_at }
+    requires end { plan.keys_at + plan.keys_len < 2 ^ 63 }
+    requires room { 64 ≤ length out.old }
+    ensures { length out.new ≡ length out.old }
 {
-    if out.len() < plan.keys_at + plan.keys_len {
-        return false;
-    }
+    let end = plan.keys_at + plan.keys_len;
     put_u64(out, 0, mark());
     put_u32(out, 8, plan.pairs as u32);
-    put_u32(out, 12, 1);
-    let len = plan.keys_at + plan.keys_len - plan.heads_at;
+    put_u32(out, 12, 2);
+    let len = end - plan.heads_at;
     put_part(out, 16, 4, plan.counts as u32, plan.heads_at, len);
-    true
+    put_part(out, 40, 3, 0, end, payload);
 }
 
 /// Puts the pair at an index, where those before it stand. Where there is no room for it nothing is put.
-pub(crate) fn put_pair(out: &mut [u8], at: usize, pair: Pair<'_>) -> bool {
+pub(crate) fn put_pair(out: &mut [u8], at: usize, pair: Pair<'_>) -> bool
+    ensures { length out.new ≡ length out.old }
+{
     let Ok(plan) = plan_of(out) else {
         return false;
     };
@@ -85,7 +91,7 @@ pub(crate) fn put_pair(out: &mut [u8], at: usize, pair: Pair<'_>) -> bool {
     put_u32(out, plan.pairs_at + 16 * at, end);
     put_u32(out, plan.pairs_at + 16 * at + 4, link as u32);
     put_u64(out, plan.pairs_at + 16 * at + 8, pair.value);
-    out[plan.keys_at + from..plan.keys_at + to].copy_from_slice(pair.key);
+    put_bytes(out, plan.keys_at + from, pair.key);
     true
 }
 
@@ -109,7 +115,9 @@ fn next_count(image: &[u8], at: usize, from: usize) -> Option<(usize, usize)>
 }
 
 /// Puts so many counts, where all heads stand.
-pub(crate) fn put_counts(out: &mut [u8], counts: usize) -> bool {
+pub(crate) fn put_counts(out: &mut [u8], counts: usize) -> bool
+    ensures { length out.new ≡ length out.old }
+{
     let mut from = 0;
     for at in 0..counts {
         let Some((place, count)) = next_count(out, at, from) else {

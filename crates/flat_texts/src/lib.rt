@@ -14,7 +14,7 @@ mod search;
 mod writing;
 
 pub use checking::{check, is_image};
-pub use image_parts::{ImageError, WriteError};
+pub use image_parts::{ImageError, WriteError, payload};
 pub use pair::{Pair, Place};
 pub use ranges::{below, between, rank};
 pub use reading::{above, get, len, nearest, nth, place_at, prefixes};

@@ -25,20 +25,21 @@ const STORED: [u8; 341] = [
     98, 100, 255, 255, 255, 255, 255, 255, 255, 255, 255,
 ];
 
-/// The same pairs as they are written, with no counts and no other part.
-const PLAIN: [u8; 300] = [
-    78, 90, 84, 69, 88, 84, 46, 49, 9, 0, 0, 0, 1, 0, 0, 0, 4, 0, 0, 0, 0, 0, 0, 0, 40, 0, 0, 0, 0,
-    0, 0, 0, 4, 1, 0, 0, 0, 0, 0, 0, 0, 0, 0, 0, 0, 0, 0, 0, 0, 0, 0, 0, 0, 0, 0, 97, 0, 0, 0, 0,
-    0, 0, 0, 97, 0, 0, 0, 0, 0, 99, 98, 97, 104, 103, 102, 101, 100, 99, 98, 97, 104, 103, 102,
-    101, 100, 99, 98, 97, 104, 103, 102, 101, 100, 99, 98, 97, 0, 0, 0, 0, 0, 100, 98, 97, 255,
-    255, 255, 255, 255, 255, 255, 255, 0, 0, 0, 0, 0, 0, 0, 0, 10, 0, 0, 0, 0, 0, 0, 0, 1, 0, 0, 0,
-    1, 0, 0, 0, 11, 0, 0, 0, 0, 0, 0, 0, 3, 0, 0, 0, 2, 0, 0, 0, 12, 0, 0, 0, 0, 0, 0, 0, 6, 0, 0,
-    0, 2, 0, 0, 0, 13, 0, 0, 0, 0, 0, 0, 0, 14, 0, 0, 0, 4, 0, 0, 0, 14, 0, 0, 0, 0, 0, 0, 0, 23,
-    0, 0, 0, 5, 0, 0, 0, 15, 0, 0, 0, 0, 0, 0, 0, 32, 0, 0, 0, 5, 0, 0, 0, 16, 0, 0, 0, 0, 0, 0, 0,
-    35, 0, 0, 0, 2, 0, 0, 0, 17, 0, 0, 0, 0, 0, 0, 0, 44, 0, 0, 0, 1, 0, 0, 0, 18, 0, 0, 0, 0, 0,
-    0, 0, 97, 97, 0, 97, 98, 99, 97, 98, 99, 100, 101, 102, 103, 104, 97, 98, 99, 100, 101, 102,
-    103, 104, 0, 97, 98, 99, 100, 101, 102, 103, 104, 105, 97, 98, 100, 255, 255, 255, 255, 255,
-    255, 255, 255, 255,
+/// The same pairs as they are written, with no counts, and with the same bytes behind all.
+const PLAIN: [u8; 329] = [
+    78, 90, 84, 69, 88, 84, 46, 49, 9, 0, 0, 0, 2, 0, 0, 0, 4, 0, 0, 0, 0, 0, 0, 0, 64, 0, 0, 0, 0,
+    0, 0, 0, 4, 1, 0, 0, 0, 0, 0, 0, 3, 0, 0, 0, 0, 0, 0, 0, 68, 1, 0, 0, 0, 0, 0, 0, 5, 0, 0, 0,
+    0, 0, 0, 0, 0, 0, 0, 0, 0, 0, 0, 0, 0, 0, 0, 0, 0, 0, 0, 97, 0, 0, 0, 0, 0, 0, 0, 97, 0, 0, 0,
+    0, 0, 99, 98, 97, 104, 103, 102, 101, 100, 99, 98, 97, 104, 103, 102, 101, 100, 99, 98, 97,
+    104, 103, 102, 101, 100, 99, 98, 97, 0, 0, 0, 0, 0, 100, 98, 97, 255, 255, 255, 255, 255, 255,
+    255, 255, 0, 0, 0, 0, 0, 0, 0, 0, 10, 0, 0, 0, 0, 0, 0, 0, 1, 0, 0, 0, 1, 0, 0, 0, 11, 0, 0, 0,
+    0, 0, 0, 0, 3, 0, 0, 0, 2, 0, 0, 0, 12, 0, 0, 0, 0, 0, 0, 0, 6, 0, 0, 0, 2, 0, 0, 0, 13, 0, 0,
+    0, 0, 0, 0, 0, 14, 0, 0, 0, 4, 0, 0, 0, 14, 0, 0, 0, 0, 0, 0, 0, 23, 0, 0, 0, 5, 0, 0, 0, 15,
+    0, 0, 0, 0, 0, 0, 0, 32, 0, 0, 0, 5, 0, 0, 0, 16, 0, 0, 0, 0, 0, 0, 0, 35, 0, 0, 0, 2, 0, 0, 0,
+    17, 0, 0, 0, 0, 0, 0, 0, 44, 0, 0, 0, 1, 0, 0, 0, 18, 0, 0, 0, 0, 0, 0, 0, 97, 97, 0, 97, 98,
+    99, 97, 98, 99, 100, 101, 102, 103, 104, 97, 98, 99, 100, 101, 102, 103, 104, 0, 97, 98, 99,
+    100, 101, 102, 103, 104, 105, 97, 98, 100, 255, 255, 255, 255, 255, 255, 255, 255, 255, 104,
+    101, 108, 108, 111,
 ];
 
 const A: &'static [u8] = &[97];
@@ -205,8 +206,8 @@ fn are_answered(image: &[u8]) -> bool {
     let (start, more) = between(image, b"a", b"abd");
     let _pair = nth(image, 4);
     count <= 4
-        && first + some <= all
-        && start + more <= all
+        && some <= all.saturating_sub(first)
+        && more <= all.saturating_sub(start)
         && rank(image, b"abcdefghi") <= all
         && get(image, b"abcdefghi").is_none_or(|at| at < all)
         && nearest(image, b"abcdefghij").is_none_or(|at| at < all)
@@ -269,28 +270,29 @@ fn written_image(rt: HostRuntime) {
             value: 10 + at as u64,
         };
     }
-    let mut out = [7u8; 304];
-    assert!(rt; image_len(&pairs) == Some(300));
-    assert!(rt; write(&pairs, &mut out) == Ok(()));
+    let mut out = [7u8; 333];
+    assert!(rt; image_len(&pairs, 5) == Some(329));
+    assert!(rt; write(&pairs, b"hello", &mut out) == Ok(()));
     assert!(rt; out.starts_with(&PLAIN) && out.ends_with(&[7u8; 4]));
-    let mut short = [0u8; 299];
-    assert!(rt; write(&pairs, &mut short) == Err(WriteError::Short));
+    assert!(rt; payload(&out) == Some((324, 5)));
+    let mut short = [0u8; 328];
+    assert!(rt; write(&pairs, b"hello", &mut short) == Err(WriteError::Short));
     pairs[3].key = A_ZERO;
-    assert!(rt; write(&pairs, &mut out) == Err(WriteError::Unsorted(3)));
+    assert!(rt; write(&pairs, b"", &mut out) == Err(WriteError::Unsorted(3)));
     pairs[2].key = EIGHT_ZERO;
-    assert!(rt; write(&pairs, &mut out) == Err(WriteError::Unsorted(3)));
+    assert!(rt; write(&pairs, b"", &mut out) == Err(WriteError::Unsorted(3)));
 }
 
 #[test]
 fn written_image_of_no_pair(rt: HostRuntime) {
-    let mut out = [7u8; 41];
-    assert!(rt; image_len(&[]) == Some(40));
-    assert!(rt; write(&[], &mut out) == Ok(()) && is_image(&out) && out[40] == 7);
+    let mut out = [7u8; 65];
+    assert!(rt; image_len(&[], 0) == Some(64));
+    assert!(rt; write(&[], b"", &mut out) == Ok(()) && is_image(&out) && out[64] == 7);
     assert!(rt; len(&out) == 0 && get(&out, b"").is_none() && nearest(&out, A).is_none());
     assert!(rt; rank(&out, A) == 0 && below(&out, b"") == (0, 0));
 }
 
-/// The key of so many digits to the base of 16, as letters from `a` on.
+/// The number by six digits to the base of 16, as letters from `a` on.
 fn letters(number: usize) -> [u8; 6] {
     let mut key = [0u8; 6];
     for at in 0..6 {
@@ -299,25 +301,19 @@ fn letters(number: usize) -> [u8; 6] {
     key
 }
 
-/// Whether the image of so many keys of six letters, which has counts from 65,536 on, has each at its index.
-fn are_found(alloc: Global, count: usize) -> Option<bool> {
+/// Whether the image of so many keys of six letters has each at its index, and takes so many bytes.
+fn are_found(alloc: Global, count: usize, size: usize) -> Option<bool> {
     let mut keys = Vec::new(alloc);
     for i in 0..count {
         keys.push(letters(i)).ok()?;
     }
     let mut pairs = Vec::new(alloc);
-    for i in 0..count {
-        let value = i as u64;
-        pairs
-            .push(Pair {
-                key: &keys[i],
-                value,
-            })
-            .ok()?;
+    for key in keys.iter() {
+        pairs.push(Pair { key, value: 1 }).ok()?;
     }
-    let len = image_len(&pairs)?;
+    let len = image_len(&pairs, 0)?;
     let mut out = Vec::from_elem(alloc, 0u8, len).ok()?;
-    if write(&pairs, &mut out) != Ok(()) || (len > 40 + 30 * count) != (count >= 65536) {
+    if write(&pairs, b"", &mut out) != Ok(()) || len != size {
         return Some(false);
     }
     for i in 0..count {
@@ -330,6 +326,6 @@ fn are_found(alloc: Global, count: usize) -> Option<bool> {
 
 #[test]
 fn written_image_with_counts(rt: HostRuntime) {
-    assert!(rt; are_found(rt.alloc(), 65535) == Some(true));
-    assert!(rt; are_found(rt.alloc(), 65536) == Some(true));
+    assert!(rt; are_found(rt.alloc(), 65535, 64 + 30 * 65535) == Some(true));
+    assert!(rt; are_found(rt.alloc(), 65536, 64 + 30 * 65536 + 4 * 65537) == Some(true));
 }

@@ -2,7 +2,7 @@
 
 use crate::{
     ImageError, Pair, WriteError, above, below, between, check, get, image_len, is_image, len,
-    nearest, nth, prefixes, rank, write,
+    nearest, nth, payload, prefixes, rank, write,
 };
 use std::alloc::Global;
 

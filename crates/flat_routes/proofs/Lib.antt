@@ -1,5 +1,6 @@
 -- The lemmas.
 pub mod ImageLemmas
+pub mod TableLemmas
 pub mod WriteLemmas
 -- The octets of an address, and its number.
 pub mod AddressLemmas

@@ -76,6 +76,10 @@ network first bits = record { base = first; bits = bits }
 abbrev pub row_in : Bool → List ℕ → ℕ → Net ℕ × ℕ
 row_in wide bs i = (network (first_in wide bs i) (bits_in wide bs i), value_in wide bs i)
 
+-- a row whose network begins at an address, by the address's number
+abbrev pub numbered : {A V : Type 0} → (A → ℕ) → Net A × V → Net ℕ × V
+numbered number r = (network (number r.0.base) r.0.bits, r.1)
+
 -- a row of IPv4 as the calls give it
 abbrev pub row4_of : Row4 → Net ℕ × ℕ
 row4_of r = (network r.first r.bits, r.value)

@@ -158,8 +158,9 @@ fn is_row(image: &[u8], wide: bool, plan: Plan, at: usize) -> bool
     link == link_at(image, wide, plan, at) as usize
 }
 
-/// Whether bytes are an image of the family, or the first of their faults.
-pub(crate) fn check(image: &[u8], wide: bool) -> Result<(), ImageError>
+/// Where the parts of an image lie, or the first of the faults where the bytes aren't one of the family.
+pub(crate) fn check(image: &[u8], wide: bool) -> Result<Plan, ImageError>
+    ensures plan { IfOk result (IsPlanOf wide image.now) }
     ensures image { IsOk result ↔ IsImage wide image.now }
     ensures fault { IfErr result (IsFault wide image.now) }
 {
@@ -174,5 +175,5 @@ pub(crate) fn check(image: &[u8], wide: bool) -> Result<(), ImageError>
             return Err(ImageError::Cell(first));
         }
     }
-    Ok(())
+    Ok(plan)
 }

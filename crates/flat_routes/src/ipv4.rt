@@ -1,20 +1,26 @@
 //! Images of IPv4 networks. Each call is total: whatever the bytes are, it ends, and reads none but them.
-ghost use Rattle.std.specs.Prelude.{◌≡◌, ◌↔◌, ◌+◌, ◌*◌, ◌^◌, ◌<◌, ◌≤◌, ℕ, IfErr, IfSome, IsNone, IsOk, IsSome, IsTrue, MatchOption, OnErr, OnOk, false, true, drop, length, min, option_map, slice_get, slice_index, take, map as each};
+ghost use Rattle.std.specs.Prelude.{◌≡◌, ◌↔◌, ◌+◌, ◌*◌, ◌^◌, ◌<◌, ◌≤◌, ℕ, IfErr, IfOk, IfSome, IsNone, IsOk, IsSome, IsTrue, MatchOption, OnErr, OnOk, false, true, drop, length, min, option_map, slice_get, slice_index, take, map as each};
 ghost use Rattle.std.specs.List.{filter};
+ghost use Rattle.std.specs.Net.Addr.{ipv4_bits};
 ghost use Rattle.std.specs.Option.{SomeIff};
 ghost use Rattle.radix_keys.specs.Networks.{Net};
 ghost use Rattle.frozen_routes.specs.Routes.{IsLongestRow, IsOwnRow, is_inside};
 ghost use Rattle.image_parts.specs.Parts.{HoldsPayload, row_count};
 ghost use Rattle.flat_routes.specs.Faults.{IsFault};
 ghost use Rattle.flat_routes.specs.Written.{CanWrite, ChangesWithin, IsWriteFault, image_size};
-ghost use Rattle.flat_routes.specs.Images.{IsImage, first_in, found_row, image_rows, link_in, network, of_ipv4, row4_of, row_in};
+ghost use Rattle.flat_routes.specs.Images.{IsImage, first_in, found_row, image_rows, link_in, network, numbered, of_ipv4, row4_of, row_in};
 
 use crate::head::plan_of;
 use crate::rows::{bits_at, first_at, link_at, value_at};
 use crate::search::find;
+use crate::tables::{TableError, TableRow};
 use crate::write::FlatRow;
-use crate::{check, layout, networks, search, write};
+use crate::{check, layout, networks, search, tables, write};
+use frozen_routes::FrozenRoutes;
 use image_parts::{ImageError, WriteError, put_u32};
+use radix_keys::{Address, Memory, Network};
+use std::alloc::Global;
+use std::net::Ipv4Addr;
 
 /// A row as it lies in an image, in 16 bytes: a network by its first address and how many bits its addresses share, the
 /// index and one more of the row of the network around it, or 0, and the network's value.
@@ -63,7 +69,10 @@ pub fn check(image: &[u8]) -> Result<(), ImageError>
     ensures image { IsOk result ↔ IsImage of_ipv4 image.now }
     ensures fault { IfErr result (IsFault of_ipv4 image.now) }
 {
-    check::check(image, false)
+    match check::check(image, false) {
+        Ok(_) => Ok(()),
+        Err(why) => Err(why),
+    }
 }
 
 /// Whether bytes are an image of IPv4 networks. It takes the time of `check`.
@@ -205,4 +214,81 @@ pub fn write(rows: &[Row], payload: &[u8], out: &mut [u8]) -> Result<(), WriteEr
     ensures unchanged { OnErr result (out.new ≡ out.old) }
 {
     write::write(rows, payload, out)
+}
+
+impl FlatRow for (Network<Ipv4Addr>, u32) {
+    ghost use Rattle.std.specs.Net.Addr.{ipv4_bits};
+    ghost use Rattle.flat_routes.specs.Images.{numbered};
+
+    ghost WIDE = { false };
+
+    ghost shown = { numbered ipv4_bits };
+
+    const WIDE: bool = false;
+
+    fn first(self) -> u128 {
+        self.0.base().to_number()
+    }
+
+    fn bits(self) -> u32 {
+        u32::from(self.0.bits())
+    }
+
+    fn put(self, out: &mut [u8], place: usize, link: u32) {
+        let row = Row {
+            first: self.0.base().to_bits(),
+            bits: u32::from(self.0.bits()),
+            link,
+            value: self.1,
+        };
+        row.put(out, place, link);
+    }
+}
+
+impl TableRow for (Network<Ipv4Addr>, u32) {
+    fn of_numbers(first: u128, bits: u32, value: u64) -> Option<(Network<Ipv4Addr>, u32)> {
+        let network = Network::new(Ipv4Addr::from_number(first), u8::try_from(bits).ok()?)?;
+        Some((network, value as u32))
+    }
+}
+
+/// The image of a table, with the user's own bytes. It takes the time of `write`.
+///
+/// # Errors
+///
+/// Memory is refused.
+pub fn to_image(
+    alloc: Global,
+    table: &FrozenRoutes<Ipv4Addr, u32>,
+    payload: &[u8],
+) -> Result<Vec<u8>, Memory>
+    ensures image { IfOk result (λ image. IsImage of_ipv4 image.items) }
+    ensures rows { IfOk result (λ image. image_rows of_ipv4 image.items
+        ≡ each (numbered ipv4_bits) table.now) }
+    ensures payload { IfOk result (λ image. HoldsPayload image.items payload.now) }
+{
+    tables::image_of(alloc, table.rows(), payload)
+}
+
+/// The table of the rows of an image. It takes the time of `check` and of `FrozenRoutes::from_sorted`.
+///
+/// # Errors
+///
+/// The bytes are no image, or memory is refused.
+pub fn from_image(alloc: Global, image: &[u8]) -> Result<FrozenRoutes<Ipv4Addr, u32>, TableError>
+    ensures rows { IfOk result (λ table. each (numbered ipv4_bits) table
+        ≡ image_rows of_ipv4 image.now) }
+    ensures image { OnOk result (IsImage of_ipv4 image.now) }
+    ensures fault { IfErr result (λ e. (why : ImageError) → e ≡ TableError.Image why
+        → IsFault of_ipv4 image.now why) }
+    ensures memory { IfErr result (λ e. e ≡ TableError.Memory → IsImage of_ipv4 image.now) }
+{
+    let rows = match tables::rows_of(alloc, image) {
+        Ok(rows) => rows,
+        Err(why) => return Err(why),
+    };
+    match FrozenRoutes::from_sorted(rows) {
+        Ok(table) => Ok(table),
+        Err(_) => Err(TableError::Memory),
+    }
 }

@@ -6,13 +6,17 @@ mod check;
 mod head;
 pub mod ipv4;
 pub mod ipv6;
+mod laws;
 mod layout;
 mod networks;
 mod rows;
 mod search;
+mod tables;
 mod write;
 
 pub use image_parts::{ImageError, WriteError, payload};
+pub use laws::images_answer_as_tables;
+pub use tables::TableError;
 
 #[cfg(test)]
 mod tests;

@@ -1,8 +1,12 @@
 //! Stored images, which tools of other languages made from docs/IMAGES.md, and what is found there.
 
 use crate::ipv4::Row;
-use crate::{ImageError, WriteError, ipv4, ipv6, payload};
+use crate::{ImageError, TableError, WriteError, ipv4, ipv6, payload};
+use frozen_routes::FrozenRoutes;
+use radix_keys::Network;
 use std::alloc::Global;
+use std::net::{Ipv4Addr, Ipv6Addr};
+use std::test::Fail;
 
 /// 10.0.0.0/8, 10.0.0.0/16, 10.1.0.0/16, 10.1.2.0/24, 128.0.0.0/2, 192.0.2.0/24 and 255.255.255.255/32, with cells by three
 /// bits, and five bytes of the user's own before the rows.
@@ -336,4 +340,45 @@ fn are_found(alloc: Global, count: u32) -> Option<bool> {
 #[test]
 fn written_image_with_cells(rt: HostRuntime) {
     assert!(rt; are_found(rt.alloc(), 600) == Some(true));
+}
+
+/// A table of IPv4 networks, from their first addresses, bits and values.
+fn table_of(alloc: Global, rows: &[Row]) -> Option<FrozenRoutes<Ipv4Addr, u32>> {
+    let mut table = FrozenRoutes::new(alloc);
+    for row in rows {
+        let bits = u8::try_from(row.bits).ok()?;
+        let network = Network::new(Ipv4Addr::from_bits(row.first), bits)?;
+        table.push(network, row.value).ok()?;
+    }
+    Some(table)
+}
+
+#[test]
+fn images_of_tables(rt: HostRuntime) -> Result<(), Fail> {
+    let alloc = rt.alloc();
+    let table = table_of(alloc, &rows_of_ipv4()).ok_or("no table")?;
+    let image = ipv4::to_image(alloc, &table, b"hello")
+        .ok()
+        .ok_or("no image")?;
+    assert!(rt; image.as_slice() == PLAIN.as_slice());
+    let Ok(again) = ipv4::from_image(alloc, &image) else {
+        return Err("no table".into());
+    };
+    assert!(rt; again.rows() == table.rows());
+    let refused = ipv4::from_image(alloc, &spoilt(117, 0));
+    assert!(rt; refused.is_err_and(|why| why == TableError::Image(ImageError::Row(1))));
+    Ok(())
+}
+
+#[test]
+fn images_of_tables_of_ipv6(rt: HostRuntime) -> Result<(), Fail> {
+    let alloc = rt.alloc();
+    let Ok(table) = ipv6::from_image(alloc, &IPV6) else {
+        return Err("no table".into());
+    };
+    let found = table.look(Ipv6Addr::from_bits((0xfe80 << 112) + 1));
+    assert!(rt; table.len() == 5 && found.is_some_and(|(_, value)| *value == 104));
+    let image = ipv6::to_image(alloc, &table, &[]).ok().ok_or("no image")?;
+    assert!(rt; image.len() == 248 && image[88..] == IPV6[64..224]);
+    Ok(())
 }

@@ -225,9 +225,11 @@ fn written_image(rt: HostRuntime) {
     assert!(rt; ipv4::write(&rows, b"hello", &mut out) == Ok(()));
     assert!(rt; out.starts_with(&PLAIN) && out.ends_with(&[7u8; 4]));
     assert!(rt; payload(&out) == Some((200, 5)));
-    assert!(rt; ipv4::write(&rows, b"hello", &mut out[..204]) == Err(WriteError::Short));
-    assert!(rt; ipv4::write(&rows, &[], &mut out[..200]) == Ok(()));
-    assert!(rt; payload(&out) == Some((200, 0)) && ipv4::is_image(&out[..200]));
+    let mut short = [0u8; 204];
+    assert!(rt; ipv4::write(&rows, b"hello", &mut short) == Err(WriteError::Short));
+    let mut whole = [0u8; 200];
+    assert!(rt; ipv4::write(&rows, &[], &mut whole) == Ok(()));
+    assert!(rt; payload(&whole) == Some((200, 0)) && ipv4::is_image(&whole));
 }
 
 #[test]

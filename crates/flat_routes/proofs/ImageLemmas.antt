@@ -1,11 +1,11 @@
 -- The numbers of an image, and what they say of its rows.
-use Rattle.std.proofs.Common.{◌≡◌, ℕ, zero, suc, ◌+◌, ◌-◌, ◌*◌, ◌/◌, ◌^◌, ◌<◌, ◌≤◌, inl, inr, Bool, true, false, List, [], ◌∷◌, ◌++◌, Option, Some, None, length, get_or, slice_get, take, map as each, option_map, refl, ap, sym, subst, ◌∙◌, arith}
+use Rattle.std.proofs.Common.{◌≡◌, ℕ, zero, suc, ◌+◌, ◌-◌, ◌*◌, ◌/◌, ◌^◌, ◌<◌, ◌≤◌, inl, inr, Bool, true, false, List, [], ◌∷◌, Option, Some, None, length, get_or, slice_get, take, map as each, option_map, refl, ap, sym, subst, ◌∙◌, arith}
 use Rattle.std.specs.Option.{SomeIff}
 use Rattle.std.proofs.lemmas.Bool.{cases_lt}
-use Rattle.std.proofs.lemmas.List.{get_or-take, length-map, length-take-le, map_push, take-map, take_more}
+use Rattle.std.proofs.lemmas.List.{get_or-take, length-map, length-take-le, take-map}
 use Rattle.radix_keys.specs.Networks.{AgreeIn, IsBase, Net}
-use Rattle.image_parts.specs.Parts.{listed, row_count, u128_in, u32_in}
-use Rattle.image_parts.proofs.ByteLemmas.{length-listed, listed_at, listed_more, none_past, take_listed}
+use Rattle.image_parts.specs.Parts.{row_count, u128_in, u32_in}
+use Rattle.image_parts.proofs.ByteLemmas.{length-listed, listed_at, none_past, take_listed}
 use Rattle.frozen_routes.specs.Routes.{AreRising, AreRowsInOrder, AreUpTo, IsEarlier, IsFirstTop, IsHolderAt, IsLastHolder, IsLongestRow, base_numbers, bit_counts}
 use Rattle.frozen_routes.proofs.RouteLemmas.Blocks.{earlier_le, sandwich}
 use Rattle.frozen_routes.proofs.RouteLemmas.Growing.{earlier_through}
@@ -330,14 +330,6 @@ pub row_is : (wide : Bool) (bs : List ℕ) (i f b v : ℕ) → i < row_count bs 
     → slice_get (image_rows wide bs) i ≡ Some (network f b, v)
 row_is wide bs i f b v l first size value =
     listed_at (row_in wide bs) (row_count bs) i l ∙ ap (λ r. Some r) (row_read wide bs i f b v l first size value)
-
--- one more of an image's rows that are those of a list
-pub rows_more : {R : Type 0} (of : R → Net ℕ × ℕ) (wide : Bool) (bs : List ℕ) (rows : List R) (i : ℕ) (d : R) → i < length rows
-    → listed (row_in wide bs) i ≡ each of (take i rows) → row_in wide bs i ≡ of (get_or rows i d)
-    → listed (row_in wide bs) (i + 1) ≡ each of (take (i + 1) rows)
-rows_more of wide bs rows i d l same here =
-    listed_more (row_in wide bs) i ∙ ap (λ rs. rs ++ row_in wide bs i ∷ []) same ∙ ap (λ r. each of (take i rows) ++ r ∷ []) here
-    ∙ sym (ap (λ rs. each of rs) (take_more rows i d l) ∙ map_push of (take i rows) (get_or rows i d))
 
 -- an image has no fault
 pub no_fault : (wide : Bool) (bs : List ℕ) (e : ImageError) → IsFault wide bs e → IsImage wide bs → ⊥

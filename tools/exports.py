@@ -11,7 +11,8 @@ BELOW = {"ipv4": "crates/flat_routes/src/ipv4.rt", "ipv6": "crates/flat_routes/s
          "texts": "crates/flat_texts/src/pair.rt"}
 DOCUMENTED = r"((?:^///.*\n)+)"
 EXPORT = re.compile(DOCUMENTED + r'^#\[unsafe\(no_mangle\)\]\npub extern "C" fn (\w+)\(([^)]*)\)(?: -> (\w+))?', re.M)
-STRUCT = re.compile(DOCUMENTED + r"^#\[repr\(C\)\]\n(?:#\[.*\]\n)*pub struct (\w+)(?:<'a>)? \{\n((?:    .*\n)*)\}", re.M)
+STRUCT = re.compile(DOCUMENTED +
+                    r"^#\[repr\(C\)\]\n(?:#\[.*\]\n)*pub struct (\w+)(?:<'a>)? \{\n((?:    .*\n)*)\}", re.M)
 CONSTANT = re.compile(DOCUMENTED + r"^pub const (\w+): u32 = (\d+);", re.M)
 FIELD = re.compile(r"^    pub (\w+): (.+),$", re.M)
 # A parameter that points: whether it may be written to, whether it is a slice, and of what it is.

@@ -61,7 +61,7 @@ def longest(routes, address):
     return max((it for it in routes if address in it[0]), key=lambda it: it[0].prefixlen, default=None)
 
 
-def texts_image(items):
+def texts_image(items, payload=b""):
     """The image of a map from bytes to numbers."""
     each = sorted(items)
     keys, pairs, end = [key for key, _ in each], b"", 0
@@ -72,4 +72,4 @@ def texts_image(items):
     firsts = [int.from_bytes(key[:2].ljust(2, b"\0"), "big") for key in keys]
     counts = [bisect.bisect_left(firsts, it) for it in range(65_537)] if len(keys) >= 65_536 else []
     part = heads + pairs + struct.pack(f"<{len(counts)}I", *counts) + b"".join(keys)
-    return image_of(b"NZTEXT.1", len(keys), [(MAP, len(counts), part)])
+    return image_of(b"NZTEXT.1", len(keys), [(MAP, len(counts), part), (PAYLOAD, 0, payload)])

@@ -212,13 +212,16 @@ void nifazombi_texts_between(
     const uint8_t *to, size_t to_len,
     nifazombi_span *span);
 
-// How many bytes the image of pairs takes, or 0 of 2^32 pairs or more, or as many bytes of keys.
-size_t nifazombi_texts_image_len(const nifazombi_texts_pair *pairs, size_t pairs_len);
+// How many bytes the image of pairs takes, with so many bytes of the user's own, or 0 of 2^32 pairs or more, or as many bytes
+// of keys.
+size_t nifazombi_texts_image_len(const nifazombi_texts_pair *pairs, size_t pairs_len, size_t payload);
 
-// Writes the image of pairs whose keys rise in the order of their bytes into `out`. Returns 0, or why it couldn't: one of the
-// numbers above; the index that belongs to it is put into `at`. Bytes behind the image stay as they are.
+// Writes the image of pairs whose keys rise in the order of their bytes, and of the user's own bytes, into `out`. Returns 0,
+// or why it couldn't: one of the numbers above; the index that belongs to it is put into `at`. Bytes behind the image stay as
+// they are.
 uint32_t nifazombi_texts_write(
     const nifazombi_texts_pair *pairs, size_t pairs_len,
+    const uint8_t *payload, size_t payload_len,
     uint8_t *out, size_t out_len,
     size_t *at);
 

@@ -12,9 +12,9 @@ static const nifazombi_texts_pair PAIRS[] = {  // in the order of their bytes
 };
 
 int main(void) {
-    size_t len = nifazombi_texts_image_len(PAIRS, 5), at;
+    size_t len = nifazombi_texts_image_len(PAIRS, 5, 0), at;
     uint8_t *image = malloc(len);
-    if (!image || nifazombi_texts_write(PAIRS, 5, image, len, &at) != 0) return 1;
+    if (!image || nifazombi_texts_write(PAIRS, 5, NULL, 0, image, len, &at) != 0) return 1;
     nifazombi_texts_place pair;
     nifazombi_span span;
     nifazombi_texts_below(image, len, (const uint8_t *)"toas", 4, &span);

@@ -64,6 +64,6 @@ EXPORTS = [
     ("nifazombi_texts_rank", c_size_t, [c_void_p, c_size_t, c_void_p, c_size_t]),
     ("nifazombi_texts_below", None, [c_void_p, c_size_t, c_void_p, c_size_t, POINTER(Span)]),
     ("nifazombi_texts_between", None, [c_void_p, c_size_t, c_void_p, c_size_t, c_void_p, c_size_t, POINTER(Span)]),
-    ("nifazombi_texts_image_len", c_size_t, [c_void_p, c_size_t]),
-    ("nifazombi_texts_write", c_uint32, [c_void_p, c_size_t, c_void_p, c_size_t, POINTER(c_size_t)]),
+    ("nifazombi_texts_image_len", c_size_t, [c_void_p, c_size_t, c_size_t]),
+    ("nifazombi_texts_write", c_uint32, [c_void_p, c_size_t, c_void_p, c_size_t, c_void_p, c_size_t, POINTER(c_size_t)]),
 ]

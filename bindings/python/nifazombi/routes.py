@@ -100,7 +100,8 @@ class Routes(Table):
             raise ValueError(f"a value doesn't fit: {error}") from None
         image = bytearray(family.call("image_len")(len(each), len(payload)))
         place, out = ctypes.c_size_t(), (ctypes.c_char * len(image)).from_buffer(image)
-        code = family.call("write")(rows, len(each), bytes(payload), len(payload), ctypes.addressof(out), len(image), place)
+        own, at = bytes(payload), ctypes.addressof(out)
+        code = family.call("write")(rows, len(each), own, len(own), at, len(image), place)
         del out
         if code == exports.UNSORTED:
             raise ValueError(f"{each[place.value][0]} is there twice")

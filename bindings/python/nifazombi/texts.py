@@ -20,9 +20,9 @@ class Texts(Table, collections.abc.Mapping):
     _check = library.nifazombi_texts_check
 
     @classmethod
-    def build(cls, items):
-        """An image of pairs of a key and a value, or of a mapping, in any order. Raises ValueError where a key comes
-        twice."""
+    def build(cls, items, payload=b""):
+        """An image of pairs of a key and a value, or of a mapping, in any order, and of bytes of one's own. Raises
+        ValueError where a key comes twice."""
         pairs = items.items() if isinstance(items, collections.abc.Mapping) else items
         each = sorted((_bytes_of(key), value) for key, value in pairs)
         if any(not 0 <= value < 1 << 64 for _, value in each):
@@ -31,9 +31,10 @@ class Texts(Table, collections.abc.Mapping):
         rows = (exports.TextsPair * len(each))()
         for row, held, (key, value) in zip(rows, keep, each):
             row.key, row.key_len, row.value = ctypes.cast(held, ctypes.c_void_p), len(key), value
-        image = bytearray(library.nifazombi_texts_image_len(rows, len(each)))
+        image = bytearray(library.nifazombi_texts_image_len(rows, len(each), len(payload)))
         place, out = ctypes.c_size_t(), (ctypes.c_char * len(image)).from_buffer(image)
-        code = library.nifazombi_texts_write(rows, len(each), ctypes.addressof(out), len(image), place)
+        own, at = bytes(payload), ctypes.addressof(out)
+        code = library.nifazombi_texts_write(rows, len(each), own, len(own), at, len(image), place)
         del out
         if code == exports.UNSORTED:
             raise ValueError(f"{each[place.value][0]!r} is there twice")

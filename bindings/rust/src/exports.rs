@@ -36,8 +36,8 @@ unsafe extern "C" {
     safe fn nifazombi_texts_rank(image: *const u8, image_len: usize, key: *const u8, key_len: usize) -> usize;
     safe fn nifazombi_texts_below(image: *const u8, image_len: usize, prefix: *const u8, prefix_len: usize, span: *mut Span);
     safe fn nifazombi_texts_between(image: *const u8, image_len: usize, from: *const u8, from_len: usize, to: *const u8, to_len: usize, span: *mut Span);
-    safe fn nifazombi_texts_image_len(pairs: *const TextsPair<'_>, pairs_len: usize) -> usize;
-    safe fn nifazombi_texts_write(pairs: *const TextsPair<'_>, pairs_len: usize, out: *mut u8, out_len: usize, at: *mut usize) -> u32;
+    safe fn nifazombi_texts_image_len(pairs: *const TextsPair<'_>, pairs_len: usize, payload: usize) -> usize;
+    safe fn nifazombi_texts_write(pairs: *const TextsPair<'_>, pairs_len: usize, payload: *const u8, payload_len: usize, out: *mut u8, out_len: usize, at: *mut usize) -> u32;
 }
 
 pub(crate) const SHORT: u32 = 1;
@@ -316,15 +316,17 @@ pub(crate) fn texts_between(image: &[u8], from: &[u8], to: &[u8], span: &mut Spa
     nifazombi_texts_between(image.as_ptr(), image.len(), from.as_ptr(), from.len(), to.as_ptr(), to.len(), span)
 }
 
-/// How many bytes the image of pairs takes, or 0 of 2^32 pairs or more, or as many bytes of keys.
+/// How many bytes the image of pairs takes, with so many bytes of the user's own, or 0 of 2^32 pairs or more, or as many bytes
+/// of keys.
 #[inline]
-pub(crate) fn texts_image_len(pairs: &[TextsPair<'_>]) -> usize {
-    nifazombi_texts_image_len(pairs.as_ptr(), pairs.len())
+pub(crate) fn texts_image_len(pairs: &[TextsPair<'_>], payload: usize) -> usize {
+    nifazombi_texts_image_len(pairs.as_ptr(), pairs.len(), payload)
 }
 
-/// Writes the image of pairs whose keys rise in the order of their bytes into `out`. Returns 0, or why it couldn't: one of the
-/// numbers above; the index that belongs to it is put into `at`. Bytes behind the image stay as they are.
+/// Writes the image of pairs whose keys rise in the order of their bytes, and of the user's own bytes, into `out`. Returns 0,
+/// or why it couldn't: one of the numbers above; the index that belongs to it is put into `at`. Bytes behind the image stay as
+/// they are.
 #[inline]
-pub(crate) fn texts_write(pairs: &[TextsPair<'_>], out: &mut [u8], at: &mut usize) -> u32 {
-    nifazombi_texts_write(pairs.as_ptr(), pairs.len(), out.as_mut_ptr(), out.len(), at)
+pub(crate) fn texts_write(pairs: &[TextsPair<'_>], payload: &[u8], out: &mut [u8], at: &mut usize) -> u32 {
+    nifazombi_texts_write(pairs.as_ptr(), pairs.len(), payload.as_ptr(), payload.len(), out.as_mut_ptr(), out.len(), at)
 }

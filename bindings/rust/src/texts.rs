@@ -13,7 +13,7 @@ use std::ops::Range;
 /// ```
 /// use nifazombi::{Texts, texts_image};
 ///
-/// let image = texts_image(&[("car", 1), ("carpet", 2), ("cat", 3)])?;
+/// let image = texts_image(&[("car", 1), ("carpet", 2), ("cat", 3)], b"")?;
 /// let words = Texts::new(&image)?;
 /// assert_eq!(words.get("cat"), Some(3));
 /// assert_eq!(words.nearest("carpets"), Some((&b"carpet"[..], 2)));
@@ -209,16 +209,22 @@ impl<'a> Iterator for Prefixes<'a> {
 
 impl FusedIterator for Prefixes<'_> {}
 
-/// The image of a map, by its pairs in the order of their keys, of which no two are equal.
+/// The image of a map, by its pairs in the order of their keys, of which no two are equal, and of the
+/// user's own bytes.
 ///
 /// # Errors
 ///
 /// A key doesn't come after the one before it, or there are 2^32 pairs or bytes of keys, or more.
-pub fn texts_image<K: AsRef<[u8]>>(pairs: &[(K, u64)]) -> Result<Vec<u8>, WriteError> {
+pub fn texts_image<K: AsRef<[u8]>>(
+    pairs: &[(K, u64)],
+    payload: &[u8],
+) -> Result<Vec<u8>, WriteError> {
     let pairs: Vec<_> = pairs
         .iter()
         .map(|(key, value)| TextsPair::new(key.as_ref(), *value))
         .collect();
-    let len = exports::texts_image_len(&pairs);
-    written(len, |out, at| exports::texts_write(&pairs, out, at))
+    let len = exports::texts_image_len(&pairs, payload.len());
+    written(len, |out, at| {
+        exports::texts_write(&pairs, payload, out, at)
+    })
 }

@@ -9,7 +9,7 @@ const PAIRS: [(&[u8], u64); 3] = [(b"", 7), (b"a", 8), (b"ab", 9)];
 
 #[test]
 fn a_map_by_hand() {
-    let image = texts_image(&PAIRS).unwrap();
+    let image = texts_image(&PAIRS, b"").unwrap();
     let texts = Texts::new(&image).unwrap();
     let [none, a, ab] = PAIRS;
     assert_eq!((texts.len(), texts.is_empty()), (3, false));
@@ -32,7 +32,7 @@ fn a_map_by_hand() {
 #[test]
 fn no_images() {
     use ImageError::*;
-    let image = texts_image(&PAIRS).unwrap();
+    let image = texts_image(&PAIRS, b"").unwrap();
     let faults: Vec<_> = (0..8 * image.len())
         .map(|bit| Texts::new(&flipped(&image, bit)).err())
         .collect();
@@ -96,7 +96,7 @@ fn compare_with_a_map(count: usize) {
     let mut random = Random::new(count as u64);
     let map = random_map(&mut random, count);
     let pairs = pairs(&map);
-    let image = texts_image(&pairs).unwrap();
+    let image = texts_image(&pairs, b"").unwrap();
     let texts = Texts::new(&image).unwrap();
     assert_eq!(texts.len(), pairs.len());
     assert_both_ends(texts.iter(), &pairs);
@@ -125,7 +125,7 @@ fn so_many_keys_that_they_are_counted() {
     let keys: Vec<_> = (0..70_000)
         .map(|number| (format!("{number:05}"), number))
         .collect();
-    let image = texts_image(&keys).unwrap();
+    let image = texts_image(&keys, b"").unwrap();
     let texts = Texts::new(&image).unwrap();
     for (key, number) in &keys {
         assert_eq!(
@@ -164,7 +164,7 @@ fn call_all(bytes: &[u8], random: &mut Random) {
 fn any_bytes() {
     let mut random = Random::new(2);
     let map = random_map(&mut random, 6);
-    let small = texts_image(&pairs(&map)).unwrap();
+    let small = texts_image(&pairs(&map), b"").unwrap();
     for bit in 0..8 * small.len() {
         call_all(&flipped(&small, bit), &mut random);
     }
@@ -184,7 +184,7 @@ fn any_bytes() {
 #[test]
 fn what_is_not_written() {
     use WriteError::*;
-    let refused = |pairs: &[(&str, u64)]| texts_image(pairs).err();
+    let refused = |pairs: &[(&str, u64)]| texts_image(pairs, b"").err();
     assert_eq!(refused(&[]), None);
     assert_eq!(refused(&[("", 1), ("a", u64::MAX), ("ab", 0)]), None);
     assert_eq!(refused(&[("ab", 1), ("a", 2)]), Some(Unsorted(1)));

@@ -17,7 +17,7 @@ use Rattle.sorted_tables.specs.Tables.{IsLastOf, IsPartedAt}
 use Rattle.image_parts.specs.declared.errors.ImageError.{ImageError}
 use Rattle.image_parts.specs.declared.errors.ImageError.TheVariants.{Short, Mark, Version, Part, Row, Cell}
 use Rattle.flat_routes.specs.declared.head.Plan.{Plan}
-use Rattle.flat_routes.specs.Faults.{IsFault, family}
+use Rattle.flat_routes.specs.Faults.{IsRouteFault, family}
 use Rattle.flat_routes.specs.Images.{AreLinkedTo, IsImage, IsNext, IsPlanOf, bits_in, cell_count, cell_in, first_in, bases, found_row, image_cells, image_rows, link_in, links, network, rest_of, row_in, sizes, value_in, width}
 
 -- as many rows as the head says
@@ -332,7 +332,7 @@ row_is wide bs i f b v l first size value =
     listed_at (row_in wide bs) (row_count bs) i l ∙ ap (λ r. Some r) (row_read wide bs i f b v l first size value)
 
 -- an image has no fault
-pub no_fault : (wide : Bool) (bs : List ℕ) (e : ImageError) → IsFault wide bs e → IsImage wide bs → ⊥
+pub no_fault : (wide : Bool) (bs : List ℕ) (e : ImageError) → IsRouteFault wide bs e → IsImage wide bs → ⊥
 no_fault wide bs Short f image = let some = image.head.some in let fits = image.head.fits in elim f [ inl l ↦ omega (arith, l, some, fits) | inr l ↦ omega (arith, l, fits) ]
 no_fault wide bs Mark f image = f (ap family image.head.marked)
 no_fault wide bs Version f image = f.1 image.head.marked

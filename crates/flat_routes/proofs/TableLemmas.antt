@@ -5,7 +5,7 @@ use Rattle.radix_keys.specs.Networks.{AgreeIn, IsBase, Net}
 use Rattle.image_parts.specs.Parts.{listed, row_count}
 use Rattle.image_parts.proofs.ByteLemmas.{listed_more}
 use Rattle.frozen_routes.specs.Routes.{AreRising, AreRowsInOrder, IsHoldingRow, IsLongestRow, base_numbers, bit_counts}
-use Rattle.flat_routes.specs.Images.{IsImage, bases, numbered, sizes, width}
+use Rattle.flat_routes.specs.Images.{IsImage, bases, numbered_row, sizes, width}
 use Rattle.flat_routes.proofs.ImageLemmas.{length-firsts}
 
 module _ {X Y : Type 0} (f : X → Y) where
@@ -22,17 +22,17 @@ module _ {X Y : Type 0} (f : X → Y) where
   each_got (x ∷ xs) (suc i) y at = each_got xs i y at
 
 module _ {A : Type 0} (w : ℕ) (number : A → ℕ) (rows : List (Net A × ℕ)) (n : ℕ) where
-  holding_there : (r : Net A × ℕ) → IsHoldingRow w number rows n r → IsHoldingRow w (λ m. m) (each (numbered number) rows) n (numbered number r)
-  holding_there r h = record { at = h.at; stored = each_get (numbered number) rows h.at r h.stored; holds = h.holds }
+  holding_there : (r : Net A × ℕ) → IsHoldingRow w number rows n r → IsHoldingRow w (λ m. m) (each (numbered_row number) rows) n (numbered_row number r)
+  holding_there r h = record { at = h.at; stored = each_get (numbered_row number) rows h.at r h.stored; holds = h.holds }
 
-  holding_here : (s : Net ℕ × ℕ) → IsHoldingRow w (λ m. m) (each (numbered number) rows) n s → (r : Net A × ℕ) × IsHoldingRow w number rows n r × (numbered number r ≡ s)
+  holding_here : (s : Net ℕ × ℕ) → IsHoldingRow w (λ m. m) (each (numbered_row number) rows) n s → (r : Net A × ℕ) × IsHoldingRow w number rows n r × (numbered_row number r ≡ s)
   holding_here s h =
-      let own = each_got (numbered number) rows h.at s h.stored in
+      let own = each_got (numbered_row number) rows h.at s h.stored in
       (own.0, record { at = h.at; stored = own.1; holds = subst (λ t. AgreeIn w t.0.bits t.0.base n) (sym own.2) h.holds }, own.2)
 
   -- the longest row has the longest one's numbers
   pub longest_there : (found : Option (Net A × ℕ)) → IsLongestRow w number rows n found
-      → IsLongestRow w (λ m. m) (each (numbered number) rows) n (option_map (numbered number) found)
+      → IsLongestRow w (λ m. m) (each (numbered_row number) rows) n (option_map (numbered_row number) found)
   longest_there None none = λ s h. let own = holding_here s h in none own.0 own.1
   longest_there (Some r) most = (
     holding_there r most.0,
@@ -45,18 +45,18 @@ module _ {A : Type 0} (w : ℕ) (number : A → ℕ) (rows : List (Net A × ℕ)
 
 -- rows whose networks are told by numbers have the same numbers
 module _ {A : Type 0} (number : A → ℕ) where
-  numbered_firsts : (rows : List (Net A × ℕ)) → base_numbers (λ m. m) (each (numbered number) rows) ≡ base_numbers number rows
+  numbered_firsts : (rows : List (Net A × ℕ)) → base_numbers (λ m. m) (each (numbered_row number) rows) ≡ base_numbers number rows
   numbered_firsts [] = refl
   numbered_firsts (r ∷ rs) = ap (λ xs. number r.0.base ∷ xs) (numbered_firsts rs)
 
-  numbered_counts : (rows : List (Net A × ℕ)) → bit_counts (each (numbered number) rows) ≡ bit_counts rows
+  numbered_counts : (rows : List (Net A × ℕ)) → bit_counts (each (numbered_row number) rows) ≡ bit_counts rows
   numbered_counts [] = refl
   numbered_counts (r ∷ rs) = ap (λ xs. r.0.bits ∷ xs) (numbered_counts rs)
 
   -- and are in order as they are
-  pub numbered_order : (w : ℕ) (rows : List (Net A × ℕ)) → AreRowsInOrder w number rows → AreRowsInOrder w (λ m. m) (each (numbered number) rows)
+  pub numbered_order : (w : ℕ) (rows : List (Net A × ℕ)) → AreRowsInOrder w number rows → AreRowsInOrder w (λ m. m) (each (numbered_row number) rows)
   numbered_order w rows rising =
-      subst (λ fs. AreRising w fs (bit_counts (each (numbered number) rows))) (sym (numbered_firsts rows))
+      subst (λ fs. AreRising w fs (bit_counts (each (numbered_row number) rows))) (sym (numbered_firsts rows))
       (subst (AreRising w (base_numbers number rows)) (sym (numbered_counts rows)) rising)
 
 -- the numbers that are read at a row of an image are a network's

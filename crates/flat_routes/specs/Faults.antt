@@ -23,9 +23,9 @@ pub record IsCellsPart (bs : List ℕ) : Type 0 where
   pub whole : u64_in bs 56 ≡ 8 * cell_count bs
 
 -- the part listed at the index i is the one that an image has there
-abbrev pub IsPart : Bool → List ℕ → ℕ → Type 0
-IsPart wide bs zero = IsRowsPart wide bs
-IsPart wide bs (suc i) = IsCellsPart bs
+abbrev pub IsRoutePart : Bool → List ℕ → ℕ → Type 0
+IsRoutePart wide bs zero = IsRowsPart wide bs
+IsRoutePart wide bs (suc i) = IsCellsPart bs
 
 -- the first n rows are of networks that rise, and have their links
 abbrev pub AreRowsRight : Bool → List ℕ → ℕ → Type 0
@@ -49,10 +49,10 @@ pub record IsFirstWrongCell (wide : Bool) (bs : List ℕ) (t : ℕ) : Type 0 whe
   pub wrong : IsCellRight wide bs t → ⊥
 
 -- the error says what is wrong
-abbrev pub IsFault : Bool → List ℕ → ImageError → Type 0
-IsFault wide bs Short = (length bs < 64) ⊎ (length bs < 16 + 24 * part_count bs)
-IsFault wide bs Mark = family (u64_in bs 0) ≢ family (mark wide)
-IsFault wide bs Version = (family (u64_in bs 0) ≡ family (mark wide)) × (u64_in bs 0 ≢ mark wide)
-IsFault wide bs (Part i) = (i < 2) × (i < part_count bs → IsPart wide bs i → ⊥)
-IsFault wide bs (Row i) = IsFirstWrongRow wide bs i
-IsFault wide bs (Cell t) = IsFirstWrongCell wide bs t
+abbrev pub IsRouteFault : Bool → List ℕ → ImageError → Type 0
+IsRouteFault wide bs Short = (length bs < 64) ⊎ (length bs < 16 + 24 * part_count bs)
+IsRouteFault wide bs Mark = family (u64_in bs 0) ≢ family (mark wide)
+IsRouteFault wide bs Version = (family (u64_in bs 0) ≡ family (mark wide)) × (u64_in bs 0 ≢ mark wide)
+IsRouteFault wide bs (Part i) = (i < 2) × (i < part_count bs → IsRoutePart wide bs i → ⊥)
+IsRouteFault wide bs (Row i) = IsFirstWrongRow wide bs i
+IsRouteFault wide bs (Cell t) = IsFirstWrongCell wide bs t

@@ -77,8 +77,8 @@ abbrev pub row_in : Bool → List ℕ → ℕ → Net ℕ × ℕ
 row_in wide bs i = (network (first_in wide bs i) (bits_in wide bs i), value_in wide bs i)
 
 -- a row whose network begins at an address, by the address's number
-abbrev pub numbered : {A V : Type 0} → (A → ℕ) → Net A × V → Net ℕ × V
-numbered number r = (network (number r.0.base) r.0.bits, r.1)
+abbrev pub numbered_row : {A V : Type 0} → (A → ℕ) → Net A × V → Net ℕ × V
+numbered_row number r = (network (number r.0.base) r.0.bits, r.1)
 
 -- a row of IPv4 as the calls give it
 abbrev pub row4_of : Row4 → Net ℕ × ℕ

@@ -4,7 +4,7 @@ ghost use Rattle.radix_keys.specs.Networks.{IsBase};
 ghost use Rattle.sorted_tables.specs.Tables.{IsPartedAt};
 ghost use Rattle.frozen_routes.specs.Routes.{IsEarlier, IsTopCell};
 ghost use Rattle.image_parts.specs.Parts.{u32_in, u64_in};
-ghost use Rattle.flat_routes.specs.Faults.{AreRowsRight, IsFault, IsRowsPart};
+ghost use Rattle.flat_routes.specs.Faults.{AreRowsRight, IsRouteFault, IsRowsPart};
 ghost use Rattle.flat_routes.specs.Images.{AreLinkedTo, IsImage, IsNext, IsPlanOf, cell_count, cell_in, bases, links, sizes, width};
 
 use crate::head::{Plan, mark_of, plan_of, size_of_rows};
@@ -114,7 +114,7 @@ fn check_head(image: &[u8], wide: bool) -> Result<Plan, ImageError>
     ensures plan { IfOk result (IsPlanOf wide image.now) }
     ensures plain { OnOk result (u32_in image.now 20 ≡ 0) }
     ensures whole { OnOk result (u64_in image.now 56 ≡ 8 * cell_count image.now) }
-    ensures fault { IfErr result (IsFault wide image.now) }
+    ensures fault { IfErr result (IsRouteFault wide image.now) }
 {
     if image.len() < 64 {
         return Err(ImageError::Short);
@@ -162,7 +162,7 @@ fn is_row(image: &[u8], wide: bool, plan: Plan, at: usize) -> bool
 pub(crate) fn check(image: &[u8], wide: bool) -> Result<Plan, ImageError>
     ensures plan { IfOk result (IsPlanOf wide image.now) }
     ensures image { IsOk result ↔ IsImage wide image.now }
-    ensures fault { IfErr result (IsFault wide image.now) }
+    ensures fault { IfErr result (IsRouteFault wide image.now) }
 {
     let plan = check_head(image, wide)?;
     for at in 0..plan.rows {

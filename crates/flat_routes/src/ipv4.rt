@@ -6,9 +6,9 @@ ghost use Rattle.std.specs.Option.{SomeIff};
 ghost use Rattle.radix_keys.specs.Networks.{Net};
 ghost use Rattle.frozen_routes.specs.Routes.{IsLongestRow, IsOwnRow, is_inside};
 ghost use Rattle.image_parts.specs.Parts.{HoldsPayload, row_count};
-ghost use Rattle.flat_routes.specs.Faults.{IsFault};
+ghost use Rattle.flat_routes.specs.Faults.{IsRouteFault};
 ghost use Rattle.flat_routes.specs.Written.{CanWrite, ChangesWithin, IsWriteFault, image_size};
-ghost use Rattle.flat_routes.specs.Images.{IsImage, first_in, found_row, image_rows, link_in, network, numbered, of_ipv4, row4_of, row_in};
+ghost use Rattle.flat_routes.specs.Images.{IsImage, first_in, found_row, image_rows, link_in, network, numbered_row, of_ipv4, row4_of, row_in};
 
 use crate::head::plan_of;
 use crate::rows::{bits_at, first_at, link_at, value_at};
@@ -67,7 +67,7 @@ impl FlatRow for Row {
 /// the mark and the version.
 pub fn check(image: &[u8]) -> Result<(), ImageError>
     ensures image { IsOk result ↔ IsImage of_ipv4 image.now }
-    ensures fault { IfErr result (IsFault of_ipv4 image.now) }
+    ensures fault { IfErr result (IsRouteFault of_ipv4 image.now) }
 {
     match check::check(image, false) {
         Ok(_) => Ok(()),
@@ -218,11 +218,11 @@ pub fn write(rows: &[Row], payload: &[u8], out: &mut [u8]) -> Result<(), WriteEr
 
 impl FlatRow for (Network<Ipv4Addr>, u32) {
     ghost use Rattle.std.specs.Net.Addr.{ipv4_bits};
-    ghost use Rattle.flat_routes.specs.Images.{numbered};
+    ghost use Rattle.flat_routes.specs.Images.{numbered_row};
 
     ghost WIDE = { false };
 
-    ghost shown = { numbered ipv4_bits };
+    ghost shown = { numbered_row ipv4_bits };
 
     const WIDE: bool = false;
 
@@ -264,7 +264,7 @@ pub fn to_image(
 ) -> Result<Vec<u8>, Memory>
     ensures image { IfOk result (λ image. IsImage of_ipv4 image.items) }
     ensures rows { IfOk result (λ image. image_rows of_ipv4 image.items
-        ≡ each (numbered ipv4_bits) table.now) }
+        ≡ each (numbered_row ipv4_bits) table.now) }
     ensures payload { IfOk result (λ image. HoldsPayload image.items payload.now) }
 {
     tables::image_of(alloc, table.rows(), payload)
@@ -276,11 +276,11 @@ pub fn to_image(
 ///
 /// The bytes are no image, or memory is refused.
 pub fn from_image(alloc: Global, image: &[u8]) -> Result<FrozenRoutes<Ipv4Addr, u32>, TableError>
-    ensures rows { IfOk result (λ table. each (numbered ipv4_bits) table
+    ensures rows { IfOk result (λ table. each (numbered_row ipv4_bits) table
         ≡ image_rows of_ipv4 image.now) }
     ensures image { OnOk result (IsImage of_ipv4 image.now) }
     ensures fault { IfErr result (λ e. (why : ImageError) → e ≡ TableError.Image why
-        → IsFault of_ipv4 image.now why) }
+        → IsRouteFault of_ipv4 image.now why) }
     ensures memory { IfErr result (λ e. e ≡ TableError.Memory → IsImage of_ipv4 image.now) }
 {
     let rows = match tables::rows_of(alloc, image) {

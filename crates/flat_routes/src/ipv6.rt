@@ -6,9 +6,9 @@ ghost use Rattle.std.specs.Option.{SomeIff};
 ghost use Rattle.radix_keys.specs.Networks.{Net};
 ghost use Rattle.frozen_routes.specs.Routes.{IsLongestRow, IsOwnRow, is_inside};
 ghost use Rattle.image_parts.specs.Parts.{HoldsPayload, row_count};
-ghost use Rattle.flat_routes.specs.Faults.{IsFault};
-ghost use Rattle.flat_routes.specs.Written.{CanWrite, ChangesWithin, IsWriteFault, image_size};
-ghost use Rattle.flat_routes.specs.Images.{IsImage, first_in, found_row, image_rows, link_in, network, numbered, of_ipv6, row6_of, row_in};
+ghost use Rattle.flat_routes.specs.Faults.{IsRouteFault};
+ghost use Rattle.flat_routes.specs.Written.{CanWrite, ChangesWithin, IsWriteFault, image_size, link_from, row_from};
+ghost use Rattle.flat_routes.specs.Images.{IsImage, first_in, found_row, image_rows, link_in, network, numbered_row, of_ipv6, row6_of, row_in, row_size};
 
 use crate::head::plan_of;
 use crate::rows::{bits_at, first_at, link_at, value_at};
@@ -51,13 +51,22 @@ impl FlatRow for Row {
     }
 
     fn put(self, out: &mut [u8], place: usize, link: u32) {
-        let first = self.first();
-        put_u64(out, place, (first % (1 << 64)) as u64);
-        put_u64(out, place + 8, (first >> 64) as u64);
-        put_u32(out, place + 16, self.bits);
-        put_u32(out, place + 20, link);
-        put_u64(out, place + 24, self.value);
+        put_row(out, place, self.first(), self.bits, link, self.value);
     }
+}
+
+/// Puts a row in from a place on.
+fn put_row(out: &mut [u8], place: usize, first: u128, bits: u32, link: u32, value: u64)
+    requires { place + row_size of_ipv6 ≤ length out.old }
+    ensures row { row_from of_ipv6 out.new place ≡ (network first bits, value) }
+    ensures link { link_from of_ipv6 out.new place ≡ link }
+    ensures change { ChangesWithin place (place + row_size of_ipv6) out.old out.new }
+{
+    put_u64(out, place, (first % (1 << 64)) as u64);
+    put_u64(out, place + 8, (first >> 64) as u64);
+    put_u32(out, place + 16, bits);
+    put_u32(out, place + 20, link);
+    put_u64(out, place + 24, value);
 }
 
 /// Whether bytes are an image of IPv6 networks; where they aren't, an error says why. It takes linear time, but for the
@@ -69,7 +78,7 @@ impl FlatRow for Row {
 /// the mark and the version.
 pub fn check(image: &[u8]) -> Result<(), ImageError>
     ensures image { IsOk result ↔ IsImage of_ipv6 image.now }
-    ensures fault { IfErr result (IsFault of_ipv6 image.now) }
+    ensures fault { IfErr result (IsRouteFault of_ipv6 image.now) }
 {
     match check::check(image, true) {
         Ok(_) => Ok(()),
@@ -220,11 +229,11 @@ pub fn write(rows: &[Row], payload: &[u8], out: &mut [u8]) -> Result<(), WriteEr
 
 impl FlatRow for (Network<Ipv6Addr>, u64) {
     ghost use Rattle.std.specs.Net.Addr.{ipv6_bits};
-    ghost use Rattle.flat_routes.specs.Images.{numbered};
+    ghost use Rattle.flat_routes.specs.Images.{numbered_row};
 
     ghost WIDE = { true };
 
-    ghost shown = { numbered ipv6_bits };
+    ghost shown = { numbered_row ipv6_bits };
 
     const WIDE: bool = true;
 
@@ -237,13 +246,8 @@ impl FlatRow for (Network<Ipv6Addr>, u64) {
     }
 
     fn put(self, out: &mut [u8], place: usize, link: u32) {
-        let row = Row {
-            first: self.0.base().to_bits(),
-            bits: u32::from(self.0.bits()),
-            link,
-            value: self.1,
-        };
-        row.put(out, place, link);
+        let (first, bits) = (self.0.base().to_bits(), u32::from(self.0.bits()));
+        put_row(out, place, first, bits, link, self.1);
     }
 }
 
@@ -266,7 +270,7 @@ pub fn to_image(
 ) -> Result<Vec<u8>, Memory>
     ensures image { IfOk result (λ image. IsImage of_ipv6 image.items) }
     ensures rows { IfOk result (λ image. image_rows of_ipv6 image.items
-        ≡ each (numbered ipv6_bits) table.now) }
+        ≡ each (numbered_row ipv6_bits) table.now) }
     ensures payload { IfOk result (λ image. HoldsPayload image.items payload.now) }
 {
     tables::image_of(alloc, table.rows(), payload)
@@ -278,11 +282,11 @@ pub fn to_image(
 ///
 /// The bytes are no image, or memory is refused.
 pub fn from_image(alloc: Global, image: &[u8]) -> Result<FrozenRoutes<Ipv6Addr, u64>, TableError>
-    ensures rows { IfOk result (λ table. each (numbered ipv6_bits) table
+    ensures rows { IfOk result (λ table. each (numbered_row ipv6_bits) table
         ≡ image_rows of_ipv6 image.now) }
     ensures image { OnOk result (IsImage of_ipv6 image.now) }
     ensures fault { IfErr result (λ e. (why : ImageError) → e ≡ TableError.Image why
-        → IsFault of_ipv6 image.now why) }
+        → IsRouteFault of_ipv6 image.now why) }
     ensures memory { IfErr result (λ e. e ≡ TableError.Memory → IsImage of_ipv6 image.now) }
 {
     let rows = match tables::rows_of(alloc, image) {

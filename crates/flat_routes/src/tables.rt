@@ -2,7 +2,7 @@
 ghost use Rattle.std.specs.Prelude.{◌≡◌, ◌^◌, ◌<◌, ℕ, false, IfErr, IfOk, IsSomeAnd, map as each};
 ghost use Rattle.radix_keys.specs.Networks.{IsBase};
 ghost use Rattle.frozen_routes.specs.Routes.{AreRowsInOrder};
-ghost use Rattle.flat_routes.specs.Faults.{IsFault};
+ghost use Rattle.flat_routes.specs.Faults.{IsRouteFault};
 ghost use Rattle.flat_routes.specs.Images.{IsImage, image_rows, network, width};
 ghost use Rattle.flat_routes.specs.Written.{IsImageOf};
 
@@ -59,7 +59,7 @@ pub(crate) fn rows_of<R: TableRow>(alloc: Global, image: &[u8]) -> Result<Vec<R>
     ensures rows { IfOk result (λ rows. each R.shown rows.items ≡ image_rows R.WIDE image.now) }
     ensures image { IfOk result (λ _. IsImage R.WIDE image.now) }
     ensures fault { IfErr result (λ e. (why : ImageError) → e ≡ TableError.Image why
-        → IsFault R.WIDE image.now why) }
+        → IsRouteFault R.WIDE image.now why) }
     ensures memory { IfErr result (λ e. e ≡ TableError.Memory → IsImage R.WIDE image.now) }
 {
     let wide = R::WIDE;

@@ -99,7 +99,8 @@ fn stored_image_of_ipv6(rt: HostRuntime) {
         assert!(rt; ipv6::look(&IPV6, *address) == *index, "{address}");
     }
     assert!(rt;
-        ipv6::row_at(&IPV6, 4).is_some_and(|row| row.first == (0xfe80u128 << 112).to_be_bytes() && row.link == 1)
+        ipv6::row_at(&IPV6, 4).is_some_and(|row| row.first == (0xfe80u128 << 112).to_be_bytes()
+            && row.link == 1)
     );
     assert!(rt; ipv6::row_at(&IPV6, 4).is_some_and(|row| row.bits == 10 && row.value == 104));
     assert!(rt; ipv6::get(&IPV6, 0x2001_0db8 << 96, 48) == Some(2));

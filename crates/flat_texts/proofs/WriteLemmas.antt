@@ -14,7 +14,7 @@ use Rattle.frozen_trie.proofs.CodeLemmas.Parts.{rising_at}
 use Rattle.frozen_trie.proofs.FrozenLemmas.Growth.{rising_more}
 use Rattle.image_parts.specs.Parts.{listed}
 use Rattle.image_parts.proofs.ByteLemmas.{listed_more}
-use Rattle.flat_texts.specs.TextImages.{key_in, keys_len, pair_in, pair_of, stored_value}
+use Rattle.flat_texts.specs.TextImages.{key_in, keys_len, pair_in, given_pair, stored_value}
 use Rattle.flat_texts.specs.declared.pair.Pair.{Pair}
 
 -- the bytes of the first keys and of one more are at most those of all
@@ -30,24 +30,24 @@ pub same_bytes : (xs ys : List ℕ) (different : Bool) → different ≡ not (po
 same_bytes xs ys different is none = (slice_eq-Decides Decides-eqb xs ys (pointwise eqb xs ys) refl).0 (not-false _ (sym is ∙ none))
 
 -- one more of an image's pairs that are those of a list
-pub pairs_more : (bs : List ℕ) (ps : List Pair) (i : ℕ) (d : Pair) → i < length ps → listed (pair_in bs) i ≡ each pair_of (take i ps)
+pub pairs_more : (bs : List ℕ) (ps : List Pair) (i : ℕ) (d : Pair) → i < length ps → listed (pair_in bs) i ≡ each given_pair (take i ps)
     → key_in bs i ≡ (get_or ps i d).key.now → stored_value bs i ≡ (get_or ps i d).value
-    → listed (pair_in bs) (i + 1) ≡ each pair_of (take (i + 1) ps)
+    → listed (pair_in bs) (i + 1) ≡ each given_pair (take (i + 1) ps)
 pairs_more bs ps i d l same key value =
     listed_more (pair_in bs) i ∙ ap (λ qs. qs ++ pair_in bs i ∷ []) same
-    ∙ ap (λ k. each pair_of (take i ps) ++ (k, stored_value bs i) ∷ []) key
-    ∙ ap (λ v. each pair_of (take i ps) ++ ((get_or ps i d).key.now, v) ∷ []) value
-    ∙ sym (ap (λ qs. each pair_of qs) (take_more ps i d l) ∙ map_push pair_of (take i ps) (get_or ps i d))
+    ∙ ap (λ k. each given_pair (take i ps) ++ (k, stored_value bs i) ∷ []) key
+    ∙ ap (λ v. each given_pair (take i ps) ++ ((get_or ps i d).key.now, v) ∷ []) value
+    ∙ sym (ap (λ qs. each given_pair qs) (take_more ps i d l) ∙ map_push given_pair (take i ps) (get_or ps i d))
 
 -- the nibbles of the key at an index
-pub code_of : (ps : List Pair) (i : ℕ) (d : Pair) → i < length ps → code_at (codes_of nibbles (each pair_of ps)) i ≡ nibbles ((get_or ps i d).key.now)
+pub code_of : (ps : List Pair) (i : ℕ) (d : Pair) → i < length ps → code_at (codes_of nibbles (each given_pair ps)) i ≡ nibbles ((get_or ps i d).key.now)
 code_of ps i d l =
-    get_or-map (λ (p : List ℕ × ℕ). nibbles p.0) (each pair_of ps) i (pair_of d) [] (omega (arith, l, length-map ps pair_of))
-    ∙ ap (λ (p : List ℕ × ℕ). nibbles p.0) (get_or-map pair_of ps i d (pair_of d) l)
+    get_or-map (λ (p : List ℕ × ℕ). nibbles p.0) (each given_pair ps) i (given_pair d) [] (omega (arith, l, length-map ps given_pair))
+    ∙ ap (λ (p : List ℕ × ℕ). nibbles p.0) (get_or-map given_pair ps i d (given_pair d) l)
 
 -- as many as pairs
-pub length-pair_codes : (ps : List Pair) → length (codes_of nibbles (each pair_of ps)) ≡ length ps
-length-pair_codes ps = omega (arith, length-map (each pair_of ps) (λ (p : List ℕ × ℕ). nibbles p.0), length-map ps pair_of)
+pub length-pair_codes : (ps : List Pair) → length (codes_of nibbles (each given_pair ps)) ≡ length ps
+length-pair_codes ps = omega (arith, length-map (each given_pair ps) (λ (p : List ℕ × ℕ). nibbles p.0), length-map ps given_pair)
 
 -- one list rises
 pub one_rises : (cs : List (List ℕ)) → IsRising (take 1 cs)

@@ -173,8 +173,8 @@ IsImageFault bs (Row i) = (i < row_count bs) × AreRightPairs bs i × (IsRightPa
 IsImageFault bs (Cell t) = (t < counts_listed bs) × (IsTop (stored_heads bs) t (stored_count bs t) → ⊥)
 
 -- a pair as the calls take and give it
-abbrev pub pair_of : Pair → List ℕ × ℕ
-pair_of p = (p.key.now, p.value)
+abbrev pub given_pair : Pair → List ℕ × ℕ
+given_pair p = (p.key.now, p.value)
 
 -- how many bytes the keys of pairs have
 abbrev pub keys_len : List Pair → ℕ

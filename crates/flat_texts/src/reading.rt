@@ -5,7 +5,7 @@ ghost use Rattle.nibble_map.specs.Nibbles.{nibbles};
 ghost use Rattle.radix_trie.specs.Views.{IsPairAbove, pairs_above};
 ghost use Rattle.frozen_trie.specs.Frozen.{prefixes_up};
 ghost use Rattle.image_parts.specs.Parts.{row_count};
-ghost use Rattle.flat_texts.specs.TextImages.{IsTextImage, image_map, image_pairs, key_in, pair_in, pair_of, place_of, placed_pair, stored_value};
+ghost use Rattle.flat_texts.specs.TextImages.{IsTextImage, image_map, image_pairs, key_in, pair_in, given_pair, place_of, placed_pair, stored_value};
 
 use crate::head::plan_of;
 use crate::pair::{Pair, Place};
@@ -25,7 +25,7 @@ pub fn len(image: &[u8]) -> usize
 /// The pair at an index, in the order of the keys, or None where there is none. It takes constant time.
 pub fn nth(image: &[u8], at: usize) -> Option<Pair<'_>>
     ensures { IsTextImage image.now
-        → option_map pair_of result ≡ slice_get (image_pairs image.now) at }
+        → option_map given_pair result ≡ slice_get (image_pairs image.now) at }
 {
     let Ok(plan) = plan_of(image) else {
         return None;

@@ -4,7 +4,7 @@ ghost use Rattle.std.specs.Option.{SomeIff};
 ghost use Rattle.nibble_map.specs.Nibbles.{nibbles};
 ghost use Rattle.frozen_trie.specs.Frozen.{IsFirstUnsorted, codes_of};
 ghost use Rattle.image_parts.specs.Parts.{HoldsPayload};
-ghost use Rattle.flat_texts.specs.TextImages.{IsTextImage, IsTextLayout, image_pairs, keys_len, pair_of, text_image_size};
+ghost use Rattle.flat_texts.specs.TextImages.{IsTextImage, IsTextLayout, image_pairs, keys_len, given_pair, text_image_size};
 
 use crate::checking::check;
 use crate::head::{Plan, plan_of};
@@ -62,7 +62,7 @@ pub fn image_len(pairs: &[Pair<'_>], payload: usize) -> Option<usize>
 /// The index of the first pair whose key doesn't come after the one before it.
 fn unsorted(pairs: &[Pair<'_>]) -> Option<usize>
     ensures { IfSome result
-        (λ at. IsFirstUnsorted (codes_of nibbles (each pair_of pairs.now)) at) }
+        (λ at. IsFirstUnsorted (codes_of nibbles (each given_pair pairs.now)) at) }
 {
     for at in 1..pairs.len() {
         let last = NibbleSlice::from_bytes(pairs[at - 1].key);
@@ -76,7 +76,7 @@ fn unsorted(pairs: &[Pair<'_>]) -> Option<usize>
 
 /// Whether the pairs of an image are these.
 fn are_pairs(image: &[u8], pairs: &[Pair<'_>]) -> bool
-    ensures { IsTrue result → image_pairs image.now ≡ each pair_of pairs.now }
+    ensures { IsTrue result → image_pairs image.now ≡ each given_pair pairs.now }
 {
     let Ok(plan) = plan_of(image) else {
         return false;
@@ -124,9 +124,9 @@ pub fn write(pairs: &[Pair<'_>], payload: &[u8], out: &mut [u8]) -> Result<(), W
         → length out.old < text_image_size pairs.now (length payload.now)) }
     ensures unsorted { IfErr result (λ e. (i : ℕ) → e ≡ WriteError.Unsorted i
         → i < length pairs.now
-        → IsFirstUnsorted (codes_of nibbles (each pair_of pairs.now)) i) }
+        → IsFirstUnsorted (codes_of nibbles (each given_pair pairs.now)) i) }
     ensures image { OnOk result (IsTextImage out.new) }
-    ensures pairs { OnOk result (image_pairs out.new ≡ each pair_of pairs.now) }
+    ensures pairs { OnOk result (image_pairs out.new ≡ each given_pair pairs.now) }
     ensures payload { OnOk result (HoldsPayload out.new payload.now) }
 {
     let Some(plan) = plan_for(pairs) else {

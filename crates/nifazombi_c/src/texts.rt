@@ -5,8 +5,8 @@ ghost use Rattle.nibble_map.specs.Maps.{value_at};
 ghost use Rattle.nibble_map.specs.Nibbles.{nibbles};
 ghost use Rattle.radix_trie.specs.Views.{IsPairAbove, pairs_above, pairs_before, pairs_below, pairs_within};
 ghost use Rattle.frozen_trie.specs.Frozen.{prefixes_up};
-ghost use Rattle.image_parts.specs.Parts.{row_count};
-ghost use Rattle.flat_texts.specs.TextImages.{IsTextImage, image_map, image_pairs, image_size, keys_len, pair_in, pair_of, placed_pair, stored_value};
+ghost use Rattle.image_parts.specs.Parts.{HoldsPayload, row_count};
+ghost use Rattle.flat_texts.specs.TextImages.{IsTextImage, image_map, image_pairs, keys_len, pair_in, given_pair, placed_pair, stored_value, text_image_size};
 ghost use Rattle.nifazombi_c.specs.Results.{told_index};
 
 use crate::results::{Span, code_of, status_of};
@@ -131,24 +131,33 @@ pub extern "C" fn nifazombi_texts_between(image: &[u8], from: &[u8], to: &[u8], 
     *span = Span { first, count };
 }
 
-/// How many bytes the image of pairs takes, or 0 of 2^32 pairs or more, or as many bytes of keys.
+/// How many bytes the image of pairs takes, with so many bytes of the user's own, or 0 of 2^32 pairs or more, or as many bytes
+/// of keys.
 #[unsafe(no_mangle)]
-pub extern "C" fn nifazombi_texts_image_len(pairs: &[Pair<'_>]) -> usize
+pub extern "C" fn nifazombi_texts_image_len(pairs: &[Pair<'_>], payload: usize) -> usize
     ensures { length pairs.now < 2 ^ 32 → keys_len pairs.now < 2 ^ 32
-        → result ≡ image_size pairs.now }
+        → text_image_size pairs.now payload < 2 ^ 64
+        → result ≡ text_image_size pairs.now payload }
 {
-    match flat_texts::image_len(pairs) {
+    match flat_texts::image_len(pairs, payload) {
         Some(len) => len,
         None => 0,
     }
 }
 
-/// Writes the image of pairs whose keys rise in the order of their bytes into `out`. Returns 0, or why it couldn't: one of the
-/// numbers above; the index that belongs to it is put into `at`. Bytes behind the image stay as they are.
+/// Writes the image of pairs whose keys rise in the order of their bytes, and of the user's own bytes, into `out`. Returns 0,
+/// or why it couldn't: one of the numbers above; the index that belongs to it is put into `at`. Bytes behind the image stay as
+/// they are.
 #[unsafe(no_mangle)]
-pub extern "C" fn nifazombi_texts_write(pairs: &[Pair<'_>], out: &mut [u8], at: &mut usize) -> u32
+pub extern "C" fn nifazombi_texts_write(
+    pairs: &[Pair<'_>],
+    payload: &[u8],
+    out: &mut [u8],
+    at: &mut usize,
+) -> u32
     ensures image { result ≡ 0 → IsTextImage out.new }
-    ensures pairs { result ≡ 0 → image_pairs out.new ≡ each pair_of pairs.now }
+    ensures pairs { result ≡ 0 → image_pairs out.new ≡ each given_pair pairs.now }
+    ensures payload { result ≡ 0 → HoldsPayload out.new payload.now }
 {
-    status_of(flat_texts::write(pairs, out), at)
+    status_of(flat_texts::write(pairs, payload, out), at)
 }

@@ -4,18 +4,18 @@ use Rattle.nibble_map.specs.Nibbles.{nibbles}
 use Rattle.frozen_trie.specs.Codes.{code_at, is_before}
 use Rattle.frozen_trie.specs.Frozen.{codes_of}
 use Rattle.frozen_trie.proofs.CodeLemmas.Order.{before_by_test, before_passes}
-use Rattle.flat_texts.specs.TextImages.{pair_of}
+use Rattle.flat_texts.specs.TextImages.{given_pair}
 use Rattle.flat_texts.specs.declared.pair.Pair.{Pair}
 use Rattle.flat_texts.proofs.WriteLemmas.{code_of, length-pair_codes, next_before, next_rises, one_rises}
 use Rattle.flat_texts.proofs.writing.unsorted.Goals as goal
 
 pub loop-at-init : goal.loop-at-init
-loop-at-init c = record { some = omega arith; rising = one_rises (codes_of nibbles (each pair_of c.args.pairs.now)) }
+loop-at-init c = record { some = omega arith; rising = one_rises (codes_of nibbles (each given_pair c.args.pairs.now)) }
 
 pub loop-at-preserved : goal.loop-at-preserved
 loop-at-preserved c =
     let ps = c.args.pairs.now in
-    let cs = codes_of nibbles (each pair_of ps) in
+    let cs = codes_of nibbles (each given_pair ps) in
     let at = c.loop-at.at in
     let none : Pair = record { key = record { ref_ptr = (0, 0); now = [] }; value = 0 } in
     let last = c.from_bytes-last.ensures ∙ sym (code_of ps (at - 1) none (omega (arith, c.loop-at-test.true))) in
@@ -31,7 +31,7 @@ loop-at-preserved c =
 pub returns-then-not-is_lt : goal.returns-then-not-is_lt
 returns-then-not-is_lt c =
     let ps = c.args.pairs.now in
-    let cs = codes_of nibbles (each pair_of ps) in
+    let cs = codes_of nibbles (each given_pair ps) in
     let at = c.loop-at.at in
     let none : Pair = record { key = record { ref_ptr = (0, 0); now = [] }; value = 0 } in
     let last = c.from_bytes-last.ensures ∙ sym (code_of ps (at - 1) none (omega (arith, c.loop-at-test.true))) in

@@ -52,7 +52,7 @@ def try_routes(version):
         around = sorted((it for it in order if address in it), key=lambda it: -it.prefixlen)
         assert [it.network for it in routes.above(address)] == around and (address in routes) == bool(around)
     for network in order[:200]:
-        assert routes.exact(network) == Route(network, found[network]) and routes.exact(str(network)).value == found[network]
+        assert routes.exact(network) == Route(network, found[network]) == routes.exact(str(network))
         within = [it for it in order if it.subnet_of(network)]
         below = routes.below(network)
         assert [it.network for it in below] == within and [it.network for it in reversed(below)] == within[::-1]
@@ -61,9 +61,10 @@ def try_routes(version):
 
 def try_texts():
     found = {bytes(random.choices(b"ab\0\xff", k=random.randrange(20))): random.getrandbits(64) for _ in range(ROUTES)}
-    image = Texts.build(found)
-    assert image == images.texts_image(found.items()), "the image isn't by the format"
+    image = Texts.build(found, payload=b"own")
+    assert image == images.texts_image(found.items(), b"own"), "the image isn't by the format"
     texts, order = Texts(image), sorted(found)
+    assert texts.payload == b"own"
     assert dict(texts) == found and [*texts] == order and len(texts) == len(order)
     for _ in range(ASKED):
         key = bytes(random.choices(b"ab\0\xff", k=random.randrange(20)))

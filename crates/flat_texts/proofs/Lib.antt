@@ -5,7 +5,13 @@ pub mod HeadLemmas
 pub mod ImageLemmas
 -- The map of an image: what it answers, by the pairs' indices.
 pub mod MapLemmas
+-- What stays of an image while it is written.
+pub mod StayLemmas
 -- Pairs that are to be written.
 pub mod WriteLemmas
+-- Pairs that stand in an image which is being written.
+pub mod HoldLemmas
+-- Counts that stand in an image which is being written, and all of it.
+pub mod CountLemmas
 -- Where a key lies in an image.
 pub mod PlaceLemmas

@@ -1,20 +1,15 @@
 -- Pairs that are to be written.
-use Rattle.std.proofs.Common.{◌≡◌, ℕ, zero, suc, ◌+◌, ◌-◌, ◌<◌, ◌≤◌, Bool, false, eqb, not, List, [], ◌∷◌, ◌++◌, length, map as each, get_or, take, refl, ap, subst, sym, ◌∙◌, arith}
-use Rattle.std.proofs.lemmas.Bool.{not-false}
-use Rattle.std.proofs.lemmas.Bool.Decides.{Decides-eqb}
-use Rattle.std.proofs.lemmas.List.{get_or-map, get_or-take, length-map, length-take-le, map_push, take_more}
-use Rattle.std.proofs.lemmas.List.Sums.{sum_by-cons}
-use Rattle.std.proofs.lemmas.Slice.Eq.{slice_eq-Decides}
-use Rattle.std.specs.Cmp.Lexicographic.{pointwise}
+use Rattle.std.proofs.Common.{◌≡◌, ℕ, zero, suc, ◌+◌, ◌-◌, ◌<◌, ◌≤◌, List, [], ◌∷◌, length, map as each, get_or, take, refl, ap, subst, sym, ◌∙◌, arith}
+use Rattle.std.proofs.lemmas.List.{get_or-map, get_or-take, length-map, length-take-le, take_more}
+use Rattle.std.proofs.lemmas.List.Sums.{sum_by-append, sum_by-cons}
 use Rattle.nibble_map.specs.Lists.{IsBefore, IsRising}
 use Rattle.nibble_map.specs.Nibbles.{nibbles}
 use Rattle.frozen_trie.specs.Codes.{code_at}
 use Rattle.frozen_trie.specs.Frozen.{codes_of}
 use Rattle.frozen_trie.proofs.CodeLemmas.Parts.{rising_at}
 use Rattle.frozen_trie.proofs.FrozenLemmas.Growth.{rising_more}
-use Rattle.image_parts.specs.Parts.{listed}
-use Rattle.image_parts.proofs.ByteLemmas.{listed_more}
-use Rattle.flat_texts.specs.TextImages.{key_in, keys_len, pair_in, given_pair, stored_value}
+use Rattle.flat_texts.specs.TextWritten.{keys_len}
+use Rattle.flat_texts.specs.TextImages.{given_pair}
 use Rattle.flat_texts.specs.declared.pair.Pair.{Pair}
 
 -- the bytes of the first keys and of one more are at most those of all
@@ -25,19 +20,11 @@ keys_more (p ∷ ps) (suc i) d l =
     let rest = keys_more ps i d (omega (arith, l)) in
     omega (arith, rest, sum_by-cons (λ (p : Pair). length (p.key.now)) p ps, sum_by-cons (λ (p : Pair). length (p.key.now)) p (take i ps))
 
--- bytes that are told to be equal are
-pub same_bytes : (xs ys : List ℕ) (different : Bool) → different ≡ not (pointwise eqb xs ys) → different ≡ false → xs ≡ ys
-same_bytes xs ys different is none = (slice_eq-Decides Decides-eqb xs ys (pointwise eqb xs ys) refl).0 (not-false _ (sym is ∙ none))
-
--- one more of an image's pairs that are those of a list
-pub pairs_more : (bs : List ℕ) (ps : List Pair) (i : ℕ) (d : Pair) → i < length ps → listed (pair_in bs) i ≡ each given_pair (take i ps)
-    → key_in bs i ≡ (get_or ps i d).key.now → stored_value bs i ≡ (get_or ps i d).value
-    → listed (pair_in bs) (i + 1) ≡ each given_pair (take (i + 1) ps)
-pairs_more bs ps i d l same key value =
-    listed_more (pair_in bs) i ∙ ap (λ qs. qs ++ pair_in bs i ∷ []) same
-    ∙ ap (λ k. each given_pair (take i ps) ++ (k, stored_value bs i) ∷ []) key
-    ∙ ap (λ v. each given_pair (take i ps) ++ ((get_or ps i d).key.now, v) ∷ []) value
-    ∙ sym (ap (λ qs. each given_pair qs) (take_more ps i d l) ∙ map_push given_pair (take i ps) (get_or ps i d))
+-- the bytes of the first keys and of the next one
+pub keys_next : (ps : List Pair) (i : ℕ) (d : Pair) → i < length ps → keys_len (take (i + 1) ps) ≡ keys_len (take i ps) + length ((get_or ps i d).key.now)
+keys_next ps i d l =
+    ap keys_len (take_more ps i d l) ∙ sum_by-append (λ (p : Pair). length (p.key.now)) (take i ps) (get_or ps i d ∷ [])
+    ∙ ap (λ n. keys_len (take i ps) + n) (let none : keys_len [] ≡ 0 = refl in omega (arith, sum_by-cons (λ (p : Pair). length (p.key.now)) (get_or ps i d) [], none))
 
 -- the nibbles of the key at an index
 pub code_of : (ps : List Pair) (i : ℕ) (d : Pair) → i < length ps → code_at (codes_of nibbles (each given_pair ps)) i ≡ nibbles ((get_or ps i d).key.now)

@@ -1,1 +1,2 @@
 pub mod TextImages
+pub mod TextWritten

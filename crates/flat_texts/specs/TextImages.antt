@@ -1,5 +1,5 @@
 -- A map from byte strings to numbers, laid into one run of bytes: what stands there, and when the bytes are such a map.
-use Rattle.std.specs.Prelude.{◌≡◌, ◌≢◌, ℕ, zero, suc, ◌+◌, ◌-◌, ◌*◌, ◌%◌, ◌^◌, ◌<◌, ◌≤◌, ◌⊎◌, Bool, true, false, List, Option, None, Some, if◌then◌else◌, codes, drop, length, nat_lt, sum_by, take}
+use Rattle.std.specs.Prelude.{◌≡◌, ◌≢◌, ℕ, zero, suc, ◌+◌, ◌-◌, ◌*◌, ◌%◌, ◌^◌, ◌<◌, ◌≤◌, ◌⊎◌, Bool, true, false, List, Option, None, Some, codes, drop, length, take}
 use Rattle.std.specs.Int.{w64, from_le_bytes}
 use Rattle.nibble_map.specs.Lists.{IsBefore, IsPrefix}
 use Rattle.nibble_map.specs.Maps.{PairMap}
@@ -175,26 +175,3 @@ IsImageFault bs (Cell t) = (t < counts_listed bs) × (IsTop (stored_heads bs) t 
 -- a pair as the calls take and give it
 abbrev pub given_pair : Pair → List ℕ × ℕ
 given_pair p = (p.key.now, p.value)
-
--- how many bytes the keys of pairs have
-abbrev pub keys_len : List Pair → ℕ
-keys_len ps = sum_by (λ p. length p.key.now) ps
-
--- how many bytes the counts of so many pairs take, as they are written
-abbrev pub counts_size : ℕ → ℕ
-counts_size n = if nat_lt n 65536 then 0 else 262148
-
--- how many bytes an image takes as it is written, with so many bytes of the user's own
-abbrev pub text_image_size : List Pair → ℕ → ℕ
-text_image_size ps payload = 64 + 24 * length ps + counts_size (length ps) + keys_len ps + payload
-
--- a plan says where the parts of an image of these pairs are laid, one behind another
-pub record IsTextLayout (ps : List Pair) (plan : Plan) : Type 0 where
-  pub pairs : plan.pairs ≡ length ps
-  pub heads_at : plan.heads_at ≡ 64
-  pub pairs_at : plan.pairs_at ≡ 64 + 8 * length ps
-  pub counts : 4 * plan.counts ≡ counts_size (length ps)
-  pub few : plan.counts ≤ 65537
-  pub counts_at : plan.counts_at ≡ 64 + 24 * length ps
-  pub keys_at : plan.keys_at ≡ 64 + 24 * length ps + counts_size (length ps)
-  pub keys_len : plan.keys_len ≡ keys_len ps

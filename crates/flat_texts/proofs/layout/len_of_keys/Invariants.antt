@@ -1,6 +1,6 @@
 use Rattle.std.proofs.Common.{◌≡◌, ◌^◌, ◌<◌, take}
-use Rattle.flat_texts.specs.TextImages.{keys_len}
-use Rattle.flat_texts.proofs.writing.len_of_keys.Given as goal
+use Rattle.flat_texts.specs.TextWritten.{keys_len}
+use Rattle.flat_texts.proofs.layout.len_of_keys.Given as goal
 
 abbrev pub invariant-loop-at : goal.invariant-loop-at
 invariant-loop-at l = record {

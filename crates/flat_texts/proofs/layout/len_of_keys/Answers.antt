@@ -1,7 +1,7 @@
 use Rattle.std.proofs.Common.{[], arith}
 use Rattle.flat_texts.specs.declared.pair.Pair.{Pair}
 use Rattle.flat_texts.proofs.WriteLemmas.{keys_more}
-use Rattle.flat_texts.proofs.writing.len_of_keys.Goals as goal
+use Rattle.flat_texts.proofs.layout.len_of_keys.Goals as goal
 
 pub returns-then-own-len-clause-long : goal.returns-then-own-len-clause-long
 returns-then-own-len-clause-long c =

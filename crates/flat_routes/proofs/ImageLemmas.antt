@@ -333,15 +333,18 @@ row_is wide bs i f b v l first size value =
 
 -- an image has no fault
 pub no_fault : (wide : Bool) (bs : List ℕ) (e : ImageError) → IsRouteFault wide bs e → IsImage wide bs → ⊥
-no_fault wide bs Short f image = let some = image.head.some in let fits = image.head.fits in elim f [ inl l ↦ omega (arith, l, some, fits) | inr l ↦ omega (arith, l, fits) ]
-no_fault wide bs Mark f image = f (ap family image.head.marked)
-no_fault wide bs Version f image = f.1 image.head.marked
+no_fault wide bs Short f image =
+    let some = image.head.some in
+    let fits = image.head.fits in
+    elim f [ inl l ↦ omega (arith, l, some, fits) | inr l ↦ let past = l.1 in omega (arith, past, fits) ]
+no_fault wide bs Mark f image = f.1 (ap family image.head.marked)
+no_fault wide bs Version f image = f.2 image.head.marked
 no_fault wide bs (Part zero) f image =
     let some = image.head.some in
-    f.1 (omega (arith, some)) (record { listed = image.head.rows; plain = image.plain; size = image.head.rows_size })
+    f.wrong (omega (arith, some)) (record { listed = image.head.rows; plain = image.plain; size = image.head.rows_size })
 no_fault wide bs (Part (suc i)) f image =
-    let two = f.0 in
+    let two = f.within in
     let some = image.head.some in
-    f.1 (omega (arith, two, some)) (record { listed = image.head.cells; shift = image.head.shift; whole = image.whole })
+    f.wrong (omega (arith, two, some)) (record { listed = image.head.cells; shift = image.head.shift; whole = image.whole })
 no_fault wide bs (Row i) f image = let inside = f.within in f.wrong (image_linked wide bs (i + 1) image (omega (arith, inside)))
 no_fault wide bs (Cell t) f image = f.wrong (image.tops.cells t (cell_in bs t) (listed_at (cell_in bs) (cell_count bs) t f.within))

@@ -130,11 +130,11 @@ fn check_head(image: &[u8], wide: bool) -> Result<Plan, ImageError>
     if 16 + 24 * parts > image.len() {
         return Err(ImageError::Short);
     }
-    if parts < 2 {
-        return Err(ImageError::Part(parts));
-    }
-    if !is_rows_part(image, wide) {
+    if parts == 0 || !is_rows_part(image, wide) {
         return Err(ImageError::Part(0));
+    }
+    if parts == 1 {
+        return Err(ImageError::Part(1));
     }
     // What is left is the part of the cells.
     match plan_of(image, wide) {

@@ -1,5 +1,5 @@
 //! Images of IPv4 networks. Each call is total: whatever the bytes are, it ends, and reads none but them.
-ghost use Rattle.std.specs.Prelude.{◌≡◌, ◌↔◌, ◌+◌, ◌*◌, ◌^◌, ◌<◌, ◌≤◌, ℕ, IfErr, IfOk, IfSome, IsNone, IsOk, IsSome, IsTrue, MatchOption, OnErr, OnOk, false, true, drop, length, min, option_map, slice_get, slice_index, take, map as each};
+ghost use Rattle.std.specs.Prelude.{◌≡◌, ◌↔◌, ◌+◌, ◌^◌, ◌<◌, ◌≤◌, ℕ, IfErr, IfOk, IfSome, IsNone, IsOk, IsTrue, MatchOption, OnErr, OnOk, false, drop, length, min, option_map, slice_get, slice_index, take, vec_len, map as each};
 ghost use Rattle.std.specs.List.{filter};
 ghost use Rattle.std.specs.Net.Addr.{ipv4_bits};
 ghost use Rattle.std.specs.Option.{SomeIff};
@@ -266,6 +266,8 @@ pub fn to_image(
     ensures rows { IfOk result (λ image. image_rows of_ipv4 image.items
         ≡ each (numbered_row ipv4_bits) table.now) }
     ensures payload { IfOk result (λ image. HoldsPayload image.items payload.now) }
+    ensures length { IfOk result (λ image. vec_len image
+        ≡ image_size of_ipv4 (length table.now) (length payload.now)) }
 {
     tables::image_of(alloc, table.rows(), payload)
 }

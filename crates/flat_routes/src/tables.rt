@@ -1,10 +1,10 @@
 //! Images of frozen tables, and tables of images.
-ghost use Rattle.std.specs.Prelude.{◌≡◌, ◌^◌, ◌<◌, ℕ, false, IfErr, IfOk, IsSomeAnd, map as each};
+ghost use Rattle.std.specs.Prelude.{◌≡◌, ◌^◌, ◌<◌, false, IfErr, IfOk, IsSomeAnd, length, vec_len, map as each};
 ghost use Rattle.radix_keys.specs.Networks.{IsBase};
 ghost use Rattle.frozen_routes.specs.Routes.{AreRowsInOrder};
 ghost use Rattle.flat_routes.specs.Faults.{IsRouteFault};
 ghost use Rattle.flat_routes.specs.Images.{IsImage, image_rows, network, width};
-ghost use Rattle.flat_routes.specs.Written.{IsImageOf};
+ghost use Rattle.flat_routes.specs.Written.{IsImageOf, image_size};
 
 use crate::check::check;
 use crate::layout::image_len;
@@ -40,8 +40,10 @@ pub(crate) fn image_of<R: FlatRow>(
     payload: &[u8],
 ) -> Result<Vec<u8>, Memory>
     requires { AreRowsInOrder (width R.WIDE) (λ n. n) (each R.shown rows.now) }
-    ensures { IfOk result (λ image. IsImageOf R.WIDE (each R.shown rows.now) payload.now
-        image.items) }
+    ensures written { IfOk result (λ image. IsImageOf R.WIDE (each R.shown rows.now)
+        payload.now image.items) }
+    ensures length { IfOk result (λ image. vec_len image
+        ≡ image_size R.WIDE (length rows.now) (length payload.now)) }
 {
     let Some(len) = image_len(R::WIDE, rows.len(), payload.len()) else {
         // No memory has so many bytes.

@@ -22,6 +22,7 @@ pub returns-then-not-is_row-clause-image : goal.returns-then-not-is_row-clause-i
 returns-then-not-is_row-clause-image c = (
   λ e. absurd (cc e),
   λ image. absurd (no_fault c.args.wide c.args.image.now (Row c.loop-at.at) (record {
+    head = c.in_ok-plan.ensures.plan.head;
     within = omega (arith, c.loop-at-test.true, c.in_ok-plan.ensures.plan.rows);
     before = c.loop-at.invariant;
     wrong = λ right. let yes = c.is_row.ensures.1 right in let no = c.if-not-is_row.true in cc (yes, no);

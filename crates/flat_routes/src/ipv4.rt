@@ -285,10 +285,7 @@ pub fn from_image(alloc: Global, image: &[u8]) -> Result<FrozenRoutes<Ipv4Addr, 
         → IsRouteFault of_ipv4 image.now why) }
     ensures memory { IfErr result (λ e. e ≡ TableError.Memory → IsImage of_ipv4 image.now) }
 {
-    let rows = match tables::rows_of(alloc, image) {
-        Ok(rows) => rows,
-        Err(why) => return Err(why),
-    };
+    let rows = tables::rows_of(alloc, image)?;
     match FrozenRoutes::from_sorted(rows) {
         Ok(table) => Ok(table),
         Err(_) => Err(TableError::Memory),

@@ -291,10 +291,7 @@ pub fn from_image(alloc: Global, image: &[u8]) -> Result<FrozenRoutes<Ipv6Addr, 
         → IsRouteFault of_ipv6 image.now why) }
     ensures memory { IfErr result (λ e. e ≡ TableError.Memory → IsImage of_ipv6 image.now) }
 {
-    let rows = match tables::rows_of(alloc, image) {
-        Ok(rows) => rows,
-        Err(why) => return Err(why),
-    };
+    let rows = tables::rows_of(alloc, image)?;
     match FrozenRoutes::from_sorted(rows) {
         Ok(table) => Ok(table),
         Err(_) => Err(TableError::Memory),

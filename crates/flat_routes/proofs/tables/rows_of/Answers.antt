@@ -33,7 +33,8 @@ loop-at-preserved g c =
     let own = g.R.FlatRow.shown in
     let read = subst (λ b. row_in b bs at ≡ (network c.first_at-first.result c.bits_at-bits.result, c.value_at.result)) c.WIDE-wide.ensures
     (row_read wide bs at _ _ _ inside c.first_at-first.ensures.value c.bits_at-bits.ensures c.value_at.ensures.value) in
-    let here : own c.in-Some.row ≡ row_in g.R.FlatRow.WIDE bs at = shown ∙ sym read in
+    let here : own c.in-Some.row ≡ row_in g.R.FlatRow.WIDE bs at =
+    ◌∙◌ {b = (network c.first_at-first.result c.bits_at-bits.result, c.value_at.result)} shown (sym read) in
     record {
       rows = shown_more own (row_in g.R.FlatRow.WIDE bs) c.loop-at.rows.items c.push_reserved.new.self.items at c.in-Some.row c.push_reserved.ensures.items c.loop-at.invariant.rows here;
       len = omega (arith, c.push_reserved.ensures.len, c.loop-at.invariant.len);

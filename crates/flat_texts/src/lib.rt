@@ -15,7 +15,7 @@ mod writing;
 
 pub use checking::{check, is_image};
 pub use image_parts::{ImageError, WriteError, payload};
-pub use layout::{image_len, image_len};
+pub use layout::image_len;
 pub use pair::{Pair, Place};
 pub use ranges::{below, between, rank};
 pub use reading::{above, get, len, nearest, nth, place_at, prefixes};

@@ -217,8 +217,8 @@ void nifazombi_texts_between(
 size_t nifazombi_texts_image_len(const nifazombi_texts_pair *pairs, size_t pairs_len, size_t payload);
 
 // Writes the image of pairs whose keys rise in the order of their bytes, and of the user's own bytes, into `out`. Returns 0,
-// or why it couldn't: one of the numbers above; the index that belongs to it is put into `at`. Bytes behind the image stay as
-// they are.
+// or why it couldn't: one of the numbers above; the index that belongs to it is put into `at`, and `out` is as before then.
+// Bytes behind the image stay as they are.
 uint32_t nifazombi_texts_write(
     const nifazombi_texts_pair *pairs, size_t pairs_len,
     const uint8_t *payload, size_t payload_len,

@@ -324,8 +324,8 @@ pub(crate) fn texts_image_len(pairs: &[TextsPair<'_>], payload: usize) -> usize 
 }
 
 /// Writes the image of pairs whose keys rise in the order of their bytes, and of the user's own bytes, into `out`. Returns 0,
-/// or why it couldn't: one of the numbers above; the index that belongs to it is put into `at`. Bytes behind the image stay as
-/// they are.
+/// or why it couldn't: one of the numbers above; the index that belongs to it is put into `at`, and `out` is as before then.
+/// Bytes behind the image stay as they are.
 #[inline]
 pub(crate) fn texts_write(pairs: &[TextsPair<'_>], payload: &[u8], out: &mut [u8], at: &mut usize) -> u32 {
     nifazombi_texts_write(pairs.as_ptr(), pairs.len(), payload.as_ptr(), payload.len(), out.as_mut_ptr(), out.len(), at)

@@ -143,6 +143,7 @@ pub extern "C" fn nifazombi_ipv4_write(
     ensures payload { result ≡ 0 → HoldsPayload out.new payload.now }
     ensures change { ChangesWithin 0 (image_size of_ipv4 (length rows.now) (length payload.now))
         out.old out.new }
+    ensures unchanged { (result ≡ 0 → ⊥) → out.new ≡ out.old }
 {
     status_of(ipv4::write(rows, payload, out), at)
 }

@@ -6,7 +6,8 @@ ghost use Rattle.nibble_map.specs.Nibbles.{nibbles};
 ghost use Rattle.radix_trie.specs.Views.{IsPairAbove, pairs_above, pairs_before, pairs_below, pairs_within};
 ghost use Rattle.frozen_trie.specs.Frozen.{prefixes_up};
 ghost use Rattle.image_parts.specs.Parts.{HoldsPayload, row_count};
-ghost use Rattle.flat_texts.specs.TextImages.{IsTextImage, image_map, image_pairs, keys_len, pair_in, given_pair, placed_pair, stored_value, text_image_size};
+ghost use Rattle.flat_texts.specs.TextImages.{IsTextImage, given_pair, image_map, image_pairs, pair_in, placed_pair, stored_value};
+ghost use Rattle.flat_texts.specs.TextWritten.{CanWriteTexts, keys_len, text_image_size};
 ghost use Rattle.nifazombi_c.specs.Results.{told_index};
 
 use crate::results::{Span, code_of, status_of};
@@ -146,8 +147,8 @@ pub extern "C" fn nifazombi_texts_image_len(pairs: &[Pair<'_>], payload: usize) 
 }
 
 /// Writes the image of pairs whose keys rise in the order of their bytes, and of the user's own bytes, into `out`. Returns 0,
-/// or why it couldn't: one of the numbers above; the index that belongs to it is put into `at`. Bytes behind the image stay as
-/// they are.
+/// or why it couldn't: one of the numbers above; the index that belongs to it is put into `at`, and `out` is as before then.
+/// Bytes behind the image stay as they are.
 #[unsafe(no_mangle)]
 pub extern "C" fn nifazombi_texts_write(
     pairs: &[Pair<'_>],
@@ -155,9 +156,13 @@ pub extern "C" fn nifazombi_texts_write(
     out: &mut [u8],
     at: &mut usize,
 ) -> u32
+    ensures ok { (result ≡ 0) ↔ CanWriteTexts pairs.now (length payload.now) (length out.old) }
     ensures image { result ≡ 0 → IsTextImage out.new }
     ensures pairs { result ≡ 0 → image_pairs out.new ≡ each given_pair pairs.now }
     ensures payload { result ≡ 0 → HoldsPayload out.new payload.now }
+    ensures behind { (k : ℕ) → text_image_size pairs.now (length payload.now) ≤ k
+        → slice_index out.new k ≡ slice_index out.old k }
+    ensures unchanged { (result ≡ 0 → ⊥) → out.new ≡ out.old }
 {
     status_of(flat_texts::write(pairs, payload, out), at)
 }

@@ -1,4 +1,4 @@
-use Rattle.std.proofs.Common.{◌+◌, ◌<◌, sym, subst, option_map, arith}
+use Rattle.std.proofs.Common.{sym, subst, option_map, arith}
 use Rattle.nibble_map.specs.Nibbles.{nibbles}
 use Rattle.radix_trie.specs.Views.{IsPairAbove}
 use Rattle.image_parts.proofs.ByteLemmas.{u32_fits}

@@ -7,7 +7,7 @@ import re
 
 from shared import ROOT, text_of
 
-HEAD = re.compile(r"^( *)(pub(?:\([^)]*\))? )?(?:const )?(fn|impl|trait)\b(.*?)(^\1\{|;$| \{\}?$)", re.M | re.S)
+HEAD = re.compile(r"^( *)(pub(?:\([^)]*\))? )?(?:const |extern \S+ )?(fn|impl|trait)\b(.*?)(^\1\{|;$| \{\}?$)", re.M | re.S)
 WORD = "(?:requires|ensures)"
 CLAUSE = re.compile(rf"^ +({WORD}\*?(?: \w+)?) \{{(.*?)\}}(?=;?\s*(?:^ +{WORD}|\Z|^$))", re.M | re.S)
 

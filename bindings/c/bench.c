@@ -1,7 +1,10 @@
 // Times look-ups in images of random networks, as many as the internet's routers have of each length, half of the addresses
 // inside one of them.
 //
-// usage: bench COUNT ROUNDS, and with -DDPDK `pkg-config --cflags --libs libdpdk` beside its rte_lpm and rte_lpm6
+// usage: bench COUNT ROUNDS [FILE], and with -DDPDK `pkg-config --cflags --libs libdpdk` beside its rte_lpm and rte_lpm6
+//
+// With a file its lines are keys of an image, too, of which each is asked for, in another order, and what is nearest to it
+// with three bytes more.
 //
 // Each row is the best round: nanoseconds an address, and a sum of the answers, which one family's rows have in common.
 #include <fcntl.h>
@@ -79,14 +82,14 @@ static void say(const char *name, double least, uint64_t sum, size_t count) {
     printf("%-28s %7.1f ns  %llu\n", name, least / count, (unsigned long long)sum);
 }
 
-#define TIMED(name, body)                                 \
+#define TIMED(name, ...)                                  \
     do {                                                  \
         double least = 1e30;                              \
         uint64_t sum = 0;                                 \
         for (int round = 0; round < rounds; round++) {    \
             sum = 0;                                      \
             double start = now();                         \
-            body;                                         \
+            __VA_ARGS__;                                  \
             double took = now() - start;                  \
             if (took < least) least = took;               \
         }                                                 \
@@ -185,6 +188,68 @@ static void bench6(const network *rows, size_t n, const wide *asked, size_t coun
     free(each), free(image), free(addresses), free(found);
 }
 
+typedef struct {
+    const uint8_t *key;
+    size_t len;
+} line;
+
+static int by_bytes(const void *one, const void *other) {
+    const line *a = one, *b = other;
+    int found = memcmp(a->key, b->key, a->len < b->len ? a->len : b->len);
+    return found ? found : a->len < b->len ? -1 : a->len > b->len;
+}
+
+// The lines of a file, in order, none twice.
+static line *lines_of(const char *path, size_t *count) {
+    int file = open(path, O_RDONLY);
+    struct stat found;
+    if (file < 0 || fstat(file, &found)) exit(1);
+    uint8_t *text = made(found.st_size + 1);
+    size_t size = read(file, text, found.st_size), n = 0, kept = 0;
+    line *lines = made((size + 1) * sizeof *lines);
+    for (size_t at = 0, start = 0; at < size; at++)
+        if (text[at] == '\n') lines[n++] = (line){text + start, at - start}, start = at + 1;
+    qsort(lines, n, sizeof *lines, by_bytes);
+    for (size_t k = 0; k < n; k++)
+        if (!kept || by_bytes(&lines[kept - 1], &lines[k])) lines[kept++] = lines[k];
+    *count = kept;
+    return lines;
+}
+
+static void bench_texts(const char *path, int rounds) {
+    size_t count, at;
+    line *lines = lines_of(path, &count), *asked = made(count * sizeof *asked);
+    nifazombi_texts_pair *pairs = made(count * sizeof *pairs);
+    for (size_t k = 0; k < count; k++) pairs[k] = (nifazombi_texts_pair){lines[k].key, lines[k].len, k};
+    len = nifazombi_texts_image_len(pairs, count, 0);
+    image = made(len);
+    double start = now();
+    if (nifazombi_texts_write(pairs, count, NULL, 0, image, len, &at)) exit(1);
+    printf("%-28s %7.1f ns a pair, %zu pairs\n", "texts write", (now() - start) / count, count);
+    opened(nifazombi_texts_check, "texts open");
+    for (size_t k = 0; k < count; k++) asked[k] = lines[k];
+    for (size_t k = count; k > 1; k--) {
+        size_t other = draw() % k;
+        line kept = asked[k - 1];
+        asked[k - 1] = asked[other], asked[other] = kept;
+    }
+    TIMED("texts get", for (size_t k = 0; k < count; k++) sum += nifazombi_texts_get(image, len, asked[k].key, asked[k].len));
+    TIMED("texts nearest", for (size_t k = 0; k < count; k++) {
+        uint8_t longer[256];
+        size_t size = asked[k].len < 250 ? asked[k].len : 250;
+        memcpy(longer, asked[k].key, size);
+        memcpy(longer + size, "zzz", 3);
+        sum += nifazombi_texts_nearest(image, len, longer, size + 3);
+    });
+    TIMED("texts rank", for (size_t k = 0; k < count; k++) sum += nifazombi_texts_rank(image, len, asked[k].key, asked[k].len));
+    TIMED("texts below", for (size_t k = 0; k < count; k++) {
+        nifazombi_span span;
+        nifazombi_texts_below(image, len, asked[k].key, asked[k].len < 3 ? asked[k].len : 3, &span);
+        sum += span.count;
+    });
+    free(image), free(pairs), free(asked), free(lines);
+}
+
 // So many networks in order, none twice, and addresses, of which each second one lies in one of them.
 static void draw_table(unsigned width, const share *shares, network *rows, size_t *n, wide *asked, size_t count) {
     for (size_t k = 0; k < *n; k++) {
@@ -203,7 +268,7 @@ static void draw_table(unsigned width, const share *shares, network *rows, size_
 }
 
 int main(int words, char **word) {
-    if (words != 3) return 2;
+    if (words != 3 && words != 4) return 2;
     size_t n = strtoul(word[1], NULL, 10), kept = n, count = n > 200000 ? 2000000 : 500000;
     int rounds = atoi(word[2]);
 #ifdef DPDK
@@ -217,5 +282,6 @@ int main(int words, char **word) {
     draw_table(128, IPV6, rows, &kept, asked, count);
     bench6(rows, kept, asked, count, rounds);
     free(rows), free(asked);
+    if (words == 4) bench_texts(word[3], rounds);
     return 0;
 }

@@ -138,10 +138,12 @@ module _ (w : ℕ) (fs bs : List ℕ) (n : ℕ) (next : (k : ℕ) → k < n → 
 -- what the first n networks say is said of any lists with the same first n numbers
 module _ (w : ℕ) (fs bs gs cs : List ℕ) (n : ℕ) (firsts : (k : ℕ) → k < n → get_or gs k 0 ≡ get_or fs k 0)
     (counts : (k : ℕ) → k < n → get_or cs k 0 ≡ get_or bs k 0) where
+  -- which of them hold an address
   holder_there : (a k : ℕ) → k < n → IsHolderAt w fs bs a k → IsHolderAt w gs cs a k
   holder_there a k l p =
       subst (λ f. AgreeIn w (get_or cs k 0) f a) (sym (firsts k l)) (subst (λ b. AgreeIn w b (get_or fs k 0) a) (sym (counts k l)) p)
 
+  -- and the other way round
   holder_here : (a k : ℕ) → k < n → IsHolderAt w gs cs a k → IsHolderAt w fs bs a k
   holder_here a k l p = subst (λ f. AgreeIn w (get_or bs k 0) f a) (firsts k l) (subst (λ b. AgreeIn w b (get_or gs k 0) a) (counts k l) p)
 

@@ -22,9 +22,11 @@ module _ {X Y : Type 0} (f : X → Y) where
   each_got (x ∷ xs) (suc i) y at = each_got xs i y at
 
 module _ {A : Type 0} (w : ℕ) (number : A → ℕ) (rows : List (Net A × ℕ)) (n : ℕ) where
+  -- a row that holds an address holds it there
   holding_there : (r : Net A × ℕ) → IsHoldingRow w number rows n r → IsHoldingRow w (λ m. m) (each (numbered_row number) rows) n (numbered_row number r)
   holding_there r h = record { at = h.at; stored = each_get (numbered_row number) rows h.at r h.stored; holds = h.holds }
 
+  -- and one that holds it there is one of them
   holding_here : (s : Net ℕ × ℕ) → IsHoldingRow w (λ m. m) (each (numbered_row number) rows) n s → (r : Net A × ℕ) × IsHoldingRow w number rows n r × (numbered_row number r ≡ s)
   holding_here s h =
       let own = each_got (numbered_row number) rows h.at s h.stored in
@@ -45,10 +47,12 @@ module _ {A : Type 0} (w : ℕ) (number : A → ℕ) (rows : List (Net A × ℕ)
 
 -- rows whose networks are told by numbers have the same numbers
 module _ {A : Type 0} (number : A → ℕ) where
+  -- their first addresses
   numbered_firsts : (rows : List (Net A × ℕ)) → base_numbers (λ m. m) (each (numbered_row number) rows) ≡ base_numbers number rows
   numbered_firsts [] = refl
   numbered_firsts (r ∷ rs) = ap (λ xs. number r.0.base ∷ xs) (numbered_firsts rs)
 
+  -- and how many bits each shares
   numbered_counts : (rows : List (Net A × ℕ)) → bit_counts (each (numbered_row number) rows) ≡ bit_counts rows
   numbered_counts [] = refl
   numbered_counts (r ∷ rs) = ap (λ xs. r.0.bits ∷ xs) (numbered_counts rs)

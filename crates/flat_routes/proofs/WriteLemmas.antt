@@ -25,9 +25,11 @@ change_through a b c d e f xs ys zs p q l m n o = record {
 
 -- the numbers of bytes that stay
 module _ (xs ys : List ℕ) (n : ℕ) (same : (k : ℕ) → k < n → slice_index ys k ≡ slice_index xs k) where
+  -- a number of 4 bytes stays
   u32_front : (a : ℕ) → a + 4 ≤ n → u32_in ys a ≡ u32_in xs a
   u32_front a le = u32_kept xs ys a (λ k l m. same k (omega (arith, m, le)))
 
+  -- and one of 8
   u64_front : (a : ℕ) → a + 8 ≤ n → u64_in ys a ≡ u64_in xs a
   u64_front a le = u64_kept xs ys a (λ k l m. same k (omega (arith, m, le)))
 
@@ -159,6 +161,7 @@ row_from_kept true xs ys n a same le =
     let value = u64_front xs ys n same (a + 24) (omega (arith, le)) in
     cc (low, high, bits, value)
 
+-- and a link
 link_from_kept : (wide : Bool) (xs ys : List ℕ) (n a : ℕ) → ((k : ℕ) → k < n → slice_index ys k ≡ slice_index xs k) → a + row_size wide ≤ n
     → link_from wide ys a ≡ link_from wide xs a
 link_from_kept false xs ys n a same le = u32_front xs ys n same (a + 8) (omega (arith, le))
@@ -172,14 +175,17 @@ row_room true k n l = omega (arith, l)
 -- the first n rows stay where their bytes do
 module _ (wide : Bool) (xs ys : List ℕ) (plan : Plan) (px : IsPlanOf wide xs plan) (py : IsPlanOf wide ys plan) (n : ℕ)
     (same : (j : ℕ) → j < plan.rows_at + row_size wide * n → slice_index ys j ≡ slice_index xs j) where
+  -- each row stays
   pub row_kept : (k : ℕ) → k < n → row_in wide ys k ≡ row_in wide xs k
   row_kept k l =
       row_placed wide ys plan k py ∙ row_from_kept wide xs ys _ (plan.rows_at + row_size wide * k) same (omega (arith, row_room wide k n l)) ∙ sym (row_placed wide xs plan k px)
 
+  -- and each link
   pub link_kept : (k : ℕ) → k < n → link_in wide ys k ≡ link_in wide xs k
   link_kept k l =
       link_placed wide ys plan k py ∙ link_from_kept wide xs ys _ (plan.rows_at + row_size wide * k) same (omega (arith, row_room wide k n l)) ∙ sym (link_placed wide xs plan k px)
 
+  -- and that the rows are these
   pub holds_kept : (rows : List (Net ℕ × ℕ)) → HoldsRows wide xs rows n → HoldsRows wide ys rows n
   holds_kept rows holds = record {
     stored = λ k l. holds.stored k l ∙ ap (λ r. Some r) (sym (row_kept k l));
@@ -209,11 +215,13 @@ module _ (wide : Bool) (xs ys : List ℕ) (plan : Plan) (px : IsPlanOf wide xs p
 -- all rows stay where their bytes do
 module _ (wide : Bool) (xs ys : List ℕ) (plan : Plan) (px : IsPlanOf wide xs plan) (py : IsPlanOf wide ys plan)
     (same : (j : ℕ) → j < plan.rows_at + row_size wide * plan.rows → slice_index ys j ≡ slice_index xs j) where
+  -- the rows are the same
   pub rows_same : image_rows wide ys ≡ image_rows wide xs
   rows_same =
       ap (λ n. listed (row_in wide ys) n) (sym py.rows) ∙ listed_same (row_in wide ys) (row_in wide xs) plan.rows (row_kept wide xs ys plan px py plan.rows same)
       ∙ ap (λ n. listed (row_in wide xs) n) px.rows
 
+  -- and their links
   links_same : links wide ys ≡ links wide xs
   links_same =
       ap (λ n. listed (link_in wide ys) n) (sym py.rows) ∙ listed_same (link_in wide ys) (link_in wide xs) plan.rows (link_kept wide xs ys plan px py plan.rows same)
@@ -246,6 +254,7 @@ module _ (wide : Bool) (bs : List ℕ) (rows : List (Net ℕ × ℕ)) (n : ℕ) 
   pub firsts_hold : (k : ℕ) → k < n → get_or (bases wide bs) k 0 ≡ get_or (base_numbers (λ m. m) rows) k 0
   firsts_hold k l = first_stored wide bs k (omega (arith, l, within)) ∙ sym (stored_at (λ r. r.0.base) rows k (row_in wide bs k) (holds.stored k l)).1
 
+  -- and how many bits each shares
   pub sizes_hold : (k : ℕ) → k < n → get_or (sizes wide bs) k 0 ≡ get_or (bit_counts rows) k 0
   sizes_hold k l = size_stored wide bs k (omega (arith, l, within)) ∙ sym (stored_at (λ r. r.0.bits) rows k (row_in wide bs k) (holds.stored k l)).1
 
@@ -286,6 +295,7 @@ next_by w fs bs i f b first size base after = record {
 pub base_by : (w : ℕ) (fs bs : List ℕ) (i f b : ℕ) → get_or fs i 0 ≡ f → get_or bs i 0 ≡ b → IsNext w fs bs i → IsBase w b f
 base_by w fs bs i f b first size next = subst (λ x. IsBase w b x) first (subst (λ y. IsBase w y (get_or fs i 0)) size next.base)
 
+-- and that it comes after the one before it
 pub after_by : (w : ℕ) (fs bs : List ℕ) (i f b g a : ℕ) → get_or fs i 0 ≡ f → get_or bs i 0 ≡ b → get_or fs (i - 1) 0 ≡ g → get_or bs (i - 1) 0 ≡ a
     → IsNext w fs bs i → 0 < i → IsEarlier g a f b
 after_by w fs bs i f b g a first size last count next some =
@@ -357,23 +367,28 @@ module _ (wide : Bool) (rows : List (Net ℕ × ℕ)) (payload : List ℕ) (plan
 
   module _ (b3 b4 : List ℕ) (e : ℕ) (cells : (t : ℕ) → t < plan.cells → IsTopCell plan.rest (width wide) (bases wide b2) (sizes wide b2) t (cell_in b3 t))
       (cells_put : ChangesWithin plan.cells_at (plan.cells_at + 8 * plan.cells) b2 b3) (bytes_put : ChangesWithin (plan.cells_at + 8 * plan.cells) e b3 b4) where
+    -- the head stays
     before_rows : (k : ℕ) → k < 88 → slice_index b4 k ≡ slice_index b1 k
     before_rows k l =
         let at = laid.cells_at in
         bytes_put.before k (omega (arith, l, at)) ∙ cells_put.before k (omega (arith, l, at)) ∙ rows_put.before k l
 
+    -- and the rows
     before_cells : (j : ℕ) → j < plan.rows_at + row_size wide * plan.rows → slice_index b4 j ≡ slice_index b2 j
     before_cells j l =
         let first = laid.rows_at in
         let at = laid.cells_at in
         bytes_put.before j (omega (arith, l, first, at)) ∙ cells_put.before j (omega (arith, l, first, at))
 
+    -- and how many bytes there are
     long : length b4 ≡ length b1
     long = bytes_put.same_length ∙ cells_put.same_length ∙ rows_put.same_length
 
+    -- so the head says the same at last
     last_head : IsWrittenHead wide b4 plan (length payload)
     last_head = head_kept wide b1 b4 plan (length payload) before_rows head
 
+    -- and its plan is the same
     last_plan : IsPlanOf wide b4 plan
     last_plan = head_plan wide b4 plan (length payload) laid (omega (arith, fits, long)) last_head
 

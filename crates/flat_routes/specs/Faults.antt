@@ -27,8 +27,8 @@ abbrev pub IsRoutePart : Bool → List ℕ → ℕ → Type 0
 IsRoutePart wide bs zero = IsRowsPart wide bs
 IsRoutePart wide bs (suc i) = IsCellsPart bs
 
--- the part at the index i is the first that isn't the one that an image has there, or isn't listed; the mark is right, and the
--- list lies inside the bytes
+-- the part at the index i is the first that isn't the one that an image has there, or isn't listed; the mark is right,
+-- and the list lies inside the bytes
 pub record IsFirstWrongPart (wide : Bool) (bs : List ℕ) (i : ℕ) : Type 0 where
   pub marked : u64_in bs 0 ≡ mark wide
   pub list : 16 + 24 * part_count bs ≤ length bs

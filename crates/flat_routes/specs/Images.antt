@@ -131,8 +131,8 @@ pub record HasHead (wide : Bool) (bs : List ℕ) : Type 0 where
   pub cells : IsListed bs 40 2
   pub shift : rest_of bs < 128
 
--- the bytes are an image: the rows have no detail, the cells fill their part, the networks rise, each has its link, and each
--- cell is right
+-- the bytes are an image: the rows have no detail, the cells fill their part, the networks rise, each has its link, and
+-- each cell is right
 pub record IsImage (wide : Bool) (bs : List ℕ) : Type 0 where
   pub head : HasHead wide bs
   pub plain : u32_in bs 20 ≡ 0

@@ -9,8 +9,8 @@ use Rattle.frozen_routes.specs.Routes.{AreRowsInOrder, IsFirstOutOfOrder, IsLast
 use Rattle.flat_routes.specs.declared.head.Plan.{Plan}
 use Rattle.flat_routes.specs.Images.{IsImage, image_rows, link_in, mark, network, row_in, row_size, width}
 
--- by how many first bits of an address the cells of so many rows are: as many as the count has binary digits, but at least 9
--- and at most 21
+-- by how many first bits of an address the cells of so many rows are: as many as the count has binary digits, but at
+-- least 9 and at most 21
 unfoldable pub cell_bits : ℕ → ℕ
 cell_bits n = max 9 (min (64 - leading_zeros w64 n) 21)
 

@@ -63,8 +63,8 @@ impl FlatRow for Row {
 ///
 /// # Errors
 ///
-/// What is told is the first fault in the order of the reasons, but that a list that ends outside the bytes is told after
-/// the mark and the version.
+/// The first fault is told, in this order: fewer than 64 bytes, another mark, another version, a list of the parts that
+/// ends outside the bytes, a part, a row, a cell.
 pub fn check(image: &[u8]) -> Result<(), ImageError>
     ensures image { IsOk result ↔ IsImage of_ipv4 image.now }
     ensures fault { IfErr result (IsRouteFault of_ipv4 image.now) }
@@ -114,9 +114,9 @@ pub fn row_at(image: &[u8], at: usize) -> Option<Row>
 
 /// The index of the row of the longest network that holds an address, or None where none does.
 ///
-/// It takes as many comparisons as the rows of the address's block have binary digits, and a step for each network around
-/// the last one that begins at or before it, until one holds it. Of bytes that are no image it returns None or the index
-/// of some row.
+/// It takes as many comparisons as the rows of the address's block have binary digits, and a step for each network
+/// around the last one that begins at or before it, until one holds it. Of bytes that are no image it returns None or
+/// the index of some row.
 pub fn look(image: &[u8], address: u32) -> Option<usize>
     ensures within { IfSome result (λ at. at < row_count image.now) }
     ensures row { IsImage of_ipv4 image.now → IsLongestRow 32 (λ n. n)
@@ -125,8 +125,8 @@ pub fn look(image: &[u8], address: u32) -> Option<usize>
     search::look(image, false, u128::from(address))
 }
 
-/// Looks up addresses as `look` does, as many as there are of both, and puts for each the index of its row and one more,
-/// or 0, into `found`. It returns how many.
+/// Looks up addresses as `look` does, as many as there are of both, and puts for each the index of its row and one
+/// more, or 0, into `found`. It returns how many.
 pub fn look_many(image: &[u8], addresses: &[u32], found: &mut [u32]) -> usize
     ensures count { result ≤ min (length addresses.now) (length found.new) }
     ensures all { IsImage of_ipv4 image.now
@@ -171,9 +171,9 @@ pub fn below(image: &[u8], first: u32, bits: u32) -> (usize, usize)
     networks::below(image, false, u128::from(first), bits)
 }
 
-/// The index of the row of the network around that of the row at an index: of the longest other one that holds it. It is
-/// None where no other one holds it, and where there is no such row. It takes constant time. Whatever the bytes are, a
-/// result is less than the index, so a walk upward ends.
+/// The index of the row of the network around that of the row at an index: of the longest other one that holds it. It
+/// is None where no other one holds it, and where there is no such row. It takes constant time. Whatever the bytes are,
+/// a result is less than the index, so a walk upward ends.
 pub fn above(image: &[u8], at: usize) -> Option<usize>
     ensures within { IfSome result (λ up. up < at) }
     ensures past { row_count image.now ≤ at → IsNone result }
@@ -184,8 +184,8 @@ pub fn above(image: &[u8], at: usize) -> Option<usize>
     search::above(image, false, at)
 }
 
-/// How many bytes the image of so many rows takes, with so many bytes of the user's own, as `write` lays it out, or None of
-/// 2^32 rows or more, or where a `usize` doesn't count them.
+/// How many bytes the image of so many rows takes, with so many bytes of the user's own, as `write` lays it out, or
+/// None of 2^32 rows or more, or where a `usize` doesn't count them.
 pub fn image_len(rows: usize, payload: usize) -> Option<usize>
     ensures { SomeIff result ((rows < 2 ^ 32) × (image_size of_ipv4 rows payload < 2 ^ 64))
         (image_size of_ipv4 rows payload) }
@@ -193,14 +193,15 @@ pub fn image_len(rows: usize, payload: usize) -> Option<usize>
     layout::image_len(false, rows, payload)
 }
 
-/// Writes the image of rows, which rise by their first addresses, and of one first address by their bits, with the user's
-/// own bytes, into a buffer of `image_len` bytes or more. Of a row's link it takes no notice. Bytes behind the image stay as
-/// they are. It takes linear time, but for the climbs to the network around each network, and around each value of the
-/// first bits, and allocates nothing.
+/// Writes the image of rows, which rise by their first addresses, and of one first address by their bits, with the
+/// user's own bytes, into a buffer of `image_len` bytes or more. Of a row's link it takes no notice. Bytes behind the
+/// image stay as they are. It takes linear time, but for the climbs to the network around each network, and around each
+/// value of the first bits, and allocates nothing.
 ///
 /// # Errors
 ///
-/// In this order: there are too many rows, the buffer is too short, or the rows aren't in order. The buffer is as before.
+/// In this order: there are too many rows, the buffer is too short, or the rows aren't in order. The buffer is as
+/// before.
 pub fn write(rows: &[Row], payload: &[u8], out: &mut [u8]) -> Result<(), WriteError>
     ensures ok { IsOk result ↔ CanWrite of_ipv4 (each row4_of rows.now) (length payload.now)
         (length out.old) }

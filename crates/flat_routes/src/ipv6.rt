@@ -22,8 +22,8 @@ use radix_keys::{Address, Memory, Network};
 use std::alloc::Global;
 use std::net::Ipv6Addr;
 
-/// A row: a network by its first address, in network order, and how many bits its addresses share, the index and one more
-/// of the row of the network around it, or 0, and the network's value.
+/// A row: a network by its first address, in network order, and how many bits its addresses share, the index and one
+/// more of the row of the network around it, or 0, and the network's value.
 #[repr(C)]
 #[derive(Clone, Copy)]
 pub struct Row {
@@ -74,8 +74,8 @@ fn put_row(out: &mut [u8], place: usize, first: u128, bits: u32, link: u32, valu
 ///
 /// # Errors
 ///
-/// What is told is the first fault in the order of the reasons, but that a list that ends outside the bytes is told after
-/// the mark and the version.
+/// The first fault is told, in this order: fewer than 64 bytes, another mark, another version, a list of the parts that
+/// ends outside the bytes, a part, a row, a cell.
 pub fn check(image: &[u8]) -> Result<(), ImageError>
     ensures image { IsOk result ↔ IsImage of_ipv6 image.now }
     ensures fault { IfErr result (IsRouteFault of_ipv6 image.now) }
@@ -125,9 +125,9 @@ pub fn row_at(image: &[u8], at: usize) -> Option<Row>
 
 /// The index of the row of the longest network that holds an address, or None where none does.
 ///
-/// It takes as many comparisons as the rows of the address's block have binary digits, and a step for each network around
-/// the last one that begins at or before it, until one holds it. Of bytes that are no image it returns None or the index
-/// of some row.
+/// It takes as many comparisons as the rows of the address's block have binary digits, and a step for each network
+/// around the last one that begins at or before it, until one holds it. Of bytes that are no image it returns None or
+/// the index of some row.
 pub fn look(image: &[u8], address: u128) -> Option<usize>
     ensures within { IfSome result (λ at. at < row_count image.now) }
     ensures row { IsImage of_ipv6 image.now → IsLongestRow 128 (λ n. n)
@@ -136,8 +136,8 @@ pub fn look(image: &[u8], address: u128) -> Option<usize>
     search::look(image, true, address)
 }
 
-/// Looks up addresses as `look` does, as many as there are of both, and puts for each the index of its row and one more,
-/// or 0, into `found`. It returns how many.
+/// Looks up addresses as `look` does, as many as there are of both, and puts for each the index of its row and one
+/// more, or 0, into `found`. It returns how many.
 pub fn look_many(image: &[u8], addresses: &[u128], found: &mut [u32]) -> usize
     ensures count { result ≤ min (length addresses.now) (length found.new) }
     ensures all { IsImage of_ipv6 image.now
@@ -182,9 +182,9 @@ pub fn below(image: &[u8], first: u128, bits: u32) -> (usize, usize)
     networks::below(image, true, first, bits)
 }
 
-/// The index of the row of the network around that of the row at an index: of the longest other one that holds it. It is
-/// None where no other one holds it, and where there is no such row. It takes constant time. Whatever the bytes are, a
-/// result is less than the index, so a walk upward ends.
+/// The index of the row of the network around that of the row at an index: of the longest other one that holds it. It
+/// is None where no other one holds it, and where there is no such row. It takes constant time. Whatever the bytes are,
+/// a result is less than the index, so a walk upward ends.
 pub fn above(image: &[u8], at: usize) -> Option<usize>
     ensures within { IfSome result (λ up. up < at) }
     ensures past { row_count image.now ≤ at → IsNone result }
@@ -195,8 +195,8 @@ pub fn above(image: &[u8], at: usize) -> Option<usize>
     search::above(image, true, at)
 }
 
-/// How many bytes the image of so many rows takes, with so many bytes of the user's own, as `write` lays it out, or None of
-/// 2^32 rows or more, or where a `usize` doesn't count them.
+/// How many bytes the image of so many rows takes, with so many bytes of the user's own, as `write` lays it out, or
+/// None of 2^32 rows or more, or where a `usize` doesn't count them.
 pub fn image_len(rows: usize, payload: usize) -> Option<usize>
     ensures { SomeIff result ((rows < 2 ^ 32) × (image_size of_ipv6 rows payload < 2 ^ 64))
         (image_size of_ipv6 rows payload) }
@@ -204,14 +204,15 @@ pub fn image_len(rows: usize, payload: usize) -> Option<usize>
     layout::image_len(true, rows, payload)
 }
 
-/// Writes the image of rows, which rise by their first addresses, and of one first address by their bits, with the user's
-/// own bytes, into a buffer of `image_len` bytes or more. Of a row's link it takes no notice. Bytes behind the image stay as
-/// they are. It takes linear time, but for the climbs to the network around each network, and around each value of the
-/// first bits, and allocates nothing.
+/// Writes the image of rows, which rise by their first addresses, and of one first address by their bits, with the
+/// user's own bytes, into a buffer of `image_len` bytes or more. Of a row's link it takes no notice. Bytes behind the
+/// image stay as they are. It takes linear time, but for the climbs to the network around each network, and around each
+/// value of the first bits, and allocates nothing.
 ///
 /// # Errors
 ///
-/// In this order: there are too many rows, the buffer is too short, or the rows aren't in order. The buffer is as before.
+/// In this order: there are too many rows, the buffer is too short, or the rows aren't in order. The buffer is as
+/// before.
 pub fn write(rows: &[Row], payload: &[u8], out: &mut [u8]) -> Result<(), WriteError>
     ensures ok { IsOk result ↔ CanWrite of_ipv6 (each row6_of rows.now) (length payload.now)
         (length out.old) }

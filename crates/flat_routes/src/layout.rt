@@ -9,8 +9,8 @@ use crate::rows::bits_of;
 /// How many bytes the head takes, which lists three parts.
 const HEAD: usize = 88;
 
-/// By how many first bits the cells of so many rows are: as many as the count has binary digits, but at least 9 and at most
-/// 21.
+/// By how many first bits the cells of so many rows are: as many as the count has binary digits, but at least 9 and at
+/// most 21.
 #[tactic(auto, unfolding(crate::specs::Written::cell_bits))]
 fn bits_for(rows: usize) -> u32
     ensures value { result ≡ cell_bits rows }

@@ -34,7 +34,8 @@ fn top_span(image: &[u8], wide: bool, plan: Plan, number: u128) -> (Cell, usize)
     (Cell::NONE, plan.rows)
 }
 
-/// How many of the networks begin at or before an address, by its number, where the first `lo` do, and none from `hi` on.
+/// How many of the networks begin at or before an address, by its number, where the first `lo` do, and none from `hi`
+/// on.
 #[inline(always)]
 fn count_to(
     image: &[u8],
@@ -66,8 +67,8 @@ fn count_to(
     lo
 }
 
-/// The last of the first `from` networks that holds an address, by its index and one more, or 0 where there is none; the
-/// floor says so of as many as it counts.
+/// The last of the first `from` networks that holds an address, by its index and one more, or 0 where there is none;
+/// the floor says so of as many as it counts.
 #[inline(always)]
 pub(crate) fn climb(
     image: &[u8],

@@ -8,8 +8,8 @@ use std::alloc::Global;
 use std::net::{Ipv4Addr, Ipv6Addr};
 use std::test::Fail;
 
-/// 10.0.0.0/8, 10.0.0.0/16, 10.1.0.0/16, 10.1.2.0/24, 128.0.0.0/2, 192.0.2.0/24 and 255.255.255.255/32, with cells by three
-/// bits, and five bytes of the user's own before the rows.
+/// 10.0.0.0/8, 10.0.0.0/16, 10.1.0.0/16, 10.1.2.0/24, 128.0.0.0/2, 192.0.2.0/24 and 255.255.255.255/32, with cells by
+/// three bits, and five bytes of the user's own before the rows.
 const IPV4: [u8; 277] = [
     78, 90, 73, 80, 86, 52, 46, 49, 7, 0, 0, 0, 3, 0, 0, 0, 1, 0, 0, 0, 0, 0, 0, 0, 93, 0, 0, 0, 0,
     0, 0, 0, 112, 0, 0, 0, 0, 0, 0, 0, 2, 0, 0, 0, 29, 0, 0, 0, 205, 0, 0, 0, 0, 0, 0, 0, 72, 0, 0,

@@ -9,7 +9,8 @@ pub enum ImageError {
     Mark,
     /// The image is of another version.
     Version,
-    /// The part listed at this index is missing or of another kind, lies outside the bytes, or has another size or detail.
+    /// The part listed at this index is missing or of another kind, lies outside the bytes, or has another size or
+    /// detail.
     Part(usize),
     /// The row at this index is none, doesn't come after the row before it, or has another link.
     Row(usize),

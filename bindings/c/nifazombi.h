@@ -48,8 +48,8 @@ typedef struct {
     uint32_t value;
 } nifazombi_ipv4_row;
 
-// A row: a network by its first address, in network order, and how many bits its addresses share, the index and one more
-// of the row of the network around it, or 0, and the network's value.
+// A row: a network by its first address, in network order, and how many bits its addresses share, the index and one
+// more of the row of the network around it, or 0, and the network's value.
 typedef struct {
     uint8_t first[16];
     uint32_t bits;

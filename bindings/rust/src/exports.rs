@@ -67,8 +67,8 @@ pub(crate) struct Ipv4Row {
     pub(crate) value: u32,
 }
 
-/// A row: a network by its first address, in network order, and how many bits its addresses share, the index and one more
-/// of the row of the network around it, or 0, and the network's value.
+/// A row: a network by its first address, in network order, and how many bits its addresses share, the index and one
+/// more of the row of the network around it, or 0, and the network's value.
 #[repr(C)]
 #[derive(Clone, Copy, Debug, Default)]
 pub(crate) struct Ipv6Row {

@@ -2,6 +2,7 @@
 import array
 import ctypes
 import ipaddress
+import socket
 import struct
 import typing
 
@@ -17,6 +18,14 @@ class Route(typing.NamedTuple):
     value: int
 
 
+def _read(family, text):
+    """The packed bytes of an address by its text, which the C library reads faster than `ipaddress` does."""
+    try:
+        return socket.inet_pton(family, text)
+    except (OSError, ValueError):
+        raise ValueError(f"{text!r} is no address of IPv{4 if family == socket.AF_INET else 6}") from None
+
+
 class _Ipv4:
     address, network, row, width = ipaddress.IPv4Address, ipaddress.IPv4Network, exports.Ipv4Row, 32
     rows, values = struct.Struct("=IIII"), "I"
@@ -28,6 +37,8 @@ class _Ipv4:
     @staticmethod
     def passed(address):
         """An address as the library takes it."""
+        if isinstance(address, str):
+            return int.from_bytes(_read(socket.AF_INET, address), "big")
         return address if type(address) is int and 0 <= address < 1 << 32 else int(ipaddress.IPv4Address(address))
 
     @staticmethod
@@ -56,12 +67,14 @@ class _Ipv6:
 
     @staticmethod
     def passed(address):
+        if isinstance(address, str):
+            return _read(socket.AF_INET6, address)
         return ipaddress.IPv6Address(address).packed
 
     @staticmethod
     def many(addresses):
         if not isinstance(addresses, (bytes, bytearray, memoryview)):
-            addresses = b"".join(ipaddress.IPv6Address(it).packed for it in addresses)
+            addresses = b"".join(map(_Ipv6.passed, addresses))
         return memoryview(addresses).cast("B"), len(addresses) // 16
 
     @staticmethod
@@ -112,30 +125,37 @@ class Routes(Table):
     def __len__(self):
         return self._family.call("len")(self._at, self._len)
 
-    def _route(self, index):
+    def _row(self, index):
         row = self._family.row()
         if not self._family.call("row_at")(self._at, self._len, index, row) or row.bits > self._family.width:
             raise ImageError("this is no image: " + REASONS[exports.ROW].format(index))
+        return row
+
+    def _route(self, index):
+        row = self._row(index)
         return Route(self._family.network((self._family.first(row), row.bits), strict=False), row.value)
+
+    def _found(self, address):
+        return self._family.call("look")(self._at, self._len, self._family.passed(address))
 
     def look(self, address):
         """The route of the longest network that holds an address, or None."""
-        found = self._family.call("look")(self._at, self._len, self._family.passed(address))
+        found = self._found(address)
         return self._route(found - 1) if found else None
 
     def get(self, address, default=None):
         """The value of the longest network that holds an address, or `default`."""
-        found = self.look(address)
-        return default if found is None else found.value
+        found = self._found(address)
+        return self._row(found - 1).value if found else default
 
     def __getitem__(self, address):
-        found = self.look(address)
-        if found is None:
+        found = self._found(address)
+        if not found:
             raise KeyError(address)
-        return found.value
+        return self._row(found - 1).value
 
     def __contains__(self, address):
-        return bool(self._family.call("look")(self._at, self._len, self._family.passed(address)))
+        return bool(self._found(address))
 
     def look_many(self, addresses):
         """The values of many addresses, None where no network holds one. Fastest of IPv4 as numbers in an
@@ -164,7 +184,7 @@ class Routes(Table):
 
     def above(self, address):
         """The routes of all networks that hold an address, from the longest up."""
-        found = self._family.call("look")(self._at, self._len, self._family.passed(address))
+        found = self._found(address)
         while found:
             yield self._route(found - 1)
             found = self._family.call("above")(self._at, self._len, found - 1)

@@ -102,7 +102,7 @@ def try_refusals():
     refused(lambda: Texts.build([("a", 1), (b"a", 2)]), ValueError, "b'a' is there twice")
     refused(lambda: Texts.build({"a": -1}), ValueError, "64 bits")
     refused(lambda: Routes(image)["11.0.0.1"], KeyError, "11.0.0.1")
-    refused(lambda: Routes(image).look("::1"), ValueError, "::1")
+    refused(lambda: Routes(image).look("::1"), ValueError, "no address of IPv4")
     refused(lambda: Texts(Texts.build({})).nth(0), IndexError, "0")
     refused(lambda: Routes.open("/nowhere/table"), FileNotFoundError, "nowhere")
 

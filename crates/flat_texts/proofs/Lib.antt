@@ -15,3 +15,5 @@ pub mod HoldLemmas
 pub mod CountLemmas
 -- Where a key lies in an image.
 pub mod PlaceLemmas
+-- Lists that grow by what stands next.
+pub mod TableLemmas

@@ -163,14 +163,16 @@ pub record IsTextImage (bs : List ℕ) : Type 0 where
   pub counts : (t : ℕ) → t < counts_listed bs → IsTop (stored_heads bs) t (stored_count bs t)
 
 -- why bytes are no image: there is no room for the head and the list of the parts; the first 8 bytes are others, or of another
--- version; the part isn't listed first, or too small; or this is the first pair, or a count, that isn't right
+-- version; the part isn't listed first, or too small; or this is the first pair, or the first count, that isn't right
 abbrev pub IsImageFault : List ℕ → ImageError → Type 0
 IsImageFault bs Short = (length bs < 40) ⊎ (length bs < 16 + 24 * part_count bs)
 IsImageFault bs Mark = u64_in bs 0 % 2 ^ 56 ≢ text_mark % 2 ^ 56
 IsImageFault bs Version = (u64_in bs 0 % 2 ^ 56 ≡ text_mark % 2 ^ 56) × (u64_in bs 0 ≢ text_mark)
 IsImageFault bs (Part i) = (i ≡ 0) × (HasTextHead bs → ⊥)
 IsImageFault bs (Row i) = (i < row_count bs) × AreRightPairs bs i × (IsRightPair bs i → ⊥)
-IsImageFault bs (Cell t) = (t < counts_listed bs) × (IsTop (stored_heads bs) t (stored_count bs t) → ⊥)
+IsImageFault bs (Cell t) = (t < counts_listed bs)
+    × ((u : ℕ) → u < t → IsTop (stored_heads bs) u (stored_count bs u))
+    × (IsTop (stored_heads bs) t (stored_count bs t) → ⊥)
 
 -- a pair as the calls take and give it
 abbrev pub given_pair : Pair → List ℕ × ℕ

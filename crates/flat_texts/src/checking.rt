@@ -16,7 +16,8 @@ use radix_keys::NibbleSlice;
 fn is_after(image: &[u8], plan: Plan, at: usize) -> bool
     requires plan { IsTextPlan image.now plan }
     requires within { at < plan.pairs }
-    ensures { IsTrue result ↔ (0 < at → IsBefore (key_code image.now (at - 1)) (key_code image.now at)) }
+    ensures { IsTrue result
+        ↔ (0 < at → IsBefore (key_code image.now (at - 1)) (key_code image.now at)) }
 {
     if at == 0 {
         return true;

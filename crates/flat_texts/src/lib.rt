@@ -1,5 +1,5 @@
-//! A map from byte strings to numbers, laid into one run of bytes, which is searched in place: a slice of a file that is
-//! mapped, or of any other memory.
+//! A map from byte strings to numbers, laid into one run of bytes, which is searched in place: a slice of a file that
+//! is mapped, or of any other memory.
 #![tactic(auto)]
 
 mod checking;
@@ -11,6 +11,7 @@ mod pairs;
 mod ranges;
 mod reading;
 mod search;
+mod tables;
 mod writing;
 
 pub use checking::{check, is_image};
@@ -19,6 +20,7 @@ pub use layout::image_len;
 pub use pair::{Pair, Place};
 pub use ranges::{below, between, rank};
 pub use reading::{above, get, len, nearest, nth, place_at, prefixes};
+pub use tables::{TableError, from_image, to_image};
 pub use writing::write;
 
 #[cfg(test)]

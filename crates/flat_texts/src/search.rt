@@ -55,9 +55,9 @@ fn side_of(own: &[u8], key: &[u8], is_through: bool) -> Ordering
     code.get(same).cmp(&list.get(same))
 }
 
-/// On which side of a search the key at an index lies: Less where it comes before the searched one, or also where it begins
-/// with it and the search is one through it; Equal, of a search that isn't, where it is the searched one; and Greater
-/// otherwise.
+/// On which side of a search the key at an index lies: Less where it comes before the searched one, or also where it
+/// begins with it and the search is one through it; Equal, of a search that isn't, where it is the searched one; and
+/// Greater otherwise.
 #[inline(always)]
 fn side_at(image: &[u8], plan: Plan, at: usize, sought: &Sought<'_>) -> Ordering
     requires plan { IsTextPlan image.now plan }
@@ -78,14 +78,15 @@ fn side_at(image: &[u8], plan: Plan, at: usize, sought: &Sought<'_>) -> Ordering
     side_of(key_at(image, plan, at), sought.key, sought.is_through)
 }
 
-/// Bounds of a search, by the counts: the heads in front of the first are below a number, and those from the second on above
-/// it. Where there are no counts for it these are all.
+/// Bounds of a search, by the counts: the heads in front of the first are below a number, and those from the second
+/// on above it. Where there are no counts for it these are all.
 #[inline(always)]
 fn top_span(image: &[u8], plan: Plan, bound: u64) -> (usize, usize)
     requires plan { IsTextPlan image.now plan }
     ensures order { result.0 ≤ result.1 }
     ensures within { result.1 ≤ plan.pairs }
-    ensures below { IsTextImage image.now → (k : ℕ) → k < result.0 → stored_head image.now k < bound }
+    ensures below { IsTextImage image.now → (k : ℕ) → k < result.0
+        → stored_head image.now k < bound }
     ensures above { IsTextImage image.now → (k : ℕ) → result.1 ≤ k → k < plan.pairs
         → bound < stored_head image.now k }
 {
@@ -100,8 +101,8 @@ fn top_span(image: &[u8], plan: Plan, bound: u64) -> (usize, usize)
     (0, plan.pairs)
 }
 
-/// How many of the keys come before another one, or also begin with it where the search is one through it; and whether it
-/// stands behind these, of a search that isn't.
+/// How many of the keys come before another one, or also begin with it where the search is one through it; and
+/// whether it stands behind these, of a search that isn't.
 #[inline(always)]
 pub(crate) fn cut(image: &[u8], plan: Plan, key: &[u8], is_through: bool) -> (usize, bool)
     requires plan { IsTextPlan image.now plan }
@@ -131,7 +132,8 @@ pub(crate) fn cut(image: &[u8], plan: Plan, key: &[u8], is_through: bool) -> (us
     (lo, false)
 }
 
-/// The last of the first `from` keys that is a prefix of another one, by its index and one more, or 0 where there is none.
+/// The last of the first `from` keys that is a prefix of another one, by its index and one more, or 0 where there is
+/// none.
 ///
 /// It goes from each to the link of it, so at most as often as prefixes of the key before `from` are stored.
 #[inline(always)]

@@ -1,14 +1,14 @@
 //! Stored images, which a tool of another language made from docs/IMAGES.md, and what is found there.
 
 use crate::{
-    ImageError, Pair, WriteError, above, below, between, check, get, image_len, is_image, len,
-    nearest, nth, payload, prefixes, rank, write,
+    ImageError, Pair, WriteError, above, below, between, check, from_image, get, image_len,
+    is_image, len, nearest, nth, payload, prefixes, rank, to_image, write,
 };
 use std::alloc::Global;
 
-/// Nine pairs, whose keys share first bytes, go on from one another, and end with zeros: "", "a", "a" and a zero, "abc",
-/// "abcdefgh", the same and a zero, "abcdefghi", "abd", and nine bytes 255. Their values are 10 and more. There are three
-/// counts, and before them all five bytes of the user's own.
+/// Nine pairs, whose keys share first bytes, go on from one another, and end with zeros: "", "a", "a" and a zero,
+/// "abc", "abcdefgh", the same and a zero, "abcdefghi", "abd", and nine bytes 255. Their values are 10 and more.
+/// There are three counts, and before them all five bytes of the user's own.
 const STORED: [u8; 341] = [
     78, 90, 84, 69, 88, 84, 46, 49, 9, 0, 0, 0, 2, 0, 0, 0, 4, 0, 0, 0, 3, 0, 0, 0, 69, 0, 0, 0, 0,
     0, 0, 0, 16, 1, 0, 0, 0, 0, 0, 0, 3, 0, 0, 0, 99, 0, 0, 0, 64, 0, 0, 0, 0, 0, 0, 0, 5, 0, 0, 0,
@@ -188,8 +188,8 @@ fn flipped(at: usize, bit: u32) -> [u8; 341] {
     bytes
 }
 
-/// Whether a byte of `STORED` may be another one: of the user's part, of what is listed of it, or of a value; of how many
-/// parts are listed, which may be more; or the ninth byte of a key, the last one.
+/// Whether a byte of `STORED` may be another one: of the user's part, of what is listed of it, or of a value; of how
+/// many parts are listed, which may be more; or the ninth byte of a key, the last one.
 fn is_free(at: usize) -> bool {
     at == 12
         || [319, 328, 340].contains(&at)
@@ -328,4 +328,17 @@ fn are_found(alloc: Global, count: usize, size: usize) -> Option<bool> {
 fn written_image_with_counts(rt: HostRuntime) {
     assert!(rt; are_found(rt.alloc(), 65535, 64 + 30 * 65535) == Some(true));
     assert!(rt; are_found(rt.alloc(), 65536, 64 + 30 * 65536 + 4 * 65537) == Some(true));
+}
+
+/// Whether the map in memory of a stored image has its pairs, and the image of that map is the written one.
+fn are_copied(alloc: Global) -> Option<bool> {
+    let texts = from_image(alloc, &STORED).ok()?;
+    let image = to_image(alloc, &texts, b"hello").ok()?;
+    Some(texts.len() == 9 && texts.get(b"abc") == Some(&13) && image.as_slice() == PLAIN.as_slice())
+}
+
+#[test]
+fn maps_in_memory(rt: HostRuntime) {
+    assert!(rt; are_copied(rt.alloc()) == Some(true));
+    assert!(rt; from_image(rt.alloc(), &STORED[1..]).is_err());
 }

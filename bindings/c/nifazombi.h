@@ -77,8 +77,8 @@ typedef struct {
     size_t count;
 } nifazombi_span;
 
-// Checks whether bytes are an image of IPv4 networks, in linear time. Returns 0 of an image, and else why they are none:
-// one of the numbers above; the index that belongs to it is put into `at`.
+// Checks whether bytes are an image of IPv4 networks, in linear time. Returns 0 of an image, and else why they are
+// none: one of the numbers above; the index that belongs to it is put into `at`.
 uint32_t nifazombi_ipv4_check(const uint8_t *image, size_t image_len, size_t *at);
 
 // The count of rows.
@@ -110,17 +110,17 @@ size_t nifazombi_ipv4_above(const uint8_t *image, size_t image_len, size_t at);
 // How many bytes the image of so many rows takes, with so many bytes of the user's own, or 0 of 2^32 rows or more.
 size_t nifazombi_ipv4_image_len(size_t rows, size_t payload);
 
-// Writes the image of rows in order, by first address and then by bits, whose links count for nothing, and of the user's own
-// bytes into `out`. Returns 0, or why it couldn't: one of the numbers above; the index that belongs to it is put into
-// `at`, and `out` is as before then.
+// Writes the image of rows in order, by first address and then by bits, whose links count for nothing, and of the
+// user's own bytes into `out`. Returns 0, or why it couldn't: one of the numbers above; the index that belongs to it
+// is put into `at`, and `out` is as before then.
 uint32_t nifazombi_ipv4_write(
     const nifazombi_ipv4_row *rows, size_t rows_len,
     const uint8_t *payload, size_t payload_len,
     uint8_t *out, size_t out_len,
     size_t *at);
 
-// Checks whether bytes are an image of IPv6 networks, in linear time. Returns 0 of an image, and else why they are none:
-// one of the numbers above; the index that belongs to it is put into `at`.
+// Checks whether bytes are an image of IPv6 networks, in linear time. Returns 0 of an image, and else why they are
+// none: one of the numbers above; the index that belongs to it is put into `at`.
 uint32_t nifazombi_ipv6_check(const uint8_t *image, size_t image_len, size_t *at);
 
 // The count of rows.
@@ -156,9 +156,9 @@ size_t nifazombi_ipv6_above(const uint8_t *image, size_t image_len, size_t at);
 // How many bytes the image of so many rows takes, with so many bytes of the user's own, or 0 of 2^32 rows or more.
 size_t nifazombi_ipv6_image_len(size_t rows, size_t payload);
 
-// Writes the image of rows in order, by first address and then by bits, whose links count for nothing, and of the user's own
-// bytes into `out`. Returns 0, or why it couldn't: one of the numbers above; the index that belongs to it is put into
-// `at`, and `out` is as before then.
+// Writes the image of rows in order, by first address and then by bits, whose links count for nothing, and of the
+// user's own bytes into `out`. Returns 0, or why it couldn't: one of the numbers above; the index that belongs to it
+// is put into `at`, and `out` is as before then.
 uint32_t nifazombi_ipv6_write(
     const nifazombi_ipv6_row *rows, size_t rows_len,
     const uint8_t *payload, size_t payload_len,
@@ -169,8 +169,8 @@ uint32_t nifazombi_ipv6_write(
 // there are any.
 bool nifazombi_payload(const uint8_t *image, size_t image_len, nifazombi_span *span);
 
-// Checks whether bytes are an image of texts, in linear time. Returns 0 of an image, and else why they are none: one of the
-// numbers above; the index that belongs to it is put into `at`.
+// Checks whether bytes are an image of texts, in linear time. Returns 0 of an image, and else why they are none: one
+// of the numbers above; the index that belongs to it is put into `at`.
 uint32_t nifazombi_texts_check(const uint8_t *image, size_t image_len, size_t *at);
 
 // The count of pairs.
@@ -182,15 +182,16 @@ bool nifazombi_texts_pair_at(const uint8_t *image, size_t image_len, size_t at, 
 // The pair of a key, by its index and one more, or 0 where it isn't stored.
 size_t nifazombi_texts_get(const uint8_t *image, size_t image_len, const uint8_t *key, size_t key_len);
 
-// The pair of the longest stored key that is a prefix of some bytes, by its index and one more, or 0 where there is none.
+// The pair of the longest stored key that is a prefix of some bytes, by its index and one more, or 0 where there is
+// none.
 size_t nifazombi_texts_nearest(const uint8_t *image, size_t image_len, const uint8_t *key, size_t key_len);
 
-// The pair of the longest stored key that is a prefix of the key at an index, and not this one, by its index and one more,
-// or 0 where there is none. It is at most `at`, so a walk upward ends.
+// The pair of the longest stored key that is a prefix of the key at an index, and not this one, by its index and one
+// more, or 0 where there is none. It is at most `at`, so a walk upward ends.
 size_t nifazombi_texts_above(const uint8_t *image, size_t image_len, size_t at);
 
-// Puts the indices of the pairs whose keys are prefixes of some bytes into `found`, from the longest up, as many as it has
-// room for. Returns how many.
+// Puts the indices of the pairs whose keys are prefixes of some bytes into `found`, from the longest up, as many as it
+// has room for. Returns how many.
 size_t nifazombi_texts_prefixes(
     const uint8_t *image, size_t image_len,
     const uint8_t *key, size_t key_len,
@@ -212,13 +213,13 @@ void nifazombi_texts_between(
     const uint8_t *to, size_t to_len,
     nifazombi_span *span);
 
-// How many bytes the image of pairs takes, with so many bytes of the user's own, or 0 of 2^32 pairs or more, or as many bytes
-// of keys.
+// How many bytes the image of pairs takes, with so many bytes of the user's own, or 0 of 2^32 pairs or more, or as
+// many bytes of keys.
 size_t nifazombi_texts_image_len(const nifazombi_texts_pair *pairs, size_t pairs_len, size_t payload);
 
-// Writes the image of pairs whose keys rise in the order of their bytes, and of the user's own bytes, into `out`. Returns 0,
-// or why it couldn't: one of the numbers above; the index that belongs to it is put into `at`, and `out` is as before then.
-// Bytes behind the image stay as they are.
+// Writes the image of pairs whose keys rise in the order of their bytes, and of the user's own bytes, into `out`.
+// Returns 0, or why it couldn't: one of the numbers above; the index that belongs to it is put into `at`, and `out` is
+// as before then. Bytes behind the image stay as they are.
 uint32_t nifazombi_texts_write(
     const nifazombi_texts_pair *pairs, size_t pairs_len,
     const uint8_t *payload, size_t payload_len,

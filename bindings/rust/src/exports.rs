@@ -116,8 +116,8 @@ pub(crate) struct Span {
     pub(crate) count: usize,
 }
 
-/// Checks whether bytes are an image of IPv4 networks, in linear time. Returns 0 of an image, and else why they are none:
-/// one of the numbers above; the index that belongs to it is put into `at`.
+/// Checks whether bytes are an image of IPv4 networks, in linear time. Returns 0 of an image, and else why they are
+/// none: one of the numbers above; the index that belongs to it is put into `at`.
 #[inline]
 pub(crate) fn ipv4_check(image: &[u8], at: &mut usize) -> u32 {
     nifazombi_ipv4_check(image.as_ptr(), image.len(), at)
@@ -173,16 +173,16 @@ pub(crate) fn ipv4_image_len(rows: usize, payload: usize) -> usize {
     nifazombi_ipv4_image_len(rows, payload)
 }
 
-/// Writes the image of rows in order, by first address and then by bits, whose links count for nothing, and of the user's own
-/// bytes into `out`. Returns 0, or why it couldn't: one of the numbers above; the index that belongs to it is put into
-/// `at`, and `out` is as before then.
+/// Writes the image of rows in order, by first address and then by bits, whose links count for nothing, and of the
+/// user's own bytes into `out`. Returns 0, or why it couldn't: one of the numbers above; the index that belongs to it
+/// is put into `at`, and `out` is as before then.
 #[inline]
 pub(crate) fn ipv4_write(rows: &[Ipv4Row], payload: &[u8], out: &mut [u8], at: &mut usize) -> u32 {
     nifazombi_ipv4_write(rows.as_ptr(), rows.len(), payload.as_ptr(), payload.len(), out.as_mut_ptr(), out.len(), at)
 }
 
-/// Checks whether bytes are an image of IPv6 networks, in linear time. Returns 0 of an image, and else why they are none:
-/// one of the numbers above; the index that belongs to it is put into `at`.
+/// Checks whether bytes are an image of IPv6 networks, in linear time. Returns 0 of an image, and else why they are
+/// none: one of the numbers above; the index that belongs to it is put into `at`.
 #[inline]
 pub(crate) fn ipv6_check(image: &[u8], at: &mut usize) -> u32 {
     nifazombi_ipv6_check(image.as_ptr(), image.len(), at)
@@ -238,9 +238,9 @@ pub(crate) fn ipv6_image_len(rows: usize, payload: usize) -> usize {
     nifazombi_ipv6_image_len(rows, payload)
 }
 
-/// Writes the image of rows in order, by first address and then by bits, whose links count for nothing, and of the user's own
-/// bytes into `out`. Returns 0, or why it couldn't: one of the numbers above; the index that belongs to it is put into
-/// `at`, and `out` is as before then.
+/// Writes the image of rows in order, by first address and then by bits, whose links count for nothing, and of the
+/// user's own bytes into `out`. Returns 0, or why it couldn't: one of the numbers above; the index that belongs to it
+/// is put into `at`, and `out` is as before then.
 #[inline]
 pub(crate) fn ipv6_write(rows: &[Ipv6Row], payload: &[u8], out: &mut [u8], at: &mut usize) -> u32 {
     nifazombi_ipv6_write(rows.as_ptr(), rows.len(), payload.as_ptr(), payload.len(), out.as_mut_ptr(), out.len(), at)
@@ -253,8 +253,8 @@ pub(crate) fn payload(image: &[u8], span: &mut Span) -> bool {
     nifazombi_payload(image.as_ptr(), image.len(), span)
 }
 
-/// Checks whether bytes are an image of texts, in linear time. Returns 0 of an image, and else why they are none: one of the
-/// numbers above; the index that belongs to it is put into `at`.
+/// Checks whether bytes are an image of texts, in linear time. Returns 0 of an image, and else why they are none: one
+/// of the numbers above; the index that belongs to it is put into `at`.
 #[inline]
 pub(crate) fn texts_check(image: &[u8], at: &mut usize) -> u32 {
     nifazombi_texts_check(image.as_ptr(), image.len(), at)
@@ -278,21 +278,22 @@ pub(crate) fn texts_get(image: &[u8], key: &[u8]) -> usize {
     nifazombi_texts_get(image.as_ptr(), image.len(), key.as_ptr(), key.len())
 }
 
-/// The pair of the longest stored key that is a prefix of some bytes, by its index and one more, or 0 where there is none.
+/// The pair of the longest stored key that is a prefix of some bytes, by its index and one more, or 0 where there is
+/// none.
 #[inline]
 pub(crate) fn texts_nearest(image: &[u8], key: &[u8]) -> usize {
     nifazombi_texts_nearest(image.as_ptr(), image.len(), key.as_ptr(), key.len())
 }
 
-/// The pair of the longest stored key that is a prefix of the key at an index, and not this one, by its index and one more,
-/// or 0 where there is none. It is at most `at`, so a walk upward ends.
+/// The pair of the longest stored key that is a prefix of the key at an index, and not this one, by its index and one
+/// more, or 0 where there is none. It is at most `at`, so a walk upward ends.
 #[inline]
 pub(crate) fn texts_above(image: &[u8], at: usize) -> usize {
     nifazombi_texts_above(image.as_ptr(), image.len(), at)
 }
 
-/// Puts the indices of the pairs whose keys are prefixes of some bytes into `found`, from the longest up, as many as it has
-/// room for. Returns how many.
+/// Puts the indices of the pairs whose keys are prefixes of some bytes into `found`, from the longest up, as many as it
+/// has room for. Returns how many.
 #[inline]
 pub(crate) fn texts_prefixes(image: &[u8], key: &[u8], found: &mut [u32]) -> usize {
     nifazombi_texts_prefixes(image.as_ptr(), image.len(), key.as_ptr(), key.len(), found.as_mut_ptr(), found.len())
@@ -316,16 +317,16 @@ pub(crate) fn texts_between(image: &[u8], from: &[u8], to: &[u8], span: &mut Spa
     nifazombi_texts_between(image.as_ptr(), image.len(), from.as_ptr(), from.len(), to.as_ptr(), to.len(), span)
 }
 
-/// How many bytes the image of pairs takes, with so many bytes of the user's own, or 0 of 2^32 pairs or more, or as many bytes
-/// of keys.
+/// How many bytes the image of pairs takes, with so many bytes of the user's own, or 0 of 2^32 pairs or more, or as
+/// many bytes of keys.
 #[inline]
 pub(crate) fn texts_image_len(pairs: &[TextsPair<'_>], payload: usize) -> usize {
     nifazombi_texts_image_len(pairs.as_ptr(), pairs.len(), payload)
 }
 
-/// Writes the image of pairs whose keys rise in the order of their bytes, and of the user's own bytes, into `out`. Returns 0,
-/// or why it couldn't: one of the numbers above; the index that belongs to it is put into `at`, and `out` is as before then.
-/// Bytes behind the image stay as they are.
+/// Writes the image of pairs whose keys rise in the order of their bytes, and of the user's own bytes, into `out`.
+/// Returns 0, or why it couldn't: one of the numbers above; the index that belongs to it is put into `at`, and `out` is
+/// as before then. Bytes behind the image stay as they are.
 #[inline]
 pub(crate) fn texts_write(pairs: &[TextsPair<'_>], payload: &[u8], out: &mut [u8], at: &mut usize) -> u32 {
     nifazombi_texts_write(pairs.as_ptr(), pairs.len(), payload.as_ptr(), payload.len(), out.as_mut_ptr(), out.len(), at)

@@ -60,7 +60,8 @@ pub(crate) fn code_of(found: Result<(), ImageError>, at: &mut usize) -> u32
     }
 }
 
-/// The number of what a write has come to, 0 where the image is written. Where it tells an index, that is put into `at`.
+/// The number of what a write has come to, 0 where the image is written. Where it tells an index, that is put into
+/// `at`.
 pub(crate) fn status_of(written: Result<(), WriteError>, at: &mut usize) -> u32
     ensures { (result ≡ 0) ↔ IsOk written }
 {

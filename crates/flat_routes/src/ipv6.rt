@@ -8,7 +8,7 @@ ghost use Rattle.frozen_routes.specs.Routes.{IsLongestRow, IsOwnRow, is_inside};
 ghost use Rattle.image_parts.specs.Parts.{HoldsPayload, row_count};
 ghost use Rattle.flat_routes.specs.Faults.{IsRouteFault};
 ghost use Rattle.flat_routes.specs.Written.{CanWrite, ChangesWithin, IsWriteFault, image_size, link_from, row_from};
-ghost use Rattle.flat_routes.specs.Images.{IsImage, first_in, found_row, image_rows, link_in, network, numbered_row, of_ipv6, row6_of, row_in, row_size};
+ghost use Rattle.flat_routes.specs.Images.{IsImage, first_in, found_row, image_rows, link_in, network, numbered_row, octet_number, of_ipv6, row6_of, row_in, row_size};
 
 use crate::head::plan_of;
 use crate::rows::{bits_at, first_at, link_at, value_at};
@@ -136,16 +136,17 @@ pub fn look(image: &[u8], address: u128) -> Option<usize>
     search::look(image, true, address)
 }
 
-/// Looks up addresses as `look` does, as many as there are of both, and puts for each the index of its row and one
-/// more, or 0, into `found`. It returns how many.
-pub fn look_many(image: &[u8], addresses: &[u128], found: &mut [u32]) -> usize
+/// Looks up addresses, in network order, as `look` does, as many as there are of both, and puts for each the index of its
+/// row and one more, or 0, into `found`. It returns how many.
+pub fn look_many(image: &[u8], addresses: &[[u8; 16]], found: &mut [u32]) -> usize
     ensures count { result ≤ min (length addresses.now) (length found.new) }
     ensures all { IsImage of_ipv6 image.now
         → result ≡ min (length addresses.now) (length found.new) }
     ensures rest { (k : ℕ) → result ≤ k
         → slice_index found.new k ≡ slice_index found.old k }
     ensures rows { IsImage of_ipv6 image.now → (k : ℕ) → k < result
-        → IsLongestRow 128 (λ n. n) (image_rows of_ipv6 image.now) (slice_index addresses.now k)
+        → IsLongestRow 128 (λ n. n) (image_rows of_ipv6 image.now)
+        (slice_index (each octet_number addresses.now) k)
         (found_row of_ipv6 image.now (slice_index found.new k)) }
 {
     let Some(plan) = plan_of(image, true) else {
@@ -153,7 +154,7 @@ pub fn look_many(image: &[u8], addresses: &[u128], found: &mut [u32]) -> usize
     };
     let count = addresses.len().min(found.len());
     for i in 0..count {
-        found[i] = find(image, true, plan, addresses[i]) as u32;
+        found[i] = find(image, true, plan, u128::from_be_bytes(addresses[i])) as u32;
     }
     count
 }

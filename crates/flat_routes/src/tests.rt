@@ -313,8 +313,12 @@ fn written_image_of_ipv6(rt: HostRuntime) {
     let mut out = [0u8; 248];
     assert!(rt; ipv6::write(&rows, &[], &mut out) == Ok(()));
     assert!(rt; out[88..] == IPV6[64..224]);
+    let addresses = [
+        [0u8; 16],
+        ((0x2001_0db8u128 << 96) + (1u128 << 64)).to_be_bytes(),
+    ];
     let mut found = [9u32; 2];
-    let count = ipv6::look_many(&out, &[0, (0x2001_0db8 << 96) + (1 << 64)], &mut found);
+    let count = ipv6::look_many(&out, &addresses, &mut found);
     assert!(rt; count == 2 && found == [1, 4]);
 }
 

@@ -64,6 +64,8 @@ pub extern "C" fn nifazombi_ipv4_look_many(
     ensures count { result ≤ min (length addresses.now) (length found.new) }
     ensures all { IsImage of_ipv4 image.now
         → result ≡ min (length addresses.now) (length found.new) }
+    ensures rest { (k : ℕ) → result ≤ k
+        → slice_index found.new k ≡ slice_index found.old k }
     ensures rows { IsImage of_ipv4 image.now → (k : ℕ) → k < result
         → IsLongestRow 32 (λ n. n) (image_rows of_ipv4 image.now) (slice_index addresses.now k)
         (found_row of_ipv4 image.now (slice_index found.new k)) }

@@ -62,17 +62,17 @@ pub extern "C" fn nifazombi_ipv6_look_many(
     addresses: &[[u8; 16]],
     found: &mut [u32],
 ) -> usize
-    ensures count { result ≡ min (length addresses.now) (length found.new) }
+    ensures count { result ≤ min (length addresses.now) (length found.new) }
+    ensures all { IsImage of_ipv6 image.now
+        → result ≡ min (length addresses.now) (length found.new) }
+    ensures rest { (k : ℕ) → result ≤ k
+        → slice_index found.new k ≡ slice_index found.old k }
     ensures rows { IsImage of_ipv6 image.now → (k : ℕ) → k < result
         → IsLongestRow 128 (λ n. n) (image_rows of_ipv6 image.now)
         (slice_index (each octet_number addresses.now) k)
         (found_row of_ipv6 image.now (slice_index found.new k)) }
 {
-    let count = addresses.len().min(found.len());
-    for i in 0..count {
-        found[i] = nifazombi_ipv6_look(image, &addresses[i]) as u32;
-    }
-    count
+    ipv6::look_many(image, addresses, found)
 }
 
 /// The row of this very network, by its index and one more, or 0 where no row is of it.

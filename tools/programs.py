@@ -110,13 +110,37 @@ class Archive(Program):
         return os.path.isfile(self.path)
 
 
-def build_archives(crate):
-    """Builds the library in its crate's folder by both compilers, whose archives have one name: that of LLVM is moved
-    aside. What went wrong, if anything."""
-    for words in (["rt", "lib"], Archive.COMMAND):
-        done = ran(words, cwd=crate, text=True)
+def over_built(kit, top, crate, uses):
+    """What the toolchain's rattle is told of a crate, to read it over the libraries that were built in a checkout."""
+    def rlib(name):
+        return f"{top}/crates/{name}/out/rlib/{name}.rlib" if name in uses else f"{kit}/rlibs/{name}.rlib"
+
+    words = ["--crate-name", crate, "--links", f"{crate}="]
+    words += ["--antt-project", f"{kit}/rattle/logic/antt-project.json", "--logic-built", f"{kit}/logic_built"]
+    for name in ["std", *uses[crate]]:
+        words += ["--extern", f"{name}={rlib(name)}"]
+    for folder in [f"{kit}/rlibs", *(os.path.dirname(rlib(it)) for it in below(crate, uses))]:
+        words += ["-L", f"dependency={folder}"]
+    return words
+
+
+def kit_folder():
+    """The toolchain's folder."""
+    found = ran(["rt", "doc"], text=True)
+    if found.returncode:
+        raise Refused(f"rt doc: {found.stderr.strip()}")
+    return os.path.dirname(found.stdout.strip())
+
+
+def build_archives(top):
+    """Builds the library for other languages by both compilers, over the libraries that `rt ci` has left in a checkout.
+    What went wrong, if anything."""
+    kit, crate = kit_folder(), f"{top}/crates/nifazombi_c"
+    words = [f"{kit}/bin/rattle", "build", "src/lib.rt", "--crate-type", "staticlib", "--toolchain", f"{kit}/toolchain"]
+    words += over_built(kit, top, "nifazombi_c", uses_of_crates())
+    for compiler, ending in (("llvm", BY_LLVM), ("rattle", "")):
+        os.makedirs(f"{crate}/out", exist_ok=True)
+        done = ran([*words, "--backend", compiler, "-o", f"{ARCHIVE}{ending}"], cwd=crate, text=True)
         if done.returncode:
-            return f"{' '.join(words)}: {done.stdout[-2000:]}{done.stderr[-2000:]}"
-        if words != Archive.COMMAND:
-            os.replace(f"{crate}/{ARCHIVE}", f"{crate}/{ARCHIVE}{BY_LLVM}")
+            return f"{compiler}: {done.stdout[-2000:]}{done.stderr[-2000:]}"
     return ""

@@ -16,7 +16,7 @@ WORDS = {SHELL: ["--strict"], "route_tool": ["--read-on"]}
 class Program:
     """A program of this checkout."""
 
-    COMMAND = ["rt", "run"]
+    COMMAND, KIND = ["rt", "run"], "program"
 
     def __init__(self, name):
         self.name, self.crate = name, f"{ROOT}/crates/{name}"
@@ -94,13 +94,13 @@ class Program:
                     said += line
         if builder.returncode or not self.is_built():
             self.say(said.strip())
-            raise Refused(f"{self.name} could not be built: rt ended with status {builder.returncode}")
+            raise Refused(f"the {self.KIND} could not be built: rt ended with status {builder.returncode}")
 
 
 class Archive(Program):
     """The static library for other languages, as Rattle's own compiler makes it."""
 
-    COMMAND = ["rt", "lib", "--backend", "rattle"]
+    COMMAND, KIND = ["rt", "lib", "--backend", "rattle"], "library"
 
     def __init__(self):
         super().__init__("nifazombi_c")

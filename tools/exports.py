@@ -57,9 +57,9 @@ def sources():
     return [(module, text_of(it)) for module, it in (*BELOW.items(), *own.items())]
 
 
-def comment(lines, by, behind=""):
-    """A comment's lines with another beginning, and behind each name of a call nothing but that."""
-    return re.sub(r"^/// ?", lambda _: f"{behind}{by}", lines, flags=re.M).replace(f"{by}\n", f"{by.rstrip()}\n")
+def comment(lines, by):
+    """A comment's lines with another beginning."""
+    return re.sub(r"^/// ?", by, lines, flags=re.M).replace(f"{by}\n", f"{by.rstrip()}\n")
 
 
 def structs():
@@ -140,7 +140,7 @@ def rust_type(kind, module, known):
 def rust_field(name, kind, module, known):
     if kind == "&'a [u8]":
         return f"    {name}: *const u8,\n    {name}_len: usize,\n"
-    return f"    {'pub(crate) '}{name}: {rust_type(kind, module, known)},\n"
+    return f"    pub(crate) {name}: {rust_type(kind, module, known)},\n"
 
 
 def rust_passed(name, kind, module, known):

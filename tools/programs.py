@@ -17,6 +17,7 @@ class Program:
     """A program of this checkout."""
 
     COMMAND, KIND = ["rt", "run"], "program"
+    OTHERWISE = "; --unproved runs it within minutes, slowly, with nothing proved"
 
     def __init__(self, name):
         self.name, self.crate = name, f"{ROOT}/crates/{name}"
@@ -72,7 +73,7 @@ class Program:
     def make(self):
         """Builds the program, one build in this checkout at a time, unless another one has done so meanwhile."""
         self.say("proving and building it and the crates below it, once: that takes a quarter of an hour to an hour on "
-                 "four processors, and 4 GB of disk; --unproved runs it within minutes, slowly, with nothing proved")
+                 f"four processors, and 4 GB of disk{self.OTHERWISE}")
         os.makedirs(f"{ROOT}/out", exist_ok=True)
         turn = os.open(f"{ROOT}/out/launcher.lock", os.O_CREAT | os.O_NOFOLLOW | os.O_NONBLOCK, 0o600)
         take_turn(turn, lambda: self.say("another build is under way in this checkout: waiting for that"))
@@ -100,7 +101,7 @@ class Program:
 class Archive(Program):
     """The static library for other languages, as Rattle's own compiler makes it."""
 
-    COMMAND, KIND = ["rt", "lib", "--backend", "rattle"], "library"
+    COMMAND, KIND, OTHERWISE = ["rt", "lib", "--backend", "rattle"], "library", ""
 
     def __init__(self):
         super().__init__("nifazombi_c")

@@ -1,5 +1,5 @@
 //! Images of IPv4 networks. An address is a number: 192.0.2.1 is 0xc0000201.
-ghost use Rattle.std.specs.Prelude.{◌≡◌, ◌↔◌, ◌<◌, ◌≤◌, ◌+◌, ℕ, IsTrue, MatchOption, drop, length, min, slice_get, slice_index, take, Some, ◌^◌, map as each};
+ghost use Rattle.std.specs.Prelude.{◌≡◌, ◌↔◌, ◌<◌, ◌≤◌, ◌+◌, ℕ, IsFalse, IsTrue, MatchOption, drop, length, min, slice_get, slice_index, take, None, Some, ◌^◌, map as each};
 ghost use Rattle.std.specs.List.{filter};
 ghost use Rattle.radix_keys.specs.Networks.{Net};
 ghost use Rattle.image_parts.specs.Parts.{HoldsPayload, row_count};
@@ -32,6 +32,9 @@ pub extern "C" fn nifazombi_ipv4_len(image: &[u8]) -> usize
 pub extern "C" fn nifazombi_ipv4_row_at(image: &[u8], at: usize, row: &mut Row) -> bool
     ensures row { IsTrue result → IsImage of_ipv4 image.now
         → slice_get (image_rows of_ipv4 image.now) at ≡ Some (row4_of row.new) }
+    ensures none { IsFalse result → IsImage of_ipv4 image.now
+        → slice_get (image_rows of_ipv4 image.now) at ≡ None }
+    ensures unchanged { IsFalse result → row.new ≡ row.old }
 {
     let Some(found) = ipv4::row_at(image, at) else {
         return false;

@@ -1,5 +1,5 @@
 //! Images of IPv6 networks. An address is its 16 octets in network order, as in `struct in6_addr`.
-ghost use Rattle.std.specs.Prelude.{◌≡◌, ◌↔◌, ◌<◌, ◌≤◌, ◌+◌, ℕ, IsTrue, MatchOption, Some, drop, length, min, slice_get, slice_index, take, map as each, ◌^◌};
+ghost use Rattle.std.specs.Prelude.{◌≡◌, ◌↔◌, ◌<◌, ◌≤◌, ◌+◌, ℕ, IsFalse, IsTrue, MatchOption, None, Some, drop, length, min, slice_get, slice_index, take, map as each, ◌^◌};
 ghost use Rattle.std.specs.List.{filter};
 ghost use Rattle.radix_keys.specs.Networks.{Net};
 ghost use Rattle.image_parts.specs.Parts.{HoldsPayload, row_count};
@@ -32,6 +32,9 @@ pub extern "C" fn nifazombi_ipv6_len(image: &[u8]) -> usize
 pub extern "C" fn nifazombi_ipv6_row_at(image: &[u8], at: usize, row: &mut Row) -> bool
     ensures row { IsTrue result → IsImage of_ipv6 image.now
         → slice_get (image_rows of_ipv6 image.now) at ≡ Some (row6_of row.new) }
+    ensures none { IsFalse result → IsImage of_ipv6 image.now
+        → slice_get (image_rows of_ipv6 image.now) at ≡ None }
+    ensures unchanged { IsFalse result → row.new ≡ row.old }
 {
     let Some(found) = ipv6::row_at(image, at) else {
         return false;

@@ -1,5 +1,5 @@
 //! What calls put into their callers' memory, and what the numbers mean that they return.
-ghost use Rattle.std.specs.Prelude.{◌≡◌, ◌↔◌, ◌+◌, ◌≤◌, IsOk, IsTrue, MatchOption, length};
+ghost use Rattle.std.specs.Prelude.{◌≡◌, ◌↔◌, ◌+◌, ◌≤◌, ℕ, IsOk, IsFalse, IsTrue, MatchOption, length};
 ghost use Rattle.image_parts.specs.Parts.{IsPayload};
 
 use image_parts::{ImageError, WriteError, payload};
@@ -82,6 +82,8 @@ pub(crate) fn status_of(written: Result<(), WriteError>, at: &mut usize) -> u32
 pub extern "C" fn nifazombi_payload(image: &[u8], span: &mut Span) -> bool
     ensures found { IsTrue result → IsPayload image.now span.new.first span.new.count }
     ensures inside { IsTrue result → span.new.first + span.new.count ≤ length image.now }
+    ensures none { IsFalse result → (place size : ℕ) → IsPayload image.now place size → ⊥ }
+    ensures unchanged { IsFalse result → span.new ≡ span.old }
 {
     let Some((first, count)) = payload(image) else {
         return false;

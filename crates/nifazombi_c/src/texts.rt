@@ -1,5 +1,5 @@
 //! Images of maps from byte strings to numbers of 64 bits.
-ghost use Rattle.std.specs.Prelude.{◌≡◌, ◌↔◌, ◌<◌, ◌≤◌, ◌+◌, ◌^◌, ◌∷◌, ℕ, IsTrue, Some, [], drop, length, map as each, option_map, reverse, slice_get, slice_index, take};
+ghost use Rattle.std.specs.Prelude.{◌≡◌, ◌↔◌, ◌<◌, ◌≤◌, ◌+◌, ◌^◌, ◌∷◌, ℕ, IsFalse, IsTrue, None, Some, [], drop, length, map as each, option_map, reverse, slice_get, slice_index, take};
 ghost use Rattle.std.specs.declared.ops.Bound.TheVariants.{Excluded, Included};
 ghost use Rattle.nibble_map.specs.Maps.{value_at};
 ghost use Rattle.nibble_map.specs.Nibbles.{nibbles};
@@ -36,6 +36,9 @@ pub extern "C" fn nifazombi_texts_pair_at(image: &[u8], at: usize, place: &mut P
     ensures inside { IsTrue result → place.new.first + place.new.len ≤ length image.now }
     ensures pair { IsTrue result → IsTextImage image.now
         → slice_get (image_pairs image.now) at ≡ Some (placed_pair image.now place.new) }
+    ensures none { IsFalse result → IsTextImage image.now
+        → slice_get (image_pairs image.now) at ≡ None }
+    ensures unchanged { IsFalse result → place.new ≡ place.old }
 {
     let Some(found) = flat_texts::place_at(image, at) else {
         return false;

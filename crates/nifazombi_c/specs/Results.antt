@@ -1,7 +1,19 @@
 -- What the numbers mean that calls return.
 use Rattle.std.specs.Prelude.{ℕ, zero, suc, Option, None, Some}
+use Rattle.image_parts.specs.declared.errors.ImageError.{ImageError}
+use Rattle.image_parts.specs.declared.errors.ImageError.TheVariants.{Cell, Mark, Part, Row, Short, Version}
 
 -- the index that a lookup tells by one more, or None by 0
 abbrev pub told_index : ℕ → Option ℕ
 told_index zero = None
 told_index (suc i) = Some i
+
+-- what a check tells by a number and an index
+abbrev pub told_error : ℕ → ℕ → Option ImageError
+told_error (suc zero) at = Some Short
+told_error (suc (suc zero)) at = Some Mark
+told_error (suc (suc (suc zero))) at = Some Version
+told_error (suc (suc (suc (suc zero)))) at = Some (Part at)
+told_error (suc (suc (suc (suc (suc zero))))) at = Some (Row at)
+told_error (suc (suc (suc (suc (suc (suc zero)))))) at = Some (Cell at)
+told_error n at = None

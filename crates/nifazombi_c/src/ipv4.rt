@@ -1,11 +1,13 @@
 //! Images of IPv4 networks. An address is a number: 192.0.2.1 is 0xc0000201.
-ghost use Rattle.std.specs.Prelude.{◌≡◌, ◌↔◌, ◌<◌, ◌≤◌, ◌+◌, ℕ, IsFalse, IsTrue, MatchOption, drop, length, min, slice_get, slice_index, take, None, Some, ◌^◌, map as each};
+ghost use Rattle.std.specs.Prelude.{◌≡◌, ◌↔◌, ◌⊎◌, ◌<◌, ◌≤◌, ◌+◌, ℕ, IsFalse, IsSomeAnd, IsTrue, MatchOption, drop, length, min, slice_get, slice_index, take, None, Some, ◌^◌, map as each};
 ghost use Rattle.std.specs.List.{filter};
 ghost use Rattle.radix_keys.specs.Networks.{Net};
 ghost use Rattle.image_parts.specs.Parts.{HoldsPayload, row_count};
 ghost use Rattle.frozen_routes.specs.Routes.{IsLongestRow, IsOwnRow, is_inside};
 ghost use Rattle.flat_routes.specs.Written.{CanWrite, ChangesWithin, image_size};
+ghost use Rattle.flat_routes.specs.Faults.{IsRouteFault};
 ghost use Rattle.flat_routes.specs.Images.{IsImage, first_in, found_row, image_rows, network, of_ipv4, row4_of};
+ghost use Rattle.nifazombi_c.specs.Results.{told_error};
 
 use crate::results::{Span, code_of, status_of};
 use flat_routes::ipv4::{self, Row};
@@ -14,7 +16,8 @@ use flat_routes::ipv4::{self, Row};
 /// none: one of the numbers above; the index that belongs to it is put into `at`.
 #[unsafe(no_mangle)]
 pub extern "C" fn nifazombi_ipv4_check(image: &[u8], at: &mut usize) -> u32
-    ensures { (result ≡ 0) ↔ IsImage of_ipv4 image.now }
+    ensures image { (result ≡ 0) ↔ IsImage of_ipv4 image.now }
+    ensures fault { (result ≡ 0) ⊎ IsSomeAnd (told_error result at.new) (IsRouteFault of_ipv4 image.now) }
 {
     code_of(ipv4::check(image), at)
 }

@@ -1,11 +1,13 @@
 //! Images of IPv6 networks. An address is its 16 octets in network order, as in `struct in6_addr`.
-ghost use Rattle.std.specs.Prelude.{◌≡◌, ◌↔◌, ◌<◌, ◌≤◌, ◌+◌, ℕ, IsFalse, IsTrue, MatchOption, None, Some, drop, length, min, slice_get, slice_index, take, map as each, ◌^◌};
+ghost use Rattle.std.specs.Prelude.{◌≡◌, ◌↔◌, ◌⊎◌, ◌<◌, ◌≤◌, ◌+◌, ℕ, IsFalse, IsSomeAnd, IsTrue, MatchOption, None, Some, drop, length, min, slice_get, slice_index, take, map as each, ◌^◌};
 ghost use Rattle.std.specs.List.{filter};
 ghost use Rattle.radix_keys.specs.Networks.{Net};
 ghost use Rattle.image_parts.specs.Parts.{HoldsPayload, row_count};
 ghost use Rattle.frozen_routes.specs.Routes.{IsLongestRow, IsOwnRow, is_inside};
 ghost use Rattle.flat_routes.specs.Written.{CanWrite, ChangesWithin, image_size};
+ghost use Rattle.flat_routes.specs.Faults.{IsRouteFault};
 ghost use Rattle.flat_routes.specs.Images.{IsImage, first_in, found_row, image_rows, network, octet_number, of_ipv6, row6_of};
+ghost use Rattle.nifazombi_c.specs.Results.{told_error};
 
 use crate::results::{Span, code_of, status_of};
 use flat_routes::ipv6::{self, Row};
@@ -14,7 +16,8 @@ use flat_routes::ipv6::{self, Row};
 /// none: one of the numbers above; the index that belongs to it is put into `at`.
 #[unsafe(no_mangle)]
 pub extern "C" fn nifazombi_ipv6_check(image: &[u8], at: &mut usize) -> u32
-    ensures { (result ≡ 0) ↔ IsImage of_ipv6 image.now }
+    ensures image { (result ≡ 0) ↔ IsImage of_ipv6 image.now }
+    ensures fault { (result ≡ 0) ⊎ IsSomeAnd (told_error result at.new) (IsRouteFault of_ipv6 image.now) }
 {
     code_of(ipv6::check(image), at)
 }

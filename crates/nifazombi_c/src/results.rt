@@ -1,6 +1,7 @@
 //! What calls put into their callers' memory, and what the numbers mean that they return.
-ghost use Rattle.std.specs.Prelude.{◌≡◌, ◌↔◌, ◌+◌, ◌≤◌, ℕ, IsOk, IsFalse, IsTrue, MatchOption, length};
+ghost use Rattle.std.specs.Prelude.{◌≡◌, ◌↔◌, ◌+◌, ◌≤◌, ℕ, IfErr, IsOk, Some, IsFalse, IsTrue, MatchOption, length};
 ghost use Rattle.image_parts.specs.Parts.{IsPayload};
+ghost use Rattle.nifazombi_c.specs.Results.{told_error};
 
 use image_parts::{ImageError, WriteError, payload};
 
@@ -38,7 +39,8 @@ pub struct Span {
 
 /// The number of what a check has found, 0 of an image. Where it tells an index, that is put into `at`.
 pub(crate) fn code_of(found: Result<(), ImageError>, at: &mut usize) -> u32
-    ensures { (result ≡ 0) ↔ IsOk found }
+    ensures ok { (result ≡ 0) ↔ IsOk found }
+    ensures error { IfErr found (λ e. told_error result at.new ≡ Some e) }
 {
     match found {
         Ok(()) => 0,

@@ -1,14 +1,14 @@
 //! Images of maps from byte strings to numbers of 64 bits.
-ghost use Rattle.std.specs.Prelude.{◌≡◌, ◌↔◌, ◌<◌, ◌≤◌, ◌+◌, ◌^◌, ◌∷◌, ℕ, IsFalse, IsTrue, None, Some, [], drop, length, map as each, option_map, reverse, slice_get, slice_index, take};
+ghost use Rattle.std.specs.Prelude.{◌≡◌, ◌↔◌, ◌⊎◌, ◌<◌, ◌≤◌, ◌+◌, ◌^◌, ◌∷◌, ℕ, IsFalse, IsSomeAnd, IsTrue, None, Some, [], drop, length, map as each, option_map, reverse, slice_get, slice_index, take};
 ghost use Rattle.std.specs.declared.ops.Bound.TheVariants.{Excluded, Included};
 ghost use Rattle.nibble_map.specs.Maps.{value_at};
 ghost use Rattle.nibble_map.specs.Nibbles.{nibbles};
 ghost use Rattle.radix_trie.specs.Views.{IsPairAbove, pairs_above, pairs_before, pairs_below, pairs_within};
 ghost use Rattle.frozen_trie.specs.Frozen.{prefixes_up};
 ghost use Rattle.image_parts.specs.Parts.{HoldsPayload, row_count};
-ghost use Rattle.flat_texts.specs.TextImages.{IsTextImage, given_pair, image_map, image_pairs, pair_in, placed_pair, stored_value};
+ghost use Rattle.flat_texts.specs.TextImages.{IsImageFault, IsTextImage, given_pair, image_map, image_pairs, pair_in, placed_pair, stored_value};
 ghost use Rattle.flat_texts.specs.TextWritten.{CanWriteTexts, keys_len, text_image_size};
-ghost use Rattle.nifazombi_c.specs.Results.{told_index};
+ghost use Rattle.nifazombi_c.specs.Results.{told_error, told_index};
 
 use crate::results::{Span, code_of, status_of};
 use flat_texts::{Pair, Place};
@@ -17,7 +17,8 @@ use flat_texts::{Pair, Place};
 /// of the numbers above; the index that belongs to it is put into `at`.
 #[unsafe(no_mangle)]
 pub extern "C" fn nifazombi_texts_check(image: &[u8], at: &mut usize) -> u32
-    ensures { (result ≡ 0) ↔ IsTextImage image.now }
+    ensures image { (result ≡ 0) ↔ IsTextImage image.now }
+    ensures fault { (result ≡ 0) ⊎ IsSomeAnd (told_error result at.new) (IsImageFault image.now) }
 {
     code_of(flat_texts::check(image), at)
 }

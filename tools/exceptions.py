@@ -55,8 +55,7 @@ STANDS_FOR = {
                  "write_members for add_object",
     "route_tool": "line_sessions run for answer_all answer_each; wrong_with_text for wrong_with; Routes::find for Routes::look; "
                   "radix_trie Trie::compact for Routes::compact; radix_trie AnyTrieCommon::cursor for Routes::rest; "
-                  "radix_trie AnyTrieCommon::iter for Routes::walk; "
-                  "radix_trie Trie::get_raw_descendant for Routes::below",
+                  "radix_trie Trie::get_raw_descendant for Routes::below; open_family for open Routes::of_rows",
 }
 
 # Calls with no wrong body, by the reason.
@@ -72,7 +71,7 @@ NO_EDIT = {
                       "PathList::into_nibbles",
         "trie_set": "TrieSet::new TrieSet::from_trie TrieSet::into_trie TrieSet::as_trie",
         "trie_tool": "Numbers::new",
-        "route_tool": "Hop::as_bytes Frozen::new Routes::new Table::new",
+        "route_tool": "Hop::as_bytes Frozen::new Frozen::of_rows Frozen::rows Routes::new Table::new",
     },
     "it is a trait's, and each program has a body of its own": {"line_sessions": "Program::answer"},
     "it has one, `pair_of_the_first_key_twice`, but what stands in a tuple's impl has no path": {
@@ -83,4 +82,4 @@ NO_EDIT = {
 # Functions that make an error for memory where no call was refused: a tree of more levels than `usize` counts, which
 # no memory holds; encodings of 2^31 bytes; a network with bits behind its first ones, which there is none of; and what
 # the system says of a file.
-MADE_REFUSALS = {"radix_trie": "row_height", "frozen_trie": "push append_to", "route_tool": "from"}
+MADE_REFUSALS = {"radix_trie": "row_height", "frozen_trie": "push append_to", "whole_files": "from"}

@@ -41,11 +41,11 @@ def cells_of(networks, width):
     return rest, cells
 
 
-def routes_image(routes, payload=b""):
+def routes_image(routes, payload=b"", is_wide=None):
     """The image of a table of one family: networks and their values, in any order."""
     each = sorted(routes, key=lambda it: (int(it[0].network_address), it[0].prefixlen))
     networks = [network for network, _ in each]
-    is_wide = bool(networks) and networks[0].version == 6
+    is_wide = networks[0].version == 6 if networks else is_wide
     up, rows = links(networks, lambda one, other: one.supernet_of(other)), b""
     for (network, value), link in zip(each, up):
         first = int(network.network_address)

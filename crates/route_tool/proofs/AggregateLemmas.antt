@@ -295,7 +295,7 @@ module _ {A : Type 0} (w : ℕ) (number : A → ℕ) (m : Routes A) (networks : 
       }
 
 -- one more pair of each list
-zip_more : {X Y : Type 0} (R : Y → X → Type 0) (ys : List Y) (xs : List X) (y : Y) (x : X) → AllZip R ys xs → R y x → AllZip R (ys ++ y ∷ []) (xs ++ x ∷ [])
+pub zip_more : {X Y : Type 0} (R : Y → X → Type 0) (ys : List Y) (xs : List X) (y : Y) (x : X) → AllZip R ys xs → R y x → AllZip R (ys ++ y ∷ []) (xs ++ x ∷ [])
 zip_more R [] [] y x zip is = (is, tt)
 zip_more R [] (b ∷ xs) y x zip is = absurd zip
 zip_more R (a ∷ ys) [] y x zip is = absurd zip

@@ -1,5 +1,5 @@
 -- What a line asks for.
-use Rattle.std.proofs.Common.{◌≡◌, ◌≢◌, ◌∙◌, ◌⊎◌, inl, inr, Bool, true, false, bytes_eq, not, ◌==◌, true≢false, if◌then◌else◌, ℕ, suc, ◌<◌, ◌≤◌, [], ◌∷◌, ◌++◌, List, Some, None, EachIndex, length, get_or, arith, refl, sym, ap, subst, lit<, codes, length-append, decimal, append_assoc, zero, ◌^◌}
+use Rattle.std.proofs.Common.{◌≡◌, ◌≢◌, ◌∙◌, ◌⊎◌, inl, inr, Bool, true, false, bytes_eq, not, ◌==◌, true≢false, if◌then◌else◌, ℕ, suc, ◌+◌, ◌*◌, ◌<◌, ◌≤◌, [], ◌∷◌, ◌++◌, List, Some, None, EachIndex, length, get_or, arith, refl, sym, ap, subst, lit<, codes, length-append, decimal, append_assoc, zero, ◌^◌}
 use Rattle.std.specs.Borrow.{Bor}
 use Rattle.std.specs.Net.Addr.{ipv4_bits, ipv6_bits}
 use Rattle.std.specs.Net.Grammar.{IsIpv4Text, IsIpv6Text}
@@ -16,10 +16,12 @@ use Rattle.std.proofs.lemmas.Str.Pattern.{IsSplitOnceResult, split_after, split_
 use Rattle.radix_keys.specs.Networks.{Net, IsNetText, IsParted}
 use Rattle.radix_keys.proofs.NetworkLemmas.{no_slash}
 use Rattle.route_tool.specs.Commands.{word_text}
+use Rattle.route_tool.specs.declared.command.FileCall.{FileCall}
+use Rattle.route_tool.specs.declared.command.FileCall.TheVariants as on
 use Rattle.route_tool.specs.declared.command.Word.{Word}
 use Rattle.route_tool.specs.declared.command.Word.TheVariants as word
 use Rattle.route_tool.specs.Reasons.{IsWorded, ShowsHop}
-use Rattle.route_tool.specs.Requests.{Request, Add, Del, Below, Look, Find, Asked, V4, V6, Len, All, Dump, Aggregate, Compact, Load, Help, Comment, Asks, HasDotEarly, IsAddition, IsHop, IsTarget, IsTextRequest, MayBeIpv4, Says, WritesNetwork, in_full, word_of}
+use Rattle.route_tool.specs.Requests.{Request, Add, Del, Below, Look, Find, Asked, V4, V6, Len, All, Dump, Aggregate, Compact, OnFile, Help, Comment, Asks, HasDotEarly, IsAddition, IsHop, IsTarget, IsTextRequest, MayBeIpv4, Says, WritesNetwork, file_word, in_full, word_of}
 
 -- no part of a text stands before a byte that isn't found
 not_parted : (c : ℕ) (s a b : List ℕ) → IsSplitOnceResult c s None → c < 128 → ¬ (IsParted c s a b)
@@ -85,19 +87,54 @@ no_hash text word.Find rest (is, _) = λ e. omega (arith, ap (λ (l : List ℕ).
 pub no_space_in : (text front rest bare : List ℕ) → IsParted 32 text front rest → text ≡ bare → list_all (λ b. not (b == 32)) bare ≡ true → ⊥
 no_space_in text front rest bare parted is free = has_byte 32 text front rest parted (subst (λ l. EachIndex l (λ i. get_or l i 0 ≢ 32)) (sym is) (free_of 32 bare free))
 
--- no word is load
-not_load : (word : Word) → word_text word ≡ codes "load" → ⊥
-not_load word.Look e = omega (arith, ap (λ (l : List ℕ). get_or l 2 0) e)
-not_load word.Add e = omega (arith, ap (λ (l : List ℕ). get_or l 0 0) e)
-not_load word.Del e = omega (arith, ap (λ (l : List ℕ). get_or l 0 0) e)
-not_load word.Below e = omega (arith, ap (λ (l : List ℕ). get_or l 0 0) e)
-not_load word.Find e = omega (arith, ap (λ (l : List ℕ). get_or l 0 0) e)
+-- the third letter and the first tell the words for files from those of requests, and the last one from one another
+letters : List ℕ → ℕ
+letters l = get_or l 0 0 + 256 * get_or l 2 0
 
--- what begins with load asks for nothing else
-pub load_apart : {A : Type 0} (text : List ℕ) (r : Request A) (rest path : List ℕ) → IsParted 32 text (word_of r) rest → IsParted 32 text (codes "load") path → ⊥
-load_apart text r rest path p q =
+not_file : (word : Word) (call : FileCall) → word_text word ≡ file_word call → ⊥
+unfolding letters
+not_file word.Add on.Load e = omega (arith, ap letters e)
+not_file word.Add on.Open e = omega (arith, ap letters e)
+not_file word.Add on.WriteIpv4 e = omega (arith, ap letters e)
+not_file word.Add on.WriteIpv6 e = omega (arith, ap letters e)
+not_file word.Del on.Load e = omega (arith, ap letters e)
+not_file word.Del on.Open e = omega (arith, ap letters e)
+not_file word.Del on.WriteIpv4 e = omega (arith, ap letters e)
+not_file word.Del on.WriteIpv6 e = omega (arith, ap letters e)
+not_file word.Below on.Load e = omega (arith, ap letters e)
+not_file word.Below on.Open e = omega (arith, ap letters e)
+not_file word.Below on.WriteIpv4 e = omega (arith, ap letters e)
+not_file word.Below on.WriteIpv6 e = omega (arith, ap letters e)
+not_file word.Look on.Load e = omega (arith, ap letters e)
+not_file word.Look on.Open e = omega (arith, ap letters e)
+not_file word.Look on.WriteIpv4 e = omega (arith, ap letters e)
+not_file word.Look on.WriteIpv6 e = omega (arith, ap letters e)
+not_file word.Find on.Load e = omega (arith, ap letters e)
+not_file word.Find on.Open e = omega (arith, ap letters e)
+not_file word.Find on.WriteIpv4 e = omega (arith, ap letters e)
+not_file word.Find on.WriteIpv6 e = omega (arith, ap letters e)
+
+pub one_file_call : (call too : FileCall) → file_word call ≡ file_word too → call ≡ too
+one_file_call on.Load on.Load e = refl
+one_file_call on.Open on.Open e = refl
+one_file_call on.WriteIpv4 on.WriteIpv4 e = refl
+one_file_call on.WriteIpv6 on.WriteIpv6 e = refl
+one_file_call on.WriteIpv4 on.WriteIpv6 e = absurd (omega (arith, ap (λ (l : List ℕ). get_or l 9 0) e))
+one_file_call on.WriteIpv6 on.WriteIpv4 e = absurd (omega (arith, ap (λ (l : List ℕ). get_or l 9 0) e))
+one_file_call call too e = absurd (omega (arith, ap (λ (l : List ℕ). get_or l 0 0) e))
+
+-- what is asked of a file is no comment
+pub file_no_hash : (text : List ℕ) (call : FileCall) (path : List ℕ) → IsParted 32 text (file_word call) path → get_or text 0 0 ≢ 35
+file_no_hash text on.Load path (is, _) = λ e. omega (arith, ap (λ (l : List ℕ). get_or l 0 0) is, e)
+file_no_hash text on.Open path (is, _) = λ e. omega (arith, ap (λ (l : List ℕ). get_or l 0 0) is, e)
+file_no_hash text on.WriteIpv4 path (is, _) = λ e. omega (arith, ap (λ (l : List ℕ). get_or l 0 0) is, e)
+file_no_hash text on.WriteIpv6 path (is, _) = λ e. omega (arith, ap (λ (l : List ℕ). get_or l 0 0) is, e)
+
+-- what is asked of a file is nothing else
+pub file_apart : {A : Type 0} (text : List ℕ) (r : Request A) (call : FileCall) (rest path : List ℕ) → IsParted 32 text (word_of r) rest → IsParted 32 text (file_word call) path → ⊥
+file_apart text r call rest path p q =
     let by = word_by r in
-    not_load by.0 (sym by.1 ∙ (one_part 32 text (word_of r) rest (codes "load") path p q).0)
+    not_file by.0 call (sym by.1 ∙ (one_part 32 text (word_of r) rest (file_word call) path p q).0)
 
 -- so it is neither
 pub no_bare : (text : List ℕ) (word : Word) (rest : List ℕ) → IsParted 32 text (word_text word) rest
@@ -175,7 +212,7 @@ module _ (text : List ℕ) (word : Word) (rest : List ℕ) (parted : IsParted 32
   no_request none4 none6 (V4 r) asks = says_nothing 32 ipv4_bits IsIpv4Text none4 r asks
   no_request none4 none6 (V6 r) asks = says_nothing 128 ipv6_bits IsIpv6Text none6 r asks
   no_request none4 none6 Comment is = is
-  no_request none4 none6 (Load path) is = not_load word (one_part 32 text (word_text word) rest (codes "load") path parted is).0
+  no_request none4 none6 (OnFile call path) is = not_file word call (one_part 32 text (word_text word) rest (file_word call) path parted is).0
   no_request none4 none6 c is = (no_bare text word rest parted).1 _ is refl
 
 -- what a text asks for that begins with none
@@ -184,17 +221,17 @@ module _ (text : List ℕ) (unworded : (word : Word) (rest : List ℕ) → ¬ (I
   asks_nothing w number writes r (rest, parted, _) = let by = word_by r in unworded by.0 rest (subst (λ word. IsParted 32 text word rest) by.1 parted)
 
   -- nothing, where it is no bare word
-  pub no_text : text ≢ codes "len" → text ≢ codes "list" → text ≢ codes "dump" → text ≢ codes "aggregate" → text ≢ codes "compact" → text ≢ codes "help" → ((path : List ℕ) → ¬ (IsParted 32 text (codes "load") path)) → (c : Asked) → ¬ (IsTextRequest text c)
-  no_text len list dump aggregate compact help load (V4 r) asks = asks_nothing 32 ipv4_bits IsIpv4Text r asks
-  no_text len list dump aggregate compact help load (V6 r) asks = asks_nothing 128 ipv6_bits IsIpv6Text r asks
-  no_text len list dump aggregate compact help load Len is = len is
-  no_text len list dump aggregate compact help load All is = list is
-  no_text len list dump aggregate compact help load Dump is = dump is
-  no_text len list dump aggregate compact help load Aggregate is = aggregate is
-  no_text len list dump aggregate compact help load Compact is = compact is
-  no_text len list dump aggregate compact help load Help is = help is
-  no_text len list dump aggregate compact help load (Load path) is = load path is
-  no_text len list dump aggregate compact help load Comment is = is
+  pub no_text : text ≢ codes "len" → text ≢ codes "list" → text ≢ codes "dump" → text ≢ codes "aggregate" → text ≢ codes "compact" → text ≢ codes "help" → ((call : FileCall) (path : List ℕ) → ¬ (IsParted 32 text (file_word call) path)) → (c : Asked) → ¬ (IsTextRequest text c)
+  no_text len list dump aggregate compact help file (V4 r) asks = asks_nothing 32 ipv4_bits IsIpv4Text r asks
+  no_text len list dump aggregate compact help file (V6 r) asks = asks_nothing 128 ipv6_bits IsIpv6Text r asks
+  no_text len list dump aggregate compact help file Len is = len is
+  no_text len list dump aggregate compact help file All is = list is
+  no_text len list dump aggregate compact help file Dump is = dump is
+  no_text len list dump aggregate compact help file Aggregate is = aggregate is
+  no_text len list dump aggregate compact help file Compact is = compact is
+  no_text len list dump aggregate compact help file Help is = help is
+  no_text len list dump aggregate compact help file (OnFile call path) is = file call path is
+  no_text len list dump aggregate compact help file Comment is = is
 
 -- a dot early in a text stands there in front of more
 still_dot : (s more : List ℕ) → HasDotEarly s → HasDotEarly (s ++ more)

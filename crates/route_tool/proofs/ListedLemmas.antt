@@ -1,8 +1,8 @@
 -- The routes in order are those that are stored.
-use Rattle.std.proofs.Common.{◌≡◌, ◌∙◌, ℕ, zero, suc, ◌<◌, List, [], ◌∷◌, ◌++◌, length, map as each, Option, Some, None, refl, sym, ap, subst, inl, inr, arith}
+use Rattle.std.proofs.Common.{◌≡◌, ◌∙◌, ℕ, zero, suc, ◌<◌, List, [], ◌∷◌, length, slice_get, map as each, Option, Some, None, refl, sym, ap, subst, inl, inr, arith}
 use Rattle.std.specs.FinMap as map
 use Rattle.std.specs.List.{Contains}
-use Rattle.std.proofs.lemmas.List.{append_assoc, get_or-map, length-map}
+use Rattle.std.proofs.lemmas.List.{get_or-map, length-map}
 use Rattle.std.proofs.lemmas.Option.{get_or_from_slice_get, slice_get_within, slice_get_read}
 use Rattle.frozen_routes.specs.Routes.{IsHoldingRow, IsLongestRow}
 use Rattle.nibble_map.specs.Lists.{Has}
@@ -33,12 +33,10 @@ contains_of [] x h = absurd h
 contains_of (y ∷ ys) x (inl e) = (zero, omega arith, sym e)
 contains_of (y ∷ ys) x (inr h) = let (k, lt, e) = contains_of ys x h in (suc k, omega arith, e)
 
--- a copy of the first of the rest behind those so far
-pub one_row_more : {K V : Type 0} (whole rows more rest later : List (K × V)) (k : K) (v copy : V) → whole ≡ rows ++ rest → rest ≡ (k, v) ∷ later → copy ≡ v
-    → more ≡ rows ++ (k, copy) ∷ [] → whole ≡ more ++ later
-one_row_more {K} {V} whole rows more rest later k v copy begun next same pushed =
-    begun ∙ ap (λ r. rows ++ r) next ∙ sym (append_assoc rows ((k, v) ∷ []) later)
-    ∙ ap (λ (u : V). (rows ++ (k, u) ∷ []) ++ later) (sym same) ∙ ap (λ r. r ++ later) (sym pushed)
+-- a list with no first is none
+pub none_left : {X : Type 0} (xs : List X) → slice_get xs 0 ≡ None → xs ≡ []
+none_left [] e = refl
+none_left (y ∷ ys) e = cc
 
 module _ {A : Type 0} (w : ℕ) (number : A → ℕ) (m : Routes A) (networks : AreNetworks w number m) where
   -- a listed entry is stored

@@ -27,25 +27,30 @@ no_places m hops empty hop n is =
     let both : None ≡ Some n = sym (ap (option_map (λ p. p.1)) (map.get-empty (slice_cmp nat_cmp) (nibbles hop))) ∙ ap (λ k. value_at k (nibbles hop)) (sym empty) ∙ is in
     cc
 
+-- what a number is of, among the numbers with one more: the new hop, or one from before
+pub number_among : (m : Numbers) (key h : Bor (List ℕ)) (n : ℕ) → key.now ≡ h.now → (hop : List ℕ)
+    → ((hop ≡ h.now) × (value_at (map.insert m (nibbles key.now) (key, n)) (nibbles hop) ≡ Some n))
+    ⊎ (value_at (map.insert m (nibbles key.now) (key, n)) (nibbles hop) ≡ value_at m (nibbles hop))
+number_among m key h n same hop = by (eq_by_cmp (slice_cmp nat_cmp) (nibbles hop) (nibbles key.now)) refl
+  where
+    more : Numbers
+    more = map.insert m (nibbles key.now) (key, n)
+
+    got : value_at more (nibbles hop) ≡ option_map (λ p. p.1) (cond (eq_by_cmp (slice_cmp nat_cmp) (nibbles hop) (nibbles key.now)) (Some (key, n)) (map.get m (nibbles hop)))
+    got = ap (option_map (λ p. p.1)) (map.get-insert nat_list_cmp_total m (nibbles key.now) (key, n) (nibbles hop))
+
+    by : (b : Bool) → eq_by_cmp (slice_cmp nat_cmp) (nibbles hop) (nibbles key.now) ≡ b
+        → ((hop ≡ h.now) × (value_at more (nibbles hop) ≡ Some n)) ⊎ (value_at more (nibbles hop) ≡ value_at m (nibbles hop))
+    by true t = inl (
+      nibbles-injective hop key.now (tied_lists_equal (nibbles hop) (nibbles key.now) (equal_by_test _ (subst T (sym t) tt))) ∙ same,
+      got ∙ ap (λ b. option_map (λ p. p.1) (cond b (Some (key, n)) (map.get m (nibbles hop)))) t,
+    )
+    by false t = inr (got ∙ ap (λ b. option_map (λ p. p.1) (cond b (Some (key, n)) (map.get m (nibbles hop)))) t)
+
 module _ (m : Numbers) (hops : List (Bor (List ℕ))) (key h : Bor (List ℕ)) (same : key.now ≡ h.now) (none : value_at m (nibbles key.now) ≡ None) where
   -- the numbers with one more, of the next place
   abbrev more : Numbers
   more = map.insert m (nibbles key.now) (key, length hops)
-
-  -- what a number is of, among one more: the new hop, or one from before
-  either : (hop : List ℕ) → ((hop ≡ h.now) × (value_at more (nibbles hop) ≡ Some (length hops))) ⊎ (value_at more (nibbles hop) ≡ value_at m (nibbles hop))
-  either hop = by (eq_by_cmp (slice_cmp nat_cmp) (nibbles hop) (nibbles key.now)) refl
-    where
-      got : value_at more (nibbles hop) ≡ option_map (λ p. p.1) (cond (eq_by_cmp (slice_cmp nat_cmp) (nibbles hop) (nibbles key.now)) (Some (key, length hops)) (map.get m (nibbles hop)))
-      got = ap (option_map (λ p. p.1)) (map.get-insert nat_list_cmp_total m (nibbles key.now) (key, length hops) (nibbles hop))
-
-      by : (b : Bool) → eq_by_cmp (slice_cmp nat_cmp) (nibbles hop) (nibbles key.now) ≡ b
-          → ((hop ≡ h.now) × (value_at more (nibbles hop) ≡ Some (length hops))) ⊎ (value_at more (nibbles hop) ≡ value_at m (nibbles hop))
-      by true t = inl (
-        nibbles-injective hop key.now (tied_lists_equal (nibbles hop) (nibbles key.now) (equal_by_test _ (subst T (sym t) tt))) ∙ same,
-        got ∙ ap (λ b. option_map (λ p. p.1) (cond b (Some (key, length hops)) (map.get m (nibbles hop)))) t,
-      )
-      by false t = inr (got ∙ ap (λ b. option_map (λ p. p.1) (cond b (Some (key, length hops)) (map.get m (nibbles hop)))) t)
 
   -- the new hop has its number
   new_number : IsNumberOf more h.now (length hops)
@@ -54,7 +59,7 @@ module _ (m : Numbers) (hops : List (Bor (List ℕ))) (key h : Bor (List ℕ)) (
   -- each hop from before keeps its number
   numbers_kept : AreKept m more
   numbers_kept hop n is =
-      elim (either hop) [
+      elim (number_among m key h (length hops) same hop) [
         | inl new ↦ (let both : None ≡ Some n = sym none ∙ ap (λ k. value_at m (nibbles k)) (same ∙ sym new.0) ∙ is in cc)
         | inr old ↦ old ∙ is
       ]
@@ -62,7 +67,7 @@ module _ (m : Numbers) (hops : List (Bor (List ℕ))) (key h : Bor (List ℕ)) (
   -- each number is a place still
   places_kept : ArePlaces m hops → ArePlaces more (hops ++ h ∷ [])
   places_kept places hop n is =
-      elim (either hop) [
+      elim (number_among m key h (length hops) same hop) [
         | inl new ↦ (
             let at : length hops ≡ n = same_Some (length hops) n (sym new.1 ∙ is) in (
               omega (arith, length-append hops (h ∷ [])),

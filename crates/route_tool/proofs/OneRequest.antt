@@ -1,5 +1,5 @@
 -- A line asks for one thing at most.
-use Rattle.std.proofs.Common.{◌≡◌, ◌≢◌, ◌∙◌, inl, inr, ℕ, ◌≤◌, ◌+◌, ◌*◌, true, not, ◌==◌, List, get_or, refl, arith, sym, ap, subst, codes}
+use Rattle.std.proofs.Common.{◌≡◌, ◌≢◌, ◌∙◌, inl, inr, ℕ, ◌≤◌, ◌+◌, ◌*◌, true, not, ◌==◌, List, get_or, refl, arith, sym, ap, subst}
 use Rattle.std.specs.Net.Addr.{ipv4_bits, ipv6_bits}
 use Rattle.std.specs.Net.Grammar.{IsIpv4Text, IsIpv6Text}
 use Rattle.std.specs.List.{list_all}
@@ -9,8 +9,8 @@ use Rattle.std.proofs.NetLemmas.Ipv6.{IsDotted-not_colon_hex}
 use Rattle.std.proofs.NetLemmas.Theorems.{IsIpv4Text_unique, IsIpv6Text_unique}
 use Rattle.std.proofs.lemmas.Fmt.{decimal_injective}
 use Rattle.radix_keys.specs.Networks.{Net, IsParted}
-use Rattle.route_tool.specs.Requests.{Request, Add, Del, Below, Look, Find, Asked, V4, V6, Len, All, Dump, Aggregate, Compact, Load, Help, Comment, Asks, IsRequest, IsTarget, IsTextRequest, Says, WritesNetwork, in_full, word_of}
-use Rattle.route_tool.proofs.CommandLemmas.{has_slash, load_apart, no_bare, no_space_in, one_part, word_by}
+use Rattle.route_tool.specs.Requests.{Request, Add, Del, Below, Look, Find, Asked, V4, V6, Len, All, Dump, Aggregate, Compact, OnFile, Help, Comment, Asks, IsRequest, IsTarget, IsTextRequest, Says, WritesNetwork, file_word, in_full, word_of}
+use Rattle.route_tool.proofs.CommandLemmas.{file_apart, file_no_hash, has_slash, no_bare, no_space_in, one_file_call, one_part, word_by}
 
 module _ {A : Type 0} (w : ℕ) (narrow : w ≤ 128) (number : A → ℕ) (writes : List ℕ → A → Type 0) (one : (s : List ℕ) (a b : A) → writes s a → writes s b → a ≡ b) where
   -- a network is its base and its bits
@@ -88,7 +88,7 @@ no_comment : (text : List ℕ) (c : Asked) → IsTextRequest text c → get_or t
 no_comment text (V4 r) p = (no_word 32 ipv4_bits IsIpv4Text text r p).0
 no_comment text (V6 r) p = (no_word 128 ipv6_bits IsIpv6Text text r p).0
 no_comment text Comment p = absurd p
-no_comment text (Load path) (is, _) = λ e. omega (arith, ap (λ (l : List ℕ). get_or l 0 0) is, e)
+no_comment text (OnFile call path) p = file_no_hash text call path p
 no_comment text c p = λ e. omega (arith, ap (λ (l : List ℕ). get_or l 0 0) p, e)
 
 -- the first two letters of a word alone tell it from the others
@@ -104,17 +104,20 @@ one_text text (V4 r) (V4 s) p q = ap V4 (one_asked 32 (omega arith) ipv4_bits Is
 one_text text (V6 r) (V6 s) p q = ap V6 (one_asked 128 (omega arith) ipv6_bits IsIpv6Text IsIpv6Text_unique text r s p q)
 one_text text (V4 r) (V6 s) p q = absurd (asked_apart text r s p q)
 one_text text (V6 r) (V4 s) p q = absurd (asked_apart text s r q p)
-one_text text (V4 r) (Load path) (rest, p, _) q = absurd (load_apart text r rest path p q)
-one_text text (V6 r) (Load path) (rest, p, _) q = absurd (load_apart text r rest path p q)
-one_text text (Load path) (V4 r) p (rest, q, _) = absurd (load_apart text r rest path q p)
-one_text text (Load path) (V6 r) p (rest, q, _) = absurd (load_apart text r rest path q p)
-one_text text (Load path) (Load other) p q = ap Load (one_part 32 text (codes "load") path (codes "load") other p q).1
-one_text text (Load path) d p q = absurd (no_space_in text (codes "load") path _ p q refl)
+one_text text (V4 r) (OnFile call path) (rest, p, _) q = absurd (file_apart text r call rest path p q)
+one_text text (V6 r) (OnFile call path) (rest, p, _) q = absurd (file_apart text r call rest path p q)
+one_text text (OnFile call path) (V4 r) p (rest, q, _) = absurd (file_apart text r call rest path q p)
+one_text text (OnFile call path) (V6 r) p (rest, q, _) = absurd (file_apart text r call rest path q p)
+one_text text (OnFile call path) (OnFile too other) p q =
+    let parts = one_part 32 text (file_word call) path (file_word too) other p q in
+    let same = one_file_call call too parts.0 in
+    λ i. OnFile (same i) (parts.1 i)
+one_text text (OnFile call path) d p q = absurd (no_space_in text (file_word call) path _ p q refl)
 one_text text (V4 r) d p q = absurd ((no_word 32 ipv4_bits IsIpv4Text text r p).1 _ q refl)
 one_text text (V6 r) d p q = absurd ((no_word 128 ipv6_bits IsIpv6Text text r p).1 _ q refl)
 one_text text c (V4 r) p q = absurd ((no_word 32 ipv4_bits IsIpv4Text text r q).1 _ p refl)
 one_text text c (V6 r) p q = absurd ((no_word 128 ipv6_bits IsIpv6Text text r q).1 _ p refl)
-one_text text c (Load path) p q = absurd (no_space_in text (codes "load") path _ q p refl)
+one_text text c (OnFile call path) p q = absurd (no_space_in text (file_word call) path _ q p refl)
 one_text text Len Len p q = refl
 one_text text All All p q = refl
 one_text text Dump Dump p q = refl

@@ -1,16 +1,26 @@
 -- What is answered to a request.
-use Rattle.std.specs.Prelude.{◌≡◌, ℕ, ◌+◌, List, [], ◌∷◌, ◌++◌, ◌⊎◌, length, flat_map, Option, None, Some, codes, decimal}
+use Rattle.std.specs.Prelude.{◌≡◌, ◌≢◌, Bool, ℕ, ◌+◌, List, [], ◌∷◌, ◌++◌, ◌⊎◌, length, flat_map, Option, None, Some, Result, Ok, Err, codes, decimal}
 use Rattle.std.specs.Net.Addr.{ipv4_bits, ipv6_bits, ipv4_octets, ipv6_segments}
 use Rattle.std.specs.Net.Text.{ipv4_text, ipv6_text}
 use Rattle.std.specs.declared.net.ipv4_addr.Ipv4Addr.{Ipv4Addr}
 use Rattle.std.specs.declared.net.ipv6_addr.Ipv6Addr.{Ipv6Addr}
 use Rattle.radix_keys.specs.Networks.{net_text}
+use Rattle.whole_files.specs.Faults.{file_fault_text}
+use Rattle.whole_files.specs.declared.fault.FileFault.{FileFault}
 use Rattle.route_tool.specs.Aggregates.{IsAggregate}
-use Rattle.route_tool.specs.Loads.{AreCarriedOut, IsFirstBad, IsLoadedInPart, file_fault_text, lines_in}
+use Rattle.flat_routes.specs.Images.{of_ipv4, of_ipv6}
+use Rattle.frozen_networks.specs.Networks.{network_map}
+use Rattle.image_parts.specs.declared.errors.ImageError.{ImageError}
+use Rattle.image_parts.specs.declared.errors.ImageError.TheVariants as image
+use Rattle.route_tool.specs.Loads.{AreCarriedOut, IsFirstBad, IsLoadedInPart, lines_in}
 use Rattle.route_tool.specs.Reasons.{reason_text}
-use Rattle.route_tool.specs.Requests.{Request, Add, Del, Below, Look, Find, Asked, V4, V6, Len, All, Dump, Aggregate, Compact, Load, Help, Comment}
+use Rattle.route_tool.specs.RouteImages.{AreOpened, IsOpenFault}
+use Rattle.route_tool.specs.Requests.{Request, Add, Del, Below, Look, Find, Asked, V4, V6, Len, All, Dump, Aggregate, Compact, OnFile, Help, Comment}
 use Rattle.route_tool.specs.Routes.{Route, Routes, IsLongestRoute, hop_at, hop_of, in_order, routes_within, with_route, without_route}
-use Rattle.route_tool.specs.declared.files.FileFault.{FileFault}
+use Rattle.route_tool.specs.declared.command.FileCall.{FileCall}
+use Rattle.route_tool.specs.declared.command.FileCall.TheVariants.{Load, Open, WriteIpv4, WriteIpv6}
+use Rattle.route_tool.specs.declared.images.OpenFault.{OpenFault}
+use Rattle.route_tool.specs.declared.images.OpenFault.TheVariants as opening
 use Rattle.route_tool.specs.declared.reason.Reason.{Reason}
 use Rattle.route_tool.specs.declared.help.TheConstants.{HELP}
 use Rattle.route_tool.specs.declared.table.Table.{Table}
@@ -122,9 +132,68 @@ IsFileLoad t u answer =
     ((text : List ℕ) × IsLoad text t u answer)
     ⊎ ((fault : FileFault) × (u ≡ t) × (answer ≡ no_file_answer fault))
 
+-- what is wrong with bytes that are no image; an index is counted from 0
+abbrev pub image_error_text : ImageError → List ℕ
+image_error_text image.Short = codes "short"
+image_error_text image.Mark = codes "mark"
+image_error_text image.Version = codes "version"
+image_error_text (image.Part i) = codes "part " ++ decimal i
+image_error_text (image.Row i) = codes "row " ++ decimal i
+image_error_text (image.Cell i) = codes "cell " ++ decimal i
+
+-- why bytes aren't opened
+abbrev pub open_fault_text : OpenFault → List ℕ
+open_fault_text opening.Memory = codes "out of memory"
+open_fault_text (opening.Image why) = image_error_text why
+open_fault_text (opening.Hop i) = codes "hop of row " ++ decimal i
+
+-- of bytes that are no image of routes with hops
+abbrev pub no_image_answer : List ℕ → List ℕ
+no_image_answer why = codes "no image: " ++ why ++ 10 ∷ []
+
+-- of bytes that are opened or not, by how many routes there are then
+abbrev pub open_answer : ℕ → Result (Unit {0}) OpenFault → List ℕ
+open_answer count (Ok done) = count_answer count
+open_answer count (Err fault) = no_image_answer (open_fault_text fault)
+
+-- bytes are opened: the routes of their family are those of the image, or, where they are no image of routes with hops,
+-- all is as before
+abbrev pub IsOpen : (bytes : List ℕ) → Table → Table → List ℕ → Type 0
+IsOpen bytes t u answer =
+    ((rows : List (Route Ipv4Addr)) × AreOpened ipv4_bits of_ipv4 bytes rows
+    × (u ≡ record { v4 = network_map 32 ipv4_bits rows; v6 = t.v6 }) × (answer ≡ count_answer (count_of u)))
+    ⊎ (((rows : List (Route Ipv6Addr)) × AreOpened ipv6_bits of_ipv6 bytes rows
+    × (u ≡ record { v4 = t.v4; v6 = network_map 128 ipv6_bits rows }) × (answer ≡ count_answer (count_of u)))
+    ⊎ ((wide : Bool) × (fault : OpenFault) × IsOpenFault wide bytes fault × (fault ≢ opening.Memory) × (u ≡ t)
+    × (answer ≡ no_image_answer (open_fault_text fault))))
+
+-- a file is opened, whatever it holds, or it isn't read
+abbrev pub IsFileOpen : Table → Table → List ℕ → Type 0
+IsFileOpen t u answer =
+    ((bytes : List ℕ) × IsOpen bytes t u answer)
+    ⊎ ((fault : FileFault) × (u ≡ t) × (answer ≡ no_file_answer fault))
+
+-- so many routes are written to a file; or there is none, or too many for an image
+abbrev pub IsFileWrite : ℕ → List ℕ → Type 0
+IsFileWrite count answer =
+    (answer ≡ count_answer count)
+    ⊎ (((fault : FileFault) × (answer ≡ no_file_answer fault)) ⊎ (answer ≡ no_image_answer (codes "full")))
+
+-- the answer to what is done with a file, and the table after it
+abbrev pub IsFileAnswer : FileCall → Table → Table → List ℕ → Type 0
+IsFileAnswer Load t u answer = IsFileLoad t u answer
+IsFileAnswer Open t u answer = IsFileOpen t u answer
+IsFileAnswer WriteIpv4 t u answer = IsFileWrite (length (in_order t.v4)) answer × (u ≡ t)
+IsFileAnswer WriteIpv6 t u answer = IsFileWrite (length (in_order t.v6)) answer × (u ≡ t)
+
+-- memory was refused while a file was loaded
+abbrev pub IsFileBegun : FileCall → Table → Table → Type 0
+IsFileBegun Load t u = (text : List ℕ) × IsLoadedInPart text t u
+IsFileBegun call t u = ⊥
+
 -- memory was refused while what is asked was carried out
 abbrev pub IsBegun : Asked → Table → Table → Type 0
-IsBegun (Load path) t u = (text : List ℕ) × IsLoadedInPart text t u
+IsBegun (OnFile call path) t u = IsFileBegun call t u
 IsBegun c t u = ⊥
 
 -- the answer to what is asked, and the table after it
@@ -138,6 +207,6 @@ IsAnswer All t u answer = (answer ≡ list_answer t) × (u ≡ t)
 IsAnswer Dump t u answer = (answer ≡ dump_answer t) × (u ≡ t)
 IsAnswer Aggregate t u answer = IsAggregateAnswer t answer × (u ≡ t)
 IsAnswer Compact t u answer = (answer ≡ count_answer (count_of t)) × (u ≡ t)
-IsAnswer (Load path) t u answer = IsFileLoad t u answer
+IsAnswer (OnFile call path) t u answer = IsFileAnswer call t u answer
 IsAnswer Help t u answer = (answer ≡ HELP.now) × (u ≡ t)
 IsAnswer Comment t u answer = (answer ≡ []) × (u ≡ t)

@@ -2,7 +2,7 @@
 use Rattle.std.specs.Prelude.{ℕ, List, codes}
 use Rattle.route_tool.specs.Requests as asked
 use Rattle.route_tool.specs.declared.command.Command.{Command}
-use Rattle.route_tool.specs.declared.command.Command.TheVariants.{V4, V6, Len, All, Dump, Aggregate, Compact, Load, Help, Comment}
+use Rattle.route_tool.specs.declared.command.Command.TheVariants.{V4, V6, Len, All, Dump, Aggregate, Compact, OnFile, Help, Comment}
 use Rattle.route_tool.specs.declared.command.Request.{Request}
 use Rattle.route_tool.specs.declared.command.Request.TheVariants.{Add, Del, Below, Look, Find}
 use Rattle.route_tool.specs.declared.command.Word.{Word}
@@ -23,7 +23,7 @@ asked_of All = asked.All
 asked_of Dump = asked.Dump
 asked_of Aggregate = asked.Aggregate
 asked_of Compact = asked.Compact
-asked_of (Load path) = asked.Load path.now
+asked_of (OnFile call path) = asked.OnFile call path.now
 asked_of Help = asked.Help
 asked_of Comment = asked.Comment
 

@@ -5,5 +5,6 @@ pub mod Numbers
 pub mod Commands
 pub mod Reasons
 pub mod Loads
+pub mod RouteImages
 pub mod Answers
 pub mod Sessions

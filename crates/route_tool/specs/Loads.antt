@@ -1,26 +1,14 @@
 -- What the lines of a file do to a table.
-use Rattle.std.specs.Prelude.{◌≡◌, ◌≢◌, ◌⊎◌, ◌==◌, ℕ, ◌+◌, List, [], ◌∷◌, ◌++◌, ⊤, length, codes, Option, None, Some}
+use Rattle.std.specs.Prelude.{◌≡◌, ◌≢◌, ◌⊎◌, ◌==◌, ℕ, ◌+◌, List, [], ◌∷◌, ◌++◌, ⊤, length, Option, None, Some}
 use Rattle.std.specs.List.{All, slice_split}
 use Rattle.std.specs.Net.Addr.{ipv4_bits, ipv6_bits}
 use Rattle.line_sessions.specs.Lines.{counted}
 use Rattle.route_tool.specs.Reasons.{IsReason}
-use Rattle.route_tool.specs.Requests.{Request, Add, Del, Below, Look, Find, Asked, V4, V6, Len, All as Every, Dump, Aggregate, Compact, Load, Help, Comment, IsRequest}
+use Rattle.route_tool.specs.Requests.{Request, Add, Del, Below, Look, Find, Asked, V4, V6, Len, All as Every, Dump, Aggregate, Compact, OnFile, Help, Comment, IsRequest}
 use Rattle.route_tool.specs.Routes.{Routes, with_route, without_route}
 use Rattle.route_tool.specs.declared.table.Table.{Table}
-use Rattle.route_tool.specs.declared.files.FileFault.{FileFault}
-use Rattle.route_tool.specs.declared.files.FileFault.TheVariants as fault
 use Rattle.route_tool.specs.declared.reason.Reason.{Reason}
 use Rattle.route_tool.specs.declared.reason.Reason.TheVariants.{NoChange}
-
--- why a file isn't read
-abbrev pub file_fault_text : FileFault → List ℕ
-file_fault_text fault.Memory = codes "out of memory"
-file_fault_text fault.BadName = codes "a bad name"
-file_fault_text fault.Denied = codes "denied"
-file_fault_text fault.Failed = codes "failed"
-file_fault_text fault.Folder = codes "a folder"
-file_fault_text fault.NotFound = codes "not found"
-file_fault_text fault.NotPlain = codes "a device or a pipe"
 
 -- what is asked of a family is an addition or a deletion
 abbrev pub IsChange : {A : Type 0} → Request A → Type 0
@@ -40,7 +28,7 @@ IsEdit Every = ⊥
 IsEdit Dump = ⊥
 IsEdit Aggregate = ⊥
 IsEdit Compact = ⊥
-IsEdit (Load path) = ⊥
+IsEdit (OnFile call path) = ⊥
 IsEdit Help = ⊥
 
 -- the parts of a text between its line feeds
@@ -91,7 +79,7 @@ IsEdited Every t u = ⊥
 IsEdited Dump t u = ⊥
 IsEdited Aggregate t u = ⊥
 IsEdited Compact t u = ⊥
-IsEdited (Load path) t u = ⊥
+IsEdited (OnFile call path) t u = ⊥
 IsEdited Help t u = ⊥
 
 -- the table after some lines of a file, one after another

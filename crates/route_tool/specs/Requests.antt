@@ -7,6 +7,8 @@ use Rattle.std.specs.declared.net.ipv4_addr.Ipv4Addr.{Ipv4Addr}
 use Rattle.std.specs.declared.net.ipv6_addr.Ipv6Addr.{Ipv6Addr}
 use Rattle.line_sessions.specs.Answers.{Begins}
 use Rattle.radix_keys.specs.Networks.{Net, IsNetText, IsParted}
+use Rattle.route_tool.specs.declared.command.FileCall.{FileCall}
+use Rattle.route_tool.specs.declared.command.FileCall.TheVariants.{Load, Open, WriteIpv4, WriteIpv6}
 
 -- what is asked of the routes of one family
 pub data Request (A : Type 0) : Type 0 where
@@ -25,7 +27,7 @@ pub data Asked : Type 0 where
   Dump : Asked
   Aggregate : Asked
   Compact : Asked
-  Load : (path : List ℕ) → Asked
+  OnFile : (call : FileCall) (path : List ℕ) → Asked
   Help : Asked
   Comment : Asked
 
@@ -33,6 +35,13 @@ pub data Asked : Type 0 where
 abbrev pub IsHop : List ℕ → Type 0
 IsHop hop =
     (0 < length hop) × (slice_index hop 0 ≢ 32) × (slice_index hop (length hop - 1) ≢ 32)
+
+-- the word for what is done with a file
+abbrev pub file_word : FileCall → List ℕ
+file_word Load = codes "load"
+file_word Open = codes "open"
+file_word WriteIpv4 = codes "write_ipv4"
+file_word WriteIpv6 = codes "write_ipv6"
 
 -- the word that a request begins with
 abbrev pub word_of : {A : Type 0} → Request A → List ℕ
@@ -97,7 +106,7 @@ IsTextRequest text All = text ≡ codes "list"
 IsTextRequest text Dump = text ≡ codes "dump"
 IsTextRequest text Aggregate = text ≡ codes "aggregate"
 IsTextRequest text Compact = text ≡ codes "compact"
-IsTextRequest text (Load path) = IsParted 32 text (codes "load") path
+IsTextRequest text (OnFile call path) = IsParted 32 text (file_word call) path
 IsTextRequest text Help = text ≡ codes "help"
 IsTextRequest text Comment = ⊥
 

@@ -1,13 +1,12 @@
 -- Networks, each with its hop, and the longest of those that hold an address.
-use Rattle.std.specs.Prelude.{◌≡◌, ◌⊎◌, ℕ, ◌≤◌, List, [], Option, Some, MatchOption, option_map}
+use Rattle.std.specs.Prelude.{◌≡◌, ◌⊎◌, ℕ, zero, suc, ◌≤◌, List, [], Option, Some, MatchOption, option_map}
 use Rattle.std.proofs.Common.{refl}
 use Rattle.std.specs.Coded.{Coded, code_by, coded_list, coded_ℕ, coded×}
 use Rattle.std.specs.FinMap as map
 use Rattle.nibble_map.specs.Maps.{PairMap, pair_map_code, value_at}
-use Rattle.radix_keys.specs.Bits.{first_bits}
 use Rattle.radix_keys.specs.Networks.{Net, IsBase, AgreeIn}
-use Rattle.radix_trie.specs.Keys.{IsKeyed}
 use Rattle.radix_trie.specs.Views.{pairs_below}
+use Rattle.frozen_networks.specs.Networks.{IsMapOfNetworks, network_code, network_map}
 
 -- a network and its hop
 abbrev pub Route : Type 0 → Type 0
@@ -38,11 +37,23 @@ hop_of found = option_map (λ r. r.1) found
 module _ {A : Type 0} (w : ℕ) (number : A → ℕ) where
   -- the first bits of a network's addresses, those that they share
   abbrev pub place : Net A → List ℕ
-  place net = first_bits w (number net.base) net.bits
+  place net = network_code w number net
 
   -- each route stands at its network's place, and its base has 0 in each bit after the first bits
   abbrev pub AreNetworks : Routes A → Type 0
-  AreNetworks m = IsKeyed place (λ net. IsBase w net.bits (number net.base)) m
+  AreNetworks m = IsMapOfNetworks w number m
+
+  -- the routes of a table whose trie has so many, and holds these; where that is none, its rows are the routes
+  abbrev pub held_by : ℕ → Routes A → List (Route A) → Routes A
+  held_by zero m rows = network_map w number rows
+  held_by (suc n) m rows = m
+
+  abbrev pub held_routes : Routes A → List (Route A) → Routes A
+  held_routes m rows = held_by (map.len m) m rows
+
+  -- the routes are of networks, and the rows, if there are some, are all of them in order
+  abbrev pub AreHeldRoutes : Routes A → List (Route A) → Type 0
+  AreHeldRoutes m rows = AreNetworks (held_routes m rows) × AreAllOrNone (held_routes m rows) rows
 
   -- the network's hop
   abbrev pub hop_at : Routes A → Net A → Option (List ℕ)

@@ -6,7 +6,7 @@ ghost use Rattle.route_tool.specs.Aggregates.{IsAggregate, route_of};
 ghost use Rattle.route_tool.specs.Numbers.{AreKept, AreNumbered, ArePlaces, IsNumberOf, IsRowOf};
 
 use crate::hop::Hop;
-use crate::table::{Routes, Walk};
+use crate::table::{Rest, Routes};
 use least_routes::{Route, least};
 use radix_trie::{Address, Memory, Network, Trie};
 use std::alloc::{AllocError, Global};
@@ -37,14 +37,15 @@ fn number_of<'a>(
 /// The routes with their hops as numbers, and the hop of each number.
 fn numbered<'a, A: Address>(
     alloc: Global,
-    walk: Walk<'a, A>,
+    rest: Rest<'a, A>,
 ) -> Result<(Vec<Route>, Vec<&'a Hop>), Memory>
-    ensures { IfOk result (λ p. AreNumbered A.number walk.entry p.0.items p.1.items) }
+    ensures { IfOk result (λ p. AreNumbered A.number rest.entry p.0.items p.1.items) }
 {
     let mut numbers = Trie::new(alloc);
     let mut hops = Vec::new(alloc);
     let mut routes = Vec::new(alloc);
-    for (network, hop) in walk {
+    let mut rest = rest;
+    while let Some((network, hop)) = rest.next()? {
         let hop = number_of(&mut numbers, &mut hops, hop)?;
         routes.push(Route {
             base: network.base().to_number(),
@@ -90,7 +91,7 @@ pub fn aggregate<A: Address>(
     ensures { IfOk result
         (λ rows. IsAggregate A.BITS A.number routes.now (map route_of rows.items)) }
 {
-    let (numbered, hops) = numbered(alloc, routes.walk()?)?;
+    let (numbered, hops) = numbered(alloc, routes.rest())?;
     let chosen = least(alloc, A::BITS, &numbered)?;
     Ok(rows_of(alloc, &chosen, &hops)?)
 }

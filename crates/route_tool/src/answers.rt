@@ -3,16 +3,17 @@ ghost use Rattle.std.specs.Prelude.{◌≡◌, ◌⊎◌, ◌++◌, ◌∷◌, [
 ghost use Rattle.nibble_map.specs.Lists.{IsPrefix};
 ghost use Rattle.radix_keys.specs.Networks.{net_text};
 ghost use Rattle.radix_trie.specs.Walks.{deref_pair};
-ghost use Rattle.route_tool.specs.Answers.{IsAggregateAnswer, IsAnswer, IsBegun, IsReply, added_answer, addition, bad_answer, below_answer, count_answer, dump_answer, find_answer, hop_answer, list_answer, row};
+ghost use Rattle.route_tool.specs.Answers.{IsAggregateAnswer, IsAnswer, IsBegun, IsFileAnswer, IsFileBegun, IsReply, added_answer, addition, bad_answer, below_answer, count_answer, dump_answer, find_answer, hop_answer, list_answer, row};
 ghost use Rattle.route_tool.specs.Aggregates.{route_of};
 ghost use Rattle.route_tool.specs.Commands.{asked_of, request_of};
 ghost use Rattle.route_tool.specs.Reasons.{reason_text};
 ghost use Rattle.route_tool.specs.Routes.{routes_within};
 
 use crate::aggregate::aggregate;
-use crate::command::{Command, Request};
+use crate::command::{Command, FileCall, Request};
 use crate::help::HELP;
 use crate::hop::Hop;
+use crate::image_files::{open, write};
 use crate::load::load;
 use crate::reason::Reason;
 use crate::table::{Rest, Routes, Table};
@@ -270,6 +271,29 @@ pub fn add_reason(out: &mut Vec<u8>, reason: Reason) -> Result<(), AllocError>
     out.extend_from_slice(b"\n")
 }
 
+/// Does what is asked with a file, and adds the answer, or after a refusal maybe a part of it.
+fn on_file<F: Files>(
+    files: &F,
+    out: &mut Vec<u8>,
+    table: &mut Table,
+    call: FileCall,
+    path: &str,
+) -> Result<(), Memory>
+    ensures answer { OnOk result ((answer : List ℕ) × (out.new.items ≡ out.old.items ++ answer)
+        × IsFileAnswer call table.old table.new answer) }
+    ensures left { OnErr result ((table.new ≡ table.old)
+        ⊎ (((answer : List ℕ) × IsFileAnswer call table.old table.new answer)
+        ⊎ IsFileBegun call table.old table.new)) }
+    ensures kept { IsPrefix out.old.items out.new.items }
+{
+    match call {
+        FileCall::Load => load(files, out, table, path),
+        FileCall::Open => open(files, out, table, path),
+        FileCall::WriteIpv4 => write(files, out, &table.v4, path),
+        FileCall::WriteIpv6 => write(files, out, &table.v6, path),
+    }
+}
+
 /// Carries out a command, and adds its answer, or after a refusal maybe a part of it.
 pub fn answer<F: Files>(
     files: &F,
@@ -295,7 +319,7 @@ pub fn answer<F: Files>(
             table.compact()?;
             Ok(add_count(out, table.len())?)
         }
-        Command::Load(path) => load(files, out, table, path),
+        Command::OnFile(call, path) => on_file(files, out, table, *call, path),
         Command::Help => Ok(out.extend_from_slice(HELP.as_bytes())?),
         Command::Comment => Ok(()),
     }

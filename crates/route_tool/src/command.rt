@@ -3,7 +3,7 @@ ghost use Rattle.std.specs.Prelude.{◌≡◌, ◌↔◌, IsTrue, MatchOption};
 ghost use Rattle.std.specs.Str.{IsUtf8};
 ghost use Rattle.radix_keys.specs.Networks.{IsParted};
 ghost use Rattle.route_tool.specs.Commands.{asked_of, request_of, word_text};
-ghost use Rattle.route_tool.specs.Requests.{HasDotEarly, IsAddition, IsHop, IsRequest, IsTarget, IsTextRequest, MayBeIpv4, Says, WritesNetwork, in_full, word_of};
+ghost use Rattle.route_tool.specs.Requests.{HasDotEarly, IsAddition, IsHop, IsRequest, IsTarget, IsTextRequest, MayBeIpv4, Says, WritesNetwork, file_word, in_full, word_of};
 
 use radix_trie::{Address, Network};
 use std::net::{Ipv4Addr, Ipv6Addr};
@@ -28,9 +28,18 @@ pub enum Command<'a> {
     Dump,
     Aggregate,
     Compact,
-    Load(&'a str),
+    OnFile(FileCall, &'a str),
     Help,
     Comment,
+}
+
+/// What is done with a file.
+#[derive(Clone, Copy)]
+pub enum FileCall {
+    Load,
+    Open,
+    WriteIpv4,
+    WriteIpv6,
 }
 
 /// The word of a request that has something behind it.
@@ -175,6 +184,27 @@ fn may_be_ipv4(text: &str) -> bool
     has_dot_early(text) || text.starts_with("default")
 }
 
+/// What is done with a file, where a text begins with the word for it and a space, and the file's name behind these.
+fn file_call(text: &str) -> Option<(FileCall, &str)>
+    ensures { MatchOption result
+        ((call : FileCall) (path : _) → ¬ (IsParted 32 text.now (file_word call) path))
+        (λ p. IsParted 32 text.now (file_word p.0) p.1.now) }
+{
+    if let Some(path) = text.strip_prefix("load ") {
+        return Some((FileCall::Load, path));
+    }
+    if let Some(path) = text.strip_prefix("open ") {
+        return Some((FileCall::Open, path));
+    }
+    if let Some(path) = text.strip_prefix("write_ipv4 ") {
+        return Some((FileCall::WriteIpv4, path));
+    }
+    if let Some(path) = text.strip_prefix("write_ipv6 ") {
+        return Some((FileCall::WriteIpv6, path));
+    }
+    None
+}
+
 /// What a text that begins with no such word asks for, if it is good.
 fn bare(text: &str) -> Option<Command<'_>>
     requires { (word : Word) (rest : _) → ¬ (IsParted 32 text.now (word_text word) rest) }
@@ -194,8 +224,8 @@ fn bare(text: &str) -> Option<Command<'_>>
     } else if text == "help" {
         Some(Command::Help)
     } else {
-        match text.strip_prefix("load ") {
-            Some(path) => Some(Command::Load(path)),
+        match file_call(text) {
+            Some((call, path)) => Some(Command::OnFile(call, path)),
             None => None,
         }
     }

@@ -11,6 +11,9 @@ len: how many routes there are
 list: how many routes there are, and then each
 dump: each route as the line add NETWORK HOP, to be read again
 load FILE: how many routes there are, after the file's lines: add, del and comments
+open FILE: how many routes there are, with those of an image in place of its family's
+write_ipv4 FILE: how many IPv4 routes there are, which are put into the file as an image
+write_ipv6 FILE: how many IPv6 routes there are, which are put into the file as an image
 aggregate: the least list of routes with the same answers, as list writes it
 compact: how many routes there are, which are laid anew for faster lookups
 help: these lines

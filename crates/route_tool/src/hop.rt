@@ -20,6 +20,14 @@ impl Model for Hop {
     ghost view = { λ h. h.bytes.items };
 }
 
+impl Clone for Hop {
+    ghost is_clone = { λ hop copy. copy ≡ hop };
+
+    fn clone(&self) -> Result<Hop, AllocError> {
+        Hop::new(*self.bytes.allocator(), self.as_bytes())
+    }
+}
+
 impl Hop {
     /// The hop of these bytes.
     pub fn new(alloc: Global, bytes: &[u8]) -> Result<Hop, AllocError>

@@ -9,13 +9,13 @@ ghost use Rattle.route_tool.specs.Loads.{AreCarriedOut, IsChange, IsChanged, IsE
 use crate::answers::add_count;
 use crate::command::{Command, Request};
 use crate::edits::{edit_of, first_bad, first_part};
-use crate::files::{FileFault, read};
 use crate::reason::Reason;
 use crate::table::{Routes, Table};
 use itoa::Buffer;
 use radix_trie::{Address, Memory};
 use std::alloc::AllocError;
 use std::rt::Files;
+use whole_files::{FileFault, read};
 
 /// Adds a route, or takes one away, where that is asked for.
 fn change<A: Address>(routes: &mut Routes<A>, request: &Request<'_, A>) -> Result<(), Memory>
@@ -79,7 +79,7 @@ fn add_bad_edit(out: &mut Vec<u8>, number: u64, reason: Reason) -> Result<(), Al
 }
 
 /// Adds that there is no file to read, and why.
-fn add_fault(out: &mut Vec<u8>, fault: FileFault) -> Result<(), AllocError>
+pub(crate) fn add_fault(out: &mut Vec<u8>, fault: FileFault) -> Result<(), AllocError>
     ensures text { OnOk result (out.new.items ≡ out.old.items ++ no_file_answer fault) }
     ensures kept { IsPrefix out.old.items out.new.items }
 {

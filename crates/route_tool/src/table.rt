@@ -6,19 +6,16 @@ ghost use Rattle.route_tool.specs.Routes.{AreNetworks, hop_at, in_order, routes_
 
 use crate::hop::Hop;
 use crate::table::looks::Frozen;
-use radix_trie::iter::{Cursor, Iter};
+use crate::table::opened::grow;
+pub use crate::table::rest::Rest;
 use radix_trie::{Address, Memory, Network, Trie, TrieCommon, stored_keys_are_equal};
 use std::alloc::Global;
 use std::marker::Model;
 use std::net::{Ipv4Addr, Ipv6Addr};
 
 mod looks;
-
-/// A walk over routes.
-pub type Walk<'a, A> = Iter<'a, Network<A>, Hop>;
-
-/// A cursor over routes.
-pub type Rest<'a, A> = Cursor<'a, Network<A>, Hop>;
+mod opened;
+mod rest;
 
 /// Routes that are still to come, and how many they are.
 #[derive(Drop)]
@@ -32,7 +29,7 @@ pub struct Rows<'a, A: Address> {
 /// first bits of each network, those that its addresses share, to the network and its hop.
 ///
 /// The trie is what changes. Where many look-ups come between two changes, they are answered from the same routes in order;
-/// no answer depends on it.
+/// no answer depends on it. Routes that were opened stand in order alone, and the trie is grown at the first change.
 #[derive(Drop)]
 pub struct Routes<A: Address> {
     alloc: Global,
@@ -50,12 +47,11 @@ impl<A: Address> Model for Routes<A> {
 
     ghost coded = { routes_code A.code };
 
-    ghost use Rattle.route_tool.specs.Routes.{AreNetworks, AreAllOrNone};
+    ghost use Rattle.route_tool.specs.Routes.{AreHeldRoutes, held_routes};
 
-    ghost view = { λ r. r.trie };
+    ghost view = { λ r. held_routes A.BITS A.number r.trie r.frozen.rows };
 
-    ghost invariant = { λ r. AreNetworks A.BITS A.number r.trie
-        × AreAllOrNone r.trie r.frozen.rows };
+    ghost invariant = { λ r. AreHeldRoutes A.BITS A.number r.trie r.frozen.rows };
 }
 
 impl<A: Address> Routes<A> {
@@ -80,7 +76,7 @@ impl<A: Address> Routes<A> {
     {
         stored_keys_are_equal::<Network<A>, Hop>();
         let hop = Hop::new(self.alloc, hop.as_bytes())?;
-        self.frozen.thaw(self.alloc);
+        grow(self.alloc, &mut self.trie, &mut self.frozen)?;
         self.trie.insert(network, hop).map_err(|_| Memory)
     }
 
@@ -92,20 +88,23 @@ impl<A: Address> Routes<A> {
         ensures unchanged { OnErr result (self.new ≡ self.old) }
     {
         stored_keys_are_equal::<Network<A>, Hop>();
-        self.frozen.thaw(self.alloc);
+        grow(self.alloc, &mut self.trie, &mut self.frozen)?;
         self.trie.remove(network)
     }
 
     /// Lays the nodes of the tree anew, in the order of the routes, and freezes these. Where it is refused, the tree may be
-    /// laid anew.
+    /// laid anew. Routes that were opened are frozen already.
     pub fn compact(&mut self) -> Result<(), Memory>
         ensures same { self.new ≡ self.old }
     {
+        if self.trie.is_empty() {
+            return Ok(());
+        }
         self.trie.compact()?;
         self.freeze()
     }
 
-    /// The routes of the networks within this one, in the order of their bits; None where there is
+    /// The routes of the networks within this one, in the order of their bits; None, or a walk over none, where there is
     /// none.
     pub fn below(&self, network: &Network<A>) -> Result<Option<Rows<'_, A>>, Memory>
         ensures rows { IfOk result (λ o. IfSome o
@@ -113,11 +112,23 @@ impl<A: Address> Routes<A> {
         ensures none { IfOk result (λ o. IfNone o
             (routes_within A.BITS A.number self.now network.now ≡ [])) }
     {
+        if self.trie.is_empty() {
+            // For its clause that the base has 0 behind the bits.
+            network.base();
+            let rows = self.frozen.rows().below(network);
+            return Ok(Some(Rows {
+                count: rows.len(),
+                walk: Rest::new(rows, TrieCommon::cursor(&self.trie)),
+            }));
+        }
         match self.trie.get_raw_descendant(network)? {
             Some(view) => {
                 let count = TrieCommon::len(&view);
                 let walk = TrieCommon::cursor(&view);
-                Ok(Some(Rows { count, walk }))
+                Ok(Some(Rows {
+                    count,
+                    walk: Rest::new(&[], walk),
+                }))
             }
             None => Ok(None),
         }
@@ -127,22 +138,22 @@ impl<A: Address> Routes<A> {
     pub fn len(&self) -> usize
         ensures { result ≡ length (in_order self.now) }
     {
+        if self.trie.is_empty() {
+            return self.frozen.rows().len();
+        }
         self.trie.len()
     }
 
-    /// The same as a cursor, which begins at once.
+    /// All routes, in the order of their networks' bits, by a walk that begins at once.
     pub fn rest(&self) -> Rest<'_, A>
-        ensures { result ≡ in_order self.now }
-    {
-        TrieCommon::cursor(&self.trie)
-    }
-
-    /// All routes, in the order of their networks' bits.
-    pub fn walk(&self) -> Result<Walk<'_, A>, Memory>
-        ensures walk { IfOk result (λ walk. walk ≡ in_order self.now) }
+        ensures walk { result ≡ in_order self.now }
         ensures networks { AreNetworks A.BITS A.number self.now }
     {
-        TrieCommon::iter(&self.trie)
+        if self.trie.is_empty() {
+            let rows = self.frozen.rows().rows();
+            return Rest::new(rows, TrieCommon::cursor(&self.trie));
+        }
+        Rest::new(&[], TrieCommon::cursor(&self.trie))
     }
 }
 

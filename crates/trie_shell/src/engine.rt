@@ -145,7 +145,9 @@ impl<F: Files + AllocGlobal + Drop> Shell<F> {
             "complete" => answer_complete(answer),
             "quit" | "exit" => answer.refuse(NO_TERMINAL),
             "save" | "load" => answer_file(&self.files, &mut self.tries, answer),
-            "write" | "read" => self.tries.answer_frozen_file(&self.files, answer),
+            "write" | "read" | "write_image" | "read_image" => {
+                self.tries.answer_frozen_file(&self.files, answer)
+            }
             _ if answer_form(answer)? || answer_part(answer)? || answer_text(answer)? => Ok(()),
             _ => self.tries.answer(answer),
         }

@@ -183,6 +183,9 @@ pub const CALLS: &'static [&'static str] = &[
     "write NAME FILE: writes the frozen trie of this name to the file, anew; not text; no file.",
     "read NAME FILE: the frozen trie of the file, under this name; not text; no file; magic, version,",
     "read NAME FILE: short, value, unsorted, long or full, at pair NUMBER, byte NUMBER.",
+    "write_image NAME FILE: writes the frozen trie's image to the file, anew; not text; no file.",
+    "read_image NAME FILE: the frozen trie of the image in the file, under this name; not text; no file;",
+    "read_image NAME FILE: short, mark, version, part, pair or count PLACE.",
     "save FILE CALL[ ..]: writes what the call of a trie or a view answers to the file, anew; no file.",
     "load FILE CALL: makes the call with the words of the file behind it; no file.",
     "load FILE lines: stores each line of the file as a key, with the line's number, from 1 on, as its",
@@ -351,7 +354,7 @@ const GROUPS: &'static [Group] = &[
     },
     Group {
         name: "freezing",
-        about: "frozen tries, and files of them.",
+        about: "frozen tries, and files and images of them.",
         calls: &[
             "freeze",
             "frozen_copy",
@@ -368,6 +371,8 @@ const GROUPS: &'static [Group] = &[
             "finish",
             "write",
             "read",
+            "write_image",
+            "read_image",
         ],
     },
     Group {

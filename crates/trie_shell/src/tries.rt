@@ -5,6 +5,7 @@ ghost use Rattle.trie_shell.specs.Answers.{DoesCall, IsReread, IsTold};
 
 mod frozen;
 mod frozen_files;
+mod images;
 mod names;
 mod places;
 

@@ -1,13 +1,13 @@
 //! Look-ups, in the trie or among the same routes in order.
 ghost use Rattle.std.specs.Prelude.{◌≡◌, ◌≤◌, [], IfOk, IsOk, option_copied, option_map};
-ghost use Rattle.radix_trie.specs.Views.{pairs_below};
 ghost use Rattle.radix_trie.specs.Walks.{deref_pair};
-ghost use Rattle.route_tool.specs.Routes.{IsLongestRoute, hop_of};
+ghost use Rattle.route_tool.specs.Routes.{AreNetworks, IsLongestRoute, hop_of};
 
 use crate::hop::Hop;
 use crate::table::Routes;
+use frozen_networks::frozen_copy;
 use frozen_routes::FrozenRoutes;
-use radix_trie::{Address, Memory, Network, Trie, TrieCommon, TrieKey};
+use radix_trie::{Address, Memory, Network, Trie, TrieKey};
 use std::alloc::Global;
 
 // The routes are frozen once more than so many look-ups have come since the last change, and one more for each so many
@@ -36,6 +36,20 @@ impl<A: Address> Frozen<A> {
         }
     }
 
+    /// These rows.
+    pub fn of_rows(rows: FrozenRoutes<A, Hop>) -> Frozen<A>
+        ensures { result.rows ≡ rows }
+    {
+        Frozen { rows, looks: 0 }
+    }
+
+    /// The rows.
+    pub fn rows(&self) -> &FrozenRoutes<A, Hop>
+        ensures { result.now ≡ self.now.rows }
+    {
+        &self.rows
+    }
+
     /// Drops the rows, before a route changes.
     pub fn thaw(&mut self, alloc: Global)
         ensures { self.new.rows ≡ [] }
@@ -60,18 +74,20 @@ impl<A: Address> Frozen<A> {
     }
 }
 
-/// All pairs of a trie, in order, with hops of their own.
-fn rows_of<A: Address>(
+/// The longest network that holds the address, and its hop, by the trie.
+fn find_in_trie<A: Address>(
     alloc: Global,
     trie: &Trie<Network<A>, Hop>,
-) -> Result<Vec<(Network<A>, Hop)>, Memory>
-    ensures { IfOk result (λ rows. rows.items ≡ pairs_below trie.now []) }
+    address: A,
+) -> Result<Option<(&Network<A>, &Hop)>, Memory>
+    requires { AreNetworks A.BITS A.number trie.now }
+    ensures longest { IfOk result (λ found.
+        IsLongestRoute A.BITS A.number trie.now (A.number address)
+        (option_map deref_pair found)) }
+    ensures light { A.BITS ≤ 32 → IsOk result }
 {
-    let mut rows = Vec::with_capacity(alloc, trie.len())?;
-    for (network, hop) in TrieCommon::iter(trie)? {
-        rows.push((*network, Hop::new(alloc, hop.as_bytes())?))?;
-    }
-    Ok(rows)
+    let bits = Network::host(address).encode(alloc)?;
+    Ok(trie.nearest(&bits))
 }
 
 impl<A: Address> Routes<A> {
@@ -80,14 +96,13 @@ impl<A: Address> Routes<A> {
     pub(super) fn freeze(&mut self) -> Result<(), Memory>
         ensures same { self.new ≡ self.old }
     {
-        let rows = rows_of(self.alloc, &self.trie)?;
-        match FrozenRoutes::from_sorted(rows) {
-            Ok(frozen) => {
-                self.frozen.rows = frozen;
-                Ok(())
+        if !self.trie.is_empty() {
+            match frozen_copy(&self.trie) {
+                Ok(rows) => self.frozen.rows = rows,
+                Err(_) => return Err(Memory),
             }
-            Err(_) => Err(Memory),
         }
+        Ok(())
     }
 
     /// Counts a look-up that is to come, and freezes the routes where enough have come since the last change. Where memory
@@ -101,17 +116,6 @@ impl<A: Address> Routes<A> {
         }
     }
 
-    /// The longest network that holds the address, and its hop, by the trie.
-    fn find_in_trie(&self, address: A) -> Result<Option<(&Network<A>, &Hop)>, Memory>
-        ensures longest { IfOk result (λ found.
-            IsLongestRoute A.BITS A.number self.now (A.number address)
-            (option_map deref_pair found)) }
-        ensures light { A.BITS ≤ 32 → IsOk result }
-    {
-        let bits = Network::host(address).encode(self.alloc)?;
-        Ok(self.trie.nearest(&bits))
-    }
-
     /// The longest network that holds the address, and its hop.
     ///
     /// Never refused for an IPv4 address, nor where the routes are frozen.
@@ -122,7 +126,7 @@ impl<A: Address> Routes<A> {
         ensures light { A.BITS ≤ 32 → IsOk result }
     {
         if self.frozen.rows.is_empty() {
-            return self.find_in_trie(address);
+            return find_in_trie(self.alloc, &self.trie, address);
         }
         Ok(self.frozen.rows.look(address))
     }

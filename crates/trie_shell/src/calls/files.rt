@@ -1,13 +1,12 @@
 //! Calls whose answer goes to a file, or whose words come from one.
 
-use crate::files::{FileFault, replace};
+use crate::files::{BESIDE, tell_fault};
 use crate::request::read_call;
 use crate::tries::Tries;
 use radix_trie::Memory;
 use shell_words::{Answer, Words};
-use std::fs;
-use std::io::Read;
 use std::rt::Files;
+use whole_files::{FileFault, read_behind, replace};
 
 /// A file's name and the call behind it, which is one of tries and views.
 pub fn answer_file<F: Files + AllocGlobal>(
@@ -16,7 +15,7 @@ pub fn answer_file<F: Files + AllocGlobal>(
     answer: &mut Answer<'_>,
 ) -> Result<(), Memory> {
     let Some(path) = answer.next_read::<String>()? else {
-        return FileFault::BadName.tell(answer);
+        return tell_fault(FileFault::BadName, answer);
     };
     if answer.name() == "save" {
         save(files, path.as_str(), tries, answer)
@@ -41,8 +40,8 @@ fn save<F: Files>(
     if said.is_refusal() {
         return answer.put(said.as_bytes());
     }
-    let saved = match replace(answer.alloc(), files, path, said.as_bytes()) {
-        Err(FileFault::Memory) => replace(answer.alloc(), files, path, said.as_bytes()),
+    let saved = match replace(answer.alloc(), files, path, said.as_bytes(), BESIDE) {
+        Err(FileFault::Memory) => replace(answer.alloc(), files, path, said.as_bytes(), BESIDE),
         saved => saved,
     };
     match saved {
@@ -51,7 +50,7 @@ fn save<F: Files>(
             answer.lose();
             Err(Memory)
         }
-        Err(fault) => fault.tell(answer),
+        Err(fault) => tell_fault(fault, answer),
     }
 }
 
@@ -69,7 +68,7 @@ fn load<F: Files>(
         bytes.push(b' ')?;
     }
     if let Err(fault) = read_behind(files, path, &mut bytes) {
-        return fault.tell(answer);
+        return tell_fault(fault, answer);
     }
     if name == "lines" {
         return tries.answer_lines(bytes.as_slice(), answer);
@@ -82,20 +81,6 @@ fn load<F: Files>(
         answer_inner(tries, &mut made, answer)?;
     }
     answer.put(made.as_bytes())
-}
-
-/// Adds the bytes of the file.
-fn read_behind<F: Files>(files: &F, path: &str, bytes: &mut Vec<u8>) -> Result<(), FileFault> {
-    let found = fs::metadata(files, path)?;
-    if found.is_dir() {
-        return Err(FileFault::Folder);
-    }
-    if !found.is_file() {
-        return Err(FileFault::NotPlain);
-    }
-    let mut file = fs::open(files, path)?;
-    file.read_to_end(bytes)?;
-    Ok(())
 }
 
 /// Makes the call with an answer of its own. What is lost for that one is lost for the whole line.

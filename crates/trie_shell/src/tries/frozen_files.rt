@@ -1,23 +1,61 @@
-//! Frozen tries as files.
+//! Frozen tries as files, of pairs or of an image.
 
 use crate::calls::FrozenTable;
-use crate::files::{FileFault, replace};
+use crate::files::{BESIDE, tell_fault};
 use crate::tries::Tries;
 use crate::tries::frozen::NO_FROZEN;
+use crate::tries::images::{image_line, read_image, write_image};
 use crate::tries::names::NO_NAME;
+use flat_texts::ImageError;
 use frozen_trie::{FileError, FileWhy, FrozenTexts, FrozenTrie};
 use radix_trie::Memory;
 use shell_words::{Answer, Face, Key, Kind, Words};
 use std::alloc::Global;
 use std::fs;
-use std::io::BufReader;
+use std::io::{BufReader, Error};
 use std::rt::Files;
+use whole_files::{FileFault, replace};
 
 /// What is answered where a key is no text.
 const NO_TEXT: &'static str = "not text";
 
+/// Why no pairs are read.
+#[derive(Clone, Copy)]
+pub(super) enum Unread {
+    /// There is no file, or none that can be read.
+    File(FileFault),
+    /// The bytes are no file of pairs.
+    Pairs(FileError),
+    /// The bytes are no image.
+    Image(ImageError),
+}
+
+impl From<FileFault> for Unread {
+    fn from(fault: FileFault) -> Unread {
+        Unread::File(fault)
+    }
+}
+
+impl From<Error> for Unread {
+    fn from(error: Error) -> Unread {
+        Unread::File(error.into())
+    }
+}
+
+impl From<FileError> for Unread {
+    fn from(error: FileError) -> Unread {
+        Unread::Pairs(error)
+    }
+}
+
+impl From<ImageError> for Unread {
+    fn from(error: ImageError) -> Unread {
+        Unread::Image(error)
+    }
+}
+
 impl Tries {
-    /// Writes the frozen trie of a name as a file, or makes it of one.
+    /// Writes the frozen trie of a name to a file, or makes it of one.
     pub fn answer_frozen_file<F: Files>(
         &mut self,
         files: &F,
@@ -28,9 +66,9 @@ impl Tries {
             return answer.refuse(NO_NAME);
         }
         let Some(path) = answer.next_read::<String>()? else {
-            return FileFault::BadName.tell(answer);
+            return tell_fault(FileFault::BadName, answer);
         };
-        if answer.name() == "write" {
+        if matches!(answer.name(), "write" | "write_image") {
             return match self.frozen_of(name) {
                 Some(frozen) => write(&*frozen, files, path.as_str(), answer),
                 None => answer.refuse(NO_FROZEN),
@@ -53,13 +91,11 @@ impl Tries {
         answer: &mut Answer<'_>,
     ) -> Result<(), Memory> {
         let place = self.made_frozen_place_of(name)?;
-        let mut input = match opened(self.alloc, files, path) {
-            Ok(input) => input,
-            Err(fault) => return fault.tell(answer),
-        };
-        let texts = match FrozenTexts::read(self.alloc, &mut input) {
+        let texts = match read_texts(self.alloc, files, path, answer.name() == "read_image") {
             Ok(texts) => texts,
-            Err(error) => return fault_line(answer, error),
+            Err(Unread::File(fault)) => return tell_fault(fault, answer),
+            Err(Unread::Pairs(error)) => return fault_line(answer, error),
+            Err(Unread::Image(error)) => return image_line(answer, error),
         };
         match frozen_of(&texts, &*answer)? {
             Some(frozen) => self.put_frozen(place, frozen, answer),
@@ -68,7 +104,7 @@ impl Tries {
     }
 }
 
-/// Puts a file of a frozen trie in place of the file.
+/// Puts a file of a frozen trie, or its image, in place of the file.
 fn write<F: Files>(
     frozen: &FrozenTable,
     files: &F,
@@ -78,14 +114,38 @@ fn write<F: Files>(
     let Some(texts) = texts_of(frozen, answer.alloc())? else {
         return answer.refuse(NO_TEXT);
     };
-    let mut bytes = Vec::new(answer.alloc());
-    let written = match texts.write(&mut bytes) {
-        Ok(()) => replace(answer.alloc(), files, path, bytes.as_slice()),
-        Err(error) => Err(error.into()),
+    let written = match bytes_of(&texts, answer.alloc(), answer.name() == "write_image") {
+        Ok(bytes) => replace(answer.alloc(), files, path, bytes.as_slice(), BESIDE),
+        Err(fault) => Err(fault),
     };
     match written {
         Ok(()) => answer.line("ok"),
-        Err(fault) => fault.tell(answer),
+        Err(fault) => tell_fault(fault, answer),
+    }
+}
+
+/// What a file of these pairs holds, or their image.
+fn bytes_of(texts: &FrozenTexts<u64>, alloc: Global, is_image: bool) -> Result<Vec<u8>, FileFault> {
+    if is_image {
+        return write_image(texts, alloc);
+    }
+    let mut bytes = Vec::new(alloc);
+    texts.write(&mut bytes)?;
+    Ok(bytes)
+}
+
+/// The pairs of the file or the stream of this name, or of the image in it.
+fn read_texts<F: Files>(
+    alloc: Global,
+    files: &F,
+    path: &str,
+    is_image: bool,
+) -> Result<FrozenTexts<u64>, Unread> {
+    let mut input = opened(alloc, files, path)?;
+    if is_image {
+        read_image(alloc, &mut input)
+    } else {
+        Ok(FrozenTexts::read(alloc, &mut input)?)
     }
 }
 
@@ -149,7 +209,7 @@ fn fault_line(answer: &mut Answer<'_>, error: FileError) -> Result<(), Memory> {
     let FileError { why, pair, place } = error;
     let reason = match why {
         FileWhy::Memory => return Err(Memory),
-        FileWhy::Read => return FileFault::Failed.tell(answer),
+        FileWhy::Read => return tell_fault(FileFault::Failed, answer),
         FileWhy::Magic => "magic",
         FileWhy::Version => "version",
         FileWhy::Short => "short",

@@ -5,6 +5,9 @@ use Rattle.route_tool.specs.Requests as asked
 use Rattle.route_tool.proofs.AnswerLemmas.{answers_too}
 use Rattle.route_tool.proofs.answers.answer.Goals as goal
 
+pub returns-in-OnFile-clause-left : goal.returns-in-OnFile-clause-left
+returns-in-OnFile-clause-left g c = rw c.in-OnFile.is c.on_file.ensures.left
+
 pub returns-in-Aggregate-clause-answer : goal.returns-in-Aggregate-clause-answer
 returns-in-Aggregate-clause-answer g c =
     rw c.in-Aggregate.is

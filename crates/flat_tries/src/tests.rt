@@ -1,0 +1,115 @@
+//! Frozen tries there and back, keys that have no image, and bytes that are of no key.
+
+use crate::{ImageError, ImageKey, TrieError, from_image, to_image};
+use frozen_trie::FrozenTrie;
+use radix_keys::{BytesError, Nibblet, TrieKey};
+use std::alloc::Global;
+
+/// The frozen trie of keys in order, each with its index.
+fn trie_of<K: TrieKey + Drop>(alloc: Global, keys: Vec<K>) -> Option<FrozenTrie<K, u64>> {
+    let mut trie = FrozenTrie::new(alloc);
+    for key in keys {
+        let value = trie.len() as u64;
+        trie.push(key, value).ok()?;
+    }
+    Some(trie)
+}
+
+/// Whether the trie of keys in order is that of its image again.
+fn is_back<K: ImageKey>(alloc: Global, keys: Vec<K>) -> Option<bool> {
+    let trie = trie_of(alloc, keys)?;
+    let image = to_image(alloc, &trie, b"own").ok()?;
+    let again = from_image::<K>(alloc, &image).ok()?;
+    let (_, own) = flat_texts::payload(&image)?;
+    if own != 3 || again.len() != trie.len() {
+        return Some(false);
+    }
+    for at in 0..trie.len() {
+        let (key, value) = trie.nth(at)?;
+        let (key_again, value_again) = again.nth(at)?;
+        if key != key_again || value != value_again {
+            return Some(false);
+        }
+    }
+    Some(true)
+}
+
+/// The same of texts.
+fn texts_are_back(alloc: Global) -> Option<bool> {
+    let mut keys = Vec::new(alloc);
+    for characters in ["", "a", "ab", "b", "é"] {
+        keys.push(String::from_str(alloc, characters).ok()?).ok()?;
+    }
+    is_back(alloc, keys)
+}
+
+/// The same of lists of bytes.
+fn lists_are_back(alloc: Global) -> Option<bool> {
+    let mut keys = Vec::new(alloc);
+    for end in [0u8, 9, 255] {
+        keys.push(Vec::from_slice(alloc, &[0, end]).ok()?).ok()?;
+    }
+    is_back(alloc, keys)
+}
+
+/// The same of numbers.
+fn numbers_are_back<K: ImageKey + Copy>(alloc: Global, keys: &[K]) -> Option<bool> {
+    let keys = Vec::from_slice(alloc, keys).ok()?;
+    is_back(alloc, keys)
+}
+
+#[test]
+fn there_and_back(rt: HostRuntime) {
+    assert!(rt; texts_are_back(rt.alloc()) == Some(true));
+    assert!(rt; lists_are_back(rt.alloc()) == Some(true));
+    assert!(rt; numbers_are_back(rt.alloc(), &[0u8, 9, 255]) == Some(true));
+    assert!(rt; numbers_are_back(rt.alloc(), &[0u16, 255, 256]) == Some(true));
+    assert!(rt; numbers_are_back(rt.alloc(), &[1u32, 65536, u32::MAX]) == Some(true));
+    assert!(rt; numbers_are_back(rt.alloc(), &[1u64, 4294967296, u64::MAX]) == Some(true));
+}
+
+/// The image of two keys of bytes, the first of which is UTF-8 and both of which have two bytes.
+fn image_of_bytes(alloc: Global) -> Option<Vec<u8>> {
+    let mut keys = Vec::new(alloc);
+    keys.push(Vec::from_slice(alloc, b"ab").ok()?).ok()?;
+    keys.push(Vec::from_slice(alloc, &[255u8, 254]).ok()?).ok()?;
+    let trie = trie_of(alloc, keys)?;
+    to_image(alloc, &trie, b"").ok()
+}
+
+/// The error of bytes that are no image of keys of a type.
+fn fault_of<K: ImageKey>(alloc: Global, image: &[u8]) -> Option<TrieError> {
+    from_image::<K>(alloc, image).err()
+}
+
+/// Whether what is wrong with bytes is told: the pair that is of no key, or that there is no room for a head.
+fn are_told(alloc: Global) -> Option<bool> {
+    let image = image_of_bytes(alloc)?;
+    let short = Some(TrieError::Image(ImageError::Short));
+    Some(
+        fault_of::<u16>(alloc, &image).is_none()
+            && fault_of::<String>(alloc, &image) == Some(TrieError::Key(1))
+            && fault_of::<u32>(alloc, &image) == Some(TrieError::Key(0))
+            && fault_of::<u16>(alloc, image.get(..39)?) == short,
+    )
+}
+
+#[test]
+fn bytes_of_no_key(rt: HostRuntime) {
+    assert!(rt; are_told(rt.alloc()) == Some(true));
+}
+
+/// The error of a list of three nibbles.
+fn fault_of_odd(alloc: Global) -> Option<BytesError> {
+    let mut keys = Vec::new(alloc);
+    for digits in ["12", "123"] {
+        keys.push(Nibblet::from_hex(alloc, digits).ok()??).ok()?;
+    }
+    let trie = trie_of(alloc, keys)?;
+    to_image(alloc, &trie, b"").err()
+}
+
+#[test]
+fn lists_of_an_odd_count(rt: HostRuntime) {
+    assert!(rt; fault_of_odd(rt.alloc()) == Some(BytesError::Odd));
+}

@@ -1,7 +1,0 @@
--- The rows so far, and those that the walk still has.
-use Rattle.std.proofs.Common.{◌≡◌, ◌++◌, []}
-use Rattle.radix_trie.specs.Views.{pairs_below}
-use Rattle.route_tool.proofs.table.looks.rows_of.Given as goal
-
-abbrev pub invariant-loop-network : goal.invariant-loop-network
-invariant-loop-network g l = pairs_below l.fn.trie [] ≡ l.rows.items ++ l.network-iterator

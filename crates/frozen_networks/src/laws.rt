@@ -18,7 +18,8 @@ pub fn networks_rise_as_their_bits<A, V>()
         → IsEarlier m k n j ↔ IsBefore (first_bits w m k) (first_bits w n j) }
     ensures rising { (w : ℕ) (number : A → ℕ) (rows : List (Net A × V))
         → AreRowsInOrder w number rows
-        ↔ (Each (λ r. IsNetwork w number r.0) rows × IsRising (codes_of (network_code w number) rows)) }
+        ↔ (Each (λ r. IsNetwork w number r.0) rows
+            × IsRising (codes_of (network_code w number) rows)) }
 {}
 
 /// The rows of a map's networks are the map's again, and rows in order are those of their map, which is made by storing

@@ -63,6 +63,14 @@ impl<A: Address, V> FrozenRoutes<A, V> {
         self.rows.as_slice()
     }
 
+    /// All rows, in order. It allocates nothing.
+    pub fn into_rows(self) -> Vec<(Network<A>, V)>
+        ensures rows { result.items ≡ self }
+        ensures rising { AreRowsInOrder A.BITS A.number self }
+    {
+        self.rows
+    }
+
     /// The row of the longest network that holds an address, or None where none does. It allocates nothing.
     ///
     /// It takes as many comparisons as the count of rows has binary digits, and then a step for each network around the
@@ -106,9 +114,10 @@ impl<A: Address, V> FrozenRoutes<A, V> {
         (entry_at(&self.rows, at), self.up[at] as usize)
     }
 
-    /// The walk over the rows whose networks hold an address, the longest first. It allocates nothing.
+    /// The walk over the rows whose networks hold an address, the longest first; from its other end, in order. It
+    /// allocates nothing.
     ///
-    /// It takes the time of `look`, and begins with the row that this returns.
+    /// It takes the time of `look` and a step for each of these rows, and begins with the row that `look` returns.
     pub fn networks_above(&self, address: A) -> NetworksAbove<'_, A, V>
         ensures walk { result ≡ reverse (filter (is_holder A.BITS A.number (A.number address))
             self.now) }

@@ -8,5 +8,4 @@ pub mod Copied
 pub mod Prefixes
 pub mod Written
 pub mod Changed
-pub mod Ups
 pub mod Laws

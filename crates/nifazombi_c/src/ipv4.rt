@@ -17,7 +17,8 @@ use flat_routes::ipv4::{self, Row};
 #[unsafe(no_mangle)]
 pub extern "C" fn nifazombi_ipv4_check(image: &[u8], at: &mut usize) -> u32
     ensures image { (result ≡ 0) ↔ IsImage of_ipv4 image.now }
-    ensures fault { (result ≡ 0) ⊎ IsSomeAnd (told_error result at.new) (IsRouteFault of_ipv4 image.now) }
+    ensures fault { (result ≡ 0)
+        ⊎ IsSomeAnd (told_error result at.new) (IsRouteFault of_ipv4 image.now) }
 {
     code_of(ipv4::check(image), at)
 }

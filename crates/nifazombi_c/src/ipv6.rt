@@ -17,7 +17,8 @@ use flat_routes::ipv6::{self, Row};
 #[unsafe(no_mangle)]
 pub extern "C" fn nifazombi_ipv6_check(image: &[u8], at: &mut usize) -> u32
     ensures image { (result ≡ 0) ↔ IsImage of_ipv6 image.now }
-    ensures fault { (result ≡ 0) ⊎ IsSomeAnd (told_error result at.new) (IsRouteFault of_ipv6 image.now) }
+    ensures fault { (result ≡ 0)
+        ⊎ IsSomeAnd (told_error result at.new) (IsRouteFault of_ipv6 image.now) }
 {
     code_of(ipv6::check(image), at)
 }

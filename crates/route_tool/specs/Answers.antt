@@ -14,7 +14,7 @@ use Rattle.image_parts.specs.declared.errors.ImageError.{ImageError}
 use Rattle.image_parts.specs.declared.errors.ImageError.TheVariants as image
 use Rattle.route_tool.specs.Loads.{AreCarriedOut, IsFirstBad, IsLoadedInPart, lines_in}
 use Rattle.route_tool.specs.Reasons.{reason_text}
-use Rattle.route_tool.specs.RouteImages.{AreOpened, IsOpenFault}
+use Rattle.route_tool.specs.RouteImages.{AreOpened, AreTooLong, IsOpenFault}
 use Rattle.route_tool.specs.Requests.{Request, Add, Del, Below, Look, Find, Asked, V4, V6, Len, All, Dump, Aggregate, Compact, OnFile, Help, Comment}
 use Rattle.route_tool.specs.Routes.{Route, Routes, IsLongestRoute, hop_at, hop_of, in_order, routes_within, with_route, without_route}
 use Rattle.route_tool.specs.declared.command.FileCall.{FileCall}
@@ -173,18 +173,19 @@ IsFileOpen t u answer =
     ((bytes : List ℕ) × IsOpen bytes t u answer)
     ⊎ ((fault : FileFault) × (u ≡ t) × (answer ≡ no_file_answer fault))
 
--- so many routes are written to a file; or there is none, or too many for an image
-abbrev pub IsFileWrite : ℕ → List ℕ → Type 0
-IsFileWrite count answer =
-    (answer ≡ count_answer count)
-    ⊎ (((fault : FileFault) × (answer ≡ no_file_answer fault)) ⊎ (answer ≡ no_image_answer (codes "full")))
+-- all routes of a family are written to a file; or there is none, or they are too many for an image
+abbrev pub IsFileWrite : {A : Type 0} → Bool → List (Route A) → List ℕ → Type 0
+IsFileWrite wide routes answer =
+    (answer ≡ count_answer (length routes))
+    ⊎ (((fault : FileFault) × (answer ≡ no_file_answer fault))
+        ⊎ (AreTooLong wide routes × (answer ≡ no_image_answer (codes "full"))))
 
 -- the answer to what is done with a file, and the table after it
 abbrev pub IsFileAnswer : FileCall → Table → Table → List ℕ → Type 0
 IsFileAnswer Load t u answer = IsFileLoad t u answer
 IsFileAnswer Open t u answer = IsFileOpen t u answer
-IsFileAnswer WriteIpv4 t u answer = IsFileWrite (length (in_order t.v4)) answer × (u ≡ t)
-IsFileAnswer WriteIpv6 t u answer = IsFileWrite (length (in_order t.v6)) answer × (u ≡ t)
+IsFileAnswer WriteIpv4 t u answer = IsFileWrite of_ipv4 (in_order t.v4) answer × (u ≡ t)
+IsFileAnswer WriteIpv6 t u answer = IsFileWrite of_ipv6 (in_order t.v6) answer × (u ≡ t)
 
 -- memory was refused while a file was loaded
 abbrev pub IsFileBegun : FileCall → Table → Table → Type 0

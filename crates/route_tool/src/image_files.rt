@@ -1,5 +1,5 @@
 //! Files that are images of routes: they are opened, and written.
-ghost use Rattle.std.specs.Prelude.{◌≡◌, ◌≢◌, ◌⊎◌, ◌++◌, ℕ, List, Err, IfErr, OnErr, OnOk, decimal, length};
+ghost use Rattle.std.specs.Prelude.{◌≡◌, ◌≢◌, ◌⊎◌, ◌++◌, ℕ, List, Err, IfErr, OnErr, OnOk, decimal};
 ghost use Rattle.nibble_map.specs.Lists.{IsPrefix};
 ghost use Rattle.frozen_networks.specs.Networks.{network_map};
 ghost use Rattle.route_tool.specs.Answers.{IsFileOpen, IsFileWrite, IsOpen, image_error_text, no_image_answer, open_answer, open_fault_text};
@@ -143,7 +143,7 @@ pub fn write<F: Files, A: ImageFamily>(
     path: &str,
 ) -> Result<(), Memory>
     ensures answer { OnOk result ((answer : List ℕ) × (out.new.items ≡ out.old.items ++ answer)
-        × IsFileWrite (length (in_order routes.now)) answer) }
+        × IsFileWrite A.WIDE (in_order routes.now) answer) }
     ensures kept { IsPrefix out.old.items out.new.items }
 {
     let alloc = *out.allocator();

@@ -2,3 +2,4 @@
 pub mod Parts
 pub mod Links
 pub mod Walks
+pub mod Ups

@@ -255,7 +255,8 @@ impl Codes {
         requires heads { IsLevel self.now 1 heads.now [] }
         requires steps { AreSteps heads.now steps.now }
         requires tops { AreTops heads.now tops.now }
-        ensures cut { IsCut (is_in_front sought.now.is_through sought.now.list.now) self.now result.0 }
+        ensures cut { IsCut (is_in_front sought.now.is_through sought.now.list.now) self.now
+            result.0 }
         ensures found { IsTrue result.1 → (sought.now.is_through ≡ false)
             × (result.0 < length self.now) × (code_at self.now result.0 ≡ sought.now.list.now) }
         ensures apart { result.1 ≡ false → sought.now.is_through ≡ false

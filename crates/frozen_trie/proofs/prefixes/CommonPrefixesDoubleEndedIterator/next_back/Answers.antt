@@ -1,7 +1,7 @@
 use Rattle.std.proofs.Common.{◌≡◌, ◌+◌, ◌-◌, ◌++◌, [], ◌∷◌, take, refl, sym, ap, ◌∙◌, arith}
 use Rattle.radix_trie.specs.Walks.{deref_pair}
 use Rattle.frozen_trie.specs.Frozen.{prefixes_up}
-use Rattle.frozen_trie.proofs.FrozenLemmas.Ups.{last_up, one_up, some_left}
+use Rattle.sorted_tables.proofs.TableLemmas.Ups.{last_up, one_up, some_left}
 use Rattle.frozen_trie.proofs.prefixes.CommonPrefixesDoubleEndedIterator.next_back.Goals as goal
 
 pub overflow_sub-at : goal.overflow_sub-at

@@ -3,5 +3,7 @@
 pub mod OrderLemmas
 -- The map of rows, and the rows of a map.
 pub mod MapLemmas
--- Rows that are copied one by one.
+-- Rows that are copied one by one, or moved.
 pub mod RowLemmas
+-- What the map of rows answers, by the words of tables.
+pub mod QueryLemmas

@@ -1,5 +1,5 @@
--- Rows that are copied one by one.
-use Rattle.std.proofs.Common.{◌≡◌, ℕ, zero, suc, ◌+◌, List, [], ◌∷◌, ◌++◌, length, take, drop, sym, ap, subst, ◌∙◌, append_assoc}
+-- Rows that are copied one by one, or moved.
+use Rattle.std.proofs.Common.{◌≡◌, ℕ, zero, suc, ◌+◌, List, [], ◌∷◌, ◌++◌, length, take, drop, sym, ap, subst, ◌∙◌, append-nil, append_assoc}
 use Rattle.std.proofs.lemmas.List.{map-append, take-append-drop}
 use Rattle.std.specs.FinMap as fin
 use Rattle.nibble_map.specs.Lists.{Each, IsRising}
@@ -10,6 +10,7 @@ use Rattle.radix_trie.specs.Views.{pairs_below}
 use Rattle.frozen_routes.specs.Routes.{AreRowsInOrder, IsFirstOutOfOrder}
 use Rattle.frozen_trie.specs.Frozen.{codes_of}
 use Rattle.frozen_trie.proofs.FrozenLemmas.Growth.{rising_front}
+use Rattle.frozen_trie.proofs.FrozenLemmas.Thawed.{none_of_empty}
 use Rattle.frozen_trie.proofs.FrozenLemmas.Whole.{count_whole}
 use Rattle.frozen_networks.specs.Networks.{IsNetwork, network_code}
 use Rattle.frozen_networks.proofs.OrderLemmas.{rising_rows, rows_of_networks, rows_rise}
@@ -30,6 +31,10 @@ module _ {K V : Type 0} where
   -- as many rows as the map has pairs
   pub count_rows : (m : PairMap K V) (rows : List (K × V)) → rows ≡ pairs_below m [] → length rows ≡ fin.len m
   count_rows m rows e = ap length e ∙ count_whole m
+
+  -- rows and those of an empty map are the rows
+  pub rows_in_front : (rows : List (K × V)) (m : PairMap K V) → m ≡ fin.empty → rows ++ pairs_below m [] ≡ rows
+  rows_in_front rows m e = ap (λ n. rows ++ pairs_below n []) e ∙ ap (λ none. rows ++ none) (none_of_empty (λ key. [])) ∙ append-nil rows
 
   -- what holds of each item holds of each of the first
   each_of_first : (Q : K × V → Type 0) (n : ℕ) (rows : List (K × V)) → Each Q rows → Each Q (take n rows)

@@ -19,7 +19,7 @@ pub fn networks_rise_as_their_bits<A, V>()
     ensures rising { (w : ℕ) (number : A → ℕ) (rows : List (Net A × V))
         → AreRowsInOrder w number rows
         ↔ (Each (λ r. IsNetwork w number r.0) rows
-            × IsRising (codes_of (network_code w number) rows)) }
+        × IsRising (codes_of (network_code w number) rows)) }
 {}
 
 /// The rows of a map's networks are the map's again, and rows in order are those of their map, which is made by storing

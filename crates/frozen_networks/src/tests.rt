@@ -1,6 +1,6 @@
-//! Networks of both families, there and back, and clones that are refused.
+//! Networks of both families, there and back by copies and by moves, and clones that are refused.
 
-use crate::{FreezeWhy, frozen_copy, thawed_copy};
+use crate::{FreezeWhy, freeze, frozen_copy, thaw, thawed_copy};
 use frozen_routes::FrozenRoutes;
 use radix_keys::{Address, Network};
 use radix_trie::Trie;
@@ -16,18 +16,33 @@ fn trie_of<A: Address>(alloc: Global, texts: &[&'static str]) -> Option<Trie<Net
     Some(trie)
 }
 
-/// Whether the rows of their trie have these indices in order, and the trie of the rows is the same.
-fn are_copied<A: Address>(alloc: Global, texts: &[&'static str], order: &[usize]) -> Option<bool> {
-    let trie = trie_of::<A>(alloc, texts)?;
-    let routes = frozen_copy(&trie).ok()?;
+/// Whether the table's networks have these indices in order, which the trie has too.
+fn are_rows<A: Address>(
+    routes: &FrozenRoutes<A, usize>,
+    trie: &Trie<Network<A>, usize>,
+    order: &[usize],
+) -> Option<bool> {
     let mut rest = order.iter();
     for (network, index) in routes.rows() {
         if rest.next() != Some(index) || trie.get(network).ok()? != Some(index) {
             return Some(false);
         }
     }
-    let again = thawed_copy(alloc, &routes).ok()?;
-    Some(rest.next().is_none() && again.len() == trie.len() && again == trie)
+    Some(rest.next().is_none())
+}
+
+/// Whether the tables of their trie have these indices in order, a copy and the one that a trie becomes, and the tries of
+/// these tables are the same.
+fn go_back<A: Address>(alloc: Global, texts: &[&'static str], order: &[usize]) -> Option<bool> {
+    let trie = trie_of::<A>(alloc, texts)?;
+    let copied = frozen_copy(&trie).ok()?;
+    let moved = freeze(trie_of::<A>(alloc, texts)?).ok()?;
+    if !are_rows(&copied, &trie, order)? || !are_rows(&moved, &trie, order)? {
+        return Some(false);
+    }
+    let again = thawed_copy(alloc, &copied).ok()?;
+    let back = thaw(alloc, moved).ok()?;
+    Some(again.len() == trie.len() && again == trie && back.len() == trie.len() && back == trie)
 }
 
 #[test]
@@ -56,11 +71,11 @@ fn there_and_back(rt: HostRuntime) {
         ),
     ];
     for (texts, order) in FOUR {
-        let right = are_copied::<Ipv4Addr>(rt.alloc(), texts, order);
+        let right = go_back::<Ipv4Addr>(rt.alloc(), texts, order);
         assert!(rt; right == Some(true));
     }
     for (texts, order) in SIX {
-        let right = are_copied::<Ipv6Addr>(rt.alloc(), texts, order);
+        let right = go_back::<Ipv6Addr>(rt.alloc(), texts, order);
         assert!(rt; right == Some(true));
     }
 }
@@ -100,5 +115,8 @@ fn refused_clones(rt: HostRuntime) -> Result<(), AllocError> {
     assert!(rt; matches!(frozen_copy(&trie), Err(FreezeWhy::Memory)));
     assert!(rt; thawed_copy(rt.alloc(), &routes).is_err());
     assert!(rt; trie.len() == 5 && routes.len() == 5);
+    // What is moved isn't cloned.
+    assert!(rt; matches!(freeze(trie), Ok(table) if table.len() == 5));
+    assert!(rt; matches!(thaw(rt.alloc(), routes), Ok(map) if map.len() == 5));
     Ok(())
 }

@@ -116,7 +116,13 @@ fn refused_clones(rt: HostRuntime) -> Result<(), AllocError> {
     assert!(rt; thawed_copy(rt.alloc(), &routes).is_err());
     assert!(rt; trie.len() == 5 && routes.len() == 5);
     // What is moved isn't cloned.
-    assert!(rt; matches!(freeze(trie), Ok(table) if table.len() == 5));
-    assert!(rt; matches!(thaw(rt.alloc(), routes), Ok(map) if map.len() == 5));
+    let Ok(moved) = freeze(trie) else {
+        return Err(AllocError);
+    };
+    assert!(rt; moved.len() == 5);
+    let Ok(back) = thaw(rt.alloc(), moved) else {
+        return Err(AllocError);
+    };
+    assert!(rt; back.len() == 5);
     Ok(())
 }

@@ -10,7 +10,7 @@ use Rattle.radix_trie.specs.Views.{pairs_below}
 use Rattle.frozen_routes.specs.Routes.{AreRowsInOrder, IsFirstOutOfOrder}
 use Rattle.frozen_trie.specs.Frozen.{codes_of}
 use Rattle.frozen_trie.proofs.FrozenLemmas.Growth.{rising_front}
-use Rattle.frozen_trie.proofs.FrozenLemmas.Thawed.{none_of_empty}
+use Rattle.frozen_trie.proofs.FrozenLemmas.Thawed.{IsThawed, none_of_empty, one_thawed}
 use Rattle.frozen_trie.proofs.FrozenLemmas.Whole.{count_whole}
 use Rattle.frozen_networks.specs.Networks.{IsNetwork, network_code}
 use Rattle.frozen_networks.proofs.OrderLemmas.{rising_rows, rows_of_networks, rows_rise}
@@ -56,3 +56,11 @@ module _ {A V : Type 0} (w : ℕ) (number : A → ℕ) where
       → IsRising (codes_of (network_code w number) (pairs_below m [])) → IsFirstOutOfOrder w number rows i → ⊥
   no_copy_out_of_order m rows i copied networks rises first =
       first.unsorted (first_in_order (i + 1) rows (rising_rows w number rows networks (subst (λ ps. IsRising (codes_of (network_code w number) ps)) (sym copied) rises)))
+
+  -- the last of the rows in front is put into the map of the others
+  pub one_row_thawed : (rows all before front : List (Net A × V)) (r : Net A × V) (m n : PairMap (Net A) V) → AreRowsInOrder w number rows → all ≡ rows
+      → before ≡ front ++ r ∷ [] → IsThawed (network_code w number) all before m → n ≡ fin.insert m (network_code w number r.0) r → IsThawed (network_code w number) all front n
+  one_row_thawed rows all before front r m n rising same taken so_far put =
+      let code = network_code w number in
+      let rises = subst (λ rs. IsRising (codes_of code rs)) (sym same) (rows_rise w number rows rising) in
+      one_thawed code all front r m n rises (subst (λ rs. IsThawed code all rs m) taken so_far) put

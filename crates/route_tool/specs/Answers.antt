@@ -178,7 +178,7 @@ abbrev pub IsFileWrite : {A : Type 0} → Bool → List (Route A) → List ℕ �
 IsFileWrite wide routes answer =
     (answer ≡ count_answer (length routes))
     ⊎ (((fault : FileFault) × (answer ≡ no_file_answer fault))
-        ⊎ (AreTooLong wide routes × (answer ≡ no_image_answer (codes "full"))))
+    ⊎ (AreTooLong wide routes × (answer ≡ no_image_answer (codes "full"))))
 
 -- the answer to what is done with a file, and the table after it
 abbrev pub IsFileAnswer : FileCall → Table → Table → List ℕ → Type 0

@@ -1,1 +1,2 @@
 pub mod TrieImages
+pub mod ValueImages

@@ -9,7 +9,7 @@ module _ {K : Type 0} (enc : K → List ℕ) where
   IsCodedPair p q = (nibbles p.0 ≡ enc q.0) × (p.1 ≡ q.1)
 
   -- the encoding of some key has an odd count of nibbles
-  abbrev pub HasOddKey : List (K × ℕ) → Type 0
+  abbrev pub HasOddKey : {V : Type 0} → List (K × V) → Type 0
   HasOddKey ps = Any (λ p. length (enc p.0) % 2 ≡ 1) ps
 
   -- the bytes of the pair at i are the encoding of no key that is a value of its type

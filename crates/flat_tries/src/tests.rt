@@ -1,6 +1,9 @@
-//! Frozen tries there and back, keys that have no image, and bytes that are of no key.
+//! Frozen tries there and back, keys that have no image, and bytes that are of no key or no value.
 
-use crate::{ImageError, ImageKey, TrieError, from_image, to_image};
+use crate::{
+    FileItem, ImageError, ImageKey, TrieError, ValuesError, bytes_at, from_image,
+    from_image_of_values, own_bytes, to_image, to_image_of_values,
+};
 use frozen_trie::FrozenTrie;
 use radix_keys::{BytesError, Nibblet, TrieKey};
 use std::alloc::Global;
@@ -66,6 +69,7 @@ fn there_and_back(rt: HostRuntime) {
     assert!(rt; numbers_are_back(rt.alloc(), &[0u16, 255, 256]) == Some(true));
     assert!(rt; numbers_are_back(rt.alloc(), &[1u32, 65536, u32::MAX]) == Some(true));
     assert!(rt; numbers_are_back(rt.alloc(), &[1u64, 4294967296, u64::MAX]) == Some(true));
+    assert!(rt; numbers_are_back(rt.alloc(), &[1u128, 1 << 64, u128::MAX]) == Some(true));
 }
 
 /// The image of two keys of bytes, the first of which is UTF-8 and both of which have two bytes.
@@ -112,4 +116,62 @@ fn fault_of_odd(alloc: Global) -> Option<BytesError> {
 #[test]
 fn lists_of_an_odd_count(rt: HostRuntime) {
     assert!(rt; fault_of_odd(rt.alloc()) == Some(BytesError::Odd));
+}
+
+/// The frozen trie of texts in order, each with a text.
+fn texts_of(alloc: Global, pairs: &[(&str, &str)]) -> Option<FrozenTrie<String, String>> {
+    let mut trie = FrozenTrie::new(alloc);
+    for (key, value) in pairs {
+        let key = String::from_str(alloc, key).ok()?;
+        let value = String::from_str(alloc, value).ok()?;
+        trie.push(key, value).ok()?;
+    }
+    Some(trie)
+}
+
+/// Whether texts with texts are those of their image again, and are read where they stand in it.
+fn values_are_back(alloc: Global, pairs: &[(&str, &str)]) -> Option<bool> {
+    let image = to_image_of_values(alloc, &texts_of(alloc, pairs)?).ok()?;
+    let again = from_image_of_values::<String, String>(alloc, &image).ok()?;
+    let own = own_bytes(&image);
+    for at in 0..pairs.len() {
+        let (key, value) = pairs[at];
+        let (key_again, value_again) = again.nth(at)?;
+        let place = flat_texts::nth(&image, at)?.value;
+        if key_again.as_bytes() != key.as_bytes()
+            || value_again.as_bytes() != value.as_bytes()
+            || bytes_at(own, place)? != value.as_bytes()
+        {
+            return Some(false);
+        }
+    }
+    Some(again.len() == pairs.len())
+}
+
+#[test]
+fn values_there_and_back(rt: HostRuntime) {
+    assert!(rt; values_are_back(rt.alloc(), &[]) == Some(true));
+    let pairs = [("", "one"), ("a", ""), ("ab", "three"), ("é", "ü")];
+    assert!(rt; values_are_back(rt.alloc(), &pairs) == Some(true));
+}
+
+/// The error of the image of one text, whose number is 1, with these bytes of its own.
+fn fault_of_value<V: FileItem + Drop>(alloc: Global, own: &[u8]) -> Option<Option<ValuesError>> {
+    let mut trie = FrozenTrie::new(alloc);
+    trie.push(String::from_str(alloc, "a").ok()?, 1u64).ok()?;
+    let image = to_image(alloc, &trie, own).ok()?;
+    Some(from_image_of_values::<String, V>(alloc, &image).err())
+}
+
+#[test]
+fn bytes_of_no_value(rt: HostRuntime) {
+    let lacking = Some(Some(ValuesError::Value(0)));
+    let faults: [&[u8]; 5] = [b"", b".", b".\x01\0\0", b".\x02\0\0\0a", b".\x01\0\0\x80a"];
+    for own in faults {
+        assert!(rt; fault_of_value::<String>(rt.alloc(), own) == lacking);
+        assert!(rt; fault_of_value::<Vec<u8>>(rt.alloc(), own) == lacking);
+    }
+    assert!(rt; fault_of_value::<String>(rt.alloc(), b".\x01\0\0\0\xFF") == lacking);
+    assert!(rt; fault_of_value::<Vec<u8>>(rt.alloc(), b".\x01\0\0\0\xFF") == Some(None));
+    assert!(rt; fault_of_value::<String>(rt.alloc(), b".\x01\0\0\0a") == Some(None));
 }

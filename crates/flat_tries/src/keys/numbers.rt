@@ -4,6 +4,15 @@ use crate::keys::ImageKey;
 use frozen_trie::ItemError;
 use std::alloc::Global;
 
+impl ImageKey for u128 {
+    fn of_image(bytes: &[u8], _alloc: Global) -> Result<u128, ItemError> {
+        match <[u8; 16]>::try_from(bytes) {
+            Ok(bytes) => Ok(u128::from_be_bytes(bytes)),
+            Err(_) => Err(ItemError::Malformed),
+        }
+    }
+}
+
 impl ImageKey for u64 {
     fn of_image(bytes: &[u8], _alloc: Global) -> Result<u64, ItemError> {
         match <[u8; 8]>::try_from(bytes) {

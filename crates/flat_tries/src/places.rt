@@ -1,0 +1,81 @@
+//! Values among the own bytes of an image, each by the place at which its bytes stand.
+ghost use Rattle.std.specs.Prelude.{◌≡◌, ◌++◌, ℕ, List, IfErr, IfOk, MatchOption, OnOk};
+ghost use Rattle.frozen_trie.specs.FileRows.{counted_bytes};
+ghost use Rattle.flat_tries.specs.ValueImages.{HoldsOwnBytes, HasValueAt, IsValueAt, StandsCounted};
+
+use frozen_trie::{FileItem, ItemError};
+use image_parts::{payload, u32_at};
+use radix_keys::Memory;
+use std::alloc::Global;
+
+/// The user's own bytes in an image, none where it lists no such part.
+pub fn own_bytes(image: &[u8]) -> &[u8]
+    ensures { HoldsOwnBytes image.now result.now }
+{
+    match payload(image) {
+        Some((place, size)) => &image[place..place + size],
+        None => &[],
+    }
+}
+
+/// The bytes that stand at a place among an image's own bytes, behind four that say how many they are, or None where
+/// none do: where the place or their end lies outside.
+pub fn bytes_at(own: &[u8], place: u64) -> Option<&[u8]>
+    ensures { MatchOption result ((bytes : List ℕ) → StandsCounted own.now place bytes → ⊥)
+        (λ bytes. StandsCounted own.now place bytes.now) }
+{
+    let place = place as usize;
+    if own.len() < 4 || place > own.len() - 4 {
+        return None;
+    }
+    let from = place + 4;
+    let count = u32_at(own, place) as usize;
+    if count > own.len() - from {
+        return None;
+    }
+    Some(&own[from..from + count])
+}
+
+/// The value whose bytes stand at a place.
+///
+/// # Errors
+///
+/// `Malformed`: no value of the type stands there. Else memory is refused.
+pub(crate) fn value_at<V: FileItem>(alloc: Global, own: &[u8], place: u64) -> Result<V, ItemError>
+    ensures value { IfOk result
+        (λ value. IsValueAt V.file_bytes V.is_item own.now place value) }
+    ensures malformed { IfErr result (λ e. e ≡ ItemError.Malformed
+        → HasValueAt V.file_bytes V.is_item own.now place → ⊥) }
+{
+    match bytes_at(own, place) {
+        Some(bytes) => V::of_file(bytes, alloc),
+        None => Err(ItemError::Malformed),
+    }
+}
+
+/// Adds the bytes of a value, behind four that say how many they are, and returns the place of these. What `bytes`
+/// held is lost.
+///
+/// # Errors
+///
+/// Memory is refused, or there are 2^32 bytes or more. Some of them may have been added.
+pub(crate) fn put_value<V: FileItem>(
+    own: &mut Vec<u8>,
+    bytes: &mut Vec<u8>,
+    value: &V,
+) -> Result<u64, Memory>
+    ensures value { IfOk result
+        (λ place. IsValueAt V.file_bytes V.is_item own.new.items place value.now) }
+    ensures bytes { OnOk result
+        (own.new.items ≡ own.old.items ++ counted_bytes (V.file_bytes value.now)) }
+{
+    let place = own.len();
+    bytes.clear();
+    value.append_to(bytes)?;
+    let Ok(count) = u32::try_from(bytes.len()) else {
+        return Err(Memory);
+    };
+    own.extend_from_slice(&count.to_le_bytes())?;
+    own.extend_from_slice(bytes)?;
+    Ok(place as u64)
+}

@@ -1,0 +1,2 @@
+-- What two bounds leave of the pairs in order.
+pub mod RangeLemmas

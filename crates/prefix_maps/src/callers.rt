@@ -1,0 +1,51 @@
+//! Programs that run on every map.
+ghost use Rattle.std.specs.Prelude.{◌≡◌, IfOk, IsOk, map as each, option_copied, take};
+ghost use Rattle.radix_trie.specs.Views.{IsValueAbove, pairs_below};
+ghost use Rattle.prefix_maps.specs.Calls.{lent_pair};
+
+use crate::calls::PrefixMap;
+use radix_keys::Memory;
+use std::alloc::Global;
+
+/// The value of the longest stored key that is a prefix of a key, or None where there is none: of a path the setting that
+/// it inherits, of an address the route.
+///
+/// # Errors
+///
+/// `Memory`: an allocation fails, for the key's encoding.
+pub fn lookup<'a, Q, M: PrefixMap<'a, Q>>(map: M, key: &Q) -> Result<Option<&'a M::Value>, Memory>
+    ensures value { IfOk result
+        (λ found. IsValueAbove (M.map map) (M.list key.now) (option_copied found)) }
+    ensures free { M.is_free key.now → IsOk result }
+{
+    match map.longest_match(key)? {
+        Some((_, value)) => Ok(Some(value)),
+        None => Ok(None),
+    }
+}
+
+/// The first pairs whose keys begin with a key, itself among them, in order: `most` of them, or all where there are fewer.
+/// The time is that of `below` and of so many steps of its walk.
+///
+/// # Errors
+///
+/// `Memory`: an allocation fails, for the key's encoding, the walk or the list of pairs.
+pub fn first_below<'a, Q, M: PrefixMap<'a, Q>>(
+    alloc: Global,
+    map: M,
+    key: &Q,
+    most: usize,
+) -> Result<Vec<(M::Key, &'a M::Value)>, Memory>
+    ensures pairs { IfOk result (λ list. each (lent_pair M.stored_key) list.items
+        ≡ take most (pairs_below (M.map map) (M.list key.now))) }
+{
+    let mut walk = map.below(key)?;
+    let mut list = Vec::new(alloc);
+    while list.len() < most {
+        let Some(pair) = M::next(&mut walk)? else {
+            return Ok(list);
+        };
+        list.push(pair)?;
+    }
+    Ok(list)
+}

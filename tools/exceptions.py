@@ -23,10 +23,12 @@ SAME_NAMES = {
 }
 
 # The functions that do the work of calls with no wrong body of their own, and have one: where the crate is named, one
-# of a crate below. For integers it is that of another type, by the same text; for Trie::len, what counts its field.
+# of a crate below. For integers it is that of another type, by the same text; for Trie::len, what counts its field; for
+# FrozenRoutes::into_rows, what lends the field that is its whole body.
 STANDS_FOR = {
     "least_routes": "Route::precedes for is_table; Plan::of for least",
     "line_sessions": "converse for serve",
+    "frozen_routes": "FrozenRoutes::rows for FrozenRoutes::into_rows",
     "frozen_trie": "absent_as_none for FrozenTrie::get_mut; change for FrozenTrie::for_each_mut; "
                    "read_all for FrozenTexts::read",
     "radix_keys": "U32KeyInt::byte for U8TrieKey::encode U16TrieKey::encode U32TrieKey::encode U64TrieKey::encode "

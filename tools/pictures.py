@@ -28,7 +28,7 @@ COLOURS = {"trie": "#0072b2", "frozen": "#009e73", "map": "#e69f00", "hash_map":
 # What stands in a cell of the table whose store has no such call.
 NONE = {("map", "prefix"): "a lookup a length", ("hash_map", "below"): "no such call"}
 # What each crate is: what callers name, what is inside, a program, or tests.
-CALLED = "radix_trie frozen_trie frozen_routes frozen_networks flat_routes flat_texts flat_tries nifazombi_c trie_set topic_filters keyed_maps".split()
+CALLED = "radix_trie frozen_trie frozen_routes frozen_networks flat_routes flat_texts flat_tries prefix_maps nifazombi_c trie_set topic_filters keyed_maps".split()
 PROGRAMS = "trie_tool route_tool trie_shell trie_bench".split()
 TESTS = "trie_tests trie_examples".split()
 

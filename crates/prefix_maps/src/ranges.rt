@@ -28,7 +28,8 @@ pub trait RangeMap<'a, Q>: PrefixMap<'a, Q> {
     /// Those of `range`.
     fn range_back<R: RangeBounds<Q>>(self, range: R) -> Result<Self::Walk, Memory>
         ensures walk { R.has_bounds range → IfOk result (λ walk. Self.left walk
-            ≡ reverse (pairs_within (Self.map self) [] (encoded_bound Self.list (R.start_bound range))
+            ≡ reverse (pairs_within (Self.map self) []
+            (encoded_bound Self.list (R.start_bound range))
             (encoded_bound Self.list (R.end_bound range)))) }
         ensures free { Self.has_free_walks → R.has_bounds range
             → IsLightBound Self.is_free (R.start_bound range)

@@ -52,6 +52,7 @@ CALLS = [
     (r"intersection|union|difference", "Combination::new + Combination::next"),
     (r"cursor", "&PLACE::cursor + Cursor::next"),
     (r"cursor_back", "&PLACE::cursor_back + CursorBack::next"),
+    (r"below", "PLACE::below + Cursor::next"),
     (r"range", "&PLACE::range + Cursor::next"),
     (r"range_back", "&PLACE::range_back + CursorBack::next"),
     (r"reserved", "&PLACE::range + Cursor::reserved"),

@@ -13,11 +13,11 @@ ghost use Rattle.flat_routes.specs.Images.{IsImage, first_in, found_row, image_r
 use crate::head::plan_of;
 use crate::rows::{bits_at, first_at, link_at, value_at};
 use crate::search::find;
-use crate::tables::{TableError, TableRow};
+use crate::tables::TableRow;
 use crate::write::FlatRow;
 use crate::{check, layout, networks, search, tables, write};
 use frozen_routes::FrozenRoutes;
-use image_parts::{ImageError, WriteError, put_u32};
+use image_parts::{ImageError, TableError, WriteError, put_u32};
 use radix_keys::{Address, Memory, Network};
 use std::alloc::Global;
 use std::net::Ipv4Addr;

@@ -14,9 +14,8 @@ mod search;
 mod tables;
 mod write;
 
-pub use image_parts::{ImageError, WriteError, payload};
+pub use image_parts::{ImageError, TableError, WriteError, payload};
 pub use laws::images_answer_as_tables;
-pub use tables::TableError;
 
 #[cfg(test)]
 mod tests;

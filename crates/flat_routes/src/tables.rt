@@ -10,18 +10,9 @@ use crate::check::check;
 use crate::layout::image_len;
 use crate::rows::{bits_at, first_at, value_at};
 use crate::write::{FlatRow, write};
-use image_parts::ImageError;
+use image_parts::{ImageError, TableError};
 use radix_keys::Memory;
 use std::alloc::Global;
-
-/// Why no table is made of bytes.
-#[derive(Debug, Clone, Copy, PartialEq, Eq)]
-pub enum TableError {
-    /// They are no image.
-    Image(ImageError),
-    /// Memory is refused.
-    Memory,
-}
 
 /// A row of a frozen table.
 pub(crate) trait TableRow: FlatRow {

@@ -383,7 +383,7 @@ fn images_of_tables_of_ipv6(rt: HostRuntime) -> Result<(), Fail> {
     let Ok(table) = ipv6::from_image(alloc, &IPV6) else {
         return Err("no table".into());
     };
-    let found = table.look(Ipv6Addr::from_bits((0xfe80 << 112) + 1));
+    let found = table.longest_match(&Ipv6Addr::from_bits((0xfe80 << 112) + 1));
     assert!(rt; table.len() == 5 && found.is_some_and(|(_, value)| *value == 104));
     let image = ipv6::to_image(alloc, &table, &[]).ok().ok_or("no image")?;
     assert!(rt; image.len() == 248 && image[88..] == IPV6[64..224]);

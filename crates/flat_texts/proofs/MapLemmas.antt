@@ -12,7 +12,8 @@ use Rattle.sorted_tables.specs.Tables.{IsLastOf}
 use Rattle.frozen_trie.specs.Codes.{IsCut, IsLastPrefix, code_at, is_before, is_until}
 use Rattle.frozen_trie.specs.Frozen.{codes_of, prefixes_up}
 use Rattle.frozen_trie.proofs.FrozenLemmas.Prefixes.{step_up, walk_up_whole}
-use Rattle.frozen_trie.proofs.FrozenLemmas.Queries.{above_none, above_some, below_is, count_before_is, greatest, within_is}
+use Rattle.frozen_trie.proofs.FrozenLemmas.Queries.{above_none, above_some, below_is, count_before_is, within_is}
+use Rattle.frozen_trie.proofs.CodeLemmas.Spans.{cut_from, span_between}
 use Rattle.frozen_trie.proofs.FrozenLemmas.Rows.{get_at, get_none}
 use Rattle.image_parts.specs.Parts.{listed, row_count}
 use Rattle.image_parts.proofs.ByteLemmas.{length-listed, listed_at, none_past}
@@ -109,8 +110,9 @@ module _ (bs : List ℕ) (image : IsTextImage bs) where
   pairs_bounded a b lo hi low high =
       let count : hi - lo ≡ max hi lo - lo = omega arith in
       ap (λ n. take n (drop lo (image_pairs bs))) count
-      ∙ within_is nibbles (image_pairs bs) rises a b lo hi (max hi lo) (subst (λ cs. IsCut (λ c. is_before c a) cs lo) (codes_are bs) low)
-      (subst (λ cs. IsCut (λ c. is_before c b) cs hi) (codes_are bs) high) (omega arith) (greatest hi lo (max hi lo) refl)
+      ∙ within_is nibbles (image_pairs bs) rises (Included a) (Excluded b) lo (max hi lo)
+      (span_between (Included a) (Excluded b) _ lo hi (max hi lo) (cut_from _ a lo (subst (λ cs. IsCut (λ c. is_before c a) cs lo) (codes_are bs) low))
+      (subst (λ cs. IsCut (λ c. is_before c b) cs hi) (codes_are bs) high) refl)
 
   -- the walk up from a place that isn't 0
   pub walk_from : (at link : ℕ) → 0 < at → at ≤ row_count bs → link ≡ stored_link bs (at - 1)

@@ -15,12 +15,12 @@ mod tables;
 mod writing;
 
 pub use checking::{check, is_image};
-pub use image_parts::{ImageError, WriteError, payload};
+pub use image_parts::{ImageError, TableError, WriteError, payload};
 pub use layout::image_len;
 pub use pair::{Pair, Place};
 pub use ranges::{below, between, rank};
 pub use reading::{above, get, len, nearest, nth, place_at, prefixes};
-pub use tables::{TableError, from_image, to_image};
+pub use tables::{from_image, to_image};
 pub use writing::write;
 
 #[cfg(test)]

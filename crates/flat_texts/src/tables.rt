@@ -10,18 +10,9 @@ use crate::pair::Pair;
 use crate::reading::{len, nth};
 use crate::writing::write;
 use frozen_trie::FrozenTexts;
-use image_parts::ImageError;
+use image_parts::{ImageError, TableError};
 use radix_keys::Memory;
 use std::alloc::Global;
-
-/// Why no map is made of bytes.
-#[derive(Debug, Clone, Copy, PartialEq, Eq)]
-pub enum TableError {
-    /// They are no image.
-    Image(ImageError),
-    /// Memory is refused, or the keys together take 2^31 bytes or more.
-    Memory,
-}
 
 /// The map in memory of the pairs of an image.
 ///

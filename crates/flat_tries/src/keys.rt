@@ -1,37 +1,39 @@
 //! Keys that are made again of the bytes of their encodings.
-ghost use Rattle.std.specs.Prelude.{◌≡◌, ◌≢◌, IfErr, IfOk};
+ghost use Rattle.std.specs.Prelude.{◌≡◌, ◌≢◌, IfNone, IfOk, IfSome};
 ghost use Rattle.nibble_map.specs.Nibbles.{nibbles};
 
-use frozen_trie::{FileItem, ItemError};
-use radix_keys::TrieKey;
+use frozen_trie::FileItem;
+use radix_keys::{Memory, TrieKey};
 use std::alloc::Global;
 
 mod numbers;
 
 /// A key that is made again of the bytes of its encoding.
 pub trait ImageKey: TrieKey + Drop {
-    /// The key whose encoding has these bytes, two nibbles to a byte and the first in the high half.
+    /// The key whose encoding has these bytes, two nibbles to a byte and the first in the high half, or None only where
+    /// no key of the type has this encoding.
     ///
     /// # Errors
     ///
-    /// `Malformed`, only where no key of the type has this encoding; else memory.
-    fn of_image(bytes: &[u8], alloc: Global) -> Result<Self, ItemError>
-        ensures encoded { IfOk result (λ key. nibbles bytes.now ≡ Self.encoding key) }
-        ensures malformed { IfErr result (λ e. e ≡ ItemError.Malformed
-            → (key : Self) → Self.is_value key → nibbles bytes.now ≢ Self.encoding key) };
+    /// Memory is refused.
+    fn of_image(bytes: &[u8], alloc: Global) -> Result<Option<Self>, Memory>
+        ensures encoded { IfOk result
+            (λ found. IfSome found (λ key. nibbles bytes.now ≡ Self.encoding key)) }
+        ensures malformed { IfOk result (λ found. IfNone found
+            ((key : Self) → Self.is_value key → nibbles bytes.now ≢ Self.encoding key)) };
 }
 
 impl ImageKey for String {
-    fn of_image(bytes: &[u8], alloc: Global) -> Result<String, ItemError> {
+    fn of_image(bytes: &[u8], alloc: Global) -> Result<Option<String>, Memory> {
         String::of_file(bytes, alloc)
     }
 }
 
 impl ImageKey for Vec<u8> {
-    fn of_image(bytes: &[u8], alloc: Global) -> Result<Vec<u8>, ItemError> {
+    fn of_image(bytes: &[u8], alloc: Global) -> Result<Option<Vec<u8>>, Memory> {
         match Vec::from_slice(alloc, bytes) {
-            Ok(items) => Ok(items),
-            Err(_) => Err(ItemError::Memory),
+            Ok(items) => Ok(Some(items)),
+            Err(_) => Err(Memory),
         }
     }
 }

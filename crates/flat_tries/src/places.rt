@@ -1,9 +1,9 @@
 //! Values among the own bytes of an image, each by the place at which its bytes stand.
-ghost use Rattle.std.specs.Prelude.{◌≡◌, ◌++◌, ℕ, List, IfErr, IfOk, MatchOption, OnOk};
+ghost use Rattle.std.specs.Prelude.{◌≡◌, ◌++◌, ℕ, List, IfNone, IfOk, IfSome, MatchOption, OnOk};
 ghost use Rattle.frozen_trie.specs.FileRows.{counted_bytes};
 ghost use Rattle.flat_tries.specs.ValueImages.{HoldsOwnBytes, HasValueAt, IsValueAt, StandsCounted};
 
-use frozen_trie::{FileItem, ItemError};
+use frozen_trie::FileItem;
 use image_parts::{payload, u32_at};
 use radix_keys::Memory;
 use std::alloc::Global;
@@ -36,20 +36,24 @@ pub fn bytes_at(own: &[u8], place: u64) -> Option<&[u8]>
     Some(&own[from..from + count])
 }
 
-/// The value whose bytes stand at a place.
+/// The value whose bytes stand at a place, or None where no value of the type stands there.
 ///
 /// # Errors
 ///
-/// `Malformed`: no value of the type stands there. Else memory is refused.
-pub(crate) fn value_at<V: FileItem>(alloc: Global, own: &[u8], place: u64) -> Result<V, ItemError>
-    ensures value { IfOk result
-        (λ value. IsValueAt V.file_bytes V.is_item own.now place value) }
-    ensures malformed { IfErr result (λ e. e ≡ ItemError.Malformed
-        → HasValueAt V.file_bytes V.is_item own.now place → ⊥) }
+/// Memory is refused.
+pub(crate) fn value_at<V: FileItem>(
+    alloc: Global,
+    own: &[u8],
+    place: u64,
+) -> Result<Option<V>, Memory>
+    ensures value { IfOk result (λ found. IfSome found
+        (λ value. IsValueAt V.file_bytes V.is_item own.now place value)) }
+    ensures malformed { IfOk result (λ found. IfNone found
+        (HasValueAt V.file_bytes V.is_item own.now place → ⊥)) }
 {
     match bytes_at(own, place) {
         Some(bytes) => V::of_file(bytes, alloc),
-        None => Err(ItemError::Malformed),
+        None => Ok(None),
     }
 }
 

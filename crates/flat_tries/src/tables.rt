@@ -1,28 +1,18 @@
 //! Images of frozen tries, and frozen tries of images.
-ghost use Rattle.std.specs.Prelude.{◌≡◌, [], ℕ, IfErr, IfOk};
+ghost use Rattle.std.specs.Prelude.{◌≡◌, ◌≢◌, [], ℕ, IfErr, IfOk};
 ghost use Rattle.std.specs.List.{AllZip};
 ghost use Rattle.radix_trie.specs.Views.{pairs_below};
 ghost use Rattle.image_parts.specs.Parts.{HoldsPayload};
 ghost use Rattle.flat_texts.specs.TextImages.{IsImageFault, IsTextImage, image_pairs};
 ghost use Rattle.flat_tries.specs.TrieImages.{HasOddKey, IsCodedPair, IsForeignPair};
 
+use crate::errors::TrieError;
 use crate::keys::ImageKey;
 use flat_texts::{check, len, nth};
-use frozen_trie::{FrozenTexts, FrozenTrie, ItemError};
+use frozen_trie::{FrozenTexts, FrozenTrie};
 use image_parts::ImageError;
 use radix_keys::{BytesError, TrieKey};
 use std::alloc::Global;
-
-/// Why no frozen trie is made of bytes.
-#[derive(Debug, Clone, Copy, PartialEq, Eq)]
-pub enum TrieError {
-    /// They are no image.
-    Image(ImageError),
-    /// The bytes of the pair at this index are the encoding of no key of the type.
-    Key(usize),
-    /// Memory is refused, or the encodings together take 2^31 bytes or more.
-    Memory,
-}
 
 /// The image of a frozen trie, with the user's own bytes: of each pair the bytes of the key's encoding, two nibbles to
 /// a byte and the first in the high half, with the value.
@@ -74,6 +64,7 @@ pub fn from_image<K: ImageKey>(alloc: Global, image: &[u8]) -> Result<FrozenTrie
         → IsImageFault image.now why) }
     ensures key { IfErr result (λ e. (i : ℕ) → e ≡ TrieError.Key i
         → IsForeignPair K.encoding K.is_value (image_pairs image.now) i) }
+    ensures value { IfErr result (λ e. (i : ℕ) → e ≢ TrieError.Value i) }
 {
     match check(image) {
         Ok(()) => {}
@@ -85,9 +76,9 @@ pub fn from_image<K: ImageKey>(alloc: Global, image: &[u8]) -> Result<FrozenTrie
             return Err(TrieError::Memory);
         };
         let key = match K::of_image(pair.key, alloc) {
-            Ok(key) => key,
-            Err(ItemError::Malformed) => return Err(TrieError::Key(at)),
-            Err(ItemError::Memory) => return Err(TrieError::Memory),
+            Ok(Some(key)) => key,
+            Ok(None) => return Err(TrieError::Key(at)),
+            Err(_) => return Err(TrieError::Memory),
         };
         match trie.push(key, pair.value) {
             Ok(()) => {}

@@ -1,8 +1,8 @@
 //! Frozen tries there and back, keys that have no image, and bytes that are of no key or no value.
 
 use crate::{
-    FileItem, ImageError, ImageKey, TrieError, ValuesError, bytes_at, from_image,
-    from_image_of_values, own_bytes, to_image, to_image_of_values,
+    FileItem, ImageError, ImageKey, TrieError, bytes_at, from_image, from_image_of_values,
+    own_bytes, to_image, to_image_of_values,
 };
 use frozen_trie::FrozenTrie;
 use radix_keys::{BytesError, Nibblet, TrieKey};
@@ -156,7 +156,7 @@ fn values_there_and_back(rt: HostRuntime) {
 }
 
 /// The error of the image of one text, whose number is 1, with these bytes of its own.
-fn fault_of_value<V: FileItem + Drop>(alloc: Global, own: &[u8]) -> Option<Option<ValuesError>> {
+fn fault_of_value<V: FileItem + Drop>(alloc: Global, own: &[u8]) -> Option<Option<TrieError>> {
     let mut trie = FrozenTrie::new(alloc);
     trie.push(String::from_str(alloc, "a").ok()?, 1u64).ok()?;
     let image = to_image(alloc, &trie, own).ok()?;
@@ -165,7 +165,7 @@ fn fault_of_value<V: FileItem + Drop>(alloc: Global, own: &[u8]) -> Option<Optio
 
 #[test]
 fn bytes_of_no_value(rt: HostRuntime) {
-    let lacking = Some(Some(ValuesError::Value(0)));
+    let lacking = Some(Some(TrieError::Value(0)));
     let faults: [&[u8]; 5] = [b"", b".", b".\x01\0\0", b".\x02\0\0\0a", b".\x01\0\0\x80a"];
     for own in faults {
         assert!(rt; fault_of_value::<String>(rt.alloc(), own) == lacking);

@@ -6,27 +6,14 @@ ghost use Rattle.flat_texts.specs.TextImages.{IsImageFault, IsTextImage, image_p
 ghost use Rattle.flat_tries.specs.TrieImages.{HasOddKey, IsForeignPair};
 ghost use Rattle.flat_tries.specs.ValueImages.{HoldsValues, LacksValue, laid_values};
 
+use crate::errors::TrieError;
 use crate::keys::ImageKey;
 use crate::places::{own_bytes, put_value, value_at};
 use flat_texts::{check, len, nth};
-use frozen_trie::{FileItem, FrozenTexts, FrozenTrie, ItemError};
+use frozen_trie::{FileItem, FrozenTexts, FrozenTrie};
 use image_parts::ImageError;
 use radix_keys::{BytesError, TrieKey};
 use std::alloc::Global;
-
-/// Why no frozen trie of keys and values is made of bytes.
-#[derive(Debug, Clone, Copy, PartialEq, Eq)]
-pub enum ValuesError {
-    /// They are no image.
-    Image(ImageError),
-    /// The bytes of the pair at this index are the encoding of no key of the type.
-    Key(usize),
-    /// The number of the pair at this index leads to no value of the type: it or the value's end lies outside the
-    /// image's own bytes, or they are of no value there, as bytes that aren't UTF-8 are of no text.
-    Value(usize),
-    /// Memory is refused, or the encodings together take 2^31 bytes or more.
-    Memory,
-}
 
 /// The image of a frozen trie whose values are texts, lists of bytes, or other things that stand in a file as bytes: of
 /// each pair the bytes of the key's encoding, two nibbles to a byte and the first in the high half, with the place of
@@ -82,44 +69,44 @@ pub fn to_image_of_values<K: TrieKey + Drop, V: FileItem + Drop>(
 pub fn from_image_of_values<K: ImageKey, V: FileItem + Drop>(
     alloc: Global,
     image: &[u8],
-) -> Result<FrozenTrie<K, V>, ValuesError>
+) -> Result<FrozenTrie<K, V>, TrieError>
     ensures image { IfOk result (λ _. IsTextImage image.now) }
     ensures pairs { IfOk result (λ trie. HoldsValues V.file_bytes V.is_item K.encoding
         image.now (pairs_below trie [])) }
-    ensures fault { IfErr result (λ e. (why : ImageError) → e ≡ ValuesError.Image why
+    ensures fault { IfErr result (λ e. (why : ImageError) → e ≡ TrieError.Image why
         → IsImageFault image.now why) }
-    ensures key { IfErr result (λ e. (i : ℕ) → e ≡ ValuesError.Key i
+    ensures key { IfErr result (λ e. (i : ℕ) → e ≡ TrieError.Key i
         → IsForeignPair K.encoding K.is_value (image_pairs image.now) i) }
-    ensures value { IfErr result (λ e. (i : ℕ) → e ≡ ValuesError.Value i
+    ensures value { IfErr result (λ e. (i : ℕ) → e ≡ TrieError.Value i
         → LacksValue V.file_bytes V.is_item image.now i) }
 {
     match check(image) {
         Ok(()) => {}
-        Err(why) => return Err(ValuesError::Image(why)),
+        Err(why) => return Err(TrieError::Image(why)),
     }
     let own = own_bytes(image);
     let mut trie = FrozenTrie::new(alloc);
     for at in 0..len(image) {
         let Some(pair) = nth(image, at) else {
-            return Err(ValuesError::Memory);
+            return Err(TrieError::Memory);
         };
         let key = match K::of_image(pair.key, alloc) {
-            Ok(key) => key,
-            Err(ItemError::Malformed) => return Err(ValuesError::Key(at)),
-            Err(ItemError::Memory) => return Err(ValuesError::Memory),
+            Ok(Some(key)) => key,
+            Ok(None) => return Err(TrieError::Key(at)),
+            Err(_) => return Err(TrieError::Memory),
         };
         let value = match value_at(alloc, own, pair.value) {
-            Ok(value) => value,
-            Err(ItemError::Malformed) => return Err(ValuesError::Value(at)),
-            Err(ItemError::Memory) => return Err(ValuesError::Memory),
+            Ok(Some(value)) => value,
+            Ok(None) => return Err(TrieError::Value(at)),
+            Err(_) => return Err(TrieError::Memory),
         };
         match trie.push(key, value) {
             Ok(()) => {}
-            Err(_) => return Err(ValuesError::Memory),
+            Err(_) => return Err(TrieError::Memory),
         }
     }
     if trie.finish().is_err() {
-        return Err(ValuesError::Memory);
+        return Err(TrieError::Memory);
     }
     Ok(trie)
 }

@@ -21,8 +21,8 @@ use Rattle.radix_keys.specs.Networks.{Net}
 use Rattle.radix_keys.proofs.BitLemmas.{first_bits_prefix}
 use Rattle.radix_trie.specs.Views.{IsPairAbove, pair_of_list, pairs_above, pairs_below}
 use Rattle.frozen_routes.specs.Nearest.{IsNearestRow}
-use Rattle.frozen_routes.specs.Routes.{AreRowsInOrder, IsLongestRow, IsOwnRow, IsValueOf, is_holder, is_inside}
-use Rattle.frozen_routes.proofs.RouteLemmas.Nearest.{as_many_bits, holds_by_prefix, longest_is_nearest}
+use Rattle.frozen_routes.specs.Routes.{AreRowsInOrder, IsFoundRow, IsLongestAround, IsLongestRow, IsOwnRow, IsValueOf, is_around, is_holder, is_inside}
+use Rattle.frozen_routes.proofs.RouteLemmas.Nearest.{around_is_nearest, as_many_bits, longest_is_nearest}
 use Rattle.frozen_trie.specs.Frozen.{codes_of}
 use Rattle.frozen_trie.proofs.FrozenLemmas.Queries.{as_many, not_true, stored_index}
 use Rattle.frozen_trie.proofs.FrozenLemmas.Rows.{code_of_pair, entries_are_rows, filter_rows, get_at, len_is}
@@ -80,12 +80,6 @@ module _ {A : Type 0} (w : ℕ) (number : A → ℕ) where
       (eqb-true _ _ both.0, eqb-true _ _ both.1)
 
 module _ {A V : Type 0} (w : ℕ) (number : A → ℕ) where
-  -- the list of a network begins an address's where the network holds it
-  holder_by_prefix : (n : ℕ) → n < 2 ^ w → (r : Net A × V) → IsNetwork w number r.0 → is_prefix (network_code w number r.0) (first_bits w n w) ≡ is_holder w number n r
-  holder_by_prefix n fits r net =
-      let both = holds_by_prefix w r.0.bits (number r.0.base) n net fits in
-      equal_tests _ _ (λ t. eq-eqb _ _ (both.1 (prefix_by_test _ _ t))) (λ t. is_prefix_true _ _ (both.0 (eqb-true _ _ t)))
-
   -- whether a row's network agrees with another one in all the bits of that
   abbrev same_first : Net A → Net A × V → Bool
   same_first net r = nat_eq (number r.0.base / 2 ^ (w - net.bits)) (number net.base / 2 ^ (w - net.bits))
@@ -104,6 +98,22 @@ module _ {A V : Type 0} (w : ℕ) (number : A → ℕ) where
         equal_tests (is_prefix (network_code w number net) (network_code w number r.0)) (same_first net r)
         (λ t. eq-eqb _ _ (sym (both.0 (prefix_by_test _ _ t)))) (λ t. is_prefix_true _ _ (both.1 (sym (eqb-true _ _ t))))
         ∙ sym (ap (λ b. not b && same_first net r) (le-ltb r.0.bits net.bits ge))
+  ]
+
+  -- it begins another network's where it holds all of that
+  around_by_prefix : (net : Net A) → IsNetwork w number net → (r : Net A × V) → IsNetwork w number r.0
+      → is_prefix (network_code w number r.0) (network_code w number net) ≡ is_around w number net r
+  around_by_prefix net is r at = elim (cases_lt net.bits r.0.bits) [
+    | inl lt ↦
+        not_true (is_prefix (network_code w number r.0) (network_code w number net)) (λ t.
+        let longer = prefix_length (network_code w number r.0) (network_code w number net) (prefix_by_test _ _ t) in
+        omega (arith, lt, longer, as_many_bits w net.bits (number net.base) is, as_many_bits w r.0.bits (number r.0.base) at))
+        ∙ sym (ap (λ b. not b && is_holder w number (number net.base) r) (lt-ltb net.bits r.0.bits lt))
+    | inr ge ↦
+        let both = first_bits_prefix w (number r.0.base) (number net.base) r.0.bits net.bits at.0 is.0 ge is.1 in
+        equal_tests (is_prefix (network_code w number r.0) (network_code w number net)) (is_holder w number (number net.base) r)
+        (λ t. eq-eqb _ _ (both.0 (prefix_by_test _ _ t))) (λ t. is_prefix_true _ _ (both.1 (eqb-true _ _ t)))
+        ∙ sym (ap (λ b. not b && is_holder w number (number net.base) r) (le-ltb net.bits r.0.bits ge))
   ]
 
 module _ {A V : Type 0} (w : ℕ) (number : A → ℕ) (rows : List (Net A × V)) (rising : AreRowsInOrder w number rows) where
@@ -134,13 +144,13 @@ module _ {A V : Type 0} (w : ℕ) (number : A → ℕ) (rows : List (Net A × V)
       ∙ filter_rows code (is_prefix (code net)) rows
       ∙ filter_alike _ _ rows (each_follows _ _ rows (inside_by_prefix w number net is) networks)
 
-  -- what it has above an address are the rows whose networks hold it
-  pub above_holds : (n : ℕ) → n < 2 ^ w → pairs_above mapped (first_bits w n w) ≡ filter (is_holder w number n) rows
-  above_holds n fits =
-      let q = first_bits w n w in
+  -- what it has above a network are the rows whose networks hold all of it
+  pub above_is_around : (net : Net A) → IsNetwork w number net → pairs_above mapped (code net) ≡ filter (is_around w number net) rows
+  above_is_around net is =
+      let q = code net in
       ap (each (λ e. e.1)) (entries-retain_keys _ nat_list_cmp_total tied_lists_equal mapped (λ p. is_prefix p q) ∙ ap (filter (λ e. is_prefix e.0 q)) (entries_are_rows code rows rise))
       ∙ filter_rows code (λ c. is_prefix c q) rows
-      ∙ filter_alike _ _ rows (each_follows _ _ rows (holder_by_prefix w number n fits) networks)
+      ∙ filter_alike _ _ rows (each_follows _ _ rows (around_by_prefix w number net is) networks)
 
   -- a row is found at its list
   row_found : (i : ℕ) (r : Net A × V) (q : List ℕ) → slice_get rows i ≡ Some r → code r.0 ≡ q → fin.get mapped q ≡ Some r
@@ -159,6 +169,13 @@ module _ {A V : Type 0} (w : ℕ) (number : A → ℕ) (rows : List (Net A × V)
       let same = code_of_pair code rows at.0 row.0 within (sym (get_or_from_slice_get rows at.0 row.0 row.0 row.1)) in
       (row.0, at.0, row.1, sym same ∙ at.2, row.2, row.3)
 
+  -- a pair of the map stands at its network's list
+  pub stands_at_bits : (q : List ℕ) (r : Net A × V) → fin.get mapped q ≡ Some r → q ≡ code r.0
+  stands_at_bits q r found =
+      let row = stored_row q (subst (λ o. T (is_some o)) (sym found) tt) in
+      let same : r ≡ row.0 = found_once r row.0 (sym found ∙ row_found row.1 row.0 q row.2 row.3) in
+      sym row.3 ∙ ap (λ s. code s.0) (sym same)
+
   -- a row of the network is found at its list
   own_found : (net : Net A) (r : Net A × V) → IsOwnRow number rows net r → fin.get mapped (code net) ≡ Some r
   own_found net r own =
@@ -170,6 +187,20 @@ module _ {A V : Type 0} (w : ℕ) (number : A → ℕ) (rows : List (Net A × V)
       let row = stored_row (code net) s in
       let same = one_network w number row.0.0 net row.4 is row.3 in
       (row.0, record { at = row.1; stored = row.2; base = same.0; bits = same.1 })
+
+  -- the row of a network is the pair at its list
+  pub row_is_stored : (net : Net A) → IsNetwork w number net → (found : Option (Net A × V)) → IsFoundRow number rows net found ↔ (found ≡ fin.get mapped (code net))
+  row_is_stored net is None = (λ none. absent (fin.get mapped (code net)) refl none, λ e r own. found_not_absent r (e ∙ own_found net r own))
+    where
+      absent : (o : Option (Net A × V)) → fin.get mapped (code net) ≡ o → ((r : Net A × V) → IsOwnRow number rows net r → ⊥) → None ≡ fin.get mapped (code net)
+      absent None e none = sym e
+      absent (Some p) e none = (let own = stored_own net is (subst (λ o. T (is_some o)) (sym e) tt) in absurd (none own.0 own.1))
+  row_is_stored net is (Some r) = (
+    λ own. sym (own_found net r own),
+    λ e.
+        let own = stored_own net is (subst (λ o. T (is_some o)) e tt) in
+        subst (IsOwnRow number rows net) (sym (found_once r own.0 (e ∙ own_found net own.0 own.1))) own.1,
+  )
 
   -- the value of a network is the one at its list
   pub value_is_stored : (net : Net A) → IsNetwork w number net → (found : Option V) → IsValueOf number rows net found ↔ (found ≡ value_at mapped (code net))
@@ -225,8 +256,14 @@ module _ {A V : Type 0} (w : ℕ) (number : A → ℕ) (rows : List (Net A × V)
       sym (row_stored r h.0).1,
     )
 
-  -- the longest row is the pair above the address
-  pub longest_is_above : (n : ℕ) → n < 2 ^ w → (found : Option (Net A × V)) → IsLongestRow w number rows n found ↔ IsPairAbove mapped (first_bits w n w) found
-  longest_is_above n fits found =
+  -- the row of the longest network around another one is the pair above that
+  pub longest_is_above : (net : Net A) → IsNetwork w number net → (found : Option (Net A × V)) → IsLongestAround w number rows net found ↔ IsPairAbove mapped (code net) found
+  longest_is_above net is found =
+      let both = around_is_nearest w number rows rising net is found in
+      (λ h. nearest_is_above (code net) found (both.0 h), λ h. both.1 (above_is_nearest (code net) found h.0 h.1 h.2))
+
+  -- and so is the longest that holds an address
+  pub address_is_above : (n : ℕ) → n < 2 ^ w → (found : Option (Net A × V)) → IsLongestRow w number rows n found ↔ IsPairAbove mapped (first_bits w n w) found
+  address_is_above n fits found =
       let both = longest_is_nearest w number rows rising n fits found in
       (λ h. nearest_is_above (first_bits w n w) found (both.0 h), λ h. both.1 (above_is_nearest (first_bits w n w) found h.0 h.1 h.2))

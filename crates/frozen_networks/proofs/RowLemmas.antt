@@ -1,5 +1,5 @@
 -- Rows that are copied one by one, or moved.
-use Rattle.std.proofs.Common.{◌≡◌, ℕ, zero, suc, ◌+◌, List, [], ◌∷◌, ◌++◌, length, take, drop, sym, ap, subst, ◌∙◌, append-nil, append_assoc}
+use Rattle.std.proofs.Common.{◌≡◌, ℕ, zero, suc, ◌+◌, List, [], ◌∷◌, ◌++◌, length, take, drop, sym, ap, subst, ◌∙◌, append_assoc}
 use Rattle.std.proofs.lemmas.List.{map-append, take-append-drop}
 use Rattle.std.specs.FinMap as fin
 use Rattle.nibble_map.specs.Lists.{Each, IsRising}
@@ -10,7 +10,7 @@ use Rattle.radix_trie.specs.Views.{pairs_below}
 use Rattle.frozen_routes.specs.Routes.{AreRowsInOrder, IsFirstOutOfOrder}
 use Rattle.frozen_trie.specs.Frozen.{codes_of}
 use Rattle.frozen_trie.proofs.FrozenLemmas.Growth.{rising_front}
-use Rattle.frozen_trie.proofs.FrozenLemmas.Thawed.{IsThawed, none_of_empty, one_thawed}
+use Rattle.frozen_trie.proofs.FrozenLemmas.Thawed.{IsThawed, one_thawed}
 use Rattle.frozen_trie.proofs.FrozenLemmas.Whole.{count_whole}
 use Rattle.frozen_networks.specs.Networks.{IsNetwork, network_code}
 use Rattle.frozen_networks.proofs.OrderLemmas.{rising_rows, rows_of_networks, rows_rise}
@@ -32,10 +32,6 @@ module _ {K V : Type 0} where
   pub count_rows : (m : PairMap K V) (rows : List (K × V)) → rows ≡ pairs_below m [] → length rows ≡ fin.len m
   count_rows m rows e = ap length e ∙ count_whole m
 
-  -- rows and those of an empty map are the rows
-  pub rows_in_front : (rows : List (K × V)) (m : PairMap K V) → m ≡ fin.empty → rows ++ pairs_below m [] ≡ rows
-  rows_in_front rows m e = ap (λ n. rows ++ pairs_below n []) e ∙ ap (λ none. rows ++ none) (none_of_empty (λ key. [])) ∙ append-nil rows
-
   -- what holds of each item holds of each of the first
   each_of_first : (Q : K × V → Type 0) (n : ℕ) (rows : List (K × V)) → Each Q rows → Each Q (take n rows)
   each_of_first Q zero rows h = tt
@@ -51,11 +47,15 @@ module _ {A V : Type 0} (w : ℕ) (number : A → ℕ) where
       rising_rows w number (take n rows) (each_of_first (λ r. IsNetwork w number r.0) n rows (rows_of_networks w number rows h))
       (rising_front (codes_of code (take n rows)) (codes_of code (drop n rows)) (subst IsRising parted (rows_rise w number rows h)))
 
-  -- copies of a map's rows are in order, so none of them is the first that isn't
+  -- none of rows in order is the first that isn't
+  pub none_out_of_order : (rows : List (Net A × V)) (i : ℕ) → AreRowsInOrder w number rows → IsFirstOutOfOrder w number rows i → ⊥
+  none_out_of_order rows i rising first = first.unsorted (first_in_order (i + 1) rows rising)
+
+  -- so it is of copies of a map's rows
   pub no_copy_out_of_order : (m : PairMap (Net A) V) (rows : List (Net A × V)) (i : ℕ) → rows ≡ pairs_below m [] → Each (λ r. IsNetwork w number r.0) rows
       → IsRising (codes_of (network_code w number) (pairs_below m [])) → IsFirstOutOfOrder w number rows i → ⊥
   no_copy_out_of_order m rows i copied networks rises first =
-      first.unsorted (first_in_order (i + 1) rows (rising_rows w number rows networks (subst (λ ps. IsRising (codes_of (network_code w number) ps)) (sym copied) rises)))
+      none_out_of_order rows i (rising_rows w number rows networks (subst (λ ps. IsRising (codes_of (network_code w number) ps)) (sym copied) rises)) first
 
   -- the last of the rows in front is put into the map of the others
   pub one_row_thawed : (rows all before front : List (Net A × V)) (r : Net A × V) (m n : PairMap (Net A) V) → AreRowsInOrder w number rows → all ≡ rows

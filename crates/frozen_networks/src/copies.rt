@@ -6,9 +6,8 @@ ghost use Rattle.radix_trie.specs.Views.{pairs_below};
 ghost use Rattle.frozen_networks.specs.Networks.{IsNetwork, network_map};
 
 use frozen_routes::{FrozenRoutes, SortedWhy};
-use frozen_trie::FreezeWhy;
 use radix_keys::{Address, Memory, Network};
-use radix_trie::{Trie, TrieCommon, keys_stand_at_their_encodings};
+use radix_trie::{BuildError, Trie, TrieCommon, keys_stand_at_their_encodings};
 use std::alloc::Global;
 
 /// The table of a trie's networks, each with a clone of its value, in linear time but for the climbs of
@@ -22,21 +21,21 @@ use std::alloc::Global;
 /// or for what the table has beside them. The rows of a trie are always in order. Of no network the call never fails.
 pub fn frozen_copy<A: Address, V: Clone>(
     trie: &Trie<Network<A>, V>,
-) -> Result<FrozenRoutes<A, V>, FreezeWhy>
+) -> Result<FrozenRoutes<A, V>, BuildError>
     requires same_value { (value copy : V) → V.is_clone value copy → copy ≡ value }
     ensures rows { IfOk result (λ routes. routes ≡ pairs_below trie.now []) }
-    ensures full { result ≡ Err FreezeWhy.Full → 2 ^ 32 ≤ map.len trie.now }
+    ensures full { result ≡ Err BuildError.Full → 2 ^ 32 ≤ map.len trie.now }
     ensures none { map.len trie.now ≡ 0 → IsOk result }
 {
     keys_stand_at_their_encodings(trie);
     let Ok(rows) = cloned_rows(trie) else {
-        return Err(FreezeWhy::Memory);
+        return Err(BuildError::Memory);
     };
     match FrozenRoutes::from_sorted(rows) {
         Ok(routes) => Ok(routes),
         Err(refused) => match refused.why {
-            SortedWhy::Memory => Err(FreezeWhy::Memory),
-            SortedWhy::Full => Err(FreezeWhy::Full),
+            SortedWhy::Memory => Err(BuildError::Memory),
+            SortedWhy::Full => Err(BuildError::Full),
             SortedWhy::Unsorted(_) => unreachable!(),
         },
     }

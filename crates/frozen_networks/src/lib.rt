@@ -7,9 +7,8 @@ mod moves;
 mod query_laws;
 
 pub use copies::{frozen_copy, thawed_copy};
-pub use frozen_trie::{FreezeWhy, ThawError};
 pub use laws::{networks_rise_as_their_bits, rows_and_maps_go_back};
-pub use moves::{FreezeError, freeze, thaw};
+pub use moves::{freeze, thaw};
 pub use query_laws::maps_answer_as_tables;
 
 #[cfg(test)]

@@ -1,9 +1,9 @@
 //! Networks of both families, there and back by copies and by moves, and clones that are refused.
 
-use crate::{FreezeWhy, freeze, frozen_copy, thaw, thawed_copy};
+use crate::{freeze, frozen_copy, thaw, thawed_copy};
 use frozen_routes::FrozenRoutes;
 use radix_keys::{Address, Network};
-use radix_trie::Trie;
+use radix_trie::{BuildError, Trie};
 use std::alloc::{AllocError, Global};
 use std::net::{Ipv4Addr, Ipv6Addr};
 
@@ -112,7 +112,7 @@ fn refused_clones(rt: HostRuntime) -> Result<(), AllocError> {
         assert!(rt; trie.insert(network, Fussy { number }).is_ok());
         assert!(rt; routes.push(network, Fussy { number }).is_ok());
     }
-    assert!(rt; matches!(frozen_copy(&trie), Err(FreezeWhy::Memory)));
+    assert!(rt; matches!(frozen_copy(&trie), Err(BuildError::Memory)));
     assert!(rt; thawed_copy(rt.alloc(), &routes).is_err());
     assert!(rt; trie.len() == 5 && routes.len() == 5);
     // What is moved isn't cloned.

@@ -7,4 +7,5 @@ pub mod Rows
 pub mod Parts
 pub mod Above
 pub mod Single
+pub mod Whole
 pub mod Nearest

@@ -5,8 +5,8 @@ ghost use Rattle.frozen_routes.specs.Routes.{AreRowsInOrder};
 use crate::frozen::FrozenRoutes;
 use crate::linked::link_after;
 use crate::tops::Tops;
-use radix_keys::{Address, Memory, Network};
-use sorted_tables::{PushError, PushWhy};
+use radix_keys::{Address, Memory, Network, Refused};
+use sorted_tables::PushWhy;
 use std::alloc::Global;
 
 impl<A: Address, V> FrozenRoutes<A, V> {
@@ -30,7 +30,11 @@ impl<A: Address, V> FrozenRoutes<A, V> {
     ///
     /// In this order: the table holds 2^32 - 1 rows; the network doesn't come after all others; memory
     /// is refused. The row comes back, and the table is as before.
-    pub fn push(&mut self, network: Network<A>, value: V) -> Result<(), PushError<(Network<A>, V)>>
+    pub fn push(
+        &mut self,
+        network: Network<A>,
+        value: V,
+    ) -> Result<(), Refused<PushWhy, (Network<A>, V)>>
         ensures ok { OnOk result (self.new ≡ self.old ++ (network, value) ∷ []) }
         ensures rising { OnOk result (AreRowsInOrder A.BITS A.number self.new) }
         ensures unsorted { IfErr result (λ e. e.why ≡ PushWhy.Unsorted
@@ -40,21 +44,21 @@ impl<A: Address, V> FrozenRoutes<A, V> {
         ensures room { IfErr result (λ e. e.why ≢ PushWhy.Full → length self.old < 2 ^ 32 - 1) }
         ensures memory { IfErr result (λ e. e.why ≡ PushWhy.Memory
             → AreRowsInOrder A.BITS A.number (self.old ++ (network, value) ∷ [])) }
-        ensures handed_back { IfErr result (λ e. e.value ≡ (network, value)) }
+        ensures handed_back { IfErr result (λ e. e.back ≡ (network, value)) }
         ensures unchanged { IfErr result (λ _. self.new ≡ self.old) }
     {
         let row = (network, value);
         if self.rows.len() >= u32::MAX as usize {
             let why = PushWhy::Full;
-            return Err(PushError { why, value: row });
+            return Err(Refused { why, back: row });
         }
         let Some(link) = link_after(&self.rows, &self.up, &row.0) else {
             let why = PushWhy::Unsorted;
-            return Err(PushError { why, value: row });
+            return Err(Refused { why, back: row });
         };
         if self.rows.reserve(1).is_err() || self.up.reserve(1).is_err() {
             let why = PushWhy::Memory;
-            return Err(PushError { why, value: row });
+            return Err(Refused { why, back: row });
         }
         self.up.push_reserved(link);
         self.rows.push_reserved(row);

@@ -1,11 +1,13 @@
 //! A routing table for reading alone: its networks in order.
-ghost use Rattle.std.specs.Prelude.{◌≡◌, ◌↔◌, ◌+◌, ◌<◌, ◌≤◌, ◌∷◌, IsTrue, length, option_copied, option_map, reverse};
+ghost use Rattle.std.specs.Prelude.{◌≡◌, ◌↔◌, ◌+◌, ◌-◌, ◌<◌, ◌≤◌, ◌∷◌, IsTrue, length, option_copied, option_map, slice_get};
 ghost use Rattle.std.specs.List.{filter};
-ghost use Rattle.frozen_routes.specs.Routes.{IsLongestRow, IsValueOf, AreRowsInOrder, row_of_refs, rows_up, is_holder, is_inside};
+ghost use Rattle.radix_keys.specs.Networks.{Net};
+ghost use Rattle.frozen_routes.specs.Routes.{IsLongestAround, IsOwnRow, IsFoundRow, IsValueOf, AreRowsInOrder, row_of_refs, rows_up, is_around, is_inside};
 
-use crate::above::NetworksAbove;
-use crate::rows::{entry_at, is_of};
-use crate::search::{cut, last_holder};
+use crate::prefixes::CommonPrefixes;
+use crate::queries::RouteQuery;
+use crate::rows::{entry_at, entry_in, is_of};
+use crate::search::{cut, last_around};
 use crate::tops::Tops;
 use radix_keys::{Address, Network};
 use std::alloc::Global;
@@ -55,6 +57,107 @@ impl<A: Address, V> FrozenRoutes<A, V> {
         self.len() == 0
     }
 
+    /// The value of this very network, or None where no row is of it. It allocates nothing.
+    ///
+    /// It takes as many comparisons as the count of rows has binary digits.
+    pub fn get(&self, network: &Network<A>) -> Option<&V>
+        ensures value { IsValueOf A.number self.now network.now (option_copied result) }
+    {
+        let (_, value) = self.get_key_value(network)?;
+        Some(value)
+    }
+
+    /// The row of this very network, or None where there is none. It allocates nothing.
+    ///
+    /// It takes the time of `get`.
+    pub fn get_key_value(&self, network: &Network<A>) -> Option<(&Network<A>, &V)>
+        ensures row { IsFoundRow A.number self.now network.now (option_map row_of_refs result) }
+    {
+        let at = cut(&self.rows, network, false);
+        if at >= self.rows.len() || !is_of(&self.rows, at, network) {
+            return None;
+        }
+        Some(entry_at(&self.rows, at))
+    }
+
+    /// Whether a row is of this very network. It allocates nothing.
+    ///
+    /// It takes the time of `get`.
+    pub fn contains_key(&self, network: &Network<A>) -> bool
+        ensures stored { IsTrue result
+            ↔ ((r : Net A × V) × IsOwnRow A.number self.now network.now r) }
+    {
+        self.get_key_value(network).is_some()
+    }
+
+    /// The first row, or None where there is none. It takes constant time.
+    pub fn first_key_value(&self) -> Option<(&Network<A>, &V)>
+        ensures row { option_map row_of_refs result ≡ slice_get self.now 0 }
+    {
+        entry_in(&self.rows, 0)
+    }
+
+    /// The last row, or None where there is none. It takes constant time.
+    pub fn last_key_value(&self) -> Option<(&Network<A>, &V)>
+        ensures row { option_map row_of_refs result
+            ≡ slice_get self.now (length self.now - 1) }
+    {
+        entry_in(&self.rows, self.rows.len().saturating_sub(1))
+    }
+
+    /// The row of the longest network that holds an address, or all of a network, or None where none does. It allocates
+    /// nothing.
+    ///
+    /// It takes as many comparisons as the count of rows has binary digits, and then a step for each network around the
+    /// last one that begins at or before the address, until one holds it. With the table of first bits, which
+    /// `from_sorted` and `finish` make from 256 rows on, both go over those rows alone whose first address agrees with
+    /// this one in these bits, of which there are as many as the count of all rows has binary digits, but at most 21:
+    /// where none of them holds the address, the table says which row does. A network takes the time of its first address,
+    /// and a step for each longer network that holds this.
+    pub fn longest_match<Q: RouteQuery<A>>(&self, query: &Q) -> Option<(&Network<A>, &V)>
+        ensures row { IsLongestAround A.BITS A.number self.now (Q.net query.now)
+            (option_map row_of_refs result) }
+    {
+        let found = last_around(&self.rows, &self.up, &self.tops, &query.network());
+        if found == 0 {
+            return None;
+        }
+        Some(entry_at(&self.rows, found - 1))
+    }
+
+    /// The walk over the rows whose networks hold an address, or all of a network, in order, so the widest first; from its
+    /// other end the longest first. It allocates nothing.
+    ///
+    /// It takes the time of `longest_match` and a step for each of these rows, and ends with the row that
+    /// `longest_match` returns.
+    pub fn common_prefixes<Q: RouteQuery<A>>(&self, query: &Q) -> CommonPrefixes<'_, A, V>
+        ensures walk { result ≡ filter (is_around A.BITS A.number (Q.net query.now)) self.now }
+    {
+        let last = last_around(&self.rows, &self.up, &self.tops, &query.network());
+        CommonPrefixes::new(self, last)
+    }
+
+    /// The rows whose networks lie within a network, itself among them, in order. It allocates nothing.
+    ///
+    /// It takes twice as many comparisons as the count of rows has binary digits.
+    pub fn below(&self, network: &Network<A>) -> &[(Network<A>, V)]
+        ensures rows { result.now ≡ filter (is_inside A.BITS A.number network.now) self.now }
+    {
+        let from = cut(&self.rows, network, false);
+        let to = cut(&self.rows, network, true);
+        &self.rows[from..to]
+    }
+
+    /// How many rows' networks lie within a network, itself among them. It allocates nothing.
+    ///
+    /// It takes the time of `below`.
+    pub fn count_below(&self, network: &Network<A>) -> usize
+        ensures count { result
+            ≡ length (filter (is_inside A.BITS A.number network.now) self.now) }
+    {
+        self.below(network).len()
+    }
+
     /// All rows, in order.
     pub fn rows(&self) -> &[(Network<A>, V)]
         ensures rows { result.now ≡ self.now }
@@ -71,38 +174,6 @@ impl<A: Address, V> FrozenRoutes<A, V> {
         self.rows
     }
 
-    /// The row of the longest network that holds an address, or None where none does. It allocates nothing.
-    ///
-    /// It takes as many comparisons as the count of rows has binary digits, and then a step for each network around the
-    /// last one that begins at or before the address, until one holds it. With the table of first bits, which
-    /// `from_sorted` and `finish` make from 256 rows on, both go over those rows alone whose first address agrees with
-    /// this one in these bits, of which there are as many as the count of all rows has binary digits, but at most 21:
-    /// where none of them holds the address, the table says which row does.
-    pub fn look(&self, address: A) -> Option<(&Network<A>, &V)>
-        ensures row { IsLongestRow A.BITS A.number self.now (A.number address)
-            (option_map row_of_refs result) }
-    {
-        let found = last_holder(&self.rows, &self.up, &self.tops, address);
-        if found == 0 {
-            return None;
-        }
-        Some(entry_at(&self.rows, found - 1))
-    }
-
-    /// The value of this very network, or None where no row is of it. It allocates nothing.
-    ///
-    /// It takes as many comparisons as the count of rows has binary digits.
-    pub fn get(&self, network: &Network<A>) -> Option<&V>
-        ensures value { IsValueOf A.number self.now network.now (option_copied result) }
-    {
-        let at = cut(&self.rows, network, false);
-        if at >= self.rows.len() || !is_of(&self.rows, at, network) {
-            return None;
-        }
-        let (_, value) = entry_at(&self.rows, at);
-        Some(value)
-    }
-
     /// The row at an index, by its parts, and the link there: the index and one more of the row of the network around
     /// its own, or 0.
     pub(crate) fn step_up(&self, at: usize) -> ((&Network<A>, &V), usize)
@@ -112,28 +183,5 @@ impl<A: Address, V> FrozenRoutes<A, V> {
         ensures within { result.1 ≤ at }
     {
         (entry_at(&self.rows, at), self.up[at] as usize)
-    }
-
-    /// The walk over the rows whose networks hold an address, the longest first; from its other end, in order. It
-    /// allocates nothing.
-    ///
-    /// It takes the time of `look` and a step for each of these rows, and begins with the row that `look` returns.
-    pub fn networks_above(&self, address: A) -> NetworksAbove<'_, A, V>
-        ensures walk { result ≡ reverse (filter (is_holder A.BITS A.number (A.number address))
-            self.now) }
-    {
-        let next = last_holder(&self.rows, &self.up, &self.tops, address);
-        NetworksAbove::new(self, next)
-    }
-
-    /// The rows whose networks lie within a network, itself among them, in order. It allocates nothing.
-    ///
-    /// It takes twice as many comparisons as the count of rows has binary digits.
-    pub fn below(&self, network: &Network<A>) -> &[(Network<A>, V)]
-        ensures rows { result.now ≡ filter (is_inside A.BITS A.number network.now) self.now }
-    {
-        let from = cut(&self.rows, network, false);
-        let to = cut(&self.rows, network, true);
-        &self.rows[from..to]
     }
 }

@@ -1,5 +1,5 @@
 //! The rows of a table by their numbers.
-ghost use Rattle.std.specs.Prelude.{◌≡◌, ◌↔◌, ◌-◌, ◌/◌, ◌^◌, ◌<◌, ◌≤◌, IsTrue, length, slice_index, slice_index_or};
+ghost use Rattle.std.specs.Prelude.{◌≡◌, ◌↔◌, ◌-◌, ◌/◌, ◌^◌, ◌<◌, ◌≤◌, IsTrue, length, option_map, slice_get, slice_index, slice_index_or};
 ghost use Rattle.radix_keys.specs.Networks.{AgreeIn};
 ghost use Rattle.frozen_routes.specs.Routes.{row_of_refs, base_numbers, bit_counts};
 
@@ -12,6 +12,16 @@ pub(crate) fn entry_at<K, V>(rows: &[(K, V)], at: usize) -> (&K, &V)
 {
     let row = &rows[at];
     (&row.0, &row.1)
+}
+
+/// The row at an index, by its parts, if there is one.
+pub(crate) fn entry_in<K, V>(rows: &[(K, V)], at: usize) -> Option<(&K, &V)>
+    ensures { option_map row_of_refs result ≡ slice_get rows.now at }
+{
+    match rows.get(at) {
+        Some(row) => Some((&row.0, &row.1)),
+        None => None,
+    }
 }
 
 /// The number of the first address of the network at an index.

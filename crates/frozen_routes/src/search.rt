@@ -1,6 +1,6 @@
 //! Searches among networks in order.
 ghost use Rattle.std.specs.Prelude.{◌≡◌, ◌↔◌, ◌-◌, ◌/◌, ◌^◌, ◌<◌, ◌≤◌, ℕ, IsTrue, length, slice_index};
-ghost use Rattle.frozen_routes.specs.Routes.{AreInFront, AreUplinks, AreTopCells, AreUpTo, AreUppers, IsInFront, IsLastHolder, AreRowsInOrder, base_numbers, bit_counts};
+ghost use Rattle.frozen_routes.specs.Routes.{AreInFront, AreUplinks, AreTopCells, AreUpTo, AreUppers, IsInFront, IsLastAround, IsLastHolder, AreRowsInOrder, base_numbers, bit_counts};
 
 use crate::rows::{bits_at, first_at, holds_at, without_last};
 use crate::tops::{Cell, Tops, top_span};
@@ -95,7 +95,7 @@ pub(crate) fn climb<A: Address, V>(
 }
 
 /// The last of the networks that holds an address, by its index and one more, or 0 where there is none.
-pub(crate) fn last_holder<A: Address, V>(
+fn last_holder<A: Address, V>(
     rows: &[(Network<A>, V)],
     up: &[u32],
     tops: &Tops,
@@ -115,6 +115,34 @@ pub(crate) fn last_holder<A: Address, V>(
     let (floor, hi) = top_span(rows, tops, number);
     let from = count_to(rows, &tops.uppers, number, floor.count as usize, hi);
     climb(rows, up, from, floor, number)
+}
+
+/// The last of the networks that holds all of another one, by its index and one more, or 0 where there is none.
+///
+/// From the last that holds its first address it goes up the links for as long as they have more bits than it. None has
+/// more than an address alone.
+pub(crate) fn last_around<A: Address, V>(
+    rows: &[(Network<A>, V)],
+    up: &[u32],
+    tops: &Tops,
+    network: &Network<A>,
+) -> usize
+    requires linked { length up.now ≡ length rows.now }
+    requires rising { AreRowsInOrder A.BITS A.number rows.now }
+    requires links { AreUplinks A.BITS (base_numbers A.number rows.now) (bit_counts rows.now)
+        up.now }
+    requires tops { AreTopCells tops.now.rest A.BITS (base_numbers A.number rows.now)
+        (bit_counts rows.now) tops.now.cells.items }
+    requires uppers { AreUppers (base_numbers A.number rows.now) tops.now.uppers.items }
+    ensures { IsLastAround A.BITS (base_numbers A.number rows.now) (bit_counts rows.now)
+        (length rows.now) (A.number network.now.base) network.now.bits result }
+{
+    let bits = network.bits();
+    let mut at = last_holder(rows, up, tops, network.base());
+    while bits < A::BITS && at > 0 && bits_at(rows, at - 1) > bits {
+        at = up[at - 1] as usize;
+    }
+    at
 }
 
 /// Whether the network at an index comes in front of those within the network of `bits` bits whose addresses have

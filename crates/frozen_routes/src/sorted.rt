@@ -1,13 +1,13 @@
 //! A routing table for reading, made of all its rows in order.
-ghost use Rattle.std.specs.Prelude.{◌≡◌, ◌^◌, ◌<◌, ◌≤◌, ℕ, IfErr, IfOk, IsOk, OnOk, length};
+ghost use Rattle.std.specs.Prelude.{◌≡◌, ◌≢◌, ◌^◌, ◌<◌, ◌≤◌, ℕ, IfErr, IfOk, IsOk, OnOk, length};
 ghost use Rattle.frozen_routes.specs.Routes.{AreLinked, AreRowsInOrder, IsFirstOutOfOrder, base_numbers, bit_counts};
 
 use crate::frozen::FrozenRoutes;
 use crate::linked::link_after;
+use crate::room::Room;
 use crate::tops::Tops;
-use radix_keys::{Address, Network};
-use sorted_tables::{SortedError, SortedWhy};
-use std::alloc::Global;
+use radix_keys::{Address, Network, Refused};
+use sorted_tables::SortedWhy;
 
 impl<A: Address, V> FrozenRoutes<A, V> {
     /// The table of rows whose networks rise: by their first addresses, and of one first address by their bits. The
@@ -21,56 +21,85 @@ impl<A: Address, V> FrozenRoutes<A, V> {
     /// row is read. The rows come back. Of no row the call never fails.
     pub fn from_sorted(
         rows: Vec<(Network<A>, V)>,
-    ) -> Result<FrozenRoutes<A, V>, SortedError<(Network<A>, V)>>
+    ) -> Result<FrozenRoutes<A, V>, Refused<SortedWhy, Vec<(Network<A>, V)>>>
         ensures ok { IfOk result (λ routes. routes ≡ rows.items) }
         ensures rising { OnOk result (AreRowsInOrder A.BITS A.number rows.items) }
-        ensures handed_back { IfErr result (λ e. e.items ≡ rows) }
+        ensures handed_back { IfErr result (λ e. e.back ≡ rows) }
         ensures unsorted { IfErr result (λ e. (i : ℕ) → e.why ≡ SortedWhy.Unsorted i
             → IsFirstOutOfOrder A.BITS A.number rows.items i) }
         ensures full { IfErr result (λ e. e.why ≡ SortedWhy.Full → 2 ^ 32 ≤ length rows.items) }
         ensures none { length rows.items ≡ 0 → IsOk result }
     {
+        if rows.len() > u32::MAX as usize {
+            let why = SortedWhy::Full;
+            return Err(Refused { why, back: rows });
+        }
+        match Room::new(*rows.allocator(), rows.len()) {
+            Ok(room) => FrozenRoutes::from_sorted_in(room, rows),
+            Err(_) => {
+                let why = SortedWhy::Memory;
+                Err(Refused { why, back: rows })
+            }
+        }
+    }
+
+    /// The table that `from_sorted` makes, in room that was taken before. It takes no more memory, and none is refused.
+    ///
+    /// # Errors
+    ///
+    /// There are more rows than there is room for, which is `Full`; or a network doesn't come after that of the row before
+    /// it. The rows come back.
+    pub fn from_sorted_in(
+        room: Room<A>,
+        rows: Vec<(Network<A>, V)>,
+    ) -> Result<FrozenRoutes<A, V>, Refused<SortedWhy, Vec<(Network<A>, V)>>>
+        ensures ok { IfOk result (λ routes. routes ≡ rows.items) }
+        ensures rising { OnOk result (AreRowsInOrder A.BITS A.number rows.items) }
+        ensures handed_back { IfErr result (λ e. e.back ≡ rows) }
+        ensures unsorted { IfErr result (λ e. (i : ℕ) → e.why ≡ SortedWhy.Unsorted i
+            → IsFirstOutOfOrder A.BITS A.number rows.items i) }
+        ensures full { IfErr result (λ e. e.why ≡ SortedWhy.Full → room < length rows.items) }
+        ensures memory { IfErr result (λ e. e.why ≢ SortedWhy.Memory) }
+        ensures none { length rows.items ≡ 0 → IsOk result }
+    {
+        if rows.len() > room.rows {
+            let why = SortedWhy::Full;
+            return Err(Refused { why, back: rows });
+        }
         let alloc = *rows.allocator();
-        match links_and_tops(alloc, &rows) {
+        match links_and_tops(room, &rows) {
             Ok((up, tops)) => Ok(FrozenRoutes {
                 rows,
                 up,
                 tops,
                 alloc,
             }),
-            Err(why) => Err(SortedError { why, items: rows }),
+            Err(at) => {
+                let why = SortedWhy::Unsorted(at);
+                Err(Refused { why, back: rows })
+            }
         }
     }
 }
 
-/// The links of rows, and the table of their first bits with what it has beside it.
+/// The links of rows, and the table of their first bits with what it has beside it; or the index of the first row that
+/// isn't in order.
 fn links_and_tops<A: Address, V>(
-    alloc: Global,
+    room: Room<A>,
     rows: &[(Network<A>, V)],
-) -> Result<(Vec<u32>, Tops), SortedWhy>
+) -> Result<(Vec<u32>, Tops), usize>
+    requires { length rows.now ≤ room }
     ensures ok { IfOk result (λ made. AreLinked A.BITS (base_numbers A.number rows.now)
         (bit_counts rows.now) made.0.items made.1.rest made.1.cells.items made.1.uppers.items) }
-    ensures unsorted { IfErr result (λ why. (i : ℕ) → why ≡ SortedWhy.Unsorted i
-        → IsFirstOutOfOrder A.BITS A.number rows.now i) }
-    ensures full { IfErr result (λ why. why ≡ SortedWhy.Full → 2 ^ 32 ≤ length rows.now) }
-    ensures none { length rows.now ≡ 0 → IsOk result }
+    ensures unsorted { IfErr result (IsFirstOutOfOrder A.BITS A.number rows.now) }
 {
-    let count = rows.len();
-    if count > u32::MAX as usize {
-        return Err(SortedWhy::Full);
-    }
-    let Ok(mut up) = Vec::with_capacity(alloc, count) else {
-        return Err(SortedWhy::Memory);
-    };
-    let Ok((tops, room)) = Tops::with_room::<A>(alloc, count) else {
-        return Err(SortedWhy::Memory);
-    };
-    for i in 0..count {
+    let mut up = room.up;
+    for i in 0..rows.len() {
         let Some(link) = link_after(&rows[..i], &up, &rows[i].0) else {
-            return Err(SortedWhy::Unsorted(i));
+            return Err(i);
         };
         up.push_reserved(link);
     }
-    let tops = tops.filled(rows, &up, room);
+    let tops = room.tops.filled(rows, &up, room.cells);
     Ok((up, tops))
 }

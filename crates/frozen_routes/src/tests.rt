@@ -1,6 +1,6 @@
 //! Small tables, with answers by hand, and some with a table by the first bits.
 
-use crate::{FrozenRoutes, SortedWhy};
+use crate::{FrozenRoutes, Room, RouteQuery, SortedWhy};
 use radix_keys::{Address, Network};
 use std::alloc::Global;
 use std::net::{Ipv4Addr, Ipv6Addr};
@@ -32,6 +32,17 @@ fn table<A: Address>(alloc: Global, texts: &[&'static str]) -> Option<FrozenRout
     FrozenRoutes::from_sorted(rows_of(alloc, texts)?).ok()
 }
 
+/// The index of the longest network that holds all of a query.
+fn index_of<A: Address, Q: RouteQuery<A>>(
+    table: &FrozenRoutes<A, usize>,
+    query: &Q,
+) -> Option<usize> {
+    match table.longest_match(query) {
+        Some((_, value)) => Some(*value),
+        None => None,
+    }
+}
+
 /// Whether each address is found to be in the network at this index.
 fn are_found<A: Address>(
     alloc: Global,
@@ -40,11 +51,7 @@ fn are_found<A: Address>(
 ) -> Option<bool> {
     let table = table::<A>(alloc, texts)?;
     for (text, index) in looks {
-        let found = match table.look(A::parse(text)?) {
-            Some((_, value)) => Some(*value),
-            None => None,
-        };
-        if found != *index {
+        if index_of(&table, &A::parse(text)?) != *index {
             return Some(false);
         }
     }
@@ -140,7 +147,7 @@ fn networks_within_another(rt: HostRuntime) {
 fn refused(alloc: Global, texts: &[&'static str]) -> Option<(SortedWhy, usize)> {
     match FrozenRoutes::from_sorted(rows_of::<Ipv4Addr>(alloc, texts)?) {
         Ok(_) => None,
-        Err(e) => Some((e.why, e.items.len())),
+        Err(e) => Some((e.why, e.back.len())),
     }
 }
 
@@ -157,6 +164,32 @@ fn networks_out_of_order(rt: HostRuntime) {
         let rows = rows_of::<Ipv4Addr>(rt.alloc(), texts);
         assert!(rt; rows.is_some_and(|rows| pushed(rt.alloc(), rows).is_none()));
     }
+}
+
+/// How many rows a table has that is made in room for so many, or why it isn't made, and how many come back.
+fn made_in_room(
+    alloc: Global,
+    room: usize,
+    texts: &[&'static str],
+) -> Option<(Option<SortedWhy>, usize)> {
+    let room = Room::new(alloc, room).ok()?;
+    match FrozenRoutes::from_sorted_in(room, rows_of::<Ipv4Addr>(alloc, texts)?) {
+        Ok(table) => Some((None, table.len())),
+        Err(e) => Some((Some(e.why), e.back.len())),
+    }
+}
+
+#[test]
+fn rows_in_room_that_was_taken(rt: HostRuntime) {
+    const RISING: &'static [&'static str] = &["9.0.0.0/8", "10.0.0.0/8", "10.0.0.0/16"];
+    const FALLING: &'static [&'static str] = &["10.0.0.0/8", "9.0.0.0/8"];
+    let full = Some(SortedWhy::Full);
+    assert!(rt; made_in_room(rt.alloc(), 3, RISING) == Some((None, 3)));
+    assert!(rt; made_in_room(rt.alloc(), 300, RISING) == Some((None, 3)));
+    assert!(rt; made_in_room(rt.alloc(), 2, RISING) == Some((full, 3)));
+    assert!(rt; made_in_room(rt.alloc(), 0, &[]) == Some((None, 0)));
+    let unsorted = Some(SortedWhy::Unsorted(1));
+    assert!(rt; made_in_room(rt.alloc(), 2, FALLING) == Some((unsorted, 2)));
 }
 
 /// The value of a network, if its text is one of a network that has a row.
@@ -192,21 +225,49 @@ fn value_of_one_network(rt: HostRuntime) {
     }
 }
 
-/// Whether the networks that hold an address are those at these indices, in this order.
-fn are_above<A: Address>(
+/// Whether the networks that hold all of a query are those at these indices, in this order, from the other end in the
+/// reversed one, and the last of them is the longest.
+fn are_around<A: Address, Q: RouteQuery<A>>(
+    table: &FrozenRoutes<A, usize>,
+    query: &Q,
+    indices: &[usize],
+) -> bool {
+    let mut rest = indices.iter();
+    for (_, index) in table.common_prefixes(query) {
+        if rest.next() != Some(index) {
+            return false;
+        }
+    }
+    let mut back = indices.iter();
+    for (_, index) in table.common_prefixes(query).rev() {
+        if back.next_back() != Some(index) {
+            return false;
+        }
+    }
+    rest.next().is_none()
+        && back.next().is_none()
+        && index_of(table, query) == indices.last().copied()
+}
+
+/// Whether those that hold an address are.
+fn hold_address<A: Address>(
     alloc: Global,
     texts: &[&'static str],
     text: &str,
     indices: &[usize],
 ) -> Option<bool> {
-    let table = table::<A>(alloc, texts)?;
-    let mut rest = indices.iter();
-    for (_, index) in table.networks_above(A::parse(text)?) {
-        if rest.next() != Some(index) {
-            return Some(false);
-        }
-    }
-    Some(rest.next().is_none())
+    Some(are_around(&table::<A>(alloc, texts)?, &A::parse(text)?, indices))
+}
+
+/// Whether those that hold all of a network are.
+fn hold_network<A: Address>(
+    alloc: Global,
+    texts: &[&'static str],
+    text: &str,
+    indices: &[usize],
+) -> Option<bool> {
+    let network = text.parse::<Network<A>>().ok()?;
+    Some(are_around(&table::<A>(alloc, texts)?, &network, indices))
 }
 
 #[test]
@@ -219,29 +280,102 @@ fn networks_around_an_address(rt: HostRuntime) {
         "10.0.2.0/24",
         "10.1.0.0/16",
     ];
-    const ABOVE_FOUR: &'static [(&'static str, &'static [usize])] = &[
+    const AROUND_FOUR: &'static [(&'static str, &'static [usize])] = &[
         ("9.0.0.0", &[0]),
-        ("10.0.1.7", &[3, 2, 1, 0]),
-        ("10.0.2.0", &[4, 2, 1, 0]),
-        ("10.0.3.0", &[2, 1, 0]),
-        ("10.1.0.1", &[5, 1, 0]),
-        ("10.2.0.1", &[1, 0]),
+        ("10.0.1.7", &[0, 1, 2, 3]),
+        ("10.0.2.0", &[0, 1, 2, 4]),
+        ("10.0.3.0", &[0, 1, 2]),
+        ("10.1.0.1", &[0, 1, 5]),
+        ("10.2.0.1", &[0, 1]),
     ];
     const SIX: &'static [&'static str] = &["2001:db8::/32", "2001:db8::/48", "2001:db8::1/128"];
-    const ABOVE_SIX: &'static [(&'static str, &'static [usize])] = &[
+    const AROUND_SIX: &'static [(&'static str, &'static [usize])] = &[
         ("::", &[]),
-        ("2001:db8::1", &[2, 1, 0]),
-        ("2001:db8::2", &[1, 0]),
+        ("2001:db8::1", &[0, 1, 2]),
+        ("2001:db8::2", &[0, 1]),
         ("2001:db8:1::", &[0]),
     ];
-    for (text, indices) in ABOVE_FOUR {
-        let right = are_above::<Ipv4Addr>(rt.alloc(), FOUR, text, indices);
+    for (text, indices) in AROUND_FOUR {
+        let right = hold_address::<Ipv4Addr>(rt.alloc(), FOUR, text, indices);
         assert!(rt; right == Some(true), "{text}");
     }
-    for (text, indices) in ABOVE_SIX {
-        let right = are_above::<Ipv6Addr>(rt.alloc(), SIX, text, indices);
+    for (text, indices) in AROUND_SIX {
+        let right = hold_address::<Ipv6Addr>(rt.alloc(), SIX, text, indices);
         assert!(rt; right == Some(true), "{text}");
     }
+}
+
+#[test]
+fn networks_around_a_network(rt: HostRuntime) {
+    const APART: &'static [&'static str] = &["10.0.0.0/8", "10.1.0.0/16", "10.1.2.0/24"];
+    const AROUND_APART: &'static [(&'static str, &'static [usize])] = &[
+        ("0.0.0.0/0", &[]),
+        ("10.0.0.0/7", &[]),
+        ("10.0.0.0/8", &[0]),
+        ("10.0.0.0/16", &[0]),
+        ("10.1.0.0/16", &[0, 1]),
+        ("10.1.2.0/23", &[0, 1]),
+        ("10.1.2.0/24", &[0, 1, 2]),
+        ("10.1.2.0/25", &[0, 1, 2]),
+        ("10.1.2.3/32", &[0, 1, 2]),
+        ("11.0.0.0/8", &[]),
+    ];
+    const NESTED: &'static [&'static str] = &[
+        "0.0.0.0/0",
+        "10.0.0.0/8",
+        "10.0.0.0/16",
+        "10.0.0.0/24",
+        "10.0.0.0/32",
+    ];
+    const AROUND_NESTED: &'static [(&'static str, &'static [usize])] = &[
+        ("0.0.0.0/0", &[0]),
+        ("10.0.0.0/7", &[0]),
+        ("10.0.0.0/12", &[0, 1]),
+        ("10.0.0.0/16", &[0, 1, 2]),
+        ("10.0.0.0/31", &[0, 1, 2, 3]),
+        ("10.0.0.0/32", &[0, 1, 2, 3, 4]),
+    ];
+    for (text, indices) in AROUND_APART {
+        let right = hold_network::<Ipv4Addr>(rt.alloc(), APART, text, indices);
+        assert!(rt; right == Some(true), "{text}");
+    }
+    for (text, indices) in AROUND_NESTED {
+        let right = hold_network::<Ipv4Addr>(rt.alloc(), NESTED, text, indices);
+        assert!(rt; right == Some(true), "{text}");
+    }
+}
+
+/// The values of the first row and of the last one, of the row of a network, and how many lie within it.
+fn rows_told(
+    alloc: Global,
+    texts: &[&'static str],
+    text: &str,
+) -> Option<(Option<usize>, Option<usize>, Option<usize>, usize)> {
+    let table = table::<Ipv4Addr>(alloc, texts)?;
+    let network = text.parse::<Network<Ipv4Addr>>().ok()?;
+    let value = |row: Option<(&Network<Ipv4Addr>, &usize)>| match row {
+        Some((_, value)) => Some(*value),
+        None => None,
+    };
+    let own = value(table.get_key_value(&network));
+    if table.contains_key(&network) != own.is_some() || table.get(&network).copied() != own {
+        return None;
+    }
+    Some((
+        value(table.first_key_value()),
+        value(table.last_key_value()),
+        own,
+        table.count_below(&network),
+    ))
+}
+
+#[test]
+fn first_and_last_rows(rt: HostRuntime) {
+    const ROWS: &'static [&'static str] = &["10.0.0.0/8", "10.0.0.0/16", "11.0.0.0/8"];
+    assert!(rt; rows_told(rt.alloc(), &[], "10.0.0.0/8") == Some((None, None, None, 0)));
+    assert!(rt; rows_told(rt.alloc(), ROWS, "10.0.0.0/8") == Some((Some(0), Some(2), Some(0), 2)));
+    assert!(rt; rows_told(rt.alloc(), ROWS, "10.0.0.0/7") == Some((Some(0), Some(2), None, 3)));
+    assert!(rt; rows_told(rt.alloc(), ROWS, "10.0.0.0/24") == Some((Some(0), Some(2), None, 0)));
 }
 
 /// So many networks of 24 bits, so far apart, each with its index.
@@ -259,12 +393,9 @@ fn held_alone(table: &FrozenRoutes<Ipv4Addr, usize>, count: u32, apart: u32) -> 
     let mut held = 0u32;
     for i in 0..count {
         let last = apart.wrapping_mul(i).wrapping_add(255);
-        let found = match table.look(Ipv4Addr::from_bits(last)) {
-            Some((_, value)) => *value == i as usize,
-            None => false,
-        };
+        let found = index_of(table, &Ipv4Addr::from_bits(last)) == Some(i as usize);
         let behind = Ipv4Addr::from_bits(last.wrapping_add(1));
-        if found && table.look(behind).is_none() {
+        if found && table.longest_match(&behind).is_none() {
             held = held.wrapping_add(1);
         }
     }
@@ -316,7 +447,16 @@ fn side_by_side(alloc: Global, count: u32) -> Option<FrozenRoutes<Ipv6Addr, u32>
 
 /// The value of the row that holds the address of a number.
 fn found_at(table: &FrozenRoutes<Ipv6Addr, u32>, number: u128) -> Option<u32> {
-    match table.look(Ipv6Addr::from_bits(number)) {
+    match table.longest_match(&Ipv6Addr::from_bits(number)) {
+        Some((_, value)) => Some(*value),
+        None => None,
+    }
+}
+
+/// The value of the row that holds all of the network of so many bits at a number.
+fn found_around(table: &FrozenRoutes<Ipv6Addr, u32>, number: u128, bits: u8) -> Option<u32> {
+    let network = Network::new(Ipv6Addr::from_bits(number), bits)?;
+    match table.longest_match(&network) {
         Some((_, value)) => Some(*value),
         None => None,
     }
@@ -335,6 +475,9 @@ fn are_side_by_side(table: &FrozenRoutes<Ipv6Addr, u32>, count: u32, behind: Opt
         && found_at(table, WIDE) == Some(0)
         && found_at(table, WITHIN) == Some(0)
         && found_at(table, WITHIN + (1 << 64)) == Some(0)
+        && found_around(table, WITHIN + 512, 120) == Some(2)
+        && found_around(table, WITHIN + 512, 119) == Some(0)
+        && found_around(table, WIDE, 2).is_none()
         && found_at(table, BEHIND - 1) == Some(0)
         && found_at(table, BEHIND) == behind
 }

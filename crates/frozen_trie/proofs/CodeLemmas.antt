@@ -2,6 +2,7 @@
 pub mod Order
 pub mod Parts
 pub mod Links
+pub mod Spans
 pub mod Reading
 pub mod Growing
 pub mod Heads

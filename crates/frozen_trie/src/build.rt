@@ -8,8 +8,8 @@ ghost use Rattle.frozen_trie.specs.Frozen.{IsFirstUnsorted, IsFrozen, codes_of};
 use crate::codes::Codes;
 use crate::frozen::FrozenTrie;
 use crate::linked::push_last;
-use radix_keys::{Encoding, TrieKey};
-use sorted_tables::{PushWhy, SortedError, SortedWhy};
+use radix_keys::{Encoding, Refused, TrieKey};
+use sorted_tables::{PushWhy, SortedWhy};
 use std::alloc::Global;
 
 impl<K: TrieKey, V> FrozenTrie<K, V> {
@@ -23,11 +23,11 @@ impl<K: TrieKey, V> FrozenTrie<K, V> {
     pub fn from_sorted(
         alloc: Global,
         pairs: Vec<(K, V)>,
-    ) -> Result<FrozenTrie<K, V>, SortedError<(K, V)>>
+    ) -> Result<FrozenTrie<K, V>, Refused<SortedWhy, Vec<(K, V)>>>
         ensures pairs { IfOk result
             (λ frozen. frozen ≡ pairs_in_order K.encoding pairs.items) }
         ensures rising { OnOk result (IsRising (codes_of K.encoding pairs.items)) }
-        ensures handed_back { IfErr result (λ e. e.items ≡ pairs) }
+        ensures handed_back { IfErr result (λ e. e.back ≡ pairs) }
         ensures unsorted { IfErr result (λ e. (i : ℕ) → e.why ≡ SortedWhy.Unsorted i
             → IsFirstUnsorted (codes_of K.encoding pairs.items) i) }
         ensures full { IfErr result (λ e. e.why ≡ SortedWhy.Full
@@ -37,7 +37,7 @@ impl<K: TrieKey, V> FrozenTrie<K, V> {
     {
         match codes_and_links(alloc, &pairs) {
             Ok((codes, up)) => Ok(FrozenTrie::from_parts(codes, pairs, up, alloc)),
-            Err(why) => Err(SortedError { why, items: pairs }),
+            Err(why) => Err(Refused { why, back: pairs }),
         }
     }
 }

@@ -7,10 +7,12 @@ ghost use Rattle.radix_trie.specs.Keys.{IsKeyed};
 ghost use Rattle.radix_trie.specs.Views.{pairs_below};
 ghost use Rattle.frozen_trie.specs.Frozen.{coded_pairs};
 
-use crate::freezing::{FreezeWhy, codes_and_links};
+use crate::freezing::codes_and_links;
 use crate::frozen::FrozenTrie;
 use radix_keys::{Memory, TrieKey};
-use radix_trie::{Trie, TrieCommon, keys_stand_at_their_encodings, split_part_goes_back};
+use radix_trie::{
+    BuildError, Trie, TrieCommon, keys_stand_at_their_encodings, split_part_goes_back,
+};
 
 /// A frozen trie with the same encodings, each with a clone of its key and of its value, in linear time. The trie stays as
 /// it is.
@@ -23,7 +25,7 @@ use radix_trie::{Trie, TrieCommon, keys_stand_at_their_encodings, split_part_goe
 /// call never fails.
 pub fn frozen_copy<K: TrieKey + Clone, V: Clone>(
     trie: &Trie<K, V>,
-) -> Result<FrozenTrie<K, V>, FreezeWhy>
+) -> Result<FrozenTrie<K, V>, BuildError>
     requires same_encoding { (key copy : K) → K.is_clone key copy → K.encoding copy
         ≡ K.encoding key }
     ensures copy { IfOk result
@@ -31,7 +33,7 @@ pub fn frozen_copy<K: TrieKey + Clone, V: Clone>(
     ensures keyed { IfOk result (λ copy.
         ((key clone : K) → K.is_clone key clone → K.is_value key → K.is_value clone)
         → IsKeyed K.encoding K.is_value trie.now → IsKeyed K.encoding K.is_value copy) }
-    ensures full { result ≡ Err FreezeWhy.Full → 2 ^ 32 ≤ map.len trie.now }
+    ensures full { result ≡ Err BuildError.Full → 2 ^ 32 ≤ map.len trie.now }
     ensures none { map.len trie.now ≡ 0 → IsOk result }
 {
     keys_stand_at_their_encodings(trie);
@@ -39,7 +41,7 @@ pub fn frozen_copy<K: TrieKey + Clone, V: Clone>(
     let (codes, up) = codes_and_links(trie)?;
     match cloned_pairs(trie) {
         Ok(pairs) => Ok(FrozenTrie::from_parts(codes, pairs, up, trie.allocator())),
-        Err(Memory) => Err(FreezeWhy::Memory),
+        Err(Memory) => Err(BuildError::Memory),
     }
 }
 

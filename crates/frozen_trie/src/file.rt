@@ -1,5 +1,5 @@
 //! Frozen tries as files.
-pub use item::{FileItem, ItemError};
+pub use item::FileItem;
 
 mod item;
 mod parts;

@@ -7,24 +7,10 @@ ghost use Rattle.frozen_trie.specs.Frozen.{IsFrozen};
 use crate::codes::Codes;
 use crate::frozen::FrozenTrie;
 use crate::linked::push_linked;
-use radix_keys::{Encoding, TrieKey};
-use radix_trie::{Trie, TrieCommon, keys_stand_at_their_encodings, split_part_goes_back};
-
-/// Why a trie isn't frozen.
-#[derive(Clone, Copy, PartialEq, Eq, Debug)]
-pub enum FreezeWhy {
-    /// An allocation failed, or the encodings take 2^31 bytes or more.
-    Memory,
-    /// The trie holds 2^32 pairs or more.
-    Full,
-}
-
-/// A trie that isn't frozen: why, and the very trie that was passed.
-#[derive(Drop)]
-pub struct FreezeError<K: TrieKey, V> {
-    pub why: FreezeWhy,
-    pub trie: Trie<K, V>,
-}
+use radix_keys::{Encoding, Refused, TrieKey};
+use radix_trie::{
+    BuildError, Trie, TrieCommon, keys_stand_at_their_encodings, split_part_goes_back,
+};
 
 /// The same map, for reading, in linear time: the pairs are moved, and the nodes are freed.
 ///
@@ -35,10 +21,10 @@ pub struct FreezeError<K: TrieKey, V> {
 /// pairs are moved last. Of no pair the call never fails.
 pub fn freeze<K: TrieKey + Drop, V: Drop>(
     trie: Trie<K, V>,
-) -> Result<FrozenTrie<K, V>, FreezeError<K, V>>
+) -> Result<FrozenTrie<K, V>, Refused<BuildError, Trie<K, V>>>
     ensures same { IfOk result (λ frozen. frozen ≡ trie) }
-    ensures handed_back { IfErr result (λ e. e.trie ≡ trie) }
-    ensures full { IfErr result (λ e. e.why ≡ FreezeWhy.Full → 2 ^ 32 ≤ map.len trie) }
+    ensures handed_back { IfErr result (λ e. e.back ≡ trie) }
+    ensures full { IfErr result (λ e. e.why ≡ BuildError.Full → 2 ^ 32 ≤ map.len trie) }
     ensures none { map.len trie ≡ 0 → IsOk result }
 {
     keys_stand_at_their_encodings(&trie);
@@ -47,31 +33,31 @@ pub fn freeze<K: TrieKey + Drop, V: Drop>(
     match codes_and_links(&trie) {
         Ok((codes, up)) => match trie.into_pairs() {
             Ok(pairs) => Ok(FrozenTrie::from_parts(codes, pairs, up, alloc)),
-            Err(trie) => Err(FreezeError {
-                why: FreezeWhy::Memory,
-                trie,
+            Err(back) => Err(Refused {
+                why: BuildError::Memory,
+                back,
             }),
         },
-        Err(why) => Err(FreezeError { why, trie }),
+        Err(why) => Err(Refused { why, back: trie }),
     }
 }
 
 /// The encodings of a trie's pairs, and their links.
 pub(crate) fn codes_and_links<K: TrieKey, V>(
     trie: &Trie<K, V>,
-) -> Result<(Codes, Vec<u32>), FreezeWhy>
+) -> Result<(Codes, Vec<u32>), BuildError>
     ensures ok { IfOk result
         (λ r. IsFrozen K.encoding r.0 (pairs_below trie.now []) r.1.items) }
-    ensures full { result ≡ Err FreezeWhy.Full → 2 ^ 32 ≤ map.len trie.now }
+    ensures full { result ≡ Err BuildError.Full → 2 ^ 32 ≤ map.len trie.now }
     ensures none { map.len trie.now ≡ 0 → IsOk result }
 {
     if trie.len() > u32::MAX as usize {
-        return Err(FreezeWhy::Full);
+        return Err(BuildError::Full);
     }
     keys_stand_at_their_encodings(trie);
     let alloc = trie.allocator();
     let Ok(mut up) = Vec::with_capacity(alloc, trie.len()) else {
-        return Err(FreezeWhy::Memory);
+        return Err(BuildError::Memory);
     };
     let mut walk = trie.cursor();
     let mut codes = Codes::new(alloc);
@@ -79,17 +65,17 @@ pub(crate) fn codes_and_links<K: TrieKey, V>(
         let key = match walk.next() {
             Ok(Some((key, _))) => key,
             Ok(None) => break,
-            Err(_) => return Err(FreezeWhy::Memory),
+            Err(_) => return Err(BuildError::Memory),
         };
         let Ok(list) = Encoding::of(alloc, key) else {
-            return Err(FreezeWhy::Memory);
+            return Err(BuildError::Memory);
         };
         let Ok(()) = push_linked(&mut codes, &mut up, &list.as_slice()) else {
-            return Err(FreezeWhy::Memory);
+            return Err(BuildError::Memory);
         };
     }
     match codes.finish(alloc) {
         Ok(()) => Ok((codes, up)),
-        Err(_) => Err(FreezeWhy::Memory),
+        Err(_) => Err(BuildError::Memory),
     }
 }

@@ -14,7 +14,6 @@ use std::marker::Model;
 
 mod appended;
 mod keys;
-mod lists;
 mod values;
 mod written;
 
@@ -22,8 +21,9 @@ mod written;
 /// their encodings, one behind the other.
 ///
 /// A contract sees it as it sees a `Trie`: as the finite map from each stored encoding, a list of nibbles, to the pair of
-/// the key and the value that are stored there. A call by a list in hand allocates nothing, and none is refused; a search
-/// takes the time of as many comparisons of lists as the count of pairs has binary digits, but for the climb of `nearest`.
+/// the key and the value that are stored there. A call by a key allocates for the key's encoding alone: none is refused by a
+/// key that is inline, or that lends its encoding, as a text does, or a `Nibblet`, a list of nibbles in hand. A search takes
+/// the time of as many comparisons of lists as the count of pairs has binary digits, but for the climb of `longest_match`.
 #[derive(Drop)]
 pub struct FrozenTrie<K: TrieKey, V> {
     /// The encodings of the pairs.
@@ -76,6 +76,21 @@ impl<K: TrieKey, V> FrozenTrie<K, V> {
         self.len() == 0
     }
 
+    /// The key and the value with the first encoding, or None where no pair is stored. It takes constant time.
+    pub fn first_key_value(&self) -> Option<(&K, &V)>
+        ensures pair { option_map deref_pair result ≡ slice_get (pairs_below self.now []) 0 }
+    {
+        self.nth(0)
+    }
+
+    /// The key and the value with the last encoding, or None where no pair is stored. It takes constant time.
+    pub fn last_key_value(&self) -> Option<(&K, &V)>
+        ensures pair { option_map deref_pair result ≡ slice_get (pairs_below self.now [])
+            (length (pairs_below self.now []) - 1) }
+    {
+        entry_in(&self.pairs, self.pairs.len().saturating_sub(1))
+    }
+
     /// All pairs, in the order of their encodings, an encoding before its extensions. Their slice has walks from both ends,
     /// whose length is known.
     pub fn pairs(&self) -> &[(K, V)]
@@ -90,21 +105,6 @@ impl<K: TrieKey, V> FrozenTrie<K, V> {
         ensures pair { option_map deref_pair result ≡ slice_get (pairs_below self.now []) index }
     {
         entry_in(&self.pairs, index)
-    }
-
-    /// The key and the value with the first encoding, or None where no pair is stored. It takes constant time.
-    pub fn first_key_value(&self) -> Option<(&K, &V)>
-        ensures pair { option_map deref_pair result ≡ slice_get (pairs_below self.now []) 0 }
-    {
-        self.nth(0)
-    }
-
-    /// The key and the value with the last encoding, or None where no pair is stored. It takes constant time.
-    pub fn last_key_value(&self) -> Option<(&K, &V)>
-        ensures pair { option_map deref_pair result ≡ slice_get (pairs_below self.now [])
-            (length (pairs_below self.now []) - 1) }
-    {
-        entry_in(&self.pairs, self.pairs.len().saturating_sub(1))
     }
 
     /// All pairs, in the order of their encodings. It allocates nothing.

@@ -4,10 +4,11 @@ ghost use Rattle.std.specs.FinMap as map;
 ghost use Rattle.std.specs.Ordering.{nat_cmp};
 ghost use Rattle.std.specs.Prelude.{◌≡◌, ◌↔◌, ◌⊎◌, ◌<◌, ◌^◌, ℕ, AllPairs, Contains, List, Some, map as each};
 ghost use Rattle.std.specs.declared.cmp.Ordering.TheVariants.{Less};
+ghost use Rattle.std.specs.declared.ops.Bound.TheVariants.{Excluded, Included, Unbounded};
 ghost use Rattle.nibble_map.specs.Lists.{Each, IsBefore, IsPrefix, IsRising};
 ghost use Rattle.nibble_map.specs.Nibbles.{nibbles};
 ghost use Rattle.radix_trie.specs.Keys.{IsKeyed};
-ghost use Rattle.radix_trie.specs.Views.{pairs_above, pairs_after, pairs_below, pairs_from};
+ghost use Rattle.radix_trie.specs.Views.{pairs_above, pairs_below, pairs_within};
 ghost use Rattle.frozen_trie.specs.Files.{IsFileFault, IsFileable, IsTextFault, IsTextFileable, file_of, text_file};
 
 use crate::file::{FileItem, FileWhy};
@@ -16,9 +17,10 @@ use crate::texts::FrozenTexts;
 use radix_keys::TrieKey;
 
 /// In each frozen trie a key stands at its encoding. So the keys of a slice `below` a list have
-/// encodings that begin with it, and it misses none; `nearest` and `common_prefixes` find those that
-/// are a prefix of it, `from` and `after` those that are another list or come after it; and the
-/// encodings rise. Of a type all of whose keys are values no more is needed for the laws by keys.
+/// encodings that begin with it, and it misses none; `longest_match` and `common_prefixes` find those
+/// that are a prefix of it; a `range` that begins with a list, or behind it, those that are the list or
+/// come after it; and the encodings rise. Of a type all of whose keys are values no more is needed for
+/// the laws by keys.
 pub fn frozen_stands_at_its_encodings<K: TrieKey, V>(frozen: &FrozenTrie<K, V>)
     ensures stored { (e : List ℕ) (p : K × V) → map.get frozen.now e ≡ Some p
         → e ≡ K.encoding p.0 }
@@ -30,10 +32,12 @@ pub fn frozen_stands_at_its_encodings<K: TrieKey, V>(frozen: &FrozenTrie<K, V>)
         ↔ (IsPrefix e (K.encoding p.0) × (map.get frozen.now (K.encoding p.0) ≡ Some p)) }
     ensures above { (e : List ℕ) (p : K × V) → Contains (pairs_above frozen.now e) p
         ↔ (IsPrefix (K.encoding p.0) e × (map.get frozen.now (K.encoding p.0) ≡ Some p)) }
-    ensures from { (e q : List ℕ) (p : K × V) → Contains (pairs_from frozen.now e q) p
+    ensures from { (e q : List ℕ) (p : K × V)
+        → Contains (pairs_within frozen.now e (Included q) Unbounded) p
         ↔ (Contains (pairs_below frozen.now e) p
         × ((K.encoding p.0 ≡ q) ⊎ IsBefore q (K.encoding p.0))) }
-    ensures after { (e q : List ℕ) (p : K × V) → Contains (pairs_after frozen.now e q) p
+    ensures after { (e q : List ℕ) (p : K × V)
+        → Contains (pairs_within frozen.now e (Excluded q) Unbounded) p
         ↔ (Contains (pairs_below frozen.now e) p × IsBefore q (K.encoding p.0)) }
     ensures keyed { ((key : K) → K.is_value key) → IsKeyed K.encoding K.is_value frozen.now }
 {
@@ -44,6 +48,8 @@ pub fn frozen_stands_at_its_encodings<K: TrieKey, V>(frozen: &FrozenTrie<K, V>)
 /// `below` begin with the bytes, and it misses none; those of `common_prefixes` are prefixes of them;
 /// and the keys rise in the order of their bytes.
 pub fn texts_stand_at_their_bytes<V>(texts: &FrozenTexts<V>)
+    ensures stored { (e : List ℕ) (p : List ℕ × V) → map.get texts.now e ≡ Some p
+        → e ≡ nibbles p.0 }
     ensures found { (bytes : List ℕ) (p : List ℕ × V)
         → map.get texts.now (nibbles bytes) ≡ Some p → p.0 ≡ bytes }
     ensures below { (start : List ℕ) (p : List ℕ × V)

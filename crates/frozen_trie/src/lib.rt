@@ -19,14 +19,16 @@ mod texts;
 mod thawing;
 
 pub use copies::frozen_copy;
-pub use file::{FileError, FileItem, FileWhy, ItemError};
-pub use freezing::{FreezeError, FreezeWhy, freeze};
+pub use file::{FileError, FileItem, FileWhy};
+pub use freezing::freeze;
 pub use frozen::FrozenTrie;
 pub use laws::{
     files_have_no_fault, frozen_stands_at_its_encodings, text_files_have_no_fault,
     texts_stand_at_their_bytes,
 };
 pub use prefixes::CommonPrefixes;
-pub use sorted_tables::{PushError, PushWhy, SortedError, SortedWhy};
-pub use texts::{FrozenTexts, TextPrefixes, Texts};
-pub use thawing::ThawError;
+pub use sorted_tables::{PushWhy, SortedWhy};
+pub use texts::{FrozenTexts, TextKey, TextPrefixes, Texts};
+
+#[cfg(test)]
+mod tests;

@@ -1,5 +1,5 @@
-//! The pairs whose encodings are prefixes of a list, from the longest up or in order.
-ghost use Rattle.std.specs.Prelude.{◌≡◌, ◌-◌, ◌≤◌, IfSome, Some, length};
+//! The pairs whose encodings are prefixes of a list, from the shortest to the longest.
+ghost use Rattle.std.specs.Prelude.{◌≡◌, ◌-◌, ◌≤◌, IfSome, Some, length, reverse};
 ghost use Rattle.std.specs.FinMap as map;
 ghost use Rattle.std.specs.Iterator.{UpTo, YieldsFirstBy, YieldsLastBy, at_most, item_count};
 ghost use Rattle.std.specs.Iterator.SizeHint.{IsWithinCount};
@@ -11,47 +11,48 @@ use radix_keys::TrieKey;
 use std::iter::FusedIterator;
 use std::marker::Model;
 
-/// A walk over pairs of which the encoding of each later one is a prefix of that of the one before, from the longest to the
-/// shortest; from its other end, by `next_back` and `rev`, in order.
+/// A walk over pairs of which the encoding of each is a prefix of that of the next one, from the shortest to the longest; from
+/// its other end, by `next_back` and `rev`, from the longest on.
 ///
-/// Neither end allocates, and both go on returning None after the end; `next` takes constant time, `next_back` that of as many
-/// links as pairs are left. `len` is how many these are. A contract sees a walk as the list of the pairs that are left.
+/// Neither end allocates, and both go on returning None after the end; `next` takes the time of as many links as pairs are
+/// left, `next_back` constant time. `len` is how many these are. A contract sees a walk as the list of the pairs that are left.
 #[derive(Drop)]
 pub struct CommonPrefixes<'a, K: TrieKey, V> {
     frozen: &'a FrozenTrie<K, V>,
-    /// The index of the next pair and one more, or 0 where there is none.
-    next: usize,
+    /// The index of the last pair that is left and one more, or 0 where there is none.
+    last: usize,
     /// How many pairs are left.
     left: usize,
 }
 
 impl<'a, K: TrieKey, V> Model for CommonPrefixes<'a, K, V> {
-    ghost use Rattle.std.specs.Prelude.{List, ◌≤◌, length, take};
+    ghost use Rattle.std.specs.Prelude.{List, ◌≤◌, length, reverse, take};
     ghost use Rattle.std.specs.FinMap as map;
 
     ghost Value = { List (K × V) };
 
     ghost use Rattle.frozen_trie.specs.Frozen.{prefixes_up};
 
-    ghost view = { λ walk. take walk.left (prefixes_up K.encoding walk.frozen.now walk.next) };
+    ghost view = { λ walk.
+        reverse (take walk.left (prefixes_up K.encoding walk.frozen.now walk.last)) };
 
-    ghost invariant = { λ walk. (walk.next ≤ map.len walk.frozen.now)
-        × (walk.left ≤ length (prefixes_up K.encoding walk.frozen.now walk.next)) };
+    ghost invariant = { λ walk. (walk.last ≤ map.len walk.frozen.now)
+        × (walk.left ≤ length (prefixes_up K.encoding walk.frozen.now walk.last)) };
 }
 
 impl<'a, K: TrieKey, V> CommonPrefixes<'a, K, V> {
-    /// The walk from the pair on whose index and one more is `next`; over no pair at 0.
-    pub(crate) fn new(frozen: &'a FrozenTrie<K, V>, next: usize) -> CommonPrefixes<'a, K, V>
-        requires { next ≤ map.len frozen.now }
-        ensures { result ≡ prefixes_up K.encoding frozen.now next }
+    /// The walk up to the pair whose index and one more is `last`; over no pair at 0.
+    pub(crate) fn new(frozen: &'a FrozenTrie<K, V>, last: usize) -> CommonPrefixes<'a, K, V>
+        requires { last ≤ map.len frozen.now }
+        ensures { result ≡ reverse (prefixes_up K.encoding frozen.now last) }
     {
-        let (mut at, mut left) = (next, 0);
+        let (mut at, mut left) = (last, 0);
         while at > 0 {
             let (_, link) = frozen.step_up(at - 1);
             at = link;
             left += 1;
         }
-        CommonPrefixes { frozen, next, left }
+        CommonPrefixes { frozen, last, left }
     }
 }
 
@@ -66,9 +67,13 @@ impl<'a, K: TrieKey, V> Iterator for CommonPrefixes<'a, K, V> {
         if self.left == 0 {
             return None;
         }
-        let (pair, link) = self.frozen.step_up(self.next - 1);
-        self.next = link;
-        self.left -= 1;
+        let others = self.left - 1;
+        let mut at = self.last;
+        for _up in 0..others {
+            (_, at) = self.frozen.step_up(at - 1);
+        }
+        self.left = others;
+        let (pair, _) = self.frozen.step_up(at - 1);
         Some(pair)
     }
 
@@ -89,13 +94,9 @@ impl<'a, K: TrieKey, V> DoubleEndedIterator for CommonPrefixes<'a, K, V> {
         if self.left == 0 {
             return None;
         }
-        let last = self.left - 1;
-        let mut at = self.next;
-        for _up in 0..last {
-            (_, at) = self.frozen.step_up(at - 1);
-        }
-        self.left = last;
-        let (pair, _) = self.frozen.step_up(at - 1);
+        let (pair, link) = self.frozen.step_up(self.last - 1);
+        self.last = link;
+        self.left -= 1;
         Some(pair)
     }
 }

@@ -1,11 +1,13 @@
 //! Searches among lists in rising order.
 ghost use Rattle.std.specs.Prelude.{◌≡◌, ◌↔◌, ◌+◌, ◌<◌, ◌≤◌, ℕ, length, not, IsTrue, MatchOption};
 ghost use Rattle.nibble_map.specs.Lists.{IsBefore, IsRising};
-ghost use Rattle.frozen_trie.specs.Codes.{AreLinks, IsCut, IsLastPrefix, is_before, is_until, code_at};
+ghost use Rattle.radix_trie.specs.Views.{is_above, is_below, is_within};
+ghost use Rattle.frozen_trie.specs.Codes.{AreLinks, IsCut, IsLastPrefix, IsSpan, is_before, is_until, code_at};
 ghost use Rattle.frozen_trie.specs.Index.{AreKeys};
 
 use crate::codes::{Codes, Look};
 use radix_keys::{NibbleSlice, TrieKey};
+use std::ops::Bound;
 
 /// How many of the lists come before another one.
 pub(crate) fn lower(codes: &Codes, list: &NibbleSlice<'_>) -> usize
@@ -49,12 +51,50 @@ pub(crate) fn climb(codes: &Codes, up: &[u32], from: usize, list: &NibbleSlice<'
 }
 
 /// How many of the lists come before another one or are it.
-pub(crate) fn behind(codes: &Codes, list: &NibbleSlice<'_>) -> usize
+fn behind(codes: &Codes, list: &NibbleSlice<'_>) -> usize
     requires { IsRising codes.now }
     ensures { IsCut (λ c. not (is_before list.now c)) codes.now result }
 {
     let (at, is_found) = codes.cut(list, false);
     if is_found { at + 1 } else { at }
+}
+
+/// How many of the lists stand in front of those that a lower bound leaves.
+fn start(codes: &Codes, low: Bound<NibbleSlice<'_>>) -> usize
+    requires { IsRising codes.now }
+    ensures { IsCut (λ c. not (is_above low.entry c)) codes.now result }
+{
+    match low {
+        Bound::Included(list) => lower(codes, &list),
+        Bound::Excluded(list) => behind(codes, &list),
+        Bound::Unbounded => 0,
+    }
+}
+
+/// How many of the lists stand in front of those that an upper bound leaves out.
+fn end(codes: &Codes, high: Bound<NibbleSlice<'_>>) -> usize
+    requires { IsRising codes.now }
+    ensures { IsCut (is_below high.entry) codes.now result }
+{
+    match high {
+        Bound::Included(list) => behind(codes, &list),
+        Bound::Excluded(list) => lower(codes, &list),
+        Bound::Unbounded => codes.len(),
+    }
+}
+
+/// The lists within two bounds: the index of the first, and that behind the last. Where there is none the two are one.
+pub(crate) fn within(
+    codes: &Codes,
+    low: Bound<NibbleSlice<'_>>,
+    high: Bound<NibbleSlice<'_>>,
+) -> (usize, usize)
+    requires { IsRising codes.now }
+    ensures { IsSpan (is_within low.entry high.entry) codes.now result.0 result.1 }
+{
+    let from = start(codes, low);
+    let to = end(codes, high);
+    (from, to.max(from))
 }
 
 /// The index of a list. The pairs of the lists are passed, or none.

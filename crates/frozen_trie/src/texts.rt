@@ -1,27 +1,29 @@
 //! A map from byte strings for reading: its keys are packed, and no key is an object of its own.
-ghost use Rattle.std.specs.Prelude.{◌≡◌, ◌↔◌, ◌+◌, ◌-◌, ◌<◌, ◌≤◌, ◌^◌, [], ◌∷◌, Some, length, reverse, IsTrue, option_copied, option_map, slice_get};
+ghost use Rattle.std.specs.Prelude.{◌≡◌, ◌↔◌, ◌+◌, ◌-◌, ◌<◌, ◌≤◌, ◌^◌, [], ◌∷◌, Some, length, IsTrue, option_copied, option_map, slice_get};
 ghost use Rattle.std.specs.FinMap as map;
-ghost use Rattle.std.specs.declared.ops.Bound.TheVariants.{Excluded, Included};
 ghost use Rattle.nibble_map.specs.Lists.{IsRising};
-ghost use Rattle.nibble_map.specs.Maps.{IsStored, value_at};
+ghost use Rattle.nibble_map.specs.Maps.{IsStored, below, value_at};
 ghost use Rattle.nibble_map.specs.Nibbles.{nibbles};
-ghost use Rattle.radix_trie.specs.Views.{IsPairAbove, pairs_above, pairs_before, pairs_below, pairs_within};
-ghost use Rattle.radix_trie.specs.Walks.{deref_pair};
+ghost use Rattle.radix_trie.specs.Views.{IsPairAbove, encoded_bound, pairs_above, pairs_before, pairs_below, pairs_within};
+ghost use Rattle.radix_trie.specs.Walks.{bound_now, deref_pair};
 ghost use Rattle.frozen_trie.specs.Frozen.{codes_of, map_of_pairs, prefixes_up};
 
 use crate::codes::Codes;
-use crate::search::{index_of, last_prefix, lower, upper};
+use crate::search::{index_of, last_prefix, lower, upper, within};
 use radix_keys::NibbleSlice;
 use std::alloc::Global;
 use std::marker::Model;
+use std::ops::{Bound, RangeBounds};
 
 mod appended;
 mod bytes;
+mod key;
 mod prefixes;
 mod sorted;
 mod walk;
 mod written;
 
+pub use key::TextKey;
 pub use prefixes::TextPrefixes;
 pub use walk::Texts;
 
@@ -34,7 +36,7 @@ pub use walk::Texts;
 /// A contract sees it as it sees a `FrozenTrie`: as the finite map from the nibbles of each key to the pair of the key's
 /// bytes and its value. The order of the nibbles is that of the bytes. A call that reads allocates nothing, and none is
 /// refused; a search takes the time of as many comparisons of keys as the count of pairs has binary digits, but for the
-/// climb of `nearest`.
+/// climb of `longest_match`.
 #[derive(Drop)]
 pub struct FrozenTexts<V> {
     /// The nibbles of the keys.
@@ -86,6 +88,16 @@ impl<V> FrozenTexts<V> {
         }
     }
 
+    /// A key and its value, as they are stored, if the key is.
+    pub fn get_key_value(&self, key: &[u8]) -> Option<(&[u8], &V)>
+        ensures pair { option_map deref_pair result ≡ map.get self.now (nibbles key.now) }
+    {
+        match index_of::<u8, ()>(&self.codes, &[], &NibbleSlice::from_bytes(key)) {
+            Some(at) => Some(self.pair_at(at)),
+            None => None,
+        }
+    }
+
     /// Whether a key is stored.
     pub fn contains_key(&self, key: &[u8]) -> bool
         ensures stored { IsTrue result ↔ IsStored self.now (nibbles key.now) }
@@ -93,11 +105,26 @@ impl<V> FrozenTexts<V> {
         self.get(key).is_some()
     }
 
+    /// The first key and its value, or None where no pair is stored. It takes constant time.
+    pub fn first_key_value(&self) -> Option<(&[u8], &V)>
+        ensures pair { option_map deref_pair result ≡ slice_get (pairs_below self.now []) 0 }
+    {
+        self.nth(0)
+    }
+
+    /// The last key and its value, or None where no pair is stored. It takes constant time.
+    pub fn last_key_value(&self) -> Option<(&[u8], &V)>
+        ensures pair { option_map deref_pair result ≡ slice_get (pairs_below self.now [])
+            (length (pairs_below self.now []) - 1) }
+    {
+        self.nth(self.len().saturating_sub(1))
+    }
+
     /// The longest stored key that is a prefix of some bytes, and its value, or None where there is none.
     ///
     /// Where the bytes aren't stored, the stored prefixes of the key before them are gone through, from the longest on,
     /// until one of them is a prefix of the bytes too.
-    pub fn nearest(&self, key: &[u8]) -> Option<(&[u8], &V)>
+    pub fn longest_match(&self, key: &[u8]) -> Option<(&[u8], &V)>
         ensures pair { IsPairAbove self.now (nibbles key.now) (option_map deref_pair result) }
     {
         let found = last_prefix(&self.codes, &self.up, &NibbleSlice::from_bytes(key));
@@ -105,6 +132,29 @@ impl<V> FrozenTexts<V> {
             return None;
         }
         Some(self.pair_at(found - 1))
+    }
+
+    /// The walk over the pairs whose keys are prefixes of some bytes, from the shortest to the longest.
+    pub fn common_prefixes(&self, key: &[u8]) -> TextPrefixes<'_, V>
+        ensures walk { result ≡ pairs_above self.now (nibbles key.now) }
+    {
+        TextPrefixes::new(
+            self,
+            last_prefix(&self.codes, &self.up, &NibbleSlice::from_bytes(key)),
+        )
+    }
+
+    /// The walk over the pairs whose keys lie within a range, in order. Where the first key comes after the last, there is
+    /// none.
+    pub fn range<Q: TextKey, R: RangeBounds<Q>>(&self, range: R) -> Texts<'_, V>
+        ensures walk { R.has_bounds range → result ≡ pairs_within self.now []
+            (encoded_bound (λ key. nibbles (Q.bytes key)) (R.start_bound range))
+            (encoded_bound (λ key. nibbles (Q.bytes key)) (R.end_bound range)) }
+    {
+        let low = list_of(range.start_bound());
+        let high = list_of(range.end_bound());
+        let (first, end) = within(&self.codes, low, high);
+        Texts::new(self, first, end)
     }
 
     /// The pairs whose keys begin with some bytes, in order.
@@ -116,22 +166,18 @@ impl<V> FrozenTexts<V> {
         Texts::new(self, from, to)
     }
 
+    /// How many of the keys begin with some bytes.
+    pub fn count_below(&self, prefix: &[u8]) -> usize
+        ensures count { result ≡ map.len (below self.now (nibbles prefix.now)) }
+    {
+        self.below(prefix).len()
+    }
+
     /// All pairs, in the order of their keys.
     pub fn iter(&self) -> Texts<'_, V>
         ensures walk { result ≡ pairs_below self.now [] }
     {
         Texts::new(self, 0, self.len())
-    }
-
-    /// The pairs whose keys are `from` or come after it, and come before `to`, in order. Where
-    /// `from` isn't before `to` there is none.
-    pub fn between(&self, from: &[u8], to: &[u8]) -> Texts<'_, V>
-        ensures walk { result ≡ pairs_within self.now [] (Included (nibbles from.now))
-            (Excluded (nibbles to.now)) }
-    {
-        let start = lower(&self.codes, &NibbleSlice::from_bytes(from));
-        let end = lower(&self.codes, &NibbleSlice::from_bytes(to));
-        Texts::new(self, start, end.max(start))
     }
 
     /// How many of the keys come before some bytes: the index at which these are stored, or would be.
@@ -150,31 +196,6 @@ impl<V> FrozenTexts<V> {
         } else {
             None
         }
-    }
-
-    /// The first key and its value, or None where no pair is stored. It takes constant time.
-    pub fn first_key_value(&self) -> Option<(&[u8], &V)>
-        ensures pair { option_map deref_pair result ≡ slice_get (pairs_below self.now []) 0 }
-    {
-        self.nth(0)
-    }
-
-    /// The last key and its value, or None where no pair is stored. It takes constant time.
-    pub fn last_key_value(&self) -> Option<(&[u8], &V)>
-        ensures pair { option_map deref_pair result ≡ slice_get (pairs_below self.now [])
-            (length (pairs_below self.now []) - 1) }
-    {
-        self.nth(self.len().saturating_sub(1))
-    }
-
-    /// The walk over the pairs whose keys are prefixes of some bytes, from the longest up. It begins where `nearest` ends.
-    pub fn common_prefixes(&self, key: &[u8]) -> TextPrefixes<'_, V>
-        ensures walk { result ≡ reverse (pairs_above self.now (nibbles key.now)) }
-    {
-        TextPrefixes::new(
-            self,
-            last_prefix(&self.codes, &self.up, &NibbleSlice::from_bytes(key)),
-        )
     }
 
     /// The allocator that the memory comes from.
@@ -208,5 +229,16 @@ impl<V> FrozenTexts<V> {
         ensures within { result.1 ≤ at }
     {
         (self.pair_at(at), self.up[at] as usize)
+    }
+}
+
+/// The bound of the nibbles of a key.
+fn list_of<'a, Q: TextKey>(bound: Bound<&'a Q>) -> Bound<NibbleSlice<'a>>
+    ensures { result ≡ encoded_bound (λ key. nibbles (Q.bytes key)) (bound_now bound.entry) }
+{
+    match bound {
+        Bound::Included(key) => Bound::Included(NibbleSlice::from_bytes(key.bytes())),
+        Bound::Excluded(key) => Bound::Excluded(NibbleSlice::from_bytes(key.bytes())),
+        Bound::Unbounded => Bound::Unbounded,
     }
 }

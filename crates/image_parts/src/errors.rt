@@ -1,4 +1,4 @@
-//! Why bytes are no image, and why none was written.
+//! Why bytes are no image, why none was written, and why no table is made of one.
 
 /// Why bytes are no image. An index is counted from 0.
 #[derive(Debug, Clone, Copy, PartialEq, Eq)]
@@ -27,4 +27,13 @@ pub enum WriteError {
     Short,
     /// The row at this index, from 0, is none, or doesn't come after the row before it.
     Unsorted(usize),
+}
+
+/// Why no table in memory is made of bytes.
+#[derive(Debug, Clone, Copy, PartialEq, Eq)]
+pub enum TableError {
+    /// They are no image.
+    Image(ImageError),
+    /// Memory is refused, or the keys together take 2^31 bytes or more, as those of a table in memory may not.
+    Memory,
 }

@@ -6,7 +6,7 @@ mod loads;
 mod parts;
 mod stores;
 
-pub use errors::{ImageError, WriteError};
+pub use errors::{ImageError, TableError, WriteError};
 pub use loads::{u32_at, u64_at, u128_at};
 pub use parts::{part_at, payload, put_part};
 pub use stores::{put_bytes, put_u32, put_u64};

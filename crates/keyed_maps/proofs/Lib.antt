@@ -1,7 +1,6 @@
 pub mod CostLemmas
 pub mod EditLemmas
 pub mod EqualityLemmas
-pub mod HistoryLemmas
 pub mod KeyLemmas
 pub mod MergeLemmas
 pub mod NearestLemmas

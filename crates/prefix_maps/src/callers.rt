@@ -38,6 +38,7 @@ pub fn first_below<'a, Q, M: PrefixMap<'a, Q>>(
 ) -> Result<Vec<(M::Key, &'a M::Value)>, Memory>
     ensures pairs { IfOk result (λ list. each (lent_pair M.stored_key) list.items
         ≡ take most (pairs_below (M.map map) (M.list key.now))) }
+    ensures none { M.is_free key.now → most ≡ 0 → IsOk result }
 {
     let mut walk = map.below(key)?;
     let mut list = Vec::new(alloc);

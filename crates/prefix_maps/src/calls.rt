@@ -1,5 +1,5 @@
 //! The reading calls that every map has.
-ghost use Rattle.std.specs.Prelude.{◌≡◌, ◌↔◌, ◌-◌, [], IsOk, IsTrue, IfOk, OnErr, OnOk, List, drop, length, option_copied, option_map, slice_get, ℕ};
+ghost use Rattle.std.specs.Prelude.{◌≡◌, ◌↔◌, ◌-◌, [], IsOk, IsTrue, IfOk, OnErr, OnOk, List, Some, drop, length, option_copied, option_map, slice_get, ℕ};
 ghost use Rattle.std.specs.FinMap as finite;
 ghost use Rattle.nibble_map.specs.Maps.{IsStored, PairMap, below, value_at};
 ghost use Rattle.radix_trie.specs.Views.{IsPairAbove, pairs_above, pairs_below};
@@ -13,7 +13,7 @@ use radix_keys::Memory;
 /// It is implemented for references, so what a call returns lasts as long as the map's borrow. A contract sees the map as
 /// the finite map from the lists of nibbles that stand for keys to the pairs that are stored there, and a walk as the list
 /// of the pairs that are left.
-pub trait PrefixMap<'a, Q>: Sized {
+pub trait PrefixMap<'a, Q>: Copy {
     /// A key, as it is lent.
     type Key: Copy;
 
@@ -29,6 +29,9 @@ pub trait PrefixMap<'a, Q>: Sized {
     // The stored key that is lent.
     ghost stored_key: { Self.Key → Stored };
 
+    // The list that a stored key stands for.
+    ghost encoding: { Stored → List ℕ };
+
     // The map.
     ghost map: { Self → PairMap Stored Self.Value };
 
@@ -41,8 +44,14 @@ pub trait PrefixMap<'a, Q>: Sized {
     // No look-up by this query is ever refused.
     ghost is_free: { Q → Type 0 };
 
-    // No walk is ever refused, where the look-up of the query that it is by isn't.
+    // No step of a walk is ever refused, and no range by queries that never are.
     ghost has_free_walks: { Type 0 };
+
+    /// In each map a key stands at the list that it stands for. The call does nothing, but what it says holds in a caller's
+    /// proof.
+    fn keys_stand_at_their_encodings(self)
+        ensures stored { (e : List ℕ) (p : Stored × Self.Value)
+            → finite.get (map self) e ≡ Some p → e ≡ encoding p.0 };
 
     /// The count of pairs.
     fn len(self) -> usize
@@ -121,11 +130,11 @@ pub trait PrefixMap<'a, Q>: Sized {
     ///
     /// # Errors
     ///
-    /// `Memory`: an allocation fails, for the key's encoding or the way down to it.
+    /// Those of `get`.
     fn below(self, key: &Q) -> Result<Self::Walk, Memory>
         ensures walk { IfOk result
             (λ walk. left walk ≡ pairs_below (map self) (list key.now)) }
-        ensures free { has_free_walks → is_free key.now → IsOk result };
+        ensures free { is_free key.now → IsOk result };
 
     /// The walk over the pairs whose keys are prefixes of a key, from the shortest to the longest.
     ///

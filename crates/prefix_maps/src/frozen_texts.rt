@@ -1,58 +1,21 @@
 //! The calls of frozen texts, by any text or byte string.
-ghost use Rattle.std.specs.Prelude.{◌≡◌, List, ⊤, ℕ};
+ghost use Rattle.std.specs.Prelude.{List, ⊤, ℕ};
 ghost use Rattle.nibble_map.specs.Nibbles.{nibbles};
 ghost use Rattle.prefix_maps.specs.Calls.{text_walk_left};
 
 use crate::calls::PrefixMap;
-use frozen_trie::{FrozenTexts, TextPrefixes, Texts};
+use crate::ranges::RangeMap;
+use frozen_trie::{FrozenTexts, TextKey, TextPrefixes, Texts, texts_stand_at_their_bytes};
 use radix_keys::Memory;
-
-/// A text or a byte string, whose bytes are searched for as they are.
-pub trait TextKey {
-    ghost bytes: { Self → List ℕ };
-
-    /// The bytes, borrowed.
-    fn bytes(&self) -> &[u8]
-        ensures { result.now ≡ bytes self.now };
-}
-
-impl TextKey for &[u8] {
-    ghost bytes = { λ text. text.now };
-
-    fn bytes(&self) -> &[u8] {
-        self
-    }
-}
-
-impl TextKey for &str {
-    ghost bytes = { λ text. text.now };
-
-    fn bytes(&self) -> &[u8] {
-        self.as_bytes()
-    }
-}
-
-impl TextKey for String {
-    ghost bytes = { λ text. text.bytes.items };
-
-    fn bytes(&self) -> &[u8] {
-        self.as_bytes()
-    }
-}
-
-impl TextKey for Vec<u8> {
-    ghost bytes = { λ text. text.items };
-
-    fn bytes(&self) -> &[u8] {
-        self.as_slice()
-    }
-}
+use std::ops::RangeBounds;
 
 /// A walk over pairs of frozen texts, no step of which fails.
 #[derive(Drop)]
 pub enum TextWalk<'a, V> {
     /// In the order of the keys.
     Pairs(Texts<'a, V>),
+    /// In their falling order.
+    Back(Texts<'a, V>),
     /// Over the prefixes of a key, from the shortest to the longest.
     Prefixes(TextPrefixes<'a, V>),
 }
@@ -68,6 +31,8 @@ impl<'a, V: 'a, Q: TextKey> PrefixMap<'a, Q> for &'a FrozenTexts<V> {
 
     ghost stored_key = { λ text. text.now };
 
+    ghost encoding = { nibbles };
+
     ghost map = { λ texts. texts.now };
 
     ghost list = { λ query. nibbles (Q.bytes query) };
@@ -77,6 +42,10 @@ impl<'a, V: 'a, Q: TextKey> PrefixMap<'a, Q> for &'a FrozenTexts<V> {
     ghost is_free = { λ _. ⊤ };
 
     ghost has_free_walks = { ⊤ };
+
+    fn keys_stand_at_their_encodings(self) {
+        texts_stand_at_their_bytes(self);
+    }
 
     fn len(self) -> usize {
         FrozenTexts::len(self)
@@ -91,11 +60,7 @@ impl<'a, V: 'a, Q: TextKey> PrefixMap<'a, Q> for &'a FrozenTexts<V> {
     }
 
     fn get_key_value(self, key: &Q) -> Result<Option<(&'a [u8], &'a V)>, Memory> {
-        if !FrozenTexts::contains_key(self, key.bytes()) {
-            return Ok(None);
-        }
-        // A stored key is its own longest prefix.
-        Ok(self.nearest(key.bytes()))
+        Ok(FrozenTexts::get_key_value(self, key.bytes()))
     }
 
     fn contains_key(self, key: &Q) -> Result<bool, Memory> {
@@ -103,7 +68,7 @@ impl<'a, V: 'a, Q: TextKey> PrefixMap<'a, Q> for &'a FrozenTexts<V> {
     }
 
     fn longest_match(self, key: &Q) -> Result<Option<(&'a [u8], &'a V)>, Memory> {
-        Ok(self.nearest(key.bytes()))
+        Ok(FrozenTexts::longest_match(self, key.bytes()))
     }
 
     fn first_key_value(self) -> Option<(&'a [u8], &'a V)> {
@@ -115,7 +80,7 @@ impl<'a, V: 'a, Q: TextKey> PrefixMap<'a, Q> for &'a FrozenTexts<V> {
     }
 
     fn count_below(self, key: &Q) -> Result<usize, Memory> {
-        Ok(FrozenTexts::below(self, key.bytes()).len())
+        Ok(FrozenTexts::count_below(self, key.bytes()))
     }
 
     fn iter(self) -> TextWalk<'a, V> {
@@ -127,14 +92,24 @@ impl<'a, V: 'a, Q: TextKey> PrefixMap<'a, Q> for &'a FrozenTexts<V> {
     }
 
     fn common_prefixes(self, key: &Q) -> Result<TextWalk<'a, V>, Memory> {
-        let up = FrozenTexts::common_prefixes(self, key.bytes());
-        Ok(TextWalk::Prefixes(up))
+        Ok(TextWalk::Prefixes(FrozenTexts::common_prefixes(self, key.bytes())))
     }
 
     fn next(walk: &mut TextWalk<'a, V>) -> Result<Option<(&'a [u8], &'a V)>, Memory> {
         Ok(match walk {
             TextWalk::Pairs(left) => left.next(),
-            TextWalk::Prefixes(left) => left.next_back(),
+            TextWalk::Back(left) => left.next_back(),
+            TextWalk::Prefixes(left) => left.next(),
         })
+    }
+}
+
+impl<'a, V: 'a, Q: TextKey> RangeMap<'a, Q> for &'a FrozenTexts<V> {
+    fn range<R: RangeBounds<Q>>(self, range: R) -> Result<TextWalk<'a, V>, Memory> {
+        Ok(TextWalk::Pairs(FrozenTexts::range(self, range)))
+    }
+
+    fn range_back<R: RangeBounds<Q>>(self, range: R) -> Result<TextWalk<'a, V>, Memory> {
+        Ok(TextWalk::Back(FrozenTexts::range(self, range)))
     }
 }

@@ -12,7 +12,8 @@ mod tries;
 
 pub use callers::{first_below, lookup};
 pub use calls::PrefixMap;
-pub use frozen_texts::{TextKey, TextWalk};
+pub use frozen_texts::TextWalk;
+pub use frozen_trie::TextKey;
 pub use frozen_tries::FrozenWalk;
 pub use ranges::RangeMap;
 pub use routes::RouteWalk;

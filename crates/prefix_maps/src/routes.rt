@@ -1,16 +1,15 @@
-//! The calls of a routing table, by the addresses that its networks hold.
-ghost use Rattle.std.specs.Prelude.{◌≡◌, List, option_copied, option_map, ⊤};
-ghost use Rattle.nibble_map.specs.Maps.{value_at};
-ghost use Rattle.radix_keys.specs.Bits.{first_bits};
+//! The calls of a routing table, by networks and addresses.
+ghost use Rattle.std.specs.FinMap as finite;
+ghost use Rattle.std.specs.Prelude.{◌≡◌, option_map, ⊤};
 ghost use Rattle.radix_keys.specs.Networks.{Net};
-ghost use Rattle.radix_trie.specs.Views.{IsPairAbove, pairs_below};
+ghost use Rattle.radix_trie.specs.Views.{pairs_below};
 ghost use Rattle.frozen_routes.specs.Routes.{row_of_refs};
-ghost use Rattle.frozen_networks.specs.Networks.{network_map};
+ghost use Rattle.frozen_networks.specs.Networks.{network_code, network_map};
 ghost use Rattle.prefix_maps.specs.Calls.{route_walk_left};
 
 use crate::calls::PrefixMap;
 use frozen_networks::{maps_answer_as_tables, rows_and_maps_go_back};
-use frozen_routes::{FrozenRoutes, NetworksAbove};
+use frozen_routes::{CommonPrefixes, FrozenRoutes, RouteQuery};
 use radix_keys::{Address, Memory, Network};
 
 /// A walk over rows of a routing table, no step of which fails.
@@ -18,44 +17,42 @@ use radix_keys::{Address, Memory, Network};
 pub enum RouteWalk<'a, A: Address, V> {
     /// In the order of the networks.
     Rows(&'a [(Network<A>, V)]),
-    /// Over the networks that hold an address, from the widest to the longest.
-    Around(NetworksAbove<'a, A, V>),
+    /// Over the networks that hold all of a query, from the widest to the longest.
+    Prefixes(CommonPrefixes<'a, A, V>),
 }
 
-/// The value of the network of an address alone.
-fn value_of<A: Address, V>(routes: &FrozenRoutes<A, V>, address: A) -> Option<&V>
-    ensures { option_copied result ≡ value_at (network_map A.BITS A.number routes.now)
-        (first_bits A.BITS (A.number address) A.BITS) }
+/// The row of a network.
+fn row_of<'a, A: Address, V>(
+    routes: &'a FrozenRoutes<A, V>,
+    network: &Network<A>,
+) -> Option<(&'a Network<A>, &'a V)>
+    ensures { option_map row_of_refs result ≡ finite.get (network_map A.BITS A.number routes.now)
+        (network_code A.BITS A.number network.now) }
 {
     maps_answer_as_tables::<A, V>();
     routes.rows();
-    routes.get(&Network::host(address))
+    // For its clause that the base has 0 behind the bits.
+    network.base();
+    routes.get_key_value(network)
 }
 
-/// The rows within the network of an address alone.
-fn rows_of<A: Address, V>(routes: &FrozenRoutes<A, V>, address: A) -> &[(Network<A>, V)]
+/// The rows within a network.
+fn rows_of<'a, A: Address, V>(
+    routes: &'a FrozenRoutes<A, V>,
+    network: &Network<A>,
+) -> &'a [(Network<A>, V)]
     ensures { result.now ≡ pairs_below (network_map A.BITS A.number routes.now)
-        (first_bits A.BITS (A.number address) A.BITS) }
+        (network_code A.BITS A.number network.now) }
 {
     maps_answer_as_tables::<A, V>();
     routes.rows();
-    routes.below(&Network::host(address))
+    network.base();
+    routes.below(network)
 }
 
-/// The row of the longest network that holds an address.
-fn longest_row<A: Address, V>(routes: &FrozenRoutes<A, V>, address: A) -> Option<(&Network<A>, &V)>
-    ensures { IsPairAbove (network_map A.BITS A.number routes.now)
-        (first_bits A.BITS (A.number address) A.BITS) (option_map row_of_refs result) }
-{
-    maps_answer_as_tables::<A, V>();
-    routes.rows();
-    address.to_number();
-    routes.look(address)
-}
-
-/// A routing table is asked by addresses: the stored keys that are prefixes of an address are the networks that hold it.
-/// An address as a key is the network of it alone.
-impl<'a, A: Address + 'a, V: 'a> PrefixMap<'a, A> for &'a FrozenRoutes<A, V> {
+/// A routing table is asked by networks, and by addresses, each as the network of it alone: the stored keys that are
+/// prefixes of it are the networks that hold it.
+impl<'a, A: Address + 'a, V: 'a, Q: RouteQuery<A>> PrefixMap<'a, Q> for &'a FrozenRoutes<A, V> {
     type Key = &'a Network<A>;
 
     type Value = V;
@@ -66,15 +63,22 @@ impl<'a, A: Address + 'a, V: 'a> PrefixMap<'a, A> for &'a FrozenRoutes<A, V> {
 
     ghost stored_key = { λ network. network.now };
 
+    ghost encoding = { network_code A.BITS A.number };
+
     ghost map = { λ routes. network_map A.BITS A.number routes.now };
 
-    ghost list = { λ address. first_bits A.BITS (A.number address) A.BITS };
+    ghost list = { λ query. network_code A.BITS A.number (Q.net query) };
 
     ghost left = { route_walk_left };
 
     ghost is_free = { λ _. ⊤ };
 
     ghost has_free_walks = { ⊤ };
+
+    fn keys_stand_at_their_encodings(self) {
+        maps_answer_as_tables::<A, V>();
+        self.rows();
+    }
 
     fn len(self) -> usize {
         maps_answer_as_tables::<A, V>();
@@ -86,44 +90,42 @@ impl<'a, A: Address + 'a, V: 'a> PrefixMap<'a, A> for &'a FrozenRoutes<A, V> {
         self.rows().is_empty()
     }
 
-    fn get(self, key: &A) -> Result<Option<&'a V>, Memory> {
-        Ok(value_of(self, *key))
-    }
-
-    fn get_key_value(self, key: &A) -> Result<Option<(&'a Network<A>, &'a V)>, Memory> {
-        if value_of(self, *key).is_none() {
-            return Ok(None);
+    fn get(self, key: &Q) -> Result<Option<&'a V>, Memory> {
+        match row_of(self, &key.network()) {
+            Some((_, value)) => Ok(Some(value)),
+            None => Ok(None),
         }
-        // A stored key is its own longest prefix.
-        Ok(longest_row(self, *key))
     }
 
-    fn contains_key(self, key: &A) -> Result<bool, Memory> {
-        Ok(value_of(self, *key).is_some())
+    fn get_key_value(self, key: &Q) -> Result<Option<(&'a Network<A>, &'a V)>, Memory> {
+        Ok(row_of(self, &key.network()))
     }
 
-    fn longest_match(self, key: &A) -> Result<Option<(&'a Network<A>, &'a V)>, Memory> {
-        Ok(longest_row(self, *key))
+    fn contains_key(self, key: &Q) -> Result<bool, Memory> {
+        Ok(row_of(self, &key.network()).is_some())
+    }
+
+    fn longest_match(self, key: &Q) -> Result<Option<(&'a Network<A>, &'a V)>, Memory> {
+        maps_answer_as_tables::<A, V>();
+        self.rows();
+        key.network().base();
+        Ok(FrozenRoutes::longest_match(self, key))
     }
 
     fn first_key_value(self) -> Option<(&'a Network<A>, &'a V)> {
         rows_and_maps_go_back::<A, V>();
-        match self.rows().first() {
-            Some(row) => Some((&row.0, &row.1)),
-            None => None,
-        }
+        self.rows();
+        FrozenRoutes::first_key_value(self)
     }
 
     fn last_key_value(self) -> Option<(&'a Network<A>, &'a V)> {
         rows_and_maps_go_back::<A, V>();
-        match self.rows().last() {
-            Some(row) => Some((&row.0, &row.1)),
-            None => None,
-        }
+        self.rows();
+        FrozenRoutes::last_key_value(self)
     }
 
-    fn count_below(self, key: &A) -> Result<usize, Memory> {
-        Ok(rows_of(self, *key).len())
+    fn count_below(self, key: &Q) -> Result<usize, Memory> {
+        Ok(rows_of(self, &key.network()).len())
     }
 
     fn iter(self) -> RouteWalk<'a, A, V> {
@@ -131,15 +133,15 @@ impl<'a, A: Address + 'a, V: 'a> PrefixMap<'a, A> for &'a FrozenRoutes<A, V> {
         RouteWalk::Rows(self.rows())
     }
 
-    fn below(self, key: &A) -> Result<RouteWalk<'a, A, V>, Memory> {
-        Ok(RouteWalk::Rows(rows_of(self, *key)))
+    fn below(self, key: &Q) -> Result<RouteWalk<'a, A, V>, Memory> {
+        Ok(RouteWalk::Rows(rows_of(self, &key.network())))
     }
 
-    fn common_prefixes(self, key: &A) -> Result<RouteWalk<'a, A, V>, Memory> {
+    fn common_prefixes(self, key: &Q) -> Result<RouteWalk<'a, A, V>, Memory> {
         maps_answer_as_tables::<A, V>();
         self.rows();
-        key.to_number();
-        Ok(RouteWalk::Around(self.networks_above(*key)))
+        key.network().base();
+        Ok(RouteWalk::Prefixes(FrozenRoutes::common_prefixes(self, key)))
     }
 
     fn next(walk: &mut RouteWalk<'a, A, V>) -> Result<Option<(&'a Network<A>, &'a V)>, Memory> {
@@ -151,7 +153,7 @@ impl<'a, A: Address + 'a, V: 'a> PrefixMap<'a, A> for &'a FrozenRoutes<A, V> {
                 }
                 None => None,
             },
-            RouteWalk::Around(left) => left.next_back(),
+            RouteWalk::Prefixes(left) => left.next(),
         })
     }
 }

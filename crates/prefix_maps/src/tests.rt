@@ -59,7 +59,7 @@ const TEXT_ROWS: &'static [Row<'static>] = &[
     },
 ];
 
-/// The same of networks, and queries by addresses.
+/// The same of networks, and queries by addresses and by networks.
 const NETWORKS: &'static [&'static str] = &[
     "0.0.0.0/0",
     "10.0.0.0/8",
@@ -95,6 +95,36 @@ const ADDRESS_ROWS: &'static [Row<'static>] = &[
         value: None,
         above: &[0, 4],
         below: &[],
+    },
+];
+
+const ASKED_NETWORKS: &'static [&'static str] = &[
+    "10.0.0.0/8",
+    "10.1.0.0/17",
+    "0.0.0.0/1",
+    "192.0.2.0/24",
+];
+
+const NETWORK_ROWS: &'static [Row<'static>] = &[
+    Row {
+        value: Some(1),
+        above: &[0, 1],
+        below: &[1, 2, 3],
+    },
+    Row {
+        value: None,
+        above: &[0, 1, 2],
+        below: &[3],
+    },
+    Row {
+        value: None,
+        above: &[0],
+        below: &[1, 2, 3],
+    },
+    Row {
+        value: Some(4),
+        above: &[0, 4],
+        below: &[4],
     },
 ];
 
@@ -166,7 +196,7 @@ fn value_in<X: Copy>(pair: Option<(X, &usize)>) -> Option<usize> {
 }
 
 /// Whether a map answers a row.
-fn answers<'a, Q, M: PrefixMap<'a, Q, Value = usize> + Copy>(
+fn answers<'a, Q, M: PrefixMap<'a, Q, Value = usize>>(
     alloc: Global,
     map: M,
     key: &Q,
@@ -188,10 +218,7 @@ fn answers<'a, Q, M: PrefixMap<'a, Q, Value = usize> + Copy>(
 }
 
 /// Whether a map of five pairs has these in order.
-fn has_all<'a, Q, M: PrefixMap<'a, Q, Value = usize> + Copy>(
-    map: M,
-    _query: &Q,
-) -> Result<bool, Memory> {
+fn has_all<'a, Q, M: PrefixMap<'a, Q, Value = usize>>(map: M, _query: &Q) -> Result<bool, Memory> {
     let first = value_in(map.first_key_value());
     let last = value_in(map.last_key_value());
     Ok(
@@ -204,7 +231,7 @@ fn has_all<'a, Q, M: PrefixMap<'a, Q, Value = usize> + Copy>(
 }
 
 /// Whether a map answers each query by its row.
-fn answers_all<'a, Q, M: PrefixMap<'a, Q, Value = usize> + Copy>(
+fn answers_all<'a, Q, M: PrefixMap<'a, Q, Value = usize>>(
     alloc: Global,
     map: M,
     queries: &[Q],
@@ -219,7 +246,7 @@ fn answers_all<'a, Q, M: PrefixMap<'a, Q, Value = usize> + Copy>(
 }
 
 /// Whether a map has these within each span, from either end.
-fn answers_spans<'a, Q: Copy, M: RangeMap<'a, Q, Value = usize> + Copy>(
+fn answers_spans<'a, Q: Copy, M: RangeMap<'a, Q, Value = usize>>(
     map: M,
     spans: &[Span<'_, Q>],
 ) -> Result<bool, Memory> {
@@ -247,24 +274,35 @@ fn texts_answer(alloc: Global) -> Option<bool> {
     let of_trie = answers_all(alloc, &trie, ASKED_TEXTS, TEXT_ROWS).ok()?;
     let of_frozen = answers_all(alloc, &frozen, ASKED_TEXTS, TEXT_ROWS).ok()?;
     let of_texts = answers_all(alloc, &texts, ASKED_TEXTS, TEXT_ROWS).ok()?;
-    let of_spans = answers_spans(&trie, SPANS).ok()? && answers_spans(&frozen, SPANS).ok()?;
+    let of_spans = answers_spans(&trie, SPANS).ok()?
+        && answers_spans(&frozen, SPANS).ok()?
+        && answers_spans(&texts, SPANS).ok()?;
     Some(of_trie && of_frozen && of_texts && of_spans)
 }
 
-/// Whether a table of the networks answers so.
+/// Whether a table of the networks answers so, and by networks a trie of them too, and what it is frozen into.
 fn routes_answer(alloc: Global) -> Option<bool> {
-    let mut routes = FrozenRoutes::new(alloc);
-    for network in NETWORKS {
-        let value = routes.len();
-        routes
-            .push(network.parse::<Network<Ipv4Addr>>().ok()?, value)
-            .ok()?;
+    let (mut trie, mut routes) = (Trie::new(alloc), FrozenRoutes::new(alloc));
+    for text in NETWORKS {
+        let (network, value) = (text.parse::<Network<Ipv4Addr>>().ok()?, routes.len());
+        trie.insert(network, value).ok()?;
+        routes.push(network, value).ok()?;
     }
-    let mut addresses = Vec::new(alloc);
+    let (mut addresses, mut networks) = (Vec::new(alloc), Vec::new(alloc));
     for address in ASKED_ADDRESSES {
         addresses.push(address.parse::<Ipv4Addr>().ok()?).ok()?;
     }
-    answers_all(alloc, &routes, &addresses, ADDRESS_ROWS).ok()
+    for network in ASKED_NETWORKS {
+        networks
+            .push(network.parse::<Network<Ipv4Addr>>().ok()?)
+            .ok()?;
+    }
+    let frozen = frozen_copy(&trie).ok()?;
+    let by_addresses = answers_all(alloc, &routes, &addresses, ADDRESS_ROWS).ok()?;
+    let by_networks = answers_all(alloc, &routes, &networks, NETWORK_ROWS).ok()?
+        && answers_all(alloc, &trie, &networks, NETWORK_ROWS).ok()?
+        && answers_all(alloc, &frozen, &networks, NETWORK_ROWS).ok()?;
+    Some(by_addresses && by_networks)
 }
 
 #[test]

@@ -6,7 +6,7 @@ use crate::calls::PrefixMap;
 use crate::ranges::RangeMap;
 use radix_keys::{Memory, TrieKey};
 use radix_trie::iter::{CommonPrefixes, Cursor, CursorBack};
-use radix_trie::{Trie, TrieCommon};
+use radix_trie::{Trie, TrieCommon, keys_stand_at_their_encodings};
 use std::ops::RangeBounds;
 
 /// A walk over pairs of a trie.
@@ -18,8 +18,6 @@ pub enum TrieWalk<'a, K, V> {
     Back(CursorBack<'a, K, V>),
     /// Over the prefixes of a key, from the shortest to the longest.
     Prefixes(CommonPrefixes<'a, K, V>),
-    /// Over no pair.
-    Ended,
 }
 
 impl<'a, K: TrieKey + 'a, V: 'a, Q: TrieKey> PrefixMap<'a, Q> for &'a Trie<K, V> {
@@ -33,6 +31,8 @@ impl<'a, K: TrieKey + 'a, V: 'a, Q: TrieKey> PrefixMap<'a, Q> for &'a Trie<K, V>
 
     ghost stored_key = { λ k. k.now };
 
+    ghost encoding = { K.encoding };
+
     ghost map = { λ trie. trie.now };
 
     ghost list = { Q.encoding };
@@ -42,6 +42,10 @@ impl<'a, K: TrieKey + 'a, V: 'a, Q: TrieKey> PrefixMap<'a, Q> for &'a Trie<K, V>
     ghost is_free = { Q.is_light };
 
     ghost has_free_walks = { ⊥ };
+
+    fn keys_stand_at_their_encodings(self) {
+        keys_stand_at_their_encodings(self);
+    }
 
     fn len(self) -> usize {
         Trie::len(self)
@@ -64,8 +68,7 @@ impl<'a, K: TrieKey + 'a, V: 'a, Q: TrieKey> PrefixMap<'a, Q> for &'a Trie<K, V>
     }
 
     fn longest_match(self, key: &Q) -> Result<Option<(&'a K, &'a V)>, Memory> {
-        let list = key.encode(self.allocator())?;
-        Ok(self.nearest(&list))
+        Trie::longest_match(self, key)
     }
 
     fn first_key_value(self) -> Option<(&'a K, &'a V)> {
@@ -85,10 +88,7 @@ impl<'a, K: TrieKey + 'a, V: 'a, Q: TrieKey> PrefixMap<'a, Q> for &'a Trie<K, V>
     }
 
     fn below(self, key: &Q) -> Result<TrieWalk<'a, K, V>, Memory> {
-        match self.get_raw_descendant(key)? {
-            Some(view) => Ok(TrieWalk::Forward(TrieCommon::cursor(&view))),
-            None => Ok(TrieWalk::Ended),
-        }
+        Ok(TrieWalk::Forward(Trie::below(self, key)?))
     }
 
     fn common_prefixes(self, key: &Q) -> Result<TrieWalk<'a, K, V>, Memory> {
@@ -100,7 +100,6 @@ impl<'a, K: TrieKey + 'a, V: 'a, Q: TrieKey> PrefixMap<'a, Q> for &'a Trie<K, V>
             TrieWalk::Forward(left) => left.next(),
             TrieWalk::Back(left) => left.next(),
             TrieWalk::Prefixes(left) => Ok(left.next()),
-            TrieWalk::Ended => Ok(None),
         }
     }
 }

@@ -9,6 +9,7 @@ pub mod laws;
 pub mod networks;
 pub mod nibbles;
 pub mod parts;
+pub mod refused;
 pub mod slices;
 
 pub use bits::Bits;
@@ -18,4 +19,5 @@ pub use keys::{FixedWidth, KeySigned, TrieKey};
 pub use networks::{Address, Ipv4Network, Ipv6Network, Network, NetworkParseError};
 pub use nibbles::{BytesError, Memory, NibbleIter, NibbleVec, Nibblet};
 pub use parts::{Parts, PartsError, PartsIter};
+pub use refused::Refused;
 pub use slices::NibbleSlice;

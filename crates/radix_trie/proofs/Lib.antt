@@ -13,6 +13,8 @@ pub mod WalkLemmas
 pub mod CombinationLemmas
 -- What callers cite: what parts, walks and pages of a map hold, and the order of keys.
 pub mod LawLemmas
+-- What proofs by hand cite of the logic.
+pub mod Steps
 -- A view for writing that is borrowed: its parts.
 pub mod PartLemmas
 pub mod EntryLemmas

@@ -24,6 +24,8 @@ use denote.Param.Laws.{Laws}
 use denote.Struct.Struct.{Struct}
 use denote.Struct.Members.{Member, row_of, rows_of, parts_at}
 use denote.Struct.Parts.{shape_of, PartsBack}
+-- A call that lends through the reference, at the second part.
+pub mod Lending
 
 -- R, S and U: the types of the parts
 module _ (R S U : RattleType) where

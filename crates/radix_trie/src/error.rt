@@ -41,14 +41,6 @@ pub enum TryInsertWhy {
     Occupied,
 }
 
-/// A failed `try_insert`: why, and the key and value that were passed.
-#[derive(Drop)]
-pub struct TryInsertError<K, V> {
-    pub why: TryInsertWhy,
-    pub key: K,
-    pub value: V,
-}
-
 /// Why a trie wasn't grafted.
 #[derive(Clone, Copy, PartialEq, Eq, Debug)]
 pub enum GraftWhy {
@@ -59,13 +51,6 @@ pub enum GraftWhy {
     /// A point stands at or below the longest list that all of the other trie's encodings begin
     /// with.
     Overlapping,
-}
-
-/// A failed `graft`: why, and the trie that was passed.
-#[derive(Drop)]
-pub struct GraftError<K: TrieKey, V> {
-    pub why: GraftWhy,
-    pub part: Trie<K, V>,
 }
 
 /// A failed `merge`.
@@ -84,7 +69,8 @@ pub enum MergeError<K: TrieKey, V> {
 pub enum BuildError {
     /// An allocation failed, or a count of nibbles would exceed `usize::MAX`.
     Memory,
-    /// `usize::MAX` pairs were stored, and a key came that wasn't among them.
+    /// A key came beside as many others as may be stored: `usize::MAX` in a trie, 2^32 - 1 in a
+    /// frozen table.
     Full,
 }
 

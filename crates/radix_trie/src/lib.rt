@@ -14,8 +14,8 @@ mod view;
 
 pub use commands::{Command, Reply, ViewCommand, run};
 pub use error::{
-    BuildError, FindError, GraftError, GraftWhy, InsertError, InsertWhy, JsonError, MergeError,
-    OpenError, SubTrieError, SubTrieResult, TrieError, TryInsertError, TryInsertWhy,
+    BuildError, FindError, GraftWhy, InsertError, InsertWhy, JsonError, MergeError, OpenError,
+    SubTrieError, SubTrieResult, TrieError, TryInsertWhy,
 };
 pub use json::{from_value, objects_are_read_back, to_value};
 pub use key_laws::{
@@ -38,10 +38,10 @@ pub use radix_keys::laws::{
 pub use radix_keys::{
     Address, Ascending, BigEndian, Bits, BytesError, Encoding, FixedWidth, Ipv4Network,
     Ipv6Network, KeyInt, KeySigned, LittleEndian, Memory, Network, NetworkParseError, NibbleIter,
-    NibbleSlice, NibbleVec, Nibblet, Parts, PartsError, PartsIter, TrieKey,
+    NibbleSlice, NibbleVec, Nibblet, Parts, PartsError, PartsIter, Refused, TrieKey,
 };
 pub use radix_nodes::search::find::LookUpCost;
-pub use trie::{Entry, EntryError, Trie};
+pub use trie::{Entry, Trie};
 pub use view::descent::Descent;
 pub use view::subtrie::SubTrie;
 pub use view::subtrie_mut::SubTrieMut;

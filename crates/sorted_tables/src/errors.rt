@@ -1,4 +1,9 @@
 //! Why items aren't taken into a table.
+ghost use Rattle.std.specs.Prelude.{Some};
+ghost use Rattle.sorted_tables.specs.Errors.{push_text, sorted_text};
+
+use std::error::Error;
+use std::fmt;
 
 /// Why an item isn't appended.
 #[derive(Clone, Copy, PartialEq, Eq, Debug)]
@@ -11,12 +16,19 @@ pub enum PushWhy {
     Unsorted,
 }
 
-/// An item that isn't appended: why, and the very thing that was passed.
-#[derive(Drop)]
-pub struct PushError<T> {
-    pub why: PushWhy,
-    pub value: T,
+impl fmt::Display for PushWhy {
+    ghost output = { λ why. Some (push_text why) };
+
+    fn fmt<W: fmt::Write>(&self, f: &mut fmt::Formatter<W>) -> fmt::Result {
+        f.write_str(match self {
+            PushWhy::Memory => "out of memory",
+            PushWhy::Full => "the table is full",
+            PushWhy::Unsorted => "the item doesn't come after the one before it",
+        })
+    }
 }
+
+impl Error for PushWhy {}
 
 /// Why items aren't taken.
 #[derive(Clone, Copy, PartialEq, Eq, Debug)]
@@ -29,9 +41,18 @@ pub enum SortedWhy {
     Unsorted(usize),
 }
 
-/// Items that aren't taken: why, and the very ones that were passed.
-#[derive(Drop)]
-pub struct SortedError<T> {
-    pub why: SortedWhy,
-    pub items: Vec<T>,
+/// The texts of `PushWhy`.
+impl fmt::Display for SortedWhy {
+    ghost output = { λ why. Some (sorted_text why) };
+
+    fn fmt<W: fmt::Write>(&self, f: &mut fmt::Formatter<W>) -> fmt::Result {
+        let why = match self {
+            SortedWhy::Memory => PushWhy::Memory,
+            SortedWhy::Full => PushWhy::Full,
+            SortedWhy::Unsorted(_) => PushWhy::Unsorted,
+        };
+        fmt::Display::fmt(&why, f)
+    }
 }
+
+impl Error for SortedWhy {}

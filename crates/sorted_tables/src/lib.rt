@@ -4,4 +4,4 @@
 
 mod errors;
 
-pub use errors::{PushError, PushWhy, SortedError, SortedWhy};
+pub use errors::{PushWhy, SortedWhy};

@@ -148,7 +148,7 @@ fn answer_trie<A: Address, R: Print + Clock + AllocGlobal>(
     frozen.finish()?;
     Times::since(rt, "freeze", start, networks.len(), 0)?.print(rt, line, "frozen")?;
     let found = timed!(rt, "look", addresses, |address| {
-        match frozen.look(*address) {
+        match frozen.longest_match(address) {
             Some((_, hop)) => *hop as u64,
             None => 0,
         }

@@ -5,7 +5,7 @@ use crate::sample::{Query, generator};
 use crate::timed::{Times, print_rows, timed};
 use anyhow::{Result, bail, ensure};
 use frozen_trie::{FrozenTrie, freeze};
-use radix_trie::{Encoding, Trie, TrieCommon, TrieKey};
+use radix_trie::{Trie, TrieCommon, TrieKey};
 use rand::seq::SliceRandom;
 use std::collections::BTreeMap;
 use std::rt::Clock;
@@ -138,16 +138,15 @@ fn frozen_rows<K: Stored, L: TrieKey, B: Beginning<K>>(
         value_of(frozen.get(&query.absent)?)
     });
     let prefix = timed!(rt, "prefix", queries, |query| {
-        value_of(frozen.get_ancestor_value(&query.longer)?)
+        match frozen.longest_match(&query.longer)? {
+            Some((_, value)) => *value,
+            None => 0,
+        }
     });
     let few = queries.get(..BEGINNINGS).unwrap_or(queries);
     let below = timed!(rt, "below", few, |query| {
-        let list = Encoding::of(rt.alloc(), &query.beginning)?;
-        frozen
-            .below(&list.as_slice())
-            .iter()
-            .take(SHOWN)
-            .fold(0, add_second)
+        let pairs = frozen.below(&query.beginning)?;
+        pairs.iter().take(SHOWN).fold(0, add_second)
     });
     let count = timed!(rt, "count", few, |query| {
         frozen.count_below(&query.beginning)? as u64

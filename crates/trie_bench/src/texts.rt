@@ -104,7 +104,7 @@ fn text_rows(
         |query| value_of(texts.get(query.absent))
     );
     let prefix = timed!(rt, "prefix", queries, |query| {
-        match texts.nearest(query.longer) {
+        match texts.longest_match(query.longer) {
             Some((_, value)) => *value,
             None => 0,
         }
@@ -117,7 +117,7 @@ fn text_rows(
         rt,
         "count",
         few,
-        |query| texts.below(query.beginning).len() as u64
+        |query| texts.count_below(query.beginning) as u64
     );
     let start = Instant::now(rt)?;
     let sum = texts.iter().fold(0, add_second);

@@ -7,7 +7,7 @@ ghost use Rattle.radix_trie.specs.Views.{pairs_below};
 
 use anyhow::{Result, bail};
 use frozen_trie::{FrozenTrie, SortedWhy, frozen_stands_at_its_encodings};
-use radix_trie::{NibbleSlice, encodings_keep_prefixes};
+use radix_trie::encodings_keep_prefixes;
 use std::alloc::Global;
 
 /// A word of a dictionary, and the number of its line, from 1 on.
@@ -40,7 +40,11 @@ fn completions<'a, 'w>(words: &'a FrozenTrie<&'w str, u64>, typed: &str) -> &'a 
 {
     frozen_stands_at_its_encodings(words);
     encodings_keep_prefixes::<&'w str>();
-    words.below(&NibbleSlice::from_bytes(typed.as_bytes()))
+    match words.below(&typed) {
+        Ok(found) => found,
+        // A text lends its encoding, so no memory is allocated for it.
+        Err(_) => unreachable!(),
+    }
 }
 
 #[test]

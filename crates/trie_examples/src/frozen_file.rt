@@ -32,7 +32,7 @@ fn a_file_is_read_back(rt: HostRuntime) -> Result<()> {
         bail!("the file is whole");
     };
     assert!(rt; texts.len() == 2 && texts.get(b"ab") == Some(&258));
-    assert!(rt; texts.nearest(b"abc") == Some((b"ab".as_slice(), &258)));
+    assert!(rt; texts.longest_match(b"abc") == Some((b"ab".as_slice(), &258)));
     Ok(())
 }
 

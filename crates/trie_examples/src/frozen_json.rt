@@ -18,7 +18,11 @@ fn settings_are_written_and_read(rt: HostRuntime) -> Result<()> {
     let text = r#"{"disk":3,"disk.size":80,"net":1}"#;
     let settings = settings(rt.alloc(), text)?;
     assert!(rt; settings.get(&"disk.size")? == Some(&80));
-    assert!(rt; settings.get_ancestor_value(&"disk.name")? == Some(&3));
+    assert!(rt;
+        settings
+            .longest_match(&"disk.name")?
+            .is_some_and(|pair| *pair.1 == 3)
+    );
     let written = to_string(rt.alloc(), &settings)?;
     assert!(rt; written.as_str() == text);
     Ok(())

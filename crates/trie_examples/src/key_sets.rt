@@ -64,7 +64,7 @@ fn one_word_more(rt: HostRuntime) -> Result<(), TrieError> {
 #[test]
 fn nearest_word(rt: HostRuntime) -> Result<(), TrieError> {
     let mut set = words(rt.alloc(), &["tea", "ten"])?;
-    assert!(rt; set.get_ancestor(&"teams")?.copied() == Some("tea"));
+    assert!(rt; set.longest_match(&"teams")?.copied() == Some("tea"));
     assert!(rt; set.remove(&"tea")?);
     assert!(rt; set.pop_last()? == Some("ten"));
     assert!(rt; set.is_empty());

@@ -19,6 +19,8 @@ fn main(rt: HostRuntime) -> anyhow::Result<()> {
 #[cfg(test)]
 mod answers;
 #[cfg(test)]
+mod by_keys;
+#[cfg(test)]
 mod cited;
 #[cfg(test)]
 mod counters;
@@ -34,8 +36,6 @@ mod frozen_file;
 mod frozen_json;
 #[cfg(test)]
 mod given;
-#[cfg(test)]
-mod histories;
 #[cfg(test)]
 mod key_sets;
 #[cfg(test)]

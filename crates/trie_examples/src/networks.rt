@@ -55,7 +55,7 @@ fn frozen_routes_of_a_table(rt: HostRuntime) -> Result<(), Memory> {
     let routes = frozen(rt.alloc(), &table(rt.alloc(), NETWORKS)?)?;
     for (text, hop) in ROWS {
         let found = match Ipv4Addr::parse(text) {
-            Some(address) => routes.look(address),
+            Some(address) => routes.longest_match(&address),
             None => None,
         };
         let found = match found {
@@ -83,7 +83,7 @@ fn as_many_routes_are_appended_as_are_given(rt: HostRuntime) {
     const COUNT: u32 = 100_100;
     let last = Ipv4Addr::from_bits((COUNT - 1) << 8);
     let found = match numbered(rt.alloc(), COUNT) {
-        Some(routes) => match routes.look(last) {
+        Some(routes) => match routes.longest_match(&last) {
             Some((_, number)) => Some(*number),
             None => None,
         },

@@ -9,7 +9,9 @@ ghost use Rattle.radix_trie.specs.Walks.{deref_pair};
 ghost use Rattle.trie_set.specs.Sets.{IsKeyAbove, key_at, keys_in, with_key};
 
 use radix_trie::iter::Keys;
-use radix_trie::{InsertError, InsertWhy, Memory, Trie, TrieCommon, TrieKey, TryInsertWhy};
+use radix_trie::{
+    InsertError, InsertWhy, Memory, Refused, Trie, TrieCommon, TrieKey, TryInsertWhy,
+};
 use std::alloc::Global;
 use std::marker::Model;
 
@@ -118,7 +120,7 @@ impl<K: TrieKey> TrieSet<K> {
     /// # Errors
     ///
     /// Memory for the encoding is refused, which a light key never meets.
-    pub fn get_ancestor<Q: TrieKey>(&self, key: &Q) -> Result<Option<&K>, Memory>
+    pub fn longest_match<Q: TrieKey>(&self, key: &Q) -> Result<Option<&K>, Memory>
         ensures nearest { IfOk result
             (λ found. IsKeyAbove self.now (Q.encoding key.now) (option_copied found)) }
         ensures light { Q.is_light key.now → IsOk result }
@@ -183,10 +185,10 @@ impl<K: TrieKey + Drop> TrieSet<K> {
     {
         match self.trie.try_insert(key, ()) {
             Ok(()) => Ok(true),
-            Err(refused) => match refused.why {
+            Err(Refused { why, back }) => match why {
                 TryInsertWhy::Occupied => Ok(false),
-                TryInsertWhy::Full => Err(refusal(InsertWhy::Full, refused.key)),
-                TryInsertWhy::Memory => Err(refusal(InsertWhy::Memory, refused.key)),
+                TryInsertWhy::Full => Err(refusal(InsertWhy::Full, back.0)),
+                TryInsertWhy::Memory => Err(refusal(InsertWhy::Memory, back.0)),
             },
         }
     }

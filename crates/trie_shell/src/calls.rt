@@ -12,6 +12,7 @@ pub mod frozen;
 pub mod json;
 pub mod lines;
 pub mod look_ups;
+pub mod reads;
 pub mod runs;
 pub mod sets;
 pub mod steps;
@@ -26,6 +27,7 @@ use crate::calls::edits::{answer_change, answer_get, answer_insert, answer_remov
 use crate::calls::entries::answer_entry;
 use crate::calls::lines::walk_lines;
 use crate::calls::look_ups::{answer_keyed, answer_listed, answer_whole};
+use crate::calls::reads::answer_read;
 use crate::calls::stores::{answer_edit, answer_store};
 use crate::calls::sweeps::answer_sweep;
 use crate::calls::topics::answer_typed;
@@ -64,8 +66,9 @@ pub fn answer_told(trie: &mut Table, answer: &mut Answer<'_>) -> Result<bool, Me
 
 /// A call of a trie.
 pub fn answer_trie(trie: &mut Table, answer: &mut Answer<'_>) -> Result<(), Memory> {
-    if answer_common(&*trie, answer)?
-        || answer_keyed(&*trie, answer)?
+    if answer_keyed(&*trie, answer)?
+        || answer_read(&*trie, answer)?
+        || answer_common(&*trie, answer)?
         || answer_listed(&*trie, answer)?
         || answer_whole(&*trie, answer)?
         || answer_typed(&*trie, answer)?

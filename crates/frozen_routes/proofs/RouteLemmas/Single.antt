@@ -1,5 +1,6 @@
 -- The row of one network.
-use Rattle.std.proofs.Common.{◌≡◌, ℕ, ◌-◌, ◌/◌, ◌%◌, ◌^◌, ◌<◌, ◌≤◌, inl, inr, true, false, List, length, ap, subst, ◌∙◌, arith, get_or}
+use Rattle.std.proofs.Common.{◌≡◌, ℕ, ◌-◌, ◌/◌, ◌%◌, ◌^◌, ◌<◌, ◌≤◌, ◌↔◌, inl, inr, true, false, Option, Some, None, List, length, refl, ap, subst, ◌∙◌, arith, get_or}
+use Rattle.std.specs.Prelude.{MatchOption, is_some, option_map}
 use Rattle.std.proofs.lemmas.Bool.{cases_lt}
 use Rattle.std.proofs.lemmas.List.{length-map}
 use Rattle.radix_keys.proofs.KeyLemmas.Order.{three_ways}
@@ -7,6 +8,12 @@ use Rattle.radix_keys.specs.Networks.{Net}
 use Rattle.frozen_routes.specs.Routes.{AreInFront, AreRising, AreRowsInOrder, IsOwnRow, base_numbers, bit_counts}
 use Rattle.frozen_routes.proofs.RouteLemmas.Blocks.{div_up, earlier_le, start_is_least}
 use Rattle.frozen_routes.proofs.RouteLemmas.Rows.{stored_at}
+
+-- what is found is there where anything is
+pub some_own : {X Y : Type 0} (f : X → Y) (found : Option X) (P : Y → Type 0) → MatchOption (option_map f found) ((y : Y) → P y → ⊥) P
+    → (is_some found ≡ true) ↔ ((y : Y) × P y)
+some_own f None P none = (λ e. absurd (cc e), λ own. absurd (none own.0 own.1))
+some_own f (Some x) P own = (λ e. (f x, own), λ _. refl)
 
 -- a search for a network ends at it, where it is one of those that rise
 at_cut : (w : ℕ) (fs bs : List ℕ) (c i m n : ℕ) → AreRising w fs bs → AreInFront w false n (m / 2 ^ (w - n)) fs bs c → i < length fs → get_or fs i 0 ≡ m → get_or bs i 0 ≡ n

@@ -12,7 +12,7 @@ use Rattle.sorted_tables.proofs.TableLemmas.Links.{last_of_same, parted_in_order
 use Rattle.frozen_routes.proofs.RouteLemmas.Blocks.{coarser, finer, sandwich, start_is_least}
 
 -- the next block begins behind this one
-next_block : (q e : ℕ) → (q + 1) * 2 ^ e ≡ q * 2 ^ e + 2 ^ e
+pub next_block : (q e : ℕ) → (q + 1) * 2 ^ e ≡ q * 2 ^ e + 2 ^ e
 next_block q e = omega (arith, add-mul q 1 (2 ^ e), one-mul (2 ^ e))
 
 -- a number of an earlier block is below a block
@@ -25,7 +25,7 @@ pub quotient_most : (f t e : ℕ) → t ≤ f / 2 ^ e → t * 2 ^ e ≤ f
 quotient_most f t e h = omega (arith, shr_split f e, mul-le t (2 ^ e) (f / 2 ^ e) (2 ^ e) h (omega arith))
 
 -- so many numbers are the blocks of a power of two
-whole_power : (w k : ℕ) → k ≤ w → 2 ^ k * 2 ^ (w - k) ≡ 2 ^ w
+pub whole_power : (w k : ℕ) → k ≤ w → 2 ^ k * 2 ^ (w - k) ≡ 2 ^ w
 whole_power w k le = let whole : k + (w - k) ≡ w = omega (arith, le) in sym (pow-add 2 k (w - k)) ∙ ap (λ n. 2 ^ n) whole
 
 -- those before the block of a number begin at or before it
@@ -69,7 +69,7 @@ top_around e w fs bs t a cell top is = last_of_same (IsHolderAt w fs bs (t * 2 ^
     )) top.around
 
 -- a number is of fewer blocks than its bits count
-fewer_blocks : (w k m : ℕ) → k ≤ w → m < 2 ^ w → m / 2 ^ (w - k) < 2 ^ k
+pub fewer_blocks : (w k m : ℕ) → k ≤ w → m < 2 ^ w → m / 2 ^ (w - k) < 2 ^ k
 fewer_blocks w k m le few = elim (cases_lt (m / 2 ^ (w - k)) (2 ^ k)) [
   | inl lt ↦ lt
   | inr ge ↦

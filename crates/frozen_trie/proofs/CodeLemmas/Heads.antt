@@ -1,7 +1,7 @@
 -- The first nibbles of a list as a number: how it is made, and which order it tells.
-use Rattle.std.proofs.Common.{ltb, ◌≡◌, ℕ, zero, suc, ◌+◌, ◌-◌, ◌*◌, ◌/◌, ◌%◌, ◌^◌, ◌<◌, ◌≤◌, inl, inr, Bool, true, false, List, [], ◌∷◌, ◌++◌, length, min, take, get_or, refl, sym, ap, subst, ◌∙◌, pow_pos, pow-add, arith}
+use Rattle.std.proofs.Common.{◌≡◌, ℕ, zero, suc, ◌+◌, ◌-◌, ◌*◌, ◌/◌, ◌%◌, ◌^◌, ◌<◌, ◌≤◌, inl, inr, Bool, true, false, List, [], ◌∷◌, ◌++◌, length, min, take, get_or, refl, sym, ap, subst, ◌∙◌, pow_pos, pow-add, arith}
 use Rattle.std.proofs.Math.Nat.{div-eq_of_lt-le, mul-le-mul_right, mul_assoc, mul_comm, pow-suc, pow-succ', suc-mul}
-use Rattle.std.proofs.lemmas.Bool.{cases_lt, le-ltb, lt-ltb}
+use Rattle.std.proofs.lemmas.Bool.{cases_lt}
 use Rattle.std.proofs.lemmas.List.{get_or_past, take_all}
 use Rattle.radix_keys.proofs.KeyLemmas.Order.{three_ways}
 use Rattle.nibble_map.specs.Lists.{IsBefore, IsPrefix, IsRising}

@@ -1,5 +1,5 @@
 -- What the heads of a block tell of a search, and what is left to be compared.
-use Rattle.std.proofs.Common.{◌≡◌, ◌≢◌, ℕ, ◌+◌, ◌-◌, ◌*◌, ◌%◌, ◌<◌, ◌≤◌, inl, inr, ◌⊎◌, Bool, true, false, List, length, take, drop, get_or, refl, sym, ap, subst, ◌∙◌, arith}
+use Rattle.std.proofs.Common.{◌≡◌, ◌≢◌, ℕ, ◌+◌, ◌-◌, ◌*◌, ◌%◌, ◌<◌, ◌≤◌, inl, inr, Bool, true, false, List, length, take, drop, get_or, sym, ap, subst, ◌∙◌, arith}
 use Rattle.std.specs.List.Sorted.{IsNonDecreasing}
 use Rattle.std.proofs.lemmas.Bool.{cases_lt}
 use Rattle.std.proofs.lemmas.List.Sorted.{IsNonDecreasingBy-from_default}
@@ -8,7 +8,7 @@ use Rattle.nibble_map.specs.Lists.{IsPrefix, IsRising}
 use Rattle.nibble_map.proofs.ListLemmas.Parted.{prefix_itself}
 use Rattle.frozen_trie.specs.Blocks.{IsCounted, IsNarrowed, IsSharedBy, IsSoughtIn}
 use Rattle.frozen_trie.specs.Codes.{code_at, is_in_front}
-use Rattle.frozen_trie.specs.Heads.{AreNibbles, bound_of, head_in}
+use Rattle.frozen_trie.specs.Heads.{AreNibbles, head_in}
 use Rattle.frozen_trie.proofs.CodeLemmas.Behind.{before_behind}
 use Rattle.frozen_trie.proofs.CodeLemmas.Blocks.{behind_by_higher, behind_from, block_rises, code_in, front_by_lower, front_of_few, nibbles_behind, same_in_more, same_of_told, shifted}
 use Rattle.frozen_trie.proofs.CodeLemmas.Heads.{head_rises}

@@ -2,7 +2,7 @@
 use Rattle.std.proofs.Common.{◌≡◌, ℕ, zero, suc, ◌+◌, ◌<◌, ◌≤◌, inl, inr, false, List, [], ◌∷◌, length, map, reverse, take, get_or, slice_get, Some, refl, sym, ap, subst, ◌∙◌, arith}
 use Rattle.std.proofs.lemmas.Bool.{cases_lt}
 use Rattle.std.proofs.lemmas.Cmp.{nat_list_cmp_total}
-use Rattle.std.proofs.lemmas.List.{take_all}
+use Rattle.std.proofs.lemmas.List.{reverse-reverse, take_all}
 use Rattle.std.proofs.lemmas.Option.{get_or_from_slice_get}
 use Rattle.std.specs.List.{filter}
 use Rattle.nibble_map.specs.Lists.{IsBefore, IsPrefix, IsRising, is_prefix}
@@ -94,6 +94,11 @@ module _ {K V : Type 0} (enc : K → List ℕ) (ps : List (K × V)) (rises : IsR
   walk_up_whole q r last =
       let whole : IsLastPrefix (codes_of enc ps) (length ps) q r = subst (λ n. IsLastPrefix (codes_of enc ps) n q r) (as_many enc ps rises) last in
       ups_are r whole.within ∙ sym (walk_up q (length ps) r (omega arith) whole) ∙ ap reverse (sym (above_is q))
+
+  -- the other way round they are those above q, the shortest first
+  pub walk_down_whole : (q : List ℕ) (r : ℕ) → IsLastPrefix (codes_of enc ps) (length (codes_of enc ps)) q r
+      → reverse (prefixes_up enc (map_of_pairs enc ps) r) ≡ pairs_above (map_of_pairs enc ps) q
+  walk_down_whole q r last = ap reverse (walk_up_whole q r last) ∙ reverse-reverse (pairs_above (map_of_pairs enc ps) q)
 
   -- one step up: a pair, and the walk from its link on
   pub step_up : (i r : ℕ) (p : K × V) → i < length ps → slice_get ps i ≡ Some p → IsLastPrefix (codes_of enc ps) i (code_at (codes_of enc ps) i) r

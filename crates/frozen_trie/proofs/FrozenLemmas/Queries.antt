@@ -1,26 +1,20 @@
 -- What the searches' answers say of the map.
-use Rattle.std.proofs.Common.{max, ◌≡◌, ℕ, zero, suc, ◌-◌, ◌<◌, ◌≤◌, ◌⊎◌, inl, inr, Bool, true, false, cond, not, T, List, [], ◌∷◌, length, map, take, drop, get_or, Some, None, refl, sym, ap, subst, ◌∙◌, arith}
+use Rattle.std.proofs.Common.{◌≡◌, ℕ, zero, suc, ◌-◌, ◌<◌, ◌≤◌, inl, inr, Bool, true, false, List, [], ◌∷◌, length, map, take, drop, get_or, Some, None, refl, sym, ap, subst, ◌∙◌, arith}
 use Rattle.std.proofs.lemmas.List.{length-map, length-take-le}
 use Rattle.std.specs.FinMap as fin
 use Rattle.std.specs.List.{filter}
 use Rattle.radix_keys.proofs.KeyLemmas.Order.{three_ways}
-use Rattle.nibble_map.specs.Lists.{IsBefore, IsPrefix, IsRising, Has, is_prefix}
-use Rattle.std.proofs.lemmas.Bool.{not-false, not-true}
-use Rattle.std.specs.Cmp.Lexicographic.{slice_cmp}
-use Rattle.std.specs.Ordering.{is_le, nat_cmp}
-use Rattle.std.specs.declared.ops.Bound.TheVariants.{Excluded, Included}
+use Rattle.nibble_map.specs.Lists.{IsPrefix, IsRising, Has, is_prefix}
+use Rattle.std.specs.declared.ops.Bound.{Bound}
 use Rattle.nibble_map.specs.Maps.{IsStored, walk}
 use Rattle.nibble_map.specs.Stored.{stored}
 use Rattle.nibble_map.proofs.MapLemmas.Edits.{walk-by_entries, stored_by_entries}
-use Rattle.nibble_map.proofs.ListLemmas.Unique.{before_not_itself}
-use Rattle.nibble_map.proofs.TreeLemmas.SomePrefixes.{before_through}
 use Rattle.nibble_map.proofs.ListLemmas.Parted.{prefix_length, is_prefix_true, prefix_by_test}
-use Rattle.frozen_trie.specs.Codes.{IsCut, IsLastPrefix, is_before, is_until, code_at}
-use Rattle.radix_trie.specs.Views.{IsPairAbove, is_within, pairs_after, pairs_below, pairs_before, pairs_from, pairs_within}
-use Rattle.radix_trie.proofs.LawLemmas.Orders.{from_by_test, test_by_from}
+use Rattle.frozen_trie.specs.Codes.{IsCut, IsLastPrefix, IsSpan, is_before, is_until, code_at}
+use Rattle.radix_trie.specs.Views.{IsPairAbove, is_within, pairs_below, pairs_before, pairs_within}
 use Rattle.radix_trie.proofs.PathLemmas.Places.{below-nil}
 use Rattle.frozen_trie.specs.Frozen.{codes_of, map_of_pairs}
-use Rattle.frozen_trie.proofs.CodeLemmas.Order.{true_of, which_before, at_most, before_by_test, before_passes, prefix_before, between_begins, begun_not_before, until_by_test, until_by_before, until_by_prefix}
+use Rattle.frozen_trie.proofs.CodeLemmas.Order.{at_most, before_by_test, before_passes, prefix_before, between_begins, begun_not_before, until_by_test, until_by_before, until_by_prefix}
 use Rattle.frozen_trie.proofs.CodeLemmas.Parts.{rising_at}
 use Rattle.sorted_tables.proofs.TableLemmas.Links.{parted_in_order}
 use Rattle.frozen_trie.proofs.FrozenLemmas.Rows.{get_at, entries_are_rows, stored_rows, pairs_of_rows, filter_rows, filter_is_part}
@@ -29,11 +23,6 @@ use Rattle.frozen_trie.proofs.FrozenLemmas.Rows.{get_at, entries_are_rows, store
 pub not_true : (b : Bool) → (b ≡ true → ⊥) → b ≡ false
 not_true true h = absurd (h refl)
 not_true false h = refl
-
--- two tests of which the second fails
-second_fails : (b c : Bool) → c ≡ false → cond b c false ≡ false
-second_fails true c e = e
-second_fails false c e = refl
 
 -- an element of a list of codes stands at an index
 pub has_index : (cs : List (List ℕ)) (x : List ℕ) → Has cs x → (k : ℕ) × (k < length cs) × (code_at cs k ≡ x)
@@ -93,83 +82,31 @@ module _ {K V : Type 0} (enc : K → List ℕ) (ps : List (K × V)) (rises : IsR
   pub whole_is : pairs_below (map_of_pairs enc ps) [] ≡ ps
   whole_is = ap (λ m. map (λ e. e.1) (fin.entries m)) (below-nil (map_of_pairs enc ps)) ∙ ap (map (λ e. e.1)) (entries_are_rows enc ps rises) ∙ pairs_of_rows enc ps
 
-  -- the pairs before q are those in front of the cut
-  pub before_is : (q : List ℕ) (lo : ℕ) → IsCut (λ c. is_before c q) (codes_of enc ps) lo → take lo ps ≡ pairs_before (map_of_pairs enc ps) [] q
-  before_is q lo low =
-      sym (ap (λ es. map (λ e. e.1) (filter (λ e. is_before e.0 q) es)) (ap fin.entries (below-nil (map_of_pairs enc ps)) ∙ entries_are_rows enc ps rises)
-      ∙ filter_rows enc (λ c. is_before c q) ps
-      ∙ filter_is_part enc (λ c. is_before c q) ps 0 lo (omega arith) (omega (arith, low.within, as_many)) (λ k l. absurd (omega (arith, l))) (λ k l m. low.before k m) (λ k l m. low.after k l (omega (arith, m, as_many)))
-      ∙ (let z : lo - 0 ≡ lo = omega arith in ap (λ n. take n ps) z))
-
-  -- the cut before q counts them
-  pub count_before_is : (q : List ℕ) (lo : ℕ) → IsCut (λ c. is_before c q) (codes_of enc ps) lo → lo ≡ length (pairs_before (map_of_pairs enc ps) [] q)
-  count_before_is q lo low = sym (length-take-le lo ps (omega (arith, low.within, as_many))) ∙ ap length (before_is q lo low)
-
-  -- no code in front of the cut before q is q or behind it
-  not_from : (q : List ℕ) (lo : ℕ) → IsCut (λ c. is_before c q) (codes_of enc ps) lo → (k : ℕ) → k < lo → is_le (slice_cmp nat_cmp q (code_at (codes_of enc ps) k)) ≡ false
-  not_from q lo low k l = not_true _ (λ t. elim (from_by_test q _ (subst T (sym t) tt)) [
-    | inl e ↦ before_not_itself q (subst (λ x. IsBefore x q) e (before_by_test _ q (low.before k l)))
-    | inr g ↦ before_not_itself q (before_through q _ q g (before_by_test _ q (low.before k l)))
-  ])
-
-  -- and each from the cut on is
-  from_on : (q : List ℕ) (lo : ℕ) → IsCut (λ c. is_before c q) (codes_of enc ps) lo → (k : ℕ) → lo ≤ k → k < length ps
-      → is_le (slice_cmp nat_cmp q (code_at (codes_of enc ps) k)) ≡ true
-  from_on q lo low k l m = true_of _ (test_by_from q _ (elim (which_before (code_at (codes_of enc ps) k) q) [
-    | inl b ↦ absurd (let no : true ≡ false = sym (before_passes _ q b) ∙ low.after k l (omega (arith, m, as_many)) in cc no)
-    | inr h ↦ h
-  ]))
-
-  -- the pairs between the cuts before a and before b are those within these bounds
-  pub within_is : (a b : List ℕ) (lo hi end : ℕ) → IsCut (λ c. is_before c a) (codes_of enc ps) lo → IsCut (λ c. is_before c b) (codes_of enc ps) hi
-      → lo ≤ end → (end ≡ hi) ⊎ ((end ≡ lo) × (hi ≤ lo)) → take (end - lo) (drop lo ps) ≡ pairs_within (map_of_pairs enc ps) [] (Included a) (Excluded b)
-  within_is a b lo hi end low high l which =
-      sym (ap (λ es. map (λ e. e.1) (filter (λ e. is_within (Included a) (Excluded b) e.0) es)) (ap fin.entries (below-nil (map_of_pairs enc ps)) ∙ entries_are_rows enc ps rises)
-      ∙ filter_rows enc (is_within (Included a) (Excluded b)) ps
-      ∙ filter_is_part enc (is_within (Included a) (Excluded b)) ps lo end l inside first middle last)
-    where
-      after_high : hi ≤ end
-      after_high = elim which [
-        | inl e ↦ omega (arith, e)
-        | inr e ↦ (let same = e.0 in let less = e.1 in omega (arith, same, less))
-      ]
-
-      inside : end ≤ length ps
-      inside = elim which [
-        | inl e ↦ omega (arith, e, high.within, as_many)
-        | inr e ↦ (let same = e.0 in omega (arith, same, low.within, as_many))
-      ]
-
-      first : (k : ℕ) → k < lo → is_within (Included a) (Excluded b) (code_at (codes_of enc ps) k) ≡ false
-      first k m = second_fails _ _ (not_from a lo low k m)
-
-      middle : (k : ℕ) → lo ≤ k → k < end → is_within (Included a) (Excluded b) (code_at (codes_of enc ps) k) ≡ true
-      middle k m n = elim which [
-        | inl e ↦
-            ap (λ c. cond c (is_le (slice_cmp nat_cmp a (code_at (codes_of enc ps) k))) false) (high.before k (omega (arith, e, n)))
-            ∙ from_on a lo low k m (omega (arith, n, inside))
-        | inr e ↦ absurd (let same = e.0 in omega (arith, same, m, n))
-      ]
-
-      last : (k : ℕ) → end ≤ k → k < length ps → is_within (Included a) (Excluded b) (code_at (codes_of enc ps) k) ≡ false
-      last k m n = ap (λ c. cond c (is_le (slice_cmp nat_cmp a (code_at (codes_of enc ps) k))) false) (high.after k (omega (arith, m, after_high)) (omega (arith, n, as_many)))
-
-  -- the pairs that a test keeps are those from a cut on, where it fails before the cut and holds from it on
-  rest_is : (t : List ℕ → Bool) (lo : ℕ) → lo ≤ length ps → ((k : ℕ) → k < lo → t (code_at (codes_of enc ps) k) ≡ false)
-      → ((k : ℕ) → lo ≤ k → k < length ps → t (code_at (codes_of enc ps) k) ≡ true)
-      → take (length ps - lo) (drop lo ps) ≡ map (λ e. e.1) (filter (λ e. t e.0) (walk (map_of_pairs enc ps) []))
-  rest_is t lo within first last =
+  -- the pairs within a span of the codes are those whose lists pass its test
+  span_is : (t : List ℕ → Bool) (lo hi : ℕ) → IsSpan t (codes_of enc ps) lo hi
+      → take (hi - lo) (drop lo ps) ≡ map (λ e. e.1) (filter (λ e. t e.0) (walk (map_of_pairs enc ps) []))
+  span_is t lo hi span =
       sym (ap (λ es. map (λ e. e.1) (filter (λ e. t e.0) es)) (ap fin.entries (below-nil (map_of_pairs enc ps)) ∙ entries_are_rows enc ps rises)
-      ∙ filter_rows enc t ps ∙ filter_is_part enc t ps lo (length ps) within (omega arith) first last (λ k l m. absurd (omega (arith, l, m))))
+      ∙ filter_rows enc t ps
+      ∙ filter_is_part enc t ps lo hi span.order (omega (arith, span.within, as_many)) span.front span.inside (λ k l m. span.behind k l (omega (arith, m, as_many))))
 
-  -- the pairs from the cut before q on are those from q on
-  pub from_is : (q : List ℕ) (lo : ℕ) → IsCut (λ c. is_before c q) (codes_of enc ps) lo → take (length ps - lo) (drop lo ps) ≡ pairs_from (map_of_pairs enc ps) [] q
-  from_is q lo low = rest_is (λ c. is_le (slice_cmp nat_cmp q c)) lo (omega (arith, low.within, as_many)) (not_from q lo low) (from_on q lo low)
+  -- the cut before q counts those before it
+  pub count_before_is : (q : List ℕ) (lo : ℕ) → IsCut (λ c. is_before c q) (codes_of enc ps) lo → lo ≡ length (pairs_before (map_of_pairs enc ps) [] q)
+  count_before_is q lo low =
+      let whole : lo ≡ lo - 0 = omega arith in
+      sym (length-take-le lo ps (omega (arith, low.within, as_many)))
+      ∙ ap length (ap (λ n. take n ps) whole ∙ span_is (λ c. is_before c q) 0 lo (record {
+        order = omega arith;
+        within = low.within;
+        front = λ k l. absurd (omega (arith, l));
+        inside = λ k l m. low.before k m;
+        behind = low.after;
+      }))
 
-  -- those from the cut behind q on are those after q
-  pub after_is : (q : List ℕ) (n : ℕ) → IsCut (λ c. not (is_before q c)) (codes_of enc ps) n → take (length ps - n) (drop n ps) ≡ pairs_after (map_of_pairs enc ps) [] q
-  after_is q n cut = rest_is (λ c. is_before q c) n (omega (arith, cut.within, as_many))
-      (λ k l. not-true _ (cut.before k l)) (λ k l m. not-false _ (cut.after k l (omega (arith, m, as_many))))
+  -- those within two bounds
+  pub within_is : (low high : Bound (List ℕ)) (lo hi : ℕ) → IsSpan (is_within low high) (codes_of enc ps) lo hi
+      → take (hi - lo) (drop lo ps) ≡ pairs_within (map_of_pairs enc ps) [] low high
+  within_is low high = span_is (is_within low high)
 
   -- a stored list stands at an index
   pub stored_index : (x : List ℕ) → IsStored (map_of_pairs enc ps) x → (k : ℕ) × (k < length (codes_of enc ps)) × (code_at (codes_of enc ps) k ≡ x)
@@ -201,11 +138,3 @@ module _ {K V : Type 0} (enc : K → List ℕ) (ps : List (K × V)) (rises : IsR
     where
       inside : r - 1 < length (codes_of enc ps)
       inside = omega (arith, some, last.within)
-
--- the greater of two numbers is the first, or it is the second and that isn't below the first
-pub greatest : (a b m : ℕ) → m ≡ max a b → (m ≡ a) ⊎ ((m ≡ b) × (a ≤ b))
-greatest a b m e = elim (three_ways a b) [
-  | inl l ↦ inr (omega (arith, e, l), omega (arith, l))
-  | inr (inl s) ↦ inl (omega (arith, e, s))
-  | inr (inr g) ↦ inl (omega (arith, e, g))
-]

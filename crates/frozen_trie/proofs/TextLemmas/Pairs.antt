@@ -1,17 +1,17 @@
 -- What the map of byte strings answers, by the indices of their nibbles.
-use Rattle.std.proofs.Common.{◌≡◌, ℕ, zero, suc, ◌+◌, ◌-◌, ◌^◌, ◌<◌, ◌≤◌, ◌⊎◌, List, [], ◌∷◌, length, reverse, take, drop, get_or, option_map, slice_get, Some, None, refl, sym, ap, subst, ◌∙◌, arith}
+use Rattle.std.proofs.Common.{◌≡◌, ℕ, zero, suc, ◌+◌, ◌-◌, ◌^◌, ◌<◌, ◌≤◌, List, [], ◌∷◌, length, reverse, take, drop, get_or, option_map, slice_get, Some, None, refl, sym, ap, subst, ◌∙◌, arith}
 use Rattle.std.proofs.lemmas.Option.{get_or_from_slice_get}
 use Rattle.std.specs.FinMap as fin
-use Rattle.std.specs.declared.ops.Bound.TheVariants.{Excluded, Included}
+use Rattle.std.specs.declared.ops.Bound.{Bound}
 use Rattle.nibble_map.specs.Lists.{IsRising}
 use Rattle.nibble_map.specs.Maps.{value_at}
 use Rattle.nibble_map.specs.Nibbles.{nibbles}
 use Rattle.radix_keys.proofs.NibbleLemmas.Bytes.{length-nibbles}
-use Rattle.radix_trie.specs.Views.{IsPairAbove, pairs_above, pairs_before, pairs_below, pairs_within}
-use Rattle.frozen_trie.specs.Codes.{IsCut, IsLastPrefix, is_before, is_until, code_at}
+use Rattle.radix_trie.specs.Views.{IsPairAbove, is_within, pairs_above, pairs_before, pairs_below, pairs_within}
+use Rattle.frozen_trie.specs.Codes.{IsCut, IsLastPrefix, IsSpan, is_before, is_until, code_at}
 use Rattle.frozen_trie.specs.Frozen.{codes_of, prefixes_up}
 use Rattle.frozen_trie.specs.Texts.{AreTexts, packed_bytes, text_map, text_pairs}
-use Rattle.frozen_trie.proofs.FrozenLemmas.Prefixes.{step_up, walk_up_whole}
+use Rattle.frozen_trie.proofs.FrozenLemmas.Prefixes.{step_up, walk_down_whole}
 use Rattle.frozen_trie.proofs.FrozenLemmas.Queries.{above_none, above_some, below_is, count_before_is, cuts_in_order, whole_is, within_is}
 use Rattle.frozen_trie.proofs.FrozenLemmas.Rows.{code_of_pair, get_at, get_none, len_is}
 
@@ -62,19 +62,23 @@ module _ {V : Type 0} (cs : List (List ℕ)) (vs : List V) (up : List ℕ) (kept
   pub text_short : (k : ℕ) (v : V) → k < length cs → v ≡ get_or vs k v → length (code_at cs k) < 2 ^ 33 → length (packed_bytes (code_at cs k)) < 2 ^ 32
   text_short k v l h few = omega (arith, few, ap length (whole_bytes k v l h), length-nibbles (packed_bytes (code_at cs k)))
 
-  -- the value at a list that stands at an index
-  pub value_found : (q : List ℕ) (k : ℕ) (v : V) → k < length cs → v ≡ get_or vs k v → code_at cs k ≡ q → Some v ≡ value_at (text_map cs vs) q
-  value_found q k v l h code =
-      let x : List ℕ × V = (packed_bytes (code_at cs k), v) in
-      let inside : k < length (text_pairs cs vs) = omega (arith, l, length-text_pairs cs vs kept.valued) in
-      sym (ap (option_map (λ (p : List ℕ × V). p.1)) (get_at nibbles (text_pairs cs vs) q k x texts_rise inside
-      (sym (get_or_from_slice_get (text_pairs cs vs) k x x (text_found cs vs k v l kept.valued h))) (subst (λ ds. code_at ds k ≡ q) kept.frozen.keyed code)))
+  -- the pair at a list that stands at an index
+  pub pair_got : (q : List ℕ) (k : ℕ) (x : List ℕ × V) → k < length cs → slice_get (pairs_below (text_map cs vs) []) k ≡ Some x → code_at cs k ≡ q → Some x ≡ fin.get (text_map cs vs) q
+  pair_got q k x l found code =
+      sym (get_at nibbles (text_pairs cs vs) q k x texts_rise (omega (arith, l, length-text_pairs cs vs kept.valued))
+      (sym (get_or_from_slice_get (text_pairs cs vs) k x x (ap (λ xs. slice_get xs k) (sym all_texts) ∙ found))) (subst (λ ds. code_at ds k ≡ q) kept.frozen.keyed code))
 
   -- at a list that stands at none there is none
+  pub no_pair : (q : List ℕ) → ((k : ℕ) → k < length cs → code_at cs k ≡ q → ⊥) → None ≡ fin.get (text_map cs vs) q
+  no_pair q n = sym (get_none nibbles (text_pairs cs vs) q texts_rise (subst (λ ds. (k : ℕ) → k < length ds → code_at ds k ≡ q → ⊥) kept.frozen.keyed n))
+
+  -- so its value
+  pub value_found : (q : List ℕ) (k : ℕ) (v : V) → k < length cs → v ≡ get_or vs k v → code_at cs k ≡ q → Some v ≡ value_at (text_map cs vs) q
+  value_found q k v l h code = ap (option_map (λ (p : List ℕ × V). p.1)) (pair_got q k (packed_bytes (code_at cs k), v) l (pair_found k v l h) code)
+
+  -- and that there is none
   pub no_value : (q : List ℕ) → ((k : ℕ) → k < length cs → code_at cs k ≡ q → ⊥) → None ≡ value_at (text_map cs vs) q
-  no_value q n =
-      sym (ap (option_map (λ (p : List ℕ × V). p.1)) (get_none nibbles (text_pairs cs vs) q texts_rise
-      (subst (λ ds. (k : ℕ) → k < length ds → code_at ds k ≡ q → ⊥) kept.frozen.keyed n)))
+  no_value q n = ap (option_map (λ (p : List ℕ × V). p.1)) (no_pair q n)
 
   -- where no list is a prefix of q no pair is above q
   pub no_text_above : (q : List ℕ) (r : ℕ) → r ≡ 0 → IsLastPrefix cs (length cs) q r → IsPairAbove (text_map cs vs) q None
@@ -101,22 +105,20 @@ module _ {V : Type 0} (cs : List (List ℕ)) (vs : List V) (up : List ℕ) (kept
       ∙ below_is nibbles (text_pairs cs vs) texts_rise q lo hi (subst (λ ds. IsCut (λ c. is_before c q) ds lo) kept.frozen.keyed low)
       (subst (λ ds. IsCut (λ c. is_until c q) ds hi) kept.frozen.keyed high)
 
-  -- the pairs between the cuts before a and before b are those within these bounds
-  pub texts_within : (a b : List ℕ) (lo hi end : ℕ) → IsCut (λ c. is_before c a) cs lo → IsCut (λ c. is_before c b) cs hi
-      → lo ≤ end → (end ≡ hi) ⊎ ((end ≡ lo) × (hi ≤ lo))
-      → take (end - lo) (drop lo (pairs_below (text_map cs vs) [])) ≡ pairs_within (text_map cs vs) [] (Included a) (Excluded b)
-  texts_within a b lo hi end low high l which =
-      ap (λ xs. take (end - lo) (drop lo xs)) all_texts
-      ∙ within_is nibbles (text_pairs cs vs) texts_rise a b lo hi end (subst (λ ds. IsCut (λ c. is_before c a) ds lo) kept.frozen.keyed low)
-      (subst (λ ds. IsCut (λ c. is_before c b) ds hi) kept.frozen.keyed high) l which
+  -- the pairs within two bounds
+  pub texts_within : (low high : Bound (List ℕ)) (lo hi : ℕ) → IsSpan (is_within low high) cs lo hi
+      → take (hi - lo) (drop lo (pairs_below (text_map cs vs) [])) ≡ pairs_within (text_map cs vs) [] low high
+  texts_within low high lo hi span =
+      ap (λ xs. take (hi - lo) (drop lo xs)) all_texts
+      ∙ within_is nibbles (text_pairs cs vs) texts_rise low high lo hi (subst (λ ds. IsSpan (is_within low high) ds lo hi) kept.frozen.keyed span)
 
   -- the cut before q counts the pairs before it
   pub texts_before : (q : List ℕ) (lo : ℕ) → IsCut (λ c. is_before c q) cs lo → lo ≡ length (pairs_before (text_map cs vs) [] q)
   texts_before q lo low = count_before_is nibbles (text_pairs cs vs) texts_rise q lo (subst (λ ds. IsCut (λ c. is_before c q) ds lo) kept.frozen.keyed low)
 
-  -- the walk up from the last prefix of q
-  pub texts_up : (q : List ℕ) (r : ℕ) → IsLastPrefix cs (length cs) q r → prefixes_up nibbles (text_map cs vs) r ≡ reverse (pairs_above (text_map cs vs) q)
-  texts_up q r last = walk_up_whole nibbles (text_pairs cs vs) texts_rise q r (subst (λ ds. IsLastPrefix ds (length ds) q r) kept.frozen.keyed last)
+  -- the walk up to the last prefix of q
+  pub texts_above : (q : List ℕ) (r : ℕ) → IsLastPrefix cs (length cs) q r → reverse (prefixes_up nibbles (text_map cs vs) r) ≡ pairs_above (text_map cs vs) q
+  texts_above q r last = walk_down_whole nibbles (text_pairs cs vs) texts_rise q r (subst (λ ds. IsLastPrefix ds (length ds) q r) kept.frozen.keyed last)
 
   -- one step up: a pair, and the walk from its link on
   pub text_step : (i r : ℕ) (x : List ℕ × V) → i < length cs → slice_get (pairs_below (text_map cs vs) []) i ≡ Some x → IsLastPrefix cs i (code_at cs i) r

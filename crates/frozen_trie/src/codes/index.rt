@@ -156,7 +156,8 @@ fn put(slots: &mut [u32], first: usize, entry: u32)
 /// What a slot says of a list with a tag, where there are so many lists.
 fn slot_of(slot: u32, tag: u64, count: usize) -> Slot
     ensures free { result ≡ Slot.Free → slot ≡ 0 }
-    ensures other { result ≡ Slot.Other → (k : ℕ) → k < count → slot ≡ tag + (k + 1) → ⊥ }
+    ensures other { result ≡ Slot.Other → (k : ℕ) → k < count
+        → slot ≡ tag + (k + 1) → ⊥ }
     ensures holds { (i : ℕ) → result ≡ Slot.Holds i
         → (i < count) × (slot ≡ tag + (i + 1)) }
 {

@@ -1,5 +1,5 @@
 //! Keys and values that stand in a file as bytes.
-ghost use Rattle.std.specs.Prelude.{◌≡◌, ◌≢◌, ◌++◌, ℕ, List, IfOk, IfErr, OnOk};
+ghost use Rattle.std.specs.Prelude.{◌≡◌, ◌≢◌, ◌++◌, ℕ, List, IfNone, IfOk, IfSome, OnOk};
 
 use radix_keys::Memory;
 use std::alloc::Global;
@@ -7,15 +7,6 @@ use std::alloc::Global;
 mod networks;
 mod numbers;
 mod texts;
-
-/// Why a key or a value isn't made of the bytes that a file has.
-#[derive(Clone, Copy, PartialEq, Eq, Debug)]
-pub enum ItemError {
-    /// An allocation failed.
-    Memory,
-    /// The bytes are of no key or value of the type.
-    Malformed,
-}
 
 /// A key or a value that stands in a file as bytes.
 ///
@@ -40,16 +31,17 @@ pub trait FileItem {
         ensures bytes { OnOk result (out.new.items ≡ out.old.items ++ file_bytes self.now) }
         ensures item { OnOk result (is_item self.now) };
 
-    /// The item whose bytes these are.
+    /// The item whose bytes these are, or None only where no item has them.
     ///
     /// # Errors
     ///
-    /// `Malformed`, only where no item has these bytes; else memory.
-    fn of_file(bytes: &[u8], alloc: Global) -> Result<Self, ItemError>
-        ensures bytes { IfOk result (λ item. file_bytes item ≡ bytes.now) }
-        ensures item { IfOk result is_item }
-        ensures malformed { IfErr result (λ e. e ≡ ItemError.Malformed
-            → (item : Self) → is_item item → file_bytes item ≢ bytes.now) };
+    /// Memory is refused.
+    fn of_file(bytes: &[u8], alloc: Global) -> Result<Option<Self>, Memory>
+        ensures bytes { IfOk result
+            (λ found. IfSome found (λ item. file_bytes item ≡ bytes.now)) }
+        ensures item { IfOk result (λ found. IfSome found is_item) }
+        ensures malformed { IfOk result (λ found. IfNone found
+            ((item : Self) → is_item item → file_bytes item ≢ bytes.now)) };
 
     ghost told: { (x y : Self) → is_item x → is_item y → file_bytes x ≡ file_bytes y
         → is_same x y };

@@ -3,7 +3,7 @@ ghost use Rattle.std.specs.Prelude.{◌≡◌, ◌≢◌, ◌⊎◌, ℕ, ◌+�
 ghost use Rattle.frozen_trie.specs.FileRows.{IsRefusedRow};
 
 use crate::PushWhy;
-use crate::file::{FileItem, FileWhy, ItemError};
+use crate::file::{FileItem, FileWhy};
 use radix_keys::Memory;
 use std::alloc::Global;
 
@@ -65,9 +65,9 @@ pub(super) fn made<T: FileItem>(
         × ((item : T) → T.is_item item → T.file_bytes item ≢ bytes.now))) }
 {
     match T::of_file(bytes, alloc) {
-        Ok(item) => Ok(item),
-        Err(ItemError::Memory) => Err(FileWhy::Memory),
-        Err(ItemError::Malformed) => Err(malformed),
+        Ok(Some(item)) => Ok(item),
+        Ok(None) => Err(malformed),
+        Err(_) => Err(FileWhy::Memory),
     }
 }
 

@@ -64,7 +64,7 @@ impl<V: FileItem + Drop> Rows for FrozenTexts<V> {
 
 /// As a file.
 impl<V: FileItem + Drop> FrozenTexts<V> {
-    /// WritesInFull the map as a file: `FROZENTX`, the version 2 in 4 bytes, the count of pairs in 8; then for each pair, in the
+    /// Writes the map as a file: `FROZENTX`, the version 2 in 4 bytes, the count of pairs in 8; then for each pair, in the
     /// order of the keys, the count of the key's bytes in 4 bytes, the key, the count of the value's bytes in 4, and these.
     /// The low bytes of a number come first.
     ///

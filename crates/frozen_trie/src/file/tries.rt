@@ -65,7 +65,7 @@ impl<K: TrieKey + FileItem + Drop, V: FileItem + Drop> Rows for FrozenTrie<K, V>
 
 /// As a file.
 impl<K: TrieKey + FileItem + Drop, V: FileItem + Drop> FrozenTrie<K, V> {
-    /// WritesInFull the frozen trie as a file, as `FrozenTexts::write` writes a map: the pairs in the order of their encodings, and
+    /// Writes the frozen trie as a file, as `FrozenTexts::write` writes a map: the pairs in the order of their encodings, and
     /// of each the bytes that `FileItem` names, those of the key and those of the value.
     ///
     /// A write that is interrupted is made again. `out` is written to twice for each key and value, so it should have a

@@ -10,7 +10,7 @@ use crate::file::{MAGIC, VERSION};
 use std::io;
 use std::io::{Error, ErrorKind, Write};
 
-/// WritesInFull once. A write that is interrupted is made again.
+/// Writes once. A write that is interrupted is made again.
 fn write_again<W: Write>(out: &mut W, bytes: &[u8]) -> io::Result<usize>
     ensures bound { WritesAtMost result bytes.now }
     ensures bytes { WriteAppends (W.contents out.old) (W.contents out.new) result bytes.now }
@@ -28,7 +28,7 @@ fn write_again<W: Write>(out: &mut W, bytes: &[u8]) -> io::Result<usize>
     Err(ErrorKind::TimedOut.into())
 }
 
-/// WritesInFull some bytes. A write that takes none of them ends it.
+/// Writes some bytes. A write that takes none of them ends it.
 fn write_bytes<W: Write>(out: &mut W, bytes: &[u8]) -> io::Result<()>
     ensures { WritesInFull result (W.contents out.old) (W.contents out.new) bytes.now }
 {
@@ -44,7 +44,7 @@ fn write_bytes<W: Write>(out: &mut W, bytes: &[u8]) -> io::Result<()>
     Ok(())
 }
 
-/// WritesInFull what stands before the rows.
+/// Writes what stands before the rows.
 fn write_head<W: Write>(out: &mut W, count: u64) -> io::Result<()>
     ensures { WritesInFull result (W.contents out.old) (W.contents out.new) (head_of count) }
 {
@@ -60,7 +60,7 @@ fn count_of(bytes: &[u8]) -> Option<u32>
     u32::try_from(bytes.len()).ok()
 }
 
-/// WritesInFull bytes behind their count. `InvalidInput` where there are 2^32 or more.
+/// Writes bytes behind their count. `InvalidInput` where there are 2^32 or more.
 fn write_counted<W: Write>(out: &mut W, bytes: &[u8]) -> io::Result<()>
     ensures written { WritesInFull result (W.contents out.old) (W.contents out.new)
         (counted_bytes bytes.now) }
@@ -73,7 +73,7 @@ fn write_counted<W: Write>(out: &mut W, bytes: &[u8]) -> io::Result<()>
     write_bytes(out, bytes)
 }
 
-/// WritesInFull the row of a key's bytes and a value's.
+/// Writes the row of a key's bytes and a value's.
 fn write_row<W: Write>(out: &mut W, key: &[u8], value: &[u8]) -> io::Result<()>
     ensures written { WritesInFull result (W.contents out.old) (W.contents out.new)
         (row_of (key.now, value.now)) }
@@ -83,7 +83,7 @@ fn write_row<W: Write>(out: &mut W, key: &[u8], value: &[u8]) -> io::Result<()>
     write_counted(out, value)
 }
 
-/// WritesInFull a whole file.
+/// Writes a whole file.
 pub(super) fn write_all<W: Write, M: Rows>(out: &mut W, map: &M) -> io::Result<()>
     ensures written { WritesInFull result (W.contents out.old) (W.contents out.new)
         (file_of_rows (M.rows map.now)) }

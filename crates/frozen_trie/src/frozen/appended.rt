@@ -7,8 +7,8 @@ ghost use Rattle.frozen_trie.specs.Texts.{IsBehindAll};
 use crate::codes::Codes;
 use crate::frozen::FrozenTrie;
 use crate::linked::{follows, push_linked};
-use radix_keys::{Memory, TrieKey};
-use sorted_tables::{PushError, PushWhy};
+use radix_keys::{Memory, Refused, TrieKey};
+use sorted_tables::PushWhy;
 use std::alloc::Global;
 
 impl<K: TrieKey, V> FrozenTrie<K, V> {
@@ -49,7 +49,7 @@ impl<K: TrieKey, V> FrozenTrie<K, V> {
     /// In this order: the map holds 2^32 - 1 pairs; memory for the encoding is refused, which a light key
     /// never meets; the encoding doesn't come after all others; other memory is refused, or the encodings
     /// together would take 2^31 bytes or more. The pair comes back, and the map is as before.
-    pub fn push(&mut self, key: K, value: V) -> Result<(), PushError<(K, V)>>
+    pub fn push(&mut self, key: K, value: V) -> Result<(), Refused<PushWhy, (K, V)>>
         ensures stored { OnOk result
             (self.new ≡ map.insert self.old (K.encoding key) (key, value)) }
         ensures pairs { OnOk result
@@ -64,35 +64,35 @@ impl<K: TrieKey, V> FrozenTrie<K, V> {
             → map.len self.old < 2 ^ 32 - 1) }
         ensures memory { IfErr result (λ e. e.why ≡ PushWhy.Memory
             → K.is_light key → IsBehindAll self.old (K.encoding key)) }
-        ensures handed_back { IfErr result (λ e. e.value ≡ (key, value)) }
+        ensures handed_back { IfErr result (λ e. e.back ≡ (key, value)) }
         ensures unchanged { IfErr result (λ _. self.new ≡ self.old) }
     {
-        let value = (key, value);
+        let back = (key, value);
         if self.codes.is_full() {
             let why = PushWhy::Full;
-            return Err(PushError { why, value });
+            return Err(Refused { why, back });
         }
-        let Ok(list) = value.0.encode(self.alloc) else {
+        let Ok(list) = back.0.encode(self.alloc) else {
             let why = PushWhy::Memory;
-            return Err(PushError { why, value });
+            return Err(Refused { why, back });
         };
         let list = list.as_slice();
         if !follows(&self.codes, &list) {
             let why = PushWhy::Unsorted;
-            return Err(PushError { why, value });
+            return Err(Refused { why, back });
         }
         if self.pairs.reserve(1).is_err() {
             let why = PushWhy::Memory;
-            return Err(PushError { why, value });
+            return Err(Refused { why, back });
         }
         match push_linked(&mut self.codes, &mut self.up, &list) {
             Ok(()) => {
-                self.pairs.push_reserved(value);
+                self.pairs.push_reserved(back);
                 Ok(())
             }
             Err(_) => {
                 let why = PushWhy::Memory;
-                Err(PushError { why, value })
+                Err(Refused { why, back })
             }
         }
     }

@@ -12,8 +12,8 @@ use radix_keys::{Encoding, Memory, NibbleSlice, TrieKey};
 use radix_trie::FindError;
 
 impl<K: TrieKey, V> FrozenTrie<K, V> {
-    /// The value at a list of nibbles, for writing, if one is stored there. It allocates nothing.
-    pub fn at_mut(&mut self, list: &NibbleSlice<'_>) -> Option<&mut V>
+    /// The value at a list of nibbles, for writing, if one is stored there.
+    fn at_mut(&mut self, list: &NibbleSlice<'_>) -> Option<&mut V>
         ensures* writes_back { sem 𝓛
             (lends_stored K.row V.row K.TrieKey.own K.PartialEq.own self.entry list.now result) }
         ensures value { option_copied_mut result ≡ value_at self.old list.now }

@@ -8,8 +8,8 @@ ghost use Rattle.frozen_trie.specs.Texts.{IsBehindAll};
 use crate::codes::Codes;
 use crate::linked::{follows, push_linked};
 use crate::texts::FrozenTexts;
-use radix_keys::{Memory, NibbleSlice};
-use sorted_tables::{PushError, PushWhy};
+use radix_keys::{Memory, NibbleSlice, Refused};
+use sorted_tables::PushWhy;
 use std::alloc::Global;
 
 impl<V> FrozenTexts<V> {
@@ -50,7 +50,7 @@ impl<V> FrozenTexts<V> {
     /// In this order: the map holds 2^32 - 1 pairs; the key doesn't come after all others; memory is
     /// refused, or the keys together would take 2^31 bytes or more. The value comes back, and the map is
     /// as before.
-    pub fn push(&mut self, key: &[u8], value: V) -> Result<(), PushError<V>>
+    pub fn push(&mut self, key: &[u8], value: V) -> Result<(), Refused<PushWhy, V>>
         ensures stored { OnOk result
             (self.new ≡ map.insert self.old (nibbles key.now) (key.now, value)) }
         ensures pairs { OnOk result
@@ -64,21 +64,21 @@ impl<V> FrozenTexts<V> {
             → map.len self.old < 2 ^ 32 - 1) }
         ensures memory { IfErr result (λ e. e.why ≡ PushWhy.Memory
             → IsBehindAll self.old (nibbles key.now)) }
-        ensures handed_back { IfErr result (λ e. e.value ≡ value) }
+        ensures handed_back { IfErr result (λ e. e.back ≡ value) }
         ensures unchanged { IfErr result (λ _. self.new ≡ self.old) }
     {
         if self.codes.is_full() {
             let why = PushWhy::Full;
-            return Err(PushError { why, value });
+            return Err(Refused { why, back: value });
         }
         let list = NibbleSlice::from_bytes(key);
         if !follows(&self.codes, &list) {
             let why = PushWhy::Unsorted;
-            return Err(PushError { why, value });
+            return Err(Refused { why, back: value });
         }
         if self.values.reserve(1).is_err() {
             let why = PushWhy::Memory;
-            return Err(PushError { why, value });
+            return Err(Refused { why, back: value });
         }
         match push_linked(&mut self.codes, &mut self.up, &list) {
             Ok(()) => {
@@ -87,7 +87,7 @@ impl<V> FrozenTexts<V> {
             }
             Err(_) => {
                 let why = PushWhy::Memory;
-                Err(PushError { why, value })
+                Err(Refused { why, back: value })
             }
         }
     }

@@ -1,5 +1,5 @@
-//! The pairs whose keys are prefixes of some bytes, from the longest up or in order.
-ghost use Rattle.std.specs.Prelude.{◌≡◌, ◌-◌, ◌≤◌, IfSome, Some, length};
+//! The pairs whose keys are prefixes of some bytes, from the shortest to the longest.
+ghost use Rattle.std.specs.Prelude.{◌≡◌, ◌-◌, ◌≤◌, IfSome, Some, length, reverse};
 ghost use Rattle.std.specs.FinMap as map;
 ghost use Rattle.std.specs.Iterator.{UpTo, YieldsFirstBy, YieldsLastBy, at_most, item_count};
 ghost use Rattle.std.specs.Iterator.SizeHint.{IsWithinCount};
@@ -11,22 +11,22 @@ use crate::texts::FrozenTexts;
 use std::iter::FusedIterator;
 use std::marker::Model;
 
-/// A walk over pairs of which each later key is a prefix of the one before, from the longest to the shortest; from its other
-/// end, by `next_back` and `rev`, in order.
+/// A walk over pairs of which each key is a prefix of the next one, from the shortest to the longest; from its other end, by
+/// `next_back` and `rev`, from the longest on.
 ///
-/// Neither end allocates, and both go on returning None after the end; `next` takes constant time, `next_back` that of as many
-/// links as pairs are left. `len` is how many these are. A contract sees a walk as the list of the pairs that are left.
+/// Neither end allocates, and both go on returning None after the end; `next` takes the time of as many links as pairs are
+/// left, `next_back` constant time. `len` is how many these are. A contract sees a walk as the list of the pairs that are left.
 #[derive(Drop)]
 pub struct TextPrefixes<'a, V> {
     texts: &'a FrozenTexts<V>,
-    /// The index of the next pair and one more, or 0 where there is none.
-    next: usize,
+    /// The index of the last pair that is left and one more, or 0 where there is none.
+    last: usize,
     /// How many pairs are left.
     left: usize,
 }
 
 impl<'a, V> Model for TextPrefixes<'a, V> {
-    ghost use Rattle.std.specs.Prelude.{ℕ, List, ◌≤◌, length, take};
+    ghost use Rattle.std.specs.Prelude.{ℕ, List, ◌≤◌, length, reverse, take};
     ghost use Rattle.std.specs.FinMap as map;
 
     ghost Value = { List (List ℕ × V) };
@@ -34,25 +34,26 @@ impl<'a, V> Model for TextPrefixes<'a, V> {
     ghost use Rattle.nibble_map.specs.Nibbles.{nibbles};
     ghost use Rattle.frozen_trie.specs.Frozen.{prefixes_up};
 
-    ghost view = { λ walk. take walk.left (prefixes_up nibbles walk.texts.now walk.next) };
+    ghost view = { λ walk.
+        reverse (take walk.left (prefixes_up nibbles walk.texts.now walk.last)) };
 
-    ghost invariant = { λ walk. (walk.next ≤ map.len walk.texts.now)
-        × (walk.left ≤ length (prefixes_up nibbles walk.texts.now walk.next)) };
+    ghost invariant = { λ walk. (walk.last ≤ map.len walk.texts.now)
+        × (walk.left ≤ length (prefixes_up nibbles walk.texts.now walk.last)) };
 }
 
 impl<'a, V> TextPrefixes<'a, V> {
-    /// The walk from the pair on whose index and one more is `next`; over no pair at 0.
-    pub(super) fn new(texts: &'a FrozenTexts<V>, next: usize) -> TextPrefixes<'a, V>
-        requires { next ≤ map.len texts.now }
-        ensures { result ≡ prefixes_up nibbles texts.now next }
+    /// The walk up to the pair whose index and one more is `last`; over no pair at 0.
+    pub(super) fn new(texts: &'a FrozenTexts<V>, last: usize) -> TextPrefixes<'a, V>
+        requires { last ≤ map.len texts.now }
+        ensures { result ≡ reverse (prefixes_up nibbles texts.now last) }
     {
-        let (mut at, mut left) = (next, 0);
+        let (mut at, mut left) = (last, 0);
         while at > 0 {
             let (_, link) = texts.step_up(at - 1);
             at = link;
             left += 1;
         }
-        TextPrefixes { texts, next, left }
+        TextPrefixes { texts, last, left }
     }
 }
 
@@ -67,9 +68,13 @@ impl<'a, V> Iterator for TextPrefixes<'a, V> {
         if self.left == 0 {
             return None;
         }
-        let (pair, link) = self.texts.step_up(self.next - 1);
-        self.next = link;
-        self.left -= 1;
+        let others = self.left - 1;
+        let mut at = self.last;
+        for _up in 0..others {
+            (_, at) = self.texts.step_up(at - 1);
+        }
+        self.left = others;
+        let (pair, _) = self.texts.step_up(at - 1);
         Some(pair)
     }
 
@@ -90,13 +95,9 @@ impl<'a, V> DoubleEndedIterator for TextPrefixes<'a, V> {
         if self.left == 0 {
             return None;
         }
-        let last = self.left - 1;
-        let mut at = self.next;
-        for _up in 0..last {
-            (_, at) = self.texts.step_up(at - 1);
-        }
-        self.left = last;
-        let (pair, _) = self.texts.step_up(at - 1);
+        let (pair, link) = self.texts.step_up(self.last - 1);
+        self.last = link;
+        self.left -= 1;
         Some(pair)
     }
 }

@@ -8,7 +8,8 @@ ghost use Rattle.frozen_trie.specs.Texts.{byte_pairs};
 
 use crate::build::codes_and_links;
 use crate::texts::FrozenTexts;
-use sorted_tables::{SortedError, SortedWhy};
+use radix_keys::Refused;
+use sorted_tables::SortedWhy;
 use std::alloc::Global;
 
 impl<V: Drop> FrozenTexts<V> {
@@ -22,11 +23,11 @@ impl<V: Drop> FrozenTexts<V> {
     pub fn from_sorted(
         alloc: Global,
         pairs: Vec<(String, V)>,
-    ) -> Result<FrozenTexts<V>, SortedError<(String, V)>>
+    ) -> Result<FrozenTexts<V>, Refused<SortedWhy, Vec<(String, V)>>>
         ensures pairs { IfOk result
             (λ texts. texts ≡ pairs_in_order nibbles (byte_pairs pairs.items)) }
         ensures rising { OnOk result (IsRising (codes_of nibbles (byte_pairs pairs.items))) }
-        ensures handed_back { IfErr result (λ e. e.items ≡ pairs) }
+        ensures handed_back { IfErr result (λ e. e.back ≡ pairs) }
         ensures unsorted { IfErr result (λ e. (i : ℕ) → e.why ≡ SortedWhy.Unsorted i
             → IsFirstUnsorted (codes_of nibbles (byte_pairs pairs.items)) i) }
         ensures full { IfErr result (λ e. e.why ≡ SortedWhy.Full
@@ -35,11 +36,11 @@ impl<V: Drop> FrozenTexts<V> {
     {
         let (codes, up) = match codes_and_links(alloc, &pairs) {
             Ok(made) => made,
-            Err(why) => return Err(SortedError { why, items: pairs }),
+            Err(why) => return Err(Refused { why, back: pairs }),
         };
         let Ok(mut values) = Vec::with_capacity(alloc, pairs.len()) else {
             let why = SortedWhy::Memory;
-            return Err(SortedError { why, items: pairs });
+            return Err(Refused { why, back: pairs });
         };
         for (_, value) in pairs {
             values.push_reserved(value);

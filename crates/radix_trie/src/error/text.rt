@@ -3,8 +3,8 @@ ghost use Rattle.std.specs.Prelude.{Some};
 ghost use Rattle.radix_trie.specs.Errors.{of_graft, of_build, of_find, of_insert, of_json, of_merge, of_open, of_try_insert, of_view, text_of};
 
 use crate::error::{
-    BuildError, FindError, GraftError, GraftWhy, InsertError, InsertWhy, JsonError, MergeError,
-    OpenError, SubTrieError, TrieError, TryInsertError, TryInsertWhy,
+    BuildError, FindError, GraftWhy, InsertError, InsertWhy, JsonError, MergeError, OpenError,
+    SubTrieError, TrieError, TryInsertWhy,
 };
 use radix_keys::TrieKey;
 use std::error::Error;
@@ -130,44 +130,6 @@ impl<K, V> fmt::Debug for InsertError<K, V> {
 }
 
 impl<K: Drop, V: Drop> Error for InsertError<K, V> {}
-
-impl<K, V> fmt::Display for TryInsertError<K, V> {
-    ghost output = { λ refused. Some (text_of (of_try_insert refused.why)) };
-
-    fn fmt<W: fmt::Write>(&self, f: &mut fmt::Formatter<W>) -> fmt::Result {
-        fmt::Display::fmt(&self.why, f)
-    }
-}
-
-/// As `Display`: key and value may be of types that write nothing.
-impl<K, V> fmt::Debug for TryInsertError<K, V> {
-    ghost debug_output = { λ refused. Some (text_of (of_try_insert refused.why)) };
-
-    fn fmt<W: fmt::Write>(&self, f: &mut fmt::Formatter<W>) -> fmt::Result {
-        fmt::Display::fmt(self, f)
-    }
-}
-
-impl<K: Drop, V: Drop> Error for TryInsertError<K, V> {}
-
-impl<K: TrieKey, V> fmt::Display for GraftError<K, V> {
-    ghost output = { λ refused. Some (text_of (of_graft refused.why)) };
-
-    fn fmt<W: fmt::Write>(&self, f: &mut fmt::Formatter<W>) -> fmt::Result {
-        fmt::Display::fmt(&self.why, f)
-    }
-}
-
-/// As `Display`: keys and values may be of types that write nothing.
-impl<K: TrieKey, V> fmt::Debug for GraftError<K, V> {
-    ghost debug_output = { λ refused. Some (text_of (of_graft refused.why)) };
-
-    fn fmt<W: fmt::Write>(&self, f: &mut fmt::Formatter<W>) -> fmt::Result {
-        fmt::Display::fmt(self, f)
-    }
-}
-
-impl<K: TrieKey + Drop, V: Drop> Error for GraftError<K, V> {}
 
 impl<K: TrieKey, V> fmt::Display for MergeError<K, V> {
     ghost output = { λ refused. Some (text_of (of_merge refused)) };

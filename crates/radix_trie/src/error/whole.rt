@@ -4,10 +4,11 @@ ghost use Rattle.radix_trie.specs.declared.error.whole.TrieError.TheVariants.{Me
 ghost use Rattle.radix_trie.specs.Errors.{of_graft, of_build, of_bytes, of_find, of_insert, of_json, of_merge, of_open, of_parts, of_try_insert, of_view};
 
 use crate::error::{
-    BuildError, FindError, GraftError, GraftWhy, InsertError, InsertWhy, JsonError, MergeError,
-    OpenError, SubTrieError, TryInsertError, TryInsertWhy,
+    BuildError, FindError, GraftWhy, InsertError, InsertWhy, JsonError, MergeError, OpenError,
+    SubTrieError, TryInsertWhy,
 };
-use radix_keys::{BytesError, Memory, PartsError, TrieKey};
+use crate::trie::Trie;
+use radix_keys::{BytesError, Memory, PartsError, Refused, TrieKey};
 use std::alloc::AllocError;
 
 /// Why a call failed, whichever call it was.
@@ -87,10 +88,10 @@ impl From<TryInsertWhy> for TrieError {
 }
 
 /// The key and the value that were passed are dropped.
-impl<K: Drop, V: Drop> From<TryInsertError<K, V>> for TrieError {
+impl<K: Drop, V: Drop> From<Refused<TryInsertWhy, (K, V)>> for TrieError {
     ghost from_gives = { λ error e. e ≡ of_try_insert error.why };
 
-    fn from(error: TryInsertError<K, V>) -> TrieError {
+    fn from(error: Refused<TryInsertWhy, (K, V)>) -> TrieError {
         TrieError::from(error.why)
     }
 }
@@ -108,11 +109,20 @@ impl From<GraftWhy> for TrieError {
 }
 
 /// The trie that was passed is dropped.
-impl<K: TrieKey + Drop, V: Drop> From<GraftError<K, V>> for TrieError {
+impl<K: TrieKey + Drop, V: Drop> From<Refused<GraftWhy, Trie<K, V>>> for TrieError {
     ghost from_gives = { λ error e. e ≡ of_graft error.why };
 
-    fn from(error: GraftError<K, V>) -> TrieError {
+    fn from(error: Refused<GraftWhy, Trie<K, V>>) -> TrieError {
         TrieError::from(error.why)
+    }
+}
+
+/// The key that was passed is dropped.
+impl<K: Drop> From<Refused<Memory, K>> for TrieError {
+    ghost from_gives = { λ _ e. e ≡ memory };
+
+    fn from(_refused: Refused<Memory, K>) -> TrieError {
+        TrieError::Memory
     }
 }
 

@@ -9,13 +9,10 @@ ghost use Rattle.nibble_map.specs.Nibbles.{IsShort};
 ghost use Rattle.radix_trie.specs.Lends.{lends_behind};
 ghost use Rattle.radix_trie.specs.Refusals.{IsFullAt, JoinsAreShort, RefusesInsert};
 
-mod error;
-
 use crate::error::InsertError;
 use crate::place::PathList;
 use crate::trie::Trie;
-pub use error::EntryError;
-use radix_keys::{Memory, Nibblet, TrieKey};
+use radix_keys::{Memory, Nibblet, Refused, TrieKey};
 use radix_nodes::trie_node::KeyValue;
 
 // The parameter `P` lets a caller's proof follow the trie past the entry's end; it is always
@@ -64,7 +61,7 @@ impl<K: TrieKey, V> Trie<K, V> {
     /// ```
     ///
     /// `count` in `crates/trie_examples/src/tallies.rt` counts a word.
-    pub fn entry(&mut self, key: K) -> Result<Entry<'_, K, V>, EntryError<K>>
+    pub fn entry(&mut self, key: K) -> Result<Entry<'_, K, V>, Refused<Memory, K>>
         ensures* rests { sem 𝓛
             (entry_rests_if_err K.row V.row K.TrieKey.own K.PartialEq.own self.entry result) }
         ensures map { IfOk result (λ entry. entry_map entry ≡ self.old) }
@@ -72,7 +69,7 @@ impl<K: TrieKey, V> Trie<K, V> {
         ensures same_reference { IfOk result
             (λ entry. entry_lender entry ≡ self.entry.ghost_name) }
         ensures is_value { OnOk result (K.is_value key) }
-        ensures handed_back { IfErr result (λ e. e.key ≡ key) }
+        ensures handed_back { IfErr result (λ e. e.back ≡ key) }
         ensures light { K.is_light key → IsOk result }
     {
         match key.encode(self.allocator()) {
@@ -81,7 +78,10 @@ impl<K: TrieKey, V> Trie<K, V> {
                 key,
                 list,
             }),
-            Err(_) => Err(EntryError { key }),
+            Err(_) => Err(Refused {
+                why: Memory,
+                back: key,
+            }),
         }
     }
 }

@@ -10,9 +10,9 @@ ghost use Rattle.radix_trie.specs.Refusals.{IsFreeFor, RefusesGraft};
 ghost use Rattle.radix_trie.specs.Roots.{IsKept, map_of};
 ghost use Rattle.radix_trie.specs.Views.{pairs_below};
 
-use crate::error::{GraftError, GraftWhy};
+use crate::error::GraftWhy;
 use crate::trie::Trie;
-use radix_keys::TrieKey;
+use radix_keys::{Refused, TrieKey};
 use radix_nodes::insertion::graft_root::{Ungraftable, graft_root};
 use radix_nodes::trie_node::{TrieNode, has_pair};
 
@@ -50,7 +50,7 @@ impl<K: TrieKey + Drop, V: Drop> Trie<K, V> {
     /// ```
     ///
     /// `put_back` in `crates/trie_examples/src/cited.rt` grafts what it split off.
-    pub fn graft(&mut self, part: Trie<K, V>) -> Result<(), GraftError<K, V>>
+    pub fn graft(&mut self, part: Trie<K, V>) -> Result<(), Refused<GraftWhy, Trie<K, V>>>
         ensures grafted { OnOk result
             (self.new ≡ with_pairs K.encoding self.old (pairs_below part [])) }
         ensures apart { OnOk result
@@ -60,7 +60,7 @@ impl<K: TrieKey + Drop, V: Drop> Trie<K, V> {
         ensures keyed { OnOk result (IsKeyed K.encoding K.is_value self.old
             → IsKeyed K.encoding K.is_value part → IsKeyed K.encoding K.is_value self.new) }
 
-        ensures handed_back { IfErr result (λ e. e.part ≡ part) }
+        ensures handed_back { IfErr result (λ e. e.back ≡ part) }
         ensures unchanged { OnErr result (self.new ≡ self.old) }
 
         ensures none { map.len part ≡ 0 → IsOk result }
@@ -76,13 +76,13 @@ impl<K: TrieKey + Drop, V: Drop> Trie<K, V> {
         }
         if part.len() > usize::MAX - self.len() {
             let why = GraftWhy::Full;
-            return Err(GraftError { why, part });
+            return Err(Refused { why, back: part });
         }
         self.graft_some(part)
     }
 
     // The same, where neither is empty and the pairs of both can be counted.
-    fn graft_some(&mut self, part: Trie<K, V>) -> Result<(), GraftError<K, V>>
+    fn graft_some(&mut self, part: Trie<K, V>) -> Result<(), Refused<GraftWhy, Trie<K, V>>>
         requires some { 0 < map.len part }
         requires room { map.len self.old + map.len part < 2 ^ 64 }
         ensures grafted { OnOk result
@@ -92,7 +92,7 @@ impl<K: TrieKey + Drop, V: Drop> Trie<K, V> {
         ensures vacant { OnOk result (IsFreeFor self.old part) }
         ensures keyed { OnOk result (IsKeyed K.encoding K.is_value self.old
             → IsKeyed K.encoding K.is_value part → IsKeyed K.encoding K.is_value self.new) }
-        ensures handed_back { IfErr result (λ e. e.part ≡ part) }
+        ensures handed_back { IfErr result (λ e. e.back ≡ part) }
         ensures unchanged { OnErr result (self.new ≡ self.old) }
         ensures why { IfErr result (λ e. RefusesGraft self.old part e.why) }
     {
@@ -105,9 +105,9 @@ impl<K: TrieKey + Drop, V: Drop> Trie<K, V> {
         } = part;
         match self.graft_root(&mut root, length, nodes, nibbles) {
             Ok(()) => Ok(()),
-            Err(why) => Err(GraftError {
+            Err(why) => Err(Refused {
                 why,
-                part: Trie {
+                back: Trie {
                     root,
                     length,
                     nodes,

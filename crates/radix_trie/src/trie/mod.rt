@@ -13,7 +13,7 @@ ghost use Rattle.radix_trie.specs.Refusals.{IsFullAt};
 ghost use Rattle.radix_trie.specs.Walks.{deref_pair};
 
 use crate::iter::key_value_of;
-pub use entry::{Entry, EntryError};
+pub use entry::Entry;
 use radix_keys::{Memory, Nibblet, TrieKey};
 use radix_nodes::search::find::find;
 use radix_nodes::search::find_mut::value_at_mut;

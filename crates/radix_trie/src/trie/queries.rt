@@ -1,10 +1,11 @@
 //! Queries of a trie that make no view: what stands above and below a key's place.
-ghost use Rattle.std.specs.Prelude.{◌≡◌, IsOk, IfOk, option_copied};
+ghost use Rattle.std.specs.Prelude.{◌≡◌, IsOk, IfOk, option_copied, option_map};
 ghost use Rattle.std.specs.FinMap as map;
 ghost use Rattle.nibble_map.specs.Maps.{below};
-ghost use Rattle.radix_trie.specs.Views.{IsValueAbove, pairs_above};
+ghost use Rattle.radix_trie.specs.Views.{IsPairAbove, IsValueAbove, pairs_above, pairs_below};
+ghost use Rattle.radix_trie.specs.Walks.{deref_pair};
 
-use crate::iter::CommonPrefixes;
+use crate::iter::{CommonPrefixes, Cursor};
 use crate::place::Place;
 use crate::trie::Trie;
 use radix_keys::{Memory, TrieKey};
@@ -34,6 +35,38 @@ impl<K: TrieKey, V> Trie<K, V> {
     {
         let list = key.encode(self.allocator())?;
         Ok(self.nearest_value(&list))
+    }
+
+    /// The key and the value at the longest stored list that is a prefix of the key's encoding, or
+    /// None where there is none.
+    ///
+    /// # Errors
+    ///
+    /// `Memory`: the encoding's allocation fails; an inline key needs none.
+    pub fn longest_match<Q: TrieKey>(&self, key: &Q) -> Result<Option<(&K, &V)>, Memory>
+        ensures pair { IfOk result (λ found. IsPairAbove self.now (Q.encoding key.now)
+            (option_map deref_pair found)) }
+        ensures light { Q.is_light key.now → IsOk result }
+    {
+        let list = key.encode(self.allocator())?;
+        Ok(self.nearest(&list))
+    }
+
+    /// The walk over the pairs whose encodings begin with the key's, in order. It begins in the time
+    /// of a lookup, and allocates as it goes.
+    ///
+    /// The key needn't be stored, nor be a point.
+    ///
+    /// # Errors
+    ///
+    /// `Memory`: the encoding's allocation fails; an inline key needs none.
+    pub fn below<Q: TrieKey>(&self, key: &Q) -> Result<Cursor<'_, K, V>, Memory>
+        ensures walk { IfOk result
+            (λ walk. walk ≡ pairs_below self.now (Q.encoding key.now)) }
+        ensures light { Q.is_light key.now → IsOk result }
+    {
+        let list = key.encode(self.allocator())?;
+        Ok(Place::find(self, &list).cursor())
     }
 
     /// The count of pairs at and below the key's place. They are counted, so the time grows with

@@ -9,29 +9,30 @@ ghost use Rattle.radix_trie.specs.Lends.{lends_or_stored};
 ghost use Rattle.radix_trie.specs.Refusals.{IsFullAt, RefusesInsert, RefusesTryInsert};
 ghost use Rattle.radix_trie.specs.Values.{IsFilled};
 
-use crate::error::{InsertError, InsertWhy, TryInsertError, TryInsertWhy};
+use crate::error::{InsertError, InsertWhy, TryInsertWhy};
 use crate::trie::Trie;
 use crate::trie::edit::{encoding_of, refused};
-use radix_keys::{Nibblet, TrieKey};
+use radix_keys::{Nibblet, Refused, TrieKey};
 use radix_nodes::trie_node::KeyValue;
 
 /// The error that returns a pair.
-fn not_stored<K, V>(why: TryInsertWhy, pair: KeyValue<K, V>) -> TryInsertError<K, V>
+fn not_stored<K, V>(why: TryInsertWhy, pair: KeyValue<K, V>) -> Refused<TryInsertWhy, (K, V)>
     ensures why { result.why ≡ why }
-    ensures key { result.key ≡ pair.key }
-    ensures value { result.value ≡ pair.value }
+    ensures back { result.back ≡ (pair.key, pair.value) }
 {
     let KeyValue { key, value } = pair;
-    TryInsertError { why, key, value }
+    Refused {
+        why,
+        back: (key, value),
+    }
 }
 
 /// The error of a pair that replaces nothing by that of an insertion into a trie, where no key is
 /// outside.
-fn of_insertion<K, V>(error: InsertError<K, V>) -> TryInsertError<K, V>
+fn of_insertion<K, V>(error: InsertError<K, V>) -> Refused<TryInsertWhy, (K, V)>
     requires { error.why ≢ InsertWhy.Outside }
     ensures why { of_try_insert result.why ≡ of_insert error.why }
-    ensures key { result.key ≡ error.key }
-    ensures value { result.value ≡ error.value }
+    ensures back { result.back ≡ (error.key, error.value) }
 {
     let InsertError { why, key, value } = error;
     let why = match why {
@@ -39,7 +40,10 @@ fn of_insertion<K, V>(error: InsertError<K, V>) -> TryInsertError<K, V>
         InsertWhy::Full => TryInsertWhy::Full,
         InsertWhy::Outside => unreachable!(),
     };
-    TryInsertError { why, key, value }
+    Refused {
+        why,
+        back: (key, value),
+    }
 }
 
 impl<K: TrieKey + Drop, V: Drop> Trie<K, V> {
@@ -53,13 +57,13 @@ impl<K: TrieKey + Drop, V: Drop> Trie<K, V> {
     /// `Occupied`: a pair is stored there. `Full`: `usize::MAX` pairs are stored. `Memory`: an
     /// allocation for the change fails. On failure the trie is as before, and the error holds the
     /// key and value that were passed.
-    pub fn try_insert(&mut self, key: K, value: V) -> Result<(), TryInsertError<K, V>>
+    pub fn try_insert(&mut self, key: K, value: V) -> Result<(), Refused<TryInsertWhy, (K, V)>>
         ensures stored { OnOk result
             (self.new ≡ map.insert self.old (K.encoding key) (key, value)) }
         ensures vacant { OnOk result (IsStored self.old (K.encoding key) → ⊥) }
         ensures is_value { OnOk result (K.is_value key) }
 
-        ensures handed_back { IfErr result (λ e. (e.key ≡ key) × (e.value ≡ value)) }
+        ensures handed_back { IfErr result (λ e. e.back ≡ (key, value)) }
         ensures unchanged { OnErr result (self.new ≡ self.old) }
 
         ensures room { OnOk result (IsFullAt self.old (K.encoding key) → ⊥) }

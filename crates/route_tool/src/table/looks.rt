@@ -6,7 +6,7 @@ ghost use Rattle.route_tool.specs.Routes.{AreNetworks, IsLongestRoute, hop_of};
 use crate::hop::Hop;
 use crate::table::Routes;
 use frozen_networks::frozen_copy;
-use frozen_routes::FrozenRoutes;
+use frozen_routes::{FrozenRoutes, addresses_ask_as_networks};
 use radix_trie::{Address, Memory, Network, Trie, TrieKey};
 use std::alloc::Global;
 
@@ -128,7 +128,9 @@ impl<A: Address> Routes<A> {
         if self.frozen.rows.is_empty() {
             return find_in_trie(self.alloc, &self.trie, address);
         }
-        Ok(self.frozen.rows.look(address))
+        addresses_ask_as_networks::<A, Hop>();
+        self.frozen.rows.rows();
+        Ok(self.frozen.rows.longest_match(&address))
     }
 
     /// The hop of the longest network that holds the address.

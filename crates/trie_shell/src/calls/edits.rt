@@ -5,7 +5,7 @@ ghost use Rattle.trie_shell.specs.Answers.{TellsValue, StoresNumber, IsReread, T
 
 use crate::calls::lines::listed_lines;
 use radix_trie::{
-    FindError, InsertError, InsertWhy, Memory, SubTrieError, TrieEdit, TryInsertError, TryInsertWhy,
+    FindError, InsertError, InsertWhy, Memory, Refused, SubTrieError, TrieEdit, TryInsertWhy,
 };
 use shell_words::{Answer, Key, Kind, NO_KEY, NO_NUMBER, NONE};
 
@@ -54,12 +54,12 @@ pub fn refused_line(
 pub fn try_insert_line(
     answer: &mut Answer<'_>,
     given: Given<'_>,
-    outcome: Result<(), TryInsertError<Key, u64>>,
+    outcome: Result<(), Refused<TryInsertWhy, (Key, u64)>>,
 ) -> Result<(), Memory> {
     let Err(error) = outcome else {
         return answer.line("ok");
     };
-    note_pair(answer, given, &error.key, error.value)?;
+    note_pair(answer, given, &error.back.0, error.back.1)?;
     match error.why {
         TryInsertWhy::Memory => Err(Memory),
         _ if answer.is_other() => answer.refuse(OTHER),

@@ -3,7 +3,7 @@
 use crate::calls::Table;
 use crate::calls::edits::{Given, insert_line, note_pair, refused_line, written_or_none};
 use crate::calls::lines::{key_line, taken_line};
-use radix_trie::{EntryError, Memory};
+use radix_trie::{Memory, Refused};
 use shell_words::{Answer, Key, NO_KEY, NO_NUMBER};
 
 /// A call of the entry of the key that the next word writes. False: the call is none.
@@ -55,8 +55,12 @@ fn answer_at(
 }
 
 /// There is no entry for want of memory. Its key has come back.
-fn no_entry(answer: &mut Answer<'_>, word: &str, error: EntryError<Key>) -> Result<(), Memory> {
-    note_pair(answer, Given { word, value: 0 }, &error.key, 0)?;
+fn no_entry(
+    answer: &mut Answer<'_>,
+    word: &str,
+    error: Refused<Memory, Key>,
+) -> Result<(), Memory> {
+    note_pair(answer, Given { word, value: 0 }, &error.back, 0)?;
     Err(Memory)
 }
 

@@ -10,15 +10,11 @@ pub fn answer_keyed(trie: &Table, answer: &mut Answer<'_>) -> Result<bool, Memor
     match answer.name() {
         "get_counted"
         | "get_with_cost"
-        | "contains_key"
-        | "get_key_value"
         | "get_ancestor"
         | "get_ancestor_value"
         | "get_raw_ancestor"
         | "get_raw_descendant"
         | "subtrie"
-        | "common_prefixes"
-        | "count_below"
         | "first_below"
         | "first_after" => {}
         _ => return Ok(false),
@@ -44,11 +40,7 @@ fn answer_at(trie: &Table, key: &Key, answer: &mut Answer<'_>) -> Result<(), Mem
             answer.number(cost.nodes as u128)?;
             answer.count_line(cost.nibbles)
         }
-        "contains_key" => answer.truth_line(trie.contains_key(key)?),
-        "get_key_value" => pair_line(answer, trie.get_key_value(key)?),
         "get_ancestor_value" => answer.value_line(trie.get_ancestor_value(key)?.copied()),
-        "common_prefixes" => pair_lines(answer, trie.common_prefixes(key)?),
-        "count_below" => answer.count_line(trie.count_below(key)?),
         "first_below" => match answer.next_number() {
             Some(most) => pair_lines(answer, trie.first_below(key, most as usize)?.into_iter()),
             None => answer.refuse(NO_NUMBER),

@@ -9,8 +9,8 @@ use crate::calls::{FrozenTable, Table};
 use crate::request::read_call;
 use crate::tries::names::NO_NAME;
 use crate::tries::{NamedFrozen, Tries};
-use frozen_trie::{FreezeWhy, FrozenTrie, SortedError, SortedWhy, ThawError, freeze, frozen_copy};
-use radix_trie::{Memory, Trie};
+use frozen_trie::{FrozenTrie, SortedWhy, freeze, frozen_copy};
+use radix_trie::{BuildError, Memory, Refused, Trie};
 use shell_words::{Answer, Key, Words};
 use std::mem;
 
@@ -85,7 +85,7 @@ impl Tries {
         match freeze(mem::replace(&mut self.current.trie, none)) {
             Ok(frozen) => self.put_frozen(place, frozen, answer),
             Err(error) => {
-                self.current.trie = error.trie;
+                self.current.trie = error.back;
                 unfrozen_line(answer, error.why)
             }
         }
@@ -164,10 +164,10 @@ impl Tries {
 }
 
 /// Why a trie isn't frozen.
-fn unfrozen_line(answer: &mut Answer<'_>, why: FreezeWhy) -> Result<(), Memory> {
+fn unfrozen_line(answer: &mut Answer<'_>, why: BuildError) -> Result<(), Memory> {
     match why {
-        FreezeWhy::Memory => Err(Memory),
-        FreezeWhy::Full => answer.refuse("full"),
+        BuildError::Memory => Err(Memory),
+        BuildError::Full => answer.refuse("full"),
     }
 }
 
@@ -175,11 +175,11 @@ fn unfrozen_line(answer: &mut Answer<'_>, why: FreezeWhy) -> Result<(), Memory> 
 fn unsorted_line<'a>(
     answer: &mut Answer<'a>,
     words: Words<'a>,
-    error: SortedError<(Key, u64)>,
+    error: Refused<SortedWhy, Vec<(Key, u64)>>,
 ) -> Result<(), Memory> {
     answer.read_on(words);
     let is_same = match given_pairs(&mut *answer)? {
-        Some(given) => given.as_slice() == error.items.as_slice(),
+        Some(given) => given.as_slice() == error.back.as_slice(),
         None => false,
     };
     if !is_same {
@@ -201,7 +201,7 @@ fn thawed(frozen: FrozenTable, answer: &mut Answer<'_>) -> Result<Table, Memory>
         Ok(trie) => Ok(trie),
         Err(error) => {
             step_again(&mut *answer)?;
-            let whole = thawed_on(error);
+            let whole = thawed_on(error.back);
             if whole.is_err() {
                 answer.lose();
             }
@@ -211,11 +211,8 @@ fn thawed(frozen: FrozenTable, answer: &mut Answer<'_>) -> Result<Table, Memory>
 }
 
 /// Goes on where a refused `thaw` stopped, from the last pair that is left to the first.
-fn thawed_on(error: ThawError<Key, u64>) -> Result<Table, Memory> {
-    let ThawError {
-        mut pairs,
-        mut trie,
-    } = error;
+fn thawed_on(back: (Vec<(Key, u64)>, Table)) -> Result<Table, Memory> {
+    let (mut pairs, mut trie) = back;
     for _ in 0..pairs.len() {
         if let Some((key, value)) = pairs.pop()
             && trie.insert(key, value).is_err()

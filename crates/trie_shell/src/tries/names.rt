@@ -215,7 +215,7 @@ fn graft(trie: &mut Table, part: &mut Table, answer: &mut Answer<'_>) -> Result<
     match trie.graft(mem::replace(part, Trie::new(answer.alloc()))) {
         Ok(()) => answer.line("ok"),
         Err(error) => {
-            *part = error.part;
+            *part = error.back;
             match error.why {
                 GraftWhy::Memory => Err(Memory),
                 GraftWhy::Full => answer.refuse("full"),

@@ -5,7 +5,7 @@ ghost use Rattle.radix_trie.specs.Maps.{with_value};
 ghost use Rattle.radix_trie.specs.Values.{IsFilled};
 
 use crate::samples::{Texts, texts};
-use radix_trie::{EntryError, Trie, TrieError, TrieKey};
+use radix_trie::{Memory, Refused, Trie, TrieError, TrieKey};
 use std::process::Abort;
 
 /// Stores the pair where nothing is stored at its key. Whether it is stored so.
@@ -69,7 +69,7 @@ fn replaced(
     let entry = match trie.entry(key) {
         Ok(entry) => entry,
         Err(error) => {
-            assert!(rt; error.key == key);
+            assert!(rt; error.back == key);
             return Err(TrieError::from(error));
         }
     };
@@ -167,7 +167,10 @@ fn defaults_are_made_by_entries(rt: HostRuntime) -> Result<(), TrieError> {
 #[test]
 fn refused_entries_are_told(rt: HostRuntime) -> Result<(), TrieError> {
     let a = rt.alloc();
-    let refused = EntryError { key: 5u8 };
+    let refused = Refused {
+        why: Memory,
+        back: 5u8,
+    };
     assert!(rt;
         format!(in a; "{refused}, {refused:?}")?.as_str() == "out of memory, out of memory"
     );

@@ -8,6 +8,7 @@ use Rattle.flat_texts.specs.TextImages.{given_pair, image_pairs}
 use Rattle.flat_texts.proofs.TableLemmas.{taken_next}
 use Rattle.flat_tries.specs.TrieImages.{IsForeignPair}
 use Rattle.flat_tries.specs.ValueImages.{IsPlacedPair, LacksValue}
+use Rattle.flat_tries.proofs.KeyLemmas.{none_has, some_has}
 use Rattle.flat_tries.proofs.ZipLemmas.{zip_both}
 use Rattle.flat_tries.proofs.values.from_image_of_values.Goals as goal
 
@@ -23,18 +24,18 @@ loop-at-preserved g c =
     let all = image_pairs c.args.image.now in
     zip_both (IsPlacedPair g.V.FileItem.file_bytes g.V.FileItem.is_item g.K.TrieKey.encoding c.own_bytes-own.result.now)
     (take at all) (take (at + 1) all) (pairs_below c.loop-at.trie []) (pairs_below c.push.new.self [])
-    pair (c.in-Ok-of_image.key, c.in-Ok-value_at.value) c.loop-at.invariant
-    (record { key = c.in-Ok-of_image.ensures.encoded; value = c.in-Ok-value_at.ensures.value })
+    pair (c.in-Ok-Some.key, c.in-Ok-Some-value_at.value) c.loop-at.invariant
+    (record { key = some_has _ _ _ c.in-Ok-Some.field-0-is c.in-Ok-Some.ensures.encoded; value = some_has _ _ _ c.in-Ok-Some-value_at.field-0-is c.in-Ok-Some-value_at.ensures.value })
     (taken_next all at pair (c.in-Some.ensures (c.in-Ok.ensures.image.0 refl))) c.in-Ok-push.ensures.pairs
 
-pub returns-in-Err-Malformed-clause-key : goal.returns-in-Err-Malformed-clause-key
-returns-in-Err-Malformed-clause-key g c = λ i told.
+pub returns-in-Ok-None-clause-key : goal.returns-in-Ok-None-clause-key
+returns-in-Ok-None-clause-key g c = λ i told.
     let same : c.loop-at.at ≡ i = cc told in
     subst (IsForeignPair g.K.TrieKey.encoding g.K.TrieKey.is_value (image_pairs c.args.image.now)) same
-    (given_pair c.in-Some.pair, sym (c.in-Some.ensures (c.in-Ok.ensures.image.0 refl)), c.in-Err-Malformed.ensures.malformed (cc c.in-Err-Malformed.field-0-is))
+    (given_pair c.in-Some.pair, sym (c.in-Some.ensures (c.in-Ok.ensures.image.0 refl)), none_has _ _ c.in-Ok-None.field-0-is c.in-Ok-None.ensures.malformed)
 
-pub returns-in-Err-Malformed-value_at-clause-value : goal.returns-in-Err-Malformed-value_at-clause-value
-returns-in-Err-Malformed-value_at-clause-value g c = λ i told.
+pub returns-in-Ok-None-value_at-clause-value : goal.returns-in-Ok-None-value_at-clause-value
+returns-in-Ok-None-value_at-clause-value g c = λ i told.
     let same : c.loop-at.at ≡ i = cc told in
     subst (LacksValue g.V.FileItem.file_bytes g.V.FileItem.is_item c.args.image.now) same
     (record {
@@ -42,7 +43,7 @@ returns-in-Err-Malformed-value_at-clause-value g c = λ i told.
       are_own = c.own_bytes-own.ensures;
       pair = given_pair c.in-Some.pair;
       stored = sym (c.in-Some.ensures (c.in-Ok.ensures.image.0 refl));
-      lacks = c.in-Err-Malformed-value_at.ensures.malformed (cc c.in-Err-Malformed-value_at.field-0-is);
+      lacks = none_has _ _ c.in-Ok-None-value_at.field-0-is c.in-Ok-None-value_at.ensures.malformed;
     })
 
 pub returns-clause-pairs : goal.returns-clause-pairs

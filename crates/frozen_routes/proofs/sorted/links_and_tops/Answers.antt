@@ -1,23 +1,22 @@
 use Rattle.std.proofs.Common.{◌≡◌, ◌+◌, ◌++◌, [], ◌∷◌, ◌<◌, ◌^◌, length, take, refl, sym, subst, arith, get_or}
 use Rattle.std.proofs.lemmas.List.{length-take, take_all, take_more}
-use Rattle.frozen_routes.specs.Routes.{IsFirstOutOfOrder, AreRowsInOrder, AreUplinks, base_numbers, bit_counts}
+use Rattle.frozen_routes.specs.Routes.{AreRowsInOrder, AreUplinks, base_numbers, bit_counts}
 use Rattle.frozen_routes.proofs.RouteLemmas.Growing.{linked_row, table_less, topped}
 use Rattle.frozen_routes.proofs.sorted.links_and_tops.Goals as goal
 
-pub returns-in_default-link_after-clause-unsorted : goal.returns-in_default-link_after-clause-unsorted
-returns-in_default-link_after-clause-unsorted g c = λ k e.
+pub returns-in_default-clause-unsorted : goal.returns-in_default-clause-unsorted
+returns-in_default-clause-unsorted g c =
     let w = g.A.Address.BITS in
     let number = g.A.Address.number in
     let rows = c.args.rows.now in
     let i = c.loop-i.i in
     let row = get_or rows i c.index-rows-i.result in
-    let same : i ≡ k = cc e in
     let step : take (i + 1) rows ≡ take i rows ++ row ∷ [] = take_more rows i c.index-rows-i.result c.loop-i-test.true in
-    subst (IsFirstOutOfOrder w number rows) same (record {
+    record {
       within = c.loop-i-test.true;
       before = c.loop-i.invariant.linked.rising;
-      unsorted = λ h. c.in_default-link_after.ensures (table_less w number (take i rows) row (subst (AreRowsInOrder w number) step h));
-    })
+      unsorted = λ h. c.in_default.ensures (table_less w number (take i rows) row (subst (AreRowsInOrder w number) step h));
+    }
 
 pub loop-i-preserved : goal.loop-i-preserved
 loop-i-preserved g c =
@@ -26,12 +25,14 @@ loop-i-preserved g c =
     let rows = c.args.rows.now in
     let i = c.loop-i.i in
     let row = get_or rows i c.index-rows-i.result in
-    let tops = c.in-Ok-with_room.tops in
+    let tops = c.room.inside.tops in
+    let held = c.room.invariant in
+    let limit = held.0 in
     let step : take (i + 1) rows ≡ take i rows ++ row ∷ [] = take_more rows i c.index-rows-i.result c.loop-i-test.true in
-    let few : length (take i rows) + 1 < 2 ^ 32 = omega (arith, length-take i rows, c.loop-i-test.true, c.if-count.false) in
+    let few : length (take i rows) + 1 < 2 ^ 32 = omega (arith, length-take i rows, c.loop-i-test.true, c.requires, c.room.view_is, limit) in
     record {
       linked = linked_row w number (take i rows) row c.loop-i.up.items _ tops.rest tops.rest tops.cells.items _ tops.uppers.items _ _ c.in-Some.link c.loop-i.invariant.linked few c.in-Some.ensures.0 c.in-Some.ensures.1 step
-          c.push_reserved.ensures.items c.in-Ok-with_room.ensures.rest c.in-Ok-with_room.ensures.cells c.in-Ok-with_room.ensures.uppers;
+          c.push_reserved.ensures.items held.3 held.4 held.5;
       len = omega (arith, c.push_reserved.ensures.len, c.loop-i.invariant.len);
       room = omega (arith, c.push_reserved.ensures.capacity, c.loop-i.invariant.room);
     }
@@ -42,18 +43,8 @@ returns-clause-ok g c =
     let number = g.A.Address.number in
     let rows = c.args.rows.now in
     let i = c.loop-i.i in
-    let tops = c.in-Ok-with_room.tops in
+    let tops = c.room.inside.tops in
     topped w number (take i rows) rows c.loop-i.up.items _ tops.rest tops.cells.items tops.uppers.items _ _ _ c.loop-i.invariant.linked (sym (take_all i rows (omega (arith, c.loop-i-test.false)))) refl c.filled-tops.ensures.cells c.filled-tops.ensures.uppers
-
-pub link_after-requires-clause-rising : goal.link_after-requires-clause-rising
-link_after-requires-clause-rising g c = c.loop-i.invariant.linked.rising
-
-pub link_after-requires-clause-links : goal.link_after-requires-clause-links
-link_after-requires-clause-links g c = rw (c.deref.ensures.value) c.loop-i.invariant.linked.links
-
-pub filled-tops-requires-clause-rising : goal.filled-tops-requires-clause-rising
-filled-tops-requires-clause-rising g c =
-    subst (AreRowsInOrder g.A.Address.BITS g.A.Address.number) (take_all c.loop-i.i c.args.rows.now (omega (arith, c.loop-i-test.false))) c.loop-i.invariant.linked.rising
 
 pub filled-tops-requires-clause-links : goal.filled-tops-requires-clause-links
 filled-tops-requires-clause-links g c =

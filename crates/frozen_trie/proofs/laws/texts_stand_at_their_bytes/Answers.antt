@@ -15,6 +15,7 @@ returns g c =
     let m = c.args.texts.now in
     let at = at_encodings nibbles m c.is_of_its_pairs.ensures.mapped c.is_of_its_pairs.ensures.rising in
     record {
+      stored = at;
       found = λ bytes p h. sym (packed_bytes-nibbles p.0) ∙ ap packed_bytes (sym (at (nibbles bytes) p h)) ∙ packed_bytes-nibbles bytes;
       below = λ start p.
           let held = below_holds nibbles m at (nibbles start) p in

@@ -4,7 +4,7 @@ ghost use Rattle.std.specs.Net.Addr.{ipv4_bits, ipv4_octets, ipv6_bits, ipv6_oct
 ghost use Rattle.std.specs.declared.net.ipv6_addr.Ipv6Addr.{Ipv6Addr};
 ghost use Rattle.frozen_trie.specs.FileItems.{IsNetItem, same_parts};
 
-use crate::file::item::{FileItem, ItemError, append};
+use crate::file::item::{FileItem, append};
 use radix_keys::{Memory, Network};
 use std::alloc::Global;
 use std::net::{Ipv4Addr, Ipv6Addr};
@@ -27,16 +27,16 @@ impl FileItem for Network<Ipv4Addr> {
         append(&self.base().octets(), out)
     }
 
-    fn of_file(bytes: &[u8], _alloc: Global) -> Result<Network<Ipv4Addr>, ItemError> {
+    fn of_file(bytes: &[u8], _alloc: Global) -> Result<Option<Network<Ipv4Addr>>, Memory> {
         let Some((bits, octets)) = bytes.split_first() else {
-            return Err(ItemError::Malformed);
+            return Ok(None);
         };
         let Ok(octets) = <[u8; 4]>::try_from(octets) else {
-            return Err(ItemError::Malformed);
+            return Ok(None);
         };
         match Network::new(Ipv4Addr::from_octets(octets), *bits) {
-            Some(network) => Ok(network),
-            None => Err(ItemError::Malformed),
+            Some(network) => Ok(Some(network)),
+            None => Ok(None),
         }
     }
 }
@@ -59,16 +59,16 @@ impl FileItem for Network<Ipv6Addr> {
         append(&self.base().octets(), out)
     }
 
-    fn of_file(bytes: &[u8], _alloc: Global) -> Result<Network<Ipv6Addr>, ItemError> {
+    fn of_file(bytes: &[u8], _alloc: Global) -> Result<Option<Network<Ipv6Addr>>, Memory> {
         let Some((bits, octets)) = bytes.split_first() else {
-            return Err(ItemError::Malformed);
+            return Ok(None);
         };
         let Ok(octets) = <[u8; 16]>::try_from(octets) else {
-            return Err(ItemError::Malformed);
+            return Ok(None);
         };
         match Network::new(ipv6_of(octets), *bits) {
-            Some(network) => Ok(network),
-            None => Err(ItemError::Malformed),
+            Some(network) => Ok(Some(network)),
+            None => Ok(None),
         }
     }
 }
@@ -76,7 +76,8 @@ impl FileItem for Network<Ipv6Addr> {
 /// The address of these bytes, the highest first.
 fn ipv6_of(octets: [u8; 16]) -> Ipv6Addr
     ensures bytes { ipv6_octets result ≡ octets }
-    ensures number { (a : Ipv6Addr) → ipv6_octets a ≡ octets → ipv6_bits a ≡ ipv6_bits result }
+    ensures number { (a : Ipv6Addr) → ipv6_octets a ≡ octets
+        → ipv6_bits a ≡ ipv6_bits result }
 {
     Ipv6Addr::from_octets(octets)
 }

@@ -3,7 +3,7 @@ ghost use Rattle.std.specs.Prelude.{◌≡◌, ◌<◌, ◌^◌, [], ◌∷◌};
 ghost use Rattle.std.specs.Int.{w16, w32, w64, to_le_bytes};
 ghost use Rattle.frozen_trie.specs.FileItems.{same_u8, same_u16, same_u32, same_u64};
 
-use crate::file::item::{FileItem, ItemError, append};
+use crate::file::item::{FileItem, append};
 use crate::file::parts::{u16_of, u32_of, u64_of};
 use radix_keys::Memory;
 use std::alloc::Global;
@@ -21,11 +21,11 @@ impl FileItem for u8 {
         append(&[*self], out)
     }
 
-    fn of_file(bytes: &[u8], _alloc: Global) -> Result<u8, ItemError> {
+    fn of_file(bytes: &[u8], _alloc: Global) -> Result<Option<u8>, Memory> {
         if bytes.len() == 1 {
-            Ok(bytes[0])
+            Ok(Some(bytes[0]))
         } else {
-            Err(ItemError::Malformed)
+            Ok(None)
         }
     }
 }
@@ -43,10 +43,10 @@ impl FileItem for u16 {
         append(&self.to_le_bytes(), out)
     }
 
-    fn of_file(bytes: &[u8], _alloc: Global) -> Result<u16, ItemError> {
+    fn of_file(bytes: &[u8], _alloc: Global) -> Result<Option<u16>, Memory> {
         match <[u8; 2]>::try_from(bytes) {
-            Ok(bytes) => Ok(u16_of(bytes)),
-            Err(_) => Err(ItemError::Malformed),
+            Ok(bytes) => Ok(Some(u16_of(bytes))),
+            Err(_) => Ok(None),
         }
     }
 }
@@ -64,10 +64,10 @@ impl FileItem for u32 {
         append(&self.to_le_bytes(), out)
     }
 
-    fn of_file(bytes: &[u8], _alloc: Global) -> Result<u32, ItemError> {
+    fn of_file(bytes: &[u8], _alloc: Global) -> Result<Option<u32>, Memory> {
         match <[u8; 4]>::try_from(bytes) {
-            Ok(bytes) => Ok(u32_of(bytes)),
-            Err(_) => Err(ItemError::Malformed),
+            Ok(bytes) => Ok(Some(u32_of(bytes))),
+            Err(_) => Ok(None),
         }
     }
 }
@@ -85,10 +85,10 @@ impl FileItem for u64 {
         append(&self.to_le_bytes(), out)
     }
 
-    fn of_file(bytes: &[u8], _alloc: Global) -> Result<u64, ItemError> {
+    fn of_file(bytes: &[u8], _alloc: Global) -> Result<Option<u64>, Memory> {
         match <[u8; 8]>::try_from(bytes) {
-            Ok(bytes) => Ok(u64_of(bytes)),
-            Err(_) => Err(ItemError::Malformed),
+            Ok(bytes) => Ok(Some(u64_of(bytes))),
+            Err(_) => Ok(None),
         }
     }
 }

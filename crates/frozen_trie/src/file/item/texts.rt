@@ -1,7 +1,7 @@
 //! Texts and bytes in a file, as they are.
 ghost use Rattle.std.specs.Prelude.{◌≡◌, List, ℕ, string_bytes};
 
-use crate::file::item::{FileItem, ItemError, append};
+use crate::file::item::{FileItem, append};
 use radix_keys::Memory;
 use std::alloc::Global;
 
@@ -18,13 +18,13 @@ impl FileItem for String {
         append(self.as_bytes(), out)
     }
 
-    fn of_file(bytes: &[u8], alloc: Global) -> Result<String, ItemError> {
+    fn of_file(bytes: &[u8], alloc: Global) -> Result<Option<String>, Memory> {
         let Ok(text) = str::from_utf8(bytes) else {
-            return Err(ItemError::Malformed);
+            return Ok(None);
         };
         match String::from_str(alloc, text) {
-            Ok(text) => Ok(text),
-            Err(_) => Err(ItemError::Memory),
+            Ok(text) => Ok(Some(text)),
+            Err(_) => Err(Memory),
         }
     }
 }
@@ -42,10 +42,10 @@ impl FileItem for Vec<u8> {
         append(self, out)
     }
 
-    fn of_file(bytes: &[u8], alloc: Global) -> Result<Vec<u8>, ItemError> {
+    fn of_file(bytes: &[u8], alloc: Global) -> Result<Option<Vec<u8>>, Memory> {
         match Vec::from_slice(alloc, bytes) {
-            Ok(items) => Ok(items),
-            Err(_) => Err(ItemError::Memory),
+            Ok(items) => Ok(Some(items)),
+            Err(_) => Err(Memory),
         }
     }
 }

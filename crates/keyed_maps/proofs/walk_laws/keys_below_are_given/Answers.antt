@@ -8,9 +8,10 @@ returns g c =
     let is = g.K.TrieKey.is_value in
     let eq = g.K.PartialEq.eq in
     let tells = g.met.K.TrieKey.distinct in
+    let at = walks.placed enc is in
     record {
-      given = λ m keyed e. walks.given_below enc is eq m keyed e tells;
-      begins = λ m keyed e. walks.begins_below enc is eq m keyed e;
-      has_value = λ m keyed e. walks.value_below enc is eq m keyed e;
+      given = λ m keyed e. walks.given_below enc m (at m keyed) e is eq keyed tells;
+      begins = λ m keyed e. walks.begins_below enc m (at m keyed) e;
+      has_value = λ m keyed e. walks.value_below enc m (at m keyed) e;
       count = λ m e. len-pairs_below m e;
     }

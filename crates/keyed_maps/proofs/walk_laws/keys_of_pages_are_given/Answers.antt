@@ -7,9 +7,10 @@ returns g c =
     let is = g.K.TrieKey.is_value in
     let eq = g.K.PartialEq.eq in
     let tells = g.met.K.TrieKey.distinct in
+    let at = walks.placed enc is in
     record {
-      given = λ m keyed e last most. walks.given_page enc is eq m keyed e last most tells;
-      begins = λ m keyed e last most. walks.begins_page enc is eq m keyed e last most;
-      after = λ m keyed e last most. walks.after_page enc is eq m keyed e last most;
-      has_value = λ m keyed e last most. walks.value_page enc is eq m keyed e last most;
+      given = λ m keyed e last most. walks.given_page enc m (at m keyed) e last most is eq keyed tells;
+      begins = λ m keyed e last most. walks.begins_page enc m (at m keyed) e last most;
+      after = λ m keyed e last most. walks.after_page enc m (at m keyed) e last most;
+      has_value = λ m keyed e last most. walks.value_page enc m (at m keyed) e last most;
     }

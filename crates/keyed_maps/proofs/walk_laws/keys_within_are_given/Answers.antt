@@ -7,8 +7,9 @@ returns g c =
     let is = g.K.TrieKey.is_value in
     let eq = g.K.PartialEq.eq in
     let tells = g.met.K.TrieKey.distinct in
+    let at = walks.placed enc is in
     record {
-      given = λ m keyed low high. walks.given_within enc is eq m keyed low high tells;
-      within = λ m keyed low high. walks.inside_within enc is eq m keyed low high;
-      has_value = λ m keyed low high. walks.value_within enc is eq m keyed low high;
+      given = λ m keyed low high. walks.given_within enc m (at m keyed) low high is eq keyed tells;
+      within = λ m keyed low high. walks.inside_within enc m (at m keyed) low high;
+      has_value = λ m keyed low high. walks.value_within enc m (at m keyed) low high;
     }

@@ -1,7 +1,7 @@
 use Rattle.std.proofs.Common.{length, subst, ◌∙◌, arith}
 use Rattle.nibble_map.specs.Lists.{IsRising}
 use Rattle.frozen_trie.specs.Codes.{IsLastPrefix}
-use Rattle.frozen_trie.proofs.FrozenLemmas.Prefixes.{walk_up_whole}
+use Rattle.frozen_trie.proofs.FrozenLemmas.Prefixes.{walk_down_whole}
 use Rattle.frozen_trie.proofs.FrozenLemmas.Queries.{as_many}
 use Rattle.frozen_trie.proofs.FrozenLemmas.Rows.{len_is}
 use Rattle.frozen_trie.proofs.frozen.FrozenTrie.common_prefixes.Goals as goal
@@ -11,13 +11,15 @@ new-requires g c =
     let enc = g.K.TrieKey.encoding in
     let ps = c.self.inside.pairs.items in
     let rises = subst IsRising c.self.invariant.keyed c.self.invariant.linked.rising in
-    let last = subst (λ cs. IsLastPrefix cs (length cs) c.args.list.now c.last_prefix.result) c.self.invariant.keyed c.last_prefix.ensures in
+    let last = subst (λ cs. IsLastPrefix cs (length cs) c.as_slice.result c.last_prefix-last.result) c.self.invariant.keyed c.last_prefix-last.ensures in
     rw (← c.self.view_is) (omega (arith, last.within, as_many enc ps rises, len_is enc ps rises))
 
-pub returns : goal.returns
-returns g c =
+pub returns-clause-walk : goal.returns-clause-walk
+returns-clause-walk g c =
     let enc = g.K.TrieKey.encoding in
     let ps = c.self.inside.pairs.items in
     let rises = subst IsRising c.self.invariant.keyed c.self.invariant.linked.rising in
-    let last = subst (λ cs. IsLastPrefix cs (length cs) c.args.list.now c.last_prefix.result) c.self.invariant.keyed c.last_prefix.ensures in
-    record { walk = c.new.ensures ∙ rw (← c.self.view_is) (walk_up_whole enc ps rises c.args.list.now c.last_prefix.result last) }
+    let r = c.last_prefix-last.result in
+    let cs = c.self.inside.codes in
+    let last = subst (λ q. IsLastPrefix cs (length cs) q r) (c.as_slice.ensures ∙ c.in_ok-list.ensures.ok) c.last_prefix-last.ensures in
+    c.new.ensures ∙ rw (← c.self.view_is) (walk_down_whole enc ps rises _ r (subst (λ cs. IsLastPrefix cs (length cs) (g.Q.TrieKey.encoding c.args.key.now) r) c.self.invariant.keyed last))

@@ -1,54 +1,18 @@
-use Rattle.std.proofs.Common.{◌≡◌, ◌+◌, ◌-◌, ◌++◌, [], ◌∷◌, take, refl, sym, ap, ◌∙◌, arith}
+use Rattle.std.proofs.Common.{◌≡◌, suc, ◌+◌, ◌-◌, [], ◌∷◌, reverse, take, refl, sym, ap, ◌∙◌, arith}
+use Rattle.std.proofs.lemmas.List.{reverse-append}
 use Rattle.radix_trie.specs.Walks.{deref_pair}
 use Rattle.frozen_trie.specs.Frozen.{prefixes_up}
-use Rattle.sorted_tables.proofs.TableLemmas.Ups.{last_up, one_up, some_left}
+use Rattle.sorted_tables.proofs.TableLemmas.Ups.{some_left}
 use Rattle.frozen_trie.proofs.prefixes.CommonPrefixesDoubleEndedIterator.next_back.Goals as goal
-
-pub overflow_sub-at : goal.overflow_sub-at
-overflow_sub-at g c =
-    let up = prefixes_up g.K.TrieKey.encoding c.self.inside.frozen.now in
-    let some = some_left up refl (up c.self.inside.next) c.loop-up._up c.loop-up.at c.loop-up.invariant.rest (omega (arith, c.loop-up-test.true, c.self.invariant.1)) in
-    omega (arith, some)
-
-pub step_up-requires : goal.step_up-requires
-step_up-requires g c =
-    let up = prefixes_up g.K.TrieKey.encoding c.self.inside.frozen.now in
-    let some = some_left up refl (up c.self.inside.next) c.loop-up._up c.loop-up.at c.loop-up.invariant.rest (omega (arith, c.loop-up-test.true, c.self.invariant.1)) in
-    omega (arith, some, c.loop-up.invariant.within)
-
-pub loop-up-preserved : goal.loop-up-preserved
-loop-up-preserved g c =
-    let up = prefixes_up g.K.TrieKey.encoding c.self.inside.frozen.now in
-    let some = some_left up refl (up c.self.inside.next) c.loop-up._up c.loop-up.at c.loop-up.invariant.rest (omega (arith, c.loop-up-test.true, c.self.invariant.1)) in
-    let back : c.loop-up.at ≡ c.loop-up.at - 1 + 1 = omega (arith, some) in
-    record {
-      rest = one_up up refl (up c.self.inside.next) c.loop-up._up c.loop-up.at c.step_up.result.1 (deref_pair c.step_up.result.0) c.loop-up.invariant.rest (ap up back ∙ c.step_up.ensures.walk);
-      within = omega (arith, c.step_up.ensures.within, c.loop-up.invariant.within);
-    }
-
-pub overflow_sub-at-2 : goal.overflow_sub-at-2
-overflow_sub-at-2 g c =
-    let up = prefixes_up g.K.TrieKey.encoding c.self.inside.frozen.now in
-    let some = some_left up refl (up c.self.inside.next) c.loop-up._up c.loop-up.at c.loop-up.invariant.rest (omega (arith, c.loop-up.auto._up-end, c.if-self-eq0.false, c.self.invariant.1)) in
-    omega (arith, some)
-
-pub step_up-requires-2 : goal.step_up-requires-2
-step_up-requires-2 g c =
-    let up = prefixes_up g.K.TrieKey.encoding c.self.inside.frozen.now in
-    let some = some_left up refl (up c.self.inside.next) c.loop-up._up c.loop-up.at c.loop-up.invariant.rest (omega (arith, c.loop-up.auto._up-end, c.if-self-eq0.false, c.self.invariant.1)) in
-    omega (arith, some, c.loop-up.invariant.within)
 
 pub returns-clause-steps : goal.returns-clause-steps
 returns-clause-steps g c =
     let up = prefixes_up g.K.TrieKey.encoding c.self.inside.frozen.now in
-    let all = up c.self.inside.next in
-    let i = c.loop-up._up in
-    let at = c.loop-up.at in
-    let some = some_left up refl all i at c.loop-up.invariant.rest (omega (arith, c.loop-up.auto._up-end, c.if-self-eq0.false, c.self.invariant.1)) in
-    let back : at ≡ at - 1 + 1 = omega (arith, some) in
-    let whole : c.self.inside.left ≡ i + 1 = omega (arith, c.loop-up.auto._up-end, c.loop-up-test.false, c.if-self-eq0.false) in
-    let last : i ≡ c.self.inside.left - 1 = omega (arith, whole) in
-    let p = deref_pair c.step_up-2.result.0 in
-    sym c.self.view_is ∙ ap (λ n. take n all) whole
-    ∙ last_up up refl all i at c.step_up-2.result.1 p c.loop-up.invariant.rest (ap up back ∙ c.step_up-2.ensures.walk)
-    ∙ ap (λ n. take n all ++ p ∷ []) last
+    let last = c.self.inside.last in
+    let left = c.self.inside.left in
+    let some = some_left up refl (up last) 0 last refl (omega (arith, c.if-self-eq0.false, c.self.invariant.1)) in
+    let back : last ≡ last - 1 + 1 = omega (arith, some) in
+    let whole : left ≡ suc (left - 1) = omega (arith, c.if-self-eq0.false) in
+    sym c.self.view_is ∙ ap (λ n. reverse (take n (up last))) whole
+    ∙ ap (λ pairs. reverse (take (suc (left - 1)) pairs)) (ap up back ∙ c.step_up-link.ensures.walk)
+    ∙ reverse-append (deref_pair c.step_up-link.result.0 ∷ []) (take (left - 1) (up c.step_up-link.result.1))

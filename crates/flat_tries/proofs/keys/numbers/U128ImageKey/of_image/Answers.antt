@@ -10,4 +10,4 @@ returns-in-Ok-clause-encoded c =
     ap nibbles (sym (be_bytes_16 c.in-Ok.bytes _ (search rules) (search rules) c.from_be_bytes.ensures ∙ same))
 
 pub returns-in-Err-clause-malformed : goal.returns-in-Err-clause-malformed
-returns-in-Err-clause-malformed c = λ told key is same. c.in-Err.ensures.1 (omega (arith, ap length same, length-nibbles c.args.bytes.now))
+returns-in-Err-clause-malformed c = λ key is same. c.in-Err.ensures.1 (omega (arith, ap length same, length-nibbles c.args.bytes.now))

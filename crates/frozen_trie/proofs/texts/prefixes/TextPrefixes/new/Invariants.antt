@@ -5,8 +5,8 @@ use Rattle.frozen_trie.proofs.texts.prefixes.TextPrefixes.new.Given as goal
 
 abbrev pub invariant-loop-at : goal.invariant-loop-at
 invariant-loop-at g l = record {
-  within : l.left + l.at ≤ l.next;
-  counted : l.left + length (prefixes_up nibbles l.texts l.at) ≡ length (prefixes_up nibbles l.texts l.next);
+  within : l.left + l.at ≤ l.last;
+  counted : l.left + length (prefixes_up nibbles l.texts l.at) ≡ length (prefixes_up nibbles l.texts l.last);
 }
 
 abbrev pub decreases-loop-at : goal.decreases-loop-at

@@ -1,2 +1,0 @@
--- What two bounds leave of the pairs in order.
-pub mod RangeLemmas

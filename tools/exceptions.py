@@ -76,9 +76,6 @@ NO_EDIT = {
         "route_tool": "Hop::as_bytes Frozen::new Frozen::of_rows Frozen::rows Routes::new Table::new",
     },
     "it is a trait's, and each program has a body of its own": {"line_sessions": "Program::answer"},
-    "it has one, `pair_of_the_first_key_twice`, but what stands in a tuple's impl has no path": {
-        "radix_keys": "Tuple2::encode",
-    },
 }
 
 # Functions that make an error for memory where no call was refused: a tree of more levels than `usize` counts, which

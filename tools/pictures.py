@@ -1,13 +1,16 @@
-"""The pictures of docs/pictures, and the table that README.md and docs/BENCHMARKS.md quote.
+"""The pictures of docs/pictures, the manual pages, and the table that README.md and docs/BENCHMARKS.md quote.
 
 Plots and table are of one run of tools/bench --plot, whose rows stand in docs/pictures/rows.txt, a line each: kind of
 keys, count, call, store, number. The tree is what `dot` answers in a session of the shell, and the crates are those of
-crates.txt. The last line of each picture has the sum of what it was made of, by gnuplot and by graphviz."""
+crates.txt. Manual pages are the pages for users. The last line of each has the sum of what it was made of, by gnuplot,
+by graphviz and by pandoc."""
 import hashlib
 import os
+import re
 import shutil
 import tempfile
 
+from programs import PAGES
 from sessions import sessions_of
 from shared import ROOT, Refused, put_bytes, ran, text_of, uses_of_crates
 
@@ -30,7 +33,10 @@ NONE = {("map", "prefix"): "a lookup a length", ("hash_map", "below"): "no such 
 # What each crate is: what callers name, what is inside, a program, or tests.
 CALLED = "radix_trie frozen_trie frozen_routes frozen_networks flat_routes flat_texts flat_tries prefix_maps nifazombi_c trie_set topic_filters keyed_maps".split()
 PROGRAMS = "trie_tool route_tool trie_shell trie_bench".split()
-TESTS = "trie_tests trie_examples".split()
+TESTS = "trie_tests table_tests trie_examples".split()
+# What each program is, for the first line of its manual page.
+ABOUT = {"trie_tool": "numbers by texts, in a proved radix trie", "route_tool": "a proved routing table",
+         "trie_shell": "a shell of proved radix tries"}
 
 
 def is_measured():
@@ -101,19 +107,31 @@ def tree():
     return next(it.answer for it in session.exchanges if it.line == b"dot\n").decode()
 
 
+def manual(name):
+    """What pandoc is told of a program: its page for users, behind its name."""
+    page = re.sub("^# .*", "# DESCRIPTION", text_of(PAGES[name]), flags=re.M)
+    return f"# NAME\n\n{name} - {ABOUT[name]}\n\n{page}"
+
+
 def sources():
-    """By the picture's name, the program that makes it, and what that is told."""
+    """By its path, the program that makes each, and what that is told."""
     plots = {call: (["gnuplot"], "".join(plot(rows(), call))) for call in CALLS if is_measured()}
-    return {**plots, "crates": (["dot", "-Tsvg"], "".join(crates())), "tree": (["dot", "-Tsvg"], tree())}
+    drawn = {**plots, "crates": (["dot", "-Tsvg"], "".join(crates())), "tree": (["dot", "-Tsvg"], tree())}
+    yield from ((f"{FOLDER}/{name}.svg", *source) for name, source in drawn.items())
+    for name in PAGES:
+        words = ["pandoc", "-f", "gfm", "-t", "man", "-s", "-M", f"title={name.upper()}", "-M", "section=1"]
+        yield f"docs/man/{name}.1", words, manual(name)
 
 
-def mark(told):
-    return f"<!-- {hashlib.sha256(told.encode()).hexdigest()} -->\n"
+def mark(place, told):
+    """The last line, a remark."""
+    total = hashlib.sha256(told.encode()).hexdigest()
+    return f"<!-- {total} -->\n" if place.endswith(".svg") else f'.\\" {total}\n'
 
 
 def put(place, text):
-    os.makedirs(f"{ROOT}/{FOLDER}", exist_ok=True)
-    with tempfile.TemporaryDirectory(dir=f"{ROOT}/{FOLDER}", prefix=".made-") as room:
+    os.makedirs(os.path.dirname(f"{ROOT}/{place}"), exist_ok=True)
+    with tempfile.TemporaryDirectory(dir=os.path.dirname(f"{ROOT}/{place}"), prefix=".made-") as room:
         put_bytes(text.encode(), f"{ROOT}/{place}", room)
 
 
@@ -132,14 +150,13 @@ def wrong_table(is_written):
 def wrong(is_written):
     """What isn't of its sources as they stand, which is written where it is to be and the program is there."""
     yield from wrong_table(is_written) if is_measured() else ()
-    for name, (words, told) in sources().items():
-        place = f"{FOLDER}/{name}.svg"
-        if os.path.isfile(f"{ROOT}/{place}") and text_of(place).endswith(mark(told)):
+    for place, words, told in sources():
+        if os.path.isfile(f"{ROOT}/{place}") and text_of(place).endswith(mark(place, told)):
             continue
         if not is_written or not shutil.which(words[0]):
             yield f"{place}: it isn't of its source; tools/texts --write makes it, by {words[0]}"
             continue
-        drawn = ran(words, told.encode(), text=True)
-        if drawn.returncode:
-            raise Refused(f"{words[0]}: {drawn.stderr}")
-        put(place, drawn.stdout + mark(told))
+        made = ran(words, told.encode(), text=True)
+        if made.returncode:
+            raise Refused(f"{words[0]}: {made.stderr}")
+        put(place, made.stdout + mark(place, told))

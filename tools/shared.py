@@ -217,20 +217,33 @@ def built(name, ending=""):
     return os.path.abspath(f"{os.environ.get('PROGRAMS') or f'{ROOT}/crates/{name}/out'}/{name}{ending}")
 
 
-def add(tally, command, folder, **surroundings):
-    """Shows what a command says, and adds all its checks, which it counts in its last line. How many passed."""
-    last, known = b"", {it: value for it, value in os.environ.items() if it != "CDPATH"}
-    how = {"cwd": folder, "env": {**known, **surroundings, "LC_ALL": "C"}}
+def surroundings_of(**changed):
+    """The surroundings of a script's commands: the user's, with these changes, by the rules of no language."""
+    known = {it: value for it, value in os.environ.items() if it != "CDPATH"}
+    return {**known, **changed, "LC_ALL": "C"}
+
+
+def add(tally, command, folder, hear=None, **surroundings):
+    """Shows what a command says, and adds all its checks, which it counts in its last line. How many passed. What is
+    shown is heard too, part by part."""
+    last, how = b"", {"cwd": folder, "env": surroundings_of(**surroundings)}
     with started(command.split(), stdout=subprocess.PIPE, stderr=subprocess.STDOUT, **how) as process:
         while part := process.stdout.read1():
             sys.stdout.buffer.write(part)
             sys.stdout.buffer.flush()
             last = (last + part)[-1000:]
-    counts = re.match(rb"(\d+) passed, (\d+) failed", last.rstrip().split(b"\n")[-1])
+            if hear:
+                hear(part)
+    return add_counts(tally, command, last, process.returncode)
+
+
+def add_counts(tally, command, said, status):
+    """Adds the checks that a command's last line counts. How many passed."""
+    counts = re.match(rb"(\d+) passed, (\d+) failed", said.rstrip().split(b"\n")[-1])
     passed, failed = map(int, counts.groups()) if counts else (0, 0)
     tally.add(passed, failed)
-    if not counts or process.returncode and not failed:
-        why = f"it ended with status {process.returncode}" + (", and with no count" if not counts else "")
+    if not counts or status and not failed:
+        why = f"it ended with status {status}" + (", and with no count" if not counts else "")
         tally.count(command, False, why)
     return passed
 

@@ -39,8 +39,9 @@ extern "C" {
 // The row at this index is none, or doesn't come after the row before it.
 #define NIFAZOMBI_UNSORTED 8
 
-// A row as it lies in an image, in 16 bytes: a network by its first address and how many bits its addresses share, the
-// index and one more of the row of the network around it, or 0, and the network's value.
+// A row as it lies in an image, in 16 bytes: a network by its first address and how many bits its
+// addresses share, the index and one more of the row of the network around it, or 0, and the
+// network's value.
 typedef struct {
     uint32_t first;
     uint32_t bits;
@@ -48,8 +49,8 @@ typedef struct {
     uint32_t value;
 } nifazombi_ipv4_row;
 
-// A row: a network by its first address, in network order, and how many bits its addresses share, the index and one
-// more of the row of the network around it, or 0, and the network's value.
+// A row: a network by its first address, in network order, and how many bits its addresses share,
+// the index and one more of the row of the network around it, or 0, and the network's value.
 typedef struct {
     uint8_t first[16];
     uint32_t bits;
@@ -64,7 +65,8 @@ typedef struct {
     uint64_t value;
 } nifazombi_texts_pair;
 
-// Where a key lies in an image, by the place of its first byte and how many bytes it has, and its value.
+// Where a key lies in an image, by the place of its first byte and how many bytes it has, and its
+// value.
 typedef struct {
     size_t first;
     size_t len;
@@ -77,8 +79,8 @@ typedef struct {
     size_t count;
 } nifazombi_span;
 
-// Checks whether bytes are an image of IPv4 networks, in linear time. Returns 0 of an image, and else why they are
-// none: one of the numbers above; the index that belongs to it is put into `at`.
+// Checks whether bytes are an image of IPv4 networks, in linear time. Returns 0 of an image, and
+// else why they are none: one of the numbers above; the index that belongs to it is put into `at`.
 uint32_t nifazombi_ipv4_check(const uint8_t *image, size_t image_len, size_t *at);
 
 // The count of rows.
@@ -87,11 +89,12 @@ size_t nifazombi_ipv4_len(const uint8_t *image, size_t image_len);
 // Puts the row at an index into `row`, and returns whether there is one.
 bool nifazombi_ipv4_row_at(const uint8_t *image, size_t image_len, size_t at, nifazombi_ipv4_row *row);
 
-// The row of the longest network that holds an address, by its index and one more, or 0 where none does.
+// The row of the longest network that holds an address, by its index and one more, or 0 where none
+// does.
 size_t nifazombi_ipv4_look(const uint8_t *image, size_t image_len, uint32_t address);
 
-// Looks up addresses, as many as there are of both, and puts for each what `nifazombi_ipv4_look` returns into `found`.
-// Returns how many.
+// Looks up addresses, as many as there are of both, and puts for each what `nifazombi_ipv4_look`
+// returns into `found`. Returns how many.
 size_t nifazombi_ipv4_look_many(
     const uint8_t *image, size_t image_len,
     const uint32_t *addresses, size_t addresses_len,
@@ -103,24 +106,25 @@ size_t nifazombi_ipv4_get(const uint8_t *image, size_t image_len, uint32_t first
 // Puts the rows whose networks lie within a network, itself among them, into `span`.
 void nifazombi_ipv4_below(const uint8_t *image, size_t image_len, uint32_t first, uint32_t bits, nifazombi_span *span);
 
-// The row of the network around that of the row at an index, the longest other one that holds it, by its index and one
-// more, or 0 where there is none. It is at most `at`, so a walk upward ends.
+// The row of the network around that of the row at an index, the longest other one that holds it,
+// by its index and one more, or 0 where there is none. It is at most `at`, so a walk upward ends.
 size_t nifazombi_ipv4_above(const uint8_t *image, size_t image_len, size_t at);
 
-// How many bytes the image of so many rows takes, with so many bytes of the user's own, or 0 of 2^32 rows or more.
+// How many bytes the image of so many rows takes, with so many bytes of the user's own, or 0 of
+// 2^32 rows or more.
 size_t nifazombi_ipv4_image_len(size_t rows, size_t payload);
 
-// Writes the image of rows in order, by first address and then by bits, whose links count for nothing, and of the
-// user's own bytes into `out`. Returns 0, or why it couldn't: one of the numbers above; the index that belongs to it
-// is put into `at`, and `out` is as before then.
+// Writes the image of rows in order, by first address and then by bits, whose links count for
+// nothing, and of the user's own bytes into `out`. Returns 0, or why it couldn't: one of the
+// numbers above; the index that belongs to it is put into `at`, and `out` is as before then.
 uint32_t nifazombi_ipv4_write(
     const nifazombi_ipv4_row *rows, size_t rows_len,
     const uint8_t *payload, size_t payload_len,
     uint8_t *out, size_t out_len,
     size_t *at);
 
-// Checks whether bytes are an image of IPv6 networks, in linear time. Returns 0 of an image, and else why they are
-// none: one of the numbers above; the index that belongs to it is put into `at`.
+// Checks whether bytes are an image of IPv6 networks, in linear time. Returns 0 of an image, and
+// else why they are none: one of the numbers above; the index that belongs to it is put into `at`.
 uint32_t nifazombi_ipv6_check(const uint8_t *image, size_t image_len, size_t *at);
 
 // The count of rows.
@@ -129,11 +133,12 @@ size_t nifazombi_ipv6_len(const uint8_t *image, size_t image_len);
 // Puts the row at an index into `row`, and returns whether there is one.
 bool nifazombi_ipv6_row_at(const uint8_t *image, size_t image_len, size_t at, nifazombi_ipv6_row *row);
 
-// The row of the longest network that holds an address, by its index and one more, or 0 where none does.
+// The row of the longest network that holds an address, by its index and one more, or 0 where none
+// does.
 size_t nifazombi_ipv6_look(const uint8_t *image, size_t image_len, const uint8_t address[16]);
 
-// Looks up addresses, as many as there are of both, and puts for each what `nifazombi_ipv6_look` returns into `found`.
-// Returns how many.
+// Looks up addresses, as many as there are of both, and puts for each what `nifazombi_ipv6_look`
+// returns into `found`. Returns how many.
 size_t nifazombi_ipv6_look_many(
     const uint8_t *image, size_t image_len,
     const uint8_t (*addresses)[16], size_t addresses_len,
@@ -149,49 +154,51 @@ void nifazombi_ipv6_below(
     uint32_t bits,
     nifazombi_span *span);
 
-// The row of the network around that of the row at an index, the longest other one that holds it, by its index and one
-// more, or 0 where there is none. It is at most `at`, so a walk upward ends.
+// The row of the network around that of the row at an index, the longest other one that holds it,
+// by its index and one more, or 0 where there is none. It is at most `at`, so a walk upward ends.
 size_t nifazombi_ipv6_above(const uint8_t *image, size_t image_len, size_t at);
 
-// How many bytes the image of so many rows takes, with so many bytes of the user's own, or 0 of 2^32 rows or more.
+// How many bytes the image of so many rows takes, with so many bytes of the user's own, or 0 of
+// 2^32 rows or more.
 size_t nifazombi_ipv6_image_len(size_t rows, size_t payload);
 
-// Writes the image of rows in order, by first address and then by bits, whose links count for nothing, and of the
-// user's own bytes into `out`. Returns 0, or why it couldn't: one of the numbers above; the index that belongs to it
-// is put into `at`, and `out` is as before then.
+// Writes the image of rows in order, by first address and then by bits, whose links count for
+// nothing, and of the user's own bytes into `out`. Returns 0, or why it couldn't: one of the
+// numbers above; the index that belongs to it is put into `at`, and `out` is as before then.
 uint32_t nifazombi_ipv6_write(
     const nifazombi_ipv6_row *rows, size_t rows_len,
     const uint8_t *payload, size_t payload_len,
     uint8_t *out, size_t out_len,
     size_t *at);
 
-// Puts where the user's own bytes in an image of any kind lie, and how many they are, into `span`, and returns whether
-// there are any.
+// Puts where the user's own bytes in an image of any kind lie, and how many they are, into `span`,
+// and returns whether there are any.
 bool nifazombi_payload(const uint8_t *image, size_t image_len, nifazombi_span *span);
 
-// Checks whether bytes are an image of texts, in linear time. Returns 0 of an image, and else why they are none: one
-// of the numbers above; the index that belongs to it is put into `at`.
+// Checks whether bytes are an image of texts, in linear time. Returns 0 of an image, and else why
+// they are none: one of the numbers above; the index that belongs to it is put into `at`.
 uint32_t nifazombi_texts_check(const uint8_t *image, size_t image_len, size_t *at);
 
 // The count of pairs.
 size_t nifazombi_texts_len(const uint8_t *image, size_t image_len);
 
-// Puts where the pair at an index lies, in the order of the keys, into `place`, and returns whether there is one.
+// Puts where the pair at an index lies, in the order of the keys, into `place`, and returns
+// whether there is one.
 bool nifazombi_texts_pair_at(const uint8_t *image, size_t image_len, size_t at, nifazombi_texts_place *place);
 
 // The pair of a key, by its index and one more, or 0 where it isn't stored.
 size_t nifazombi_texts_get(const uint8_t *image, size_t image_len, const uint8_t *key, size_t key_len);
 
-// The pair of the longest stored key that is a prefix of some bytes, by its index and one more, or 0 where there is
-// none.
+// The pair of the longest stored key that is a prefix of some bytes, by its index and one more, or
+// 0 where there is none.
 size_t nifazombi_texts_nearest(const uint8_t *image, size_t image_len, const uint8_t *key, size_t key_len);
 
-// The pair of the longest stored key that is a prefix of the key at an index, and not this one, by its index and one
-// more, or 0 where there is none. It is at most `at`, so a walk upward ends.
+// The pair of the longest stored key that is a prefix of the key at an index, and not this one, by
+// its index and one more, or 0 where there is none. It is at most `at`, so a walk upward ends.
 size_t nifazombi_texts_above(const uint8_t *image, size_t image_len, size_t at);
 
-// Puts the indices of the pairs whose keys are prefixes of some bytes into `found`, from the longest up, as many as it
-// has room for. Returns how many.
+// Puts the indices of the pairs whose keys are prefixes of some bytes into `found`, from the
+// longest up, as many as it has room for. Returns how many.
 size_t nifazombi_texts_prefixes(
     const uint8_t *image, size_t image_len,
     const uint8_t *key, size_t key_len,
@@ -213,13 +220,14 @@ void nifazombi_texts_between(
     const uint8_t *to, size_t to_len,
     nifazombi_span *span);
 
-// How many bytes the image of pairs takes, with so many bytes of the user's own, or 0 of 2^32 pairs or more, or as
-// many bytes of keys.
+// How many bytes the image of pairs takes, with so many bytes of the user's own, or 0 of 2^32
+// pairs or more, or as many bytes of keys.
 size_t nifazombi_texts_image_len(const nifazombi_texts_pair *pairs, size_t pairs_len, size_t payload);
 
-// Writes the image of pairs whose keys rise in the order of their bytes, and of the user's own bytes, into `out`.
-// Returns 0, or why it couldn't: one of the numbers above; the index that belongs to it is put into `at`, and `out` is
-// as before then. Bytes behind the image stay as they are.
+// Writes the image of pairs whose keys rise in the order of their bytes, and of the user's own
+// bytes, into `out`. Returns 0, or why it couldn't: one of the numbers above; the index that
+// belongs to it is put into `at`, and `out` is as before then. Bytes behind the image stay as they
+// are.
 uint32_t nifazombi_texts_write(
     const nifazombi_texts_pair *pairs, size_t pairs_len,
     const uint8_t *payload, size_t payload_len,

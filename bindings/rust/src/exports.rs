@@ -56,8 +56,9 @@ pub(crate) const FULL: u32 = 7;
 
 pub(crate) const UNSORTED: u32 = 8;
 
-/// A row as it lies in an image, in 16 bytes: a network by its first address and how many bits its addresses share, the
-/// index and one more of the row of the network around it, or 0, and the network's value.
+/// A row as it lies in an image, in 16 bytes: a network by its first address and how many bits its
+/// addresses share, the index and one more of the row of the network around it, or 0, and the
+/// network's value.
 #[repr(C)]
 #[derive(Clone, Copy, Debug, Default)]
 pub(crate) struct Ipv4Row {
@@ -67,8 +68,8 @@ pub(crate) struct Ipv4Row {
     pub(crate) value: u32,
 }
 
-/// A row: a network by its first address, in network order, and how many bits its addresses share, the index and one
-/// more of the row of the network around it, or 0, and the network's value.
+/// A row: a network by its first address, in network order, and how many bits its addresses share,
+/// the index and one more of the row of the network around it, or 0, and the network's value.
 #[repr(C)]
 #[derive(Clone, Copy, Debug, Default)]
 pub(crate) struct Ipv6Row {
@@ -99,7 +100,8 @@ impl<'a> TextsPair<'a> {
     }
 }
 
-/// Where a key lies in an image, by the place of its first byte and how many bytes it has, and its value.
+/// Where a key lies in an image, by the place of its first byte and how many bytes it has, and its
+/// value.
 #[repr(C)]
 #[derive(Clone, Copy, Debug, Default)]
 pub(crate) struct TextsPlace {
@@ -116,8 +118,8 @@ pub(crate) struct Span {
     pub(crate) count: usize,
 }
 
-/// Checks whether bytes are an image of IPv4 networks, in linear time. Returns 0 of an image, and else why they are
-/// none: one of the numbers above; the index that belongs to it is put into `at`.
+/// Checks whether bytes are an image of IPv4 networks, in linear time. Returns 0 of an image, and
+/// else why they are none: one of the numbers above; the index that belongs to it is put into `at`.
 #[inline]
 pub(crate) fn ipv4_check(image: &[u8], at: &mut usize) -> u32 {
     nifazombi_ipv4_check(image.as_ptr(), image.len(), at)
@@ -135,14 +137,15 @@ pub(crate) fn ipv4_row_at(image: &[u8], at: usize, row: &mut Ipv4Row) -> bool {
     nifazombi_ipv4_row_at(image.as_ptr(), image.len(), at, row)
 }
 
-/// The row of the longest network that holds an address, by its index and one more, or 0 where none does.
+/// The row of the longest network that holds an address, by its index and one more, or 0 where none
+/// does.
 #[inline]
 pub(crate) fn ipv4_look(image: &[u8], address: u32) -> usize {
     nifazombi_ipv4_look(image.as_ptr(), image.len(), address)
 }
 
-/// Looks up addresses, as many as there are of both, and puts for each what `nifazombi_ipv4_look` returns into `found`.
-/// Returns how many.
+/// Looks up addresses, as many as there are of both, and puts for each what `nifazombi_ipv4_look`
+/// returns into `found`. Returns how many.
 #[inline]
 pub(crate) fn ipv4_look_many(image: &[u8], addresses: &[u32], found: &mut [u32]) -> usize {
     nifazombi_ipv4_look_many(image.as_ptr(), image.len(), addresses.as_ptr(), addresses.len(), found.as_mut_ptr(), found.len())
@@ -160,29 +163,30 @@ pub(crate) fn ipv4_below(image: &[u8], first: u32, bits: u32, span: &mut Span) {
     nifazombi_ipv4_below(image.as_ptr(), image.len(), first, bits, span)
 }
 
-/// The row of the network around that of the row at an index, the longest other one that holds it, by its index and one
-/// more, or 0 where there is none. It is at most `at`, so a walk upward ends.
+/// The row of the network around that of the row at an index, the longest other one that holds it,
+/// by its index and one more, or 0 where there is none. It is at most `at`, so a walk upward ends.
 #[inline]
 pub(crate) fn ipv4_above(image: &[u8], at: usize) -> usize {
     nifazombi_ipv4_above(image.as_ptr(), image.len(), at)
 }
 
-/// How many bytes the image of so many rows takes, with so many bytes of the user's own, or 0 of 2^32 rows or more.
+/// How many bytes the image of so many rows takes, with so many bytes of the user's own, or 0 of
+/// 2^32 rows or more.
 #[inline]
 pub(crate) fn ipv4_image_len(rows: usize, payload: usize) -> usize {
     nifazombi_ipv4_image_len(rows, payload)
 }
 
-/// Writes the image of rows in order, by first address and then by bits, whose links count for nothing, and of the
-/// user's own bytes into `out`. Returns 0, or why it couldn't: one of the numbers above; the index that belongs to it
-/// is put into `at`, and `out` is as before then.
+/// Writes the image of rows in order, by first address and then by bits, whose links count for
+/// nothing, and of the user's own bytes into `out`. Returns 0, or why it couldn't: one of the
+/// numbers above; the index that belongs to it is put into `at`, and `out` is as before then.
 #[inline]
 pub(crate) fn ipv4_write(rows: &[Ipv4Row], payload: &[u8], out: &mut [u8], at: &mut usize) -> u32 {
     nifazombi_ipv4_write(rows.as_ptr(), rows.len(), payload.as_ptr(), payload.len(), out.as_mut_ptr(), out.len(), at)
 }
 
-/// Checks whether bytes are an image of IPv6 networks, in linear time. Returns 0 of an image, and else why they are
-/// none: one of the numbers above; the index that belongs to it is put into `at`.
+/// Checks whether bytes are an image of IPv6 networks, in linear time. Returns 0 of an image, and
+/// else why they are none: one of the numbers above; the index that belongs to it is put into `at`.
 #[inline]
 pub(crate) fn ipv6_check(image: &[u8], at: &mut usize) -> u32 {
     nifazombi_ipv6_check(image.as_ptr(), image.len(), at)
@@ -200,14 +204,15 @@ pub(crate) fn ipv6_row_at(image: &[u8], at: usize, row: &mut Ipv6Row) -> bool {
     nifazombi_ipv6_row_at(image.as_ptr(), image.len(), at, row)
 }
 
-/// The row of the longest network that holds an address, by its index and one more, or 0 where none does.
+/// The row of the longest network that holds an address, by its index and one more, or 0 where none
+/// does.
 #[inline]
 pub(crate) fn ipv6_look(image: &[u8], address: &[u8; 16]) -> usize {
     nifazombi_ipv6_look(image.as_ptr(), image.len(), address)
 }
 
-/// Looks up addresses, as many as there are of both, and puts for each what `nifazombi_ipv6_look` returns into `found`.
-/// Returns how many.
+/// Looks up addresses, as many as there are of both, and puts for each what `nifazombi_ipv6_look`
+/// returns into `found`. Returns how many.
 #[inline]
 pub(crate) fn ipv6_look_many(image: &[u8], addresses: &[[u8; 16]], found: &mut [u32]) -> usize {
     nifazombi_ipv6_look_many(image.as_ptr(), image.len(), addresses.as_ptr(), addresses.len(), found.as_mut_ptr(), found.len())
@@ -225,36 +230,37 @@ pub(crate) fn ipv6_below(image: &[u8], first: &[u8; 16], bits: u32, span: &mut S
     nifazombi_ipv6_below(image.as_ptr(), image.len(), first, bits, span)
 }
 
-/// The row of the network around that of the row at an index, the longest other one that holds it, by its index and one
-/// more, or 0 where there is none. It is at most `at`, so a walk upward ends.
+/// The row of the network around that of the row at an index, the longest other one that holds it,
+/// by its index and one more, or 0 where there is none. It is at most `at`, so a walk upward ends.
 #[inline]
 pub(crate) fn ipv6_above(image: &[u8], at: usize) -> usize {
     nifazombi_ipv6_above(image.as_ptr(), image.len(), at)
 }
 
-/// How many bytes the image of so many rows takes, with so many bytes of the user's own, or 0 of 2^32 rows or more.
+/// How many bytes the image of so many rows takes, with so many bytes of the user's own, or 0 of
+/// 2^32 rows or more.
 #[inline]
 pub(crate) fn ipv6_image_len(rows: usize, payload: usize) -> usize {
     nifazombi_ipv6_image_len(rows, payload)
 }
 
-/// Writes the image of rows in order, by first address and then by bits, whose links count for nothing, and of the
-/// user's own bytes into `out`. Returns 0, or why it couldn't: one of the numbers above; the index that belongs to it
-/// is put into `at`, and `out` is as before then.
+/// Writes the image of rows in order, by first address and then by bits, whose links count for
+/// nothing, and of the user's own bytes into `out`. Returns 0, or why it couldn't: one of the
+/// numbers above; the index that belongs to it is put into `at`, and `out` is as before then.
 #[inline]
 pub(crate) fn ipv6_write(rows: &[Ipv6Row], payload: &[u8], out: &mut [u8], at: &mut usize) -> u32 {
     nifazombi_ipv6_write(rows.as_ptr(), rows.len(), payload.as_ptr(), payload.len(), out.as_mut_ptr(), out.len(), at)
 }
 
-/// Puts where the user's own bytes in an image of any kind lie, and how many they are, into `span`, and returns whether
-/// there are any.
+/// Puts where the user's own bytes in an image of any kind lie, and how many they are, into `span`,
+/// and returns whether there are any.
 #[inline]
 pub(crate) fn payload(image: &[u8], span: &mut Span) -> bool {
     nifazombi_payload(image.as_ptr(), image.len(), span)
 }
 
-/// Checks whether bytes are an image of texts, in linear time. Returns 0 of an image, and else why they are none: one
-/// of the numbers above; the index that belongs to it is put into `at`.
+/// Checks whether bytes are an image of texts, in linear time. Returns 0 of an image, and else why
+/// they are none: one of the numbers above; the index that belongs to it is put into `at`.
 #[inline]
 pub(crate) fn texts_check(image: &[u8], at: &mut usize) -> u32 {
     nifazombi_texts_check(image.as_ptr(), image.len(), at)
@@ -266,7 +272,8 @@ pub(crate) fn texts_len(image: &[u8]) -> usize {
     nifazombi_texts_len(image.as_ptr(), image.len())
 }
 
-/// Puts where the pair at an index lies, in the order of the keys, into `place`, and returns whether there is one.
+/// Puts where the pair at an index lies, in the order of the keys, into `place`, and returns
+/// whether there is one.
 #[inline]
 pub(crate) fn texts_pair_at(image: &[u8], at: usize, place: &mut TextsPlace) -> bool {
     nifazombi_texts_pair_at(image.as_ptr(), image.len(), at, place)
@@ -278,22 +285,22 @@ pub(crate) fn texts_get(image: &[u8], key: &[u8]) -> usize {
     nifazombi_texts_get(image.as_ptr(), image.len(), key.as_ptr(), key.len())
 }
 
-/// The pair of the longest stored key that is a prefix of some bytes, by its index and one more, or 0 where there is
-/// none.
+/// The pair of the longest stored key that is a prefix of some bytes, by its index and one more, or
+/// 0 where there is none.
 #[inline]
 pub(crate) fn texts_nearest(image: &[u8], key: &[u8]) -> usize {
     nifazombi_texts_nearest(image.as_ptr(), image.len(), key.as_ptr(), key.len())
 }
 
-/// The pair of the longest stored key that is a prefix of the key at an index, and not this one, by its index and one
-/// more, or 0 where there is none. It is at most `at`, so a walk upward ends.
+/// The pair of the longest stored key that is a prefix of the key at an index, and not this one, by
+/// its index and one more, or 0 where there is none. It is at most `at`, so a walk upward ends.
 #[inline]
 pub(crate) fn texts_above(image: &[u8], at: usize) -> usize {
     nifazombi_texts_above(image.as_ptr(), image.len(), at)
 }
 
-/// Puts the indices of the pairs whose keys are prefixes of some bytes into `found`, from the longest up, as many as it
-/// has room for. Returns how many.
+/// Puts the indices of the pairs whose keys are prefixes of some bytes into `found`, from the
+/// longest up, as many as it has room for. Returns how many.
 #[inline]
 pub(crate) fn texts_prefixes(image: &[u8], key: &[u8], found: &mut [u32]) -> usize {
     nifazombi_texts_prefixes(image.as_ptr(), image.len(), key.as_ptr(), key.len(), found.as_mut_ptr(), found.len())
@@ -317,16 +324,17 @@ pub(crate) fn texts_between(image: &[u8], from: &[u8], to: &[u8], span: &mut Spa
     nifazombi_texts_between(image.as_ptr(), image.len(), from.as_ptr(), from.len(), to.as_ptr(), to.len(), span)
 }
 
-/// How many bytes the image of pairs takes, with so many bytes of the user's own, or 0 of 2^32 pairs or more, or as
-/// many bytes of keys.
+/// How many bytes the image of pairs takes, with so many bytes of the user's own, or 0 of 2^32
+/// pairs or more, or as many bytes of keys.
 #[inline]
 pub(crate) fn texts_image_len(pairs: &[TextsPair<'_>], payload: usize) -> usize {
     nifazombi_texts_image_len(pairs.as_ptr(), pairs.len(), payload)
 }
 
-/// Writes the image of pairs whose keys rise in the order of their bytes, and of the user's own bytes, into `out`.
-/// Returns 0, or why it couldn't: one of the numbers above; the index that belongs to it is put into `at`, and `out` is
-/// as before then. Bytes behind the image stay as they are.
+/// Writes the image of pairs whose keys rise in the order of their bytes, and of the user's own
+/// bytes, into `out`. Returns 0, or why it couldn't: one of the numbers above; the index that
+/// belongs to it is put into `at`, and `out` is as before then. Bytes behind the image stay as they
+/// are.
 #[inline]
 pub(crate) fn texts_write(pairs: &[TextsPair<'_>], payload: &[u8], out: &mut [u8], at: &mut usize) -> u32 {
     nifazombi_texts_write(pairs.as_ptr(), pairs.len(), payload.as_ptr(), payload.len(), out.as_mut_ptr(), out.len(), at)

@@ -27,7 +27,8 @@ pub(crate) fn is_base(wide: bool, bits: u32, first: u128) -> bool
     first % (1u128 << (all - bits)) == 0
 }
 
-/// Whether one network comes before another one: by the first addresses, and of one first address by their bits.
+/// Whether one network comes before another one: by the first addresses, and of one first address
+/// by their bits.
 pub(crate) fn is_earlier(first: u128, bits: u32, next_first: u128, next_bits: u32) -> bool
     ensures { IsTrue result ↔ IsEarlier first bits next_first next_bits }
 {
@@ -143,7 +144,8 @@ fn check_head(image: &[u8], wide: bool) -> Result<Plan, ImageError>
     }
 }
 
-/// Whether the row at an index is of a network that comes after the one before it, and has its link.
+/// Whether the row at an index is of a network that comes after the one before it, and has its
+/// link.
 fn is_row(image: &[u8], wide: bool, plan: Plan, at: usize) -> bool
     requires plan { IsPlanOf wide image.now plan }
     requires within { at < plan.rows }
@@ -158,7 +160,8 @@ fn is_row(image: &[u8], wide: bool, plan: Plan, at: usize) -> bool
     link == link_at(image, wide, plan, at) as usize
 }
 
-/// Where the parts of an image lie, or the first of the faults where the bytes aren't one of the family.
+/// Where the parts of an image lie, or the first of the faults where the bytes aren't one of the
+/// family.
 pub(crate) fn check(image: &[u8], wide: bool) -> Result<Plan, ImageError>
     ensures plan { IfOk result (IsPlanOf wide image.now) }
     ensures image { IsOk result ↔ IsImage wide image.now }

@@ -32,7 +32,8 @@ pub(crate) fn mark_of(wide: bool) -> u64
     }
 }
 
-/// Whether the bytes begin as an image of the family does, with room for a list of two parts or more.
+/// Whether the bytes begin as an image of the family does, with room for a list of two parts or
+/// more.
 #[inline(always)]
 fn is_marked(image: &[u8], wide: bool) -> bool
     requires { 64 ≤ length image.now }

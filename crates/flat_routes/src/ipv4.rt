@@ -1,4 +1,5 @@
-//! Images of IPv4 networks. Each call is total: whatever the bytes are, it ends, and reads none but them.
+//! Images of IPv4 networks. Each call is total: whatever the bytes are, it ends, and reads none but
+//! them.
 ghost use Rattle.std.specs.Prelude.{◌≡◌, ◌↔◌, ◌+◌, ◌^◌, ◌<◌, ◌≤◌, ℕ, IfErr, IfOk, IfSome, IsNone, IsOk, IsTrue, MatchOption, OnErr, OnOk, false, drop, length, min, option_map, slice_get, slice_index, take, vec_len, map as each};
 ghost use Rattle.std.specs.List.{filter};
 ghost use Rattle.std.specs.Net.Addr.{ipv4_bits};
@@ -22,8 +23,9 @@ use radix_keys::{Address, Memory, Network};
 use std::alloc::Global;
 use std::net::Ipv4Addr;
 
-/// A row as it lies in an image, in 16 bytes: a network by its first address and how many bits its addresses share, the
-/// index and one more of the row of the network around it, or 0, and the network's value.
+/// A row as it lies in an image, in 16 bytes: a network by its first address and how many bits its
+/// addresses share, the index and one more of the row of the network around it, or 0, and the
+/// network's value.
 #[repr(C)]
 #[derive(Clone, Copy)]
 pub struct Row {
@@ -58,13 +60,14 @@ impl FlatRow for Row {
     }
 }
 
-/// Whether bytes are an image of IPv4 networks; where they aren't, an error says why. It takes linear time, but for the
-/// climbs from each network, and from each value of the first bits, to the network around it.
+/// Whether bytes are an image of IPv4 networks; where they aren't, an error says why. It takes
+/// linear time, but for the climbs from each network, and from each value of the first bits, to the
+/// network around it.
 ///
 /// # Errors
 ///
-/// The first fault is told, in this order: fewer than 64 bytes, another mark, another version, a list of the parts that
-/// ends outside the bytes, a part, a row, a cell.
+/// The first fault is told, in this order: fewer than 64 bytes, another mark, another version, a
+/// list of the parts that ends outside the bytes, a part, a row, a cell.
 pub fn check(image: &[u8]) -> Result<(), ImageError>
     ensures image { IsOk result ↔ IsImage of_ipv4 image.now }
     ensures fault { IfErr result (IsRouteFault of_ipv4 image.now) }
@@ -114,9 +117,9 @@ pub fn row_at(image: &[u8], at: usize) -> Option<Row>
 
 /// The index of the row of the longest network that holds an address, or None where none does.
 ///
-/// It takes as many comparisons as the rows of the address's block have binary digits, and a step for each network
-/// around the last one that begins at or before it, until one holds it. Of bytes that are no image it returns None or
-/// the index of some row.
+/// It takes as many comparisons as the rows of the address's block have binary digits, and a step
+/// for each network around the last one that begins at or before it, until one holds it. Of bytes
+/// that are no image it returns None or the index of some row.
 pub fn look(image: &[u8], address: u32) -> Option<usize>
     ensures within { IfSome result (λ at. at < row_count image.now) }
     ensures row { IsImage of_ipv4 image.now → IsLongestRow 32 (λ n. n)
@@ -125,8 +128,8 @@ pub fn look(image: &[u8], address: u32) -> Option<usize>
     search::look(image, false, u128::from(address))
 }
 
-/// Looks up addresses as `look` does, as many as there are of both, and puts for each the index of its row and one
-/// more, or 0, into `found`. It returns how many.
+/// Looks up addresses as `look` does, as many as there are of both, and puts for each the index of
+/// its row and one more, or 0, into `found`. It returns how many.
 pub fn look_many(image: &[u8], addresses: &[u32], found: &mut [u32]) -> usize
     ensures count { result ≤ min (length addresses.now) (length found.new) }
     ensures all { IsImage of_ipv4 image.now
@@ -147,8 +150,9 @@ pub fn look_many(image: &[u8], addresses: &[u32], found: &mut [u32]) -> usize
     count
 }
 
-/// The index of the row of this very network, by its first address and how many bits its addresses share, or None where
-/// no row is of it. It takes as many comparisons as the count of rows has binary digits.
+/// The index of the row of this very network, by its first address and how many bits its addresses
+/// share, or None where no row is of it. It takes as many comparisons as the count of rows has
+/// binary digits.
 pub fn get(image: &[u8], first: u32, bits: u32) -> Option<usize>
     ensures within { IfSome result (λ at. at < row_count image.now) }
     ensures row { IsImage of_ipv4 image.now → MatchOption result
@@ -160,8 +164,8 @@ pub fn get(image: &[u8], first: u32, bits: u32) -> Option<usize>
     networks::get(image, false, u128::from(first), bits)
 }
 
-/// The rows whose networks lie within a network, itself among them: the index of the first, and how many there are. It
-/// takes twice as many comparisons as the count of rows has binary digits.
+/// The rows whose networks lie within a network, itself among them: the index of the first, and how
+/// many there are. It takes twice as many comparisons as the count of rows has binary digits.
 pub fn below(image: &[u8], first: u32, bits: u32) -> (usize, usize)
     ensures within { result.0 + result.1 ≤ row_count image.now }
     ensures rows { IsImage of_ipv4 image.now
@@ -171,9 +175,9 @@ pub fn below(image: &[u8], first: u32, bits: u32) -> (usize, usize)
     networks::below(image, false, u128::from(first), bits)
 }
 
-/// The index of the row of the network around that of the row at an index: of the longest other one that holds it. It
-/// is None where no other one holds it, and where there is no such row. It takes constant time. Whatever the bytes are,
-/// a result is less than the index, so a walk upward ends.
+/// The index of the row of the network around that of the row at an index: of the longest other one
+/// that holds it. It is None where no other one holds it, and where there is no such row. It takes
+/// constant time. Whatever the bytes are, a result is less than the index, so a walk upward ends.
 pub fn above(image: &[u8], at: usize) -> Option<usize>
     ensures within { IfSome result (λ up. up < at) }
     ensures past { row_count image.now ≤ at → IsNone result }
@@ -184,8 +188,8 @@ pub fn above(image: &[u8], at: usize) -> Option<usize>
     search::above(image, false, at)
 }
 
-/// How many bytes the image of so many rows takes, with so many bytes of the user's own, as `write` lays it out, or
-/// None of 2^32 rows or more, or where a `usize` doesn't count them.
+/// How many bytes the image of so many rows takes, with so many bytes of the user's own, as `write`
+/// lays it out, or None of 2^32 rows or more, or where a `usize` doesn't count them.
 pub fn image_len(rows: usize, payload: usize) -> Option<usize>
     ensures { SomeIff result ((rows < 2 ^ 32) × (image_size of_ipv4 rows payload < 2 ^ 64))
         (image_size of_ipv4 rows payload) }
@@ -193,15 +197,16 @@ pub fn image_len(rows: usize, payload: usize) -> Option<usize>
     layout::image_len(false, rows, payload)
 }
 
-/// Writes the image of rows, which rise by their first addresses, and of one first address by their bits, with the
-/// user's own bytes, into a buffer of `image_len` bytes or more. Of a row's link it takes no notice. Bytes behind the
-/// image stay as they are. It takes linear time, but for the climbs to the network around each network, and around each
-/// value of the first bits, and allocates nothing.
+/// Writes the image of rows, which rise by their first addresses, and of one first address by their
+/// bits, with the user's own bytes, into a buffer of `image_len` bytes or more. Of a row's link it
+/// takes no notice. Bytes behind the image stay as they are. It takes linear time, but for the
+/// climbs to the network around each network, and around each value of the first bits, and
+/// allocates nothing.
 ///
 /// # Errors
 ///
-/// In this order: there are too many rows, the buffer is too short, or the rows aren't in order. The buffer is as
-/// before.
+/// In this order: there are too many rows, the buffer is too short, or the rows aren't in order.
+/// The buffer is as before.
 pub fn write(rows: &[Row], payload: &[u8], out: &mut [u8]) -> Result<(), WriteError>
     ensures ok { IsOk result ↔ CanWrite of_ipv4 (each row4_of rows.now) (length payload.now)
         (length out.old) }
@@ -273,7 +278,8 @@ pub fn to_image(
     tables::image_of(alloc, table.rows(), payload)
 }
 
-/// The table of the rows of an image. It takes the time of `check` and of `FrozenRoutes::from_sorted`.
+/// The table of the rows of an image. It takes the time of `check` and of
+/// `FrozenRoutes::from_sorted`.
 ///
 /// # Errors
 ///

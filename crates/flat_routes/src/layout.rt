@@ -9,8 +9,8 @@ use crate::rows::bits_of;
 /// How many bytes the head takes, which lists three parts.
 const HEAD: usize = 88;
 
-/// By how many first bits the cells of so many rows are: as many as the count has binary digits, but at least 9 and at
-/// most 21.
+/// By how many first bits the cells of so many rows are: as many as the count has binary digits,
+/// but at least 9 and at most 21.
 #[tactic(auto, unfolding(crate::specs::Written::cell_bits))]
 fn bits_for(rows: usize) -> u32
     ensures value { result ≡ cell_bits rows }
@@ -20,7 +20,8 @@ fn bits_for(rows: usize) -> u32
     (usize::BITS - rows.leading_zeros()).clamp(9, 21)
 }
 
-/// Where the parts of an image of so many rows lie, or None of 2^32 rows or more. Below 256 rows there are no cells.
+/// Where the parts of an image of so many rows lie, or None of 2^32 rows or more. Below 256 rows
+/// there are no cells.
 pub(crate) fn layout(wide: bool, rows: usize) -> Option<Plan>
     ensures { MatchOption result (2 ^ 32 ≤ rows) (IsLayout wide rows) }
 {

@@ -1,5 +1,5 @@
-//! A routing table laid into one run of bytes, which is searched in place: a slice of a file that is mapped, or of any
-//! other memory.
+//! A routing table laid into one run of bytes, which is searched in place: a slice of a file that
+//! is mapped, or of any other memory.
 #![tactic(auto)]
 
 mod check;
@@ -16,6 +16,3 @@ mod write;
 
 pub use image_parts::{ImageError, TableError, WriteError, payload};
 pub use laws::images_answer_as_tables;
-
-#[cfg(test)]
-mod tests;

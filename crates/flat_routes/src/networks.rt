@@ -16,8 +16,8 @@ fn first_bits(wide: bool, number: u128, bits: u32) -> u128
     without_last(number, bits_of(wide).saturating_sub(bits))
 }
 
-/// Whether the network at an index comes in front of those within the network of `bits` bits whose addresses have
-/// `quotient` for these, or of those behind it where the search is one through it.
+/// Whether the network at an index comes in front of those within the network of `bits` bits whose
+/// addresses have `quotient` for these, or of those behind it where the search is one through it.
 fn is_in_front(
     image: &[u8],
     wide: bool,
@@ -39,8 +39,8 @@ fn is_in_front(
     is_through || bits_at(image, wide, plan, at) < bits
 }
 
-/// How many of the networks come in front of those within a network, or also those within where the search is one
-/// through it.
+/// How many of the networks come in front of those within a network, or also those within where the
+/// search is one through it.
 fn cut(image: &[u8], wide: bool, plan: Plan, first: u128, bits: u32, is_through: bool) -> usize
     requires plan { IsPlanOf wide image.now plan }
     ensures within { result ≤ plan.rows }
@@ -60,7 +60,8 @@ fn cut(image: &[u8], wide: bool, plan: Plan, first: u128, bits: u32, is_through:
     lo
 }
 
-/// The index of the row of this very network, by its first address and how many bits its addresses share.
+/// The index of the row of this very network, by its first address and how many bits its addresses
+/// share.
 pub(crate) fn get(image: &[u8], wide: bool, first: u128, bits: u32) -> Option<usize>
     ensures within { IfSome result (λ at. at < row_count image.now) }
     ensures row { IsImage wide image.now → MatchOption result

@@ -113,7 +113,8 @@ pub(crate) fn without_last(number: u128, bits: u32) -> u128
     if bits == 128 { 0 } else { number >> bits }
 }
 
-/// Whether the network at an index holds an address, by its number. One of more bits than an address has holds none.
+/// Whether the network at an index holds an address, by its number. One of more bits than an
+/// address has holds none.
 #[inline(always)]
 pub(crate) fn holds_at(image: &[u8], wide: bool, plan: Plan, at: usize, number: u128) -> bool
     requires plan { IsPlanOf wide image.now plan }

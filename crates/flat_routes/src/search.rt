@@ -7,8 +7,8 @@ ghost use Rattle.flat_routes.specs.Images.{AreLinkedTo, IsImage, IsPlanOf, bases
 use crate::head::{Plan, plan_of};
 use crate::rows::{Cell, cell_at, first_at, holds_at, link_at};
 
-/// What bounds the search of a number: the cell of its block, and how many networks begin before the next block. Where
-/// there is no such cell it's all of them, and a cell that counts none.
+/// What bounds the search of a number: the cell of its block, and how many networks begin before
+/// the next block. Where there is no such cell it's all of them, and a cell that counts none.
 #[inline(always)]
 fn top_span(image: &[u8], wide: bool, plan: Plan, number: u128) -> (Cell, usize)
     requires plan { IsPlanOf wide image.now plan }
@@ -34,8 +34,8 @@ fn top_span(image: &[u8], wide: bool, plan: Plan, number: u128) -> (Cell, usize)
     (Cell::NONE, plan.rows)
 }
 
-/// How many of the networks begin at or before an address, by its number, where the first `lo` do, and none from `hi`
-/// on.
+/// How many of the networks begin at or before an address, by its number, where the first `lo` do,
+/// and none from `hi` on.
 #[inline(always)]
 fn count_to(
     image: &[u8],
@@ -67,8 +67,8 @@ fn count_to(
     lo
 }
 
-/// The last of the first `from` networks that holds an address, by its index and one more, or 0 where there is none;
-/// the floor says so of as many as it counts.
+/// The last of the first `from` networks that holds an address, by its index and one more, or 0
+/// where there is none; the floor says so of as many as it counts.
 #[inline(always)]
 pub(crate) fn climb(
     image: &[u8],
@@ -105,7 +105,8 @@ pub(crate) fn climb(
     floor.around
 }
 
-/// The row of the longest network that holds an address, by its index and one more, or 0 where none does.
+/// The row of the longest network that holds an address, by its index and one more, or 0 where none
+/// does.
 #[inline(always)]
 pub(crate) fn find(image: &[u8], wide: bool, plan: Plan, number: u128) -> usize
     requires { IsPlanOf wide image.now plan }

@@ -32,8 +32,8 @@ pub(crate) fn mark() -> u64
     u64::from_le_bytes(*b"NZTEXT.1")
 }
 
-/// Why bytes that begin with another number are no image: they are of another version where the number's last 7 bytes
-/// are the same.
+/// Why bytes that begin with another number are no image: they are of another version where the
+/// number's last 7 bytes are the same.
 fn other_mark(own: u64) -> ImageError
     requires { own ≢ text_mark }
     ensures version { result ≡ ImageError.Version → own % 2 ^ 56 ≡ text_mark % 2 ^ 56 }

@@ -43,7 +43,8 @@ pub(crate) fn head_of(key: &[u8]) -> u64
     first_word(key)
 }
 
-/// The same of a key that is searched for; where the search is one through it, with 255 for each byte that it lacks.
+/// The same of a key that is searched for; where the search is one through it, with 255 for each
+/// byte that it lacks.
 #[inline(always)]
 pub(crate) fn bound_of(key: &[u8], is_through: bool) -> u64
     ensures bound { result ≡ key_bound is_through (nibbles key.now) }

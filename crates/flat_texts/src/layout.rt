@@ -37,7 +37,8 @@ fn len_of_keys(pairs: &[Pair<'_>]) -> Option<usize>
     Some(len)
 }
 
-/// Where the parts of an image of pairs lie, or None of 2^32 pairs or more, or as many bytes of keys.
+/// Where the parts of an image of pairs lie, or None of 2^32 pairs or more, or as many bytes of
+/// keys.
 pub(crate) fn layout(pairs: &[Pair<'_>]) -> Option<Plan>
     ensures { MatchOption result
         ((2 ^ 32 ≤ length pairs.now) ⊎ (2 ^ 32 ≤ keys_len pairs.now))
@@ -63,8 +64,9 @@ pub(crate) fn layout(pairs: &[Pair<'_>]) -> Option<Plan>
     })
 }
 
-/// How many bytes the image of pairs takes, with so many bytes of the user's own, as `write` lays it out, or None of
-/// 2^32 pairs or more, or as many bytes of keys, or where a `usize` doesn't count them.
+/// How many bytes the image of pairs takes, with so many bytes of the user's own, as `write` lays
+/// it out, or None of 2^32 pairs or more, or as many bytes of keys, or where a `usize` doesn't
+/// count them.
 pub fn image_len(pairs: &[Pair<'_>], payload: usize) -> Option<usize>
     ensures { SomeIff result ((length pairs.now < 2 ^ 32) × (keys_len pairs.now < 2 ^ 32)
         × (text_image_size pairs.now payload < 2 ^ 64)) (text_image_size pairs.now payload) }

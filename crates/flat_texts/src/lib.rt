@@ -1,5 +1,5 @@
-//! A map from byte strings to numbers, laid into one run of bytes, which is searched in place: a slice of a file that
-//! is mapped, or of any other memory.
+//! A map from byte strings to numbers, laid into one run of bytes, which is searched in place: a
+//! slice of a file that is mapped, or of any other memory.
 #![tactic(auto)]
 
 mod checking;
@@ -22,6 +22,3 @@ pub use ranges::{below, between, rank};
 pub use reading::{above, get, len, nearest, nth, place_at, prefixes};
 pub use tables::{from_image, to_image};
 pub use writing::write;
-
-#[cfg(test)]
-mod tests;

@@ -8,7 +8,8 @@ pub struct Pair<'a> {
     pub value: u64,
 }
 
-/// Where a key lies in an image, by the place of its first byte and how many bytes it has, and its value.
+/// Where a key lies in an image, by the place of its first byte and how many bytes it has, and its
+/// value.
 #[repr(C)]
 #[derive(Clone, Copy)]
 pub struct Place {

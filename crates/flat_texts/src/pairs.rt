@@ -68,7 +68,8 @@ pub(crate) fn count_at(image: &[u8], plan: Plan, at: usize) -> usize
     u32_at(image, plan.counts_at + 4 * at) as usize
 }
 
-/// The key at an index; where it would end before it begins, or behind all keys' bytes, what there is of it.
+/// The key at an index; where it would end before it begins, or behind all keys' bytes, what there
+/// is of it.
 #[inline(always)]
 pub(crate) fn key_at<'a>(image: &'a [u8], plan: Plan, at: usize) -> &'a [u8]
     requires plan { IsTextPlan image.now plan }

@@ -37,8 +37,8 @@ pub fn below(image: &[u8], prefix: &[u8]) -> (usize, usize)
     (from, to.saturating_sub(from))
 }
 
-/// The pairs whose keys are `from` or come after it, and come before `to`: the index of the first, and how many there
-/// are. Where `from` isn't before `to` there is none.
+/// The pairs whose keys are `from` or come after it, and come before `to`: the index of the first,
+/// and how many there are. Where `from` isn't before `to` there is none.
 pub fn between(image: &[u8], from: &[u8], to: &[u8]) -> (usize, usize)
     ensures within { result.0 + result.1 ≤ row_count image.now }
     ensures pairs { IsTextImage image.now

@@ -22,7 +22,8 @@ pub fn len(image: &[u8]) -> usize
     }
 }
 
-/// The pair at an index, in the order of the keys, or None where there is none. It takes constant time.
+/// The pair at an index, in the order of the keys, or None where there is none. It takes constant
+/// time.
 pub fn nth(image: &[u8], at: usize) -> Option<Pair<'_>>
     ensures { IsTextImage image.now
         → option_map given_pair result ≡ slice_get (image_pairs image.now) at }
@@ -39,7 +40,8 @@ pub fn nth(image: &[u8], at: usize) -> Option<Pair<'_>>
     })
 }
 
-/// Where the pair at an index lies, in the order of the keys, or None where there is none. It takes constant time.
+/// Where the pair at an index lies, in the order of the keys, or None where there is none. It takes
+/// constant time.
 pub fn place_at(image: &[u8], at: usize) -> Option<Place>
     ensures inside { IfSome result (λ place. place.first + place.len ≤ length image.now) }
     ensures pair { IsTextImage image.now
@@ -61,8 +63,8 @@ pub fn place_at(image: &[u8], at: usize) -> Option<Place>
 
 /// The index of the pair of a key, or None where the key isn't stored.
 ///
-/// It takes as many comparisons as the pairs have binary digits, most of them of the first eight bytes alone. Of
-/// bytes that are no image it returns None or the index of some pair.
+/// It takes as many comparisons as the pairs have binary digits, most of them of the first eight
+/// bytes alone. Of bytes that are no image it returns None or the index of some pair.
 pub fn get(image: &[u8], key: &[u8]) -> Option<usize>
     ensures within { IfSome result (λ at. at < row_count image.now) }
     ensures key { IsTextImage image.now → IfSome result (λ at. key_in image.now at ≡ key.now) }
@@ -79,10 +81,11 @@ pub fn get(image: &[u8], key: &[u8]) -> Option<usize>
     None
 }
 
-/// The index of the pair of the longest stored key that is a prefix of some bytes, or None where there is none.
+/// The index of the pair of the longest stored key that is a prefix of some bytes, or None where
+/// there is none.
 ///
-/// Where the bytes aren't stored, the stored prefixes of the key before them are gone through, from the longest on,
-/// until one of them is a prefix of the bytes too.
+/// Where the bytes aren't stored, the stored prefixes of the key before them are gone through, from
+/// the longest on, until one of them is a prefix of the bytes too.
 pub fn nearest(image: &[u8], key: &[u8]) -> Option<usize>
     ensures within { IfSome result (λ at. at < row_count image.now) }
     ensures pair { IsTextImage image.now → IsPairAbove (image_map image.now) (nibbles key.now)
@@ -98,8 +101,8 @@ pub fn nearest(image: &[u8], key: &[u8]) -> Option<usize>
     Some(found - 1)
 }
 
-/// The index of the pair of the longest stored key that is a prefix of the one at an index, and not this key itself,
-/// or None where there is none. It takes constant time.
+/// The index of the pair of the longest stored key that is a prefix of the one at an index, and not
+/// this key itself, or None where there is none. It takes constant time.
 pub fn above(image: &[u8], at: usize) -> Option<usize>
     ensures before { IfSome result (λ k. k < at) }
     ensures walk { IsTextImage image.now → at < row_count image.now
@@ -122,8 +125,8 @@ pub fn above(image: &[u8], at: usize) -> Option<usize>
     Some(link - 1)
 }
 
-/// Puts the indices of the pairs whose keys are prefixes of some bytes, from the longest up, into `found`, as many as
-/// it has room for. It returns how many.
+/// Puts the indices of the pairs whose keys are prefixes of some bytes, from the longest up, into
+/// `found`, as many as it has room for. It returns how many.
 pub fn prefixes(image: &[u8], key: &[u8], found: &mut [u32]) -> usize
     ensures within { result ≤ length found.new }
     ensures pairs { IsTextImage image.now

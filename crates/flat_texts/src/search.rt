@@ -22,7 +22,8 @@ pub(crate) struct Sought<'a> {
     pub(crate) is_through: bool,
 }
 
-/// On which side of a search a key lies of which the searched one is a prefix, or that is one of it.
+/// On which side of a search a key lies of which the searched one is a prefix, or that is one of
+/// it.
 #[inline(always)]
 fn side_of_begun(own: &[u8], key: &[u8], is_through: bool) -> Ordering
     ensures { take (2 * min (length own.now) (length key.now)) (nibbles own.now)
@@ -55,9 +56,9 @@ fn side_of(own: &[u8], key: &[u8], is_through: bool) -> Ordering
     code.get(same).cmp(&list.get(same))
 }
 
-/// On which side of a search the key at an index lies: Less where it comes before the searched one, or also where it
-/// begins with it and the search is one through it; Equal, of a search that isn't, where it is the searched one; and
-/// Greater otherwise.
+/// On which side of a search the key at an index lies: Less where it comes before the searched one,
+/// or also where it begins with it and the search is one through it; Equal, of a search that isn't,
+/// where it is the searched one; and Greater otherwise.
 #[inline(always)]
 fn side_at(image: &[u8], plan: Plan, at: usize, sought: &Sought<'_>) -> Ordering
     requires plan { IsTextPlan image.now plan }
@@ -78,8 +79,8 @@ fn side_at(image: &[u8], plan: Plan, at: usize, sought: &Sought<'_>) -> Ordering
     side_of(key_at(image, plan, at), sought.key, sought.is_through)
 }
 
-/// Bounds of a search, by the counts: the heads in front of the first are below a number, and those from the second
-/// on above it. Where there are no counts for it these are all.
+/// Bounds of a search, by the counts: the heads in front of the first are below a number, and those
+/// from the second on above it. Where there are no counts for it these are all.
 #[inline(always)]
 fn top_span(image: &[u8], plan: Plan, bound: u64) -> (usize, usize)
     requires plan { IsTextPlan image.now plan }
@@ -101,8 +102,8 @@ fn top_span(image: &[u8], plan: Plan, bound: u64) -> (usize, usize)
     (0, plan.pairs)
 }
 
-/// How many of the keys come before another one, or also begin with it where the search is one through it; and
-/// whether it stands behind these, of a search that isn't.
+/// How many of the keys come before another one, or also begin with it where the search is one
+/// through it; and whether it stands behind these, of a search that isn't.
 #[inline(always)]
 pub(crate) fn cut(image: &[u8], plan: Plan, key: &[u8], is_through: bool) -> (usize, bool)
     requires plan { IsTextPlan image.now plan }
@@ -132,10 +133,11 @@ pub(crate) fn cut(image: &[u8], plan: Plan, key: &[u8], is_through: bool) -> (us
     (lo, false)
 }
 
-/// The last of the first `from` keys that is a prefix of another one, by its index and one more, or 0 where there is
-/// none.
+/// The last of the first `from` keys that is a prefix of another one, by its index and one more, or
+/// 0 where there is none.
 ///
-/// It goes from each to the link of it, so at most as often as prefixes of the key before `from` are stored.
+/// It goes from each to the link of it, so at most as often as prefixes of the key before `from`
+/// are stored.
 #[inline(always)]
 pub(crate) fn climb(image: &[u8], plan: Plan, from: usize, key: &[u8]) -> usize
     requires plan { IsTextPlan image.now plan }
@@ -164,7 +166,8 @@ pub(crate) fn climb(image: &[u8], plan: Plan, from: usize, key: &[u8]) -> usize
     0
 }
 
-/// The last of the keys that is a prefix of another one, by its index and one more, or 0 where there is none.
+/// The last of the keys that is a prefix of another one, by its index and one more, or 0 where
+/// there is none.
 #[inline(always)]
 pub(crate) fn last_prefix(image: &[u8], plan: Plan, key: &[u8]) -> usize
     requires { IsTextPlan image.now plan }

@@ -18,7 +18,8 @@ use std::alloc::Global;
 ///
 /// # Errors
 ///
-/// The bytes are no image; or memory is refused, or the keys take more bytes than those of a map in memory may.
+/// The bytes are no image; or memory is refused, or the keys take more bytes than those of a map in
+/// memory may.
 pub fn from_image(alloc: Global, image: &[u8]) -> Result<FrozenTexts<u64>, TableError>
     ensures image { IfOk result (λ _. IsTextImage image.now) }
     ensures pairs { IfOk result (λ texts. pairs_below texts [] ≡ image_pairs image.now) }

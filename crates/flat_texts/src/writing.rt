@@ -133,14 +133,15 @@ fn put_counts(out: &mut [u8], plan: Plan)
     }
 }
 
-/// Writes the image of pairs whose keys rise in the order of their bytes, with the user's own bytes, into a buffer of
-/// `image_len` bytes or more. Bytes behind the image stay as they are. It takes linear time, but for the climb from
-/// each key to its longest stored prefix, and allocates nothing.
+/// Writes the image of pairs whose keys rise in the order of their bytes, with the user's own
+/// bytes, into a buffer of `image_len` bytes or more. Bytes behind the image stay as they are. It
+/// takes linear time, but for the climb from each key to its longest stored prefix, and allocates
+/// nothing.
 ///
 /// # Errors
 ///
-/// In this order: there are too many pairs or bytes of keys, the buffer is too short, or a key doesn't come after the
-/// one before it. The buffer is as before.
+/// In this order: there are too many pairs or bytes of keys, the buffer is too short, or a key
+/// doesn't come after the one before it. The buffer is as before.
 pub fn write(pairs: &[Pair<'_>], payload: &[u8], out: &mut [u8]) -> Result<(), WriteError>
     ensures ok { IsOk result ↔ CanWriteTexts pairs.now (length payload.now) (length out.old) }
     ensures fault { IfErr result (IsTextWriteFault pairs.now (length payload.now)

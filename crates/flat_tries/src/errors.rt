@@ -9,9 +9,9 @@ pub enum TrieError {
     Image(ImageError),
     /// The bytes of the pair at this index are the encoding of no key of the type.
     Key(usize),
-    /// The number of the pair at this index leads to no value of the type: it or the value's end lies outside the
-    /// image's own bytes, or they are of no value there, as bytes that aren't UTF-8 are of no text. A number that is
-    /// the value itself never does.
+    /// The number of the pair at this index leads to no value of the type: it or the value's end
+    /// lies outside the image's own bytes, or they are of no value there, as bytes that aren't
+    /// UTF-8 are of no text. A number that is the value itself never does.
     Value(usize),
     /// Memory is refused, or the encodings together take 2^31 bytes or more.
     Memory,

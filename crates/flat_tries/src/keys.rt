@@ -10,8 +10,8 @@ mod numbers;
 
 /// A key that is made again of the bytes of its encoding.
 pub trait ImageKey: TrieKey + Drop {
-    /// The key whose encoding has these bytes, two nibbles to a byte and the first in the high half, or None only where
-    /// no key of the type has this encoding.
+    /// The key whose encoding has these bytes, two nibbles to a byte and the first in the high
+    /// half, or None only where no key of the type has this encoding.
     ///
     /// # Errors
     ///

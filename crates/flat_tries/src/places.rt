@@ -18,8 +18,8 @@ pub fn own_bytes(image: &[u8]) -> &[u8]
     }
 }
 
-/// The bytes that stand at a place among an image's own bytes, behind four that say how many they are, or None where
-/// none do: where the place or their end lies outside.
+/// The bytes that stand at a place among an image's own bytes, behind four that say how many they
+/// are, or None where none do: where the place or their end lies outside.
 pub fn bytes_at(own: &[u8], place: u64) -> Option<&[u8]>
     ensures { MatchOption result ((bytes : List ℕ) → StandsCounted own.now place bytes → ⊥)
         (λ bytes. StandsCounted own.now place bytes.now) }
@@ -57,8 +57,8 @@ pub(crate) fn value_at<V: FileItem>(
     }
 }
 
-/// Adds the bytes of a value, behind four that say how many they are, and returns the place of these. What `bytes`
-/// held is lost.
+/// Adds the bytes of a value, behind four that say how many they are, and returns the place of
+/// these. What `bytes` held is lost.
 ///
 /// # Errors
 ///

@@ -14,13 +14,13 @@ use image_parts::ImageError;
 use radix_keys::{BytesError, TrieKey};
 use std::alloc::Global;
 
-/// The image of a frozen trie, with the user's own bytes: of each pair the bytes of the key's encoding, two nibbles to
-/// a byte and the first in the high half, with the value.
+/// The image of a frozen trie, with the user's own bytes: of each pair the bytes of the key's
+/// encoding, two nibbles to a byte and the first in the high half, with the value.
 ///
 /// # Errors
 ///
-/// `Odd`: the encoding of a key has an odd count of nibbles. `Memory`: memory is refused, or the encodings together
-/// take 2^31 bytes or more.
+/// `Odd`: the encoding of a key has an odd count of nibbles. `Memory`: memory is refused, or the
+/// encodings together take 2^31 bytes or more.
 pub fn to_image<K: TrieKey + Drop>(
     alloc: Global,
     trie: &FrozenTrie<K, u64>,
@@ -50,12 +50,13 @@ pub fn to_image<K: TrieKey + Drop>(
     }
 }
 
-/// The frozen trie of the pairs of an image: of each pair the key whose encoding has these bytes, with the value.
+/// The frozen trie of the pairs of an image: of each pair the key whose encoding has these bytes,
+/// with the value.
 ///
 /// # Errors
 ///
-/// The bytes are no image; or those of a pair are the encoding of no key of the type; or memory is refused, or the
-/// encodings take more bytes than those of a frozen trie may.
+/// The bytes are no image; or those of a pair are the encoding of no key of the type; or memory is
+/// refused, or the encodings take more bytes than those of a frozen trie may.
 pub fn from_image<K: ImageKey>(alloc: Global, image: &[u8]) -> Result<FrozenTrie<K, u64>, TrieError>
     ensures image { IfOk result (λ _. IsTextImage image.now) }
     ensures pairs { IfOk result (λ trie. AllZip (IsCodedPair K.encoding)

@@ -15,15 +15,16 @@ use image_parts::ImageError;
 use radix_keys::{BytesError, TrieKey};
 use std::alloc::Global;
 
-/// The image of a frozen trie whose values are texts, lists of bytes, or other things that stand in a file as bytes: of
-/// each pair the bytes of the key's encoding, two nibbles to a byte and the first in the high half, with the place of
-/// the value among the image's own bytes. There stands how many bytes the value has, in four bytes with the low one
-/// first, and they stand behind it. The values stand in the order of the pairs, the first at 0.
+/// The image of a frozen trie whose values are texts, lists of bytes, or other things that stand in
+/// a file as bytes: of each pair the bytes of the key's encoding, two nibbles to a byte and the
+/// first in the high half, with the place of the value among the image's own bytes. There stands
+/// how many bytes the value has, in four bytes with the low one first, and they stand behind it.
+/// The values stand in the order of the pairs, the first at 0.
 ///
 /// # Errors
 ///
-/// `Odd`: the encoding of a key has an odd count of nibbles. `Memory`: memory is refused, the encodings together take
-/// 2^31 bytes or more, or a value takes 2^32 bytes or more.
+/// `Odd`: the encoding of a key has an odd count of nibbles. `Memory`: memory is refused, the
+/// encodings together take 2^31 bytes or more, or a value takes 2^32 bytes or more.
 pub fn to_image_of_values<K: TrieKey + Drop, V: FileItem + Drop>(
     alloc: Global,
     trie: &FrozenTrie<K, V>,
@@ -59,13 +60,14 @@ pub fn to_image_of_values<K: TrieKey + Drop, V: FileItem + Drop>(
     }
 }
 
-/// The frozen trie of the pairs of an image: of each pair the key whose encoding has these bytes, with the value whose
-/// bytes stand at the pair's number among the image's own.
+/// The frozen trie of the pairs of an image: of each pair the key whose encoding has these bytes,
+/// with the value whose bytes stand at the pair's number among the image's own.
 ///
 /// # Errors
 ///
-/// The bytes are no image; or those of a pair are the encoding of no key of the type, or its number leads to no value
-/// of the type; or memory is refused, or the encodings take more bytes than those of a frozen trie may.
+/// The bytes are no image; or those of a pair are the encoding of no key of the type, or its number
+/// leads to no value of the type; or memory is refused, or the encodings take more bytes than those
+/// of a frozen trie may.
 pub fn from_image_of_values<K: ImageKey, V: FileItem + Drop>(
     alloc: Global,
     image: &[u8],

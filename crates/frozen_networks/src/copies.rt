@@ -10,15 +10,16 @@ use radix_keys::{Address, Memory, Network};
 use radix_trie::{BuildError, Trie, TrieCommon, keys_stand_at_their_encodings};
 use std::alloc::Global;
 
-/// The table of a trie's networks, each with a clone of its value, in linear time but for the climbs of
-/// `FrozenRoutes::from_sorted`. The trie stays as it is.
+/// The table of a trie's networks, each with a clone of its value, in linear time but for the
+/// climbs of `FrozenRoutes::from_sorted`. The trie stays as it is.
 ///
 /// Clones of values have to be equal to them.
 ///
 /// # Errors
 ///
-/// The trie holds 2^32 networks or more. Memory is refused, for the walk over the trie, for the rows or a clone of a value,
-/// or for what the table has beside them. The rows of a trie are always in order. Of no network the call never fails.
+/// The trie holds 2^32 networks or more. Memory is refused, for the walk over the trie, for the
+/// rows or a clone of a value, or for what the table has beside them. The rows of a trie are always
+/// in order. Of no network the call never fails.
 pub fn frozen_copy<A: Address, V: Clone>(
     trie: &Trie<Network<A>, V>,
 ) -> Result<FrozenRoutes<A, V>, BuildError>
@@ -64,13 +65,15 @@ fn cloned_rows<A: Address, V: Clone>(
     Ok(rows)
 }
 
-/// The trie of a table's networks, each with a clone of its value. The table stays as it is. Each row takes an insertion.
+/// The trie of a table's networks, each with a clone of its value. The table stays as it is. Each
+/// row takes an insertion.
 ///
 /// Clones of values have to be equal to them.
 ///
 /// # Errors
 ///
-/// Memory is refused, for a node of the trie, a network's bits or a clone of a value. Of no row the call never fails.
+/// Memory is refused, for a node of the trie, a network's bits or a clone of a value. Of no row the
+/// call never fails.
 pub fn thawed_copy<A: Address, V: Clone>(
     alloc: Global,
     routes: &FrozenRoutes<A, V>,

@@ -11,8 +11,8 @@ ghost use Rattle.frozen_routes.specs.Routes.{AreRowsInOrder, IsEarlier};
 ghost use Rattle.frozen_trie.specs.Frozen.{codes_of};
 ghost use Rattle.frozen_networks.specs.Networks.{IsMapOfNetworks, IsNetwork, network_code, network_map};
 
-/// Networks rise exactly as their lists of bits do: of two networks the one that a table has in front is the one whose list
-/// a trie has in front, and rows are in order where their lists rise.
+/// Networks rise exactly as their lists of bits do: of two networks the one that a table has in
+/// front is the one whose list a trie has in front, and rows are in order where their lists rise.
 pub fn networks_rise_as_their_bits<A, V>()
     ensures earlier { (w m k n j : ℕ) → IsBase w k m → IsBase w j n
         → IsEarlier m k n j ↔ IsBefore (first_bits w m k) (first_bits w n j) }
@@ -22,8 +22,8 @@ pub fn networks_rise_as_their_bits<A, V>()
         × IsRising (codes_of (network_code w number) rows)) }
 {}
 
-/// The rows of a map's networks are the map's again, and rows in order are those of their map, which is made by storing
-/// one row after the other.
+/// The rows of a map's networks are the map's again, and rows in order are those of their map,
+/// which is made by storing one row after the other.
 pub fn rows_and_maps_go_back<A, V>()
     ensures rows { (w : ℕ) (number : A → ℕ) (rows : List (Net A × V))
         → AreRowsInOrder w number rows → pairs_below (network_map w number rows) [] ≡ rows }

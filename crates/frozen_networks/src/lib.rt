@@ -10,6 +10,3 @@ pub use copies::{frozen_copy, thawed_copy};
 pub use laws::{networks_rise_as_their_bits, rows_and_maps_go_back};
 pub use moves::{freeze, thaw};
 pub use query_laws::maps_answer_as_tables;
-
-#[cfg(test)]
-mod tests;

@@ -12,13 +12,14 @@ use radix_keys::{Address, Memory, Network, Refused};
 use radix_trie::{BuildError, Trie, keys_stand_at_their_encodings};
 use std::alloc::Global;
 
-/// The table of a trie's networks, in linear time but for the climbs of `FrozenRoutes::from_sorted`: the values are moved, and
-/// the nodes are freed.
+/// The table of a trie's networks, in linear time but for the climbs of
+/// `FrozenRoutes::from_sorted`: the values are moved, and the nodes are freed.
 ///
 /// # Errors
 ///
-/// The trie holds 2^32 networks or more. Memory is refused, for the rows or for what the table has beside them. The trie
-/// comes back as it was: the values are moved last. Of no network the call never fails.
+/// The trie holds 2^32 networks or more. Memory is refused, for the rows or for what the table has
+/// beside them. The trie comes back as it was: the values are moved last. Of no network the call
+/// never fails.
 pub fn freeze<A: Address, V: Drop>(
     trie: Trie<Network<A>, V>,
 ) -> Result<FrozenRoutes<A, V>, Refused<BuildError, Trie<Network<A>, V>>>
@@ -67,13 +68,14 @@ fn each_is_network<A: Address, V>(rows: &[(Network<A>, V)])
     }
 }
 
-/// The trie of a table's networks. The values are moved into it, from the last row to the first, each by an insertion.
+/// The trie of a table's networks. The values are moved into it, from the last row to the first,
+/// each by an insertion.
 ///
 /// # Errors
 ///
-/// Memory is refused, for a node of the trie or a network's bits; of no row it never is. No row is lost, and none is
-/// dropped: those that are stored in the trie come back with it, and the others beside it, so that a caller can go on where
-/// the call stopped.
+/// Memory is refused, for a node of the trie or a network's bits; of no row it never is. No row is
+/// lost, and none is dropped: those that are stored in the trie come back with it, and the others
+/// beside it, so that a caller can go on where the call stopped.
 pub fn thaw<A: Address, V: Drop>(
     alloc: Global,
     routes: FrozenRoutes<A, V>,

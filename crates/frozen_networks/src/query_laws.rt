@@ -9,9 +9,10 @@ ghost use Rattle.radix_trie.specs.Views.{IsPairAbove, pairs_above, pairs_below};
 ghost use Rattle.frozen_routes.specs.Routes.{AreRowsInOrder, IsFoundRow, IsLongestAround, IsLongestRow, IsValueOf, is_around, is_inside};
 ghost use Rattle.frozen_networks.specs.Networks.{IsNetwork, network_code, network_map};
 
-/// The map of rows in order answers as the table of them does: the row and the value of a network, the rows within a network,
-/// those whose networks hold all of one, the longest of these, and of those that hold an address, and how many rows there are. So a trie of networks and a table
-/// of its rows return the same. Each row stands at its network's bits.
+/// The map of rows in order answers as the table of them does: the row and the value of a network,
+/// the rows within a network, those whose networks hold all of one, the longest of these, and of
+/// those that hold an address, and how many rows there are. So a trie of networks and a table of
+/// its rows return the same. Each row stands at its network's bits.
 pub fn maps_answer_as_tables<A, V>()
     ensures stored { (w : ℕ) (number : A → ℕ) (rows : List (Net A × V)) (e : List ℕ)
         (r : Net A × V) → AreRowsInOrder w number rows

@@ -22,14 +22,14 @@ impl<A: Address, V> FrozenRoutes<A, V> {
         }
     }
 
-    /// Appends a row whose network comes after all others: by its first address, or, where another has the same, by
-    /// more bits. It takes constant time but for the climb to the network around it, and drops what `finish` made to
-    /// shorten lookups.
+    /// Appends a row whose network comes after all others: by its first address, or, where another
+    /// has the same, by more bits. It takes constant time but for the climb to the network around
+    /// it, and drops what `finish` made to shorten lookups.
     ///
     /// # Errors
     ///
-    /// In this order: the table holds 2^32 - 1 rows; the network doesn't come after all others; memory
-    /// is refused. The row comes back, and the table is as before.
+    /// In this order: the table holds 2^32 - 1 rows; the network doesn't come after all others;
+    /// memory is refused. The row comes back, and the table is as before.
     pub fn push(
         &mut self,
         network: Network<A>,
@@ -66,15 +66,16 @@ impl<A: Address, V> FrozenRoutes<A, V> {
         Ok(())
     }
 
-    /// Takes no more room than the rows need, and makes what shortens lookups where there are 256 rows or more: a
-    /// table by the first bits of an address, of at most 16 bytes a row and 8 more, and of IPv6 the upper halves of the
-    /// first addresses, of 8 bytes a row. A row that is appended later drops both. It takes linear time but for the
-    /// climb to the network around each value of the first bits.
+    /// Takes no more room than the rows need, and makes what shortens lookups where there are 256
+    /// rows or more: a table by the first bits of an address, of at most 16 bytes a row and 8 more,
+    /// and of IPv6 the upper halves of the first addresses, of 8 bytes a row. A row that is
+    /// appended later drops both. It takes linear time but for the climb to the network around each
+    /// value of the first bits.
     ///
     /// # Errors
     ///
-    /// Memory for these is refused, which fewer than 256 rows never meet. Each call returns the same
-    /// without them.
+    /// Memory for these is refused, which fewer than 256 rows never meet. Each call returns the
+    /// same without them.
     pub fn finish(&mut self) -> Result<(), Memory>
         ensures same { self.new ≡ self.old }
         ensures few { length self.old < 256 → IsOk result }

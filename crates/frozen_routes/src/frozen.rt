@@ -13,14 +13,15 @@ use radix_keys::{Address, Network};
 use std::alloc::Global;
 use std::marker::Model;
 
-/// Networks of one family, each with a value, which are put in once and then read: all rows in the order of the first
-/// addresses, and of one first address the wider network first.
+/// Networks of one family, each with a value, which are put in once and then read: all rows in the
+/// order of the first addresses, and of one first address the wider network first.
 ///
 /// A contract sees it as the list of its rows. A lookup allocates nothing, and none is refused.
 #[derive(Drop)]
 pub struct FrozenRoutes<A: Address, V> {
     pub(crate) rows: Vec<(Network<A>, V)>,
-    /// For each row, the index and one more of the last earlier one whose network holds its first address, or 0.
+    /// For each row, the index and one more of the last earlier one whose network holds its first
+    /// address, or 0.
     pub(crate) up: Vec<u32>,
     /// What is known of the rows at each value of an address's first bits.
     pub(crate) tops: Tops,
@@ -105,15 +106,16 @@ impl<A: Address, V> FrozenRoutes<A, V> {
         entry_in(&self.rows, self.rows.len().saturating_sub(1))
     }
 
-    /// The row of the longest network that holds an address, or all of a network, or None where none does. It allocates
-    /// nothing.
+    /// The row of the longest network that holds an address, or all of a network, or None where
+    /// none does. It allocates nothing.
     ///
-    /// It takes as many comparisons as the count of rows has binary digits, and then a step for each network around the
-    /// last one that begins at or before the address, until one holds it. With the table of first bits, which
-    /// `from_sorted` and `finish` make from 256 rows on, both go over those rows alone whose first address agrees with
-    /// this one in these bits, of which there are as many as the count of all rows has binary digits, but at most 21:
-    /// where none of them holds the address, the table says which row does. A network takes the time of its first address,
-    /// and a step for each longer network that holds this.
+    /// It takes as many comparisons as the count of rows has binary digits, and then a step for
+    /// each network around the last one that begins at or before the address, until one holds it.
+    /// With the table of first bits, which `from_sorted` and `finish` make from 256 rows on, both
+    /// go over those rows alone whose first address agrees with this one in these bits, of which
+    /// there are as many as the count of all rows has binary digits, but at most 21: where none of
+    /// them holds the address, the table says which row does. A network takes the time of its first
+    /// address, and a step for each longer network that holds this.
     pub fn longest_match<Q: RouteQuery<A>>(&self, query: &Q) -> Option<(&Network<A>, &V)>
         ensures row { IsLongestAround A.BITS A.number self.now (Q.net query.now)
             (option_map row_of_refs result) }
@@ -125,11 +127,11 @@ impl<A: Address, V> FrozenRoutes<A, V> {
         Some(entry_at(&self.rows, found - 1))
     }
 
-    /// The walk over the rows whose networks hold an address, or all of a network, in order, so the widest first; from its
-    /// other end the longest first. It allocates nothing.
+    /// The walk over the rows whose networks hold an address, or all of a network, in order, so the
+    /// widest first; from its other end the longest first. It allocates nothing.
     ///
-    /// It takes the time of `longest_match` and a step for each of these rows, and ends with the row that
-    /// `longest_match` returns.
+    /// It takes the time of `longest_match` and a step for each of these rows, and ends with the
+    /// row that `longest_match` returns.
     pub fn common_prefixes<Q: RouteQuery<A>>(&self, query: &Q) -> CommonPrefixes<'_, A, V>
         ensures walk { result ≡ filter (is_around A.BITS A.number (Q.net query.now)) self.now }
     {
@@ -137,7 +139,8 @@ impl<A: Address, V> FrozenRoutes<A, V> {
         CommonPrefixes::new(self, last)
     }
 
-    /// The rows whose networks lie within a network, itself among them, in order. It allocates nothing.
+    /// The rows whose networks lie within a network, itself among them, in order. It allocates
+    /// nothing.
     ///
     /// It takes twice as many comparisons as the count of rows has binary digits.
     pub fn below(&self, network: &Network<A>) -> &[(Network<A>, V)]
@@ -174,8 +177,8 @@ impl<A: Address, V> FrozenRoutes<A, V> {
         self.rows
     }
 
-    /// The row at an index, by its parts, and the link there: the index and one more of the row of the network around
-    /// its own, or 0.
+    /// The row at an index, by its parts, and the link there: the index and one more of the row of
+    /// the network around its own, or 0.
     pub(crate) fn step_up(&self, at: usize) -> ((&Network<A>, &V), usize)
         requires { at < length self.now }
         ensures walk { rows_up A.BITS A.number self.now (at + 1)

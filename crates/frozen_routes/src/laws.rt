@@ -7,9 +7,10 @@ ghost use Rattle.radix_keys.specs.Networks.{AgreeIn, IsBase, Net};
 ghost use Rattle.frozen_routes.specs.Routes.{AreRowsInOrder, IsLongestAround, IsLongestRow, is_around, is_holder};
 ghost use Rattle.frozen_routes.specs.Nearest.{IsNearestRow};
 
-/// A network holds an address exactly where the list of the bits that the network's addresses share is a prefix of the
-/// list of all the address's bits; and all addresses of another network exactly where it is one of the list of that
-/// network's bits: where it holds the first of them, and has no more bits. As many bits as the network has are in its list.
+/// A network holds an address exactly where the list of the bits that the network's addresses share
+/// is a prefix of the list of all the address's bits; and all addresses of another network exactly
+/// where it is one of the list of that network's bits: where it holds the first of them, and has no
+/// more bits. As many bits as the network has are in its list.
 pub fn networks_hold_by_prefix()
     ensures holds { (w k m n : ℕ) → IsBase w k m → n < 2 ^ w
         → AgreeIn w k m n ↔ IsPrefix (first_bits w m k) (first_bits w n w) }
@@ -21,8 +22,9 @@ pub fn networks_hold_by_prefix()
     ensures count { (w k m : ℕ) → IsBase w k m → length (first_bits w m k) ≡ k }
 {}
 
-/// The row that `longest_match` returns is the one that a trie of the same rows finds nearest to the list of the query's
-/// bits: the one at the longest of the stored lists that are prefixes of it. There is one answer at most.
+/// The row that `longest_match` returns is the one that a trie of the same rows finds nearest to
+/// the list of the query's bits: the one at the longest of the stored lists that are prefixes of
+/// it. There is one answer at most.
 pub fn longest_rows_are_nearest<A, V>()
     ensures nearest { (w : ℕ) (number : A → ℕ) (rows : List (Net A × V)) (net : Net A)
         (found : Option (Net A × V)) → AreRowsInOrder w number rows
@@ -34,8 +36,8 @@ pub fn longest_rows_are_nearest<A, V>()
         → found ≡ other }
 {}
 
-/// An address asks as the network of it alone: the rows whose networks hold all of that are those whose networks hold the
-/// address, and so is the longest of them.
+/// An address asks as the network of it alone: the rows whose networks hold all of that are those
+/// whose networks hold the address, and so is the longest of them.
 pub fn addresses_ask_as_networks<A, V>()
     ensures longest { (w : ℕ) (number : A → ℕ) (rows : List (Net A × V)) (net : Net A)
         (found : Option (Net A × V)) → AreRowsInOrder w number rows → net.bits ≡ w

@@ -19,6 +19,3 @@ pub use prefixes::CommonPrefixes;
 pub use queries::RouteQuery;
 pub use room::Room;
 pub use sorted_tables::{PushWhy, SortedWhy};
-
-#[cfg(test)]
-mod tests;

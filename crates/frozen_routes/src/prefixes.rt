@@ -9,12 +9,13 @@ use radix_keys::{Address, Network};
 use std::iter::FusedIterator;
 use std::marker::Model;
 
-/// A walk over rows of which each network is the next one around that of the row behind it, in order: from the widest to
-/// the longest; from its other end, by `next_back` and `rev`, from the longest up.
+/// A walk over rows of which each network is the next one around that of the row behind it, in
+/// order: from the widest to the longest; from its other end, by `next_back` and `rev`, from the
+/// longest up.
 ///
-/// Neither end allocates, and both go on returning None after the end; `next_back` takes constant time, `next` that of as
-/// many links as rows are left. `len` is how many these are. A contract sees a walk as the list of the rows that are
-/// left.
+/// Neither end allocates, and both go on returning None after the end; `next_back` takes constant
+/// time, `next` that of as many links as rows are left. `len` is how many these are. A contract
+/// sees a walk as the list of the rows that are left.
 #[derive(Drop)]
 pub struct CommonPrefixes<'a, A: Address, V> {
     routes: &'a FrozenRoutes<A, V>,

@@ -6,7 +6,8 @@ use radix_keys::{Address, Memory};
 use std::alloc::Global;
 use std::marker::{Model, PhantomData};
 
-/// All memory that a table of so many rows takes beside them, so that making it of these can't be refused memory.
+/// All memory that a table of so many rows takes beside them, so that making it of these can't be
+/// refused memory.
 ///
 /// A contract sees it as this number.
 #[derive(Drop)]
@@ -40,7 +41,8 @@ impl<A: Address> Room<A> {
     ///
     /// # Errors
     ///
-    /// Memory for the links, or for what shortens lookups, is refused. For no row the call never fails.
+    /// Memory for the links, or for what shortens lookups, is refused. For no row the call never
+    /// fails.
     pub fn new(alloc: Global, rows: usize) -> Result<Room<A>, Memory>
         ensures rows { IfOk result (λ room. room ≡ min rows (2 ^ 32 - 1)) }
         ensures none { rows ≡ 0 → IsOk result }

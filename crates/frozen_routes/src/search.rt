@@ -6,8 +6,8 @@ use crate::rows::{bits_at, first_at, holds_at, without_last};
 use crate::tops::{Cell, Tops, top_span};
 use radix_keys::{Address, Network};
 
-/// Whether the network at an index begins at or before an address, by its number. The upper half of its own number tells
-/// so where there is one that differs.
+/// Whether the network at an index begins at or before an address, by its number. The upper half of
+/// its own number tells so where there is one that differs.
 fn begins_by<A: Address, V>(
     rows: &[(Network<A>, V)],
     uppers: &[u64],
@@ -28,8 +28,8 @@ fn begins_by<A: Address, V>(
     first_at(rows, at) <= number
 }
 
-/// How many of the networks begin at or before an address, by its number, where it's known that the first `lo` do, and
-/// none from `hi` on.
+/// How many of the networks begin at or before an address, by its number, where it's known that the
+/// first `lo` do, and none from `hi` on.
 fn count_to<A: Address, V>(
     rows: &[(Network<A>, V)],
     uppers: &[u64],
@@ -59,11 +59,11 @@ fn count_to<A: Address, V>(
     lo
 }
 
-/// The last of the first `from` networks that holds an address, by its index and one more, or 0 where there is none; the
-/// floor says so of as many as it counts.
+/// The last of the first `from` networks that holds an address, by its index and one more, or 0
+/// where there is none; the floor says so of as many as it counts.
 ///
-/// It goes from each to the link of it, down to the floor, so at most as often as networks hold the first address of the
-/// one before `from`.
+/// It goes from each to the link of it, down to the floor, so at most as often as networks hold the
+/// first address of the one before `from`.
 pub(crate) fn climb<A: Address, V>(
     rows: &[(Network<A>, V)],
     up: &[u32],
@@ -94,7 +94,8 @@ pub(crate) fn climb<A: Address, V>(
     floor.around as usize
 }
 
-/// The last of the networks that holds an address, by its index and one more, or 0 where there is none.
+/// The last of the networks that holds an address, by its index and one more, or 0 where there is
+/// none.
 fn last_holder<A: Address, V>(
     rows: &[(Network<A>, V)],
     up: &[u32],
@@ -117,10 +118,11 @@ fn last_holder<A: Address, V>(
     climb(rows, up, from, floor, number)
 }
 
-/// The last of the networks that holds all of another one, by its index and one more, or 0 where there is none.
+/// The last of the networks that holds all of another one, by its index and one more, or 0 where
+/// there is none.
 ///
-/// From the last that holds its first address it goes up the links for as long as they have more bits than it. None has
-/// more than an address alone.
+/// From the last that holds its first address it goes up the links for as long as they have more
+/// bits than it. None has more than an address alone.
 pub(crate) fn last_around<A: Address, V>(
     rows: &[(Network<A>, V)],
     up: &[u32],
@@ -145,8 +147,8 @@ pub(crate) fn last_around<A: Address, V>(
     at
 }
 
-/// Whether the network at an index comes in front of those within the network of `bits` bits whose addresses have
-/// `quotient` for these, or of those behind it where the search is one through it.
+/// Whether the network at an index comes in front of those within the network of `bits` bits whose
+/// addresses have `quotient` for these, or of those behind it where the search is one through it.
 fn is_in_front<A: Address, V>(
     rows: &[(Network<A>, V)],
     at: usize,
@@ -165,8 +167,8 @@ fn is_in_front<A: Address, V>(
     is_through || bits_at(rows, at) < bits
 }
 
-/// How many of the networks come in front of those within a network, or also those within where the search is one
-/// through it.
+/// How many of the networks come in front of those within a network, or also those within where the
+/// search is one through it.
 pub(crate) fn cut<A: Address, V>(
     rows: &[(Network<A>, V)],
     network: &Network<A>,

@@ -10,15 +10,17 @@ use radix_keys::{Address, Network, Refused};
 use sorted_tables::SortedWhy;
 
 impl<A: Address, V> FrozenRoutes<A, V> {
-    /// The table of rows whose networks rise: by their first addresses, and of one first address by their bits. The
-    /// vector is kept as it is, and what `finish` makes to shorten lookups is made too. It takes linear time but for
-    /// the climbs to the network around each network, and around each value of the first bits.
+    /// The table of rows whose networks rise: by their first addresses, and of one first address by
+    /// their bits. The vector is kept as it is, and what `finish` makes to shorten lookups is made
+    /// too. It takes linear time but for the climbs to the network around each network, and around
+    /// each value of the first bits.
     ///
     /// # Errors
     ///
-    /// A network doesn't come after that of the row before it, and the error says of the first such row where it
-    /// stands. There are 2^32 rows or more. Memory for the links, or for what shortens lookups, is refused, before any
-    /// row is read. The rows come back. Of no row the call never fails.
+    /// A network doesn't come after that of the row before it, and the error says of the first such
+    /// row where it stands. There are 2^32 rows or more. Memory for the links, or for what shortens
+    /// lookups, is refused, before any row is read. The rows come back. Of no row the call never
+    /// fails.
     pub fn from_sorted(
         rows: Vec<(Network<A>, V)>,
     ) -> Result<FrozenRoutes<A, V>, Refused<SortedWhy, Vec<(Network<A>, V)>>>
@@ -43,12 +45,13 @@ impl<A: Address, V> FrozenRoutes<A, V> {
         }
     }
 
-    /// The table that `from_sorted` makes, in room that was taken before. It takes no more memory, and none is refused.
+    /// The table that `from_sorted` makes, in room that was taken before. It takes no more memory,
+    /// and none is refused.
     ///
     /// # Errors
     ///
-    /// There are more rows than there is room for, which is `Full`; or a network doesn't come after that of the row before
-    /// it. The rows come back.
+    /// There are more rows than there is room for, which is `Full`; or a network doesn't come after
+    /// that of the row before it. The rows come back.
     pub fn from_sorted_in(
         room: Room<A>,
         rows: Vec<(Network<A>, V)>,
@@ -82,8 +85,8 @@ impl<A: Address, V> FrozenRoutes<A, V> {
     }
 }
 
-/// The links of rows, and the table of their first bits with what it has beside it; or the index of the first row that
-/// isn't in order.
+/// The links of rows, and the table of their first bits with what it has beside it; or the index of
+/// the first row that isn't in order.
 fn links_and_tops<A: Address, V>(
     room: Room<A>,
     rows: &[(Network<A>, V)],

@@ -1,4 +1,5 @@
-//! A table of what is known of the networks at each value of an address's first bits, which shortens searches.
+//! A table of what is known of the networks at each value of an address's first bits, which
+//! shortens searches.
 ghost use Rattle.std.specs.Prelude.{◌≡◌, ◌+◌, ◌*◌, ◌-◌, ◌^◌, ◌<◌, ◌≤◌, ℕ, [], IfOk, IsOk, length, slice_index};
 ghost use Rattle.std.specs.Vec.{vec_capacity};
 ghost use Rattle.frozen_routes.specs.Routes.{AreRowsInOrder, AreTopCells, AreUplinks, AreUppers, IsFirstTop, IsLastHolder, IsTopCell, base_numbers, bit_counts};
@@ -13,7 +14,8 @@ use std::alloc::Global;
 pub(crate) struct Cell {
     /// How many networks begin before the addresses that have it.
     pub(crate) count: u32,
-    /// The last of these that holds such an address, so all of them: its index and one more, or 0 where none does.
+    /// The last of these that holds such an address, so all of them: its index and one more, or 0
+    /// where none does.
     pub(crate) around: u32,
 }
 
@@ -32,12 +34,13 @@ pub(crate) struct Tops {
     pub(crate) rest: u8,
     /// A cell for each value of the first bits, and for one more.
     pub(crate) cells: Vec<Cell>,
-    /// The upper 64 bits of the first address of each network, where addresses have more bits; else empty.
+    /// The upper 64 bits of the first address of each network, where addresses have more bits; else
+    /// empty.
     pub(crate) uppers: Vec<u64>,
 }
 
-/// What bounds the search of a number: the cell of its block, and how many networks begin before the next block. Where
-/// there is no table it's all of them, and a cell that counts none.
+/// What bounds the search of a number: the cell of its block, and how many networks begin before
+/// the next block. Where there is no table it's all of them, and a cell that counts none.
 pub(crate) fn top_span<A: Address, V>(
     rows: &[(Network<A>, V)],
     tops: &Tops,
@@ -64,8 +67,8 @@ pub(crate) fn top_span<A: Address, V>(
     }
 }
 
-/// How many of the networks have less than this for their first bits, which `rest` others follow. The first `from`
-/// have.
+/// How many of the networks have less than this for their first bits, which `rest` others follow.
+/// The first `from` have.
 fn count_below<A: Address, V>(rows: &[(Network<A>, V)], from: usize, first: u128, rest: u8) -> usize
     requires rising { AreRowsInOrder A.BITS A.number rows.now }
     requires shift { rest < 128 }
@@ -81,7 +84,8 @@ fn count_below<A: Address, V>(rows: &[(Network<A>, V)], from: usize, first: u128
     count
 }
 
-/// The cell at this value of the first bits, which `rest` others follow. The first `from` networks have less.
+/// The cell at this value of the first bits, which `rest` others follow. The first `from` networks
+/// have less.
 fn cell_at<A: Address, V>(
     rows: &[(Network<A>, V)],
     up: &[u32],
@@ -125,8 +129,8 @@ fn with_uppers<A: Address, V>(rows: &[(Network<A>, V)], mut uppers: Vec<u64>) ->
     uppers
 }
 
-/// By how many first bits a table of so many networks is: as many as the count has binary digits, but at least 9 and at
-/// most 21.
+/// By how many first bits a table of so many networks is: as many as the count has binary digits,
+/// but at least 9 and at most 21.
 fn bits_for(networks: usize) -> u8
     ensures some { 9 ≤ result }
     ensures few { result ≤ 21 }
@@ -152,9 +156,9 @@ impl Tops {
         }
     }
 
-    /// A table without cells yet, and how many it has room for: for as many as fit so many networks, or for none below
-    /// 256 networks, whose search is short without. It has room for the upper halves of addresses of more than 64 bits
-    /// too.
+    /// A table without cells yet, and how many it has room for: for as many as fit so many
+    /// networks, or for none below 256 networks, whose search is short without. It has room for the
+    /// upper halves of addresses of more than 64 bits too.
     ///
     /// # Errors
     ///
@@ -183,8 +187,8 @@ impl Tops {
         Ok((tops, room))
     }
 
-    /// The table with so many cells, which it has room for, and the upper halves that it has room for. It goes over the
-    /// networks once or twice, and climbs to each cell's network.
+    /// The table with so many cells, which it has room for, and the upper halves that it has room
+    /// for. It goes over the networks once or twice, and climbs to each cell's network.
     pub(crate) fn filled<A: Address, V>(
         self,
         rows: &[(Network<A>, V)],

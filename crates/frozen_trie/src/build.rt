@@ -17,9 +17,10 @@ impl<K: TrieKey, V> FrozenTrie<K, V> {
     ///
     /// # Errors
     ///
-    /// The encoding of a pair isn't above that of the pair before it, and the error says of the first such pair where it
-    /// stands. There are 2^32 pairs or more. Memory is refused, for an encoding, or for the list of them and the links; the
-    /// encodings together take less than 2^31 bytes. The pairs come back. Of no pair the call never fails.
+    /// The encoding of a pair isn't above that of the pair before it, and the error says of the
+    /// first such pair where it stands. There are 2^32 pairs or more. Memory is refused, for an
+    /// encoding, or for the list of them and the links; the encodings together take less than 2^31
+    /// bytes. The pairs come back. Of no pair the call never fails.
     pub fn from_sorted(
         alloc: Global,
         pairs: Vec<(K, V)>,

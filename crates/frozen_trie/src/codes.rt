@@ -19,7 +19,8 @@ use std::alloc::Global;
 use std::cmp::Ordering;
 use std::marker::Model;
 
-/// How many lists are many enough for an index, and for levels or else copies of heads and a table of 65537 counts.
+/// How many lists are many enough for an index, and for levels or else copies of heads and a table
+/// of 65537 counts.
 const MANY: usize = 65536;
 
 /// How many bytes all lists have at most: twice as many and one more are a number of 32 bits.
@@ -29,12 +30,14 @@ const MOST: usize = (1 << 31) - 1;
 #[derive(Drop)]
 pub(crate) struct Codes {
     bytes: Vec<u8>,
-    /// Where the bytes of each list end, twice, and one more where its count of nibbles is odd: the low half of its last byte
-    /// is unused then.
+    /// Where the bytes of each list end, twice, and one more where its count of nibbles is odd: the
+    /// low half of its last byte is unused then.
     ends: Vec<u32>,
-    /// The head of each list: its first nibbles, and how many it has of these; behind what its block of 16 skips.
+    /// The head of each list: its first nibbles, and how many it has of these; behind what its
+    /// block of 16 skips.
     heads: Vec<u64>,
-    /// Where the lists are complete, many and alike, how many bytes each block of heads skips; else empty.
+    /// Where the lists are complete, many and alike, how many bytes each block of heads skips; else
+    /// empty.
     skips: Vec<u32>,
     /// The levels above these blocks, the lowest first, likewise.
     levels: Vec<Level>,
@@ -42,8 +45,8 @@ pub(crate) struct Codes {
     steps: Vec<u64>,
     /// How many heads are below each multiple of 2^48, likewise.
     tops: Vec<u32>,
-    /// Where the lists are complete, many and long, the index and one more of each, in a slot by its hash, and bits of the hash
-    /// above; or 0.
+    /// Where the lists are complete, many and long, the index and one more of each, in a slot by
+    /// its hash, and bits of the hash above; or 0.
     slots: Vec<u32>,
     /// Which bits of a hash these are.
     tags: u64,
@@ -125,9 +128,10 @@ impl Codes {
         self.piece(at).agreement(list, 0)
     }
 
-    /// On which side of a search the list at an index lies: Less where it comes before the searched one, or also where it begins
-    /// with it and the search is one through it; Equal, of a search that isn't, where it is the searched one; and Greater
-    /// otherwise. And how many nibbles the two agree in. So many as are known to agree aren't read.
+    /// On which side of a search the list at an index lies: Less where it comes before the searched
+    /// one, or also where it begins with it and the search is one through it; Equal, of a search
+    /// that isn't, where it is the searched one; and Greater otherwise. And how many nibbles the
+    /// two agree in. So many as are known to agree aren't read.
     pub(crate) fn side(&self, at: usize, sought: &Sought<'_>, known: usize) -> (Ordering, usize)
         requires within { at < length self.now }
         requires known { take known (code_at self.now at) ≡ take known sought.now.list.now }
@@ -155,8 +159,8 @@ impl Codes {
         (code.get(same).cmp(&list.get(same)), same)
     }
 
-    /// How many of the lists come before another one, or also begin with it where the search is one through it; and whether it
-    /// stands behind these, of a search that isn't.
+    /// How many of the lists come before another one, or also begin with it where the search is one
+    /// through it; and whether it stands behind these, of a search that isn't.
     pub(crate) fn cut(&self, list: &NibbleSlice<'_>, is_through: bool) -> (usize, bool)
         requires { IsRising self.now }
         ensures cut { IsCut (is_in_front is_through list.now) self.now result.0 }
@@ -176,7 +180,8 @@ impl Codes {
         self.descend((1, heads, &self.skips), &[], at, sought)
     }
 
-    /// Takes no more room than the lists need, and makes what shortens searches where they are many.
+    /// Takes no more room than the lists need, and makes what shortens searches where they are
+    /// many.
     ///
     /// # Errors
     ///

@@ -14,15 +14,15 @@ use radix_trie::{
     BuildError, Trie, TrieCommon, keys_stand_at_their_encodings, split_part_goes_back,
 };
 
-/// A frozen trie with the same encodings, each with a clone of its key and of its value, in linear time. The trie stays as
-/// it is.
+/// A frozen trie with the same encodings, each with a clone of its key and of its value, in linear
+/// time. The trie stays as it is.
 ///
 /// Clones of keys have to keep their encodings.
 ///
 /// # Errors
 ///
-/// The trie holds 2^32 pairs or more. Memory is refused, as by `freeze`, or in a clone of a key or a value. Of no pair the
-/// call never fails.
+/// The trie holds 2^32 pairs or more. Memory is refused, as by `freeze`, or in a clone of a key or
+/// a value. Of no pair the call never fails.
 pub fn frozen_copy<K: TrieKey + Clone, V: Clone>(
     trie: &Trie<K, V>,
 ) -> Result<FrozenTrie<K, V>, BuildError>

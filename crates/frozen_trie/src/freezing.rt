@@ -16,9 +16,10 @@ use radix_trie::{
 ///
 /// # Errors
 ///
-/// The trie holds 2^32 pairs or more. Memory is refused, for the walk over the trie, an encoding, the list of them and the
-/// links, or the list of the pairs; the encodings together take less than 2^31 bytes. The trie comes back as it was: the
-/// pairs are moved last. Of no pair the call never fails.
+/// The trie holds 2^32 pairs or more. Memory is refused, for the walk over the trie, an encoding,
+/// the list of them and the links, or the list of the pairs; the encodings together take less than
+/// 2^31 bytes. The trie comes back as it was: the pairs are moved last. Of no pair the call never
+/// fails.
 pub fn freeze<K: TrieKey + Drop, V: Drop>(
     trie: Trie<K, V>,
 ) -> Result<FrozenTrie<K, V>, Refused<BuildError, Trie<K, V>>>

@@ -17,19 +17,22 @@ mod keys;
 mod values;
 mod written;
 
-/// A map from keys to values, told apart by the keys' encodings, which is made once and then read: all pairs in the order of
-/// their encodings, one behind the other.
+/// A map from keys to values, told apart by the keys' encodings, which is made once and then read:
+/// all pairs in the order of their encodings, one behind the other.
 ///
-/// A contract sees it as it sees a `Trie`: as the finite map from each stored encoding, a list of nibbles, to the pair of
-/// the key and the value that are stored there. A call by a key allocates for the key's encoding alone: none is refused by a
-/// key that is inline, or that lends its encoding, as a text does, or a `Nibblet`, a list of nibbles in hand. A search takes
-/// the time of as many comparisons of lists as the count of pairs has binary digits, but for the climb of `longest_match`.
+/// A contract sees it as it sees a `Trie`: as the finite map from each stored encoding, a list of
+/// nibbles, to the pair of the key and the value that are stored there. A call by a key allocates
+/// for the key's encoding alone: none is refused by a key that is inline, or that lends its
+/// encoding, as a text does, or a `Nibblet`, a list of nibbles in hand. A search takes the time of
+/// as many comparisons of lists as the count of pairs has binary digits, but for the climb of
+/// `longest_match`.
 #[derive(Drop)]
 pub struct FrozenTrie<K: TrieKey, V> {
     /// The encodings of the pairs.
     codes: Codes,
     pairs: Vec<(K, V)>,
-    /// For each pair, the index and one more of the last earlier pair whose encoding is a prefix of its own, or 0.
+    /// For each pair, the index and one more of the last earlier pair whose encoding is a prefix of
+    /// its own, or 0.
     up: Vec<u32>,
     alloc: Global,
 }
@@ -76,14 +79,16 @@ impl<K: TrieKey, V> FrozenTrie<K, V> {
         self.len() == 0
     }
 
-    /// The key and the value with the first encoding, or None where no pair is stored. It takes constant time.
+    /// The key and the value with the first encoding, or None where no pair is stored. It takes
+    /// constant time.
     pub fn first_key_value(&self) -> Option<(&K, &V)>
         ensures pair { option_map deref_pair result ≡ slice_get (pairs_below self.now []) 0 }
     {
         self.nth(0)
     }
 
-    /// The key and the value with the last encoding, or None where no pair is stored. It takes constant time.
+    /// The key and the value with the last encoding, or None where no pair is stored. It takes
+    /// constant time.
     pub fn last_key_value(&self) -> Option<(&K, &V)>
         ensures pair { option_map deref_pair result ≡ slice_get (pairs_below self.now [])
             (length (pairs_below self.now []) - 1) }
@@ -91,16 +96,16 @@ impl<K: TrieKey, V> FrozenTrie<K, V> {
         entry_in(&self.pairs, self.pairs.len().saturating_sub(1))
     }
 
-    /// All pairs, in the order of their encodings, an encoding before its extensions. Their slice has walks from both ends,
-    /// whose length is known.
+    /// All pairs, in the order of their encodings, an encoding before its extensions. Their slice
+    /// has walks from both ends, whose length is known.
     pub fn pairs(&self) -> &[(K, V)]
         ensures pairs { result.now ≡ pairs_below self.now [] }
     {
         self.pairs.as_slice()
     }
 
-    /// The key and the value of the pair at an index, in the order of the encodings, or None past the end. It takes constant
-    /// time.
+    /// The key and the value of the pair at an index, in the order of the encodings, or None past
+    /// the end. It takes constant time.
     pub fn nth(&self, index: usize) -> Option<(&K, &V)>
         ensures pair { option_map deref_pair result ≡ slice_get (pairs_below self.now []) index }
     {
@@ -130,8 +135,8 @@ impl<K: TrieKey, V> FrozenTrie<K, V> {
         let _pairs = &self.pairs;
     }
 
-    /// The pair at an index, by its parts, and the link there: the index and one more of the next pair whose encoding is a
-    /// prefix of its own, or 0.
+    /// The pair at an index, by its parts, and the link there: the index and one more of the next
+    /// pair whose encoding is a prefix of its own, or 0.
     pub(crate) fn step_up(&self, at: usize) -> ((&K, &V), usize)
         requires { at < map.len self.now }
         ensures walk { prefixes_up K.encoding self.now (at + 1)

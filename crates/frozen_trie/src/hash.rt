@@ -30,7 +30,8 @@ fn hash_bytes(bytes: &[u8]) -> u64
     mixed(hash, word(bytes, count - 8))
 }
 
-/// A hash and one word more. The upper half goes into the lower one, which a product's upper half doesn't reach.
+/// A hash and one word more. The upper half goes into the lower one, which a product's upper half
+/// doesn't reach.
 fn mixed(hash: u64, word: u64) -> u64
     ensures { result ≡ mixed_with hash word }
 {

@@ -7,8 +7,8 @@ ghost use Rattle.frozen_trie.specs.Heads.{AreNibbles, AreSteps, AreTops, bound_o
 use radix_keys::{Memory, NibbleSlice};
 use std::alloc::Global;
 
-/// The head of a list: its first 15 nibbles, and how many it has of these. Where the search is one through the list, 15 stands
-/// for each nibble that it lacks, and for their count.
+/// The head of a list: its first 15 nibbles, and how many it has of these. Where the search is one
+/// through the list, 15 stands for each nibble that it lacks, and for their count.
 pub(crate) fn head_of(list: &NibbleSlice<'_>, is_through: bool) -> u64
     ensures head { result ≡ bound_of is_through list.now }
     ensures nibbles { (k : ℕ) → slice_index list.now k < 16 }
@@ -62,14 +62,15 @@ fn byte_or_zero(bytes: &[u8], i: usize) -> u8
     if i < bytes.len() { bytes[i] } else { 0 }
 }
 
-/// How far apart numbers are that are copied, so that the first steps of a search touch few places in memory.
+/// How far apart numbers are that are copied, so that the first steps of a search touch few places
+/// in memory.
 const APART: usize = 16;
 
 /// How many numbers a search is left with, at most, once it has gone by the copied ones.
 const FEW: usize = 64;
 
-/// Bounds for a search among numbers that don't fall: those in front of the first bound are below a number, and those from
-/// the second on above it. They are one where the number isn't among them.
+/// Bounds for a search among numbers that don't fall: those in front of the first bound are below a
+/// number, and those from the second on above it. They are one where the number isn't among them.
 pub(crate) fn span(numbers: &[u64], steps: &[u64], tops: &[u32], bound: u64) -> (usize, usize)
     requires rising { IsNonDecreasing numbers.now }
     requires steps { AreSteps numbers.now steps.now }

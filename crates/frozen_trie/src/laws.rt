@@ -17,10 +17,10 @@ use crate::texts::FrozenTexts;
 use radix_keys::TrieKey;
 
 /// In each frozen trie a key stands at its encoding. So the keys of a slice `below` a list have
-/// encodings that begin with it, and it misses none; `longest_match` and `common_prefixes` find those
-/// that are a prefix of it; a `range` that begins with a list, or behind it, those that are the list or
-/// come after it; and the encodings rise. Of a type all of whose keys are values no more is needed for
-/// the laws by keys.
+/// encodings that begin with it, and it misses none; `longest_match` and `common_prefixes` find
+/// those that are a prefix of it; a `range` that begins with a list, or behind it, those that are
+/// the list or come after it; and the encodings rise. Of a type all of whose keys are values no
+/// more is needed for the laws by keys.
 pub fn frozen_stands_at_its_encodings<K: TrieKey, V>(frozen: &FrozenTrie<K, V>)
     ensures stored { (e : List ℕ) (p : K × V) → map.get frozen.now e ≡ Some p
         → e ≡ K.encoding p.0 }
@@ -45,8 +45,8 @@ pub fn frozen_stands_at_its_encodings<K: TrieKey, V>(frozen: &FrozenTrie<K, V>)
 }
 
 /// In each map from byte strings a key that is found is the bytes that were asked for. The keys of
-/// `below` begin with the bytes, and it misses none; those of `common_prefixes` are prefixes of them;
-/// and the keys rise in the order of their bytes.
+/// `below` begin with the bytes, and it misses none; those of `common_prefixes` are prefixes of
+/// them; and the keys rise in the order of their bytes.
 pub fn texts_stand_at_their_bytes<V>(texts: &FrozenTexts<V>)
     ensures stored { (e : List ℕ) (p : List ℕ × V) → map.get texts.now e ≡ Some p
         → e ≡ nibbles p.0 }
@@ -64,8 +64,8 @@ pub fn texts_stand_at_their_bytes<V>(texts: &FrozenTexts<V>)
     texts.is_of_its_pairs();
 }
 
-/// The bytes of a file that `FrozenTrie::write` makes have no fault: a call that reads them fails only
-/// for memory, or where a read fails. Keys that are the same have to have one encoding.
+/// The bytes of a file that `FrozenTrie::write` makes have no fault: a call that reads them fails
+/// only for memory, or where a read fails. Keys that are the same have to have one encoding.
 pub fn files_have_no_fault<K: TrieKey + FileItem, V: FileItem>(frozen: &FrozenTrie<K, V>)
     ensures { ((x y : K) → K.is_same x y → K.encoding x ≡ K.encoding y)
         → IsFileable K.file_bytes V.file_bytes K.is_item V.is_item K.encoding frozen.now

@@ -29,6 +29,3 @@ pub use laws::{
 pub use prefixes::CommonPrefixes;
 pub use sorted_tables::{PushWhy, SortedWhy};
 pub use texts::{FrozenTexts, TextKey, TextPrefixes, Texts};
-
-#[cfg(test)]
-mod tests;

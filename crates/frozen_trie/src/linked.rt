@@ -29,7 +29,8 @@ pub(crate) fn follows(codes: &Codes, list: &NibbleSlice<'_>) -> bool
 ///
 /// # Errors
 ///
-/// Memory is refused, or the bytes of all lists would be 2^31 or more. The lists and links stay as they are then.
+/// Memory is refused, or the bytes of all lists would be 2^31 or more. The lists and links stay as
+/// they are then.
 pub(crate) fn push_linked(
     codes: &mut Codes,
     up: &mut Vec<u32>,

@@ -25,9 +25,11 @@ pub(crate) fn upper(codes: &Codes, list: &NibbleSlice<'_>) -> usize
     codes.cut(list, true).0
 }
 
-/// The last of the first `from` lists that is a prefix of another one, by its index and one more, or 0 where there is none.
+/// The last of the first `from` lists that is a prefix of another one, by its index and one more,
+/// or 0 where there is none.
 ///
-/// It goes from each to the link of it, so at most as often as prefixes of the list before `from` are stored.
+/// It goes from each to the link of it, so at most as often as prefixes of the list before `from`
+/// are stored.
 pub(crate) fn climb(codes: &Codes, up: &[u32], from: usize, list: &NibbleSlice<'_>) -> usize
     requires within { from ≤ length codes.now }
     requires linked { from ≤ length up.now }
@@ -83,7 +85,8 @@ fn end(codes: &Codes, high: Bound<NibbleSlice<'_>>) -> usize
     }
 }
 
-/// The lists within two bounds: the index of the first, and that behind the last. Where there is none the two are one.
+/// The lists within two bounds: the index of the first, and that behind the last. Where there is
+/// none the two are one.
 pub(crate) fn within(
     codes: &Codes,
     low: Bound<NibbleSlice<'_>>,
@@ -127,7 +130,8 @@ fn index_by_order(codes: &Codes, list: &NibbleSlice<'_>) -> Option<usize>
     if is_found { Some(at) } else { None }
 }
 
-/// The last of the lists that is a prefix of another one, by its index and one more, or 0 where there is none.
+/// The last of the lists that is a prefix of another one, by its index and one more, or 0 where
+/// there is none.
 pub(crate) fn last_prefix(codes: &Codes, up: &[u32], list: &NibbleSlice<'_>) -> usize
     requires linked { length up.now ≡ length codes.now }
     requires rising { IsRising codes.now }

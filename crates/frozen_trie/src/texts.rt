@@ -27,22 +27,25 @@ pub use key::TextKey;
 pub use prefixes::TextPrefixes;
 pub use walk::Texts;
 
-/// A map from byte strings to values, which is made in the order of the keys and then read. The keys'
-/// bytes lie one behind the other, so a pair takes those of its key, its value and 16 bytes more, once
-/// `finish` has dropped spare room; from 65,536 pairs on its tables take 2^18 bytes and half a byte a
-/// pair besides, or 1.4 bytes a pair where keys are alike, and 5 bytes a pair where keys take more than 4
-/// bytes on average: 26 bytes more a pair at most. A key comes out as the bytes that went in.
+/// A map from byte strings to values, which is made in the order of the keys and then read. The
+/// keys' bytes lie one behind the other, so a pair takes those of its key, its value and 16 bytes
+/// more, once `finish` has dropped spare room; from 65,536 pairs on its tables take 2^18 bytes and
+/// half a byte a pair besides, or 1.4 bytes a pair where keys are alike, and 5 bytes a pair where
+/// keys take more than 4 bytes on average: 26 bytes more a pair at most. A key comes out as the
+/// bytes that went in.
 ///
-/// A contract sees it as it sees a `FrozenTrie`: as the finite map from the nibbles of each key to the pair of the key's
-/// bytes and its value. The order of the nibbles is that of the bytes. A call that reads allocates nothing, and none is
-/// refused; a search takes the time of as many comparisons of keys as the count of pairs has binary digits, but for the
-/// climb of `longest_match`.
+/// A contract sees it as it sees a `FrozenTrie`: as the finite map from the nibbles of each key to
+/// the pair of the key's bytes and its value. The order of the nibbles is that of the bytes. A call
+/// that reads allocates nothing, and none is refused; a search takes the time of as many
+/// comparisons of keys as the count of pairs has binary digits, but for the climb of
+/// `longest_match`.
 #[derive(Drop)]
 pub struct FrozenTexts<V> {
     /// The nibbles of the keys.
     codes: Codes,
     values: Vec<V>,
-    /// For each pair, the index and one more of the last earlier pair whose key is a prefix of its own, or 0.
+    /// For each pair, the index and one more of the last earlier pair whose key is a prefix of its
+    /// own, or 0.
     up: Vec<u32>,
     alloc: Global,
 }
@@ -120,10 +123,11 @@ impl<V> FrozenTexts<V> {
         self.nth(self.len().saturating_sub(1))
     }
 
-    /// The longest stored key that is a prefix of some bytes, and its value, or None where there is none.
+    /// The longest stored key that is a prefix of some bytes, and its value, or None where there is
+    /// none.
     ///
-    /// Where the bytes aren't stored, the stored prefixes of the key before them are gone through, from the longest on,
-    /// until one of them is a prefix of the bytes too.
+    /// Where the bytes aren't stored, the stored prefixes of the key before them are gone through,
+    /// from the longest on, until one of them is a prefix of the bytes too.
     pub fn longest_match(&self, key: &[u8]) -> Option<(&[u8], &V)>
         ensures pair { IsPairAbove self.now (nibbles key.now) (option_map deref_pair result) }
     {
@@ -134,7 +138,8 @@ impl<V> FrozenTexts<V> {
         Some(self.pair_at(found - 1))
     }
 
-    /// The walk over the pairs whose keys are prefixes of some bytes, from the shortest to the longest.
+    /// The walk over the pairs whose keys are prefixes of some bytes, from the shortest to the
+    /// longest.
     pub fn common_prefixes(&self, key: &[u8]) -> TextPrefixes<'_, V>
         ensures walk { result ≡ pairs_above self.now (nibbles key.now) }
     {
@@ -144,8 +149,8 @@ impl<V> FrozenTexts<V> {
         )
     }
 
-    /// The walk over the pairs whose keys lie within a range, in order. Where the first key comes after the last, there is
-    /// none.
+    /// The walk over the pairs whose keys lie within a range, in order. Where the first key comes
+    /// after the last, there is none.
     pub fn range<Q: TextKey, R: RangeBounds<Q>>(&self, range: R) -> Texts<'_, V>
         ensures walk { R.has_bounds range → result ≡ pairs_within self.now []
             (encoded_bound (λ key. nibbles (Q.bytes key)) (R.start_bound range))
@@ -180,7 +185,8 @@ impl<V> FrozenTexts<V> {
         Texts::new(self, 0, self.len())
     }
 
-    /// How many of the keys come before some bytes: the index at which these are stored, or would be.
+    /// How many of the keys come before some bytes: the index at which these are stored, or would
+    /// be.
     pub fn rank(&self, key: &[u8]) -> usize
         ensures count { result ≡ length (pairs_before self.now [] (nibbles key.now)) }
     {
@@ -220,8 +226,8 @@ impl<V> FrozenTexts<V> {
         let _values = &self.values;
     }
 
-    /// The pair at an index, by its parts, and the link there: the index and one more of the next pair whose key is a prefix
-    /// of its own, or 0.
+    /// The pair at an index, by its parts, and the link there: the index and one more of the next
+    /// pair whose key is a prefix of its own, or 0.
     fn step_up(&self, at: usize) -> ((&[u8], &V), usize)
         requires { at < map.len self.now }
         ensures walk { prefixes_up nibbles self.now (at + 1)

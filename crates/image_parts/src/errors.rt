@@ -9,8 +9,8 @@ pub enum ImageError {
     Mark,
     /// The image is of another version.
     Version,
-    /// The part listed at this index is missing or of another kind, lies outside the bytes, or has another size or
-    /// detail.
+    /// The part listed at this index is missing or of another kind, lies outside the bytes, or has
+    /// another size or detail.
     Part(usize),
     /// The row at this index is none, doesn't come after the row before it, or has another link.
     Row(usize),
@@ -34,6 +34,7 @@ pub enum WriteError {
 pub enum TableError {
     /// They are no image.
     Image(ImageError),
-    /// Memory is refused, or the keys together take 2^31 bytes or more, as those of a table in memory may not.
+    /// Memory is refused, or the keys together take 2^31 bytes or more, as those of a table in
+    /// memory may not.
     Memory,
 }

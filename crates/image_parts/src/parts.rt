@@ -5,7 +5,8 @@ ghost use Rattle.image_parts.specs.Parts.{IsListed, IsPayload, u32_in, u64_in};
 use crate::loads::{u32_at, u64_at};
 use crate::stores::{put_u32, put_u64};
 
-/// The place and the length in bytes of the part listed at a place, if it is of this kind and lies inside the bytes.
+/// The place and the length in bytes of the part listed at a place, if it is of this kind and lies
+/// inside the bytes.
 #[inline(always)]
 pub fn part_at(image: &[u8], entry: usize, kind: u32) -> Option<(usize, usize)>
     requires { entry + 24 ≤ length image.now }
@@ -21,9 +22,9 @@ pub fn part_at(image: &[u8], entry: usize, kind: u32) -> Option<(usize, usize)>
     Some((place, size))
 }
 
-/// The place and the length in bytes of the user's own bytes: of the first listed part of kind 3. It is None where
-/// there is none, where this part lies outside the bytes, and where the list does. Images of all kinds have such a
-/// list, and no mark is tested.
+/// The place and the length in bytes of the user's own bytes: of the first listed part of kind 3.
+/// It is None where there is none, where this part lies outside the bytes, and where the list does.
+/// Images of all kinds have such a list, and no mark is tested.
 pub fn payload(image: &[u8]) -> Option<(usize, usize)>
     ensures part { MatchOption result ((place size : ℕ) → IsPayload image.now place size → ⊥)
         (λ part. IsPayload image.now part.0 part.1) }

@@ -9,9 +9,10 @@ ghost use Rattle.keyed_maps.specs.KeyedMaps.{AlwaysLeaves, keyed_map, stored_key
 
 use radix_trie::TrieKey;
 
-/// The map by keys after `Trie::retain`, also where it failed: a value stays where the closure can't return false of it, and
-/// no other comes. Where it didn't fail, a value goes where the closure can't return true of it. The last two say the same
-/// where that depends on the stored key, which equals the key.
+/// The map by keys after `Trie::retain`, also where it failed: a value stays where the closure
+/// can't return false of it, and no other comes. Where it didn't fail, a value goes where the
+/// closure can't return true of it. The last two say the same where that depends on the stored key,
+/// which equals the key.
 pub fn keyed_maps_follow_retain<K: TrieKey, V, F: Fn(&K, &V) -> bool>(keep: &F)
     ensures get_kept { (m n : PairMap K V) → RetainsAtLeast (ReturnsAtPair F.Fn keep.now) m n
         → (k : K) (v : V) → keyed_map K.encoding m k ≡ Some v
@@ -36,9 +37,10 @@ pub fn keyed_maps_follow_retain<K: TrieKey, V, F: Fn(&K, &V) -> bool>(keep: &F)
         → keyed_map K.encoding n k ≡ None }
 {}
 
-/// The map by keys after `Trie::for_each_mut`: each value is one that the closure may leave of the old one, called with the
-/// stored key, which equals the key; where it always leaves what a function makes of the value, it is that (`get_mapped`). The
-/// stored keys stay, and no other value comes.
+/// The map by keys after `Trie::for_each_mut`: each value is one that the closure may leave of the
+/// old one, called with the stored key, which equals the key; where it always leaves what a
+/// function makes of the value, it is that (`get_mapped`). The stored keys stay, and no other value
+/// comes.
 pub fn keyed_maps_follow_changes<K: TrieKey, V, F: Fn(&K, &mut V)>(f: &F)
     ensures get_changed { (m n : PairMap K V) → ChangesEachPair (LeavesAtPair F.Fn f.now) m n
         → (k : K) (v : V) → keyed_map K.encoding m k ≡ Some v
@@ -57,8 +59,8 @@ pub fn keyed_maps_follow_changes<K: TrieKey, V, F: Fn(&K, &mut V)>(f: &F)
         → (k : K) → keyed_map K.encoding m k ≡ None → keyed_map K.encoding n k ≡ None }
 {}
 
-/// The map by keys of a `Trie::clone`: each value is a clone, and no other comes. Where a clone of a value is the value, as a
-/// number's is, it is the same map.
+/// The map by keys of a `Trie::clone`: each value is a clone, and no other comes. Where a clone of
+/// a value is the value, as a number's is, it is the same map.
 pub fn keyed_maps_follow_clones<K: TrieKey + Clone, V: Clone>()
     ensures get_cloned { (m n : PairMap K V) → IsMapCopy (IsPairClone K.is_clone V.is_clone) m n
         → (k : K) (v : V) → keyed_map K.encoding m k ≡ Some v

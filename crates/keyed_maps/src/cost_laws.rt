@@ -6,8 +6,8 @@ ghost use Rattle.nibble_map.specs.Maps.{IsPoint, IsSomePrefix, PairMap};
 
 use radix_trie::TrieKey;
 
-/// An insertion takes no node away and makes at most two: the key's own, and one where its encoding parts from that of a
-/// stored key. A removal makes no node and takes at most two away.
+/// An insertion takes no node away and makes at most two: the key's own, and one where its encoding
+/// parts from that of a stored key. A removal makes no node and takes at most two away.
 pub fn edits_make_few_nodes<K: TrieKey, V>()
     ensures insert_takes_none { (m : PairMap K V) (k : K) (v : V) (n o : ℕ)
         → Counts (IsPoint m) n → Counts (IsPoint (map.insert m (K.encoding k) (k, v))) o
@@ -21,8 +21,8 @@ pub fn edits_make_few_nodes<K: TrieKey, V>()
         → Counts (IsPoint m) n → Counts (IsPoint (map.remove m (K.encoding k))) o → n ≤ o + 2 }
 {}
 
-/// An insertion takes no nibble of the fragments away and makes at most as many as the key's encoding has. A removal makes
-/// none and takes at most so many away.
+/// An insertion takes no nibble of the fragments away and makes at most as many as the key's
+/// encoding has. A removal makes none and takes at most so many away.
 pub fn edits_make_few_nibbles<K: TrieKey, V>()
     ensures insert_takes_none { (m : PairMap K V) (k : K) (v : V) (n o : ℕ)
         → Counts (IsSomePrefix m) n

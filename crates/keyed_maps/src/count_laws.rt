@@ -8,8 +8,8 @@ ghost use Rattle.keyed_maps.specs.KeyedMaps.{EncodesAlike, keyed_map};
 
 use radix_trie::TrieKey;
 
-/// The count of pairs goes up by one where a key without a value is stored, down by one where a key with one is removed, and
-/// else stays.
+/// The count of pairs goes up by one where a key without a value is stored, down by one where a key
+/// with one is removed, and else stays.
 pub fn counts_follow_keys<K: TrieKey, V>()
     ensures len_insert_new { (m : PairMap K V) (k : K) (v : V) → keyed_map K.encoding m k ≡ None
         → map.len (map.insert m (K.encoding k) (k, v)) ≡ map.len m + 1 }
@@ -23,9 +23,9 @@ pub fn counts_follow_keys<K: TrieKey, V>()
         → map.remove m (K.encoding k) ≡ m }
 {}
 
-/// A walk gives the keys that have a value, each once: a key with one is equal to a key of the walk, with that value; each
-/// key of the walk has the value that stands beside it; and no two have one encoding, so none equals another where equal keys
-/// are encoded alike.
+/// A walk gives the keys that have a value, each once: a key with one is equal to a key of the
+/// walk, with that value; each key of the walk has the value that stands beside it; and no two have
+/// one encoding, so none equals another where equal keys are encoded alike.
 pub fn walks_give_each_key<K: TrieKey, V>()
     ensures given { (m : PairMap K V) → IsKeyed K.encoding K.is_value m
         → (k : K) (v : V) → K.is_value k → keyed_map K.encoding m k ≡ Some v

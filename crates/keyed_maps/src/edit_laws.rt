@@ -6,8 +6,8 @@ ghost use Rattle.keyed_maps.specs.KeyedMaps.{EncodesAlike, keyed_insert, keyed_m
 
 use radix_trie::TrieKey;
 
-/// The map by keys after an insertion or a removal: at the key what was stored, or none, and at each key that doesn't equal
-/// it (`==`) what it was before.
+/// The map by keys after an insertion or a removal: at the key what was stored, or none, and at
+/// each key that doesn't equal it (`==`) what it was before.
 pub fn keyed_maps_follow_edits<K: TrieKey, V>()
     ensures get_empty { (k : K) → keyed_map {V = V} K.encoding map.empty k ≡ None }
     ensures get_insert_same { (m : PairMap K V) (k : K) (v : V)
@@ -22,8 +22,8 @@ pub fn keyed_maps_follow_edits<K: TrieKey, V>()
         → keyed_map K.encoding (map.remove m (K.encoding k)) j ≡ keyed_map K.encoding m j }
 {}
 
-/// The same in one equation each, for a type whose equal keys are encoded alike: the map by keys is a function of keys up to
-/// `==`, and an insertion or a removal is that of functions.
+/// The same in one equation each, for a type whose equal keys are encoded alike: the map by keys is
+/// a function of keys up to `==`, and an insertion or a removal is that of functions.
 pub fn equal_keys_have_one_value<K: TrieKey, V>()
     ensures equal { EncodesAlike K.encoding K.is_value K.eq
         → (m : PairMap K V) (k j : K) → K.is_value k → K.is_value j → K.eq k j ≡ true
@@ -38,8 +38,8 @@ pub fn equal_keys_have_one_value<K: TrieKey, V>()
         ≡ keyed_remove K.eq (keyed_map K.encoding m) k j }
 {}
 
-/// Two insertions or removals, one after the other: of one key the second alone counts, and of keys that aren't equal the
-/// order makes no difference.
+/// Two insertions or removals, one after the other: of one key the second alone counts, and of keys
+/// that aren't equal the order makes no difference.
 pub fn edits_by_key_compose<K: TrieKey, V>()
     ensures insert_insert { (m : PairMap K V) (k : K) (v w : V)
         → map.insert (map.insert m (K.encoding k) (k, v)) (K.encoding k) (k, w)

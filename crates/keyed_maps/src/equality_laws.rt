@@ -11,9 +11,9 @@ ghost use Rattle.keyed_maps.specs.KeyedMaps.{EncodesAlike, keyed_map, stored_key
 
 use radix_trie::TrieKey;
 
-/// Extensionality. Two maps that answer each key alike are the same, as `==` of tries has it. They are equal where the
-/// stored keys are too, and where equal keys are one value, as numbers are. So their tries have one tree
-/// (`equal_lists_have_one_tree`).
+/// Extensionality. Two maps that answer each key alike are the same, as `==` of tries has it. They
+/// are equal where the stored keys are too, and where equal keys are one value, as numbers are. So
+/// their tries have one tree (`equal_lists_have_one_tree`).
 pub fn equal_keyed_maps_are_equal<K: TrieKey, V>()
     ensures same { (eq : V → V → Bool) → ((v : V) → IsTrue (eq v v)) → (m n : PairMap K V)
         → IsKeyed K.encoding K.is_value m → IsKeyed K.encoding K.is_value n
@@ -31,7 +31,8 @@ pub fn equal_keyed_maps_are_equal<K: TrieKey, V>()
         → m ≡ n }
 {}
 
-/// The same of values of a type whose `==` is an equivalence: two maps that answer each key alike are the same by it.
+/// The same of values of a type whose `==` is an equivalence: two maps that answer each key alike
+/// are the same by it.
 pub fn alike_keyed_maps_are_same<K: TrieKey, V: Eq>()
     ensures { (m n : PairMap K V)
         → IsKeyed K.encoding K.is_value m → IsKeyed K.encoding K.is_value n
@@ -41,8 +42,8 @@ pub fn alike_keyed_maps_are_same<K: TrieKey, V: Eq>()
     equal_keyed_maps_are_equal::<K, V>();
 }
 
-/// Equal keys have equal encodings, of unsigned numbers and of keys whose encodings are the nibbles of their bytes, as
-/// texts.
+/// Equal keys have equal encodings, of unsigned numbers and of keys whose encodings are the nibbles
+/// of their bytes, as texts.
 pub fn equal_keys_are_encoded_alike<K>()
     ensures numbers { (w : Width)
         → EncodesAlike (unsigned_key w) (λ n. n < 256 ^ byte_len w) nat_eq }

@@ -9,8 +9,8 @@ ghost use Rattle.keyed_maps.specs.KeyedMaps.{keyed_map};
 
 use radix_trie::{Trie, TrieKey, keys_stand_at_their_encodings};
 
-/// The map by keys of the part that `Trie::split_off_prefix` splits off, and of the rest: each key is in one of them, with
-/// its value.
+/// The map by keys of the part that `Trie::split_off_prefix` splits off, and of the rest: each key
+/// is in one of them, with its value.
 pub fn keyed_maps_follow_parts<K: TrieKey, V>()
     ensures get_below_inside { (m : PairMap K V) (e : List ℕ) (k : K) → IsPrefix e (K.encoding k)
         → keyed_map K.encoding (below m e) k ≡ keyed_map K.encoding m k }
@@ -24,9 +24,9 @@ pub fn keyed_maps_follow_parts<K: TrieKey, V>()
         → keyed_map K.encoding (without_below m e) k ≡ keyed_map K.encoding m k }
 {}
 
-/// The map by keys after the pairs of a trie are stored, as `Trie::graft` and `Trie::merge` do: its value where it has one. And
-/// after pairs are stored one by one, as `Trie::extend` does: at a key the value of the last pair with it, and at a key that
-/// equals none of theirs what it was before.
+/// The map by keys after the pairs of a trie are stored, as `Trie::graft` and `Trie::merge` do: its
+/// value where it has one. And after pairs are stored one by one, as `Trie::extend` does: at a key
+/// the value of the last pair with it, and at a key that equals none of theirs what it was before.
 pub fn keyed_maps_follow_tries<K: TrieKey, V>(part: &Trie<K, V>)
     ensures get_merged { (m : PairMap K V) (k : K)
         → keyed_map K.encoding (with_pairs K.encoding m (pairs_below part.now [])) k
@@ -41,9 +41,9 @@ pub fn keyed_maps_follow_tries<K: TrieKey, V>(part: &Trie<K, V>)
     keys_stand_at_their_encodings(part);
 }
 
-/// The pairs of two tries stored into a map, one trie after the other: it is as if those of the second were stored into the
-/// first before. If no key has a value in both tries, either may be stored into the other. What is stored twice is stored
-/// once.
+/// The pairs of two tries stored into a map, one trie after the other: it is as if those of the
+/// second were stored into the first before. If no key has a value in both tries, either may be
+/// stored into the other. What is stored twice is stored once.
 pub fn merges_by_key_compose<K: TrieKey, V>(one: &Trie<K, V>, other: &Trie<K, V>)
     ensures commute { ((k : K) (v w : V) → keyed_map K.encoding one.now k ≡ Some v
         → keyed_map K.encoding other.now k ≡ Some w → ⊥)

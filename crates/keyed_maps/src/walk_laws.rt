@@ -1,4 +1,5 @@
-//! Which keys the walks over a part of a map give: below a key, at prefixes, within a range, and page by page.
+//! Which keys the walks over a part of a map give: below a key, at prefixes, within a range, and
+//! page by page.
 ghost use Rattle.std.specs.FinMap as map;
 ghost use Rattle.std.specs.Prelude.{[], ◌≡◌, ◌≤◌, ℕ, Contains, List, Some, length, take, true};
 ghost use Rattle.std.specs.declared.ops.Bound.{Bound};
@@ -10,8 +11,9 @@ ghost use Rattle.keyed_maps.specs.KeyedMaps.{keyed_map};
 
 use radix_trie::TrieKey;
 
-/// The walk over what is at and below a list, as `Trie::first_below` and a view have it, gives each key with a value whose
-/// encoding begins with the list, and no other key; there are as many as `Trie::count_below` counts.
+/// The walk over what is at and below a list, as `Trie::first_below` and a view have it, gives each
+/// key with a value whose encoding begins with the list, and no other key; there are as many as
+/// `Trie::count_below` counts.
 pub fn keys_below_are_given<K: TrieKey, V>()
     ensures given { (m : PairMap K V) → IsKeyed K.encoding K.is_value m → (e : List ℕ)
         → (k : K) (v : V) → K.is_value k → keyed_map K.encoding m k ≡ Some v
@@ -25,7 +27,8 @@ pub fn keys_below_are_given<K: TrieKey, V>()
         → map.len (below m e) ≡ length (pairs_below m e) }
 {}
 
-/// The walk of `Trie::common_prefixes` gives each key with a value whose encoding is a prefix of the list, and no other key.
+/// The walk of `Trie::common_prefixes` gives each key with a value whose encoding is a prefix of
+/// the list, and no other key.
 pub fn prefixes_are_given<K: TrieKey, V>()
     ensures given { (m : PairMap K V) → IsKeyed K.encoding K.is_value m → (e : List ℕ)
         → (k : K) (v : V) → K.is_value k → keyed_map K.encoding m k ≡ Some v
@@ -37,8 +40,8 @@ pub fn prefixes_are_given<K: TrieKey, V>()
         → (p : K × V) → Contains (pairs_above m e) p → keyed_map K.encoding m p.0 ≡ Some p.1 }
 {}
 
-/// A range gives each key with a value whose encoding is within its bounds, and no other key. `keys_of_ranges_rise` says
-/// it by an order of the keys.
+/// A range gives each key with a value whose encoding is within its bounds, and no other key.
+/// `keys_of_ranges_rise` says it by an order of the keys.
 pub fn keys_within_are_given<K: TrieKey, V>()
     ensures given { (m : PairMap K V) → IsKeyed K.encoding K.is_value m
         → (low high : Bound (List ℕ)) (k : K) (v : V) → K.is_value k
@@ -52,8 +55,9 @@ pub fn keys_within_are_given<K: TrieKey, V>()
         → keyed_map K.encoding m p.0 ≡ Some p.1 }
 {}
 
-/// A page of `Trie::first_after` gives keys with a value alone, whose encodings begin with the list and come after the last
-/// one; where there are no more of these than it may have, it gives each of them.
+/// A page of `Trie::first_after` gives keys with a value alone, whose encodings begin with the list
+/// and come after the last one; where there are no more of these than it may have, it gives each of
+/// them.
 pub fn keys_of_pages_are_given<K: TrieKey, V>()
     ensures given { (m : PairMap K V) → IsKeyed K.encoding K.is_value m → (e last : List ℕ)
         → (most : ℕ) → length (pairs_after m e last) ≤ most

@@ -8,8 +8,9 @@ use std::io;
 use std::io::{ErrorKind, Read};
 use std::marker::Model;
 
-/// A reader that is read again where a signal interrupted a read, up to `u64::MAX` times; a read that
-/// fails otherwise ends it. A contract sees the bytes that are still to be read, where they are known.
+/// A reader that is read again where a signal interrupted a read, up to `u64::MAX` times; a read
+/// that fails otherwise ends it. A contract sees the bytes that are still to be read, where they
+/// are known.
 #[derive(Drop)]
 pub struct Patient<R: Read> {
     reader: R,

@@ -5,8 +5,8 @@ ghost use Rattle.line_sessions.specs.Answers.{Adds, Begins, Refuses};
 /// Why a line has no answer.
 #[derive(Clone, Copy, Debug, PartialEq, Eq)]
 pub enum Refusal {
-    /// The line asks for nothing that the program knows. The text is told behind its number, where it
-    /// isn't empty.
+    /// The line asks for nothing that the program knows. The text is told behind its number, where
+    /// it isn't empty.
     Bad(&'static str),
     /// Memory was refused.
     Memory,

@@ -1,4 +1,5 @@
-//! Laws of equal trees and of copies: two roots are alike exactly where their maps are the same, and a copy keeps the shape.
+//! Laws of equal trees and of copies: two roots are alike exactly where their maps are the same,
+//! and a copy keeps the shape.
 
 ghost use Rattle.masked_tree.specs.Tree.{Tree, IsTreePlaced, IsTreeFull, entries_at, nodes_in, nibbles_in};
 ghost use Rattle.masked_tree.specs.Same.{IsFullRoot, read_entries, same_tree, IsCopy, AreEntryCopies};
@@ -10,7 +11,8 @@ ghost use Rattle.std.specs.FinMap as map;
 ghost use Rattle.std.specs.Ordering.{nat_cmp};
 ghost use Rattle.std.specs.Prelude.{◌↔◌, ◌≡◌, Bool, IsTrue, List, ℕ};
 
-/// Two roots are alike under an `==` of values exactly where they store the same lists, and at each list values that are equal under it.
+/// Two roots are alike under an `==` of values exactly where they store the same lists, and at each
+/// list values that are equal under it.
 pub fn same_trees_are_same_maps<P, K, V>()
     ensures entries { (row : P → K × V) (eq : V → V → Bool) (t u : Tree P) → IsFullRoot t
         → IsFullRoot u
@@ -31,7 +33,8 @@ pub fn same_trees_are_same_maps<P, K, V>()
         → same_tree (λ x y. eq (row x).1 (row y).1) t u ≡ same_maps eq m n }
 {}
 
-/// A copy of a tree has its shape: it stands at its places and is full where the tree is, and has as many nodes and nibbles.
+/// A copy of a tree has its shape: it stands at its places and is full where the tree is, and has
+/// as many nodes and nibbles.
 pub fn copies_keep_the_shape<P: Clone>()
     ensures placed { (t u : Tree P) → IsCopy P.is_clone t u → IsTreePlaced t
         → IsTreePlaced u }

@@ -20,8 +20,8 @@ pub fn turning_keeps_the_shape<P>()
         → nibbles_in (turned_root t).children ≡ nibbles_in t.children }
 {}
 
-/// Where the map of a turned root is copied, the copy stores the turned lists of the root's own map,
-/// each with a clone of its key and of its value.
+/// Where the map of a turned root is copied, the copy stores the turned lists of the root's own
+/// map, each with a clone of its key and of its value.
 pub fn turned_roots_hold_turned_lists<P, K: Clone, V: Clone>()
     ensures { (row : P → K × V) (t : Tree P) (n : PairMap K V) → IsFullRoot t
         → IsMapCopy (IsPairClone K.is_clone V.is_clone)

@@ -1,4 +1,5 @@
-//! Laws of a map's canonical tree: which trees are canonical, what they tell of the map, and that a map has one.
+//! Laws of a map's canonical tree: which trees are canonical, what they tell of the map, and that a
+//! map has one.
 
 ghost use Rattle.nibble_map.specs.Answers.{IsLongest, IsShortest};
 ghost use Rattle.nibble_map.specs.Canonical.{IsCanonical};
@@ -9,8 +10,8 @@ ghost use Rattle.nibble_map.specs.Trees.{FragmentTree, nodes, paths, entries, fr
 ghost use Rattle.std.specs.FinMap as map;
 ghost use Rattle.std.specs.Prelude.{filter, length, List, max, None, Some, ◌*◌, ◌↔◌, ◌≡◌, ◌≤◌, ℕ};
 
-/// A tree whose children stand at their places is the canonical tree of its pairs' map exactly where each node but the
-/// root has a pair or two children: the local shape is the set of points.
+/// A tree whose children stand at their places is the canonical tree of its pairs' map exactly
+/// where each node but the root has a pair or two children: the local shape is the set of points.
 pub fn full_trees_are_canonical<P>()
     ensures full { (t : FragmentTree P) (m : NibbleMap P) → IsForestPlaced 0 t.children
         → entries (nodes t)
@@ -19,10 +20,11 @@ pub fn full_trees_are_canonical<P>()
         → IsCanonical t (map.from_sorted (entries (nodes t))) }
 {}
 
-/// A map's canonical tree has a node for each point and a nibble for each non-empty prefix of a stored list; it has at
-/// most two nodes a pair, or one; its fragments are the points'; its paths answer queries for the nearest point; its
-/// search compares as many nibbles as the map says; and the nodes on the way to a list, those whose paths are prefixes of
-/// it, are as many as the map says.
+/// A map's canonical tree has a node for each point and a nibble for each non-empty prefix of a
+/// stored list; it has at most two nodes a pair, or one; its fragments are the points'; its paths
+/// answer queries for the nearest point; its search compares as many nibbles as the map says; and
+/// the nodes on the way to a list, those whose paths are prefixes of it, are as many as the map
+/// says.
 pub fn canonical_trees_tell_the_map<P>()
     ensures nodes { (t : FragmentTree P) (m : NibbleMap P) → IsCanonical t m
         → Counts (IsPoint m) (length (nodes t)) }
@@ -51,7 +53,8 @@ pub fn each_map_has_one_tree<P>()
         → nodes t ≡ nodes u }
 {}
 
-/// The canonical trees of two maps with the same stored lists have the same paths and fragments, whatever their pairs.
+/// The canonical trees of two maps with the same stored lists have the same paths and fragments,
+/// whatever their pairs.
 pub fn stored_lists_shape_the_tree<P, Q>()
     ensures { (t : FragmentTree P) (m : NibbleMap P) (u : FragmentTree Q) (n : NibbleMap Q)
         → IsCanonical t m
@@ -60,7 +63,8 @@ pub fn stored_lists_shape_the_tree<P, Q>()
         ≡ paths_and_fragments (nodes u) }
 {}
 
-/// An insertion and a removal lead from a canonical tree to one, and a removal right after an insertion leads back.
+/// An insertion and a removal lead from a canonical tree to one, and a removal right after an
+/// insertion leads back.
 pub fn edits_keep_the_tree_canonical<P>()
     ensures inserted { (t : FragmentTree P) (m : NibbleMap P) → IsCanonical t m
         → (e : List ℕ) (v : P)

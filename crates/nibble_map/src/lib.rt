@@ -1,5 +1,6 @@
 //! Lists of nibbles, the finite map that a trie is seen as, the tree of fragments, and their laws.
-//! The definitions stand in `specs/`; each law is a function with an empty body, whose contract is the law.
+//! The definitions stand in `specs/`; each law is a function with an empty body, whose contract is
+//! the law.
 #![tactic(auto)]
 
 pub mod canonical_laws;

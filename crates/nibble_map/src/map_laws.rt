@@ -10,8 +10,8 @@ ghost use Rattle.std.specs.FinMap as map;
 ghost use Rattle.std.specs.Ordering.{nat_cmp};
 ghost use Rattle.std.specs.Prelude.{[], ◌&&◌, ◌+◌, ◌↔◌, ◌≡◌, ◌≢◌, map as each, cond, filter, fold, not, Bool, IsTrue, List, None, Option, Some, T, option_map, ℕ};
 
-/// What a map holds, by its list of entries: the keys are the stored lists in rising order, and the walk below a
-/// path is the entries below it.
+/// What a map holds, by its list of entries: the keys are the stored lists in rising order, and the
+/// walk below a path is the entries below it.
 pub fn entries_tell_the_map<P>()
     ensures keys { (m : NibbleMap P) → Lists (IsStored m) (map.keys m) }
     ensures stored { (m : NibbleMap P) (e : List ℕ)
@@ -33,7 +33,8 @@ pub fn edits_by_entries<P>()
         → stored.IsCutAt (map.entries m) e (map.entries n) → n ≡ map.remove m e }
 {}
 
-/// One entry swapped in a rising list of entries is the map's insertion or removal, and tells the pair that was there.
+/// One entry swapped in a rising list of entries is the map's insertion or removal, and tells the
+/// pair that was there.
 pub fn edits_by_swaps<P>()
     ensures inserted { (p : List ℕ) (was : Option P) (x : P) (old new : List (List ℕ × P))
         → IsRising (stored.stored old) → IsRising (stored.stored new)
@@ -93,8 +94,8 @@ pub fn entries_rebuild_the_map<P>()
         → fold (λ n e. map.insert n e.0 e.1) map.empty (map.entries m) ≡ m }
 {}
 
-/// What is left of a map without all below a path: the lists that haven't the prefix, with the pairs that they had. What was
-/// taken, put back, makes the map.
+/// What is left of a map without all below a path: the lists that haven't the prefix, with the
+/// pairs that they had. What was taken, put back, makes the map.
 pub fn rest_of_a_map<P>()
     ensures get { (m : NibbleMap P) (p e : List ℕ) →
         map.get (without_below m p) e ≡ cond (is_prefix p e) None (map.get m e) }
@@ -112,8 +113,8 @@ pub fn rest_of_a_map<P>()
         without_below m p ≡ m }
 {}
 
-/// The points and prefixes of what is left: none is new, those neither above nor below the path stay, and of those at and
-/// below it the empty list alone.
+/// The points and prefixes of what is left: none is new, those neither above nor below the path
+/// stay, and of those at and below it the empty list alone.
 pub fn points_of_the_rest<P>()
     ensures point_before { (m : NibbleMap P) (p q : List ℕ) →
         IsPoint (without_below m p) q → IsPoint m q }
@@ -131,7 +132,8 @@ pub fn points_of_the_rest<P>()
         IsPrefix p q → IsSomePrefix (without_below m p) q → ⊥ }
 {}
 
-/// A run cut from a rising list of entries, of all whose lists have a prefix, leaves the map without what is below it.
+/// A run cut from a rising list of entries, of all whose lists have a prefix, leaves the map
+/// without what is below it.
 pub fn rest_by_swaps<P>()
     ensures { (p : List ℕ) (gone old new : List (List ℕ × P))
         → IsRising (stored.stored old) →
@@ -167,7 +169,8 @@ pub fn removal_undoes_insertion<P>()
         → map.remove (map.insert m e v) e ≡ m }
 {}
 
-/// Being the same map goes both ways and on where the value type's `==` does, and is seen entry by entry.
+/// Being the same map goes both ways and on where the value type's `==` does, and is seen entry by
+/// entry.
 pub fn sameness_follows_the_values<K, V>()
     ensures reflexive { (eq : V → V → Bool) → ((v : V) → IsTrue (eq v v))
         → (m : PairMap K V)

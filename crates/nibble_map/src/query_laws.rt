@@ -93,8 +93,8 @@ pub fn answers_are_unique<P>()
         → map_queries.IsVisited m e k → j ≡ k }
 {}
 
-/// The slow lists of points and of prefixes are those of the definitions, and so are their sizes and the slow test of a
-/// point.
+/// The slow lists of points and of prefixes are those of the definitions, and so are their sizes
+/// and the slow test of a point.
 pub fn computed_points<P>()
     ensures points { (m : List (List ℕ × P))
         → Lists (points.IsPoint (stored.IsStored m)) (computed.points m) }
@@ -127,7 +127,8 @@ pub fn computed_answers<P>()
         → answers.IsVisited (stored.IsStored m) e k ↔ (k ≡ computed.visited m e) }
 {}
 
-/// A search visits at most one node for each nibble of the query, and the root; and no more nodes than there are points.
+/// A search visits at most one node for each nibble of the query, and the root; and no more nodes
+/// than there are points.
 pub fn few_nodes_are_visited<P>()
     ensures nibbles { (m : NibbleMap P) (e : List ℕ) (n : ℕ) → map_queries.IsVisited m e n
         → n ≤ suc (length e) }
@@ -156,7 +157,8 @@ pub fn one_child_leads_to_each_list<P>()
         × ((r : List ℕ) → map_queries.IsChild m p r → IsPrefix r e → r ≡ q) }
 {}
 
-/// The pairs at and below a list are those at and below the shortest point that it begins, or none where there is none.
+/// The pairs at and below a list are those at and below the shortest point that it begins, or none
+/// where there is none.
 pub fn descendants_hold_all_below<P>()
     ensures some { (m : NibbleMap P) (e q : List ℕ) → map_queries.IsRawDescendant m e (Some q)
         → maps.below m e ≡ maps.below m q }

@@ -6,7 +6,8 @@ ghost use Rattle.nibble_map.specs.Maps.{PairMap};
 ghost use Rattle.std.specs.Cmp.{IsPartialEquivalence};
 ghost use Rattle.std.specs.Prelude.{◌↔◌, ◌≡◌, Bool, IsTrue};
 
-/// The test of two maps tells whether they are the same. It is symmetric and transitive where the value type's `==` is.
+/// The test of two maps tells whether they are the same. It is symmetric and transitive where the
+/// value type's `==` is.
 pub fn sameness_is_computed<K, V>()
     ensures maps { (eq : V → V → Bool) (m n : PairMap K V)
         → IsTrue (same_maps eq m n) ↔ IsSame eq m n }

@@ -35,7 +35,8 @@ pub fn shape_is_place_and_fullness<V>()
         → IsShaped low children }
 {}
 
-/// Of a tree whose children stand at their places: each node but the root is full exactly where the paths are the points.
+/// Of a tree whose children stand at their places: each node but the root is full exactly where the
+/// paths are the points.
 pub fn full_is_points<V>()
     ensures { (t : FragmentTree V) → IsForestPlaced 0 t.children
         → IsFull t.children ↔ Lists (IsPoint (IsStored (entries (nodes t)))) (paths (nodes t)) }

@@ -1,4 +1,5 @@
-//! Worked rows: small maps with their points, prefixes, answers, counts and walks, computed from the definitions.
+//! Worked rows: small maps with their points, prefixes, answers, counts and walks, computed from
+//! the definitions.
 
 ghost use Rattle.nibble_map.specs.Stored.{below};
 ghost use Rattle.nibble_map.specs.Computed.{ancestor, compared, footprint, fragment, is_point, children, points, raw_ancestor, raw_descendant, visited};
@@ -90,7 +91,8 @@ pub fn searches_of_nested_texts()
     ensures empty { compared nested_texts [] ≡ 0 }
 {}
 
-/// Visited nodes in searches among the nested texts: the points that begin the query, the root among them.
+/// Visited nodes in searches among the nested texts: the points that begin the query, the root
+/// among them.
 pub fn nodes_of_nested_texts()
     ensures stored { visited nested_texts (nibbles (codes "abcd")) ≡ 6 }
     ensures within { visited nested_texts (nibbles (codes "abc")) ≡ 5 }
@@ -188,7 +190,8 @@ pub fn longer_text_joins()
         [])) (nibbles (codes "abc"))) ≡ 9 ∷ 6 ∷ [] }
 {}
 
-/// Walks go by the lists: signed bytes from 0 on, then the negative ones; numbers with the low byte first by that byte.
+/// Walks go by the lists: signed bytes from 0 on, then the negative ones; numbers with the low byte
+/// first by that byte.
 pub fn walks_go_by_the_lists()
     ensures signed { values four_signed_bytes ≡ 3 ∷ 4 ∷ 1 ∷ 2 ∷ [] }
     ensures low_first { values low_bytes_first ≡ 256 ∷ 2 ∷ [] }
@@ -309,8 +312,8 @@ pub fn odd_nibbles_partition()
     ensures removed { footprint (removed (1 ∷ 2 ∷ 4 ∷ []) odd_nibbles) ≡ (4, 5) }
 {}
 
-/// A chain of n texts, each with one letter more, has the empty list and the texts as its points, and a prefix for each nibble of
-/// the longest: 1,001 points and 2,000 prefixes of 1,000 texts.
+/// A chain of n texts, each with one letter more, has the empty list and the texts as its points,
+/// and a prefix for each nibble of the longest: 1,001 points and 2,000 prefixes of 1,000 texts.
 pub fn chain_of_texts()
     ensures inserted { (n : ℕ) → inserted [] (chain n) ≡ chain n }
     ensures points { (n : ℕ) → points (chain n) ≡ [] ∷ each (λ e. e.0) (chain n) }

@@ -12,8 +12,8 @@ ghost use Rattle.nifazombi_c.specs.Results.{told_error};
 use crate::results::{Span, code_of, status_of};
 use flat_routes::ipv4::{self, Row};
 
-/// Checks whether bytes are an image of IPv4 networks, in linear time. Returns 0 of an image, and else why they are
-/// none: one of the numbers above; the index that belongs to it is put into `at`.
+/// Checks whether bytes are an image of IPv4 networks, in linear time. Returns 0 of an image, and
+/// else why they are none: one of the numbers above; the index that belongs to it is put into `at`.
 #[unsafe(no_mangle)]
 pub extern "C" fn nifazombi_ipv4_check(image: &[u8], at: &mut usize) -> u32
     ensures image { (result ≡ 0) ↔ IsImage of_ipv4 image.now }
@@ -47,7 +47,8 @@ pub extern "C" fn nifazombi_ipv4_row_at(image: &[u8], at: usize, row: &mut Row) 
     true
 }
 
-/// The row of the longest network that holds an address, by its index and one more, or 0 where none does.
+/// The row of the longest network that holds an address, by its index and one more, or 0 where none
+/// does.
 #[unsafe(no_mangle)]
 pub extern "C" fn nifazombi_ipv4_look(image: &[u8], address: u32) -> usize
     ensures within { result ≤ row_count image.now }
@@ -60,8 +61,8 @@ pub extern "C" fn nifazombi_ipv4_look(image: &[u8], address: u32) -> usize
     }
 }
 
-/// Looks up addresses, as many as there are of both, and puts for each what `nifazombi_ipv4_look` returns into `found`.
-/// Returns how many.
+/// Looks up addresses, as many as there are of both, and puts for each what `nifazombi_ipv4_look`
+/// returns into `found`. Returns how many.
 #[unsafe(no_mangle)]
 pub extern "C" fn nifazombi_ipv4_look_many(
     image: &[u8],
@@ -108,8 +109,8 @@ pub extern "C" fn nifazombi_ipv4_below(image: &[u8], first: u32, bits: u32, span
     *span = Span { first, count };
 }
 
-/// The row of the network around that of the row at an index, the longest other one that holds it, by its index and one
-/// more, or 0 where there is none. It is at most `at`, so a walk upward ends.
+/// The row of the network around that of the row at an index, the longest other one that holds it,
+/// by its index and one more, or 0 where there is none. It is at most `at`, so a walk upward ends.
 #[unsafe(no_mangle)]
 pub extern "C" fn nifazombi_ipv4_above(image: &[u8], at: usize) -> usize
     ensures within { result ≤ at }
@@ -123,7 +124,8 @@ pub extern "C" fn nifazombi_ipv4_above(image: &[u8], at: usize) -> usize
     }
 }
 
-/// How many bytes the image of so many rows takes, with so many bytes of the user's own, or 0 of 2^32 rows or more.
+/// How many bytes the image of so many rows takes, with so many bytes of the user's own, or 0 of
+/// 2^32 rows or more.
 #[unsafe(no_mangle)]
 pub extern "C" fn nifazombi_ipv4_image_len(rows: usize, payload: usize) -> usize
     ensures { rows < 2 ^ 32 → image_size of_ipv4 rows payload < 2 ^ 64
@@ -135,9 +137,9 @@ pub extern "C" fn nifazombi_ipv4_image_len(rows: usize, payload: usize) -> usize
     }
 }
 
-/// Writes the image of rows in order, by first address and then by bits, whose links count for nothing, and of the
-/// user's own bytes into `out`. Returns 0, or why it couldn't: one of the numbers above; the index that belongs to it
-/// is put into `at`, and `out` is as before then.
+/// Writes the image of rows in order, by first address and then by bits, whose links count for
+/// nothing, and of the user's own bytes into `out`. Returns 0, or why it couldn't: one of the
+/// numbers above; the index that belongs to it is put into `at`, and `out` is as before then.
 #[unsafe(no_mangle)]
 pub extern "C" fn nifazombi_ipv4_write(
     rows: &[Row],

@@ -12,8 +12,8 @@ ghost use Rattle.nifazombi_c.specs.Results.{told_error};
 use crate::results::{Span, code_of, status_of};
 use flat_routes::ipv6::{self, Row};
 
-/// Checks whether bytes are an image of IPv6 networks, in linear time. Returns 0 of an image, and else why they are
-/// none: one of the numbers above; the index that belongs to it is put into `at`.
+/// Checks whether bytes are an image of IPv6 networks, in linear time. Returns 0 of an image, and
+/// else why they are none: one of the numbers above; the index that belongs to it is put into `at`.
 #[unsafe(no_mangle)]
 pub extern "C" fn nifazombi_ipv6_check(image: &[u8], at: &mut usize) -> u32
     ensures image { (result ≡ 0) ↔ IsImage of_ipv6 image.now }
@@ -47,7 +47,8 @@ pub extern "C" fn nifazombi_ipv6_row_at(image: &[u8], at: usize, row: &mut Row) 
     true
 }
 
-/// The row of the longest network that holds an address, by its index and one more, or 0 where none does.
+/// The row of the longest network that holds an address, by its index and one more, or 0 where none
+/// does.
 #[unsafe(no_mangle)]
 pub extern "C" fn nifazombi_ipv6_look(image: &[u8], address: &[u8; 16]) -> usize
     ensures within { result ≤ row_count image.now }
@@ -61,8 +62,8 @@ pub extern "C" fn nifazombi_ipv6_look(image: &[u8], address: &[u8; 16]) -> usize
     }
 }
 
-/// Looks up addresses, as many as there are of both, and puts for each what `nifazombi_ipv6_look` returns into `found`.
-/// Returns how many.
+/// Looks up addresses, as many as there are of both, and puts for each what `nifazombi_ipv6_look`
+/// returns into `found`. Returns how many.
 #[unsafe(no_mangle)]
 pub extern "C" fn nifazombi_ipv6_look_many(
     image: &[u8],
@@ -111,8 +112,8 @@ pub extern "C" fn nifazombi_ipv6_below(image: &[u8], first: &[u8; 16], bits: u32
     *span = Span { first, count };
 }
 
-/// The row of the network around that of the row at an index, the longest other one that holds it, by its index and one
-/// more, or 0 where there is none. It is at most `at`, so a walk upward ends.
+/// The row of the network around that of the row at an index, the longest other one that holds it,
+/// by its index and one more, or 0 where there is none. It is at most `at`, so a walk upward ends.
 #[unsafe(no_mangle)]
 pub extern "C" fn nifazombi_ipv6_above(image: &[u8], at: usize) -> usize
     ensures within { result ≤ at }
@@ -126,7 +127,8 @@ pub extern "C" fn nifazombi_ipv6_above(image: &[u8], at: usize) -> usize
     }
 }
 
-/// How many bytes the image of so many rows takes, with so many bytes of the user's own, or 0 of 2^32 rows or more.
+/// How many bytes the image of so many rows takes, with so many bytes of the user's own, or 0 of
+/// 2^32 rows or more.
 #[unsafe(no_mangle)]
 pub extern "C" fn nifazombi_ipv6_image_len(rows: usize, payload: usize) -> usize
     ensures { rows < 2 ^ 32 → image_size of_ipv6 rows payload < 2 ^ 64
@@ -138,9 +140,9 @@ pub extern "C" fn nifazombi_ipv6_image_len(rows: usize, payload: usize) -> usize
     }
 }
 
-/// Writes the image of rows in order, by first address and then by bits, whose links count for nothing, and of the
-/// user's own bytes into `out`. Returns 0, or why it couldn't: one of the numbers above; the index that belongs to it
-/// is put into `at`, and `out` is as before then.
+/// Writes the image of rows in order, by first address and then by bits, whose links count for
+/// nothing, and of the user's own bytes into `out`. Returns 0, or why it couldn't: one of the
+/// numbers above; the index that belongs to it is put into `at`, and `out` is as before then.
 #[unsafe(no_mangle)]
 pub extern "C" fn nifazombi_ipv6_write(
     rows: &[Row],

@@ -37,7 +37,8 @@ pub struct Span {
     pub count: usize,
 }
 
-/// The number of what a check has found, 0 of an image. Where it tells an index, that is put into `at`.
+/// The number of what a check has found, 0 of an image. Where it tells an index, that is put into
+/// `at`.
 pub(crate) fn code_of(found: Result<(), ImageError>, at: &mut usize) -> u32
     ensures ok { (result ≡ 0) ↔ IsOk found }
     ensures error { IfErr found (λ e. told_error result at.new ≡ Some e) }
@@ -62,8 +63,8 @@ pub(crate) fn code_of(found: Result<(), ImageError>, at: &mut usize) -> u32
     }
 }
 
-/// The number of what a write has come to, 0 where the image is written. Where it tells an index, that is put into
-/// `at`.
+/// The number of what a write has come to, 0 where the image is written. Where it tells an index,
+/// that is put into `at`.
 pub(crate) fn status_of(written: Result<(), WriteError>, at: &mut usize) -> u32
     ensures { (result ≡ 0) ↔ IsOk written }
 {
@@ -78,8 +79,8 @@ pub(crate) fn status_of(written: Result<(), WriteError>, at: &mut usize) -> u32
     }
 }
 
-/// Puts where the user's own bytes in an image of any kind lie, and how many they are, into `span`, and returns whether
-/// there are any.
+/// Puts where the user's own bytes in an image of any kind lie, and how many they are, into `span`,
+/// and returns whether there are any.
 #[unsafe(no_mangle)]
 pub extern "C" fn nifazombi_payload(image: &[u8], span: &mut Span) -> bool
     ensures found { IsTrue result → IsPayload image.now span.new.first span.new.count }

@@ -13,8 +13,8 @@ ghost use Rattle.nifazombi_c.specs.Results.{told_error, told_index};
 use crate::results::{Span, code_of, status_of};
 use flat_texts::{Pair, Place};
 
-/// Checks whether bytes are an image of texts, in linear time. Returns 0 of an image, and else why they are none: one
-/// of the numbers above; the index that belongs to it is put into `at`.
+/// Checks whether bytes are an image of texts, in linear time. Returns 0 of an image, and else why
+/// they are none: one of the numbers above; the index that belongs to it is put into `at`.
 #[unsafe(no_mangle)]
 pub extern "C" fn nifazombi_texts_check(image: &[u8], at: &mut usize) -> u32
     ensures image { (result ≡ 0) ↔ IsTextImage image.now }
@@ -31,7 +31,8 @@ pub extern "C" fn nifazombi_texts_len(image: &[u8]) -> usize
     flat_texts::len(image)
 }
 
-/// Puts where the pair at an index lies, in the order of the keys, into `place`, and returns whether there is one.
+/// Puts where the pair at an index lies, in the order of the keys, into `place`, and returns
+/// whether there is one.
 #[unsafe(no_mangle)]
 pub extern "C" fn nifazombi_texts_pair_at(image: &[u8], at: usize, place: &mut Place) -> bool
     ensures inside { IsTrue result → place.new.first + place.new.len ≤ length image.now }
@@ -61,8 +62,8 @@ pub extern "C" fn nifazombi_texts_get(image: &[u8], key: &[u8]) -> usize
     }
 }
 
-/// The pair of the longest stored key that is a prefix of some bytes, by its index and one more, or 0 where there is
-/// none.
+/// The pair of the longest stored key that is a prefix of some bytes, by its index and one more, or
+/// 0 where there is none.
 #[unsafe(no_mangle)]
 pub extern "C" fn nifazombi_texts_nearest(image: &[u8], key: &[u8]) -> usize
     ensures within { result ≤ row_count image.now }
@@ -75,8 +76,8 @@ pub extern "C" fn nifazombi_texts_nearest(image: &[u8], key: &[u8]) -> usize
     }
 }
 
-/// The pair of the longest stored key that is a prefix of the key at an index, and not this one, by its index and one
-/// more, or 0 where there is none. It is at most `at`, so a walk upward ends.
+/// The pair of the longest stored key that is a prefix of the key at an index, and not this one, by
+/// its index and one more, or 0 where there is none. It is at most `at`, so a walk upward ends.
 #[unsafe(no_mangle)]
 pub extern "C" fn nifazombi_texts_above(image: &[u8], at: usize) -> usize
     ensures within { result ≤ at }
@@ -90,8 +91,8 @@ pub extern "C" fn nifazombi_texts_above(image: &[u8], at: usize) -> usize
     }
 }
 
-/// Puts the indices of the pairs whose keys are prefixes of some bytes into `found`, from the longest up, as many as it
-/// has room for. Returns how many.
+/// Puts the indices of the pairs whose keys are prefixes of some bytes into `found`, from the
+/// longest up, as many as it has room for. Returns how many.
 #[unsafe(no_mangle)]
 pub extern "C" fn nifazombi_texts_prefixes(image: &[u8], key: &[u8], found: &mut [u32]) -> usize
     ensures within { result ≤ length found.new }
@@ -137,8 +138,8 @@ pub extern "C" fn nifazombi_texts_between(image: &[u8], from: &[u8], to: &[u8], 
     *span = Span { first, count };
 }
 
-/// How many bytes the image of pairs takes, with so many bytes of the user's own, or 0 of 2^32 pairs or more, or as
-/// many bytes of keys.
+/// How many bytes the image of pairs takes, with so many bytes of the user's own, or 0 of 2^32
+/// pairs or more, or as many bytes of keys.
 #[unsafe(no_mangle)]
 pub extern "C" fn nifazombi_texts_image_len(pairs: &[Pair<'_>], payload: usize) -> usize
     ensures { length pairs.now < 2 ^ 32 → keys_len pairs.now < 2 ^ 32
@@ -151,9 +152,10 @@ pub extern "C" fn nifazombi_texts_image_len(pairs: &[Pair<'_>], payload: usize) 
     }
 }
 
-/// Writes the image of pairs whose keys rise in the order of their bytes, and of the user's own bytes, into `out`.
-/// Returns 0, or why it couldn't: one of the numbers above; the index that belongs to it is put into `at`, and `out` is
-/// as before then. Bytes behind the image stay as they are.
+/// Writes the image of pairs whose keys rise in the order of their bytes, and of the user's own
+/// bytes, into `out`. Returns 0, or why it couldn't: one of the numbers above; the index that
+/// belongs to it is put into `at`, and `out` is as before then. Bytes behind the image stay as they
+/// are.
 #[unsafe(no_mangle)]
 pub extern "C" fn nifazombi_texts_write(
     pairs: &[Pair<'_>],

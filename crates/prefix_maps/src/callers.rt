@@ -7,8 +7,8 @@ use crate::calls::PrefixMap;
 use radix_keys::Memory;
 use std::alloc::Global;
 
-/// The value of the longest stored key that is a prefix of a key, or None where there is none: of a path the setting that
-/// it inherits, of an address the route.
+/// The value of the longest stored key that is a prefix of a key, or None where there is none: of a
+/// path the setting that it inherits, of an address the route.
 ///
 /// # Errors
 ///
@@ -24,8 +24,8 @@ pub fn lookup<'a, Q, M: PrefixMap<'a, Q>>(map: M, key: &Q) -> Result<Option<&'a 
     }
 }
 
-/// The first pairs whose keys begin with a key, itself among them, in order: `most` of them, or all where there are fewer.
-/// The time is that of `below` and of so many steps of its walk.
+/// The first pairs whose keys begin with a key, itself among them, in order: `most` of them, or all
+/// where there are fewer. The time is that of `below` and of so many steps of its walk.
 ///
 /// # Errors
 ///

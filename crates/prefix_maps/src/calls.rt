@@ -7,12 +7,12 @@ ghost use Rattle.prefix_maps.specs.Calls.{lent_pair};
 
 use radix_keys::Memory;
 
-/// A map that is asked by keys and their prefixes, by queries of type `Q`: what every map here can be asked, under one
-/// name and with one contract, whether it may still grow or not.
+/// A map that is asked by keys and their prefixes, by queries of type `Q`: what every map here can
+/// be asked, under one name and with one contract, whether it may still grow or not.
 ///
-/// It is implemented for references, so what a call returns lasts as long as the map's borrow. A contract sees the map as
-/// the finite map from the lists of nibbles that stand for keys to the pairs that are stored there, and a walk as the list
-/// of the pairs that are left.
+/// It is implemented for references, so what a call returns lasts as long as the map's borrow. A
+/// contract sees the map as the finite map from the lists of nibbles that stand for keys to the
+/// pairs that are stored there, and a walk as the list of the pairs that are left.
 pub trait PrefixMap<'a, Q>: Copy {
     /// A key, as it is lent.
     type Key: Copy;
@@ -47,8 +47,8 @@ pub trait PrefixMap<'a, Q>: Copy {
     // No step of a walk is ever refused, and no range by queries that never are.
     ghost has_free_walks: { Type 0 };
 
-    /// In each map a key stands at the list that it stands for. The call does nothing, but what it says holds in a caller's
-    /// proof.
+    /// In each map a key stands at the list that it stands for. The call does nothing, but what it
+    /// says holds in a caller's proof.
     fn keys_stand_at_their_encodings(self)
         ensures stored { (e : List ℕ) (p : Stored × Self.Value)
             → finite.get (map self) e ≡ Some p → e ≡ encoding p.0 };
@@ -91,7 +91,8 @@ pub trait PrefixMap<'a, Q>: Copy {
             (λ found. IsTrue found ↔ IsStored (map self) (list key.now)) }
         ensures free { is_free key.now → IsOk result };
 
-    /// The longest stored key that is a prefix of a key, and its value, or None where there is none.
+    /// The longest stored key that is a prefix of a key, and its value, or None where there is
+    /// none.
     ///
     /// # Errors
     ///

@@ -1,5 +1,5 @@
-//! One set of calls over all maps by keys and their prefixes: a program that is written over it once runs on a trie, which
-//! grows, and on the frozen forms.
+//! One set of calls over all maps by keys and their prefixes: a program that is written over it
+//! once runs on a trie, which grows, and on the frozen forms.
 #![tactic(auto)]
 
 mod callers;
@@ -18,6 +18,3 @@ pub use frozen_tries::FrozenWalk;
 pub use ranges::RangeMap;
 pub use routes::RouteWalk;
 pub use tries::TrieWalk;
-
-#[cfg(test)]
-mod tests;

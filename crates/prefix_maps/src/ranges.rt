@@ -8,7 +8,8 @@ use std::ops::RangeBounds;
 
 /// A map that gives the pairs within a range of keys, from either end.
 pub trait RangeMap<'a, Q>: PrefixMap<'a, Q> {
-    /// The walk over the pairs whose keys lie within a range, in order. Where the first key comes after the last, none does.
+    /// The walk over the pairs whose keys lie within a range, in order. Where the first key comes
+    /// after the last, none does.
     ///
     /// # Errors
     ///

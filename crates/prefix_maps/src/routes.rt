@@ -50,8 +50,8 @@ fn rows_of<'a, A: Address, V>(
     routes.below(network)
 }
 
-/// A routing table is asked by networks, and by addresses, each as the network of it alone: the stored keys that are
-/// prefixes of it are the networks that hold it.
+/// A routing table is asked by networks, and by addresses, each as the network of it alone: the
+/// stored keys that are prefixes of it are the networks that hold it.
 impl<'a, A: Address + 'a, V: 'a, Q: RouteQuery<A>> PrefixMap<'a, Q> for &'a FrozenRoutes<A, V> {
     type Key = &'a Network<A>;
 

@@ -177,7 +177,8 @@ impl NibbleVec {
         byte % 16 * 16 + next / 16
     }
 
-    /// How many nibbles agree from the start on with those of another list from `depth` on, which is at most its count.
+    /// How many nibbles agree from the start on with those of another list from `depth` on, which
+    /// is at most its count.
     pub fn agreement(&self, other: &NibbleVec, depth: usize) -> usize
         requires { depth ≤ length other.now }
         ensures within { result ≤ length self.now }

@@ -65,8 +65,8 @@ impl Parts {
         }
     }
 
-    /// The parts of the text between separators, as `str::split` gives them: one more than there are
-    /// separators, and empty ones too. It reads each byte three times.
+    /// The parts of the text between separators, as `str::split` gives them: one more than there
+    /// are separators, and empty ones too. It reads each byte three times.
     ///
     /// # Errors
     ///

@@ -52,7 +52,8 @@ impl<'a> NibbleSlice<'a> {
         NibbleSlice { bytes, is_odd }
     }
 
-    /// The bytes that hold the nibbles, and whether their count is odd. The low half of the last byte is zero then.
+    /// The bytes that hold the nibbles, and whether their count is odd. The low half of the last
+    /// byte is zero then.
     pub fn as_packed(&self) -> (&'a [u8], bool)
         ensures nibbles { unpacked result.0.now result.1 ≡ self.now }
         ensures padded { IsPadded result.0.now result.1 }
@@ -85,8 +86,8 @@ impl<'a> NibbleSlice<'a> {
         if i % 2 == 0 { byte / 16 } else { byte % 16 }
     }
 
-    /// How many nibbles agree with those of another list, from the first on. The first `known` do so, which aren't read
-    /// again. It goes by eight bytes at a time.
+    /// How many nibbles agree with those of another list, from the first on. The first `known` do
+    /// so, which aren't read again. It goes by eight bytes at a time.
     pub fn agreement(&self, other: &NibbleSlice<'_>, known: usize) -> usize
         requires known { take known self.now ≡ take known other.now }
         requires inside { known ≤ length other.now }

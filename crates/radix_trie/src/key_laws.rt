@@ -22,12 +22,14 @@ use crate::error::GraftWhy;
 use crate::trie::Trie;
 use radix_keys::{KeySigned, TrieKey};
 
-/// The key that is stored at a key's encoding equals it (`==`), in each map in which every stored key is a value of its
-/// type and stands at its encoding. The empty map is one, and pairs that are inserted, one removed, a value written, and all
-/// below a path removed keep it so; what is below a path is one too, and so is the map that a value written at a key's encoding
-/// leaves, with the key where none was stored there, as `Trie::get_or_insert` and `Entry::or_insert` have it.
+/// The key that is stored at a key's encoding equals it (`==`), in each map in which every stored
+/// key is a value of its type and stands at its encoding. The empty map is one, and pairs that are
+/// inserted, one removed, a value written, and all below a path removed keep it so; what is below a
+/// path is one too, and so is the map that a value written at a key's encoding leaves, with the key
+/// where none was stored there, as `Trie::get_or_insert` and `Entry::or_insert` have it.
 ///
-/// `Trie::insert` and `Trie::get` tell that a key is a value of its type, so a caller of theirs knows it of its trie.
+/// `Trie::insert` and `Trie::get` tell that a key is a value of its type, so a caller of theirs
+/// knows it of its trie.
 pub fn stored_keys_are_equal<K: TrieKey, V>()
     ensures equal { (m : PairMap K V) (k : K) (p : K × V) → IsKeyed K.encoding K.is_value m
         → K.is_value k → map.get m (K.encoding k) ≡ Some p → K.eq p.0 k ≡ true }
@@ -64,9 +66,10 @@ pub fn split_part_goes_back<K: TrieKey, V>(trie: &Trie<K, V>)
     let _count = trie.len();
 }
 
-/// In each trie a key stands at its encoding. So the keys at and below a list have encodings that begin with it, and in the
-/// order of a walk these rise; so have those of a page, the first pairs of a walk. Of a type all of whose keys are values, as
-/// texts are, no more is needed for `stored_keys_are_equal`.
+/// In each trie a key stands at its encoding. So the keys at and below a list have encodings that
+/// begin with it, and in the order of a walk these rise; so have those of a page, the first pairs
+/// of a walk. Of a type all of whose keys are values, as texts are, no more is needed for
+/// `stored_keys_are_equal`.
 pub fn keys_stand_at_their_encodings<K: TrieKey, V>(trie: &Trie<K, V>)
     ensures stored { (e : List ℕ) (p : K × V) → map.get trie.now e ≡ Some p
         → e ≡ K.encoding p.0 }
@@ -81,8 +84,9 @@ pub fn keys_stand_at_their_encodings<K: TrieKey, V>(trie: &Trie<K, V>)
     let _ = trie.root();
 }
 
-/// Of a trie's walks, each holds the pairs that it is asked for, and misses none: those whose keys' encodings begin with a
-/// list; are a prefix of it; and of the first those that are another list or come after it. In each the encodings rise.
+/// Of a trie's walks, each holds the pairs that it is asked for, and misses none: those whose keys'
+/// encodings begin with a list; are a prefix of it; and of the first those that are another list or
+/// come after it. In each the encodings rise.
 pub fn walks_miss_no_key<K: TrieKey, V>(trie: &Trie<K, V>)
     ensures below { (e : List ℕ) (p : K × V) → Contains (pairs_below trie.now e) p
         ↔ (IsPrefix e (K.encoding p.0) × (map.get trie.now (K.encoding p.0) ≡ Some p)) }
@@ -103,7 +107,8 @@ pub fn walks_miss_no_key<K: TrieKey, V>(trie: &Trie<K, V>)
     let _ = trie.root();
 }
 
-/// A page, and the walk after its last key, are the whole walk: between two pages no pair is missed, and none comes twice.
+/// A page, and the walk after its last key, are the whole walk: between two pages no pair is
+/// missed, and none comes twice.
 pub fn pages_follow_one_another<K: TrieKey, V>(trie: &Trie<K, V>)
     ensures { (e : List ℕ) (n : ℕ) (p : K × V) → slice_get (pairs_below trie.now e) n ≡ Some p
         → take (n + 1) (pairs_below trie.now e) ++ pairs_after trie.now e (K.encoding p.0)
@@ -112,9 +117,10 @@ pub fn pages_follow_one_another<K: TrieKey, V>(trie: &Trie<K, V>)
     let _ = trie.root();
 }
 
-/// The keys of a walk, and of a page, rise in each order that their encodings keep, in each map in which every stored key
-/// is a value of its type and stands at its encoding. `numbers_keep_their_order`, `signed_numbers_keep_their_order`, `texts_keep_their_order`
-/// and `parts_keep_their_order` name such orders.
+/// The keys of a walk, and of a page, rise in each order that their encodings keep, in each map in
+/// which every stored key is a value of its type and stands at its encoding.
+/// `numbers_keep_their_order`, `signed_numbers_keep_their_order`, `texts_keep_their_order` and
+/// `parts_keep_their_order` name such orders.
 pub fn keys_of_walks_rise<K: TrieKey, V>()
     ensures below { (cmp : K → K → Ordering) → IsKeptOrder K.encoding K.is_value cmp
         → (m : PairMap K V) → IsKeyed K.encoding K.is_value m → (e : List ℕ)
@@ -133,8 +139,9 @@ pub fn keys_of_walks_rise<K: TrieKey, V>()
         → AllPairs (λ x y. cmp x y ≡ Less) (each (λ p. p.0) (take n (pairs_below m e))) }
 {}
 
-/// The pairs of a range are those at and below the path whose keys lie within its bounds in each order that the encodings
-/// keep, and the keys rise in it, in each map in which every stored key is a value of its type and stands at its encoding.
+/// The pairs of a range are those at and below the path whose keys lie within its bounds in each
+/// order that the encodings keep, and the keys rise in it, in each map in which every stored key is
+/// a value of its type and stands at its encoding.
 pub fn keys_of_ranges_rise<K: TrieKey, V>()
     ensures within { (cmp : K → K → Ordering) → IsKeptOrder K.encoding K.is_value cmp
         → (m : PairMap K V) → IsKeyed K.encoding K.is_value m → (e : List ℕ)
@@ -171,8 +178,8 @@ pub fn parts_keep_their_order()
         (slice_cmp (slice_cmp nat_cmp)) }
 {}
 
-/// Where the encoding of a key is the nibbles of its bytes, as that of a text is, the keys whose encodings begin with the
-/// nibbles of some bytes begin with these bytes.
+/// Where the encoding of a key is the nibbles of its bytes, as that of a text is, the keys whose
+/// encodings begin with the nibbles of some bytes begin with these bytes.
 pub fn encodings_keep_prefixes<K: TrieKey>()
     ensures { (bytes_of : K → List ℕ) → ((key : K) → K.encoding key ≡ nibbles (bytes_of key))
         → (start : List ℕ) (keys : List K)

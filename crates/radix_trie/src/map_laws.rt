@@ -1,4 +1,5 @@
-//! Laws of maps that callers of a trie cite: what a part and a turned copy hold, and that equal lists have one tree.
+//! Laws of maps that callers of a trie cite: what a part and a turned copy hold, and that equal
+//! lists have one tree.
 ghost use Rattle.std.specs.FinMap as map;
 ghost use Rattle.std.specs.Prelude.{◌≡◌, ◌↔◌, ℕ, List, None, Some};
 ghost use Rattle.nibble_map.specs.Copies.{IsPairClone};
@@ -21,8 +22,9 @@ pub fn part_answers_below<P>()
         → Counts (λ e. IsPrefix p e × IsStored m e) (map.len (below m p)) }
 {}
 
-/// Maps with the same stored lists have one tree, whatever their pairs: the same points, fragments and children, and as many
-/// nodes and nibbles. So these stored lists, and not what was done before, tell what a trie looks like.
+/// Maps with the same stored lists have one tree, whatever their pairs: the same points, fragments
+/// and children, and as many nodes and nibbles. So these stored lists, and not what was done
+/// before, tell what a trie looks like.
 pub fn equal_lists_have_one_tree<P, Q>()
     ensures points { (m : NibbleMap P) (n : NibbleMap Q)
         → ((e : List ℕ) → IsStored m e ↔ IsStored n e)

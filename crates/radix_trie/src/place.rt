@@ -25,12 +25,13 @@ mod within;
 pub use path_list::PathList;
 pub(crate) use within::{Limits, encoded};
 
-/// What stands at and below a path of a trie, a point or not. Neither of the two is kept: each contract speaks of every map
-/// and every path that the place is that of.
+/// What stands at and below a path of a trie, a point or not. Neither of the two is kept: each
+/// contract speaks of every map and every path that the place is that of.
 #[derive(Drop)]
 pub(crate) struct Place<'a, K, V> {
     pub(crate) alloc: Global,
-    /// The node with the shortest path that the path begins, and how many nibbles of its fragment lie within the path.
+    /// The node with the shortest path that the path begins, and how many nibbles of its fragment
+    /// lie within the path.
     pub(crate) found: Option<(&'a TrieNode<K, V>, usize)>,
 }
 
@@ -149,7 +150,8 @@ impl<'a, K: TrieKey, V> Place<'a, K, V> {
         }
     }
 
-    /// The node with the shortest path that the path begins, and that whole path; None where there is none.
+    /// The node with the shortest path that the path begins, and that whole path; None where there
+    /// is none.
     pub(crate) fn nearest(
         &self,
         path: &Nibblet,

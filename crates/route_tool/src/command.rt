@@ -184,7 +184,8 @@ fn may_be_ipv4(text: &str) -> bool
     has_dot_early(text) || text.starts_with("default")
 }
 
-/// What is done with a file, where a text begins with the word for it and a space, and the file's name behind these.
+/// What is done with a file, where a text begins with the word for it and a space, and the file's
+/// name behind these.
 fn file_call(text: &str) -> Option<(FileCall, &str)>
     ensures { MatchOption result
         ((call : FileCall) (path : _) → ¬ (IsParted 32 text.now (file_word call) path))

@@ -5,8 +5,8 @@ use smallvec::SmallVec;
 use std::alloc::{AllocError, Global};
 use std::marker::Model;
 
-/// Where packets are sent next, as a text. One of at most 16 bytes, as each IPv4 address is, lies in the value itself. A
-/// contract sees its bytes.
+/// Where packets are sent next, as a text. One of at most 16 bytes, as each IPv4 address is, lies
+/// in the value itself. A contract sees its bytes.
 #[derive(Drop)]
 pub struct Hop {
     bytes: SmallVec<u8, 16>,

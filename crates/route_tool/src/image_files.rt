@@ -96,8 +96,8 @@ fn add_opened(out: &mut Vec<u8>, count: u128, outcome: Result<(), OpenFault>) ->
     }
 }
 
-/// Opens bytes as routes of the family that their mark tells, in place of those that there are, and adds how many routes
-/// there are then.
+/// Opens bytes as routes of the family that their mark tells, in place of those that there are, and
+/// adds how many routes there are then.
 fn open_bytes(out: &mut Vec<u8>, table: &mut Table, bytes: &[u8]) -> Result<(), Memory>
     ensures answer { OnOk result ((answer : List ℕ) × (out.new.items ≡ out.old.items ++ answer)
         × IsOpen bytes.now table.old table.new answer) }
@@ -135,7 +135,8 @@ pub fn open<F: Files>(
     }
 }
 
-/// Puts an image of the routes of a family in place of the file of this name, and adds how many they are.
+/// Puts an image of the routes of a family in place of the file of this name, and adds how many
+/// they are.
 pub fn write<F: Files, A: ImageFamily>(
     files: &F,
     out: &mut Vec<u8>,

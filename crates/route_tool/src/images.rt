@@ -1,5 +1,5 @@
-//! Images of the routes of one family: each network with the place of its hop, and the hops, a line each, as the user's
-//! own bytes.
+//! Images of the routes of one family: each network with the place of its hop, and the hops, a line
+//! each, as the user's own bytes.
 
 use image_parts::ImageError;
 use radix_trie::Memory;

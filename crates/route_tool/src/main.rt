@@ -1,4 +1,5 @@
-//! Reads lines about a routing table on standard input, and writes an answer to each on standard output.
+//! Reads lines about a routing table on standard input, and writes an answer to each on standard
+//! output.
 #![tactic(auto)]
 
 mod aggregate;

@@ -28,8 +28,9 @@ pub struct Rows<'a, A: Address> {
 /// The routes of one family: networks, each with its hop. A contract sees the finite map from the
 /// first bits of each network, those that its addresses share, to the network and its hop.
 ///
-/// The trie is what changes. Where many look-ups come between two changes, they are answered from the same routes in order;
-/// no answer depends on it. Routes that were opened stand in order alone, and the trie is grown at the first change.
+/// The trie is what changes. Where many look-ups come between two changes, they are answered from
+/// the same routes in order; no answer depends on it. Routes that were opened stand in order alone,
+/// and the trie is grown at the first change.
 #[derive(Drop)]
 pub struct Routes<A: Address> {
     alloc: Global,
@@ -92,8 +93,8 @@ impl<A: Address> Routes<A> {
         self.trie.remove(network)
     }
 
-    /// Lays the nodes of the tree anew, in the order of the routes, and freezes these. Where it is refused, the tree may be
-    /// laid anew. Routes that were opened are frozen already.
+    /// Lays the nodes of the tree anew, in the order of the routes, and freezes these. Where it is
+    /// refused, the tree may be laid anew. Routes that were opened are frozen already.
     pub fn compact(&mut self) -> Result<(), Memory>
         ensures same { self.new ≡ self.old }
     {
@@ -104,8 +105,8 @@ impl<A: Address> Routes<A> {
         self.freeze()
     }
 
-    /// The routes of the networks within this one, in the order of their bits; None, or a walk over none, where there is
-    /// none.
+    /// The routes of the networks within this one, in the order of their bits; None, or a walk over
+    /// none, where there is none.
     pub fn below(&self, network: &Network<A>) -> Result<Option<Rows<'_, A>>, Memory>
         ensures rows { IfOk result (λ o. IfSome o
             (λ rows. rows.walk ≡ routes_within A.BITS A.number self.now network.now)) }
@@ -176,8 +177,8 @@ impl Table {
         }
     }
 
-    /// Lays the nodes of both trees anew, so that look-ups in a table that is filled take less time. Where it is
-    /// refused, the first tree may be laid anew.
+    /// Lays the nodes of both trees anew, so that look-ups in a table that is filled take less
+    /// time. Where it is refused, the first tree may be laid anew.
     pub fn compact(&mut self) -> Result<(), Memory>
         ensures v4 { self.new.v4 ≡ self.old.v4 }
         ensures v6 { self.new.v6 ≡ self.old.v6 }

@@ -52,8 +52,8 @@ impl<'a> Model for Answer<'a> {
 }
 
 impl<'a> Answer<'a> {
-    /// No answer yet to a line with these words behind its call, whose keys are of the type. Refusals
-    /// are told of where it is watched.
+    /// No answer yet to a line with these words behind its call, whose keys are of the type.
+    /// Refusals are told of where it is watched.
     pub fn new(alloc: Global, kind: Kind, words: Words<'a>, is_watched: bool) -> Answer<'a>
         ensures { result ≡ record {
           kind = kind;

@@ -25,8 +25,8 @@ pub fn is_filter(levels: &Parts) -> bool
     }
 }
 
-/// Whether the list of levels is a topic: there is one, not a single empty one, and no byte is `+` or
-/// `#`.
+/// Whether the list of levels is a topic: there is one, not a single empty one, and no byte is `+`
+/// or `#`.
 pub fn is_topic(levels: &Parts) -> bool
     ensures { IsTrue result ↔ IsTopic levels.now }
 {

@@ -1,10 +1,10 @@
-//! Filters of topics in one trie, as OASIS MQTT 5.0 has them in section 4.7: `+` is any one level, and
-//! `#` all that is left.
+//! Filters of topics in one trie, as OASIS MQTT 5.0 has them in section 4.7: `+` is any one level,
+//! and `#` all that is left.
 //!
 //! A level is any bytes but U+0000. What the standard asks of a topic's text beside that is the
 //! caller's: at most 65,535 bytes, and well-formed UTF-8. A shared subscription
-//! (`$share/group/filter`) is a filter like any other here: its first two levels are the caller's to
-//! take off.
+//! (`$share/group/filter`) is a filter like any other here: its first two levels are the caller's
+//! to take off.
 #![tactic(auto)]
 
 mod forms;

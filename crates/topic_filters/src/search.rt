@@ -8,14 +8,14 @@ use crate::forms::{ANY_LEVEL, ANY_REST};
 use radix_trie::{Descent, Memory, Nibblet, Parts, Trie, TrieKey};
 use std::alloc::Global;
 
-/// The pairs of all stored filters that match the topic; each once, where `is_topic` lets the list of
-/// levels pass. At each level those with the same level come first, then those with `+`, and those
-/// that end in `#`.
+/// The pairs of all stored filters that match the topic; each once, where `is_topic` lets the list
+/// of levels pass. At each level those with the same level come first, then those with `+`, and
+/// those that end in `#`.
 ///
-/// It looks below a list of levels only where a stored filter begins with it, and goes on from there
-/// by one level: so the time grows with the beginnings of filters that match a beginning of the
-/// topic, and with the topic's length, and not with how many filters there are. The memory grows with
-/// the topic's levels; the stack doesn't.
+/// It looks below a list of levels only where a stored filter begins with it, and goes on from
+/// there by one level: so the time grows with the beginnings of filters that match a beginning of
+/// the topic, and with the topic's length, and not with how many filters there are. The memory
+/// grows with the topic's levels; the stack doesn't.
 ///
 /// # Errors
 ///
@@ -87,7 +87,8 @@ struct Wildcards {
 struct Pending<'a, 't, K: TrieKey, V> {
     /// Where the first levels of a filter have led.
     at: Descent<'a, K, V>,
-    /// The topic's levels that are left; None, where the pair that stands there is looked for alone.
+    /// The topic's levels that are left; None, where the pair that stands there is looked for
+    /// alone.
     levels: Option<&'t [Nibblet]>,
 }
 
@@ -112,8 +113,8 @@ fn gather<'a, K: TrieKey, V>(
     Ok(found)
 }
 
-/// Looks for one thing that was still to be looked for: its pairs are put at the end of the list, or
-/// what comes of it at the end of what is still to be looked for.
+/// Looks for one thing that was still to be looked for: its pairs are put at the end of the list,
+/// or what comes of it at the end of what is still to be looked for.
 fn turn<'a, 't, K: TrieKey, V>(
     next: Pending<'a, 't, K, V>,
     wildcards: &Wildcards,
@@ -158,7 +159,8 @@ fn take<'a, K: TrieKey, V>(
     }
 }
 
-/// Puts a place, where some filter is stored behind it, at the end of what is still to be looked for.
+/// Puts a place, where some filter is stored behind it, at the end of what is still to be looked
+/// for.
 fn add<'a, 't, K: TrieKey, V>(
     pending: &mut Vec<Pending<'a, 't, K, V>>,
     at: Descent<'a, K, V>,

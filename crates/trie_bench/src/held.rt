@@ -33,7 +33,8 @@ pub fn answer<R: Print + Clock + AllocGlobal, K: Stored, L, B>(
     Ok(println!(rt; "{line} {pairs}")?)
 }
 
-/// Makes so many tries of the keys that the program's own memory counts for little, and tells how many pairs they have.
+/// Makes so many tries of the keys that the program's own memory counts for little, and tells how
+/// many pairs they have.
 fn tries_held<K: Stored, L, B>(
     rt: &(impl Clock + AllocGlobal),
     queries: &[Query<K, L, B>],

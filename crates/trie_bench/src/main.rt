@@ -1,6 +1,7 @@
-//! Times the calls of a trie, of its frozen forms and of a `BTreeMap` on the same keys. A line of standard input names the kind of
-//! keys and how many, as `words 10000`, and is answered by a row for each call; a third word holds a store in memory. The keys of
-//! the kind `given` are the first ones of lines before, as `key ant`; other kinds are made.
+//! Times the calls of a trie, of its frozen forms and of a `BTreeMap` on the same keys. A line of
+//! standard input names the kind of keys and how many, as `words 10000`, and is answered by a row
+//! for each call; a third word holds a store in memory. The keys of the kind `given` are the first
+//! ones of lines before, as `key ant`; other kinds are made.
 #![tactic(auto)]
 
 mod held;

@@ -46,7 +46,8 @@ pub fn answer<R: Print + Clock + AllocGlobal>(rt: &R, line: &str, count: u32) ->
     cut(rt, line, copy)
 }
 
-/// Finds one key of a hundred, walks over all pairs, and counts those at and below the shortest key.
+/// Finds one key of a hundred, walks over all pairs, and counts those at and below the shortest
+/// key.
 fn read<R: Print + Clock>(rt: &R, line: &str, nested: &Nested, keys: &[&[u8]]) -> Result<()> {
     let start = Instant::now(rt)?;
     for key in keys.iter().step_by(LOOKED_UP) {

@@ -11,7 +11,8 @@ const PAGE: usize = 10;
 /// The prefixes of the pages, one byte each.
 const PREFIXES: [u8; 100] = [0; 100];
 
-/// Stores the numbers below `count`, and prints the times of the first ones of those that begin with a byte of zeros.
+/// Stores the numbers below `count`, and prints the times of the first ones of those that begin
+/// with a byte of zeros.
 pub fn answer<R: Print + Clock + AllocGlobal>(rt: &R, line: &str, count: u32) -> Result<()> {
     let mut trie = Trie::new(rt.alloc());
     for number in 0..count {

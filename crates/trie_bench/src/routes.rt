@@ -86,8 +86,8 @@ fn around<A: Address>(address: A, bits: u8) -> Network<A> {
     Network::around(address, bits).unwrap_or(Network::host(address))
 }
 
-/// Prints the times in which a trie, a frozen table and a map store the networks, and find the longest ones that hold
-/// addresses.
+/// Prints the times in which a trie, a frozen table and a map store the networks, and find the
+/// longest ones that hold addresses.
 fn answer<A: Drawable, R: Print + Clock + AllocGlobal>(
     rt: &R,
     line: &str,
@@ -109,7 +109,8 @@ fn answer<A: Drawable, R: Print + Clock + AllocGlobal>(
     by_map.print_beside(rt, line, "map", &found)
 }
 
-/// The hop of the longest network that holds an address. The map is asked for each length, the longest first.
+/// The hop of the longest network that holds an address. The map is asked for each length, the
+/// longest first.
 fn longest<A: Address>(map: &BTreeMap<Network<A>, u32>, lengths: Lengths, address: A) -> u32 {
     for bits in (lengths.shortest..=lengths.longest).rev() {
         if let Some(hop) = map.get(&around(address, bits)) {
@@ -119,7 +120,8 @@ fn longest<A: Address>(map: &BTreeMap<Network<A>, u32>, lengths: Lengths, addres
     0
 }
 
-/// Prints the times of a trie and of the frozen table that is made from it, and gives those of storing and looking up.
+/// Prints the times of a trie and of the frozen table that is made from it, and gives those of
+/// storing and looking up.
 fn answer_trie<A: Address, R: Print + Clock + AllocGlobal>(
     rt: &R,
     line: &str,

@@ -35,8 +35,8 @@ pub fn answer<R: Print + Clock + AllocGlobal, K: Stored, L: TrieKey, B: Beginnin
     print_others(rt, line, filled, queries)
 }
 
-/// Prints the times of the insertions, and of the other calls of the trie. After the insertions, the keys are asked about in
-/// another order.
+/// Prints the times of the insertions, and of the other calls of the trie. After the insertions,
+/// the keys are asked about in another order.
 pub fn print_filling<R: Print + Clock + AllocGlobal, K: Stored, L: TrieKey, B: Beginning<K>>(
     rt: &R,
     line: &str,

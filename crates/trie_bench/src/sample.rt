@@ -96,7 +96,8 @@ pub fn texts(alloc: Global, style: Style, count: u32) -> Result<Vec<Text>, Alloc
     Ok(texts)
 }
 
-/// Adds two to six syllables. The first two of them are the word's beginning, whose length is returned.
+/// Adds two to six syllables. The first two of them are the word's beginning, whose length is
+/// returned.
 fn add_word(text: &mut String, random: &mut SplitMix64) -> Result<usize, AllocError> {
     for _ in 0..random.random_range(2u32..=6) {
         text.push_str(SYLLABLES.choose(random).copied().unwrap_or(""))?;
@@ -122,7 +123,8 @@ fn add_number(text: &mut String, random: &mut SplitMix64, count: u32) -> Result<
 }
 
 impl Text {
-    /// A given key, which stood on a line: its first bytes are its beginning, and no key has the end of a line.
+    /// A given key, which stood on a line: its first bytes are its beginning, and no key has the
+    /// end of a line.
     pub fn given(alloc: Global, key: &str, number: usize) -> Result<Text, AllocError> {
         let mut whole = String::from_str(alloc, key)?;
         whole.push('\n')?;

@@ -14,7 +14,8 @@ use std::mem::drop;
 use std::rt::Clock;
 use std::time::Instant;
 
-/// Prints the times of all calls, or the keys, or holds what is named and tells how many pairs it has.
+/// Prints the times of all calls, or the keys, or holds what is named and tells how many pairs it
+/// has.
 pub fn answer<R: Print + Clock + AllocGlobal>(
     rt: &R,
     line: &str,
@@ -36,7 +37,8 @@ pub fn answer<R: Print + Clock + AllocGlobal>(
     }
 }
 
-/// Prints each key and how many bytes of it are its beginning, for a program that times other stores.
+/// Prints each key and how many bytes of it are its beginning, for a program that times other
+/// stores.
 fn list<R: Print + AllocGlobal>(rt: &R, queries: &[TextQuery<'_>]) -> Result<()> {
     let mut lines = String::new(rt.alloc());
     for query in queries {
@@ -130,8 +132,8 @@ fn add_second(sum: u64, pair: (&[u8], &u64)) -> u64 {
     add(sum, pair.1)
 }
 
-/// Makes so many maps that the program's own memory counts for little, of pairs in order, so that no trie counts, and tells
-/// how many pairs they have.
+/// Makes so many maps that the program's own memory counts for little, of pairs in order, so that
+/// no trie counts, and tells how many pairs they have.
 fn texts_held(rt: &(impl Clock + AllocGlobal), queries: &[TextQuery<'_>]) -> Result<usize> {
     let mut all = Vec::new(rt.alloc());
     let mut count = 0usize;

@@ -4,7 +4,8 @@ use anyhow::{Result, ensure};
 use std::rt::Clock;
 use std::time::{Duration, Instant};
 
-/// Makes a call of each item in turn, and gives the times of all of them and the sum of the answers.
+/// Makes a call of each item in turn, and gives the times of all of them and the sum of the
+/// answers.
 macro_rules! timed {
     ($clock:expr, $call:literal, $items:expr, |$item:ident| $answer:expr) => {{
         let items = $items;
@@ -71,7 +72,8 @@ impl Times {
     }
 }
 
-/// Prints the rows of a store, in the order in which they were taken. Another one answers each call that it has the same.
+/// Prints the rows of a store, in the order in which they were taken. Another one answers each call
+/// that it has the same.
 pub fn print_rows(
     rt: &impl Print,
     line: &str,

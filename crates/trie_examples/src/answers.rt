@@ -40,8 +40,8 @@ fn route<'a, V>(
     }
 }
 
-/// Networks inside one another, from 10.0.0.0/8 to 10.1.2.0/24 and from 192.0.2.0/31 to 192.0.2.1/32. The last one is all
-/// addresses.
+/// Networks inside one another, from 10.0.0.0/8 to 10.1.2.0/24 and from 192.0.2.0/31 to
+/// 192.0.2.1/32. The last one is all addresses.
 const NETWORKS: &'static [(u32, usize, u32)] = &[
     (0x0a00_0000, 8, 1),
     (0x0a01_0000, 16, 2),

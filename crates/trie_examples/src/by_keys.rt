@@ -1,5 +1,5 @@
-//! Callers whose contracts speak by keys alone: each names the laws that it needs, and all but `insert_measured` are proved
-//! without a proof file.
+//! Callers whose contracts speak by keys alone: each names the laws that it needs, and all but
+//! `insert_measured` are proved without a proof file.
 
 mod costs;
 mod edits;

@@ -1,4 +1,5 @@
-//! What callers show by naming one law: what a look-up finds after a change, what a change leaves, and what a walk gives.
+//! What callers show by naming one law: what a look-up finds after a change, what a change leaves,
+//! and what a walk gives.
 ghost use Rattle.std.specs.FinMap as finite;
 ghost use Rattle.std.specs.Prelude.{◌≡◌, ◌≢◌, ℕ, List, None, Some, IfOk, OnOk, map as each};
 ghost use Rattle.radix_trie.specs.Lists.{IsPrefix, IsRising};
@@ -64,7 +65,8 @@ fn put_back<K: TrieKey + Drop, V: Drop, Q: TrieKey>(
     Ok(trie.graft(part)?)
 }
 
-/// Takes all below a key away, and looks a key up that isn't below it: it has the value that it had.
+/// Takes all below a key away, and looks a key up that isn't below it: it has the value that it
+/// had.
 fn kept<K: TrieKey + Drop, V: Copy + Drop, P: TrieKey, Q: TrieKey>(
     trie: &mut Trie<K, V>,
     above: &P,

@@ -6,7 +6,8 @@ ghost use Rattle.keyed_maps.specs.KeyedMaps.{keyed_map};
 use keyed_maps::{keyed_maps_follow_edits, keyed_maps_follow_values};
 use radix_trie::{Trie, TrieError, TrieKey};
 
-/// Counts a word: one more of it, and no more of any other. A word that isn't stored has the count 0.
+/// Counts a word: one more of it, and no more of any other. A word that isn't stored has the count
+/// 0.
 fn count<K: TrieKey + Drop>(counts: &mut Trie<K, u64>, word: K) -> Result<(), TrieError>
     requires room { unwrap_or (keyed_map K.encoding counts.old word) 0 + 1 < 2 ^ 64 }
     ensures one_more { OnOk result (unwrap_or (keyed_map K.encoding counts.new word) 0

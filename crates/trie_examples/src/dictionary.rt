@@ -1,5 +1,5 @@
-//! A dictionary that is read once and then completed from: a word on each line of its file, in the order of their bytes, as
-//! `sort` under `LC_ALL=C` leaves them.
+//! A dictionary that is read once and then completed from: a word on each line of its file, in the
+//! order of their bytes, as `sort` under `LC_ALL=C` leaves them.
 ghost use Rattle.std.specs.Prelude.{◌≡◌, map as each};
 ghost use Rattle.nibble_map.specs.Lists.{Each, IsPrefix};
 ghost use Rattle.nibble_map.specs.Nibbles.{nibbles};
@@ -33,7 +33,8 @@ fn dictionary<'a>(alloc: Global, file: &'a str) -> Result<FrozenTrie<&'a str, u6
     }
 }
 
-/// The words that begin with what was typed, in order: a slice of the dictionary, of which a caller shows as many as it likes.
+/// The words that begin with what was typed, in order: a slice of the dictionary, of which a caller
+/// shows as many as it likes.
 fn completions<'a, 'w>(words: &'a FrozenTrie<&'w str, u64>, typed: &str) -> &'a [Word<'w>]
     ensures pairs { result.now ≡ pairs_below words.now (nibbles typed.now) }
     ensures begins { Each (λ word. IsPrefix typed.now word.now) (each (λ p. p.0) result.now) }

@@ -36,8 +36,9 @@ fn a_file_is_read_back(rt: HostRuntime) -> Result<()> {
     Ok(())
 }
 
-/// Of a damaged file: how many of its bytes there are, which byte is another one, what that is, why it isn't read, how many
-/// rows stand before the fault, and how many bytes before its row or its part of the head.
+/// Of a damaged file: how many of its bytes there are, which byte is another one, what that is, why
+/// it isn't read, how many rows stand before the fault, and how many bytes before its row or its
+/// part of the head.
 const DAMAGED: &'static [(usize, usize, u8, FileWhy, u64, u64)] = &[
     (0, 0, 70, FileWhy::Short, 0, 0),
     (7, 0, 70, FileWhy::Short, 0, 0),

@@ -1,5 +1,5 @@
-//! What callers show of the pairs that a call gives, by naming one law. Those over `PrefixMap` are proved once, and run on a
-//! trie and on what it is frozen into.
+//! What callers show of the pairs that a call gives, by naming one law. Those over `PrefixMap` are
+//! proved once, and run on a trie and on what it is frozen into.
 ghost use Rattle.std.specs.Prelude.{[], ◌≡◌, Contains, IfOk, None, Some, map as each, option_copied, true};
 ghost use Rattle.nibble_map.specs.Lists.{IsBefore, IsPrefix};
 ghost use Rattle.radix_trie.specs.Keys.{IsKeyed};

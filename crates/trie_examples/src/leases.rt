@@ -1,4 +1,5 @@
-//! Leases of addresses, each with the time at which it ends: those of one network that are over are removed.
+//! Leases of addresses, each with the time at which it ends: those of one network that are over are
+//! removed.
 ghost use Rattle.std.specs.Prelude.{◌≡◌, ◌<◌, ◌≤◌, ◌↔◌, ℕ, None, Some, IsTrue, OnOk};
 ghost use Rattle.radix_trie.specs.Lists.{IsPrefix};
 ghost use Rattle.keyed_maps.specs.KeyedMaps.{keyed_map};
@@ -6,8 +7,8 @@ ghost use Rattle.keyed_maps.specs.KeyedMaps.{keyed_map};
 use keyed_maps::{keyed_maps_follow_parts, keyed_maps_follow_retain};
 use radix_trie::{Ipv4Network, Memory, Trie, TrieError, TrieKey};
 
-/// Removes the leases at and below a key that are over at a time: that end then, or have ended before. Where memory is
-/// refused, some of these may be left.
+/// Removes the leases at and below a key that are over at a time: that end then, or have ended
+/// before. Where memory is refused, some of these may be left.
 fn remove_ended<K: TrieKey + Drop, Q: TrieKey>(
     leases: &mut Trie<K, u64>,
     key: &Q,

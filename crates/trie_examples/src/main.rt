@@ -1,5 +1,6 @@
-//! Examples of the trie's uses. The program is that of the README: limits of folders, each inherited from the nearest one
-//! above. What the other examples answer is proved where they have a contract, and they are run as tests.
+//! Examples of the trie's uses. The program is that of the README: limits of folders, each
+//! inherited from the nearest one above. What the other examples answer is proved where they have a
+//! contract, and they are run as tests.
 #![tactic(auto)]
 
 use radix_trie::prelude::*;

@@ -1,5 +1,5 @@
-//! Who made a network card: the maker whose prefix of the card's address is the longest. The prefixes have 24, 28 or 36
-//! bits, so 6, 7 or 9 hexadecimal digits.
+//! Who made a network card: the maker whose prefix of the card's address is the longest. The
+//! prefixes have 24, 28 or 36 bits, so 6, 7 or 9 hexadecimal digits.
 ghost use Rattle.std.specs.Prelude.{◌≡◌, ◌≤◌, ℕ, List, None, Some, IfSome, length};
 ghost use Rattle.radix_trie.specs.Lists.{IsPrefix};
 ghost use Rattle.radix_trie.specs.Maps.{IsStored, value_at};
@@ -18,14 +18,15 @@ fn maker<V: Copy>(table: &Trie<Nibblet, V>, address: &Nibblet) -> Option<V>
     table.nearest_value(address).copied()
 }
 
-/// The digits of an address, whose pairs of digits may have colons or dashes between them. None where it has any other
-/// character.
+/// The digits of an address, whose pairs of digits may have colons or dashes between them. None
+/// where it has any other character.
 fn digits(alloc: Global, address: &str) -> Result<Option<Nibblet>, Memory> {
     let plain = address.replace(alloc, [':', '-'], "")?;
     Nibblet::from_hex(alloc, plain.as_str())
 }
 
-/// Stores the maker of each line: the digits of a prefix, a space, and a name. A line of another form is passed over.
+/// Stores the maker of each line: the digits of a prefix, a space, and a name. A line of another
+/// form is passed over.
 fn makers(alloc: Global, lines: &'static str) -> Result<Trie<Nibblet, &'static str>, TrieError> {
     let mut table = Trie::new(alloc);
     for line in lines.lines() {

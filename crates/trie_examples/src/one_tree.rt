@@ -5,8 +5,8 @@ ghost use Rattle.radix_trie.specs.Maps.{IsStored};
 use radix_trie::{Memory, Trie, TrieKey, equal_lists_have_one_tree};
 use trie_tests::samples::texts;
 
-/// Whether two tries have as many nodes and as many nibbles in them: so they have where they store the same lists, whatever was
-/// inserted and removed before.
+/// Whether two tries have as many nodes and as many nibbles in them: so they have where they store
+/// the same lists, whatever was inserted and removed before.
 fn have_one_footprint<K: TrieKey, V, L: TrieKey, W>(a: &Trie<K, V>, b: &Trie<L, W>) -> bool
     requires { (e : List ℕ) → IsStored a.now e ↔ IsStored b.now e }
     ensures { result ≡ true }

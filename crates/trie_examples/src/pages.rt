@@ -1,5 +1,5 @@
-//! A page of completions: its words begin with what was typed, and they rise; and the page after it, between which no word
-//! is missed.
+//! A page of completions: its words begin with what was typed, and they rise; and the page after
+//! it, between which no word is missed.
 ghost use Rattle.std.specs.Cmp.Lexicographic.{slice_cmp};
 ghost use Rattle.std.specs.Ordering.{nat_cmp};
 ghost use Rattle.std.specs.Prelude.{◌≡◌, ◌+◌, ◌++◌, AllPairs, IfOk, map as each, take};
@@ -37,8 +37,8 @@ fn page<'a, V>(
     words.first_below(&typed, most)
 }
 
-/// The first words that begin with what was typed, and those after them, so many at most on each of the two pages. No
-/// word is missed between them, and none comes twice.
+/// The first words that begin with what was typed, and those after them, so many at most on each of
+/// the two pages. No word is missed between them, and none comes twice.
 fn two_pages<'a, V>(
     alloc: Global,
     words: &'a Trie<&'static str, V>,

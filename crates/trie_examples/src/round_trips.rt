@@ -38,7 +38,8 @@ fn there_and_back(alloc: Global, list: &Nibblet) -> Result<Option<Nibblet>, Memo
     Nibblet::from_hex(alloc, text.as_str())
 }
 
-/// Looks a number up in the trie of ascending keys that a trie of plain ones becomes: its value is that in the trie.
+/// Looks a number up in the trie of ascending keys that a trie of plain ones becomes: its value is
+/// that in the trie.
 fn risen_value<T: KeySigned + Drop>(
     alloc: Global,
     trie: &Trie<T, u64>,

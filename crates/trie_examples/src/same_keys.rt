@@ -5,7 +5,8 @@ ghost use Rattle.keyed_maps.specs.KeyedMaps.{stored_key};
 
 use radix_trie::{InsertError, Trie, TrieKey, stored_keys_are_equal};
 
-/// Stores a pair in a trie each of whose keys came in by insertion. What key it replaces equals the new one.
+/// Stores a pair in a trie each of whose keys came in by insertion. What key it replaces equals the
+/// new one.
 fn stored_again<K: TrieKey + Drop, V: Drop>(
     trie: &mut Trie<K, V>,
     key: K,

@@ -1,6 +1,7 @@
-//! The public suffix of a host name, by rules as publicsuffix.org has them: `co.uk` is one of `www.example.co.uk`. A rule
-//! `*.ck` makes each name one label below `ck` one, and `!www.ck` takes one of these out. The longest rule that applies
-//! decides, and where none does the last label is the suffix.
+//! The public suffix of a host name, by rules as publicsuffix.org has them: `co.uk` is one of
+//! `www.example.co.uk`. A rule `*.ck` makes each name one label below `ck` one, and `!www.ck` takes
+//! one of these out. The longest rule that applies decides, and where none does the last label is
+//! the suffix.
 ghost use Rattle.std.specs.Prelude.{◌≡◌, ℕ, IfOk, drop};
 
 use radix_trie::{Memory, Parts, Trie, TrieError};
@@ -23,7 +24,8 @@ const NO_RULES: Rules = Rules {
     exception: false,
 };
 
-/// Adds a rule. The keys are names from the last label to the first, so that those above a host are its ends.
+/// Adds a rule. The keys are names from the last label to the first, so that those above a host are
+/// its ends.
 fn add_rule(alloc: Global, all: &mut Trie<Parts, Rules>, rule: &str) -> Result<(), TrieError> {
     let wildcard = rule.strip_prefix("*.");
     let exception = rule.strip_prefix('!');
@@ -35,7 +37,8 @@ fn add_rule(alloc: Global, all: &mut Trie<Parts, Rules>, rule: &str) -> Result<(
     Ok(())
 }
 
-/// How many labels the public suffix of a host has. All rules that apply come in one walk, the shortest name first.
+/// How many labels the public suffix of a host has. All rules that apply come in one walk, the
+/// shortest name first.
 fn suffix_len(all: &Trie<Parts, Rules>, host: &Parts) -> Result<usize, Memory> {
     let mut len = 1;
     for (name, rules) in all.common_prefixes(host)? {

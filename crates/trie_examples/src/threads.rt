@@ -1,5 +1,5 @@
-//! What may be sent to another thread, and shared by several: a trie, its views and walks, a set and a frozen trie, if its
-//! keys and values may.
+//! What may be sent to another thread, and shared by several: a trie, its views and walks, a set
+//! and a frozen trie, if its keys and values may.
 
 use frozen_trie::FrozenTrie;
 use radix_trie::iter::Cursor;

@@ -1,5 +1,5 @@
-//! What callers are told by words of contracts: a nearest value, why a change is refused, all values changed at once, and
-//! the order of pairs of numbers.
+//! What callers are told by words of contracts: a nearest value, why a change is refused, all
+//! values changed at once, and the order of pairs of numbers.
 ghost use Rattle.std.specs.FinMap as map;
 ghost use Rattle.std.specs.Prelude.{◌≡◌, ◌+◌, ◌<◌, ◌^◌, ◌-◌, ◌∷◌, ℕ, [], All, List, None, Some, Ok, IfErr, IfOk, IsOk, OnErr, option_map};
 ghost use Rattle.radix_trie.specs.Lists.{IsBefore, IsPrefix};
@@ -24,7 +24,8 @@ fn nearest_at<K: TrieKey, V: Copy>(trie: &Trie<K, V>, key: &K) -> Result<Option<
     Ok(trie.get_ancestor_value(key)?.copied())
 }
 
-/// Replaces the value of a light key through a view, at whose path or below it stands. It isn't refused.
+/// Replaces the value of a light key through a view, at whose path or below it stands. It isn't
+/// refused.
 fn replaced<K: TrieKey + Drop, V: Drop>(
     view: &mut SubTrieMut<'_, K, V>,
     key: K,
@@ -38,7 +39,8 @@ fn replaced<K: TrieKey + Drop, V: Drop>(
     view.insert(key, value)
 }
 
-/// Stores a light key through a view that it lies outside: this, and nothing else, is why it is refused.
+/// Stores a light key through a view that it lies outside: this, and nothing else, is why it is
+/// refused.
 fn outside<K: TrieKey + Drop, V: Drop>(
     view: &mut SubTrieMut<'_, K, V>,
     key: K,
@@ -51,7 +53,8 @@ fn outside<K: TrieKey + Drop, V: Drop>(
     view.insert(key, value)
 }
 
-/// Stores one pair by `extend`. Where it is refused, that pair comes back, and no other pair was stored.
+/// Stores one pair by `extend`. Where it is refused, that pair comes back, and no other pair was
+/// stored.
 fn extended_by_one<K: TrieKey + Drop, V: Drop>(
     trie: &mut Trie<K, V>,
     key: K,
@@ -143,8 +146,8 @@ fn key_for_each(numbers: &mut Trie<u64, u64>)
     );
 }
 
-/// The encodings of two pairs of numbers: that of the pair with the smaller first number comes first, and where the first
-/// numbers are equal, that of the pair with the smaller second number.
+/// The encodings of two pairs of numbers: that of the pair with the smaller first number comes
+/// first, and where the first numbers are equal, that of the pair with the smaller second number.
 fn encoded(alloc: Global, x: (u8, u16), y: (u8, u16)) -> Result<(Nibblet, Nibblet), Memory>
     ensures first { IfOk result (λ lists. x.0 < y.0 → IsBefore lists.0 lists.1) }
     ensures second { IfOk result (λ lists.

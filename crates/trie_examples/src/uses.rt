@@ -1,5 +1,5 @@
-//! Three uses of a trie: the longest stored prefix of an address, the words that a beginning may become, and a setting
-//! that a path inherits. What each answers is proved of it.
+//! Three uses of a trie: the longest stored prefix of an address, the words that a beginning may
+//! become, and a setting that a path inherits. What each answers is proved of it.
 ghost use Rattle.std.specs.Prelude.{◌≡◌, ◌⊎◌, ℕ, List, IfOk, IsOk, None, Some, map};
 ghost use Rattle.radix_trie.specs.Lists.{IsPrefix};
 ghost use Rattle.radix_trie.specs.Views.{pairs_below};
@@ -12,8 +12,8 @@ use std::alloc::Global;
 use std::process::Abort;
 use trie_tests::samples::texts;
 
-/// Where the longest stored prefix of an address leads: the network of which each other stored one that begins the address
-/// is a prefix.
+/// Where the longest stored prefix of an address leads: the network of which each other stored one
+/// that begins the address is a prefix.
 fn next_hop<V: Copy>(table: &Trie<Bits, V>, address: &Bits) -> Result<Option<V>, Memory>
     ensures hop { IfOk result (λ hop. (v : V) → hop ≡ Some v
         → (network : List ℕ) × IsPrefix network address.now

@@ -27,9 +27,10 @@ pub fn sets_answer_by_both<P>()
         → map.get (joined m n) e ≡ map.get n e }
 {}
 
-/// The value at a list, as a key's encoding is, of what a `Combination` walks over: of a union the first map's, or else the
-/// second's; of an intersection the first map's where the second stores the list too; of a difference the first map's where
-/// the second doesn't; of a symmetric difference that of the one map that stores it.
+/// The value at a list, as a key's encoding is, of what a `Combination` walks over: of a union the
+/// first map's, or else the second's; of an intersection the first map's where the second stores
+/// the list too; of a difference the first map's where the second doesn't; of a symmetric
+/// difference that of the one map that stores it.
 pub fn combinations_have_values<K, V>()
     ensures union { (m n : PairMap K V) (e : List ℕ) → value_at (combined Operation.Union m n) e
         ≡ option_or (value_at m e) (value_at n e) }
@@ -49,8 +50,8 @@ pub fn combinations_have_values<K, V>()
         → value_at (combined Operation.SymmetricDifference m n) e ≡ None }
 {}
 
-/// The algebra of sets. Where two sets hold keys with one encoding, the first one's stand in what both have in common, and
-/// in what they have together.
+/// The algebra of sets. Where two sets hold keys with one encoding, the first one's stand in what
+/// both have in common, and in what they have together.
 pub fn sets_have_an_algebra<P>()
     ensures counts { (m n : NibbleMap P)
         → map.len (joined m n) + map.len (common m n) ≡ map.len m + map.len n }
@@ -71,8 +72,8 @@ pub fn sets_have_an_algebra<P>()
         → joined (joined m n) o ≡ joined m (joined n o) }
 {}
 
-/// The keys of a set, and of two sets side by side, stand in the order of their encodings; those of a set are the keys that
-/// it answers at their encodings.
+/// The keys of a set, and of two sets side by side, stand in the order of their encodings; those of
+/// a set are the keys that it answers at their encodings.
 pub fn keys_of_sets_rise<K: TrieKey>(set: &TrieSet<K>, other: &TrieSet<K>)
     ensures held { (k : K) → Has (keys_in set.now) k
         ↔ (key_at set.now (K.encoding k) ≡ Some k) }

@@ -9,10 +9,11 @@ use radix_trie::iter::{Combination, Operation};
 use radix_trie::{Memory, Trie, TrieKey};
 use std::marker::Model;
 
-/// A walk over keys of two sets: each encoding once, in their order. Of two keys with one encoding the first set's is given.
+/// A walk over keys of two sets: each encoding once, in their order. Of two keys with one encoding
+/// the first set's is given.
 ///
-/// A step may be refused, since it may allocate: memory for the rows of nodes beside the ways down. The same keys are left
-/// then. A contract sees the walk as the list of the keys that are left.
+/// A step may be refused, since it may allocate: memory for the rows of nodes beside the ways down.
+/// The same keys are left then. A contract sees the walk as the list of the keys that are left.
 #[derive(Drop)]
 pub struct Selection<'a, K> {
     pairs: Combination<'a, K, ()>,
@@ -44,13 +45,13 @@ impl<'a, K> Selection<'a, K> {
         })
     }
 
-    /// The next key, in the order of the encodings, or None where none is left, and then at each further call. No key is
-    /// encoded. The key behind it is looked for too.
+    /// The next key, in the order of the encodings, or None where none is left, and then at each
+    /// further call. No key is encoded. The key behind it is looked for too.
     ///
     /// # Errors
     ///
-    /// Memory is refused, for rows of nodes that are put aside. Then the same keys are left, and the next call goes on where
-    /// this one stopped. At the end nothing is refused.
+    /// Memory is refused, for rows of nodes that are put aside. Then the same keys are left, and
+    /// the next call goes on where this one stopped. At the end nothing is refused.
     pub fn next(&mut self) -> Result<Option<&'a K>, Memory>
         ensures key { IfOk result (λ key. option_copied key ≡ slice_get self.old 0) }
         ensures rest { OnOk result (self.new ≡ drop 1 self.old) }

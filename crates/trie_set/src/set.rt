@@ -19,8 +19,8 @@ mod sides;
 
 /// A set of keys, told apart by their encodings.
 ///
-/// A contract sees it as the map of its trie: from each stored encoding, a list of nibbles, to the key that is stored
-/// there.
+/// A contract sees it as the map of its trie: from each stored encoding, a list of nibbles, to the
+/// key that is stored there.
 #[derive(Drop)]
 pub struct TrieSet<K: TrieKey> {
     trie: Trie<K, ()>,
@@ -100,7 +100,8 @@ impl<K: TrieKey> TrieSet<K> {
         self.trie.contains_key(key)
     }
 
-    /// The key that is stored at the key's encoding, if there is one, in the time of the way down to it.
+    /// The key that is stored at the key's encoding, if there is one, in the time of the way down
+    /// to it.
     ///
     /// # Errors
     ///
@@ -114,8 +115,8 @@ impl<K: TrieKey> TrieSet<K> {
         Ok(key_behind(self.trie.get_key_value(key)?))
     }
 
-    /// The key at the longest stored encoding that is a prefix of the key's, or None where there is none, in the time of the
-    /// way down to it.
+    /// The key at the longest stored encoding that is a prefix of the key's, or None where there is
+    /// none, in the time of the way down to it.
     ///
     /// # Errors
     ///
@@ -144,12 +145,13 @@ impl<K: TrieKey> TrieSet<K> {
         key_behind(TrieCommon::last_key_value(&self.trie))
     }
 
-    /// The walk over all keys, in the order of their encodings, a prefix before its extensions. All memory that it needs is
-    /// allocated here.
+    /// The walk over all keys, in the order of their encodings, a prefix before its extensions. All
+    /// memory that it needs is allocated here.
     ///
     /// # Errors
     ///
-    /// Memory for the walk is refused: it grows with the height of the trie, and none is allocated for the empty set.
+    /// Memory for the walk is refused: it grows with the height of the trie, and none is allocated
+    /// for the empty set.
     pub fn iter(&self) -> Result<Keys<'_, K, ()>, Memory>
         ensures walk { IfOk result (λ keys. keys ≡ keys_in self.now) }
         ensures countable { IfOk result (λ keys. length keys < 2 ^ 64) }
@@ -160,14 +162,14 @@ impl<K: TrieKey> TrieSet<K> {
 }
 
 impl<K: TrieKey + Drop> TrieSet<K> {
-    /// Stores the key at its encoding, and returns whether nothing was stored there. A stored key stays, and the one that was
-    /// handed in is dropped then.
+    /// Stores the key at its encoding, and returns whether nothing was stored there. A stored key
+    /// stays, and the one that was handed in is dropped then.
     ///
     /// # Errors
     ///
-    /// In the order in which they are decided: memory for the encoding; `Full`, where `usize::MAX` keys are stored and the
-    /// encoding isn't among them; memory for the change, which a stored encoding never needs. The set is as before then, and
-    /// the error holds the very key.
+    /// In the order in which they are decided: memory for the encoding; `Full`, where `usize::MAX`
+    /// keys are stored and the encoding isn't among them; memory for the change, which a stored
+    /// encoding never needs. The set is as before then, and the error holds the very key.
     pub fn insert(&mut self, key: K) -> Result<bool, InsertError<K, ()>>
         ensures new { IfOk result
             (λ new. new ≡ not (map.contains_key self.old (K.encoding key))) }
@@ -197,8 +199,8 @@ impl<K: TrieKey + Drop> TrieSet<K> {
     ///
     /// # Errors
     ///
-    /// Memory is refused, for the encoding or for joining two fragments, which have more than 32 nibbles together then. The
-    /// set is as before then.
+    /// Memory is refused, for the encoding or for joining two fragments, which have more than 32
+    /// nibbles together then. The set is as before then.
     pub fn remove<Q: TrieKey>(&mut self, key: &Q) -> Result<bool, Memory>
         ensures was_stored { IfOk result
             (λ was. was ≡ map.contains_key self.old (Q.encoding key.now)) }
@@ -216,7 +218,8 @@ impl<K: TrieKey + Drop> TrieSet<K> {
         Ok(self.take(key)?.is_some())
     }
 
-    /// Takes the key at the key's encoding away, and returns the stored key. Where none is stored there, nothing changes.
+    /// Takes the key at the key's encoding away, and returns the stored key. Where none is stored
+    /// there, nothing changes.
     ///
     /// # Errors
     ///
@@ -237,13 +240,13 @@ impl<K: TrieKey + Drop> TrieSet<K> {
         Ok(key_of(self.trie.remove_entry(key)?))
     }
 
-    /// Takes the first key away, in the order of the encodings, and returns it; None where no key is stored. No key is
-    /// encoded.
+    /// Takes the first key away, in the order of the encodings, and returns it; None where no key
+    /// is stored. No key is encoded.
     ///
     /// # Errors
     ///
-    /// Memory is refused for joining two fragments, which have more than 32 nibbles together then. The set is as before
-    /// then.
+    /// Memory is refused for joining two fragments, which have more than 32 nibbles together then.
+    /// The set is as before then.
     pub fn pop_first(&mut self) -> Result<Option<K>, Memory>
         ensures first { IfOk result (λ first. first ≡ slice_get (keys_in self.old) 0) }
         ensures removed { IfOk result (λ first. MatchOption first (self.new ≡ self.old)
@@ -256,8 +259,8 @@ impl<K: TrieKey + Drop> TrieSet<K> {
         Ok(key_of(self.trie.pop_first()?))
     }
 
-    /// Takes the last key away, in the order of the encodings, and returns it; None where no key is stored. No key is
-    /// encoded.
+    /// Takes the last key away, in the order of the encodings, and returns it; None where no key is
+    /// stored. No key is encoded.
     ///
     /// # Errors
     ///

@@ -1,5 +1,5 @@
 -- What texts ask for, and lines that are none.
-use Rattle.std.proofs.Common.{◌≡◌, ◌≤◌, ℕ, zero, suc, arith, List, [], ◌∷◌, drop, length, None, Bool, true, false, refl, sym, ap, if◌then◌else◌, IfOk, OnErr, OnOk, is_err, Result, Ok, Err, codes}
+use Rattle.std.proofs.Common.{◌≡◌, ◌≤◌, ℕ, zero, suc, arith, List, [], ◌∷◌, drop, length, None, Bool, true, false, refl, sym, ap, if◌then◌else◌, codes}
 use Rattle.std.specs.Str.{is_utf8, IsUtf8}
 use Rattle.std.proofs.lemmas.Str.{is_utf8-from_IsUtf8, IsUtf8-from_is_utf8}
 use Rattle.trie_shell.specs.Remarks.{form_in, misfit, why_bad}
@@ -16,32 +16,6 @@ is_text_request-none line wrong =
       | true ↦ λ yes. absurd (wrong (IsUtf8-from_is_utf8 line yes))
       | false ↦ λ _. refl
     ] refl
-
--- what holds of an Ok, whatever follows from that holds of it too
-pub OnOk-then : {T E P Q : Type 0} (r : Result T E) → (P → Q) → OnOk r P → OnOk r Q
-OnOk-then (Ok value) f p = f p
-OnOk-then (Err error) f p = p
-
--- what holds anyway
-pub OnOk-all : {T E P : Type 0} (r : Result T E) → P → OnOk r P
-OnOk-all (Ok value) p = p
-OnOk-all (Err error) p = tt {0}
-
-pub OnErr-all : {T E P : Type 0} (r : Result T E) → P → OnErr r P
-OnErr-all (Ok value) p = tt {0}
-OnErr-all (Err error) p = p
-
-pub IfOk-then : {T E : Type 0} {P Q : T → Type 0} (r : Result T E) → ((value : T) → P value → Q value) → IfOk r P → IfOk r Q
-IfOk-then (Ok value) f p = f value p
-IfOk-then (Err error) f p = p
-
-pub OnOk-no_error : {T E P : Type 0} (r : Result T E) → is_err r ≡ false → OnOk r P → P
-OnOk-no_error (Ok value) none p = p
-OnOk-no_error (Err error) none p = absurd (let no : ⊥ = (let both : true ≡ false = none in cc) in no)
-
-pub OnErr-error : {T E P : Type 0} (r : Result T E) → is_err r ≡ true → OnErr r P → P
-OnErr-error (Ok value) error p = absurd (let no : ⊥ = (let both : false ≡ true = error in cc) in no)
-OnErr-error (Err error) error' p = p
 
 -- what is told of a text that asks for nothing, and of a line that is no text
 pub why_bad-text : (line : List ℕ) → IsUtf8 line → misfit line ≡ why_bad line

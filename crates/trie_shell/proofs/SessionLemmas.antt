@@ -4,9 +4,10 @@ use Rattle.shell_words.specs.Answers.{Answering}
 use Rattle.shell_words.specs.declared.kind.Kind.{Kind}
 use Rattle.shell_words.specs.declared.kind.Kind.TheVariants.{Text}
 use Rattle.std.proofs.lemmas.Slice.Eq.{bytes_eq-Decides}
-use Rattle.trie_shell.specs.Answers.{Current, DoesCall, Halts, IsTold, Makes, MakesText, Table}
+use Rattle.shell_calls.specs.Answers.{DoesCall, IsTold, Table}
+use Rattle.trie_shell.specs.Answers.{Current, Halts, Makes, MakesText}
 use Rattle.trie_shell.specs.Sessions.{HaltsAt, IsReplyTo, State, is_text, state_of}
-use Rattle.trie_shell.proofs.CallLemmas.{apart}
+use Rattle.shell_calls.proofs.CallLemmas.{apart}
 
 -- a call of the current trie is one of the session
 pub made : (kind : Kind) (watched : Bool) (old new : Current) (a : Answering) (bytes : List ℕ) → new.views ≡ old.views

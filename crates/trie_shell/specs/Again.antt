@@ -2,7 +2,8 @@
 use Rattle.std.proofs.Common.{◌≡◌, ◌∙◌, ap, subst, ℕ, List, take, length, Option, None, Some}
 use Rattle.std.proofs.Math.Seq.{take-length}
 use Rattle.shell_words.specs.Answers.{Answering, IsReturned}
-use Rattle.trie_shell.specs.Answers.{Halts, IsReread, Leaves, MakesText, Table}
+use Rattle.shell_calls.specs.Answers.{IsReread, Table}
+use Rattle.trie_shell.specs.Answers.{Halts, Leaves, MakesText}
 
 -- an answer of which only words were read, taken back to its words and bytes
 returned : (a b c : Answering) → IsReread a b → IsReturned a b c → c ≡ a

@@ -1,6 +1,6 @@
 -- A call that is made once more behind a refused one.
 pub mod Again
--- What calls of a trie of texts answer.
+-- What a session's calls leave of its current trie.
 pub mod Answers
 -- The call that a line asks for.
 pub mod Asked

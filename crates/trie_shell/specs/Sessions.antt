@@ -5,7 +5,8 @@ use Rattle.std.proofs.Common.{◌∙◌, sym}
 use Rattle.shell_words.specs.Answers.{Answering}
 use Rattle.shell_words.specs.declared.kind.Kind.{Kind}
 use Rattle.shell_words.specs.declared.kind.Kind.TheVariants.{Text}
-use Rattle.trie_shell.specs.Answers.{Current, Makes, Table}
+use Rattle.shell_calls.specs.Answers.{Table}
+use Rattle.trie_shell.specs.Answers.{Current, Makes}
 use Rattle.trie_shell.specs.Asked.{asked_in}
 use Rattle.trie_shell.specs.Remarks.{IsRemark, why_bad}
 use Rattle.trie_shell.specs.Requests.{is_request}

@@ -36,8 +36,8 @@ pub trait Caller {
     fn picture(&mut self, picture: &mut Answer<'_>) -> Result<(), Memory>;
 }
 
-/// Makes a call, which stands behind `light` where it is promised to take no memory. Where memory is
-/// refused for it, the same call is made once more.
+/// Makes a call, which stands behind `light` where it is promised to take no memory. Where memory
+/// is refused for it, the same call is made once more.
 pub fn make<C: Caller>(caller: &mut C, answer: &mut Answer<'_>) -> Result<(), Memory>
     ensures made { OnOk result (answer.old.is_watched ≡ false → answer.old.name ≢ codes "light"
         → C.makes caller.old answer.old caller.new answer.new) }
@@ -85,8 +85,8 @@ fn make_twice<C: Caller>(
     caller.perform(answer)
 }
 
-/// What is told of a refusal. Where `extend` or `merge` is refused the pairs before the refused one stay, and
-/// where `retain` is, some pairs may be gone.
+/// What is told of a refusal. Where `extend` or `merge` is refused the pairs before the refused one
+/// stay, and where `retain` is, some pairs may be gone.
 fn told(name: &str, is_light: bool, is_same: bool) -> &'static str {
     match name {
         _ if is_light => "refused, though light",

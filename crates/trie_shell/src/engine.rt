@@ -10,14 +10,14 @@ ghost use Rattle.trie_shell.specs.Sessions.{GivesUp, HaltsAt, IsBad, IsNever, Is
 
 use crate::caller::{Caller, make};
 use crate::calls::files::answer_file;
-use crate::calls::json::answer_text;
-use crate::calls::topics::answer_form;
 use crate::help::{answer_complete, answer_help};
 use crate::prompt::NO_TERMINAL;
 use crate::request::{Reason, Request, request_of};
 use crate::tries::Tries;
 use line_sessions::{Program, Refusal, WatchedReader, WatchedWriter, run};
 use radix_trie::Memory;
+use shell_calls::json::answer_text;
+use shell_calls::topics::answer_form;
 use shell_words::{Answer, Kind, NO_TYPE, answer_part};
 use std::alloc::AllocError;
 use std::io::{Read, Write};
@@ -25,9 +25,9 @@ use std::marker::Model;
 use std::process::ExitCode;
 use std::rt::Files;
 
-/// The tries and the type of their keys, whether refusals are told, whether answers are in colours, and
-/// the system's files. A contract sees the current trie, where its keys are texts, refusals aren't told,
-/// and no view is open.
+/// The tries and the type of their keys, whether refusals are told, whether answers are in colours,
+/// and the system's files. A contract sees the current trie, where its keys are texts, refusals
+/// aren't told, and no view is open.
 #[derive(Drop)]
 struct Shell<F: Files + AllocGlobal + Drop> {
     files: F,
@@ -64,8 +64,8 @@ impl<F: Files + AllocGlobal + Drop> Shell<F> {
         }
     }
 
-    /// Begins with a trie of the type of keys that the next word names. But for `begin` no pair may be
-    /// stored then.
+    /// Begins with a trie of the type of keys that the next word names. But for `begin` no pair may
+    /// be stored then.
     fn answer_type(&mut self, answer: &mut Answer<'_>) -> Result<(), Memory> {
         let Some(kind) = Kind::of(answer.next_word().unwrap_or("")) else {
             return answer.refuse(NO_TYPE);

@@ -4,8 +4,8 @@ use radix_trie::Memory;
 use shell_words::{Answer, NONE};
 
 /// A line for each call, or several: its name, a word for each of its words, those that may be left
-/// out in brackets, and what it answers. Two dots stand for any number of words. A call that answers
-/// nothing else answers `ok`.
+/// out in brackets, and what it answers. Two dots stand for any number of words. A call that
+/// answers nothing else answers `ok`.
 pub const CALLS: &'static [&'static str] = &[
     "insert KEY VALUE: stores a pair. The old value, or none; outside, in a view.",
     "try_insert KEY VALUE: stores a pair where none is stored at the key; occupied, where one is.",

@@ -27,9 +27,9 @@ enum Place {
     Cut,
 }
 
-/// A reader at a terminal, which gives a line at most to each read. It writes a prompt before each one,
-/// and reads again where the terminal has cut a line, which is told of. A line `quit` or `exit` is the
-/// end of what is read.
+/// A reader at a terminal, which gives a line at most to each read. It writes a prompt before each
+/// one, and reads again where the terminal has cut a line, which is told of. A line `quit` or
+/// `exit` is the end of what is read.
 #[derive(Drop)]
 pub struct Prompting<R: Read, P: Write> {
     reader: R,
@@ -65,8 +65,8 @@ impl<R: Read, P: Write> Prompting<R, P> {
         let _told = self.prompts.write_all(text.as_bytes());
     }
 
-    /// Reads once. None: what came is of a line that is cut, and isn't handed on. If the beginning of the
-    /// line was, which Ctrl-D parts from the rest, it becomes a bad line.
+    /// Reads once. None: what came is of a line that is cut, and isn't handed on. If the beginning
+    /// of the line was, which Ctrl-D parts from the rest, it becomes a bad line.
     fn read_once(&mut self, buffer: &mut [u8]) -> io::Result<Option<usize>>
         ensures bound { IfOk result (λ found. IfSome found (λ count. count ≤ length buffer.new)) }
     {

@@ -1,7 +1,7 @@
 //! Tries and frozen ones by their names, and the views that are open in the current one.
 ghost use Rattle.std.specs.FinMap as map;
 ghost use Rattle.std.specs.Prelude.{◌≡◌, ◌⊎◌, ℕ, List, IfOk, IsFalse, IsTrue, OnErr};
-ghost use Rattle.trie_shell.specs.Answers.{DoesCall, IsReread, IsTold};
+ghost use Rattle.shell_calls.specs.Answers.{DoesCall, IsReread, IsTold};
 
 mod frozen;
 mod frozen_files;
@@ -9,11 +9,12 @@ mod images;
 mod names;
 mod places;
 
-use crate::calls::sweeps::answer_lines;
 use crate::calls::views::{answer_in_view, answer_in_write_view, answer_with};
-use crate::calls::{FrozenTable, Table, answer_told, answer_trie};
+use crate::calls::{FrozenTable, answer_trie};
 pub use places::IN_A_VIEW;
 use radix_trie::{Memory, Nibblet, Trie};
+use shell_calls::sweeps::answer_lines;
+use shell_calls::{Table, answer_told};
 use shell_words::{Answer, Kind, NOT_HERE};
 use std::alloc::Global;
 use std::marker::Model;
@@ -39,8 +40,8 @@ struct Spot {
     is_for_writing: bool,
 }
 
-/// The tries. A view borrows its trie, so each line in it opens it anew at its path. A contract sees
-/// the current trie, and how many views are open.
+/// The tries. A view borrows its trie, so each line in it opens it anew at its path. A contract
+/// sees the current trie, and how many views are open.
 #[derive(Drop)]
 pub struct Tries {
     alloc: Global,
@@ -88,8 +89,8 @@ impl Tries {
             })
     }
 
-    /// A call of which a contract tells what a trie of texts answers, where no view is open. False: it
-    /// is none of them, or a view is open.
+    /// A call of which a contract tells what a trie of texts answers, where no view is open. False:
+    /// it is none of them, or a view is open.
     pub fn answer_told(&mut self, answer: &mut Answer<'_>) -> Result<bool, Memory>
         ensures views { self.new.views ≡ self.old.views }
         ensures answered { IfOk result (λ is_told. IsTrue is_told → answer.old.kind ≡ Kind.Text

@@ -4,7 +4,8 @@ use crate::samples::{SAMPLE, Texts, list, texts};
 use radix_trie::{Descent, Memory};
 use std::alloc::Global;
 
-/// Lists of nibbles, one after another; whether no text of the sample begins with them; and the number of the text that they are.
+/// Lists of nibbles, one after another; whether no text of the sample begins with them; and the
+/// number of the text that they are.
 const DESCENTS: &'static [(&'static [&'static [u8]], bool, Option<u64>)] = &[
     (&[], false, None),
     (&[&[]], false, None),

@@ -31,7 +31,8 @@ pub fn texts(alloc: Global, pairs: &[(&'static str, u64)]) -> Result<Texts, Memo
     }
 }
 
-/// The list of the nibbles. It is refused where memory is, and where one of the numbers is above 15.
+/// The list of the nibbles. It is refused where memory is, and where one of the numbers is above
+/// 15.
 pub fn list(alloc: Global, nibbles: &[u8]) -> Result<Nibblet, Memory>
     ensures list { IfOk result (λ list. list ≡ nibbles.now) }
     ensures light { All (λ n. n < 16) nibbles.now → length nibbles.now ≤ 32 → IsOk result }
@@ -46,8 +47,8 @@ pub fn list(alloc: Global, nibbles: &[u8]) -> Result<Nibblet, Memory>
     Ok(list)
 }
 
-/// Whether the view's path is the key's encoding. The one refusal is that of memory for the encoding, which a light key
-/// never meets.
+/// Whether the view's path is the key's encoding. The one refusal is that of memory for the
+/// encoding, which a light key never meets.
 pub fn stands_at<K: TrieKey, V, Q: TrieKey>(
     alloc: Global,
     view: &SubTrie<'_, K, V>,

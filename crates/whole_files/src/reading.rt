@@ -10,8 +10,8 @@ use std::rt::Files;
 ///
 /// # Errors
 ///
-/// Fails where the name is that of a folder, a device or a pipe, and where a call of the system fails or memory is
-/// refused.
+/// Fails where the name is that of a folder, a device or a pipe, and where a call of the system
+/// fails or memory is refused.
 pub fn read<F: Files>(alloc: Global, files: &F, path: &str) -> Result<Vec<u8>, FileFault> {
     let mut bytes = Vec::new(alloc);
     read_behind(files, path, &mut bytes)?;

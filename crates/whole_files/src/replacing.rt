@@ -20,16 +20,18 @@ const COMMON: u32 = 0o666;
 /// The bit by which its owner may write it.
 const WRITABLE: u32 = 0o200;
 
-/// Puts a file that holds the bytes in place of the file of this name, which stays as it is where that
-/// fails: they are written to a file beside it, which takes the name once the disk has them all. The name of
-/// the file beside it is the prefix and a number: it hinders no later call where the program is killed.
-/// Until it is whole its owner alone may read it, if it replaces another one, whose group it has, and whose
-/// permissions it takes then. The folder is synced too, but its failure isn't told.
+/// Puts a file that holds the bytes in place of the file of this name, which stays as it is where
+/// that fails: they are written to a file beside it, which takes the name once the disk has them
+/// all. The name of the file beside it is the prefix and a number: it hinders no later call where
+/// the program is killed. Until it is whole its owner alone may read it, if it replaces another
+/// one, whose group it has, and whose permissions it takes then. The folder is synced too, but its
+/// failure isn't told.
 ///
 /// # Errors
 ///
-/// Fails where the name is that of a link, a folder, a device or a pipe, where the file has another name too, is
-/// another user's or may not be written by its owner, and where a call of the system fails or memory is refused.
+/// Fails where the name is that of a link, a folder, a device or a pipe, where the file has another
+/// name too, is another user's or may not be written by its owner, and where a call of the system
+/// fails or memory is refused.
 pub fn replace<F: Files>(
     alloc: Global,
     files: &F,
@@ -101,8 +103,8 @@ fn create<F: Files>(
     Err(FileFault::Failed)
 }
 
-/// Writes the bytes to the file beside the one of this name, and gives it the name. Who may read and write
-/// it stays, and it is widened for others last.
+/// Writes the bytes to the file beside the one of this name, and gives it the name. Who may read
+/// and write it stays, and it is widened for others last.
 fn fill<F: Files>(
     files: &F,
     file: F::File,

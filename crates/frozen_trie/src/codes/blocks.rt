@@ -1,4 +1,5 @@
-//! Heads in blocks, each behind what the lists of its block share, and a search that goes down a tree of such blocks.
+//! Heads in blocks, each behind what the lists of its block share, and a search that goes down a
+//! tree of such blocks.
 ghost use Rattle.std.specs.Prelude.{◌≡◌, ◌↔◌, ◌+◌, ◌-◌, ◌*◌, ◌<◌, ◌≤◌, ◌^◌, ℕ, [], false, true, drop, length, slice_index, take, IsTrue};
 ghost use Rattle.nibble_map.specs.Lists.{IsRising};
 ghost use Rattle.frozen_trie.specs.Blocks.{AreFurther, AreLevels, IsAround, IsBlock, IsCounted, IsLevel, IsNarrowed, IsLocated, IsSharedBy, IsSoughtIn};
@@ -26,7 +27,8 @@ pub(crate) struct Level {
     pub(crate) heads: Vec<u64>,
     /// The heads of the same lists behind seven bytes more.
     pub(crate) more: Vec<u64>,
-    /// How many bytes the heads of a block stand behind: those in which the list before the block and its last one agree.
+    /// How many bytes the heads of a block stand behind: those in which the list before the block
+    /// and its last one agree.
     pub(crate) skips: Vec<u32>,
 }
 
@@ -51,10 +53,10 @@ pub(crate) struct Sought<'a> {
 }
 
 impl Codes {
-    /// Bounds of what the heads of a block leave to be compared: the lists in front of the first bound come in front of the
-    /// search, and those from the second on don't. Those between agree with the searched list in 15 nibbles behind what the
-    /// block skips; where there is none, whether the list at the bound is the searched one, of a search that isn't one
-    /// through it.
+    /// Bounds of what the heads of a block leave to be compared: the lists in front of the first
+    /// bound come in front of the search, and those from the second on don't. Those between agree
+    /// with the searched list in 15 nibbles behind what the block skips; where there is none,
+    /// whether the list at the bound is the searched one, of a search that isn't one through it.
     ///
     /// The head of what stands in the searched list behind the same bytes is passed.
     fn bounds_in(&self, block: &Block<'_>, sought: &Sought<'_>, head: u64) -> (usize, usize, bool)
@@ -80,11 +82,12 @@ impl Codes {
         (from, to, false)
     }
 
-    /// How many of the lists of a block come in front, where all are known to agree with the searched one in so many nibbles;
-    /// and whether the one behind these is the searched list, of a search that isn't one through it.
+    /// How many of the lists of a block come in front, where all are known to agree with the
+    /// searched one in so many nibbles; and whether the one behind these is the searched list, of a
+    /// search that isn't one through it.
     ///
-    /// A list between two others that agree with the searched one in their first nibbles does so too, so these aren't compared
-    /// again.
+    /// A list between two others that agree with the searched one in their first nibbles does so
+    /// too, so these aren't compared again.
     fn count_by_bytes(&self, block: &Block<'_>, sought: &Sought<'_>, known: usize) -> (usize, bool)
         requires rising { IsRising self.now }
         requires block { IsBlock self.now block.now.heads.now block.now.first block.now.step
@@ -115,8 +118,8 @@ impl Codes {
         (lo, false)
     }
 
-    /// How many of the lists of a block come in front; and whether the one behind these is the searched list, of a search that
-    /// isn't one through it.
+    /// How many of the lists of a block come in front; and whether the one behind these is the
+    /// searched list, of a search that isn't one through it.
     ///
     /// The head of what stands in the searched list behind the same bytes is passed.
     pub(super) fn count_in(
@@ -177,10 +180,12 @@ impl Codes {
         (from + count, is_found)
     }
 
-    /// How many lists of a level come in front, where it's known in which of its blocks the first lies that doesn't; and
-    /// whether that one is the searched list, of a search that isn't one through it.
+    /// How many lists of a level come in front, where it's known in which of its blocks the first
+    /// lies that doesn't; and whether that one is the searched list, of a search that isn't one
+    /// through it.
     ///
-    /// The level is passed by its step, heads and skips, and then the heads behind seven bytes more, or none.
+    /// The level is passed by its step, heads and skips, and then the heads behind seven bytes
+    /// more, or none.
     pub(super) fn descend(
         &self,
         level: (usize, &[u64], &[u32]),
@@ -216,8 +221,9 @@ impl Codes {
         (from + count, is_found)
     }
 
-    /// Goes down levels, the last of which is one block: to the block of all heads in which the first list lies that doesn't
-    /// come in front. Or to a list that is the searched one, of a search that isn't one through it.
+    /// Goes down levels, the last of which is one block: to the block of all heads in which the
+    /// first list lies that doesn't come in front. Or to a list that is the searched one, of a
+    /// search that isn't one through it.
     pub(super) fn go_down(&self, levels: &[Level], sought: &Sought<'_>) -> (usize, bool)
         requires rising { IsRising self.now }
         requires counted { length self.now < 2 ^ 62 }

@@ -22,7 +22,8 @@ pub(crate) enum Look {
     Unknown,
 }
 
-/// What a slot says of a list: that none lies in it, or another one, or maybe this one, which has an index.
+/// What a slot says of a list: that none lies in it, or another one, or maybe this one, which has
+/// an index.
 #[derive(Clone, Copy)]
 enum Slot {
     Free,
@@ -31,7 +32,8 @@ enum Slot {
 }
 
 impl Codes {
-    /// Looks for a list by its hash, in 64 slots at most. The pairs of the lists are passed, or none.
+    /// Looks for a list by its hash, in 64 slots at most. The pairs of the lists are passed, or
+    /// none.
     pub(crate) fn look<K: TrieKey, V>(&self, pairs: &[(K, V)], list: &NibbleSlice<'_>) -> Look
         requires { AreKeys K.encoding pairs.now self.now }
         ensures found { (i : ℕ) → result ≡ Look.Found i
@@ -60,8 +62,9 @@ impl Codes {
         Look::Unknown
     }
 
-    /// Whether a list is the one at an index. Where the pair there has a key that lends its encoding, it is compared with that:
-    /// who finds the list reads the pair next, and needn't read where the packed list lies, nor the list.
+    /// Whether a list is the one at an index. Where the pair there has a key that lends its
+    /// encoding, it is compared with that: who finds the list reads the pair next, and needn't read
+    /// where the packed list lies, nor the list.
     fn is_at<K: TrieKey, V>(&self, pairs: &[(K, V)], at: usize, list: &NibbleSlice<'_>) -> bool
         requires within { at < length self.now }
         requires keyed { AreKeys K.encoding pairs.now self.now }
@@ -95,8 +98,8 @@ impl Codes {
         Ok((slots, tags))
     }
 
-    /// Whether searches gain by slots: the lists aren't too many, and take more bytes each than a number of 32 bits on average,
-    /// since those that take fewer are found by their heads as soon.
+    /// Whether searches gain by slots: the lists aren't too many, and take more bytes each than a
+    /// number of 32 bits on average, since those that take fewer are found by their heads as soon.
     pub(super) fn is_for_slots(&self) -> bool
         ensures { IsTrue result → length self.now ≤ 2 ^ 30 }
     {

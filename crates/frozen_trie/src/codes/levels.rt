@@ -12,8 +12,8 @@ use radix_keys::Memory;
 use std::alloc::Global;
 
 impl Codes {
-    /// Whether searches gain by levels: most of the heads are equal to the one before, and the lists are neither too few nor too
-    /// many.
+    /// Whether searches gain by levels: most of the heads are equal to the one before, and the
+    /// lists are neither too few nor too many.
     pub(super) fn is_for_levels(&self) -> bool
         ensures few { IsTrue result → length self.now < 2 ^ 32 }
         ensures some { IsTrue result → 16 ≤ length self.now }
@@ -71,7 +71,8 @@ impl Codes {
         })
     }
 
-    /// The heads of a level with one for each so many lists, behind what its blocks skip and so many bytes more.
+    /// The heads of a level with one for each so many lists, behind what its blocks skip and so
+    /// many bytes more.
     ///
     /// # Errors
     ///
@@ -126,7 +127,8 @@ impl Codes {
     }
 }
 
-/// Sets heads to those of the last of each so many lists, each behind what its block skips and so many bytes more.
+/// Sets heads to those of the last of each so many lists, each behind what its block skips and so
+/// many bytes more.
 pub(super) fn fill_heads(
     bytes: &[u8],
     ends: &[u32],

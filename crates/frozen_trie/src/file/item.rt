@@ -10,8 +10,9 @@ mod texts;
 
 /// A key or a value that stands in a file as bytes.
 ///
-/// An implementation names what a contract sees: the bytes, whether a value is one of its type, as a number within its
-/// bounds is, and when two are the same. It proves that equal bytes are of the same.
+/// An implementation names what a contract sees: the bytes, whether a value is one of its type, as
+/// a number within its bounds is, and when two are the same. It proves that equal bytes are of the
+/// same.
 pub trait FileItem {
     // The bytes of the item.
     ghost file_bytes: { Self → List ℕ };

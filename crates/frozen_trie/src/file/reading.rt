@@ -61,7 +61,8 @@ fn read_counted<R: Read>(input: &mut R, into: &mut Vec<u8>) -> Result<(), FileWh
     read_bytes(input, count, into)
 }
 
-/// Reads a row, appends its pair to the map, and gives the count of the row's bytes. `key` and `value` are room for the row's.
+/// Reads a row, appends its pair to the map, and gives the count of the row's bytes. `key` and
+/// `value` are room for the row's.
 fn read_row<R: Read, M: Rows>(
     input: &mut R,
     key: &mut Vec<u8>,

@@ -53,7 +53,8 @@ pub(super) trait Rows: Drop {
     ghost none_before: { (map : Self) → are_items map 0 };
 }
 
-/// The key or the value whose bytes a row has, or the reason for which there is none: `malformed`, or memory.
+/// The key or the value whose bytes a row has, or the reason for which there is none: `malformed`,
+/// or memory.
 pub(super) fn made<T: FileItem>(
     bytes: &[u8],
     alloc: Global,

@@ -64,17 +64,18 @@ impl<V: FileItem + Drop> Rows for FrozenTexts<V> {
 
 /// As a file.
 impl<V: FileItem + Drop> FrozenTexts<V> {
-    /// Writes the map as a file: `FROZENTX`, the version 2 in 4 bytes, the count of pairs in 8; then for each pair, in the
-    /// order of the keys, the count of the key's bytes in 4 bytes, the key, the count of the value's bytes in 4, and these.
-    /// The low bytes of a number come first.
+    /// Writes the map as a file: `FROZENTX`, the version 2 in 4 bytes, the count of pairs in 8;
+    /// then for each pair, in the order of the keys, the count of the key's bytes in 4 bytes, the
+    /// key, the count of the value's bytes in 4, and these. The low bytes of a number come first.
     ///
-    /// A write that is interrupted is made again. `out` is written to twice for each key and value, so it should have a
-    /// buffer.
+    /// A write that is interrupted is made again. `out` is written to twice for each key and value,
+    /// so it should have a buffer.
     ///
     /// # Errors
     ///
-    /// A write fails, or takes no byte. `OutOfMemory`, where room for a pair's bytes is refused; `InvalidInput`, where a
-    /// value takes 2^32 bytes or more. What was written until then is a beginning of the file.
+    /// A write fails, or takes no byte. `OutOfMemory`, where room for a pair's bytes is refused;
+    /// `InvalidInput`, where a value takes 2^32 bytes or more. What was written until then is a
+    /// beginning of the file.
     pub fn write<W: Write>(&self, out: &mut W) -> io::Result<()>
         ensures written { OnOk result (Appends (W.contents out.old) (W.contents out.new)
             (text_file V.file_bytes self.now)) }
@@ -86,14 +87,16 @@ impl<V: FileItem + Drop> FrozenTexts<V> {
         write_all(out, self)
     }
 
-    /// The map whose file a reader gives, which ends with the file. A read that is interrupted is made again.
+    /// The map whose file a reader gives, which ends with the file. A read that is interrupted is
+    /// made again.
     ///
-    /// Nothing is taken on trust: memory is asked for as bytes come, and by no count or length alone.
+    /// Nothing is taken on trust: memory is asked for as bytes come, and by no count or length
+    /// alone.
     ///
     /// # Errors
     ///
-    /// The bytes are no file, the reader fails, or memory is refused: `FileError` says why, and where. Nothing of the file is
-    /// taken then.
+    /// The bytes are no file, the reader fails, or memory is refused: `FileError` says why, and
+    /// where. Nothing of the file is taken then.
     pub fn read<R: Read>(alloc: Global, input: &mut R) -> Result<FrozenTexts<V>, FileError>
         ensures file { IfOk result (λ texts. IfSome (R.remaining input.old)
             (λ bytes. bytes ≡ text_file V.file_bytes texts)) }

@@ -65,16 +65,18 @@ impl<K: TrieKey + FileItem + Drop, V: FileItem + Drop> Rows for FrozenTrie<K, V>
 
 /// As a file.
 impl<K: TrieKey + FileItem + Drop, V: FileItem + Drop> FrozenTrie<K, V> {
-    /// Writes the frozen trie as a file, as `FrozenTexts::write` writes a map: the pairs in the order of their encodings, and
-    /// of each the bytes that `FileItem` names, those of the key and those of the value.
+    /// Writes the frozen trie as a file, as `FrozenTexts::write` writes a map: the pairs in the
+    /// order of their encodings, and of each the bytes that `FileItem` names, those of the key and
+    /// those of the value.
     ///
-    /// A write that is interrupted is made again. `out` is written to twice for each key and value, so it should have a
-    /// buffer.
+    /// A write that is interrupted is made again. `out` is written to twice for each key and value,
+    /// so it should have a buffer.
     ///
     /// # Errors
     ///
-    /// A write fails, or takes no byte. `OutOfMemory`, where room for a pair's bytes is refused; `InvalidInput`, where a key
-    /// or a value takes 2^32 bytes or more. What was written until then is a beginning of the file.
+    /// A write fails, or takes no byte. `OutOfMemory`, where room for a pair's bytes is refused;
+    /// `InvalidInput`, where a key or a value takes 2^32 bytes or more. What was written until then
+    /// is a beginning of the file.
     pub fn write<W: Write>(&self, out: &mut W) -> io::Result<()>
         ensures written { OnOk result (Appends (W.contents out.old) (W.contents out.new)
             (file_of K.file_bytes V.file_bytes self.now)) }
@@ -87,14 +89,16 @@ impl<K: TrieKey + FileItem + Drop, V: FileItem + Drop> FrozenTrie<K, V> {
         write_all(out, self)
     }
 
-    /// The frozen trie whose file a reader gives, which ends with the file. A read that is interrupted is made again.
+    /// The frozen trie whose file a reader gives, which ends with the file. A read that is
+    /// interrupted is made again.
     ///
-    /// Nothing is taken on trust: memory is asked for as bytes come, and by no count or length alone.
+    /// Nothing is taken on trust: memory is asked for as bytes come, and by no count or length
+    /// alone.
     ///
     /// # Errors
     ///
-    /// The bytes are no file, the reader fails, or memory is refused: `FileError` says why, and where. Nothing of the file is
-    /// taken then.
+    /// The bytes are no file, the reader fails, or memory is refused: `FileError` says why, and
+    /// where. Nothing of the file is taken then.
     pub fn read<R: Read>(alloc: Global, input: &mut R) -> Result<FrozenTrie<K, V>, FileError>
         ensures file { IfOk result (λ frozen. IfSome (R.remaining input.old)
             (λ bytes. bytes ≡ file_of K.file_bytes V.file_bytes frozen)) }

@@ -24,15 +24,15 @@ impl<K: TrieKey, V> FrozenTrie<K, V> {
         }
     }
 
-    /// Takes no more room than the pairs need, and makes tables that shorten searches where there are 2^16 pairs or more. A
-    /// pair that is appended later drops the tables, in linear time where encodings are alike: where most of them begin with
-    /// the same 15 nibbles as the one before.
+    /// Takes no more room than the pairs need, and makes tables that shorten searches where there
+    /// are 2^16 pairs or more. A pair that is appended later drops the tables, in linear time where
+    /// encodings are alike: where most of them begin with the same 15 nibbles as the one before.
     ///
     /// # Errors
     ///
-    /// Memory for the tables is refused: some 2^18 bytes and half a byte a pair, or 1.4 bytes a pair where encodings are
-    /// alike; and 5 bytes a pair more where encodings take more than 4 bytes on average. Each call returns the same
-    /// without them.
+    /// Memory for the tables is refused: some 2^18 bytes and half a byte a pair, or 1.4 bytes a
+    /// pair where encodings are alike; and 5 bytes a pair more where encodings take more than 4
+    /// bytes on average. Each call returns the same without them.
     pub fn finish(&mut self) -> Result<(), Memory>
         ensures same { self.new ≡ self.old }
         ensures few { map.len self.old < 2 ^ 16 → IsOk result }
@@ -42,13 +42,15 @@ impl<K: TrieKey, V> FrozenTrie<K, V> {
         self.codes.finish(self.alloc)
     }
 
-    /// Appends a pair whose encoding comes after all others, in constant time but for the climb to the longest stored prefix.
+    /// Appends a pair whose encoding comes after all others, in constant time but for the climb to
+    /// the longest stored prefix.
     ///
     /// # Errors
     ///
-    /// In this order: the map holds 2^32 - 1 pairs; memory for the encoding is refused, which a light key
-    /// never meets; the encoding doesn't come after all others; other memory is refused, or the encodings
-    /// together would take 2^31 bytes or more. The pair comes back, and the map is as before.
+    /// In this order: the map holds 2^32 - 1 pairs; memory for the encoding is refused, which a
+    /// light key never meets; the encoding doesn't come after all others; other memory is refused,
+    /// or the encodings together would take 2^31 bytes or more. The pair comes back, and the map is
+    /// as before.
     pub fn push(&mut self, key: K, value: V) -> Result<(), Refused<PushWhy, (K, V)>>
         ensures stored { OnOk result
             (self.new ≡ map.insert self.old (K.encoding key) (key, value)) }

@@ -20,7 +20,8 @@ impl<K: TrieKey, V> FrozenTrie<K, V> {
     ///
     /// # Errors
     ///
-    /// `Memory`: the encoding's allocation fails; a key that is inline, or lends its encoding, needs none.
+    /// `Memory`: the encoding's allocation fails; a key that is inline, or lends its encoding,
+    /// needs none.
     pub fn get<Q: TrieKey>(&self, key: &Q) -> Result<Option<&V>, Memory>
         ensures value { IfOk result
             (λ found. option_copied found ≡ value_at self.now (Q.encoding key.now)) }
@@ -40,7 +41,8 @@ impl<K: TrieKey, V> FrozenTrie<K, V> {
     ///
     /// # Errors
     ///
-    /// `Memory`: the encoding's allocation fails; a key that is inline, or lends its encoding, needs none.
+    /// `Memory`: the encoding's allocation fails; a key that is inline, or lends its encoding,
+    /// needs none.
     pub fn get_key_value<Q: TrieKey>(&self, key: &Q) -> Result<Option<(&K, &V)>, Memory>
         ensures pair { IfOk result (λ found. option_map deref_pair found
             ≡ map.get self.now (Q.encoding key.now)) }
@@ -59,7 +61,8 @@ impl<K: TrieKey, V> FrozenTrie<K, V> {
     ///
     /// # Errors
     ///
-    /// `Memory`: the encoding's allocation fails; a key that is inline, or lends its encoding, needs none.
+    /// `Memory`: the encoding's allocation fails; a key that is inline, or lends its encoding,
+    /// needs none.
     pub fn contains_key<Q: TrieKey>(&self, key: &Q) -> Result<bool, Memory>
         ensures stored { IfOk result
             (λ found. IsTrue found ↔ IsStored self.now (Q.encoding key.now)) }
@@ -70,14 +73,16 @@ impl<K: TrieKey, V> FrozenTrie<K, V> {
         Ok(self.get_key_value(key)?.is_some())
     }
 
-    /// The key and the value at the longest stored encoding that is a prefix of the key's, or None where there is none.
+    /// The key and the value at the longest stored encoding that is a prefix of the key's, or None
+    /// where there is none.
     ///
-    /// Where the key isn't stored, the stored prefixes of the pair before it are gone through, from the longest on, until one
-    /// of them is a prefix of the key too.
+    /// Where the key isn't stored, the stored prefixes of the pair before it are gone through, from
+    /// the longest on, until one of them is a prefix of the key too.
     ///
     /// # Errors
     ///
-    /// `Memory`: the encoding's allocation fails; a key that is inline, or lends its encoding, needs none.
+    /// `Memory`: the encoding's allocation fails; a key that is inline, or lends its encoding,
+    /// needs none.
     pub fn longest_match<Q: TrieKey>(&self, key: &Q) -> Result<Option<(&K, &V)>, Memory>
         ensures pair { IfOk result (λ found. IsPairAbove self.now (Q.encoding key.now)
             (option_map deref_pair found)) }
@@ -92,11 +97,13 @@ impl<K: TrieKey, V> FrozenTrie<K, V> {
         Ok(Some(entry_at(&self.pairs, found - 1)))
     }
 
-    /// The walk over the pairs whose encodings are prefixes of the key's, from the shortest to the longest.
+    /// The walk over the pairs whose encodings are prefixes of the key's, from the shortest to the
+    /// longest.
     ///
     /// # Errors
     ///
-    /// `Memory`: the encoding's allocation fails; a key that is inline, or lends its encoding, needs none.
+    /// `Memory`: the encoding's allocation fails; a key that is inline, or lends its encoding,
+    /// needs none.
     pub fn common_prefixes<Q: TrieKey>(&self, key: &Q) -> Result<CommonPrefixes<'_, K, V>, Memory>
         ensures walk { IfOk result
             (λ walk. walk ≡ pairs_above self.now (Q.encoding key.now)) }
@@ -108,11 +115,13 @@ impl<K: TrieKey, V> FrozenTrie<K, V> {
         Ok(CommonPrefixes::new(self, last))
     }
 
-    /// The pairs whose encodings lie within a range of keys, in order. Where the first key comes after the last, there is none.
+    /// The pairs whose encodings lie within a range of keys, in order. Where the first key comes
+    /// after the last, there is none.
     ///
     /// # Errors
     ///
-    /// `Memory`: an encoding's allocation fails; a key that is inline, or lends its encoding, needs none.
+    /// `Memory`: an encoding's allocation fails; a key that is inline, or lends its encoding, needs
+    /// none.
     pub fn range<Q: TrieKey, R: RangeBounds<Q>>(&self, range: R) -> Result<&[(K, V)], Memory>
         ensures pairs { R.has_bounds range → IfOk result (λ left. left.now
             ≡ pairs_within self.now [] (encoded_bound Q.encoding (R.start_bound range))
@@ -132,7 +141,8 @@ impl<K: TrieKey, V> FrozenTrie<K, V> {
     ///
     /// # Errors
     ///
-    /// `Memory`: the encoding's allocation fails; a key that is inline, or lends its encoding, needs none.
+    /// `Memory`: the encoding's allocation fails; a key that is inline, or lends its encoding,
+    /// needs none.
     pub fn below<Q: TrieKey>(&self, key: &Q) -> Result<&[(K, V)], Memory>
         ensures pairs { IfOk result
             (λ left. left.now ≡ pairs_below self.now (Q.encoding key.now)) }
@@ -149,7 +159,8 @@ impl<K: TrieKey, V> FrozenTrie<K, V> {
     ///
     /// # Errors
     ///
-    /// `Memory`: the encoding's allocation fails; a key that is inline, or lends its encoding, needs none.
+    /// `Memory`: the encoding's allocation fails; a key that is inline, or lends its encoding,
+    /// needs none.
     pub fn count_below<Q: TrieKey>(&self, key: &Q) -> Result<usize, Memory>
         ensures count { IfOk result
             (λ count. count ≡ map.len (below self.now (Q.encoding key.now))) }
@@ -159,11 +170,13 @@ impl<K: TrieKey, V> FrozenTrie<K, V> {
         Ok(self.below(key)?.len())
     }
 
-    /// How many of the stored encodings come before the key's: the index at which it is stored, or would be.
+    /// How many of the stored encodings come before the key's: the index at which it is stored, or
+    /// would be.
     ///
     /// # Errors
     ///
-    /// `Memory`: the encoding's allocation fails; a key that is inline, or lends its encoding, needs none.
+    /// `Memory`: the encoding's allocation fails; a key that is inline, or lends its encoding,
+    /// needs none.
     pub fn rank<Q: TrieKey>(&self, key: &Q) -> Result<usize, Memory>
         ensures count { IfOk result
             (λ count. count ≡ length (pairs_before self.now [] (Q.encoding key.now))) }

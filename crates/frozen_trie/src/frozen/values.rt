@@ -1,4 +1,5 @@
-//! Changes of all values, each by one call of a closure. No pair moves, so encodings and links stay.
+//! Changes of all values, each by one call of a closure. No pair moves, so encodings and links
+//! stay.
 ghost use Rattle.std.specs.Prelude.{◌≡◌, [], All};
 ghost use Rattle.radix_trie.specs.Values.{ChangesEachPair, LeavesAtPair, TakesPairAtMut};
 ghost use Rattle.radix_trie.specs.Views.{pairs_below};
@@ -8,8 +9,8 @@ use crate::frozen::FrozenTrie;
 use radix_keys::TrieKey;
 
 impl<K: TrieKey, V> FrozenTrie<K, V> {
-    /// Changes each value by one call of the closure with the pair's key, in the order of the encodings. The keys stay, and no
-    /// memory is allocated.
+    /// Changes each value by one call of the closure with the pair's key, in the order of the
+    /// encodings. The keys stay, and no memory is allocated.
     ///
     /// The closure has to be callable on each pair.
     pub fn for_each_mut<F: Fn(&K, &mut V)>(&mut self, f: F)

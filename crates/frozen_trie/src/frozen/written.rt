@@ -56,8 +56,8 @@ impl<K: TrieKey, V> FrozenTrie<K, V> {
     ///
     /// # Errors
     ///
-    /// `Memory`: the encoding's allocation fails; a key that is inline, or lends its encoding, needs none. The frozen trie is as
-    /// before then.
+    /// `Memory`: the encoding's allocation fails; a key that is inline, or lends its encoding,
+    /// needs none. The frozen trie is as before then.
     pub fn get_mut<Q: TrieKey>(&mut self, key: &Q) -> Result<Option<&mut V>, Memory>
         ensures* writes_back { sem 𝓛
             (lends_stored_found K.row V.row K.TrieKey.own K.PartialEq.own self.entry

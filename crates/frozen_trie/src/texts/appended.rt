@@ -25,15 +25,15 @@ impl<V> FrozenTexts<V> {
         }
     }
 
-    /// Takes no more room than the pairs need, and makes tables that shorten searches where there are 2^16 pairs or more. A
-    /// pair that is appended later drops the tables, in linear time where keys are alike: where most of them begin with
-    /// the same 15 nibbles as the one before.
+    /// Takes no more room than the pairs need, and makes tables that shorten searches where there
+    /// are 2^16 pairs or more. A pair that is appended later drops the tables, in linear time where
+    /// keys are alike: where most of them begin with the same 15 nibbles as the one before.
     ///
     /// # Errors
     ///
-    /// Memory for the tables is refused: some 2^18 bytes and half a byte a pair, or 1.4 bytes a pair where keys are
-    /// alike; and 5 bytes a pair more where keys take more than 4 bytes on average. Each call returns the same
-    /// without them.
+    /// Memory for the tables is refused: some 2^18 bytes and half a byte a pair, or 1.4 bytes a
+    /// pair where keys are alike; and 5 bytes a pair more where keys take more than 4 bytes on
+    /// average. Each call returns the same without them.
     pub fn finish(&mut self) -> Result<(), Memory>
         ensures same { self.new ≡ self.old }
         ensures few { map.len self.old < 2 ^ 16 → IsOk result }
@@ -43,13 +43,14 @@ impl<V> FrozenTexts<V> {
         self.codes.finish(self.alloc)
     }
 
-    /// Appends a pair whose key comes after all others, in constant time but for the climb to the key's longest stored prefix.
+    /// Appends a pair whose key comes after all others, in constant time but for the climb to the
+    /// key's longest stored prefix.
     ///
     /// # Errors
     ///
-    /// In this order: the map holds 2^32 - 1 pairs; the key doesn't come after all others; memory is
-    /// refused, or the keys together would take 2^31 bytes or more. The value comes back, and the map is
-    /// as before.
+    /// In this order: the map holds 2^32 - 1 pairs; the key doesn't come after all others; memory
+    /// is refused, or the keys together would take 2^31 bytes or more. The value comes back, and
+    /// the map is as before.
     pub fn push(&mut self, key: &[u8], value: V) -> Result<(), Refused<PushWhy, V>>
         ensures stored { OnOk result
             (self.new ≡ map.insert self.old (nibbles key.now) (key.now, value)) }

@@ -11,11 +11,12 @@ use crate::texts::FrozenTexts;
 use std::iter::FusedIterator;
 use std::marker::Model;
 
-/// A walk over pairs of which each key is a prefix of the next one, from the shortest to the longest; from its other end, by
-/// `next_back` and `rev`, from the longest on.
+/// A walk over pairs of which each key is a prefix of the next one, from the shortest to the
+/// longest; from its other end, by `next_back` and `rev`, from the longest on.
 ///
-/// Neither end allocates, and both go on returning None after the end; `next` takes the time of as many links as pairs are
-/// left, `next_back` constant time. `len` is how many these are. A contract sees a walk as the list of the pairs that are left.
+/// Neither end allocates, and both go on returning None after the end; `next` takes the time of as
+/// many links as pairs are left, `next_back` constant time. `len` is how many these are. A contract
+/// sees a walk as the list of the pairs that are left.
 #[derive(Drop)]
 pub struct TextPrefixes<'a, V> {
     texts: &'a FrozenTexts<V>,

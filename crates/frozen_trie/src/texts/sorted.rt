@@ -17,9 +17,9 @@ impl<V: Drop> FrozenTexts<V> {
     ///
     /// # Errors
     ///
-    /// The text of a pair doesn't come after that of the pair before it, and the error says of the first such pair where it
-    /// stands. There are 2^32 pairs or more. Memory is refused; the texts together take less than 2^31 bytes. The pairs come
-    /// back. Of no pair the call never fails.
+    /// The text of a pair doesn't come after that of the pair before it, and the error says of the
+    /// first such pair where it stands. There are 2^32 pairs or more. Memory is refused; the texts
+    /// together take less than 2^31 bytes. The pairs come back. Of no pair the call never fails.
     pub fn from_sorted(
         alloc: Global,
         pairs: Vec<(String, V)>,

@@ -13,8 +13,9 @@ use std::marker::Model;
 
 /// A walk over neighbouring pairs in the order of their keys, from either end.
 ///
-/// `next` and `next_back` allocate nothing and take constant time, and go on returning None after the end; `len` is how many
-/// pairs are left. A contract sees a walk as the list of the pairs that are left.
+/// `next` and `next_back` allocate nothing and take constant time, and go on returning None after
+/// the end; `len` is how many pairs are left. A contract sees a walk as the list of the pairs that
+/// are left.
 #[derive(Drop)]
 pub struct Texts<'a, V> {
     texts: &'a FrozenTexts<V>,

@@ -1,4 +1,5 @@
-//! The integers whose bytes can be a key. Each is written out: what a macro writes has no ghost members of its own.
+//! The integers whose bytes can be a key. Each is written out: what a macro writes has no ghost
+//! members of its own.
 ghost use Rattle.std.specs.Prelude.{FitsSigned, ◌<◌, ◌^◌, refl};
 ghost use Rattle.std.specs.Int.{w8, w16, w32, w64, to_be_bytes};
 ghost use Rattle.std.proofs.Common.{lit<};

@@ -164,7 +164,8 @@ impl TrieKey for i8 {
 
     ghost light_is_short = { λ _ h. h };
 
-    /// The nibbles of the bytes in two's complement, the highest first. Encodings rise from 0 upward, and then over the negative numbers upward.
+    /// The nibbles of the bytes in two's complement, the highest first. Encodings rise from 0
+    /// upward, and then over the negative numbers upward.
     ///
     /// Never fails.
     fn encode(&self, alloc: Global) -> Result<Nibblet, Memory>
@@ -192,7 +193,8 @@ impl TrieKey for i16 {
 
     ghost light_is_short = { λ _ h. h };
 
-    /// The nibbles of the bytes in two's complement, the highest first. Encodings rise from 0 upward, and then over the negative numbers upward.
+    /// The nibbles of the bytes in two's complement, the highest first. Encodings rise from 0
+    /// upward, and then over the negative numbers upward.
     ///
     /// Never fails.
     fn encode(&self, alloc: Global) -> Result<Nibblet, Memory>
@@ -220,7 +222,8 @@ impl TrieKey for i32 {
 
     ghost light_is_short = { λ _ h. h };
 
-    /// The nibbles of the bytes in two's complement, the highest first. Encodings rise from 0 upward, and then over the negative numbers upward.
+    /// The nibbles of the bytes in two's complement, the highest first. Encodings rise from 0
+    /// upward, and then over the negative numbers upward.
     ///
     /// Never fails.
     fn encode(&self, alloc: Global) -> Result<Nibblet, Memory>
@@ -248,7 +251,8 @@ impl TrieKey for i64 {
 
     ghost light_is_short = { λ _ h. h };
 
-    /// The nibbles of the bytes in two's complement, the highest first. Encodings rise from 0 upward, and then over the negative numbers upward.
+    /// The nibbles of the bytes in two's complement, the highest first. Encodings rise from 0
+    /// upward, and then over the negative numbers upward.
     ///
     /// Never fails.
     fn encode(&self, alloc: Global) -> Result<Nibblet, Memory>
@@ -276,7 +280,8 @@ impl TrieKey for isize {
 
     ghost light_is_short = { λ _ h. h };
 
-    /// The nibbles of the bytes in two's complement, the highest first. Encodings rise from 0 upward, and then over the negative numbers upward.
+    /// The nibbles of the bytes in two's complement, the highest first. Encodings rise from 0
+    /// upward, and then over the negative numbers upward.
     ///
     /// Never fails.
     fn encode(&self, alloc: Global) -> Result<Nibblet, Memory>

@@ -159,8 +159,8 @@ impl<A: FixedWidth, B: FixedWidth> TrieKey for (A, B) {
 
     ghost light_is_short = { λ _ h. h.1 };
 
-    /// The nibbles of the first key, and then those of the second. So the first keys decide the order of two pairs, and
-    /// the second keys where the first ones have one encoding.
+    /// The nibbles of the first key, and then those of the second. So the first keys decide the
+    /// order of two pairs, and the second keys where the first ones have one encoding.
     fn encode(&self, alloc: Global) -> Result<Nibblet, Memory>
         ensures ok { IfOk result
             (λ v. v ≡ A.encoding self.now.0 ++ B.encoding self.now.1) }

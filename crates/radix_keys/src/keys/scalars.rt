@@ -51,7 +51,8 @@ impl TrieKey for char {
 
     ghost light_is_short = { λ _ h. h };
 
-    /// The nibbles of the scalar value's four bytes, the highest first. The smaller scalar value has the smaller encoding.
+    /// The nibbles of the scalar value's four bytes, the highest first. The smaller scalar value
+    /// has the smaller encoding.
     ///
     /// Never fails.
     fn encode(&self, alloc: Global) -> Result<Nibblet, Memory>

@@ -30,7 +30,8 @@ impl<A: Address> PartialOrd for Network<A> {
     }
 }
 
-/// The order of the bases, and of the bits where these are one: that of the encodings, so of a walk.
+/// The order of the bases, and of the bits where these are one: that of the encodings, so of a
+/// walk.
 impl<A: Address> Ord for Network<A> {
     ghost cmp = { network_cmp A.number };
 

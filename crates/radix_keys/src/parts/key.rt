@@ -23,7 +23,8 @@ impl TrieKey for Parts {
 
     ghost light_is_short = { λ _ h. h };
 
-    /// The nibbles of each part's bytes, and of a 0 behind them. The smaller list has the smaller encoding.
+    /// The nibbles of each part's bytes, and of a 0 behind them. The smaller list has the smaller
+    /// encoding.
     fn encode(&self, alloc: Global) -> Result<Nibblet, Memory>
         ensures ok { IfOk result (λ v. v ≡ nibbles (part_bytes self.now)) }
         ensures value { AreParts self.now }

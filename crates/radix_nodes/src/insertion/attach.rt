@@ -151,8 +151,8 @@ pub(super) fn make_split<K: Drop, V: Drop>(
     Ok((upper, rest))
 }
 
-// The node in `slot` parts from the list after n nibbles of its fragment: a new node stands in its place, with the pair, or with a
-// leaf beside it.
+// The node in `slot` parts from the list after n nibbles of its fragment: a new node stands in its
+// place, with the pair, or with a leaf beside it.
 #[inline(never)]
 pub(super) fn split_and_insert<K: Drop, V: Drop>(
     slot: &mut Box<TrieNode<K, V>>,

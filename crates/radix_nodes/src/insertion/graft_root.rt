@@ -1,4 +1,5 @@
-//! The branch of a root that has no pair and one child is grafted into another tree, or stays where it is.
+//! The branch of a root that has no pair and one child is grafted into another tree, or stays where
+//! it is.
 ghost use Rattle.std.specs.Prelude.{◌≡◌, ◌<◌, [], length, vec_len};
 ghost use Rattle.nibble_map.specs.Trees.{first};
 ghost use Rattle.masked_tree.specs.Edits.{with_fragment, with_new_child};

@@ -1,6 +1,7 @@
 //! Insertion. All that may fail comes first, so a failure leaves the tree as it was.
 //!
-//! What stands at the place of the change is kept out of line: its variables aren't on the stack at each level above then.
+//! What stands at the place of the change is kept out of line: its variables aren't on the stack at
+//! each level above then.
 ghost use Rattle.std.specs.Prelude.{◌≤◌, ◌++◌, length, drop, IsSome};
 ghost use Rattle.masked_tree.specs.Tree.{IsTreePlaced};
 ghost use Rattle.radix_nodes.specs.Nodes.{tree_of, fragment_of, EditOutcome, Settles};
@@ -13,8 +14,9 @@ use crate::trie_node::{KeyValue, TrieNode};
 use radix_keys::{Memory, Nibblet};
 use std::alloc::Global;
 
-/// Inserts the pair at the list's place at or below a node that stands at `depth`. Where an allocation fails, the pair is returned
-/// and nothing has changed; none is made where the list is stored.
+/// Inserts the pair at the list's place at or below a node that stands at `depth`. Where an
+/// allocation fails, the pair is returned and nothing has changed; none is made where the list is
+/// stored.
 pub fn insert<K: Drop, V: Drop>(
     node: &mut TrieNode<K, V>,
     alloc: Global,

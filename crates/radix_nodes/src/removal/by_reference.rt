@@ -1,4 +1,5 @@
-//! Results by reference: a function that goes down the tree with references alone holds no result in a frame at each level.
+//! Results by reference: a function that goes down the tree with references alone holds no result
+//! in a frame at each level.
 ghost use Rattle.std.specs.Prelude.{◌≡◌};
 ghost use Rattle.radix_nodes.specs.Nodes.{returned};
 

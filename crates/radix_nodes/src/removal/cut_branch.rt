@@ -11,8 +11,8 @@ use crate::search::step::meet;
 use crate::trie_node::TrieNode;
 use radix_keys::{Memory, Nibblet};
 
-// Cuts off, into `branch`, what stands at and below the list's place, which lies below a node that stands at `depth` and isn't the
-// root.
+// Cuts off, into `branch`, what stands at and below the list's place, which lies below a node that
+// stands at `depth` and isn't the root.
 fn cut_below<K: Drop, V: Drop>(
     node: &mut TrieNode<K, V>,
     list: &Nibblet,

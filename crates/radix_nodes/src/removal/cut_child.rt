@@ -10,8 +10,8 @@ use crate::trie_node::TrieNode;
 use crate::trie_node::links::{absorb, unlink};
 use radix_keys::{Memory, Nibblet};
 
-/// What was cut off, and how many nodes went besides those below it: its own, and its parent's where the one child that was left took
-/// that place.
+/// What was cut off, and how many nodes went besides those below it: its own, and its parent's
+/// where the one child that was left took that place.
 #[derive(Drop)]
 pub struct Branch<K, V> {
     pub top: Box<TrieNode<K, V>>,
@@ -43,7 +43,8 @@ fn leaves_one<K, V>(node: &TrieNode<K, V>) -> bool
     }
 }
 
-/// Cuts the child at place i off a node that isn't the root. A node that is left with no pair and one child is merged with it.
+/// Cuts the child at place i off a node that isn't the root. A node that is left with no pair and
+/// one child is merged with it.
 #[inline(never)]
 pub fn cut_child<K: Drop, V: Drop>(
     node: &mut TrieNode<K, V>,

@@ -21,8 +21,8 @@ fn push_pair<K: Drop, V: Drop>(pair: Option<Box<KeyValue<K, V>>>, list: &mut Vec
     }
 }
 
-// Moves the pairs at and below a node to the end of a list that has room for them, and counts what goes with them. What is left of the
-// nodes is dropped by a loop.
+// Moves the pairs at and below a node to the end of a list that has room for them, and counts what
+// goes with them. What is left of the nodes is dropped by a loop.
 fn drain_below<K: Drop, V: Drop>(
     node: &mut TrieNode<K, V>,
     list: &mut Vec<(K, V)>,
@@ -45,8 +45,8 @@ fn drain_below<K: Drop, V: Drop>(
     }
 }
 
-/// Moves the pairs at and below a node to the end of a list that has room for them: the node's own first, then those of one child
-/// after another.
+/// Moves the pairs at and below a node to the end of a list that has room for them: the node's own
+/// first, then those of one child after another.
 pub fn drain<K: Drop, V: Drop>(node: TrieNode<K, V>, list: &mut Vec<(K, V)>) -> Measured
     requires room { vec_len list.old + length (entries_at [] (tree_of node))
         ≤ vec_capacity list.old }

@@ -1,5 +1,5 @@
-//! Removal of the pair at an end of the order of walks: one way down, by no list. All that may fail comes first, as in
-//! `remove`.
+//! Removal of the pair at an end of the order of walks: one way down, by no list. All that may fail
+//! comes first, as in `remove`.
 ghost use Rattle.std.specs.Prelude.{◌≢◌, ◌<◌, [], MatchOption, vec_len};
 ghost use Rattle.masked_tree.specs.Tree.{IsTreePlaced, IsFullBelow};
 ghost use Rattle.radix_nodes.specs.Ends.{EndsHere, EndsInChild, PopOutcome, RootPopOutcome};
@@ -31,7 +31,8 @@ fn end_child<K, V>(node: &TrieNode<K, V>, end: End) -> Option<usize>
     }
 }
 
-// Removes the pair at this end at or below a node with children that isn't the root, into `removed`.
+// Removes the pair at this end at or below a node with children that isn't the root, into
+// `removed`.
 fn pop_below<K: Drop, V: Drop>(
     node: &mut TrieNode<K, V>,
     end: End,

@@ -16,7 +16,8 @@ use radix_keys::{Memory, Nibblet};
 use std::alloc::Global;
 use std::mem;
 
-/// What was removed: the pairs in the order of their lists, and how many nodes and nibbles of fragments went.
+/// What was removed: the pairs in the order of their lists, and how many nodes and nibbles of
+/// fragments went.
 #[derive(Drop)]
 pub struct Pruned<K, V> {
     pub pairs: Vec<(K, V)>,
@@ -44,7 +45,8 @@ fn emptied<K: Drop, V: Drop>(branch: Branch<K, V>, room: Vec<(K, V)>) -> Pruned<
     }
 }
 
-/// Moves all pairs at and below the list's place, which lies below the root, into a list that has room for them.
+/// Moves all pairs at and below the list's place, which lies below the root, into a list that has
+/// room for them.
 pub fn prune_root<K: Drop, V: Drop>(
     root: &mut TrieNode<K, V>,
     list: &Nibblet,

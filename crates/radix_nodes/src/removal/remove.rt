@@ -1,6 +1,7 @@
 //! Removal. All that may fail comes first, so a failure leaves the tree as it was.
 //!
-//! What stands at the place of the change is kept out of line: its variables aren't on the stack at each level above then.
+//! What stands at the place of the change is kept out of line: its variables aren't on the stack at
+//! each level above then.
 ghost use Rattle.std.specs.Prelude.{◌≡◌, ◌≢◌, ◌<◌, ◌≤◌, [], ◌++◌, length, drop, MatchOption, Some, None, vec_len};
 ghost use Rattle.masked_tree.specs.Tree.{IsTreePlaced, IsAt, none};
 ghost use Rattle.radix_nodes.specs.Nodes.{tree_of, fragment_of, out_of, unboxed, returned, CutOutcome, RootOutcome};
@@ -110,7 +111,8 @@ pub(crate) fn remove_leaf<K: Drop, V: Drop>(
     }
 }
 
-// Removes the pair at the list's place at or below a node that stands at `depth` and isn't the root, into `removed`.
+// Removes the pair at the list's place at or below a node that stands at `depth` and isn't the
+// root, into `removed`.
 fn remove_below<K: Drop, V: Drop>(
     node: &mut TrieNode<K, V>,
     list: &Nibblet,

@@ -9,7 +9,8 @@ use crate::trie_node::TrieNode;
 use crate::trie_node::links::lower;
 use radix_keys::Nibblet;
 
-/// The tree whose root has the branch as its one child, with `path` as its fragment. No memory is allocated.
+/// The tree whose root has the branch as its one child, with `path` as its fragment. No memory is
+/// allocated.
 pub fn rooted<K: Drop, V: Drop>(
     branch: Branch<K, V>,
     root: Box<TrieNode<K, V>>,

@@ -31,7 +31,8 @@ pub struct LookUpCost {
 pub struct Searched<'a, K, V> {
     /// The node whose path is the list.
     pub found: Option<&'a TrieNode<K, V>>,
-    /// The node with the longest path that begins the list and holds a pair, and how many nibbles of the list that is.
+    /// The node with the longest path that begins the list and holds a pair, and how many nibbles
+    /// of the list that is.
     pub nearest: Option<(&'a TrieNode<K, V>, usize)>,
     /// What the lookup costs.
     pub cost: LookUpCost,

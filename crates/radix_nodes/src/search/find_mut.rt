@@ -25,8 +25,8 @@ fn unbox<K, V>(b: &mut Box<TrieNode<K, V>>) -> &mut TrieNode<K, V>
     &mut **b
 }
 
-// The child that the list goes on to, and how many nibbles lie behind it then: `depth` where there is none. The box is returned,
-// since a borrow of the node would end the one that goes on.
+// The child that the list goes on to, and how many nibbles lie behind it then: `depth` where there
+// is none. The box is returned, since a borrow of the node would end the one that goes on.
 fn look<'a, K, V>(
     top: &'a mut Box<TrieNode<K, V>>,
     list: &Nibblet,

@@ -1,5 +1,5 @@
-//! The nodes that are nearest to a list. `on_way f list depth end` is the path that ends with the list's nibble before `end`, where a
-//! node with the fragment f stands at `depth`.
+//! The nodes that are nearest to a list. `on_way f list depth end` is the path that ends with the
+//! list's nibble before `end`, where a node with the fragment f stands at `depth`.
 ghost use Rattle.std.specs.Prelude.{◌≤◌, length};
 ghost use Rattle.masked_tree.specs.Tree.{IsTreePlaced};
 ghost use Rattle.radix_nodes.specs.Nodes.{tree_of};
@@ -13,13 +13,16 @@ use radix_keys::Nibblet;
 // The nodes around a list's end.
 #[derive(Drop)]
 struct Descent<'a, K, V> {
-    // The node with the longest path that begins the list, and how many nibbles of the list that is.
+    // The node with the longest path that begins the list, and how many nibbles of the list that
+    // is.
     deepest: (&'a TrieNode<K, V>, usize),
-    // The node with the shortest path that the list begins, and how many nibbles of its fragment lie within the list.
+    // The node with the shortest path that the list begins, and how many nibbles of its fragment
+    // lie within the list.
     shortest: Option<(&'a TrieNode<K, V>, usize)>,
 }
 
-// Goes down along the list from a node that stands at `depth`. It is inlined, so a caller pays for what it takes alone.
+// Goes down along the list from a node that stands at `depth`. It is inlined, so a caller pays for
+// what it takes alone.
 #[inline(always)]
 fn descend<'a, K, V>(node: &'a TrieNode<K, V>, list: &Nibblet, depth: usize) -> Descent<'a, K, V>
     requires depth { depth ≤ length list.now }
@@ -69,7 +72,8 @@ pub fn deepest<'a, K, V>(
     descend(node, list, depth).deepest
 }
 
-/// The node with the longest path that begins the list and holds a pair, and how many nibbles of the list that is.
+/// The node with the longest path that begins the list and holds a pair, and how many nibbles of
+/// the list that is.
 pub fn deepest_pair<'a, K, V>(
     node: &'a TrieNode<K, V>,
     list: &Nibblet,
@@ -82,8 +86,8 @@ pub fn deepest_pair<'a, K, V>(
     search(node, list, depth).nearest
 }
 
-/// The node with the shortest path that the list begins, and how many nibbles of its fragment lie within the list: its path is the
-/// list, and then the rest of the fragment.
+/// The node with the shortest path that the list begins, and how many nibbles of its fragment lie
+/// within the list: its path is the list, and then the rest of the fragment.
 pub fn shortest<'a, K, V>(
     node: &'a TrieNode<K, V>,
     list: &Nibblet,

@@ -12,8 +12,8 @@ use crate::trie_node::TrieNode;
 use crate::trie_node::mask::place;
 use radix_keys::Nibblet;
 
-/// How far a fragment that begins with the list's next nibble agrees with the list from `depth` on. A single nibble isn't looked at
-/// again.
+/// How far a fragment that begins with the list's next nibble agrees with the list from `depth` on.
+/// A single nibble isn't looked at again.
 pub fn agreed(fragment: &Nibblet, list: &Nibblet, depth: usize) -> Agreement
     requires depth { depth < length list.now }
     requires start { first fragment.now ≡ slice_index list.now depth }
@@ -31,7 +31,8 @@ pub fn agreed(fragment: &Nibblet, list: &Nibblet, depth: usize) -> Agreement
     compare(fragment, list, depth)
 }
 
-/// The child that begins with the list's next nibble, and how far its fragment agrees with the list from `depth` on.
+/// The child that begins with the list's next nibble, and how far its fragment agrees with the list
+/// from `depth` on.
 pub fn meet<K, V>(node: &TrieNode<K, V>, list: &Nibblet, depth: usize) -> Option<(usize, Agreement)>
     requires depth { depth < length list.now }
     requires placed { IsTreePlaced (tree_of node.now) }
@@ -48,8 +49,8 @@ pub fn meet<K, V>(node: &TrieNode<K, V>, list: &Nibblet, depth: usize) -> Option
     }
 }
 
-/// The child that the list goes on to, and how many nibbles lie behind it then. None: no node below has a path that the list goes on
-/// from.
+/// The child that the list goes on to, and how many nibbles lie behind it then. None: no node below
+/// has a path that the list goes on from.
 pub fn step<K, V>(node: &TrieNode<K, V>, list: &Nibblet, depth: usize) -> Option<(usize, usize)>
     requires depth { depth ≤ length list.now }
     requires placed { IsTreePlaced (tree_of node.now) }

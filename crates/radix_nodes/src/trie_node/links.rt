@@ -41,7 +41,8 @@ pub fn unlink<K, V>(node: &mut TrieNode<K, V>, i: usize) -> Box<TrieNode<K, V>>
     child
 }
 
-/// Puts `upper` in the place of the node in `slot`, which becomes its child with the fragment `tail`.
+/// Puts `upper` in the place of the node in `slot`, which becomes its child with the fragment
+/// `tail`.
 pub fn lower<K: Drop, V: Drop>(
     slot: &mut Box<TrieNode<K, V>>,
     upper: Box<TrieNode<K, V>>,

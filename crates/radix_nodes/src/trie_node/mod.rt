@@ -19,9 +19,9 @@ pub struct KeyValue<K, V> {
     pub value: V,
 }
 
-/// A node of the trie. Its path is the fragments from the root down to it, joined. Bit n of the mask is set exactly where the
-/// fragment of a child begins with the nibble n, and the children rise by that nibble, so the child for n stands at the count of
-/// set bits below bit n.
+/// A node of the trie. Its path is the fragments from the root down to it, joined. Bit n of the
+/// mask is set exactly where the fragment of a child begins with the nibble n, and the children
+/// rise by that nibble, so the child for n stands at the count of set bits below bit n.
 pub struct TrieNode<K, V> {
     pub fragment: Nibblet,
     pub pair: Option<Box<KeyValue<K, V>>>,

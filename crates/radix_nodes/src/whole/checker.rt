@@ -10,7 +10,8 @@ use radix_keys::{Memory, Nibblet, TrieKey};
 use std::alloc::Global;
 
 impl<K: TrieKey, V> TrieNode<K, V> {
-    /// Whether the node is canonical below `prefix`, and how many pairs stand at and below it if so; else 0.
+    /// Whether the node is canonical below `prefix`, and how many pairs stand at and below it if
+    /// so; else 0.
     pub fn check_integrity_recursive(
         &self,
         alloc: Global,

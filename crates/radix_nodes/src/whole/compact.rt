@@ -24,7 +24,8 @@ fn blank_alone<K, V>(node: &TrieNode<K, V>, alloc: Global) -> Result<TrieNode<K,
     })
 }
 
-// The same in a box, which is allocated before those of the children, since a walk comes to it first.
+// The same in a box, which is allocated before those of the children, since a walk comes to it
+// first.
 #[inline(never)]
 fn boxed_blank<K: Drop, V: Drop>(
     node: &TrieNode<K, V>,
@@ -37,7 +38,8 @@ fn boxed_blank<K: Drop, V: Drop>(
     Ok(blank)
 }
 
-// Nodes that hold nothing, in the shape of a node's children and all below them. A frame holds references alone.
+// Nodes that hold nothing, in the shape of a node's children and all below them. A frame holds
+// references alone.
 fn blank_children<K: Drop, V: Drop>(
     node: &TrieNode<K, V>,
     alloc: Global,
@@ -71,7 +73,8 @@ fn swap_own<K, V>(from: &mut TrieNode<K, V>, into: &mut TrieNode<K, V>)
     mem::swap(&mut from.mask, &mut into.mask);
 }
 
-// What a node and all below it hold goes to the nodes of a tree of the same shape. A frame holds references alone.
+// What a node and all below it hold goes to the nodes of a tree of the same shape. A frame holds
+// references alone.
 fn move_contents<K, V>(from: &mut TrieNode<K, V>, into: &mut TrieNode<K, V>)
     requires { HaveSameShape (tree_of from.old).children (tree_of into.old).children }
     ensures { tree_of into.new ≡ tree_of from.old }

@@ -104,7 +104,8 @@ pub(super) fn push_copy<L: Drop, V: Drop>(
     Ok(copies.push(copy)?)
 }
 
-// Copies of a node's children and all below them. A frame holds references alone: what a node is made of stands out of line.
+// Copies of a node's children and all below them. A frame holds references alone: what a node is
+// made of stands out of line.
 fn copy_children<K, L: CopyOf<K>, V: Clone>(
     node: &TrieNode<K, V>,
     alloc: Global,

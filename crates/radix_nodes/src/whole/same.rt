@@ -20,8 +20,8 @@ fn pairs_match<K, V: PartialEq>(
     }
 }
 
-/// Whether two trees have the same fragments, pairs at the same places and equal values in them. Keys aren't compared, since a
-/// node's path is its key's list.
+/// Whether two trees have the same fragments, pairs at the same places and equal values in them.
+/// Keys aren't compared, since a node's path is its key's list.
 pub fn same<K, V: PartialEq>(left: &TrieNode<K, V>, right: &TrieNode<K, V>) -> bool
     ensures { result ≡ same_tree (same_values V.eq) (tree_of left.now) (tree_of right.now) }
 {

@@ -27,7 +27,8 @@ pub fn count_pairs<K, V>(node: &TrieNode<K, V>) -> usize
     count
 }
 
-// Counts on by the pairs at and below the node, by the nodes below it, and by the nibbles of its fragment and of theirs.
+// Counts on by the pairs at and below the node, by the nodes below it, and by the nibbles of its
+// fragment and of theirs.
 #[tactic(auto, using(crate::proofs::NodeLemmas::Sizes::pairs_out, crate::proofs::NodeLemmas::Sizes::pairs_next, crate::proofs::NodeLemmas::Sizes::own_some, crate::proofs::NodeLemmas::Sizes::own_none, crate::proofs::NodeLemmas::Sizes::nodes_out, crate::proofs::NodeLemmas::Sizes::nodes_next, crate::proofs::NodeLemmas::Sizes::nibbles_out, crate::proofs::NodeLemmas::Sizes::nibbles_next))]
 fn measure_below<K, V>(node: &TrieNode<K, V>, pairs: &mut usize, held: &mut Measured)
     requires few { pairs.old + length (entries_at [] (tree_of node.now)) < 2 ^ 64 }
@@ -47,7 +48,8 @@ fn measure_below<K, V>(node: &TrieNode<K, V>, pairs: &mut usize, held: &mut Meas
     }
 }
 
-/// How many pairs stand at and below the node; how many nodes stand below it, and how many nibbles its fragment and theirs have.
+/// How many pairs stand at and below the node; how many nodes stand below it, and how many nibbles
+/// its fragment and theirs have.
 pub fn measure<K, V>(node: &TrieNode<K, V>) -> (usize, Measured)
     requires { IsSmall (tree_of node.now) }
     ensures pairs { result.0 ≡ length (entries_at [] (tree_of node.now)) }

@@ -40,7 +40,8 @@ pub fn change_values<K, V, F: Fn(&K, &mut V)>(node: &mut TrieNode<K, V>, f: &F)
     }
 }
 
-/// Changes the value of each pair at and below the list's place, which lies below a node that stands at `depth`, in the same way.
+/// Changes the value of each pair at and below the list's place, which lies below a node that
+/// stands at `depth`, in the same way.
 pub fn change_branch<K, V, F: Fn(&K, &mut V)>(
     node: &mut TrieNode<K, V>,
     list: &Nibblet,

@@ -62,7 +62,8 @@ pub enum Reply<V> {
     Closed,
     /// Of `Within`: the replies in the view, one to each of its commands.
     Replies(Vec<Reply<V>>),
-    /// Of a command in a view: the view's path isn't a prefix of the key's encoding, and nothing has changed.
+    /// Of a command in a view: the view's path isn't a prefix of the key's encoding, and nothing
+    /// has changed.
     Outside,
     /// The command failed: an allocation failed, or `usize::MAX` pairs are stored. Nothing has
     /// changed.
@@ -145,7 +146,8 @@ fn move_values<K: Drop, V: Copy>(pairs: Vec<(K, V)>, values: &mut Vec<V>)
     }
 }
 
-/// Removes all pairs at and below a list, and returns their values. The room for these is reserved before the trie changes.
+/// Removes all pairs at and below a list, and returns their values. The room for these is reserved
+/// before the trie changes.
 pub(crate) fn take_values<K: TrieKey + Drop, V: Copy>(
     trie: &mut Trie<K, V>,
     list: &Nibblet,

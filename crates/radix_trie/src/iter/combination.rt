@@ -141,8 +141,9 @@ impl<'a, K, V> Search<'a, K, V> {
     }
 }
 
-/// What comes next of what lies below a path and of what lies beside it: the first, where a pair may be given of it, and then
-/// the other one. That one is put aside where nodes lie below the path; else the pairs at the path come right before it.
+/// What comes next of what lies below a path and of what lies beside it: the first, where a pair
+/// may be given of it, and then the other one. That one is put aside where nodes lie below the
+/// path; else the pairs at the path come right before it.
 fn descend<'a, K, V>(
     operation: Operation,
     stack: &mut Vec<Branches<'a, K, V>>,
@@ -185,8 +186,8 @@ fn descend<'a, K, V>(
     Ok(below)
 }
 
-/// A walk over the pairs of two tries that an operation gives: each encoding once, in their order. Of two pairs with one
-/// encoding the first trie's is given.
+/// A walk over the pairs of two tries that an operation gives: each encoding once, in their order.
+/// Of two pairs with one encoding the first trie's is given.
 ///
 /// The nodes of both tries are walked side by side. No key is encoded, and what the operation
 /// leaves out is skipped branch by branch.

@@ -77,8 +77,9 @@ impl<'a, K, V> Cursor<'a, K, V> {
         }
     }
 
-    /// The next pair, in the order of the encodings, or None where none is left, and then at each further call. It takes time
-    /// up to the depth of the trie, and a whole walk the time of the nodes that it goes over.
+    /// The next pair, in the order of the encodings, or None where none is left, and then at each
+    /// further call. It takes time up to the depth of the trie, and a whole walk the time of the
+    /// nodes that it goes over.
     ///
     /// # Errors
     ///
@@ -117,8 +118,8 @@ impl<'a, K, V> Cursor<'a, K, V> {
         }
     }
 
-    /// The walk over the pairs that are left, with all memory that it needs allocated here: its `next` allocates none. The time
-    /// grows with the nodes that are left.
+    /// The walk over the pairs that are left, with all memory that it needs allocated here: its
+    /// `next` allocates none. The time grows with the nodes that are left.
     ///
     /// # Errors
     ///

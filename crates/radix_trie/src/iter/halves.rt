@@ -6,7 +6,8 @@ use crate::iter::walk::Iter;
 use std::iter::FusedIterator;
 use std::marker::Model;
 
-/// A walk over keys, in the order of their encodings. A contract sees it as the list of the keys that are left.
+/// A walk over keys, in the order of their encodings. A contract sees it as the list of the keys
+/// that are left.
 #[derive(Drop)]
 pub struct Keys<'a, K, V> {
     pairs: Iter<'a, K, V>,
@@ -44,8 +45,8 @@ impl<'a, K, V> Iterator for Keys<'a, K, V> {
 
 impl<'a, K, V> FusedIterator for Keys<'a, K, V> {}
 
-/// A walk over values, in the order of their keys' encodings. A contract sees it as the list of the values that are
-/// left.
+/// A walk over values, in the order of their keys' encodings. A contract sees it as the list of the
+/// values that are left.
 #[derive(Drop)]
 pub struct Values<'a, K, V> {
     pairs: Iter<'a, K, V>,

@@ -6,8 +6,8 @@ use crate::iter::cursor::Cursor;
 use radix_keys::Memory;
 use std::alloc::Global;
 
-/// The first pairs that a cursor has left, `most` of them where there are so many. The time grows with `most` and the
-/// depth, and not with how many pairs there are.
+/// The first pairs that a cursor has left, `most` of them where there are so many. The time grows
+/// with `most` and the depth, and not with how many pairs there are.
 pub(crate) fn first_pairs<'a, K, V>(
     alloc: Global,
     cursor: Cursor<'a, K, V>,

@@ -13,10 +13,11 @@ use radix_nodes::trie_node::TrieNode;
 use std::iter::FusedIterator;
 use std::marker::Model;
 
-/// A walk over the pairs whose encodings are prefixes of a query's encoding: each once, from the shortest to the longest.
+/// A walk over the pairs whose encodings are prefixes of a query's encoding: each once, from the
+/// shortest to the longest.
 ///
-/// `next` allocates nothing, and goes on returning `None` after the end. A contract sees a walk as the list of the pairs
-/// that are left.
+/// `next` allocates nothing, and goes on returning `None` after the end. A contract sees a walk as
+/// the list of the pairs that are left.
 #[derive(Drop)]
 pub struct CommonPrefixes<'a, K, V> {
     /// The query's encoding.

@@ -9,7 +9,8 @@ use radix_keys::Memory;
 use radix_nodes::trie_node::{KeyValue, TrieNode};
 use radix_nodes::whole::size::height;
 
-/// What a walk has left of a node: its own pair, and some of its children side by side. In order the pair comes before them.
+/// What a walk has left of a node: its own pair, and some of its children side by side. In order
+/// the pair comes before them.
 #[derive(Drop)]
 pub(crate) struct Rest<'a, K, V> {
     /// The node's own pair, if it is left.
@@ -18,8 +19,9 @@ pub(crate) struct Rest<'a, K, V> {
     pub(crate) row: &'a [Box<TrieNode<K, V>>],
 }
 
-/// What comes next of a walk at a node: its own pair, and then its children or, where it has none, the nodes beside it. Those
-/// beside a node with children are put on the stack, which has room for them.
+/// What comes next of a walk at a node: its own pair, and then its children or, where it has none,
+/// the nodes beside it. Those beside a node with children are put on the stack, which has room for
+/// them.
 pub(super) fn enter<'a, K, V>(
     stack: &mut Vec<Rest<'a, K, V>>,
     node: &'a TrieNode<K, V>,

@@ -16,9 +16,9 @@ use std::ops::Bound;
 mod cuts;
 mod parting;
 
-/// The rows of the walk over the pairs at and below a node whose lists stand within two bounds, as a stack: its last row comes
-/// first. So many nibbles of each bound lie behind the node. Memory is allocated for rows on the way down to the bounds,
-/// where a pair is left there.
+/// The rows of the walk over the pairs at and below a node whose lists stand within two bounds, as
+/// a stack: its last row comes first. So many nibbles of each bound lie behind the node. Memory is
+/// allocated for rows on the way down to the bounds, where a pair is left there.
 pub(crate) fn rests_within<'a, K, V>(
     alloc: Global,
     node: &'a TrieNode<K, V>,
@@ -51,7 +51,8 @@ pub(crate) fn rests_within<'a, K, V>(
     Ok(stack)
 }
 
-/// Puts the rows that stand above a lower bound on a stack, from the node down: the last one comes first.
+/// Puts the rows that stand above a lower bound on a stack, from the node down: the last one comes
+/// first.
 fn push_later<'a, K, V>(
     stack: &mut Vec<Rest<'a, K, V>>,
     node: &'a TrieNode<K, V>,
@@ -82,7 +83,8 @@ fn push_later<'a, K, V>(
     }
 }
 
-/// Puts the rows that stand below an upper bound into a list, from the node down: the first one comes first.
+/// Puts the rows that stand below an upper bound into a list, from the node down: the first one
+/// comes first.
 fn push_earlier<'a, K, V>(
     list: &mut Vec<Rest<'a, K, V>>,
     node: &'a TrieNode<K, V>,

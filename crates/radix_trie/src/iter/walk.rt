@@ -6,10 +6,11 @@ use crate::iter::rows::{Rest, enter, parts};
 use std::iter::FusedIterator;
 use std::marker::Model;
 
-/// A walk over keys and values: each pair once, in the order of the encodings, an encoding before its extensions.
+/// A walk over keys and values: each pair once, in the order of the encodings, an encoding before
+/// its extensions.
 ///
-/// `next` allocates nothing, and goes on returning `None` after the end. A contract sees a walk as the list of the pairs
-/// that are left.
+/// `next` allocates nothing, and goes on returning `None` after the end. A contract sees a walk as
+/// the list of the pairs that are left.
 #[derive(Drop)]
 pub struct Iter<'a, K, V> {
     /// What comes next.

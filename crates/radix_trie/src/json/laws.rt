@@ -9,8 +9,8 @@ ghost use Rattle.radix_trie.specs.Json.{object_of, read_as};
 use crate::trie::Trie;
 use serde_json::Value;
 
-/// What `to_value` returns of a trie, `from_value` reads back as a trie of the same texts, each with a
-/// value that shows the same data.
+/// What `to_value` returns of a trie, `from_value` reads back as a trie of the same texts, each
+/// with a value that shows the same data.
 pub fn objects_are_read_back(trie: &Trie<String, Value>, value: &Value, back: &Trie<String, Value>)
     ensures object { view value.now ≡ object_of trie.now
         → object_of back.now ≡ read_as (view value.now)

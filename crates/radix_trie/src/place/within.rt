@@ -14,7 +14,8 @@ use radix_keys::{Memory, Nibblet, TrieKey};
 use std::alloc::Global;
 use std::ops::Bound;
 
-/// What is left of two bounds behind a path that goes on to each of them, and how many nibbles the path has.
+/// What is left of two bounds behind a path that goes on to each of them, and how many nibbles the
+/// path has.
 #[derive(Drop)]
 pub(crate) struct Limits<'l> {
     low: Bound<&'l Nibblet>,
@@ -23,7 +24,8 @@ pub(crate) struct Limits<'l> {
 }
 
 impl<'l> Limits<'l> {
-    /// What is left of two bounds behind a path, or None where no list that the path begins is within them.
+    /// What is left of two bounds behind a path, or None where no list that the path begins is
+    /// within them.
     pub(crate) fn of(
         path: &Nibblet,
         low: Bound<&'l Nibblet>,
@@ -62,8 +64,9 @@ fn list_of<'l>(bound: Bound<&'l Nibblet>) -> Option<&'l Nibblet>
     }
 }
 
-/// What is left of a lower bound, of which so many nibbles lie in front of a fragment, behind the fragment, and how many lie
-/// in front then: unbounded where all lists that the fragment begins come after it, and None where all come before it.
+/// What is left of a lower bound, of which so many nibbles lie in front of a fragment, behind the
+/// fragment, and how many lie in front then: unbounded where all lists that the fragment begins
+/// come after it, and None where all come before it.
 fn lower_limit<'l>(
     fragment: &Nibblet,
     low: Bound<&'l Nibblet>,
@@ -82,8 +85,8 @@ fn lower_limit<'l>(
     }
 }
 
-/// The same of an upper bound: unbounded where all lists that the fragment begins come before it, and None where all come
-/// after it.
+/// The same of an upper bound: unbounded where all lists that the fragment begins come before it,
+/// and None where all come after it.
 fn upper_limit<'l>(
     fragment: &Nibblet,
     high: Bound<&'l Nibblet>,
@@ -103,7 +106,8 @@ fn upper_limit<'l>(
 }
 
 impl<'a, K: TrieKey, V> Place<'a, K, V> {
-    /// The rows of the walk over the pairs at and below the path whose lists are within the bounds that the limits are of.
+    /// The rows of the walk over the pairs at and below the path whose lists are within the bounds
+    /// that the limits are of.
     pub(crate) fn rests(&self, limits: Option<Limits<'_>>) -> Result<Vec<Rest<'a, K, V>>, Memory>
         requires { (m : PairMap K V) × (p : List ℕ)
             × (low : Bound (List ℕ)) × (high : Bound (List ℕ))

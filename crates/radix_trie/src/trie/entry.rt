@@ -248,8 +248,8 @@ impl<'a, K: TrieKey + Drop, V: Drop, P: PathList> Entry<'a, K, V, P> {
         trie.filled_at(&list, key, move || default)
     }
 
-    /// The value that is stored at the key's encoding, for writing, where the value that the closure
-    /// makes is stored first if nothing is. The entry is spent.
+    /// The value that is stored at the key's encoding, for writing, where the value that the
+    /// closure makes is stored first if nothing is. The entry is spent.
     ///
     /// The closure is called once, where nothing is stored there, and else not at all: it has to be
     /// callable in that case alone. If a pair is stored there, its key stays, and the entry's key

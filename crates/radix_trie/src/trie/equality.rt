@@ -12,8 +12,8 @@ use crate::trie::Trie;
 use radix_keys::TrieKey;
 use radix_nodes::whole::same::same;
 
-/// Two tries are equal where they store the same encodings, and at each encoding equal values. Keys with one encoding
-/// aren't told apart. It walks the two trees side by side, and allocates nothing.
+/// Two tries are equal where they store the same encodings, and at each encoding equal values. Keys
+/// with one encoding aren't told apart. It walks the two trees side by side, and allocates nothing.
 impl<K: TrieKey, V: PartialEq> PartialEq for Trie<K, V> {
     ghost eq = { same_maps V.eq };
 

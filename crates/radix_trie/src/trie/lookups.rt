@@ -49,16 +49,16 @@ impl<K: TrieKey, V> Trie<K, V> {
         pair_in(deepest_pair(self.root(), list, 0))
     }
 
-    /// The key and the value at the longest stored list that is a prefix of a list of nibbles, or None where there is none.
-    /// It allocates nothing.
+    /// The key and the value at the longest stored list that is a prefix of a list of nibbles, or
+    /// None where there is none. It allocates nothing.
     pub fn nearest(&self, list: &Nibblet) -> Option<(&K, &V)>
         ensures pair { IsPairAbove self.now list.now (option_map deref_pair result) }
     {
         key_value_of(self.pair_above(list))
     }
 
-    /// The value at the longest stored list that is a prefix of a list of nibbles, or None where there is none. It allocates
-    /// nothing.
+    /// The value at the longest stored list that is a prefix of a list of nibbles, or None where
+    /// there is none. It allocates nothing.
     pub fn nearest_value(&self, list: &Nibblet) -> Option<&V>
         ensures value { IsValueAbove self.now list.now (option_copied result) }
     {

@@ -93,8 +93,8 @@ impl<K: TrieKey, V> Trie<K, V> {
 
     /// The value at the key's encoding, for writing, or None where none is stored there.
     ///
-    /// Once the value has been written, the trie has it there, and all else is as before. A caller's
-    /// proof learns that from `find_mut` alone.
+    /// Once the value has been written, the trie has it there, and all else is as before. A
+    /// caller's proof learns that from `find_mut` alone.
     ///
     /// # Errors
     ///

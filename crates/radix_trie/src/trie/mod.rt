@@ -116,7 +116,8 @@ impl<K: TrieKey, V> Trie<K, V> {
     /// constant time.
     ///
     /// Whatever the history, these are the count of the map's points, and the count of the distinct
-    /// non-empty prefixes of the stored encodings. There are at most two nodes a pair, or the root alone.
+    /// non-empty prefixes of the stored encodings. There are at most two nodes a pair, or the root
+    /// alone.
     pub fn footprint(&self) -> (u128, u128)
         ensures nodes { Counts (IsPoint self.now) result.0 }
         ensures nibbles { Counts (IsSomePrefix self.now) result.1 }

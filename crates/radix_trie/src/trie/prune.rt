@@ -27,7 +27,8 @@ impl<K: TrieKey + Drop, V: Drop> Trie<K, V> {
     /// for (key, value) in all.remove_prefix(&from)? {
     /// ```
     ///
-    /// `move_below` in `crates/trie_examples/src/moves.rt` takes what lies below a name away, to store it elsewhere.
+    /// `move_below` in `crates/trie_examples/src/moves.rt` takes what lies below a name away, to
+    /// store it elsewhere.
     pub fn remove_prefix<Q: TrieKey>(&mut self, key: &Q) -> Result<Vec<(K, V)>, Memory>
         ensures pairs { IfOk result
             (λ gone. gone.items ≡ pairs_below self.old (Q.encoding key.now)) }

@@ -27,7 +27,8 @@ impl<K: TrieKey, V> Trie<K, V> {
     ///     .unwrap_or(default),
     /// ```
     ///
-    /// `inherited` in `crates/trie_examples/src/uses.rt` finds the setting of the nearest path at or above another.
+    /// `inherited` in `crates/trie_examples/src/uses.rt` finds the setting of the nearest path at
+    /// or above another.
     pub fn get_ancestor_value<Q: TrieKey>(&self, key: &Q) -> Result<Option<&V>, Memory>
         ensures value { IfOk result
             (λ found. IsValueAbove self.now (Q.encoding key.now) (option_copied found)) }
@@ -52,8 +53,8 @@ impl<K: TrieKey, V> Trie<K, V> {
         Ok(self.nearest(&list))
     }
 
-    /// The walk over the pairs whose encodings begin with the key's, in order. It begins in the time
-    /// of a lookup, and allocates as it goes.
+    /// The walk over the pairs whose encodings begin with the key's, in order. It begins in the
+    /// time of a lookup, and allocates as it goes.
     ///
     /// The key needn't be stored, nor be a point.
     ///
@@ -100,7 +101,8 @@ impl<K: TrieKey, V> Trie<K, V> {
     /// for (name, rules) in all.common_prefixes(host)? {
     /// ```
     ///
-    /// `suffix_len` in `crates/trie_examples/src/suffixes.rt` goes over the rules of a host's public suffix.
+    /// `suffix_len` in `crates/trie_examples/src/suffixes.rt` goes over the rules of a host's
+    /// public suffix.
     pub fn common_prefixes<Q: TrieKey>(&self, key: &Q) -> Result<CommonPrefixes<'_, K, V>, Memory>
         ensures walk { IfOk result
             (λ pairs. pairs ≡ pairs_above self.now (Q.encoding key.now)) }

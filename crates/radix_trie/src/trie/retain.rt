@@ -35,8 +35,8 @@ impl<K: TrieKey + Drop, V: Drop> Trie<K, V> {
         self.retain_at(&whole, &keep)
     }
 
-    /// Keeps, of the pairs at and below the key's place, those of which the closure returns true, and
-    /// removes all others of these. It is called once for each of them, in the order of the
+    /// Keeps, of the pairs at and below the key's place, those of which the closure returns true,
+    /// and removes all others of these. It is called once for each of them, in the order of the
     /// encodings, before the first one is removed.
     ///
     /// The closure has to be callable on each of these pairs. The key needn't be stored, nor be a
@@ -95,7 +95,8 @@ impl<K: TrieKey + Drop, V: Drop> Trie<K, V> {
         self.remove_all(&gone)
     }
 
-    /// The encodings of the keys at and below a list whose pairs the closure doesn't keep, in order.
+    /// The encodings of the keys at and below a list whose pairs the closure doesn't keep, in
+    /// order.
     fn not_kept<F: Fn(&K, &V) -> bool>(
         &self,
         list: &Nibblet,

@@ -83,8 +83,8 @@ impl<K: TrieKey + Drop, V: Drop> Trie<K, V> {
         }
     }
 
-    /// The value at the key's encoding, for writing, where the default is stored first if nothing is.
-    /// If a pair is stored there, its key stays, and the key and the default are dropped.
+    /// The value at the key's encoding, for writing, where the default is stored first if nothing
+    /// is. If a pair is stored there, its key stays, and the key and the default are dropped.
     ///
     /// A caller's proof learns from this call what the trie ends as. A stored encoding takes two
     /// lookups, and a new one three.

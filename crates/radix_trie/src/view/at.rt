@@ -129,8 +129,8 @@ impl<'a, 'b, K: TrieKey, V> At<'b, K, V> for &'b SubTrieMut<'a, K, V> {
     }
 }
 
-// The view is spent: its reference for writing becomes one for reading, so what is returned lasts as long as the
-// trie's borrow.
+// The view is spent: its reference for writing becomes one for reading, so what is returned lasts
+// as long as the trie's borrow.
 impl<'a, K: TrieKey, V, P: PathList> At<'a, K, V> for SubTrieMut<'a, K, V, P> {
     ghost map = { map_behind };
 

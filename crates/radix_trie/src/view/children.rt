@@ -19,8 +19,8 @@ use std::marker::Model;
 
 /// At most sixteen views, one for each child of a path, by rising nibble.
 ///
-/// `next` allocates nothing, and goes on returning `None` after the end. A contract sees the list of the views that are
-/// left.
+/// `next` allocates nothing, and goes on returning `None` after the end. A contract sees the list
+/// of the views that are left.
 #[derive(Drop)]
 pub struct Children<'a, K: TrieKey, V> {
     /// Options, since an `ArrayVec` begins with defaults. Each of them is a `Some`.
@@ -62,7 +62,8 @@ impl<'a, K: TrieKey, V> Children<'a, K, V> {
 }
 
 impl<'a, K: TrieKey, V> Place<'a, K, V> {
-    /// For each nibble in rising order, the view at the shortest point that goes on from the path by it.
+    /// For each nibble in rising order, the view at the shortest point that goes on from the path
+    /// by it.
     pub(crate) fn children(
         &self,
         trie: &'a Trie<K, V>,

@@ -52,7 +52,8 @@ impl<K: TrieKey, V> Trie<K, V> {
     ///     Some(view) => Ok(Some(view)),
     /// ```
     ///
-    /// `route` in `crates/trie_examples/src/answers.rt` finds the longest network that holds an address.
+    /// `route` in `crates/trie_examples/src/answers.rt` finds the longest network that holds an
+    /// address.
     pub fn get_ancestor<Q: TrieKey>(&self, key: &Q) -> Result<Option<SubTrie<'_, K, V>>, Memory>
         ensures nearest { IfOk result
             (λ o. IsAncestor self.now (Q.encoding key.now) (option_map (λ view. view.path) o)) }

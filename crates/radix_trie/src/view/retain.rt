@@ -11,8 +11,8 @@ use crate::view::subtrie_mut::SubTrieMut;
 use radix_keys::{Memory, TrieKey};
 
 impl<'a, K: TrieKey + Drop, V: Drop> SubTrieMut<'a, K, V> {
-    /// Keeps, of the pairs at and below the path, those of which the closure returns true, and removes
-    /// all others of these, as `Trie::retain_below` does.
+    /// Keeps, of the pairs at and below the path, those of which the closure returns true, and
+    /// removes all others of these, as `Trie::retain_below` does.
     ///
     /// The closure has to be callable on each of these pairs.
     ///

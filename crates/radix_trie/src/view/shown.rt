@@ -1,4 +1,5 @@
-//! How a trie and its views are written for a reader of logs: as a map, its pairs in the order of their encodings.
+//! How a trie and its views are written for a reader of logs: as a map, its pairs in the order of
+//! their encodings.
 
 use crate::place::Place;
 use crate::trie::Trie;
@@ -7,8 +8,8 @@ use crate::view::subtrie_mut::SubTrieMut;
 use radix_keys::TrieKey;
 use std::fmt;
 
-/// The map of the keys and values, in the order of a walk. It allocates nothing, so no pair is left out for want of it; it
-/// goes down by recursion.
+/// The map of the keys and values, in the order of a walk. It allocates nothing, so no pair is left
+/// out for want of it; it goes down by recursion.
 impl<K: TrieKey + fmt::Debug, V: fmt::Debug> fmt::Debug for Trie<K, V> {
     fn fmt<W: fmt::Write>(&self, f: &mut fmt::Formatter<W>) -> fmt::Result {
         Place::find(self, self.top()).write(f)

@@ -14,10 +14,11 @@ use crate::view::at::At;
 use radix_keys::{Memory, Nibblet, TrieKey};
 use std::ops::RangeBounds;
 
-/// What a trie and its views return, by the map of the trie and a path in it. The path of a trie is the empty list.
+/// What a trie and its views return, by the map of the trie and a path in it. The path of a trie is
+/// the empty list.
 ///
-/// What comes from a trie or a view for reading lasts as long as the trie's borrow. `children` is a call of each of these
-/// types, and none of the trait.
+/// What comes from a trie or a view for reading lasts as long as the trie's borrow. `children` is a
+/// call of each of these types, and none of the trait.
 pub trait TrieCommon<'a, K: TrieKey + 'a, V: 'a>: Sized {
     /// The map of the whole trie.
     ghost map: { Self → PairMap K V };
@@ -25,7 +26,8 @@ pub trait TrieCommon<'a, K: TrieKey + 'a, V: 'a>: Sized {
     /// The path, a point of the map or not.
     ghost path: { Self → List ℕ };
 
-    /// What `prefix` returns: the fragment at the path; of a view for writing the fragment that it was made with.
+    /// What `prefix` returns: the fragment at the path; of a view for writing the fragment that it
+    /// was made with.
     ghost is_prefix: { Self → List ℕ → Type 0 };
 
     /// The key that is stored at the path.
@@ -37,8 +39,8 @@ pub trait TrieCommon<'a, K: TrieKey + 'a, V: 'a>: Sized {
     fn value(self) -> Option<&'a V>
         ensures { option_copied result ≡ value_at (map self) (path self) };
 
-    /// The count of pairs at and below the path. A trie knows its own; a view's are counted, so the time grows with their
-    /// number.
+    /// The count of pairs at and below the path. A trie knows its own; a view's are counted, so the
+    /// time grows with their number.
     fn len(self) -> usize
         ensures { result ≡ finite.len (below (map self) (path self)) };
 
@@ -103,7 +105,8 @@ pub trait TrieCommon<'a, K: TrieKey + 'a, V: 'a>: Sized {
         ensures none { finite.len (below (map self) (path self)) ≡ 0 → IsOk result }
         ensures leaf { IsLeaf (map self) (path self) → IsOk result };
 
-    /// The walk over the pairs at and below the path, as that of `iter`, which allocates as it goes.
+    /// The walk over the pairs at and below the path, as that of `iter`, which allocates as it
+    /// goes.
     ///
     /// It begins in the time of the way down to the path, and allocates nothing then. Each step
     /// takes time up to the depth below the path, and a whole walk as much as that of `iter`.
@@ -123,16 +126,16 @@ pub trait TrieCommon<'a, K: TrieKey + 'a, V: 'a>: Sized {
         ensures countable { length result < 2 ^ 64 };
 
     /// The walk over the pairs at and below the path from the last to the first: in the falling
-    /// order of their encodings, the extensions of a prefix before it. It takes the time and the memory of that of
-    /// `cursor`.
+    /// order of their encodings, the extensions of a prefix before it. It takes the time and the
+    /// memory of that of `cursor`.
     fn cursor_back(self) -> CursorBack<'a, K, V>
         ensures walk { result ≡ reverse (pairs_below (map self) (path self)) }
         ensures keyed { Each (λ e. e.0 ≡ K.encoding e.1.0) (walk (map self) (path self)) }
         ensures countable { length result < 2 ^ 64 };
 
-    /// The walk of `cursor` over the pairs at and below the path whose encodings lie within a range of keys, by the order
-    /// of the encodings. The keys needn't be stored, nor lie below the path. Where the first comes after the last, no pair
-    /// lies between.
+    /// The walk of `cursor` over the pairs at and below the path whose encodings lie within a range
+    /// of keys, by the order of the encodings. The keys needn't be stored, nor lie below the path.
+    /// Where the first comes after the last, no pair lies between.
     ///
     /// A walk that was left at a key goes on by `(Excluded(&key), Unbounded)`. It begins in the
     /// time of a lookup of each of the two keys. Its steps take the time and the memory of those of
@@ -164,7 +167,8 @@ pub trait TrieCommon<'a, K: TrieKey + 'a, V: 'a>: Sized {
             (encoded_bound Q.encoding (R.end_bound range)) ≡ []
             → IsOk result };
 
-    /// The walk of `range` from the last pair to the first, with the time and the memory of that walk.
+    /// The walk of `range` from the last pair to the first, with the time and the memory of that
+    /// walk.
     ///
     /// # Errors
     ///
@@ -186,14 +190,15 @@ pub trait TrieCommon<'a, K: TrieKey + 'a, V: 'a>: Sized {
             (encoded_bound Q.encoding (R.end_bound range)) ≡ []
             → IsOk result };
 
-    /// The key and the value of the first pair at and below the path, in the order of the encodings, if there is one. It
-    /// allocates nothing, and takes the time of the way down to the pair.
+    /// The key and the value of the first pair at and below the path, in the order of the
+    /// encodings, if there is one. It allocates nothing, and takes the time of the way down to the
+    /// pair.
     fn first_key_value(self) -> Option<(&'a K, &'a V)>
         ensures { option_map deref_pair result
             ≡ slice_get (pairs_below (map self) (path self)) 0 };
 
-    /// The key and the value of the last pair at and below the path, in the order of the encodings, if there is one. It
-    /// allocates nothing, and takes the time of the way down to the pair.
+    /// The key and the value of the last pair at and below the path, in the order of the encodings,
+    /// if there is one. It allocates nothing, and takes the time of the way down to the pair.
     fn last_key_value(self) -> Option<(&'a K, &'a V)>
         ensures { option_map deref_pair result
             ≡ slice_get (pairs_below (map self) (path self))
@@ -282,7 +287,8 @@ impl<'a, K: TrieKey + 'a, V: 'a, T: At<'a, K, V>> TrieCommon<'a, K, V> for T {
     }
 }
 
-/// The rows of the walk over the pairs at and below a path whose encodings lie within a range of keys.
+/// The rows of the walk over the pairs at and below a path whose encodings lie within a range of
+/// keys.
 fn rests_in<'a, K: TrieKey + 'a, V: 'a, T: At<'a, K, V>, Q: TrieKey, R: RangeBounds<Q>>(
     at: T,
     range: R,

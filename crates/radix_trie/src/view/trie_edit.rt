@@ -17,8 +17,8 @@ use radix_keys::{Memory, Nibblet, TrieKey};
 
 /// A trie or a view for writing: a function that changes either is written once for both.
 ///
-/// A contract sees it as the map of the whole trie and a path, below which all calls stay. The path of a trie is the empty list,
-/// so nothing lies outside it.
+/// A contract sees it as the map of the whole trie and a path, below which all calls stay. The path
+/// of a trie is the empty list, so nothing lies outside it.
 pub trait TrieEdit<K: TrieKey, V> {
     /// The map of the whole trie.
     ghost map: { Self → PairMap K V };
@@ -111,8 +111,8 @@ pub trait TrieEdit<K: TrieKey, V> {
         ensures keyed { IsKeyed K.encoding K.is_value (map self.old)
             → IsKeyed K.encoding K.is_value (map self.new) };
 
-    /// Keeps, of the pairs at and below the path, those of which the closure returns true, and removes
-    /// all others of these.
+    /// Keeps, of the pairs at and below the path, those of which the closure returns true, and
+    /// removes all others of these.
     ///
     /// The closure has to be callable on each of these pairs.
     ///

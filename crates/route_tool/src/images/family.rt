@@ -18,7 +18,8 @@ pub(crate) trait ImageFamily: Address {
     // Whether it is IPv6.
     ghost WIDE: { Bool };
 
-    /// The rows of an image: networks, each with its value. It takes the time of the family's `from_image`.
+    /// The rows of an image: networks, each with its value. It takes the time of the family's
+    /// `from_image`.
     ///
     /// # Errors
     ///
@@ -31,7 +32,8 @@ pub(crate) trait ImageFamily: Address {
             → IsRouteFault WIDE image.now why) }
         ensures memory { IfErr result (λ e. e ≡ TableError.Memory → IsImage WIDE image.now) };
 
-    /// The image of rows in order, with the user's own bytes. It takes the time of the family's `to_image`.
+    /// The image of rows in order, with the user's own bytes. It takes the time of the family's
+    /// `to_image`.
     ///
     /// # Errors
     ///

@@ -65,13 +65,13 @@ fn with_hops<A: Address>(
     Ok(routes)
 }
 
-/// The routes of an image of one family, with their hops. It takes the time of the family's `from_image`, and time for
-/// each byte of the hop of each route.
+/// The routes of an image of one family, with their hops. It takes the time of the family's
+/// `from_image`, and time for each byte of the hop of each route.
 ///
 /// # Errors
 ///
-/// The bytes are no image, and the error says what is wrong with them. A row of the image points to no hop, and the error
-/// says which is the first. Memory is refused.
+/// The bytes are no image, and the error says what is wrong with them. A row of the image points to
+/// no hop, and the error says which is the first. Memory is refused.
 pub(crate) fn opened<A: ImageFamily>(
     alloc: Global,
     image: &[u8],

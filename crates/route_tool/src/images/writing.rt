@@ -47,8 +47,8 @@ fn place_of<'a>(
     }
 }
 
-/// The networks of routes, each with the place of its hop, and the hops, each of them once, as lines. It takes a look-up
-/// for each route.
+/// The networks of routes, each with the place of its hop, and the hops, each of them once, as
+/// lines. It takes a look-up for each route.
 fn placed<A: Address>(
     alloc: Global,
     rest: Rest<'_, A>,
@@ -67,8 +67,8 @@ fn placed<A: Address>(
     Ok((rows, own))
 }
 
-/// The image of routes in the order of their networks' bits. It takes a look-up for each route, and the time of the
-/// family's `to_image`.
+/// The image of routes in the order of their networks' bits. It takes a look-up for each route, and
+/// the time of the family's `to_image`.
 ///
 /// # Errors
 ///

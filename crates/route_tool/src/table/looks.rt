@@ -10,9 +10,10 @@ use frozen_routes::{FrozenRoutes, addresses_ask_as_networks};
 use radix_trie::{Address, Memory, Network, Trie, TrieKey};
 use std::alloc::Global;
 
-// The routes are frozen once more than so many look-ups have come since the last change, and one more for each so many
-// routes. To freeze these takes about as long as one look-up among frozen routes saves, so no session takes more than about
-// twice the time that it would take if it were known beforehand which look-ups come.
+// The routes are frozen once more than so many look-ups have come since the last change, and one
+// more for each so many routes. To freeze these takes about as long as one look-up among frozen
+// routes saves, so no session takes more than about twice the time that it would take if it were
+// known beforehand which look-ups come.
 const LEAST_LOOKS: usize = 64;
 
 const ROUTES_A_LOOK: usize = 16;
@@ -58,7 +59,8 @@ impl<A: Address> Frozen<A> {
         self.looks = 0;
     }
 
-    /// Counts a look-up among so many routes. Gives whether they are to be frozen now; the count begins anew then.
+    /// Counts a look-up among so many routes. Gives whether they are to be frozen now; the count
+    /// begins anew then.
     fn is_due(&mut self, routes: usize) -> bool
         ensures { self.new.rows ≡ self.old.rows }
     {
@@ -91,8 +93,8 @@ fn find_in_trie<A: Address>(
 }
 
 impl<A: Address> Routes<A> {
-    /// Freezes the routes: the look-ups until the next change are answered from a table in order. It takes time for each
-    /// route.
+    /// Freezes the routes: the look-ups until the next change are answered from a table in order.
+    /// It takes time for each route.
     pub(super) fn freeze(&mut self) -> Result<(), Memory>
         ensures same { self.new ≡ self.old }
     {
@@ -105,8 +107,8 @@ impl<A: Address> Routes<A> {
         Ok(())
     }
 
-    /// Counts a look-up that is to come, and freezes the routes where enough have come since the last change. Where memory
-    /// for it is refused, look-ups go on in the trie.
+    /// Counts a look-up that is to come, and freezes the routes where enough have come since the
+    /// last change. Where memory for it is refused, look-ups go on in the trie.
     pub fn expect_look(&mut self)
         ensures same { self.new ≡ self.old }
     {

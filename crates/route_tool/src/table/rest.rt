@@ -7,7 +7,8 @@ use radix_trie::iter::Cursor;
 use radix_trie::{Address, Memory, Network};
 use std::marker::Model;
 
-/// Routes that are still to come: rows, and then those that a cursor has left. A contract sees their list.
+/// Routes that are still to come: rows, and then those that a cursor has left. A contract sees
+/// their list.
 #[derive(Drop)]
 pub struct Rest<'a, A: Address> {
     rows: &'a [(Network<A>, Hop)],

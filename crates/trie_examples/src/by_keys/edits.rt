@@ -8,7 +8,8 @@ use keyed_maps::{
 };
 use radix_trie::{Trie, TrieError, TrieKey};
 
-/// Stores two values in two tries, in either order: if the tries were equal and the keys aren't, the tries are equal.
+/// Stores two values in two tries, in either order: if the tries were equal and the keys aren't,
+/// the tries are equal.
 ///
 /// # Errors
 ///

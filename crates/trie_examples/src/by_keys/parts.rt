@@ -25,7 +25,8 @@ fn absorb<K: TrieKey + Drop, V: Drop>(
     Ok(())
 }
 
-/// Takes the values of all keys out whose encodings begin with that of a key, as a trie of their own.
+/// Takes the values of all keys out whose encodings begin with that of a key, as a trie of their
+/// own.
 ///
 /// # Errors
 ///
@@ -45,8 +46,8 @@ fn take_below<K: TrieKey + Drop, V: Drop, Q: TrieKey>(
     trie.split_off_prefix(key)
 }
 
-/// Merges two tries none of whose keys has a value in both, the smaller one into the larger, since a merge takes an insertion
-/// for each pair. The order makes no difference.
+/// Merges two tries none of whose keys has a value in both, the smaller one into the larger, since
+/// a merge takes an insertion for each pair. The order makes no difference.
 ///
 /// # Errors
 ///

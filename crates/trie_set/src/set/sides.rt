@@ -13,7 +13,8 @@ use radix_trie::{Memory, TrieKey};
 impl<K: TrieKey> TrieSet<K> {
     /// The walk over the keys of this set at whose encodings the other set has keys too.
     ///
-    /// A whole walk takes at most the time of the ways down to the keys of the smaller set. The first key is found here.
+    /// A whole walk takes at most the time of the ways down to the keys of the smaller set. The
+    /// first key is found here.
     ///
     /// # Errors
     ///
@@ -25,8 +26,8 @@ impl<K: TrieKey> TrieSet<K> {
         Selection::new(&self.trie, &other.trie, Operation::Intersection)
     }
 
-    /// The walk over the keys of this set at whose encodings the other set has none. A whole walk takes at
-    /// most the time of a walk over this set.
+    /// The walk over the keys of this set at whose encodings the other set has none. A whole walk
+    /// takes at most the time of a walk over this set.
     ///
     /// # Errors
     ///
@@ -38,8 +39,9 @@ impl<K: TrieKey> TrieSet<K> {
         Selection::new(&self.trie, &other.trie, Operation::Difference)
     }
 
-    /// The walk over the keys of both sets, in the order of the encodings; where both have a key, this set's is given. A
-    /// whole walk takes at most the time of a walk over each of the two sets.
+    /// The walk over the keys of both sets, in the order of the encodings; where both have a key,
+    /// this set's is given. A whole walk takes at most the time of a walk over each of the two
+    /// sets.
     ///
     /// # Errors
     ///
@@ -51,8 +53,8 @@ impl<K: TrieKey> TrieSet<K> {
         Selection::new(&self.trie, &other.trie, Operation::Union)
     }
 
-    /// The walk over the keys of each set at whose encodings the other one has none, in the order of the encodings, in the
-    /// time of `union`.
+    /// The walk over the keys of each set at whose encodings the other one has none, in the order
+    /// of the encodings, in the time of `union`.
     ///
     /// # Errors
     ///
@@ -68,7 +70,8 @@ impl<K: TrieKey> TrieSet<K> {
         Selection::new(&self.trie, &other.trie, Operation::SymmetricDifference)
     }
 
-    /// Whether the other set has a key at each encoding at which this set has one, in the time of `difference`.
+    /// Whether the other set has a key at each encoding at which this set has one, in the time of
+    /// `difference`.
     ///
     /// # Errors
     ///
@@ -85,8 +88,8 @@ impl<K: TrieKey> TrieSet<K> {
         Ok(missing.next()?.is_none())
     }
 
-    /// Whether this set has a key at each encoding at which the other set has one, in the time of the other
-    /// set's `difference`.
+    /// Whether this set has a key at each encoding at which the other set has one, in the time of
+    /// the other set's `difference`.
     ///
     /// # Errors
     ///

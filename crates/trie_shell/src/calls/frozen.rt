@@ -1,13 +1,13 @@
 //! Calls of a frozen trie.
 
 use crate::calls::FrozenTable;
-use crate::calls::edits::{
-    Given, OTHER, add_unless, key_and_number, note_pair, written_or_absent, written_or_none,
-};
-use crate::calls::lines::{key_line, listed_lines, none_line, pair_line};
 use crate::calls::reads::answer_read;
 use frozen_trie::PushWhy;
 use radix_trie::Memory;
+use shell_calls::edits::{
+    Given, OTHER, add_unless, key_and_number, note_pair, written_or_absent, written_or_none,
+};
+use shell_calls::lines::{key_line, listed_lines, none_line, pair_line};
 use shell_words::{Answer, Key, NO_KEY, NO_NUMBER, NOT_HERE};
 
 /// A call of a frozen trie, which answers it as a trie does.

@@ -1,10 +1,10 @@
 //! The reading calls that each map has: one table of them for tries and frozen ones.
 
-use crate::calls::bounds::next_bounds;
-use crate::calls::lines::{none_line, pair_line};
-use crate::calls::steps::step_again;
 use prefix_maps::{PrefixMap, RangeMap};
 use radix_trie::Memory;
+use shell_calls::bounds::next_bounds;
+use shell_calls::lines::{none_line, pair_line};
+use shell_calls::steps::step_again;
 use shell_words::{Answer, Key, NO_KEY, NO_NUMBER};
 
 /// What a reading call of a map answers. False: it is none.

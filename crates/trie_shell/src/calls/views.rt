@@ -1,13 +1,14 @@
 //! Calls of views.
 
 use crate::caller::{Caller, make};
-use crate::calls::common::answer_common;
-use crate::calls::edits::{answer_change, outside_line, written_or_none};
-use crate::calls::lines::{child_lines, pair_lines, view_line};
-use crate::calls::{Table, answer_trie};
+use crate::calls::answer_trie;
 use crate::request::read_call;
 use crate::tries::IN_A_VIEW;
 use radix_trie::{Memory, Nibblet, OpenError, SubTrie, SubTrieError, SubTrieMut};
+use shell_calls::Table;
+use shell_calls::common::answer_common;
+use shell_calls::edits::{answer_change, outside_line, written_or_none};
+use shell_calls::lines::{child_lines, pair_lines, view_line};
 use shell_words::{Answer, Key, NO_KEY, NO_NUMBER, NONE, NOT_HERE, Words};
 
 /// What is answered where the point that a view stands at is gone.
@@ -151,8 +152,8 @@ impl Caller for SubTrieMut<'_, Key, u64> {
     }
 }
 
-/// Whether the words left are calls, ` ; ` between two of them, of which the last alone may take the
-/// view. False: the answer says why not.
+/// Whether the words left are calls, ` ; ` between two of them, of which the last alone may take
+/// the view. False: the answer says why not.
 fn are_calls(answer: &mut Answer<'_>) -> Result<bool, Memory> {
     let words = answer.words();
     let mut is_taken = false;
@@ -201,8 +202,8 @@ fn takes_view(name: &str) -> bool {
     matches!(name, "spend" | "into_children" | "into_trie")
 }
 
-/// Calls of one view for writing, one after another. True: the answer goes on with one that takes the
-/// view, which is left to be made.
+/// Calls of one view for writing, one after another. True: the answer goes on with one that takes
+/// the view, which is left to be made.
 fn answer_calls(
     view: &mut SubTrieMut<'_, Key, u64>,
     answer: &mut Answer<'_>,

@@ -1,16 +1,17 @@
 //! Frozen tries by their names, which are apart from those of tries.
 
-use crate::calls::edits::OTHER;
+use crate::calls::FrozenTable;
 use crate::calls::frozen::answer_frozen;
-use crate::calls::lines::listed_lines;
-use crate::calls::steps::step_again;
-use crate::calls::sweeps::{NO_PAIRS, given_pairs};
-use crate::calls::{FrozenTable, Table};
 use crate::request::read_call;
 use crate::tries::names::NO_NAME;
 use crate::tries::{NamedFrozen, Tries};
 use frozen_trie::{FrozenTrie, SortedWhy, freeze, frozen_copy};
 use radix_trie::{BuildError, Memory, Refused, Trie};
+use shell_calls::Table;
+use shell_calls::edits::OTHER;
+use shell_calls::lines::listed_lines;
+use shell_calls::steps::step_again;
+use shell_calls::sweeps::{NO_PAIRS, given_pairs};
 use shell_words::{Answer, Key, Words};
 use std::mem;
 
@@ -193,9 +194,9 @@ fn unsorted_line<'a>(
     }
 }
 
-/// The trie of a frozen one's pairs. Where that is refused it is told of, and the pairs that are left
-/// are stored in the trie of the others, as the call would have done. Where this is refused too, the
-/// session ends: neither trie is whole then.
+/// The trie of a frozen one's pairs. Where that is refused it is told of, and the pairs that are
+/// left are stored in the trie of the others, as the call would have done. Where this is refused
+/// too, the session ends: neither trie is whole then.
 fn thawed(frozen: FrozenTable, answer: &mut Answer<'_>) -> Result<Table, Memory> {
     match frozen.thaw() {
         Ok(trie) => Ok(trie),

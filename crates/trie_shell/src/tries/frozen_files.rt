@@ -81,8 +81,8 @@ impl Tries {
         outcome
     }
 
-    /// Makes the frozen trie of a name of a file. Where memory is refused the call is made once more,
-    /// but for a stream, which can't be read again.
+    /// Makes the frozen trie of a name of a file. Where memory is refused the call is made once
+    /// more, but for a stream, which can't be read again.
     fn read<F: Files>(
         &mut self,
         name: &str,

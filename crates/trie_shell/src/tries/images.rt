@@ -20,7 +20,8 @@ pub(super) fn write_image(texts: &FrozenTexts<u64>, alloc: Global) -> Result<Vec
     }
 }
 
-/// The pairs of the image that the reader brings up to its end. What begins as none is read no further.
+/// The pairs of the image that the reader brings up to its end. What begins as none is read no
+/// further.
 pub(super) fn read_image<R: Read>(
     alloc: Global,
     input: &mut R,

@@ -1,9 +1,9 @@
 //! Tries by their names.
 
-use crate::calls::Table;
-use crate::calls::sets::answer_sides;
 use crate::tries::{NamedTrie, Tries};
 use radix_trie::{GraftWhy, Memory, Trie, TrieError};
+use shell_calls::Table;
+use shell_calls::sets::answer_sides;
 use shell_words::{Answer, Key, NO_KEY};
 use std::mem;
 

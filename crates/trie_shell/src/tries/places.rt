@@ -1,10 +1,10 @@
 //! Views that are opened and left, and a picture of all that a refused call may not change.
 
-use crate::calls::common::answer_common;
-use crate::calls::lines::footprint_line;
 use crate::calls::views::CLOSED;
 use crate::tries::{Spot, Tries, answer_at};
 use radix_trie::{Memory, Nibblet, OpenError, TrieCommon};
+use shell_calls::common::answer_common;
+use shell_calls::lines::footprint_line;
 use shell_words::{Answer, Key, NO_KEY, NONE, Words};
 
 /// The calls whose answers a refused call in a view may not change.
@@ -82,8 +82,8 @@ impl Tries {
         }
     }
 
-    /// Adds the walk, the length and the footprint of the current trie, the pairs of the frozen ones,
-    /// and path, fragment and walk of the open view.
+    /// Adds the walk, the length and the footprint of the current trie, the pairs of the frozen
+    /// ones, and path, fragment and walk of the open view.
     pub fn picture(&mut self, picture: &mut Answer<'_>) -> Result<(), Memory> {
         for call in ["iter", "len"] {
             picture.read_on(Words::named(call));

@@ -57,7 +57,8 @@ fn write_or_store<K: TrieKey + Drop, V: Drop>(
     Ok(())
 }
 
-/// Whether the trie holds these pairs and no other, in a canonical tree with these counts of nodes and of nibbles.
+/// Whether the trie holds these pairs and no other, in a canonical tree with these counts of nodes
+/// and of nibbles.
 fn is_left(trie: &Texts, pairs: &[(&'static str, u64)], footprint: (u128, u128)) -> bool {
     holds(trie, pairs) && trie.footprint() == footprint
 }

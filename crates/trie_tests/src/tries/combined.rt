@@ -20,7 +20,8 @@ fn check_pairs(
     Ok(())
 }
 
-/// Of a key of both the first trie's pair is given, also where a path ends within a fragment of the other trie.
+/// Of a key of both the first trie's pair is given, also where a path ends within a fragment of the
+/// other trie.
 #[test]
 fn first_pair_is_given(rt: HostRuntime) -> Result<(), TrieError> {
     let first = texts(rt.alloc(), &[("tea", 1), ("team", 2), ("ten", 3)])?;

@@ -1,4 +1,5 @@
-//! Networks in a file: how many bits the addresses share, and then the bytes of the base, the highest first.
+//! Networks in a file: how many bits the addresses share, and then the bytes of the base, the
+//! highest first.
 ghost use Rattle.std.specs.Prelude.{◌≡◌, ◌∷◌};
 ghost use Rattle.std.specs.Net.Addr.{ipv4_bits, ipv4_octets, ipv6_bits, ipv6_octets};
 ghost use Rattle.std.specs.declared.net.ipv6_addr.Ipv6Addr.{Ipv6Addr};

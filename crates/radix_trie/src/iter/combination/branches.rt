@@ -89,7 +89,8 @@ impl<'a, K, V> Branch<'a, K, V> {
         }
     }
 
-    /// What is left at and below the first node, and what is left beside it: no pair where there is no node.
+    /// What is left at and below the first node, and what is left beside it: no pair where there is
+    /// no node.
     fn enter(&self) -> (Branch<'a, K, V>, Branch<'a, K, V>)
         requires { IsPlaced 0 (row_of_branch self.now) }
         ensures cut { IsCutOff (length (lead (row_of_branch self.now))) (row_of_branch self.now)
@@ -108,7 +109,8 @@ impl<'a, K, V> Branch<'a, K, V> {
         (Branch::over(node), beside)
     }
 
-    /// What is left of the first node's branch so many nibbles below the path, at least one, and what is left beside that node.
+    /// What is left of the first node's branch so many nibbles below the path, at least one, and
+    /// what is left beside that node.
     fn cut(&self, nibbles: usize) -> (Branch<'a, K, V>, Branch<'a, K, V>)
         requires placed { IsPlaced 0 (row_of_branch self.now) }
         requires some { 0 < nibbles }
@@ -138,8 +140,8 @@ impl<'a, K, V> Branch<'a, K, V> {
 }
 
 impl<'a, K, V> Branches<'a, K, V> {
-    /// Parts what lies below the lowest next nibble from what lies beside it: None where no node is left. The branches have
-    /// no pairs of their own.
+    /// Parts what lies below the lowest next nibble from what lies beside it: None where no node is
+    /// left. The branches have no pairs of their own.
     pub(super) fn part(&self) -> Option<(Branches<'a, K, V>, Branches<'a, K, V>)>
         requires first { self.now.first.own ≡ None }
         requires second { self.now.second.own ≡ None }
@@ -203,8 +205,9 @@ fn next_turn<K, V>(first: &Branch<K, V>, second: &Branch<K, V>) -> Turn
     }
 }
 
-/// How many nibbles two fragments share from one place of each on, where the next nibble is the same, or fewer: where both
-/// places lie within the fragments the next one alone, since two branches that were parted there have no more in common.
+/// How many nibbles two fragments share from one place of each on, where the next nibble is the
+/// same, or fewer: where both places lie within the fragments the next one alone, since two
+/// branches that were parted there have no more in common.
 fn shared(fragment: &Nibblet, from: usize, other: &Nibblet, at: usize) -> usize
     requires from { from < length fragment.now }
     requires at { at < length other.now }

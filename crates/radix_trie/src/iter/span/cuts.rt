@@ -57,8 +57,9 @@ pub(super) fn own_within<'a, K, V>(
     }
 }
 
-/// How many children of a node come before a bound, and from which on they come after it. Between these is at most the one that
-/// the bound goes on to, with how many nibbles lie behind it. Without a bound the cut is at `most`.
+/// How many children of a node come before a bound, and from which on they come after it. Between
+/// these is at most the one that the bound goes on to, with how many nibbles lie behind it. Without
+/// a bound the cut is at `most`.
 pub(super) fn cut<'a, K, V>(
     node: &'a TrieNode<K, V>,
     bound: Bound<&Nibblet>,

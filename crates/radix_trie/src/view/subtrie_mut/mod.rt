@@ -34,11 +34,12 @@ fn value_behind<'s, 'a, K: TrieKey, V>(
     trie.at_mut(list)
 }
 
-// The parameter `P` lets a caller's proof follow the trie past the view's end; it is always `Nibblet`.
+// The parameter `P` lets a caller's proof follow the trie past the view's end; it is always
+// `Nibblet`.
 /// A view for writing: a trie, and a path in it, at which a point stood when the view was made.
 ///
-/// Its calls are the trie's own, for the keys whose encodings the path is a prefix of. It stays usable where its path is no
-/// longer a point, as after the removal of its own pair.
+/// Its calls are the trie's own, for the keys whose encodings the path is a prefix of. It stays
+/// usable where its path is no longer a point, as after the removal of its own pair.
 pub struct SubTrieMut<'a, K: TrieKey, V, P = Nibblet> {
     pub(crate) trie: &'a mut Trie<K, V>,
     pub(crate) path: P,
@@ -120,7 +121,8 @@ impl<'a, K: TrieKey, V> SubTrieMut<'a, K, V> {
 
     /// The value at the path, for writing, if one is stored there. It allocates nothing.
     ///
-    /// Once the value has been written, the view's map has it at the path, and all else is as before.
+    /// Once the value has been written, the view's map has it at the path, and all else is as
+    /// before.
     pub fn value_mut(&mut self) -> Option<&mut V>
         ensures* writes_back { sem 𝓛
             (lends_own K.row V.row K.TrieKey.own K.PartialEq.own self.entry result) }

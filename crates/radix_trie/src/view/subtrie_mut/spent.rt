@@ -17,8 +17,8 @@ use radix_keys::{Nibblet, TrieKey};
 use std::alloc::Global;
 
 impl<'a, K: TrieKey, V, P: PathList> SubTrieMut<'a, K, V, P> {
-    /// The reference to the trie that the view was made of, for as long as the trie's borrow. The view is spent, and
-    /// the trie is as the view leaves it.
+    /// The reference to the trie that the view was made of, for as long as the trie's borrow. The
+    /// view is spent, and the trie is as the view leaves it.
     pub fn into_trie(self) -> &'a mut Trie<K, V>
         ensures same_reference { result.ghost_name ≡ lender_of self.entry }
         ensures map { result.now ≡ map_behind self.entry }
@@ -88,7 +88,8 @@ impl<'a, K: TrieKey, V, P: PathList> SubTrieMut<'a, K, V, P> {
         value_within(parts.0, parts.1)
     }
 
-    /// The first pair at and below the path, in the order of the encodings, if there is one. The view is spent.
+    /// The first pair at and below the path, in the order of the encodings, if there is one. The
+    /// view is spent.
     pub fn first_key_value(self) -> Option<(&'a K, &'a V)>
         ensures* kept { sem 𝓛
             (stays_as K.row V.row K.TrieKey.own K.PartialEq.own (lender_of self.entry)
@@ -100,7 +101,8 @@ impl<'a, K: TrieKey, V, P: PathList> SubTrieMut<'a, K, V, P> {
         first_within(parts.0, parts.1)
     }
 
-    /// The last pair at and below the path, in the order of the encodings, if there is one. The view is spent.
+    /// The last pair at and below the path, in the order of the encodings, if there is one. The
+    /// view is spent.
     pub fn last_key_value(self) -> Option<(&'a K, &'a V)>
         ensures* kept { sem 𝓛
             (stays_as K.row V.row K.TrieKey.own K.PartialEq.own (lender_of self.entry)

@@ -1,6 +1,6 @@
 use Rattle.std.proofs.Common.{◌∙◌, ap, inr, sym, ℕ, List, ◌++◌}
 use Rattle.trie_shell.specs.Asked.{asked}
-use Rattle.trie_shell.proofs.RequestLemmas.{OnErr-error, OnOk-no_error}
+use Rattle.shell_calls.proofs.ResultLemmas.{OnErr-error, OnOk-no_error}
 use Rattle.trie_shell.proofs.SessionLemmas.{left_to, replied_to}
 use Rattle.trie_shell.proofs.engine.Shell.answer.Goals as goal
 

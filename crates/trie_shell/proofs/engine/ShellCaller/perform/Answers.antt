@@ -1,7 +1,7 @@
 use Rattle.std.proofs.Common.{subst}
 use Rattle.trie_shell.specs.Answers.{Halts, MakesText}
 use Rattle.trie_shell.specs.Sessions.{State, state_of}
-use Rattle.trie_shell.proofs.RequestLemmas.{OnErr-all}
+use Rattle.shell_calls.proofs.ResultLemmas.{OnErr-all}
 use Rattle.trie_shell.proofs.SessionLemmas.{made, stopped}
 use Rattle.trie_shell.proofs.engine.ShellCaller.perform.Goals as goal
 

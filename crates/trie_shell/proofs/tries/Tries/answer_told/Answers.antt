@@ -1,4 +1,4 @@
-use Rattle.trie_shell.proofs.RequestLemmas.{IfOk-then}
+use Rattle.shell_calls.proofs.ResultLemmas.{IfOk-then}
 use Rattle.trie_shell.proofs.tries.Tries.answer_told.Goals as goal
 
 pub returns-then-is_empty-clause-passed : goal.returns-then-is_empty-clause-passed

@@ -1,0 +1,2 @@
+-- What calls of a trie of texts answer.
+pub mod Answers

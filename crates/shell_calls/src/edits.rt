@@ -1,0 +1,246 @@
+//! Changes that tries and views for writing have in common, and what their answers are made of.
+ghost use Rattle.std.specs.Prelude.{◌≡◌, ◌≢◌, ◌⊎◌, ℕ, List, [], ◌++◌, IsTrue, OnErr, OnOk};
+ghost use Rattle.shell_words.specs.Answers.{gap, value_line};
+ghost use Rattle.shell_calls.specs.Answers.{TellsValue, StoresNumber, IsReread, TakesValue};
+
+use crate::lines::listed_lines;
+use radix_trie::{
+    FindError, InsertError, InsertWhy, Memory, Refused, SubTrieError, TrieEdit, TryInsertWhy,
+};
+use shell_words::{Answer, Key, Kind, NO_KEY, NO_NUMBER, NONE};
+
+/// What is answered where a call that was refused hands another pair back.
+pub const OTHER: &'static str = "another pair came back";
+
+/// A pair that is to be stored: the word that writes its key, and the value.
+#[derive(Clone, Copy)]
+pub struct Given<'a> {
+    pub word: &'a str,
+    pub value: u64,
+}
+
+/// What an insertion answers: the old value, or why it was refused. Where memory was, key and value
+/// have come back.
+pub fn insert_line(
+    answer: &mut Answer<'_>,
+    given: Given<'_>,
+    outcome: Result<Option<u64>, InsertError<Key, u64>>,
+) -> Result<(), Memory> {
+    match outcome {
+        Ok(old) => answer.value_line(old),
+        Err(error) => refused_line(answer, given, error),
+    }
+}
+
+/// What a refused insertion answers.
+pub fn refused_line(
+    answer: &mut Answer<'_>,
+    given: Given<'_>,
+    error: InsertError<Key, u64>,
+) -> Result<(), Memory>
+    ensures told { OnOk result (error.why ≢ InsertWhy.Memory) }
+    ensures undone { OnErr result ((answer.new ≡ answer.old) ⊎ IsTrue answer.new.is_lost) }
+{
+    note_pair(answer, given, &error.key, error.value)?;
+    match error.why {
+        InsertWhy::Memory => Err(Memory),
+        _ if answer.is_other() => answer.refuse(OTHER),
+        InsertWhy::Full => answer.refuse("full"),
+        InsertWhy::Outside => answer.refuse("outside"),
+    }
+}
+
+/// What an insertion that replaces nothing answers.
+pub fn try_insert_line(
+    answer: &mut Answer<'_>,
+    given: Given<'_>,
+    outcome: Result<(), Refused<TryInsertWhy, (Key, u64)>>,
+) -> Result<(), Memory> {
+    let Err(error) = outcome else {
+        return answer.line("ok");
+    };
+    note_pair(answer, given, &error.back.0, error.back.1)?;
+    match error.why {
+        TryInsertWhy::Memory => Err(Memory),
+        _ if answer.is_other() => answer.refuse(OTHER),
+        TryInsertWhy::Full => answer.refuse("full"),
+        TryInsertWhy::Occupied => answer.refuse("occupied"),
+    }
+}
+
+/// Notes where another pair came back than was given.
+pub fn note_pair(
+    answer: &mut Answer<'_>,
+    given: Given<'_>,
+    key: &Key,
+    value: u64,
+) -> Result<(), Memory>
+    ensures { answer.new ≡ answer.old }
+{
+    let read = match Key::read(answer.kind(), answer.alloc(), given.word) {
+        Ok(read) => read,
+        Err(_) => Key::read(answer.kind(), answer.alloc(), given.word)?,
+    };
+    if value != given.value || !read.is_some_and(|it| it == *key) {
+        answer.note_other();
+    }
+    Ok(())
+}
+
+/// A change that tries and views for writing have in common, and the look-up that they have. False:
+/// the call is none.
+pub fn answer_change<T: TrieEdit<Key, u64>>(
+    of: &mut T,
+    answer: &mut Answer<'_>,
+) -> Result<bool, Memory> {
+    match answer.name() {
+        "insert" => answer_insert(of, answer)?,
+        "get" => answer_get(of, answer)?,
+        "remove" => answer_remove(of, answer)?,
+        "remove_prefix" => match answer.next_query()? {
+            Some(key) => match of.remove_prefix(&key) {
+                Ok(taken) => listed_lines(answer, taken.as_slice())?,
+                Err(error) => outside_line(answer, error)?,
+            },
+            None => answer.refuse(NO_KEY)?,
+        },
+        "for_each_mut" => match key_and_number(answer)? {
+            Some((other, added)) => {
+                of.for_each_mut(|key: &Key, value: &mut u64| {
+                    add_unless(key, value, &other, added)
+                });
+                answer.line("ok")?
+            }
+            None => {}
+        },
+        "retain" => match answer.next_number() {
+            Some(least) => {
+                of.retain(|_: &Key, value: &u64| *value >= least)?;
+                answer.line("ok")?
+            }
+            None => answer.refuse(NO_NUMBER)?,
+        },
+        _ => return Ok(false),
+    }
+    Ok(true)
+}
+
+/// Stores the pair that the next words write. The answer is the old value.
+pub fn answer_insert<T: TrieEdit<Key, u64>>(
+    of: &mut T,
+    answer: &mut Answer<'_>,
+) -> Result<(), Memory>
+    ensures inserted { OnOk result (answer.old.kind ≡ Kind.Text → T.path of.old ≡ []
+        → StoresNumber answer.old answer.new.bytes (T.map of.old) (T.map of.new)) }
+    ensures undone { OnErr result (IsTrue answer.new.is_lost
+        ⊎ ((T.map of.new ≡ T.map of.old) × IsReread answer.old answer.new)) }
+    ensures left { OnErr result ((T.map of.new ≡ T.map of.old) ⊎ ((bytes : List ℕ)
+        × (answer.old.kind ≡ Kind.Text → T.path of.old ≡ []
+        → StoresNumber answer.old bytes (T.map of.old) (T.map of.new)))) }
+{
+    let word = answer.words().next().unwrap_or("");
+    match (answer.next_key()?, answer.next_number()) {
+        (Some(key), Some(value)) => match of.insert(key, value) {
+            Ok(old) => answer.value_line(old),
+            Err(error) => refused_line(answer, Given { word, value }, error),
+        },
+        (Some(_), None) => answer.refuse(NO_NUMBER),
+        (None, _) => answer.refuse(NO_KEY),
+    }
+}
+
+/// Looks up what the next word writes. The answer is the value.
+pub fn answer_get<T: TrieEdit<Key, u64>>(of: &mut T, answer: &mut Answer<'_>) -> Result<(), Memory>
+    ensures got { OnOk result (answer.old.kind ≡ Kind.Text → T.path of.old ≡ []
+        → TellsValue answer.old answer.new.bytes (T.map of.old) (T.map of.new)) }
+    ensures undone { OnErr result (IsTrue answer.new.is_lost
+        ⊎ ((T.map of.new ≡ T.map of.old) × IsReread answer.old answer.new)) }
+    ensures kept { OnErr result (T.map of.new ≡ T.map of.old) }
+{
+    let Some(key) = answer.next_query()? else {
+        return answer.refuse(NO_KEY);
+    };
+    match of.get(&key) {
+        Ok(value) => answer.value_line(value.copied()),
+        Err(error) => outside_line(answer, error),
+    }
+}
+
+/// Removes what the next word writes. The answer is the value.
+pub fn answer_remove<T: TrieEdit<Key, u64>>(
+    of: &mut T,
+    answer: &mut Answer<'_>,
+) -> Result<(), Memory>
+    ensures removed { OnOk result (answer.old.kind ≡ Kind.Text → T.path of.old ≡ []
+        → TakesValue answer.old answer.new.bytes (T.map of.old) (T.map of.new)) }
+    ensures undone { OnErr result (IsTrue answer.new.is_lost
+        ⊎ ((T.map of.new ≡ T.map of.old) × IsReread answer.old answer.new)) }
+    ensures left { OnErr result ((T.map of.new ≡ T.map of.old) ⊎ ((bytes : List ℕ)
+        × (answer.old.kind ≡ Kind.Text → T.path of.old ≡ []
+        → TakesValue answer.old bytes (T.map of.old) (T.map of.new)))) }
+{
+    let Some(key) = answer.next_query()? else {
+        return answer.refuse(NO_KEY);
+    };
+    match of.remove(&key) {
+        Ok(value) => answer.value_line(value),
+        Err(error) => outside_line(answer, error),
+    }
+}
+
+/// That the key is outside, or that memory was refused.
+pub fn outside_line(answer: &mut Answer<'_>, error: SubTrieError) -> Result<(), Memory>
+    ensures told { OnOk result (error ≡ SubTrieError.Outside) }
+    ensures undone { OnErr result ((answer.new ≡ answer.old) ⊎ IsTrue answer.new.is_lost) }
+{
+    match error {
+        SubTrieError::Outside => answer.refuse("outside"),
+        SubTrieError::Memory => Err(Memory),
+    }
+}
+
+/// Adds the number to the value, where its key isn't the other one.
+pub fn add_unless(key: &Key, value: &mut u64, other: &Key, added: u64) {
+    if !(key == other) {
+        *value = value.wrapping_add(added);
+    }
+}
+
+/// The key and the number that the next words write. None: the answer says what is missing.
+pub fn key_and_number(answer: &mut Answer<'_>) -> Result<Option<(Key, u64)>, Memory> {
+    match (answer.next_key()?, answer.next_number()) {
+        (Some(key), Some(number)) => return Ok(Some((key, number))),
+        (Some(_), None) => answer.refuse(NO_NUMBER)?,
+        (None, _) => answer.refuse(NO_KEY)?,
+    }
+    Ok(None)
+}
+
+/// Writes the number of the next word where a value was found. The answer is the old value.
+pub fn written_or_absent(
+    answer: &mut Answer<'_>,
+    found: Result<&mut u64, FindError>,
+) -> Result<(), Memory> {
+    match found {
+        Ok(value) => written_or_none(answer, Some(value)),
+        Err(FindError::Absent) => match answer.next_number() {
+            Some(_) => answer.refuse("absent"),
+            None => answer.refuse(NO_NUMBER),
+        },
+        Err(FindError::Memory) => Err(Memory),
+    }
+}
+
+/// Writes the number of the next word where the value stands, if it stands. The answer is the old
+/// value.
+pub fn written_or_none(answer: &mut Answer<'_>, value: Option<&mut u64>) -> Result<(), Memory> {
+    let Some(number) = answer.next_number() else {
+        return answer.refuse(NO_NUMBER);
+    };
+    let Some(value) = value else {
+        return answer.line(NONE);
+    };
+    let old = *value;
+    *value = number;
+    answer.value_line(Some(old))
+}

@@ -1,0 +1,168 @@
+//! Lists of commands, and their replies.
+
+use crate::Table;
+use crate::lines::none_line;
+use radix_trie::{Command, Memory, Reply, ViewCommand, run};
+use shell_words::{Answer, Key};
+use std::mem;
+
+/// The commands that were read, and those of a view that are being read.
+#[derive(Drop)]
+struct List {
+    commands: Vec<Command<Key, u64>>,
+    inner: Option<(Key, Vec<ViewCommand<Key, u64>>)>,
+}
+
+/// A command that tries and views have, of this name.
+fn view_command(
+    name: &str,
+    answer: &mut Answer<'_>,
+) -> Result<Option<ViewCommand<Key, u64>>, Memory> {
+    if name == "len" {
+        return Ok(Some(ViewCommand::Len));
+    }
+    let Some(key) = answer.next_key()? else {
+        return Ok(None);
+    };
+    Ok(match name {
+        "insert" => answer
+            .next_number()
+            .map(|number| ViewCommand::Insert(key, number)),
+        "remove" => Some(ViewCommand::Remove(key)),
+        "remove_prefix" => Some(ViewCommand::RemovePrefix(key)),
+        "get" => Some(ViewCommand::Get(key)),
+        _ => None,
+    })
+}
+
+/// The same command of a trie.
+fn of_trie(command: ViewCommand<Key, u64>) -> Command<Key, u64> {
+    match command {
+        ViewCommand::Insert(key, value) => Command::Insert(key, value),
+        ViewCommand::Remove(key) => Command::Remove(key),
+        ViewCommand::RemovePrefix(key) => Command::RemovePrefix(key),
+        ViewCommand::Get(key) => Command::Get(key),
+        ViewCommand::Len => Command::Len,
+    }
+}
+
+impl List {
+    /// Adds the command of this name, whose key and value are the next words. False: they are none
+    /// of a command.
+    fn add(&mut self, name: &str, answer: &mut Answer<'_>) -> Result<bool, Memory> {
+        if let "within" | "ancestor" = name
+            && self.inner.is_some()
+        {
+            return Ok(false);
+        }
+        match name {
+            "end" => match mem::replace(&mut self.inner, None) {
+                Some((key, list)) => self.commands.push(Command::Within(key, list))?,
+                None => return Ok(false),
+            },
+            "within" | "ancestor" => match (answer.next_key()?, name) {
+                (Some(key), "within") => self.inner = Some((key, Vec::new(answer.alloc()))),
+                (Some(key), _) => self.commands.push(Command::Ancestor(key))?,
+                (None, _) => return Ok(false),
+            },
+            _ => match (view_command(name, answer)?, &mut self.inner) {
+                (Some(command), Some((_, list))) => list.push(command)?,
+                (Some(command), None) => self.commands.push(of_trie(command))?,
+                (None, _) => return Ok(false),
+            },
+        }
+        Ok(true)
+    }
+}
+
+/// The commands that the words write, if they write commands.
+fn commands_of(answer: &mut Answer<'_>) -> Result<Option<Vec<Command<Key, u64>>>, Memory> {
+    let mut list = List {
+        commands: Vec::new(answer.alloc()),
+        inner: None,
+    };
+    for _ in 0..answer.left() {
+        let Some(name) = answer.next_word() else {
+            break;
+        };
+        if !list.add(name, answer)? {
+            return Ok(None);
+        }
+    }
+    Ok(if list.inner.is_none() {
+        Some(list.commands)
+    } else {
+        None
+    })
+}
+
+/// The line of a reply that has no replies of its own. False: memory was refused.
+fn add_reply(answer: &mut Answer<'_>, reply: &Reply<u64>) -> Result<bool, Memory> {
+    match reply {
+        Reply::Old(value) => {
+            answer.word("old")?;
+            answer.value_line(*value)?;
+        }
+        Reply::Found(value) => {
+            answer.word("found")?;
+            answer.value_line(*value)?;
+        }
+        Reply::Gone(values) => {
+            answer.word("gone")?;
+            for value in values.as_slice() {
+                answer.number(*value as u128)?;
+            }
+            answer.end()?;
+        }
+        Reply::Number(count) => answer.count_line(*count)?,
+        Reply::Closed => answer.line("closed")?,
+        Reply::Outside => answer.line("outside")?,
+        Reply::Replies(_) => answer.line("replies")?,
+        Reply::Refused => return Ok(false),
+    }
+    Ok(true)
+}
+
+/// The lines of replies. False: memory was refused for one of them.
+fn add_replies(answer: &mut Answer<'_>, replies: &[Reply<u64>]) -> Result<bool, Memory> {
+    for reply in replies {
+        if !add_reply(answer, reply)? {
+            return Ok(false);
+        }
+        if let Reply::Replies(list) = reply {
+            for inner in list.as_slice() {
+                if !add_reply(answer, inner)? {
+                    return Ok(false);
+                }
+            }
+            answer.line("end")?;
+        }
+    }
+    Ok(true)
+}
+
+/// Runs the commands that the words write. Where one of them is refused, the trie becomes again
+/// what it was before.
+pub fn answer_run(trie: &mut Table, answer: &mut Answer<'_>) -> Result<(), Memory> {
+    let (length, words) = (answer.len(), answer.words());
+    let commands = match commands_of(answer) {
+        Ok(commands) => commands,
+        Err(_) => {
+            answer.return_to(length, words);
+            commands_of(answer)?
+        }
+    };
+    let Some(commands) = commands else {
+        return answer.refuse("no commands");
+    };
+    let before = match trie.clone() {
+        Ok(before) => before,
+        Err(_) => trie.clone()?,
+    };
+    let replies = run(trie, commands)?;
+    if add_replies(answer, replies.as_slice())? {
+        return none_line(answer, replies.is_empty());
+    }
+    *trie = before;
+    Err(Memory)
+}

@@ -3,6 +3,8 @@
 #![tactic(auto)]
 
 #[cfg(test)]
+mod doc_examples;
+#[cfg(test)]
 mod frozen;
 #[cfg(test)]
 mod maps;

@@ -28,6 +28,8 @@ mod counters;
 #[cfg(test)]
 mod dictionary;
 #[cfg(test)]
+mod doc_examples;
+#[cfg(test)]
 mod either;
 #[cfg(test)]
 mod first;

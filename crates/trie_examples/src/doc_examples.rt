@@ -4,7 +4,7 @@ use anyhow::{Result, bail};
 use frozen_routes::FrozenRoutes;
 use frozen_trie::{FrozenTexts, FrozenTrie, freeze};
 use prefix_maps::{first_below, lookup};
-use radix_trie::{Bits, Ipv4Network, Network, Parts, Trie, TrieKey};
+use radix_trie::{Bits, Ipv4Network, Network, Parts, Trie, TrieCommon, TrieKey};
 use std::net::Ipv4Addr;
 use topic_filters::{is_filter, is_topic};
 use trie_set::TrieSet;
@@ -48,6 +48,40 @@ fn parts_of_paths(rt: HostRuntime) -> Result<()> {
     sizes.insert(Parts::of_path(alloc, "/home/ann", b'/')?, 7)?;
     assert!(rt; sizes.count_below(&Parts::of_path(alloc, "/home", b'/')?)? == 1);
     assert!(rt; sizes.count_below(&Parts::of_path(alloc, "/ho", b'/')?)? == 0);
+    Ok(())
+}
+
+/// A log is made of its lines, and those between two times are read.
+#[test]
+fn lines_of_a_log(rt: HostRuntime) -> Result<()> {
+    let lines = [(1_300, "asked"), (1_200, "opened"), (1_250, "read")];
+    let log: Trie<u64, &'static str> = Trie::from_iter(rt.alloc(), lines.iter().copied())?;
+    let mut walk = log.range(1_201..1_300u64)?;
+    assert!(rt; walk.next()? == Some((&1_250, &"read")) && walk.next()?.is_none());
+    Ok(())
+}
+
+/// A view for writing stores what lies below its path, and nothing else.
+#[test]
+fn names_below(rt: HostRuntime) -> Result<()> {
+    let mut names: Trie<&'static str, u64> = Trie::new(rt.alloc());
+    names.insert("tea", 1)?;
+    let mut view = names.open_mut(&"tea")?;
+    assert!(rt; matches!(view.insert("team", 2), Ok(None)) && view.insert("inn", 3).is_err());
+    drop(view);
+    assert!(rt; names.get(&"team")? == Some(&2) && names.len() == 2);
+    Ok(())
+}
+
+/// The limits of all folders above a path are read, the widest folder first.
+#[test]
+fn limits_above(rt: HostRuntime) -> Result<()> {
+    let mut limits: Trie<&'static str, u64> = Trie::new(rt.alloc());
+    limits.insert("/", 10)?;
+    limits.insert("/home/", 20)?;
+    let mut above = limits.common_prefixes(&"/home/ann/")?;
+    assert!(rt; above.next() == Some((&"/", &10)) && above.next() == Some((&"/home/", &20)));
+    assert!(rt; limits.get_ancestor_value(&"/home/ann/")? == Some(&20));
     Ok(())
 }
 

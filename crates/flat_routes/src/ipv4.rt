@@ -120,6 +120,24 @@ pub fn row_at(image: &[u8], at: usize) -> Option<Row>
 /// It takes as many comparisons as the rows of the address's block have binary digits, and a step
 /// for each network around the last one that begins at or before it, until one holds it. Of bytes
 /// that are no image it returns None or the index of some row.
+///
+/// # Examples
+///
+/// ```
+/// let mut image = [0u8; 104];
+/// let rows = [ipv4::Row {
+///     first: 0x0a00_0000,
+///     bits: 8,
+///     link: 0,
+///     value: 7,
+/// }];
+/// assert!(rt; ipv4::write(&rows, &[], &mut image).is_ok() && ipv4::is_image(&image));
+/// assert!(rt; ipv4::look(&image, 0x0a01_0203) == Some(0));
+/// assert!(rt; ipv4::row_at(&image, 0).is_some_and(|row| row.value == 7));
+/// ```
+///
+/// `image_of_one_network` in `crates/table_tests/src/doc_examples.rt` writes an image, and looks an
+/// address up.
 pub fn look(image: &[u8], address: u32) -> Option<usize>
     ensures within { IfSome result (λ at. at < row_count image.now) }
     ensures row { IsImage of_ipv4 image.now → IsLongestRow 32 (λ n. n)

@@ -130,6 +130,25 @@ pub fn row_at(image: &[u8], at: usize) -> Option<Row>
 /// It takes as many comparisons as the rows of the address's block have binary digits, and a step
 /// for each network around the last one that begins at or before it, until one holds it. Of bytes
 /// that are no image it returns None or the index of some row.
+///
+/// # Examples
+///
+/// ```
+/// let first = (0x2001_0db8u128 << 96).to_be_bytes();
+/// let mut image = [0u8; 120];
+/// let rows = [ipv6::Row {
+///     first,
+///     bits: 32,
+///     link: 0,
+///     value: 7,
+/// }];
+/// assert!(rt; ipv6::write(&rows, &[], &mut image).is_ok() && ipv6::is_image(&image));
+/// assert!(rt; ipv6::look(&image, (0x2001_0db8 << 96) + 1) == Some(0));
+/// assert!(rt; ipv6::row_at(&image, 0).is_some_and(|row| row.value == 7));
+/// ```
+///
+/// `image_of_one_wide_network` in `crates/table_tests/src/doc_examples.rt` writes an image, and
+/// looks an address up.
 pub fn look(image: &[u8], address: u128) -> Option<usize>
     ensures within { IfSome result (λ at. at < row_count image.now) }
     ensures row { IsImage of_ipv6 image.now → IsLongestRow 128 (λ n. n)

@@ -21,6 +21,20 @@ use std::alloc::Global;
 ///
 /// `Odd`: the encoding of a key has an odd count of nibbles. `Memory`: memory is refused, or the
 /// encodings together take 2^31 bytes or more.
+///
+/// # Examples
+///
+/// ```
+/// let mut codes: FrozenTrie<u16, u64> = FrozenTrie::new(rt.alloc());
+/// codes.push(7, 1)?;
+/// let image = flat_tries::to_image(rt.alloc(), &codes, &[])?;
+/// let Ok(again) = flat_tries::from_image::<u16>(rt.alloc(), &image) else {
+///     bail!("the image is whole");
+/// };
+/// assert!(rt; again.get(&7u16)? == Some(&1));
+/// ```
+///
+/// `image_of_a_trie` in `crates/table_tests/src/doc_examples.rt` makes an image, and reads it back.
 pub fn to_image<K: TrieKey + Drop>(
     alloc: Global,
     trie: &FrozenTrie<K, u64>,

@@ -20,6 +20,20 @@ use std::alloc::Global;
 /// The trie holds 2^32 networks or more. Memory is refused, for the rows or for what the table has
 /// beside them. The trie comes back as it was: the values are moved last. Of no network the call
 /// never fails.
+///
+/// # Examples
+///
+/// ```
+/// let mut hops: Trie<Ipv4Network, u32> = Trie::new(rt.alloc());
+/// hops.insert("10.0.0.0/8".parse()?, 1)?;
+/// let routes = freeze(hops)?;
+/// let found = routes.longest_match(&Ipv4Addr::from_bits(0x0a01_0203));
+/// assert!(rt; found.is_some_and(|(_, hop)| *hop == 1));
+/// assert!(rt; thaw(rt.alloc(), routes)?.len() == 1);
+/// ```
+///
+/// `networks_there_and_back` in `crates/table_tests/src/doc_examples.rt` freezes a trie of
+/// networks, and thaws it.
 pub fn freeze<A: Address, V: Drop>(
     trie: Trie<Network<A>, V>,
 ) -> Result<FrozenRoutes<A, V>, Refused<BuildError, Trie<Network<A>, V>>>
@@ -76,6 +90,20 @@ fn each_is_network<A: Address, V>(rows: &[(Network<A>, V)])
 /// Memory is refused, for a node of the trie or a network's bits; of no row it never is. No row is
 /// lost, and none is dropped: those that are stored in the trie come back with it, and the others
 /// beside it, so that a caller can go on where the call stopped.
+///
+/// # Examples
+///
+/// ```
+/// let mut hops: Trie<Ipv4Network, u32> = Trie::new(rt.alloc());
+/// hops.insert("10.0.0.0/8".parse()?, 1)?;
+/// let routes = freeze(hops)?;
+/// let found = routes.longest_match(&Ipv4Addr::from_bits(0x0a01_0203));
+/// assert!(rt; found.is_some_and(|(_, hop)| *hop == 1));
+/// assert!(rt; thaw(rt.alloc(), routes)?.len() == 1);
+/// ```
+///
+/// `networks_there_and_back` in `crates/table_tests/src/doc_examples.rt` freezes a trie of
+/// networks, and thaws it.
 pub fn thaw<A: Address, V: Drop>(
     alloc: Global,
     routes: FrozenRoutes<A, V>,

@@ -17,6 +17,20 @@ use std::marker::Model;
 /// order of the first addresses, and of one first address the wider network first.
 ///
 /// A contract sees it as the list of its rows. A lookup allocates nothing, and none is refused.
+///
+/// # Examples
+///
+/// ```
+/// let mut routes: FrozenRoutes<Ipv4Addr, u32> = FrozenRoutes::new(rt.alloc());
+/// routes.push("10.0.0.0/8".parse()?, 1)?;
+/// routes.push("10.1.0.0/16".parse()?, 2)?;
+/// routes.finish()?;
+/// let found = routes.longest_match(&Ipv4Addr::from_bits(0x0a01_0203));
+/// assert!(rt; found.is_some_and(|(_, hop)| *hop == 2));
+/// ```
+///
+/// `appended_routes` in `crates/trie_examples/src/doc_examples.rt` appends two networks, and looks
+/// an address up.
 #[derive(Drop)]
 pub struct FrozenRoutes<A: Address, V> {
     pub(crate) rows: Vec<(Network<A>, V)>,

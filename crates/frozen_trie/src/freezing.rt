@@ -20,6 +20,19 @@ use radix_trie::{
 /// the list of them and the links, or the list of the pairs; the encodings together take less than
 /// 2^31 bytes. The trie comes back as it was: the pairs are moved last. Of no pair the call never
 /// fails.
+///
+/// # Examples
+///
+/// ```
+/// let mut words: Trie<&'static str, u64> = Trie::new(rt.alloc());
+/// words.insert("team", 2)?;
+/// words.insert("tea", 1)?;
+/// let frozen = freeze(words)?;
+/// assert!(rt; frozen.below(&"te")? == [("tea", 1), ("team", 2)].as_slice());
+/// assert!(rt; frozen.longest_match(&"teapot")? == Some((&"tea", &1)));
+/// ```
+///
+/// `frozen_words` in `crates/trie_examples/src/doc_examples.rt` freezes a trie, and reads it.
 pub fn freeze<K: TrieKey + Drop, V: Drop>(
     trie: Trie<K, V>,
 ) -> Result<FrozenTrie<K, V>, Refused<BuildError, Trie<K, V>>>

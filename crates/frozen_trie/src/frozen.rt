@@ -26,6 +26,19 @@ mod written;
 /// encoding, as a text does, or a `Nibblet`, a list of nibbles in hand. A search takes the time of
 /// as many comparisons of lists as the count of pairs has binary digits, but for the climb of
 /// `longest_match`.
+///
+/// # Examples
+///
+/// ```
+/// let mut words: FrozenTrie<&'static str, u64> = FrozenTrie::new(rt.alloc());
+/// words.push("tea", 1)?;
+/// words.push("team", 2)?;
+/// words.finish()?;
+/// assert!(rt; words.count_below(&"te")? == 2 && words.rank(&"team")? == 1);
+/// ```
+///
+/// `appended_words` in `crates/trie_examples/src/doc_examples.rt` appends words in order, and
+/// counts them.
 #[derive(Drop)]
 pub struct FrozenTrie<K: TrieKey, V> {
     /// The encodings of the pairs.

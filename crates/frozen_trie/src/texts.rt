@@ -39,6 +39,19 @@ pub use walk::Texts;
 /// that reads allocates nothing, and none is refused; a search takes the time of as many
 /// comparisons of keys as the count of pairs has binary digits, but for the climb of
 /// `longest_match`.
+///
+/// # Examples
+///
+/// ```
+/// let mut texts: FrozenTexts<u64> = FrozenTexts::new(rt.alloc());
+/// texts.push(b"tea", 1)?;
+/// texts.push(b"team", 2)?;
+/// texts.finish()?;
+/// assert!(rt; texts.longest_match(b"teapot") == Some((b"tea".as_slice(), &1)));
+/// ```
+///
+/// `appended_texts` in `crates/trie_examples/src/doc_examples.rt` appends texts, and finds the
+/// longest one that begins another.
 #[derive(Drop)]
 pub struct FrozenTexts<V> {
     /// The nibbles of the keys.

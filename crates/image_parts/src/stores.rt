@@ -15,6 +15,16 @@ pub fn put_bytes(out: &mut [u8], at: usize, bytes: &[u8])
 }
 
 /// Puts a number into the 4 bytes from a place on.
+///
+/// # Examples
+///
+/// ```
+/// let mut image = [0u8; 96];
+/// put_u32(&mut image, 88, 7);
+/// assert!(rt; u32_at(&image, 88) == 7);
+/// ```
+///
+/// `numbers_in_bytes` in `crates/table_tests/src/doc_examples.rt` puts a number in, and reads it.
 pub fn put_u32(out: &mut [u8], at: usize, number: u32)
     requires { at + 4 ≤ length out.old }
     ensures number { u32_in out.new at ≡ number }

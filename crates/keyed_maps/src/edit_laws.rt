@@ -8,6 +8,20 @@ use radix_trie::TrieKey;
 
 /// The map by keys after an insertion or a removal: at the key what was stored, or none, and at
 /// each key that doesn't equal it (`==`) what it was before.
+///
+/// # Examples
+///
+/// ```
+/// keyed_maps_follow_edits::<K, V>();
+/// let Some(value) = trie.get(from)?.copied() else {
+///     return Ok(false);
+/// };
+/// let _ = trie.insert(to, value)?;
+/// let _ = trie.remove(from)?;
+/// Ok(true)
+/// ```
+///
+/// `move_value` in `crates/trie_examples/src/by_keys/edits.rt` moves a value to another key.
 pub fn keyed_maps_follow_edits<K: TrieKey, V>()
     ensures get_empty { (k : K) → keyed_map {V = V} K.encoding map.empty k ≡ None }
     ensures get_insert_same { (m : PairMap K V) (k : K) (v : V)
@@ -40,6 +54,20 @@ pub fn equal_keys_have_one_value<K: TrieKey, V>()
 
 /// Two insertions or removals, one after the other: of one key the second alone counts, and of keys
 /// that aren't equal the order makes no difference.
+///
+/// # Examples
+///
+/// ```
+/// edits_by_key_compose::<K, V>();
+/// let _ = first.insert(one.0, one.1)?;
+/// let _ = first.insert(other.0, other.1)?;
+/// let _ = second.insert(other.0, other.1)?;
+/// let _ = second.insert(one.0, one.1)?;
+/// Ok(())
+/// ```
+///
+/// `insert_in_either_order` in `crates/trie_examples/src/by_keys/edits.rt` stores two values in
+/// either order.
 pub fn edits_by_key_compose<K: TrieKey, V>()
     ensures insert_insert { (m : PairMap K V) (k : K) (v w : V)
         → map.insert (map.insert m (K.encoding k) (k, v)) (K.encoding k) (k, w)

@@ -9,6 +9,16 @@ use radix_trie::{Trie, TrieKey, keys_stand_at_their_encodings};
 /// The value that is nearest to a list, as `Trie::get_ancestor_value` returns it, is that of a key
 /// whose encoding the list begins with; the encoding of each other such key with a value is a
 /// prefix of its encoding. If there is none, no such key has a value.
+///
+/// # Examples
+///
+/// ```
+/// keyed_maps_follow_nearest(table);
+/// Ok(table.get_ancestor_value(address)?.copied())
+/// ```
+///
+/// `next_hop` in `crates/trie_examples/src/uses.rt` finds the longest network that begins an
+/// address.
 pub fn keyed_maps_follow_nearest<K: TrieKey, V>(trie: &Trie<K, V>)
     ensures get_nearest { (e : List ℕ) (v : V) → IsValueAbove trie.now e (Some v)
         → (k : K) × IsPrefix (K.encoding k) e × (keyed_map K.encoding trie.now k ≡ Some v)

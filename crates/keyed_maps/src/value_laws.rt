@@ -9,6 +9,16 @@ use radix_trie::TrieKey;
 /// The map by keys after a value is written at a key where one is stored, as a borrowed value is
 /// and `Trie::map_with_default` writes it, and after one is written in any case, as
 /// `Trie::get_or_insert` and `Entry::or_insert` have it.
+///
+/// # Examples
+///
+/// ```
+/// keyed_maps_follow_values::<K, u64>();
+/// *counts.entry(word)?.or_insert(0)? += 1;
+/// Ok(())
+/// ```
+///
+/// `count` in `crates/trie_examples/src/tallies.rt` counts a word.
 pub fn keyed_maps_follow_values<K: TrieKey, V>()
     ensures get_written_same { (m : PairMap K V) (k : K) (v w : V)
         → keyed_map K.encoding m k ≡ Some v

@@ -74,6 +74,22 @@ pub fn is_table(width: u8, routes: &[Route]) -> bool
 /// The least list of networks that gives each address the answer of this table, of addresses of
 /// `width` bits: the hop of the longest network that holds it. An address without an answer stays
 /// without one.
+///
+/// # Examples
+///
+/// ```
+/// let low = Route {
+///     base: 0,
+///     bits: 1,
+///     hop: 7,
+/// };
+/// let routes = [low, Route { base: 128, ..low }];
+/// if is_table(8, &routes) {
+///     assert!(rt; least(rt.alloc(), 8, &routes)?.len() == 1);
+/// }
+/// ```
+///
+/// `joined_halves` in `crates/table_tests/src/doc_examples.rt` joins two halves of a network.
 pub fn least(alloc: Global, width: u8, routes: &[Route]) -> Result<Vec<Route>, AllocError>
     requires no_wider { width ≤ 128 }
     requires table { IsTable width routes.now }

@@ -79,6 +79,14 @@ pub fn serve<P: Program, R: Read, W: Write>(
 
 /// A whole run of a program: a session, and then the line on standard error that tells its fault,
 /// where there is one. Gives the status to exit with. The program's memory is left to the system.
+///
+/// # Examples
+///
+/// ```
+/// run(alloc, Numbers::new(alloc), reader, writer, errors)
+/// ```
+///
+/// `answer_all` in `crates/trie_tool/src/engine.rt` runs a program of numbers.
 pub fn run<P: Program, R: Read, W: Write, E: Write>(
     alloc: Global,
     program: P,

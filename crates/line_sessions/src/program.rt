@@ -13,6 +13,17 @@ pub enum Refusal {
 }
 
 /// A program that answers lines, one after another.
+///
+/// # Examples
+///
+/// ```
+/// let Some(command) = parse(line) else {
+///     return Err(Refusal::Bad(""));
+/// };
+/// answer(answers, self, command).map_err(|_| Refusal::Memory)
+/// ```
+///
+/// `answer` in `crates/trie_tool/src/engine.rt` answers a line that is a command.
 pub trait Program: Drop {
     // What a line is answered: the program before it, the line, the program after it, the answer.
     ghost replies: { Self → List ℕ → Self → List ℕ → Type 0 };

@@ -12,6 +12,17 @@ use std::marker::Model;
 
 /// A reader, how often it was read, how often had been written before it was last read, and whether
 /// a read has failed. No other code can set these notes.
+///
+/// # Examples
+///
+/// ```
+/// let mut reader = WatchedReader::new(rt.reader());
+/// let mut writer = WatchedWriter::new(io::writer(&rt));
+/// let mut errors = WatchedWriter::new(rt.stderr());
+/// answer_all(rt.alloc(), &mut reader, &mut writer, &mut errors)
+/// ```
+///
+/// `main` in `crates/trie_tool/src/main.rt` answers what the standard input gives.
 #[derive(Drop)]
 pub struct WatchedReader<R: Read> {
     reader: R,

@@ -13,6 +13,17 @@ use std::alloc::Global;
 /// # Errors
 ///
 /// `Memory`: an allocation fails, for the key's encoding.
+///
+/// # Examples
+///
+/// ```
+/// let mut limits: Trie<&'static str, u64> = Trie::new(rt.alloc());
+/// limits.insert("/home/", 20)?;
+/// limits.insert("/home/ann/", 30)?;
+/// assert!(rt; lookup(&limits, &"/home/bob/")? == Some(&20));
+/// ```
+///
+/// `maps_of_any_kind` in `crates/trie_examples/src/doc_examples.rt` finds what a path inherits.
 pub fn lookup<'a, Q, M: PrefixMap<'a, Q>>(map: M, key: &Q) -> Result<Option<&'a M::Value>, Memory>
     ensures value { IfOk result
         (λ found. IsValueAbove (M.map map) (M.list key.now) (option_copied found)) }
@@ -30,6 +41,19 @@ pub fn lookup<'a, Q, M: PrefixMap<'a, Q>>(map: M, key: &Q) -> Result<Option<&'a 
 /// # Errors
 ///
 /// `Memory`: an allocation fails, for the key's encoding, the walk or the list of pairs.
+///
+/// # Examples
+///
+/// ```
+/// let mut limits: Trie<&'static str, u64> = Trie::new(rt.alloc());
+/// limits.insert("/home/", 20)?;
+/// limits.insert("/home/ann/", 30)?;
+/// assert!(rt; lookup(&limits, &"/home/bob/")? == Some(&20));
+/// let page = first_below(rt.alloc(), &limits, &"/home/", 1)?;
+/// assert!(rt; page.as_slice() == [(&"/home/", &20)].as_slice());
+/// ```
+///
+/// `maps_of_any_kind` in `crates/trie_examples/src/doc_examples.rt` takes a page of one pair.
 pub fn first_below<'a, Q, M: PrefixMap<'a, Q>>(
     alloc: Global,
     map: M,

@@ -13,6 +13,17 @@ use radix_keys::Memory;
 /// It is implemented for references, so what a call returns lasts as long as the map's borrow. A
 /// contract sees the map as the finite map from the lists of nibbles that stand for keys to the
 /// pairs that are stored there, and a walk as the list of the pairs that are left.
+///
+/// # Examples
+///
+/// ```
+/// match map.longest_match(key)? {
+///     Some((_, value)) => Ok(Some(value)),
+///     None => Ok(None),
+/// }
+/// ```
+///
+/// `lookup` in `crates/prefix_maps/src/callers.rt` is written over every map.
 pub trait PrefixMap<'a, Q>: Copy {
     /// A key, as it is lent.
     type Key: Copy;

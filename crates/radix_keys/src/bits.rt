@@ -15,6 +15,18 @@ use std::marker::Model;
 
 /// A list of bits, each stored as a nibble, 0 or 1. Up to 32 are stored inline, without an
 /// allocation.
+///
+/// # Examples
+///
+/// ```
+/// let mut hops: Trie<Bits, u32> = Trie::new(alloc);
+/// hops.insert(Bits::first_of_u32(alloc, 0x0a00_0000, 8)?, 1)?;
+/// let address = Bits::first_of_u32(alloc, 0x0a01_0203, 32)?;
+/// assert!(rt; hops.get_ancestor_value(&address)? == Some(&1));
+/// ```
+///
+/// `bits_of_addresses` in `crates/trie_examples/src/doc_examples.rt` stores a hop at the first bits
+/// of an address.
 #[derive(Drop)]
 pub struct Bits {
     list: Nibblet,

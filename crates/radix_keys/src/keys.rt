@@ -42,6 +42,18 @@ pub trait TrieKey: Eq {
     /// # Errors
     ///
     /// `Memory`: an allocation fails; an inline key needs none.
+    ///
+    /// # Examples
+    ///
+    /// ```
+    /// let text = "tea".encode(rt.alloc())?;
+    /// let mut list = text.clone()?;
+    /// list.push(6)?;
+    /// assert!(rt; text.len() == 6 && list.len() == 7 && text < list);
+    /// ```
+    ///
+    /// `lists_of_texts` in `crates/trie_examples/src/doc_examples.rt` encodes a text, and adds a
+    /// nibble.
     fn encode(&self, alloc: Global) -> Result<Nibblet, Memory>
         ensures ok { IfOk result (λ v. v ≡ encoding self.now) }
         ensures value { OnOk result (is_value self.now) }

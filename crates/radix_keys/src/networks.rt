@@ -16,6 +16,18 @@ pub use text::NetworkParseError;
 
 /// The addresses of a family that agree in their first bits. The base is the first of them: each of
 /// its other bits is 0.
+///
+/// # Examples
+///
+/// ```
+/// let mut hops: Trie<Ipv4Network, u32> = Trie::new(rt.alloc());
+/// hops.insert("10.0.0.0/8".parse()?, 1)?;
+/// let address = Network::host(Ipv4Addr::from_bits(0x0a01_0203));
+/// assert!(rt; hops.get_ancestor_value(&address)? == Some(&1));
+/// ```
+///
+/// `networks_of_addresses` in `crates/trie_examples/src/doc_examples.rt` finds the network that
+/// holds an address.
 #[derive(Drop)]
 pub struct Network<A: Address> {
     base: A,

@@ -53,6 +53,16 @@ pub enum BytesError {
 ///
 /// Each byte holds two nibbles, the first in its high half. Where the count is odd the low half
 /// of the last byte is unused, and zero.
+///
+/// # Examples
+///
+/// ```
+/// let mut list = text.encode(alloc)?;
+/// list.push(next)?;
+/// Ok(list)
+/// ```
+///
+/// `list_below` in `crates/trie_examples/src/lists.rt` adds a nibble to the list of a text.
 pub struct NibbleVec {
     bytes: SmallVec<u8, 16>,
     is_odd: bool,

@@ -39,6 +39,17 @@ impl From<Memory> for PartsError {
 /// by part: `home` is a prefix of `home`, `ann`, and not of `homer`.
 ///
 /// It is stored as the bytes of the parts, one after another, with a 0 behind each.
+///
+/// # Examples
+///
+/// ```
+/// let mut sizes: Trie<Parts, u64> = Trie::new(alloc);
+/// sizes.insert(Parts::of_path(alloc, "/home/ann", b'/')?, 7)?;
+/// assert!(rt; sizes.count_below(&Parts::of_path(alloc, "/home", b'/')?)? == 1);
+/// assert!(rt; sizes.count_below(&Parts::of_path(alloc, "/ho", b'/')?)? == 0);
+/// ```
+///
+/// `parts_of_paths` in `crates/trie_examples/src/doc_examples.rt` counts what lies below a folder.
 #[derive(Drop)]
 pub struct Parts {
     bytes: Vec<u8>,
@@ -71,6 +82,18 @@ impl Parts {
     /// # Errors
     ///
     /// Decided in this order. `Zero`: the text has a byte 0. `Memory`: an allocation fails.
+    ///
+    /// # Examples
+    ///
+    /// ```
+    /// let filter = Parts::split(rt.alloc(), "sport/+/score", b'/')?;
+    /// let topic = Parts::split(rt.alloc(), "sport/chess/score", b'/')?;
+    /// assert!(rt; is_filter(&filter) && !is_topic(&filter));
+    /// assert!(rt; is_filter(&topic) && is_topic(&topic));
+    /// ```
+    ///
+    /// `filters_and_topics` in `crates/trie_examples/src/doc_examples.rt` splits a filter and a
+    /// topic.
     pub fn split(alloc: Global, text: &str, separator: u8) -> Result<Parts, PartsError>
         ensures ok { IfOk result (λ parts. parts ≡ slice_split (λ b. b == separator) text.now) }
         ensures zero { (result ≡ Err PartsError.Zero) ↔ Contains text.now 0 }
@@ -109,6 +132,16 @@ impl Parts {
     /// # Errors
     ///
     /// Decided in this order. `Zero`: the text has a byte 0. `Memory`: an allocation fails.
+    ///
+    /// # Examples
+    ///
+    /// ```
+    /// let labels = Parts::reversed(alloc, host, b'.')?;
+    /// Ok(last_labels(host, suffix_len(all, &labels)?))
+    /// ```
+    ///
+    /// `suffix` in `crates/trie_examples/src/suffixes.rt` takes a host's labels, the last one
+    /// first.
     pub fn reversed(alloc: Global, text: &str, separator: u8) -> Result<Parts, PartsError>
         ensures ok { IfOk result (λ parts.
             parts ≡ reverse (slice_split (λ b. b == separator) text.now)) }

@@ -12,6 +12,17 @@ pub(crate) const ANY_REST: &'static [u8] = b"#";
 
 /// Whether the list of levels is a filter: there is one, not a single empty one; `+` and `#` stand
 /// alone in their levels; and `#` in the last one only.
+///
+/// # Examples
+///
+/// ```
+/// let filter = Parts::split(rt.alloc(), "sport/+/score", b'/')?;
+/// let topic = Parts::split(rt.alloc(), "sport/chess/score", b'/')?;
+/// assert!(rt; is_filter(&filter) && !is_topic(&filter));
+/// assert!(rt; is_filter(&topic) && is_topic(&topic));
+/// ```
+///
+/// `filters_and_topics` in `crates/trie_examples/src/doc_examples.rt` tells a filter from a topic.
 pub fn is_filter(levels: &Parts) -> bool
     ensures { IsTrue result ↔ IsFilter levels.now }
 {

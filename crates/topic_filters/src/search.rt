@@ -21,6 +21,18 @@ use std::alloc::Global;
 ///
 /// Memory is refused, for the encodings of the topic's levels, for the list of what is still to be
 /// looked for, or for the list of pairs.
+///
+/// # Examples
+///
+/// ```
+/// match matching(alloc, filters, topic)?.first() {
+///     Some((_, value)) => Ok(Some(*value)),
+///     None => Ok(None),
+/// }
+/// ```
+///
+/// `first_subscriber` in `crates/trie_examples/src/subscribers.rt` takes the first filter that
+/// matches a topic.
 pub fn matching<'a, K: TrieKey, V>(
     alloc: Global,
     filters: &'a Trie<K, V>,

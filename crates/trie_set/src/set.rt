@@ -21,6 +21,18 @@ mod sides;
 ///
 /// A contract sees it as the map of its trie: from each stored encoding, a list of nibbles, to the
 /// key that is stored there.
+///
+/// # Examples
+///
+/// ```
+/// let mut words: TrieSet<&'static str> = TrieSet::new(rt.alloc());
+/// assert!(rt; words.insert("tea")? && !words.insert("tea")?);
+/// assert!(rt; words.contains(&"tea")? && !words.contains(&"te")?);
+/// assert!(rt; words.longest_match(&"teapot")?.copied() == Some("tea"));
+/// ```
+///
+/// `sets_of_words` in `crates/trie_examples/src/doc_examples.rt` stores a word, and looks others
+/// up.
 #[derive(Drop)]
 pub struct TrieSet<K: TrieKey> {
     trie: Trie<K, ()>,

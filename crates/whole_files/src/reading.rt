@@ -12,6 +12,18 @@ use std::rt::Files;
 ///
 /// Fails where the name is that of a folder, a device or a pipe, and where a call of the system
 /// fails or memory is refused.
+///
+/// # Examples
+///
+/// ```
+/// match read(*out.allocator(), files, path) {
+///     Ok(text) => load_text(out, table, &text),
+///     Err(FileFault::Memory) => Err(Memory),
+///     Err(fault) => Ok(add_fault(out, fault)?),
+/// }
+/// ```
+///
+/// `load` in `crates/route_tool/src/load.rt` reads the routes of a file.
 pub fn read<F: Files>(alloc: Global, files: &F, path: &str) -> Result<Vec<u8>, FileFault> {
     let mut bytes = Vec::new(alloc);
     read_behind(files, path, &mut bytes)?;

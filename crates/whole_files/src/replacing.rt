@@ -32,6 +32,18 @@ const WRITABLE: u32 = 0o200;
 /// Fails where the name is that of a link, a folder, a device or a pipe, where the file has another
 /// name too, is another user's or may not be written by its owner, and where a call of the system
 /// fails or memory is refused.
+///
+/// # Examples
+///
+/// ```
+/// match replace(alloc, files, path, &image, BESIDE) {
+///     Ok(()) => Ok(add_count(out, routes.len() as u128)?),
+///     Err(FileFault::Memory) => Err(Memory),
+///     Err(fault) => Ok(add_fault(out, fault)?),
+/// }
+/// ```
+///
+/// `write` in `crates/route_tool/src/image_files.rt` replaces a file of routes.
 pub fn replace<F: Files>(
     alloc: Global,
     files: &F,

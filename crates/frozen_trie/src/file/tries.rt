@@ -77,6 +77,22 @@ impl<K: TrieKey + FileItem + Drop, V: FileItem + Drop> FrozenTrie<K, V> {
     /// A write fails, or takes no byte. `OutOfMemory`, where room for a pair's bytes is refused;
     /// `InvalidInput`, where a key or a value takes 2^32 bytes or more. What was written until then
     /// is a beginning of the file.
+    ///
+    /// # Examples
+    ///
+    /// ```
+    /// let mut codes: FrozenTrie<u16, u64> = FrozenTrie::new(alloc);
+    /// codes.push(7, 1)?;
+    /// let mut file = Vec::new(alloc);
+    /// codes.write(&mut file)?;
+    /// let Ok(again) = FrozenTrie::<u16, u64>::read(alloc, &mut file.as_slice()) else {
+    ///     bail!("the file is whole");
+    /// };
+    /// assert!(rt; again.get(&7u16)? == Some(&1));
+    /// ```
+    ///
+    /// `filed_words` in `crates/trie_examples/src/doc_examples.rt` writes a file, and reads it
+    /// back.
     pub fn write<W: Write>(&self, out: &mut W) -> io::Result<()>
         ensures written { OnOk result (Appends (W.contents out.old) (W.contents out.new)
             (file_of K.file_bytes V.file_bytes self.now)) }

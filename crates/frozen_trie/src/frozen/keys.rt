@@ -143,6 +143,19 @@ impl<K: TrieKey, V> FrozenTrie<K, V> {
     ///
     /// `Memory`: the encoding's allocation fails; a key that is inline, or lends its encoding,
     /// needs none.
+    ///
+    /// # Examples
+    ///
+    /// ```
+    /// match words.below(&typed) {
+    ///     Ok(found) => found,
+    ///     // A text lends its encoding, so no memory is allocated for it.
+    ///     Err(_) => unreachable!(),
+    /// }
+    /// ```
+    ///
+    /// `completions` in `crates/trie_examples/src/dictionary.rt` takes the words that begin with
+    /// what was typed.
     pub fn below<Q: TrieKey>(&self, key: &Q) -> Result<&[(K, V)], Memory>
         ensures pairs { IfOk result
             (λ left. left.now ≡ pairs_below self.now (Q.encoding key.now)) }

@@ -89,12 +89,14 @@ impl<'a, K, V> Cursor<'a, K, V> {
     /// # Examples
     ///
     /// ```
-    /// let Some(pair) = left.next()? else {
-    ///     return Ok(list);
-    /// };
+    /// let lines = [(1_300, "asked"), (1_200, "opened"), (1_250, "read")];
+    /// let log: Trie<u64, &'static str> = Trie::from_iter(rt.alloc(), lines.iter().copied())?;
+    /// let mut walk = log.range(1_201..1_300u64)?;
+    /// assert!(rt; walk.next()? == Some((&1_250, &"read")) && walk.next()?.is_none());
     /// ```
     ///
-    /// `first_pairs` in `crates/radix_trie/src/iter/pages.rt` takes some pairs.
+    /// `lines_of_a_log` in `crates/trie_examples/src/doc_examples.rt` takes the only pair between
+    /// two keys.
     pub fn next(&mut self) -> Result<Option<(&'a K, &'a V)>, Memory>
         ensures pair { IfOk result (λ pair. option_map deref_pair pair ≡ slice_get self.old 0) }
         ensures rest { OnOk result (self.new ≡ drop 1 self.old) }

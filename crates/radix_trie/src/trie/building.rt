@@ -27,10 +27,13 @@ impl<K: TrieKey + Drop, V: Drop> Trie<K, V> {
     /// # Examples
     ///
     /// ```
-    /// let log: Trie<u64, &'static str> = Trie::from_iter(rt.alloc(), LINES.iter().copied())?;
+    /// let lines = [(1_300, "asked"), (1_200, "opened"), (1_250, "read")];
+    /// let log: Trie<u64, &'static str> = Trie::from_iter(rt.alloc(), lines.iter().copied())?;
+    /// let mut walk = log.range(1_201..1_300u64)?;
+    /// assert!(rt; walk.next()? == Some((&1_250, &"read")) && walk.next()?.is_none());
     /// ```
     ///
-    /// `lines_of_a_while` in `crates/trie_examples/src/log_lines.rt` builds a log of its lines.
+    /// `lines_of_a_log` in `crates/trie_examples/src/doc_examples.rt` builds a log of its lines.
     pub fn from_iter<I: Iterator<Item = (K, V)> + Drop>(
         alloc: Global,
         iter: I,

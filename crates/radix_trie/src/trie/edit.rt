@@ -49,6 +49,7 @@ impl<K: TrieKey + Drop, V: Drop> Trie<K, V> {
     /// # Examples
     ///
     /// ```
+    /// let mut trie: Trie<&'static str, u64> = Trie::new(rt.alloc());
     /// assert!(rt; matches!(trie.insert("haskell", 18), Ok(None)));
     /// assert!(rt; matches!(trie.insert("haskell", 36), Ok(Some(18))));
     /// ```

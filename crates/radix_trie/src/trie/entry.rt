@@ -58,6 +58,7 @@ impl<K: TrieKey, V> Trie<K, V> {
     ///
     /// ```
     /// *counts.entry(word)?.or_insert(0)? += 1;
+    /// Ok(())
     /// ```
     ///
     /// `count` in `crates/trie_examples/src/tallies.rt` counts a word.

@@ -137,6 +137,8 @@ impl<K: TrieKey, V> Trie<K, V> {
     /// # Examples
     ///
     /// ```
+    /// let mut trie: Trie<&'static str, u64> = Trie::new(rt.alloc());
+    /// assert!(rt; matches!(trie.insert("haskell", 18), Ok(None)));
     /// assert!(rt; matches!(trie.insert("haskell", 36), Ok(Some(18))));
     /// assert!(rt; trie.get(&"haskell")? == Some(&36));
     /// ```

@@ -25,10 +25,16 @@ impl<K: TrieKey, V> Trie<K, V> {
     /// # Examples
     ///
     /// ```
-    /// words.first_below(&typed, most)
+    /// let first = words.first_below(&typed, most)?;
+    /// let second = match first.last() {
+    ///     Some((last, _)) => words.first_after(&typed, *last, most)?,
+    ///     None => Vec::new(alloc),
+    /// };
+    /// Ok((first, second))
     /// ```
     ///
-    /// `page` in `crates/trie_examples/src/pages.rt` takes the first completions of what was typed.
+    /// `two_pages` in `crates/trie_examples/src/pages.rt` takes a page of words that begin with
+    /// what was typed, and the next one.
     pub fn first_below<Q: TrieKey>(&self, key: &Q, most: usize) -> Result<Vec<(&K, &V)>, Memory>
         ensures pairs { IfOk result (λ list. deref_pairs list.items
             ≡ take most (pairs_below self.now (Q.encoding key.now))) }

@@ -25,6 +25,10 @@ impl<K: TrieKey + Drop, V: Drop> Trie<K, V> {
     ///
     /// ```
     /// for (key, value) in all.remove_prefix(&from)? {
+    ///     let rest = key.as_str().strip_prefix(from).unwrap_or("");
+    ///     store_below(alloc, all, to, rest, value)?;
+    /// }
+    /// Ok(())
     /// ```
     ///
     /// `move_below` in `crates/trie_examples/src/moves.rt` takes what lies below a name away, to

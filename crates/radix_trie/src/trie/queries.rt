@@ -21,14 +21,14 @@ impl<K: TrieKey, V> Trie<K, V> {
     /// # Examples
     ///
     /// ```
-    /// settings
-    ///     .get_ancestor_value(path)?
-    ///     .copied()
-    ///     .unwrap_or(default),
+    /// let mut limits: Trie<&'static str, u64> = Trie::new(rt.alloc());
+    /// for (path, limit) in [("/home/ann/", 30), ("/", 10), ("/home/", 20)] {
+    ///     limits.insert(path, limit)?;
+    /// }
+    /// println!(rt; "{:?}", limits.get_ancestor_value(&"/home/ann/letters")?)?;
     /// ```
     ///
-    /// `inherited` in `crates/trie_examples/src/uses.rt` finds the setting of the nearest path at
-    /// or above another.
+    /// `main` in `crates/trie_examples/src/main.rt` prints the limit that a path inherits.
     pub fn get_ancestor_value<Q: TrieKey>(&self, key: &Q) -> Result<Option<&V>, Memory>
         ensures value { IfOk result
             (λ found. IsValueAbove self.now (Q.encoding key.now) (option_copied found)) }
@@ -98,11 +98,15 @@ impl<K: TrieKey, V> Trie<K, V> {
     /// # Examples
     ///
     /// ```
-    /// for (name, rules) in all.common_prefixes(host)? {
+    /// let mut limits: Trie<&'static str, u64> = Trie::new(rt.alloc());
+    /// limits.insert("/", 10)?;
+    /// limits.insert("/home/", 20)?;
+    /// let mut above = limits.common_prefixes(&"/home/ann/")?;
+    /// assert!(rt; above.next() == Some((&"/", &10)) && above.next() == Some((&"/home/", &20)));
     /// ```
     ///
-    /// `suffix_len` in `crates/trie_examples/src/suffixes.rt` goes over the rules of a host's
-    /// public suffix.
+    /// `limits_above` in `crates/trie_examples/src/doc_examples.rt` reads the limits of all folders
+    /// above a path.
     pub fn common_prefixes<Q: TrieKey>(&self, key: &Q) -> Result<CommonPrefixes<'_, K, V>, Memory>
         ensures walk { IfOk result
             (λ pairs. pairs ≡ pairs_above self.now (Q.encoding key.now)) }

@@ -28,6 +28,7 @@ impl<K: TrieKey + Drop, V: Drop> Trie<K, V> {
     ///
     /// ```
     /// let part = trie.split_off_prefix(key)?;
+    /// Ok(trie.graft(part)?)
     /// ```
     ///
     /// `put_back` in `crates/trie_examples/src/cited.rt` splits off what it grafts again.

@@ -48,8 +48,11 @@ impl<K: TrieKey, V> Trie<K, V> {
     /// # Examples
     ///
     /// ```
+    /// let bits = Bits::first_of_u32(alloc, address, 32)?;
     /// match table.get_ancestor(&bits)? {
     ///     Some(view) => Ok(Some(view)),
+    ///     None => Ok(None),
+    /// }
     /// ```
     ///
     /// `route` in `crates/trie_examples/src/answers.rt` finds the longest network that holds an

@@ -68,12 +68,13 @@ pub trait TrieCommon<'a, K: TrieKey + 'a, V: 'a>: Sized {
     /// # Examples
     ///
     /// ```
-    /// for (_, value) in walk {
-    ///     total += *value as u64;
+    /// for (path, limit) in limits.iter()? {
+    ///     println!(rt; "{path} {limit}")?;
     /// }
+    /// Ok(())
     /// ```
     ///
-    /// `total` in `crates/trie_examples/src/walk_callers.rt` goes over a walk.
+    /// `main` in `crates/trie_examples/src/main.rt` prints the pairs in order.
     fn iter(self) -> Result<Iter<'a, K, V>, Memory>
         ensures walk { IfOk result (λ pairs. pairs ≡ pairs_below (map self) (path self)) }
         ensures keyed { Each (λ e. e.0 ≡ K.encoding e.1.0) (walk (map self) (path self)) }
@@ -116,7 +117,12 @@ pub trait TrieCommon<'a, K: TrieKey + 'a, V: 'a>: Sized {
     /// # Examples
     ///
     /// ```
+    /// let count = TrieCommon::len(&view);
     /// let walk = TrieCommon::cursor(&view);
+    /// Ok(Some(Rows {
+    ///     count,
+    ///     walk: Rest::new(&[], walk),
+    /// }))
     /// ```
     ///
     /// `below` in `crates/route_tool/src/table.rt` begins a walk over the routes within a network.
@@ -149,10 +155,14 @@ pub trait TrieCommon<'a, K: TrieKey + 'a, V: 'a>: Sized {
     /// # Examples
     ///
     /// ```
-    /// first_pairs(alloc, log.range(from..to)?, most)
+    /// let lines = [(1_300, "asked"), (1_200, "opened"), (1_250, "read")];
+    /// let log: Trie<u64, &'static str> = Trie::from_iter(rt.alloc(), lines.iter().copied())?;
+    /// let mut walk = log.range(1_201..1_300u64)?;
+    /// assert!(rt; walk.next()? == Some((&1_250, &"read")) && walk.next()?.is_none());
     /// ```
     ///
-    /// `lines_between` in `crates/trie_examples/src/log_lines.rt` takes a page of a range.
+    /// `lines_of_a_log` in `crates/trie_examples/src/doc_examples.rt` reads the lines between two
+    /// times.
     fn range<Q: TrieKey, R: RangeBounds<Q>>(self, range: R) -> Result<Cursor<'a, K, V>, Memory>
         ensures walk { R.has_bounds range → IfOk result (λ pairs. pairs
             ≡ pairs_within (map self) (path self)

@@ -32,6 +32,15 @@ impl<K: TrieKey> TrieSet<K> {
     /// # Errors
     ///
     /// Those of `intersection`.
+    ///
+    /// # Examples
+    ///
+    /// ```
+    /// wanted.difference(stored)?.next()
+    /// ```
+    ///
+    /// `first_missing` in `crates/trie_examples/src/key_sets.rt` takes the first key that a set
+    /// lacks.
     pub fn difference<'a>(&'a self, other: &'a TrieSet<K>) -> Result<Selection<'a, K>, Memory>
         ensures keys { IfOk result (λ walk. walk ≡ keys_in (lacking self.now other.now)) }
         ensures none { map.len self.now ≡ 0 → map.len other.now ≡ 0 → IsOk result }

@@ -13,7 +13,9 @@ mod ascending;
 mod integers;
 mod pairs;
 mod scalars;
+mod signed;
 mod wide;
+mod wrappers;
 
 pub use ascending::KeySigned;
 pub use pairs::FixedWidth;

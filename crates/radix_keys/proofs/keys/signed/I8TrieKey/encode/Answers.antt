@@ -1,6 +1,6 @@
 use Rattle.radix_keys.proofs.KeyLemmas.Order.{signed_order}
 use Rattle.std.specs.Int.{w8}
-use Rattle.radix_keys.proofs.keys.integers.I8TrieKey.encode.Goals as goal
+use Rattle.radix_keys.proofs.keys.signed.I8TrieKey.encode.Goals as goal
 
 pub returns-clause-order : goal.returns-clause-order
 returns-clause-order c = signed_order w8

@@ -2,7 +2,7 @@ use Rattle.std.proofs.Common.{◌≡◌, ◌<◌, ◌++◌, [], ◌∷◌, arith
 use Rattle.radix_keys.proofs.NibbleLemmas.Bytes.{length-nibbles}
 use Rattle.radix_keys.proofs.KeyLemmas.Items.{take-reverse_more, length-take-reverse}
 use Rattle.std.proofs.lemmas.List.{length-reverse}
-use Rattle.radix_keys.proofs.keys.integers.LittleEndianTrieKey.encode.Goals as goal
+use Rattle.radix_keys.proofs.keys.wrappers.LittleEndianTrieKey.encode.Goals as goal
 
 pub returns-in_err-push-clause-light : goal.returns-in_err-push-clause-light
 returns-in_err-push-clause-light g c = λ short.

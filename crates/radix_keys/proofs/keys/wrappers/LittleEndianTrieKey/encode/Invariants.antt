@@ -1,5 +1,5 @@
 use Rattle.std.proofs.Common.{◌≡◌, ◌<◌, ◌≤◌, take, reverse}
-use Rattle.radix_keys.proofs.keys.integers.LittleEndianTrieKey.encode.Given as goal
+use Rattle.radix_keys.proofs.keys.wrappers.LittleEndianTrieKey.encode.Given as goal
 
 abbrev pub invariant-loop-i : goal.invariant-loop-i
 invariant-loop-i g l = record {

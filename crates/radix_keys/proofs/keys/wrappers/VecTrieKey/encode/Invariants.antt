@@ -1,5 +1,5 @@
 use Rattle.std.proofs.Common.{◌≡◌, ◌≤◌, take, All, flat_map}
-use Rattle.radix_keys.proofs.keys.integers.VecTrieKey.encode.Given as goal
+use Rattle.radix_keys.proofs.keys.wrappers.VecTrieKey.encode.Given as goal
 
 abbrev pub invariant-loop-x : goal.invariant-loop-x
 invariant-loop-x g l = record {

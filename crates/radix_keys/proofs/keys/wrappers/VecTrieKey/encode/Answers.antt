@@ -1,7 +1,7 @@
 use Rattle.std.proofs.Common.{arith, ap, ◌≡◌, true, false, length, flat_map, ◌∙◌, ◌++◌, sym}
 use Rattle.radix_keys.proofs.NibbleLemmas.Bytes.{length-nibbles}
 use Rattle.radix_keys.proofs.KeyLemmas.Items.{flat_map-one_more, flat_map_room, all-more}
-use Rattle.radix_keys.proofs.keys.integers.VecTrieKey.encode.Goals as goal
+use Rattle.radix_keys.proofs.keys.wrappers.VecTrieKey.encode.Goals as goal
 
 pub returns-in_err-push_bytes-clause-light : goal.returns-in_err-push_bytes-clause-light
 returns-in_err-push_bytes-clause-light g c = λ short.

@@ -51,13 +51,15 @@ fn parts_of_paths(rt: HostRuntime) -> Result<()> {
     Ok(())
 }
 
-/// A log is made of its lines, and those between two times are read.
+/// A log is made of its lines, those between two times are read, and the first of all.
 #[test]
 fn lines_of_a_log(rt: HostRuntime) -> Result<()> {
     let lines = [(1_300, "asked"), (1_200, "opened"), (1_250, "read")];
     let log: Trie<u64, &'static str> = Trie::from_iter(rt.alloc(), lines.iter().copied())?;
     let mut walk = log.range(1_201..1_300u64)?;
     assert!(rt; walk.next()? == Some((&1_250, &"read")) && walk.next()?.is_none());
+    let mut whole = log.cursor();
+    assert!(rt; whole.next()? == Some((&1_200, &"opened")));
     Ok(())
 }
 

@@ -117,15 +117,16 @@ pub trait TrieCommon<'a, K: TrieKey + 'a, V: 'a>: Sized {
     /// # Examples
     ///
     /// ```
-    /// let count = TrieCommon::len(&view);
-    /// let walk = TrieCommon::cursor(&view);
-    /// Ok(Some(Rows {
-    ///     count,
-    ///     walk: Rest::new(&[], walk),
-    /// }))
+    /// let lines = [(1_300, "asked"), (1_200, "opened"), (1_250, "read")];
+    /// let log: Trie<u64, &'static str> = Trie::from_iter(rt.alloc(), lines.iter().copied())?;
+    /// let mut walk = log.range(1_201..1_300u64)?;
+    /// assert!(rt; walk.next()? == Some((&1_250, &"read")) && walk.next()?.is_none());
+    /// let mut whole = log.cursor();
+    /// assert!(rt; whole.next()? == Some((&1_200, &"opened")));
     /// ```
     ///
-    /// `below` in `crates/route_tool/src/table.rt` begins a walk over the routes within a network.
+    /// `lines_of_a_log` in `crates/trie_examples/src/doc_examples.rt` walks over a part, and over
+    /// all.
     fn cursor(self) -> Cursor<'a, K, V>
         ensures walk { result ≡ pairs_below (map self) (path self) }
         ensures keyed { Each (λ e. e.0 ≡ K.encoding e.1.0) (walk (map self) (path self)) }

@@ -81,4 +81,4 @@ NO_EDIT = {
 # Functions that make an error for memory where no call was refused: a tree of more levels than `usize` counts, which
 # no memory holds; encodings of 2^31 bytes; a network with bits behind its first ones, which there is none of; and what
 # the system says of a file.
-MADE_REFUSALS = {"radix_trie": "row_height", "frozen_trie": "push append_to", "whole_files": "from"}
+MADE_REFUSALS = {"radix_trie": "row_height", "encoded_keys": "push", "frozen_trie": "append_to", "whole_files": "from"}

@@ -14,11 +14,11 @@ use Rattle.nibble_map.proofs.ListLemmas.Parted.{prefix_itself}
 use Rattle.radix_keys.proofs.KeyLemmas.Order.{three_ways}
 use Rattle.radix_keys.proofs.NibbleLemmas.Bytes.{get_or-nibbles_even, get_or-nibbles_odd, length-nibbles}
 use Rattle.radix_keys.proofs.NibbleLemmas.Slices.{nibble_fits}
-use Rattle.frozen_trie.specs.Codes.{IsSide, is_before, is_in_front, is_until}
-use Rattle.frozen_trie.specs.Heads.{AreNibbles, head_padded}
-use Rattle.frozen_trie.proofs.CodeLemmas.Heads.{filled_head, head-before, head-lt, head-more, head-prefix, prefix_by_head, word_head}
-use Rattle.frozen_trie.proofs.CodeLemmas.Order.{before_by_test, before_passes, until_by_before, until_by_prefix, until_by_test, which_before}
-use Rattle.frozen_trie.proofs.CodeLemmas.Sides.{begun, equal_side, goes_on, greater_side, less_side, side_of_begun, side_of_prefix}
+use Rattle.encoded_keys.specs.Codes.{IsSide, is_before, is_in_front, is_until}
+use Rattle.encoded_keys.specs.Heads.{AreNibbles, head_padded}
+use Rattle.encoded_keys.proofs.CodeLemmas.Heads.{filled_head, head-before, head-lt, head-more, head-prefix, prefix_by_head, word_head}
+use Rattle.encoded_keys.proofs.CodeLemmas.Order.{before_by_test, before_passes, until_by_before, until_by_prefix, until_by_test, which_before}
+use Rattle.encoded_keys.proofs.CodeLemmas.Sides.{begun, equal_side, goes_on, greater_side, less_side, side_of_begun, side_of_prefix}
 use Rattle.flat_texts.specs.TextImages.{key_bound, key_head}
 
 -- the nibbles of bytes are below 16

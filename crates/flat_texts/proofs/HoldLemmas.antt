@@ -5,9 +5,9 @@ use Rattle.nibble_map.specs.Lists.{IsBefore, IsPrefix}
 use Rattle.nibble_map.specs.Nibbles.{nibbles}
 use Rattle.sorted_tables.specs.Tables.{IsLastOf}
 use Rattle.sorted_tables.proofs.TableLemmas.Links.{last_of_same}
-use Rattle.frozen_trie.specs.Codes.{code_at}
+use Rattle.encoded_keys.specs.Codes.{code_at}
 use Rattle.frozen_trie.specs.Frozen.{codes_of}
-use Rattle.frozen_trie.proofs.CodeLemmas.Parts.{rising_at}
+use Rattle.encoded_keys.proofs.CodeLemmas.Parts.{rising_at}
 use Rattle.image_parts.specs.Parts.{u32_in, u64_in}
 use Rattle.flat_texts.specs.declared.head.Plan.{Plan}
 use Rattle.flat_texts.specs.declared.pair.Pair.{Pair}

@@ -6,12 +6,12 @@ use Rattle.std.proofs.lemmas.Option.{get_or_from_slice_get}
 use Rattle.std.specs.declared.cmp.Ordering.{Ordering}
 use Rattle.nibble_map.specs.Lists.{Each, IsBefore, IsPrefix, IsRising}
 use Rattle.nibble_map.proofs.TreeLemmas.SomePrefixes.{before_through}
-use Rattle.frozen_trie.specs.Codes.{IsLastPrefix, IsSide, code_at, is_in_front}
+use Rattle.encoded_keys.specs.Codes.{IsLastPrefix, IsSide, code_at, is_in_front}
 use Rattle.sorted_tables.specs.Tables.{IsLastOf}
 use Rattle.sorted_tables.proofs.TableLemmas.Links.{last_of_same}
 use Rattle.radix_keys.proofs.KeyLemmas.Order.{three_ways}
-use Rattle.frozen_trie.specs.Heads.{IsTop}
-use Rattle.frozen_trie.proofs.CodeLemmas.Heads.{head-before}
+use Rattle.encoded_keys.specs.Heads.{IsTop}
+use Rattle.encoded_keys.proofs.CodeLemmas.Heads.{head-before}
 use Rattle.image_parts.specs.Parts.{listed, row_count}
 use Rattle.image_parts.proofs.ByteLemmas.{length-listed, listed_at}
 use Rattle.flat_texts.specs.TextImages.{AreRightPairs, IsTextImage, counts_listed, key_bound, key_bytes, key_code, key_codes, key_end, key_head, key_in, key_start, keys_place, keys_size, stored_count, stored_head, stored_heads}

@@ -9,11 +9,11 @@ use Rattle.nibble_map.specs.Nibbles.{nibbles}
 use Rattle.radix_keys.specs.Distinct.{nibbles-injective}
 use Rattle.radix_trie.specs.Views.{IsPairAbove, pairs_above, pairs_before, pairs_below, pairs_within}
 use Rattle.sorted_tables.specs.Tables.{IsLastOf}
-use Rattle.frozen_trie.specs.Codes.{IsCut, IsLastPrefix, code_at, is_before, is_until}
+use Rattle.encoded_keys.specs.Codes.{IsCut, IsLastPrefix, code_at, is_before, is_until}
 use Rattle.frozen_trie.specs.Frozen.{codes_of, prefixes_up}
 use Rattle.frozen_trie.proofs.FrozenLemmas.Prefixes.{step_up, walk_up_whole}
 use Rattle.frozen_trie.proofs.FrozenLemmas.Queries.{above_none, above_some, below_is, count_before_is, within_is}
-use Rattle.frozen_trie.proofs.CodeLemmas.Spans.{cut_from, span_between}
+use Rattle.frozen_trie.proofs.FrozenLemmas.Spans.{cut_from, span_between}
 use Rattle.frozen_trie.proofs.FrozenLemmas.Rows.{get_at, get_none}
 use Rattle.image_parts.specs.Parts.{listed, row_count}
 use Rattle.image_parts.proofs.ByteLemmas.{length-listed, listed_at, none_past}

@@ -4,10 +4,10 @@ use Rattle.std.proofs.lemmas.List.{get_or-map, get_or-take, length-map, length-t
 use Rattle.std.proofs.lemmas.List.Sums.{sum_by-append, sum_by-cons}
 use Rattle.nibble_map.specs.Lists.{IsBefore, IsRising}
 use Rattle.nibble_map.specs.Nibbles.{nibbles}
-use Rattle.frozen_trie.specs.Codes.{code_at}
+use Rattle.encoded_keys.specs.Codes.{code_at}
 use Rattle.frozen_trie.specs.Frozen.{codes_of}
-use Rattle.frozen_trie.proofs.CodeLemmas.Parts.{rising_at}
-use Rattle.frozen_trie.proofs.FrozenLemmas.Growth.{rising_more}
+use Rattle.encoded_keys.proofs.CodeLemmas.Parts.{rising_at}
+use Rattle.encoded_keys.proofs.CodeLemmas.Appended.{rising_more}
 use Rattle.flat_texts.specs.TextWritten.{keys_len}
 use Rattle.flat_texts.specs.TextImages.{given_pair}
 use Rattle.flat_texts.specs.declared.pair.Pair.{Pair}

@@ -6,8 +6,8 @@ use Rattle.nibble_map.specs.Maps.{PairMap}
 use Rattle.nibble_map.specs.Nibbles.{nibbles}
 use Rattle.sorted_tables.specs.Tables.{IsLastOf}
 use Rattle.frozen_trie.specs.Frozen.{map_of_pairs}
-use Rattle.frozen_trie.specs.Heads.{IsTop, head_padded}
-use Rattle.frozen_trie.specs.Laid.{piece_of}
+use Rattle.encoded_keys.specs.Heads.{IsTop, head_padded}
+use Rattle.encoded_keys.specs.Laid.{piece_of}
 use Rattle.image_parts.specs.declared.errors.ImageError.{ImageError}
 use Rattle.image_parts.specs.declared.errors.ImageError.TheVariants.{Cell, Mark, Part, Row, Short, Version}
 use Rattle.image_parts.specs.Parts.{IsListed, listed, part_count, row_count, u32_in, u64_in}

@@ -1,7 +1,7 @@
 //! Whether bytes are an image.
 ghost use Rattle.std.specs.Prelude.{◌≡◌, ◌↔◌, ◌*◌, ◌-◌, ◌^◌, ◌<◌, ◌≤◌, ℕ, IfErr, IsOk, IsTrue, length};
 ghost use Rattle.nibble_map.specs.Lists.{IsBefore};
-ghost use Rattle.frozen_trie.specs.Heads.{IsTop};
+ghost use Rattle.encoded_keys.specs.Heads.{IsTop};
 ghost use Rattle.image_parts.specs.Parts.{row_count};
 ghost use Rattle.flat_texts.specs.TextImages.{AreRightPairs, IsImageFault, IsRightPair, IsTextImage, IsTextPlan, key_code, stored_count, stored_head, stored_heads};
 

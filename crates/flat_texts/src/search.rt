@@ -3,7 +3,7 @@ ghost use Rattle.std.specs.Prelude.{◌≡◌, ◌↔◌, ◌*◌, ◌<◌, ◌�
 ghost use Rattle.nibble_map.specs.Lists.{IsBefore, IsPrefix};
 ghost use Rattle.nibble_map.specs.Nibbles.{nibbles};
 ghost use Rattle.sorted_tables.specs.Tables.{IsLastOf};
-ghost use Rattle.frozen_trie.specs.Codes.{IsCut, IsLastPrefix, IsSide, code_at, is_in_front};
+ghost use Rattle.encoded_keys.specs.Codes.{IsCut, IsLastPrefix, IsSide, code_at, is_in_front};
 ghost use Rattle.flat_texts.specs.TextImages.{AreRightPairs, IsTextImage, IsTextPlan, key_bound, key_code, key_codes, key_head, key_in, stored_head};
 
 use crate::head::Plan;

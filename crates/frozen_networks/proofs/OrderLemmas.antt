@@ -11,7 +11,7 @@ use Rattle.radix_keys.proofs.BitLemmas.{network_order}
 use Rattle.radix_keys.proofs.KeyLemmas.Order.{three_ways}
 use Rattle.frozen_routes.specs.Routes.{AreRowsInOrder, IsEarlier, base_numbers, bit_counts}
 use Rattle.frozen_trie.specs.Frozen.{codes_of}
-use Rattle.frozen_trie.proofs.CodeLemmas.Order.{before_by_test}
+use Rattle.encoded_keys.proofs.CodeLemmas.Order.{before_by_test}
 use Rattle.frozen_networks.specs.Networks.{IsNetwork, network_code}
 
 -- a list that precedes another comes before it

@@ -9,7 +9,7 @@ use Rattle.radix_keys.specs.Networks.{Net}
 use Rattle.radix_trie.specs.Views.{pairs_below}
 use Rattle.frozen_routes.specs.Routes.{AreRowsInOrder, IsFirstOutOfOrder}
 use Rattle.frozen_trie.specs.Frozen.{codes_of}
-use Rattle.frozen_trie.proofs.FrozenLemmas.Growth.{rising_front}
+use Rattle.encoded_keys.proofs.CodeLemmas.Appended.{rising_front}
 use Rattle.frozen_trie.proofs.FrozenLemmas.Thawed.{IsThawed, one_thawed}
 use Rattle.frozen_trie.proofs.FrozenLemmas.Whole.{count_whole}
 use Rattle.frozen_networks.specs.Networks.{IsNetwork, network_code}

@@ -1,7 +1,7 @@
 -- The map of pairs in order: what it answers, by the pairs' indices.
+pub mod Spans
 pub mod Rows
 pub mod Queries
-pub mod Growth
 pub mod Whole
 pub mod Thawed
 pub mod Copied

@@ -1,6 +1,4 @@
 -- The lemmas, in the order in which they are read.
--- Lists in rising order, how they are packed, and their links.
-pub mod CodeLemmas
 -- The map of pairs in order: what it answers, by the pairs' indices.
 pub mod FrozenLemmas
 -- The map of byte strings in order.

@@ -1,5 +1,4 @@
 -- The map of byte strings in order.
-pub mod Bytes
 pub mod Parts
 pub mod Pairs
 pub mod Appended

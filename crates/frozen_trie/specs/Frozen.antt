@@ -5,7 +5,7 @@ use Rattle.nibble_map.specs.Lists.{IsRising}
 use Rattle.nibble_map.specs.Maps.{PairMap}
 use Rattle.radix_trie.specs.Views.{pairs_above, pairs_below}
 use Rattle.sorted_tables.specs.Tables.{IsFirstUnordered}
-use Rattle.frozen_trie.specs.Codes.{AreLinks}
+use Rattle.encoded_keys.specs.Codes.{IsLinked}
 
 module _ {K V : Type 0} (enc : K → List ℕ) where
   -- the encodings of pairs
@@ -29,12 +29,6 @@ module _ {K V : Type 0} (enc : K → List ℕ) where
   abbrev pub prefixes_up : PairMap K V → ℕ → List (K × V)
   prefixes_up m zero = []
   prefixes_up m (suc i) = pairs_up_from m (slice_get (pairs_below m []) i)
-
--- the lists rise, and each has its link
-pub record IsLinked (cs : List (List ℕ)) (up : List ℕ) : Type 0 where
-  pub rising : IsRising cs
-  pub linked : length up ≡ length cs
-  pub links : AreLinks cs up
 
 -- the lists are the encodings of the pairs
 pub record IsFrozen {K V : Type 0} (enc : K → List ℕ) (cs : List (List ℕ)) (ps : List (K × V))

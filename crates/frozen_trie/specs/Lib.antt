@@ -1,11 +1,5 @@
-pub mod Codes
-pub mod Laid
 pub mod Frozen
 pub mod Texts
-pub mod Index
-pub mod Heads
-pub mod Blocks
-pub mod Packed
 pub mod FileItems
 pub mod FileRows
 pub mod Files

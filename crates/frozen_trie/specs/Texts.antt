@@ -1,16 +1,11 @@
 -- Byte strings as keys: what a frozen map of them stands for, and what it keeps.
-use Rattle.std.specs.Prelude.{◌≡◌, ℕ, ◌+◌, ◌*◌, List, [], ◌∷◌, length, String, string_bytes, map as each}
+use Rattle.std.specs.Prelude.{◌≡◌, ℕ, List, [], ◌∷◌, length, String, string_bytes, map as each}
 use Rattle.std.specs.declared.alloc.Global.{Global}
 use Rattle.nibble_map.specs.Lists.{IsBefore}
 use Rattle.nibble_map.specs.Maps.{IsStored, NibbleMap, PairMap}
 use Rattle.nibble_map.specs.Nibbles.{nibbles}
+use Rattle.encoded_keys.specs.Laid.{packed_bytes}
 use Rattle.frozen_trie.specs.Frozen.{IsFrozen, map_of_pairs}
-
--- the bytes of nibbles, two to a byte; of an odd count the low half of the last byte is zero
-abbrev pub packed_bytes : List ℕ → List ℕ
-packed_bytes [] = []
-packed_bytes (a ∷ []) = (a * 16) ∷ []
-packed_bytes (a ∷ b ∷ c) = (a * 16 + b) ∷ packed_bytes c
 
 module _ {V : Type 0} where
   -- the bytes of each list of nibbles, with their value

@@ -5,9 +5,9 @@ ghost use Rattle.radix_trie.specs.Building.{pairs_in_order};
 ghost use Rattle.radix_trie.specs.Keys.{IsKeyed};
 ghost use Rattle.frozen_trie.specs.Frozen.{IsFirstUnsorted, IsFrozen, codes_of};
 
-use crate::codes::Codes;
 use crate::frozen::FrozenTrie;
-use crate::linked::push_last;
+use encoded_keys::keys::EncodedKeys;
+use encoded_keys::linked::push_last;
 use radix_keys::{Encoding, Refused, TrieKey};
 use sorted_tables::{PushWhy, SortedWhy};
 use std::alloc::Global;
@@ -47,7 +47,7 @@ impl<K: TrieKey, V> FrozenTrie<K, V> {
 pub(crate) fn codes_and_links<K: TrieKey, V>(
     alloc: Global,
     pairs: &[(K, V)],
-) -> Result<(Codes, Vec<u32>), SortedWhy>
+) -> Result<(EncodedKeys, Vec<u32>), SortedWhy>
     ensures ok { IfOk result (λ r. IsFrozen K.encoding r.0 pairs.now r.1.items) }
     ensures unsorted { (i : ℕ) → result ≡ Err (SortedWhy.Unsorted i)
         → IsFirstUnsorted (codes_of K.encoding pairs.now) i }
@@ -58,7 +58,7 @@ pub(crate) fn codes_and_links<K: TrieKey, V>(
     let Ok(mut up) = Vec::with_capacity(alloc, pairs.len()) else {
         return Err(SortedWhy::Memory);
     };
-    let mut codes = Codes::new(alloc);
+    let mut codes = EncodedKeys::new(alloc);
     for pair in pairs {
         let Ok(list) = Encoding::of(alloc, &pair.0) else {
             return Err(SortedWhy::Memory);

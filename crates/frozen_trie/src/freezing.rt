@@ -4,9 +4,9 @@ ghost use Rattle.std.specs.FinMap as map;
 ghost use Rattle.radix_trie.specs.Views.{pairs_below};
 ghost use Rattle.frozen_trie.specs.Frozen.{IsFrozen};
 
-use crate::codes::Codes;
 use crate::frozen::FrozenTrie;
-use crate::linked::push_linked;
+use encoded_keys::keys::EncodedKeys;
+use encoded_keys::linked::push_linked;
 use radix_keys::{Encoding, Refused, TrieKey};
 use radix_trie::{
     BuildError, Trie, TrieCommon, keys_stand_at_their_encodings, split_part_goes_back,
@@ -59,7 +59,7 @@ pub fn freeze<K: TrieKey + Drop, V: Drop>(
 /// The encodings of a trie's pairs, and their links.
 pub(crate) fn codes_and_links<K: TrieKey, V>(
     trie: &Trie<K, V>,
-) -> Result<(Codes, Vec<u32>), BuildError>
+) -> Result<(EncodedKeys, Vec<u32>), BuildError>
     ensures ok { IfOk result
         (λ r. IsFrozen K.encoding r.0 (pairs_below trie.now []) r.1.items) }
     ensures full { result ≡ Err BuildError.Full → 2 ^ 32 ≤ map.len trie.now }
@@ -74,7 +74,7 @@ pub(crate) fn codes_and_links<K: TrieKey, V>(
         return Err(BuildError::Memory);
     };
     let mut walk = trie.cursor();
-    let mut codes = Codes::new(alloc);
+    let mut codes = EncodedKeys::new(alloc);
     loop {
         let key = match walk.next() {
             Ok(Some((key, _))) => key,

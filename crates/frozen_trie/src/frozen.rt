@@ -6,8 +6,8 @@ ghost use Rattle.radix_trie.specs.Views.{pairs_below};
 ghost use Rattle.radix_trie.specs.Walks.{deref_pair};
 ghost use Rattle.frozen_trie.specs.Frozen.{IsFrozen, codes_of, map_of_pairs, prefixes_up};
 
-use crate::codes::Codes;
 use crate::slices::{entry_at, entry_in};
+use encoded_keys::keys::EncodedKeys;
 use radix_keys::TrieKey;
 use std::alloc::Global;
 use std::marker::Model;
@@ -42,7 +42,7 @@ mod written;
 #[derive(Drop)]
 pub struct FrozenTrie<K: TrieKey, V> {
     /// The encodings of the pairs.
-    codes: Codes,
+    codes: EncodedKeys,
     pairs: Vec<(K, V)>,
     /// For each pair, the index and one more of the last earlier pair whose encoding is a prefix of
     /// its own, or 0.
@@ -66,7 +66,12 @@ impl<K: TrieKey, V> Model for FrozenTrie<K, V> {
 
 impl<K: TrieKey, V> FrozenTrie<K, V> {
     /// The map of pairs, of their encodings and of the links.
-    pub(crate) fn from_parts(codes: Codes, pairs: Vec<(K, V)>, up: Vec<u32>, alloc: Global) -> Self
+    pub(crate) fn from_parts(
+        codes: EncodedKeys,
+        pairs: Vec<(K, V)>,
+        up: Vec<u32>,
+        alloc: Global,
+    ) -> Self
         requires { IsFrozen K.encoding codes pairs.items up.items }
         ensures { result ≡ map_of_pairs K.encoding pairs.items }
     {

@@ -2,16 +2,12 @@
 #![tactic(auto)]
 
 mod build;
-mod codes;
 mod copies;
 mod file;
 mod formats;
 mod freezing;
 mod frozen;
-mod hash;
-mod heads;
 mod laws;
-mod linked;
 mod prefixes;
 mod search;
 mod slices;

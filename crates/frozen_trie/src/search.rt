@@ -1,68 +1,16 @@
-//! Searches among lists in rising order.
-ghost use Rattle.std.specs.Prelude.{◌≡◌, ◌↔◌, ◌+◌, ◌<◌, ◌≤◌, ℕ, length, not, IsTrue, MatchOption};
-ghost use Rattle.nibble_map.specs.Lists.{IsBefore, IsRising};
+//! Searches by bounds among lists in rising order.
+ghost use Rattle.std.specs.Prelude.{◌≡◌, not};
+ghost use Rattle.nibble_map.specs.Lists.{IsRising};
 ghost use Rattle.radix_trie.specs.Views.{is_above, is_below, is_within};
-ghost use Rattle.frozen_trie.specs.Codes.{AreLinks, IsCut, IsLastPrefix, IsSpan, is_before, is_until, code_at};
-ghost use Rattle.frozen_trie.specs.Index.{AreKeys};
+ghost use Rattle.encoded_keys.specs.Codes.{IsCut, IsSpan};
 
-use crate::codes::{Codes, Look};
-use radix_keys::{NibbleSlice, TrieKey};
+use encoded_keys::keys::EncodedKeys;
+use encoded_keys::search::{behind, lower};
+use radix_keys::NibbleSlice;
 use std::ops::Bound;
 
-/// How many of the lists come before another one.
-pub(crate) fn lower(codes: &Codes, list: &NibbleSlice<'_>) -> usize
-    requires { IsRising codes.now }
-    ensures { IsCut (λ c. is_before c list.now) codes.now result }
-{
-    codes.cut(list, false).0
-}
-
-/// How many of the lists come before another one or begin with it.
-pub(crate) fn upper(codes: &Codes, list: &NibbleSlice<'_>) -> usize
-    requires { IsRising codes.now }
-    ensures { IsCut (λ c. is_until c list.now) codes.now result }
-{
-    codes.cut(list, true).0
-}
-
-/// The last of the first `from` lists that is a prefix of another one, by its index and one more,
-/// or 0 where there is none.
-///
-/// It goes from each to the link of it, so at most as often as prefixes of the list before `from`
-/// are stored.
-pub(crate) fn climb(codes: &Codes, up: &[u32], from: usize, list: &NibbleSlice<'_>) -> usize
-    requires within { from ≤ length codes.now }
-    requires linked { from ≤ length up.now }
-    requires rising { IsRising codes.now }
-    requires links { AreLinks codes.now up.now }
-    requires before { (k : ℕ) → k < from → IsBefore (code_at codes.now k) list.now }
-    ensures { IsLastPrefix codes.now from list.now result }
-{
-    if from == 0 {
-        return 0;
-    }
-    let shared = codes.agreement(from - 1, list);
-    let mut at = from;
-    while at > 0 {
-        if codes.len_at(at - 1) <= shared {
-            return at;
-        }
-        at = up[at - 1] as usize;
-    }
-    0
-}
-
-/// How many of the lists come before another one or are it.
-fn behind(codes: &Codes, list: &NibbleSlice<'_>) -> usize
-    requires { IsRising codes.now }
-    ensures { IsCut (λ c. not (is_before list.now c)) codes.now result }
-{
-    let (at, is_found) = codes.cut(list, false);
-    if is_found { at + 1 } else { at }
-}
-
 /// How many of the lists stand in front of those that a lower bound leaves.
-fn start(codes: &Codes, low: Bound<NibbleSlice<'_>>) -> usize
+fn start(codes: &EncodedKeys, low: Bound<NibbleSlice<'_>>) -> usize
     requires { IsRising codes.now }
     ensures { IsCut (λ c. not (is_above low.entry c)) codes.now result }
 {
@@ -74,7 +22,7 @@ fn start(codes: &Codes, low: Bound<NibbleSlice<'_>>) -> usize
 }
 
 /// How many of the lists stand in front of those that an upper bound leaves out.
-fn end(codes: &Codes, high: Bound<NibbleSlice<'_>>) -> usize
+fn end(codes: &EncodedKeys, high: Bound<NibbleSlice<'_>>) -> usize
     requires { IsRising codes.now }
     ensures { IsCut (is_below high.entry) codes.now result }
 {
@@ -88,7 +36,7 @@ fn end(codes: &Codes, high: Bound<NibbleSlice<'_>>) -> usize
 /// The lists within two bounds: the index of the first, and that behind the last. Where there is
 /// none the two are one.
 pub(crate) fn within(
-    codes: &Codes,
+    codes: &EncodedKeys,
     low: Bound<NibbleSlice<'_>>,
     high: Bound<NibbleSlice<'_>>,
 ) -> (usize, usize)
@@ -98,50 +46,4 @@ pub(crate) fn within(
     let from = start(codes, low);
     let to = end(codes, high);
     (from, to.max(from))
-}
-
-/// The index of a list. The pairs of the lists are passed, or none.
-pub(crate) fn index_of<K: TrieKey, V>(
-    codes: &Codes,
-    pairs: &[(K, V)],
-    list: &NibbleSlice<'_>,
-) -> Option<usize>
-    requires rising { IsRising codes.now }
-    requires keyed { AreKeys K.encoding pairs.now codes.now }
-    ensures { MatchOption result
-        ((k : ℕ) → k < length codes.now → code_at codes.now k ≡ list.now → ⊥)
-        (λ i. (i < length codes.now) × (code_at codes.now i ≡ list.now)) }
-{
-    match codes.look(pairs, list) {
-        Look::Found(at) => Some(at),
-        Look::Absent => None,
-        Look::Unknown => index_by_order(codes, list),
-    }
-}
-
-/// The same by the order of the lists.
-fn index_by_order(codes: &Codes, list: &NibbleSlice<'_>) -> Option<usize>
-    requires { IsRising codes.now }
-    ensures { MatchOption result
-        ((k : ℕ) → k < length codes.now → code_at codes.now k ≡ list.now → ⊥)
-        (λ i. (i < length codes.now) × (code_at codes.now i ≡ list.now)) }
-{
-    let (at, is_found) = codes.cut(list, false);
-    if is_found { Some(at) } else { None }
-}
-
-/// The last of the lists that is a prefix of another one, by its index and one more, or 0 where
-/// there is none.
-pub(crate) fn last_prefix(codes: &Codes, up: &[u32], list: &NibbleSlice<'_>) -> usize
-    requires linked { length up.now ≡ length codes.now }
-    requires rising { IsRising codes.now }
-    requires links { AreLinks codes.now up.now }
-    ensures { IsLastPrefix codes.now (length codes.now) list.now result }
-{
-    let (at, is_found) = codes.cut(list, false);
-    if is_found {
-        at + 1
-    } else {
-        climb(codes, up, at, list)
-    }
 }

@@ -1,15 +1,6 @@
-//! Parts of a list of pairs.
-ghost use Rattle.std.specs.Prelude.{◌≡◌, ◌-◌, ◌<◌, ◌≤◌, length, drop, option_map, slice_get, slice_index_or, take};
+//! Pairs of a list, by their parts.
+ghost use Rattle.std.specs.Prelude.{◌≡◌, ◌<◌, length, option_map, slice_get, slice_index_or};
 ghost use Rattle.radix_trie.specs.Walks.{deref_pair};
-
-/// The items from `from` up to `to`.
-pub(crate) fn part<T>(items: &[T], from: usize, to: usize) -> &[T]
-    requires order { from ≤ to }
-    requires within { to ≤ length items.now }
-    ensures { result.now ≡ take (to - from) (drop from items.now) }
-{
-    &items[from..to]
-}
 
 /// The pair at an index, by its parts.
 pub(crate) fn entry_at<K, V>(pairs: &[(K, V)], at: usize) -> (&K, &V)

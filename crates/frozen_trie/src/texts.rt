@@ -8,15 +8,15 @@ ghost use Rattle.radix_trie.specs.Views.{IsPairAbove, encoded_bound, pairs_above
 ghost use Rattle.radix_trie.specs.Walks.{bound_now, deref_pair};
 ghost use Rattle.frozen_trie.specs.Frozen.{codes_of, map_of_pairs, prefixes_up};
 
-use crate::codes::Codes;
-use crate::search::{index_of, last_prefix, lower, upper, within};
+use crate::search::within;
+use encoded_keys::keys::EncodedKeys;
+use encoded_keys::search::{index_of, last_prefix, lower, upper};
 use radix_keys::NibbleSlice;
 use std::alloc::Global;
 use std::marker::Model;
 use std::ops::{Bound, RangeBounds};
 
 mod appended;
-mod bytes;
 mod key;
 mod prefixes;
 mod sorted;
@@ -55,7 +55,7 @@ pub use walk::Texts;
 #[derive(Drop)]
 pub struct FrozenTexts<V> {
     /// The nibbles of the keys.
-    codes: Codes,
+    codes: EncodedKeys,
     values: Vec<V>,
     /// For each pair, the index and one more of the last earlier pair whose key is a prefix of its
     /// own, or 0.

@@ -14,7 +14,7 @@ use Rattle.frozen_trie.specs.Files.{AreItems, IsFileFault, IsFileable, RefusesRo
 use Rattle.frozen_trie.specs.Frozen.{codes_of}
 use Rattle.frozen_trie.proofs.FileLemmas.Distinct.{same_front, same_halves, same_row, whole_head}
 use Rattle.frozen_trie.proofs.FileLemmas.Maps.{count_rows}
-use Rattle.frozen_trie.proofs.FrozenLemmas.Growth.{rising_front}
+use Rattle.encoded_keys.proofs.CodeLemmas.Appended.{rising_front}
 use Rattle.frozen_trie.proofs.FrozenLemmas.Whole.{count_whole}
 
 -- what holds of each of joined lists holds of each of either

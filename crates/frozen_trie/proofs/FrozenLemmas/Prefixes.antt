@@ -11,10 +11,10 @@ use Rattle.nibble_map.proofs.ListLemmas.Sorted.{tied_lists_equal}
 use Rattle.nibble_map.proofs.MapLemmas.Bridge.{entries-retain_keys}
 use Rattle.nibble_map.proofs.MapLemmas.SameTests.{equal_tests}
 use Rattle.radix_trie.specs.Views.{pairs_above}
-use Rattle.frozen_trie.specs.Codes.{IsLastPrefix, code_at}
+use Rattle.encoded_keys.specs.Codes.{IsLastPrefix, code_at}
 use Rattle.frozen_trie.specs.Frozen.{codes_of, map_of_pairs, pairs_up_from, prefixes_up}
-use Rattle.frozen_trie.proofs.CodeLemmas.Order.{begun_not_before, between_begins, prefix_before}
-use Rattle.frozen_trie.proofs.CodeLemmas.Parts.{rising_at}
+use Rattle.encoded_keys.proofs.CodeLemmas.Order.{begun_not_before, between_begins, prefix_before}
+use Rattle.encoded_keys.proofs.CodeLemmas.Parts.{rising_at}
 use Rattle.frozen_trie.proofs.FrozenLemmas.Queries.{as_many, not_true, whole_is}
 use Rattle.sorted_tables.specs.Tables.{items_up}
 use Rattle.sorted_tables.proofs.TableLemmas.Parts.{cut_filter}

@@ -10,12 +10,12 @@ use Rattle.nibble_map.specs.Maps.{IsStored, walk}
 use Rattle.nibble_map.specs.Stored.{stored}
 use Rattle.nibble_map.proofs.MapLemmas.Edits.{walk-by_entries, stored_by_entries}
 use Rattle.nibble_map.proofs.ListLemmas.Parted.{prefix_length, is_prefix_true, prefix_by_test}
-use Rattle.frozen_trie.specs.Codes.{IsCut, IsLastPrefix, IsSpan, is_before, is_until, code_at}
+use Rattle.encoded_keys.specs.Codes.{IsCut, IsLastPrefix, IsSpan, is_before, is_until, code_at}
 use Rattle.radix_trie.specs.Views.{IsPairAbove, is_within, pairs_below, pairs_before, pairs_within}
 use Rattle.radix_trie.proofs.PathLemmas.Places.{below-nil}
 use Rattle.frozen_trie.specs.Frozen.{codes_of, map_of_pairs}
-use Rattle.frozen_trie.proofs.CodeLemmas.Order.{at_most, before_by_test, before_passes, prefix_before, between_begins, begun_not_before, until_by_test, until_by_before, until_by_prefix}
-use Rattle.frozen_trie.proofs.CodeLemmas.Parts.{rising_at}
+use Rattle.encoded_keys.proofs.CodeLemmas.Order.{at_most, before_by_test, before_passes, prefix_before, between_begins, begun_not_before, until_by_test, until_by_before, until_by_prefix}
+use Rattle.encoded_keys.proofs.CodeLemmas.Parts.{has_index, rising_at}
 use Rattle.sorted_tables.proofs.TableLemmas.Links.{parted_in_order}
 use Rattle.frozen_trie.proofs.FrozenLemmas.Rows.{get_at, entries_are_rows, stored_rows, pairs_of_rows, filter_rows, filter_is_part}
 
@@ -23,12 +23,6 @@ use Rattle.frozen_trie.proofs.FrozenLemmas.Rows.{get_at, entries_are_rows, store
 pub not_true : (b : Bool) → (b ≡ true → ⊥) → b ≡ false
 not_true true h = absurd (h refl)
 not_true false h = refl
-
--- an element of a list of codes stands at an index
-pub has_index : (cs : List (List ℕ)) (x : List ℕ) → Has cs x → (k : ℕ) × (k < length cs) × (code_at cs k ≡ x)
-has_index [] x h = absurd h
-has_index (c ∷ cs) x (inl e) = (0, omega arith, sym e)
-has_index (c ∷ cs) x (inr h) = let r = has_index cs x h in (suc r.0, omega (arith, r.1), r.2)
 
 -- what stands at an index is an element
 index_has : (cs : List (List ℕ)) (k : ℕ) → k < length cs → Has cs (code_at cs k)

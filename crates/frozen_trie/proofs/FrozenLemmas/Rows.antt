@@ -14,10 +14,10 @@ use Rattle.nibble_map.proofs.MapLemmas.Bridge.{equal_by_test}
 use Rattle.nibble_map.proofs.ListLemmas.Sorted.{tied_lists_equal, sorted_of_rising}
 use Rattle.nibble_map.proofs.ListLemmas.Unique.{before_not_itself}
 use Rattle.sorted_tables.proofs.TableLemmas.Parts.{filter_part}
-use Rattle.frozen_trie.specs.Codes.{code_at}
+use Rattle.encoded_keys.specs.Codes.{code_at}
 use Rattle.frozen_trie.specs.Frozen.{codes_of, coded_pairs, map_of_pairs}
-use Rattle.frozen_trie.specs.Index.{AreKeys}
-use Rattle.frozen_trie.proofs.CodeLemmas.Parts.{Each-at}
+use Rattle.encoded_keys.specs.Index.{AreKeys}
+use Rattle.encoded_keys.proofs.CodeLemmas.Parts.{Each-at}
 
 -- a list ties with itself
 ties : (q x : List ℕ) → q ≡ x → eq_by_cmp (slice_cmp nat_cmp) q x ≡ true

@@ -1,9 +1,12 @@
 -- Pairs whose codes rise, stored one by one, and those of a whole trie.
 use Rattle.std.proofs.Common.{◌≡◌, ℕ, List, [], ◌∷◌, fold, length, refl, sym, ap, ◌∙◌}
 use Rattle.std.proofs.lemmas.List.{length-map}
+use Rattle.std.specs.Cmp.Lexicographic.{slice_cmp}
 use Rattle.std.specs.FinMap as fin
+use Rattle.std.specs.Ordering.{nat_cmp}
 use Rattle.nibble_map.specs.Lists.{IsRising}
 use Rattle.nibble_map.specs.Maps.{PairMap, below, walk, without_below}
+use Rattle.nibble_map.proofs.MapLemmas.Bridge.{from_sorted-nil}
 use Rattle.nibble_map.proofs.MapLemmas.Rebuilt.{put_rows-entries}
 use Rattle.radix_trie.specs.Building.{with_pairs}
 use Rattle.radix_trie.specs.Views.{pairs_below}
@@ -21,6 +24,10 @@ module _ {K V : Type 0} (enc : K → List ℕ) where
   pub map_of_is_stored : (ps : List (K × V)) → IsRising (codes_of enc ps) → with_pairs enc fin.empty ps ≡ map_of_pairs enc ps
   map_of_is_stored ps h =
       sym (stored_one_by_one ps fin.empty) ∙ ap (fold (λ n e. fin.insert n e.0 e.1) fin.empty) (sym (entries_are_rows enc ps h)) ∙ put_rows-entries (map_of_pairs enc ps)
+
+-- no pair is the empty map
+pub no_pair_map : {K V : Type 0} (enc : K → List ℕ) (ps : List (K × V)) → ps ≡ [] → map_of_pairs enc ps ≡ fin.empty
+no_pair_map enc ps e = ap (map_of_pairs enc) e ∙ from_sorted-nil (slice_cmp nat_cmp)
 
 module _ {K V : Type 0} (m : PairMap K V) where
   -- the map counts all its pairs

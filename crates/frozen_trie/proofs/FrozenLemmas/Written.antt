@@ -5,7 +5,7 @@ use Rattle.nibble_map.specs.Lists.{IsRising}
 use Rattle.nibble_map.specs.Maps.{set_value, with_value}
 use Rattle.nibble_map.specs.Swaps.{Swaps, entry}
 use Rattle.nibble_map.proofs.MapLemmas.Edits.{from_sorted-lists_swapped_over}
-use Rattle.frozen_trie.specs.Codes.{code_at}
+use Rattle.encoded_keys.specs.Codes.{code_at}
 use Rattle.frozen_trie.specs.Frozen.{codes_of, coded_pairs, map_of_pairs}
 use Rattle.frozen_trie.proofs.FrozenLemmas.Rows.{code_of_pair, get_at, stored_rows}
 

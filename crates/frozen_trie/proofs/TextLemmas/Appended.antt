@@ -8,8 +8,9 @@ use Rattle.nibble_map.specs.Maps.{IsStored}
 use Rattle.nibble_map.proofs.ListLemmas.Rising.{IsRising-append}
 use Rattle.frozen_trie.specs.Frozen.{codes_of, map_of_pairs}
 use Rattle.frozen_trie.specs.Texts.{IsBehindAll}
-use Rattle.frozen_trie.proofs.FrozenLemmas.Growth.{all_before_more}
-use Rattle.frozen_trie.proofs.FrozenLemmas.Queries.{has_index, index_stored, stored_index}
+use Rattle.encoded_keys.proofs.CodeLemmas.Appended.{all_before_more}
+use Rattle.encoded_keys.proofs.CodeLemmas.Parts.{has_index}
+use Rattle.frozen_trie.proofs.FrozenLemmas.Queries.{index_stored, stored_index}
 use Rattle.frozen_trie.proofs.FrozenLemmas.Whole.{map_of_is_stored}
 
 module _ {K V : Type 0} (enc : K → List ℕ) (ps : List (K × V)) (rises : IsRising (codes_of enc ps)) where

@@ -8,12 +8,14 @@ use Rattle.nibble_map.specs.Lists.{IsRising}
 use Rattle.nibble_map.specs.Nibbles.{nibbles}
 use Rattle.nibble_map.proofs.MapLemmas.Bridge.{from_sorted-nil}
 use Rattle.radix_trie.specs.Views.{pairs_below}
-use Rattle.frozen_trie.specs.Frozen.{IsLinked, codes_of, map_of_pairs}
-use Rattle.frozen_trie.specs.Texts.{AreTexts, IsBehindAll, packed_bytes, text_map, text_pairs}
-use Rattle.frozen_trie.proofs.FrozenLemmas.Growth.{linked_none}
+use Rattle.encoded_keys.specs.Codes.{IsLinked}
+use Rattle.frozen_trie.specs.Frozen.{codes_of, map_of_pairs}
+use Rattle.encoded_keys.specs.Laid.{packed_bytes}
+use Rattle.frozen_trie.specs.Texts.{AreTexts, IsBehindAll, text_map, text_pairs}
+use Rattle.encoded_keys.proofs.CodeLemmas.Appended.{linked_none}
 use Rattle.frozen_trie.proofs.FrozenLemmas.Queries.{whole_is}
 use Rattle.frozen_trie.proofs.TextLemmas.Appended.{behind_if_rising, inserted_last, rising_if_behind}
-use Rattle.frozen_trie.proofs.TextLemmas.Bytes.{packed_bytes-nibbles}
+use Rattle.encoded_keys.proofs.CodeLemmas.Bytes.{packed_bytes-nibbles}
 use Rattle.frozen_trie.proofs.TextLemmas.Pairs.{all_texts, texts_rise}
 
 module _ {V : Type 0} where

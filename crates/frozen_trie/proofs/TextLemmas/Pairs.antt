@@ -8,9 +8,10 @@ use Rattle.nibble_map.specs.Maps.{value_at}
 use Rattle.nibble_map.specs.Nibbles.{nibbles}
 use Rattle.radix_keys.proofs.NibbleLemmas.Bytes.{length-nibbles}
 use Rattle.radix_trie.specs.Views.{IsPairAbove, is_within, pairs_above, pairs_before, pairs_below, pairs_within}
-use Rattle.frozen_trie.specs.Codes.{IsCut, IsLastPrefix, IsSpan, is_before, is_until, code_at}
+use Rattle.encoded_keys.specs.Codes.{IsCut, IsLastPrefix, IsSpan, is_before, is_until, code_at}
 use Rattle.frozen_trie.specs.Frozen.{codes_of, prefixes_up}
-use Rattle.frozen_trie.specs.Texts.{AreTexts, packed_bytes, text_map, text_pairs}
+use Rattle.encoded_keys.specs.Laid.{packed_bytes}
+use Rattle.frozen_trie.specs.Texts.{AreTexts, text_map, text_pairs}
 use Rattle.frozen_trie.proofs.FrozenLemmas.Prefixes.{step_up, walk_down_whole}
 use Rattle.frozen_trie.proofs.FrozenLemmas.Queries.{above_none, above_some, below_is, count_before_is, cuts_in_order, whole_is, within_is}
 use Rattle.frozen_trie.proofs.FrozenLemmas.Rows.{code_of_pair, get_at, get_none, len_is}

@@ -8,7 +8,7 @@ use Rattle.radix_trie.specs.Building.{pairs_in_order}
 use Rattle.frozen_trie.specs.Frozen.{IsFrozen, codes_of, map_of_pairs}
 use Rattle.frozen_trie.specs.Texts.{AreTexts, byte_pairs, text_map, text_pairs}
 use Rattle.frozen_trie.proofs.FrozenLemmas.Whole.{map_of_is_stored}
-use Rattle.frozen_trie.proofs.TextLemmas.Bytes.{packed_bytes-nibbles}
+use Rattle.encoded_keys.proofs.CodeLemmas.Bytes.{packed_bytes-nibbles}
 use Rattle.frozen_trie.proofs.TextLemmas.Growth.{values_of}
 
 module _ {V : Type 0} where

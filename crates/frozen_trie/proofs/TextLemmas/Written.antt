@@ -4,9 +4,10 @@ use Rattle.std.proofs.lemmas.List.{length-set}
 use Rattle.std.proofs.lemmas.Option.{get_or_from_slice_get}
 use Rattle.nibble_map.specs.Maps.{with_value}
 use Rattle.nibble_map.specs.Nibbles.{nibbles}
-use Rattle.frozen_trie.specs.Codes.{code_at}
+use Rattle.encoded_keys.specs.Codes.{code_at}
 use Rattle.frozen_trie.specs.Frozen.{codes_of, map_of_pairs}
-use Rattle.frozen_trie.specs.Texts.{AreTexts, packed_bytes, text_map, text_pairs}
+use Rattle.encoded_keys.specs.Laid.{packed_bytes}
+use Rattle.frozen_trie.specs.Texts.{AreTexts, text_map, text_pairs}
 use Rattle.frozen_trie.proofs.FrozenLemmas.Written.{codes_written, map_written}
 use Rattle.frozen_trie.proofs.TextLemmas.Pairs.{length-text_pairs, text_found, texts_rise}
 

@@ -4,9 +4,9 @@ ghost use Rattle.std.specs.FinMap as map;
 ghost use Rattle.radix_trie.specs.Views.{pairs_below};
 ghost use Rattle.frozen_trie.specs.Texts.{IsBehindAll};
 
-use crate::codes::Codes;
 use crate::frozen::FrozenTrie;
-use crate::linked::{follows, push_linked};
+use encoded_keys::keys::EncodedKeys;
+use encoded_keys::linked::{follows, push_linked};
 use radix_keys::{Memory, Refused, TrieKey};
 use sorted_tables::PushWhy;
 use std::alloc::Global;
@@ -17,7 +17,7 @@ impl<K: TrieKey, V> FrozenTrie<K, V> {
         ensures { result ≡ map.empty }
     {
         FrozenTrie {
-            codes: Codes::new(alloc),
+            codes: EncodedKeys::new(alloc),
             pairs: Vec::new(alloc),
             up: Vec::new(alloc),
             alloc,

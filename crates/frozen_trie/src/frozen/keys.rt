@@ -7,8 +7,10 @@ ghost use Rattle.radix_trie.specs.Walks.{bound_now, deref_pair};
 
 use crate::frozen::FrozenTrie;
 use crate::prefixes::CommonPrefixes;
-use crate::search::{index_of, last_prefix, lower, upper, within};
-use crate::slices::{entry_at, part};
+use crate::search::within;
+use crate::slices::entry_at;
+use encoded_keys::search::{index_of, last_prefix, lower, upper};
+use encoded_keys::slices::part;
 use radix_keys::{Encoding, Memory, NibbleSlice, TrieKey};
 use std::alloc::Global;
 use std::ops::{Bound, RangeBounds};

@@ -7,7 +7,7 @@ ghost use Rattle.radix_trie.specs.Lends.{absent_as_none};
 ghost use Rattle.frozen_trie.specs.Lends.{lends_second, lends_stored, lends_stored_found, lends_stored_if_ok};
 
 use crate::frozen::FrozenTrie;
-use crate::search::index_of;
+use encoded_keys::search::index_of;
 use radix_keys::{Encoding, Memory, NibbleSlice, TrieKey};
 use radix_trie::FindError;
 

@@ -5,9 +5,9 @@ ghost use Rattle.nibble_map.specs.Nibbles.{nibbles};
 ghost use Rattle.radix_trie.specs.Views.{pairs_below};
 ghost use Rattle.frozen_trie.specs.Texts.{IsBehindAll};
 
-use crate::codes::Codes;
-use crate::linked::{follows, push_linked};
 use crate::texts::FrozenTexts;
+use encoded_keys::keys::EncodedKeys;
+use encoded_keys::linked::{follows, push_linked};
 use radix_keys::{Memory, NibbleSlice, Refused};
 use sorted_tables::PushWhy;
 use std::alloc::Global;
@@ -18,7 +18,7 @@ impl<V> FrozenTexts<V> {
         ensures { result ≡ map.empty }
     {
         FrozenTexts {
-            codes: Codes::new(alloc),
+            codes: EncodedKeys::new(alloc),
             values: Vec::new(alloc),
             up: Vec::new(alloc),
             alloc,

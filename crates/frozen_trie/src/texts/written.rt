@@ -6,8 +6,8 @@ ghost use Rattle.nibble_map.specs.Maps.{value_at};
 ghost use Rattle.nibble_map.specs.Nibbles.{nibbles};
 ghost use Rattle.frozen_trie.specs.TextLends.{lends_text};
 
-use crate::search::index_of;
 use crate::texts::FrozenTexts;
+use encoded_keys::search::index_of;
 use radix_keys::NibbleSlice;
 
 impl<V> FrozenTexts<V> {

@@ -1,5 +1,5 @@
 use Rattle.std.proofs.Common.{ℕ, ◌<◌}
-use Rattle.frozen_trie.specs.Heads.{IsTop}
+use Rattle.encoded_keys.specs.Heads.{IsTop}
 use Rattle.flat_texts.specs.TextImages.{AreRightPairs, stored_count, stored_heads}
 use Rattle.flat_texts.proofs.checking.check.Given as goal
 

@@ -1,8 +1,8 @@
 use Rattle.std.proofs.Common.{◌≡◌, ◌-◌, ap, sym, ◌∙◌, arith}
 use Rattle.std.specs.Ordering.{is_lt}
 use Rattle.nibble_map.specs.Nibbles.{nibbles}
-use Rattle.frozen_trie.specs.Codes.{is_before}
-use Rattle.frozen_trie.proofs.CodeLemmas.Order.{before_by_test, before_passes}
+use Rattle.encoded_keys.specs.Codes.{is_before}
+use Rattle.encoded_keys.proofs.CodeLemmas.Order.{before_by_test, before_passes}
 use Rattle.flat_texts.specs.TextImages.{key_code}
 use Rattle.flat_texts.proofs.checking.is_after.Goals as goal
 

@@ -1,7 +1,7 @@
 use Rattle.std.proofs.Common.{◌≡◌, ◌<◌, length, refl, true, false, subst, sym, ◌∙◌, arith}
 use Rattle.nibble_map.specs.Nibbles.{nibbles}
-use Rattle.frozen_trie.specs.Codes.{code_at}
-use Rattle.frozen_trie.proofs.CodeLemmas.Links.{equal_stands_at}
+use Rattle.encoded_keys.specs.Codes.{code_at}
+use Rattle.encoded_keys.proofs.CodeLemmas.Links.{equal_stands_at}
 use Rattle.flat_texts.specs.TextImages.{key_codes}
 use Rattle.flat_texts.proofs.ImageLemmas.{codes_rise, length-codes}
 use Rattle.flat_texts.proofs.MapLemmas.{key_found, no_value, value_found}

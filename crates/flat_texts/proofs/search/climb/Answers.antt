@@ -5,8 +5,8 @@ use Rattle.nibble_map.proofs.ListLemmas.Parted.{prefix_itself, prefix_through}
 use Rattle.radix_keys.proofs.NibbleLemmas.Bytes.{length-nibbles}
 use Rattle.sorted_tables.specs.Tables.{IsLastOf}
 use Rattle.sorted_tables.proofs.TableLemmas.Links.{climb_on}
-use Rattle.frozen_trie.proofs.CodeLemmas.Links.{shared_prefix, unshared}
-use Rattle.frozen_trie.proofs.CodeLemmas.Order.{between_begins}
+use Rattle.encoded_keys.proofs.CodeLemmas.Links.{shared_prefix, unshared}
+use Rattle.encoded_keys.proofs.CodeLemmas.Order.{between_begins}
 use Rattle.flat_texts.specs.TextImages.{key_code, key_in}
 use Rattle.flat_texts.proofs.ImageLemmas.{code_before}
 use Rattle.flat_texts.proofs.search.climb.Goals as goal

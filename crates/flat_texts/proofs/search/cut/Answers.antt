@@ -2,10 +2,10 @@ use Rattle.std.proofs.Common.{◌≡◌, ◌+◌, ◌-◌, ◌/◌, ◌<◌, tru
 use Rattle.std.specs.Ordering.{is_lt}
 use Rattle.nibble_map.specs.Lists.{IsBefore}
 use Rattle.nibble_map.specs.Nibbles.{nibbles}
-use Rattle.frozen_trie.specs.Codes.{code_at, is_in_front}
-use Rattle.frozen_trie.proofs.CodeLemmas.Order.{before_passes}
-use Rattle.frozen_trie.proofs.CodeLemmas.Parts.{fails_after, passes_before, rising_at}
-use Rattle.frozen_trie.proofs.CodeLemmas.Sides.{front_passes_down}
+use Rattle.encoded_keys.specs.Codes.{code_at, is_in_front}
+use Rattle.encoded_keys.proofs.CodeLemmas.Order.{before_passes}
+use Rattle.encoded_keys.proofs.CodeLemmas.Parts.{fails_after, passes_before, rising_at}
+use Rattle.encoded_keys.proofs.CodeLemmas.Sides.{front_passes_down}
 use Rattle.image_parts.specs.Parts.{row_count}
 use Rattle.flat_texts.specs.TextImages.{key_codes}
 use Rattle.flat_texts.proofs.ImageLemmas.{code_side, codes_rise, length-codes, span_apart, span_behind, span_front}

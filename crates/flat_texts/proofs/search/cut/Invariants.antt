@@ -1,6 +1,6 @@
 use Rattle.std.proofs.Common.{◌≡◌, ℕ, ◌-◌, ◌<◌, ◌≤◌, true, false}
 use Rattle.nibble_map.specs.Nibbles.{nibbles}
-use Rattle.frozen_trie.specs.Codes.{code_at, is_in_front}
+use Rattle.encoded_keys.specs.Codes.{code_at, is_in_front}
 use Rattle.flat_texts.specs.TextImages.{IsTextImage, key_codes}
 use Rattle.flat_texts.proofs.search.cut.Given as goal
 

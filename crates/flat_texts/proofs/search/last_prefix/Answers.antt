@@ -1,8 +1,8 @@
 use Rattle.std.proofs.Common.{◌≡◌, refl, true, false, subst, sym, ◌∙◌, arith}
 use Rattle.nibble_map.specs.Lists.{IsBefore}
 use Rattle.nibble_map.specs.Nibbles.{nibbles}
-use Rattle.frozen_trie.proofs.CodeLemmas.Links.{last_before, last_is_itself}
-use Rattle.frozen_trie.proofs.CodeLemmas.Order.{before_by_test}
+use Rattle.encoded_keys.proofs.CodeLemmas.Links.{last_before, last_is_itself}
+use Rattle.encoded_keys.proofs.CodeLemmas.Order.{before_by_test}
 use Rattle.flat_texts.specs.TextImages.{key_codes}
 use Rattle.flat_texts.proofs.ImageLemmas.{code_is, codes_rise, last_of_codes}
 use Rattle.flat_texts.proofs.search.last_prefix.Goals as goal

@@ -1,7 +1,7 @@
 use Rattle.std.proofs.Common.{◌<◌, arith}
 use Rattle.nibble_map.specs.Nibbles.{nibbles}
-use Rattle.frozen_trie.specs.Heads.{head_padded}
-use Rattle.frozen_trie.proofs.CodeLemmas.Sides.{greater_side, less_side}
+use Rattle.encoded_keys.specs.Heads.{head_padded}
+use Rattle.encoded_keys.proofs.CodeLemmas.Sides.{greater_side, less_side}
 use Rattle.flat_texts.specs.TextImages.{key_bound, key_code}
 use Rattle.flat_texts.proofs.HeadLemmas.{behind_by_head, front_by_head, other_by_head}
 use Rattle.flat_texts.proofs.ImageLemmas.{code_fits}

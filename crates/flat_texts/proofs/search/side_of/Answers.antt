@@ -1,8 +1,8 @@
 use Rattle.std.proofs.Common.{ltb, ◌≡◌, ◌*◌, ◌<◌, length, min, take, get_or, arith, ap, subst, sym, ◌∙◌}
 use Rattle.nibble_map.specs.Nibbles.{nibbles}
 use Rattle.radix_keys.proofs.NibbleLemmas.Bytes.{length-nibbles}
-use Rattle.frozen_trie.specs.Codes.{IsSide}
-use Rattle.frozen_trie.proofs.CodeLemmas.Sides.{agree_less, side_by_nibble, side_by_numbers}
+use Rattle.encoded_keys.specs.Codes.{IsSide}
+use Rattle.encoded_keys.proofs.CodeLemmas.Sides.{agree_less, side_by_nibble, side_by_numbers}
 use Rattle.flat_texts.proofs.HeadLemmas.{short_begun}
 use Rattle.flat_texts.proofs.search.side_of.Goals as goal
 

@@ -1,7 +1,7 @@
 use Rattle.std.proofs.Common.{◌*◌, length, min, arith, subst, sym}
 use Rattle.nibble_map.specs.Nibbles.{nibbles}
 use Rattle.radix_keys.proofs.NibbleLemmas.Bytes.{length-nibbles}
-use Rattle.frozen_trie.specs.Codes.{IsSide}
+use Rattle.encoded_keys.specs.Codes.{IsSide}
 use Rattle.flat_texts.proofs.HeadLemmas.{begun_plain, begun_through}
 use Rattle.flat_texts.proofs.search.side_of_begun.Goals as goal
 

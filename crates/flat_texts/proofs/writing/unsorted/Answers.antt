@@ -1,9 +1,9 @@
 use Rattle.std.proofs.Common.{◌≡◌, ◌-◌, ◌<◌, [], true, false, length, map as each, ap, sym, ◌∙◌, arith}
 use Rattle.std.specs.Ordering.{is_lt}
 use Rattle.nibble_map.specs.Nibbles.{nibbles}
-use Rattle.frozen_trie.specs.Codes.{code_at, is_before}
+use Rattle.encoded_keys.specs.Codes.{code_at, is_before}
 use Rattle.frozen_trie.specs.Frozen.{codes_of}
-use Rattle.frozen_trie.proofs.CodeLemmas.Order.{before_by_test, before_passes}
+use Rattle.encoded_keys.proofs.CodeLemmas.Order.{before_by_test, before_passes}
 use Rattle.flat_texts.specs.TextImages.{given_pair}
 use Rattle.flat_texts.specs.declared.pair.Pair.{Pair}
 use Rattle.flat_texts.proofs.WriteLemmas.{code_of, length-pair_codes, next_before, next_rises, one_rises}

@@ -2,7 +2,8 @@ use Rattle.std.proofs.Common.{◌≡◌, ◌+◌, All, ◌++◌, [], ◌∷◌, 
 use Rattle.std.proofs.lemmas.List.{length-map, length-take, map_more, take-map, take_all}
 use Rattle.std.proofs.lemmas.List.Elements.{All-more}
 use Rattle.nibble_map.specs.Lists.{IsRising}
-use Rattle.frozen_trie.specs.Frozen.{IsFirstUnsorted, IsLinked, codes_of}
+use Rattle.encoded_keys.specs.Codes.{IsLinked}
+use Rattle.frozen_trie.specs.Frozen.{IsFirstUnsorted, codes_of}
 use Rattle.frozen_trie.proofs.build.codes_and_links.Goals as goal
 
 pub returns-in-Err-clause-unsorted : goal.returns-in-Err-clause-unsorted

@@ -1,5 +1,6 @@
 use Rattle.std.proofs.Common.{◌≡◌, All, take}
-use Rattle.frozen_trie.specs.Frozen.{IsLinked, codes_of}
+use Rattle.encoded_keys.specs.Codes.{IsLinked}
+use Rattle.frozen_trie.specs.Frozen.{codes_of}
 use Rattle.frozen_trie.proofs.build.codes_and_links.Given as goal
 
 abbrev pub invariant-loop-pair : goal.invariant-loop-pair

@@ -2,8 +2,9 @@ use Rattle.std.proofs.Common.{◌≡◌, ◌+◌, ◌++◌, [], ◌∷◌, List,
 use Rattle.std.proofs.lemmas.List.{length-append, length-map}
 use Rattle.nibble_map.specs.Lists.{IsRising}
 use Rattle.radix_trie.proofs.WalkLemmas.Pages.{next_pair, no_next_pair}
-use Rattle.frozen_trie.specs.Frozen.{IsLinked, codes_of}
-use Rattle.frozen_trie.proofs.FrozenLemmas.Growth.{rising_front}
+use Rattle.encoded_keys.specs.Codes.{IsLinked}
+use Rattle.frozen_trie.specs.Frozen.{codes_of}
+use Rattle.encoded_keys.proofs.CodeLemmas.Appended.{rising_front}
 use Rattle.frozen_trie.proofs.FrozenLemmas.Whole.{count_whole}
 use Rattle.frozen_trie.proofs.freezing.codes_and_links.Goals as goal
 

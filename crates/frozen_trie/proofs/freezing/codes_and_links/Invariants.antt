@@ -1,6 +1,7 @@
 use Rattle.std.proofs.Common.{◌≡◌, ◌++◌, [], length}
 use Rattle.radix_trie.specs.Views.{pairs_below}
-use Rattle.frozen_trie.specs.Frozen.{IsLinked, codes_of}
+use Rattle.encoded_keys.specs.Codes.{IsLinked}
+use Rattle.frozen_trie.specs.Frozen.{codes_of}
 use Rattle.frozen_trie.proofs.freezing.codes_and_links.Given as goal
 
 abbrev pub invariant-loop-key : goal.invariant-loop-key

@@ -5,9 +5,9 @@ use Rattle.nibble_map.specs.Nibbles.{nibbles}
 use Rattle.radix_keys.proofs.KeyLemmas.Prefixes.{nibbles_prefix}
 use Rattle.radix_trie.proofs.LawLemmas.Asked.{above_holds, below_holds, keys_of_part_rise}
 use Rattle.radix_trie.proofs.LawLemmas.Orders.{texts_kept}
-use Rattle.frozen_trie.specs.Texts.{packed_bytes}
+use Rattle.encoded_keys.specs.Laid.{packed_bytes}
 use Rattle.frozen_trie.proofs.FrozenLemmas.Laws.{at_encodings}
-use Rattle.frozen_trie.proofs.TextLemmas.Bytes.{packed_bytes-nibbles}
+use Rattle.encoded_keys.proofs.CodeLemmas.Bytes.{packed_bytes-nibbles}
 use Rattle.frozen_trie.proofs.laws.texts_stand_at_their_bytes.Goals as goal
 
 pub returns : goal.returns

@@ -1,4 +1,4 @@
-use Rattle.frozen_trie.proofs.CodeLemmas.Spans.{cut_up_to}
+use Rattle.frozen_trie.proofs.FrozenLemmas.Spans.{cut_up_to}
 use Rattle.frozen_trie.proofs.search.end.Goals as goal
 
 pub returns-in-Included : goal.returns-in-Included

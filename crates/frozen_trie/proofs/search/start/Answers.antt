@@ -1,4 +1,4 @@
-use Rattle.frozen_trie.proofs.CodeLemmas.Spans.{cut_from}
+use Rattle.frozen_trie.proofs.FrozenLemmas.Spans.{cut_from}
 use Rattle.frozen_trie.proofs.search.start.Goals as goal
 
 pub returns-in-Included : goal.returns-in-Included

@@ -1,4 +1,4 @@
-use Rattle.frozen_trie.proofs.CodeLemmas.Spans.{span_between}
+use Rattle.frozen_trie.proofs.FrozenLemmas.Spans.{span_between}
 use Rattle.frozen_trie.proofs.search.within.Goals as goal
 
 pub returns : goal.returns

@@ -1,8 +1,8 @@
 use Rattle.std.proofs.Common.{◌≡◌, ℕ, ◌<◌, Some, inr, length, option_map, subst, sym, ap, ◌∙◌, arith}
 use Rattle.nibble_map.specs.Lists.{IsRising}
 use Rattle.radix_trie.proofs.ChangeLemmas.Written.{same_after}
-use Rattle.frozen_trie.specs.Codes.{code_at}
-use Rattle.frozen_trie.specs.Index.{AreKeys}
+use Rattle.encoded_keys.specs.Codes.{code_at}
+use Rattle.encoded_keys.specs.Index.{AreKeys}
 use Rattle.frozen_trie.proofs.FrozenLemmas.Queries.{as_many}
 use Rattle.frozen_trie.proofs.FrozenLemmas.Rows.{get_at, get_none, keys_of_codes}
 use Rattle.frozen_trie.proofs.FrozenLemmas.Written.{codes_written, map_written}

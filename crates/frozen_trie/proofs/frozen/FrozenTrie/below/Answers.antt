@@ -1,6 +1,6 @@
 use Rattle.std.proofs.Common.{subst, sym, ap, take, drop, ◌-◌, ◌∙◌}
 use Rattle.nibble_map.specs.Lists.{IsRising}
-use Rattle.frozen_trie.specs.Codes.{IsCut, is_before, is_until}
+use Rattle.encoded_keys.specs.Codes.{IsCut, is_before, is_until}
 use Rattle.frozen_trie.proofs.FrozenLemmas.Queries.{below_is, cuts_in_order}
 use Rattle.frozen_trie.proofs.frozen.FrozenTrie.below.Goals as goal
 

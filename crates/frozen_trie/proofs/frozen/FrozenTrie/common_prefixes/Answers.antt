@@ -1,6 +1,6 @@
 use Rattle.std.proofs.Common.{length, subst, ◌∙◌, arith}
 use Rattle.nibble_map.specs.Lists.{IsRising}
-use Rattle.frozen_trie.specs.Codes.{IsLastPrefix}
+use Rattle.encoded_keys.specs.Codes.{IsLastPrefix}
 use Rattle.frozen_trie.proofs.FrozenLemmas.Prefixes.{walk_down_whole}
 use Rattle.frozen_trie.proofs.FrozenLemmas.Queries.{as_many}
 use Rattle.frozen_trie.proofs.FrozenLemmas.Rows.{len_is}

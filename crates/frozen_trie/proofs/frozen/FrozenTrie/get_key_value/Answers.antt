@@ -1,7 +1,7 @@
 use Rattle.std.proofs.Common.{◌≡◌, ◌<◌, ℕ, length, arith, get_or, subst, sym, ap, ◌∙◌}
 use Rattle.nibble_map.specs.Lists.{IsRising}
-use Rattle.frozen_trie.specs.Codes.{code_at}
-use Rattle.frozen_trie.specs.Index.{AreKeys}
+use Rattle.encoded_keys.specs.Codes.{code_at}
+use Rattle.encoded_keys.specs.Index.{AreKeys}
 use Rattle.radix_trie.specs.Walks.{deref_pair}
 use Rattle.frozen_trie.proofs.FrozenLemmas.Rows.{get_at, get_none, keys_of_codes}
 use Rattle.frozen_trie.proofs.FrozenLemmas.Queries.{as_many}

@@ -1,6 +1,6 @@
 use Rattle.std.proofs.Common.{◌-◌, length, arith, get_or, subst, ap, ◌∙◌}
 use Rattle.nibble_map.specs.Lists.{IsRising}
-use Rattle.frozen_trie.specs.Codes.{IsLastPrefix}
+use Rattle.encoded_keys.specs.Codes.{IsLastPrefix}
 use Rattle.radix_trie.specs.Walks.{deref_pair}
 use Rattle.frozen_trie.proofs.FrozenLemmas.Queries.{above_none, above_some}
 use Rattle.frozen_trie.proofs.frozen.FrozenTrie.longest_match.Goals as goal

@@ -1,4 +1,4 @@
-use Rattle.frozen_trie.proofs.FrozenLemmas.Growth.{no_pair_map}
+use Rattle.frozen_trie.proofs.FrozenLemmas.Whole.{no_pair_map}
 use Rattle.frozen_trie.proofs.frozen.FrozenTrie.new.Goals as goal
 
 pub returns : goal.returns

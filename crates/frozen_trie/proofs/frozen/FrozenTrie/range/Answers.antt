@@ -1,7 +1,7 @@
 use Rattle.std.proofs.Common.{◌-◌, length, subst, ap, take, drop, ◌∙◌, arith}
 use Rattle.nibble_map.specs.Lists.{IsRising}
 use Rattle.radix_trie.specs.Views.{encoded_bound, is_within}
-use Rattle.frozen_trie.specs.Codes.{IsSpan}
+use Rattle.encoded_keys.specs.Codes.{IsSpan}
 use Rattle.frozen_trie.proofs.FrozenLemmas.Queries.{as_many, within_is}
 use Rattle.frozen_trie.proofs.frozen.FrozenTrie.range.Goals as goal
 

@@ -1,6 +1,6 @@
 use Rattle.std.proofs.Common.{subst, ◌∙◌}
 use Rattle.nibble_map.specs.Lists.{IsRising}
-use Rattle.frozen_trie.specs.Codes.{IsCut, is_before}
+use Rattle.encoded_keys.specs.Codes.{IsCut, is_before}
 use Rattle.frozen_trie.proofs.FrozenLemmas.Queries.{count_before_is}
 use Rattle.frozen_trie.proofs.frozen.FrozenTrie.rank.Goals as goal
 

@@ -4,7 +4,7 @@ use Rattle.std.proofs.lemmas.Option.{slice_get_read}
 use Rattle.std.specs.FinMap as fin
 use Rattle.nibble_map.specs.Lists.{IsRising}
 use Rattle.radix_trie.specs.Walks.{deref_pair}
-use Rattle.frozen_trie.specs.Codes.{IsLastPrefix, code_at}
+use Rattle.encoded_keys.specs.Codes.{IsLastPrefix, code_at}
 use Rattle.frozen_trie.specs.Frozen.{prefixes_up, map_of_pairs}
 use Rattle.frozen_trie.proofs.FrozenLemmas.Prefixes.{step_up}
 use Rattle.frozen_trie.proofs.FrozenLemmas.Queries.{as_many}

@@ -1,7 +1,7 @@
 use Rattle.std.proofs.Common.{ap, subst, ◌∙◌, arith}
 use Rattle.std.specs.FinMap as fin
 use Rattle.nibble_map.specs.Nibbles.{nibbles}
-use Rattle.frozen_trie.specs.Codes.{IsCut, is_before, is_until}
+use Rattle.encoded_keys.specs.Codes.{IsCut, is_before, is_until}
 use Rattle.frozen_trie.proofs.TextLemmas.Pairs.{code_count, text_cuts, texts_below}
 use Rattle.frozen_trie.proofs.texts.FrozenTexts.below.Goals as goal
 

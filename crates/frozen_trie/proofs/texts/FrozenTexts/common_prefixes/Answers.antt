@@ -1,7 +1,7 @@
 use Rattle.std.proofs.Common.{length, ap, subst, ◌∙◌, arith}
 use Rattle.std.specs.FinMap as fin
 use Rattle.nibble_map.specs.Nibbles.{nibbles}
-use Rattle.frozen_trie.specs.Codes.{IsLastPrefix}
+use Rattle.encoded_keys.specs.Codes.{IsLastPrefix}
 use Rattle.frozen_trie.proofs.TextLemmas.Pairs.{code_count, texts_above}
 use Rattle.frozen_trie.proofs.texts.FrozenTexts.common_prefixes.Goals as goal
 

@@ -1,6 +1,6 @@
 use Rattle.std.proofs.Common.{◌≡◌, ℕ, ◌<◌, length, subst, ◌∙◌, arith}
 use Rattle.nibble_map.specs.Nibbles.{nibbles}
-use Rattle.frozen_trie.specs.Codes.{code_at}
+use Rattle.encoded_keys.specs.Codes.{code_at}
 use Rattle.frozen_trie.proofs.TextLemmas.Pairs.{no_value, value_found}
 use Rattle.frozen_trie.proofs.texts.FrozenTexts.get.Goals as goal
 

@@ -3,7 +3,7 @@ use Rattle.std.specs.FinMap as fin
 use Rattle.nibble_map.specs.Nibbles.{nibbles}
 use Rattle.radix_trie.specs.Views.{pairs_below}
 use Rattle.radix_trie.specs.Walks.{deref_pair}
-use Rattle.frozen_trie.specs.Codes.{code_at}
+use Rattle.encoded_keys.specs.Codes.{code_at}
 use Rattle.frozen_trie.proofs.TextLemmas.Pairs.{code_count, no_pair, pair_got}
 use Rattle.frozen_trie.proofs.texts.FrozenTexts.get_key_value.Goals as goal
 

@@ -1,7 +1,7 @@
 use Rattle.std.proofs.Common.{◌≡◌, ℕ, ◌<◌, inr, length, ap, subst, ◌∙◌, arith}
 use Rattle.nibble_map.specs.Nibbles.{nibbles}
 use Rattle.radix_trie.proofs.ChangeLemmas.Written.{same_after}
-use Rattle.frozen_trie.specs.Codes.{code_at}
+use Rattle.encoded_keys.specs.Codes.{code_at}
 use Rattle.frozen_trie.proofs.TextLemmas.Pairs.{no_value, value_found}
 use Rattle.frozen_trie.proofs.TextLemmas.Written.{text_map_written, texts_written}
 use Rattle.frozen_trie.proofs.texts.FrozenTexts.get_mut.Goals as goal

@@ -3,7 +3,7 @@ use Rattle.std.specs.FinMap as fin
 use Rattle.nibble_map.specs.Lists.{IsRising}
 use Rattle.nibble_map.specs.Nibbles.{nibbles}
 use Rattle.radix_trie.specs.Views.{pairs_below}
-use Rattle.frozen_trie.specs.Frozen.{IsLinked}
+use Rattle.encoded_keys.specs.Codes.{IsLinked}
 use Rattle.frozen_trie.specs.Texts.{AreTexts, IsBehindAll, text_map}
 use Rattle.frozen_trie.proofs.TextLemmas.Growth.{all_texts_more, list_behind, lists_rise, text_map_more, texts_more}
 use Rattle.frozen_trie.proofs.TextLemmas.Pairs.{code_count}

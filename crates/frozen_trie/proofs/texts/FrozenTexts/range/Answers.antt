@@ -2,7 +2,7 @@ use Rattle.std.proofs.Common.{ap, subst, ◌∙◌, arith}
 use Rattle.std.specs.FinMap as fin
 use Rattle.nibble_map.specs.Nibbles.{nibbles}
 use Rattle.radix_trie.specs.Views.{encoded_bound, is_within}
-use Rattle.frozen_trie.specs.Codes.{IsSpan}
+use Rattle.encoded_keys.specs.Codes.{IsSpan}
 use Rattle.frozen_trie.proofs.TextLemmas.Pairs.{code_count, texts_within}
 use Rattle.frozen_trie.proofs.texts.FrozenTexts.range.Goals as goal
 

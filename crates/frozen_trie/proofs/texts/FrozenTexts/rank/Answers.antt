@@ -1,6 +1,6 @@
 use Rattle.std.proofs.Common.{subst}
 use Rattle.nibble_map.specs.Nibbles.{nibbles}
-use Rattle.frozen_trie.specs.Codes.{IsCut, is_before}
+use Rattle.encoded_keys.specs.Codes.{IsCut, is_before}
 use Rattle.frozen_trie.proofs.TextLemmas.Pairs.{texts_before}
 use Rattle.frozen_trie.proofs.texts.FrozenTexts.rank.Goals as goal
 

@@ -3,7 +3,7 @@ use Rattle.std.proofs.lemmas.List.{get_or_read}
 use Rattle.std.specs.FinMap as fin
 use Rattle.radix_trie.specs.Views.{pairs_below}
 use Rattle.radix_trie.specs.Walks.{deref_pair}
-use Rattle.frozen_trie.specs.Codes.{IsLastPrefix, code_at}
+use Rattle.encoded_keys.specs.Codes.{IsLastPrefix, code_at}
 use Rattle.frozen_trie.proofs.TextLemmas.Pairs.{code_count, text_step}
 use Rattle.frozen_trie.proofs.texts.FrozenTexts.step_up.Goals as goal
 

@@ -1,9 +1,0 @@
-use Rattle.std.proofs.Common.{◌≡◌, ◌+◌, ◌/◌, length}
-use Rattle.frozen_trie.specs.Index.{AreSlotted}
-use Rattle.frozen_trie.proofs.codes.Codes.slots_of.Given as goal
-
-abbrev pub invariant-loop-i : goal.invariant-loop-i
-invariant-loop-i l = record {
-  size : length l.slots.items ≡ l.count + l.count / 4 + 65;
-  slotted : AreSlotted l.self l.i l.slots.items l.tags;
-}

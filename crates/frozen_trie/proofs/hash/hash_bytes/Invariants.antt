@@ -1,6 +1,0 @@
-use Rattle.std.proofs.Common.{◌≡◌}
-use Rattle.frozen_trie.specs.Index.{hash_of_words}
-use Rattle.frozen_trie.proofs.hash.hash_bytes.Given as goal
-
-abbrev pub invariant-loop-i : goal.invariant-loop-i
-invariant-loop-i l = l.hash ≡ hash_of_words l.bytes l.i

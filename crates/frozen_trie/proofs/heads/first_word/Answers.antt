@@ -1,4 +1,0 @@
-use Rattle.frozen_trie.proofs.heads.first_word.Goals as goal
-
-pub returns-clause-bytes : goal.returns-clause-bytes
-returns-clause-bytes c = λ i. (c.type_inv.bytes i).fits

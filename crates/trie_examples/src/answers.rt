@@ -3,7 +3,7 @@ ghost use Rattle.std.specs.Prelude.{◌≡◌, ◌<◌, ◌≤◌, ◌/◌, ◌^
 ghost use Rattle.radix_trie.specs.Bits.{first_bits};
 ghost use Rattle.radix_trie.specs.Maps.{IsStored};
 
-use crate::uses::routes;
+use crate::uses::{next_hop, routes};
 use radix_trie::{
     Bits, Memory, SubTrie, Trie, TrieCommon, first_bits_are_digits, first_bits_tell_networks,
 };
@@ -54,7 +54,8 @@ const NETWORKS: &'static [(u32, usize, u32)] = &[
 /// An address, and the count of bits and the hop of its network.
 type Row = (u32, Option<(usize, u32)>);
 
-/// In the table of these networks the addresses have the rows' routes.
+/// In the table of these networks the addresses have the rows' routes, which lead where
+/// `next_hop` says.
 fn check_routes(
     rt: &impl Abort,
     alloc: Global,
@@ -68,6 +69,11 @@ fn check_routes(
             None => None,
         };
         assert!(rt; found == *wanted, "{address:x}");
+        let bits = Bits::first_of_u32(alloc, *address, 32)?;
+        assert!(rt;
+            next_hop(&table, &bits)? == wanted.map(|row| row.1),
+            "{address:x}"
+        );
     }
     Ok(())
 }
@@ -86,6 +92,8 @@ fn longest_networks_of_addresses(rt: HostRuntime) -> Result<(), Memory> {
     ];
     const WITHOUT: &'static [Row] = &[
         (0x0a01_0203, Some((24, 3))),
+        (0x0a01_0303, Some((16, 2))),
+        (0x0a02_0203, Some((8, 1))),
         (0x0aff_ffff, Some((8, 1))),
         (0x0b01_0203, None),
     ];

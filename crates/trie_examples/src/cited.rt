@@ -109,12 +109,3 @@ fn one_pair_is_stored_and_taken_away(rt: HostRuntime) -> Result<(), TrieError> {
     assert!(rt; words.get(&"team")? == Some(&3));
     Ok(())
 }
-
-#[test]
-fn a_branch_is_taken_away(rt: HostRuntime) -> Result<(), Memory> {
-    let mut words = texts(rt.alloc(), &[("tea", 1), ("team", 3), ("inn", 5)])?;
-    let _ = words.remove_prefix(&"te")?;
-    assert!(rt; words.get(&"inn")? == Some(&5));
-    assert!(rt; words.len() == 1);
-    Ok(())
-}

@@ -50,17 +50,15 @@ fn completions<'a, 'w>(words: &'a FrozenTrie<&'w str, u64>, typed: &str) -> &'a 
 
 #[test]
 fn the_words_that_begin_so(rt: HostRuntime) -> Result<()> {
+    const ROWS: &'static [(&'static str, &'static [Word<'static>])] = &[
+        ("ten", &[("ten", 4), ("tenor", 5)]),
+        ("te", &[("tea", 2), ("team", 3), ("ten", 4), ("tenor", 5)]),
+        ("to", &[]),
+    ];
     let words = dictionary(rt.alloc(), "inn\ntea\nteam\nten\ntenor\n")?;
-    let found = completions(&words, "ten");
-    assert!(rt; found == [("ten", 4), ("tenor", 5)].as_slice());
-    assert!(rt; completions(&words, "te").first() == Some(&("tea", 2)));
-    assert!(rt; completions(&words, "to").is_empty());
-    assert!(rt; words.count_below(&"te")? == 4);
-    Ok(())
-}
-
-#[test]
-fn a_file_in_another_order(rt: HostRuntime) -> Result<()> {
+    for (typed, wanted) in ROWS {
+        assert!(rt; completions(&words, typed) == *wanted, "{typed}");
+    }
     let Err(error) = dictionary(rt.alloc(), "tea\nten\nteam\n") else {
         bail!("it was taken");
     };

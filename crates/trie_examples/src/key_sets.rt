@@ -39,31 +39,9 @@ fn missing_words(rt: HostRuntime) -> Result<(), TrieError> {
 }
 
 #[test]
-fn common_words(rt: HostRuntime) -> Result<(), TrieError> {
-    let alloc = rt.alloc();
-    let ours = words(alloc, &["tea", "ten", "inn"])?;
-    let theirs = words(alloc, &["inn", "tea", "team"])?;
-    let mut common = ours.intersection(&theirs)?;
-    assert!(rt; common.next()?.copied() == Some("inn"));
-    assert!(rt; common.next()?.copied() == Some("tea"));
-    assert!(rt; common.next()?.is_none());
-    Ok(())
-}
-
-#[test]
-fn one_word_more(rt: HostRuntime) -> Result<(), TrieError> {
-    let alloc = rt.alloc();
-    let mut ours = words(alloc, &["tea", "inn"])?;
-    let theirs = words(alloc, &["inn", "tea"])?;
-    assert!(rt; ours.insert("team")?);
-    assert!(rt; theirs.is_subset(&ours)?);
-    assert!(rt; !ours.is_subset(&theirs)?);
-    Ok(())
-}
-
-#[test]
 fn nearest_word(rt: HostRuntime) -> Result<(), TrieError> {
-    let mut set = words(rt.alloc(), &["tea", "ten"])?;
+    let mut set = words(rt.alloc(), &["tea"])?;
+    assert!(rt; set.insert("ten")?);
     assert!(rt; set.longest_match(&"teams")?.copied() == Some("tea"));
     assert!(rt; set.remove(&"tea")?);
     assert!(rt; set.pop_last()? == Some("ten"));

@@ -12,7 +12,7 @@ use radix_trie::{
     Memory, Trie, TrieCommon, TrieError, TrieKey, keys_of_ranges_rise, numbers_keep_their_order,
 };
 use std::alloc::Global;
-use trie_tests::samples::{Texts, texts};
+use trie_tests::samples::texts;
 
 /// The first pairs that a walk has left, so many at most.
 fn first_pairs<'a, K: TrieKey, V>(
@@ -64,32 +64,33 @@ const LINES: &'static [(u64, &'static str)] = &[
     (1_250, "read"),
 ];
 
-#[test]
-fn lines_of_a_while(rt: HostRuntime) -> Result<(), TrieError> {
-    let log: Trie<u64, &'static str> = Trie::from_iter(rt.alloc(), LINES.iter().copied())?;
-    let page = lines_between(rt.alloc(), &log, 1_201, 70_000, 10)?;
-    assert!(rt; page.as_slice() == [(&1_250, &"read"), (&1_300, &"asked")].as_slice());
-    let page = lines_between(rt.alloc(), &log, 0, 70_001, 1)?;
-    assert!(rt; page.as_slice() == [(&1_200, &"opened")].as_slice());
-    Ok(())
-}
+/// A time, another one, how many lines at most, and the lines from the one on and before the other.
+type Row = (u64, u64, usize, &'static [(u64, &'static str)]);
 
 #[test]
-fn no_line_from_a_time_to_an_earlier_one(rt: HostRuntime) -> Result<(), TrieError> {
+fn lines_of_a_while(rt: HostRuntime) -> Result<(), TrieError> {
+    const ROWS: &'static [Row] = &[
+        (1_201, 70_000, 10, &[(1_250, "read"), (1_300, "asked")]),
+        (0, 70_001, 1, &[(1_200, "opened")]),
+        (1_300, 1_200, 10, &[]),
+        (1_300, 1_300, 10, &[]),
+    ];
     let log: Trie<u64, &'static str> = Trie::from_iter(rt.alloc(), LINES.iter().copied())?;
-    assert!(rt; lines_between(rt.alloc(), &log, 1_300, 1_200, 10)?.is_empty());
-    assert!(rt; lines_between(rt.alloc(), &log, 1_300, 1_300, 10)?.is_empty());
-    let none: Trie<u64, &'static str> = Trie::new(rt.alloc());
-    assert!(rt; first_pairs(rt.alloc(), none.range(0u64..9u64)?, 10)?.is_empty());
+    for (from, to, most, wanted) in ROWS {
+        let page = lines_between(rt.alloc(), &log, *from, *to, *most)?;
+        let found = page.iter().map(|pair| (*pair.0, *pair.1));
+        let found: Vec<(u64, &'static str)> = found.collect(rt.alloc())?;
+        assert!(rt; found.as_slice() == *wanted, "{from} {to}");
+    }
     Ok(())
 }
 
 /// After the end each further call returns None.
 #[test]
 fn ended_for_good(rt: HostRuntime) -> Result<(), Memory> {
-    let words: Texts = texts(rt.alloc(), &[("tea", 1), ("ten", 2)])?;
+    let words = texts(rt.alloc(), &[("tea", 1), ("ten", 2)])?;
     let mut walk = words.range("te".."team")?;
-    assert!(rt; walk.next()?.is_some());
-    assert!(rt; walk.next()?.is_none() && walk.next()?.is_none());
+    let steps = (walk.next()?, walk.next()?, walk.next()?);
+    assert!(rt; steps == (Some((&"tea", &1)), None, None));
     Ok(())
 }

@@ -67,17 +67,10 @@ const WORDS: &'static [(&'static str, u64)] = &[
 ];
 
 #[test]
-fn two_words_of_four(rt: HostRuntime) -> Result<(), Memory> {
+fn words_of_pages(rt: HostRuntime) -> Result<(), Memory> {
     let words = texts(rt.alloc(), WORDS)?;
     let found = page(&words, "te", 2)?;
     assert!(rt; found.as_slice() == [(&"tea", &1), (&"team", &3)].as_slice());
-    assert!(rt; words.count_below(&"te")? == 4);
-    Ok(())
-}
-
-#[test]
-fn words_of_two_pages(rt: HostRuntime) -> Result<(), Memory> {
-    let words = texts(rt.alloc(), WORDS)?;
     let (first, second) = two_pages(rt.alloc(), &words, "te", 3)?;
     assert!(rt; first.len() == 3 && second.as_slice() == [(&"tenor", &5)].as_slice());
     let (first, second) = two_pages(rt.alloc(), &words, "to", 3)?;

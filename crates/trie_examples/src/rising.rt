@@ -45,28 +45,14 @@ fn words<'a, V>(trie: &'a Trie<&'static str, V>) -> Result<Keys<'a, &'static str
 }
 
 #[test]
-fn texts_rise(rt: HostRuntime) -> Result<(), Memory> {
+fn texts_and_numbers_rise(rt: HostRuntime) -> Result<(), TrieError> {
     let sample = texts(rt.alloc(), SAMPLE)?;
+    let found: Vec<&'static str> = words(&sample)?.copied().collect(rt.alloc())?;
     let wanted = ["a", "ab", "abcd", "abcdef", "abcdefgh", "acbdef", "bcdefgh"];
-    let mut count = 0;
-    for word in words(&sample)? {
-        assert!(rt; count < wanted.len() && *word == wanted[count]);
-        count += 1;
-    }
-    assert!(rt; count == wanted.len());
-    Ok(())
-}
-
-#[test]
-fn numbers_rise(rt: HostRuntime) -> Result<(), TrieError> {
+    assert!(rt; found.as_slice() == wanted.as_slice());
     let mut trie: Trie<u32, u64> = Trie::from_iter(rt.alloc(), [(300, 2), (7, 1)].iter().copied())?;
     trie.extend([(70_000, 3)].iter().copied())?;
-    let wanted = [7, 300, 70_000];
-    let mut count = 0;
-    for number in numbers(&trie)? {
-        assert!(rt; count < wanted.len() && *number == wanted[count]);
-        count += 1;
-    }
-    assert!(rt; count == wanted.len());
+    let found: Vec<u32> = numbers(&trie)?.copied().collect(rt.alloc())?;
+    assert!(rt; found.as_slice() == [7, 300, 70_000].as_slice());
     Ok(())
 }

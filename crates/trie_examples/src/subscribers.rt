@@ -32,11 +32,13 @@ fn the_same_level_comes_first(rt: HostRuntime) -> Result<(), TrieError> {
     ] {
         filters.insert(Parts::split(alloc, filter, b'/')?, subscriber)?;
     }
-    let chess = Parts::split(alloc, "sport/chess/score", b'/')?;
-    let tennis = Parts::split(alloc, "sport/tennis/score", b'/')?;
-    let news = Parts::split(alloc, "news", b'/')?;
-    assert!(rt; first_subscriber(alloc, &filters, &chess)?.copied() == Some(3));
-    assert!(rt; first_subscriber(alloc, &filters, &tennis)?.copied() == Some(2));
-    assert!(rt; first_subscriber(alloc, &filters, &news)?.is_none());
+    for (topic, subscriber) in [
+        ("sport/chess/score", Some(3)),
+        ("sport/tennis/score", Some(2)),
+        ("news", None),
+    ] {
+        let topic = Parts::split(alloc, topic, b'/')?;
+        assert!(rt; first_subscriber(alloc, &filters, &topic)?.copied() == subscriber);
+    }
     Ok(())
 }

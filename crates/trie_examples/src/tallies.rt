@@ -63,29 +63,3 @@ fn words_are_counted_and_discounted(rt: HostRuntime) -> Result<(), TrieError> {
     assert!(rt; counts.get(&"tea")? == Some(&1) && counts.len() == 1);
     Ok(())
 }
-
-#[test]
-fn an_entry_is_acted_on(rt: HostRuntime) -> Result<(), TrieError> {
-    let mut stock: Trie<&'static str, u64> = Trie::new(rt.alloc());
-    assert!(rt; !stock.entry("pear")?.is_occupied());
-    assert!(rt; stock.entry("pear")?.insert(3)?.is_none());
-    assert!(rt;
-        *stock
-            .entry("pear")?
-            .and_modify(|n: &mut u64| { *n = 5 })
-            .or_insert(9)?
-            == 5
-    );
-    assert!(rt;
-        *stock
-            .entry("plum")?
-            .and_modify(|n: &mut u64| { *n = 5 })
-            .or_insert(9)?
-            == 9
-    );
-    let entry = stock.entry("pear")?;
-    assert!(rt; *entry.key() == "pear" && entry.get() == Some(&5));
-    assert!(rt; entry.remove()? == Some(("pear", 5)));
-    assert!(rt; stock.entry("pear")?.remove()?.is_none() && stock.len() == 1);
-    Ok(())
-}

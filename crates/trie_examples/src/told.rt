@@ -158,9 +158,9 @@ fn encoded(alloc: Global, x: (u8, u16), y: (u8, u16)) -> Result<(Nibblet, Nibble
 
 #[test]
 fn pairs_have_rising_encodings(rt: HostRuntime) -> Result<(), Memory> {
-    let (first, second) = encoded(rt.alloc(), (1, 300), (2, 0))?;
-    assert!(rt; first < second);
-    let (first, second) = encoded(rt.alloc(), (1, 255), (1, 256))?;
-    assert!(rt; first < second);
+    for (x, y) in [((1, 300), (2, 0)), ((1, 255), (1, 256))] {
+        let (first, second) = encoded(rt.alloc(), x, y)?;
+        assert!(rt; first < second);
+    }
     Ok(())
 }

@@ -36,21 +36,19 @@ fn words_that_begin_so(rt: HostRuntime) -> Result<(), Memory> {
         ("to", 4),
         ("inn", 5),
     ];
+    const ROWS: &'static [(&'static str, &'static [&'static str])] = &[
+        ("te", &["tea", "team", "ten"]),
+        ("tea", &["tea", "team"]),
+        ("i", &["inn"]),
+        ("x", &[]),
+    ];
     let words = texts(rt.alloc(), WORDS)?;
-    for (typed, wanted) in [
-        ("te", &["tea", "team", "ten"][..]),
-        ("tea", &["tea", "team"][..]),
-        ("i", &["inn"][..]),
-        ("x", &[][..]),
-    ] {
-        let mut count = 0;
-        if let Some(keys) = completed(&words, typed)? {
-            for key in keys {
-                assert!(rt; count < wanted.len() && *key == wanted[count], "{typed}");
-                count += 1;
-            }
-        }
-        assert!(rt; count == wanted.len(), "{typed}");
+    for (typed, wanted) in ROWS {
+        let found = match completed(&words, typed)? {
+            Some(keys) => keys.copied().collect(rt.alloc())?,
+            None => Vec::new(rt.alloc()),
+        };
+        assert!(rt; found.as_slice() == *wanted, "{typed}");
     }
     Ok(())
 }

@@ -9,12 +9,11 @@ use keyed_maps::keyed_maps_follow_nearest;
 use radix_trie::iter::Values;
 use radix_trie::{Bits, Memory, Trie, TrieCommon, TrieKey};
 use std::alloc::Global;
-use std::process::Abort;
 use trie_tests::samples::texts;
 
 /// Where the longest stored prefix of an address leads: the network of which each other stored one
 /// that begins the address is a prefix.
-fn next_hop<V: Copy>(table: &Trie<Bits, V>, address: &Bits) -> Result<Option<V>, Memory>
+pub(crate) fn next_hop<V: Copy>(table: &Trie<Bits, V>, address: &Bits) -> Result<Option<V>, Memory>
     ensures hop { IfOk result (λ hop. (v : V) → hop ≡ Some v
         → (network : List ℕ) × IsPrefix network address.now
         × (keyed_map ⟦<Bits as TrieKey>⟧.encoding table.now network ≡ Some v)
@@ -92,38 +91,6 @@ pub(crate) fn routes(
     Ok(table)
 }
 
-/// The addresses lead where the rows say.
-fn check_hops(
-    rt: &impl Abort,
-    alloc: Global,
-    table: &Trie<Bits, u32>,
-    rows: &[(u32, Option<u32>)],
-) -> Result<(), Memory> {
-    for (address, hop) in rows {
-        let bits = Bits::first_of_u32(alloc, *address, 32)?;
-        assert!(rt; next_hop(table, &bits)? == *hop, "{address}");
-    }
-    Ok(())
-}
-
-/// Routes to networks of 8, 16 and 24 bits, each inside the one before.
-#[test]
-fn longest_prefix_of_an_address(rt: HostRuntime) -> Result<(), Memory> {
-    const NETWORKS: &'static [(u32, usize, u32)] = &[
-        (0x0a00_0000, 8, 1),
-        (0x0a01_0000, 16, 2),
-        (0x0a01_0200, 24, 3),
-    ];
-    const ROWS: &'static [(u32, Option<u32>)] = &[
-        (0x0a01_0203, Some(3)),
-        (0x0a01_0303, Some(2)),
-        (0x0a02_0203, Some(1)),
-        (0x0b01_0203, None),
-    ];
-    let table = routes(rt.alloc(), NETWORKS)?;
-    check_hops(&rt, rt.alloc(), &table, ROWS)
-}
-
 #[test]
 fn words_with_a_beginning(rt: HostRuntime) -> Result<(), Memory> {
     const WORDS: &'static [(&'static str, u64)] = &[
@@ -140,19 +107,7 @@ fn words_with_a_beginning(rt: HostRuntime) -> Result<(), Memory> {
     Ok(())
 }
 
-/// The paths inherit these widths, of the settings of three folders.
-fn check_widths(
-    rt: &impl Abort,
-    alloc: Global,
-    rows: &[(&'static str, u64)],
-) -> Result<(), Memory> {
-    let settings = texts(alloc, &[("/", 80), ("/home/", 100), ("/home/ada/", 120)])?;
-    for (path, width) in rows {
-        assert!(rt; inherited(&settings, path, 72)? == *width, "{path}");
-    }
-    Ok(())
-}
-
+/// The settings of three folders, and what paths inherit of them.
 #[test]
 fn setting_of_the_nearest_folder(rt: HostRuntime) -> Result<(), Memory> {
     const ROWS: &'static [(&'static str, u64)] = &[
@@ -161,5 +116,12 @@ fn setting_of_the_nearest_folder(rt: HostRuntime) -> Result<(), Memory> {
         ("/etc/passwd", 80),
         ("relative", 72),
     ];
-    check_widths(&rt, rt.alloc(), ROWS)
+    let settings = texts(
+        rt.alloc(),
+        &[("/", 80), ("/home/", 100), ("/home/ada/", 120)],
+    )?;
+    for (path, width) in ROWS {
+        assert!(rt; inherited(&settings, path, 72)? == *width, "{path}");
+    }
+    Ok(())
 }

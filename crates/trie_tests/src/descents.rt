@@ -53,8 +53,8 @@ fn descents_tell_what_stands_there(rt: HostRuntime) -> Result<(), Memory> {
     let trie = texts(rt.alloc(), SAMPLE)?;
     for (lists, is_empty, number) in DESCENTS {
         let at = after(rt.alloc(), &trie, lists)?;
-        assert!(rt; at.is_empty() == *is_empty);
-        assert!(rt; at.get_key_value().map(|pair| *pair.1) == *number);
+        let found = (at.is_empty(), at.get_key_value().map(|pair| *pair.1));
+        assert!(rt; found == (*is_empty, *number));
     }
     Ok(())
 }

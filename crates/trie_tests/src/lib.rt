@@ -1,10 +1,8 @@
 //! Tests of what no line of the shell says: values and keys of other types, queries by keys of
-//! other types, closures, descents, what outlives the view that it comes from, texts of tries,
-//! sizes, nodes, and tables with their least lists; and what tests and examples share.
+//! other types, closures, descents, what outlives the view that it comes from, sizes, nodes, and
+//! tables with their least lists; and what tests and examples share.
 #![tactic(auto)]
 
-#[cfg(test)]
-mod building;
 #[cfg(test)]
 mod descents;
 #[cfg(test)]

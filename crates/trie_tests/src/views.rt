@@ -2,47 +2,13 @@
 
 use crate::samples::{SAMPLE, Texts, texts};
 use radix_trie::iter::Children;
-use radix_trie::{Memory, SubTrie, SubTrieError, TrieCommon};
+use radix_trie::{Memory, SubTrieError, TrieCommon};
 
 /// The value at the view of a key, which lasts longer than the view.
 fn value_of<'t>(trie: &'t Texts, key: &'static str) -> Option<&'t u64> {
     match trie.subtrie(&key) {
         Ok(Some(view)) => TrieCommon::value(&view),
         _ => None,
-    }
-}
-
-#[test]
-fn value_outlives_its_view(rt: HostRuntime) -> Result<(), Memory> {
-    let trie = texts(rt.alloc(), SAMPLE)?;
-    assert!(rt; value_of(&trie, "ab") == Some(&16));
-    Ok(())
-}
-
-/// Whether the view answers the keys and the values, and says of another key that it is outside.
-fn answers(
-    view: &SubTrie<'_, &'static str, u64>,
-    pairs: &[(&'static str, u64)],
-    outside: &'static str,
-) -> bool {
-    for (key, value) in pairs {
-        if view.get(key) != Ok(Some(value)) {
-            return false;
-        }
-    }
-    view.get(&outside) == Err(SubTrieError::Outside)
-}
-
-/// Whether the one child answers so.
-fn answers_alone(
-    children: Children<'_, &'static str, u64>,
-    pairs: &[(&'static str, u64)],
-    outside: &'static str,
-) -> bool {
-    let mut children = children;
-    match children.next() {
-        Some(child) => answers(&child, pairs, outside) && children.next().is_none(),
-        None => false,
     }
 }
 
@@ -57,14 +23,24 @@ fn children_of<'t>(
     }
 }
 
-/// A child answers for the keys below it.
+/// A value outlives its view, and so does a child, which answers for the keys below it alone.
 #[test]
-fn child_answers_for_keys_below(rt: HostRuntime) -> Result<(), Memory> {
-    const BELOW: &'static [(&'static str, u64)] = &[("abcdef", 18), ("abcdefgh", 19)];
+fn values_and_children_outlive_their_views(rt: HostRuntime) -> Result<(), Memory> {
     let trie = texts(rt.alloc(), SAMPLE)?;
-    match children_of(&trie, "abcd")? {
-        Some(children) => assert!(rt; answers_alone(children, BELOW, "abcd")),
-        None => assert!(rt; false),
-    }
+    assert!(rt; value_of(&trie, "ab") == Some(&16));
+    let Some(mut children) = children_of(&trie, "abcd")? else {
+        return Err(Memory);
+    };
+    let (child, other) = (children.next(), children.next());
+    let Some(child) = child else {
+        return Err(Memory);
+    };
+    let found = (
+        child.get(&"abcdef"),
+        child.get(&"abcdefgh"),
+        child.get(&"abcd"),
+    );
+    assert!(rt; found == (Ok(Some(&18)), Ok(Some(&19)), Err(SubTrieError::Outside)));
+    assert!(rt; other.is_none());
     Ok(())
 }

@@ -16,41 +16,26 @@ fn plain(alloc: Global) -> Trie<i8, u64> {
     trie
 }
 
-/// Their wrappers are walked as the numbers rise.
+/// Their wrappers are walked as the numbers rise, and an unsigned key finds the pair whose encoding
+/// has its bytes.
 #[test]
-fn moved_keys_walk(rt: HostRuntime) -> Result<(), Memory> {
-    let trie = plain(rt.alloc());
-    let moved = trie.to_ascending()?;
-    let Ok(mut walk) = TrieCommon::iter(&moved) else {
-        assert!(rt; false);
-        return Ok(());
-    };
-    for &(number, value) in SAMPLE {
-        match walk.next() {
-            Some((key, stored)) => {
-                assert_eq!(rt; key.value(), number);
-                assert_eq!(rt; *stored, value);
-            }
-            None => assert!(rt; false),
-        }
-    }
-    assert!(rt; walk.next().is_none());
-    assert_eq!(rt; moved.footprint(), (7, 6));
-    assert_eq!(rt; moved.check_integrity(), Ok(true));
-    Ok(())
-}
-
-/// An unsigned key finds the pair whose encoding has its bytes.
-#[test]
-fn query_by_unsigned_keys(rt: HostRuntime) -> Result<(), Memory> {
+fn moved_keys(rt: HostRuntime) -> Result<(), Memory> {
+    const UNSIGNED: &'static [(u8, Option<u64>)] = &[
+        (0x7e, Some(5)),
+        (0x7f, Some(6)),
+        (0x80, Some(7)),
+        (0x81, Some(8)),
+        (0xff, None),
+    ];
     let moved = plain(rt.alloc()).to_ascending()?;
-    assert_eq!(rt; moved.get(&0x7eu8)?.copied(), Some(5));
-    assert_eq!(rt; moved.get(&0x7fu8)?.copied(), Some(6));
-    assert_eq!(rt; moved.get(&0x80u8)?.copied(), Some(7));
-    assert_eq!(rt; moved.get(&0x81u8)?.copied(), Some(8));
-    assert_eq!(rt; moved.get(&0xffu8)?, None);
-    assert_eq!(rt; moved.get(&Ascending::from(-1i8))?.copied(), Some(6));
-    assert_eq!(rt; moved.get(&-1i8)?, None);
+    let pairs = TrieCommon::iter(&moved)?.map(|(key, value)| (key.value(), *value));
+    let pairs: Vec<(i8, u64)> = pairs.collect(rt.alloc())?;
+    assert!(rt; pairs.as_slice() == SAMPLE && moved.footprint() == (7, 6));
+    assert!(rt; moved.check_integrity()?);
+    for (key, wanted) in UNSIGNED {
+        assert!(rt; moved.get(key)?.copied() == *wanted);
+    }
+    assert!(rt; (moved.get(&Ascending::from(-1i8))?, moved.get(&-1i8)?) == (Some(&6), None));
     Ok(())
 }
 
@@ -58,30 +43,28 @@ fn query_by_unsigned_keys(rt: HostRuntime) -> Result<(), Memory> {
 #[test]
 fn wide_keys(rt: HostRuntime) -> Result<(), Memory> {
     let mut trie: Trie<Ascending<i16>, u64> = Trie::new(rt.alloc());
-    for (key, value) in [(i16::MIN, 1), (-2, 2), (i16::MAX, 3)] {
-        assert_eq!(rt; trie.insert(Ascending::from(key), value).ok(), Some(None));
+    for (key, unsigned, value) in [
+        (i16::MIN, 0x0000u16, 1),
+        (-2, 0x7ffe, 2),
+        (i16::MAX, 0xffff, 3),
+    ] {
+        assert!(rt; matches!(trie.insert(Ascending::from(key), value), Ok(None)));
+        assert!(rt; trie.get(&unsigned)? == Some(&value));
     }
-    assert_eq!(rt; trie.get(&0x0000u16)?.copied(), Some(1));
-    assert_eq!(rt; trie.get(&0x7ffeu16)?.copied(), Some(2));
-    assert_eq!(rt; trie.get(&0xffffu16)?.copied(), Some(3));
     Ok(())
 }
 
 /// The bounds of the type, and the numbers round 0, in the order of numbers.
 #[test]
-fn walk_from_bound_to_bound(rt: HostRuntime) {
+fn walk_from_bound_to_bound(rt: HostRuntime) -> Result<(), Memory> {
     let mut trie: Trie<Ascending<i64>, u64> = Trie::new(rt.alloc());
     for key in [0i64, i64::MAX, -1, 1, i64::MIN] {
-        assert_eq!(rt; trie.insert(Ascending::from(key), 0).ok(), Some(None));
+        assert!(rt; matches!(trie.insert(Ascending::from(key), 0), Ok(None)));
     }
-    let Ok(mut keys) = TrieCommon::keys(&trie) else {
-        assert!(rt; false);
-        return;
-    };
-    for key in [i64::MIN, -1, 0, 1, i64::MAX] {
-        assert_eq!(rt; keys.next().map(|k| k.value()), Some(key));
-    }
-    assert!(rt; keys.next().is_none());
+    let keys = TrieCommon::keys(&trie)?.map(|key| key.value());
+    let keys: Vec<i64> = keys.collect(rt.alloc())?;
+    assert!(rt; keys.as_slice() == [i64::MIN, -1, 0, 1, i64::MAX].as_slice());
+    Ok(())
 }
 
 /// The trie without pairs, and the trie of one.
@@ -89,12 +72,11 @@ fn walk_from_bound_to_bound(rt: HostRuntime) {
 fn small_tries(rt: HostRuntime) -> Result<(), Memory> {
     let mut trie: Trie<isize, u64> = Trie::new(rt.alloc());
     let moved = trie.to_ascending()?;
-    assert!(rt; moved.is_empty());
-    assert_eq!(rt; moved.footprint(), (1, 0));
-    assert_eq!(rt; trie.insert(-1, 9).ok(), Some(None));
+    assert!(rt; (moved.len(), moved.footprint()) == (0, (1, 0)));
+    assert!(rt; matches!(trie.insert(-1, 9), Ok(None)));
     let moved = trie.to_ascending()?;
-    assert_eq!(rt; moved.get(&0x7fff_ffff_ffff_ffffu64)?.copied(), Some(9));
-    assert_eq!(rt; moved.footprint(), (2, 16));
+    assert!(rt; moved.get(&0x7fff_ffff_ffff_ffffu64)? == Some(&9));
+    assert!(rt; moved.footprint() == (2, 16));
     Ok(())
 }
 

@@ -1,39 +1,9 @@
 //! Encodings of keys that the shell has no type for.
 
 use crate::keys::digits::encodes;
-use crate::samples::list;
 use radix_keys::{BigEndian, BytesError, Memory, NibbleSlice, Nibblet, TrieKey};
 use std::alloc::Global;
 use std::test::Fail;
-
-#[test]
-fn vectors(rt: HostRuntime) -> Result<(), Fail> {
-    let a = rt.alloc();
-    assert!(rt; encodes(a, &Vec::from_slice(a, &[1u16, 258])?, "00010102"));
-    assert!(rt; encodes(a, &Vec::from_slice(a, &[-1i8, 1])?, "ff01"));
-    Ok(())
-}
-
-#[test]
-fn pairs(rt: HostRuntime) {
-    let a = rt.alloc();
-    assert!(rt; encodes(a, &(0xf1u8, 256u16), "f10100"));
-    assert!(rt; encodes(a, &(true, 'a'), "0100000061"));
-    assert!(rt; encodes(a, &(([1u8], -1i8), BigEndian::from(2u16)), "01ff0002"));
-}
-
-#[test]
-fn odd_encodings_have_no_bytes(rt: HostRuntime) -> Result<(), Fail> {
-    let a = rt.alloc();
-    let odd = list(a, &[1, 2, 3])?;
-    assert!(rt; odd.encode_bytes(a).is_err_and(|e| e == BytesError::Odd));
-    assert!(rt;
-        Digit { digit: 7 }
-            .encode_bytes(a)
-            .is_err_and(|e| e == BytesError::Odd)
-    );
-    Ok(())
-}
 
 /// A caller's own key, of one nibble.
 #[derive(Clone, Copy, PartialEq, Eq)]
@@ -72,6 +42,15 @@ impl TrieKey for Digit {
 }
 
 #[test]
-fn a_key_of_ones_own(rt: HostRuntime) {
-    assert!(rt; encodes(rt.alloc(), &Digit { digit: 7 }, "7"));
+fn keys_of_other_types(rt: HostRuntime) -> Result<(), Fail> {
+    let a = rt.alloc();
+    assert!(rt; encodes(a, &Vec::from_slice(a, &[1u16, 258])?, "00010102"));
+    assert!(rt; encodes(a, &Vec::from_slice(a, &[-1i8, 1])?, "ff01"));
+    assert!(rt; encodes(a, &(0xf1u8, 256u16), "f10100"));
+    assert!(rt; encodes(a, &(true, 'a'), "0100000061"));
+    assert!(rt; encodes(a, &(([1u8], -1i8), BigEndian::from(2u16)), "01ff0002"));
+    let own = Digit { digit: 7 };
+    assert!(rt; encodes(a, &own, "7"));
+    assert!(rt; own.encode_bytes(a).is_err_and(|e| e == BytesError::Odd));
+    Ok(())
 }

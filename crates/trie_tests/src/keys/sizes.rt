@@ -144,27 +144,6 @@ fn many_pairs(rt: HostRuntime) -> Result<(), Memory> {
     Ok(())
 }
 
-/// All keys of one byte: the root and sixteen nodes below it have sixteen children each.
-#[test]
-fn keys_of_one_byte(rt: HostRuntime) -> Result<(), Memory> {
-    let mut trie: Trie<u8, u8> = Trie::new(rt.alloc());
-    for key in 0..=255 {
-        assert_eq!(rt; trie.insert(key, key).ok(), Some(None));
-    }
-    assert_eq!(rt; trie.footprint(), (273, 272));
-    let mut children: usize = 0;
-    for child in trie.children()? {
-        assert_eq!(rt; TrieCommon::len(&child), 16);
-        children = children.wrapping_add(1);
-    }
-    assert_eq!(rt; children, 16);
-    for key in 0..=255 {
-        assert_eq!(rt; trie.remove(&key)?, Some(key));
-    }
-    assert_eq!(rt; trie.footprint(), (1, 0));
-    Ok(())
-}
-
 /// A hundred insertions, as commands in a view.
 fn insertions(alloc: Global) -> Result<Vec<ViewCommand<&'static [u8], usize>>, AllocError> {
     let mut commands = Vec::new(alloc);

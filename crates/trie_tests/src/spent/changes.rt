@@ -3,8 +3,7 @@ ghost use Rattle.std.specs.FinMap as map;
 ghost use Rattle.std.specs.Prelude.{◌≡◌, IfOk, OnOk, OnErr, IsTrue, IsFalse};
 ghost use Rattle.radix_trie.specs.Maps.{with_value};
 
-use crate::samples::{Texts, texts};
-use radix_trie::{InsertError, InsertWhy, Memory, OpenError, Trie, TrieKey};
+use radix_trie::{InsertError, InsertWhy, OpenError, Trie, TrieKey};
 
 /// Stores a pair through a view at a key. False: no point stands there.
 fn put_within<K: TrieKey + Drop, V: Drop>(
@@ -32,21 +31,6 @@ fn put_within<K: TrieKey + Drop, V: Drop>(
     }
 }
 
-/// Whether a point stands there, and the pair is stored through a view at it.
-fn is_put(trie: &mut Texts, at: &'static str, key: &'static str, value: u64) -> bool {
-    matches!(put_within(trie, &at, key, value), Ok(true)) && trie.get(&key) == Ok(Some(&value))
-}
-
-/// What a caller stores through a view.
-#[test]
-fn stored_through_a_view(rt: HostRuntime) -> Result<(), Memory> {
-    let mut trie = texts(rt.alloc(), &[("hello", 55)])?;
-    assert!(rt; matches!(put_within(&mut trie, &"h", "hi", 1), Ok(false)));
-    assert!(rt; is_put(&mut trie, "hello", "hello!", 2));
-    assert!(rt; trie.len() == 2);
-    Ok(())
-}
-
 /// Writes the value at a key through a view.
 fn write_within<K: TrieKey, V: Drop>(
     trie: &mut Trie<K, V>,
@@ -65,17 +49,4 @@ fn write_within<K: TrieKey, V: Drop>(
         }
         Err(error) => Err(error),
     }
-}
-
-/// A value is written in its place through a view, and nothing else changes.
-#[test]
-fn written_through_a_view(rt: HostRuntime) -> Result<(), Memory> {
-    const PAIRS: &'static [(&'static str, u64)] = &[("abc", 1), ("abd", 2)];
-    let mut trie = texts(rt.alloc(), PAIRS)?;
-    assert!(rt; write_within(&mut trie, &"abd", 9) == Ok(()));
-    assert!(rt; write_within(&mut trie, &"ab", 9) == Err(OpenError::Closed));
-    assert!(rt; trie.get(&"abc")? == Some(&1));
-    assert!(rt; trie.get(&"abd")? == Some(&9));
-    assert!(rt; trie.footprint() == (4, 7));
-    Ok(())
 }

@@ -1,6 +1,6 @@
 //! Two tries side by side.
 
-use crate::samples::{Texts, texts};
+use crate::samples::texts;
 use radix_trie::iter::{Combination, Operation};
 use radix_trie::{Memory, TrieError};
 use std::process::Abort;
@@ -24,29 +24,28 @@ fn check_pairs(
 /// other trie.
 #[test]
 fn first_pair_is_given(rt: HostRuntime) -> Result<(), TrieError> {
+    const ROWS: &'static [(Operation, &'static [(&'static str, u64)])] = &[
+        (
+            Operation::Union,
+            &[
+                ("inn", 4),
+                ("tea", 1),
+                ("team", 2),
+                ("teams", 6),
+                ("ten", 3),
+            ],
+        ),
+        (Operation::Intersection, &[("tea", 1)]),
+        (Operation::Difference, &[("team", 2), ("ten", 3)]),
+        (
+            Operation::SymmetricDifference,
+            &[("inn", 4), ("team", 2), ("teams", 6), ("ten", 3)],
+        ),
+    ];
     let first = texts(rt.alloc(), &[("tea", 1), ("team", 2), ("ten", 3)])?;
     let second = texts(rt.alloc(), &[("inn", 4), ("tea", 5), ("teams", 6)])?;
-    let walk = Combination::new(&first, &second, Operation::Union)?;
-    check_pairs(
-        &rt,
-        walk,
-        &[
-            ("inn", 4),
-            ("tea", 1),
-            ("team", 2),
-            ("teams", 6),
-            ("ten", 3),
-        ],
-    )?;
-    let walk = Combination::new(&first, &second, Operation::Intersection)?;
-    check_pairs(&rt, walk, &[("tea", 1)])?;
-    let walk = Combination::new(&first, &second, Operation::Difference)?;
-    check_pairs(&rt, walk, &[("team", 2), ("ten", 3)])?;
-    let walk = Combination::new(&first, &second, Operation::SymmetricDifference)?;
-    check_pairs(
-        &rt,
-        walk,
-        &[("inn", 4), ("team", 2), ("teams", 6), ("ten", 3)],
-    )?;
+    for (operation, pairs) in ROWS {
+        check_pairs(&rt, Combination::new(&first, &second, *operation)?, pairs)?;
+    }
     Ok(())
 }

@@ -21,13 +21,6 @@ fn pairs(alloc: Global) -> Result<Vec<(&'static str, u64)>, AllocError> {
     Ok(pairs)
 }
 
-/// Stores the pairs one by one.
-fn store_all(rt: &impl Abort, trie: &mut Texts, pairs: &[(&'static str, u64)]) {
-    for (text, count) in pairs {
-        assert!(rt; matches!(trie.insert(*text, *count), Ok(None)));
-    }
-}
-
 /// The longest text is found by its thousand bytes, and it is the nearest one above a text that
 /// goes on by b.
 fn check_longest(rt: &impl Abort, alloc: Global, trie: &Texts) -> Result<(), Memory> {
@@ -51,18 +44,6 @@ fn check_walk(rt: &impl Abort, trie: &Texts) -> Result<(), Memory> {
     Ok(())
 }
 
-/// The clone is equal, and so is the trie of the pairs.
-fn check_copies(
-    rt: &impl Abort,
-    alloc: Global,
-    trie: &Texts,
-    pairs: &[(&'static str, u64)],
-) -> Result<(), Memory> {
-    assert!(rt; trie.clone()? == *trie);
-    assert!(rt; texts(alloc, pairs)? == *trie);
-    Ok(())
-}
-
 /// The texts with odd counts go.
 fn take_odd(rt: &impl Abort, trie: &mut Texts, pairs: &[(&'static str, u64)]) {
     for (text, count) in pairs {
@@ -75,15 +56,13 @@ fn take_odd(rt: &impl Abort, trie: &mut Texts, pairs: &[(&'static str, u64)]) {
 #[test]
 fn thousand_texts(rt: HostRuntime) -> Result<(), Memory> {
     let pairs = pairs(rt.alloc())?;
-    let mut trie: Texts = Trie::new(rt.alloc());
-    store_all(&rt, &mut trie, pairs.as_slice());
+    let mut trie = texts(rt.alloc(), pairs.as_slice())?;
     assert!(rt; trie.footprint() == (1001, 2000));
     check_longest(&rt, rt.alloc(), &trie)?;
     check_walk(&rt, &trie)?;
-    check_copies(&rt, rt.alloc(), &trie, pairs.as_slice())?;
+    assert!(rt; trie.clone()? == trie);
     take_odd(&rt, &mut trie, pairs.as_slice());
-    assert!(rt; trie.len() == 500);
-    assert!(rt; trie.footprint() == (501, 2000));
+    assert!(rt; trie.len() == 500 && trie.footprint() == (501, 2000));
     Ok(())
 }
 

@@ -26,37 +26,16 @@ fn are_numbers(gone: &[(u16, u64)], first: u16, count: usize) -> bool {
 fn check_byte(rt: &impl Abort, trie: &mut Trie<u16, u64>) -> Result<(), Memory> {
     let gone = trie.remove_prefix(&4u8)?;
     assert!(rt; are_numbers(gone.as_slice(), 1024, 256));
-    assert!(rt; trie.len() == 1744);
-    assert!(rt; trie.get(&1023u16)? == Some(&1023));
-    assert!(rt; trie.get(&1024u16)? == None);
-    assert!(rt; trie.check_integrity()?);
+    assert!(rt; (trie.get(&1023u16)?, trie.get(&1024u16)?) == (Some(&1023), None));
+    assert!(rt; trie.len() == 1744 && trie.check_integrity()?);
     Ok(())
 }
 
-#[test]
-fn a_byte_of_numbers(rt: HostRuntime) -> Result<(), Memory> {
-    let mut trie = Trie::new(rt.alloc());
-    put_numbers(&rt, &mut trie, 2000);
-    check_byte(&rt, &mut trie)
-}
-
-/// All of them go below the empty prefix.
-fn check_all(rt: &impl Abort, trie: &mut Trie<u16, u64>) -> Result<(), Memory> {
+/// All of them, so many, go below the empty prefix.
+fn check_all(rt: &impl Abort, trie: &mut Trie<u16, u64>, count: usize) -> Result<(), Memory> {
     let gone = trie.remove_prefix(&"")?;
-    assert!(rt; are_numbers(gone.as_slice(), 0, 2000));
-    assert!(rt; trie.is_empty());
-    assert!(rt; trie.footprint() == (1, 0));
-    Ok(())
-}
-
-/// All of them below the empty prefix, over and over.
-#[test]
-fn two_thousand(rt: HostRuntime) -> Result<(), Memory> {
-    let mut trie = Trie::new(rt.alloc());
-    for _ in 0..2 {
-        put_numbers(&rt, &mut trie, 2000);
-        check_all(&rt, &mut trie)?;
-    }
+    assert!(rt; are_numbers(gone.as_slice(), 0, count));
+    assert!(rt; trie.is_empty() && trie.footprint() == (1, 0));
     Ok(())
 }
 
@@ -64,8 +43,8 @@ fn two_thousand(rt: HostRuntime) -> Result<(), Memory> {
 fn check_halves(rt: &impl Abort, trie: &mut Trie<u16, u64>) -> Result<(), Memory> {
     let part = trie.split_off_prefix(&1u8)?;
     assert!(rt; part.len() == 256 && trie.len() == 256);
-    assert!(rt; part.get(&300u16)? == Some(&300) && part.get(&200u16)? == None);
-    assert!(rt; trie.get(&300u16)? == None && trie.get(&200u16)? == Some(&200));
+    assert!(rt; (part.get(&300u16)?, part.get(&200u16)?) == (Some(&300), None));
+    assert!(rt; (trie.get(&300u16)?, trie.get(&200u16)?) == (None, Some(&200)));
     let Ok(pairs) = part.into_pairs() else {
         return Err(Memory);
     };
@@ -74,9 +53,17 @@ fn check_halves(rt: &impl Abort, trie: &mut Trie<u16, u64>) -> Result<(), Memory
     Ok(())
 }
 
+/// All of them below the empty prefix, over and over; half of them; and those of a byte.
 #[test]
-fn half_of_the_numbers_comes_back(rt: HostRuntime) -> Result<(), Memory> {
+fn numbers_go_and_come_back(rt: HostRuntime) -> Result<(), Memory> {
     let mut trie = Trie::new(rt.alloc());
+    for _ in 0..2 {
+        put_numbers(&rt, &mut trie, 2000);
+        check_all(&rt, &mut trie, 2000)?;
+    }
     put_numbers(&rt, &mut trie, 512);
-    check_halves(&rt, &mut trie)
+    check_halves(&rt, &mut trie)?;
+    check_all(&rt, &mut trie, 512)?;
+    put_numbers(&rt, &mut trie, 2000);
+    check_byte(&rt, &mut trie)
 }

@@ -1,5 +1,5 @@
-//! Tries: values of other types than numbers, values that closures change, texts of tries, walks
-//! that are left, large and deep tries.
+//! Tries: values of other types than numbers, values that closures change, walks that are left,
+//! large and deep tries.
 
 mod changed;
 mod combined;
@@ -9,5 +9,4 @@ mod equality;
 mod indexed;
 mod json;
 mod many;
-mod shown;
 mod walk_left;

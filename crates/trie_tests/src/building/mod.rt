@@ -1,3 +1,0 @@
-//! Tries that are built as a whole.
-
-mod built;

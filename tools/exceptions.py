@@ -27,7 +27,7 @@ SAME_NAMES = {
 # FrozenRoutes::into_rows, what lends the field that is its whole body.
 STANDS_FOR = {
     "least_routes": "Route::precedes for is_table; Plan::of for least",
-    "line_sessions": "converse for serve",
+    "line_sessions": "drive for serve",
     "frozen_routes": "FrozenRoutes::rows for FrozenRoutes::into_rows",
     "frozen_trie": "absent_as_none for FrozenTrie::get_mut; change for FrozenTrie::for_each_mut; "
                    "read_all for FrozenTexts::read",
@@ -43,14 +43,14 @@ STANDS_FOR = {
                   "PartsIterIterator::next for Parts::iter",
     "radix_trie": "Trie::new for Trie::default; Trie::take_entry_at for Trie::len; Trie::not_kept for Trie::retain; "
                   "Trie::fill for Trie::get_or_insert; value_at_list for Entry::get_mut; "
-                  "Place::children for Trie::children SubTrie::children SubTrieMut::children; "
+                  "Locus::children for Trie::children SubTrie::children SubTrieMut::children; "
                   "value_behind for SubTrieMut::value_mut; absent_as_none for Trie::get_mut; "
                   "closed_as_none for Trie::subtrie_mut; key_within for SubTrieMut::key; "
                   "value_within for SubTrieMut::value; first_within for SubTrieMut::first_key_value; "
                   "last_within for SubTrieMut::last_key_value; SubTrieMut::insert for TrieEdit::insert; "
                   "SubTrieMut::remove for TrieEdit::remove; SubTrieMut::retain for TrieEdit::retain; "
                   "SubTrieMut::remove_prefix for TrieEdit::remove_prefix",
-    "trie_tool": "keyed for parse; line_sessions converse for serve; line_sessions run for answer_all; "
+    "trie_tool": "keyed for parse; line_sessions drive for serve; line_sessions run for answer_all; "
                  "radix_trie Trie::insert for Numbers::insert; radix_trie Trie::get for Numbers::get; "
                  "radix_trie Trie::remove for Numbers::remove; radix_trie Trie::remove_prefix for Numbers::prune; "
                  "radix_trie Trie::footprint for Numbers::footprint; radix_trie AnyTrieCommon::iter for Numbers::all; "

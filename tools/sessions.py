@@ -197,12 +197,12 @@ def calls_of(line, place):
 
 
 def shell_calls(session):
-    """Each exchange of a session of trie_shell, the library's calls in it, and whether they are said to be light."""
+    """Each exchange of a session of trie_shell, the library's calls in it, and whether they are said to be inline."""
     places = ["Trie"]
     for it in session.exchanges:
         line = it.line.decode(errors="replace").rstrip("\n")
-        is_light, line = line.split(" ")[0] == "light", line.removeprefix("light ")
-        yield it, calls_of(line, places[-1]), is_light
+        is_inline, line = line.split(" ")[0] == "inline", line.removeprefix("inline ")
+        yield it, calls_of(line, places[-1]), is_inline
         name, *rest = line.split(" ")
         if name in ("open", "open_mut", "subtrie_mut") and b" " in it.answer.replace(b"no key", b""):
             places.append("SubTrie" if name == "open" else "SubTrieMut")

@@ -136,8 +136,8 @@ static void bench4(const network *rows, size_t n, const wide *asked, size_t coun
     opened(nifazombi_ipv4_check, "IPv4 open");
     uint32_t *numbers = made(4 * count), *found = made(4 * count);
     for (size_t k = 0; k < count; k++) numbers[k] = (uint32_t)asked[k];
-    TIMED("IPv4 look", for (size_t k = 0; k < count; k++) sum += nifazombi_ipv4_look(image, len, numbers[k]));
-    TIMED("IPv4 look_many", nifazombi_ipv4_look_many(image, len, numbers, count, found, count);
+    TIMED("IPv4 longest_match", for (size_t k = 0; k < count; k++) sum += nifazombi_ipv4_longest_match(image, len, numbers[k]));
+    TIMED("IPv4 longest_matches", nifazombi_ipv4_longest_matches(image, len, numbers, count, found, count);
           for (size_t k = 0; k < count; k++) sum += found[k]);
 #ifdef DPDK
     struct rte_lpm_config with = {.max_rules = n + 1, .number_tbl8s = 1 << 17};
@@ -170,8 +170,8 @@ static void bench6(const network *rows, size_t n, const wide *asked, size_t coun
     uint8_t(*addresses)[16] = made(16 * count);
     uint32_t *found = made(4 * count);
     for (size_t k = 0; k < count; k++) octets_of(asked[k], addresses[k]);
-    TIMED("IPv6 look", for (size_t k = 0; k < count; k++) sum += nifazombi_ipv6_look(image, len, addresses[k]));
-    TIMED("IPv6 look_many", nifazombi_ipv6_look_many(image, len, addresses, count, found, count);
+    TIMED("IPv6 longest_match", for (size_t k = 0; k < count; k++) sum += nifazombi_ipv6_longest_match(image, len, addresses[k]));
+    TIMED("IPv6 longest_matches", nifazombi_ipv6_longest_matches(image, len, addresses, count, found, count);
           for (size_t k = 0; k < count; k++) sum += found[k]);
 #ifdef DPDK
     struct rte_lpm6_config with = {.max_rules = n + 1, .number_tbl8s = 1 << 19};

@@ -51,7 +51,7 @@ static void ask4(const uint8_t *image, size_t len, bool is_searched) {
     for (int i = 0; i < ASKED; i++) {
         bool is_near = i % 2 && count && nifazombi_ipv4_row_at(image, len, draw() % count, &row);
         asked[i] = is_near ? row.first + (uint32_t)(draw() % 3) - 1 : (uint32_t)draw();
-        size_t longest = nifazombi_ipv4_look(image, len, asked[i]), up = longest;
+        size_t longest = nifazombi_ipv4_longest_match(image, len, asked[i]), up = longest;
         add(longest);
         need(!longest || nifazombi_ipv4_row_at(image, len, longest - 1, &row), "a look-up found no row");
         need(wrong || !is_searched || longest == longest4(image, len, asked[i]), "the longest row isn't found");
@@ -66,8 +66,8 @@ static void ask4(const uint8_t *image, size_t len, bool is_searched) {
         need(span.first + span.count <= count, "rows that aren't there");
         add(span.first), add(span.count);
     }
-    size_t looked = nifazombi_ipv4_look_many(image, len, asked, ASKED, found, ASKED);
-    for (size_t i = 0; i < looked; i++) need(found[i] == nifazombi_ipv4_look(image, len, asked[i]), "many aren't one by one");
+    size_t looked = nifazombi_ipv4_longest_matches(image, len, asked, ASKED, found, ASKED);
+    for (size_t i = 0; i < looked; i++) need(found[i] == nifazombi_ipv4_longest_match(image, len, asked[i]), "many aren't one by one");
     add(looked);
 }
 
@@ -92,7 +92,7 @@ static void ask6(const uint8_t *image, size_t len, bool is_searched) {
         bool is_near = i % 2 && count && nifazombi_ipv6_row_at(image, len, draw() % count, &row);
         for (int k = 0; k < 16; k++) asked[i][k] = is_near ? row.first[k] : (uint8_t)draw();
         asked[i][15] ^= (uint8_t)(draw() % 2);
-        size_t longest = nifazombi_ipv6_look(image, len, asked[i]), up = longest;
+        size_t longest = nifazombi_ipv6_longest_match(image, len, asked[i]), up = longest;
         add(longest);
         need(!longest || nifazombi_ipv6_row_at(image, len, longest - 1, &row), "a look-up found no row");
         need(wrong || !is_searched || longest == longest6(image, len, asked[i]), "the longest row isn't found");
@@ -107,8 +107,8 @@ static void ask6(const uint8_t *image, size_t len, bool is_searched) {
         need(span.first + span.count <= count, "rows that aren't there");
         add(span.first), add(span.count);
     }
-    size_t looked = nifazombi_ipv6_look_many(image, len, asked, ASKED, found, ASKED);
-    for (size_t i = 0; i < looked; i++) need(found[i] == nifazombi_ipv6_look(image, len, asked[i]), "many aren't one by one");
+    size_t looked = nifazombi_ipv6_longest_matches(image, len, asked, ASKED, found, ASKED);
+    for (size_t i = 0; i < looked; i++) need(found[i] == nifazombi_ipv6_longest_match(image, len, asked[i]), "many aren't one by one");
     add(looked);
 }
 

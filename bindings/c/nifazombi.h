@@ -37,7 +37,7 @@ extern "C" {
 #define NIFAZOMBI_FULL 7
 
 // The row at this index is none, or doesn't come after the row before it.
-#define NIFAZOMBI_UNSORTED 8
+#define NIFAZOMBI_OUT_OF_ORDER 8
 
 // A row as it lies in an image, in 16 bytes: a network by its first address and how many bits its
 // addresses share, the index and one more of the row of the network around it, or 0, and the
@@ -91,11 +91,11 @@ bool nifazombi_ipv4_row_at(const uint8_t *image, size_t image_len, size_t at, ni
 
 // The row of the longest network that holds an address, by its index and one more, or 0 where none
 // does.
-size_t nifazombi_ipv4_look(const uint8_t *image, size_t image_len, uint32_t address);
+size_t nifazombi_ipv4_longest_match(const uint8_t *image, size_t image_len, uint32_t address);
 
-// Looks up addresses, as many as there are of both, and puts for each what `nifazombi_ipv4_look`
-// returns into `found`. Returns how many.
-size_t nifazombi_ipv4_look_many(
+// Looks up addresses, as many as there are of both, and puts for each what
+// `nifazombi_ipv4_longest_match` returns into `found`. Returns how many.
+size_t nifazombi_ipv4_longest_matches(
     const uint8_t *image, size_t image_len,
     const uint32_t *addresses, size_t addresses_len,
     uint32_t *found, size_t found_len);
@@ -135,11 +135,11 @@ bool nifazombi_ipv6_row_at(const uint8_t *image, size_t image_len, size_t at, ni
 
 // The row of the longest network that holds an address, by its index and one more, or 0 where none
 // does.
-size_t nifazombi_ipv6_look(const uint8_t *image, size_t image_len, const uint8_t address[16]);
+size_t nifazombi_ipv6_longest_match(const uint8_t *image, size_t image_len, const uint8_t address[16]);
 
-// Looks up addresses, as many as there are of both, and puts for each what `nifazombi_ipv6_look`
-// returns into `found`. Returns how many.
-size_t nifazombi_ipv6_look_many(
+// Looks up addresses, as many as there are of both, and puts for each what
+// `nifazombi_ipv6_longest_match` returns into `found`. Returns how many.
+size_t nifazombi_ipv6_longest_matches(
     const uint8_t *image, size_t image_len,
     const uint8_t (*addresses)[16], size_t addresses_len,
     uint32_t *found, size_t found_len);

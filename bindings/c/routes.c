@@ -39,7 +39,7 @@ int main(int count, char **words) {
         struct in_addr address;
         nifazombi_ipv4_row row;
         if (inet_pton(AF_INET, words[k], &address) != 1) return 1;
-        size_t longest = nifazombi_ipv4_look(image, len, ntohl(address.s_addr));
+        size_t longest = nifazombi_ipv4_longest_match(image, len, ntohl(address.s_addr));
         if (longest && nifazombi_ipv4_row_at(image, len, longest - 1, &row))
             printf("%s: value %u, by a network of %u bits\n", words[k], row.value, row.bits);
         else

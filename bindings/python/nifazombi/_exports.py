@@ -8,7 +8,7 @@ PART = 4
 ROW = 5
 CELL = 6
 FULL = 7
-UNSORTED = 8
+OUT_OF_ORDER = 8
 
 
 class Ipv4Row(Structure):
@@ -36,8 +36,8 @@ EXPORTS = [
     ("nifazombi_ipv4_check", c_uint32, [c_void_p, c_size_t, POINTER(c_size_t)]),
     ("nifazombi_ipv4_len", c_size_t, [c_void_p, c_size_t]),
     ("nifazombi_ipv4_row_at", c_bool, [c_void_p, c_size_t, c_size_t, POINTER(Ipv4Row)]),
-    ("nifazombi_ipv4_look", c_size_t, [c_void_p, c_size_t, c_uint32]),
-    ("nifazombi_ipv4_look_many", c_size_t, [c_void_p, c_size_t, c_void_p, c_size_t, c_void_p, c_size_t]),
+    ("nifazombi_ipv4_longest_match", c_size_t, [c_void_p, c_size_t, c_uint32]),
+    ("nifazombi_ipv4_longest_matches", c_size_t, [c_void_p, c_size_t, c_void_p, c_size_t, c_void_p, c_size_t]),
     ("nifazombi_ipv4_get", c_size_t, [c_void_p, c_size_t, c_uint32, c_uint32]),
     ("nifazombi_ipv4_below", None, [c_void_p, c_size_t, c_uint32, c_uint32, POINTER(Span)]),
     ("nifazombi_ipv4_above", c_size_t, [c_void_p, c_size_t, c_size_t]),
@@ -46,8 +46,8 @@ EXPORTS = [
     ("nifazombi_ipv6_check", c_uint32, [c_void_p, c_size_t, POINTER(c_size_t)]),
     ("nifazombi_ipv6_len", c_size_t, [c_void_p, c_size_t]),
     ("nifazombi_ipv6_row_at", c_bool, [c_void_p, c_size_t, c_size_t, POINTER(Ipv6Row)]),
-    ("nifazombi_ipv6_look", c_size_t, [c_void_p, c_size_t, c_void_p]),
-    ("nifazombi_ipv6_look_many", c_size_t, [c_void_p, c_size_t, c_void_p, c_size_t, c_void_p, c_size_t]),
+    ("nifazombi_ipv6_longest_match", c_size_t, [c_void_p, c_size_t, c_void_p]),
+    ("nifazombi_ipv6_longest_matches", c_size_t, [c_void_p, c_size_t, c_void_p, c_size_t, c_void_p, c_size_t]),
     ("nifazombi_ipv6_get", c_size_t, [c_void_p, c_size_t, c_void_p, c_uint32]),
     ("nifazombi_ipv6_below", None, [c_void_p, c_size_t, c_void_p, c_uint32, POINTER(Span)]),
     ("nifazombi_ipv6_above", c_size_t, [c_void_p, c_size_t, c_size_t]),

@@ -136,9 +136,9 @@ class Routes(Table):
         return Route(self._family.network((self._family.first(row), row.bits), strict=False), row.value)
 
     def _found(self, address):
-        return self._family.call("look")(self._at, self._len, self._family.passed(address))
+        return self._family.call("longest_match")(self._at, self._len, self._family.passed(address))
 
-    def look(self, address):
+    def longest_match(self, address):
         """The route of the longest network that holds an address, or None."""
         found = self._found(address)
         return self._route(found - 1) if found else None
@@ -157,13 +157,13 @@ class Routes(Table):
     def __contains__(self, address):
         return bool(self._found(address))
 
-    def look_many(self, addresses):
+    def longest_matches(self, addresses):
         """The values of many addresses, None where no network holds one. Fastest of IPv4 as numbers in an
         `array('I')`, of IPv6 as packed bytes one behind the other."""
         asked, count = self._family.many(addresses)
         found = array.array("I", bytes(4 * count))
         keep = bytes(asked) if asked.readonly else (ctypes.c_char * len(asked)).from_buffer(asked)
-        self._family.call("look_many")(self._at, self._len, keep, count, found.buffer_info()[0], count)
+        self._family.call("longest_matches")(self._at, self._len, keep, count, found.buffer_info()[0], count)
         first, rows, size = struct.unpack_from("<QQ", self._image, 24)[0], len(self), self._family.rows.size
         values = memoryview(self._image)[first : first + size * rows].cast(self._family.values)[3::4]
         return [values[it - 1] if it else None for it in found]

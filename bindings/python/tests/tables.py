@@ -44,10 +44,10 @@ def try_routes(version):
     assert [*routes] == [Route(it, found[it]) for it in order]
     addresses = [*near(version, order)]
     longest = [images.longest(found.items(), it) for it in addresses]
-    assert [routes.look(it) for it in addresses] == [it and Route(*it) for it in longest]
-    assert routes.look_many(addresses) == [it and it[1] for it in longest]
+    assert [routes.longest_match(it) for it in addresses] == [it and Route(*it) for it in longest]
+    assert routes.longest_matches(addresses) == [it and it[1] for it in longest]
     packed = array.array("I", map(int, addresses)) if version == 4 else b"".join(it.packed for it in addresses)
-    assert routes.look_many(packed) == [it and it[1] for it in longest]
+    assert routes.longest_matches(packed) == [it and it[1] for it in longest]
     for address in addresses[:200]:
         around = sorted((it for it in order if address in it), key=lambda it: -it.prefixlen)
         assert [it.network for it in routes.above(address)] == around and (address in routes) == bool(around)
@@ -102,7 +102,7 @@ def try_refusals():
     refused(lambda: Texts.build([("a", 1), (b"a", 2)]), ValueError, "b'a' is there twice")
     refused(lambda: Texts.build({"a": -1}), ValueError, "64 bits")
     refused(lambda: Routes(image)["11.0.0.1"], KeyError, "11.0.0.1")
-    refused(lambda: Routes(image).look("::1"), ValueError, "no address of IPv4")
+    refused(lambda: Routes(image).longest_match("::1"), ValueError, "no address of IPv4")
     refused(lambda: Texts(Texts.build({})).nth(0), IndexError, "0")
     refused(lambda: Routes.open("/nowhere/table"), FileNotFoundError, "nowhere")
 
@@ -114,7 +114,7 @@ def try_files(room):
         Routes.write(path, [("10.0.0.0/8", 2)], payload=b"new")
         with Routes.open(path) as new:
             assert (old["10.1.1.1"], new["10.1.1.1"], new.payload) == (1, 2, b"new")
-    assert len(old) == 0 and old.look("10.1.1.1") is None, "a closed table answers"
+    assert len(old) == 0 and old.longest_match("10.1.1.1") is None, "a closed table answers"
     refused(lambda: Routes.write(path, [("10.0.0.0/8", -1)]), ValueError, "doesn't fit")
     assert os.listdir(room) == ["table"] and Routes.open(path)["10.1.1.1"] == 2
     open(f"{room}/none", "w").close()
@@ -134,7 +134,7 @@ def try_hostile():
                 table.get("ab"), table.nearest("abcd"), table.rank("b"), [*zip(range(9), table.prefixes("abc"))]
             elif table.version == 6:
                 address = ipaddress.IPv6Address(random.getrandbits(128))
-                table._family.call("look")(table._at, table._len, table._family.passed(address))
+                table._family.call("longest_match")(table._at, table._len, table._family.passed(address))
 
 
 def main():

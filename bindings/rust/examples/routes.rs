@@ -15,7 +15,7 @@ fn main() -> Result<(), Box<dyn Error>> {
     let image = std::fs::read(&path)?;
     let routes = Routes::new(&image)?;
     for address in ["10.1.2.3", "10.9.9.9", "11.0.0.1"] {
-        match routes.look(address.parse::<Ipv4Addr>()?) {
+        match routes.longest_match(address.parse::<Ipv4Addr>()?) {
             Some(route) => println!("{address}: value {}, by {route}", route.value),
             None => println!("{address}: no network holds it"),
         }

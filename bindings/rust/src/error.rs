@@ -63,7 +63,7 @@ pub enum WriteError {
     /// There are 2^32 rows or more, or so many bytes of keys.
     Full,
     /// The row at this index is of no network, or doesn't come after the one before it.
-    Unsorted(usize),
+    OutOfOrder(usize),
     /// The value of the row at this index is too large: those of IPv4 networks are below 2^32.
     Value(usize),
 }
@@ -74,7 +74,7 @@ impl WriteError {
         match code {
             0 => Ok(()),
             exports::FULL => Err(WriteError::Full),
-            exports::UNSORTED => Err(WriteError::Unsorted(at)),
+            exports::UNSORTED => Err(WriteError::OutOfOrder(at)),
             _ => unreachable!("writing into a buffer of the image's length returns no code {code}"),
         }
     }
@@ -84,7 +84,7 @@ impl fmt::Display for WriteError {
     fn fmt(&self, f: &mut fmt::Formatter<'_>) -> fmt::Result {
         match self {
             WriteError::Full => write!(f, "too many rows, or too many bytes of keys"),
-            WriteError::Unsorted(at) => write!(f, "row {at} is of no network or out of order"),
+            WriteError::OutOfOrder(at) => write!(f, "row {at} is of no network or out of order"),
             WriteError::Value(at) => write!(f, "the value of row {at} doesn't fit into 32 bits"),
         }
     }

@@ -8,8 +8,8 @@ unsafe extern "C" {
     safe fn nifazombi_ipv4_check(image: *const u8, image_len: usize, at: *mut usize) -> u32;
     safe fn nifazombi_ipv4_len(image: *const u8, image_len: usize) -> usize;
     safe fn nifazombi_ipv4_row_at(image: *const u8, image_len: usize, at: usize, row: *mut Ipv4Row) -> bool;
-    safe fn nifazombi_ipv4_look(image: *const u8, image_len: usize, address: u32) -> usize;
-    safe fn nifazombi_ipv4_look_many(image: *const u8, image_len: usize, addresses: *const u32, addresses_len: usize, found: *mut u32, found_len: usize) -> usize;
+    safe fn nifazombi_ipv4_longest_match(image: *const u8, image_len: usize, address: u32) -> usize;
+    safe fn nifazombi_ipv4_longest_matches(image: *const u8, image_len: usize, addresses: *const u32, addresses_len: usize, found: *mut u32, found_len: usize) -> usize;
     safe fn nifazombi_ipv4_get(image: *const u8, image_len: usize, first: u32, bits: u32) -> usize;
     safe fn nifazombi_ipv4_below(image: *const u8, image_len: usize, first: u32, bits: u32, span: *mut Span);
     safe fn nifazombi_ipv4_above(image: *const u8, image_len: usize, at: usize) -> usize;
@@ -18,8 +18,8 @@ unsafe extern "C" {
     safe fn nifazombi_ipv6_check(image: *const u8, image_len: usize, at: *mut usize) -> u32;
     safe fn nifazombi_ipv6_len(image: *const u8, image_len: usize) -> usize;
     safe fn nifazombi_ipv6_row_at(image: *const u8, image_len: usize, at: usize, row: *mut Ipv6Row) -> bool;
-    safe fn nifazombi_ipv6_look(image: *const u8, image_len: usize, address: *const [u8; 16]) -> usize;
-    safe fn nifazombi_ipv6_look_many(image: *const u8, image_len: usize, addresses: *const [u8; 16], addresses_len: usize, found: *mut u32, found_len: usize) -> usize;
+    safe fn nifazombi_ipv6_longest_match(image: *const u8, image_len: usize, address: *const [u8; 16]) -> usize;
+    safe fn nifazombi_ipv6_longest_matches(image: *const u8, image_len: usize, addresses: *const [u8; 16], addresses_len: usize, found: *mut u32, found_len: usize) -> usize;
     safe fn nifazombi_ipv6_get(image: *const u8, image_len: usize, first: *const [u8; 16], bits: u32) -> usize;
     safe fn nifazombi_ipv6_below(image: *const u8, image_len: usize, first: *const [u8; 16], bits: u32, span: *mut Span);
     safe fn nifazombi_ipv6_above(image: *const u8, image_len: usize, at: usize) -> usize;
@@ -54,7 +54,7 @@ pub(crate) const CELL: u32 = 6;
 
 pub(crate) const FULL: u32 = 7;
 
-pub(crate) const UNSORTED: u32 = 8;
+pub(crate) const OUT_OF_ORDER: u32 = 8;
 
 /// A row as it lies in an image, in 16 bytes: a network by its first address and how many bits its
 /// addresses share, the index and one more of the row of the network around it, or 0, and the
@@ -140,15 +140,15 @@ pub(crate) fn ipv4_row_at(image: &[u8], at: usize, row: &mut Ipv4Row) -> bool {
 /// The row of the longest network that holds an address, by its index and one more, or 0 where none
 /// does.
 #[inline]
-pub(crate) fn ipv4_look(image: &[u8], address: u32) -> usize {
-    nifazombi_ipv4_look(image.as_ptr(), image.len(), address)
+pub(crate) fn ipv4_longest_match(image: &[u8], address: u32) -> usize {
+    nifazombi_ipv4_longest_match(image.as_ptr(), image.len(), address)
 }
 
-/// Looks up addresses, as many as there are of both, and puts for each what `nifazombi_ipv4_look`
-/// returns into `found`. Returns how many.
+/// Looks up addresses, as many as there are of both, and puts for each what
+/// `nifazombi_ipv4_longest_match` returns into `found`. Returns how many.
 #[inline]
-pub(crate) fn ipv4_look_many(image: &[u8], addresses: &[u32], found: &mut [u32]) -> usize {
-    nifazombi_ipv4_look_many(image.as_ptr(), image.len(), addresses.as_ptr(), addresses.len(), found.as_mut_ptr(), found.len())
+pub(crate) fn ipv4_longest_matches(image: &[u8], addresses: &[u32], found: &mut [u32]) -> usize {
+    nifazombi_ipv4_longest_matches(image.as_ptr(), image.len(), addresses.as_ptr(), addresses.len(), found.as_mut_ptr(), found.len())
 }
 
 /// The row of this very network, by its index and one more, or 0 where no row is of it.
@@ -207,15 +207,15 @@ pub(crate) fn ipv6_row_at(image: &[u8], at: usize, row: &mut Ipv6Row) -> bool {
 /// The row of the longest network that holds an address, by its index and one more, or 0 where none
 /// does.
 #[inline]
-pub(crate) fn ipv6_look(image: &[u8], address: &[u8; 16]) -> usize {
-    nifazombi_ipv6_look(image.as_ptr(), image.len(), address)
+pub(crate) fn ipv6_longest_match(image: &[u8], address: &[u8; 16]) -> usize {
+    nifazombi_ipv6_longest_match(image.as_ptr(), image.len(), address)
 }
 
-/// Looks up addresses, as many as there are of both, and puts for each what `nifazombi_ipv6_look`
-/// returns into `found`. Returns how many.
+/// Looks up addresses, as many as there are of both, and puts for each what
+/// `nifazombi_ipv6_longest_match` returns into `found`. Returns how many.
 #[inline]
-pub(crate) fn ipv6_look_many(image: &[u8], addresses: &[[u8; 16]], found: &mut [u32]) -> usize {
-    nifazombi_ipv6_look_many(image.as_ptr(), image.len(), addresses.as_ptr(), addresses.len(), found.as_mut_ptr(), found.len())
+pub(crate) fn ipv6_longest_matches(image: &[u8], addresses: &[[u8; 16]], found: &mut [u32]) -> usize {
+    nifazombi_ipv6_longest_matches(image.as_ptr(), image.len(), addresses.as_ptr(), addresses.len(), found.as_mut_ptr(), found.len())
 }
 
 /// The row of this very network, by its index and one more, or 0 where no row is of it.

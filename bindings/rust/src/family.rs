@@ -19,7 +19,7 @@ pub trait Family: Sized {
     fn check(image: &[u8]) -> Result<(), ImageError>;
     fn len(image: &[u8]) -> usize;
     fn route(image: &[u8], at: usize) -> Option<Route<Self>>;
-    fn look(image: &[u8], address: Self) -> usize;
+    fn longest_match(image: &[u8], address: Self) -> usize;
     fn get(image: &[u8], network: Self, bits: u8) -> usize;
     fn below(image: &[u8], network: Self, bits: u8) -> Range<usize>;
     fn above(image: &[u8], at: usize) -> usize;
@@ -52,8 +52,8 @@ impl Family for Ipv4Addr {
     }
 
     #[inline]
-    fn look(image: &[u8], address: Ipv4Addr) -> usize {
-        exports::ipv4_look(image, address.into())
+    fn longest_match(image: &[u8], address: Ipv4Addr) -> usize {
+        exports::ipv4_longest_match(image, address.into())
     }
 
     #[inline]
@@ -111,8 +111,8 @@ impl Family for Ipv6Addr {
     }
 
     #[inline]
-    fn look(image: &[u8], address: Ipv6Addr) -> usize {
-        exports::ipv6_look(image, &address.octets())
+    fn longest_match(image: &[u8], address: Ipv6Addr) -> usize {
+        exports::ipv6_longest_match(image, &address.octets())
     }
 
     #[inline]

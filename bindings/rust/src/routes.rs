@@ -50,8 +50,8 @@ impl<A: fmt::Display> fmt::Display for Route<A> {
 /// let documents: Ipv6Addr = "2001:db8::".parse()?;
 /// let image = routes_image(&[Route::new(documents, 32, 7)], b"")?;
 /// let routes = Routes::new(&image)?;
-/// assert_eq!(routes.look("2001:db8::1".parse()?), Some(Route::new(documents, 32, 7)));
-/// assert_eq!(routes.look(Ipv6Addr::LOCALHOST), None);
+/// assert_eq!(routes.longest_match("2001:db8::1".parse()?), Some(Route::new(documents, 32, 7)));
+/// assert_eq!(routes.longest_match(Ipv6Addr::LOCALHOST), None);
 /// # Ok::<(), Box<dyn std::error::Error>>(())
 /// ```
 #[derive(Clone, Copy)]
@@ -93,14 +93,14 @@ impl<'a, A: Address> Routes<'a, A> {
 
     /// The route of the longest network that holds an address.
     #[inline]
-    pub fn look(&self, address: A) -> Option<Route<A>> {
+    pub fn longest_match(&self, address: A) -> Option<Route<A>> {
         self.route_at(self.look_index(address)?)
     }
 
     /// The same by its index.
     #[inline]
     pub fn look_index(&self, address: A) -> Option<usize> {
-        A::look(self.image, address).checked_sub(1)
+        A::longest_match(self.image, address).checked_sub(1)
     }
 
     /// The route at an index.
@@ -127,7 +127,7 @@ impl<'a, A: Address> Routes<'a, A> {
     pub fn above(&self, address: A) -> Above<'a, A> {
         Above {
             routes: *self,
-            next: A::look(self.image, address),
+            next: A::longest_match(self.image, address),
         }
     }
 
@@ -156,13 +156,13 @@ impl Routes<'_, Ipv4Addr> {
     /// let image = routes_image(&[Route::new(Ipv4Addr::new(10, 0, 0, 0), 8, 7)], b"")?;
     /// let mut found = [0; 2];
     /// let routes = Routes::<Ipv4Addr>::new(&image)?;
-    /// assert_eq!(routes.look_many(&[0x0a00_0001, 0x0b00_0001], &mut found), 2);
+    /// assert_eq!(routes.longest_matches(&[0x0a00_0001, 0x0b00_0001], &mut found), 2);
     /// assert_eq!(found, [1, 0]);
     /// # Ok::<(), Box<dyn std::error::Error>>(())
     /// ```
     #[inline]
-    pub fn look_many(&self, addresses: &[u32], found: &mut [u32]) -> usize {
-        exports::ipv4_look_many(self.image, addresses, found)
+    pub fn longest_matches(&self, addresses: &[u32], found: &mut [u32]) -> usize {
+        exports::ipv4_longest_matches(self.image, addresses, found)
     }
 }
 
@@ -170,8 +170,8 @@ impl Routes<'_, Ipv6Addr> {
     /// Looks up addresses by their octets, as many as there are of both, and puts for each the
     /// index of its route and one more, or 0, into `found`. Returns how many.
     #[inline]
-    pub fn look_many(&self, addresses: &[[u8; 16]], found: &mut [u32]) -> usize {
-        exports::ipv6_look_many(self.image, addresses, found)
+    pub fn longest_matches(&self, addresses: &[[u8; 16]], found: &mut [u32]) -> usize {
+        exports::ipv6_longest_matches(self.image, addresses, found)
     }
 }
 
@@ -268,7 +268,7 @@ impl<A: Address> FusedIterator for Above<'_, A> {}
 ///
 /// let [wide, long] = [8, 16].map(|bits| Route::new(Ipv4Addr::new(10, 0, 0, 0), bits, 1));
 /// assert!(routes_image(&[wide, long], b"").is_ok());
-/// assert_eq!(routes_image(&[long, wide], b""), Err(WriteError::Unsorted(1)));
+/// assert_eq!(routes_image(&[long, wide], b""), Err(WriteError::OutOfOrder(1)));
 /// ```
 pub fn routes_image<A: Address>(
     routes: &[Route<A>],

@@ -88,7 +88,7 @@ fn rows_by_hand() {
     let wide = route("10.0.0.0", 8, 100);
     let long = route("10.1.0.0", 16, 101);
     let other = route("192.0.2.0", 24, 102);
-    assert_eq!(routes.look(Ipv4Addr::new(10, 1, 2, 3)), Some(long));
+    assert_eq!(routes.longest_match(Ipv4Addr::new(10, 1, 2, 3)), Some(long));
     assert_eq!(
         [0, 1, 2, 3].map(|at| routes.route_at(at)),
         [Some(wide), Some(long), Some(other), None]
@@ -117,13 +117,13 @@ fn a_wide_image_by_hand() {
     let all = Route::new(Ipv6Addr::UNSPECIFIED, 0, 7);
     let documents = Route::new("2001:db8::".parse().unwrap(), 32, (1 << 32) + 8);
     assert_both_ends(routes.into_iter(), &[all, documents]);
-    assert_eq!(routes.look(Ipv6Addr::LOCALHOST), Some(all));
+    assert_eq!(routes.longest_match(Ipv6Addr::LOCALHOST), Some(all));
     let address = "2001:db8::1".parse().unwrap();
     assert!(routes.above(address).eq([documents, all]));
     assert_eq!(routes.get(documents.network, 32), Some(documents));
     let addresses = [address, Ipv6Addr::LOCALHOST].map(|it| it.octets());
     let mut found = [9; 3];
-    assert_eq!(routes.look_many(&addresses, &mut found), 2);
+    assert_eq!(routes.longest_matches(&addresses, &mut found), 2);
     assert_eq!(found, [2, 1, 9]);
 }
 
@@ -284,7 +284,7 @@ fn compare_lookups<A: Number>(routes: Routes<A>, table: &[Route<A>], address: A)
     around.retain(|it| holds(it, address));
     around.sort_by_key(|it| Reverse(it.bits));
     let longest = around.first().copied();
-    assert_eq!(routes.look(address), longest);
+    assert_eq!(routes.longest_match(address), longest);
     let index = routes.look_index(address);
     assert_eq!(index.and_then(|at| routes.route_at(at)), longest);
     assert!(routes.above(address).eq(around), "{address}");
@@ -333,13 +333,13 @@ fn many_addresses() {
         .map(|_| random_address::<Ipv4Addr>(&mut random).into())
         .collect();
     let mut found = vec![0; 500];
-    assert_eq!(routes.look_many(&addresses, &mut found), 500);
+    assert_eq!(routes.longest_matches(&addresses, &mut found), 500);
     for (address, found) in addresses.iter().zip(found) {
         let index = routes.look_index((*address).into());
         assert_eq!(found as usize, index.map_or(0, |at| at + 1));
     }
-    assert_eq!(routes.look_many(&addresses, &mut [0; 3]), 3);
-    assert_eq!(routes.look_many(&[], &mut [0; 3]), 0);
+    assert_eq!(routes.longest_matches(&addresses, &mut [0; 3]), 3);
+    assert_eq!(routes.longest_matches(&[], &mut [0; 3]), 0);
 }
 
 /// Calls everything on bytes that may be no image. The answers may be any.
@@ -351,7 +351,7 @@ fn call_all<A: Number>(bytes: &[u8], random: &mut Random) {
         let bits = random.below(256) as u8;
         let index = routes.look_index(address);
         assert_eq!(
-            routes.look(address),
+            routes.longest_match(address),
             index.and_then(|at| routes.route_at(at))
         );
         assert!(index.is_none_or(|at| at < routes.len()));
@@ -407,18 +407,18 @@ fn what_is_not_written() {
     let refused = |table: &[_]| routes_image(table, b"").err();
     assert_eq!(refused(&[]), None);
     assert_eq!(refused(&[wide, long]), None);
-    assert_eq!(refused(&[long, wide]), Some(Unsorted(1)));
-    assert_eq!(refused(&[wide, wide]), Some(Unsorted(1)));
+    assert_eq!(refused(&[long, wide]), Some(OutOfOrder(1)));
+    assert_eq!(refused(&[wide, wide]), Some(OutOfOrder(1)));
     assert_eq!(
         refused(&[wide, route("10.0.0.1", 31, 1)]),
-        Some(Unsorted(1))
+        Some(OutOfOrder(1))
     );
-    assert_eq!(refused(&[route("10.0.0.0", 33, 1)]), Some(Unsorted(0)));
+    assert_eq!(refused(&[route("10.0.0.0", 33, 1)]), Some(OutOfOrder(0)));
     assert_eq!(refused(&[route("10.0.0.0", 8, u32::MAX.into())]), None);
     assert_eq!(
         refused(&[wide, route("10.0.0.0", 9, 1 << 32)]),
         Some(Value(1))
     );
     let far = Route::new(Ipv6Addr::UNSPECIFIED, 129, u64::MAX);
-    assert_eq!(routes_image(&[far], b"").err(), Some(Unsorted(0)));
+    assert_eq!(routes_image(&[far], b"").err(), Some(OutOfOrder(0)));
 }

@@ -187,6 +187,6 @@ fn what_is_not_written() {
     let refused = |pairs: &[(&str, u64)]| texts_image(pairs, b"").err();
     assert_eq!(refused(&[]), None);
     assert_eq!(refused(&[("", 1), ("a", u64::MAX), ("ab", 0)]), None);
-    assert_eq!(refused(&[("ab", 1), ("a", 2)]), Some(Unsorted(1)));
-    assert_eq!(refused(&[("", 1), ("b", 1), ("b", 2)]), Some(Unsorted(2)));
+    assert_eq!(refused(&[("ab", 1), ("a", 2)]), Some(OutOfOrder(1)));
+    assert_eq!(refused(&[("", 1), ("b", 1), ("b", 2)]), Some(OutOfOrder(2)));
 }

@@ -122,7 +122,7 @@ fn step_span(numbers: &[u64], steps: &[u64], bounds: (usize, usize), bound: u64)
 ///
 /// # Errors
 ///
-/// Memory is refused.
+/// An allocation fails.
 pub(crate) fn steps_of(alloc: Global, numbers: &[u64]) -> Result<Vec<u64>, Memory>
     ensures { IfOk result (λ steps. AreSteps numbers.now steps.items) }
 {
@@ -154,7 +154,7 @@ fn top_span(numbers: &[u64], tops: &[u32], bound: u64) -> (usize, usize)
 ///
 /// # Errors
 ///
-/// Memory is refused, or there are 2^32 numbers or more.
+/// An allocation fails, or there are 2^32 numbers or more.
 pub(crate) fn tops_of(alloc: Global, numbers: &[u64]) -> Result<Vec<u32>, Memory>
     requires { IsNonDecreasing numbers.now }
     ensures { IfOk result (λ tops. AreTops numbers.now tops.items) }

@@ -4,7 +4,7 @@ ghost use Rattle.nibble_map.specs.Lists.{IsRising};
 ghost use Rattle.encoded_keys.specs.Codes.{IsLinked};
 
 use crate::keys::{EncodedKeys, Sought};
-use crate::search::climb;
+use crate::search::follow_parents;
 use radix_keys::{Memory, NibbleSlice};
 use sorted_tables::PushWhy;
 
@@ -29,25 +29,25 @@ pub fn follows(codes: &EncodedKeys, list: &NibbleSlice<'_>) -> bool
 ///
 /// # Errors
 ///
-/// Memory is refused, or the bytes of all lists would be 2^31 or more. The lists and links stay as
-/// they are then.
+/// An allocation fails, or the bytes of all lists would be 2^31 or more. The lists and links stay
+/// as they are then.
 pub fn push_linked(
     codes: &mut EncodedKeys,
-    up: &mut Vec<u32>,
+    parents: &mut Vec<u32>,
     list: &NibbleSlice<'_>,
 ) -> Result<(), Memory>
     requires few { length codes.old < 2 ^ 32 }
-    requires linked { IsLinked codes.old up.old.items }
+    requires linked { IsLinked codes.old parents.old.items }
     requires rising { IsRising (codes.old ++ list.now ∷ []) }
     ensures ok { OnOk result (codes.new ≡ codes.old ++ list.now ∷ []) }
-    ensures linked { OnOk result (IsLinked codes.new up.new.items) }
+    ensures linked { OnOk result (IsLinked codes.new parents.new.items) }
     ensures codes { IfErr result (λ _. codes.new ≡ codes.old) }
-    ensures links { IfErr result (λ _. up.new.items ≡ up.old.items) }
+    ensures links { IfErr result (λ _. parents.new.items ≡ parents.old.items) }
 {
-    let link = climb(codes, up, codes.len(), list) as u32;
-    up.reserve(1)?;
+    let link = follow_parents(codes, parents, codes.len(), list) as u32;
+    parents.reserve(1)?;
     codes.push(list)?;
-    up.push_reserved(link);
+    parents.push_reserved(link);
     Ok(())
 }
 
@@ -58,15 +58,15 @@ pub fn push_linked(
 /// Why it isn't appended. The lists and links stay as they are then.
 pub fn push_last(
     codes: &mut EncodedKeys,
-    up: &mut Vec<u32>,
+    parents: &mut Vec<u32>,
     list: &NibbleSlice<'_>,
 ) -> Result<(), PushWhy>
-    requires { IsLinked codes.old up.old.items }
+    requires { IsLinked codes.old parents.old.items }
     ensures ok { OnOk result (codes.new ≡ codes.old ++ list.now ∷ []) }
-    ensures linked { OnOk result (IsLinked codes.new up.new.items) }
+    ensures linked { OnOk result (IsLinked codes.new parents.new.items) }
     ensures codes { IfErr result (λ _. codes.new ≡ codes.old) }
-    ensures links { IfErr result (λ _. up.new.items ≡ up.old.items) }
-    ensures unsorted { IfErr result (λ why. why ≡ PushWhy.Unsorted
+    ensures links { IfErr result (λ _. parents.new.items ≡ parents.old.items) }
+    ensures unsorted { IfErr result (λ why. why ≡ PushWhy.OutOfOrder
         → IsRising (codes.old ++ list.now ∷ []) → ⊥) }
     ensures full { IfErr result (λ why. why ≡ PushWhy.Full → 2 ^ 32 - 1 ≤ length codes.old) }
 {
@@ -74,9 +74,9 @@ pub fn push_last(
         return Err(PushWhy::Full);
     }
     if !follows(codes, list) {
-        return Err(PushWhy::Unsorted);
+        return Err(PushWhy::OutOfOrder);
     }
-    match push_linked(codes, up, list) {
+    match push_linked(codes, parents, list) {
         Ok(()) => Ok(()),
         Err(_) => Err(PushWhy::Memory),
     }

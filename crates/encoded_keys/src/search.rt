@@ -28,11 +28,16 @@ pub fn upper(codes: &EncodedKeys, list: &NibbleSlice<'_>) -> usize
 ///
 /// It goes from each to the link of it, so at most as often as prefixes of the list before `from`
 /// are stored.
-pub(crate) fn climb(codes: &EncodedKeys, up: &[u32], from: usize, list: &NibbleSlice<'_>) -> usize
+pub(crate) fn follow_parents(
+    codes: &EncodedKeys,
+    parents: &[u32],
+    from: usize,
+    list: &NibbleSlice<'_>,
+) -> usize
     requires within { from ≤ length codes.now }
-    requires linked { from ≤ length up.now }
+    requires linked { from ≤ length parents.now }
     requires rising { IsRising codes.now }
-    requires links { AreLinks codes.now up.now }
+    requires links { AreLinks codes.now parents.now }
     requires before { (k : ℕ) → k < from → IsBefore (code_at codes.now k) list.now }
     ensures { IsLastPrefix codes.now from list.now result }
 {
@@ -45,7 +50,7 @@ pub(crate) fn climb(codes: &EncodedKeys, up: &[u32], from: usize, list: &NibbleS
         if codes.len_at(at - 1) <= shared {
             return at;
         }
-        at = up[at - 1] as usize;
+        at = parents[at - 1] as usize;
     }
     0
 }
@@ -91,16 +96,16 @@ fn index_by_order(codes: &EncodedKeys, list: &NibbleSlice<'_>) -> Option<usize>
 
 /// The last of the lists that is a prefix of another one, by its index and one more, or 0 where
 /// there is none.
-pub fn last_prefix(codes: &EncodedKeys, up: &[u32], list: &NibbleSlice<'_>) -> usize
-    requires linked { length up.now ≡ length codes.now }
+pub fn last_prefix(codes: &EncodedKeys, parents: &[u32], list: &NibbleSlice<'_>) -> usize
+    requires linked { length parents.now ≡ length codes.now }
     requires rising { IsRising codes.now }
-    requires links { AreLinks codes.now up.now }
+    requires links { AreLinks codes.now parents.now }
     ensures { IsLastPrefix codes.now (length codes.now) list.now result }
 {
     let (at, is_found) = codes.cut(list, false);
     if is_found {
         at + 1
     } else {
-        climb(codes, up, at, list)
+        follow_parents(codes, parents, at, list)
     }
 }

@@ -11,7 +11,7 @@ use Rattle.frozen_routes.proofs.RouteLemmas.Blocks.{earlier_le, sandwich}
 use Rattle.frozen_routes.proofs.RouteLemmas.Growing.{earlier_through}
 use Rattle.frozen_routes.proofs.RouteLemmas.Links.{among_all, firsts_to}
 use Rattle.frozen_routes.proofs.RouteLemmas.Rows.{last_is_longest, none_holds, stored_at}
-use Rattle.frozen_routes.proofs.RouteLemmas.Tops.{top_above, top_around, top_below}
+use Rattle.frozen_routes.proofs.RouteLemmas.Directory.{top_above, top_around, top_below}
 use Rattle.radix_keys.proofs.KeyLemmas.Order.{three_ways}
 use Rattle.sorted_tables.specs.Tables.{IsLastOf, IsPartedAt}
 use Rattle.image_parts.specs.declared.errors.ImageError.{ImageError}
@@ -90,13 +90,13 @@ module _ (wide : Bool) (bs : List ℕ) (image : IsImage wide bs) (a e t c : ℕ)
     (count : c ≡ (cell_in bs t).count) where
   -- the networks before the block begin at or before it
   pub span_below : (k : ℕ) → t ≡ a / 2 ^ e → k < c → get_or (bases wide bs) k 0 ≤ a
-  span_below k is l = top_below (rest_of bs) (bases wide bs) a t c k (subst (IsFirstTop (rest_of bs) (bases wide bs) t) (sym count) (image.tops.cells t (cell_in bs t) at).count)
+  span_below k is l = top_below (rest_of bs) (bases wide bs) a t c k (subst (IsFirstTop (rest_of bs) (bases wide bs) t) (sym count) (image.directory.cells t (cell_in bs t) at).count)
       (is ∙ ap (λ d. a / 2 ^ d) same) l
 
   -- and those behind it don't
   pub span_above : (s k : ℕ) → t ≡ s + 1 → s ≡ a / 2 ^ e → c ≤ k → k < row_count bs → a < get_or (bases wide bs) k 0
   span_above s k next is l m = top_above (rest_of bs) (bases wide bs) a s c k
-      (subst (λ u. IsFirstTop (rest_of bs) (bases wide bs) u c) next (subst (IsFirstTop (rest_of bs) (bases wide bs) t) (sym count) (image.tops.cells t (cell_in bs t) at).count))
+      (subst (λ u. IsFirstTop (rest_of bs) (bases wide bs) u c) next (subst (IsFirstTop (rest_of bs) (bases wide bs) t) (sym count) (image.directory.cells t (cell_in bs t) at).count))
       (is ∙ ap (λ d. a / 2 ^ d) same) l (omega (arith, m, length-firsts wide bs))
 
   -- and one of them is the last that holds it
@@ -104,7 +104,7 @@ module _ (wide : Bool) (bs : List ℕ) (image : IsImage wide bs) (a e t c : ℕ)
   span_around r is around =
       subst (λ n. IsLastHolder (width wide) (bases wide bs) (sizes wide bs) n a r) (sym count)
       (subst (IsLastHolder (width wide) (bases wide bs) (sizes wide bs) (cell_in bs t).count a) (sym around)
-      (top_around (rest_of bs) (width wide) (bases wide bs) (sizes wide bs) t a (cell_in bs t) (image.tops.cells t (cell_in bs t) at) (is ∙ ap (λ d. a / 2 ^ d) same)))
+      (top_around (rest_of bs) (width wide) (bases wide bs) (sizes wide bs) t a (cell_in bs t) (image.directory.cells t (cell_in bs t) at) (is ∙ ap (λ d. a / 2 ^ d) same)))
 
 -- the first n networks rise
 module _ (w : ℕ) (fs bs : List ℕ) (n : ℕ) (next : (k : ℕ) → k < n → IsNext w fs bs k) where
@@ -169,12 +169,12 @@ module _ (w : ℕ) (fs bs gs cs : List ℕ) (n : ℕ) (firsts : (k : ℕ) → k 
   }
 
   -- that they rise, and have their links
-  pub linked_there : (up vs : List ℕ) → ((k : ℕ) → k < n → get_or vs k 0 ≡ get_or up k 0) → AreLinkedTo w fs bs up n → AreLinkedTo w gs cs vs n
-  linked_there up vs ups linked = record {
+  pub linked_there : (parents vs : List ℕ) → ((k : ℕ) → k < n → get_or vs k 0 ≡ get_or parents k 0) → AreLinkedTo w fs bs parents n → AreLinkedTo w gs cs vs n
+  linked_there parents vs ups linked = record {
     next = λ k l. next_there k l (linked.next k l);
     links = λ k l.
         subst (λ a. IsLastHolder w gs cs k a (get_or vs k 0)) (sym (firsts k l)) (subst (IsLastHolder w gs cs k (get_or fs k 0)) (sym (ups k l))
-        (last_there k (get_or fs k 0) (get_or up k 0) (omega (arith, l)) (linked.links k l)));
+        (last_there k (get_or fs k 0) (get_or parents k 0) (omega (arith, l)) (linked.links k l)));
   }
 
 -- of rising networks each comes after the one before it
@@ -240,22 +240,22 @@ longest_before wide bs n r image inside is =
     (subst (λ a. IsLastHolder w fs bits n a r) (first_stored wide bs n inside) (subst (IsLastHolder w fs bits n (get_or fs n 0)) (sym is) last))))
 
 -- the first n networks rise with one more that comes after them, and with its link
-pub linked_more : (w : ℕ) (fs bs up : List ℕ) (n : ℕ) → AreLinkedTo w fs bs up n → IsNext w fs bs n → IsLastHolder w fs bs n (get_or fs n 0) (get_or up n 0)
-    → AreLinkedTo w fs bs up (n + 1)
-linked_more w fs bs up n linked next last = record {
+pub linked_more : (w : ℕ) (fs bs parents : List ℕ) (n : ℕ) → AreLinkedTo w fs bs parents n → IsNext w fs bs n → IsLastHolder w fs bs n (get_or fs n 0) (get_or parents n 0)
+    → AreLinkedTo w fs bs parents (n + 1)
+linked_more w fs bs parents n linked next last = record {
   next = λ k l. elim (cases_lt k n) [
     | inl lt ↦ linked.next k lt
     | inr ge ↦ let same : n ≡ k = omega (arith, l, ge) in subst (IsNext w fs bs) same next
   ];
   links = λ k l. elim (cases_lt k n) [
     | inl lt ↦ linked.links k lt
-    | inr ge ↦ let same : n ≡ k = omega (arith, l, ge) in subst (λ j. IsLastHolder w fs bs j (get_or fs j 0) (get_or up j 0)) same last
+    | inr ge ↦ let same : n ≡ k = omega (arith, l, ge) in subst (λ j. IsLastHolder w fs bs j (get_or fs j 0) (get_or parents j 0)) same last
   ];
 }
 
 -- those before it begin at or before it
-pub at_most_next : (w : ℕ) (fs bs up : List ℕ) (n : ℕ) → AreLinkedTo w fs bs up n → IsNext w fs bs n → (k : ℕ) → k < n → get_or fs k 0 ≤ get_or fs n 0
-at_most_next w fs bs up n linked next k l =
+pub at_most_next : (w : ℕ) (fs bs parents : List ℕ) (n : ℕ) → AreLinkedTo w fs bs parents n → IsNext w fs bs n → (k : ℕ) → k < n → get_or fs k 0 ≤ get_or fs n 0
+at_most_next w fs bs parents n linked next k l =
     let last = earlier_le _ _ _ _ (next.after (omega (arith, l))) in
     elim (cases_lt k (n - 1)) [
       | inl lt ↦ let le = earlier_le _ _ _ _ (ordered w fs bs n linked.next k (n - 1) lt (omega (arith, l))) in omega (arith, le, last)
@@ -283,8 +283,8 @@ found_less wide bs (suc r) None one = absurd (one (omega arith))
 found_less wide bs (suc r) (Some i) one = let same : r ≡ i = (let is = one.1 in omega (arith, is)) in ap (λ j. Some (row_in wide bs j)) same
 
 -- fewer that are linked
-pub linked_less : (w : ℕ) (fs bs up : List ℕ) (m n : ℕ) → AreLinkedTo w fs bs up n → m ≤ n → AreLinkedTo w fs bs up m
-linked_less w fs bs up m n linked le = record { next = λ k l. linked.next k (omega (arith, l, le)); links = λ k l. linked.links k (omega (arith, l, le)) }
+pub linked_less : (w : ℕ) (fs bs parents : List ℕ) (m n : ℕ) → AreLinkedTo w fs bs parents n → m ≤ n → AreLinkedTo w fs bs parents m
+linked_less w fs bs parents m n linked le = record { next = λ k l. linked.next k (omega (arith, l, le)); links = λ k l. linked.links k (omega (arith, l, le)) }
 
 -- no network of none is the last that holds an address
 pub none_of_none : (w : ℕ) (fs bs : List ℕ) (a : ℕ) → IsLastHolder w fs bs 0 a 0
@@ -295,9 +295,9 @@ none_of_none w fs bs a = record {
 }
 
 -- a count of networks that the ones at its sides bear out
-pub parted_by : (w : ℕ) (fs bs up : List ℕ) (n a c : ℕ) → AreLinkedTo w fs bs up n → length fs ≡ n → c ≤ n → (0 < c → get_or fs (c - 1) 0 < a)
+pub parted_by : (w : ℕ) (fs bs parents : List ℕ) (n a c : ℕ) → AreLinkedTo w fs bs parents n → length fs ≡ n → c ≤ n → (0 < c → get_or fs (c - 1) 0 < a)
     → (c < n → a ≤ get_or fs c 0) → IsPartedAt (λ k. get_or fs k 0 < a) (λ k. a ≤ get_or fs k 0) (length fs) c
-parted_by w fs bs up n a c linked all within below from =
+parted_by w fs bs parents n a c linked all within below from =
     let rising = all_rise w fs bs n linked.next (omega (arith, all)) in
     record {
       within = omega (arith, all, within);
@@ -349,4 +349,4 @@ no_fault wide bs (Part (suc i)) f image =
     let some = image.head.some in
     f.wrong (omega (arith, two, some)) (record { listed = image.head.cells; shift = image.head.shift; whole = image.whole })
 no_fault wide bs (Row i) f image = let inside = f.within in f.wrong (image_linked wide bs (i + 1) image (omega (arith, inside)))
-no_fault wide bs (Cell t) f image = f.wrong (image.tops.cells t (cell_in bs t) (listed_at (cell_in bs) (cell_count bs) t f.within))
+no_fault wide bs (Cell t) f image = f.wrong (image.directory.cells t (cell_in bs t) (listed_at (cell_in bs) (cell_count bs) t f.within))

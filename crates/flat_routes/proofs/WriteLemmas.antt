@@ -6,10 +6,10 @@ use Rattle.std.proofs.lemmas.List.{length-map, length-take-le}
 use Rattle.radix_keys.specs.Networks.{IsBase, Net}
 use Rattle.image_parts.specs.Parts.{IsPayload, listed, row_count, u32_in, u64_in}
 use Rattle.image_parts.proofs.ByteLemmas.{entry_kept, listed_all, listed_is, listed_same, u32_kept, u64_kept}
-use Rattle.frozen_routes.specs.declared.tops.Cell.{Cell}
+use Rattle.frozen_routes.specs.declared.directory.Cell.{Cell}
 use Rattle.frozen_routes.specs.Routes.{AreRising, AreRowsInOrder, IsEarlier, IsFirstOutOfOrder, IsFirstTop, IsLastHolder, IsTopCell, base_numbers, bit_counts}
 use Rattle.frozen_routes.proofs.RouteLemmas.Rows.{stored_at}
-use Rattle.frozen_routes.proofs.RouteLemmas.Tops.{none_behind}
+use Rattle.frozen_routes.proofs.RouteLemmas.Directory.{none_behind}
 use Rattle.flat_routes.specs.declared.head.Plan.{Plan}
 use Rattle.flat_routes.specs.Images.{AreLinkedTo, IsImage, IsNext, IsPlanOf, bases, cell_count, cell_in, image_rows, link_in, links, row_in, row_size, sizes, width}
 use Rattle.flat_routes.specs.Written.{ChangesWithin, HoldsRows, IsImageOf, IsLayout, IsWrittenHead, image_size, link_from, row_from}
@@ -413,7 +413,7 @@ module _ (wide : Bool) (rows : List (Net ℕ × ℕ)) (payload : List ℕ) (plan
           whole = last_head.cells.size_is ∙ ap (λ n. 8 * n) cells_counted;
           rising = subst (AreRowsInOrder w (λ m. m)) (sym written_rows) rising;
           linked = λ k l. linked.links k (omega (arith, l, length-links wide b4, counted));
-          tops = record {
+          directory = record {
             shift = last_plan.head.shift;
             cells = λ t cell at.
                 let here = listed_is (cell_in b4) (cell_count b4) t cell at in

@@ -3,7 +3,7 @@ use Rattle.std.specs.Prelude.{◌≡◌, ℕ, zero, suc, ◌+◌, ◌-◌, ◌*�
 use Rattle.std.specs.Int.{w64, w128, from_le_bytes, from_be_bytes}
 use Rattle.radix_keys.specs.Networks.{Net, IsBase}
 use Rattle.image_parts.specs.Parts.{IsListed, listed, part_count, row_count, u128_in, u32_in, u64_in}
-use Rattle.frozen_routes.specs.declared.tops.Cell.{Cell}
+use Rattle.frozen_routes.specs.declared.directory.Cell.{Cell}
 use Rattle.frozen_routes.specs.Routes.{AreRising, AreTopCells, AreUplinks, IsEarlier, IsLastHolder, base_numbers, bit_counts}
 use Rattle.flat_routes.specs.declared.head.Plan.{Plan}
 use Rattle.flat_routes.specs.declared.ipv4.Row.{Row as Row4}
@@ -139,7 +139,7 @@ pub record IsImage (wide : Bool) (bs : List ℕ) : Type 0 where
   pub whole : u64_in bs 56 ≡ 8 * cell_count bs
   pub rising : AreRising (width wide) (bases wide bs) (sizes wide bs)
   pub linked : AreUplinks (width wide) (bases wide bs) (sizes wide bs) (links wide bs)
-  pub tops : AreTopCells (rest_of bs) (width wide) (bases wide bs) (sizes wide bs) (image_cells bs)
+  pub directory : AreTopCells (rest_of bs) (width wide) (bases wide bs) (sizes wide bs) (image_cells bs)
 
 -- a plan says what the head says
 pub record IsPlanOf (wide : Bool) (bs : List ℕ) (plan : Plan) : Type 0 where
@@ -158,6 +158,6 @@ pub record IsNext (w : ℕ) (fs bs : List ℕ) (i : ℕ) : Type 0 where
       → IsEarlier (slice_index fs (i - 1)) (slice_index bs (i - 1)) (slice_index fs i) (slice_index bs i)
 
 -- the first n networks rise, and each has its link
-pub record AreLinkedTo (w : ℕ) (fs bs up : List ℕ) (n : ℕ) : Type 0 where
+pub record AreLinkedTo (w : ℕ) (fs bs parents : List ℕ) (n : ℕ) : Type 0 where
   pub next : (k : ℕ) → k < n → IsNext w fs bs k
-  pub links : (k : ℕ) → k < n → IsLastHolder w fs bs k (slice_index fs k) (slice_index up k)
+  pub links : (k : ℕ) → k < n → IsLastHolder w fs bs k (slice_index fs k) (slice_index parents k)

@@ -3,7 +3,7 @@ use Rattle.std.specs.Prelude.{◌≡◌, ℕ, ◌+◌, ◌-◌, ◌*◌, ◌^◌
 use Rattle.std.specs.Int.{w64, leading_zeros}
 use Rattle.radix_keys.specs.Networks.{Net}
 use Rattle.image_parts.specs.declared.errors.WriteError.{WriteError}
-use Rattle.image_parts.specs.declared.errors.WriteError.TheVariants.{Full, Short, Unsorted}
+use Rattle.image_parts.specs.declared.errors.WriteError.TheVariants.{Full, Short, OutOfOrder}
 use Rattle.image_parts.specs.Parts.{HoldsPayload, IsEntry, u128_in, u32_in, u64_in}
 use Rattle.frozen_routes.specs.Routes.{AreRowsInOrder, IsFirstOutOfOrder, IsLastHolder, base_numbers, bit_counts}
 use Rattle.flat_routes.specs.declared.head.Plan.{Plan}
@@ -32,7 +32,7 @@ pub record CanWrite (wide : Bool) (rows : List (Net ℕ × ℕ)) (payload room :
 abbrev pub IsWriteFault : Bool → (rows : List (Net ℕ × ℕ)) → (payload room : ℕ) → WriteError → Type 0
 IsWriteFault wide rows payload room Full = 2 ^ 32 ≤ length rows
 IsWriteFault wide rows payload room Short = (length rows < 2 ^ 32) × (room < image_size wide (length rows) payload)
-IsWriteFault wide rows payload room (Unsorted i) =
+IsWriteFault wide rows payload room (OutOfOrder i) =
     (length rows < 2 ^ 32) × (image_size wide (length rows) payload ≤ room) × IsFirstOutOfOrder (width wide) (λ n. n) rows i
 
 -- the bytes are an image of these rows, which holds these bytes of the user's own

@@ -9,7 +9,7 @@ ghost use Rattle.flat_routes.specs.Images.{AreLinkedTo, IsImage, IsNext, IsPlanO
 
 use crate::head::{Plan, mark_of, plan_of, size_of_rows};
 use crate::rows::{Cell, bits_at, bits_of, cell_at, first_at, link_at};
-use crate::search::climb;
+use crate::search::follow_parents;
 use image_parts::{ImageError, part_at, u32_at, u64_at};
 
 /// Whether a network of so many bits begins at an address.
@@ -96,7 +96,7 @@ fn is_cell(image: &[u8], wide: bool, plan: Plan, at: usize) -> bool
     if !are_before(image, wide, plan, cell.count, start) {
         return false;
     }
-    climb(image, wide, plan, cell.count, Cell::NONE, start) == cell.around
+    follow_parents(image, wide, plan, cell.count, Cell::NONE, start) == cell.around
 }
 
 /// Whether the part listed first is that of the rows.
@@ -156,7 +156,7 @@ fn is_row(image: &[u8], wide: bool, plan: Plan, at: usize) -> bool
         return false;
     }
     let first = first_at(image, wide, plan, at);
-    let link = climb(image, wide, plan, at, Cell::NONE, first);
+    let link = follow_parents(image, wide, plan, at, Cell::NONE, first);
     link == link_at(image, wide, plan, at) as usize
 }
 

@@ -132,23 +132,23 @@ pub fn row_at(image: &[u8], at: usize) -> Option<Row>
 ///     value: 7,
 /// }];
 /// assert!(rt; ipv4::write(&rows, &[], &mut image).is_ok() && ipv4::is_image(&image));
-/// assert!(rt; ipv4::look(&image, 0x0a01_0203) == Some(0));
+/// assert!(rt; ipv4::longest_match(&image, 0x0a01_0203) == Some(0));
 /// assert!(rt; ipv4::row_at(&image, 0).is_some_and(|row| row.value == 7));
 /// ```
 ///
 /// `image_of_one_network` in `crates/table_tests/src/doc_examples.rt` writes an image, and looks an
 /// address up.
-pub fn look(image: &[u8], address: u32) -> Option<usize>
+pub fn longest_match(image: &[u8], address: u32) -> Option<usize>
     ensures within { IfSome result (λ at. at < row_count image.now) }
     ensures row { IsImage of_ipv4 image.now → IsLongestRow 32 (λ n. n)
         (image_rows of_ipv4 image.now) address (option_map (row_in of_ipv4 image.now) result) }
 {
-    search::look(image, false, u128::from(address))
+    search::longest_match(image, false, u128::from(address))
 }
 
-/// Looks up addresses as `look` does, as many as there are of both, and puts for each the index of
-/// its row and one more, or 0, into `found`. It returns how many.
-pub fn look_many(image: &[u8], addresses: &[u32], found: &mut [u32]) -> usize
+/// Looks up addresses as `longest_match` does, as many as there are of both, and puts for each the
+/// index of its row and one more, or 0, into `found`. It returns how many.
+pub fn longest_matches(image: &[u8], addresses: &[u32], found: &mut [u32]) -> usize
     ensures count { result ≤ min (length addresses.now) (length found.new) }
     ensures all { IsImage of_ipv4 image.now
         → result ≡ min (length addresses.now) (length found.new) }
@@ -197,7 +197,7 @@ pub fn below(image: &[u8], first: u32, bits: u32) -> (usize, usize)
 /// that holds it. It is None where no other one holds it, and where there is no such row. It takes
 /// constant time. Whatever the bytes are, a result is less than the index, so a walk upward ends.
 pub fn above(image: &[u8], at: usize) -> Option<usize>
-    ensures within { IfSome result (λ up. up < at) }
+    ensures within { IfSome result (λ parents. parents < at) }
     ensures past { row_count image.now ≤ at → IsNone result }
     ensures row { IsImage of_ipv4 image.now → at < row_count image.now
         → IsLongestRow 32 (λ n. n) (take at (image_rows of_ipv4 image.now))
@@ -280,7 +280,7 @@ impl TableRow for (Network<Ipv4Addr>, u32) {
 ///
 /// # Errors
 ///
-/// Memory is refused.
+/// An allocation fails.
 pub fn to_image(
     alloc: Global,
     table: &FrozenRoutes<Ipv4Addr, u32>,

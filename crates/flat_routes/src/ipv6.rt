@@ -143,23 +143,23 @@ pub fn row_at(image: &[u8], at: usize) -> Option<Row>
 ///     value: 7,
 /// }];
 /// assert!(rt; ipv6::write(&rows, &[], &mut image).is_ok() && ipv6::is_image(&image));
-/// assert!(rt; ipv6::look(&image, (0x2001_0db8 << 96) + 1) == Some(0));
+/// assert!(rt; ipv6::longest_match(&image, (0x2001_0db8 << 96) + 1) == Some(0));
 /// assert!(rt; ipv6::row_at(&image, 0).is_some_and(|row| row.value == 7));
 /// ```
 ///
 /// `image_of_one_wide_network` in `crates/table_tests/src/doc_examples.rt` writes an image, and
 /// looks an address up.
-pub fn look(image: &[u8], address: u128) -> Option<usize>
+pub fn longest_match(image: &[u8], address: u128) -> Option<usize>
     ensures within { IfSome result (λ at. at < row_count image.now) }
     ensures row { IsImage of_ipv6 image.now → IsLongestRow 128 (λ n. n)
         (image_rows of_ipv6 image.now) address (option_map (row_in of_ipv6 image.now) result) }
 {
-    search::look(image, true, address)
+    search::longest_match(image, true, address)
 }
 
-/// Looks up addresses, in network order, as `look` does, as many as there are of both, and puts for
-/// each the index of its row and one more, or 0, into `found`. It returns how many.
-pub fn look_many(image: &[u8], addresses: &[[u8; 16]], found: &mut [u32]) -> usize
+/// Looks up addresses, in network order, as `longest_match` does, as many as there are of both, and
+/// puts for each the index of its row and one more, or 0, into `found`. It returns how many.
+pub fn longest_matches(image: &[u8], addresses: &[[u8; 16]], found: &mut [u32]) -> usize
     ensures count { result ≤ min (length addresses.now) (length found.new) }
     ensures all { IsImage of_ipv6 image.now
         → result ≡ min (length addresses.now) (length found.new) }
@@ -209,7 +209,7 @@ pub fn below(image: &[u8], first: u128, bits: u32) -> (usize, usize)
 /// that holds it. It is None where no other one holds it, and where there is no such row. It takes
 /// constant time. Whatever the bytes are, a result is less than the index, so a walk upward ends.
 pub fn above(image: &[u8], at: usize) -> Option<usize>
-    ensures within { IfSome result (λ up. up < at) }
+    ensures within { IfSome result (λ parents. parents < at) }
     ensures past { row_count image.now ≤ at → IsNone result }
     ensures row { IsImage of_ipv6 image.now → at < row_count image.now
         → IsLongestRow 128 (λ n. n) (take at (image_rows of_ipv6 image.now))
@@ -287,7 +287,7 @@ impl TableRow for (Network<Ipv6Addr>, u64) {
 ///
 /// # Errors
 ///
-/// Memory is refused.
+/// An allocation fails.
 pub fn to_image(
     alloc: Global,
     table: &FrozenRoutes<Ipv6Addr, u64>,

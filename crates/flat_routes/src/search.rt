@@ -70,7 +70,7 @@ fn count_to(
 /// The last of the first `from` networks that holds an address, by its index and one more, or 0
 /// where there is none; the floor says so of as many as it counts.
 #[inline(always)]
-pub(crate) fn climb(
+pub(crate) fn follow_parents(
     image: &[u8],
     wide: bool,
     plan: Plan,
@@ -116,12 +116,12 @@ pub(crate) fn find(image: &[u8], wide: bool, plan: Plan, number: u128) -> usize
 {
     let (floor, hi) = top_span(image, wide, plan, number);
     let from = count_to(image, wide, plan, number, floor.count, hi);
-    climb(image, wide, plan, from, floor, number)
+    follow_parents(image, wide, plan, from, floor, number)
 }
 
 /// The index of the row of the longest network that holds an address, by its number.
 #[inline(always)]
-pub(crate) fn look(image: &[u8], wide: bool, number: u128) -> Option<usize>
+pub(crate) fn longest_match(image: &[u8], wide: bool, number: u128) -> Option<usize>
     ensures within { IfSome result (λ at. at < row_count image.now) }
     ensures row { IsImage wide image.now → IsLongestRow (width wide) (λ n. n)
         (image_rows wide image.now) number (option_map (row_in wide image.now) result) }
@@ -138,7 +138,7 @@ pub(crate) fn look(image: &[u8], wide: bool, number: u128) -> Option<usize>
 
 /// The index of the row of the longest network around that of the row at an index.
 pub(crate) fn above(image: &[u8], wide: bool, at: usize) -> Option<usize>
-    ensures within { IfSome result (λ up. up < at) }
+    ensures within { IfSome result (λ parents. parents < at) }
     ensures past { row_count image.now ≤ at → IsNone result }
     ensures row { IsImage wide image.now → at < row_count image.now
         → IsLongestRow (width wide) (λ n. n) (take at (image_rows wide image.now))

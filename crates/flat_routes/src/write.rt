@@ -10,7 +10,7 @@ use crate::check::{is_base, is_earlier};
 use crate::head::{Plan, mark_of, size_of_rows};
 use crate::layout::layout;
 use crate::rows::{Cell, first_at};
-use crate::search::climb;
+use crate::search::follow_parents;
 use image_parts::{WriteError, put_bytes, put_part, put_u32, put_u64};
 
 /// A row of one of the families, by its numbers.
@@ -98,7 +98,7 @@ fn put_rows<R: FlatRow>(out: &mut [u8], plan: Plan, rows: &[R])
     let wide = R::WIDE;
     for at in 0..rows.len() {
         let row = rows[at];
-        let link = climb(out, wide, plan, at, Cell::NONE, row.first());
+        let link = follow_parents(out, wide, plan, at, Cell::NONE, row.first());
         let place = plan.rows_at + size_of_rows(wide, at);
         row.put(out, place, link as u32);
     }
@@ -145,7 +145,7 @@ fn next_cell(image: &[u8], wide: bool, plan: Plan, at: usize, from: usize) -> Ce
         };
     };
     let count = count_before(image, wide, plan, from, start);
-    let around = climb(image, wide, plan, count, Cell::NONE, start);
+    let around = follow_parents(image, wide, plan, count, Cell::NONE, start);
     Cell { count, around }
 }
 
@@ -194,7 +194,7 @@ pub(crate) fn write<R: FlatRow>(
         return Err(WriteError::Short);
     }
     if let Some(at) = unsorted(rows) {
-        return Err(WriteError::Unsorted(at));
+        return Err(WriteError::OutOfOrder(at));
     }
     put_head(out, wide, plan, payload.len());
     put_rows(out, plan, rows);

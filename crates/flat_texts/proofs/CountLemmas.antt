@@ -3,7 +3,7 @@ use Rattle.std.proofs.Common.{◌≡◌, ℕ, zero, suc, ◌+◌, ◌*◌, ◌<�
 use Rattle.std.proofs.lemmas.List.{length-map}
 use Rattle.nibble_map.specs.Lists.{Each, IsBefore, IsRising}
 use Rattle.nibble_map.specs.Nibbles.{nibbles}
-use Rattle.frozen_trie.specs.Frozen.{IsFirstUnsorted, codes_of}
+use Rattle.frozen_trie.specs.Frozen.{IsFirstListOutOfOrder, codes_of}
 use Rattle.image_parts.specs.Parts.{HoldsPayload, row_count, u32_in}
 use Rattle.image_parts.proofs.ByteLemmas.{entry_kept, listed_all, u32_kept}
 use Rattle.flat_texts.specs.declared.head.Plan.{Plan}
@@ -118,7 +118,7 @@ taken_rise (suc n) [] h = tt
 taken_rise (suc n) (c ∷ cs) h = (taken_each (IsBefore c) n cs h.0, taken_rise n cs h.1)
 
 -- so none of them is the first out of order
-pub none_unsorted : (ps : List Pair) (i : ℕ) → AreKeysRising ps → IsFirstUnsorted (codes_of nibbles (each given_pair ps)) i → ⊥
+pub none_unsorted : (ps : List Pair) (i : ℕ) → AreKeysRising ps → IsFirstListOutOfOrder (codes_of nibbles (each given_pair ps)) i → ⊥
 none_unsorted ps i rising first = first.unsorted (taken_rise (i + 1) (codes_of nibbles (each given_pair ps)) rising)
 
 -- a layout says how many pairs and bytes of keys there are

@@ -100,9 +100,9 @@ pub ends_rise : (bs : List ℕ) (n i j : ℕ) → AreRightPairs bs n → i ≤ j
 ends_rise bs n i zero right l m = let none : i ≡ 0 = omega (arith, l) in let e = ap (key_end bs) none in omega (arith, e)
 ends_rise bs n i (suc j) right l m = elim (cases_lt i (suc j)) [
   | inl lt ↦
-      let up = ends_rise bs n i j right (omega (arith, lt)) (omega (arith, m)) in
+      let parents = ends_rise bs n i j right (omega (arith, lt)) (omega (arith, m)) in
       let own = (right (suc j) m).order in
-      omega (arith, up, own)
+      omega (arith, parents, own)
   | inr ge ↦ let same : i ≡ suc j = omega (arith, l, ge) in let e = ap (key_end bs) same in omega (arith, e)
 ]
 
@@ -114,8 +114,8 @@ start_is bs (suc n) some = let back : n ≡ suc n - 1 = omega arith in ap (key_e
 -- so they end by where the next one begins
 ends_by : (bs : List ℕ) (n k : ℕ) → AreRightPairs bs n → k < n → key_end bs k ≤ key_start bs n
 ends_by bs n k right l =
-    let up = ends_rise bs n k (n - 1) right (omega (arith, l)) (omega (arith, l)) in
-    omega (arith, up, start_is bs n (omega (arith, l)))
+    let parents = ends_rise bs n k (n - 1) right (omega (arith, l)) (omega (arith, l)) in
+    omega (arith, parents, start_is bs n (omega (arith, l)))
 
 -- a key that stands at a place
 pub key_stands : (bs key : List ℕ) (plan : Plan) (i from : ℕ) → IsTextPlan bs plan → plan.keys_at + plan.keys_len ≤ length bs → key_start bs i ≡ from → key_end bs i ≡ from + length key

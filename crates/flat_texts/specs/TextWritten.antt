@@ -2,9 +2,9 @@
 use Rattle.std.specs.Prelude.{◌≡◌, ℕ, ◌+◌, ◌-◌, ◌*◌, ◌^◌, ◌<◌, ◌≤◌, ◌⊎◌, List, Some, if◌then◌else◌, length, map as each, nat_lt, slice_get, slice_index, sum_by}
 use Rattle.nibble_map.specs.Lists.{IsRising}
 use Rattle.nibble_map.specs.Nibbles.{nibbles}
-use Rattle.frozen_trie.specs.Frozen.{IsFirstUnsorted, codes_of}
+use Rattle.frozen_trie.specs.Frozen.{IsFirstListOutOfOrder, codes_of}
 use Rattle.image_parts.specs.declared.errors.WriteError.{WriteError}
-use Rattle.image_parts.specs.declared.errors.WriteError.TheVariants.{Full, Short, Unsorted}
+use Rattle.image_parts.specs.declared.errors.WriteError.TheVariants.{Full, Short, OutOfOrder}
 use Rattle.image_parts.specs.Parts.{IsEntry, row_count, u32_in, u64_in}
 use Rattle.flat_texts.specs.declared.head.Plan.{Plan}
 use Rattle.flat_texts.specs.declared.pair.Pair.{Pair}
@@ -37,8 +37,8 @@ pub record CanWriteTexts (ps : List Pair) (payload room : ℕ) : Type 0 where
 abbrev pub IsTextWriteFault : List Pair → (payload room : ℕ) → WriteError → Type 0
 IsTextWriteFault ps payload room Full = (2 ^ 32 ≤ length ps) ⊎ (2 ^ 32 ≤ keys_len ps)
 IsTextWriteFault ps payload room Short = room < text_image_size ps payload
-IsTextWriteFault ps payload room (Unsorted i) =
-    (text_image_size ps payload ≤ room) × IsFirstUnsorted (codes_of nibbles (each given_pair ps)) i
+IsTextWriteFault ps payload room (OutOfOrder i) =
+    (text_image_size ps payload ≤ room) × IsFirstListOutOfOrder (codes_of nibbles (each given_pair ps)) i
 
 -- a plan says where the parts of so many pairs with so many bytes of keys are laid: behind a head that lists two, one behind
 -- another

@@ -8,7 +8,7 @@ ghost use Rattle.flat_texts.specs.TextImages.{AreRightPairs, IsImageFault, IsRig
 use crate::head::{Plan, plan_of};
 use crate::heads::head_of;
 use crate::pairs::{count_at, end_at, head_at, key_at, link_at, start_at};
-use crate::search::climb;
+use crate::search::follow_parents;
 use image_parts::ImageError;
 use radix_keys::NibbleSlice;
 
@@ -45,7 +45,7 @@ fn is_pair(image: &[u8], plan: Plan, at: usize) -> bool
     if !is_after(image, plan, at) {
         return false;
     }
-    climb(image, plan, at, key) == link_at(image, plan, at)
+    follow_parents(image, plan, at, key) == link_at(image, plan, at)
 }
 
 /// Whether the first heads, so many of them, are below `first` times 2^48.

@@ -139,7 +139,7 @@ pub(crate) fn cut(image: &[u8], plan: Plan, key: &[u8], is_through: bool) -> (us
 /// It goes from each to the link of it, so at most as often as prefixes of the key before `from`
 /// are stored.
 #[inline(always)]
-pub(crate) fn climb(image: &[u8], plan: Plan, from: usize, key: &[u8]) -> usize
+pub(crate) fn follow_parents(image: &[u8], plan: Plan, from: usize, key: &[u8]) -> usize
     requires plan { IsTextPlan image.now plan }
     requires within { from ≤ plan.pairs }
     ensures within { result ≤ from }
@@ -179,5 +179,5 @@ pub(crate) fn last_prefix(image: &[u8], plan: Plan, key: &[u8]) -> usize
     if is_found {
         return at + 1;
     }
-    climb(image, plan, at, key)
+    follow_parents(image, plan, at, key)
 }

@@ -50,7 +50,7 @@ pub fn from_image(alloc: Global, image: &[u8]) -> Result<FrozenTexts<u64>, Table
 ///
 /// # Errors
 ///
-/// Memory is refused.
+/// An allocation fails.
 ///
 /// # Examples
 ///

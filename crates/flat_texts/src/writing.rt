@@ -1,7 +1,7 @@
 //! An image is written.
 ghost use Rattle.std.specs.Prelude.{◌≡◌, ◌↔◌, ◌+◌, ◌*◌, ◌^◌, ◌<◌, ◌≤◌, ℕ, IfErr, IsOk, MatchOption, OnErr, OnOk, drop, length, map as each, slice_index, take};
 ghost use Rattle.nibble_map.specs.Nibbles.{nibbles};
-ghost use Rattle.frozen_trie.specs.Frozen.{IsFirstUnsorted, codes_of};
+ghost use Rattle.frozen_trie.specs.Frozen.{IsFirstListOutOfOrder, codes_of};
 ghost use Rattle.image_parts.specs.Parts.{HoldsPayload, u32_in, u64_in};
 ghost use Rattle.flat_texts.specs.TextImages.{AreRightPairs, IsTextImage, IsTextPlan, image_pairs, key_head, key_start, given_pair, stored_count, stored_head};
 ghost use Rattle.flat_texts.specs.TextWritten.{AreKeysRising, CanWriteTexts, HoldsPairs, IsHeadCount, IsTextLayout, IsTextWriteFault, IsWrittenTextHead, PairsStay, keys_len, text_image_size};
@@ -11,14 +11,14 @@ use crate::heads::head_of;
 use crate::layout::layout;
 use crate::pair::Pair;
 use crate::pairs::head_at;
-use crate::search::climb;
+use crate::search::follow_parents;
 use image_parts::{WriteError, put_bytes, put_part, put_u32, put_u64};
 use radix_keys::NibbleSlice;
 
 /// The index of the first pair whose key doesn't come after the one before it.
 fn unsorted(pairs: &[Pair<'_>]) -> Option<usize>
     ensures { MatchOption result (AreKeysRising pairs.now)
-        (IsFirstUnsorted (codes_of nibbles (each given_pair pairs.now))) }
+        (IsFirstListOutOfOrder (codes_of nibbles (each given_pair pairs.now))) }
 {
     for at in 1..pairs.len() {
         let last = NibbleSlice::from_bytes(pairs[at - 1].key);
@@ -93,7 +93,7 @@ fn put_pairs(out: &mut [u8], plan: Plan, pairs: &[Pair<'_>])
     let mut from = 0;
     for at in 0..pairs.len() {
         let pair = pairs[at];
-        let link = climb(out, plan, at, pair.key);
+        let link = follow_parents(out, plan, at, pair.key);
         put_pair(out, plan, at, from, link, pair);
         from += pair.key.len();
     }
@@ -161,7 +161,7 @@ pub fn write(pairs: &[Pair<'_>], payload: &[u8], out: &mut [u8]) -> Result<(), W
         return Err(WriteError::Short);
     }
     if let Some(at) = unsorted(pairs) {
-        return Err(WriteError::Unsorted(at));
+        return Err(WriteError::OutOfOrder(at));
     }
     put_head(out, plan, payload.len());
     put_pairs(out, plan, pairs);

@@ -13,6 +13,6 @@ pub enum TrieError {
     /// lies outside the image's own bytes, or they are of no value there, as bytes that aren't
     /// UTF-8 are of no text. A number that is the value itself never does.
     Value(usize),
-    /// Memory is refused, or the encodings together take 2^31 bytes or more.
+    /// An allocation fails, or the encodings together take 2^31 bytes or more.
     Memory,
 }

@@ -15,7 +15,7 @@ pub trait ImageKey: TrieKey + Drop {
     ///
     /// # Errors
     ///
-    /// Memory is refused.
+    /// An allocation fails.
     fn of_image(bytes: &[u8], alloc: Global) -> Result<Option<Self>, Memory>
         ensures encoded { IfOk result
             (λ found. IfSome found (λ key. nibbles bytes.now ≡ Self.encoding key)) }

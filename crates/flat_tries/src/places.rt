@@ -40,7 +40,7 @@ pub fn bytes_at(own: &[u8], place: u64) -> Option<&[u8]>
 ///
 /// # Errors
 ///
-/// Memory is refused.
+/// An allocation fails.
 pub(crate) fn value_at<V: FileItem>(
     alloc: Global,
     own: &[u8],
@@ -62,7 +62,7 @@ pub(crate) fn value_at<V: FileItem>(
 ///
 /// # Errors
 ///
-/// Memory is refused, or there are 2^32 bytes or more. Some of them may have been added.
+/// An allocation fails, or there are 2^32 bytes or more. Some of them may have been added.
 pub(crate) fn put_value<V: FileItem>(
     own: &mut Vec<u8>,
     bytes: &mut Vec<u8>,

@@ -19,7 +19,7 @@ use std::alloc::Global;
 ///
 /// # Errors
 ///
-/// `Odd`: the encoding of a key has an odd count of nibbles. `Memory`: memory is refused, or the
+/// `Odd`: the encoding of a key has an odd count of nibbles. `Memory`: an allocation fails, or the
 /// encodings together take 2^31 bytes or more.
 ///
 /// # Examples

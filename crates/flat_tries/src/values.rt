@@ -23,7 +23,7 @@ use std::alloc::Global;
 ///
 /// # Errors
 ///
-/// `Odd`: the encoding of a key has an odd count of nibbles. `Memory`: memory is refused, the
+/// `Odd`: the encoding of a key has an odd count of nibbles. `Memory`: an allocation fails, the
 /// encodings together take 2^31 bytes or more, or a value takes 2^32 bytes or more.
 pub fn to_image_of_values<K: TrieKey + Drop, V: FileItem + Drop>(
     alloc: Global,
@@ -66,8 +66,8 @@ pub fn to_image_of_values<K: TrieKey + Drop, V: FileItem + Drop>(
 /// # Errors
 ///
 /// The bytes are no image; or those of a pair are the encoding of no key of the type, or its number
-/// leads to no value of the type; or memory is refused, or the encodings take more bytes than those
-/// of a frozen trie may.
+/// leads to no value of the type; or an allocation fails, or the encodings take more bytes than
+/// those of a frozen trie may.
 pub fn from_image_of_values<K: ImageKey, V: FileItem + Drop>(
     alloc: Global,
     image: &[u8],

@@ -13,7 +13,7 @@ use Rattle.radix_keys.specs.Networks.{Net}
 use Rattle.radix_trie.specs.Building.{with_pairs}
 use Rattle.radix_trie.specs.Keys.{IsKeyed}
 use Rattle.radix_trie.specs.Views.{pairs_below}
-use Rattle.radix_trie.proofs.PathLemmas.Places.{below-nil}
+use Rattle.radix_trie.proofs.PathLemmas.Loci.{below-nil}
 use Rattle.frozen_routes.specs.Routes.{AreRowsInOrder}
 use Rattle.frozen_trie.specs.Frozen.{codes_of, coded_pairs, map_of_pairs}
 use Rattle.frozen_trie.proofs.FrozenLemmas.Queries.{whole_is}

@@ -17,7 +17,7 @@ use std::alloc::Global;
 ///
 /// # Errors
 ///
-/// The trie holds 2^32 networks or more. Memory is refused, for the walk over the trie, for the
+/// The trie holds 2^32 networks or more. An allocation fails, for the walk over the trie, for the
 /// rows or a clone of a value, or for what the table has beside them. The rows of a trie are always
 /// in order. Of no network the call never fails.
 pub fn frozen_copy<A: Address, V: Clone>(
@@ -37,7 +37,7 @@ pub fn frozen_copy<A: Address, V: Clone>(
         Err(refused) => match refused.why {
             SortedWhy::Memory => Err(BuildError::Memory),
             SortedWhy::Full => Err(BuildError::Full),
-            SortedWhy::Unsorted(_) => unreachable!(),
+            SortedWhy::OutOfOrder(_) => unreachable!(),
         },
     }
 }
@@ -72,8 +72,8 @@ fn cloned_rows<A: Address, V: Clone>(
 ///
 /// # Errors
 ///
-/// Memory is refused, for a node of the trie, a network's bits or a clone of a value. Of no row the
-/// call never fails.
+/// An allocation fails, for a node of the trie, a network's bits or a clone of a value. Of no row
+/// the call never fails.
 pub fn thawed_copy<A: Address, V: Clone>(
     alloc: Global,
     routes: &FrozenRoutes<A, V>,

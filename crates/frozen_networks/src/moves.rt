@@ -17,9 +17,9 @@ use std::alloc::Global;
 ///
 /// # Errors
 ///
-/// The trie holds 2^32 networks or more. Memory is refused, for the rows or for what the table has
-/// beside them. The trie comes back as it was: the values are moved last. Of no network the call
-/// never fails.
+/// The trie holds 2^32 networks or more. An allocation fails, for the rows or for what the table
+/// has beside them. The trie comes back as it was: the values are moved last. Of no network the
+/// call never fails.
 ///
 /// # Examples
 ///
@@ -87,9 +87,9 @@ fn each_is_network<A: Address, V>(rows: &[(Network<A>, V)])
 ///
 /// # Errors
 ///
-/// Memory is refused, for a node of the trie or a network's bits; of no row it never is. No row is
-/// lost, and none is dropped: those that are stored in the trie come back with it, and the others
-/// beside it, so that a caller can go on where the call stopped.
+/// An allocation fails, for a node of the trie or a network's bits; of no row it never does. No row
+/// is lost, and none is dropped: those that are stored in the trie come back with it, and the
+/// others beside it, so that a caller can go on where the call stopped.
 ///
 /// # Examples
 ///

@@ -1,7 +1,7 @@
 -- Networks in order: which hold an address, their links, and parts of them.
 pub mod Blocks
 pub mod Links
-pub mod Tops
+pub mod Directory
 pub mod Growing
 pub mod Rows
 pub mod Parts

@@ -2,9 +2,9 @@
 ghost use Rattle.std.specs.Prelude.{◌≡◌, ◌≢◌, ◌-◌, ◌^◌, ◌<◌, ◌≤◌, ◌++◌, [], ◌∷◌, IfErr, IsOk, OnOk, length};
 ghost use Rattle.frozen_routes.specs.Routes.{AreRowsInOrder};
 
+use crate::directory::Directory;
 use crate::frozen::FrozenRoutes;
 use crate::linked::link_after;
-use crate::tops::Tops;
 use radix_keys::{Address, Memory, Network, Refused};
 use sorted_tables::PushWhy;
 use std::alloc::Global;
@@ -16,8 +16,8 @@ impl<A: Address, V> FrozenRoutes<A, V> {
     {
         FrozenRoutes {
             rows: Vec::new(alloc),
-            up: Vec::new(alloc),
-            tops: Tops::none(alloc),
+            parents: Vec::new(alloc),
+            directory: Directory::none(alloc),
             alloc,
         }
     }
@@ -29,7 +29,7 @@ impl<A: Address, V> FrozenRoutes<A, V> {
     /// # Errors
     ///
     /// In this order: the table holds 2^32 - 1 rows; the network doesn't come after all others;
-    /// memory is refused. The row comes back, and the table is as before.
+    /// an allocation fails. The row comes back, and the table is as before.
     pub fn push(
         &mut self,
         network: Network<A>,
@@ -37,7 +37,7 @@ impl<A: Address, V> FrozenRoutes<A, V> {
     ) -> Result<(), Refused<PushWhy, (Network<A>, V)>>
         ensures ok { OnOk result (self.new ≡ self.old ++ (network, value) ∷ []) }
         ensures rising { OnOk result (AreRowsInOrder A.BITS A.number self.new) }
-        ensures unsorted { IfErr result (λ e. e.why ≡ PushWhy.Unsorted
+        ensures unsorted { IfErr result (λ e. e.why ≡ PushWhy.OutOfOrder
             → AreRowsInOrder A.BITS A.number (self.old ++ (network, value) ∷ []) → ⊥) }
         ensures full { IfErr result (λ e. e.why ≡ PushWhy.Full
             → 2 ^ 32 - 1 ≤ length self.old) }
@@ -52,17 +52,17 @@ impl<A: Address, V> FrozenRoutes<A, V> {
             let why = PushWhy::Full;
             return Err(Refused { why, back: row });
         }
-        let Some(link) = link_after(&self.rows, &self.up, &row.0) else {
-            let why = PushWhy::Unsorted;
+        let Some(link) = link_after(&self.rows, &self.parents, &row.0) else {
+            let why = PushWhy::OutOfOrder;
             return Err(Refused { why, back: row });
         };
-        if self.rows.reserve(1).is_err() || self.up.reserve(1).is_err() {
+        if self.rows.reserve(1).is_err() || self.parents.reserve(1).is_err() {
             let why = PushWhy::Memory;
             return Err(Refused { why, back: row });
         }
-        self.up.push_reserved(link);
+        self.parents.push_reserved(link);
         self.rows.push_reserved(row);
-        self.tops = Tops::none(self.alloc);
+        self.directory = Directory::none(self.alloc);
         Ok(())
     }
 
@@ -74,16 +74,16 @@ impl<A: Address, V> FrozenRoutes<A, V> {
     ///
     /// # Errors
     ///
-    /// Memory for these is refused, which fewer than 256 rows never meet. Each call returns the
+    /// An allocation for these fails, which fewer than 256 rows never meet. Each call returns the
     /// same without them.
     pub fn finish(&mut self) -> Result<(), Memory>
         ensures same { self.new ≡ self.old }
         ensures few { length self.old < 256 → IsOk result }
     {
         self.rows.shrink_to_fit();
-        self.up.shrink_to_fit();
-        let (tops, room) = Tops::with_room::<A>(self.alloc, self.rows.len())?;
-        self.tops = tops.filled(&self.rows, &self.up, room);
+        self.parents.shrink_to_fit();
+        let (directory, room) = Directory::with_room::<A>(self.alloc, self.rows.len())?;
+        self.directory = directory.filled(&self.rows, &self.parents, room);
         Ok(())
     }
 }

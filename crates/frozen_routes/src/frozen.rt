@@ -4,11 +4,11 @@ ghost use Rattle.std.specs.List.{filter};
 ghost use Rattle.radix_keys.specs.Networks.{Net};
 ghost use Rattle.frozen_routes.specs.Routes.{IsLongestAround, IsOwnRow, IsFoundRow, IsValueOf, AreRowsInOrder, row_of_refs, rows_up, is_around, is_inside};
 
+use crate::directory::Directory;
 use crate::prefixes::CommonPrefixes;
 use crate::queries::RouteQuery;
 use crate::rows::{entry_at, entry_in, is_of};
 use crate::search::{cut, last_around};
-use crate::tops::Tops;
 use radix_keys::{Address, Network};
 use std::alloc::Global;
 use std::marker::Model;
@@ -16,7 +16,7 @@ use std::marker::Model;
 /// Networks of one family, each with a value, which are put in once and then read: all rows in the
 /// order of the first addresses, and of one first address the wider network first.
 ///
-/// A contract sees it as the list of its rows. A lookup allocates nothing, and none is refused.
+/// A contract sees it as the list of its rows. A lookup allocates nothing, and none fails.
 ///
 /// # Examples
 ///
@@ -36,9 +36,9 @@ pub struct FrozenRoutes<A: Address, V> {
     pub(crate) rows: Vec<(Network<A>, V)>,
     /// For each row, the index and one more of the last earlier one whose network holds its first
     /// address, or 0.
-    pub(crate) up: Vec<u32>,
+    pub(crate) parents: Vec<u32>,
     /// What is known of the rows at each value of an address's first bits.
-    pub(crate) tops: Tops,
+    pub(crate) directory: Directory,
     pub(crate) alloc: Global,
 }
 
@@ -54,7 +54,7 @@ impl<A: Address, V> Model for FrozenRoutes<A, V> {
     ghost view = { λ f. f.rows.items };
 
     ghost invariant = { λ f. AreLinked A.BITS (base_numbers A.number f.rows.items)
-        (bit_counts f.rows.items) f.up.items f.tops.rest f.tops.cells.items f.tops.uppers.items };
+        (bit_counts f.rows.items) f.parents.items f.directory.rest f.directory.cells.items f.directory.uppers.items };
 }
 
 impl<A: Address, V> FrozenRoutes<A, V> {
@@ -134,7 +134,7 @@ impl<A: Address, V> FrozenRoutes<A, V> {
         ensures row { IsLongestAround A.BITS A.number self.now (Q.net query.now)
             (option_map row_of_refs result) }
     {
-        let found = last_around(&self.rows, &self.up, &self.tops, &query.network());
+        let found = last_around(&self.rows, &self.parents, &self.directory, &query.network());
         if found == 0 {
             return None;
         }
@@ -149,7 +149,7 @@ impl<A: Address, V> FrozenRoutes<A, V> {
     pub fn common_prefixes<Q: RouteQuery<A>>(&self, query: &Q) -> CommonPrefixes<'_, A, V>
         ensures walk { result ≡ filter (is_around A.BITS A.number (Q.net query.now)) self.now }
     {
-        let last = last_around(&self.rows, &self.up, &self.tops, &query.network());
+        let last = last_around(&self.rows, &self.parents, &self.directory, &query.network());
         CommonPrefixes::new(self, last)
     }
 
@@ -199,6 +199,6 @@ impl<A: Address, V> FrozenRoutes<A, V> {
             ≡ row_of_refs result.0 ∷ rows_up A.BITS A.number self.now result.1 }
         ensures within { result.1 ≤ at }
     {
-        (entry_at(&self.rows, at), self.up[at] as usize)
+        (entry_at(&self.rows, at), self.parents[at] as usize)
     }
 }

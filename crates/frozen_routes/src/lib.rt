@@ -2,6 +2,7 @@
 #![tactic(auto)]
 
 mod appended;
+mod directory;
 mod frozen;
 mod laws;
 mod linked;
@@ -11,7 +12,6 @@ mod room;
 mod rows;
 mod search;
 mod sorted;
-mod tops;
 
 pub use frozen::FrozenRoutes;
 pub use laws::{addresses_ask_as_networks, longest_rows_are_nearest, networks_hold_by_prefix};

@@ -2,9 +2,9 @@
 ghost use Rattle.std.specs.Prelude.{◌≡◌, ◌↔◌, ◌-◌, ◌^◌, ◌<◌, ◌++◌, [], ◌∷◌, IsTrue, MatchOption, length};
 ghost use Rattle.frozen_routes.specs.Routes.{AreRising, AreRowsInOrder, AreUplinks, IsLastHolder, base_numbers, bit_counts};
 
+use crate::directory::Cell;
 use crate::rows::{bits_at, first_at};
-use crate::search::climb;
-use crate::tops::Cell;
+use crate::search::follow_parents;
 use radix_keys::{Address, Network};
 
 /// Whether a network comes after all of some rising ones.
@@ -33,14 +33,14 @@ fn follows<A: Address, V>(rows: &[(Network<A>, V)], network: &Network<A>) -> boo
 /// The link of a network that comes after all of some linked ones, or None where it doesn't.
 pub(crate) fn link_after<A: Address, V>(
     rows: &[(Network<A>, V)],
-    up: &[u32],
+    parents: &[u32],
     network: &Network<A>,
 ) -> Option<u32>
     requires few { length rows.now < 2 ^ 32 }
-    requires linked { length up.now ≡ length rows.now }
+    requires linked { length parents.now ≡ length rows.now }
     requires rising { AreRowsInOrder A.BITS A.number rows.now }
     requires links { AreUplinks A.BITS (base_numbers A.number rows.now) (bit_counts rows.now)
-        up.now }
+        parents.now }
     ensures { MatchOption result
         (AreRising A.BITS (base_numbers A.number rows.now ++ A.number network.now.base ∷ [])
         (bit_counts rows.now ++ network.now.bits ∷ []) → ⊥)
@@ -54,5 +54,5 @@ pub(crate) fn link_after<A: Address, V>(
         return None;
     }
     let number = network.base().to_number();
-    Some(climb(rows, up, rows.len(), Cell::NONE, number) as u32)
+    Some(follow_parents(rows, parents, rows.len(), Cell::NONE, number) as u32)
 }

@@ -1,7 +1,7 @@
 //! Memory that is taken for a table before its rows are there.
 ghost use Rattle.std.specs.Prelude.{◌≡◌, ◌-◌, ◌^◌, IfOk, IsOk, min};
 
-use crate::tops::Tops;
+use crate::directory::Directory;
 use radix_keys::{Address, Memory};
 use std::alloc::Global;
 use std::marker::{Model, PhantomData};
@@ -14,8 +14,8 @@ use std::marker::{Model, PhantomData};
 pub struct Room<A: Address> {
     pub(crate) rows: usize,
     /// For the links.
-    pub(crate) up: Vec<u32>,
-    pub(crate) tops: Tops,
+    pub(crate) parents: Vec<u32>,
+    pub(crate) directory: Directory,
     /// How many cells the table of first bits has room for.
     pub(crate) cells: usize,
     /// What it is for: other addresses have more bits, or fewer.
@@ -31,9 +31,9 @@ impl<A: Address> Model for Room<A> {
     ghost view = { λ room. room.rows };
 
     ghost invariant = { λ room. (room.rows < 2 ^ 32)
-        × (room.up.items ≡ []) × (room.rows ≤ vec_capacity room.up)
-        × (room.tops.rest < 128) × (room.tops.cells.items ≡ [])
-        × (room.tops.uppers.items ≡ []) × (room.cells ≤ vec_capacity room.tops.cells) };
+        × (room.parents.items ≡ []) × (room.rows ≤ vec_capacity room.parents)
+        × (room.directory.rest < 128) × (room.directory.cells.items ≡ [])
+        × (room.directory.uppers.items ≡ []) × (room.cells ≤ vec_capacity room.directory.cells) };
 }
 
 impl<A: Address> Room<A> {
@@ -41,19 +41,19 @@ impl<A: Address> Room<A> {
     ///
     /// # Errors
     ///
-    /// Memory for the links, or for what shortens lookups, is refused. For no row the call never
+    /// An allocation for the links, or for what shortens lookups, fails. For no row the call never
     /// fails.
     pub fn new(alloc: Global, rows: usize) -> Result<Room<A>, Memory>
         ensures rows { IfOk result (λ room. room ≡ min rows (2 ^ 32 - 1)) }
         ensures none { rows ≡ 0 → IsOk result }
     {
         let rows = rows.min(u32::MAX as usize);
-        let up = Vec::with_capacity(alloc, rows)?;
-        let (tops, cells) = Tops::with_room::<A>(alloc, rows)?;
+        let parents = Vec::with_capacity(alloc, rows)?;
+        let (directory, cells) = Directory::with_room::<A>(alloc, rows)?;
         Ok(Room {
             rows,
-            up,
-            tops,
+            parents,
+            directory,
             cells,
             family: PhantomData,
         })

@@ -2,8 +2,8 @@
 ghost use Rattle.std.specs.Prelude.{◌≡◌, ◌↔◌, ◌-◌, ◌/◌, ◌^◌, ◌<◌, ◌≤◌, ℕ, IsTrue, length, slice_index};
 ghost use Rattle.frozen_routes.specs.Routes.{AreInFront, AreUplinks, AreTopCells, AreUpTo, AreUppers, IsInFront, IsLastAround, IsLastHolder, AreRowsInOrder, base_numbers, bit_counts};
 
+use crate::directory::{Cell, Directory, top_span};
 use crate::rows::{bits_at, first_at, holds_at, without_last};
-use crate::tops::{Cell, Tops, top_span};
 use radix_keys::{Address, Network};
 
 /// Whether the network at an index begins at or before an address, by its number. The upper half of
@@ -64,19 +64,19 @@ fn count_to<A: Address, V>(
 ///
 /// It goes from each to the link of it, down to the floor, so at most as often as networks hold the
 /// first address of the one before `from`.
-pub(crate) fn climb<A: Address, V>(
+pub(crate) fn follow_parents<A: Address, V>(
     rows: &[(Network<A>, V)],
-    up: &[u32],
+    parents: &[u32],
     from: usize,
     floor: Cell,
     number: u128,
 ) -> usize
     requires within { from ≤ length rows.now }
     requires floor { floor.count ≤ from }
-    requires linked { from ≤ length up.now }
+    requires linked { from ≤ length parents.now }
     requires rising { AreRowsInOrder A.BITS A.number rows.now }
     requires links { AreUplinks A.BITS (base_numbers A.number rows.now) (bit_counts rows.now)
-        up.now }
+        parents.now }
     requires before { (k : ℕ) → k < from
         → slice_index (base_numbers A.number rows.now) k ≤ number }
     requires around { IsLastHolder A.BITS (base_numbers A.number rows.now) (bit_counts rows.now)
@@ -89,7 +89,7 @@ pub(crate) fn climb<A: Address, V>(
         if holds_at(rows, at - 1, number) {
             return at;
         }
-        at = up[at - 1] as usize;
+        at = parents[at - 1] as usize;
     }
     floor.around as usize
 }
@@ -98,24 +98,24 @@ pub(crate) fn climb<A: Address, V>(
 /// none.
 fn last_holder<A: Address, V>(
     rows: &[(Network<A>, V)],
-    up: &[u32],
-    tops: &Tops,
+    parents: &[u32],
+    directory: &Directory,
     address: A,
 ) -> usize
-    requires linked { length up.now ≡ length rows.now }
+    requires linked { length parents.now ≡ length rows.now }
     requires rising { AreRowsInOrder A.BITS A.number rows.now }
     requires links { AreUplinks A.BITS (base_numbers A.number rows.now) (bit_counts rows.now)
-        up.now }
-    requires tops { AreTopCells tops.now.rest A.BITS (base_numbers A.number rows.now)
-        (bit_counts rows.now) tops.now.cells.items }
-    requires uppers { AreUppers (base_numbers A.number rows.now) tops.now.uppers.items }
+        parents.now }
+    requires directory { AreTopCells directory.now.rest A.BITS (base_numbers A.number rows.now)
+        (bit_counts rows.now) directory.now.cells.items }
+    requires uppers { AreUppers (base_numbers A.number rows.now) directory.now.uppers.items }
     ensures { IsLastHolder A.BITS (base_numbers A.number rows.now) (bit_counts rows.now)
         (length rows.now) (A.number address) result }
 {
     let number = address.to_number();
-    let (floor, hi) = top_span(rows, tops, number);
-    let from = count_to(rows, &tops.uppers, number, floor.count as usize, hi);
-    climb(rows, up, from, floor, number)
+    let (floor, hi) = top_span(rows, directory, number);
+    let from = count_to(rows, &directory.uppers, number, floor.count as usize, hi);
+    follow_parents(rows, parents, from, floor, number)
 }
 
 /// The last of the networks that holds all of another one, by its index and one more, or 0 where
@@ -125,24 +125,24 @@ fn last_holder<A: Address, V>(
 /// bits than it. None has more than an address alone.
 pub(crate) fn last_around<A: Address, V>(
     rows: &[(Network<A>, V)],
-    up: &[u32],
-    tops: &Tops,
+    parents: &[u32],
+    directory: &Directory,
     network: &Network<A>,
 ) -> usize
-    requires linked { length up.now ≡ length rows.now }
+    requires linked { length parents.now ≡ length rows.now }
     requires rising { AreRowsInOrder A.BITS A.number rows.now }
     requires links { AreUplinks A.BITS (base_numbers A.number rows.now) (bit_counts rows.now)
-        up.now }
-    requires tops { AreTopCells tops.now.rest A.BITS (base_numbers A.number rows.now)
-        (bit_counts rows.now) tops.now.cells.items }
-    requires uppers { AreUppers (base_numbers A.number rows.now) tops.now.uppers.items }
+        parents.now }
+    requires directory { AreTopCells directory.now.rest A.BITS (base_numbers A.number rows.now)
+        (bit_counts rows.now) directory.now.cells.items }
+    requires uppers { AreUppers (base_numbers A.number rows.now) directory.now.uppers.items }
     ensures { IsLastAround A.BITS (base_numbers A.number rows.now) (bit_counts rows.now)
         (length rows.now) (A.number network.now.base) network.now.bits result }
 {
     let bits = network.bits();
-    let mut at = last_holder(rows, up, tops, network.base());
+    let mut at = last_holder(rows, parents, directory, network.base());
     while bits < A::BITS && at > 0 && bits_at(rows, at - 1) > bits {
-        at = up[at - 1] as usize;
+        at = parents[at - 1] as usize;
     }
     at
 }

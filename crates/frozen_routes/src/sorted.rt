@@ -2,10 +2,10 @@
 ghost use Rattle.std.specs.Prelude.{◌≡◌, ◌≢◌, ◌^◌, ◌<◌, ◌≤◌, ℕ, IfErr, IfOk, IsOk, OnOk, length};
 ghost use Rattle.frozen_routes.specs.Routes.{AreLinked, AreRowsInOrder, IsFirstOutOfOrder, base_numbers, bit_counts};
 
+use crate::directory::Directory;
 use crate::frozen::FrozenRoutes;
 use crate::linked::link_after;
 use crate::room::Room;
-use crate::tops::Tops;
 use radix_keys::{Address, Network, Refused};
 use sorted_tables::SortedWhy;
 
@@ -19,7 +19,7 @@ impl<A: Address, V> FrozenRoutes<A, V> {
     ///
     /// A network doesn't come after that of the row before it, and the error says of the first such
     /// row where it stands. There are 2^32 rows or more. Memory for the links, or for what shortens
-    /// lookups, is refused, before any row is read. The rows come back. Of no row the call never
+    /// lookups, fails, before any row is read. The rows come back. Of no row the call never
     /// fails.
     pub fn from_sorted(
         rows: Vec<(Network<A>, V)>,
@@ -27,7 +27,7 @@ impl<A: Address, V> FrozenRoutes<A, V> {
         ensures ok { IfOk result (λ routes. routes ≡ rows.items) }
         ensures rising { OnOk result (AreRowsInOrder A.BITS A.number rows.items) }
         ensures handed_back { IfErr result (λ e. e.back ≡ rows) }
-        ensures unsorted { IfErr result (λ e. (i : ℕ) → e.why ≡ SortedWhy.Unsorted i
+        ensures unsorted { IfErr result (λ e. (i : ℕ) → e.why ≡ SortedWhy.OutOfOrder i
             → IsFirstOutOfOrder A.BITS A.number rows.items i) }
         ensures full { IfErr result (λ e. e.why ≡ SortedWhy.Full → 2 ^ 32 ≤ length rows.items) }
         ensures none { length rows.items ≡ 0 → IsOk result }
@@ -46,7 +46,7 @@ impl<A: Address, V> FrozenRoutes<A, V> {
     }
 
     /// The table that `from_sorted` makes, in room that was taken before. It takes no more memory,
-    /// and none is refused.
+    /// and none fails.
     ///
     /// # Errors
     ///
@@ -59,7 +59,7 @@ impl<A: Address, V> FrozenRoutes<A, V> {
         ensures ok { IfOk result (λ routes. routes ≡ rows.items) }
         ensures rising { OnOk result (AreRowsInOrder A.BITS A.number rows.items) }
         ensures handed_back { IfErr result (λ e. e.back ≡ rows) }
-        ensures unsorted { IfErr result (λ e. (i : ℕ) → e.why ≡ SortedWhy.Unsorted i
+        ensures unsorted { IfErr result (λ e. (i : ℕ) → e.why ≡ SortedWhy.OutOfOrder i
             → IsFirstOutOfOrder A.BITS A.number rows.items i) }
         ensures full { IfErr result (λ e. e.why ≡ SortedWhy.Full → room < length rows.items) }
         ensures memory { IfErr result (λ e. e.why ≢ SortedWhy.Memory) }
@@ -70,15 +70,15 @@ impl<A: Address, V> FrozenRoutes<A, V> {
             return Err(Refused { why, back: rows });
         }
         let alloc = *rows.allocator();
-        match links_and_tops(room, &rows) {
-            Ok((up, tops)) => Ok(FrozenRoutes {
+        match links_and_directory(room, &rows) {
+            Ok((parents, directory)) => Ok(FrozenRoutes {
                 rows,
-                up,
-                tops,
+                parents,
+                directory,
                 alloc,
             }),
             Err(at) => {
-                let why = SortedWhy::Unsorted(at);
+                let why = SortedWhy::OutOfOrder(at);
                 Err(Refused { why, back: rows })
             }
         }
@@ -87,22 +87,22 @@ impl<A: Address, V> FrozenRoutes<A, V> {
 
 /// The links of rows, and the table of their first bits with what it has beside it; or the index of
 /// the first row that isn't in order.
-fn links_and_tops<A: Address, V>(
+fn links_and_directory<A: Address, V>(
     room: Room<A>,
     rows: &[(Network<A>, V)],
-) -> Result<(Vec<u32>, Tops), usize>
+) -> Result<(Vec<u32>, Directory), usize>
     requires { length rows.now ≤ room }
     ensures ok { IfOk result (λ made. AreLinked A.BITS (base_numbers A.number rows.now)
         (bit_counts rows.now) made.0.items made.1.rest made.1.cells.items made.1.uppers.items) }
     ensures unsorted { IfErr result (IsFirstOutOfOrder A.BITS A.number rows.now) }
 {
-    let mut up = room.up;
+    let mut parents = room.parents;
     for i in 0..rows.len() {
-        let Some(link) = link_after(&rows[..i], &up, &rows[i].0) else {
+        let Some(link) = link_after(&rows[..i], &parents, &rows[i].0) else {
             return Err(i);
         };
-        up.push_reserved(link);
+        parents.push_reserved(link);
     }
-    let tops = room.tops.filled(rows, &up, room.cells);
-    Ok((up, tops))
+    let directory = room.directory.filled(rows, &parents, room.cells);
+    Ok((parents, directory))
 }

@@ -5,7 +5,7 @@ use Rattle.std.specs.Io.Iter.{u64_saturate}
 use Rattle.std.specs.Io.KnownBytes.{Appends}
 use Rattle.nibble_map.specs.Lists.{Each}
 use Rattle.frozen_trie.specs.declared.file.FileWhy.{FileWhy}
-use Rattle.frozen_trie.specs.declared.file.FileWhy.TheVariants.{Full, Key, Long, Magic, Memory, Read, Short, Unsorted, Value, Version}
+use Rattle.frozen_trie.specs.declared.file.FileWhy.TheVariants.{Full, Key, Long, Magic, Memory, Read, Short, OutOfOrder, Value, Version}
 
 -- bytes behind their count
 abbrev pub counted_bytes : List ℕ → List ℕ
@@ -91,7 +91,7 @@ module _ {M : Type 0} (Refuses : M → FileWhy → List ℕ × List ℕ → Type
   IsRefusedRow Memory m p = ⊤
   IsRefusedRow Key m p = Refuses m Key p
   IsRefusedRow Value m p = Refuses m Value p
-  IsRefusedRow Unsorted m p = Refuses m Unsorted p
+  IsRefusedRow OutOfOrder m p = Refuses m OutOfOrder p
   IsRefusedRow Full m p = Refuses m Full p
   IsRefusedRow why m p = ⊥
 

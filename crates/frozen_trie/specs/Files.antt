@@ -8,7 +8,7 @@ use Rattle.radix_trie.specs.Views.{pairs_below}
 use Rattle.frozen_trie.specs.FileRows.{FitsRow, IsFault, file_of_rows}
 use Rattle.frozen_trie.specs.Frozen.{codes_of, map_of_pairs}
 use Rattle.frozen_trie.specs.declared.file.FileWhy.{FileWhy}
-use Rattle.frozen_trie.specs.declared.file.FileWhy.TheVariants.{Full, Key, Unsorted, Value}
+use Rattle.frozen_trie.specs.declared.file.FileWhy.TheVariants.{Full, Key, OutOfOrder, Value}
 
 -- the same at this relation is the same
 abbrev pub IsExact : {A : Type 0} → (A → A → Type 0) → Type 0
@@ -34,7 +34,7 @@ module _ {K V : Type 0} where
     abbrev pub RefusesRow : PairMap K V → FileWhy → List ℕ × List ℕ → Type 0
     RefusesRow m Key p = (k : K) → is_key k → key k ≢ p.0
     RefusesRow m Value p = (v : V) → is_value v → value v ≢ p.1
-    RefusesRow m Unsorted p =
+    RefusesRow m OutOfOrder p =
         (k : K) × is_key k × (key k ≡ p.0)
         × (IsRising (codes_of enc (pairs_below m []) ++ enc k ∷ []) → ⊥)
     RefusesRow m Full p = 2 ^ 32 - 1 ≤ map.len m

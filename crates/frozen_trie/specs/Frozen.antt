@@ -32,10 +32,10 @@ module _ {K V : Type 0} (enc : K → List ℕ) where
 
 -- the lists are the encodings of the pairs
 pub record IsFrozen {K V : Type 0} (enc : K → List ℕ) (cs : List (List ℕ)) (ps : List (K × V))
-    (up : List ℕ) : Type 0 where
+    (parents : List ℕ) : Type 0 where
   pub keyed : cs ≡ codes_of enc ps
-  pub linked : IsLinked cs up
+  pub linked : IsLinked cs parents
 
 -- the list at i is the first that doesn't come after all those before it
-abbrev pub IsFirstUnsorted : List (List ℕ) → ℕ → Type 0
-IsFirstUnsorted cs i = IsFirstUnordered IsRising cs i
+abbrev pub IsFirstListOutOfOrder : List (List ℕ) → ℕ → Type 0
+IsFirstListOutOfOrder cs i = IsFirstUnordered IsRising cs i

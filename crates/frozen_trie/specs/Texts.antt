@@ -19,8 +19,8 @@ module _ {V : Type 0} where
   text_map cs vs = map_of_pairs nibbles (text_pairs cs vs)
 
 -- the lists are the nibbles of byte strings and rise, each has a value and its link
-pub record AreTexts {V : Type 0} (cs : List (List ℕ)) (vs : List V) (up : List ℕ) : Type 0 where
-  pub frozen : IsFrozen nibbles cs (text_pairs cs vs) up
+pub record AreTexts {V : Type 0} (cs : List (List ℕ)) (vs : List V) (parents : List ℕ) : Type 0 where
+  pub frozen : IsFrozen nibbles cs (text_pairs cs vs) parents
   pub valued : length vs ≡ length cs
 
 -- pairs by the bytes of their texts

@@ -21,8 +21,8 @@ use radix_trie::{
 ///
 /// # Errors
 ///
-/// The trie holds 2^32 pairs or more. Memory is refused, as by `freeze`, or in a clone of a key or
-/// a value. Of no pair the call never fails.
+/// The trie holds 2^32 pairs or more. An allocation fails, as by `freeze`, or in a clone of a key
+/// or a value. Of no pair the call never fails.
 pub fn frozen_copy<K: TrieKey + Clone, V: Clone>(
     trie: &Trie<K, V>,
 ) -> Result<FrozenTrie<K, V>, BuildError>
@@ -38,9 +38,9 @@ pub fn frozen_copy<K: TrieKey + Clone, V: Clone>(
 {
     keys_stand_at_their_encodings(trie);
     split_part_goes_back(trie);
-    let (codes, up) = codes_and_links(trie)?;
+    let (codes, parents) = codes_and_links(trie)?;
     match cloned_pairs(trie) {
-        Ok(pairs) => Ok(FrozenTrie::from_parts(codes, pairs, up, trie.allocator())),
+        Ok(pairs) => Ok(FrozenTrie::from_parts(codes, pairs, parents, trie.allocator())),
         Err(Memory) => Err(BuildError::Memory),
     }
 }

@@ -29,7 +29,7 @@ pub enum FileWhy {
     /// A row's bytes of a value are of no value of the type.
     Value,
     /// A key doesn't come after the one before it.
-    Unsorted,
+    OutOfOrder,
     /// Something stands behind the last row.
     Long,
     /// There are 2^32 rows or more.

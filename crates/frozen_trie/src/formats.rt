@@ -47,7 +47,7 @@ impl<'de, K: TrieKey + Deserialize<'de>, V: Deserialize<'de>> Deserialize<'de>
                 return Err(match refused.why {
                     PushWhy::Memory => from.no_memory(),
                     PushWhy::Full => from.custom("a frozen trie holds fewer than 2^32 pairs"),
-                    PushWhy::Unsorted => from.custom("keys don't rise"),
+                    PushWhy::OutOfOrder => from.custom("keys don't rise"),
                 });
             }
         }

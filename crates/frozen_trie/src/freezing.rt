@@ -16,7 +16,7 @@ use radix_trie::{
 ///
 /// # Errors
 ///
-/// The trie holds 2^32 pairs or more. Memory is refused, for the walk over the trie, an encoding,
+/// The trie holds 2^32 pairs or more. An allocation fails, for the walk over the trie, an encoding,
 /// the list of them and the links, or the list of the pairs; the encodings together take less than
 /// 2^31 bytes. The trie comes back as it was: the pairs are moved last. Of no pair the call never
 /// fails.
@@ -45,8 +45,8 @@ pub fn freeze<K: TrieKey + Drop, V: Drop>(
     split_part_goes_back(&trie);
     let alloc = trie.allocator();
     match codes_and_links(&trie) {
-        Ok((codes, up)) => match trie.into_pairs() {
-            Ok(pairs) => Ok(FrozenTrie::from_parts(codes, pairs, up, alloc)),
+        Ok((codes, parents)) => match trie.into_pairs() {
+            Ok(pairs) => Ok(FrozenTrie::from_parts(codes, pairs, parents, alloc)),
             Err(back) => Err(Refused {
                 why: BuildError::Memory,
                 back,
@@ -70,7 +70,7 @@ pub(crate) fn codes_and_links<K: TrieKey, V>(
     }
     keys_stand_at_their_encodings(trie);
     let alloc = trie.allocator();
-    let Ok(mut up) = Vec::with_capacity(alloc, trie.len()) else {
+    let Ok(mut parents) = Vec::with_capacity(alloc, trie.len()) else {
         return Err(BuildError::Memory);
     };
     let mut walk = trie.cursor();
@@ -84,12 +84,12 @@ pub(crate) fn codes_and_links<K: TrieKey, V>(
         let Ok(list) = Encoding::of(alloc, key) else {
             return Err(BuildError::Memory);
         };
-        let Ok(()) = push_linked(&mut codes, &mut up, &list.as_slice()) else {
+        let Ok(()) = push_linked(&mut codes, &mut parents, &list.as_slice()) else {
             return Err(BuildError::Memory);
         };
     }
     match codes.finish(alloc) {
-        Ok(()) => Ok((codes, up)),
+        Ok(()) => Ok((codes, parents)),
         Err(_) => Err(BuildError::Memory),
     }
 }

@@ -22,7 +22,7 @@ mod written;
 ///
 /// A contract sees it as it sees a `Trie`: as the finite map from each stored encoding, a list of
 /// nibbles, to the pair of the key and the value that are stored there. A call by a key allocates
-/// for the key's encoding alone: none is refused by a key that is inline, or that lends its
+/// for the key's encoding alone: none fails by a key that is inline, or that lends its
 /// encoding, as a text does, or a `Nibblet`, a list of nibbles in hand. A search takes the time of
 /// as many comparisons of lists as the count of pairs has binary digits, but for the climb of
 /// `longest_match`.
@@ -46,7 +46,7 @@ pub struct FrozenTrie<K: TrieKey, V> {
     pairs: Vec<(K, V)>,
     /// For each pair, the index and one more of the last earlier pair whose encoding is a prefix of
     /// its own, or 0.
-    up: Vec<u32>,
+    parents: Vec<u32>,
     alloc: Global,
 }
 
@@ -61,7 +61,7 @@ impl<K: TrieKey, V> Model for FrozenTrie<K, V> {
 
     ghost view = { λ f. map_of_pairs K.encoding f.pairs.items };
 
-    ghost invariant = { λ f. IsFrozen K.encoding f.codes f.pairs.items f.up.items };
+    ghost invariant = { λ f. IsFrozen K.encoding f.codes f.pairs.items f.parents.items };
 }
 
 impl<K: TrieKey, V> FrozenTrie<K, V> {
@@ -69,16 +69,16 @@ impl<K: TrieKey, V> FrozenTrie<K, V> {
     pub(crate) fn from_parts(
         codes: EncodedKeys,
         pairs: Vec<(K, V)>,
-        up: Vec<u32>,
+        parents: Vec<u32>,
         alloc: Global,
     ) -> Self
-        requires { IsFrozen K.encoding codes pairs.items up.items }
+        requires { IsFrozen K.encoding codes pairs.items parents.items }
         ensures { result ≡ map_of_pairs K.encoding pairs.items }
     {
         FrozenTrie {
             codes,
             pairs,
-            up,
+            parents,
             alloc,
         }
     }
@@ -161,7 +161,7 @@ impl<K: TrieKey, V> FrozenTrie<K, V> {
             ≡ deref_pair result.0 ∷ prefixes_up K.encoding self.now result.1 }
         ensures within { result.1 ≤ at }
     {
-        (entry_at(&self.pairs, at), self.up[at] as usize)
+        (entry_at(&self.pairs, at), self.parents[at] as usize)
     }
 
     /// The allocator that the memory comes from.

@@ -36,7 +36,7 @@ pub use walk::Texts;
 ///
 /// A contract sees it as it sees a `FrozenTrie`: as the finite map from the nibbles of each key to
 /// the pair of the key's bytes and its value. The order of the nibbles is that of the bytes. A call
-/// that reads allocates nothing, and none is refused; a search takes the time of as many
+/// that reads allocates nothing, and none fails; a search takes the time of as many
 /// comparisons of keys as the count of pairs has binary digits, but for the climb of
 /// `longest_match`.
 ///
@@ -59,7 +59,7 @@ pub struct FrozenTexts<V> {
     values: Vec<V>,
     /// For each pair, the index and one more of the last earlier pair whose key is a prefix of its
     /// own, or 0.
-    up: Vec<u32>,
+    parents: Vec<u32>,
     alloc: Global,
 }
 
@@ -76,7 +76,7 @@ impl<V> Model for FrozenTexts<V> {
 
     ghost view = { λ t. text_map t.codes t.values.items };
 
-    ghost invariant = { λ t. AreTexts t.codes t.values.items t.up.items };
+    ghost invariant = { λ t. AreTexts t.codes t.values.items t.parents.items };
 }
 
 impl<V> FrozenTexts<V> {
@@ -144,7 +144,7 @@ impl<V> FrozenTexts<V> {
     pub fn longest_match(&self, key: &[u8]) -> Option<(&[u8], &V)>
         ensures pair { IsPairAbove self.now (nibbles key.now) (option_map deref_pair result) }
     {
-        let found = last_prefix(&self.codes, &self.up, &NibbleSlice::from_bytes(key));
+        let found = last_prefix(&self.codes, &self.parents, &NibbleSlice::from_bytes(key));
         if found == 0 {
             return None;
         }
@@ -158,7 +158,7 @@ impl<V> FrozenTexts<V> {
     {
         TextPrefixes::new(
             self,
-            last_prefix(&self.codes, &self.up, &NibbleSlice::from_bytes(key)),
+            last_prefix(&self.codes, &self.parents, &NibbleSlice::from_bytes(key)),
         )
     }
 
@@ -247,7 +247,7 @@ impl<V> FrozenTexts<V> {
             ≡ deref_pair result.0 ∷ prefixes_up nibbles self.now result.1 }
         ensures within { result.1 ≤ at }
     {
-        (self.pair_at(at), self.up[at] as usize)
+        (self.pair_at(at), self.parents[at] as usize)
     }
 }
 

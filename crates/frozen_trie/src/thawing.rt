@@ -12,9 +12,10 @@ impl<K: TrieKey + Drop, V: Drop> FrozenTrie<K, V> {
     ///
     /// # Errors
     ///
-    /// Memory is refused, for a key's encoding or a node of the trie; of no pair it never is. No
-    /// pair is lost, and none is dropped: the first ones come back in the order of their encodings,
-    /// and with them the trie of the others, so that a caller can go on where the call stopped.
+    /// An allocation fails, for a key's encoding or a node of the trie; of no pair it never does.
+    /// No pair is lost, and none is dropped: the first ones come back in the order of their
+    /// encodings, and with them the trie of the others, so that a caller can go on where the call
+    /// stopped.
     pub fn thaw(self) -> Result<Trie<K, V>, Refused<Memory, (Vec<(K, V)>, Trie<K, V>)>>
         ensures same { IfOk result (λ trie. trie ≡ self) }
         ensures handed_back { IfErr result

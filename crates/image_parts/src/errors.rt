@@ -26,7 +26,7 @@ pub enum WriteError {
     /// The buffer is shorter than the image.
     Short,
     /// The row at this index, from 0, is none, or doesn't come after the row before it.
-    Unsorted(usize),
+    OutOfOrder(usize),
 }
 
 /// Why no table in memory is made of bytes.
@@ -34,7 +34,7 @@ pub enum WriteError {
 pub enum TableError {
     /// They are no image.
     Image(ImageError),
-    /// Memory is refused, or the keys together take 2^31 bytes or more, as those of a table in
+    /// An allocation fails, or the keys together take 2^31 bytes or more, as those of a table in
     /// memory may not.
     Memory,
 }

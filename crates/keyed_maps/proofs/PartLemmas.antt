@@ -18,7 +18,7 @@ use Rattle.radix_trie.specs.Keys.{IsKeyed}
 use Rattle.radix_trie.specs.Retains.{Retains, RetainsAtLeast}
 use Rattle.radix_trie.specs.Views.{pairs_below}
 use Rattle.radix_trie.proofs.LawLemmas.Asked.{AreAtEncodings}
-use Rattle.radix_trie.proofs.PathLemmas.Places.{below-nil}
+use Rattle.radix_trie.proofs.PathLemmas.Loci.{below-nil}
 use Rattle.keyed_maps.specs.KeyedMaps.{keyed_map, stored_key}
 use Rattle.keyed_maps.proofs.KeyLemmas.{TellsKeys, get_insert_other, get_insert_same, keyed-get, value_none, value_pair}
 

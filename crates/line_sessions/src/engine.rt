@@ -24,7 +24,7 @@ fn zeros(alloc: Global, count: usize) -> Result<Vec<u8>, AllocError>
 }
 
 /// What `serve` does, with a session that begins.
-fn converse<P: Program, R: Read, W: Write>(
+fn drive<P: Program, R: Read, W: Write>(
     alloc: Global,
     session: &mut Session,
     program: &mut P,
@@ -49,7 +49,7 @@ fn converse<P: Program, R: Read, W: Write>(
         match reader.read(buffer, writer) {
             Err(_) => return Err(Fault::Read),
             Ok(0) => return session.finish(program, writer),
-            Ok(count) => session.hear(program, &buffer[..count], writer)?,
+            Ok(count) => session.feed(program, &buffer[..count], writer)?,
         }
     }
     Err(Fault::Read)
@@ -74,7 +74,7 @@ pub fn serve<P: Program, R: Read, W: Write>(
     ensures noted { Noted reader.old reader.new writer.old writer.new result }
 {
     let mut session = Session::new(alloc);
-    converse(alloc, &mut session, program, reader, writer)
+    drive(alloc, &mut session, program, reader, writer)
 }
 
 /// A whole run of a program: a session, and then the line on standard error that tells its fault,
@@ -99,7 +99,7 @@ pub fn run<P: Program, R: Read, W: Write, E: Write>(
 {
     let mut program = program;
     let mut session = Session::new(alloc);
-    let outcome = converse(alloc, &mut session, &mut program, reader, writer);
+    let outcome = drive(alloc, &mut session, &mut program, reader, writer);
     mem::forget(program);
     end(outcome, session.remark(), errors)
 }

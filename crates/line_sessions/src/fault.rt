@@ -19,7 +19,7 @@ pub enum Fault {
     Write,
     /// The line of this number is bad. Lines are counted from 1, and the count stays at `u64::MAX`.
     BadLine(u64),
-    /// Memory was refused, or the program is full.
+    /// An allocation failed, or the program is full.
     Memory,
 }
 
@@ -62,7 +62,7 @@ impl Fault {
     }
 
     /// Writes its text, the remark if it is a bad line, and a line feed.
-    fn tell<E: Write>(self, remark: &str, errors: &mut WatchedWriter<E>) -> Result<(), Fault>
+    fn report<E: Write>(self, remark: &str, errors: &mut WatchedWriter<E>) -> Result<(), Fault>
         ensures { Puts result errors.old errors.new (text_with remark.now self ++ 10 ∷ []) }
     {
         let words = self.words().as_bytes();
@@ -70,12 +70,12 @@ impl Fault {
             return errors.write_line(words);
         };
         errors.write_all(words)?;
-        tell_number(number, remark, errors)
+        report_number(number, remark, errors)
     }
 }
 
 /// Writes the number of a bad line, the remark and a line feed.
-fn tell_number<E: Write>(
+fn report_number<E: Write>(
     number: u64,
     remark: &str,
     errors: &mut WatchedWriter<E>,
@@ -84,11 +84,11 @@ fn tell_number<E: Write>(
         (decimal number ++ (remark_of remark.now ++ 10 ∷ [])) }
 {
     errors.write_all(Buffer::new().format(number).as_bytes())?;
-    tell_remark(remark, errors)
+    report_remark(remark, errors)
 }
 
 /// Writes a colon, a space and the remark, where there is one, and a line feed.
-fn tell_remark<E: Write>(remark: &str, errors: &mut WatchedWriter<E>) -> Result<(), Fault>
+fn report_remark<E: Write>(remark: &str, errors: &mut WatchedWriter<E>) -> Result<(), Fault>
     ensures { Puts result errors.old errors.new (remark_of remark.now ++ 10 ∷ []) }
 {
     if remark.is_empty() {
@@ -111,7 +111,7 @@ pub fn end<E: Write>(
     match outcome {
         Ok(()) => ExitCode::SUCCESS,
         Err(fault) => {
-            let _told = fault.tell(remark, errors);
+            let _told = fault.report(remark, errors);
             ExitCode::from(fault.status())
         }
     }

@@ -8,7 +8,7 @@ pub enum Refusal {
     /// The line asks for nothing that the program knows. The text is told behind its number, where
     /// it isn't empty.
     Bad(&'static str),
-    /// Memory was refused.
+    /// An allocation failed.
     Memory,
 }
 
@@ -31,14 +31,14 @@ pub trait Program: Drop {
     // Whether a line asks for nothing.
     ghost is_bad: { List ℕ → Type 0 };
 
-    // What is left of a program where memory was refused at a line.
+    // What is left of a program where an allocation fails at a line.
     ghost gives_up: { Self → List ℕ → Self → Type 0 };
 
     // What is told of a bad line, behind its number: the line, and the text.
     ghost says: { List ℕ → List ℕ → Type 0 };
 
     /// Answers a line, behind the answers that wait. A bad line leaves the program as it was.
-    /// After a refusal a part of an answer may stand there, which the session takes away.
+    /// After a failure a part of an answer may stand there, which the session takes away.
     fn answer(&mut self, line: &[u8], answers: &mut Vec<u8>) -> Result<(), Refusal>
         ensures answered { OnOk result
             (Adds replies line.now self.old self.new answers.old.items answers.new.items) }

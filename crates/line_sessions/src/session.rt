@@ -36,7 +36,7 @@ struct Conversation {
 }
 
 impl Conversation {
-    /// Answers the line of this number; an empty one has an empty answer. After a refusal the
+    /// Answers the line of this number; an empty one has an empty answer. After a failure the
     /// answers are as before.
     fn reply<P: Program>(&mut self, program: &mut P, line: &[u8], number: u64) -> Result<(), Fault>
         ensures answered { OnOk result (Adds (IsLineAnswer P.replies) line.now
@@ -63,7 +63,7 @@ impl Conversation {
         }
     }
 
-    /// Answers and counts a good line. After a refusal the answers are as before.
+    /// Answers and counts a good line. After a failure the answers are as before.
     fn answer_line<P: Program>(&mut self, program: &mut P, line: &[u8]) -> Result<(), Fault>
         ensures answered { OnOk result (Adds (IsLineAnswer P.replies) line.now
             program.old program.new self.old.answers.items self.new.answers.items) }
@@ -111,7 +111,7 @@ impl Session {
     }
 
     /// Keeps bytes of a line that hasn't ended.
-    fn keep(&mut self, bytes: &[u8]) -> Result<(), Fault>
+    fn buffer_rest(&mut self, bytes: &[u8]) -> Result<(), Fault>
         ensures kept { OnOk result
             (self.new.open_line.items ≡ self.old.open_line.items ++ bytes.now) }
         ensures fault { IfErr result (λ e. e ≡ Fault.Memory) }
@@ -134,7 +134,7 @@ impl Session {
         if self.open_line.is_empty() {
             return self.conversation.answer_line(program, bytes);
         }
-        self.keep(bytes)?;
+        self.buffer_rest(bytes)?;
         self.conversation
             .answer_line(program, self.open_line.as_slice())?;
         self.open_line.clear();
@@ -175,7 +175,7 @@ impl Session {
     }
 
     /// Answers the line that these bytes end. Writes the answers at a fault, and where many wait.
-    fn hear_line<P: Program, W: Write>(
+    fn feed_line<P: Program, W: Write>(
         &mut self,
         program: &mut P,
         line: &[u8],
@@ -196,7 +196,7 @@ impl Session {
     }
 
     /// Hears more bytes, and writes the answers to the lines that end among them.
-    pub(super) fn hear<P: Program, W: Write>(
+    pub(super) fn feed<P: Program, W: Write>(
         &mut self,
         program: &mut P,
         bytes: &[u8],
@@ -211,10 +211,10 @@ impl Session {
     {
         let mut rest = bytes;
         while let Some((line, after)) = first_line(rest) {
-            self.hear_line(program, line, writer)?;
+            self.feed_line(program, line, writer)?;
             rest = after;
         }
-        let outcome = self.keep(rest);
+        let outcome = self.buffer_rest(rest);
         self.send(outcome, writer)
     }
 

@@ -50,21 +50,21 @@ pub extern "C" fn nifazombi_ipv4_row_at(image: &[u8], at: usize, row: &mut Row) 
 /// The row of the longest network that holds an address, by its index and one more, or 0 where none
 /// does.
 #[unsafe(no_mangle)]
-pub extern "C" fn nifazombi_ipv4_look(image: &[u8], address: u32) -> usize
+pub extern "C" fn nifazombi_ipv4_longest_match(image: &[u8], address: u32) -> usize
     ensures within { result ≤ row_count image.now }
     ensures row { IsImage of_ipv4 image.now → IsLongestRow 32 (λ n. n)
         (image_rows of_ipv4 image.now) address (found_row of_ipv4 image.now result) }
 {
-    match ipv4::look(image, address) {
+    match ipv4::longest_match(image, address) {
         Some(at) => at + 1,
         None => 0,
     }
 }
 
-/// Looks up addresses, as many as there are of both, and puts for each what `nifazombi_ipv4_look`
-/// returns into `found`. Returns how many.
+/// Looks up addresses, as many as there are of both, and puts for each what
+/// `nifazombi_ipv4_longest_match` returns into `found`. Returns how many.
 #[unsafe(no_mangle)]
-pub extern "C" fn nifazombi_ipv4_look_many(
+pub extern "C" fn nifazombi_ipv4_longest_matches(
     image: &[u8],
     addresses: &[u32],
     found: &mut [u32],
@@ -78,7 +78,7 @@ pub extern "C" fn nifazombi_ipv4_look_many(
         → IsLongestRow 32 (λ n. n) (image_rows of_ipv4 image.now) (slice_index addresses.now k)
         (found_row of_ipv4 image.now (slice_index found.new k)) }
 {
-    ipv4::look_many(image, addresses, found)
+    ipv4::longest_matches(image, addresses, found)
 }
 
 /// The row of this very network, by its index and one more, or 0 where no row is of it.

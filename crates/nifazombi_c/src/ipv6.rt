@@ -50,22 +50,22 @@ pub extern "C" fn nifazombi_ipv6_row_at(image: &[u8], at: usize, row: &mut Row) 
 /// The row of the longest network that holds an address, by its index and one more, or 0 where none
 /// does.
 #[unsafe(no_mangle)]
-pub extern "C" fn nifazombi_ipv6_look(image: &[u8], address: &[u8; 16]) -> usize
+pub extern "C" fn nifazombi_ipv6_longest_match(image: &[u8], address: &[u8; 16]) -> usize
     ensures within { result ≤ row_count image.now }
     ensures row { IsImage of_ipv6 image.now → IsLongestRow 128 (λ n. n)
         (image_rows of_ipv6 image.now) (octet_number address.now)
         (found_row of_ipv6 image.now result) }
 {
-    match ipv6::look(image, u128::from_be_bytes(*address)) {
+    match ipv6::longest_match(image, u128::from_be_bytes(*address)) {
         Some(at) => at + 1,
         None => 0,
     }
 }
 
-/// Looks up addresses, as many as there are of both, and puts for each what `nifazombi_ipv6_look`
-/// returns into `found`. Returns how many.
+/// Looks up addresses, as many as there are of both, and puts for each what
+/// `nifazombi_ipv6_longest_match` returns into `found`. Returns how many.
 #[unsafe(no_mangle)]
-pub extern "C" fn nifazombi_ipv6_look_many(
+pub extern "C" fn nifazombi_ipv6_longest_matches(
     image: &[u8],
     addresses: &[[u8; 16]],
     found: &mut [u32],
@@ -80,7 +80,7 @@ pub extern "C" fn nifazombi_ipv6_look_many(
         (slice_index (each octet_number addresses.now) k)
         (found_row of_ipv6 image.now (slice_index found.new k)) }
 {
-    ipv6::look_many(image, addresses, found)
+    ipv6::longest_matches(image, addresses, found)
 }
 
 /// The row of this very network, by its index and one more, or 0 where no row is of it.

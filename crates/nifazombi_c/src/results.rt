@@ -27,7 +27,7 @@ pub const NIFAZOMBI_CELL: u32 = 6;
 pub const NIFAZOMBI_FULL: u32 = 7;
 
 /// The row at this index is none, or doesn't come after the row before it.
-pub const NIFAZOMBI_UNSORTED: u32 = 8;
+pub const NIFAZOMBI_OUT_OF_ORDER: u32 = 8;
 
 /// Some rows that stand one behind the other, or some bytes: the first, and how many there are.
 #[repr(C)]
@@ -72,9 +72,9 @@ pub(crate) fn status_of(written: Result<(), WriteError>, at: &mut usize) -> u32
         Ok(()) => 0,
         Err(WriteError::Full) => NIFAZOMBI_FULL,
         Err(WriteError::Short) => NIFAZOMBI_SHORT,
-        Err(WriteError::Unsorted(index)) => {
+        Err(WriteError::OutOfOrder(index)) => {
             *at = index;
-            NIFAZOMBI_UNSORTED
+            NIFAZOMBI_OUT_OF_ORDER
         }
     }
 }

@@ -52,10 +52,10 @@ pub trait PrefixMap<'a, Q>: Copy {
     // The pairs that a walk has left.
     ghost left: { Self.Walk → List (Stored × Self.Value) };
 
-    // No look-up by this query is ever refused.
+    // No look-up by this query fails.
     ghost is_free: { Q → Type 0 };
 
-    // No step of a walk is ever refused, and no range by queries that never are.
+    // No step of a walk fails, and no range by queries that never do.
     ghost has_free_walks: { Type 0 };
 
     /// In each map a key stands at the list that it stands for. The call does nothing, but what it

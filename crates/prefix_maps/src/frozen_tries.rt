@@ -38,7 +38,7 @@ impl<'a, K: TrieKey + 'a, V: 'a, Q: TrieKey> PrefixMap<'a, Q> for &'a FrozenTrie
 
     ghost left = { frozen_walk_left };
 
-    ghost is_free = { λ key. Q.is_light key ⊎ Q.is_lent key };
+    ghost is_free = { λ key. Q.is_inline key ⊎ Q.is_lent key };
 
     ghost has_free_walks = { ⊤ };
 

@@ -1,6 +1,6 @@
 //! Walks over ranges of keys.
 ghost use Rattle.std.specs.Prelude.{◌≡◌, [], IsOk, IfOk, reverse};
-ghost use Rattle.radix_trie.specs.Views.{IsLightBound, encoded_bound, pairs_within};
+ghost use Rattle.radix_trie.specs.Views.{IsInlineBound, encoded_bound, pairs_within};
 
 use crate::calls::PrefixMap;
 use radix_keys::Memory;
@@ -19,8 +19,8 @@ pub trait RangeMap<'a, Q>: PrefixMap<'a, Q> {
             ≡ pairs_within (Self.map self) [] (encoded_bound Self.list (R.start_bound range))
             (encoded_bound Self.list (R.end_bound range))) }
         ensures free { Self.has_free_walks → R.has_bounds range
-            → IsLightBound Self.is_free (R.start_bound range)
-            → IsLightBound Self.is_free (R.end_bound range) → IsOk result };
+            → IsInlineBound Self.is_free (R.start_bound range)
+            → IsInlineBound Self.is_free (R.end_bound range) → IsOk result };
 
     /// The walk of `range` from the last pair to the first.
     ///
@@ -33,6 +33,6 @@ pub trait RangeMap<'a, Q>: PrefixMap<'a, Q> {
             (encoded_bound Self.list (R.start_bound range))
             (encoded_bound Self.list (R.end_bound range)))) }
         ensures free { Self.has_free_walks → R.has_bounds range
-            → IsLightBound Self.is_free (R.start_bound range)
-            → IsLightBound Self.is_free (R.end_bound range) → IsOk result };
+            → IsInlineBound Self.is_free (R.start_bound range)
+            → IsInlineBound Self.is_free (R.end_bound range) → IsOk result };
 }

@@ -39,7 +39,7 @@ impl<'a, K: TrieKey + 'a, V: 'a, Q: TrieKey> PrefixMap<'a, Q> for &'a Trie<K, V>
 
     ghost left = { trie_walk_left };
 
-    ghost is_free = { Q.is_light };
+    ghost is_free = { Q.is_inline };
 
     ghost has_free_walks = { ⊥ };
 

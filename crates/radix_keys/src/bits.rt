@@ -161,7 +161,7 @@ impl Eq for Bits {
 impl TrieKey for Bits {
     ghost encoding = { λ b. b };
 
-    ghost is_light = { IsShort };
+    ghost is_inline = { IsShort };
 
     ghost is_lent = { λ _. Unit {0} };
 
@@ -169,7 +169,7 @@ impl TrieKey for Bits {
 
     ghost distinct = { λ x y _ _ e. (bytes_eq-Decides x y).1 e };
 
-    ghost light_is_short = { λ _ h. h };
+    ghost inline_is_short = { λ _ h. h };
 
     /// The list of the bits.
     fn encode(&self, _alloc: Global) -> Result<Nibblet, Memory> {

@@ -33,7 +33,7 @@ impl<'a> Encoding<'a> {
     pub fn of<K: TrieKey>(alloc: Global, key: &'a K) -> Result<Encoding<'a>, Memory>
         ensures ok { IfOk result (λ e. e ≡ K.encoding key.now) }
         ensures value { OnOk result (K.is_value key.now) }
-        ensures light { K.is_light key.now → IsOk result }
+        ensures inline { K.is_inline key.now → IsOk result }
         ensures lent { K.is_lent key.now → IsOk result }
     {
         if let Some(list) = key.as_nibbles() {

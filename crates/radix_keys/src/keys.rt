@@ -22,7 +22,7 @@ pub use pairs::FixedWidth;
 
 /// A value that is encoded as a list of nibbles, its place in a trie.
 ///
-/// An implementation names what a key means: its encoding, whether it is inline (`is_light`: at
+/// An implementation names what a key means: its encoding, whether it is inline (`is_inline`: at
 /// most 32 nibbles, encoded without an allocation), whether its own bytes are its encoding
 /// (`is_lent`), and whether it is a value of its type. It proves that two values of the type with
 /// equal encodings are equal, and that an inline key has at most 32 nibbles.
@@ -31,7 +31,7 @@ pub trait TrieKey: Eq {
     ghost encoding: { Self → List ℕ };
 
     // Whether the key is inline: encoding it allocates nothing.
-    ghost is_light: { Self → Type 0 };
+    ghost is_inline: { Self → Type 0 };
 
     // Whether `as_nibbles` of the key lends its encoding.
     ghost is_lent: { Self → Type 0 } = { λ _. ⊥ };
@@ -59,7 +59,7 @@ pub trait TrieKey: Eq {
     fn encode(&self, alloc: Global) -> Result<Nibblet, Memory>
         ensures ok { IfOk result (λ v. v ≡ encoding self.now) }
         ensures value { OnOk result (is_value self.now) }
-        ensures light { is_light self.now → IsOk result };
+        ensures inline { is_inline self.now → IsOk result };
 
     /// The encoding, borrowed, of a key whose own bytes are it; `None` of any other key. A frozen
     /// trie looks a key that lends its encoding up without a copy of it.
@@ -78,7 +78,7 @@ pub trait TrieKey: Eq {
         ensures ok { IfOk result (λ v. nibbles v.items ≡ encoding self.now) }
         ensures odd { IfErr result (λ e. e ≡ BytesError.Odd
             → length (encoding self.now) % 2 ≡ 1) }
-        ensures light_odd { is_light self.now → length (encoding self.now) % 2 ≡ 1
+        ensures inline_odd { is_inline self.now → length (encoding self.now) % 2 ≡ 1
             → result ≡ Err BytesError.Odd }
     {
         match self.encode(alloc) {
@@ -90,13 +90,13 @@ pub trait TrieKey: Eq {
     ghost distinct: { (x y : Self) → is_value x → is_value y → encoding x ≡ encoding y
         → Self.eq x y ≡ true };
 
-    ghost light_is_short: { (x : Self) → is_light x → IsShort (encoding x) };
+    ghost inline_is_short: { (x : Self) → is_inline x → IsShort (encoding x) };
 }
 
 impl TrieKey for String {
     ghost encoding = { λ s. nibbles (string_bytes s) };
 
-    ghost is_light = { λ s. IsShort (nibbles (string_bytes s)) };
+    ghost is_inline = { λ s. IsShort (nibbles (string_bytes s)) };
 
     ghost is_lent = { λ _. Unit {0} };
 
@@ -104,13 +104,13 @@ impl TrieKey for String {
 
     ghost distinct = { λ x y _ _ e. bytes-distinct (string_bytes x) (string_bytes y) e };
 
-    ghost light_is_short = { λ _ h. h };
+    ghost inline_is_short = { λ _ h. h };
 
     /// The nibbles of the text's bytes. The smaller text has the smaller encoding.
     fn encode(&self, alloc: Global) -> Result<Nibblet, Memory>
         ensures ok { IfOk result (λ v. v ≡ nibbles (string_bytes self.now)) }
         ensures value { OnOk result (⟦<String as TrieKey>⟧.is_value self.now) }
-        ensures light { IsShort (nibbles (string_bytes self.now)) → IsOk result }
+        ensures inline { IsShort (nibbles (string_bytes self.now)) → IsOk result }
         ensures order { KeepsByteOrder }
     {
         Nibblet::from_slice(alloc, self.as_bytes())
@@ -124,7 +124,7 @@ impl TrieKey for String {
 impl TrieKey for &str {
     ghost encoding = { λ s. nibbles s.now };
 
-    ghost is_light = { λ s. IsShort (nibbles s.now) };
+    ghost is_inline = { λ s. IsShort (nibbles s.now) };
 
     ghost is_lent = { λ _. Unit {0} };
 
@@ -132,13 +132,13 @@ impl TrieKey for &str {
 
     ghost distinct = { λ x y _ _ e. bytes-distinct x.now y.now e };
 
-    ghost light_is_short = { λ _ h. h };
+    ghost inline_is_short = { λ _ h. h };
 
     /// The nibbles of the text's bytes. The smaller text has the smaller encoding.
     fn encode(&self, alloc: Global) -> Result<Nibblet, Memory>
         ensures ok { IfOk result (λ v. v ≡ nibbles self.now.now) }
         ensures value { OnOk result (⟦<&'static str as TrieKey>⟧.is_value self.now) }
-        ensures light { IsShort (nibbles self.now.now) → IsOk result }
+        ensures inline { IsShort (nibbles self.now.now) → IsOk result }
         ensures order { KeepsByteOrder }
     {
         Nibblet::from_slice(alloc, self.as_bytes())
@@ -152,7 +152,7 @@ impl TrieKey for &str {
 impl TrieKey for &[u8] {
     ghost encoding = { λ s. nibbles s.now };
 
-    ghost is_light = { λ s. IsShort (nibbles s.now) };
+    ghost is_inline = { λ s. IsShort (nibbles s.now) };
 
     ghost is_lent = { λ _. Unit {0} };
 
@@ -160,13 +160,13 @@ impl TrieKey for &[u8] {
 
     ghost distinct = { λ x y _ _ e. bytes-distinct x.now y.now e };
 
-    ghost light_is_short = { λ _ h. h };
+    ghost inline_is_short = { λ _ h. h };
 
     /// The nibbles of the bytes. The smaller list of bytes has the smaller encoding.
     fn encode(&self, alloc: Global) -> Result<Nibblet, Memory>
         ensures ok { IfOk result (λ v. v ≡ nibbles self.now.now) }
         ensures value { OnOk result (⟦<&'static [u8] as TrieKey>⟧.is_value self.now) }
-        ensures light { IsShort (nibbles self.now.now) → IsOk result }
+        ensures inline { IsShort (nibbles self.now.now) → IsOk result }
         ensures order { KeepsByteOrder }
     {
         Nibblet::from_slice(alloc, *self)
@@ -180,7 +180,7 @@ impl TrieKey for &[u8] {
 impl TrieKey for Nibblet {
     ghost encoding = { λ v. v };
 
-    ghost is_light = { IsShort };
+    ghost is_inline = { IsShort };
 
     ghost is_lent = { λ _. Unit {0} };
 
@@ -188,7 +188,7 @@ impl TrieKey for Nibblet {
 
     ghost distinct = { λ x y _ _ e. (bytes_eq-Decides x y).1 e };
 
-    ghost light_is_short = { λ _ h. h };
+    ghost inline_is_short = { λ _ h. h };
 
     fn encode(&self, _alloc: Global) -> Result<Nibblet, Memory> {
         self.clone()
@@ -202,7 +202,7 @@ impl TrieKey for Nibblet {
 impl<T: TrieKey> TrieKey for &T {
     ghost encoding = { λ r. T.encoding r.now };
 
-    ghost is_light = { λ r. T.is_light r.now };
+    ghost is_inline = { λ r. T.is_inline r.now };
 
     ghost is_lent = { λ r. T.is_lent r.now };
 
@@ -210,7 +210,7 @@ impl<T: TrieKey> TrieKey for &T {
 
     ghost distinct = { λ x y p q e. T.distinct x.now y.now p q e };
 
-    ghost light_is_short = { λ x h. T.light_is_short x.now h };
+    ghost inline_is_short = { λ x h. T.inline_is_short x.now h };
 
     fn encode(&self, alloc: Global) -> Result<Nibblet, Memory> {
         (**self).encode(alloc)
@@ -224,7 +224,7 @@ impl<T: TrieKey> TrieKey for &T {
 impl<T: TrieKey> TrieKey for &mut T {
     ghost encoding = { λ r. T.encoding r.now };
 
-    ghost is_light = { λ r. T.is_light r.now };
+    ghost is_inline = { λ r. T.is_inline r.now };
 
     ghost is_lent = { λ r. T.is_lent r.now };
 
@@ -232,7 +232,7 @@ impl<T: TrieKey> TrieKey for &mut T {
 
     ghost distinct = { λ x y p q e. T.distinct x.now y.now p q e };
 
-    ghost light_is_short = { λ x h. T.light_is_short x.now h };
+    ghost inline_is_short = { λ x h. T.inline_is_short x.now h };
 
     fn encode(&self, alloc: Global) -> Result<Nibblet, Memory> {
         T::encode(*self, alloc)

@@ -20,7 +20,7 @@ use denote.Struct.Parts.{Struct-parts}
 use Rattle.radix_keys.specs.declared.keys.TrieKey as keys
 use Rattle.std.specs.declared.cmp.PartialEq as eqs
 use Rattle.radix_trie.specs.Lends.{trie_row}
-use Rattle.radix_trie.specs.declared.place.path_list.PathList as paths
+use Rattle.radix_trie.specs.declared.locus.path_list.PathList as paths
 use Rattle.radix_trie.specs.declared.trie.entry.Entry.{Entry}
 use Rattle.radix_trie.specs.contracts.trie.entry.Entry.{the_row, struct}
 use Rattle.radix_trie.proofs.PartLemmas as parts

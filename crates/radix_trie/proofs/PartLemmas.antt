@@ -101,11 +101,11 @@ module _ (R S U : RattleType) where
       Way a = wand 𝓤 (sem 𝓛 (parts_at full_share members 0 a b o)) (sem 𝓛 (part_at (Struct (shape_of name members)) full_share a b o))
 
       -- what isn't borrowed: the third part in its place, and the way back from the parts
-      abbrev Rest : SProp 𝓤
-      Rest = sep 𝓤 (sem 𝓛 Third-lies) (PartsBack 𝓛 full_share name members b o)
+      abbrev Frame : SProp 𝓤
+      Frame = sep 𝓤 (sem 𝓛 Third-lies) (PartsBack 𝓛 full_share name members b o)
 
       -- the reference w, the second part and the rest make the struct with w as its reference
-      whole_again : (w : Ref.Denot) → ent 𝓤 (sep 𝓤 (sem 𝓛 (part_at Ref full_share w b (ref_at b o))) (sep 𝓤 (sem 𝓛 (fseps (Second-lies ∷ []))) Rest)) (sem 𝓛 (part_at Whole full_share (put w) b o))
+      whole_again : (w : Ref.Denot) → ent 𝓤 (sep 𝓤 (sem 𝓛 (part_at Ref full_share w b (ref_at b o))) (sep 𝓤 (sem 𝓛 (fseps (Second-lies ∷ []))) Frame)) (sem 𝓛 (part_at Whole full_share (put w) b o))
       unfolding fseps
       whole_again w =
           let a : Denots (rows_of members) = (w, (p, (q, tt))) in
@@ -128,7 +128,7 @@ module _ (R S U : RattleType) where
             -- [the second part; the rest; the reference; the open borrow; obs; auth]
             move ! (3 ∷ 4 ∷ 5 ∷ 2 ∷ 0 ∷ 1 ∷ []) $ group ! 6 $
             use1 𝓛 (later (some (λ (γ' : GName). ‵ (fobs γ' (Ref.coded.code r)) ⊛ ‵ (fbor κ (Body (mem Ref) b (ref_at b o) γ')) ⊛ ‵ (flft κ share) ⊛ ‵ (follows Whole Ref γ γ' put) ⊛ ‵ (fbor κ Second-lies) ⊛ ‵ ftrue)))
-            (takes_beside 𝓛 (mem Whole) (mem Ref) put κ share b o b (ref_at b o) γ (Second-lies ∷ []) Rest whole_again (Whole.coded.code x) (Whole.coded.code x) r) $ await ! tt $ pick ! (λ γ'. split3 ! $
+            (takes_beside 𝓛 (mem Whole) (mem Ref) put κ share b o b (ref_at b o) γ (Second-lies ∷ []) Frame whole_again (Whole.coded.code x) (Whole.coded.code x) r) $ await ! tt $ pick ! (λ γ'. split3 ! $
             feq_i ! (List Val) (vptr b (ref_at b o) ∷ []) (vptr b (ref_at b o) ∷ []) refl $ fjoin3 ! $
             -- [the reference; token, follows, second part, nothing]
             move ! (1 ∷ []) $ split3 ! $ move ! (2 ∷ []) $ split ! $ move ! (0 ∷ 2 ∷ []) $

@@ -1,6 +1,6 @@
 -- What stands at and below a path, and above it.
 pub mod Parts
-pub mod Places
+pub mod Loci
 pub mod Later
 pub mod Limits
 pub mod NodesBelow

@@ -30,18 +30,18 @@ module _ {K V : Type 0} (enc : K → List ℕ) where
   IsStoppedAt m n ps last =
       (others : List (K × V)) × (ps ≡ others ++ last ∷ []) × (n ≡ with_pairs m others)
 
-  -- the pairs end with one whose insertion behind the others may be refused for this reason; `light`
-  -- says that a key is light
+  -- the pairs end with one whose insertion behind the others may be refused for this reason; `inline`
+  -- says that a key is inline
   abbrev pub IsRefusedAtLast : (K → Type 0) → List (K × V) → BuildError → Type 0
-  IsRefusedAtLast light ps e =
+  IsRefusedAtLast inline ps e =
       (others : List (K × V)) × (last : K × V) × (ps ≡ others ++ last ∷ [])
-      × RefusesInsert (pairs_in_order others) (enc last.0) ⊤ (light last.0) (why_of e)
+      × RefusesInsert (pairs_in_order others) (enc last.0) ⊤ (inline last.0) (why_of e)
 
   -- n is m with the pairs of the map `part` before one that is refused, behind which the rest is left;
   -- or the list of its pairs is refused, and n is m
   abbrev pub IsPartlyMerged : (K → Type 0) → (m part n : PairMap K V) → MergeError K V → Type 0
-  IsPartlyMerged light m part n (merging.Memory whole) = (n ≡ m) × (whole ≡ part)
-  IsPartlyMerged light m part n (merging.Stopped e rest) = (done : List (K × V))
+  IsPartlyMerged inline m part n (merging.Memory whole) = (n ≡ m) × (whole ≡ part)
+  IsPartlyMerged inline m part n (merging.Stopped e rest) = (done : List (K × V))
       × (pairs_below part [] ≡ done ++ (e.key, e.value) ∷ into_iter_items rest)
       × (n ≡ with_pairs m done)
-      × RefusesInsert n (enc e.key) ⊤ (light e.key) e.why
+      × RefusesInsert n (enc e.key) ⊤ (inline e.key) e.why

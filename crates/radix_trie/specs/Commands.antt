@@ -21,8 +21,8 @@ module _ {K V : Type 0} where
   abbrev pub values_below : PairMap K V → List ℕ → List V
   values_below m p = each (λ x. x.1) (pairs_below m p)
 
--- enc is the keys' encoding, and light says which of them are light
-module _ {K V : Type 0} (enc : K → List ℕ) (light : K → Type 0) where
+-- enc is the keys' encoding, and inline says which of them are inline
+module _ {K V : Type 0} (enc : K → List ℕ) (inline : K → Type 0) where
   -- the calls of a map
 
   -- The pair is stored. At 2 ^ 64 - 1 pairs it takes an old one's place.
@@ -43,13 +43,13 @@ module _ {K V : Type 0} (enc : K → List ℕ) (light : K → Type 0) where
   -- where they may be refused
 
   abbrev pub MayRefuseInsert : PairMap K V → K → Type 0
-  MayRefuseInsert m k = light k → IsStored m (enc k) → ⊥
+  MayRefuseInsert m k = inline k → IsStored m (enc k) → ⊥
 
   abbrev pub MayRefuseRemove : PairMap K V → K → Type 0
-  MayRefuseRemove m k = light k → JoinsAreShort m (enc k) → ⊥
+  MayRefuseRemove m k = inline k → JoinsAreShort m (enc k) → ⊥
 
   abbrev pub MayRefuseBelow : PairMap K V → K → Type 0
-  MayRefuseBelow m k = light k → map.len (below m (enc k)) ≡ 0 → ⊥
+  MayRefuseBelow m k = inline k → map.len (below m (enc k)) ≡ 0 → ⊥
 
   -- one command in a view at the path p
   module _ (p : List ℕ) where
@@ -61,17 +61,17 @@ module _ {K V : Type 0} (enc : K → List ℕ) (light : K → Type 0) where
     ViewStep m (inner.Insert k v) r n =
         (IsPrefix p (enc k) × Inserts m k v r n)
         ⊎ (IsOutside m k r n
-        ⊎ (Stays m r n Refused × (light k → IsPrefix p (enc k)) × MayRefuseInsert m k))
+        ⊎ (Stays m r n Refused × (inline k → IsPrefix p (enc k)) × MayRefuseInsert m k))
     ViewStep m (inner.Remove k) r n =
         (IsPrefix p (enc k) × Removes m k r n)
         ⊎ (IsOutside m k r n
-        ⊎ (Stays m r n Refused × (light k → IsPrefix p (enc k)) × MayRefuseRemove m k))
+        ⊎ (Stays m r n Refused × (inline k → IsPrefix p (enc k)) × MayRefuseRemove m k))
     ViewStep m (inner.RemovePrefix k) r n =
         (IsPrefix p (enc k) × RemovesBelow m k r n)
         ⊎ (IsOutside m k r n
-        ⊎ (Stays m r n Refused × (light k → IsPrefix p (enc k)) × MayRefuseBelow m k))
+        ⊎ (Stays m r n Refused × (inline k → IsPrefix p (enc k)) × MayRefuseBelow m k))
     ViewStep m (inner.Get k) r n = (IsPrefix p (enc k) × Gets m k r n)
-        ⊎ (IsOutside m k r n ⊎ (Stays m r n Refused × (light k → ⊥)))
+        ⊎ (IsOutside m k r n ⊎ (Stays m r n Refused × (inline k → ⊥)))
     ViewStep m inner.Len r n = Stays m r n (Number (map.len (below m p)))
 
     -- one reply to each command, in order, from each map to the next
@@ -88,15 +88,15 @@ module _ {K V : Type 0} (enc : K → List ℕ) (light : K → Type 0) where
   Step m (outer.Remove k) r n = Removes m k r n ⊎ (Stays m r n Refused × MayRefuseRemove m k)
   Step m (outer.RemovePrefix k) r n =
       RemovesBelow m k r n ⊎ (Stays m r n Refused × MayRefuseBelow m k)
-  Step m (outer.Get k) r n = Gets m k r n ⊎ (Stays m r n Refused × (light k → ⊥))
+  Step m (outer.Get k) r n = Gets m k r n ⊎ (Stays m r n Refused × (inline k → ⊥))
   Step m (outer.Ancestor k) r n =
       ((v : Option V) × IsValueAbove m (enc k) v × Stays m r n (Found v))
-      ⊎ (Stays m r n Refused × (light k → ⊥))
+      ⊎ (Stays m r n Refused × (inline k → ⊥))
   Step m outer.Len r n = Stays m r n (Number (map.len m))
   Step m (outer.Within k cs) r n =
       (IsPoint m (enc k) × (rs : _) × (r ≡ Replies rs) × ViewSteps (enc k) m cs.items rs.items n)
       ⊎ ((Stays m r n Closed × (IsPoint m (enc k) → ⊥))
-      ⊎ (Stays m r n Refused × (light k → (IsPoint m (enc k) → ⊥) ⊎ (cs.items ≡ []) → ⊥)))
+      ⊎ (Stays m r n Refused × (inline k → (IsPoint m (enc k) → ⊥) ⊎ (cs.items ≡ []) → ⊥)))
 
   -- one reply to each command, in order, from each map to the next
   pub data Steps (m : PairMap K V) : List (Command K V) → List (Reply V) → PairMap K V

@@ -9,7 +9,7 @@ use Rattle.radix_trie.specs.Lends.{trie_row}
 use Rattle.radix_trie.specs.Views.{with_value_or}
 use Rattle.radix_trie.specs.contracts.trie.entry.Entry as entry
 use Rattle.radix_trie.specs.declared.trie.entry.Entry.{Entry}
-use Rattle.radix_trie.specs.declared.place.path_list.PathList as paths
+use Rattle.radix_trie.specs.declared.locus.path_list.PathList as paths
 
 module _ {K V P : Type 0} {key : keys.Ghosts K} {eq : eqs.Ghosts K} {path : paths.Ghosts P} where
   -- the map of the trie behind the entry

@@ -3,7 +3,7 @@ use Rattle.std.specs.Prelude.{◌≡◌, ℕ, ◌+◌, ◌≤◌, Bool, false, L
 use Rattle.std.specs.Borrow.{Bor}
 use Rattle.std.specs.Range.Bound.{MatchBound}
 use Rattle.std.specs.declared.ops.Bound.{Bound}
-use Rattle.radix_trie.specs.declared.place.within.Limits.{Limits}
+use Rattle.radix_trie.specs.declared.locus.within.Limits.{Limits}
 use Rattle.radix_trie.specs.Views.{is_within}
 use Rattle.radix_trie.specs.Walks.{bound_behind, bound_now}
 

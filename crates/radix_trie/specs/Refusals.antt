@@ -1,6 +1,6 @@
 -- Why a change at the list l of the map m is refused, by the error's reason. `inside` says that the
--- view's path is a prefix of l (of a trie's own call nothing is outside), `light` that the key is
--- light.
+-- view's path is a prefix of l (of a trie's own call nothing is outside), `inline` that the key is
+-- inline.
 use Rattle.std.specs.FinMap as map
 use Rattle.std.specs.Prelude.{◌≡◌, ℕ, ◌+◌, ◌≤◌, ◌^◌, ◌-◌, ◌≢◌, ◌⊎◌, List, [], ◌∷◌, ◌++◌, None}
 use Rattle.nibble_map.specs.Lists.{IsPrefix}
@@ -22,17 +22,17 @@ module _ {K V : Type 0} (m : PairMap K V) (l : List ℕ) where
   IsFullAt = (map.len m ≡ 2 ^ 64 - 1) × (map.get m l ≡ None)
 
   -- an insertion
-  abbrev pub RefusesInsert : (inside light : Type 0) → InsertWhy → Type 0
-  RefusesInsert inside light why.Memory =
-      light → inside × (IsFullAt → ⊥) × (IsStored m l → ⊥)
-  RefusesInsert inside light why.Full = inside × IsFullAt
-  RefusesInsert inside light why.Outside = inside → ⊥
+  abbrev pub RefusesInsert : (inside inline : Type 0) → InsertWhy → Type 0
+  RefusesInsert inside inline why.Memory =
+      inline → inside × (IsFullAt → ⊥) × (IsStored m l → ⊥)
+  RefusesInsert inside inline why.Full = inside × IsFullAt
+  RefusesInsert inside inline why.Outside = inside → ⊥
 
   -- an insertion that replaces nothing
-  abbrev pub RefusesTryInsert : (light : Type 0) → TryInsertWhy → Type 0
-  RefusesTryInsert light try_why.Memory = light → (IsFullAt → ⊥) × (IsStored m l → ⊥)
-  RefusesTryInsert light try_why.Full = IsFullAt
-  RefusesTryInsert light try_why.Occupied = IsStored m l
+  abbrev pub RefusesTryInsert : (inline : Type 0) → TryInsertWhy → Type 0
+  RefusesTryInsert inline try_why.Memory = inline → (IsFullAt → ⊥) × (IsStored m l → ⊥)
+  RefusesTryInsert inline try_why.Full = IsFullAt
+  RefusesTryInsert inline try_why.Occupied = IsStored m l
 
   -- the removal of the pair at l leaves the point p, which isn't the empty list, with no pair and
   -- the one child q: p is l itself, or p holds no pair and has two children, q and the leaf l
@@ -48,16 +48,16 @@ module _ {K V : Type 0} (m : PairMap K V) (l : List ℕ) where
       → IsShort (f ++ g)
 
   -- a removal of the pair at l
-  abbrev pub RefusesRemove : (inside light : Type 0) → SubTrieError → Type 0
-  RefusesRemove inside light error.Memory =
-      light → inside × (map.get m l ≡ None → ⊥) × (((e : List ℕ) → IsStored m e → IsShort e) → ⊥)
+  abbrev pub RefusesRemove : (inside inline : Type 0) → SubTrieError → Type 0
+  RefusesRemove inside inline error.Memory =
+      inline → inside × (map.get m l ≡ None → ⊥) × (((e : List ℕ) → IsStored m e → IsShort e) → ⊥)
       × (JoinsAreShort → ⊥)
-  RefusesRemove inside light error.Outside = inside → ⊥
+  RefusesRemove inside inline error.Outside = inside → ⊥
 
   -- a removal of all pairs at and below l
-  abbrev pub RefusesBelow : (inside light : Type 0) → SubTrieError → Type 0
-  RefusesBelow inside light error.Memory = light → inside × (map.len (below m l) ≡ 0 → ⊥)
-  RefusesBelow inside light error.Outside = inside → ⊥
+  abbrev pub RefusesBelow : (inside inline : Type 0) → SubTrieError → Type 0
+  RefusesBelow inside inline error.Memory = inline → inside × (map.len (below m l) ≡ 0 → ⊥)
+  RefusesBelow inside inline error.Outside = inside → ⊥
 
 module _ {K V : Type 0} where
   -- all lists that the map holds begin with l

@@ -27,9 +27,9 @@ read_view_code {K} {V} k v =
 abbrev pub encoded_bound : {Q : Type 0} → (Q → List ℕ) → Bound Q → Bound (List ℕ)
 encoded_bound enc b = bound_map enc b
 
--- the bound's key is light, if there is one
-abbrev pub IsLightBound : {Q : Type 0} → (Q → Type 0) → Bound Q → Type 0
-IsLightBound is_light b = MatchBound b is_light is_light ⊤
+-- the bound's key is inline, if there is one
+abbrev pub IsInlineBound : {Q : Type 0} → (Q → Type 0) → Bound Q → Type 0
+IsInlineBound is_inline b = MatchBound b is_inline is_inline ⊤
 
 -- e comes after the lower bound, or is it where that counts
 abbrev pub is_above : Bound (List ℕ) → List ℕ → Bool

@@ -18,7 +18,7 @@ use Rattle.radix_nodes.specs.declared.trie_node.KeyValue.{KeyValue}
 use Rattle.radix_nodes.specs.declared.trie_node.TrieNode.{TrieNode}
 use Rattle.radix_nodes.specs.Nodes.{children_of, tree_of}
 use Rattle.radix_nodes.specs.Pairs.{own_pair, pair_of, pairs_in_all, pairs_of}
-use Rattle.radix_trie.specs.declared.iter.rows.Rest.{Rest}
+use Rattle.radix_trie.specs.declared.iter.rows.Frame.{Frame}
 use Rattle.radix_trie.specs.declared.iter.side.Side.{Side}
 use Rattle.radix_trie.specs.declared.iter.side.Side.TheVariants as side
 use Rattle.radix_trie.specs.Views.{is_within}
@@ -62,21 +62,21 @@ module _ {K V : Type 0} where
   first_pair (Some p) = pair_of p.now ∷ []
 
   -- what a walk has left of a node, in the order of the encodings
-  abbrev pub left_of : Rest K V → List (K × V)
+  abbrev pub left_of : Frame K V → List (K × V)
   left_of r = first_pair r.own ++ pairs_in_all (children_of r.row.now)
 
   -- the same of several, the first one first
-  abbrev pub left_in : List (Rest K V) → List (K × V)
+  abbrev pub left_in : List (Frame K V) → List (K × V)
   left_in [] = []
   left_in (r ∷ rs) = left_of r ++ left_in rs
 
   -- what a stack of these has left: its last one comes first
-  abbrev pub stacked : List (Rest K V) → List (K × V)
+  abbrev pub stacked : List (Frame K V) → List (K × V)
   stacked [] = []
   stacked (r ∷ rs) = stacked rs ++ left_of r
 
   -- their rows
-  abbrev pub left_rows : List (Rest K V) → List (Children (KeyValue K V))
+  abbrev pub left_rows : List (Frame K V) → List (Children (KeyValue K V))
   left_rows rs = map (λ r. children_of r.row.now) rs
 
   -- the pairs of the entries whose lists pass a test

@@ -6,8 +6,8 @@ mod error;
 pub mod iter;
 mod json;
 mod key_laws;
+mod locus;
 mod map_laws;
-mod place;
 pub mod prelude;
 mod trie;
 mod view;
@@ -24,13 +24,13 @@ pub use key_laws::{
     parts_keep_their_order, signed_numbers_keep_their_order, split_part_goes_back,
     stored_keys_are_equal, texts_keep_their_order, walks_miss_no_key,
 };
+pub use locus::PathList;
 pub use map_laws::{equal_lists_have_one_tree, part_answers_below, turned_copies_answer_alike};
 pub use nibble_map::map_laws::{
     edits_below_a_path, one_value_changes, points_of_the_rest, rest_of_a_map,
 };
 pub use nibble_map::query_laws::descendants_hold_all_below;
 pub use nibble_map::walk_laws::{edits_change_one_answer, rest_answers_elsewhere, walks_lie_below};
-pub use place::PathList;
 pub use radix_keys::laws::{
     bits_keep_prefixes, first_bits_are_digits, first_bits_tell_networks, nibbles_keep_prefixes,
     parts_keep_prefixes,

@@ -19,7 +19,7 @@ use Rattle.nibble_map.proofs.MapLemmas.SameTests.{equal_tests}
 use Rattle.radix_keys.specs.Networks.{Net, IsBase}
 use Rattle.radix_keys.proofs.BitLemmas.{first_bits_prefix, length-first_bits}
 use Rattle.radix_trie.specs.Building.{with_pairs}
-use Rattle.radix_trie.proofs.PathLemmas.Places.{below-nil, no_pairs_below}
+use Rattle.radix_trie.proofs.PathLemmas.Loci.{below-nil, no_pairs_below}
 use Rattle.route_tool.specs.Routes.{Route, Routes, AreAllOrNone, AreNetworks, AreHeldRoutes, held_routes, held_by, in_order, place, routes_within, with_route}
 use Rattle.route_tool.proofs.ListedLemmas.{entry_stored}
 

@@ -157,7 +157,7 @@ fn add_found<A: Address>(
     }
 }
 
-/// Carries out a request of one family, and adds its answer, or after a refusal maybe a part of it.
+/// Carries out a request of one family, and adds its answer, or after a failure maybe a part of it.
 fn add_reply<A: Address>(
     out: &mut Vec<u8>,
     routes: &mut Routes<A>,
@@ -271,7 +271,7 @@ pub fn add_reason(out: &mut Vec<u8>, reason: Reason) -> Result<(), AllocError>
     out.extend_from_slice(b"\n")
 }
 
-/// Does what is asked with a file, and adds the answer, or after a refusal maybe a part of it.
+/// Does what is asked with a file, and adds the answer, or after a failure maybe a part of it.
 fn on_file<F: Files>(
     files: &F,
     out: &mut Vec<u8>,
@@ -294,7 +294,7 @@ fn on_file<F: Files>(
     }
 }
 
-/// Carries out a command, and adds its answer, or after a refusal maybe a part of it.
+/// Carries out a command, and adds its answer, or after a failure maybe a part of it.
 pub fn answer<F: Files>(
     files: &F,
     out: &mut Vec<u8>,

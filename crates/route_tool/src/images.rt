@@ -16,7 +16,7 @@ pub(crate) use writing::image_of_routes;
 /// Why bytes aren't opened.
 #[derive(Debug, Clone, Copy, PartialEq, Eq)]
 pub enum OpenFault {
-    /// Memory is refused.
+    /// An allocation fails.
     Memory,
     /// They are no image of the family.
     Image(ImageError),
@@ -27,7 +27,7 @@ pub enum OpenFault {
 /// Why no image is written.
 #[derive(Debug, Clone, Copy, PartialEq, Eq)]
 pub enum WriteFault {
-    /// Memory is refused.
+    /// An allocation fails.
     Memory,
     /// There are 2^32 routes or more, or of IPv4 the hops take so many bytes.
     Full,

@@ -68,7 +68,7 @@ impl<A: Address> Routes<A> {
         }
     }
 
-    /// Stores a route, and gives the hop that the network had. After a refusal all is as before.
+    /// Stores a route, and gives the hop that the network had. After a failure all is as before.
     pub fn add(&mut self, network: Network<A>, hop: &str) -> Result<Option<Hop>, Memory>
         ensures old_hop { IfOk result (λ old. old ≡ hop_at A.BITS A.number self.old network) }
         ensures added { OnOk result
@@ -81,7 +81,7 @@ impl<A: Address> Routes<A> {
         self.trie.insert(network, hop).map_err(|_| Memory)
     }
 
-    /// Takes the network's route away, and gives its hop. After a refusal all is as before.
+    /// Takes the network's route away, and gives its hop. After a failure all is as before.
     pub fn del(&mut self, network: &Network<A>) -> Result<Option<Hop>, Memory>
         ensures old_hop { IfOk result (λ old. old ≡ hop_at A.BITS A.number self.old network.now) }
         ensures removed { OnOk result
@@ -178,7 +178,7 @@ impl Table {
     }
 
     /// Lays the nodes of both trees anew, so that look-ups in a table that is filled take less
-    /// time. Where it is refused, the first tree may be laid anew.
+    /// time. Where it fails, the first tree may be laid anew.
     pub fn compact(&mut self) -> Result<(), Memory>
         ensures v4 { self.new.v4 ≡ self.old.v4 }
         ensures v6 { self.new.v6 ≡ self.old.v6 }

@@ -11,7 +11,7 @@ use Rattle.shell_words.proofs.WordLemmas.{gap-begun}
 use Rattle.shell_words.specs.declared.kind.Kind.TheVariants.{Text}
 use Rattle.shell_words.specs.Answers.{Answering, IsNextNumber, Spelled, begins_line, behind_next, gap, next_text, pair_line, text_key, value_line}
 use Rattle.radix_trie.specs.Views.{pairs_below}
-use Rattle.radix_trie.proofs.PathLemmas.Places.{below-nil}
+use Rattle.radix_trie.proofs.PathLemmas.Loci.{below-nil}
 use Rattle.shell_calls.specs.Answers.{TakesValue, TellsValue, StoresNumber, DoesCall, IsTextPair, Table, TellsPairs, pair_lines}
 
 -- all lists begin with the path of a trie
@@ -37,11 +37,11 @@ counted_some b c counted number rest counts writes none =
     let both : Some number ≡ None = sym (counts number (subst At (sym rest) writes)) ∙ none in cc
 
 -- an insertion is refused for memory, where its place is inside and not all that can be counted is stored
-pub no_other_refusal : {K V : Type 0} (m : PairMap K V) (l : List ℕ) (inside light : Type 0) (why : InsertWhy) → why ≢ Memory
-    → RefusesInsert m l inside light why → inside → (IsFullAt m l → ⊥) → ⊥
-no_other_refusal m l inside light Memory other refused within room = other refl
-no_other_refusal m l inside light Full other refused within room = room refused.1
-no_other_refusal m l inside light Outside other refused within room = refused within
+pub no_other_refusal : {K V : Type 0} (m : PairMap K V) (l : List ℕ) (inside inline : Type 0) (why : InsertWhy) → why ≢ Memory
+    → RefusesInsert m l inside inline why → inside → (IsFullAt m l → ⊥) → ⊥
+no_other_refusal m l inside inline Memory other refused within room = other refl
+no_other_refusal m l inside inline Full other refused within room = room refused.1
+no_other_refusal m l inside inline Outside other refused within room = refused within
 
 -- the line of one pair, and then those of the others
 pub walked : (pairs rest : List (Spelled × ℕ)) (p : Spelled × ℕ) (old bytes all : List ℕ) → pairs ≡ p ∷ rest → Each IsTextPair pairs → begins_line old ≡ true

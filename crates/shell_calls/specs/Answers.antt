@@ -21,8 +21,8 @@ pair_lines [] = codes "none\n"
 pair_lines (p ∷ ps) = flat_map (pair_line true) (p ∷ ps)
 
 -- the calls of which it is told here
-abbrev pub IsTold : List ℕ → Type 0
-IsTold name =
+abbrev pub IsProvedCall : List ℕ → Type 0
+IsProvedCall name =
     (name ≡ codes "get") ⊎ ((name ≡ codes "insert") ⊎ ((name ≡ codes "remove")
     ⊎ ((name ≡ codes "len") ⊎ (name ≡ codes "iter"))))
 

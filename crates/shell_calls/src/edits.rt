@@ -9,39 +9,39 @@ use radix_trie::{
 };
 use shell_words::{Answer, Key, Kind, NO_KEY, NO_NUMBER, NONE};
 
-/// What is answered where a call that was refused hands another pair back.
+/// What is answered where a call that failed hands another pair back.
 pub const OTHER: &'static str = "another pair came back";
 
 /// A pair that is to be stored: the word that writes its key, and the value.
 #[derive(Clone, Copy)]
-pub struct Given<'a> {
+pub struct NewPair<'a> {
     pub word: &'a str,
     pub value: u64,
 }
 
-/// What an insertion answers: the old value, or why it was refused. Where memory was, key and value
-/// have come back.
+/// What an insertion answers: the old value, or why it failed. Where an allocation did, key and
+/// value have come back.
 pub fn insert_line(
     answer: &mut Answer<'_>,
-    given: Given<'_>,
+    new_pair: NewPair<'_>,
     outcome: Result<Option<u64>, InsertError<Key, u64>>,
 ) -> Result<(), Memory> {
     match outcome {
         Ok(old) => answer.value_line(old),
-        Err(error) => refused_line(answer, given, error),
+        Err(error) => refused_line(answer, new_pair, error),
     }
 }
 
-/// What a refused insertion answers.
+/// What a failed insertion answers.
 pub fn refused_line(
     answer: &mut Answer<'_>,
-    given: Given<'_>,
+    new_pair: NewPair<'_>,
     error: InsertError<Key, u64>,
 ) -> Result<(), Memory>
     ensures told { OnOk result (error.why ≢ InsertWhy.Memory) }
     ensures undone { OnErr result ((answer.new ≡ answer.old) ⊎ IsTrue answer.new.is_lost) }
 {
-    note_pair(answer, given, &error.key, error.value)?;
+    note_pair(answer, new_pair, &error.key, error.value)?;
     match error.why {
         InsertWhy::Memory => Err(Memory),
         _ if answer.is_other() => answer.refuse(OTHER),
@@ -53,13 +53,13 @@ pub fn refused_line(
 /// What an insertion that replaces nothing answers.
 pub fn try_insert_line(
     answer: &mut Answer<'_>,
-    given: Given<'_>,
+    new_pair: NewPair<'_>,
     outcome: Result<(), Refused<TryInsertWhy, (Key, u64)>>,
 ) -> Result<(), Memory> {
     let Err(error) = outcome else {
         return answer.line("ok");
     };
-    note_pair(answer, given, &error.back.0, error.back.1)?;
+    note_pair(answer, new_pair, &error.back.0, error.back.1)?;
     match error.why {
         TryInsertWhy::Memory => Err(Memory),
         _ if answer.is_other() => answer.refuse(OTHER),
@@ -71,17 +71,17 @@ pub fn try_insert_line(
 /// Notes where another pair came back than was given.
 pub fn note_pair(
     answer: &mut Answer<'_>,
-    given: Given<'_>,
+    new_pair: NewPair<'_>,
     key: &Key,
     value: u64,
 ) -> Result<(), Memory>
     ensures { answer.new ≡ answer.old }
 {
-    let read = match Key::read(answer.kind(), answer.alloc(), given.word) {
+    let read = match Key::read(answer.kind(), answer.alloc(), new_pair.word) {
         Ok(read) => read,
-        Err(_) => Key::read(answer.kind(), answer.alloc(), given.word)?,
+        Err(_) => Key::read(answer.kind(), answer.alloc(), new_pair.word)?,
     };
-    if value != given.value || !read.is_some_and(|it| it == *key) {
+    if value != new_pair.value || !read.is_some_and(|it| it == *key) {
         answer.note_other();
     }
     Ok(())
@@ -142,7 +142,7 @@ pub fn answer_insert<T: TrieEdit<Key, u64>>(
     match (answer.next_key()?, answer.next_number()) {
         (Some(key), Some(value)) => match of.insert(key, value) {
             Ok(old) => answer.value_line(old),
-            Err(error) => refused_line(answer, Given { word, value }, error),
+            Err(error) => refused_line(answer, NewPair { word, value }, error),
         },
         (Some(_), None) => answer.refuse(NO_NUMBER),
         (None, _) => answer.refuse(NO_KEY),
@@ -188,7 +188,7 @@ pub fn answer_remove<T: TrieEdit<Key, u64>>(
     }
 }
 
-/// That the key is outside, or that memory was refused.
+/// That the key is outside, or that an allocation failed.
 pub fn outside_line(answer: &mut Answer<'_>, error: SubTrieError) -> Result<(), Memory>
     ensures told { OnOk result (error ≡ SubTrieError.Outside) }
     ensures undone { OnErr result ((answer.new ≡ answer.old) ⊎ IsTrue answer.new.is_lost) }

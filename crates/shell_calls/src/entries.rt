@@ -1,7 +1,7 @@
 //! What is done at a key's entry.
 
 use crate::Table;
-use crate::edits::{Given, insert_line, note_pair, refused_line, written_or_none};
+use crate::edits::{NewPair, insert_line, note_pair, refused_line, written_or_none};
 use crate::lines::{key_line, taken_line};
 use radix_trie::{Memory, Refused};
 use shell_words::{Answer, Key, NO_KEY, NO_NUMBER};
@@ -60,7 +60,7 @@ fn no_entry(
     word: &str,
     error: Refused<Memory, Key>,
 ) -> Result<(), Memory> {
-    note_pair(answer, Given { word, value: 0 }, &error.back, 0)?;
+    note_pair(answer, NewPair { word, value: 0 }, &error.back, 0)?;
     Err(Memory)
 }
 
@@ -92,7 +92,7 @@ fn answer_insert(
         return answer.refuse(NO_NUMBER);
     };
     match trie.entry(key) {
-        Ok(entry) => insert_line(answer, Given { word, value }, entry.insert(value)),
+        Ok(entry) => insert_line(answer, NewPair { word, value }, entry.insert(value)),
         Err(error) => no_entry(answer, word, error),
     }
 }
@@ -121,7 +121,7 @@ fn answer_or_insert(
                     *stored = number;
                     answer.value_line(Some(old))
                 }
-                Err(error) => refused_line(answer, Given { word, value }, error),
+                Err(error) => refused_line(answer, NewPair { word, value }, error),
             }
         }
         Err(error) => no_entry(answer, word, error),

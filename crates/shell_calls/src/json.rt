@@ -16,7 +16,7 @@ fn value_of(alloc: Global, text: &str) -> Result<Option<Value>, Memory> {
     }
 }
 
-/// The line of a refusal, but for that of memory.
+/// The line of a failure, but for that of memory.
 fn refused_line(answer: &mut Answer<'_>, error: JsonError) -> Result<(), Memory> {
     match error {
         JsonError::Memory => Err(Memory),

@@ -1,10 +1,10 @@
 //! The calls of tries that the shell answers. A function that answers a call says whether it is one
-//! of its calls, and is refused only where the library's call is: what the shell itself takes is
+//! of its calls, and fails only where the library's call is: what the shell itself takes is
 //! tried twice.
 #![tactic(auto)]
 
 ghost use Rattle.std.specs.Prelude.{◌≡◌, ◌⊎◌, ℕ, List, IfOk, IsFalse, IsTrue, OnErr};
-ghost use Rattle.shell_calls.specs.Answers.{DoesCall, IsReread, IsTold};
+ghost use Rattle.shell_calls.specs.Answers.{DoesCall, IsReread, IsProvedCall};
 
 pub mod bounds;
 pub mod common;
@@ -30,10 +30,10 @@ use shell_words::{Answer, Key, Kind};
 pub type Table = Trie<Key, u64>;
 
 /// A call of which a contract tells what a trie of texts answers. False: it is none of them.
-pub fn answer_told(trie: &mut Table, answer: &mut Answer<'_>) -> Result<bool, Memory>
+pub fn answer_proved(trie: &mut Table, answer: &mut Answer<'_>) -> Result<bool, Memory>
     ensures answered { IfOk result (λ is_told. IsTrue is_told → answer.old.kind ≡ Kind.Text
         → DoesCall answer.old answer.new.bytes trie.old trie.new) }
-    ensures passed { IfOk result (λ is_told. IsFalse is_told → (IsTold answer.old.name → ⊥)
+    ensures passed { IfOk result (λ is_told. IsFalse is_told → (IsProvedCall answer.old.name → ⊥)
         × (answer.new ≡ answer.old) × (trie.new ≡ trie.old)) }
     ensures undone { OnErr result (IsTrue answer.new.is_lost
         ⊎ ((trie.new ≡ trie.old) × IsReread answer.old answer.new)) }

@@ -96,7 +96,7 @@ fn commands_of(answer: &mut Answer<'_>) -> Result<Option<Vec<Command<Key, u64>>>
     })
 }
 
-/// The line of a reply that has no replies of its own. False: memory was refused.
+/// The line of a reply that has no replies of its own. False: an allocation failed.
 fn add_reply(answer: &mut Answer<'_>, reply: &Reply<u64>) -> Result<bool, Memory> {
     match reply {
         Reply::Old(value) => {
@@ -123,7 +123,7 @@ fn add_reply(answer: &mut Answer<'_>, reply: &Reply<u64>) -> Result<bool, Memory
     Ok(true)
 }
 
-/// The lines of replies. False: memory was refused for one of them.
+/// The lines of replies. False: an allocation failed for one of them.
 fn add_replies(answer: &mut Answer<'_>, replies: &[Reply<u64>]) -> Result<bool, Memory> {
     for reply in replies {
         if !add_reply(answer, reply)? {
@@ -141,7 +141,7 @@ fn add_replies(answer: &mut Answer<'_>, replies: &[Reply<u64>]) -> Result<bool, 
     Ok(true)
 }
 
-/// Runs the commands that the words write. Where one of them is refused, the trie becomes again
+/// Runs the commands that the words write. Where one of them fails, the trie becomes again
 /// what it was before.
 pub fn answer_run(trie: &mut Table, answer: &mut Answer<'_>) -> Result<(), Memory> {
     let (length, words) = (answer.len(), answer.words());

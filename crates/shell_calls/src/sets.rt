@@ -30,7 +30,7 @@ fn answer_of_sets(
     }
 }
 
-/// The set of a trie's keys. Where it is refused it is told of, and made once more.
+/// The set of a trie's keys. Where it fails it is told of, and made once more.
 fn set_of(trie: &Table, answer: &mut Answer<'_>) -> Result<TrieSet<Key>, Memory> {
     if let Ok(set) = copied_keys(answer.alloc(), trie) {
         return Ok(set);

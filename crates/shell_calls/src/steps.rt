@@ -1,4 +1,4 @@
-//! Walks whose steps may be refused.
+//! Walks whose steps may fail.
 
 use crate::lines::{key_line, none_line};
 use radix_trie::Memory;
@@ -6,7 +6,7 @@ use radix_trie::iter::{Cursor, CursorBack};
 use shell_words::{Answer, Key};
 use trie_set::Selection;
 
-/// A walk over keys, or over pairs. A refused step leaves the same ones.
+/// A walk over keys, or over pairs. A failed step leaves the same ones.
 pub trait Steps<'a> {
     /// The next key, with its value where the walk is over pairs, or None where none is left.
     fn step(&mut self) -> Result<Option<(&'a Key, Option<u64>)>, Memory>;
@@ -61,7 +61,7 @@ pub fn step_lines<'a, S: Steps<'a> + Drop>(answer: &mut Answer<'_>, walk: S) -> 
     none_line(answer, is_none)
 }
 
-/// The next step. A refused one is told of where it is watched, and made once more.
+/// The next step. A failed one is told of where it is watched, and made once more.
 fn next_step<'a, S: Steps<'a>>(
     walk: &mut S,
     answer: &mut Answer<'_>,
@@ -73,7 +73,7 @@ fn next_step<'a, S: Steps<'a>>(
     walk.step()
 }
 
-/// Tells of a refused step that is made once more, where it is watched.
+/// Tells of a failed step that is made once more, where it is watched.
 pub fn step_again(answer: &mut Answer<'_>) -> Result<(), Memory> {
     if answer.is_watched() {
         answer.line("refused")?;

@@ -2,7 +2,7 @@
 
 use crate::Table;
 use crate::edits::{
-    Given, add_unless, key_and_number, refused_line, try_insert_line, written_or_absent,
+    NewPair, add_unless, key_and_number, refused_line, try_insert_line, written_or_absent,
     written_or_none,
 };
 use crate::lines::taken_line;
@@ -25,8 +25,8 @@ pub fn answer_store(trie: &mut Table, answer: &mut Answer<'_>) -> Result<bool, M
     };
     match answer.name() {
         "map_with_default" => answer_map(trie, key, word, value, answer)?,
-        "get_or_insert" => answer_filled(trie, key, Given { word, value }, answer)?,
-        _ => try_insert_line(answer, Given { word, value }, trie.try_insert(key, value))?,
+        "get_or_insert" => answer_filled(trie, key, NewPair { word, value }, answer)?,
+        _ => try_insert_line(answer, NewPair { word, value }, trie.try_insert(key, value))?,
     }
     Ok(true)
 }
@@ -36,19 +36,19 @@ pub fn answer_store(trie: &mut Table, answer: &mut Answer<'_>) -> Result<bool, M
 fn answer_filled(
     trie: &mut Table,
     key: Key,
-    given: Given<'_>,
+    new_pair: NewPair<'_>,
     answer: &mut Answer<'_>,
 ) -> Result<(), Memory> {
     let Some(number) = answer.next_number() else {
         return answer.refuse(NO_NUMBER);
     };
-    match trie.get_or_insert(key, given.value) {
+    match trie.get_or_insert(key, new_pair.value) {
         Ok(value) => {
             let old = *value;
             *value = number;
             answer.value_line(Some(old))
         }
-        Err(error) => refused_line(answer, given, error),
+        Err(error) => refused_line(answer, new_pair, error),
     }
 }
 
@@ -66,7 +66,7 @@ fn answer_map(
     let add = |value: &mut u64| *value = value.wrapping_add(added);
     match trie.map_with_default(key, add, value) {
         Ok(()) => answer.line("ok"),
-        Err(error) => refused_line(answer, Given { word, value }, error),
+        Err(error) => refused_line(answer, NewPair { word, value }, error),
     }
 }
 

@@ -40,7 +40,7 @@ pub fn answer_sweep(trie: &mut Table, answer: &mut Answer<'_>) -> Result<bool, M
     Ok(true)
 }
 
-/// All pairs, in place of the trie. Where they are refused the trie comes back.
+/// All pairs, in place of the trie. Where they fail the trie comes back.
 fn answer_into_pairs(trie: &mut Table, answer: &mut Answer<'_>) -> Result<(), Memory> {
     match mem::replace(trie, Trie::new(answer.alloc())).into_pairs() {
         Ok(pairs) => listed_lines(answer, pairs.as_slice()),
@@ -63,7 +63,7 @@ fn pairs_of(answer: &mut Answer<'_>) -> Result<Option<Vec<(Key, u64)>>, Memory> 
     Ok(Some(pairs))
 }
 
-/// The same. Where memory for them is refused, the words are read once more.
+/// The same. Where an allocation for them fails, the words are read once more.
 pub fn given_pairs(answer: &mut Answer<'_>) -> Result<Option<Vec<(Key, u64)>>, Memory> {
     let words = answer.words();
     if let Ok(pairs) = pairs_of(&mut *answer) {

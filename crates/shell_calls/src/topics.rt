@@ -4,7 +4,7 @@
 use crate::Table;
 use crate::lines::{none_line, pair_lines};
 use radix_trie::{KeySigned, Memory, Parts, Trie, TrieCommon};
-use shell_words::{Answer, Face, Kind, NO_KEY, Width};
+use shell_words::{Answer, KeyText, Kind, NO_KEY, Width};
 use std::fmt::Display;
 use topic_filters::{is_filter, is_topic, matching};
 
@@ -70,7 +70,7 @@ where
 {
     let mut integers = Trie::new(answer.alloc());
     for (key, value) in TrieCommon::iter(trie)? {
-        if let Face::Signed(number) = key.face()
+        if let KeyText::Signed(number) = key.key_text()
             && let Ok(number) = T::try_from(*number)
             && integers.insert(number, *value).is_err()
         {

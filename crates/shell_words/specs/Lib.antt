@@ -5,4 +5,4 @@ pub mod Texts
 -- An answer, as a contract sees it.
 pub mod Answers
 -- What keys are written as.
-pub mod Faces
+pub mod KeyTexts

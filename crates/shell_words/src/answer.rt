@@ -14,8 +14,8 @@ use std::marker::Model;
 /// How many bytes of an answer take one growth.
 const ROOM: usize = 512;
 
-/// The answer to a line, as it grows. Each growth that is refused is tried a second time, so that
-/// one refusal doesn't cost the answer of a call that was made. A contract sees the type of the
+/// The answer to a line, as it grows. Each allocation that fails is tried a second time, so that
+/// one failure doesn't cost the answer of a call that was made. A contract sees the type of the
 /// keys, the call and its words that are left, what is written, and whether it is lost.
 #[derive(Drop)]
 pub struct Answer<'a> {
@@ -48,7 +48,7 @@ impl<'a> Model for Answer<'a> {
 
 impl<'a> Answer<'a> {
     /// No answer yet to a line with these words behind its call, whose keys are of the type.
-    /// Refusals are told of where it is watched.
+    /// Failures are told of where it is watched.
     pub fn new(alloc: Global, kind: Kind, words: Words<'a>, is_watched: bool) -> Answer<'a>
         ensures { result ≡ record {
           kind = kind;
@@ -84,14 +84,14 @@ impl<'a> Answer<'a> {
         self.is_coloured = true;
     }
 
-    /// Whether refusals are told of.
+    /// Whether failures are told of.
     pub fn is_watched(&self) -> bool
         ensures { result ≡ self.now.is_watched }
     {
         self.is_watched
     }
 
-    /// Notes that a refused call has handed back something else than it was given.
+    /// Notes that a failed call has handed back something else than it was given.
     pub fn note_other(&mut self)
         ensures { self.new ≡ self.old }
     {
@@ -161,7 +161,7 @@ impl<'a> Answer<'a> {
         self.words.left
     }
 
-    /// Whether a growth was refused twice, or memory for what can't be made again. The call isn't
+    /// Whether an allocation failed twice, or memory for what can't be made again. The call isn't
     /// made once more then.
     pub fn is_lost(&self) -> bool
         ensures { result ≡ self.now.is_lost }
@@ -169,7 +169,7 @@ impl<'a> Answer<'a> {
         self.is_lost
     }
 
-    /// Notes that memory was refused for a call that can't be made again.
+    /// Notes that an allocation failed for a call that can't be made again.
     pub fn lose(&mut self) {
         self.is_lost = true;
     }

@@ -5,7 +5,7 @@ ghost use Rattle.shell_words.specs.Answers.{begins_line, text_key, key_word};
 ghost use Rattle.shell_words.specs.Texts.{written_text};
 
 use crate::answer::Answer;
-use crate::face::Face;
+use crate::key_text::KeyText;
 use crate::kind::Kind;
 use crate::read::Read;
 use radix_keys::{Memory, NibbleSlice, Nibblet, TrieKey};
@@ -18,7 +18,7 @@ use std::marker::Model;
 #[derive(Drop)]
 pub struct Key {
     list: Nibblet,
-    face: Face,
+    key_text: KeyText,
 }
 
 impl Model for Key {
@@ -26,9 +26,9 @@ impl Model for Key {
 
     ghost Value = { Spelled };
 
-    ghost use Rattle.shell_words.specs.Faces.{face_text};
+    ghost use Rattle.shell_words.specs.KeyTexts.{own_text};
 
-    ghost view = { λ key. record { list = key.list; text = face_text key.face } };
+    ghost view = { λ key. record { list = key.list; text = own_text key.key_text } };
 }
 
 impl Key {
@@ -40,7 +40,7 @@ impl Key {
         match kind {
             Kind::Text => Key::read_text(alloc, word),
             Kind::Nibbles => Ok(Nibblet::read(alloc, word)?.map(Key::of_list)),
-            _ => Key::read_face(kind, alloc, word),
+            _ => Key::read_key_text(kind, alloc, word),
         }
     }
 
@@ -54,17 +54,17 @@ impl Key {
         let list = text.encode(alloc)?;
         Ok(Some(Key {
             list,
-            face: Face::Text(text),
+            key_text: KeyText::Text(text),
         }))
     }
 
     /// The key of another type that a word writes, if it writes one of it.
-    fn read_face(kind: Kind, alloc: Global, word: &str) -> Result<Option<Key>, Memory> {
-        let Some(face) = Face::read(kind, alloc, word)? else {
+    fn read_key_text(kind: Kind, alloc: Global, word: &str) -> Result<Option<Key>, Memory> {
+        let Some(key_text) = KeyText::read(kind, alloc, word)? else {
             return Ok(None);
         };
-        match face.encode(kind, alloc)? {
-            Some(list) => Ok(Some(Key { list, face })),
+        match key_text.encode(kind, alloc)? {
+            Some(list) => Ok(Some(Key { list, key_text })),
             None => Ok(None),
         }
     }
@@ -84,30 +84,30 @@ impl Key {
     /// The key that the bytes of a line of a file are: a text or bytes as they stand, and else what
     /// they write, if they write a key of the type.
     pub fn of_line(kind: Kind, alloc: Global, line: &[u8]) -> Result<Option<Key>, Memory> {
-        let face = match (kind, str::from_utf8(line)) {
-            (Kind::Bytes, _) => Face::Bytes(line.to_vec(alloc)?),
-            (Kind::Text, Ok(text)) => Face::Text(text.to_string(alloc)?),
+        let key_text = match (kind, str::from_utf8(line)) {
+            (Kind::Bytes, _) => KeyText::Bytes(line.to_vec(alloc)?),
+            (Kind::Text, Ok(text)) => KeyText::Text(text.to_string(alloc)?),
             (_, Ok(text)) => return Key::read(kind, alloc, text),
             _ => return Ok(None),
         };
-        let list = match &face {
-            Face::Text(text) => text.encode(alloc)?,
+        let list = match &key_text {
+            KeyText::Text(text) => text.encode(alloc)?,
             _ => line.encode(alloc)?,
         };
-        Ok(Some(Key { list, face }))
+        Ok(Some(Key { list, key_text }))
     }
 
     /// A list of nibbles, which stands for itself.
     fn of_list(list: Nibblet) -> Key {
         Key {
             list,
-            face: Face::List,
+            key_text: KeyText::List,
         }
     }
 
     /// What the key is written as.
-    pub fn face(&self) -> &Face {
-        &self.face
+    pub fn key_text(&self) -> &KeyText {
+        &self.key_text
     }
 
     /// Adds what writes the key, as part of a word.
@@ -117,9 +117,9 @@ impl Key {
             ≡ answer.old.bytes ++ key_word (begins_line answer.old.bytes) self.now) }
         ensures lost { OnErr result (IsTrue answer.new.is_lost) }
     {
-        match &self.face {
-            Face::List => answer.list(&self.list),
-            face => face.write(answer),
+        match &self.key_text {
+            KeyText::List => answer.list(&self.list),
+            key_text => key_text.write(answer),
         }
     }
 }
@@ -132,12 +132,12 @@ impl Clone for Key {
     ghost is_infallible = { λ _. ⊥ };
 
     fn clone(&self) -> Result<Key, AllocError> {
-        let face = match self.face.clone() {
-            Ok(face) => face,
+        let key_text = match self.key_text.clone() {
+            Ok(key_text) => key_text,
             Err(refused) => return Err(refused),
         };
         match Clone::clone(&self.list) {
-            Ok(list) => Ok(Key { list, face }),
+            Ok(list) => Ok(Key { list, key_text }),
             Err(refused) => Err(refused),
         }
     }
@@ -170,13 +170,13 @@ impl TrieKey for Key {
 
     ghost encoding = { λ v. v.list };
 
-    ghost is_light = { λ v. IsShort v.list };
+    ghost is_inline = { λ v. IsShort v.list };
 
     ghost is_value = { λ _. Unit {0} };
 
     ghost distinct = { λ x y _ _ e. (bytes_eq-Decides x.list y.list).1 e };
 
-    ghost light_is_short = { λ _ h. h };
+    ghost inline_is_short = { λ _ h. h };
 
     fn encode(&self, _alloc: Global) -> Result<Nibblet, Memory> {
         self.list.clone()
@@ -184,9 +184,9 @@ impl TrieKey for Key {
 
     /// The list, where a key of the type lends its own.
     fn as_nibbles(&self) -> Option<NibbleSlice<'_>> {
-        match &self.face {
-            Face::Bool(_) | Face::Char(_) | Face::Unsigned(_) | Face::Signed(_) => None,
-            Face::Ipv4(_) | Face::Ipv6(_) => None,
+        match &self.key_text {
+            KeyText::Bool(_) | KeyText::Char(_) | KeyText::Unsigned(_) | KeyText::Signed(_) => None,
+            KeyText::Ipv4(_) | KeyText::Ipv6(_) => None,
             _ => Some(self.list.as_slice()),
         }
     }
@@ -194,9 +194,9 @@ impl TrieKey for Key {
 
 impl fmt::Debug for Key {
     fn fmt<W: fmt::Write>(&self, f: &mut fmt::Formatter<W>) -> fmt::Result {
-        match &self.face {
-            Face::List => fmt::Display::fmt(&self.list, f),
-            face => fmt::Debug::fmt(face, f),
+        match &self.key_text {
+            KeyText::List => fmt::Display::fmt(&self.list, f),
+            key_text => fmt::Debug::fmt(key_text, f),
         }
     }
 }

@@ -5,8 +5,8 @@
 mod answer;
 mod calls;
 mod encodings;
-mod face;
 mod key;
+mod key_text;
 mod kind;
 mod lists;
 mod networks;
@@ -18,8 +18,8 @@ mod words;
 
 pub use answer::{Answer, is_hidden};
 pub use calls::answer_part;
-pub use face::Face;
 pub use key::Key;
+pub use key_text::KeyText;
 pub use kind::{Kind, Width};
 pub use read::Read;
 pub use says::{NO_KEY, NO_LIST, NO_NUMBER, NO_TYPE, NONE, NOT_HERE};

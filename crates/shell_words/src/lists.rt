@@ -85,7 +85,7 @@ fn answer_two(name: &str, list: &Nibblet, answer: &mut Answer<'_>) -> Result<(),
     }
 }
 
-/// The two lists as one. Where that is refused, the first one has come back.
+/// The two lists as one. Where that fails, the first one has come back.
 fn answer_joined(list: &Nibblet, other: &Nibblet, answer: &mut Answer<'_>) -> Result<(), Memory> {
     let given = match list.clone() {
         Ok(given) => given,

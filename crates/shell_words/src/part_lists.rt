@@ -65,7 +65,7 @@ fn answer_cut_at(
     }
 }
 
-/// The list with one part more. Where that is refused, it is as it was.
+/// The list with one part more. Where that fails, it is as it was.
 fn answer_push(
     name: &str,
     parts: &Parts,

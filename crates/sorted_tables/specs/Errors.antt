@@ -9,10 +9,10 @@ use Rattle.sorted_tables.specs.declared.errors.SortedWhy.TheVariants as sorted
 abbrev pub push_text : PushWhy → List ℕ
 push_text push.Memory = codes "out of memory"
 push_text push.Full = codes "the table is full"
-push_text push.Unsorted = codes "the item doesn't come after the one before it"
+push_text push.OutOfOrder = codes "the item doesn't come after the one before it"
 
 -- what `Display` writes of a `SortedWhy`
 abbrev pub sorted_text : SortedWhy → List ℕ
 sorted_text sorted.Memory = push_text push.Memory
 sorted_text sorted.Full = push_text push.Full
-sorted_text (sorted.Unsorted _) = push_text push.Unsorted
+sorted_text (sorted.OutOfOrder _) = push_text push.OutOfOrder

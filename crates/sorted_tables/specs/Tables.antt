@@ -14,8 +14,8 @@ pub record IsLastOf (is_sought : ℕ → Type 0) (n r : ℕ) : Type 0 where
   pub none : (k : ℕ) → r ≤ k → k < n → is_sought k → ⊥
 
 -- each link leads from an item to the last earlier one that is around it
-abbrev pub AreLinksOf : (is_around : ℕ → ℕ → Type 0) → (up : List ℕ) → Type 0
-AreLinksOf is_around up = (i : ℕ) → i < length up → IsLastOf (λ k. is_around k i) i (slice_index up i)
+abbrev pub AreLinksOf : (is_around : ℕ → ℕ → Type 0) → (parents : List ℕ) → Type 0
+AreLinksOf is_around parents = (i : ℕ) → i < length parents → IsLastOf (λ k. is_around k i) i (slice_index parents i)
 
 module _ {X : Type 0} where
   -- the item at i is the first that doesn't come after all those before it

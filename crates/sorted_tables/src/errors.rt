@@ -13,7 +13,7 @@ pub enum PushWhy {
     /// The table holds 2^32 - 1 items.
     Full,
     /// The item doesn't come after all others.
-    Unsorted,
+    OutOfOrder,
 }
 
 impl fmt::Display for PushWhy {
@@ -23,7 +23,7 @@ impl fmt::Display for PushWhy {
         f.write_str(match self {
             PushWhy::Memory => "out of memory",
             PushWhy::Full => "the table is full",
-            PushWhy::Unsorted => "the item doesn't come after the one before it",
+            PushWhy::OutOfOrder => "the item doesn't come after the one before it",
         })
     }
 }
@@ -38,7 +38,7 @@ pub enum SortedWhy {
     /// There are 2^32 items or more.
     Full,
     /// The item at this index doesn't come after the one before it.
-    Unsorted(usize),
+    OutOfOrder(usize),
 }
 
 /// The texts of `PushWhy`.
@@ -49,7 +49,7 @@ impl fmt::Display for SortedWhy {
         let why = match self {
             SortedWhy::Memory => PushWhy::Memory,
             SortedWhy::Full => PushWhy::Full,
-            SortedWhy::Unsorted(_) => PushWhy::Unsorted,
+            SortedWhy::OutOfOrder(_) => PushWhy::OutOfOrder,
         };
         fmt::Display::fmt(&why, f)
     }

@@ -33,7 +33,7 @@ fn image_of_one_network(rt: HostRuntime) {
         value: 7,
     }];
     assert!(rt; ipv4::write(&rows, &[], &mut image).is_ok() && ipv4::is_image(&image));
-    assert!(rt; ipv4::look(&image, 0x0a01_0203) == Some(0));
+    assert!(rt; ipv4::longest_match(&image, 0x0a01_0203) == Some(0));
     assert!(rt; ipv4::row_at(&image, 0).is_some_and(|row| row.value == 7));
 }
 
@@ -49,7 +49,7 @@ fn image_of_one_wide_network(rt: HostRuntime) {
         value: 7,
     }];
     assert!(rt; ipv6::write(&rows, &[], &mut image).is_ok() && ipv6::is_image(&image));
-    assert!(rt; ipv6::look(&image, (0x2001_0db8 << 96) + 1) == Some(0));
+    assert!(rt; ipv6::longest_match(&image, (0x2001_0db8 << 96) + 1) == Some(0));
     assert!(rt; ipv6::row_at(&image, 0).is_some_and(|row| row.value == 7));
 }
 

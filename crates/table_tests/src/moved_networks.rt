@@ -1,4 +1,4 @@
-//! Networks of both families, there and back by copies and by moves, and clones that are refused.
+//! Networks of both families, there and back by copies and by moves, and clones that fail.
 
 use frozen_networks::{freeze, frozen_copy, thaw, thawed_copy};
 use frozen_routes::FrozenRoutes;
@@ -80,7 +80,7 @@ fn there_and_back(rt: HostRuntime) {
     }
 }
 
-/// A number whose clone is refused where it is 18.
+/// A number whose clone fails where it is 18.
 #[derive(Drop)]
 struct Fussy {
     number: u32,

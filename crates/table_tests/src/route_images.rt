@@ -69,7 +69,7 @@ fn stored_image_of_ipv4(rt: HostRuntime) {
     assert!(rt; ipv4::is_image(&IPV4) && ipv4::len(&IPV4) == 7);
     assert!(rt; !ipv6::is_image(&IPV4));
     for (address, index) in LOOKS {
-        assert!(rt; ipv4::look(&IPV4, *address) == *index, "{address}");
+        assert!(rt; ipv4::longest_match(&IPV4, *address) == *index, "{address}");
     }
     assert!(rt;
         ipv4::row_at(&IPV4, 3).is_some_and(|row| row.first == 0x0a01_0200 && row.link == 3)
@@ -96,7 +96,7 @@ fn stored_image_of_ipv6(rt: HostRuntime) {
     ];
     assert!(rt; ipv6::is_image(&IPV6) && ipv6::len(&IPV6) == 5);
     for (address, index) in LOOKS {
-        assert!(rt; ipv6::look(&IPV6, *address) == *index, "{address}");
+        assert!(rt; ipv6::longest_match(&IPV6, *address) == *index, "{address}");
     }
     assert!(rt;
         ipv6::row_at(&IPV6, 4).is_some_and(|row| row.first == (0xfe80u128 << 112).to_be_bytes()
@@ -192,7 +192,7 @@ fn networks_and_many_addresses(rt: HostRuntime) {
     assert!(rt; ipv4::below(&IPV4, 0x0a00_0000, 15) == (1, 3));
     assert!(rt; ipv4::below(&IPV4, 0, 0) == (0, 7));
     let mut found = [9u32; 4];
-    let count = ipv4::look_many(&IPV4, &[0xffff_ffff, 1, 0x0a01_0203], &mut found);
+    let count = ipv4::longest_matches(&IPV4, &[0xffff_ffff, 1, 0x0a01_0203], &mut found);
     assert!(rt; count == 3 && found == [7, 0, 4, 9]);
 }
 
@@ -238,7 +238,9 @@ fn image_of_no_row(rt: HostRuntime) {
     let mut out = [0u8; 88];
     assert!(rt; ipv4::write(&[], &[], &mut out) == Ok(()));
     assert!(rt; ipv4::check(&out) == Ok(()) && ipv4::len(&out) == 0);
-    assert!(rt; ipv4::look(&out, 0).is_none() && ipv6::check(&out) == Err(ImageError::Mark));
+    assert!(rt;
+        ipv4::longest_match(&out, 0).is_none() && ipv6::check(&out) == Err(ImageError::Mark)
+    );
 }
 
 #[test]
@@ -284,7 +286,7 @@ fn rows_out_of_order(rt: HostRuntime) {
             rows[*at] = row(*first, *bits, 0);
         }
         assert!(rt;
-            ipv4::write(&rows, b"hello", &mut out) == Err(WriteError::Unsorted(*at)),
+            ipv4::write(&rows, b"hello", &mut out) == Err(WriteError::OutOfOrder(*at)),
             "{at}"
         );
     }
@@ -318,7 +320,7 @@ fn written_image_of_ipv6(rt: HostRuntime) {
         ((0x2001_0db8u128 << 96) + (1u128 << 64)).to_be_bytes(),
     ];
     let mut found = [9u32; 2];
-    let count = ipv6::look_many(&out, &addresses, &mut found);
+    let count = ipv6::longest_matches(&out, &addresses, &mut found);
     assert!(rt; count == 2 && found == [1, 4]);
 }
 
@@ -337,11 +339,11 @@ fn are_found(alloc: Global, count: u32) -> Option<bool> {
         return Some(false);
     }
     for i in 0..count {
-        if ipv4::look(&out, (i << 8) + 255) != Some(i as usize) {
+        if ipv4::longest_match(&out, (i << 8) + 255) != Some(i as usize) {
             return Some(false);
         }
     }
-    Some(ipv4::look(&out, count << 8).is_none())
+    Some(ipv4::longest_match(&out, count << 8).is_none())
 }
 
 #[test]

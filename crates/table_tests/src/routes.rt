@@ -159,7 +159,7 @@ fn networks_out_of_order(rt: HostRuntime) {
         (&["10.0.0.0/8", "10.1.0.0/16", "9.0.0.0/8", "8.0.0.0/8"], 2),
     ];
     for (texts, at) in TABLES {
-        let why = SortedWhy::Unsorted(*at);
+        let why = SortedWhy::OutOfOrder(*at);
         assert!(rt; refused(rt.alloc(), texts) == Some((why, texts.len())));
         let rows = rows_of::<Ipv4Addr>(rt.alloc(), texts);
         assert!(rt; rows.is_some_and(|rows| pushed(rt.alloc(), rows).is_none()));
@@ -189,7 +189,7 @@ fn rows_in_room_that_was_taken(rt: HostRuntime) {
     assert!(rt; made_in_room(rt.alloc(), 300, RISING) == Some((None, 3)));
     assert!(rt; made_in_room(rt.alloc(), 2, RISING) == Some((full, 3)));
     assert!(rt; made_in_room(rt.alloc(), 0, &[]) == Some((None, 0)));
-    let unsorted = Some(SortedWhy::Unsorted(1));
+    let unsorted = Some(SortedWhy::OutOfOrder(1));
     assert!(rt; made_in_room(rt.alloc(), 2, FALLING) == Some((unsorted, 2)));
 }
 

@@ -283,9 +283,9 @@ fn written_image(rt: HostRuntime) {
     let mut short = [0u8; 328];
     assert!(rt; write(&pairs, b"hello", &mut short) == Err(WriteError::Short));
     pairs[3].key = A_ZERO;
-    assert!(rt; write(&pairs, b"", &mut out) == Err(WriteError::Unsorted(3)));
+    assert!(rt; write(&pairs, b"", &mut out) == Err(WriteError::OutOfOrder(3)));
     pairs[2].key = EIGHT_ZERO;
-    assert!(rt; write(&pairs, b"", &mut out) == Err(WriteError::Unsorted(3)));
+    assert!(rt; write(&pairs, b"", &mut out) == Err(WriteError::OutOfOrder(3)));
 }
 
 #[test]

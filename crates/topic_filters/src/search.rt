@@ -19,8 +19,8 @@ use std::alloc::Global;
 ///
 /// # Errors
 ///
-/// Memory is refused, for the encodings of the topic's levels, for the list of what is still to be
-/// looked for, or for the list of pairs.
+/// An allocation fails, for the encodings of the topic's levels, for the list of what is still to
+/// be looked for, or for the list of pairs.
 ///
 /// # Examples
 ///

@@ -33,23 +33,23 @@ only_one : {A : Type 0} (xs : List A) (x y : A) → xs ++ x ∷ [] ≡ y ∷ [] 
 only_one [] x y e = (refl, cc)
 only_one (z ∷ xs) x y e = absurd (omega (arith, ap length e, length-append xs (x ∷ [])))
 
-module _ {K V : Type 0} (enc : K → List ℕ) (light : K → Type 0) where
+module _ {K V : Type 0} (enc : K → List ℕ) (inline : K → Type 0) where
   -- a run of no command replies nothing, and leaves the map
-  nothing_run : (m n : PairMap K V) (cs : List (Command K V)) (rs : List (Reply V)) → Steps enc light m cs rs n → cs ≡ [] → (rs ≡ []) × (n ≡ m)
+  nothing_run : (m n : PairMap K V) (cs : List (Command K V)) (rs : List (Reply V)) → Steps enc inline m cs rs n → cs ≡ [] → (rs ≡ []) × (n ≡ m)
   nothing_run m n cs rs at_start none = (refl, refl)
   nothing_run m n cs rs (then_step {cs = others} c r o before step) none = absurd (omega (arith, ap length none, length-append others (c ∷ [])))
 
-  module _ (k : K) (v w : V) (is : light k) where
-    -- an insertion by a light key with a value replies this value
-    inserted_over : (m n : PairMap K V) (r : Reply V) → keyed_map enc m k ≡ Some w → Step enc light m (Insert k v) r n → r ≡ Old (Some w)
+  module _ (k : K) (v w : V) (is : inline k) where
+    -- an insertion by an inline key with a value replies this value
+    inserted_over : (m n : PairMap K V) (r : Reply V) → keyed_map enc m k ≡ Some w → Step enc inline m (Insert k v) r n → r ≡ Old (Some w)
     inserted_over m n r has (inl (old, _, _)) = old ∙ ap Old has
     inserted_over m n r has (inr (_, refused)) = absurd (refused is (subst (λ o. T (is_some o)) (sym (value_pair (map.get m (enc k)) w has).1) tt))
 
     -- and so does a run of it alone
-    pub run_over : (m n : PairMap K V) (cs : List (Command K V)) (rs : List (Reply V)) → keyed_map enc m k ≡ Some w → cs ≡ Insert k v ∷ [] → Steps enc light m cs rs n → rs ≡ Old (Some w) ∷ []
+    pub run_over : (m n : PairMap K V) (cs : List (Command K V)) (rs : List (Reply V)) → keyed_map enc m k ≡ Some w → cs ≡ Insert k v ∷ [] → Steps enc inline m cs rs n → rs ≡ Old (Some w) ∷ []
     run_over m n cs rs has one at_start = absurd (omega (arith, ap length one))
     run_over m n cs rs has one (then_step {cs = others} {rs = replies} {n = middle} c r o before step) =
         let first = only_one others c (Insert k v) one in
         let start = nothing_run m middle others replies before first.0 in
-        let last = subst (λ (d : Command K V). Step enc light m d r o) first.1 (subst (λ x. Step enc light x c r o) start.1 step) in
+        let last = subst (λ (d : Command K V). Step enc inline m d r o) first.1 (subst (λ x. Step enc inline x c r o) start.1 step) in
         rw (start.0, inserted_over m o r has last) refl

@@ -24,7 +24,7 @@ fn dictionary<'a>(alloc: Global, file: &'a str) -> Result<FrozenTrie<&'a str, u6
     match FrozenTrie::from_sorted(alloc, words) {
         Ok(words) => Ok(words),
         Err(error) => match error.why {
-            SortedWhy::Unsorted(index) => bail!(
+            SortedWhy::OutOfOrder(index) => bail!(
                 "the word at {index} isn't above the one before it"
             ),
             SortedWhy::Full => bail!("more words than an index counts"),

@@ -58,7 +58,7 @@ const DAMAGED: &'static [(usize, usize, u8, FileWhy, u64, u64)] = &[
     (55, 23, 255, FileWhy::Short, 0, 20),
     (55, 25, 7, FileWhy::Value, 0, 20),
     (55, 28, 1, FileWhy::Short, 0, 20),
-    (55, 41, 96, FileWhy::Unsorted, 1, 37),
+    (55, 41, 96, FileWhy::OutOfOrder, 1, 37),
 ];
 
 #[test]

@@ -8,7 +8,7 @@ use keyed_maps::{keyed_maps_follow_parts, keyed_maps_follow_retain};
 use radix_trie::{Ipv4Network, Memory, Trie, TrieError, TrieKey};
 
 /// Removes the leases at and below a key that are over at a time: that end then, or have ended
-/// before. Where memory is refused, some of these may be left.
+/// before. Where an allocation fails, some of these may be left.
 fn remove_ended<K: TrieKey + Drop, Q: TrieKey>(
     leases: &mut Trie<K, u64>,
     key: &Q,

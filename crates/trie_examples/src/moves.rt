@@ -57,8 +57,8 @@ fn store_below<V: Drop>(
     Ok(())
 }
 
-/// Moves all pairs below one name to below another. Where memory is refused, some may be lost, but
-/// none elsewhere.
+/// Moves all pairs below one name to below another. Where an allocation fails, some may be lost,
+/// but none elsewhere.
 fn move_below<V: Drop>(
     alloc: Global,
     all: &mut Trie<String, V>,

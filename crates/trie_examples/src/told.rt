@@ -1,4 +1,4 @@
-//! What callers are told by words of contracts: a nearest value, why a change is refused, all
+//! What callers are told by words of contracts: a nearest value, why a change fails, all
 //! values changed at once, and the order of pairs of numbers.
 ghost use Rattle.std.specs.FinMap as map;
 ghost use Rattle.std.specs.Prelude.{◌≡◌, ◌+◌, ◌<◌, ◌^◌, ◌-◌, ◌∷◌, ℕ, [], All, List, None, Some, Ok, IfErr, IfOk, IsOk, OnErr, option_map};
@@ -24,14 +24,14 @@ fn nearest_at<K: TrieKey, V: Copy>(trie: &Trie<K, V>, key: &K) -> Result<Option<
     Ok(trie.get_ancestor_value(key)?.copied())
 }
 
-/// Replaces the value of a light key through a view, at whose path or below it stands. It isn't
+/// Replaces the value of an inline key through a view, at whose path or below it stands. It isn't
 /// refused.
 fn replaced<K: TrieKey + Drop, V: Drop>(
     view: &mut SubTrieMut<'_, K, V>,
     key: K,
     value: V,
 ) -> Result<Option<V>, InsertError<K, V>>
-    requires light { K.is_light key }
+    requires inline { K.is_inline key }
     requires inside { IsPrefix (path_of view.old) (K.encoding key) }
     ensures { (v : V) → keyed_map K.encoding (map_behind view.old) key ≡ Some v
         → result ≡ Ok (Some v) }
@@ -39,21 +39,21 @@ fn replaced<K: TrieKey + Drop, V: Drop>(
     view.insert(key, value)
 }
 
-/// Stores a light key through a view that it lies outside: this, and nothing else, is why it is
+/// Stores an inline key through a view that it lies outside: this, and nothing else, is why it is
 /// refused.
 fn outside<K: TrieKey + Drop, V: Drop>(
     view: &mut SubTrieMut<'_, K, V>,
     key: K,
     value: V,
 ) -> Result<Option<V>, InsertError<K, V>>
-    requires light { K.is_light key }
+    requires inline { K.is_inline key }
     requires apart { IsPrefix (path_of view.old) (K.encoding key) → ⊥ }
     ensures { IfErr result (λ e. e.why ≡ InsertWhy.Outside) }
 {
     view.insert(key, value)
 }
 
-/// Stores one pair by `extend`. Where it is refused, that pair comes back, and no other pair was
+/// Stores one pair by `extend`. Where it fails, that pair comes back, and no other pair was
 /// stored.
 fn extended_by_one<K: TrieKey + Drop, V: Drop>(
     trie: &mut Trie<K, V>,
@@ -66,7 +66,7 @@ fn extended_by_one<K: TrieKey + Drop, V: Drop>(
     trie.extend(once((key, value)))
 }
 
-/// Runs one command, which puts a value in place of that of a light key. It isn't refused.
+/// Runs one command, which puts a value in place of that of an inline key. It isn't refused.
 fn replaced_by_run<K: TrieKey + Drop, V: Copy>(
     trie: &mut Trie<K, V>,
     commands: Vec<Command<K, V>>,
@@ -74,7 +74,7 @@ fn replaced_by_run<K: TrieKey + Drop, V: Copy>(
     value: V,
 ) -> Result<Vec<Reply<V>>, Memory>
     requires one { commands.items ≡ Command.Insert key.now value ∷ [] }
-    requires light { K.is_light key.now }
+    requires inline { K.is_inline key.now }
     ensures { IfOk result (λ replies. (v : V)
         → keyed_map K.encoding trie.old key.now ≡ Some v
         → replies.items ≡ Reply.Old (Some v) ∷ []) }
@@ -82,12 +82,12 @@ fn replaced_by_run<K: TrieKey + Drop, V: Copy>(
     run(trie, commands)
 }
 
-/// Takes all pairs below a light key away through a view, where there is none. It isn't refused.
+/// Takes all pairs below an inline key away through a view, where there is none. It isn't refused.
 fn pruned<K: TrieKey + Drop, V: Drop, Q: TrieKey>(
     view: &mut SubTrieMut<'_, K, V>,
     key: &Q,
 ) -> Result<Vec<(K, V)>, SubTrieError>
-    requires light { Q.is_light key.now }
+    requires inline { Q.is_inline key.now }
     requires inside { IsPrefix (path_of view.old) (Q.encoding key.now) }
     requires none { map.len (below (map_behind view.old) (Q.encoding key.now)) ≡ 0 }
     ensures { IsOk result }
@@ -95,12 +95,12 @@ fn pruned<K: TrieKey + Drop, V: Drop, Q: TrieKey>(
     view.remove_prefix(key)
 }
 
-/// Takes the value of a light key away through a view, where it has none. It isn't refused.
+/// Takes the value of an inline key away through a view, where it has none. It isn't refused.
 fn removed<K: TrieKey + Drop, V: Drop>(
     view: &mut SubTrieMut<'_, K, V>,
     key: &K,
 ) -> Result<Option<V>, SubTrieError>
-    requires light { K.is_light key.now }
+    requires inline { K.is_inline key.now }
     requires inside { IsPrefix (path_of view.old) (K.encoding key.now) }
     requires none { keyed_map K.encoding (map_behind view.old) key.now ≡ None }
     ensures { result ≡ Ok None }

@@ -63,7 +63,7 @@ fn inherited<K: TrieKey, V: Copy, Q: TrieKey>(
         → IsPrefix (K.encoding j) (K.encoding k)))
         ⊎ ((v ≡ default) × ((k : K) → IsPrefix (K.encoding k) (Q.encoding path.now)
         → keyed_map K.encoding settings.now k ≡ None))) }
-    ensures light { Q.is_light path.now → IsOk result }
+    ensures inline { Q.is_inline path.now → IsOk result }
 {
     keyed_maps_follow_nearest(settings);
     Ok(

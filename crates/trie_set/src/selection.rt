@@ -12,7 +12,7 @@ use std::marker::Model;
 /// A walk over keys of two sets: each encoding once, in their order. Of two keys with one encoding
 /// the first set's is given.
 ///
-/// A step may be refused, since it may allocate: memory for the rows of nodes beside the ways down.
+/// A step may fail, since it may allocate: memory for the rows of nodes beside the ways down.
 /// The same keys are left then. A contract sees the walk as the list of the keys that are left.
 #[derive(Drop)]
 pub struct Selection<'a, K> {
@@ -50,8 +50,8 @@ impl<'a, K> Selection<'a, K> {
     ///
     /// # Errors
     ///
-    /// Memory is refused, for rows of nodes that are put aside. Then the same keys are left, and
-    /// the next call goes on where this one stopped. At the end nothing is refused.
+    /// An allocation fails, for rows of nodes that are put aside. Then the same keys are left, and
+    /// the next call goes on where this one stopped. At the end nothing fails.
     pub fn next(&mut self) -> Result<Option<&'a K>, Memory>
         ensures key { IfOk result (λ key. option_copied key ≡ slice_get self.old 0) }
         ensures rest { OnOk result (self.new ≡ drop 1 self.old) }

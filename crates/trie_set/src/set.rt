@@ -98,12 +98,12 @@ impl<K: TrieKey> TrieSet<K> {
     ///
     /// # Errors
     ///
-    /// Memory for the encoding is refused, which a light key never meets.
+    /// An allocation for the encoding fails, which an inline key never meets.
     pub fn contains<Q: TrieKey>(&self, key: &Q) -> Result<bool, Memory>
         ensures stored { IfOk result
             (λ found. IsTrue found ↔ IsStored self.now (Q.encoding key.now)) }
         ensures is_value { OnOk result (Q.is_value key.now) }
-        ensures light { Q.is_light key.now → IsOk result }
+        ensures inline { Q.is_inline key.now → IsOk result }
     {
         self.trie.contains_key(key)
     }
@@ -113,12 +113,12 @@ impl<K: TrieKey> TrieSet<K> {
     ///
     /// # Errors
     ///
-    /// Memory for the encoding is refused, which a light key never meets.
+    /// An allocation for the encoding fails, which an inline key never meets.
     pub fn get<Q: TrieKey>(&self, key: &Q) -> Result<Option<&K>, Memory>
         ensures key { IfOk result
             (λ found. option_copied found ≡ key_at self.now (Q.encoding key.now)) }
         ensures is_value { OnOk result (Q.is_value key.now) }
-        ensures light { Q.is_light key.now → IsOk result }
+        ensures inline { Q.is_inline key.now → IsOk result }
     {
         Ok(key_behind(self.trie.get_key_value(key)?))
     }
@@ -128,11 +128,11 @@ impl<K: TrieKey> TrieSet<K> {
     ///
     /// # Errors
     ///
-    /// Memory for the encoding is refused, which a light key never meets.
+    /// An allocation for the encoding fails, which an inline key never meets.
     pub fn longest_match<Q: TrieKey>(&self, key: &Q) -> Result<Option<&K>, Memory>
         ensures nearest { IfOk result
             (λ found. IsKeyAbove self.now (Q.encoding key.now) (option_copied found)) }
-        ensures light { Q.is_light key.now → IsOk result }
+        ensures inline { Q.is_inline key.now → IsOk result }
     {
         let list = key.encode(self.alloc)?;
         Ok(key_behind(self.trie.nearest(&list)))
@@ -158,8 +158,8 @@ impl<K: TrieKey> TrieSet<K> {
     ///
     /// # Errors
     ///
-    /// Memory for the walk is refused: it grows with the height of the trie, and none is allocated
-    /// for the empty set.
+    /// An allocation for the walk fails: it grows with the height of the trie, and none is
+    /// allocated for the empty set.
     pub fn iter(&self) -> Result<Keys<'_, K, ()>, Memory>
         ensures walk { IfOk result (λ keys. keys ≡ keys_in self.now) }
         ensures countable { IfOk result (λ keys. length keys < 2 ^ 64) }

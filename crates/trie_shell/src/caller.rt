@@ -1,4 +1,4 @@
-//! Calls that are made once more where memory was refused for them.
+//! Calls that are made once more where an allocation fails for them.
 ghost use Rattle.std.specs.Prelude.{◌≡◌, ◌≢◌, ◌⊎◌, ⊤, IsTrue, OnErr, OnOk, codes, false};
 ghost use Rattle.shell_words.specs.Answers.{Answering, IsReturned};
 
@@ -11,10 +11,10 @@ pub trait Caller {
     // What a call does: the caller and the answer before it, and both after it.
     ghost makes: { Self → Answering → Self → Answering → Type 0 } = { λ _ _ _ _. ⊤ };
 
-    // What a refused call leaves, whose answer isn't lost.
+    // What a failed call leaves, whose answer isn't lost.
     ghost leaves: { Self → Answering → Self → Answering → Type 0 } = { λ _ _ _ _. ⊤ };
 
-    // What each refused call leaves of the caller.
+    // What each failed call leaves of the caller.
     ghost halts: { Self → Answering → Self → Type 0 } = { λ _ _ _. ⊤ };
 
     /// Makes the call that the answer is to.
@@ -24,27 +24,27 @@ pub trait Caller {
             ⊎ leaves self.old answer.old self.new answer.new) }
         ensures left { OnErr result (halts self.old answer.old self.new) };
 
-    // A call that is made once more behind a refused one does what it would have done.
+    // A call that is made once more behind a failed one does what it would have done.
     ghost again: { (s t u : Self) (a b c d : Answering) → leaves s a t b → IsReturned a b c
         → makes t c u d → makes s a u d };
 
-    // Nor does it leave anything else, where it is refused too.
+    // Nor does it leave anything else, where it fails too.
     ghost halts_again: { (s t u : Self) (a b c : Answering) → leaves s a t b → IsReturned a b c
         → halts t c u → halts s a u };
 
-    /// Adds all that a refused call may not change.
+    /// Adds all that a failed call may not change.
     fn picture(&mut self, picture: &mut Answer<'_>) -> Result<(), Memory>;
 }
 
-/// Makes a call, which stands behind `light` where it is promised to take no memory. Where memory
-/// is refused for it, the same call is made once more.
+/// Makes a call, which stands behind `inline` where it is promised to take no memory. Where memory
+/// fails for it, the same call is made once more.
 pub fn make<C: Caller>(caller: &mut C, answer: &mut Answer<'_>) -> Result<(), Memory>
-    ensures made { OnOk result (answer.old.is_watched ≡ false → answer.old.name ≢ codes "light"
+    ensures made { OnOk result (answer.old.is_watched ≡ false → answer.old.name ≢ codes "inline"
         → C.makes caller.old answer.old caller.new answer.new) }
     ensures left { OnErr result (answer.old.is_watched ≡ false
-        → answer.old.name ≢ codes "light" → C.halts caller.old answer.old caller.new) }
+        → answer.old.name ≢ codes "inline" → C.halts caller.old answer.old caller.new) }
 {
-    if answer.name() != "light" {
+    if answer.name() != "inline" {
         return make_twice(caller, false, answer);
     }
     if read_call(answer)? {
@@ -56,7 +56,7 @@ pub fn make<C: Caller>(caller: &mut C, answer: &mut Answer<'_>) -> Result<(), Me
 
 fn make_twice<C: Caller>(
     caller: &mut C,
-    is_light: bool,
+    is_inline: bool,
     answer: &mut Answer<'_>,
 ) -> Result<(), Memory>
     ensures made { OnOk result (answer.old.is_watched ≡ false
@@ -80,23 +80,23 @@ fn make_twice<C: Caller>(
     if let Some(before) = before {
         let after = picture_of(&mut *caller, &*answer)?;
         let is_same = before.as_bytes() == after.as_bytes() && !answer.is_other();
-        answer.line(told(words.name, is_light, is_same))?;
+        answer.line(told(words.name, is_inline, is_same))?;
     }
     caller.perform(answer)
 }
 
-/// What is told of a refusal. Where `extend` or `merge` is refused the pairs before the refused one
+/// What is told of a failure. Where `extend` or `merge` fails the pairs before the failed one
 /// stay, and where `retain` is, some pairs may be gone.
-fn told(name: &str, is_light: bool, is_same: bool) -> &'static str {
+fn told(name: &str, is_inline: bool, is_same: bool) -> &'static str {
     match name {
-        _ if is_light => "refused, though light",
+        _ if is_inline => "refused, though inline",
         "extend" | "merge" | "retain" | "retain_below" => "refused",
         _ if is_same => "refused",
         _ => "refused, and changed",
     }
 }
 
-/// All that a refused call may not change. Where memory is refused for it, it is made once more.
+/// All that a failed call may not change. Where an allocation fails for it, it is made once more.
 fn picture_of<C: Caller>(caller: &mut C, answer: &Answer<'_>) -> Result<Answer<'static>, Memory> {
     let none = Words::named("");
     let mut picture = Answer::new(answer.alloc(), answer.kind(), none, false);

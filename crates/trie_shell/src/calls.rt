@@ -1,5 +1,5 @@
 //! The calls of tries, of frozen ones, of views and of files. A function that answers a call says
-//! whether it is one of its calls, and is refused only where the library's call is: what the shell
+//! whether it is one of its calls, and fails only where the library's call is: what the shell
 //! itself takes is tried twice.
 
 pub mod files;

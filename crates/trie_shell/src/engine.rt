@@ -25,8 +25,8 @@ use std::marker::Model;
 use std::process::ExitCode;
 use std::rt::Files;
 
-/// The tries and the type of their keys, whether refusals are told, whether answers are in colours,
-/// and the system's files. A contract sees the current trie, where its keys are texts, refusals
+/// The tries and the type of their keys, whether failures are told, whether answers are in colours,
+/// and the system's files. A contract sees the current trie, where its keys are texts, failures
 /// aren't told, and no view is open.
 #[derive(Drop)]
 struct Shell<F: Files + AllocGlobal + Drop> {
@@ -112,7 +112,7 @@ impl<F: Files + AllocGlobal + Drop> Caller for Shell<F> {
     ghost halts = { Halts };
 
     fn perform(&mut self, answer: &mut Answer<'_>) -> Result<(), Memory> {
-        if self.tries.answer_told(answer)? {
+        if self.tries.answer_proved(answer)? {
             Ok(())
         } else {
             self.answer_other(answer)
@@ -154,7 +154,7 @@ impl<F: Files + AllocGlobal + Drop> Shell<F> {
     }
 }
 
-/// Adds bytes. A growth that is refused is tried a second time.
+/// Adds bytes. An allocation that fails is tried a second time.
 fn add(out: &mut Vec<u8>, bytes: &[u8]) -> Result<(), AllocError>
     ensures added { OnOk result (out.new.items ≡ out.old.items ++ bytes.now) }
     ensures kept { Begins out.old.items out.new.items }

@@ -191,8 +191,8 @@ pub const CALLS: &'static [&'static str] = &[
     "draw KEY: the same from the key's point on, or none.",
     "dot: the tree as a graph for graphviz: a box for each pair, a circle where keys part.",
     "stats: the counts of pairs, nodes and nibbles, and how many points stand above the lowest one.",
-    "watch: tells of each refusal from here on: refused; refused, and changed; refused, though light.",
-    "light CALL[ ..]: makes the call, which is promised to take no memory.",
+    "watch: tells of each refusal from here on: refused; refused, and changed; refused, though inline.",
+    "inline CALL[ ..]: makes the call, which is promised to take no memory.",
     "help: the groups of calls.",
     "help GROUP: a line for each call of the group, or of all: where GROUP is all.",
     "help CALL: the lines of this call.",
@@ -387,7 +387,7 @@ const GROUPS: &'static [Group] = &[
         name: "session",
         about: "files of answers and words, refused memory, and the shell itself.",
         calls: &[
-            "error", "save", "load", "watch", "light", "help", ".help", "quit", "exit", "complete",
+            "error", "save", "load", "watch", "inline", "help", ".help", "quit", "exit", "complete",
         ],
     },
 ];

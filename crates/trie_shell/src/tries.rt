@@ -1,7 +1,7 @@
 //! Tries and frozen ones by their names, and the views that are open in the current one.
 ghost use Rattle.std.specs.FinMap as map;
 ghost use Rattle.std.specs.Prelude.{◌≡◌, ◌⊎◌, ℕ, List, IfOk, IsFalse, IsTrue, OnErr};
-ghost use Rattle.shell_calls.specs.Answers.{DoesCall, IsReread, IsTold};
+ghost use Rattle.shell_calls.specs.Answers.{DoesCall, IsReread, IsProvedCall};
 
 mod frozen;
 mod frozen_files;
@@ -14,7 +14,7 @@ use crate::calls::{FrozenTable, answer_trie};
 pub use places::IN_A_VIEW;
 use radix_trie::{Memory, Nibblet, Trie};
 use shell_calls::sweeps::answer_lines;
-use shell_calls::{Table, answer_told};
+use shell_calls::{Table, answer_proved};
 use shell_words::{Answer, Kind, NOT_HERE};
 use std::alloc::Global;
 use std::marker::Model;
@@ -35,7 +35,7 @@ struct NamedFrozen {
 
 /// Where an open view stands, and whether it is one for writing.
 #[derive(Drop)]
-struct Spot {
+struct ViewPath {
     path: Nibblet,
     is_for_writing: bool,
 }
@@ -48,7 +48,7 @@ pub struct Tries {
     current: NamedTrie,
     others: Vec<NamedTrie>,
     frozen: Vec<NamedFrozen>,
-    spots: Vec<Spot>,
+    view_paths: Vec<ViewPath>,
 }
 
 impl Model for Tries {
@@ -59,7 +59,7 @@ impl Model for Tries {
 
     ghost coded = { current_code };
 
-    ghost view = { λ t. record { table = t.current.trie; views = length t.spots.items } };
+    ghost view = { λ t. record { table = t.current.trie; views = length t.view_paths.items } };
 }
 
 impl Tries {
@@ -75,7 +75,7 @@ impl Tries {
             },
             others: Vec::new(alloc),
             frozen: Vec::new(alloc),
-            spots: Vec::new(alloc),
+            view_paths: Vec::new(alloc),
         }
     }
 
@@ -91,20 +91,20 @@ impl Tries {
 
     /// A call of which a contract tells what a trie of texts answers, where no view is open. False:
     /// it is none of them, or a view is open.
-    pub fn answer_told(&mut self, answer: &mut Answer<'_>) -> Result<bool, Memory>
+    pub fn answer_proved(&mut self, answer: &mut Answer<'_>) -> Result<bool, Memory>
         ensures views { self.new.views ≡ self.old.views }
         ensures answered { IfOk result (λ is_told. IsTrue is_told → answer.old.kind ≡ Kind.Text
             → DoesCall answer.old answer.new.bytes self.old.table self.new.table) }
         ensures passed { IfOk result (λ is_told. IsFalse is_told → self.old.views ≡ 0
-            → IsTold answer.old.name → ⊥) }
+            → IsProvedCall answer.old.name → ⊥) }
         ensures undone { OnErr result (IsTrue answer.new.is_lost
             ⊎ ((self.new ≡ self.old) × IsReread answer.old answer.new)) }
         ensures left { OnErr result ((self.new.table ≡ self.old.table) ⊎ ((bytes : List ℕ)
             × (answer.old.kind ≡ Kind.Text
             → DoesCall answer.old bytes self.old.table self.new.table))) }
     {
-        if self.spots.is_empty() {
-            answer_told(&mut self.current.trie, answer)
+        if self.view_paths.is_empty() {
+            answer_proved(&mut self.current.trie, answer)
         } else {
             Ok(false)
         }
@@ -116,8 +116,8 @@ impl Tries {
             return Ok(());
         }
         let trie = &mut self.current.trie;
-        match self.spots.as_slice().last() {
-            Some(spot) => answer_at(trie, spot, answer),
+        match self.view_paths.as_slice().last() {
+            Some(view_path) => answer_at(trie, view_path, answer),
             None if answer_with(&mut *trie, answer)? => Ok(()),
             None => answer_trie(trie, answer),
         }
@@ -127,7 +127,7 @@ impl Tries {
 impl Tries {
     /// Stores the lines of a file in the current trie, where no view is open.
     pub fn answer_lines(&mut self, text: &[u8], answer: &mut Answer<'_>) -> Result<(), Memory> {
-        if self.spots.is_empty() {
+        if self.view_paths.is_empty() {
             answer_lines(&mut self.current.trie, text, answer)
         } else {
             answer.refuse(NOT_HERE)
@@ -136,12 +136,16 @@ impl Tries {
 }
 
 /// A call of the view that stands there.
-fn answer_at(trie: &mut Table, spot: &Spot, answer: &mut Answer<'_>) -> Result<(), Memory> {
-    if !spot.is_for_writing {
-        return answer_in_view(&*trie, &spot.path, answer);
+fn answer_at(
+    trie: &mut Table,
+    view_path: &ViewPath,
+    answer: &mut Answer<'_>,
+) -> Result<(), Memory> {
+    if !view_path.is_for_writing {
+        return answer_in_view(&*trie, &view_path.path, answer);
     }
-    if answer_in_write_view(&mut *trie, &spot.path, answer)?
-        || answer_in_write_view(trie, &spot.path, answer)?
+    if answer_in_write_view(&mut *trie, &view_path.path, answer)?
+        || answer_in_write_view(trie, &view_path.path, answer)?
     {
         Ok(())
     } else {

@@ -2,7 +2,7 @@
 
 use std::alloc::AllocError;
 
-/// A number whose clone is refused where it is 18.
+/// A number whose clone fails where it is 18.
 #[derive(Drop)]
 pub(crate) struct Fussy {
     pub(crate) number: u64,

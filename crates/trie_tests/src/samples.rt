@@ -20,7 +20,7 @@ pub const SAMPLE: &'static [(&'static str, u64)] = &[
     ("bcdefgh", 29),
 ];
 
-/// The trie of the pairs, inserted in order. The one refusal is that of memory.
+/// The trie of the pairs, inserted in order. The one failure is that of memory.
 pub fn texts(alloc: Global, pairs: &[(&'static str, u64)]) -> Result<Texts, Memory>
     ensures { IfOk result (λ trie. trie
         ≡ pairs_in_order ⟦<&'static str as TrieKey>⟧.encoding pairs.now) }
@@ -31,11 +31,11 @@ pub fn texts(alloc: Global, pairs: &[(&'static str, u64)]) -> Result<Texts, Memo
     }
 }
 
-/// The list of the nibbles. It is refused where memory is, and where one of the numbers is above
+/// The list of the nibbles. It fails where memory is, and where one of the numbers is above
 /// 15.
 pub fn list(alloc: Global, nibbles: &[u8]) -> Result<Nibblet, Memory>
     ensures list { IfOk result (λ list. list ≡ nibbles.now) }
-    ensures light { All (λ n. n < 16) nibbles.now → length nibbles.now ≤ 32 → IsOk result }
+    ensures inline { All (λ n. n < 16) nibbles.now → length nibbles.now ≤ 32 → IsOk result }
 {
     let mut list = Nibblet::new(alloc);
     for nibble in nibbles {
@@ -47,15 +47,15 @@ pub fn list(alloc: Global, nibbles: &[u8]) -> Result<Nibblet, Memory>
     Ok(list)
 }
 
-/// Whether the view's path is the key's encoding. The one refusal is that of memory for the
-/// encoding, which a light key never meets.
+/// Whether the view's path is the key's encoding. The one failure is that of memory for the
+/// encoding, which an inline key never meets.
 pub fn stands_at<K: TrieKey, V, Q: TrieKey>(
     alloc: Global,
     view: &SubTrie<'_, K, V>,
     key: &Q,
 ) -> Result<bool, Memory>
     ensures path { IfOk result (λ b. IsTrue b ↔ (view.now.path ≡ Q.encoding key.now)) }
-    ensures light { Q.is_light key.now → IsOk result }
+    ensures inline { Q.is_inline key.now → IsOk result }
 {
     let list = key.encode(alloc)?;
     Ok(*view.path() == list)

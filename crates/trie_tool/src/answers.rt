@@ -129,7 +129,7 @@ fn add_json(out: &mut Vec<u8>, numbers: &Numbers) -> Result<(), Memory>
     Ok(out.extend_from_slice(b"\n")?)
 }
 
-/// Carries out a command, and adds its answer, or after a refusal maybe a part of it.
+/// Carries out a command, and adds its answer, or after a failure maybe a part of it.
 pub fn answer(out: &mut Vec<u8>, numbers: &mut Numbers, command: Command<'_>) -> Result<(), Memory>
     ensures text { OnOk result
         (out.new.items ≡ out.old.items ++ answer_to (request command.entry) numbers.old) }

@@ -52,7 +52,7 @@ impl Numbers {
         }
     }
 
-    /// Stores the number at this key, and gives the number that stood there. After a refusal all is
+    /// Stores the number at this key, and gives the number that stood there. After a failure all is
     /// as before.
     pub fn insert(&mut self, key: &str, number: u64) -> Result<Option<u64>, Memory>
         ensures old_number { IfOk result (λ old. old ≡ value_at self.old (nibbles key.now)) }
@@ -79,7 +79,7 @@ impl Numbers {
         Ok(self.trie.get_ancestor_value(&key)?.copied())
     }
 
-    /// Takes the number at this key away. After a refusal all is as before.
+    /// Takes the number at this key away. After a failure all is as before.
     pub fn remove(&mut self, key: &str) -> Result<Option<u64>, Memory>
         ensures old_number { IfOk result (λ old. old ≡ value_at self.old (nibbles key.now)) }
         ensures removed { OnOk result (self.new ≡ map.remove self.old (nibbles key.now)) }
@@ -105,7 +105,7 @@ impl Numbers {
         }
     }
 
-    /// Takes all texts that begin with the key away, with their numbers, in order. After a refusal
+    /// Takes all texts that begin with the key away, with their numbers, in order. After a failure
     /// all is as before.
     pub fn prune(&mut self, key: &str) -> Result<Vec<(String, u64)>, Memory>
         ensures gone { IfOk result

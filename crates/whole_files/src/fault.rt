@@ -8,7 +8,7 @@ use std::io::{Error, ErrorKind};
 /// Why there is no file to read or to write.
 #[derive(Debug, Clone, Copy, PartialEq, Eq)]
 pub enum FileFault {
-    /// Memory was refused.
+    /// An allocation failed.
     Memory,
     /// The file is another user's, or of a group that can't be kept.
     AnotherOwner,

@@ -11,7 +11,7 @@ use std::rt::Files;
 /// # Errors
 ///
 /// Fails where the name is that of a folder, a device or a pipe, and where a call of the system
-/// fails or memory is refused.
+/// fails or an allocation fails.
 ///
 /// # Examples
 ///

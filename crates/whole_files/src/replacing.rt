@@ -31,7 +31,7 @@ const WRITABLE: u32 = 0o200;
 ///
 /// Fails where the name is that of a link, a folder, a device or a pipe, where the file has another
 /// name too, is another user's or may not be written by its owner, and where a call of the system
-/// fails or memory is refused.
+/// fails or an allocation fails.
 ///
 /// # Examples
 ///

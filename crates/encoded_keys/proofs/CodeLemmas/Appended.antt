@@ -59,22 +59,22 @@ prefix_kept cs c q k l =
     (λ p. subst (λ d. IsPrefix d q) (sym same) p, λ p. subst (λ d. IsPrefix d q) same p)
 
 -- no list has no link
-pub linked_none : (cs : List (List ℕ)) (up : List ℕ) → cs ≡ [] → up ≡ [] → IsLinked cs up
-linked_none cs up e f =
+pub linked_none : (cs : List (List ℕ)) (parents : List ℕ) → cs ≡ [] → parents ≡ [] → IsLinked cs parents
+linked_none cs parents e f =
     let none : IsLinked [] [] = record { rising = tt; linked = refl; links = λ i l. absurd (omega (arith, l)) } in
-    subst (λ ds. IsLinked ds up) (sym e) (subst (IsLinked []) (sym f) none)
+    subst (λ ds. IsLinked ds parents) (sym e) (subst (IsLinked []) (sym f) none)
 
 -- links and one more
-pub linked_more : (cs : List (List ℕ)) (up : List ℕ) (c : List ℕ) (r : ℕ) → IsLinked cs up → IsRising (cs ++ c ∷ []) → IsLastPrefix cs (length cs) c r
-    → IsLinked (cs ++ c ∷ []) (up ++ r ∷ [])
-linked_more cs up c r kept rises last =
+pub linked_more : (cs : List (List ℕ)) (parents : List ℕ) (c : List ℕ) (r : ℕ) → IsLinked cs parents → IsRising (cs ++ c ∷ []) → IsLastPrefix cs (length cs) c r
+    → IsLinked (cs ++ c ∷ []) (parents ++ r ∷ [])
+linked_more cs parents c r kept rises last =
     let n = length-append cs (c ∷ []) in
-    let m = length-append up (r ∷ []) in
+    let m = length-append parents (r ∷ []) in
     let same = kept.linked in
     record {
       rising = rises;
       linked = omega (arith, n, m, same);
-      links = links_more (λ k i. IsPrefix (code_at cs k) (code_at cs i)) (λ k i. IsPrefix (code_at (cs ++ c ∷ []) k) (code_at (cs ++ c ∷ []) i)) up r
+      links = links_more (λ k i. IsPrefix (code_at cs k) (code_at cs i)) (λ k i. IsPrefix (code_at (cs ++ c ∷ []) k) (code_at (cs ++ c ∷ []) i)) parents r
           (λ k i l m'. subst (λ q. IsPrefix (code_at cs k) (code_at cs i) ↔ IsPrefix (code_at (cs ++ c ∷ []) k) q) (sym (get_or_append_left cs (c ∷ []) [] i (omega (arith, m', same))))
           (prefix_kept cs c (code_at cs i) k (omega (arith, l, m', same)))) kept.links
           (subst (λ j. IsLastPrefix (cs ++ c ∷ []) j (code_at (cs ++ c ∷ []) j) r) (sym same)

@@ -111,13 +111,13 @@ module _ (t : Bool) (q : List ℕ) (cs : List (List ℕ)) (rises : IsRising cs) 
         let more : S * (16 * at + 1) ≤ S * (16 * at + j + 1) = mul-le-mul_left S (omega arith) in
         let step : S * (16 * at + 1) ≡ a + S * 1 = times_plus S (16 * at) 1 in
         let most : S * (16 * at + j + 1) ≤ b = mul-le-mul_left S (omega (arith, few)) in
-        let up : a - 1 < here = omega (arith, first, more, step, level.apart) in
-        let order : IsBefore x z = rising_at cs rises (a - 1) (b - 1) (omega (arith, up, most)) (omega (arith, last, most, up)) in
+        let parents : a - 1 < here = omega (arith, first, more, step, level.apart) in
+        let order : IsBefore x z = rising_at cs rises (a - 1) (b - 1) (omega (arith, parents, most)) (omega (arith, last, most, parents)) in
         let agree = shared_between n x z q order is.long is.same t (around.before (a - 1) (omega (arith, first, so_many)))
-        (around.after (b - 1) (omega (arith, so_many_more)) (omega (arith, last, most, up))) in
+        (around.after (b - 1) (omega (arith, so_many_more)) (omega (arith, last, most, parents))) in
         let own : take n (code_at cs here) ≡ take n x = elim (cases_lt here (b - 1)) [
-          | inl lt ↦ between_agrees n x (code_at cs here) z x is.long (rising_at cs rises (a - 1) here up (omega (arith, lt, last)))
-              (rising_at cs rises here (b - 1) lt (omega (arith, last, most, up))) refl (sym is.same)
+          | inl lt ↦ between_agrees n x (code_at cs here) z x is.long (rising_at cs rises (a - 1) here parents (omega (arith, lt, last)))
+              (rising_at cs rises here (b - 1) lt (omega (arith, last, most, parents))) refl (sym is.same)
           | inr ge ↦ let same : here ≡ b - 1 = omega (arith, ge, most) in ap (λ i. take n (code_at cs i)) same ∙ sym is.same
         ] in
         (long_as n x q is.long agree, own ∙ sym agree)

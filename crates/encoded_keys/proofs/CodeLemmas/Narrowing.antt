@@ -81,9 +81,9 @@ module _ (t : Bool) (q : List ℕ) (cs : List (List ℕ)) (rises : IsRising cs) 
       pub narrowed_to_none : (c < length hs → get_or hs c 0 ≢ head) → IsNarrowed t q cs first step (length hs) (n + 15) c c false
       narrowed_to_none apart = all_told c fronts most (λ k l m.
           let here = others c (omega arith) (omega (arith, l, m)) in
-          let up = block_heads_rise c k 0 l m in
+          let parents = block_heads_rise c k 0 l m in
           elim (three_ways head (get_or hs c 0)) [
-            | inl lt ↦ omega (arith, lt, up)
+            | inl lt ↦ omega (arith, lt, parents)
             | inr (inl e) ↦ absurd (apart (omega (arith, l, m)) (sym e))
             | inr (inr gt) ↦ absurd (omega (arith, gt, here))
           ])

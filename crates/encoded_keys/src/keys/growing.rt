@@ -23,7 +23,7 @@ impl EncodedKeys {
     ///
     /// # Errors
     ///
-    /// Memory for it is refused.
+    /// An allocation for it fails.
     pub fn finish(&mut self, alloc: Global) -> Result<(), Memory>
         requires { IsRising self.old }
         ensures same { self.new ≡ self.old }
@@ -43,7 +43,7 @@ impl EncodedKeys {
     ///
     /// # Errors
     ///
-    /// Memory for it is refused.
+    /// An allocation for it fails.
     fn add_slots(&mut self, alloc: Global) -> Result<(), Memory>
         ensures same { self.new ≡ self.old }
     {
@@ -59,7 +59,7 @@ impl EncodedKeys {
     ///
     /// # Errors
     ///
-    /// Memory for these is refused.
+    /// An allocation for these fails.
     fn add_tables(&mut self, alloc: Global) -> Result<(), Memory>
         requires { IsRising self.old }
         ensures same { self.new ≡ self.old }
@@ -79,7 +79,7 @@ impl EncodedKeys {
     ///
     /// # Errors
     ///
-    /// Memory for these is refused.
+    /// An allocation for these fails.
     fn add_levels(&mut self, alloc: Global) -> Result<(), Memory>
         requires few { length self.old < 2 ^ 32 }
         requires some { 16 ≤ length self.old }
@@ -99,7 +99,7 @@ impl EncodedKeys {
     ///
     /// # Errors
     ///
-    /// Memory is refused, or the bytes would be 2^31 or more. The lists stay as they are then.
+    /// An allocation fails, or the bytes would be 2^31 or more. The lists stay as they are then.
     pub(crate) fn push(&mut self, list: &NibbleSlice<'_>) -> Result<(), Memory>
         ensures ok { OnOk result (self.new ≡ self.old ++ list.now ∷ []) }
         ensures kept { IfErr result (λ _. self.new ≡ self.old) }

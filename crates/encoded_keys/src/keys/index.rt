@@ -82,7 +82,7 @@ impl EncodedKeys {
     ///
     /// # Errors
     ///
-    /// Memory is refused.
+    /// An allocation fails.
     pub(super) fn slots_of(&self, alloc: Global) -> Result<(Vec<u32>, u64), Memory>
         requires { length self.now ≤ 2 ^ 30 }
         ensures { IfOk result (λ r. AreSlots self.now r.0.items r.1) }

@@ -32,7 +32,7 @@ impl EncodedKeys {
     ///
     /// # Errors
     ///
-    /// Memory for them is refused.
+    /// An allocation for them fails.
     pub(super) fn levels_of(&self, alloc: Global) -> Result<Vec<Level>, Memory>
         requires { length self.now < 2 ^ 32 }
         ensures { IfOk result (λ levels. AreLevels self.now levels.items) }
@@ -50,7 +50,7 @@ impl EncodedKeys {
     ///
     /// # Errors
     ///
-    /// Memory for it is refused.
+    /// An allocation for it fails.
     fn level_of(&self, alloc: Global, step: usize) -> Result<Level, Memory>
         requires few { length self.now < 2 ^ 32 }
         requires some { 0 < step }
@@ -76,7 +76,7 @@ impl EncodedKeys {
     ///
     /// # Errors
     ///
-    /// Memory for them is refused.
+    /// An allocation for them fails.
     fn heads_of(
         &self,
         alloc: Global,
@@ -99,7 +99,7 @@ impl EncodedKeys {
     ///
     /// # Errors
     ///
-    /// Memory for them is refused.
+    /// An allocation for them fails.
     pub(super) fn skips_of(&self, alloc: Global, step: usize) -> Result<Vec<u32>, Memory>
         requires few { length self.now < 2 ^ 32 }
         requires some { 0 < step }

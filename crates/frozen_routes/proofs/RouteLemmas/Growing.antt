@@ -6,10 +6,10 @@ use Rattle.std.proofs.lemmas.List.{get_or_append_left, length-append, length-map
 use Rattle.std.proofs.Math.Seq.{get_or-append_seam}
 use Rattle.radix_keys.proofs.KeyLemmas.Order.{three_ways}
 use Rattle.radix_keys.specs.Networks.{AgreeIn, IsBase, Net}
-use Rattle.frozen_routes.specs.declared.tops.Cell.{Cell}
+use Rattle.frozen_routes.specs.declared.directory.Cell.{Cell}
 use Rattle.frozen_routes.specs.Routes.{AreLinked, AreRising, AreTopCells, AreUplinks, AreUppers, IsEarlier, IsHolderAt, IsLastHolder, AreRowsInOrder, base_numbers, bit_counts}
 use Rattle.frozen_routes.proofs.RouteLemmas.Blocks.{earlier_le}
-use Rattle.frozen_routes.proofs.RouteLemmas.Tops.{no_cells}
+use Rattle.frozen_routes.proofs.RouteLemmas.Directory.{no_cells}
 use Rattle.sorted_tables.proofs.TableLemmas.Links.{last_of_same, links_more}
 
 -- what comes before one that comes before a third comes before the third
@@ -130,9 +130,9 @@ module _ (w : ℕ) (fs bs : List ℕ) (f b : ℕ) (even : length bs ≡ length f
   )
 
   -- one link more
-  uplinks_more : (up : List ℕ) (r : ℕ) → length up ≡ length fs → AreUplinks w fs bs up → IsLastHolder w fs bs (length fs) f r → AreUplinks w (fs ++ f ∷ []) (bs ++ b ∷ []) (up ++ r ∷ [])
-  uplinks_more up r same links last =
-      links_more (λ k i. IsHolderAt w fs bs (get_or fs i 0) k) (λ k i. IsHolderAt w (fs ++ f ∷ []) (bs ++ b ∷ []) (get_or (fs ++ f ∷ []) i 0) k) up r
+  uplinks_more : (parents : List ℕ) (r : ℕ) → length parents ≡ length fs → AreUplinks w fs bs parents → IsLastHolder w fs bs (length fs) f r → AreUplinks w (fs ++ f ∷ []) (bs ++ b ∷ []) (parents ++ r ∷ [])
+  uplinks_more parents r same links last =
+      links_more (λ k i. IsHolderAt w fs bs (get_or fs i 0) k) (λ k i. IsHolderAt w (fs ++ f ∷ []) (bs ++ b ∷ []) (get_or (fs ++ f ∷ []) i 0) k) parents r
       (λ k i l m. subst (λ a. IsHolderAt w fs bs (get_or fs i 0) k ↔ IsHolderAt w (fs ++ f ∷ []) (bs ++ b ∷ []) a k) (sym (first_kept i (omega (arith, m, same))))
       (holder_kept (get_or fs i 0) k (omega (arith, l, m, same)))) links
       (subst (λ n. IsLastHolder w (fs ++ f ∷ []) (bs ++ b ∷ []) n (get_or (fs ++ f ∷ []) n 0) r) (sym same)
@@ -140,18 +140,18 @@ module _ (w : ℕ) (fs bs : List ℕ) (f b : ℕ) (even : length bs ≡ length f
       (last_of_same (IsHolderAt w fs bs f) (IsHolderAt w (fs ++ f ∷ []) (bs ++ b ∷ []) f) (length fs) r (holder_kept f) last)))
 
   -- one row more and its link, and no table
-  pub linked_more : (up us : List ℕ) (e d : ℕ) (ts none : List Cell) (hs nil : List ℕ) (r : ℕ) → AreLinked w fs bs up e ts hs → length fs + 1 < 2 ^ 32 → AreRising w (fs ++ f ∷ []) (bs ++ b ∷ [])
-      → IsLastHolder w fs bs (length fs) f r → us ≡ up ++ r ∷ [] → d < 128 → none ≡ [] → nil ≡ [] → AreLinked w (fs ++ f ∷ []) (bs ++ b ∷ []) us d none nil
-  linked_more up us e d ts none hs nil r kept few rising last is shift empty bare =
+  pub linked_more : (parents us : List ℕ) (e d : ℕ) (ts none : List Cell) (hs nil : List ℕ) (r : ℕ) → AreLinked w fs bs parents e ts hs → length fs + 1 < 2 ^ 32 → AreRising w (fs ++ f ∷ []) (bs ++ b ∷ [])
+      → IsLastHolder w fs bs (length fs) f r → us ≡ parents ++ r ∷ [] → d < 128 → none ≡ [] → nil ≡ [] → AreLinked w (fs ++ f ∷ []) (bs ++ b ∷ []) us d none nil
+  linked_more parents us e d ts none hs nil r kept few rising last is shift empty bare =
       let n = length-append fs (f ∷ []) in
-      let m = length-append up (r ∷ []) in
+      let m = length-append parents (r ∷ []) in
       let same = kept.linked in
       subst (λ vs. AreLinked w (fs ++ f ∷ []) (bs ++ b ∷ []) vs d none nil) (sym is) (record {
         few = omega (arith, few, n);
         rising = rising;
         linked = omega (arith, n, m, same);
-        links = uplinks_more up r same kept.links last;
-        tops = no_cells d w (fs ++ f ∷ []) (bs ++ b ∷ []) none shift empty;
+        links = uplinks_more parents r same kept.links last;
+        directory = no_cells d w (fs ++ f ∷ []) (bs ++ b ∷ []) none shift empty;
         uppers = λ i l. absurd (let none = ap length bare in omega (arith, none, l));
       })
 
@@ -174,24 +174,24 @@ module _ {A V : Type 0} (w : ℕ) (number : A → ℕ) (rows : List (Net A × V)
       (subst (λ bs. AreRising w (base_numbers number (rows ++ row ∷ [])) bs) (map_push (λ (r : Net A × V). r.0.bits) rows row) rising)
 
   -- one row more and its link
-  pub linked_row : (up us : List ℕ) (e d : ℕ) (ts none : List Cell) (hs nil : List ℕ) (more : List (Net A × V)) (r : ℕ) → AreLinked w (base_numbers number rows) (bit_counts rows) up e ts hs
+  pub linked_row : (parents us : List ℕ) (e d : ℕ) (ts none : List Cell) (hs nil : List ℕ) (more : List (Net A × V)) (r : ℕ) → AreLinked w (base_numbers number rows) (bit_counts rows) parents e ts hs
       → length rows + 1 < 2 ^ 32
       → AreRising w (base_numbers number rows ++ number row.0.base ∷ []) (bit_counts rows ++ row.0.bits ∷ [])
       → IsLastHolder w (base_numbers number rows) (bit_counts rows) (length rows) (number row.0.base) r
-      → more ≡ rows ++ row ∷ [] → us ≡ up ++ r ∷ [] → d < 128 → none ≡ [] → nil ≡ [] → AreLinked w (base_numbers number more) (bit_counts more) us d none nil
-  linked_row up us e d ts none hs nil more r kept few rising last is ups shift empty bare =
+      → more ≡ rows ++ row ∷ [] → us ≡ parents ++ r ∷ [] → d < 128 → none ≡ [] → nil ≡ [] → AreLinked w (base_numbers number more) (bit_counts more) us d none nil
+  linked_row parents us e d ts none hs nil more r kept few rising last is ups shift empty bare =
       let all = length-map rows (λ s. number s.0.base) in
       let holder = subst (λ n. IsLastHolder w (base_numbers number rows) (bit_counts rows) n (number row.0.base) r) (sym all) last in
       let linked =
-      linked_more w (base_numbers number rows) (bit_counts rows) (number row.0.base) row.0.bits (as_many number rows) up us e d ts none hs nil r kept (omega (arith, few, all)) rising holder ups shift empty bare in
+      linked_more w (base_numbers number rows) (bit_counts rows) (number row.0.base) row.0.bits (as_many number rows) parents us e d ts none hs nil r kept (omega (arith, few, all)) rising holder ups shift empty bare in
       subst (λ rs. AreLinked w (base_numbers number rs) (bit_counts rs) us d none nil) (sym is)
       (subst (λ bs. AreLinked w (base_numbers number (rows ++ row ∷ [])) bs us d none nil) (sym (map_push (λ (s : Net A × V). s.0.bits) rows row))
       (subst (λ fs. AreLinked w fs (bit_counts rows ++ row.0.bits ∷ []) us d none nil) (sym (map_push (λ (s : Net A × V). number s.0.base) rows row)) linked))
 
 -- the same rows and links with another table
-pub topped : {A V : Type 0} (w : ℕ) (number : A → ℕ) (rows again : List (Net A × V)) (up us : List ℕ) (e : ℕ) (ts : List Cell) (hs : List ℕ) (d : ℕ) (vs : List Cell) (halves : List ℕ)
-    → AreLinked w (base_numbers number rows) (bit_counts rows) up e ts hs → again ≡ rows → us ≡ up → AreTopCells d w (base_numbers number again) (bit_counts again) vs
+pub topped : {A V : Type 0} (w : ℕ) (number : A → ℕ) (rows again : List (Net A × V)) (parents us : List ℕ) (e : ℕ) (ts : List Cell) (hs : List ℕ) (d : ℕ) (vs : List Cell) (halves : List ℕ)
+    → AreLinked w (base_numbers number rows) (bit_counts rows) parents e ts hs → again ≡ rows → us ≡ parents → AreTopCells d w (base_numbers number again) (bit_counts again) vs
     → AreUppers (base_numbers number again) halves → AreLinked w (base_numbers number again) (bit_counts again) us d vs halves
-topped w number rows again up us e ts hs d vs halves kept same links tops uppers =
+topped w number rows again parents us e ts hs d vs halves kept same links directory uppers =
     let moved = subst (λ rs. AreLinked w (base_numbers number rs) (bit_counts rs) us e ts hs) (sym same) (subst (λ ks. AreLinked w (base_numbers number rows) (bit_counts rows) ks e ts hs) (sym links) kept) in
-    record { few = moved.few; rising = moved.rising; linked = moved.linked; links = moved.links; tops = tops; uppers = uppers }
+    record { few = moved.few; rising = moved.rising; linked = moved.linked; links = moved.links; directory = directory; uppers = uppers }

@@ -39,14 +39,14 @@ front_same w t n q m k own k' is same apart size = (
 pub front_down : (w : ℕ) (t : Bool) (n q m k m' k' : ℕ) → IsBase w k m → IsEarlier m' k' m k → IsInFront w t n q m k → IsInFront w t n q m' k'
 front_down w t n q m k m' k' base earlier front =
     let le = earlier_le m' k' m k earlier in
-    let up = div_up m' m (w - n) le in
+    let parents = div_up m' m (w - n) le in
     elim front [
-      | inl less ↦ inl (omega (arith, up, less))
+      | inl less ↦ inl (omega (arith, parents, less))
       | inr at ↦ elim (cases_lt (m' / 2 ^ (w - n)) q) [
         | inl less ↦ inl less
         | inr ge ↦
             let here = at.0 in
-            let same : m' / 2 ^ (w - n) ≡ q = omega (arith, up, here, ge) in
+            let same : m' / 2 ^ (w - n) ≡ q = omega (arith, parents, here, ge) in
             elim (at.1) [
               | inl through ↦ inr (same, inl through)
               | inr few ↦

@@ -31,11 +31,11 @@ at_cut w fs bs c i m n rising cut within first size = elim (three_ways i c) [
       let inside : c < length fs = omega (arith, gt, within) in
       let earlier = rising.order c i gt within in
       let le : get_or fs c 0 ≤ m = (let l = earlier_le _ _ _ _ earlier in omega (arith, l, first)) in
-      let up = div_up (get_or fs c 0) m (w - n) le in
+      let parents = div_up (get_or fs c 0) m (w - n) le in
       absurd (cut.after c (omega arith) inside (elim (cases_lt (get_or fs c 0 / 2 ^ (w - n)) (m / 2 ^ (w - n))) [
         | inl less ↦ inl less
         | inr ge ↦
-            let same : get_or fs c 0 / 2 ^ (w - n) ≡ m / 2 ^ (w - n) = omega (arith, up, ge) in
+            let same : get_or fs c 0 / 2 ^ (w - n) ≡ m / 2 ^ (w - n) = omega (arith, parents, ge) in
             let zero = subst (λ k. m % 2 ^ (w - k) ≡ 0) size (subst (λ x. x % 2 ^ (w - get_or bs i 0) ≡ 0) first (rising.bases i within).2) in
             let equal = start_is_least (get_or fs c 0) m (w - n) le zero same in
             inr (

@@ -6,7 +6,7 @@ use Rattle.std.proofs.lemmas.Bool.{cases_lt}
 use Rattle.std.proofs.lemmas.Nat.{mul-le, pow_pos, shr_split}
 use Rattle.radix_keys.specs.Networks.{AgreeIn, IsBase}
 use Rattle.frozen_routes.proofs.RouteLemmas.Blocks.{coarser, div_up, finer}
-use Rattle.frozen_routes.proofs.RouteLemmas.Tops.{fewer_blocks, next_block, quotient_most, whole_power}
+use Rattle.frozen_routes.proofs.RouteLemmas.Directory.{fewer_blocks, next_block, quotient_most, whole_power}
 
 -- the first number of a block and one less than the block's size further on are of one block
 same_block : (n d step : ℕ) → n ≡ n / 2 ^ d * 2 ^ d → step < 2 ^ d → (n + step) / 2 ^ d ≡ n / 2 ^ d

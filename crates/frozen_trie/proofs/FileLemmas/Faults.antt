@@ -7,7 +7,7 @@ use Rattle.std.specs.Io.KnownBytes.{Consumes}
 use Rattle.nibble_map.specs.Lists.{Each}
 use Rattle.frozen_trie.specs.declared.file.FileError.{FileError}
 use Rattle.frozen_trie.specs.declared.file.FileWhy.{FileWhy}
-use Rattle.frozen_trie.specs.declared.file.FileWhy.TheVariants.{Full, Long, Memory, Read, Short, Unsorted, Version}
+use Rattle.frozen_trie.specs.declared.file.FileWhy.TheVariants.{Full, Long, Memory, Read, Short, OutOfOrder, Version}
 use Rattle.sorted_tables.specs.declared.errors.PushWhy.{PushWhy}
 use Rattle.sorted_tables.specs.declared.errors.PushWhy.TheVariants as push
 use Rattle.frozen_trie.specs.FileRows.{FitsRow, HasNoCounted, HasNoRow, IsCountedFault, IsEndFault, IsFault, IsFaultBehind, IsHeadFault, IsHeadPart, IsReaderFault, IsRefusedRow, IsRestFault, IsUnreadRow, counted_bytes, file_rows, head_of, row_of}
@@ -127,11 +127,11 @@ module _ {M : Type 0} (rows : M → List (List ℕ × List ℕ)) (Are : M → Ty
       inr behind
 
 -- why a row whose pair isn't appended isn't read
-pub by_push : (P : FileWhy → Type 0) (why : PushWhy) (r : FileWhy) → (why ≡ push.Memory → r ≡ Memory) → (why ≡ push.Full → r ≡ Full) → (why ≡ push.Unsorted → r ≡ Unsorted)
-    → P Memory → (why ≡ push.Full → P Full) → (why ≡ push.Unsorted → P Unsorted) → P r
+pub by_push : (P : FileWhy → Type 0) (why : PushWhy) (r : FileWhy) → (why ≡ push.Memory → r ≡ Memory) → (why ≡ push.Full → r ≡ Full) → (why ≡ push.OutOfOrder → r ≡ OutOfOrder)
+    → P Memory → (why ≡ push.Full → P Full) → (why ≡ push.OutOfOrder → P OutOfOrder) → P r
 by_push P push.Memory r m f u p q s = subst P (sym (m refl)) p
 by_push P push.Full r m f u p q s = subst P (sym (f refl)) (q refl)
-by_push P push.Unsorted r m f u p q s = subst P (sym (u refl)) (s refl)
+by_push P push.OutOfOrder r m f u p q s = subst P (sym (u refl)) (s refl)
 
 -- why no key, or no value, is made of a row's bytes
 pub by_item : (P : FileWhy → Type 0) (why malformed : FileWhy) (N : Type 0) → (why ≡ Memory) ⊎ ((why ≡ malformed) × N) → P Memory → (N → P malformed) → P why

@@ -7,7 +7,7 @@ use Rattle.nibble_map.specs.Lists.{Each, IsRising}
 use Rattle.nibble_map.specs.Maps.{PairMap}
 use Rattle.radix_trie.specs.Views.{pairs_below}
 use Rattle.frozen_trie.specs.declared.file.FileWhy.{FileWhy}
-use Rattle.frozen_trie.specs.declared.file.FileWhy.TheVariants.{Full, Key, Long, Memory, Read, Short, Unsorted, Value}
+use Rattle.frozen_trie.specs.declared.file.FileWhy.TheVariants.{Full, Key, Long, Memory, Read, Short, OutOfOrder, Value}
 use Rattle.frozen_trie.specs.FileItems.{same_u64}
 use Rattle.frozen_trie.specs.FileRows.{FitsRow, IsRefusedRow, IsRestFault, file_rows, head_of}
 use Rattle.frozen_trie.specs.Files.{AreItems, IsFileFault, IsFileable, RefusesRow, file_of, pair_rows}
@@ -41,7 +41,7 @@ module _ {K V : Type 0} (key : K → List ℕ) (value : V → List ℕ) (is_key 
   not_refused m Memory p q behind is of same rises few h = refl
   not_refused m Key p q behind is of same rises few h = absurd (h q.0 is (ap (λ r. r.0) same))
   not_refused m Value p q behind is of same rises few h = absurd (h q.1 of (ap (λ r. r.1) same))
-  not_refused m Unsorted p q behind is of same rises few h =
+  not_refused m OutOfOrder p q behind is of same rises few h =
       absurd (h.3 (subst (λ c. IsRising (codes_of enc (pairs_below m []) ++ c ∷ [])) (told q.0 h.0 is h.1 (ap (λ r. r.0) same ∙ sym h.2))
       (rising_front (codes_of enc (pairs_below m []) ++ enc q.0 ∷ []) (codes_of enc behind) (subst IsRising (sym (append_assoc (codes_of enc (pairs_below m [])) (enc q.0 ∷ []) (codes_of enc behind))) rises))))
   not_refused m Full p q behind is of same rises few h = absurd (omega (arith, few, h))

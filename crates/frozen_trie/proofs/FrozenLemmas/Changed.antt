@@ -68,8 +68,8 @@ module _ {K V : Type 0} (R : K × V → V → Type 0) where
 
   module _ (enc : K → List ℕ) (old now : List (K × V)) (h : AreChanged R old now) where
     -- so their codes and links stay
-    pub changed_kept : (cs : List (List ℕ)) (up : List ℕ) → IsFrozen enc cs old up → IsFrozen enc cs now up
-    changed_kept cs up kept = record { keyed = kept.keyed ∙ sym (codes_copied enc _ old now (changed_copies enc old now h)); linked = kept.linked }
+    pub changed_kept : (cs : List (List ℕ)) (parents : List ℕ) → IsFrozen enc cs old parents → IsFrozen enc cs now parents
+    changed_kept cs parents kept = record { keyed = kept.keyed ∙ sym (codes_copied enc _ old now (changed_copies enc old now h)); linked = kept.linked }
 
     -- and each value of their map is changed
     pub changed_map : IsRising (codes_of enc old) → IsMapCopy (λ p q. (q.0 ≡ p.0) × R p q.1) (map_of_pairs enc old) (map_of_pairs enc now)

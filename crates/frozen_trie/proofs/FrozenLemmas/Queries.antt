@@ -12,7 +12,7 @@ use Rattle.nibble_map.proofs.MapLemmas.Edits.{walk-by_entries, stored_by_entries
 use Rattle.nibble_map.proofs.ListLemmas.Parted.{prefix_length, is_prefix_true, prefix_by_test}
 use Rattle.encoded_keys.specs.Codes.{IsCut, IsLastPrefix, IsSpan, is_before, is_until, code_at}
 use Rattle.radix_trie.specs.Views.{IsPairAbove, is_within, pairs_below, pairs_before, pairs_within}
-use Rattle.radix_trie.proofs.PathLemmas.Places.{below-nil}
+use Rattle.radix_trie.proofs.PathLemmas.Loci.{below-nil}
 use Rattle.frozen_trie.specs.Frozen.{codes_of, map_of_pairs}
 use Rattle.encoded_keys.proofs.CodeLemmas.Order.{at_most, before_by_test, before_passes, prefix_before, between_begins, begun_not_before, until_by_test, until_by_before, until_by_prefix}
 use Rattle.encoded_keys.proofs.CodeLemmas.Parts.{has_index, rising_at}

@@ -10,7 +10,7 @@ use Rattle.nibble_map.proofs.MapLemmas.Bridge.{from_sorted-nil}
 use Rattle.nibble_map.proofs.MapLemmas.Rebuilt.{put_rows-entries}
 use Rattle.radix_trie.specs.Building.{with_pairs}
 use Rattle.radix_trie.specs.Views.{pairs_below}
-use Rattle.radix_trie.proofs.PathLemmas.Places.{below-nil, without_below-nil}
+use Rattle.radix_trie.proofs.PathLemmas.Loci.{below-nil, without_below-nil}
 use Rattle.frozen_trie.specs.Frozen.{codes_of, coded_pairs, map_of_pairs}
 use Rattle.frozen_trie.proofs.FrozenLemmas.Rows.{entries_are_rows}
 

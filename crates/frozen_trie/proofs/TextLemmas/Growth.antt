@@ -20,10 +20,10 @@ use Rattle.frozen_trie.proofs.TextLemmas.Pairs.{all_texts, texts_rise}
 
 module _ {V : Type 0} where
   -- no list is no pair
-  pub no_texts : (cs : List (List ℕ)) (vs : List V) (up : List ℕ) → cs ≡ [] → vs ≡ [] → up ≡ [] → AreTexts cs vs up
-  no_texts cs vs up e f g =
-      let none : AreTexts [] vs up = record { frozen = record { keyed = refl; linked = linked_none [] up refl g }; valued = ap length f } in
-      subst (λ ds. AreTexts ds vs up) (sym e) none
+  pub no_texts : (cs : List (List ℕ)) (vs : List V) (parents : List ℕ) → cs ≡ [] → vs ≡ [] → parents ≡ [] → AreTexts cs vs parents
+  no_texts cs vs parents e f g =
+      let none : AreTexts [] vs parents = record { frozen = record { keyed = refl; linked = linked_none [] parents refl g }; valued = ap length f } in
+      subst (λ ds. AreTexts ds vs parents) (sym e) none
 
   -- its map is empty
   pub no_text_map : (cs : List (List ℕ)) (vs : List V) → cs ≡ [] → text_map cs vs ≡ fin.empty
@@ -41,7 +41,7 @@ module _ {V : Type 0} where
 abbrev pub values_of : {A V : Type 0} → List (A × V) → List V
 values_of ps = map (λ p. p.1) ps
 
-module _ {V : Type 0} (cs : List (List ℕ)) (vs : List V) (up : List ℕ) (kept : AreTexts cs vs up) where
+module _ {V : Type 0} (cs : List (List ℕ)) (vs : List V) (parents : List ℕ) (kept : AreTexts cs vs parents) where
   -- the pairs of one byte string more
   pairs_more : (bs : List ℕ) (v : V) → text_pairs (cs ++ nibbles bs ∷ []) (vs ++ v ∷ []) ≡ text_pairs cs vs ++ (bs, v) ∷ []
   pairs_more bs v = text_pairs-more cs vs (nibbles bs) v kept.valued ∙ ap (λ b. text_pairs cs vs ++ (b, v) ∷ []) (packed_bytes-nibbles bs)
@@ -66,7 +66,7 @@ module _ {V : Type 0} (cs : List (List ℕ)) (vs : List V) (up : List ℕ) (kept
       → text_map (cs ++ nibbles bs ∷ []) (vs ++ v ∷ []) ≡ fin.insert (text_map cs vs) (nibbles bs) (bs, v)
   text_map_more bs v rises =
       ap (map_of_pairs nibbles) (pairs_more bs v)
-      ∙ sym (inserted_last nibbles (text_pairs cs vs) (texts_rise cs vs up kept) (bs, v) (subst IsRising (codes_more bs v) rises))
+      ∙ sym (inserted_last nibbles (text_pairs cs vs) (texts_rise cs vs parents kept) (bs, v) (subst IsRising (codes_more bs v) rises))
 
   -- its pairs
   pub all_texts_more : (bs : List ℕ) (v : V) → IsRising (cs ++ nibbles bs ∷ [])
@@ -74,14 +74,14 @@ module _ {V : Type 0} (cs : List (List ℕ)) (vs : List V) (up : List ℕ) (kept
   all_texts_more bs v rises =
       ap (λ ps. pairs_below (map_of_pairs nibbles ps) []) (pairs_more bs v)
       ∙ whole_is nibbles (text_pairs cs vs ++ (bs, v) ∷ []) (subst IsRising (codes_more bs v) rises)
-      ∙ ap (λ ps. ps ++ (bs, v) ∷ []) (sym (all_texts cs vs up kept))
+      ∙ ap (λ ps. ps ++ (bs, v) ∷ []) (sym (all_texts cs vs parents kept))
 
   -- what comes behind all that is stored keeps the lists rising
   pub lists_rise : (e : List ℕ) → IsBehindAll (text_map cs vs) e → IsRising (cs ++ e ∷ [])
   lists_rise e behind =
-      subst (λ ds. IsRising (ds ++ e ∷ [])) (sym kept.frozen.keyed) (rising_if_behind nibbles (text_pairs cs vs) (texts_rise cs vs up kept) e behind)
+      subst (λ ds. IsRising (ds ++ e ∷ [])) (sym kept.frozen.keyed) (rising_if_behind nibbles (text_pairs cs vs) (texts_rise cs vs parents kept) e behind)
 
   -- and what keeps them rising comes behind all that is stored
   pub list_behind : (e : List ℕ) → IsRising (cs ++ e ∷ []) → IsBehindAll (text_map cs vs) e
   list_behind e rises =
-      behind_if_rising nibbles (text_pairs cs vs) (texts_rise cs vs up kept) e (subst (λ ds. IsRising (ds ++ e ∷ [])) kept.frozen.keyed rises)
+      behind_if_rising nibbles (text_pairs cs vs) (texts_rise cs vs parents kept) e (subst (λ ds. IsRising (ds ++ e ∷ [])) kept.frozen.keyed rises)

@@ -31,7 +31,7 @@ module _ {V : Type 0} where
   text_found (c ∷ cs) (w ∷ vs) zero v l e h = ap (λ x. Some (packed_bytes c, x)) (sym h)
   text_found (c ∷ cs) (w ∷ vs) (suc k) v l e h = text_found cs vs k v (omega (arith, l)) (omega (arith, e)) h
 
-module _ {V : Type 0} (cs : List (List ℕ)) (vs : List V) (up : List ℕ) (kept : AreTexts cs vs up) where
+module _ {V : Type 0} (cs : List (List ℕ)) (vs : List V) (parents : List ℕ) (kept : AreTexts cs vs parents) where
   -- the keys rise
   pub texts_rise : IsRising (codes_of nibbles (text_pairs cs vs))
   texts_rise = subst IsRising kept.frozen.keyed kept.frozen.linked.rising

@@ -24,13 +24,13 @@ module _ {V : Type 0} where
       ap (λ b. (b, p.1) ∷ text_pairs (codes_of nibbles (byte_pairs ps)) (values_of ps)) (packed_bytes-nibbles (string_bytes p.0))
       ∙ ap (λ xs. (string_bytes p.0, p.1) ∷ xs) (pairs_of_texts ps)
 
-  module _ (ps : List (String Global × V)) (cs : List (List ℕ)) (vs : List V) (up : List ℕ) (kept : IsFrozen (λ s. nibbles (string_bytes s)) cs ps up) (are : vs ≡ values_of ps) where
+  module _ (ps : List (String Global × V)) (cs : List (List ℕ)) (vs : List V) (parents : List ℕ) (kept : IsFrozen (λ s. nibbles (string_bytes s)) cs ps parents) (are : vs ≡ values_of ps) where
     -- their codes and values
     parts_are : text_pairs cs vs ≡ byte_pairs ps
     parts_are = ap (text_pairs cs) are ∙ ap (λ ds. text_pairs ds (values_of ps)) (kept.keyed ∙ text_codes ps) ∙ pairs_of_texts ps
 
     -- make a map of byte strings
-    pub texts_of_pairs : AreTexts cs vs up
+    pub texts_of_pairs : AreTexts cs vs parents
     texts_of_pairs = record {
       frozen = record { keyed = kept.keyed ∙ text_codes ps ∙ ap (codes_of nibbles) (sym parts_are); linked = kept.linked };
       valued = omega (arith, ap length are, length-map ps (λ (p : String Global × V). p.1), ap length kept.keyed, length-map ps (λ (p : String Global × V). nibbles (string_bytes p.0)));

@@ -27,7 +27,7 @@ pub trait FileItem {
     ///
     /// # Errors
     ///
-    /// Memory is refused. `out` may hold some of the bytes then.
+    /// An allocation fails. `out` may hold some of the bytes then.
     fn append_to(&self, out: &mut Vec<u8>) -> Result<(), Memory>
         ensures bytes { OnOk result (out.new.items ≡ out.old.items ++ file_bytes self.now) }
         ensures item { OnOk result (is_item self.now) };
@@ -36,7 +36,7 @@ pub trait FileItem {
     ///
     /// # Errors
     ///
-    /// Memory is refused.
+    /// An allocation fails.
     fn of_file(bytes: &[u8], alloc: Global) -> Result<Option<Self>, Memory>
         ensures bytes { IfOk result
             (λ found. IfSome found (λ item. file_bytes item ≡ bytes.now)) }

@@ -76,11 +76,11 @@ pub(super) fn made<T: FileItem>(
 pub(super) fn refused(why: PushWhy) -> FileWhy
     ensures memory { why ≡ PushWhy.Memory → result ≡ FileWhy.Memory }
     ensures full { why ≡ PushWhy.Full → result ≡ FileWhy.Full }
-    ensures unsorted { why ≡ PushWhy.Unsorted → result ≡ FileWhy.Unsorted }
+    ensures unsorted { why ≡ PushWhy.OutOfOrder → result ≡ FileWhy.OutOfOrder }
 {
     match why {
         PushWhy::Memory => FileWhy::Memory,
         PushWhy::Full => FileWhy::Full,
-        PushWhy::Unsorted => FileWhy::Unsorted,
+        PushWhy::OutOfOrder => FileWhy::OutOfOrder,
     }
 }

@@ -73,9 +73,9 @@ impl<V: FileItem + Drop> FrozenTexts<V> {
     ///
     /// # Errors
     ///
-    /// A write fails, or takes no byte. `OutOfMemory`, where room for a pair's bytes is refused;
-    /// `InvalidInput`, where a value takes 2^32 bytes or more. What was written until then is a
-    /// beginning of the file.
+    /// A write fails, or takes no byte. `OutOfMemory`, where an allocation for a pair's bytes
+    /// fails; `InvalidInput`, where a value takes 2^32 bytes or more. What was written until then
+    /// is a beginning of the file.
     pub fn write<W: Write>(&self, out: &mut W) -> io::Result<()>
         ensures written { OnOk result (Appends (W.contents out.old) (W.contents out.new)
             (text_file V.file_bytes self.now)) }
@@ -95,7 +95,7 @@ impl<V: FileItem + Drop> FrozenTexts<V> {
     ///
     /// # Errors
     ///
-    /// The bytes are no file, the reader fails, or memory is refused: `FileError` says why, and
+    /// The bytes are no file, the reader fails, or an allocation fails: `FileError` says why, and
     /// where. Nothing of the file is taken then.
     pub fn read<R: Read>(alloc: Global, input: &mut R) -> Result<FrozenTexts<V>, FileError>
         ensures file { IfOk result (λ texts. IfSome (R.remaining input.old)

@@ -74,9 +74,9 @@ impl<K: TrieKey + FileItem + Drop, V: FileItem + Drop> FrozenTrie<K, V> {
     ///
     /// # Errors
     ///
-    /// A write fails, or takes no byte. `OutOfMemory`, where room for a pair's bytes is refused;
-    /// `InvalidInput`, where a key or a value takes 2^32 bytes or more. What was written until then
-    /// is a beginning of the file.
+    /// A write fails, or takes no byte. `OutOfMemory`, where an allocation for a pair's bytes
+    /// fails; `InvalidInput`, where a key or a value takes 2^32 bytes or more. What was written
+    /// until then is a beginning of the file.
     ///
     /// # Examples
     ///
@@ -113,7 +113,7 @@ impl<K: TrieKey + FileItem + Drop, V: FileItem + Drop> FrozenTrie<K, V> {
     ///
     /// # Errors
     ///
-    /// The bytes are no file, the reader fails, or memory is refused: `FileError` says why, and
+    /// The bytes are no file, the reader fails, or an allocation fails: `FileError` says why, and
     /// where. Nothing of the file is taken then.
     pub fn read<R: Read>(alloc: Global, input: &mut R) -> Result<FrozenTrie<K, V>, FileError>
         ensures file { IfOk result (λ frozen. IfSome (R.remaining input.old)

@@ -19,7 +19,7 @@ impl<K: TrieKey, V> FrozenTrie<K, V> {
         FrozenTrie {
             codes: EncodedKeys::new(alloc),
             pairs: Vec::new(alloc),
-            up: Vec::new(alloc),
+            parents: Vec::new(alloc),
             alloc,
         }
     }
@@ -30,7 +30,7 @@ impl<K: TrieKey, V> FrozenTrie<K, V> {
     ///
     /// # Errors
     ///
-    /// Memory for the tables is refused: some 2^18 bytes and half a byte a pair, or 1.4 bytes a
+    /// An allocation for the tables fails: some 2^18 bytes and half a byte a pair, or 1.4 bytes a
     /// pair where encodings are alike; and 5 bytes a pair more where encodings take more than 4
     /// bytes on average. Each call returns the same without them.
     pub fn finish(&mut self) -> Result<(), Memory>
@@ -38,7 +38,7 @@ impl<K: TrieKey, V> FrozenTrie<K, V> {
         ensures few { map.len self.old < 2 ^ 16 → IsOk result }
     {
         self.pairs.shrink_to_fit();
-        self.up.shrink_to_fit();
+        self.parents.shrink_to_fit();
         self.codes.finish(self.alloc)
     }
 
@@ -47,10 +47,10 @@ impl<K: TrieKey, V> FrozenTrie<K, V> {
     ///
     /// # Errors
     ///
-    /// In this order: the map holds 2^32 - 1 pairs; memory for the encoding is refused, which a
-    /// light key never meets; the encoding doesn't come after all others; other memory is refused,
-    /// or the encodings together would take 2^31 bytes or more. The pair comes back, and the map is
-    /// as before.
+    /// In this order: the map holds 2^32 - 1 pairs; an allocation for the encoding fails, which an
+    /// inline key never meets; the encoding doesn't come after all others; another allocation
+    /// fails, or the encodings together would take 2^31 bytes or more. The pair comes back, and the
+    /// map is as before.
     pub fn push(&mut self, key: K, value: V) -> Result<(), Refused<PushWhy, (K, V)>>
         ensures stored { OnOk result
             (self.new ≡ map.insert self.old (K.encoding key) (key, value)) }
@@ -58,14 +58,14 @@ impl<K: TrieKey, V> FrozenTrie<K, V> {
             (pairs_below self.new [] ≡ pairs_below self.old [] ++ (key, value) ∷ []) }
         ensures behind { OnOk result (IsBehindAll self.old (K.encoding key)) }
         ensures is_value { OnOk result (K.is_value key) }
-        ensures unsorted { IfErr result (λ e. e.why ≡ PushWhy.Unsorted
+        ensures unsorted { IfErr result (λ e. e.why ≡ PushWhy.OutOfOrder
             → IsBehindAll self.old (K.encoding key) → ⊥) }
         ensures full { IfErr result (λ e. e.why ≡ PushWhy.Full
             → 2 ^ 32 - 1 ≤ map.len self.old) }
         ensures room { IfErr result (λ e. e.why ≢ PushWhy.Full
             → map.len self.old < 2 ^ 32 - 1) }
         ensures memory { IfErr result (λ e. e.why ≡ PushWhy.Memory
-            → K.is_light key → IsBehindAll self.old (K.encoding key)) }
+            → K.is_inline key → IsBehindAll self.old (K.encoding key)) }
         ensures handed_back { IfErr result (λ e. e.back ≡ (key, value)) }
         ensures unchanged { IfErr result (λ _. self.new ≡ self.old) }
     {
@@ -80,14 +80,14 @@ impl<K: TrieKey, V> FrozenTrie<K, V> {
         };
         let list = list.as_slice();
         if !follows(&self.codes, &list) {
-            let why = PushWhy::Unsorted;
+            let why = PushWhy::OutOfOrder;
             return Err(Refused { why, back });
         }
         if self.pairs.reserve(1).is_err() {
             let why = PushWhy::Memory;
             return Err(Refused { why, back });
         }
-        match push_linked(&mut self.codes, &mut self.up, &list) {
+        match push_linked(&mut self.codes, &mut self.parents, &list) {
             Ok(()) => {
                 self.pairs.push_reserved(back);
                 Ok(())

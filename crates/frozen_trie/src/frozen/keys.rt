@@ -2,7 +2,7 @@
 ghost use Rattle.std.specs.Prelude.{◌≡◌, ◌↔◌, ◌⊎◌, [], length, IsTrue, IsOk, IfOk, OnOk, option_copied, option_map};
 ghost use Rattle.std.specs.FinMap as map;
 ghost use Rattle.nibble_map.specs.Maps.{IsStored, below, value_at};
-ghost use Rattle.radix_trie.specs.Views.{IsLightBound, IsPairAbove, encoded_bound, pairs_above, pairs_before, pairs_below, pairs_within};
+ghost use Rattle.radix_trie.specs.Views.{IsInlineBound, IsPairAbove, encoded_bound, pairs_above, pairs_before, pairs_below, pairs_within};
 ghost use Rattle.radix_trie.specs.Walks.{bound_now, deref_pair};
 
 use crate::frozen::FrozenTrie;
@@ -28,7 +28,7 @@ impl<K: TrieKey, V> FrozenTrie<K, V> {
         ensures value { IfOk result
             (λ found. option_copied found ≡ value_at self.now (Q.encoding key.now)) }
         ensures is_value { OnOk result (Q.is_value key.now) }
-        ensures light { Q.is_light key.now → IsOk result }
+        ensures inline { Q.is_inline key.now → IsOk result }
         ensures lent { Q.is_lent key.now → IsOk result }
     {
         match self.get_key_value(key)? {
@@ -49,7 +49,7 @@ impl<K: TrieKey, V> FrozenTrie<K, V> {
         ensures pair { IfOk result (λ found. option_map deref_pair found
             ≡ map.get self.now (Q.encoding key.now)) }
         ensures is_value { OnOk result (Q.is_value key.now) }
-        ensures light { Q.is_light key.now → IsOk result }
+        ensures inline { Q.is_inline key.now → IsOk result }
         ensures lent { Q.is_lent key.now → IsOk result }
     {
         let list = Encoding::of(self.alloc, key)?;
@@ -69,7 +69,7 @@ impl<K: TrieKey, V> FrozenTrie<K, V> {
         ensures stored { IfOk result
             (λ found. IsTrue found ↔ IsStored self.now (Q.encoding key.now)) }
         ensures is_value { OnOk result (Q.is_value key.now) }
-        ensures light { Q.is_light key.now → IsOk result }
+        ensures inline { Q.is_inline key.now → IsOk result }
         ensures lent { Q.is_lent key.now → IsOk result }
     {
         Ok(self.get_key_value(key)?.is_some())
@@ -88,11 +88,11 @@ impl<K: TrieKey, V> FrozenTrie<K, V> {
     pub fn longest_match<Q: TrieKey>(&self, key: &Q) -> Result<Option<(&K, &V)>, Memory>
         ensures pair { IfOk result (λ found. IsPairAbove self.now (Q.encoding key.now)
             (option_map deref_pair found)) }
-        ensures light { Q.is_light key.now → IsOk result }
+        ensures inline { Q.is_inline key.now → IsOk result }
         ensures lent { Q.is_lent key.now → IsOk result }
     {
         let list = Encoding::of(self.alloc, key)?;
-        let found = last_prefix(&self.codes, &self.up, &list.as_slice());
+        let found = last_prefix(&self.codes, &self.parents, &list.as_slice());
         if found == 0 {
             return Ok(None);
         }
@@ -109,11 +109,11 @@ impl<K: TrieKey, V> FrozenTrie<K, V> {
     pub fn common_prefixes<Q: TrieKey>(&self, key: &Q) -> Result<CommonPrefixes<'_, K, V>, Memory>
         ensures walk { IfOk result
             (λ walk. walk ≡ pairs_above self.now (Q.encoding key.now)) }
-        ensures light { Q.is_light key.now → IsOk result }
+        ensures inline { Q.is_inline key.now → IsOk result }
         ensures lent { Q.is_lent key.now → IsOk result }
     {
         let list = Encoding::of(self.alloc, key)?;
-        let last = last_prefix(&self.codes, &self.up, &list.as_slice());
+        let last = last_prefix(&self.codes, &self.parents, &list.as_slice());
         Ok(CommonPrefixes::new(self, last))
     }
 
@@ -129,8 +129,8 @@ impl<K: TrieKey, V> FrozenTrie<K, V> {
             ≡ pairs_within self.now [] (encoded_bound Q.encoding (R.start_bound range))
             (encoded_bound Q.encoding (R.end_bound range))) }
         ensures free { R.has_bounds range
-            → IsLightBound (λ key. Q.is_light key ⊎ Q.is_lent key) (R.start_bound range)
-            → IsLightBound (λ key. Q.is_light key ⊎ Q.is_lent key) (R.end_bound range)
+            → IsInlineBound (λ key. Q.is_inline key ⊎ Q.is_lent key) (R.start_bound range)
+            → IsInlineBound (λ key. Q.is_inline key ⊎ Q.is_lent key) (R.end_bound range)
             → IsOk result }
     {
         let low = encoded(self.alloc, range.start_bound())?;
@@ -161,7 +161,7 @@ impl<K: TrieKey, V> FrozenTrie<K, V> {
     pub fn below<Q: TrieKey>(&self, key: &Q) -> Result<&[(K, V)], Memory>
         ensures pairs { IfOk result
             (λ left. left.now ≡ pairs_below self.now (Q.encoding key.now)) }
-        ensures light { Q.is_light key.now → IsOk result }
+        ensures inline { Q.is_inline key.now → IsOk result }
         ensures lent { Q.is_lent key.now → IsOk result }
     {
         let list = Encoding::of(self.alloc, key)?;
@@ -179,7 +179,7 @@ impl<K: TrieKey, V> FrozenTrie<K, V> {
     pub fn count_below<Q: TrieKey>(&self, key: &Q) -> Result<usize, Memory>
         ensures count { IfOk result
             (λ count. count ≡ map.len (below self.now (Q.encoding key.now))) }
-        ensures light { Q.is_light key.now → IsOk result }
+        ensures inline { Q.is_inline key.now → IsOk result }
         ensures lent { Q.is_lent key.now → IsOk result }
     {
         Ok(self.below(key)?.len())
@@ -195,7 +195,7 @@ impl<K: TrieKey, V> FrozenTrie<K, V> {
     pub fn rank<Q: TrieKey>(&self, key: &Q) -> Result<usize, Memory>
         ensures count { IfOk result
             (λ count. count ≡ length (pairs_before self.now [] (Q.encoding key.now))) }
-        ensures light { Q.is_light key.now → IsOk result }
+        ensures inline { Q.is_inline key.now → IsOk result }
         ensures lent { Q.is_lent key.now → IsOk result }
     {
         let list = Encoding::of(self.alloc, key)?;
@@ -209,7 +209,7 @@ fn encoded<'a, Q: TrieKey>(
     bound: Bound<&'a Q>,
 ) -> Result<Bound<Encoding<'a>>, Memory>
     ensures list { IfOk result (λ b. b ≡ encoded_bound Q.encoding (bound_now bound.entry)) }
-    ensures free { IsLightBound (λ key. Q.is_light key ⊎ Q.is_lent key) (bound_now bound.entry)
+    ensures free { IsInlineBound (λ key. Q.is_inline key ⊎ Q.is_lent key) (bound_now bound.entry)
         → IsOk result }
 {
     match bound {

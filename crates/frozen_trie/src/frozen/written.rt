@@ -29,8 +29,8 @@ impl<K: TrieKey, V> FrozenTrie<K, V> {
     ///
     /// # Errors
     ///
-    /// `Absent`, exactly where no value is stored there; and memory for the encoding, which a light
-    /// key never meets. The frozen trie is as before then.
+    /// `Absent`, exactly where no value is stored there; and memory for the encoding, which an
+    /// inline key never meets. The frozen trie is as before then.
     pub fn find_mut<Q: TrieKey>(&mut self, key: &Q) -> Result<&mut V, FindError>
         ensures* writes_back { sem 𝓛
             (lends_stored_if_ok K.row V.row K.TrieKey.own K.PartialEq.own self.entry
@@ -39,7 +39,7 @@ impl<K: TrieKey, V> FrozenTrie<K, V> {
             ≡ Some value.now) }
         ensures absent { IfErr result (λ e. e ≡ FindError.Absent
             → value_at self.old (Q.encoding key.now) ≡ None) }
-        ensures light { Q.is_light key.now → IfErr result (λ e. e ≡ FindError.Absent) }
+        ensures inline { Q.is_inline key.now → IfErr result (λ e. e ≡ FindError.Absent) }
         ensures lent { Q.is_lent key.now → IfErr result (λ e. e ≡ FindError.Absent) }
     {
         let list = match Encoding::of(self.alloc, key) {
@@ -64,7 +64,7 @@ impl<K: TrieKey, V> FrozenTrie<K, V> {
             (Q.encoding key.now) result) }
         ensures value { IfOk result (λ found. option_copied_mut found
             ≡ value_at self.old (Q.encoding key.now)) }
-        ensures light { Q.is_light key.now → IsOk result }
+        ensures inline { Q.is_inline key.now → IsOk result }
         ensures lent { Q.is_lent key.now → IsOk result }
     {
         absent_as_none(self.find_mut(key))

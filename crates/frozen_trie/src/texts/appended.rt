@@ -20,7 +20,7 @@ impl<V> FrozenTexts<V> {
         FrozenTexts {
             codes: EncodedKeys::new(alloc),
             values: Vec::new(alloc),
-            up: Vec::new(alloc),
+            parents: Vec::new(alloc),
             alloc,
         }
     }
@@ -31,7 +31,7 @@ impl<V> FrozenTexts<V> {
     ///
     /// # Errors
     ///
-    /// Memory for the tables is refused: some 2^18 bytes and half a byte a pair, or 1.4 bytes a
+    /// An allocation for the tables fails: some 2^18 bytes and half a byte a pair, or 1.4 bytes a
     /// pair where keys are alike; and 5 bytes a pair more where keys take more than 4 bytes on
     /// average. Each call returns the same without them.
     pub fn finish(&mut self) -> Result<(), Memory>
@@ -39,7 +39,7 @@ impl<V> FrozenTexts<V> {
         ensures few { map.len self.old < 2 ^ 16 → IsOk result }
     {
         self.values.shrink_to_fit();
-        self.up.shrink_to_fit();
+        self.parents.shrink_to_fit();
         self.codes.finish(self.alloc)
     }
 
@@ -49,7 +49,7 @@ impl<V> FrozenTexts<V> {
     /// # Errors
     ///
     /// In this order: the map holds 2^32 - 1 pairs; the key doesn't come after all others; memory
-    /// is refused, or the keys together would take 2^31 bytes or more. The value comes back, and
+    /// fails, or the keys together would take 2^31 bytes or more. The value comes back, and
     /// the map is as before.
     pub fn push(&mut self, key: &[u8], value: V) -> Result<(), Refused<PushWhy, V>>
         ensures stored { OnOk result
@@ -57,7 +57,7 @@ impl<V> FrozenTexts<V> {
         ensures pairs { OnOk result
             (pairs_below self.new [] ≡ pairs_below self.old [] ++ (key.now, value) ∷ []) }
         ensures behind { OnOk result (IsBehindAll self.old (nibbles key.now)) }
-        ensures unsorted { IfErr result (λ e. e.why ≡ PushWhy.Unsorted
+        ensures unsorted { IfErr result (λ e. e.why ≡ PushWhy.OutOfOrder
             → IsBehindAll self.old (nibbles key.now) → ⊥) }
         ensures full { IfErr result (λ e. e.why ≡ PushWhy.Full
             → 2 ^ 32 - 1 ≤ map.len self.old) }
@@ -74,14 +74,14 @@ impl<V> FrozenTexts<V> {
         }
         let list = NibbleSlice::from_bytes(key);
         if !follows(&self.codes, &list) {
-            let why = PushWhy::Unsorted;
+            let why = PushWhy::OutOfOrder;
             return Err(Refused { why, back: value });
         }
         if self.values.reserve(1).is_err() {
             let why = PushWhy::Memory;
             return Err(Refused { why, back: value });
         }
-        match push_linked(&mut self.codes, &mut self.up, &list) {
+        match push_linked(&mut self.codes, &mut self.parents, &list) {
             Ok(()) => {
                 self.values.push_reserved(value);
                 Ok(())

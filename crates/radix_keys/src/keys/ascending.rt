@@ -110,21 +110,21 @@ impl KeySigned for isize {
 impl<T: KeySigned> TrieKey for Ascending<T> {
     ghost encoding = { λ w. nibbles (turned_bytes (T.KeyInt.bytes w)) };
 
-    ghost is_light = { λ w. IsShort (nibbles (turned_bytes (T.KeyInt.bytes w))) };
+    ghost is_inline = { λ w. IsShort (nibbles (turned_bytes (T.KeyInt.bytes w))) };
 
     ghost is_value = { λ w. T.KeyInt.is_value w };
 
     ghost distinct = { λ x y p q e.
         T.KeyInt.distinct x y p q (turned_bytes-injective _ _ (nibbles-injective _ _ e)) };
 
-    ghost light_is_short = { λ _ h. h };
+    ghost inline_is_short = { λ _ h. h };
 
     /// The nibbles of the bytes, the highest first, with the top bit of the first byte
     /// flipped. The smaller number has the smaller encoding.
     fn encode(&self, alloc: Global) -> Result<Nibblet, Memory>
         ensures ok { IfOk result (λ v. v ≡ nibbles (turned_bytes (T.KeyInt.bytes self.now))) }
         ensures value { OnOk result (T.KeyInt.is_value self.now) }
-        ensures light { IsShort (nibbles (turned_bytes (T.KeyInt.bytes self.now))) → IsOk result }
+        ensures inline { IsShort (nibbles (turned_bytes (T.KeyInt.bytes self.now))) → IsOk result }
         // It is the plain encoding with the top bit of its first nibble flipped.
         ensures turned { (x : T)
             → nibbles (turned_bytes (T.KeyInt.bytes x)) ≡ turned (T.TrieKey.encoding x) }

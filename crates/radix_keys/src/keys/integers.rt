@@ -16,13 +16,13 @@ use std::alloc::Global;
 impl TrieKey for u8 {
     ghost encoding = { unsigned_key w8 };
 
-    ghost is_light = { λ n. IsShort (unsigned_key w8 n) };
+    ghost is_inline = { λ n. IsShort (unsigned_key w8 n) };
 
     ghost is_value = { λ n. n < 2 ^ 8 };
 
     ghost distinct = { unsigned_key-distinct w8 };
 
-    ghost light_is_short = { λ _ h. h };
+    ghost inline_is_short = { λ _ h. h };
 
     /// The nibbles of the bytes, the highest first. The smaller number has the smaller encoding.
     ///
@@ -30,7 +30,7 @@ impl TrieKey for u8 {
     fn encode(&self, alloc: Global) -> Result<Nibblet, Memory>
         ensures ok { IfOk result (λ v. v ≡ unsigned_key w8 self.now) }
         ensures value { self.now < 2 ^ 8 }
-        ensures light { IsOk result }
+        ensures inline { IsOk result }
         ensures order { KeepsUnsignedOrder w8 }
     {
         encode_integer(alloc, self)
@@ -44,13 +44,13 @@ impl TrieKey for u8 {
 impl TrieKey for u16 {
     ghost encoding = { unsigned_key w16 };
 
-    ghost is_light = { λ n. IsShort (unsigned_key w16 n) };
+    ghost is_inline = { λ n. IsShort (unsigned_key w16 n) };
 
     ghost is_value = { λ n. n < 2 ^ 16 };
 
     ghost distinct = { unsigned_key-distinct w16 };
 
-    ghost light_is_short = { λ _ h. h };
+    ghost inline_is_short = { λ _ h. h };
 
     /// The nibbles of the bytes, the highest first. The smaller number has the smaller encoding.
     ///
@@ -58,7 +58,7 @@ impl TrieKey for u16 {
     fn encode(&self, alloc: Global) -> Result<Nibblet, Memory>
         ensures ok { IfOk result (λ v. v ≡ unsigned_key w16 self.now) }
         ensures value { self.now < 2 ^ 16 }
-        ensures light { IsOk result }
+        ensures inline { IsOk result }
         ensures order { KeepsUnsignedOrder w16 }
     {
         encode_integer(alloc, self)
@@ -72,13 +72,13 @@ impl TrieKey for u16 {
 impl TrieKey for u32 {
     ghost encoding = { unsigned_key w32 };
 
-    ghost is_light = { λ n. IsShort (unsigned_key w32 n) };
+    ghost is_inline = { λ n. IsShort (unsigned_key w32 n) };
 
     ghost is_value = { λ n. n < 2 ^ 32 };
 
     ghost distinct = { unsigned_key-distinct w32 };
 
-    ghost light_is_short = { λ _ h. h };
+    ghost inline_is_short = { λ _ h. h };
 
     /// The nibbles of the bytes, the highest first. The smaller number has the smaller encoding.
     ///
@@ -86,7 +86,7 @@ impl TrieKey for u32 {
     fn encode(&self, alloc: Global) -> Result<Nibblet, Memory>
         ensures ok { IfOk result (λ v. v ≡ unsigned_key w32 self.now) }
         ensures value { self.now < 2 ^ 32 }
-        ensures light { IsOk result }
+        ensures inline { IsOk result }
         ensures order { KeepsUnsignedOrder w32 }
     {
         encode_integer(alloc, self)
@@ -100,13 +100,13 @@ impl TrieKey for u32 {
 impl TrieKey for u64 {
     ghost encoding = { unsigned_key w64 };
 
-    ghost is_light = { λ n. IsShort (unsigned_key w64 n) };
+    ghost is_inline = { λ n. IsShort (unsigned_key w64 n) };
 
     ghost is_value = { λ n. n < 2 ^ 64 };
 
     ghost distinct = { unsigned_key-distinct w64 };
 
-    ghost light_is_short = { λ _ h. h };
+    ghost inline_is_short = { λ _ h. h };
 
     /// The nibbles of the bytes, the highest first. The smaller number has the smaller encoding.
     ///
@@ -114,7 +114,7 @@ impl TrieKey for u64 {
     fn encode(&self, alloc: Global) -> Result<Nibblet, Memory>
         ensures ok { IfOk result (λ v. v ≡ unsigned_key w64 self.now) }
         ensures value { self.now < 2 ^ 64 }
-        ensures light { IsOk result }
+        ensures inline { IsOk result }
         ensures order { KeepsUnsignedOrder w64 }
     {
         encode_integer(alloc, self)
@@ -128,13 +128,13 @@ impl TrieKey for u64 {
 impl TrieKey for usize {
     ghost encoding = { unsigned_key w64 };
 
-    ghost is_light = { λ n. IsShort (unsigned_key w64 n) };
+    ghost is_inline = { λ n. IsShort (unsigned_key w64 n) };
 
     ghost is_value = { λ n. n < 2 ^ 64 };
 
     ghost distinct = { unsigned_key-distinct w64 };
 
-    ghost light_is_short = { λ _ h. h };
+    ghost inline_is_short = { λ _ h. h };
 
     /// The nibbles of the bytes, the highest first. The smaller number has the smaller encoding.
     ///
@@ -142,7 +142,7 @@ impl TrieKey for usize {
     fn encode(&self, alloc: Global) -> Result<Nibblet, Memory>
         ensures ok { IfOk result (λ v. v ≡ unsigned_key w64 self.now) }
         ensures value { self.now < 2 ^ 64 }
-        ensures light { IsOk result }
+        ensures inline { IsOk result }
         ensures order { KeepsUnsignedOrder w64 }
     {
         encode_integer(alloc, self)
@@ -157,7 +157,7 @@ impl TrieKey for usize {
 pub(super) fn encode_integer<T: KeyInt>(alloc: Global, x: &T) -> Result<Nibblet, Memory>
     ensures ok { IfOk result (λ v. v ≡ nibbles (T.bytes x.now)) }
     ensures value { OnOk result (T.is_value x.now) }
-    ensures light { IsShort (nibbles (T.bytes x.now)) → IsOk result }
+    ensures inline { IsShort (nibbles (T.bytes x.now)) → IsOk result }
 {
     let mut bytes = SmallVec::new(alloc);
     push_bytes(&mut bytes, x)?;

@@ -147,8 +147,8 @@ impl<T: FixedWidth> FixedWidth for &T {
 impl<A: FixedWidth, B: FixedWidth> TrieKey for (A, B) {
     ghost encoding = { λ p. A.encoding p.0 ++ B.encoding p.1 };
 
-    ghost is_light = { λ p.
-        (A.is_light p.0 × B.is_light p.1) × IsShort (A.encoding p.0 ++ B.encoding p.1) };
+    ghost is_inline = { λ p.
+        (A.is_inline p.0 × B.is_inline p.1) × IsShort (A.encoding p.0 ++ B.encoding p.1) };
 
     ghost is_value = { λ p. A.is_value p.0 × B.is_value p.1 };
 
@@ -157,7 +157,7 @@ impl<A: FixedWidth, B: FixedWidth> TrieKey for (A, B) {
         (A.same_width x.0 p.0 ∙ sym (A.same_width y.0 q.0)) e in
         both-true (A.distinct x.0 y.0 p.0 q.0 parts.0) (B.distinct x.1 y.1 p.1 q.1 parts.1) };
 
-    ghost light_is_short = { λ _ h. h.1 };
+    ghost inline_is_short = { λ _ h. h.1 };
 
     /// The nibbles of the first key, and then those of the second. So the first keys decide the
     /// order of two pairs, and the second keys where the first ones have one encoding.
@@ -165,7 +165,7 @@ impl<A: FixedWidth, B: FixedWidth> TrieKey for (A, B) {
         ensures ok { IfOk result
             (λ v. v ≡ A.encoding self.now.0 ++ B.encoding self.now.1) }
         ensures value { OnOk result (A.is_value self.now.0 × B.is_value self.now.1) }
-        ensures light { (A.is_light self.now.0 × B.is_light self.now.1)
+        ensures inline { (A.is_inline self.now.0 × B.is_inline self.now.1)
             × IsShort (A.encoding self.now.0 ++ B.encoding self.now.1) → IsOk result }
         ensures order { KeepsPairOrder A.encoding B.encoding A.is_value }
     {

@@ -16,13 +16,13 @@ use std::alloc::Global;
 impl TrieKey for bool {
     ghost encoding = { λ b. nibbles (from_bool b ∷ []) };
 
-    ghost is_light = { λ _. Unit {0} };
+    ghost is_inline = { λ _. Unit {0} };
 
     ghost is_value = { λ _. Unit {0} };
 
     ghost distinct = { λ x y _ _ e. bool-distinct x y e };
 
-    ghost light_is_short = { λ _ _. lit≤ tt };
+    ghost inline_is_short = { λ _ _. lit≤ tt };
 
     /// The nibbles of one byte, 0 of false and 1 of true.
     ///
@@ -30,7 +30,7 @@ impl TrieKey for bool {
     fn encode(&self, alloc: Global) -> Result<Nibblet, Memory>
         ensures ok { IfOk result (λ v. v ≡ nibbles (from_bool self.now ∷ [])) }
         ensures value { OnOk result (⟦<bool as TrieKey>⟧.is_value self.now) }
-        ensures light { IsOk result }
+        ensures inline { IsOk result }
     {
         Nibblet::from_slice(alloc, &[u8::from(*self)])
     }
@@ -43,13 +43,13 @@ impl TrieKey for bool {
 impl TrieKey for char {
     ghost encoding = { unsigned_key w32 };
 
-    ghost is_light = { λ c. IsShort (unsigned_key w32 c) };
+    ghost is_inline = { λ c. IsShort (unsigned_key w32 c) };
 
     ghost is_value = { λ c. c < 2 ^ 32 };
 
     ghost distinct = { unsigned_key-distinct w32 };
 
-    ghost light_is_short = { λ _ h. h };
+    ghost inline_is_short = { λ _ h. h };
 
     /// The nibbles of the scalar value's four bytes, the highest first. The smaller scalar value
     /// has the smaller encoding.
@@ -58,7 +58,7 @@ impl TrieKey for char {
     fn encode(&self, alloc: Global) -> Result<Nibblet, Memory>
         ensures ok { IfOk result (λ v. v ≡ unsigned_key w32 self.now) }
         ensures value { self.now < 2 ^ 32 }
-        ensures light { IsOk result }
+        ensures inline { IsOk result }
         ensures order { KeepsUnsignedOrder w32 }
     {
         encode_integer(alloc, &u32::from(*self))
@@ -72,7 +72,7 @@ impl TrieKey for char {
 impl<const N: usize> TrieKey for [u8; N] {
     ghost encoding = { nibbles };
 
-    ghost is_light = { λ bytes. IsShort (nibbles bytes) };
+    ghost is_inline = { λ bytes. IsShort (nibbles bytes) };
 
     ghost is_lent = { λ _. Unit {0} };
 
@@ -80,7 +80,7 @@ impl<const N: usize> TrieKey for [u8; N] {
 
     ghost distinct = { λ x y _ _ e. bytes-distinct x y e };
 
-    ghost light_is_short = { λ _ h. h };
+    ghost inline_is_short = { λ _ h. h };
 
     /// The nibbles of the bytes. The smaller array has the smaller encoding.
     ///
@@ -88,7 +88,7 @@ impl<const N: usize> TrieKey for [u8; N] {
     fn encode(&self, alloc: Global) -> Result<Nibblet, Memory>
         ensures ok { IfOk result (λ v. v ≡ nibbles self.now) }
         ensures value { OnOk result (length self.now ≡ N) }
-        ensures light { IsShort (nibbles self.now) → IsOk result }
+        ensures inline { IsShort (nibbles self.now) → IsOk result }
         ensures narrow { N ≤ 16 → IsOk result }
         ensures order { KeepsByteOrder }
     {

@@ -15,13 +15,13 @@ use std::alloc::Global;
 impl TrieKey for i8 {
     ghost encoding = { signed_key w8 };
 
-    ghost is_light = { λ n. IsShort (signed_key w8 n) };
+    ghost is_inline = { λ n. IsShort (signed_key w8 n) };
 
     ghost is_value = { FitsSigned w8 };
 
     ghost distinct = { signed_key-distinct w8 refl };
 
-    ghost light_is_short = { λ _ h. h };
+    ghost inline_is_short = { λ _ h. h };
 
     /// The nibbles of the bytes in two's complement, the highest first. Encodings rise from 0
     /// upward, and then over the negative numbers upward.
@@ -30,7 +30,7 @@ impl TrieKey for i8 {
     fn encode(&self, alloc: Global) -> Result<Nibblet, Memory>
         ensures ok { IfOk result (λ v. v ≡ signed_key w8 self.now) }
         ensures value { FitsSigned w8 self.now }
-        ensures light { IsOk result }
+        ensures inline { IsOk result }
         ensures order { KeepsSignedOrder w8 }
     {
         encode_integer(alloc, self)
@@ -44,13 +44,13 @@ impl TrieKey for i8 {
 impl TrieKey for i16 {
     ghost encoding = { signed_key w16 };
 
-    ghost is_light = { λ n. IsShort (signed_key w16 n) };
+    ghost is_inline = { λ n. IsShort (signed_key w16 n) };
 
     ghost is_value = { FitsSigned w16 };
 
     ghost distinct = { signed_key-distinct w16 refl };
 
-    ghost light_is_short = { λ _ h. h };
+    ghost inline_is_short = { λ _ h. h };
 
     /// The nibbles of the bytes in two's complement, the highest first. Encodings rise from 0
     /// upward, and then over the negative numbers upward.
@@ -59,7 +59,7 @@ impl TrieKey for i16 {
     fn encode(&self, alloc: Global) -> Result<Nibblet, Memory>
         ensures ok { IfOk result (λ v. v ≡ signed_key w16 self.now) }
         ensures value { FitsSigned w16 self.now }
-        ensures light { IsOk result }
+        ensures inline { IsOk result }
         ensures order { KeepsSignedOrder w16 }
     {
         encode_integer(alloc, self)
@@ -73,13 +73,13 @@ impl TrieKey for i16 {
 impl TrieKey for i32 {
     ghost encoding = { signed_key w32 };
 
-    ghost is_light = { λ n. IsShort (signed_key w32 n) };
+    ghost is_inline = { λ n. IsShort (signed_key w32 n) };
 
     ghost is_value = { FitsSigned w32 };
 
     ghost distinct = { signed_key-distinct w32 refl };
 
-    ghost light_is_short = { λ _ h. h };
+    ghost inline_is_short = { λ _ h. h };
 
     /// The nibbles of the bytes in two's complement, the highest first. Encodings rise from 0
     /// upward, and then over the negative numbers upward.
@@ -88,7 +88,7 @@ impl TrieKey for i32 {
     fn encode(&self, alloc: Global) -> Result<Nibblet, Memory>
         ensures ok { IfOk result (λ v. v ≡ signed_key w32 self.now) }
         ensures value { FitsSigned w32 self.now }
-        ensures light { IsOk result }
+        ensures inline { IsOk result }
         ensures order { KeepsSignedOrder w32 }
     {
         encode_integer(alloc, self)
@@ -102,13 +102,13 @@ impl TrieKey for i32 {
 impl TrieKey for i64 {
     ghost encoding = { signed_key w64 };
 
-    ghost is_light = { λ n. IsShort (signed_key w64 n) };
+    ghost is_inline = { λ n. IsShort (signed_key w64 n) };
 
     ghost is_value = { FitsSigned w64 };
 
     ghost distinct = { signed_key-distinct w64 refl };
 
-    ghost light_is_short = { λ _ h. h };
+    ghost inline_is_short = { λ _ h. h };
 
     /// The nibbles of the bytes in two's complement, the highest first. Encodings rise from 0
     /// upward, and then over the negative numbers upward.
@@ -117,7 +117,7 @@ impl TrieKey for i64 {
     fn encode(&self, alloc: Global) -> Result<Nibblet, Memory>
         ensures ok { IfOk result (λ v. v ≡ signed_key w64 self.now) }
         ensures value { FitsSigned w64 self.now }
-        ensures light { IsOk result }
+        ensures inline { IsOk result }
         ensures order { KeepsSignedOrder w64 }
     {
         encode_integer(alloc, self)
@@ -131,13 +131,13 @@ impl TrieKey for i64 {
 impl TrieKey for isize {
     ghost encoding = { signed_key w64 };
 
-    ghost is_light = { λ n. IsShort (signed_key w64 n) };
+    ghost is_inline = { λ n. IsShort (signed_key w64 n) };
 
     ghost is_value = { FitsSigned w64 };
 
     ghost distinct = { signed_key-distinct w64 refl };
 
-    ghost light_is_short = { λ _ h. h };
+    ghost inline_is_short = { λ _ h. h };
 
     /// The nibbles of the bytes in two's complement, the highest first. Encodings rise from 0
     /// upward, and then over the negative numbers upward.
@@ -146,7 +146,7 @@ impl TrieKey for isize {
     fn encode(&self, alloc: Global) -> Result<Nibblet, Memory>
         ensures ok { IfOk result (λ v. v ≡ signed_key w64 self.now) }
         ensures value { FitsSigned w64 self.now }
-        ensures light { IsOk result }
+        ensures inline { IsOk result }
         ensures order { KeepsSignedOrder w64 }
     {
         encode_integer(alloc, self)

@@ -60,13 +60,13 @@ impl KeyInt for i128 {
 impl TrieKey for u128 {
     ghost encoding = { unsigned_key w128 };
 
-    ghost is_light = { λ n. IsShort (unsigned_key w128 n) };
+    ghost is_inline = { λ n. IsShort (unsigned_key w128 n) };
 
     ghost is_value = { λ n. n < 2 ^ 128 };
 
     ghost distinct = { unsigned_key-distinct w128 };
 
-    ghost light_is_short = { λ _ h. h };
+    ghost inline_is_short = { λ _ h. h };
 
     /// The nibbles of the bytes, the highest first. The smaller number has the smaller encoding.
     ///
@@ -74,7 +74,7 @@ impl TrieKey for u128 {
     fn encode(&self, alloc: Global) -> Result<Nibblet, Memory>
         ensures ok { IfOk result (λ v. v ≡ unsigned_key w128 self.now) }
         ensures value { self.now < 2 ^ 128 }
-        ensures light { IsOk result }
+        ensures inline { IsOk result }
         ensures order { KeepsUnsignedOrder w128 }
     {
         encode_integer(alloc, self)
@@ -88,13 +88,13 @@ impl TrieKey for u128 {
 impl TrieKey for i128 {
     ghost encoding = { signed_key w128 };
 
-    ghost is_light = { λ n. IsShort (signed_key w128 n) };
+    ghost is_inline = { λ n. IsShort (signed_key w128 n) };
 
     ghost is_value = { FitsSigned w128 };
 
     ghost distinct = { signed_key-distinct w128 refl };
 
-    ghost light_is_short = { λ _ h. h };
+    ghost inline_is_short = { λ _ h. h };
 
     /// The nibbles of the bytes in two's complement, the highest first. Encodings rise from 0
     /// upward, and then over the negative numbers upward.
@@ -103,7 +103,7 @@ impl TrieKey for i128 {
     fn encode(&self, alloc: Global) -> Result<Nibblet, Memory>
         ensures ok { IfOk result (λ v. v ≡ signed_key w128 self.now) }
         ensures value { FitsSigned w128 self.now }
-        ensures light { IsOk result }
+        ensures inline { IsOk result }
         ensures order { KeepsSignedOrder w128 }
     {
         encode_integer(alloc, self)

@@ -14,13 +14,13 @@ use std::alloc::Global;
 impl<T: KeyInt> TrieKey for BigEndian<T> {
     ghost encoding = { λ w. nibbles (T.bytes w) };
 
-    ghost is_light = { λ w. IsShort (nibbles (T.bytes w)) };
+    ghost is_inline = { λ w. IsShort (nibbles (T.bytes w)) };
 
     ghost is_value = { λ w. T.is_value w };
 
     ghost distinct = { λ x y p q e. T.distinct x y p q (nibbles-injective _ _ e) };
 
-    ghost light_is_short = { λ _ h. h };
+    ghost inline_is_short = { λ _ h. h };
 
     fn encode(&self, alloc: Global) -> Result<Nibblet, Memory> {
         encode_integer(alloc, &self.value())
@@ -34,14 +34,14 @@ impl<T: KeyInt> TrieKey for BigEndian<T> {
 impl<T: KeyInt> TrieKey for LittleEndian<T> {
     ghost encoding = { λ w. nibbles (reverse (T.bytes w)) };
 
-    ghost is_light = { λ w. IsShort (nibbles (reverse (T.bytes w))) };
+    ghost is_inline = { λ w. IsShort (nibbles (reverse (T.bytes w))) };
 
     ghost is_value = { λ w. T.is_value w };
 
     ghost distinct = { λ x y p q e.
         T.distinct x y p q (reverse-injective _ _ (nibbles-injective _ _ e)) };
 
-    ghost light_is_short = { λ _ h. h };
+    ghost inline_is_short = { λ _ h. h };
 
     fn encode(&self, alloc: Global) -> Result<Nibblet, Memory> {
         let value = self.value();
@@ -60,7 +60,7 @@ impl<T: KeyInt> TrieKey for LittleEndian<T> {
 impl<T: KeyInt> TrieKey for Vec<T> {
     ghost encoding = { λ v. nibbles (flat_map T.bytes v.items) };
 
-    ghost is_light = { λ v. IsShort (nibbles (flat_map T.bytes v.items)) };
+    ghost is_inline = { λ v. IsShort (nibbles (flat_map T.bytes v.items)) };
 
     ghost is_value = { λ v. All T.is_value v.items };
 
@@ -68,7 +68,7 @@ impl<T: KeyInt> TrieKey for Vec<T> {
         list-distinct T.bytes T.eq T.is_value T.WIDTH T.width_positive T.bytes_len T.distinct
         x.items y.items p q e };
 
-    ghost light_is_short = { λ _ h. h };
+    ghost inline_is_short = { λ _ h. h };
 
     fn encode(&self, alloc: Global) -> Result<Nibblet, Memory> {
         let mut out = SmallVec::new(alloc);

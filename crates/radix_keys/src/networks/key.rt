@@ -16,14 +16,14 @@ use std::alloc::Global;
 impl<A: Address> TrieKey for Network<A> {
     ghost encoding = { λ n. first_bits A.BITS (A.number n.base) n.bits };
 
-    ghost is_light = { λ n. IsShort (first_bits A.BITS (A.number n.base) n.bits) };
+    ghost is_inline = { λ n. IsShort (first_bits A.BITS (A.number n.base) n.bits) };
 
     ghost is_value = { λ n. IsBase A.BITS n.bits (A.number n.base) };
 
     ghost distinct = { λ x y p q e.
         first_bits-distinct A.BITS (A.number x.base) x.bits (A.number y.base) y.bits p q e };
 
-    ghost light_is_short = { λ _ h. h };
+    ghost inline_is_short = { λ _ h. h };
 
     /// The shared bits of the addresses, a nibble for each. The smaller network has the smaller
     /// encoding.
@@ -31,7 +31,7 @@ impl<A: Address> TrieKey for Network<A> {
         ensures ok { IfOk result
             (λ v. v ≡ first_bits A.BITS (A.number self.now.base) self.now.bits) }
         ensures value { OnOk result (IsBase A.BITS self.now.bits (A.number self.now.base)) }
-        ensures light { IsShort (first_bits A.BITS (A.number self.now.base) self.now.bits)
+        ensures inline { IsShort (first_bits A.BITS (A.number self.now.base) self.now.bits)
             → IsOk result }
         ensures order { KeepsNetworkOrder A.BITS }
     {

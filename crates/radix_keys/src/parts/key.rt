@@ -13,7 +13,7 @@ use std::alloc::Global;
 impl TrieKey for Parts {
     ghost encoding = { λ parts. nibbles (part_bytes parts) };
 
-    ghost is_light = { λ parts. IsShort (nibbles (part_bytes parts)) };
+    ghost is_inline = { λ parts. IsShort (nibbles (part_bytes parts)) };
 
     ghost is_lent = { λ _. Unit {0} };
 
@@ -21,14 +21,14 @@ impl TrieKey for Parts {
 
     ghost distinct = { parts-distinct };
 
-    ghost light_is_short = { λ _ h. h };
+    ghost inline_is_short = { λ _ h. h };
 
     /// The nibbles of each part's bytes, and of a 0 behind them. The smaller list has the smaller
     /// encoding.
     fn encode(&self, alloc: Global) -> Result<Nibblet, Memory>
         ensures ok { IfOk result (λ v. v ≡ nibbles (part_bytes self.now)) }
         ensures value { AreParts self.now }
-        ensures light { IsShort (nibbles (part_bytes self.now)) → IsOk result }
+        ensures inline { IsShort (nibbles (part_bytes self.now)) → IsOk result }
         ensures order { KeepsPartsOrder }
     {
         Nibblet::from_slice(alloc, self.bytes.as_slice())

@@ -12,7 +12,7 @@ use crate::insertion::attach::make_split;
 use crate::search::step::agreed;
 use crate::trie_node::TrieNode;
 use crate::trie_node::links::{link, lower_beside};
-use crate::trie_node::mask::place;
+use crate::trie_node::mask::child_index;
 use radix_keys::Nibblet;
 use std::alloc::Global;
 
@@ -53,7 +53,7 @@ pub fn graft<K: Drop, V: Drop>(
     if depth == list.len() {
         return Err(Ungrafted::Occupied(branch));
     }
-    match place(node.mask, list.get(depth)) {
+    match child_index(node.mask, list.get(depth)) {
         Ok(i) => {
             let child = &mut node.children[i];
             let agreement = agreed(&child.fragment, list, depth);

@@ -9,7 +9,7 @@ ghost use Rattle.radix_nodes.specs.Nodes.{tree_of, fragment_of, EditOutcome, Set
 use crate::insertion::attach::{add_leaf, set_pair, split_and_insert};
 use crate::insertion::change::Change;
 use crate::search::step::agreed;
-use crate::trie_node::mask::place;
+use crate::trie_node::mask::child_index;
 use crate::trie_node::{KeyValue, TrieNode};
 use radix_keys::{Memory, Nibblet};
 use std::alloc::Global;
@@ -58,7 +58,7 @@ fn insert_below<K: Drop, V: Drop>(
     if depth == list.len() {
         return set_pair(&mut node.pair, alloc, change);
     }
-    match place(node.mask, list.get(depth)) {
+    match child_index(node.mask, list.get(depth)) {
         Ok(i) => {
             let child = &mut node.children[i];
             let n = agreed(&child.fragment, list, depth).same;

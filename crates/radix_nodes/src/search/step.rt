@@ -9,7 +9,7 @@ ghost use Rattle.radix_nodes.specs.Nodes.{tree_of, IsMet, IsStep};
 
 use crate::search::compare::{Agreement, compare};
 use crate::trie_node::TrieNode;
-use crate::trie_node::mask::place;
+use crate::trie_node::mask::child_index;
 use radix_keys::Nibblet;
 
 /// How far a fragment that begins with the list's next nibble agrees with the list from `depth` on.
@@ -40,7 +40,7 @@ pub fn meet<K, V>(node: &TrieNode<K, V>, list: &Nibblet, depth: usize) -> Option
         (bit_of (slice_index list.now depth) (firsts (tree_of node.now).children) ≡ 0)
         (λ met. IsMet node.now list.now depth met.0 met.1) }
 {
-    match place(node.mask, list.get(depth)) {
+    match child_index(node.mask, list.get(depth)) {
         Ok(i) => {
             let agreement = agreed(&node.children[i].fragment, list, depth);
             Some((i, agreement))

@@ -3,7 +3,7 @@ ghost use Rattle.std.specs.Prelude.{◌≡◌, ◌≢◌, ◌<◌, ◌∷◌, []
 ghost use Rattle.masked_tree.specs.Mask.{IsMask, IsRisingFrom, IsPlaceOf, marked, cleared};
 
 /// Where the child that begins with a nibble stands, or else would stand.
-pub fn place(mask: u16, nibble: u8) -> Result<usize, usize>
+pub fn child_index(mask: u16, nibble: u8) -> Result<usize, usize>
     requires { nibble < 16 }
     ensures { (xs : List ℕ) → IsMask mask xs → IsRisingFrom 0 xs
         → IsPlaceOf nibble xs result }

@@ -47,7 +47,7 @@ fn push_half<K, L: CopyOf<K>, V: Clone>(
         → AreChildCopies (IsKeyValueCopy L.is_copy V.is_clone) k (children_of copies.old.items)
         → AreChildCopies (IsKeyValueCopy L.is_copy V.is_clone)
         (append k (turned_half high (tree_of node.now).children)) (children_of copies.new.items)) }
-    ensures light { (tree_of node.now).children ≡ none → IsOk result }
+    ensures inline { (tree_of node.now).children ≡ none → IsOk result }
 {
     for i in 0..node.children.len() {
         let child = &node.children[i];
@@ -72,7 +72,7 @@ pub fn turned_copy<K, L: CopyOf<K>, V: Clone>(
     requires { IsTreePlaced (tree_of root.now) }
     ensures copy { IfOk result (λ copy. IsCopy (IsKeyValueCopy L.is_copy V.is_clone)
         (turned_root (tree_of root.now)) (tree_of copy)) }
-    ensures light { (tree_of root.now).pair ≡ None → (tree_of root.now).children ≡ none
+    ensures inline { (tree_of root.now).pair ≡ None → (tree_of root.now).children ≡ none
         → IsShort (fragment_of root.now) → IsOk result }
 {
     let mut children = Vec::with_capacity(alloc, root.children.len())?;

@@ -13,7 +13,7 @@ use std::mem;
 // A node that holds nothing, with room for as many children as a node has.
 fn blank_alone<K, V>(node: &TrieNode<K, V>, alloc: Global) -> Result<TrieNode<K, V>, Memory>
     ensures none { IfOk result (λ blank. (out_of blank).children.items ≡ []) }
-    ensures light { (tree_of node.now).children ≡ none → IsOk result }
+    ensures inline { (tree_of node.now).children ≡ none → IsOk result }
 {
     let children = Vec::with_capacity(alloc, node.children.len())?;
     Ok(TrieNode {
@@ -48,7 +48,7 @@ fn blank_children<K: Drop, V: Drop>(
     requires { blanks.old.items ≡ [] }
     ensures shape { OnOk result
         (HaveSameShape (tree_of node.now).children (children_of blanks.new.items)) }
-    ensures light { (tree_of node.now).children ≡ none → IsOk result }
+    ensures inline { (tree_of node.now).children ≡ none → IsOk result }
 {
     for i in 0..node.children.len() {
         let child = &node.children[i];
@@ -91,7 +91,7 @@ fn move_contents<K, V>(from: &mut TrieNode<K, V>, into: &mut TrieNode<K, V>)
 /// is moved. For a root without children none is allocated.
 pub fn lay_anew<K: Drop, V: Drop>(root: &mut TrieNode<K, V>, alloc: Global) -> Result<(), Memory>
     ensures same { tree_of root.new ≡ tree_of root.old }
-    ensures light { (tree_of root.old).children ≡ none → IsOk result }
+    ensures inline { (tree_of root.old).children ≡ none → IsOk result }
 {
     let mut blank = blank_alone(root, alloc)?;
     blank_children(root, alloc, &mut blank.children)?;

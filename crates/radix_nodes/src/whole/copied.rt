@@ -44,7 +44,7 @@ pub(super) fn copied_pair<K, L: CopyOf<K>, V: Clone>(
 ) -> Result<Option<Box<KeyValue<L, V>>>, Memory>
     ensures copy { IfOk result (λ copy. IsPairCopy (IsKeyValueCopy L.is_copy V.is_clone)
         (unboxed pair.now) (unboxed copy)) }
-    ensures light { unboxed pair.now ≡ None → IsOk result }
+    ensures inline { unboxed pair.now ≡ None → IsOk result }
 {
     match pair {
         Some(b) => {
@@ -64,7 +64,7 @@ fn copied_alone<K, L: CopyOf<K>, V: Clone>(
     ensures copy { IfOk result (λ copy. IsBareCopy (IsKeyValueCopy L.is_copy V.is_clone)
         (out_of node.now) (out_of copy)) }
     ensures none { IfOk result (λ copy. (out_of copy).children.items ≡ []) }
-    ensures light { (tree_of node.now).pair ≡ None → (tree_of node.now).children ≡ none
+    ensures inline { (tree_of node.now).pair ≡ None → (tree_of node.now).children ≡ none
         → IsShort (fragment_of node.now) → IsOk result }
 {
     Ok(TrieNode {
@@ -114,7 +114,7 @@ fn copy_children<K, L: CopyOf<K>, V: Clone>(
     requires { copies.old.items ≡ [] }
     ensures copy { OnOk result (AreChildCopies (IsKeyValueCopy L.is_copy V.is_clone)
         (tree_of node.now).children (children_of copies.new.items)) }
-    ensures light { (tree_of node.now).children ≡ none → IsOk result }
+    ensures inline { (tree_of node.now).children ≡ none → IsOk result }
 {
     for i in 0..node.children.len() {
         let child = &node.children[i];
@@ -134,7 +134,7 @@ pub fn copied<K, L: CopyOf<K>, V: Clone>(
 ) -> Result<TrieNode<L, V>, Memory>
     ensures copy { IfOk result (λ copy. IsCopy (IsKeyValueCopy L.is_copy V.is_clone)
         (tree_of node.now) (tree_of copy)) }
-    ensures light { (tree_of node.now).pair ≡ None → (tree_of node.now).children ≡ none
+    ensures inline { (tree_of node.now).pair ≡ None → (tree_of node.now).children ≡ none
         → IsShort (fragment_of node.now) → IsOk result }
 {
     let mut copy = copied_alone(node, alloc)?;

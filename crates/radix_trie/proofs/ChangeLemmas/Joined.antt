@@ -30,7 +30,7 @@ use Rattle.radix_trie.proofs.ChangeLemmas.Prunings.{nothing_stored_below}
 use Rattle.radix_trie.proofs.LawLemmas.Parts.{stored-part}
 use Rattle.radix_trie.proofs.PathLemmas.NodesBelow.{filter-map}
 use Rattle.radix_trie.proofs.PathLemmas.Parts.{entries_under-free}
-use Rattle.radix_trie.proofs.PathLemmas.Places.{below-nil, no_pairs_below}
+use Rattle.radix_trie.proofs.PathLemmas.Loci.{below-nil, no_pairs_below}
 use Rattle.radix_trie.proofs.WalkLemmas.Keyed.{keyed_entries}
 use Rattle.radix_trie.proofs.RootLemmas.Shown.{row_of, entries-map_of, entries_of-root, entries_rise}
 

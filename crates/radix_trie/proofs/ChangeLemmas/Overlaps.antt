@@ -22,7 +22,7 @@ use Rattle.radix_trie.specs.declared.error.GraftWhy.{GraftWhy}
 use Rattle.radix_trie.specs.declared.error.GraftWhy.TheVariants as grafting
 use Rattle.radix_trie.proofs.ChangeLemmas.Joined.{over}
 use Rattle.radix_trie.proofs.LawLemmas.Parts.{stored-part}
-use Rattle.radix_trie.proofs.PathLemmas.Places.{below-nil}
+use Rattle.radix_trie.proofs.PathLemmas.Loci.{below-nil}
 use Rattle.radix_trie.proofs.RootLemmas.Held.{pair_of-node}
 use Rattle.radix_trie.proofs.RootLemmas.Paths.{node_point}
 use Rattle.radix_trie.proofs.RootLemmas.Shown.{entries_of-root, kept_root, row_of}

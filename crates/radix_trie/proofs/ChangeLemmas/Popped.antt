@@ -24,7 +24,7 @@ use Rattle.radix_trie.specs.Roots.{map_of, IsKept, IsRoot}
 use Rattle.radix_trie.specs.Views.{pairs_below}
 use Rattle.radix_trie.proofs.ChangeLemmas.Changes.{get-before_cut}
 use Rattle.radix_trie.proofs.PathLemmas.Joins.{short_joins_fit}
-use Rattle.radix_trie.proofs.PathLemmas.Places.{below-nil}
+use Rattle.radix_trie.proofs.PathLemmas.Loci.{below-nil}
 use Rattle.radix_trie.proofs.RootLemmas.Held.{entries-root, held_stored, pair_of-node}
 use Rattle.radix_trie.proofs.RootLemmas.Shown.{row_of, kept_root}
 use Rattle.radix_trie.proofs.WalkLemmas.Keyed.{keyed_get}

@@ -26,7 +26,7 @@ use Rattle.radix_trie.proofs.ChangeLemmas.Changes.{run_change, length-run_change
 use Rattle.radix_trie.proofs.PathLemmas.Parts.{entries_under-node}
 use Rattle.radix_trie.proofs.RootLemmas.Paths.{node_point}
 use Rattle.radix_trie.proofs.PathLemmas.NodesBelow.{filter-map, path_leads, pairs_in-node, walk-no_path}
-use Rattle.radix_trie.proofs.PathLemmas.Places.{below-nil}
+use Rattle.radix_trie.proofs.PathLemmas.Loci.{below-nil}
 use Rattle.radix_trie.proofs.RootLemmas.Shown.{row_of, entries_of-root, entries_rise, kept_root, len-map_of_kept}
 
 -- where nothing is below a list none is stored there

@@ -41,9 +41,9 @@ module _ {V : Type 0} where
 
   -- where a refusal can be none but `Absent`, there is none
   ok_as_none : (L : Type 0) (u : Result (MutBor V) FindError) → (L → IfErr u (λ e. e ≡ find.Absent)) → L → IsOk (absent_as_none u)
-  ok_as_none L (Ok x) light l = refl
-  ok_as_none L (Err find.Memory) light l = absurd (memory_is_not_absent (light l))
-  ok_as_none L (Err find.Absent) light l = refl
+  ok_as_none L (Ok x) inline l = refl
+  ok_as_none L (Err find.Memory) inline l = absurd (memory_is_not_absent (inline l))
+  ok_as_none L (Err find.Absent) inline l = refl
 
   -- where one of Ls holds, a refusal can be none but `Absent`
   abbrev pub refused_as_absent : List (Type 0) → Result (MutBor V) FindError → List (Type 0)
@@ -94,7 +94,7 @@ outs = record { long = 2; long_ok = tt; short = named 0; short_ok = tt } ∷ rec
 
 -- R: what is looked in; Q: the type of the key; of it, value: what it holds at a key, put: it with a value there, lights: where nothing is refused for memory
 module _ {M : Type 1} {𝓤 : Ura M} (𝓛 : Logic 𝓤) (𝓜 : Model 𝓤 𝓛.H) (𝓡 : Running 𝓤 𝓛.H 𝓜) (K V Q R : RattleType) (LV : Laws V)
-    (value : R.Denot → Q.Denot → Option V.Denot) (put : R.Denot → Q.Denot → V.Denot → R.Denot) (lights : Q.Denot → List (Type 0)) where
+    (value : R.Denot → Q.Denot → Option V.Denot) (put : R.Denot → Q.Denot → V.Denot → R.Denot) (inlines : Q.Denot → List (Type 0)) where
   open 𝓛 use {H}
 
   abbrev Ref : Lft → RattleType
@@ -116,13 +116,13 @@ module _ {M : Type 1} {𝓤 : Ura M} (𝓛 : Logic 𝓤) (𝓜 : Model 𝓤 𝓛
   A κs r e u = IfOk u (λ x. value r.now e ≡ Some x.now)
 
   abbrev As : Says 𝓛 outs K V Q R Found (List (Type 0))
-  As κs r e u = IfErr u (λ x. x ≡ find.Absent → value r.now e ≡ None) ∷ refused_as_absent (lights e) u
+  As κs r e u = IfErr u (λ x. x ≡ find.Absent → value r.now e ≡ None) ∷ refused_as_absent (inlines e) u
 
   abbrev B : Says 𝓛 outs K V Q R Told (Type 0)
   B κs r e u = IfOk u (λ found. option_copied_mut found ≡ value r.now e)
 
   abbrev Bs : Says 𝓛 outs K V Q R Told (List (Type 0))
-  Bs κs r e u = not_refused (lights e) u
+  Bs κs r e u = not_refused (inlines e) u
 
   -- what finds the value
   abbrev finding : Clauses 𝓤 (ends 𝓛 outs K V Q R Found)
@@ -161,7 +161,7 @@ module _ {M : Type 1} {𝓤 : Ura M} (𝓛 : Logic 𝓤) (𝓜 : Model 𝓤 𝓛
       (λ κs qs. apart 𝓛 (flft κs.0 qs.0) (flft κs.1.0 qs.1.0) (flft κs.1.1.0 qs.1.1.0) (flft κs.1.1.1.0 qs.1.1.1.0) (flft κs.1.1.1.1.0 qs.1.1.1.1.0))
       (λ κs qs. whole 𝓛 (flft κs.0 qs.0) (flft κs.1.0 qs.1.0) (flft κs.1.1.0 qs.1.1.0) (flft κs.1.1.1.0 qs.1.1.1.0) (flft κs.1.1.1.1.0 qs.1.1.1.1.0))
       (λ κs r e u. same_loan 𝓛 R (param 1 V) r (put r.now e) u)
-      (λ κs r e u s. all_as_none (IfErr u (λ x. x ≡ find.Absent → value r.now e ≡ None)) (B κs r e (absent_as_none u)) (lights e) u (found_as_none (value r.now e) u s.0) s.1)
+      (λ κs r e u s. all_as_none (IfErr u (λ x. x ≡ find.Absent → value r.now e ≡ None)) (B κs r e (absent_as_none u)) (inlines e) u (found_as_none (value r.now e) u s.0) s.1)
       (λ κs u. Lasts says (κs.0, (κs.1.1.1.0, tt)) (u, tt)) (λ κs u. lasts says (κs.0, (κs.1.1.1.0, tt)) (u, tt))
       bs (layout (Told ([], ([], ([], ([], ([], tt))))))) (layout (Found ([], ([], ([], ([], ([], tt))))))) τ' τr (layout R) τq f find_at say_at closed (λ κs. refl) alike (λ κs. refl) finds
       (λ κs qs bounds inK inV u v. via 𝓤 _ (given 𝓛 _ (κs.1.1.1.0 ⊑ V.lives) [] inV)

@@ -13,7 +13,7 @@ use Rattle.radix_nodes.specs.Pairs.{pair_of}
 use Rattle.radix_nodes.specs.Nodes.{tree_of, fragment_of, on_way, IsDeepest}
 use Rattle.radix_nodes.specs.Searches.{FindsDeepestPair}
 use Rattle.radix_nodes.proofs.NodeLemmas.Nodes.{fragment-tree_of}
-use Rattle.radix_trie.specs.Places.{IsNodeOf}
+use Rattle.radix_trie.specs.Loci.{IsNodeOf}
 use Rattle.radix_trie.specs.Roots.{IsRoot}
 use Rattle.radix_trie.specs.Views.{IsPairAbove}
 use Rattle.radix_trie.proofs.RootLemmas.Held.{pair_of-node}

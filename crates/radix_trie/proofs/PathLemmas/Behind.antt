@@ -17,9 +17,9 @@ use Rattle.nibble_map.proofs.MapLemmas.Below.{get-below}
 use Rattle.radix_nodes.specs.declared.trie_node.TrieNode.{TrieNode}
 use Rattle.radix_nodes.specs.Nodes.{tree_of}
 use Rattle.radix_trie.specs.Descents.{map_behind_path, rows_behind}
-use Rattle.radix_trie.specs.Places.{IsPlace}
+use Rattle.radix_trie.specs.Loci.{IsLocus}
 use Rattle.radix_trie.proofs.PathLemmas.NodesBelow.{walk-no_path, walk-node}
-use Rattle.radix_trie.proofs.PathLemmas.Places.{nearest_found, no_path_found}
+use Rattle.radix_trie.proofs.PathLemmas.Loci.{nearest_found, no_path_found}
 use Rattle.radix_trie.proofs.RootLemmas.Shown.{row_of}
 
 -- lists behind the same list compare as they do
@@ -61,29 +61,29 @@ module _ {P : Type 0} (p : List ℕ) where
 
 module _ {K V : Type 0} (enc : K → List ℕ) (m : PairMap K V) (p : List ℕ) where
   -- the rows behind the path, with it in front, are the walk below it
-  walk-rows_behind : (found : Option (Bor (TrieNode K V) × ℕ)) → IsPlace enc m p found → walk m p ≡ each (under p) (rows_behind found)
-  walk-rows_behind None place = walk-no_path enc m place.0 place.1 p (no_path_found enc m p None place refl)
-  walk-rows_behind (Some r) place =
-      let near = nearest_found enc m p (Some r) place r.0 r.1 refl in
+  walk-rows_behind : (found : Option (Bor (TrieNode K V) × ℕ)) → IsLocus enc m p found → walk m p ≡ each (under p) (rows_behind found)
+  walk-rows_behind None locus = walk-no_path enc m locus.0 locus.1 p (no_path_found enc m p None locus refl)
+  walk-rows_behind (Some r) locus =
+      let near = nearest_found enc m p (Some r) locus r.0 r.1 refl in
       let u = tree_of r.0.now in
       let rest = drop r.1 u.fragment in
-      walk-node enc m place.0 place.1 p (p ++ rest) u near.node near.shortest
+      walk-node enc m locus.0 locus.1 p (p ++ rest) u near.node near.shortest
       ∙ ap (each row_of) ((λ i. entry-under p rest u.pair i ++ entries_in-under p rest u.children i) ∙ sym (map-append (under p) (entry rest u.pair) (entries_in rest u.children)))
       ∙ map-map row_of (under p) (entry rest u.pair ++ entries_in rest u.children)
       ∙ sym (map-map (under p) row_of (entry rest u.pair ++ entries_in rest u.children))
 
-  module _ (found : Option (Bor (TrieNode K V) × ℕ)) (place : IsPlace enc m p found) where
+  module _ (found : Option (Bor (TrieNode K V) × ℕ)) (locus : IsLocus enc m p found) where
     -- they are sorted
     rows_sorted : T (is_sorted (slice_cmp nat_cmp) (rows_behind found))
     rows_sorted =
-        subst T (ap (is_sorted (slice_cmp nat_cmp)) (walk-rows_behind found place) ∙ sorted-under p (rows_behind found)) (fin.entries_sorted (below m p))
+        subst T (ap (is_sorted (slice_cmp nat_cmp)) (walk-rows_behind found locus) ∙ sorted-under p (rows_behind found)) (fin.entries_sorted (below m p))
 
     -- the map behind the path answers at each list what the map does behind the path
     pub get-map_behind_path : (q : List ℕ) → fin.get (map_behind_path found) q ≡ fin.get m (p ++ q)
     get-map_behind_path q =
         fin.get-from_sorted (slice_cmp nat_cmp) (rows_behind found) q rows_sorted
         ∙ sym (find-under p q (rows_behind found))
-        ∙ ap (find (slice_cmp nat_cmp) (p ++ q)) (sym (walk-rows_behind found place))
+        ∙ ap (find (slice_cmp nat_cmp) (p ++ q)) (sym (walk-rows_behind found locus))
         ∙ sym (fin.get-entries (below m p) (p ++ q))
         ∙ get-below m p (p ++ q) (subst T (sym (is_prefix_true p (p ++ q) (q, refl))) tt)
 
@@ -92,4 +92,4 @@ module _ {K V : Type 0} (enc : K → List ℕ) (m : PairMap K V) (p : List ℕ) 
     len-map_behind_path =
         fin.len-entries (map_behind_path found)
         ∙ ap length (fin.entries-from_sorted (slice_cmp nat_cmp) (rows_behind found) rows_sorted)
-        ∙ sym (length-map (rows_behind found) (under p)) ∙ ap length (sym (walk-rows_behind found place)) ∙ sym (fin.len-entries (below m p))
+        ∙ sym (length-map (rows_behind found) (under p)) ∙ ap length (sym (walk-rows_behind found locus)) ∙ sym (fin.len-entries (below m p))

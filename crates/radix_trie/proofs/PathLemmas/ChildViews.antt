@@ -13,7 +13,7 @@ use Rattle.radix_nodes.specs.declared.trie_node.KeyValue.{KeyValue}
 use Rattle.radix_nodes.specs.declared.trie_node.TrieNode.{TrieNode, out-TrieNode}
 use Rattle.radix_nodes.specs.Nodes.{children_of, tree_of}
 use Rattle.radix_nodes.proofs.NodeLemmas.Nodes.{box_is_at, children-tree_of}
-use Rattle.radix_trie.specs.Places.{child_views}
+use Rattle.radix_trie.specs.Loci.{child_views}
 use Rattle.radix_trie.specs.Views.{ReadView, paths_of}
 
 -- a list with a lower first nibble comes before

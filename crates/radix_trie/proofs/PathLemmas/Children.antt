@@ -18,12 +18,12 @@ use Rattle.radix_nodes.specs.declared.trie_node.KeyValue.{KeyValue}
 use Rattle.radix_nodes.specs.declared.trie_node.TrieNode.{TrieNode}
 use Rattle.radix_nodes.specs.Nodes.{tree_of, fragment_of}
 use Rattle.radix_nodes.proofs.NodeLemmas.Nodes.{fragment-tree_of}
-use Rattle.radix_trie.specs.Places.{IsNodeOf, IsPlace, child_views}
+use Rattle.radix_trie.specs.Loci.{IsNodeOf, IsLocus, child_views}
 use Rattle.radix_trie.specs.Roots.{IsRoot}
 use Rattle.radix_trie.specs.Views.{paths_of}
 use Rattle.radix_trie.proofs.PathLemmas.Parts.{node_down, node_up}
 use Rattle.radix_trie.proofs.RootLemmas.Paths.{node_point, point_node}
-use Rattle.radix_trie.proofs.PathLemmas.Places.{nearest_found, no_path_found, found_placed, node_found_here, node_found_past}
+use Rattle.radix_trie.proofs.PathLemmas.Loci.{nearest_found, no_path_found, found_placed, node_found_here, node_found_past}
 use Rattle.radix_trie.proofs.PathLemmas.NodesBelow.{path_leads, shortest_point}
 use Rattle.radix_trie.proofs.PathLemmas.ChildViews.{direct_child, child_child, path_has_fragment, views_rise, child_views_have, has_view}
 
@@ -136,40 +136,40 @@ module _ {K V : Type 0} (enc : K → List ℕ) (m : PairMap K V) (t : Tree (KeyV
   }
 
 -- of what was found for a path
-module _ {K V : Type 0} (enc : K → List ℕ) (m : PairMap K V) (p : List ℕ) (found : Option (Bor (TrieNode K V) × ℕ)) (place : IsPlace enc m p found) where
+module _ {K V : Type 0} (enc : K → List ℕ) (m : PairMap K V) (p : List ℕ) (found : Option (Bor (TrieNode K V) × ℕ)) (locus : IsLocus enc m p found) where
   -- where nothing was found for p, the map has no children of p
   pub no_children_found : found ≡ None → AreChildren m p []
-  no_children_found e = no_children_apart enc m place.0 place.1 p (no_path_found enc m p found place e)
+  no_children_found e = no_children_apart enc m locus.0 locus.1 p (no_path_found enc m p found locus e)
 
   module _ (r : Bor (TrieNode K V)) (n : ℕ) (is : found ≡ Some (r, n)) where
     -- where p ends with the found node's fragment, the node is the map's node at p
     pub node_here : n ≡ length (fragment_of r.now) → IsNodeOf enc m p (tree_of r.now)
-    node_here whole = (place.0, place.1, node_found_here enc m p found place r n is whole)
+    node_here whole = (locus.0, locus.1, node_found_here enc m p found locus r n is whole)
 
     -- the children of the found node are at their places
     placed_here : IsTreePlaced (tree_of r.now)
-    placed_here = found_placed enc m p found place r n is
+    placed_here = found_placed enc m p found locus r n is
 
     -- where p ends with the found node's fragment, the children of p are its child views' paths
     pub children_found_here : n ≡ length (fragment_of r.now) → AreChildren m p (paths_of (child_views m p (tree_of r.now).children))
-    children_found_here whole = children_at_node enc m place.0 place.1 p (tree_of r.now) (node_found_here enc m p found place r n is whole) placed_here
+    children_found_here whole = children_at_node enc m locus.0 locus.1 p (tree_of r.now) (node_found_here enc m p found locus r n is whole) placed_here
 
     -- where p ends with the found node's fragment and has short children, so are the child views' paths
     pub short_children_here : n ≡ length (fragment_of r.now) → ((q : List ℕ) → IsChild m p q → IsShort q) → Each IsShort (paths_of (child_views m p (tree_of r.now).children))
-    short_children_here whole = short_children_at_node enc m place.0 place.1 p (tree_of r.now) (node_found_here enc m p found place r n is whole) placed_here
+    short_children_here whole = short_children_at_node enc m locus.0 locus.1 p (tree_of r.now) (node_found_here enc m p found locus r n is whole) placed_here
 
     -- the found node is the map's node at p and the rest of its fragment
     pub node_past : (x : List ℕ) → x ≡ p ++ drop n (fragment_of r.now) → IsNodeOf enc m x (tree_of r.now)
     node_past x e =
         let same : p ++ drop n (tree_of r.now).fragment ≡ x = ap (λ f. p ++ drop n f) (fragment-tree_of r.now) ∙ sym e in
-        (place.0, place.1, subst (λ y. IsNodeAt place.0 y (tree_of r.now)) same (nearest_found enc m p found place r n is).node)
+        (locus.0, locus.1, subst (λ y. IsNodeAt locus.0 y (tree_of r.now)) same (nearest_found enc m p found locus r n is).node)
 
     -- where p ends inside the found node's fragment, the node's path is the one child of p
     pub only_child_found_past : n < length (fragment_of r.now) → (x : List ℕ) → x ≡ p ++ drop n (fragment_of r.now) → AreChildren m p (x ∷ [])
     only_child_found_past lt x e =
         let same : p ++ drop n (tree_of r.now).fragment ≡ x = ap (λ f. p ++ drop n f) (fragment-tree_of r.now) ∙ sym e in
         subst (λ y. AreChildren m p (y ∷ [])) same
-        (only_child_past enc m place.0 place.1 p _ (nearest_found enc m p found place r n is).shortest (node_found_past enc m p found place r n is lt))
+        (only_child_past enc m locus.0 locus.1 p _ (nearest_found enc m p found locus r n is).shortest (node_found_past enc m p found locus r n is lt))
 
     -- where p ends inside the found node's fragment and has short children, the node's path is short
     pub short_child_past : n < length (fragment_of r.now) → ((q : List ℕ) → IsChild m p q → IsShort q) → IsShort (p ++ drop n (fragment_of r.now))

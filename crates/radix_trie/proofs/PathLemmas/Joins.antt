@@ -12,7 +12,7 @@ use Rattle.radix_nodes.specs.declared.trie_node.KeyValue.{KeyValue}
 use Rattle.radix_nodes.specs.declared.trie_node.TrieNode.{TrieNode}
 use Rattle.radix_nodes.specs.Nodes.{AreTwo, IsLeftWith, HasLongJoinBelow, fragment_of, tree_of}
 use Rattle.radix_nodes.specs.Pairs.{pair_of}
-use Rattle.radix_trie.specs.Places.{child_views}
+use Rattle.radix_trie.specs.Loci.{child_views}
 use Rattle.radix_trie.specs.Refusals.{IsJoined, JoinsAreShort}
 use Rattle.radix_trie.specs.Roots.{IsKept, IsRoot, map_of}
 use Rattle.radix_trie.specs.Views.{paths_of}

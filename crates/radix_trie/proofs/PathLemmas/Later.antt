@@ -13,11 +13,11 @@ use Rattle.radix_nodes.specs.declared.trie_node.KeyValue.{KeyValue}
 use Rattle.radix_nodes.specs.declared.trie_node.TrieNode.{TrieNode}
 use Rattle.radix_nodes.specs.Nodes.{fragment_of, tree_of}
 use Rattle.radix_nodes.proofs.NodeLemmas.Nodes.{fragment-tree_of}
-use Rattle.radix_trie.specs.Places.{IsPlace}
+use Rattle.radix_trie.specs.Loci.{IsLocus}
 use Rattle.radix_trie.specs.Views.{pairs_after}
 use Rattle.radix_trie.specs.Walks.{pairs_where}
 use Rattle.radix_trie.proofs.PathLemmas.NodesBelow.{filter-map, walk-no_path, walk-node}
-use Rattle.radix_trie.proofs.PathLemmas.Places.{length-filter_le, nearest_found, no_path_found}
+use Rattle.radix_trie.proofs.PathLemmas.Loci.{length-filter_le, nearest_found, no_path_found}
 use Rattle.radix_trie.proofs.RootLemmas.Shown.{row_of}
 use Rattle.radix_trie.proofs.WalkLemmas.Tested.{where_behind, where_gone}
 
@@ -34,7 +34,7 @@ pairs_of-rows {K} {V} test es =
     ap (map (λ e. e.1)) (filter-map (λ (e : List ℕ × (K × V)). test e.0) row_of es)
     ∙ map-map (λ e. e.1) row_of (filter (λ (e : List ℕ × KeyValue K V). test e.0) es)
 
-module _ {K V : Type 0} (enc : K → List ℕ) (m : PairMap K V) (p : List ℕ) (found : Option (Bor (TrieNode K V) × ℕ)) (place : IsPlace enc m p found) where
+module _ {K V : Type 0} (enc : K → List ℕ) (m : PairMap K V) (p : List ℕ) (found : Option (Bor (TrieNode K V) × ℕ)) (locus : IsLocus enc m p found) where
   -- the map's pairs at and below p whose lists pass a test
   abbrev pub passing : (List ℕ → Bool) → List (K × V)
   passing test = map (λ e. e.1) (filter (λ e. test e.0) (walk m p))
@@ -42,7 +42,7 @@ module _ {K V : Type 0} (enc : K → List ℕ) (m : PairMap K V) (p : List ℕ) 
   -- where nothing was found for p, none pass
   pub nothing_found-passing : (test : List ℕ → Bool) → found ≡ None → [] ≡ passing test
   nothing_found-passing test e =
-      sym (ap (λ es. map (λ e. e.1) (filter (λ e. test e.0) es)) (walk-no_path enc m place.0 place.1 p (no_path_found enc m p found place e)))
+      sym (ap (λ es. map (λ e. e.1) (filter (λ e. test e.0) es)) (walk-no_path enc m locus.0 locus.1 p (no_path_found enc m p found locus e)))
 
   module _ (r : Bor (TrieNode K V)) (n : ℕ) (is : found ≡ Some (r, n)) where
     -- the found node's path
@@ -57,9 +57,9 @@ module _ {K V : Type 0} (enc : K → List ℕ) (m : PairMap K V) (p : List ℕ) 
     at_node test =
         let u = tree_of r.now in
         let x = p ++ drop n u.fragment in
-        let near = nearest_found enc m p found place r n is in
+        let near = nearest_found enc m p found locus r n is in
         ap (λ y. pairs_where test (entry y u.pair ++ entries_in y u.children)) whole_path
-        ∙ sym (ap (λ rows. map (λ e. e.1) (filter (λ e. test e.0) rows)) (walk-node enc m place.0 place.1 p x u near.node near.shortest)
+        ∙ sym (ap (λ rows. map (λ e. e.1) (filter (λ e. test e.0) rows)) (walk-node enc m locus.0 locus.1 p x u near.node near.shortest)
         ∙ pairs_of-rows test (entry x u.pair ++ entries_in x u.children))
 
     -- where nothing that the found node's path begins passes, none are left

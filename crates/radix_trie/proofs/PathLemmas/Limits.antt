@@ -8,14 +8,14 @@ use Rattle.std.specs.declared.ops.Bound.{Bound}
 use Rattle.std.specs.declared.ops.Bound.TheVariants.{Included, Excluded, Unbounded}
 use Rattle.radix_trie.specs.declared.iter.side.Side.TheVariants as side
 use Rattle.radix_trie.specs.Limits.{AreLimits, BoundGoesOn, GoesOn, IsLimit}
-use Rattle.radix_trie.specs.Places.{IsPlace}
-use Rattle.radix_trie.specs.declared.place.within.Limits.{Limits}
+use Rattle.radix_trie.specs.Loci.{IsLocus}
+use Rattle.radix_trie.specs.declared.locus.within.Limits.{Limits}
 use Rattle.nibble_map.specs.Maps.{PairMap}
 use Rattle.radix_nodes.specs.declared.trie_node.TrieNode.{TrieNode}
 use Rattle.radix_nodes.specs.Nodes.{fragment_of}
 use Rattle.radix_nodes.proofs.NodeLemmas.Nodes.{fragment-tree_of}
 use Rattle.radix_trie.proofs.PathLemmas.Later.{whole}
-use Rattle.radix_trie.proofs.PathLemmas.Places.{nearest_found, path_ends}
+use Rattle.radix_trie.proofs.PathLemmas.Loci.{nearest_found, path_ends}
 use Rattle.radix_trie.specs.Views.{is_above, is_below, is_within}
 use Rattle.radix_trie.specs.Walks.{ReachesDown, StandsBeside, bound_behind, bound_now, passes}
 use Rattle.radix_trie.proofs.WalkLemmas.Order.{order, order-behind}
@@ -156,20 +156,20 @@ module _ (p before x : List ℕ) (ends : p ≡ before ++ x) where
   below_back (Excluded q) on y = ap is_lt (sym (order-behind x y (drop (length p) q)) ∙ ap (λ l. order (x ++ y) l) (sym (left_at q on.1)))
   below_back Unbounded on y = refl
 
--- the place of a path p, whose found node has the path `whole`; and what is left of two bounds behind p and in front of the node's fragment
-module _ {K V : Type 0} (enc : K → List ℕ) (m : PairMap K V) (p : List ℕ) (found : Option (Bor (TrieNode K V) × ℕ)) (place : IsPlace enc m p found)
+-- the locus of a path p, whose found node has the path `whole`; and what is left of two bounds behind p and in front of the node's fragment
+module _ {K V : Type 0} (enc : K → List ℕ) (m : PairMap K V) (p : List ℕ) (found : Option (Bor (TrieNode K V) × ℕ)) (locus : IsLocus enc m p found)
     (r : Bor (TrieNode K V)) (n : ℕ) (is : found ≡ Some (r, n)) where
   abbrev f : List ℕ
   f = fragment_of r.now
 
   abbrev before : List ℕ
-  before = (path_ends enc m p found place r n is).0
+  before = (path_ends enc m p found locus r n is).0
 
   -- so many nibbles lie in front of the fragment
   pub front_size : (d : ℕ) → d ≡ length p → (n ≤ d) × (d - n ≡ length before)
   front_size d size =
-      let ends = (path_ends enc m p found place r n is).1 in
-      let near = nearest_found enc m p found place r n is in
+      let ends = (path_ends enc m p found locus r n is).1 in
+      let near = nearest_found enc m p found locus r n is in
       let cut : length (take n f) ≡ n = length-take-le n f (omega (arith, near.within, ap length (fragment-tree_of r.now))) in
       let whole : length p ≡ length before + n = ap length ends ∙ length-append before (take n f) ∙ ap (λ k. length before + k) cut in
       (omega (arith, size, whole), omega (arith, size, whole))
@@ -183,10 +183,10 @@ module _ {K V : Type 0} (enc : K → List ℕ) (m : PairMap K V) (p : List ℕ) 
       same : take n f ++ behind ≡ f ++ y
       same = sym (append_assoc (take n f) (drop n f) y) ∙ ap (λ z. z ++ y) (take-append-drop n f)
 
-      pub within_limits : is_within low high (whole enc m p found place r n is ++ y)
+      pub within_limits : is_within low high (whole enc m p found locus r n is ++ y)
           ≡ cond (is_below (bound_behind front (bound_now l.high)) (f ++ y)) (is_above (bound_behind front (bound_now l.low)) (f ++ y)) false
       within_limits =
-          let ends = (path_ends enc m p found place r n is).1 in
+          let ends = (path_ends enc m p found locus r n is).1 in
           ap (is_within low high) (append_assoc p (drop n f) y) ∙ limits.3 behind
           ∙ (λ i. cond (is_below (bound_behind (limits.0 i) (bound_now l.high)) behind) (is_above (bound_behind (limits.0 i) (bound_now l.low)) behind) false)
           ∙ (λ i. cond (below_back p before (take n f) ends (bound_now l.high) limits.2 behind i) (above_back p before (take n f) ends (bound_now l.low) limits.1 behind i) false)

@@ -9,7 +9,7 @@ use Rattle.radix_nodes.specs.declared.trie_node.KeyValue.{KeyValue}
 use Rattle.radix_nodes.specs.declared.trie_node.TrieNode.{TrieNode}
 use Rattle.radix_nodes.specs.Nodes.{tree_of, fragment_of}
 use Rattle.radix_nodes.proofs.NodeLemmas.Nodes.{fragment-tree_of}
-use Rattle.radix_trie.specs.Places.{IsNodeOf}
+use Rattle.radix_trie.specs.Loci.{IsNodeOf}
 use Rattle.radix_trie.specs.Roots.{IsRoot}
 use Rattle.radix_trie.proofs.ChangeLemmas.Changes.{node_at_root, no_node_at_root}
 use Rattle.radix_trie.proofs.RootLemmas.Paths.{node_point, point_node, node_fragment}

@@ -7,7 +7,7 @@ use Rattle.nibble_map.proofs.ListLemmas.Rising.{Each-from_has}
 use Rattle.nibble_map.proofs.MapLemmas.Edits.{has_get, keys_list_stored}
 use Rattle.nibble_map.proofs.MapLemmas.Walks.{Has-walk, Each-walk}
 use Rattle.radix_nodes.specs.declared.trie_node.TrieNode.{TrieNode}
-use Rattle.radix_trie.specs.Places.{IsPlace}
+use Rattle.radix_trie.specs.Loci.{IsLocus}
 use Rattle.radix_trie.specs.Roots.{AllKeyed}
 use Rattle.radix_trie.specs.Views.{pairs_below}
 
@@ -31,8 +31,8 @@ module _ {K V : Type 0} (enc : K → List ℕ) where
   keyed_entries m p keyed = Each-from_has IsKeyed (walk m p) (λ e h. keyed_get m keyed e.0 e.1 ((Has-walk m p e.0 e.1).0 h).1)
 
   -- each entry of a walk stands at its key's encoding
-  pub keyed_walk : (m : PairMap K V) (p : List ℕ) (found : Option (Bor (TrieNode K V) × ℕ)) → IsPlace enc m p found → Each (λ e. e.0 ≡ enc e.1.0) (walk m p)
-  keyed_walk m p found place = keyed_entries m p place.1.keyed
+  pub keyed_walk : (m : PairMap K V) (p : List ℕ) (found : Option (Bor (TrieNode K V) × ℕ)) → IsLocus enc m p found → Each (λ e. e.0 ≡ enc e.1.0) (walk m p)
+  keyed_walk m p found locus = keyed_entries m p locus.1.keyed
 
   -- the keys of keyed entries whose lists begin with p have encodings that begin with p
   begun_keys : (p : List ℕ) (es : List (List ℕ × (K × V))) → Each (λ e. IsPrefix p e.0) es → Each IsKeyed es → Each (λ k. IsPrefix p (enc k)) (each (λ q. q.0) (each (λ e. e.1) es))

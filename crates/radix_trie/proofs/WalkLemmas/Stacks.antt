@@ -9,7 +9,7 @@ use Rattle.radix_nodes.specs.Pairs.{pairs_in, pairs_in_all}
 use Rattle.radix_nodes.specs.declared.trie_node.KeyValue.{KeyValue}
 use Rattle.radix_nodes.specs.declared.trie_node.TrieNode.{TrieNode}
 use Rattle.radix_nodes.proofs.NodeLemmas.Pairs.{pairs_of-append}
-use Rattle.radix_trie.specs.declared.iter.rows.Rest.{Rest}
+use Rattle.radix_trie.specs.declared.iter.rows.Frame.{Frame}
 use Rattle.radix_trie.specs.declared.iter.span.parting.Parting.{Parting}
 use Rattle.radix_trie.specs.Walks.{HasFullRows, first_pair, left_in, left_of, left_rows, stacked, way_high, way_low}
 use Rattle.radix_trie.proofs.WalkLemmas.Back.{full-pushed}
@@ -17,22 +17,22 @@ use Rattle.radix_trie.proofs.WalkLemmas.Ends.{full_has_pair}
 
 module _ {K V : Type 0} where
   -- what is pushed comes before what was left
-  stacked-push : (rs : List (Rest K V)) (r : Rest K V) → stacked (rs ++ r ∷ []) ≡ left_of r ++ stacked rs
+  stacked-push : (rs : List (Frame K V)) (r : Frame K V) → stacked (rs ++ r ∷ []) ≡ left_of r ++ stacked rs
   stacked-push [] r = sym (append-nil (left_of r))
   stacked-push (q ∷ rs) r = ap (λ ps. ps ++ left_of q) (stacked-push rs r) ∙ append_assoc (left_of r) (stacked rs) (left_of q)
 
   -- a list of nodes, each above the next one, is a stack when it is turned round
-  pub stacked-reverse : (rs : List (Rest K V)) → stacked (reverse rs) ≡ left_in rs
+  pub stacked-reverse : (rs : List (Frame K V)) → stacked (reverse rs) ≡ left_in rs
   stacked-reverse [] = refl
   stacked-reverse (r ∷ rs) = ap stacked (reverse-append (r ∷ []) rs) ∙ stacked-push (reverse rs) r ∙ ap (λ ps. left_of r ++ ps) (stacked-reverse rs)
 
   -- with rows as full
-  pub full-reverse : (rs : List (Rest K V)) → HasFullRows (left_rows rs) → HasFullRows (left_rows (reverse rs))
+  pub full-reverse : (rs : List (Frame K V)) → HasFullRows (left_rows rs) → HasFullRows (left_rows (reverse rs))
   full-reverse [] full = full
   full-reverse (r ∷ rs) full = full-pushed (reverse rs) (reverse (r ∷ rs)) r (reverse-append (r ∷ []) rs) (full-reverse rs full.1) full.0
 
   -- a stack with one more of a list's nodes
-  pub stacked-pushed : (rs new : List (Rest K V)) (r : Rest K V) → new ≡ rs ++ r ∷ [] → stacked new ≡ left_of r ++ stacked rs
+  pub stacked-pushed : (rs new : List (Frame K V)) (r : Frame K V) → new ≡ rs ++ r ∷ [] → stacked new ≡ left_of r ++ stacked rs
   stacked-pushed rs new r pushed = ap stacked pushed ∙ stacked-push rs r
 
   -- full nodes of which no pair is left have none of their own, and no row

@@ -7,7 +7,7 @@ use Rattle.radix_nodes.specs.declared.trie_node.KeyValue.{KeyValue}
 use Rattle.radix_nodes.specs.Pairs.{pairs_in, pairs_of}
 use Rattle.radix_nodes.proofs.NodeLemmas.Pairs.{length-pairs_of, pairs_of-append, pairs_of-entries_of_node}
 use Rattle.radix_trie.specs.Walks.{pairs_where}
-use Rattle.radix_trie.proofs.PathLemmas.Places.{length-filter_le}
+use Rattle.radix_trie.proofs.PathLemmas.Loci.{length-filter_le}
 
 module _ {K V : Type 0} where
   -- a test that all lists pass keeps all pairs

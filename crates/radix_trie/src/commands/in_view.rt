@@ -18,7 +18,7 @@ pub(crate) fn run_view<K: TrieKey + Drop, V: Copy>(
     requires room { length list.items ≤ vec_capacity replies.old }
     requires empty { replies.old.items ≡ [] }
     ensures same_view { SameView view.old view.new }
-    ensures steps { ViewSteps K.encoding K.is_light (path_of view.old)
+    ensures steps { ViewSteps K.encoding K.is_inline (path_of view.old)
         (map_behind view.old) list.items replies.new.items (map_behind view.new) }
 {
     for command in list {
@@ -33,7 +33,7 @@ fn view_step<K: TrieKey + Drop, V: Copy>(
     command: ViewCommand<K, V>,
 ) -> Reply<V>
     ensures same_view { SameView view.old view.new }
-    ensures step { ViewStep K.encoding K.is_light (path_of view.old) (map_behind view.old) command
+    ensures step { ViewStep K.encoding K.is_inline (path_of view.old) (map_behind view.old) command
         result (map_behind view.new) }
 {
     match command {
@@ -41,7 +41,7 @@ fn view_step<K: TrieKey + Drop, V: Copy>(
         ViewCommand::Remove(key) => view_remove(view, &key),
         ViewCommand::RemovePrefix(key) => view_remove_prefix(view, &key),
         ViewCommand::Get(key) => view_get(view, &key),
-        ViewCommand::Len => Reply::Number(view.place().len()),
+        ViewCommand::Len => Reply::Number(view.locus().len()),
     }
 }
 
@@ -51,7 +51,7 @@ fn view_insert<K: TrieKey + Drop, V: Copy>(
     value: V,
 ) -> Reply<V>
     ensures same_view { SameView view.old view.new }
-    ensures step { ViewStep K.encoding K.is_light (path_of view.old) (map_behind view.old)
+    ensures step { ViewStep K.encoding K.is_inline (path_of view.old) (map_behind view.old)
         (ViewCommand.Insert key value) result (map_behind view.new) }
 {
     match view.insert(key, value) {
@@ -72,7 +72,7 @@ fn view_insert<K: TrieKey + Drop, V: Copy>(
 
 fn view_remove<K: TrieKey + Drop, V: Copy>(view: &mut SubTrieMut<'_, K, V>, key: &K) -> Reply<V>
     ensures same_view { SameView view.old view.new }
-    ensures step { ViewStep K.encoding K.is_light (path_of view.old) (map_behind view.old)
+    ensures step { ViewStep K.encoding K.is_inline (path_of view.old) (map_behind view.old)
         (ViewCommand.Remove key.now) result (map_behind view.new) }
 {
     match view.remove(key) {
@@ -87,7 +87,7 @@ fn view_remove_prefix<K: TrieKey + Drop, V: Copy>(
     key: &K,
 ) -> Reply<V>
     ensures same_view { SameView view.old view.new }
-    ensures step { ViewStep K.encoding K.is_light (path_of view.old) (map_behind view.old)
+    ensures step { ViewStep K.encoding K.is_inline (path_of view.old) (map_behind view.old)
         (ViewCommand.RemovePrefix key.now) result (map_behind view.new) }
 {
     let Ok(list) = key.encode(view.trie.allocator()) else {
@@ -103,7 +103,7 @@ fn view_remove_prefix<K: TrieKey + Drop, V: Copy>(
 }
 
 fn view_get<K: TrieKey, V: Copy>(view: &SubTrieMut<'_, K, V>, key: &K) -> Reply<V>
-    ensures { ViewStep K.encoding K.is_light (path_of view.now) (map_behind view.now)
+    ensures { ViewStep K.encoding K.is_inline (path_of view.now) (map_behind view.now)
         (ViewCommand.Get key.now) result (map_behind view.now) }
 {
     match view.get(key) {

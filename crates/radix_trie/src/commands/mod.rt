@@ -7,7 +7,7 @@ ghost use Rattle.radix_trie.specs.Commands.{Step, Steps, values_below};
 mod in_view;
 
 use crate::error::{InsertError, InsertWhy, OpenError, SubTrieError};
-use crate::place::Place;
+use crate::locus::Locus;
 use crate::trie::Trie;
 use crate::view::subtrie_mut::SubTrieMut;
 use in_view::run_view;
@@ -82,7 +82,7 @@ pub fn run<K: TrieKey + Drop, V: Copy>(
     commands: Vec<Command<K, V>>,
 ) -> Result<Vec<Reply<V>>, Memory>
     ensures steps { IfOk result
-        (λ replies. Steps K.encoding K.is_light trie.old commands.items replies.items trie.new) }
+        (λ replies. Steps K.encoding K.is_inline trie.old commands.items replies.items trie.new) }
     ensures unchanged { OnErr result (trie.new ≡ trie.old) }
     ensures none { commands.items ≡ [] → IsOk result }
 {
@@ -98,7 +98,7 @@ pub fn run<K: TrieKey + Drop, V: Copy>(
 
 /// Runs one command.
 fn step<K: TrieKey + Drop, V: Copy>(trie: &mut Trie<K, V>, command: Command<K, V>) -> Reply<V>
-    ensures { Step K.encoding K.is_light trie.old command result trie.new }
+    ensures { Step K.encoding K.is_inline trie.old command result trie.new }
 {
     match command {
         Command::Insert(key, value) => insert(trie, key, value),
@@ -112,7 +112,7 @@ fn step<K: TrieKey + Drop, V: Copy>(trie: &mut Trie<K, V>, command: Command<K, V
 }
 
 fn insert<K: TrieKey + Drop, V: Copy>(trie: &mut Trie<K, V>, key: K, value: V) -> Reply<V>
-    ensures { Step K.encoding K.is_light trie.old (Command.Insert key value) result trie.new }
+    ensures { Step K.encoding K.is_inline trie.old (Command.Insert key value) result trie.new }
 {
     match trie.insert(key, value) {
         Ok(old) => Reply::Old(old),
@@ -128,7 +128,7 @@ fn insert<K: TrieKey + Drop, V: Copy>(trie: &mut Trie<K, V>, key: K, value: V) -
 }
 
 fn remove<K: TrieKey + Drop, V: Copy>(trie: &mut Trie<K, V>, key: &K) -> Reply<V>
-    ensures { Step K.encoding K.is_light trie.old (Command.Remove key.now) result trie.new }
+    ensures { Step K.encoding K.is_inline trie.old (Command.Remove key.now) result trie.new }
 {
     match trie.remove(key) {
         Ok(old) => Reply::Old(old),
@@ -157,7 +157,7 @@ pub(crate) fn take_values<K: TrieKey + Drop, V: Copy>(
     ensures unchanged { OnErr result (trie.new ≡ trie.old) }
     ensures none { map.len (below trie.old list.now) ≡ 0 → IsOk result }
 {
-    let count = Place::find(trie, list).len();
+    let count = Locus::find(trie, list).len();
     let Ok(mut values) = Vec::with_capacity(trie.allocator(), count) else {
         return Err(Memory);
     };
@@ -171,7 +171,7 @@ pub(crate) fn take_values<K: TrieKey + Drop, V: Copy>(
 }
 
 fn remove_prefix<K: TrieKey + Drop, V: Copy>(trie: &mut Trie<K, V>, key: &K) -> Reply<V>
-    ensures { Step K.encoding K.is_light trie.old (Command.RemovePrefix key.now) result trie.new }
+    ensures { Step K.encoding K.is_inline trie.old (Command.RemovePrefix key.now) result trie.new }
 {
     let Ok(list) = key.encode(trie.allocator()) else {
         return Reply::Refused;
@@ -183,7 +183,7 @@ fn remove_prefix<K: TrieKey + Drop, V: Copy>(trie: &mut Trie<K, V>, key: &K) -> 
 }
 
 fn get<K: TrieKey, V: Copy>(trie: &Trie<K, V>, key: &K) -> Reply<V>
-    ensures { Step K.encoding K.is_light trie.now (Command.Get key.now) result trie.now }
+    ensures { Step K.encoding K.is_inline trie.now (Command.Get key.now) result trie.now }
 {
     match trie.get(key) {
         Ok(found) => Reply::Found(found.copied()),
@@ -192,7 +192,7 @@ fn get<K: TrieKey, V: Copy>(trie: &Trie<K, V>, key: &K) -> Reply<V>
 }
 
 fn ancestor<K: TrieKey, V: Copy>(trie: &Trie<K, V>, key: &K) -> Reply<V>
-    ensures { Step K.encoding K.is_light trie.now (Command.Ancestor key.now) result trie.now }
+    ensures { Step K.encoding K.is_inline trie.now (Command.Ancestor key.now) result trie.now }
 {
     match trie.get_ancestor_value(key) {
         Ok(found) => Reply::Found(found.copied()),
@@ -206,7 +206,7 @@ fn within<K: TrieKey + Drop, V: Copy>(
     key: &K,
     list: Vec<ViewCommand<K, V>>,
 ) -> Reply<V>
-    ensures { Step K.encoding K.is_light trie.old (Command.Within key.now list) result trie.new }
+    ensures { Step K.encoding K.is_inline trie.old (Command.Within key.now list) result trie.new }
 {
     let alloc = trie.allocator();
     match trie.open_mut(key) {

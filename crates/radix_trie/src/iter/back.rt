@@ -5,7 +5,7 @@ ghost use Rattle.radix_nodes.specs.Nodes.{tree_of};
 ghost use Rattle.radix_nodes.specs.Pairs.{pairs_in};
 ghost use Rattle.radix_trie.specs.Walks.{HasFullRows, deref_pair, left_rows, stacked};
 
-use crate::iter::rows::{Rest, parts};
+use crate::iter::rows::{Frame, parts};
 use radix_keys::Memory;
 use radix_nodes::trie_node::TrieNode;
 use std::alloc::Global;
@@ -20,9 +20,9 @@ use std::marker::Model;
 #[derive(Drop)]
 pub struct CursorBack<'a, K, V> {
     /// What comes next.
-    at: Rest<'a, K, V>,
+    at: Frame<'a, K, V>,
     /// What comes after it, the last one first.
-    stack: Vec<Rest<'a, K, V>>,
+    stack: Vec<Frame<'a, K, V>>,
 }
 
 impl<'a, K, V> Model for CursorBack<'a, K, V> {
@@ -43,7 +43,7 @@ impl<'a, K, V> CursorBack<'a, K, V> {
         ensures { result ≡ [] }
     {
         CursorBack {
-            at: Rest {
+            at: Frame {
                 own: None,
                 row: &[],
             },
@@ -57,7 +57,7 @@ impl<'a, K, V> CursorBack<'a, K, V> {
         ensures { result ≡ reverse (pairs_in (tree_of node.now)) }
     {
         CursorBack {
-            at: Rest {
+            at: Frame {
                 own: node.pair(),
                 row: &node.children,
             },
@@ -67,11 +67,11 @@ impl<'a, K, V> CursorBack<'a, K, V> {
 
     /// The walk over what is left in rests, of which the last one comes first in the order of the
     /// encodings.
-    pub(crate) fn of(alloc: Global, rests: Vec<Rest<'a, K, V>>) -> CursorBack<'a, K, V>
-        requires full { HasFullRows (left_rows rests.items) }
-        ensures { result ≡ reverse (stacked rests.entry.items) }
+    pub(crate) fn of(alloc: Global, frames: Vec<Frame<'a, K, V>>) -> CursorBack<'a, K, V>
+        requires full { HasFullRows (left_rows frames.items) }
+        ensures { result ≡ reverse (stacked frames.entry.items) }
     {
-        let mut stack = rests;
+        let mut stack = frames;
         stack.reverse();
         match stack.pop() {
             Some(at) => CursorBack { at, stack },
@@ -97,12 +97,12 @@ impl<'a, K, V> CursorBack<'a, K, V> {
             let row = self.at.row;
             if let Some((node, others)) = row.split_last() {
                 self.stack.reserve(1)?;
-                let above = Rest {
+                let above = Frame {
                     own: self.at.own,
                     row: others,
                 };
                 self.stack.push_reserved(above);
-                self.at = Rest {
+                self.at = Frame {
                     own: node.pair(),
                     row: &node.children,
                 };

@@ -5,7 +5,7 @@ ghost use Rattle.radix_nodes.specs.Nodes.{out_of, tree_of};
 ghost use Rattle.radix_nodes.specs.Pairs.{pairs_in};
 ghost use Rattle.radix_trie.specs.Walks.{HasFullRows, deref_pair, left_rows, stacked};
 
-use crate::iter::rows::{Rest, enter, parts, row_height};
+use crate::iter::rows::{Frame, enter, parts, row_height};
 use crate::iter::walk::Iter;
 use radix_keys::Memory;
 use radix_nodes::trie_node::TrieNode;
@@ -20,9 +20,9 @@ use std::marker::Model;
 #[derive(Drop)]
 pub struct Cursor<'a, K, V> {
     /// What comes next.
-    at: Rest<'a, K, V>,
+    at: Frame<'a, K, V>,
     /// What comes after it, the last one first.
-    stack: Vec<Rest<'a, K, V>>,
+    stack: Vec<Frame<'a, K, V>>,
 }
 
 impl<'a, K, V> Model for Cursor<'a, K, V> {
@@ -43,7 +43,7 @@ impl<'a, K, V> Cursor<'a, K, V> {
         ensures { result ≡ [] }
     {
         Cursor {
-            at: Rest {
+            at: Frame {
                 own: None,
                 row: &[],
             },
@@ -57,7 +57,7 @@ impl<'a, K, V> Cursor<'a, K, V> {
         ensures { result ≡ pairs_in (tree_of node.now) }
     {
         Cursor {
-            at: Rest {
+            at: Frame {
                 own: node.pair(),
                 row: &node.children,
             },
@@ -66,11 +66,11 @@ impl<'a, K, V> Cursor<'a, K, V> {
     }
 
     /// The walk over what is left in rests, of which the last one comes first.
-    pub(crate) fn of(alloc: Global, rests: Vec<Rest<'a, K, V>>) -> Cursor<'a, K, V>
-        requires full { HasFullRows (left_rows rests.items) }
-        ensures { result ≡ stacked rests.entry.items }
+    pub(crate) fn of(alloc: Global, frames: Vec<Frame<'a, K, V>>) -> Cursor<'a, K, V>
+        requires full { HasFullRows (left_rows frames.items) }
+        ensures { result ≡ stacked frames.entry.items }
     {
-        let mut stack = rests;
+        let mut stack = frames;
         match stack.pop() {
             Some(at) => Cursor { at, stack },
             None => Cursor::empty(alloc),
@@ -146,7 +146,7 @@ impl<'a, K, V> Cursor<'a, K, V> {
 
 /// Makes room for what stands beside a node, where it is to be put aside.
 fn make_room<K, V>(
-    stack: &mut Vec<Rest<K, V>>,
+    stack: &mut Vec<Frame<K, V>>,
     node: &TrieNode<K, V>,
     others: &[Box<TrieNode<K, V>>],
 ) -> Result<(), Memory>

@@ -12,7 +12,7 @@ use radix_nodes::whole::size::height;
 /// What a walk has left of a node: its own pair, and some of its children side by side. In order
 /// the pair comes before them.
 #[derive(Drop)]
-pub(crate) struct Rest<'a, K, V> {
+pub(crate) struct Frame<'a, K, V> {
     /// The node's own pair, if it is left.
     pub(crate) own: Option<&'a KeyValue<K, V>>,
     /// The children that are left.
@@ -23,10 +23,10 @@ pub(crate) struct Rest<'a, K, V> {
 /// the nodes beside it. Those beside a node with children are put on the stack, which has room for
 /// them.
 pub(super) fn enter<'a, K, V>(
-    stack: &mut Vec<Rest<'a, K, V>>,
+    stack: &mut Vec<Frame<'a, K, V>>,
     node: &'a TrieNode<K, V>,
     others: &'a [Box<TrieNode<K, V>>],
-) -> Rest<'a, K, V>
+) -> Frame<'a, K, V>
     requires room { 0 < vec_len (out_of node.now).children → 0 < length others.now
         → vec_len stack.old < vec_capacity stack.old }
     ensures pairs { stacked (stack.new.items ++ result ∷ [])
@@ -39,15 +39,15 @@ pub(super) fn enter<'a, K, V>(
 {
     let own = node.pair();
     if node.children.is_empty() {
-        return Rest { own, row: others };
+        return Frame { own, row: others };
     }
     if !others.is_empty() {
-        stack.push_reserved(Rest {
+        stack.push_reserved(Frame {
             own: None,
             row: others,
         });
     }
-    Rest {
+    Frame {
         own,
         row: &node.children,
     }

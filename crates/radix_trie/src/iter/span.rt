@@ -6,7 +6,7 @@ ghost use Rattle.nibble_map.specs.Trees.{IsFull};
 ghost use Rattle.radix_nodes.specs.Nodes.{children_of, tree_of};
 ghost use Rattle.radix_trie.specs.Walks.{HasFullRows, ReachesDown, bound_behind, bound_now, left_in, left_of, left_rows, pairs_of_span, stacked};
 
-use crate::iter::rows::Rest;
+use crate::iter::rows::Frame;
 use crate::iter::span::parting::part;
 use radix_keys::{Memory, Nibblet};
 use radix_nodes::trie_node::TrieNode;
@@ -19,24 +19,24 @@ mod parting;
 /// The rows of the walk over the pairs at and below a node whose lists stand within two bounds, as
 /// a stack: its last row comes first. So many nibbles of each bound lie behind the node. Memory is
 /// allocated for rows on the way down to the bounds, where a pair is left there.
-pub(crate) fn rests_within<'a, K, V>(
+pub(crate) fn frames_within<'a, K, V>(
     alloc: Global,
     node: &'a TrieNode<K, V>,
     low: Bound<&Nibblet>,
     high: Bound<&Nibblet>,
     depth: usize,
-) -> Result<Vec<Rest<'a, K, V>>, Memory>
+) -> Result<Vec<Frame<'a, K, V>>, Memory>
     requires low { ReachesDown depth (bound_now low) }
     requires high { ReachesDown depth (bound_now high) }
     requires placed { IsTreePlaced (tree_of node.now) }
     requires full { IsFullBelow (tree_of node.now) }
-    ensures pairs { IfOk result (λ rests. stacked rests.items
+    ensures pairs { IfOk result (λ frames. stacked frames.items
         ≡ pairs_of_span (bound_behind depth (bound_now low.entry))
         (bound_behind depth (bound_now high.entry))
         (tree_of node.now)) }
     ensures none { pairs_of_span (bound_behind depth (bound_now low.entry))
         (bound_behind depth (bound_now high.entry)) (tree_of node.now) ≡ [] → IsOk result }
-    ensures rows { IfOk result (λ rests. HasFullRows (left_rows rests.items)) }
+    ensures rows { IfOk result (λ frames. HasFullRows (left_rows frames.items)) }
 {
     let mut stack = Vec::new(alloc);
     let parting = part(node, low, high, depth);
@@ -44,7 +44,7 @@ pub(crate) fn rests_within<'a, K, V>(
         push_earlier(&mut stack, child, high, next)?;
         stack.reverse();
     }
-    push_rest(&mut stack, parting.rest)?;
+    push_frame(&mut stack, parting.rest)?;
     if let Some((child, next)) = parting.low {
         push_later(&mut stack, child, low, next)?;
     }
@@ -54,7 +54,7 @@ pub(crate) fn rests_within<'a, K, V>(
 /// Puts the rows that stand above a lower bound on a stack, from the node down: the last one comes
 /// first.
 fn push_later<'a, K, V>(
-    stack: &mut Vec<Rest<'a, K, V>>,
+    stack: &mut Vec<Frame<'a, K, V>>,
     node: &'a TrieNode<K, V>,
     low: Bound<&Nibblet>,
     depth: usize,
@@ -74,7 +74,7 @@ fn push_later<'a, K, V>(
     let mut done = depth;
     loop {
         let parting = part(at, low, Bound::Unbounded, done);
-        push_rest(stack, parting.rest)?;
+        push_frame(stack, parting.rest)?;
         let Some((child, next)) = parting.low else {
             return Ok(());
         };
@@ -86,7 +86,7 @@ fn push_later<'a, K, V>(
 /// Puts the rows that stand below an upper bound into a list, from the node down: the first one
 /// comes first.
 fn push_earlier<'a, K, V>(
-    list: &mut Vec<Rest<'a, K, V>>,
+    list: &mut Vec<Frame<'a, K, V>>,
     node: &'a TrieNode<K, V>,
     high: Bound<&Nibblet>,
     depth: usize,
@@ -105,7 +105,7 @@ fn push_earlier<'a, K, V>(
     let mut done = depth;
     loop {
         let parting = part(at, Bound::Unbounded, high, done);
-        push_rest(list, parting.rest)?;
+        push_frame(list, parting.rest)?;
         let Some((child, next)) = parting.high else {
             return Ok(());
         };
@@ -115,7 +115,10 @@ fn push_earlier<'a, K, V>(
 }
 
 /// Puts what is left of a node on a stack, if a pair is left there.
-fn push_rest<'a, K, V>(stack: &mut Vec<Rest<'a, K, V>>, rest: Rest<'a, K, V>) -> Result<(), Memory>
+fn push_frame<'a, K, V>(
+    stack: &mut Vec<Frame<'a, K, V>>,
+    rest: Frame<'a, K, V>,
+) -> Result<(), Memory>
     requires row { IsFull (plain (children_of rest.row.now)) }
     requires rows { HasFullRows (left_rows stack.old.items) }
     ensures last { OnOk result (stacked stack.new.items

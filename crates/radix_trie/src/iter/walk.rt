@@ -2,7 +2,7 @@
 ghost use Rattle.std.specs.Iterator.{YieldsFirstBy, item_count};
 ghost use Rattle.radix_trie.specs.Walks.{deref_pair};
 
-use crate::iter::rows::{Rest, enter, parts};
+use crate::iter::rows::{Frame, enter, parts};
 use std::iter::FusedIterator;
 use std::marker::Model;
 
@@ -14,9 +14,9 @@ use std::marker::Model;
 #[derive(Drop)]
 pub struct Iter<'a, K, V> {
     /// What comes next.
-    pub(super) at: Rest<'a, K, V>,
+    pub(super) at: Frame<'a, K, V>,
     /// What comes after it, the last one first, with room for all rows that come of it.
-    pub(super) stack: Vec<Rest<'a, K, V>>,
+    pub(super) stack: Vec<Frame<'a, K, V>>,
 }
 
 impl<'a, K, V> Model for Iter<'a, K, V> {

@@ -28,7 +28,7 @@ impl<T: KeySigned, V: Clone> Trie<T, V> {
             IsKeyed T.TrieKey.encoding T.KeyInt.is_value self.now → IsKeyed
             (λ key. nibbles (turned_bytes (T.KeyInt.bytes key))) T.KeyInt.is_value moved) }
         ensures footprint { IfOk result (λ moved. IsSameFootprint self.now moved) }
-        ensures light { map.len self.now ≡ 0 → IsOk result }
+        ensures inline { map.len self.now ≡ 0 → IsOk result }
     {
         Ok(Trie {
             root: turned_copy(&self.root, self.alloc)?,

@@ -43,7 +43,7 @@ impl<K: TrieKey + Drop, V: Drop> Trie<K, V> {
         ensures pairs { IfOk result (λ trie.
             WholeRun I.next_gives iter (λ p. trie ≡ pairs_in_order K.encoding p.items)) }
         ensures why { IfErr result (λ e. SomeRun I.next_gives iter
-            (λ p. IsRefusedAtLast K.encoding K.is_light p.items e)) }
+            (λ p. IsRefusedAtLast K.encoding K.is_inline p.items e)) }
         ensures keyed { IfOk result (IsKeyed K.encoding K.is_value) }
     {
         let mut trie = Trie::new(alloc);
@@ -73,7 +73,7 @@ impl<K: TrieKey + Drop, V: Drop> Trie<K, V> {
         ensures stopped { IfErr result (λ e. SomeRun I.next_gives iter
             (λ p. IsStoppedAt K.encoding self.old self.new p.items (e.key, e.value))) }
         ensures why { IfErr result
-            (λ e. RefusesInsert self.new (K.encoding e.key) ⊤ (K.is_light e.key) e.why) }
+            (λ e. RefusesInsert self.new (K.encoding e.key) ⊤ (K.is_inline e.key) e.why) }
         ensures keyed { IsKeyed K.encoding K.is_value self.old
             → IsKeyed K.encoding K.is_value self.new }
     {
@@ -98,7 +98,7 @@ impl<K: TrieKey + Drop, V: Drop> Trie<K, V> {
         ensures merged { OnOk result
             (self.new ≡ with_pairs K.encoding self.old (pairs_below other [])) }
         ensures stopped { IfErr result
-            (λ e. IsPartlyMerged K.encoding K.is_light self.old other self.new e) }
+            (λ e. IsPartlyMerged K.encoding K.is_inline self.old other self.new e) }
         ensures keyed { IsKeyed K.encoding K.is_value self.old
             → IsKeyed K.encoding K.is_value self.new }
         ensures none { map.len other ≡ 0 → IsOk result }

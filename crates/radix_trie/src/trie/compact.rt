@@ -25,7 +25,7 @@ impl<K: TrieKey + Drop, V: Drop> Trie<K, V> {
     /// `Memory`: an allocation fails. Nothing has been moved then.
     pub fn compact(&mut self) -> Result<(), Memory>
         ensures same { self.new ≡ self.old }
-        ensures light { map.len self.old ≡ 0 → IsOk result }
+        ensures inline { map.len self.old ≡ 0 → IsOk result }
     {
         lay_anew(&mut self.root, self.alloc)
     }

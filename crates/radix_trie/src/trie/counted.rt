@@ -35,7 +35,7 @@ impl<K: TrieKey, V> Trie<K, V> {
         ensures few { IfOk result (λ r. r.1.nodes ≤ suc (length (Q.encoding key.now))) }
         ensures two_a_pair { IfOk result (λ r. r.1.nodes ≤ max 1 (2 * map.len self.now)) }
         ensures at_most_once { IfOk result (λ r. r.1.nibbles ≤ length (Q.encoding key.now)) }
-        ensures light { Q.is_light key.now → IsOk result }
+        ensures inline { Q.is_inline key.now → IsOk result }
     {
         let list = key.encode(self.allocator())?;
         let Searched { found, cost, .. } = find_counted(self.root(), &list);
@@ -53,7 +53,7 @@ impl<K: TrieKey, V> Trie<K, V> {
             (λ r. option_copied r.0 ≡ value_at self.now (Q.encoding key.now)) }
         ensures count { IfOk result (λ r. IsCompared self.now (Q.encoding key.now) r.1) }
         ensures at_most_once { IfOk result (λ r. r.1 ≤ length (Q.encoding key.now)) }
-        ensures light { Q.is_light key.now → IsOk result }
+        ensures inline { Q.is_inline key.now → IsOk result }
     {
         let (found, cost) = self.get_with_cost(key)?;
         Ok((found, cost.nibbles))

@@ -18,7 +18,7 @@ pub(crate) fn encoding_of<Q: TrieKey>(alloc: Global, key: &Q) -> Result<Nibblet,
     ensures ok { IfOk result (λ list. list ≡ Q.encoding key.now) }
     ensures fits { IfOk result (λ list. length list < 2 ^ 64) }
     ensures is_value { OnOk result (Q.is_value key.now) }
-    ensures light { Q.is_light key.now → IsOk result }
+    ensures inline { Q.is_inline key.now → IsOk result }
 {
     let list = key.encode(alloc)?;
     let _nibbles = list.len();
@@ -64,11 +64,11 @@ impl<K: TrieKey + Drop, V: Drop> Trie<K, V> {
         ensures handed_back { IfErr result (λ e. (e.key ≡ key) × (e.value ≡ value)) }
         ensures unchanged { OnErr result (self.new ≡ self.old) }
 
-        ensures light_stored { K.is_light key → IsStored self.old (K.encoding key)
+        ensures inline_stored { K.is_inline key → IsStored self.old (K.encoding key)
             → IsOk result }
         ensures room { OnOk result (IsFullAt self.old (K.encoding key) → ⊥) }
         ensures why { IfErr result
-            (λ e. RefusesInsert self.old (K.encoding key) ⊤ (K.is_light key) e.why) }
+            (λ e. RefusesInsert self.old (K.encoding key) ⊤ (K.is_inline key) e.why) }
     {
         let list = match encoding_of(self.alloc, &key) {
             Ok(list) => list,
@@ -158,11 +158,11 @@ impl<K: TrieKey + Drop, V: Drop> Trie<K, V> {
         ensures handed_back { IfErr result (λ e. (e.key ≡ key) × (e.value ≡ default)) }
         ensures unchanged { OnErr result (self.new ≡ self.old) }
 
-        ensures light_stored { K.is_light key → IsStored self.old (K.encoding key)
+        ensures inline_stored { K.is_inline key → IsStored self.old (K.encoding key)
             → IsOk result }
         ensures room { OnOk result (IsFullAt self.old (K.encoding key) → ⊥) }
         ensures why { IfErr result
-            (λ e. RefusesInsert self.old (K.encoding key) ⊤ (K.is_light key) e.why) }
+            (λ e. RefusesInsert self.old (K.encoding key) ⊤ (K.is_inline key) e.why) }
     {
         let list = match encoding_of(self.alloc, &key) {
             Ok(list) => list,

@@ -10,7 +10,7 @@ ghost use Rattle.radix_trie.specs.Lends.{lends_behind};
 ghost use Rattle.radix_trie.specs.Refusals.{IsFullAt, JoinsAreShort, RefusesInsert};
 
 use crate::error::InsertError;
-use crate::place::PathList;
+use crate::locus::PathList;
 use crate::trie::Trie;
 use radix_keys::{Memory, Nibblet, Refused, TrieKey};
 use radix_nodes::trie_node::KeyValue;
@@ -71,7 +71,7 @@ impl<K: TrieKey, V> Trie<K, V> {
             (λ entry. entry_lender entry ≡ self.entry.ghost_name) }
         ensures is_value { OnOk result (K.is_value key) }
         ensures handed_back { IfErr result (λ e. e.back ≡ key) }
-        ensures light { K.is_light key → IsOk result }
+        ensures inline { K.is_inline key → IsOk result }
     {
         match key.encode(self.allocator()) {
             Ok(list) => Ok(Entry {

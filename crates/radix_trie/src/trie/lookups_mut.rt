@@ -38,7 +38,7 @@ impl<K: TrieKey, V> Trie<K, V> {
             ≡ Some value.now) }
         ensures absent { IfErr result (λ e. e ≡ FindError.Absent
             → value_at self.old (Q.encoding key.now) ≡ None) }
-        ensures light { Q.is_light key.now → IfErr result (λ e. e ≡ FindError.Absent) }
+        ensures inline { Q.is_inline key.now → IfErr result (λ e. e ≡ FindError.Absent) }
     {
         let list = match key.encode(self.allocator()) {
             Ok(list) => list,
@@ -65,7 +65,7 @@ impl<K: TrieKey, V> Trie<K, V> {
             (λ value. IsValueAbove self.old (Q.encoding key.now) (Some value.now)) }
         ensures absent { IfErr result (λ e. e ≡ FindError.Absent
             → IsAncestor self.old (Q.encoding key.now) None) }
-        ensures light { Q.is_light key.now → IfErr result (λ e. e ≡ FindError.Absent) }
+        ensures inline { Q.is_inline key.now → IfErr result (λ e. e ≡ FindError.Absent) }
     {
         let Ok(list) = key.encode(self.allocator()) else {
             return Err(FindError::Memory);
@@ -106,7 +106,7 @@ impl<K: TrieKey, V> Trie<K, V> {
             (Q.encoding key.now) result) }
         ensures value { IfOk result (λ found. option_copied_mut found
             ≡ value_at self.old (Q.encoding key.now)) }
-        ensures light { Q.is_light key.now → IsOk result }
+        ensures inline { Q.is_inline key.now → IsOk result }
     {
         absent_as_none(self.find_mut(key))
     }

@@ -32,10 +32,10 @@ mod equality;
 mod graft;
 mod indexed;
 mod integrity;
+mod loci;
 mod lookups;
 mod lookups_mut;
 mod pages;
-mod places;
 mod pop;
 mod prune;
 mod queries;
@@ -46,7 +46,7 @@ mod vacant;
 mod values;
 
 /// A map from keys to values. Keys are told apart by their encodings, and one is *inline* if it is
-/// encoded without an allocation (`is_light`): of the key types here each of at most 32 nibbles.
+/// encoded without an allocation (`is_inline`): of the key types here each of at most 32 nibbles.
 ///
 /// A contract sees it as the finite map from each stored encoding, a list of nibbles, to the pair
 /// of the key and the value that are stored there.
@@ -148,7 +148,7 @@ impl<K: TrieKey, V> Trie<K, V> {
         ensures value { IfOk result
             (λ found. option_copied found ≡ value_at self.now (Q.encoding key.now)) }
         ensures is_value { OnOk result (Q.is_value key.now) }
-        ensures light { Q.is_light key.now → IsOk result }
+        ensures inline { Q.is_inline key.now → IsOk result }
     {
         let list = key.encode(self.alloc)?;
         Ok(self.at(&list))
@@ -165,7 +165,7 @@ impl<K: TrieKey, V> Trie<K, V> {
         ensures pair { IfOk result (λ found. option_map deref_pair found
             ≡ map.get self.now (Q.encoding key.now)) }
         ensures is_value { OnOk result (Q.is_value key.now) }
-        ensures light { Q.is_light key.now → IsOk result }
+        ensures inline { Q.is_inline key.now → IsOk result }
     {
         let list = key.encode(self.alloc)?;
         Ok(key_value_of(self.pair_at(&list)))
@@ -180,7 +180,7 @@ impl<K: TrieKey, V> Trie<K, V> {
         ensures stored { IfOk result
             (λ found. IsTrue found ↔ IsStored self.now (Q.encoding key.now)) }
         ensures is_value { OnOk result (Q.is_value key.now) }
-        ensures light { Q.is_light key.now → IsOk result }
+        ensures inline { Q.is_inline key.now → IsOk result }
     {
         let list = key.encode(self.alloc)?;
         Ok(self.contains(&list))
@@ -246,7 +246,7 @@ impl<K: TrieKey + Clone, V: Clone> Trie<K, V> {
         ensures keyed { IfOk result (λ copy.
             ((key clone : K) → K.is_clone key clone → K.is_value key → K.is_value clone)
             → IsKeyed K.encoding K.is_value self.now → IsKeyed K.encoding K.is_value copy) }
-        ensures light { map.len self.now ≡ 0 → IsOk result }
+        ensures inline { map.len self.now ≡ 0 → IsOk result }
     {
         Ok(Trie {
             root: copied(&self.root, self.alloc)?,

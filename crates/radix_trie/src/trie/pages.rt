@@ -6,13 +6,13 @@ ghost use Rattle.radix_trie.specs.Views.{pairs_after, pairs_below};
 ghost use Rattle.radix_trie.specs.Walks.{deref_pairs};
 
 use crate::iter::{Cursor, first_pairs};
-use crate::place::{Limits, Place};
+use crate::locus::{Limits, Locus};
 use crate::trie::Trie;
 use radix_keys::{Memory, Nibblet, TrieKey};
 use std::ops::Bound;
 
 impl<K: TrieKey, V> Trie<K, V> {
-    /// The first pairs at and below the key's place, in the order of their encodings: `most` of
+    /// The first pairs at and below the key, in the order of their encodings: `most` of
     /// them, or all where there are fewer. The time grows with `most` and the depth, and not with
     /// how many pairs stand there.
     ///
@@ -38,8 +38,8 @@ impl<K: TrieKey, V> Trie<K, V> {
     pub fn first_below<Q: TrieKey>(&self, key: &Q, most: usize) -> Result<Vec<(&K, &V)>, Memory>
         ensures pairs { IfOk result (λ list. deref_pairs list.items
             ≡ take most (pairs_below self.now (Q.encoding key.now))) }
-        ensures light_no_page { Q.is_light key.now → most ≡ 0 → IsOk result }
-        ensures light_none { Q.is_light key.now
+        ensures inline_no_page { Q.is_inline key.now → most ≡ 0 → IsOk result }
+        ensures inline_none { Q.is_inline key.now
             → map.len (below self.now (Q.encoding key.now)) ≡ 0
             → IsOk result }
     {
@@ -47,7 +47,7 @@ impl<K: TrieKey, V> Trie<K, V> {
         self.page_below(&list, most)
     }
 
-    /// The first pairs at and below the key's place whose encodings come strictly after that of
+    /// The first pairs at and below the key whose encodings come strictly after that of
     /// `last`, in the order of their encodings: `most` of them, or all where there are fewer. So
     /// the page after one whose last key is `last`. The time is that of a lookup and of the page,
     /// and doesn't grow with how many pairs stand there or come before.
@@ -66,9 +66,9 @@ impl<K: TrieKey, V> Trie<K, V> {
     ) -> Result<Vec<(&K, &V)>, Memory>
         ensures pairs { IfOk result (λ list. deref_pairs list.items
             ≡ take most (pairs_after self.now (Q.encoding key.now) (R.encoding last.now))) }
-        ensures light_no_page { Q.is_light key.now → most ≡ 0 → IsOk result }
-        ensures light_none { Q.is_light key.now
-            → R.is_light last.now
+        ensures inline_no_page { Q.is_inline key.now → most ≡ 0 → IsOk result }
+        ensures inline_none { Q.is_inline key.now
+            → R.is_inline last.now
             → map.len (below self.now (Q.encoding key.now)) ≡ 0
             → IsOk result }
     {
@@ -78,8 +78,8 @@ impl<K: TrieKey, V> Trie<K, V> {
         }
         let last = last.encode(self.allocator())?;
         let limits = Limits::of(&list, Bound::Excluded(&last), Bound::Unbounded);
-        let rests = Place::find(self, &list).rests(limits)?;
-        first_pairs(self.allocator(), Cursor::of(self.allocator(), rests), most)
+        let frames = Locus::find(self, &list).frames(limits)?;
+        first_pairs(self.allocator(), Cursor::of(self.allocator(), frames), most)
     }
 
     /// The first pairs at and below a list, `most` of them where there are so many.
@@ -89,6 +89,6 @@ impl<K: TrieKey, V> Trie<K, V> {
         ensures no_page { most ≡ 0 → IsOk result }
         ensures none { map.len (below self.now list.now) ≡ 0 → IsOk result }
     {
-        first_pairs(self.allocator(), Place::find(self, list).cursor(), most)
+        first_pairs(self.allocator(), Locus::find(self, list).cursor(), most)
     }
 }

@@ -4,13 +4,13 @@ ghost use Rattle.std.specs.FinMap as map;
 ghost use Rattle.nibble_map.specs.Maps.{below, without_below};
 ghost use Rattle.radix_trie.specs.Views.{pairs_below};
 
-use crate::place::Place;
+use crate::locus::Locus;
 use crate::trie::Trie;
 use radix_keys::{Memory, Nibblet, TrieKey};
 use radix_nodes::removal::prune::{prune_all, prune_root};
 
 impl<K: TrieKey + Drop, V: Drop> Trie<K, V> {
-    /// Removes all pairs at and below the key's place, and returns them in the order of their
+    /// Removes all pairs at and below the key, and returns them in the order of their
     /// encodings.
     ///
     /// The key needn't be stored, nor be a point. Where nothing stands there nothing changes, and
@@ -38,7 +38,7 @@ impl<K: TrieKey + Drop, V: Drop> Trie<K, V> {
             (λ gone. gone.items ≡ pairs_below self.old (Q.encoding key.now)) }
         ensures removed { OnOk result (self.new ≡ without_below self.old (Q.encoding key.now)) }
         ensures unchanged { OnErr result (self.new ≡ self.old) }
-        ensures light_none { Q.is_light key.now
+        ensures inline_none { Q.is_inline key.now
             → map.len (below self.old (Q.encoding key.now)) ≡ 0
             → IsOk result }
     {
@@ -56,7 +56,7 @@ impl<K: TrieKey + Drop, V: Drop> Trie<K, V> {
         if list.len() == 0 {
             return self.prune_whole();
         }
-        let room = Vec::with_capacity(self.alloc, Place::find(&*self, list).len())?;
+        let room = Vec::with_capacity(self.alloc, Locus::find(&*self, list).len())?;
         match prune_root(&mut self.root, list, room) {
             Ok(Some(pruned)) => {
                 self.length -= pruned.pairs.len();

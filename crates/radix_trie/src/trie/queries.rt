@@ -6,7 +6,7 @@ ghost use Rattle.radix_trie.specs.Views.{IsPairAbove, IsValueAbove, pairs_above,
 ghost use Rattle.radix_trie.specs.Walks.{deref_pair};
 
 use crate::iter::{CommonPrefixes, Cursor};
-use crate::place::Place;
+use crate::locus::Locus;
 use crate::trie::Trie;
 use radix_keys::{Memory, TrieKey};
 
@@ -32,7 +32,7 @@ impl<K: TrieKey, V> Trie<K, V> {
     pub fn get_ancestor_value<Q: TrieKey>(&self, key: &Q) -> Result<Option<&V>, Memory>
         ensures value { IfOk result
             (λ found. IsValueAbove self.now (Q.encoding key.now) (option_copied found)) }
-        ensures light { Q.is_light key.now → IsOk result }
+        ensures inline { Q.is_inline key.now → IsOk result }
     {
         let list = key.encode(self.allocator())?;
         Ok(self.nearest_value(&list))
@@ -47,7 +47,7 @@ impl<K: TrieKey, V> Trie<K, V> {
     pub fn longest_match<Q: TrieKey>(&self, key: &Q) -> Result<Option<(&K, &V)>, Memory>
         ensures pair { IfOk result (λ found. IsPairAbove self.now (Q.encoding key.now)
             (option_map deref_pair found)) }
-        ensures light { Q.is_light key.now → IsOk result }
+        ensures inline { Q.is_inline key.now → IsOk result }
     {
         let list = key.encode(self.allocator())?;
         Ok(self.nearest(&list))
@@ -64,13 +64,13 @@ impl<K: TrieKey, V> Trie<K, V> {
     pub fn below<Q: TrieKey>(&self, key: &Q) -> Result<Cursor<'_, K, V>, Memory>
         ensures walk { IfOk result
             (λ walk. walk ≡ pairs_below self.now (Q.encoding key.now)) }
-        ensures light { Q.is_light key.now → IsOk result }
+        ensures inline { Q.is_inline key.now → IsOk result }
     {
         let list = key.encode(self.allocator())?;
-        Ok(Place::find(self, &list).cursor())
+        Ok(Locus::find(self, &list).cursor())
     }
 
-    /// The count of pairs at and below the key's place. They are counted, so the time grows with
+    /// The count of pairs at and below the key. They are counted, so the time grows with
     /// their number.
     ///
     /// The key needn't be stored, nor be a point.
@@ -81,10 +81,10 @@ impl<K: TrieKey, V> Trie<K, V> {
     pub fn count_below<Q: TrieKey>(&self, key: &Q) -> Result<usize, Memory>
         ensures count { IfOk result
             (λ count. count ≡ map.len (below self.now (Q.encoding key.now))) }
-        ensures light { Q.is_light key.now → IsOk result }
+        ensures inline { Q.is_inline key.now → IsOk result }
     {
         let list = key.encode(self.allocator())?;
-        Ok(Place::find(self, &list).len())
+        Ok(Locus::find(self, &list).len())
     }
 
     /// The walk over all pairs whose encodings are prefixes of the key's encoding, from the
@@ -110,7 +110,7 @@ impl<K: TrieKey, V> Trie<K, V> {
     pub fn common_prefixes<Q: TrieKey>(&self, key: &Q) -> Result<CommonPrefixes<'_, K, V>, Memory>
         ensures walk { IfOk result
             (λ pairs. pairs ≡ pairs_above self.now (Q.encoding key.now)) }
-        ensures light { Q.is_light key.now → IsOk result }
+        ensures inline { Q.is_inline key.now → IsOk result }
     {
         let list = key.encode(self.allocator())?;
         Ok(CommonPrefixes::new(self.root(), list))

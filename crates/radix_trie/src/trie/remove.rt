@@ -32,12 +32,12 @@ impl<K: TrieKey + Drop, V: Drop> Trie<K, V> {
         ensures removed { OnOk result (self.new ≡ map.remove self.old (Q.encoding key.now)) }
         ensures unchanged { OnErr result (self.new ≡ self.old) }
 
-        ensures light_absent { Q.is_light key.now → map.get self.old (Q.encoding key.now) ≡ None
+        ensures inline_absent { Q.is_inline key.now → map.get self.old (Q.encoding key.now) ≡ None
             → IsOk result }
-        ensures light_short { Q.is_light key.now
+        ensures inline_short { Q.is_inline key.now
             → ((e : List ℕ) → IsStored self.old e → IsShort e)
             → IsOk result }
-        ensures join { Q.is_light key.now → JoinsAreShort self.old (Q.encoding key.now)
+        ensures join { Q.is_inline key.now → JoinsAreShort self.old (Q.encoding key.now)
             → IsOk result }
     {
         let list = key.encode(self.alloc)?;
@@ -55,12 +55,12 @@ impl<K: TrieKey + Drop, V: Drop> Trie<K, V> {
         ensures removed { OnOk result (self.new ≡ map.remove self.old (Q.encoding key.now)) }
         ensures unchanged { OnErr result (self.new ≡ self.old) }
 
-        ensures light_absent { Q.is_light key.now → map.get self.old (Q.encoding key.now) ≡ None
+        ensures inline_absent { Q.is_inline key.now → map.get self.old (Q.encoding key.now) ≡ None
             → IsOk result }
-        ensures light_short { Q.is_light key.now
+        ensures inline_short { Q.is_inline key.now
             → ((e : List ℕ) → IsStored self.old e → IsShort e)
             → IsOk result }
-        ensures join { Q.is_light key.now → JoinsAreShort self.old (Q.encoding key.now)
+        ensures join { Q.is_inline key.now → JoinsAreShort self.old (Q.encoding key.now)
             → IsOk result }
     {
         let list = key.encode(self.alloc)?;

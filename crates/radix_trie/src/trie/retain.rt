@@ -7,7 +7,7 @@ ghost use Rattle.radix_trie.specs.Retains.{RemovesAll, RemovesBeforeOne, Removes
 ghost use Rattle.radix_trie.specs.Views.{pairs_below};
 
 use crate::key_laws::keys_stand_at_their_encodings;
-use crate::place::Place;
+use crate::locus::Locus;
 use crate::trie::Trie;
 use radix_keys::{Memory, Nibblet, TrieKey};
 
@@ -35,7 +35,7 @@ impl<K: TrieKey + Drop, V: Drop> Trie<K, V> {
         self.retain_at(&whole, &keep)
     }
 
-    /// Keeps, of the pairs at and below the key's place, those of which the closure returns true,
+    /// Keeps, of the pairs at and below the key, those of which the closure returns true,
     /// and removes all others of these. It is called once for each of them, in the order of the
     /// encodings, before the first one is removed.
     ///
@@ -64,7 +64,7 @@ impl<K: TrieKey + Drop, V: Drop> Trie<K, V> {
             ≡ without_below self.old (Q.encoding key.now) }
         ensures keyed { IsKeyed K.encoding K.is_value self.old
             → IsKeyed K.encoding K.is_value self.new }
-        ensures light_none { Q.is_light key.now
+        ensures inline_none { Q.is_inline key.now
             → map.len (below self.old (Q.encoding key.now)) ≡ 0
             → IsOk result }
     {
@@ -108,7 +108,7 @@ impl<K: TrieKey + Drop, V: Drop> Trie<K, V> {
         ensures none { map.len (below self.now list.now) ≡ 0 → IsOk result }
     {
         let mut gone = Vec::new(self.alloc);
-        let mut pairs = Place::find(self, list).cursor();
+        let mut pairs = Locus::find(self, list).cursor();
         while let Some((key, value)) = pairs.next()? {
             if !keeps(keep, key, value) {
                 gone.push(key.encode(self.alloc)?)?;

@@ -3,7 +3,7 @@ ghost use Rattle.std.specs.Prelude.{[], ◌≡◌, ◌<◌, length, None, IsOk, 
 ghost use Rattle.std.specs.FinMap as map;
 ghost use Rattle.nibble_map.specs.Maps.{below, without_below};
 
-use crate::place::Place;
+use crate::locus::Locus;
 use crate::trie::Trie;
 use radix_keys::{Memory, Nibblet, TrieKey};
 use radix_nodes::insertion::attach::make_upper;
@@ -13,7 +13,7 @@ use radix_nodes::whole::size::measure;
 use std::mem;
 
 impl<K: TrieKey + Drop, V: Drop> Trie<K, V> {
-    /// Removes all pairs at and below the key's place, and returns the trie that holds them.
+    /// Removes all pairs at and below the key, and returns the trie that holds them.
     ///
     /// The key needn't be stored, nor be a point. No pair is moved: the node is cut off with all
     /// that is below it. So the time grows with the depth and with how many nodes are cut off,
@@ -36,8 +36,8 @@ impl<K: TrieKey + Drop, V: Drop> Trie<K, V> {
         ensures split { IfOk result (λ part. part ≡ below self.old (Q.encoding key.now)) }
         ensures removed { OnOk result (self.new ≡ without_below self.old (Q.encoding key.now)) }
         ensures unchanged { OnErr result (self.new ≡ self.old) }
-        ensures light_whole { Q.is_light key.now → Q.encoding key.now ≡ [] → IsOk result }
-        ensures light_none { Q.is_light key.now
+        ensures inline_whole { Q.is_inline key.now → Q.encoding key.now ≡ [] → IsOk result }
+        ensures inline_none { Q.is_inline key.now
             → map.len (below self.old (Q.encoding key.now)) ≡ 0
             → IsOk result }
     {
@@ -56,7 +56,7 @@ impl<K: TrieKey + Drop, V: Drop> Trie<K, V> {
         ensures unchanged { OnErr result (self.new ≡ self.old) }
         ensures none { map.len (below self.old list.now) ≡ 0 → IsOk result }
     {
-        let Some((_, path)) = Place::find(&*self, list).nearest(list)? else {
+        let Some((_, path)) = Locus::find(&*self, list).nearest(list)? else {
             return Ok(Trie::new(self.alloc));
         };
         let upper = make_upper(self.alloc, Nibblet::new(self.alloc), &path)?;

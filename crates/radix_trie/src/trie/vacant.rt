@@ -68,7 +68,7 @@ impl<K: TrieKey + Drop, V: Drop> Trie<K, V> {
 
         ensures room { OnOk result (IsFullAt self.old (K.encoding key) → ⊥) }
         ensures why { IfErr result
-            (λ e. RefusesTryInsert self.old (K.encoding key) (K.is_light key) e.why) }
+            (λ e. RefusesTryInsert self.old (K.encoding key) (K.is_inline key) e.why) }
     {
         let pair = KeyValue { key, value };
         let Ok(list) = encoding_of(self.alloc, &pair.key) else {
@@ -103,11 +103,11 @@ impl<K: TrieKey + Drop, V: Drop> Trie<K, V> {
 
         ensures handed_back { IfErr result (λ e. (e.key ≡ key) × (e.value ≡ default)) }
 
-        ensures light_stored { K.is_light key → IsStored self.old (K.encoding key)
+        ensures inline_stored { K.is_inline key → IsStored self.old (K.encoding key)
             → IsOk result }
         ensures room { OnOk result (IsFullAt self.old (K.encoding key) → ⊥) }
         ensures why { IfErr result
-            (λ e. RefusesInsert self.old (K.encoding key) ⊤ (K.is_light key) e.why) }
+            (λ e. RefusesInsert self.old (K.encoding key) ⊤ (K.is_inline key) e.why) }
     {
         let Ok(list) = encoding_of(self.alloc, &key) else {
             return Err(refused(

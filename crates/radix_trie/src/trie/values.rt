@@ -23,7 +23,7 @@ impl<K: TrieKey, V> Trie<K, V> {
         change_values(&mut self.root, &f);
     }
 
-    /// Changes each value at and below the key's place by one call of the closure with the pair's
+    /// Changes each value at and below the key by one call of the closure with the pair's
     /// key. The encodings and the keys stay. The time is that of a lookup and of the pairs below
     /// the key.
     ///
@@ -48,7 +48,7 @@ impl<K: TrieKey, V> Trie<K, V> {
         ensures unchanged { OnErr result (self.new ≡ self.old) }
         ensures keyed { IsKeyed K.encoding K.is_value self.old
             → IsKeyed K.encoding K.is_value self.new }
-        ensures light { Q.is_light key.now → IsOk result }
+        ensures inline { Q.is_inline key.now → IsOk result }
     {
         let list = key.encode(self.alloc)?;
         self.change_below(&list, &f);

@@ -5,10 +5,10 @@ ghost use Rattle.nibble_map.specs.Lists.{Each};
 ghost use Rattle.nibble_map.specs.MapQueries.{AreChildren, IsChild};
 ghost use Rattle.nibble_map.specs.Nibbles.{IsShort};
 ghost use Rattle.radix_nodes.specs.Nodes.{tree_of};
-ghost use Rattle.radix_trie.specs.Places.{IsNodeOf, IsPlaceIn, child_views};
+ghost use Rattle.radix_trie.specs.Loci.{IsNodeOf, IsLocusIn, child_views};
 ghost use Rattle.radix_trie.specs.Views.{paths_of};
 
-use crate::place::{Place, extended};
+use crate::locus::{Locus, extended};
 use crate::trie::Trie;
 use crate::view::subtrie::SubTrie;
 use arrayvec::ArrayVec;
@@ -61,7 +61,7 @@ impl<'a, K: TrieKey, V> Children<'a, K, V> {
     }
 }
 
-impl<'a, K: TrieKey, V> Place<'a, K, V> {
+impl<'a, K: TrieKey, V> Locus<'a, K, V> {
     /// For each nibble in rising order, the view at the shortest point that goes on from the path
     /// by it.
     pub(crate) fn children(
@@ -69,7 +69,7 @@ impl<'a, K: TrieKey, V> Place<'a, K, V> {
         trie: &'a Trie<K, V>,
         path: &Nibblet,
     ) -> Result<Children<'a, K, V>, Memory>
-        requires { IsPlaceIn K.encoding trie.now path.now self.now }
+        requires { IsLocusIn K.encoding trie.now path.now self.now }
         ensures children { IfOk result
             (λ children. AreChildren trie.now path.now (paths_of children)) }
         ensures same_map { IfOk result

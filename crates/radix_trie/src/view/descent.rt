@@ -4,7 +4,7 @@ ghost use Rattle.std.specs.FinMap as map;
 ghost use Rattle.radix_trie.specs.Walks.{deref_pair};
 
 use crate::iter::key_value_of;
-use crate::place::Place;
+use crate::locus::Locus;
 use crate::trie::Trie;
 use radix_keys::{Nibblet, TrieKey};
 use std::marker::Model;
@@ -17,7 +17,7 @@ use std::marker::Model;
 /// encoding that the list is a prefix of, without the list.
 #[derive(Drop)]
 pub struct Descent<'a, K: TrieKey, V> {
-    place: Place<'a, K, V>,
+    locus: Locus<'a, K, V>,
 }
 
 impl<'a, K: TrieKey, V> Model for Descent<'a, K, V> {
@@ -28,11 +28,11 @@ impl<'a, K: TrieKey, V> Model for Descent<'a, K, V> {
     ghost coded = { pair_map_code K.code V.code };
 
     ghost use Rattle.radix_trie.specs.Descents.{map_behind_path};
-    ghost use Rattle.radix_trie.specs.Places.{IsSomePlace};
+    ghost use Rattle.radix_trie.specs.Loci.{IsSomeLocus};
 
-    ghost view = { λ d. map_behind_path d.place.found };
+    ghost view = { λ d. map_behind_path d.locus.found };
 
-    ghost invariant = { λ d. IsSomePlace K.encoding d.place };
+    ghost invariant = { λ d. IsSomeLocus K.encoding d.locus };
 }
 
 impl<K: TrieKey, V> Trie<K, V> {
@@ -41,7 +41,7 @@ impl<K: TrieKey, V> Trie<K, V> {
         ensures { result ≡ self.now }
     {
         Descent {
-            place: Place::at(self, self.root(), self.top()),
+            locus: Locus::at(self, self.root(), self.top()),
         }
     }
 }
@@ -54,7 +54,7 @@ impl<'a, K: TrieKey, V> Descent<'a, K, V> {
         ensures { (q : List ℕ) → map.get result q ≡ map.get self.now (list.now ++ q) }
     {
         Descent {
-            place: self.place.below(list),
+            locus: self.locus.below(list),
         }
     }
 
@@ -63,13 +63,13 @@ impl<'a, K: TrieKey, V> Descent<'a, K, V> {
     pub fn get_key_value(&self) -> Option<(&'a K, &'a V)>
         ensures { option_map deref_pair result ≡ map.get self.now [] }
     {
-        key_value_of(self.place.pair())
+        key_value_of(self.locus.pair())
     }
 
     /// Whether the list is a prefix of no stored encoding. It takes constant time.
     pub fn is_empty(&self) -> bool
         ensures { IsTrue result ↔ (map.len self.now ≡ 0) }
     {
-        self.place.is_empty()
+        self.locus.is_empty()
     }
 }

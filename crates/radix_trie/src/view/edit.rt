@@ -39,7 +39,7 @@ impl<'a, K: TrieKey + Drop, V: Drop> SubTrieMut<'a, K, V> {
         ensures unchanged { OnErr result (map_behind self.new ≡ map_behind self.old) }
         ensures why { IfErr result (λ e.
             RefusesInsert (map_behind self.old) (K.encoding key)
-            (IsPrefix (path_of self.old) (K.encoding key)) (K.is_light key) e.why) }
+            (IsPrefix (path_of self.old) (K.encoding key)) (K.is_inline key) e.why) }
     {
         let pair = KeyValue { key, value };
         let Ok(list) = encoding_of(self.trie.allocator(), &pair.key) else {
@@ -51,7 +51,7 @@ impl<'a, K: TrieKey + Drop, V: Drop> SubTrieMut<'a, K, V> {
         self.trie.insert_at(&list, pair)
     }
 
-    /// Removes all pairs at and below the key's place, as `Trie::remove_prefix` does.
+    /// Removes all pairs at and below the key, as `Trie::remove_prefix` does.
     ///
     /// # Errors
     ///
@@ -68,7 +68,7 @@ impl<'a, K: TrieKey + Drop, V: Drop> SubTrieMut<'a, K, V> {
         ensures unchanged { OnErr result (map_behind self.new ≡ map_behind self.old) }
         ensures why { IfErr result (λ e.
             RefusesBelow (map_behind self.old) (Q.encoding key.now)
-            (IsPrefix (path_of self.old) (Q.encoding key.now)) (Q.is_light key.now) e) }
+            (IsPrefix (path_of self.old) (Q.encoding key.now)) (Q.is_inline key.now) e) }
     {
         let list = inside(&self.path, key, self.trie.allocator())?;
         Ok(self.trie.prune_at(&list)?)
@@ -91,7 +91,7 @@ impl<'a, K: TrieKey + Drop, V: Drop> SubTrieMut<'a, K, V> {
         ensures unchanged { OnErr result (map_behind self.new ≡ map_behind self.old) }
         ensures why { IfErr result (λ e.
             RefusesRemove (map_behind self.old) (Q.encoding key.now)
-            (IsPrefix (path_of self.old) (Q.encoding key.now)) (Q.is_light key.now) e) }
+            (IsPrefix (path_of self.old) (Q.encoding key.now)) (Q.is_inline key.now) e) }
     {
         let list = inside(&self.path, key, self.trie.allocator())?;
         match self.trie.take_at(&list) {

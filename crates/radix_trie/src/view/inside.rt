@@ -17,7 +17,7 @@ pub(super) fn inside<Q: TrieKey>(
     ensures inside { OnOk result (IsPrefix path.now (Q.encoding key.now)) }
     ensures outside { result ≡ Err SubTrieError.Outside
         → IsPrefix path.now (Q.encoding key.now) → ⊥ }
-    ensures light { Q.is_light key.now → result ≢ Err SubTrieError.Memory }
+    ensures inline { Q.is_inline key.now → result ≢ Err SubTrieError.Memory }
 {
     let list = key.encode(alloc)?;
     if begins(path, &list) {

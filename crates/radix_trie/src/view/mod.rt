@@ -1,9 +1,9 @@
 //! Views: a trie, and a path in it.
-mod at;
 pub(crate) mod children;
 pub(crate) mod descent;
 mod edit;
 pub(crate) mod inside;
+mod locate;
 mod opens;
 mod queries;
 mod retain;

@@ -5,7 +5,7 @@ ghost use Rattle.nibble_map.specs.MapQueries.{IsFragment};
 ghost use Rattle.nibble_map.specs.Maps.{IsPoint};
 ghost use Rattle.radix_nodes.specs.Nodes.{fragment_of, tree_of};
 ghost use Rattle.radix_trie.specs.Lends.{closed_as_none, rests_if_err, rests_if_none};
-ghost use Rattle.radix_trie.specs.Places.{IsNodeOf};
+ghost use Rattle.radix_trie.specs.Loci.{IsNodeOf};
 ghost use Rattle.radix_trie.specs.WriteViews.{map_behind, path_of, prefix_of, lender_of};
 
 use crate::error::OpenError;
@@ -31,14 +31,14 @@ impl<K: TrieKey, V> Trie<K, V> {
     /// The key's encoding and the fragment of the point there, if one stands there.
     ///
     /// It fails only if an allocation for the two fails; an inline key needs none.
-    fn place_of<Q: TrieKey>(&self, key: &Q) -> Result<Option<(Nibblet, Nibblet)>, Memory>
+    fn locus_of<Q: TrieKey>(&self, key: &Q) -> Result<Option<(Nibblet, Nibblet)>, Memory>
         ensures point { IfOk result
             (λ o. MatchOption o (IsPoint self.now (Q.encoding key.now) → ⊥)
             (λ _. IsPoint self.now (Q.encoding key.now))) }
-        ensures path { IfOk result (λ o. IfSome o (λ place. place.0 ≡ Q.encoding key.now)) }
+        ensures path { IfOk result (λ o. IfSome o (λ locus. locus.0 ≡ Q.encoding key.now)) }
         ensures fragment { IfOk result
-            (λ o. IfSome o (λ place. IsFragment self.now (Q.encoding key.now) place.1)) }
-        ensures light { Q.is_light key.now → IsOk result }
+            (λ o. IfSome o (λ locus. IsFragment self.now (Q.encoding key.now) locus.1)) }
+        ensures inline { Q.is_inline key.now → IsOk result }
     {
         let path = key.encode(self.allocator())?;
         let Some(node) = self.node_at(&path) else {
@@ -79,9 +79,9 @@ impl<K: TrieKey, V> Trie<K, V> {
         ensures point { IsOk result → IsPoint self.old (Q.encoding key.now) }
         ensures closed { IfErr result (λ e. e ≡ OpenError.Closed
             → IsPoint self.old (Q.encoding key.now) → ⊥) }
-        ensures light { Q.is_light key.now → IfErr result (λ e. e ≡ OpenError.Closed) }
+        ensures inline { Q.is_inline key.now → IfErr result (λ e. e ≡ OpenError.Closed) }
     {
-        match self.place_of(key) {
+        match self.locus_of(key) {
             Ok(Some((path, prefix))) => Ok(SubTrieMut::at(self, path, prefix)),
             Ok(None) => Err(OpenError::Closed),
             Err(_) => Err(OpenError::Memory),
@@ -111,7 +111,7 @@ impl<K: TrieKey, V> Trie<K, V> {
         ensures point { IfOk result
             (λ o. MatchOption o (IsPoint self.old (Q.encoding key.now) → ⊥)
             (λ _. IsPoint self.old (Q.encoding key.now))) }
-        ensures light { Q.is_light key.now → IsOk result }
+        ensures inline { Q.is_inline key.now → IsOk result }
     {
         closed_as_none(self.open_mut(key))
     }

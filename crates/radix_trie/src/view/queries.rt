@@ -5,10 +5,10 @@ ghost use Rattle.nibble_map.specs.MapQueries.{AreChildren, IsAncestor, IsChild, 
 ghost use Rattle.nibble_map.specs.Maps.{IsPoint};
 ghost use Rattle.nibble_map.specs.Nibbles.{IsShort};
 ghost use Rattle.radix_nodes.specs.Nodes.{tree_of};
-ghost use Rattle.radix_trie.specs.Places.{IsNodeOf};
+ghost use Rattle.radix_trie.specs.Loci.{IsNodeOf};
 ghost use Rattle.radix_trie.specs.Views.{paths_of};
 
-use crate::place::Place;
+use crate::locus::Locus;
 use crate::trie::Trie;
 use crate::view::children::Children;
 use crate::view::subtrie::SubTrie;
@@ -28,7 +28,7 @@ impl<K: TrieKey, V> Trie<K, V> {
             (λ _. IsPoint self.now (Q.encoding key.now))) }
         ensures path { IfOk result (λ o. IfSome o (λ view. view.path ≡ Q.encoding key.now)) }
         ensures same_map { IfOk result (λ o. IfSome o (λ view. view.map ≡ self.now)) }
-        ensures light { Q.is_light key.now → IsOk result }
+        ensures inline { Q.is_inline key.now → IsOk result }
     {
         let path = key.encode(self.allocator())?;
         let Some(node) = self.node_at(&path) else {
@@ -61,7 +61,7 @@ impl<K: TrieKey, V> Trie<K, V> {
         ensures nearest { IfOk result
             (λ o. IsAncestor self.now (Q.encoding key.now) (option_map (λ view. view.path) o)) }
         ensures same_map { IfOk result (λ o. IfSome o (λ view. view.map ≡ self.now)) }
-        ensures light { Q.is_light key.now → IsOk result }
+        ensures inline { Q.is_inline key.now → IsOk result }
     {
         let list = key.encode(self.allocator())?;
         let Some((node, depth)) = deepest_pair(self.root(), &list, 0) else {
@@ -81,7 +81,7 @@ impl<K: TrieKey, V> Trie<K, V> {
         ensures nearest { IfOk result
             (λ view. IsRawAncestor self.now (Q.encoding key.now) view.path) }
         ensures same_map { IfOk result (λ view. view.map ≡ self.now) }
-        ensures light { Q.is_light key.now → IsOk result }
+        ensures inline { Q.is_inline key.now → IsOk result }
     {
         let list = key.encode(self.allocator())?;
         let (node, depth) = deepest(self.root(), &list, 0);
@@ -131,13 +131,13 @@ impl<K: TrieKey, V> Trie<K, V> {
             (λ o. IsRawDescendant self.now (Q.encoding key.now)
             (option_map (λ view. view.path) o)) }
         ensures same_map { IfOk result (λ o. IfSome o (λ view. view.map ≡ self.now)) }
-        ensures short { Q.is_light key.now
+        ensures short { Q.is_inline key.now
             → ((p : List ℕ) → IsRawDescendant self.now (Q.encoding key.now) (Some p)
             → IsShort p)
             → IsOk result }
     {
         let list = key.encode(self.allocator())?;
-        match Place::find(self, &list).nearest(&list)? {
+        match Locus::find(self, &list).nearest(&list)? {
             Some((node, path)) => Ok(Some(SubTrie::new(self, node, path))),
             None => Ok(None),
         }
@@ -155,6 +155,6 @@ impl<K: TrieKey, V> Trie<K, V> {
         ensures short { ((q : List ℕ) → IsChild self.now [] q → IsShort q) → IsOk result }
     {
         let top = self.top();
-        Place::find(self, top).children(self, top)
+        Locus::find(self, top).children(self, top)
     }
 }

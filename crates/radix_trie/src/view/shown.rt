@@ -1,7 +1,7 @@
 //! How a trie and its views are written for a reader of logs: as a map, its pairs in the order of
 //! their encodings.
 
-use crate::place::Place;
+use crate::locus::Locus;
 use crate::trie::Trie;
 use crate::view::subtrie::SubTrie;
 use crate::view::subtrie_mut::SubTrieMut;
@@ -12,20 +12,20 @@ use std::fmt;
 /// out for want of it; it goes down by recursion.
 impl<K: TrieKey + fmt::Debug, V: fmt::Debug> fmt::Debug for Trie<K, V> {
     fn fmt<W: fmt::Write>(&self, f: &mut fmt::Formatter<W>) -> fmt::Result {
-        Place::find(self, self.top()).write(f)
+        Locus::find(self, self.top()).write(f)
     }
 }
 
 /// The map of the keys and values at and below the view's path, as `Debug` of a trie writes it.
 impl<K: TrieKey + fmt::Debug, V: fmt::Debug> fmt::Debug for SubTrie<'_, K, V> {
     fn fmt<W: fmt::Write>(&self, f: &mut fmt::Formatter<W>) -> fmt::Result {
-        self.place().write(f)
+        self.locus().write(f)
     }
 }
 
 /// The map of the keys and values at and below the view's path, as `Debug` of a trie writes it.
 impl<K: TrieKey + fmt::Debug, V: fmt::Debug> fmt::Debug for SubTrieMut<'_, K, V> {
     fn fmt<W: fmt::Write>(&self, f: &mut fmt::Formatter<W>) -> fmt::Result {
-        Place::find(self.trie, &self.path).write(f)
+        Locus::find(self.trie, &self.path).write(f)
     }
 }

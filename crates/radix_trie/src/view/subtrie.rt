@@ -7,12 +7,12 @@ ghost use Rattle.nibble_map.specs.Maps.{IsPoint, below, value_at};
 ghost use Rattle.nibble_map.specs.Nibbles.{IsShort};
 ghost use Rattle.radix_nodes.specs.Nodes.{tree_of};
 ghost use Rattle.radix_nodes.specs.Pairs.{pair_of};
-ghost use Rattle.radix_trie.specs.Places.{IsPlaceIn};
+ghost use Rattle.radix_trie.specs.Loci.{IsLocusIn};
 ghost use Rattle.radix_trie.specs.Views.{pairs_below, paths_of};
 ghost use Rattle.radix_trie.specs.Walks.{deref_pairs};
 
 use crate::error::{SubTrieError, SubTrieResult};
-use crate::place::Place;
+use crate::locus::Locus;
 use crate::trie::Trie;
 use crate::view::children::Children;
 use crate::view::inside::inside;
@@ -41,7 +41,7 @@ impl<'a, K: TrieKey, V> Model for SubTrie<'a, K, V> {
     ghost coded = { read_view_code K.code V.code };
 
     ghost use Rattle.radix_nodes.specs.Nodes.{tree_of};
-    ghost use Rattle.radix_trie.specs.Places.{IsNodeOf};
+    ghost use Rattle.radix_trie.specs.Loci.{IsNodeOf};
 
     ghost view = { λ s. record { map = s.trie.now; path = s.path } };
 
@@ -49,7 +49,7 @@ impl<'a, K: TrieKey, V> Model for SubTrie<'a, K, V> {
 }
 
 impl<'a, K: TrieKey, V> SubTrie<'a, K, V> {
-    ghost use Rattle.radix_trie.specs.Places.{IsNodeOf};
+    ghost use Rattle.radix_trie.specs.Loci.{IsNodeOf};
 
     /// The view at a node of the trie.
     pub(crate) fn new(
@@ -83,7 +83,7 @@ impl<'a, K: TrieKey, V> SubTrie<'a, K, V> {
         ensures inside { OnOk result (IsPrefix self.now.path (Q.encoding key.now)) }
         ensures outside { result ≡ Err SubTrieError.Outside
             → IsPrefix self.now.path (Q.encoding key.now) → ⊥ }
-        ensures light { Q.is_light key.now → result ≢ Err SubTrieError.Memory }
+        ensures inline { Q.is_inline key.now → result ≢ Err SubTrieError.Memory }
     {
         let list = inside(&self.path, key, self.trie.allocator())?;
         match self.pair_at(&list) {
@@ -118,7 +118,7 @@ impl<'a, K: TrieKey, V> SubTrie<'a, K, V> {
         ensures inside { OnOk result (IsPrefix self.now.path (Q.encoding key.now)) }
         ensures outside { result ≡ Err SubTrieError.Outside
             → IsPrefix self.now.path (Q.encoding key.now) → ⊥ }
-        ensures light { Q.is_light key.now → result ≢ Err SubTrieError.Memory }
+        ensures inline { Q.is_inline key.now → result ≢ Err SubTrieError.Memory }
     {
         let path = inside(&self.path, key, self.trie.allocator())?;
         match self.trie.node_at(&path) {
@@ -127,7 +127,7 @@ impl<'a, K: TrieKey, V> SubTrie<'a, K, V> {
         }
     }
 
-    /// The count of pairs at and below the key's place. They are counted, so the time grows with
+    /// The count of pairs at and below the key. They are counted, so the time grows with
     /// their number.
     ///
     /// # Errors
@@ -139,13 +139,13 @@ impl<'a, K: TrieKey, V> SubTrie<'a, K, V> {
         ensures inside { OnOk result (IsPrefix self.now.path (Q.encoding key.now)) }
         ensures outside { result ≡ Err SubTrieError.Outside
             → IsPrefix self.now.path (Q.encoding key.now) → ⊥ }
-        ensures light { Q.is_light key.now → result ≢ Err SubTrieError.Memory }
+        ensures inline { Q.is_inline key.now → result ≢ Err SubTrieError.Memory }
     {
         let list = inside(&self.path, key, self.trie.allocator())?;
-        Ok(Place::find(self.trie, &list).len())
+        Ok(Locus::find(self.trie, &list).len())
     }
 
-    /// The first pairs at and below the key's place, as `Trie::first_below` returns them. They live
+    /// The first pairs at and below the key, as `Trie::first_below` returns them. They live
     /// as long as the trie's borrow.
     ///
     /// # Errors
@@ -161,9 +161,9 @@ impl<'a, K: TrieKey, V> SubTrie<'a, K, V> {
         ensures inside { OnOk result (IsPrefix self.now.path (Q.encoding key.now)) }
         ensures outside { result ≡ Err SubTrieError.Outside
             → IsPrefix self.now.path (Q.encoding key.now) → ⊥ }
-        ensures light_no_page { Q.is_light key.now → most ≡ 0
+        ensures inline_no_page { Q.is_inline key.now → most ≡ 0
             → result ≢ Err SubTrieError.Memory }
-        ensures light_none { Q.is_light key.now
+        ensures inline_none { Q.is_inline key.now
             → map.len (below self.now.map (Q.encoding key.now)) ≡ 0
             → result ≢ Err SubTrieError.Memory }
     {
@@ -184,7 +184,7 @@ impl<'a, K: TrieKey, V> SubTrie<'a, K, V> {
         ensures short { ((q : List ℕ) → IsChild self.now.map self.now.path q → IsShort q)
             → IsOk result }
     {
-        self.place().children(self.trie, &self.path)
+        self.locus().children(self.trie, &self.path)
     }
 
     /// The fragment of the view's point.
@@ -194,11 +194,11 @@ impl<'a, K: TrieKey, V> SubTrie<'a, K, V> {
         &self.node.fragment
     }
 
-    /// The place of the view's path.
-    pub(crate) fn place(&self) -> Place<'a, K, V>
-        ensures { IsPlaceIn K.encoding self.now.map self.now.path result }
+    /// The locus of the view's path.
+    pub(crate) fn locus(&self) -> Locus<'a, K, V>
+        ensures { IsLocusIn K.encoding self.now.map self.now.path result }
     {
-        Place::at(self.trie, self.node, &self.path)
+        Locus::at(self.trie, self.node, &self.path)
     }
 
     /// The allocator of the trie.

@@ -5,12 +5,12 @@ ghost use Rattle.nibble_map.specs.Lists.{Each};
 ghost use Rattle.nibble_map.specs.MapQueries.{IsLeaf};
 ghost use Rattle.nibble_map.specs.Maps.{PairMap, below, value_at, walk};
 ghost use Rattle.nibble_map.specs.Nibbles.{IsShort};
-ghost use Rattle.radix_trie.specs.Views.{IsLightBound, encoded_bound, pairs_below, pairs_within};
+ghost use Rattle.radix_trie.specs.Views.{IsInlineBound, encoded_bound, pairs_below, pairs_within};
 ghost use Rattle.radix_trie.specs.Walks.{HasFullRows, deref_pair, left_rows, stacked};
 
-use crate::iter::{Cursor, CursorBack, Iter, Keys, Rest, Values, key_of, key_value_of, value_of};
-use crate::place::{Limits, encoded};
-use crate::view::at::At;
+use crate::iter::{Cursor, CursorBack, Frame, Iter, Keys, Values, key_of, key_value_of, value_of};
+use crate::locus::{Limits, encoded};
+use crate::view::locate::Locate;
 use radix_keys::{Memory, Nibblet, TrieKey};
 use std::ops::RangeBounds;
 
@@ -170,9 +170,9 @@ pub trait TrieCommon<'a, K: TrieKey + 'a, V: 'a>: Sized {
             (encoded_bound Q.encoding (R.start_bound range))
             (encoded_bound Q.encoding (R.end_bound range))) }
         ensures countable { IfOk result (λ pairs. length pairs < 2 ^ 64) }
-        ensures light_none { R.has_bounds range
-            → IsLightBound Q.is_light (R.start_bound range)
-            → IsLightBound Q.is_light (R.end_bound range)
+        ensures inline_none { R.has_bounds range
+            → IsInlineBound Q.is_inline (R.start_bound range)
+            → IsInlineBound Q.is_inline (R.end_bound range)
             → pairs_within (map self) (path self)
             (encoded_bound Q.encoding (R.start_bound range))
             (encoded_bound Q.encoding (R.end_bound range)) ≡ []
@@ -193,9 +193,9 @@ pub trait TrieCommon<'a, K: TrieKey + 'a, V: 'a>: Sized {
             (encoded_bound Q.encoding (R.start_bound range))
             (encoded_bound Q.encoding (R.end_bound range)))) }
         ensures countable { IfOk result (λ pairs. length pairs < 2 ^ 64) }
-        ensures light_none { R.has_bounds range
-            → IsLightBound Q.is_light (R.start_bound range)
-            → IsLightBound Q.is_light (R.end_bound range)
+        ensures inline_none { R.has_bounds range
+            → IsInlineBound Q.is_inline (R.start_bound range)
+            → IsInlineBound Q.is_inline (R.end_bound range)
             → pairs_within (map self) (path self)
             (encoded_bound Q.encoding (R.start_bound range))
             (encoded_bound Q.encoding (R.end_bound range)) ≡ []
@@ -225,19 +225,19 @@ pub trait TrieCommon<'a, K: TrieKey + 'a, V: 'a>: Sized {
         ensures short { ((f : List ℕ) → is_prefix self f → IsShort f) → IsOk result };
 }
 
-impl<'a, K: TrieKey + 'a, V: 'a, T: At<'a, K, V>> TrieCommon<'a, K, V> for T {
-    ghost map = { λ t. T.At.map t };
+impl<'a, K: TrieKey + 'a, V: 'a, T: Locate<'a, K, V>> TrieCommon<'a, K, V> for T {
+    ghost map = { λ t. T.Locate.map t };
 
-    ghost path = { λ t. T.At.path t };
+    ghost path = { λ t. T.Locate.path t };
 
-    ghost is_prefix = { λ t. T.At.is_prefix t };
+    ghost is_prefix = { λ t. T.Locate.is_prefix t };
 
     fn key(self) -> Option<&'a K> {
-        key_of(self.place().pair())
+        key_of(self.locus().pair())
     }
 
     fn value(self) -> Option<&'a V> {
-        value_of(self.place().pair())
+        value_of(self.locus().pair())
     }
 
     fn len(self) -> usize {
@@ -245,15 +245,15 @@ impl<'a, K: TrieKey + 'a, V: 'a, T: At<'a, K, V>> TrieCommon<'a, K, V> for T {
     }
 
     fn is_empty(self) -> bool {
-        self.place().is_empty()
+        self.locus().is_empty()
     }
 
     fn is_leaf(self) -> bool {
-        self.place().is_leaf()
+        self.locus().is_leaf()
     }
 
     fn iter(self) -> Result<Iter<'a, K, V>, Memory> {
-        self.place().cursor().reserved()
+        self.locus().cursor().reserved()
     }
 
     fn keys(self) -> Result<Keys<'a, K, V>, Memory> {
@@ -265,16 +265,16 @@ impl<'a, K: TrieKey + 'a, V: 'a, T: At<'a, K, V>> TrieCommon<'a, K, V> for T {
     }
 
     fn cursor(self) -> Cursor<'a, K, V> {
-        self.place().cursor()
+        self.locus().cursor()
     }
 
     fn cursor_back(self) -> CursorBack<'a, K, V> {
-        self.place().cursor_back()
+        self.locus().cursor_back()
     }
 
     fn range<Q: TrieKey, R: RangeBounds<Q>>(self, range: R) -> Result<Cursor<'a, K, V>, Memory> {
         let alloc = self.allocator();
-        Ok(Cursor::of(alloc, rests_in(self, range)?))
+        Ok(Cursor::of(alloc, frames_in(self, range)?))
     }
 
     fn range_back<Q: TrieKey, R: RangeBounds<Q>>(
@@ -282,15 +282,15 @@ impl<'a, K: TrieKey + 'a, V: 'a, T: At<'a, K, V>> TrieCommon<'a, K, V> for T {
         range: R,
     ) -> Result<CursorBack<'a, K, V>, Memory> {
         let alloc = self.allocator();
-        Ok(CursorBack::of(alloc, rests_in(self, range)?))
+        Ok(CursorBack::of(alloc, frames_in(self, range)?))
     }
 
     fn first_key_value(self) -> Option<(&'a K, &'a V)> {
-        key_value_of(self.place().first())
+        key_value_of(self.locus().first())
     }
 
     fn last_key_value(self) -> Option<(&'a K, &'a V)> {
-        key_value_of(self.place().last())
+        key_value_of(self.locus().last())
     }
 
     fn prefix(self) -> Result<Nibblet, Memory> {
@@ -300,20 +300,20 @@ impl<'a, K: TrieKey + 'a, V: 'a, T: At<'a, K, V>> TrieCommon<'a, K, V> for T {
 
 /// The rows of the walk over the pairs at and below a path whose encodings lie within a range of
 /// keys.
-fn rests_in<'a, K: TrieKey + 'a, V: 'a, T: At<'a, K, V>, Q: TrieKey, R: RangeBounds<Q>>(
+fn frames_in<'a, K: TrieKey + 'a, V: 'a, T: Locate<'a, K, V>, Q: TrieKey, R: RangeBounds<Q>>(
     at: T,
     range: R,
-) -> Result<Vec<Rest<'a, K, V>>, Memory>
-    ensures walk { R.has_bounds range → IfOk result (λ rests. stacked rests.items
-        ≡ pairs_within (T.At.map at) (T.At.path at)
+) -> Result<Vec<Frame<'a, K, V>>, Memory>
+    ensures walk { R.has_bounds range → IfOk result (λ frames. stacked frames.items
+        ≡ pairs_within (T.Locate.map at) (T.Locate.path at)
         (encoded_bound Q.encoding (R.start_bound range))
         (encoded_bound Q.encoding (R.end_bound range))) }
-    ensures countable { IfOk result (λ rests. length (stacked rests.items) < 2 ^ 64) }
-    ensures rows { IfOk result (λ rests. HasFullRows (left_rows rests.items)) }
-    ensures light_none { R.has_bounds range
-        → IsLightBound Q.is_light (R.start_bound range)
-        → IsLightBound Q.is_light (R.end_bound range)
-        → pairs_within (T.At.map at) (T.At.path at)
+    ensures countable { IfOk result (λ frames. length (stacked frames.items) < 2 ^ 64) }
+    ensures rows { IfOk result (λ frames. HasFullRows (left_rows frames.items)) }
+    ensures inline_none { R.has_bounds range
+        → IsInlineBound Q.is_inline (R.start_bound range)
+        → IsInlineBound Q.is_inline (R.end_bound range)
+        → pairs_within (T.Locate.map at) (T.Locate.path at)
         (encoded_bound Q.encoding (R.start_bound range))
         (encoded_bound Q.encoding (R.end_bound range)) ≡ []
         → IsOk result }
@@ -322,5 +322,5 @@ fn rests_in<'a, K: TrieKey + 'a, V: 'a, T: At<'a, K, V>, Q: TrieKey, R: RangeBou
     let low = encoded(range.start_bound(), alloc)?;
     let high = encoded(range.end_bound(), alloc)?;
     let limits = Limits::of(at.path(), low.as_ref(), high.as_ref());
-    at.place().rests(limits)
+    at.locus().frames(limits)
 }

@@ -38,7 +38,7 @@ pub trait TrieEdit<K: TrieKey, V> {
         ensures inside { OnOk result (IsPrefix (path self.now) (Q.encoding key.now)) }
         ensures outside { result ≡ Err SubTrieError.Outside
             → IsPrefix (path self.now) (Q.encoding key.now) → ⊥ }
-        ensures light { Q.is_light key.now → result ≢ Err SubTrieError.Memory };
+        ensures inline { Q.is_inline key.now → result ≢ Err SubTrieError.Memory };
 
     /// Stores the pair at the key's encoding, and returns the value that was stored there. A stored
     /// key is replaced by the new one too.
@@ -59,7 +59,7 @@ pub trait TrieEdit<K: TrieKey, V> {
         ensures handed_back { IfErr result (λ e. (e.key ≡ key) × (e.value ≡ value)) }
         ensures unchanged { OnErr result (map self.new ≡ map self.old) }
         ensures why { IfErr result (λ e. RefusesInsert (map self.old) (K.encoding key)
-            (IsPrefix (path self.old) (K.encoding key)) (K.is_light key) e.why) };
+            (IsPrefix (path self.old) (K.encoding key)) (K.is_inline key) e.why) };
 
     /// Removes the pair at the key's encoding, and returns its value.
     ///
@@ -76,9 +76,9 @@ pub trait TrieEdit<K: TrieKey, V> {
 
         ensures unchanged { OnErr result (map self.new ≡ map self.old) }
         ensures why { IfErr result (λ e. RefusesRemove (map self.old) (Q.encoding key.now)
-            (IsPrefix (path self.old) (Q.encoding key.now)) (Q.is_light key.now) e) };
+            (IsPrefix (path self.old) (Q.encoding key.now)) (Q.is_inline key.now) e) };
 
-    /// Removes all pairs at and below the key's place, and returns them in the order of their
+    /// Removes all pairs at and below the key, and returns them in the order of their
     /// encodings.
     ///
     /// # Errors
@@ -94,7 +94,7 @@ pub trait TrieEdit<K: TrieKey, V> {
 
         ensures unchanged { OnErr result (map self.new ≡ map self.old) }
         ensures why { IfErr result (λ e. RefusesBelow (map self.old) (Q.encoding key.now)
-            (IsPrefix (path self.old) (Q.encoding key.now)) (Q.is_light key.now) e) };
+            (IsPrefix (path self.old) (Q.encoding key.now)) (Q.is_inline key.now) e) };
 
     /// Changes each value at and below the path by one call of the closure with the pair's key. No
     /// memory is allocated.

@@ -37,7 +37,7 @@ pub(crate) trait ImageFamily: Address {
     ///
     /// # Errors
     ///
-    /// Memory is refused. There are 2^32 rows or more, or a value of IPv4 is as large.
+    /// An allocation fails. There are 2^32 rows or more, or a value of IPv4 is as large.
     fn image_of(
         alloc: Global,
         rows: &[(Network<Self>, usize)],
@@ -55,7 +55,7 @@ fn fault_of(why: SortedWhy) -> WriteFault
     match why {
         SortedWhy::Full => WriteFault::Full,
         SortedWhy::Memory => WriteFault::Memory,
-        SortedWhy::Unsorted(_) => WriteFault::Memory,
+        SortedWhy::OutOfOrder(_) => WriteFault::Memory,
     }
 }
 

@@ -71,7 +71,7 @@ fn with_hops<A: Address>(
 /// # Errors
 ///
 /// The bytes are no image, and the error says what is wrong with them. A row of the image points to
-/// no hop, and the error says which is the first. Memory is refused.
+/// no hop, and the error says which is the first. An allocation fails.
 pub(crate) fn opened<A: ImageFamily>(
     alloc: Global,
     image: &[u8],

@@ -72,7 +72,7 @@ fn placed<A: Address>(
 ///
 /// # Errors
 ///
-/// Memory is refused. There are 2^32 routes or more, or of IPv4 the hops take so many bytes.
+/// An allocation fails. There are 2^32 routes or more, or of IPv4 the hops take so many bytes.
 pub(crate) fn image_of_routes<A: ImageFamily>(
     alloc: Global,
     rest: Rest<'_, A>,

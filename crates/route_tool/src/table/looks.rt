@@ -86,7 +86,7 @@ fn find_in_trie<A: Address>(
     ensures longest { IfOk result (λ found.
         IsLongestRoute A.BITS A.number trie.now (A.number address)
         (option_map deref_pair found)) }
-    ensures light { A.BITS ≤ 32 → IsOk result }
+    ensures inline { A.BITS ≤ 32 → IsOk result }
 {
     let bits = Network::host(address).encode(alloc)?;
     Ok(trie.nearest(&bits))
@@ -108,7 +108,7 @@ impl<A: Address> Routes<A> {
     }
 
     /// Counts a look-up that is to come, and freezes the routes where enough have come since the
-    /// last change. Where memory for it is refused, look-ups go on in the trie.
+    /// last change. Where an allocation for it fails, look-ups go on in the trie.
     pub fn expect_look(&mut self)
         ensures same { self.new ≡ self.old }
     {
@@ -120,12 +120,12 @@ impl<A: Address> Routes<A> {
 
     /// The longest network that holds the address, and its hop.
     ///
-    /// Never refused for an IPv4 address, nor where the routes are frozen.
+    /// Never fails for an IPv4 address, nor where the routes are frozen.
     pub fn find(&self, address: A) -> Result<Option<(&Network<A>, &Hop)>, Memory>
         ensures longest { IfOk result (λ found.
             IsLongestRoute A.BITS A.number self.now (A.number address)
             (option_map deref_pair found)) }
-        ensures light { A.BITS ≤ 32 → IsOk result }
+        ensures inline { A.BITS ≤ 32 → IsOk result }
     {
         if self.frozen.rows.is_empty() {
             return find_in_trie(self.alloc, &self.trie, address);
@@ -137,12 +137,12 @@ impl<A: Address> Routes<A> {
 
     /// The hop of the longest network that holds the address.
     ///
-    /// Never refused for an IPv4 address, nor where the routes are frozen.
+    /// Never fails for an IPv4 address, nor where the routes are frozen.
     pub fn look(&self, address: A) -> Result<Option<&Hop>, Memory>
         ensures longest { IfOk result (λ hop. (found : _)
             × IsLongestRoute A.BITS A.number self.now (A.number address) found
             × (option_copied hop ≡ hop_of found)) }
-        ensures light { A.BITS ≤ 32 → IsOk result }
+        ensures inline { A.BITS ≤ 32 → IsOk result }
     {
         match self.find(address)? {
             Some((_, hop)) => Ok(Some(hop)),

@@ -12,7 +12,7 @@ use radix_trie::{Address, Memory, Network, Trie, stored_keys_are_equal};
 use std::alloc::Global;
 
 /// Grows a trie of the rows where these stand alone, and drops the rows, before a route changes. It
-/// takes time for each row then. After a refusal all is as before.
+/// takes time for each row then. After a failure all is as before.
 pub(super) fn grow<A: Address>(
     alloc: Global,
     trie: &mut Trie<Network<A>, Hop>,

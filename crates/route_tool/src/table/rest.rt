@@ -35,7 +35,7 @@ impl<'a, A: Address> Rest<'a, A> {
         Rest { rows, cursor }
     }
 
-    /// The next route, or None where none is left. After a refusal the same routes are left.
+    /// The next route, or None where none is left. After a failure the same routes are left.
     pub fn next(&mut self) -> Result<Option<(&'a Network<A>, &'a Hop)>, Memory>
         ensures pair { IfOk result (λ pair. option_map deref_pair pair ≡ slice_get self.old 0) }
         ensures rest { OnOk result (self.new ≡ drop 1 self.old) }

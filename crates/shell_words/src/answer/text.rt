@@ -70,7 +70,7 @@ impl<'a> Answer<'a> {
         self.end()
     }
 
-    /// Adds a line that tells why a call isn't made, or that it is refused.
+    /// Adds a line that tells why a call isn't made, or that it fails.
     pub fn refuse(&mut self, why: &str) -> Result<(), Memory>
         ensures { OnErr result (IsTrue self.new.is_lost) }
     {

@@ -43,14 +43,14 @@ last_of_same P Q n r same last = record {
 }
 
 -- one link more
-pub links_more : (P Q : ℕ → ℕ → Type 0) (up : List ℕ) (r : ℕ) → ((k i : ℕ) → k < i → i < length up → P k i ↔ Q k i)
-    → AreLinksOf P up → IsLastOf (λ k. Q k (length up)) (length up) r → AreLinksOf Q (up ++ r ∷ [])
-links_more P Q up r same links last i l = elim (cases_lt i (length up)) [
+pub links_more : (P Q : ℕ → ℕ → Type 0) (parents : List ℕ) (r : ℕ) → ((k i : ℕ) → k < i → i < length parents → P k i ↔ Q k i)
+    → AreLinksOf P parents → IsLastOf (λ k. Q k (length parents)) (length parents) r → AreLinksOf Q (parents ++ r ∷ [])
+links_more P Q parents r same links last i l = elim (cases_lt i (length parents)) [
   | inl lt ↦
-      subst (IsLastOf (λ k. Q k i) i) (sym (get_or_append_left up (r ∷ []) 0 i lt))
-      (last_of_same (λ k. P k i) (λ k. Q k i) i (get_or up i 0) (λ k m. same k i m lt) (links i lt))
+      subst (IsLastOf (λ k. Q k i) i) (sym (get_or_append_left parents (r ∷ []) 0 i lt))
+      (last_of_same (λ k. P k i) (λ k. Q k i) i (get_or parents i 0) (λ k m. same k i m lt) (links i lt))
   | inr ge ↦
-      let here : length up ≡ i = omega (arith, ge, l, length-append up (r ∷ [])) in
-      subst (λ j. IsLastOf (λ k. Q k j) j (get_or (up ++ r ∷ []) j 0)) here
-      (subst (IsLastOf (λ k. Q k (length up)) (length up)) (sym (get_or-append_seam up r [] 0)) last)
+      let here : length parents ≡ i = omega (arith, ge, l, length-append parents (r ∷ [])) in
+      subst (λ j. IsLastOf (λ k. Q k j) j (get_or (parents ++ r ∷ []) j 0)) here
+      (subst (IsLastOf (λ k. Q k (length parents)) (length parents)) (sym (get_or-append_seam parents r [] 0)) last)
 ]

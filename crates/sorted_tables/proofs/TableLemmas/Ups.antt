@@ -17,17 +17,17 @@ dropped_next (suc n) [] x rest e = absurd (cc e)
 dropped_next (suc n) (y ∷ ys) x rest e = dropped_next n ys x rest e
 
 -- walks up from places, of which that at 0 is at its end, and one whole
-module _ {A : Type 0} (up : ℕ → List A) (none : up 0 ≡ []) (all : List A) where
+module _ {A : Type 0} (parents : ℕ → List A) (none : parents 0 ≡ []) (all : List A) where
   -- a place with something left is none at the end
-  pub some_left : (i at : ℕ) → drop i all ≡ up at → i < length all → 0 < at
+  pub some_left : (i at : ℕ) → drop i all ≡ parents at → i < length all → 0 < at
   some_left i zero e l = absurd (let n = ap length (e ∙ none) in omega (arith, n, length-drop i all, l))
   some_left i (suc at) e l = omega arith
 
-  module _ (i at link : ℕ) (p : A) (e : drop i all ≡ up at) (step : up at ≡ p ∷ up link) where
+  module _ (i at link : ℕ) (p : A) (e : drop i all ≡ parents at) (step : parents at ≡ p ∷ parents link) where
     -- one step up
-    pub one_up : drop (i + 1) all ≡ up link
-    one_up = let next : i + 1 ≡ suc i = omega arith in ap (λ n. drop n all) next ∙ dropped_next i all p (up link) (e ∙ step)
+    pub one_up : drop (i + 1) all ≡ parents link
+    one_up = let next : i + 1 ≡ suc i = omega arith in ap (λ n. drop n all) next ∙ dropped_next i all p (parents link) (e ∙ step)
 
     -- the last of those that are left
     pub last_up : take (i + 1) all ≡ take i all ++ p ∷ []
-    last_up = let next : i + 1 ≡ suc i = omega arith in ap (λ n. take n all) next ∙ taken_next i all p (up link) (e ∙ step)
+    last_up = let next : i + 1 ≡ suc i = omega arith in ap (λ n. take n all) next ∙ taken_next i all p (parents link) (e ∙ step)

@@ -6,7 +6,7 @@ use keyed_maps::{keyed_maps_follow_clones, keyed_maps_follow_retain};
 use radix_trie::{Memory, Trie, TrieKey};
 use trie_tests::samples::texts;
 
-/// Removes the keys whose count is less than a number. Where memory is refused, some of these may
+/// Removes the keys whose count is less than a number. Where an allocation fails, some of these may
 /// be left.
 ///
 /// # Errors

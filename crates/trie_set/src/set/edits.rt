@@ -18,7 +18,7 @@ impl<K: TrieKey + Drop> TrieSet<K> {
     ///
     /// In the order in which they are decided: memory for the encoding; `Full`, where `usize::MAX`
     /// keys are stored and the encoding isn't among them; memory for the change, which a stored
-    /// encoding never needs. The set is as before then, and the error holds the very key.
+    /// encoding never needs. The set is as before then, and the error holds the same key.
     pub fn insert(&mut self, key: K) -> Result<bool, InsertError<K, ()>>
         ensures new { IfOk result
             (λ new. new ≡ not (map.contains_key self.old (K.encoding key))) }
@@ -28,11 +28,11 @@ impl<K: TrieKey + Drop> TrieSet<K> {
         ensures handed_back { IfErr result (λ e. e.key ≡ key) }
         ensures unchanged { OnErr result (self.new ≡ self.old) }
 
-        ensures light_stored { K.is_light key → IsStored self.old (K.encoding key)
+        ensures inline_stored { K.is_inline key → IsStored self.old (K.encoding key)
             → IsOk result }
         ensures room { OnOk result (IsFullAt self.old (K.encoding key) → ⊥) }
         ensures why { IfErr result
-            (λ e. RefusesInsert self.old (K.encoding key) ⊤ (K.is_light key) e.why) }
+            (λ e. RefusesInsert self.old (K.encoding key) ⊤ (K.is_inline key) e.why) }
     {
         match self.trie.try_insert(key, ()) {
             Ok(()) => Ok(true),
@@ -48,7 +48,7 @@ impl<K: TrieKey + Drop> TrieSet<K> {
     ///
     /// # Errors
     ///
-    /// Memory is refused, for the encoding or for joining two fragments, which have more than 32
+    /// An allocation fails, for the encoding or for joining two fragments, which have more than 32
     /// nibbles together then. The set is as before then.
     pub fn remove<Q: TrieKey>(&mut self, key: &Q) -> Result<bool, Memory>
         ensures was_stored { IfOk result
@@ -56,12 +56,12 @@ impl<K: TrieKey + Drop> TrieSet<K> {
         ensures removed { OnOk result (self.new ≡ map.remove self.old (Q.encoding key.now)) }
         ensures unchanged { OnErr result (self.new ≡ self.old) }
 
-        ensures light_absent { Q.is_light key.now → map.get self.old (Q.encoding key.now) ≡ None
+        ensures inline_absent { Q.is_inline key.now → map.get self.old (Q.encoding key.now) ≡ None
             → IsOk result }
-        ensures light_short { Q.is_light key.now
+        ensures inline_short { Q.is_inline key.now
             → ((e : List ℕ) → IsStored self.old e → IsShort e)
             → IsOk result }
-        ensures join { Q.is_light key.now → JoinsAreShort self.old (Q.encoding key.now)
+        ensures join { Q.is_inline key.now → JoinsAreShort self.old (Q.encoding key.now)
             → IsOk result }
     {
         Ok(self.take(key)?.is_some())
@@ -78,12 +78,12 @@ impl<K: TrieKey + Drop> TrieSet<K> {
         ensures removed { OnOk result (self.new ≡ map.remove self.old (Q.encoding key.now)) }
         ensures unchanged { OnErr result (self.new ≡ self.old) }
 
-        ensures light_absent { Q.is_light key.now → map.get self.old (Q.encoding key.now) ≡ None
+        ensures inline_absent { Q.is_inline key.now → map.get self.old (Q.encoding key.now) ≡ None
             → IsOk result }
-        ensures light_short { Q.is_light key.now
+        ensures inline_short { Q.is_inline key.now
             → ((e : List ℕ) → IsStored self.old e → IsShort e)
             → IsOk result }
-        ensures join { Q.is_light key.now → JoinsAreShort self.old (Q.encoding key.now)
+        ensures join { Q.is_inline key.now → JoinsAreShort self.old (Q.encoding key.now)
             → IsOk result }
     {
         Ok(key_of(self.trie.remove_entry(key)?))
@@ -94,8 +94,8 @@ impl<K: TrieKey + Drop> TrieSet<K> {
     ///
     /// # Errors
     ///
-    /// Memory is refused for joining two fragments, which have more than 32 nibbles together then.
-    /// The set is as before then.
+    /// An allocation fails for joining two fragments, which have more than 32 nibbles together
+    /// then. The set is as before then.
     pub fn pop_first(&mut self) -> Result<Option<K>, Memory>
         ensures first { IfOk result (λ first. first ≡ slice_get (keys_in self.old) 0) }
         ensures removed { IfOk result (λ first. MatchOption first (self.new ≡ self.old)
@@ -143,7 +143,7 @@ fn key_of<K>(pair: Option<(K, ())>) -> Option<K>
     Some(key)
 }
 
-/// The refusal that hands a key back.
+/// The failure that hands a key back.
 fn refusal<K>(why: InsertWhy, key: K) -> InsertError<K, ()>
     ensures why { result.why ≡ why }
     ensures key { result.key ≡ key }

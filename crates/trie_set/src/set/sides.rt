@@ -18,7 +18,7 @@ impl<K: TrieKey> TrieSet<K> {
     ///
     /// # Errors
     ///
-    /// Memory is refused, as in a step. None is allocated for empty sets.
+    /// An allocation fails, as in a step. None is allocated for empty sets.
     pub fn intersection<'a>(&'a self, other: &'a TrieSet<K>) -> Result<Selection<'a, K>, Memory>
         ensures keys { IfOk result (λ walk. walk ≡ keys_in (common self.now other.now)) }
         ensures none { map.len self.now ≡ 0 → map.len other.now ≡ 0 → IsOk result }

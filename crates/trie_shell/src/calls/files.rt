@@ -1,6 +1,6 @@
 //! Calls whose answer goes to a file, or whose words come from one.
 
-use crate::files::{BESIDE, tell_fault};
+use crate::files::{BESIDE, report_fault};
 use crate::request::read_call;
 use crate::tries::Tries;
 use radix_trie::Memory;
@@ -15,7 +15,7 @@ pub fn answer_file<F: Files + AllocGlobal>(
     answer: &mut Answer<'_>,
 ) -> Result<(), Memory> {
     let Some(path) = answer.next_read::<String>()? else {
-        return tell_fault(FileFault::BadName, answer);
+        return report_fault(FileFault::BadName, answer);
     };
     if answer.name() == "save" {
         save(files, path.as_str(), tries, answer)
@@ -50,7 +50,7 @@ fn save<F: Files>(
             answer.lose();
             Err(Memory)
         }
-        Err(fault) => tell_fault(fault, answer),
+        Err(fault) => report_fault(fault, answer),
     }
 }
 
@@ -68,7 +68,7 @@ fn load<F: Files>(
         bytes.push(b' ')?;
     }
     if let Err(fault) = read_behind(files, path, &mut bytes) {
-        return tell_fault(fault, answer);
+        return report_fault(fault, answer);
     }
     if name == "lines" {
         return tries.answer_lines(bytes.as_slice(), answer);

@@ -5,7 +5,7 @@ use crate::calls::reads::answer_read;
 use frozen_trie::PushWhy;
 use radix_trie::Memory;
 use shell_calls::edits::{
-    Given, OTHER, add_unless, key_and_number, note_pair, written_or_absent, written_or_none,
+    NewPair, OTHER, add_unless, key_and_number, note_pair, written_or_absent, written_or_none,
 };
 use shell_calls::lines::{key_line, listed_lines, none_line, pair_line};
 use shell_words::{Answer, Key, NO_KEY, NO_NUMBER, NOT_HERE};
@@ -105,11 +105,11 @@ fn answer_push(frozen: &mut FrozenTable, answer: &mut Answer<'_>) -> Result<(), 
     let Err(error) = frozen.push(key, value) else {
         return answer.line("ok");
     };
-    note_pair(answer, Given { word, value }, &error.back.0, error.back.1)?;
+    note_pair(answer, NewPair { word, value }, &error.back.0, error.back.1)?;
     match error.why {
         PushWhy::Memory => Err(Memory),
         _ if answer.is_other() => answer.refuse(OTHER),
         PushWhy::Full => answer.refuse("full"),
-        PushWhy::Unsorted => answer.refuse("unsorted"),
+        PushWhy::OutOfOrder => answer.refuse("unsorted"),
     }
 }

@@ -87,7 +87,7 @@ fn left_lines<'a, M: PrefixMap<'a, Key, Key = &'a Key, Value = u64>>(
     none_line(answer, is_none)
 }
 
-/// The next pair. A refused step is told of where it is watched, and made once more.
+/// The next pair. A failed step is told of where it is watched, and made once more.
 fn next_pair<'a, M: PrefixMap<'a, Key, Key = &'a Key, Value = u64>>(
     walk: &mut M::Walk,
     answer: &mut Answer<'_>,

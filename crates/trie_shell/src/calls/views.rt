@@ -79,7 +79,7 @@ fn count_line(answer: &mut Answer<'_>, count: Result<usize, SubTrieError>) -> Re
     }
 }
 
-/// A call of a view for writing at the path. False: memory to open it was refused.
+/// A call of a view for writing at the path. False: memory to open it failed.
 pub fn answer_in_write_view(
     trie: &mut Table,
     path: &Nibblet,
@@ -173,9 +173,9 @@ fn are_calls(answer: &mut Answer<'_>) -> Result<bool, Memory> {
 }
 
 /// Whether the words left ask for a call, and those behind one that makes another for that. The
-/// answer goes on with the first one, or with the one behind `light`.
+/// answer goes on with the first one, or with the one behind `inline`.
 fn is_whole_call(answer: &mut Answer<'_>) -> Result<bool, Memory> {
-    if !read_call(answer)? || !is_call_behind_light(answer)? {
+    if !read_call(answer)? || !is_call_behind_inline(answer)? {
         return Ok(false);
     }
     let words = answer.words();
@@ -188,9 +188,9 @@ fn is_whole_call(answer: &mut Answer<'_>) -> Result<bool, Memory> {
     Ok(true)
 }
 
-/// Goes on with the call behind `light`, if the answer is to that. False: none stands there.
-fn is_call_behind_light(answer: &mut Answer<'_>) -> Result<bool, Memory> {
-    if answer.name() == "light" {
+/// Goes on with the call behind `inline`, if the answer is to that. False: none stands there.
+fn is_call_behind_inline(answer: &mut Answer<'_>) -> Result<bool, Memory> {
+    if answer.name() == "inline" {
         read_call(answer)
     } else {
         Ok(true)
@@ -214,7 +214,7 @@ fn answer_calls(
             break;
         }
         let words = answer.words();
-        if !is_call_behind_light(answer)? {
+        if !is_call_behind_inline(answer)? {
             break;
         }
         if takes_view(answer.name()) {
@@ -236,7 +236,7 @@ fn answer_all_calls(view: SubTrieMut<'_, Key, u64>, answer: &mut Answer<'_>) -> 
     }
 }
 
-/// The same. Where memory is refused for the last call, or twice for another, those before it may
+/// The same. Where an allocation fails for the last call, or twice for another, those before it may
 /// have changed the trie, so none is made again: the session ends.
 fn answer_or_lose(view: SubTrieMut<'_, Key, u64>, answer: &mut Answer<'_>) -> Result<(), Memory> {
     let outcome = answer_all_calls(view, &mut *answer);

@@ -78,7 +78,7 @@ impl Tries {
         }
     }
 
-    /// Moves the pairs of the current trie into a frozen one. Where that is refused the trie comes
+    /// Moves the pairs of the current trie into a frozen one. Where that fails the trie comes
     /// back.
     fn answer_freeze(&mut self, name: &str, answer: &mut Answer<'_>) -> Result<(), Memory> {
         let place = self.made_frozen_place_of(name)?;
@@ -180,7 +180,7 @@ fn unsorted_line<'a>(
 ) -> Result<(), Memory> {
     answer.read_on(words);
     let is_same = match given_pairs(&mut *answer)? {
-        Some(given) => given.as_slice() == error.back.as_slice(),
+        Some(new_pair) => new_pair.as_slice() == error.back.as_slice(),
         None => false,
     };
     if !is_same {
@@ -190,12 +190,12 @@ fn unsorted_line<'a>(
         SortedWhy::Memory => Err(Memory),
         _ if answer.is_other() => answer.refuse(OTHER),
         SortedWhy::Full => answer.refuse("full"),
-        SortedWhy::Unsorted(place) => answer.refuse_at("unsorted", place),
+        SortedWhy::OutOfOrder(place) => answer.refuse_at("unsorted", place),
     }
 }
 
-/// The trie of a frozen one's pairs. Where that is refused it is told of, and the pairs that are
-/// left are stored in the trie of the others, as the call would have done. Where this is refused
+/// The trie of a frozen one's pairs. Where that fails it is told of, and the pairs that are
+/// left are stored in the trie of the others, as the call would have done. Where this fails
 /// too, the session ends: neither trie is whole then.
 fn thawed(frozen: FrozenTable, answer: &mut Answer<'_>) -> Result<Table, Memory> {
     match frozen.thaw() {

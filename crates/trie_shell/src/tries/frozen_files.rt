@@ -1,7 +1,7 @@
 //! Frozen tries as files, of pairs or of an image.
 
 use crate::calls::FrozenTable;
-use crate::files::{BESIDE, tell_fault};
+use crate::files::{BESIDE, report_fault};
 use crate::tries::Tries;
 use crate::tries::frozen::NO_FROZEN;
 use crate::tries::images::{image_line, read_image, write_image};
@@ -9,7 +9,7 @@ use crate::tries::names::NO_NAME;
 use flat_texts::ImageError;
 use frozen_trie::{FileError, FileWhy, FrozenTexts, FrozenTrie};
 use radix_trie::Memory;
-use shell_words::{Answer, Face, Key, Kind, Words};
+use shell_words::{Answer, Key, KeyText, Kind, Words};
 use std::alloc::Global;
 use std::fs;
 use std::io::{BufReader, Error};
@@ -66,7 +66,7 @@ impl Tries {
             return answer.refuse(NO_NAME);
         }
         let Some(path) = answer.next_read::<String>()? else {
-            return tell_fault(FileFault::BadName, answer);
+            return report_fault(FileFault::BadName, answer);
         };
         if matches!(answer.name(), "write" | "write_image") {
             return match self.frozen_of(name) {
@@ -81,7 +81,7 @@ impl Tries {
         outcome
     }
 
-    /// Makes the frozen trie of a name of a file. Where memory is refused the call is made once
+    /// Makes the frozen trie of a name of a file. Where an allocation fails the call is made once
     /// more, but for a stream, which can't be read again.
     fn read<F: Files>(
         &mut self,
@@ -93,7 +93,7 @@ impl Tries {
         let place = self.made_frozen_place_of(name)?;
         let texts = match read_texts(self.alloc, files, path, answer.name() == "read_image") {
             Ok(texts) => texts,
-            Err(Unread::File(fault)) => return tell_fault(fault, answer),
+            Err(Unread::File(fault)) => return report_fault(fault, answer),
             Err(Unread::Pairs(error)) => return fault_line(answer, error),
             Err(Unread::Image(error)) => return image_line(answer, error),
         };
@@ -120,7 +120,7 @@ fn write<F: Files>(
     };
     match written {
         Ok(()) => answer.line("ok"),
-        Err(fault) => tell_fault(fault, answer),
+        Err(fault) => report_fault(fault, answer),
     }
 }
 
@@ -153,7 +153,7 @@ fn read_texts<F: Files>(
 fn texts_of(frozen: &FrozenTable, alloc: Global) -> Result<Option<FrozenTexts<u64>>, Memory> {
     let mut texts = FrozenTexts::new(alloc);
     for (key, value) in frozen.pairs() {
-        let Face::Text(text) = key.face() else {
+        let KeyText::Text(text) = key.key_text() else {
             return Ok(None);
         };
         if texts.push(text.as_bytes(), *value).is_err() {
@@ -209,13 +209,13 @@ fn fault_line(answer: &mut Answer<'_>, error: FileError) -> Result<(), Memory> {
     let FileError { why, pair, place } = error;
     let reason = match why {
         FileWhy::Memory => return Err(Memory),
-        FileWhy::Read => return tell_fault(FileFault::Failed, answer),
+        FileWhy::Read => return report_fault(FileFault::Failed, answer),
         FileWhy::Magic => "magic",
         FileWhy::Version => "version",
         FileWhy::Short => "short",
         FileWhy::Key => "key",
         FileWhy::Value => "value",
-        FileWhy::Unsorted => "unsorted",
+        FileWhy::OutOfOrder => "unsorted",
         FileWhy::Long => "long",
         FileWhy::Full => "full",
     };

@@ -126,7 +126,7 @@ impl Tries {
             && let Some(other) = self.others.get_mut(place)
         {
             mem::swap(&mut self.current, other);
-            self.spots.clear();
+            self.view_paths.clear();
         }
         answer.line("ok")
     }
@@ -210,7 +210,7 @@ fn name_line(answer: &mut Answer<'_>, name: &str) -> Result<(), Memory> {
     answer.end()
 }
 
-/// Grafts a trie onto another, which leaves it empty. Where that is refused it comes back.
+/// Grafts a trie onto another, which leaves it empty. Where that fails it comes back.
 fn graft(trie: &mut Table, part: &mut Table, answer: &mut Answer<'_>) -> Result<(), Memory> {
     match trie.graft(mem::replace(part, Trie::new(answer.alloc()))) {
         Ok(()) => answer.line("ok"),

@@ -1,13 +1,13 @@
-//! Views that are opened and left, and a picture of all that a refused call may not change.
+//! Views that are opened and left, and a picture of all that a failed call may not change.
 
 use crate::calls::views::CLOSED;
-use crate::tries::{Spot, Tries, answer_at};
+use crate::tries::{Tries, ViewPath, answer_at};
 use radix_trie::{Memory, Nibblet, OpenError, TrieCommon};
 use shell_calls::common::answer_common;
 use shell_calls::lines::footprint_line;
 use shell_words::{Answer, Key, NO_KEY, NONE, Words};
 
-/// The calls whose answers a refused call in a view may not change.
+/// The calls whose answers a failed call in a view may not change.
 pub const IN_A_VIEW: &'static [&'static str] = &["path", "prefix", "iter", "len"];
 
 impl Tries {
@@ -16,7 +16,7 @@ impl Tries {
     pub(super) fn answer_place(&mut self, answer: &mut Answer<'_>) -> Result<bool, Memory> {
         match answer.name() {
             "close" => {
-                let is_left = self.spots.pop().is_some();
+                let is_left = self.view_paths.pop().is_some();
                 answer.line(if is_left { "ok" } else { NONE })?;
                 return Ok(true);
             }
@@ -32,8 +32,8 @@ impl Tries {
 
     /// Opens a view at the key. Room for its place comes first, so that the answer isn't lost.
     fn open_at(&mut self, key: &Key, answer: &mut Answer<'_>) -> Result<(), Memory> {
-        if self.spots.reserve(1).is_err() {
-            self.spots.reserve(1)?;
+        if self.view_paths.reserve(1).is_err() {
+            self.view_paths.reserve(1)?;
         }
         let path = match answer.name() {
             "open" => self.open(key, answer)?,
@@ -42,7 +42,7 @@ impl Tries {
         };
         let is_for_writing = answer.name() != "open";
         if let Some(path) = path {
-            self.spots.push(Spot {
+            self.view_paths.push(ViewPath {
                 path,
                 is_for_writing,
             })?;
@@ -91,10 +91,10 @@ impl Tries {
         }
         footprint_line(&self.current.trie, &mut *picture)?;
         self.frozen_picture(&mut *picture)?;
-        if let Some(spot) = self.spots.as_slice().last() {
+        if let Some(view_path) = self.view_paths.as_slice().last() {
             for call in IN_A_VIEW {
                 picture.read_on(Words::named(*call));
-                answer_at(&mut self.current.trie, spot, &mut *picture)?;
+                answer_at(&mut self.current.trie, view_path, &mut *picture)?;
             }
         }
         Ok(())

@@ -80,7 +80,7 @@ fn small_tries(rt: HostRuntime) -> Result<(), Memory> {
     Ok(())
 }
 
-/// A value whose clone is refused: what was built is dropped, and the trie stays as it was.
+/// A value whose clone fails: what was built is dropped, and the trie stays as it was.
 #[test]
 fn refused_clone(rt: HostRuntime) {
     let mut trie: Trie<i8, Fussy> = Trie::new(rt.alloc());

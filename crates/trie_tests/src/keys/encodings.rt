@@ -18,13 +18,13 @@ impl TrieKey for Digit {
 
     ghost encoding = { λ d. d.digit ∷ [] };
 
-    ghost is_light = { λ d. d.digit < 16 };
+    ghost is_inline = { λ d. d.digit < 16 };
 
     ghost is_value = { λ d. d.digit < 16 };
 
     ghost distinct = { λ x y _ _ e. eq-eqb x.digit y.digit (ap (λ xs. slice_index xs 0) e) };
 
-    ghost light_is_short = { λ _ _. lit≤ tt };
+    ghost inline_is_short = { λ _ _. lit≤ tt };
 
     fn encode(&self, alloc: Global) -> Result<Nibblet, Memory> {
         let mut list = Nibblet::new(alloc);

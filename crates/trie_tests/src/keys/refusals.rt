@@ -1,4 +1,4 @@
-//! The texts of refusals.
+//! The texts of failures.
 
 use radix_keys::{BytesError, Memory};
 use radix_trie::{Refused, TrieError};

@@ -1,6 +1,6 @@
 //! Masks of nodes.
 
-use radix_nodes::trie_node::mask::{mark, place};
+use radix_nodes::trie_node::mask::{child_index, mark};
 
 #[test]
 fn places_and_masks_after_inserting(rt: HostRuntime) {
@@ -13,7 +13,7 @@ fn places_and_masks_after_inserting(rt: HostRuntime) {
     ];
     for (mask, nibble, wanted) in PLACES {
         if *nibble < 16 {
-            assert!(rt; place(*mask, *nibble) == *wanted);
+            assert!(rt; child_index(*mask, *nibble) == *wanted);
         }
     }
     assert!(rt; (mark(0x0046, 0), mark(0x0046, 3)) == (0x0047, 0x004e));

@@ -1,4 +1,4 @@
-//! Clones that are refused.
+//! Clones that fail.
 
 use crate::fussy::Fussy;
 use crate::pairs::IN_ORDER;
@@ -16,7 +16,7 @@ fn fussy_sample(alloc: Global) -> Result<Trie<&'static str, Fussy>, Memory> {
     Ok(trie)
 }
 
-/// A clone whose fourth value's own clone is refused: it is refused too, and the trie is as before.
+/// A clone whose fourth value's own clone fails: it fails too, and the trie is as before.
 #[test]
 fn refused_value(rt: HostRuntime) -> Result<(), Memory> {
     let trie = fussy_sample(rt.alloc())?;

@@ -3,8 +3,8 @@ use Rattle.encoded_keys.proofs.CodeLemmas.Order.{before_by_test}
 use Rattle.encoded_keys.proofs.CodeLemmas.Links.{last_is_itself, last_before}
 use Rattle.encoded_keys.proofs.search.last_prefix.Goals as goal
 
-pub climb-requires-clause-before : goal.climb-requires-clause-before
-climb-requires-clause-before c = λ k l. before_by_test _ _ (c.cut-at.ensures.cut.before k l)
+pub follow_parents-requires-clause-before : goal.follow_parents-requires-clause-before
+follow_parents-requires-clause-before c = λ k l. before_by_test _ _ (c.cut-at.ensures.cut.before k l)
 
 pub returns-then-is_found : goal.returns-then-is_found
 returns-then-is_found c =
@@ -13,5 +13,5 @@ returns-then-is_found c =
 
 pub returns-else-is_found : goal.returns-else-is_found
 returns-else-is_found c =
-    last_before c.args.codes.now c.args.list.now c.cut-at.result.0 c.climb.result c.requires.rising c.cut-at.ensures.cut
-    (λ l e. let no : true ≡ false = sym ((c.cut-at.ensures.found refl).1 (l, e)) ∙ c.if-is_found.false in cc no) c.climb.ensures
+    last_before c.args.codes.now c.args.list.now c.cut-at.result.0 c.follow_parents.result c.requires.rising c.cut-at.ensures.cut
+    (λ l e. let no : true ≡ false = sym ((c.cut-at.ensures.found refl).1 (l, e)) ∙ c.if-is_found.false in cc no) c.follow_parents.ensures

@@ -38,7 +38,7 @@ returns-then-not-is_cell-clause-image c = (
       let t = c.loop-first.first in
       let stored = listed_at (cell_in bytes) (cell_count bytes) t (omega (arith, c.loop-first-test.true, c.in_ok-plan.ensures.plan.cells)) in
       let right = subst (λ e. IsTopCell e w (bases c.args.wide bytes) (sizes c.args.wide bytes) t (cell_in bytes t)) (sym c.in_ok-plan.ensures.plan.rest)
-      (image.tops.cells t (cell_in bytes t) stored) in
+      (image.directory.cells t (cell_in bytes t) stored) in
       let yes = c.is_cell.ensures.1 right in
       let no = c.if-not-is_cell.true in
       cc (yes, no),
@@ -69,7 +69,7 @@ returns-clause-image c = (
         whole = c.in_ok-plan.ensures.whole;
         rising = all_rise w fs bs c.loop-at.at c.loop-at.invariant.next end;
         linked = λ k l. c.loop-at.invariant.links k (omega (arith, l, length-links c.args.wide bytes, all, end));
-        tops = record {
+        directory = record {
           shift = c.in_ok-plan.ensures.plan.head.shift;
           cells = λ t cell at.
               let here = listed_is (cell_in bytes) (cell_count bytes) t cell at in

@@ -2,7 +2,7 @@ use Rattle.std.proofs.Common.{◌≡◌, ◌*◌, ◌^◌, ◌<◌, ◌≤◌, i
 use Rattle.std.proofs.lemmas.Bool.{cases_lt, eq-eqb, eqb-true}
 use Rattle.std.proofs.lemmas.Nat.{shl_whole}
 use Rattle.frozen_routes.specs.Routes.{IsLastHolder}
-use Rattle.frozen_routes.proofs.RouteLemmas.Tops.{none_behind}
+use Rattle.frozen_routes.proofs.RouteLemmas.Directory.{none_behind}
 use Rattle.flat_routes.specs.Images.{cell_in, bases, links, sizes, width}
 use Rattle.flat_routes.proofs.ImageLemmas.{all_rise, length-firsts, linked_less, none_of_none, one_last, width_most}
 use Rattle.flat_routes.proofs.check.is_cell.Goals as goal
@@ -68,18 +68,18 @@ returns c =
     let w = width c.args.wide in
     let fs = bases c.args.wide c.args.image.now in
     let bs = sizes c.args.wide c.args.image.now in
-    let up = links c.args.wide c.args.image.now in
+    let parents = links c.args.wide c.args.image.now in
     let cell = cell_in c.args.image.now c.args.at in
     let e = c.args.plan.rest in
     let count = c.cell_at-cell.result.count in
     let whole = ap (λ n. c.args.at * n) (shl_whole 1 1 e 128 (omega arith) (omega (arith, c.requires.plan.rest, c.requires.plan.head.shift)) ∙ one-mul (2 ^ e)) in
     let start = c.in-Some.ensures.1 ∙ whole in
     let parted = c.are_before.ensures.0 c.if-not-are_before.false in
-    let holder = c.climb.ensures.last (linked_less w fs bs up count c.args.plan.rows c.requires.linked (omega (arith, c.if-cell-plan.false)))
+    let holder = c.follow_parents.ensures.last (linked_less w fs bs parents count c.args.plan.rows c.requires.linked (omega (arith, c.if-cell-plan.false)))
     (λ k l. let less = parted.before k l in omega (arith, less)) (none_of_none w fs bs c.in-Some.start) in
-    let own = subst (λ n. IsLastHolder w fs bs n (c.args.at * 2 ^ e) c.climb.result) c.cell_at-cell.ensures.count
-    (subst (λ a. IsLastHolder w fs bs count a c.climb.result) start holder) in (
-      λ yes. let same : c.climb.result ≡ c.cell_at-cell.result.around = eqb-true _ _ yes in record {
+    let own = subst (λ n. IsLastHolder w fs bs n (c.args.at * 2 ^ e) c.follow_parents.result) c.cell_at-cell.ensures.count
+    (subst (λ a. IsLastHolder w fs bs count a c.follow_parents.result) start holder) in (
+      λ yes. let same : c.follow_parents.result ≡ c.cell_at-cell.result.around = eqb-true _ _ yes in record {
         count = record {
           within = omega (arith, parted.within, c.cell_at-cell.ensures.count);
           before = λ k l. let less = parted.before k (omega (arith, l, c.cell_at-cell.ensures.count)) in omega (arith, less, start);

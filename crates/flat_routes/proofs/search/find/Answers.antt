@@ -8,5 +8,5 @@ returns-clause-row c = λ image.
     let bs = c.args.image.now in
     let from = c.count_to-from.result in
     let count = c.count_to-from.ensures.count image in
-    longest wide bs c.args.number from c.climb.result image count
-    (c.climb.ensures.last (image_linked wide bs from image (omega (arith, c.count_to-from.ensures.most, c.requires.rows))) count.before (c.top_span-hi.ensures.around image))
+    longest wide bs c.args.number from c.follow_parents.result image count
+    (c.follow_parents.ensures.last (image_linked wide bs from image (omega (arith, c.count_to-from.ensures.most, c.requires.rows))) count.before (c.top_span-hi.ensures.around image))

@@ -33,6 +33,6 @@ returns-clause-around c =
     let plan = c.args.plan in
     let count = c.count_before-count.result in
     let start = c.in-Some.ensures.1 ∙ start_is c.args.at plan.rest (omega (arith, c.requires.plan.rest, c.requires.plan.head.shift)) in
-    subst (λ a. IsLastHolder w fs bs count a c.climb-around.result) start
-    (c.climb-around.ensures.last (linked_less w fs bs (links c.args.wide c.args.image.now) count plan.rows c.requires.linked c.count_before-count.ensures.within)
+    subst (λ a. IsLastHolder w fs bs count a c.follow_parents-around.result) start
+    (c.follow_parents-around.ensures.last (linked_less w fs bs (links c.args.wide c.args.image.now) count plan.rows c.requires.linked c.count_before-count.ensures.within)
     (λ k l. let less = c.count_before-count.ensures.count.before k l in omega (arith, less)) (none_of_none w fs bs c.in-Some.start))

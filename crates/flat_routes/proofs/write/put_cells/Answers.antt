@@ -1,8 +1,8 @@
 use Rattle.std.proofs.Common.{◌≡◌, ◌+◌, ◌*◌, inl, inr, ap, get_or, subst, sym, arith, ◌∙◌}
 use Rattle.std.proofs.lemmas.Bool.{cases_lt}
-use Rattle.frozen_routes.specs.declared.tops.Cell.{Cell}
+use Rattle.frozen_routes.specs.declared.directory.Cell.{Cell}
 use Rattle.frozen_routes.specs.Routes.{IsTopCell, base_numbers, bit_counts}
-use Rattle.frozen_routes.proofs.RouteLemmas.Tops.{before_next}
+use Rattle.frozen_routes.proofs.RouteLemmas.Directory.{before_next}
 use Rattle.image_parts.proofs.ByteLemmas.{u32_kept}
 use Rattle.flat_routes.specs.Images.{bases, cell_in, sizes, width}
 use Rattle.flat_routes.specs.Written.{ChangesWithin}

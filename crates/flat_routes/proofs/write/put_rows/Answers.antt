@@ -22,7 +22,7 @@ loop-at-preserved g c =
     let at = c.loop-at.at in
     let out = c.loop-at.out in
     let first = c.first.result in
-    let link = c.climb-link.result in
+    let link = c.follow_parents-link.result in
     let many = length-map given shown in
     let numbers = length-map rows (λ r. r.0.base) in
     let count = c.requires.layout.count in
@@ -36,9 +36,9 @@ loop-at-preserved g c =
     let holds = c.loop-at.invariant.rows in
     let here : get_or fs at 0 ≡ first = shown_at shown (λ r. r.0.base) given at c.index-rows-at.result c.loop-at-test.true c.index-rows-at.is ∙ sym c.first.ensures.value in
     let last = subst (λ b. AreLinkedTo (width b) (bases b out) (sizes b out) (links b out) at → ((k : ℕ) → k < at → get_or (bases b out) k 0 ≤ first)
-    → IsLastHolder (width b) (bases b out) (sizes b out) 0 first 0 → IsLastHolder (width b) (bases b out) (sizes b out) at first link) c.WIDE-wide.ensures c.climb-link.ensures.last in
+    → IsLastHolder (width b) (bases b out) (sizes b out) 0 first 0 → IsLastHolder (width b) (bases b out) (sizes b out) at first link) c.WIDE-wide.ensures c.follow_parents-link.ensures.last in
     let holder = last (rows_linked wide out rows at holds within c.requires.rising (omega (arith, many, c.loop-at-test.true)))
-    (λ k l. let up = firsts_up w fs bs k at c.requires.rising l (omega (arith, many, numbers, c.loop-at-test.true)) in omega (arith, up, here, firsts_hold wide out rows at holds within k l))
+    (λ k l. let parents = firsts_up w fs bs k at c.requires.rising l (omega (arith, many, numbers, c.loop-at-test.true)) in omega (arith, parents, here, firsts_hold wide out rows at holds within k l))
     (none_of_none w (bases wide out) (sizes wide out) first) in
     let own = last_there w (bases wide out) (sizes wide out) fs bs at (λ k l. sym (firsts_hold wide out rows at holds within k l)) (λ k l. sym (sizes_hold wide out rows at holds within k l))
     at first link (omega arith) holder in

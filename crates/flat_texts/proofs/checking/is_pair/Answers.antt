@@ -13,9 +13,9 @@ returns c =
     let at = c.args.at in
     let after = c.is_after.ensures.0 c.if-not-is_after.false in
     let is = ap nibbles c.key_at-key.ensures in
-    let last : IsLastOf (λ k. IsPrefix (key_code bs k) (key_code bs at)) at c.climb.result =
-    subst (λ q. IsLastOf (λ k. IsPrefix (key_code bs k) q) at c.climb.result) is
-    (c.climb.ensures.last c.requires.before (λ k l. subst (IsBefore (key_code bs k)) (sym is) (before_next bs at c.requires.before after k l))) in (
+    let last : IsLastOf (λ k. IsPrefix (key_code bs k) (key_code bs at)) at c.follow_parents.result =
+    subst (λ q. IsLastOf (λ k. IsPrefix (key_code bs k) q) at c.follow_parents.result) is
+    (c.follow_parents.ensures.last c.requires.before (λ k l. subst (IsBefore (key_code bs k)) (sym is) (before_next bs at c.requires.before after k l))) in (
       λ yes. record {
         order = omega (arith, c.if-start_at-end.false, c.start_at.ensures, c.end_at-end.ensures);
         within = omega (arith, c.if-end-plan.false, c.end_at-end.ensures, c.requires.plan.keys_len);

@@ -23,9 +23,9 @@ loop-count-preserved c =
       within = omega (arith, c.if-link-at.false, c.loop-count.invariant.within);
       walk = λ image.
           let next : n + 1 ≡ suc n = omega arith in
-          let up = prefixes_up nibbles (image_map bs) in
-          ap (λ k. each (pair_in bs) (take k (set xs n (at - 1))) ++ up c.link_at-link.result) next
-          ∙ put_next (pair_in bs) xs n (at - 1) (up c.link_at-link.result) (omega (arith, c.loop-count-test.true, c.loop-count.auto.found))
+          let parents = prefixes_up nibbles (image_map bs) in
+          ap (λ k. each (pair_in bs) (take k (set xs n (at - 1))) ++ parents c.link_at-link.result) next
+          ∙ put_next (pair_in bs) xs n (at - 1) (parents c.link_at-link.result) (omega (arith, c.loop-count-test.true, c.loop-count.auto.found))
           ∙ ap (λ r. each (pair_in bs) (take n xs) ++ r)
           (sym (walk_from bs image at c.link_at-link.result (omega (arith, c.if-at-eq0.false)) (omega (arith, c.loop-count.invariant.within, c.in-Ok.ensures.plan.pairs)) c.link_at-link.ensures))
           ∙ c.loop-count.invariant.walk image;

@@ -18,8 +18,8 @@ returns-clause-last c = λ image.
     let q = nibbles c.args.key.now in
     let at = c.cut-at.result.0 in
     let cut = c.cut-at.ensures.cut image in
-    last_before (key_codes bs) q at c.climb.result (codes_rise bs image.pairs) cut
+    last_before (key_codes bs) q at c.follow_parents.result (codes_rise bs image.pairs) cut
     (λ l e. let no : true ≡ false = sym ((c.cut-at.ensures.found image refl).1 (l, e)) ∙ c.if-is_found.false in cc no)
-    (last_of_codes bs at c.climb.result q (omega (arith, c.cut-at.ensures.within, c.requires.pairs))
-    (c.climb.ensures.last (λ k l. image.pairs k (omega (arith, l, c.cut-at.ensures.within, c.requires.pairs)))
+    (last_of_codes bs at c.follow_parents.result q (omega (arith, c.cut-at.ensures.within, c.requires.pairs))
+    (c.follow_parents.ensures.last (λ k l. image.pairs k (omega (arith, l, c.cut-at.ensures.within, c.requires.pairs)))
     (λ k l. subst (λ x. IsBefore x q) (code_is bs k (omega (arith, l, c.cut-at.ensures.within, c.requires.pairs))) (before_by_test _ q (cut.before k l)))))

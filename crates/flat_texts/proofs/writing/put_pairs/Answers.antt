@@ -34,10 +34,10 @@ loop-at-preserved c =
     record {
       plan = kept;
       from = omega (arith, c.loop-at.invariant.from, keys_next ps at none c.loop-at-test.true);
-      pairs = holds_more out new plan ps at c.loop-at.from c.climb-link.result none c.loop-at.invariant.plan kept own many within (omega (arith, c.requires.room, c.loop-at.invariant.long)) stay
+      pairs = holds_more out new plan ps at c.loop-at.from c.follow_parents-link.result none c.loop-at.invariant.plan kept own many within (omega (arith, c.requires.room, c.loop-at.invariant.long)) stay
           c.loop-at.invariant.pairs c.requires.rising c.put_pair.ensures.head c.put_pair.ensures.end c.put_pair.ensures.link c.put_pair.ensures.value c.put_pair.ensures.key
           (omega (arith, more, c.loop-at.invariant.from, keys_len))
-          (c.climb-link.ensures.last c.loop-at.invariant.pairs.right
+          (c.follow_parents-link.ensures.last c.loop-at.invariant.pairs.right
           (held_before out ps at c.loop-at.from c.loop-at.invariant.pairs none (omega (arith, c.loop-at-test.true)) c.requires.rising c.loop-at-test.true));
       head = λ k l. stay.heads k (omega (arith, l, heads_at)) ∙ c.loop-at.invariant.head k l;
       behind = λ k l. c.put_pair.ensures.behind k l ∙ c.loop-at.invariant.behind k l;

@@ -3,7 +3,7 @@ use Rattle.std.proofs.Common.{[], ◌++◌, ◌∙◌, append-nil, ap, sym, subs
 use Rattle.std.specs.FinMap as fin
 use Rattle.nibble_map.specs.Lists.{Each}
 use Rattle.radix_trie.specs.Views.{pairs_below}
-use Rattle.radix_trie.proofs.PathLemmas.Places.{below-nil, no_pairs_below}
+use Rattle.radix_trie.proofs.PathLemmas.Loci.{below-nil, no_pairs_below}
 use Rattle.frozen_networks.specs.Networks.{IsNetwork}
 use Rattle.frozen_networks.proofs.RowLemmas.{one_key_more, one_row_copied}
 use Rattle.frozen_networks.proofs.copies.cloned_rows.Goals as goal

@@ -15,5 +15,5 @@ returns-in-Full-clause-none g c = λ none. c.in-Err.ensures.none (count_rows c.a
 
 pub unreachable-requires : goal.unreachable-requires
 unreachable-requires g c =
-    no_copy_out_of_order g.A.Address.BITS g.A.Address.number c.args.trie.now c.in-Ok.rows.items c.in-Unsorted.field-0 c.in-Ok.ensures.rows c.in-Ok.ensures.networks
-    (c.keys_stand_at_their_encodings.ensures.rising []) (c.in-Err.ensures.unsorted c.in-Unsorted.field-0 c.in-Unsorted.is)
+    no_copy_out_of_order g.A.Address.BITS g.A.Address.number c.args.trie.now c.in-Ok.rows.items c.in-OutOfOrder.field-0 c.in-Ok.ensures.rows c.in-Ok.ensures.networks
+    (c.keys_stand_at_their_encodings.ensures.rising []) (c.in-Err.ensures.unsorted c.in-OutOfOrder.field-0 c.in-OutOfOrder.is)

@@ -2,7 +2,7 @@
 use Rattle.std.proofs.Common.{[], arith, ap, subst, sym, ◌∙◌}
 use Rattle.std.specs.FinMap as fin
 use Rattle.nibble_map.specs.Lists.{IsRising}
-use Rattle.radix_trie.proofs.PathLemmas.Places.{below-nil}
+use Rattle.radix_trie.proofs.PathLemmas.Loci.{below-nil}
 use Rattle.frozen_trie.specs.Frozen.{codes_of}
 use Rattle.frozen_networks.specs.Networks.{network_code}
 use Rattle.frozen_networks.proofs.RowLemmas.{count_rows}

@@ -13,7 +13,7 @@ unreachable-requires g c = by c.in-Err.field-0.why refl
     by : (w : SortedWhy) → c.in-Err.field-0.why ≡ w → ⊥
     by why.Memory is = c.in-Err.ensures.memory is
     by why.Full is = omega (arith, c.in-Err.ensures.full is, c.requires.room)
-    by (why.Unsorted i) is =
+    by (why.OutOfOrder i) is =
         let w = g.A.Address.BITS in
         let number = g.A.Address.number in
         let networks = subst (Each (λ r. IsNetwork w number r.0)) c.deref.ensures.value c.each_is_network.ensures in

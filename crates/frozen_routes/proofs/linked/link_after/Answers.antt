@@ -4,8 +4,8 @@ use Rattle.frozen_routes.specs.Routes.{base_numbers, bit_counts}
 use Rattle.frozen_routes.proofs.RouteLemmas.Growing.{all_at_most, as_many}
 use Rattle.frozen_routes.proofs.linked.link_after.Goals as goal
 
-pub climb-requires-clause-before : goal.climb-requires-clause-before
-climb-requires-clause-before g c = λ k l.
+pub follow_parents-requires-clause-before : goal.follow_parents-requires-clause-before
+follow_parents-requires-clause-before g c = λ k l.
     let number = g.A.Address.number in
     let rows = c.args.rows.now in
     let few : k < length (base_numbers number rows) = omega (arith, l, length-map rows (λ r. number r.0.base)) in

@@ -3,7 +3,7 @@ use Rattle.std.proofs.lemmas.List.{length-map, length-take, map_more, take-map, 
 use Rattle.std.proofs.lemmas.List.Elements.{All-more}
 use Rattle.nibble_map.specs.Lists.{IsRising}
 use Rattle.encoded_keys.specs.Codes.{IsLinked}
-use Rattle.frozen_trie.specs.Frozen.{IsFirstUnsorted, codes_of}
+use Rattle.frozen_trie.specs.Frozen.{IsFirstListOutOfOrder, codes_of}
 use Rattle.frozen_trie.proofs.build.codes_and_links.Goals as goal
 
 pub returns-in-Err-clause-unsorted : goal.returns-in-Err-clause-unsorted
@@ -19,7 +19,7 @@ returns-in-Err-clause-unsorted g c = λ k e.
     map_more (λ p. enc p.0) ps i d c.loop-pair-test.true
     ∙ ap (λ t. t ++ enc (get_or ps i d).0 ∷ []) (sym c.loop-pair.invariant.keyed)
     ∙ ap (λ x. cs ++ x ∷ []) (ap (λ p. enc p.0) (sym c.pair-item.is) ∙ sym (c.as_slice.ensures ∙ c.in-Ok-of.ensures.ok)) in
-    subst (IsFirstUnsorted (codes_of enc ps)) (sym count) (record {
+    subst (IsFirstListOutOfOrder (codes_of enc ps)) (sym count) (record {
       within = omega (arith, length-map ps (λ p. enc p.0), c.loop-pair-test.true);
       before = subst IsRising (c.loop-pair.invariant.keyed ∙ sym (take-map (λ p. enc p.0) i ps)) c.loop-pair.invariant.linked.rising;
       unsorted = λ h. c.in-Err.ensures.unsorted why.0 (subst IsRising (take-map (λ p. enc p.0) (i + 1) ps ∙ step) h);
@@ -52,7 +52,7 @@ loop-pair-preserved g c =
 pub returns-in-Ok-finish-clause-ok : goal.returns-in-Ok-finish-clause-ok
 returns-in-Ok-finish-clause-ok g c = record {
   keyed = c.finish.ensures.same ∙ c.loop-pair.invariant.keyed ∙ ap (codes_of g.K.TrieKey.encoding) (take_all c.loop-pair.pair-index c.args.pairs.now (omega (arith, c.loop-pair-test.false)));
-  linked = subst (λ cs. IsLinked cs c.loop-pair.up.items) (sym c.finish.ensures.same) c.loop-pair.invariant.linked;
+  linked = subst (λ cs. IsLinked cs c.loop-pair.parents.items) (sym c.finish.ensures.same) c.loop-pair.invariant.linked;
 }
 
 pub returns-in-Ok-finish-clause-values : goal.returns-in-Ok-finish-clause-values

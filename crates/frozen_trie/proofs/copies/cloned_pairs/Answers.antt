@@ -3,7 +3,7 @@ use Rattle.std.specs.FinMap as fin
 use Rattle.nibble_map.specs.Copies.{IsPairClone}
 use Rattle.masked_tree.specs.Same.{AreEntryCopies}
 use Rattle.radix_trie.specs.Views.{pairs_below}
-use Rattle.radix_trie.proofs.PathLemmas.Places.{below-nil, no_pairs_below}
+use Rattle.radix_trie.proofs.PathLemmas.Loci.{below-nil, no_pairs_below}
 use Rattle.frozen_trie.specs.Frozen.{coded_pairs}
 use Rattle.frozen_trie.proofs.copies.cloned_pairs.Goals as goal
 

@@ -70,7 +70,7 @@ returns-in-Ok-finish-clause-ok g c =
     let over = no_next_pair c.loop-key.walk c.in-Ok-None.field-0 c.in-Ok-None.ensures.pair c.in-Ok-None.field-0-is in
     record {
       keyed = c.in-Ok-finish.ensures.same ∙ sym (append-nil c.loop-key.codes) ∙ ap (λ ps. c.loop-key.codes ++ codes_of g.K.TrieKey.encoding ps) (sym over) ∙ c.loop-key.invariant.keyed;
-      linked = subst (λ cs. IsLinked cs c.loop-key.up.items) (sym c.in-Ok-finish.ensures.same) c.loop-key.invariant.linked;
+      linked = subst (λ cs. IsLinked cs c.loop-key.parents.items) (sym c.in-Ok-finish.ensures.same) c.loop-key.invariant.linked;
     }
 
 pub returns-in-Err-finish-clause-none : goal.returns-in-Err-finish-clause-none

@@ -7,7 +7,7 @@ use Rattle.frozen_trie.proofs.freezing.codes_and_links.Given as goal
 abbrev pub invariant-loop-key : goal.invariant-loop-key
 invariant-loop-key g l = record {
   keyed : l.codes ++ codes_of g.K.TrieKey.encoding l.walk ≡ codes_of g.K.TrieKey.encoding (pairs_below l.trie []);
-  linked : IsLinked l.codes l.up.items;
+  linked : IsLinked l.codes l.parents.items;
 }
 
 abbrev pub decreases-loop-key : goal.decreases-loop-key

@@ -8,5 +8,5 @@ invariant-loop-command g l = record {
   listed : l.yielded ++ into_iter_items l.command-iterator ≡ l.fn.commands.items;
   counted : into_iter_len l.command-iterator ≡ length (into_iter_items l.command-iterator);
   room : vec_len l.replies + into_iter_len l.command-iterator ≤ vec_capacity l.replies;
-  steps : Steps g.K.TrieKey.encoding g.K.TrieKey.is_light l.fn.trie l.yielded l.replies.items l.trie;
+  steps : Steps g.K.TrieKey.encoding g.K.TrieKey.is_inline l.fn.trie l.yielded l.replies.items l.trie;
 }

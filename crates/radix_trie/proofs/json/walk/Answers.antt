@@ -1,7 +1,7 @@
 use Rattle.std.proofs.Common.{◌≡◌, map, ap, subst, IfOk}
 use Rattle.std.specs.FinMap as fin
 use Rattle.radix_trie.proofs.JsonLemmas.Objects.{get-object_of}
-use Rattle.radix_trie.proofs.PathLemmas.Places.{below-nil}
+use Rattle.radix_trie.proofs.PathLemmas.Loci.{below-nil}
 use Rattle.radix_trie.proofs.JsonLemmas.Texts.{texts_rise}
 use Rattle.radix_trie.proofs.json.walk.Goals as goal
 

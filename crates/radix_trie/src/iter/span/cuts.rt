@@ -10,7 +10,7 @@ ghost use Rattle.radix_trie.specs.Walks.{IsCutByList, LeadsOn, ReachesDown, boun
 
 use crate::iter::side::{Side, side_of};
 use radix_keys::Nibblet;
-use radix_nodes::trie_node::mask::place;
+use radix_nodes::trie_node::mask::child_index;
 use radix_nodes::trie_node::{KeyValue, TrieNode};
 use std::ops::Bound;
 
@@ -98,7 +98,7 @@ fn cut_by<'a, K, V>(
     if depth == list.len() {
         return (0, 0, None);
     }
-    match place(node.mask, list.get(depth)) {
+    match child_index(node.mask, list.get(depth)) {
         Ok(i) => {
             let child = &node.children[i];
             let behind = i + 1;

@@ -6,7 +6,7 @@ ghost use Rattle.nibble_map.specs.Trees.{IsFull};
 ghost use Rattle.radix_nodes.specs.Nodes.{children_of, tree_of};
 ghost use Rattle.radix_trie.specs.Walks.{LeadsOn, ReachesDown, bound_behind, bound_now, left_of, pairs_of_span, way_high, way_low};
 
-use crate::iter::rows::Rest;
+use crate::iter::rows::Frame;
 use crate::iter::span::cuts::{cut, own_within};
 use radix_keys::Nibblet;
 use radix_nodes::trie_node::TrieNode;
@@ -18,7 +18,7 @@ pub(super) struct Parting<'a, K, V> {
     /// The child that the lower bound goes on to, and how many nibbles lie behind it.
     pub(super) low: Option<(&'a TrieNode<K, V>, usize)>,
     /// The node's own pair, if it counts, and the children between the bounds.
-    pub(super) rest: Rest<'a, K, V>,
+    pub(super) rest: Frame<'a, K, V>,
     /// The child that the upper bound goes on to, and how many nibbles lie behind it.
     pub(super) high: Option<(&'a TrieNode<K, V>, usize)>,
 }
@@ -52,7 +52,7 @@ pub(super) fn part<'a, K, V>(
         if first <= to {
             return Parting {
                 low: below,
-                rest: Rest {
+                rest: Frame {
                     own: own_within(at, low, high, done),
                     row: &at.children[first..to],
                 },
@@ -67,7 +67,7 @@ pub(super) fn part<'a, K, V>(
             _ => {
                 return Parting {
                     low: None,
-                    rest: Rest {
+                    rest: Frame {
                         own: None,
                         row: &[],
                     },

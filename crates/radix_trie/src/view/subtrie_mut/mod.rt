@@ -8,14 +8,14 @@ ghost use Rattle.nibble_map.specs.MapQueries.{AreChildren, IsChild};
 ghost use Rattle.nibble_map.specs.Maps.{below, value_at};
 ghost use Rattle.nibble_map.specs.Nibbles.{IsShort};
 ghost use Rattle.radix_trie.specs.Lends.{lends_behind, lends_own};
-ghost use Rattle.radix_trie.specs.Places.{IsPlaceIn};
+ghost use Rattle.radix_trie.specs.Loci.{IsLocusIn};
 ghost use Rattle.radix_trie.specs.Views.{paths_of};
 ghost use Rattle.radix_trie.specs.WriteViews.{map_behind, path_of, prefix_of, lender_of};
 
 mod spent;
 
 use crate::error::{SubTrieError, SubTrieResult};
-use crate::place::Place;
+use crate::locus::Locus;
 use crate::trie::Trie;
 use crate::view::children::Children;
 use crate::view::inside::inside;
@@ -77,11 +77,11 @@ impl<'a, K: TrieKey, V> SubTrieMut<'a, K, V> {
         &self.path
     }
 
-    /// The place of the view's path.
-    pub(crate) fn place(&self) -> Place<'_, K, V>
-        ensures { IsPlaceIn K.encoding (map_behind self.now) (path_of self.now) result }
+    /// The locus of the view's path.
+    pub(crate) fn locus(&self) -> Locus<'_, K, V>
+        ensures { IsLocusIn K.encoding (map_behind self.now) (path_of self.now) result }
     {
-        Place::find(self.trie, &self.path)
+        Locus::find(self.trie, &self.path)
     }
 
     /// For each nibble in rising order, the view for reading at the shortest point that goes on
@@ -99,7 +99,7 @@ impl<'a, K: TrieKey, V> SubTrieMut<'a, K, V> {
         ensures short { ((q : List ℕ) → IsChild (map_behind self.now) (path_of self.now) q
             → IsShort q) → IsOk result }
     {
-        self.place().children(self.trie, &self.path)
+        self.locus().children(self.trie, &self.path)
     }
 
     /// The views that `children` returns, for as long as the trie's borrow. The view is spent.
@@ -116,7 +116,7 @@ impl<'a, K: TrieKey, V> SubTrieMut<'a, K, V> {
             → IsShort q) → IsOk result }
     {
         let (trie, path) = self.into_parts();
-        Place::find(trie, &path).children(trie, &path)
+        Locus::find(trie, &path).children(trie, &path)
     }
 
     /// The value at the path, for writing, if one is stored there. It allocates nothing.
@@ -145,13 +145,13 @@ impl<'a, K: TrieKey, V> SubTrieMut<'a, K, V> {
         ensures inside { OnOk result (IsPrefix (path_of self.now) (Q.encoding key.now)) }
         ensures outside { result ≡ Err SubTrieError.Outside
             → IsPrefix (path_of self.now) (Q.encoding key.now) → ⊥ }
-        ensures light { Q.is_light key.now → result ≢ Err SubTrieError.Memory }
+        ensures inline { Q.is_inline key.now → result ≢ Err SubTrieError.Memory }
     {
         let list = inside(&self.path, key, self.trie.allocator())?;
         Ok(self.trie.at(&list))
     }
 
-    /// The count of pairs at and below the key's place. They are counted, so the time grows with
+    /// The count of pairs at and below the key. They are counted, so the time grows with
     /// their number.
     ///
     /// # Errors
@@ -163,9 +163,9 @@ impl<'a, K: TrieKey, V> SubTrieMut<'a, K, V> {
         ensures inside { OnOk result (IsPrefix (path_of self.now) (Q.encoding key.now)) }
         ensures outside { result ≡ Err SubTrieError.Outside
             → IsPrefix (path_of self.now) (Q.encoding key.now) → ⊥ }
-        ensures light { Q.is_light key.now → result ≢ Err SubTrieError.Memory }
+        ensures inline { Q.is_inline key.now → result ≢ Err SubTrieError.Memory }
     {
         let list = inside(&self.path, key, self.trie.allocator())?;
-        Ok(Place::find(self.trie, &list).len())
+        Ok(Locus::find(self.trie, &list).len())
     }
 }

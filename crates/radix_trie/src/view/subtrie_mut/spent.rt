@@ -10,7 +10,7 @@ ghost use Rattle.radix_trie.specs.Walks.{deref_pair};
 ghost use Rattle.radix_trie.specs.WriteViews.{map_behind, kept_path, kept_prefix, lender_of};
 
 use crate::iter::{key_of, key_value_of, value_of};
-use crate::place::{PathList, Place};
+use crate::locus::{Locus, PathList};
 use crate::trie::Trie;
 use crate::view::subtrie_mut::SubTrieMut;
 use radix_keys::{Nibblet, TrieKey};
@@ -126,7 +126,7 @@ impl<'a, K: TrieKey, V, P: PathList> SubTrieMut<'a, K, V, P> {
             path,
             prefix: _,
         } = self;
-        Place::find(trie, path.nibbles()).len()
+        Locus::find(trie, path.nibbles()).len()
     }
 
     /// Whether no pair is at or below the path. The view is spent.
@@ -140,7 +140,7 @@ impl<'a, K: TrieKey, V, P: PathList> SubTrieMut<'a, K, V, P> {
             path,
             prefix: _,
         } = self;
-        Place::find(trie, path.nibbles()).is_empty()
+        Locus::find(trie, path.nibbles()).is_empty()
     }
 
     /// Whether no pair is strictly below the path. The view is spent.
@@ -154,7 +154,7 @@ impl<'a, K: TrieKey, V, P: PathList> SubTrieMut<'a, K, V, P> {
             path,
             prefix: _,
         } = self;
-        Place::find(trie, path.nibbles()).is_leaf()
+        Locus::find(trie, path.nibbles()).is_leaf()
     }
 
     /// The path's fragment when the view was made. The view is spent.
@@ -178,7 +178,7 @@ fn key_within<'a, K: TrieKey, V, P: PathList>(trie: &'a mut Trie<K, V>, path: P)
     ensures key { option_copied result
         ≡ option_map (λ p. p.0) (map.get trie.old (P.list path)) }
 {
-    key_of(Place::find(trie, path.nibbles()).pair())
+    key_of(Locus::find(trie, path.nibbles()).pair())
 }
 
 /// The value that is stored at a path, as `key_within` returns the key.
@@ -187,7 +187,7 @@ fn value_within<'a, K: TrieKey, V, P: PathList>(trie: &'a mut Trie<K, V>, path: 
         (stays_as K.row V.row K.TrieKey.own K.PartialEq.own trie.entry.ghost_name trie.old) }
     ensures value { option_copied result ≡ value_at trie.old (P.list path) }
 {
-    value_of(Place::find(trie, path.nibbles()).pair())
+    value_of(Locus::find(trie, path.nibbles()).pair())
 }
 
 /// The first pair at and below a path, as `key_within` returns the key.
@@ -200,7 +200,7 @@ fn first_within<'a, K: TrieKey, V, P: PathList>(
     ensures first { option_map deref_pair result
         ≡ slice_get (pairs_below trie.old (P.list path)) 0 }
 {
-    key_value_of(Place::find(trie, path.nibbles()).first())
+    key_value_of(Locus::find(trie, path.nibbles()).first())
 }
 
 /// The last pair at and below a path, as `key_within` returns the key.
@@ -214,5 +214,5 @@ fn last_within<'a, K: TrieKey, V, P: PathList>(
         ≡ slice_get (pairs_below trie.old (P.list path))
         (length (pairs_below trie.old (P.list path)) - 1) }
 {
-    key_value_of(Place::find(trie, path.nibbles()).last())
+    key_value_of(Locus::find(trie, path.nibbles()).last())
 }

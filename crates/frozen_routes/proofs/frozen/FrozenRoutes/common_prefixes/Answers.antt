@@ -24,8 +24,8 @@ last_around-last-requires-clause-rising g c = rw (c.deref.ensures.value) c.self.
 pub last_around-last-requires-clause-links : goal.last_around-last-requires-clause-links
 last_around-last-requires-clause-links g c = rw (c.deref.ensures.value, c.deref-2.ensures.value) c.self.invariant.links
 
-pub last_around-last-requires-clause-tops : goal.last_around-last-requires-clause-tops
-last_around-last-requires-clause-tops g c = rw (c.deref.ensures.value) c.self.invariant.tops
+pub last_around-last-requires-clause-directory : goal.last_around-last-requires-clause-directory
+last_around-last-requires-clause-directory g c = rw (c.deref.ensures.value) c.self.invariant.directory
 
 pub last_around-last-requires-clause-uppers : goal.last_around-last-requires-clause-uppers
 last_around-last-requires-clause-uppers g c = rw (c.deref.ensures.value) c.self.invariant.uppers

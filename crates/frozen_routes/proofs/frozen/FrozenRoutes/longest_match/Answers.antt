@@ -36,8 +36,8 @@ last_around-found-requires-clause-rising g c = rw (c.deref.ensures.value) c.self
 pub last_around-found-requires-clause-links : goal.last_around-found-requires-clause-links
 last_around-found-requires-clause-links g c = rw (c.deref.ensures.value, c.deref-2.ensures.value) c.self.invariant.links
 
-pub last_around-found-requires-clause-tops : goal.last_around-found-requires-clause-tops
-last_around-found-requires-clause-tops g c = rw (c.deref.ensures.value) c.self.invariant.tops
+pub last_around-found-requires-clause-directory : goal.last_around-found-requires-clause-directory
+last_around-found-requires-clause-directory g c = rw (c.deref.ensures.value) c.self.invariant.directory
 
 pub last_around-found-requires-clause-uppers : goal.last_around-found-requires-clause-uppers
 last_around-found-requires-clause-uppers g c = rw (c.deref.ensures.value) c.self.invariant.uppers

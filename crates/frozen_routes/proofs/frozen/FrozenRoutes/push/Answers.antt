@@ -43,8 +43,8 @@ invariant_of-self-2 g c =
     let rising = subst (λ rs. AreRising w (base_numbers number rs ++ number c.args.network.base ∷ []) (bit_counts rs ++ c.args.network.bits ∷ [])) c.deref.ensures.value c.in-Some.ensures.0 in
     let last = subst (λ rs. IsLastHolder w (base_numbers number rs) (bit_counts rs) (length rs) (number c.args.network.base) link) c.deref.ensures.value c.in-Some.ensures.1 in
     let few : length rows + 1 < 2 ^ 32 = omega (arith, c.len.ensures, c.if-len.false) in
-    let had = c.self.inside.tops in
-    linked_row w number rows row c.self.inside.up.items _ had.rest _ had.cells.items _ had.uppers.items _ _ link c.self.invariant few rising last is ups c.none.ensures.rest c.none.ensures.cells c.none.ensures.uppers
+    let had = c.self.inside.directory in
+    linked_row w number rows row c.self.inside.parents.items _ had.rest _ had.cells.items _ had.uppers.items _ _ link c.self.invariant few rising last is ups c.none.ensures.rest c.none.ensures.cells c.none.ensures.uppers
 
 pub link_after-requires-clause-rising : goal.link_after-requires-clause-rising
 link_after-requires-clause-rising g c = rw (c.deref.ensures.value) c.self.invariant.rising

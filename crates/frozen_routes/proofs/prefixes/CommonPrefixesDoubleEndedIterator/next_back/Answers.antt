@@ -6,12 +6,12 @@ use Rattle.frozen_routes.proofs.prefixes.CommonPrefixesDoubleEndedIterator.next_
 
 pub returns-clause-steps : goal.returns-clause-steps
 returns-clause-steps g c =
-    let up = rows_up g.A.Address.BITS g.A.Address.number c.self.inside.routes.now in
+    let parents = rows_up g.A.Address.BITS g.A.Address.number c.self.inside.routes.now in
     let last = c.self.inside.last in
     let left = c.self.inside.left in
-    let some = some_left up refl (up last) 0 last refl (omega (arith, c.if-self-eq0.false, c.self.invariant.1)) in
+    let some = some_left parents refl (parents last) 0 last refl (omega (arith, c.if-self-eq0.false, c.self.invariant.1)) in
     let back : last ≡ last - 1 + 1 = omega (arith, some) in
     let whole : left ≡ suc (left - 1) = omega (arith, c.if-self-eq0.false) in
-    sym c.self.view_is ∙ ap (λ n. reverse (take n (up last))) whole
-    ∙ ap (λ rows. reverse (take (suc (left - 1)) rows)) (ap up back ∙ c.step_up-link.ensures.walk)
-    ∙ reverse-append (row_of_refs c.step_up-link.result.0 ∷ []) (take (left - 1) (up c.step_up-link.result.1))
+    sym c.self.view_is ∙ ap (λ n. reverse (take n (parents last))) whole
+    ∙ ap (λ rows. reverse (take (suc (left - 1)) rows)) (ap parents back ∙ c.step_up-link.ensures.walk)
+    ∙ reverse-append (row_of_refs c.step_up-link.result.0 ∷ []) (take (left - 1) (parents c.step_up-link.result.1))

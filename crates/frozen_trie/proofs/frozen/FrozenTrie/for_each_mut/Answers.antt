@@ -25,8 +25,8 @@ invariant_of-self g c =
     let ps = c.self.inside.pairs.items in
     let now = c.change_pairs.new.pairs in
     let changed = subst (λ xs. AreChanged R xs now) c.deref_mut.ensures.value c.change_pairs.ensures in
-    subst (λ xs. IsFrozen enc c.self.inside.codes xs c.self.inside.up.items) (sym (written_back R c.self.inside.pairs.len ps now c.self.inside.pairs.ok.0 changed))
-    (changed_kept R enc ps now changed c.self.inside.codes c.self.inside.up.items c.self.invariant)
+    subst (λ xs. IsFrozen enc c.self.inside.codes xs c.self.inside.parents.items) (sym (written_back R c.self.inside.pairs.len ps now c.self.inside.pairs.ok.0 changed))
+    (changed_kept R enc ps now changed c.self.inside.codes c.self.inside.parents.items c.self.invariant)
 
 pub returns : goal.returns
 returns g c =

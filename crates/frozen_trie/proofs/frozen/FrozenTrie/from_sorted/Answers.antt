@@ -3,7 +3,7 @@ use Rattle.std.specs.FinMap as fin
 use Rattle.nibble_map.specs.Lists.{IsRising}
 use Rattle.radix_trie.specs.Keys.{IsKeyed}
 use Rattle.radix_trie.proofs.ChangeLemmas.Keyed.{keyed_empty, keyed_extended}
-use Rattle.frozen_trie.specs.Frozen.{IsFirstUnsorted, codes_of}
+use Rattle.frozen_trie.specs.Frozen.{IsFirstListOutOfOrder, codes_of}
 use Rattle.frozen_trie.proofs.FrozenLemmas.Whole.{map_of_is_stored}
 use Rattle.frozen_trie.proofs.frozen.FrozenTrie.from_sorted.Goals as goal
 
@@ -14,7 +14,7 @@ returns-in-Ok-clause-pairs g c =
 
 pub returns-in-Err-clause-unsorted : goal.returns-in-Err-clause-unsorted
 returns-in-Err-clause-unsorted g c = λ i e.
-    subst (λ ps. IsFirstUnsorted (codes_of g.K.TrieKey.encoding ps) i) c.deref.ensures.value (c.in-Err.ensures.unsorted i (ap (λ w. Err w) e))
+    subst (λ ps. IsFirstListOutOfOrder (codes_of g.K.TrieKey.encoding ps) i) c.deref.ensures.value (c.in-Err.ensures.unsorted i (ap (λ w. Err w) e))
 
 pub returns-in-Ok-clause-keyed : goal.returns-in-Ok-clause-keyed
 returns-in-Ok-clause-keyed g c =

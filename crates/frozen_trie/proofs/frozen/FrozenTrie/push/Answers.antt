@@ -81,7 +81,7 @@ returns-then-is_err-clause-room g c = λ e.
     omega (arith, c.is_full.ensures.room c.if-is_full.false, ap length c.self.invariant.keyed, as_many enc ps rises, len_is enc ps rises, ap fin.len c.self.view_is)
 
 pub returns-then-is_err-clause-memory : goal.returns-then-is_err-clause-memory
-returns-then-is_err-clause-memory g c = λ e light.
+returns-then-is_err-clause-memory g c = λ e inline.
     let enc = g.K.TrieKey.encoding in
     let ps = c.self.inside.pairs.items in
     let key = c.args.key in
@@ -97,7 +97,7 @@ returns-clause-room g c = λ e.
     omega (arith, c.is_full.ensures.room c.if-is_full.false, ap length c.self.invariant.keyed, as_many enc ps rises, len_is enc ps rises, ap fin.len c.self.view_is)
 
 pub returns-clause-memory : goal.returns-clause-memory
-returns-clause-memory g c = λ e light.
+returns-clause-memory g c = λ e inline.
     let enc = g.K.TrieKey.encoding in
     let ps = c.self.inside.pairs.items in
     let key = c.args.key in

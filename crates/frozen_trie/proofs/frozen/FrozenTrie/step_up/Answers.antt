@@ -29,7 +29,7 @@ index-requires g c =
     omega (
       arith,
       c.requires,
-      c.self.inside.up.ok.0,
+      c.self.inside.parents.ok.0,
       c.self.invariant.linked.linked,
       ap length c.self.invariant.keyed,
       as_many enc ps rises,
@@ -42,14 +42,14 @@ returns-clause-walk g c =
     let enc = g.K.TrieKey.encoding in
     let ps = c.self.inside.pairs.items in
     let cs = c.self.inside.codes in
-    let up = c.self.inside.up.items in
+    let parents = c.self.inside.parents.items in
     let at = c.args.at in
     let r = c.index.result.now in
     let x = deref_pair c.entry_at.result in
     let rises = subst IsRising c.self.invariant.keyed c.self.invariant.linked.rising in
     let inside : at < length ps = omega (arith, c.requires, len_is enc ps rises, ap fin.len c.self.view_is) in
-    let linked : at < length up = omega (arith, inside, c.self.invariant.linked.linked, ap length c.self.invariant.keyed, as_many enc ps rises) in
-    let link = subst (IsLastPrefix cs at (code_at cs at)) (sym (get_or_read up at r linked c.index.ensures 0)) (c.self.invariant.linked.links at linked) in
+    let linked : at < length parents = omega (arith, inside, c.self.invariant.linked.linked, ap length c.self.invariant.keyed, as_many enc ps rises) in
+    let link = subst (IsLastPrefix cs at (code_at cs at)) (sym (get_or_read parents at r linked c.index.ensures 0)) (c.self.invariant.linked.links at linked) in
     let more : at + 1 ≡ suc at = omega arith in
     rw (← c.self.view_is) (ap (prefixes_up enc (map_of_pairs enc ps)) more
     ∙ step_up enc ps rises at r x inside
@@ -60,10 +60,10 @@ pub returns-clause-within : goal.returns-clause-within
 returns-clause-within g c =
     let enc = g.K.TrieKey.encoding in
     let ps = c.self.inside.pairs.items in
-    let up = c.self.inside.up.items in
+    let parents = c.self.inside.parents.items in
     let at = c.args.at in
     let rises = subst IsRising c.self.invariant.keyed c.self.invariant.linked.rising in
-    let linked : at < length up =
+    let linked : at < length parents =
     omega (
       arith,
       c.requires,
@@ -74,4 +74,4 @@ returns-clause-within g c =
       as_many enc ps rises,
     ) in
     let link = (c.self.invariant.linked.links at linked).within in
-    omega (arith, link, get_or_read up at c.index.result.now linked c.index.ensures 0)
+    omega (arith, link, get_or_read parents at c.index.result.now linked c.index.ensures 0)

@@ -2,14 +2,14 @@ use Rattle.std.proofs.Common.{◌≡◌, ◌++◌, [], append-nil, string_bytes,
 use Rattle.std.proofs.lemmas.List.{nil_from_length}
 use Rattle.std.specs.Vec.Iter.{into_iter_items}
 use Rattle.nibble_map.specs.Nibbles.{nibbles}
-use Rattle.frozen_trie.specs.Frozen.{IsFirstUnsorted, IsFrozen, codes_of}
+use Rattle.frozen_trie.specs.Frozen.{IsFirstListOutOfOrder, IsFrozen, codes_of}
 use Rattle.frozen_trie.proofs.TextLemmas.Growth.{values_of}
 use Rattle.frozen_trie.proofs.TextLemmas.Sorted.{map_of_texts, text_codes, text_codes_rise, texts_of_pairs}
 use Rattle.frozen_trie.proofs.texts.FrozenTexts.from_sorted.Goals as goal
 
 pub returns-in-Err-clause-unsorted : goal.returns-in-Err-clause-unsorted
 returns-in-Err-clause-unsorted g c = λ i e.
-    subst (λ cs. IsFirstUnsorted cs i) (ap (codes_of (λ s. nibbles (string_bytes s))) c.deref.ensures.value ∙ text_codes c.args.pairs.items) (c.in-Err.ensures.unsorted i (ap Err e))
+    subst (λ cs. IsFirstListOutOfOrder cs i) (ap (codes_of (λ s. nibbles (string_bytes s))) c.deref.ensures.value ∙ text_codes c.args.pairs.items) (c.in-Err.ensures.unsorted i (ap Err e))
 
 pub invariant_of-result : goal.invariant_of-result
 invariant_of-result g c =

@@ -15,7 +15,7 @@ invariant_of-self-in-Ok g c =
     let vs = c.self.inside.values.items in
     let bs = c.args.key.now in
     let v = c.args.value in
-    let links = c.push_linked.new.up.items in
+    let links = c.push_linked.new.parents.items in
     let codes = c.in-Ok.ensures.ok ∙ ap (λ q. cs ++ q ∷ []) c.from_bytes-list.ensures in
     let values = c.push_reserved.ensures.items ∙ ap (λ xs. xs ++ v ∷ []) c.reserve.ensures.items in
     subst (λ ds. AreTexts ds c.push_reserved.new.self.items links) (sym codes) (subst (λ xs. AreTexts (cs ++ nibbles bs ∷ []) xs links) (sym values)

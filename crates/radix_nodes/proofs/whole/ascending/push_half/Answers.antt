@@ -31,16 +31,16 @@ turned_child-requires g c =
     subst (λ m. 0 < length (fragment_of m)) (sym c.deref-then-is_in_half.ensures) (length_some (fragment_of b.value) child.0)
 
 -- Without children nothing that takes memory is called.
-pub returns-in_err-copy-clause-light : goal.returns-in_err-copy-clause-light
-returns-in_err-copy-clause-light g c = λ k.
+pub returns-in_err-copy-clause-inline : goal.returns-in_err-copy-clause-inline
+returns-in_err-copy-clause-inline g c = λ k.
     let xs = (out_of c.args.node.now).children in let e = length-no_children c.args.node.now k in absurd (omega (arith, e, xs.ok.0))
 
-pub returns-in_err-new-clause-light : goal.returns-in_err-new-clause-light
-returns-in_err-new-clause-light g c = λ k.
+pub returns-in_err-new-clause-inline : goal.returns-in_err-new-clause-inline
+returns-in_err-new-clause-inline g c = λ k.
     let xs = (out_of c.args.node.now).children in let e = length-no_children c.args.node.now k in absurd (omega (arith, e, xs.ok.0))
 
-pub returns-in_err-push-clause-light : goal.returns-in_err-push-clause-light
-returns-in_err-push-clause-light g c = λ k.
+pub returns-in_err-push-clause-inline : goal.returns-in_err-push-clause-inline
+returns-in_err-push-clause-inline g c = λ k.
     let xs = (out_of c.args.node.now).children in let e = length-no_children c.args.node.now k in absurd (omega (arith, e, xs.ok.0))
 
 pub loop-i-preserved : goal.loop-i-preserved

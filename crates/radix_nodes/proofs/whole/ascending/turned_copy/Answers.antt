@@ -8,14 +8,14 @@ use Rattle.radix_nodes.proofs.CopyLemmas.Turned.{turned_root_is_copied, nothing_
 use Rattle.radix_nodes.proofs.CopyLemmas.Copies.{length-no_children, unboxed-no_pair}
 use Rattle.radix_nodes.proofs.whole.ascending.turned_copy.Goals as goal
 
-pub returns-in_err-children-clause-light : goal.returns-in_err-children-clause-light
-returns-in_err-children-clause-light g c = λ p k s.
+pub returns-in_err-children-clause-inline : goal.returns-in_err-children-clause-inline
+returns-in_err-children-clause-inline g c = λ p k s.
     let xs = (out_of c.args.root.now).children in
     let e = length-no_children c.args.root.now k in
     anything_of_false (c.in_err-children.ensures.succeeds (omega (arith, e, xs.ok.0, c.len.ensures)))
 
-pub returns-in_err-copied_pair-clause-light : goal.returns-in_err-copied_pair-clause-light
-returns-in_err-copied_pair-clause-light g c = λ p k s. anything_of_false (c.in_err-copied_pair.ensures.light (unboxed-no_pair c.args.root.now p))
+pub returns-in_err-copied_pair-clause-inline : goal.returns-in_err-copied_pair-clause-inline
+returns-in_err-copied_pair-clause-inline g c = λ p k s. anything_of_false (c.in_err-copied_pair.ensures.inline (unboxed-no_pair c.args.root.now p))
 
 pub returns-clause-copy : goal.returns-clause-copy
 returns-clause-copy g c =

@@ -23,10 +23,10 @@ returns-clause-shape g t c =
     all_are_shaped c.args.node.now c.loop-i.blanks.items c.loop-i.i (omega (arith, xs.ok.0)) c.loop-i.invariant
 
 -- Without children nothing that takes memory is called.
-pub returns-in_err-blank-clause-light : goal.returns-in_err-blank-clause-light
-returns-in_err-blank-clause-light g t c = λ k.
+pub returns-in_err-blank-clause-inline : goal.returns-in_err-blank-clause-inline
+returns-in_err-blank-clause-inline g t c = λ k.
     let xs = (out_of c.args.node.now).children in let e = length-no_children c.args.node.now k in absurd (omega (arith, e, xs.ok.0))
 
-pub returns-in_err-push_copy-clause-light : goal.returns-in_err-push_copy-clause-light
-returns-in_err-push_copy-clause-light g t c = λ k.
+pub returns-in_err-push_copy-clause-inline : goal.returns-in_err-push_copy-clause-inline
+returns-in_err-push_copy-clause-inline g t c = λ k.
     let xs = (out_of c.args.node.now).children in let e = length-no_children c.args.node.now k in absurd (omega (arith, e, xs.ok.0))

@@ -27,10 +27,10 @@ returns-clause-copy g t c =
     all_are_copied (IsKeyValueCopy g.L.CopyOf.is_copy g.V.Clone.is_clone) c.args.node.now c.loop-i.copies.items c.loop-i.i (omega (arith, xs.ok.0)) c.loop-i.invariant
 
 -- Without children nothing that takes memory is called.
-pub returns-in_err-copy-clause-light : goal.returns-in_err-copy-clause-light
-returns-in_err-copy-clause-light g t c = λ k.
+pub returns-in_err-copy-clause-inline : goal.returns-in_err-copy-clause-inline
+returns-in_err-copy-clause-inline g t c = λ k.
     let xs = (out_of c.args.node.now).children in let e = length-no_children c.args.node.now k in absurd (omega (arith, e, xs.ok.0))
 
-pub returns-in_err-push_copy-clause-light : goal.returns-in_err-push_copy-clause-light
-returns-in_err-push_copy-clause-light g t c = λ k.
+pub returns-in_err-push_copy-clause-inline : goal.returns-in_err-push_copy-clause-inline
+returns-in_err-push_copy-clause-inline g t c = λ k.
     let xs = (out_of c.args.node.now).children in let e = length-no_children c.args.node.now k in absurd (omega (arith, e, xs.ok.0))

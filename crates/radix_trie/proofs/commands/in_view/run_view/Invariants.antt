@@ -10,5 +10,5 @@ invariant-loop-command g l = record {
   counted : into_iter_len l.command-iterator ≡ length (into_iter_items l.command-iterator);
   room : vec_len l.replies + into_iter_len l.command-iterator ≤ vec_capacity l.replies;
   same : SameView l.fn.view l.view;
-  steps : ViewSteps g.K.TrieKey.encoding g.K.TrieKey.is_light (path_of l.fn.view) (map_behind l.fn.view) l.yielded l.replies.items (map_behind l.view);
+  steps : ViewSteps g.K.TrieKey.encoding g.K.TrieKey.is_inline (path_of l.fn.view) (map_behind l.fn.view) l.yielded l.replies.items (map_behind l.view);
 }

@@ -1,7 +1,7 @@
 use Rattle.std.proofs.Common.{ap, arith, length, option_map, sym, ◌∙◌}
 use Rattle.std.proofs.lemmas.List.{length-map}
 use Rattle.radix_trie.specs.Walks.{deref_pair, deref_pairs}
-use Rattle.radix_trie.proofs.PathLemmas.Places.{false_is_not_true}
+use Rattle.radix_trie.proofs.PathLemmas.Loci.{false_is_not_true}
 use Rattle.radix_trie.proofs.WalkLemmas.Pages.{all_taken, enough_taken, none_comes_next, rest_is_empty}
 use Rattle.radix_trie.proofs.iter.pages.first_pairs.Goals as goal
 

@@ -9,7 +9,7 @@ use Rattle.radix_trie.specs.Views.{pairs_below}
 use Rattle.radix_trie.proofs.ChangeLemmas.Branches.{ChangedPair, changed_at, changed_kept, changed_map, changed_rest}
 use Rattle.radix_trie.proofs.ChangeLemmas.Copies.{copy_kept, copy_map}
 use Rattle.radix_trie.proofs.ChangeLemmas.Prunings.{branch_at, pairs_in-branch, root_branch}
-use Rattle.radix_trie.proofs.PathLemmas.Places.{below-nil, without_below-nil}
+use Rattle.radix_trie.proofs.PathLemmas.Loci.{below-nil, without_below-nil}
 use Rattle.radix_trie.proofs.trie.Trie.change_below.Goals as goal
 
 pub change_values-requires : goal.change_values-requires

@@ -10,14 +10,14 @@ use Rattle.radix_trie.proofs.ChangeLemmas.Copies.{copy_kept, copy_map, pair-empt
 use Rattle.radix_trie.proofs.RootLemmas.Shown.{len-map_of_kept}
 use Rattle.radix_trie.proofs.trie.Trie.clone.Goals as goal
 
-pub returns-in_err-copied-clause-light : goal.returns-in_err-copied-clause-light
-returns-in_err-copied-clause-light g c = λ nothing.
+pub returns-in_err-copied-clause-inline : goal.returns-in_err-copied-clause-inline
+returns-in_err-copied-clause-inline g c = λ nothing.
     let enc = g.K.TrieKey.encoding in
     let root = c.self.inside.root in
     let none : map.len (map_of (tree_of root)) ≡ 0 = rw c.self.view_is nothing in
     let empty = sym (len-map_of_kept enc (tree_of root) _ _ _ c.self.invariant) ∙ none in
     let short : length (fragment_of root) ≤ 32 = omega (arith, ap length (sym (fragment-tree_of root) ∙ c.self.invariant.top)) in
-    anything_of_false (c.in_err-copied.ensures.light (pair-empty_root enc (tree_of root) _ _ _ c.self.invariant empty) (children-empty_root enc (tree_of root) _ _ _ c.self.invariant empty) short)
+    anything_of_false (c.in_err-copied.ensures.inline (pair-empty_root enc (tree_of root) _ _ _ c.self.invariant empty) (children-empty_root enc (tree_of root) _ _ _ c.self.invariant empty) short)
 
 pub invariant_of-result : goal.invariant_of-result
 invariant_of-result g c =

@@ -6,10 +6,10 @@ use Rattle.radix_trie.proofs.ChangeLemmas.Copies.{children-empty_root}
 use Rattle.radix_trie.proofs.RootLemmas.Shown.{len-map_of_kept}
 use Rattle.radix_trie.proofs.trie.Trie.compact.Goals as goal
 
-pub returns-clause-light : goal.returns-clause-light
-returns-clause-light g c = λ nothing.
+pub returns-clause-inline : goal.returns-clause-inline
+returns-clause-inline g c = λ nothing.
     let enc = g.K.TrieKey.encoding in
     let root = c.self.inside.root in
     let none : map.len (map_of (tree_of root)) ≡ 0 = rw c.self.view_is nothing in
     let empty = sym (len-map_of_kept enc (tree_of root) _ _ _ c.self.invariant) ∙ none in
-    c.lay_anew.ensures.light (children-empty_root enc (tree_of root) _ _ _ c.self.invariant empty)
+    c.lay_anew.ensures.inline (children-empty_root enc (tree_of root) _ _ _ c.self.invariant empty)

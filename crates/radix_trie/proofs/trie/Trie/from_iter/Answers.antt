@@ -24,6 +24,6 @@ returns-in-Err-clause-why g c =
     let others = r.2.0 in
     let last : g.row.K.Denot × g.row.V.Denot = (c.in-Err.error.key, c.in-Err.error.value) in
     let built : c.extend.new.self ≡ pairs_in_order enc others = r.2.2 ∙ ap (λ m. with_pairs enc m others) c.new-trie.ensures in
-    let light = g.K.TrieKey.is_light last.0 in
-    let why = subst (RefusesInsert c.extend.new.self (enc last.0) ⊤ light) c.why_not_built.ensures c.in-Err.ensures.why in
-    (r.0, r.1, (others, last, r.2.1, subst (λ m. RefusesInsert m (enc last.0) ⊤ light (why_of c.why_not_built.result)) built why))
+    let inline = g.K.TrieKey.is_inline last.0 in
+    let why = subst (RefusesInsert c.extend.new.self (enc last.0) ⊤ inline) c.why_not_built.ensures c.in-Err.ensures.why in
+    (r.0, r.1, (others, last, r.2.1, subst (λ m. RefusesInsert m (enc last.0) ⊤ inline (why_of c.why_not_built.result)) built why))

@@ -4,7 +4,7 @@ use Rattle.std.specs.FinMap as map
 use Rattle.radix_nodes.specs.Nodes.{tree_of}
 use Rattle.radix_trie.proofs.ChangeLemmas.Joined.{all_put, none_put, none_stored}
 use Rattle.radix_trie.specs.Roots.{AllKeyed, map_of}
-use Rattle.radix_trie.proofs.PathLemmas.Places.{below-nil}
+use Rattle.radix_trie.proofs.PathLemmas.Loci.{below-nil}
 use Rattle.radix_trie.proofs.RootLemmas.Shown.{entries-map_of}
 use Rattle.radix_trie.proofs.trie.Trie.graft.Goals as goal
 

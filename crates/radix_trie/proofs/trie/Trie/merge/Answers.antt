@@ -4,7 +4,7 @@ use Rattle.std.proofs.lemmas.List.{length-append}
 use Rattle.std.specs.FinMap as fin
 use Rattle.radix_trie.specs.Keys.{IsKeyed}
 use Rattle.radix_trie.proofs.ChangeLemmas.Keyed.{keyed_inserted}
-use Rattle.radix_trie.proofs.PathLemmas.Places.{below-nil, no_pairs_below}
+use Rattle.radix_trie.proofs.PathLemmas.Loci.{below-nil, no_pairs_below}
 use Rattle.radix_trie.proofs.trie.Trie.merge.Goals as goal
 
 pub returns-in-Err-clause-none : goal.returns-in-Err-clause-none

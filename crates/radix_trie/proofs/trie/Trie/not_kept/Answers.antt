@@ -2,7 +2,7 @@ use Rattle.std.proofs.Common.{◌∙◌, inl, inr, [], ◌∷◌, ◌++◌, All,
 use Rattle.std.proofs.lemmas.List.Elements.{All-head, All-tail}
 use Rattle.radix_trie.specs.Retains.{ReturnsAtPair, Sifts, TakesPairAt}
 use Rattle.radix_trie.specs.Views.{pairs_below}
-use Rattle.radix_trie.proofs.PathLemmas.Places.{false_is_not_true, no_pairs_below}
+use Rattle.radix_trie.proofs.PathLemmas.Loci.{false_is_not_true, no_pairs_below}
 use Rattle.radix_trie.proofs.WalkLemmas.Pages.{next_pair, no_next_pair}
 use Rattle.radix_trie.proofs.trie.Trie.not_kept.Goals as goal
 

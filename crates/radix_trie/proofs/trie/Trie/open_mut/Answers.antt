@@ -18,6 +18,6 @@ returns-in-Ok-Some g c =
         same_reference = c.at.ensures.same_reference;
         point = λ _. here;
         closed = tt;
-        light = λ _. tt;
+        inline = λ _. tt;
       },
     )

@@ -1,5 +1,5 @@
 use Rattle.std.proofs.Common.{◌∙◌}
-use Rattle.radix_trie.proofs.PathLemmas.Places.{no_pairs_below}
+use Rattle.radix_trie.proofs.PathLemmas.Loci.{no_pairs_below}
 use Rattle.radix_trie.proofs.trie.Trie.page_below.Goals as goal
 
 pub returns-clause-none : goal.returns-clause-none

@@ -9,4 +9,4 @@ pub returns-clause-removed : goal.returns-clause-removed
 returns-clause-removed g c = rw (← c.in_ok-list.ensures.ok) c.take_at.ensures.removed
 
 pub returns-clause-join : goal.returns-clause-join
-returns-clause-join g c = λ light short. c.take_at.ensures.join (subst (JoinsAreShort c.args.self.now) (sym c.in_ok-list.ensures.ok) short)
+returns-clause-join g c = λ inline short. c.take_at.ensures.join (subst (JoinsAreShort c.args.self.now) (sym c.in_ok-list.ensures.ok) short)

@@ -2,7 +2,7 @@ use Rattle.std.proofs.Common.{◌∙◌, [], OnErr, OnOk, ap, subst}
 use Rattle.std.specs.FinMap as map
 use Rattle.nibble_map.specs.Maps.{below}
 use Rattle.radix_trie.specs.Retains.{Retains, RetainsAtLeast, RetainsBefore, ReturnsAtPair}
-use Rattle.radix_trie.proofs.PathLemmas.Places.{below-nil}
+use Rattle.radix_trie.proofs.PathLemmas.Loci.{below-nil}
 use Rattle.radix_trie.proofs.trie.Trie.retain.Goals as goal
 
 pub returns-clause-retained : goal.returns-clause-retained

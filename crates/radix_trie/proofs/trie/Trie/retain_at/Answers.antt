@@ -2,7 +2,7 @@ use Rattle.std.proofs.Common.{◌∙◌, refl, subst}
 use Rattle.std.proofs.lemmas.Result.{on_err_weaker, on_ok_weaker}
 use Rattle.radix_trie.specs.Retains.{RemovesAll, RemovesBeforeOne, RemovesSome, ReturnsAtPair, Sifts}
 use Rattle.radix_trie.proofs.ChangeLemmas.Retained.{on_err_always, removes_keyed, retains_before_nil, sifted_rest, sifted_retains, sifted_retains_before, sifted_retains_some}
-use Rattle.radix_trie.proofs.PathLemmas.Places.{no_pairs_below}
+use Rattle.radix_trie.proofs.PathLemmas.Loci.{no_pairs_below}
 use Rattle.radix_trie.proofs.trie.Trie.retain_at.Goals as goal
 
 pub returns-clause-retained : goal.returns-clause-retained

@@ -12,7 +12,7 @@ use Rattle.radix_trie.specs.Roots.{IsKept, map_of}
 use Rattle.radix_trie.proofs.ChangeLemmas.Changes.{append-root_fragment}
 use Rattle.radix_trie.proofs.ChangeLemmas.Prunings.{branch_at, small_root, path_below_has_stored, point_below_has_stored, points_apart-paths, below-nothing_below, map_of-nothing_below, map_of-pruned, handed_pairs_counted, handed_pairs_kept}
 use Rattle.radix_trie.proofs.ChangeLemmas.Splits.{cut_is_small, nearest_in_equal, apart_in_equal, part_kept, map_of-part}
-use Rattle.radix_trie.proofs.PathLemmas.Places.{false_is_not_true}
+use Rattle.radix_trie.proofs.PathLemmas.Loci.{false_is_not_true}
 use Rattle.radix_trie.proofs.trie.Trie.split_at.Goals as goal
 
 pub returns-in_err-path-clause-none : goal.returns-in_err-path-clause-none

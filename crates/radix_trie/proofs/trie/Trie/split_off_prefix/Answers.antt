@@ -1,7 +1,7 @@
 use Rattle.std.proofs.Common.{◌∙◌, ap, sym, arith}
 use Rattle.nibble_map.specs.Maps.{below, without_below}
 use Rattle.nibble_map.proofs.ListLemmas.Cut.{empty_of_length}
-use Rattle.radix_trie.proofs.PathLemmas.Places.{below-nil, without_below-nil}
+use Rattle.radix_trie.proofs.PathLemmas.Loci.{below-nil, without_below-nil}
 use Rattle.radix_trie.proofs.trie.Trie.split_off_prefix.Goals as goal
 
 pub returns-then-len-eq0-clause-split : goal.returns-then-len-eq0-clause-split
@@ -20,5 +20,5 @@ returns-clause-split g c = rw (← c.in_ok-list.ensures.ok) c.split_at.ensures.s
 pub returns-clause-removed : goal.returns-clause-removed
 returns-clause-removed g c = rw (← c.in_ok-list.ensures.ok) c.split_at.ensures.removed
 
-pub returns-clause-light_none : goal.returns-clause-light_none
-returns-clause-light_none g c = λ _ none. c.split_at.ensures.none (rw c.in_ok-list.ensures.ok none)
+pub returns-clause-inline_none : goal.returns-clause-inline_none
+returns-clause-inline_none g c = λ _ none. c.split_at.ensures.none (rw c.in_ok-list.ensures.ok none)

@@ -72,9 +72,9 @@ module _ {A : Type 0} where
 
   -- where a refusal can be none but `Closed`, there is none
   ok_as_none : (L : Type 0) (u : Result A OpenError) → (L → IfErr u (λ e. e ≡ opening.Closed)) → L → IsOk (closed_as_none u)
-  ok_as_none L (Ok x) light l = refl
-  ok_as_none L (Err opening.Memory) light l = absurd (memory_is_not_closed (light l))
-  ok_as_none L (Err opening.Closed) light l = refl
+  ok_as_none L (Ok x) inline l = refl
+  ok_as_none L (Err opening.Memory) inline l = absurd (memory_is_not_closed (inline l))
+  ok_as_none L (Err opening.Closed) inline l = refl
 
 module _ {M : Type 1} {𝓤 : Ura M} (𝓛 : Logic 𝓤) (R : RattleType) (γ : GName) (P : R.Denot → R.Denot → Type 0) (P₀ : R.Denot → Type 0) (v : R.Denot) where
   -- a loan that ends as what it lent ends as it
@@ -157,9 +157,9 @@ subtrie_mut_spec 𝓤 𝓛 𝓜 𝓡 wired K V Q LK LV LQ key d equal d' eq d'' 
     hands_on 𝓛 (f.signature K V Q key d equal d' eq d'' key₂ d₂ equal₂ d₂' eq₂ d₂'').outlives K V Q (trie_row (param 0 K) (param 1 V) key eq) 𝓜 𝓡 Opened Told
     (λ κs. result_laws (View κs) open_row (laws κs) open_laws) (λ κs. result_laws (option_row (View κs)) memory_row (option_laws (View κs) (laws κs)) memory_laws)
     (λ κs r e u. rests_if_err (param 0 K) (param 1 V) key eq r u) (λ κs r e u. IfOk u (Map r))
-    (λ κs r e u. IfOk u (Path e) ∷ IfOk u (Prefix r e) ∷ IfOk u (Same r) ∷ (IsOk u → Point r e) ∷ IfErr u (λ x. x ≡ opening.Closed → Point r e → ⊥) ∷ (key₂.is_light e → IfErr u (λ x. x ≡ opening.Closed)) ∷ [])
+    (λ κs r e u. IfOk u (Path e) ∷ IfOk u (Prefix r e) ∷ IfOk u (Same r) ∷ (IsOk u → Point r e) ∷ IfErr u (λ x. x ≡ opening.Closed → Point r e → ⊥) ∷ (key₂.is_inline e → IfErr u (λ x. x ≡ opening.Closed)) ∷ [])
     (λ κs r e u. rests_if_none (param 0 K) (param 1 V) key eq r u) (λ κs r e u. IfOk u (λ o. IfSome o (Map r)))
-    (λ κs r e u. IfOk u (λ o. IfSome o (Path e)) ∷ IfOk u (λ o. IfSome o (Prefix r e)) ∷ IfOk u (λ o. IfSome o (Same r)) ∷ IfOk u (λ o. MatchOption o (Point r e → ⊥) (λ _. Point r e)) ∷ (key₂.is_light e → IsOk u) ∷ [])
+    (λ κs r e u. IfOk u (λ o. IfSome o (Path e)) ∷ IfOk u (λ o. IfSome o (Prefix r e)) ∷ IfOk u (λ o. IfSome o (Same r)) ∷ IfOk u (λ o. MatchOption o (Point r e → ⊥) (λ _. Point r e)) ∷ (key₂.is_inline e → IsOk u) ∷ [])
     (λ κs. closed_as_none) (Taken 𝓛) (Left 𝓛) (apart 𝓛) (whole 𝓛) (λ κs r e u. same_loan 𝓛 (param 0 K) (param 1 V) key eq r u)
     (λ κs r e u s. (
       if_opened (Map r) u s.0,
@@ -169,7 +169,7 @@ subtrie_mut_spec 𝓤 𝓛 𝓜 𝓡 wired K V Q LK LV LQ key d equal d' eq d'' 
           if_opened (Prefix r e) u s.1.1.0,
           (
             if_opened (Same r) u s.1.1.1.0,
-            (point_as_none (Point r e) u s.1.1.1.1.0 s.1.1.1.1.1.0, ok_as_none (key₂.is_light e) u s.1.1.1.1.1.1),
+            (point_as_none (Point r e) u s.1.1.1.1.0 s.1.1.1.1.1.0, ok_as_none (key₂.is_inline e) u s.1.1.1.1.1.1),
           ),
         ),
       ),

@@ -1,9 +1,9 @@
 use Rattle.std.proofs.Common.{◌∙◌, sym}
-use Rattle.radix_trie.proofs.PathLemmas.Places.{false_is_not_true}
+use Rattle.radix_trie.proofs.PathLemmas.Loci.{false_is_not_true}
 use Rattle.radix_trie.proofs.trie.Trie.try_insert.Goals as goal
 
 pub returns-in_default-clause-why : goal.returns-in_default-clause-why
-returns-in_default-clause-why g c = rw c.not_stored.ensures.why (λ light. absurd (false_is_not_true (c.in_default.ensures.light light)))
+returns-in_default-clause-why g c = rw c.not_stored.ensures.why (λ inline. absurd (false_is_not_true (c.in_default.ensures.inline inline)))
 
 pub returns-then-contains-clause-why : goal.returns-then-contains-clause-why
 returns-then-contains-clause-why g c = rw (c.not_stored-then-contains.ensures.why, ← c.in-Ok.ensures.ok) (c.contains.ensures.stored.0 c.if-contains.true)

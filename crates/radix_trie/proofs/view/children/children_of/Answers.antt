@@ -5,11 +5,11 @@ use Rattle.nibble_map.specs.Nibbles.{IsShort}
 use Rattle.radix_nodes.specs.declared.trie_node.TrieNode.{out-TrieNode}
 use Rattle.radix_nodes.specs.Nodes.{tree_of, children_of, fragment_of}
 use Rattle.radix_nodes.proofs.NodeLemmas.Nodes.{fragment-tree_of, children-tree_of}
-use Rattle.radix_trie.specs.Places.{child_views}
+use Rattle.radix_trie.specs.Loci.{child_views}
 use Rattle.radix_nodes.proofs.NodeLemmas.FewChildren.{few_children}
 use Rattle.radix_trie.proofs.PathLemmas.ChildViews.{child_at, views_pushed, child_view_is_short, direct_child}
 use Rattle.radix_trie.proofs.PathLemmas.Parts.{node_down, node_placed}
-use Rattle.radix_trie.proofs.PathLemmas.Places.{false_is_not_true}
+use Rattle.radix_trie.proofs.PathLemmas.Loci.{false_is_not_true}
 use Rattle.radix_trie.proofs.view.children.children_of.Goals as goal
 
 pub loop-child-init : goal.loop-child-init

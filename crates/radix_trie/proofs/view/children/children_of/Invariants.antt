@@ -1,6 +1,6 @@
 use Rattle.std.proofs.Common.{◌≡◌, ◌++◌, length, drop}
 use Rattle.radix_nodes.specs.Nodes.{tree_of, children_of}
-use Rattle.radix_trie.specs.Places.{child_views}
+use Rattle.radix_trie.specs.Loci.{child_views}
 use Rattle.radix_trie.proofs.view.children.children_of.Given as goal
 
 abbrev pub invariant-loop-child : goal.invariant-loop-child

@@ -1,6 +1,6 @@
 use Rattle.std.proofs.Common.{arith}
 use Rattle.radix_nodes.proofs.EditLemmas.KeyParts.{agrees_from_depth}
-use Rattle.radix_trie.proofs.PathLemmas.Places.{begins_tells}
+use Rattle.radix_trie.proofs.PathLemmas.Loci.{begins_tells}
 use Rattle.radix_trie.proofs.view.inside.begins.Goals as goal
 
 pub returns : goal.returns

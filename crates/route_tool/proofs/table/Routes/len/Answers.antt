@@ -1,7 +1,7 @@
 use Rattle.std.proofs.Common.{[], ap, length, sym, ◌∙◌}
 use Rattle.std.specs.FinMap as map
 use Rattle.radix_trie.proofs.PathLemmas.Below.{len-pairs_below}
-use Rattle.radix_trie.proofs.PathLemmas.Places.{below-nil}
+use Rattle.radix_trie.proofs.PathLemmas.Loci.{below-nil}
 use Rattle.route_tool.specs.Routes.{in_order}
 use Rattle.route_tool.proofs.HeldLemmas.{all_rows, of_trie}
 use Rattle.route_tool.proofs.table.Routes.len.Goals as goal

@@ -1,7 +1,7 @@
 use Rattle.std.proofs.Common.{◌∙◌, [], ap, sym, map as each, string_bytes}
 use Rattle.std.specs.FinMap as map
 use Rattle.std.proofs.lemmas.Result.{IfOk-weaker}
-use Rattle.radix_trie.proofs.PathLemmas.Places.{below-nil}
+use Rattle.radix_trie.proofs.PathLemmas.Loci.{below-nil}
 use Rattle.trie_tool.specs.Numbers.{text, texts_of}
 use Rattle.radix_trie.proofs.MappedLemmas.{pairs_below-mapped}
 use Rattle.trie_tool.proofs.numbers.Numbers.all.Goals as goal

@@ -8,12 +8,12 @@ use Rattle.frozen_trie.proofs.texts.prefixes.TextPrefixesDoubleEndedIterator.nex
 
 pub returns-clause-steps : goal.returns-clause-steps
 returns-clause-steps g c =
-    let up = prefixes_up nibbles c.self.inside.texts.now in
+    let parents = prefixes_up nibbles c.self.inside.texts.now in
     let last = c.self.inside.last in
     let left = c.self.inside.left in
-    let some = some_left up refl (up last) 0 last refl (omega (arith, c.if-self-eq0.false, c.self.invariant.1)) in
+    let some = some_left parents refl (parents last) 0 last refl (omega (arith, c.if-self-eq0.false, c.self.invariant.1)) in
     let back : last ≡ last - 1 + 1 = omega (arith, some) in
     let whole : left ≡ suc (left - 1) = omega (arith, c.if-self-eq0.false) in
-    sym c.self.view_is ∙ ap (λ n. reverse (take n (up last))) whole
-    ∙ ap (λ pairs. reverse (take (suc (left - 1)) pairs)) (ap up back ∙ c.step_up-link.ensures.walk)
-    ∙ reverse-append (deref_pair c.step_up-link.result.0 ∷ []) (take (left - 1) (up c.step_up-link.result.1))
+    sym c.self.view_is ∙ ap (λ n. reverse (take n (parents last))) whole
+    ∙ ap (λ pairs. reverse (take (suc (left - 1)) pairs)) (ap parents back ∙ c.step_up-link.ensures.walk)
+    ∙ reverse-append (deref_pair c.step_up-link.result.0 ∷ []) (take (left - 1) (parents c.step_up-link.result.1))

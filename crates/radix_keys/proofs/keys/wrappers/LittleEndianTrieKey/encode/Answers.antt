@@ -4,8 +4,8 @@ use Rattle.radix_keys.proofs.KeyLemmas.Items.{take-reverse_more, length-take-rev
 use Rattle.std.proofs.lemmas.List.{length-reverse}
 use Rattle.radix_keys.proofs.keys.wrappers.LittleEndianTrieKey.encode.Goals as goal
 
-pub returns-in_err-push-clause-light : goal.returns-in_err-push-clause-light
-returns-in_err-push-clause-light g c = λ short.
+pub returns-in_err-push-clause-inline : goal.returns-in_err-push-clause-inline
+returns-in_err-push-clause-inline g c = λ short.
     let v = g.T.KeyInt.bytes c.args.self.now in
     let n : length v ≡ g.T.KeyInt.WIDTH = g.met.T.KeyInt.bytes_len c.args.self.now in
     let same = ap (λ x. length (take c.loop-i.i (reverse (g.T.KeyInt.bytes x)))) c.value-value.ensures in

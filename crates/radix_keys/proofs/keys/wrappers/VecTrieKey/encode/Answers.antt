@@ -3,8 +3,8 @@ use Rattle.radix_keys.proofs.NibbleLemmas.Bytes.{length-nibbles}
 use Rattle.radix_keys.proofs.KeyLemmas.Items.{flat_map-one_more, flat_map_room, all-more}
 use Rattle.radix_keys.proofs.keys.wrappers.VecTrieKey.encode.Goals as goal
 
-pub returns-in_err-push_bytes-clause-light : goal.returns-in_err-push_bytes-clause-light
-returns-in_err-push_bytes-clause-light g c = λ short.
+pub returns-in_err-push_bytes-clause-inline : goal.returns-in_err-push_bytes-clause-inline
+returns-in_err-push_bytes-clause-inline g c = λ short.
     let no : false ≡ true = c.in_err-push_bytes.ensures.succeeds
     (omega (
       arith,

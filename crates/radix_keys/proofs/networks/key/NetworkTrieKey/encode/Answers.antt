@@ -10,8 +10,8 @@ returns-in-Ok-clause-ok g c =
     rw (c.into_list.ensures, c.in-Ok.ensures.ok, c.BITS.ensures, c.to_number.ensures.value, ← c.self.view_is)
     (aligned g.A.Address.BITS (g.A.Address.number c.self.inside.base) c.self.inside.bits g.met.A.Address.bits_fit.1 base.0 base.1)
 
-pub returns-in-Err-clause-light : goal.returns-in-Err-clause-light
-returns-in-Err-clause-light g c =
+pub returns-in-Err-clause-inline : goal.returns-in-Err-clause-inline
+returns-in-Err-clause-inline g c =
     let base = c.self.invariant in
     let same = aligned g.A.Address.BITS (g.A.Address.number c.self.inside.base) c.self.inside.bits g.met.A.Address.bits_fit.1 base.0 base.1 in
     λ short. c.in-Err.ensures.succeeds (rw (c.BITS.ensures, c.to_number.ensures.value) (subst IsShort (sym same) (subst (λ n. IsShort (first_bits g.A.Address.BITS (g.A.Address.number n.base) n.bits)) (sym c.self.view_is) short)))

@@ -2,7 +2,7 @@ use Rattle.std.proofs.Common.{◌≡◌, ◌<◌, ◌++◌, ◌∷◌, [], ap, d
 use Rattle.radix_nodes.specs.Nodes.{tree_of}
 use Rattle.radix_nodes.specs.Pairs.{own_pair, pairs_in_all}
 use Rattle.radix_nodes.proofs.EditLemmas.Removal.{children_of-no_boxes}
-use Rattle.radix_trie.specs.declared.iter.rows.Rest.{Rest}
+use Rattle.radix_trie.specs.declared.iter.rows.Frame.{Frame}
 use Rattle.radix_trie.specs.Walks.{HasFullRows, deref_pair, first_pair, left_in, left_of, left_rows}
 use Rattle.radix_trie.proofs.WalkLemmas.Back.{full-down, full-popped, left-down, left-up, own-last, row_left, turns-down, turns-up}
 use Rattle.radix_trie.proofs.WalkLemmas.Rows.{children_of-row, first_own}
@@ -33,8 +33,8 @@ returns-in-Some-take-clause-rest g c = sym (ap (λ s. drop 1 s) (comes_next g c)
 pub loop-node-smaller-in-Some : goal.loop-node-smaller-in-Some
 loop-node-smaller-in-Some g c =
     let at = c.loop-node.self-inside.at in
-    let above : Rest g.row.K.Denot g.row.V.Denot = record { own = at.own; row = c.in-Some.others } in
-    let below : Rest g.row.K.Denot g.row.V.Denot = record { own = c.pair.result; row = c.deref-in-Some-2.result } in
+    let above : Frame g.row.K.Denot g.row.V.Denot = record { own = at.own; row = c.in-Some.others } in
+    let below : Frame g.row.K.Denot g.row.V.Denot = record { own = c.pair.result; row = c.deref-in-Some-2.result } in
     let pushed = c.push_reserved.ensures.items ∙ ap (λ rs. rs ++ above ∷ []) c.in_ok-reserve.ensures.items in
     let children = children_of-row c.deref-in-Some.result.now _ c.deref-in-Some-2.ensures.value ∙ ap (λ n. (tree_of n).children) c.deref-in-Some.ensures in
     turns-down c.loop-node.self-inside.stack.items _ at above below c.in-Some.node.now c.in-Some.ensures.cases.0 pushed children
@@ -43,8 +43,8 @@ pub loop-node-preserved-in-Some : goal.loop-node-preserved-in-Some
 loop-node-preserved-in-Some g c =
     let at = c.loop-node.self-inside.at in
     let rs = c.loop-node.self-inside.stack.items in
-    let above : Rest g.row.K.Denot g.row.V.Denot = record { own = at.own; row = c.in-Some.others } in
-    let below : Rest g.row.K.Denot g.row.V.Denot = record { own = c.pair.result; row = c.deref-in-Some-2.result } in
+    let above : Frame g.row.K.Denot g.row.V.Denot = record { own = at.own; row = c.in-Some.others } in
+    let below : Frame g.row.K.Denot g.row.V.Denot = record { own = c.pair.result; row = c.deref-in-Some-2.result } in
     let pushed = c.push_reserved.ensures.items ∙ ap (λ rs. rs ++ above ∷ []) c.in_ok-reserve.ensures.items in
     let children = children_of-row c.deref-in-Some.result.now _ c.deref-in-Some-2.ensures.value ∙ ap (λ n. (tree_of n).children) c.deref-in-Some.ensures in
     let pair = first_own c.pair.result _ c.pair.ensures ∙ ap (λ n. own_pair (tree_of n).pair) c.deref.ensures in

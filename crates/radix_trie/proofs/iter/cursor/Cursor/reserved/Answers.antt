@@ -1,6 +1,6 @@
 use Rattle.std.proofs.Common.{[], ◌∷◌, ◌++◌, ap, length, length-append, suc, vec_capacity, subst, sym, arith}
 use Rattle.radix_trie.specs.Walks.{HasRowRoom, left_rows}
-use Rattle.radix_trie.proofs.PathLemmas.Places.{false_is_not_true}
+use Rattle.radix_trie.proofs.PathLemmas.Loci.{false_is_not_true}
 use Rattle.radix_trie.proofs.WalkLemmas.Back.{few-levels, room-tallest, tallest, tallest-end, tallest-next, tallest-push}
 use Rattle.radix_trie.proofs.iter.cursor.Cursor.reserved.Goals as goal
 

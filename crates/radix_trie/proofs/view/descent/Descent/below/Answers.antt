@@ -15,4 +15,4 @@ returns g c = λ q.
     rw (← c.self.view_is)
     (get-map_behind_path g.K.TrieKey.encoding at.0 (at.1 ++ list) c.below.result.found (c.below.ensures at.0 at.1 at.2).0 q
     ∙ ap (map.get at.0) (append_assoc at.1 list q)
-    ∙ sym (get-map_behind_path g.K.TrieKey.encoding at.0 at.1 c.self.inside.place.found at.2.0 (list ++ q)))
+    ∙ sym (get-map_behind_path g.K.TrieKey.encoding at.0 at.1 c.self.inside.locus.found at.2.0 (list ++ q)))

@@ -1,11 +1,11 @@
 use Rattle.std.proofs.Common.{rules, subst, sym}
 use Rattle.radix_trie.specs.Refusals.{JoinsAreShort}
 use Rattle.radix_trie.specs.WriteViews.{map_behind}
-use Rattle.radix_trie.proofs.PathLemmas.Places.{false_is_not_true}
+use Rattle.radix_trie.proofs.PathLemmas.Loci.{false_is_not_true}
 use Rattle.radix_trie.proofs.view.edit.SubTrieMut+K+V.remove.Goals as goal
 
 pub returns-clause-why : goal.returns-clause-why
-returns-clause-why g c = λ light. (
+returns-clause-why g c = λ inline. (
   search rules,
   search rules,
   search rules,

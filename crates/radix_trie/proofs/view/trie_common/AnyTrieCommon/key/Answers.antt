@@ -2,4 +2,4 @@ use Rattle.std.proofs.Common.{ap, option_map, ◌∙◌}
 use Rattle.radix_trie.proofs.view.trie_common.AnyTrieCommon.key.Goals as goal
 
 pub returns : goal.returns
-returns g c = c.key_of.ensures ∙ ap (option_map (λ p. p.0)) (c.pair.ensures _ _ c.place.ensures)
+returns g c = c.key_of.ensures ∙ ap (option_map (λ p. p.0)) (c.pair.ensures _ _ c.locus.ensures)

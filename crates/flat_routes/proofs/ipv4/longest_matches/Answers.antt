@@ -1,0 +1,22 @@
+use Rattle.std.proofs.Common.{ℕ, false, below_more, sym, subst, ◌∙◌, arith, get_or}
+use Rattle.std.proofs.lemmas.List.{get_or-set_other, get_or-set_same}
+use Rattle.std.proofs.Math.ListN.{set}
+use Rattle.frozen_routes.specs.Routes.{IsLongestRow}
+use Rattle.flat_routes.specs.Images.{found_row, image_rows}
+use Rattle.flat_routes.proofs.ipv4.longest_matches.Goals as goal
+
+pub loop-i-preserved : goal.loop-i-preserved
+loop-i-preserved c =
+    let bs = c.args.image.now in
+    let asked = c.args.addresses.now in
+    let i = c.loop-i.i in
+    let fs = c.loop-i.found in
+    let r = c.find.result in
+    let Is : ℕ → ℕ → Type 0 = λ k f. IsLongestRow 32 (λ n. n) (image_rows false bs) (get_or asked k 0) (found_row false bs f) in
+    record {
+      rows = λ image. below_more (λ k. Is k (get_or (set fs i r) k 0)) i
+          (λ k l. subst (Is k) (sym (get_or-set_other fs i k r 0 (λ e. omega (arith, e, l)))) (c.loop-i.invariant.rows image k l))
+          (subst (Is i) (sym (get_or-set_same fs i r 0 (omega (arith, c.loop-i.auto.found, c.loop-i-test.true, c.min-count.ensures))))
+          (subst (λ a. IsLongestRow 32 (λ n. n) (image_rows false bs) a (found_row false bs r)) c.from.ensures (c.find.ensures.row image)));
+      rest = λ k l. get_or-set_other fs i k r 0 (λ e. omega (arith, e, l)) ∙ c.loop-i.invariant.rest k (omega (arith, l));
+    }

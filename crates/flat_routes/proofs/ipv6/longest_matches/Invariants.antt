@@ -1,0 +1,11 @@
+use Rattle.std.proofs.Common.{◌≡◌, ℕ, ◌<◌, ◌≤◌, true, map as each, get_or}
+use Rattle.frozen_routes.specs.Routes.{IsLongestRow}
+use Rattle.flat_routes.specs.Images.{IsImage, found_row, image_rows, octet_number}
+use Rattle.flat_routes.proofs.ipv6.longest_matches.Given as goal
+
+abbrev pub invariant-loop-i : goal.invariant-loop-i
+invariant-loop-i l = record {
+  rows : IsImage true l.image → (k : ℕ) → k < l.i
+      → IsLongestRow 128 (λ n. n) (image_rows true l.image) (get_or (each octet_number l.addresses) k 0) (found_row true l.image (get_or l.found k 0));
+  rest : (k : ℕ) → l.i ≤ k → get_or l.found k 0 ≡ get_or l.fn.found k 0;
+}

@@ -1,4 +1,0 @@
-use Rattle.radix_trie.proofs.view.subtrie.SubTrie.place.Goals as goal
-
-pub returns : goal.returns
-returns g c = rw (← c.self.view_is) c.at.ensures

@@ -1,6 +1,6 @@
 -- A call that says another call's result a second way, by a call of its own, hands on what the first one says of the borrow.
 -- Assumes `Logic`.
-use Rattle.radix_trie.proofs.Steps.{◌≡◌, refl, sym, subst, ℕ, List, [], ◌∷◌, T, Ura, Ty, ty_ref, Fn, Callee, local, value_local, seq, assign, call, return, locus, deref, copy, addr_of, mut, imm, named, erased, Val, has_ty, Fml, ftrue, flft, SProp, ent, sep, ex, emp, id⊢, Model, Closed, Logic, sem, ‵, raw, ◌⊛◌, some, later, ◌$◌, ◌∵◌, !, qed, move, drop, use0, use1, use2, use3, split, join, pick, await, suffices, done, enter, addr, stop, no_more, and_then, returns, alloc_all, pass_all, free_all, look_at, get, through, sets, lands_as, ◌⊑◌, Lfts, Shares, Outlives, AllOutlive, fact, fact_i, Running, tables, tables_of, RattleType, no, yes, Typed, Is, shows, param, Laws, MutBor, mut_vals, mut_Tells, shr_vals, shr_Tells, plain, mut_ref_to, shr_ref_to, nothing, peeks, heard, calls_at, calls_from, Clauses, Ended, Lasts, closing, lasts, on_entry, Meets, triple_of, framed, Stays, stay_dropped, walk_of, ends_at, Goes-spent_ref, Goes-dropped, proved}
+use Rattle.radix_trie.proofs.Steps.{◌≡◌, refl, sym, subst, ℕ, List, [], ◌∷◌, T, Ura, Ty, ty_ref, Fn, Callee, local, value_local, seq, assign, call, return, place, deref, copy, addr_of, mut, imm, named, erased, Val, has_ty, Fml, ftrue, flft, SProp, ent, sep, ex, emp, id⊢, Model, Closed, Logic, sem, ‵, raw, ◌⊛◌, some, later, ◌$◌, ◌∵◌, !, qed, move, drop, use0, use1, use2, use3, split, join, pick, await, suffices, done, enter, addr, stop, no_more, and_then, returns, alloc_all, pass_all, free_all, look_at, get, through, sets, lands_as, ◌⊑◌, Lfts, Shares, Outlives, AllOutlive, fact, fact_i, Running, tables, tables_of, RattleType, no, yes, Typed, Is, shows, param, Laws, MutBor, mut_vals, mut_Tells, shr_vals, shr_Tells, plain, mut_ref_to, shr_ref_to, nothing, peeks, heard, calls_at, calls_from, Clauses, Ended, Lasts, closing, lasts, on_entry, Meets, triple_of, framed, Stays, stay_dropped, walk_of, ends_at, Goes-spent_ref, Goes-dropped, proved}
 -- Where the second call says of a value that was looked for what `absent_as_none` does.
 pub mod Found
 
@@ -88,7 +88,7 @@ handing outs τ τ' τr τd τq find say_at = record {
   givens = 0;
   params = 2;
   locals = local τ value_local ∷ local (ty_ref (named 0) mut τr) value_local ∷ local (ty_ref (named 1) imm τq) value_local ∷ local τ' value_local ∷ local (ty_ref erased mut τr) value_local ∷ [];
-  body = seq (assign (locus 4 []) (addr_of (locus 1 (deref τd ∷ [])))) (seq (call find (copy (locus 4 []) ∷ copy (locus 2 []) ∷ []) (locus 3 [])) (seq (call say_at (copy (locus 3 []) ∷ []) (locus 0 [])) return));
+  body = seq (assign (place 4 []) (addr_of (place 1 (deref τd ∷ [])))) (seq (call find (copy (place 4 []) ∷ copy (place 2 []) ∷ []) (place 3 [])) (seq (call say_at (copy (place 3 []) ∷ []) (place 0 [])) return));
 }
 
 module _ {M : Type 1} {𝓤 : Ura M} (𝓛 : Logic 𝓤) where

@@ -1,5 +1,5 @@
 -- A view for writing that is spent, by two calls: one takes it apart, and the other reads what its trie stores. Assumes `Logic`.
-use Rattle.radix_trie.proofs.Steps.{◌≡◌, refl, sym, ap, subst, ◌∙◌, ℕ, List, [], ◌∷◌, ◌++◌, T, Ura, Ty, ty_ref, ty_struct, tcons, tnil, Fn, Callee, local, value_local, seq, assign, call, return, locus, deref, field, copy, rv_opd, addr_of, mut, named, erased, Val, WT, has_ty, vptr, vstruct, of_list, Fml, Lft, GName, ftrue, flft, fsep, SProp, ent, sep, ex, emp, id⊢, Model, WpFn, Closed, Logic, sem, ‵, raw, ◌⊛◌, some, later, ◌$◌, ◌∵◌, !, qed, move, drop, use0, use1, use2, split, join, fsplit, fjoin, fpick, feq_l, pick, await, rewrite, show, suffices, updating, at_once, done, enter, of_opd, addr, from, stop, fld, hop, no_more, and_then, returns, whole, sub, alloc_all, pass_all, free_all, look_at, look_in_at, get, get_in, sets, lands_as, ◌⊑◌, Lfts, Outlives, fact, fact_i, Running, tables, no, RattleType, Typed, Is, shows, layout, param, Laws, of_field, row_shared, param_laws, mut_ref_shared, NamedLft, MutBor, MutRef, mut_vals, mut_Tells, plain, mut_ref_to, named_lft, nothing, peeks, heard, only, mut_ref_field, mut_ref_laws, Tuple, tuple_laws, tuple_name, calls_at, Clauses, Ended, Lasts, closing, lasts, on_entry, Meets, triple_of, framed, Stays, stay_dropped, walk_of, ends_at, proved_at}
+use Rattle.radix_trie.proofs.Steps.{◌≡◌, refl, sym, ap, subst, ◌∙◌, ℕ, List, [], ◌∷◌, ◌++◌, T, Ura, Ty, ty_ref, ty_struct, tcons, tnil, Fn, Callee, local, value_local, seq, assign, call, return, place, deref, field, copy, rv_opd, addr_of, mut, named, erased, Val, WT, has_ty, vptr, vstruct, of_list, Fml, Lft, GName, ftrue, flft, fsep, SProp, ent, sep, ex, emp, id⊢, Model, WpFn, Closed, Logic, sem, ‵, raw, ◌⊛◌, some, later, ◌$◌, ◌∵◌, !, qed, move, drop, use0, use1, use2, split, join, fsplit, fjoin, fpick, feq_l, pick, await, rewrite, show, suffices, updating, at_once, done, enter, of_opd, addr, from, stop, fld, hop, no_more, and_then, returns, whole, sub, alloc_all, pass_all, free_all, look_at, look_in_at, get, get_in, sets, lands_as, ◌⊑◌, Lfts, Outlives, fact, fact_i, Running, tables, no, RattleType, Typed, Is, shows, layout, param, Laws, of_field, row_shared, param_laws, mut_ref_shared, NamedLft, MutBor, MutRef, mut_vals, mut_Tells, plain, mut_ref_to, named_lft, nothing, peeks, heard, only, mut_ref_field, mut_ref_laws, Tuple, tuple_laws, tuple_name, calls_at, Clauses, Ended, Lasts, closing, lasts, on_entry, Meets, triple_of, framed, Stays, stay_dropped, walk_of, ends_at, proved_at}
 use Rattle.std.specs.Prelude.{Option}
 use Rattle.std.specs.declared.cmp.PartialEq as eqs
 use Rattle.std.specs.contracts.option.Option.{the_row as option_row}
@@ -90,9 +90,9 @@ spending outs τ τv τw τr τd τp take read = record {
   params = 1;
   locals = local τ value_local ∷ local τv value_local ∷ local (ty_struct (tuple_name 2) (tcons (ty_ref erased mut τr) (tcons τp tnil))) value_local ∷
       local τw value_local ∷ local (ty_ref erased mut τr) value_local ∷ local τp value_local ∷ [];
-  body = seq (assign (locus 3 []) (rv_opd (copy (locus 1 [])))) (seq (call take (copy (locus 3 []) ∷ []) (locus 2 []))
-      (seq (assign (locus 4 []) (addr_of (locus 2 (field 0 ∷ deref τd ∷ [])))) (seq (assign (locus 5 []) (rv_opd (copy (locus 2 (field 1 ∷ [])))))
-      (seq (call read (copy (locus 4 []) ∷ copy (locus 5 []) ∷ []) (locus 0 [])) return))));
+  body = seq (assign (place 3 []) (rv_opd (copy (place 1 [])))) (seq (call take (copy (place 3 []) ∷ []) (place 2 []))
+      (seq (assign (place 4 []) (addr_of (place 2 (field 0 ∷ deref τd ∷ [])))) (seq (assign (place 5 []) (rv_opd (copy (place 2 (field 1 ∷ [])))))
+      (seq (call read (copy (place 4 []) ∷ copy (place 5 []) ∷ []) (place 0 [])) return))));
 }
 
 abbrev none : Lfts 4

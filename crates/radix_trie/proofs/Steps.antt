@@ -6,7 +6,7 @@ pub use lib.Dec.{T}
 pub use seplogic.Ra.Ura.{Ura}
 pub use base.Fml.{Fml, ftrue, flft, Lft, GName, Share, fsep}
 pub use base.Logic.{SProp, ent, sep, ex, emp, id⊢, via}
-pub use mir.Syntax.{Ty, ty_ref, Fn, Callee, local, value_local, seq, assign, call, return, locus, deref, copy, addr_of, mut, imm, named, erased, Sym, ty_struct, tcons, tnil, field, rv_opd}
+pub use mir.Syntax.{Ty, ty_ref, Fn, Callee, local, value_local, seq, assign, call, return, place, deref, copy, addr_of, mut, imm, named, erased, Sym, ty_struct, tcons, tnil, field, rv_opd}
 pub use mir.Val.{Val, has_ty, WT, vptr, vstruct, of_list}
 pub use prog.Model.{Model}
 pub use prog.Wp.{Closed, WpFn}

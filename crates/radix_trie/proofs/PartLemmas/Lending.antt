@@ -1,6 +1,6 @@
 -- A call that borrows a struct of a reference and two parts more: it hands on what another call lends of what the reference leads to, at the
 -- second part. Assumes `Logic`.
-use Rattle.radix_trie.proofs.Steps.{◌≡◌, refl, ℕ, suc, List, [], ◌∷◌, Ura, named, erased, mut, imm, Sym, Ty, ty_ref, ty_struct, tcons, tnil, Fn, Callee, local, value_local, seq, assign, call, return, locus, deref, field, copy, addr_of, Fml, Lft, GName, Share, ftrue, flft, ent, sep, ex, emp, id⊢, Model, Closed, Logic, sem, Item, ‵, raw, ◌⊛◌, some, later, ◌$◌, ◌∵◌, !, qed, move, keep, drop, use0, use1, use2, use3, split, split3, join, fsplit3, fjoin, feq_l, pick, await, suffices, frame, done, enter, addr, stop, fld, no_more, and_then, returns, alloc_all, pass_all, free_all, look_at, get, through, sets, lands_as, Body, ◌⊑◌, Lfts, Outlives, AllOutlive, toks, fact, fact_i, Running, tables, RattleType, no, yes, follows, Is, shows, mem, param, layout, Laws, Bor, MutBor, MutRef, ShrRef, mut_vals, mut_Tells, shr_vals, plain, mut_ref_to, shr_ref_to, nothing, peeks, heard, calls_at, Clauses, Ended, Lasts, closing, lasts, Meets, triple_of, framed, Stays, stay_dropped, walk_of, ends_at, Goes-spent_ref, proved}
+use Rattle.radix_trie.proofs.Steps.{◌≡◌, refl, ℕ, suc, List, [], ◌∷◌, Ura, named, erased, mut, imm, Sym, Ty, ty_ref, ty_struct, tcons, tnil, Fn, Callee, local, value_local, seq, assign, call, return, place, deref, field, copy, addr_of, Fml, Lft, GName, Share, ftrue, flft, ent, sep, ex, emp, id⊢, Model, Closed, Logic, sem, Item, ‵, raw, ◌⊛◌, some, later, ◌$◌, ◌∵◌, !, qed, move, keep, drop, use0, use1, use2, use3, split, split3, join, fsplit3, fjoin, feq_l, pick, await, suffices, frame, done, enter, addr, stop, fld, no_more, and_then, returns, alloc_all, pass_all, free_all, look_at, get, through, sets, lands_as, Body, ◌⊑◌, Lfts, Outlives, AllOutlive, toks, fact, fact_i, Running, tables, RattleType, no, yes, follows, Is, shows, mem, param, layout, Laws, Bor, MutBor, MutRef, ShrRef, mut_vals, mut_Tells, shr_vals, plain, mut_ref_to, shr_ref_to, nothing, peeks, heard, calls_at, Clauses, Ended, Lasts, closing, lasts, Meets, triple_of, framed, Stays, stay_dropped, walk_of, ends_at, Goes-spent_ref, proved}
 use Rattle.std.specs.Borrow.{LendsIf, follows_if}
 use Rattle.std.specs.Option.{ghost_name_of, option_copied_mut}
 use Rattle.std.specs.declared.option.Option.{Option}
@@ -20,8 +20,8 @@ through_parts outs name τ τs τr τl τm τ₁ τ₂ lend = record {
   givens = 0;
   params = 1;
   locals = local τ value_local ∷ local (ty_ref (named 0) mut τs) value_local ∷ local (ty_ref erased mut τr) value_local ∷ local (ty_ref erased imm τl) value_local ∷ [];
-  body = seq (assign (locus 2 []) (addr_of (locus 1 (deref (ty_struct name (tcons (ty_ref erased mut τm) (tcons τ₁ (tcons τ₂ tnil)))) ∷ field 0 ∷ []))))
-      (seq (assign (locus 3 []) (addr_of (locus 1 (deref (ty_struct name (tcons (ty_ref erased mut τm) (tcons τ₁ (tcons τ₂ tnil)))) ∷ field 1 ∷ [])))) (seq (call lend (copy (locus 2 []) ∷ copy (locus 3 []) ∷ []) (locus 0 [])) return));
+  body = seq (assign (place 2 []) (addr_of (place 1 (deref (ty_struct name (tcons (ty_ref erased mut τm) (tcons τ₁ (tcons τ₂ tnil)))) ∷ field 0 ∷ []))))
+      (seq (assign (place 3 []) (addr_of (place 1 (deref (ty_struct name (tcons (ty_ref erased mut τm) (tcons τ₁ (tcons τ₂ tnil)))) ∷ field 1 ∷ [])))) (seq (call lend (copy (place 2 []) ∷ copy (place 3 []) ∷ []) (place 0 [])) return));
 }
 
 -- Whole: the type of the struct, of whose values trie and list are the reference and the second part, and put changes the reference; R: what the reference leads to; P, Q: the types of the

@@ -116,7 +116,7 @@ class Routes(Table):
         own, at = bytes(payload), ctypes.addressof(out)
         code = family.call("write")(rows, len(each), own, len(own), at, len(image), place)
         del out
-        if code == exports.UNSORTED:
+        if code == exports.OUT_OF_ORDER:
             raise ValueError(f"{each[place.value][0]} is there twice")
         if code:
             raise ValueError("there are too many routes")

@@ -36,7 +36,7 @@ class Texts(Table, collections.abc.Mapping):
         own, at = bytes(payload), ctypes.addressof(out)
         code = library.nifazombi_texts_write(rows, len(each), own, len(own), at, len(image), place)
         del out
-        if code == exports.UNSORTED:
+        if code == exports.OUT_OF_ORDER:
             raise ValueError(f"{each[place.value][0]!r} is there twice")
         if code:
             raise ValueError("there are too many pairs, or their keys are too long")

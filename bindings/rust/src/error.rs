@@ -74,7 +74,7 @@ impl WriteError {
         match code {
             0 => Ok(()),
             exports::FULL => Err(WriteError::Full),
-            exports::UNSORTED => Err(WriteError::OutOfOrder(at)),
+            exports::OUT_OF_ORDER => Err(WriteError::OutOfOrder(at)),
             _ => unreachable!("writing into a buffer of the image's length returns no code {code}"),
         }
     }

@@ -301,7 +301,7 @@ pub fn to_image(
 ///
 /// # Errors
 ///
-/// The bytes are no image, or memory is refused.
+/// The bytes are no image, or an allocation fails.
 pub fn from_image(alloc: Global, image: &[u8]) -> Result<FrozenRoutes<Ipv4Addr, u32>, TableError>
     ensures rows { IfOk result (λ table. each (numbered_row ipv4_bits) table
         ≡ image_rows of_ipv4 image.now) }

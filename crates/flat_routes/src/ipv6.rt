@@ -308,7 +308,7 @@ pub fn to_image(
 ///
 /// # Errors
 ///
-/// The bytes are no image, or memory is refused.
+/// The bytes are no image, or an allocation fails.
 pub fn from_image(alloc: Global, image: &[u8]) -> Result<FrozenRoutes<Ipv6Addr, u64>, TableError>
     ensures rows { IfOk result (λ table. each (numbered_row ipv6_bits) table
         ≡ image_rows of_ipv6 image.now) }

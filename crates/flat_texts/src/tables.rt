@@ -18,7 +18,7 @@ use std::alloc::Global;
 ///
 /// # Errors
 ///
-/// The bytes are no image; or memory is refused, or the keys take more bytes than those of a map in
+/// The bytes are no image; an allocation fails; or the keys take more bytes than those of a map in
 /// memory may.
 pub fn from_image(alloc: Global, image: &[u8]) -> Result<FrozenTexts<u64>, TableError>
     ensures image { IfOk result (λ _. IsTextImage image.now) }

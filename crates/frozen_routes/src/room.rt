@@ -6,8 +6,8 @@ use radix_keys::{Address, Memory};
 use std::alloc::Global;
 use std::marker::{Model, PhantomData};
 
-/// All memory that a table of so many rows takes beside them, so that making it of these can't be
-/// refused memory.
+/// All memory that a table of so many rows takes beside them, so that making it of these allocates
+/// nothing.
 ///
 /// A contract sees it as this number.
 #[derive(Drop)]

@@ -23,7 +23,7 @@ pub(crate) trait ImageFamily: Address {
     ///
     /// # Errors
     ///
-    /// The bytes are no image, or memory is refused.
+    /// The bytes are no image, or an allocation fails.
     fn placed_rows(alloc: Global, image: &[u8]) -> Result<Vec<(Network<Self>, usize)>, TableError>
         ensures rows { IfOk result (λ rows. each (numbered_row Self.number) rows.items
             ≡ image_rows WIDE image.now) }

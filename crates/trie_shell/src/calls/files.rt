@@ -24,8 +24,8 @@ pub fn answer_file<F: Files + AllocGlobal>(
     }
 }
 
-/// Puts a file with what the call answers in place of the file, unless the call isn't made or is
-/// refused. It isn't made again where memory for the file is refused.
+/// Puts a file with what the call answers in place of the file, unless the call isn't made or
+/// fails. It isn't made again where an allocation for the file fails.
 fn save<F: Files>(
     files: &F,
     path: &str,

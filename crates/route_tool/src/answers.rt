@@ -1,10 +1,8 @@
 //! Carrying out a command, and its answer, straight behind the answers that wait.
-ghost use Rattle.std.specs.Prelude.{◌≡◌, ◌⊎◌, ◌++◌, ◌∷◌, [], ℕ, List, IfSome, OnOk, OnErr, flat_map, map, option_copied, option_map};
+ghost use Rattle.std.specs.Prelude.{◌≡◌, ◌⊎◌, ◌++◌, ℕ, List, OnOk, OnErr, option_copied, option_map};
 ghost use Rattle.nibble_map.specs.Lists.{IsPrefix};
-ghost use Rattle.radix_keys.specs.Networks.{net_text};
 ghost use Rattle.radix_trie.specs.Walks.{deref_pair};
-ghost use Rattle.route_tool.specs.Answers.{IsAggregateAnswer, IsAnswer, IsBegun, IsFileAnswer, IsFileBegun, IsReply, added_answer, addition, bad_answer, below_answer, count_answer, dump_answer, find_answer, hop_answer, list_answer, row};
-ghost use Rattle.route_tool.specs.Aggregates.{route_of};
+ghost use Rattle.route_tool.specs.Answers.{IsAggregateAnswer, IsAnswer, IsBegun, IsFileAnswer, IsFileBegun, IsReply, added_answer, bad_answer, below_answer, dump_answer, find_answer, hop_answer, list_answer, row};
 ghost use Rattle.route_tool.specs.Commands.{asked_of, request_of};
 ghost use Rattle.route_tool.specs.Reasons.{reason_text};
 ghost use Rattle.route_tool.specs.Routes.{routes_within};
@@ -16,34 +14,11 @@ use crate::hop::Hop;
 use crate::image_files::{open, write};
 use crate::load::load;
 use crate::reason::Reason;
-use crate::table::{Rest, Routes, Table};
-use arrayvec::ArrayString;
-use itoa::Buffer;
+use crate::table::{Routes, Table};
+use crate::written::{add_additions, add_count, add_hop, add_rest, add_row, add_rows};
 use radix_trie::{Address, Memory, Network};
 use std::alloc::AllocError;
-use std::fmt::Write;
 use std::rt::Files;
-
-// How many bytes the longest text of a network has: that of eight segments of four digits.
-const LONGEST: usize = 43;
-
-/// Adds a number and a line feed.
-pub(crate) fn add_count(out: &mut Vec<u8>, count: u128) -> Result<(), AllocError>
-    ensures text { OnOk result (out.new.items ≡ out.old.items ++ count_answer count) }
-    ensures kept { IsPrefix out.old.items out.new.items }
-{
-    out.extend_from_slice(Buffer::new().format(count).as_bytes())?;
-    out.extend_from_slice(b"\n")
-}
-
-/// Adds a hop and a line feed.
-fn add_hop(out: &mut Vec<u8>, hop: &Hop) -> Result<(), AllocError>
-    ensures text { OnOk result (out.new.items ≡ out.old.items ++ hop.now ++ 10 ∷ []) }
-    ensures kept { IsPrefix out.old.items out.new.items }
-{
-    out.extend_from_slice(hop.as_bytes())?;
-    out.extend_from_slice(b"\n")
-}
 
 fn add_added_answer(out: &mut Vec<u8>, old: Option<Hop>) -> Result<(), AllocError>
     ensures text { OnOk result (out.new.items ≡ out.old.items ++ added_answer old) }
@@ -67,60 +42,6 @@ fn add_hop_answer(out: &mut Vec<u8>, found: Option<&Hop>) -> Result<(), AllocErr
         None => out.extend_from_slice(b"none\n"),
         Some(hop) => add_hop(out, hop),
     }
-}
-
-/// What is written of a network, where it has room in the array, as each network's text has.
-///
-/// It isn't written into the answers at once: where such a write is refused, its contract says
-/// nothing of what they then hold.
-fn text_of<A: Address>(network: &Network<A>) -> Option<ArrayString<LONGEST>>
-    ensures { IfSome result (λ text. text.bytes ≡ net_text A.text network.now) }
-{
-    let mut text = ArrayString::new();
-    match text.write_fmt(*network) {
-        Ok(()) => Some(text),
-        Err(_) => None,
-    }
-}
-
-/// Adds what is written of a network. That a text has room in the array no contract of the library
-/// tells, so one that had none would be written into memory of its own first.
-fn add_network<A: Address>(out: &mut Vec<u8>, network: &Network<A>) -> Result<(), AllocError>
-    ensures text { OnOk result
-        (out.new.items ≡ out.old.items ++ net_text A.text network.now) }
-    ensures kept { IsPrefix out.old.items out.new.items }
-{
-    match text_of(network) {
-        Some(text) => out.extend_from_slice(text.as_str().as_bytes()),
-        None => {
-            let text = format!(in *out.allocator(); "{network}")?;
-            out.extend_from_slice(text.as_bytes())
-        }
-    }
-}
-
-/// Adds a network, a space and its hop.
-fn add_row<A: Address>(out: &mut Vec<u8>, network: &Network<A>, hop: &Hop) -> Result<(), AllocError>
-    ensures text { OnOk result
-        (out.new.items ≡ out.old.items ++ row A.text (network.now, hop.now)) }
-    ensures kept { IsPrefix out.old.items out.new.items }
-{
-    add_network(out, network)?;
-    out.extend_from_slice(b" ")?;
-    add_hop(out, hop)
-}
-
-/// Adds each route.
-fn add_rest<A: Address>(out: &mut Vec<u8>, rest: Rest<'_, A>) -> Result<(), Memory>
-    ensures text { OnOk result
-        (out.new.items ≡ out.old.items ++ flat_map (row A.text) rest.entry) }
-    ensures kept { IsPrefix out.old.items out.new.items }
-{
-    let mut rest = rest;
-    while let Some((network, hop)) = rest.next()? {
-        add_row(out, network, hop)?;
-    }
-    Ok(())
 }
 
 /// Adds how many routes lie within the network, and then each of them.
@@ -198,33 +119,6 @@ fn add_list(out: &mut Vec<u8>, table: &Table) -> Result<(), Memory>
     add_rest(out, table.v6.rest())
 }
 
-/// Adds the line that asks for the addition of a route.
-fn add_addition<A: Address>(
-    out: &mut Vec<u8>,
-    network: &Network<A>,
-    hop: &Hop,
-) -> Result<(), AllocError>
-    ensures text { OnOk result (out.new.items
-        ≡ out.old.items ++ addition A.text (network.now, hop.now) ++ 10 ∷ []) }
-    ensures kept { IsPrefix out.old.items out.new.items }
-{
-    out.extend_from_slice(b"add ")?;
-    add_row(out, network, hop)
-}
-
-/// Adds such a line for each route.
-fn add_additions<A: Address>(out: &mut Vec<u8>, rest: Rest<'_, A>) -> Result<(), Memory>
-    ensures text { OnOk result (out.new.items
-        ≡ out.old.items ++ flat_map (λ r. addition A.text r ++ 10 ∷ []) rest.entry) }
-    ensures kept { IsPrefix out.old.items out.new.items }
-{
-    let mut rest = rest;
-    while let Some((network, hop)) = rest.next()? {
-        add_addition(out, network, hop)?;
-    }
-    Ok(())
-}
-
 /// Adds a line for each route, those of IPv4 first.
 fn add_dump(out: &mut Vec<u8>, table: &Table) -> Result<(), Memory>
     ensures text { OnOk result (out.new.items ≡ out.old.items ++ dump_answer table.now) }
@@ -232,18 +126,6 @@ fn add_dump(out: &mut Vec<u8>, table: &Table) -> Result<(), Memory>
 {
     add_additions(out, table.v4.rest())?;
     add_additions(out, table.v6.rest())
-}
-
-/// Adds each row.
-fn add_rows<A: Address>(out: &mut Vec<u8>, rows: &[(Network<A>, &Hop)]) -> Result<(), AllocError>
-    ensures text { OnOk result
-        (out.new.items ≡ out.old.items ++ flat_map (row A.text) (map route_of rows.now)) }
-    ensures kept { IsPrefix out.old.items out.new.items }
-{
-    for (network, hop) in rows {
-        add_row(out, network, *hop)?;
-    }
-    Ok(())
 }
 
 /// Adds how many routes the least lists have, and then each, those of IPv4 first.

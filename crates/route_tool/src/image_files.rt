@@ -6,10 +6,10 @@ ghost use Rattle.route_tool.specs.Answers.{IsFileOpen, IsFileWrite, IsOpen, imag
 ghost use Rattle.route_tool.specs.RouteImages.{AreOpened, IsOpenFault};
 ghost use Rattle.route_tool.specs.Routes.{Route, in_order};
 
-use crate::answers::add_count;
 use crate::images::{ImageFamily, OpenFault, WriteFault, image_of_routes, opened};
 use crate::load::add_fault;
 use crate::table::{Routes, Table};
+use crate::written::add_count;
 use image_parts::ImageError;
 use itoa::Buffer;
 use radix_trie::Memory;

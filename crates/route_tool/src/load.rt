@@ -6,11 +6,11 @@ ghost use Rattle.route_tool.specs.Answers.{IsFileLoad, IsLoad, bad_edit_answer, 
 ghost use Rattle.route_tool.specs.Commands.{asked_of, request_of};
 ghost use Rattle.route_tool.specs.Loads.{AreCarriedOut, IsChange, IsChanged, IsEdit, IsEdited, IsGood, IsLoadedInPart, lines_in};
 
-use crate::answers::add_count;
 use crate::command::{Command, Request};
 use crate::edits::{edit_of, first_bad, first_part};
 use crate::reason::Reason;
 use crate::table::{Routes, Table};
+use crate::written::add_count;
 use itoa::Buffer;
 use radix_trie::{Address, Memory};
 use std::alloc::AllocError;

@@ -16,6 +16,7 @@ mod load;
 mod reason;
 mod start;
 mod table;
+mod written;
 
 use crate::engine::{answer_all, answer_each};
 use crate::start::{HINT, USAGE, is_read_on_start};

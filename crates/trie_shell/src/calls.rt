@@ -6,6 +6,7 @@ pub mod files;
 pub mod frozen;
 pub mod reads;
 pub mod views;
+pub mod write_views;
 
 use crate::calls::reads::answer_read;
 use frozen_trie::FrozenTrie;

@@ -9,11 +9,12 @@ mod files;
 mod help;
 mod prompt;
 mod request;
+mod session;
 mod start;
 mod tries;
 
-use crate::engine::{answer_all, answer_each};
 use crate::prompt::Prompting;
+use crate::session::{answer_all, answer_each};
 use crate::start::{USAGE, allows_colours, is_strict_start};
 use line_sessions::{WatchedReader, WatchedWriter};
 use std::io;

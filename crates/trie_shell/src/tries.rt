@@ -9,7 +9,8 @@ mod images;
 mod names;
 mod places;
 
-use crate::calls::views::{answer_in_view, answer_in_write_view, answer_with};
+use crate::calls::views::answer_in_view;
+use crate::calls::write_views::{answer_in_write_view, answer_with};
 use crate::calls::{FrozenTable, answer_trie};
 pub use places::IN_A_VIEW;
 use radix_trie::{Memory, Nibblet, Trie};

@@ -4,7 +4,7 @@ use Rattle.trie_shell.specs.Asked.{asked_in}
 use Rattle.trie_shell.specs.Remarks.{reason_line}
 use Rattle.trie_shell.specs.Sessions.{IsReplyTo, State}
 use Rattle.shell_calls.proofs.ResultLemmas.{OnOk-then}
-use Rattle.trie_shell.proofs.engine.LenientProgram.answer.Goals as goal
+use Rattle.trie_shell.proofs.session.LenientProgram.answer.Goals as goal
 
 pub returns-in-Ok-clause-answered : goal.returns-in-Ok-clause-answered
 returns-in-Ok-clause-answered g c =

@@ -1,7 +1,7 @@
 use Rattle.std.proofs.Common.{◌∙◌, ◌++◌, ap}
 use Rattle.std.proofs.lemmas.Fmt.{contents_after_writes}
 use Rattle.radix_keys.specs.Networks.{net_text}
-use Rattle.route_tool.proofs.answers.text_of.Goals as goal
+use Rattle.route_tool.proofs.written.text_of.Goals as goal
 
 pub returns-in-Ok : goal.returns-in-Ok
 returns-in-Ok g c =

@@ -1,7 +1,7 @@
 use Rattle.std.proofs.Common.{◌≡◌, ◌++◌, ◌∷◌, [], flat_map, length}
 use Rattle.nibble_map.specs.Lists.{IsPrefix}
 use Rattle.route_tool.specs.Answers.{addition}
-use Rattle.route_tool.proofs.answers.add_additions.Given as goal
+use Rattle.route_tool.proofs.written.add_additions.Given as goal
 
 abbrev pub invariant-loop-rest : goal.invariant-loop-rest
 invariant-loop-rest g l = record {

@@ -3,7 +3,7 @@ use Rattle.shell_words.specs.Answers.{Answering}
 use Rattle.trie_shell.specs.Asked.{asked_in}
 use Rattle.trie_shell.specs.Sessions.{IsReplyTo, State}
 use Rattle.shell_calls.proofs.ResultLemmas.{OnOk-then}
-use Rattle.trie_shell.proofs.engine.StrictProgram.answer.Goals as goal
+use Rattle.trie_shell.proofs.session.StrictProgram.answer.Goals as goal
 
 pub returns-in-Ok-clause-answered : goal.returns-in-Ok-clause-answered
 returns-in-Ok-clause-answered g c =

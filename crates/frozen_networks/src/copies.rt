@@ -56,7 +56,8 @@ fn cloned_rows<A: Address, V: Clone>(
         return Ok(Vec::new(trie.allocator()));
     }
     let mut rows = Vec::with_capacity(trie.allocator(), trie.len())?;
-    for (network, value) in trie.iter()? {
+    let mut walk = trie.cursor();
+    while let Some((network, value)) = walk.next()? {
         // For its clause that the base has 0 behind the bits.
         network.base();
         let copy = value.clone()?;

@@ -57,7 +57,8 @@ fn cloned_pairs<K: TrieKey + Clone, V: Clone>(trie: &Trie<K, V>) -> Result<Vec<(
         return Ok(Vec::new(trie.allocator()));
     }
     let mut pairs = Vec::with_capacity(trie.allocator(), trie.len())?;
-    for (key, value) in trie.iter()? {
+    let mut walk = trie.cursor();
+    while let Some((key, value)) = walk.next()? {
         let pair = (key.clone()?, value.clone()?);
         pairs.push(pair)?;
     }

@@ -7,6 +7,8 @@ mod doc_examples;
 #[cfg(test)]
 mod frozen;
 #[cfg(test)]
+mod many_routes;
+#[cfg(test)]
 mod maps;
 #[cfg(test)]
 mod moved_networks;

@@ -50,7 +50,10 @@ fn tables_by_first_bits(rt: HostRuntime) {
         (70_000, 1 << 15, true),
     ];
     for (count, apart, is_pushed) in TABLES {
-        assert!(rt; held(rt.alloc(), *count, *apart, *is_pushed) == Some(*count), "{count}");
+        assert!(rt;
+            held(rt.alloc(), *count, *apart, *is_pushed) == Some(*count),
+            "{count}"
+        );
     }
 }
 

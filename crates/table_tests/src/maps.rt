@@ -8,13 +8,10 @@ use radix_trie::Trie;
 use std::alloc::Global;
 use std::net::Ipv4Addr;
 use std::ops::Bound;
+use std::str::FromStr;
 
 /// What is stored at a query, at the prefixes of it, and below it, by the values.
-struct Row<'r> {
-    value: Option<usize>,
-    above: &'r [usize],
-    below: &'r [usize],
-}
+type Row<'r> = (Option<usize>, &'r [usize], &'r [usize]);
 
 /// The keys in order, each stored with its index, and queries, each with its row.
 pub const TEXTS: &'static [&'static str] = &["a", "ab", "abc", "b", "ba"];
@@ -22,46 +19,14 @@ pub const TEXTS: &'static [&'static str] = &["a", "ab", "abc", "b", "ba"];
 const ASKED_TEXTS: &'static [&'static str] = &["", "a", "ab", "abc", "abcd", "ac", "b", "c"];
 
 const TEXT_ROWS: &'static [Row<'static>] = &[
-    Row {
-        value: None,
-        above: &[],
-        below: &[0, 1, 2, 3, 4],
-    },
-    Row {
-        value: Some(0),
-        above: &[0],
-        below: &[0, 1, 2],
-    },
-    Row {
-        value: Some(1),
-        above: &[0, 1],
-        below: &[1, 2],
-    },
-    Row {
-        value: Some(2),
-        above: &[0, 1, 2],
-        below: &[2],
-    },
-    Row {
-        value: None,
-        above: &[0, 1, 2],
-        below: &[],
-    },
-    Row {
-        value: None,
-        above: &[0],
-        below: &[],
-    },
-    Row {
-        value: Some(3),
-        above: &[3],
-        below: &[3, 4],
-    },
-    Row {
-        value: None,
-        above: &[],
-        below: &[],
-    },
+    (None, &[], &[0, 1, 2, 3, 4]),
+    (Some(0), &[0], &[0, 1, 2]),
+    (Some(1), &[0, 1], &[1, 2]),
+    (Some(2), &[0, 1, 2], &[2]),
+    (None, &[0, 1, 2], &[]),
+    (None, &[0], &[]),
+    (Some(3), &[3], &[3, 4]),
+    (None, &[], &[]),
 ];
 
 /// The same of networks, and queries by addresses and by networks.
@@ -81,26 +46,10 @@ const ASKED_ADDRESSES: &'static [&'static str] = &[
 ];
 
 const ADDRESS_ROWS: &'static [Row<'static>] = &[
-    Row {
-        value: Some(3),
-        above: &[0, 1, 2, 3],
-        below: &[3],
-    },
-    Row {
-        value: None,
-        above: &[0, 1, 2],
-        below: &[],
-    },
-    Row {
-        value: None,
-        above: &[0],
-        below: &[],
-    },
-    Row {
-        value: None,
-        above: &[0, 4],
-        below: &[],
-    },
+    (Some(3), &[0, 1, 2, 3], &[3]),
+    (None, &[0, 1, 2], &[]),
+    (None, &[0], &[]),
+    (None, &[0, 4], &[]),
 ];
 
 const ASKED_NETWORKS: &'static [&'static str] = &[
@@ -111,117 +60,33 @@ const ASKED_NETWORKS: &'static [&'static str] = &[
 ];
 
 const NETWORK_ROWS: &'static [Row<'static>] = &[
-    Row {
-        value: Some(1),
-        above: &[0, 1],
-        below: &[1, 2, 3],
-    },
-    Row {
-        value: None,
-        above: &[0, 1, 2],
-        below: &[3],
-    },
-    Row {
-        value: None,
-        above: &[0],
-        below: &[1, 2, 3],
-    },
-    Row {
-        value: Some(4),
-        above: &[0, 4],
-        below: &[4],
-    },
+    (Some(1), &[0, 1], &[1, 2, 3]),
+    (None, &[0, 1, 2], &[3]),
+    (None, &[0], &[1, 2, 3]),
+    (Some(4), &[0, 4], &[4]),
 ];
 
 /// Two bounds, and the values within them.
-struct Span<'r, Q> {
-    low: Bound<Q>,
-    high: Bound<Q>,
-    values: &'r [usize],
-}
+type Span<'r, Q> = ((Bound<Q>, Bound<Q>), &'r [usize]);
 
 const SPANS: &'static [Span<'static, &'static str>] = &[
-    Span {
-        low: Bound::Unbounded,
-        high: Bound::Unbounded,
-        values: &[0, 1, 2, 3, 4],
-    },
-    Span {
-        low: Bound::Unbounded,
-        high: Bound::Included("b"),
-        values: &[0, 1, 2, 3],
-    },
-    Span {
-        low: Bound::Unbounded,
-        high: Bound::Excluded("b"),
-        values: &[0, 1, 2],
-    },
-    Span {
-        low: Bound::Included("ab"),
-        high: Bound::Unbounded,
-        values: &[1, 2, 3, 4],
-    },
-    Span {
-        low: Bound::Included("ab"),
-        high: Bound::Included("b"),
-        values: &[1, 2, 3],
-    },
-    Span {
-        low: Bound::Included("ab"),
-        high: Bound::Excluded("b"),
-        values: &[1, 2],
-    },
-    Span {
-        low: Bound::Excluded("ab"),
-        high: Bound::Unbounded,
-        values: &[2, 3, 4],
-    },
-    Span {
-        low: Bound::Excluded("ab"),
-        high: Bound::Included("b"),
-        values: &[2, 3],
-    },
-    Span {
-        low: Bound::Excluded("ab"),
-        high: Bound::Excluded("b"),
-        values: &[2],
-    },
+    ((Bound::Unbounded, Bound::Unbounded), &[0, 1, 2, 3, 4]),
+    ((Bound::Unbounded, Bound::Included("b")), &[0, 1, 2, 3]),
+    ((Bound::Unbounded, Bound::Excluded("b")), &[0, 1, 2]),
+    ((Bound::Included("ab"), Bound::Unbounded), &[1, 2, 3, 4]),
+    ((Bound::Included("ab"), Bound::Included("b")), &[1, 2, 3]),
+    ((Bound::Included("ab"), Bound::Excluded("b")), &[1, 2]),
+    ((Bound::Excluded("ab"), Bound::Unbounded), &[2, 3, 4]),
+    ((Bound::Excluded("ab"), Bound::Included("b")), &[2, 3]),
+    ((Bound::Excluded("ab"), Bound::Excluded("b")), &[2]),
     // Bounds at which no pair stands, one key alone, and bounds that leave none.
-    Span {
-        low: Bound::Included("aa"),
-        high: Bound::Unbounded,
-        values: &[1, 2, 3, 4],
-    },
-    Span {
-        low: Bound::Excluded("aa"),
-        high: Bound::Included("az"),
-        values: &[1, 2],
-    },
-    Span {
-        low: Bound::Included("abc"),
-        high: Bound::Included("abc"),
-        values: &[2],
-    },
-    Span {
-        low: Bound::Excluded("ab"),
-        high: Bound::Excluded("ab"),
-        values: &[],
-    },
-    Span {
-        low: Bound::Unbounded,
-        high: Bound::Excluded("a"),
-        values: &[],
-    },
-    Span {
-        low: Bound::Included("b"),
-        high: Bound::Included("ab"),
-        values: &[],
-    },
-    Span {
-        low: Bound::Included("b"),
-        high: Bound::Excluded("ab"),
-        values: &[],
-    },
+    ((Bound::Included("aa"), Bound::Unbounded), &[1, 2, 3, 4]),
+    ((Bound::Excluded("aa"), Bound::Included("az")), &[1, 2]),
+    ((Bound::Included("abc"), Bound::Included("abc")), &[2]),
+    ((Bound::Excluded("ab"), Bound::Excluded("ab")), &[]),
+    ((Bound::Unbounded, Bound::Excluded("a")), &[]),
+    ((Bound::Included("b"), Bound::Included("ab")), &[]),
+    ((Bound::Included("b"), Bound::Excluded("ab")), &[]),
 ];
 
 /// Whether a walk gives these values, in order or from the last to the first, and then None twice.
@@ -258,17 +123,18 @@ fn answers<'a, Q, M: PrefixMap<'a, Q, Value = usize>>(
     key: &Q,
     row: &Row<'_>,
 ) -> Result<bool, Memory> {
+    let (value, above, below) = *row;
     let pair = value_in(map.get_key_value(key)?);
     let page = first_below(alloc, map, key, 2)?;
     Ok(
-        map.get(key)?.copied() == row.value
-            && pair == row.value
-            && map.contains_key(key)? == row.value.is_some()
-            && lookup(map, key)?.copied() == row.above.last().copied()
-            && map.count_below(key)? == row.below.len()
-            && page.len() == row.below.len().min(2)
-            && gives::<Q, M>(map.below(key)?, row.below, false)?
-            && gives::<Q, M>(map.common_prefixes(key)?, row.above, false)?
+        map.get(key)?.copied() == value
+            && pair == value
+            && map.contains_key(key)? == value.is_some()
+            && lookup(map, key)?.copied() == above.last().copied()
+            && map.count_below(key)? == below.len()
+            && page.len() == below.len().min(2)
+            && gives::<Q, M>(map.below(key)?, below, false)?
+            && gives::<Q, M>(map.common_prefixes(key)?, above, false)?
             && has_all(map, key)?,
     )
 }
@@ -306,11 +172,9 @@ fn answers_spans<'a, Q: Copy, M: RangeMap<'a, Q, Value = usize>>(
     map: M,
     spans: &[Span<'_, Q>],
 ) -> Result<bool, Memory> {
-    for span in spans {
-        let forward = map.range((span.low, span.high))?;
-        let back = map.range_back((span.low, span.high))?;
-        if !gives::<Q, M>(forward, span.values, false)?
-            || !gives::<Q, M>(back, span.values, true)?
+    for (bounds, values) in spans {
+        if !gives::<Q, M>(map.range(*bounds)?, values, false)?
+            || !gives::<Q, M>(map.range_back(*bounds)?, values, true)?
         {
             return Ok(false);
         }
@@ -327,7 +191,16 @@ fn lists_asked(alloc: Global) -> Option<Vec<Nibblet>> {
     Some(lists)
 }
 
-/// Whether a trie of the texts, and what it is frozen into, answer so.
+/// Whether a map of the texts answers the rows of its queries, and has its spans.
+fn answers_texts<'a, M: RangeMap<'a, &'static str, Value = usize>>(
+    alloc: Global,
+    map: M,
+) -> Option<bool> {
+    let is_answered = answers_all(alloc, map, ASKED_TEXTS, TEXT_ROWS).ok()?;
+    Some(is_answered && answers_spans(map, SPANS).ok()?)
+}
+
+/// Whether a trie of the texts, and what it is frozen into, do.
 fn texts_answer(alloc: Global) -> Option<bool> {
     let (mut trie, mut texts) = (Trie::new(alloc), FrozenTexts::new(alloc));
     for key in TEXTS {
@@ -336,13 +209,11 @@ fn texts_answer(alloc: Global) -> Option<bool> {
         texts.push(key.as_bytes(), value).ok()?;
     }
     let frozen = frozen_copy(&trie).ok()?;
-    let of_trie = answers_all(alloc, &trie, ASKED_TEXTS, TEXT_ROWS).ok()?;
-    let of_frozen = answers_all(alloc, &frozen, ASKED_TEXTS, TEXT_ROWS).ok()?;
-    let of_texts = answers_all(alloc, &texts, ASKED_TEXTS, TEXT_ROWS).ok()?;
-    let of_spans = answers_spans(&trie, SPANS).ok()?
-        && answers_spans(&frozen, SPANS).ok()?
-        && answers_spans(&texts, SPANS).ok()?;
-    Some(of_trie && of_frozen && of_texts && of_spans)
+    Some(
+        answers_texts(alloc, &trie)?
+            && answers_texts(alloc, &frozen)?
+            && answers_texts(alloc, &texts)?,
+    )
 }
 
 /// Whether a frozen trie of the texts answers so by the queries' lists of nibbles.
@@ -356,30 +227,45 @@ fn lists_answer(alloc: Global) -> Option<bool> {
     answers_all(alloc, &frozen, &lists, TEXT_ROWS).ok()
 }
 
+/// The networks, or addresses, of texts.
+fn parsed<T: FromStr + Drop>(alloc: Global, texts: &[&'static str]) -> Option<Vec<T>>
+where
+    T::Err: Drop,
+{
+    let mut all = Vec::new(alloc);
+    for text in texts {
+        all.push(text.parse::<T>().ok()?).ok()?;
+    }
+    Some(all)
+}
+
+/// Whether a map of the networks answers so by networks.
+fn answers_networks<'a, M: PrefixMap<'a, Network<Ipv4Addr>, Value = usize>>(
+    alloc: Global,
+    map: M,
+) -> Option<bool> {
+    let asked = parsed::<Network<Ipv4Addr>>(alloc, ASKED_NETWORKS)?;
+    answers_all(alloc, map, &asked, NETWORK_ROWS).ok()
+}
+
 /// Whether a table of the networks answers so, and by networks a trie of them too, and what it is
 /// frozen into.
 fn routes_answer(alloc: Global) -> Option<bool> {
     let (mut trie, mut routes) = (Trie::new(alloc), FrozenRoutes::new(alloc));
-    for text in NETWORKS {
-        let (network, value) = (text.parse::<Network<Ipv4Addr>>().ok()?, routes.len());
+    for network in parsed::<Network<Ipv4Addr>>(alloc, NETWORKS)? {
+        let value = routes.len();
         trie.insert(network, value).ok()?;
         routes.push(network, value).ok()?;
     }
-    let (mut addresses, mut networks) = (Vec::new(alloc), Vec::new(alloc));
-    for address in ASKED_ADDRESSES {
-        addresses.push(address.parse::<Ipv4Addr>().ok()?).ok()?;
-    }
-    for network in ASKED_NETWORKS {
-        networks
-            .push(network.parse::<Network<Ipv4Addr>>().ok()?)
-            .ok()?;
-    }
     let frozen = frozen_copy(&trie).ok()?;
+    let addresses = parsed::<Ipv4Addr>(alloc, ASKED_ADDRESSES)?;
     let by_addresses = answers_all(alloc, &routes, &addresses, ADDRESS_ROWS).ok()?;
-    let by_networks = answers_all(alloc, &routes, &networks, NETWORK_ROWS).ok()?
-        && answers_all(alloc, &trie, &networks, NETWORK_ROWS).ok()?
-        && answers_all(alloc, &frozen, &networks, NETWORK_ROWS).ok()?;
-    Some(by_addresses && by_networks)
+    Some(
+        by_addresses
+            && answers_networks(alloc, &routes)?
+            && answers_networks(alloc, &trie)?
+            && answers_networks(alloc, &frozen)?,
+    )
 }
 
 #[test]

@@ -5,11 +5,12 @@ use radix_keys::{Address, Network};
 use std::alloc::Global;
 use std::net::{Ipv4Addr, Ipv6Addr};
 
-/// The rows of these networks, each with its index.
-fn rows_of<A: Address>(alloc: Global, texts: &[&'static str]) -> Option<Vec<(Network<A>, usize)>> {
+/// The rows of the networks in a text, each with its index.
+fn rows_of<A: Address>(alloc: Global, networks: &str) -> Option<Vec<(Network<A>, usize)>> {
     let mut rows = Vec::new(alloc);
-    for (i, text) in texts.iter().enumerate() {
-        rows.push((text.parse::<Network<A>>().ok()?, i)).ok()?;
+    for text in networks.split_whitespace() {
+        let index = rows.len();
+        rows.push((text.parse::<Network<A>>().ok()?, index)).ok()?;
     }
     Some(rows)
 }
@@ -35,254 +36,246 @@ pub fn index_of<A: Address, Q: RouteQuery<A>>(
     table.longest_match(query).map(|(_, index)| *index)
 }
 
-/// An address, and the indices of the networks that hold it, the shortest first.
-type OfAddress = (&'static str, &'static [usize]);
+/// The networks of tables, each known by its index, and what a table answers of a query: of an
+/// address the networks that hold it, the shortest first; of a network those that hold all of it,
+/// and those within it.
+const IPV4: &'static str = "\
+table
+10.0.0.0 =
+10.0.0.0/8 = /
+table 10.0.0.0/8 10.0.0.0/16 10.1.0.0/16 10.1.2.0/24 10.1.2.3/32 255.255.255.255/32
+0.0.0.0 =
+9.255.255.255 =
+10.0.0.0 = 0 1
+10.0.255.255 = 0 1
+10.1.0.0 = 0 2
+10.1.2.2 = 0 2 3
+10.1.2.3 = 0 2 3 4
+10.1.2.4 = 0 2 3
+10.1.3.0 = 0 2
+10.2.0.0 = 0
+10.255.255.255 = 0
+11.0.0.0 =
+255.255.255.254 =
+255.255.255.255 = 5
+table 0.0.0.0/0 10.0.0.0/8 10.0.0.0/16 10.0.1.0/24 10.0.2.0/24 10.1.0.0/16
+9.0.0.0 = 0
+10.0.1.7 = 0 1 2 3
+10.0.2.0 = 0 1 2 4
+10.0.3.0 = 0 1 2
+10.1.0.1 = 0 1 5
+10.2.0.1 = 0 1
+table 10.0.0.0/8 10.0.0.0/16 10.1.0.0/16 10.1.2.0/24 11.0.0.0/8
+0.0.0.0/0 = / 0 1 2 3 4
+10.0.0.0/8 = 0 / 0 1 2 3
+10.0.0.0/16 = 0 1 / 1
+10.1.0.0/16 = 0 2 / 2 3
+10.1.2.0/23 = 0 2 / 3
+10.1.2.3/32 = 0 2 3 /
+12.0.0.0/8 = /
+table 10.0.0.0/8 10.0.0.0/16 10.0.1.0/24 11.0.0.0/8
+10.0.0.0/8 = 0 / 0 1 2
+10.0.0.0/16 = 0 1 / 1 2
+10.0.1.0/24 = 0 1 2 / 2
+11.0.0.0/8 = 3 / 3
+0.0.0.0/0 = / 0 1 2 3
+10.0.0.0/7 = / 0 1 2 3
+10.0.0.0/12 = 0 / 1 2
+10.0.0.0/24 = 0 1 /
+10.0.1.0/32 = 0 1 2 /
+12.0.0.0/8 = /
+table 10.0.0.0/8 10.1.0.0/16 10.1.2.0/24
+0.0.0.0/0 = / 0 1 2
+10.0.0.0/7 = / 0 1 2
+10.0.0.0/8 = 0 / 0 1 2
+10.0.0.0/16 = 0 /
+10.1.0.0/16 = 0 1 / 1 2
+10.1.2.0/23 = 0 1 / 2
+10.1.2.0/24 = 0 1 2 / 2
+10.1.2.0/25 = 0 1 2 /
+10.1.2.3/32 = 0 1 2 /
+11.0.0.0/8 = /
+table 0.0.0.0/0 10.0.0.0/8 10.0.0.0/16 10.0.0.0/24 10.0.0.0/32
+0.0.0.0/0 = 0 / 0 1 2 3 4
+10.0.0.0/7 = 0 / 1 2 3 4
+10.0.0.0/12 = 0 1 / 2 3 4
+10.0.0.0/16 = 0 1 2 / 2 3 4
+10.0.0.0/31 = 0 1 2 3 / 4
+10.0.0.0/32 = 0 1 2 3 4 / 4
+";
 
-/// A network, whether it has a row of its own, the indices of the networks that hold all of it, and
-/// of those within it.
-type OfNetwork = (&'static str, bool, &'static [usize], &'static [usize]);
+const IPV6: &'static str = "\
+table ::/0 2001:db8::/32 2001:db8::1/128
+:: = 0
+2001:db8:: = 0 1
+2001:db8::1 = 0 1 2
+2001:db8::2 = 0 1
+2001:db9:: = 0
+ffff:ffff:ffff:ffff:ffff:ffff:ffff:ffff = 0
+table 2001:db8::/32 2001:db8::/48 2001:db8::1/128
+:: =
+2001:db8::1 = 0 1 2
+2001:db8::2 = 0 1
+2001:db8:1:: = 0
+";
 
-/// The networks of a table, and what it answers of addresses and of networks.
-type Told = (&'static [&'static str], &'static [OfAddress], &'static [OfNetwork]);
-
-const IPV4: &'static [Told] = &[
-    (&[], &[("10.0.0.0", &[])], &[("10.0.0.0/8", false, &[], &[])]),
-    (
-        &[
-            "10.0.0.0/8",
-            "10.0.0.0/16",
-            "10.1.0.0/16",
-            "10.1.2.0/24",
-            "10.1.2.3/32",
-            "255.255.255.255/32",
-        ],
-        &[
-            ("0.0.0.0", &[]),
-            ("9.255.255.255", &[]),
-            ("10.0.0.0", &[0, 1]),
-            ("10.0.255.255", &[0, 1]),
-            ("10.1.0.0", &[0, 2]),
-            ("10.1.2.2", &[0, 2, 3]),
-            ("10.1.2.3", &[0, 2, 3, 4]),
-            ("10.1.2.4", &[0, 2, 3]),
-            ("10.1.3.0", &[0, 2]),
-            ("10.2.0.0", &[0]),
-            ("10.255.255.255", &[0]),
-            ("11.0.0.0", &[]),
-            ("255.255.255.254", &[]),
-            ("255.255.255.255", &[5]),
-        ],
-        &[],
-    ),
-    (
-        &["0.0.0.0/0", "10.0.0.0/8", "10.0.0.0/16", "10.0.1.0/24", "10.0.2.0/24", "10.1.0.0/16"],
-        &[
-            ("9.0.0.0", &[0]),
-            ("10.0.1.7", &[0, 1, 2, 3]),
-            ("10.0.2.0", &[0, 1, 2, 4]),
-            ("10.0.3.0", &[0, 1, 2]),
-            ("10.1.0.1", &[0, 1, 5]),
-            ("10.2.0.1", &[0, 1]),
-        ],
-        &[],
-    ),
-    (
-        &["10.0.0.0/8", "10.0.0.0/16", "10.1.0.0/16", "10.1.2.0/24", "11.0.0.0/8"],
-        &[],
-        &[
-            ("0.0.0.0/0", false, &[], &[0, 1, 2, 3, 4]),
-            ("10.0.0.0/8", true, &[0], &[0, 1, 2, 3]),
-            ("10.0.0.0/16", true, &[0, 1], &[1]),
-            ("10.1.0.0/16", true, &[0, 2], &[2, 3]),
-            ("10.1.2.0/23", false, &[0, 2], &[3]),
-            ("10.1.2.3/32", false, &[0, 2, 3], &[]),
-            ("12.0.0.0/8", false, &[], &[]),
-        ],
-    ),
-    (
-        &["10.0.0.0/8", "10.0.0.0/16", "10.0.1.0/24", "11.0.0.0/8"],
-        &[],
-        &[
-            ("10.0.0.0/8", true, &[0], &[0, 1, 2]),
-            ("10.0.0.0/16", true, &[0, 1], &[1, 2]),
-            ("10.0.1.0/24", true, &[0, 1, 2], &[2]),
-            ("11.0.0.0/8", true, &[3], &[3]),
-            ("0.0.0.0/0", false, &[], &[0, 1, 2, 3]),
-            ("10.0.0.0/7", false, &[], &[0, 1, 2, 3]),
-            ("10.0.0.0/12", false, &[0], &[1, 2]),
-            ("10.0.0.0/24", false, &[0, 1], &[]),
-            ("10.0.1.0/32", false, &[0, 1, 2], &[]),
-            ("12.0.0.0/8", false, &[], &[]),
-        ],
-    ),
-    (
-        &["10.0.0.0/8", "10.1.0.0/16", "10.1.2.0/24"],
-        &[],
-        &[
-            ("0.0.0.0/0", false, &[], &[0, 1, 2]),
-            ("10.0.0.0/7", false, &[], &[0, 1, 2]),
-            ("10.0.0.0/8", true, &[0], &[0, 1, 2]),
-            ("10.0.0.0/16", false, &[0], &[]),
-            ("10.1.0.0/16", true, &[0, 1], &[1, 2]),
-            ("10.1.2.0/23", false, &[0, 1], &[2]),
-            ("10.1.2.0/24", true, &[0, 1, 2], &[2]),
-            ("10.1.2.0/25", false, &[0, 1, 2], &[]),
-            ("10.1.2.3/32", false, &[0, 1, 2], &[]),
-            ("11.0.0.0/8", false, &[], &[]),
-        ],
-    ),
-    (
-        &["0.0.0.0/0", "10.0.0.0/8", "10.0.0.0/16", "10.0.0.0/24", "10.0.0.0/32"],
-        &[],
-        &[
-            ("0.0.0.0/0", true, &[0], &[0, 1, 2, 3, 4]),
-            ("10.0.0.0/7", false, &[0], &[1, 2, 3, 4]),
-            ("10.0.0.0/12", false, &[0, 1], &[2, 3, 4]),
-            ("10.0.0.0/16", true, &[0, 1, 2], &[2, 3, 4]),
-            ("10.0.0.0/31", false, &[0, 1, 2, 3], &[4]),
-            ("10.0.0.0/32", true, &[0, 1, 2, 3, 4], &[4]),
-        ],
-    ),
-];
-
-const IPV6: &'static [Told] = &[
-    (
-        &["::/0", "2001:db8::/32", "2001:db8::1/128"],
-        &[
-            ("::", &[0]),
-            ("2001:db8::", &[0, 1]),
-            ("2001:db8::1", &[0, 1, 2]),
-            ("2001:db8::2", &[0, 1]),
-            ("2001:db9::", &[0]),
-            ("ffff:ffff:ffff:ffff:ffff:ffff:ffff:ffff", &[0]),
-        ],
-        &[],
-    ),
-    (
-        &["2001:db8::/32", "2001:db8::/48", "2001:db8::1/128"],
-        &[
-            ("::", &[]),
-            ("2001:db8::1", &[0, 1, 2]),
-            ("2001:db8::2", &[0, 1]),
-            ("2001:db8:1::", &[0]),
-        ],
-        &[],
-    ),
-];
-
-/// Whether the networks that hold all of a query are those at these indices, in this order, from
-/// the other end in the reversed one, and the last of them is the longest.
-fn are_around<A: Address, Q: RouteQuery<A>>(
+/// The indices of the networks that hold all of a query; None where those from the other end, or
+/// the longest one, are others.
+fn around<A: Address, Q: RouteQuery<A>>(
+    alloc: Global,
     table: &FrozenRoutes<A, usize>,
     query: &Q,
-    indices: &[usize],
-) -> bool {
-    let around = table.common_prefixes(query).map(|(_, index)| index);
+) -> Option<Vec<usize>> {
+    let mut around = Vec::new(alloc);
+    for (_, index) in table.common_prefixes(query) {
+        around.push(*index).ok()?;
+    }
     let back = table.common_prefixes(query).rev().map(|(_, index)| index);
-    around.eq(indices.iter())
-        && back.eq(indices.iter().rev())
-        && index_of(table, query) == indices.last().copied()
+    let is_same = back.eq(around.iter().rev()) && index_of(table, query) == around.last().copied();
+    if is_same { Some(around) } else { None }
 }
 
-/// Whether a table answers so of an address.
-fn is_address_told<A: Address>(table: &FrozenRoutes<A, usize>, told: &OfAddress) -> bool {
-    match A::parse(told.0) {
-        Some(address) => are_around(table, &address, told.1),
+/// The indices of the networks within one; None where the calls for its own row, or for how many
+/// there are, tell otherwise.
+fn within<A: Address>(
+    alloc: Global,
+    table: &FrozenRoutes<A, usize>,
+    network: &Network<A>,
+) -> Option<Vec<usize>> {
+    let mut within = Vec::new(alloc);
+    for row in table.below(network) {
+        within.push(row.1).ok()?;
+    }
+    let own = match table.below(network).first() {
+        Some(row) if row.0 == *network => Some(&row.1),
+        _ => None,
+    };
+    let is_same = table.get(network) == own
+        && table.get_key_value(network).map(|row| row.1) == own
+        && table.contains_key(network) == own.is_some()
+        && table.count_below(network) == within.len();
+    if is_same { Some(within) } else { None }
+}
+
+/// Adds numbers, a space before each.
+fn add(text: &mut String, numbers: Vec<usize>) -> Option<()> {
+    for number in numbers {
+        write!(text, " {number}").ok()?;
+    }
+    Some(())
+}
+
+/// What a table answers of a query, as it stands behind it.
+fn answer<A: Address>(
+    alloc: Global,
+    table: &FrozenRoutes<A, usize>,
+    query: &str,
+) -> Option<String> {
+    let mut text = String::new(alloc);
+    if let Ok(network) = query.parse::<Network<A>>() {
+        add(&mut text, around(alloc, table, &network)?)?;
+        text.push_str(" /").ok()?;
+        add(&mut text, within(alloc, table, &network)?)?;
+    } else {
+        add(&mut text, around(alloc, table, &A::parse(query)?)?)?;
+    }
+    Some(text)
+}
+
+/// Whether a table has its rows from 0 to the last one.
+fn are_ends<A: Address>(table: &FrozenRoutes<A, usize>) -> bool {
+    let first = table.first_key_value().map(|row| *row.1);
+    let last = table.last_key_value().map(|row| *row.1);
+    last == table.len().checked_sub(1) && first == last.map(|_| 0)
+}
+
+/// Whether a table answers so of the query of a line.
+fn is_answered<A: Address>(alloc: Global, table: &FrozenRoutes<A, usize>, line: &str) -> bool {
+    match line.split_once(" =") {
+        Some((query, wanted)) => {
+            answer(alloc, table, query).is_some_and(|found| found.as_str() == wanted)
+        }
         None => false,
     }
 }
 
-/// Whether a table answers so of a network.
-fn is_network_told<A: Address>(table: &FrozenRoutes<A, usize>, told: &OfNetwork) -> bool {
-    let (text, is_stored, around, within) = told;
-    let Ok(network) = text.parse::<Network<A>>() else {
-        return false;
-    };
-    let own = if *is_stored { around.last() } else { None };
-    let below = table.below(&network).iter().map(|row| &row.1);
-    are_around(table, &network, around)
-        && table.get(&network) == own
-        && table.get_key_value(&network).map(|row| row.1) == own
-        && table.contains_key(&network) == *is_stored
-        && table.count_below(&network) == within.len()
-        && below.eq(within.iter())
-}
-
-/// Whether a table has its rows from 0 to the last one.
-fn are_ends<A: Address>(table: &FrozenRoutes<A, usize>, count: usize) -> bool {
-    let first = table.first_key_value().map(|row| *row.1);
-    let last = table.last_key_value().map(|row| *row.1);
-    last == count.checked_sub(1) && first == last.map(|_| 0)
-}
-
-/// Whether the table of these networks answers so.
-fn are_told<A: Address>(alloc: Global, told: &Told) -> Option<bool> {
-    let (networks, of_addresses, of_networks) = told;
+/// Whether the table of the first line has its rows from the first to the last one, and answers so
+/// of the queries of the others.
+fn are_answered<A: Address>(alloc: Global, lines: &str) -> Option<bool> {
+    let (networks, queries) = lines.split_once('\n')?;
     let table = pushed(alloc, rows_of::<A>(alloc, networks)?)?;
-    let are_addresses = of_addresses.iter().all(|row| is_address_told(&table, row));
-    let are_networks = of_networks.iter().all(|row| is_network_told(&table, row));
-    Some(are_addresses && are_networks && are_ends(&table, networks.len()))
+    let is_right = queries.lines().all(|line| is_answered(alloc, &table, line));
+    Some(is_right && are_ends(&table))
 }
 
 #[test]
 fn answers_of_small_tables(rt: HostRuntime) {
-    for told in IPV4 {
-        assert!(rt; are_told::<Ipv4Addr>(rt.alloc(), told) == Some(true));
+    for lines in IPV4.split("table").skip(1) {
+        assert!(rt;
+            are_answered::<Ipv4Addr>(rt.alloc(), lines) == Some(true),
+            "{lines}"
+        );
     }
-    for told in IPV6 {
-        assert!(rt; are_told::<Ipv6Addr>(rt.alloc(), told) == Some(true));
+    for lines in IPV6.split("table").skip(1) {
+        assert!(rt;
+            are_answered::<Ipv6Addr>(rt.alloc(), lines) == Some(true),
+            "{lines}"
+        );
     }
 }
 
-/// How many rows a table has that is made of these networks in room for so many, or why it isn't
-/// made, and how many come back.
-fn made_in_room(
+/// How many rows a table has that is made of these networks in room for so many, or in its own, or
+/// why it isn't made and how many come back.
+fn made(
     alloc: Global,
-    room: usize,
-    texts: &[&'static str],
-) -> Option<(Option<SortedWhy>, usize)> {
-    let room = Room::new(alloc, room).ok()?;
-    match FrozenRoutes::from_sorted_in(room, rows_of::<Ipv4Addr>(alloc, texts)?) {
-        Ok(table) => Some((None, table.len())),
-        Err(e) => Some((Some(e.why), e.back.len())),
-    }
-}
-
-/// The same of a table that takes its room itself.
-fn made(alloc: Global, texts: &[&'static str]) -> Option<(Option<SortedWhy>, usize)> {
-    match FrozenRoutes::from_sorted(rows_of::<Ipv4Addr>(alloc, texts)?) {
-        Ok(table) => Some((None, table.len())),
-        Err(e) => Some((Some(e.why), e.back.len())),
-    }
+    room: Option<usize>,
+    networks: &str,
+) -> Option<Result<usize, (SortedWhy, usize)>> {
+    let rows = rows_of::<Ipv4Addr>(alloc, networks)?;
+    let made = match room {
+        Some(room) => FrozenRoutes::from_sorted_in(Room::new(alloc, room).ok()?, rows),
+        None => FrozenRoutes::from_sorted(rows),
+    };
+    Some(match made {
+        Ok(table) => Ok(table.len()),
+        Err(e) => Err((e.why, e.back.len())),
+    })
 }
 
 #[test]
-fn rows_in_room_that_was_taken(rt: HostRuntime) {
-    const RISING: &'static [&'static str] = &["9.0.0.0/8", "10.0.0.0/8", "10.0.0.0/16"];
-    const FALLING: &'static [&'static str] = &["10.0.0.0/8", "9.0.0.0/8"];
-    const ROOMS: &'static [(usize, &'static [&'static str], Option<SortedWhy>)] = &[
-        (3, RISING, None),
-        (300, RISING, None),
-        (2, RISING, Some(SortedWhy::Full)),
-        (0, &[], None),
-        (2, FALLING, Some(SortedWhy::OutOfOrder(1))),
+fn refused_rows(rt: HostRuntime) {
+    const RISING: &'static str = "9.0.0.0/8 10.0.0.0/8 10.0.0.0/16";
+    const TWICE: &'static str = "9.0.0.0/8 10.0.0.0/8 10.0.0.0/8";
+    const FALLING: &'static str = "10.0.0.0/8 10.1.0.0/16 9.0.0.0/8 8.0.0.0/8";
+    const MADE: &'static [(
+        Option<usize>,
+        &'static str,
+        Result<usize, (SortedWhy, usize)>,
+    )] = &[
+        (Some(3), RISING, Ok(3)),
+        (Some(300), RISING, Ok(3)),
+        (Some(2), RISING, Err((SortedWhy::Full, 3))),
+        (Some(0), "", Ok(0)),
+        (Some(3), FALLING, Err((SortedWhy::OutOfOrder(2), 4))),
+        (
+            None,
+            "10.0.0.0/16 10.0.0.0/8",
+            Err((SortedWhy::OutOfOrder(1), 2)),
+        ),
+        (None, TWICE, Err((SortedWhy::OutOfOrder(2), 3))),
+        (None, FALLING, Err((SortedWhy::OutOfOrder(2), 4))),
     ];
-    for (room, texts, why) in ROOMS {
-        assert!(rt; made_in_room(rt.alloc(), *room, texts) == Some((*why, texts.len())), "{room}");
+    for (room, networks, wanted) in MADE {
+        assert!(rt;
+            made(rt.alloc(), *room, networks) == Some(*wanted),
+            "{networks}"
+        );
     }
-}
-
-#[test]
-fn networks_out_of_order(rt: HostRuntime) {
-    const TABLES: &'static [(&'static [&'static str], usize)] = &[
-        (&["10.0.0.0/16", "10.0.0.0/8"], 1),
-        (&["9.0.0.0/8", "10.0.0.0/8", "10.0.0.0/8"], 2),
-        (&["10.0.0.0/8", "10.1.0.0/16", "9.0.0.0/8", "8.0.0.0/8"], 2),
-    ];
-    for (texts, at) in TABLES {
-        let why = Some(SortedWhy::OutOfOrder(*at));
-        assert!(rt; made(rt.alloc(), texts) == Some((why, texts.len())), "{at}");
-        let rows = rows_of::<Ipv4Addr>(rt.alloc(), texts);
-        assert!(rt; rows.is_some_and(|rows| pushed(rt.alloc(), rows).is_none()), "{at}");
+    for networks in ["10.0.0.0/16 10.0.0.0/8", TWICE, FALLING] {
+        let rows = rows_of::<Ipv4Addr>(rt.alloc(), networks);
+        assert!(rt;
+            rows.is_some_and(|rows| pushed(rt.alloc(), rows).is_none()),
+            "{networks}"
+        );
     }
 }

@@ -1,4 +1,6 @@
 //! The calls: their names and words, and what each answers.
+ghost use Rattle.std.specs.Prelude.{◌≡◌};
+ghost use Rattle.trie_shell.specs.declared.help.TheConstants.{CALLS};
 
 use radix_trie::Memory;
 use shell_words::{Answer, NONE};
@@ -396,6 +398,18 @@ const GROUPS: &'static [Group] = &[
 const MORE: &'static str =
     "help GROUP lists a group's calls, help CALL explains one, and help all lists all of them.";
 
+/// The lines of all calls. A function that names the table has code of its own for each line.
+pub fn calls() -> &'static [&'static str]
+    ensures { result.now ≡ CALLS.now }
+{
+    CALLS
+}
+
+/// The groups of calls, likewise.
+fn groups() -> &'static [Group] {
+    GROUPS
+}
+
 /// The name of the call that a line tells of.
 fn name_of(line: &'static str) -> &'static str {
     match line.split_once([' ', '[', ':']) {
@@ -414,9 +428,9 @@ pub fn answer_help(answer: &mut Answer<'_>) -> Result<(), Memory> {
     let Some(meant) = answer.next_word() else {
         return answer_groups(answer);
     };
-    let group = GROUPS.iter().find(|group| group.name == meant);
+    let group = groups().iter().find(|group| group.name == meant);
     let mut is_none = true;
-    for line in CALLS {
+    for line in calls() {
         let name = name_of(*line);
         if meant == "all" || meant == name || group.is_some_and(|it| is_in(it, name)) {
             is_none = false;
@@ -428,7 +442,7 @@ pub fn answer_help(answer: &mut Answer<'_>) -> Result<(), Memory> {
 
 /// The groups, each with what it is for.
 fn answer_groups(answer: &mut Answer<'_>) -> Result<(), Memory> {
-    for group in GROUPS {
+    for group in groups() {
         answer.put(group.name.as_bytes())?;
         answer.put(b": ")?;
         answer.put(group.about.as_bytes())?;
@@ -441,7 +455,7 @@ fn answer_groups(answer: &mut Answer<'_>) -> Result<(), Memory> {
 pub fn answer_complete(answer: &mut Answer<'_>) -> Result<(), Memory> {
     let beginning = answer.next_word().unwrap_or("");
     let mut last = "";
-    for line in CALLS {
+    for line in calls() {
         let name = name_of(*line);
         if name != last && name.starts_with(beginning) {
             last = name;

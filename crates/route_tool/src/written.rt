@@ -17,7 +17,7 @@ use std::fmt::Write;
 const LONGEST: usize = 43;
 
 /// Adds a number and a line feed.
-pub fn add_count(out: &mut Vec<u8>, count: u128) -> Result<(), AllocError>
+pub(crate) fn add_count(out: &mut Vec<u8>, count: u128) -> Result<(), AllocError>
     ensures text { OnOk result (out.new.items ≡ out.old.items ++ count_answer count) }
     ensures kept { IsPrefix out.old.items out.new.items }
 {
@@ -26,7 +26,7 @@ pub fn add_count(out: &mut Vec<u8>, count: u128) -> Result<(), AllocError>
 }
 
 /// Adds a hop and a line feed.
-pub fn add_hop(out: &mut Vec<u8>, hop: &Hop) -> Result<(), AllocError>
+pub(crate) fn add_hop(out: &mut Vec<u8>, hop: &Hop) -> Result<(), AllocError>
     ensures text { OnOk result (out.new.items ≡ out.old.items ++ hop.now ++ 10 ∷ []) }
     ensures kept { IsPrefix out.old.items out.new.items }
 {
@@ -65,7 +65,7 @@ fn add_network<A: Address>(out: &mut Vec<u8>, network: &Network<A>) -> Result<()
 }
 
 /// Adds a network, a space and its hop.
-pub fn add_row<A: Address>(
+pub(crate) fn add_row<A: Address>(
     out: &mut Vec<u8>,
     network: &Network<A>,
     hop: &Hop,
@@ -80,7 +80,7 @@ pub fn add_row<A: Address>(
 }
 
 /// Adds each route.
-pub fn add_rest<A: Address>(out: &mut Vec<u8>, rest: Rest<'_, A>) -> Result<(), Memory>
+pub(crate) fn add_rest<A: Address>(out: &mut Vec<u8>, rest: Rest<'_, A>) -> Result<(), Memory>
     ensures text { OnOk result
         (out.new.items ≡ out.old.items ++ flat_map (row A.text) rest.entry) }
     ensures kept { IsPrefix out.old.items out.new.items }
@@ -107,7 +107,7 @@ fn add_addition<A: Address>(
 }
 
 /// Adds such a line for each route.
-pub fn add_additions<A: Address>(out: &mut Vec<u8>, rest: Rest<'_, A>) -> Result<(), Memory>
+pub(crate) fn add_additions<A: Address>(out: &mut Vec<u8>, rest: Rest<'_, A>) -> Result<(), Memory>
     ensures text { OnOk result (out.new.items
         ≡ out.old.items ++ flat_map (λ r. addition A.text r ++ 10 ∷ []) rest.entry) }
     ensures kept { IsPrefix out.old.items out.new.items }
@@ -120,7 +120,7 @@ pub fn add_additions<A: Address>(out: &mut Vec<u8>, rest: Rest<'_, A>) -> Result
 }
 
 /// Adds each row.
-pub fn add_rows<A: Address>(
+pub(crate) fn add_rows<A: Address>(
     out: &mut Vec<u8>,
     rows: &[(Network<A>, &Hop)],
 ) -> Result<(), AllocError>

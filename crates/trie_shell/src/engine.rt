@@ -24,7 +24,7 @@ use std::rt::Files;
 /// and the system's files. A contract sees the current trie, where its keys are texts, failures
 /// aren't told, and no view is open.
 #[derive(Drop)]
-pub struct Shell<F: Files + AllocGlobal + Drop> {
+pub(crate) struct Shell<F: Files + AllocGlobal + Drop> {
     files: F,
     tries: Tries,
     kind: Kind,
@@ -47,7 +47,7 @@ impl<F: Files + AllocGlobal + Drop> Model for Shell<F> {
 
 impl<F: Files + AllocGlobal + Drop> Shell<F> {
     /// A shell with one trie of texts, which holds nothing.
-    pub fn new(files: F, is_coloured: bool) -> Shell<F>
+    pub(crate) fn new(files: F, is_coloured: bool) -> Shell<F>
         ensures { result ≡ Some map.empty }
     {
         Shell {
@@ -74,7 +74,11 @@ impl<F: Files + AllocGlobal + Drop> Shell<F> {
     }
 
     /// Answers a line that asks for something, behind the answers that wait.
-    pub fn answer(&mut self, request: Request<'_>, answers: &mut Vec<u8>) -> Result<(), Refusal>
+    pub(crate) fn answer(
+        &mut self,
+        request: Request<'_>,
+        answers: &mut Vec<u8>,
+    ) -> Result<(), Refusal>
         ensures refused { IfErr result (λ why. why ≡ Refusal.Memory) }
         ensures left { OnErr result (HaltsAt (asked request.entry) self.old self.new) }
         ensures kept { Begins answers.old.items answers.new.items }
@@ -150,7 +154,7 @@ impl<F: Files + AllocGlobal + Drop> Shell<F> {
 }
 
 /// Adds bytes. An allocation that fails is tried a second time.
-pub fn add(out: &mut Vec<u8>, bytes: &[u8]) -> Result<(), AllocError>
+pub(crate) fn add(out: &mut Vec<u8>, bytes: &[u8]) -> Result<(), AllocError>
     ensures added { OnOk result (out.new.items ≡ out.old.items ++ bytes.now) }
     ensures kept { Begins out.old.items out.new.items }
 {

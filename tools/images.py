@@ -1,6 +1,5 @@
 """Images, written by their format alone (docs/IMAGES.md), for the checks of what reads and writes them."""
 import bisect
-import ipaddress
 import struct
 
 ROWS, CELLS, PAYLOAD, MAP = 1, 2, 3, 4

@@ -8,11 +8,10 @@ import hashlib
 import os
 import re
 import shutil
-import tempfile
 
 from programs import PAGES
 from sessions import sessions_of
-from shared import ROOT, Refused, put_bytes, ran, text_of, uses_of_crates
+from shared import ROOT, said_by, text_of, uses_of_crates, write_text
 
 FOLDER = "docs/pictures"
 ROWS, TABLE = f"{FOLDER}/rows.txt", f"{FOLDER}/table.md"
@@ -129,17 +128,11 @@ def mark(place, told):
     return f"<!-- {total} -->\n" if place.endswith(".svg") else f'.\\" {total}\n'
 
 
-def put(place, text):
-    os.makedirs(os.path.dirname(f"{ROOT}/{place}"), exist_ok=True)
-    with tempfile.TemporaryDirectory(dir=os.path.dirname(f"{ROOT}/{place}"), prefix=".made-") as room:
-        put_bytes(text.encode(), f"{ROOT}/{place}", room)
-
-
 def wrong_table(is_written):
     """Where the table isn't of the rows, or a page doesn't quote it."""
     made = table(rows())
     if is_written:
-        put(TABLE, made)
+        write_text(TABLE, made)
     elif made != text_of(TABLE):
         yield f"{TABLE}: it isn't of {ROWS}"
     for page in ("README.md", "docs/BENCHMARKS.md"):
@@ -156,7 +149,4 @@ def wrong(is_written):
         if not is_written or not shutil.which(words[0]):
             yield f"{place}: it isn't of its source; tools/texts --write makes it, by {words[0]}"
             continue
-        made = ran(words, told.encode(), text=True)
-        if made.returncode:
-            raise Refused(f"{words[0]}: {made.stderr}")
-        put(place, made.stdout + mark(place, told))
+        write_text(place, said_by(words, told.encode()) + mark(place, told))

@@ -5,7 +5,8 @@ import os
 import shutil
 import subprocess
 
-from shared import ROOT, Refused, below, bytes_of, files_in, ran, read_text, started, sum_of, take_turn, uses_of_crates
+from shared import ROOT, Refused, below, bytes_of, files_in, ran, read_text, said_by, started, sum_of, take_turn
+from shared import uses_of_crates
 
 PAGES = {"trie_tool": "docs/PROGRAM.md", "route_tool": "docs/ROUTES.md", "trie_shell": "docs/SHELL.md"}
 SHELL = "trie_shell"
@@ -127,10 +128,7 @@ def over_built(kit, top, crate, uses):
 
 def kit_folder():
     """The toolchain's folder."""
-    found = ran(["rt", "doc"], text=True)
-    if found.returncode:
-        raise Refused(f"rt doc: {found.stderr.strip()}")
-    return os.path.dirname(found.stdout.strip())
+    return os.path.dirname(said_by(["rt", "doc"]).strip())
 
 
 def build_archives(top):

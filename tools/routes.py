@@ -1,10 +1,9 @@
 """A routing table as a plain list, and random lines about it, for the checks of route_tool."""
 import ipaddress
-import os
 import random
 from typing import NamedTuple
 
-from shared import ROOT, Refused, built, check_use, ran, read_text
+from shared import ROOT, built, check_use, need, ran, read_text
 
 WIDTHS = {4: 32, 6: 128}
 PROGRAM = built("route_tool")
@@ -206,6 +205,5 @@ def answers(lines, program=PROGRAM):
 def seed_of(words):
     """The seed that a script is started with, or 1. It needs the program."""
     check_use(len(words) <= 1 and all(it.isascii() and it.isdigit() for it in words))
-    if not os.access(PROGRAM, os.X_OK):
-        raise Refused(f"{PROGRAM} isn't there: ./check or ./route_tool builds it")
+    need("route_tool")
     return int(words[0]) if words else 1

@@ -90,6 +90,13 @@ def put_bytes(text, to, room, mode=0o644):
     os.replace(f"{room}/file", to)
 
 
+def write_text(path, text):
+    """Has a file of this checkout hold this text. One that stands there keeps its mode."""
+    os.makedirs(os.path.dirname(f"{ROOT}/{path}"), exist_ok=True)
+    with tempfile.TemporaryDirectory(dir=ROOT, prefix=".made-") as room:
+        put_bytes(text.encode(), f"{ROOT}/{path}", room, None)
+
+
 def sweep(folder):
     """Removes the room in a folder that a run which was killed has left."""
     shutil.rmtree(f"{folder}/{ROOM}", ignore_errors=True)
@@ -212,9 +219,23 @@ def ran(words, given=None, seconds=None, **how):
     return subprocess.CompletedProcess(words, process.returncode, said, told)
 
 
+def said_by(words, given=None, **how):
+    """The text that a process writes, which has to end well."""
+    found = ran(words, given, text=True, errors="replace", **how)
+    if found.returncode:
+        raise Refused(f"{' '.join(words)}: status {found.returncode}\n{found.stdout[-2000:]}{found.stderr[-2000:]}")
+    return found.stdout
+
+
 def built(name, ending=""):
     """The path of a program, as `rt ci` or its launcher built it, or in the folder PROGRAMS."""
     return os.path.abspath(f"{os.environ.get('PROGRAMS') or f'{ROOT}/crates/{name}/out'}/{name}{ending}")
+
+
+def need(*names):
+    """Refuses to go on where one of these programs isn't built."""
+    for path in (it for it in map(built, names) if not os.access(it, os.X_OK)):
+        raise Refused(f"{path} isn't there: ./check builds it, or in its crate's folder rt run")
 
 
 def surroundings_of(**changed):

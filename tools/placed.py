@@ -1,10 +1,11 @@
 """Files of a script's own below a folder, by the sums in its manifest: no other file is replaced or removed."""
 import contextlib
 import hashlib
+import itertools
 import os
 import sys
 
-from shared import Refused, bytes_of, put_bytes, remove_empty, room_in, take_turn
+from shared import Refused, bytes_of, check_use, put_bytes, remove_empty, room_in, sum_of, sweep, take_turn
 
 
 def standing(path):
@@ -45,11 +46,20 @@ def row(place, found):
     return f'"{place}": "{found}"'
 
 
+def rows_of(manifest):
+    # Earlier versions wrote the rows of a manifest as JSON.
+    return {it.strip(" ,") for it in (bytes_of(manifest) or b"").decode(errors="surrogateescape").split("\n")}
+
+
+def listed(manifest, tops):
+    """The places below these folders that a manifest names."""
+    places = (it.split('"')[1] for it in rows_of(manifest) if it.count('"') == 4)
+    return [it for it in places if it == os.path.normpath(it) and it.startswith(tops)]
+
+
 def strange(manifest, there, new):
     """Of places, each with the sum of what is there, those where that is neither what was put there nor new."""
-    text = (bytes_of(manifest) or b"").decode(errors="surrogateescape")
-    # Earlier versions wrote the rows of a manifest as JSON.
-    known = {it.strip(" ,") for it in text.split("\n")} | {row(*it) for it in new.items()}
+    known = rows_of(manifest) | {row(*it) for it in new.items()}
     return [place for place, found in there.items() if not found or row(place, found) not in known]
 
 
@@ -63,3 +73,33 @@ def put(prefix, manifest, known, made):
         put_bytes("\n".join(sorted(rows)).encode(errors="surrogateescape"), f"{prefix}/{manifest}", room)
         for place, mode, text in made:
             put_bytes(text, f"{prefix}/{place}", room, mode)
+
+
+def put_or_remove(script, words, manifest, places, texts_of, own=(), tops=()):
+    """Does what a script is asked for by `[--remove] PREFIX`: puts files at these places, of which the function makes
+    the modes and the bytes in this order, and takes away what was put elsewhere below the tops, or all. The folder of
+    the manifest and these other ones are the script's own, and go where they are empty."""
+    is_removal = words[:1] == ["--remove"]
+    check_use(len(words) == 1 + is_removal and words[-1] and not words[-1].startswith("-"))
+    prefix, own = os.path.abspath(words[-1]), (os.path.dirname(manifest), *own)
+    if is_removal and not os.path.isdir(f"{prefix}/{own[0]}"):
+        print(f"{script}: nothing is {os.path.basename(manifest)} in {prefix}")
+        return
+    new = [] if is_removal else places
+    with folder(prefix, [] if is_removal else [*places, manifest]):
+        hold(script, [prefix])
+        known = sorted({*places, *listed(f"{prefix}/{manifest}", tops)})
+        there = {it: sum_of(f"{prefix}/{it}") for it in known if os.path.lexists(f"{prefix}/{it}")}
+        if others := strange(f"{prefix}/{manifest}", there, {}):
+            raise Refused(f"{prefix}: {', '.join(others)} is not what was put there: nothing was touched")
+        if is_removal:
+            sweep(f"{prefix}/{own[0]}")
+        else:
+            put(prefix, manifest, there.items(), [(place, *it) for place, it in zip(places, texts_of(prefix))])
+        gone = [*(there.keys() - {*new}), *[manifest] * is_removal]
+        for place in gone:
+            with contextlib.suppress(FileNotFoundError):
+                os.remove(f"{prefix}/{place}")
+        for at, it in itertools.product({*map(os.path.dirname, gone), *own}, own):
+            remove_empty(f"{prefix}/{at}", os.path.dirname(f"{prefix}/{it}"))
+    print("".join(f"{script}: {prefix}/{it}\n" for it in new), end="")

@@ -70,10 +70,12 @@ class Exchange:
 
 
 class Session:
-    """A session's name and its lines of input, with what is to be written."""
+    """A session's name and its lines of input, with what is to be written; or a text of lines alone."""
 
-    def __init__(self, name):
-        self.name, self.exchanges, self.latest, self.times, self.words, self.files = name, [], 0, 1, [], {}
+    def __init__(self, name, text=None, words=(), files=()):
+        self.name, self.exchanges, self.latest, self.times, self.words, self.files = name, [], 0, 1, words, dict(files)
+        if text is not None:
+            self.text = text
 
     def add_plain(self, line):
         """Reads one more line of a session in which each line stands for itself."""
@@ -112,7 +114,7 @@ class Session:
     def in_place(self, text):
         """What is run in place of this session: the same, with another text."""
         found = copy.copy(self)
-        found.__dict__["text"] = text
+        found.text = text
         return found
 
     def outcome(self, brought=None, has_ended=True):

@@ -1,4 +1,5 @@
 """The declarations of what nifazombi_c exports, for C, Rust and Python, as its sources have them."""
+import functools
 import re
 
 from shared import text_of
@@ -6,7 +7,7 @@ from sources import paths
 
 CRATE, HEADER, RUST = "crates/nifazombi_c", "bindings/c/nifazombi.h", "bindings/rust/src/exports.rs"
 PYTHON = "bindings/python/nifazombi/_exports.py"
-# The structs that callers pass stand there, and in these sources of the libraries below, each by the module of its calls.
+# The structs that callers pass stand there, and in these sources of the libraries below, by the modules of their calls.
 BELOW = {"ipv4": "crates/flat_routes/src/ipv4.rt", "ipv6": "crates/flat_routes/src/ipv6.rt",
          "texts": "crates/flat_texts/src/pair.rt"}
 DOCUMENTED = r"((?:^///.*\n)+)"
@@ -14,18 +15,29 @@ EXPORT = re.compile(DOCUMENTED + r'^#\[unsafe\(no_mangle\)\]\npub extern "C" fn 
 STRUCT = re.compile(DOCUMENTED +
                     r"^#\[repr\(C\)\]\n(?:#\[.*\]\n)*pub struct (\w+)(?:<'a>)? \{\n((?:    .*\n)*)\}", re.M)
 CONSTANT = re.compile(DOCUMENTED + r"^pub const (\w+): u32 = (\d+);", re.M)
-FIELD = re.compile(r"^    pub (\w+): (.+),$", re.M)
-# A parameter that points: whether it may be written to, whether it is a slice, and of what it is.
-POINTER = re.compile(r"&(mut )?(?:\[(\[u8; \d+\]|[\w<>'_]+)\]|(\[u8; \d+\]|[\w<>'_]+))")
+FIELD = re.compile(r"^    pub (\w+: .+),$", re.M)
 OCTETS = re.compile(r"\[u8; (\d+)\]")
-NUMBERS = {"u8": "uint8_t", "u32": "uint32_t", "u64": "uint64_t", "usize": "size_t", "bool": "bool"}
+# What C and Python call Rust's own types.
+NUMBERS = {"u8": ("uint8_t", "c_uint8"), "u32": ("uint32_t", "c_uint32"), "u64": ("uint64_t", "c_uint64"),
+           "usize": ("size_t", "c_size_t"), "bool": ("bool", "c_bool")}
 HEAD = """// Made by `tools/texts --write` of the sources of crates/nifazombi_c.
 //
 // Tables in one run of bytes, searched where they lie. Each call takes any bytes whatever, ends, and reads only inside
 // them; nothing is allocated, and nothing is kept between two calls. A pointer may be anything where its length is 0.
 // What a call only reads, nobody may write to during the call, and what it writes to is of no use to anybody else.
 """
-# A key and a value: C has a pointer and a length where Rust has a slice, which is borrowed as long as the pair is there.
+C_HEAD = """#ifndef NIFAZOMBI_H
+#define NIFAZOMBI_H
+
+#include <stdbool.h>
+#include <stddef.h>
+#include <stdint.h>
+
+#ifdef __cplusplus
+extern "C" {
+#endif
+"""
+# A key and a value: C has a pointer and a length where Rust has a slice, borrowed as long as the pair is there.
 LENT = """pub(crate) struct {name}<'a> {{
 {rows}    lent: PhantomData<&'a [u8]>,
 }}
@@ -52,24 +64,44 @@ from ctypes import POINTER, Structure, c_bool, c_size_t, c_uint8, c_uint32, c_ui
 """
 
 
-def sources():
-    own = {re.search(r"(\w+)\.rt", it)[1]: it for it in paths(f"{CRATE}/src/*.rt")}
-    return [(module, text_of(it)) for module, it in (*BELOW.items(), *own.items())]
+class Passed:
+    """A field or a parameter: its name and its kind, and of that whether it points, to a slice or not, whether it may
+    be written to, of how many octets it is, if of these alone, and what C, Rust and Python call what it is of."""
 
+    def __init__(self, text, module, structs):
+        self.name, self.kind = text.strip().split(": ", 1)
+        self.inner = re.sub("^&(?:'a )?(?:mut )?", "", self.kind)
+        self.points, self.is_written = self.inner != self.kind, self.kind.startswith("&mut ")
+        self.is_slice = self.inner.startswith("[") and not OCTETS.fullmatch(self.inner)
+        self.inner = self.inner[1:-1] if self.is_slice else self.inner
+        self.octets, of = OCTETS.fullmatch(self.inner), self.inner.partition("<")[0]
+        if not self.octets and of not in NUMBERS:
+            home = module if (module, of) in structs else next(at for at, it in structs if it == of)
+            self.c, self.python = c_name(home, of), rust_name(home, of)
+            self.kind, self.inner = (it.replace(of, self.python) for it in (self.kind, self.inner))
+        elif not self.octets:
+            self.c, self.python = NUMBERS[of]
 
-def comment(lines, by):
-    """A comment's lines with another beginning."""
-    return re.sub(r"^/// ?", by, lines, flags=re.M).replace(f"{by}\n", f"{by.rstrip()}\n")
+    def in_c(self):
+        """Its declarations in C: a slice is a pointer and a length."""
+        access = "const " if self.points and not self.is_written else ""
+        array = f"(*{self.name})" if self.is_slice else self.name
+        text = f"uint8_t {array}[{self.octets[1]}]" if self.octets else f"{self.c} {'*' * self.points}{self.name}"
+        return [access + text, *[f"size_t {self.name}_len"] * self.is_slice]
 
+    def in_rust(self):
+        """How a declaration in Rust has it, and what is passed there."""
+        pointer = f"{self.name}: *{'mut' if self.is_written else 'const'} {self.inner}"
+        if self.is_slice:
+            at = f"{self.name}.as_{'mut_' if self.is_written else ''}ptr()"
+            return [(pointer, at), (f"{self.name}_len: usize", f"{self.name}.len()")]
+        return [(pointer if self.points else f"{self.name}: {self.kind}", self.name)]
 
-def structs():
-    """Each struct by its module and its name: its comment and its fields."""
-    return {(module, it[2]): (it[1], FIELD.findall(it[3])) for module, text in sources() for it in STRUCT.finditer(text)}
-
-
-def owner(module, name, known):
-    """The module that declares a struct which a module names."""
-    return module if (module, name) in known else next(at for at, it in known if it == name)
+    def in_python(self):
+        """What ctypes calls it."""
+        if self.is_slice or self.octets:
+            return ["c_void_p", *["c_size_t"] * self.is_slice] if self.points else [f"c_uint8 * {self.octets[1]}"]
+        return [f"POINTER({self.python})" if self.points else self.python]
 
 
 def c_name(module, name):
@@ -80,33 +112,23 @@ def rust_name(module, name):
     return name if module == "results" else f"{module.capitalize()}{name}"
 
 
-def c_type(kind, module, known):
-    kind = kind.removesuffix("<'_>")
-    return NUMBERS.get(kind) or c_name(owner(module, kind, known), kind)
+@functools.cache
+def declared():
+    """The constants, the structs and the exports of all sources, each with its comment."""
+    own = {re.search(r"(\w+)\.rt", it)[1]: it for it in paths(f"{CRATE}/src/*.rt")}
+    texts = [(module, text_of(it)) for module, it in (*BELOW.items(), *own.items())]
+    known = [(module, it[2]) for module, text in texts for it in STRUCT.finditer(text)]
+    constants = [it for _, text in texts for it in CONSTANT.findall(text)]
+    structs = [(lines, module, name, [Passed(it, module, known) for it in FIELD.findall(rows)])
+               for module, text in texts for lines, name, rows in STRUCT.findall(text)]
+    exports = [(lines, name, [Passed(it, module, known) for it in passed.split(",") if it.strip()], result)
+               for module, text in texts for lines, name, passed, result in EXPORT.findall(text)]
+    return constants, structs, exports
 
 
-def c_field(name, kind, module, known):
-    octets = OCTETS.fullmatch(kind)
-    if octets:
-        return f"uint8_t {name}[{octets[1]}]"
-    if kind == "&'a [u8]":
-        return f"const uint8_t *{name};\n    size_t {name}_len"
-    return f"{c_type(kind, module, known)} {name}"
-
-
-def parameters(text):
-    return [tuple(it.strip().split(": ", 1)) for it in text.replace("\n", " ").split(",") if it.strip()]
-
-
-def c_parameter(name, kind, module, known):
-    form = POINTER.fullmatch(kind)
-    if not form:
-        return c_type(kind, module, known) + f" {name}"
-    access, octets = "" if form[1] else "const ", OCTETS.fullmatch(form[2] or form[3])
-    if octets and form[3]:
-        return f"{access}uint8_t {name}[{octets[1]}]"
-    pointer = f"uint8_t (*{name})[{octets[1]}]" if octets else f"{c_type(form[2] or form[3], module, known)} *{name}"
-    return access + pointer + (f", size_t {name}_len" if form[2] else "")
+def comment(lines, by):
+    """A comment's lines with another beginning."""
+    return re.sub(r"^/// ?", by, lines, flags=re.M).replace(f"{by}\n", f"{by.rstrip()}\n")
 
 
 def folded(head, items):
@@ -116,97 +138,50 @@ def folded(head, items):
 
 
 def header():
-    known, made = structs(), [HEAD, "#ifndef NIFAZOMBI_H\n#define NIFAZOMBI_H\n\n#include <stdbool.h>\n#include <stddef.h>\n"
-                              "#include <stdint.h>\n\n#ifdef __cplusplus\nextern \"C\" {\n#endif\n"]
-    for _, text in sources():
-        for lines, name, number in CONSTANT.findall(text):
-            made.append(f"{comment(lines, '// ')}#define {name} {number}\n")
-    for (module, name), (lines, fields) in known.items():
-        rows = "".join(f"    {c_field(*it, module, known)};\n" for it in fields)
+    """The header for C."""
+    (constants, structs, exports), made = declared(), [HEAD, C_HEAD]
+    for lines, name, number in constants:
+        made.append(f"{comment(lines, '// ')}#define {name} {number}\n")
+    for lines, module, name, fields in structs:
+        rows = "".join(f"    {row};\n" for it in fields for row in it.in_c())
         made.append(f"{comment(lines, '// ')}typedef struct {{\n{rows}}} {c_name(module, name)};\n")
-    for module, text in sources():
-        for lines, name, passed, result in EXPORT.findall(text):
-            kind = NUMBERS[result] if result else "void"
-            items = [c_parameter(*it, module, known) for it in parameters(passed)]
-            made.append(f"{comment(lines, '// ')}{folded(f'{kind} {name}', items)};\n")
+    for lines, name, passed, result in exports:
+        head = f"{NUMBERS[result][0] if result else 'void'} {name}"
+        made.append(f"{comment(lines, '// ')}{folded(head, [', '.join(it.in_c()) for it in passed])};\n")
     return "\n".join([*made, "#ifdef __cplusplus\n}\n#endif\n\n#endif\n"])
 
 
-def rust_type(kind, module, known):
-    name = re.sub(r"&(?:mut |'\w+ )?|[\[\]]|<'\w>|; \d+", "", kind)
-    return kind if name in NUMBERS else kind.replace(name, rust_name(owner(module, name, known), name))
-
-
-def rust_field(name, kind, module, known):
-    if kind == "&'a [u8]":
-        return f"    {name}: *const u8,\n    {name}_len: usize,\n"
-    return f"    pub(crate) {name}: {rust_type(kind, module, known)},\n"
-
-
-def rust_passed(name, kind, module, known):
-    """A parameter of an export: how it is declared, and what is passed."""
-    form = POINTER.fullmatch(kind)
-    if not form:
-        return [(f"{name}: {kind}", name)]
-    pointer = f"*{'mut' if form[1] else 'const'} {rust_type(form[2] or form[3], module, known)}"
-    if not form[2]:
-        return [(f"{name}: {pointer}", name)]
-    at = f"{name}.as_{'mut_' if form[1] else ''}ptr()"
-    return [(f"{name}: {pointer}", at), (f"{name}_len: usize", f"{name}.len()")]
-
-
 def rust():
-    known, made, declared = structs(), [RUST_HEAD], []
-    for _, text in sources():
-        made += [f"pub(crate) const {it[1].removeprefix('NIFAZOMBI_')}: u32 = {it[2]};\n" for it in CONSTANT.findall(text)]
-    for (module, name), (lines, fields) in known.items():
-        own, is_lent = rust_name(module, name), any("'a" in kind for _, kind in fields)
-        rows = "".join(rust_field(*it, module, known) for it in fields)
-        derived = "Clone, Copy, Debug" if is_lent else "Clone, Copy, Debug, Default"
-        made.append(f"{comment(lines, '/// ')}#[repr(C)]\n#[derive({derived})]\n" + (
-            LENT.format(name=own, rows=rows) if is_lent else f"pub(crate) struct {own} {{\n{rows}}}\n"))
-    for module, text in sources():
-        for lines, name, passed, result in EXPORT.findall(text):
-            back = f" -> {result}" if result else ""
-            each = [it for one in parameters(passed) for it in rust_passed(*one, module, known)]
-            declared.append(f"    safe fn {name}({', '.join(it for it, _ in each)}){back};\n")
-            taken = [f"{it}: {rust_type(kind, module, known)}" for it, kind in parameters(passed)]
-            own = name.removeprefix("nifazombi_")
-            made.append(f"{comment(lines, '/// ')}#[inline]\npub(crate) fn {own}({', '.join(taken)}){back} {{\n"
-                        f"    {name}({', '.join(it for _, it in each)})\n}}\n")
-    made.insert(1, 'unsafe extern "C" {\n' + "".join(declared) + "}\n")
-    return "\n".join(made)
-
-
-def python_type(kind, module, known):
-    """What ctypes calls a type, as one or more: a slice is a pointer and a length."""
-    form, octets = POINTER.fullmatch(kind.replace("'a ", "")), OCTETS.fullmatch(kind)
-    if octets:
-        return [f"c_uint8 * {octets[1]}"]
-    if form and (form[2] or OCTETS.fullmatch(form[3])):
-        return ["c_void_p", "c_size_t"][: 2 if form[2] else 1]
-    name = form[3] if form else kind
-    plain = NUMBERS.get(name)
-    own = f"c_{plain.removesuffix('_t')}" if plain and plain.startswith("uint") else {"bool": "c_bool", "size_t": "c_size_t"}.get(plain)
-    own = own or rust_name(owner(module, name, known), name)
-    return [f"POINTER({own})"] if form else [own]
+    """The declarations for Rust, and the calls behind them."""
+    (constants, structs, exports), made, safe = declared(), [], []
+    made += [f"pub(crate) const {name.removeprefix('NIFAZOMBI_')}: u32 = {number};\n" for _, name, number in constants]
+    for lines, module, name, fields in structs:
+        own, is_lent = rust_name(module, name), any(it.is_slice for it in fields)
+        rows = [f"    {'' if it.is_slice else 'pub(crate) '}{row},\n" for it in fields for row, _ in it.in_rust()]
+        form, derived = (LENT, "") if is_lent else ("pub(crate) struct {name} {{\n{rows}}}\n", ", Default")
+        made.append(f"{comment(lines, '/// ')}#[repr(C)]\n#[derive(Clone, Copy, Debug{derived})]\n"
+                    + form.format(name=own, rows="".join(rows)))
+    for lines, name, passed, result in exports:
+        back, each = f" -> {result}" if result else "", [it for one in passed for it in one.in_rust()]
+        safe.append(f"    safe fn {name}({', '.join(it for it, _ in each)}){back};\n")
+        own, taken = name.removeprefix("nifazombi_"), ", ".join(f"{it.name}: {it.kind}" for it in passed)
+        made.append(f"{comment(lines, '/// ')}#[inline]\npub(crate) fn {own}({taken}){back} {{\n"
+                    f"    {name}({', '.join(it for _, it in each)})\n}}\n")
+    return "\n".join([RUST_HEAD, f'unsafe extern "C" {{\n{"".join(safe)}}}\n', *made])
 
 
 def python():
-    known, made = structs(), [PYTHON_HEAD]
-    for _, text in sources():
-        made += [f"{it[1].removeprefix('NIFAZOMBI_')} = {it[2]}" for it in CONSTANT.findall(text)]
-    for (module, name), (lines, fields) in known.items():
-        rows = [(f'"{it}"', f'"{it}_len"') for it, _ in fields]
-        kinds = [python_type(kind, module, known) for _, kind in fields]
-        each = [f"({it}, {kind})" for names, own in zip(rows, kinds) for it, kind in zip(names, own)]
-        made.append(f"\n\nclass {rust_name(module, name)}(Structure):\n    _fields_ = [{', '.join(each)}]")
+    """The declarations for Python's ctypes."""
+    (constants, structs, exports), made = declared(), [PYTHON_HEAD]
+    made += [f"{name.removeprefix('NIFAZOMBI_')} = {number}" for _, name, number in constants]
+    for _, module, name, fields in structs:
+        each = [pair for it in fields for pair in zip((f'"{it.name}"', f'"{it.name}_len"'), it.in_python())]
+        rows = ", ".join(f"({it}, {kind})" for it, kind in each)
+        made.append(f"\n\nclass {rust_name(module, name)}(Structure):\n    _fields_ = [{rows}]")
     made.append("\n\n# The name of each export, its result and its parameters.\nEXPORTS = [")
-    for module, text in sources():
-        for _, name, passed, result in EXPORT.findall(text):
-            kinds = [it for _, kind in parameters(passed) for it in python_type(kind, module, known)]
-            back = python_type(result, module, known)[0] if result else "None"
-            made.append(f'    ("{name}", {back}, [{", ".join(kinds)}]),')
+    for _, name, passed, result in exports:
+        kinds = ", ".join(kind for it in passed for kind in it.in_python())
+        made.append(f'    ("{name}", {NUMBERS[result][1] if result else None}, [{kinds}]),')
     return "\n".join([*made, "]\n"])
 
 

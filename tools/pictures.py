@@ -128,21 +128,14 @@ def mark(place, told):
     return f"<!-- {total} -->\n" if place.endswith(".svg") else f'.\\" {total}\n'
 
 
-def wrong_table(is_written):
-    """Where the table isn't of the rows, or a page doesn't quote it."""
-    made = table(rows())
-    if is_written:
+def wrong(is_written):
+    """What isn't of its sources as they stand, which is written where it is to be and the program is there."""
+    made = table(rows()) if is_measured() else text_of(TABLE)
+    if made != text_of(TABLE) and is_written:
         write_text(TABLE, made)
     elif made != text_of(TABLE):
         yield f"{TABLE}: it isn't of {ROWS}"
-    for page in ("README.md", "docs/BENCHMARKS.md"):
-        if made not in text_of(page):
-            yield f"{page}: it doesn't quote {TABLE}"
-
-
-def wrong(is_written):
-    """What isn't of its sources as they stand, which is written where it is to be and the program is there."""
-    yield from wrong_table(is_written) if is_measured() else ()
+    yield from (f"{it}: it doesn't quote {TABLE}" for it in ("README.md", "docs/BENCHMARKS.md") if made not in text_of(it))
     for place, words, told in sources():
         if os.path.isfile(f"{ROOT}/{place}") and text_of(place).endswith(mark(place, told)):
             continue

@@ -38,10 +38,6 @@ ABOUT = {"trie_tool": "numbers by texts, in a proved radix trie", "route_tool": 
          "trie_shell": "a shell of proved radix tries"}
 
 
-def is_measured():
-    return os.path.isfile(f"{ROOT}/{ROWS}")
-
-
 def rows():
     """The numbers of the run, by kind, count, call and store."""
     parted = map(str.split, text_of(ROWS).splitlines())
@@ -114,7 +110,7 @@ def manual(name):
 
 def sources():
     """By its path, the program that makes each, and what that is told."""
-    plots = {call: (["gnuplot"], "".join(plot(rows(), call))) for call in CALLS if is_measured()}
+    plots = {call: (["gnuplot"], "".join(plot(rows(), call))) for call in CALLS}
     drawn = {**plots, "crates": (["dot", "-Tsvg"], "".join(crates())), "tree": (["dot", "-Tsvg"], tree())}
     yield from ((f"{FOLDER}/{name}.svg", *source) for name, source in drawn.items())
     for name in PAGES:
@@ -130,12 +126,13 @@ def mark(place, told):
 
 def wrong(is_written):
     """What isn't of its sources as they stand, which is written where it is to be and the program is there."""
-    made = table(rows()) if is_measured() else text_of(TABLE)
+    made = table(rows())
     if made != text_of(TABLE) and is_written:
         write_text(TABLE, made)
     elif made != text_of(TABLE):
         yield f"{TABLE}: it isn't of {ROWS}"
-    yield from (f"{it}: it doesn't quote {TABLE}" for it in ("README.md", "docs/BENCHMARKS.md") if made not in text_of(it))
+    quoting = ("README.md", "docs/BENCHMARKS.md")
+    yield from (f"{it}: it doesn't quote {TABLE}" for it in quoting if made not in text_of(it))
     for place, words, told in sources():
         if os.path.isfile(f"{ROOT}/{place}") and text_of(place).endswith(mark(place, told)):
             continue

@@ -113,12 +113,6 @@ def room_in(folder):
         sweep(folder)
 
 
-def remove(path, top):
-    """Removes a file, and the folders on the way to it that are then empty, as far as they lie below the folder top."""
-    os.remove(path)
-    remove_empty(os.path.dirname(path), top)
-
-
 def remove_empty(folder, top):
     """Removes a folder, and those above it that are then empty, as far as they lie below the folder top."""
     with contextlib.suppress(OSError):

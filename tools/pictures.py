@@ -102,20 +102,15 @@ def tree():
     return next(it.answer for it in session.exchanges if it.line == b"dot\n").decode()
 
 
-def manual(name):
-    """What pandoc is told of a program: its page for users, behind its name."""
-    page = re.sub("^# .*", "# DESCRIPTION", text_of(PAGES[name]), flags=re.M)
-    return f"# NAME\n\n{name} - {ABOUT[name]}\n\n{page}"
-
-
 def sources():
     """By its path, the program that makes each, and what that is told."""
     plots = {call: (["gnuplot"], "".join(plot(rows(), call))) for call in CALLS}
     drawn = {**plots, "crates": (["dot", "-Tsvg"], "".join(crates())), "tree": (["dot", "-Tsvg"], tree())}
     yield from ((f"{FOLDER}/{name}.svg", *source) for name, source in drawn.items())
-    for name in PAGES:
+    for name, page in PAGES.items():
+        text = re.sub("^# .*", "# DESCRIPTION", text_of(page), flags=re.M)
         words = ["pandoc", "-f", "gfm", "-t", "man", "-s", "-M", f"title={name.upper()}", "-M", "section=1"]
-        yield f"docs/man/{name}.1", words, manual(name)
+        yield f"docs/man/{name}.1", words, f"# NAME\n\n{name} - {ABOUT[name]}\n\n{text}"
 
 
 def mark(place, told):

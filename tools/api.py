@@ -49,10 +49,6 @@ def rank(owner):
     return owner == FUNCTIONS, FIRST.index(owner) if owner in FIRST else len(FIRST)
 
 
-def signature(item):
-    return "    fn " + item.signature.replace("( ", "(").replace(", )", ")")
-
-
 def anchor(title):
     return re.sub(r"[^\w -]", "", title).lower().replace(" ", "-")
 
@@ -90,5 +86,5 @@ def page():
             contents.append(f"  - [{owner}](#{anchor(title)}): {names}\n")
             parts.append(f"\n### {title}\n")
             parts += [f"\n{types[owner]}\n"] if owner in types else []
-            parts += [f"\n{signature(it)}\n\n{documentation(it)}\n" for it in calls]
+            parts += [f"\n    fn {it.signature}\n\n{documentation(it)}\n" for it in calls]
     return f"{HEAD}\n{''.join(contents)}{''.join(parts)}"

@@ -67,7 +67,8 @@ class Item:
 
     @property
     def signature(self):
-        return plain(re.split(r"^ +(?:requires|ensures|ghost|where)\b", self.text, maxsplit=1, flags=re.M)[0])
+        head = re.split(r"^ +(?:requires|ensures|ghost|where)\b", self.text, maxsplit=1, flags=re.M)[0]
+        return plain(head).replace("( ", "(").replace(", )", ")")
 
     @property
     def clauses(self):

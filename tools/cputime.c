@@ -1,5 +1,5 @@
-/* Preloaded into a program that times itself, has its clocks tell the processor's time of the process, so that what else
-   the machine does counts for little. */
+/* Preloaded into a program that times itself, has its clocks tell the processor's time of the process, so that what
+   else the machine does counts for little. */
 #define _GNU_SOURCE
 #include <sys/syscall.h>
 #include <time.h>

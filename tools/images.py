@@ -52,7 +52,7 @@ def routes_image(routes, payload=b"", is_wide=None):
                  else struct.pack("<IIII", first, network.prefixlen, link, value))
     rest, cells = cells_of(networks, 128 if is_wide else 32)
     mark = b"NZIPV6.1" if is_wide else b"NZIPV4.1"
-    return image_of(mark, len(rows) // (32 if is_wide else 16), [(ROWS, 0, rows), (CELLS, rest, cells), (PAYLOAD, 0, payload)])
+    return image_of(mark, len(each), [(ROWS, 0, rows), (CELLS, rest, cells), (PAYLOAD, 0, payload)])
 
 
 def longest(routes, address):

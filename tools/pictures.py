@@ -29,10 +29,11 @@ STORES = {"trie": "trie", "frozen": "frozen trie", "map": "B-tree", "hash_map": 
 COLOURS = {"trie": "#0072b2", "frozen": "#009e73", "map": "#e69f00", "hash_map": "#999999", "crate": "#d55e00"}
 # What stands in a cell of the table whose store has no such call.
 NONE = {("map", "prefix"): "a lookup a length", ("hash_map", "below"): "no such call"}
-# What each crate is: what callers name, what is inside, a program, or tests.
-CALLED = "radix_trie frozen_trie frozen_routes frozen_networks flat_routes flat_texts flat_tries prefix_maps nifazombi_c trie_set topic_filters keyed_maps".split()
-PROGRAMS = "trie_tool route_tool trie_shell trie_bench".split()
-TESTS = "trie_tests table_tests trie_examples".split()
+# What each crate is: what callers name, a program, or tests; all others are inside.
+COLOURS_OF_CRATES = {
+    "#cfe8ff": "radix_trie frozen_trie frozen_routes frozen_networks flat_routes flat_texts flat_tries prefix_maps "
+               "nifazombi_c trie_set topic_filters keyed_maps",
+    "#d5f2d5": "trie_tool route_tool trie_shell trie_bench", "#eeeeee": "trie_tests table_tests trie_examples"}
 # What each program is, for the first line of its manual page.
 ABOUT = {"trie_tool": "numbers by texts, in a proved radix trie", "route_tool": "a proved routing table",
          "trie_shell": "a shell of proved radix tries"}
@@ -66,7 +67,8 @@ def plot(found, call):
     """What gnuplot is told: a panel for each kind of keys, a line for each store that has the call."""
     yield "set terminal svg size 960,330 font 'sans-serif,12' background 'white'\n"
     yield f"set multiplot layout 1,{len(kinds_of(found))} title '{CALLS[call][0]}, by the count of pairs'\n"
-    yield "set logscale xy\nset xrange [1000:1000000]\nset format x '10^{%T}'\nset grid\nset key bottom right samplen 1\n"
+    yield "set logscale xy\nset xrange [1000:1000000]\nset format x '10^{%T}'\nset grid\n"
+    yield "set key bottom right samplen 1\n"
     for kind in kinds_of(found):
         lines, points = [], []
         for store, name in STORES.items():
@@ -88,8 +90,8 @@ def crates():
         return {it for used in uses[crate] for it in (used, *below(used))}
 
     yield 'digraph crates {\nrankdir=BT\nnode [shape=box style=filled fontname="sans-serif" fillcolor=white]\n'
-    for colour, names in (("#cfe8ff", CALLED), ("#d5f2d5", PROGRAMS), ("#eeeeee", TESTS)):
-        yield "".join(f'{it} [fillcolor="{colour}"]\n' for it in names)
+    for colour, names in COLOURS_OF_CRATES.items():
+        yield "".join(f'{it} [fillcolor="{colour}"]\n' for it in names.split())
     for crate, used in uses.items():
         behind = {it for one in used for it in below(one)}
         yield "".join(f"{crate} -> {it}\n" for it in used if it not in behind)

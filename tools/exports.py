@@ -7,7 +7,7 @@ from sources import paths
 
 CRATE, HEADER, RUST = "crates/nifazombi_c", "bindings/c/nifazombi.h", "bindings/rust/src/exports.rs"
 PYTHON = "bindings/python/nifazombi/_exports.py"
-# The structs that callers pass stand there, and in these sources of the libraries below, by the modules of their calls.
+# Structs that callers pass stand there, and in these sources below, by the modules of their calls.
 BELOW = {"ipv4": "crates/flat_routes/src/ipv4.rt", "ipv6": "crates/flat_routes/src/ipv6.rt",
          "texts": "crates/flat_texts/src/pair.rt"}
 DOCUMENTED = r"((?:^///.*\n)+)"
@@ -37,7 +37,7 @@ C_HEAD = """#ifndef NIFAZOMBI_H
 extern "C" {
 #endif
 """
-# A key and a value: C has a pointer and a length where Rust has a slice, borrowed as long as the pair is there.
+# A key and a value: C has a pointer and a length for Rust's slice, borrowed as long as the pair.
 LENT = """pub(crate) struct {name}<'a> {{
 {rows}    lent: PhantomData<&'a [u8]>,
 }}

@@ -10,15 +10,22 @@ macro_rules! timed {
     ($clock:expr, $call:literal, $items:expr, |$item:ident| $answer:expr) => {{
         let items = $items;
         let start = std::time::Instant::now($clock)?;
-        let mut sum = 0u64;
-        for $item in items {
-            sum = sum.wrapping_add($answer);
-        }
+        let sum = $crate::timed::total(items, |$item| Ok($answer))?;
         $crate::timed::Times::since($clock, $call, start, items.len(), sum)?
     }};
 }
 
 pub(crate) use timed;
+
+/// The sum of what is answered of each item in turn. It stands by itself, so that a call that fails
+/// leaves a loop in which nothing else is held: the proof of a longer function takes minutes.
+pub fn total<T>(items: &[T], mut answer: impl FnMut(&T) -> Result<u64>) -> Result<u64> {
+    let mut sum = 0u64;
+    for item in items {
+        sum = sum.wrapping_add(answer(item)?);
+    }
+    Ok(sum)
+}
 
 /// How long the calls of a row took, and the sum of what they answered.
 #[derive(Clone, Copy)]

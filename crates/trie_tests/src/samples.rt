@@ -1,9 +1,9 @@
 //! What tests and examples share: small tries of texts, and lists of nibbles.
 
-ghost use Rattle.std.specs.Prelude.{◌≡◌, ◌≤◌, ◌<◌, ◌↔◌, All, IfOk, IsOk, IsTrue, length};
+ghost use Rattle.std.specs.Prelude.{◌≡◌, ◌≤◌, ◌<◌, All, IfOk, IsOk, length};
 ghost use Rattle.radix_trie.specs.Building.{pairs_in_order};
 
-use radix_trie::{Memory, Nibblet, SubTrie, Trie, TrieKey};
+use radix_trie::{Memory, Nibblet, Trie, TrieKey};
 use std::alloc::Global;
 
 /// A trie of texts, each with a number.
@@ -45,18 +45,4 @@ pub fn list(alloc: Global, nibbles: &[u8]) -> Result<Nibblet, Memory>
         list.push(*nibble)?;
     }
     Ok(list)
-}
-
-/// Whether the view's path is the key's encoding. The one failure is that of memory for the
-/// encoding, which an inline key never meets.
-pub fn stands_at<K: TrieKey, V, Q: TrieKey>(
-    alloc: Global,
-    view: &SubTrie<'_, K, V>,
-    key: &Q,
-) -> Result<bool, Memory>
-    ensures path { IfOk result (λ b. IsTrue b ↔ (view.now.path ≡ Q.encoding key.now)) }
-    ensures inline { Q.is_inline key.now → IsOk result }
-{
-    let list = key.encode(alloc)?;
-    Ok(*view.path() == list)
 }

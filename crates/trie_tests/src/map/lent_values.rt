@@ -3,7 +3,8 @@ ghost use Rattle.std.specs.Prelude.{◌≡◌, OnErr, OnOk};
 ghost use Rattle.radix_trie.specs.Maps.{with_value};
 ghost use Rattle.radix_trie.specs.Views.{IsWrittenAbove, with_value_or};
 
-use radix_trie::{FindError, InsertError, Nibblet, Trie, TrieKey};
+use crate::samples::texts;
+use radix_trie::{FindError, InsertError, Nibblet, Trie, TrieError, TrieKey};
 
 /// Writes the value at a key.
 fn write<K: TrieKey, V: Drop>(trie: &mut Trie<K, V>, key: &K, value: V) -> Result<(), FindError>
@@ -52,5 +53,16 @@ fn write_or_store<K: TrieKey + Drop, V: Drop>(
 {
     let place = trie.get_or_insert(key, default)?;
     *place = value;
+    Ok(())
+}
+
+#[test]
+fn values_are_written_in_their_places(rt: HostRuntime) -> Result<(), TrieError> {
+    let mut trie = texts(rt.alloc(), &[("tea", 1), ("team", 2)])?;
+    write(&mut trie, &"tea", 3)?;
+    write_at(&mut trie, &"team".encode(rt.alloc())?, 4);
+    write_above(&mut trie, &"teas", 5)?;
+    write_or_store(&mut trie, "ten", 0, 6)?;
+    assert!(rt; trie == texts(rt.alloc(), &[("tea", 5), ("team", 4), ("ten", 6)])?);
     Ok(())
 }

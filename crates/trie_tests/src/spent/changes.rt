@@ -3,7 +3,8 @@ ghost use Rattle.std.specs.FinMap as map;
 ghost use Rattle.std.specs.Prelude.{◌≡◌, IfOk, OnOk, OnErr, IsTrue, IsFalse};
 ghost use Rattle.radix_trie.specs.Maps.{with_value};
 
-use radix_trie::{InsertError, InsertWhy, OpenError, Trie, TrieKey};
+use crate::samples::texts;
+use radix_trie::{InsertError, InsertWhy, OpenError, Trie, TrieError, TrieKey};
 
 /// Stores a pair through a view at a key. False: no point stands there.
 fn put_within<K: TrieKey + Drop, V: Drop>(
@@ -49,4 +50,14 @@ fn write_within<K: TrieKey, V: Drop>(
         }
         Err(error) => Err(error),
     }
+}
+
+#[test]
+fn pairs_are_stored_and_written_through_views(rt: HostRuntime) -> Result<(), TrieError> {
+    let mut trie = texts(rt.alloc(), &[("tea", 1)])?;
+    assert!(rt; put_within(&mut trie, &"tea", "team", 2)?);
+    assert!(rt; !put_within(&mut trie, &"x", "xy", 3)?);
+    write_within(&mut trie, &"tea", 4)?;
+    assert!(rt; trie == texts(rt.alloc(), &[("tea", 4), ("team", 2)])?);
+    Ok(())
 }

@@ -27,5 +27,6 @@ fn owned_keys(rt: HostRuntime) -> Result<(), TrieError> {
     let view = trie.open_mut(&"/boot")?;
     assert!(rt; TrieCommon::value(&view) == Some(&1));
     assert!(rt; view.len() == 2);
+    assert!(rt; counted(&mut trie, &String::from_str(rt.alloc(), "/boot")?)? == 2);
     Ok(())
 }

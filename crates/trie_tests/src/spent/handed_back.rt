@@ -2,7 +2,8 @@
 ghost use Rattle.std.specs.FinMap as map;
 ghost use Rattle.std.specs.Prelude.{◌≡◌, IfOk, OnOk, OnErr};
 
-use radix_trie::{InsertError, InsertWhy, OpenError, Trie, TrieCommon, TrieKey};
+use crate::samples::texts;
+use radix_trie::{InsertError, InsertWhy, OpenError, Trie, TrieCommon, TrieError, TrieKey};
 
 /// Stores a pair through a view at a key, and counts all pairs of the trie that the view hands
 /// back.
@@ -52,4 +53,12 @@ fn keys_walked<K: TrieKey, V>(trie: &mut Trie<K, V>, at: &K) -> Result<usize, Op
         }
         Err(error) => Err(error),
     }
+}
+
+#[test]
+fn tries_are_handed_back(rt: HostRuntime) -> Result<(), TrieError> {
+    let mut trie = texts(rt.alloc(), &[("tea", 1), ("toe", 2)])?;
+    assert!(rt; stored_and_counted(&mut trie, &"tea", "team", 3)? == 3);
+    assert!(rt; keys_walked(&mut trie, &"toe")? == 3);
+    Ok(())
 }

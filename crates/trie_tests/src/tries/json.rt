@@ -24,3 +24,16 @@ fn read_and_written(alloc: Global, value: &Value) -> Result<Value, JsonError>
     let trie = from_value(alloc, value)?;
     to_value(alloc, &trie)
 }
+
+/// Whether a value is back by way of a trie, and the trie of it by way of a value.
+fn are_back(alloc: Global, text: &str) -> Option<bool> {
+    let value = Value::from_str(alloc, text).ok()?;
+    let trie = from_value(alloc, &value).ok()?;
+    let again = read_and_written(alloc, &value).ok()?;
+    Some(again == value && written_and_read(alloc, &trie).ok()? == trie)
+}
+
+#[test]
+fn values_there_and_back(rt: HostRuntime) {
+    assert!(rt; are_back(rt.alloc(), "{\"a\":[1,null],\"ab\":\"c\"}") == Some(true));
+}

@@ -85,6 +85,20 @@ fn trie_rows<K: Stored, L: TrieKey, B: Beginning<K>>(
     mut trie: Trie<K, u64>,
     queries: &[Query<K, L, B>],
 ) -> Result<(Trie<K, u64>, Vec<Times>)> {
+    let (get, absent, prefix) = trie_lookups(rt, &trie, queries)?;
+    let (below, count, walk) = trie_parts(rt, &trie, queries)?;
+    let (copy, clone) = copied(rt, &trie)?;
+    let remove = removals(rt, &mut trie, queries)?;
+    let rows = vec![in rt.alloc(); get, absent, prefix, below, count, walk, clone, remove]?;
+    Ok((copy, rows))
+}
+
+/// The times of what is found at a key, at one that isn't stored, and at a key's longest prefix.
+fn trie_lookups<K: Stored, L: TrieKey, B>(
+    rt: &impl Clock,
+    trie: &Trie<K, u64>,
+    queries: &[Query<K, L, B>],
+) -> Result<(Times, Times, Times)> {
     let get = timed!(rt, "get", queries, |query| value_of(trie.get(&query.key)?));
     let absent = timed!(rt, "absent", queries, |query| {
         value_of(trie.get(&query.absent)?)
@@ -92,6 +106,15 @@ fn trie_rows<K: Stored, L: TrieKey, B: Beginning<K>>(
     let prefix = timed!(rt, "prefix", queries, |query| {
         value_of(trie.get_ancestor_value(&query.longer)?)
     });
+    Ok((get, absent, prefix))
+}
+
+/// The times of a page below a prefix, of the count there, and of a walk.
+fn trie_parts<K: Stored, L, B: Beginning<K>>(
+    rt: &impl Clock,
+    trie: &Trie<K, u64>,
+    queries: &[Query<K, L, B>],
+) -> Result<(Times, Times, Times)> {
     let few = queries.get(..BEGINNINGS).unwrap_or(queries);
     let below = timed!(rt, "below", few, |query| {
         let page = trie.first_below(&query.beginning, SHOWN)?;
@@ -101,17 +124,29 @@ fn trie_rows<K: Stored, L: TrieKey, B: Beginning<K>>(
         trie.count_below(&query.beginning)? as u64
     });
     let start = Instant::now(rt)?;
-    let sum = TrieCommon::values(&trie)?.fold(0, add);
+    let sum = TrieCommon::values(trie)?.fold(0, add);
     let walk = Times::since(rt, "walk", start, trie.len(), sum)?;
+    Ok((below, count, walk))
+}
+
+/// A copy of a trie, and the time that it took for each pair.
+fn copied<K: Stored>(rt: &impl Clock, trie: &Trie<K, u64>) -> Result<(Trie<K, u64>, Times)> {
     let start = Instant::now(rt)?;
     let copy = trie.clone()?;
     let clone = Times::since(rt, "clone", start, trie.len(), 0)?;
-    ensure!(copy == trie);
-    let remove = timed!(rt, "remove", queries, |query| {
+    ensure!(copy == *trie);
+    Ok((copy, clone))
+}
+
+/// The times in which all pairs are removed.
+fn removals<K: Stored, L, B>(
+    rt: &impl Clock,
+    trie: &mut Trie<K, u64>,
+    queries: &[Query<K, L, B>],
+) -> Result<Times> {
+    Ok(timed!(rt, "remove", queries, |query| {
         trie.remove(&query.key)?.unwrap_or(0)
-    });
-    let rows = vec![in rt.alloc(); get, absent, prefix, below, count, walk, clone, remove]?;
-    Ok((copy, rows))
+    }))
 }
 
 /// The frozen form of a trie, and the time that it took for each pair.

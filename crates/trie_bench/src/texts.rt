@@ -98,6 +98,17 @@ fn text_rows(
     texts: &FrozenTexts<u64>,
     queries: &[TextQuery<'_>],
 ) -> Result<Vec<Times>> {
+    let (get, absent, prefix) = text_lookups(rt, texts, queries)?;
+    let (below, count, walk) = text_parts(rt, texts, queries)?;
+    Ok(vec![in rt.alloc(); get, absent, prefix, below, count, walk]?)
+}
+
+/// The times of what is found at a key, at one that isn't stored, and at a key's longest prefix.
+fn text_lookups(
+    rt: &impl Clock,
+    texts: &FrozenTexts<u64>,
+    queries: &[TextQuery<'_>],
+) -> Result<(Times, Times, Times)> {
     let get = timed!(rt, "get", queries, |query| value_of(texts.get(query.key)));
     let absent = timed!(
         rt,
@@ -111,6 +122,15 @@ fn text_rows(
             None => 0,
         }
     });
+    Ok((get, absent, prefix))
+}
+
+/// The times of a page below a prefix, of the count there, and of a walk.
+fn text_parts(
+    rt: &impl Clock,
+    texts: &FrozenTexts<u64>,
+    queries: &[TextQuery<'_>],
+) -> Result<(Times, Times, Times)> {
     let few = queries.get(..BEGINNINGS).unwrap_or(queries);
     let below = timed!(rt, "below", few, |query| {
         texts.below(query.beginning).take(SHOWN).fold(0, add_second)
@@ -124,7 +144,7 @@ fn text_rows(
     let start = Instant::now(rt)?;
     let sum = texts.iter().fold(0, add_second);
     let walk = Times::since(rt, "walk", start, texts.len(), sum)?;
-    Ok(vec![in rt.alloc(); get, absent, prefix, below, count, walk]?)
+    Ok((below, count, walk))
 }
 
 /// The sum of so many numbers and of the one of a pair.

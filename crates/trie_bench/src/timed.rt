@@ -19,7 +19,9 @@ pub(crate) use timed;
 
 /// The sum of what is answered of each item in turn. It stands by itself, so that a call that fails
 /// leaves a loop in which nothing else is held: the proof of a longer function takes minutes.
-pub fn total<T>(items: &[T], mut answer: impl FnMut(&T) -> Result<u64>) -> Result<u64> {
+pub fn total<T, F: FnMut(&T) -> Result<u64>>(items: &[T], mut answer: F) -> Result<u64>
+    requires { F.IsAlwaysCallable answer }
+{
     let mut sum = 0u64;
     for item in items {
         sum = sum.wrapping_add(answer(item)?);

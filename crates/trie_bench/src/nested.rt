@@ -25,42 +25,71 @@ pub fn answer<R: Print + Clock + AllocGlobal>(rt: &R, line: &str, count: u32) ->
     for length in 1..=bytes.len() {
         keys.push(&bytes[..length])?;
     }
-    let start = Instant::now(rt)?;
-    let mut nested = Nested::new(rt.alloc());
-    for key in &keys {
-        nested.insert(*key, key.len())?;
-    }
-    tell(rt, line, "insert", start)?;
-    read(rt, line, &nested, keys.as_slice())?;
+    let mut nested = filled(rt, line, keys.as_slice())?;
+    found(rt, line, &nested, keys.as_slice())?;
+    walked(rt, line, &nested, keys.len())?;
     let mut copy = copied(rt, line, &nested)?;
     grafted(rt, line, &mut copy)?;
-    let start = Instant::now(rt)?;
-    for key in keys.iter().rev() {
-        ensure!(nested.remove(key)? == Some(key.len()));
-    }
-    tell(rt, line, "remove", start)?;
-    let another = copy.clone()?;
-    let start = Instant::now(rt)?;
-    drop(another);
-    tell(rt, line, "drop", start)?;
+    emptied(rt, line, &mut nested, keys.as_slice())?;
+    dropped(rt, line, &copy)?;
     cut(rt, line, copy)
 }
 
-/// Finds one key of a hundred, walks over all pairs, and counts those at and below the shortest
-/// key.
-fn read<R: Print + Clock>(rt: &R, line: &str, nested: &Nested, keys: &[&[u8]]) -> Result<()> {
+/// The trie of the keys.
+fn filled<'a, R: Print + Clock + AllocGlobal>(
+    rt: &R,
+    line: &str,
+    keys: &[&'a [u8]],
+) -> Result<Nested<'a>> {
+    let start = Instant::now(rt)?;
+    let mut nested = Nested::new(rt.alloc());
+    for key in keys {
+        nested.insert(*key, key.len())?;
+    }
+    tell(rt, line, "insert", start)?;
+    Ok(nested)
+}
+
+/// Finds one key of a hundred.
+fn found<R: Print + Clock>(rt: &R, line: &str, nested: &Nested, keys: &[&[u8]]) -> Result<()> {
     let start = Instant::now(rt)?;
     for key in keys.iter().step_by(LOOKED_UP) {
         ensure!(nested.get(key)? == Some(&key.len()));
     }
-    tell(rt, line, "get", start)?;
+    tell(rt, line, "get", start)
+}
+
+/// Walks over all pairs, and counts those at and below the shortest key.
+fn walked<R: Print + Clock>(rt: &R, line: &str, nested: &Nested, count: usize) -> Result<()> {
     let start = Instant::now(rt)?;
-    ensure!(TrieCommon::values(nested)?.copied().eq(1..=keys.len()));
+    ensure!(TrieCommon::values(nested)?.copied().eq(1..=count));
     tell(rt, line, "walk", start)?;
     let start = Instant::now(rt)?;
     let view = nested.subtrie(&b'a')?;
-    ensure!(view.map_or(0, |view| TrieCommon::len(&view)) == keys.len());
+    ensure!(view.map_or(0, |view| TrieCommon::len(&view)) == count);
     tell(rt, line, "len", start)
+}
+
+/// Removes all pairs, the longest key first.
+fn emptied<R: Print + Clock>(
+    rt: &R,
+    line: &str,
+    nested: &mut Nested,
+    keys: &[&[u8]],
+) -> Result<()> {
+    let start = Instant::now(rt)?;
+    for key in keys.iter().rev() {
+        ensure!(nested.remove(key)? == Some(key.len()));
+    }
+    tell(rt, line, "remove", start)
+}
+
+/// Drops a copy.
+fn dropped<R: Print + Clock>(rt: &R, line: &str, nested: &Nested) -> Result<()> {
+    let another = nested.clone()?;
+    let start = Instant::now(rt)?;
+    drop(another);
+    tell(rt, line, "drop", start)
 }
 
 /// A copy, which is equal.

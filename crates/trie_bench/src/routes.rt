@@ -97,16 +97,27 @@ fn answer<A: Drawable, R: Print + Clock + AllocGlobal>(
     let alloc = rt.alloc();
     let networks: Vec<Drawn<A>> = networks(alloc, count, lengths)?;
     let addresses = addresses(alloc, networks.as_slice())?;
-    let (stored, found) = answer_trie(rt, line, networks.as_slice(), addresses.as_slice())?;
-    let mut map = BTreeMap::new(alloc);
-    let by_map = timed!(rt, "insert", &networks, |drawn| {
+    let of_trie = answer_trie(rt, line, networks.as_slice(), addresses.as_slice())?;
+    let of_map = map_times(rt, networks.as_slice(), addresses.as_slice(), lengths)?;
+    of_map.0.print_beside(rt, line, "map", &of_trie.0)?;
+    of_map.1.print_beside(rt, line, "map", &of_trie.1)
+}
+
+/// The times in which a map stores the networks, and finds the longest ones that hold addresses.
+fn map_times<A: Drawable>(
+    rt: &(impl Clock + AllocGlobal),
+    networks: &[Drawn<A>],
+    addresses: &[A],
+    lengths: Lengths,
+) -> Result<(Times, Times)> {
+    let mut map = BTreeMap::new(rt.alloc());
+    let stored = timed!(rt, "insert", networks, |drawn| {
         map.insert(drawn.network, drawn.hop)?.unwrap_or(0) as u64
     });
-    by_map.print_beside(rt, line, "map", &stored)?;
-    let by_map = timed!(rt, "look", &addresses, |address| {
+    let found = timed!(rt, "look", addresses, |address| {
         longest(&map, lengths, *address) as u64
     });
-    by_map.print_beside(rt, line, "map", &found)
+    Ok((stored, found))
 }
 
 /// The hop of the longest network that holds an address. The map is asked for each length, the
@@ -128,35 +139,55 @@ fn answer_trie<A: Address, R: Print + Clock + AllocGlobal>(
     networks: &[Drawn<A>],
     addresses: &[A],
 ) -> Result<(Times, Times)> {
-    let alloc = rt.alloc();
-    let mut trie = Trie::new(alloc);
+    let mut trie = Trie::new(rt.alloc());
     let stored = timed!(rt, "insert", networks, |drawn| {
         trie.insert(drawn.network, drawn.hop)?.unwrap_or(0) as u64
     });
     stored.print(rt, line, "trie")?;
-    let by_trie = timed!(rt, "look", addresses, |address| {
+    let found = found_in_trie(rt, &trie, addresses)?;
+    found.print(rt, line, "trie")?;
+    answer_frozen(rt, line, &trie, addresses, &found)?;
+    Ok((stored, found))
+}
+
+/// The times in which a trie finds the longest networks that hold addresses.
+fn found_in_trie<A: Address>(
+    rt: &(impl Clock + AllocGlobal),
+    trie: &Trie<Network<A>, u32>,
+    addresses: &[A],
+) -> Result<Times> {
+    let alloc = rt.alloc();
+    Ok(timed!(rt, "look", addresses, |address| {
         let bits = Network::host(*address).encode(alloc)?;
         match trie.nearest(&bits) {
             Some((_, hop)) => *hop as u64,
             None => 0,
         }
-    });
-    by_trie.print(rt, line, "trie")?;
+    }))
+}
+
+/// Prints the times of the frozen table of a trie, which finds the same.
+fn answer_frozen<A: Address, R: Print + Clock + AllocGlobal>(
+    rt: &R,
+    line: &str,
+    trie: &Trie<Network<A>, u32>,
+    addresses: &[A],
+    of_trie: &Times,
+) -> Result<()> {
     let start = Instant::now(rt)?;
-    let mut frozen = FrozenRoutes::new(alloc);
-    for (network, hop) in TrieCommon::iter(&trie)? {
+    let mut frozen = FrozenRoutes::new(rt.alloc());
+    for (network, hop) in TrieCommon::iter(trie)? {
         ensure!(frozen.push(*network, *hop).is_ok(), "a row isn't appended");
     }
     frozen.finish()?;
-    Times::since(rt, "freeze", start, networks.len(), 0)?.print(rt, line, "frozen")?;
+    Times::since(rt, "freeze", start, trie.len(), 0)?.print(rt, line, "frozen")?;
     let found = timed!(rt, "look", addresses, |address| {
         match frozen.longest_match(address) {
             Some((_, hop)) => *hop as u64,
             None => 0,
         }
     });
-    found.print_beside(rt, line, "frozen", &by_trie)?;
-    Ok((stored, by_trie))
+    found.print_beside(rt, line, "frozen", of_trie)
 }
 
 /// So many networks.

@@ -166,6 +166,17 @@ fn frozen_rows<K: Stored, L: TrieKey, B: Beginning<K>>(
     frozen: &FrozenTrie<K, u64>,
     queries: &[Query<K, L, B>],
 ) -> Result<Vec<Times>> {
+    let (get, absent, prefix) = frozen_lookups(rt, frozen, queries)?;
+    let (below, count, walk) = frozen_parts(rt, frozen, queries)?;
+    Ok(vec![in rt.alloc(); get, absent, prefix, below, count, walk]?)
+}
+
+/// The times of what is found at a key, at one that isn't stored, and at a key's longest prefix.
+fn frozen_lookups<K: Stored, L: TrieKey, B>(
+    rt: &impl Clock,
+    frozen: &FrozenTrie<K, u64>,
+    queries: &[Query<K, L, B>],
+) -> Result<(Times, Times, Times)> {
     let get = timed!(rt, "get", queries, |query| {
         value_of(frozen.get(&query.key)?)
     });
@@ -178,6 +189,15 @@ fn frozen_rows<K: Stored, L: TrieKey, B: Beginning<K>>(
             None => 0,
         }
     });
+    Ok((get, absent, prefix))
+}
+
+/// The times of a page below a prefix, of the count there, and of a walk.
+fn frozen_parts<K: Stored, L, B: Beginning<K>>(
+    rt: &impl Clock,
+    frozen: &FrozenTrie<K, u64>,
+    queries: &[Query<K, L, B>],
+) -> Result<(Times, Times, Times)> {
     let few = queries.get(..BEGINNINGS).unwrap_or(queries);
     let below = timed!(rt, "below", few, |query| {
         let pairs = frozen.below(&query.beginning)?;
@@ -189,7 +209,7 @@ fn frozen_rows<K: Stored, L: TrieKey, B: Beginning<K>>(
     let start = Instant::now(rt)?;
     let sum = frozen.pairs().iter().fold(0, add_second);
     let walk = Times::since(rt, "walk", start, frozen.len(), sum)?;
-    Ok(vec![in rt.alloc(); get, absent, prefix, below, count, walk]?)
+    Ok((below, count, walk))
 }
 
 /// A map of the keys, and the times of the insertions.
@@ -214,20 +234,45 @@ fn map_rows<K: Stored, L, B: Beginning<K>>(
     let absent = timed!(rt, "absent", queries, |query| {
         value_of(map.get(&query.absent))
     });
+    let (below, count, walk) = map_parts(rt, &map, queries)?;
+    let clone = map_clone(rt, &map)?;
+    let remove = map_removals(rt, &mut map, queries)?;
+    Ok(vec![in rt.alloc(); get, absent, below, count, walk, clone, remove]?)
+}
+
+/// The times of a page below a prefix, of the count there, and of a walk.
+fn map_parts<K: Stored, L, B: Beginning<K>>(
+    rt: &impl Clock,
+    map: &BTreeMap<K, u64>,
+    queries: &[Query<K, L, B>],
+) -> Result<(Times, Times, Times)> {
     let few = queries.get(..BEGINNINGS).unwrap_or(queries);
-    let below = timed!(rt, "below", few, |query| sum_below(&map, query));
-    let count = timed!(rt, "count", few, |query| count_below(&map, query));
+    let below = timed!(rt, "below", few, |query| sum_below(map, query));
+    let count = timed!(rt, "count", few, |query| count_below(map, query));
     let start = Instant::now(rt)?;
     let sum = map.values().fold(0, add);
     let walk = Times::since(rt, "walk", start, map.len(), sum)?;
+    Ok((below, count, walk))
+}
+
+/// The time in which a map is copied, for each pair.
+fn map_clone<K: Stored>(rt: &impl Clock, map: &BTreeMap<K, u64>) -> Result<Times> {
     let start = Instant::now(rt)?;
     let copy = map.clone()?;
     let clone = Times::since(rt, "clone", start, map.len(), 0)?;
-    ensure!(copy == map);
-    let remove = timed!(rt, "remove", queries, |query| {
+    ensure!(copy == *map);
+    Ok(clone)
+}
+
+/// The times in which all pairs are removed.
+fn map_removals<K: Stored, L, B>(
+    rt: &impl Clock,
+    map: &mut BTreeMap<K, u64>,
+    queries: &[Query<K, L, B>],
+) -> Result<Times> {
+    Ok(timed!(rt, "remove", queries, |query| {
         map.remove(&query.key).unwrap_or(0)
-    });
-    Ok(vec![in rt.alloc(); get, absent, below, count, walk, clone, remove]?)
+    }))
 }
 
 /// A value that was found, and 0 where none was.

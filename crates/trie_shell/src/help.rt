@@ -1,6 +1,4 @@
 //! The calls: their names and words, and what each answers.
-ghost use Rattle.std.specs.Prelude.{◌≡◌};
-ghost use Rattle.trie_shell.specs.declared.help.TheConstants.{CALLS};
 
 use radix_trie::Memory;
 use shell_words::{Answer, NONE};
@@ -399,9 +397,7 @@ const MORE: &'static str =
     "help GROUP lists a group's calls, help CALL explains one, and help all lists all of them.";
 
 /// The lines of all calls. A function that names the table has code of its own for each line.
-pub fn calls() -> &'static [&'static str]
-    ensures { result.now ≡ CALLS.now }
-{
+fn calls() -> &'static [&'static str] {
     CALLS
 }
 

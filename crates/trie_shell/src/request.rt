@@ -6,7 +6,7 @@ ghost use Rattle.shell_words.specs.Words.{is_space};
 ghost use Rattle.trie_shell.specs.Requests.{begins_words, fits, has_count, is_call, is_colon, is_named, is_remark_line, is_request, is_text_request, least_words, most_words, words_behind};
 ghost use Rattle.trie_shell.specs.Remarks.{IsRemark, form_in, form_of, misfit, reason_line, why_bad};
 
-use crate::help::calls;
+use crate::help::CALLS;
 use radix_trie::Memory;
 use shell_words::{Answer, NOT_HERE, Words};
 
@@ -103,7 +103,7 @@ fn is_told(lines: &[&str], text: &str) -> bool
 fn is_call(text: &str) -> bool
     ensures { result ≡ is_call text.now }
 {
-    is_told(calls(), text)
+    is_told(CALLS, text)
 }
 
 /// What a line asks for: nothing, or a call with its words.
@@ -184,7 +184,7 @@ fn form_in(lines: &[&'static str], name: &str) -> Option<&'static str>
 fn form_of(name: &str) -> Option<&'static str>
     ensures { option_map (λ form. form.now) result ≡ form_of name.now }
 {
-    form_in(calls(), name)
+    form_in(CALLS, name)
 }
 
 /// Why a text has the form of no call.

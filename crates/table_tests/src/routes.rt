@@ -256,7 +256,7 @@ fn refused_rows(rt: HostRuntime) {
         (Some(300), RISING, Ok(3)),
         (Some(2), RISING, Err((SortedWhy::Full, 3))),
         (Some(0), "", Ok(0)),
-        (Some(3), FALLING, Err((SortedWhy::OutOfOrder(2), 4))),
+        (Some(4), FALLING, Err((SortedWhy::OutOfOrder(2), 4))),
         (
             None,
             "10.0.0.0/16 10.0.0.0/8",

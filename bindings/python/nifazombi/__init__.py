@@ -7,4 +7,4 @@ from .routes import Route, Routes
 from .texts import Texts
 
 __all__ = ["ImageError", "Route", "Routes", "Texts"]
-__version__ = "0.1.0"
+__version__ = "0.9.0"

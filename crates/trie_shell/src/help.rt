@@ -202,11 +202,12 @@ pub const CALLS: &'static [&'static str] = &[
     "complete BEGINNING: the names of the calls that begin so, or none.",
 ];
 
-/// Calls of one kind: what they are called together, what they are for, and their names.
+/// Calls of one kind: what they are called together, what they are for, and their names, each
+/// behind a space but the first.
 struct Group {
     name: &'static str,
     about: &'static str,
-    calls: &'static [&'static str],
+    calls: &'static str,
 }
 
 /// Each call stands in one group.
@@ -214,181 +215,58 @@ const GROUPS: &'static [Group] = &[
     Group {
         name: "pairs",
         about: "one pair: lookups, insertions, removals, and the entry of a key.",
-        calls: &[
-            "insert",
-            "try_insert",
-            "get_or_insert",
-            "entry",
-            "entry_into_key",
-            "entry_get_mut",
-            "entry_insert",
-            "entry_or_insert",
-            "entry_or_insert_with",
-            "entry_and_modify",
-            "entry_remove",
-            "get",
-            "get_counted",
-            "get_with_cost",
-            "contains_key",
-            "get_key_value",
-            "get_mut",
-            "find_mut",
-            "at",
-            "at_mut",
-            "contains",
-            "remove",
-            "remove_entry",
-            "map_with_default",
-        ],
+        calls: "insert try_insert get_or_insert entry entry_into_key entry_get_mut entry_insert \
+            entry_or_insert entry_or_insert_with entry_and_modify entry_remove get get_counted \
+            get_with_cost contains_key get_key_value get_mut find_mut at at_mut contains remove \
+            remove_entry map_with_default",
     },
     Group {
         name: "prefixes",
         about: "the longest stored prefix of a key, and the pairs below one.",
-        calls: &[
-            "find_ancestor_mut",
-            "nearest",
-            "nearest_value",
-            "nearest_with_cost",
-            "remove_prefix",
-            "split_off_prefix",
-            "for_each_mut_below",
-            "retain_below",
-            "below",
-            "count_below",
-            "first_below",
-            "first_after",
-            "longest_match",
-            "common_prefixes",
-            "get_ancestor",
-            "get_ancestor_value",
-            "get_raw_ancestor",
-            "get_raw_descendant",
-            "matching",
-        ],
+        calls: "find_ancestor_mut nearest nearest_value nearest_with_cost remove_prefix \
+            split_off_prefix for_each_mut_below retain_below below count_below first_below \
+            first_after longest_match common_prefixes get_ancestor get_ancestor_value \
+            get_raw_ancestor get_raw_descendant matching",
     },
     Group {
         name: "walks",
         about: "pairs, keys and values in order, ranges of them, the first and the last.",
-        calls: &[
-            "iter",
-            "keys",
-            "values",
-            "cursor",
-            "cursor_back",
-            "range",
-            "range_back",
-            "reserved",
-            "first_key_value",
-            "last_key_value",
-            "pop_first",
-            "pop_last",
-            "to_ascending",
-        ],
+        calls: "iter keys values cursor cursor_back range range_back reserved first_key_value \
+            last_key_value pop_first pop_last to_ascending",
     },
     Group {
         name: "changes",
         about: "many pairs at once.",
-        calls: &[
-            "graft",
-            "merge",
-            "for_each_mut",
-            "retain",
-            "extend",
-            "from_iter",
-            "into_pairs",
-            "clear",
-            "compact",
-            "run",
-            "json",
-        ],
+        calls: "graft merge for_each_mut retain extend from_iter into_pairs clear compact run json",
     },
     Group {
         name: "views",
         about: "the part of a trie below a key as a trie of its own.",
-        calls: &[
-            "children",
-            "key",
-            "value",
-            "value_mut",
-            "prefix",
-            "path",
-            "subtrie",
-            "open",
-            "open_mut",
-            "subtrie_mut",
-            "with",
-            "with_subtrie_mut",
-            "into_children",
-            "into_trie",
-            "spend",
-            "close",
-        ],
+        calls: "children key value value_mut prefix path subtrie open open_mut subtrie_mut with \
+            with_subtrie_mut into_children into_trie spend close",
     },
     Group {
         name: "whole",
         about: "the whole trie: counts and pictures; several tries, and sets of their keys.",
-        calls: &[
-            "begin",
-            "len",
-            "is_empty",
-            "is_leaf",
-            "footprint",
-            "check_integrity",
-            "debug",
-            "use",
-            "tries",
-            "clone",
-            "==",
-            "intersection",
-            "difference",
-            "union",
-            "symmetric_difference",
-            "is_subset",
-            "is_superset",
-            "is_disjoint",
-            "draw",
-            "dot",
-            "stats",
-        ],
+        calls: "begin len is_empty is_leaf footprint check_integrity debug use tries clone == \
+            intersection difference union symmetric_difference is_subset is_superset is_disjoint \
+            draw dot stats",
     },
     Group {
         name: "freezing",
         about: "frozen tries, and files and images of them.",
-        calls: &[
-            "freeze",
-            "frozen_copy",
-            "from_sorted",
-            "thaw",
-            "frozen",
-            "nth",
-            "rank",
-            "push",
-            "finish",
-            "write",
-            "read",
-            "write_image",
-            "read_image",
-        ],
+        calls: "freeze frozen_copy from_sorted thaw frozen nth rank push finish write read \
+            write_image read_image",
     },
     Group {
         name: "types",
         about: "keys of each type, lists of nibbles, bits, networks, lists of parts.",
-        calls: &[
-            "encode",
-            "encode_bytes",
-            "nibblet",
-            "bits",
-            "ipv4",
-            "ipv6",
-            "parts",
-        ],
+        calls: "encode encode_bytes nibblet bits ipv4 ipv6 parts",
     },
     Group {
         name: "session",
         about: "files of answers and words, refused memory, and the shell itself.",
-        calls: &[
-            "error", "save", "load", "watch", "inline", "help", ".help", "quit", "exit", "complete",
-        ],
+        calls: "error save load watch inline help .help quit exit complete",
     },
 ];
 
@@ -416,7 +294,7 @@ fn name_of(line: &'static str) -> &'static str {
 
 /// Whether a call stands in a group.
 fn is_in(group: &Group, name: &str) -> bool {
-    group.calls.iter().any(|call| *call == name)
+    group.calls.split(' ').any(|call| call == name)
 }
 
 /// What is told of a call, of those of a group, or of all, and without a word of the groups.

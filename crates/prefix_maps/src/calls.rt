@@ -52,7 +52,7 @@ pub trait PrefixMap<'a, Q>: Copy {
     // The pairs that a walk has left.
     ghost left: { Self.Walk → List (Stored × Self.Value) };
 
-    // No look-up by this query fails.
+    // No lookup by this query fails.
     ghost is_free: { Q → Type 0 };
 
     // No step of a walk fails, and no range by queries that never do.

@@ -28,7 +28,7 @@ pub struct Rows<'a, A: Address> {
 /// The routes of one family: networks, each with its hop. A contract sees the finite map from the
 /// first bits of each network, those that its addresses share, to the network and its hop.
 ///
-/// The trie is what changes. Where many look-ups come between two changes, they are answered from
+/// The trie is what changes. Where many lookups come between two changes, they are answered from
 /// the same routes in order; no answer depends on it. Routes that were opened stand in order alone,
 /// and the trie is grown at the first change.
 #[derive(Drop)]
@@ -177,7 +177,7 @@ impl Table {
         }
     }
 
-    /// Lays the nodes of both trees anew, so that look-ups in a table that is filled take less
+    /// Lays the nodes of both trees anew, so that lookups in a table that is filled take less
     /// time. Where it fails, the first tree may be laid anew.
     pub fn compact(&mut self) -> Result<(), Memory>
         ensures v4 { self.new.v4 ≡ self.old.v4 }

@@ -1,4 +1,4 @@
-//! What callers show by naming one law: what a look-up finds after a change, what a change leaves,
+//! What callers show by naming one law: what a lookup finds after a change, what a change leaves,
 //! and what a walk gives.
 ghost use Rattle.std.specs.FinMap as finite;
 ghost use Rattle.std.specs.Prelude.{◌≡◌, ◌≢◌, ℕ, List, None, Some, IfOk, OnOk, map as each};

@@ -15,7 +15,7 @@ fn rows<K: Copy, V: Copy>(alloc: Global, walk: Iter<'_, K, V>) -> Result<Vec<(K,
     walk.map(|(key, value)| (*key, *value)).collect(alloc)
 }
 
-/// The routes of a table in order, for look-ups that allocate nothing.
+/// The routes of a table in order, for lookups that allocate nothing.
 fn frozen<A: Address, V: Copy>(
     alloc: Global,
     table: &Trie<Network<A>, V>,

@@ -48,7 +48,7 @@ fn place_of<'a>(
 }
 
 /// The networks of routes, each with the place of its hop, and the hops, each of them once, as
-/// lines. It takes a look-up for each route.
+/// lines. It takes a lookup for each route.
 fn placed<A: Address>(
     alloc: Global,
     rest: Rest<'_, A>,
@@ -67,7 +67,7 @@ fn placed<A: Address>(
     Ok((rows, own))
 }
 
-/// The image of routes in the order of their networks' bits. It takes a look-up for each route, and
+/// The image of routes in the order of their networks' bits. It takes a lookup for each route, and
 /// the time of the family's `to_image`.
 ///
 /// # Errors

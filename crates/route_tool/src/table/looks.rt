@@ -1,4 +1,4 @@
-//! Look-ups, in the trie or among the same routes in order.
+//! Lookups, in the trie or among the same routes in order.
 ghost use Rattle.std.specs.Prelude.{◌≡◌, ◌≤◌, [], IfOk, IsOk, option_copied, option_map};
 ghost use Rattle.radix_trie.specs.Walks.{deref_pair};
 ghost use Rattle.route_tool.specs.Routes.{AreNetworks, IsLongestRoute, hop_of};
@@ -10,19 +10,18 @@ use frozen_routes::{FrozenRoutes, addresses_ask_as_networks};
 use radix_trie::{Address, Memory, Network, Trie, TrieKey};
 use std::alloc::Global;
 
-// The routes are frozen once more than so many look-ups have come since the last change, and one
-// more for each so many routes. To freeze these takes about as long as one look-up among frozen
-// routes saves, so no session takes more than about twice the time that it would take if it were
-// known beforehand which look-ups come.
+// The routes are frozen once more than so many lookups have come since the last change, and one
+// more for each so many routes. To freeze these takes about as long as one lookup among frozen
+// routes saves, so the worst session takes three times what it would take with foresight.
 const LEAST_LOOKS: usize = 64;
 
 const ROUTES_A_LOOK: usize = 16;
 
-/// The routes in order, where look-ups are answered from these, or none of them.
+/// The routes in order, where lookups are answered from these, or none of them.
 #[derive(Drop)]
 pub struct Frozen<A: Address> {
     rows: FrozenRoutes<A, Hop>,
-    /// How many look-ups have come since the last change, while there are no rows.
+    /// How many lookups have come since the last change, while there are no rows.
     looks: usize,
 }
 
@@ -59,7 +58,7 @@ impl<A: Address> Frozen<A> {
         self.looks = 0;
     }
 
-    /// Counts a look-up among so many routes. Gives whether they are to be frozen now; the count
+    /// Counts a lookup among so many routes. Gives whether they are to be frozen now; the count
     /// begins anew then.
     fn is_due(&mut self, routes: usize) -> bool
         ensures { self.new.rows ≡ self.old.rows }
@@ -93,7 +92,7 @@ fn find_in_trie<A: Address>(
 }
 
 impl<A: Address> Routes<A> {
-    /// Freezes the routes: the look-ups until the next change are answered from a table in order.
+    /// Freezes the routes: the lookups until the next change are answered from a table in order.
     /// It takes time for each route.
     pub(super) fn freeze(&mut self) -> Result<(), Memory>
         ensures same { self.new ≡ self.old }
@@ -107,8 +106,8 @@ impl<A: Address> Routes<A> {
         Ok(())
     }
 
-    /// Counts a look-up that is to come, and freezes the routes where enough have come since the
-    /// last change. Where an allocation for it fails, look-ups go on in the trie.
+    /// Counts a lookup that is to come, and freezes the routes where enough have come since the
+    /// last change. Where an allocation for it fails, lookups go on in the trie.
     pub fn expect_look(&mut self)
         ensures same { self.new ≡ self.old }
     {

@@ -55,7 +55,7 @@ len-twice_stored = len-stored once_stored (Some (codes "haskell", 18)) get-once_
 inserts : (m : Numbers) (key answer : List ℕ) (o : Option (List ℕ × ℕ)) → map.get m (nibbles key) ≡ o → answer ≡ insert_answer (option_map (λ p. p.1) o) → answer ≡ insert_answer (value_at m (nibbles key))
 inserts m key answer o found says = says ∙ sym (ap (λ (x : Option (List ℕ × ℕ)). insert_answer (option_map (λ p. p.1) x)) found)
 
--- and a look-up
+-- and a lookup
 gets : (m : Numbers) (key answer : List ℕ) (o : Option (List ℕ × ℕ)) → map.get m (nibbles key) ≡ o → answer ≡ get_answer (option_map (λ p. p.1) o) → answer ≡ get_answer (value_at m (nibbles key))
 gets m key answer o found says = says ∙ sym (ap (λ (x : Option (List ℕ × ℕ)). get_answer (option_map (λ p. p.1) x)) found)
 
@@ -63,7 +63,7 @@ counts_one : (n : ℕ) → n ≡ 1 → codes "1\n" ≡ decimal n ++ 10 ∷ []
 unfolding digits
 counts_one n one = sym (ap (λ (k : ℕ). decimal k ++ 10 ∷ []) one)
 
--- a second insertion answers the old number, and a later look-up the new one
+-- a second insertion answers the old number, and a later lookup the new one
 pub value_is_replaced : (left : Numbers) × AreAnswers Replies (all_lines (codes "insert haskell 18\ninsert haskell 36\nget haskell\nlen\n")) map.empty left (codes "new\nold 18\n36\n1\n")
 unfolding cut request_of is_utf8 chars encode digits no_numbers once_stored twice_stored haskell
 value_is_replaced =

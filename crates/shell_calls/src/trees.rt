@@ -2,7 +2,7 @@
 
 use crate::Table;
 use radix_trie::{BytesError, Memory, Nibblet, SubTrie, TrieCommon, TrieKey};
-use shell_words::{Answer, Key, Kind, NO_KEY, NONE, Words, is_hidden};
+use shell_words::{Answer, Key, Kind, NO_KEY, NONE, NOT_HERE, Words, is_hidden};
 use std::alloc::Global;
 
 /// A point whose line is still to come, and how many points stand above it.
@@ -45,10 +45,11 @@ fn answer_below<Q: TrieKey>(trie: &Table, key: &Q, answer: &mut Answer<'_>) -> R
             add_points(root, answer)?;
             answer.line("}")
         }
-        _ => {
+        "stats" => {
             let depth = add_points(root, answer)?;
             answer_stats(trie, depth, answer)
         }
+        _ => answer.refuse(NOT_HERE),
     }
 }
 

@@ -9,8 +9,8 @@ use trie_set::TrieSet;
 
 /// A call of the set of one trie's keys and that of another's.
 pub fn answer_sides(trie: &Table, other: &Table, answer: &mut Answer<'_>) -> Result<(), Memory> {
-    let keys = set_of(trie, &mut *answer)?;
-    let others = set_of(other, &mut *answer)?;
+    let keys = set_of(trie, answer)?;
+    let others = set_of(other, answer)?;
     answer_of_sets(&keys, &others, answer)
 }
 

@@ -35,7 +35,7 @@ pub fn step_lines<'a, S: Steps<'a> + Drop>(answer: &mut Answer<'_>, walk: S) -> 
     let mut walk = walk;
     let mut is_none = true;
     for _ in 0..u64::MAX {
-        let Some((key, value)) = next_step(&mut walk, &mut *answer)? else {
+        let Some((key, value)) = next_step(&mut walk, answer)? else {
             break;
         };
         is_none = false;

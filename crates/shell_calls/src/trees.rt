@@ -125,7 +125,7 @@ fn add_node(view: &SubTrie<'_, Key, u64>, answer: &mut Answer<'_>) -> Result<(),
     if TrieCommon::key(view).is_none() {
         return answer.put(b"\" [shape=circle, label=\"\", width=0.2]\n");
     }
-    let mut label = scratch(&*answer)?;
+    let mut label = scratch(answer)?;
     add_pair(view, &mut label)?;
     answer.put(b"\" [label=\"")?;
     add_quoted(label.as_bytes(), answer)?;
@@ -136,7 +136,7 @@ fn add_node(view: &SubTrie<'_, Key, u64>, answer: &mut Answer<'_>) -> Result<(),
 fn add_edges(view: &SubTrie<'_, Key, u64>, answer: &mut Answer<'_>) -> Result<(), Memory> {
     let is_whole = view.path().len() % 2 == 0;
     for child in view.children()? {
-        let label = fragment_of(is_whole, &TrieCommon::prefix(&child)?, &*answer)?;
+        let label = fragment_of(is_whole, &TrieCommon::prefix(&child)?, answer)?;
         answer.put(b"  \"")?;
         answer.shown(view.path())?;
         answer.put(b"\" -> \"")?;

@@ -1,7 +1,8 @@
 //! The calls: their names and words, and what each answers.
 
 use radix_trie::Memory;
-use shell_words::{Answer, NONE};
+use shell_calls::lines::none_line;
+use shell_words::Answer;
 
 /// A line for each call, or several: its name, a word for each of its words, those that may be left
 /// out in brackets, and what it answers. Two dots stand for any number of words. A call that
@@ -414,11 +415,6 @@ fn name_of(line: &'static str) -> &'static str {
     }
 }
 
-/// Whether a call stands in a group.
-fn is_in(group: &Group, name: &str) -> bool {
-    group.calls.iter().any(|call| *call == name)
-}
-
 /// What is told of a call, of those of a group, or of all, and without a word of the groups.
 pub fn answer_help(answer: &mut Answer<'_>) -> Result<(), Memory> {
     let Some(meant) = answer.next_word() else {
@@ -428,12 +424,12 @@ pub fn answer_help(answer: &mut Answer<'_>) -> Result<(), Memory> {
     let mut is_none = true;
     for line in calls() {
         let name = name_of(*line);
-        if meant == "all" || meant == name || group.is_some_and(|it| is_in(it, name)) {
+        if meant == "all" || meant == name || group.is_some_and(|it| it.calls.contains(&name)) {
             is_none = false;
             answer.line(*line)?;
         }
     }
-    if is_none { answer.line(NONE) } else { Ok(()) }
+    none_line(answer, is_none)
 }
 
 /// The groups, each with what it is for.
@@ -458,9 +454,5 @@ pub fn answer_complete(answer: &mut Answer<'_>) -> Result<(), Memory> {
             answer.line(name)?;
         }
     }
-    if last.is_empty() {
-        answer.line(NONE)
-    } else {
-        Ok(())
-    }
+    none_line(answer, last.is_empty())
 }

@@ -23,7 +23,7 @@ pub fn next_bounds(answer: &mut Answer<'_>) -> Result<Option<Bounds>, Memory> {
         }
         return Ok(bound_of(first, '<', answer)?.map(|to| (Bound::Unbounded, to)));
     }
-    let Some(from) = bound_of(first, '>', &mut *answer)? else {
+    let Some(from) = bound_of(first, '>', answer)? else {
         return Ok(None);
     };
     let Some(second) = answer.next_word() else {

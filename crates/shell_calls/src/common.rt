@@ -4,7 +4,7 @@ use crate::bounds::{Bounds, next_bounds};
 use crate::lines::{key_line, key_lines, pair_line, value_lines, walk_lines};
 use crate::steps::step_lines;
 use radix_trie::{Memory, TrieCommon};
-use shell_words::{Answer, Key};
+use shell_words::{Answer, Key, NOT_HERE};
 
 /// What such a call of a trie or a view answers. False: it is none.
 pub fn answer_common<'a, T: TrieCommon<'a, Key, u64> + Drop>(
@@ -43,6 +43,7 @@ fn range_lines<'a, T: TrieCommon<'a, Key, u64> + Drop>(
     match answer.name() {
         "range" => step_lines(answer, of.range::<Key, _>(bounds)?),
         "range_back" => step_lines(answer, of.range_back::<Key, _>(bounds)?),
-        _ => walk_lines(answer, of.range::<Key, _>(bounds)?.reserved()?),
+        "reserved" => walk_lines(answer, of.range::<Key, _>(bounds)?.reserved()?),
+        _ => answer.refuse(NOT_HERE),
     }
 }

@@ -8,6 +8,7 @@ use radix_trie::{
     FindError, InsertError, InsertWhy, Memory, Refused, SubTrieError, TrieEdit, TryInsertWhy,
 };
 use shell_words::{Answer, Key, Kind, NO_KEY, NO_NUMBER, NONE};
+use std::mem;
 
 /// What is answered where a call that failed hands another pair back.
 pub const OTHER: &'static str = "another pair came back";
@@ -19,20 +20,7 @@ pub struct NewPair<'a> {
     pub value: u64,
 }
 
-/// What an insertion answers: the old value, or why it failed. Where an allocation did, key and
-/// value have come back.
-pub fn insert_line(
-    answer: &mut Answer<'_>,
-    new_pair: NewPair<'_>,
-    outcome: Result<Option<u64>, InsertError<Key, u64>>,
-) -> Result<(), Memory> {
-    match outcome {
-        Ok(old) => answer.value_line(old),
-        Err(error) => refused_line(answer, new_pair, error),
-    }
-}
-
-/// What a failed insertion answers.
+/// What a failed insertion answers. Where an allocation failed, key and value have come back.
 pub fn refused_line(
     answer: &mut Answer<'_>,
     new_pair: NewPair<'_>,
@@ -87,7 +75,7 @@ pub fn note_pair(
     Ok(())
 }
 
-/// A change that tries and views for writing have in common, and the look-up that they have. False:
+/// A change that tries and views for writing have in common, and the lookup that they have. False:
 /// the call is none.
 pub fn answer_change<T: TrieEdit<Key, u64>>(
     of: &mut T,
@@ -201,7 +189,7 @@ pub fn outside_line(answer: &mut Answer<'_>, error: SubTrieError) -> Result<(), 
 
 /// Adds the number to the value, where its key isn't the other one.
 pub fn add_unless(key: &Key, value: &mut u64, other: &Key, added: u64) {
-    if !(key == other) {
+    if key != other {
         *value = value.wrapping_add(added);
     }
 }
@@ -240,7 +228,5 @@ pub fn written_or_none(answer: &mut Answer<'_>, value: Option<&mut u64>) -> Resu
     let Some(value) = value else {
         return answer.line(NONE);
     };
-    let old = *value;
-    *value = number;
-    answer.value_line(Some(old))
+    answer.value_line(Some(mem::replace(value, number)))
 }

@@ -1,10 +1,11 @@
 //! What is done at a key's entry.
 
 use crate::Table;
-use crate::edits::{NewPair, insert_line, note_pair, refused_line, written_or_none};
+use crate::edits::{NewPair, note_pair, refused_line, written_or_none};
 use crate::lines::{key_line, taken_line};
 use radix_trie::{Memory, Refused};
-use shell_words::{Answer, Key, NO_KEY, NO_NUMBER};
+use shell_words::{Answer, Key, NO_KEY, NO_NUMBER, NOT_HERE};
+use std::mem;
 
 /// A call of the entry of the key that the next word writes. False: the call is none.
 pub fn answer_entry(trie: &mut Table, answer: &mut Answer<'_>) -> Result<bool, Memory> {
@@ -47,14 +48,15 @@ fn answer_at(
             Ok(mut entry) => written_or_none(answer, entry.get_mut()),
             Err(error) => no_entry(answer, word, error),
         },
-        _ => match trie.entry(key) {
+        "entry_remove" => match trie.entry(key) {
             Ok(entry) => taken_line(answer, &entry.remove()?),
             Err(error) => no_entry(answer, word, error),
         },
+        _ => answer.refuse(NOT_HERE),
     }
 }
 
-/// There is no entry for want of memory. Its key has come back.
+/// Fails where memory for the entry was refused, and notes whether its key has come back.
 fn no_entry(
     answer: &mut Answer<'_>,
     word: &str,
@@ -92,7 +94,10 @@ fn answer_insert(
         return answer.refuse(NO_NUMBER);
     };
     match trie.entry(key) {
-        Ok(entry) => insert_line(answer, NewPair { word, value }, entry.insert(value)),
+        Ok(entry) => match entry.insert(value) {
+            Ok(old) => answer.value_line(old),
+            Err(error) => refused_line(answer, NewPair { word, value }, error),
+        },
         Err(error) => no_entry(answer, word, error),
     }
 }
@@ -116,11 +121,7 @@ fn answer_or_insert(
                 entry.or_insert(value)
             };
             match filled {
-                Ok(stored) => {
-                    let old = *stored;
-                    *stored = number;
-                    answer.value_line(Some(old))
-                }
+                Ok(stored) => answer.value_line(Some(mem::replace(stored, number))),
                 Err(error) => refused_line(answer, NewPair { word, value }, error),
             }
         }

@@ -72,7 +72,7 @@ pub fn pair_lines<'a, I: Iterator<Item = (&'a Key, &'a u64)> + Drop>(
     none_line(answer, is_none)
 }
 
-/// Says that there is none, where there is.
+/// Answers that there is none, where a walk had nothing.
 pub fn none_line(answer: &mut Answer<'_>, is_none: bool) -> Result<(), Memory> {
     if is_none { answer.line(NONE) } else { Ok(()) }
 }

@@ -1,11 +1,11 @@
-//! Look-ups in a trie.
+//! Lookups in a trie.
 
 use crate::Table;
 use crate::lines::{child_lines, footprint_line, pair_line, pair_lines, view_line};
 use radix_trie::{Memory, Nibblet};
-use shell_words::{Answer, Key, NO_KEY, NO_LIST, NO_NUMBER, NONE};
+use shell_words::{Answer, Key, NO_KEY, NO_LIST, NO_NUMBER, NONE, NOT_HERE};
 
-/// A look-up of what the next word writes. False: the call is none.
+/// A lookup of what the next word writes. False: the call is none.
 pub fn answer_keyed(trie: &Table, answer: &mut Answer<'_>) -> Result<bool, Memory> {
     match answer.name() {
         "get_counted"
@@ -26,7 +26,7 @@ pub fn answer_keyed(trie: &Table, answer: &mut Answer<'_>) -> Result<bool, Memor
     Ok(true)
 }
 
-/// A look-up at the key.
+/// A lookup at the key.
 fn answer_at(trie: &Table, key: &Key, answer: &mut Answer<'_>) -> Result<(), Memory> {
     match answer.name() {
         "get_counted" => {
@@ -69,17 +69,18 @@ fn answer_page(
     }
 }
 
-/// A look-up that returns a view.
+/// A lookup that returns a view.
 fn answer_view(trie: &Table, key: &Key, answer: &mut Answer<'_>) -> Result<(), Memory> {
     match answer.name() {
         "subtrie" => view_line(answer, trie.subtrie(key)?.as_ref()),
         "get_ancestor" => view_line(answer, trie.get_ancestor(key)?.as_ref()),
         "get_raw_ancestor" => view_line(answer, Some(&trie.get_raw_ancestor(key)?)),
-        _ => view_line(answer, trie.get_raw_descendant(key)?.as_ref()),
+        "get_raw_descendant" => view_line(answer, trie.get_raw_descendant(key)?.as_ref()),
+        _ => answer.refuse(NOT_HERE),
     }
 }
 
-/// A look-up at the list that the next word writes. False: the call is none.
+/// A lookup at the list that the next word writes. False: the call is none.
 pub fn answer_listed(trie: &Table, answer: &mut Answer<'_>) -> Result<bool, Memory> {
     match answer.name() {
         "at" | "contains" | "nearest" | "nearest_value" | "nearest_with_cost" => {}
@@ -98,7 +99,7 @@ fn answer_at_list(trie: &Table, list: &Nibblet, answer: &mut Answer<'_>) -> Resu
         "contains" => answer.truth_line(trie.contains(list)),
         "nearest" => pair_line(answer, trie.nearest(list)),
         "nearest_value" => answer.value_line(trie.nearest_value(list).copied()),
-        _ => {
+        "nearest_with_cost" => {
             let (pair, cost) = trie.nearest_with_cost(list);
             match pair {
                 Some((key, value)) => {
@@ -110,10 +111,11 @@ fn answer_at_list(trie: &Table, list: &Nibblet, answer: &mut Answer<'_>) -> Resu
             answer.number(cost.nodes as u128)?;
             answer.count_line(cost.nibbles)
         }
+        _ => answer.refuse(NOT_HERE),
     }
 }
 
-/// A look-up of the whole. False: the call is none.
+/// A call that looks at the whole trie. False: the call is none.
 pub fn answer_whole(trie: &Table, answer: &mut Answer<'_>) -> Result<bool, Memory> {
     match answer.name() {
         "children" => child_lines(answer, trie.children()?)?,

@@ -4,16 +4,15 @@ use crate::Table;
 use crate::lines::none_line;
 use radix_trie::{Command, Memory, Reply, ViewCommand, run};
 use shell_words::{Answer, Key};
-use std::mem;
 
 /// The commands that were read, and those of a view that are being read.
 #[derive(Drop)]
-struct List {
+struct CommandList {
     commands: Vec<Command<Key, u64>>,
     inner: Option<(Key, Vec<ViewCommand<Key, u64>>)>,
 }
 
-/// A command that tries and views have, of this name.
+/// The command of this name that tries and views have, whose key and value are the next words.
 fn view_command(
     name: &str,
     answer: &mut Answer<'_>,
@@ -46,9 +45,9 @@ fn of_trie(command: ViewCommand<Key, u64>) -> Command<Key, u64> {
     }
 }
 
-impl List {
-    /// Adds the command of this name, whose key and value are the next words. False: they are none
-    /// of a command.
+impl CommandList {
+    /// Adds the command of this name, whose key and value are the next words. False: there is no
+    /// such command, or the words are no such key or value.
     fn add(&mut self, name: &str, answer: &mut Answer<'_>) -> Result<bool, Memory> {
         if let "within" | "ancestor" = name
             && self.inner.is_some()
@@ -56,7 +55,7 @@ impl List {
             return Ok(false);
         }
         match name {
-            "end" => match mem::replace(&mut self.inner, None) {
+            "end" => match self.inner.take() {
                 Some((key, list)) => self.commands.push(Command::Within(key, list))?,
                 None => return Ok(false),
             },
@@ -77,7 +76,7 @@ impl List {
 
 /// The commands that the words write, if they write commands.
 fn commands_of(answer: &mut Answer<'_>) -> Result<Option<Vec<Command<Key, u64>>>, Memory> {
-    let mut list = List {
+    let mut list = CommandList {
         commands: Vec::new(answer.alloc()),
         inner: None,
     };

@@ -3,14 +3,14 @@
 use crate::Table;
 use crate::steps::{step_again, step_lines};
 use radix_trie::{Memory, TrieCommon};
-use shell_words::{Answer, Key};
+use shell_words::{Answer, Key, NOT_HERE};
 use std::alloc::Global;
 use trie_set::TrieSet;
 
 /// A call of the set of one trie's keys and that of another's.
 pub fn answer_sides(trie: &Table, other: &Table, answer: &mut Answer<'_>) -> Result<(), Memory> {
-    let keys = set_of(trie, &mut *answer)?;
-    let others = set_of(other, &mut *answer)?;
+    let keys = set_of(trie, answer)?;
+    let others = set_of(other, answer)?;
     answer_of_sets(&keys, &others, answer)
 }
 
@@ -26,7 +26,8 @@ fn answer_of_sets(
         "symmetric_difference" => step_lines(answer, keys.symmetric_difference(others)?),
         "is_subset" => answer.truth_line(keys.is_subset(others)?),
         "is_superset" => answer.truth_line(keys.is_superset(others)?),
-        _ => answer.truth_line(keys.is_disjoint(others)?),
+        "is_disjoint" => answer.truth_line(keys.is_disjoint(others)?),
+        _ => answer.refuse(NOT_HERE),
     }
 }
 
@@ -42,9 +43,9 @@ fn set_of(trie: &Table, answer: &mut Answer<'_>) -> Result<TrieSet<Key>, Memory>
 fn copied_keys(alloc: Global, trie: &Table) -> Result<TrieSet<Key>, Memory> {
     let mut set = TrieSet::new(alloc);
     for key in TrieCommon::keys(trie)? {
-        let Ok(_) = set.insert(key.clone()?) else {
+        if set.insert(key.clone()?).is_err() {
             return Err(Memory);
-        };
+        }
     }
     Ok(set)
 }

@@ -14,33 +14,19 @@ pub trait Steps<'a> {
 
 impl<'a> Steps<'a> for Cursor<'a, Key, u64> {
     fn step(&mut self) -> Result<Option<(&'a Key, Option<u64>)>, Memory> {
-        Ok(with_value(self.next()?))
+        Ok(self.next()?.map(|(key, value)| (key, Some(*value))))
     }
 }
 
 impl<'a> Steps<'a> for CursorBack<'a, Key, u64> {
     fn step(&mut self) -> Result<Option<(&'a Key, Option<u64>)>, Memory> {
-        Ok(with_value(self.next()?))
+        Ok(self.next()?.map(|(key, value)| (key, Some(*value))))
     }
 }
 
 impl<'a> Steps<'a> for Selection<'a, Key> {
     fn step(&mut self) -> Result<Option<(&'a Key, Option<u64>)>, Memory> {
-        Ok(without_value(self.next()?))
-    }
-}
-
-fn with_value<'a>(pair: Option<(&'a Key, &'a u64)>) -> Option<(&'a Key, Option<u64>)> {
-    match pair {
-        Some((key, value)) => Some((key, Some(*value))),
-        None => None,
-    }
-}
-
-fn without_value(key: Option<&Key>) -> Option<(&Key, Option<u64>)> {
-    match key {
-        Some(key) => Some((key, None)),
-        None => None,
+        Ok(self.next()?.map(|key| (key, None)))
     }
 }
 
@@ -49,7 +35,7 @@ pub fn step_lines<'a, S: Steps<'a> + Drop>(answer: &mut Answer<'_>, walk: S) -> 
     let mut walk = walk;
     let mut is_none = true;
     for _ in 0..u64::MAX {
-        let Some((key, value)) = next_step(&mut walk, &mut *answer)? else {
+        let Some((key, value)) = next_step(&mut walk, answer)? else {
             break;
         };
         is_none = false;

@@ -7,7 +7,8 @@ use crate::edits::{
 };
 use crate::lines::taken_line;
 use radix_trie::Memory;
-use shell_words::{Answer, Key, NO_KEY, NO_NUMBER};
+use shell_words::{Answer, Key, NO_KEY, NO_NUMBER, NOT_HERE};
+use std::mem;
 
 /// A change of a trie that may store a pair, by the numbers that the next words write. False: the
 /// call is none.
@@ -25,15 +26,18 @@ pub fn answer_store(trie: &mut Table, answer: &mut Answer<'_>) -> Result<bool, M
     };
     match answer.name() {
         "map_with_default" => answer_map(trie, key, word, value, answer)?,
-        "get_or_insert" => answer_filled(trie, key, NewPair { word, value }, answer)?,
-        _ => try_insert_line(answer, NewPair { word, value }, trie.try_insert(key, value))?,
+        "get_or_insert" => answer_get_or_insert(trie, key, NewPair { word, value }, answer)?,
+        "try_insert" => {
+            try_insert_line(answer, NewPair { word, value }, trie.try_insert(key, value))?
+        }
+        _ => return Ok(false),
     }
     Ok(true)
 }
 
 /// Writes the number of the next word where the value at the key stands, or the default, which is
 /// stored first. The answer is what stood there.
-fn answer_filled(
+fn answer_get_or_insert(
     trie: &mut Table,
     key: Key,
     new_pair: NewPair<'_>,
@@ -43,11 +47,7 @@ fn answer_filled(
         return answer.refuse(NO_NUMBER);
     };
     match trie.get_or_insert(key, new_pair.value) {
-        Ok(value) => {
-            let old = *value;
-            *value = number;
-            answer.value_line(Some(old))
-        }
+        Ok(value) => answer.value_line(Some(mem::replace(value, number))),
         Err(error) => refused_line(answer, new_pair, error),
     }
 }
@@ -104,12 +104,13 @@ fn answer_edit_at(trie: &mut Table, key: &Key, answer: &mut Answer<'_>) -> Resul
             }
             None => Ok(()),
         },
-        _ => match answer.next_number() {
+        "retain_below" => match answer.next_number() {
             Some(least) => {
                 trie.retain_below(key, |_: &Key, value: &u64| *value >= least)?;
                 answer.line("ok")
             }
             None => answer.refuse(NO_NUMBER),
         },
+        _ => answer.refuse(NOT_HERE),
     }
 }

@@ -66,7 +66,7 @@ fn pairs_of(answer: &mut Answer<'_>) -> Result<Option<Vec<(Key, u64)>>, Memory> 
 /// The same. Where an allocation for them fails, the words are read once more.
 pub fn given_pairs(answer: &mut Answer<'_>) -> Result<Option<Vec<(Key, u64)>>, Memory> {
     let words = answer.words();
-    if let Ok(pairs) = pairs_of(&mut *answer) {
+    if let Ok(pairs) = pairs_of(answer) {
         return Ok(pairs);
     }
     answer.read_on(words);

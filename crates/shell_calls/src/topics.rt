@@ -89,7 +89,7 @@ fn ascending_lines<T: KeySigned + TryFrom<i128> + Display + Drop>(
 where
     T::Error: Drop,
 {
-    let turned = integers_of::<T>(trie, &*answer)?.to_ascending()?;
+    let turned = integers_of::<T>(trie, answer)?.to_ascending()?;
     let mut is_none = true;
     for key in TrieCommon::keys(&turned)? {
         is_none = false;

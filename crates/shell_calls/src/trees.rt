@@ -2,7 +2,7 @@
 
 use crate::Table;
 use radix_trie::{BytesError, Memory, Nibblet, SubTrie, TrieCommon, TrieKey};
-use shell_words::{Answer, Key, Kind, NO_KEY, NONE, Words, is_hidden};
+use shell_words::{Answer, Key, Kind, NO_KEY, NONE, NOT_HERE, Words, is_hidden};
 use std::alloc::Global;
 
 /// A point whose line is still to come, and how many points stand above it.
@@ -45,10 +45,11 @@ fn answer_below<Q: TrieKey>(trie: &Table, key: &Q, answer: &mut Answer<'_>) -> R
             add_points(root, answer)?;
             answer.line("}")
         }
-        _ => {
+        "stats" => {
             let depth = add_points(root, answer)?;
             answer_stats(trie, depth, answer)
         }
+        _ => answer.refuse(NOT_HERE),
     }
 }
 
@@ -124,7 +125,7 @@ fn add_node(view: &SubTrie<'_, Key, u64>, answer: &mut Answer<'_>) -> Result<(),
     if TrieCommon::key(view).is_none() {
         return answer.put(b"\" [shape=circle, label=\"\", width=0.2]\n");
     }
-    let mut label = scratch(&*answer)?;
+    let mut label = scratch(answer)?;
     add_pair(view, &mut label)?;
     answer.put(b"\" [label=\"")?;
     add_quoted(label.as_bytes(), answer)?;
@@ -135,7 +136,7 @@ fn add_node(view: &SubTrie<'_, Key, u64>, answer: &mut Answer<'_>) -> Result<(),
 fn add_edges(view: &SubTrie<'_, Key, u64>, answer: &mut Answer<'_>) -> Result<(), Memory> {
     let is_whole = view.path().len() % 2 == 0;
     for child in view.children()? {
-        let label = fragment_of(is_whole, &TrieCommon::prefix(&child)?, &*answer)?;
+        let label = fragment_of(is_whole, &TrieCommon::prefix(&child)?, answer)?;
         answer.put(b"  \"")?;
         answer.shown(view.path())?;
         answer.put(b"\" -> \"")?;

@@ -1,8 +1,9 @@
 //! The calls of what keys are made of.
 
 use crate::answer::Answer;
+use crate::bits::answer_bits;
 use crate::encodings::answer_encoding;
-use crate::lists::{answer_bits, answer_nibblet};
+use crate::lists::answer_nibblet;
 use crate::networks::answer_network;
 use crate::part_lists::answer_parts;
 use crate::says::NOT_HERE;
@@ -40,16 +41,47 @@ fn answer_named(family: &str, answer: &mut Answer<'_>) -> Result<(), Memory> {
 
 /// How many words stand behind the name of a call of the family, if it has a call of that name.
 fn count_behind(family: &str, name: &str) -> Option<usize> {
-    Some(match (family, name) {
-        ("nibblet", "from_byte_vec" | "from_hex" | "clone" | "len" | "turn_over") => 1,
-        ("nibblet", "get" | "push" | "join" | "split" | "head" | "tail" | "truncate") => 2,
-        ("nibblet", "agreement") => 3,
-        ("bits", "clone") => 1,
-        ("bits", "first_of" | "first_of_u32" | "first_of_u128") => 2,
-        ("ipv4" | "ipv6", "from_str" | "host" | "base" | "bits" | "clone") => 1,
-        ("ipv4" | "ipv6", "new" | "around" | "holds" | "cmp") => 2,
-        ("parts", "clone" | "len" | "iter" | "rev" | "is_filter" | "is_topic") => 1,
-        ("parts", "split" | "of_path" | "reversed" | "push" | "push_bytes" | "cmp") => 2,
-        _ => return None,
-    })
+    match family {
+        "nibblet" => count_of_list(name),
+        "bits" => count_of_bits(name),
+        "parts" => count_of_parts(name),
+        _ => count_of_network(name),
+    }
+}
+
+/// Of a call of a list of nibbles.
+fn count_of_list(name: &str) -> Option<usize> {
+    match name {
+        "from_byte_vec" | "from_hex" | "clone" | "len" | "turn_over" => Some(1),
+        "get" | "push" | "join" | "split" | "head" | "tail" | "truncate" => Some(2),
+        "agreement" => Some(3),
+        _ => None,
+    }
+}
+
+/// Of a call of bits.
+fn count_of_bits(name: &str) -> Option<usize> {
+    match name {
+        "clone" => Some(1),
+        "first_of" | "first_of_u32" | "first_of_u128" => Some(2),
+        _ => None,
+    }
+}
+
+/// Of a call of a network.
+fn count_of_network(name: &str) -> Option<usize> {
+    match name {
+        "from_str" | "host" | "base" | "bits" | "clone" => Some(1),
+        "new" | "around" | "holds" | "cmp" => Some(2),
+        _ => None,
+    }
+}
+
+/// Of a call of parts.
+fn count_of_parts(name: &str) -> Option<usize> {
+    match name {
+        "clone" | "len" | "iter" | "rev" | "is_filter" | "is_topic" => Some(1),
+        "split" | "of_path" | "reversed" | "push" | "push_bytes" | "cmp" => Some(2),
+        _ => None,
+    }
 }

@@ -7,7 +7,6 @@ use crate::says::{NO_KEY, NO_TYPE};
 use radix_keys::{
     Ascending, BigEndian, BytesError, KeyInt, KeySigned, LittleEndian, Memory, TrieKey,
 };
-use std::alloc::Global;
 use std::str::FromStr;
 
 /// The encoding of a key, as nibbles or as bytes: the next words are its type, and the key.
@@ -62,6 +61,7 @@ fn encoding_line<K: TrieKey + Drop>(
     }
 }
 
+/// The encoding of the integer that the next word writes, as big-endian bytes.
 fn big<T: KeyInt + FromStr>(answer: &mut Answer<'_>, is_bytes: bool) -> Result<(), Memory>
 where
     T::Err: Drop,
@@ -70,6 +70,7 @@ where
     encoding_line(answer, key, is_bytes)
 }
 
+/// The same as little-endian bytes.
 fn little<T: KeyInt + FromStr>(answer: &mut Answer<'_>, is_bytes: bool) -> Result<(), Memory>
 where
     T::Err: Drop,
@@ -78,6 +79,7 @@ where
     encoding_line(answer, key, is_bytes)
 }
 
+/// The same of a signed integer, in ascending order.
 fn ascending<T: KeySigned + FromStr>(answer: &mut Answer<'_>, is_bytes: bool) -> Result<(), Memory>
 where
     T::Err: Drop,
@@ -86,6 +88,7 @@ where
     encoding_line(answer, key, is_bytes)
 }
 
+/// Integers in wrappers, which say how they are encoded.
 fn answer_wrapped(name: &str, is_bytes: bool, answer: &mut Answer<'_>) -> Result<bool, Memory> {
     match name {
         "BigEndian<u16>" => big::<u16>(answer, is_bytes)?,
@@ -110,11 +113,7 @@ fn answer_composed(name: &str, is_bytes: bool, answer: &mut Answer<'_>) -> Resul
     match name {
         "&str" | "&[u8]" | "&String" | "&mut&str" => answer_lent(name, is_bytes, answer)?,
         "Vec<u16>" => {
-            let word = answer.next_word().unwrap_or("");
-            let key = match numbers_of(answer.alloc(), word) {
-                Ok(key) => key,
-                Err(_) => numbers_of(answer.alloc(), word)?,
-            };
+            let key = answer.next_read::<Vec<u16>>()?;
             encoding_line(answer, key, is_bytes)?
         }
         "[u8;2]" | "[u8;16]" | "[u8;17]" => answer_array(name, is_bytes, answer)?,
@@ -139,42 +138,16 @@ fn answer_lent(name: &str, is_bytes: bool, answer: &mut Answer<'_>) -> Result<()
     }
 }
 
-/// The numbers that the word writes, with a comma between two.
-fn numbers_of(alloc: Global, word: &str) -> Result<Option<Vec<u16>>, Memory> {
-    let mut numbers = Vec::new(alloc);
-    for text in word.split(',') {
-        match text.parse() {
-            Ok(number) => numbers.push(number)?,
-            Err(_) => return Ok(None),
-        }
-    }
-    Ok(Some(numbers))
-}
-
-/// The array of the bytes, if there are as many.
-fn array_of<const N: usize>(bytes: &[u8]) -> Option<[u8; N]> {
-    if bytes.len() != N {
-        return None;
-    }
-    let mut array = [0u8; N];
-    array.copy_from_slice(bytes);
-    Some(array)
-}
-
-/// The bytes that the next word stands for, or none.
-fn next_bytes(answer: &mut Answer<'_>) -> Result<Vec<u8>, Memory> {
-    match answer.next_read::<Vec<u8>>()? {
-        Some(bytes) => Ok(bytes),
-        None => Ok(Vec::new(answer.alloc())),
-    }
-}
-
+/// Arrays of the bytes that the next word stands for.
 fn answer_array(name: &str, is_bytes: bool, answer: &mut Answer<'_>) -> Result<(), Memory> {
-    let bytes = next_bytes(answer)?;
+    let Some(bytes) = answer.next_read::<Vec<u8>>()? else {
+        return answer.refuse(NO_KEY);
+    };
+    let bytes = bytes.as_slice();
     match name {
-        "[u8;2]" => encoding_line(answer, array_of::<2>(bytes.as_slice()), is_bytes),
-        "[u8;16]" => encoding_line(answer, array_of::<16>(bytes.as_slice()), is_bytes),
-        _ => encoding_line(answer, array_of::<17>(bytes.as_slice()), is_bytes),
+        "[u8;2]" => encoding_line(answer, <[u8; 2]>::try_from(bytes).ok(), is_bytes),
+        "[u8;16]" => encoding_line(answer, <[u8; 16]>::try_from(bytes).ok(), is_bytes),
+        _ => encoding_line(answer, <[u8; 17]>::try_from(bytes).ok(), is_bytes),
     }
 }
 
@@ -186,28 +159,20 @@ fn answer_pair(name: &str, is_bytes: bool, answer: &mut Answer<'_>) -> Result<()
         .unwrap_or(("", ""));
     match name {
         "(u8,u16)" => {
-            let key = both(first.parse::<u8>().ok(), second.parse::<u16>().ok());
+            let key = first.parse::<u8>().ok().zip(second.parse::<u16>().ok());
             encoding_line(answer, key, is_bytes)
         }
         "(u128,u8)" => {
-            let key = both(first.parse::<u128>().ok(), second.parse::<u8>().ok());
+            let key = first.parse::<u128>().ok().zip(second.parse::<u8>().ok());
             encoding_line(answer, key, is_bytes)
         }
         "([u8;17],u8)" => {
-            let key = both(array_of::<17>(first.as_bytes()), second.parse::<u8>().ok());
-            encoding_line(answer, key, is_bytes)
+            let array = <[u8; 17]>::try_from(first.as_bytes()).ok();
+            encoding_line(answer, array.zip(second.parse::<u8>().ok()), is_bytes)
         }
         _ => {
-            let key = both(first.parse::<u8>().ok(), array_of::<17>(second.as_bytes()));
-            encoding_line(answer, key, is_bytes)
+            let array = <[u8; 17]>::try_from(second.as_bytes()).ok();
+            encoding_line(answer, first.parse::<u8>().ok().zip(array), is_bytes)
         }
-    }
-}
-
-/// The two, if both are there.
-fn both<A: Drop, B: Drop>(first: Option<A>, second: Option<B>) -> Option<(A, B)> {
-    match (first, second) {
-        (Some(first), Some(second)) => Some((first, second)),
-        _ => None,
     }
 }

@@ -3,6 +3,7 @@
 #![tactic(auto)]
 
 mod answer;
+mod bits;
 mod calls;
 mod encodings;
 mod key;

@@ -1,27 +1,25 @@
-//! Calls of lists of nibbles, and of bits.
+//! Calls of lists of nibbles.
 
 use crate::answer::Answer;
 use crate::says::{NO_KEY, NO_LIST, NO_NUMBER, NONE};
 use crate::words::digit;
-use radix_keys::{Bits, Memory, Nibblet};
+use radix_keys::{Memory, Nibblet};
 
 /// A call of the list that the next words name, or that makes one.
 pub fn answer_nibblet(name: &str, answer: &mut Answer<'_>) -> Result<(), Memory> {
-    if name == "from_byte_vec" {
-        return match answer.next_read::<Vec<u8>>()? {
+    match name {
+        "from_byte_vec" => match answer.next_read::<Vec<u8>>()? {
             Some(bytes) => {
                 let list = Nibblet::from_byte_vec(answer.alloc(), bytes)?;
                 answer.list_line(&list)
             }
             None => answer.refuse(NO_KEY),
-        };
-    }
-    if name == "from_hex" {
-        return answer_read(answer);
-    }
-    match answer.next_read::<Nibblet>()? {
-        Some(mut list) => answer_list(name, &mut list, answer),
-        None => answer.refuse(NO_LIST),
+        },
+        "from_hex" => answer_from_hex(answer),
+        _ => match answer.next_read::<Nibblet>()? {
+            Some(mut list) => answer_list(name, &mut list, answer),
+            None => answer.refuse(NO_LIST),
+        },
     }
 }
 
@@ -38,7 +36,7 @@ fn answer_list(name: &str, list: &mut Nibblet, answer: &mut Answer<'_>) -> Resul
 }
 
 /// The list of the digits of the next word's text, if it has no other character.
-fn answer_read(answer: &mut Answer<'_>) -> Result<(), Memory> {
+fn answer_from_hex(answer: &mut Answer<'_>) -> Result<(), Memory> {
     let Some(text) = answer.next_read::<String>()? else {
         return answer.refuse(NO_KEY);
     };
@@ -122,44 +120,7 @@ fn answer_cut(name: &str, list: &mut Nibblet, answer: &mut Answer<'_>) -> Result
             list.truncate(i);
             answer.list_line(list)
         }
-        _ if i < list.len() => answer.count_line(list.get(i) as usize),
+        "get" if i < list.len() => answer.count_line(list.get(i) as usize),
         _ => answer.refuse(NO_NUMBER),
     }
-}
-
-/// A call that makes a list of bits.
-pub fn answer_bits(name: &str, answer: &mut Answer<'_>) -> Result<(), Memory> {
-    match name {
-        "clone" => match answer.next_read::<Bits>()? {
-            Some(bits) => answer.list_line(bits.clone()?.as_list()),
-            None => answer.refuse(NO_KEY),
-        },
-        "first_of" => match (
-            answer.next_read::<Vec<u8>>()?,
-            answer.next_parsed::<usize>(),
-        ) {
-            (Some(bytes), Some(count)) => {
-                let bits = Bits::first_of(answer.alloc(), bytes.as_slice(), count)?;
-                answer.list_line(bits.as_list())
-            }
-            (Some(_), None) => answer.refuse(NO_NUMBER),
-            (None, _) => answer.refuse(NO_KEY),
-        },
-        _ => answer_first_bits(name, answer),
-    }
-}
-
-/// The first bits of a number.
-fn answer_first_bits(name: &str, answer: &mut Answer<'_>) -> Result<(), Memory> {
-    let alloc = answer.alloc();
-    let number = answer.next_parsed::<u128>();
-    let (Some(number), Some(count)) = (number, answer.next_parsed::<usize>()) else {
-        return answer.refuse(NO_NUMBER);
-    };
-    let bits = match (name, u32::try_from(number)) {
-        ("first_of_u128", _) => Bits::first_of_u128(alloc, number, count)?,
-        (_, Ok(number)) => Bits::first_of_u32(alloc, number, count)?,
-        _ => return answer.refuse(NO_NUMBER),
-    };
-    answer.list_line(bits.as_list())
 }

@@ -2,9 +2,7 @@
 
 use crate::answer::Answer;
 use crate::says::{NO_KEY, NO_NUMBER, NONE};
-use crate::words::bytes_of;
 use radix_keys::{Address, Memory, Network};
-use std::cmp::Ordering;
 
 /// A call of networks.
 pub fn answer_network<A: Address>(name: &str, answer: &mut Answer<'_>) -> Result<(), Memory> {
@@ -28,20 +26,13 @@ pub fn answer_network<A: Address>(name: &str, answer: &mut Answer<'_>) -> Result
 
 /// The network that the next word writes, if it writes one.
 fn next_network<A: Address>(answer: &mut Answer<'_>) -> Result<Option<Network<A>>, Memory> {
-    let word = answer.next_word().unwrap_or("");
-    let bytes = match bytes_of(answer.alloc(), word) {
-        Ok(bytes) => bytes,
-        Err(_) => bytes_of(answer.alloc(), word)?,
-    };
-    Ok(match bytes {
-        Some(bytes) => match str::from_utf8(bytes.as_slice()) {
-            Ok(text) => text.parse::<Network<A>>().ok(),
-            Err(_) => None,
-        },
+    Ok(match answer.next_read::<String>()? {
+        Some(text) => text.as_str().parse::<Network<A>>().ok(),
         None => None,
     })
 }
 
+/// The address that the next word writes, if it writes one.
 fn next_address<A: Address>(answer: &mut Answer<'_>) -> Option<A> {
     A::parse(answer.next_word()?)
 }
@@ -83,11 +74,7 @@ fn answer_of<A: Address>(
             None => answer.refuse(NO_KEY),
         },
         _ => match next_network::<A>(answer)? {
-            Some(other) => answer.line(match network.cmp(&other) {
-                Ordering::Less => "less",
-                Ordering::Equal => "equal",
-                Ordering::Greater => "greater",
-            }),
+            Some(other) => answer.order_line(network.cmp(&other)),
             None => answer.refuse(NO_KEY),
         },
     }

@@ -3,7 +3,6 @@
 use crate::answer::Answer;
 use crate::says::{NO_KEY, NONE};
 use radix_keys::{Memory, Parts, PartsError};
-use std::cmp::Ordering;
 
 /// A call of the list of parts that the next word writes, or that makes one.
 pub fn answer_parts(name: &str, answer: &mut Answer<'_>) -> Result<(), Memory> {
@@ -37,7 +36,8 @@ fn parts_line(answer: &mut Answer<'_>, parts: &Parts) -> Result<(), Memory> {
     answer.end()
 }
 
-/// The parts of the next word, cut at the one byte of the word behind it.
+/// The parts of the text that the next word writes, cut at the character behind it, which is one
+/// byte.
 fn answer_cut(name: &str, answer: &mut Answer<'_>) -> Result<(), Memory> {
     let text = answer.next_read::<String>()?;
     let separator = answer.next_read::<char>()?;
@@ -47,6 +47,7 @@ fn answer_cut(name: &str, answer: &mut Answer<'_>) -> Result<(), Memory> {
     }
 }
 
+/// The parts of the text, cut at the byte.
 fn answer_cut_at(
     name: &str,
     text: &str,
@@ -114,11 +115,7 @@ fn part_lines(is_back: bool, parts: &Parts, answer: &mut Answer<'_>) -> Result<(
 /// How the list compares with that of the next word.
 fn answer_order(parts: &Parts, answer: &mut Answer<'_>) -> Result<(), Memory> {
     match answer.next_read::<Parts>()? {
-        Some(other) => answer.line(match parts.cmp(&other) {
-            Ordering::Less => "less",
-            Ordering::Equal => "equal",
-            Ordering::Greater => "greater",
-        }),
+        Some(other) => answer.order_line(parts.cmp(&other)),
         None => answer.refuse(NO_KEY),
     }
 }

@@ -47,11 +47,7 @@ impl Read for bool {
 fn one_of(text: &str) -> Option<char> {
     let mut characters = text.chars();
     let first = characters.next()?;
-    if characters.next().is_none() {
-        Some(first)
-    } else {
-        None
-    }
+    characters.next().is_none().then_some(first)
 }
 
 impl Read for char {
@@ -66,7 +62,21 @@ impl Read for char {
     }
 }
 
-/// A hexadecimal digit for each nibble, and two quotes for the list of none.
+/// Numbers, with a comma between two.
+impl Read for Vec<u16> {
+    fn read(alloc: Global, word: &str) -> Result<Option<Vec<u16>>, Memory> {
+        let mut numbers = Vec::new(alloc);
+        for text in word.split(',') {
+            match text.parse() {
+                Ok(number) => numbers.push(number)?,
+                Err(_) => return Ok(None),
+            }
+        }
+        Ok(Some(numbers))
+    }
+}
+
+/// A hexadecimal digit for each nibble, and two quotes for the empty list.
 impl Read for Nibblet {
     fn read(alloc: Global, word: &str) -> Result<Option<Nibblet>, Memory> {
         let mut list = Nibblet::new(alloc);

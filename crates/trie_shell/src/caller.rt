@@ -54,6 +54,8 @@ pub fn make<C: Caller>(caller: &mut C, answer: &mut Answer<'_>) -> Result<(), Me
     }
 }
 
+/// Makes the call, and once more where memory fails for it. Where it is watched, a line between the
+/// two tells what the failed one has changed.
 fn make_twice<C: Caller>(
     caller: &mut C,
     is_inline: bool,
@@ -66,7 +68,7 @@ fn make_twice<C: Caller>(
 {
     let (length, words) = (answer.len(), answer.words());
     let before = if answer.is_watched() {
-        Some(picture_of(&mut *caller, &*answer)?)
+        Some(picture_of(caller, answer)?)
     } else {
         None
     };
@@ -78,15 +80,15 @@ fn make_twice<C: Caller>(
     }
     answer.return_to(length, words);
     if let Some(before) = before {
-        let after = picture_of(&mut *caller, &*answer)?;
+        let after = picture_of(caller, answer)?;
         let is_same = before.as_bytes() == after.as_bytes() && !answer.is_other();
         answer.line(told(words.name, is_inline, is_same))?;
     }
     caller.perform(answer)
 }
 
-/// What is told of a failure. Where `extend` or `merge` fails the pairs before the failed one
-/// stay, and where `retain` is, some pairs may be gone.
+/// What is told of a failure. A failed `extend` or `merge` leaves the pairs that it has stored, and
+/// a failed `retain` may have removed some.
 fn told(name: &str, is_inline: bool, is_same: bool) -> &'static str {
     match name {
         _ if is_inline => "refused, though inline",

@@ -1,7 +1,8 @@
 //! The calls: their names and words, and what each answers.
 
 use radix_trie::Memory;
-use shell_words::{Answer, NONE};
+use shell_calls::lines::none_line;
+use shell_words::Answer;
 
 /// A line for each call, or several: its name, a word for each of its words, those that may be left
 /// out in brackets, and what it answers. Two dots stand for any number of words. A call that
@@ -311,7 +312,7 @@ pub fn answer_help(answer: &mut Answer<'_>) -> Result<(), Memory> {
             answer.line(*line)?;
         }
     }
-    if is_none { answer.line(NONE) } else { Ok(()) }
+    none_line(answer, is_none)
 }
 
 /// The groups, each with what it is for.
@@ -336,9 +337,5 @@ pub fn answer_complete(answer: &mut Answer<'_>) -> Result<(), Memory> {
             answer.line(name)?;
         }
     }
-    if last.is_empty() {
-        answer.line(NONE)
-    } else {
-        Ok(())
-    }
+    none_line(answer, last.is_empty())
 }

@@ -13,6 +13,7 @@ use shell_words::{Answer, NOT_HERE, Words};
 /// How many words a line of any number of words has at most.
 const MANY: usize = 1_000_000_000;
 
+/// The name of the call that a text asks for.
 fn name_of(text: &str) -> &str
     ensures { result.now ≡ before_first is_space text.now }
 {
@@ -22,6 +23,7 @@ fn name_of(text: &str) -> &str
     }
 }
 
+/// How many words stand behind the name.
 fn count_of(text: &str) -> usize
     ensures { result ≡ words_behind text.now }
 {
@@ -63,10 +65,7 @@ fn most_words_of(usage: &str) -> usize
 fn ends_name(line: &[u8], place: usize) -> bool
     ensures { result ≡ begins_words (drop place line.now) }
 {
-    match line.get(place..) {
-        Some([b' ' | b'[' | b':', ..]) => true,
-        _ => false,
-    }
+    matches!(line.get(place..), Some([b' ' | b'[' | b':', ..]))
 }
 
 /// Whether a line of the help tells of the call of this name.

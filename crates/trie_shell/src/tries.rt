@@ -119,13 +119,11 @@ impl Tries {
         let trie = &mut self.current.trie;
         match self.view_paths.as_slice().last() {
             Some(view_path) => answer_at(trie, view_path, answer),
-            None if answer_with(&mut *trie, answer)? => Ok(()),
+            None if answer_with(trie, answer)? => Ok(()),
             None => answer_trie(trie, answer),
         }
     }
-}
 
-impl Tries {
     /// Stores the lines of a file in the current trie, where no view is open.
     pub fn answer_lines(&mut self, text: &[u8], answer: &mut Answer<'_>) -> Result<(), Memory> {
         if self.view_paths.is_empty() {
@@ -143,9 +141,9 @@ fn answer_at(
     answer: &mut Answer<'_>,
 ) -> Result<(), Memory> {
     if !view_path.is_for_writing {
-        return answer_in_view(&*trie, &view_path.path, answer);
+        return answer_in_view(trie, &view_path.path, answer);
     }
-    if answer_in_write_view(&mut *trie, &view_path.path, answer)?
+    if answer_in_write_view(trie, &view_path.path, answer)?
         || answer_in_write_view(trie, &view_path.path, answer)?
     {
         Ok(())

@@ -6,6 +6,7 @@ use crate::answer::Answer;
 use crate::key::Key;
 use itoa::Buffer;
 use radix_keys::{Memory, Nibblet, Parts};
+use std::cmp::Ordering;
 use std::fmt;
 use std::fmt::Display;
 
@@ -130,7 +131,7 @@ impl<'a> Answer<'a> {
         self.made(text.ok())
     }
 
-    /// Adds a text that was made, if it was.
+    /// Adds a text, or notes that the answer is lost where there was no memory to make it.
     fn made(&mut self, text: Option<String>) -> Result<(), Memory>
         ensures { OnErr result (IsTrue self.new.is_lost) }
     {
@@ -256,6 +257,15 @@ impl<'a> Answer<'a> {
     /// Adds a line: true or false.
     pub fn truth_line(&mut self, is_true: bool) -> Result<(), Memory> {
         self.line(if is_true { "true" } else { "false" })
+    }
+
+    /// Adds a line: how one value compares with another.
+    pub(crate) fn order_line(&mut self, order: Ordering) -> Result<(), Memory> {
+        self.line(match order {
+            Ordering::Less => "less",
+            Ordering::Equal => "equal",
+            Ordering::Greater => "greater",
+        })
     }
 
     /// Adds a line: a key and its value.

@@ -13,8 +13,8 @@ use shell_words::{Answer, Key, NO_KEY, NO_NUMBER, NOT_HERE};
 /// A call of a frozen trie, which answers it as a trie does.
 pub fn answer_frozen(frozen: &mut FrozenTable, answer: &mut Answer<'_>) -> Result<(), Memory> {
     if answer_read(&*frozen, answer)?
-        || answer_whole(&*frozen, answer)?
-        || answer_write(&mut *frozen, answer)?
+        || answer_whole(frozen, answer)?
+        || answer_write(frozen, answer)?
         || answer_appended(frozen, answer)?
     {
         Ok(())

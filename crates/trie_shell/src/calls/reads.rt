@@ -5,7 +5,7 @@ use radix_trie::Memory;
 use shell_calls::bounds::next_bounds;
 use shell_calls::lines::{none_line, pair_line};
 use shell_calls::steps::step_again;
-use shell_words::{Answer, Key, NO_KEY, NO_NUMBER};
+use shell_words::{Answer, Key, NO_KEY, NO_NUMBER, NOT_HERE};
 
 /// What a reading call of a map answers. False: it is none.
 pub fn answer_read<'a, M: RangeMap<'a, Key, Key = &'a Key, Value = u64>>(
@@ -34,7 +34,7 @@ pub fn answer_read<'a, M: RangeMap<'a, Key, Key = &'a Key, Value = u64>>(
     Ok(true)
 }
 
-/// A look-up at the key.
+/// A lookup at the key.
 fn answer_at<'a, M: RangeMap<'a, Key, Key = &'a Key, Value = u64>>(
     map: M,
     key: &Key,
@@ -51,11 +51,12 @@ fn answer_at<'a, M: RangeMap<'a, Key, Key = &'a Key, Value = u64>>(
             Some(most) => left_lines::<M>(answer, map.below(key)?, most),
             None => answer.refuse(NO_NUMBER),
         },
-        _ => answer.count_line(map.count_below(key)?),
+        "count_below" => answer.count_line(map.count_below(key)?),
+        _ => answer.refuse(NOT_HERE),
     }
 }
 
-/// The pairs within the bounds that the next words write, or these from the last to the first.
+/// The pairs within the bounds that the next words write, or the same from the last to the first.
 fn answer_range<'a, M: RangeMap<'a, Key, Key = &'a Key, Value = u64>>(
     map: M,
     answer: &mut Answer<'_>,
@@ -63,10 +64,12 @@ fn answer_range<'a, M: RangeMap<'a, Key, Key = &'a Key, Value = u64>>(
     let Some(bounds) = next_bounds(answer)? else {
         return Ok(());
     };
-    match answer.name() {
-        "range" => left_lines::<M>(answer, map.range(bounds)?, u64::MAX),
-        _ => left_lines::<M>(answer, map.range_back(bounds)?, u64::MAX),
-    }
+    let walk = if answer.name() == "range_back" {
+        map.range_back(bounds)?
+    } else {
+        map.range(bounds)?
+    };
+    left_lines::<M>(answer, walk, u64::MAX)
 }
 
 /// The pairs that a walk has left, so many at most, or that there is none.
@@ -78,7 +81,7 @@ fn left_lines<'a, M: PrefixMap<'a, Key, Key = &'a Key, Value = u64>>(
     let mut walk = walk;
     let mut is_none = true;
     for _ in 0..most {
-        let Some((key, value)) = next_pair::<M>(&mut walk, &mut *answer)? else {
+        let Some((key, value)) = next_pair::<M>(&mut walk, answer)? else {
             break;
         };
         is_none = false;

@@ -41,7 +41,7 @@ fn answer_read(view: &SubTrie<'_, Key, u64>, answer: &mut Answer<'_>) -> Result<
     Ok(true)
 }
 
-/// A look-up in a view for reading at the key.
+/// A lookup in a view for reading, at the key.
 fn answer_read_at(
     view: &SubTrie<'_, Key, u64>,
     key: &Key,
@@ -57,13 +57,14 @@ fn answer_read_at(
             Ok(found) => view_line(answer, found.as_ref()),
             Err(error) => outside_line(answer, error),
         },
-        _ => match answer.next_number() {
+        "first_below" => match answer.next_number() {
             Some(most) => match view.first_below(key, most as usize) {
                 Ok(pairs) => pair_lines(answer, pairs.into_iter()),
                 Err(error) => outside_line(answer, error),
             },
             None => answer.refuse(NO_NUMBER),
         },
+        _ => answer.refuse(NOT_HERE),
     }
 }
 

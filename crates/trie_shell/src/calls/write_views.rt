@@ -20,7 +20,7 @@ pub fn answer_in_write_view(
 ) -> Result<bool, Memory> {
     match trie.open_mut(path) {
         Ok(view) => {
-            answer_written(view, answer)?;
+            answer_owned(view, answer)?;
             Ok(true)
         }
         Err(OpenError::Closed) => answer.told(CLOSED),
@@ -29,7 +29,7 @@ pub fn answer_in_write_view(
 }
 
 /// A call of the view, which may take it.
-fn answer_written(view: SubTrieMut<'_, Key, u64>, answer: &mut Answer<'_>) -> Result<(), Memory> {
+fn answer_owned(view: SubTrieMut<'_, Key, u64>, answer: &mut Answer<'_>) -> Result<(), Memory> {
     let mut view = view;
     match answer.name() {
         "into_children" => child_lines(answer, view.into_children()?),
@@ -79,7 +79,7 @@ impl Caller for SubTrieMut<'_, Key, u64> {
     fn picture(&mut self, picture: &mut Answer<'_>) -> Result<(), Memory> {
         for call in IN_A_VIEW {
             picture.read_on(Words::named(*call));
-            answer_through(&mut *self, &mut *picture)?;
+            answer_through(self, picture)?;
         }
         Ok(())
     }
@@ -108,7 +108,7 @@ fn are_calls(answer: &mut Answer<'_>) -> Result<bool, Memory> {
 /// Whether the words left ask for a call, and those behind one that makes another for that. The
 /// answer goes on with the first one, or with the one behind `inline`.
 fn is_whole_call(answer: &mut Answer<'_>) -> Result<bool, Memory> {
-    if !read_call(answer)? || !is_call_behind_inline(answer)? {
+    if !read_call(answer)? || !read_behind_inline(answer)? {
         return Ok(false);
     }
     let words = answer.words();
@@ -121,8 +121,9 @@ fn is_whole_call(answer: &mut Answer<'_>) -> Result<bool, Memory> {
     Ok(true)
 }
 
-/// Goes on with the call behind `inline`, if the answer is to that. False: none stands there.
-fn is_call_behind_inline(answer: &mut Answer<'_>) -> Result<bool, Memory> {
+/// Goes on with the call behind `inline`, where the call is that. False: none stands there, and the
+/// answer says why.
+fn read_behind_inline(answer: &mut Answer<'_>) -> Result<bool, Memory> {
     if answer.name() == "inline" {
         read_call(answer)
     } else {
@@ -147,14 +148,14 @@ fn answer_calls(
             break;
         }
         let words = answer.words();
-        if !is_call_behind_inline(answer)? {
+        if !read_behind_inline(answer)? {
             break;
         }
         if takes_view(answer.name()) {
             return Ok(true);
         }
         answer.read_on(words);
-        make(&mut *view, answer)?;
+        make(view, answer)?;
     }
     Ok(false)
 }
@@ -162,8 +163,8 @@ fn answer_calls(
 /// Calls of the view, the last of which may take it.
 fn answer_all_calls(view: SubTrieMut<'_, Key, u64>, answer: &mut Answer<'_>) -> Result<(), Memory> {
     let mut view = view;
-    if answer_calls(&mut view, &mut *answer)? {
-        answer_written(view, answer)
+    if answer_calls(&mut view, answer)? {
+        answer_owned(view, answer)
     } else {
         Ok(())
     }
@@ -172,7 +173,7 @@ fn answer_all_calls(view: SubTrieMut<'_, Key, u64>, answer: &mut Answer<'_>) -> 
 /// The same. Where an allocation fails for the last call, or twice for another, those before it may
 /// have changed the trie, so none is made again: the session ends.
 fn answer_or_lose(view: SubTrieMut<'_, Key, u64>, answer: &mut Answer<'_>) -> Result<(), Memory> {
-    let outcome = answer_all_calls(view, &mut *answer);
+    let outcome = answer_all_calls(view, answer);
     if outcome.is_err() {
         answer.lose();
     }

@@ -34,7 +34,8 @@ impl Tries {
             "frozen_copy" => self.answer_frozen_copy(name, answer)?,
             "from_sorted" => self.answer_from_sorted(name, answer)?,
             "thaw" => self.answer_thaw(name, answer)?,
-            _ => self.answer_of_frozen(name, answer)?,
+            "frozen" => self.answer_of_frozen(name, answer)?,
+            _ => return Ok(false),
         }
         Ok(true)
     }
@@ -121,7 +122,7 @@ impl Tries {
         }
         match self.taken_frozen(name) {
             Some(frozen) => {
-                self.current.trie = thawed(frozen, &mut *answer)?;
+                self.current.trie = thawed(frozen, answer)?;
                 answer.line("ok")
             }
             None => answer.refuse(NO_FROZEN),
@@ -131,8 +132,7 @@ impl Tries {
     /// The frozen trie of the name, if there is one, which has the name no more.
     fn taken_frozen(&mut self, name: &str) -> Option<FrozenTable> {
         let place = self.frozen_place_of(name)?;
-        let named = self.frozen.get_mut(place)?;
-        mem::replace(&mut named.frozen, None)
+        self.frozen.get_mut(place)?.frozen.take()
     }
 
     /// A call of the frozen trie of the name, which the next words ask for.
@@ -157,7 +157,7 @@ impl Tries {
         for named in self.frozen.as_slice() {
             if let Some(frozen) = &named.frozen {
                 picture.line(named.name.as_str())?;
-                listed_lines(&mut *picture, frozen.pairs())?;
+                listed_lines(picture, frozen.pairs())?;
             }
         }
         Ok(())
@@ -179,8 +179,8 @@ fn unsorted_line<'a>(
     error: Refused<SortedWhy, Vec<(Key, u64)>>,
 ) -> Result<(), Memory> {
     answer.read_on(words);
-    let is_same = match given_pairs(&mut *answer)? {
-        Some(new_pair) => new_pair.as_slice() == error.back.as_slice(),
+    let is_same = match given_pairs(answer)? {
+        Some(pairs) => pairs.as_slice() == error.back.as_slice(),
         None => false,
     };
     if !is_same {
@@ -201,7 +201,7 @@ fn thawed(frozen: FrozenTable, answer: &mut Answer<'_>) -> Result<Table, Memory>
     match frozen.thaw() {
         Ok(trie) => Ok(trie),
         Err(error) => {
-            step_again(&mut *answer)?;
+            step_again(answer)?;
             let whole = thawed_on(error.back);
             if whole.is_err() {
                 answer.lose();

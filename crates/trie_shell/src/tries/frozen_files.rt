@@ -9,7 +9,7 @@ use crate::tries::names::NO_NAME;
 use flat_texts::ImageError;
 use frozen_trie::{FileError, FileWhy, FrozenTexts, FrozenTrie};
 use radix_trie::Memory;
-use shell_words::{Answer, Key, KeyText, Kind, Words};
+use shell_words::{Answer, Key, KeyText, Kind};
 use std::alloc::Global;
 use std::fs;
 use std::io::{BufReader, Error};
@@ -70,11 +70,11 @@ impl Tries {
         };
         if matches!(answer.name(), "write" | "write_image") {
             return match self.frozen_of(name) {
-                Some(frozen) => write(&*frozen, files, path.as_str(), answer),
+                Some(frozen) => write(frozen, files, path.as_str(), answer),
                 None => answer.refuse(NO_FROZEN),
             };
         }
-        let outcome = self.read(name, files, path.as_str(), &mut *answer);
+        let outcome = self.read(name, files, path.as_str(), answer);
         if outcome.is_err() && is_stream(files, path.as_str()) {
             answer.lose();
         }
@@ -97,7 +97,7 @@ impl Tries {
             Err(Unread::Pairs(error)) => return fault_line(answer, error),
             Err(Unread::Image(error)) => return image_line(answer, error),
         };
-        match frozen_of(&texts, &*answer)? {
+        match frozen_from(&texts, answer)? {
             Some(frozen) => self.put_frozen(place, frozen, answer),
             None => answer.refuse(NO_TEXT),
         }
@@ -164,7 +164,10 @@ fn texts_of(frozen: &FrozenTable, alloc: Global) -> Result<Option<FrozenTexts<u6
 }
 
 /// The frozen trie of pairs from a file, if its keys are texts.
-fn frozen_of(texts: &FrozenTexts<u64>, answer: &Answer<'_>) -> Result<Option<FrozenTable>, Memory> {
+fn frozen_from(
+    texts: &FrozenTexts<u64>,
+    answer: &Answer<'_>,
+) -> Result<Option<FrozenTable>, Memory> {
     let mut frozen = FrozenTrie::new(answer.alloc());
     for (bytes, value) in texts.iter() {
         let Some(key) = key_of(bytes, answer)? else {
@@ -180,10 +183,8 @@ fn frozen_of(texts: &FrozenTexts<u64>, answer: &Answer<'_>) -> Result<Option<Fro
 
 /// The key that is the text of these bytes, if they are one and keys are texts.
 fn key_of(bytes: &[u8], answer: &Answer<'_>) -> Result<Option<Key>, Memory> {
-    let mut word = Answer::new(answer.alloc(), answer.kind(), Words::named(""), false);
-    word.escaped(bytes)?;
-    match (answer.kind(), str::from_utf8(word.as_bytes())) {
-        (Kind::Text, Ok(word)) => Key::read(Kind::Text, answer.alloc(), word),
+    match answer.kind() {
+        Kind::Text => Key::of_line(Kind::Text, answer.alloc(), bytes),
         _ => Ok(None),
     }
 }

@@ -87,14 +87,14 @@ impl Tries {
     pub fn picture(&mut self, picture: &mut Answer<'_>) -> Result<(), Memory> {
         for call in ["iter", "len"] {
             picture.read_on(Words::named(call));
-            answer_common(&self.current.trie, &mut *picture)?;
+            answer_common(&self.current.trie, picture)?;
         }
-        footprint_line(&self.current.trie, &mut *picture)?;
-        self.frozen_picture(&mut *picture)?;
+        footprint_line(&self.current.trie, picture)?;
+        self.frozen_picture(picture)?;
         if let Some(view_path) = self.view_paths.as_slice().last() {
             for call in IN_A_VIEW {
                 picture.read_on(Words::named(*call));
-                answer_at(&mut self.current.trie, view_path, &mut *picture)?;
+                answer_at(&mut self.current.trie, view_path, picture)?;
             }
         }
         Ok(())

@@ -6,6 +6,7 @@ import mmap
 import operator
 import os
 import secrets
+import typing
 
 from . import _exports as exports
 from ._library import library
@@ -18,6 +19,10 @@ REASONS = {
     exports.ROW: "row {} is out of order, or its link is wrong",
     exports.CELL: "cell {} is wrong",
 }
+
+
+K = typing.TypeVar("K")
+Pairs = typing.Union[typing.Mapping[K, int], typing.Iterable[typing.Tuple[K, int]]]
 
 
 class ImageError(ValueError):
@@ -138,6 +143,10 @@ def _place_of(view):
 
 def items_of(item, span):
     return Items(item, range(span.first, span.first + span.count))
+
+
+def pairs_of(items):
+    return items.items() if isinstance(items, collections.abc.Mapping) else items
 
 
 def number_of(key, value, bits):

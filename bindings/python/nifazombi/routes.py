@@ -1,6 +1,5 @@
 """Routing tables: networks of one family, each with a number."""
 import array
-import ctypes
 import ipaddress
 import socket
 import struct
@@ -8,7 +7,7 @@ import typing
 
 from . import _exports as exports
 from ._library import library
-from ._table import REASONS, ImageError, Items, Table, built, items_of, number_of
+from ._table import REASONS, ImageError, Items, Pairs, Table, built, items_of, number_of, pairs_of
 
 Address = typing.Union[str, int, bytes, ipaddress.IPv4Address, ipaddress.IPv6Address]
 Network = typing.Union[str, ipaddress.IPv4Network, ipaddress.IPv6Network]
@@ -46,13 +45,13 @@ class _Ipv4:
 
     @staticmethod
     def many(addresses):
-        """Addresses in one run of memory, and how many they are."""
+        """Addresses as the library takes many of them."""
         if isinstance(addresses, (bytes, bytearray)):
             addresses = array.array("I", bytes(addresses))
             addresses.byteswap()
         elif not (isinstance(addresses, (array.array, memoryview)) and memoryview(addresses).format == "I"):
             addresses = array.array("I", map(_Ipv4.passed, addresses))
-        return memoryview(addresses).cast("B"), len(addresses)
+        return memoryview(addresses).tobytes()
 
     @staticmethod
     def packed(network, value):
@@ -81,10 +80,10 @@ class _Ipv6:
     def many(addresses):
         if not isinstance(addresses, (bytes, bytearray, memoryview)):
             addresses = b"".join(map(_Ipv6.passed, addresses))
-        packed = memoryview(addresses).cast("B")
+        packed = bytes(addresses)
         if len(packed) % 16:
             raise ValueError("packed addresses of IPv6 have 16 bytes each")
-        return packed, len(packed) // 16
+        return packed
 
     @staticmethod
     def packed(network, value):
@@ -109,12 +108,12 @@ class Routes(Table):
         super().__init__(image, check)
 
     @classmethod
-    def build(cls, routes: typing.Iterable[typing.Tuple[Network, int]], payload=b"",
-              version: typing.Optional[int] = None) -> bytes:
-        """An image of pairs of a network and a value, in any order, all of one family, and of bytes of one's own.
-        A network is a text or one of `ipaddress`. `version` says of which family the networks have to be: without it
-        that is the first one's, and IPv4 where there is none. Raises ValueError where a network comes twice."""
-        each = [(ipaddress.ip_network(network), value) for network, value in routes]
+    def build(cls, routes: Pairs[Network], payload=b"", version: typing.Optional[int] = None) -> bytes:
+        """An image of pairs of a network and a value, or of a mapping, in any order, all of one family, and of bytes of
+        one's own. A network is a text or one of `ipaddress`. `version` says of which family the networks have to be:
+        without it that is the first one's, and IPv4 where there is none. Raises ValueError where a network comes
+        twice."""
+        each = [(ipaddress.ip_network(network), value) for network, value in pairs_of(routes)]
         version = version or (each[0][0].version if each else 4)
         if version not in (4, 6) or any(network.version != version for network, _ in each):
             raise ValueError("the networks aren't of one family" if version in (4, 6) else "there is no such family")
@@ -161,10 +160,10 @@ class Routes(Table):
     def longest_matches(self, addresses) -> typing.List[typing.Optional[int]]:
         """The values of many addresses, None where no network holds one. Addresses may also be packed bytes, one behind
         the other. Fastest of IPv4 as numbers in an `array('I')`, of IPv6 as packed bytes."""
-        asked, count = self._family.many(addresses)
+        asked = self._family.many(addresses)
+        count = 8 * len(asked) // self._family.width
         found = array.array("I", bytes(4 * count))
-        keep = bytes(asked) if asked.readonly else (ctypes.c_char * len(asked)).from_buffer(asked)
-        self._family.call("longest_matches")(self._at, self._len, keep, count, found.buffer_info()[0], count)
+        self._family.call("longest_matches")(self._at, self._len, asked, count, found.buffer_info()[0], count)
         first, size = int.from_bytes(self._image[24:32], "little"), len(self) * self._family.rows.size
         values = self._image[first : first + size].cast(self._family.values)[3::4]
         return [values[it - 1] if it else None for it in found]

@@ -5,7 +5,7 @@ import typing
 
 from . import _exports as exports
 from ._library import library
-from ._table import Items, Table, built, items_of, number_of
+from ._table import Items, Pairs, Table, built, items_of, number_of, pairs_of
 
 Key = typing.Union[str, bytes]
 Pair = typing.Tuple[bytes, int]
@@ -25,12 +25,10 @@ class Texts(Table, collections.abc.Mapping):
     _check = library.nifazombi_texts_check
 
     @classmethod
-    def build(cls, items: typing.Union[typing.Mapping[Key, int], typing.Iterable[typing.Tuple[Key, int]]],
-              payload=b"") -> bytes:
+    def build(cls, items: Pairs[Key], payload=b"") -> bytes:
         """An image of pairs of a key and a value, or of a mapping, in any order, and of bytes of one's own. Raises
         ValueError where a key comes twice."""
-        pairs = items.items() if isinstance(items, collections.abc.Mapping) else items
-        each = sorted(((_bytes_of(key), value) for key, value in pairs), key=lambda it: it[0])
+        each = sorted(((_bytes_of(key), value) for key, value in pairs_of(items)), key=lambda it: it[0])
         keep = [ctypes.c_char_p(key) for key, _ in each]
         rows = (exports.TextsPair * len(each))()
         for row, held, (key, value) in zip(rows, keep, each):

@@ -41,7 +41,8 @@ def near(version, networks):
 
 def try_routes(version):
     found = drawn(version)
-    image = Routes.build(found.items(), payload=b"own bytes")
+    image = Routes.build(found, payload=b"own bytes")
+    assert image == Routes.build(found.items(), b"own bytes")
     assert image == images.routes_image(found.items(), b"own bytes"), "the image isn't by the format"
     routes, order = Routes(image), sorted(found, key=lambda it: (int(it.network_address), it.prefixlen))
     assert routes.version == version and routes.payload == b"own bytes" and len(routes) == len(order)

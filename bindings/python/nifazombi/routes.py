@@ -3,6 +3,7 @@ import array
 import ipaddress
 import socket
 import struct
+import types
 import typing
 
 from . import _exports as exports
@@ -28,13 +29,15 @@ def _read(family, text):
         raise ValueError(f"{text!r} is no address of IPv{4 if family == socket.AF_INET else 6}") from None
 
 
+def _calls(start):
+    """The exports whose names start so, by the rest of the names, which both families have."""
+    names = [name for name, *_ in exports.EXPORTS if name.startswith(start)]
+    return types.SimpleNamespace(**{name[len(start):]: getattr(library, name) for name in names})
+
+
 class _Ipv4:
     version, network, row, width = 4, ipaddress.IPv4Network, exports.Ipv4Row, 32
-    rows, values, value_bits = struct.Struct("=IIII"), "I", 32
-
-    @staticmethod
-    def call(name):
-        return getattr(library, f"nifazombi_ipv4_{name}")
+    calls, rows, values, value_bits = _calls("nifazombi_ipv4_"), struct.Struct("=IIII"), "I", 32
 
     @staticmethod
     def passed(address):
@@ -64,11 +67,7 @@ class _Ipv4:
 
 class _Ipv6:
     version, network, row, width = 6, ipaddress.IPv6Network, exports.Ipv6Row, 128
-    rows, values, value_bits = struct.Struct("=16sIIQ"), "Q", 64
-
-    @staticmethod
-    def call(name):
-        return getattr(library, f"nifazombi_ipv6_{name}")
+    calls, rows, values, value_bits = _calls("nifazombi_ipv6_"), struct.Struct("=16sIIQ"), "Q", 64
 
     @staticmethod
     def passed(address):
@@ -103,7 +102,7 @@ class Routes(Table):
 
     def __init__(self, image, check: bool = True):
         self._family = _Ipv6 if memoryview(image).cast("B")[:6] == b"NZIPV6" else _Ipv4
-        self._check = self._family.call("check")
+        self._check = self._family.calls.check
         self.version = self._family.version
         super().__init__(image, check)
 
@@ -115,19 +114,21 @@ class Routes(Table):
         twice."""
         each = [(ipaddress.ip_network(network), value) for network, value in pairs_of(routes)]
         version = version or (each[0][0].version if each else 4)
-        if version not in (4, 6) or any(network.version != version for network, _ in each):
-            raise ValueError("the networks aren't of one family" if version in (4, 6) else "there is no such family")
+        if version not in (4, 6):
+            raise ValueError(f"there is no IPv{version}")
+        if any(network.version != version for network, _ in each):
+            raise ValueError("the networks aren't of one family")
         family = _Ipv4 if version == 4 else _Ipv6
         each.sort(key=lambda it: (int(it[0].network_address), it[0].prefixlen))
         rows = b"".join(family.packed(network, number_of(network, value, family.value_bits)) for network, value in each)
-        return built(lambda own: family.call("image_len")(len(each), own), family.call("write"), rows, each, payload)
+        return built(lambda own: family.calls.image_len(len(each), own), family.calls.write, rows, each, payload)
 
     def __len__(self) -> int:
-        return self._family.call("len")(self._at, self._len)
+        return self._family.calls.len(self._at, self._len)
 
     def _row(self, index):
         row = self._family.row()
-        if not self._family.call("row_at")(self._at, self._len, index, row) or row.bits > self._family.width:
+        if not self._family.calls.row_at(self._at, self._len, index, row) or row.bits > self._family.width:
             raise ImageError("this is no image: " + REASONS[exports.ROW].format(index))
         return row
 
@@ -136,7 +137,7 @@ class Routes(Table):
         return Route(self._family.network((self._family.first(row), row.bits), strict=False), row.value)
 
     def _found(self, address):
-        return self._family.call("longest_match")(self._at, self._len, self._family.passed(address))
+        return self._family.calls.longest_match(self._at, self._len, self._family.passed(address))
 
     def longest_match(self, address: Address) -> typing.Optional[Route]:
         """The route of the longest network that holds an address, or None."""
@@ -163,7 +164,7 @@ class Routes(Table):
         asked = self._family.many(addresses)
         count = 8 * len(asked) // self._family.width
         found = array.array("I", bytes(4 * count))
-        self._family.call("longest_matches")(self._at, self._len, asked, count, found.buffer_info()[0], count)
+        self._family.calls.longest_matches(self._at, self._len, asked, count, found.buffer_info()[0], count)
         first, size = int.from_bytes(self._image[24:32], "little"), len(self) * self._family.rows.size
         values = self._image[first : first + size].cast(self._family.values)[3::4]
         return [values[it - 1] if it else None for it in found]
@@ -175,18 +176,18 @@ class Routes(Table):
 
     def exact(self, network: Network) -> typing.Optional[Route]:
         """The route of this very network, or None."""
-        found = self._family.call("get")(self._at, self._len, *self._network(network))
+        found = self._family.calls.get(self._at, self._len, *self._network(network))
         return self._route(found - 1) if found else None
 
     def below(self, network: Network) -> Items:
         """The routes within a network, itself too, in order."""
         span = exports.Span()
-        self._family.call("below")(self._at, self._len, *self._network(network), span)
+        self._family.calls.below(self._at, self._len, *self._network(network), span)
         return items_of(self._route, span)
 
     def above(self, address: Address) -> typing.Iterator[Route]:
         """The routes of all networks that hold an address, from the longest up."""
-        return self._climb(self._found(address), self._family.call("above"), self._route)
+        return self._climb(self._found(address), self._family.calls.above, self._route)
 
     def __iter__(self) -> typing.Iterator[Route]:
         return iter(Items(self._route, range(len(self))))

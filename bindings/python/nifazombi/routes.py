@@ -49,10 +49,12 @@ class _Ipv4:
     @staticmethod
     def many(addresses):
         """Addresses as the library takes many of them."""
-        if isinstance(addresses, (bytes, bytearray)):
+        is_lent = isinstance(addresses, (bytes, bytearray, memoryview, array.array))
+        kept_as = memoryview(addresses).format if is_lent else ""
+        if kept_as == "B":
             addresses = array.array("I", bytes(addresses))
             addresses.byteswap()
-        elif not (isinstance(addresses, (array.array, memoryview)) and memoryview(addresses).format == "I"):
+        elif kept_as != "I":
             addresses = array.array("I", map(_Ipv4.passed, addresses))
         return memoryview(addresses).tobytes()
 

@@ -53,7 +53,7 @@ def try_routes(version):
     assert routes.longest_matches(addresses) == [it and it[1] for it in longest]
     packed = b"".join(it.packed for it in addresses)
     numbers = [array.array("I", map(int, addresses))] if version == 4 else []
-    for many in (packed, bytearray(packed), *numbers, *map(memoryview, numbers)):
+    for many in (packed, bytearray(packed), memoryview(packed), *numbers, *map(memoryview, numbers)):
         assert routes.longest_matches(many) == [it and it[1] for it in longest]
     empty = Routes(Routes.build([], version=version))
     assert [*empty] == routes.longest_matches([]) == [] and empty.longest_matches(addresses[:2]) == [None, None]

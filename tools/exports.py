@@ -23,8 +23,9 @@ NUMBERS = {"u8": ("uint8_t", "c_uint8"), "u32": ("uint32_t", "c_uint32"), "u64":
 HEAD = """// Made by `tools/texts --write` of the sources of crates/nifazombi_c.
 //
 // Tables in one run of bytes, searched where they lie. Each call takes any bytes whatever, ends, and reads only inside
-// them; nothing is allocated, and nothing is kept between two calls. A pointer may be anything where its length is 0.
-// What a call only reads, nobody may write to during the call, and what it writes to is of no use to anybody else.
+// them; nothing is allocated, and nothing is kept between two calls. A pointer may be anything where its length is 0, and
+// else it is never NULL, nor is one without a length, such as `at`. What a call only reads, nobody may write to during the
+// call, and what it writes to is of no use to anybody else.
 """
 C_HEAD = """#ifndef NIFAZOMBI_H
 #define NIFAZOMBI_H
@@ -55,8 +56,11 @@ impl<'a> {name}<'a> {{
 """
 RUST_HEAD = """// Made by `tools/texts --write` of the sources of crates/nifazombi_c.
 //
-// What the archive exports, and for each export a function that passes it live memory: a pointer and a length are those
-// of one slice, which is borrowed for the call. An export asks for nothing else, so each of these functions is safe.
+// What the archive exports, and for each export a function that passes it live memory.
+//
+// SAFETY: an export asks only that a pointer and a length are those of memory that is there, and that nobody else writes
+// to meanwhile. No other module can name one, and each function below passes the pointer and the length of one slice, or a
+// reference, borrowed for the call.
 use std::marker::PhantomData;
 """
 PYTHON_HEAD = """# Made by `tools/texts --write` of the sources of crates/nifazombi_c.

@@ -205,7 +205,8 @@ static line *lines_of(const char *path, size_t *count) {
     struct stat found;
     if (file < 0 || fstat(file, &found)) exit(1);
     uint8_t *text = made(found.st_size + 1);
-    size_t size = read(file, text, found.st_size), n = 0, kept = 0;
+    size_t size = found.st_size, n = 0, kept = 0;
+    if (read(file, text, size) != found.st_size) exit(1);
     line *lines = made((size + 1) * sizeof *lines);
     for (size_t at = 0, start = 0; at < size; at++)
         if (text[at] == '\n') lines[n++] = (line){text + start, at - start}, start = at + 1;

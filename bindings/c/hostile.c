@@ -131,7 +131,7 @@ static void ask_texts(const uint8_t *image, size_t len, bool is_searched) {
         bool is_near = i % 2 && count && nifazombi_texts_pair_at(image, len, draw() % count, &place);
         need(place.first + place.len <= len, "a key outside");
         size_t key_len = is_near && place.len < 20 ? place.len + draw() % 3 : draw() % 20;
-        for (size_t k = 0; k < key_len; k++) key[k] = "ab/ÿ"[draw() % 4];
+        for (size_t k = 0; k < key_len; k++) key[k] = (uint8_t)"ab/\xc3"[draw() % 4];
         if (is_near) memcpy(key, image + place.first, place.len < key_len ? place.len : key_len);
         size_t nearest = nifazombi_texts_nearest(image, len, key, key_len), up = nearest;
         size_t same = nifazombi_texts_get(image, len, key, key_len), rank = nifazombi_texts_rank(image, len, key, key_len);

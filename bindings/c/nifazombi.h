@@ -1,8 +1,9 @@
 // Made by `tools/texts --write` of the sources of crates/nifazombi_c.
 //
 // Tables in one run of bytes, searched where they lie. Each call takes any bytes whatever, ends, and reads only inside
-// them; nothing is allocated, and nothing is kept between two calls. A pointer may be anything where its length is 0.
-// What a call only reads, nobody may write to during the call, and what it writes to is of no use to anybody else.
+// them; nothing is allocated, and nothing is kept between two calls. A pointer may be anything where its length is 0, and
+// else it is never NULL, nor is one without a length, such as `at`. What a call only reads, nobody may write to during the
+// call, and what it writes to is of no use to anybody else.
 
 #ifndef NIFAZOMBI_H
 #define NIFAZOMBI_H

@@ -32,6 +32,7 @@ int main(int count, char **words) {
     if (file < 0 || fstat(file, &found) != 0) return 1;
     size_t len = found.st_size, at = 0;
     const uint8_t *image = mmap(NULL, len, PROT_READ, MAP_SHARED, file, 0);
+    close(file);  // the map stays
     if (image == MAP_FAILED) return 1;
     uint32_t wrong = nifazombi_ipv4_check(image, len, &at);  // once; look-ups are safe without it too
     if (wrong) return fprintf(stderr, "no image: fault %u at %zu\n", wrong, at), 1;

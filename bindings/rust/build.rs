@@ -1,13 +1,11 @@
 //! Finds the proved library and has it linked.
 use std::env;
-use std::path::{Path, PathBuf};
+use std::path::Path;
 
 fn main() {
     println!("cargo::rerun-if-env-changed=NIFAZOMBI_LIB");
-    let folder = match env::var_os("NIFAZOMBI_LIB") {
-        Some(folder) => PathBuf::from(folder),
-        None => Path::new(env!("CARGO_MANIFEST_DIR")).join("lib"),
-    };
+    let named = env::var_os("NIFAZOMBI_LIB").filter(|it| !it.is_empty());
+    let folder = Path::new(env!("CARGO_MANIFEST_DIR")).join(named.unwrap_or("lib".into()));
     let archive = folder.join("libnifazombi.a");
     println!("cargo::rerun-if-changed={}", archive.display());
     if archive.is_file() {

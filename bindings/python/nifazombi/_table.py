@@ -1,9 +1,12 @@
 """What all tables have in common: their bytes, and how these come from a file and go to one."""
+import collections.abc
 import contextlib
 import ctypes
 import mmap
+import operator
 import os
-import tempfile
+import secrets
+import typing
 
 from . import _exports as exports
 from ._library import library
@@ -18,8 +21,21 @@ REASONS = {
 }
 
 
+K = typing.TypeVar("K")
+Pairs = typing.Union[typing.Mapping[K, int], typing.Iterable[typing.Tuple[K, int]]]
+
+
 class ImageError(ValueError):
     """Bytes are no image: `str` tells why."""
+
+
+class _Closed:
+    """Stands in a table's class for what `close` takes out of the table."""
+
+    def __get__(self, table, owner):
+        if table is not None:
+            raise ValueError("the table is closed")
+        return self
 
 
 class Table:
@@ -29,101 +45,129 @@ class Table:
     """
 
     _check = None  # the export that checks an image
+    _image = _len = _at = _Closed()
 
-    def __init__(self, image, check=True):
-        """A table over bytes, a bytearray or a mapped file. With `check` false nothing is read first: each call is as
-        safe, but what is answered of bytes that are no image means nothing."""
-        self._image, self._hold, self._at = image, None, None
-        if isinstance(image, bytes):
-            self._hold = ctypes.c_char_p(image)
-            self._at = ctypes.cast(self._hold, ctypes.c_void_p).value
-        elif len(image):
-            self._hold = (ctypes.c_char * len(image)).from_buffer(image)
-            self._at = ctypes.addressof(self._hold)
-        self._len = len(image)
+    def __init__(self, image, check: bool = True):
+        """A table over bytes, or over memory that can be written to, but isn't meanwhile: a bytearray, or a file mapped
+        by ACCESS_COPY. With `check` false nothing is read first: each call is as safe, but what is answered of bytes
+        that are no image means nothing."""
+        view = memoryview(image).cast("B")
+        self._image, self._len = view.toreadonly(), len(view)
+        # Each call is passed what holds the memory, so it lives until the call ends, whoever closes the table.
+        self._at = image if isinstance(image, bytes) else _place_of(view)
         place = ctypes.c_size_t()
         code = self._check(self._at, self._len, place) if check else 0
         if code:
-            self.close()
             raise ImageError("this is no image: " + REASONS[code].format(place.value))
 
     @classmethod
-    def open(cls, path, check=True):
-        """A table over a file, which is mapped."""
+    def open(cls, path, check: bool = True):
+        """A table over a file, which is mapped until the table is closed."""
         with open(path, "rb") as file:
             if os.fstat(file.fileno()).st_size == 0:
                 raise ImageError("this is no image: " + REASONS[exports.SHORT])
-            image = mmap.mmap(file.fileno(), 0, access=mmap.ACCESS_COPY)
-        try:
-            return cls(image, check)
-        except BaseException:
-            image.close()
-            raise
+            # Nothing is written, but ctypes takes no memory that can't be written to.
+            return cls(mmap.mmap(file.fileno(), 0, access=mmap.ACCESS_COPY), check)
 
     @classmethod
-    def write(cls, path, *items, **words):
+    def write(cls, path, *items, **words) -> None:
         """Builds an image, as `build` does, and puts it where a file is or will be, in one step: who reads the old
-        one goes on reading that."""
-        image = cls.build(*items, **words)
-        folder = os.path.dirname(os.path.abspath(path))
-        descriptor, made = tempfile.mkstemp(dir=folder, prefix=f".{os.path.basename(path)}-")
-        try:
-            with open(descriptor, "wb") as file:
+        one goes on reading that. Nobody may read the new one who might not read the old one."""
+        image, path = cls.build(*items, **words), os.path.realpath(os.fsdecode(path))
+        mode = os.stat(path).st_mode & 0o777 if os.path.exists(path) else 0o666
+        made = os.path.join(os.path.dirname(path), f".nifazombi-{secrets.token_hex(8)}")
+        with open(made, "xb", opener=lambda name, flags: os.open(name, flags, mode)) as file:
+            try:
                 file.write(image)
                 file.flush()
                 os.fsync(file.fileno())
-            os.chmod(made, 0o666 & ~_umask())
-            os.replace(made, path)
-        except BaseException:
-            with contextlib.suppress(OSError):
-                os.unlink(made)
-            raise
+                os.replace(made, path)
+            except BaseException:
+                with contextlib.suppress(OSError):
+                    os.unlink(made)
+                raise
 
-    def close(self):
-        """Lets go of the bytes, and unmaps a file."""
-        image, self._image, self._hold, self._at, self._len = self._image, b"", None, None, 0
-        if isinstance(image, mmap.mmap):
-            image.close()
+    def close(self) -> None:
+        """Lets go of the bytes: a file is unmapped when the calls that read it have ended, and nobody has its
+        `payload`."""
+        for name in ("_image", "_len", "_at"):
+            vars(self).pop(name, None)
 
     def __enter__(self):
         return self
 
-    def __exit__(self, *_):
+    def __exit__(self, *_) -> None:
         self.close()
 
     @property
-    def payload(self):
-        """The user's own bytes in the image."""
+    def payload(self) -> memoryview:
+        """The user's own bytes in the image, which aren't copied: `bytes(table.payload[start:end])` copies some."""
         span = exports.Span()
-        if not library.nifazombi_payload(self._at, self._len, span):
-            return b""
+        library.nifazombi_payload(self._at, self._len, span)
         return self._image[span.first : span.first + span.count]
 
+    def _climb(self, found, above, item):
+        """The items from one up, by its index and one more."""
+        while found:
+            yield item(found - 1)
+            found = above(self._at, self._len, found - 1)
 
-def _umask():
-    mask = os.umask(0)
-    os.umask(mask)
-    return mask
 
-
-class Items:
+class Items(collections.abc.Sequence):
     """Some items of a table that stand one behind the other, of which none is read before it is asked for."""
 
-    def __init__(self, item, first, count):
-        self._item, self._range = item, range(first, first + count)
+    def __init__(self, item, indices):
+        self._item, self._indices = item, indices
 
     def __len__(self):
-        return len(self._range)
+        return len(self._indices)
 
     def __getitem__(self, index):
-        if isinstance(index, slice):
-            part = Items(self._item, 0, 0)
-            part._range = self._range[index]
-            return part
-        return self._item(self._range[index])
+        found = self._indices[index]
+        return Items(self._item, found) if isinstance(index, slice) else self._item(found)
 
     def __iter__(self):
-        return map(self._item, self._range)
+        return map(self._item, self._indices)
 
     def __reversed__(self):
-        return map(self._item, reversed(self._range))
+        return map(self._item, reversed(self._indices))
+
+
+def _place_of(view):
+    """The address of memory, which holds it: ctypes passes that faster than it does the memory itself."""
+    held = (ctypes.c_char * len(view)).from_buffer(view)
+    place = ctypes.c_void_p(ctypes.addressof(held))
+    place.held = held
+    return place
+
+
+def items_of(item, span):
+    return Items(item, range(span.first, span.first + span.count))
+
+
+def pairs_of(items):
+    return items.items() if isinstance(items, collections.abc.Mapping) else items
+
+
+def number_of(key, value, bits):
+    """The value of a key as a number of so many bits."""
+    number = operator.index(value)
+    if number >> bits:
+        raise ValueError(f"the value of {_shown(key)} doesn't fit into {bits} bits")
+    return number
+
+
+def built(len_of, write, rows, pairs, payload):
+    """The image of pairs in order, of which these are the rows, and of the user's own bytes."""
+    own = memoryview(payload).tobytes()
+    image, place = (ctypes.c_char * len_of(len(own)))(), ctypes.c_size_t()
+    code = write(rows, len(pairs), own, len(own), image, len(image), place)
+    if code == exports.OUT_OF_ORDER:
+        raise ValueError(f"{_shown(pairs[place.value][0])} is there twice")
+    if code:
+        raise ValueError("there are too many rows, or too many bytes of keys")
+    return image.raw
+
+
+def _shown(key):
+    return repr(key) if isinstance(key, bytes) else str(key)

@@ -1,14 +1,17 @@
 """Routing tables: networks of one family, each with a number."""
 import array
-import ctypes
 import ipaddress
 import socket
 import struct
+import types
 import typing
 
 from . import _exports as exports
 from ._library import library
-from ._table import ImageError, Items, REASONS, Table
+from ._table import REASONS, ImageError, Items, Pairs, Table, built, items_of, number_of, pairs_of
+
+Address = typing.Union[str, int, bytes, ipaddress.IPv4Address, ipaddress.IPv6Address]
+Network = typing.Union[str, ipaddress.IPv4Network, ipaddress.IPv6Network]
 
 
 class Route(typing.NamedTuple):
@@ -26,13 +29,15 @@ def _read(family, text):
         raise ValueError(f"{text!r} is no address of IPv{4 if family == socket.AF_INET else 6}") from None
 
 
-class _Ipv4:
-    address, network, row, width = ipaddress.IPv4Address, ipaddress.IPv4Network, exports.Ipv4Row, 32
-    rows, values = struct.Struct("=IIII"), "I"
+def _calls(start):
+    """The exports whose names start so, by the rest of the names, which both families have."""
+    names = [name for name, *_ in exports.EXPORTS if name.startswith(start)]
+    return types.SimpleNamespace(**{name[len(start):]: getattr(library, name) for name in names})
 
-    @staticmethod
-    def call(name):
-        return getattr(library, f"nifazombi_ipv4_{name}")
+
+class _Ipv4:
+    version, network, row, width = 4, ipaddress.IPv4Network, exports.Ipv4Row, 32
+    calls, rows, values, value_bits = _calls("nifazombi_ipv4_"), struct.Struct("=IIII"), "I", 32
 
     @staticmethod
     def passed(address):
@@ -43,10 +48,15 @@ class _Ipv4:
 
     @staticmethod
     def many(addresses):
-        """Addresses in one run of memory, and how many they are."""
-        if not (isinstance(addresses, (array.array, memoryview)) and addresses.itemsize == 4):
+        """Addresses as the library takes many of them."""
+        is_lent = isinstance(addresses, (bytes, bytearray, memoryview, array.array))
+        kept_as = memoryview(addresses).format if is_lent else ""
+        if kept_as == "B":
+            addresses = array.array("I", bytes(addresses))
+            addresses.byteswap()
+        elif kept_as != "I":
             addresses = array.array("I", map(_Ipv4.passed, addresses))
-        return memoryview(addresses).cast("B"), len(addresses)
+        return memoryview(addresses).tobytes()
 
     @staticmethod
     def packed(network, value):
@@ -58,12 +68,8 @@ class _Ipv4:
 
 
 class _Ipv6:
-    address, network, row, width = ipaddress.IPv6Address, ipaddress.IPv6Network, exports.Ipv6Row, 128
-    rows, values = struct.Struct("=16sIIQ"), "Q"
-
-    @staticmethod
-    def call(name):
-        return getattr(library, f"nifazombi_ipv6_{name}")
+    version, network, row, width = 6, ipaddress.IPv6Network, exports.Ipv6Row, 128
+    calls, rows, values, value_bits = _calls("nifazombi_ipv6_"), struct.Struct("=16sIIQ"), "Q", 64
 
     @staticmethod
     def passed(address):
@@ -75,7 +81,10 @@ class _Ipv6:
     def many(addresses):
         if not isinstance(addresses, (bytes, bytearray, memoryview)):
             addresses = b"".join(map(_Ipv6.passed, addresses))
-        return memoryview(addresses).cast("B"), len(addresses) // 16
+        packed = bytes(addresses)
+        if len(packed) % 16:
+            raise ValueError("packed addresses of IPv6 have 16 bytes each")
+        return packed
 
     @staticmethod
     def packed(network, value):
@@ -89,45 +98,39 @@ class _Ipv6:
 class Routes(Table):
     """A routing table of one family: `routes[address]` is the value of the longest network that holds an address.
 
-    An address is a text, a number, its packed bytes, or one of `ipaddress`.
+    An address is a text, a number, its packed bytes, or one of `ipaddress`. Iteration gives the routes in order, and
+    `version` is 4 or 6.
     """
 
-    def __init__(self, image, check=True):
-        self._family = _Ipv6 if bytes(image[:6]) == b"NZIPV6" else _Ipv4
-        self._check = self._family.call("check")
+    def __init__(self, image, check: bool = True):
+        self._family = _Ipv6 if memoryview(image).cast("B")[:6] == b"NZIPV6" else _Ipv4
+        self._check = self._family.calls.check
+        self.version = self._family.version
         super().__init__(image, check)
-        self.version = 6 if self._family is _Ipv6 else 4
 
     @classmethod
-    def build(cls, routes, payload=b""):
-        """An image of pairs of a network and a value, in any order, all of one family, and of bytes of one's own.
-        A network is a text or one of `ipaddress`. Raises ValueError where one comes twice."""
-        each = [(ipaddress.ip_network(network), value) for network, value in routes]
-        family = _Ipv6 if each and each[0][0].version == 6 else _Ipv4
-        each.sort(key=lambda it: (int(it[0].network_address), it[0].prefixlen))
-        if any(not isinstance(network, family.network) for network, _ in each):
+    def build(cls, routes: Pairs[Network], payload=b"", version: typing.Optional[int] = None) -> bytes:
+        """An image of pairs of a network and a value, or of a mapping, in any order, all of one family, and of bytes of
+        one's own. A network is a text or one of `ipaddress`. `version` says of which family the networks have to be:
+        without it that is the first one's, and IPv4 where there is none. Raises ValueError where a network comes
+        twice."""
+        each = [(ipaddress.ip_network(network), value) for network, value in pairs_of(routes)]
+        version = version or (each[0][0].version if each else 4)
+        if version not in (4, 6):
+            raise ValueError(f"there is no IPv{version}")
+        if any(network.version != version for network, _ in each):
             raise ValueError("the networks aren't of one family")
-        try:
-            rows = b"".join(family.packed(*it) for it in each)
-        except struct.error as error:
-            raise ValueError(f"a value doesn't fit: {error}") from None
-        image = bytearray(family.call("image_len")(len(each), len(payload)))
-        place, out = ctypes.c_size_t(), (ctypes.c_char * len(image)).from_buffer(image)
-        own, at = bytes(payload), ctypes.addressof(out)
-        code = family.call("write")(rows, len(each), own, len(own), at, len(image), place)
-        del out
-        if code == exports.OUT_OF_ORDER:
-            raise ValueError(f"{each[place.value][0]} is there twice")
-        if code:
-            raise ValueError("there are too many routes")
-        return bytes(image)
+        family = _Ipv4 if version == 4 else _Ipv6
+        each.sort(key=lambda it: (int(it[0].network_address), it[0].prefixlen))
+        rows = b"".join(family.packed(network, number_of(network, value, family.value_bits)) for network, value in each)
+        return built(lambda own: family.calls.image_len(len(each), own), family.calls.write, rows, each, payload)
 
-    def __len__(self):
-        return self._family.call("len")(self._at, self._len)
+    def __len__(self) -> int:
+        return self._family.calls.len(self._at, self._len)
 
     def _row(self, index):
         row = self._family.row()
-        if not self._family.call("row_at")(self._at, self._len, index, row) or row.bits > self._family.width:
+        if not self._family.calls.row_at(self._at, self._len, index, row) or row.bits > self._family.width:
             raise ImageError("this is no image: " + REASONS[exports.ROW].format(index))
         return row
 
@@ -136,58 +139,60 @@ class Routes(Table):
         return Route(self._family.network((self._family.first(row), row.bits), strict=False), row.value)
 
     def _found(self, address):
-        return self._family.call("longest_match")(self._at, self._len, self._family.passed(address))
+        return self._family.calls.longest_match(self._at, self._len, self._family.passed(address))
 
-    def longest_match(self, address):
+    def longest_match(self, address: Address) -> typing.Optional[Route]:
         """The route of the longest network that holds an address, or None."""
         found = self._found(address)
         return self._route(found - 1) if found else None
 
-    def get(self, address, default=None):
+    def get(self, address: Address, default=None):
         """The value of the longest network that holds an address, or `default`."""
         found = self._found(address)
         return self._row(found - 1).value if found else default
 
-    def __getitem__(self, address):
+    def __getitem__(self, address: Address) -> int:
         found = self._found(address)
         if not found:
             raise KeyError(address)
         return self._row(found - 1).value
 
-    def __contains__(self, address):
+    def __contains__(self, address: Address) -> bool:
         return bool(self._found(address))
 
-    def longest_matches(self, addresses):
-        """The values of many addresses, None where no network holds one. Fastest of IPv4 as numbers in an
-        `array('I')`, of IPv6 as packed bytes one behind the other."""
-        asked, count = self._family.many(addresses)
+    def longest_matches(self, addresses) -> typing.List[typing.Optional[int]]:
+        """The values of many addresses, None where no network holds one. Addresses may also be packed bytes, one behind
+        the other. Fastest of IPv4 as numbers in an `array('I')`, of IPv6 as packed bytes."""
+        asked = self._family.many(addresses)
+        count = 8 * len(asked) // self._family.width
         found = array.array("I", bytes(4 * count))
-        keep = bytes(asked) if asked.readonly else (ctypes.c_char * len(asked)).from_buffer(asked)
-        self._family.call("longest_matches")(self._at, self._len, keep, count, found.buffer_info()[0], count)
-        first, rows, size = struct.unpack_from("<QQ", self._image, 24)[0], len(self), self._family.rows.size
-        values = memoryview(self._image)[first : first + size * rows].cast(self._family.values)[3::4]
+        self._family.calls.longest_matches(self._at, self._len, asked, count, found.buffer_info()[0], count)
+        first, size = int.from_bytes(self._image[24:32], "little"), len(self) * self._family.rows.size
+        values = self._image[first : first + size].cast(self._family.values)[3::4]
         return [values[it - 1] if it else None for it in found]
 
-    def exact(self, network):
-        """The route of this very network, or None."""
+    def _network(self, network):
+        """A network's first address and its bits, as the library takes them."""
         network = self._family.network(network)
-        first = self._family.passed(network.network_address)
-        found = self._family.call("get")(self._at, self._len, first, network.prefixlen)
+        return self._family.passed(network.network_address), network.prefixlen
+
+    def exact(self, network: Network) -> typing.Optional[Route]:
+        """The route of this very network, or None."""
+        found = self._family.calls.get(self._at, self._len, *self._network(network))
         return self._route(found - 1) if found else None
 
-    def below(self, network):
+    def below(self, network: Network) -> Items:
         """The routes within a network, itself too, in order."""
-        network, span = self._family.network(network), exports.Span()
-        first = self._family.passed(network.network_address)
-        self._family.call("below")(self._at, self._len, first, network.prefixlen, span)
-        return Items(self._route, span.first, span.count)
+        span = exports.Span()
+        self._family.calls.below(self._at, self._len, *self._network(network), span)
+        return items_of(self._route, span)
 
-    def above(self, address):
+    def above(self, address: Address) -> typing.Iterator[Route]:
         """The routes of all networks that hold an address, from the longest up."""
-        found = self._found(address)
-        while found:
-            yield self._route(found - 1)
-            found = self._family.call("above")(self._at, self._len, found - 1)
+        return self._climb(self._found(address), self._family.calls.above, self._route)
 
-    def __iter__(self):
-        return iter(Items(self._route, 0, len(self)))
+    def __iter__(self) -> typing.Iterator[Route]:
+        return iter(Items(self._route, range(len(self))))
+
+    def __reversed__(self) -> typing.Iterator[Route]:
+        return reversed(Items(self._route, range(len(self))))

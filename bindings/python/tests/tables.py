@@ -1,9 +1,13 @@
 """Checks the package nifazombi against plain lists and against images written by their format alone (tools/images.py)."""
 import array
+import contextlib
 import ipaddress
+import mmap
 import os
 import random
 import tempfile
+import threading
+import time
 
 import images
 from nifazombi import ImageError, Route, Routes, Texts
@@ -37,17 +41,22 @@ def near(version, networks):
 
 def try_routes(version):
     found = drawn(version)
-    image = Routes.build(found.items(), payload=b"own bytes")
+    image = Routes.build(found, payload=b"own bytes")
+    assert image == Routes.build(found.items(), b"own bytes")
     assert image == images.routes_image(found.items(), b"own bytes"), "the image isn't by the format"
     routes, order = Routes(image), sorted(found, key=lambda it: (int(it.network_address), it.prefixlen))
     assert routes.version == version and routes.payload == b"own bytes" and len(routes) == len(order)
-    assert [*routes] == [Route(it, found[it]) for it in order]
+    assert [*routes] == [Route(it, found[it]) for it in order] == [*reversed(routes)][::-1]
     addresses = [*near(version, order)]
     longest = [images.longest(found.items(), it) for it in addresses]
     assert [routes.longest_match(it) for it in addresses] == [it and Route(*it) for it in longest]
     assert routes.longest_matches(addresses) == [it and it[1] for it in longest]
-    packed = array.array("I", map(int, addresses)) if version == 4 else b"".join(it.packed for it in addresses)
-    assert routes.longest_matches(packed) == [it and it[1] for it in longest]
+    packed = b"".join(it.packed for it in addresses)
+    numbers = [array.array("I", map(int, addresses))] if version == 4 else []
+    for many in (packed, bytearray(packed), memoryview(packed), *numbers, *map(memoryview, numbers)):
+        assert routes.longest_matches(many) == [it and it[1] for it in longest]
+    empty = Routes(Routes.build([], version=version))
+    assert [*empty] == routes.longest_matches([]) == [] and empty.longest_matches(addresses[:2]) == [None, None]
     for address in addresses[:200]:
         around = sorted((it for it in order if address in it), key=lambda it: -it.prefixlen)
         assert [it.network for it in routes.above(address)] == around and (address in routes) == bool(around)
@@ -56,7 +65,7 @@ def try_routes(version):
         within = [it for it in order if it.subnet_of(network)]
         below = routes.below(network)
         assert [it.network for it in below] == within and [it.network for it in reversed(below)] == within[::-1]
-        assert below[-1].network == within[-1] and len(below[1:]) == len(within) - 1
+        assert below[-1].network == within[-1] and len(below[1:]) == len(within) - 1 and below.index(below[0]) == 0
 
 
 def try_texts():
@@ -98,12 +107,21 @@ def try_refusals():
     refused(lambda: Routes.build([("10.0.0.0/8", 1), ("10.0.0.0/8", 2)]), ValueError, "10.0.0.0/8 is there twice")
     refused(lambda: Routes.build([("10.0.0.0/8", 1), ("::/0", 2)]), ValueError, "one family")
     refused(lambda: Routes.build([("10.0.0.0/8", 1 << 32)]), ValueError, "doesn't fit")
+    refused(lambda: Routes.build([("10.0.0.0/8", 1)], version=6), ValueError, "one family")
+    refused(lambda: Routes.build([], version=5), ValueError, "no IPv5")
+    refused(lambda: Routes.build([("10.0.0.0/8", 1.5)]), TypeError, "integer")
     refused(lambda: Routes.build([("10.0.0.1/8", 1)]), ValueError, "host bits")
     refused(lambda: Texts.build([("a", 1), (b"a", 2)]), ValueError, "b'a' is there twice")
-    refused(lambda: Texts.build({"a": -1}), ValueError, "64 bits")
+    refused(lambda: Texts.build({"a": -1}), ValueError, "b'a' doesn't fit into 64 bits")
+    refused(lambda: Texts.build({5: 1}), TypeError, "bytes-like")
+    refused(lambda: Texts(Texts.build({}))[5], TypeError, "bytes-like")
+    refused(lambda: Texts.build({}, payload="own"), TypeError, "bytes-like")
     refused(lambda: Routes(image)["11.0.0.1"], KeyError, "11.0.0.1")
     refused(lambda: Routes(image).longest_match("::1"), ValueError, "no address of IPv4")
-    refused(lambda: Texts(Texts.build({})).nth(0), IndexError, "0")
+    for index in (1, -1, 1 << 64):
+        refused(lambda index=index: Texts(Texts.build({"a": 1})).nth(index), IndexError, str(index))
+    refused(lambda: Routes(image).longest_matches(array.array("i", [-1])), ValueError, "-1")
+    refused(lambda: Routes(Routes.build([], version=6)).longest_matches(bytes(17)), ValueError, "16 bytes")
     refused(lambda: Routes.open("/nowhere/table"), FileNotFoundError, "nowhere")
 
 
@@ -114,11 +132,42 @@ def try_files(room):
         Routes.write(path, [("10.0.0.0/8", 2)], payload=b"new")
         with Routes.open(path) as new:
             assert (old["10.1.1.1"], new["10.1.1.1"], new.payload) == (1, 2, b"new")
-    assert len(old) == 0 and old.longest_match("10.1.1.1") is None, "a closed table answers"
+    for call in (len, list, lambda it: it.longest_match("10.1.1.1"), lambda it: it.payload):
+        refused(lambda call=call: call(old), ValueError, "closed")
     refused(lambda: Routes.write(path, [("10.0.0.0/8", -1)]), ValueError, "doesn't fit")
     assert os.listdir(room) == ["table"] and Routes.open(path)["10.1.1.1"] == 2
+    os.chmod(path, 0o600)
+    os.symlink(path, f"{room}/link")
+    Routes.write(os.fsencode(f"{room}/link"), [("10.0.0.0/8", 3)])
+    assert os.path.islink(f"{room}/link") and os.stat(path).st_mode & 0o777 == 0o600
+    with open(path, "rb") as file:
+        own = mmap.mmap(file.fileno(), 0, access=mmap.ACCESS_COPY)
+    with Routes(own) as routes:
+        assert routes["10.1.1.1"] == 3
+    own.close()
     open(f"{room}/none", "w").close()
     refused(lambda: Texts.open(f"{room}/none"), ImageError, "too short")
+
+
+def try_close(room):
+    """Whoever reads a table while it is closed reads on, or is refused: its file stays mapped until the call ends."""
+    asked = array.array("I", range(0x0A000000, 0x0B000000, 16))
+    Routes.write(f"{room}/table", [(f"10.{at}.0.0/16", at) for at in range(256)], payload=bytes(1 << 20))
+
+    def read():
+        with contextlib.suppress(ValueError):
+            routes.longest_matches(asked)
+
+    for delay in range(5):
+        routes, reader = Routes.open(f"{room}/table"), threading.Thread(target=read)
+        reader.start()
+        time.sleep(delay / 1000)
+        routes.close()
+        reader.join()
+    routes = Routes.open(f"{room}/table")
+    own = routes.payload
+    routes.close()
+    assert own == bytes(1 << 20) and own.readonly
 
 
 def try_hostile():
@@ -134,10 +183,12 @@ def try_hostile():
                 table.get("ab"), table.nearest("abcd"), table.rank("b"), [*zip(range(9), table.prefixes("abc"))]
             elif table.version == 6:
                 address = ipaddress.IPv6Address(random.getrandbits(128))
-                table._family.call("longest_match")(table._at, table._len, table._family.passed(address))
+                table._family.calls.longest_match(table._at, table._len, table._family.passed(address))
 
 
 def main():
+    if not __debug__:
+        raise SystemExit("python -O checks nothing here")
     random.seed(1)
     try_routes(4)
     try_routes(6)
@@ -145,6 +196,7 @@ def main():
     try_refusals()
     with tempfile.TemporaryDirectory() as room:
         try_files(room)
+        try_close(room)
     try_hostile()
 
 

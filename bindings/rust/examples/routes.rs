@@ -20,5 +20,6 @@ fn main() -> Result<(), Box<dyn Error>> {
             None => println!("{address}: no network holds it"),
         }
     }
+    std::fs::remove_file(&path)?;
     Ok(())
 }

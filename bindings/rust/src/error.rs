@@ -16,8 +16,8 @@ pub enum ImageError {
     Version,
     /// The part listed at this index is missing, lies outside the bytes, or has another size.
     Part(usize),
-    /// The route or the pair at this index is none, doesn't come after the one before it, or is
-    /// linked wrongly.
+    /// The route or the pair at this index is wrong in itself, doesn't come after the one before it,
+    /// or is linked wrongly.
     Row(usize),
     /// The cell at this index, from which a search starts, counts wrongly.
     Cell(usize),
@@ -43,7 +43,7 @@ impl fmt::Display for ImageError {
     fn fmt(&self, f: &mut fmt::Formatter<'_>) -> fmt::Result {
         match self {
             ImageError::Short => write!(f, "no image: the bytes end before its head does"),
-            ImageError::Mark => write!(f, "no image: the bytes begin otherwise"),
+            ImageError::Mark => write!(f, "no image of such a table: the first bytes are wrong"),
             ImageError::Version => write!(f, "no image that can be read: it is of another version"),
             ImageError::Part(at) => write!(f, "no image: part {at} is missing or out of place"),
             ImageError::Row(at) => {

@@ -1,7 +1,10 @@
 // Made by `tools/texts --write` of the sources of crates/nifazombi_c.
 //
-// What the archive exports, and for each export a function that passes it live memory: a pointer and a length are those
-// of one slice, which is borrowed for the call. An export asks for nothing else, so each of these functions is safe.
+// What the archive exports, and for each export a function that passes it live memory.
+//
+// SAFETY: an export asks only that a pointer and a length are those of memory that is there, and that nobody else writes
+// to meanwhile. No other module can name one, and each function below passes the pointer and the length of one slice, or a
+// reference, borrowed for the call.
 use std::marker::PhantomData;
 
 unsafe extern "C" {

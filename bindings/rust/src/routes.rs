@@ -94,12 +94,12 @@ impl<'a, A: Address> Routes<'a, A> {
     /// The route of the longest network that holds an address.
     #[inline]
     pub fn longest_match(&self, address: A) -> Option<Route<A>> {
-        self.route_at(self.look_index(address)?)
+        self.route_at(self.longest_match_index(address)?)
     }
 
-    /// The same by its index.
+    /// The index of the route that `longest_match` returns.
     #[inline]
-    pub fn look_index(&self, address: A) -> Option<usize> {
+    pub fn longest_match_index(&self, address: A) -> Option<usize> {
         A::longest_match(self.image, address).checked_sub(1)
     }
 
@@ -182,6 +182,15 @@ impl<A: Address> fmt::Debug for Routes<'_, A> {
 }
 
 impl<'a, A: Address> IntoIterator for Routes<'a, A> {
+    type Item = Route<A>;
+    type IntoIter = Rows<'a, A>;
+
+    fn into_iter(self) -> Rows<'a, A> {
+        self.iter()
+    }
+}
+
+impl<'a, A: Address> IntoIterator for &Routes<'a, A> {
     type Item = Route<A>;
     type IntoIter = Rows<'a, A>;
 

@@ -147,6 +147,15 @@ impl<'a> IntoIterator for Texts<'a> {
     }
 }
 
+impl<'a> IntoIterator for &Texts<'a> {
+    type Item = (&'a [u8], u64);
+    type IntoIter = Pairs<'a>;
+
+    fn into_iter(self) -> Pairs<'a> {
+        self.iter()
+    }
+}
+
 /// Pairs that stand one behind the other, in order.
 #[derive(Clone, Debug)]
 pub struct Pairs<'a> {

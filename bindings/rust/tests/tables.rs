@@ -75,7 +75,7 @@ fn lookups_by_hand() {
     for image in [image_by_hand(ROWS), image_with_cells()] {
         let routes = Routes::<Ipv4Addr>::new(&image).unwrap();
         for (address, index) in LOOKS {
-            let found = routes.look_index(address.parse().unwrap());
+            let found = routes.longest_match_index(address.parse().unwrap());
             assert_eq!(found, index, "{address}");
         }
     }
@@ -102,6 +102,7 @@ fn rows_by_hand() {
     assert_both_ends(routes.below(Ipv4Addr::new(10, 1, 2, 3), 9), &[long]);
     assert_both_ends(routes.below(Ipv4Addr::new(10, 1, 0, 0), 17), &[]);
     assert_both_ends(routes.iter(), &[wide, long, other]);
+    assert!(routes.into_iter().eq(&routes));
     assert_eq!(
         (routes.len(), routes.is_empty(), routes.payload()),
         (3, false, &b""[..])
@@ -285,7 +286,7 @@ fn compare_lookups<A: Number>(routes: Routes<A>, table: &[Route<A>], address: A)
     around.sort_by_key(|it| Reverse(it.bits));
     let longest = around.first().copied();
     assert_eq!(routes.longest_match(address), longest);
-    let index = routes.look_index(address);
+    let index = routes.longest_match_index(address);
     assert_eq!(index.and_then(|at| routes.route_at(at)), longest);
     assert!(routes.above(address).eq(around), "{address}");
 }
@@ -335,7 +336,7 @@ fn many_addresses() {
     let mut found = vec![0; 500];
     assert_eq!(routes.longest_matches(&addresses, &mut found), 500);
     for (address, found) in addresses.iter().zip(found) {
-        let index = routes.look_index((*address).into());
+        let index = routes.longest_match_index((*address).into());
         assert_eq!(found as usize, index.map_or(0, |at| at + 1));
     }
     assert_eq!(routes.longest_matches(&addresses, &mut [0; 3]), 3);
@@ -349,7 +350,7 @@ fn call_all<A: Number>(bytes: &[u8], random: &mut Random) {
     for _ in 0..4 {
         let address = random_address(random);
         let bits = random.below(256) as u8;
-        let index = routes.look_index(address);
+        let index = routes.longest_match_index(address);
         assert_eq!(
             routes.longest_match(address),
             index.and_then(|at| routes.route_at(at))

@@ -22,6 +22,7 @@ fn a_map_by_hand() {
     assert!(texts.contains_key(b"ab") && !texts.contains_key(vec![0]));
     assert!(texts.prefixes("abc").eq([ab, a, none]));
     assert_both_ends(texts.into_iter(), &PAIRS);
+    assert!(texts.into_iter().eq(&texts));
     assert_both_ends(texts.below("a"), &[a, ab]);
     assert_both_ends(texts.between("", "ab"), &[none, a]);
     assert_both_ends(texts.between("ab", "a"), &[]);

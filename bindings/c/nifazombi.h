@@ -17,28 +17,28 @@ extern "C" {
 #endif
 
 // There is no room for the head and the list of the parts, or for the image that is to be written.
-#define NIFAZOMBI_SHORT 1
+#define NIFAZOMBI_ERROR_SHORT 1
 
 // The first bytes aren't those of such an image.
-#define NIFAZOMBI_MARK 2
+#define NIFAZOMBI_ERROR_MARK 2
 
 // The image is of another version.
-#define NIFAZOMBI_VERSION 3
+#define NIFAZOMBI_ERROR_VERSION 3
 
 // The part listed at this index is missing, lies outside the bytes, or has another size.
-#define NIFAZOMBI_PART 4
+#define NIFAZOMBI_ERROR_PART 4
 
-// The row at this index is none, doesn't come after the row before it, or has another link.
-#define NIFAZOMBI_ROW 5
+// The row at this index isn't valid, doesn't come after the row before it, or has another link.
+#define NIFAZOMBI_ERROR_ROW 5
 
 // The cell at this index counts wrongly.
-#define NIFAZOMBI_CELL 6
+#define NIFAZOMBI_ERROR_CELL 6
 
 // There are 2^32 rows or more, or so many bytes of keys.
-#define NIFAZOMBI_FULL 7
+#define NIFAZOMBI_ERROR_FULL 7
 
-// The row at this index is none, or doesn't come after the row before it.
-#define NIFAZOMBI_OUT_OF_ORDER 8
+// The row at this index isn't valid, or doesn't come after the row before it.
+#define NIFAZOMBI_ERROR_OUT_OF_ORDER 8
 
 // A row as it lies in an image, in 16 bytes: a network by its first address and how many bits its
 // addresses share, the index and one more of the row of the network around it, or 0, and the
@@ -81,7 +81,7 @@ typedef struct {
 } nifazombi_span;
 
 // Checks whether bytes are an image of IPv4 networks, in linear time. Returns 0 of an image, and
-// else why they are none: one of the numbers above; the index that belongs to it is put into `at`.
+// else why they are none: one of the numbers above; an index that belongs to it is put into `at`.
 uint32_t nifazombi_ipv4_check(const uint8_t *image, size_t image_len, size_t *at);
 
 // The count of rows.
@@ -117,7 +117,7 @@ size_t nifazombi_ipv4_image_len(size_t rows, size_t payload);
 
 // Writes the image of rows in order, by first address and then by bits, whose links count for
 // nothing, and of the user's own bytes into `out`. Returns 0, or why it couldn't: one of the
-// numbers above; the index that belongs to it is put into `at`, and `out` is as before then.
+// numbers above; an index that belongs to it is put into `at`, and `out` is as before then.
 uint32_t nifazombi_ipv4_write(
     const nifazombi_ipv4_row *rows, size_t rows_len,
     const uint8_t *payload, size_t payload_len,
@@ -125,7 +125,7 @@ uint32_t nifazombi_ipv4_write(
     size_t *at);
 
 // Checks whether bytes are an image of IPv6 networks, in linear time. Returns 0 of an image, and
-// else why they are none: one of the numbers above; the index that belongs to it is put into `at`.
+// else why they are none: one of the numbers above; an index that belongs to it is put into `at`.
 uint32_t nifazombi_ipv6_check(const uint8_t *image, size_t image_len, size_t *at);
 
 // The count of rows.
@@ -165,7 +165,7 @@ size_t nifazombi_ipv6_image_len(size_t rows, size_t payload);
 
 // Writes the image of rows in order, by first address and then by bits, whose links count for
 // nothing, and of the user's own bytes into `out`. Returns 0, or why it couldn't: one of the
-// numbers above; the index that belongs to it is put into `at`, and `out` is as before then.
+// numbers above; an index that belongs to it is put into `at`, and `out` is as before then.
 uint32_t nifazombi_ipv6_write(
     const nifazombi_ipv6_row *rows, size_t rows_len,
     const uint8_t *payload, size_t payload_len,
@@ -177,7 +177,7 @@ uint32_t nifazombi_ipv6_write(
 bool nifazombi_payload(const uint8_t *image, size_t image_len, nifazombi_span *span);
 
 // Checks whether bytes are an image of texts, in linear time. Returns 0 of an image, and else why
-// they are none: one of the numbers above; the index that belongs to it is put into `at`.
+// they are none: one of the numbers above; an index that belongs to it is put into `at`.
 uint32_t nifazombi_texts_check(const uint8_t *image, size_t image_len, size_t *at);
 
 // The count of pairs.

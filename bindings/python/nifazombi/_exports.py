@@ -1,14 +1,14 @@
 # Made by `tools/texts --write` of the sources of crates/nifazombi_c.
 from ctypes import POINTER, Structure, c_bool, c_size_t, c_uint8, c_uint32, c_uint64, c_void_p
 
-SHORT = 1
-MARK = 2
-VERSION = 3
-PART = 4
-ROW = 5
-CELL = 6
-FULL = 7
-OUT_OF_ORDER = 8
+ERROR_SHORT = 1
+ERROR_MARK = 2
+ERROR_VERSION = 3
+ERROR_PART = 4
+ERROR_ROW = 5
+ERROR_CELL = 6
+ERROR_FULL = 7
+ERROR_OUT_OF_ORDER = 8
 
 
 class Ipv4Row(Structure):

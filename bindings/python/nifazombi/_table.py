@@ -12,12 +12,12 @@ from . import _exports as exports
 from ._library import library
 
 REASONS = {
-    exports.SHORT: "it is too short",
-    exports.MARK: "it is of another kind",
-    exports.VERSION: "it is of another version",
-    exports.PART: "part {} is missing, or isn't where the head says",
-    exports.ROW: "row {} is out of order, or its link is wrong",
-    exports.CELL: "cell {} is wrong",
+    exports.ERROR_SHORT: "it is too short",
+    exports.ERROR_MARK: "it is of another kind",
+    exports.ERROR_VERSION: "it is of another version",
+    exports.ERROR_PART: "part {} is missing, or isn't where the head says",
+    exports.ERROR_ROW: "row {} is out of order, or its link is wrong",
+    exports.ERROR_CELL: "cell {} is wrong",
 }
 
 
@@ -65,7 +65,7 @@ class Table:
         """A table over a file, which is mapped until the table is closed."""
         with open(path, "rb") as file:
             if os.fstat(file.fileno()).st_size == 0:
-                raise ImageError("this is no image: " + REASONS[exports.SHORT])
+                raise ImageError("this is no image: " + REASONS[exports.ERROR_SHORT])
             # Nothing is written, but ctypes takes no memory that can't be written to.
             return cls(mmap.mmap(file.fileno(), 0, access=mmap.ACCESS_COPY), check)
 
@@ -162,7 +162,7 @@ def built(len_of, write, rows, pairs, payload):
     own = memoryview(payload).tobytes()
     image, place = (ctypes.c_char * len_of(len(own)))(), ctypes.c_size_t()
     code = write(rows, len(pairs), own, len(own), image, len(image), place)
-    if code == exports.OUT_OF_ORDER:
+    if code == exports.ERROR_OUT_OF_ORDER:
         raise ValueError(f"{_shown(pairs[place.value][0])} is there twice")
     if code:
         raise ValueError("there are too many rows, or too many bytes of keys")

@@ -131,7 +131,7 @@ class Routes(Table):
     def _row(self, index):
         row = self._family.row()
         if not self._family.calls.row_at(self._at, self._len, index, row) or row.bits > self._family.width:
-            raise ImageError("this is no image: " + REASONS[exports.ROW].format(index))
+            raise ImageError("this is no image: " + REASONS[exports.ERROR_ROW].format(index))
         return row
 
     def _route(self, index):

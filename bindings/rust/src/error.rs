@@ -28,12 +28,12 @@ impl ImageError {
     pub(crate) fn check(code: u32, at: usize) -> Result<(), ImageError> {
         match code {
             0 => Ok(()),
-            exports::SHORT => Err(ImageError::Short),
-            exports::MARK => Err(ImageError::Mark),
-            exports::VERSION => Err(ImageError::Version),
-            exports::PART => Err(ImageError::Part(at)),
-            exports::ROW => Err(ImageError::Row(at)),
-            exports::CELL => Err(ImageError::Cell(at)),
+            exports::ERROR_SHORT => Err(ImageError::Short),
+            exports::ERROR_MARK => Err(ImageError::Mark),
+            exports::ERROR_VERSION => Err(ImageError::Version),
+            exports::ERROR_PART => Err(ImageError::Part(at)),
+            exports::ERROR_ROW => Err(ImageError::Row(at)),
+            exports::ERROR_CELL => Err(ImageError::Cell(at)),
             _ => unreachable!("a check returns no code {code}"),
         }
     }
@@ -73,8 +73,8 @@ impl WriteError {
     pub(crate) fn check(code: u32, at: usize) -> Result<(), WriteError> {
         match code {
             0 => Ok(()),
-            exports::FULL => Err(WriteError::Full),
-            exports::OUT_OF_ORDER => Err(WriteError::OutOfOrder(at)),
+            exports::ERROR_FULL => Err(WriteError::Full),
+            exports::ERROR_OUT_OF_ORDER => Err(WriteError::OutOfOrder(at)),
             _ => unreachable!("writing into a buffer of the image's length returns no code {code}"),
         }
     }

@@ -43,21 +43,21 @@ unsafe extern "C" {
     safe fn nifazombi_texts_write(pairs: *const TextsPair<'_>, pairs_len: usize, payload: *const u8, payload_len: usize, out: *mut u8, out_len: usize, at: *mut usize) -> u32;
 }
 
-pub(crate) const SHORT: u32 = 1;
+pub(crate) const ERROR_SHORT: u32 = 1;
 
-pub(crate) const MARK: u32 = 2;
+pub(crate) const ERROR_MARK: u32 = 2;
 
-pub(crate) const VERSION: u32 = 3;
+pub(crate) const ERROR_VERSION: u32 = 3;
 
-pub(crate) const PART: u32 = 4;
+pub(crate) const ERROR_PART: u32 = 4;
 
-pub(crate) const ROW: u32 = 5;
+pub(crate) const ERROR_ROW: u32 = 5;
 
-pub(crate) const CELL: u32 = 6;
+pub(crate) const ERROR_CELL: u32 = 6;
 
-pub(crate) const FULL: u32 = 7;
+pub(crate) const ERROR_FULL: u32 = 7;
 
-pub(crate) const OUT_OF_ORDER: u32 = 8;
+pub(crate) const ERROR_OUT_OF_ORDER: u32 = 8;
 
 /// A row as it lies in an image, in 16 bytes: a network by its first address and how many bits its
 /// addresses share, the index and one more of the row of the network around it, or 0, and the
@@ -122,7 +122,7 @@ pub(crate) struct Span {
 }
 
 /// Checks whether bytes are an image of IPv4 networks, in linear time. Returns 0 of an image, and
-/// else why they are none: one of the numbers above; the index that belongs to it is put into `at`.
+/// else why they are none: one of the numbers above; an index that belongs to it is put into `at`.
 #[inline]
 pub(crate) fn ipv4_check(image: &[u8], at: &mut usize) -> u32 {
     nifazombi_ipv4_check(image.as_ptr(), image.len(), at)
@@ -182,14 +182,14 @@ pub(crate) fn ipv4_image_len(rows: usize, payload: usize) -> usize {
 
 /// Writes the image of rows in order, by first address and then by bits, whose links count for
 /// nothing, and of the user's own bytes into `out`. Returns 0, or why it couldn't: one of the
-/// numbers above; the index that belongs to it is put into `at`, and `out` is as before then.
+/// numbers above; an index that belongs to it is put into `at`, and `out` is as before then.
 #[inline]
 pub(crate) fn ipv4_write(rows: &[Ipv4Row], payload: &[u8], out: &mut [u8], at: &mut usize) -> u32 {
     nifazombi_ipv4_write(rows.as_ptr(), rows.len(), payload.as_ptr(), payload.len(), out.as_mut_ptr(), out.len(), at)
 }
 
 /// Checks whether bytes are an image of IPv6 networks, in linear time. Returns 0 of an image, and
-/// else why they are none: one of the numbers above; the index that belongs to it is put into `at`.
+/// else why they are none: one of the numbers above; an index that belongs to it is put into `at`.
 #[inline]
 pub(crate) fn ipv6_check(image: &[u8], at: &mut usize) -> u32 {
     nifazombi_ipv6_check(image.as_ptr(), image.len(), at)
@@ -249,7 +249,7 @@ pub(crate) fn ipv6_image_len(rows: usize, payload: usize) -> usize {
 
 /// Writes the image of rows in order, by first address and then by bits, whose links count for
 /// nothing, and of the user's own bytes into `out`. Returns 0, or why it couldn't: one of the
-/// numbers above; the index that belongs to it is put into `at`, and `out` is as before then.
+/// numbers above; an index that belongs to it is put into `at`, and `out` is as before then.
 #[inline]
 pub(crate) fn ipv6_write(rows: &[Ipv6Row], payload: &[u8], out: &mut [u8], at: &mut usize) -> u32 {
     nifazombi_ipv6_write(rows.as_ptr(), rows.len(), payload.as_ptr(), payload.len(), out.as_mut_ptr(), out.len(), at)
@@ -263,7 +263,7 @@ pub(crate) fn payload(image: &[u8], span: &mut Span) -> bool {
 }
 
 /// Checks whether bytes are an image of texts, in linear time. Returns 0 of an image, and else why
-/// they are none: one of the numbers above; the index that belongs to it is put into `at`.
+/// they are none: one of the numbers above; an index that belongs to it is put into `at`.
 #[inline]
 pub(crate) fn texts_check(image: &[u8], at: &mut usize) -> u32 {
     nifazombi_texts_check(image.as_ptr(), image.len(), at)

@@ -13,7 +13,7 @@ use crate::results::{Span, code_of, status_of};
 use flat_routes::ipv6::{self, Row};
 
 /// Checks whether bytes are an image of IPv6 networks, in linear time. Returns 0 of an image, and
-/// else why they are none: one of the numbers above; the index that belongs to it is put into `at`.
+/// else why they are none: one of the numbers above; an index that belongs to it is put into `at`.
 #[unsafe(no_mangle)]
 pub extern "C" fn nifazombi_ipv6_check(image: &[u8], at: &mut usize) -> u32
     ensures image { (result ≡ 0) ↔ IsImage of_ipv6 image.now }
@@ -142,7 +142,7 @@ pub extern "C" fn nifazombi_ipv6_image_len(rows: usize, payload: usize) -> usize
 
 /// Writes the image of rows in order, by first address and then by bits, whose links count for
 /// nothing, and of the user's own bytes into `out`. Returns 0, or why it couldn't: one of the
-/// numbers above; the index that belongs to it is put into `at`, and `out` is as before then.
+/// numbers above; an index that belongs to it is put into `at`, and `out` is as before then.
 #[unsafe(no_mangle)]
 pub extern "C" fn nifazombi_ipv6_write(
     rows: &[Row],

@@ -6,28 +6,28 @@ ghost use Rattle.nifazombi_c.specs.Results.{told_error};
 use image_parts::{ImageError, WriteError, payload};
 
 /// There is no room for the head and the list of the parts, or for the image that is to be written.
-pub const NIFAZOMBI_SHORT: u32 = 1;
+pub const NIFAZOMBI_ERROR_SHORT: u32 = 1;
 
 /// The first bytes aren't those of such an image.
-pub const NIFAZOMBI_MARK: u32 = 2;
+pub const NIFAZOMBI_ERROR_MARK: u32 = 2;
 
 /// The image is of another version.
-pub const NIFAZOMBI_VERSION: u32 = 3;
+pub const NIFAZOMBI_ERROR_VERSION: u32 = 3;
 
 /// The part listed at this index is missing, lies outside the bytes, or has another size.
-pub const NIFAZOMBI_PART: u32 = 4;
+pub const NIFAZOMBI_ERROR_PART: u32 = 4;
 
-/// The row at this index is none, doesn't come after the row before it, or has another link.
-pub const NIFAZOMBI_ROW: u32 = 5;
+/// The row at this index isn't valid, doesn't come after the row before it, or has another link.
+pub const NIFAZOMBI_ERROR_ROW: u32 = 5;
 
 /// The cell at this index counts wrongly.
-pub const NIFAZOMBI_CELL: u32 = 6;
+pub const NIFAZOMBI_ERROR_CELL: u32 = 6;
 
 /// There are 2^32 rows or more, or so many bytes of keys.
-pub const NIFAZOMBI_FULL: u32 = 7;
+pub const NIFAZOMBI_ERROR_FULL: u32 = 7;
 
-/// The row at this index is none, or doesn't come after the row before it.
-pub const NIFAZOMBI_OUT_OF_ORDER: u32 = 8;
+/// The row at this index isn't valid, or doesn't come after the row before it.
+pub const NIFAZOMBI_ERROR_OUT_OF_ORDER: u32 = 8;
 
 /// Some rows that stand one behind the other, or some bytes: the first, and how many there are.
 #[repr(C)]
@@ -45,20 +45,20 @@ pub(crate) fn code_of(found: Result<(), ImageError>, at: &mut usize) -> u32
 {
     match found {
         Ok(()) => 0,
-        Err(ImageError::Short) => NIFAZOMBI_SHORT,
-        Err(ImageError::Mark) => NIFAZOMBI_MARK,
-        Err(ImageError::Version) => NIFAZOMBI_VERSION,
+        Err(ImageError::Short) => NIFAZOMBI_ERROR_SHORT,
+        Err(ImageError::Mark) => NIFAZOMBI_ERROR_MARK,
+        Err(ImageError::Version) => NIFAZOMBI_ERROR_VERSION,
         Err(ImageError::Part(index)) => {
             *at = index;
-            NIFAZOMBI_PART
+            NIFAZOMBI_ERROR_PART
         }
         Err(ImageError::Row(index)) => {
             *at = index;
-            NIFAZOMBI_ROW
+            NIFAZOMBI_ERROR_ROW
         }
         Err(ImageError::Cell(index)) => {
             *at = index;
-            NIFAZOMBI_CELL
+            NIFAZOMBI_ERROR_CELL
         }
     }
 }
@@ -70,11 +70,11 @@ pub(crate) fn status_of(written: Result<(), WriteError>, at: &mut usize) -> u32
 {
     match written {
         Ok(()) => 0,
-        Err(WriteError::Full) => NIFAZOMBI_FULL,
-        Err(WriteError::Short) => NIFAZOMBI_SHORT,
+        Err(WriteError::Full) => NIFAZOMBI_ERROR_FULL,
+        Err(WriteError::Short) => NIFAZOMBI_ERROR_SHORT,
         Err(WriteError::OutOfOrder(index)) => {
             *at = index;
-            NIFAZOMBI_OUT_OF_ORDER
+            NIFAZOMBI_ERROR_OUT_OF_ORDER
         }
     }
 }

@@ -14,7 +14,7 @@ use crate::results::{Span, code_of, status_of};
 use flat_texts::{Pair, Place};
 
 /// Checks whether bytes are an image of texts, in linear time. Returns 0 of an image, and else why
-/// they are none: one of the numbers above; the index that belongs to it is put into `at`.
+/// they are none: one of the numbers above; an index that belongs to it is put into `at`.
 #[unsafe(no_mangle)]
 pub extern "C" fn nifazombi_texts_check(image: &[u8], at: &mut usize) -> u32
     ensures image { (result ≡ 0) ↔ IsTextImage image.now }

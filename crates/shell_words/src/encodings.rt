@@ -134,7 +134,8 @@ fn answer_lent(name: &str, is_bytes: bool, answer: &mut Answer<'_>) -> Result<()
         "&str" => encoding_line(answer, Some(text.as_str()), is_bytes),
         "&[u8]" => encoding_line(answer, Some(text.as_bytes()), is_bytes),
         "&String" => encoding_line(answer, Some(&text), is_bytes),
-        _ => encoding_line(answer, Some(&mut text.as_str()), is_bytes),
+        "&mut&str" => encoding_line(answer, Some(&mut text.as_str()), is_bytes),
+        _ => answer.refuse(NO_TYPE),
     }
 }
 
@@ -147,7 +148,8 @@ fn answer_array(name: &str, is_bytes: bool, answer: &mut Answer<'_>) -> Result<(
     match name {
         "[u8;2]" => encoding_line(answer, <[u8; 2]>::try_from(bytes).ok(), is_bytes),
         "[u8;16]" => encoding_line(answer, <[u8; 16]>::try_from(bytes).ok(), is_bytes),
-        _ => encoding_line(answer, <[u8; 17]>::try_from(bytes).ok(), is_bytes),
+        "[u8;17]" => encoding_line(answer, <[u8; 17]>::try_from(bytes).ok(), is_bytes),
+        _ => answer.refuse(NO_TYPE),
     }
 }
 
@@ -170,9 +172,10 @@ fn answer_pair(name: &str, is_bytes: bool, answer: &mut Answer<'_>) -> Result<()
             let array = <[u8; 17]>::try_from(first.as_bytes()).ok();
             encoding_line(answer, array.zip(second.parse::<u8>().ok()), is_bytes)
         }
-        _ => {
+        "(u8,[u8;17])" => {
             let array = <[u8; 17]>::try_from(second.as_bytes()).ok();
             encoding_line(answer, first.parse::<u8>().ok().zip(array), is_bytes)
         }
+        _ => answer.refuse(NO_TYPE),
     }
 }

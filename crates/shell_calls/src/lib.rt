@@ -6,10 +6,12 @@
 ghost use Rattle.std.specs.Prelude.{◌≡◌, ◌⊎◌, ℕ, List, IfOk, IsFalse, IsTrue, OnErr};
 ghost use Rattle.shell_calls.specs.Answers.{DoesCall, IsReread, IsProvedCall};
 
+mod ascending;
 pub mod bounds;
 pub mod common;
 pub mod edits;
 pub mod entries;
+mod errors;
 pub mod json;
 pub mod lines;
 pub mod look_ups;

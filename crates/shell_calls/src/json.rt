@@ -1,8 +1,9 @@
-//! Objects as tries, and back; and the texts of errors.
+//! Objects as tries, and back.
 
-use radix_trie::{JsonError, Memory, Trie, TrieError, from_value, to_value};
+use crate::errors::answer_error;
+use radix_trie::{JsonError, Memory, Trie, from_value, to_value};
 use serde_json::{Category, Value};
-use shell_words::{Answer, NONE};
+use shell_words::Answer;
 use std::alloc::Global;
 
 /// The value that a text writes, if it writes one.
@@ -25,7 +26,7 @@ fn refused_line(answer: &mut Answer<'_>, error: JsonError) -> Result<(), Memory>
     }
 }
 
-/// The call of an object, or of an error. False: it is none.
+/// A call that takes a text and no trie: of an object, or of an error. False: it is none.
 pub fn answer_text(answer: &mut Answer<'_>) -> Result<bool, Memory> {
     match answer.name() {
         "json" => answer_json(answer)?,
@@ -33,25 +34,6 @@ pub fn answer_text(answer: &mut Answer<'_>) -> Result<bool, Memory> {
         _ => return Ok(false),
     }
     Ok(true)
-}
-
-/// The text of the library's error that the next word names.
-fn answer_error(answer: &mut Answer<'_>) -> Result<(), Memory> {
-    let error = match answer.next_word().unwrap_or("") {
-        "memory" => TrieError::Memory,
-        "full" => TrieError::Full,
-        "outside" => TrieError::Outside,
-        "occupied" => TrieError::Occupied,
-        "overlapping" => TrieError::Overlapping,
-        "absent" => TrieError::Absent,
-        "closed" => TrieError::Closed,
-        "kind" => TrieError::Kind,
-        "float" => TrieError::Float,
-        "odd" => TrieError::Odd,
-        "zero" => TrieError::Zero,
-        _ => return answer.line(NONE),
-    };
-    answer.shown_line(&error)
 }
 
 /// Reads the object that the words write as a trie: its counts of pairs, nodes and nibbles, and the

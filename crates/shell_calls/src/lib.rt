@@ -1,15 +1,17 @@
-//! The calls of tries that the shell answers. A function that answers a call says whether it is one
-//! of its calls, and fails only where the library's call is: what the shell itself takes is
-//! tried twice.
+//! The calls of tries that the shell answers. A function that answers calls returns whether the
+//! call is one of its own, and fails only where the library's call fails: what the shell itself
+//! allocates is tried twice.
 #![tactic(auto)]
 
 ghost use Rattle.std.specs.Prelude.{◌≡◌, ◌⊎◌, ℕ, List, IfOk, IsFalse, IsTrue, OnErr};
 ghost use Rattle.shell_calls.specs.Answers.{DoesCall, IsReread, IsProvedCall};
 
+mod ascending;
 pub mod bounds;
 pub mod common;
 pub mod edits;
 pub mod entries;
+mod errors;
 pub mod json;
 pub mod lines;
 pub mod look_ups;

@@ -93,6 +93,7 @@ pub fn answer_listed(trie: &Table, answer: &mut Answer<'_>) -> Result<bool, Memo
     Ok(true)
 }
 
+/// A lookup at the list.
 fn answer_at_list(trie: &Table, list: &Nibblet, answer: &mut Answer<'_>) -> Result<(), Memory> {
     match answer.name() {
         "at" => answer.value_line(trie.at(list).copied()),

@@ -14,6 +14,7 @@ pub fn answer_sides(trie: &Table, other: &Table, answer: &mut Answer<'_>) -> Res
     answer_of_sets(&keys, &others, answer)
 }
 
+/// A call of the two sets.
 fn answer_of_sets(
     keys: &TrieSet<Key>,
     others: &TrieSet<Key>,
@@ -40,6 +41,7 @@ fn set_of(trie: &Table, answer: &mut Answer<'_>) -> Result<TrieSet<Key>, Memory>
     copied_keys(answer.alloc(), trie)
 }
 
+/// The set of copies of a trie's keys.
 fn copied_keys(alloc: Global, trie: &Table) -> Result<TrieSet<Key>, Memory> {
     let mut set = TrieSet::new(alloc);
     for key in TrieCommon::keys(trie)? {

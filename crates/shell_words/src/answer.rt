@@ -11,7 +11,7 @@ pub use escapes::is_hidden;
 use std::alloc::Global;
 use std::marker::Model;
 
-/// How many bytes of an answer take one growth.
+/// How many bytes an answer has room for at first.
 const ROOM: usize = 512;
 
 /// The answer to a line, as it grows. Each allocation that fails is tried a second time, so that

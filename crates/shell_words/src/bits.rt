@@ -35,7 +35,7 @@ fn answer_first_bits(name: &str, answer: &mut Answer<'_>) -> Result<(), Memory> 
     };
     let bits = match (name, u32::try_from(number)) {
         ("first_of_u128", _) => Bits::first_of_u128(alloc, number, count)?,
-        (_, Ok(number)) => Bits::first_of_u32(alloc, number, count)?,
+        ("first_of_u32", Ok(number)) => Bits::first_of_u32(alloc, number, count)?,
         _ => return answer.refuse(NO_NUMBER),
     };
     answer.list_line(bits.as_list())

@@ -4,9 +4,7 @@ use crate::answer::Answer;
 use crate::key::Key;
 use crate::kind::Kind;
 use crate::says::{NO_KEY, NO_TYPE};
-use radix_keys::{
-    Ascending, BigEndian, BytesError, KeyInt, KeySigned, LittleEndian, Memory, TrieKey,
-};
+use radix_keys::{Ascending, BigEndian, BytesError, LittleEndian, Memory, TrieKey};
 use std::str::FromStr;
 
 /// The encoding of a key, as nibbles or as bytes: the next words are its type, and the key.
@@ -61,48 +59,35 @@ fn encoding_line<K: TrieKey + Drop>(
     }
 }
 
-/// The encoding of the integer that the next word writes, as big-endian bytes.
-fn big<T: KeyInt + FromStr>(answer: &mut Answer<'_>, is_bytes: bool) -> Result<(), Memory>
+/// The encoding of the integer that the next word writes, in its wrapper.
+fn wrapped_line<T: FromStr, K: TrieKey + From<T> + Drop>(
+    answer: &mut Answer<'_>,
+    is_bytes: bool,
+) -> Result<(), Memory>
 where
     T::Err: Drop,
 {
-    let key = answer.next_parsed::<T>().map(BigEndian::from);
-    encoding_line(answer, key, is_bytes)
-}
-
-/// The same as little-endian bytes.
-fn little<T: KeyInt + FromStr>(answer: &mut Answer<'_>, is_bytes: bool) -> Result<(), Memory>
-where
-    T::Err: Drop,
-{
-    let key = answer.next_parsed::<T>().map(LittleEndian::from);
-    encoding_line(answer, key, is_bytes)
-}
-
-/// The same of a signed integer, in ascending order.
-fn ascending<T: KeySigned + FromStr>(answer: &mut Answer<'_>, is_bytes: bool) -> Result<(), Memory>
-where
-    T::Err: Drop,
-{
-    let key = answer.next_parsed::<T>().map(Ascending::from);
-    encoding_line(answer, key, is_bytes)
+    match answer.next_parsed::<T>() {
+        Some(number) => encoding_line(answer, Some(K::from(number)), is_bytes),
+        None => answer.refuse(NO_KEY),
+    }
 }
 
 /// Integers in wrappers, which say how they are encoded.
 fn answer_wrapped(name: &str, is_bytes: bool, answer: &mut Answer<'_>) -> Result<bool, Memory> {
     match name {
-        "BigEndian<u16>" => big::<u16>(answer, is_bytes)?,
-        "BigEndian<u32>" => big::<u32>(answer, is_bytes)?,
-        "BigEndian<u128>" => big::<u128>(answer, is_bytes)?,
-        "LittleEndian<u16>" => little::<u16>(answer, is_bytes)?,
-        "LittleEndian<u32>" => little::<u32>(answer, is_bytes)?,
-        "LittleEndian<u128>" => little::<u128>(answer, is_bytes)?,
-        "Ascending<i8>" => ascending::<i8>(answer, is_bytes)?,
-        "Ascending<i16>" => ascending::<i16>(answer, is_bytes)?,
-        "Ascending<i32>" => ascending::<i32>(answer, is_bytes)?,
-        "Ascending<i64>" => ascending::<i64>(answer, is_bytes)?,
-        "Ascending<i128>" => ascending::<i128>(answer, is_bytes)?,
-        "Ascending<isize>" => ascending::<isize>(answer, is_bytes)?,
+        "BigEndian<u16>" => wrapped_line::<u16, BigEndian<u16>>(answer, is_bytes)?,
+        "BigEndian<u32>" => wrapped_line::<u32, BigEndian<u32>>(answer, is_bytes)?,
+        "BigEndian<u128>" => wrapped_line::<u128, BigEndian<u128>>(answer, is_bytes)?,
+        "LittleEndian<u16>" => wrapped_line::<u16, LittleEndian<u16>>(answer, is_bytes)?,
+        "LittleEndian<u32>" => wrapped_line::<u32, LittleEndian<u32>>(answer, is_bytes)?,
+        "LittleEndian<u128>" => wrapped_line::<u128, LittleEndian<u128>>(answer, is_bytes)?,
+        "Ascending<i8>" => wrapped_line::<i8, Ascending<i8>>(answer, is_bytes)?,
+        "Ascending<i16>" => wrapped_line::<i16, Ascending<i16>>(answer, is_bytes)?,
+        "Ascending<i32>" => wrapped_line::<i32, Ascending<i32>>(answer, is_bytes)?,
+        "Ascending<i64>" => wrapped_line::<i64, Ascending<i64>>(answer, is_bytes)?,
+        "Ascending<i128>" => wrapped_line::<i128, Ascending<i128>>(answer, is_bytes)?,
+        "Ascending<isize>" => wrapped_line::<isize, Ascending<isize>>(answer, is_bytes)?,
         _ => return Ok(false),
     }
     Ok(true)
@@ -134,7 +119,8 @@ fn answer_lent(name: &str, is_bytes: bool, answer: &mut Answer<'_>) -> Result<()
         "&str" => encoding_line(answer, Some(text.as_str()), is_bytes),
         "&[u8]" => encoding_line(answer, Some(text.as_bytes()), is_bytes),
         "&String" => encoding_line(answer, Some(&text), is_bytes),
-        _ => encoding_line(answer, Some(&mut text.as_str()), is_bytes),
+        "&mut&str" => encoding_line(answer, Some(&mut text.as_str()), is_bytes),
+        _ => answer.refuse(NO_TYPE),
     }
 }
 
@@ -147,7 +133,8 @@ fn answer_array(name: &str, is_bytes: bool, answer: &mut Answer<'_>) -> Result<(
     match name {
         "[u8;2]" => encoding_line(answer, <[u8; 2]>::try_from(bytes).ok(), is_bytes),
         "[u8;16]" => encoding_line(answer, <[u8; 16]>::try_from(bytes).ok(), is_bytes),
-        _ => encoding_line(answer, <[u8; 17]>::try_from(bytes).ok(), is_bytes),
+        "[u8;17]" => encoding_line(answer, <[u8; 17]>::try_from(bytes).ok(), is_bytes),
+        _ => answer.refuse(NO_TYPE),
     }
 }
 
@@ -170,9 +157,10 @@ fn answer_pair(name: &str, is_bytes: bool, answer: &mut Answer<'_>) -> Result<()
             let array = <[u8; 17]>::try_from(first.as_bytes()).ok();
             encoding_line(answer, array.zip(second.parse::<u8>().ok()), is_bytes)
         }
-        _ => {
+        "(u8,[u8;17])" => {
             let array = <[u8; 17]>::try_from(second.as_bytes()).ok();
             encoding_line(answer, first.parse::<u8>().ok().zip(array), is_bytes)
         }
+        _ => answer.refuse(NO_TYPE),
     }
 }

@@ -1,7 +1,7 @@
 //! Calls of networks of one family of addresses.
 
 use crate::answer::Answer;
-use crate::says::{NO_KEY, NO_NUMBER, NONE};
+use crate::says::{NO_KEY, NO_NUMBER, NONE, NOT_HERE};
 use radix_keys::{Address, Memory, Network};
 
 /// A call of networks.
@@ -73,9 +73,10 @@ fn answer_of<A: Address>(
             Some(address) => answer.truth_line(network.holds(address)),
             None => answer.refuse(NO_KEY),
         },
-        _ => match next_network::<A>(answer)? {
+        "cmp" => match next_network::<A>(answer)? {
             Some(other) => answer.order_line(network.cmp(&other)),
             None => answer.refuse(NO_KEY),
         },
+        _ => answer.refuse(NOT_HERE),
     }
 }

@@ -1,7 +1,7 @@
 //! Calls of lists of parts.
 
 use crate::answer::Answer;
-use crate::says::{NO_KEY, NONE};
+use crate::says::{NO_KEY, NONE, NOT_HERE};
 use radix_keys::{Memory, Parts, PartsError};
 
 /// A call of the list of parts that the next word writes, or that makes one.
@@ -26,7 +26,8 @@ fn answer_list(name: &str, parts: &Parts, answer: &mut Answer<'_>) -> Result<(),
         },
         "iter" => part_lines(false, parts, answer),
         "rev" => part_lines(true, parts, answer),
-        _ => answer_order(parts, answer),
+        "cmp" => answer_order(parts, answer),
+        _ => answer.refuse(NOT_HERE),
     }
 }
 

@@ -55,7 +55,7 @@ pub fn make<C: Caller>(caller: &mut C, answer: &mut Answer<'_>) -> Result<(), Me
 }
 
 /// Makes the call, and once more where memory fails for it. Where it is watched, a line between the
-/// two tells what the failed one has changed.
+/// two tells whether the failed one has changed anything.
 fn make_twice<C: Caller>(
     caller: &mut C,
     is_inline: bool,

@@ -1,6 +1,6 @@
-//! The calls of tries, of frozen ones, of views and of files. A function that answers a call says
-//! whether it is one of its calls, and fails only where the library's call is: what the shell
-//! itself takes is tried twice.
+//! The calls of tries, of frozen ones, of views and of files. A function that answers calls
+//! returns whether the call is one of its own, and fails only where the library's call fails: what
+//! the shell itself allocates is tried twice.
 
 pub mod files;
 pub mod frozen;

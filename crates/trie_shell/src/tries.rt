@@ -20,7 +20,7 @@ use shell_words::{Answer, Kind, NOT_HERE};
 use std::alloc::Global;
 use std::marker::Model;
 
-/// A trie and its name; an empty one is that of the first trie.
+/// A trie and its name, where an empty one stands for the name of the first trie.
 #[derive(Drop)]
 struct NamedTrie {
     name: String,

@@ -5,7 +5,7 @@ ghost use Rattle.encoded_keys.specs.Codes.{AreLinks, IsCut, IsLastPrefix, is_bef
 ghost use Rattle.encoded_keys.specs.Index.{AreKeys};
 
 use crate::keys::{EncodedKeys, Look};
-use radix_keys::{NibbleSlice, TrieKey};
+use radix_keys::{AsNibbles, NibbleSlice};
 
 /// How many of the lists come before another one.
 pub fn lower(codes: &EncodedKeys, list: &NibbleSlice<'_>) -> usize
@@ -65,7 +65,7 @@ pub fn behind(codes: &EncodedKeys, list: &NibbleSlice<'_>) -> usize
 }
 
 /// The index of a list. The pairs of the lists are passed, or none.
-pub fn index_of<K: TrieKey, V>(
+pub fn index_of<K: AsNibbles, V>(
     codes: &EncodedKeys,
     pairs: &[(K, V)],
     list: &NibbleSlice<'_>,

@@ -8,11 +8,11 @@ ghost use Rattle.frozen_trie.specs.Frozen.{IsFirstListOutOfOrder, IsFrozen, code
 use crate::frozen::FrozenTrie;
 use encoded_keys::keys::EncodedKeys;
 use encoded_keys::linked::push_last;
-use radix_keys::{Encoding, Refused, TrieKey};
+use radix_keys::{AsNibbles, Encoding, Refused};
 use sorted_tables::{PushWhy, SortedWhy};
 use std::alloc::Global;
 
-impl<K: TrieKey, V> FrozenTrie<K, V> {
+impl<K: AsNibbles, V> FrozenTrie<K, V> {
     /// The frozen trie of pairs whose encodings rise, in linear time.
     ///
     /// # Errors
@@ -44,7 +44,7 @@ impl<K: TrieKey, V> FrozenTrie<K, V> {
 }
 
 /// The encodings of pairs, and their links.
-pub(crate) fn codes_and_links<K: TrieKey, V>(
+pub(crate) fn codes_and_links<K: AsNibbles, V>(
     alloc: Global,
     pairs: &[(K, V)],
 ) -> Result<(EncodedKeys, Vec<u32>), SortedWhy>

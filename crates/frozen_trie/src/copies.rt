@@ -9,7 +9,7 @@ ghost use Rattle.frozen_trie.specs.Frozen.{coded_pairs};
 
 use crate::freezing::codes_and_links;
 use crate::frozen::FrozenTrie;
-use radix_keys::{Memory, TrieKey};
+use radix_keys::{AsNibbles, Memory, TrieKey};
 use radix_trie::{
     BuildError, Trie, TrieCommon, keys_stand_at_their_encodings, split_part_goes_back,
 };
@@ -23,7 +23,7 @@ use radix_trie::{
 ///
 /// The trie holds 2^32 pairs or more. An allocation fails, as by `freeze`, or in a clone of a key
 /// or a value. Of no pair the call never fails.
-pub fn frozen_copy<K: TrieKey + Clone, V: Clone>(
+pub fn frozen_copy<K: AsNibbles + Clone, V: Clone>(
     trie: &Trie<K, V>,
 ) -> Result<FrozenTrie<K, V>, BuildError>
     requires same_encoding { (key copy : K) → K.is_clone key copy → K.encoding copy

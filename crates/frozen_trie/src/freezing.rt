@@ -7,7 +7,7 @@ ghost use Rattle.frozen_trie.specs.Frozen.{IsFrozen};
 use crate::frozen::FrozenTrie;
 use encoded_keys::keys::EncodedKeys;
 use encoded_keys::linked::push_linked;
-use radix_keys::{Encoding, Refused, TrieKey};
+use radix_keys::{AsNibbles, Encoding, Refused};
 use radix_trie::{
     BuildError, Trie, TrieCommon, keys_stand_at_their_encodings, split_part_goes_back,
 };
@@ -33,7 +33,7 @@ use radix_trie::{
 /// ```
 ///
 /// `frozen_words` in `crates/trie_examples/src/doc_examples.rt` freezes a trie, and reads it.
-pub fn freeze<K: TrieKey + Drop, V: Drop>(
+pub fn freeze<K: AsNibbles + Drop, V: Drop>(
     trie: Trie<K, V>,
 ) -> Result<FrozenTrie<K, V>, Refused<BuildError, Trie<K, V>>>
     ensures same { IfOk result (λ frozen. frozen ≡ trie) }
@@ -57,7 +57,7 @@ pub fn freeze<K: TrieKey + Drop, V: Drop>(
 }
 
 /// The encodings of a trie's pairs, and their links.
-pub(crate) fn codes_and_links<K: TrieKey, V>(
+pub(crate) fn codes_and_links<K: AsNibbles, V>(
     trie: &Trie<K, V>,
 ) -> Result<(EncodedKeys, Vec<u32>), BuildError>
     ensures ok { IfOk result

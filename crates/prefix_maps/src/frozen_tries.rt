@@ -5,7 +5,7 @@ ghost use Rattle.prefix_maps.specs.Calls.{frozen_walk_left};
 use crate::calls::PrefixMap;
 use crate::ranges::RangeMap;
 use frozen_trie::{CommonPrefixes, FrozenTrie, frozen_stands_at_its_encodings};
-use radix_keys::{Memory, TrieKey};
+use radix_keys::{AsNibbles, Memory, TrieKey};
 use std::ops::RangeBounds;
 
 /// A walk over pairs of a frozen trie, no step of which fails.
@@ -19,7 +19,7 @@ pub enum FrozenWalk<'a, K: TrieKey, V> {
     Prefixes(CommonPrefixes<'a, K, V>),
 }
 
-impl<'a, K: TrieKey + 'a, V: 'a, Q: TrieKey> PrefixMap<'a, Q> for &'a FrozenTrie<K, V> {
+impl<'a, K: AsNibbles + 'a, V: 'a, Q: AsNibbles> PrefixMap<'a, Q> for &'a FrozenTrie<K, V> {
     type Key = &'a K;
 
     type Value = V;
@@ -115,7 +115,7 @@ impl<'a, K: TrieKey + 'a, V: 'a, Q: TrieKey> PrefixMap<'a, Q> for &'a FrozenTrie
     }
 }
 
-impl<'a, K: TrieKey + 'a, V: 'a, Q: TrieKey> RangeMap<'a, Q> for &'a FrozenTrie<K, V> {
+impl<'a, K: AsNibbles + 'a, V: 'a, Q: AsNibbles> RangeMap<'a, Q> for &'a FrozenTrie<K, V> {
     fn range<R: RangeBounds<Q>>(self, range: R) -> Result<FrozenWalk<'a, K, V>, Memory> {
         Ok(FrozenWalk::Pairs(FrozenTrie::range(self, range)?))
     }

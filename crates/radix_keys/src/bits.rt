@@ -6,7 +6,7 @@ ghost use Rattle.std.proofs.lemmas.Slice.Eq.{bytes_eq-Decides};
 ghost use Rattle.nibble_map.specs.Nibbles.{nibbles, IsShort};
 ghost use Rattle.radix_keys.specs.Bits.{bits_high_first, bits_of, first_bits};
 
-use crate::keys::TrieKey;
+use crate::keys::{AsNibbles, TrieKey};
 use crate::nibbles::{Memory, Nibblet};
 use crate::slices::NibbleSlice;
 use std::alloc::{AllocError, Global};
@@ -163,8 +163,6 @@ impl TrieKey for Bits {
 
     ghost is_inline = { IsShort };
 
-    ghost is_lent = { λ _. Unit {0} };
-
     ghost is_value = { λ _. Unit {0} };
 
     ghost distinct = { λ x y _ _ e. (bytes_eq-Decides x y).1 e };
@@ -175,6 +173,10 @@ impl TrieKey for Bits {
     fn encode(&self, _alloc: Global) -> Result<Nibblet, Memory> {
         self.list.clone()
     }
+}
+
+impl AsNibbles for Bits {
+    ghost is_lent = { λ _. Unit {0} };
 
     fn as_nibbles(&self) -> Option<NibbleSlice<'_>> {
         Some(self.list.as_slice())

@@ -1,7 +1,7 @@
 //! A key's encoding, which is made only where the key doesn't lend it.
 ghost use Rattle.std.specs.Prelude.{◌≡◌, IsOk, IfOk, OnOk};
 
-use crate::keys::TrieKey;
+use crate::keys::AsNibbles;
 use crate::nibbles::{Memory, NibbleVec};
 use crate::slices::NibbleSlice;
 use std::alloc::Global;
@@ -30,7 +30,7 @@ impl<'a> Encoding<'a> {
     ///
     /// `Memory`: the encoding's allocation fails; a key that is inline, or lends its encoding,
     /// needs none.
-    pub fn of<K: TrieKey>(alloc: Global, key: &'a K) -> Result<Encoding<'a>, Memory>
+    pub fn of<K: AsNibbles>(alloc: Global, key: &'a K) -> Result<Encoding<'a>, Memory>
         ensures ok { IfOk result (λ e. e ≡ K.encoding key.now) }
         ensures value { OnOk result (K.is_value key.now) }
         ensures inline { K.is_inline key.now → IsOk result }

@@ -1,16 +1,16 @@
 //! Keys of a trie, and their encodings.
-ghost use Rattle.std.specs.Prelude.{◌≡◌, ℕ, ◌%◌, List, length, true, string_bytes, IsOk, IsSome, IfOk, IfSome, OnOk, OnSome, IfErr};
+ghost use Rattle.std.specs.Prelude.{◌≡◌, ℕ, ◌%◌, List, length, true, string_bytes, IsOk, IfOk, OnOk, IfErr};
 ghost use Rattle.std.proofs.lemmas.Slice.Eq.{bytes_eq-Decides};
 ghost use Rattle.nibble_map.specs.Nibbles.{nibbles, IsShort};
 ghost use Rattle.radix_keys.specs.Distinct.{bytes-distinct};
 ghost use Rattle.radix_keys.specs.Order.{KeepsByteOrder};
 
 use crate::nibbles::{BytesError, Memory, Nibblet};
-use crate::slices::NibbleSlice;
 use std::alloc::Global;
 
 mod ascending;
 mod integers;
+mod lending;
 mod pairs;
 mod scalars;
 mod signed;
@@ -18,23 +18,21 @@ mod wide;
 mod wrappers;
 
 pub use ascending::KeySigned;
+pub use lending::AsNibbles;
 pub use pairs::FixedWidth;
 
 /// A value that is encoded as a list of nibbles, its place in a trie.
 ///
 /// An implementation names what a key means: its encoding, whether it is inline (`is_inline`: at
-/// most 32 nibbles, encoded without an allocation), whether its own bytes are its encoding
-/// (`is_lent`), and whether it is a value of its type. It proves that two values of the type with
-/// equal encodings are equal, and that an inline key has at most 32 nibbles.
+/// most 32 nibbles, encoded without an allocation), and whether it is a value of its type. It
+/// proves that two values of the type with equal encodings are equal, and that an inline key has at
+/// most 32 nibbles. A frozen trie asks for `AsNibbles` too.
 pub trait TrieKey: Eq {
     // The nibbles of the key.
     ghost encoding: { Self → List ℕ };
 
     // Whether the key is inline: encoding it allocates nothing.
     ghost is_inline: { Self → Type 0 };
-
-    // Whether `as_nibbles` of the key lends its encoding.
-    ghost is_lent: { Self → Type 0 } = { λ _. ⊥ };
 
     // Whether the key is a value of its type, as an integer within its bounds is.
     ghost is_value: { Self → Type 0 };
@@ -60,13 +58,6 @@ pub trait TrieKey: Eq {
         ensures ok { IfOk result (λ v. v ≡ encoding self.now) }
         ensures value { OnOk result (is_value self.now) }
         ensures inline { is_inline self.now → IsOk result };
-
-    /// The encoding, borrowed, of a key whose own bytes are it; `None` of any other key. A frozen
-    /// trie looks a key that lends its encoding up without a copy of it.
-    fn as_nibbles(&self) -> Option<NibbleSlice<'_>>
-        ensures nibbles { IfSome result (λ list. list ≡ encoding self.now) }
-        ensures value { OnSome result (is_value self.now) }
-        ensures lent { is_lent self.now → IsSome result };
 
     /// The encoding of the key as bytes, two nibbles to a byte and the first in the high half.
     ///
@@ -98,8 +89,6 @@ impl TrieKey for String {
 
     ghost is_inline = { λ s. IsShort (nibbles (string_bytes s)) };
 
-    ghost is_lent = { λ _. Unit {0} };
-
     ghost is_value = { λ _. Unit {0} };
 
     ghost distinct = { λ x y _ _ e. bytes-distinct (string_bytes x) (string_bytes y) e };
@@ -115,18 +104,12 @@ impl TrieKey for String {
     {
         Nibblet::from_slice(alloc, self.as_bytes())
     }
-
-    fn as_nibbles(&self) -> Option<NibbleSlice<'_>> {
-        Some(NibbleSlice::from_bytes(self.as_bytes()))
-    }
 }
 
 impl TrieKey for &str {
     ghost encoding = { λ s. nibbles s.now };
 
     ghost is_inline = { λ s. IsShort (nibbles s.now) };
-
-    ghost is_lent = { λ _. Unit {0} };
 
     ghost is_value = { λ _. Unit {0} };
 
@@ -143,18 +126,12 @@ impl TrieKey for &str {
     {
         Nibblet::from_slice(alloc, self.as_bytes())
     }
-
-    fn as_nibbles(&self) -> Option<NibbleSlice<'_>> {
-        Some(NibbleSlice::from_bytes(self.as_bytes()))
-    }
 }
 
 impl TrieKey for &[u8] {
     ghost encoding = { λ s. nibbles s.now };
 
     ghost is_inline = { λ s. IsShort (nibbles s.now) };
-
-    ghost is_lent = { λ _. Unit {0} };
 
     ghost is_value = { λ _. Unit {0} };
 
@@ -171,18 +148,12 @@ impl TrieKey for &[u8] {
     {
         Nibblet::from_slice(alloc, *self)
     }
-
-    fn as_nibbles(&self) -> Option<NibbleSlice<'_>> {
-        Some(NibbleSlice::from_bytes(*self))
-    }
 }
 
 impl TrieKey for Nibblet {
     ghost encoding = { λ v. v };
 
     ghost is_inline = { IsShort };
-
-    ghost is_lent = { λ _. Unit {0} };
 
     ghost is_value = { λ _. Unit {0} };
 
@@ -193,18 +164,12 @@ impl TrieKey for Nibblet {
     fn encode(&self, _alloc: Global) -> Result<Nibblet, Memory> {
         self.clone()
     }
-
-    fn as_nibbles(&self) -> Option<NibbleSlice<'_>> {
-        Some(self.as_slice())
-    }
 }
 
 impl<T: TrieKey> TrieKey for &T {
     ghost encoding = { λ r. T.encoding r.now };
 
     ghost is_inline = { λ r. T.is_inline r.now };
-
-    ghost is_lent = { λ r. T.is_lent r.now };
 
     ghost is_value = { λ r. T.is_value r.now };
 
@@ -215,18 +180,12 @@ impl<T: TrieKey> TrieKey for &T {
     fn encode(&self, alloc: Global) -> Result<Nibblet, Memory> {
         (**self).encode(alloc)
     }
-
-    fn as_nibbles(&self) -> Option<NibbleSlice<'_>> {
-        (**self).as_nibbles()
-    }
 }
 
 impl<T: TrieKey> TrieKey for &mut T {
     ghost encoding = { λ r. T.encoding r.now };
 
     ghost is_inline = { λ r. T.is_inline r.now };
-
-    ghost is_lent = { λ r. T.is_lent r.now };
 
     ghost is_value = { λ r. T.is_value r.now };
 
@@ -236,9 +195,5 @@ impl<T: TrieKey> TrieKey for &mut T {
 
     fn encode(&self, alloc: Global) -> Result<Nibblet, Memory> {
         T::encode(*self, alloc)
-    }
-
-    fn as_nibbles(&self) -> Option<NibbleSlice<'_>> {
-        T::as_nibbles(*self)
     }
 }

@@ -15,7 +15,7 @@ pub mod slices;
 pub use bits::Bits;
 pub use encoding::Encoding;
 pub use endian::{Ascending, BigEndian, KeyInt, LittleEndian};
-pub use keys::{FixedWidth, KeySigned, TrieKey};
+pub use keys::{AsNibbles, FixedWidth, KeySigned, TrieKey};
 pub use networks::{Address, Ipv4Network, Ipv6Network, Network, NetworkParseError};
 pub use nibbles::{BytesError, Memory, NibbleIter, NibbleVec, Nibblet};
 pub use parts::{Parts, PartsError, PartsIter};

@@ -36,7 +36,7 @@ pub use radix_keys::laws::{
     parts_keep_prefixes,
 };
 pub use radix_keys::{
-    Address, Ascending, BigEndian, Bits, BytesError, Encoding, FixedWidth, Ipv4Network,
+    Address, AsNibbles, Ascending, BigEndian, Bits, BytesError, Encoding, FixedWidth, Ipv4Network,
     Ipv6Network, KeyInt, KeySigned, LittleEndian, Memory, Network, NetworkParseError, NibbleIter,
     NibbleSlice, NibbleVec, Nibblet, Parts, PartsError, PartsIter, Refused, TrieKey,
 };

@@ -8,7 +8,7 @@ use crate::answer::Answer;
 use crate::key_text::KeyText;
 use crate::kind::Kind;
 use crate::read::Read;
-use radix_keys::{Memory, NibbleSlice, Nibblet, TrieKey};
+use radix_keys::{AsNibbles, Memory, NibbleSlice, Nibblet, TrieKey};
 use std::alloc::{AllocError, Global};
 use std::fmt;
 use std::marker::Model;
@@ -181,7 +181,9 @@ impl TrieKey for Key {
     fn encode(&self, _alloc: Global) -> Result<Nibblet, Memory> {
         self.list.clone()
     }
+}
 
+impl AsNibbles for Key {
     /// The list, where a key of the type lends its own.
     fn as_nibbles(&self) -> Option<NibbleSlice<'_>> {
         match &self.key_text {

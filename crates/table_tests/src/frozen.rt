@@ -3,7 +3,7 @@
 
 use crate::maps::TEXTS;
 use frozen_trie::{CommonPrefixes, FrozenTexts, FrozenTrie, TextPrefixes};
-use radix_keys::{Memory, Nibblet, TrieKey};
+use radix_keys::{AsNibbles, Memory, Nibblet, TrieKey};
 use std::alloc::Global;
 
 /// A query, the indices of the keys that are prefixes of it, and how many keys come before it.
@@ -83,7 +83,7 @@ fn texts_fall(prefixes: TextPrefixes<'_, usize>, values: &[usize]) -> bool {
 }
 
 /// Whether a frozen trie answers a query, of whatever type, by its row.
-fn answers<Q: TrieKey>(
+fn answers<Q: AsNibbles>(
     trie: &FrozenTrie<&'static str, usize>,
     key: &Q,
     row: &Row<'_>,

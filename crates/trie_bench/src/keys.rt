@@ -4,10 +4,10 @@ ghost use Rattle.std.specs.Int.{w32};
 ghost use Rattle.std.proofs.Common.{ap};
 ghost use Rattle.radix_keys.specs.Integers.{unsigned_key};
 
-use radix_trie::TrieKey;
+use radix_trie::{AsNibbles, TrieKey};
 
 /// A key that is copied with its encoding.
-pub trait Stored: TrieKey + Ord + Copy {
+pub trait Stored: AsNibbles + Ord + Copy {
     ghost copies: { (key copy : Self) → Self.is_clone key copy → Self.encoding copy
         ≡ Self.encoding key };
 }
@@ -21,7 +21,7 @@ impl Stored for u32 {
 }
 
 /// The beginning of keys of a type.
-pub trait Beginning<K>: TrieKey {
+pub trait Beginning<K>: AsNibbles {
     /// Whether the key begins so.
     fn begins(&self, key: &K) -> bool;
 }

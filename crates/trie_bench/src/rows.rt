@@ -5,7 +5,7 @@ use crate::sample::{Query, generator};
 use crate::timed::{Times, print_rows, timed};
 use anyhow::{Result, bail, ensure};
 use frozen_trie::{FrozenTrie, freeze};
-use radix_trie::{Trie, TrieCommon, TrieKey};
+use radix_trie::{AsNibbles, Trie, TrieCommon};
 use rand::seq::SliceRandom;
 use std::collections::BTreeMap;
 use std::rt::Clock;
@@ -26,7 +26,7 @@ pub struct Filled<K: Stored> {
 }
 
 /// Prints the times of all calls.
-pub fn answer<R: Print + Clock + AllocGlobal, K: Stored, L: TrieKey, B: Beginning<K>>(
+pub fn answer<R: Print + Clock + AllocGlobal, K: Stored, L: AsNibbles, B: Beginning<K>>(
     rt: &R,
     line: &str,
     queries: &mut [Query<K, L, B>],
@@ -37,7 +37,7 @@ pub fn answer<R: Print + Clock + AllocGlobal, K: Stored, L: TrieKey, B: Beginnin
 
 /// Prints the times of the insertions, and of the other calls of the trie. After the insertions,
 /// the keys are asked about in another order.
-pub fn print_filling<R: Print + Clock + AllocGlobal, K: Stored, L: TrieKey, B: Beginning<K>>(
+pub fn print_filling<R: Print + Clock + AllocGlobal, K: Stored, L: AsNibbles, B: Beginning<K>>(
     rt: &R,
     line: &str,
     queries: &mut [Query<K, L, B>],
@@ -53,7 +53,7 @@ pub fn print_filling<R: Print + Clock + AllocGlobal, K: Stored, L: TrieKey, B: B
 }
 
 /// Prints the times of the calls of the frozen form and of the map.
-pub fn print_others<R: Print + Clock + AllocGlobal, K: Stored, L: TrieKey, B: Beginning<K>>(
+pub fn print_others<R: Print + Clock + AllocGlobal, K: Stored, L: AsNibbles, B: Beginning<K>>(
     rt: &R,
     line: &str,
     filled: Filled<K>,
@@ -80,7 +80,7 @@ pub fn filled_trie<K: Stored, L, B>(
 }
 
 /// The times of the other calls of a trie, and a copy of it, since it is empty then.
-fn trie_rows<K: Stored, L: TrieKey, B: Beginning<K>>(
+fn trie_rows<K: Stored, L: AsNibbles, B: Beginning<K>>(
     rt: &(impl Clock + AllocGlobal),
     mut trie: Trie<K, u64>,
     queries: &[Query<K, L, B>],
@@ -94,7 +94,7 @@ fn trie_rows<K: Stored, L: TrieKey, B: Beginning<K>>(
 }
 
 /// The times of what is found at a key, at one that isn't stored, and at a key's longest prefix.
-fn trie_lookups<K: Stored, L: TrieKey, B>(
+fn trie_lookups<K: Stored, L: AsNibbles, B>(
     rt: &impl Clock,
     trie: &Trie<K, u64>,
     queries: &[Query<K, L, B>],
@@ -161,7 +161,7 @@ fn frozen<K: Stored>(rt: &impl Clock, trie: Trie<K, u64>) -> Result<(FrozenTrie<
 }
 
 /// The times of the calls of a frozen trie.
-fn frozen_rows<K: Stored, L: TrieKey, B: Beginning<K>>(
+fn frozen_rows<K: Stored, L: AsNibbles, B: Beginning<K>>(
     rt: &(impl Clock + AllocGlobal),
     frozen: &FrozenTrie<K, u64>,
     queries: &[Query<K, L, B>],
@@ -172,7 +172,7 @@ fn frozen_rows<K: Stored, L: TrieKey, B: Beginning<K>>(
 }
 
 /// The times of what is found at a key, at one that isn't stored, and at a key's longest prefix.
-fn frozen_lookups<K: Stored, L: TrieKey, B>(
+fn frozen_lookups<K: Stored, L: AsNibbles, B>(
     rt: &impl Clock,
     frozen: &FrozenTrie<K, u64>,
     queries: &[Query<K, L, B>],

@@ -5,7 +5,8 @@ ghost use Rattle.keyed_maps.specs.KeyedMaps.{keyed_map};
 
 use frozen_trie::freeze;
 use radix_trie::{
-    Ascending, KeySigned, Memory, Nibblet, Trie, TrieError, TrieKey, turned_copies_answer_alike,
+    AsNibbles, Ascending, KeySigned, Memory, Nibblet, Trie, TrieError, TrieKey,
+    turned_copies_answer_alike,
 };
 use std::alloc::{AllocError, Global};
 
@@ -54,7 +55,7 @@ fn risen_value<T: KeySigned + Drop>(
 }
 
 /// Freezes a trie, and thaws it: it is the same map.
-fn frozen_and_thawed<K: TrieKey + Drop, V: Drop>(trie: Trie<K, V>) -> Result<Trie<K, V>, Memory>
+fn frozen_and_thawed<K: AsNibbles + Drop, V: Drop>(trie: Trie<K, V>) -> Result<Trie<K, V>, Memory>
     ensures { IfOk result (λ thawed. thawed ≡ trie) }
 {
     let frozen = freeze(trie).map_err(|_| Memory)?;

@@ -5,7 +5,7 @@ ghost use Rattle.encoded_keys.specs.Index.{AreKeys, AreSlots, IsFirstFree, IsSlo
 
 use crate::hash::hash_of;
 use crate::keys::EncodedKeys;
-use radix_keys::{Memory, NibbleSlice, TrieKey};
+use radix_keys::{AsNibbles, Memory, NibbleSlice};
 use std::alloc::Global;
 
 /// How many slots a list may lie in.
@@ -34,7 +34,7 @@ enum Slot {
 impl EncodedKeys {
     /// Looks for a list by its hash, in 64 slots at most. The pairs of the lists are passed, or
     /// none.
-    pub(crate) fn look<K: TrieKey, V>(&self, pairs: &[(K, V)], list: &NibbleSlice<'_>) -> Look
+    pub(crate) fn look<K: AsNibbles, V>(&self, pairs: &[(K, V)], list: &NibbleSlice<'_>) -> Look
         requires { AreKeys K.encoding pairs.now self.now }
         ensures found { (i : ℕ) → result ≡ Look.Found i
             → (i < length self.now) × (code_at self.now i ≡ list.now) }
@@ -65,7 +65,7 @@ impl EncodedKeys {
     /// Whether a list is the one at an index. Where the pair there has a key that lends its
     /// encoding, it is compared with that: who finds the list reads the pair next, and needn't read
     /// where the packed list lies, nor the list.
-    fn is_at<K: TrieKey, V>(&self, pairs: &[(K, V)], at: usize, list: &NibbleSlice<'_>) -> bool
+    fn is_at<K: AsNibbles, V>(&self, pairs: &[(K, V)], at: usize, list: &NibbleSlice<'_>) -> bool
         requires within { at < length self.now }
         requires keyed { AreKeys K.encoding pairs.now self.now }
         ensures { IsTrue result ↔ (code_at self.now at ≡ list.now) }

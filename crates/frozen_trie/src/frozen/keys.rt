@@ -11,11 +11,11 @@ use crate::search::within;
 use crate::slices::entry_at;
 use encoded_keys::search::{index_of, last_prefix, lower, upper};
 use encoded_keys::slices::part;
-use radix_keys::{Encoding, Memory, NibbleSlice, TrieKey};
+use radix_keys::{AsNibbles, Encoding, Memory, NibbleSlice};
 use std::alloc::Global;
 use std::ops::{Bound, RangeBounds};
 
-impl<K: TrieKey, V> FrozenTrie<K, V> {
+impl<K: AsNibbles, V> FrozenTrie<K, V> {
     /// The value that is stored at the key's encoding, if there is one.
     ///
     /// The key may be of another type than the stored keys: its encoding alone decides.
@@ -24,7 +24,7 @@ impl<K: TrieKey, V> FrozenTrie<K, V> {
     ///
     /// `Memory`: the encoding's allocation fails; a key that is inline, or lends its encoding,
     /// needs none.
-    pub fn get<Q: TrieKey>(&self, key: &Q) -> Result<Option<&V>, Memory>
+    pub fn get<Q: AsNibbles>(&self, key: &Q) -> Result<Option<&V>, Memory>
         ensures value { IfOk result
             (λ found. option_copied found ≡ value_at self.now (Q.encoding key.now)) }
         ensures is_value { OnOk result (Q.is_value key.now) }
@@ -45,7 +45,7 @@ impl<K: TrieKey, V> FrozenTrie<K, V> {
     ///
     /// `Memory`: the encoding's allocation fails; a key that is inline, or lends its encoding,
     /// needs none.
-    pub fn get_key_value<Q: TrieKey>(&self, key: &Q) -> Result<Option<(&K, &V)>, Memory>
+    pub fn get_key_value<Q: AsNibbles>(&self, key: &Q) -> Result<Option<(&K, &V)>, Memory>
         ensures pair { IfOk result (λ found. option_map deref_pair found
             ≡ map.get self.now (Q.encoding key.now)) }
         ensures is_value { OnOk result (Q.is_value key.now) }
@@ -65,7 +65,7 @@ impl<K: TrieKey, V> FrozenTrie<K, V> {
     ///
     /// `Memory`: the encoding's allocation fails; a key that is inline, or lends its encoding,
     /// needs none.
-    pub fn contains_key<Q: TrieKey>(&self, key: &Q) -> Result<bool, Memory>
+    pub fn contains_key<Q: AsNibbles>(&self, key: &Q) -> Result<bool, Memory>
         ensures stored { IfOk result
             (λ found. IsTrue found ↔ IsStored self.now (Q.encoding key.now)) }
         ensures is_value { OnOk result (Q.is_value key.now) }
@@ -85,7 +85,7 @@ impl<K: TrieKey, V> FrozenTrie<K, V> {
     ///
     /// `Memory`: the encoding's allocation fails; a key that is inline, or lends its encoding,
     /// needs none.
-    pub fn longest_match<Q: TrieKey>(&self, key: &Q) -> Result<Option<(&K, &V)>, Memory>
+    pub fn longest_match<Q: AsNibbles>(&self, key: &Q) -> Result<Option<(&K, &V)>, Memory>
         ensures pair { IfOk result (λ found. IsPairAbove self.now (Q.encoding key.now)
             (option_map deref_pair found)) }
         ensures inline { Q.is_inline key.now → IsOk result }
@@ -106,7 +106,7 @@ impl<K: TrieKey, V> FrozenTrie<K, V> {
     ///
     /// `Memory`: the encoding's allocation fails; a key that is inline, or lends its encoding,
     /// needs none.
-    pub fn common_prefixes<Q: TrieKey>(&self, key: &Q) -> Result<CommonPrefixes<'_, K, V>, Memory>
+    pub fn common_prefixes<Q: AsNibbles>(&self, key: &Q) -> Result<CommonPrefixes<'_, K, V>, Memory>
         ensures walk { IfOk result
             (λ walk. walk ≡ pairs_above self.now (Q.encoding key.now)) }
         ensures inline { Q.is_inline key.now → IsOk result }
@@ -124,7 +124,7 @@ impl<K: TrieKey, V> FrozenTrie<K, V> {
     ///
     /// `Memory`: an encoding's allocation fails; a key that is inline, or lends its encoding, needs
     /// none.
-    pub fn range<Q: TrieKey, R: RangeBounds<Q>>(&self, range: R) -> Result<&[(K, V)], Memory>
+    pub fn range<Q: AsNibbles, R: RangeBounds<Q>>(&self, range: R) -> Result<&[(K, V)], Memory>
         ensures pairs { R.has_bounds range → IfOk result (λ left. left.now
             ≡ pairs_within self.now [] (encoded_bound Q.encoding (R.start_bound range))
             (encoded_bound Q.encoding (R.end_bound range))) }
@@ -158,7 +158,7 @@ impl<K: TrieKey, V> FrozenTrie<K, V> {
     ///
     /// `completions` in `crates/trie_examples/src/dictionary.rt` takes the words that begin with
     /// what was typed.
-    pub fn below<Q: TrieKey>(&self, key: &Q) -> Result<&[(K, V)], Memory>
+    pub fn below<Q: AsNibbles>(&self, key: &Q) -> Result<&[(K, V)], Memory>
         ensures pairs { IfOk result
             (λ left. left.now ≡ pairs_below self.now (Q.encoding key.now)) }
         ensures inline { Q.is_inline key.now → IsOk result }
@@ -176,7 +176,7 @@ impl<K: TrieKey, V> FrozenTrie<K, V> {
     ///
     /// `Memory`: the encoding's allocation fails; a key that is inline, or lends its encoding,
     /// needs none.
-    pub fn count_below<Q: TrieKey>(&self, key: &Q) -> Result<usize, Memory>
+    pub fn count_below<Q: AsNibbles>(&self, key: &Q) -> Result<usize, Memory>
         ensures count { IfOk result
             (λ count. count ≡ map.len (below self.now (Q.encoding key.now))) }
         ensures inline { Q.is_inline key.now → IsOk result }
@@ -192,7 +192,7 @@ impl<K: TrieKey, V> FrozenTrie<K, V> {
     ///
     /// `Memory`: the encoding's allocation fails; a key that is inline, or lends its encoding,
     /// needs none.
-    pub fn rank<Q: TrieKey>(&self, key: &Q) -> Result<usize, Memory>
+    pub fn rank<Q: AsNibbles>(&self, key: &Q) -> Result<usize, Memory>
         ensures count { IfOk result
             (λ count. count ≡ length (pairs_before self.now [] (Q.encoding key.now))) }
         ensures inline { Q.is_inline key.now → IsOk result }
@@ -204,7 +204,7 @@ impl<K: TrieKey, V> FrozenTrie<K, V> {
 }
 
 /// The bound of a key's encoding.
-fn encoded<'a, Q: TrieKey>(
+fn encoded<'a, Q: AsNibbles>(
     alloc: Global,
     bound: Bound<&'a Q>,
 ) -> Result<Bound<Encoding<'a>>, Memory>

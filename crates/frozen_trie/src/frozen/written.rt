@@ -8,10 +8,10 @@ ghost use Rattle.frozen_trie.specs.Lends.{lends_second, lends_stored, lends_stor
 
 use crate::frozen::FrozenTrie;
 use encoded_keys::search::index_of;
-use radix_keys::{Encoding, Memory, NibbleSlice, TrieKey};
+use radix_keys::{AsNibbles, Encoding, Memory, NibbleSlice};
 use radix_trie::FindError;
 
-impl<K: TrieKey, V> FrozenTrie<K, V> {
+impl<K: AsNibbles, V> FrozenTrie<K, V> {
     /// The value at a list of nibbles, for writing, if one is stored there.
     fn at_mut(&mut self, list: &NibbleSlice<'_>) -> Option<&mut V>
         ensures* writes_back { sem 𝓛
@@ -31,7 +31,7 @@ impl<K: TrieKey, V> FrozenTrie<K, V> {
     ///
     /// `Absent`, exactly where no value is stored there; and memory for the encoding, which an
     /// inline key never meets. The frozen trie is as before then.
-    pub fn find_mut<Q: TrieKey>(&mut self, key: &Q) -> Result<&mut V, FindError>
+    pub fn find_mut<Q: AsNibbles>(&mut self, key: &Q) -> Result<&mut V, FindError>
         ensures* writes_back { sem 𝓛
             (lends_stored_if_ok K.row V.row K.TrieKey.own K.PartialEq.own self.entry
             (Q.encoding key.now) result) }
@@ -58,7 +58,7 @@ impl<K: TrieKey, V> FrozenTrie<K, V> {
     ///
     /// `Memory`: the encoding's allocation fails; a key that is inline, or lends its encoding,
     /// needs none. The frozen trie is as before then.
-    pub fn get_mut<Q: TrieKey>(&mut self, key: &Q) -> Result<Option<&mut V>, Memory>
+    pub fn get_mut<Q: AsNibbles>(&mut self, key: &Q) -> Result<Option<&mut V>, Memory>
         ensures* writes_back { sem 𝓛
             (lends_stored_found K.row V.row K.TrieKey.own K.PartialEq.own self.entry
             (Q.encoding key.now) result) }

@@ -12,7 +12,6 @@ use crate::endian::{Ascending, KeyInt};
 use crate::keys::TrieKey;
 use crate::keys::integers::push_bytes;
 use crate::nibbles::{Memory, Nibblet};
-use crate::slices::NibbleSlice;
 use smallvec::SmallVec;
 use std::alloc::Global;
 
@@ -138,9 +137,5 @@ impl<T: KeySigned> TrieKey for Ascending<T> {
         let mut list = Nibblet::from_small(bytes);
         list.turn_over();
         Ok(list)
-    }
-
-    fn as_nibbles(&self) -> Option<NibbleSlice<'_>> {
-        None
     }
 }

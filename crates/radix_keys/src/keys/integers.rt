@@ -9,7 +9,6 @@ ghost use Rattle.radix_keys.specs.Order.{KeepsUnsignedOrder};
 use crate::endian::KeyInt;
 use crate::keys::TrieKey;
 use crate::nibbles::{Memory, Nibblet};
-use crate::slices::NibbleSlice;
 use smallvec::SmallVec;
 use std::alloc::Global;
 
@@ -35,10 +34,6 @@ impl TrieKey for u8 {
     {
         encode_integer(alloc, self)
     }
-
-    fn as_nibbles(&self) -> Option<NibbleSlice<'_>> {
-        None
-    }
 }
 
 impl TrieKey for u16 {
@@ -62,10 +57,6 @@ impl TrieKey for u16 {
         ensures order { KeepsUnsignedOrder w16 }
     {
         encode_integer(alloc, self)
-    }
-
-    fn as_nibbles(&self) -> Option<NibbleSlice<'_>> {
-        None
     }
 }
 
@@ -91,10 +82,6 @@ impl TrieKey for u32 {
     {
         encode_integer(alloc, self)
     }
-
-    fn as_nibbles(&self) -> Option<NibbleSlice<'_>> {
-        None
-    }
 }
 
 impl TrieKey for u64 {
@@ -119,10 +106,6 @@ impl TrieKey for u64 {
     {
         encode_integer(alloc, self)
     }
-
-    fn as_nibbles(&self) -> Option<NibbleSlice<'_>> {
-        None
-    }
 }
 
 impl TrieKey for usize {
@@ -146,10 +129,6 @@ impl TrieKey for usize {
         ensures order { KeepsUnsignedOrder w64 }
     {
         encode_integer(alloc, self)
-    }
-
-    fn as_nibbles(&self) -> Option<NibbleSlice<'_>> {
-        None
     }
 }
 

@@ -12,7 +12,6 @@ use crate::endian::{Ascending, BigEndian, KeyInt, LittleEndian};
 use crate::keys::TrieKey;
 use crate::keys::ascending::KeySigned;
 use crate::nibbles::{Memory, Nibblet};
-use crate::slices::NibbleSlice;
 use std::alloc::Global;
 
 /// A key type whose values all have encodings of one length.
@@ -175,10 +174,6 @@ impl<A: FixedWidth, B: FixedWidth> TrieKey for (A, B) {
             Ok(both) => Ok(both),
             Err(_) => Err(Memory),
         }
-    }
-
-    fn as_nibbles(&self) -> Option<NibbleSlice<'_>> {
-        None
     }
 }
 

@@ -10,7 +10,6 @@ ghost use Rattle.radix_keys.specs.Order.{KeepsByteOrder, KeepsUnsignedOrder};
 use crate::keys::TrieKey;
 use crate::keys::integers::encode_integer;
 use crate::nibbles::{Memory, Nibblet};
-use crate::slices::NibbleSlice;
 use std::alloc::Global;
 
 impl TrieKey for bool {
@@ -33,10 +32,6 @@ impl TrieKey for bool {
         ensures inline { IsOk result }
     {
         Nibblet::from_slice(alloc, &[u8::from(*self)])
-    }
-
-    fn as_nibbles(&self) -> Option<NibbleSlice<'_>> {
-        None
     }
 }
 
@@ -63,18 +58,12 @@ impl TrieKey for char {
     {
         encode_integer(alloc, &u32::from(*self))
     }
-
-    fn as_nibbles(&self) -> Option<NibbleSlice<'_>> {
-        None
-    }
 }
 
 impl<const N: usize> TrieKey for [u8; N] {
     ghost encoding = { nibbles };
 
     ghost is_inline = { λ bytes. IsShort (nibbles bytes) };
-
-    ghost is_lent = { λ _. Unit {0} };
 
     ghost is_value = { λ bytes. length bytes ≡ N };
 
@@ -93,9 +82,5 @@ impl<const N: usize> TrieKey for [u8; N] {
         ensures order { KeepsByteOrder }
     {
         Nibblet::from_slice(alloc, self.as_slice())
-    }
-
-    fn as_nibbles(&self) -> Option<NibbleSlice<'_>> {
-        Some(NibbleSlice::from_bytes(self.as_slice()))
     }
 }

@@ -9,7 +9,6 @@ ghost use Rattle.radix_keys.specs.Order.{KeepsSignedOrder};
 use crate::keys::TrieKey;
 use crate::keys::integers::encode_integer;
 use crate::nibbles::{Memory, Nibblet};
-use crate::slices::NibbleSlice;
 use std::alloc::Global;
 
 impl TrieKey for i8 {
@@ -34,10 +33,6 @@ impl TrieKey for i8 {
         ensures order { KeepsSignedOrder w8 }
     {
         encode_integer(alloc, self)
-    }
-
-    fn as_nibbles(&self) -> Option<NibbleSlice<'_>> {
-        None
     }
 }
 
@@ -64,10 +59,6 @@ impl TrieKey for i16 {
     {
         encode_integer(alloc, self)
     }
-
-    fn as_nibbles(&self) -> Option<NibbleSlice<'_>> {
-        None
-    }
 }
 
 impl TrieKey for i32 {
@@ -92,10 +83,6 @@ impl TrieKey for i32 {
         ensures order { KeepsSignedOrder w32 }
     {
         encode_integer(alloc, self)
-    }
-
-    fn as_nibbles(&self) -> Option<NibbleSlice<'_>> {
-        None
     }
 }
 
@@ -122,10 +109,6 @@ impl TrieKey for i64 {
     {
         encode_integer(alloc, self)
     }
-
-    fn as_nibbles(&self) -> Option<NibbleSlice<'_>> {
-        None
-    }
 }
 
 impl TrieKey for isize {
@@ -150,9 +133,5 @@ impl TrieKey for isize {
         ensures order { KeepsSignedOrder w64 }
     {
         encode_integer(alloc, self)
-    }
-
-    fn as_nibbles(&self) -> Option<NibbleSlice<'_>> {
-        None
     }
 }

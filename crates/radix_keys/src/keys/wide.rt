@@ -12,7 +12,6 @@ use crate::keys::TrieKey;
 use crate::keys::ascending::KeySigned;
 use crate::keys::integers::encode_integer;
 use crate::nibbles::{Memory, Nibblet};
-use crate::slices::NibbleSlice;
 use std::alloc::Global;
 
 impl KeyInt for u128 {
@@ -79,10 +78,6 @@ impl TrieKey for u128 {
     {
         encode_integer(alloc, self)
     }
-
-    fn as_nibbles(&self) -> Option<NibbleSlice<'_>> {
-        None
-    }
 }
 
 impl TrieKey for i128 {
@@ -107,10 +102,6 @@ impl TrieKey for i128 {
         ensures order { KeepsSignedOrder w128 }
     {
         encode_integer(alloc, self)
-    }
-
-    fn as_nibbles(&self) -> Option<NibbleSlice<'_>> {
-        None
     }
 }
 

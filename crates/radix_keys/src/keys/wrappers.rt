@@ -7,7 +7,6 @@ use crate::endian::{BigEndian, KeyInt, LittleEndian};
 use crate::keys::TrieKey;
 use crate::keys::integers::{encode_integer, push_bytes};
 use crate::nibbles::{Memory, Nibblet};
-use crate::slices::NibbleSlice;
 use smallvec::SmallVec;
 use std::alloc::Global;
 
@@ -24,10 +23,6 @@ impl<T: KeyInt> TrieKey for BigEndian<T> {
 
     fn encode(&self, alloc: Global) -> Result<Nibblet, Memory> {
         encode_integer(alloc, &self.value())
-    }
-
-    fn as_nibbles(&self) -> Option<NibbleSlice<'_>> {
-        None
     }
 }
 
@@ -51,10 +46,6 @@ impl<T: KeyInt> TrieKey for LittleEndian<T> {
         }
         Ok(Nibblet::from_small(out))
     }
-
-    fn as_nibbles(&self) -> Option<NibbleSlice<'_>> {
-        None
-    }
 }
 
 impl<T: KeyInt> TrieKey for Vec<T> {
@@ -76,12 +67,5 @@ impl<T: KeyInt> TrieKey for Vec<T> {
             push_bytes(&mut out, x)?;
         }
         Ok(Nibblet::from_small(out))
-    }
-
-    fn as_nibbles(&self) -> Option<NibbleSlice<'_>> {
-        match T::as_bytes(self.as_slice()) {
-            Some(bytes) => Some(NibbleSlice::from_bytes(bytes)),
-            None => None,
-        }
     }
 }

@@ -7,7 +7,7 @@ ghost use Rattle.radix_keys.specs.NetworkOrder.{KeepsNetworkOrder};
 ghost use Rattle.radix_keys.specs.Networks.{IsBase};
 
 use crate::bits::Bits;
-use crate::keys::TrieKey;
+use crate::keys::{AsNibbles, TrieKey};
 use crate::networks::{Address, Network};
 use crate::nibbles::{Memory, Nibblet};
 use crate::slices::NibbleSlice;
@@ -41,7 +41,9 @@ impl<A: Address> TrieKey for Network<A> {
             Err(refused) => Err(refused),
         }
     }
+}
 
+impl<A: Address> AsNibbles for Network<A> {
     fn as_nibbles(&self) -> Option<NibbleSlice<'_>> {
         None
     }

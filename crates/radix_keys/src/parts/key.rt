@@ -4,7 +4,7 @@ ghost use Rattle.nibble_map.specs.Nibbles.{nibbles, IsShort};
 ghost use Rattle.radix_keys.specs.PartBytes.{parts-distinct};
 ghost use Rattle.radix_keys.specs.Parts.{AreParts, part_bytes, KeepsPartsOrder};
 
-use crate::keys::TrieKey;
+use crate::keys::{AsNibbles, TrieKey};
 use crate::nibbles::{Memory, Nibblet};
 use crate::parts::Parts;
 use crate::slices::NibbleSlice;
@@ -14,8 +14,6 @@ impl TrieKey for Parts {
     ghost encoding = { λ parts. nibbles (part_bytes parts) };
 
     ghost is_inline = { λ parts. IsShort (nibbles (part_bytes parts)) };
-
-    ghost is_lent = { λ _. Unit {0} };
 
     ghost is_value = { AreParts };
 
@@ -33,6 +31,10 @@ impl TrieKey for Parts {
     {
         Nibblet::from_slice(alloc, self.bytes.as_slice())
     }
+}
+
+impl AsNibbles for Parts {
+    ghost is_lent = { λ _. Unit {0} };
 
     fn as_nibbles(&self) -> Option<NibbleSlice<'_>> {
         Some(NibbleSlice::from_bytes(self.bytes.as_slice()))

@@ -10,7 +10,8 @@ pub struct Agreement {
     pub compared: usize,
 }
 
-/// Compares a fragment with the list from `depth` on. Nothing else compares a fragment with a list.
+/// Compares a fragment with the list from `depth` on. Nothing else does, but that `agreed` needs no
+/// comparison for a fragment of one nibble, which the mask has found.
 pub fn compare(fragment: &Nibblet, list: &Nibblet, depth: usize) -> Agreement
     requires { depth ≤ length list.now }
     ensures within { result.same ≤ length fragment.now }

@@ -13,7 +13,7 @@ use crate::trie_node::mask::child_index;
 use radix_keys::Nibblet;
 
 /// How far a fragment that begins with the list's next nibble agrees with the list from `depth` on.
-/// A single nibble isn't looked at again.
+/// A fragment of one nibble isn't looked at again, and counts as compared.
 pub fn agreed(fragment: &Nibblet, list: &Nibblet, depth: usize) -> Agreement
     requires depth { depth < length list.now }
     requires start { first fragment.now ≡ slice_index list.now depth }

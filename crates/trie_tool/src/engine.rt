@@ -10,7 +10,7 @@ use crate::answers::answer;
 use crate::command::parse;
 use crate::numbers::Numbers;
 pub use line_sessions::Fault as ToolError;
-use line_sessions::{Program, Refusal, WatchedReader, WatchedWriter, run};
+use line_sessions::{Program, Refusal, WatchedReader, WatchedWriter, end};
 use std::alloc::Global;
 use std::io::{Read, Write};
 use std::mem;
@@ -70,5 +70,6 @@ pub fn answer_all<R: Read, W: Write, E: Write>(
     ensures { Ran Replies IsBad GivesUp IsRemarkOf reader.old reader.new
         writer.old writer.new errors.old errors.new map.empty (exit_status result) }
 {
-    run(alloc, Numbers::new(alloc), reader, writer, errors)
+    let outcome = serve(alloc, reader, writer);
+    end(outcome, "", errors)
 }

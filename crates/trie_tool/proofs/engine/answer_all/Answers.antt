@@ -1,8 +1,18 @@
-use Rattle.std.proofs.Common.{subst}
-use Rattle.std.specs.Process.{exit_status}
-use Rattle.line_sessions.specs.Sessions.{Ran}
-use Rattle.trie_tool.specs.Request.{GivesUp, IsBad, IsRemarkOf, Numbers, Replies}
+use Rattle.std.specs.Prelude.{[]}
+use Rattle.std.specs.FinMap as map
+use Rattle.trie_tool.proofs.ToldLemmas.{served-told}
 use Rattle.trie_tool.proofs.engine.answer_all.Goals as goal
 
 pub returns : goal.returns
-returns g c = subst (λ (m : Numbers). Ran Replies IsBad GivesUp IsRemarkOf c.args.reader.now c.run.new.reader c.args.writer.now c.run.new.writer c.args.errors.now c.run.new.errors m (exit_status c.run.result)) c.new.ensures c.run.ensures
+returns g c =
+    let session = c.serve-outcome in
+    let (left, served) = session.ensures.served in
+    record {
+      result = session.result;
+      left = left;
+      remark = [];
+      served = served-told c.args.reader.now.unread session.new.reader.unread c.args.writer.now.held session.new.writer.held map.empty left session.result served;
+      noted = session.ensures.noted;
+      status_is = c.end.ensures.status;
+      told = c.end.ensures.told;
+    }

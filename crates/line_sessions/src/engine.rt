@@ -83,10 +83,14 @@ pub fn serve<P: Program, R: Read, W: Write>(
 /// # Examples
 ///
 /// ```
-/// run(alloc, Numbers::new(alloc), reader, writer, errors)
+/// let strict = Strict {
+///     files,
+///     table: Table::new(alloc),
+/// };
+/// run(alloc, strict, reader, writer, errors)
 /// ```
 ///
-/// `answer_all` in `crates/trie_tool/src/engine.rt` runs a program of numbers.
+/// `answer_all` in `crates/route_tool/src/engine.rt` runs a program of routes.
 pub fn run<P: Program, R: Read, W: Write, E: Write>(
     alloc: Global,
     program: P,

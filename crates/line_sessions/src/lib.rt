@@ -6,6 +6,7 @@ pub mod fault;
 pub mod laws;
 pub mod patient;
 pub mod program;
+pub mod prompting;
 mod session;
 pub mod watched;
 
@@ -13,4 +14,5 @@ pub use engine::{run, serve};
 pub use fault::{Fault, end};
 pub use patient::Patient;
 pub use program::{Program, Refusal};
+pub use prompting::{Notices, Prompting};
 pub use watched::{WatchedReader, WatchedWriter};

@@ -7,16 +7,6 @@ use std::io::{ErrorKind, Read, Write};
 /// How many bytes of a line a terminal keeps: it drops all behind them but the line feed.
 const KEPT: usize = 4_095;
 
-/// What is told before the first line is asked for.
-const GREETING: &'static str = "trie_shell: help lists the calls, quit ends\n";
-
-/// What is answered to a line that ends a session at a terminal, elsewhere.
-pub const NO_TERMINAL: &'static str = "not at a terminal: the end of the input ends the session";
-
-/// What is told of a line that the terminal has cut.
-const CUT: &'static str =
-    "not read: the terminal cuts a line of 4,095 bytes and more; `load FILE CALL` takes longer ones\n";
-
 /// Where the next read goes on: before the first line, at a line's beginning, or in one that was
 /// handed on so far, or in one that is cut.
 #[derive(Clone, Copy, PartialEq)]
@@ -27,6 +17,15 @@ enum Place {
     Cut,
 }
 
+/// What a program tells at a terminal, each a whole line.
+#[derive(Clone, Copy)]
+pub struct Notices {
+    /// Before the first line is asked for.
+    pub greeting: &'static str,
+    /// Of a line of 4,095 bytes or more, which the terminal has cut.
+    pub cut: &'static str,
+}
+
 /// A reader at a terminal, which gives a line at most to each read. It writes a prompt before each
 /// one, and reads again where the terminal has cut a line, which is told of. A line `quit` or
 /// `exit` is the end of what is read.
@@ -34,6 +33,7 @@ enum Place {
 pub struct Prompting<R: Read, P: Write> {
     reader: R,
     prompts: P,
+    notices: Notices,
     place: Place,
 }
 
@@ -51,11 +51,12 @@ fn is_last(bytes: &[u8]) -> bool {
 }
 
 impl<R: Read, P: Write> Prompting<R, P> {
-    /// The reader, not read yet, and the writer for prompts.
-    pub fn new(reader: R, prompts: P) -> Prompting<R, P> {
+    /// The reader, not read yet, the writer for prompts, and what is told there.
+    pub fn new(reader: R, prompts: P, notices: Notices) -> Prompting<R, P> {
         Prompting {
             reader,
             prompts,
+            notices,
             place: Place::Start,
         }
     }
@@ -72,7 +73,7 @@ impl<R: Read, P: Write> Prompting<R, P> {
     {
         let before = self.place;
         if before == Place::Start {
-            self.tell(GREETING);
+            self.tell(self.notices.greeting);
         }
         self.tell("> ");
         let count = self.reader.read(buffer)?;
@@ -94,7 +95,7 @@ impl<R: Read, P: Write> Prompting<R, P> {
             return Ok(Some(count));
         }
         if before != Place::Cut {
-            self.tell(CUT);
+            self.tell(self.notices.cut);
         }
         Ok(if before == Place::Within {
             spoilt(buffer)

@@ -1,8 +1,11 @@
 -- Images of the routes of one family: the value of a row is the place of its hop among the user's own bytes.
 use Rattle.std.specs.Prelude.{◌≡◌, ℕ, ◌-◌, ◌^◌, ◌<◌, ◌≤◌, ◌⊎◌, Bool, false, List, [], ◌∷◌, ◌++◌, ⊤, Some, drop, length, slice_get, slice_index, take}
 use Rattle.std.specs.List.{All, AllZip, flat_map}
+use Rattle.std.specs.Int.{w64}
 use Rattle.std.specs.Str.{IsUtf8}
 use Rattle.line_sessions.specs.Lines.{HasNoFeed}
+use Rattle.nibble_map.specs.Maps.{PairMap, value_at}
+use Rattle.radix_keys.specs.Integers.{unsigned_key}
 use Rattle.radix_keys.specs.Networks.{Net}
 use Rattle.image_parts.specs.Parts.{HoldsPayload, IsPayload}
 use Rattle.flat_routes.specs.Faults.{IsRouteFault}
@@ -29,6 +32,11 @@ pub record IsHopAt (bytes : List ℕ) (place : ℕ) (hop : List ℕ) : Type 0 wh
 -- some hop is
 abbrev pub HasHopAt : List ℕ → ℕ → Type 0
 HasHopAt bytes place = (hop : List ℕ) × IsHopAt bytes place hop
+
+-- the hops that were made of lines, by the places at which these begin
+abbrev pub AreHopsOf : (own : List ℕ) → PairMap ℕ (List ℕ) → Type 0
+AreHopsOf own m = (place : ℕ) (hop : List ℕ) → place < 2 ^ 64
+    → value_at m (unsigned_key w64 place) ≡ Some hop → IsHopAt own place hop
 
 -- the user's own bytes in an image, none where it lists no such part
 abbrev pub AreOwnBytes : (image own : List ℕ) → Type 0

@@ -1,5 +1,6 @@
 //! What the program is started with.
 
+use line_sessions::Notices;
 use std::env::FillError;
 use std::rt::Env;
 
@@ -8,7 +9,10 @@ pub const USAGE: &'static str =
     "route_tool: it takes lines on standard input, and no argument but --read-on";
 
 /// What is told at a terminal.
-pub const HINT: &'static str = "route_tool: help lists the requests, Ctrl-D ends";
+pub const NOTICES: Notices = Notices {
+    greeting: "route_tool: help lists the requests, quit ends\n",
+    cut: "not read: the terminal cuts a line of 4,095 bytes and more; `load FILE` takes longer ones\n",
+};
 
 /// Whether it is started with `--read-on`, and nothing else; none where with anything else. It
 /// takes no memory.

@@ -7,16 +7,14 @@ mod calls;
 mod engine;
 mod files;
 mod help;
-mod prompt;
 mod request;
 mod session;
 mod start;
 mod tries;
 
-use crate::prompt::Prompting;
 use crate::session::{answer_all, answer_each};
-use crate::start::{USAGE, allows_colours, is_strict_start};
-use line_sessions::{WatchedReader, WatchedWriter};
+use crate::start::{NOTICES, USAGE, allows_colours, is_strict_start};
+use line_sessions::{Prompting, WatchedReader, WatchedWriter};
 use std::io;
 use std::io::{IsTerminal, Read};
 use std::process::ExitCode;
@@ -27,7 +25,11 @@ fn main(rt: HostRuntime) -> ExitCode {
         return ExitCode::from(5);
     };
     if rt.stdin().is_terminal() {
-        answer(&rt, is_strict, Prompting::new(rt.reader(), rt.stderr()))
+        answer(
+            &rt,
+            is_strict,
+            Prompting::new(rt.reader(), rt.stderr(), NOTICES),
+        )
     } else {
         answer(&rt, is_strict, rt.reader())
     }

@@ -1,11 +1,21 @@
 //! What the program is started with.
 
+use line_sessions::Notices;
 use std::env::FillError;
 use std::rt::Env;
 
 /// What is told where it is started with anything else.
 pub const USAGE: &'static str =
     "trie_shell: it takes lines on standard input, and no argument but --strict";
+
+/// What is told at a terminal.
+pub const NOTICES: Notices = Notices {
+    greeting: "trie_shell: help lists the calls, quit ends\n",
+    cut: "not read: the terminal cuts a line of 4,095 bytes and more; `load FILE CALL` takes longer ones\n",
+};
+
+/// What is answered to a line that ends a session at a terminal, elsewhere.
+pub const NO_TERMINAL: &'static str = "not at a terminal: the end of the input ends the session";
 
 /// Whether it is started with `--strict`, and nothing else; none where with anything else. It
 /// takes no memory.

@@ -1,8 +1,8 @@
 //! The routes of an image.
-ghost use Rattle.std.specs.Prelude.{IfErr, IfOk, MatchOption, map as each};
+ghost use Rattle.std.specs.Prelude.{IfErr, IfOk, MatchOption, OnOk, map as each};
 ghost use Rattle.std.specs.List.{AllZip};
 ghost use Rattle.flat_routes.specs.Images.{numbered_row};
-ghost use Rattle.route_tool.specs.RouteImages.{AreOpened, AreOwnBytes, HasHopAt, IsHopAt, IsHopFault, IsOpenedOf, IsOpenFault};
+ghost use Rattle.route_tool.specs.RouteImages.{AreHopsOf, AreOpened, AreOwnBytes, HasHopAt, IsHopAt, IsHopFault, IsOpenedOf, IsOpenFault};
 
 use crate::command::is_hop;
 use crate::edits::first_part;
@@ -11,7 +11,7 @@ use crate::images::{ImageFamily, OpenFault};
 use flat_routes::TableError;
 use frozen_routes::FrozenRoutes;
 use image_parts::payload;
-use radix_trie::{Address, Network};
+use radix_trie::{Address, Memory, Network, Trie};
 use std::alloc::Global;
 
 /// The hop that is the line at a place, where a line begins there and is a hop.
@@ -39,7 +39,29 @@ fn own_bytes(image: &[u8]) -> &[u8]
     }
 }
 
-/// The routes of rows, each with the hop at its value. It takes time for each byte of their hops.
+/// The hop that is the line at a place, or None: a clone of the one that stands there already, so
+/// each line is read once, and a new one where none does.
+fn hop_of(hops: &mut Trie<usize, Hop>, own: &[u8], place: usize) -> Result<Option<Hop>, Memory>
+    requires { AreHopsOf own.now hops.old }
+    ensures hop { IfOk result (λ found. MatchOption found (HasHopAt own.now place → ⊥)
+        (λ hop. IsHopAt own.now place hop)) }
+    ensures hops { OnOk result (AreHopsOf own.now hops.new) }
+{
+    if let Some(hop) = hops.get(&place)? {
+        return Ok(Some(hop.clone()?));
+    }
+    let Some(line) = hop_at(own, place) else {
+        return Ok(None);
+    };
+    let hop = Hop::new(hops.allocator(), line)?;
+    match hops.insert(place, hop.clone()?) {
+        Ok(_) => Ok(Some(hop)),
+        Err(_) => Err(Memory),
+    }
+}
+
+/// The routes of rows, each with the hop at its value. Hops of one place share their bytes, so this
+/// takes time and memory for each row, and for each byte of the user's own.
 fn with_hops<A: Address>(
     alloc: Global,
     rows: &[(Network<A>, usize)],
@@ -53,20 +75,19 @@ fn with_hops<A: Address>(
     let Ok(mut routes) = Vec::with_capacity(alloc, rows.len()) else {
         return Err(OpenFault::Memory);
     };
+    let mut hops = Trie::new(alloc);
     for (i, (network, place)) in rows.iter().enumerate() {
-        let Some(line) = hop_at(own, *place) else {
-            return Err(OpenFault::Hop(i));
-        };
-        let Ok(hop) = Hop::new(alloc, line) else {
-            return Err(OpenFault::Memory);
-        };
-        routes.push_reserved((*network, hop));
+        match hop_of(&mut hops, own, *place) {
+            Ok(Some(hop)) => routes.push_reserved((*network, hop)),
+            Ok(None) => return Err(OpenFault::Hop(i)),
+            Err(_) => return Err(OpenFault::Memory),
+        }
     }
     Ok(routes)
 }
 
 /// The routes of an image of one family, with their hops. It takes the time of the family's
-/// `from_image`, and time for each byte of the hop of each route.
+/// `from_image`, a lookup a route, and time for each byte of the user's own.
 ///
 /// # Errors
 ///

@@ -1,14 +1,13 @@
 """What all tables have in common: their bytes, and how these come from a file and go to one."""
 import collections.abc
-import contextlib
 import ctypes
 import mmap
 import operator
 import os
-import secrets
 import typing
 
 from . import _exports as exports
+from ._files import replace
 from ._library import library
 
 REASONS = {
@@ -72,20 +71,10 @@ class Table:
     @classmethod
     def write(cls, path, *items, **words) -> None:
         """Builds an image, as `build` does, and puts it where a file is or will be, in one step: who reads the old
-        one goes on reading that. Nobody may read the new one who might not read the old one."""
-        image, path = cls.build(*items, **words), os.path.realpath(os.fsdecode(path))
-        mode = os.stat(path).st_mode & 0o777 if os.path.exists(path) else 0o666
-        made = os.path.join(os.path.dirname(path), f".nifazombi-{secrets.token_hex(8)}")
-        with open(made, "xb", opener=lambda name, flags: os.open(name, flags, mode)) as file:
-            try:
-                file.write(image)
-                file.flush()
-                os.fsync(file.fileno())
-                os.replace(made, path)
-            except BaseException:
-                with contextlib.suppress(OSError):
-                    os.unlink(made)
-                raise
+        one goes on reading that. The new one has its group and its mode. Raises OSError where that fails, and where
+        `path` is a link, a folder, a device or a pipe, or the file has several names, is another user's or may not be
+        written by its owner; then all is as before."""
+        replace(path, cls.build(*items, **words))
 
     def close(self) -> None:
         """Lets go of the bytes: a file is unmapped when the calls that read it have ended, and nobody has its

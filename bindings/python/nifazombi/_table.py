@@ -45,15 +45,16 @@ class Table:
 
     _check = None  # the export that checks an image
     _image = _len = _at = _Closed()
+    _own = None  # where the user's own bytes are, once that was asked
 
     def __init__(self, image, check: bool = True):
-        """A table over bytes, or over memory that can be written to, but isn't meanwhile: a bytearray, or a file mapped
-        by ACCESS_COPY. With `check` false nothing is read first: each call is as safe, but what is answered of bytes
-        that are no image means nothing."""
+        """A table over bytes, or over other memory that isn't written to meanwhile: a bytearray, or a file that is
+        mapped. With `check` false nothing is read first: each call is as safe, but what is answered of bytes that are
+        no image means nothing."""
         view = memoryview(image).cast("B")
         self._image, self._len = view.toreadonly(), len(view)
         # Each call is passed what holds the memory, so it lives until the call ends, whoever closes the table.
-        self._at = image if isinstance(image, bytes) else _place_of(view)
+        self._at = place_of(view)
         place = ctypes.c_size_t()
         code = self._check(self._at, self._len, place) if check else 0
         if code:
@@ -65,8 +66,7 @@ class Table:
         with open(path, "rb") as file:
             if os.fstat(file.fileno()).st_size == 0:
                 raise ImageError("this is no image: " + REASONS[exports.ERROR_SHORT])
-            # Nothing is written, but ctypes takes no memory that can't be written to.
-            return cls(mmap.mmap(file.fileno(), 0, access=mmap.ACCESS_COPY), check)
+            return cls(mmap.mmap(file.fileno(), 0, access=mmap.ACCESS_READ), check)
 
     @classmethod
     def write(cls, path, *items, **words) -> None:
@@ -91,9 +91,11 @@ class Table:
     @property
     def payload(self) -> memoryview:
         """The user's own bytes in the image, which aren't copied: `bytes(table.payload[start:end])` copies some."""
-        span = exports.Span()
-        library.nifazombi_payload(self._at, self._len, span)
-        return self._image[span.first : span.first + span.count]
+        if self._own is None:
+            span = exports.Span()
+            library.nifazombi_payload(self._at, self._len, span)
+            self._own = slice(span.first, span.first + span.count)
+        return self._image[self._own]
 
     def _climb(self, found, above, item):
         """The items from one up, by its index and one more."""
@@ -122,11 +124,22 @@ class Items(collections.abc.Sequence):
         return map(self._item, reversed(self._indices))
 
 
-def _place_of(view):
-    """The address of memory, which holds it: ctypes passes that faster than it does the memory itself."""
-    held = (ctypes.c_char * len(view)).from_buffer(view)
-    place = ctypes.c_void_p(ctypes.addressof(held))
-    place.held = held
+class _Buffer(ctypes.Structure):
+    """Py_buffer of Python's C interface."""
+
+    _fields_ = [("buf", ctypes.c_void_p), ("obj", ctypes.c_void_p), ("len", ctypes.c_ssize_t),
+                ("itemsize", ctypes.c_ssize_t), ("readonly", ctypes.c_int), ("ndim", ctypes.c_int),
+                ("format", ctypes.c_void_p), ("shape", ctypes.c_void_p), ("strides", ctypes.c_void_p),
+                ("suboffsets", ctypes.c_void_p), ("internal", ctypes.c_void_p)]
+
+
+def place_of(view):
+    """The address of memory, which may be read-only, with a view that holds it there: nobody else has the view."""
+    buffer = _Buffer()
+    ctypes.pythonapi.PyObject_GetBuffer(ctypes.py_object(view), ctypes.byref(buffer), 0)
+    place = ctypes.c_void_p(buffer.buf)
+    ctypes.pythonapi.PyBuffer_Release(ctypes.byref(buffer))
+    place.held = view
     return place
 
 
@@ -149,13 +162,13 @@ def number_of(key, value, bits):
 def built(len_of, write, rows, pairs, payload):
     """The image of pairs in order, of which these are the rows, and of the user's own bytes."""
     own = memoryview(payload).tobytes()
-    image, place = (ctypes.c_char * len_of(len(own)))(), ctypes.c_size_t()
-    code = write(rows, len(pairs), own, len(own), image, len(image), place)
+    image, place = bytearray(len_of(len(own))), ctypes.c_size_t()
+    code = write(rows, len(pairs), own, len(own), place_of(memoryview(image)), len(image), place)
     if code == exports.ERROR_OUT_OF_ORDER:
         raise ValueError(f"{_shown(pairs[place.value][0])} is there twice")
     if code:
         raise ValueError("there are too many rows, or too many bytes of keys")
-    return image.raw
+    return bytes(image)
 
 
 def _shown(key):

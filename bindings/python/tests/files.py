@@ -1,6 +1,7 @@
 """Checks which files `write` of the package nifazombi replaces, how, and what is left of a run that is killed."""
 import contextlib
 import os
+import resource
 import signal
 import stat
 import tempfile
@@ -166,10 +167,24 @@ def try_folder(room):
     os.chdir("/")
 
 
+def try_limits(room):
+    """A file that is open isn't data of the process."""
+    path = f"{room}/table"
+    Texts.write(path, {"a": 1}, payload=bytes(64 << 20))
+    with open("/proc/self/status") as status:
+        used = next(int(it.split()[1]) << 10 for it in status if it.startswith("VmData"))
+
+    def opened():
+        resource.setrlimit(resource.RLIMIT_DATA, (used + (16 << 20),) * 2)
+        assert value_of(path) == 1
+
+    assert forked(opened) == ""
+
+
 def main():
     if not __debug__:
         raise SystemExit("python -O checks nothing here")
-    for each in (try_kinds, try_modes, try_killed, try_two, try_folder, *[try_owners] * IS_ROOT):
+    for each in (try_kinds, try_modes, try_killed, try_two, try_folder, try_limits, *[try_owners] * IS_ROOT):
         with tempfile.TemporaryDirectory() as room:
             each(room)
 

@@ -15,6 +15,9 @@ import sys
 import tempfile
 import threading
 
+if sys.flags.optimize > 1:
+    sys.exit("python -OO leaves out the texts that the scripts of this repository tell, so none of them runs so")
+
 ROOT = os.path.dirname(os.path.dirname(os.path.realpath(__file__)))
 # No file that these scripts write comes near to so many bytes.
 MOST = 64_000_000

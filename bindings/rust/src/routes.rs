@@ -146,7 +146,7 @@ impl<'a, A: Address> Routes<'a, A> {
     }
 
     /// The user's own bytes in the image: those that were passed to [`routes_image`]. In bytes that
-    /// weren't checked each call looks for them, in linear time in the count of listed parts.
+    /// weren't checked each call looks for them.
     pub fn payload(&self) -> &'a [u8] {
         self.own.unwrap_or_else(|| payload(self.image))
     }

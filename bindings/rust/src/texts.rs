@@ -118,8 +118,7 @@ impl<'a> Texts<'a> {
         Some((key, place.value))
     }
 
-    /// The user's own bytes in the image. In bytes that weren't checked each call looks for them, in
-    /// linear time in the count of listed parts.
+    /// The user's own bytes in the image. In bytes that weren't checked each call looks for them.
     pub fn payload(&self) -> &'a [u8] {
         self.own.unwrap_or_else(|| payload(self.image))
     }

@@ -78,6 +78,27 @@ NO_EDIT = {
     "it is a trait's, and each program has a body of its own": {"line_sessions": "Program::answer"},
 }
 
+# Errors that no test makes out of a call, by the reason.
+UNTRIED = {
+    "no memory holds so many pairs or rows": {
+        "radix_trie": "Trie::insert.Full Trie::map_with_default.Full Trie::get_or_insert.Full Trie::try_insert.Full "
+                      "Trie::from_iter.Full Trie::extend.Full Trie::graft.Full Entry::insert.Full Entry::or_insert.Full "
+                      "Entry::or_insert_with.Full SubTrieMut::insert.Full",
+        "frozen_trie": "freeze.Full frozen_copy.Full", "frozen_networks": "freeze.Full frozen_copy.Full",
+        "flat_routes": "ipv4::write.Full ipv6::write.Full", "flat_texts": "write.Full",
+        "trie_set": "TrieSet::insert.Full"},
+    "refused memory alone makes it, which the sessions refused_*.txt try": {"radix_trie": "Trie::merge.Stopped"},
+    "both families have the same body, and tests make it by ipv4": {
+        "flat_routes": "ipv6::check.Cell ipv6::check.Part ipv6::check.Row ipv6::check.Short ipv6::check.Version "
+                       "ipv6::write.OutOfOrder ipv6::write.Short ipv6::from_image.Image"},
+    "it is of another call, whose errors have the same type": {"flat_tries": "from_image.Value"},
+    "clauses alone tell of it: the call has the tests of its neighbour for numbers": {
+        "flat_tries": "to_image_of_values.Odd from_image_of_values.Image from_image_of_values.Key"},
+}
+
+# Labels of exports that say what those of the calls behind them do, which return an index, or a place, or None.
+OTHER_LABELS = {"nifazombi_payload": "found for part", "nifazombi_texts_above": "within for before"}
+
 # Functions that make an error for memory where no call was refused: a tree of more levels than `usize` counts, which
 # no memory holds; encodings of 2^31 bytes; a network with bits behind its first ones, which there is none of; and what
 # the system says of a file.

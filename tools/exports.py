@@ -25,7 +25,8 @@ HEAD = """// Made by `tools/texts --write` of the sources of crates/nifazombi_c.
 // Tables in one run of bytes, searched where they lie. Each call takes any bytes whatever, ends, and reads only inside
 // them; nothing is allocated, and nothing is kept between two calls. A pointer may be anything where its length is 0, and
 // else it is never NULL, nor is one without a length, such as `at`. What a call only reads, nobody may write to during the
-// call, and what it writes to is of no use to anybody else.
+// call, and what it writes to is of no use to anybody else. A list of IPv6 addresses is of arrays of 16 octets, or of
+// `struct in6_addr`, and its length is how many they are.
 """
 C_HEAD = """#ifndef NIFAZOMBI_H
 #define NIFAZOMBI_H
@@ -87,10 +88,13 @@ class Passed:
             self.c, self.python = NUMBERS[of]
 
     def in_c(self):
-        """Its declarations in C: a slice is a pointer and a length."""
+        """Its declarations in C: a slice is a pointer and a length. One of arrays is a pointer to anything: before C23 a
+        pointer to arrays doesn't pass for one to constant arrays."""
         access = "const " if self.points and not self.is_written else ""
-        array = f"(*{self.name})" if self.is_slice else self.name
-        text = f"uint8_t {array}[{self.octets[1]}]" if self.octets else f"{self.c} {'*' * self.points}{self.name}"
+        if self.octets:
+            text = f"void *{self.name}" if self.is_slice else f"uint8_t {self.name}[{self.octets[1]}]"
+        else:
+            text = f"{self.c} {'*' * self.points}{self.name}"
         return [access + text, *[f"size_t {self.name}_len"] * self.is_slice]
 
     def in_rust(self):

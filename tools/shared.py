@@ -7,6 +7,7 @@ import importlib.machinery
 import importlib.util
 import os
 import re
+import resource
 import shutil
 import signal
 import stat
@@ -14,6 +15,10 @@ import subprocess
 import sys
 import tempfile
 import threading
+import time
+
+if sys.flags.optimize > 1:
+    sys.exit("python -OO leaves out the texts that the scripts of this repository tell, so none of them runs so")
 
 ROOT = os.path.dirname(os.path.dirname(os.path.realpath(__file__)))
 # No file that these scripts write comes near to so many bytes.
@@ -23,6 +28,8 @@ MOST = 64_000_000
 ALLOCATOR = "glibc.malloc.hugetlb=1:glibc.malloc.mxfast=0"
 # A folder for what a run makes: a name that nobody gives by chance, and that no two users share.
 ROOM = f".room-of-nifazombi-{os.geteuid()}"
+# By the clock a process has so many times the processor's time that it may take: others may be at work too.
+PATIENCE, MINUTE = 20, 60
 ENDING = (signal.SIGHUP, signal.SIGINT, signal.SIGTERM)
 STARTED, STARTING, ENDED_BY = set(), [], []
 
@@ -202,14 +209,18 @@ def started(words, **how):
 
 def ran(words, given=None, seconds=None, **how):
     """What a process writes and its status, once it has ended: bytes, or texts where `how` says so. The given bytes, if
-    any, it reads from a file."""
+    any, it reads from a file. It, and each process that it starts, has so many seconds of a processor, if any are
+    said."""
     with contextlib.ExitStack() as stack:
         if given is not None:
             how["stdin"] = stack.enter_context(tempfile.TemporaryFile())
             how["stdin"].write(given)
             how["stdin"].seek(0)
         process = stack.enter_context(started(words, **{"stdout": subprocess.PIPE, "stderr": subprocess.PIPE, **how}))
-        said, told = process.communicate(timeout=seconds)
+        if seconds:
+            with contextlib.suppress(ProcessLookupError):
+                resource.prlimit(process.pid, resource.RLIMIT_CPU, (seconds, seconds + 1))
+        said, told = process.communicate(timeout=seconds and PATIENCE * seconds)
     return subprocess.CompletedProcess(words, process.returncode, said, told)
 
 
@@ -238,11 +249,32 @@ def surroundings_of(**changed):
     return {**known, **changed, "LC_ALL": "C"}
 
 
+@contextlib.contextmanager
+def telling(what):
+    """Says what is being tried, and each minute that it goes on."""
+    ended, start = threading.Event(), time.monotonic()
+
+    def tell():
+        with contextlib.suppress(OSError):
+            while not ended.wait(MINUTE):
+                print(f"{what} goes on, for {(time.monotonic() - start) / 60:.0f} minutes by now", flush=True)
+
+    print(f"{what}:", flush=True)
+    teller = threading.Thread(target=tell)
+    teller.start()
+    try:
+        yield
+    finally:
+        ended.set()
+        teller.join()
+
+
 def add(tally, command, folder, hear=None, **surroundings):
     """Shows what a command says, and adds all its checks, which it counts in its last line. How many passed. What is
     shown is heard too, part by part."""
     last, how = b"", {"cwd": folder, "env": surroundings_of(**surroundings)}
-    with started(command.split(), stdout=subprocess.PIPE, stderr=subprocess.STDOUT, **how) as process:
+    how |= {"stdout": subprocess.PIPE, "stderr": subprocess.STDOUT}
+    with telling(command), started(command.split(), **how) as process:
         while part := process.stdout.read1():
             sys.stdout.buffer.write(part)
             sys.stdout.buffer.flush()

@@ -45,7 +45,7 @@ static unsigned drawn_bits(const share *shares) {
     return shares->least + draw() % (shares->most - shares->least + 1);
 }
 
-typedef unsigned __int128 wide;
+__extension__ typedef unsigned __int128 wide;
 
 typedef struct {
     wide first;

@@ -3,7 +3,8 @@
 // Tables in one run of bytes, searched where they lie. Each call takes any bytes whatever, ends, and reads only inside
 // them; nothing is allocated, and nothing is kept between two calls. A pointer may be anything where its length is 0, and
 // else it is never NULL, nor is one without a length, such as `at`. What a call only reads, nobody may write to during the
-// call, and what it writes to is of no use to anybody else.
+// call, and what it writes to is of no use to anybody else. A list of IPv6 addresses is of arrays of 16 octets, or of
+// `struct in6_addr`, and its length is how many they are.
 
 #ifndef NIFAZOMBI_H
 #define NIFAZOMBI_H
@@ -142,7 +143,7 @@ size_t nifazombi_ipv6_longest_match(const uint8_t *image, size_t image_len, cons
 // `nifazombi_ipv6_longest_match` returns into `found`. Returns how many.
 size_t nifazombi_ipv6_longest_matches(
     const uint8_t *image, size_t image_len,
-    const uint8_t (*addresses)[16], size_t addresses_len,
+    const void *addresses, size_t addresses_len,
     uint32_t *found, size_t found_len);
 
 // The row of this very network, by its index and one more, or 0 where no row is of it.

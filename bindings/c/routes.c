@@ -15,14 +15,19 @@ static const nifazombi_ipv4_row ROWS[] = {  // in order; the links are found by 
     {.first = 0xc0000200, .bits = 24, .value = 300},
 };
 
+// Writes another file, which takes the name: whoever has mapped the old one keeps it.
 static int save(const char *path) {
+    char made[4096];
+    int is_named = snprintf(made, sizeof made, "%s.new", path) < (int)sizeof made;
     size_t len = nifazombi_ipv4_image_len(3, 0), at;
     uint8_t *image = malloc(len);
-    FILE *file = fopen(path, "wb");
+    FILE *file = is_named ? fopen(made, "wb") : NULL;
     int is_saved = image && file && nifazombi_ipv4_write(ROWS, 3, NULL, 0, image, len, &at) == 0 &&
                    fwrite(image, 1, len, file) == len;
     free(image);
-    return (file && fclose(file) == 0) && is_saved;
+    is_saved = file && fclose(file) == 0 && is_saved && rename(made, path) == 0;
+    if (file && !is_saved) remove(made);
+    return is_saved;
 }
 
 int main(int count, char **words) {

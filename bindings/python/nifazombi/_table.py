@@ -1,14 +1,13 @@
 """What all tables have in common: their bytes, and how these come from a file and go to one."""
 import collections.abc
-import contextlib
 import ctypes
 import mmap
 import operator
 import os
-import secrets
 import typing
 
 from . import _exports as exports
+from ._files import replace
 from ._library import library
 
 REASONS = {
@@ -46,15 +45,16 @@ class Table:
 
     _check = None  # the export that checks an image
     _image = _len = _at = _Closed()
+    _own = None  # where the user's own bytes are, once that was asked
 
     def __init__(self, image, check: bool = True):
-        """A table over bytes, or over memory that can be written to, but isn't meanwhile: a bytearray, or a file mapped
-        by ACCESS_COPY. With `check` false nothing is read first: each call is as safe, but what is answered of bytes
-        that are no image means nothing."""
+        """A table over bytes, or over other memory that isn't written to meanwhile: a bytearray, or a file that is
+        mapped. With `check` false nothing is read first: each call is as safe, but what is answered of bytes that are
+        no image means nothing."""
         view = memoryview(image).cast("B")
         self._image, self._len = view.toreadonly(), len(view)
         # Each call is passed what holds the memory, so it lives until the call ends, whoever closes the table.
-        self._at = image if isinstance(image, bytes) else _place_of(view)
+        self._at = place_of(view)
         place = ctypes.c_size_t()
         code = self._check(self._at, self._len, place) if check else 0
         if code:
@@ -66,26 +66,15 @@ class Table:
         with open(path, "rb") as file:
             if os.fstat(file.fileno()).st_size == 0:
                 raise ImageError("this is no image: " + REASONS[exports.ERROR_SHORT])
-            # Nothing is written, but ctypes takes no memory that can't be written to.
-            return cls(mmap.mmap(file.fileno(), 0, access=mmap.ACCESS_COPY), check)
+            return cls(mmap.mmap(file.fileno(), 0, access=mmap.ACCESS_READ), check)
 
     @classmethod
     def write(cls, path, *items, **words) -> None:
         """Builds an image, as `build` does, and puts it where a file is or will be, in one step: who reads the old
-        one goes on reading that. Nobody may read the new one who might not read the old one."""
-        image, path = cls.build(*items, **words), os.path.realpath(os.fsdecode(path))
-        mode = os.stat(path).st_mode & 0o777 if os.path.exists(path) else 0o666
-        made = os.path.join(os.path.dirname(path), f".nifazombi-{secrets.token_hex(8)}")
-        with open(made, "xb", opener=lambda name, flags: os.open(name, flags, mode)) as file:
-            try:
-                file.write(image)
-                file.flush()
-                os.fsync(file.fileno())
-                os.replace(made, path)
-            except BaseException:
-                with contextlib.suppress(OSError):
-                    os.unlink(made)
-                raise
+        one goes on reading that. The new one has its group and its mode. Raises OSError where that fails, and where
+        `path` is a link, a folder, a device or a pipe, or the file has several names, is another user's or may not be
+        written by its owner; then all is as before."""
+        replace(path, cls.build(*items, **words))
 
     def close(self) -> None:
         """Lets go of the bytes: a file is unmapped when the calls that read it have ended, and nobody has its
@@ -102,9 +91,11 @@ class Table:
     @property
     def payload(self) -> memoryview:
         """The user's own bytes in the image, which aren't copied: `bytes(table.payload[start:end])` copies some."""
-        span = exports.Span()
-        library.nifazombi_payload(self._at, self._len, span)
-        return self._image[span.first : span.first + span.count]
+        if self._own is None:
+            span = exports.Span()
+            library.nifazombi_payload(self._at, self._len, span)
+            self._own = slice(span.first, span.first + span.count)
+        return self._image[self._own]
 
     def _climb(self, found, above, item):
         """The items from one up, by its index and one more."""
@@ -133,11 +124,22 @@ class Items(collections.abc.Sequence):
         return map(self._item, reversed(self._indices))
 
 
-def _place_of(view):
-    """The address of memory, which holds it: ctypes passes that faster than it does the memory itself."""
-    held = (ctypes.c_char * len(view)).from_buffer(view)
-    place = ctypes.c_void_p(ctypes.addressof(held))
-    place.held = held
+class _Buffer(ctypes.Structure):
+    """Py_buffer of Python's C interface."""
+
+    _fields_ = [("buf", ctypes.c_void_p), ("obj", ctypes.c_void_p), ("len", ctypes.c_ssize_t),
+                ("itemsize", ctypes.c_ssize_t), ("readonly", ctypes.c_int), ("ndim", ctypes.c_int),
+                ("format", ctypes.c_void_p), ("shape", ctypes.c_void_p), ("strides", ctypes.c_void_p),
+                ("suboffsets", ctypes.c_void_p), ("internal", ctypes.c_void_p)]
+
+
+def place_of(view):
+    """The address of memory, which may be read-only, with a view that holds it there: nobody else has the view."""
+    buffer = _Buffer()
+    ctypes.pythonapi.PyObject_GetBuffer(ctypes.py_object(view), ctypes.byref(buffer), 0)
+    place = ctypes.c_void_p(buffer.buf)
+    ctypes.pythonapi.PyBuffer_Release(ctypes.byref(buffer))
+    place.held = view
     return place
 
 
@@ -160,13 +162,13 @@ def number_of(key, value, bits):
 def built(len_of, write, rows, pairs, payload):
     """The image of pairs in order, of which these are the rows, and of the user's own bytes."""
     own = memoryview(payload).tobytes()
-    image, place = (ctypes.c_char * len_of(len(own)))(), ctypes.c_size_t()
-    code = write(rows, len(pairs), own, len(own), image, len(image), place)
+    image, place = bytearray(len_of(len(own))), ctypes.c_size_t()
+    code = write(rows, len(pairs), own, len(own), place_of(memoryview(image)), len(image), place)
     if code == exports.ERROR_OUT_OF_ORDER:
         raise ValueError(f"{_shown(pairs[place.value][0])} is there twice")
     if code:
         raise ValueError("there are too many rows, or too many bytes of keys")
-    return image.raw
+    return bytes(image)
 
 
 def _shown(key):

@@ -75,7 +75,10 @@ class _Ipv6:
     def passed(address):
         if isinstance(address, str):
             return _read(socket.AF_INET6, address)
-        return ipaddress.IPv6Address(address).packed
+        address = address if type(address) is ipaddress.IPv6Address else ipaddress.IPv6Address(address)
+        if address.scope_id:
+            raise ValueError(f"{address} has a scope, and a table knows none")
+        return address.packed
 
     @staticmethod
     def many(addresses):
@@ -88,7 +91,7 @@ class _Ipv6:
 
     @staticmethod
     def packed(network, value):
-        return _Ipv6.rows.pack(network.network_address.packed, network.prefixlen, 0, value)
+        return _Ipv6.rows.pack(_Ipv6.passed(network.network_address), network.prefixlen, 0, value)
 
     @staticmethod
     def first(row):

@@ -1,14 +1,18 @@
 """Maps from texts to numbers, in the order of the texts' bytes."""
 import collections.abc
-import ctypes
+import itertools
+import operator
+import struct
 import typing
 
 from . import _exports as exports
 from ._library import library
-from ._table import Items, Pairs, Table, built, items_of, number_of, pairs_of
+from ._table import Items, Pairs, Table, built, items_of, number_of, pairs_of, place_of
 
 Key = typing.Union[str, bytes]
 Pair = typing.Tuple[bytes, int]
+# Of C's struct: where a key is, its length and its value.
+PAIR = struct.Struct("PNQ")
 
 
 def _bytes_of(key):
@@ -29,10 +33,10 @@ class Texts(Table, collections.abc.Mapping):
         """An image of pairs of a key and a value, or of a mapping, in any order, and of bytes of one's own. Raises
         ValueError where a key comes twice."""
         each = sorted(((_bytes_of(key), value) for key, value in pairs_of(items)), key=lambda it: it[0])
-        keep = [ctypes.c_char_p(key) for key, _ in each]
-        rows = (exports.TextsPair * len(each))()
-        for row, held, (key, value) in zip(rows, keep, each):
-            row.key, row.key_len, row.value = ctypes.cast(held, ctypes.c_void_p), len(key), number_of(key, value, 64)
+        keys = b"".join(key for key, _ in each)
+        first = place_of(memoryview(keys)).value
+        places = itertools.accumulate((len(key) for key, _ in each), initial=first)
+        rows = b"".join(PAIR.pack(at, len(key), number_of(key, value, 64)) for at, (key, value) in zip(places, each))
         return built(lambda own: library.nifazombi_texts_image_len(rows, len(each), own), library.nifazombi_texts_write,
                      rows, each, payload)
 
@@ -41,7 +45,7 @@ class Texts(Table, collections.abc.Mapping):
 
     def nth(self, index: int) -> Pair:
         """The pair at an index, in order."""
-        place = exports.TextsPlace()
+        index, place = operator.index(index), exports.TextsPlace()
         # ctypes passes the lowest 64 bits of any number.
         if not 0 <= index < 1 << 64 or not library.nifazombi_texts_pair_at(self._at, self._len, index, place):
             raise IndexError(index)

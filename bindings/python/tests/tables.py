@@ -1,6 +1,8 @@
 """Checks the package nifazombi against plain lists and against images written by their format alone (tools/images.py)."""
 import array
 import contextlib
+import ctypes
+import gc
 import ipaddress
 import mmap
 import os
@@ -8,9 +10,11 @@ import random
 import tempfile
 import threading
 import time
+from unittest import mock
 
 import images
 from nifazombi import ImageError, Route, Routes, Texts
+from nifazombi._library import library
 
 ROUTES, ASKED, HOSTILE = 400, 2_000, 3_000
 FAMILIES = {4: (32, ipaddress.IPv4Address), 6: (128, ipaddress.IPv6Address)}
@@ -80,6 +84,7 @@ def try_texts():
         above = [it for it in reversed(order) if key.startswith(it)]
         assert [it for it, _ in texts.prefixes(key)] == above
         assert texts.nearest(key) == ((above[0], found[above[0]]) if above else None)
+        assert texts.nth(Index()) == (order[0], found[order[0]])
         assert texts.get(key) == found.get(key) and (key in texts) == (key in found)
         assert texts.rank(key) == sum(it < key for it in order)
         assert [it for it, _ in texts.items(key[:3])] == [it for it in order if it.startswith(key[:3])]
@@ -98,6 +103,7 @@ def refused(call, error, said):
 
 def try_refusals():
     image = Routes.build([("10.0.0.0/8", 1), ("10.1.0.0/16", 2)])
+    wide = Routes.build([("fe80::1", 1)])
     later, gone, turned = bytearray(image), bytearray(image), bytearray(image)
     later[7:8], gone[40:44], turned[88:104], turned[104:120] = b"2", b"\t\0\0\0", image[104:120], image[88:104]
     for wrong, why in ((b"", "too short"), (image[:-1], "part "), (b"x" * 200, "another kind"), (later, "another version"),
@@ -118,11 +124,54 @@ def try_refusals():
     refused(lambda: Texts.build({}, payload="own"), TypeError, "bytes-like")
     refused(lambda: Routes(image)["11.0.0.1"], KeyError, "11.0.0.1")
     refused(lambda: Routes(image).longest_match("::1"), ValueError, "no address of IPv4")
+    for index in (1.5, "1", None):
+        refused(lambda index=index: Texts(Texts.build({"a": 1})).nth(index), TypeError, "integer")
+    for address in ("fe80::1%eth0", ipaddress.ip_address("fe80::1%eth0"), ipaddress.ip_network("fe80::1%eth0/128")):
+        refused(lambda address=address: Routes.build([(address, 1)]), ValueError, "fe80::1%eth0 has a scope")
+        refused(lambda address=address: Routes(wide).exact(address), ValueError, "fe80::1%eth0 has a scope")
+    refused(lambda: Routes(wide)["fe80::1%eth0"], ValueError, "no address of IPv6")
+    refused(lambda: Routes(wide)[ipaddress.ip_address("fe80::1%eth0")], ValueError, "has a scope")
     for index in (1, -1, 1 << 64):
         refused(lambda index=index: Texts(Texts.build({"a": 1})).nth(index), IndexError, str(index))
     refused(lambda: Routes(image).longest_matches(array.array("i", [-1])), ValueError, "-1")
     refused(lambda: Routes(Routes.build([], version=6)).longest_matches(bytes(17)), ValueError, "16 bytes")
     refused(lambda: Routes.open("/nowhere/table"), FileNotFoundError, "nowhere")
+
+
+def try_payload():
+    """Where the user's own bytes are is asked once."""
+    for table in (Texts(Texts.build({"a": 1}, payload=b"own")), Routes(Routes.build([], payload=b"own"), check=False)):
+        with mock.patch.object(library, "nifazombi_payload", wraps=library.nifazombi_payload) as asked:
+            assert [bytes(table.payload[:at]) for at in range(4)] == [b"", b"o", b"ow", b"own"]
+        assert asked.call_count == 1 and table.payload.readonly
+
+
+def try_memory(room):
+    """Memory of every kind is taken, and a table makes no type of its own, as ctypes does of arrays."""
+    image, path = Texts.build({"a": 1, "": 2}, payload=b"own"), f"{room}/texts"
+    gc.collect()
+    gc.disable()
+    kinds = len(ctypes.Array.__subclasses__())
+    for at in range(100):
+        Texts.write(path, {"a": 1, **{f"{it}": it for it in range(at)}}, payload=bytes(at))
+        with Texts.open(path) as texts:
+            assert texts.get("a") == 1 and len(texts) == at + 1
+    assert len(ctypes.Array.__subclasses__()) == kinds
+    gc.enable()
+    with open(path, "wb") as file:
+        file.write(image)
+    with open(path, "r+b") as file:
+        maps = [mmap.mmap(file.fileno(), 0, access=it) for it in (mmap.ACCESS_READ, mmap.ACCESS_WRITE, mmap.ACCESS_COPY)]
+    for memory in (image, bytearray(image), memoryview(image), array.array("b", image), *maps):
+        with Texts(memory) as texts:
+            assert texts["a"] == 1 and texts.payload == b"own" and texts.payload.readonly
+    for it in maps:
+        it.close()
+
+
+class Index:
+    def __index__(self):
+        return 0
 
 
 def try_files(room):
@@ -136,10 +185,7 @@ def try_files(room):
         refused(lambda call=call: call(old), ValueError, "closed")
     refused(lambda: Routes.write(path, [("10.0.0.0/8", -1)]), ValueError, "doesn't fit")
     assert os.listdir(room) == ["table"] and Routes.open(path)["10.1.1.1"] == 2
-    os.chmod(path, 0o600)
-    os.symlink(path, f"{room}/link")
-    Routes.write(os.fsencode(f"{room}/link"), [("10.0.0.0/8", 3)])
-    assert os.path.islink(f"{room}/link") and os.stat(path).st_mode & 0o777 == 0o600
+    Routes.write(os.fsencode(path), [("10.0.0.0/8", 3)])
     with open(path, "rb") as file:
         own = mmap.mmap(file.fileno(), 0, access=mmap.ACCESS_COPY)
     with Routes(own) as routes:
@@ -194,8 +240,11 @@ def main():
     try_routes(6)
     try_texts()
     try_refusals()
+    try_payload()
     with tempfile.TemporaryDirectory() as room:
         try_files(room)
+    with tempfile.TemporaryDirectory() as room:
+        try_memory(room)
         try_close(room)
     try_hostile()
 

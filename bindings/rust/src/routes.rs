@@ -57,6 +57,8 @@ impl<A: fmt::Display> fmt::Display for Route<A> {
 #[derive(Clone, Copy)]
 pub struct Routes<'a, A> {
     image: &'a [u8],
+    /// What `payload` returns, where the bytes were checked.
+    own: Option<&'a [u8]>,
     family: PhantomData<A>,
 }
 
@@ -69,7 +71,10 @@ impl<'a, A: Address> Routes<'a, A> {
     /// The bytes are no image of such a table.
     pub fn new(image: &'a [u8]) -> Result<Self, ImageError> {
         A::check(image)?;
-        Ok(Routes::unchecked(image))
+        Ok(Routes {
+            own: Some(payload(image)),
+            ..Routes::unchecked(image)
+        })
     }
 
     /// The table in bytes that were checked before. It reads nothing. Whatever the bytes are, each
@@ -77,6 +82,7 @@ impl<'a, A: Address> Routes<'a, A> {
     pub const fn unchecked(image: &'a [u8]) -> Self {
         Routes {
             image,
+            own: None,
             family: PhantomData,
         }
     }
@@ -139,9 +145,10 @@ impl<'a, A: Address> Routes<'a, A> {
         }
     }
 
-    /// The user's own bytes in the image: those that were passed to [`routes_image`].
+    /// The user's own bytes in the image: those that were passed to [`routes_image`]. In bytes that
+    /// weren't checked each call looks for them.
     pub fn payload(&self) -> &'a [u8] {
-        payload(self.image)
+        self.own.unwrap_or_else(|| payload(self.image))
     }
 }
 

@@ -23,6 +23,8 @@ use std::ops::Range;
 #[derive(Clone, Copy)]
 pub struct Texts<'a> {
     image: &'a [u8],
+    /// What `payload` returns, where the bytes were checked.
+    own: Option<&'a [u8]>,
 }
 
 impl<'a> Texts<'a> {
@@ -34,13 +36,16 @@ impl<'a> Texts<'a> {
     /// The bytes are no image of such a map.
     pub fn new(image: &'a [u8]) -> Result<Self, ImageError> {
         checked(|at| exports::texts_check(image, at))?;
-        Ok(Texts::unchecked(image))
+        Ok(Texts {
+            image,
+            own: Some(payload(image)),
+        })
     }
 
     /// The map in bytes that were checked before. It reads nothing. Whatever the bytes are, each
     /// call is safe and returns; but what it returns means nothing where they are no image.
     pub const fn unchecked(image: &'a [u8]) -> Self {
-        Texts { image }
+        Texts { image, own: None }
     }
 
     /// The count of pairs.
@@ -113,9 +118,9 @@ impl<'a> Texts<'a> {
         Some((key, place.value))
     }
 
-    /// The user's own bytes in the image.
+    /// The user's own bytes in the image. In bytes that weren't checked each call looks for them.
     pub fn payload(&self) -> &'a [u8] {
-        payload(self.image)
+        self.own.unwrap_or_else(|| payload(self.image))
     }
 
     /// Where the key at an index lies, and its value.

@@ -1,7 +1,7 @@
 //! Routing tables: by hand, and beside a search through all rows.
 mod common;
 
-use common::{Random, assert_both_ends, flipped};
+use common::{Random, assert_both_ends, assert_kept, flipped, image_of_many_parts};
 use nifazombi::{Address, ImageError, Route, Routes, WriteError, routes_image};
 use std::cmp::Reverse;
 use std::net::{Ipv4Addr, Ipv6Addr};
@@ -58,6 +58,17 @@ fn route(network: &str, bits: u8, value: u64) -> Route<Ipv4Addr> {
 /// Why bytes are no image of IPv4 networks.
 fn fault(bytes: &[u8]) -> Option<ImageError> {
     Routes::<Ipv4Addr>::new(bytes).err()
+}
+
+#[test]
+fn payload_is_kept_from_the_check_on() {
+    let image = image_of_many_parts(b"NZIPV6.1", &[1, 2]);
+    let routes = Routes::<Ipv6Addr>::new(&image).unwrap();
+    let unchecked = Routes::<Ipv6Addr>::unchecked(&image);
+    assert_kept(
+        || routes.payload().is_empty(),
+        || unchecked.payload().is_empty(),
+    );
 }
 
 #[test]

@@ -1,7 +1,7 @@
 //! Maps of byte strings: by hand, and beside a `BTreeMap`.
 mod common;
 
-use common::{Random, assert_both_ends, flipped};
+use common::{Random, assert_both_ends, assert_kept, flipped, image_of_many_parts};
 use nifazombi::{ImageError, Texts, WriteError, texts_image};
 use std::collections::BTreeMap;
 
@@ -28,6 +28,16 @@ fn a_map_by_hand() {
     assert_both_ends(texts.between("ab", "a"), &[]);
     assert_eq!((texts.nth(2), texts.nth(3)), (Some(ab), None));
     assert_eq!(format!("{texts:?}"), r#"{"": 7, "a": 8, "ab": 9}"#);
+}
+
+#[test]
+fn payload_is_kept_from_the_check_on() {
+    let image = image_of_many_parts(b"NZTEXT.1", &[4]);
+    let (texts, unchecked) = (Texts::new(&image).unwrap(), Texts::unchecked(&image));
+    assert_kept(
+        || texts.payload().is_empty(),
+        || unchecked.payload().is_empty(),
+    );
 }
 
 #[test]

@@ -1,5 +1,9 @@
 //! What the tests of all tables share.
 
+use std::hint::black_box;
+use std::iter::repeat_n;
+use std::time::{Duration, Instant};
+
 /// Numbers that are the same in each run (xorshift).
 pub struct Random(u64);
 
@@ -26,6 +30,32 @@ pub fn flipped(bytes: &[u8], bit: usize) -> Vec<u8> {
     let mut bytes = bytes.to_vec();
     bytes[bit / 8] ^= 1 << (bit % 8);
     bytes
+}
+
+/// An image of no rows that lists many parts, by its mark and the kinds of those that it needs.
+pub fn image_of_many_parts(mark: &[u8; 8], needed: &[u32]) -> Vec<u8> {
+    const COUNT: usize = 5_000;
+    let kinds = needed.iter().chain(repeat_n(&9, COUNT - needed.len()));
+    let parts = kinds.flat_map(|kind| [*kind, 0, 0, 0, 0, 0]);
+    let numbers = [0, COUNT as u32].into_iter().chain(parts);
+    let rest = numbers.flat_map(u32::to_le_bytes);
+    mark.iter().copied().chain(rest).collect()
+}
+
+/// How long a hundred calls take, where nothing else is done meanwhile.
+fn time_of(call: impl Fn() -> bool) -> Option<Duration> {
+    let times = (0..100).map(|_| {
+        let start = Instant::now();
+        assert!((0..100).all(|_| black_box(call())));
+        start.elapsed()
+    });
+    times.min()
+}
+
+/// Asserts that a call returns at once what another one looks for.
+pub fn assert_kept(kept: impl Fn() -> bool, looked_for: impl Fn() -> bool) {
+    let times = (time_of(kept), time_of(looked_for));
+    assert!(times.0 < times.1.map(|it| it / 2), "{times:?}");
 }
 
 /// Takes what an iterator gives from both ends in turn, and compares it with what it is to give.

@@ -50,7 +50,7 @@ STANDS_FOR = {
                   "last_within for SubTrieMut::last_key_value; SubTrieMut::insert for TrieEdit::insert; "
                   "SubTrieMut::remove for TrieEdit::remove; SubTrieMut::retain for TrieEdit::retain; "
                   "SubTrieMut::remove_prefix for TrieEdit::remove_prefix",
-    "trie_tool": "keyed for parse; line_sessions drive for serve; line_sessions run for answer_all; "
+    "trie_tool": "keyed for parse; line_sessions drive for serve; "
                  "radix_trie Trie::insert for Numbers::insert; radix_trie Trie::get for Numbers::get; "
                  "radix_trie Trie::remove for Numbers::remove; radix_trie Trie::remove_prefix for Numbers::prune; "
                  "radix_trie Trie::footprint for Numbers::footprint; radix_trie AnyTrieCommon::iter for Numbers::all; "

@@ -59,7 +59,7 @@ fn keys_of_other_types(rt: HostRuntime) -> Result<(), Fail> {
     Ok(())
 }
 
-/// A key that is lent is encoded as itself, not by the bytes that it has in memory.
+/// A key that is lent is encoded as it is itself, also by an odd count of nibbles.
 #[test]
 fn lent_keys(rt: HostRuntime) -> Result<(), Fail> {
     let a = rt.alloc();
@@ -74,8 +74,8 @@ fn lent_keys(rt: HostRuntime) -> Result<(), Fail> {
     Ok(())
 }
 
-/// A number comes back from each wrapper, by which alone numbers are compared, and gives its bytes,
-/// the highest first.
+/// A wrapper gives its number back and is compared by it; a number gives its bytes, the highest
+/// first.
 #[test]
 fn wrapped_numbers_come_back(rt: HostRuntime) {
     let (big, little) = (BigEndian::from(-7i32), LittleEndian::from(7u64));

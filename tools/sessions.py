@@ -47,6 +47,7 @@ CALLS = [
     (r"read", "FrozenTexts::read + FrozenTrie::push + FrozenTrie::finish"),
     (r"read_image", "from_image + FrozenTrie::push + FrozenTrie::finish"),
     (r"(run|freeze|frozen_copy)", r"\1"),
+    (r"run_once", "run"),
     (r"(from_sorted|thaw)", r"FrozenTrie::\1"),
     (r"into_children", "SubTrieMut::into_children"),
     (r"intersection|union|difference", "Combination::new + Combination::next"),

@@ -95,7 +95,7 @@ fn commands_of(answer: &mut Answer<'_>) -> Result<Option<Vec<Command<Key, u64>>>
     })
 }
 
-/// The line of a reply that has no replies of its own. False: an allocation failed.
+/// The line of a reply that has no replies of its own. False: its command failed.
 fn add_reply(answer: &mut Answer<'_>, reply: &Reply<u64>) -> Result<bool, Memory> {
     match reply {
         Reply::Old(value) => {
@@ -117,31 +117,31 @@ fn add_reply(answer: &mut Answer<'_>, reply: &Reply<u64>) -> Result<bool, Memory
         Reply::Closed => answer.line("closed")?,
         Reply::Outside => answer.line("outside")?,
         Reply::Replies(_) => answer.line("replies")?,
-        Reply::Refused => return Ok(false),
+        Reply::Refused => {
+            answer.line("refused")?;
+            return Ok(false);
+        }
     }
     Ok(true)
 }
 
-/// The lines of replies. False: an allocation failed for one of them.
+/// The lines of replies. False: a command failed.
 fn add_replies(answer: &mut Answer<'_>, replies: &[Reply<u64>]) -> Result<bool, Memory> {
+    let mut is_whole = true;
     for reply in replies {
-        if !add_reply(answer, reply)? {
-            return Ok(false);
-        }
+        is_whole = add_reply(answer, reply)? && is_whole;
         if let Reply::Replies(list) = reply {
             for inner in list.as_slice() {
-                if !add_reply(answer, inner)? {
-                    return Ok(false);
-                }
+                is_whole = add_reply(answer, inner)? && is_whole;
             }
             answer.line("end")?;
         }
     }
-    Ok(true)
+    Ok(is_whole)
 }
 
 /// Runs the commands that the words write. Where one of them fails, the trie becomes again
-/// what it was before.
+/// what it was before, but for `run_once`, which answers so.
 pub fn answer_run(trie: &mut Table, answer: &mut Answer<'_>) -> Result<(), Memory> {
     let (length, words) = (answer.len(), answer.words());
     let commands = match commands_of(answer) {
@@ -159,7 +159,7 @@ pub fn answer_run(trie: &mut Table, answer: &mut Answer<'_>) -> Result<(), Memor
         Err(_) => trie.clone()?,
     };
     let replies = run(trie, commands)?;
-    if add_replies(answer, replies.as_slice())? {
+    if add_replies(answer, replies.as_slice())? || answer.name() == "run_once" {
         return none_line(answer, replies.is_empty());
     }
     *trie = before;

@@ -34,7 +34,7 @@ pub fn answer_sweep(trie: &mut Table, answer: &mut Answer<'_>) -> Result<bool, M
             None => answer.refuse(NO_LIST)?,
         },
         "value_mut" => written_or_none(answer, trie.value_mut())?,
-        "run" => answer_run(trie, answer)?,
+        "run" | "run_once" => answer_run(trie, answer)?,
         _ => return Ok(false),
     }
     Ok(true)

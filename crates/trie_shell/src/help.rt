@@ -103,6 +103,7 @@ pub const CALLS: &'static [&'static str] = &[
     "spend CALL[ ..]: what the call answers that takes the open view.",
     "close: leaves the open view.",
     "run[ COMMAND ..]: the replies to a list of commands; within KEY COMMAND .. end runs some in a view.",
+    "run_once[ COMMAND ..]: the same, but a command that fails is answered refused, and isn't run again.",
     "json TEXT[ ..]: the counts of an object's trie, and the object that it is written as; kind; float.",
     "error NAME: the text of an error: memory, full, outside, occupied, overlapping, absent, closed,",
     "error NAME: kind, float, odd or zero; none.",
@@ -238,7 +239,8 @@ const GROUPS: &'static [Group] = &[
     Group {
         name: "changes",
         about: "many pairs at once.",
-        calls: "graft merge for_each_mut retain extend from_iter into_pairs clear compact run json",
+        calls: "graft merge for_each_mut retain extend from_iter into_pairs clear compact run \
+            run_once json",
     },
     Group {
         name: "views",

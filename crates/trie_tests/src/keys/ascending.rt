@@ -39,21 +39,6 @@ fn moved_keys(rt: HostRuntime) -> Result<(), Memory> {
     Ok(())
 }
 
-/// Wide keys, inserted as wrappers: their encodings are those of unsigned keys.
-#[test]
-fn wide_keys(rt: HostRuntime) -> Result<(), Memory> {
-    let mut trie: Trie<Ascending<i16>, u64> = Trie::new(rt.alloc());
-    for (key, unsigned, value) in [
-        (i16::MIN, 0x0000u16, 1),
-        (-2, 0x7ffe, 2),
-        (i16::MAX, 0xffff, 3),
-    ] {
-        assert!(rt; matches!(trie.insert(Ascending::from(key), value), Ok(None)));
-        assert!(rt; trie.get(&unsigned)? == Some(&value));
-    }
-    Ok(())
-}
-
 /// The bounds of the type, and the numbers round 0, in the order of numbers.
 #[test]
 fn walk_from_bound_to_bound(rt: HostRuntime) -> Result<(), Memory> {

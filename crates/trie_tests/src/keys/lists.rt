@@ -1,9 +1,17 @@
 //! Lists of nibbles and of bits that are asked again after they were changed or made.
+ghost use Rattle.std.specs.Prelude.{◌≤◌, length};
 
 use crate::keys::digits::reads;
 use crate::samples::list;
-use radix_keys::Bits;
+use radix_keys::{Bits, Memory};
+use std::alloc::Global;
 use std::test::Fail;
+
+/// Nibbles in no order, more than need no memory.
+const NIBBLES: &'static [u8] = &[
+    0, 7, 14, 5, 12, 3, 10, 1, 8, 15, 6, 13, 4, 11, 2, 9, 0, 7, 14, 5, 12, 3, 10, 1, 8, 15, 6, 13,
+    4, 11, 2, 9, 0, 7, 14, 5, 12, 3, 10,
+];
 
 #[test]
 fn a_list_is_cut_short(rt: HostRuntime) -> Result<(), Fail> {
@@ -19,13 +27,41 @@ fn a_list_is_cut_short(rt: HostRuntime) -> Result<(), Fail> {
     Ok(())
 }
 
+/// Whether a list is split at a place into its first nibbles and the others, which join to it.
+fn is_parted(alloc: Global, nibbles: &[u8], place: usize) -> Result<bool, Memory>
+    requires { place ≤ length nibbles.now }
+{
+    let mut kept = list(alloc, nibbles)?;
+    let rest = kept.split(place)?;
+    let is_split = kept == list(alloc, &nibbles[..place])?
+        && rest == list(alloc, &nibbles[place..])?;
+    match kept.join(&rest) {
+        Ok(whole) => Ok(is_split && whole == list(alloc, nibbles)?),
+        Err(_) => Err(Memory),
+    }
+}
+
+#[test]
+fn lists_are_split_and_joined_at_each_place(rt: HostRuntime) -> Result<(), Memory> {
+    for count in 0..40 {
+        for place in 0..count + 1 {
+            assert!(rt;
+                is_parted(rt.alloc(), &NIBBLES[..count], place)?,
+                "{place} of {count}"
+            );
+        }
+    }
+    Ok(())
+}
+
 #[test]
 fn what_is_left_of_a_half_byte_does_not_count(rt: HostRuntime) -> Result<(), Fail> {
     let a = rt.alloc();
-    let mut cut = list(a, &[1, 2, 3, 4])?;
+    let mut cut = list(a, &[1, 2, 3, 15])?;
     assert!(rt; cut.len() == 4);
     cut.split(3)?;
-    assert!(rt; cut == list(a, &[1, 2, 3])?);
+    cut.push(0)?;
+    assert!(rt; cut == list(a, &[1, 2, 3, 0])?);
     Ok(())
 }
 

@@ -52,7 +52,24 @@ fn values_at<'t>(
     }
 }
 
-/// The keys, the values and the children below a view outlive it.
+/// The value at a view, which is written there and outlives it.
+fn written_at<'t>(
+    trie: &'t mut Texts,
+    at: &'static str,
+    value: u64,
+) -> Result<Option<&'t u64>, OpenError> {
+    match trie.open_mut(&at) {
+        Ok(mut view) => {
+            if let Some(place) = view.value_mut() {
+                *place = value;
+            }
+            Ok(TrieCommon::value(view))
+        }
+        Err(error) => Err(error),
+    }
+}
+
+/// The keys, the values and the children below a view outlive it, and so does its own value.
 #[test]
 fn walks_outlive_the_view(rt: HostRuntime) -> Result<(), TrieError> {
     let mut trie = texts(rt.alloc(), SAMPLE)?;
@@ -62,5 +79,6 @@ fn walks_outlive_the_view(rt: HostRuntime) -> Result<(), TrieError> {
     assert!(rt; values.as_slice() == [16, 17, 18, 19].as_slice());
     let mut children = children_at(&mut trie, &"abcd")?;
     assert!(rt; children.next().is_some() && children.next().is_none());
+    assert!(rt; written_at(&mut trie, "ab", 999)? == Some(&999));
     Ok(())
 }

@@ -36,6 +36,6 @@ fn check_unequal(rt: &impl Abort, left: &mut Unequals, right: &mut Unequals) {
 #[test]
 fn values_equal_to_none(rt: HostRuntime) {
     let mut left: Unequals = Trie::new(rt.alloc());
-    let mut right: Unequals = Trie::new(rt.alloc());
+    let mut right: Unequals = Trie::default(rt.alloc());
     check_unequal(&rt, &mut left, &mut right);
 }

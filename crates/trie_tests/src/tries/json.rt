@@ -33,6 +33,25 @@ fn are_back(alloc: Global, text: &str) -> Option<bool> {
     Some(again == value && written_and_read(alloc, &trie).ok()? == trie)
 }
 
+/// Whether a trie isn't written for a float, where a text writes one of its two values.
+fn is_unwritten(alloc: Global, text: &str) -> Option<bool> {
+    let mut trie: Values = Trie::new(alloc);
+    let value = Value::from_str(alloc, text).ok()?;
+    trie.insert(String::from_str(alloc, "a").ok()?, value).ok()?;
+    trie.insert(String::from_str(alloc, "b").ok()?, Value::from(1u64))
+        .ok()?;
+    Some(to_value(alloc, &trie).is_err_and(|e| e == JsonError::Float))
+}
+
+/// A float isn't written, whatever its form and however deep it stands in a value.
+#[test]
+fn floats_are_not_written(rt: HostRuntime) {
+    const FLOATS: &'static str = "1.5 -0.0 1e300 [1.5] [[[0.0]]] {\"b\":1.5} [{\"b\":[-2.5e-3]}]";
+    for text in FLOATS.split(' ') {
+        assert!(rt; is_unwritten(rt.alloc(), text) == Some(true), "{text}");
+    }
+}
+
 #[test]
 fn values_there_and_back(rt: HostRuntime) {
     assert!(rt; are_back(rt.alloc(), "{\"a\":[1,null],\"ab\":\"c\"}") == Some(true));

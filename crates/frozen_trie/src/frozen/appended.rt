@@ -26,8 +26,8 @@ impl<K: TrieKey, V> FrozenTrie<K, V> {
 
     /// Takes no more room than the pairs need, and makes tables that shorten searches where there
     /// are 2^16 pairs or more, in linear time: so it is for once, when the last pair is there. A
-    /// pair that is appended later drops the tables, in linear time where encodings are alike: where
-    /// most of them begin with the same 15 nibbles as the one before.
+    /// pair that is appended later drops the tables, in linear time where encodings are alike:
+    /// where most of them begin with the same 15 nibbles as the one before.
     ///
     /// # Errors
     ///

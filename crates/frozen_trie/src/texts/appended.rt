@@ -27,8 +27,8 @@ impl<V> FrozenTexts<V> {
 
     /// Takes no more room than the pairs need, and makes tables that shorten searches where there
     /// are 2^16 pairs or more, in linear time: so it is for once, when the last pair is there. A
-    /// pair that is appended later drops the tables, in linear time where keys are alike: where most
-    /// of them begin with the same 15 nibbles as the one before.
+    /// pair that is appended later drops the tables, in linear time where keys are alike: where
+    /// most of them begin with the same 15 nibbles as the one before.
     ///
     /// # Errors
     ///

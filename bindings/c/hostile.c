@@ -1,5 +1,5 @@
 // Tries the library on images, on all their beginnings, on all that differ from them in one bit, and on many that are
-// changed at random, each behind and before memory that nobody may read.
+// changed at random, each behind and before memory that nobody may read; and writes the images again.
 //
 // usage: hostile COUNT IMAGE..
 //
@@ -58,6 +58,7 @@ static void ask4(const uint8_t *image, size_t len, bool is_searched) {
         for (int k = 0; up && k < 200; k++) {
             size_t next = nifazombi_ipv4_above(image, len, up - 1);
             need(next < up, "a walk upward doesn't go up");
+            need(wrong || (nifazombi_ipv4_row_at(image, len, up - 1, &row) && row.link == next), "a row has another link");
             up = next;
         }
         add(nifazombi_ipv4_get(image, len, row.first, row.bits));
@@ -66,6 +67,8 @@ static void ask4(const uint8_t *image, size_t len, bool is_searched) {
         need(span.first + span.count <= count, "rows that aren't there");
         add(span.first), add(span.count);
     }
+    need(!nifazombi_ipv4_above(image, len, SIZE_MAX), "a row is around one past the end");
+    need(wrong || !nifazombi_ipv4_above(image, len, count), "a row is around the one behind the last");
     size_t looked = nifazombi_ipv4_longest_matches(image, len, asked, ASKED, found, ASKED);
     for (size_t i = 0; i < looked; i++) need(found[i] == nifazombi_ipv4_longest_match(image, len, asked[i]), "many aren't one by one");
     add(looked);
@@ -99,6 +102,7 @@ static void ask6(const uint8_t *image, size_t len, bool is_searched) {
         for (int k = 0; up && k < 200; k++) {
             size_t next = nifazombi_ipv6_above(image, len, up - 1);
             need(next < up, "a walk upward doesn't go up");
+            need(wrong || (nifazombi_ipv6_row_at(image, len, up - 1, &row) && row.link == next), "a row has another link");
             up = next;
         }
         add(nifazombi_ipv6_get(image, len, row.first, row.bits));
@@ -107,6 +111,8 @@ static void ask6(const uint8_t *image, size_t len, bool is_searched) {
         need(span.first + span.count <= count, "rows that aren't there");
         add(span.first), add(span.count);
     }
+    need(!nifazombi_ipv6_above(image, len, SIZE_MAX), "a row is around one past the end");
+    need(wrong || !nifazombi_ipv6_above(image, len, count), "a row is around the one behind the last");
     size_t looked = nifazombi_ipv6_longest_matches(image, len, asked, ASKED, found, ASKED);
     for (size_t i = 0; i < looked; i++) need(found[i] == nifazombi_ipv6_longest_match(image, len, asked[i]), "many aren't one by one");
     add(looked);
@@ -119,6 +125,12 @@ static size_t nearest_of(const uint8_t *image, size_t len, const uint8_t *key, s
     for (size_t at = 0; nifazombi_texts_pair_at(image, len, at, &place); at++)
         if (place.len <= key_len && memcmp(image + place.first, key, place.len) == 0) found = at + 1;
     return found;
+}
+
+static bool has_key(const uint8_t *image, size_t len, size_t at, const uint8_t *key, size_t key_len) {
+    nifazombi_texts_place place;
+    return nifazombi_texts_pair_at(image, len, at, &place) && place.len == key_len &&
+           memcmp(image + place.first, key, key_len) == 0;
 }
 
 static void ask_texts(const uint8_t *image, size_t len, bool is_searched) {
@@ -137,6 +149,8 @@ static void ask_texts(const uint8_t *image, size_t len, bool is_searched) {
         size_t same = nifazombi_texts_get(image, len, key, key_len), rank = nifazombi_texts_rank(image, len, key, key_len);
         add(nearest), add(same), add(rank);
         need(nearest <= count && same <= count && rank <= count, "a pair that isn't there");
+        need(wrong || !same || has_key(image, len, same - 1, key, key_len), "another key's pair is got");
+        need(wrong || same || !nearest || !has_key(image, len, nearest - 1, key, key_len), "a stored key isn't got");
         need(wrong || !is_searched || nearest == nearest_of(image, len, key, key_len), "the longest prefix isn't found");
         for (int k = 0; up && k < 200; k++) {
             size_t next = nifazombi_texts_above(image, len, up - 1);
@@ -148,10 +162,14 @@ static void ask_texts(const uint8_t *image, size_t len, bool is_searched) {
         nifazombi_texts_between(image, len, key, key_len, key, key_len / 2, &between);
         need(below.first + below.count <= count && between.first + between.count <= count, "pairs that aren't there");
         add(below.first), add(below.count), add(between.first), add(between.count);
+        memset(found, 0xa5, sizeof found);
         size_t all = nifazombi_texts_prefixes(image, len, key, key_len, found, ASKED);
         need(all <= ASKED && (all == 0 || found[0] + 1u == nearest), "prefixes don't begin with the longest");
+        for (size_t k = all; k < ASKED; k++) need(found[k] == 0xa5a5a5a5, "the room behind the prefixes doesn't stay");
         add(all);
     }
+    need(!nifazombi_texts_above(image, len, SIZE_MAX), "a pair is above one past the end");
+    need(wrong || !nifazombi_texts_above(image, len, count), "a pair is above the one behind the last");
 }
 
 // Asks each kind, since bytes say themselves what they are.
@@ -174,6 +192,118 @@ static void try(const uint8_t *bytes, size_t len, bool is_searched) {
     ask(front, len, is_searched);
 }
 
+typedef uint32_t writer(const void *rows, size_t count, uint8_t *out, size_t room, size_t *at);
+
+static uint32_t write4(const void *rows, size_t count, uint8_t *out, size_t room, size_t *at) {
+    return nifazombi_ipv4_write(rows, count, front, 0, out, room, at);
+}
+
+static uint32_t write6(const void *rows, size_t count, uint8_t *out, size_t room, size_t *at) {
+    return nifazombi_ipv6_write(rows, count, front, 0, out, room, at);
+}
+
+static uint32_t write_texts(const void *pairs, size_t count, uint8_t *out, size_t room, size_t *at) {
+    return nifazombi_texts_write(pairs, count, front, 0, out, room, at);
+}
+
+static void swap(uint8_t *one, uint8_t *other, size_t size) {
+    for (uint8_t kept; size--; kept = one[size], one[size] = other[size], other[size] = kept) {}
+}
+
+// Writes rows that rise into their very room, where memory ends. One byte less is too short, and of two rows that change
+// places the second is out of order; nothing is written then.
+static void try_writer(writer *write, uint8_t *rows, size_t size, size_t count, size_t room) {
+    uint8_t *out = end - room;
+    size_t at = 0, second = 1 + draw() % (count - 1);
+    memset(out, 0xa5, room);
+    need(write(rows, count, out + 1, room - 1, &at) == NIFAZOMBI_ERROR_SHORT, "a short buffer isn't told");
+    swap(rows + second * size, rows + (second - 1) * size, size);
+    need(write(rows, count, out, room, &at) == NIFAZOMBI_ERROR_OUT_OF_ORDER && at == second, "another row is out of order");
+    for (size_t k = 0; k < room; k++) need(out[k] == 0xa5, "a write that failed has written");
+    swap(rows + second * size, rows + (second - 1) * size, size);
+    need(!write(rows, count, out, room, &at), "rows in order aren't written");
+    ask(out, room, true);
+}
+
+// Writes the rows of an image again, and reads them back.
+static void write_again4(const uint8_t *image, size_t len) {
+    static nifazombi_ipv4_row rows[MOST / 16], row;
+    size_t count = 0, room;
+    while (nifazombi_ipv4_row_at(image, len, count, &rows[count])) count++;
+    room = nifazombi_ipv4_image_len(count, 0);
+    try_writer(write4, (uint8_t *)rows, sizeof row, count, room);
+    for (size_t at = 0; at < count; at++) {
+        bool is_there = nifazombi_ipv4_row_at(end - room, room, at, &row);
+        need(is_there && memcmp(&row, &rows[at], sizeof row) == 0, "another row is written");
+    }
+}
+
+static void write_again6(const uint8_t *image, size_t len) {
+    static nifazombi_ipv6_row rows[MOST / 32], row;
+    size_t count = 0, room;
+    while (nifazombi_ipv6_row_at(image, len, count, &rows[count])) count++;
+    room = nifazombi_ipv6_image_len(count, 0);
+    try_writer(write6, (uint8_t *)rows, sizeof row, count, room);
+    for (size_t at = 0; at < count; at++) {
+        bool is_there = nifazombi_ipv6_row_at(end - room, room, at, &row);
+        need(is_there && memcmp(&row, &rows[at], sizeof row) == 0, "another row is written");
+    }
+}
+
+static void write_texts_again(const uint8_t *image, size_t len) {
+    static nifazombi_texts_pair pairs[MOST / 24];
+    nifazombi_texts_place place;
+    size_t count = 0, room;
+    for (; nifazombi_texts_pair_at(image, len, count, &place); count++)
+        pairs[count] = (nifazombi_texts_pair){image + place.first, place.len, place.value};
+    room = nifazombi_texts_image_len(pairs, count, 0);
+    try_writer(write_texts, (uint8_t *)pairs, sizeof *pairs, count, room);
+    for (size_t at = 0; at < count; at++) {
+        bool is_there = nifazombi_texts_pair_at(end - room, room, at, &place) && place.value == pairs[at].value;
+        need(is_there && has_key(end - room, room, at, pairs[at].key, pairs[at].key_len), "another pair is written");
+    }
+}
+
+static void write_again(const uint8_t *image, size_t len) {
+    size_t at;
+    if (!nifazombi_ipv4_check(image, len, &at)) {
+        write_again4(image, len);
+    } else if (!nifazombi_ipv6_check(image, len, &at)) {
+        write_again6(image, len);
+    } else {
+        need(!nifazombi_texts_check(image, len, &at), "a stored image is none");
+        write_texts_again(image, len);
+    }
+}
+
+// What is too much for an image, rows, bytes or bytes of keys, has the length 0; the last that isn't has one.
+static void try_lengths(void) {
+    size_t many = (size_t)1 << 32, cells = 8 * (((size_t)1 << 21) + 1);
+    uint8_t *keys = mmap(NULL, many / 2, PROT_READ, MAP_PRIVATE | MAP_ANONYMOUS | MAP_NORESERVE, -1, 0);
+    nifazombi_texts_pair pairs[] = {{keys, many / 2, 0}, {keys, many / 2, 0}};
+    need(keys != MAP_FAILED, "no memory");
+    need(nifazombi_ipv4_image_len(many - 1, 0) == 88 + 16 * (many - 1) + cells, "rows that fit have no length");
+    need(nifazombi_ipv6_image_len(many - 1, 0) == 88 + 32 * (many - 1) + cells, "rows that fit have no length");
+    need(!nifazombi_ipv4_image_len(many, 0) && !nifazombi_ipv6_image_len(many, 0), "too many rows have a length");
+    need(!nifazombi_ipv4_image_len(1, SIZE_MAX) && !nifazombi_ipv6_image_len(1, SIZE_MAX), "too many bytes have a length");
+    need(!nifazombi_texts_image_len(pairs, 2, 0), "too many bytes of keys have a length");
+    need(!nifazombi_texts_image_len(pairs, 0, SIZE_MAX), "too many bytes have a length");
+    pairs[1].key_len--;
+    need(nifazombi_texts_image_len(pairs, 2, 0) == 64 + 48 + many - 1, "texts that fit have no length");
+    munmap(keys, many / 2);
+}
+
+// A payload is looked for among the first 64 parts that are listed.
+static void try_many_parts(void) {
+    uint8_t image[16 + 24 * 66] = {0};
+    nifazombi_span own = {0, 0};
+    image[12] = 66;
+    for (size_t at = 66; at--; image[16 + 24 * at] = 7) {
+        image[16 + 24 * at] = 3;
+        need(nifazombi_payload(image, sizeof image, &own) == (at < 64), "a payload is looked for elsewhere");
+    }
+}
+
 static size_t changed(uint8_t *to, const uint8_t *from, size_t len) {
     memcpy(to, from, len);
     for (uint64_t times = draw() % 8; times-- && len;) {
@@ -189,11 +319,14 @@ int main(int count, char **words) {
     need(all != MAP_FAILED && count > 2 && !mprotect(all + page, MOST, PROT_READ | PROT_WRITE), "no memory");
     front = all + page, end = front + MOST;
     static uint8_t image[MOST], other[MOST];
+    try_lengths();
+    try_many_parts();
     for (int k = 2; k < count; k++) {
         FILE *file = fopen(words[k], "rb");
         size_t len = file ? fread(image, 1, MOST, file) : 0;
         need(len && feof(file), "an image is missing, or too long");
         fclose(file);
+        write_again(image, len);
         try(image, len, true);
         for (size_t less = 0; less < len; less++) try(image, less, false);
         for (size_t bit = 0; len < 4096 && bit < 8 * len; bit++) {

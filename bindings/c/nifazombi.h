@@ -26,7 +26,8 @@ extern "C" {
 // The image is of another version.
 #define NIFAZOMBI_ERROR_VERSION 3
 
-// The part listed at this index is missing, lies outside the bytes, or has another size.
+// The part listed at this index is missing or of another kind, lies outside the bytes, or has
+// another size or detail.
 #define NIFAZOMBI_ERROR_PART 4
 
 // The row at this index isn't valid, doesn't come after the row before it, or has another link.
@@ -113,7 +114,7 @@ void nifazombi_ipv4_below(const uint8_t *image, size_t image_len, uint32_t first
 size_t nifazombi_ipv4_above(const uint8_t *image, size_t image_len, size_t at);
 
 // How many bytes the image of so many rows takes, with so many bytes of the user's own, or 0 of
-// 2^32 rows or more.
+// 2^32 rows or more, and where these are 2^64 bytes or more.
 size_t nifazombi_ipv4_image_len(size_t rows, size_t payload);
 
 // Writes the image of rows in order, by first address and then by bits, whose links count for
@@ -161,7 +162,7 @@ void nifazombi_ipv6_below(
 size_t nifazombi_ipv6_above(const uint8_t *image, size_t image_len, size_t at);
 
 // How many bytes the image of so many rows takes, with so many bytes of the user's own, or 0 of
-// 2^32 rows or more.
+// 2^32 rows or more, and where these are 2^64 bytes or more.
 size_t nifazombi_ipv6_image_len(size_t rows, size_t payload);
 
 // Writes the image of rows in order, by first address and then by bits, whose links count for
@@ -223,7 +224,7 @@ void nifazombi_texts_between(
     nifazombi_span *span);
 
 // How many bytes the image of pairs takes, with so many bytes of the user's own, or 0 of 2^32
-// pairs or more, or as many bytes of keys.
+// pairs or more, or as many bytes of keys, and where these are 2^64 bytes or more.
 size_t nifazombi_texts_image_len(const nifazombi_texts_pair *pairs, size_t pairs_len, size_t payload);
 
 // Writes the image of pairs whose keys rise in the order of their bytes, and of the user's own

@@ -174,7 +174,7 @@ pub(crate) fn ipv4_above(image: &[u8], at: usize) -> usize {
 }
 
 /// How many bytes the image of so many rows takes, with so many bytes of the user's own, or 0 of
-/// 2^32 rows or more.
+/// 2^32 rows or more, and where these are 2^64 bytes or more.
 #[inline]
 pub(crate) fn ipv4_image_len(rows: usize, payload: usize) -> usize {
     nifazombi_ipv4_image_len(rows, payload)
@@ -241,7 +241,7 @@ pub(crate) fn ipv6_above(image: &[u8], at: usize) -> usize {
 }
 
 /// How many bytes the image of so many rows takes, with so many bytes of the user's own, or 0 of
-/// 2^32 rows or more.
+/// 2^32 rows or more, and where these are 2^64 bytes or more.
 #[inline]
 pub(crate) fn ipv6_image_len(rows: usize, payload: usize) -> usize {
     nifazombi_ipv6_image_len(rows, payload)
@@ -328,7 +328,7 @@ pub(crate) fn texts_between(image: &[u8], from: &[u8], to: &[u8], span: &mut Spa
 }
 
 /// How many bytes the image of pairs takes, with so many bytes of the user's own, or 0 of 2^32
-/// pairs or more, or as many bytes of keys.
+/// pairs or more, or as many bytes of keys, and where these are 2^64 bytes or more.
 #[inline]
 pub(crate) fn texts_image_len(pairs: &[TextsPair<'_>], payload: usize) -> usize {
     nifazombi_texts_image_len(pairs.as_ptr(), pairs.len(), payload)

@@ -2,6 +2,7 @@
 use Rattle.std.proofs.Common.{◌≡◌, ℕ, zero, suc, ◌+◌, ◌-◌, ◌*◌, ◌/◌, ◌^◌, ◌<◌, ◌≤◌, inl, inr, Bool, true, false, List, [], ◌∷◌, Option, Some, None, length, get_or, slice_get, take, map as each, option_map, refl, ap, sym, subst, ◌∙◌, arith}
 use Rattle.std.specs.Option.{SomeIff}
 use Rattle.std.proofs.lemmas.Bool.{cases_lt}
+use Rattle.std.proofs.lemmas.Nat.{mul-le}
 use Rattle.std.proofs.lemmas.List.{get_or-take, length-map, length-take-le, take-map}
 use Rattle.radix_keys.specs.Networks.{AgreeIn, IsBase, Net}
 use Rattle.image_parts.specs.Parts.{row_count, u128_in, u32_in}
@@ -293,6 +294,21 @@ none_of_none w fs bs a = record {
   holds = λ some. absurd (omega (arith, some));
   none = λ k l m. absurd (omega (arith, m));
 }
+
+-- where m networks begin before an address, no fewer begin before one that isn't before that
+pub no_fewer : (fs : List ℕ) (a b m r : ℕ) → a ≤ b → m ≤ length fs → ((k : ℕ) → k < m → get_or fs k 0 < a)
+    → IsPartedAt (λ k. get_or fs k 0 < b) (λ k. b ≤ get_or fs k 0) (length fs) r → m ≤ r
+no_fewer fs a b m r le within first parted = elim (cases_lt r m) [
+  | inl lt ↦
+      let less = first r lt in
+      let more = parted.after r (omega arith) (omega (arith, lt, within)) in
+      absurd (omega (arith, less, more, le))
+  | inr ge ↦ ge
+]
+
+-- a block begins where the one before it does, or behind that
+pub block_before : (t e : ℕ) → (t - 1) * 2 ^ e ≤ t * 2 ^ e
+block_before t e = mul-le (t - 1) (2 ^ e) t (2 ^ e) (omega arith) (omega arith)
 
 -- a count of networks that the ones at its sides bear out
 pub parted_by : (w : ℕ) (fs bs parents : List ℕ) (n a c : ℕ) → AreLinkedTo w fs bs parents n → length fs ≡ n → c ≤ n → (0 < c → get_or fs (c - 1) 0 < a)

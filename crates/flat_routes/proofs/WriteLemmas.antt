@@ -126,6 +126,7 @@ head_payload wide bs plan payload laid fits head =
     record {
       at = 2;
       within = omega (arith, parts);
+      early = omega arith;
       list = omega (arith, parts, fits);
       listed = record { of_kind = head.own.kind_is; inside = omega (arith, place, size, at2, cells, fits) };
       first = λ k l kind. elim (cases_lt k 1) [

@@ -1,15 +1,15 @@
 //! Whether bytes are an image, and what is wrong where they aren't.
-ghost use Rattle.std.specs.Prelude.{◌≡◌, ◌↔◌, ◌+◌, ◌*◌, ◌-◌, ◌%◌, ◌^◌, ◌<◌, ◌≤◌, IfErr, IfOk, IsOk, IsTrue, OnOk, length, slice_index};
+ghost use Rattle.std.specs.Prelude.{◌≡◌, ◌↔◌, ◌+◌, ◌*◌, ◌-◌, ◌%◌, ◌^◌, ◌<◌, ◌≤◌, ℕ, IfErr, IfOk, IsOk, IsTrue, OnOk, length, slice_index};
 ghost use Rattle.radix_keys.specs.Networks.{IsBase};
 ghost use Rattle.sorted_tables.specs.Tables.{IsPartedAt};
-ghost use Rattle.frozen_routes.specs.Routes.{IsEarlier, IsTopCell};
+ghost use Rattle.frozen_routes.specs.Routes.{IsEarlier, IsLastHolder, IsTopCell};
 ghost use Rattle.image_parts.specs.Parts.{u32_in, u64_in};
 ghost use Rattle.flat_routes.specs.Faults.{AreRowsRight, IsRouteFault, IsRowsPart};
 ghost use Rattle.flat_routes.specs.Images.{AreLinkedTo, IsImage, IsNext, IsPlanOf, cell_count, cell_in, bases, links, sizes, width};
 
 use crate::head::{Plan, mark_of, plan_of, size_of_rows};
 use crate::rows::{Cell, bits_at, bits_of, cell_at, first_at, link_at};
-use crate::search::follow_parents;
+use crate::search::{follow_on, follow_parents};
 use image_parts::{ImageError, part_at, u32_at, u64_at};
 
 /// Whether a network of so many bits begins at an address.
@@ -76,12 +76,32 @@ fn are_before(image: &[u8], wide: bool, plan: Plan, count: usize, number: u128) 
     first_at(image, wide, plan, count) >= number
 }
 
-/// Whether the cell at an index is right.
+/// The cell before that at an index, or before the first one that counts no network.
+fn cell_before(image: &[u8], wide: bool, plan: Plan, at: usize) -> Cell
+    requires plan { IsPlanOf wide image.now plan }
+    requires within { at < plan.cells }
+    requires before { 0 < at → IsTopCell plan.rest (width wide) (bases wide image.now)
+        (sizes wide image.now) (at - 1) (cell_in image.now (at - 1)) }
+    ensures count { result.count ≤ plan.rows }
+    ensures first { (k : ℕ) → k < result.count
+        → slice_index (bases wide image.now) k < (at - 1) * 2 ^ plan.rest }
+    ensures last { IsLastHolder (width wide) (bases wide image.now) (sizes wide image.now)
+        result.count ((at - 1) * 2 ^ plan.rest) result.around }
+{
+    if at == 0 {
+        return Cell::NONE;
+    }
+    cell_at(image, wide, plan, at - 1)
+}
+
+/// Whether the cell at an index is right, where the one before it is.
 fn is_cell(image: &[u8], wide: bool, plan: Plan, at: usize) -> bool
     requires plan { IsPlanOf wide image.now plan }
     requires within { at < plan.cells }
     requires linked { AreLinkedTo (width wide) (bases wide image.now) (sizes wide image.now)
         (links wide image.now) plan.rows }
+    requires before { 0 < at → IsTopCell plan.rest (width wide) (bases wide image.now)
+        (sizes wide image.now) (at - 1) (cell_in image.now (at - 1)) }
     ensures { IsTrue result ↔ IsTopCell plan.rest (width wide) (bases wide image.now)
         (sizes wide image.now) at (cell_in image.now at) }
 {
@@ -96,7 +116,8 @@ fn is_cell(image: &[u8], wide: bool, plan: Plan, at: usize) -> bool
     if !are_before(image, wide, plan, cell.count, start) {
         return false;
     }
-    follow_parents(image, wide, plan, cell.count, Cell::NONE, start) == cell.around
+    let before = cell_before(image, wide, plan, at);
+    follow_on(image, wide, plan, cell.count, before, start) == cell.around
 }
 
 /// Whether the part listed first is that of the rows.

@@ -71,8 +71,8 @@ fn put_row(out: &mut [u8], place: usize, first: u128, bits: u32, link: u32, valu
 }
 
 /// Whether bytes are an image of IPv6 networks; where they aren't, an error says why. It takes
-/// linear time, but for the climbs from each network, and from each value of the first bits, to the
-/// network around it.
+/// linear time: all climbs to the networks around rows and cells have together no more steps than
+/// there are of both.
 ///
 /// # Errors
 ///
@@ -229,9 +229,8 @@ pub fn image_len(rows: usize, payload: usize) -> Option<usize>
 
 /// Writes the image of rows, which rise by their first addresses, and of one first address by their
 /// bits, with the user's own bytes, into a buffer of `image_len` bytes or more. Of a row's link it
-/// takes no notice. Bytes behind the image stay as they are. It takes linear time, but for the
-/// climbs to the network around each network, and around each value of the first bits, and
-/// allocates nothing.
+/// takes no notice. Bytes behind the image stay as they are. It takes linear time and allocates
+/// nothing.
 ///
 /// # Errors
 ///

@@ -105,6 +105,40 @@ pub(crate) fn follow_parents(
     floor.around
 }
 
+/// The last of the first `from` networks that holds an address, where `before` says it of an
+/// address that isn't behind this one. It goes up from there: from cell to cell all steps together
+/// are no more than there are cells and networks.
+pub(crate) fn follow_on(
+    image: &[u8],
+    wide: bool,
+    plan: Plan,
+    from: usize,
+    before: Cell,
+    number: u128,
+) -> usize
+    requires plan { IsPlanOf wide image.now plan }
+    requires within { from ≤ plan.rows }
+    requires order { before.count ≤ from }
+    requires around { before.around ≤ before.count }
+    ensures within { result ≤ from }
+    ensures last { (a : ℕ) → a ≤ number
+        → AreLinkedTo (width wide) (bases wide image.now) (sizes wide image.now)
+        (links wide image.now) from
+        → ((k : ℕ) → k < before.count → slice_index (bases wide image.now) k ≤ a)
+        → ((k : ℕ) → k < from → slice_index (bases wide image.now) k ≤ number)
+        → IsLastHolder (width wide) (bases wide image.now) (sizes wide image.now) before.count
+        a before.around
+        → IsLastHolder (width wide) (bases wide image.now) (sizes wide image.now) from number
+        result }
+{
+    let around = follow_parents(image, wide, plan, before.around, Cell::NONE, number);
+    let floor = Cell {
+        count: before.count,
+        around,
+    };
+    follow_parents(image, wide, plan, from, floor, number)
+}
+
 /// The row of the longest network that holds an address, by its index and one more, or 0 where none
 /// does.
 #[inline(always)]

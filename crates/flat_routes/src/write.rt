@@ -1,5 +1,5 @@
 //! An image is written.
-ghost use Rattle.std.specs.Prelude.{◌≡◌, ◌↔◌, ◌+◌, ◌*◌, ◌^◌, ◌<◌, ◌≤◌, ℕ, Bool, IfErr, IsOk, IsTrue, MatchOption, OnErr, OnOk, length, slice_index, map as each};
+ghost use Rattle.std.specs.Prelude.{◌≡◌, ◌↔◌, ◌+◌, ◌-◌, ◌*◌, ◌^◌, ◌<◌, ◌≤◌, ℕ, Bool, IfErr, IsOk, IsTrue, MatchOption, OnErr, OnOk, length, slice_index, map as each};
 ghost use Rattle.radix_keys.specs.Networks.{Net};
 ghost use Rattle.sorted_tables.specs.Tables.{IsPartedAt};
 ghost use Rattle.frozen_routes.specs.Routes.{AreRowsInOrder, IsFirstOutOfOrder, IsFirstTop, IsLastHolder, IsTopCell, base_numbers, bit_counts};
@@ -10,7 +10,7 @@ use crate::check::{is_base, is_earlier};
 use crate::head::{Plan, mark_of, size_of_rows};
 use crate::layout::layout;
 use crate::rows::{Cell, first_at};
-use crate::search::follow_parents;
+use crate::search::{follow_on, follow_parents};
 use image_parts::{WriteError, put_bytes, put_part, put_u32, put_u64};
 
 /// A row of one of the families, by its numbers.
@@ -123,14 +123,17 @@ fn count_before(image: &[u8], wide: bool, plan: Plan, from: usize, number: u128)
     count
 }
 
-/// The cell at an index, where all rows stand and the first `from` begin before it.
-fn next_cell(image: &[u8], wide: bool, plan: Plan, at: usize, from: usize) -> Cell
+/// The cell at an index, where all rows stand, and `before` is the cell before it, or before the
+/// first one that counts no network.
+fn next_cell(image: &[u8], wide: bool, plan: Plan, at: usize, before: Cell) -> Cell
     requires plan { IsPlanOf wide image.now plan }
     requires linked { AreLinkedTo (width wide) (bases wide image.now) (sizes wide image.now)
         (links wide image.now) plan.rows }
-    requires within { from ≤ plan.rows }
-    requires before { (k : ℕ) → k < from
-        → slice_index (bases wide image.now) k < at * 2 ^ plan.rest }
+    requires within { before.count ≤ plan.rows }
+    requires first { (k : ℕ) → k < before.count
+        → slice_index (bases wide image.now) k < (at - 1) * 2 ^ plan.rest }
+    requires last { IsLastHolder (width wide) (bases wide image.now) (sizes wide image.now)
+        before.count ((at - 1) * 2 ^ plan.rest) before.around }
     ensures within { result.count ≤ plan.rows }
     ensures around_within { result.around ≤ result.count }
     ensures count { IsFirstTop plan.rest (bases wide image.now) at result.count }
@@ -144,8 +147,8 @@ fn next_cell(image: &[u8], wide: bool, plan: Plan, at: usize, from: usize) -> Ce
             around: 0,
         };
     };
-    let count = count_before(image, wide, plan, from, start);
-    let around = follow_parents(image, wide, plan, count, Cell::NONE, start);
+    let count = count_before(image, wide, plan, before.count, start);
+    let around = follow_on(image, wide, plan, count, before, start);
     Cell { count, around }
 }
 
@@ -160,10 +163,10 @@ fn put_cells(out: &mut [u8], wide: bool, plan: Plan)
     ensures change { ChangesWithin plan.cells_at (plan.cells_at + 8 * plan.cells) out.old
         out.new }
 {
-    let mut count = 0;
+    let mut before = Cell::NONE;
     for at in 0..plan.cells {
-        let cell = next_cell(out, wide, plan, at, count);
-        count = cell.count;
+        let cell = next_cell(out, wide, plan, at, before);
+        before = cell;
         put_u32(out, plan.cells_at + 8 * at, cell.count as u32);
         put_u32(out, plan.cells_at + 8 * at + 4, cell.around as u32);
     }

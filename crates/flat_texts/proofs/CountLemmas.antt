@@ -197,6 +197,7 @@ module _ (ps : List Pair) (own : List ℕ) (plan : Plan) (a b : List ℕ) (laid 
           part = record {
             at = 1;
             within = omega (arith, parts, two);
+            early = omega arith;
             list = omega (arith, parts, two, room, keys_at, long, long_c, same);
             listed = record { of_kind = entry.kind_is; inside = omega (arith, place, size, room, long, long_c, same) };
             first = λ k l kind.

@@ -92,8 +92,8 @@ fn is_count(image: &[u8], plan: Plan, at: usize) -> bool
     are_from(image, plan, count, at)
 }
 
-/// Whether bytes are an image. It takes linear time, but for the climb from each key to its longest
-/// stored prefix.
+/// Whether bytes are an image. It takes linear time: the climbs from each key to its longest stored
+/// prefix have together no more steps than there are pairs.
 ///
 /// # Errors
 ///

@@ -1,5 +1,5 @@
 //! What an image holds of a key.
-ghost use Rattle.std.specs.Prelude.{◌≡◌, ◌+◌, ◌<◌, ◌≤◌, ◌∷◌, ℕ, IfSome, drop, length, map as each, option_map, reverse, slice_get, slice_index, take};
+ghost use Rattle.std.specs.Prelude.{◌≡◌, ◌+◌, ◌<◌, ◌≤◌, ◌∷◌, ℕ, IfSome, IsNone, drop, length, map as each, option_map, reverse, slice_get, slice_index, take};
 ghost use Rattle.nibble_map.specs.Maps.{value_at};
 ghost use Rattle.nibble_map.specs.Nibbles.{nibbles};
 ghost use Rattle.radix_trie.specs.Views.{IsPairAbove, pairs_above};
@@ -102,9 +102,10 @@ pub fn nearest(image: &[u8], key: &[u8]) -> Option<usize>
 }
 
 /// The index of the pair of the longest stored key that is a prefix of the one at an index, and not
-/// this key itself, or None where there is none. It takes constant time.
+/// this key itself, or None where there is none, as past the last pair. It takes constant time.
 pub fn above(image: &[u8], at: usize) -> Option<usize>
     ensures before { IfSome result (λ k. k < at) }
+    ensures past { row_count image.now ≤ at → IsNone result }
     ensures walk { IsTextImage image.now → at < row_count image.now
         → prefixes_up nibbles (image_map image.now) (at + 1)
         ≡ pair_in image.now at ∷ prefixes_up nibbles (image_map image.now) (place_of result) }

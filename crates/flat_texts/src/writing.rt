@@ -135,8 +135,7 @@ fn put_counts(out: &mut [u8], plan: Plan)
 
 /// Writes the image of pairs whose keys rise in the order of their bytes, with the user's own
 /// bytes, into a buffer of `image_len` bytes or more. Bytes behind the image stay as they are. It
-/// takes linear time, but for the climb from each key to its longest stored prefix, and allocates
-/// nothing.
+/// takes linear time and allocates nothing.
 ///
 /// # Errors
 ///

@@ -3,9 +3,11 @@ use Rattle.std.proofs.Common.{◌≡◌, ℕ, ◌+◌, ◌^◌, ◌<◌, List, [
 use Rattle.std.specs.Int.{w32, to_le_bytes}
 use Rattle.std.specs.List.{AllZip}
 use Rattle.std.proofs.lemmas.List.{append_assoc, drop-append-le, drop_at, flat_map_more, get_or_append_left, length-append, length-drop, take-append-le, take_all, take_at}
+use Rattle.std.proofs.lemmas.List.Sums.{sum_by-cons, sum_by_push}
+use Rattle.image_parts.specs.Parts.{u32_in}
 use Rattle.image_parts.proofs.ByteLemmas.{u32_kept, u32_written}
 use Rattle.frozen_trie.specs.FileRows.{counted_bytes}
-use Rattle.flat_tries.specs.ValueImages.{IsPlacedPair, StandsCounted, laid_values}
+use Rattle.flat_tries.specs.ValueImages.{IsPlacedPair, StandsCounted, laid_values, values_size}
 
 -- digits, and bytes behind them, are these with their count
 pub added_counted : (own digits begun text put new : List ℕ) → digits ≡ to_le_bytes w32 (length text) → begun ≡ own ++ digits → new ≡ begun ++ put → put ≡ text → new ≡ own ++ counted_bytes text
@@ -52,8 +54,31 @@ module _ {K V : Type 0} (bytes : V → List ℕ) (is_item : V → Type 0) (enc :
         placed_still own more new ps qs added zip.1,
       )
 
+  -- the values of pairs take as many bytes as they have with their counts
+  pub laid_size : (own : List ℕ) (ps : List (List ℕ × ℕ)) (qs : List (K × V)) → AllZip (IsPlacedPair bytes is_item enc own) ps qs
+      → length (laid_values bytes qs) ≡ values_size own ps
+  laid_size own [] [] zip = refl
+  laid_size own [] (q ∷ qs) zip = absurd zip
+  laid_size own (p ∷ ps) [] zip = absurd zip
+  laid_size own (p ∷ ps) (q ∷ qs) zip =
+      let digits = to_le_bytes w32 (length (bytes q.1)) in
+      omega (arith, length-append (counted_bytes (bytes q.1)) (laid_values bytes qs), length-append digits (bytes q.1), zip.0.value.stands.counted, laid_size own ps qs zip.1, sum_by-cons (λ r. 4 + u32_in own r.1) p ps)
+
 -- one more value is laid behind those of the pairs before
 pub one_laid : {K V : Type 0} (bytes : V → List ℕ) (own new : List ℕ) (qs later : List (K × V)) (q : K × V) → own ≡ laid_values bytes qs → new ≡ own ++ counted_bytes (bytes q.1)
     → later ≡ qs ++ q ∷ [] → new ≡ laid_values bytes later
 one_laid bytes own new qs later q are added grown =
     added ∙ ap (λ l. l ++ counted_bytes (bytes q.1)) are ∙ flat_map_more (λ p. counted_bytes (bytes p.1)) [] qs q ∙ ap (laid_values bytes) (sym grown)
+
+-- one more value takes its bytes and the four that count them
+pub laid_longer : {K V : Type 0} (bytes : V → List ℕ) (qs later : List (K × V)) (q : K × V) → later ≡ qs ++ q ∷ []
+    → length (laid_values bytes later) ≡ length (laid_values bytes qs) + 4 + length (bytes q.1)
+laid_longer bytes qs later q grown =
+    let own = laid_values bytes qs in
+    let more = counted_bytes (bytes q.1) in
+    let digits = to_le_bytes w32 (length (bytes q.1)) in
+    omega (arith, ap length (one_laid bytes own (own ++ more) qs later q refl refl grown), length-append own more, length-append digits (bytes q.1))
+
+-- as one more pair does
+pub values_longer : (own : List ℕ) (ps more : List (List ℕ × ℕ)) (p : List ℕ × ℕ) → more ≡ ps ++ p ∷ [] → values_size own more ≡ values_size own ps + 4 + u32_in own p.1
+values_longer own ps more p grown = omega (arith, ap (values_size own) grown, sum_by_push (λ r. 4 + u32_in own r.1) ps p)

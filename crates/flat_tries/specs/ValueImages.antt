@@ -1,5 +1,5 @@
 -- Images whose numbers are the places of values among the image's own bytes.
-use Rattle.std.specs.Prelude.{◌≡◌, ℕ, ◌+◌, ◌≤◌, ◌⊎◌, List, [], Some, drop, length, slice_get, take}
+use Rattle.std.specs.Prelude.{◌≡◌, ℕ, ◌+◌, ◌<◌, ◌≤◌, ◌⊎◌, List, [], Some, drop, length, slice_get, sum_by, take}
 use Rattle.std.specs.List.{AllZip, flat_map}
 use Rattle.nibble_map.specs.Nibbles.{nibbles}
 use Rattle.frozen_trie.specs.FileRows.{counted_bytes}
@@ -21,6 +21,16 @@ pub record StandsCounted (own : List ℕ) (place : ℕ) (bytes : List ℕ) : Typ
 -- the bytes of the values of pairs, one behind another, each with their count before them
 abbrev pub laid_values : {K V : Type 0} → (V → List ℕ) → List (K × V) → List ℕ
 laid_values bytes qs = flat_map (λ q. counted_bytes (bytes q.1)) qs
+
+-- how many bytes the values at the numbers of pairs take, each with the four that count it
+abbrev pub values_size : (own : List ℕ) → List (List ℕ × ℕ) → ℕ
+values_size own ps = sum_by (λ p. 4 + u32_in own p.1) ps
+
+-- those of the pairs up to the one at i take more than the image
+pub record ShareValues (image : List ℕ) (i : ℕ) : Type 0 where
+  pub own : List ℕ
+  pub are_own : HoldsOwnBytes image own
+  pub more : length image < values_size own (take (i + 1) (image_pairs image))
 
 module _ {V : Type 0} (bytes : V → List ℕ) (is_item : V → Type 0) where
   -- a value is one of its type, and its bytes stand at the place

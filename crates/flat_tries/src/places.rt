@@ -1,5 +1,5 @@
 //! Values among the own bytes of an image, each by the place at which its bytes stand.
-ghost use Rattle.std.specs.Prelude.{◌≡◌, ◌++◌, ℕ, List, IfNone, IfOk, IfSome, MatchOption, OnOk};
+ghost use Rattle.std.specs.Prelude.{◌≡◌, ◌++◌, ◌+◌, ℕ, List, IfNone, IfOk, IfSome, MatchOption, OnOk, length};
 ghost use Rattle.frozen_trie.specs.FileRows.{counted_bytes};
 ghost use Rattle.flat_tries.specs.ValueImages.{HoldsOwnBytes, HasValueAt, IsValueAt, StandsCounted};
 
@@ -36,7 +36,8 @@ pub fn bytes_at(own: &[u8], place: u64) -> Option<&[u8]>
     Some(&own[from..from + count])
 }
 
-/// The value whose bytes stand at a place, or None where no value of the type stands there.
+/// The value whose bytes stand at a place, and how many these are with the four before them, or
+/// None where no value of the type stands there.
 ///
 /// # Errors
 ///
@@ -45,14 +46,19 @@ pub(crate) fn value_at<V: FileItem>(
     alloc: Global,
     own: &[u8],
     place: u64,
-) -> Result<Option<V>, Memory>
+) -> Result<Option<(V, usize)>, Memory>
     ensures value { IfOk result (λ found. IfSome found
-        (λ value. IsValueAt V.file_bytes V.is_item own.now place value)) }
+        (λ value. IsValueAt V.file_bytes V.is_item own.now place value.0)) }
+    ensures size { IfOk result (λ found. IfSome found
+        (λ value. value.1 ≡ 4 + length (V.file_bytes value.0))) }
     ensures malformed { IfOk result (λ found. IfNone found
         (HasValueAt V.file_bytes V.is_item own.now place → ⊥)) }
 {
-    match bytes_at(own, place) {
-        Some(bytes) => V::of_file(bytes, alloc),
+    let Some(bytes) = bytes_at(own, place) else {
+        return Ok(None);
+    };
+    match V::of_file(bytes, alloc)? {
+        Some(value) => Ok(Some((value, 4 + bytes.len()))),
         None => Ok(None),
     }
 }

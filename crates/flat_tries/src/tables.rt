@@ -80,6 +80,7 @@ pub fn from_image<K: ImageKey>(alloc: Global, image: &[u8]) -> Result<FrozenTrie
     ensures key { IfErr result (λ e. (i : ℕ) → e ≡ TrieError.Key i
         → IsForeignPair K.encoding K.is_value (image_pairs image.now) i) }
     ensures value { IfErr result (λ e. (i : ℕ) → e ≢ TrieError.Value i) }
+    ensures shared { IfErr result (λ e. (i : ℕ) → e ≢ TrieError.Shared i) }
 {
     match check(image) {
         Ok(()) => {}

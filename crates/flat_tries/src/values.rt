@@ -1,10 +1,10 @@
 //! Images of frozen tries whose values are texts or other bytes, and such frozen tries of images.
-ghost use Rattle.std.specs.Prelude.{◌≡◌, [], ℕ, IfErr, IfOk};
+ghost use Rattle.std.specs.Prelude.{◌≡◌, ◌≤◌, [], ℕ, IfErr, IfOk, length};
 ghost use Rattle.radix_trie.specs.Views.{pairs_below};
 ghost use Rattle.image_parts.specs.Parts.{HoldsPayload};
 ghost use Rattle.flat_texts.specs.TextImages.{IsImageFault, IsTextImage, image_pairs};
 ghost use Rattle.flat_tries.specs.TrieImages.{HasOddKey, IsForeignPair};
-ghost use Rattle.flat_tries.specs.ValueImages.{HoldsValues, LacksValue, laid_values};
+ghost use Rattle.flat_tries.specs.ValueImages.{HoldsValues, LacksValue, ShareValues, laid_values};
 
 use crate::errors::TrieError;
 use crate::keys::ImageKey;
@@ -61,13 +61,15 @@ pub fn to_image_of_values<K: TrieKey + Drop, V: FileItem + Drop>(
 }
 
 /// The frozen trie of the pairs of an image: of each pair the key whose encoding has these bytes,
-/// with the value whose bytes stand at the pair's number among the image's own.
+/// with the value whose bytes stand at the pair's number among the image's own. Pairs may share the
+/// bytes of a value, which is made for each of them, but all values together take no more bytes
+/// than the image.
 ///
 /// # Errors
 ///
 /// The bytes are no image; or those of a pair are the encoding of no key of the type, or its number
-/// leads to no value of the type; or an allocation fails, or the encodings take more bytes than
-/// those of a frozen trie may.
+/// leads to no value of the type; or the values take more bytes than the image; or an allocation
+/// fails, or the encodings take more bytes than those of a frozen trie may.
 pub fn from_image_of_values<K: ImageKey, V: FileItem + Drop>(
     alloc: Global,
     image: &[u8],
@@ -81,12 +83,17 @@ pub fn from_image_of_values<K: ImageKey, V: FileItem + Drop>(
         → IsForeignPair K.encoding K.is_value (image_pairs image.now) i) }
     ensures value { IfErr result (λ e. (i : ℕ) → e ≡ TrieError.Value i
         → LacksValue V.file_bytes V.is_item image.now i) }
+    ensures bounded { IfOk result (λ trie.
+        length (laid_values V.file_bytes (pairs_below trie [])) ≤ length image.now) }
+    ensures shared { IfErr result (λ e. (i : ℕ) → e ≡ TrieError.Shared i
+        → ShareValues image.now i) }
 {
     match check(image) {
         Ok(()) => {}
         Err(why) => return Err(TrieError::Image(why)),
     }
     let own = own_bytes(image);
+    let mut left = image.len();
     let mut trie = FrozenTrie::new(alloc);
     for at in 0..len(image) {
         let Some(pair) = nth(image, at) else {
@@ -97,11 +104,15 @@ pub fn from_image_of_values<K: ImageKey, V: FileItem + Drop>(
             Ok(None) => return Err(TrieError::Key(at)),
             Err(_) => return Err(TrieError::Memory),
         };
-        let value = match value_at(alloc, own, pair.value) {
-            Ok(Some(value)) => value,
+        let (value, size) = match value_at(alloc, own, pair.value) {
+            Ok(Some(found)) => found,
             Ok(None) => return Err(TrieError::Value(at)),
             Err(_) => return Err(TrieError::Memory),
         };
+        if size > left {
+            return Err(TrieError::Shared(at));
+        }
+        left -= size;
         match trie.push(key, value) {
             Ok(()) => {}
             Err(_) => return Err(TrieError::Memory),

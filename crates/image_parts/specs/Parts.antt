@@ -42,11 +42,12 @@ pub record IsEntry (bs : List ℕ) (a kind detail place size : ℕ) : Type 0 whe
   pub place_is : u64_in bs (a + 8) ≡ place
   pub size_is : u64_in bs (a + 16) ≡ size
 
--- the user's own bytes are so many from a place on: the first listed part of kind 3 says so, and lies inside the bytes,
--- as the list does
+-- the user's own bytes are so many from a place on: the first of the first 64 listed parts that is of kind 3 says so, and
+-- lies inside the bytes, as the list does
 pub record IsPayload (bs : List ℕ) (place size : ℕ) : Type 0 where
   pub at : ℕ
   pub within : at < part_count bs
+  pub early : at < 64
   pub list : 16 + 24 * part_count bs ≤ length bs
   pub listed : IsListed bs (16 + 24 * at) 3
   pub first : (k : ℕ) → k < at → u32_in bs (16 + 24 * k) ≡ 3 → ⊥

@@ -22,9 +22,13 @@ pub fn part_at(image: &[u8], entry: usize, kind: u32) -> Option<(usize, usize)>
     Some((place, size))
 }
 
-/// The place and the length in bytes of the user's own bytes: of the first listed part of kind 3.
-/// It is None where there is none, where this part lies outside the bytes, and where the list does.
-/// Images of all kinds have such a list, and no mark is tested.
+/// Among how many of the listed parts the user's own bytes are looked for.
+const MOST: usize = 64;
+
+/// The place and the length in bytes of the user's own bytes: of the first part of kind 3 among the
+/// first 64 that are listed, so it takes constant time. It is None where there is none, where this
+/// part lies outside the bytes, and where the list does. Images of all kinds have such a list, and
+/// no mark is tested.
 pub fn payload(image: &[u8]) -> Option<(usize, usize)>
     ensures part { MatchOption result ((place size : ℕ) → IsPayload image.now place size → ⊥)
         (λ part. IsPayload image.now part.0 part.1) }
@@ -37,7 +41,7 @@ pub fn payload(image: &[u8]) -> Option<(usize, usize)>
     if 16 + 24 * parts > image.len() {
         return None;
     }
-    for i in 0..parts {
+    for i in 0..parts.min(MOST) {
         if u32_at(image, 16 + 24 * i) == 3 {
             return part_at(image, 16 + 24 * i, 3);
         }

@@ -4,10 +4,10 @@ ghost use Rattle.std.specs.List.{filter};
 ghost use Rattle.radix_keys.specs.Networks.{Net};
 ghost use Rattle.image_parts.specs.Parts.{HoldsPayload, row_count};
 ghost use Rattle.frozen_routes.specs.Routes.{IsLongestRow, IsOwnRow, is_inside};
-ghost use Rattle.flat_routes.specs.Written.{CanWrite, ChangesWithin, image_size};
+ghost use Rattle.flat_routes.specs.Written.{CanWrite, ChangesWithin, IsWriteFault, image_size};
 ghost use Rattle.flat_routes.specs.Faults.{IsRouteFault};
-ghost use Rattle.flat_routes.specs.Images.{IsImage, first_in, found_row, image_rows, network, octet_number, of_ipv6, row6_of};
-ghost use Rattle.nifazombi_c.specs.Results.{told_error};
+ghost use Rattle.flat_routes.specs.Images.{IsImage, first_in, found_row, image_rows, link_in, network, octet_number, of_ipv6, row6_of};
+ghost use Rattle.nifazombi_c.specs.Results.{told_error, told_write};
 
 use crate::results::{Span, code_of, status_of};
 use flat_routes::ipv6::{self, Row};
@@ -38,6 +38,7 @@ pub extern "C" fn nifazombi_ipv6_row_at(image: &[u8], at: usize, row: &mut Row) 
         → slice_get (image_rows of_ipv6 image.now) at ≡ Some (row6_of row.new) }
     ensures none { IsFalse result → IsImage of_ipv6 image.now
         → slice_get (image_rows of_ipv6 image.now) at ≡ None }
+    ensures link { IsTrue result → row.new.link ≡ link_in of_ipv6 image.now at }
     ensures unchanged { IsFalse result → row.new ≡ row.old }
 {
     let Some(found) = ipv6::row_at(image, at) else {
@@ -117,6 +118,7 @@ pub extern "C" fn nifazombi_ipv6_below(image: &[u8], first: &[u8; 16], bits: u32
 #[unsafe(no_mangle)]
 pub extern "C" fn nifazombi_ipv6_above(image: &[u8], at: usize) -> usize
     ensures within { result ≤ at }
+    ensures past { row_count image.now ≤ at → result ≡ 0 }
     ensures row { IsImage of_ipv6 image.now → at < row_count image.now
         → IsLongestRow 128 (λ n. n) (take at (image_rows of_ipv6 image.now))
         (first_in of_ipv6 image.now at) (found_row of_ipv6 image.now result) }
@@ -128,11 +130,13 @@ pub extern "C" fn nifazombi_ipv6_above(image: &[u8], at: usize) -> usize
 }
 
 /// How many bytes the image of so many rows takes, with so many bytes of the user's own, or 0 of
-/// 2^32 rows or more.
+/// 2^32 rows or more, and where these are 2^64 bytes or more.
 #[unsafe(no_mangle)]
 pub extern "C" fn nifazombi_ipv6_image_len(rows: usize, payload: usize) -> usize
-    ensures { rows < 2 ^ 32 → image_size of_ipv6 rows payload < 2 ^ 64
+    ensures len { rows < 2 ^ 32 → image_size of_ipv6 rows payload < 2 ^ 64
         → result ≡ image_size of_ipv6 rows payload }
+    ensures none { (2 ^ 32 ≤ rows) ⊎ (2 ^ 64 ≤ image_size of_ipv6 rows payload)
+        → result ≡ 0 }
 {
     match ipv6::image_len(rows, payload) {
         Some(len) => len,
@@ -152,6 +156,8 @@ pub extern "C" fn nifazombi_ipv6_write(
 ) -> u32
     ensures ok { (result ≡ 0) ↔ CanWrite of_ipv6 (each row6_of rows.now) (length payload.now)
         (length out.old) }
+    ensures fault { (result ≡ 0) ⊎ IsSomeAnd (told_write result at.new)
+        (IsWriteFault of_ipv6 (each row6_of rows.now) (length payload.now) (length out.old)) }
     ensures image { result ≡ 0 → IsImage of_ipv6 out.new }
     ensures rows { result ≡ 0 → image_rows of_ipv6 out.new ≡ each row6_of rows.now }
     ensures payload { result ≡ 0 → HoldsPayload out.new payload.now }

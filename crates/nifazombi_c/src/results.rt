@@ -1,7 +1,7 @@
 //! What calls put into their callers' memory, and what the numbers mean that they return.
 ghost use Rattle.std.specs.Prelude.{◌≡◌, ◌↔◌, ◌+◌, ◌≤◌, ℕ, IfErr, IsOk, Some, IsFalse, IsTrue, MatchOption, length};
 ghost use Rattle.image_parts.specs.Parts.{IsPayload};
-ghost use Rattle.nifazombi_c.specs.Results.{told_error};
+ghost use Rattle.nifazombi_c.specs.Results.{told_error, told_write};
 
 use image_parts::{ImageError, WriteError, payload};
 
@@ -14,7 +14,8 @@ pub const NIFAZOMBI_ERROR_MARK: u32 = 2;
 /// The image is of another version.
 pub const NIFAZOMBI_ERROR_VERSION: u32 = 3;
 
-/// The part listed at this index is missing, lies outside the bytes, or has another size.
+/// The part listed at this index is missing or of another kind, lies outside the bytes, or has
+/// another size or detail.
 pub const NIFAZOMBI_ERROR_PART: u32 = 4;
 
 /// The row at this index isn't valid, doesn't come after the row before it, or has another link.
@@ -66,7 +67,8 @@ pub(crate) fn code_of(found: Result<(), ImageError>, at: &mut usize) -> u32
 /// The number of what a write has come to, 0 where the image is written. Where it tells an index,
 /// that is put into `at`.
 pub(crate) fn status_of(written: Result<(), WriteError>, at: &mut usize) -> u32
-    ensures { (result ≡ 0) ↔ IsOk written }
+    ensures ok { (result ≡ 0) ↔ IsOk written }
+    ensures error { IfErr written (λ e. told_write result at.new ≡ Some e) }
 {
     match written {
         Ok(()) => 0,

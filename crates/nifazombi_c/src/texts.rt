@@ -1,14 +1,14 @@
 //! Images of maps from byte strings to numbers of 64 bits.
-ghost use Rattle.std.specs.Prelude.{◌≡◌, ◌↔◌, ◌⊎◌, ◌<◌, ◌≤◌, ◌+◌, ◌^◌, ◌∷◌, ℕ, IsFalse, IsSomeAnd, IsTrue, None, Some, [], drop, length, map as each, option_map, reverse, slice_get, slice_index, take};
+ghost use Rattle.std.specs.Prelude.{◌≡◌, ◌↔◌, ◌⊎◌, ◌<◌, ◌≤◌, ◌+◌, ◌^◌, ◌∷◌, ℕ, IfSome, IsFalse, IsSomeAnd, IsTrue, None, Some, [], drop, length, map as each, option_map, reverse, slice_get, slice_index, take};
 ghost use Rattle.std.specs.declared.ops.Bound.TheVariants.{Excluded, Included};
 ghost use Rattle.nibble_map.specs.Maps.{value_at};
 ghost use Rattle.nibble_map.specs.Nibbles.{nibbles};
 ghost use Rattle.radix_trie.specs.Views.{IsPairAbove, pairs_above, pairs_before, pairs_below, pairs_within};
 ghost use Rattle.frozen_trie.specs.Frozen.{prefixes_up};
 ghost use Rattle.image_parts.specs.Parts.{HoldsPayload, row_count};
-ghost use Rattle.flat_texts.specs.TextImages.{IsImageFault, IsTextImage, given_pair, image_map, image_pairs, pair_in, placed_pair, stored_value};
-ghost use Rattle.flat_texts.specs.TextWritten.{CanWriteTexts, keys_len, text_image_size};
-ghost use Rattle.nifazombi_c.specs.Results.{told_error, told_index};
+ghost use Rattle.flat_texts.specs.TextImages.{IsImageFault, IsTextImage, given_pair, image_map, image_pairs, key_in, pair_in, placed_pair, stored_value};
+ghost use Rattle.flat_texts.specs.TextWritten.{CanWriteTexts, IsTextWriteFault, keys_len, text_image_size};
+ghost use Rattle.nifazombi_c.specs.Results.{told_error, told_index, told_write};
 
 use crate::results::{Span, code_of, status_of};
 use flat_texts::{Pair, Place};
@@ -53,6 +53,8 @@ pub extern "C" fn nifazombi_texts_pair_at(image: &[u8], at: usize, place: &mut P
 #[unsafe(no_mangle)]
 pub extern "C" fn nifazombi_texts_get(image: &[u8], key: &[u8]) -> usize
     ensures within { result ≤ row_count image.now }
+    ensures key { IsTextImage image.now
+        → IfSome (told_index result) (λ at. key_in image.now at ≡ key.now) }
     ensures value { IsTextImage image.now → option_map (stored_value image.now) (told_index result)
         ≡ value_at (image_map image.now) (nibbles key.now) }
 {
@@ -81,6 +83,7 @@ pub extern "C" fn nifazombi_texts_nearest(image: &[u8], key: &[u8]) -> usize
 #[unsafe(no_mangle)]
 pub extern "C" fn nifazombi_texts_above(image: &[u8], at: usize) -> usize
     ensures within { result ≤ at }
+    ensures past { row_count image.now ≤ at → result ≡ 0 }
     ensures walk { IsTextImage image.now → at < row_count image.now
         → prefixes_up nibbles (image_map image.now) (at + 1)
         ≡ pair_in image.now at ∷ prefixes_up nibbles (image_map image.now) result }
@@ -99,6 +102,8 @@ pub extern "C" fn nifazombi_texts_prefixes(image: &[u8], key: &[u8], found: &mut
     ensures pairs { IsTextImage image.now
         → each (pair_in image.now) (take result found.new)
         ≡ take (length found.new) (reverse (pairs_above (image_map image.now) (nibbles key.now))) }
+    ensures rest { (k : ℕ) → result ≤ k
+        → slice_index found.new k ≡ slice_index found.old k }
 {
     flat_texts::prefixes(image, key, found)
 }
@@ -139,12 +144,14 @@ pub extern "C" fn nifazombi_texts_between(image: &[u8], from: &[u8], to: &[u8], 
 }
 
 /// How many bytes the image of pairs takes, with so many bytes of the user's own, or 0 of 2^32
-/// pairs or more, or as many bytes of keys.
+/// pairs or more, or as many bytes of keys, and where these are 2^64 bytes or more.
 #[unsafe(no_mangle)]
 pub extern "C" fn nifazombi_texts_image_len(pairs: &[Pair<'_>], payload: usize) -> usize
-    ensures { length pairs.now < 2 ^ 32 → keys_len pairs.now < 2 ^ 32
+    ensures len { length pairs.now < 2 ^ 32 → keys_len pairs.now < 2 ^ 32
         → text_image_size pairs.now payload < 2 ^ 64
         → result ≡ text_image_size pairs.now payload }
+    ensures none { (2 ^ 32 ≤ length pairs.now) ⊎ (2 ^ 32 ≤ keys_len pairs.now)
+        ⊎ (2 ^ 64 ≤ text_image_size pairs.now payload) → result ≡ 0 }
 {
     match flat_texts::image_len(pairs, payload) {
         Some(len) => len,
@@ -164,6 +171,8 @@ pub extern "C" fn nifazombi_texts_write(
     at: &mut usize,
 ) -> u32
     ensures ok { (result ≡ 0) ↔ CanWriteTexts pairs.now (length payload.now) (length out.old) }
+    ensures fault { (result ≡ 0) ⊎ IsSomeAnd (told_write result at.new)
+        (IsTextWriteFault pairs.now (length payload.now) (length out.old)) }
     ensures image { result ≡ 0 → IsTextImage out.new }
     ensures pairs { result ≡ 0 → image_pairs out.new ≡ each given_pair pairs.now }
     ensures payload { result ≡ 0 → HoldsPayload out.new payload.now }

@@ -181,6 +181,14 @@ fn payloads(rt: HostRuntime) {
     assert!(rt; payload(&IPV6).is_none() && payload(&[]).is_none());
     assert!(rt; payload(&spoilt(40, 3)) == Some((205, 72)));
     assert!(rt; payload(&spoilt(79, 1)).is_none());
+    // Of 65 listed parts, none with a byte, the last alone is of kind 3, and then the one before it
+    // too.
+    let mut many = [0u8; 16 + 24 * 65];
+    many[12] = 65;
+    many[16 + 24 * 64] = 3;
+    assert!(rt; payload(&many).is_none());
+    many[16 + 24 * 63] = 3;
+    assert!(rt; payload(&many) == Some((0, 0)));
 }
 
 #[test]

@@ -176,3 +176,27 @@ fn bytes_of_no_value(rt: HostRuntime) {
     assert!(rt; fault_of_value::<Vec<u8>>(rt.alloc(), b".\x01\0\0\0\xFF") == Some(None));
     assert!(rt; fault_of_value::<String>(rt.alloc(), b".\x01\0\0\0a") == Some(None));
 }
+
+/// The error of the image of texts that all have the number 0, where one text of so many bytes
+/// stands among the image's own.
+fn fault_of_shared(alloc: Global, keys: &[&str], len: u8) -> Option<Option<TrieError>> {
+    let mut trie = FrozenTrie::new(alloc);
+    for key in keys {
+        trie.push(String::from_str(alloc, key).ok()?, 0u64).ok()?;
+    }
+    let mut own = [b'a'; 259];
+    own[..4].copy_from_slice(&u32::from(len).to_le_bytes());
+    let image = to_image(alloc, &trie, own.get(..4 + usize::from(len))?).ok()?;
+    Some(from_image_of_values::<String, String>(alloc, &image).err())
+}
+
+#[test]
+fn values_that_are_shared(rt: HostRuntime) {
+    // The image of two pairs takes 114 bytes and those of the value, of which two may be no more.
+    assert!(rt; fault_of_shared(rt.alloc(), &["a", "b"], 110) == Some(None));
+    assert!(rt; fault_of_shared(rt.alloc(), &["a", "b"], 111) == Some(Some(TrieError::Shared(1))));
+    assert!(rt; fault_of_shared(rt.alloc(), &["a", "b", "c"], 16) == Some(None));
+    assert!(rt;
+        fault_of_shared(rt.alloc(), &["a", "b", "c"], 255) == Some(Some(TrieError::Shared(1)))
+    );
+}

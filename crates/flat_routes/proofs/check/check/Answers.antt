@@ -1,4 +1,4 @@
-use Rattle.std.proofs.Common.{◌≡◌, ◌≤◌, inl, inr, Result, Ok, Err, IsOk, IsErr, length, refl, arith, subst, sym}
+use Rattle.std.proofs.Common.{◌≡◌, ◌-◌, ◌≤◌, inl, inr, Result, Ok, Err, IsOk, IsErr, length, refl, arith, subst, sym}
 use Rattle.image_parts.specs.declared.errors.ImageError.TheVariants.{Row}
 use Rattle.std.proofs.lemmas.Bool.{cases_lt}
 use Rattle.frozen_routes.specs.Routes.{IsTopCell}
@@ -43,6 +43,13 @@ returns-then-not-is_cell-clause-image c = (
       let no = c.if-not-is_cell.true in
       cc (yes, no),
 )
+
+pub is_cell-requires-clause-before : goal.is_cell-requires-clause-before
+is_cell-requires-clause-before c = λ some.
+    let bytes = c.args.image.now in
+    let t = c.loop-first.first - 1 in
+    subst (λ e. IsTopCell e (width c.args.wide) (bases c.args.wide bytes) (sizes c.args.wide bytes) t (cell_in bytes t)) (sym c.in_ok-plan.ensures.plan.rest)
+    (c.loop-first.invariant t (omega (arith, some)))
 
 pub loop-first-preserved : goal.loop-first-preserved
 loop-first-preserved c = λ t l. elim (cases_lt t c.loop-first.first) [

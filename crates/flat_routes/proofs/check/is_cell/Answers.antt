@@ -1,10 +1,10 @@
-use Rattle.std.proofs.Common.{◌≡◌, ◌*◌, ◌^◌, ◌<◌, ◌≤◌, inl, inr, ap, length, arith, one-mul, subst, sym, ◌∙◌}
+use Rattle.std.proofs.Common.{◌≡◌, ◌-◌, ◌*◌, ◌^◌, ◌<◌, ◌≤◌, inl, inr, ap, length, arith, one-mul, subst, sym, ◌∙◌}
 use Rattle.std.proofs.lemmas.Bool.{cases_lt, eq-eqb, eqb-true}
 use Rattle.std.proofs.lemmas.Nat.{shl_whole}
 use Rattle.frozen_routes.specs.Routes.{IsLastHolder}
 use Rattle.frozen_routes.proofs.RouteLemmas.Directory.{none_behind}
 use Rattle.flat_routes.specs.Images.{cell_in, bases, links, sizes, width}
-use Rattle.flat_routes.proofs.ImageLemmas.{all_rise, length-firsts, linked_less, none_of_none, one_last, width_most}
+use Rattle.flat_routes.proofs.ImageLemmas.{all_rise, block_before, length-firsts, linked_less, no_fewer, one_last, width_most}
 use Rattle.flat_routes.proofs.check.is_cell.Goals as goal
 
 pub returns-then-cell-plan : goal.returns-then-cell-plan
@@ -63,6 +63,19 @@ returns-else-cell-plan-2 c =
           absurd (omega (arith, few, le, behind)),
     )
 
+pub follow_on-requires-clause-order : goal.follow_on-requires-clause-order
+follow_on-requires-clause-order c =
+    let e = c.args.plan.rest in
+    let all = length-firsts c.args.wide c.args.image.now in
+    let whole = ap (λ n. c.args.at * n) (shl_whole 1 1 e 128 (omega arith) (omega (arith, c.requires.plan.rest, c.requires.plan.head.shift)) ∙ one-mul (2 ^ e)) in
+    let start = c.in-Some.ensures.1 ∙ whole in
+    no_fewer (bases c.args.wide c.args.image.now) ((c.args.at - 1) * 2 ^ e) c.in-Some.start c.cell_before-before.result.count c.cell_at-cell.result.count
+    (omega (arith, block_before c.args.at e, start)) (omega (arith, c.cell_before-before.ensures.count, all, c.requires.plan.rows))
+    c.cell_before-before.ensures.first (c.are_before.ensures.0 c.if-not-are_before.false)
+
+pub follow_on-requires-clause-around : goal.follow_on-requires-clause-around
+follow_on-requires-clause-around c = c.cell_before-before.ensures.last.within
+
 pub returns : goal.returns
 returns c =
     let w = width c.args.wide in
@@ -75,11 +88,13 @@ returns c =
     let whole = ap (λ n. c.args.at * n) (shl_whole 1 1 e 128 (omega arith) (omega (arith, c.requires.plan.rest, c.requires.plan.head.shift)) ∙ one-mul (2 ^ e)) in
     let start = c.in-Some.ensures.1 ∙ whole in
     let parted = c.are_before.ensures.0 c.if-not-are_before.false in
-    let holder = c.follow_parents.ensures.last (linked_less w fs bs parents count c.args.plan.rows c.requires.linked (omega (arith, c.if-cell-plan.false)))
-    (λ k l. let less = parted.before k l in omega (arith, less)) (none_of_none w fs bs c.in-Some.start) in
-    let own = subst (λ n. IsLastHolder w fs bs n (c.args.at * 2 ^ e) c.follow_parents.result) c.cell_at-cell.ensures.count
-    (subst (λ a. IsLastHolder w fs bs count a c.follow_parents.result) start holder) in (
-      λ yes. let same : c.follow_parents.result ≡ c.cell_at-cell.result.around = eqb-true _ _ yes in record {
+    let last = (c.args.at - 1) * 2 ^ e in
+    let holder = c.follow_on.ensures.last last (omega (arith, block_before c.args.at e, start))
+    (linked_less w fs bs parents count c.args.plan.rows c.requires.linked (omega (arith, c.if-cell-plan.false)))
+    (λ k l. let less = c.cell_before-before.ensures.first k l in omega (arith, less)) (λ k l. let less = parted.before k l in omega (arith, less)) c.cell_before-before.ensures.last in
+    let own = subst (λ n. IsLastHolder w fs bs n (c.args.at * 2 ^ e) c.follow_on.result) c.cell_at-cell.ensures.count
+    (subst (λ a. IsLastHolder w fs bs count a c.follow_on.result) start holder) in (
+      λ yes. let same : c.follow_on.result ≡ c.cell_at-cell.result.around = eqb-true _ _ yes in record {
         count = record {
           within = omega (arith, parted.within, c.cell_at-cell.ensures.count);
           before = λ k l. let less = parted.before k (omega (arith, l, c.cell_at-cell.ensures.count)) in omega (arith, less, start);

@@ -28,8 +28,8 @@ pub struct Texts<'a> {
 }
 
 impl<'a> Texts<'a> {
-    /// The map in an image, which is checked whole. It takes linear time, but for the climb from each
-    /// key to its longest stored prefix, and allocates nothing.
+    /// The map in an image, which is checked whole. It takes linear time and allocates
+    /// nothing.
     ///
     /// # Errors
     ///

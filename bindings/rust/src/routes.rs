@@ -63,8 +63,7 @@ pub struct Routes<'a, A> {
 }
 
 impl<'a, A: Address> Routes<'a, A> {
-    /// The table in an image, which is checked whole. It takes linear time and
-    /// allocates nothing.
+    /// The table in an image, which is checked whole. It takes linear time and allocates nothing.
     ///
     /// # Errors
     ///

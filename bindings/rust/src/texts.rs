@@ -28,8 +28,7 @@ pub struct Texts<'a> {
 }
 
 impl<'a> Texts<'a> {
-    /// The map in an image, which is checked whole. It takes linear time and allocates
-    /// nothing.
+    /// The map in an image, which is checked whole. It takes linear time and allocates nothing.
     ///
     /// # Errors
     ///

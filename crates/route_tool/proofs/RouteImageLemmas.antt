@@ -1,29 +1,57 @@
 -- The places of hops in an image, and what is read there.
-use Rattle.std.proofs.Common.{◌≡◌, ◌∙◌, ◌==◌, inl, inr, ℕ, suc, ◌+◌, ◌-◌, ◌<◌, ◌≤◌, false, List, [], ◌∷◌, ◌++◌, length, drop, take, get_or, slice_get, map as each, Some, None, arith, refl, sym, ap, subst, Bool, Result, Ok, Err, IfErr, IfOk, option_map, not, ◌^◌}
+use Rattle.std.proofs.Common.{◌≡◌, ◌∙◌, ◌==◌, inl, inr, ℕ, suc, ◌+◌, ◌-◌, ◌<◌, ◌≤◌, false, List, [], ◌∷◌, ◌++◌, length, drop, take, get_or, slice_get, map as each, Some, None, arith, refl, sym, ap, subst, Bool, true, cond, T, Result, Ok, Err, IfErr, IfOk, option_map, not, ◌^◌}
 use Rattle.std.specs.Borrow.{Bor}
 use Rattle.std.specs.Cmp.Lexicographic.{slice_cmp}
 use Rattle.std.specs.FinMap as map
+use Rattle.std.specs.Int.{w64}
 use Rattle.std.specs.List.{All, AllZip, flat_map}
-use Rattle.std.specs.Ordering.{nat_cmp}
+use Rattle.std.specs.Ordering.{eq_by_cmp, nat_cmp}
 use Rattle.std.proofs.lemmas.Bool.Decides.{eqb_tells}
-use Rattle.std.proofs.lemmas.Bool.{cases_lt}
+use Rattle.std.proofs.lemmas.Bool.{cases_lt, eqb-true}
+use Rattle.std.proofs.lemmas.Cmp.{nat_list_cmp_total}
 use Rattle.std.proofs.lemmas.List.Elements.{All-cons, All-nil, All-head, All-tail}
 use Rattle.std.proofs.lemmas.List.{append_assoc, drop-append-le, drop_at, get_or_append_left, length-append, length-map, length-drop, get_or-map, get_or_push}
 use Rattle.std.proofs.lemmas.Option.{slice_get_read}
 use Rattle.flat_routes.specs.Images.{numbered_row}
 use Rattle.flat_routes.specs.Written.{IsImageOf}
+use Rattle.nibble_map.proofs.ListLemmas.Sorted.{tied_lists_equal}
+use Rattle.nibble_map.proofs.MapLemmas.Bridge.{equal_by_test}
 use Rattle.nibble_map.proofs.MapLemmas.Edits.{same_Some}
 use Rattle.nibble_map.specs.Lists.{IsPrefix}
-use Rattle.nibble_map.specs.Maps.{value_at}
+use Rattle.nibble_map.specs.Maps.{PairMap, value_at}
 use Rattle.nibble_map.specs.Nibbles.{nibbles}
+use Rattle.radix_keys.specs.Distinct.{unsigned_key-distinct}
+use Rattle.radix_keys.specs.Integers.{unsigned_key}
 use Rattle.radix_keys.specs.Networks.{Net}
 use Rattle.route_tool.proofs.AggregateLemmas.{rows_more, zip_more}
 use Rattle.route_tool.proofs.LoadLemmas.{part_before}
 use Rattle.route_tool.proofs.NumberLemmas.{number_among}
 use Rattle.route_tool.specs.Loads.{lines_in}
 use Rattle.route_tool.specs.Numbers.{Numbers, IsNumberOf}
-use Rattle.route_tool.specs.RouteImages.{AreOpened, IsLineStart, IsHopAt, HasHopAt, IsFirstHopless, IsOpenedOf, IsLineHop, IsWrittenAt, IsWrittenRow, AreLaidAt, AreTooMany, AreTooLong, hops_size}
+use Rattle.route_tool.specs.RouteImages.{AreHopsOf, AreOpened, IsLineStart, IsHopAt, HasHopAt, IsFirstHopless, IsOpenedOf, IsLineHop, IsWrittenAt, IsWrittenRow, AreLaidAt, AreTooMany, AreTooLong, hops_size}
 use Rattle.route_tool.specs.Routes.{Route}
+
+-- no hops have been made
+pub no_hops : (own : List ℕ) (m : PairMap ℕ (List ℕ)) → m ≡ map.empty → AreHopsOf own m
+no_hops own m empty place hop within is =
+    let both : None ≡ Some hop = sym (ap (option_map (λ p. p.1)) (map.get-empty (slice_cmp nat_cmp) (unsigned_key w64 place))) ∙ ap (λ k. value_at k (unsigned_key w64 place)) (sym empty) ∙ is in
+    cc
+
+-- one more has
+pub hops_more : (own : List ℕ) (m new : PairMap ℕ (List ℕ)) (place : ℕ) (hop : List ℕ) → place < 2 ^ 64 → IsHopAt own place hop → new ≡ map.insert m (unsigned_key w64 place) (place, hop)
+    → AreHopsOf own m → AreHopsOf own new
+hops_more own m new place hop within is stored before other found inside at = by (eq_by_cmp (slice_cmp nat_cmp) (unsigned_key w64 other) (unsigned_key w64 place)) refl
+  where
+    got : value_at new (unsigned_key w64 other) ≡ option_map (λ p. p.1) (cond (eq_by_cmp (slice_cmp nat_cmp) (unsigned_key w64 other) (unsigned_key w64 place)) (Some (place, hop)) (map.get m (unsigned_key w64 other)))
+    got = ap (λ k. value_at k (unsigned_key w64 other)) stored ∙ ap (option_map (λ p. p.1)) (map.get-insert nat_list_cmp_total m (unsigned_key w64 place) (place, hop) (unsigned_key w64 other))
+
+    by : (b : Bool) → eq_by_cmp (slice_cmp nat_cmp) (unsigned_key w64 other) (unsigned_key w64 place) ≡ b → IsHopAt own other found
+    by true t =
+        let key : unsigned_key w64 other ≡ unsigned_key w64 place = tied_lists_equal (unsigned_key w64 other) (unsigned_key w64 place) (equal_by_test _ (subst T (sym t) tt)) in
+        let same : other ≡ place = eqb-true other place (unsigned_key-distinct w64 other place inside within key) in
+        let text : hop ≡ found = same_Some hop found (sym (got ∙ ap (λ b. option_map (λ p. p.1) (cond b (Some (place, hop)) (map.get m (unsigned_key w64 other)))) t) ∙ at) in
+        subst (λ p. IsHopAt own p found) (sym same) (subst (IsHopAt own place) text is)
+    by false t = before other found inside (sym (got ∙ ap (λ b. option_map (λ p. p.1) (cond b (Some (place, hop)) (map.get m (unsigned_key w64 other)))) t) ∙ at)
 
 -- routes with their hops have hops
 pub have_hops : {A : Type 0} (number : A → ℕ) (own : List ℕ) (routes : List (Route A)) (rows : List (Net ℕ × ℕ)) → AllZip (IsOpenedOf number own) routes rows → All (λ r. HasHopAt own r.1) rows
@@ -175,10 +203,10 @@ read_there f xs i x lt at = ap f at ∙ sym (get_or-map f xs i x (f x) lt)
 module _ {A : Type 0} (number : A → ℕ) (own : List ℕ) (rows : List (Net A × ℕ)) (i : ℕ) (row : Net A × ℕ) (lt : i < length rows) (at : row ≡ get_or rows i row) (routes : List (Route A))
     (zip : AllZip (IsOpenedOf number own) routes (take i (each (numbered_row number) rows))) where
   -- one more row has its hop
-  pub one_opened : (pushed : List (Route A)) (line hop : List ℕ) → IsHopAt own row.1 line → hop ≡ line → pushed ≡ routes ++ (row.0, hop) ∷ []
+  pub one_opened : (pushed : List (Route A)) (hop : List ℕ) → IsHopAt own row.1 hop → pushed ≡ routes ++ (row.0, hop) ∷ []
       → AllZip (IsOpenedOf number own) pushed (take (i + 1) (each (numbered_row number) rows))
-  one_opened pushed line hop is same push =
-      let opened : IsOpenedOf number own (row.0, hop) (numbered_row number row) = record { base = refl; bits = refl; hop = subst (IsHopAt own row.1) (sym same) is } in
+  one_opened pushed hop is push =
+      let opened : IsOpenedOf number own (row.0, hop) (numbered_row number row) = record { base = refl; bits = refl; hop = is } in
       rows_more (IsOpenedOf number own) routes pushed (each (numbered_row number) rows) i (row.0, hop) (numbered_row number row) (omega (arith, lt, length-map rows (numbered_row number))) push zip
       (subst (IsOpenedOf number own (row.0, hop)) (read_there (numbered_row number) rows i row lt at) opened)
 

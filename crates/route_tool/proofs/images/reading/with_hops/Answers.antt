@@ -1,12 +1,24 @@
 -- One more route, or the first row with no hop.
-use Rattle.std.proofs.Common.{arith}
-use Rattle.route_tool.proofs.RouteImageLemmas.{first_hopless, one_opened}
+use Rattle.std.proofs.Common.{rules, arith, map as each, subst}
+use Rattle.std.specs.List.{AllZip}
+use Rattle.std.proofs.lemmas.List.{length-map, take_all}
+use Rattle.flat_routes.specs.Images.{numbered_row}
+use Rattle.route_tool.specs.RouteImages.{IsOpenedOf}
+use Rattle.route_tool.proofs.RouteImageLemmas.{first_hopless, no_hops, one_opened}
 use Rattle.route_tool.proofs.images.reading.with_hops.Goals as goal
 
-pub returns-in_default-hop_at-clause-fault : goal.returns-in_default-hop_at-clause-fault
-returns-in_default-hop_at-clause-fault g c =
+pub loop-i-init : goal.loop-i-init
+loop-i-init g c = record {
+  room = search rules;
+  count = search rules;
+  routes = search rules;
+  hops = no_hops c.args.own.now c.new-hops.result c.new-hops.ensures;
+}
+
+pub returns-in-Ok-None-clause-fault : goal.returns-in-Ok-None-clause-fault
+returns-in-Ok-None-clause-fault g c =
     first_hopless g.A.Address.number c.args.own.now c.args.rows.now c.loop-i.i c.index-rows-i.result c.loop-i-test.true c.index-rows-i.is c.loop-i.routes.items c.loop-i.invariant.routes
-    c.in_default-hop_at.ensures
+    c.in-Ok-None.ensures.hop
 
 pub loop-i-preserved : goal.loop-i-preserved
 loop-i-preserved g c =
@@ -15,5 +27,12 @@ loop-i-preserved g c =
       room = omega (arith, c.push_reserved.ensures.capacity, before.room);
       count = omega (arith, c.push_reserved.ensures.len, before.count);
       routes = one_opened g.A.Address.number c.args.own.now c.args.rows.now c.loop-i.i c.index-rows-i.result c.loop-i-test.true c.index-rows-i.is c.loop-i.routes.items before.routes
-          c.push_reserved.new.self.items c.in-Some.line.now c.in-Ok-new.hop c.in-Some.ensures c.in-Ok-new.ensures c.push_reserved.ensures.items;
+          c.push_reserved.new.self.items c.in-Ok-Some.hop c.in-Ok-Some.ensures.hop c.push_reserved.ensures.items;
+      hops = c.in-Ok-Some.ensures.hops;
     }
+
+pub returns-clause-routes : goal.returns-clause-routes
+returns-clause-routes g c =
+    let number = g.A.Address.number in
+    subst (AllZip (IsOpenedOf number c.args.own.now) c.loop-i.routes.items)
+    (take_all c.loop-i.i (each (numbered_row number) c.args.rows.now) (omega (arith, length-map c.args.rows.now (numbered_row number), c.loop-i-test.false))) c.loop-i.invariant.routes

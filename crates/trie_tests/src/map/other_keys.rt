@@ -50,10 +50,6 @@ fn check_borrowed(rt: &impl Abort, trie: &mut Folders) -> Result<(), Memory> {
     let bytes: &[u8] = b"/boot/lol";
     assert!(rt; trie.get(&bytes)? == Some(&2));
     assert!(rt;
-        trie.subtrie_mut(&"/boot")?
-            .is_some_and(|view| view.value() == Some(&1))
-    );
-    assert!(rt;
         trie.get_mut(&"/boot/lol")?
             .is_some_and(|number| *number == 2)
     );

@@ -77,8 +77,8 @@ fn walks_outlive_the_view(rt: HostRuntime) -> Result<(), TrieError> {
     assert!(rt; keys.as_slice() == ["ab", "abcd", "abcdef", "abcdefgh"].as_slice());
     let values: Vec<u64> = values_at(&mut trie, "ab")?.copied().collect(rt.alloc())?;
     assert!(rt; values.as_slice() == [16, 17, 18, 19].as_slice());
+    assert!(rt; written_at(&mut trie, "ab", 999)? == Some(&999));
     let mut children = children_at(&mut trie, &"abcd")?;
     assert!(rt; children.next().is_some() && children.next().is_none());
-    assert!(rt; written_at(&mut trie, "ab", 999)? == Some(&999));
     Ok(())
 }

@@ -1,9 +1,9 @@
 -- One more route, or the first row with no hop.
-use Rattle.std.proofs.Common.{rules, arith, map as each, subst}
+use Rattle.std.proofs.Common.{MatchOption, rules, arith, map as each, subst}
 use Rattle.std.specs.List.{AllZip}
 use Rattle.std.proofs.lemmas.List.{length-map, take_all}
 use Rattle.flat_routes.specs.Images.{numbered_row}
-use Rattle.route_tool.specs.RouteImages.{IsOpenedOf}
+use Rattle.route_tool.specs.RouteImages.{HasHopAt, IsHopAt, IsOpenedOf}
 use Rattle.route_tool.proofs.RouteImageLemmas.{first_hopless, no_hops, one_opened}
 use Rattle.route_tool.proofs.images.reading.with_hops.Goals as goal
 
@@ -17,17 +17,22 @@ loop-i-init g c = record {
 
 pub returns-in-Ok-None-clause-fault : goal.returns-in-Ok-None-clause-fault
 returns-in-Ok-None-clause-fault g c =
+    let own = c.args.own.now in
+    let place = c.index-rows-i.result.1 in
     first_hopless g.A.Address.number c.args.own.now c.args.rows.now c.loop-i.i c.index-rows-i.result c.loop-i-test.true c.index-rows-i.is c.loop-i.routes.items c.loop-i.invariant.routes
-    c.in-Ok-None.ensures.hop
+    (subst (λ found. MatchOption found (HasHopAt own place → ⊥) (λ hop. IsHopAt own place hop)) c.in-Ok-None.field-0-is c.in-Ok-None.ensures.hop)
 
 pub loop-i-preserved : goal.loop-i-preserved
 loop-i-preserved g c =
     let before = c.loop-i.invariant in
+    let own = c.args.own.now in
+    let place = c.index-rows-i.result.1 in
+    let is = subst (λ found. MatchOption found (HasHopAt own place → ⊥) (λ hop. IsHopAt own place hop)) c.in-Ok-Some.field-0-is c.in-Ok-Some.ensures.hop in
     record {
       room = omega (arith, c.push_reserved.ensures.capacity, before.room);
       count = omega (arith, c.push_reserved.ensures.len, before.count);
       routes = one_opened g.A.Address.number c.args.own.now c.args.rows.now c.loop-i.i c.index-rows-i.result c.loop-i-test.true c.index-rows-i.is c.loop-i.routes.items before.routes
-          c.push_reserved.new.self.items c.in-Ok-Some.hop c.in-Ok-Some.ensures.hop c.push_reserved.ensures.items;
+          c.push_reserved.new.self.items c.in-Ok-Some.hop is c.push_reserved.ensures.items;
       hops = c.in-Ok-Some.ensures.hops;
     }
 

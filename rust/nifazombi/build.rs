@@ -1,0 +1,4 @@
+//! Writes the proved libraries of `crates/` as modules of this crate.
+fn main() {
+    extract::package::build(None);
+}

@@ -1,0 +1,3 @@
+#![forbid(unsafe_code)]
+
+include!(concat!(env!("OUT_DIR"), "/modules.rs"));

@@ -1,0 +1,4 @@
+//! The proved programs.
+#![forbid(unsafe_code)]
+
+include!(concat!(env!("OUT_DIR"), "/modules.rs"));

@@ -1,0 +1,4 @@
+//! The proved tests and examples.
+#![forbid(unsafe_code)]
+
+include!(concat!(env!("OUT_DIR"), "/modules.rs"));

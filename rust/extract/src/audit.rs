@@ -44,13 +44,15 @@ pub fn account(source: &str, made: &Extracted<'_>) -> Result<Account, String> {
     }
     let mut left = BTreeMap::new();
     for (rule, gone) in &made.left {
-        let of_source = |token: &&Token<'_>| token.origin == Origin::Source && token.is_significant();
+        let of_source =
+            |token: &&Token<'_>| token.origin == Origin::Source && token.is_significant();
         for token in gone.iter().filter(of_source) {
             *left.entry((token.line, token.text.to_string())).or_insert(0_usize) += 1;
             *found.left.entry(*rule).or_default() += 1;
         }
     }
-    let mut kept = made.tokens.iter().filter(|it| it.origin == Origin::Source && it.is_significant());
+    let mut kept =
+        made.tokens.iter().filter(|it| it.origin == Origin::Source && it.is_significant());
     let mut next = kept.next();
     for token in tokens(source).iter().filter(|token| token.is_significant()) {
         if next.is_some_and(|it| it.line == token.line && it.text == token.text) {

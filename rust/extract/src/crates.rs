@@ -41,7 +41,8 @@ impl Checkout {
     /// # Errors
     /// Where there is no such crate.
     pub fn uses(&self, name: &str) -> Result<&[String], Problem> {
-        let row = self.rows.get(name).ok_or_else(|| format!("crates.txt: there is no crate {name}"))?;
+        let row =
+            self.rows.get(name).ok_or_else(|| format!("crates.txt: there is no crate {name}"))?;
         Ok(&row.uses)
     }
 

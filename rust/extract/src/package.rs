@@ -2,9 +2,9 @@
 use std::path::{Path, PathBuf};
 
 use crate::crates::{Checkout, Problem, files_below, text_of, write};
+use crate::extract;
 use crate::rules::{Place, destructors};
 use crate::tokens::tokens;
-use crate::extract;
 
 /// What stands for Rattle's own library.
 pub const STD: &str = "rattle_std";
@@ -86,7 +86,8 @@ impl<'a> Package<'a> {
     /// # Errors
     /// Where a source can't be read, or has a destructor that isn't understood.
     pub fn place(&self, name: &str) -> Result<Place, Problem> {
-        let std = if self.is_library { format!("crate::{STD}") } else { format!("::{LIBRARY}::{STD}") };
+        let std =
+            if self.is_library { format!("crate::{STD}") } else { format!("::{LIBRARY}::{STD}") };
         let home = |used: &str| match used {
             _ if self.crates.contains(&used) => format!("crate::{used}"),
             _ if INNER.contains(&used) || PUBLIC.contains(&used) => format!("::{LIBRARY}::{used}"),
@@ -133,7 +134,8 @@ fn module_file(folder: &Path, place: &Path) -> PathBuf {
 
 /// The line that declares a module.
 fn declared(name: &str, is_inner: bool, folder: &Path, is_published: bool) -> String {
-    let head = if name == STD { String::new() } else { format!("#[no_implicit_prelude]\n#[{ALLOWED}]\n") };
+    let head =
+        if name == STD { String::new() } else { format!("#[no_implicit_prelude]\n#[{ALLOWED}]\n") };
     let path = folder.join(name).join("mod.rs");
     let path = if is_published { String::new() } else { format!("#[path = {:?}]\n", path) };
     if is_inner {

@@ -15,7 +15,8 @@ pub(super) fn derives(edit: &mut Edit<'_>, _: &Place) -> Result<bool, Unknown> {
     let (is_clone, is_copy) = (words.contains(&"Clone"), words.contains(&"Copy"));
     let is_rust = |word: &&&str| **word != "Drop" && (**word != "Clone" || is_copy);
     let kept: Vec<&str> = words.iter().filter(is_rust).copied().collect();
-    let attribute = if kept.is_empty() { String::new() } else { format!("#[derive({})]", kept.join(", ")) };
+    let attribute =
+        if kept.is_empty() { String::new() } else { format!("#[derive({})]", kept.join(", ")) };
     let item = Item::at(edit, end)?;
     let clone = match (is_clone, is_copy) {
         (false, _) => String::new(),

@@ -175,7 +175,8 @@ fn take_apart(edit: &mut Edit<'_>, known: &Destructor) -> Result<(), Unknown> {
     let mut bound = Vec::new();
     for part in edit.joined(open + 1, end - 1).split(',').filter(|part| !part.trim().is_empty()) {
         let (name, pattern) = part.split_once(':').unwrap_or((part, part));
-        bound.push((name.trim().trim_start_matches("mut ").to_string(), pattern.trim().to_string()));
+        bound
+            .push((name.trim().trim_start_matches("mut ").to_string(), pattern.trim().to_string()));
     }
     let is_whole = bound.iter().map(|(name, _)| name).eq(known.fields.iter().map(|(name, _)| name));
     if edit.text(assign) != "=" || !is_whole {

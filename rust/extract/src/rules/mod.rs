@@ -20,7 +20,13 @@ pub struct Rule {
     pub what: &'static str,
     /// What it does in front of the first token.
     pub begin: Option<fn(&mut Edit<'_>)>,
-    pub apply: fn(&mut Edit<'_>, &Place) -> Result<bool, Unknown>,
+    pub apply: Apply,
+}
+
+type Apply = fn(&mut Edit<'_>, &Place) -> Result<bool, Unknown>;
+
+const fn rule(name: &'static str, what: &'static str, apply: Apply) -> Rule {
+    Rule { name, what, begin: None, apply }
 }
 
 /// What a source is told of the crate that it belongs to.
@@ -40,118 +46,74 @@ pub struct Place {
 
 /// All rules, in their order.
 pub const RULES: &[Rule] = &[
+    rule(
+        "requirements",
+        "what a public function requires becomes an `assert!`, or it is public no more",
+        requirements::requirements,
+    ),
+    rule("contracts", "`requires` and `ensures` clauses are left out", contracts::contracts),
+    rule("ghosts", "ghost imports, fields and members are left out", contracts::ghosts),
+    rule("models", "an `impl Model`, what a type stands for, is left out", contracts::models),
+    rule(
+        "attributes",
+        "attributes of proofs are left out, others are known",
+        contracts::attributes,
+    ),
+    rule(
+        "destructors",
+        "a `drop` runs on what is taken out of the value that Rust lends, where it does something",
+        destructors::rewrite,
+    ),
+    rule(
+        "derives",
+        "a derived `Clone` is Rattle's, which may fail; a derived `Drop` is Rust's own",
+        derives::derives,
+    ),
+    rule("copies", "a type that is `Copy` is Rust's `Clone` too", derives::copies),
+    rule("finals", "`final`, of a default body that none replaces, is left out", spelling::finals),
+    rule(
+        "runtimes",
+        "`main` and a test make the runtime that Rattle hands to them",
+        spelling::runtimes,
+    ),
+    rule(
+        "formatters",
+        "a formatter has a lifetime, where Rattle's has a writer",
+        spelling::formatters,
+    ),
+    rule("sizes", "a trait's types have a size, as all in Rattle", spelling::sizes),
+    rule(
+        "macros",
+        "a macro that is handed the runtime or an allocator is `rattle_std`'s; others are known",
+        spelling::macros,
+    ),
+    rule(
+        "allocations",
+        "`collect`, `replace` and `to_vec` with an allocator are calls of `rattle_std`",
+        spelling::allocations,
+    ),
+    rule("written", "`write_fmt` of a value is given its format arguments", spelling::written),
+    rule(
+        "examples",
+        "examples in documentation, which `trie_examples` runs, are no tests of rustdoc's",
+        spelling::examples,
+    ),
+    rule(
+        "exports",
+        "what other languages call is a plain function, for `nifazombi_c` to call",
+        places::exports,
+    ),
     Rule {
-        name: "requirements",
-        what: "what a public function requires becomes an `assert!`, or the function is the crate's own",
-        begin: None,
-        apply: requirements::requirements,
-    },
-    Rule {
-        name: "contracts",
-        what: "`requires` and `ensures` clauses are left out",
-        begin: None,
-        apply: contracts::contracts,
-    },
-    Rule {
-        name: "ghosts",
-        what: "ghost imports, fields and members are left out",
-        begin: None,
-        apply: contracts::ghosts,
-    },
-    Rule {
-        name: "models",
-        what: "an `impl Model`, what a type stands for, is left out",
-        begin: None,
-        apply: contracts::models,
-    },
-    Rule {
-        name: "attributes",
-        what: "attributes of proofs are left out; one that isn't known is refused",
-        begin: None,
-        apply: contracts::attributes,
-    },
-    Rule {
-        name: "destructors",
-        what: "a `drop` that only takes its value apart is left out; one that does more runs on what was taken out of the value that Rust lends",
-        begin: None,
-        apply: destructors::rewrite,
-    },
-    Rule {
-        name: "derives",
-        what: "a derived `Clone` is Rattle's, which may fail; a derived `Drop` is Rust's own",
-        begin: None,
-        apply: derives::derives,
-    },
-    Rule {
-        name: "copies",
-        what: "a type that is `Copy` is Rust's `Clone` too",
-        begin: None,
-        apply: derives::copies,
-    },
-    Rule {
-        name: "finals",
-        what: "`final`, of a default body that none replaces, is left out",
-        begin: None,
-        apply: spelling::finals,
-    },
-    Rule {
-        name: "runtimes",
-        what: "`main` and a test make the runtime that Rattle hands to them",
-        begin: None,
-        apply: spelling::runtimes,
-    },
-    Rule {
-        name: "formatters",
-        what: "a formatter has a lifetime, where Rattle's has a writer",
-        begin: None,
-        apply: spelling::formatters,
-    },
-    Rule {
-        name: "sizes",
-        what: "a trait's types have a size, as all in Rattle",
-        begin: None,
-        apply: spelling::sizes,
-    },
-    Rule {
-        name: "macros",
-        what: "a macro that takes the runtime or an allocator is the one of `rattle_std`; one that isn't known is refused",
-        begin: None,
-        apply: spelling::macros,
-    },
-    Rule {
-        name: "allocations",
-        what: "`collect`, `replace` and `to_vec`, with an allocator, are the calls of `rattle_std`",
-        begin: None,
-        apply: spelling::allocations,
-    },
-    Rule {
-        name: "written",
-        what: "`write_fmt` of a value is given its format arguments",
-        begin: None,
-        apply: spelling::written,
-    },
-    Rule {
-        name: "examples",
-        what: "an example in documentation is no test of rustdoc's: the crate `trie_examples` runs it",
-        begin: None,
-        apply: spelling::examples,
-    },
-    Rule {
-        name: "exports",
-        what: "what other languages call is a plain function, which `nifazombi_c` hands their pointers to",
-        begin: None,
-        apply: places::exports,
-    },
-    Rule {
-        name: "preludes",
-        what: "each module begins with `rattle_std`'s prelude, since it has none of Rust's",
         begin: Some(places::begin),
-        apply: places::preludes,
+        ..rule(
+            "preludes",
+            "each module begins with `rattle_std`'s prelude, and has none of Rust's",
+            places::preludes,
+        )
     },
-    Rule {
-        name: "paths",
-        what: "crates are modules of one crate, and Rattle's libraries modules of `rattle_std`",
-        begin: None,
-        apply: places::paths,
-    },
+    rule(
+        "paths",
+        "crates are modules of one crate, and Rattle's libraries modules of `rattle_std`",
+        places::paths,
+    ),
 ];

@@ -4,5 +4,5 @@
 #![deny(unsafe_op_in_unsafe_fn, clippy::undocumented_unsafe_blocks)]
 
 mod exports;
-// The crate of this name, with its contracts left out.
-pub mod nifazombi_c;
+
+include!(concat!(env!("OUT_DIR"), "/modules.rs"));

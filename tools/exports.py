@@ -5,7 +5,7 @@ import re
 from shared import text_of
 from sources import paths
 
-CRATE, HEADER, RUST = "crates/nifazombi_c", "bindings/c/nifazombi.h", "bindings/rust/src/exports.rs"
+CRATE, HEADER, RUST = "crates/nifazombi_c", "bindings/c/nifazombi.h", "rust/nifazombi_c/src/exports.rs"
 PYTHON = "bindings/python/nifazombi/_exports.py"
 # Structs that callers pass stand there, and in these sources below, by the modules of their calls.
 BELOW = {"ipv4": "crates/flat_routes/src/ipv4.rt", "ipv6": "crates/flat_routes/src/ipv6.rt",
@@ -23,10 +23,12 @@ NUMBERS = {"u8": ("uint8_t", "c_uint8"), "u32": ("uint32_t", "c_uint32"), "u64":
 HEAD = """// Made by `tools/texts --write` of the sources of crates/nifazombi_c.
 //
 // Tables in one run of bytes, searched where they lie. Each call takes any bytes whatever, ends, and reads only inside
-// them; nothing is allocated, and nothing is kept between two calls. A pointer may be anything where its length is 0, and
-// else it is never NULL, nor is one without a length, such as `at`. What a call only reads, nobody may write to during the
-// call, and what it writes to is of no use to anybody else. A list of IPv6 addresses is of arrays of 16 octets, or of
-// `struct in6_addr`, and its length is how many they are.
+// them. Nothing is kept between two calls, and nothing allocated, but in a library that Cargo built by a call that is
+// passed pairs: where there is no memory for a list of them, `nifazombi_texts_image_len` returns 0, and
+// `nifazombi_texts_write` NIFAZOMBI_ERROR_FULL. A pointer may be anything where its length is 0, and else it is never
+// NULL, nor is one without a length, such as `at`. What a call only reads, nobody may write to during the call, and
+// what it writes to is of no use to anybody else. A list of IPv6 addresses is of arrays of 16 octets, or of `struct
+// in6_addr`, and its length is how many they are.
 """
 C_HEAD = """#ifndef NIFAZOMBI_H
 #define NIFAZOMBI_H
@@ -39,31 +41,68 @@ C_HEAD = """#ifndef NIFAZOMBI_H
 extern "C" {
 #endif
 """
-# A key and a value: C has a pointer and a length for Rust's slice, borrowed as long as the pair.
-LENT = """pub(crate) struct {name}<'a> {{
-{rows}    lent: PhantomData<&'a [u8]>,
-}}
+RUST_HEAD = """//! Made by `tools/texts --write` of the sources of crates/nifazombi_c.
+//!
+//! What C calls, by the declarations of `nifazombi.h`: each export makes slices and references of
+//! its pointers, and has the extracted call of its name do the rest.
+#![allow(clippy::missing_safety_doc, reason = "the header says it of all")]
 
-impl<'a> {name}<'a> {{
-    pub(crate) fn new(key: &'a [u8], value: u64) -> Self {{
-        {name} {{
-            key: key.as_ptr(),
-            key_len: key.len(),
-            value,
-            lent: PhantomData,
-        }}
-    }}
-}}
+use crate::nifazombi_c::results::{NIFAZOMBI_ERROR_FULL, Span};
+use crate::nifazombi_c::{ipv4, ipv6, results, texts};
+use nifazombi::flat_routes::ipv4::Row as Ipv4Row;
+use nifazombi::flat_routes::ipv6::Row as Ipv6Row;
+use nifazombi::flat_texts::{Pair, Place as TextsPlace};
+use std::slice::{from_raw_parts, from_raw_parts_mut};
+
+/// A slice of C's, whose pointer may be anything where it has no elements.
+///
+/// # Safety
+///
+/// So many elements are there, and nobody writes to them meanwhile.
+unsafe fn slice<'a, T>(first: *const T, len: usize) -> &'a [T] {
+    if len == 0 {
+        return &[];
+    }
+    // SAFETY: the caller's.
+    unsafe { from_raw_parts(first, len) }
+}
+
+/// A slice of C's that is written to.
+///
+/// # Safety
+///
+/// So many elements are there, and nobody else reads or writes them meanwhile. To Rust memory of
+/// another language has some bytes, also where nothing was stored there, and any will do for `T`.
+unsafe fn slice_mut<'a, T>(first: *mut T, len: usize) -> &'a mut [T] {
+    if len == 0 {
+        return &mut [];
+    }
+    // SAFETY: the caller's.
+    unsafe { from_raw_parts_mut(first, len) }
+}
+
+/// C's pairs as Rust's, in a list of their own, since Rust doesn't say how a slice is laid out, or
+/// None where there is no memory for it.
+///
+/// # Safety
+///
+/// So many pairs are there, and the key of each, and nobody writes to them meanwhile.
+unsafe fn pairs_of<'a>(first: *const TextsPair, len: usize) -> Option<Vec<Pair<'a>>> {
+    let mut made = Vec::new();
+    made.try_reserve_exact(len).ok()?;
+    // SAFETY: the caller's.
+    made.extend(unsafe { slice(first, len) }.iter().map(|it| Pair {
+        // SAFETY: the caller's.
+        key: unsafe { slice(it.key, it.key_len) },
+        value: it.value,
+    }));
+    Some(made)
+}
 """
-RUST_HEAD = """// Made by `tools/texts --write` of the sources of crates/nifazombi_c.
-//
-// What the archive exports, and for each export a function that passes it live memory.
-//
-// SAFETY: an export asks only that a pointer and a length are those of memory that is there, and that nobody else writes
-// to meanwhile. No other module can name one, and each function below passes the pointer and the length of one slice, or a
-// reference, borrowed for the call.
-use std::marker::PhantomData;
-"""
+# Why an export may make slices and references of what it is passed.
+SAFE = "    // SAFETY: callers pass live memory, and share only what is read, as the header asks.\n"
+# What an export returns where there is no memory for a list of pairs.
+NO_MEMORY = {"usize": "0", "u32": "NIFAZOMBI_ERROR_FULL"}
 PYTHON_HEAD = """# Made by `tools/texts --write` of the sources of crates/nifazombi_c.
 from ctypes import POINTER, Structure, c_bool, c_size_t, c_uint8, c_uint32, c_uint64, c_void_p
 """
@@ -79,6 +118,7 @@ class Passed:
         self.points, self.is_written = self.inner != self.kind, self.kind.startswith("&mut ")
         self.is_slice = self.inner.startswith("[") and not OCTETS.fullmatch(self.inner)
         self.inner = self.inner[1:-1] if self.is_slice else self.inner
+        self.is_lent = "<" in self.inner
         self.octets, of = OCTETS.fullmatch(self.inner), self.inner.partition("<")[0]
         if not self.octets and of not in NUMBERS:
             home = module if (module, of) in structs else next(at for at, it in structs if it == of)
@@ -98,12 +138,16 @@ class Passed:
         return [access + text, *[f"size_t {self.name}_len"] * self.is_slice]
 
     def in_rust(self):
-        """How a declaration in Rust has it, and what is passed there."""
-        pointer = f"{self.name}: *{'mut' if self.is_written else 'const'} {self.inner}"
+        """How Rust declares it to C."""
+        pointer = f"{self.name}: *{'mut' if self.is_written else 'const'} {self.inner.partition('<')[0]}"
+        return [pointer if self.points else f"{self.name}: {self.kind}", *[f"{self.name}_len: usize"] * self.is_slice]
+
+    def made_in_rust(self):
+        """What Rust makes of what C passes. A list of pairs is one by then."""
         if self.is_slice:
-            at = f"{self.name}.as_{'mut_' if self.is_written else ''}ptr()"
-            return [(pointer, at), (f"{self.name}_len: usize", f"{self.name}.len()")]
-        return [(pointer if self.points else f"{self.name}: {self.kind}", self.name)]
+            given = f"slice{'_mut' * self.is_written}({self.name}, {self.name}_len)"
+            return f"&{self.name}" if self.is_lent else given
+        return f"&{'mut ' * self.is_written}*{self.name}" if self.points else self.name
 
     def in_python(self):
         """What ctypes calls it."""
@@ -129,7 +173,7 @@ def declared():
     constants = [it for _, text in texts for it in CONSTANT.findall(text)]
     structs = [(lines, module, name, [Passed(it, module, known) for it in FIELD.findall(rows)])
                for module, text in texts for lines, name, rows in STRUCT.findall(text)]
-    exports = [(lines, name, [Passed(it, module, known) for it in passed.split(",") if it.strip()], result)
+    exports = [(lines, module, name, [Passed(it, module, known) for it in passed.split(",") if it.strip()], result)
                for module, text in texts for lines, name, passed, result in EXPORT.findall(text)]
     return constants, structs, exports
 
@@ -153,29 +197,45 @@ def header():
     for lines, module, name, fields in structs:
         rows = "".join(f"    {row};\n" for it in fields for row in it.in_c())
         made.append(f"{comment(lines, '// ')}typedef struct {{\n{rows}}} {c_name(module, name)};\n")
-    for lines, name, passed, result in exports:
+    for lines, _, name, passed, result in exports:
         head = f"{NUMBERS[result][0] if result else 'void'} {name}"
         made.append(f"{comment(lines, '// ')}{folded(head, [', '.join(it.in_c()) for it in passed])};\n")
     return "\n".join([*made, "#ifdef __cplusplus\n}\n#endif\n\n#endif\n"])
 
 
+def rust_call(head, items, tail, most):
+    """A call as rustfmt has it: in one line where that isn't long, or with each item in a line of its own."""
+    line, margin = f"{head}({', '.join(items)}){tail}", re.match(" *", head)[0]
+    is_short = len(line) <= 100 and len(", ".join(items)) <= most
+    return line if is_short else f"{head}(\n" + "".join(f"{margin}    {it},\n" for it in items) + f"{margin}){tail}"
+
+
+def rust_export(lines, module, name, passed, result):
+    """An export for C, by the extracted call of its name."""
+    rows, back = [it for one in passed for it in one.in_rust()], f" -> {result}" if result else ""
+    made = [comment(lines, "/// "), "#[unsafe(no_mangle)]\n",
+            rust_call(f'pub unsafe extern "C" fn {name}', rows, f"{back} {{", 100), "\n"]
+    for it in (it for it in passed if it.is_lent):
+        made.append(f"{SAFE}    let Some({it.name}) = (unsafe {{ pairs_of({it.name}, {it.name}_len) }}) else {{\n"
+                    f"        return {NO_MEMORY[result]};\n    }};\n")
+    given = [it.made_in_rust() for it in passed]
+    if any(it.points and not it.is_lent for it in passed):
+        call = rust_call(f"    unsafe {{ {module}::{name}", given, " }", 60)
+        made += [SAFE, call if "\n" not in call else
+                 f"    unsafe {{\n{rust_call(f'        {module}::{name}', given, '', 60)}\n    }}"]
+    else:
+        made.append(rust_call(f"    {module}::{name}", given, "", 60))
+    return "".join([*made, "\n}\n"])
+
+
 def rust():
-    """The declarations for Rust, and the calls behind them."""
-    (constants, structs, exports), made, safe = declared(), [], []
-    made += [f"pub(crate) const {name.removeprefix('NIFAZOMBI_')}: u32 = {number};\n" for _, name, number in constants]
+    """The exports for C as Rust, around the extracted calls."""
+    (_, structs, exports), made = declared(), []
     for lines, module, name, fields in structs:
-        own, is_lent = rust_name(module, name), any(it.is_slice for it in fields)
-        rows = [f"    {'' if it.is_slice else 'pub(crate) '}{row},\n" for it in fields for row, _ in it.in_rust()]
-        form, derived = (LENT, "") if is_lent else ("pub(crate) struct {name} {{\n{rows}}}\n", ", Default")
-        made.append(f"{comment(lines, '/// ')}#[repr(C)]\n#[derive(Clone, Copy, Debug{derived})]\n"
-                    + form.format(name=own, rows="".join(rows)))
-    for lines, name, passed, result in exports:
-        back, each = f" -> {result}" if result else "", [it for one in passed for it in one.in_rust()]
-        safe.append(f"    safe fn {name}({', '.join(it for it, _ in each)}){back};\n")
-        own, taken = name.removeprefix("nifazombi_"), ", ".join(f"{it.name}: {it.kind}" for it in passed)
-        made.append(f"{comment(lines, '/// ')}#[inline]\npub(crate) fn {own}({taken}){back} {{\n"
-                    f"    {name}({', '.join(it for _, it in each)})\n}}\n")
-    return "\n".join([RUST_HEAD, f'unsafe extern "C" {{\n{"".join(safe)}}}\n', *made])
+        if any(it.is_slice for it in fields):
+            rows = "".join(f"    pub {row},\n" for it in fields for row in it.in_rust())
+            made.append(f"{comment(lines, '/// ')}#[repr(C)]\npub struct {rust_name(module, name)} {{\n{rows}}}\n")
+    return "\n".join([RUST_HEAD, *made, *(rust_export(*it) for it in exports)])
 
 
 def python():
@@ -187,7 +247,7 @@ def python():
         rows = ", ".join(f"({it}, {kind})" for it, kind in each)
         made.append(f"\n\nclass {rust_name(module, name)}(Structure):\n    _fields_ = [{rows}]")
     made.append("\n\n# The name of each export, its result and its parameters.\nEXPORTS = [")
-    for _, name, passed, result in exports:
+    for _, _, name, passed, result in exports:
         kinds = ", ".join(kind for it in passed for kind in it.in_python())
         made.append(f'    ("{name}", {NUMBERS[result][1] if result else None}, [{kinds}]),')
     return "\n".join([*made, "]\n"])

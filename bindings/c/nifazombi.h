@@ -1,10 +1,12 @@
 // Made by `tools/texts --write` of the sources of crates/nifazombi_c.
 //
 // Tables in one run of bytes, searched where they lie. Each call takes any bytes whatever, ends, and reads only inside
-// them; nothing is allocated, and nothing is kept between two calls. A pointer may be anything where its length is 0, and
-// else it is never NULL, nor is one without a length, such as `at`. What a call only reads, nobody may write to during the
-// call, and what it writes to is of no use to anybody else. A list of IPv6 addresses is of arrays of 16 octets, or of
-// `struct in6_addr`, and its length is how many they are.
+// them. Nothing is kept between two calls, and nothing allocated, but in a library that Cargo built by a call that is
+// passed pairs: where there is no memory for a list of them, `nifazombi_texts_image_len` returns 0, and
+// `nifazombi_texts_write` NIFAZOMBI_ERROR_FULL. A pointer may be anything where its length is 0, and else it is never
+// NULL, nor is one without a length, such as `at`. What a call only reads, nobody may write to during the call, and
+// what it writes to is of no use to anybody else. A list of IPv6 addresses is of arrays of 16 octets, or of `struct
+// in6_addr`, and its length is how many they are.
 
 #ifndef NIFAZOMBI_H
 #define NIFAZOMBI_H

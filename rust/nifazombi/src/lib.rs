@@ -1,3 +1,19 @@
+#![doc = include_str!("../README.md")]
 #![forbid(unsafe_code)]
+
+#[warn(missing_docs)]
+mod error;
+#[warn(missing_docs)]
+mod family;
+mod image;
+#[warn(missing_docs)]
+mod routes;
+#[warn(missing_docs)]
+mod texts;
+
+pub use error::{ImageError, WriteError};
+pub use family::Address;
+pub use routes::{Above, Route, Routes, Rows, routes_image};
+pub use texts::{Pairs, Prefixes, Texts, texts_image};
 
 include!(concat!(env!("OUT_DIR"), "/modules.rs"));

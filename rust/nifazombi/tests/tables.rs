@@ -19,8 +19,8 @@ fn image(mark: &[u8; 8], numbers: &[u32]) -> Vec<u8> {
     mark.iter().copied().chain(numbers).collect()
 }
 
-/// 10.0.0.0/8, 10.1.0.0/16 and 192.0.2.0/24: each by its first address, its bits, the index and one more of the row of
-/// the network around it, and its value.
+/// 10.0.0.0/8, 10.1.0.0/16 and 192.0.2.0/24: each by its first address, its bits, the index and one
+/// more of the row of the network around it, and its value.
 const ROWS: [[u32; 4]; 3] = [
     [0x0a00_0000, 8, 0, 100],
     [0x0a01_0000, 16, 1, 101],
@@ -33,8 +33,8 @@ fn image_by_hand(rows: [[u32; 4]; 3]) -> Vec<u8> {
     image(b"NZIPV4.1", &[&head[..], rows.as_flattened()].concat())
 }
 
-/// The same with three cells, by an address's first bit: how many networks begin before 0, 2^31 and 2^32, and none is
-/// around these.
+/// The same with three cells, by an address's first bit: how many networks begin before 0, 2^31 and
+/// 2^32, and none is around these.
 fn image_with_cells() -> Vec<u8> {
     let head = [3, 2, 1, 0, 64, 0, 48, 0, 2, 31, 112, 0, 24, 0];
     let numbers = [&head, ROWS.as_flattened(), &[0, 0, 2, 0, 3, 0]].concat();
@@ -201,7 +201,8 @@ fn a_row_of_more_bits_than_a_byte_tells() {
     assert_eq!(routes.route_at(0), Some(route("10.0.0.0", u8::MAX, 100)));
 }
 
-/// The first of these rows that is no network, doesn't come after the one before it, or has another link.
+/// The first of these rows that is no network, doesn't come after the one before it, or has another
+/// link.
 fn first_wrong(rows: &[[u32; 4]; 3]) -> Option<usize> {
     let holds =
         |row: &[u32; 4], address: u32| row[1] == 0 || (row[0] ^ address) >> (32 - row[1]) == 0;

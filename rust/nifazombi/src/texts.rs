@@ -1,14 +1,14 @@
 //! Maps from byte strings to numbers.
 
-use crate::exports::{self, TextsPair, TextsPlace};
-use crate::image::{checked, payload, span, written};
+use crate::flat_texts::{self, Pair};
+use crate::image::{payload, range, written};
 use crate::{ImageError, WriteError};
 use std::fmt;
 use std::iter::FusedIterator;
 use std::ops::Range;
 
-/// A map from byte strings to numbers in an image, searched in place. Keys are in the order of their
-/// bytes.
+/// A map from byte strings to numbers in an image, searched in place. Keys are in the order of
+/// their bytes.
 ///
 /// ```
 /// use nifazombi::{Texts, texts_image};
@@ -34,7 +34,7 @@ impl<'a> Texts<'a> {
     ///
     /// The bytes are no image of such a map.
     pub fn new(image: &'a [u8]) -> Result<Self, ImageError> {
-        checked(|at| exports::texts_check(image, at))?;
+        flat_texts::check(image)?;
         Ok(Texts {
             image,
             own: Some(payload(image)),
@@ -49,7 +49,7 @@ impl<'a> Texts<'a> {
 
     /// The count of pairs.
     pub fn len(&self) -> usize {
-        exports::texts_len(self.image)
+        flat_texts::len(self.image)
     }
 
     /// Whether there is no pair.
@@ -60,39 +60,39 @@ impl<'a> Texts<'a> {
     /// The value of a key.
     #[inline]
     pub fn get(&self, key: impl AsRef<[u8]>) -> Option<u64> {
-        let at = exports::texts_get(self.image, key.as_ref()).checked_sub(1)?;
-        self.place(at).map(|place| place.value)
+        let at = flat_texts::get(self.image, key.as_ref())?;
+        self.nth(at).map(|(_, value)| value)
     }
 
     /// Whether a key is stored.
     #[inline]
     pub fn contains_key(&self, key: impl AsRef<[u8]>) -> bool {
-        exports::texts_get(self.image, key.as_ref()) != 0
+        flat_texts::get(self.image, key.as_ref()).is_some()
     }
 
     /// The pair of the longest stored prefix of a key, which may be the key itself.
     #[inline]
     pub fn nearest(&self, key: impl AsRef<[u8]>) -> Option<(&'a [u8], u64)> {
-        self.nth(exports::texts_nearest(self.image, key.as_ref()).checked_sub(1)?)
+        self.nth(flat_texts::nearest(self.image, key.as_ref())?)
     }
 
     /// The pairs of all stored prefixes of a key, from the longest up.
     pub fn prefixes(&self, key: impl AsRef<[u8]>) -> Prefixes<'a> {
         Prefixes {
             texts: *self,
-            next: exports::texts_nearest(self.image, key.as_ref()),
+            next: flat_texts::nearest(self.image, key.as_ref()),
         }
     }
 
     /// The pairs whose keys begin with a prefix, in order.
     pub fn below(&self, prefix: impl AsRef<[u8]>) -> Pairs<'a> {
-        let rest = span(|it| exports::texts_below(self.image, prefix.as_ref(), it));
+        let rest = range(flat_texts::below(self.image, prefix.as_ref()));
         Pairs { texts: *self, rest }
     }
 
     /// The pairs whose keys are `from` or come after it, and come before `to`, in order.
     pub fn between(&self, from: impl AsRef<[u8]>, to: impl AsRef<[u8]>) -> Pairs<'a> {
-        let rest = span(|it| exports::texts_between(self.image, from.as_ref(), to.as_ref(), it));
+        let rest = range(flat_texts::between(self.image, from.as_ref(), to.as_ref()));
         Pairs { texts: *self, rest }
     }
 
@@ -106,27 +106,18 @@ impl<'a> Texts<'a> {
 
     /// How many keys come before a key, which needn't be stored.
     pub fn rank(&self, key: impl AsRef<[u8]>) -> usize {
-        exports::texts_rank(self.image, key.as_ref())
+        flat_texts::rank(self.image, key.as_ref())
     }
 
     /// The pair at an index.
     #[inline]
     pub fn nth(&self, index: usize) -> Option<(&'a [u8], u64)> {
-        let place = self.place(index)?;
-        let key = self.image.get(place.first..)?.get(..place.len)?;
-        Some((key, place.value))
+        flat_texts::nth(self.image, index).map(|pair| (pair.key, pair.value))
     }
 
     /// The user's own bytes in the image. In bytes that weren't checked each call looks for them.
     pub fn payload(&self) -> &'a [u8] {
         self.own.unwrap_or_else(|| payload(self.image))
-    }
-
-    /// Where the key at an index lies, and its value.
-    #[inline]
-    fn place(&self, index: usize) -> Option<TextsPlace> {
-        let mut place = TextsPlace::default();
-        exports::texts_pair_at(self.image, index, &mut place).then_some(place)
     }
 }
 
@@ -205,8 +196,8 @@ impl FusedIterator for Pairs<'_> {}
 #[derive(Clone, Debug)]
 pub struct Prefixes<'a> {
     texts: Texts<'a>,
-    /// The index of the next one and one more, or 0.
-    next: usize,
+    /// The index of the next one.
+    next: Option<usize>,
 }
 
 impl<'a> Iterator for Prefixes<'a> {
@@ -214,16 +205,16 @@ impl<'a> Iterator for Prefixes<'a> {
 
     #[inline]
     fn next(&mut self) -> Option<(&'a [u8], u64)> {
-        let at = self.next.checked_sub(1)?;
-        self.next = exports::texts_above(self.texts.image, at);
+        let at = self.next?;
+        self.next = flat_texts::above(self.texts.image, at);
         self.texts.nth(at)
     }
 }
 
 impl FusedIterator for Prefixes<'_> {}
 
-/// The image of a map, by its pairs in the order of their keys, of which no two are equal, and of the
-/// user's own bytes.
+/// The image of a map, by its pairs in the order of their keys, of which no two are equal, and of
+/// the user's own bytes.
 ///
 /// # Errors
 ///
@@ -232,12 +223,11 @@ pub fn texts_image<K: AsRef<[u8]>>(
     pairs: &[(K, u64)],
     payload: &[u8],
 ) -> Result<Vec<u8>, WriteError> {
-    let pairs: Vec<_> = pairs
-        .iter()
-        .map(|(key, value)| TextsPair::new(key.as_ref(), *value))
-        .collect();
-    let len = exports::texts_image_len(&pairs, payload.len());
-    written(len, |out, at| {
-        exports::texts_write(&pairs, payload, out, at)
-    })
+    let pairs = pairs.iter().map(|(key, value)| Pair {
+        key: key.as_ref(),
+        value: *value,
+    });
+    let pairs: Vec<_> = pairs.collect();
+    let len = flat_texts::image_len(&pairs, payload.len());
+    written(len, |out| flat_texts::write(&pairs, payload, out))
 }

@@ -1,8 +1,9 @@
 //! Routing tables.
 
 use crate::family::Address;
+use crate::flat_routes::{ipv4, ipv6};
 use crate::image::payload;
-use crate::{ImageError, WriteError, exports};
+use crate::{ImageError, WriteError};
 use std::fmt;
 use std::iter::FusedIterator;
 use std::marker::PhantomData;
@@ -11,15 +12,15 @@ use std::ops::Range;
 
 /// A network and its value.
 ///
-/// Routes are ordered as the rows of an image are: by the networks' first addresses, and of one first
-/// address the wider network comes first.
+/// Routes are ordered as the rows of an image are: by the networks' first addresses, and of one
+/// first address the wider network comes first.
 #[derive(Clone, Copy, Debug, PartialEq, Eq, PartialOrd, Ord, Hash)]
 pub struct Route<A> {
     /// The network's first address.
     pub network: A,
     /// How many first bits its addresses share.
     pub bits: u8,
-    /// The network's value: a number, or a place in the user's own bytes. It is below 2^32 for IPv4.
+    /// The network's value: a number, or a place in the user's own bytes. Below 2^32 for IPv4.
     pub value: u64,
 }
 
@@ -78,6 +79,28 @@ impl<'a, A: Address> Routes<'a, A> {
 
     /// The table in bytes that were checked before. It reads nothing. Whatever the bytes are, each
     /// call is safe and returns; but what it returns means nothing where they are no image.
+    ///
+    /// A struct that keeps its image checks it once, and has its table so:
+    ///
+    /// ```
+    /// # use nifazombi::{ImageError, Routes, routes_image};
+    /// # use std::net::Ipv4Addr;
+    /// struct Table(Vec<u8>);
+    ///
+    /// impl Table {
+    ///     fn new(image: Vec<u8>) -> Result<Table, ImageError> {
+    ///         Routes::<Ipv4Addr>::new(&image)?;
+    ///         Ok(Table(image))
+    ///     }
+    ///
+    ///     fn routes(&self) -> Routes<'_, Ipv4Addr> {
+    ///         Routes::unchecked(&self.0)
+    ///     }
+    /// }
+    /// # let image = routes_image::<Ipv4Addr>(&[], b"")?;
+    /// # assert!(Table::new(image)?.routes().is_empty());
+    /// # Ok::<(), Box<dyn std::error::Error>>(())
+    /// ```
     pub const fn unchecked(image: &'a [u8]) -> Self {
         Routes {
             image,
@@ -105,7 +128,7 @@ impl<'a, A: Address> Routes<'a, A> {
     /// The index of the route that `longest_match` returns.
     #[inline]
     pub fn longest_match_index(&self, address: A) -> Option<usize> {
-        A::longest_match(self.image, address).checked_sub(1)
+        A::longest_match(self.image, address)
     }
 
     /// The route at an index.
@@ -116,11 +139,11 @@ impl<'a, A: Address> Routes<'a, A> {
 
     /// The route of this very network.
     pub fn get(&self, network: A, bits: u8) -> Option<Route<A>> {
-        self.route_at(A::get(self.image, network, bits).checked_sub(1)?)
+        self.route_at(A::get(self.image, network, bits)?)
     }
 
-    /// The routes of the networks within a network, itself among them, in order. Bits of its address
-    /// behind the shared ones don't count.
+    /// The routes of the networks within a network, itself among them, in order. Bits of its
+    /// address behind the shared ones don't count.
     pub fn below(&self, network: A, bits: u8) -> Rows<'a, A> {
         Rows {
             routes: *self,
@@ -168,7 +191,7 @@ impl Routes<'_, Ipv4Addr> {
     /// ```
     #[inline]
     pub fn longest_matches(&self, addresses: &[u32], found: &mut [u32]) -> usize {
-        exports::ipv4_longest_matches(self.image, addresses, found)
+        ipv4::longest_matches(self.image, addresses, found)
     }
 }
 
@@ -177,7 +200,7 @@ impl Routes<'_, Ipv6Addr> {
     /// index of its route and one more, or 0, into `found`. Returns how many.
     #[inline]
     pub fn longest_matches(&self, addresses: &[[u8; 16]], found: &mut [u32]) -> usize {
-        exports::ipv6_longest_matches(self.image, addresses, found)
+        ipv6::longest_matches(self.image, addresses, found)
     }
 }
 
@@ -252,8 +275,8 @@ impl<A: Address> FusedIterator for Rows<'_, A> {}
 #[derive(Clone, Debug)]
 pub struct Above<'a, A: Address> {
     routes: Routes<'a, A>,
-    /// The index of the next one and one more, or 0.
-    next: usize,
+    /// The index of the next one.
+    next: Option<usize>,
 }
 
 impl<A: Address> Iterator for Above<'_, A> {
@@ -261,7 +284,7 @@ impl<A: Address> Iterator for Above<'_, A> {
 
     #[inline]
     fn next(&mut self) -> Option<Route<A>> {
-        let at = self.next.checked_sub(1)?;
+        let at = self.next?;
         self.next = A::above(self.routes.image, at);
         self.routes.route_at(at)
     }

@@ -30,8 +30,10 @@ pub const PUBLIC: [&str; 14] = [
     "flat_texts",
     "flat_tries",
 ];
-/// What generated text may do that written text may not.
-const ALLOWED: &str = "allow(dead_code, unused_imports, unused_mut, unused_variables)";
+/// What of the text that was proved is no matter of rustc's, and what of Rust it may be too new for.
+const LINTS: &str = "#[allow(clippy::all, dead_code, unused_imports, unused_mut, unused_variables)]
+#[warn(clippy::incompatible_msrv)]
+";
 
 /// Crates that become modules of one package.
 pub struct Package<'a> {
@@ -134,8 +136,8 @@ fn module_file(folder: &Path, place: &Path) -> PathBuf {
 
 /// The line that declares a module.
 fn declared(name: &str, is_inner: bool, folder: &Path, is_published: bool) -> String {
-    let head =
-        if name == STD { String::new() } else { format!("#[no_implicit_prelude]\n#[{ALLOWED}]\n") };
+    let prelude = if name == STD { "" } else { "#[no_implicit_prelude]\n" };
+    let head = format!("{prelude}{LINTS}");
     let path = folder.join(name).join("mod.rs");
     let path = if is_published { String::new() } else { format!("#[path = {:?}]\n", path) };
     if is_inner {

@@ -1,9 +1,12 @@
 //! The crate `nifazombi` as it is published: the same modules, written out.
+use std::fs;
 use std::path::Path;
 
 use crate::crates::{Checkout, Problem, files_below, text_of, write};
 use crate::package::{LIBRARY, Package};
 
+/// The folders of its sources.
+const PARTS: [&str; 3] = ["src", "tests", "examples"];
 /// What its manifest has for the build script, which isn't published.
 const BUILD: [&str; 2] = ["build = ", "[build-dependencies]"];
 /// Where its first file takes the modules that the build script writes.
@@ -16,17 +19,35 @@ const INCLUDED: &str = "include!(concat!(env!(\"OUT_DIR\"), \"/modules.rs\"));\n
 pub fn write_crate(root: &Path, folder: &Path) -> Result<(), Problem> {
     let checkout = Checkout::read(root)?;
     let own = root.join("rust").join(LIBRARY);
+    let text = manifest(&text_of(&own.join("Cargo.toml"))?);
+    clear(folder, &text)?;
     let modules = Package::library(&checkout).write_modules(&folder.join("src"), true)?;
-    for part in ["src", "tests", "examples"] {
+    for part in PARTS {
         for path in files_below(&own.join(part), "rs")? {
             let place = path.strip_prefix(&own).map_err(|error| error.to_string())?;
             write(&folder.join(place), &text_of(&path)?.replace(INCLUDED, &modules))?;
         }
     }
-    write(&folder.join("Cargo.toml"), &manifest(&text_of(&own.join("Cargo.toml"))?))?;
+    write(&folder.join("Cargo.toml"), &text)?;
     write(&folder.join("README.md"), &text_of(&own.join("README.md"))?)?;
     for name in ["LICENSE", "NOTICE"] {
         write(&folder.join(name), &text_of(&root.join(name))?)?;
+    }
+    Ok(())
+}
+
+/// Takes away what an earlier run has written. A folder of anything else is refused.
+fn clear(folder: &Path, manifest: &str) -> Result<(), Problem> {
+    let told = |error| format!("{}: {error}", folder.display());
+    let is_empty = !folder.exists() || fs::read_dir(folder).map_err(told)?.next().is_none();
+    let name =
+        |text: &str| text.lines().find(|line| line.starts_with("name = ")).map(str::to_string);
+    let held = fs::read_to_string(folder.join("Cargo.toml")).unwrap_or_default();
+    if !is_empty && name(&held) != name(manifest) {
+        return Err(format!("{}: it holds something else: nothing was touched", folder.display()));
+    }
+    for part in PARTS.iter().map(|part| folder.join(part)).filter(|part| part.exists()) {
+        fs::remove_dir_all(&part).map_err(told)?;
     }
     Ok(())
 }

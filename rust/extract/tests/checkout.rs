@@ -11,8 +11,17 @@ fn root() -> &'static Path {
 }
 
 const OTHERS: [&str; 11] = [
-    "line_sessions", "whole_files", "trie_tool", "route_tool", "shell_words", "shell_calls",
-    "trie_shell", "nifazombi_c", "trie_tests", "table_tests", "trie_examples",
+    "line_sessions",
+    "whole_files",
+    "trie_tool",
+    "route_tool",
+    "shell_words",
+    "shell_calls",
+    "trie_shell",
+    "nifazombi_c",
+    "trie_tests",
+    "table_tests",
+    "trie_examples",
 ];
 
 /// The account of all sources of a package.
@@ -23,7 +32,8 @@ fn account_of(package: &Package<'_>, checkout: &Checkout) -> Account {
         for path in files_below(&checkout.folder(name), "rt").unwrap() {
             let source = text_of(&path).unwrap();
             let told = |what: &dyn std::fmt::Debug| format!("{}: {what:?}", path.display());
-            let made = extract::extract(&source, &place).unwrap_or_else(|it| panic!("{}", told(&it)));
+            let made =
+                extract::extract(&source, &place).unwrap_or_else(|it| panic!("{}", told(&it)));
             all.add(account(&source, &made).unwrap_or_else(|it| panic!("{}", told(&it))));
         }
     }

@@ -144,7 +144,10 @@ fn each_rule_has_a_row() {
 fn exports_become_plain_functions() {
     let source = "mod ipv4; #[unsafe(no_mangle)] pub extern \"C\" fn f(image: &[u8]) -> u32 { 0 }";
     let made = made(source, Place { is_exported: true, ..place() });
-    assert_eq!(significant(&made), significant("pub mod ipv4; pub fn f(image: &[u8]) -> u32 { 0 }"));
+    assert_eq!(
+        significant(&made),
+        significant("pub mod ipv4; pub fn f(image: &[u8]) -> u32 { 0 }")
+    );
 }
 
 #[test]
@@ -156,16 +159,28 @@ fn functions_of_inner_crates_are_as_they_stand() {
 #[test]
 fn examples_keep_their_lines() {
     let made = made("/// ```\n/// f();\n/// ```\n/// ```text\n/// a\n/// ```\nfn f() {}", place());
-    assert!(made.contains("/// ```ignore\n/// f();\n/// ```\n/// ```text\n/// a\n/// ```\n"), "{made}");
+    assert!(
+        made.contains("/// ```ignore\n/// f();\n/// ```\n/// ```text\n/// a\n/// ```\n"),
+        "{made}"
+    );
 }
 
 #[test]
 fn a_text_is_its_tokens() {
-    let text = "a\u{3bb} 'a' '\\'' 'life b\"\\\"\" br#\"\"#\"# /* c */ // d\n1.5e3 -> => :: \u{2261}";
+    let text =
+        "a\u{3bb} 'a' '\\'' 'life b\"\\\"\" br#\"\"#\"# /* c */ // d\n1.5e3 -> => :: \u{2261}";
     let found = tokens(text);
     assert_eq!(found.iter().map(|token| &*token.text).collect::<String>(), text);
     let significant: Vec<&str> =
         found.iter().filter(|token| token.is_significant()).map(|token| &*token.text).collect();
-    let wanted = ["a\u{3bb}", "'a'", "'\\''", "'life", "b\"\\\"\"", "br#\"\"#", "\"# /* c */ // d\n1.5e3 -> => :: \u{2261}"];
+    let wanted = [
+        "a\u{3bb}",
+        "'a'",
+        "'\\''",
+        "'life",
+        "b\"\\\"\"",
+        "br#\"\"#",
+        "\"# /* c */ // d\n1.5e3 -> => :: \u{2261}",
+    ];
     assert_eq!(significant[..6], wanted[..6]);
 }

@@ -1,6 +1,9 @@
 #![doc = include_str!("../README.md")]
 #![forbid(unsafe_code)]
 
+#[cfg(not(target_pointer_width = "64"))]
+compile_error!("nifazombi is proved for a usize of 64 bits");
+
 #[warn(missing_docs)]
 mod error;
 #[warn(missing_docs)]

@@ -46,7 +46,7 @@ fn test_of(edit: &Edit<'_>, words: &[String]) -> Option<String> {
     let begins = |given: &&[&str]| {
         given.len() <= words.len() && given.iter().zip(words).all(|(it, word)| word.starts_with(it))
     };
-    if GIVEN.iter().any(|given| begins(given)) {
+    if GIVEN.iter().any(begins) {
         return Some(String::new());
     }
     let signs = ["<", "≤", "≡"];

@@ -1,9 +1,10 @@
 //! Crates as the modules of a Cargo package.
+use std::collections::BTreeMap;
 use std::path::{Path, PathBuf};
 
 use crate::crates::{Checkout, Problem, files_below, text_of, write};
 use crate::extract;
-use crate::rules::{Place, destructors};
+use crate::rules::{Example, Place, destructors};
 use crate::tokens::tokens;
 
 /// What stands for Rattle's own library.
@@ -30,6 +31,8 @@ pub const PUBLIC: [&str; 14] = [
     "flat_texts",
     "flat_tries",
 ];
+/// The crates whose functions examples in documentation are parts of.
+const EXAMPLES: [&str; 2] = ["trie_examples", "table_tests"];
 /// What of the text that was proved is no matter of rustc's, and what of Rust it may be too new for.
 const LINTS: &str = "#[allow(clippy::all, dead_code, unused_imports, unused_mut, unused_variables)]
 #[warn(clippy::incompatible_msrv)]
@@ -40,18 +43,33 @@ pub struct Package<'a> {
     checkout: &'a Checkout,
     crates: Vec<&'a str>,
     is_library: bool,
+    examples: BTreeMap<String, Example>,
 }
 
 impl<'a> Package<'a> {
-    /// The package of the libraries.
-    pub fn library(checkout: &'a Checkout) -> Package<'a> {
+    /// The package of the libraries, with the examples in their documentation.
+    ///
+    /// # Errors
+    /// Where a file with examples can't be read, or isn't understood.
+    pub fn library(checkout: &'a Checkout) -> Result<Package<'a>, Problem> {
+        let mut examples = BTreeMap::new();
+        for name in EXAMPLES {
+            let place = Package::over_library(checkout, &[name, "trie_tests"]).place(name)?;
+            for path in files_below(&checkout.folder(name), "rt")? {
+                let file = path.strip_prefix(&checkout.root).map_err(|error| error.to_string())?;
+                let example =
+                    Example::new(&text_of(&path)?, &place).map_err(|it| told(&path, &it))?;
+                examples.insert(file.display().to_string(), example);
+            }
+        }
         let crates = INNER.into_iter().chain(PUBLIC).collect();
-        Package { checkout, crates, is_library: true }
+        Ok(Package { checkout, crates, is_library: true, examples })
     }
 
     /// A package over that one, of other crates.
     pub fn over_library(checkout: &'a Checkout, crates: &[&'a str]) -> Package<'a> {
-        Package { checkout, crates: crates.to_vec(), is_library: false }
+        let examples = BTreeMap::new();
+        Package { checkout, crates: crates.to_vec(), is_library: false, examples }
     }
 
     /// Its crates.
@@ -104,6 +122,7 @@ impl<'a> Package<'a> {
             ..Place::default()
         };
         place.homes.insert("std".to_string(), std);
+        place.examples = self.examples.clone();
         for path in files_below(&self.checkout.folder(name), "rt")? {
             let found = destructors(&text_of(&path)?).map_err(|it| told(&path, &it))?;
             place.destructors.extend(found);
@@ -188,7 +207,7 @@ pub fn build(crates: Option<&[&str]>) {
         let checkout = Checkout::read(root)?;
         let package = match crates {
             Some(crates) => Package::over_library(&checkout, crates),
-            None => Package::library(&checkout),
+            None => Package::library(&checkout)?,
         };
         println!("cargo::rerun-if-changed={}", root.join("crates.txt").display());
         for folder in package.folders() {

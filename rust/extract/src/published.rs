@@ -21,7 +21,7 @@ pub fn write_crate(root: &Path, folder: &Path) -> Result<(), Problem> {
     let own = root.join("rust").join(LIBRARY);
     let text = manifest(&text_of(&own.join("Cargo.toml"))?);
     clear(folder, &text)?;
-    let modules = Package::library(&checkout).write_modules(&folder.join("src"), true)?;
+    let modules = Package::library(&checkout)?.write_modules(&folder.join("src"), true)?;
     for part in PARTS {
         for path in files_below(&own.join(part), "rs")? {
             let place = path.strip_prefix(&own).map_err(|error| error.to_string())?;

@@ -43,7 +43,7 @@ fn account_of(package: &Package<'_>, checkout: &Checkout) -> Account {
 #[test]
 fn each_token_belongs_to_the_source_or_to_a_rule() {
     let checkout = Checkout::read(root()).unwrap();
-    let mut all = account_of(&Package::library(&checkout), &checkout);
+    let mut all = account_of(&Package::library(&checkout).unwrap(), &checkout);
     all.add(account_of(&Package::over_library(&checkout, &OTHERS), &checkout));
     println!("{} tokens are the sources'", all.same);
     for rule in RULES {

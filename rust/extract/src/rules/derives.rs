@@ -78,9 +78,13 @@ impl Item {
         };
         let here: Vec<String> = self.parameters.iter().map(bounded).collect();
         let there: Vec<String> = self.parameters.iter().map(named).collect();
-        let (here, there) = (here.join(", "), there.join(", "));
+        let bracketed = |list: Vec<String>| match list.is_empty() {
+            true => String::new(),
+            false => format!("<{}>", list.join(", ")),
+        };
+        let (here, there) = (bracketed(here), bracketed(there));
         format!(
-            "\n\nimpl<{here}> Clone for {}<{there}> {{
+            "\n\nimpl{here} Clone for {}{there} {{
     fn clone(&self) -> Result<Self, std::alloc::AllocError> {{
         Ok(*self)
     }}

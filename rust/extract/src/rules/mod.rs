@@ -2,6 +2,7 @@
 mod contracts;
 mod derives;
 mod destructors;
+mod examples;
 mod places;
 mod requirements;
 mod spelling;
@@ -9,6 +10,7 @@ mod spelling;
 use std::collections::BTreeMap;
 
 pub use destructors::{Destructor, destructors};
+pub use examples::Example;
 
 use crate::edit::{Edit, Unknown};
 
@@ -38,6 +40,8 @@ pub struct Place {
     pub homes: BTreeMap<String, String>,
     /// Its types with a destructor that does something.
     pub destructors: Vec<Destructor>,
+    /// The files that examples stand in, by what documentation calls them.
+    pub examples: BTreeMap<String, Example>,
     /// Whether no user's program names it: its functions are called by what is proved alone.
     pub is_inner: bool,
     /// Whether programs in other languages call it.
@@ -95,8 +99,8 @@ pub const RULES: &[Rule] = &[
     rule("written", "`write_fmt` of a value is given its format arguments", spelling::written),
     rule(
         "examples",
-        "examples in documentation, which `trie_examples` runs, are no tests of rustdoc's",
-        spelling::examples,
+        "an example in documentation is a whole function, of which the other lines are hidden",
+        examples::examples,
     ),
     rule(
         "exports",

@@ -152,32 +152,3 @@ pub(super) fn written(edit: &mut Edit<'_>, _: &Place) -> Result<bool, Unknown> {
     edit.put(")");
     Ok(true)
 }
-
-/// An example in documentation: a block without a language.
-pub(super) fn examples(edit: &mut Edit<'_>, _: &Place) -> Result<bool, Unknown> {
-    let at = edit.at();
-    let Some((mark, language)) = fence(edit.text(at)) else {
-        return Ok(false);
-    };
-    let text = format!("{mark}ignore");
-    if language.is_empty() {
-        edit.leave_to(at + 1);
-        edit.put(&text);
-    } else {
-        edit.keep();
-    }
-    while fence(edit.text(edit.at())).is_none() {
-        if edit.is_at_end() {
-            return Err(edit.unknown(at, "an example that does not end"));
-        }
-        edit.keep();
-    }
-    edit.keep();
-    Ok(true)
-}
-
-/// What stands in front of the language of a block's fence, and the language.
-fn fence(text: &str) -> Option<(&str, &str)> {
-    let is_fence = text.starts_with("/// ```") || text.starts_with("//! ```");
-    is_fence.then(|| text.split_at("/// ```".len()))
-}

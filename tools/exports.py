@@ -203,28 +203,28 @@ def header():
     return "\n".join([*made, "#ifdef __cplusplus\n}\n#endif\n\n#endif\n"])
 
 
-def rust_call(head, items, tail, most):
+def rust_call(head, items, tail=""):
     """A call as rustfmt has it: in one line where that isn't long, or with each item in a line of its own."""
     line, margin = f"{head}({', '.join(items)}){tail}", re.match(" *", head)[0]
-    is_short = len(line) <= 100 and len(", ".join(items)) <= most
-    return line if is_short else f"{head}(\n" + "".join(f"{margin}    {it},\n" for it in items) + f"{margin}){tail}"
+    rows = "".join(f"{margin}    {it},\n" for it in items)
+    return line if len(line) <= 100 else f"{head}(\n{rows}{margin}){tail}"
 
 
 def rust_export(lines, module, name, passed, result):
     """An export for C, by the extracted call of its name."""
     rows, back = [it for one in passed for it in one.in_rust()], f" -> {result}" if result else ""
     made = [comment(lines, "/// "), "#[unsafe(no_mangle)]\n",
-            rust_call(f'pub unsafe extern "C" fn {name}', rows, f"{back} {{", 100), "\n"]
+            rust_call(f'pub unsafe extern "C" fn {name}', rows, f"{back} {{"), "\n"]
     for it in (it for it in passed if it.is_lent):
         made.append(f"{SAFE}    let Some({it.name}) = (unsafe {{ pairs_of({it.name}, {it.name}_len) }}) else {{\n"
                     f"        return {NO_MEMORY[result]};\n    }};\n")
     given = [it.made_in_rust() for it in passed]
     if any(it.points and not it.is_lent for it in passed):
-        call = rust_call(f"    unsafe {{ {module}::{name}", given, " }", 60)
+        call = rust_call(f"    unsafe {{ {module}::{name}", given, " }")
         made += [SAFE, call if "\n" not in call else
-                 f"    unsafe {{\n{rust_call(f'        {module}::{name}', given, '', 60)}\n    }}"]
+                 f"    unsafe {{\n{rust_call(f'        {module}::{name}', given)}\n    }}"]
     else:
-        made.append(rust_call(f"    {module}::{name}", given, "", 60))
+        made.append(rust_call(f"    {module}::{name}", given))
     return "".join([*made, "\n}\n"])
 
 

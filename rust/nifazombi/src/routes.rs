@@ -27,11 +27,7 @@ pub struct Route<A> {
 impl<A> Route<A> {
     /// A network, by its first address and how many first bits its addresses share, and its value.
     pub const fn new(network: A, bits: u8, value: u64) -> Route<A> {
-        Route {
-            network,
-            bits,
-            value,
-        }
+        Route { network, bits, value }
     }
 }
 
@@ -71,10 +67,7 @@ impl<'a, A: Address> Routes<'a, A> {
     /// The bytes are no image of such a table.
     pub fn new(image: &'a [u8]) -> Result<Self, ImageError> {
         A::check(image)?;
-        Ok(Routes {
-            own: Some(payload(image)),
-            ..Routes::unchecked(image)
-        })
+        Ok(Routes { own: Some(payload(image)), ..Routes::unchecked(image) })
     }
 
     /// The table in bytes that were checked before. It reads nothing. Whatever the bytes are, each
@@ -102,11 +95,7 @@ impl<'a, A: Address> Routes<'a, A> {
     /// # Ok::<(), Box<dyn std::error::Error>>(())
     /// ```
     pub const fn unchecked(image: &'a [u8]) -> Self {
-        Routes {
-            image,
-            own: None,
-            family: PhantomData,
-        }
+        Routes { image, own: None, family: PhantomData }
     }
 
     /// The count of routes.
@@ -145,26 +134,17 @@ impl<'a, A: Address> Routes<'a, A> {
     /// The routes of the networks within a network, itself among them, in order. Bits of its
     /// address behind the shared ones don't count.
     pub fn below(&self, network: A, bits: u8) -> Rows<'a, A> {
-        Rows {
-            routes: *self,
-            rest: A::below(self.image, network, bits),
-        }
+        Rows { routes: *self, rest: A::below(self.image, network, bits) }
     }
 
     /// The routes of all networks that hold an address, from the longest up.
     pub fn above(&self, address: A) -> Above<'a, A> {
-        Above {
-            routes: *self,
-            next: A::longest_match(self.image, address),
-        }
+        Above { routes: *self, next: A::longest_match(self.image, address) }
     }
 
     /// All routes, in order.
     pub fn iter(&self) -> Rows<'a, A> {
-        Rows {
-            routes: *self,
-            rest: 0..self.len(),
-        }
+        Rows { routes: *self, rest: 0..self.len() }
     }
 
     /// The user's own bytes in the image: those that were passed to [`routes_image`]. In bytes that
@@ -261,9 +241,7 @@ impl<A: Address> DoubleEndedIterator for Rows<'_, A> {
 
     #[inline]
     fn nth_back(&mut self, count: usize) -> Option<Route<A>> {
-        self.rest
-            .nth_back(count)
-            .and_then(|at| self.routes.route_at(at))
+        self.rest.nth_back(count).and_then(|at| self.routes.route_at(at))
     }
 }
 

@@ -35,10 +35,7 @@ impl<'a> Texts<'a> {
     /// The bytes are no image of such a map.
     pub fn new(image: &'a [u8]) -> Result<Self, ImageError> {
         flat_texts::check(image)?;
-        Ok(Texts {
-            image,
-            own: Some(payload(image)),
-        })
+        Ok(Texts { image, own: Some(payload(image)) })
     }
 
     /// The map in bytes that were checked before. It reads nothing. Whatever the bytes are, each
@@ -78,10 +75,7 @@ impl<'a> Texts<'a> {
 
     /// The pairs of all stored prefixes of a key, from the longest up.
     pub fn prefixes(&self, key: impl AsRef<[u8]>) -> Prefixes<'a> {
-        Prefixes {
-            texts: *self,
-            next: flat_texts::nearest(self.image, key.as_ref()),
-        }
+        Prefixes { texts: *self, next: flat_texts::nearest(self.image, key.as_ref()) }
     }
 
     /// The pairs whose keys begin with a prefix, in order.
@@ -98,10 +92,7 @@ impl<'a> Texts<'a> {
 
     /// All pairs, in order.
     pub fn iter(&self) -> Pairs<'a> {
-        Pairs {
-            texts: *self,
-            rest: 0..self.len(),
-        }
+        Pairs { texts: *self, rest: 0..self.len() }
     }
 
     /// How many keys come before a key, which needn't be stored.
@@ -125,10 +116,7 @@ impl<'a> Texts<'a> {
 impl fmt::Debug for Texts<'_> {
     fn fmt(&self, f: &mut fmt::Formatter<'_>) -> fmt::Result {
         f.debug_map()
-            .entries(
-                self.iter()
-                    .map(|(key, value)| (String::from_utf8_lossy(key), value)),
-            )
+            .entries(self.iter().map(|(key, value)| (String::from_utf8_lossy(key), value)))
             .finish()
     }
 }
@@ -223,10 +211,7 @@ pub fn texts_image<K: AsRef<[u8]>>(
     pairs: &[(K, u64)],
     payload: &[u8],
 ) -> Result<Vec<u8>, WriteError> {
-    let pairs = pairs.iter().map(|(key, value)| Pair {
-        key: key.as_ref(),
-        value: *value,
-    });
+    let pairs = pairs.iter().map(|(key, value)| Pair { key: key.as_ref(), value: *value });
     let pairs: Vec<_> = pairs.collect();
     let len = flat_texts::image_len(&pairs, payload.len());
     written(len, |out| flat_texts::write(&pairs, payload, out))

@@ -21,11 +21,8 @@ fn image(mark: &[u8; 8], numbers: &[u32]) -> Vec<u8> {
 
 /// 10.0.0.0/8, 10.1.0.0/16 and 192.0.2.0/24: each by its first address, its bits, the index and one
 /// more of the row of the network around it, and its value.
-const ROWS: [[u32; 4]; 3] = [
-    [0x0a00_0000, 8, 0, 100],
-    [0x0a01_0000, 16, 1, 101],
-    [0xc000_0200, 24, 0, 102],
-];
+const ROWS: [[u32; 4]; 3] =
+    [[0x0a00_0000, 8, 0, 100], [0x0a01_0000, 16, 1, 101], [0xc000_0200, 24, 0, 102]];
 
 /// The image of rows, with no cells and nothing else.
 fn image_by_hand(rows: [[u32; 4]; 3]) -> Vec<u8> {
@@ -44,10 +41,7 @@ fn image_with_cells() -> Vec<u8> {
 /// ::/0 and 2001:db8::/32.
 fn wide_image_by_hand() -> Vec<u8> {
     let head = [2, 2, 1, 0, 64, 0, 64, 0, 2, 0, 128, 0, 0, 0];
-    let rows = [
-        [0, 0, 0, 0, 0, 0, 7, 0],
-        [0, 0, 0, 0x2001_0db8, 32, 1, 8, 1],
-    ];
+    let rows = [[0, 0, 0, 0, 0, 0, 7, 0], [0, 0, 0, 0x2001_0db8, 32, 1, 8, 1]];
     image(b"NZIPV6.1", &[&head[..], rows.as_flattened()].concat())
 }
 
@@ -65,10 +59,7 @@ fn payload_is_kept_from_the_check_on() {
     let image = image_of_many_parts(b"NZIPV6.1", &[1, 2]);
     let routes = Routes::<Ipv6Addr>::new(&image).unwrap();
     let unchecked = Routes::<Ipv6Addr>::unchecked(&image);
-    assert_kept(
-        || routes.payload().is_empty(),
-        || unchecked.payload().is_empty(),
-    );
+    assert_kept(|| routes.payload().is_empty(), || unchecked.payload().is_empty());
 }
 
 #[test]
@@ -114,10 +105,7 @@ fn rows_by_hand() {
     assert_both_ends(routes.below(Ipv4Addr::new(10, 1, 0, 0), 17), &[]);
     assert_both_ends(routes.iter(), &[wide, long, other]);
     assert!(routes.into_iter().eq(&routes));
-    assert_eq!(
-        (routes.len(), routes.is_empty(), routes.payload()),
-        (3, false, &b""[..])
-    );
+    assert_eq!((routes.len(), routes.is_empty(), routes.payload()), (3, false, &b""[..]));
     assert_eq!(format!("{wide} {other}"), "10.0.0.0/8 192.0.2.0/24");
 }
 
@@ -166,23 +154,12 @@ fn images_with_another_byte() {
         (104, 2, Row(2)),
     ];
     for (at, byte, error) in SPOILT {
-        assert_eq!(
-            fault(&spoilt(&image_by_hand(ROWS), at, byte)),
-            Some(error),
-            "{at}"
-        );
+        assert_eq!(fault(&spoilt(&image_by_hand(ROWS), at, byte)), Some(error), "{at}");
     }
     for (at, cell) in [(112, 0), (116, 0), (120, 1), (124, 1), (132, 2)] {
-        assert_eq!(
-            fault(&spoilt(&image_with_cells(), at, 9)),
-            Some(Cell(cell)),
-            "{at}"
-        );
+        assert_eq!(fault(&spoilt(&image_with_cells(), at, 9)), Some(Cell(cell)), "{at}");
     }
-    assert_eq!(
-        Part(1).to_string(),
-        "no image: part 1 is missing or out of place"
-    );
+    assert_eq!(Part(1).to_string(), "no image: part 1 is missing or out of place");
 }
 
 #[test]
@@ -258,9 +235,7 @@ impl Number for Ipv6Addr {
 
 /// The first address of the network of so many bits that holds an address.
 fn network_of<A: Number>(address: A, bits: u8) -> A {
-    let first_bits = u128::MAX
-        .checked_shl(A::BITS - u32::from(bits))
-        .unwrap_or(0);
+    let first_bits = u128::MAX.checked_shl(A::BITS - u32::from(bits)).unwrap_or(0);
     A::of(address.number() & first_bits)
 }
 
@@ -342,9 +317,8 @@ fn many_addresses() {
     let mut random = Random::new(1);
     let image = routes_image(&random_table::<Ipv4Addr>(&mut random, 300), b"").unwrap();
     let routes = Routes::<Ipv4Addr>::new(&image).unwrap();
-    let addresses: Vec<u32> = (0..500)
-        .map(|_| random_address::<Ipv4Addr>(&mut random).into())
-        .collect();
+    let addresses: Vec<u32> =
+        (0..500).map(|_| random_address::<Ipv4Addr>(&mut random).into()).collect();
     let mut found = vec![0; 500];
     assert_eq!(routes.longest_matches(&addresses, &mut found), 500);
     for (address, found) in addresses.iter().zip(found) {
@@ -363,10 +337,7 @@ fn call_all<A: Number>(bytes: &[u8], random: &mut Random) {
         let address = random_address(random);
         let bits = random.below(256) as u8;
         let index = routes.longest_match_index(address);
-        assert_eq!(
-            routes.longest_match(address),
-            index.and_then(|at| routes.route_at(at))
-        );
+        assert_eq!(routes.longest_match(address), index.and_then(|at| routes.route_at(at)));
         assert!(index.is_none_or(|at| at < routes.len()));
         assert!(routes.above(address).count() <= routes.len());
         let own = routes.get(address, bits);
@@ -398,9 +369,7 @@ fn call_all_on_what_is_nearly_an_image<A: Number>() {
         call_all::<A>(&large[..random.below(large.len())], &mut random);
     }
     for _ in 0..300 {
-        let mut bytes: Vec<u8> = (0..random.below(400))
-            .map(|_| random.next() as u8)
-            .collect();
+        let mut bytes: Vec<u8> = (0..random.below(400)).map(|_| random.next() as u8).collect();
         let kept = random.below(65).min(bytes.len());
         bytes[..kept].copy_from_slice(&small[..kept]);
         call_all::<A>(&bytes, &mut random);
@@ -422,16 +391,10 @@ fn what_is_not_written() {
     assert_eq!(refused(&[wide, long]), None);
     assert_eq!(refused(&[long, wide]), Some(OutOfOrder(1)));
     assert_eq!(refused(&[wide, wide]), Some(OutOfOrder(1)));
-    assert_eq!(
-        refused(&[wide, route("10.0.0.1", 31, 1)]),
-        Some(OutOfOrder(1))
-    );
+    assert_eq!(refused(&[wide, route("10.0.0.1", 31, 1)]), Some(OutOfOrder(1)));
     assert_eq!(refused(&[route("10.0.0.0", 33, 1)]), Some(OutOfOrder(0)));
     assert_eq!(refused(&[route("10.0.0.0", 8, u32::MAX.into())]), None);
-    assert_eq!(
-        refused(&[wide, route("10.0.0.0", 9, 1 << 32)]),
-        Some(Value(1))
-    );
+    assert_eq!(refused(&[wide, route("10.0.0.0", 9, 1 << 32)]), Some(Value(1)));
     let far = Route::new(Ipv6Addr::UNSPECIFIED, 129, u64::MAX);
     assert_eq!(routes_image(&[far], b"").err(), Some(OutOfOrder(0)));
 }

@@ -34,19 +34,15 @@ fn a_map_by_hand() {
 fn payload_is_kept_from_the_check_on() {
     let image = image_of_many_parts(b"NZTEXT.1", &[4]);
     let (texts, unchecked) = (Texts::new(&image).unwrap(), Texts::unchecked(&image));
-    assert_kept(
-        || texts.payload().is_empty(),
-        || unchecked.payload().is_empty(),
-    );
+    assert_kept(|| texts.payload().is_empty(), || unchecked.payload().is_empty());
 }
 
 #[test]
 fn no_images() {
     use ImageError::*;
     let image = texts_image(&PAIRS, b"").unwrap();
-    let faults: Vec<_> = (0..8 * image.len())
-        .map(|bit| Texts::new(&flipped(&image, bit)).err())
-        .collect();
+    let faults: Vec<_> =
+        (0..8 * image.len()).map(|bit| Texts::new(&flipped(&image, bit)).err()).collect();
     assert!(faults[..56].iter().all(|it| *it == Some(Mark)));
     assert!(faults[56..64].iter().all(|it| *it == Some(Version)));
     for fault in [Short, Part(0), Row(0), Row(1), Row(2)] {
@@ -60,15 +56,11 @@ fn no_images() {
 /// A key of few different bytes, so that keys are prefixes of others and have equal first ones.
 fn random_key(random: &mut Random) -> Vec<u8> {
     let len = random.below(14);
-    (0..len)
-        .map(|_| [b'a', b'a', b'a', 0, 0xff][random.below(5)])
-        .collect()
+    (0..len).map(|_| [b'a', b'a', b'a', 0, 0xff][random.below(5)]).collect()
 }
 
 fn random_map(random: &mut Random, count: usize) -> BTreeMap<Vec<u8>, u64> {
-    (0..count)
-        .map(|_| (random_key(random), random.next()))
-        .collect()
+    (0..count).map(|_| (random_key(random), random.next())).collect()
 }
 
 /// A map's pairs, in the order of their keys.
@@ -85,19 +77,13 @@ fn such<'a>(pairs: &[(&'a [u8], u64)], is_such: impl Fn(&[u8]) -> bool) -> Vec<(
 
 fn compare_searches(texts: Texts, pairs: &[(&[u8], u64)], key: &[u8], other: &[u8]) {
     let own = such(pairs, |it| it == key).first().map(|pair| pair.1);
-    assert_eq!(
-        (texts.get(key), texts.contains_key(key)),
-        (own, own.is_some())
-    );
+    assert_eq!((texts.get(key), texts.contains_key(key)), (own, own.is_some()));
     let mut prefixes = such(pairs, |it| key.starts_with(it));
     prefixes.reverse();
     assert_eq!(texts.nearest(key), prefixes.first().copied());
     assert!(texts.prefixes(key).eq(prefixes));
     assert_both_ends(texts.below(key), &such(pairs, |it| it.starts_with(key)));
-    assert_both_ends(
-        texts.between(key, other),
-        &such(pairs, |it| key <= it && it < other),
-    );
+    assert_both_ends(texts.between(key, other), &such(pairs, |it| key <= it && it < other));
     let rank = such(pairs, |it| it < key).len();
     assert_eq!(texts.rank(key), rank);
     assert_eq!(texts.nth(rank), pairs.get(rank).copied());
@@ -112,12 +98,7 @@ fn compare_with_a_map(count: usize) {
     assert_eq!(texts.len(), pairs.len());
     assert_both_ends(texts.iter(), &pairs);
     for _ in 0..500 {
-        compare_searches(
-            texts,
-            &pairs,
-            &random_key(&mut random),
-            &random_key(&mut random),
-        );
+        compare_searches(texts, &pairs, &random_key(&mut random), &random_key(&mut random));
     }
     for pair in &pairs {
         compare_searches(texts, &pairs, pair.0, b"b");
@@ -133,23 +114,15 @@ fn random_maps() {
 
 #[test]
 fn so_many_keys_that_they_are_counted() {
-    let keys: Vec<_> = (0..70_000)
-        .map(|number| (format!("{number:05}"), number))
-        .collect();
+    let keys: Vec<_> = (0..70_000).map(|number| (format!("{number:05}"), number)).collect();
     let image = texts_image(&keys, b"").unwrap();
     let texts = Texts::new(&image).unwrap();
     for (key, number) in &keys {
-        assert_eq!(
-            (texts.get(key), texts.rank(key)),
-            (Some(*number), *number as usize)
-        );
+        assert_eq!((texts.get(key), texts.rank(key)), (Some(*number), *number as usize));
     }
     assert_eq!(texts.nearest("12345x"), Some((&b"12345"[..], 12_345)));
     assert_eq!(texts.below("69").len(), 1_000);
-    assert_eq!(
-        (texts.get("7"), texts.rank("7"), texts.rank("6")),
-        (None, 70_000, 60_000)
-    );
+    assert_eq!((texts.get("7"), texts.rank("7"), texts.rank("6")), (None, 70_000, 60_000));
 }
 
 /// Calls everything on bytes that may be no image. The answers may be any.
@@ -183,9 +156,7 @@ fn any_bytes() {
         call_all(&small[..end], &mut random);
     }
     for _ in 0..300 {
-        let mut bytes: Vec<u8> = (0..random.below(400))
-            .map(|_| random.next() as u8)
-            .collect();
+        let mut bytes: Vec<u8> = (0..random.below(400)).map(|_| random.next() as u8).collect();
         let kept = random.below(113).min(bytes.len());
         bytes[..kept].copy_from_slice(&small[..kept]);
         call_all(&bytes, &mut random);

@@ -453,11 +453,7 @@ pub unsafe extern "C" fn nifazombi_texts_below(
 ) {
     // SAFETY: callers pass live memory, and share only what is read, as the header asks.
     unsafe {
-        texts::nifazombi_texts_below(
-            slice(image, image_len),
-            slice(prefix, prefix_len),
-            &mut *span,
-        )
+        texts::nifazombi_texts_below(slice(image, image_len), slice(prefix, prefix_len), &mut *span)
     }
 }
 

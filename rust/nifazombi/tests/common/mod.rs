@@ -67,18 +67,12 @@ where
     assert_eq!(iterator.clone().collect::<Vec<_>>(), expected);
     assert!(iterator.clone().rev().eq(expected.iter().rev().cloned()));
     assert_eq!(iterator.clone().nth(1), expected.get(1).cloned());
-    assert_eq!(
-        iterator.clone().nth_back(1),
-        expected.iter().nth_back(1).cloned()
-    );
+    assert_eq!(iterator.clone().nth_back(1), expected.iter().nth_back(1).cloned());
     let mut rest = expected.iter().cloned();
     while rest.len() > 0 {
         assert_eq!(iterator.len(), rest.len());
         assert_eq!(iterator.next(), rest.next());
         assert_eq!(iterator.next_back(), rest.next_back());
     }
-    assert_eq!(
-        (iterator.len(), iterator.next(), iterator.next_back()),
-        (0, None, None)
-    );
+    assert_eq!((iterator.len(), iterator.next(), iterator.next_back()), (0, None, None));
 }

@@ -53,12 +53,8 @@ impl Example {
         let start = *(0..=first).rev().collect::<Vec<_>>().iter().find(starts)?;
         let end = last + self.source[last..].iter().position(|line| line == "}")? + 1;
         let function = self.made[start..end].concat();
-        let hidden = [
-            &imports(&function),
-            &self.named_by(&function, start),
-            &self.made[start..first].concat(),
-        ];
-        let hidden = hidden.join("\n");
+        let named = self.named_by(&function, start);
+        let hidden = [imports(&function), named, self.made[start..first].concat()].join("\n");
         let rest = format!("{}\n{}", self.made[last..end].concat(), self.call(start));
         if hidden.contains("crate::") || rest.contains("crate::") {
             return None;

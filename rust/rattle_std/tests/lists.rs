@@ -244,7 +244,7 @@ fn collect_by_has_the_items_in_order_whatever_the_hint() {
         let list: Vec<u32> = unknown.collect_by(Global).unwrap();
         assert_eq!(list.as_slice(), items);
     });
-    struct Boastful(u8);
+    struct Boastful(u8, usize);
     impl Iterator for Boastful {
         type Item = u8;
         fn next(&mut self) -> Option<u8> {
@@ -252,11 +252,13 @@ fn collect_by_has_the_items_in_order_whatever_the_hint() {
             Some(self.0)
         }
         fn size_hint(&self) -> (usize, Option<usize>) {
-            (usize::MAX, None)
+            (self.1, None)
         }
     }
-    let list: Vec<u8> = Boastful(20).collect_by(Global).unwrap();
-    assert!(list.iter().copied().eq((0..20).rev()), "a hint that is refused isn't an error");
+    for hint in [usize::MAX, usize::MAX / 2, isize::MAX as usize] {
+        let list: Vec<u8> = Boastful(20, hint).collect_by(Global).unwrap();
+        assert!(list.iter().copied().eq((0..20).rev()), "a hint that is refused isn't an error");
+    }
 }
 
 #[test]

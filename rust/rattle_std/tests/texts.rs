@@ -9,6 +9,7 @@ use rattle_std::macros;
 use rattle_std::memchr::memchr;
 use rattle_std::string::{String as Text, ToString};
 use rattle_std::texts::ReplaceIn;
+use rattle_std::ucd_derived::is_default_ignorable_code_point;
 use rattle_std::vec::Vec as List;
 use std::fmt::Write as _;
 
@@ -179,4 +180,16 @@ fn errors_of_memory_say_so() {
     );
     assert_eq!(AllocError::from(failed), AllocError);
     assert_eq!(std::io::Error::from(AllocError).kind(), std::io::ErrorKind::OutOfMemory);
+}
+
+/// Unicode's table DerivedCoreProperties gives the count.
+#[test]
+fn default_ignorable_characters_are_those_of_unicode() {
+    let all = (0..=0x10_ffff).filter_map(char::from_u32);
+    assert_eq!(all.filter(|it| is_default_ignorable_code_point(*it)).count(), 4174);
+    for (is_one, characters) in
+        [(true, "\u{ad}\u{200d}\u{fe0f}\u{e0001}"), (false, "a \u{a0}\u{2028}é")]
+    {
+        assert!(characters.chars().all(|it| is_default_ignorable_code_point(it) == is_one));
+    }
 }

@@ -1,6 +1,6 @@
 //! Derived properties of Unicode's characters.
 
-/// Whether the character has the property Default_Ignorable_Code_Point, by Unicode 16.
+/// Whether the character has the property Default_Ignorable_Code_Point, by Unicode 16 to 18.
 pub fn is_default_ignorable_code_point(character: char) -> bool {
     matches!(u32::from(character), 0xad | 0x34f | 0x61c | 0x115f..=0x1160 | 0x17b4..=0x17b5
         | 0x180b..=0x180f | 0x200b..=0x200f | 0x202a..=0x202e | 0x2060..=0x206f | 0x3164

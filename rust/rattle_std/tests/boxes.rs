@@ -71,6 +71,7 @@ fn clones_of_a_box_and_of_a_shared_value_equal_it() {
     let other = Clone::clone(&shared).unwrap();
     drop(shared);
     assert_eq!(*other, text());
+    assert!(std::ptr::eq(&*other, &*Clone::clone(&other).unwrap()));
 }
 
 fn cloned<T: Clone>(value: T) -> T {

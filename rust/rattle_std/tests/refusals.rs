@@ -294,10 +294,14 @@ fn boxes_refused_hand_the_value_back() {
         }),
         1
     );
-    each_refused(|refusal| match refusal.fails(|| Rc::new(Global, Own(5))) {
-        Ok(made) => assert_eq!(*made, Own(5)),
-        Err(failed) => assert_eq!(failed.value, Own(5)),
-    });
+    // The second of two allocations, for which the first one has asked, can't be told.
+    for is_rest in [false, true] {
+        let refusal = Refusal { granted: 0, is_rest };
+        let failed = refusal.fails(|| Rc::new(Global, Own(5))).err();
+        assert_eq!(failed.unwrap().value, Own(5));
+    }
+    let shared = Rc::new(Global, Own(5)).ok().unwrap();
+    assert_eq!(*without_memory(|| shared.clone()).unwrap(), Own(5));
     each_refused(|refusal| {
         let made = Boxed::new(Global, Text::from_str(Global, "text").unwrap()).unwrap();
         if let Ok(copy) = refusal.fails(|| made.clone()) {

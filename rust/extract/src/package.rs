@@ -200,9 +200,11 @@ pub fn as_module(source: &str, name: &str) -> String {
 /// What a build script does: writes a package's modules where Cargo wants them, and `modules.rs`,
 /// which declares them. What isn't understood ends the build with its place.
 pub fn build(crates: Option<&[&str]>) {
-    let folder = |name: &str| PathBuf::from(std::env::var_os(name).unwrap_or_default());
-    let (manifest, out) = (folder("CARGO_MANIFEST_DIR"), folder("OUT_DIR"));
+    let folder = |name: &str| {
+        std::env::var_os(name).map(PathBuf::from).ok_or_else(|| format!("Cargo gives no {name}"))
+    };
     let done = (|| {
+        let (manifest, out) = (folder("CARGO_MANIFEST_DIR")?, folder("OUT_DIR")?);
         let root = manifest.ancestors().nth(2).unwrap_or(&manifest);
         let checkout = Checkout::read(root)?;
         let package = match crates {

@@ -63,7 +63,6 @@ const ROWS: &[(&str, &str, &str)] = &[
      "!line 1: a derived Clone of a type with parameters"),
     ("copies", "impl<A: Eq> Copy for S<A> {}",
      "impl<A: Eq> Copy for S<A> {} impl<A: Eq> ::core::clone::Clone for S<A> { fn clone(&self) -> Self { *self } }"),
-    ("finals", "trait T: Eq { final fn f(&self) {} }", "trait T: Eq { fn f(&self) {} }"),
     ("runtimes", "fn main(rt: HostRuntime) -> ExitCode { f(rt) }",
      "pub fn main() -> ExitCode { let rt = crate::rattle_std::rt::host(); f(rt) }"),
     ("runtimes", "#[test] fn t(rt: HostRuntime) -> Result<(), Memory> { f(rt) }",

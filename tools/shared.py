@@ -269,19 +269,30 @@ def telling(what):
         teller.join()
 
 
-def add(tally, command, folder, hear=None, **surroundings):
-    """Shows what a command says, and adds all its checks, which it counts in its last line. How many passed. What is
-    shown is heard too, part by part."""
-    last, how = b"", {"cwd": folder, "env": surroundings_of(**surroundings)}
+def shown(command, hear, **how):
+    """Shows what a command says, which is heard too, part by part. Its status."""
     how |= {"stdout": subprocess.PIPE, "stderr": subprocess.STDOUT}
     with telling(command), started(command.split(), **how) as process:
         while part := process.stdout.read1():
             sys.stdout.buffer.write(part)
             sys.stdout.buffer.flush()
-            last = (last + part)[-1000:]
-            if hear:
-                hear(part)
-    return add_counts(tally, command, last, process.returncode)
+            hear(part)
+    return process.returncode
+
+
+def add(tally, command, folder, hear=None, **surroundings):
+    """Shows what a command says, and adds all its checks, which it counts in its last line. How many passed. What is
+    shown is heard too, part by part."""
+    last = bytearray()
+
+    def note(part):
+        last.extend(part)
+        del last[:-1000]
+        if hear:
+            hear(part)
+
+    status = shown(command, note, cwd=folder, env=surroundings_of(**surroundings))
+    return add_counts(tally, command, bytes(last), status)
 
 
 def add_counts(tally, command, said, status):

@@ -186,18 +186,29 @@ class Extracted(Program):
                 raise
             raise Refused(f"{error}; CARGO_TARGET_DIR names another folder for what cargo builds") from None
 
+    def executable(self, line):
+        """Where cargo says by a line that it has put the program, if it does."""
+        try:
+            told = json.loads(line)
+            return told["executable"] if told["target"]["name"] == self.name else None
+        except (KeyError, TypeError, ValueError):
+            return None
+
     def build(self, turn):
         """Has cargo build it. The turn is cargo's too, as it is the toolchain's."""
         words = ["cargo", "build", "--release", "--locked", "--offline", "--package", "programs", "--bin", self.name]
         words += ["--target-dir", self.target, "--message-format", "json-render-diagnostics"]
         done = ran(words, cwd=ROOT, pass_fds=[turn], text=True, errors="replace")
-        told = [json.loads(it) for it in done.stdout.split("\n") if it.startswith("{")]
-        paths = [it["executable"] for it in told if it.get("executable") and it["target"]["name"] == self.name]
+        paths = [*filter(None, map(self.executable, done.stdout.split("\n")))]
         if done.returncode or not paths:
             self.say("\n".join(done.stderr.strip().split("\n")[-20:]))
-            raise Refused(f"the program could not be built: cargo ended with status {done.returncode}")
+            raise Refused(f"the program could not be built: cargo ended with status {done.returncode}"
+                          f"{'' if done.returncode else ', and told of no program'}")
+        program = bytes_of(paths[-1])
+        if program is None:
+            raise Refused(f"cargo says that the program is {paths[-1]}, and it isn't there")
         with room_in(os.path.dirname(self.path)) as room:
-            put_bytes(bytes_of(paths[-1]), self.path, room, 0o755)
+            put_bytes(program, self.path, room, 0o755)
 
 
 def lack_of_cargo():

@@ -176,7 +176,8 @@ class Extracted(Program):
                 put_bytes(f"{self.toolchain()}\n{before}{sum_of(self.path)}".encode(), self.record, room)
 
     def opening(self, otherwise):
-        return "extracted from its proved sources as plain Rust, it is built by cargo, once, for half a minute; " + PROVES
+        return ("extracted from its proved sources as plain Rust, it is built by cargo, once, for half a minute; "
+                f"{PROVES}")
 
     def make(self, otherwise=""):
         try:
@@ -218,7 +219,8 @@ def lack_of_cargo():
     said = ran(["cargo", "--version"], cwd=ROOT, text=True, errors="replace")
     found = re.match(r"cargo (\d+)\.(\d+)", said.stdout)
     if not found:
-        return f"cargo --version ends with status {said.returncode}: {' '.join((said.stdout + said.stderr).split())[:200]}"
+        told = " ".join((said.stdout + said.stderr).split())
+        return f"cargo --version ends with status {said.returncode}: {told[:200]}"
     is_new = [*map(int, found.groups())] >= [*map(int, least_rust().split("."))]
     return "" if is_new else f"cargo is {said.stdout.split()[1]}"
 

@@ -13,7 +13,7 @@ fn passes(script: &str, words: &[&str]) {
         Err(error) => panic!("python3 is needed, and can't be started: {error}"),
         Ok(ran) if ran.status.success() => {}
         Ok(ran) => {
-            let [said, told] = [ran.stdout, ran.stderr].map(|it| String::from_utf8_lossy(&it).into_owned());
+            let [said, told] = [&ran.stdout, &ran.stderr].map(|it| String::from_utf8_lossy(it));
             panic!("{script} {}: {}\n{said}{told}", words.join(" "), ran.status);
         }
     }

@@ -33,7 +33,7 @@ pub const PUBLIC: [&str; 14] = [
 ];
 /// The crates whose functions examples in documentation are parts of.
 const EXAMPLES: [&str; 2] = ["trie_examples", "table_tests"];
-/// What of the text that was proved is no matter of rustc's, and what of Rust it may be too new for.
+/// What rustc may not say of text that is proved, and what it has to: that a call is too new.
 const LINTS: &str = "#[allow(clippy::all, dead_code, unused_imports, unused_mut, unused_variables)]
 #[warn(clippy::incompatible_msrv)]
 ";

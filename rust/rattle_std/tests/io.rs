@@ -8,7 +8,7 @@ use rattle_std::io::{self, BufReader, ErrorKind, Read, Write as _};
 use rattle_std::rt::{Alloc as _, Env as _, host};
 use rattle_std::vec::Vec as List;
 
-/// A reader of some bytes that gives few at once, is interrupted, and fails in the end if it has to.
+/// A reader of bytes that gives few at once, is interrupted, and fails in the end if it has to.
 struct Slow<'a> {
     bytes: &'a [u8],
     random: Random,

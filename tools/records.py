@@ -1,19 +1,20 @@
 """The records of wrong bodies, crates/NAME/wrong_bodies/rejected: a line `NAME SUM` for each edit that was rejected, in
 order of names, where the sum is of all that its verdict depends on.
 
-That is the edit, the judge (verdicts.py), the toolchain's logic, each byte of the crate's sources, specs and proofs, the
-lines of crates.txt, and of each crate below what a proof above sees of it. The toolchain itself leaves out the rest: a
-caller knows a function by its clauses alone, and what a built library has for callers (`interface`, `facade`) has each
-body as a mere return, and of the folder of a function's proofs nothing but its statement.
+That is the edit, the judge (verdicts.py), the toolchain's logic, each byte of the crate's sources, specs and proofs,
+the lines of crates.txt, and of each crate below what a proof above may see of it. The toolchain leaves out the rest
+itself: a caller knows a function by its clauses alone, and a built library has for its callers each body as a mere
+return (`interface`), and of the folder of a function's proofs nothing but what it states (`facade`). In doubt a text
+counts: then an edit is tried once more, and none is taken for rejected that wasn't tried.
 """
 import functools
 import hashlib
 import os
 import re
 
-from shared import ROOT, below, bytes_of, files_in, said_by, write_text
+from shared import ROOT, below, bytes_of, said_by, write_text
 from sources import functions_of, paths
-from verdicts import CRATES, PARTS, PROOF_OF, Edit, check_of, crates, known_as
+from verdicts import PROOF_OF, Edit, check_of, crates, files_of, known_as
 
 RECORD, LINE = "crates/{}/wrong_bodies/rejected", re.compile(r"(\S+) ([0-9a-f]{32})")
 # A comment, a blank, a text, a character or a byte, a word, or any other sign. In clauses names may end in `'`.
@@ -119,30 +120,19 @@ def surface(text):
     """What a proof above may see of a source. One that isn't understood counts whole."""
     tokens = [it[0] for it in TOKEN.findall(text)]
     try:
-        return text if "/*" in text else "".join(seen_parts(tokens))
+        return text if "/*" in text else "".join(seen_parts(tokens)).strip()
     except IndexError:
         return text
 
 
-def seen_of(path, place):
-    """What a proof above may see of a file of a crate, by its place there; None where that is nothing."""
+def seen_of(place, text):
+    """What a proof above may see of a file of a crate, by its place there. Of the folder of a function's proofs nothing
+    is: lemmas that others cite stand beside such folders."""
     if PROOF_OF.fullmatch(place) and "Lemmas/" not in place:
         return None
-    text = read(path)
     if place.endswith(".antt") and b"{-" not in text:
         return ANTT_NOTE.sub("", text.decode(errors="surrogateescape"))
     return surface(text.decode(errors="surrogateescape")) if place.endswith(".rt") else text
-
-
-def read(path):
-    with open(path, "rb") as file:
-        return file.read()
-
-
-def files_of(crate):
-    """The files of a crate that a proof reads, and their places there."""
-    found = (it for part in PARTS for it in files_in(f"{CRATES}/{crate}/{part}"))
-    return [(it, os.path.relpath(it, f"{CRATES}/{crate}")) for it in found]
 
 
 def sum_of(*what):
@@ -152,7 +142,7 @@ def sum_of(*what):
 @functools.cache
 def sum_above(crate):
     """A sum of what a proof above a crate may see of it."""
-    seen = ((place, seen_of(path, place)) for path, place in files_of(crate))
+    seen = ((place, seen_of(place, text)) for place, text in files_of(crate).items())
     return sum_of(crate, crates()[crate], [it for it in seen if it[1] is not None])
 
 
@@ -160,21 +150,21 @@ def sum_above(crate):
 def sum_within(crate):
     """A sum of all that a check of a crate reads, and of where each function begins, by which goals are told apart."""
     begins = [(it.path, it.place, known_as(it)) for it in functions_of(crate)]
-    texts = [(place, read(path)) for path, place in files_of(crate)]
-    return sum_of(check_of("", "", crate), begins, texts, [*map(sum_above, below(crate, crates()))])
+    return sum_of(check_of("", "", crate), begins, files_of(crate), [*map(sum_above, below(crate, crates()))])
 
 
 @functools.cache
 def judge():
     """The toolchain's logic, and the text that decides verdicts."""
     told = said_by(["rt", "version"])
-    return (re.findall(r"\blogic (\S+)", told) or [told])[0], read(f"{ROOT}/tools/verdicts.py")
+    return (re.findall(r"\blogic (\S+)", told) or [told])[0], bytes_of(f"{ROOT}/tools/verdicts.py")
 
 
 def sum_of_edit(edit):
     """The sum of an edit's line."""
-    of_it = (edit.path, read(f"{ROOT}/{edit.path}"), edit.changes, *(sorted(it, key=repr) for it in (edit.functions, edit.paths)))
-    return sum_of(judge(), sum_within(edit.crate), of_it)[:32]
+    functions, ways = (sorted(it, key=repr) for it in (edit.functions, edit.paths))
+    text = bytes_of(f"{ROOT}/{edit.path}")
+    return sum_of(judge(), sum_within(edit.crate), edit.path, text, edit.changes, functions, ways)[:32]
 
 
 def edits_of(crate, names, is_each):

@@ -6,10 +6,9 @@ import functools
 import os
 import pathlib
 import re
-import shutil
 
 from programs import over_built
-from shared import ROOT, below, text_of, uses_of_crates
+from shared import ROOT, files_in, text_of, uses_of_crates
 from sources import items_of, sources_of
 
 CRATES, PARTS = f"{ROOT}/crates", ("src", "specs", "proofs")
@@ -27,8 +26,8 @@ crates = functools.cache(uses_of_crates)
 
 
 class Edit:
-    """A wrong body: its path, its crate, its name, the places of the crate's files that it replaces, and the functions that these
-    are of, by their paths and by their names; None where there is no telling."""
+    """A wrong body: its path, crate and name, the places of the crate's files that it replaces, and the functions that
+    these are of, by their paths and by their names; None where there is no telling."""
 
     def __init__(self, path):
         self.path, self.crate, self.name = path, path.split("/")[1], os.path.basename(path).removesuffix(".edit")
@@ -186,17 +185,24 @@ def judged(edit, found, output):
     return line
 
 
+@functools.cache
+def files_of(crate):
+    """The files of a crate that a check reads, by their places there: read once, so that what is tried is what the sums
+    are of."""
+    found = (it for part in PARTS for it in files_in(f"{CRATES}/{crate}/{part}"))
+    return {os.path.relpath(it, f"{CRATES}/{crate}"): pathlib.Path(it).read_bytes() for it in found}
+
+
 def put_edited(folder, edits):
-    """Puts the texts of a crate with these edits into a folder."""
-    crate = edits[0].crate
-    for part in PARTS:
-        if os.path.isdir(f"{CRATES}/{crate}/{part}"):
-            shutil.copytree(f"{CRATES}/{crate}/{part}", f"{folder}/{part}")
+    """Puts the files of a crate with these edits into a folder."""
+    files = {**files_of(edits[0].crate)}
     # The last change of a file first, so that each stands where it does in the text without any edit.
     for path, start, end, new in sorted((it for edit in edits for it in edit.changes), key=lambda it: -it[1]):
-        file = pathlib.Path(folder, path)
-        text = file.read_text(encoding="utf-8")
-        file.write_text(text[:start] + new + text[end:], encoding="utf-8")
+        text = files[path].decode()
+        files[path] = f"{text[:start]}{new}{text[end:]}".encode()
+    for path, text in files.items():
+        os.makedirs(os.path.dirname(f"{folder}/{path}"), exist_ok=True)
+        pathlib.Path(folder, path).write_bytes(text)
 
 
 def check_of(kit, top, crate):

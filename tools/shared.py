@@ -240,7 +240,7 @@ def built(name, ending=""):
 def need(*names):
     """Refuses to go on where one of these programs isn't built."""
     for path in (it for it in map(built, names) if not os.access(it, os.X_OK)):
-        raise Refused(f"{path} isn't there: ./check builds it, or in its crate's folder rt run")
+        raise Refused(f"{path} isn't there: ./check builds it; PROGRAMS=target/release takes what cargo has built")
 
 
 def surroundings_of(**changed):
@@ -269,19 +269,30 @@ def telling(what):
         teller.join()
 
 
-def add(tally, command, folder, hear=None, **surroundings):
-    """Shows what a command says, and adds all its checks, which it counts in its last line. How many passed. What is
-    shown is heard too, part by part."""
-    last, how = b"", {"cwd": folder, "env": surroundings_of(**surroundings)}
+def shown(command, hear, **how):
+    """Shows what a command says, which is heard too, part by part. Its status."""
     how |= {"stdout": subprocess.PIPE, "stderr": subprocess.STDOUT}
     with telling(command), started(command.split(), **how) as process:
         while part := process.stdout.read1():
             sys.stdout.buffer.write(part)
             sys.stdout.buffer.flush()
-            last = (last + part)[-1000:]
-            if hear:
-                hear(part)
-    return add_counts(tally, command, last, process.returncode)
+            hear(part)
+    return process.returncode
+
+
+def add(tally, command, folder, hear=None, **surroundings):
+    """Shows what a command says, and adds all its checks, which it counts in its last line. How many passed. What is
+    shown is heard too, part by part."""
+    last = bytearray()
+
+    def note(part):
+        last.extend(part)
+        del last[:-1000]
+        if hear:
+            hear(part)
+
+    status = shown(command, note, cwd=folder, env=surroundings_of(**surroundings))
+    return add_counts(tally, command, bytes(last), status)
 
 
 def add_counts(tally, command, said, status):
@@ -349,8 +360,23 @@ def script(name):
 
 
 def compile_faults(room):
-    """Makes the library of tools/faults.c in this folder, by CC, cc or clang, which the toolchain needs too."""
+    """Makes the library of tools/faults.c in this folder, by CC, cc or clang."""
     compiler = (os.environ.get("CC") or ("cc" if shutil.which("cc") else "clang")).split()
+    if not shutil.which(compiler[0]):
+        raise Refused(f"a C compiler is needed, cc, clang or what CC names, and there is no {compiler[0]} on the path")
     made = ran([*compiler, "-O1", "-shared", "-fPIC", "-o", f"{room}/faults.so", f"{ROOT}/tools/faults.c"], text=True)
     if made.returncode or not os.path.isfile(f"{room}/faults.so"):
         raise Refused(f"{compiler[0]} made no library: {made.stderr.strip()[:200]}")
+
+
+@functools.cache
+def is_of_rust(program):
+    """Whether Rust's compiler made a program: Rust's library reads a variable of this name."""
+    with open(program, "rb") as file:
+        return b"RUST_BACKTRACE" in file.read()
+
+
+def preloading(library, program, faults):
+    """The surroundings of a run of a program with the library of tools/faults.c, and with these faults."""
+    words = {**({"RUST": 1} if is_of_rust(program) else {}), **dict(faults)}
+    return {"LD_PRELOAD": library, **{it: str(number) for it, number in words.items()}}

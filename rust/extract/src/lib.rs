@@ -7,7 +7,6 @@
 //! with its file and line.
 #![forbid(unsafe_code)]
 
-pub mod audit;
 pub mod crates;
 pub mod edit;
 pub mod package;

@@ -33,7 +33,7 @@ pub const PUBLIC: [&str; 14] = [
 ];
 /// The crates whose functions examples in documentation are parts of.
 const EXAMPLES: [&str; 2] = ["trie_examples", "table_tests"];
-/// What of the text that was proved is no matter of rustc's, and what of Rust it may be too new for.
+/// What rustc may not say of text that is proved, and what it has to: that a call is too new.
 const LINTS: &str = "#[allow(clippy::all, dead_code, unused_imports, unused_mut, unused_variables)]
 #[warn(clippy::incompatible_msrv)]
 ";
@@ -200,9 +200,11 @@ pub fn as_module(source: &str, name: &str) -> String {
 /// What a build script does: writes a package's modules where Cargo wants them, and `modules.rs`,
 /// which declares them. What isn't understood ends the build with its place.
 pub fn build(crates: Option<&[&str]>) {
-    let folder = |name: &str| PathBuf::from(std::env::var_os(name).unwrap_or_default());
-    let (manifest, out) = (folder("CARGO_MANIFEST_DIR"), folder("OUT_DIR"));
+    let folder = |name: &str| {
+        std::env::var_os(name).map(PathBuf::from).ok_or_else(|| format!("Cargo gives no {name}"))
+    };
     let done = (|| {
+        let (manifest, out) = (folder("CARGO_MANIFEST_DIR")?, folder("OUT_DIR")?);
         let root = manifest.ancestors().nth(2).unwrap_or(&manifest);
         let checkout = Checkout::read(root)?;
         let package = match crates {

@@ -21,8 +21,8 @@ pub enum Kind {
 /// Where a token comes from.
 #[derive(Clone, Copy, Debug, PartialEq, Eq)]
 pub enum Origin {
-    /// It stands in the source.
-    Source,
+    /// It is the source's token of this index.
+    Source(usize),
     /// The rule of this name has put it.
     Put(&'static str),
 }
@@ -49,7 +49,7 @@ pub fn tokens(text: &str) -> Vec<Token<'_>> {
     while !rest.is_empty() {
         let (kind, length) = first(rest);
         let (token, behind) = rest.split_at(length);
-        let origin = Origin::Source;
+        let origin = Origin::Source(found.len());
         found.push(Token { kind, text: Cow::Borrowed(token), line, origin });
         line += token.matches('\n').count();
         rest = behind;

@@ -1,7 +1,7 @@
 //! Each rule by sources and what they become. White space isn't compared.
 use std::collections::BTreeMap;
 
-use extract::rules::{Place, RULES, destructors};
+use extract::rules::{Example, Place, RULES, destructors};
 use extract::tokens::tokens;
 
 /// A rule's name, a source, and what it becomes. Where a rule refuses, what it says, behind `!`.
@@ -63,7 +63,6 @@ const ROWS: &[(&str, &str, &str)] = &[
      "!line 1: a derived Clone of a type with parameters"),
     ("copies", "impl<A: Eq> Copy for S<A> {}",
      "impl<A: Eq> Copy for S<A> {} impl<A: Eq> ::core::clone::Clone for S<A> { fn clone(&self) -> Self { *self } }"),
-    ("finals", "trait T: Eq { final fn f(&self) {} }", "trait T: Eq { fn f(&self) {} }"),
     ("runtimes", "fn main(rt: HostRuntime) -> ExitCode { f(rt) }",
      "pub fn main() -> ExitCode { let rt = crate::rattle_std::rt::host(); f(rt) }"),
     ("runtimes", "#[test] fn t(rt: HostRuntime) -> Result<(), Memory> { f(rt) }",
@@ -163,6 +162,67 @@ fn examples_keep_their_lines() {
         made.contains("/// ```ignore\n/// f();\n/// ```\n/// ```text\n/// a\n/// ```\n"),
         "{made}"
     );
+}
+
+const FILE: &str = "\
+use std::io;
+use crate::samples::list;
+use std::one;
+
+/// Two.
+fn two() -> u8 {
+    2
+}
+
+#[test]
+fn sums(rt: HostRuntime) -> Result<(), Memory>
+    ensures { x }
+{
+    let one = one();
+    assert!(rt; one + two() == 3);
+    Ok(())
+}
+";
+
+/// What a documentation becomes, beside that file.
+fn shown(source: &str, file: &str) -> String {
+    let homes = BTreeMap::from([("std".to_string(), "::nifazombi::rattle_std".to_string())]);
+    let place_of_file = Place { own: "crate::a".to_string(), homes, ..Place::default() };
+    let example = Example::new(file, &place_of_file).unwrap();
+    let examples = BTreeMap::from([("crates/a/src/b.rt".to_string(), example)]);
+    made(source, Place { examples, ..place() })
+}
+
+#[test]
+fn an_example_is_a_function_with_hidden_lines() {
+    let source = "/// ```\n/// let one = one();\n/// assert!(rt; one + two() == 3);\n/// ```\n///\n\
+        /// `sums` in `crates/a/src/b.rt` adds.\nfn f() {}";
+    let made = shown(source, FILE);
+    let lines: Vec<&str> = made.lines().filter(|line| line.starts_with("/// ")).collect();
+    let wanted = [
+        "/// # use ::nifazombi::rattle_std::one;",
+        "/// # fn two() -> u8 {",
+        "/// #     2",
+        "/// # }",
+        "/// # fn sums() -> Result<(), Memory>",
+        "/// # { let rt = ::nifazombi::rattle_std::rt::host();",
+        "/// let one = one();",
+        "/// assert!(rt; one + two() == 3);",
+        "/// #     Ok(())",
+        "/// # }",
+        "/// # fn main() { ::std::assert!(sums().is_ok()) }",
+        "/// ```",
+    ];
+    for line in wanted {
+        assert!(lines.contains(&line), "{line}\n{made}");
+    }
+    assert!(!made.contains("samples"), "{made}");
+}
+
+#[test]
+fn an_example_that_stands_nowhere_is_not_run() {
+    let source = "/// ```\n/// g();\n/// ```\n/// `sums` in `crates/a/src/b.rt` adds.\nfn f() {}";
+    assert!(shown(source, FILE).contains("/// ```ignore\n/// g();\n"));
 }
 
 #[test]

@@ -1,42 +1,40 @@
 //! An error of any kind, as text.
-use std::fmt;
+use crate::alloc::Global;
+use crate::string::String;
+use std::{error, fmt};
 
-pub struct Error(std::string::String);
+pub use crate::macros::bail;
 
+/// An error's text, if there was memory for it.
+pub struct Error(Option<String>);
+
+/// What may fail for any cause.
 pub type Result<T, E = Error> = std::result::Result<T, E>;
 
 impl Error {
+    /// An error of this text.
     pub fn msg(text: fmt::Arguments<'_>) -> Error {
-        Error(text.to_string())
-    }
-}
-impl<E: std::error::Error> From<E> for Error {
-    fn from(error: E) -> Error {
-        Error(error.to_string())
-    }
-}
-impl fmt::Debug for Error {
-    fn fmt(&self, f: &mut fmt::Formatter<'_>) -> fmt::Result {
-        f.write_str(&self.0)
-    }
-}
-impl fmt::Display for Error {
-    fn fmt(&self, f: &mut fmt::Formatter<'_>) -> fmt::Result {
-        f.write_str(&self.0)
+        Error(crate::macros::format!(in Global; "{text}").ok())
     }
 }
 
-pub use crate::macros::{bail, ensure};
-pub trait Context<T> {
-    fn context<C: fmt::Display>(self, what: C) -> Result<T>;
-}
-impl<T, E: fmt::Display> Context<T> for std::result::Result<T, E> {
-    fn context<C: fmt::Display>(self, what: C) -> Result<T> {
-        self.map_err(|error| Error(format!("{what}: {error}")))
+impl<E: error::Error> From<E> for Error {
+    fn from(error: E) -> Error {
+        Error::msg(format_args!("{error}"))
     }
 }
-impl<T> Context<T> for Option<T> {
-    fn context<C: fmt::Display>(self, what: C) -> Result<T> {
-        self.ok_or_else(|| Error(what.to_string()))
+
+impl fmt::Display for Error {
+    fn fmt(&self, formatter: &mut fmt::Formatter<'_>) -> fmt::Result {
+        match &self.0 {
+            Some(text) => formatter.write_str(text),
+            None => formatter.write_str("an error, and no memory for its text"),
+        }
+    }
+}
+
+impl fmt::Debug for Error {
+    fn fmt(&self, formatter: &mut fmt::Formatter<'_>) -> fmt::Result {
+        fmt::Display::fmt(self, formatter)
     }
 }

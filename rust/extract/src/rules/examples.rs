@@ -2,6 +2,7 @@
 //! text below them names; rustdoc runs the function, and shows what the source shows.
 use std::ops::Range;
 
+use super::spelling::HANDED;
 use super::{Place, RULES};
 use crate::edit::{Edit, Unknown};
 use crate::tokens::Kind;
@@ -10,10 +11,6 @@ use crate::tokens::Kind;
 const LEFT: [&str; 4] = ["macros", "examples", "exports", "preludes"];
 /// What stands in front of an item's name.
 const KINDS: [&str; 7] = ["fn", "struct", "enum", "type", "const", "trait", "for"];
-const IMPORTS: &str = "#[allow(unused_imports)]
-use ::nifazombi::rattle_std::{
-    macros::{assert, assert_eq, assert_ne, format, print, println, vec}, prelude::*,
-};";
 
 /// A file that examples stand in, line by line: as it stands, and as rustc reads it.
 #[derive(Clone, Debug, Default)]
@@ -56,8 +53,8 @@ impl Example {
         let start = *(0..=first).rev().collect::<Vec<_>>().iter().find(starts)?;
         let end = last + self.source[last..].iter().position(|line| line == "}")? + 1;
         let function = self.made[start..end].concat();
-        let hidden = [IMPORTS, &self.named_by(&function, start), &self.made[start..first].concat()];
-        let hidden = hidden.join("\n");
+        let named = self.named_by(&function, start);
+        let hidden = [imports(&function), named, self.made[start..first].concat()].join("\n");
         let rest = format!("{}\n{}", self.made[last..end].concat(), self.call(start));
         if hidden.contains("crate::") || rest.contains("crate::") {
             return None;
@@ -130,6 +127,15 @@ impl Example {
             _ => format!("fn main() {{ {name}() }}"),
         }
     }
+}
+
+/// The prelude, and the macros that a function calls.
+fn imports(function: &str) -> String {
+    let is_called = |name: &&&str| function.contains(&format!("{name}!("));
+    let called: Vec<String> =
+        HANDED.iter().filter(is_called).map(|name| format!("macros::{name}, ")).collect();
+    let std = format!("::nifazombi::rattle_std::{{{}prelude::*}}", called.concat());
+    format!("#[allow(unused_imports)]\nuse {std};")
 }
 
 fn words_of(text: &str) -> impl Iterator<Item = &str> {

@@ -74,7 +74,6 @@ pub const RULES: &[Rule] = &[
         derives::derives,
     ),
     rule("copies", "a type that is `Copy` is Rust's `Clone` too", derives::copies),
-    rule("finals", "`final`, of a default body that none replaces, is left out", spelling::finals),
     rule(
         "runtimes",
         "`main` and a test make the runtime that Rattle hands to them",

@@ -4,19 +4,10 @@ use crate::edit::{Edit, Unknown};
 use crate::tokens::Kind;
 
 /// Macros whose first argument is the runtime or an allocator.
-const HANDED: [&str; 8] =
+pub(super) const HANDED: [&str; 8] =
     ["assert", "assert_eq", "assert_ne", "print", "println", "eprintln", "format", "vec"];
 /// Macros that are the same in both.
 const SHARED: [&str; 6] = ["bail", "ensure", "matches", "panic", "unreachable", "write"];
-
-pub(super) fn finals(edit: &mut Edit<'_>, _: &Place) -> Result<bool, Unknown> {
-    let at = edit.at();
-    let is_final = edit.text(at) == "final" && edit.reads(at, &["final", "fn"]);
-    if is_final {
-        edit.leave_to(edit.after(at));
-    }
-    Ok(is_final)
-}
 
 /// `fn main(rt: HostRuntime)`, and a test's.
 pub(super) fn runtimes(edit: &mut Edit<'_>, _: &Place) -> Result<bool, Unknown> {

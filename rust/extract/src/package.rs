@@ -4,7 +4,7 @@ use std::path::{Path, PathBuf};
 
 use crate::crates::{Checkout, Problem, files_below, text_of, write};
 use crate::extract;
-use crate::rules::{Example, Place, destructors};
+use crate::rules::{Example, Place, destructors, of_traits};
 use crate::tokens::tokens;
 
 /// What stands for Rattle's own library.
@@ -124,8 +124,9 @@ impl<'a> Package<'a> {
         place.homes.insert("std".to_string(), std);
         place.examples = self.examples.clone();
         for path in files_below(&self.checkout.folder(name), "rt")? {
-            let found = destructors(&text_of(&path)?).map_err(|it| told(&path, &it))?;
-            place.destructors.extend(found);
+            let (text, told) = (text_of(&path)?, |it| told(&path, &it));
+            place.destructors.extend(destructors(&text).map_err(told)?);
+            place.requirements.extend(of_traits(&text).map_err(told)?);
         }
         Ok(place)
     }

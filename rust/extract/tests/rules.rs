@@ -1,7 +1,7 @@
 //! Each rule by sources and what they become. White space isn't compared.
 use std::collections::BTreeMap;
 
-use extract::rules::{Example, Place, RULES, destructors};
+use extract::rules::{Example, Place, RULES, destructors, of_traits};
 use extract::tokens::tokens;
 
 /// A rule's name, a source, and what it becomes. Where a rule refuses, what it says, behind `!`.
@@ -16,6 +16,20 @@ const ROWS: &[(&str, &str, &str)] = &[
     ("requirements", "pub fn keep<F: Fn()>(f: F) requires { All (TakesPairAt F.Fn f) [] } {}",
      "pub fn keep<F: Fn()>(f: F) {}"),
     ("requirements", "fn own(b: &[u8]) requires { IsPadded b.now } {}", "fn own(b: &[u8]) {}"),
+    (
+        "requirements",
+        "trait A { fn byte(&self, i: usize) -> u8 requires { i < WIDTH } ensures { x }; fn other();
+          fn of(n: u128) requires { n < 2 ^ BITS }; }
+         impl A for B { fn other() {} fn byte(&self, i: usize) -> u8 { 0 } }",
+        "trait A: Sized { fn byte(&self, i: usize) -> u8; fn other(); fn of(n: u128); }
+         impl A for B { fn other() {} fn byte(&self, i: usize) -> u8 { ::core::assert!(i < Self::WIDTH); 0 } }",
+    ),
+    (
+        "requirements",
+        "trait A { fn of(n: u128) requires { n < 2 ^ BITS }; } impl A for B { fn of(n: u128) { 0 } }",
+        "trait A: Sized { fn of(n: u128); } impl A for B { fn of(n: u128) {
+             ::core::assert!(n.checked_shr(Self::BITS as u32).unwrap_or(0) == 0); 0 } }",
+    ),
     ("contracts", "fn f() -> u8 requires { a { b } } ensures* c { d '{' } { 0 }", "fn f() -> u8 { 0 }"),
     ("contracts", "fn requires(ensures: u8) {}", "!line 1: a clause without a brace"),
     ("ghosts", "ghost use Rattle.std.{◌≡◌, ℕ}; use std::io;", "use crate::rattle_std::io;"),
@@ -102,8 +116,8 @@ fn place() -> Place {
 /// What a source becomes, or what is said of it.
 fn made(source: &str, mut place: Place) -> String {
     let told = |it: extract::edit::Unknown| format!("!line {}: {}", it.line, it.what);
-    match destructors(source) {
-        Ok(found) => place.destructors = found,
+    match destructors(source).and_then(|found| Ok((found, of_traits(source)?))) {
+        Ok(found) => (place.destructors, place.requirements) = found,
         Err(it) => return told(it),
     }
     match extract::extract(source, &place) {

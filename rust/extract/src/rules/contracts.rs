@@ -21,14 +21,15 @@ pub(super) fn clause_at(edit: &Edit<'_>, at: usize) -> Result<Option<usize>, Unk
     }
 }
 
-/// The brace of the body of a function at an index, and what its `requires` clauses say.
+/// The brace of the body of a function at an index, or the `;` of one without a body, and what its
+/// `requires` clauses say.
 pub(super) fn body_of(
     edit: &Edit<'_>,
     mut at: usize,
 ) -> Result<(usize, Vec<Vec<String>>), Unknown> {
     let mut found = Vec::new();
     loop {
-        at = edit.find(at, &["requires", "ensures", "{"])?;
+        at = edit.find(at, &["requires", "ensures", "{", ";"])?;
         let Some(brace) = clause_at(edit, at)? else {
             return Ok((at, found));
         };

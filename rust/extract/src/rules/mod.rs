@@ -11,6 +11,7 @@ use std::collections::BTreeMap;
 
 pub use destructors::{Destructor, destructors};
 pub use examples::Example;
+pub use requirements::{Requirement, of_traits};
 
 use crate::edit::{Edit, Unknown};
 
@@ -40,6 +41,8 @@ pub struct Place {
     pub homes: BTreeMap<String, String>,
     /// Its types with a destructor that does something.
     pub destructors: Vec<Destructor>,
+    /// What the methods of its traits require.
+    pub requirements: Vec<Requirement>,
     /// The files that examples stand in, by what documentation calls them.
     pub examples: BTreeMap<String, Example>,
     /// Whether no user's program names it: its functions are called by what is proved alone.

@@ -1,8 +1,8 @@
 //! What a public function requires of its caller. A proof sees to it; rustc doesn't.
 use super::Place;
-use super::contracts::body_of;
+use super::contracts::{body_of, header, is_impl_of};
 use crate::edit::{Edit, Unknown};
-use crate::tokens::Kind;
+use crate::tokens::{Kind, tokens};
 
 /// How a requirement begins that every caller in Rust meets: closures may be called, iterators be
 /// asked and come to an end, and a clone of a key is that key, as its type promises.
@@ -16,19 +16,63 @@ const GIVEN: [&[&str]; 7] = [
     &["(", "value", "copy", ":"],
 ];
 
+/// What a method of a trait requires of its caller, wherever it is implemented.
+#[derive(Clone, Debug, PartialEq, Eq)]
+pub struct Requirement {
+    owner: String,
+    method: String,
+    asserts: String,
+}
+
+/// What the methods of a source's traits require.
+///
+/// # Errors
+/// A clause or a bracket that isn't understood.
+pub fn of_traits(source: &str) -> Result<Vec<Requirement>, Unknown> {
+    let edit = Edit::new("requirements", tokens(source));
+    let mut found = Vec::new();
+    for at in
+        (0..edit.len()).filter(|at| edit.text(*at) == "trait" && edit.kind(*at) == Some(Kind::Word))
+    {
+        let (owner, brace) = (edit.text(edit.after(at)), edit.find(at, &["{"])?);
+        for method in methods(&edit, brace)? {
+            let asserts = asserts(&edit, &body_of(&edit, method)?.1).unwrap_or_default();
+            if !asserts.is_empty() {
+                let (owner, method) =
+                    (owner.to_string(), edit.text(edit.after(method)).to_string());
+                found.push(Requirement { owner, method, asserts });
+            }
+        }
+    }
+    Ok(found)
+}
+
+/// The `fn` of each method of a block.
+fn methods(edit: &Edit<'_>, brace: usize) -> Result<Vec<usize>, Unknown> {
+    let (mut found, mut at, end) = (Vec::new(), edit.after(brace), edit.close(brace)? - 1);
+    while at < end {
+        if edit.text(at) == "fn" {
+            found.push(at);
+        }
+        at = if edit.text(at) == "{" { edit.next(edit.close(at)?) } else { edit.after(at) };
+    }
+    Ok(found)
+}
+
 pub(super) fn requirements(edit: &mut Edit<'_>, place: &Place) -> Result<bool, Unknown> {
+    for known in &place.requirements {
+        if is_impl_of(edit, &known.owner)? {
+            assert_in_impl(edit, known)?;
+            return Ok(true);
+        }
+    }
     let at = edit.at();
     let is_function = edit.reads(at, &["pub", "fn"]) || edit.reads(at, &["pub", "const", "fn"]);
     if edit.text(at) != "pub" || !is_function || place.is_inner {
         return Ok(false);
     }
     let (body, clauses) = body_of(edit, at)?;
-    let tests: Option<Vec<String>> = clauses.iter().map(|words| test_of(edit, words)).collect();
-    let asserts = tests.map(|tests| {
-        let tests = tests.iter().filter(|test| !test.is_empty());
-        tests.map(|test| format!(" ::core::assert!({test});")).collect::<String>()
-    });
-    match asserts {
+    match asserts(edit, &clauses) {
         Some(asserts) => {
             edit.keep_to(body + 1);
             edit.put(&asserts);
@@ -39,6 +83,26 @@ pub(super) fn requirements(edit: &mut Edit<'_>, place: &Place) -> Result<bool, U
         }
     }
     Ok(true)
+}
+
+/// Puts the asserts of a trait's method into an impl of it.
+fn assert_in_impl(edit: &mut Edit<'_>, known: &Requirement) -> Result<(), Unknown> {
+    let brace = header(edit)?.0;
+    let end = edit.close(brace)?;
+    let is_known = |at: &usize| edit.text(edit.after(*at)) == known.method;
+    if let Some(method) = methods(edit, brace)?.into_iter().find(is_known) {
+        edit.keep_to(body_of(edit, method)?.0 + 1);
+        edit.put(&known.asserts);
+    }
+    edit.keep_to(end);
+    Ok(())
+}
+
+/// What tests clauses, of no character where all are given; none where one can't be tested.
+fn asserts(edit: &Edit<'_>, clauses: &[Vec<String>]) -> Option<String> {
+    let tests: Option<Vec<String>> = clauses.iter().map(|words| test_of(edit, words)).collect();
+    let tests = tests?.into_iter().filter(|test| !test.is_empty());
+    Some(tests.map(|test| format!(" ::core::assert!({test});")).collect())
 }
 
 /// The test of a requirement, of no character where it is given; none where there isn't any.
@@ -56,6 +120,12 @@ fn test_of(edit: &Edit<'_>, words: &[String]) -> Option<String> {
 
 /// A comparison of lengths and numbers.
 fn comparison(words: &[String]) -> Option<String> {
+    if let [number, sign, two, power, bits] = words
+        && [sign, two, power] == ["<", "2", "^"]
+    {
+        let bits = sum(std::slice::from_ref(bits))?;
+        return Some(format!("{number}.checked_shr({bits} as u32).unwrap_or(0) == 0"));
+    }
     let at = words.iter().position(|word| matches!(word.as_str(), "<" | "≤" | "≡"))?;
     let sign = match words[at].as_str() {
         "<" => "<",
@@ -72,6 +142,9 @@ fn sum(words: &[String]) -> Option<String> {
             Some(format!("{}.saturating_add({})", sum(&words[..at])?, sum(&words[at + 1..])?))
         }
         None => match words {
+            [one] if one.bytes().all(|byte| byte.is_ascii_uppercase()) => {
+                Some(format!("Self::{one}"))
+            }
             [one] => is_name_or_number(one).then(|| one.clone()),
             [length, list, dot, _] if length == "length" && dot == "." => {
                 Some(format!("{list}.len()"))

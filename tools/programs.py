@@ -157,7 +157,7 @@ class Extracted(Program):
     def sources(self):
         crates = [*below(self.name, uses_of_crates()), self.name]
         folders = [*(f"{ROOT}/rust/{it}" for it in self.PACKAGES), *(f"{ROOT}/crates/{it}/src" for it in crates)]
-        paths = [f"{ROOT}/{it}" for it in ("crates.txt", "Cargo.toml", "Cargo.lock")]
+        paths = [f"{ROOT}/{it}" for it in ("crates.txt", "Cargo.toml", "Cargo.lock", ".cargo/config.toml")]
         return [*paths, *(it for folder in folders for it in files_in(folder))]
 
     def origin(self):

@@ -285,6 +285,43 @@ mod typed {
         assert_eq!(taken::<Numbers>("{\"a\":1,\"a\":2}"), Err(Category::Data));
         assert_eq!(taken::<Pairs<u64, u64>>("{\"a\":1}"), Err(Category::Data));
         assert_eq!(taken::<Pairs<Text, Text>>("{\"a\":1}"), Err(Category::Data));
+    }
+
+    #[test]
+    fn a_key_that_is_a_number_is_written_as_json_has_it() {
+        for (key, number) in [("0", 0), ("7", 7), ("18446744073709551615", u64::MAX)] {
+            let given = format!(" {{ \"{key}\" : 1 }} ");
+            assert_eq!(taken::<Pairs<u64, u64>>(&given), Ok(Pairs(vec![(number, 1)])), "{given}");
+        }
+        let others = [
+            "+7",
+            "007",
+            "00",
+            "-0",
+            "-7",
+            "7.0",
+            "7e0",
+            "7 ",
+            " 7",
+            "",
+            "7x",
+            "\\u0037",
+            "7\\u0030",
+            "1e400",
+            "18446744073709551616",
+            "-",
+        ];
+        for key in others {
+            let given = format!("{{\"{key}\":1}}");
+            assert_eq!(taken::<Pairs<u64, u64>>(&given), Err(Category::Data), "{given}");
+        }
+        for (given, wanted) in [("{7:1}", Category::Syntax), ("{\"7", Category::Eof)] {
+            assert_eq!(taken::<Pairs<u64, u64>>(given), Err(wanted), "{given}");
+        }
+    }
+
+    #[test]
+    fn other_texts_are_told_from_those_that_end_early() {
         for given in ["{1:1}", "{\"a\":1,}", "{\"a\":01}", "{} {}", "{\"a\" 1}"] {
             assert_eq!(taken::<Numbers>(given), Err(Category::Syntax), "{given}");
         }

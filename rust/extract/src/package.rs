@@ -126,7 +126,13 @@ impl<'a> Package<'a> {
         for path in files_below(&self.checkout.folder(name), "rt")? {
             let (text, told) = (text_of(&path)?, |it| told(&path, &it));
             place.destructors.extend(destructors(&text).map_err(told)?);
-            place.requirements.extend(of_traits(&text).map_err(told)?);
+        }
+        let own = self.checkout.uses(name)?.iter().filter(|used| self.checkout.uses(used).is_ok());
+        for used in own.map(String::as_str).chain([name]) {
+            for path in files_below(&self.checkout.folder(used), "rt")? {
+                let found = of_traits(&text_of(&path)?).map_err(|it| told(&path, &it))?;
+                place.requirements.extend(found);
+            }
         }
         Ok(place)
     }

@@ -45,9 +45,12 @@ fn type_of(edit: &Edit<'_>) -> Result<String, Unknown> {
 fn is_empty(edit: &Edit<'_>) -> Result<bool, Unknown> {
     let brace = header(edit)?.0;
     let open = body_of(edit, edit.after(brace))?.0;
-    let words = edit.words(open, edit.close(open)?);
-    let is_pattern = words.starts_with(&["{", "let"]) && words.get(3) == Some(&"{");
-    Ok(is_pattern && words.ends_with(&["}", "=", "self", ";", "}"]))
+    let (word, end) = (edit.after(open), edit.close(open)?);
+    let pattern = edit.after(edit.after(word));
+    if edit.text(word) != "let" || edit.text(pattern) != "{" {
+        return Ok(false);
+    }
+    Ok(edit.words(edit.close(pattern)?, end) == ["=", "self", ";", "}"])
 }
 
 /// The fields of a struct of a source.
@@ -152,6 +155,12 @@ impl{parameters} {whole} {{
         ({taken})
     }}
 
+    /// Its fields, of a value that no one borrows.
+    #[inline]
+    fn into_fields(mut self) -> ({types}) {{
+        self.take_fields()
+    }}
+
     #[inline(never)]
     fn drop_all(mut self) "
     )
@@ -183,10 +192,10 @@ fn take_apart(edit: &mut Edit<'_>, known: &Destructor) -> Result<(), Unknown> {
         return Err(edit.unknown(at, "a pattern without all fields in their order"));
     }
     let patterns: Vec<&str> = bound.iter().map(|(_, pattern)| &**pattern).collect();
-    let text = format!("let ({}) = {{ let mut whole = ", patterns.join(", "));
+    let text = format!("let ({}) = {}::into_fields(", patterns.join(", "), known.name);
     edit.leave_to(edit.after(assign));
     edit.put(&text);
     edit.keep_to(semicolon);
-    edit.put("; whole.take_fields() }");
+    edit.put(")");
     Ok(())
 }

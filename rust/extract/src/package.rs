@@ -33,9 +33,11 @@ pub const PUBLIC: [&str; 14] = [
 ];
 /// The crates whose functions examples in documentation are parts of.
 const EXAMPLES: [&str; 2] = ["trie_examples", "table_tests"];
-/// What rustc may not say of text that is proved, and what it has to: that a call is too new.
+/// What rustc may not say of text that is proved, and what it has to: that a call is too new, or
+/// that something is unsafe.
 const LINTS: &str = "#[allow(clippy::all, dead_code, unused_imports, unused_mut, unused_variables)]
 #[warn(clippy::incompatible_msrv)]
+#[forbid(unsafe_code)]
 ";
 
 /// Crates that become modules of one package.

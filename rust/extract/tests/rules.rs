@@ -61,7 +61,7 @@ const ROWS: &[(&str, &str, &str)] = &[
     ("destructors", "impl Drop for S { fn drop(self) ensures { x } { let S { a: _ } = self; } } struct S;", "struct S;"),
     ("destructors",
      "pub struct Node<K> { key: Option<K>, mask: u16, children: Vec<Box<Node<K>>> }
-      impl<K: Drop> Drop for Node<K> { fn drop(mut self) { loop { let Node { key, mask, mut children } = self; return } } }
+      impl<K: Drop> Drop for Node<K> { fn drop(mut self) { loop { let Node { key, mask, mut children } = self; match children.pop() { None => return, Some(it) => {} } } } }
       impl<K> Node<K> { fn parts(self) { let Node { key: k, mask: _, children } = self; } }",
      "pub struct Node<K> { key: Option<K>, mask: u16, children: Vec<Box<Node<K>>> }
       impl<K> ::core::ops::Drop for Node<K> { #[inline] fn drop(&mut self) {
@@ -76,7 +76,7 @@ const ROWS: &[(&str, &str, &str)] = &[
           }
           #[inline] fn into_fields(mut self) -> (Option<K>, u16, Vec<Box<Node<K>>>) { self.take_fields() }
           #[inline(never)] fn drop_all(mut self) { loop {
-              let (key, mask, mut children) = Node::into_fields(self); return } }
+              let (key, mask, mut children) = Node::into_fields(self); match children.pop() { None => return, Some(it) => {} } } }
       }
       impl<K> Node<K> { fn parts(self) { let (k, _, children) = Node::into_fields(self); } }"),
     ("destructors",
@@ -84,10 +84,17 @@ const ROWS: &[(&str, &str, &str)] = &[
      "!line 1: a destructor of a type without one list of its own"),
     ("destructors", "struct S { a: u8 } impl Drop for S { fn drop(mut self) { f(self.a) } }",
      "!line 1: a destructor of a type without one list of its own"),
+    ("destructors",
+     "struct S { a: Vec<S> }\nimpl Drop for S { fn drop(mut self) { f(); loop { let S { mut a } = self; match a.pop() { None => return, _ => {} } } } }",
+     "!line 2: a destructor that does more than go down its list"),
+    ("destructors",
+     "struct S { a: Vec<S> } impl Drop for S { fn drop(mut self) { loop { let S { mut a } = self; match a.pop() { None => { f(); return } _ => {} } } } }",
+     "!line 1: a destructor that does more than go down its list"),
     ("destructors", "struct S { a: Vec<S> } impl Drop for S { fn drop(self) { f(self.a) } }",
      "!line 1: a destructor of another form"),
-    ("destructors", "struct S { a: Vec<S>, b: u8 } impl Drop for S { fn drop(mut self) { let S { b, a } = self; g(a) } }",
-     "!line 1: a pattern without all fields in their order"),
+    ("destructors", "struct S { a: Vec<S>, b: u8 } impl Drop for S { fn drop(mut self) { loop {
+         let S { b, mut a } = self; match a.pop() { None => return, _ => {} } } } }",
+     "!line 2: a pattern without all fields in their order"),
     ("derives", "#[derive(Debug, Drop)] struct S;", "#[derive(Debug)] struct S;"),
     ("derives", "#[derive(Drop)] struct S;", "struct S;"),
     ("derives", "#[derive(Clone, Copy)] pub struct S<'a, T: Eq, const N: usize> { a: &'a [T; N] }",

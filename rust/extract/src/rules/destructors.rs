@@ -120,14 +120,31 @@ fn drop_of(edit: &mut Edit<'_>, place: &Place) -> Result<(), Unknown> {
     let [(below, _)] = below.collect::<Vec<_>>()[..] else {
         return Err(edit.unknown(edit.at(), "a destructor of a type without one list of its own"));
     };
+    let body = edit.find(edit.after(brace), &["{"])?;
+    if !goes_down(edit, body, &name, below)? {
+        return Err(edit.unknown(body, "a destructor that does more than go down its list"));
+    }
     let at = edit.find(edit.at(), &["for"])?;
     let whole = edit.joined(at + 1, brace);
     let parameters = whole.find('<').map_or("", |open| &whole[open..]);
     let text = lent(known, &whole, parameters, below);
-    let body = edit.find(edit.after(brace), &["{"])?;
     edit.leave_to(body);
     edit.put(&text);
     Ok(())
+}
+
+/// Whether the body of a `drop` returns at once from a value with nothing below it, so that Rust
+/// may drop that field by field.
+fn goes_down(edit: &Edit<'_>, body: usize, name: &str, below: &str) -> Result<bool, Unknown> {
+    let begin = ["{", "loop", "{", "let", name, "{"];
+    if !edit.reads(body, &begin) {
+        return Ok(false);
+    }
+    let inner = edit.find(edit.after(body), &["{"])?;
+    let pattern = edit.find(inner + 1, &["{"])?;
+    let ends =
+        ["=", "self", ";", "match", below, ".", "pop", "(", ")", "{", "None", "=>", "return", ","];
+    Ok(edit.reads(edit.close(pattern)?, &ends))
 }
 
 /// What stands in front of the body of a proved `drop`.

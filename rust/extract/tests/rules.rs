@@ -206,6 +206,13 @@ fn exports_become_plain_functions() {
 }
 
 #[test]
+fn exports_of_another_form_are_refused() {
+    let source = "extern \"C\" { fn g(); } const A: u8 = 1; fn f() {}";
+    let made = made(source, Place { is_exported: true, ..place() });
+    assert_eq!(made, "!line 1: extern that is no function's");
+}
+
+#[test]
 fn functions_of_inner_crates_are_as_they_stand() {
     let made = made("pub fn f(i: u8) requires { i < 2 } {}", Place { is_inner: true, ..place() });
     assert_eq!(significant(&made), significant("pub fn f(i: u8) {}"));

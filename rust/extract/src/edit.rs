@@ -74,9 +74,19 @@ impl<'a> Edit<'a> {
         self.next(at + 1)
     }
 
+    /// The index of the last significant token in front of one.
+    pub fn last(&self, at: usize) -> Option<usize> {
+        self.given[..at].iter().rposition(Token::is_significant)
+    }
+
     /// The last significant token in front of one.
     pub fn before(&self, at: usize) -> &str {
-        self.given[..at].iter().rev().find(|token| token.is_significant()).map_or("", |t| &*t.text)
+        self.last(at).map_or("", |last| self.text(last))
+    }
+
+    /// Whether an earlier rule has put a token.
+    pub fn is_put(&self, at: usize) -> bool {
+        self.given.get(at).is_some_and(|token| matches!(token.origin, Origin::Put(_)))
     }
 
     /// The significant tokens from one on are these.
@@ -86,6 +96,19 @@ impl<'a> Edit<'a> {
             let is_same = self.text(at) == *word;
             at = self.after(at);
             is_same
+        })
+    }
+
+    /// The innermost bracket that is open in front of a token.
+    pub fn opening(&self, at: usize) -> Option<usize> {
+        let mut depth = 0_i32;
+        (0..at).rev().find(|it| {
+            depth += match self.text(*it) {
+                "(" | "[" | "{" => -1,
+                ")" | "]" | "}" => 1,
+                _ => 0,
+            };
+            depth < 0
         })
     }
 

@@ -33,9 +33,11 @@ pub const PUBLIC: [&str; 14] = [
 ];
 /// The crates whose functions examples in documentation are parts of.
 const EXAMPLES: [&str; 2] = ["trie_examples", "table_tests"];
-/// What rustc may not say of text that is proved, and what it has to: that a call is too new.
+/// What rustc may not say of text that is proved, and what it has to: that a call is too new, or
+/// that something is unsafe.
 const LINTS: &str = "#[allow(clippy::all, dead_code, unused_imports, unused_mut, unused_variables)]
 #[warn(clippy::incompatible_msrv)]
+#[forbid(unsafe_code)]
 ";
 
 /// Crates that become modules of one package.
@@ -126,7 +128,13 @@ impl<'a> Package<'a> {
         for path in files_below(&self.checkout.folder(name), "rt")? {
             let (text, told) = (text_of(&path)?, |it| told(&path, &it));
             place.destructors.extend(destructors(&text).map_err(told)?);
-            place.requirements.extend(of_traits(&text).map_err(told)?);
+        }
+        let own = self.checkout.uses(name)?.iter().filter(|used| self.checkout.uses(used).is_ok());
+        for used in own.map(String::as_str).chain([name]) {
+            for path in files_below(&self.checkout.folder(used), "rt")? {
+                let found = of_traits(&text_of(&path)?).map_err(|it| told(&path, &it))?;
+                place.requirements.extend(found);
+            }
         }
         Ok(place)
     }

@@ -64,7 +64,7 @@ fn first(text: &str) -> (Kind, usize) {
         return (Kind::Comment, text.find('\n').unwrap_or(text.len()));
     }
     if text.starts_with("/*") {
-        return (Kind::Comment, text.find("*/").map_or(text.len(), |at| at + 2));
+        return (Kind::Comment, comment(text));
     }
     if let Some(length) = quoted(text) {
         return (Kind::Literal, length);
@@ -81,6 +81,24 @@ fn first(text: &str) -> (Kind, usize) {
     }
     let pair = ["::", "->", "=>"].into_iter().find(|pair| text.starts_with(pair));
     (Kind::Sign, pair.map_or(start.len_utf8(), str::len))
+}
+
+/// The length of a comment between `/*` and `*/`, in which others may stand.
+fn comment(text: &str) -> usize {
+    let (mut depth, mut at) = (1, 2);
+    while depth > 0 {
+        let Some(sign) = text[at..].find(['/', '*']) else {
+            return text.len();
+        };
+        at += sign;
+        let (step, length) = match &text.as_bytes()[at..] {
+            [b'/', b'*', ..] => (1, 2),
+            [b'*', b'/', ..] => (-1, 2),
+            _ => (0, 1),
+        };
+        (depth, at) = (depth + step, at + length);
+    }
+    at
 }
 
 fn is_of_word(c: char) -> bool {

@@ -30,6 +30,23 @@ const ROWS: &[(&str, &str, &str)] = &[
         "trait A: Sized { fn of(n: u128); } impl A for B { fn of(n: u128) {
              ::core::assert!(n.checked_shr(Self::BITS as u32).unwrap_or(0) == 0); 0 } }",
     ),
+    (
+        "requirements",
+        "pub trait A { fn a(i: u8) requires { i < 3 } { 1 } fn b(i: u8) requires { i < 4 }; fn c(i: u8); }
+         impl A for B { fn c(i: u8) {} fn b(i: u8) { 2 } fn a(i: u8) requires { i < 5 } { 3 } }
+         impl A for C { fn b(i: u8) ensures { result ≡ i } { 4 } }",
+        "pub trait A: Sized { fn a(i: u8) { ::core::assert!(i < 3); 1 } fn b(i: u8); fn c(i: u8); }
+         impl A for B { fn c(i: u8) {} fn b(i: u8) { ::core::assert!(i < 4); 2 } fn a(i: u8) { ::core::assert!(i < 5); 3 } }
+         impl A for C { fn b(i: u8) { 4 } }",
+    ),
+    ("requirements", "pub trait A { fn a(i: u8);\nfn b(i: u8) requires { IsOdd i }; }",
+     "!line 2: what a method of a public trait requires"),
+    ("requirements", "pub(super) trait A { fn b(i: u8) requires { IsOdd i }; }", "pub(super) trait A: Sized { fn b(i: u8); }"),
+    ("requirements", "pub unsafe fn f(n: u8) requires { n < 255 } {}", "pub unsafe fn f(n: u8) { ::core::assert!(n < 255); }"),
+    ("requirements", "pub fn f(a: u8, b: u8) requires { a + b ≤ 255 } {}", "pub(crate) fn f(a: u8, b: u8) {}"),
+    ("requirements", "pub fn f(a: &[u8], b: usize) requires { b + 1 ≡ length a.now } {}", "pub(crate) fn f(a: &[u8], b: usize) {}"),
+    ("requirements", "pub fn f(o: Option<u8>) requires { ForSome o (λ x. x < 255) } {}", "pub(crate) fn f(o: Option<u8>) {}"),
+    ("requirements", "pub fn f(i: I, n: u8) requires { IsFinite (I.remaining i) × n < 255 } {}", "pub(crate) fn f(i: I, n: u8) {}"),
     ("contracts", "fn f() -> u8 requires { a { b } } ensures* c { d '{' } { 0 }", "fn f() -> u8 { 0 }"),
     ("contracts", "fn requires(ensures: u8) {}", "!line 1: a clause without a brace"),
     ("ghosts", "ghost use Rattle.std.{◌≡◌, ℕ}; use std::io;", "use crate::rattle_std::io;"),
@@ -37,11 +54,14 @@ const ROWS: &[(&str, &str, &str)] = &[
     ("ghosts", "impl T for S { ghost laws = { λ _. refl }; fn f() {} }", "impl T for S { fn f() {} }"),
     ("models", "/// What it stands for.\nimpl<K> Model for S<K> { ghost Value = { ℕ }; } struct T;", "struct T;"),
     ("attributes", "#![tactic(auto)] #[cycle(a)] #[inline] fn f() {}", "#[inline] fn f() {}"),
+    ("models", "impl Model for S { ghost Value = { ℕ }; fn f() {} }", "!line 1: a model with more than ghost members"),
+    ("attributes", "#[cfg(test)] mod a;", "#[cfg(test)] mod a;"),
+    ("attributes", "#[cfg(not(test))] fn f() {}", "!line 1: a cfg other than of tests"),
     ("attributes", "#[global_allocator] static A: B = B;", "!line 1: the attribute global_allocator"),
     ("destructors", "impl Drop for S { fn drop(self) ensures { x } { let S { a: _ } = self; } } struct S;", "struct S;"),
     ("destructors",
      "pub struct Node<K> { key: Option<K>, mask: u16, children: Vec<Box<Node<K>>> }
-      impl<K: Drop> Drop for Node<K> { fn drop(mut self) { loop { let Node { key, mask, mut children } = self; return } } }
+      impl<K: Drop> Drop for Node<K> { fn drop(mut self) { loop { let Node { key, mask, mut children } = self; match children.pop() { None => return, Some(it) => {} } } } }
       impl<K> Node<K> { fn parts(self) { let Node { key: k, mask: _, children } = self; } }",
      "pub struct Node<K> { key: Option<K>, mask: u16, children: Vec<Box<Node<K>>> }
       impl<K> ::core::ops::Drop for Node<K> { #[inline] fn drop(&mut self) {
@@ -54,16 +74,27 @@ const ROWS: &[(&str, &str, &str)] = &[
               (self.key.take(), self.mask,
                ::core::mem::replace(&mut self.children, <Vec<Box<Node<K>>>>::new(crate::rattle_std::alloc::Global)))
           }
+          #[inline] fn into_fields(mut self) -> (Option<K>, u16, Vec<Box<Node<K>>>) { self.take_fields() }
           #[inline(never)] fn drop_all(mut self) { loop {
-              let (key, mask, mut children) = { let mut whole = self; whole.take_fields() }; return } }
+              let (key, mask, mut children) = Node::into_fields(self); match children.pop() { None => return, Some(it) => {} } } }
       }
-      impl<K> Node<K> { fn parts(self) { let (k, _, children) = { let mut whole = self; whole.take_fields() }; } }"),
+      impl<K> Node<K> { fn parts(self) { let (k, _, children) = Node::into_fields(self); } }"),
+    ("destructors",
+     "struct S { a: u8 } impl Drop for S { fn drop(mut self) { let S { a } = &mut self; f(a); let S { a: _ } = self; } }",
+     "!line 1: a destructor of a type without one list of its own"),
     ("destructors", "struct S { a: u8 } impl Drop for S { fn drop(mut self) { f(self.a) } }",
      "!line 1: a destructor of a type without one list of its own"),
+    ("destructors",
+     "struct S { a: Vec<S> }\nimpl Drop for S { fn drop(mut self) { f(); loop { let S { mut a } = self; match a.pop() { None => return, _ => {} } } } }",
+     "!line 2: a destructor that does more than go down its list"),
+    ("destructors",
+     "struct S { a: Vec<S> } impl Drop for S { fn drop(mut self) { loop { let S { mut a } = self; match a.pop() { None => { f(); return } _ => {} } } } }",
+     "!line 1: a destructor that does more than go down its list"),
     ("destructors", "struct S { a: Vec<S> } impl Drop for S { fn drop(self) { f(self.a) } }",
      "!line 1: a destructor of another form"),
-    ("destructors", "struct S { a: Vec<S>, b: u8 } impl Drop for S { fn drop(mut self) { let S { b, a } = self; g(a) } }",
-     "!line 1: a pattern without all fields in their order"),
+    ("destructors", "struct S { a: Vec<S>, b: u8 } impl Drop for S { fn drop(mut self) { loop {
+         let S { b, mut a } = self; match a.pop() { None => return, _ => {} } } } }",
+     "!line 2: a pattern without all fields in their order"),
     ("derives", "#[derive(Debug, Drop)] struct S;", "#[derive(Debug)] struct S;"),
     ("derives", "#[derive(Drop)] struct S;", "struct S;"),
     ("derives", "#[derive(Clone, Copy)] pub struct S<'a, T: Eq, const N: usize> { a: &'a [T; N] }",
@@ -93,7 +124,18 @@ const ROWS: &[(&str, &str, &str)] = &[
      "trait A<'a, T: Eq>: Sized { fn f(&self); } trait B: Eq {}"),
     ("macros", "fn f() { assert!(rt; a != b); matches!(a, b); }",
      "fn f() { crate::rattle_std::macros::assert!(rt; a != b); matches!(a, b); }"),
+    ("macros", "fn f() { if !(a) { return !{ b }; } }", "fn f() { if !(a) { return !{ b }; } }"),
     ("macros", "fn f() { include!(\"a\") }", "!line 1: the macro include"),
+    ("macros", "macro_rules! vec { ($a:expr) => { $a.collect(b) } }", "!line 1: the macro macro_rules"),
+    ("macros", "fn f() {\ncrate::m!(a) }", "!line 2: a macro by its path"),
+    ("differences", "fn f(a: &[u8], b: &mut B) { a[1..]; a.get(n + 1..); b.range(k..); let [c, ..] = a; g(n..m, ..) }",
+     "fn f(a: &[u8], b: &mut B) { a[1..]; a.get(n + 1..); b.range(k..); let [c, ..] = a; g(n..m, ..) }"),
+    ("differences", "fn f() { for a in (250u8..).take(9) {} }", "!line 1: a range without end"),
+    ("differences", "fn f() { for a in n.len().. {} }", "!line 1: a range without end"),
+    ("differences", "fn f() {\na.iter().zip(0..) }", "!line 2: a range without end"),
+    ("differences", "fn f() { let a = ::std::mem::take(b); }", "!line 1: a path that begins with ::"),
+    ("differences", "use ::std::mem;", "!line 1: a path that begins with ::"),
+    ("differences", "extern crate std as a;", "!line 1: extern crate"),
     ("allocations", "fn f() { a.collect(alloc); a.collect(); b.to_vec(alloc); c.replace(alloc, d); e.replace(0) }",
      "fn f() { a.collect_by(alloc); a.collect(); b.to_vec_by(alloc); c.replace_by(alloc, d); e.replace(0) }"),
     ("written", "fn f() { text.write_fmt(*network) }",
@@ -161,6 +203,13 @@ fn exports_become_plain_functions() {
         significant(&made),
         significant("pub mod ipv4; pub fn f(image: &[u8]) -> u32 { 0 }")
     );
+}
+
+#[test]
+fn exports_of_another_form_are_refused() {
+    let source = "extern \"C\" { fn g(); } const A: u8 = 1; fn f() {}";
+    let made = made(source, Place { is_exported: true, ..place() });
+    assert_eq!(made, "!line 1: extern that is no function's");
 }
 
 #[test]
@@ -237,6 +286,14 @@ fn an_example_is_a_function_with_hidden_lines() {
 fn an_example_that_stands_nowhere_is_not_run() {
     let source = "/// ```\n/// g();\n/// ```\n/// `sums` in `crates/a/src/b.rt` adds.\nfn f() {}";
     assert!(shown(source, FILE).contains("/// ```ignore\n/// g();\n"));
+}
+
+#[test]
+fn comments_stand_in_comments() {
+    for text in ["/* { /* } */ /**/ ' */", "/**/", "/*/ */", "/***/", "/* /* */"] {
+        assert_eq!(tokens(text).len(), 1, "{text}");
+    }
+    assert_eq!(significant("a /* /* } */ b */ c /**/ d"), ["a", "c", "d"]);
 }
 
 #[test]

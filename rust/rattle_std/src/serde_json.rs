@@ -112,9 +112,7 @@ impl Value {
             Value::Bool(truth) => out.word(if *truth { "true" } else { "false" }),
             Value::Number(Number::Whole(number)) => out.word(Buffer::new().format(*number)),
             Value::Number(Number::Below(number)) => out.word(Buffer::new().format(*number)),
-            Value::Number(Number::Float(number)) => {
-                out.word(&crate::macros::format!(in Global; "{number:?}")?)
-            }
+            Value::Number(Number::Float(number)) => out.word(&float_text(*number)?),
             Value::String(text) => out.string(text),
             Value::Array(items) => {
                 out.begin_list()?;
@@ -132,6 +130,19 @@ impl Value {
                 out.end(b'}')
             }
         }
+    }
+}
+
+/// The digits of a float, as Rattle's `serde_json` writes them: Rust's own text has no `+`, and has
+/// a power of ten from 0.0001 downward already.
+fn float_text(number: f64) -> Result<String, AllocError> {
+    let text = crate::macros::format!(in Global; "{number:?}")?;
+    match text.split_once('e') {
+        Some((_, "-5")) => crate::macros::format!(in Global; "{number}"),
+        Some((digits, power)) if !power.starts_with('-') => {
+            crate::macros::format!(in Global; "{digits}e+{power}")
+        }
+        _ => Ok(text),
     }
 }
 

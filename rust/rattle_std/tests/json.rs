@@ -29,7 +29,7 @@ const TEXTS: &[(&str, &str)] = &[
     (r#"{"a":1,"b":2,"a":3}"#, r#"{"a":3,"b":2}"#),
     (r#"{"":0,"é":1,"z":2}"#, r#"{"":0,"z":2,"é":1}"#),
     (r#"{"a":{"a":{"a":[]}}}"#, r#"{"a":{"a":{"a":[]}}}"#),
-    // 6: numbers. Python writes the last one with `e+308`.
+    // 6: numbers. Python writes those below 0.0001 with `e-05`.
     ("0", "0"),
     ("18446744073709551615", "18446744073709551615"),
     ("-1", "-1"),
@@ -40,7 +40,16 @@ const TEXTS: &[(&str, &str)] = &[
     ("1E+2", "100.0"),
     ("25e-1", "2.5"),
     ("0.1", "0.1"),
-    ("1.7976931348623157e308", "1.7976931348623157e308"),
+    ("1e15", "1000000000000000.0"),
+    ("1e16", "1e+16"),
+    ("1.5e16", "1.5e+16"),
+    ("1.7976931348623157e308", "1.7976931348623157e+308"),
+    ("1e-4", "0.0001"),
+    ("1.25e-5", "0.0000125"),
+    ("-0.00001", "-0.00001"),
+    ("9.5e-6", "9.5e-6"),
+    ("5e-324", "5e-324"),
+    ("-0", "-0.0"),
     // 7: strings.
     (r#""""#, r#""""#),
     (r#""aé€😀""#, r#""aé€😀""#),
@@ -285,6 +294,43 @@ mod typed {
         assert_eq!(taken::<Numbers>("{\"a\":1,\"a\":2}"), Err(Category::Data));
         assert_eq!(taken::<Pairs<u64, u64>>("{\"a\":1}"), Err(Category::Data));
         assert_eq!(taken::<Pairs<Text, Text>>("{\"a\":1}"), Err(Category::Data));
+    }
+
+    #[test]
+    fn a_key_that_is_a_number_is_written_as_json_has_it() {
+        for (key, number) in [("0", 0), ("7", 7), ("18446744073709551615", u64::MAX)] {
+            let given = format!(" {{ \"{key}\" : 1 }} ");
+            assert_eq!(taken::<Pairs<u64, u64>>(&given), Ok(Pairs(vec![(number, 1)])), "{given}");
+        }
+        let others = [
+            "+7",
+            "007",
+            "00",
+            "-0",
+            "-7",
+            "7.0",
+            "7e0",
+            "7 ",
+            " 7",
+            "",
+            "7x",
+            "\\u0037",
+            "7\\u0030",
+            "1e400",
+            "18446744073709551616",
+            "-",
+        ];
+        for key in others {
+            let given = format!("{{\"{key}\":1}}");
+            assert_eq!(taken::<Pairs<u64, u64>>(&given), Err(Category::Data), "{given}");
+        }
+        for (given, wanted) in [("{7:1}", Category::Syntax), ("{\"7", Category::Eof)] {
+            assert_eq!(taken::<Pairs<u64, u64>>(given), Err(wanted), "{given}");
+        }
+    }
+
+    #[test]
+    fn other_texts_are_told_from_those_that_end_early() {
         for given in ["{1:1}", "{\"a\":1,}", "{\"a\":01}", "{} {}", "{\"a\" 1}"] {
             assert_eq!(taken::<Numbers>(given), Err(Category::Syntax), "{given}");
         }

@@ -35,6 +35,15 @@ fn output(role: &str, input: &[u8]) -> Output {
     inner.wait_with_output().unwrap()
 }
 
+/// A value that fails to be displayed.
+struct Hidden;
+
+impl std::fmt::Display for Hidden {
+    fn fmt(&self, _: &mut std::fmt::Formatter<'_>) -> std::fmt::Result {
+        Err(std::fmt::Error)
+    }
+}
+
 fn echoes() -> ExitCode {
     let rt = host();
     let (mut reader, mut writer, mut list) = (rt.reader(), io::writer(&rt), List::new(Global));
@@ -42,6 +51,7 @@ fn echoes() -> ExitCode {
     writer.write_all(list.as_slice()).unwrap();
     macros::println!(rt; "a {}", "line").unwrap();
     macros::println!(rt; "{}{}", "long ".repeat(500), "x").unwrap();
+    assert!(macros::println!(rt; "{}", Hidden).is_err(), "a value that isn't displayed");
     writer.write_all(b"no line").unwrap();
     rt.stderr().write_all(b"of an error: ").unwrap();
     macros::eprintln!(rt; "a {}", "line").unwrap();

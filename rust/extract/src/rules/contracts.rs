@@ -85,6 +85,9 @@ pub(super) fn models(edit: &mut Edit<'_>, _: &Place) -> Result<bool, Unknown> {
         return Ok(false);
     }
     let brace = header(edit)?.0;
+    if edit.text(edit.after(brace)) != "}" {
+        return Err(edit.unknown(brace, "a model with more than ghost members"));
+    }
     edit.leave_to(edit.close(brace)?);
     edit.trim_documentation();
     Ok(true)
@@ -105,6 +108,9 @@ pub(super) fn attributes(edit: &mut Edit<'_>, _: &Place) -> Result<bool, Unknown
         "tactic" | "cycle" => {
             edit.leave_to(end);
             edit.trim();
+        }
+        "cfg" if !edit.reads(open, &["[", "cfg", "(", "test", ")", "]"]) => {
+            return Err(edit.unknown(at, "a cfg other than of tests"));
         }
         name if KEPT.contains(&name) => edit.keep_to(end),
         name => return Err(edit.unknown(at, &format!("the attribute {name}"))),

@@ -45,9 +45,12 @@ fn type_of(edit: &Edit<'_>) -> Result<String, Unknown> {
 fn is_empty(edit: &Edit<'_>) -> Result<bool, Unknown> {
     let brace = header(edit)?.0;
     let open = body_of(edit, edit.after(brace))?.0;
-    let words = edit.words(open, edit.close(open)?);
-    let is_pattern = words.starts_with(&["{", "let"]) && words.get(3) == Some(&"{");
-    Ok(is_pattern && words.ends_with(&["}", "=", "self", ";", "}"]))
+    let (word, end) = (edit.after(open), edit.close(open)?);
+    let pattern = edit.after(edit.after(word));
+    if edit.text(word) != "let" || edit.text(pattern) != "{" {
+        return Ok(false);
+    }
+    Ok(edit.words(edit.close(pattern)?, end) == ["=", "self", ";", "}"])
 }
 
 /// The fields of a struct of a source.
@@ -117,14 +120,31 @@ fn drop_of(edit: &mut Edit<'_>, place: &Place) -> Result<(), Unknown> {
     let [(below, _)] = below.collect::<Vec<_>>()[..] else {
         return Err(edit.unknown(edit.at(), "a destructor of a type without one list of its own"));
     };
+    let body = edit.find(edit.after(brace), &["{"])?;
+    if !goes_down(edit, body, &name, below)? {
+        return Err(edit.unknown(body, "a destructor that does more than go down its list"));
+    }
     let at = edit.find(edit.at(), &["for"])?;
     let whole = edit.joined(at + 1, brace);
     let parameters = whole.find('<').map_or("", |open| &whole[open..]);
     let text = lent(known, &whole, parameters, below);
-    let body = edit.find(edit.after(brace), &["{"])?;
     edit.leave_to(body);
     edit.put(&text);
     Ok(())
+}
+
+/// Whether the body of a `drop` returns at once from a value with nothing below it, so that Rust
+/// may drop that field by field.
+fn goes_down(edit: &Edit<'_>, body: usize, name: &str, below: &str) -> Result<bool, Unknown> {
+    let begin = ["{", "loop", "{", "let", name, "{"];
+    if !edit.reads(body, &begin) {
+        return Ok(false);
+    }
+    let inner = edit.find(edit.after(body), &["{"])?;
+    let pattern = edit.find(inner + 1, &["{"])?;
+    let ends =
+        ["=", "self", ";", "match", below, ".", "pop", "(", ")", "{", "None", "=>", "return", ","];
+    Ok(edit.reads(edit.close(pattern)?, &ends))
 }
 
 /// What stands in front of the body of a proved `drop`.
@@ -150,6 +170,12 @@ impl{parameters} {whole} {{
     #[inline]
     fn take_fields(&mut self) -> ({types}) {{
         ({taken})
+    }}
+
+    /// Its fields, of a value that no one borrows.
+    #[inline]
+    fn into_fields(mut self) -> ({types}) {{
+        self.take_fields()
     }}
 
     #[inline(never)]
@@ -183,10 +209,10 @@ fn take_apart(edit: &mut Edit<'_>, known: &Destructor) -> Result<(), Unknown> {
         return Err(edit.unknown(at, "a pattern without all fields in their order"));
     }
     let patterns: Vec<&str> = bound.iter().map(|(_, pattern)| &**pattern).collect();
-    let text = format!("let ({}) = {{ let mut whole = ", patterns.join(", "));
+    let text = format!("let ({}) = {}::into_fields(", patterns.join(", "), known.name);
     edit.leave_to(edit.after(assign));
     edit.put(&text);
     edit.keep_to(semicolon);
-    edit.put("; whole.take_fields() }");
+    edit.put(")");
     Ok(())
 }

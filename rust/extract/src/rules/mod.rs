@@ -83,6 +83,11 @@ pub const RULES: &[Rule] = &[
         spelling::runtimes,
     ),
     rule(
+        "differences",
+        "a range without end and a path that begins with `::` are refused: Rust means others",
+        spelling::differences,
+    ),
+    rule(
         "formatters",
         "a formatter has a lifetime, where Rattle's has a writer",
         spelling::formatters,

@@ -38,6 +38,9 @@ pub(super) fn exports(edit: &mut Edit<'_>, place: &Place) -> Result<bool, Unknow
         return Ok(true);
     }
     if edit.text(at) == "extern" {
+        if !edit.reads(at, &["extern", "\"C\"", "fn"]) {
+            return Err(edit.unknown(at, "extern that is no function's"));
+        }
         edit.leave_to(edit.find(at, &["fn"])?);
         return Ok(true);
     }

@@ -4,16 +4,17 @@ use super::contracts::{body_of, header, is_impl_of};
 use crate::edit::{Edit, Unknown};
 use crate::tokens::{Kind, tokens};
 
-/// How a requirement begins that every caller in Rust meets: closures may be called, iterators be
-/// asked and come to an end, and a clone of a key is that key, as its type promises.
-const GIVEN: [&[&str]; 7] = [
-    &["All", "(", "Takes"],
-    &["ForSome"],
-    &["ForNone"],
-    &["IsFinite"],
-    &["I", ".", "can_next"],
-    &["(", "key", "copy", ":"],
-    &["(", "value", "copy", ":"],
+/// How a requirement begins that every caller in Rust meets, and what else it names: closures may
+/// be called, iterators be asked and come to an end, and a clone of a key is that key, as its type
+/// promises.
+const GIVEN: [(&[&str], &str); 7] = [
+    (&["All", "(", "Takes"], "Takes"),
+    (&["ForSome"], "FnOnceTakes"),
+    (&["ForNone"], "pre"),
+    (&["IsFinite"], "remaining"),
+    (&["I", ".", "can_next"], "iter"),
+    (&["(", "key", "copy", ":"], "is_clone"),
+    (&["(", "value", "copy", ":"], "is_clone"),
 ];
 
 /// What a method of a trait requires of its caller, wherever it is implemented.
@@ -60,15 +61,22 @@ fn methods(edit: &Edit<'_>, brace: usize) -> Result<Vec<usize>, Unknown> {
 }
 
 pub(super) fn requirements(edit: &mut Edit<'_>, place: &Place) -> Result<bool, Unknown> {
-    for known in &place.requirements {
-        if is_impl_of(edit, &known.owner)? {
-            assert_in_impl(edit, known)?;
-            return Ok(true);
+    let at = edit.at();
+    let is_trait = edit.text(at) == "trait" && edit.kind(at) == Some(Kind::Word);
+    if is_trait && edit.before(at) == "pub" && !place.is_inner {
+        see_that_all_are_tested(edit)?;
+    }
+    let mut known = Vec::new();
+    for it in &place.requirements {
+        if is_trait && edit.text(edit.after(at)) == it.owner || is_impl_of(edit, &it.owner)? {
+            known.push(it);
         }
     }
-    let at = edit.at();
-    let is_function = edit.reads(at, &["pub", "fn"]) || edit.reads(at, &["pub", "const", "fn"]);
-    if edit.text(at) != "pub" || !is_function || place.is_inner {
+    if !known.is_empty() {
+        assert_in_block(edit, &known)?;
+        return Ok(true);
+    }
+    if edit.text(at) != "pub" || !is_function(edit, edit.after(at)) || place.is_inner {
         return Ok(false);
     }
     let (body, clauses) = body_of(edit, at)?;
@@ -85,16 +93,43 @@ pub(super) fn requirements(edit: &mut Edit<'_>, place: &Place) -> Result<bool, U
     Ok(true)
 }
 
-/// Puts the asserts of a trait's method into an impl of it.
-fn assert_in_impl(edit: &mut Edit<'_>, known: &Requirement) -> Result<(), Unknown> {
-    let brace = header(edit)?.0;
-    let end = edit.close(brace)?;
-    let is_known = |at: &usize| edit.text(edit.after(*at)) == known.method;
-    if let Some(method) = methods(edit, brace)?.into_iter().find(is_known) {
-        edit.keep_to(body_of(edit, method)?.0 + 1);
-        edit.put(&known.asserts);
+/// Whether a `fn` and what may stand in front of it begin at an index.
+fn is_function(edit: &Edit<'_>, mut at: usize) -> bool {
+    while matches!(edit.text(at), "const" | "unsafe" | "extern" | "\"C\"") {
+        at = edit.after(at);
     }
-    edit.keep_to(end);
+    edit.text(at) == "fn"
+}
+
+/// Fails where a trait here requires what can't be tested: its methods are public with it.
+fn see_that_all_are_tested(edit: &Edit<'_>) -> Result<(), Unknown> {
+    for method in methods(edit, header(edit)?.0)? {
+        if asserts(edit, &body_of(edit, method)?.1).is_none() {
+            return Err(edit.unknown(method, "what a method of a public trait requires"));
+        }
+    }
+    Ok(())
+}
+
+/// Puts asserts into the bodies of a trait's methods, in the trait or an impl of it. What a method
+/// of the impl says itself counts in place of what the trait says.
+fn assert_in_block(edit: &mut Edit<'_>, known: &[&Requirement]) -> Result<(), Unknown> {
+    let brace = header(edit)?.0;
+    for method in methods(edit, brace)? {
+        let (body, own) = body_of(edit, method)?;
+        let name = edit.text(edit.after(method));
+        let known = known.iter().find(|it| it.method == name && edit.text(body) == "{");
+        let Some(known) = known else { continue };
+        let words = edit.words(method, body);
+        let asserts = if words.contains(&"requires") || words.contains(&"ensures") {
+            asserts(edit, &own).ok_or_else(|| edit.unknown(method, "what this method requires"))?
+        } else {
+            known.asserts.clone()
+        };
+        edit.keep_to(body + 1);
+        edit.put(&asserts);
+    }
+    edit.keep_to(edit.close(brace)?);
     Ok(())
 }
 
@@ -107,10 +142,13 @@ fn asserts(edit: &Edit<'_>, clauses: &[Vec<String>]) -> Option<String> {
 
 /// The test of a requirement, of no character where it is given; none where there isn't any.
 fn test_of(edit: &Edit<'_>, words: &[String]) -> Option<String> {
-    let begins = |given: &&[&str]| {
-        given.len() <= words.len() && given.iter().zip(words).all(|(it, word)| word.starts_with(it))
+    let is_given = |(given, named): &(&[&str], &str)| {
+        let is_named = words.iter().any(|word| word.starts_with(named));
+        let mut pairs = given.iter().zip(words);
+        is_named && given.len() <= words.len() && pairs.all(|(it, word)| word.starts_with(it))
     };
-    if GIVEN.iter().any(begins) {
+    let is_one = !words.iter().any(|word| matches!(word.as_str(), "×" | "∧"));
+    if is_one && GIVEN.iter().any(is_given) {
         return Some(String::new());
     }
     let signs = ["<", "≤", "≡"];
@@ -123,7 +161,7 @@ fn comparison(words: &[String]) -> Option<String> {
     if let [number, sign, two, power, bits] = words
         && [sign, two, power] == ["<", "2", "^"]
     {
-        let bits = sum(std::slice::from_ref(bits))?;
+        let bits = self::number(std::slice::from_ref(bits))?;
         return Some(format!("{number}.checked_shr({bits} as u32).unwrap_or(0) == 0"));
     }
     let at = words.iter().position(|word| matches!(word.as_str(), "<" | "≤" | "≡"))?;
@@ -132,7 +170,11 @@ fn comparison(words: &[String]) -> Option<String> {
         "≤" => "<=",
         _ => "==",
     };
-    Some(format!("{} {sign} {}", sum(&words[..at])?, sum(&words[at + 1..])?))
+    let (left, right) = (&words[..at], &words[at + 1..]);
+    // No length is the greatest number, at which a sum stops.
+    let is_below_length = sign != "==" && right.first().is_some_and(|word| word == "length");
+    let left = if is_below_length { sum(left)? } else { number(left)? };
+    Some(format!("{left} {sign} {}", number(right)?))
 }
 
 /// A length or a number, or such a one and another.
@@ -141,16 +183,17 @@ fn sum(words: &[String]) -> Option<String> {
         Some(at) => {
             Some(format!("{}.saturating_add({})", sum(&words[..at])?, sum(&words[at + 1..])?))
         }
-        None => match words {
-            [one] if one.bytes().all(|byte| byte.is_ascii_uppercase()) => {
-                Some(format!("Self::{one}"))
-            }
-            [one] => is_name_or_number(one).then(|| one.clone()),
-            [length, list, dot, _] if length == "length" && dot == "." => {
-                Some(format!("{list}.len()"))
-            }
-            _ => None,
-        },
+        None => number(words),
+    }
+}
+
+/// A length or a number.
+fn number(words: &[String]) -> Option<String> {
+    match words {
+        [one] if one.bytes().all(|byte| byte.is_ascii_uppercase()) => Some(format!("Self::{one}")),
+        [one] => is_name_or_number(one).then(|| one.clone()),
+        [length, list, dot, _] if length == "length" && dot == "." => Some(format!("{list}.len()")),
+        _ => None,
     }
 }
 

@@ -9,6 +9,43 @@ pub(super) const HANDED: [&str; 8] =
 /// Macros that are the same in both.
 const SHARED: [&str; 6] = ["bail", "ensure", "matches", "panic", "unreachable", "write"];
 
+/// Words behind which a `!` says no, and a path begins.
+const BEFORE: [&str; 12] =
+    ["as", "break", "dyn", "else", "for", "if", "impl", "in", "match", "return", "use", "while"];
+
+/// Calls that take a range as bounds, and don't go through it.
+const BOUNDED: [&str; 4] = ["get", "get_mut", "range", "range_back"];
+
+/// What both languages have, and Rust means otherwise.
+pub(super) fn differences(edit: &mut Edit<'_>, _: &Place) -> Result<bool, Unknown> {
+    let at = edit.at();
+    match edit.text(at) {
+        _ if edit.is_put(at) => Ok(false),
+        "." if is_endless_range(edit, at) => Err(edit.unknown(at, "a range without end")),
+        "::" if !is_behind(edit, at, &[">"]) => Err(edit.unknown(at, "a path that begins with ::")),
+        "extern" if edit.reads(at, &["extern", "crate"]) => Err(edit.unknown(at, "extern crate")),
+        _ => Ok(false),
+    }
+}
+
+/// Whether a token stands behind a name, a literal or one of these signs.
+fn is_behind(edit: &Edit<'_>, at: usize, signs: &[&str]) -> bool {
+    edit.last(at).is_some_and(|last| match edit.kind(last) {
+        Some(Kind::Word | Kind::Literal) => !BEFORE.contains(&edit.text(last)),
+        _ => signs.contains(&edit.text(last)),
+    })
+}
+
+/// Whether `..` is a range without end that may be gone through: Rattle's ends below the greatest
+/// number, where Rust's overflows.
+fn is_endless_range(edit: &Edit<'_>, at: usize) -> bool {
+    let is_range = edit.text(at + 1) == "." && is_behind(edit, at, &[")", "]", "?"]);
+    if !is_range || !matches!(edit.text(edit.after(at + 1)), ")" | "," | ";" | "{" | "}") {
+        return false;
+    }
+    !edit.opening(at).is_some_and(|open| BOUNDED.contains(&edit.before(open)))
+}
+
 /// `fn main(rt: HostRuntime)`, and a test's.
 pub(super) fn runtimes(edit: &mut Edit<'_>, _: &Place) -> Result<bool, Unknown> {
     let at = edit.at();
@@ -96,12 +133,15 @@ pub(super) fn sizes(edit: &mut Edit<'_>, _: &Place) -> Result<bool, Unknown> {
 pub(super) fn macros(edit: &mut Edit<'_>, _: &Place) -> Result<bool, Unknown> {
     let at = edit.at();
     let bang = edit.after(at);
-    let is_call = matches!(edit.text(edit.after(bang)), "(" | "[" | "{");
-    let is_word = edit.kind(at) == Some(Kind::Word) && edit.before(at) != "::";
-    if !is_word || edit.text(bang) != "!" || !is_call {
+    let name = edit.text(at);
+    let is_call = name == "macro_rules" || matches!(edit.text(edit.after(bang)), "(" | "[" | "{");
+    let is_word = edit.kind(at) == Some(Kind::Word) && !BEFORE.contains(&name);
+    if !is_word || edit.text(bang) != "!" || !is_call || edit.is_put(at) {
         return Ok(false);
     }
-    let name = edit.text(at);
+    if edit.before(at) == "::" {
+        return Err(edit.unknown(at, "a macro by its path"));
+    }
     if HANDED.contains(&name) {
         edit.put("std::macros::");
     } else if !SHARED.contains(&name) {

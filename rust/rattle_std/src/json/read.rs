@@ -71,6 +71,15 @@ impl<'a> Reader<'a> {
         self.expect(b":")?;
         Ok(key)
     }
+    /// Takes a member's name that is a number as JSON has it, without an escape, and the colon.
+    pub(crate) fn number_key(&mut self) -> Result<Number, Error> {
+        self.peek_token();
+        let from = self.at + 1;
+        self.key()?;
+        let mut name = Reader { text: &self.text[from..], at: 0 };
+        let number = name.number().map_err(|_| Error::Data)?;
+        if name.peek() == Some(b'"') { Ok(number) } else { Err(Error::Data) }
+    }
     /// Takes a number.
     pub(crate) fn number(&mut self) -> Result<Number, Error> {
         let from = self.at;

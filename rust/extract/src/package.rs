@@ -1,5 +1,6 @@
 //! Crates as the modules of a Cargo package.
 use std::collections::BTreeMap;
+use std::fs;
 use std::path::{Path, PathBuf};
 
 use crate::crates::{Checkout, Problem, files_below, text_of, write};
@@ -141,14 +142,31 @@ impl<'a> Package<'a> {
 
     fn write_crate(&self, name: &str, folder: &Path) -> Result<(), Problem> {
         let (place, sources) = (self.place(name)?, self.checkout.folder(name));
-        for path in files_below(&sources, "rt")? {
-            let source = text_of(&path)?;
-            let made = extract(&source, &place).map_err(|it| told(&path, &it))?;
-            let place = path.strip_prefix(&sources).map_err(|error| error.to_string())?;
-            write(&module_file(&folder.join(name), place), &made.text())?;
-        }
-        Ok(())
+        write_module(&sources, "rt", &folder.join(name), |path, source| {
+            Ok(extract(source, &place).map_err(|it| told(path, &it))?.text())
+        })
     }
+}
+
+/// Writes the files of a module, each as it is made of a source, and takes away what an earlier run
+/// has written of sources that are gone.
+fn write_module(
+    sources: &Path,
+    ending: &str,
+    folder: &Path,
+    made: impl Fn(&Path, &str) -> Result<String, Problem>,
+) -> Result<(), Problem> {
+    let mut written = Vec::new();
+    for path in files_below(sources, ending)? {
+        let place = path.strip_prefix(sources).map_err(|error| error.to_string())?;
+        let file = module_file(folder, place);
+        write(&file, &made(&path, &text_of(&path)?)?)?;
+        written.push(file);
+    }
+    for stale in files_below(folder, "rs")?.iter().filter(|path| !written.contains(path)) {
+        fs::remove_file(stale).map_err(|error| format!("{}: {error}", stale.display()))?;
+    }
+    Ok(())
 }
 
 /// What isn't understood, with its file and line.
@@ -184,12 +202,7 @@ fn std_folder(checkout: &Checkout) -> PathBuf {
 /// Writes `rattle_std` as a module.
 fn write_std(checkout: &Checkout, folder: &Path) -> Result<(), Problem> {
     let sources = std_folder(checkout);
-    for path in files_below(&sources, "rs")? {
-        let source = text_of(&path)?;
-        let place = path.strip_prefix(&sources).map_err(|error| error.to_string())?;
-        write(&module_file(&folder.join(STD), place), &as_module(&source, STD))?;
-    }
-    Ok(())
+    write_module(&sources, "rs", &folder.join(STD), |_, source| Ok(as_module(source, STD)))
 }
 
 /// The text of a Rust crate as that of a module: `crate::` is that module.

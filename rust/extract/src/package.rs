@@ -2,7 +2,7 @@
 use std::collections::BTreeMap;
 use std::path::{Path, PathBuf};
 
-use crate::crates::{Checkout, Problem, files_below, text_of, write};
+use crate::crates::{Checkout, Problem, files_below, sweep, text_of, write};
 use crate::extract;
 use crate::rules::{Example, Place, destructors, of_traits};
 use crate::tokens::tokens;
@@ -133,13 +133,16 @@ impl<'a> Package<'a> {
 
     fn write_crate(&self, name: &str, folder: &Path) -> Result<(), Problem> {
         let (place, sources) = (self.place(name)?, self.checkout.folder(name));
+        let mut written = Vec::new();
         for path in files_below(&sources, "rt")? {
             let source = text_of(&path)?;
             let made = extract(&source, &place).map_err(|it| told(&path, &it))?;
             let place = path.strip_prefix(&sources).map_err(|error| error.to_string())?;
-            write(&module_file(&folder.join(name), place), &made.text())?;
+            let file = module_file(&folder.join(name), place);
+            write(&file, &made.text())?;
+            written.push(file);
         }
-        Ok(())
+        sweep(&folder.join(name), &written)
     }
 }
 
@@ -175,13 +178,15 @@ fn std_folder(checkout: &Checkout) -> PathBuf {
 
 /// Writes `rattle_std` as a module.
 fn write_std(checkout: &Checkout, folder: &Path) -> Result<(), Problem> {
-    let sources = std_folder(checkout);
+    let (sources, mut written) = (std_folder(checkout), Vec::new());
     for path in files_below(&sources, "rs")? {
         let source = text_of(&path)?;
         let place = path.strip_prefix(&sources).map_err(|error| error.to_string())?;
-        write(&module_file(&folder.join(STD), place), &as_module(&source, STD))?;
+        let file = module_file(&folder.join(STD), place);
+        write(&file, &as_module(&source, STD))?;
+        written.push(file);
     }
-    Ok(())
+    sweep(&folder.join(STD), &written)
 }
 
 /// The text of a Rust crate as that of a module: `crate::` is that module.
@@ -204,7 +209,7 @@ pub fn build(crates: Option<&[&str]>) {
     let folder = |name: &str| {
         std::env::var_os(name).map(PathBuf::from).ok_or_else(|| format!("Cargo gives no {name}"))
     };
-    let done = (|| {
+    let done = (|| -> Result<(), Problem> {
         let (manifest, out) = (folder("CARGO_MANIFEST_DIR")?, folder("OUT_DIR")?);
         let root = manifest.ancestors().nth(2).unwrap_or(&manifest);
         let checkout = Checkout::read(root)?;
@@ -212,11 +217,13 @@ pub fn build(crates: Option<&[&str]>) {
             Some(crates) => Package::over_library(&checkout, crates),
             None => Package::library(&checkout)?,
         };
+        write(&out.join("modules.rs"), &package.write_modules(&out, false)?)?;
+        // Cargo shows all lines of a build that fails, and runs that again whatever has changed.
         println!("cargo::rerun-if-changed={}", root.join("crates.txt").display());
         for folder in package.folders() {
             println!("cargo::rerun-if-changed={}", folder.display());
         }
-        write(&out.join("modules.rs"), &package.write_modules(&out, false)?)
+        Ok(())
     })();
     if let Err(problem) = done {
         println!("cargo::error={problem}");

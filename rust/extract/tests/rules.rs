@@ -221,7 +221,7 @@ fn an_example_is_a_function_with_hidden_lines() {
         "/// # fn sums() -> Result<(), Memory>",
         "/// # { let rt = ::nifazombi::rattle_std::rt::host();",
         "/// let one = one();",
-        "/// assert!(rt; one + two() == 3);",
+        "/// assert!(one + two() == 3);",
         "/// #     Ok(())",
         "/// # }",
         "/// # fn main() { ::std::assert!(sums().is_ok()) }",

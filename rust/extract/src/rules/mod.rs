@@ -101,7 +101,7 @@ pub const RULES: &[Rule] = &[
     rule("written", "`write_fmt` of a value is given its format arguments", spelling::written),
     rule(
         "examples",
-        "an example in documentation is a whole function, of which the other lines are hidden",
+        "an example in documentation is a whole function, its other lines hidden, with Rust's `assert!`",
         examples::examples,
     ),
     rule(

@@ -104,6 +104,7 @@ pub const RULES: &[Rule] = &[
         "an example in documentation is a whole function, its other lines hidden, with Rust's `assert!`",
         examples::examples,
     ),
+    rule("laws", "a law, which does nothing, is not in the documentation", places::laws),
     rule(
         "exports",
         "what other languages call is a plain function, for `nifazombi_c` to call",

@@ -102,4 +102,6 @@ def put_or_remove(script, words, manifest, places, texts_of, own=(), tops=()):
                 os.remove(f"{prefix}/{place}")
         for at, it in itertools.product({*map(os.path.dirname, gone), *own}, own):
             remove_empty(f"{prefix}/{at}", os.path.dirname(f"{prefix}/{it}"))
-    print("".join(f"{script}: {prefix}/{it}\n" for it in new), end="")
+    # Of a deep folder, such as a crate's sources, its own name tells enough.
+    told = dict.fromkeys("/".join(it.split("/")[:4]) for it in new)
+    print("".join(f"{script}: {prefix}/{it}\n" for it in told), end="")

@@ -176,7 +176,7 @@ class Extracted(Program):
                 put_bytes(f"{self.toolchain()}\n{before}{sum_of(self.path)}".encode(), self.record, room)
 
     def opening(self, otherwise):
-        return ("extracted from its proved sources as plain Rust, it is built by cargo, once, for half a minute; "
+        return ("cargo builds it now, once, in half a minute, as plain Rust extracted from its proved sources; "
                 f"{PROVES}")
 
     def make(self, otherwise=""):

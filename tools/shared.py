@@ -17,6 +17,8 @@ import tempfile
 import threading
 import time
 
+if sys.version_info < (3, 9):
+    sys.exit(f"Python 3.9 or later is needed, and this is {sys.version.split()[0]}")
 if sys.flags.optimize > 1:
     sys.exit("python -OO leaves out the texts that the scripts of this repository tell, so none of them runs so")
 

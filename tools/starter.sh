@@ -8,5 +8,5 @@ case "$#:${1-}" in
   @TAKEN@) exec @BY@ "$own/@NAME@" "$@" ;;
   1:--version) echo @VERSION@ ;;
   1:--help) exec cat "$own/@NAME@.txt" ;;
-  *) echo '@NAME@: it takes lines on standard input, and no other word than --help, --version @WORDS@' >&2; exit 5 ;;
+  *) echo '@NAME@: it takes lines on standard input, and no other word than --help, --version@WORDS@' >&2; exit 5 ;;
 esac

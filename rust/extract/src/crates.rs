@@ -98,3 +98,17 @@ pub fn write(path: &Path, text: &str) -> Result<(), Problem> {
     }
     fs::write(path, text).map_err(told)
 }
+
+/// Removes what an earlier run wrote below a folder, and this one hasn't: a module of a source that
+/// is gone would still be compiled.
+///
+/// # Errors
+/// What a file that can't be removed is told by, with its name.
+pub fn sweep(folder: &Path, written: &[PathBuf]) -> Result<(), Problem> {
+    for path in files_below(folder, "rs")? {
+        if !written.contains(&path) {
+            fs::remove_file(&path).map_err(|error| format!("{}: {error}", path.display()))?;
+        }
+    }
+    Ok(())
+}

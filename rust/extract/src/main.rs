@@ -5,13 +5,14 @@ use std::process::ExitCode;
 const USE: &str = "usage: extract DIR: writes the crate nifazombi into DIR, as it is published";
 
 fn main() -> ExitCode {
-    let words: Vec<String> = std::env::args().skip(1).collect();
+    let words: Vec<_> = std::env::args_os().skip(1).collect();
     let root = Path::new(env!("CARGO_MANIFEST_DIR")).ancestors().nth(2);
     let (Some(root), [folder]) = (root, &words[..]) else {
         eprintln!("{USE}");
         return ExitCode::from(2);
     };
-    if folder.starts_with('-') {
+    // An empty name would be the folder that this was started in.
+    if folder.is_empty() || folder.as_encoded_bytes().starts_with(b"-") {
         eprintln!("{USE}");
         return ExitCode::from(2);
     }

@@ -1,9 +1,8 @@
 //! Crates as the modules of a Cargo package.
 use std::collections::BTreeMap;
-use std::fs;
 use std::path::{Path, PathBuf};
 
-use crate::crates::{Checkout, Problem, files_below, text_of, write};
+use crate::crates::{Checkout, Problem, files_below, sweep, text_of, write};
 use crate::extract;
 use crate::rules::{Example, Place, destructors, of_traits};
 use crate::tokens::tokens;
@@ -163,10 +162,7 @@ fn write_module(
         write(&file, &made(&path, &text_of(&path)?)?)?;
         written.push(file);
     }
-    for stale in files_below(folder, "rs")?.iter().filter(|path| !written.contains(path)) {
-        fs::remove_file(stale).map_err(|error| format!("{}: {error}", stale.display()))?;
-    }
-    Ok(())
+    sweep(folder, &written)
 }
 
 /// What isn't understood, with its file and line.
@@ -225,7 +221,7 @@ pub fn build(crates: Option<&[&str]>) {
     let folder = |name: &str| {
         std::env::var_os(name).map(PathBuf::from).ok_or_else(|| format!("Cargo gives no {name}"))
     };
-    let done = (|| {
+    let done = (|| -> Result<(), Problem> {
         let (manifest, out) = (folder("CARGO_MANIFEST_DIR")?, folder("OUT_DIR")?);
         let root = manifest.ancestors().nth(2).unwrap_or(&manifest);
         let checkout = Checkout::read(root)?;
@@ -233,11 +229,13 @@ pub fn build(crates: Option<&[&str]>) {
             Some(crates) => Package::over_library(&checkout, crates),
             None => Package::library(&checkout)?,
         };
+        write(&out.join("modules.rs"), &package.write_modules(&out, false)?)?;
+        // Cargo shows all lines of a build that fails, and runs that again whatever has changed.
         println!("cargo::rerun-if-changed={}", root.join("crates.txt").display());
         for folder in package.folders() {
             println!("cargo::rerun-if-changed={}", folder.display());
         }
-        write(&out.join("modules.rs"), &package.write_modules(&out, false)?)
+        Ok(())
     })();
     if let Err(problem) = done {
         println!("cargo::error={problem}");

@@ -9,6 +9,8 @@ use crate::package::{LIBRARY, Package};
 const PARTS: [&str; 3] = ["src", "tests", "examples"];
 /// What its manifest has for the build script, which isn't published.
 const BUILD: [&str; 2] = ["build = ", "[build-dependencies]"];
+/// How what is published ends, and the package of this checkout doesn't.
+const OWN_WORKSPACE: &str = "\n[workspace]\n";
 /// Where its first file takes the modules that the build script writes.
 const INCLUDED: &str = "include!(concat!(env!(\"OUT_DIR\"), \"/modules.rs\"));\n";
 
@@ -43,13 +45,14 @@ fn clear(folder: &Path, manifest: &str) -> Result<(), Problem> {
     let name =
         |text: &str| text.lines().find(|line| line.starts_with("name = ")).map(str::to_string);
     let held = fs::read_to_string(folder.join("Cargo.toml")).unwrap_or_default();
-    if !is_empty && name(&held) != name(manifest) {
+    let is_earlier = name(&held) == name(manifest) && held.ends_with(OWN_WORKSPACE);
+    if !is_empty && !is_earlier {
         return Err(format!("{}: it holds something else: nothing was touched", folder.display()));
     }
     for part in PARTS.iter().map(|part| folder.join(part)).filter(|part| part.exists()) {
         fs::remove_dir_all(&part).map_err(told)?;
     }
-    Ok(())
+    fs::create_dir_all(folder).map_err(told)
 }
 
 /// The manifest without the build script, and as the root of a workspace of its own.
@@ -65,5 +68,5 @@ fn manifest(text: &str) -> String {
             made.push('\n');
         }
     }
-    made + "\n[workspace]\n"
+    made + OWN_WORKSPACE
 }

@@ -1,4 +1,3 @@
-//! A map that changes, the same one frozen, and a table of routes.
 use nifazombi::frozen_routes::FrozenRoutes;
 use nifazombi::frozen_trie::freeze;
 use nifazombi::radix_keys::Network;

@@ -1,5 +1,5 @@
 //! Examples in documentation. Their lines are part of a function that is proved, in a file that the
-//! text below them names; rustdoc runs the function, and shows what the source shows.
+//! text below them names; rustdoc runs the function, and shows these lines, with Rust's assertions.
 use std::ops::Range;
 
 use super::spelling::HANDED;
@@ -9,6 +9,8 @@ use crate::tokens::Kind;
 
 /// What is no matter of a file for examples.
 const LEFT: [&str; 4] = ["macros", "examples", "exports", "preludes"];
+/// Macros that an example calls as Rust has them.
+const PLAIN: [&str; 3] = ["assert", "assert_eq", "assert_ne"];
 /// What stands in front of an item's name.
 const KINDS: [&str; 7] = ["fn", "struct", "enum", "type", "const", "trait", "for"];
 
@@ -37,6 +39,7 @@ impl Example {
             made[token.line - 1] += before;
             made[token.line - 1 + before.matches('\n').count()] += indent;
         }
+        let made = made.iter().map(|line| plain(line)).collect();
         Ok(Example { source, made })
     }
 
@@ -129,12 +132,21 @@ impl Example {
     }
 }
 
-/// The prelude, and the macros that a function calls.
+/// A line as whoever copies it needs it: with Rust's own assertions, and with the allocator.
+fn plain(line: &str) -> String {
+    let made = PLAIN.iter().fold(line.to_string(), |made, name| {
+        made.replace(&format!("{name}!(rt; "), &format!("{name}!("))
+    });
+    made.replace("rt.alloc()", "Global")
+}
+
+/// The prelude, the allocator, and the macros that a function calls.
 fn imports(function: &str) -> String {
-    let is_called = |name: &&&str| function.contains(&format!("{name}!("));
+    let is_called =
+        |name: &&&str| !PLAIN.contains(*name) && function.contains(&format!("{name}!("));
     let called: Vec<String> =
         HANDED.iter().filter(is_called).map(|name| format!("macros::{name}, ")).collect();
-    let std = format!("::nifazombi::rattle_std::{{{}prelude::*}}", called.concat());
+    let std = format!("::nifazombi::rattle_std::{{{}alloc::*, prelude::*}}", called.concat());
     format!("#[allow(unused_imports)]\nuse {std};")
 }
 

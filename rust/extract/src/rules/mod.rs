@@ -106,9 +106,10 @@ pub const RULES: &[Rule] = &[
     rule("written", "`write_fmt` of a value is given its format arguments", spelling::written),
     rule(
         "examples",
-        "an example in documentation is a whole function, of which the other lines are hidden",
+        "an example in documentation is a whole function, its other lines hidden, with Rust's `assert!`",
         examples::examples,
     ),
+    rule("laws", "a law, which does nothing, is not in the documentation", places::laws),
     rule(
         "exports",
         "what other languages call is a plain function, for `nifazombi_c` to call",

@@ -27,6 +27,21 @@ pub(super) fn preludes(edit: &mut Edit<'_>, _: &Place) -> Result<bool, Unknown> 
     Ok(true)
 }
 
+/// A public function that returns nothing, and is lent nothing to change: callers' proofs cite it.
+pub(super) fn laws(edit: &mut Edit<'_>, place: &Place) -> Result<bool, Unknown> {
+    let at = edit.at();
+    if place.is_inner || edit.text(at) != "pub" || !edit.reads(at, &["pub", "fn"]) {
+        return Ok(false);
+    }
+    let end = edit.find(at, &["{", ";"])?;
+    if edit.words(at, end).iter().any(|word| matches!(*word, "->" | "mut" | "self" | "rt")) {
+        return Ok(false);
+    }
+    edit.put("#[doc(hidden)]\n");
+    edit.keep();
+    Ok(true)
+}
+
 /// `#[unsafe(no_mangle)] pub extern "C" fn`, and the modules that such functions stand in.
 pub(super) fn exports(edit: &mut Edit<'_>, place: &Place) -> Result<bool, Unknown> {
     let at = edit.at();

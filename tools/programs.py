@@ -15,7 +15,7 @@ PAGES = {"trie_tool": "docs/PROGRAM.md", "route_tool": "docs/ROUTES.md", "trie_s
 SHELL = "trie_shell"
 ARCHIVE, BY_LLVM = "out/libnifazombi_c.a", ".by-llvm"
 # What is said of a program that isn't the proved one.
-PROVES = "./check proves it"
+PROVES = "./check, which takes rt, proves it"
 # Where cargo's configuration puts what it builds, and the least version of Rust, as Cargo.toml has them.
 TARGET = re.compile(r"""^\s*(?:build\.)?target-dir\s*=\s*["']([^"'\n]+)["']""", re.M)
 LEAST = re.compile(r'^rust-version = "(\d+\.\d+)', re.M)

@@ -22,7 +22,7 @@ pub fn write_crate(root: &Path, folder: &Path) -> Result<(), Problem> {
     let checkout = Checkout::read(root)?;
     let own = root.join("rust").join(LIBRARY);
     let text = manifest(&text_of(&own.join("Cargo.toml"))?);
-    clear(folder, &text)?;
+    clear(root, folder, &text)?;
     let modules = Package::library(&checkout)?.write_modules(&folder.join("src"), true)?;
     for part in PARTS {
         for path in files_below(&own.join(part), "rs")? {
@@ -39,12 +39,16 @@ pub fn write_crate(root: &Path, folder: &Path) -> Result<(), Problem> {
 }
 
 /// Takes away what an earlier run has written. A folder of anything else is refused.
-fn clear(folder: &Path, manifest: &str) -> Result<(), Problem> {
+fn clear(root: &Path, folder: &Path, manifest: &str) -> Result<(), Problem> {
     let told = |error| format!("{}: {error}", folder.display());
     let is_empty = !folder.exists() || fs::read_dir(folder).map_err(told)?.next().is_none();
     let name =
         |text: &str| text.lines().find(|line| line.starts_with("name = ")).map(str::to_string);
     let held = fs::read_to_string(folder.join("Cargo.toml")).unwrap_or_default();
+    let packages = root.join("rust").canonicalize().map_err(told)?;
+    if folder.ancestors().skip(1).any(|above| above.canonicalize().is_ok_and(|it| it == packages)) {
+        return Err(format!("{}: it would be a package of this checkout", folder.display()));
+    }
     let is_earlier = name(&held) == name(manifest) && held.ends_with(OWN_WORKSPACE);
     if !is_empty && !is_earlier {
         return Err(format!("{}: it holds something else: nothing was touched", folder.display()));

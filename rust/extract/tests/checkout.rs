@@ -1,6 +1,5 @@
 //! Extraction over the crates of this checkout.
 use std::collections::BTreeMap;
-use std::fs;
 use std::path::Path;
 
 use extract::Extracted;
@@ -107,18 +106,6 @@ fn each_token_belongs_to_the_source_or_to_a_rule() {
         println!("{:13} puts {put:6}, leaves out {left:6}: {}", rule.name, rule.what);
     }
     assert!(all.same > 200_000);
-}
-
-#[test]
-fn what_a_source_that_is_gone_has_become_is_taken_away() {
-    let folder = Path::new(env!("CARGO_TARGET_TMPDIR")).join("modules");
-    let checkout = Checkout::read(root()).unwrap();
-    let package = Package::over_library(&checkout, &["whole_files"]);
-    let lines = package.write_modules(&folder, false).unwrap();
-    let made = files_below(&folder, "rs").unwrap();
-    fs::write(folder.join("whole_files/gone.rs"), "fn f() {}").unwrap();
-    assert_eq!(package.write_modules(&folder, false).unwrap(), lines);
-    assert_eq!(files_below(&folder, "rs").unwrap(), made);
 }
 
 #[test]

@@ -9,6 +9,7 @@ mod error;
 #[warn(missing_docs)]
 mod family;
 mod image;
+mod keys;
 #[warn(missing_docs)]
 mod routes;
 #[warn(missing_docs)]

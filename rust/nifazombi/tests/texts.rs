@@ -172,3 +172,15 @@ fn what_is_not_written() {
     assert_eq!(refused(&[("ab", 1), ("a", 2)]), Some(OutOfOrder(1)));
     assert_eq!(refused(&[("", 1), ("b", 1), ("b", 2)]), Some(OutOfOrder(2)));
 }
+
+#[test]
+fn texts_of_rusts_library_are_keys() {
+    use nifazombi::radix_trie::prelude::*;
+    use nifazombi::rattle_std::alloc::Global;
+    let mut words: Trie<String, u64> = Trie::new(Global);
+    words.insert("tea".to_string(), 1).expect("memory");
+    assert_eq!(words.get(&"tea").expect("memory"), Some(&1));
+    let frozen = nifazombi::frozen_trie::freeze(words.clone().expect("memory")).expect("memory");
+    let found = frozen.longest_match(&"teapot".to_string()).expect("memory");
+    assert_eq!(found, Some((&"tea".to_string(), &1)));
+}

@@ -14,22 +14,29 @@ const OWN_WORKSPACE: &str = "\n[workspace]\n";
 /// Where its first file takes the modules that the build script writes.
 const INCLUDED: &str = "include!(concat!(env!(\"OUT_DIR\"), \"/modules.rs\"));\n";
 
-/// Writes the crate into a folder.
+/// Writes the crate into a folder. What an earlier run has written there is replaced once all of it
+/// is there anew.
 ///
 /// # Errors
 /// What isn't understood, read or written, with its place.
 pub fn write_crate(root: &Path, folder: &Path) -> Result<(), Problem> {
-    let checkout = Checkout::read(root)?;
+    let told = |error| format!("{}: {error}", folder.display());
     let own = root.join("rust").join(LIBRARY);
     let text = manifest(&text_of(&own.join("Cargo.toml"))?);
-    clear(root, folder, &text)?;
-    let modules = Package::library(&checkout)?.write_modules(&folder.join("src"), true)?;
-    for part in PARTS {
-        for path in files_below(&own.join(part), "rs")? {
-            let place = path.strip_prefix(&own).map_err(|error| error.to_string())?;
-            write(&folder.join(place), &text_of(&path)?.replace(INCLUDED, &modules))?;
-        }
+    make_ready(root, folder, &text)?;
+    let room = folder.join(".new");
+    if room.exists() {
+        fs::remove_dir_all(&room).map_err(told)?;
     }
+    write_parts(root, &own, &room)?;
+    for part in PARTS {
+        let old = folder.join(part);
+        if old.exists() {
+            fs::remove_dir_all(&old).map_err(told)?;
+        }
+        fs::rename(room.join(part), old).map_err(told)?;
+    }
+    fs::remove_dir(room).map_err(told)?;
     write(&folder.join("Cargo.toml"), &text)?;
     write(&folder.join("README.md"), &text_of(&own.join("README.md"))?)?;
     for name in ["LICENSE", "NOTICE"] {
@@ -38,8 +45,21 @@ pub fn write_crate(root: &Path, folder: &Path) -> Result<(), Problem> {
     Ok(())
 }
 
-/// Takes away what an earlier run has written. A folder of anything else is refused.
-fn clear(root: &Path, folder: &Path, manifest: &str) -> Result<(), Problem> {
+/// Writes the folders of sources.
+fn write_parts(root: &Path, own: &Path, room: &Path) -> Result<(), Problem> {
+    let checkout = Checkout::read(root)?;
+    let modules = Package::library(&checkout)?.write_modules(&room.join("src"), true)?;
+    for part in PARTS {
+        for path in files_below(&own.join(part), "rs")? {
+            let place = path.strip_prefix(own).map_err(|error| error.to_string())?;
+            write(&room.join(place), &text_of(&path)?.replace(INCLUDED, &modules))?;
+        }
+    }
+    Ok(())
+}
+
+/// Makes the folder, or refuses one of anything else than what an earlier run has written.
+fn make_ready(root: &Path, folder: &Path, manifest: &str) -> Result<(), Problem> {
     let told = |error| format!("{}: {error}", folder.display());
     let is_empty = !folder.exists() || fs::read_dir(folder).map_err(told)?.next().is_none();
     let name =
@@ -52,9 +72,6 @@ fn clear(root: &Path, folder: &Path, manifest: &str) -> Result<(), Problem> {
     let is_earlier = name(&held) == name(manifest) && held.ends_with(OWN_WORKSPACE);
     if !is_empty && !is_earlier {
         return Err(format!("{}: it holds something else: nothing was touched", folder.display()));
-    }
-    for part in PARTS.iter().map(|part| folder.join(part)).filter(|part| part.exists()) {
-        fs::remove_dir_all(&part).map_err(told)?;
     }
     fs::create_dir_all(folder).map_err(told)
 }

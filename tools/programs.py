@@ -16,7 +16,8 @@ SHELL = "trie_shell"
 ARCHIVE, BY_LLVM = "out/libnifazombi_c.a", ".by-llvm"
 # What is said of a program that isn't the proved one.
 PROVES = "./check, which takes rt, proves it"
-# Where cargo's configuration puts what it builds, and the least version of Rust, as Cargo.toml has them.
+# What cargo's configuration has: flags of rustc, and where it puts what it builds; and the least Rust of Cargo.toml.
+FLAGS = re.compile(r"^rustflags\s*=.*", re.M)
 TARGET = re.compile(r"""^\s*(?:build\.)?target-dir\s*=\s*["']([^"'\n]+)["']""", re.M)
 LEAST = re.compile(r'^rust-version = "(\d+\.\d+)', re.M)
 WORDS = {SHELL: ["--strict"], "route_tool": ["--read-on"]}
@@ -157,11 +158,13 @@ class Extracted(Program):
     def sources(self):
         crates = [*below(self.name, uses_of_crates()), self.name]
         folders = [*(f"{ROOT}/rust/{it}" for it in self.PACKAGES), *(f"{ROOT}/crates/{it}/src" for it in crates)]
-        paths = [f"{ROOT}/{it}" for it in ("crates.txt", "Cargo.toml", "Cargo.lock", ".cargo/config.toml")]
+        paths = [f"{ROOT}/{it}" for it in ("crates.txt", "Cargo.toml", "Cargo.lock")]
         return [*paths, *(it for folder in folders for it in files_in(folder))]
 
     def origin(self):
-        return f"{self.sum_of_sources()}\n"
+        """The sum of all that it is built from, and rustc's flags. Where it is put makes no other program."""
+        flags = FLAGS.findall((bytes_of(f"{ROOT}/.cargo/config.toml") or b"").decode(errors="replace"))
+        return f"{' '.join([self.sum_of_sources(), *flags])}\n"
 
     def made_by(self):
         return f"extracted, by {self.recorded().partition(chr(10))[0] or self.toolchain() or 'an unknown rustc'}"

@@ -1,14 +1,15 @@
 """The records of wrong bodies, crates/NAME/wrong_bodies/rejected: a line `NAME SUM` for each edit that was rejected, in
 order of names, where the sum is of all that its verdict depends on.
 
-That is the edit, the judge (verdicts.py), the toolchain's logic, each byte of the crate's sources, specs and proofs,
-the lines of crates.txt, and of each crate below what a proof above may see of it. The toolchain leaves out the rest
-itself: a caller knows a function by its clauses alone, and a built library has for its callers each body as a mere
-return (`interface`), and of the folder of a function's proofs nothing but what it states (`facade`). In doubt a text
-counts: then an edit is tried once more, and none is taken for rejected that wasn't tried.
+That is the edit, the judge (verdicts.py), the toolchain's logic, the crate's sources, specs and proofs but for comments
+and empty lines, the lines of crates.txt, and of each crate below what a proof above may see of it. The toolchain leaves
+out the rest itself: a caller knows a function by its clauses alone, and a built library has for its callers each body
+as a mere return (`interface`), and of the folder of a function's proofs nothing but what it states (`facade`). In doubt
+a text counts: then an edit is tried once more, and none is taken for rejected that wasn't tried.
 """
 import functools
 import hashlib
+import itertools
 import os
 import re
 
@@ -29,7 +30,25 @@ ANTT_NOTE = re.compile(r"^[ \t]*--(?: [^\n]*)?\n", re.M)
 
 
 def is_blank(token):
-    return token.isspace() or token.startswith("//")
+    return token.isspace() or is_note(token)
+
+
+def is_note(token):
+    return token.startswith("//")
+
+
+def tokens_of(text):
+    return [it[0] for it in TOKEN.findall(text)]
+
+
+def without_notes(text):
+    """A source without its comments and empty lines. One with a comment of the other kind counts whole."""
+    made = []
+    for are_blank, part in itertools.groupby([] if "/*" in text else tokens_of(text), is_blank):
+        part = "".join(it for it in part if not (are_blank and is_note(it)))
+        _, end, indent = part.rpartition("\n")
+        made.append(end + indent if are_blank else part)
+    return "".join(made).strip() or text
 
 
 def behind(tokens, at):
@@ -118,9 +137,8 @@ def seen_parts(tokens):
 
 def surface(text):
     """What a proof above may see of a source. One that isn't understood counts whole."""
-    tokens = [it[0] for it in TOKEN.findall(text)]
     try:
-        return text if "/*" in text else "".join(seen_parts(tokens)).strip()
+        return text if "/*" in text else "".join(seen_parts(tokens_of(text))).strip()
     except IndexError:
         return text
 
@@ -130,9 +148,14 @@ def seen_of(place, text):
     is: lemmas that others cite stand beside such folders."""
     if PROOF_OF.fullmatch(place) and "Lemmas/" not in place:
         return None
+    return surface(text.decode(errors="surrogateescape")) if place.endswith(".rt") else read_of(place, text)
+
+
+def read_of(place, text):
+    """What a check of the crate itself reads of a file."""
     if place.endswith(".antt") and b"{-" not in text:
         return ANTT_NOTE.sub("", text.decode(errors="surrogateescape"))
-    return surface(text.decode(errors="surrogateescape")) if place.endswith(".rt") else text
+    return without_notes(text.decode(errors="surrogateescape")) if place.endswith(".rt") else text
 
 
 def sum_of(*what):
@@ -148,9 +171,10 @@ def sum_above(crate):
 
 @functools.cache
 def sum_within(crate):
-    """A sum of all that a check of a crate reads, and of where each function begins, by which goals are told apart."""
-    begins = [(it.path, it.place, known_as(it)) for it in functions_of(crate)]
-    return sum_of(check_of("", "", crate), begins, files_of(crate), [*map(sum_above, below(crate, crates()))])
+    """A sum of all that a check of a crate reads, and of its functions, by which goals are told apart."""
+    functions = [(it.path, known_as(it)) for it in functions_of(crate)]
+    read = [(place, read_of(place, text)) for place, text in files_of(crate).items()]
+    return sum_of(check_of("", "", crate), functions, read, [*map(sum_above, below(crate, crates()))])
 
 
 @functools.cache
@@ -164,7 +188,7 @@ def sum_of_edit(edit):
     """The sum of an edit's line."""
     functions, ways = (sorted(it, key=repr) for it in (edit.functions, edit.paths))
     text = bytes_of(f"{ROOT}/{edit.path}")
-    return sum_of(judge(), sum_within(edit.crate), edit.path, text, edit.changes, functions, ways)[:32]
+    return sum_of(judge(), sum_within(edit.crate), edit.path, text, functions, ways)[:32]
 
 
 def edits_of(crate, names, is_each):

@@ -19,14 +19,15 @@ use std::marker::Model;
 /// # Examples
 ///
 /// ```
-/// let mut hops: Trie<Bits, u32> = Trie::new(alloc);
-/// hops.insert(Bits::first_of_u32(alloc, 0x0a00_0000, 8)?, 1)?;
-/// let address = Bits::first_of_u32(alloc, 0x0a01_0203, 32)?;
-/// assert!(rt; hops.get_ancestor_value(&address)? == Some(&1));
-/// ```
+/// # use nifazombi::{radix_trie::Trie, rattle_std::alloc::Global};
+/// use nifazombi::radix_keys::Bits;
 ///
-/// `bits_of_addresses` in `crates/trie_examples/src/doc_examples.rt` stores a hop at the first bits
-/// of an address.
+/// let mut hops: Trie<Bits, u32> = Trie::new(Global);
+/// hops.insert(Bits::first_of_u32(Global, 0x0a00_0000, 8)?, 1)?;
+/// let address = Bits::first_of_u32(Global, 0x0a01_0203, 32)?;
+/// assert_eq!(hops.get_ancestor_value(&address)?, Some(&1));
+/// # Ok::<(), Box<dyn std::error::Error>>(())
+/// ```
 #[derive(Drop)]
 pub struct Bits {
     list: Nibblet,

@@ -46,14 +46,14 @@ pub trait TrieKey: Eq {
     /// # Examples
     ///
     /// ```
-    /// let text = "tea".encode(rt.alloc())?;
+    /// # use nifazombi::radix_keys::TrieKey;
+    /// # use nifazombi::rattle_std::{alloc::Global, prelude::Clone};
+    /// let text = "tea".encode(Global)?;
     /// let mut list = text.clone()?;
     /// list.push(6)?;
-    /// assert!(rt; text.len() == 6 && list.len() == 7 && text < list);
+    /// assert!(text.len() == 6 && list.len() == 7 && text < list);
+    /// # Ok::<(), Box<dyn std::error::Error>>(())
     /// ```
-    ///
-    /// `lists_of_texts` in `crates/trie_examples/src/doc_examples.rt` encodes a text, and adds a
-    /// nibble.
     fn encode(&self, alloc: Global) -> Result<Nibblet, Memory>
         ensures ok { IfOk result (λ v. v ≡ encoding self.now) }
         ensures value { OnOk result (is_value self.now) }

@@ -20,14 +20,16 @@ pub use text::NetworkParseError;
 /// # Examples
 ///
 /// ```
-/// let mut hops: Trie<Ipv4Network, u32> = Trie::new(rt.alloc());
-/// hops.insert("10.0.0.0/8".parse()?, 1)?;
-/// let address = Network::host(Ipv4Addr::from_bits(0x0a01_0203));
-/// assert!(rt; hops.get_ancestor_value(&address)? == Some(&1));
-/// ```
+/// # use nifazombi::{radix_trie::Trie, rattle_std::alloc::Global};
+/// # use std::net::Ipv4Addr;
+/// use nifazombi::radix_keys::{Ipv4Network, Network};
 ///
-/// `networks_of_addresses` in `crates/trie_examples/src/doc_examples.rt` finds the network that
-/// holds an address.
+/// let mut hops: Trie<Ipv4Network, u32> = Trie::new(Global);
+/// hops.insert("10.0.0.0/8".parse()?, 1)?;
+/// let address = Network::host(Ipv4Addr::new(10, 1, 2, 3));
+/// assert_eq!(hops.get_ancestor_value(&address)?, Some(&1));
+/// # Ok::<(), Box<dyn std::error::Error>>(())
+/// ```
 #[derive(Drop)]
 pub struct Network<A: Address> {
     base: A,

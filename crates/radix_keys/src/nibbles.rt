@@ -57,12 +57,14 @@ pub enum BytesError {
 /// # Examples
 ///
 /// ```
-/// let mut list = text.encode(alloc)?;
-/// list.push(next)?;
-/// Ok(list)
+/// # use nifazombi::{radix_keys::TrieKey, rattle_std::alloc::Global};
+/// let mut list = "tea".encode(Global)?;
+/// list.push(6)?;
+/// assert_eq!(list.len(), 7);
+/// # Ok::<(), Box<dyn std::error::Error>>(())
 /// ```
 ///
-/// `list_below` in `crates/trie_examples/src/lists.rt` adds a nibble to the list of a text.
+/// `list_below` in `crates/trie_examples/src/lists.rt` proves that one nibble is added.
 pub struct NibbleVec {
     bytes: SmallVec<u8, 16>,
     is_odd: bool,

@@ -43,13 +43,15 @@ impl From<Memory> for PartsError {
 /// # Examples
 ///
 /// ```
-/// let mut sizes: Trie<Parts, u64> = Trie::new(alloc);
-/// sizes.insert(Parts::of_path(alloc, "/home/ann", b'/')?, 7)?;
-/// assert!(rt; sizes.count_below(&Parts::of_path(alloc, "/home", b'/')?)? == 1);
-/// assert!(rt; sizes.count_below(&Parts::of_path(alloc, "/ho", b'/')?)? == 0);
-/// ```
+/// # use nifazombi::{radix_trie::Trie, rattle_std::alloc::Global};
+/// use nifazombi::radix_keys::Parts;
 ///
-/// `parts_of_paths` in `crates/trie_examples/src/doc_examples.rt` counts what lies below a folder.
+/// let mut sizes: Trie<Parts, u64> = Trie::new(Global);
+/// sizes.insert(Parts::of_path(Global, "/home/ann", b'/')?, 7)?;
+/// assert_eq!(sizes.count_below(&Parts::of_path(Global, "/home", b'/')?)?, 1);
+/// assert_eq!(sizes.count_below(&Parts::of_path(Global, "/ho", b'/')?)?, 0);
+/// # Ok::<(), Box<dyn std::error::Error>>(())
+/// ```
 #[derive(Drop)]
 pub struct Parts {
     bytes: Vec<u8>,
@@ -86,14 +88,14 @@ impl Parts {
     /// # Examples
     ///
     /// ```
-    /// let filter = Parts::split(rt.alloc(), "sport/+/score", b'/')?;
-    /// let topic = Parts::split(rt.alloc(), "sport/chess/score", b'/')?;
-    /// assert!(rt; is_filter(&filter) && !is_topic(&filter));
-    /// assert!(rt; is_filter(&topic) && is_topic(&topic));
+    /// # use nifazombi::topic_filters::{is_filter, is_topic};
+    /// # use nifazombi::{radix_keys::Parts, rattle_std::alloc::Global};
+    /// let filter = Parts::split(Global, "sport/+/score", b'/')?;
+    /// let topic = Parts::split(Global, "sport/chess/score", b'/')?;
+    /// assert!(is_filter(&filter) && !is_topic(&filter));
+    /// assert!(is_filter(&topic) && is_topic(&topic));
+    /// # Ok::<(), Box<dyn std::error::Error>>(())
     /// ```
-    ///
-    /// `filters_and_topics` in `crates/trie_examples/src/doc_examples.rt` splits a filter and a
-    /// topic.
     pub fn split(alloc: Global, text: &str, separator: u8) -> Result<Parts, PartsError>
         ensures ok { IfOk result (λ parts. parts ≡ slice_split (λ b. b == separator) text.now) }
         ensures zero { (result ≡ Err PartsError.Zero) ↔ Contains text.now 0 }
@@ -136,12 +138,13 @@ impl Parts {
     /// # Examples
     ///
     /// ```
-    /// let labels = Parts::reversed(alloc, host, b'.')?;
-    /// Ok(last_labels(host, suffix_len(all, &labels)?))
+    /// # use nifazombi::{radix_keys::Parts, rattle_std::alloc::Global};
+    /// let labels = Parts::reversed(Global, "www.anna.north", b'.')?;
+    /// assert!(labels == Parts::split(Global, "north.anna.www", b'.')?);
+    /// # Ok::<(), Box<dyn std::error::Error>>(())
     /// ```
     ///
-    /// `suffix` in `crates/trie_examples/src/suffixes.rt` takes a host's labels, the last one
-    /// first.
+    /// `suffix` in `crates/trie_examples/src/suffixes.rt` proves that it gives an end of a host.
     pub fn reversed(alloc: Global, text: &str, separator: u8) -> Result<Parts, PartsError>
         ensures ok { IfOk result (λ parts.
             parts ≡ reverse (slice_split (λ b. b == separator) text.now)) }

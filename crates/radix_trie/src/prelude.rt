@@ -1,7 +1,7 @@
 //! What most programs name: the trie, and the traits whose calls it has, as `iter` and `cursor`.
 //!
 //! ```
-//! use radix_trie::prelude::*;
+//! use nifazombi::radix_trie::prelude::*;
 //! ```
 
 pub use crate::trie::Trie;

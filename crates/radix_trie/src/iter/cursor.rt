@@ -89,14 +89,14 @@ impl<'a, K, V> Cursor<'a, K, V> {
     /// # Examples
     ///
     /// ```
+    /// # use nifazombi::{radix_trie::prelude::*, rattle_std::alloc::Global};
     /// let lines = [(1_300, "asked"), (1_200, "opened"), (1_250, "read")];
-    /// let log: Trie<u64, &'static str> = Trie::from_iter(rt.alloc(), lines.iter().copied())?;
+    /// let log: Trie<u64, &str> = Trie::from_iter(Global, lines.into_iter())?;
     /// let mut walk = log.range(1_201..1_300u64)?;
-    /// assert!(rt; walk.next()? == Some((&1_250, &"read")) && walk.next()?.is_none());
+    /// assert_eq!(walk.next()?, Some((&1_250, &"read")));
+    /// assert_eq!(walk.next()?, None);
+    /// # Ok::<(), Box<dyn std::error::Error>>(())
     /// ```
-    ///
-    /// `lines_of_a_log` in `crates/trie_examples/src/doc_examples.rt` takes the only pair between
-    /// two keys.
     pub fn next(&mut self) -> Result<Option<(&'a K, &'a V)>, Memory>
         ensures pair { IfOk result (λ pair. option_map deref_pair pair ≡ slice_get self.old 0) }
         ensures rest { OnOk result (self.new ≡ drop 1 self.old) }

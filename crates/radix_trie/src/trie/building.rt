@@ -27,13 +27,12 @@ impl<K: TrieKey + Drop, V: Drop> Trie<K, V> {
     /// # Examples
     ///
     /// ```
+    /// # use nifazombi::{radix_trie::Trie, rattle_std::alloc::Global};
     /// let lines = [(1_300, "asked"), (1_200, "opened"), (1_250, "read")];
-    /// let log: Trie<u64, &'static str> = Trie::from_iter(rt.alloc(), lines.iter().copied())?;
-    /// let mut walk = log.range(1_201..1_300u64)?;
-    /// assert!(rt; walk.next()? == Some((&1_250, &"read")) && walk.next()?.is_none());
+    /// let log: Trie<u64, &str> = Trie::from_iter(Global, lines.into_iter())?;
+    /// assert!(log.len() == 3 && log.get(&1_250u64)? == Some(&"read"));
+    /// # Ok::<(), Box<dyn std::error::Error>>(())
     /// ```
-    ///
-    /// `lines_of_a_log` in `crates/trie_examples/src/doc_examples.rt` builds a log of its lines.
     pub fn from_iter<I: Iterator<Item = (K, V)> + Drop>(
         alloc: Global,
         iter: I,

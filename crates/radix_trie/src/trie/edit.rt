@@ -49,12 +49,12 @@ impl<K: TrieKey + Drop, V: Drop> Trie<K, V> {
     /// # Examples
     ///
     /// ```
-    /// let mut trie: Trie<&'static str, u64> = Trie::new(rt.alloc());
-    /// assert!(rt; matches!(trie.insert("haskell", 18), Ok(None)));
-    /// assert!(rt; matches!(trie.insert("haskell", 36), Ok(Some(18))));
+    /// # use nifazombi::{radix_trie::Trie, rattle_std::alloc::Global};
+    /// let mut trie = Trie::new(Global);
+    /// assert_eq!(trie.insert("haskell", 18)?, None);
+    /// assert_eq!(trie.insert("haskell", 36)?, Some(18));
+    /// # Ok::<(), Box<dyn std::error::Error>>(())
     /// ```
-    ///
-    /// `first_steps` in `crates/trie_examples/src/first.rt` stores a pair twice.
     pub fn insert(&mut self, key: K, value: V) -> Result<Option<V>, InsertError<K, V>>
         ensures old_value { IfOk result (λ old. old ≡ value_at self.old (K.encoding key)) }
         ensures stored { OnOk result

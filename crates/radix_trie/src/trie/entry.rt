@@ -57,11 +57,16 @@ impl<K: TrieKey, V> Trie<K, V> {
     /// # Examples
     ///
     /// ```
-    /// *counts.entry(word)?.or_insert(0)? += 1;
-    /// Ok(())
+    /// # use nifazombi::{radix_trie::Trie, rattle_std::alloc::Global};
+    /// let mut counts = Trie::new(Global);
+    /// for word in ["tea", "ten", "tea"] {
+    ///     *counts.entry(word)?.or_insert(0)? += 1;
+    /// }
+    /// assert!(counts.get(&"tea")? == Some(&2) && counts.get(&"ten")? == Some(&1));
+    /// # Ok::<(), Box<dyn std::error::Error>>(())
     /// ```
     ///
-    /// `count` in `crates/trie_examples/src/tallies.rt` counts a word.
+    /// `count` in `crates/trie_examples/src/tallies.rt` proves that it counts that word alone.
     pub fn entry(&mut self, key: K) -> Result<Entry<'_, K, V>, Refused<Memory, K>>
         ensures* rests { sem 𝓛
             (entry_rests_if_err K.row V.row K.TrieKey.own K.PartialEq.own self.entry result) }

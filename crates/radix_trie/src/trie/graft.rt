@@ -45,11 +45,15 @@ impl<K: TrieKey + Drop, V: Drop> Trie<K, V> {
     /// # Examples
     ///
     /// ```
-    /// let part = trie.split_off_prefix(key)?;
-    /// Ok(trie.graft(part)?)
+    /// # use nifazombi::{radix_trie::Trie, rattle_std::alloc::Global};
+    /// let mut trie = Trie::from_iter(Global, [("tea", 1), ("team", 2), ("inn", 3)].into_iter())?;
+    /// let part = trie.split_off_prefix(&"te")?;
+    /// trie.graft(part)?;
+    /// assert_eq!(trie.len(), 3);
+    /// # Ok::<(), Box<dyn std::error::Error>>(())
     /// ```
     ///
-    /// `put_back` in `crates/trie_examples/src/cited.rt` grafts what it split off.
+    /// `put_back` in `crates/trie_examples/src/cited.rt` proves that the trie is as it was.
     pub fn graft(&mut self, part: Trie<K, V>) -> Result<(), Refused<GraftWhy, Trie<K, V>>>
         ensures grafted { OnOk result
             (self.new ≡ with_pairs K.encoding self.old (pairs_below part [])) }

@@ -137,13 +137,12 @@ impl<K: TrieKey, V> Trie<K, V> {
     /// # Examples
     ///
     /// ```
-    /// let mut trie: Trie<&'static str, u64> = Trie::new(rt.alloc());
-    /// assert!(rt; matches!(trie.insert("haskell", 18), Ok(None)));
-    /// assert!(rt; matches!(trie.insert("haskell", 36), Ok(Some(18))));
-    /// assert!(rt; trie.get(&"haskell")? == Some(&36));
+    /// # use nifazombi::{radix_trie::Trie, rattle_std::alloc::Global};
+    /// let mut trie = Trie::new(Global);
+    /// trie.insert("haskell", 36)?;
+    /// assert!(trie.get(&"haskell")? == Some(&36) && trie.get(&"has")? == None);
+    /// # Ok::<(), Box<dyn std::error::Error>>(())
     /// ```
-    ///
-    /// `first_steps` in `crates/trie_examples/src/first.rt` looks up what it inserted.
     pub fn get<Q: TrieKey>(&self, key: &Q) -> Result<Option<&V>, Memory>
         ensures value { IfOk result
             (λ found. option_copied found ≡ value_at self.now (Q.encoding key.now)) }

@@ -25,16 +25,15 @@ impl<K: TrieKey, V> Trie<K, V> {
     /// # Examples
     ///
     /// ```
-    /// let first = words.first_below(&typed, most)?;
-    /// let second = match first.last() {
-    ///     Some((last, _)) => words.first_after(&typed, *last, most)?,
-    ///     None => Vec::new(alloc),
-    /// };
-    /// Ok((first, second))
+    /// # use nifazombi::{radix_trie::Trie, rattle_std::alloc::Global};
+    /// let words = Trie::from_iter(Global, [("tea", 1), ("team", 2), ("ten", 3)].into_iter())?;
+    /// let first = words.first_below(&"te", 2)?;
+    /// let second = words.first_after(&"te", first[1].0, 2)?;
+    /// assert!(first[1] == (&"team", &2) && second.as_slice() == [(&"ten", &3)]);
+    /// # Ok::<(), Box<dyn std::error::Error>>(())
     /// ```
     ///
-    /// `two_pages` in `crates/trie_examples/src/pages.rt` takes a page of words that begin with
-    /// what was typed, and the next one.
+    /// `two_pages` in `crates/trie_examples/src/pages.rt` proves that it misses no word.
     pub fn first_below<Q: TrieKey>(&self, key: &Q, most: usize) -> Result<Vec<(&K, &V)>, Memory>
         ensures pairs { IfOk result (λ list. deref_pairs list.items
             ≡ take most (pairs_below self.now (Q.encoding key.now))) }

@@ -24,15 +24,16 @@ impl<K: TrieKey + Drop, V: Drop> Trie<K, V> {
     /// # Examples
     ///
     /// ```
-    /// for (key, value) in all.remove_prefix(&from)? {
-    ///     let rest = key.as_str().strip_prefix(from).unwrap_or("");
-    ///     store_below(alloc, all, to, rest, value)?;
+    /// # use nifazombi::{radix_trie::Trie, rattle_std::alloc::Global};
+    /// let mut all = Trie::from_iter(Global, [("tea", 1), ("team", 2), ("inn", 3)].into_iter())?;
+    /// for (key, value) in all.remove_prefix(&"te")? {
+    ///     println!("{key} {value}");
     /// }
-    /// Ok(())
+    /// assert_eq!(all.len(), 1);
+    /// # Ok::<(), Box<dyn std::error::Error>>(())
     /// ```
     ///
-    /// `move_below` in `crates/trie_examples/src/moves.rt` takes what lies below a name away, to
-    /// store it elsewhere.
+    /// `move_below` in `crates/trie_examples/src/moves.rt` proves that nothing else changes.
     pub fn remove_prefix<Q: TrieKey>(&mut self, key: &Q) -> Result<Vec<(K, V)>, Memory>
         ensures pairs { IfOk result
             (λ gone. gone.items ≡ pairs_below self.old (Q.encoding key.now)) }

@@ -21,14 +21,14 @@ impl<K: TrieKey, V> Trie<K, V> {
     /// # Examples
     ///
     /// ```
-    /// let mut limits: Trie<&'static str, u64> = Trie::new(rt.alloc());
-    /// for (path, limit) in [("/home/ann/", 30), ("/", 10), ("/home/", 20)] {
-    ///     limits.insert(path, limit)?;
-    /// }
-    /// println!(rt; "{:?}", limits.get_ancestor_value(&"/home/ann/letters")?)?;
+    /// # use nifazombi::{radix_trie::Trie, rattle_std::alloc::Global};
+    /// let limits = [("/home/ann/", 30), ("/", 10), ("/home/", 20)];
+    /// let limits = Trie::from_iter(Global, limits.into_iter())?;
+    /// assert_eq!(limits.get_ancestor_value(&"/home/ann/letters")?, Some(&30));
+    /// # Ok::<(), Box<dyn std::error::Error>>(())
     /// ```
     ///
-    /// `main` in `crates/trie_examples/src/main.rt` prints the limit that a path inherits.
+    /// `inherited` in `crates/trie_examples/src/uses.rt` proves that the nearest path decides.
     pub fn get_ancestor_value<Q: TrieKey>(&self, key: &Q) -> Result<Option<&V>, Memory>
         ensures value { IfOk result
             (λ found. IsValueAbove self.now (Q.encoding key.now) (option_copied found)) }
@@ -98,15 +98,12 @@ impl<K: TrieKey, V> Trie<K, V> {
     /// # Examples
     ///
     /// ```
-    /// let mut limits: Trie<&'static str, u64> = Trie::new(rt.alloc());
-    /// limits.insert("/", 10)?;
-    /// limits.insert("/home/", 20)?;
-    /// let mut above = limits.common_prefixes(&"/home/ann/")?;
-    /// assert!(rt; above.next() == Some((&"/", &10)) && above.next() == Some((&"/home/", &20)));
+    /// # use nifazombi::{radix_trie::Trie, rattle_std::alloc::Global};
+    /// let limits = Trie::from_iter(Global, [("/home/", 20), ("/", 10)].into_iter())?;
+    /// let above = limits.common_prefixes(&"/home/ann/")?;
+    /// assert!(above.eq([(&"/", &10), (&"/home/", &20)]));
+    /// # Ok::<(), Box<dyn std::error::Error>>(())
     /// ```
-    ///
-    /// `limits_above` in `crates/trie_examples/src/doc_examples.rt` reads the limits of all folders
-    /// above a path.
     pub fn common_prefixes<Q: TrieKey>(&self, key: &Q) -> Result<CommonPrefixes<'_, K, V>, Memory>
         ensures walk { IfOk result
             (λ pairs. pairs ≡ pairs_above self.now (Q.encoding key.now)) }

@@ -22,11 +22,15 @@ impl<K: TrieKey + Drop, V: Drop> Trie<K, V> {
     /// # Examples
     ///
     /// ```
-    /// let _ = trie.remove(key)?;
-    /// Ok(trie.get(key)?.copied())
+    /// # use nifazombi::{radix_trie::Trie, rattle_std::alloc::Global};
+    /// let mut trie = Trie::new(Global);
+    /// trie.insert("haskell", 36)?;
+    /// assert_eq!(trie.remove(&"haskell")?, Some(36));
+    /// assert_eq!(trie.get(&"haskell")?, None);
+    /// # Ok::<(), Box<dyn std::error::Error>>(())
     /// ```
     ///
-    /// `taken_away` in `crates/trie_examples/src/cited.rt` looks up a key that was removed.
+    /// `taken_away` in `crates/trie_examples/src/cited.rt` proves that nothing is found then.
     pub fn remove<Q: TrieKey>(&mut self, key: &Q) -> Result<Option<V>, Memory>
         ensures old_value { IfOk result (λ old. old ≡ value_at self.old (Q.encoding key.now)) }
         ensures removed { OnOk result (self.new ≡ map.remove self.old (Q.encoding key.now)) }

@@ -27,11 +27,14 @@ impl<K: TrieKey + Drop, V: Drop> Trie<K, V> {
     /// # Examples
     ///
     /// ```
-    /// let part = trie.split_off_prefix(key)?;
-    /// Ok(trie.graft(part)?)
+    /// # use nifazombi::{radix_trie::Trie, rattle_std::alloc::Global};
+    /// let mut trie = Trie::from_iter(Global, [("tea", 1), ("team", 2), ("inn", 3)].into_iter())?;
+    /// let part = trie.split_off_prefix(&"te")?;
+    /// assert!(part.len() == 2 && trie.len() == 1);
+    /// # Ok::<(), Box<dyn std::error::Error>>(())
     /// ```
     ///
-    /// `put_back` in `crates/trie_examples/src/cited.rt` splits off what it grafts again.
+    /// `put_back` in `crates/trie_examples/src/cited.rt` proves that grafting the part undoes it.
     pub fn split_off_prefix<Q: TrieKey>(&mut self, key: &Q) -> Result<Trie<K, V>, Memory>
         ensures split { IfOk result (λ part. part ≡ below self.old (Q.encoding key.now)) }
         ensures removed { OnOk result (self.new ≡ without_below self.old (Q.encoding key.now)) }

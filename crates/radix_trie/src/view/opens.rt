@@ -59,15 +59,14 @@ impl<K: TrieKey, V> Trie<K, V> {
     /// # Examples
     ///
     /// ```
-    /// let mut names: Trie<&'static str, u64> = Trie::new(rt.alloc());
+    /// # use nifazombi::{radix_trie::prelude::*, rattle_std::alloc::Global};
+    /// let mut names = Trie::new(Global);
     /// names.insert("tea", 1)?;
     /// let mut view = names.open_mut(&"tea")?;
-    /// assert!(rt; matches!(view.insert("team", 2), Ok(None)) && view.insert("inn", 3).is_err());
-    /// drop(view);
-    /// assert!(rt; names.get(&"team")? == Some(&2) && names.len() == 2);
+    /// assert!(matches!(view.insert("team", 2), Ok(None)) && view.insert("inn", 3).is_err());
+    /// assert!(names.get(&"team")? == Some(&2) && names.len() == 2);
+    /// # Ok::<(), Box<dyn std::error::Error>>(())
     /// ```
-    ///
-    /// `names_below` in `crates/trie_examples/src/doc_examples.rt` stores a name through a view.
     pub fn open_mut<Q: TrieKey>(&mut self, key: &Q) -> Result<SubTrieMut<'_, K, V>, OpenError>
         ensures* rests { sem 𝓛
             (rests_if_err K.row V.row K.TrieKey.own K.PartialEq.own self.entry result) }

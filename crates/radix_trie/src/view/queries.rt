@@ -48,15 +48,16 @@ impl<K: TrieKey, V> Trie<K, V> {
     /// # Examples
     ///
     /// ```
-    /// let bits = Bits::first_of_u32(alloc, address, 32)?;
-    /// match table.get_ancestor(&bits)? {
-    ///     Some(view) => Ok(Some(view)),
-    ///     None => Ok(None),
-    /// }
+    /// # use nifazombi::{radix_trie::{Bits, Trie, TrieCommon}, rattle_std::alloc::Global};
+    /// let mut table = Trie::new(Global);
+    /// table.insert(Bits::first_of_u32(Global, 0x0a00_0000, 8)?, 1)?;
+    /// let bits = Bits::first_of_u32(Global, 0x0a01_0203, 32)?;
+    /// let view = table.get_ancestor(&bits)?.expect("a network holds the address");
+    /// assert!(view.path().len() == 8 && view.value() == Some(&1));
+    /// # Ok::<(), Box<dyn std::error::Error>>(())
     /// ```
     ///
-    /// `route` in `crates/trie_examples/src/answers.rt` finds the longest network that holds an
-    /// address.
+    /// `route` in `crates/trie_examples/src/answers.rt` proves that it finds the longest network.
     pub fn get_ancestor<Q: TrieKey>(&self, key: &Q) -> Result<Option<SubTrie<'_, K, V>>, Memory>
         ensures nearest { IfOk result
             (λ o. IsAncestor self.now (Q.encoding key.now) (option_map (λ view. view.path) o)) }
@@ -116,13 +117,14 @@ impl<K: TrieKey, V> Trie<K, V> {
     /// # Examples
     ///
     /// ```
-    /// match words.get_raw_descendant(beginning)? {
-    ///     Some(view) => collected(alloc, TrieCommon::values(&view)?),
-    ///     None => Ok(Vec::new(alloc)),
-    /// }
+    /// # use nifazombi::{radix_trie::prelude::*, rattle_std::alloc::Global};
+    /// let words = Trie::from_iter(Global, [("tea", 1), ("team", 2), ("inn", 3)].into_iter())?;
+    /// let view = words.get_raw_descendant(&"te")?.expect("two words begin so");
+    /// assert!(view.values()?.eq(&[1, 2]));
+    /// # Ok::<(), Box<dyn std::error::Error>>(())
     /// ```
     ///
-    /// `completions` in `crates/trie_examples/src/uses.rt` finds the words with a prefix.
+    /// `completions` in `crates/trie_examples/src/uses.rt` proves that no such word is missed.
     pub fn get_raw_descendant<Q: TrieKey>(
         &self,
         key: &Q,

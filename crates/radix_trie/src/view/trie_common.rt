@@ -68,13 +68,16 @@ pub trait TrieCommon<'a, K: TrieKey + 'a, V: 'a>: Sized {
     /// # Examples
     ///
     /// ```
+    /// # use nifazombi::{radix_trie::prelude::*, rattle_std::alloc::Global};
+    /// let limits = Trie::from_iter(Global, [("/home/", 20), ("/", 10)].into_iter())?;
     /// for (path, limit) in limits.iter()? {
-    ///     println!(rt; "{path} {limit}")?;
+    ///     println!("{path} {limit}");
     /// }
-    /// Ok(())
+    /// assert!(limits.iter()?.eq([(&"/", &10), (&"/home/", &20)]));
+    /// # Ok::<(), Box<dyn std::error::Error>>(())
     /// ```
     ///
-    /// `main` in `crates/trie_examples/src/main.rt` prints the pairs in order.
+    /// `in_order` in `crates/trie_examples/src/cited.rt` proves that the keys' encodings rise.
     fn iter(self) -> Result<Iter<'a, K, V>, Memory>
         ensures walk { IfOk result (λ pairs. pairs ≡ pairs_below (map self) (path self)) }
         ensures keyed { Each (λ e. e.0 ≡ K.encoding e.1.0) (walk (map self) (path self)) }
@@ -117,16 +120,12 @@ pub trait TrieCommon<'a, K: TrieKey + 'a, V: 'a>: Sized {
     /// # Examples
     ///
     /// ```
-    /// let lines = [(1_300, "asked"), (1_200, "opened"), (1_250, "read")];
-    /// let log: Trie<u64, &'static str> = Trie::from_iter(rt.alloc(), lines.iter().copied())?;
-    /// let mut walk = log.range(1_201..1_300u64)?;
-    /// assert!(rt; walk.next()? == Some((&1_250, &"read")) && walk.next()?.is_none());
+    /// # use nifazombi::{radix_trie::prelude::*, rattle_std::alloc::Global};
+    /// let log = Trie::from_iter(Global, [(1_300, "asked"), (1_200, "opened")].into_iter())?;
     /// let mut whole = log.cursor();
-    /// assert!(rt; whole.next()? == Some((&1_200, &"opened")));
+    /// assert_eq!(whole.next()?, Some((&1_200, &"opened")));
+    /// # Ok::<(), Box<dyn std::error::Error>>(())
     /// ```
-    ///
-    /// `lines_of_a_log` in `crates/trie_examples/src/doc_examples.rt` walks over a part, and over
-    /// all.
     fn cursor(self) -> Cursor<'a, K, V>
         ensures walk { result ≡ pairs_below (map self) (path self) }
         ensures keyed { Each (λ e. e.0 ≡ K.encoding e.1.0) (walk (map self) (path self)) }
@@ -156,14 +155,13 @@ pub trait TrieCommon<'a, K: TrieKey + 'a, V: 'a>: Sized {
     /// # Examples
     ///
     /// ```
+    /// # use nifazombi::{radix_trie::prelude::*, rattle_std::alloc::Global};
     /// let lines = [(1_300, "asked"), (1_200, "opened"), (1_250, "read")];
-    /// let log: Trie<u64, &'static str> = Trie::from_iter(rt.alloc(), lines.iter().copied())?;
+    /// let log: Trie<u64, &str> = Trie::from_iter(Global, lines.into_iter())?;
     /// let mut walk = log.range(1_201..1_300u64)?;
-    /// assert!(rt; walk.next()? == Some((&1_250, &"read")) && walk.next()?.is_none());
+    /// assert!(walk.next()? == Some((&1_250, &"read")) && walk.next()?.is_none());
+    /// # Ok::<(), Box<dyn std::error::Error>>(())
     /// ```
-    ///
-    /// `lines_of_a_log` in `crates/trie_examples/src/doc_examples.rt` reads the lines between two
-    /// times.
     fn range<Q: TrieKey, R: RangeBounds<Q>>(self, range: R) -> Result<Cursor<'a, K, V>, Memory>
         ensures walk { R.has_bounds range → IfOk result (λ pairs. pairs
             ≡ pairs_within (map self) (path self)

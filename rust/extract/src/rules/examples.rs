@@ -171,10 +171,12 @@ pub(super) fn examples(edit: &mut Edit<'_>, place: &Place) -> Result<bool, Unkno
     let Some(language) = fence(edit.text(at)) else {
         return Ok(false);
     };
-    let is_example = language.is_empty();
     let mark = edit.text(at)[..4].to_string();
     let end = (at + 1..edit.len()).find(|it| fence(edit.text(*it)).is_some());
     let end = end.ok_or_else(|| edit.unknown(at, "an example that does not end"))?;
+    // One that names the extracted crate is whole.
+    let is_whole = (at..end).any(|it| edit.text(it).contains("nifazombi::"));
+    let is_example = language.is_empty() && !is_whole;
     let shown = is_example.then(|| documentation(edit, place, at, end)).flatten();
     match shown {
         Some(shown) => {

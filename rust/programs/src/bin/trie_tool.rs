@@ -1,4 +1,5 @@
 //! The program of `crates/trie_tool`.
 fn main() -> std::process::ExitCode {
-    programs::trie_tool::main()
+    let page = include_str!("../../../../docs/PROGRAM.md");
+    programs::start("trie_tool", page, &[], programs::trie_tool::main)
 }

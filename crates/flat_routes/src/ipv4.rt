@@ -124,20 +124,14 @@ pub fn row_at(image: &[u8], at: usize) -> Option<Row>
 /// # Examples
 ///
 /// ```
-/// let mut image = [0u8; 104];
-/// let rows = [ipv4::Row {
-///     first: 0x0a00_0000,
-///     bits: 8,
-///     link: 0,
-///     value: 7,
-/// }];
-/// assert!(rt; ipv4::write(&rows, &[], &mut image).is_ok() && ipv4::is_image(&image));
-/// assert!(rt; ipv4::longest_match(&image, 0x0a01_0203) == Some(0));
-/// assert!(rt; ipv4::row_at(&image, 0).is_some_and(|row| row.value == 7));
-/// ```
+/// use nifazombi::flat_routes::ipv4;
 ///
-/// `image_of_one_network` in `crates/table_tests/src/doc_examples.rt` writes an image, and looks an
-/// address up.
+/// let mut image = [0u8; 104];
+/// let rows = [ipv4::Row { first: 0x0a00_0000, bits: 8, link: 0, value: 7 }];
+/// assert!(ipv4::write(&rows, &[], &mut image).is_ok() && ipv4::is_image(&image));
+/// assert_eq!(ipv4::longest_match(&image, 0x0a01_0203), Some(0));
+/// assert!(ipv4::row_at(&image, 0).is_some_and(|row| row.value == 7));
+/// ```
 pub fn longest_match(image: &[u8], address: u32) -> Option<usize>
     ensures within { IfSome result (λ at. at < row_count image.now) }
     ensures row { IsImage of_ipv4 image.now → IsLongestRow 32 (λ n. n)

@@ -134,21 +134,15 @@ pub fn row_at(image: &[u8], at: usize) -> Option<Row>
 /// # Examples
 ///
 /// ```
+/// use nifazombi::flat_routes::ipv6;
+///
 /// let first = (0x2001_0db8u128 << 96).to_be_bytes();
 /// let mut image = [0u8; 120];
-/// let rows = [ipv6::Row {
-///     first,
-///     bits: 32,
-///     link: 0,
-///     value: 7,
-/// }];
-/// assert!(rt; ipv6::write(&rows, &[], &mut image).is_ok() && ipv6::is_image(&image));
-/// assert!(rt; ipv6::longest_match(&image, (0x2001_0db8 << 96) + 1) == Some(0));
-/// assert!(rt; ipv6::row_at(&image, 0).is_some_and(|row| row.value == 7));
+/// let rows = [ipv6::Row { first, bits: 32, link: 0, value: 7 }];
+/// assert!(ipv6::write(&rows, &[], &mut image).is_ok() && ipv6::is_image(&image));
+/// assert_eq!(ipv6::longest_match(&image, (0x2001_0db8 << 96) + 1), Some(0));
+/// assert!(ipv6::row_at(&image, 0).is_some_and(|row| row.value == 7));
 /// ```
-///
-/// `image_of_one_wide_network` in `crates/table_tests/src/doc_examples.rt` writes an image, and
-/// looks an address up.
 pub fn longest_match(image: &[u8], address: u128) -> Option<usize>
     ensures within { IfSome result (λ at. at < row_count image.now) }
     ensures row { IsImage of_ipv6 image.now → IsLongestRow 128 (λ n. n)

@@ -55,17 +55,18 @@ pub fn from_image(alloc: Global, image: &[u8]) -> Result<FrozenTexts<u64>, Table
 /// # Examples
 ///
 /// ```
-/// let mut texts: FrozenTexts<u64> = FrozenTexts::new(rt.alloc());
+/// # use nifazombi::{frozen_trie::FrozenTexts, rattle_std::alloc::Global};
+/// use nifazombi::flat_texts;
+///
+/// let mut texts: FrozenTexts<u64> = FrozenTexts::new(Global);
 /// texts.push(b"tea", 1)?;
 /// texts.push(b"team", 2)?;
-/// let image = flat_texts::to_image(rt.alloc(), &texts, &[])?;
-/// assert!(rt; flat_texts::nearest(&image, b"teapot") == Some(0));
-/// assert!(rt; flat_texts::nth(&image, 0).is_some_and(|pair| pair.value == 1));
-/// assert!(rt; flat_texts::below(&image, b"te") == (0, 2));
+/// let image = flat_texts::to_image(Global, &texts, &[])?;
+/// assert_eq!(flat_texts::nearest(&image, b"teapot"), Some(0));
+/// assert!(flat_texts::nth(&image, 0).is_some_and(|pair| pair.value == 1));
+/// assert_eq!(flat_texts::below(&image, b"te"), (0, 2));
+/// # Ok::<(), Box<dyn std::error::Error>>(())
 /// ```
-///
-/// `image_of_texts` in `crates/table_tests/src/doc_examples.rt` makes an image, and looks texts up
-/// in it.
 pub fn to_image(alloc: Global, texts: &FrozenTexts<u64>, payload: &[u8]) -> Result<Vec<u8>, Memory>
     ensures image { IfOk result (λ image. IsTextImage image.items) }
     ensures pairs { IfOk result (λ image. image_pairs image.items ≡ pairs_below texts.now []) }

@@ -25,16 +25,18 @@ use std::alloc::Global;
 /// # Examples
 ///
 /// ```
-/// let mut codes: FrozenTrie<u16, u64> = FrozenTrie::new(rt.alloc());
-/// codes.push(7, 1)?;
-/// let image = flat_tries::to_image(rt.alloc(), &codes, &[])?;
-/// let Ok(again) = flat_tries::from_image::<u16>(rt.alloc(), &image) else {
-///     bail!("the image is whole");
-/// };
-/// assert!(rt; again.get(&7u16)? == Some(&1));
-/// ```
+/// # use nifazombi::{frozen_trie::FrozenTrie, rattle_std::alloc::Global};
+/// use nifazombi::flat_tries;
 ///
-/// `image_of_a_trie` in `crates/table_tests/src/doc_examples.rt` makes an image, and reads it back.
+/// let mut codes: FrozenTrie<u16, u64> = FrozenTrie::new(Global);
+/// codes.push(7, 1)?;
+/// let image = flat_tries::to_image(Global, &codes, &[])?;
+/// let Ok(again) = flat_tries::from_image::<u16>(Global, &image) else {
+///     panic!("the image is whole");
+/// };
+/// assert_eq!(again.get(&7u16)?, Some(&1));
+/// # Ok::<(), Box<dyn std::error::Error>>(())
+/// ```
 pub fn to_image<K: TrieKey + Drop>(
     alloc: Global,
     trie: &FrozenTrie<K, u64>,

@@ -24,16 +24,17 @@ use std::alloc::Global;
 /// # Examples
 ///
 /// ```
-/// let mut hops: Trie<Ipv4Network, u32> = Trie::new(rt.alloc());
+/// # use nifazombi::{radix_keys::Ipv4Network, radix_trie::Trie, rattle_std::alloc::Global};
+/// # use std::net::Ipv4Addr;
+/// use nifazombi::frozen_networks::freeze;
+///
+/// let mut hops: Trie<Ipv4Network, u32> = Trie::new(Global);
 /// hops.insert("10.0.0.0/8".parse()?, 1)?;
 /// let routes = freeze(hops)?;
-/// let found = routes.longest_match(&Ipv4Addr::from_bits(0x0a01_0203));
-/// assert!(rt; found.is_some_and(|(_, hop)| *hop == 1));
-/// assert!(rt; thaw(rt.alloc(), routes)?.len() == 1);
+/// let found = routes.longest_match(&Ipv4Addr::new(10, 1, 2, 3));
+/// assert!(found.is_some_and(|(_, hop)| *hop == 1));
+/// # Ok::<(), Box<dyn std::error::Error>>(())
 /// ```
-///
-/// `networks_there_and_back` in `crates/table_tests/src/doc_examples.rt` freezes a trie of
-/// networks, and thaws it.
 pub fn freeze<A: Address, V: Drop>(
     trie: Trie<Network<A>, V>,
 ) -> Result<FrozenRoutes<A, V>, Refused<BuildError, Trie<Network<A>, V>>>
@@ -94,16 +95,15 @@ fn each_is_network<A: Address, V>(rows: &[(Network<A>, V)])
 /// # Examples
 ///
 /// ```
-/// let mut hops: Trie<Ipv4Network, u32> = Trie::new(rt.alloc());
+/// # use nifazombi::{radix_keys::Ipv4Network, radix_trie::Trie, rattle_std::alloc::Global};
+/// use nifazombi::frozen_networks::{freeze, thaw};
+///
+/// let mut hops: Trie<Ipv4Network, u32> = Trie::new(Global);
 /// hops.insert("10.0.0.0/8".parse()?, 1)?;
 /// let routes = freeze(hops)?;
-/// let found = routes.longest_match(&Ipv4Addr::from_bits(0x0a01_0203));
-/// assert!(rt; found.is_some_and(|(_, hop)| *hop == 1));
-/// assert!(rt; thaw(rt.alloc(), routes)?.len() == 1);
+/// assert_eq!(thaw(Global, routes)?.len(), 1);
+/// # Ok::<(), Box<dyn std::error::Error>>(())
 /// ```
-///
-/// `networks_there_and_back` in `crates/table_tests/src/doc_examples.rt` freezes a trie of
-/// networks, and thaws it.
 pub fn thaw<A: Address, V: Drop>(
     alloc: Global,
     routes: FrozenRoutes<A, V>,

@@ -21,16 +21,18 @@ use std::marker::Model;
 /// # Examples
 ///
 /// ```
-/// let mut routes: FrozenRoutes<Ipv4Addr, u32> = FrozenRoutes::new(rt.alloc());
+/// # use nifazombi::rattle_std::alloc::Global;
+/// # use std::net::Ipv4Addr;
+/// use nifazombi::frozen_routes::FrozenRoutes;
+///
+/// let mut routes: FrozenRoutes<Ipv4Addr, u32> = FrozenRoutes::new(Global);
 /// routes.push("10.0.0.0/8".parse()?, 1)?;
 /// routes.push("10.1.0.0/16".parse()?, 2)?;
 /// routes.finish()?;
-/// let found = routes.longest_match(&Ipv4Addr::from_bits(0x0a01_0203));
-/// assert!(rt; found.is_some_and(|(_, hop)| *hop == 2));
+/// let found = routes.longest_match(&Ipv4Addr::new(10, 1, 2, 3));
+/// assert!(found.is_some_and(|(_, hop)| *hop == 2));
+/// # Ok::<(), Box<dyn std::error::Error>>(())
 /// ```
-///
-/// `appended_routes` in `crates/trie_examples/src/doc_examples.rt` appends two networks, and looks
-/// an address up.
 #[derive(Drop)]
 pub struct FrozenRoutes<A: Address, V> {
     pub(crate) rows: Vec<(Network<A>, V)>,

@@ -24,15 +24,17 @@ use radix_trie::{
 /// # Examples
 ///
 /// ```
-/// let mut words: Trie<&'static str, u64> = Trie::new(rt.alloc());
+/// # use nifazombi::{radix_trie::Trie, rattle_std::alloc::Global};
+/// use nifazombi::frozen_trie::freeze;
+///
+/// let mut words = Trie::new(Global);
 /// words.insert("team", 2)?;
 /// words.insert("tea", 1)?;
 /// let frozen = freeze(words)?;
-/// assert!(rt; frozen.below(&"te")? == [("tea", 1), ("team", 2)].as_slice());
-/// assert!(rt; frozen.longest_match(&"teapot")? == Some((&"tea", &1)));
+/// assert_eq!(frozen.below(&"te")?, [("tea", 1), ("team", 2)]);
+/// assert_eq!(frozen.longest_match(&"teapot")?, Some((&"tea", &1)));
+/// # Ok::<(), Box<dyn std::error::Error>>(())
 /// ```
-///
-/// `frozen_words` in `crates/trie_examples/src/doc_examples.rt` freezes a trie, and reads it.
 pub fn freeze<K: AsNibbles + Drop, V: Drop>(
     trie: Trie<K, V>,
 ) -> Result<FrozenTrie<K, V>, Refused<BuildError, Trie<K, V>>>

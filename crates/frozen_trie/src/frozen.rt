@@ -30,15 +30,16 @@ mod written;
 /// # Examples
 ///
 /// ```
-/// let mut words: FrozenTrie<&'static str, u64> = FrozenTrie::new(rt.alloc());
+/// # use nifazombi::rattle_std::alloc::Global;
+/// use nifazombi::frozen_trie::FrozenTrie;
+///
+/// let mut words: FrozenTrie<&str, u64> = FrozenTrie::new(Global);
 /// words.push("tea", 1)?;
 /// words.push("team", 2)?;
 /// words.finish()?;
-/// assert!(rt; words.count_below(&"te")? == 2 && words.rank(&"team")? == 1);
+/// assert!(words.count_below(&"te")? == 2 && words.rank(&"team")? == 1);
+/// # Ok::<(), Box<dyn std::error::Error>>(())
 /// ```
-///
-/// `appended_words` in `crates/trie_examples/src/doc_examples.rt` appends words in order, and
-/// counts them.
 #[derive(Drop)]
 pub struct FrozenTrie<K: TrieKey, V> {
     /// The encodings of the pairs.

@@ -43,15 +43,16 @@ pub use walk::Texts;
 /// # Examples
 ///
 /// ```
-/// let mut texts: FrozenTexts<u64> = FrozenTexts::new(rt.alloc());
+/// # use nifazombi::rattle_std::alloc::Global;
+/// use nifazombi::frozen_trie::FrozenTexts;
+///
+/// let mut texts: FrozenTexts<u64> = FrozenTexts::new(Global);
 /// texts.push(b"tea", 1)?;
 /// texts.push(b"team", 2)?;
 /// texts.finish()?;
-/// assert!(rt; texts.longest_match(b"teapot") == Some((b"tea".as_slice(), &1)));
+/// assert_eq!(texts.longest_match(b"teapot"), Some((b"tea".as_slice(), &1)));
+/// # Ok::<(), Box<dyn std::error::Error>>(())
 /// ```
-///
-/// `appended_texts` in `crates/trie_examples/src/doc_examples.rt` appends texts, and finds the
-/// longest one that begins another.
 #[derive(Drop)]
 pub struct FrozenTexts<V> {
     /// The nibbles of the keys.

@@ -54,14 +54,12 @@ pub fn payload(image: &[u8]) -> Option<(usize, usize)>
 /// # Examples
 ///
 /// ```
+/// # use nifazombi::image_parts::{part_at, put_part, put_u32};
 /// let mut image = [0u8; 96];
 /// put_u32(&mut image, 88, 7);
-/// assert!(rt; u32_at(&image, 88) == 7);
 /// put_part(&mut image, 0, 3, 0, 88, 4);
-/// assert!(rt; part_at(&image, 0, 3) == Some((88, 4)));
+/// assert_eq!(part_at(&image, 0, 3), Some((88, 4)));
 /// ```
-///
-/// `numbers_in_bytes` in `crates/table_tests/src/doc_examples.rt` lists a part of four bytes.
 pub fn put_part(out: &mut [u8], entry: usize, kind: u32, detail: u32, place: usize, size: usize)
     requires { entry + 24 ≤ length out.old }
     ensures kind { u32_in out.new entry ≡ kind }

@@ -19,12 +19,11 @@ pub fn put_bytes(out: &mut [u8], at: usize, bytes: &[u8])
 /// # Examples
 ///
 /// ```
+/// # use nifazombi::image_parts::{put_u32, u32_at};
 /// let mut image = [0u8; 96];
 /// put_u32(&mut image, 88, 7);
-/// assert!(rt; u32_at(&image, 88) == 7);
+/// assert_eq!(u32_at(&image, 88), 7);
 /// ```
-///
-/// `numbers_in_bytes` in `crates/table_tests/src/doc_examples.rt` puts a number in, and reads it.
 pub fn put_u32(out: &mut [u8], at: usize, number: u32)
     requires { at + 4 ≤ length out.old }
     ensures number { u32_in out.new at ≡ number }

@@ -12,6 +12,8 @@ use radix_trie::TrieKey;
 /// # Examples
 ///
 /// ```
+/// # use nifazombi::{keyed_maps::keyed_maps_follow_edits, radix_trie::{Trie, TrieError, TrieKey}};
+/// # fn f<K: TrieKey, V: Copy>(trie: &mut Trie<K, V>, from: &K, to: K) -> Result<bool, TrieError> {
 /// keyed_maps_follow_edits::<K, V>();
 /// let Some(value) = trie.get(from)?.copied() else {
 ///     return Ok(false);
@@ -19,9 +21,10 @@ use radix_trie::TrieKey;
 /// let _ = trie.insert(to, value)?;
 /// let _ = trie.remove(from)?;
 /// Ok(true)
+/// # }
 /// ```
 ///
-/// `move_value` in `crates/trie_examples/src/by_keys/edits.rt` moves a value to another key.
+/// `move_value` in `crates/trie_examples/src/by_keys/edits.rt` proves that no other value changes.
 pub fn keyed_maps_follow_edits<K: TrieKey, V>()
     ensures get_empty { (k : K) → keyed_map {V = V} K.encoding map.empty k ≡ None }
     ensures get_insert_same { (m : PairMap K V) (k : K) (v : V)
@@ -58,16 +61,20 @@ pub fn equal_keys_have_one_value<K: TrieKey, V>()
 /// # Examples
 ///
 /// ```
+/// # use nifazombi::{keyed_maps::edits_by_key_compose, radix_trie::{Trie, TrieError, TrieKey}};
+/// # fn f<K: TrieKey + Copy, V: Copy>(first: &mut Trie<K, V>, second: &mut Trie<K, V>, one: (K, V),
+/// #     other: (K, V)) -> Result<(), TrieError> {
 /// edits_by_key_compose::<K, V>();
 /// let _ = first.insert(one.0, one.1)?;
 /// let _ = first.insert(other.0, other.1)?;
 /// let _ = second.insert(other.0, other.1)?;
 /// let _ = second.insert(one.0, one.1)?;
 /// Ok(())
+/// # }
 /// ```
 ///
-/// `insert_in_either_order` in `crates/trie_examples/src/by_keys/edits.rt` stores two values in
-/// either order.
+/// `insert_in_either_order` in `crates/trie_examples/src/by_keys/edits.rt` proves that
+/// equal tries stay equal where the keys differ.
 pub fn edits_by_key_compose<K: TrieKey, V>()
     ensures insert_insert { (m : PairMap K V) (k : K) (v w : V)
         → map.insert (map.insert m (K.encoding k) (k, v)) (K.encoding k) (k, w)

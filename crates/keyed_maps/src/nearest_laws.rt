@@ -13,12 +13,14 @@ use radix_trie::{Trie, TrieKey, keys_stand_at_their_encodings};
 /// # Examples
 ///
 /// ```
+/// # use nifazombi::{keyed_maps::keyed_maps_follow_nearest, radix_trie::{Bits, Memory, Trie}};
+/// # fn next_hop<V: Copy>(table: &Trie<Bits, V>, address: &Bits) -> Result<Option<V>, Memory> {
 /// keyed_maps_follow_nearest(table);
 /// Ok(table.get_ancestor_value(address)?.copied())
+/// # }
 /// ```
 ///
-/// `next_hop` in `crates/trie_examples/src/uses.rt` finds the longest network that begins an
-/// address.
+/// `next_hop` in `crates/trie_examples/src/uses.rt` proves that the longest network decides.
 pub fn keyed_maps_follow_nearest<K: TrieKey, V>(trie: &Trie<K, V>)
     ensures get_nearest { (e : List ℕ) (v : V) → IsValueAbove trie.now e (Some v)
         → (k : K) × IsPrefix (K.encoding k) e × (keyed_map K.encoding trie.now k ≡ Some v)

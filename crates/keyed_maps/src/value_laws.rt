@@ -13,12 +13,15 @@ use radix_trie::TrieKey;
 /// # Examples
 ///
 /// ```
+/// # use nifazombi::{keyed_maps::keyed_maps_follow_values, radix_trie::{Trie, TrieError, TrieKey}};
+/// # fn count<K: TrieKey>(counts: &mut Trie<K, u64>, word: K) -> Result<(), TrieError> {
 /// keyed_maps_follow_values::<K, u64>();
 /// *counts.entry(word)?.or_insert(0)? += 1;
 /// Ok(())
+/// # }
 /// ```
 ///
-/// `count` in `crates/trie_examples/src/tallies.rt` counts a word.
+/// `count` in `crates/trie_examples/src/tallies.rt` proves that it counts that word alone.
 pub fn keyed_maps_follow_values<K: TrieKey, V>()
     ensures get_written_same { (m : PairMap K V) (k : K) (v w : V)
         → keyed_map K.encoding m k ≡ Some v

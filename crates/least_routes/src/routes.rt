@@ -78,18 +78,13 @@ pub fn is_table(width: u8, routes: &[Route]) -> bool
 /// # Examples
 ///
 /// ```
-/// let low = Route {
-///     base: 0,
-///     bits: 1,
-///     hop: 7,
-/// };
+/// # use nifazombi::{least_routes::{Route, is_table, least}, rattle_std::alloc::Global};
+/// let low = Route { base: 0, bits: 1, hop: 7 };
 /// let routes = [low, Route { base: 128, ..low }];
-/// if is_table(8, &routes) {
-///     assert!(rt; least(rt.alloc(), 8, &routes)?.len() == 1);
-/// }
+/// assert!(is_table(8, &routes));
+/// assert_eq!(least(Global, 8, &routes)?.len(), 1);
+/// # Ok::<(), Box<dyn std::error::Error>>(())
 /// ```
-///
-/// `joined_halves` in `crates/table_tests/src/doc_examples.rt` joins two halves of a network.
 pub fn least(alloc: Global, width: u8, routes: &[Route]) -> Result<Vec<Route>, AllocError>
     requires no_wider { width ≤ 128 }
     requires table { IsTable width routes.now }

@@ -17,13 +17,15 @@ use std::alloc::Global;
 /// # Examples
 ///
 /// ```
-/// let mut limits: Trie<&'static str, u64> = Trie::new(rt.alloc());
+/// # use nifazombi::{radix_trie::Trie, rattle_std::alloc::Global};
+/// use nifazombi::prefix_maps::lookup;
+///
+/// let mut limits = Trie::new(Global);
 /// limits.insert("/home/", 20)?;
 /// limits.insert("/home/ann/", 30)?;
-/// assert!(rt; lookup(&limits, &"/home/bob/")? == Some(&20));
+/// assert_eq!(lookup(&limits, &"/home/bob/")?, Some(&20));
+/// # Ok::<(), Box<dyn std::error::Error>>(())
 /// ```
-///
-/// `maps_of_any_kind` in `crates/trie_examples/src/doc_examples.rt` finds what a path inherits.
 pub fn lookup<'a, Q, M: PrefixMap<'a, Q>>(map: M, key: &Q) -> Result<Option<&'a M::Value>, Memory>
     ensures value { IfOk result
         (λ found. IsValueAbove (M.map map) (M.list key.now) (option_copied found)) }
@@ -45,15 +47,16 @@ pub fn lookup<'a, Q, M: PrefixMap<'a, Q>>(map: M, key: &Q) -> Result<Option<&'a 
 /// # Examples
 ///
 /// ```
-/// let mut limits: Trie<&'static str, u64> = Trie::new(rt.alloc());
+/// # use nifazombi::{radix_trie::Trie, rattle_std::alloc::Global};
+/// use nifazombi::prefix_maps::first_below;
+///
+/// let mut limits = Trie::new(Global);
 /// limits.insert("/home/", 20)?;
 /// limits.insert("/home/ann/", 30)?;
-/// assert!(rt; lookup(&limits, &"/home/bob/")? == Some(&20));
-/// let page = first_below(rt.alloc(), &limits, &"/home/", 1)?;
-/// assert!(rt; page.as_slice() == [(&"/home/", &20)].as_slice());
+/// let page = first_below(Global, &limits, &"/home/", 1)?;
+/// assert_eq!(page.as_slice(), [(&"/home/", &20)]);
+/// # Ok::<(), Box<dyn std::error::Error>>(())
 /// ```
-///
-/// `maps_of_any_kind` in `crates/trie_examples/src/doc_examples.rt` takes a page of one pair.
 pub fn first_below<'a, Q, M: PrefixMap<'a, Q>>(
     alloc: Global,
     map: M,

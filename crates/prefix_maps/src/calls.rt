@@ -17,13 +17,21 @@ use radix_keys::Memory;
 /// # Examples
 ///
 /// ```
-/// match map.longest_match(key)? {
-///     Some((_, value)) => Ok(Some(value)),
-///     None => Ok(None),
+/// # use nifazombi::{radix_trie::Trie, rattle_std::alloc::Global};
+/// use nifazombi::{prefix_maps::PrefixMap, radix_keys::Memory};
+///
+/// fn lookup<'a, Q, M: PrefixMap<'a, Q>>(map: M, key: &Q) -> Result<Option<&'a M::Value>, Memory> {
+///     match map.longest_match(key)? {
+///         Some((_, value)) => Ok(Some(value)),
+///         None => Ok(None),
+///     }
 /// }
+/// let limits = Trie::from_iter(Global, [("/home/", 20), ("/", 10)].into_iter())?;
+/// assert_eq!(lookup(&limits, &"/home/bob/")?, Some(&20));
+/// # Ok::<(), Box<dyn std::error::Error>>(())
 /// ```
 ///
-/// `lookup` in `crates/prefix_maps/src/callers.rt` is written over every map.
+/// `lookup` in `crates/prefix_maps/src/callers.rt` proves that the longest key decides.
 pub trait PrefixMap<'a, Q>: Copy {
     /// A key, as it is lent.
     type Key: Copy;

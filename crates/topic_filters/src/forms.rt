@@ -16,13 +16,15 @@ pub(crate) const ANY_REST: &'static [u8] = b"#";
 /// # Examples
 ///
 /// ```
-/// let filter = Parts::split(rt.alloc(), "sport/+/score", b'/')?;
-/// let topic = Parts::split(rt.alloc(), "sport/chess/score", b'/')?;
-/// assert!(rt; is_filter(&filter) && !is_topic(&filter));
-/// assert!(rt; is_filter(&topic) && is_topic(&topic));
-/// ```
+/// # use nifazombi::{radix_keys::Parts, rattle_std::alloc::Global};
+/// use nifazombi::topic_filters::{is_filter, is_topic};
 ///
-/// `filters_and_topics` in `crates/trie_examples/src/doc_examples.rt` tells a filter from a topic.
+/// let filter = Parts::split(Global, "sport/+/score", b'/')?;
+/// let topic = Parts::split(Global, "sport/chess/score", b'/')?;
+/// assert!(is_filter(&filter) && !is_topic(&filter));
+/// assert!(is_filter(&topic) && is_topic(&topic));
+/// # Ok::<(), Box<dyn std::error::Error>>(())
+/// ```
 pub fn is_filter(levels: &Parts) -> bool
     ensures { IsTrue result ↔ IsFilter levels.now }
 {

@@ -25,14 +25,19 @@ use std::alloc::Global;
 /// # Examples
 ///
 /// ```
-/// match matching(alloc, filters, topic)?.first() {
-///     Some((_, value)) => Ok(Some(*value)),
-///     None => Ok(None),
-/// }
+/// # use nifazombi::{radix_keys::Parts, radix_trie::Trie, rattle_std::alloc::Global};
+/// use nifazombi::topic_filters::matching;
+///
+/// let mut filters = Trie::new(Global);
+/// filters.insert(Parts::split(Global, "sport/#", b'/')?, 1)?;
+/// filters.insert(Parts::split(Global, "sport/+/score", b'/')?, 2)?;
+/// let topic = Parts::split(Global, "sport/chess/score", b'/')?;
+/// let found = matching(Global, &filters, &topic)?;
+/// assert!(found.iter().map(|(_, value)| **value).eq([2, 1]));
+/// # Ok::<(), Box<dyn std::error::Error>>(())
 /// ```
 ///
-/// `first_subscriber` in `crates/trie_examples/src/subscribers.rt` takes the first filter that
-/// matches a topic.
+/// `first_subscriber` in `crates/trie_examples/src/subscribers.rt` proves which filter is first.
 pub fn matching<'a, K: TrieKey, V>(
     alloc: Global,
     filters: &'a Trie<K, V>,

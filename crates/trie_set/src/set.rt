@@ -21,14 +21,15 @@ mod sides;
 /// # Examples
 ///
 /// ```
-/// let mut words: TrieSet<&'static str> = TrieSet::new(rt.alloc());
-/// assert!(rt; words.insert("tea")? && !words.insert("tea")?);
-/// assert!(rt; words.contains(&"tea")? && !words.contains(&"te")?);
-/// assert!(rt; words.longest_match(&"teapot")?.copied() == Some("tea"));
-/// ```
+/// # use nifazombi::rattle_std::alloc::Global;
+/// use nifazombi::trie_set::TrieSet;
 ///
-/// `sets_of_words` in `crates/trie_examples/src/doc_examples.rt` stores a word, and looks others
-/// up.
+/// let mut words = TrieSet::new(Global);
+/// assert!(words.insert("tea")? && !words.insert("tea")?);
+/// assert!(words.contains(&"tea")? && !words.contains(&"te")?);
+/// assert_eq!(words.longest_match(&"teapot")?, Some(&"tea"));
+/// # Ok::<(), Box<dyn std::error::Error>>(())
+/// ```
 #[derive(Drop)]
 pub struct TrieSet<K: TrieKey> {
     trie: Trie<K, ()>,

@@ -81,18 +81,18 @@ impl<K: TrieKey + FileItem + Drop, V: FileItem + Drop> FrozenTrie<K, V> {
     /// # Examples
     ///
     /// ```
-    /// let mut codes: FrozenTrie<u16, u64> = FrozenTrie::new(alloc);
+    /// # use nifazombi::frozen_trie::FrozenTrie;
+    /// # use nifazombi::rattle_std::{alloc::Global, prelude::Vec};
+    /// let mut codes: FrozenTrie<u16, u64> = FrozenTrie::new(Global);
     /// codes.push(7, 1)?;
-    /// let mut file = Vec::new(alloc);
+    /// let mut file = Vec::new(Global);
     /// codes.write(&mut file)?;
-    /// let Ok(again) = FrozenTrie::<u16, u64>::read(alloc, &mut file.as_slice()) else {
-    ///     bail!("the file is whole");
+    /// let Ok(again) = FrozenTrie::<u16, u64>::read(Global, &mut file.as_slice()) else {
+    ///     panic!("the file is whole");
     /// };
-    /// assert!(rt; again.get(&7u16)? == Some(&1));
+    /// assert_eq!(again.get(&7u16)?, Some(&1));
+    /// # Ok::<(), Box<dyn std::error::Error>>(())
     /// ```
-    ///
-    /// `filed_words` in `crates/trie_examples/src/doc_examples.rt` writes a file, and reads it
-    /// back.
     pub fn write<W: Write>(&self, out: &mut W) -> io::Result<()>
         ensures written { OnOk result (Appends (W.contents out.old) (W.contents out.new)
             (file_of K.file_bytes V.file_bytes self.now)) }

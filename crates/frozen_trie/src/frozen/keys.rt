@@ -149,15 +149,16 @@ impl<K: AsNibbles, V> FrozenTrie<K, V> {
     /// # Examples
     ///
     /// ```
-    /// match words.below(&typed) {
-    ///     Ok(found) => found,
-    ///     // A text lends its encoding, so no memory is allocated for it.
-    ///     Err(_) => unreachable!(),
+    /// # use nifazombi::{frozen_trie::FrozenTrie, rattle_std::alloc::Global};
+    /// let mut words: FrozenTrie<&str, u64> = FrozenTrie::new(Global);
+    /// for (word, line) in [("inn", 1), ("tea", 2), ("team", 3)] {
+    ///     words.push(word, line)?;
     /// }
+    /// assert_eq!(words.below(&"te")?, [("tea", 2), ("team", 3)]);
+    /// # Ok::<(), Box<dyn std::error::Error>>(())
     /// ```
     ///
-    /// `completions` in `crates/trie_examples/src/dictionary.rt` takes the words that begin with
-    /// what was typed.
+    /// `completions` in `crates/trie_examples/src/dictionary.rt` proves that each word begins so.
     pub fn below<Q: AsNibbles>(&self, key: &Q) -> Result<&[(K, V)], Memory>
         ensures pairs { IfOk result
             (λ left. left.now ≡ pairs_below self.now (Q.encoding key.now)) }

@@ -36,11 +36,16 @@ impl<K: TrieKey> TrieSet<K> {
     /// # Examples
     ///
     /// ```
-    /// wanted.difference(stored)?.next()
+    /// # use nifazombi::{rattle_std::alloc::Global, trie_set::TrieSet};
+    /// let (mut wanted, mut stored) = (TrieSet::new(Global), TrieSet::new(Global));
+    /// wanted.insert("tea")?;
+    /// wanted.insert("ten")?;
+    /// stored.insert("tea")?;
+    /// assert_eq!(wanted.difference(&stored)?.next()?, Some(&"ten"));
+    /// # Ok::<(), Box<dyn std::error::Error>>(())
     /// ```
     ///
-    /// `first_missing` in `crates/trie_examples/src/key_sets.rt` takes the first key that a set
-    /// lacks.
+    /// `first_missing` in `crates/trie_examples/src/key_sets.rt` proves that it is the first one.
     pub fn difference<'a>(&'a self, other: &'a TrieSet<K>) -> Result<Selection<'a, K>, Memory>
         ensures keys { IfOk result (λ walk. walk ≡ keys_in (lacking self.now other.now)) }
         ensures none { map.len self.now ≡ 0 → map.len other.now ≡ 0 → IsOk result }

@@ -58,3 +58,8 @@ fn refused_allocations_and_failing_streams_of_route_tool() {
 fn refused_allocations_and_failing_streams_of_trie_shell() {
     passes("faults", &["--sample", "20", "trie_shell"]);
 }
+
+#[test]
+fn routes_of_the_kernel_as_lines() {
+    passes("../crates/route_tool/examples/kernel_routes_tests", &[]);
+}

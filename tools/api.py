@@ -14,18 +14,23 @@ FUNCTIONS = "functions and laws"
 HEAD = """# All public calls
 
 Made by `tools/texts --write` of the sources' own texts. By library and type: what a call returns, when it fails, what
-it costs where that isn't the way down to its key, and an example where there is one. What is proved of each call, its
-clauses, stands in the library's page for callers.
+it costs where that isn't the way down to its key, and an example where there is one: Rust over the crate `nifazombi`,
+without the lines that rustdoc hides. What is proved of each call, its clauses, stands in the library's page for
+callers.
 """
 # The lines of a comment right above an item, and of that the head of a section.
 DOCUMENTED = re.compile(r"((?:^ *///.*\n)*)(?:^ *#\[.*\n)*\Z", re.M)
 TYPE = re.compile(r"((?:^///.*\n)+)(?:^#\[.*\n)*^pub (?:struct|enum|trait) (\w+)", re.M)
 SECTION = re.compile(r"^# (\w+)\n\n?", re.M)
+# An example, whose lines behind `# ` rustdoc hides.
+CODE = re.compile(r"^```\w*\n.*?^```$", re.M | re.S)
+HIDDEN = re.compile(r"^#(?: .*)?\n", re.M)
 
 
 def comment(lines):
-    """The text of a comment."""
+    """The text of a comment, as rustdoc shows it."""
     text = re.sub(r"^ */// ?", "", lines, flags=re.M).strip()
+    text = CODE.sub(lambda it: HIDDEN.sub("", it[0]), text)
     return SECTION.sub(lambda it: f"*{it[1].removesuffix('s')}:* " if it[1] == "Errors" else "", text)
 
 

@@ -3,8 +3,6 @@
 #![tactic(auto)]
 
 #[cfg(test)]
-mod doc_examples;
-#[cfg(test)]
 mod frozen;
 #[cfg(test)]
 mod many_routes;

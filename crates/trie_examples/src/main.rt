@@ -28,11 +28,7 @@ mod counters;
 #[cfg(test)]
 mod dictionary;
 #[cfg(test)]
-mod doc_examples;
-#[cfg(test)]
 mod either;
-#[cfg(test)]
-mod first;
 #[cfg(test)]
 mod frozen_file;
 #[cfg(test)]

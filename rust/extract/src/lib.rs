@@ -15,7 +15,7 @@ pub mod rules;
 pub mod tokens;
 
 use crate::edit::{Edit, Unknown};
-use crate::rules::{Place, RULES, Rule};
+use crate::rules::{Place, RULES};
 use crate::tokens::{Token, tokens};
 
 /// A source behind all rules.
@@ -38,17 +38,8 @@ impl Extracted<'_> {
 /// # Errors
 /// What a rule doesn't understand, by its line.
 pub fn extract<'a>(source: &'a str, place: &Place) -> Result<Extracted<'a>, Unknown> {
-    extract_by(RULES, source, place)
-}
-
-/// A source behind some of the rules.
-fn extract_by<'a, 'r>(
-    rules: impl IntoIterator<Item = &'r Rule>,
-    source: &'a str,
-    place: &Place,
-) -> Result<Extracted<'a>, Unknown> {
     let (mut text, mut left) = (tokens(source), Vec::new());
-    for rule in rules {
+    for rule in RULES {
         let mut edit = Edit::new(rule.name, text);
         if let Some(begin) = rule.begin {
             begin(&mut edit);

@@ -1,10 +1,9 @@
 //! Crates as the modules of a Cargo package.
-use std::collections::BTreeMap;
 use std::path::{Path, PathBuf};
 
 use crate::crates::{Checkout, Problem, files_below, sweep, text_of, write};
 use crate::extract;
-use crate::rules::{Example, Place, destructors, of_traits};
+use crate::rules::{Place, destructors, of_traits};
 use crate::tokens::tokens;
 
 /// What stands for Rattle's own library.
@@ -31,8 +30,6 @@ pub const PUBLIC: [&str; 14] = [
     "flat_texts",
     "flat_tries",
 ];
-/// The crates whose functions examples in documentation are parts of.
-const EXAMPLES: [&str; 2] = ["trie_examples", "table_tests"];
 /// What rustc may not say of text that is proved, and what it has to: that a call is too new, or
 /// that something is unsafe.
 const LINTS: &str = "#[allow(clippy::all, dead_code, unused_imports, unused_mut, unused_variables)]
@@ -45,33 +42,18 @@ pub struct Package<'a> {
     checkout: &'a Checkout,
     crates: Vec<&'a str>,
     is_library: bool,
-    examples: BTreeMap<String, Example>,
 }
 
 impl<'a> Package<'a> {
-    /// The package of the libraries, with the examples in their documentation.
-    ///
-    /// # Errors
-    /// Where a file with examples can't be read, or isn't understood.
-    pub fn library(checkout: &'a Checkout) -> Result<Package<'a>, Problem> {
-        let mut examples = BTreeMap::new();
-        for name in EXAMPLES {
-            let place = Package::over_library(checkout, &[name, "trie_tests"]).place(name)?;
-            for path in files_below(&checkout.folder(name), "rt")? {
-                let file = path.strip_prefix(&checkout.root).map_err(|error| error.to_string())?;
-                let example =
-                    Example::new(&text_of(&path)?, &place).map_err(|it| told(&path, &it))?;
-                examples.insert(file.display().to_string(), example);
-            }
-        }
+    /// The package of the libraries.
+    pub fn library(checkout: &'a Checkout) -> Package<'a> {
         let crates = INNER.into_iter().chain(PUBLIC).collect();
-        Ok(Package { checkout, crates, is_library: true, examples })
+        Package { checkout, crates, is_library: true }
     }
 
     /// A package over that one, of other crates.
     pub fn over_library(checkout: &'a Checkout, crates: &[&'a str]) -> Package<'a> {
-        let examples = BTreeMap::new();
-        Package { checkout, crates: crates.to_vec(), is_library: false, examples }
+        Package { checkout, crates: crates.to_vec(), is_library: false }
     }
 
     /// Its crates.
@@ -124,7 +106,6 @@ impl<'a> Package<'a> {
             ..Place::default()
         };
         place.homes.insert("std".to_string(), std);
-        place.examples = self.examples.clone();
         for path in files_below(&self.checkout.folder(name), "rt")? {
             let (text, told) = (text_of(&path)?, |it| told(&path, &it));
             place.destructors.extend(destructors(&text).map_err(told)?);
@@ -227,7 +208,7 @@ pub fn build(crates: Option<&[&str]>) {
         let checkout = Checkout::read(root)?;
         let package = match crates {
             Some(crates) => Package::over_library(&checkout, crates),
-            None => Package::library(&checkout)?,
+            None => Package::library(&checkout),
         };
         write(&out.join("modules.rs"), &package.write_modules(&out, false)?)?;
         // Cargo shows all lines of a build that fails, and runs that again whatever has changed.

@@ -48,7 +48,7 @@ pub fn write_crate(root: &Path, folder: &Path) -> Result<(), Problem> {
 /// Writes the folders of sources.
 fn write_parts(root: &Path, own: &Path, room: &Path) -> Result<(), Problem> {
     let checkout = Checkout::read(root)?;
-    let modules = Package::library(&checkout)?.write_modules(&room.join("src"), true)?;
+    let modules = Package::library(&checkout).write_modules(&room.join("src"), true)?;
     for part in PARTS {
         for path in files_below(&own.join(part), "rs")? {
             let place = path.strip_prefix(own).map_err(|error| error.to_string())?;

@@ -97,7 +97,7 @@ impl Account {
 #[test]
 fn each_token_belongs_to_the_source_or_to_a_rule() {
     let (checkout, mut all) = (Checkout::read(root()).unwrap(), Account::default());
-    all.add_all(&Package::library(&checkout).unwrap(), &checkout);
+    all.add_all(&Package::library(&checkout), &checkout);
     all.add_all(&Package::over_library(&checkout, &OTHERS), &checkout);
     println!("{} tokens are the sources'", all.same);
     for rule in RULES {

@@ -1,7 +1,7 @@
 //! Each rule by sources and what they become. White space isn't compared.
 use std::collections::BTreeMap;
 
-use extract::rules::{Example, Place, RULES, destructors, of_traits};
+use extract::rules::{Place, RULES, destructors, of_traits};
 use extract::tokens::tokens;
 
 /// A rule's name, a source, and what it becomes. Where a rule refuses, what it says, behind `!`.
@@ -141,8 +141,6 @@ const ROWS: &[(&str, &str, &str)] = &[
      "fn f() { a.collect_by(alloc); a.collect(); b.to_vec_by(alloc); c.replace_by(alloc, d); e.replace(0) }"),
     ("written", "fn f() { text.write_fmt(*network) }",
      "fn f() { text.write_fmt(::core::format_args!(\"{}\", *network)) }"),
-    ("examples", "/// ```\n/// f();\n/// ```\nfn f() {}", "fn f() {}"),
-    ("examples", "/// ```\n/// f();\nfn f() {}", "!line 1: an example that does not end"),
     ("laws", "/// A law.\npub fn a<K>(k: &K) {} pub fn b(k: &K) -> u8 { 0 } pub fn c(k: &mut K) {} fn d() {}",
      "#[doc(hidden)] pub fn a<K>(k: &K) {} pub fn b(k: &K) -> u8 { 0 } pub fn c(k: &mut K) {} fn d() {}"),
     ("preludes", "//! A file.\n\nmod a { fn f() {} }",
@@ -219,76 +217,6 @@ fn exports_of_another_form_are_refused() {
 fn functions_of_inner_crates_are_as_they_stand() {
     let made = made("pub fn f(i: u8) requires { i < 2 } {}", Place { is_inner: true, ..place() });
     assert_eq!(significant(&made), significant("pub fn f(i: u8) {}"));
-}
-
-#[test]
-fn examples_keep_their_lines() {
-    let made = made("/// ```\n/// f();\n/// ```\n/// ```text\n/// a\n/// ```\nfn f() {}", place());
-    assert!(
-        made.contains("/// ```ignore\n/// f();\n/// ```\n/// ```text\n/// a\n/// ```\n"),
-        "{made}"
-    );
-}
-
-const FILE: &str = "\
-use std::io;
-use crate::samples::list;
-use std::one;
-
-/// Two.
-fn two() -> u8 {
-    2
-}
-
-#[test]
-fn sums(rt: HostRuntime) -> Result<(), Memory>
-    ensures { x }
-{
-    let one = one();
-    assert!(rt; one + two() == 3);
-    Ok(())
-}
-";
-
-/// What a documentation becomes, beside that file.
-fn shown(source: &str, file: &str) -> String {
-    let homes = BTreeMap::from([("std".to_string(), "::nifazombi::rattle_std".to_string())]);
-    let place_of_file = Place { own: "crate::a".to_string(), homes, ..Place::default() };
-    let example = Example::new(file, &place_of_file).unwrap();
-    let examples = BTreeMap::from([("crates/a/src/b.rt".to_string(), example)]);
-    made(source, Place { examples, ..place() })
-}
-
-#[test]
-fn an_example_is_a_function_with_hidden_lines() {
-    let source = "/// ```\n/// let one = one();\n/// assert!(rt; one + two() == 3);\n/// ```\n///\n\
-        /// `sums` in `crates/a/src/b.rt` adds.\nfn f() {}";
-    let made = shown(source, FILE);
-    let lines: Vec<&str> = made.lines().filter(|line| line.starts_with("/// ")).collect();
-    let wanted = [
-        "/// # use ::nifazombi::rattle_std::one;",
-        "/// # fn two() -> u8 {",
-        "/// #     2",
-        "/// # }",
-        "/// # fn sums() -> Result<(), Memory>",
-        "/// # { let rt = ::nifazombi::rattle_std::rt::host();",
-        "/// let one = one();",
-        "/// assert!(one + two() == 3);",
-        "/// #     Ok(())",
-        "/// # }",
-        "/// # fn main() { ::std::assert!(sums().is_ok()) }",
-        "/// ```",
-    ];
-    for line in wanted {
-        assert!(lines.contains(&line), "{line}\n{made}");
-    }
-    assert!(!made.contains("samples"), "{made}");
-}
-
-#[test]
-fn an_example_that_stands_nowhere_is_not_run() {
-    let source = "/// ```\n/// g();\n/// ```\n/// `sums` in `crates/a/src/b.rt` adds.\nfn f() {}";
-    assert!(shown(source, FILE).contains("/// ```ignore\n/// g();\n"));
 }
 
 #[test]

@@ -19,7 +19,7 @@ fn room(name: &str) -> PathBuf {
 #[test]
 fn a_module_goes_with_its_source() {
     let (room, checkout) = (room("modules"), Checkout::read(root()).expect("crates.txt"));
-    let package = Package::library(&checkout).expect("examples");
+    let package = Package::library(&checkout);
     let made = package.write_modules(&room, false).expect("modules");
     let gone = ["radix_trie/gone.rs", "rattle_std/gone/mod.rs"].map(|it| room.join(it));
     for path in &gone {

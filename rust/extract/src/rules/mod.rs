@@ -2,7 +2,6 @@
 mod contracts;
 mod derives;
 mod destructors;
-mod examples;
 mod places;
 mod requirements;
 mod spelling;
@@ -10,7 +9,6 @@ mod spelling;
 use std::collections::BTreeMap;
 
 pub use destructors::{Destructor, destructors};
-pub use examples::Example;
 pub use requirements::{Requirement, of_traits};
 
 use crate::edit::{Edit, Unknown};
@@ -43,8 +41,6 @@ pub struct Place {
     pub destructors: Vec<Destructor>,
     /// What the methods of its traits require.
     pub requirements: Vec<Requirement>,
-    /// The files that examples stand in, by what documentation calls them.
-    pub examples: BTreeMap<String, Example>,
     /// Whether no user's program names it: its functions are called by what is proved alone.
     pub is_inner: bool,
     /// Whether programs in other languages call it.
@@ -104,11 +100,6 @@ pub const RULES: &[Rule] = &[
         spelling::allocations,
     ),
     rule("written", "`write_fmt` of a value is given its format arguments", spelling::written),
-    rule(
-        "examples",
-        "an example in documentation is a whole function, its other lines hidden, with Rust's `assert!`",
-        examples::examples,
-    ),
     rule("laws", "a law, which does nothing, is not in the documentation", places::laws),
     rule(
         "exports",

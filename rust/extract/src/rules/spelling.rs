@@ -4,7 +4,7 @@ use crate::edit::{Edit, Unknown};
 use crate::tokens::Kind;
 
 /// Macros whose first argument is the runtime or an allocator.
-pub(super) const HANDED: [&str; 8] =
+const HANDED: [&str; 8] =
     ["assert", "assert_eq", "assert_ne", "print", "println", "eprintln", "format", "vec"];
 /// Macros that are the same in both.
 const SHARED: [&str; 6] = ["bail", "ensure", "matches", "panic", "unreachable", "write"];

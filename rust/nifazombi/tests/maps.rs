@@ -1,10 +1,14 @@
 //! The same rows over each map, before and after it is frozen.
+mod common;
+
+use common::list;
 use nifazombi::frozen_routes::FrozenRoutes;
-use nifazombi::frozen_trie::{FrozenTexts, FrozenTrie, frozen_copy};
+use nifazombi::frozen_trie::{FrozenTexts, FrozenTrie, PushWhy, SortedWhy, frozen_copy};
 use nifazombi::prefix_maps::{PrefixMap, RangeMap, first_below, lookup};
 use nifazombi::radix_keys::{AsNibbles, Ipv4Network, Nibblet, TrieKey};
 use nifazombi::radix_trie::Trie;
 use nifazombi::rattle_std::alloc::Global;
+use nifazombi::rattle_std::string::String as Text;
 use std::fmt::Debug;
 use std::iter::from_fn;
 use std::net::Ipv4Addr;
@@ -44,7 +48,8 @@ const NETWORK_ROWS: [Row<&str>; 4] = [
 ];
 
 /// Two bounds, and the values within them.
-const SPANS: [((Bound<&str>, Bound<&str>), &[usize]); 16] = [
+type Span = ((Bound<&'static str>, Bound<&'static str>), &'static [usize]);
+const SPANS: [Span; 16] = [
     ((Unbounded, Unbounded), &[0, 1, 2, 3, 4]),
     ((Unbounded, Included("b")), &[0, 1, 2, 3]),
     ((Unbounded, Excluded("b")), &[0, 1, 2]),
@@ -196,4 +201,24 @@ fn range_of_frozen_forms_between_other_keys() {
     let list = Nibblet::from_hex(Global, "616").unwrap().unwrap();
     assert_eq!(trie.range(list..).unwrap().len(), 4);
     assert!(texts.range(..&b"ab"[..]).eq([(&b"a"[..], &0)]));
+}
+
+#[test]
+fn push_and_from_sorted_refuse_keys_out_of_order() {
+    let (mut trie, mut texts) = frozen_forms();
+    for key in ["", "ba", "b"] {
+        let refused = trie.push(key, 5).err().unwrap();
+        assert_eq!((refused.why, refused.back), (PushWhy::OutOfOrder, (key, 5)));
+        let refused = texts.push(key.as_bytes(), 5).err().unwrap();
+        assert_eq!((refused.why, refused.back), (PushWhy::OutOfOrder, 5));
+    }
+    assert_eq!((trie.len(), texts.len()), (5, 5));
+    let text = |key| Text::from_str(Global, key).unwrap();
+    for keys in [["a", "ab", "a"], ["b", "c", "c"]] {
+        let refused = FrozenTrie::from_sorted(Global, list(keys.map(|it| (it, 0)))).err().unwrap();
+        assert_eq!((refused.why, refused.back.len()), (SortedWhy::OutOfOrder(2), 3));
+        let pairs = list(keys.map(|it| (text(it), 0)));
+        let refused = FrozenTexts::from_sorted(Global, pairs).err().unwrap();
+        assert_eq!((refused.why, refused.back.len()), (SortedWhy::OutOfOrder(2), 3));
+    }
 }

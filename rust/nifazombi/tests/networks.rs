@@ -5,7 +5,7 @@ use common::list;
 use nifazombi::frozen_networks::{freeze, frozen_copy, thaw, thawed_copy};
 use nifazombi::frozen_routes::{FrozenRoutes, Room, RouteQuery, SortedWhy};
 use nifazombi::radix_keys::{Address, Ipv4Network, Network};
-use nifazombi::radix_trie::{BuildError, Trie};
+use nifazombi::radix_trie::{BuildError, Trie, TrieCommon};
 use nifazombi::rattle_std::alloc::{AllocError, Global};
 use nifazombi::rattle_std::clone::Clone as RattleClone;
 use nifazombi::rattle_std::vec::Vec as List;
@@ -341,4 +341,27 @@ fn frozen_copy_and_thawed_copy_fail_where_a_clone_does() {
     let moved = freeze(trie).ok().unwrap();
     assert_eq!(moved.len(), 5);
     assert_eq!(thaw(Global, moved).ok().unwrap().len(), 5);
+}
+
+#[test]
+fn from_sorted_takes_the_rows_of_a_trie() {
+    let rows = [("10.1.2.0/24", 3), ("10.0.0.0/8", 1), ("10.1.0.0/16", 2)];
+    let mut trie = Trie::new(Global);
+    for (network, hop) in rows {
+        assert!(trie.insert(network.parse::<Ipv4Network>().unwrap(), hop).is_ok());
+    }
+    let pairs = (&trie).iter().unwrap().map(|(network, hop)| (*network, *hop));
+    let routes = FrozenRoutes::from_sorted(list(pairs)).unwrap();
+    let found = ["10.1.2.3", "10.1.3.3", "10.2.2.3", "11.1.2.3"]
+        .map(|text| routes.longest_match(&text.parse::<Ipv4Addr>().unwrap()).map(|row| *row.1));
+    assert_eq!(found, [Some(3), Some(2), Some(1), None]);
+}
+
+#[test]
+fn push_takes_as_many_networks_as_are_given() {
+    const COUNT: u32 = 100_100;
+    let network = |number: u32| Ipv4Network::new((number << 8).into(), 24).unwrap();
+    let routes = pushed((0..COUNT).map(|number| (network(number), number as usize))).unwrap();
+    let last = Ipv4Addr::from((COUNT - 1) << 8);
+    assert_eq!(index_of(&routes, &last), Some(COUNT as usize - 1));
 }

@@ -6,7 +6,8 @@ import re
 import api
 from sessions import sessions_of, shell_calls
 from shared import text_of
-from sources import functions_of, items_of, paths, types_of
+from sources import functions_of, paths, types_of
+from tests import tests
 
 # Refused memory has rules of its own.
 MEMORY = {"Memory", "OutOfMemory"}
@@ -36,21 +37,6 @@ def named(call, crate, calls):
 
 
 @functools.cache
-def tests():
-    """The crate, the file's text and the own text of each test, with the functions of the file that it comes to."""
-    found = []
-    for path in (it for it in paths("crates/*/src/**/*.rt") if "#[test]" in text_of(it)):
-        text, items = text_of(path), [it for it in items_of(path) if it.kind == "fn"]
-        says = {it.name: text[it.place : end] for it, end in zip(items, [*(it.place for it in items[1:]), len(text)])}
-        for test in (it.name for it in items if text[: it.place].rstrip().endswith("#[test]")):
-            reached = [test]
-            for name in reached:
-                reached += {*re.findall(r"\w+", says[name])} & {*says} - {*reached}
-            found.append((path.split("/")[1], text, "".join(says[it] for it in reached)))
-    return found
-
-
-@functools.cache
 def answers():
     """The first words of the answers of trie_shell, by the call that is made first."""
     found = collections.defaultdict(set)
@@ -65,8 +51,8 @@ def is_made(call, crate, error):
     name = f"{api.module_of(call) or ''}::{call.name}".removeprefix("::")
     owners = [f"{it}::" for it in types_of(call)] if call.owner else [""]
     return any(SHOWN.get(error, error.lower()) in answers()[f"{it}{call.name}"] for it in owners) or any(
-        (crate == home or crate in text) and {error} <= {*re.findall(r"\w+", said)} and re.search(rf"\b{name}\b", said)
-        for home, text, said in tests())
+        crate in f"{it.path} {it.text}" and error in re.findall(r"\w+", it.said) and re.search(rf"\b{name}\b", it.said)
+        for it in tests())
 
 
 def untried():

@@ -11,7 +11,6 @@ use radix_trie::{
     InsertError, Memory, SubTrieMut, Trie, TrieCommon, TrieError, TrieKey, edits_change_one_answer,
     keys_stand_at_their_encodings, rest_answers_elsewhere, split_part_goes_back,
 };
-use trie_tests::samples::texts;
 
 /// Stores a pair, and looks the key up again: the value is there.
 fn stored<K: TrieKey + Copy + Drop, V: Copy + Drop>(
@@ -99,13 +98,4 @@ fn in_order<'a, K: TrieKey, V>(trie: &'a Trie<K, V>) -> Result<Iter<'a, K, V>, M
 {
     keys_stand_at_their_encodings(trie);
     TrieCommon::iter(trie)
-}
-
-#[test]
-fn one_pair_is_stored_and_taken_away(rt: HostRuntime) -> Result<(), TrieError> {
-    let mut words = texts(rt.alloc(), &[("tea", 1), ("team", 3)])?;
-    assert!(rt; stored(&mut words, "ten", 2)? == Some(2));
-    assert!(rt; taken_away(&mut words, &"tea")?.is_none());
-    assert!(rt; words.get(&"team")? == Some(&3));
-    Ok(())
 }

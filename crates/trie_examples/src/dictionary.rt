@@ -47,22 +47,3 @@ fn completions<'a, 'w>(words: &'a FrozenTrie<&'w str, u64>, typed: &str) -> &'a 
         Err(_) => unreachable!(),
     }
 }
-
-#[test]
-fn the_words_that_begin_so(rt: HostRuntime) -> Result<()> {
-    const ROWS: &'static [(&'static str, &'static [Word<'static>])] = &[
-        ("ten", &[("ten", 4), ("tenor", 5)]),
-        ("te", &[("tea", 2), ("team", 3), ("ten", 4), ("tenor", 5)]),
-        ("to", &[]),
-    ];
-    let words = dictionary(rt.alloc(), "inn\ntea\nteam\nten\ntenor\n")?;
-    for (typed, wanted) in ROWS {
-        assert!(rt; completions(&words, typed) == *wanted, "{typed}");
-    }
-    let Err(error) = dictionary(rt.alloc(), "tea\nten\nteam\n") else {
-        bail!("it was taken");
-    };
-    let why = format!(in rt.alloc(); "{error}")?;
-    assert!(rt; why.as_str() == "the word at 2 isn't above the one before it");
-    Ok(())
-}

@@ -24,20 +24,3 @@ fn stored_once<K: TrieKey + Drop, V: Drop, T: TrieEdit<K, V>>(
     let _ = edit.insert(key, value)?;
     Ok(true)
 }
-
-#[test]
-fn names_are_stored_once(rt: HostRuntime) -> Result<(), TrieError> {
-    let mut names: Trie<String, u64> = Trie::new(rt.alloc());
-    let name = String::from_str(rt.alloc(), "tea")?;
-    assert!(rt; stored_once(&mut names, name, 1)?);
-    let mut view = names.open_mut(&"tea")?;
-    let name = String::from_str(rt.alloc(), "teapot")?;
-    assert!(rt; stored_once(&mut view, name, 2)?);
-    let name = String::from_str(rt.alloc(), "tea")?;
-    assert!(rt; !stored_once(&mut view, name, 3)?);
-    let name = String::from_str(rt.alloc(), "ten")?;
-    assert!(rt; stored_once(&mut view, name, 4).is_err());
-    drop(view);
-    assert!(rt; names.get(&"tea")? == Some(&1) && names.len() == 2);
-    Ok(())
-}

@@ -8,7 +8,6 @@ ghost use Rattle.radix_trie.specs.Walks.{deref_pairs};
 ghost use Rattle.keyed_maps.specs.KeyedMaps.{keyed_map};
 ghost use Rattle.prefix_maps.specs.Calls.{lent_pair};
 
-use frozen_trie::{FrozenTexts, frozen_copy};
 use keyed_maps::{
     keys_of_pages_are_given, longest_match_is_given, pairs_above_are_given, pairs_below_are_given,
     pairs_within_are_given,
@@ -17,7 +16,6 @@ use prefix_maps::{PrefixMap, RangeMap, first_below, lookup};
 use radix_trie::{Memory, Trie, TrieKey};
 use std::alloc::Global;
 use std::ops::{Bound, RangeBounds};
-use trie_tests::samples::texts;
 
 /// The first pairs below a key: their keys begin so.
 fn first_page<'a, Q, M: PrefixMap<'a, Q>>(
@@ -82,52 +80,4 @@ fn inherited<'a, Q, M: PrefixMap<'a, Q>>(map: M, key: &Q) -> Result<Option<&'a M
 {
     longest_match_is_given(map, key);
     lookup(map, key)
-}
-
-/// The values that a walk gives, one digit for each.
-fn digits<'a, Q, M: PrefixMap<'a, Q, Value = u64>>(walk: M::Walk) -> Result<u64, Memory> {
-    let mut walk = walk;
-    let mut all = 0u64;
-    for _ in 0..u64::MAX {
-        let Some((_, digit)) = M::next(&mut walk)? else {
-            break;
-        };
-        all = all.wrapping_mul(10).wrapping_add(*digit);
-    }
-    Ok(all)
-}
-
-/// The same calls of any map of the words tea, team, ten and inn.
-fn words_are_given<'a, M: RangeMap<'a, &'static str, Value = u64>>(
-    alloc: Global,
-    map: M,
-) -> Result<bool, Memory> {
-    let range = (Bound::Included("j"), Bound::Excluded("team"));
-    Ok(
-        first_page(alloc, map, &"te", 2)?.len() == 2
-            && digits::<&'static str, M>(inherited_from(map, &"teams")?)? == 13
-            && digits::<&'static str, M>(in_range(map, range)?)? == 1
-            && inherited(map, &"inns")? == Some(&5)
-            && inherited(map, &"i")?.is_none(),
-    )
-}
-
-#[test]
-fn given_pairs_are_the_map_s(rt: HostRuntime) -> Result<(), Memory> {
-    let words = texts(
-        rt.alloc(),
-        &[("tea", 1), ("team", 3), ("ten", 2), ("inn", 5)],
-    )?;
-    assert!(rt; next_page(&words, &"te", &"team", 2)?.as_slice() == [(&"ten", &2)].as_slice());
-    assert!(rt; words_are_given(rt.alloc(), &words)?);
-    let Ok(frozen) = frozen_copy(&words) else {
-        return Err(Memory);
-    };
-    assert!(rt; words_are_given(rt.alloc(), &frozen)?);
-    let mut packed = FrozenTexts::new(rt.alloc());
-    for (word, value) in frozen.pairs() {
-        assert!(rt; packed.push(word.as_bytes(), *value).is_ok());
-    }
-    assert!(rt; words_are_given(rt.alloc(), &packed)?);
-    Ok(())
 }

@@ -5,7 +5,7 @@ ghost use Rattle.radix_trie.specs.Lists.{IsPrefix};
 ghost use Rattle.keyed_maps.specs.KeyedMaps.{keyed_map};
 
 use keyed_maps::{keyed_maps_follow_parts, keyed_maps_follow_retain};
-use radix_trie::{Ipv4Network, Memory, Trie, TrieError, TrieKey};
+use radix_trie::{Memory, Trie, TrieKey};
 
 /// Removes the leases at and below a key that are over at a time: that end then, or have ended
 /// before. Where an allocation fails, some of these may be left.
@@ -31,24 +31,4 @@ fn remove_ended<K: TrieKey + Drop, Q: TrieKey>(
     keyed_maps_follow_parts::<K, u64>();
     keyed_maps_follow_retain::<K, u64, _>(&runs);
     leases.retain_below(key, runs)
-}
-
-/// The leases of two networks, three of them over at 200.
-const LEASES: &'static [(&'static str, u64)] = &[
-    ("10.1.0.7/32", 100),
-    ("10.1.0.9/32", 300),
-    ("10.1.8.0/24", 200),
-    ("10.2.0.7/32", 100),
-];
-
-#[test]
-fn leases_of_one_network_end(rt: HostRuntime) -> Result<(), TrieError> {
-    let mut leases: Trie<Ipv4Network, u64> = Trie::new(rt.alloc());
-    for (network, end) in LEASES {
-        let _ = leases.insert(network.parse().map_err(|_| Memory)?, *end)?;
-    }
-    let first: Ipv4Network = "10.1.0.0/16".parse().map_err(|_| Memory)?;
-    remove_ended(&mut leases, &first, 200)?;
-    assert!(rt; leases.len() == 2 && leases.count_below(&first)? == 1);
-    Ok(())
 }

@@ -14,10 +14,3 @@ fn list_below(alloc: Global, text: &str, next: u8) -> Result<Nibblet, Memory>
     list.push(next)?;
     Ok(list)
 }
-
-#[test]
-fn one_nibble_follows(rt: HostRuntime) -> Result<(), Memory> {
-    let list = list_below(rt.alloc(), "a", 6)?;
-    assert!(rt; list.len() == 3);
-    Ok(())
-}

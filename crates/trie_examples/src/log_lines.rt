@@ -9,10 +9,9 @@ ghost use Rattle.radix_trie.specs.Views.{pairs_within};
 
 use radix_trie::iter::Cursor;
 use radix_trie::{
-    Memory, Trie, TrieCommon, TrieError, TrieKey, keys_of_ranges_rise, numbers_keep_their_order,
+    Memory, Trie, TrieCommon, TrieKey, keys_of_ranges_rise, numbers_keep_their_order,
 };
 use std::alloc::Global;
-use trie_tests::samples::texts;
 
 /// The first pairs that a walk has left, so many at most.
 fn first_pairs<'a, K: TrieKey, V>(
@@ -54,43 +53,4 @@ fn lines_between<'a, V>(
     keys_of_ranges_rise::<u64, V>();
     numbers_keep_their_order();
     first_pairs(alloc, log.range(from..to)?, most)
-}
-
-/// A log of four lines.
-const LINES: &'static [(u64, &'static str)] = &[
-    (1_200, "opened"),
-    (70_000, "closed"),
-    (1_300, "asked"),
-    (1_250, "read"),
-];
-
-/// A time, another one, how many lines at most, and the lines from the one on and before the other.
-type Row = (u64, u64, usize, &'static [(u64, &'static str)]);
-
-#[test]
-fn lines_of_a_while(rt: HostRuntime) -> Result<(), TrieError> {
-    const ROWS: &'static [Row] = &[
-        (1_201, 70_000, 10, &[(1_250, "read"), (1_300, "asked")]),
-        (0, 70_001, 1, &[(1_200, "opened")]),
-        (1_300, 1_200, 10, &[]),
-        (1_300, 1_300, 10, &[]),
-    ];
-    let log: Trie<u64, &'static str> = Trie::from_iter(rt.alloc(), LINES.iter().copied())?;
-    for (from, to, most, wanted) in ROWS {
-        let page = lines_between(rt.alloc(), &log, *from, *to, *most)?;
-        let found = page.iter().map(|pair| (*pair.0, *pair.1));
-        let found: Vec<(u64, &'static str)> = found.collect(rt.alloc())?;
-        assert!(rt; found.as_slice() == *wanted, "{from} {to}");
-    }
-    Ok(())
-}
-
-/// After the end each further call returns None.
-#[test]
-fn ended_for_good(rt: HostRuntime) -> Result<(), Memory> {
-    let words = texts(rt.alloc(), &[("tea", 1), ("ten", 2)])?;
-    let mut walk = words.range("te".."team")?;
-    let steps = (walk.next()?, walk.next()?, walk.next()?);
-    assert!(rt; steps == (Some((&"tea", &1)), None, None));
-    Ok(())
 }

@@ -39,28 +39,3 @@ fn makers(alloc: Global, lines: &'static str) -> Result<Trie<Nibblet, &'static s
     }
     Ok(table)
 }
-
-/// A block of 24 bits, and another one of which others have parts of 28 and of 36 bits.
-const LINES: &'static str = "0A1B2C Alder Radios\n\
-    0A1B3C Birch Registry\n\
-    0A1B3C4 Cedar Meters\n\
-    0A1B3C456 Elm Sensors\n";
-
-#[test]
-fn the_longest_block_decides(rt: HostRuntime) -> Result<(), TrieError> {
-    const ROWS: &'static [(&'static str, Option<&'static str>)] = &[
-        ("0a:1b:2c:34:56:78", Some("Alder Radios")),
-        ("0A-1B-3C-12-34-56", Some("Birch Registry")),
-        ("0a1b3c40f001", Some("Cedar Meters")),
-        ("0a:1b:3c:45:6f:ff", Some("Elm Sensors")),
-        ("0a-1b-4c-00-00-00", None),
-        ("no address", None),
-    ];
-    let alloc = rt.alloc();
-    let table = makers(alloc, LINES)?;
-    for (address, name) in ROWS {
-        let found = digits(alloc, address)?.and_then(|list| maker(&table, &list));
-        assert!(rt; found == *name, "{address}");
-    }
-    Ok(())
-}

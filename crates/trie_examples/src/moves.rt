@@ -76,19 +76,3 @@ fn move_below<V: Drop>(
     }
     Ok(())
 }
-
-#[test]
-fn a_folder_is_moved(rt: HostRuntime) -> Result<(), TrieError> {
-    let mut all: Trie<String, u64> = Trie::new(rt.alloc());
-    for (name, value) in [
-        ("/home/ann/", 1),
-        ("/home/ann/letters", 2),
-        ("/home/bob/", 3),
-    ] {
-        let _ = all.insert(String::from_str(rt.alloc(), name)?, value)?;
-    }
-    move_below(rt.alloc(), &mut all, "/home/ann/", "/old/ann/")?;
-    assert!(rt; all.len() == 3 && all.get(&"/home/bob/")? == Some(&3));
-    assert!(rt; all.get(&"/old/ann/letters")? == Some(&2) && all.get(&"/old/ann/")? == Some(&1));
-    Ok(())
-}

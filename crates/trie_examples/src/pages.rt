@@ -14,7 +14,6 @@ use radix_trie::{
     pages_follow_one_another, texts_keep_their_order,
 };
 use std::alloc::Global;
-use trie_tests::samples::texts;
 
 /// Words, each with its value.
 type Page<'a, V> = Vec<(&'a &'static str, &'a V)>;
@@ -55,25 +54,4 @@ fn two_pages<'a, V>(
         None => Vec::new(alloc),
     };
     Ok((first, second))
-}
-
-/// Five words, four of which begin with `te`.
-const WORDS: &'static [(&'static str, u64)] = &[
-    ("team", 3),
-    ("ten", 2),
-    ("inn", 4),
-    ("tea", 1),
-    ("tenor", 5),
-];
-
-#[test]
-fn words_of_pages(rt: HostRuntime) -> Result<(), Memory> {
-    let words = texts(rt.alloc(), WORDS)?;
-    let found = page(&words, "te", 2)?;
-    assert!(rt; found.as_slice() == [(&"tea", &1), (&"team", &3)].as_slice());
-    let (first, second) = two_pages(rt.alloc(), &words, "te", 3)?;
-    assert!(rt; first.len() == 3 && second.as_slice() == [(&"tenor", &5)].as_slice());
-    let (first, second) = two_pages(rt.alloc(), &words, "to", 3)?;
-    assert!(rt; first.is_empty() && second.is_empty());
-    Ok(())
 }

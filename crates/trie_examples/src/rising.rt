@@ -7,11 +7,10 @@ ghost use Rattle.radix_trie.specs.Keys.{IsKeyed};
 
 use radix_trie::iter::Keys;
 use radix_trie::{
-    Ascending, Memory, Trie, TrieCommon, TrieError, TrieKey, keys_of_walks_rise,
+    Ascending, Memory, Trie, TrieCommon, TrieKey, keys_of_walks_rise,
     keys_stand_at_their_encodings, numbers_keep_their_order, signed_numbers_keep_their_order,
     texts_keep_their_order,
 };
-use trie_tests::samples::{SAMPLE, texts};
 
 /// The keys of a trie of numbers, each of which came in by insertion, rise.
 fn numbers<V>(trie: &Trie<u32, V>) -> Result<Keys<'_, u32, V>, Memory>
@@ -42,17 +41,4 @@ fn words<'a, V>(trie: &'a Trie<&'static str, V>) -> Result<Keys<'a, &'static str
     keys_of_walks_rise::<&'static str, V>();
     texts_keep_their_order::<&'static str>();
     TrieCommon::keys(trie)
-}
-
-#[test]
-fn texts_and_numbers_rise(rt: HostRuntime) -> Result<(), TrieError> {
-    let sample = texts(rt.alloc(), SAMPLE)?;
-    let found: Vec<&'static str> = words(&sample)?.copied().collect(rt.alloc())?;
-    let wanted = ["a", "ab", "abcd", "abcdef", "abcdefgh", "acbdef", "bcdefgh"];
-    assert!(rt; found.as_slice() == wanted.as_slice());
-    let mut trie: Trie<u32, u64> = Trie::from_iter(rt.alloc(), [(300, 2), (7, 1)].iter().copied())?;
-    trie.extend([(70_000, 3)].iter().copied())?;
-    let found: Vec<u32> = numbers(&trie)?.copied().collect(rt.alloc())?;
-    assert!(rt; found.as_slice() == [7, 300, 70_000].as_slice());
-    Ok(())
 }

@@ -5,8 +5,7 @@ ghost use Rattle.keyed_maps.specs.KeyedMaps.{keyed_map};
 
 use frozen_trie::freeze;
 use radix_trie::{
-    AsNibbles, Ascending, KeySigned, Memory, Nibblet, Trie, TrieError, TrieKey,
-    turned_copies_answer_alike,
+    AsNibbles, Ascending, KeySigned, Memory, Nibblet, Trie, TrieKey, turned_copies_answer_alike,
 };
 use std::alloc::{AllocError, Global};
 
@@ -60,19 +59,4 @@ fn frozen_and_thawed<K: AsNibbles + Drop, V: Drop>(trie: Trie<K, V>) -> Result<T
 {
     let frozen = freeze(trie).map_err(|_| Memory)?;
     frozen.thaw().map_err(|_| Memory)
-}
-
-#[test]
-fn all_comes_back(rt: HostRuntime) -> Result<(), TrieError> {
-    let alloc = rt.alloc();
-    let mut numbers: Trie<i32, u64> = Trie::new(alloc);
-    for (number, value) in [(-5, 1), (0, 2), (70_000, 3)] {
-        let list = number.encode(alloc)?;
-        assert!(rt; there_and_back(alloc, &list)? == Some(list));
-        let _ = numbers.insert(number, value)?;
-        assert!(rt; risen_value(alloc, &numbers, number)? == Some(value));
-    }
-    let thawed = frozen_and_thawed(numbers)?;
-    assert!(rt; thawed.len() == 3 && thawed.get(&-5)? == Some(&1));
-    Ok(())
 }

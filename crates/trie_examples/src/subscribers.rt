@@ -2,7 +2,7 @@
 ghost use Rattle.std.specs.Prelude.{◌≡◌, IfOk, option_copied, option_map, slice_get};
 ghost use Rattle.topic_filters.specs.Filters.{filters_of, stored_at};
 
-use radix_trie::{Memory, Parts, Trie, TrieError};
+use radix_trie::{Memory, Parts, Trie};
 use std::alloc::Global;
 use topic_filters::matching;
 
@@ -19,26 +19,4 @@ fn first_subscriber<'a, V>(
         Some((_, value)) => Ok(Some(*value)),
         None => Ok(None),
     }
-}
-
-#[test]
-fn the_same_level_comes_first(rt: HostRuntime) -> Result<(), TrieError> {
-    let alloc = rt.alloc();
-    let mut filters: Trie<Parts, u64> = Trie::new(alloc);
-    for (filter, subscriber) in [
-        ("sport/#", 1),
-        ("sport/+/score", 2),
-        ("sport/chess/score", 3),
-    ] {
-        filters.insert(Parts::split(alloc, filter, b'/')?, subscriber)?;
-    }
-    for (topic, subscriber) in [
-        ("sport/chess/score", Some(3)),
-        ("sport/tennis/score", Some(2)),
-        ("news", None),
-    ] {
-        let topic = Parts::split(alloc, topic, b'/')?;
-        assert!(rt; first_subscriber(alloc, &filters, &topic)?.copied() == subscriber);
-    }
-    Ok(())
 }

@@ -73,25 +73,3 @@ fn suffix<'a>(alloc: Global, all: &Trie<Parts, Rules>, host: &'a str) -> Result<
     let labels = Parts::reversed(alloc, host, b'.')?;
     Ok(last_labels(host, suffix_len(all, &labels)?))
 }
-
-#[test]
-fn suffixes_of_hosts(rt: HostRuntime) -> Result<(), TrieError> {
-    const ROWS: &'static [(&'static str, &'static str)] = &[
-        ("www.anna.north", "north"),
-        ("www.anna.port.north", "port.north"),
-        ("airport.north", "north"),
-        ("www.anna.shop.isle", "shop.isle"),
-        ("www.harbour.isle", "isle"),
-        ("isle", "isle"),
-        ("www.anna.unlisted", "unlisted"),
-    ];
-    let alloc = rt.alloc();
-    let mut all: Trie<Parts, Rules> = Trie::new(alloc);
-    for rule in ["north", "port.north", "*.isle", "!harbour.isle"] {
-        add_rule(alloc, &mut all, rule)?;
-    }
-    for (host, wanted) in ROWS {
-        assert!(rt; suffix(alloc, &all, host)? == *wanted, "{host}");
-    }
-    Ok(())
-}

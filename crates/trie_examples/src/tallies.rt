@@ -46,20 +46,3 @@ fn discount<K: TrieKey + Drop>(counts: &mut Trie<K, u64>, word: K) -> Result<(),
         }
     }
 }
-
-#[test]
-fn words_are_counted_and_discounted(rt: HostRuntime) -> Result<(), TrieError> {
-    let mut counts: Trie<String, u64> = Trie::new(rt.alloc());
-    for word in ["tea", "ten", "tea"] {
-        let found = counts.get(&word)?.copied().unwrap_or(0);
-        if found < u64::MAX {
-            count(&mut counts, String::from_str(rt.alloc(), word)?)?;
-        }
-    }
-    assert!(rt; counts.get(&"tea")? == Some(&2) && counts.get(&"ten")? == Some(&1));
-    for word in ["ten", "tea", "toe"] {
-        discount(&mut counts, String::from_str(rt.alloc(), word)?)?;
-    }
-    assert!(rt; counts.get(&"tea")? == Some(&1) && counts.len() == 1);
-    Ok(())
-}

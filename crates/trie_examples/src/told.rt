@@ -155,12 +155,3 @@ fn encoded(alloc: Global, x: (u8, u16), y: (u8, u16)) -> Result<(Nibblet, Nibble
 {
     Ok((x.encode(alloc)?, y.encode(alloc)?))
 }
-
-#[test]
-fn pairs_have_rising_encodings(rt: HostRuntime) -> Result<(), Memory> {
-    for (x, y) in [((1, 300), (2, 0)), ((1, 255), (1, 256))] {
-        let (first, second) = encoded(rt.alloc(), x, y)?;
-        assert!(rt; first < second);
-    }
-    Ok(())
-}

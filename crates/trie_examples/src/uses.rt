@@ -9,7 +9,6 @@ use keyed_maps::keyed_maps_follow_nearest;
 use radix_trie::iter::Values;
 use radix_trie::{Bits, Memory, Trie, TrieCommon, TrieKey};
 use std::alloc::Global;
-use trie_tests::samples::texts;
 
 /// Where the longest stored prefix of an address leads: the network of which each other stored one
 /// that begins the address is a prefix.
@@ -72,56 +71,4 @@ fn inherited<K: TrieKey, V: Copy, Q: TrieKey>(
             .copied()
             .unwrap_or(default),
     )
-}
-
-/// A table of routes: each network's address, its count of bits, and where it leads.
-pub(crate) fn routes(
-    alloc: Global,
-    networks: &[(u32, usize, u32)],
-) -> Result<Trie<Bits, u32>, Memory> {
-    let mut table: Trie<Bits, u32> = Trie::new(alloc);
-    for (network, bits, hop) in networks {
-        if table
-            .insert(Bits::first_of_u32(alloc, *network, *bits)?, *hop)
-            .is_err()
-        {
-            return Err(Memory);
-        }
-    }
-    Ok(table)
-}
-
-#[test]
-fn words_with_a_beginning(rt: HostRuntime) -> Result<(), Memory> {
-    const WORDS: &'static [(&'static str, u64)] = &[
-        ("tea", 1),
-        ("ten", 2),
-        ("team", 3),
-        ("to", 4),
-        ("inn", 5),
-    ];
-    let words = texts(rt.alloc(), WORDS)?;
-    let of_te = completions(rt.alloc(), &words, &"te")?;
-    assert!(rt; of_te.as_slice() == [1, 3, 2].as_slice());
-    assert!(rt; completions(rt.alloc(), &words, &"x")?.is_empty());
-    Ok(())
-}
-
-/// The settings of three folders, and what paths inherit of them.
-#[test]
-fn setting_of_the_nearest_folder(rt: HostRuntime) -> Result<(), Memory> {
-    const ROWS: &'static [(&'static str, u64)] = &[
-        ("/home/ada/notes", 120),
-        ("/home/bob/notes", 100),
-        ("/etc/passwd", 80),
-        ("relative", 72),
-    ];
-    let settings = texts(
-        rt.alloc(),
-        &[("/", 80), ("/home/", 100), ("/home/ada/", 120)],
-    )?;
-    for (path, width) in ROWS {
-        assert!(rt; inherited(&settings, path, 72)? == *width, "{path}");
-    }
-    Ok(())
 }

@@ -18,7 +18,6 @@ const OTHERS: [&str; 11] = [
     "trie_shell",
     "nifazombi_c",
     "trie_tests",
-    "table_tests",
     "trie_examples",
 ];
 

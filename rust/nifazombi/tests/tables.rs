@@ -1,23 +1,10 @@
 //! Routing tables: by hand, and beside a search through all rows.
 mod common;
 
-use common::{Random, assert_both_ends, assert_kept, flipped, image_of_many_parts};
+use common::{Random, assert_both_ends, assert_kept, flipped, image, image_of_many_parts, spoilt};
 use nifazombi::{Address, ImageError, Route, Routes, WriteError, routes_image};
 use std::cmp::Reverse;
 use std::net::{Ipv4Addr, Ipv6Addr};
-
-/// The bytes with another one at an index.
-fn spoilt(bytes: &[u8], at: usize, byte: u8) -> Vec<u8> {
-    let mut bytes = bytes.to_vec();
-    bytes[at] = byte;
-    bytes
-}
-
-/// A head and parts: the mark, and then numbers of 4 bytes.
-fn image(mark: &[u8; 8], numbers: &[u32]) -> Vec<u8> {
-    let numbers = numbers.iter().flat_map(|number| number.to_le_bytes());
-    mark.iter().copied().chain(numbers).collect()
-}
 
 /// 10.0.0.0/8, 10.1.0.0/16 and 192.0.2.0/24: each by its first address, its bits, the index and one
 /// more of the row of the network around it, and its value.

@@ -34,12 +34,3 @@ fn insert_measured<K: TrieKey + Drop, V: Drop>(
     let (nodes_now, nibbles_now) = trie.footprint();
     Ok((nodes_now - nodes, nibbles_now - nibbles))
 }
-
-#[test]
-fn an_insertion_is_measured(rt: HostRuntime) -> Result<(), TrieError> {
-    let mut words: Trie<&'static str, u64> = Trie::new(rt.alloc());
-    assert!(rt; insert_measured(&mut words, "ab", 1)? == (1, 4));
-    assert!(rt; insert_measured(&mut words, "ac", 2)? == (2, 1));
-    assert!(rt; insert_measured(&mut words, "ac", 3)? == (0, 0));
-    Ok(())
-}

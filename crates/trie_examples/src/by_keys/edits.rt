@@ -77,17 +77,3 @@ fn insert_text<V: Drop>(
     let _ = texts.insert(text, value)?;
     Ok(())
 }
-
-#[test]
-fn pairs_are_moved_by_key(rt: HostRuntime) -> Result<(), TrieError> {
-    let mut first: Trie<&'static str, u64> = Trie::new(rt.alloc());
-    let mut second: Trie<&'static str, u64> = Trie::new(rt.alloc());
-    insert_in_either_order(&mut first, &mut second, ("tea", 1), ("ten", 2))?;
-    assert!(rt; first == second && first.len() == 2);
-    assert!(rt; move_value(&mut first, &"tea", "inn")? && !move_value(&mut first, &"tea", "to")?);
-    assert!(rt; first.get(&"inn")? == Some(&1) && first.len() == 2);
-    let mut texts: Trie<String, u64> = Trie::new(rt.alloc());
-    insert_text(&mut texts, String::from_str(rt.alloc(), "tea")?, 3)?;
-    assert!(rt; texts.get(&"tea")? == Some(&3));
-    Ok(())
-}

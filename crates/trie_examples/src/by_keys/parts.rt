@@ -6,7 +6,6 @@ ghost use Rattle.keyed_maps.specs.KeyedMaps.{keyed_map};
 
 use keyed_maps::{keyed_maps_follow_parts, keyed_maps_follow_tries, merges_by_key_compose};
 use radix_trie::{Memory, Trie, TrieError, TrieKey};
-use trie_tests::samples::texts;
 
 /// Moves all values of another trie here. Where both have one, that of the other stays.
 ///
@@ -70,14 +69,4 @@ fn merge_smaller<K: TrieKey + Drop, V: Drop>(
     };
     large.merge(small)?;
     Ok(large)
-}
-
-#[test]
-fn parts_are_taken_and_merged(rt: HostRuntime) -> Result<(), TrieError> {
-    let mut words = texts(rt.alloc(), &[("inn", 5), ("tea", 1), ("ten", 2)])?;
-    let taken = take_below(&mut words, &"te")?;
-    assert!(rt; taken.len() == 2 && words.len() == 1);
-    absorb(&mut words, taken)?;
-    assert!(rt; words.len() == 3 && words.get(&"ten")? == Some(&2));
-    Ok(())
 }

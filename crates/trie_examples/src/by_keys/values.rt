@@ -4,7 +4,6 @@ ghost use Rattle.keyed_maps.specs.KeyedMaps.{keyed_map};
 
 use keyed_maps::{keyed_maps_follow_clones, keyed_maps_follow_retain};
 use radix_trie::{Memory, Trie, TrieKey};
-use trie_tests::samples::texts;
 
 /// Removes the keys whose count is less than a number. Where an allocation fails, some of these may
 /// be left.
@@ -38,14 +37,4 @@ fn copy_counts<K: TrieKey + Clone>(counts: &Trie<K, u64>) -> Result<Trie<K, u64>
 {
     keyed_maps_follow_clones::<K, u64>();
     Ok(counts.clone()?)
-}
-
-#[test]
-fn rare_words_are_forgotten(rt: HostRuntime) -> Result<(), Memory> {
-    let mut counts = texts(rt.alloc(), &[("inn", 5), ("tea", 1), ("ten", 2)])?;
-    let copy = copy_counts(&counts)?;
-    forget_rare(&mut counts, 2)?;
-    assert!(rt; counts.len() == 2 && counts.get(&"tea")?.is_none());
-    assert!(rt; copy.len() == 3 && copy.get(&"tea")? == Some(&1));
-    Ok(())
 }

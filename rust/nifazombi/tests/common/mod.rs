@@ -1,5 +1,8 @@
 //! What the tests of all tables share.
+#![allow(dead_code, reason = "each file of tests uses some of it")]
 
+use nifazombi::rattle_std::alloc::Global;
+use nifazombi::rattle_std::vec::{CollectIn, Vec as List};
 use std::hint::black_box;
 use std::iter::repeat_n;
 use std::time::{Duration, Instant};
@@ -32,14 +35,34 @@ pub fn flipped(bytes: &[u8], bit: usize) -> Vec<u8> {
     bytes
 }
 
+/// The bytes with another one at an index.
+pub fn spoilt(bytes: &[u8], at: usize, byte: u8) -> Vec<u8> {
+    let mut bytes = bytes.to_vec();
+    bytes[at] = byte;
+    bytes
+}
+
+/// Numbers of 4 bytes.
+pub fn bytes_of(numbers: &[u32]) -> Vec<u8> {
+    numbers.iter().flat_map(|number| number.to_le_bytes()).collect()
+}
+
+/// A head and parts: the mark, and then numbers of 4 bytes.
+pub fn image(mark: &[u8; 8], numbers: &[u32]) -> Vec<u8> {
+    [&mark[..], &bytes_of(numbers)].concat()
+}
+
+/// The library's list of items.
+pub fn list<T>(items: impl IntoIterator<Item = T>) -> List<T> {
+    items.into_iter().collect_by(Global).unwrap()
+}
+
 /// An image of no rows that lists many parts, by its mark and the kinds of those that it needs.
 pub fn image_of_many_parts(mark: &[u8; 8], needed: &[u32]) -> Vec<u8> {
     const COUNT: usize = 5_000;
     let kinds = needed.iter().chain(repeat_n(&9, COUNT - needed.len()));
     let parts = kinds.flat_map(|kind| [*kind, 0, 0, 0, 0, 0]);
-    let numbers = [0, COUNT as u32].into_iter().chain(parts);
-    let rest = numbers.flat_map(u32::to_le_bytes);
-    mark.iter().copied().chain(rest).collect()
+    image(mark, &[0, COUNT as u32].into_iter().chain(parts).collect::<Vec<_>>())
 }
 
 /// How long a hundred calls take, where nothing else is done meanwhile.

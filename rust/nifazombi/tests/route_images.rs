@@ -1,0 +1,335 @@
+//! Images of networks, as tools of other languages made them from docs/IMAGES.md, and as they are
+//! written.
+mod common;
+
+use common::{bytes_of, image, list, spoilt};
+use nifazombi::flat_routes::{ImageError, TableError, WriteError, ipv4, ipv6, payload};
+use nifazombi::frozen_routes::FrozenRoutes;
+use nifazombi::radix_keys::Network;
+use nifazombi::rattle_std::alloc::Global;
+use std::net::Ipv6Addr;
+
+/// 10.0.0.0/8, 10.0.0.0/16, 10.1.0.0/16, 10.1.2.0/24, 128.0.0.0/2, 192.0.2.0/24 and
+/// 255.255.255.255/32: each by its first address, its bits, the index and one more of the row of
+/// the network around it, and its value.
+const ROWS: [[u32; 4]; 7] = [
+    [0x0a00_0000, 8, 0, 100],
+    [0x0a00_0000, 16, 1, 101],
+    [0x0a01_0000, 16, 1, 102],
+    [0x0a01_0200, 24, 3, 103],
+    [0x8000_0000, 2, 0, 104],
+    [0xc000_0200, 24, 0, 105],
+    [0xffff_ffff, 32, 0, 106],
+];
+
+/// 2001:db8::/32.
+const DOCUMENTS: u128 = 0x2001_0db8 << 96;
+
+/// ::/0, 2001:db8::/32, 2001:db8::/48, 2001:db8:0:1::/64 and fe80::/10.
+const WIDE_ROWS: [[u32; 8]; 5] = [
+    [0, 0, 0, 0, 0, 0, 100, 0],
+    [0, 0, 0, 0x2001_0db8, 32, 1, 101, 0],
+    [0, 0, 0, 0x2001_0db8, 48, 2, 102, 0],
+    [0, 0, 1, 0x2001_0db8, 64, 3, 103, 0],
+    [0, 0, 0, 0xfe80_0000, 10, 1, 104, 0],
+];
+
+/// The image of `ROWS`, with cells by three bits, and five bytes of the user's own before the rows.
+fn stored() -> Vec<u8> {
+    let head = [7, 3, 1, 0, 93, 0, 112, 0, 2, 29, 205, 0, 72, 0, 3, 7, 88, 0, 5, 0];
+    let cells = [0, 0, 4, 0, 4, 0, 4, 0, 4, 0, 5, 5, 5, 0, 6, 0, 7, 0];
+    let rows = bytes_of(&[ROWS.as_flattened(), &cells].concat());
+    [image(b"NZIPV4.1", &head), b"hello".to_vec(), rows].concat()
+}
+
+/// The same with no cells, as `write` lays it out.
+fn plain() -> Vec<u8> {
+    let head = [7, 3, 1, 0, 88, 0, 112, 0, 2, 0, 200, 0, 0, 0, 3, 0, 200, 0, 5, 0];
+    [image(b"NZIPV4.1", &[&head, ROWS.as_flattened()].concat()), b"hello".to_vec()].concat()
+}
+
+/// The image of `WIDE_ROWS`, with cells by three bits.
+fn stored_wide() -> Vec<u8> {
+    let head = [5, 2, 1, 0, 64, 0, 160, 0, 2, 125, 224, 0, 72, 0];
+    let cells = [0, 0, 1, 1, 4, 1, 4, 1, 4, 1, 4, 1, 4, 1, 4, 1, 5, 0];
+    image(b"NZIPV6.1", &[&head[..], WIDE_ROWS.as_flattened(), &cells].concat())
+}
+
+#[test]
+fn longest_match_in_a_stored_image() {
+    const LOOKS: [(u32, Option<usize>); 13] = [
+        (0x0000_0000, None),
+        (0x0a00_ffff, Some(1)),
+        (0x0a01_0203, Some(3)),
+        (0x0a01_0300, Some(2)),
+        (0x0aff_0001, Some(0)),
+        (0x0b00_0000, None),
+        (0x8000_0000, Some(4)),
+        (0xa000_0001, Some(4)),
+        (0xbfff_ffff, Some(4)),
+        (0xc000_0209, Some(5)),
+        (0xc000_0300, None),
+        (0xffff_fffe, None),
+        (0xffff_ffff, Some(6)),
+    ];
+    let stored = stored();
+    assert!(ipv4::is_image(&stored) && !ipv6::is_image(&stored));
+    for (address, index) in LOOKS {
+        assert_eq!(ipv4::longest_match(&stored, address), index, "{address:x}");
+    }
+}
+
+#[test]
+fn row_at_and_above_in_a_stored_image() {
+    let stored = stored();
+    assert_eq!(ipv4::len(&stored), 7);
+    let row = ipv4::row_at(&stored, 3).unwrap();
+    assert_eq!([row.first, row.bits, row.link, row.value], ROWS[3]);
+    assert!(ipv4::row_at(&stored, 7).is_none());
+    let around = [None, Some(0), Some(0), Some(2), None, None, None, None];
+    for (at, up) in around.into_iter().enumerate() {
+        assert_eq!(ipv4::above(&stored, at), up, "{at}");
+    }
+}
+
+#[test]
+fn longest_match_in_a_stored_image_of_ipv6() {
+    const LOOKS: [(u128, Option<usize>); 8] = [
+        (0, Some(0)),
+        (0x2001_0db7 << 96, Some(0)),
+        (DOCUMENTS + 1, Some(2)),
+        (DOCUMENTS + (1 << 64) + 1, Some(3)),
+        (DOCUMENTS + (1 << 80), Some(1)),
+        (1 << 126, Some(0)),
+        ((0xfe80 << 112) + 1, Some(4)),
+        (0xffff << 112, Some(0)),
+    ];
+    let stored = stored_wide();
+    assert!(ipv6::is_image(&stored) && ipv6::len(&stored) == 5);
+    for (address, index) in LOOKS {
+        assert_eq!(ipv6::longest_match(&stored, address), index, "{address:x}");
+    }
+    let row = ipv6::row_at(&stored, 4).unwrap();
+    assert_eq!(u128::from_be_bytes(row.first), 0xfe80 << 112);
+    assert_eq!((row.bits, row.link, row.value), (10, 1, 104));
+    assert_eq!(ipv6::get(&stored, DOCUMENTS, 48), Some(2));
+    assert_eq!([3, 0].map(|at| ipv6::above(&stored, at)), [Some(2), None]);
+    assert_eq!(ipv6::below(&stored, DOCUMENTS, 32), (1, 3));
+}
+
+#[test]
+fn check_tells_what_a_spoilt_byte_breaks() {
+    use ImageError::*;
+    const SPOILT: [(usize, u8, ImageError); 31] = [
+        (0, 79, Mark),
+        (6, 0, Mark),
+        (7, 50, Version),
+        (8, 6, Part(0)),
+        (12, 0, Part(0)),
+        (12, 1, Part(1)),
+        (12, 255, Short),
+        (16, 2, Part(0)),
+        (20, 1, Part(0)),
+        (24, 94, Row(0)),
+        (31, 1, Part(0)),
+        (32, 113, Part(0)),
+        (40, 3, Part(1)),
+        (44, 28, Cell(5)),
+        (44, 128, Part(1)),
+        (48, 206, Part(1)),
+        (56, 71, Part(1)),
+        (56, 80, Part(1)),
+        (63, 255, Part(1)),
+        (93, 1, Row(0)),
+        (97, 33, Row(0)),
+        (113, 8, Row(1)),
+        (117, 0, Row(1)),
+        (117, 2, Row(1)),
+        (133, 3, Row(2)),
+        (205, 1, Cell(0)),
+        (245, 4, Cell(5)),
+        (249, 0, Cell(5)),
+        (249, 6, Cell(5)),
+        (269, 6, Cell(8)),
+        (273, 7, Cell(8)),
+    ];
+    for (at, byte, error) in SPOILT {
+        assert_eq!(ipv4::check(&spoilt(&stored(), at, byte)), Err(error), "{at} {byte}");
+    }
+}
+
+#[test]
+fn check_tells_where_an_image_is_cut() {
+    let stored = stored();
+    // The list ends at 88, the rows at 205, and the cells with the image.
+    for end in 0..stored.len() {
+        let error = match end {
+            0..88 => ImageError::Short,
+            88..205 => ImageError::Part(0),
+            _ => ImageError::Part(1),
+        };
+        assert_eq!(ipv4::check(&stored[..end]), Err(error), "{end}");
+    }
+}
+
+#[test]
+fn payload_is_the_first_part_of_the_users_own() {
+    let stored = stored();
+    assert_eq!(payload(&stored), Some((88, 5)));
+    assert_eq!(payload(&stored[..93]), Some((88, 5)));
+    assert_eq!([&stored[..92], &stored_wide(), &[]].map(payload), [None; 3]);
+    assert_eq!(payload(&spoilt(&stored, 40, 3)), Some((205, 72)));
+    assert_eq!(payload(&spoilt(&stored, 79, 1)), None);
+    // Of 65 listed parts, none with a byte, the last alone is of kind 3, and then the one before it
+    // too.
+    let mut many = [0; 16 + 24 * 65];
+    many[12] = 65;
+    many[16 + 24 * 64] = 3;
+    assert_eq!(payload(&many), None);
+    many[16 + 24 * 63] = 3;
+    assert_eq!(payload(&many), Some((0, 0)));
+}
+
+#[test]
+fn get_below_and_longest_matches_in_a_stored_image() {
+    let stored = stored();
+    let found = [8, 16, 9].map(|bits| ipv4::get(&stored, 0x0a00_0000, bits));
+    assert_eq!(found, [Some(0), Some(1), None]);
+    assert_eq!(ipv4::below(&stored, 0x0a00_0000, 8), (0, 4));
+    assert_eq!(ipv4::below(&stored, 0x0a00_0000, 15), (1, 3));
+    assert_eq!(ipv4::below(&stored, 0, 0), (0, 7));
+    let mut found = [9; 4];
+    let count = ipv4::longest_matches(&stored, &[0xffff_ffff, 1, 0x0a01_0203], &mut found);
+    assert_eq!((count, found), (3, [7, 0, 4, 9]));
+}
+
+/// A row that is to be written.
+fn row(first: u32, bits: u32, value: u32) -> ipv4::Row {
+    ipv4::Row { first, bits, link: 0, value }
+}
+
+fn rows() -> [ipv4::Row; 7] {
+    ROWS.map(|[first, bits, _, value]| row(first, bits, value))
+}
+
+#[test]
+fn write_lays_out_rows_and_a_payload() {
+    let mut out = [7; 209];
+    assert_eq!(ipv4::write(&rows(), b"hello", &mut out), Ok(()));
+    assert!(out.starts_with(&plain()) && out.ends_with(&[7; 4]));
+    assert_eq!(payload(&out), Some((200, 5)));
+    assert_eq!(ipv4::write(&rows(), b"hello", &mut [0; 204]), Err(WriteError::Short));
+    let mut whole = [0; 200];
+    assert_eq!(ipv4::write(&rows(), b"", &mut whole), Ok(()));
+    assert!(payload(&whole) == Some((200, 0)) && ipv4::is_image(&whole));
+}
+
+#[test]
+fn write_of_no_row() {
+    let mut out = [0; 88];
+    assert_eq!(ipv4::write(&[], b"", &mut out), Ok(()));
+    assert_eq!((ipv4::check(&out), ipv4::len(&out)), (Ok(()), 0));
+    assert_eq!(ipv4::longest_match(&out, 0), None);
+    assert_eq!(ipv6::check(&out), Err(ImageError::Mark));
+}
+
+#[test]
+fn image_len_by_rows_and_payload() {
+    const MOST: usize = usize::MAX;
+    const LENGTHS: [(usize, usize, Option<usize>); 12] = [
+        (0, 0, Some(88)),
+        (7, 5, Some(205)),
+        (255, 0, Some(4_168)),
+        (256, 0, Some(8_288)),
+        (511, 0, Some(12_368)),
+        (512, 0, Some(16_480)),
+        (600, 3, Some(17_891)),
+        (2_097_152, 0, Some(50_331_744)),
+        (4_294_967_295, 0, Some(68_736_254_032)),
+        (4_294_967_296, 0, None),
+        (0, MOST - 88, Some(MOST)),
+        (0, MOST - 87, None),
+    ];
+    for (rows, own, len) in LENGTHS {
+        assert_eq!(ipv4::image_len(rows, own), len, "{rows} {own}");
+    }
+    assert_eq!(ipv6::image_len(5, 1), Some(249));
+}
+
+#[test]
+fn write_refuses_rows_out_of_order() {
+    const CHANGED: [(usize, u32, u32); 6] = [
+        (0, 0x0a00_0000, 33),
+        (0, 0x0a00_0001, 8),
+        (1, 0x0a00_0000, 8),
+        (2, 0x0a00_0000, 15),
+        (3, 0x0901_0200, 24),
+        (6, 0xffff_ffff, 31),
+    ];
+    let mut out = [7; 205];
+    for (at, first, bits) in CHANGED {
+        let mut rows = rows();
+        rows[at] = row(first, bits, 0);
+        let refused = Err(WriteError::OutOfOrder(at));
+        assert_eq!(ipv4::write(&rows, b"hello", &mut out), refused, "{at}");
+    }
+    assert_eq!(out, [7; 205]);
+}
+
+#[test]
+fn write_of_ipv6_rows() {
+    let rows = [
+        (0, 0),
+        (DOCUMENTS, 32),
+        (DOCUMENTS, 48),
+        (DOCUMENTS + (1 << 64), 64),
+        (0xfe80 << 112, 10),
+    ];
+    let rows = std::array::from_fn::<_, 5, _>(|at| {
+        let (first, bits) = rows[at];
+        ipv6::Row { first: u128::to_be_bytes(first), bits, link: 0, value: 100 + at as u64 }
+    });
+    let mut out = [0; 248];
+    assert_eq!(ipv6::write(&rows, b"", &mut out), Ok(()));
+    assert_eq!(out[88..], stored_wide()[64..224]);
+    let addresses = [0, DOCUMENTS + (1 << 64)].map(u128::to_be_bytes);
+    let mut found = [9; 2];
+    let count = ipv6::longest_matches(&out, &addresses, &mut found);
+    assert_eq!((count, found), (2, [1, 4]));
+}
+
+#[test]
+fn write_makes_cells_for_many_rows() {
+    let rows: Vec<_> = (0..600).map(|at| row(at << 8, 24, at)).collect();
+    let mut out = vec![0; ipv4::image_len(600, 3).unwrap()];
+    assert_eq!(ipv4::write(&rows, b"end", &mut out), Ok(()));
+    assert!(ipv4::is_image(&out) && out.ends_with(b"end"));
+    assert_eq!(payload(&out), Some((out.len() - 3, 3)));
+    for at in 0..600 {
+        assert_eq!(ipv4::longest_match(&out, (at << 8) + 255), Some(at as usize));
+    }
+    assert_eq!(ipv4::longest_match(&out, 600 << 8), None);
+}
+
+#[test]
+fn to_image_and_from_image_of_a_table() {
+    let row = |[first, bits, _, value]: [u32; 4]| {
+        (Network::new(first.into(), bits as u8).unwrap(), value)
+    };
+    let table = FrozenRoutes::from_sorted(list(ROWS.map(row))).unwrap();
+    let image = ipv4::to_image(Global, &table, b"hello").unwrap();
+    assert_eq!(*image, *plain());
+    let again = ipv4::from_image(Global, &image).ok().unwrap();
+    assert!(again.rows() == table.rows());
+    let refused = ipv4::from_image(Global, &spoilt(&stored(), 117, 0)).err();
+    assert_eq!(refused, Some(TableError::Image(ImageError::Row(1))));
+}
+
+#[test]
+fn from_image_and_to_image_of_a_table_of_ipv6() {
+    let table = ipv6::from_image(Global, &stored_wide()).ok().unwrap();
+    let found = table.longest_match(&Ipv6Addr::from_bits((0xfe80 << 112) + 1));
+    assert!(table.len() == 5 && found.is_some_and(|(_, value)| *value == 104));
+    let image = ipv6::to_image(Global, &table, b"").unwrap();
+    assert_eq!((image.len(), &image[88..]), (248, &stored_wide()[64..224]));
+}

@@ -1,8 +1,6 @@
 """What the scripts share: plain files, the crates, counts of checks, and processes that end with the script."""
 import contextlib
-import fcntl
 import functools
-import hashlib
 import importlib.machinery
 import importlib.util
 import os
@@ -28,8 +26,6 @@ MOST = 64_000_000
 # What the C library's allocator is set to for a program where the user has set nothing (docs/BENCHMARKS.md): large
 # pages, and no bins of small pieces that are merged late. A library that knows no such setting passes over it.
 ALLOCATOR = "glibc.malloc.hugetlb=1:glibc.malloc.mxfast=0"
-# A folder for what a run makes: a name that nobody gives by chance, and that no two users share.
-ROOM = f".room-of-nifazombi-{os.geteuid()}"
 # By the clock a process has so many times the processor's time that it may take: others may be at work too.
 PATIENCE, MINUTE = 20, 60
 ENDING = (signal.SIGHUP, signal.SIGINT, signal.SIGTERM)
@@ -77,14 +73,6 @@ def read_text(path, errors="strict"):
         raise Refused(f"{path} isn't UTF-8") from None
 
 
-def sum_of(path):
-    """The sum of a plain file, or None."""
-    with contextlib.suppress(Refused):
-        text = bytes_of(path)
-        return None if text is None else hashlib.sha256(text).hexdigest()
-    return None
-
-
 def put_bytes(text, to, room, mode=0o644):
     """Writes a file by way of the folder room, on the same disk, so that no half of it is ever there. With the mode
     None a file that stands there keeps its own, and its owner as far as that can be."""
@@ -106,30 +94,6 @@ def write_text(path, text):
         put_bytes(text.encode(), f"{ROOT}/{path}", room, None)
 
 
-def sweep(folder):
-    """Removes the room in a folder that a run which was killed has left."""
-    shutil.rmtree(f"{folder}/{ROOM}", ignore_errors=True)
-
-
-@contextlib.contextmanager
-def room_in(folder):
-    """A room: a folder for what is being made, which goes where this is left. The caller keeps other runs out."""
-    sweep(folder)
-    os.mkdir(f"{folder}/{ROOM}", 0o700)
-    try:
-        yield f"{folder}/{ROOM}"
-    finally:
-        sweep(folder)
-
-
-def remove_empty(folder, top):
-    """Removes a folder, and those above it that are then empty, as far as they lie below the folder top."""
-    with contextlib.suppress(OSError):
-        while folder.startswith(f"{top}/"):
-            os.rmdir(folder)
-            folder = os.path.dirname(folder)
-
-
 def text_of(path):
     """The text of a file of this checkout, and an empty one where there is none."""
     with contextlib.suppress(OSError), open(f"{ROOT}/{path}", encoding="utf-8") as file:
@@ -137,12 +101,11 @@ def text_of(path):
     return ""
 
 
-def files_in(folder, but=None):
-    """The files below a folder, but for one folder of it, by name, one folder after the other. A link counts as a
-    file."""
+def files_in(folder):
+    """The files below a folder, by name, one folder after the other. A link counts as a file."""
     for at, folders, names in os.walk(folder):
         links = [it for it in folders if os.path.islink(f"{at}/{it}")]
-        folders[:] = sorted(it for it in folders if f"{at}/{it}" != but)
+        folders.sort()
         yield from (f"{at}/{it}" for it in sorted([*names, *links]))
 
 
@@ -341,15 +304,6 @@ def run(main):
         sys.exit(2)
     except (OSError, RecursionError, Refused, UnicodeError, subprocess.SubprocessError) as error:
         sys.exit(f"{os.path.relpath(os.path.realpath(path), ROOT)}: {error}")
-
-
-def take_turn(file, say):
-    """Waits until no other run holds this file, and says first that it does so."""
-    try:
-        fcntl.flock(file, fcntl.LOCK_EX | fcntl.LOCK_NB)
-    except BlockingIOError:
-        say()
-        fcntl.flock(file, fcntl.LOCK_EX)
 
 
 @functools.cache

@@ -215,6 +215,19 @@ class Extracted(Program):
             put_bytes(program, self.path, room, 0o755)
 
 
+def bench():
+    """Where cargo puts the program that tools/bench runs."""
+    return f"{target_folder()}/release/trie_bench"
+
+
+def build_bench():
+    """Has cargo build that program."""
+    words = ["cargo", "build", "--release", "--locked", "--offline", "--package", "bench"]
+    done = ran([*words, "--target-dir", target_folder()], cwd=ROOT, text=True, errors="replace")
+    if done.returncode:
+        raise Refused(f"{done.stderr[-2000:]}trie_bench could not be built: cargo ended with status {done.returncode}")
+
+
 def lack_of_cargo():
     """What stands in the way of a build by cargo, or nothing."""
     if not shutil.which("cargo"):

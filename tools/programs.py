@@ -1,4 +1,5 @@
 """The programs of this checkout as cargo builds them, and what the toolchain builds beside `rt ci`."""
+import functools
 import json
 import os
 import re
@@ -36,6 +37,7 @@ def lack_of_cargo():
     return "" if is_new else f"cargo is {said.stdout.split()[1]}"
 
 
+@functools.cache
 def extracted(name):
     """The path of a program, which cargo builds where that has to be done."""
     if lack := lack_of_cargo():

@@ -183,7 +183,8 @@ fn from_sorted_and_push_refuse_rows() {
     const INSIDE_OUT: &str = "10.0.0.0/16 10.0.0.0/8";
     // For how many rows there is room, the networks, and how many rows the table has, or why it
     // isn't made and how many come back.
-    const MADE: [(Option<usize>, &str, Result<usize, (SortedWhy, usize)>); 8] = [
+    type Made = Result<usize, (SortedWhy, usize)>;
+    const MADE: [(Option<usize>, &str, Made); 8] = [
         (Some(3), RISING, Ok(3)),
         (Some(300), RISING, Ok(3)),
         (Some(2), RISING, Err((Full, 3))),

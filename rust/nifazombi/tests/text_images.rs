@@ -53,7 +53,8 @@ fn plain() -> Vec<u8> {
 #[test]
 fn get_nearest_and_rank_in_stored_images() {
     // The index of the own pair, that of the longest key that begins it, and the rank.
-    const LOOKS: [(&[u8], Option<usize>, Option<usize>, usize); 21] = [
+    type Look = (&'static [u8], Option<usize>, Option<usize>, usize);
+    const LOOKS: [Look; 21] = [
         (b"", Some(0), Some(0), 0),
         (b"\0", None, Some(0), 1),
         (b"a", Some(1), Some(1), 1),

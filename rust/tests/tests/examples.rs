@@ -241,7 +241,8 @@ fn range_gives_the_lines_of_a_while() -> Done {
     const LINES: [(u64, &str); 4] =
         [(1_200, "opened"), (70_000, "closed"), (1_300, "asked"), (1_250, "read")];
     // A time, another one, how many lines at most, and those from the one on and before the other.
-    const ROWS: [(u64, u64, usize, &[(u64, &str)]); 4] = [
+    type Row = (u64, u64, usize, &'static [(u64, &'static str)]);
+    const ROWS: [Row; 4] = [
         (1_201, 70_000, 10, &[(1_250, "read"), (1_300, "asked")]),
         (0, 70_001, 1, &[(1_200, "opened")]),
         (1_300, 1_200, 10, &[]),

@@ -1,6 +1,6 @@
 //! Times std's `HashMap` and the Rust crate `radix_trie` on the keys of standard input, for `tools/bench --plot`.
 //!
-//! A line is a key, a space and how many bytes of it are its beginning, as crates/trie_bench lists them. With no argument
+//! A line is a key, a space and how many bytes of it are its beginning, as rust/bench lists them. With no argument
 //! each line that is written is a call, a store and the nanoseconds of one call. With `keys`, `hash_map` or `crate` that
 //! store is held, and the line is how many pairs there are and the peak of memory in bytes.
 

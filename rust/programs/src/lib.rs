@@ -7,7 +7,7 @@ use std::process::ExitCode;
 
 include!(concat!(env!("OUT_DIR"), "/modules.rs"));
 
-/// Runs a program, or where `--help` or `--version` is its one word, writes its page or its version.
+/// Runs a program, or where `--help` or `--version` is its one word, writes its page or version.
 /// Words that it doesn't take end it with status 5.
 pub fn start(name: &str, page: &str, words: &[&str], run: fn() -> ExitCode) -> ExitCode {
     let given: Vec<OsString> = std::env::args_os().skip(1).collect();

@@ -198,7 +198,7 @@ def said_by(words, given=None, **how):
 
 
 def built(name, ending=""):
-    """The path of a program, as `rt ci` or its launcher built it, or in the folder PROGRAMS."""
+    """The path of a program, as `rt ci` built it or ./check put it here, or in the folder PROGRAMS."""
     return os.path.abspath(f"{os.environ.get('PROGRAMS') or f'{ROOT}/crates/{name}/out'}/{name}{ending}")
 
 

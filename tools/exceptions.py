@@ -84,9 +84,7 @@ UNTRIED = {
         "radix_trie": "Trie::insert.Full Trie::map_with_default.Full Trie::get_or_insert.Full Trie::try_insert.Full "
                       "Trie::from_iter.Full Trie::extend.Full Trie::graft.Full Entry::insert.Full Entry::or_insert.Full "
                       "Entry::or_insert_with.Full SubTrieMut::insert.Full",
-        "frozen_trie": "freeze.Full frozen_copy.Full FrozenTrie::push.Full FrozenTrie::from_sorted.Full "
-                       "FrozenTexts::push.Full FrozenTexts::from_sorted.Full",
-        "frozen_networks": "freeze.Full frozen_copy.Full",
+        "frozen_trie": "freeze.Full frozen_copy.Full", "frozen_networks": "freeze.Full frozen_copy.Full",
         "flat_routes": "ipv4::write.Full ipv6::write.Full", "flat_texts": "write.Full",
         "trie_set": "TrieSet::insert.Full"},
     "refused memory alone makes it, which the sessions refused_*.txt try": {"radix_trie": "Trie::merge.Stopped"},

@@ -50,7 +50,8 @@ CALLS = [
     (r"run_once", "run"),
     (r"(from_sorted|thaw)", r"FrozenTrie::\1"),
     (r"into_children", "SubTrieMut::into_children"),
-    (r"intersection|union|difference", "Combination::new + Combination::next"),
+    (r"(intersection|union|difference)", r"Combination::new + Combination::next + TrieSet::\1"),
+    (r"(symmetric_difference|is_(?:subset|superset|disjoint))", r"TrieSet::\1"),
     (r"cursor", "&PLACE::cursor + Cursor::next"),
     (r"cursor_back", "&PLACE::cursor_back + CursorBack::next"),
     (r"below", "PLACE::below + Cursor::next"),
@@ -60,6 +61,14 @@ CALLS = [
     (r"(iter|keys|values|prefix)", r"&PLACE::\1"),
     (r"(\S*)", r"PLACE::\1"),
 ]
+# What a line of route_tool calls in the library, or one of these, by the table that its routes are in and their family.
+ROUTE_CALLS = {
+    "add": "Trie::insert", "del": "Trie::remove", "below": "Trie::get_raw_descendant", "compact": "frozen_copy",
+    "look": "Trie::nearest + FrozenRoutes::longest_match", "find": "Trie::nearest + FrozenRoutes::longest_match",
+    "open": "ipv4::from_image + ipv6::from_image + thawed_copy", "aggregate": "least",
+    "write_ipv4": "FrozenRoutes::from_sorted + ipv4::to_image",
+    "write_ipv6": "FrozenRoutes::from_sorted + ipv6::to_image",
+}
 ESCAPE = re.compile(rb"\\(?:x([0-9a-f]{2})|\((.)\*(\d+)\)|(\\))")
 
 
@@ -197,6 +206,12 @@ def calls_of(line, place):
     text = next(found.expand(calls) for found, calls in finds if found).replace("PLACE", place)
     inner = rest.partition(" ")[2].split(" ; ") if name in ("with", "with_subtrie_mut") else []
     return [*filter(None, text.split(" + ")), *(it for call in inner for it in calls_of(call, "SubTrieMut"))]
+
+
+def route_calls(session):
+    """The library's calls of each line of a session of route_tool."""
+    for it in session.exchanges:
+        yield ROUTE_CALLS.get(it.line.decode(errors="replace").partition(" ")[0].strip(), "").split(" + ")
 
 
 def shell_calls(session):

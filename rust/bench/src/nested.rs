@@ -35,7 +35,7 @@ pub fn answer(line: &str, count: usize) -> Result<(), Box<dyn Error>> {
     // The longest key is grafted, below all others.
     if let Some(key) = keys.last() {
         let part = copy.split_off_prefix(key)?;
-        step(line, "graft", || copy.graft(part)).unwrap();
+        step(line, "graft", || copy.graft(part).ok()).unwrap();
         assert_eq!(copy.get(key)?, Some(&count));
     }
     step(line, "remove", || {

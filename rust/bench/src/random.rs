@@ -21,8 +21,8 @@ impl Random {
 
     /// A number from one up to another.
     pub fn within(&mut self, least: u64, most: u64) -> u64 {
-        let count = u128::from(most - least) + 1;
-        least + (u128::from(self.next()) * count >> 64) as u64
+        let product = u128::from(self.next()) * (u128::from(most - least) + 1);
+        least + (product >> 64) as u64
     }
 
     pub fn shuffle<T>(&mut self, items: &mut [T]) {

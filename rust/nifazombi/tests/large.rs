@@ -92,7 +92,7 @@ fn get_and_longest_match_of_large_frozen_texts() {
 }
 
 #[test]
-fn a_walk_of_a_large_trie_is_in_order() {
+fn iter_of_a_large_trie_is_in_order() {
     let paths = paths();
     let mut trie: Trie<&str, u64> = Trie::new(Global);
     for (key, value) in paths.iter().rev() {

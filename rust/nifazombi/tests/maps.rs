@@ -95,6 +95,8 @@ where
         assert_eq!(map.get_key_value(key).unwrap().map(|pair| pair.1), value.as_ref(), "{key:?}");
         assert_eq!(map.contains_key(key).unwrap(), value.is_some(), "{key:?}");
         assert_eq!(lookup(map, key).unwrap(), above.last(), "{key:?}");
+        let longest = map.longest_match(key).unwrap().map(|pair| pair.1);
+        assert_eq!(longest, above.last(), "{key:?}");
         assert_eq!(map.count_below(key).unwrap(), below.len(), "{key:?}");
         let page = first_below(Global, map, key, 2).unwrap();
         assert_eq!(page.len(), below.len().min(2), "{key:?}");
@@ -221,4 +223,12 @@ fn push_and_from_sorted_refuse_keys_out_of_order() {
         let refused = FrozenTexts::from_sorted(Global, pairs).err().unwrap();
         assert_eq!((refused.why, refused.back.len()), (SortedWhy::OutOfOrder(2), 3));
     }
+}
+
+#[test]
+fn get_mut_writes_a_value_of_frozen_texts() {
+    let (_, mut texts) = frozen_forms();
+    assert_eq!(texts.get_mut(b"ac"), None);
+    *texts.get_mut(b"ab").unwrap() = 7;
+    assert_eq!((texts.get(b"ab"), texts.get(b"a")), (Some(&7), Some(&0)));
 }

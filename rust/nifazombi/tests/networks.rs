@@ -356,6 +356,7 @@ fn from_sorted_takes_the_rows_of_a_trie() {
     let found = ["10.1.2.3", "10.1.3.3", "10.2.2.3", "11.1.2.3"]
         .map(|text| routes.longest_match(&text.parse::<Ipv4Addr>().unwrap()).map(|row| *row.1));
     assert_eq!(found, [Some(3), Some(2), Some(1), None]);
+    assert!(routes.into_rows().into_iter().map(|row| row.1).eq([1, 2, 3]));
 }
 
 #[test]

@@ -50,7 +50,7 @@ fn payload_is_kept_from_the_check_on() {
 }
 
 #[test]
-fn lookups_by_hand() {
+fn longest_match_index_by_hand() {
     const LOOKS: [(&str, Option<usize>); 8] = [
         ("0.0.0.0", None),
         ("10.0.255.255", Some(0)),
@@ -71,7 +71,7 @@ fn lookups_by_hand() {
 }
 
 #[test]
-fn rows_by_hand() {
+fn get_and_all_other_calls_by_hand() {
     let image = image_by_hand(ROWS);
     let routes = Routes::<Ipv4Addr>::new(&image).unwrap();
     let wide = route("10.0.0.0", 8, 100);
@@ -97,7 +97,7 @@ fn rows_by_hand() {
 }
 
 #[test]
-fn a_wide_image_by_hand() {
+fn longest_matches_and_other_calls_of_ipv6_by_hand() {
     let image = wide_image_by_hand();
     assert_eq!(fault(&image), Some(ImageError::Mark));
     let routes = Routes::<Ipv6Addr>::new(&image).unwrap();
@@ -115,7 +115,7 @@ fn a_wide_image_by_hand() {
 }
 
 #[test]
-fn images_with_another_byte() {
+fn new_tells_what_another_byte_breaks() {
     use ImageError::*;
     const SPOILT: [(usize, u8, ImageError); 21] = [
         (0, b'M', Mark),
@@ -150,7 +150,7 @@ fn images_with_another_byte() {
 }
 
 #[test]
-fn images_that_end_early() {
+fn new_tells_where_an_image_ends_early() {
     let image = image_by_hand(ROWS);
     for end in 0..image.len() {
         let error = [ImageError::Short, ImageError::Part(0)][usize::from(end >= 64)];
@@ -159,7 +159,7 @@ fn images_that_end_early() {
 }
 
 #[test]
-fn a_row_of_more_bits_than_a_byte_tells() {
+fn route_at_of_more_bits_than_a_byte_tells() {
     let spoilt = spoilt(&image_by_hand(ROWS), 69, 1);
     let routes = Routes::<Ipv4Addr>::unchecked(&spoilt);
     assert_eq!(routes.route_at(0), Some(route("10.0.0.0", u8::MAX, 100)));
@@ -180,7 +180,7 @@ fn first_wrong(rows: &[[u32; 4]; 3]) -> Option<usize> {
 }
 
 #[test]
-fn each_flipped_bit_of_the_rows() {
+fn new_tells_each_flipped_bit_of_the_rows() {
     for bit in 0..8 * 48 {
         let mut rows = ROWS;
         rows.as_flattened_mut()[bit / 32] ^= 1 << (bit % 32);
@@ -292,7 +292,7 @@ fn compare_with_a_search_through_all<A: Number>(count: usize) {
 }
 
 #[test]
-fn random_tables() {
+fn longest_match_and_all_other_calls_beside_a_search_through_all() {
     for count in [0, 1, 7, 60, 200, 400] {
         compare_with_a_search_through_all::<Ipv4Addr>(count);
         compare_with_a_search_through_all::<Ipv6Addr>(count);
@@ -300,7 +300,7 @@ fn random_tables() {
 }
 
 #[test]
-fn many_addresses() {
+fn longest_matches_of_many_addresses() {
     let mut random = Random::new(1);
     let image = routes_image(&random_table::<Ipv4Addr>(&mut random, 300), b"").unwrap();
     let routes = Routes::<Ipv4Addr>::new(&image).unwrap();
@@ -364,13 +364,13 @@ fn call_all_on_what_is_nearly_an_image<A: Number>() {
 }
 
 #[test]
-fn any_bytes() {
+fn unchecked_takes_any_bytes() {
     call_all_on_what_is_nearly_an_image::<Ipv4Addr>();
     call_all_on_what_is_nearly_an_image::<Ipv6Addr>();
 }
 
 #[test]
-fn what_is_not_written() {
+fn routes_image_refuses_what_is_no_table() {
     use WriteError::*;
     let (wide, long) = (route("10.0.0.0", 8, 1), route("10.0.0.0", 16, 2));
     let refused = |table: &[_]| routes_image(table, b"").err();

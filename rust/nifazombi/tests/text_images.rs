@@ -5,7 +5,7 @@ mod common;
 use common::{bytes_of, flipped, image};
 use nifazombi::flat_texts::{
     ImageError, Pair, WriteError, above, below, between, check, from_image, get, image_len,
-    is_image, len, nearest, nth, payload, prefixes, rank, to_image, write,
+    is_image, len, nearest, nth, payload, place_at, prefixes, rank, to_image, write,
 };
 use nifazombi::rattle_std::alloc::Global;
 
@@ -92,6 +92,8 @@ fn nth_and_above_by_the_index() {
     for at in 0..9 {
         let pair = nth(&stored, at).map(|it| (it.key, it.value));
         assert_eq!(pair, Some((KEYS[at], 10 + at as u64)));
+        let place = place_at(&stored, at).unwrap();
+        assert_eq!(stored[place.first..place.first + place.len], *KEYS[at]);
         assert_eq!(above(&stored, at), (LINKS[at] as usize).checked_sub(1), "{at}");
     }
     assert!(nth(&stored, 9).is_none() && above(&stored, 9).is_none());

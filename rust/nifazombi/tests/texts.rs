@@ -8,7 +8,7 @@ use std::collections::BTreeMap;
 const PAIRS: [(&[u8], u64); 3] = [(b"", 7), (b"a", 8), (b"ab", 9)];
 
 #[test]
-fn a_map_by_hand() {
+fn get_and_all_other_calls_by_hand() {
     let image = texts_image(&PAIRS, b"").unwrap();
     let texts = Texts::new(&image).unwrap();
     let [none, a, ab] = PAIRS;
@@ -38,7 +38,7 @@ fn payload_is_kept_from_the_check_on() {
 }
 
 #[test]
-fn no_images() {
+fn new_refuses_what_is_no_image() {
     use ImageError::*;
     let image = texts_image(&PAIRS, b"").unwrap();
     let faults: Vec<_> =
@@ -106,14 +106,14 @@ fn compare_with_a_map(count: usize) {
 }
 
 #[test]
-fn random_maps() {
+fn get_and_all_other_calls_beside_a_map() {
     for count in [0, 1, 7, 60, 400] {
         compare_with_a_map(count);
     }
 }
 
 #[test]
-fn so_many_keys_that_they_are_counted() {
+fn get_and_rank_of_so_many_keys_that_they_are_counted() {
     let keys: Vec<_> = (0..70_000).map(|number| (format!("{number:05}"), number)).collect();
     let image = texts_image(&keys, b"").unwrap();
     let texts = Texts::new(&image).unwrap();
@@ -145,7 +145,7 @@ fn call_all(bytes: &[u8], random: &mut Random) {
 }
 
 #[test]
-fn any_bytes() {
+fn unchecked_takes_any_bytes() {
     let mut random = Random::new(2);
     let map = random_map(&mut random, 6);
     let small = texts_image(&pairs(&map), b"").unwrap();
@@ -164,7 +164,7 @@ fn any_bytes() {
 }
 
 #[test]
-fn what_is_not_written() {
+fn texts_image_refuses_keys_out_of_order() {
     use WriteError::*;
     let refused = |pairs: &[(&str, u64)]| texts_image(pairs, b"").err();
     assert_eq!(refused(&[]), None);
@@ -174,7 +174,7 @@ fn what_is_not_written() {
 }
 
 #[test]
-fn texts_of_rusts_library_are_keys() {
+fn insert_takes_texts_of_rusts_library() {
     use nifazombi::radix_trie::prelude::*;
     use nifazombi::rattle_std::alloc::Global;
     let mut words: Trie<String, u64> = Trie::new(Global);

@@ -1,4 +1,5 @@
-//! First steps with tries, sets of keys and walks.
+//! First steps with tries, sets of keys, walks and lists of nibbles.
+use nifazombi::radix_keys::{AsNibbles, NibbleSlice};
 use nifazombi::radix_trie::{Trie, TrieCommon};
 use nifazombi::rattle_std::alloc::Global;
 use nifazombi::trie_set::TrieSet;
@@ -38,4 +39,24 @@ fn iter_keys_and_values_give_each_pair_once() {
     assert_eq!((&trie).iter().unwrap().count(), 2);
     assert!(TrieCommon::keys(&trie).unwrap().eq(&[7, 300]));
     assert!(TrieCommon::values(&trie).unwrap().eq(&[1, 2]));
+}
+
+#[test]
+fn take_pop_first_and_clear_of_the_set_of_a_trie() {
+    let keys = ["tea", "ten", "inn", "to"].map(|key| (key, ()));
+    let trie = Trie::from_iter(Global, keys.into_iter()).ok().unwrap();
+    let mut set = TrieSet::from_trie(Global, trie);
+    assert_eq!(set.as_trie().len(), 4);
+    assert_eq!([set.take(&"ten").unwrap(), set.take(&"ten").unwrap()], [Some("ten"), None]);
+    assert_eq!(set.pop_first().unwrap(), Some("inn"));
+    set.clear();
+    assert!(set.is_empty() && set.into_trie().is_empty());
+}
+
+#[test]
+fn starts_with_and_get_of_the_nibbles_of_bytes() {
+    let (short, long) = (NibbleSlice::from_bytes(b"a"), "ab".as_nibbles().unwrap());
+    assert_eq!((long.len(), long.is_empty(), long.get(0), long.get(3)), (4, false, 6, 2));
+    assert_eq!(long.as_packed(), (&b"ab"[..], false));
+    assert!(long.starts_with(&short) && !short.starts_with(&long));
 }

@@ -75,7 +75,7 @@ fn check(log: &Log, what: &str) {
 }
 
 #[test]
-fn a_tree_drops_each_key_and_then_its_value_once() {
+fn drop_of_a_tree_takes_each_key_and_then_its_value_once() {
     for form in 0..64 {
         for count in [1, 2, 3, 4, 5, 8, 30, 300] {
             let log = Rc::new(Log::default());
@@ -89,7 +89,7 @@ fn a_tree_drops_each_key_and_then_its_value_once() {
 }
 
 #[test]
-fn a_drop_that_panics_leaves_no_other_one_out() {
+fn drop_that_panics_leaves_no_other_one_out() {
     for form in 0..16 {
         for bad in (0..20).flat_map(|number| [(number, false), (number, true)]) {
             let log = Rc::new(Log::default());
@@ -102,7 +102,7 @@ fn a_drop_that_panics_leaves_no_other_one_out() {
 }
 
 #[test]
-fn a_chain_of_a_million_nodes_needs_no_deep_stack() {
+fn drop_of_a_chain_of_a_million_nodes_needs_no_deep_stack() {
     for leaves in [0, 2] {
         let mut top = TrieNode::<u8, u8>::new(Global);
         for _ in 0..1_000_000 {

@@ -40,8 +40,14 @@ fn text_that_cannot_be_written_is_a_failure() {
 
 #[test]
 fn other_words_are_told_and_run_nothing() {
-    let wrong: [&[&str]; 6] =
-        [&["--other"], &[""], &["--help", "--help"], &["len"], &["--strict=1"], &["--read-on", "x"]];
+    let wrong: [&[&str]; 6] = [
+        &["--other"],
+        &[""],
+        &["--help", "--help"],
+        &["len"],
+        &["--strict=1"],
+        &["--read-on", "x"],
+    ];
     for (name, path) in PROGRAMS {
         for words in wrong {
             let told = ran(path, words);

@@ -3,7 +3,7 @@ use std::path::Path;
 use std::{env, fs};
 
 fn main() {
-    extract::package::build(Some(&["trie_tests", "trie_examples"]));
+    extract::package::build(Some(&extract::package::TESTS));
     let out = env::var("OUT_DIR").expect("Cargo tells where");
     open(&Path::new(&out).join("trie_examples"));
 }

@@ -105,7 +105,7 @@ fn each_token_belongs_to_the_source_or_to_a_rule() {
         let (put, left) = (count(&all.put), count(&all.left));
         println!("{:13} puts {put:6}, leaves out {left:6}: {}", rule.name, rule.what);
     }
-    assert!(all.same > 200_000);
+    assert!(all.same > 150_000);
 }
 
 #[test]

@@ -9,7 +9,7 @@ pub fn memchr(needle: u8, haystack: &[u8]) -> Option<usize> {
     let (words, _) = haystack.as_chunks::<8>();
     // A byte is zero where taking one from it borrows, and its highest bit wasn't set.
     let holds = |word: &[u8; 8]| {
-        let rest = u64::from_ne_bytes(*word) ^ u64::from(needle) * LOWEST;
+        let rest = u64::from_ne_bytes(*word) ^ (u64::from(needle) * LOWEST);
         rest.wrapping_sub(LOWEST) & !rest & HIGHEST != 0
     };
     let front = 8 * words.iter().position(holds).unwrap_or(words.len());

@@ -22,9 +22,7 @@ fn all<S>(count: usize, store: impl Fn() -> S, len: impl Fn(&S) -> usize) -> usi
 
 fn map_of<K: Key, L, B>(queries: &[Query<K, L, B>]) -> BTreeMap<K, u64> {
     let mut map = BTreeMap::new();
-    for query in queries {
-        map.insert(query.key, query.value);
-    }
+    map.extend(queries.iter().map(|it| (it.key, it.value)));
     map
 }
 

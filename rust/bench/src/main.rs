@@ -6,7 +6,6 @@
 
 mod held;
 mod nested;
-mod pages;
 mod random;
 mod report;
 mod routes;
@@ -14,12 +13,15 @@ mod sample;
 mod stores;
 
 use report::Report;
-use sample::{Style, Text};
+use sample::{AddressQuery, Text};
 use std::error::Error;
 use std::io;
 use std::net::{Ipv4Addr, Ipv6Addr};
 
-fn main() -> Result<(), Box<dyn Error>> {
+/// Whether a line was answered.
+type Answered = Result<(), Box<dyn Error>>;
+
+fn main() -> Answered {
     let mut given = Vec::new();
     for line in io::stdin().lines() {
         let line = line?;
@@ -32,41 +34,40 @@ fn main() -> Result<(), Box<dyn Error>> {
 }
 
 /// Answers a line.
-fn answer(line: &str, given: &[Text]) -> Result<(), Box<dyn Error>> {
+fn answer(line: &str, given: &[Text]) -> Answered {
     let mut words = line.split_whitespace();
     let kind = words.next().unwrap_or("");
     let count = words.next().unwrap_or("").parse().map_err(|_| "no count of keys")?;
     let (store, mut report) = (words.next(), Report::new(line));
-    let style = match kind {
-        "words" => Style::Words,
-        "paths" => Style::Paths,
-        "numbers" => Style::Numbers,
-        "given" => return texts(line, store, &given[..given.len().min(count as usize)]),
-        "addresses" => {
-            let mut queries = sample::addresses(count);
-            match store {
-                None => stores::answer(&mut report, &mut queries, |_, _, _| ()),
-                Some(store) => println!("{line} {}", held::pairs(store, &queries)?),
-            }
-            return Ok(());
-        }
-        "ipv4" => return routes::answer::<Ipv4Addr>(&mut report, count),
-        "ipv6" => return routes::answer::<Ipv6Addr>(&mut report, count),
-        "pages" => return pages::answer(&mut report, count),
-        "chain" => return nested::answer(line, count as usize),
-        _ => return Err(format!("no such keys: {kind}").into()),
-    };
-    texts(line, store, &sample::texts(style, count))
+    match kind {
+        "words" | "paths" | "numbers" => texts(line, store, &sample::texts(kind, count)),
+        "given" => texts(line, store, &given[..given.len().min(count as usize)]),
+        "addresses" => addresses(line, store, &mut sample::addresses(count)),
+        "ipv4" => routes::answer::<Ipv4Addr>(&mut report, count),
+        "ipv6" => routes::answer::<Ipv6Addr>(&mut report, count),
+        "pages" => stores::answer_pages(&mut report, count),
+        "chain" => nested::answer(line, count as usize),
+        _ => Err(format!("no such keys: {kind}").into()),
+    }
 }
 
 /// Answers a line about texts.
-fn texts(line: &str, store: Option<&str>, keys: &[Text]) -> Result<(), Box<dyn Error>> {
+fn texts(line: &str, store: Option<&str>, keys: &[Text]) -> Answered {
     let mut queries: Vec<_> = keys.iter().map(Text::query).collect();
     match store {
         None => stores::answer(&mut Report::new(line), &mut queries, stores::answer_texts),
         Some("list") => print!("{}", sample::list(&queries)),
         Some("texts") => println!("{line} {}", held::texts(&queries)),
         Some(store) => println!("{line} {}", held::pairs(store, &queries)?),
+    }
+    Ok(())
+}
+
+/// Answers a line about addresses.
+fn addresses(line: &str, store: Option<&str>, queries: &mut [AddressQuery]) -> Answered {
+    match store {
+        None => stores::answer(&mut Report::new(line), queries, |_, _, _| ()),
+        Some(store) => println!("{line} {}", held::pairs(store, queries)?),
     }
     Ok(())
 }

@@ -5,9 +5,6 @@ use nifazombi::rattle_std::alloc::Global;
 use std::error::Error;
 use std::time::Instant;
 
-/// One key of so many is looked up.
-const LOOKED_UP: usize = 100;
-
 /// Makes each step in turn on keys of one to so many equal bytes, and tells the time that it took.
 pub fn answer(line: &str, count: usize) -> Result<(), Box<dyn Error>> {
     let bytes = vec![b'a'; count];
@@ -19,7 +16,7 @@ pub fn answer(line: &str, count: usize) -> Result<(), Box<dyn Error>> {
         }
     });
     step(line, "get", || {
-        for key in keys.iter().step_by(LOOKED_UP) {
+        for key in keys.iter().step_by(100) {
             assert_eq!(nested.get(key).unwrap(), Some(&key.len()));
         }
     });

@@ -24,6 +24,9 @@ pub struct Query<K, L, B> {
 /// What is asked about the key of a text: all of these are parts of it.
 pub type TextQuery<'a> = Query<&'a [u8], &'a [u8], &'a [u8]>;
 
+/// What is asked about an address, from which a port goes on, and which begins with its network.
+pub type AddressQuery = Query<u32, u64, u16>;
+
 /// The beginning of keys of a type.
 pub trait Beginning<K>: AsNibbles {
     /// Whether the key begins so.
@@ -42,17 +45,6 @@ impl Beginning<u32> for u16 {
     }
 }
 
-/// What texts are like.
-#[derive(Clone, Copy)]
-pub enum Style {
-    /// Short made words.
-    Words,
-    /// Paths of files, with long shared prefixes.
-    Paths,
-    /// Decimal numbers.
-    Numbers,
-}
-
 /// A text: the bytes of a key, and one letter more.
 pub struct Text {
     whole: String,
@@ -60,30 +52,27 @@ pub struct Text {
     beginning: usize,
 }
 
-/// How many bytes of a given key are its beginning, at most.
-const GIVEN: usize = 4;
-
 /// Of two letters each.
 const SYLLABLES: &str = "anbecodeerfigahoinjokalominoorpequrestth";
 
 const FOLDERS: &str = "usr share lib python3 site-packages include src main test doc";
 
-/// So many texts.
-pub fn texts(style: Style, count: u32) -> Vec<Text> {
+/// So many texts: words, paths or numbers.
+pub fn texts(kind: &str, count: u32) -> Vec<Text> {
     let mut random = Random::new();
     let text = |value| {
         let mut whole = String::new();
-        let beginning = add(&mut whole, style, &mut random, count.into());
+        let beginning = add(&mut whole, kind, &mut random, count.into());
         Text { whole: whole + "x", value, beginning }
     };
     (1..=count.into()).map(text).collect()
 }
 
 /// Adds a text, and returns how long its beginning is.
-fn add(text: &mut String, style: Style, random: &mut Random, count: u64) -> usize {
-    match style {
+fn add(text: &mut String, kind: &str, random: &mut Random, count: u64) -> usize {
+    match kind {
         // Two to six syllables, of which the first two are the beginning.
-        Style::Words => {
+        "words" => {
             for _ in 0..random.within(2, 6) {
                 let place = 2 * random.within(0, SYLLABLES.len() as u64 / 2 - 1) as usize;
                 *text += &SYLLABLES[place..place + 2];
@@ -91,7 +80,7 @@ fn add(text: &mut String, style: Style, random: &mut Random, count: u64) -> usiz
             4
         }
         // Three to eight folders, which are the beginning, and a file with a number.
-        Style::Paths => {
+        "paths" => {
             for _ in 0..random.within(3, 8) {
                 text.push('/');
                 *text += FOLDERS.split(' ').nth(random.within(0, 9) as usize).unwrap();
@@ -101,7 +90,7 @@ fn add(text: &mut String, style: Style, random: &mut Random, count: u64) -> usiz
             folders
         }
         // A number up to ten times the count, which begins with all but two digits.
-        Style::Numbers => {
+        _ => {
             write!(text, "{}", random.within(0, 10 * count)).unwrap();
             text.len().saturating_sub(2)
         }
@@ -109,11 +98,11 @@ fn add(text: &mut String, style: Style, random: &mut Random, count: u64) -> usiz
 }
 
 impl Text {
-    /// A given key, which stood on a line: its first bytes are its beginning, and no key has the
-    /// end of a line.
+    /// A given key, which stood on a line: its first four bytes are its beginning, and no key has
+    /// the end of a line.
     pub fn given(key: &str, number: usize) -> Text {
         let whole = format!("{key}\n");
-        Text { whole, value: number as u64 + 1, beginning: key.len().min(GIVEN) }
+        Text { whole, value: number as u64 + 1, beginning: key.len().min(4) }
     }
 
     /// What is asked about the text's key.
@@ -133,9 +122,8 @@ pub fn list(queries: &[TextQuery]) -> String {
     })
 }
 
-/// What is asked about so many addresses, which are even. From each a port goes on, and it begins
-/// with its network.
-pub fn addresses(count: u32) -> Vec<Query<u32, u64, u16>> {
+/// What is asked about so many addresses, which are even.
+pub fn addresses(count: u32) -> Vec<AddressQuery> {
     let mut random = Random::new();
     let query = |value| {
         let key = random.next() as u32 & !1;

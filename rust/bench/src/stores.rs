@@ -9,6 +9,7 @@ use nifazombi::rattle_std::alloc::Global;
 use nifazombi::rattle_std::clone::Clone as TryClone;
 use nifazombi::rattle_std::vec::Vec as List;
 use std::collections::BTreeMap;
+use std::error::Error;
 
 /// How many prefixes are asked for what is below them, at most.
 const BEGINNINGS: usize = 10_000;
@@ -145,4 +146,22 @@ pub fn texts_of<'k>(pairs: impl Iterator<Item = (&'k [u8], u64)>) -> FrozenTexts
     }
     texts.finish().unwrap();
     texts
+}
+
+/// The rows of the numbers below `count`: of the first ones that begin with a byte of zeros, by the
+/// call that makes a page of them and by a walk.
+pub fn answer_pages(report: &mut Report, count: u32) -> Result<(), Box<dyn Error>> {
+    let (mut trie, prefixes) = (Trie::new(Global), [0u8; 100]);
+    for number in 0..count {
+        trie.insert(number, u64::from(number))?;
+    }
+    let page = report.each("first_below page", &prefixes, |prefix| {
+        sum(trie.first_below(prefix, SHOWN).unwrap().iter().map(|pair| pair.1))
+    });
+    let walk = report.each("walk walk", &prefixes, |prefix| {
+        let Some(view) = trie.get_raw_descendant(prefix).unwrap() else { return 0 };
+        sum(TrieCommon::values(&view).unwrap().take(SHOWN))
+    });
+    assert_eq!(page, walk);
+    Ok(())
 }

@@ -146,6 +146,7 @@ class Extracted(Program):
 
     def __init__(self, name):
         super().__init__(name)
+        self.package = "shell" if name == SHELL else "programs"
         self.target = target_folder()
         self.path, self.lock = f"{self.target}/launcher/{name}", f"{self.target}/launcher/lock"
         self.record = f"{self.path}.record"
@@ -157,7 +158,7 @@ class Extracted(Program):
 
     def sources(self):
         crates = [*below(self.name, uses_of_crates()), self.name]
-        folders = [*(f"{ROOT}/rust/{it}" for it in self.PACKAGES), *(f"{ROOT}/crates/{it}/src" for it in crates)]
+        folders = [*(f"{ROOT}/rust/{it}" for it in sorted({*self.PACKAGES, self.package})), *(f"{ROOT}/crates/{it}/src" for it in crates)]
         paths = [f"{ROOT}/{it}" for it in ("crates.txt", "Cargo.toml", "Cargo.lock")]
         return [*paths, *(it for folder in folders for it in files_in(folder))]
 
@@ -200,7 +201,7 @@ class Extracted(Program):
 
     def build(self, turn):
         """Has cargo build it. The turn is cargo's too, as it is the toolchain's."""
-        words = ["cargo", "build", "--release", "--locked", "--offline", "--package", "programs", "--bin", self.name]
+        words = ["cargo", "build", "--release", "--locked", "--offline", "--package", self.package, "--bin", self.name]
         words += ["--target-dir", self.target, "--message-format", "json-render-diagnostics"]
         done = ran(words, cwd=ROOT, pass_fds=[turn], text=True, errors="replace")
         paths = [*filter(None, map(self.executable, done.stdout.split("\n")))]

@@ -146,9 +146,9 @@ def unescaped(text):
 
 def sessions_of(program):
     """The sessions of all files in the program's folder."""
-    found = []
+    found, folder = [], "rust/shell" if program == "trie_shell" else f"crates/{program}"
     for kind in ("sessions", "runs"):
-        for path in sorted(pathlib.Path(ROOT, "crates", program, kind).glob("*")):
+        for path in sorted(pathlib.Path(ROOT, folder, kind).glob("*")):
             found += [Session(path.name)] if kind == "runs" else []
             for line in filter(None, path.read_bytes().split(b"\n")):
                 if line.startswith(b"= "):

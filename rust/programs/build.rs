@@ -1,12 +1,4 @@
 //! Writes the proved programs of `crates/`, and the libraries that they alone name, as modules.
 fn main() {
-    extract::package::build(Some(&[
-        "line_sessions",
-        "whole_files",
-        "trie_tool",
-        "route_tool",
-        "shell_words",
-        "shell_calls",
-        "trie_shell",
-    ]));
+    extract::package::build(Some(&["line_sessions", "whole_files", "trie_tool", "route_tool"]));
 }

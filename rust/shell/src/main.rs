@@ -1,0 +1,4 @@
+//! The program.
+fn main() -> std::process::ExitCode {
+    shell::shell::main()
+}

@@ -60,6 +60,8 @@ CALLS = [
     (r"(iter|keys|values|prefix)", r"&PLACE::\1"),
     (r"(\S*)", r"PLACE::\1"),
 ]
+# What marks a line of a session of trie_shell whose call of the library takes no memory: the shell isn't given it.
+INLINE = b"inline "
 ESCAPE = re.compile(rb"\\(?:x([0-9a-f]{2})|\((.)\*(\d+)\)|(\\))")
 
 
@@ -67,7 +69,8 @@ class Exchange:
     """A line of input, its answer, and what stands on standard error where it ends the session."""
 
     def __init__(self, line):
-        self.line, self.answer, self.told = line, b"", b""
+        self.line, self.answer, self.told = line.removeprefix(INLINE), b"", b""
+        self.is_inline = line.startswith(INLINE)
 
 
 class Session:
@@ -200,12 +203,11 @@ def calls_of(line, place):
 
 
 def shell_calls(session):
-    """Each exchange of a session of trie_shell, the library's calls in it, and whether they are said to be inline."""
+    """Each exchange of a session of trie_shell, and the library's calls in it."""
     places = ["Trie"]
     for it in session.exchanges:
         line = it.line.decode(errors="replace").rstrip("\n")
-        is_inline, line = line.split(" ")[0] == "inline", line.removeprefix("inline ")
-        yield it, calls_of(line, places[-1]), is_inline
+        yield it, calls_of(line, places[-1])
         name, *rest = line.split(" ")
         if name in ("open", "open_mut", "subtrie_mut") and b" " in it.answer.replace(b"no key", b""):
             places.append("SubTrie" if name == "open" else "SubTrieMut")

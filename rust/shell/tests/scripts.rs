@@ -3,7 +3,7 @@
 use std::path::Path;
 use std::process::Command;
 
-/// Has a script of `tools/` try the built programs. What it says is shown where something fails.
+/// Has a script of `tools/` try the built shell. What it says is shown where something fails.
 fn passes(script: &str, words: &[&str]) {
     let root = Path::new(env!("CARGO_MANIFEST_DIR")).join("../..");
     let programs = Path::new(env!("CARGO_BIN_EXE_trie_shell")).parent().expect("it is in a folder");
@@ -20,16 +20,11 @@ fn passes(script: &str, words: &[&str]) {
 }
 
 #[test]
-fn stored_sessions_of_trie_shell() {
+fn stored_sessions() {
     passes("faults", &["--once", "trie_shell"]);
 }
 
 #[test]
-fn random_sessions_of_trie_shell_and_refused_allocations_in_them() {
+fn random_sessions() {
     passes("random_tries", &[]);
-}
-
-#[test]
-fn refused_allocations_and_failing_streams_of_trie_shell() {
-    passes("faults", &["--sample", "20", "trie_shell"]);
 }

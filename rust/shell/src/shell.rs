@@ -1,5 +1,6 @@
 //! The shell: tries and frozen ones by their names, and the views that are open in the current one.
 use crate::answer::{OTHER_COUNT, answer_behind};
+use crate::own::own;
 use crate::prelude::*;
 use crate::table::{Call, called};
 use crate::words::Words;
@@ -92,10 +93,10 @@ impl Shell {
         let trie = &mut self.current.trie;
         match self.view_paths.last() {
             Some(ViewPath { path, is_for_writing: true }) => {
-                call.in_write_view(trie.open_mut(path)?, answer)
+                call.in_write_view(own(|| trie.open_mut(path))?, answer)
             }
             Some(ViewPath { path, .. }) => {
-                let view = trie.subtrie(path)?.ok_or(Stop::Said("closed"))?;
+                let view = own(|| trie.subtrie(path))?.ok_or(Stop::Said("closed"))?;
                 call.view.ok_or(Stop::Said(NOT_HERE))?(&view, answer)
             }
             None => call.whole.or(call.trie).ok_or(Stop::Said(NOT_HERE))?(trie, answer),

@@ -28,3 +28,8 @@ fn stored_sessions() {
 fn random_sessions() {
     passes("random_tries", &[]);
 }
+
+#[test]
+fn failing_streams_and_files() {
+    passes("faults", &["--sample", "20", "trie_shell"]);
+}

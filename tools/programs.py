@@ -8,11 +8,10 @@ import re
 import shutil
 import subprocess
 
-from shared import ROOT, Refused, below, bytes_of, files_in, put_bytes, ran, read_text, room_in, said_by, started
+from shared import ROOT, SHELL, Refused, below, bytes_of, files_in, put_bytes, ran, read_text, room_in, said_by, started
 from shared import sum_of, take_turn, uses_of_crates
 
 PAGES = {"trie_tool": "docs/PROGRAM.md", "route_tool": "docs/ROUTES.md", "trie_shell": "docs/SHELL.md"}
-SHELL = "trie_shell"
 ARCHIVE, BY_LLVM = "out/libnifazombi_c.a", ".by-llvm"
 # What is said of a program that isn't the proved one.
 PROVES = "./check, which takes rt, proves it"
@@ -157,8 +156,11 @@ class Extracted(Program):
         return " ".join(said.decode(errors="replace").split()[:2])
 
     def sources(self):
-        crates = [*below(self.name, uses_of_crates()), self.name]
-        folders = [*(f"{ROOT}/rust/{it}" for it in sorted({*self.PACKAGES, self.package})), *(f"{ROOT}/crates/{it}/src" for it in crates)]
+        uses = uses_of_crates()
+        # A program that isn't one of the crates stands on any of them.
+        crates = [*below(self.name, uses), self.name] if self.name in uses else [*uses]
+        packages = sorted({*self.PACKAGES, self.package})
+        folders = [*(f"{ROOT}/rust/{it}" for it in packages), *(f"{ROOT}/crates/{it}/src" for it in crates)]
         paths = [f"{ROOT}/{it}" for it in ("crates.txt", "Cargo.toml", "Cargo.lock")]
         return [*paths, *(it for folder in folders for it in files_in(folder))]
 

@@ -6,6 +6,7 @@ times, and answered as often; `$ `: the words that the program is started with; 
 before, a space, and its bytes; `# `: a remark. `\\xNN` is a byte, `\\(x*N)` a byte N times, `\\\\` a backslash, and
 where a single one ends a line of input, no line feed ends it. A file of runs/ is one session, or several as above; each
 of its lines but those of `% ` stands for itself, and one that begins with none of these marks is a line of the answer.
+A line of input of the shell behind `inline ` is given without that: its call takes no memory in the library.
 """
 import copy
 import functools

@@ -8,14 +8,11 @@ use extract::package::Package;
 use extract::rules::RULES;
 use extract::tokens::{Origin, Token, tokens};
 
-const OTHERS: [&str; 11] = [
+const OTHERS: [&str; 8] = [
     "line_sessions",
     "whole_files",
     "trie_tool",
     "route_tool",
-    "shell_words",
-    "shell_calls",
-    "trie_shell",
     "nifazombi_c",
     "trie_tests",
     "table_tests",
@@ -105,7 +102,7 @@ fn each_token_belongs_to_the_source_or_to_a_rule() {
         let (put, left) = (count(&all.put), count(&all.left));
         println!("{:13} puts {put:6}, leaves out {left:6}: {}", rule.name, rule.what);
     }
-    assert!(all.same > 200_000);
+    assert!(all.same > 150_000);
 }
 
 #[test]

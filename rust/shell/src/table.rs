@@ -1,5 +1,5 @@
-//! The table of the calls: the group, the words and the help of each, and what it does at each place
-//! where it may be made. Help, completion, the count of words and who answers all come from it.
+//! The table of the calls: the group, the words and the help of each, and what it does at each
+//! place where it may be made. Help, completion, the count of words and the answers come from it.
 use crate::lines::next_bounds;
 use crate::parts::in_family;
 use crate::prelude::*;

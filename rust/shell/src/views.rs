@@ -49,8 +49,8 @@ impl Shell {
     }
 }
 
-/// The answers of calls of one view at the key that the next word writes. Where memory fails for one
-/// of them, those before it are undone too.
+/// The answers of calls of one view at the key that the next word writes. Where memory fails for
+/// one of them, those before it are undone too.
 pub fn with(
     trie: &mut Table,
     answer: &mut Answer<'_>,

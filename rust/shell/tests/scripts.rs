@@ -1,5 +1,5 @@
-//! The repository's own scripts, over the shell that Cargo has built. They need `python3`, and those
-//! that have calls fail, a C compiler too.
+//! The repository's own scripts, over the shell that Cargo has built. They need `python3`, and
+//! those that have calls fail, a C compiler too.
 use std::path::Path;
 use std::process::Command;
 

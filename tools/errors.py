@@ -40,7 +40,7 @@ def named(call, crate, calls):
 def answers():
     """The first words of the answers of trie_shell, by the call that is made first."""
     found = collections.defaultdict(set)
-    for it, names, _ in (it for session in sessions_of("trie_shell") for it in shell_calls(session)):
+    for it, names in (it for session in sessions_of("trie_shell") for it in shell_calls(session)):
         found[names[0].lstrip("&") if names else ""].add(it.answer.decode(errors="replace").split("\n")[0].split(" ")[0])
     return found
 

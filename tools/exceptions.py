@@ -9,13 +9,11 @@ SAME_NAMES = {
     # A word for rows of lists and the same one for maps.
     "nibble_map Maps, nibble_map Stored": "IsStored below",
     # Each program says this of its own lines, and no source reads two of them.
-    "route_tool Sessions, trie_shell Sessions, trie_tool Request": "GivesUp IsBad Replies bad_unanswered",
-    "route_tool Sessions, trie_shell Sessions": "IsNever RepliesToEach never_unanswered",
-    "route_tool Reasons, trie_shell Sessions, trie_tool Request": "IsRemarkOf",
+    "route_tool Sessions, trie_tool Request": "GivesUp IsBad Replies bad_unanswered",
+    "route_tool Reasons, trie_tool Request": "IsRemarkOf",
     "route_tool Numbers, trie_tool Request": "Numbers",
     "route_tool Requests, trie_tool Request": "Request",
     "route_tool Answers, trie_tool Request": "below_answer row",
-    "shell_words Words, trie_tool Request": "is_space",
     "route_tool Commands, trie_tool Request": "request_of",
     "nibble_map Rows, trie_tool Numbers": "text",
     # One is the other, of pairs in place of nodes' keys and values.

@@ -4,10 +4,9 @@
    number FAULT, or with no byte where that is 0;
    READS=N and WRITES=N bound the bytes of each of these calls. STATX=N, OPEN=N, FILL=N (a write to another file),
    FCHMOD=N, LCHOWN=N, FSYNC=N, RENAME=N and UNLINK=N fail the Nth of these calls with the error number FAULT; with
-   STOP=1 it isn't failed, but the program stopped before it by SIGSTOP. LIVE=1 has it say on standard error at its end
-   how many pieces of memory it still holds. RUST=1 says that the program is one of Rust's compiler: it reads and writes
-   by copies of the standard streams, and what Rust allocates before it has made both isn't counted, since Rust ends the
-   process where that is refused. */
+   STOP=1 it isn't failed, but the program stopped before it by SIGSTOP. RUST=1 says that the program is one of Rust's
+   compiler: it reads and writes by copies of the standard streams, and what Rust allocates before it has made both
+   isn't counted, since Rust ends the process where that is refused. */
 #define _GNU_SOURCE
 #include <errno.h>
 #include <fcntl.h>
@@ -22,15 +21,14 @@
 #include <unistd.h>
 
 extern void *__libc_malloc(size_t), *__libc_calloc(size_t, size_t), *__libc_realloc(void *, size_t);
-extern void __libc_free(void *);
 enum {
-  ALLOCATION, FROM, READ, TIMES, READS, WRITE, WRITES, FAULT, LIVE, STOP,
+  ALLOCATION, FROM, READ, TIMES, READS, WRITE, WRITES, FAULT, STOP,
   RUST, STATX, OPEN, FILL, FCHMOD, LCHOWN, FSYNC, RENAME, UNLINK
 };
-static const char *const names[] = {"ALLOCATION", "FROM", "READ", "TIMES", "READS", "WRITE", "WRITES", "FAULT", "LIVE",
-                                    "STOP", "RUST", "STATX", "OPEN", "FILL", "FCHMOD", "LCHOWN", "FSYNC", "RENAME",
+static const char *const names[] = {"ALLOCATION", "FROM", "READ", "TIMES", "READS", "WRITE", "WRITES", "FAULT", "STOP",
+                                    "RUST", "STATX", "OPEN", "FILL", "FCHMOD", "LCHOWN", "FSYNC", "RENAME",
                                     "UNLINK"};
-static long set[UNLINK + 1], calls[UNLINK + 1], allocations, held, reads, writes;
+static long set[UNLINK + 1], calls[UNLINK + 1], allocations, reads, writes;
 /* By which the program reads and writes, and whether its allocations are counted. */
 static int input = STDIN_FILENO, output = STDOUT_FILENO, is_counting;
 
@@ -43,10 +41,6 @@ __attribute__((constructor)) static void begin(void) {
   is_counting = !set[RUST];
 }
 
-__attribute__((destructor)) static void end(void) {
-  if (set[LIVE]) dprintf(STDERR_FILENO, "%ld pieces of memory\n", held);
-}
-
 static int is_refused(void) {
   if (!is_counting) return 0;
   allocations++;
@@ -55,23 +49,10 @@ static int is_refused(void) {
   return 1;
 }
 
-static void *counted(void *memory) {
-  held += memory != NULL;
-  return memory;
-}
+void *malloc(size_t size) { return is_refused() ? NULL : __libc_malloc(size); }
+void *calloc(size_t count, size_t size) { return is_refused() ? NULL : __libc_calloc(count, size); }
 
-void *malloc(size_t size) { return is_refused() ? NULL : counted(__libc_malloc(size)); }
-void *calloc(size_t count, size_t size) { return is_refused() ? NULL : counted(__libc_calloc(count, size)); }
-
-void *realloc(void *old, size_t size) {
-  void *memory = is_refused() ? NULL : __libc_realloc(old, size);
-  return old ? memory : counted(memory);
-}
-
-void free(void *memory) {
-  held -= memory != NULL;
-  __libc_free(memory);
-}
+void *realloc(void *old, size_t size) { return is_refused() ? NULL : __libc_realloc(old, size); }
 
 /* Of the calls that Rust's copies of the standard streams are made by. */
 int fcntl(int file, int command, ...) {

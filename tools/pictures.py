@@ -33,7 +33,7 @@ NONE = {("map", "prefix"): "a lookup a length", ("hash_map", "below"): "no such 
 COLOURS_OF_CRATES = {
     "#cfe8ff": "radix_trie frozen_trie frozen_routes frozen_networks flat_routes flat_texts flat_tries prefix_maps "
                "nifazombi_c trie_set topic_filters keyed_maps",
-    "#d5f2d5": "trie_tool route_tool trie_shell", "#eeeeee": "trie_tests trie_examples"}
+    "#d5f2d5": "trie_tool route_tool", "#eeeeee": "trie_tests trie_examples"}
 # What each program is, for the first line of its manual page.
 ABOUT = {"trie_tool": "numbers by texts, in a proved radix trie", "route_tool": "a proved routing table",
          "trie_shell": "a shell of proved radix tries"}

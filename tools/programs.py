@@ -9,7 +9,7 @@ from shared import ROOT, Refused, below, ran, read_text, said_by, uses_of_crates
 
 # The programs, each with its page for users and the package that cargo builds it from.
 PAGES = {"trie_tool": "docs/PROGRAM.md", "route_tool": "docs/ROUTES.md", "trie_shell": "docs/SHELL.md"}
-PACKAGES = {"trie_shell": "programs", "trie_bench": "bench"}
+PACKAGES = {"trie_shell": "shell", "trie_bench": "bench"}
 # The programs that are proved.
 PROVED = ("trie_tool", "route_tool")
 ARCHIVE, BY_LLVM = "out/libnifazombi_c.a", ".by-llvm"

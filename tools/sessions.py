@@ -6,6 +6,7 @@ times, and answered as often; `$ `: the words that the program is started with; 
 before, a space, and its bytes; `# `: a remark. `\\xNN` is a byte, `\\(x*N)` a byte N times, `\\\\` a backslash, and
 where a single one ends a line of input, no line feed ends it. A file of runs/ is one session, or several as above; each
 of its lines but those of `% ` stands for itself, and one that begins with none of these marks is a line of the answer.
+A line of input of the shell behind `inline ` is given without that: its call takes no memory in the library.
 """
 import copy
 import functools
@@ -69,6 +70,8 @@ ROUTE_CALLS = {
     "write_ipv4": "FrozenRoutes::from_sorted + ipv4::to_image",
     "write_ipv6": "FrozenRoutes::from_sorted + ipv6::to_image",
 }
+# What marks a line of a session of trie_shell whose call of the library takes no memory: the shell isn't given it.
+INLINE = b"inline "
 ESCAPE = re.compile(rb"\\(?:x([0-9a-f]{2})|\((.)\*(\d+)\)|(\\))")
 
 
@@ -76,7 +79,8 @@ class Exchange:
     """A line of input, its answer, and what stands on standard error where it ends the session."""
 
     def __init__(self, line):
-        self.line, self.answer, self.told = line, b"", b""
+        self.line, self.answer, self.told = line.removeprefix(INLINE), b"", b""
+        self.is_inline = line.startswith(INLINE)
 
 
 class Session:
@@ -155,9 +159,9 @@ def unescaped(text):
 
 def sessions_of(program):
     """The sessions of all files in the program's folder."""
-    found = []
+    found, folder = [], "rust/shell" if program == "trie_shell" else f"crates/{program}"
     for kind in ("sessions", "runs"):
-        for path in sorted(pathlib.Path(ROOT, "crates", program, kind).glob("*")):
+        for path in sorted(pathlib.Path(ROOT, folder, kind).glob("*")):
             found += [Session(path.name)] if kind == "runs" else []
             for line in filter(None, path.read_bytes().split(b"\n")):
                 if line.startswith(b"= "):
@@ -209,18 +213,17 @@ def calls_of(line, place):
 
 
 def route_calls(session):
-    """The library's calls of each line of a session of route_tool."""
+    """Each exchange of a session of route_tool, and the library's calls in it."""
     for it in session.exchanges:
-        yield ROUTE_CALLS.get(it.line.decode(errors="replace").partition(" ")[0].strip(), "").split(" + ")
+        yield it, ROUTE_CALLS.get(it.line.decode(errors="replace").partition(" ")[0].strip(), "").split(" + ")
 
 
 def shell_calls(session):
-    """Each exchange of a session of trie_shell, the library's calls in it, and whether they are said to be inline."""
+    """Each exchange of a session of trie_shell, and the library's calls in it."""
     places = ["Trie"]
     for it in session.exchanges:
         line = it.line.decode(errors="replace").rstrip("\n")
-        is_inline, line = line.split(" ")[0] == "inline", line.removeprefix("inline ")
-        yield it, calls_of(line, places[-1]), is_inline
+        yield it, calls_of(line, places[-1])
         name, *rest = line.split(" ")
         if name in ("open", "open_mut", "subtrie_mut") and b" " in it.answer.replace(b"no key", b""):
             places.append("SubTrie" if name == "open" else "SubTrieMut")

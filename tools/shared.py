@@ -197,13 +197,24 @@ def said_by(words, given=None, **how):
     return found.stdout
 
 
+# The one program that isn't proved: an ordinary one, which cargo builds.
+SHELL = "trie_shell"
+
+
 def built(name, ending=""):
-    """The path of a program, as `rt ci` built it or ./check put it here, or in the folder PROGRAMS."""
-    return os.path.abspath(f"{os.environ.get('PROGRAMS') or f'{ROOT}/crates/{name}/out'}/{name}{ending}")
+    """The path of a program, as ./check put it here, or cargo the shell, or in the folder PROGRAMS."""
+    release = f"{os.environ.get('CARGO_TARGET_DIR') or f'{ROOT}/target'}/release"
+    usual = release if name == SHELL else f"{ROOT}/crates/{name}/out"
+    return os.path.abspath(f"{os.environ.get('PROGRAMS') or usual}/{name}{ending}")
 
 
 def need(*names):
-    """Refuses to go on where one of these programs isn't built."""
+    """Refuses to go on where one of these programs isn't built. The shell is built by cargo first."""
+    if SHELL in names and not os.environ.get("PROGRAMS"):
+        words = ["cargo", "build", "--release", "--locked", "--offline", "--package", "shell"]
+        done = ran(words, cwd=ROOT, text=True, errors="replace")
+        if done.returncode:
+            raise Refused(f"{SHELL} could not be built: {done.stderr[-2000:]}")
     for path in (it for it in map(built, names) if not os.access(it, os.X_OK)):
         raise Refused(f"{path} isn't there: ./check builds it; PROGRAMS=target/release takes what cargo has built")
 

@@ -115,7 +115,7 @@ def types_of(item):
 
 def shell_forms():
     """The calls of trie_shell, each with the form that the first line of its help gives it."""
-    told = re.findall(r'^    "(([^\s:\[]+)[^:]*):', text_of("crates/trie_shell/src/help.rt"), re.M)
+    told = re.findall(r'^    \w+ "(([^\s\["]+)[^"]*)"$', text_of("rust/shell/src/table.rs"), re.M)
     return {name: form for form, name in reversed(told)}
 
 

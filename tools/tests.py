@@ -101,13 +101,11 @@ def known_tests():
 
 @functools.cache
 def lines():
-    """In how many lines of the sessions each call is made."""
-    found = collections.Counter()
-    for session in sessions_of("trie_shell"):
-        found.update(name.lstrip("&") for _, names, _ in shell_calls(session) for name in {*names})
-    for session in sessions_of("route_tool"):
-        found.update(name for names in route_calls(session) for name in names)
-    return found
+    """In how many lines of the sessions each call is made, where a session's equal lines are one."""
+    calls_of = (("trie_shell", shell_calls), ("route_tool", route_calls))
+    made = {(session.name, it.line, name.lstrip("&")) for program, calls in calls_of
+            for session in sessions_of(program) for it, names in calls(session) for name in names}
+    return collections.Counter(name for *_, name in made)
 
 
 def lines_with(crate, owner, name):

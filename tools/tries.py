@@ -310,7 +310,7 @@ def in_with(v, at, lines, absent):
     if at not in v.points:
         return absent
     view = View(v.shell, v.trie, at)
-    return "\n".join(v.shell.call(it.removeprefix("inline "), view, "wx") for it in lines)
+    return "\n".join(v.shell.call(it, view, "wx") for it in lines)
 
 
 # What calls answer, by their names, each with its words and the places where it can be made. The words: K a key to
@@ -401,7 +401,6 @@ ANSWERS = {
     "open_mut Q sm": lambda v, at: opened(v, at, "wx", "closed"),
     "subtrie_mut Q sm": lambda v, at: opened(v, at, "wx", "none"),
     "close - s": lambda v: "ok" if v.shell.views and v.shell.views.pop() else "none",
-    "inline t s": lambda v, line: v.shell.answer(line),
     "begin Y s": lambda v, kind: v.shell.begin(kind),
     "use M s": lambda v, name: v.shell.use(name),
     "tries - s": lambda v: rows(begun(word_of(it.encode())) for it in v.shell.names),
@@ -469,7 +468,7 @@ def hindrance(kinds, words):
     for line in text.split(" ; ") if "v" in kinds else [text] if {*kinds} & {*"ctf"} else []:
         if why := NOT_HERE if is_taken else misfit(line):
             return why
-        is_taken = line.removeprefix("inline ").split(" ")[0] in PLACES["x"]
+        is_taken = line.split(" ")[0] in PLACES["x"]
     return ""
 
 
@@ -545,8 +544,6 @@ class Shell:
     def answer(self, line):
         """The lines of the answer, or an empty text."""
         name, *words = line.split(" ")
-        if name == "watch":
-            return "ok"
         if name == "keys" and words:
             kind = self.meaning("Y", words[0])
             return "tries hold pairs" if kind and self.holds_pairs else self.begin(kind) if kind else NO["Y"]

@@ -31,15 +31,7 @@ pub const PUBLIC: [&str; 14] = [
     "flat_tries",
 ];
 /// The programs, and the libraries that they alone name.
-pub const PROGRAMS: [&str; 7] = [
-    "line_sessions",
-    "whole_files",
-    "trie_tool",
-    "route_tool",
-    "shell_words",
-    "shell_calls",
-    "trie_shell",
-];
+pub const PROGRAMS: [&str; 4] = ["line_sessions", "whole_files", "trie_tool", "route_tool"];
 /// The proved tests and examples.
 pub const TESTS: [&str; 2] = ["trie_tests", "trie_examples"];
 /// What rustc may not say of text that is proved, and what it has to: that a call is too new, or

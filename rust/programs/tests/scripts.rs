@@ -30,16 +30,6 @@ fn stored_sessions_of_route_tool() {
 }
 
 #[test]
-fn stored_sessions_of_trie_shell() {
-    passes("faults", &["--once", "trie_shell"]);
-}
-
-#[test]
-fn random_sessions_of_trie_shell_and_refused_allocations_in_them() {
-    passes("random_tries", &[]);
-}
-
-#[test]
 fn random_sessions_of_route_tool() {
     passes("random_routes", &[]);
 }
@@ -52,11 +42,6 @@ fn refused_allocations_and_failing_streams_of_trie_tool() {
 #[test]
 fn refused_allocations_and_failing_streams_of_route_tool() {
     passes("faults", &["--sample", "10", "route_tool"]);
-}
-
-#[test]
-fn refused_allocations_and_failing_streams_of_trie_shell() {
-    passes("faults", &["--sample", "20", "trie_shell"]);
 }
 
 #[test]

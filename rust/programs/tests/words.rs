@@ -2,10 +2,9 @@
 use std::fs::File;
 use std::process::{Command, Output};
 
-const PROGRAMS: [(&str, &str); 3] = [
+const PROGRAMS: [(&str, &str); 2] = [
     ("trie_tool", env!("CARGO_BIN_EXE_trie_tool")),
     ("route_tool", env!("CARGO_BIN_EXE_route_tool")),
-    ("trie_shell", env!("CARGO_BIN_EXE_trie_shell")),
 ];
 
 fn ran(path: &str, words: &[&str]) -> Output {
@@ -63,5 +62,4 @@ fn words_of_a_program_are_its_own() {
     let code = |at: usize, word: &str| ran(PROGRAMS[at].1, &[word]).status.code();
     assert_eq!(["--read-on", "--strict"].map(|word| code(0, word)), [Some(5); 2]);
     assert_eq!(["--read-on", "--strict"].map(|word| code(1, word)), [Some(0), Some(5)]);
-    assert_eq!(["--read-on", "--strict"].map(|word| code(2, word)), [Some(5), Some(0)]);
 }

@@ -1,2 +1,0 @@
--- What calls of a trie of texts answer.
-pub mod Answers

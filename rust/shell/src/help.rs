@@ -21,7 +21,7 @@ pub fn answer_groups(answer: &mut Answer<'_>) -> Outcome {
 pub fn answer_help(answer: &mut Answer<'_>) -> Outcome {
     let meant = answer.next_word();
     let is_meant = |name: &str| name == meant || meant == "all";
-    let calls = CALLS.iter().filter(|call| is_meant(call.name()) || call.group == meant);
+    let calls = CALLS.iter().filter(|call| is_meant(call.name) || call.group == meant);
     let lines = calls.flat_map(|call| call.help.iter().map(|text| (call.form, text)));
     answer.lines(lines, |answer, (form, text)| help_line(answer, form, text))
 }
@@ -39,7 +39,7 @@ pub fn answer_complete(answer: &mut Answer<'_>) -> Outcome {
     let (beginning, mut last) = (answer.next_word(), "");
     let names = CALLS
         .iter()
-        .map(|call| call.name())
+        .map(|call| call.name)
         .filter(|name| name.starts_with(beginning) && std::mem::replace(&mut last, name) != *name);
     answer.lines(names, |answer, name| answer.line(name))
 }

@@ -14,6 +14,7 @@ use std::net::{Ipv4Addr, Ipv6Addr};
 /// A call, and what it does to each thing that it may be made of.
 #[derive(Clone, Copy)]
 pub struct Call {
+    pub name: &'static str,
     /// Its name, and a word for each of its words, those that may be left out in brackets. Two dots
     /// stand for any number of words.
     pub form: &'static str,
@@ -41,7 +42,12 @@ pub struct Call {
 impl Call {
     /// A call that does nothing yet.
     const fn new(form: &'static str, group: &'static str, help: &'static [&'static str]) -> Call {
+        let (bytes, mut end) = (form.as_bytes(), 0);
+        while end < bytes.len() && !matches!(bytes[end], b' ' | b'[') {
+            end += 1;
+        }
         Call {
+            name: form.split_at(end).0,
             form,
             group,
             help,
@@ -59,11 +65,6 @@ impl Call {
         }
     }
 
-    /// Its name.
-    pub fn name(&self) -> &'static str {
-        self.form.split([' ', '[']).next().unwrap_or(self.form)
-    }
-
     /// Whether it may have so many words.
     fn has_count(&self, count: usize) -> bool {
         let needed = self.form.split('[').next().unwrap_or(self.form);
@@ -76,7 +77,7 @@ impl Call {
 /// other words, its form.
 pub fn called(text: &str) -> Result<(&'static Call, Words<'_>), Option<&'static str>> {
     let words = Words::of(text);
-    let mut named = CALLS.iter().filter(|call| call.name() == words.name).peekable();
+    let mut named = CALLS.iter().filter(|call| call.name == words.name).peekable();
     let form = named.peek().map(|call| call.form);
     match named.find(|call| call.has_count(words.left)) {
         Some(call) => Ok((call, words)),

@@ -1,4 +1,4 @@
-// Made by `tools/texts --write` of the sources of crates/nifazombi_c.
+// Made by `tools/checks/texts --write` of the sources of crates/nifazombi_c.
 //
 // Tables in one run of bytes, searched where they lie. Each call takes any bytes whatever, ends, and reads only inside
 // them. Nothing is kept between two calls, and nothing allocated, but in a library that Cargo built by a call that is

@@ -1,4 +1,4 @@
-# Made by `tools/texts --write` of the sources of crates/nifazombi_c.
+# Made by `tools/checks/texts --write` of the sources of crates/nifazombi_c.
 from ctypes import POINTER, Structure, c_bool, c_size_t, c_uint8, c_uint32, c_uint64, c_void_p
 
 ERROR_SHORT = 1

@@ -1,4 +1,4 @@
-"""Checks the package nifazombi against plain lists and against images written by their format alone (tools/images.py)."""
+"""Checks the package nifazombi against plain lists and against images written by their format alone (tools/shared/images.py)."""
 import array
 import contextlib
 import ctypes

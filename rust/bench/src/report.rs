@@ -5,7 +5,7 @@ use std::hint::black_box;
 use std::time::{Duration, Instant};
 
 /// The rows that answer a line: of each a call and a store, and the nanoseconds of one call. The
-/// clock is read before and after the calls of a row and nowhere else, since `tools/bench
+/// clock is read before and after the calls of a row and nowhere else, since `tools/measures/bench
 /// --instructions` counts what lies between.
 pub struct Report<'a> {
     line: &'a str,

@@ -1,4 +1,4 @@
-//! Made by `tools/texts --write` of the sources of crates/nifazombi_c.
+//! Made by `tools/checks/texts --write` of the sources of crates/nifazombi_c.
 //!
 //! What C calls, by the declarations of `nifazombi.h`: each export makes slices and references of
 //! its pointers, and has the extracted call of its name do the rest.

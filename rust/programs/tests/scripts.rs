@@ -8,7 +8,11 @@ fn passes(script: &str, words: &[&str]) {
     let root = Path::new(env!("CARGO_MANIFEST_DIR")).join("../..");
     let programs = Path::new(env!("CARGO_BIN_EXE_trie_tool")).parent().expect("it is in a folder");
     let mut command = Command::new("python3");
-    command.arg("-EB").arg(root.join("tools").join(script)).args(words).env("PROGRAMS", programs);
+    command
+        .arg("-EB")
+        .arg(root.join("tools/checks").join(script))
+        .args(words)
+        .env("PROGRAMS", programs);
     match command.output() {
         Err(error) => panic!("python3 is needed, and can't be started: {error}"),
         Ok(ran) if ran.status.success() => {}
@@ -46,5 +50,5 @@ fn refused_allocations_and_failing_streams_of_route_tool() {
 
 #[test]
 fn routes_of_the_kernel_as_lines() {
-    passes("../crates/route_tool/examples/kernel_routes_tests", &[]);
+    passes("../../crates/route_tool/examples/kernel_routes_tests", &[]);
 }

@@ -8,7 +8,11 @@ fn passes(script: &str, words: &[&str]) {
     let root = Path::new(env!("CARGO_MANIFEST_DIR")).join("../..");
     let programs = Path::new(env!("CARGO_BIN_EXE_trie_shell")).parent().expect("it is in a folder");
     let mut command = Command::new("python3");
-    command.arg("-EB").arg(root.join("tools").join(script)).args(words).env("PROGRAMS", programs);
+    command
+        .arg("-EB")
+        .arg(root.join("tools/checks").join(script))
+        .args(words)
+        .env("PROGRAMS", programs);
     match command.output() {
         Err(error) => panic!("python3 is needed, and can't be started: {error}"),
         Ok(ran) if ran.status.success() => {}

@@ -1,4 +1,4 @@
-//! The sessions of `runs/`, as tools/sessions.py describes them.
+//! The sessions of `runs/`, as tools/shared/sessions.py describes them.
 use shell::Shell;
 use std::path::{Path, PathBuf};
 use std::sync::{Mutex, MutexGuard, PoisonError};

@@ -1,4 +1,4 @@
-//! Times std's `HashMap` and the Rust crate `radix_trie` on the keys of standard input, for `tools/bench --plot`.
+//! Times std's `HashMap` and the Rust crate `radix_trie` on the keys of standard input, for `tools/measures/bench --plot`.
 //!
 //! A line is a key, a space and how many bytes of it are its beginning, as rust/bench lists them. With no argument
 //! each line that is written is a call, a store and the nanoseconds of one call. With `keys`, `hash_map` or `crate` that

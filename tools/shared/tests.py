@@ -22,7 +22,7 @@ SHOWS = {"Trie": "samples", "SubTrie": "subtrie", "SubTrieMut": "open_mut"}
 NAMED = 3
 HEAD = """# What tests each call
 
-Made by `tools/texts --write`, as `API.md` is. Of each public call: in how many lines the stored sessions of
+Made by `tools/checks/texts --write`, as `API.md` is. Of each public call: in how many lines the stored sessions of
 `trie_shell` and `route_tool` make it, each of which is run again with memory refused; then the tests that are called by
 it, and of those that come to it the first ones. A law does nothing, so it has no test. A test comes to a call if it has
 its name, in a file that names its type or its crate: of calls with one name that is more than there is.

@@ -1,4 +1,4 @@
-"""What tools/texts lets pass, each with its reason. What is named here and needs it no more fails too."""
+"""What tools/checks/texts lets pass, each with its reason. What is named here and needs it no more fails too."""
 
 # Names that two specifications define, by the modules that do.
 SAME_NAMES = {

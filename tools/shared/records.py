@@ -181,7 +181,7 @@ def sum_within(crate):
 def judge():
     """The toolchain's logic, and the text that decides verdicts."""
     told = said_by(["rt", "version"])
-    return (re.findall(r"\blogic (\S+)", told) or [told])[0], bytes_of(f"{ROOT}/tools/verdicts.py")
+    return (re.findall(r"\blogic (\S+)", told) or [told])[0], bytes_of(f"{ROOT}/tools/shared/verdicts.py")
 
 
 def sum_of_edit(edit):
@@ -209,7 +209,7 @@ def record_of(crate):
         name, found = [*LINE.fullmatch(line).groups()] if LINE.fullmatch(line) else ("", "")
         why = "it isn't a name and a sum" if not name else "no edit is called so" if name not in edits else ""
         why = why or ("it is out of order, or there twice" if name <= max(sums, default="") else "")
-        faults += [f"{path}:{number}: {why} (tools/wrong_bodies --record writes it)"] if why and text else []
+        faults += [f"{path}:{number}: {why} (tools/checks/wrong_bodies --record writes it)"] if why and text else []
         sums |= {name: found} if name and not why else {}
     return sums, faults
 

@@ -20,7 +20,7 @@ OCTETS = re.compile(r"\[u8; (\d+)\]")
 # What C and Python call Rust's own types.
 NUMBERS = {"u8": ("uint8_t", "c_uint8"), "u32": ("uint32_t", "c_uint32"), "u64": ("uint64_t", "c_uint64"),
            "usize": ("size_t", "c_size_t"), "bool": ("bool", "c_bool")}
-HEAD = """// Made by `tools/texts --write` of the sources of crates/nifazombi_c.
+HEAD = """// Made by `tools/checks/texts --write` of the sources of crates/nifazombi_c.
 //
 // Tables in one run of bytes, searched where they lie. Each call takes any bytes whatever, ends, and reads only inside
 // them. Nothing is kept between two calls, and nothing allocated, but in a library that Cargo built by a call that is
@@ -41,7 +41,7 @@ C_HEAD = """#ifndef NIFAZOMBI_H
 extern "C" {
 #endif
 """
-RUST_HEAD = """//! Made by `tools/texts --write` of the sources of crates/nifazombi_c.
+RUST_HEAD = """//! Made by `tools/checks/texts --write` of the sources of crates/nifazombi_c.
 //!
 //! What C calls, by the declarations of `nifazombi.h`: each export makes slices and references of
 //! its pointers, and has the extracted call of its name do the rest.
@@ -103,7 +103,7 @@ unsafe fn pairs_of<'a>(first: *const TextsPair, len: usize) -> Option<Vec<Pair<'
 SAFE = "    // SAFETY: callers pass live memory, and share only what is read, as the header asks.\n"
 # What an export returns where there is no memory for a list of pairs.
 NO_MEMORY = {"usize": "0", "u32": "NIFAZOMBI_ERROR_FULL"}
-PYTHON_HEAD = """# Made by `tools/texts --write` of the sources of crates/nifazombi_c.
+PYTHON_HEAD = """# Made by `tools/checks/texts --write` of the sources of crates/nifazombi_c.
 from ctypes import POINTER, Structure, c_bool, c_size_t, c_uint8, c_uint32, c_uint64, c_void_p
 """
 

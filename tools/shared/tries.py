@@ -1,4 +1,4 @@
-"""Tries as plain dicts, and what trie_shell answers to lines about them, for the checks of tools/random_tries.
+"""Tries as plain dicts, and what trie_shell answers to lines about them, for the checks of tools/checks/random_tries.
 
 A list of nibbles is a text of hexadecimal digits, and these stand in the nibbles' order. What docs/DEFINITIONS.md
 defines is computed as it is said there, of all the lists that are stored.

@@ -13,7 +13,7 @@ FIRST = ["Trie", "SubTrie", "SubTrieMut", "TrieCommon", "TrieEdit", "Entry", "Cu
 FUNCTIONS = "functions and laws"
 HEAD = """# All public calls
 
-Made by `tools/texts --write` of the sources' own texts. By library and type: what a call returns, when it fails, what
+Made by `tools/checks/texts --write` of the sources' own texts. By library and type: what a call returns, when it fails, what
 it costs where that isn't the way down to its key, and an example where there is one: Rust over the crate `nifazombi`,
 without the lines that rustdoc hides. What is proved of each call, its clauses, stands in the library's page for
 callers.

@@ -1,6 +1,6 @@
 """The pictures of docs/pictures, the manual pages, and the table that README.md and docs/BENCHMARKS.md quote.
 
-Plots and table are of one run of tools/bench --plot, whose rows stand in docs/pictures/rows.txt, a line each: kind of
+Plots and table are of one run of tools/measures/bench --plot, whose rows stand in docs/pictures/rows.txt, a line each: kind of
 keys, count, call, store, number. The tree is what `dot` answers in a session of the shell, and the crates are those of
 crates.txt. Manual pages are the pages for users. The last line of each has the sum of what it was made of, by gnuplot,
 by graphviz and by pandoc."""
@@ -134,6 +134,6 @@ def wrong(is_written):
         if os.path.isfile(f"{ROOT}/{place}") and text_of(place).endswith(mark(place, told)):
             continue
         if not is_written or not shutil.which(words[0]):
-            yield f"{place}: it isn't of its source; tools/texts --write makes it, by {words[0]}"
+            yield f"{place}: it isn't of its source; tools/checks/texts --write makes it, by {words[0]}"
             continue
         write_text(place, said_by(words, told.encode()) + mark(place, told))

@@ -20,7 +20,7 @@ if sys.version_info < (3, 9):
 if sys.flags.optimize > 1:
     sys.exit("python -OO leaves out the texts that the scripts of this repository tell, so none of them runs so")
 
-ROOT = os.path.dirname(os.path.dirname(os.path.realpath(__file__)))
+ROOT = os.path.dirname(os.path.dirname(os.path.dirname(os.path.realpath(__file__))))
 # No file that these scripts write comes near to so many bytes.
 MOST = 64_000_000
 # What the C library's allocator is set to for a program where the user has set nothing (docs/BENCHMARKS.md): large
@@ -327,11 +327,11 @@ def script(name):
 
 
 def compile_faults(room):
-    """Makes the library of tools/faults.c in this folder, by CC, cc or clang."""
+    """Makes the library of tools/checks/faults.c in this folder, by CC, cc or clang."""
     compiler = (os.environ.get("CC") or ("cc" if shutil.which("cc") else "clang")).split()
     if not shutil.which(compiler[0]):
         raise Refused(f"a C compiler is needed, cc, clang or what CC names, and there is no {compiler[0]} on the path")
-    made = ran([*compiler, "-O1", "-shared", "-fPIC", "-o", f"{room}/faults.so", f"{ROOT}/tools/faults.c"], text=True)
+    made = ran([*compiler, "-O1", "-shared", "-fPIC", "-o", f"{room}/faults.so", f"{ROOT}/tools/checks/faults.c"], text=True)
     if made.returncode or not os.path.isfile(f"{room}/faults.so"):
         raise Refused(f"{compiler[0]} made no library: {made.stderr.strip()[:200]}")
 
@@ -344,6 +344,6 @@ def is_of_rust(program):
 
 
 def preloading(library, program, faults):
-    """The surroundings of a run of a program with the library of tools/faults.c, and with these faults."""
+    """The surroundings of a run of a program with the library of tools/checks/faults.c, and with these faults."""
     words = {**({"RUST": 1} if is_of_rust(program) else {}), **dict(faults)}
     return {"LD_PRELOAD": library, **{it: str(number) for it, number in words.items()}}

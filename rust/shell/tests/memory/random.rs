@@ -5,7 +5,7 @@ use crate::told;
 use shell::Shell;
 use std::ops::RangeInclusive;
 
-/// A generator of numbers, by George Marsaglia.
+/// A generator of numbers: xorshift, of 64 bits.
 struct Chance(u64);
 
 impl Chance {

@@ -212,8 +212,26 @@ fn refused_allocations_in_sessions() {
 
 #[test]
 fn refused_allocations_in_random_sessions() {
-    let drawn: Vec<Session> = random::sessions(1..=100, 50).collect();
+    let mut drawn: Vec<Session> = random::sessions(1..=100, 50).collect();
+    drawn.push(random::long_session());
     println!("{} refusals", refuse_in(&drawn));
+}
+
+/// Behind each answer, however long, there is room to say that memory fails for the next line.
+#[test]
+fn answers_leave_room() {
+    let mut shell = Shell::new(false, false);
+    for count in 1..2_000 {
+        let mut answers = Answers::new(Global);
+        let line = format!("nibblet from_hex {}", "0".repeat(count));
+        shell.answer(line.as_bytes(), &mut answers).unwrap();
+        let length = answers.len();
+        assert!(answers.capacity() - length >= REFUSED.len(), "{count} digits");
+        // Where there is none for more, that is said there.
+        let mut answers = Answers::with_capacity(Global, REFUSED.len()).unwrap();
+        let outcome = refusing(Refusing::From(1), || shell.answer(line.as_bytes(), &mut answers));
+        assert_eq!((outcome, &*answers), (Ok(()), REFUSED));
+    }
 }
 
 /// A command that is refused is answered so and changes nothing, and those behind it are run.

@@ -129,14 +129,40 @@ pub fn sessions(seeds: RangeInclusive<u64>, count: usize) -> impl Iterator<Item 
     seeds.map(move |seed| {
         let mut chance = Chance(seed.wrapping_mul(0x9e37_79b9_7f4a_7c15));
         let (kind, keys) = KEYS[seed as usize % KEYS.len()];
-        let mut session = Session { name: format!("seed {seed}"), ..Session::default() };
-        let mut shell = session.shell();
         let begun = [format!("begin {kind}")];
-        let lines = begun.into_iter().chain((0..count).map(|_| line(&mut chance, &forms, keys, 2)));
-        for line in lines {
-            let answer = told(&mut shell, line.as_bytes()).unwrap();
-            session.exchanges.push(Exchange { answer, ..Exchange::new(line.as_bytes()) });
-        }
-        session
+        let drawn = (0..count).map(|_| line(&mut chance, &forms, keys, 2));
+        answered(format!("seed {seed}"), begun.into_iter().chain(drawn))
     })
+}
+
+/// A session of these lines, with the answers of a shell that is refused nothing.
+fn answered(name: String, lines: impl Iterator<Item = String>) -> Session {
+    let mut session = Session { name, ..Session::default() };
+    let mut shell = session.shell();
+    for line in lines {
+        let answer = told(&mut shell, line.as_bytes()).unwrap();
+        session.exchanges.push(Exchange { answer, ..Exchange::new(line.as_bytes()) });
+    }
+    session
+}
+
+/// Changes that tell what they take away, where that is longer than an answer has room for.
+pub fn long_session() -> Session {
+    let (one, other) = ("k".repeat(700), format!("{}l", "k".repeat(699)));
+    let filled = format!("extend {one} 1 {other} 2");
+    let calls = [
+        "pop_first".to_owned(),
+        "pop_last".to_owned(),
+        format!("remove_entry {one}"),
+        format!("entry_remove {other}"),
+        "remove_prefix k".to_owned(),
+        "into_pairs".to_owned(),
+        format!("entry {one}"),
+        "with k remove_prefix k ; iter".to_owned(),
+        format!("open {one}\nclose\nopen_mut {one}\nclose"),
+        "freeze f\nfrozen f iter\nthaw f".to_owned(),
+    ];
+    let lines = calls.iter().map(|call| format!("{filled}\n{call}"));
+    let lines = lines.collect::<Vec<_>>().join("\n");
+    answered("long keys".to_owned(), lines.split('\n').map(str::to_owned))
 }

@@ -1,9 +1,9 @@
 """The pictures of docs/pictures, the manual pages, and the table that README.md and docs/BENCHMARKS.md quote.
 
-Plots and table are of one run of tools/measures/bench --plot, whose rows stand in docs/pictures/rows.txt, a line each: kind of
-keys, count, call, store, number. The tree is what `dot` answers in a session of the shell, and the crates are those of
-crates.txt. Manual pages are the pages for users. The last line of each has the sum of what it was made of, by gnuplot,
-by graphviz and by pandoc."""
+Plots and table are of one run of tools/measures/bench --plot, whose rows stand in docs/pictures/rows.txt, a line each:
+kind of keys, count, call, store, number. The tree is what `dot` answers in a session of the shell, and the crates are
+those of crates.txt. Manual pages are the pages for users. The last line of each has the sum of what it was made of, by
+gnuplot, by graphviz and by pandoc."""
 import hashlib
 import os
 import re

@@ -331,7 +331,8 @@ def compile_faults(room):
     compiler = (os.environ.get("CC") or ("cc" if shutil.which("cc") else "clang")).split()
     if not shutil.which(compiler[0]):
         raise Refused(f"a C compiler is needed, cc, clang or what CC names, and there is no {compiler[0]} on the path")
-    made = ran([*compiler, "-O1", "-shared", "-fPIC", "-o", f"{room}/faults.so", f"{ROOT}/tools/checks/faults.c"], text=True)
+    words = ["-O1", "-shared", "-fPIC", "-o", f"{room}/faults.so", f"{ROOT}/tools/checks/faults.c"]
+    made = ran([*compiler, *words], text=True)
     if made.returncode or not os.path.isfile(f"{room}/faults.so"):
         raise Refused(f"{compiler[0]} made no library: {made.stderr.strip()[:200]}")
 

@@ -1,4 +1,5 @@
-"""Checks the package nifazombi against plain lists and against images written by their format alone (tools/shared/images.py)."""
+"""Checks the package nifazombi against plain lists and against images written by their format alone: images.py in
+tools/shared."""
 import array
 import contextlib
 import ctypes

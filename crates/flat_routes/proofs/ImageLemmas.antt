@@ -7,9 +7,8 @@ use Rattle.std.proofs.lemmas.List.{get_or-take, length-map, length-take-le, take
 use Rattle.radix_keys.specs.Networks.{AgreeIn, IsBase, Net}
 use Rattle.image_parts.specs.Parts.{row_count, u128_in, u32_in}
 use Rattle.image_parts.proofs.ByteLemmas.{length-listed, listed_at, none_past, take_listed}
-use Rattle.frozen_routes.specs.Routes.{AreRising, AreRowsInOrder, AreUpTo, IsEarlier, IsFirstTop, IsHolderAt, IsLastHolder, IsLongestRow, base_numbers, bit_counts}
-use Rattle.frozen_routes.proofs.RouteLemmas.Blocks.{earlier_le, sandwich}
-use Rattle.frozen_routes.proofs.RouteLemmas.Growing.{earlier_through}
+use Rattle.frozen_routes.specs.Routes.{AreRising, AreRowsInOrder, AreUpTo, IsFirstTop, IsHolderAt, IsLastHolder, IsLongestRow, base_numbers, bit_counts}
+use Rattle.frozen_routes.proofs.RouteLemmas.Blocks.{earlier_le}
 use Rattle.frozen_routes.proofs.RouteLemmas.Links.{among_all, firsts_to}
 use Rattle.frozen_routes.proofs.RouteLemmas.Rows.{last_is_longest, none_holds, stored_at}
 use Rattle.frozen_routes.proofs.RouteLemmas.Directory.{top_above, top_around, top_below}
@@ -19,6 +18,7 @@ use Rattle.image_parts.specs.declared.errors.ImageError.{ImageError}
 use Rattle.image_parts.specs.declared.errors.ImageError.TheVariants.{Short, Mark, Version, Part, Row, Cell}
 use Rattle.flat_routes.specs.declared.head.Plan.{Plan}
 use Rattle.flat_routes.specs.Faults.{IsRouteFault, family}
+use Rattle.flat_routes.specs.RowLaws.{AreSorted, ordered}
 use Rattle.flat_routes.specs.Images.{AreLinkedTo, IsImage, IsNext, IsPlanOf, bits_in, cell_count, cell_in, first_in, bases, found_row, image_cells, image_rows, link_in, links, network, rest_of, row_in, sizes, value_in, width}
 
 -- as many rows as the head says
@@ -109,31 +109,11 @@ module _ (wide : Bool) (bs : List ℕ) (image : IsImage wide bs) (a e t c : ℕ)
 
 -- the first n networks rise
 module _ (w : ℕ) (fs bs : List ℕ) (n : ℕ) (next : (k : ℕ) → k < n → IsNext w fs bs k) where
-  -- one comes after the one before it
-  step : (k : ℕ) → suc k < n → IsEarlier (get_or fs k 0) (get_or bs k 0) (get_or fs (suc k) 0) (get_or bs (suc k) 0)
-  step k l =
-      let back : suc k - 1 ≡ k = omega arith in
-      subst (λ j. IsEarlier (get_or fs j 0) (get_or bs j 0) (get_or fs (suc k) 0) (get_or bs (suc k) 0)) back ((next (suc k) l).after (omega arith))
-
-  -- and after each before it
-  pub ordered : (j k : ℕ) → j < k → k < n → IsEarlier (get_or fs j 0) (get_or bs j 0) (get_or fs k 0) (get_or bs k 0)
-  ordered j zero l m = absurd (omega (arith, l))
-  ordered j (suc k) l m = elim (cases_lt j k) [
-    | inl lt ↦ earlier_through _ _ _ _ _ _ (ordered j k lt (omega (arith, m))) (step k m)
-    | inr ge ↦
-        let same : k ≡ j = omega (arith, l, ge) in
-        subst (λ i. IsEarlier (get_or fs i 0) (get_or bs i 0) (get_or fs (suc k) 0) (get_or bs (suc k) 0)) same (step k m)
-  ]
-
-  -- what holds an address holds the first one of each later network that begins at or before it
-  pub around_first : (a j k : ℕ) → k < j → j < n → get_or fs j 0 ≤ a → IsHolderAt w fs bs a k → IsHolderAt w fs bs (get_or fs j 0) k
-  around_first a j k l m le p = sandwich (get_or fs k 0) (get_or fs j 0) a (w - get_or bs k 0) (earlier_le _ _ _ _ (ordered k j l m)) le p
-
   -- and so do all where there are no more
   pub all_rise : length fs ≤ n → AreRising w fs bs
   all_rise all = record {
     bases = λ k l. (next k (omega (arith, l, all))).base;
-    order = λ j k l m. ordered j k l (omega (arith, m, all));
+    order = λ j k l m. ordered w fs bs n next j k l (omega (arith, m, all));
   }
 
 -- what the first n networks say is said of any lists with the same first n numbers
@@ -193,6 +173,10 @@ image_linked wide bs n image within = record {
   links = λ k l. image.linked k (omega (arith, l, within, length-links wide bs));
 }
 
+-- all rows of an image are sorted columns
+pub all_sorted : (wide : Bool) (bs : List ℕ) (n : ℕ) → IsImage wide bs → n ≡ row_count bs → AreSorted (record { wide = wide; bytes = bs; rows = n; whole = true })
+all_sorted wide bs n image is = record { linked = image_linked wide bs n image (omega (arith, is)); image = λ e. image }
+
 -- the last of some rising networks that holds an address is the longest of these
 found_longest : (wide : Bool) (bs : List ℕ) (rows : List (Net ℕ × ℕ)) (a r : ℕ) → AreRowsInOrder (width wide) (λ m. m) rows
     → ((i : ℕ) → i < length rows → slice_get rows i ≡ Some (row_in wide bs i))
@@ -203,6 +187,18 @@ found_longest wide bs rows a (suc i) rising stored last =
     let back : i ≡ suc i - 1 = omega arith in
     last_is_longest (width wide) (λ m. m) rows rising a (suc i) (row_in wide bs i) (omega arith) last
     (subst (λ k. slice_get rows k ≡ Some (row_in wide bs i)) back (stored i (let le = last.within in omega (arith, le))))
+
+-- how many of all networks begin by an address, as a search parts them
+pub up_to : (wide : Bool) (bs : List ℕ) (a n c : ℕ) → n ≡ row_count bs
+    → IsPartedAt (λ k. get_or (bases wide bs) k 0 ≤ a) (λ k. get_or (bases wide bs) k 0 ≤ a → ⊥) n c → AreUpTo (bases wide bs) a c
+up_to wide bs a n c is parted = record {
+  within = (let le = parted.within in omega (arith, le, is, length-firsts wide bs));
+  before = parted.before;
+  after = λ k l m. elim (cases_lt a (get_or (bases wide bs) k 0)) [
+    | inl lt ↦ lt
+    | inr ge ↦ absurd (parted.after k l (omega (arith, m, is, length-firsts wide bs)) ge)
+  ];
+}
 
 -- the last of those that begin by an address too
 pub longest : (wide : Bool) (bs : List ℕ) (a n r : ℕ) → IsImage wide bs → AreUpTo (bases wide bs) a n

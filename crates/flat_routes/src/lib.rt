@@ -3,6 +3,7 @@
 #![tactic(auto)]
 
 mod check;
+mod columns;
 mod head;
 pub mod ipv4;
 pub mod ipv6;

@@ -6,38 +6,10 @@ ghost use Rattle.frozen_routes.specs.Routes.{AreInFront, IsInFront, IsOwnRow, is
 ghost use Rattle.image_parts.specs.Parts.{row_count};
 ghost use Rattle.flat_routes.specs.Images.{IsImage, IsPlanOf, bases, image_rows, network, row_in, sizes, width};
 
+use crate::columns::{Rows, Within};
 use crate::head::{Plan, plan_of};
-use crate::rows::{bits_at, bits_of, first_at, without_last};
-
-/// The number without the bits that come behind so many.
-fn first_bits(wide: bool, number: u128, bits: u32) -> u128
-    ensures { result ≡ number / 2 ^ (width wide - bits) }
-{
-    without_last(number, bits_of(wide).saturating_sub(bits))
-}
-
-/// Whether the network at an index comes in front of those within the network of `bits` bits whose
-/// addresses have `quotient` for these, or of those behind it where the search is one through it.
-fn is_in_front(
-    image: &[u8],
-    wide: bool,
-    plan: Plan,
-    at: usize,
-    bits: u32,
-    quotient: u128,
-    is_through: bool,
-) -> bool
-    requires plan { IsPlanOf wide image.now plan }
-    requires within { at < plan.rows }
-    ensures { IsTrue result ↔ IsInFront (width wide) is_through bits quotient
-        (slice_index (bases wide image.now) at) (slice_index (sizes wide image.now) at) }
-{
-    let own = first_bits(wide, first_at(image, wide, plan, at), bits);
-    if own != quotient {
-        return own < quotient;
-    }
-    is_through || bits_at(image, wide, plan, at) < bits
-}
+use crate::rows::{bits_at, first_at, first_bits};
+use sorted_columns::count_in_front;
 
 /// How many of the networks come in front of those within a network, or also those within where the
 /// search is one through it.
@@ -47,17 +19,13 @@ fn cut(image: &[u8], wide: bool, plan: Plan, first: u128, bits: u32, is_through:
     ensures front { IsImage wide image.now → AreInFront (width wide) is_through bits
         (first / 2 ^ (width wide - bits)) (bases wide image.now) (sizes wide image.now) result }
 {
-    let quotient = first_bits(wide, first, bits);
-    let (mut lo, mut hi) = (0usize, plan.rows);
-    while lo < hi {
-        let mid = lo + (hi - lo) / 2;
-        if is_in_front(image, wide, plan, mid, bits, quotient, is_through) {
-            lo = mid + 1;
-        } else {
-            hi = mid;
-        }
-    }
-    lo
+    let rows = Rows::all(image, wide, plan);
+    let within = Within {
+        bits,
+        quotient: first_bits(wide, first, bits),
+        is_through,
+    };
+    count_in_front(&rows, &within, 0, plan.rows)
 }
 
 /// The index of the row of this very network, by its first address and how many bits its addresses

@@ -1,5 +1,5 @@
 //! The rows and the cells of an image by their numbers.
-ghost use Rattle.std.specs.Prelude.{◌≡◌, ◌↔◌, ◌+◌, ◌*◌, ◌/◌, ◌^◌, ◌<◌, ◌≤◌, Some, false, IsTrue, slice_get, slice_index};
+ghost use Rattle.std.specs.Prelude.{◌≡◌, ◌↔◌, ◌+◌, ◌-◌, ◌*◌, ◌/◌, ◌^◌, ◌<◌, ◌≤◌, Some, false, IsTrue, slice_get, slice_index};
 ghost use Rattle.frozen_routes.specs.Routes.{IsHolderAt};
 ghost use Rattle.flat_routes.specs.Images.{IsPlanOf, cell_in, bases, image_cells, links, sizes, value_in, width};
 
@@ -111,6 +111,14 @@ pub(crate) fn without_last(number: u128, bits: u32) -> u128
     ensures { result ≡ number / 2 ^ bits }
 {
     if bits == 128 { 0 } else { number >> bits }
+}
+
+/// The number without the bits that come behind so many.
+#[inline(always)]
+pub(crate) fn first_bits(wide: bool, number: u128, bits: u32) -> u128
+    ensures { result ≡ number / 2 ^ (width wide - bits) }
+{
+    without_last(number, bits_of(wide).saturating_sub(bits))
 }
 
 /// Whether the network at an index holds an address, by its number. One of more bits than an

@@ -1,11 +1,13 @@
 //! Searches in an image. Each is total: whatever the bytes are, it ends, and reads none but them.
-ghost use Rattle.std.specs.Prelude.{◌+◌, ◌-◌, ◌/◌, ◌<◌, ◌≤◌, ℕ, IfSome, IsNone, option_map, slice_index, take};
-ghost use Rattle.frozen_routes.specs.Routes.{AreUpTo, IsLastHolder, IsLongestRow};
+ghost use Rattle.std.specs.Prelude.{◌-◌, ◌<◌, ◌≤◌, ℕ, IfSome, IsNone, option_map, slice_index, take};
+ghost use Rattle.frozen_routes.specs.Routes.{IsLastHolder, IsLongestRow};
 ghost use Rattle.image_parts.specs.Parts.{row_count};
 ghost use Rattle.flat_routes.specs.Images.{AreLinkedTo, IsImage, IsPlanOf, bases, first_in, found_row, image_rows, links, row_in, sizes, width};
 
+use crate::columns::Rows;
 use crate::head::{Plan, plan_of};
-use crate::rows::{Cell, cell_at, first_at, holds_at, link_at};
+use crate::rows::{Cell, cell_at, link_at};
+use sorted_columns::count_in_front;
 
 /// What bounds the search of a number: the cell of its block, and how many networks begin before
 /// the next block. Where there is no such cell it's all of them, and a cell that counts none.
@@ -34,39 +36,6 @@ fn top_span(image: &[u8], wide: bool, plan: Plan, number: u128) -> (Cell, usize)
     (Cell::NONE, plan.rows)
 }
 
-/// How many of the networks begin at or before an address, by its number, where the first `lo` do,
-/// and none from `hi` on.
-#[inline(always)]
-fn count_to(
-    image: &[u8],
-    wide: bool,
-    plan: Plan,
-    number: u128,
-    mut lo: usize,
-    mut hi: usize,
-) -> usize
-    requires plan { IsPlanOf wide image.now plan }
-    requires order { lo ≤ hi }
-    requires within { hi ≤ plan.rows }
-    requires below { IsImage wide image.now → (k : ℕ) → k < lo
-        → slice_index (bases wide image.now) k ≤ number }
-    requires above { IsImage wide image.now → (k : ℕ) → hi ≤ k → k < plan.rows
-        → number < slice_index (bases wide image.now) k }
-    ensures least { lo ≤ result }
-    ensures most { result ≤ plan.rows }
-    ensures count { IsImage wide image.now → AreUpTo (bases wide image.now) number result }
-{
-    while lo < hi {
-        let mid = lo + (hi - lo) / 2;
-        if first_at(image, wide, plan, mid) <= number {
-            lo = mid + 1;
-        } else {
-            hi = mid;
-        }
-    }
-    lo
-}
-
 /// The last of the first `from` networks that holds an address, by its index and one more, or 0
 /// where there is none; the floor says so of as many as it counts.
 #[inline(always)]
@@ -91,18 +60,8 @@ pub(crate) fn follow_parents(
         → IsLastHolder (width wide) (bases wide image.now) (sizes wide image.now) from number
         result }
 {
-    let mut at = from;
-    while at > floor.count {
-        if holds_at(image, wide, plan, at - 1, number) {
-            return at;
-        }
-        let link = link_at(image, wide, plan, at - 1) as usize;
-        if link >= at {
-            return 0;
-        }
-        at = link;
-    }
-    floor.around
+    let rows = Rows::first(image, wide, plan, from);
+    sorted_columns::follow_parents(&rows, &number, from, floor.count, floor.around)
 }
 
 /// The last of the first `from` networks that holds an address, where `before` says it of an
@@ -149,7 +108,8 @@ pub(crate) fn find(image: &[u8], wide: bool, plan: Plan, number: u128) -> usize
         (image_rows wide image.now) number (found_row wide image.now result) }
 {
     let (floor, hi) = top_span(image, wide, plan, number);
-    let from = count_to(image, wide, plan, number, floor.count, hi);
+    let rows = Rows::all(image, wide, plan);
+    let from = count_in_front(&rows, &number, floor.count, hi);
     follow_parents(image, wide, plan, from, floor, number)
 }
 

@@ -11,8 +11,8 @@ pub const STD: &str = "rattle_std";
 /// The package of the libraries, which all others name.
 pub const LIBRARY: &str = "nifazombi";
 /// The libraries that users' programs don't name.
-pub const INNER: [&str; 5] =
-    ["nibble_map", "masked_tree", "radix_nodes", "sorted_tables", "encoded_keys"];
+pub const INNER: [&str; 6] =
+    ["nibble_map", "masked_tree", "radix_nodes", "sorted_tables", "sorted_columns", "encoded_keys"];
 /// The libraries that they name.
 pub const PUBLIC: [&str; 14] = [
     "radix_keys",

@@ -5,7 +5,7 @@ use Rattle.std.proofs.lemmas.Bool.{cases_lt}
 use Rattle.std.proofs.lemmas.Nat.{mul-le}
 use Rattle.std.proofs.lemmas.List.{get_or-take, length-map, length-take-le, take-map}
 use Rattle.radix_keys.specs.Networks.{AgreeIn, IsBase, Net}
-use Rattle.image_parts.specs.Parts.{row_count, u128_in, u32_in}
+use Rattle.image_parts.specs.Parts.{row_count, u128_in, u32_in, u64_in}
 use Rattle.image_parts.proofs.ByteLemmas.{length-listed, listed_at, none_past, take_listed}
 use Rattle.frozen_routes.specs.Routes.{AreRising, AreRowsInOrder, AreUpTo, IsFirstTop, IsHolderAt, IsLastHolder, IsLongestRow, base_numbers, bit_counts}
 use Rattle.frozen_routes.proofs.RouteLemmas.Blocks.{earlier_le}
@@ -17,9 +17,9 @@ use Rattle.sorted_tables.specs.Tables.{IsLastOf, IsPartedAt}
 use Rattle.image_parts.specs.declared.errors.ImageError.{ImageError}
 use Rattle.image_parts.specs.declared.errors.ImageError.TheVariants.{Short, Mark, Version, Part, Row, Cell}
 use Rattle.flat_routes.specs.declared.head.Plan.{Plan}
-use Rattle.flat_routes.specs.Faults.{IsRouteFault, family}
+use Rattle.flat_routes.specs.Faults.{IsRouteFault, IsRoutePart, family}
 use Rattle.flat_routes.specs.RowLaws.{AreSorted, ordered}
-use Rattle.flat_routes.specs.Images.{AreLinkedTo, IsImage, IsNext, IsPlanOf, bits_in, cell_count, cell_in, first_in, bases, found_row, image_cells, image_rows, link_in, links, network, rest_of, row_in, sizes, value_in, width}
+use Rattle.flat_routes.specs.Images.{AreLinkedTo, HasHead, IsImage, IsNext, IsPlanOf, bits_in, cell_count, cell_in, first_in, bases, found_row, image_cells, image_rows, link_in, links, network, rest_of, row_in, sizes, value_in, width}
 
 -- as many rows as the head says
 pub length-rows : (wide : Bool) (bs : List ℕ) → length (image_rows wide bs) ≡ row_count bs
@@ -344,6 +344,11 @@ pub row_is : (wide : Bool) (bs : List ℕ) (i f b v : ℕ) → i < row_count bs 
     → slice_get (image_rows wide bs) i ≡ Some (network f b, v)
 row_is wide bs i f b v l first size value =
     listed_at (row_in wide bs) (row_count bs) i l ∙ ap (λ r. Some r) (row_read wide bs i f b v l first size value)
+
+-- both parts are those of an image
+pub route_parts : (wide : Bool) (bs : List ℕ) → HasHead wide bs → u32_in bs 20 ≡ 0 → u64_in bs 56 ≡ 8 * cell_count bs → (j : ℕ) → j < 2 → IsRoutePart wide bs j
+route_parts wide bs head plain whole zero l = record { listed = head.rows; plain = plain; size = head.rows_size }
+route_parts wide bs head plain whole (suc j) l = record { listed = head.cells; shift = head.shift; whole = whole }
 
 -- an image has no fault
 pub no_fault : (wide : Bool) (bs : List ℕ) (e : ImageError) → IsRouteFault wide bs e → IsImage wide bs → ⊥

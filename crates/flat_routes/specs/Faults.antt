@@ -44,16 +44,18 @@ AreRowsRight wide bs n = AreLinkedTo (width wide) (bases wide bs) (sizes wide bs
 abbrev pub IsCellRight : Bool → List ℕ → ℕ → Type 0
 IsCellRight wide bs t = IsTopCell (rest_of bs) (width wide) (bases wide bs) (sizes wide bs) t (cell_in bs t)
 
--- the row at i is the first that isn't right; the head is
+-- the row at i is the first that isn't right; the head is, and both parts
 pub record IsFirstWrongRow (wide : Bool) (bs : List ℕ) (i : ℕ) : Type 0 where
   pub head : HasHead wide bs
+  pub parts : (j : ℕ) → j < 2 → IsRoutePart wide bs j
   pub within : i < row_count bs
   pub before : AreRowsRight wide bs i
   pub wrong : AreRowsRight wide bs (i + 1) → ⊥
 
--- the cell at t is the first that isn't right; the head is, and all rows are
+-- the cell at t is the first that isn't right; the head is, both parts, and all rows
 pub record IsFirstWrongCell (wide : Bool) (bs : List ℕ) (t : ℕ) : Type 0 where
   pub head : HasHead wide bs
+  pub parts : (j : ℕ) → j < 2 → IsRoutePart wide bs j
   pub within : t < cell_count bs
   pub rows : AreRowsRight wide bs (row_count bs)
   pub before : (s : ℕ) → s < t → IsCellRight wide bs s

@@ -1,15 +1,15 @@
 //! Images of IPv4 networks. Each call is total: whatever the bytes are, it ends, and reads none but
 //! them.
-ghost use Rattle.std.specs.Prelude.{◌≡◌, ◌↔◌, ◌+◌, ◌^◌, ◌<◌, ◌≤◌, ℕ, IfErr, IfOk, IfSome, IsNone, IsOk, IsTrue, MatchOption, OnErr, OnOk, false, drop, length, min, option_map, slice_get, slice_index, take, vec_len, map as each};
+ghost use Rattle.std.specs.Prelude.{◌≡◌, ◌↔◌, ◌+◌, ◌-◌, ◌/◌, ◌^◌, ◌<◌, ◌≤◌, ℕ, IfErr, IfOk, IfSome, IsNone, IsOk, IsTrue, MatchOption, OnErr, OnOk, false, drop, length, min, option_map, slice_get, slice_index, take, vec_len, map as each};
 ghost use Rattle.std.specs.List.{filter};
 ghost use Rattle.std.specs.Net.Addr.{ipv4_bits};
 ghost use Rattle.std.specs.Option.{SomeIff};
 ghost use Rattle.radix_keys.specs.Networks.{Net};
-ghost use Rattle.frozen_routes.specs.Routes.{IsLongestRow, IsOwnRow, is_inside};
+ghost use Rattle.frozen_routes.specs.Routes.{AreInFront, IsLongestRow, IsOwnRow, is_inside};
 ghost use Rattle.image_parts.specs.Parts.{HoldsPayload, row_count};
 ghost use Rattle.flat_routes.specs.Faults.{IsRouteFault};
 ghost use Rattle.flat_routes.specs.Written.{CanWrite, ChangesWithin, IsWriteFault, image_size};
-ghost use Rattle.flat_routes.specs.Images.{IsImage, first_in, found_row, image_rows, link_in, network, numbered_row, of_ipv4, row4_of, row_in};
+ghost use Rattle.flat_routes.specs.Images.{IsImage, bases, first_in, found_row, image_rows, link_in, network, numbered_row, of_ipv4, row4_of, row_in, sizes};
 
 use crate::head::plan_of;
 use crate::rows::{bits_at, first_at, link_at, value_at};
@@ -85,9 +85,11 @@ pub fn is_image(image: &[u8]) -> bool
     check(image).is_ok()
 }
 
-/// The count of rows. Of bytes that are no image it is some number.
+/// The count of rows. Of bytes that are no image it is 0, or what their head says.
 pub fn len(image: &[u8]) -> usize
-    ensures { IsImage of_ipv4 image.now → result ≡ length (image_rows of_ipv4 image.now) }
+    ensures count { IsImage of_ipv4 image.now
+        → result ≡ length (image_rows of_ipv4 image.now) }
+    ensures within { result ≤ row_count image.now }
 {
     match plan_of(image, false) {
         Some(plan) => plan.rows,
@@ -146,6 +148,7 @@ pub fn longest_matches(image: &[u8], addresses: &[u32], found: &mut [u32]) -> us
     ensures count { result ≤ min (length addresses.now) (length found.new) }
     ensures all { IsImage of_ipv4 image.now
         → result ≡ min (length addresses.now) (length found.new) }
+    ensures within { (k : ℕ) → k < result → slice_index found.new k ≤ row_count image.now }
     ensures rest { (k : ℕ) → result ≤ k
         → slice_index found.new k ≡ slice_index found.old k }
     ensures rows { IsImage of_ipv4 image.now → (k : ℕ) → k < result
@@ -176,10 +179,13 @@ pub fn get(image: &[u8], first: u32, bits: u32) -> Option<usize>
     networks::get(image, false, u128::from(first), bits)
 }
 
-/// The rows whose networks lie within a network, itself among them: the index of the first, and how
-/// many there are. It takes twice as many comparisons as the count of rows has binary digits.
+/// The rows whose networks lie within a network, itself among them: the index of the first, or where
+/// none does the one that it would have, and how many there are. It takes twice as many comparisons as the count of rows has binary digits.
 pub fn below(image: &[u8], first: u32, bits: u32) -> (usize, usize)
     ensures within { result.0 + result.1 ≤ row_count image.now }
+    ensures first { IsImage of_ipv4 image.now → AreInFront 32 false bits
+        (first / 2 ^ (32 - bits)) (bases of_ipv4 image.now) (sizes of_ipv4 image.now)
+        result.0 }
     ensures rows { IsImage of_ipv4 image.now
         → take result.1 (drop result.0 (image_rows of_ipv4 image.now))
         ≡ filter (is_inside 32 (λ n. n) (network first bits)) (image_rows of_ipv4 image.now) }

@@ -1,15 +1,15 @@
 //! Images of IPv6 networks. Each call is total: whatever the bytes are, it ends, and reads none but
 //! them.
-ghost use Rattle.std.specs.Prelude.{◌≡◌, ◌↔◌, ◌+◌, ◌^◌, ◌<◌, ◌≤◌, ℕ, IfErr, IfOk, IfSome, IsNone, IsOk, IsTrue, MatchOption, OnErr, OnOk, true, drop, length, min, option_map, slice_get, slice_index, take, vec_len, map as each};
+ghost use Rattle.std.specs.Prelude.{◌≡◌, ◌↔◌, ◌+◌, ◌-◌, ◌/◌, ◌^◌, ◌<◌, ◌≤◌, ℕ, IfErr, IfOk, IfSome, IsNone, IsOk, IsTrue, MatchOption, OnErr, OnOk, false, true, drop, length, min, option_map, slice_get, slice_index, take, vec_len, map as each};
 ghost use Rattle.std.specs.List.{filter};
 ghost use Rattle.std.specs.Net.Addr.{ipv6_bits};
 ghost use Rattle.std.specs.Option.{SomeIff};
 ghost use Rattle.radix_keys.specs.Networks.{Net};
-ghost use Rattle.frozen_routes.specs.Routes.{IsLongestRow, IsOwnRow, is_inside};
+ghost use Rattle.frozen_routes.specs.Routes.{AreInFront, IsLongestRow, IsOwnRow, is_inside};
 ghost use Rattle.image_parts.specs.Parts.{HoldsPayload, row_count};
 ghost use Rattle.flat_routes.specs.Faults.{IsRouteFault};
 ghost use Rattle.flat_routes.specs.Written.{CanWrite, ChangesWithin, IsWriteFault, image_size, link_from, row_from};
-ghost use Rattle.flat_routes.specs.Images.{IsImage, first_in, found_row, image_rows, link_in, network, numbered_row, octet_number, of_ipv6, row6_of, row_in, row_size};
+ghost use Rattle.flat_routes.specs.Images.{IsImage, bases, first_in, found_row, image_rows, link_in, network, numbered_row, octet_number, of_ipv6, row6_of, row_in, row_size, sizes};
 
 use crate::head::plan_of;
 use crate::rows::{bits_at, first_at, link_at, value_at};
@@ -95,9 +95,11 @@ pub fn is_image(image: &[u8]) -> bool
     check(image).is_ok()
 }
 
-/// The count of rows. Of bytes that are no image it is some number.
+/// The count of rows. Of bytes that are no image it is 0, or what their head says.
 pub fn len(image: &[u8]) -> usize
-    ensures { IsImage of_ipv6 image.now → result ≡ length (image_rows of_ipv6 image.now) }
+    ensures count { IsImage of_ipv6 image.now
+        → result ≡ length (image_rows of_ipv6 image.now) }
+    ensures within { result ≤ row_count image.now }
 {
     match plan_of(image, true) {
         Some(plan) => plan.rows,
@@ -157,6 +159,7 @@ pub fn longest_matches(image: &[u8], addresses: &[[u8; 16]], found: &mut [u32]) 
     ensures count { result ≤ min (length addresses.now) (length found.new) }
     ensures all { IsImage of_ipv6 image.now
         → result ≡ min (length addresses.now) (length found.new) }
+    ensures within { (k : ℕ) → k < result → slice_index found.new k ≤ row_count image.now }
     ensures rest { (k : ℕ) → result ≤ k
         → slice_index found.new k ≡ slice_index found.old k }
     ensures rows { IsImage of_ipv6 image.now → (k : ℕ) → k < result
@@ -188,10 +191,13 @@ pub fn get(image: &[u8], first: u128, bits: u32) -> Option<usize>
     networks::get(image, true, first, bits)
 }
 
-/// The rows whose networks lie within a network, itself among them: the index of the first, and how
-/// many there are. It takes twice as many comparisons as the count of rows has binary digits.
+/// The rows whose networks lie within a network, itself among them: the index of the first, or where
+/// none does the one that it would have, and how many there are. It takes twice as many comparisons as the count of rows has binary digits.
 pub fn below(image: &[u8], first: u128, bits: u32) -> (usize, usize)
     ensures within { result.0 + result.1 ≤ row_count image.now }
+    ensures first { IsImage of_ipv6 image.now → AreInFront 128 false bits
+        (first / 2 ^ (128 - bits)) (bases of_ipv6 image.now) (sizes of_ipv6 image.now)
+        result.0 }
     ensures rows { IsImage of_ipv6 image.now
         → take result.1 (drop result.0 (image_rows of_ipv6 image.now))
         ≡ filter (is_inside 128 (λ n. n) (network first bits)) (image_rows of_ipv6 image.now) }

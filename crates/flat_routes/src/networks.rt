@@ -1,8 +1,8 @@
 //! The row of one network, and those within one.
-ghost use Rattle.std.specs.Prelude.{◌≡◌, ◌↔◌, ◌+◌, ◌-◌, ◌/◌, ◌^◌, ◌<◌, ◌≤◌, ℕ, IfSome, IsTrue, MatchOption, drop, slice_index, take};
+ghost use Rattle.std.specs.Prelude.{◌≡◌, ◌+◌, ◌-◌, ◌/◌, ◌^◌, ◌<◌, ◌≤◌, ℕ, IfSome, MatchOption, false, drop, take};
 ghost use Rattle.std.specs.List.{filter};
 ghost use Rattle.radix_keys.specs.Networks.{Net};
-ghost use Rattle.frozen_routes.specs.Routes.{AreInFront, IsInFront, IsOwnRow, is_inside};
+ghost use Rattle.frozen_routes.specs.Routes.{AreInFront, IsOwnRow, is_inside};
 ghost use Rattle.image_parts.specs.Parts.{row_count};
 ghost use Rattle.flat_routes.specs.Images.{IsImage, IsPlanOf, bases, image_rows, network, row_in, sizes, width};
 
@@ -53,6 +53,9 @@ pub(crate) fn get(image: &[u8], wide: bool, first: u128, bits: u32) -> Option<us
 /// The rows whose networks lie within a network: the index of the first, and how many there are.
 pub(crate) fn below(image: &[u8], wide: bool, first: u128, bits: u32) -> (usize, usize)
     ensures within { result.0 + result.1 ≤ row_count image.now }
+    ensures first { IsImage wide image.now → AreInFront (width wide) false bits
+        (first / 2 ^ (width wide - bits)) (bases wide image.now) (sizes wide image.now)
+        result.0 }
     ensures rows { IsImage wide image.now
         → take result.1 (drop result.0 (image_rows wide image.now))
         ≡ filter (is_inside (width wide) (λ n. n) (network first bits))

@@ -1,12 +1,12 @@
 //! Images of IPv4 networks. An address is a number: 192.0.2.1 is 0xc0000201.
-ghost use Rattle.std.specs.Prelude.{◌≡◌, ◌↔◌, ◌⊎◌, ◌<◌, ◌≤◌, ◌+◌, ℕ, IsFalse, IsSomeAnd, IsTrue, MatchOption, drop, length, min, slice_get, slice_index, take, None, Some, ◌^◌, map as each};
+ghost use Rattle.std.specs.Prelude.{◌≡◌, ◌↔◌, ◌⊎◌, ◌<◌, ◌≤◌, ◌+◌, ◌-◌, ◌/◌, ℕ, false, IsFalse, IsSomeAnd, IsTrue, MatchOption, drop, length, min, slice_get, slice_index, take, None, Some, ◌^◌, map as each};
 ghost use Rattle.std.specs.List.{filter};
 ghost use Rattle.radix_keys.specs.Networks.{Net};
 ghost use Rattle.image_parts.specs.Parts.{HoldsPayload, row_count};
-ghost use Rattle.frozen_routes.specs.Routes.{IsLongestRow, IsOwnRow, is_inside};
+ghost use Rattle.frozen_routes.specs.Routes.{AreInFront, IsLongestRow, IsOwnRow, is_inside};
 ghost use Rattle.flat_routes.specs.Written.{CanWrite, ChangesWithin, IsWriteFault, image_size};
 ghost use Rattle.flat_routes.specs.Faults.{IsRouteFault};
-ghost use Rattle.flat_routes.specs.Images.{IsImage, first_in, found_row, image_rows, link_in, network, of_ipv4, row4_of};
+ghost use Rattle.flat_routes.specs.Images.{IsImage, bases, first_in, found_row, image_rows, link_in, network, of_ipv4, row4_of, sizes};
 ghost use Rattle.nifazombi_c.specs.Results.{told_error, told_write};
 
 use crate::results::{Span, code_of, status_of};
@@ -26,7 +26,9 @@ pub extern "C" fn nifazombi_ipv4_check(image: &[u8], at: &mut usize) -> u32
 /// The count of rows.
 #[unsafe(no_mangle)]
 pub extern "C" fn nifazombi_ipv4_len(image: &[u8]) -> usize
-    ensures { IsImage of_ipv4 image.now → result ≡ length (image_rows of_ipv4 image.now) }
+    ensures count { IsImage of_ipv4 image.now
+        → result ≡ length (image_rows of_ipv4 image.now) }
+    ensures within { result ≤ row_count image.now }
 {
     ipv4::len(image)
 }
@@ -73,6 +75,7 @@ pub extern "C" fn nifazombi_ipv4_longest_matches(
     ensures count { result ≤ min (length addresses.now) (length found.new) }
     ensures all { IsImage of_ipv4 image.now
         → result ≡ min (length addresses.now) (length found.new) }
+    ensures within { (k : ℕ) → k < result → slice_index found.new k ≤ row_count image.now }
     ensures rest { (k : ℕ) → result ≤ k
         → slice_index found.new k ≡ slice_index found.old k }
     ensures rows { IsImage of_ipv4 image.now → (k : ℕ) → k < result
@@ -102,6 +105,9 @@ pub extern "C" fn nifazombi_ipv4_get(image: &[u8], first: u32, bits: u32) -> usi
 #[unsafe(no_mangle)]
 pub extern "C" fn nifazombi_ipv4_below(image: &[u8], first: u32, bits: u32, span: &mut Span)
     ensures within { span.new.first + span.new.count ≤ row_count image.now }
+    ensures first { IsImage of_ipv4 image.now → AreInFront 32 false bits
+        (first / 2 ^ (32 - bits)) (bases of_ipv4 image.now) (sizes of_ipv4 image.now)
+        span.new.first }
     ensures rows { IsImage of_ipv4 image.now
         → take span.new.count (drop span.new.first (image_rows of_ipv4 image.now))
         ≡ filter (is_inside 32 (λ n. n) (network first bits)) (image_rows of_ipv4 image.now) }

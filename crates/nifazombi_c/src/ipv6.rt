@@ -1,12 +1,12 @@
 //! Images of IPv6 networks. An address is its 16 octets in network order, as in `struct in6_addr`.
-ghost use Rattle.std.specs.Prelude.{◌≡◌, ◌↔◌, ◌⊎◌, ◌<◌, ◌≤◌, ◌+◌, ℕ, IsFalse, IsSomeAnd, IsTrue, MatchOption, None, Some, drop, length, min, slice_get, slice_index, take, map as each, ◌^◌};
+ghost use Rattle.std.specs.Prelude.{◌≡◌, ◌↔◌, ◌⊎◌, ◌<◌, ◌≤◌, ◌+◌, ◌-◌, ◌/◌, ℕ, false, IsFalse, IsSomeAnd, IsTrue, MatchOption, None, Some, drop, length, min, slice_get, slice_index, take, map as each, ◌^◌};
 ghost use Rattle.std.specs.List.{filter};
 ghost use Rattle.radix_keys.specs.Networks.{Net};
 ghost use Rattle.image_parts.specs.Parts.{HoldsPayload, row_count};
-ghost use Rattle.frozen_routes.specs.Routes.{IsLongestRow, IsOwnRow, is_inside};
+ghost use Rattle.frozen_routes.specs.Routes.{AreInFront, IsLongestRow, IsOwnRow, is_inside};
 ghost use Rattle.flat_routes.specs.Written.{CanWrite, ChangesWithin, IsWriteFault, image_size};
 ghost use Rattle.flat_routes.specs.Faults.{IsRouteFault};
-ghost use Rattle.flat_routes.specs.Images.{IsImage, first_in, found_row, image_rows, link_in, network, octet_number, of_ipv6, row6_of};
+ghost use Rattle.flat_routes.specs.Images.{IsImage, bases, first_in, found_row, image_rows, link_in, network, octet_number, of_ipv6, row6_of, sizes};
 ghost use Rattle.nifazombi_c.specs.Results.{told_error, told_write};
 
 use crate::results::{Span, code_of, status_of};
@@ -26,7 +26,9 @@ pub extern "C" fn nifazombi_ipv6_check(image: &[u8], at: &mut usize) -> u32
 /// The count of rows.
 #[unsafe(no_mangle)]
 pub extern "C" fn nifazombi_ipv6_len(image: &[u8]) -> usize
-    ensures { IsImage of_ipv6 image.now → result ≡ length (image_rows of_ipv6 image.now) }
+    ensures count { IsImage of_ipv6 image.now
+        → result ≡ length (image_rows of_ipv6 image.now) }
+    ensures within { result ≤ row_count image.now }
 {
     ipv6::len(image)
 }
@@ -74,6 +76,7 @@ pub extern "C" fn nifazombi_ipv6_longest_matches(
     ensures count { result ≤ min (length addresses.now) (length found.new) }
     ensures all { IsImage of_ipv6 image.now
         → result ≡ min (length addresses.now) (length found.new) }
+    ensures within { (k : ℕ) → k < result → slice_index found.new k ≤ row_count image.now }
     ensures rest { (k : ℕ) → result ≤ k
         → slice_index found.new k ≡ slice_index found.old k }
     ensures rows { IsImage of_ipv6 image.now → (k : ℕ) → k < result
@@ -104,6 +107,9 @@ pub extern "C" fn nifazombi_ipv6_get(image: &[u8], first: &[u8; 16], bits: u32) 
 #[unsafe(no_mangle)]
 pub extern "C" fn nifazombi_ipv6_below(image: &[u8], first: &[u8; 16], bits: u32, span: &mut Span)
     ensures within { span.new.first + span.new.count ≤ row_count image.now }
+    ensures first { IsImage of_ipv6 image.now → AreInFront 128 false bits
+        (octet_number first.now / 2 ^ (128 - bits)) (bases of_ipv6 image.now) (sizes of_ipv6 image.now)
+        span.new.first }
     ensures rows { IsImage of_ipv6 image.now
         → take span.new.count (drop span.new.first (image_rows of_ipv6 image.now))
         ≡ filter (is_inside 128 (λ n. n) (network (octet_number first.now) bits))

@@ -2,10 +2,11 @@ use Rattle.std.proofs.Common.{◌≡◌, ◌-◌, ◌≤◌, inl, inr, Result, O
 use Rattle.image_parts.specs.declared.errors.ImageError.TheVariants.{Row}
 use Rattle.std.proofs.lemmas.Bool.{cases_lt}
 use Rattle.frozen_routes.specs.Routes.{IsTopCell}
+use Rattle.image_parts.specs.Parts.{row_count}
 use Rattle.image_parts.proofs.ByteLemmas.{listed_at, listed_is}
-use Rattle.flat_routes.specs.Faults.{IsCellRight}
+use Rattle.flat_routes.specs.Faults.{AreRowsRight, IsCellRight}
 use Rattle.flat_routes.specs.Images.{cell_count, cell_in, bases, sizes, width}
-use Rattle.flat_routes.proofs.ImageLemmas.{all_rise, length-firsts, length-links, no_fault}
+use Rattle.flat_routes.proofs.ImageLemmas.{all_rise, length-firsts, length-links, no_fault, route_parts}
 use Rattle.flat_routes.proofs.check.check.Goals as goal
 
 apart : {T E : Type 0} (r : Result T E) → IsErr r → IsOk r → ⊥
@@ -18,16 +19,38 @@ returns-in_err-plan-clause-image c = (
   λ image. absurd (no_fault c.args.wide c.args.image.now _ c.in_err-plan.ensures.fault image),
 )
 
+pub returns-then-not-is_row-clause-fault : goal.returns-then-not-is_row-clause-fault
+returns-then-not-is_row-clause-fault c = record {
+  head = c.in_ok-plan.ensures.plan.head;
+  parts = route_parts c.args.wide c.args.image.now c.in_ok-plan.ensures.plan.head c.in_ok-plan.ensures.plain c.in_ok-plan.ensures.whole;
+  within = omega (arith, c.loop-at-test.true, c.in_ok-plan.ensures.plan.rows);
+  before = c.loop-at.invariant;
+  wrong = λ right. let yes = c.is_row.ensures.1 right in let no = c.if-not-is_row.true in cc (yes, no);
+}
+
 pub returns-then-not-is_row-clause-image : goal.returns-then-not-is_row-clause-image
 returns-then-not-is_row-clause-image c = (
   λ e. absurd (cc e),
-  λ image. absurd (no_fault c.args.wide c.args.image.now (Row c.loop-at.at) (record {
-    head = c.in_ok-plan.ensures.plan.head;
-    within = omega (arith, c.loop-at-test.true, c.in_ok-plan.ensures.plan.rows);
-    before = c.loop-at.invariant;
-    wrong = λ right. let yes = c.is_row.ensures.1 right in let no = c.if-not-is_row.true in cc (yes, no);
-  }) image),
+  λ image. absurd (no_fault c.args.wide c.args.image.now (Row c.loop-at.at) (returns-then-not-is_row-clause-fault c) image),
 )
+
+pub returns-then-not-is_cell-clause-fault : goal.returns-then-not-is_cell-clause-fault
+returns-then-not-is_cell-clause-fault c =
+    let wide = c.args.wide in
+    let bytes = c.args.image.now in
+    let t = c.loop-first.first in
+    let all : c.loop-at.at ≡ row_count bytes = omega (arith, c.loop-at.auto.at-end, c.loop-at-test.false, c.in_ok-plan.ensures.plan.rows) in
+    record {
+      head = c.in_ok-plan.ensures.plan.head;
+      parts = route_parts wide bytes c.in_ok-plan.ensures.plan.head c.in_ok-plan.ensures.plain c.in_ok-plan.ensures.whole;
+      within = omega (arith, c.loop-first-test.true, c.in_ok-plan.ensures.plan.cells);
+      rows = subst (AreRowsRight wide bytes) all c.loop-at.invariant;
+      before = λ s l. c.loop-first.invariant s l;
+      wrong = λ right.
+          let yes = c.is_cell.ensures.1 (subst (λ e. IsTopCell e (width wide) (bases wide bytes) (sizes wide bytes) t (cell_in bytes t)) (sym c.in_ok-plan.ensures.plan.rest) right) in
+          let no = c.if-not-is_cell.true in
+          cc (yes, no);
+    }
 
 pub returns-then-not-is_cell-clause-image : goal.returns-then-not-is_cell-clause-image
 returns-then-not-is_cell-clause-image c = (

@@ -1,6 +1,7 @@
-use Rattle.std.proofs.Common.{ℕ, true, below_more, map as each, sym, subst, ◌∙◌, arith, get_or}
+use Rattle.std.proofs.Common.{◌≤◌, ℕ, true, below_more, map as each, sym, subst, ◌∙◌, arith, get_or}
 use Rattle.std.proofs.lemmas.List.{get_or-map, get_or-set_other, get_or-set_same}
 use Rattle.std.proofs.Math.ListN.{set}
+use Rattle.image_parts.specs.Parts.{row_count}
 use Rattle.frozen_routes.specs.Routes.{IsLongestRow}
 use Rattle.flat_routes.specs.Images.{found_row, image_rows, octet_number}
 use Rattle.flat_routes.proofs.ipv6.longest_matches.Goals as goal
@@ -20,5 +21,9 @@ loop-i-preserved c =
           (subst (λ a. IsLongestRow 128 (λ n. n) (image_rows true bs) a (found_row true bs r))
           (c.from_be_bytes.ensures ∙ sym (get_or-map octet_number c.args.addresses.now i _ 0 (omega (arith, c.loop-i-test.true, c.min-count.ensures))))
           (c.find.ensures.row image)));
+      within = below_more (λ k. get_or (set fs i r) k 0 ≤ row_count bs) i
+          (λ k l. let same = get_or-set_other fs i k r 0 (λ e. omega (arith, e, l)) in let le = c.loop-i.invariant.within k l in omega (arith, same, le))
+          (let same = get_or-set_same fs i r 0 (omega (arith, c.loop-i.auto.found, c.loop-i-test.true, c.min-count.ensures)) in
+          omega (arith, same, c.find.ensures.within, c.in-Some.ensures.rows));
       rest = λ k l. get_or-set_other fs i k r 0 (λ e. omega (arith, e, l)) ∙ c.loop-i.invariant.rest k (omega (arith, l));
     }

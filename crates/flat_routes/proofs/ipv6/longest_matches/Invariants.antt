@@ -1,5 +1,6 @@
 use Rattle.std.proofs.Common.{◌≡◌, ℕ, ◌<◌, ◌≤◌, true, map as each, get_or}
 use Rattle.frozen_routes.specs.Routes.{IsLongestRow}
+use Rattle.image_parts.specs.Parts.{row_count}
 use Rattle.flat_routes.specs.Images.{IsImage, found_row, image_rows, octet_number}
 use Rattle.flat_routes.proofs.ipv6.longest_matches.Given as goal
 
@@ -7,5 +8,6 @@ abbrev pub invariant-loop-i : goal.invariant-loop-i
 invariant-loop-i l = record {
   rows : IsImage true l.image → (k : ℕ) → k < l.i
       → IsLongestRow 128 (λ n. n) (image_rows true l.image) (get_or (each octet_number l.addresses) k 0) (found_row true l.image (get_or l.found k 0));
+  within : (k : ℕ) → k < l.i → get_or l.found k 0 ≤ row_count l.image;
   rest : (k : ℕ) → l.i ≤ k → get_or l.found k 0 ≡ get_or l.fn.found k 0;
 }

@@ -108,7 +108,8 @@ size_t nifazombi_ipv4_longest_matches(
 // The row of this very network, by its index and one more, or 0 where no row is of it.
 size_t nifazombi_ipv4_get(const uint8_t *image, size_t image_len, uint32_t first, uint32_t bits);
 
-// Puts the rows whose networks lie within a network, itself among them, into `span`.
+// Puts the rows whose networks lie within a network, itself among them, into `span`: the index of
+// the first, or the one that it would have where there is none, and how many there are.
 void nifazombi_ipv4_below(const uint8_t *image, size_t image_len, uint32_t first, uint32_t bits, nifazombi_span *span);
 
 // The row of the network around that of the row at an index, the longest other one that holds it,
@@ -152,7 +153,8 @@ size_t nifazombi_ipv6_longest_matches(
 // The row of this very network, by its index and one more, or 0 where no row is of it.
 size_t nifazombi_ipv6_get(const uint8_t *image, size_t image_len, const uint8_t first[16], uint32_t bits);
 
-// Puts the rows whose networks lie within a network, itself among them, into `span`.
+// Puts the rows whose networks lie within a network, itself among them, into `span`: the index of
+// the first, or the one that it would have where there is none, and how many there are.
 void nifazombi_ipv6_below(
     const uint8_t *image, size_t image_len,
     const uint8_t first[16],

@@ -179,8 +179,9 @@ pub fn get(image: &[u8], first: u32, bits: u32) -> Option<usize>
     networks::get(image, false, u128::from(first), bits)
 }
 
-/// The rows whose networks lie within a network, itself among them: the index of the first, or where
-/// none does the one that it would have, and how many there are. It takes twice as many comparisons as the count of rows has binary digits.
+/// The rows whose networks lie within a network, itself among them: the index of the first, or the
+/// one that it would have where there is none, and how many there are. It takes twice as many
+/// comparisons as the count of rows has binary digits.
 pub fn below(image: &[u8], first: u32, bits: u32) -> (usize, usize)
     ensures within { result.0 + result.1 ≤ row_count image.now }
     ensures first { IsImage of_ipv4 image.now → AreInFront 32 false bits

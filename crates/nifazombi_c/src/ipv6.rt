@@ -103,7 +103,8 @@ pub extern "C" fn nifazombi_ipv6_get(image: &[u8], first: &[u8; 16], bits: u32) 
     }
 }
 
-/// Puts the rows whose networks lie within a network, itself among them, into `span`.
+/// Puts the rows whose networks lie within a network, itself among them, into `span`: the index of
+/// the first, or the one that it would have where there is none, and how many there are.
 #[unsafe(no_mangle)]
 pub extern "C" fn nifazombi_ipv6_below(image: &[u8], first: &[u8; 16], bits: u32, span: &mut Span)
     ensures within { span.new.first + span.new.count ≤ row_count image.now }

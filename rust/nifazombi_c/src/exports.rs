@@ -140,7 +140,8 @@ pub unsafe extern "C" fn nifazombi_ipv4_get(
     unsafe { ipv4::nifazombi_ipv4_get(slice(image, image_len), first, bits) }
 }
 
-/// Puts the rows whose networks lie within a network, itself among them, into `span`.
+/// Puts the rows whose networks lie within a network, itself among them, into `span`: the index of
+/// the first, or the one that it would have where there is none, and how many there are.
 #[unsafe(no_mangle)]
 pub unsafe extern "C" fn nifazombi_ipv4_below(
     image: *const u8,
@@ -272,7 +273,8 @@ pub unsafe extern "C" fn nifazombi_ipv6_get(
     unsafe { ipv6::nifazombi_ipv6_get(slice(image, image_len), &*first, bits) }
 }
 
-/// Puts the rows whose networks lie within a network, itself among them, into `span`.
+/// Puts the rows whose networks lie within a network, itself among them, into `span`: the index of
+/// the first, or the one that it would have where there is none, and how many there are.
 #[unsafe(no_mangle)]
 pub unsafe extern "C" fn nifazombi_ipv6_below(
     image: *const u8,

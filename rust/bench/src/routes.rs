@@ -5,6 +5,7 @@ use crate::report::Report;
 use nifazombi::frozen_routes::FrozenRoutes;
 use nifazombi::radix_trie::{Address, Network, Trie, TrieCommon, TrieKey};
 use nifazombi::rattle_std::alloc::Global;
+use nifazombi::{Route, Routes, routes_image};
 use std::collections::BTreeMap;
 use std::error::Error;
 use std::net::{Ipv4Addr, Ipv6Addr};
@@ -14,7 +15,7 @@ const LOOKED_UP: usize = 10;
 
 /// A family of addresses, whose networks are near to what the tables of the internet's routers
 /// have.
-pub trait Family: Address {
+pub trait Family: Address + nifazombi::Address {
     /// Up to which percent of the networks have from so many bits to so many.
     const SHARES: &'static [(u64, u8, u8)];
 
@@ -53,8 +54,8 @@ fn around<A: Address>(address: A, bits: u8) -> Network<A> {
     Network::around(address, bits).expect("an address has as many bits")
 }
 
-/// The rows in which a trie, a frozen table and a map store the networks, and find the longest ones
-/// that hold addresses.
+/// The rows in which a trie, a frozen table, its image and a map store the networks, and find the
+/// longest ones that hold addresses.
 pub fn answer<A: Family>(report: &mut Report, count: u32) -> Result<(), Box<dyn Error>> {
     let networks = networks::<A>(count);
     let addresses = addresses(&networks);
@@ -77,6 +78,15 @@ pub fn answer<A: Family>(report: &mut Report, count: u32) -> Result<(), Box<dyn 
     });
     report.each("look frozen", &addresses, |address| {
         frozen.longest_match(address).map_or(0, |(_, hop)| (*hop).into())
+    });
+    let rows = frozen.rows().iter();
+    let routes: Vec<_> = rows
+        .map(|(network, hop)| Route::new(network.base(), network.bits(), (*hop).into()))
+        .collect();
+    let image = routes_image(&routes, &[])?;
+    let image = Routes::new(&image)?;
+    report.each("look image", &addresses, |address| {
+        image.longest_match(*address).map_or(0, |route| route.value)
     });
 
     let mut map = BTreeMap::new();

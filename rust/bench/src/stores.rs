@@ -8,6 +8,7 @@ use nifazombi::radix_trie::{AsNibbles, Trie, TrieCommon};
 use nifazombi::rattle_std::alloc::Global;
 use nifazombi::rattle_std::clone::Clone as TryClone;
 use nifazombi::rattle_std::vec::Vec as List;
+use nifazombi::{Texts, texts_image};
 use std::collections::BTreeMap;
 use std::error::Error;
 
@@ -136,6 +137,19 @@ pub fn answer_texts<'k>(
     report.each("below texts", first(queries), below);
     report.each("count texts", first(queries), |it| texts.count_below(it.beginning) as u64);
     report.once("walk texts", texts.len(), || ((), sum(texts.iter().map(|pair| pair.1))));
+    answer_image(report, &texts, queries);
+}
+
+/// The rows of its image.
+fn answer_image(report: &mut Report, texts: &FrozenTexts<u64>, queries: &[TextQuery]) {
+    let pairs: Vec<_> = texts.iter().map(|(key, value)| (key, *value)).collect();
+    let image = texts_image(&pairs, &[]).unwrap();
+    let image = Texts::new(&image).unwrap();
+    report.each("get image", queries, |it| value(image.get(it.key).as_ref()));
+    report.each("absent image", queries, |it| value(image.get(it.absent).as_ref()));
+    report.each("prefix image", queries, |it| image.nearest(it.longer).map_or(0, |pair| pair.1));
+    let below = |it: &TextQuery| image.below(it.beginning).take(SHOWN).map(|pair| pair.1).sum();
+    report.each("below image", first(queries), below);
 }
 
 /// The map for reading of pairs in order.

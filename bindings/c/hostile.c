@@ -72,6 +72,13 @@ static void ask4(const uint8_t *image, size_t len, bool is_searched) {
     size_t looked = nifazombi_ipv4_longest_matches(image, len, asked, ASKED, found, ASKED);
     for (size_t i = 0; i < looked; i++) need(found[i] == nifazombi_ipv4_longest_match(image, len, asked[i]), "many aren't one by one");
     add(looked);
+    uint32_t again[ASKED];
+    uint32_t values[ASKED];
+    need(looked == nifazombi_ipv4_longest_values(image, len, asked, ASKED, again, ASKED, values, ASKED), "other counts of many");
+    for (size_t i = 0; i < looked; i++) {
+        bool is_found = found[i] && nifazombi_ipv4_row_at(image, len, found[i] - 1, &row);
+        need(again[i] == found[i] && values[i] == (is_found ? row.value : 0), "another value of many");
+    }
 }
 
 static size_t longest6(const uint8_t *image, size_t len, const uint8_t *address) {
@@ -116,6 +123,13 @@ static void ask6(const uint8_t *image, size_t len, bool is_searched) {
     size_t looked = nifazombi_ipv6_longest_matches(image, len, asked, ASKED, found, ASKED);
     for (size_t i = 0; i < looked; i++) need(found[i] == nifazombi_ipv6_longest_match(image, len, asked[i]), "many aren't one by one");
     add(looked);
+    uint32_t again[ASKED];
+    uint64_t values[ASKED];
+    need(looked == nifazombi_ipv6_longest_values(image, len, asked, ASKED, again, ASKED, values, ASKED), "other counts of many");
+    for (size_t i = 0; i < looked; i++) {
+        bool is_found = found[i] && nifazombi_ipv6_row_at(image, len, found[i] - 1, &row);
+        need(again[i] == found[i] && values[i] == (is_found ? row.value : 0), "another value of many");
+    }
 }
 
 // Of an image: the last pair whose key is a prefix of some bytes, by its index and one more. Keys rise, so it is the longest.

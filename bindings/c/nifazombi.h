@@ -105,6 +105,15 @@ size_t nifazombi_ipv4_longest_matches(
     const uint32_t *addresses, size_t addresses_len,
     uint32_t *found, size_t found_len);
 
+// Looks up addresses as `nifazombi_ipv4_longest_matches` does, and puts for each the value of its
+// row too, or 0 where no network holds it, into `values`. Goes as far as the shortest of the
+// three, and returns how many.
+size_t nifazombi_ipv4_longest_values(
+    const uint8_t *image, size_t image_len,
+    const uint32_t *addresses, size_t addresses_len,
+    uint32_t *found, size_t found_len,
+    uint32_t *values, size_t values_len);
+
 // The row of this very network, by its index and one more, or 0 where no row is of it.
 size_t nifazombi_ipv4_get(const uint8_t *image, size_t image_len, uint32_t first, uint32_t bits);
 
@@ -149,6 +158,15 @@ size_t nifazombi_ipv6_longest_matches(
     const uint8_t *image, size_t image_len,
     const void *addresses, size_t addresses_len,
     uint32_t *found, size_t found_len);
+
+// Looks up addresses as `nifazombi_ipv6_longest_matches` does, and puts for each the value of its
+// row too, or 0 where no network holds it, into `values`. Goes as far as the shortest of the
+// three, and returns how many.
+size_t nifazombi_ipv6_longest_values(
+    const uint8_t *image, size_t image_len,
+    const void *addresses, size_t addresses_len,
+    uint32_t *found, size_t found_len,
+    uint64_t *values, size_t values_len);
 
 // The row of this very network, by its index and one more, or 0 where no row is of it.
 size_t nifazombi_ipv6_get(const uint8_t *image, size_t image_len, const uint8_t first[16], uint32_t bits);

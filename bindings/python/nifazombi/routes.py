@@ -169,10 +169,10 @@ class Routes(Table):
         asked = self._family.many(addresses)
         count = 8 * len(asked) // self._family.width
         found = array.array("I", bytes(4 * count))
-        self._family.calls.longest_matches(self._at, self._len, asked, count, found.buffer_info()[0], count)
-        first, size = int.from_bytes(self._image[24:32], "little"), len(self) * self._family.rows.size
-        values = self._image[first : first + size].cast(self._family.values)[3::4]
-        return [values[it - 1] if it else None for it in found]
+        values = array.array(self._family.values, bytes(self._family.value_bits // 8 * count))
+        parts = (it for each in (found, values) for it in (each.buffer_info()[0], count))
+        self._family.calls.longest_values(self._at, self._len, asked, count, *parts)
+        return [value if it else None for it, value in zip(found, values)]
 
     def _network(self, network):
         """A network's first address and its bits, as the library takes them."""

@@ -97,6 +97,11 @@ abbrev pub found_row : Bool → List ℕ → ℕ → Option (Net ℕ × ℕ)
 found_row wide bs zero = None
 found_row wide bs (suc i) = Some (row_in wide bs i)
 
+-- its value, or 0 at 0
+abbrev pub found_value : Bool → List ℕ → ℕ → ℕ
+found_value wide bs zero = 0
+found_value wide bs (suc i) = value_in wide bs i
+
 -- the cell at t
 abbrev pub cell_in : List ℕ → ℕ → Cell
 cell_in bs t = record { count = u32_in bs (cells_place bs + 8 * t); around = u32_in bs (cells_place bs + 8 * t + 4) }

@@ -9,10 +9,10 @@ ghost use Rattle.frozen_routes.specs.Routes.{AreInFront, IsLongestRow, IsOwnRow,
 ghost use Rattle.image_parts.specs.Parts.{HoldsPayload, row_count};
 ghost use Rattle.flat_routes.specs.Faults.{IsRouteFault};
 ghost use Rattle.flat_routes.specs.Written.{CanWrite, ChangesWithin, IsWriteFault, image_size, link_from, row_from};
-ghost use Rattle.flat_routes.specs.Images.{IsImage, bases, first_in, found_row, image_rows, link_in, network, numbered_row, octet_number, of_ipv6, row6_of, row_in, row_size, sizes};
+ghost use Rattle.flat_routes.specs.Images.{IsImage, bases, first_in, found_row, found_value, image_rows, link_in, network, numbered_row, octet_number, of_ipv6, row6_of, row_in, row_size, sizes};
 
 use crate::head::plan_of;
-use crate::rows::{bits_at, first_at, link_at, value_at};
+use crate::rows::{bits_at, first_at, found_value, link_at, value_at};
 use crate::search::find;
 use crate::tables::TableRow;
 use crate::write::FlatRow;
@@ -173,6 +173,41 @@ pub fn longest_matches(image: &[u8], addresses: &[[u8; 16]], found: &mut [u32]) 
     let count = addresses.len().min(found.len());
     for i in 0..count {
         found[i] = find(image, true, plan, u128::from_be_bytes(addresses[i])) as u32;
+    }
+    count
+}
+
+/// Looks up addresses as `longest_matches` does, and puts for each its row's value too, or 0 where
+/// no network holds it, into `values`. It goes as far as the shortest of the three.
+pub fn longest_values(
+    image: &[u8],
+    addresses: &[[u8; 16]],
+    found: &mut [u32],
+    values: &mut [u64],
+) -> usize
+    ensures count { result
+        ≤ min (length addresses.now) (min (length found.new) (length values.new)) }
+    ensures all { IsImage of_ipv6 image.now
+        → result ≡ min (length addresses.now) (min (length found.new) (length values.new)) }
+    ensures within { (k : ℕ) → k < result → slice_index found.new k ≤ row_count image.now }
+    ensures values { (k : ℕ) → k < result
+        → slice_index values.new k ≡ found_value of_ipv6 image.now (slice_index found.new k) }
+    ensures rest { (k : ℕ) → result ≤ k → slice_index found.new k ≡ slice_index found.old k }
+    ensures rest_of_values { (k : ℕ) → result ≤ k
+        → slice_index values.new k ≡ slice_index values.old k }
+    ensures rows { IsImage of_ipv6 image.now → (k : ℕ) → k < result
+        → IsLongestRow 128 (λ n. n) (image_rows of_ipv6 image.now)
+        (slice_index (each octet_number addresses.now) k)
+        (found_row of_ipv6 image.now (slice_index found.new k)) }
+{
+    let Some(plan) = plan_of(image, true) else {
+        return 0;
+    };
+    let count = addresses.len().min(found.len()).min(values.len());
+    for i in 0..count {
+        let row = find(image, true, plan, u128::from_be_bytes(addresses[i]));
+        found[i] = row as u32;
+        values[i] = found_value(image, true, plan, row);
     }
     count
 }

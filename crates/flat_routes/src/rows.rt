@@ -1,7 +1,7 @@
 //! The rows and the cells of an image by their numbers.
 ghost use Rattle.std.specs.Prelude.{◌≡◌, ◌↔◌, ◌+◌, ◌-◌, ◌*◌, ◌/◌, ◌^◌, ◌<◌, ◌≤◌, Some, false, IsTrue, slice_get, slice_index};
 ghost use Rattle.frozen_routes.specs.Routes.{IsHolderAt};
-ghost use Rattle.flat_routes.specs.Images.{IsPlanOf, cell_in, bases, image_cells, links, sizes, value_in, width};
+ghost use Rattle.flat_routes.specs.Images.{IsPlanOf, cell_in, bases, found_value, image_cells, links, sizes, value_in, width};
 
 use crate::head::Plan;
 use image_parts::{u32_at, u64_at, u128_at};
@@ -87,6 +87,20 @@ pub(crate) fn value_at(image: &[u8], wide: bool, plan: Plan, at: usize) -> u64
     } else {
         u64::from(u32_at(image, plan.rows_at + 16 * at + 12))
     }
+}
+
+/// The value of the row whose index and one more is `found`, or 0 at 0.
+#[inline(always)]
+pub(crate) fn found_value(image: &[u8], wide: bool, plan: Plan, found: usize) -> u64
+    requires plan { IsPlanOf wide image.now plan }
+    requires within { found ≤ plan.rows }
+    ensures value { result ≡ found_value wide image.now found }
+    ensures fits { wide ≡ false → result < 2 ^ 32 }
+{
+    if found == 0 {
+        return 0;
+    }
+    value_at(image, wide, plan, found - 1)
 }
 
 /// The cell at an index.

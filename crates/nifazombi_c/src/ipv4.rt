@@ -6,7 +6,7 @@ ghost use Rattle.image_parts.specs.Parts.{HoldsPayload, row_count};
 ghost use Rattle.frozen_routes.specs.Routes.{AreInFront, IsLongestRow, IsOwnRow, is_inside};
 ghost use Rattle.flat_routes.specs.Written.{CanWrite, ChangesWithin, IsWriteFault, image_size};
 ghost use Rattle.flat_routes.specs.Faults.{IsRouteFault};
-ghost use Rattle.flat_routes.specs.Images.{IsImage, bases, first_in, found_row, image_rows, link_in, network, of_ipv4, row4_of, sizes};
+ghost use Rattle.flat_routes.specs.Images.{IsImage, bases, first_in, found_row, found_value, image_rows, link_in, network, of_ipv4, row4_of, sizes};
 ghost use Rattle.nifazombi_c.specs.Results.{told_error, told_write};
 
 use crate::results::{Span, code_of, status_of};
@@ -83,6 +83,34 @@ pub extern "C" fn nifazombi_ipv4_longest_matches(
         (found_row of_ipv4 image.now (slice_index found.new k)) }
 {
     ipv4::longest_matches(image, addresses, found)
+}
+
+/// Looks up addresses as `nifazombi_ipv4_longest_matches` does, and puts for each the value of its
+/// row too, or 0 where no network holds it, into `values`. Goes as far as the shortest of the
+/// three, and returns how many.
+#[unsafe(no_mangle)]
+pub extern "C" fn nifazombi_ipv4_longest_values(
+    image: &[u8],
+    addresses: &[u32],
+    found: &mut [u32],
+    values: &mut [u32],
+) -> usize
+    ensures count { result
+        ≤ min (length addresses.now) (min (length found.new) (length values.new)) }
+    ensures all { IsImage of_ipv4 image.now
+        → result ≡ min (length addresses.now) (min (length found.new) (length values.new)) }
+    ensures within { (k : ℕ) → k < result → slice_index found.new k ≤ row_count image.now }
+    ensures values { (k : ℕ) → k < result
+        → slice_index values.new k ≡ found_value of_ipv4 image.now (slice_index found.new k) }
+    ensures rest { (k : ℕ) → result ≤ k → slice_index found.new k ≡ slice_index found.old k }
+    ensures rest_of_values { (k : ℕ) → result ≤ k
+        → slice_index values.new k ≡ slice_index values.old k }
+    ensures rows { IsImage of_ipv4 image.now → (k : ℕ) → k < result
+        → IsLongestRow 32 (λ n. n) (image_rows of_ipv4 image.now)
+        (slice_index addresses.now k)
+        (found_row of_ipv4 image.now (slice_index found.new k)) }
+{
+    ipv4::longest_values(image, addresses, found, values)
 }
 
 /// The row of this very network, by its index and one more, or 0 where no row is of it.

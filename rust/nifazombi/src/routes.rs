@@ -173,6 +173,18 @@ impl Routes<'_, Ipv4Addr> {
     pub fn longest_matches(&self, addresses: &[u32], found: &mut [u32]) -> usize {
         ipv4::longest_matches(self.image, addresses, found)
     }
+
+    /// Looks up addresses as `longest_matches` does, and puts for each its value too, or 0 where no
+    /// network holds it. It goes as far as the shortest of the three, and returns how many.
+    #[inline]
+    pub fn longest_values(
+        &self,
+        addresses: &[u32],
+        found: &mut [u32],
+        values: &mut [u32],
+    ) -> usize {
+        ipv4::longest_values(self.image, addresses, found, values)
+    }
 }
 
 impl Routes<'_, Ipv6Addr> {
@@ -181,6 +193,18 @@ impl Routes<'_, Ipv6Addr> {
     #[inline]
     pub fn longest_matches(&self, addresses: &[[u8; 16]], found: &mut [u32]) -> usize {
         ipv6::longest_matches(self.image, addresses, found)
+    }
+
+    /// Looks up addresses as `longest_matches` does, and puts for each its value too, or 0 where no
+    /// network holds it. It goes as far as the shortest of the three, and returns how many.
+    #[inline]
+    pub fn longest_values(
+        &self,
+        addresses: &[[u8; 16]],
+        found: &mut [u32],
+        values: &mut [u64],
+    ) -> usize {
+        ipv6::longest_values(self.image, addresses, found, values)
     }
 }
 

@@ -203,6 +203,16 @@ fn get_below_and_longest_matches_in_a_stored_image() {
     assert_eq!((count, found), (3, [7, 0, 4, 9]));
 }
 
+#[test]
+fn longest_values_go_as_far_as_the_shortest() {
+    let (mut found, mut values) = ([9; 3], [9; 4]);
+    let asked = [0xffff_ffff, 1, 0x0a01_0203];
+    let count = ipv4::longest_values(&stored(), &asked, &mut found, &mut values);
+    assert_eq!((count, found, values), (3, [7, 0, 4], [ROWS[6][3], 0, ROWS[3][3], 9]));
+    assert_eq!(ipv4::longest_values(&stored(), &asked, &mut found, &mut values[..1]), 1);
+    assert_eq!(ipv4::longest_values(&[], &asked, &mut found, &mut values), 0);
+}
+
 /// A row that is to be written.
 fn row(first: u32, bits: u32, value: u32) -> ipv4::Row {
     ipv4::Row { first, bits, link: 0, value }
@@ -296,6 +306,9 @@ fn write_of_ipv6_rows() {
     let mut found = [9; 2];
     let count = ipv6::longest_matches(&out, &addresses, &mut found);
     assert_eq!((count, found), (2, [1, 4]));
+    let (mut again, mut values) = ([9; 2], [9; 2]);
+    let count = ipv6::longest_values(&out, &addresses, &mut again, &mut values);
+    assert_eq!((count, again, values), (2, found, [100, 103]));
 }
 
 #[test]

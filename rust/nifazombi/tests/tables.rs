@@ -308,9 +308,14 @@ fn longest_matches_of_many_addresses() {
         (0..500).map(|_| random_address::<Ipv4Addr>(&mut random).into()).collect();
     let mut found = vec![0; 500];
     assert_eq!(routes.longest_matches(&addresses, &mut found), 500);
-    for (address, found) in addresses.iter().zip(found) {
+    let (mut again, mut values) = (vec![0; 500], vec![0; 500]);
+    assert_eq!(routes.longest_values(&addresses, &mut again, &mut values), 500);
+    assert_eq!(again, found);
+    for (address, (found, value)) in addresses.iter().zip(found.into_iter().zip(values)) {
         let index = routes.longest_match_index((*address).into());
         assert_eq!(found as usize, index.map_or(0, |at| at + 1));
+        let route = routes.longest_match((*address).into());
+        assert_eq!(u64::from(value), route.map_or(0, |route| route.value));
     }
     assert_eq!(routes.longest_matches(&addresses, &mut [0; 3]), 3);
     assert_eq!(routes.longest_matches(&[], &mut [0; 3]), 0);

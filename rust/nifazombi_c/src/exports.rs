@@ -128,6 +128,31 @@ pub unsafe extern "C" fn nifazombi_ipv4_longest_matches(
     }
 }
 
+/// Looks up addresses as `nifazombi_ipv4_longest_matches` does, and puts for each the value of its
+/// row too, or 0 where no network holds it, into `values`. Goes as far as the shortest of the
+/// three, and returns how many.
+#[unsafe(no_mangle)]
+pub unsafe extern "C" fn nifazombi_ipv4_longest_values(
+    image: *const u8,
+    image_len: usize,
+    addresses: *const u32,
+    addresses_len: usize,
+    found: *mut u32,
+    found_len: usize,
+    values: *mut u32,
+    values_len: usize,
+) -> usize {
+    // SAFETY: callers pass live memory, and share only what is read, as the header asks.
+    unsafe {
+        ipv4::nifazombi_ipv4_longest_values(
+            slice(image, image_len),
+            slice(addresses, addresses_len),
+            slice_mut(found, found_len),
+            slice_mut(values, values_len),
+        )
+    }
+}
+
 /// The row of this very network, by its index and one more, or 0 where no row is of it.
 #[unsafe(no_mangle)]
 pub unsafe extern "C" fn nifazombi_ipv4_get(
@@ -257,6 +282,31 @@ pub unsafe extern "C" fn nifazombi_ipv6_longest_matches(
             slice(image, image_len),
             slice(addresses, addresses_len),
             slice_mut(found, found_len),
+        )
+    }
+}
+
+/// Looks up addresses as `nifazombi_ipv6_longest_matches` does, and puts for each the value of its
+/// row too, or 0 where no network holds it, into `values`. Goes as far as the shortest of the
+/// three, and returns how many.
+#[unsafe(no_mangle)]
+pub unsafe extern "C" fn nifazombi_ipv6_longest_values(
+    image: *const u8,
+    image_len: usize,
+    addresses: *const [u8; 16],
+    addresses_len: usize,
+    found: *mut u32,
+    found_len: usize,
+    values: *mut u64,
+    values_len: usize,
+) -> usize {
+    // SAFETY: callers pass live memory, and share only what is read, as the header asks.
+    unsafe {
+        ipv6::nifazombi_ipv6_longest_values(
+            slice(image, image_len),
+            slice(addresses, addresses_len),
+            slice_mut(found, found_len),
+            slice_mut(values, values_len),
         )
     }
 }

@@ -18,8 +18,8 @@ fn answered(lines: &str) -> (Vec<String>, bool) {
 
 #[test]
 fn rows_of_each_kind_of_keys() {
-    let kinds = [("words", 31), ("paths", 31), ("numbers", 31), ("addresses", 24)];
-    let others = [("ipv4", 6), ("ipv6", 6), ("pages", 2), ("chain", 12)];
+    let kinds = [("words", 35), ("paths", 35), ("numbers", 35), ("addresses", 24)];
+    let others = [("ipv4", 7), ("ipv6", 7), ("pages", 2), ("chain", 12)];
     for (kind, count) in [kinds, others].concat() {
         let line = format!("{kind} 500");
         let (rows, is_well) = answered(&format!("{line}\n"));

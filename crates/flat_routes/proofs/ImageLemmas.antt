@@ -11,15 +11,14 @@ use Rattle.frozen_routes.specs.Routes.{AreRising, AreRowsInOrder, AreUpTo, IsFir
 use Rattle.frozen_routes.proofs.RouteLemmas.Blocks.{earlier_le}
 use Rattle.frozen_routes.proofs.RouteLemmas.Links.{among_all, firsts_to}
 use Rattle.frozen_routes.proofs.RouteLemmas.Rows.{last_is_longest, none_holds, stored_at}
-use Rattle.frozen_routes.proofs.RouteLemmas.Directory.{top_above, top_around, top_below}
 use Rattle.radix_keys.proofs.KeyLemmas.Order.{three_ways}
 use Rattle.sorted_tables.specs.Tables.{IsLastOf, IsPartedAt}
 use Rattle.image_parts.specs.declared.errors.ImageError.{ImageError}
-use Rattle.image_parts.specs.declared.errors.ImageError.TheVariants.{Short, Mark, Version, Part, Row, Cell}
-use Rattle.flat_routes.specs.declared.head.Plan.{Plan}
+use Rattle.image_parts.specs.declared.errors.ImageError.TheVariants.{Short, Mark, Version, Part, Row, Span, Cell}
+use Rattle.flat_routes.specs.declared.head.RowPlan.{RowPlan}
 use Rattle.flat_routes.specs.Faults.{IsRouteFault, IsRoutePart, family}
 use Rattle.flat_routes.specs.RowLaws.{AreSorted, ordered}
-use Rattle.flat_routes.specs.Images.{AreLinkedTo, HasHead, IsImage, IsNext, IsPlanOf, bits_in, cell_count, cell_in, first_in, bases, found_row, image_cells, image_rows, link_in, links, network, rest_of, row_in, sizes, value_in, width}
+use Rattle.flat_routes.specs.Images.{AreLinkedTo, HasHead, IsImage, IsNext, IsRowPlan, bits_in, cell_count, cell_in, first_in, bases, found_row, image_rows, link_in, links, network, rest_of, row_in, sizes, value_in, width}
 
 -- as many rows as the head says
 pub length-rows : (wide : Bool) (bs : List ℕ) → length (image_rows wide bs) ≡ row_count bs
@@ -49,63 +48,42 @@ pub link_stored : (wide : Bool) (bs : List ℕ) (i : ℕ) → i < row_count bs �
 link_stored wide bs i l = read_at (links wide bs) i (link_in wide bs i) (listed_at (link_in wide bs) (row_count bs) i l)
 
 -- what stands where a row of IPv6 has its first address, its bits and its link
-pub wide_first : (wide : Bool) (bs : List ℕ) (plan : Plan) (i : ℕ) → wide ≡ true → IsPlanOf wide bs plan → i < plan.rows
+pub wide_first : (wide : Bool) (bs : List ℕ) (plan : RowPlan) (i : ℕ) → wide ≡ true → IsRowPlan wide bs plan → i < plan.rows
     → u128_in bs (plan.rows_at + 32 * i) ≡ get_or (bases wide bs) i 0
 wide_first false bs plan i is of l = absurd (cc is)
 wide_first true bs plan i is of l =
     ap (λ a. u128_in bs (a + 32 * i)) of.rows_at ∙ sym (first_stored true bs i (omega (arith, l, of.rows)))
 
-pub wide_size : (wide : Bool) (bs : List ℕ) (plan : Plan) (i : ℕ) → wide ≡ true → IsPlanOf wide bs plan → i < plan.rows
+pub wide_size : (wide : Bool) (bs : List ℕ) (plan : RowPlan) (i : ℕ) → wide ≡ true → IsRowPlan wide bs plan → i < plan.rows
     → u32_in bs (plan.rows_at + 32 * i + 16) ≡ get_or (sizes wide bs) i 0
 wide_size false bs plan i is of l = absurd (cc is)
 wide_size true bs plan i is of l =
     ap (λ a. u32_in bs (a + 32 * i + 16)) of.rows_at ∙ sym (size_stored true bs i (omega (arith, l, of.rows)))
 
-pub wide_link : (wide : Bool) (bs : List ℕ) (plan : Plan) (i : ℕ) → wide ≡ true → IsPlanOf wide bs plan → i < plan.rows
+pub wide_link : (wide : Bool) (bs : List ℕ) (plan : RowPlan) (i : ℕ) → wide ≡ true → IsRowPlan wide bs plan → i < plan.rows
     → u32_in bs (plan.rows_at + 32 * i + 20) ≡ get_or (links wide bs) i 0
 wide_link false bs plan i is of l = absurd (cc is)
 wide_link true bs plan i is of l =
     ap (λ a. u32_in bs (a + 32 * i + 20)) of.rows_at ∙ sym (link_stored true bs i (omega (arith, l, of.rows)))
 
 -- and of IPv4
-pub narrow_first : (wide : Bool) (bs : List ℕ) (plan : Plan) (i : ℕ) → wide ≡ false → IsPlanOf wide bs plan → i < plan.rows
+pub narrow_first : (wide : Bool) (bs : List ℕ) (plan : RowPlan) (i : ℕ) → wide ≡ false → IsRowPlan wide bs plan → i < plan.rows
     → u32_in bs (plan.rows_at + 16 * i) ≡ get_or (bases wide bs) i 0
 narrow_first true bs plan i is of l = absurd (cc is)
 narrow_first false bs plan i is of l =
     ap (λ a. u32_in bs (a + 16 * i)) of.rows_at ∙ sym (first_stored false bs i (omega (arith, l, of.rows)))
 
-pub narrow_size : (wide : Bool) (bs : List ℕ) (plan : Plan) (i : ℕ) → wide ≡ false → IsPlanOf wide bs plan → i < plan.rows
+pub narrow_size : (wide : Bool) (bs : List ℕ) (plan : RowPlan) (i : ℕ) → wide ≡ false → IsRowPlan wide bs plan → i < plan.rows
     → u32_in bs (plan.rows_at + 16 * i + 4) ≡ get_or (sizes wide bs) i 0
 narrow_size true bs plan i is of l = absurd (cc is)
 narrow_size false bs plan i is of l =
     ap (λ a. u32_in bs (a + 16 * i + 4)) of.rows_at ∙ sym (size_stored false bs i (omega (arith, l, of.rows)))
 
-pub narrow_link : (wide : Bool) (bs : List ℕ) (plan : Plan) (i : ℕ) → wide ≡ false → IsPlanOf wide bs plan → i < plan.rows
+pub narrow_link : (wide : Bool) (bs : List ℕ) (plan : RowPlan) (i : ℕ) → wide ≡ false → IsRowPlan wide bs plan → i < plan.rows
     → u32_in bs (plan.rows_at + 16 * i + 8) ≡ get_or (links wide bs) i 0
 narrow_link true bs plan i is of l = absurd (cc is)
 narrow_link false bs plan i is of l =
     ap (λ a. u32_in bs (a + 16 * i + 8)) of.rows_at ∙ sym (link_stored false bs i (omega (arith, l, of.rows)))
-
--- the cell of the block of a number says what it does of the number
-module _ (wide : Bool) (bs : List ℕ) (image : IsImage wide bs) (a e t c : ℕ) (same : e ≡ rest_of bs) (at : slice_get (image_cells bs) t ≡ Some (cell_in bs t))
-    (count : c ≡ (cell_in bs t).count) where
-  -- the networks before the block begin at or before it
-  pub span_below : (k : ℕ) → t ≡ a / 2 ^ e → k < c → get_or (bases wide bs) k 0 ≤ a
-  span_below k is l = top_below (rest_of bs) (bases wide bs) a t c k (subst (IsFirstTop (rest_of bs) (bases wide bs) t) (sym count) (image.directory.cells t (cell_in bs t) at).count)
-      (is ∙ ap (λ d. a / 2 ^ d) same) l
-
-  -- and those behind it don't
-  pub span_above : (s k : ℕ) → t ≡ s + 1 → s ≡ a / 2 ^ e → c ≤ k → k < row_count bs → a < get_or (bases wide bs) k 0
-  span_above s k next is l m = top_above (rest_of bs) (bases wide bs) a s c k
-      (subst (λ u. IsFirstTop (rest_of bs) (bases wide bs) u c) next (subst (IsFirstTop (rest_of bs) (bases wide bs) t) (sym count) (image.directory.cells t (cell_in bs t) at).count))
-      (is ∙ ap (λ d. a / 2 ^ d) same) l (omega (arith, m, length-firsts wide bs))
-
-  -- and one of them is the last that holds it
-  pub span_around : (r : ℕ) → t ≡ a / 2 ^ e → r ≡ (cell_in bs t).around → IsLastHolder (width wide) (bases wide bs) (sizes wide bs) c a r
-  span_around r is around =
-      subst (λ n. IsLastHolder (width wide) (bases wide bs) (sizes wide bs) n a r) (sym count)
-      (subst (IsLastHolder (width wide) (bases wide bs) (sizes wide bs) (cell_in bs t).count a) (sym around)
-      (top_around (rest_of bs) (width wide) (bases wide bs) (sizes wide bs) t a (cell_in bs t) (image.directory.cells t (cell_in bs t) at) (is ∙ ap (λ d. a / 2 ^ d) same)))
 
 -- the first n networks rise
 module _ (w : ℕ) (fs bs : List ℕ) (n : ℕ) (next : (k : ℕ) → k < n → IsNext w fs bs k) where
@@ -174,8 +152,8 @@ image_linked wide bs n image within = record {
 }
 
 -- all rows of an image are sorted columns
-pub all_sorted : (wide : Bool) (bs : List ℕ) (n : ℕ) → IsImage wide bs → n ≡ row_count bs → AreSorted (record { wide = wide; bytes = bs; rows = n; whole = true })
-all_sorted wide bs n image is = record { linked = image_linked wide bs n image (omega (arith, is)); image = λ e. image }
+pub all_sorted : (wide : Bool) (bs : List ℕ) (n : ℕ) → IsImage wide bs → n ≡ row_count bs → AreSorted (record { wide = wide; bytes = bs; rows = n })
+all_sorted wide bs n image is = image_linked wide bs n image (omega (arith, is))
 
 -- the last of some rising networks that holds an address is the longest of these
 found_longest : (wide : Bool) (bs : List ℕ) (rows : List (Net ℕ × ℕ)) (a r : ℕ) → AreRowsInOrder (width wide) (λ m. m) rows
@@ -188,26 +166,13 @@ found_longest wide bs rows a (suc i) rising stored last =
     last_is_longest (width wide) (λ m. m) rows rising a (suc i) (row_in wide bs i) (omega arith) last
     (subst (λ k. slice_get rows k ≡ Some (row_in wide bs i)) back (stored i (let le = last.within in omega (arith, le))))
 
--- how many of all networks begin by an address, as a search parts them
-pub up_to : (wide : Bool) (bs : List ℕ) (a n c : ℕ) → n ≡ row_count bs
-    → IsPartedAt (λ k. get_or (bases wide bs) k 0 ≤ a) (λ k. get_or (bases wide bs) k 0 ≤ a → ⊥) n c → AreUpTo (bases wide bs) a c
-up_to wide bs a n c is parted = record {
-  within = (let le = parted.within in omega (arith, le, is, length-firsts wide bs));
-  before = parted.before;
-  after = λ k l m. elim (cases_lt a (get_or (bases wide bs) k 0)) [
-    | inl lt ↦ lt
-    | inr ge ↦ absurd (parted.after k l (omega (arith, m, is, length-firsts wide bs)) ge)
-  ];
-}
-
--- the last of those that begin by an address too
-pub longest : (wide : Bool) (bs : List ℕ) (a n r : ℕ) → IsImage wide bs → AreUpTo (bases wide bs) a n
-    → IsLastHolder (width wide) (bases wide bs) (sizes wide bs) n a r
+-- the last of all networks that holds an address is the longest
+pub longest : (wide : Bool) (bs : List ℕ) (a r : ℕ) → IsImage wide bs → IsLastHolder (width wide) (bases wide bs) (sizes wide bs) (length (bases wide bs)) a r
     → IsLongestRow (width wide) (λ m. m) (image_rows wide bs) a (found_row wide bs r)
-longest wide bs a n r image count last =
+longest wide bs a r image last =
     let rows = image_rows wide bs in
-    let whole = among_all (width wide) (bases wide bs) (sizes wide bs) a n r image.rising count last in
-    found_longest wide bs rows a r image.rising (λ i l. listed_at (row_in wide bs) (row_count bs) i (omega (arith, l, length-rows wide bs))) (subst (λ k. IsLastHolder (width wide) (bases wide bs) (sizes wide bs) k a r) (length-map rows (λ s. s.0.base)) whole)
+    found_longest wide bs rows a r image.rising (λ i l. listed_at (row_in wide bs) (row_count bs) i (omega (arith, l, length-rows wide bs)))
+    (subst (λ k. IsLastHolder (width wide) (bases wide bs) (sizes wide bs) k a r) (length-map rows (λ s. s.0.base)) last)
 
 -- the first n of some rows have their numbers
 pub front_number : {X : Type 0} (f : X → ℕ) (xs : List X) (n k : ℕ) → k < n → get_or (each f (take n xs)) k 0 ≡ get_or (each f xs) k 0
@@ -291,43 +256,6 @@ none_of_none w fs bs a = record {
   none = λ k l m. absurd (omega (arith, m));
 }
 
--- where m networks begin before an address, no fewer begin before one that isn't before that
-pub no_fewer : (fs : List ℕ) (a b m r : ℕ) → a ≤ b → m ≤ length fs → ((k : ℕ) → k < m → get_or fs k 0 < a)
-    → IsPartedAt (λ k. get_or fs k 0 < b) (λ k. b ≤ get_or fs k 0) (length fs) r → m ≤ r
-no_fewer fs a b m r le within first parted = elim (cases_lt r m) [
-  | inl lt ↦
-      let less = first r lt in
-      let more = parted.after r (omega arith) (omega (arith, lt, within)) in
-      absurd (omega (arith, less, more, le))
-  | inr ge ↦ ge
-]
-
--- a block begins where the one before it does, or behind that
-pub block_before : (t e : ℕ) → (t - 1) * 2 ^ e ≤ t * 2 ^ e
-block_before t e = mul-le (t - 1) (2 ^ e) t (2 ^ e) (omega arith) (omega arith)
-
--- a count of networks that the ones at its sides bear out
-pub parted_by : (w : ℕ) (fs bs parents : List ℕ) (n a c : ℕ) → AreLinkedTo w fs bs parents n → length fs ≡ n → c ≤ n → (0 < c → get_or fs (c - 1) 0 < a)
-    → (c < n → a ≤ get_or fs c 0) → IsPartedAt (λ k. get_or fs k 0 < a) (λ k. a ≤ get_or fs k 0) (length fs) c
-parted_by w fs bs parents n a c linked all within below from =
-    let rising = all_rise w fs bs n linked.next (omega (arith, all)) in
-    record {
-      within = omega (arith, all, within);
-      before = λ k l.
-          let last = below (omega (arith, l)) in
-          let most = firsts_to w fs bs k (c - 1) rising (omega (arith, l)) (omega (arith, all, l, within)) in
-          omega (arith, last, most);
-      after = λ k l m.
-          let next = from (omega (arith, l, m, all)) in
-          let least = firsts_to w fs bs c k rising l m in
-          omega (arith, next, least);
-    }
-
--- an address has no more than 128 bits
-pub width_most : (wide : Bool) → 2 ^ width wide ≤ 2 ^ 128
-width_most false = omega arith
-width_most true = omega arith
-
 -- no row stands behind the last
 pub no_row : (wide : Bool) (bs : List ℕ) (i : ℕ) → row_count bs ≤ i → slice_get (image_rows wide bs) i ≡ None
 no_row wide bs i l = none_past (image_rows wide bs) i (omega (arith, l, length-rows wide bs))
@@ -345,10 +273,11 @@ pub row_is : (wide : Bool) (bs : List ℕ) (i f b v : ℕ) → i < row_count bs 
 row_is wide bs i f b v l first size value =
     listed_at (row_in wide bs) (row_count bs) i l ∙ ap (λ r. Some r) (row_read wide bs i f b v l first size value)
 
--- both parts are those of an image
-pub route_parts : (wide : Bool) (bs : List ℕ) → HasHead wide bs → u32_in bs 20 ≡ 0 → u64_in bs 56 ≡ 8 * cell_count bs → (j : ℕ) → j < 2 → IsRoutePart wide bs j
-route_parts wide bs head plain whole zero l = record { listed = head.rows; plain = plain; size = head.rows_size }
-route_parts wide bs head plain whole (suc j) l = record { listed = head.cells; shift = head.shift; whole = whole }
+-- each part is that of an image
+pub route_parts : (wide : Bool) (bs : List ℕ) → IsImage wide bs → (j : ℕ) → j < 3 → IsRoutePart wide bs j
+route_parts wide bs image zero l = record { listed = image.head.rows; plain = image.plain; size = image.head.rows_size }
+route_parts wide bs image (suc zero) l = record { listed = image.head.spans; start = image.head.start; some = image.spans.some; whole = image.whole_spans }
+route_parts wide bs image (suc (suc j)) l = record { listed = image.head.cells; shift = image.head.shift; whole = image.whole_cells }
 
 -- an image has no fault
 pub no_fault : (wide : Bool) (bs : List ℕ) (e : ImageError) → IsRouteFault wide bs e → IsImage wide bs → ⊥
@@ -358,12 +287,10 @@ no_fault wide bs Short f image =
     elim f [ inl l ↦ omega (arith, l, some, fits) | inr l ↦ let past = l.1 in omega (arith, past, fits) ]
 no_fault wide bs Mark f image = f.1 (ap family image.head.marked)
 no_fault wide bs Version f image = f.2 image.head.marked
-no_fault wide bs (Part zero) f image =
+no_fault wide bs (Part i) f image =
+    let three = f.within in
     let some = image.head.some in
-    f.wrong (omega (arith, some)) (record { listed = image.head.rows; plain = image.plain; size = image.head.rows_size })
-no_fault wide bs (Part (suc i)) f image =
-    let two = f.within in
-    let some = image.head.some in
-    f.wrong (omega (arith, two, some)) (record { listed = image.head.cells; shift = image.head.shift; whole = image.whole })
+    f.wrong (omega (arith, three, some)) (route_parts wide bs image i three)
 no_fault wide bs (Row i) f image = let inside = f.within in f.wrong (image_linked wide bs (i + 1) image (omega (arith, inside)))
-no_fault wide bs (Cell t) f image = f.wrong (image.directory.cells t (cell_in bs t) (listed_at (cell_in bs) (cell_count bs) t f.within))
+no_fault wide bs (Span i) f image = f.wrong (image.spans.each i f.within)
+no_fault wide bs (Cell t) f image = f.wrong (image.cells t f.within)

@@ -1,5 +1,7 @@
 -- The lemmas.
 pub mod ImageLemmas
+pub mod SpanLemmas
+pub mod IndexLemmas
 pub mod TableLemmas
 pub mod WriteLemmas
 -- The octets of an address, and its number.

@@ -2,3 +2,4 @@ pub mod Faults
 pub mod Images
 pub mod Written
 pub mod RowLaws
+pub mod SpanLaws

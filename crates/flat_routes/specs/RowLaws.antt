@@ -1,24 +1,22 @@
 -- Rows whose networks rise, and have their links, are columns that a search takes.
-use Rattle.std.proofs.Common.{◌≡◌, ℕ, zero, suc, ◌-◌, ◌<◌, ◌≤◌, inl, inr, Bool, true, List, get_or, ap, subst, arith}
+use Rattle.std.proofs.Common.{◌≡◌, ℕ, zero, suc, ◌-◌, ◌<◌, ◌≤◌, inl, inr, Bool, List, get_or, subst, arith}
 use Rattle.std.proofs.lemmas.Bool.{cases_lt}
 use Rattle.frozen_routes.specs.Routes.{IsEarlier, IsHolderAt, IsInFront, IsLastHolder}
 use Rattle.frozen_routes.proofs.RouteLemmas.Blocks.{earlier_le, sandwich}
 use Rattle.frozen_routes.proofs.RouteLemmas.Growing.{earlier_through}
 use Rattle.frozen_routes.proofs.RouteLemmas.Parts.{front_down}
 use Rattle.flat_routes.specs.declared.columns.Within.{Within}
-use Rattle.flat_routes.specs.Images.{AreLinkedTo, IsImage, IsNext, bases, links, sizes, width}
+use Rattle.flat_routes.specs.Images.{AreLinkedTo, IsNext, bases, links, sizes, width}
 
--- the first rows of bytes that may be an image, or all of one that a search takes for whole
+-- the first rows of bytes that may be an image
 pub record FirstRows : Type 0 where
   pub wide : Bool
   pub bytes : List ℕ
   pub rows : ℕ
-  pub whole : Bool
 
--- their networks rise, each has its link, and the whole is an image
-pub record AreSorted (c : FirstRows) : Type 0 where
-  pub linked : AreLinkedTo (width c.wide) (bases c.wide c.bytes) (sizes c.wide c.bytes) (links c.wide c.bytes) c.rows
-  pub image : c.whole ≡ true → IsImage c.wide c.bytes
+-- their networks rise, and each has its link
+abbrev pub AreSorted : FirstRows → Type 0
+AreSorted c = AreLinkedTo (width c.wide) (bases c.wide c.bytes) (sizes c.wide c.bytes) (links c.wide c.bytes) c.rows
 
 -- the network at the index k holds the address a
 abbrev pub IsHolderIn : FirstRows → (a k : ℕ) → Type 0
@@ -50,32 +48,20 @@ module _ (w : ℕ) (fs bs : List ℕ) (n : ℕ) (next : (k : ℕ) → k < n → 
   pub around_first : (a j k : ℕ) → k < j → j < n → get_or fs j 0 ≤ a → IsHolderAt w fs bs a k → IsHolderAt w fs bs (get_or fs j 0) k
   around_first a j k l m le p = sandwich (get_or fs k 0) (get_or fs j 0) a (w - get_or bs k 0) (earlier_le _ _ _ _ (ordered k j l m)) le p
 
-  -- first addresses don't fall
-  pub firsts_rise : (j k : ℕ) → j ≤ k → k < n → get_or fs j 0 ≤ get_or fs k 0
-  firsts_rise j k l m = elim (cases_lt j k) [
-    | inl lt ↦ earlier_le _ _ _ _ (ordered j k lt m)
-    | inr ge ↦ let same : j ≡ k = omega (arith, l, ge) in let e = ap (λ i. get_or fs i 0) same in omega (arith, e)
-  ]
-
 -- what holds an address is around each later network that begins at or before it
 pub rows_nest : (c : FirstRows) (a j k : ℕ) → AreSorted c → k < j → j < c.rows → get_or (bases c.wide c.bytes) j 0 ≤ a → IsHolderIn c a k
     → IsHolderIn c (get_or (bases c.wide c.bytes) j 0) k
-rows_nest c a j k sorted = around_first (width c.wide) (bases c.wide c.bytes) (sizes c.wide c.bytes) c.rows sorted.linked.next a j k
+rows_nest c a j k sorted = around_first (width c.wide) (bases c.wide c.bytes) (sizes c.wide c.bytes) c.rows sorted.next a j k
 
 -- each has its link
 pub rows_linked : (c : FirstRows) (i : ℕ) → AreSorted c → i < c.rows
     → IsLastHolder (width c.wide) (bases c.wide c.bytes) (sizes c.wide c.bytes) i (get_or (bases c.wide c.bytes) i 0) (get_or (links c.wide c.bytes) i 0)
-rows_linked c i sorted l = sorted.linked.links i l
-
--- where one begins at or before an address all up to it do
-pub rows_rise : (c : FirstRows) (a j k : ℕ) → AreSorted c → j ≤ k → k < c.rows → get_or (bases c.wide c.bytes) k 0 ≤ a → get_or (bases c.wide c.bytes) j 0 ≤ a
-rows_rise c a j k sorted l m le =
-    let up = firsts_rise (width c.wide) (bases c.wide c.bytes) (sizes c.wide c.bytes) c.rows sorted.linked.next j k l m in omega (arith, up, le)
+rows_linked c i sorted l = sorted.links i l
 
 -- where one comes in front all up to it do
 pub fronts_rise : (c : FirstRows) (q : Within) (j k : ℕ) → AreSorted c → j ≤ k → k < c.rows → IsFrontIn c q k → IsFrontIn c q j
 fronts_rise c q j k sorted l m front = elim (cases_lt j k) [
-  | inl lt ↦ front_down (width c.wide) q.is_through q.bits q.quotient _ _ _ _ ((sorted.linked.next k m).base)
-      (ordered (width c.wide) (bases c.wide c.bytes) (sizes c.wide c.bytes) c.rows sorted.linked.next j k lt m) front
+  | inl lt ↦ front_down (width c.wide) q.is_through q.bits q.quotient _ _ _ _ ((sorted.next k m).base)
+      (ordered (width c.wide) (bases c.wide c.bytes) (sizes c.wide c.bytes) c.rows sorted.next j k lt m) front
   | inr ge ↦ let same : k ≡ j = omega (arith, l, ge) in subst (IsFrontIn c q) same front
 ]

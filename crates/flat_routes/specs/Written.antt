@@ -6,21 +6,30 @@ use Rattle.image_parts.specs.declared.errors.WriteError.{WriteError}
 use Rattle.image_parts.specs.declared.errors.WriteError.TheVariants.{Full, Short, OutOfOrder}
 use Rattle.image_parts.specs.Parts.{HoldsPayload, IsEntry, u128_in, u32_in, u64_in}
 use Rattle.frozen_routes.specs.Routes.{AreRowsInOrder, IsFirstOutOfOrder, IsLastHolder, base_numbers, bit_counts}
-use Rattle.flat_routes.specs.declared.head.Plan.{Plan}
-use Rattle.flat_routes.specs.Images.{IsImage, image_rows, link_in, mark, network, row_in, row_size, width}
+use Rattle.flat_routes.specs.declared.head.CellPlan.{CellPlan}
+use Rattle.flat_routes.specs.declared.head.RowPlan.{RowPlan}
+use Rattle.flat_routes.specs.declared.head.SpanPlan.{SpanPlan}
+use Rattle.flat_routes.specs.Images.{IsImage, image_rows, link_in, mark, network, row_in, row_size, start_size, width}
 
--- by how many first bits of an address the cells of so many rows are: as many as the count has binary digits, but at
--- least 9 and at most 21
+-- of how many blocks the cells of so many rows are at most, as a power of two: as many as the count has binary digits, but
+-- at least 9 and at most 21
 unfoldable pub cell_bits : ℕ → ℕ
 cell_bits n = max 9 (min (64 - leading_zeros w64 n) 21)
 
--- how many cells an image of so many rows gets
-abbrev pub cell_total : ℕ → ℕ
-cell_total n = if nat_lt n 256 then 0 else 2 ^ cell_bits n + 1
+-- how many cells an image of so many rows has at most
+abbrev pub most_cells : ℕ → ℕ
+most_cells n = if nat_lt n 256 then 0 else (if nat_lt n (2 ^ 31) then 2 ^ cell_bits n else 0)
 
--- how many bytes an image of so many rows takes, and of so many bytes of the user's own
+-- how many bytes a span takes at most
+abbrev pub most_span : Bool → ℕ
+most_span false = 8
+most_span true = 20
+
+-- how many bytes an image of so many rows takes at most, and of so many bytes of the user's own: there are no more spans
+-- than addresses at which a network begins or ends, and one
 abbrev pub image_size : Bool → (rows payload : ℕ) → ℕ
-image_size wide rows payload = 88 + row_size wide * rows + 8 * cell_total rows + payload
+image_size wide rows payload =
+    112 + row_size wide * rows + most_span wide * (2 * rows + 1) + 4 * most_cells rows + payload
 
 -- rows can be written, with so many bytes of the user's own, into so many bytes
 pub record CanWrite (wide : Bool) (rows : List (Net ℕ × ℕ)) (payload room : ℕ) : Type 0 where
@@ -47,24 +56,22 @@ pub record ChangesWithin (a b : ℕ) (old new : List ℕ) : Type 0 where
   pub behind : (k : ℕ) → b ≤ k → slice_index new k ≡ slice_index old k
   pub same_length : length new ≡ length old
 
--- a plan says where the parts of so many rows are laid: behind a head that lists three, one behind another
-pub record IsLayout (wide : Bool) (rows : ℕ) (plan : Plan) : Type 0 where
-  pub count : plan.rows ≡ rows
-  pub few : rows < 2 ^ 32
-  pub rows_at : plan.rows_at ≡ 88
-  pub rest : plan.rest < 128
-  pub cells : plan.cells ≡ cell_total rows
-  pub limit : plan.cells < 2 ^ 22
-  pub cells_at : plan.cells_at ≡ 88 + row_size wide * rows
-
--- the head of a plan is written, and so many bytes of the user's own are listed
-pub record IsWrittenHead (wide : Bool) (bs : List ℕ) (plan : Plan) (payload : ℕ) : Type 0 where
+-- the head up to the part of the rows is written
+pub record IsRowHead (wide : Bool) (bs : List ℕ) (plan : RowPlan) : Type 0 where
   pub marked : u64_in bs 0 ≡ mark wide
   pub count : u32_in bs 8 ≡ plan.rows
-  pub parts : u32_in bs 12 ≡ 3
+  pub parts : u32_in bs 12 ≡ 4
   pub rows : IsEntry bs 16 1 0 plan.rows_at (row_size wide * plan.rows)
-  pub cells : IsEntry bs 40 2 plan.rest plan.cells_at (8 * plan.cells)
-  pub own : IsEntry bs 64 3 0 (plan.cells_at + 8 * plan.cells) payload
+
+-- and the other parts are listed: spans, cells, and so many bytes of the user's own
+pub record AreListed (wide : Bool) (bs : List ℕ) (spans : SpanPlan) (cells : CellPlan) (payload : ℕ) : Type 0 where
+  pub spans_part : IsEntry bs 40 2 (start_size wide spans.is_half) spans.at ((start_size wide spans.is_half + 4) * spans.count)
+  pub cells_part : IsEntry bs 64 5 cells.rest cells.at (4 * cells.count)
+  pub own_part : IsEntry bs 88 3 0 (cells.at + 4 * cells.count) payload
+
+-- of IPv6 the starts of spans may be upper halves: no network has more bits
+abbrev pub MayBeHalf : Bool → (bs : List ℕ) → (rows : ℕ) → Type 0
+MayBeHalf wide bs rows = (wide ≡ true) × ((k : ℕ) → k < rows → slice_index bs k ≤ 64)
 
 -- the row that stands at the place a
 abbrev pub row_from : Bool → List ℕ → ℕ → Net ℕ × ℕ

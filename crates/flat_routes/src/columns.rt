@@ -1,68 +1,48 @@
 //! The rows of an image as columns that are searched.
 ghost use Rattle.std.specs.Prelude.{◌≡◌, ◌↔◌, ◌<◌, ◌≤◌, ℕ, Bool, true, false, IsTrue, slice_index};
 ghost use Rattle.frozen_routes.specs.Routes.{IsLastHolder};
-ghost use Rattle.flat_routes.specs.Images.{IsPlanOf, bases, links, sizes, width};
+ghost use Rattle.flat_routes.specs.Images.{IsRowPlan, bases, links, sizes, width};
 ghost use Rattle.flat_routes.specs.RowLaws.{FirstRows, IsFrontIn, IsHolderIn};
 
-use crate::head::Plan;
+use crate::head::RowPlan;
 use crate::rows::{bits_at, first_at, first_bits, holds_at, link_at};
 use sorted_columns::{Columns, Fronts, Links};
 use std::marker::Model;
 
-/// The first rows of an image, as many as are known to be right, or all.
+/// The first rows of an image, as many as are known to be right.
 #[derive(Drop)]
 pub(crate) struct Rows<'a> {
     image: &'a [u8],
     wide: bool,
-    plan: Plan,
+    plan: RowPlan,
     rows: usize,
-    is_whole: bool,
 }
 
 impl<'a> Model for Rows<'a> {
     ghost use Rattle.std.specs.Prelude.{◌≤◌};
-    ghost use Rattle.flat_routes.specs.Images.{IsPlanOf};
+    ghost use Rattle.flat_routes.specs.Images.{IsRowPlan};
     ghost use Rattle.flat_routes.specs.RowLaws.{FirstRows};
 
     ghost Value = { FirstRows };
 
-    ghost view = { λ r. record { wide = r.wide; bytes = r.image.now; rows = r.rows; whole = r.is_whole } };
+    ghost view = { λ r. record { wide = r.wide; bytes = r.image.now; rows = r.rows } };
 
-    ghost invariant = { λ r. IsPlanOf r.wide r.image.now r.plan × (r.rows ≤ r.plan.rows) };
+    ghost invariant = { λ r. IsRowPlan r.wide r.image.now r.plan × (r.rows ≤ r.plan.rows) };
 }
 
 impl<'a> Rows<'a> {
-    /// The first `rows` of an image, whose other rows and cells may be wrong yet.
+    /// The first `rows` of an image, whose other rows may be wrong yet.
     #[inline(always)]
-    pub(crate) fn first(image: &'a [u8], wide: bool, plan: Plan, rows: usize) -> Rows<'a>
-        requires plan { IsPlanOf wide image.now plan }
+    pub(crate) fn first(image: &'a [u8], wide: bool, plan: RowPlan, rows: usize) -> Rows<'a>
+        requires plan { IsRowPlan wide image.now plan }
         requires within { rows ≤ plan.rows }
-        ensures { result ≡ record { wide = wide; bytes = image.now; rows = rows; whole = false } }
+        ensures { result ≡ record { wide = wide; bytes = image.now; rows = rows } }
     {
-        let is_whole = false;
         Rows {
             image,
             wide,
             plan,
             rows,
-            is_whole,
-        }
-    }
-
-    /// All rows of an image.
-    #[inline(always)]
-    pub(crate) fn all(image: &'a [u8], wide: bool, plan: Plan) -> Rows<'a>
-        requires { IsPlanOf wide image.now plan }
-        ensures { result
-            ≡ record { wide = wide; bytes = image.now; rows = plan.rows; whole = true } }
-    {
-        let (rows, is_whole) = (plan.rows, true);
-        Rows {
-            image,
-            wide,
-            plan,
-            rows,
-            is_whole,
         }
     }
 }
@@ -111,21 +91,6 @@ impl<'a> Links<u128> for Rows<'a> {
     #[inline(always)]
     fn link_at(&self, at: usize) -> usize {
         link_at(self.image, self.wide, self.plan, at) as usize
-    }
-}
-
-impl<'a> Fronts<u128> for Rows<'a> {
-    ghost use Rattle.std.specs.Prelude.{◌≤◌, slice_index};
-    ghost use Rattle.flat_routes.specs.Images.{bases};
-    ghost use Rattle.flat_routes.specs.RowLaws.{rows_rise};
-
-    ghost is_front = { λ c a k. slice_index (bases c.wide c.bytes) k ≤ a };
-
-    ghost rising = { rows_rise };
-
-    #[inline(always)]
-    fn is_in_front(&self, at: usize, query: &u128) -> bool {
-        first_at(self.image, self.wide, self.plan, at) <= *query
     }
 }
 

@@ -8,10 +8,10 @@ ghost use Rattle.radix_keys.specs.Networks.{Net};
 ghost use Rattle.frozen_routes.specs.Routes.{AreInFront, IsLongestRow, IsOwnRow, is_inside};
 ghost use Rattle.image_parts.specs.Parts.{HoldsPayload, row_count};
 ghost use Rattle.flat_routes.specs.Faults.{IsRouteFault};
-ghost use Rattle.flat_routes.specs.Written.{CanWrite, ChangesWithin, IsWriteFault, image_size};
+ghost use Rattle.flat_routes.specs.Written.{CanWrite, ChangesWithin, IsImageOf, IsWriteFault, image_size};
 ghost use Rattle.flat_routes.specs.Images.{IsImage, bases, first_in, found_row, found_value, image_rows, link_in, network, numbered_row, of_ipv4, row4_of, row_in, sizes};
 
-use crate::head::plan_of;
+use crate::head::{plan_of, row_plan_of};
 use crate::rows::{bits_at, first_at, found_value, link_at, value_at};
 use crate::search::find;
 use crate::tables::TableRow;
@@ -61,13 +61,13 @@ impl FlatRow for Row {
 }
 
 /// Whether bytes are an image of IPv4 networks; where they aren't, an error says why. It takes
-/// linear time: all climbs to the networks around rows and cells have together no more steps than
+/// linear time: all climbs to the networks around rows and spans have together no more steps than
 /// there are of both.
 ///
 /// # Errors
 ///
-/// The first fault is told, in this order: fewer than 64 bytes, another mark, another version, a
-/// list of the parts that ends outside the bytes, a part, a row, a cell.
+/// The first fault is told, in this order: fewer than 88 bytes, another mark, another version, a
+/// list of the parts that ends outside the bytes, a part, a row, a span, a cell.
 pub fn check(image: &[u8]) -> Result<(), ImageError>
     ensures image { IsOk result ↔ IsImage of_ipv4 image.now }
     ensures fault { IfErr result (IsRouteFault of_ipv4 image.now) }
@@ -91,7 +91,7 @@ pub fn len(image: &[u8]) -> usize
         → result ≡ length (image_rows of_ipv4 image.now) }
     ensures within { result ≤ row_count image.now }
 {
-    match plan_of(image, false) {
+    match row_plan_of(image, false) {
         Some(plan) => plan.rows,
         None => 0,
     }
@@ -103,7 +103,7 @@ pub fn row_at(image: &[u8], at: usize) -> Option<Row>
         → slice_get (image_rows of_ipv4 image.now) at ≡ option_map row4_of result }
     ensures link { IfSome result (λ r. r.link ≡ link_in of_ipv4 image.now at) }
 {
-    let Some(plan) = plan_of(image, false) else {
+    let Some(plan) = row_plan_of(image, false) else {
         return None;
     };
     if at >= plan.rows {
@@ -119,16 +119,16 @@ pub fn row_at(image: &[u8], at: usize) -> Option<Row>
 
 /// The index of the row of the longest network that holds an address, or None where none does.
 ///
-/// It takes as many comparisons as the rows of the address's block have binary digits, and a step
-/// for each network around the last one that begins at or before it, until one holds it. Of bytes
-/// that are no image it returns None or the index of some row.
+/// It takes as many comparisons as the spans of the address's block have binary digits, and no step
+/// more, however deep networks lie within one another. Of bytes that are no image it returns None
+/// or the index of some row.
 ///
 /// # Examples
 ///
 /// ```
 /// use nifazombi::flat_routes::ipv4;
 ///
-/// let mut image = [0u8; 104];
+/// let mut image = [0u8; 152];
 /// let rows = [ipv4::Row { first: 0x0a00_0000, bits: 8, link: 0, value: 7 }];
 /// assert!(ipv4::write(&rows, &[], &mut image).is_ok() && ipv4::is_image(&image));
 /// assert_eq!(ipv4::longest_match(&image, 0x0a01_0203), Some(0));
@@ -195,7 +195,7 @@ pub fn longest_values(
     for i in 0..count {
         let row = find(image, false, plan, u128::from(addresses[i]));
         found[i] = row as u32;
-        values[i] = found_value(image, false, plan, row) as u32;
+        values[i] = found_value(image, false, plan.rows, row) as u32;
     }
     count
 }
@@ -242,8 +242,8 @@ pub fn above(image: &[u8], at: usize) -> Option<usize>
     search::above(image, false, at)
 }
 
-/// How many bytes the image of so many rows takes, with so many bytes of the user's own, as `write`
-/// lays it out, or None of 2^32 rows or more, or where a `usize` doesn't count them.
+/// How many bytes the image of so many rows takes at most, with so many bytes of the user's own, or
+/// None of 2^32 rows or more, or where a `usize` doesn't count them.
 pub fn image_len(rows: usize, payload: usize) -> Option<usize>
     ensures { SomeIff result ((rows < 2 ^ 32) × (image_size of_ipv4 rows payload < 2 ^ 64))
         (image_size of_ipv4 rows payload) }
@@ -252,15 +252,15 @@ pub fn image_len(rows: usize, payload: usize) -> Option<usize>
 }
 
 /// Writes the image of rows, which rise by their first addresses, and of one first address by their
-/// bits, with the user's own bytes, into a buffer of `image_len` bytes or more. Of a row's link it
-/// takes no notice. Bytes behind the image stay as they are. It takes linear time and allocates
-/// nothing.
+/// bits, with the user's own bytes, into a buffer of `image_len` bytes or more, and returns how many
+/// bytes it takes. Of a row's link it takes no notice. Bytes behind the image stay as they are. It
+/// takes linear time and allocates nothing.
 ///
 /// # Errors
 ///
-/// In this order: there are too many rows, the buffer is too short, or the rows aren't in order.
-/// The buffer is as before.
-pub fn write(rows: &[Row], payload: &[u8], out: &mut [u8]) -> Result<(), WriteError>
+/// In this order: there are too many rows, the buffer is shorter than `image_len`, or the rows
+/// aren't in order. The buffer is as before.
+pub fn write(rows: &[Row], payload: &[u8], out: &mut [u8]) -> Result<usize, WriteError>
     ensures ok { IsOk result ↔ CanWrite of_ipv4 (each row4_of rows.now) (length payload.now)
         (length out.old) }
     ensures fault { IfErr result (IsWriteFault of_ipv4 (each row4_of rows.now)
@@ -268,8 +268,11 @@ pub fn write(rows: &[Row], payload: &[u8], out: &mut [u8]) -> Result<(), WriteEr
     ensures image { OnOk result (IsImage of_ipv4 out.new) }
     ensures rows { OnOk result (image_rows of_ipv4 out.new ≡ each row4_of rows.now) }
     ensures payload { OnOk result (HoldsPayload out.new payload.now) }
-    ensures change { ChangesWithin 0 (image_size of_ipv4 (length rows.now) (length payload.now))
-        out.old out.new }
+    ensures front { IfOk result (λ len. IsImageOf of_ipv4 (each row4_of rows.now) payload.now
+        (take len out.new)) }
+    ensures most { IfOk result (λ len. len
+        ≤ image_size of_ipv4 (length rows.now) (length payload.now)) }
+    ensures change { IfOk result (λ len. ChangesWithin 0 len out.old out.new) }
     ensures unchanged { OnErr result (out.new ≡ out.old) }
 {
     write::write(rows, payload, out)
@@ -326,7 +329,7 @@ pub fn to_image(
         ≡ each (numbered_row ipv4_bits) table.now) }
     ensures payload { IfOk result (λ image. HoldsPayload image.items payload.now) }
     ensures length { IfOk result (λ image. vec_len image
-        ≡ image_size of_ipv4 (length table.now) (length payload.now)) }
+        ≤ image_size of_ipv4 (length table.now) (length payload.now)) }
 {
     tables::image_of(alloc, table.rows(), payload)
 }

@@ -1,18 +1,14 @@
-//! Where the parts of an image are laid that is written.
+//! How many bytes an image takes that is written.
 ghost use Rattle.std.specs.Prelude.{◌≡◌, ◌+◌, ◌*◌, ◌^◌, ◌<◌, ◌≤◌, MatchOption};
 ghost use Rattle.std.specs.Option.{SomeIff};
-ghost use Rattle.flat_routes.specs.Written.{IsLayout, cell_bits, image_size};
+ghost use Rattle.flat_routes.specs.Written.{cell_bits, image_size, most_cells};
 
-use crate::head::{Plan, size_of_rows};
-use crate::rows::bits_of;
+use crate::head::{HEAD, size_of_rows};
 
-/// How many bytes the head takes, which lists three parts.
-const HEAD: usize = 88;
-
-/// By how many first bits the cells of so many rows are: as many as the count has binary digits,
-/// but at least 9 and at most 21.
+/// Of how many blocks the cells of so many rows are at most, as a power of two: as many as the
+/// count has binary digits, but at least 9 and at most 21.
 #[tactic(auto, unfolding(crate::specs::Written::cell_bits))]
-fn bits_for(rows: usize) -> u32
+pub(crate) fn bits_for(rows: usize) -> u32
     ensures value { result ≡ cell_bits rows }
     ensures some { 9 ≤ result }
     ensures few { result ≤ 21 }
@@ -20,41 +16,39 @@ fn bits_for(rows: usize) -> u32
     (usize::BITS - rows.leading_zeros()).clamp(9, 21)
 }
 
-/// Where the parts of an image of so many rows lie, or None of 2^32 rows or more. Below 256 rows
-/// there are no cells.
-pub(crate) fn layout(wide: bool, rows: usize) -> Option<Plan>
-    ensures { MatchOption result (2 ^ 32 ≤ rows) (IsLayout wide rows) }
+/// How many cells an image of so many rows has at most. Below 256 rows it has none, and none where
+/// there may be more spans than a cell counts.
+pub(crate) fn most_cells(rows: usize) -> usize
+    ensures value { result ≡ most_cells rows }
+    ensures few { result ≤ 2 ^ 21 }
+{
+    if rows < 256 || rows >= 1 << 31 {
+        return 0;
+    }
+    1usize << bits_for(rows)
+}
+
+/// How many bytes an image of so many rows takes at most, without the user's own, or None of 2^32
+/// rows or more.
+pub(crate) fn most_bytes(wide: bool, rows: usize) -> Option<usize>
+    ensures value { MatchOption result (2 ^ 32 ≤ rows)
+        (λ len. (rows < 2 ^ 32) × (len ≡ image_size wide rows 0)) }
+    ensures few { MatchOption result (2 ^ 32 ≤ rows) (λ len. len < 2 ^ 40) }
 {
     if rows > u32::MAX as usize {
         return None;
     }
-    let cells_at = HEAD + size_of_rows(wide, rows);
-    if rows < 256 {
-        return Some(Plan {
-            rows,
-            rows_at: HEAD,
-            rest: 0,
-            cells: 0,
-            cells_at,
-        });
-    }
-    let bits = bits_for(rows);
-    Some(Plan {
-        rows,
-        rows_at: HEAD,
-        rest: bits_of(wide) - bits,
-        cells: (1usize << bits) + 1,
-        cells_at,
-    })
+    let span = if wide { 20 } else { 8 };
+    Some(HEAD + size_of_rows(wide, rows) + span * (2 * rows + 1) + 4 * most_cells(rows))
 }
 
-/// How many bytes an image of so many rows takes, with so many bytes of the user's own.
+/// How many bytes an image of so many rows takes at most, with so many bytes of the user's own.
 pub(crate) fn image_len(wide: bool, rows: usize, payload: usize) -> Option<usize>
     ensures { SomeIff result ((rows < 2 ^ 32) × (image_size wide rows payload < 2 ^ 64))
         (image_size wide rows payload) }
 {
-    let Some(plan) = layout(wide, rows) else {
+    let Some(len) = most_bytes(wide, rows) else {
         return None;
     };
-    (plan.cells_at + 8 * plan.cells).checked_add(payload)
+    len.checked_add(payload)
 }

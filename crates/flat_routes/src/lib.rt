@@ -5,6 +5,7 @@
 mod check;
 mod columns;
 mod head;
+mod index;
 pub mod ipv4;
 pub mod ipv6;
 mod laws;
@@ -12,7 +13,9 @@ mod layout;
 mod networks;
 mod rows;
 mod search;
+mod spans;
 mod tables;
+mod turns;
 mod write;
 
 pub use image_parts::{ImageError, TableError, WriteError, payload};

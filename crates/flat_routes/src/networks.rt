@@ -4,22 +4,22 @@ ghost use Rattle.std.specs.List.{filter};
 ghost use Rattle.radix_keys.specs.Networks.{Net};
 ghost use Rattle.frozen_routes.specs.Routes.{AreInFront, IsOwnRow, is_inside};
 ghost use Rattle.image_parts.specs.Parts.{row_count};
-ghost use Rattle.flat_routes.specs.Images.{IsImage, IsPlanOf, bases, image_rows, network, row_in, sizes, width};
+ghost use Rattle.flat_routes.specs.Images.{IsImage, IsRowPlan, bases, image_rows, network, row_in, sizes, width};
 
 use crate::columns::{Rows, Within};
-use crate::head::{Plan, plan_of};
+use crate::head::{RowPlan, row_plan_of};
 use crate::rows::{bits_at, first_at, first_bits};
 use sorted_columns::count_in_front;
 
 /// How many of the networks come in front of those within a network, or also those within where the
 /// search is one through it.
-fn cut(image: &[u8], wide: bool, plan: Plan, first: u128, bits: u32, is_through: bool) -> usize
-    requires plan { IsPlanOf wide image.now plan }
+fn cut(image: &[u8], wide: bool, plan: RowPlan, first: u128, bits: u32, is_through: bool) -> usize
+    requires plan { IsRowPlan wide image.now plan }
     ensures within { result ≤ plan.rows }
     ensures front { IsImage wide image.now → AreInFront (width wide) is_through bits
         (first / 2 ^ (width wide - bits)) (bases wide image.now) (sizes wide image.now) result }
 {
-    let rows = Rows::all(image, wide, plan);
+    let rows = Rows::first(image, wide, plan, plan.rows);
     let within = Within {
         bits,
         quotient: first_bits(wide, first, bits),
@@ -37,7 +37,7 @@ pub(crate) fn get(image: &[u8], wide: bool, first: u128, bits: u32) -> Option<us
         (λ at. IsOwnRow (λ n. n) (image_rows wide image.now) (network first bits)
         (row_in wide image.now at)) }
 {
-    let Some(plan) = plan_of(image, wide) else {
+    let Some(plan) = row_plan_of(image, wide) else {
         return None;
     };
     let at = cut(image, wide, plan, first, bits, false);
@@ -61,7 +61,7 @@ pub(crate) fn below(image: &[u8], wide: bool, first: u128, bits: u32) -> (usize,
         ≡ filter (is_inside (width wide) (λ n. n) (network first bits))
         (image_rows wide image.now) }
 {
-    let Some(plan) = plan_of(image, wide) else {
+    let Some(plan) = row_plan_of(image, wide) else {
         return (0, 0);
     };
     let from = cut(image, wide, plan, first, bits, false);

@@ -1,27 +1,10 @@
-//! The rows and the cells of an image by their numbers.
-ghost use Rattle.std.specs.Prelude.{◌≡◌, ◌↔◌, ◌+◌, ◌-◌, ◌*◌, ◌/◌, ◌^◌, ◌<◌, ◌≤◌, Some, false, IsTrue, slice_get, slice_index};
+//! The rows of an image by their numbers.
+ghost use Rattle.std.specs.Prelude.{◌≡◌, ◌↔◌, ◌+◌, ◌-◌, ◌*◌, ◌/◌, ◌^◌, ◌<◌, ◌≤◌, false, IsTrue, slice_index};
 ghost use Rattle.frozen_routes.specs.Routes.{IsHolderAt};
-ghost use Rattle.flat_routes.specs.Images.{IsPlanOf, cell_in, bases, found_value, image_cells, links, sizes, value_in, width};
+ghost use Rattle.flat_routes.specs.Images.{IsRowPlan, bases, found_value, links, low_of, sizes, value_in, width};
 
-use crate::head::Plan;
+use crate::head::RowPlan;
 use image_parts::{u32_at, u64_at, u128_at};
-
-/// What is known at a value of the first bits.
-#[derive(Clone, Copy)]
-pub(crate) struct Cell {
-    /// How many networks begin before the addresses that have it.
-    pub(crate) count: usize,
-    /// The last of these that holds such an address: its index and one more, or 0 where none does.
-    pub(crate) around: usize,
-}
-
-impl Cell {
-    /// The cell that counts no network.
-    pub(crate) const NONE: Cell = Cell {
-        count: 0,
-        around: 0,
-    };
-}
 
 /// How many bits an address has.
 #[inline(always)]
@@ -34,8 +17,8 @@ pub(crate) fn bits_of(wide: bool) -> u32
 
 /// The first address of the network at an index.
 #[inline(always)]
-pub(crate) fn first_at(image: &[u8], wide: bool, plan: Plan, at: usize) -> u128
-    requires plan { IsPlanOf wide image.now plan }
+pub(crate) fn first_at(image: &[u8], wide: bool, plan: RowPlan, at: usize) -> u128
+    requires plan { IsRowPlan wide image.now plan }
     requires within { at < plan.rows }
     ensures value { result ≡ slice_index (bases wide image.now) at }
     ensures fits { result < 2 ^ width wide }
@@ -49,8 +32,8 @@ pub(crate) fn first_at(image: &[u8], wide: bool, plan: Plan, at: usize) -> u128
 
 /// How many bits the addresses of the network at an index share.
 #[inline(always)]
-pub(crate) fn bits_at(image: &[u8], wide: bool, plan: Plan, at: usize) -> u32
-    requires plan { IsPlanOf wide image.now plan }
+pub(crate) fn bits_at(image: &[u8], wide: bool, plan: RowPlan, at: usize) -> u32
+    requires plan { IsRowPlan wide image.now plan }
     requires within { at < plan.rows }
     ensures { result ≡ slice_index (sizes wide image.now) at }
 {
@@ -63,8 +46,8 @@ pub(crate) fn bits_at(image: &[u8], wide: bool, plan: Plan, at: usize) -> u32
 
 /// The link of the network at an index.
 #[inline(always)]
-pub(crate) fn link_at(image: &[u8], wide: bool, plan: Plan, at: usize) -> u32
-    requires plan { IsPlanOf wide image.now plan }
+pub(crate) fn link_at(image: &[u8], wide: bool, plan: RowPlan, at: usize) -> u32
+    requires plan { IsRowPlan wide image.now plan }
     requires within { at < plan.rows }
     ensures { result ≡ slice_index (links wide image.now) at }
 {
@@ -76,8 +59,8 @@ pub(crate) fn link_at(image: &[u8], wide: bool, plan: Plan, at: usize) -> u32
 }
 
 /// The value of the row at an index.
-pub(crate) fn value_at(image: &[u8], wide: bool, plan: Plan, at: usize) -> u64
-    requires plan { IsPlanOf wide image.now plan }
+pub(crate) fn value_at(image: &[u8], wide: bool, plan: RowPlan, at: usize) -> u64
+    requires plan { IsRowPlan wide image.now plan }
     requires within { at < plan.rows }
     ensures value { result ≡ value_in wide image.now at }
     ensures fits { wide ≡ false → result < 2 ^ 32 }
@@ -91,8 +74,8 @@ pub(crate) fn value_at(image: &[u8], wide: bool, plan: Plan, at: usize) -> u64
 
 /// The value of the row whose index and one more is `found`, or 0 at 0.
 #[inline(always)]
-pub(crate) fn found_value(image: &[u8], wide: bool, plan: Plan, found: usize) -> u64
-    requires plan { IsPlanOf wide image.now plan }
+pub(crate) fn found_value(image: &[u8], wide: bool, plan: RowPlan, found: usize) -> u64
+    requires plan { IsRowPlan wide image.now plan }
     requires within { found ≤ plan.rows }
     ensures value { result ≡ found_value wide image.now found }
     ensures fits { wide ≡ false → result < 2 ^ 32 }
@@ -103,19 +86,16 @@ pub(crate) fn found_value(image: &[u8], wide: bool, plan: Plan, found: usize) ->
     value_at(image, wide, plan, found - 1)
 }
 
-/// The cell at an index.
+/// The first address of the first network, or 0 where there is none.
 #[inline(always)]
-pub(crate) fn cell_at(image: &[u8], wide: bool, plan: Plan, at: usize) -> Cell
-    requires plan { IsPlanOf wide image.now plan }
-    requires within { at < plan.cells }
-    ensures stored { slice_get (image_cells image.now) at ≡ Some (cell_in image.now at) }
-    ensures count { result.count ≡ (cell_in image.now at).count }
-    ensures around { result.around ≡ (cell_in image.now at).around }
+pub(crate) fn first_of_all(image: &[u8], wide: bool, plan: RowPlan) -> u128
+    requires { IsRowPlan wide image.now plan }
+    ensures value { result ≡ low_of wide image.now }
 {
-    Cell {
-        count: u32_at(image, plan.cells_at + 8 * at) as usize,
-        around: u32_at(image, plan.cells_at + 8 * at + 4) as usize,
+    if plan.rows == 0 {
+        return 0;
     }
+    first_at(image, wide, plan, 0)
 }
 
 /// The number without its last bits.
@@ -138,8 +118,8 @@ pub(crate) fn first_bits(wide: bool, number: u128, bits: u32) -> u128
 /// Whether the network at an index holds an address, by its number. One of more bits than an
 /// address has holds none.
 #[inline(always)]
-pub(crate) fn holds_at(image: &[u8], wide: bool, plan: Plan, at: usize, number: u128) -> bool
-    requires plan { IsPlanOf wide image.now plan }
+pub(crate) fn holds_at(image: &[u8], wide: bool, plan: RowPlan, at: usize, number: u128) -> bool
+    requires plan { IsRowPlan wide image.now plan }
     requires within { at < plan.rows }
     ensures { slice_index (sizes wide image.now) at ≤ width wide → IsTrue result
         ↔ IsHolderAt (width wide) (bases wide image.now) (sizes wide image.now) number at }

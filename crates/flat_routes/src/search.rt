@@ -1,39 +1,43 @@
 //! Searches in an image. Each is total: whatever the bytes are, it ends, and reads none but them.
-ghost use Rattle.std.specs.Prelude.{◌-◌, ◌<◌, ◌≤◌, ℕ, IfSome, IsNone, option_map, slice_index, take};
+ghost use Rattle.std.specs.Prelude.{◌-◌, ◌^◌, ◌<◌, ◌≤◌, ℕ, IfSome, IsNone, option_map, slice_index, take};
 ghost use Rattle.frozen_routes.specs.Routes.{IsLastHolder, IsLongestRow};
 ghost use Rattle.image_parts.specs.Parts.{row_count};
-ghost use Rattle.flat_routes.specs.Images.{AreLinkedTo, IsImage, IsPlanOf, bases, first_in, found_row, image_rows, links, row_in, sizes, width};
+ghost use Rattle.flat_routes.specs.Images.{AreLinkedTo, IsImage, IsPlanOf, IsRowPlan, bases, first_in, found_row, image_rows, links, row_in, sizes, start_in, width};
 
 use crate::columns::Rows;
-use crate::head::{Plan, plan_of};
-use crate::rows::{Cell, cell_at, link_at};
+use crate::head::{Plan, RowPlan, plan_of, row_plan_of};
+use crate::rows::link_at;
+use crate::spans::{Spans, answer_at, cell_at};
+use crate::turns::Begun;
 use sorted_columns::count_in_front;
 
-/// What bounds the search of a number: the cell of its block, and how many networks begin before
-/// the next block. Where there is no such cell it's all of them, and a cell that counts none.
+/// Between which counts that of the spans lies that begin by an address: those that begin by the
+/// first address of its block, and by the first one of the next block. Where there is no cell of
+/// the block they are none and all.
 #[inline(always)]
-fn top_span(image: &[u8], wide: bool, plan: Plan, number: u128) -> (Cell, usize)
+fn block_of(image: &[u8], wide: bool, plan: Plan, number: u128) -> (usize, usize)
     requires plan { IsPlanOf wide image.now plan }
-    ensures around_within { result.0.around ≤ result.0.count }
-    ensures order { result.0.count ≤ result.1 }
-    ensures within { result.1 ≤ plan.rows }
-    ensures below { IsImage wide image.now → (k : ℕ) → k < result.0.count
-        → slice_index (bases wide image.now) k ≤ number }
-    ensures above { IsImage wide image.now → (k : ℕ) → result.1 ≤ k → k < plan.rows
-        → number < slice_index (bases wide image.now) k }
-    ensures around { IsImage wide image.now
-        → IsLastHolder (width wide) (bases wide image.now) (sizes wide image.now) result.0.count
-        number result.0.around }
+    ensures order { result.0 ≤ result.1 }
+    ensures within { result.1 ≤ plan.spans.count }
+    ensures below { IsImage wide image.now → (k : ℕ) → k < result.0
+        → start_in wide image.now k ≤ number }
+    ensures above { IsImage wide image.now → (k : ℕ) → result.1 ≤ k → k < plan.spans.count
+        → number < start_in wide image.now k }
 {
-    let first = number >> plan.rest;
-    if first < plan.cells.saturating_sub(1) as u128 {
-        let cell = cell_at(image, wide, plan, first as usize);
-        let next = cell_at(image, wide, plan, first as usize + 1).count;
-        if cell.around <= cell.count && cell.count <= next && next <= plan.rows {
-            return (cell, next);
-        }
+    let spans = plan.spans.count;
+    let Some(behind) = number.checked_sub(plan.cells.low) else {
+        return (0, spans);
+    };
+    let block = behind >> plan.cells.rest;
+    if block >= plan.cells.count.saturating_sub(1) as u128 {
+        return (0, spans);
     }
-    (Cell::NONE, plan.rows)
+    let from = cell_at(image, plan.cells, block as usize) + 1;
+    let to = cell_at(image, plan.cells, block as usize + 1) + 1;
+    if from > to || to > spans {
+        return (0, spans);
+    }
+    (from, to)
 }
 
 /// The last of the first `from` networks that holds an address, by its index and one more, or 0
@@ -42,12 +46,12 @@ fn top_span(image: &[u8], wide: bool, plan: Plan, number: u128) -> (Cell, usize)
 pub(crate) fn follow_parents(
     image: &[u8],
     wide: bool,
-    plan: Plan,
+    plan: RowPlan,
     from: usize,
-    floor: Cell,
+    floor: Begun,
     number: u128,
 ) -> usize
-    requires plan { IsPlanOf wide image.now plan }
+    requires plan { IsRowPlan wide image.now plan }
     requires within { from ≤ plan.rows }
     requires floor { floor.count ≤ from }
     requires around { floor.around ≤ floor.count }
@@ -65,17 +69,17 @@ pub(crate) fn follow_parents(
 }
 
 /// The last of the first `from` networks that holds an address, where `before` says it of an
-/// address that isn't behind this one. It goes up from there: from cell to cell all steps together
-/// are no more than there are cells and networks.
+/// address that isn't behind this one. It goes up from there: from address to address all steps
+/// together are no more than there are addresses and networks.
 pub(crate) fn follow_on(
     image: &[u8],
     wide: bool,
-    plan: Plan,
+    plan: RowPlan,
     from: usize,
-    before: Cell,
+    before: Begun,
     number: u128,
 ) -> usize
-    requires plan { IsPlanOf wide image.now plan }
+    requires plan { IsRowPlan wide image.now plan }
     requires within { from ≤ plan.rows }
     requires order { before.count ≤ from }
     requires around { before.around ≤ before.count }
@@ -90,8 +94,8 @@ pub(crate) fn follow_on(
         → IsLastHolder (width wide) (bases wide image.now) (sizes wide image.now) from number
         result }
 {
-    let around = follow_parents(image, wide, plan, before.around, Cell::NONE, number);
-    let floor = Cell {
+    let around = follow_parents(image, wide, plan, before.around, Begun::NONE, number);
+    let floor = Begun {
         count: before.count,
         around,
     };
@@ -102,20 +106,29 @@ pub(crate) fn follow_on(
 /// does.
 #[inline(always)]
 pub(crate) fn find(image: &[u8], wide: bool, plan: Plan, number: u128) -> usize
-    requires { IsPlanOf wide image.now plan }
-    ensures within { result ≤ plan.rows }
+    requires plan { IsPlanOf wide image.now plan }
+    requires fits { number < 2 ^ width wide }
+    ensures within { result ≤ plan.rows.rows }
     ensures row { IsImage wide image.now → IsLongestRow (width wide) (λ n. n)
         (image_rows wide image.now) number (found_row wide image.now result) }
 {
-    let (floor, hi) = top_span(image, wide, plan, number);
-    let rows = Rows::all(image, wide, plan);
-    let from = count_in_front(&rows, &number, floor.count, hi);
-    follow_parents(image, wide, plan, from, floor, number)
+    let (from, to) = block_of(image, wide, plan, number);
+    let spans = Spans::of(image, wide, plan.spans);
+    let count = count_in_front(&spans, &number, from, to);
+    if count == 0 {
+        return 0;
+    }
+    let found = answer_at(image, wide, plan.spans, count - 1);
+    if found > plan.rows.rows {
+        return 0;
+    }
+    found
 }
 
 /// The index of the row of the longest network that holds an address, by its number.
 #[inline(always)]
 pub(crate) fn longest_match(image: &[u8], wide: bool, number: u128) -> Option<usize>
+    requires { number < 2 ^ width wide }
     ensures within { IfSome result (λ at. at < row_count image.now) }
     ensures row { IsImage wide image.now → IsLongestRow (width wide) (λ n. n)
         (image_rows wide image.now) number (option_map (row_in wide image.now) result) }
@@ -138,7 +151,7 @@ pub(crate) fn above(image: &[u8], wide: bool, at: usize) -> Option<usize>
         → IsLongestRow (width wide) (λ n. n) (take at (image_rows wide image.now))
         (first_in wide image.now at) (option_map (row_in wide image.now) result) }
 {
-    let Some(plan) = plan_of(image, wide) else {
+    let Some(plan) = row_plan_of(image, wide) else {
         return None;
     };
     if at >= plan.rows {

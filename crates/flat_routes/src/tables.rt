@@ -1,5 +1,5 @@
 //! Images of frozen tables, and tables of images.
-ghost use Rattle.std.specs.Prelude.{◌≡◌, ◌^◌, ◌<◌, false, IfErr, IfOk, IsSomeAnd, length, vec_len, map as each};
+ghost use Rattle.std.specs.Prelude.{◌≡◌, ◌^◌, ◌<◌, ◌≤◌, false, IfErr, IfOk, IsSomeAnd, length, vec_len, map as each};
 ghost use Rattle.radix_keys.specs.Networks.{IsBase};
 ghost use Rattle.frozen_routes.specs.Routes.{AreRowsInOrder};
 ghost use Rattle.flat_routes.specs.Faults.{IsRouteFault};
@@ -34,17 +34,18 @@ pub(crate) fn image_of<R: FlatRow>(
     ensures written { IfOk result (λ image. IsImageOf R.WIDE (each R.shown rows.now)
         payload.now image.items) }
     ensures length { IfOk result (λ image. vec_len image
-        ≡ image_size R.WIDE (length rows.now) (length payload.now)) }
+        ≤ image_size R.WIDE (length rows.now) (length payload.now)) }
 {
     let Some(len) = image_len(R::WIDE, rows.len(), payload.len()) else {
         // No memory has so many bytes.
         return Err(Memory);
     };
     let mut image = Vec::from_elem(alloc, 0u8, len)?;
-    match write(rows, payload, &mut image) {
-        Ok(()) => Ok(image),
-        Err(_) => unreachable!(),
-    }
+    let Ok(len) = write(rows, payload, &mut image) else {
+        unreachable!();
+    };
+    image.truncate(len);
+    Ok(image)
 }
 
 /// The rows of an image.
@@ -57,7 +58,7 @@ pub(crate) fn rows_of<R: TableRow>(alloc: Global, image: &[u8]) -> Result<Vec<R>
 {
     let wide = R::WIDE;
     let plan = match check(image, wide) {
-        Ok(plan) => plan,
+        Ok(plan) => plan.rows,
         Err(why) => return Err(TableError::Image(why)),
     };
     let Ok(mut rows) = Vec::with_capacity(alloc, plan.rows) else {

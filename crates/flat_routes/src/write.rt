@@ -1,17 +1,17 @@
 //! An image is written.
-ghost use Rattle.std.specs.Prelude.{◌≡◌, ◌↔◌, ◌+◌, ◌-◌, ◌*◌, ◌^◌, ◌<◌, ◌≤◌, ℕ, Bool, IfErr, IsOk, IsTrue, MatchOption, OnErr, OnOk, length, slice_index, map as each};
+ghost use Rattle.std.specs.Prelude.{◌≡◌, ◌↔◌, ◌+◌, ◌-◌, ◌*◌, ◌^◌, ◌<◌, ◌≤◌, ℕ, Bool, IfErr, IfOk, IsOk, IsTrue, MatchOption, OnErr, OnOk, length, slice_index, take, map as each};
 ghost use Rattle.radix_keys.specs.Networks.{Net};
-ghost use Rattle.sorted_tables.specs.Tables.{IsPartedAt};
-ghost use Rattle.frozen_routes.specs.Routes.{AreRowsInOrder, IsFirstOutOfOrder, IsFirstTop, IsLastHolder, IsTopCell, base_numbers, bit_counts};
-ghost use Rattle.flat_routes.specs.Images.{AreLinkedTo, IsNext, IsPlanOf, bases, cell_in, links, row_size, sizes, width};
-ghost use Rattle.flat_routes.specs.Written.{CanWrite, ChangesWithin, HoldsRows, IsImageOf, IsLayout, IsWriteFault, IsWrittenHead, image_size, link_from, row_from};
+ghost use Rattle.frozen_routes.specs.Routes.{AreRowsInOrder, IsFirstOutOfOrder, base_numbers, bit_counts};
+ghost use Rattle.flat_routes.specs.Images.{IsNext, IsRowPlan, row_size, width};
+ghost use Rattle.flat_routes.specs.Written.{CanWrite, ChangesWithin, HoldsRows, IsImageOf, IsRowHead, IsWriteFault, MayBeHalf, image_size, link_from, row_from};
 
 use crate::check::{is_base, is_earlier};
-use crate::head::{Plan, mark_of, size_of_rows};
-use crate::layout::layout;
-use crate::rows::{Cell, first_at};
-use crate::search::{follow_on, follow_parents};
-use image_parts::{WriteError, put_bytes, put_part, put_u32, put_u64};
+use crate::head::{HEAD, RowPlan, mark_of, size_of_rows};
+use crate::index::put_index;
+use crate::layout::most_bytes;
+use crate::search::follow_parents;
+use crate::turns::Begun;
+use image_parts::{WriteError, put_part, put_u32, put_u64};
 
 /// A row of one of the families, by its numbers.
 pub(crate) trait FlatRow: Copy {
@@ -72,136 +72,90 @@ fn unsorted<R: FlatRow>(rows: &[R]) -> Option<usize>
     None
 }
 
-/// Puts the head in.
-fn put_head(out: &mut [u8], wide: bool, plan: Plan, payload: usize)
-    requires layout { IsLayout wide plan.rows plan }
-    requires room { image_size wide plan.rows payload ≤ length out.old }
-    ensures head { IsWrittenHead wide out.new plan payload }
-    ensures change { ChangesWithin 0 88 out.old out.new }
+/// Whether all networks are of IPv6 and have at most 64 bits, so that of an address at which one of
+/// them begins or ends the upper half is enough.
+fn are_half<R: FlatRow>(rows: &[R]) -> bool
+    ensures { IsTrue result → MayBeHalf R.WIDE (bit_counts (each R.shown rows.now))
+        (length rows.now) }
+{
+    if !R::WIDE {
+        return false;
+    }
+    for at in 0..rows.len() {
+        if rows[at].bits() > 64 {
+            return false;
+        }
+    }
+    true
+}
+
+/// Puts in the head up to the part of the rows.
+fn put_row_head(out: &mut [u8], wide: bool, plan: RowPlan)
+    requires few { plan.rows < 2 ^ 32 }
+    requires place { plan.rows_at ≡ 112 }
+    requires room { 112 ≤ length out.old }
+    ensures head { IsRowHead wide out.new plan }
+    ensures change { ChangesWithin 0 40 out.old out.new }
 {
     put_u64(out, 0, mark_of(wide));
     put_u32(out, 8, plan.rows as u32);
-    put_u32(out, 12, 3);
+    put_u32(out, 12, 4);
     put_part(out, 16, 1, 0, plan.rows_at, size_of_rows(wide, plan.rows));
-    put_part(out, 40, 2, plan.rest, plan.cells_at, 8 * plan.cells);
-    put_part(out, 64, 3, 0, plan.cells_at + 8 * plan.cells, payload);
 }
 
-/// Puts the rows in, with their links, where the head stands.
-fn put_rows<R: FlatRow>(out: &mut [u8], plan: Plan, rows: &[R])
-    requires layout { IsLayout R.WIDE (length rows.now) plan }
-    requires plan { IsPlanOf R.WIDE out.old plan }
+/// Puts the rows in, with their links, where their head stands.
+fn put_rows<R: FlatRow>(out: &mut [u8], plan: RowPlan, rows: &[R])
+    requires count { plan.rows ≡ length rows.now }
+    requires place { plan.rows_at ≡ 112 }
+    requires plan { IsRowPlan R.WIDE out.old plan }
     requires rising { AreRowsInOrder (width R.WIDE) (λ n. n) (each R.shown rows.now) }
     ensures rows { HoldsRows R.WIDE out.new (each R.shown rows.now) plan.rows }
-    ensures change { ChangesWithin 88 plan.cells_at out.old out.new }
+    ensures change { ChangesWithin 112 (112 + row_size R.WIDE * plan.rows) out.old out.new }
 {
     let wide = R::WIDE;
     for at in 0..rows.len() {
         let row = rows[at];
-        let link = follow_parents(out, wide, plan, at, Cell::NONE, row.first());
+        let link = follow_parents(out, wide, plan, at, Begun::NONE, row.first());
         let place = plan.rows_at + size_of_rows(wide, at);
         row.put(out, place, link as u32);
     }
 }
 
-/// How many networks begin before an address, by its number, where the first `from` do.
-fn count_before(image: &[u8], wide: bool, plan: Plan, from: usize, number: u128) -> usize
-    requires plan { IsPlanOf wide image.now plan }
-    requires linked { AreLinkedTo (width wide) (bases wide image.now) (sizes wide image.now)
-        (links wide image.now) plan.rows }
-    requires within { from ≤ plan.rows }
-    requires before { (k : ℕ) → k < from → slice_index (bases wide image.now) k < number }
-    ensures within { result ≤ plan.rows }
-    ensures count { IsPartedAt (λ k. slice_index (bases wide image.now) k < number)
-        (λ k. number ≤ slice_index (bases wide image.now) k) (length (bases wide image.now))
-        result }
-{
-    let mut count = from;
-    while count < plan.rows && first_at(image, wide, plan, count) < number {
-        count += 1;
-    }
-    count
-}
-
-/// The cell at an index, where all rows stand, and `before` is the cell before it, or before the
-/// first one that counts no network.
-fn next_cell(image: &[u8], wide: bool, plan: Plan, at: usize, before: Cell) -> Cell
-    requires plan { IsPlanOf wide image.now plan }
-    requires linked { AreLinkedTo (width wide) (bases wide image.now) (sizes wide image.now)
-        (links wide image.now) plan.rows }
-    requires within { before.count ≤ plan.rows }
-    requires first { (k : ℕ) → k < before.count
-        → slice_index (bases wide image.now) k < (at - 1) * 2 ^ plan.rest }
-    requires last { IsLastHolder (width wide) (bases wide image.now) (sizes wide image.now)
-        before.count ((at - 1) * 2 ^ plan.rest) before.around }
-    ensures within { result.count ≤ plan.rows }
-    ensures around_within { result.around ≤ result.count }
-    ensures count { IsFirstTop plan.rest (bases wide image.now) at result.count }
-    ensures around { IsLastHolder (width wide) (bases wide image.now) (sizes wide image.now)
-        result.count (at * 2 ^ plan.rest) result.around }
-{
-    let Some(start) = (at as u128).checked_mul(1u128 << plan.rest) else {
-        // No address is behind the last one.
-        return Cell {
-            count: plan.rows,
-            around: 0,
-        };
-    };
-    let count = count_before(image, wide, plan, before.count, start);
-    let around = follow_on(image, wide, plan, count, before, start);
-    Cell { count, around }
-}
-
-/// Puts the cells in, where the head and all rows stand.
-fn put_cells(out: &mut [u8], wide: bool, plan: Plan)
-    requires layout { IsLayout wide plan.rows plan }
-    requires plan { IsPlanOf wide out.old plan }
-    requires linked { AreLinkedTo (width wide) (bases wide out.old) (sizes wide out.old)
-        (links wide out.old) plan.rows }
-    ensures cells { (t : ℕ) → t < plan.cells → IsTopCell plan.rest (width wide)
-        (bases wide out.old) (sizes wide out.old) t (cell_in out.new t) }
-    ensures change { ChangesWithin plan.cells_at (plan.cells_at + 8 * plan.cells) out.old
-        out.new }
-{
-    let mut before = Cell::NONE;
-    for at in 0..plan.cells {
-        let cell = next_cell(out, wide, plan, at, before);
-        before = cell;
-        put_u32(out, plan.cells_at + 8 * at, cell.count as u32);
-        put_u32(out, plan.cells_at + 8 * at + 4, cell.around as u32);
-    }
-}
-
-/// Writes the image of rows, and the user's own bytes, into a buffer.
+/// Writes the image of rows, and the user's own bytes, into a buffer, and returns how many bytes it
+/// takes.
 pub(crate) fn write<R: FlatRow>(
     rows: &[R],
     payload: &[u8],
     out: &mut [u8],
-) -> Result<(), WriteError>
+) -> Result<usize, WriteError>
     ensures ok { IsOk result ↔ CanWrite R.WIDE (each R.shown rows.now) (length payload.now)
         (length out.old) }
     ensures fault { IfErr result (IsWriteFault R.WIDE (each R.shown rows.now)
         (length payload.now) (length out.old)) }
     ensures written { OnOk result (IsImageOf R.WIDE (each R.shown rows.now) payload.now
         out.new) }
-    ensures change { ChangesWithin 0 (image_size R.WIDE (length rows.now) (length payload.now))
-        out.old out.new }
+    ensures front { IfOk result (λ len. IsImageOf R.WIDE (each R.shown rows.now) payload.now
+        (take len out.new)) }
+    ensures most { IfOk result (λ len. len ≤ image_size R.WIDE (length rows.now)
+        (length payload.now)) }
+    ensures change { IfOk result (λ len. ChangesWithin 0 len out.old out.new) }
     ensures unchanged { OnErr result (out.new ≡ out.old) }
 {
     let wide = R::WIDE;
-    let Some(plan) = layout(wide, rows.len()) else {
+    let Some(most) = most_bytes(wide, rows.len()) else {
         return Err(WriteError::Full);
     };
-    let payload_at = plan.cells_at + 8 * plan.cells;
-    if out.len() < payload_at + payload.len() {
+    if out.len() < most + payload.len() {
         return Err(WriteError::Short);
     }
     if let Some(at) = unsorted(rows) {
         return Err(WriteError::OutOfOrder(at));
     }
-    put_head(out, wide, plan, payload.len());
+    let plan = RowPlan {
+        rows: rows.len(),
+        rows_at: HEAD,
+    };
+    put_row_head(out, wide, plan);
     put_rows(out, plan, rows);
-    put_cells(out, wide, plan);
-    put_bytes(out, payload_at, payload);
-    Ok(())
+    Ok(put_index(out, wide, plan, are_half(rows), payload))
 }

@@ -9,7 +9,7 @@ use Rattle.frozen_trie.specs.Frozen.{map_of_pairs}
 use Rattle.encoded_keys.specs.Heads.{IsTop, head_padded}
 use Rattle.encoded_keys.specs.Laid.{piece_of}
 use Rattle.image_parts.specs.declared.errors.ImageError.{ImageError}
-use Rattle.image_parts.specs.declared.errors.ImageError.TheVariants.{Cell, Mark, Part, Row, Short, Version}
+use Rattle.image_parts.specs.declared.errors.ImageError.TheVariants.{Cell, Mark, Part, Row, Short, Span, Version}
 use Rattle.image_parts.specs.Parts.{IsListed, listed, part_count, row_count, u32_in, u64_in}
 use Rattle.flat_texts.specs.declared.head.Plan.{Plan}
 use Rattle.flat_texts.specs.declared.pair.Pair.{Pair}
@@ -170,6 +170,7 @@ IsImageFault bs Mark = u64_in bs 0 % 2 ^ 56 ≢ text_mark % 2 ^ 56
 IsImageFault bs Version = (u64_in bs 0 % 2 ^ 56 ≡ text_mark % 2 ^ 56) × (u64_in bs 0 ≢ text_mark)
 IsImageFault bs (Part i) = (i ≡ 0) × (HasTextHead bs → ⊥)
 IsImageFault bs (Row i) = (i < row_count bs) × AreRightPairs bs i × (IsRightPair bs i → ⊥)
+IsImageFault bs (Span i) = ⊥
 IsImageFault bs (Cell t) = (t < counts_listed bs)
     × ((u : ℕ) → u < t → IsTop (stored_heads bs) u (stored_count bs u))
     × (IsTop (stored_heads bs) t (stored_count bs t) → ⊥)

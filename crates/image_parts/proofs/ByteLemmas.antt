@@ -51,6 +51,20 @@ u32_fits bs a byte =
     let b3 = (byte (a + 3)).fits in
     omega (arith, b0, b1, b2, b3)
 
+-- and one of 8 bytes below 2^64
+pub u64_fits : (bs : List ℕ) (a : ℕ) → ((i : ℕ) → Fits w8 (slice_index bs i)) → u64_in bs a < 2 ^ 64
+unfolding u64_in
+u64_fits bs a byte =
+    let b0 = (byte a).fits in
+    let b1 = (byte (a + 1)).fits in
+    let b2 = (byte (a + 2)).fits in
+    let b3 = (byte (a + 3)).fits in
+    let b4 = (byte (a + 4)).fits in
+    let b5 = (byte (a + 5)).fits in
+    let b6 = (byte (a + 6)).fits in
+    let b7 = (byte (a + 7)).fits in
+    omega (arith, b0, b1, b2, b3, b4, b5, b6, b7)
+
 -- a number stays where its bytes do
 pub u32_kept : (xs ys : List ℕ) (a : ℕ) → ((k : ℕ) → a ≤ k → k < a + 4 → slice_index ys k ≡ slice_index xs k) → u32_in ys a ≡ u32_in xs a
 unfolding u32_in

@@ -14,7 +14,9 @@ pub enum ImageError {
     Part(usize),
     /// The row at this index is none, doesn't come after the row before it, or has another link.
     Row(usize),
-    /// The cell at this index counts wrongly.
+    /// The span at this index doesn't begin behind the one before it, or has another answer.
+    Span(usize),
+    /// The cell at this index counts wrongly, or leads to another span.
     Cell(usize),
 }
 

@@ -1,7 +1,7 @@
 -- What the numbers mean that calls return.
 use Rattle.std.specs.Prelude.{ℕ, zero, suc, Option, None, Some}
 use Rattle.image_parts.specs.declared.errors.ImageError.{ImageError}
-use Rattle.image_parts.specs.declared.errors.ImageError.TheVariants.{Cell, Mark, Part, Row, Short, Version}
+use Rattle.image_parts.specs.declared.errors.ImageError.TheVariants.{Cell, Mark, Part, Row, Short, Span, Version}
 use Rattle.image_parts.specs.declared.errors.WriteError.{WriteError}
 use Rattle.image_parts.specs.declared.errors.WriteError.TheVariants.{Full, OutOfOrder, Short as ShortBuffer}
 
@@ -18,6 +18,7 @@ told_error (suc (suc (suc zero))) at = Some Version
 told_error (suc (suc (suc (suc zero)))) at = Some (Part at)
 told_error (suc (suc (suc (suc (suc zero))))) at = Some (Row at)
 told_error (suc (suc (suc (suc (suc (suc zero)))))) at = Some (Cell at)
+told_error (suc (suc (suc (suc (suc (suc (suc (suc (suc zero))))))))) at = Some (Span at)
 told_error n at = None
 
 -- what a write tells

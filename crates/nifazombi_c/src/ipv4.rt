@@ -4,12 +4,12 @@ ghost use Rattle.std.specs.List.{filter};
 ghost use Rattle.radix_keys.specs.Networks.{Net};
 ghost use Rattle.image_parts.specs.Parts.{HoldsPayload, row_count};
 ghost use Rattle.frozen_routes.specs.Routes.{AreInFront, IsLongestRow, IsOwnRow, is_inside};
-ghost use Rattle.flat_routes.specs.Written.{CanWrite, ChangesWithin, IsWriteFault, image_size};
+ghost use Rattle.flat_routes.specs.Written.{CanWrite, ChangesWithin, IsImageOf, IsWriteFault, image_size};
 ghost use Rattle.flat_routes.specs.Faults.{IsRouteFault};
 ghost use Rattle.flat_routes.specs.Images.{IsImage, bases, first_in, found_row, found_value, image_rows, link_in, network, of_ipv4, row4_of, sizes};
 ghost use Rattle.nifazombi_c.specs.Results.{told_error, told_write};
 
-use crate::results::{Span, code_of, status_of};
+use crate::results::{Span, code_of, length_of};
 use flat_routes::ipv4::{self, Row};
 
 /// Checks whether bytes are an image of IPv4 networks, in linear time. Returns 0 of an image, and
@@ -161,8 +161,8 @@ pub extern "C" fn nifazombi_ipv4_above(image: &[u8], at: usize) -> usize
     }
 }
 
-/// How many bytes the image of so many rows takes, with so many bytes of the user's own, or 0 of
-/// 2^32 rows or more, and where these are 2^64 bytes or more.
+/// How many bytes the image of so many rows takes at most, with so many bytes of the user's own, or
+/// 0 of 2^32 rows or more, and where these are 2^64 bytes or more.
 #[unsafe(no_mangle)]
 pub extern "C" fn nifazombi_ipv4_image_len(rows: usize, payload: usize) -> usize
     ensures len { rows < 2 ^ 32 → image_size of_ipv4 rows payload < 2 ^ 64
@@ -177,8 +177,9 @@ pub extern "C" fn nifazombi_ipv4_image_len(rows: usize, payload: usize) -> usize
 }
 
 /// Writes the image of rows in order, by first address and then by bits, whose links count for
-/// nothing, and of the user's own bytes into `out`. Returns 0, or why it couldn't: one of the
-/// numbers above; an index that belongs to it is put into `at`, and `out` is as before then.
+/// nothing, and of the user's own bytes into `out`. Returns 0, and puts into `at` how many bytes the
+/// image takes; or why it couldn't: one of the numbers above; an index that belongs to it is put
+/// into `at`, and `out` is as before then.
 #[unsafe(no_mangle)]
 pub extern "C" fn nifazombi_ipv4_write(
     rows: &[Row],
@@ -193,9 +194,12 @@ pub extern "C" fn nifazombi_ipv4_write(
     ensures image { result ≡ 0 → IsImage of_ipv4 out.new }
     ensures rows { result ≡ 0 → image_rows of_ipv4 out.new ≡ each row4_of rows.now }
     ensures payload { result ≡ 0 → HoldsPayload out.new payload.now }
-    ensures change { ChangesWithin 0 (image_size of_ipv4 (length rows.now) (length payload.now))
-        out.old out.new }
+    ensures front { result ≡ 0 → IsImageOf of_ipv4 (each row4_of rows.now) payload.now
+        (take at.new out.new) }
+    ensures most { result ≡ 0
+        → at.new ≤ image_size of_ipv4 (length rows.now) (length payload.now) }
+    ensures change { result ≡ 0 → ChangesWithin 0 at.new out.old out.new }
     ensures unchanged { (result ≡ 0 → ⊥) → out.new ≡ out.old }
 {
-    status_of(ipv4::write(rows, payload, out), at)
+    length_of(ipv4::write(rows, payload, out), at)
 }

@@ -1,5 +1,5 @@
 //! What calls put into their callers' memory, and what the numbers mean that they return.
-ghost use Rattle.std.specs.Prelude.{◌≡◌, ◌↔◌, ◌+◌, ◌≤◌, ℕ, IfErr, IsOk, Some, IsFalse, IsTrue, MatchOption, length};
+ghost use Rattle.std.specs.Prelude.{◌≡◌, ◌↔◌, ◌+◌, ◌≤◌, ℕ, IfErr, IfOk, IsOk, Some, IsFalse, IsTrue, MatchOption, length};
 ghost use Rattle.image_parts.specs.Parts.{IsPayload};
 ghost use Rattle.nifazombi_c.specs.Results.{told_error, told_write};
 
@@ -21,7 +21,7 @@ pub const NIFAZOMBI_ERROR_PART: u32 = 4;
 /// The row at this index isn't valid, doesn't come after the row before it, or has another link.
 pub const NIFAZOMBI_ERROR_ROW: u32 = 5;
 
-/// The cell at this index counts wrongly.
+/// The cell at this index counts wrongly, or leads to another span.
 pub const NIFAZOMBI_ERROR_CELL: u32 = 6;
 
 /// There are 2^32 rows or more, or so many bytes of keys.
@@ -29,6 +29,9 @@ pub const NIFAZOMBI_ERROR_FULL: u32 = 7;
 
 /// The row at this index isn't valid, or doesn't come after the row before it.
 pub const NIFAZOMBI_ERROR_OUT_OF_ORDER: u32 = 8;
+
+/// The span at this index doesn't begin behind the one before it, or has another answer.
+pub const NIFAZOMBI_ERROR_SPAN: u32 = 9;
 
 /// Some rows that stand one behind the other, or some bytes: the first, and how many there are.
 #[repr(C)]
@@ -57,6 +60,10 @@ pub(crate) fn code_of(found: Result<(), ImageError>, at: &mut usize) -> u32
             *at = index;
             NIFAZOMBI_ERROR_ROW
         }
+        Err(ImageError::Span(index)) => {
+            *at = index;
+            NIFAZOMBI_ERROR_SPAN
+        }
         Err(ImageError::Cell(index)) => {
             *at = index;
             NIFAZOMBI_ERROR_CELL
@@ -78,6 +85,22 @@ pub(crate) fn status_of(written: Result<(), WriteError>, at: &mut usize) -> u32
             *at = index;
             NIFAZOMBI_ERROR_OUT_OF_ORDER
         }
+    }
+}
+
+/// The number of what a write has come to, and into `at` how many bytes the image takes; or the
+/// index that an error tells.
+pub(crate) fn length_of(written: Result<usize, WriteError>, at: &mut usize) -> u32
+    ensures ok { (result ≡ 0) ↔ IsOk written }
+    ensures length { IfOk written (λ len. at.new ≡ len) }
+    ensures error { IfErr written (λ e. told_write result at.new ≡ Some e) }
+{
+    match written {
+        Ok(len) => {
+            *at = len;
+            0
+        }
+        Err(why) => status_of(Err(why), at),
     }
 }
 

@@ -139,6 +139,7 @@ image_error_text image.Mark = codes "mark"
 image_error_text image.Version = codes "version"
 image_error_text (image.Part i) = codes "part " ++ decimal i
 image_error_text (image.Row i) = codes "row " ++ decimal i
+image_error_text (image.Span i) = codes "span " ++ decimal i
 image_error_text (image.Cell i) = codes "cell " ++ decimal i
 
 -- why bytes aren't opened

@@ -40,6 +40,7 @@ fn add_image_error(out: &mut Vec<u8>, why: ImageError) -> Result<(), AllocError>
         ImageError::Version => out.extend_from_slice(b"version"),
         ImageError::Part(index) => add_indexed(out, "part ", index),
         ImageError::Row(index) => add_indexed(out, "row ", index),
+        ImageError::Span(index) => add_indexed(out, "span ", index),
         ImageError::Cell(index) => add_indexed(out, "cell ", index),
     }
 }

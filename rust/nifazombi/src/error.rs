@@ -16,7 +16,10 @@ impl fmt::Display for ImageError {
             ImageError::Row(at) => {
                 write!(f, "no image: row {at} is out of order or linked wrongly")
             }
-            ImageError::Cell(at) => write!(f, "no image: cell {at} counts wrongly"),
+            ImageError::Span(at) => {
+                write!(f, "no image: span {at} is out of order or has another answer")
+            }
+            ImageError::Cell(at) => write!(f, "no image: cell {at} is wrong"),
         }
     }
 }

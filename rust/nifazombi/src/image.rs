@@ -15,12 +15,15 @@ pub(crate) fn payload(image: &[u8]) -> &[u8] {
     place.and_then(|it| image.get(it)).unwrap_or_default()
 }
 
-/// The image that `write` writes into a buffer of so many bytes, which are none of too many rows.
+/// The image that `write` writes into a buffer of so many bytes, which are none of too many rows: as
+/// many of them as it returns.
 pub(crate) fn written(
     len: Option<usize>,
-    write: impl FnOnce(&mut [u8]) -> Result<(), image_parts::WriteError>,
+    write: impl FnOnce(&mut [u8]) -> Result<usize, image_parts::WriteError>,
 ) -> Result<Vec<u8>, WriteError> {
     let mut image = vec![0; len.ok_or(WriteError::Full)?];
-    write(&mut image)?;
+    let len = write(&mut image)?;
+    image.truncate(len);
+    image.shrink_to_fit();
     Ok(image)
 }

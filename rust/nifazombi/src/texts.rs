@@ -214,5 +214,5 @@ pub fn texts_image<K: AsRef<[u8]>>(
     let pairs = pairs.iter().map(|(key, value)| Pair { key: key.as_ref(), value: *value });
     let pairs: Vec<_> = pairs.collect();
     let len = flat_texts::image_len(&pairs, payload.len());
-    written(len, |out| flat_texts::write(&pairs, payload, out))
+    written(len, |out| flat_texts::write(&pairs, payload, out).map(|()| out.len()))
 }

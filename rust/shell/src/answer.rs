@@ -112,6 +112,7 @@ impl From<ImageError> for Stop {
             ImageError::Version => Stop::Said("version"),
             ImageError::Part(place) => Stop::SaidAt("part", place),
             ImageError::Row(place) => Stop::SaidAt("pair", place),
+            ImageError::Span(place) => Stop::SaidAt("span", place),
             ImageError::Cell(place) => Stop::SaidAt("count", place),
         }
     }

@@ -1,32 +1,47 @@
-use Rattle.std.proofs.Common.{◌<◌, ◌≤◌, arith, get_or, refl, subst, sym}
+use Rattle.std.proofs.Common.{◌≡◌, ◌+◌, ◌-◌, ◌<◌, ◌≤◌, ℕ, ap, arith, length, subst, sym, ◌∙◌}
+use Rattle.frozen_routes.specs.Routes.{IsLastHolder}
 use Rattle.sorted_tables.specs.Tables.{IsPartedAt}
-use Rattle.flat_routes.specs.Images.{bases}
-use Rattle.flat_routes.specs.RowLaws.{AreSorted, FirstRows}
-use Rattle.flat_routes.proofs.ImageLemmas.{all_sorted, image_linked, length-firsts, longest, up_to}
+use Rattle.flat_routes.specs.Images.{IsImage, IsSpanOf, answer_in, answer_of, bases, sizes, span_count, start_in, width}
+use Rattle.flat_routes.specs.SpanLaws.{SpansOf}
+use Rattle.flat_routes.proofs.ImageLemmas.{length-firsts, longest}
+use Rattle.flat_routes.proofs.SpanLemmas.{span_counted}
 use Rattle.flat_routes.proofs.search.find.Goals as goal
 
-pub count_in_front-from-requires-clause-below : goal.count_in_front-from-requires-clause-below
-count_in_front-from-requires-clause-below c = λ sorted k l.
-    let own = subst AreSorted c.all-rows.ensures sorted in
-    subst (λ (r : FirstRows). get_or (bases r.wide r.bytes) k 0 ≤ c.args.number) (sym c.all-rows.ensures) (c.top_span-hi.ensures.below (own.image refl) k l)
+pub returns-then-count-eq0-clause-row : goal.returns-then-count-eq0-clause-row
+returns-then-count-eq0-clause-row c = λ image.
+    let wide = c.args.wide in
+    let bs = c.args.image.now in
+    let a = c.args.number in
+    let n = c.count_in_front-count.result in
+    let parted = subst (λ (s : SpansOf). IsImage s.wide s.bytes → IsPartedAt (λ k. start_in s.wide s.bytes k ≤ a) (λ k. start_in s.wide s.bytes k ≤ a → ⊥) (span_count s.wide s.bytes) n)
+    c.of-spans.ensures c.count_in_front-count.ensures.count image in
+    let some = image.spans.some in
+    let first = (image.spans.each 0 some).first (omega arith) in
+    absurd (parted.after 0 (omega (arith, c.if-count-eq0.true)) some (omega (arith, first)))
 
-pub count_in_front-from-requires-clause-above : goal.count_in_front-from-requires-clause-above
-count_in_front-from-requires-clause-above c = λ sorted k l m.
-    let own = subst AreSorted c.all-rows.ensures sorted in
-    let inside = subst (λ (r : FirstRows). k < r.rows) c.all-rows.ensures m in
-    let less = c.top_span-hi.ensures.above (own.image refl) k l inside in
-    subst (λ (r : FirstRows). get_or (bases r.wide r.bytes) k 0 ≤ c.args.number → ⊥) (sym c.all-rows.ensures) (λ le. omega (arith, le, less))
+pub returns-then-found-plan-clause-row : goal.returns-then-found-plan-clause-row
+returns-then-found-plan-clause-row c = λ image.
+    let wide = c.args.wide in
+    let bs = c.args.image.now in
+    let a = c.args.number in
+    let n = c.count_in_front-count.result in
+    let parted = subst (λ (s : SpansOf). IsImage s.wide s.bytes → IsPartedAt (λ k. start_in s.wide s.bytes k ≤ a) (λ k. start_in s.wide s.bytes k ≤ a → ⊥) (span_count s.wide s.bytes) n)
+    c.of-spans.ensures c.count_in_front-count.ensures.count image in
+    let of = span_counted (start_in wide bs) (span_count wide bs) a n parted (omega (arith, c.if-count-eq0.false)) in
+    let last = (image.spans.each (n - 1) of.within).answer a c.requires.fits of in
+    let answer : c.answer_at-found.result ≡ answer_in wide bs (n - 1) = c.answer_at-found.ensures ∙ ap (λ s. answer_of wide s bs (n - 1)) c.requires.plan.spans in
+    let most = last.within in
+    absurd (omega (arith, most, answer, c.if-found-plan.true, length-firsts wide bs, c.requires.plan.rows.rows))
 
 pub returns-clause-row : goal.returns-clause-row
 returns-clause-row c = λ image.
     let wide = c.args.wide in
     let bs = c.args.image.now in
     let a = c.args.number in
-    let n = c.args.plan.rows in
-    let from = c.count_in_front-from.result in
-    let parted = subst (λ (r : FirstRows). IsPartedAt (λ k. get_or (bases r.wide r.bytes) k 0 ≤ a) (λ k. get_or (bases r.wide r.bytes) k 0 ≤ a → ⊥) r.rows from)
-    c.all-rows.ensures (c.count_in_front-from.ensures.count (subst AreSorted (sym c.all-rows.ensures) (all_sorted wide bs n image c.requires.rows))) in
-    let count = up_to wide bs a n from c.requires.rows parted in
-    let within = count.within in
-    longest wide bs a from c.follow_parents.result image count
-    (c.follow_parents.ensures.last (image_linked wide bs from image (omega (arith, within, length-firsts wide bs))) count.before (c.top_span-hi.ensures.around image))
+    let n = c.count_in_front-count.result in
+    let parted = subst (λ (s : SpansOf). IsImage s.wide s.bytes → IsPartedAt (λ k. start_in s.wide s.bytes k ≤ a) (λ k. start_in s.wide s.bytes k ≤ a → ⊥) (span_count s.wide s.bytes) n)
+    c.of-spans.ensures c.count_in_front-count.ensures.count image in
+    let of = span_counted (start_in wide bs) (span_count wide bs) a n parted (omega (arith, c.if-count-eq0.false)) in
+    let last = (image.spans.each (n - 1) of.within).answer a c.requires.fits of in
+    let answer : c.answer_at-found.result ≡ answer_in wide bs (n - 1) = c.answer_at-found.ensures ∙ ap (λ s. answer_of wide s bs (n - 1)) c.requires.plan.spans in
+    longest wide bs a c.answer_at-found.result image (subst (IsLastHolder (width wide) (bases wide bs) (sizes wide bs) (length (bases wide bs)) a) (sym answer) last)

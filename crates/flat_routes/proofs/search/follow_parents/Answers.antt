@@ -9,4 +9,4 @@ returns-clause-last c = λ linked.
     let a = c.args.number in
     subst (λ (r : FirstRows). AreSorted r → ((k : ℕ) → k < c.args.from → get_or (bases r.wide r.bytes) k 0 ≤ a)
     → IsLastOf (IsHolderIn r a) c.args.floor.count c.args.floor.around → IsLastOf (IsHolderIn r a) c.args.from c.follow_parents.result)
-    c.first-rows.ensures c.follow_parents.ensures.last (record { linked = linked; image = λ e. absurd (cc e) })
+    c.first-rows.ensures c.follow_parents.ensures.last linked

@@ -16,5 +16,5 @@ unreachable-requires g c =
       fits = subst (λ n. image_size g.R.FlatRow.WIDE n size ≤ room) (sym many) (subst (λ b. image_size b (length given) size ≤ room) c.WIDE.ensures fits);
       rising = c.requires;
     } in
-    let no = c.in-Err.ensures.ok.1 can in
+    let no = c.in_default-write.ensures.ok.1 can in
     cc no

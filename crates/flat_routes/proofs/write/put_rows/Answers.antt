@@ -25,12 +25,12 @@ loop-at-preserved g c =
     let link = c.follow_parents-link.result in
     let many = length-map given shown in
     let numbers = length-map rows (λ r. r.0.base) in
-    let count = c.requires.layout.count in
-    let rows_at = c.requires.layout.rows_at in
-    let cells_at = c.requires.layout.cells_at in
+    let count = c.requires.count in
+    let rows_at = c.requires.place in
+    let few = c.loop-at.invariant.plan.inside in
     let size : c.size_of_rows.result ≡ row_size wide * at = c.size_of_rows.ensures.value ∙ ap (λ b. row_size b * at) c.WIDE-wide.ensures in
     let change = c.put.ensures.change in
-    let kept = plan_kept wide out c.put.new.out plan (λ k l. change.before k (omega (arith, l, rows_at))) change.same_length c.loop-at.invariant.plan in
+    let kept = plan_kept wide out c.put.new.out plan (λ k l. change.before k (omega (arith, l, rows_at))) (omega (arith, few, change.same_length)) c.loop-at.invariant.plan in
     let counted = c.loop-at.invariant.plan.rows in
     let within : at ≤ row_count out = omega (arith, c.loop-at-test.true, count, counted) in
     let holds = c.loop-at.invariant.rows in
@@ -44,12 +44,12 @@ loop-at-preserved g c =
     at first link (omega arith) holder in
     record {
       plan = kept;
-      rows = holds_more wide out c.put.new.out plan c.loop-at.invariant.plan kept at (λ j l. change.before j (omega (arith, l, size))) rows holds
+      rows = holds_more wide out c.put.new.out plan c.loop-at.invariant.plan kept at (λ j _ l. change.before j (omega (arith, l, size))) rows holds
           (shown_stored shown given at c.index-rows-at.result c.loop-at-test.true c.index-rows-at.is ∙ ap (λ r. Some r) (sym c.put.ensures.row)
           ∙ ap (λ n. Some (row_from wide c.put.new.out (plan.rows_at + n))) size)
           (subst (IsLastHolder w fs bs at (get_or fs at 0)) (sym c.put.ensures.link ∙ ap (λ n. link_from wide c.put.new.out (plan.rows_at + n)) size)
           (subst (λ a. IsLastHolder w fs bs at a link) (sym here) own));
-      change = change_through 88 plan.cells_at (plan.rows_at + c.size_of_rows.result) (plan.rows_at + c.size_of_rows.result + row_size wide) 88 plan.cells_at c.args.out.now out c.put.new.out
-          c.loop-at.invariant.change change (omega arith) (omega (arith, rows_at)) (omega arith)
-          (omega (arith, rows_at, cells_at, size, row_room wide at (length given) c.loop-at-test.true));
+      change = change_through 112 (112 + row_size wide * plan.rows) (plan.rows_at + c.size_of_rows.result) (plan.rows_at + c.size_of_rows.result + row_size wide) 112 (112 + row_size wide * plan.rows)
+          c.args.out.now out c.put.new.out c.loop-at.invariant.change change (omega arith) (omega (arith, rows_at)) (omega arith)
+          (omega (arith, rows_at, size, row_room wide at plan.rows (omega (arith, count, c.loop-at-test.true))));
     }

@@ -1,0 +1,6 @@
+pub mod BlockLemmas
+pub mod CutLemmas
+pub mod ListLemmas
+pub mod RangeLemmas
+pub mod CountLemmas
+pub mod RowLemmas

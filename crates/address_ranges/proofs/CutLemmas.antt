@@ -4,7 +4,7 @@ use Rattle.std.proofs.lemmas.Bool.{cases_lt, le-leb}
 use Rattle.std.proofs.lemmas.Bool.Decides.{leb_tells}
 use Rattle.std.proofs.lemmas.Nat.{pow_pos, shr_split}
 use Rattle.std.proofs.Math.Nat.{mul-mod_left, pow-suc}
-use Rattle.address_ranges.specs.Ranges.{is_within, block_net, networks_in}
+use Rattle.address_ranges.specs.Ranges.{is_block_in, block_net, networks_in}
 use Rattle.address_ranges.proofs.BlockLemmas.{IsLargest, far, finer, pow_le}
 
 -- the 2 ^ k numbers from b up are all in the range
@@ -21,13 +21,13 @@ whole_or_parted m n k b = elim (cases_lt b m) [
   | inr le ↦ elim (cases_lt (n + 1) (b + 2 ^ k)) [ inl lt ↦ inr (inr lt) | inr within ↦ inl (le, within) ]
 ]
 
-within_true : (m n k b : ℕ) → IsWhole m n k b → is_within m n k b ≡ true
+within_true : (m n k b : ℕ) → IsWhole m n k b → is_block_in m n k b ≡ true
 within_true m n k b h = rw (le-leb m b h.0, le-leb (b + 2 ^ k) (n + 1) h.1)
 
 leb_false : (x y : ℕ) → y < x → leb x y ≡ false
 leb_false x y lt = elim (leb_tells x y) [ inl t ↦ absurd (let le = t.1 in omega (arith, le, lt)) | inr f ↦ f.0 ]
 
-within_false : (m n k b : ℕ) → IsParted m n k b → is_within m n k b ≡ false
+within_false : (m n k b : ℕ) → IsParted m n k b → is_block_in m n k b ≡ false
 within_false m n k b (inl lt) = rw (leb_false m b lt)
 within_false m n k b (inr lt) = elim (leb_tells m b) [
   | inl t ↦ rw (t.0, leb_false (b + 2 ^ k) (n + 1) lt)

@@ -3,4 +3,5 @@ pub mod CutLemmas
 pub mod ListLemmas
 pub mod RangeLemmas
 pub mod CountLemmas
+pub mod LeastLemmas
 pub mod RowLemmas

@@ -7,7 +7,7 @@ use Rattle.std.proofs.lemmas.List.Kept.{AllPairs-cons}
 use Rattle.std.proofs.lemmas.Nat.{pow_pos, shr_split}
 use Rattle.std.proofs.Math.Nat.{pow-suc}
 use Rattle.radix_keys.specs.Networks.{Net}
-use Rattle.address_ranges.specs.Ranges.{IsInRange, Holds, EndsBefore, IsNet, block_net, networks_in, networks_between}
+use Rattle.address_ranges.specs.Ranges.{AreNetworksOf, IsInRange, HoldsAddress, EndsBefore, IsNet, block_net, networks_in, networks_between}
 use Rattle.address_ranges.proofs.BlockLemmas.{in_block, of_block}
 use Rattle.address_ranges.proofs.CutLemmas.{IsWhole, half_begins, off, parted, parted_one, whole, whole_or_parted}
 use Rattle.address_ranges.proofs.ListLemmas.{any_here, any_left, any_of_all, any_right, pairs_none, pairs_parts}
@@ -93,30 +93,30 @@ rising w m n (suc j) b fit begins inside =
     ]
 
 -- a number of the block that is in the range is in a network
-pub found : (w m n k b a : ℕ) → k ≤ w → b % 2 ^ k ≡ 0 → b ≤ a → a < b + 2 ^ k → m ≤ a → a ≤ n → Any (Holds w a) (networks_in w m n k b)
+pub found : (w m n k b a : ℕ) → k ≤ w → b % 2 ^ k ≡ 0 → b ≤ a → a < b + 2 ^ k → m ≤ a → a ≤ n → Any (HoldsAddress w a) (networks_in w m n k b)
 found w m n zero b a fit begins low high p q =
     let h : IsWhole m n 0 b = (omega (arith, low, high, p), omega (arith, low, high, q)) in
     let free : 0 ≡ w - (w - 0) = omega arith in
-    subst (Any (Holds w a)) (sym (whole w m n 0 b h))
-    (any_here (Holds w a) (block_net w 0 b) [] (subst (λ d. b / 2 ^ d ≡ a / 2 ^ d) free (in_block b a 0 begins low high)))
+    subst (Any (HoldsAddress w a)) (sym (whole w m n 0 b h))
+    (any_here (HoldsAddress w a) (block_net w 0 b) [] (subst (λ d. b / 2 ^ d ≡ a / 2 ^ d) free (in_block b a 0 begins low high)))
 found w m n (suc j) b a fit begins low high p q = elim (whole_or_parted m n (suc j) b) [
   | inl h ↦
       let free : suc j ≡ w - (w - suc j) = omega (arith, fit) in
-      subst (Any (Holds w a)) (sym (whole w m n (suc j) b h))
-      (any_here (Holds w a) (block_net w (suc j) b) [] (subst (λ d. b / 2 ^ d ≡ a / 2 ^ d) free (in_block b a (suc j) begins low high)))
+      subst (Any (HoldsAddress w a)) (sym (whole w m n (suc j) b h))
+      (any_here (HoldsAddress w a) (block_net w (suc j) b) [] (subst (λ d. b / 2 ^ d ≡ a / 2 ^ d) free (in_block b a (suc j) begins low high)))
   | inr h ↦
       let halves = half_begins j b begins in
       let xs = networks_in w m n j b in
       let ys = networks_in w m n j (b + 2 ^ j) in
-      subst (Any (Holds w a)) (sym (parted w m n j b h)) (elim (cases_lt a (b + 2 ^ j)) [
-        | inl lower ↦ any_left (Holds w a) xs ys (found w m n j b a (omega (arith, fit)) halves.0 low lower p q)
-        | inr upper ↦ any_right (Holds w a) xs ys
+      subst (Any (HoldsAddress w a)) (sym (parted w m n j b h)) (elim (cases_lt a (b + 2 ^ j)) [
+        | inl lower ↦ any_left (HoldsAddress w a) xs ys (found w m n j b a (omega (arith, fit)) halves.0 low lower p q)
+        | inr upper ↦ any_right (HoldsAddress w a) xs ys
             (found w m n j (b + 2 ^ j) a (omega (arith, fit)) halves.1 upper (omega (arith, high, pow-suc 2 j)) p q)
       ])
 ]
 
 -- all numbers are a block
-all_begin : (w : ℕ) → 0 % 2 ^ w ≡ 0
+pub all_begin : (w : ℕ) → 0 % 2 ^ w ≡ 0
 all_begin w = omega (arith, shr_split 0 w)
 
 -- the networks of the range, whatever the block
@@ -132,18 +132,21 @@ pub all_rise : (w m n : ℕ) → AllPairs (EndsBefore w) (networks_between w m n
 all_rise w m n = rising w m n w 0 (omega arith) (all_begin w) (omega arith)
 
 -- what a network of the range holds is in the range
-pub held_in_range : (w m n a : ℕ) (net : Net ℕ) → IsPart w m n 0 (2 ^ w) net → Holds w a net → IsInRange m n a
+pub held_in_range : (w m n a : ℕ) (net : Net ℕ) → IsPart w m n 0 (2 ^ w) net → HoldsAddress w a net → IsInRange m n a
 held_in_range w m n a net p h =
     let own = of_block net.base a (w - net.bits) p.network.2 h in
     (omega (arith, own.0, p.from_first), omega (arith, own.1, p.to_last))
 
-pub exactly : (w m n a : ℕ) → a < 2 ^ w → IsInRange m n a ↔ Any (Holds w a) (networks_between w m n)
+pub exactly : (w m n a : ℕ) → a < 2 ^ w → IsInRange m n a ↔ Any (HoldsAddress w a) (networks_between w m n)
 exactly w m n a fits = (
   λ h. found w m n w 0 a (omega arith) (all_begin w) (omega arith) (omega (arith, fits)) h.0 h.1,
   λ h.
-      let one = any_of_all (Holds w a) (IsPart w m n 0 (2 ^ w)) (networks_between w m n) (all_parts w m n) h in
+      let one = any_of_all (HoldsAddress w a) (IsPart w m n 0 (2 ^ w)) (networks_between w m n) (all_parts w m n) h in
       held_in_range w m n a one.0 one.1 one.2,
 )
+
+pub are_networks : (w m n : ℕ) → AreNetworksOf w m n (networks_between w m n)
+are_networks w m n = record { networks = all_networks w m n; exact = λ a fits. exactly w m n a fits }
 
 pub everything : (w m n : ℕ) → m ≡ 0 → n + 1 ≡ 2 ^ w → networks_between w m n ≡ record { base = 0; bits = 0 } ∷ []
 everything w m n first last =

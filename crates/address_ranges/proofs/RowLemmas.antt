@@ -6,8 +6,8 @@ use Rattle.std.proofs.lemmas.List.{get_or-take, length-append, length-map, lengt
 use Rattle.std.proofs.lemmas.List.Elements.{All-append, All-head, All-map, All-nil, All-push, All-tail, All-weaker}
 use Rattle.std.proofs.lemmas.List.Quantifiers.{all_pairs_push}
 use Rattle.radix_keys.specs.Networks.{Net}
-use Rattle.address_ranges.specs.Ranges.{IsInRange, IsNet, Holds, EndsBefore, networks_between}
-use Rattle.address_ranges.specs.Rows.{AreInTurn, AreRowsInTurn, ComesBefore, HaveSameValues, IsUpward, numbered_row, range_rows}
+use Rattle.address_ranges.specs.Ranges.{IsInRange, IsNet, HoldsAddress, EndsBefore, networks_between}
+use Rattle.address_ranges.specs.Rows.{AreInTurn, AreRowsInTurn, ComesBefore, HaveSameValues, IsUpward, row_by_number, range_rows}
 use Rattle.address_ranges.proofs.CountLemmas.{few}
 use Rattle.address_ranges.proofs.ListLemmas.{all_unmapped, any_first, any_here, any_later, any_left, any_mapped, any_none, any_parts, any_right, any_unmapped, any_weaker, pairs_head, pairs_mapped, pairs_none, pairs_parts, pairs_tail, pairs_unmapped}
 use Rattle.address_ranges.proofs.RangeLemmas.{IsPart, all_networks, all_parts, all_rise, exactly}
@@ -48,7 +48,7 @@ module _ {A V : Type 0} (number : A → ℕ) where
 
     -- the network of a row holds the address, and the row has the value
     abbrev Gives : ℕ → V → Net ℕ × V → Type 0
-    Gives n value row = Holds w n row.0 × (row.1 ≡ value)
+    Gives n value row = HoldsAddress w n row.0 × (row.1 ≡ value)
 
     -- the range has the address, and the value
     abbrev Has : ℕ → V → A × A × V → Type 0
@@ -61,7 +61,7 @@ module _ {A V : Type 0} (number : A → ℕ) where
         elim (any_first (Has n value) r rs h) [
           | inl own ↦
               let one = (exactly w (number r.0) (number r.1) n fits).0 own.0 in
-              let rows = any_weaker (Holds w n) (λ net. Holds w n net × (r.2 ≡ value)) (λ x held. (held, own.1)) nets one in
+              let rows = any_weaker (HoldsAddress w n) (λ net. HoldsAddress w n net × (r.2 ≡ value)) (λ x held. (held, own.1)) nets one in
               any_left (Gives n value) (range_rows number w r) (rows_in rs) (any_mapped (Gives n value) (λ net. (net, r.2)) nets rows)
           | inr rest ↦ any_right (Gives n value) (range_rows number w r) (rows_in rs) (given n value rs fits rest)
         ]
@@ -73,7 +73,7 @@ module _ {A V : Type 0} (number : A → ℕ) where
         elim (any_parts (Gives n value) (range_rows number w r) (rows_in rs) h) [
           | inl own ↦
               let one = any_unmapped (Gives n value) (λ net. (net, r.2)) nets own in
-              let held = any_weaker (λ net. Holds w n net × (r.2 ≡ value)) (Holds w n) (λ x p. p.0) nets one in
+              let held = any_weaker (λ net. HoldsAddress w n net × (r.2 ≡ value)) (HoldsAddress w n) (λ x p. p.0) nets one in
               any_here (Has n value) r rs ((exactly w (number r.0) (number r.1) n fits).1 held, one.4.1)
           | inr rest ↦ any_later (Has n value) r rs (taken n value rs fits rest)
         ]
@@ -129,23 +129,23 @@ module _ {A V : Type 0} (number : A → ℕ) where
         omega (arith, sum, own, most (number r.0) (number r.1), rest)
 
     -- rows by the numbers of their bases
-    pub are_values : (rows : List (Net A × V)) (ranges : List (A × A × V)) → map (numbered_row number) rows ≡ rows_in ranges
+    pub are_values : (rows : List (Net A × V)) (ranges : List (A × A × V)) → map (row_by_number number) rows ≡ rows_in ranges
         → HaveSameValues number w ranges rows
     are_values rows ranges is n value fits = (
-      λ h. any_unmapped (Gives n value) (numbered_row number) rows (subst (Any (Gives n value)) (sym is) (given n value ranges fits h)),
-      λ h. taken n value ranges fits (subst (Any (Gives n value)) is (any_mapped (Gives n value) (numbered_row number) rows h)),
+      λ h. any_unmapped (Gives n value) (row_by_number number) rows (subst (Any (Gives n value)) (sym is) (given n value ranges fits h)),
+      λ h. taken n value ranges fits (subst (Any (Gives n value)) is (any_mapped (Gives n value) (row_by_number number) rows h)),
     )
 
-    pub are_in_turn : (rows : List (Net A × V)) (ranges : List (A × A × V)) → map (numbered_row number) rows ≡ rows_in ranges
+    pub are_in_turn : (rows : List (Net A × V)) (ranges : List (A × A × V)) → map (row_by_number number) rows ≡ rows_in ranges
         → AreInTurn number ranges → AreRowsInTurn number w rows
     are_in_turn rows ranges is h = record {
-      networks = all_unmapped (λ row. IsNet w row.0) (numbered_row number) rows (subst (All (λ row. IsNet w row.0)) (sym is) (nets_in ranges));
-      order = pairs_unmapped IsBefore (numbered_row number) rows (subst (AllPairs IsBefore) (sym is) (rising ranges h.order));
+      networks = all_unmapped (λ row. IsNet w row.0) (row_by_number number) rows (subst (All (λ row. IsNet w row.0)) (sym is) (nets_in ranges));
+      order = pairs_unmapped IsBefore (row_by_number number) rows (subst (AllPairs IsBefore) (sym is) (rising ranges h.order));
     }
 
-    pub are_few : (rows : List (Net A × V)) (ranges : List (A × A × V)) → map (numbered_row number) rows ≡ rows_in ranges
+    pub are_few : (rows : List (Net A × V)) (ranges : List (A × A × V)) → map (row_by_number number) rows ≡ rows_in ranges
         → 1 < w → length rows ≤ (2 * w - 2) * length ranges
     are_few rows ranges is some =
         let all = counted (2 * w - 2) ranges (λ m n. few w m n some) in
-        let same : length rows ≡ length (rows_in ranges) = sym (length-map rows (numbered_row number)) ∙ ap length is in
+        let same : length rows ≡ length (rows_in ranges) = sym (length-map rows (row_by_number number)) ∙ ap length is in
         subst (λ n. n ≤ (2 * w - 2) * length ranges) (sym same) all

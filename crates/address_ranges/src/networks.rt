@@ -1,9 +1,9 @@
 //! The networks of a range.
-ghost use Rattle.std.specs.Prelude.{◌≡◌, ℕ, ◌↔◌, ◌+◌, ◌-◌, ◌*◌, ◌^◌, ◌<◌, ◌≤◌, [], ◌∷◌, length};
+ghost use Rattle.std.specs.Prelude.{◌≡◌, ℕ, ◌+◌, ◌-◌, ◌*◌, ◌^◌, ◌<◌, ◌≤◌, List, [], ◌∷◌, length};
 ghost use Rattle.std.specs.Iterator.{YieldsFirstBy, item_count};
-ghost use Rattle.std.specs.List.{All, AllPairs, Any};
+ghost use Rattle.std.specs.List.{AllPairs};
 ghost use Rattle.radix_keys.specs.Networks.{Net};
-ghost use Rattle.address_ranges.specs.Ranges.{IsInRange, EndsBefore, Holds, IsNet, numbered, networks_between};
+ghost use Rattle.address_ranges.specs.Ranges.{AreNetworksOf, EndsBefore, net_by_number, networks_between};
 
 use crate::numbers::{block_end, free_bits};
 use radix_keys::{Address, Network};
@@ -31,10 +31,10 @@ impl<A: Address> Model for RangeNetworks<A> {
     ghost invariant = { λ walk. ForSome walk.rest (λ r. A.number r.0 ≤ A.number r.1) };
 }
 
-/// The largest networks within the range from one address to another, both of them in it, in order:
-/// an address is in one of them exactly when it is in the range. There are at most 62 of IPv4 and 254
-/// of IPv6, and none where the first address comes after the last. It allocates nothing, and each
-/// step takes constant time.
+/// The networks of the range from one address to another, both of them in it: the fewest such that
+/// an address is in one of them exactly when it is in the range, in order. There are at most 62 of
+/// IPv4 and 254 of IPv6, and none where the first address comes after the last. It allocates
+/// nothing, and each step takes constant time.
 ///
 /// # Examples
 ///
@@ -48,9 +48,10 @@ impl<A: Address> Model for RangeNetworks<A> {
 /// assert_eq!(networks.count(), 2);
 /// ```
 pub fn networks_of<A: Address>(first: A, last: A) -> RangeNetworks<A>
-    ensures exact { (n : ℕ) → n < 2 ^ A.BITS
-        → IsInRange (A.number first) (A.number last) n ↔ Any (Holds A.BITS n) result }
-    ensures networks { All (IsNet A.BITS) result }
+    ensures exact { AreNetworksOf A.BITS (A.number first) (A.number last) result }
+    ensures least { (others : List (Net ℕ))
+        → AreNetworksOf A.BITS (A.number first) (A.number last) others
+        → length result ≤ length others }
     ensures rising { AllPairs (EndsBefore A.BITS) result }
     ensures few { 1 < A.BITS → length result ≤ 2 * A.BITS - 2 }
     ensures whole { A.number first ≡ 0 → A.number last + 1 ≡ 2 ^ A.BITS
@@ -58,16 +59,16 @@ pub fn networks_of<A: Address>(first: A, last: A) -> RangeNetworks<A>
     ensures none { A.number last < A.number first → result ≡ [] }
     ensures walk { result ≡ networks_between A.BITS (A.number first) (A.number last) }
 {
-    let is_some = first.to_number() <= last.to_number();
+    let is_range = first.to_number() <= last.to_number();
     RangeNetworks {
-        rest: if is_some { Some((first, last)) } else { None },
+        rest: if is_range { Some((first, last)) } else { None },
     }
 }
 
 impl<A: Address> Iterator for RangeNetworks<A> {
     type Item = Network<A>;
 
-    ghost next_gives = { YieldsFirstBy (numbered A.number) (λ walk. walk) };
+    ghost next_gives = { YieldsFirstBy (net_by_number A.number) (λ walk. walk) };
 
     ghost remaining = { item_count (λ walk. walk) };
 

@@ -1,6 +1,6 @@
 //! Rows for a routing table, made of ranges.
 ghost use Rattle.std.specs.Prelude.{◌≡◌, ◌≢◌, ◌-◌, ◌*◌, ◌<◌, ◌≤◌, ◌++◌, map, IfErr, IfOk, OnOk, length};
-ghost use Rattle.address_ranges.specs.Rows.{AreInTurn, AreRowsInTurn, HaveSameValues, IsReason, numbered_row, range_rows};
+ghost use Rattle.address_ranges.specs.Rows.{AreInTurn, AreRowsInTurn, HaveSameValues, IsTrueReason, row_by_number, range_rows};
 
 use crate::errors::RangesError;
 use crate::networks::networks_of;
@@ -10,7 +10,7 @@ use std::alloc::Global;
 /// Whether no range ends before it begins, and each comes after the one before it.
 fn check<A: Address, V>(ranges: &[(A, A, V)]) -> Result<(), RangesError>
     ensures ok { OnOk result (AreInTurn A.number ranges.now) }
-    ensures reason { IfErr result (IsReason A.number ranges.now) }
+    ensures reason { IfErr result (IsTrueReason A.number ranges.now) }
     ensures memory { IfErr result (λ e. e ≢ RangesError.Memory) }
 {
     for (i, range) in ranges.iter().enumerate() {
@@ -30,8 +30,8 @@ fn push_rows<A: Address, V: Copy>(
     rows: &mut Vec<(Network<A>, V)>,
     range: &(A, A, V),
 ) -> Result<(), Memory>
-    ensures { OnOk result (map (numbered_row A.number) rows.new.items
-        ≡ map (numbered_row A.number) rows.old.items ++ range_rows A.number A.BITS range.now) }
+    ensures { OnOk result (map (row_by_number A.number) rows.new.items
+        ≡ map (row_by_number A.number) rows.old.items ++ range_rows A.number A.BITS range.now) }
 {
     for network in networks_of(range.0, range.1) {
         rows.push((network, range.2))?;
@@ -74,7 +74,7 @@ pub fn rows_of_ranges<A: Address, V: Copy>(
     ensures rising { IfOk result (λ rows. AreRowsInTurn A.number A.BITS rows.items) }
     ensures few { IfOk result
         (λ rows. 1 < A.BITS → length rows.items ≤ (2 * A.BITS - 2) * length ranges.now) }
-    ensures reason { IfErr result (IsReason A.number ranges.now) }
+    ensures reason { IfErr result (IsTrueReason A.number ranges.now) }
 {
     check(ranges)?;
     let mut rows = Vec::new(alloc);

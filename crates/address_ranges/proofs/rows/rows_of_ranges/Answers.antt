@@ -1,15 +1,15 @@
 use Rattle.std.proofs.Common.{◌≡◌, map, subst}
 use Rattle.std.specs.List.{flat_map}
 use Rattle.std.proofs.lemmas.List.{take_all}
-use Rattle.address_ranges.specs.Rows.{numbered_row, range_rows}
+use Rattle.address_ranges.specs.Rows.{row_by_number, range_rows}
 use Rattle.address_ranges.proofs.RowLemmas.{are_few, are_in_turn, are_values}
 use Rattle.address_ranges.proofs.rows.rows_of_ranges.Goals as goal
 
 -- the rows are those of all ranges
-all : (g : _) (c : goal.After-loop-range g) → map (numbered_row g.A.Address.number) c.loop-range.rows.items
+all : (g : _) (c : goal.After-loop-range g) → map (row_by_number g.A.Address.number) c.loop-range.rows.items
     ≡ flat_map (range_rows g.A.Address.number g.A.Address.BITS) c.args.ranges.now
 all g c =
-    let rows = map (numbered_row g.A.Address.number) c.loop-range.rows.items in
+    let rows = map (row_by_number g.A.Address.number) c.loop-range.rows.items in
     subst (λ xs. rows ≡ flat_map (range_rows g.A.Address.number g.A.Address.BITS) xs)
     (take_all c.loop-range.range-index c.args.ranges.now c.loop-range-test.false) c.loop-range.invariant
 

@@ -1,7 +1,7 @@
 use Rattle.std.proofs.Common.{◌≡◌, ℕ, ◌+◌, ◌-◌, ◌%◌, ◌^◌, ◌<◌, ◌≤◌, ◌∷◌, [], List, Option, Some, None, MatchOption, length, ap, ap₂, subst, sym, ◌∙◌, arith}
 use Rattle.std.specs.Iterator.{Count, IsFinite, MakesProgress, size}
 use Rattle.radix_keys.specs.Networks.{Net, IsBase}
-use Rattle.address_ranges.specs.Ranges.{numbered, block_net, networks_in, networks_left}
+use Rattle.address_ranges.specs.Ranges.{net_by_number, block_net, networks_in, networks_left}
 use Rattle.address_ranges.proofs.BlockLemmas.{IsLargest}
 use Rattle.address_ranges.proofs.CutLemmas.{first_of_all, off}
 use Rattle.address_ranges.proofs.networks.RangeNetworksIterator.next.Goals.{then-end-to, else-end-to}
@@ -27,9 +27,14 @@ front g c =
 pub overflow_sub-BITS : goal.overflow_sub-BITS
 overflow_sub-BITS g c = omega (arith, (front g c).0, c.BITS.ensures)
 
--- ranges with the same ends have the same networks
-same_range : (w m n p q : ℕ) → m ≡ p → n ≡ q → networks_in w m n w 0 ≡ networks_in w p q w 0
-same_range w m n p q first last = ap₂ (λ x y. networks_in w x y w 0) first last
+-- what is left after a network that isn't the last one, or is
+some_left : {A : Type 0} (w : ℕ) (number : A → ℕ) (o : Option (A × A)) (first last : A) (m n : ℕ) → o ≡ Some (first, last)
+    → number first ≡ m → number last ≡ n → networks_left w number o ≡ networks_in w m n w 0
+some_left w number o first last m n is p q = ap (networks_left w number) is ∙ ap₂ (λ x y. networks_in w x y w 0) p q
+
+none_left : {A : Type 0} (w : ℕ) (number : A → ℕ) (o : Option (A × A)) (m n : ℕ) → o ≡ None
+    → n < m → networks_left w number o ≡ networks_in w m n w 0
+none_left w number o m n is less = ap (networks_left w number) is ∙ sym (off w m n w 0 (λ a p q r s. omega (arith, less, r, s)))
 
 -- what is left is what comes behind the first network
 left : (g : _) (c : goal.After-new g) → networks_left g.A.Address.BITS g.A.Address.number c.if-end-to.self
@@ -41,12 +46,10 @@ left g c =
     let n = c.to_number-to.result in
     let e = c.free_bits-free.result in
     elim c.if-end-to.branch [
-      | then-end-to t ↦
-          ap (networks_left w number) t.self-is
-          ∙ same_range w _ _ (m + 2 ^ e) n (t.from_number.ensures ∙ c.block_end-end.ensures) (sym c.to_number-to.ensures.value)
-      | else-end-to t ↦
-          ap (networks_left w number) t.self-is
-          ∙ sym (off w (m + 2 ^ e) n w 0 (λ a p q r s. omega (arith, r, s, t.if-end-to.false, c.block_end-end.ensures)))
+      | then-end-to t ↦ some_left w number c.if-end-to.self t.from_number.result c.in_ok-first.last (m + 2 ^ e) n t.self-is
+          (omega (arith, t.from_number.ensures, c.block_end-end.ensures)) (sym c.to_number-to.ensures.value)
+      | else-end-to t ↦ none_left w number c.if-end-to.self (m + 2 ^ e) n t.self-is
+          (omega (arith, t.if-end-to.false, c.block_end-end.ensures))
     ]
 
 -- the networks are the first one and what is left
@@ -58,15 +61,16 @@ parts g c =
     let m = c.to_number-from.result in
     let n = c.to_number-to.result in
     let e = c.free_bits-free.result in
-    sym c.self.view_is ∙ ap (networks_left w number) c.in_ok-first.was
-    ∙ same_range w _ _ m n (sym c.to_number-from.ensures.value) (sym c.to_number-to.ensures.value)
+    sym c.self.view_is
+    ∙ some_left w number c.self.inside.rest c.in_ok-first.first c.in_ok-first.last m n c.in_ok-first.was
+    (sym c.to_number-from.ensures.value) (sym c.to_number-to.ensures.value)
     ∙ (front g c.before).1 ∙ ap (λ xs. block_net w e m ∷ xs) (sym (left g c))
 
 -- the first network is returned
 given : {A : Type 0} (number : A → ℕ) (w m e bits : ℕ) (first : A) (now rest : List (Net ℕ)) (o : Option (Net A))
     → MatchOption o (¬ (IsBase w bits (number first))) (λ net. (net.base ≡ first) × (net.bits ≡ bits) × IsBase w bits (number first))
     → IsBase w bits (number first) → m ≡ number first → bits ≡ w - e → now ≡ block_net w e m ∷ rest
-    → MatchOption o ((now ≡ []) × (rest ≡ [])) (λ net. now ≡ numbered number net ∷ rest)
+    → MatchOption o ((now ≡ []) × (rest ≡ [])) (λ net. now ≡ net_by_number number net ∷ rest)
 given number w m e bits first now rest None made base same count is = absurd (made base)
 given number w m e bits first now rest (Some net) made base same count is =
     is ∙ ap₂ (λ x y. let net : Net ℕ = record { base = x; bits = y } in net ∷ rest) (same ∙ sym (ap number made.0)) (sym (made.1 ∙ count))

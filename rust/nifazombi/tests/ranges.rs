@@ -59,7 +59,7 @@ fn no_range_has_more_networks_than_told() {
 }
 
 /// The first and the last address of a network, as numbers.
-fn ends(network: &Network<Ipv4Addr>) -> (u64, u64) {
+fn first_and_last(network: &Network<Ipv4Addr>) -> (u64, u64) {
     let first = network.base().to_number() as u64;
     (first, first + (1 << (32 - network.bits())) - 1)
 }
@@ -71,7 +71,7 @@ fn networks_follow_one_another_through_each_range() {
             let (first, last) = (start + first, start + last);
             let mut next = u64::from(first);
             let mut walk = networks_of(Ipv4Addr::from(first), Ipv4Addr::from(last));
-            for (begin, end) in walk.by_ref().map(|network| ends(&network)) {
+            for (begin, end) in walk.by_ref().map(|network| first_and_last(&network)) {
                 assert_eq!(begin, next, "{first} {last}");
                 next = end + 1;
             }

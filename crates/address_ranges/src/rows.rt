@@ -40,8 +40,8 @@ fn push_rows<A: Address, V: Copy>(
 }
 
 /// The rows of ranges, each from its first address to its last, both of them in it, with a value:
-/// a row for each network of a range, with the range's value. They rise, so
-/// `FrozenRoutes::from_sorted` takes them.
+/// a row for each network of a range, with the range's value, in the order that
+/// `FrozenRoutes::from_sorted` asks for. It takes linear time in the ranges and the rows.
 ///
 /// # Errors
 ///

@@ -100,9 +100,9 @@ fn a_table_of_ranges_answers_as_they_do() {
     let given = ranges([(3, 3), (5, 17), (18, 40), (100, 355), (1 << 31, u32::MAX)]);
     let table = FrozenRoutes::from_sorted(rows_of_ranges(Global, &given).unwrap()).ok().unwrap();
     for address in (0..400).chain([(1 << 31) - 1, 1 << 31, u32::MAX]) {
-        let by_ranges = given.iter().find(|(first, last, _)| {
-            (*first..=*last).contains(&Ipv4Addr::from(address))
-        });
+        let by_ranges = given
+            .iter()
+            .find(|(first, last, _)| (*first..=*last).contains(&Ipv4Addr::from(address)));
         assert_eq!(value_of(&table, address), by_ranges.map(|range| range.2), "{address}");
     }
 }

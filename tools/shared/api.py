@@ -7,7 +7,7 @@ from sources import bare, functions_of, sources_of
 PAGE = "docs/API.md"
 # The libraries that users call, in the order of the page.
 CRATES = ["radix_trie", "frozen_trie", "frozen_routes", "frozen_networks", "flat_routes", "flat_texts", "flat_tries"]
-CRATES += ["prefix_maps", "keyed_maps", "trie_set", "topic_filters", "radix_keys"]
+CRATES += ["prefix_maps", "keyed_maps", "trie_set", "topic_filters", "radix_keys", "address_ranges"]
 # The types that a reader looks for first, in their order; functions and laws come last.
 FIRST = ["Trie", "SubTrie", "SubTrieMut", "TrieCommon", "TrieEdit", "Entry", "Cursor", "CursorBack", "Combination"]
 FUNCTIONS = "functions and laws"

@@ -14,7 +14,7 @@ pub const LIBRARY: &str = "nifazombi";
 pub const INNER: [&str; 6] =
     ["nibble_map", "masked_tree", "radix_nodes", "sorted_tables", "sorted_columns", "encoded_keys"];
 /// The libraries that they name.
-pub const PUBLIC: [&str; 14] = [
+pub const PUBLIC: [&str; 15] = [
     "radix_keys",
     "radix_trie",
     "trie_set",
@@ -22,6 +22,7 @@ pub const PUBLIC: [&str; 14] = [
     "keyed_maps",
     "prefix_maps",
     "least_routes",
+    "address_ranges",
     "frozen_trie",
     "frozen_routes",
     "frozen_networks",

@@ -99,10 +99,11 @@ class _Ipv6:
 
 
 class Routes(Table):
-    """A routing table of one family: `routes[address]` is the value of the longest network that holds an address.
+    """A routing table of one family: `longest_match(address)` is the route of the longest network that holds an
+    address, and `routes[network]` the value of one very network.
 
-    An address is a text, a number, its packed bytes, or one of `ipaddress`. Iteration gives the routes in order, and
-    `version` is 4 or 6.
+    An address is a text, a number, its packed bytes, or one of `ipaddress`; where a network is asked for, it is the
+    network of it alone. Iteration gives the routes in order, and `version` is 4 or 6.
     """
 
     def __init__(self, image, check: bool = True):
@@ -149,19 +150,10 @@ class Routes(Table):
         found = self._found(address)
         return self._route(found - 1) if found else None
 
-    def get(self, address: Address, default=None):
+    def longest_match_value(self, address: Address, default=None):
         """The value of the longest network that holds an address, or `default`."""
         found = self._found(address)
         return self._row(found - 1).value if found else default
-
-    def __getitem__(self, address: Address) -> int:
-        found = self._found(address)
-        if not found:
-            raise KeyError(address)
-        return self._row(found - 1).value
-
-    def __contains__(self, address: Address) -> bool:
-        return bool(self._found(address))
 
     def longest_matches(self, addresses) -> typing.List[typing.Optional[int]]:
         """The values of many addresses, None where no network holds one. Addresses may also be packed bytes, one behind
@@ -179,10 +171,27 @@ class Routes(Table):
         network = self._family.network(network)
         return self._family.passed(network.network_address), network.prefixlen
 
-    def exact(self, network: Network) -> typing.Optional[Route]:
-        """The route of this very network, or None."""
-        found = self._family.calls.get(self._at, self._len, *self._network(network))
-        return self._route(found - 1) if found else None
+    def _stored(self, network):
+        """The index and one more of the row of this very network, or 0."""
+        return self._family.calls.get(self._at, self._len, *self._network(network))
+
+    def get(self, network: Network, default=None):
+        """The value of this very network, or `default`."""
+        stored = self._stored(network)
+        return self._row(stored - 1).value if stored else default
+
+    def __getitem__(self, network: Network) -> int:
+        stored = self._stored(network)
+        if not stored:
+            raise KeyError(network)
+        return self._row(stored - 1).value
+
+    def __contains__(self, network: Network) -> bool:
+        return bool(self._stored(network))
+
+    def common_prefixes(self, address: Address) -> typing.List[Route]:
+        """The routes of all networks that hold an address, the shortest first."""
+        return [*self._climb(self._found(address), self._family.calls.above, self._route)][::-1]
 
     def below(self, network: Network) -> Items:
         """The routes within a network, itself too, in order."""
@@ -190,9 +199,14 @@ class Routes(Table):
         self._family.calls.below(self._at, self._len, *self._network(network), span)
         return items_of(self._route, span)
 
-    def above(self, address: Address) -> typing.Iterator[Route]:
-        """The routes of all networks that hold an address, from the longest up."""
-        return self._climb(self._found(address), self._family.calls.above, self._route)
+    def above(self, route: Route) -> typing.Optional[Route]:
+        """The route of the longest other network around that of a route of this table, or None. Raises KeyError where
+        no route is of that network."""
+        stored = self._stored(route.network)
+        if not stored:
+            raise KeyError(route.network)
+        found = self._family.calls.above(self._at, self._len, stored - 1)
+        return self._route(found - 1) if found else None
 
     def __iter__(self) -> typing.Iterator[Route]:
         return iter(Items(self._route, range(len(self))))

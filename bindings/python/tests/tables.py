@@ -62,11 +62,16 @@ def try_routes(version):
         assert routes.longest_matches(many) == [it and it[1] for it in longest]
     empty = Routes(Routes.build([], version=version))
     assert [*empty] == routes.longest_matches([]) == [] and empty.longest_matches(addresses[:2]) == [None, None]
+    assert [routes.longest_match_value(it, "none") for it in addresses] == [it[1] if it else "none" for it in longest]
     for address in addresses[:200]:
-        around = sorted((it for it in order if address in it), key=lambda it: -it.prefixlen)
-        assert [it.network for it in routes.above(address)] == around and (address in routes) == bool(around)
+        around = [Route(it, found[it]) for it in order if address in it]
+        assert routes.common_prefixes(address) == around
+        assert [routes.above(it) for it in around] == [None, *around][:-1]
+        alone = ipaddress.ip_network(address)
+        assert routes.get(address, "none") == found.get(alone, "none") and (address in routes) == (alone in found)
     for network in order[:200]:
-        assert routes.exact(network) == Route(network, found[network]) == routes.exact(str(network))
+        assert routes[network] == routes.get(network) == routes.get(str(network)) == found[network]
+        assert network in routes and str(network) in routes
         within = [it for it in order if it.subnet_of(network)]
         below = routes.below(network)
         assert [it.network for it in below] == within and [it.network for it in reversed(below)] == within[::-1]
@@ -123,15 +128,19 @@ def try_refusals():
     refused(lambda: Texts.build({5: 1}), TypeError, "bytes-like")
     refused(lambda: Texts(Texts.build({}))[5], TypeError, "bytes-like")
     refused(lambda: Texts.build({}, payload="own"), TypeError, "bytes-like")
-    refused(lambda: Routes(image)["11.0.0.1"], KeyError, "11.0.0.1")
+    for network in ("10.0.0.0/9", "10.1.0.0", "10.1.2.3"):
+        refused(lambda network=network: Routes(image)[network], KeyError, network)
+        assert network not in Routes(image) and Routes(image).get(network) is None
+    refused(lambda: Routes(image).above(Route(ipaddress.ip_network("10.0.0.0/9"), 1)), KeyError, "10.0.0.0/9")
+    refused(lambda: Routes(image).get("10.1.2.3/16"), ValueError, "host bits")
     refused(lambda: Routes(image).longest_match("::1"), ValueError, "no address of IPv4")
     for index in (1.5, "1", None):
         refused(lambda index=index: Texts(Texts.build({"a": 1})).nth(index), TypeError, "integer")
     for address in ("fe80::1%eth0", ipaddress.ip_address("fe80::1%eth0"), ipaddress.ip_network("fe80::1%eth0/128")):
         refused(lambda address=address: Routes.build([(address, 1)]), ValueError, "fe80::1%eth0 has a scope")
-        refused(lambda address=address: Routes(wide).exact(address), ValueError, "fe80::1%eth0 has a scope")
-    refused(lambda: Routes(wide)["fe80::1%eth0"], ValueError, "no address of IPv6")
-    refused(lambda: Routes(wide)[ipaddress.ip_address("fe80::1%eth0")], ValueError, "has a scope")
+        refused(lambda address=address: Routes(wide).get(address), ValueError, "fe80::1%eth0 has a scope")
+    refused(lambda: Routes(wide).longest_match_value("fe80::1%eth0"), ValueError, "no address of IPv6")
+    refused(lambda: Routes(wide).longest_match_value(ipaddress.ip_address("fe80::1%eth0")), ValueError, "has a scope")
     for index in (1, -1, 1 << 64):
         refused(lambda index=index: Texts(Texts.build({"a": 1})).nth(index), IndexError, str(index))
     refused(lambda: Routes(image).longest_matches(array.array("i", [-1])), ValueError, "-1")
@@ -181,16 +190,16 @@ def try_files(room):
     with Routes.open(path) as old:
         Routes.write(path, [("10.0.0.0/8", 2)], payload=b"new")
         with Routes.open(path) as new:
-            assert (old["10.1.1.1"], new["10.1.1.1"], new.payload) == (1, 2, b"new")
+            assert (old["10.0.0.0/8"], new["10.0.0.0/8"], new.payload) == (1, 2, b"new")
     for call in (len, list, lambda it: it.longest_match("10.1.1.1"), lambda it: it.payload):
         refused(lambda call=call: call(old), ValueError, "closed")
     refused(lambda: Routes.write(path, [("10.0.0.0/8", -1)]), ValueError, "doesn't fit")
-    assert os.listdir(room) == ["table"] and Routes.open(path)["10.1.1.1"] == 2
+    assert os.listdir(room) == ["table"] and Routes.open(path)["10.0.0.0/8"] == 2
     Routes.write(os.fsencode(path), [("10.0.0.0/8", 3)])
     with open(path, "rb") as file:
         own = mmap.mmap(file.fileno(), 0, access=mmap.ACCESS_COPY)
     with Routes(own) as routes:
-        assert routes["10.1.1.1"] == 3
+        assert routes["10.0.0.0/8"] == 3
     own.close()
     open(f"{room}/none", "w").close()
     refused(lambda: Texts.open(f"{room}/none"), ImageError, "too short")

@@ -5,7 +5,7 @@ use crate::flat_routes::{ipv4, ipv6};
 use crate::image::payload;
 use crate::{ImageError, WriteError};
 use std::fmt;
-use std::iter::FusedIterator;
+use std::iter::{FusedIterator, successors};
 use std::marker::PhantomData;
 use std::net::{Ipv4Addr, Ipv6Addr};
 use std::ops::Range;
@@ -137,9 +137,30 @@ impl<'a, A: Address> Routes<'a, A> {
         Rows { routes: *self, rest: A::below(self.image, network, bits) }
     }
 
-    /// The routes of all networks that hold an address, from the longest up.
-    pub fn above(&self, address: A) -> Above<'a, A> {
-        Above { routes: *self, next: A::longest_match(self.image, address) }
+    /// The routes of all networks that hold an address, the shortest first; from the other end, by
+    /// `rev`, the longest first. Whatever the bytes are, there are 129 at most.
+    ///
+    /// ```
+    /// # use nifazombi::{Route, Routes, routes_image};
+    /// # use std::net::Ipv4Addr;
+    /// let [wide, long] = [8, 16].map(|bits| Route::new(Ipv4Addr::new(10, 0, 0, 0), bits, 1));
+    /// let image = routes_image(&[wide, long], b"")?;
+    /// let around = Routes::new(&image)?.common_prefixes(Ipv4Addr::new(10, 0, 2, 3));
+    /// assert!(around.clone().eq([wide, long]));
+    /// assert!(around.rev().eq([long, wide]));
+    /// # Ok::<(), Box<dyn std::error::Error>>(())
+    /// ```
+    pub fn common_prefixes(&self, address: A) -> CommonPrefixes<'a, A> {
+        let last = A::longest_match(self.image, address);
+        let left = climb::<A>(self.image, last).take(MOST_AROUND).count();
+        CommonPrefixes { routes: *self, last, left }
+    }
+
+    /// The index of the route of the longest other network around that of the route at an index, or
+    /// `None` where there is none. It is less than the index, whatever the bytes are.
+    #[inline]
+    pub fn above(&self, index: usize) -> Option<usize> {
+        A::above(self.image, index)
     }
 
     /// All routes, in order.
@@ -273,26 +294,53 @@ impl<A: Address> ExactSizeIterator for Rows<'_, A> {}
 
 impl<A: Address> FusedIterator for Rows<'_, A> {}
 
-/// The routes of the networks that hold an address, from the longest up.
-#[derive(Clone, Debug)]
-pub struct Above<'a, A: Address> {
-    routes: Routes<'a, A>,
-    /// The index of the next one.
-    next: Option<usize>,
+/// The most networks that hold one address: one for each count of bits of an IPv6 address.
+const MOST_AROUND: usize = 129;
+
+/// The indices from one up, by the links.
+fn climb<A: Address>(image: &[u8], last: Option<usize>) -> impl Iterator<Item = usize> {
+    successors(last, |at| A::above(image, *at))
 }
 
-impl<A: Address> Iterator for Above<'_, A> {
+/// The routes of the networks that hold an address, the shortest first. A step from the front takes
+/// the time of as many links as routes are left, and one from the back that of one.
+#[derive(Clone, Debug)]
+pub struct CommonPrefixes<'a, A: Address> {
+    routes: Routes<'a, A>,
+    /// The index of the longest one that is left.
+    last: Option<usize>,
+    /// How many are left.
+    left: usize,
+}
+
+impl<A: Address> Iterator for CommonPrefixes<'_, A> {
     type Item = Route<A>;
 
     #[inline]
     fn next(&mut self) -> Option<Route<A>> {
-        let at = self.next?;
-        self.next = A::above(self.routes.image, at);
-        self.routes.route_at(at)
+        self.left = self.left.checked_sub(1)?;
+        let first = climb::<A>(self.routes.image, self.last).nth(self.left)?;
+        self.routes.route_at(first)
+    }
+
+    fn size_hint(&self) -> (usize, Option<usize>) {
+        (self.left, Some(self.left))
     }
 }
 
-impl<A: Address> FusedIterator for Above<'_, A> {}
+impl<A: Address> DoubleEndedIterator for CommonPrefixes<'_, A> {
+    #[inline]
+    fn next_back(&mut self) -> Option<Route<A>> {
+        self.left = self.left.checked_sub(1)?;
+        let last = self.last?;
+        self.last = self.routes.above(last);
+        self.routes.route_at(last)
+    }
+}
+
+impl<A: Address> ExactSizeIterator for CommonPrefixes<'_, A> {}
+
+impl<A: Address> FusedIterator for CommonPrefixes<'_, A> {}
 
 /// The image of a table, by its routes in order, with bytes of the user's own, which may be none.
 /// Sorted routes are in order where no network has two.

@@ -3,7 +3,6 @@ mod common;
 
 use common::{Random, assert_both_ends, assert_kept, flipped, image, image_of_many_parts, spoilt};
 use nifazombi::{Address, ImageError, Route, Routes, WriteError, routes_image};
-use std::cmp::Reverse;
 use std::net::{Ipv4Addr, Ipv6Addr};
 
 /// 10.0.0.0/8, 10.1.0.0/16 and 192.0.2.0/24: each by its first address, its bits, the index and one
@@ -12,8 +11,9 @@ const ROWS: [[u32; 4]; 3] =
     [[0x0a00_0000, 8, 0, 100], [0x0a01_0000, 16, 1, 101], [0xc000_0200, 24, 0, 102]];
 
 /// The image of rows, with no cells and nothing else.
-fn image_by_hand(rows: [[u32; 4]; 3]) -> Vec<u8> {
-    let head = [3, 2, 1, 0, 64, 0, 48, 0, 2, 0, 112, 0, 0, 0];
+fn image_by_hand(rows: &[[u32; 4]]) -> Vec<u8> {
+    let (count, bytes) = (rows.len() as u32, 16 * rows.len() as u32);
+    let head = [count, 2, 1, 0, 64, 0, bytes, 0, 2, 0, 64 + bytes, 0, 0, 0];
     image(b"NZIPV4.1", &[&head[..], rows.as_flattened()].concat())
 }
 
@@ -61,7 +61,7 @@ fn longest_match_index_by_hand() {
         ("192.0.2.255", Some(2)),
         ("255.255.255.255", None),
     ];
-    for image in [image_by_hand(ROWS), image_with_cells()] {
+    for image in [image_by_hand(&ROWS), image_with_cells()] {
         let routes = Routes::<Ipv4Addr>::new(&image).unwrap();
         for (address, index) in LOOKS {
             let found = routes.longest_match_index(address.parse().unwrap());
@@ -72,7 +72,7 @@ fn longest_match_index_by_hand() {
 
 #[test]
 fn get_and_all_other_calls_by_hand() {
-    let image = image_by_hand(ROWS);
+    let image = image_by_hand(&ROWS);
     let routes = Routes::<Ipv4Addr>::new(&image).unwrap();
     let wide = route("10.0.0.0", 8, 100);
     let long = route("10.1.0.0", 16, 101);
@@ -85,8 +85,9 @@ fn get_and_all_other_calls_by_hand() {
     assert_eq!(routes.get(long.network, 16), Some(long));
     assert_eq!(routes.get(long.network, 17), None);
     assert_eq!(routes.get(Ipv4Addr::new(10, 1, 0, 1), 16), None);
-    assert!(routes.above(Ipv4Addr::new(10, 1, 2, 3)).eq([long, wide]));
-    assert!(routes.above(Ipv4Addr::new(11, 0, 0, 0)).eq([]));
+    assert_both_ends(routes.common_prefixes(Ipv4Addr::new(10, 1, 2, 3)), &[wide, long]);
+    assert_both_ends(routes.common_prefixes(Ipv4Addr::new(11, 0, 0, 0)), &[]);
+    assert_eq!([0, 1, 2, 3].map(|at| routes.above(at)), [None, Some(0), None, None]);
     assert_both_ends(routes.below(Ipv4Addr::new(10, 0, 0, 0), 8), &[wide, long]);
     assert_both_ends(routes.below(Ipv4Addr::new(10, 1, 2, 3), 9), &[long]);
     assert_both_ends(routes.below(Ipv4Addr::new(10, 1, 0, 0), 17), &[]);
@@ -94,6 +95,17 @@ fn get_and_all_other_calls_by_hand() {
     assert!(routes.into_iter().eq(&routes));
     assert_eq!((routes.len(), routes.is_empty(), routes.payload()), (3, false, &b""[..]));
     assert_eq!(format!("{wide} {other}"), "10.0.0.0/8 192.0.2.0/24");
+}
+
+#[test]
+fn common_prefixes_end_in_bytes_whose_links_are_too_many() {
+    let rows: Vec<_> = (0..200).map(|at| [0, 0, at, at]).collect();
+    let image = image_by_hand(&rows);
+    assert_eq!(fault(&image), Some(ImageError::Row(1)));
+    let around = Routes::<Ipv4Addr>::unchecked(&image).common_prefixes(Ipv4Addr::UNSPECIFIED);
+    let values: Vec<_> = around.clone().map(|it| it.value).collect();
+    assert_eq!(values, (71..200).collect::<Vec<_>>());
+    assert!(around.rev().map(|it| it.value).eq((71..200).rev()));
 }
 
 #[test]
@@ -106,7 +118,8 @@ fn longest_matches_and_other_calls_of_ipv6_by_hand() {
     assert_both_ends(routes.into_iter(), &[all, documents]);
     assert_eq!(routes.longest_match(Ipv6Addr::LOCALHOST), Some(all));
     let address = "2001:db8::1".parse().unwrap();
-    assert!(routes.above(address).eq([documents, all]));
+    assert_both_ends(routes.common_prefixes(address), &[all, documents]);
+    assert_eq!([0, 1].map(|at| routes.above(at)), [None, Some(0)]);
     assert_eq!(routes.get(documents.network, 32), Some(documents));
     let addresses = [address, Ipv6Addr::LOCALHOST].map(|it| it.octets());
     let mut found = [9; 3];
@@ -141,7 +154,7 @@ fn new_tells_what_another_byte_breaks() {
         (104, 2, Row(2)),
     ];
     for (at, byte, error) in SPOILT {
-        assert_eq!(fault(&spoilt(&image_by_hand(ROWS), at, byte)), Some(error), "{at}");
+        assert_eq!(fault(&spoilt(&image_by_hand(&ROWS), at, byte)), Some(error), "{at}");
     }
     for (at, cell) in [(112, 0), (116, 0), (120, 1), (124, 1), (132, 2)] {
         assert_eq!(fault(&spoilt(&image_with_cells(), at, 9)), Some(Cell(cell)), "{at}");
@@ -151,7 +164,7 @@ fn new_tells_what_another_byte_breaks() {
 
 #[test]
 fn new_tells_where_an_image_ends_early() {
-    let image = image_by_hand(ROWS);
+    let image = image_by_hand(&ROWS);
     for end in 0..image.len() {
         let error = [ImageError::Short, ImageError::Part(0)][usize::from(end >= 64)];
         assert_eq!(fault(&image[..end]), Some(error), "{end}");
@@ -160,7 +173,7 @@ fn new_tells_where_an_image_ends_early() {
 
 #[test]
 fn route_at_of_more_bits_than_a_byte_tells() {
-    let spoilt = spoilt(&image_by_hand(ROWS), 69, 1);
+    let spoilt = spoilt(&image_by_hand(&ROWS), 69, 1);
     let routes = Routes::<Ipv4Addr>::unchecked(&spoilt);
     assert_eq!(routes.route_at(0), Some(route("10.0.0.0", u8::MAX, 100)));
 }
@@ -185,7 +198,7 @@ fn new_tells_each_flipped_bit_of_the_rows() {
         let mut rows = ROWS;
         rows.as_flattened_mut()[bit / 32] ^= 1 << (bit % 32);
         let wrong = first_wrong(&rows).map(ImageError::Row);
-        assert_eq!(fault(&image_by_hand(rows)), wrong, "{bit}");
+        assert_eq!(fault(&image_by_hand(&rows)), wrong, "{bit}");
     }
 }
 
@@ -257,12 +270,13 @@ fn random_table<A: Number>(random: &mut Random, count: usize) -> Vec<Route<A>> {
 fn compare_lookups<A: Number>(routes: Routes<A>, table: &[Route<A>], address: A) {
     let mut around = table.to_vec();
     around.retain(|it| holds(it, address));
-    around.sort_by_key(|it| Reverse(it.bits));
-    let longest = around.first().copied();
+    let longest = around.last().copied();
     assert_eq!(routes.longest_match(address), longest);
     let index = routes.longest_match_index(address);
     assert_eq!(index.and_then(|at| routes.route_at(at)), longest);
-    assert!(routes.above(address).eq(around), "{address}");
+    let climb = std::iter::successors(index, |at| routes.above(*at));
+    assert!(climb.map(|at| routes.route_at(at)).eq(around.iter().rev().copied().map(Some)));
+    assert_both_ends(routes.common_prefixes(address), &around);
 }
 
 fn compare_networks<A: Number>(routes: Routes<A>, table: &[Route<A>], address: A, bits: u8) {
@@ -331,7 +345,10 @@ fn call_all<A: Number>(bytes: &[u8], random: &mut Random) {
         let index = routes.longest_match_index(address);
         assert_eq!(routes.longest_match(address), index.and_then(|at| routes.route_at(at)));
         assert!(index.is_none_or(|at| at < routes.len()));
-        assert!(routes.above(address).count() <= routes.len());
+        let around = routes.common_prefixes(address);
+        assert!(around.len() <= routes.len().min(129));
+        assert!(around.clone().rev().eq(around.collect::<Vec<_>>().into_iter().rev()));
+        assert!(index.is_none_or(|at| routes.above(at).is_none_or(|up| up < at)));
         let own = routes.get(address, bits);
         assert!(own.is_none_or(|it| (it.network, it.bits) == (address, bits)));
         let below = routes.below(address, bits);

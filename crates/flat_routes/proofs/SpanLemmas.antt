@@ -226,11 +226,17 @@ pub edges_more : (w : ℕ) (fs bs : List ℕ) (x t : ℕ) → x < t → IsEdge w
 unfolding edges
 edges_more w fs bs x t lt at = elim at.2 [
   | inl begins ↦
-      omega (arith, counted_more (λ k. get_or fs k 0) (length fs) at.0 x t at.1 (omega (arith, begins, lt)) (omega (arith, begins)),
-      counted_up (end_of w fs bs) (length fs) x t (omega (arith, lt)))
+      omega (
+        arith,
+        counted_more (λ k. get_or fs k 0) (length fs) at.0 x t at.1 (omega (arith, begins, lt)) (omega (arith, begins)),
+        counted_up (end_of w fs bs) (length fs) x t (omega (arith, lt)),
+      )
   | inr ends ↦
-      omega (arith, counted_more (end_of w fs bs) (length fs) at.0 x t at.1 (omega (arith, ends, lt)) (omega (arith, ends)),
-      counted_up (λ k. get_or fs k 0) (length fs) x t (omega (arith, lt)))
+      omega (
+        arith,
+        counted_more (end_of w fs bs) (length fs) at.0 x t at.1 (omega (arith, ends, lt)) (omega (arith, ends)),
+        counted_up (λ k. get_or fs k 0) (length fs) x t (omega (arith, lt)),
+      )
 ]
 
 -- a block of 64 bits or more is one of 64 bits times a power

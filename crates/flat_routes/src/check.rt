@@ -144,8 +144,7 @@ fn is_cell(image: &[u8], wide: bool, plan: Plan, at: usize) -> bool
         return span + 1 == plan.spans.count;
     };
     start_at(image, wide, plan.spans, span) <= first
-        && (span + 1 == plan.spans.count
-            || first < start_at(image, wide, plan.spans, span + 1))
+        && (span + 1 == plan.spans.count || first < start_at(image, wide, plan.spans, span + 1))
 }
 
 /// Whether the part listed first is that of the rows.

@@ -149,7 +149,14 @@ fn put_parts(out: &mut [u8], wide: bool, spans: SpanPlan, cells: CellPlan, paylo
     ensures change { ChangesWithin 40 112 out.old out.new }
 {
     let start = start_size(wide, spans.is_half);
-    put_part(out, 40, 2, start as u32, spans.at, (start + 4) * spans.count);
+    put_part(
+        out,
+        40,
+        2,
+        start as u32,
+        spans.at,
+        (start + 4) * spans.count,
+    );
     put_part(out, 64, 5, cells.rest, cells.at, 4 * cells.count);
     put_part(out, 88, 3, 0, cells.at + 4 * cells.count, payload);
 }

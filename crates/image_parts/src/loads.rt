@@ -4,31 +4,26 @@ ghost use Rattle.image_parts.specs.Parts.{u32_in, u64_in, u128_in};
 
 /// The number of the 4 bytes from a place on.
 #[inline(always)]
-#[tactic(auto, unfolding(crate::specs::Parts::u32_in))]
 pub fn u32_at(bytes: &[u8], at: usize) -> u32
     requires { at + 4 ≤ length bytes.now }
     ensures { result ≡ u32_in bytes.now at }
 {
-    u32::from_le_bytes([bytes[at], bytes[at + 1], bytes[at + 2], bytes[at + 3]])
+    let Some(four) = bytes[at..].first_chunk::<4>() else {
+        unreachable!();
+    };
+    u32::from_le_bytes(*four)
 }
 
 /// The number of the 8 bytes from a place on.
 #[inline(always)]
-#[tactic(auto, unfolding(crate::specs::Parts::u64_in))]
 pub fn u64_at(bytes: &[u8], at: usize) -> u64
     requires { at + 8 ≤ length bytes.now }
     ensures { result ≡ u64_in bytes.now at }
 {
-    u64::from_le_bytes([
-        bytes[at],
-        bytes[at + 1],
-        bytes[at + 2],
-        bytes[at + 3],
-        bytes[at + 4],
-        bytes[at + 5],
-        bytes[at + 6],
-        bytes[at + 7],
-    ])
+    let Some(eight) = bytes[at..].first_chunk::<8>() else {
+        unreachable!();
+    };
+    u64::from_le_bytes(*eight)
 }
 
 /// The number of the 16 bytes from a place on.

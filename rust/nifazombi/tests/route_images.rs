@@ -34,25 +34,59 @@ const WIDE_ROWS: [[u32; 8]; 5] = [
     [0, 0, 0, 0xfe80_0000, 10, 1, 104, 0],
 ];
 
-/// The image of `ROWS`, with cells by three bits, and five bytes of the user's own before the rows.
+/// The spans of `ROWS`: where each begins, and the index and one more of the row of the longest
+/// network that holds its addresses, or 0.
+const SPANS: [[u32; 2]; 12] = [
+    [0, 0],
+    [0x0a00_0000, 2],
+    [0x0a01_0000, 3],
+    [0x0a01_0200, 4],
+    [0x0a01_0300, 3],
+    [0x0a02_0000, 1],
+    [0x0b00_0000, 0],
+    [0x8000_0000, 5],
+    [0xc000_0000, 0],
+    [0xc000_0200, 6],
+    [0xc000_0300, 0],
+    [0xffff_ffff, 7],
+];
+
+/// The spans of `WIDE_ROWS`, each by the upper half of the address that it begins with.
+const WIDE_SPANS: [[u32; 3]; 8] = [
+    [0, 0, 1],
+    [0, 0x2001_0db8, 3],
+    [1, 0x2001_0db8, 4],
+    [2, 0x2001_0db8, 3],
+    [0x0001_0000, 0x2001_0db8, 2],
+    [0, 0x2001_0db9, 1],
+    [0, 0xfe80_0000, 5],
+    [0, 0xfec0_0000, 1],
+];
+
+/// The image of `ROWS`, with cells of 2^29 addresses from 10.0.0.0 on, and five bytes of the user's
+/// own before the rows.
 fn stored() -> Vec<u8> {
-    let head = [7, 3, 1, 0, 93, 0, 112, 0, 2, 29, 205, 0, 72, 0, 3, 7, 88, 0, 5, 0];
-    let cells = [0, 0, 4, 0, 4, 0, 4, 0, 4, 0, 5, 5, 5, 0, 6, 0, 7, 0];
-    let rows = bytes_of(&[ROWS.as_flattened(), &cells].concat());
-    [image(b"NZIPV4.1", &head), b"hello".to_vec(), rows].concat()
+    let rows = [7, 4, 1, 0, 117, 0, 112, 0];
+    let rest = [2, 4, 229, 0, 96, 0, 5, 29, 325, 0, 32, 0, 3, 7, 112, 0, 5, 0];
+    let cells = [1, 6, 6, 6, 7, 7, 10, 10];
+    let parts = bytes_of(&[ROWS.as_flattened(), SPANS.as_flattened(), &cells].concat());
+    [image(b"NZIPV4.2", &[&rows[..], &rest].concat()), b"hello".to_vec(), parts].concat()
 }
 
 /// The same with no cells, as `write` lays it out.
 fn plain() -> Vec<u8> {
-    let head = [7, 3, 1, 0, 88, 0, 112, 0, 2, 0, 200, 0, 0, 0, 3, 0, 200, 0, 5, 0];
-    [image(b"NZIPV4.1", &[&head, ROWS.as_flattened()].concat()), b"hello".to_vec()].concat()
+    let rows = [7, 4, 1, 0, 112, 0, 112, 0];
+    let rest = [2, 4, 224, 0, 96, 0, 5, 0, 320, 0, 0, 0, 3, 0, 320, 0, 5, 0];
+    let numbers = [&rows[..], &rest, ROWS.as_flattened(), SPANS.as_flattened()].concat();
+    [image(b"NZIPV4.2", &numbers), b"hello".to_vec()].concat()
 }
 
-/// The image of `WIDE_ROWS`, with cells by three bits.
+/// The image of `WIDE_ROWS`, with cells of 2^125 addresses.
 fn stored_wide() -> Vec<u8> {
-    let head = [5, 2, 1, 0, 64, 0, 160, 0, 2, 125, 224, 0, 72, 0];
-    let cells = [0, 0, 1, 1, 4, 1, 4, 1, 4, 1, 4, 1, 4, 1, 4, 1, 5, 0];
-    image(b"NZIPV6.1", &[&head[..], WIDE_ROWS.as_flattened(), &cells].concat())
+    let head = [5, 3, 1, 0, 88, 0, 160, 0, 2, 8, 248, 0, 96, 0, 5, 125, 344, 0, 32, 0];
+    let cells = [0, 0, 5, 5, 5, 5, 5, 5];
+    let rows = WIDE_ROWS.as_flattened();
+    image(b"NZIPV6.2", &[&head[..], rows, WIDE_SPANS.as_flattened(), &cells].concat())
 }
 
 #[test]
@@ -120,38 +154,54 @@ fn longest_match_in_a_stored_image_of_ipv6() {
 #[test]
 fn check_tells_what_a_spoilt_byte_breaks() {
     use ImageError::*;
-    const SPOILT: [(usize, u8, ImageError); 31] = [
+    const SPOILT: [(usize, u8, ImageError); 47] = [
         (0, 79, Mark),
         (6, 0, Mark),
-        (7, 50, Version),
+        (7, b'1', Version),
+        (7, b'3', Version),
         (8, 6, Part(0)),
         (12, 0, Part(0)),
         (12, 1, Part(1)),
+        (12, 2, Part(2)),
         (12, 255, Short),
         (16, 2, Part(0)),
         (20, 1, Part(0)),
-        (24, 94, Row(0)),
+        (24, 118, Row(0)),
         (31, 1, Part(0)),
         (32, 113, Part(0)),
         (40, 3, Part(1)),
-        (44, 28, Cell(5)),
-        (44, 128, Part(1)),
-        (48, 206, Part(1)),
-        (56, 71, Part(1)),
-        (56, 80, Part(1)),
+        (44, 8, Part(1)),
+        (49, 1, Part(1)),
+        (56, 0, Part(1)),
+        (56, 88, Span(10)),
+        (56, 95, Part(1)),
         (63, 255, Part(1)),
-        (93, 1, Row(0)),
-        (97, 33, Row(0)),
-        (113, 8, Row(1)),
-        (117, 0, Row(1)),
-        (117, 2, Row(1)),
-        (133, 3, Row(2)),
-        (205, 1, Cell(0)),
-        (245, 4, Cell(5)),
-        (249, 0, Cell(5)),
-        (249, 6, Cell(5)),
-        (269, 6, Cell(8)),
-        (273, 7, Cell(8)),
+        (64, 2, Part(2)),
+        (68, 28, Cell(4)),
+        (68, 128, Part(2)),
+        (72, 70, Part(2)),
+        (80, 31, Part(2)),
+        (87, 255, Part(2)),
+        (117, 1, Row(0)),
+        (121, 33, Row(0)),
+        (137, 8, Row(1)),
+        (141, 0, Row(1)),
+        (141, 2, Row(1)),
+        (157, 3, Row(2)),
+        (229, 1, Span(0)),
+        (233, 1, Span(0)),
+        (237, 1, Span(0)),
+        (240, 9, Span(1)),
+        (240, 11, Span(0)),
+        (241, 3, Span(1)),
+        (248, 9, Span(1)),
+        (321, 6, Span(11)),
+        (321, 8, Span(11)),
+        (325, 0, Cell(0)),
+        (325, 2, Cell(0)),
+        (329, 5, Cell(1)),
+        (353, 11, Cell(7)),
+        (353, 12, Cell(7)),
     ];
     for (at, byte, error) in SPOILT {
         assert_eq!(ipv4::check(&spoilt(&stored(), at, byte)), Err(error), "{at} {byte}");
@@ -161,12 +211,13 @@ fn check_tells_what_a_spoilt_byte_breaks() {
 #[test]
 fn check_tells_where_an_image_is_cut() {
     let stored = stored();
-    // The list ends at 88, the rows at 205, and the cells with the image.
+    // The list ends at 112, the rows at 229, the spans at 325, and the cells with the image.
     for end in 0..stored.len() {
         let error = match end {
-            0..88 => ImageError::Short,
-            88..205 => ImageError::Part(0),
-            _ => ImageError::Part(1),
+            0..112 => ImageError::Short,
+            112..229 => ImageError::Part(0),
+            229..325 => ImageError::Part(1),
+            _ => ImageError::Part(2),
         };
         assert_eq!(ipv4::check(&stored[..end]), Err(error), "{end}");
     }
@@ -175,11 +226,11 @@ fn check_tells_where_an_image_is_cut() {
 #[test]
 fn payload_is_the_first_part_of_the_users_own() {
     let stored = stored();
-    assert_eq!(payload(&stored), Some((88, 5)));
-    assert_eq!(payload(&stored[..93]), Some((88, 5)));
-    assert_eq!([&stored[..92], &stored_wide(), &[]].map(payload), [None; 3]);
-    assert_eq!(payload(&spoilt(&stored, 40, 3)), Some((205, 72)));
-    assert_eq!(payload(&spoilt(&stored, 79, 1)), None);
+    assert_eq!(payload(&stored), Some((112, 5)));
+    assert_eq!(payload(&stored[..117]), Some((112, 5)));
+    assert_eq!([&stored[..116], &stored_wide(), &[]].map(payload), [None; 3]);
+    assert_eq!(payload(&spoilt(&stored, 40, 3)), Some((229, 96)));
+    assert_eq!(payload(&spoilt(&stored, 103, 1)), None);
     // Of 65 listed parts, none with a byte, the last alone is of kind 3, and then the one before it
     // too.
     let mut many = [0; 16 + 24 * 65];
@@ -224,46 +275,54 @@ fn rows() -> [ipv4::Row; 7] {
 
 #[test]
 fn write_lays_out_rows_and_a_payload() {
-    let mut out = [7; 209];
-    assert_eq!(ipv4::write(&rows(), b"hello", &mut out), Ok(()));
-    assert!(out.starts_with(&plain()) && out.ends_with(&[7; 4]));
-    assert_eq!(payload(&out), Some((200, 5)));
-    assert_eq!(ipv4::write(&rows(), b"hello", &mut [0; 204]), Err(WriteError::Short));
-    let mut whole = [0; 200];
-    assert_eq!(ipv4::write(&rows(), b"", &mut whole), Ok(()));
-    assert!(payload(&whole) == Some((200, 0)) && ipv4::is_image(&whole));
+    let mut out = [7; 353];
+    assert_eq!(ipv4::write(&rows(), b"hello", &mut out), Ok(325));
+    assert!(out.starts_with(&plain()) && out[325..] == [7; 28]);
+    assert_eq!(payload(&out), Some((320, 5)));
+    assert!([&out[..], &out[..325]].iter().all(|it| ipv4::is_image(it)));
+    assert_eq!(ipv4::write(&rows(), b"hello", &mut [0; 348]), Err(WriteError::Short));
+    let mut whole = [0; 344];
+    assert_eq!(ipv4::write(&rows(), b"", &mut whole), Ok(320));
+    assert!(payload(&whole) == Some((320, 0)) && ipv4::is_image(&whole[..320]));
 }
 
 #[test]
 fn write_of_no_row() {
-    let mut out = [0; 88];
-    assert_eq!(ipv4::write(&[], b"", &mut out), Ok(()));
+    let mut out = [0; 120];
+    assert_eq!(ipv4::write(&[], b"", &mut out), Ok(120));
     assert_eq!((ipv4::check(&out), ipv4::len(&out)), (Ok(()), 0));
     assert_eq!(ipv4::longest_match(&out, 0), None);
     assert_eq!(ipv6::check(&out), Err(ImageError::Mark));
+    let mut out = [0; 132];
+    assert_eq!(ipv6::write(&[], b"", &mut out), Ok(124));
+    assert_eq!((ipv6::check(&out[..124]), ipv6::longest_match(&out, 0)), (Ok(()), None));
 }
 
+/// The most bytes that so many rows of IPv4 take: those of the head, a row, two spans for each and
+/// one more, and the cells.
 #[test]
 fn image_len_by_rows_and_payload() {
     const MOST: usize = usize::MAX;
-    const LENGTHS: [(usize, usize, Option<usize>); 12] = [
-        (0, 0, Some(88)),
-        (7, 5, Some(205)),
-        (255, 0, Some(4_168)),
-        (256, 0, Some(8_288)),
-        (511, 0, Some(12_368)),
-        (512, 0, Some(16_480)),
-        (600, 3, Some(17_891)),
-        (2_097_152, 0, Some(50_331_744)),
-        (4_294_967_295, 0, Some(68_736_254_032)),
+    const LENGTHS: [(usize, usize, Option<usize>); 14] = [
+        (0, 0, Some(120)),
+        (7, 5, Some(349)),
+        (255, 0, Some(8_280)),
+        (256, 0, Some(10_360)),
+        (511, 0, Some(18_520)),
+        (512, 0, Some(20_600)),
+        (600, 3, Some(23_419)),
+        (2_097_152, 0, Some(75_497_592)),
+        (2_147_483_647, 0, Some(68_727_865_432)),
+        (2_147_483_648, 0, Some(68_719_476_856)),
+        (4_294_967_295, 0, Some(137_438_953_560)),
         (4_294_967_296, 0, None),
-        (0, MOST - 88, Some(MOST)),
-        (0, MOST - 87, None),
+        (0, MOST - 120, Some(MOST)),
+        (0, MOST - 119, None),
     ];
     for (rows, own, len) in LENGTHS {
         assert_eq!(ipv4::image_len(rows, own), len, "{rows} {own}");
     }
-    assert_eq!(ipv6::image_len(5, 1), Some(249));
+    assert_eq!(ipv6::image_len(5, 1), Some(493));
 }
 
 #[test]
@@ -276,14 +335,14 @@ fn write_refuses_rows_out_of_order() {
         (3, 0x0901_0200, 24),
         (6, 0xffff_ffff, 31),
     ];
-    let mut out = [7; 205];
+    let mut out = [7; 349];
     for (at, first, bits) in CHANGED {
         let mut rows = rows();
         rows[at] = row(first, bits, 0);
         let refused = Err(WriteError::OutOfOrder(at));
         assert_eq!(ipv4::write(&rows, b"hello", &mut out), refused, "{at}");
     }
-    assert_eq!(out, [7; 205]);
+    assert_eq!(out, [7; 349]);
 }
 
 #[test]
@@ -299,9 +358,9 @@ fn write_of_ipv6_rows() {
         let (first, bits) = rows[at];
         ipv6::Row { first: u128::to_be_bytes(first), bits, link: 0, value: 100 + at as u64 }
     });
-    let mut out = [0; 248];
-    assert_eq!(ipv6::write(&rows, b"", &mut out), Ok(()));
-    assert_eq!(out[88..], stored_wide()[64..224]);
+    let mut out = [0; 492];
+    assert_eq!(ipv6::write(&rows, b"", &mut out), Ok(368));
+    assert_eq!(out[112..368], stored_wide()[88..344]);
     let addresses = [0, DOCUMENTS + (1 << 64)].map(u128::to_be_bytes);
     let mut found = [9; 2];
     let count = ipv6::longest_matches(&out, &addresses, &mut found);
@@ -312,12 +371,28 @@ fn write_of_ipv6_rows() {
 }
 
 #[test]
+fn write_of_ipv6_rows_of_more_than_64_bits() {
+    let host = (DOCUMENTS + 1).to_be_bytes();
+    let rows = [ipv6::Row { first: host, bits: 128, link: 0, value: 9 }];
+    let mut out = [0; 204];
+    assert_eq!(ipv6::write(&rows, b"", &mut out), Ok(204));
+    // Three spans, of whole addresses: up to the host, itself, and behind it.
+    let spans = [0, 0, 0, 0, 0, 1, 0, 0, 0x2001_0db8, 1, 2, 0, 0, 0x2001_0db8, 0];
+    assert_eq!((&out[44..45], &out[144..]), (&[16][..], &bytes_of(&spans)[..]));
+    let found = [DOCUMENTS, DOCUMENTS + 1, DOCUMENTS + 2].map(|it| ipv6::longest_match(&out, it));
+    assert_eq!(found, [None, Some(0), None]);
+    assert_eq!(ipv6::check(&spoilt(&out, 44, 4)), Err(ImageError::Part(1)));
+}
+
+#[test]
 fn write_makes_cells_for_many_rows() {
     let rows: Vec<_> = (0..600).map(|at| row(at << 8, 24, at)).collect();
     let mut out = vec![0; ipv4::image_len(600, 3).unwrap()];
-    assert_eq!(ipv4::write(&rows, b"end", &mut out), Ok(()));
-    assert!(ipv4::is_image(&out) && out.ends_with(b"end"));
-    assert_eq!(payload(&out), Some((out.len() - 3, 3)));
+    let len = ipv4::write(&rows, b"end", &mut out).unwrap();
+    assert!(ipv4::is_image(&out) && out[..len].ends_with(b"end"));
+    assert_eq!(payload(&out), Some((len - 3, 3)));
+    // A span for each row and one behind, and cells of 2^8 addresses: as few bits as 10 leave of 18.
+    assert_eq!(len, 112 + 16 * 600 + 8 * 601 + 4 * 601 + 3);
     for at in 0..600 {
         assert_eq!(ipv4::longest_match(&out, (at << 8) + 255), Some(at as usize));
     }
@@ -334,7 +409,7 @@ fn to_image_and_from_image_of_a_table() {
     assert_eq!(*image, *plain());
     let again = ipv4::from_image(Global, &image).ok().unwrap();
     assert!(again.rows() == table.rows());
-    let refused = ipv4::from_image(Global, &spoilt(&stored(), 117, 0)).err();
+    let refused = ipv4::from_image(Global, &spoilt(&stored(), 141, 0)).err();
     assert_eq!(refused, Some(TableError::Image(ImageError::Row(1))));
 }
 
@@ -344,5 +419,5 @@ fn from_image_and_to_image_of_a_table_of_ipv6() {
     let found = table.longest_match(&Ipv6Addr::from_bits((0xfe80 << 112) + 1));
     assert!(table.len() == 5 && found.is_some_and(|(_, value)| *value == 104));
     let image = ipv6::to_image(Global, &table, b"").unwrap();
-    assert_eq!((image.len(), &image[88..]), (248, &stored_wide()[64..224]));
+    assert_eq!((image.len(), &image[112..]), (368, &stored_wide()[88..344]));
 }

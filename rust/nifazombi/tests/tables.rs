@@ -10,26 +10,52 @@ use std::net::{Ipv4Addr, Ipv6Addr};
 const ROWS: [[u32; 4]; 3] =
     [[0x0a00_0000, 8, 0, 100], [0x0a01_0000, 16, 1, 101], [0xc000_0200, 24, 0, 102]];
 
-/// The image of rows, with no cells and nothing else.
-fn image_by_hand(rows: &[[u32; 4]]) -> Vec<u8> {
-    let (count, bytes) = (rows.len() as u32, 16 * rows.len() as u32);
-    let head = [count, 2, 1, 0, 64, 0, bytes, 0, 2, 0, 64 + bytes, 0, 0, 0];
-    image(b"NZIPV4.1", &[&head[..], rows.as_flattened()].concat())
+/// Whether a row's network holds an address.
+fn is_in([first, bits, ..]: &[u32; 4], address: u32) -> bool {
+    *bits == 0 || *bits <= 32 && (first ^ address) >> (32 - bits) == 0
 }
 
-/// The same with three cells, by an address's first bit: how many networks begin before 0, 2^31 and
-/// 2^32, and none is around these.
+/// The spans of rows: where another network from then on is the longest, and the index and one more
+/// of its row, or 0.
+fn spans_of(rows: &[[u32; 4]]) -> Vec<u32> {
+    let ends = rows.iter().map(|row| u64::from(row[0]) + (1u64 << (32 - row[1].min(32))));
+    let firsts = rows.iter().map(|row| row[0].into());
+    let mut edges: Vec<_> = ends.chain(firsts).chain([0]).flat_map(u32::try_from).collect();
+    edges.sort();
+    edges.dedup();
+    let answer = |edge| rows.iter().rposition(|row| is_in(row, edge)).map_or(0, |at| at as u32 + 1);
+    let mut spans: Vec<_> = edges.into_iter().map(|edge| [edge, answer(edge)]).collect();
+    spans.dedup_by_key(|span| span[1]);
+    spans.concat()
+}
+
+/// The image of rows, with these cells of 2^31 addresses.
+fn image_of(rows: &[[u32; 4]], cells: &[u32]) -> Vec<u8> {
+    let spans = spans_of(rows);
+    let sizes = [16 * rows.len() as u32, 4 * spans.len() as u32, 4 * cells.len() as u32];
+    let (spans_at, cells_at) = (88 + sizes[0], 88 + sizes[0] + sizes[1]);
+    let head = [rows.len() as u32, 3, 1, 0, 88, 0, sizes[0], 0];
+    let rest = [2, 4, spans_at, 0, sizes[1], 0, 5, 31, cells_at, 0, sizes[2], 0];
+    image(b"NZIPV4.2", &[&head[..], &rest, rows.as_flattened(), &spans, cells].concat())
+}
+
+/// The image of rows, with no cells and nothing else.
+fn image_by_hand(rows: &[[u32; 4]]) -> Vec<u8> {
+    image_of(rows, &[])
+}
+
+/// That of `ROWS` with two cells: 10.0.0.0 lies in the second span, and the address 2^31 behind it
+/// in the fifth.
 fn image_with_cells() -> Vec<u8> {
-    let head = [3, 2, 1, 0, 64, 0, 48, 0, 2, 31, 112, 0, 24, 0];
-    let numbers = [&head, ROWS.as_flattened(), &[0, 0, 2, 0, 3, 0]].concat();
-    image(b"NZIPV4.1", &numbers)
+    image_of(&ROWS, &[1, 4])
 }
 
 /// ::/0 and 2001:db8::/32.
 fn wide_image_by_hand() -> Vec<u8> {
-    let head = [2, 2, 1, 0, 64, 0, 64, 0, 2, 0, 128, 0, 0, 0];
+    let head = [2, 3, 1, 0, 88, 0, 64, 0, 2, 8, 152, 0, 36, 0, 5, 0, 188, 0, 0, 0];
     let rows = [[0, 0, 0, 0, 0, 0, 7, 0], [0, 0, 0, 0x2001_0db8, 32, 1, 8, 1]];
-    image(b"NZIPV6.1", &[&head[..], rows.as_flattened()].concat())
+    let spans = [0, 0, 1, 0, 0x2001_0db8, 2, 0, 0x2001_0db9, 1];
+    image(b"NZIPV6.2", &[&head[..], rows.as_flattened(), &spans].concat())
 }
 
 fn route(network: &str, bits: u8, value: u64) -> Route<Ipv4Addr> {
@@ -43,7 +69,9 @@ fn fault(bytes: &[u8]) -> Option<ImageError> {
 
 #[test]
 fn payload_is_kept_from_the_check_on() {
-    let image = image_of_many_parts(b"NZIPV6.1", &[1, 2]);
+    // One span, of twelve bytes of the list that are 0.
+    let mut image = image_of_many_parts(b"NZIPV6.2", &[1, 2, 5]);
+    (image[44], image[48], image[56]) = (8, 20, 12);
     let routes = Routes::<Ipv6Addr>::new(&image).unwrap();
     let unchecked = Routes::<Ipv6Addr>::unchecked(&image);
     assert_kept(|| routes.payload().is_empty(), || unchecked.payload().is_empty());
@@ -130,33 +158,40 @@ fn longest_matches_and_other_calls_of_ipv6_by_hand() {
 #[test]
 fn new_tells_what_another_byte_breaks() {
     use ImageError::*;
-    const SPOILT: [(usize, u8, ImageError); 21] = [
+    const SPOILT: [(usize, u8, ImageError); 28] = [
         (0, b'M', Mark),
         (5, b'6', Mark),
-        (7, b'2', Version),
+        (7, b'1', Version),
         (8, 4, Part(0)),
         (12, 0, Part(0)),
         (12, 1, Part(1)),
+        (12, 2, Part(2)),
         (12, 200, Short),
         (16, 2, Part(0)),
         (20, 1, Part(0)),
-        (24, 65, Part(0)),
+        (24, 145, Part(0)),
         (31, 255, Part(0)),
         (32, 47, Part(0)),
         (40, 1, Part(1)),
-        (44, 128, Part(1)),
-        (48, 113, Part(1)),
-        (56, 8, Part(1)),
-        (64, 1, Row(0)),
-        (68, 33, Row(0)),
-        (83, 9, Row(1)),
-        (88, 0, Row(1)),
-        (104, 2, Row(2)),
+        (44, 16, Part(1)),
+        (48, 137, Part(1)),
+        (56, 55, Part(1)),
+        (64, 2, Part(2)),
+        (68, 128, Part(2)),
+        (72, 193, Part(2)),
+        (88, 1, Row(0)),
+        (92, 33, Row(0)),
+        (107, 9, Row(1)),
+        (112, 0, Row(1)),
+        (128, 2, Row(2)),
+        (136, 1, Span(0)),
+        (147, 9, Span(1)),
+        (148, 2, Span(1)),
     ];
     for (at, byte, error) in SPOILT {
         assert_eq!(fault(&spoilt(&image_by_hand(&ROWS), at, byte)), Some(error), "{at}");
     }
-    for (at, cell) in [(112, 0), (116, 0), (120, 1), (124, 1), (132, 2)] {
+    for (at, cell) in [(192, 0), (196, 1)] {
         assert_eq!(fault(&spoilt(&image_with_cells(), at, 9)), Some(Cell(cell)), "{at}");
     }
     assert_eq!(Part(1).to_string(), "no image: part 1 is missing or out of place");
@@ -166,14 +201,18 @@ fn new_tells_what_another_byte_breaks() {
 fn new_tells_where_an_image_ends_early() {
     let image = image_by_hand(&ROWS);
     for end in 0..image.len() {
-        let error = [ImageError::Short, ImageError::Part(0)][usize::from(end >= 64)];
+        let error = match end {
+            0..88 => ImageError::Short,
+            88..136 => ImageError::Part(0),
+            _ => ImageError::Part(1),
+        };
         assert_eq!(fault(&image[..end]), Some(error), "{end}");
     }
 }
 
 #[test]
 fn route_at_of_more_bits_than_a_byte_tells() {
-    let spoilt = spoilt(&image_by_hand(&ROWS), 69, 1);
+    let spoilt = spoilt(&image_by_hand(&ROWS), 93, 1);
     let routes = Routes::<Ipv4Addr>::unchecked(&spoilt);
     assert_eq!(routes.route_at(0), Some(route("10.0.0.0", u8::MAX, 100)));
 }
@@ -181,13 +220,11 @@ fn route_at_of_more_bits_than_a_byte_tells() {
 /// The first of these rows that is no network, doesn't come after the one before it, or has another
 /// link.
 fn first_wrong(rows: &[[u32; 4]; 3]) -> Option<usize> {
-    let holds =
-        |row: &[u32; 4], address: u32| row[1] == 0 || (row[0] ^ address) >> (32 - row[1]) == 0;
     (0..rows.len()).find(|&at| {
         let [first, bits, link, _] = rows[at];
         let is_network = bits <= 32 && (u64::from(first) << bits) as u32 == 0;
         let is_next = at == 0 || (rows[at - 1][0], rows[at - 1][1]) < (first, bits);
-        let around = rows[..at].iter().rposition(|row| holds(row, first));
+        let around = rows[..at].iter().rposition(|row| is_in(row, first));
         !is_network || !is_next || link as usize != around.map_or(0, |it| it + 1)
     })
 }

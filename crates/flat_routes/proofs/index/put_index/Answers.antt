@@ -43,8 +43,19 @@ returns-clause-written c =
     let low = laid.low ∙ ap (λ (rs : List (Net ℕ × ℕ)). get_or (base_numbers (λ n. n) rs) 0 0) same_rows in
     let end = cells.at + 4 * cells.count + length payload in
     let parts = mul-le (start_size wide spans.is_half + 4) spans.count (most_span wide) (2 * plan.rows + 1) (span_most wide spans.is_half) put.most in
-    let room : end ≤ length b4 = omega (arith, parts, laid.at, laid.count, put.at, c.requires.place, c.requires.room, put.change.same_length, c.put_cells.ensures.change.same_length,
-    c.put_parts.ensures.change.same_length, whole.length) in
+    let room : end ≤ length b4 = omega (
+      arith,
+      parts,
+      laid.at,
+      laid.count,
+      put.at,
+      c.requires.place,
+      c.requires.room,
+      put.change.same_length,
+      c.put_cells.ensures.change.same_length,
+      c.put_parts.ensures.change.same_length,
+      whole.length,
+    ) in
     image_of_all wide plan spans cells payload old b1 b2 b3 b4 end c.requires.place c.requires.plan c.requires.head c.requires.linked put.at (λ h. (c.requires.half (sym put.half ∙ h)).0)
     put.spans spans_put laid.at laid.rest low c.put_cells.ensures.cells c.put_cells.ensures.change c.put_parts.ensures.listed c.put_parts.ensures.change refl room (λ k l. whole.before k l) whole.bytes
 
@@ -68,8 +79,19 @@ returns-clause-front c =
     let low = laid.low ∙ ap (λ (rs : List (Net ℕ × ℕ)). get_or (base_numbers (λ n. n) rs) 0 0) same_rows in
     let end = cells.at + 4 * cells.count + length payload in
     let parts = mul-le (start_size wide spans.is_half + 4) spans.count (most_span wide) (2 * plan.rows + 1) (span_most wide spans.is_half) put.most in
-    let room : end ≤ length b4 = omega (arith, parts, laid.at, laid.count, put.at, c.requires.place, c.requires.room, put.change.same_length, c.put_cells.ensures.change.same_length,
-    c.put_parts.ensures.change.same_length, whole.length) in
+    let room : end ≤ length b4 = omega (
+      arith,
+      parts,
+      laid.at,
+      laid.count,
+      put.at,
+      c.requires.place,
+      c.requires.room,
+      put.change.same_length,
+      c.put_cells.ensures.change.same_length,
+      c.put_parts.ensures.change.same_length,
+      whole.length,
+    ) in
     let at = cells.at + 4 * cells.count in
     let long = length-take-le end b4 room in
     image_of_all wide plan spans cells payload old b1 b2 b3 (take end b4) end c.requires.place c.requires.plan c.requires.head c.requires.linked put.at (λ h. (c.requires.half (sym put.half ∙ h)).0)

@@ -12,7 +12,7 @@ use Rattle.frozen_routes.proofs.RouteLemmas.Links.{among_all, firsts_to}
 use Rattle.flat_routes.specs.declared.turns.Begun.{Begun}
 use Rattle.flat_routes.specs.Images.{AreLinkedTo, HasNoTurn, IsBegun, IsEdge, IsSpanOf, IsSpanRight, IsTurn, end_of, start_from}
 use Rattle.image_parts.proofs.ByteLemmas.{u32_fits, u64_fits}
-use Rattle.flat_routes.specs.SpanLaws.{IsEnd, earlier}
+use Rattle.flat_routes.specs.SpanLaws.{IsCountedBy, IsEnd, earlier}
 use Rattle.flat_routes.proofs.ImageLemmas.{all_rise, one_last}
 
 -- numbers from the first one of a block to before its end are of the block
@@ -260,3 +260,47 @@ pub start_fits : (wide half : Bool) (bs : List ℕ) (a : ℕ) → ((i : ℕ) →
 start_fits false half bs a byte = omega (arith, u32_fits bs a byte)
 start_fits true true bs a byte = omega (arith, u64_fits bs a byte)
 start_fits true false bs a byte = omega (arith, u64_fits bs a byte, u64_fits bs (a + 8) byte)
+
+-- of m spans the search of a number begins behind so many, and goes over `left` at most
+pub record IsBounded (starts : ℕ → ℕ) (known : Type 0) (m a from left : ℕ) : Type 0 where
+  pub within : from ≤ m
+  pub below : known → (k : ℕ) → k < from → starts k ≤ a
+  pub above : known → (k : ℕ) → from + left ≤ k → k < m → a < starts k
+
+-- it goes over more
+pub bounded_more : (starts : ℕ → ℕ) (known : Type 0) (m a from left more : ℕ) → left ≤ more → IsBounded starts known m a from left → IsBounded starts known m a from more
+bounded_more starts known m a from left more le b = record { within = b.within; below = b.below; above = λ h k l. b.above h k (omega (arith, l, le)) }
+
+-- it begins where so many are left
+pub bounded_back : (starts : ℕ → ℕ) (known : Type 0) (m a from left : ℕ) → left ≤ m → IsBounded starts known m a from left → IsCountedBy starts known m a (min from (m - left)) left
+bounded_back starts known m a from left le b = record {
+  within = omega (arith, le);
+  below = λ h k l. b.below h k (omega (arith, l));
+  above = λ h k l lt. b.above h k (omega (arith, l, lt, le)) lt;
+}
+
+-- one step of it
+pub counted_on : (starts : ℕ → ℕ) (known : Type 0) (m a from left : ℕ) → (known → (j k : ℕ) → j ≤ k → k < m → starts j ≤ starts k) → 0 < left
+    → starts (from + (left - left / 2) - 1) ≤ a → IsCountedBy starts known m a from left → IsCountedBy starts known m a (from + (left - left / 2)) (left / 2)
+counted_on starts known m a from left rise some le c = record {
+  within = (let x = c.within in omega (arith, x));
+  below = λ h k l. let x = c.within in let up = rise h k (from + (left - left / 2) - 1) (omega (arith, l)) (omega (arith, x, some)) in omega (arith, up, le);
+  above = λ h k l lt. c.above h k (omega (arith, l)) lt;
+}
+
+pub counted_back : (starts : ℕ → ℕ) (known : Type 0) (m a from left : ℕ) → (known → (j k : ℕ) → j ≤ k → k < m → starts j ≤ starts k) → 0 < left
+    → a < starts (from + (left - left / 2) - 1) → IsCountedBy starts known m a from left → IsCountedBy starts known m a from (left / 2)
+counted_back starts known m a from left rise some lt c = record {
+  within = (let x = c.within in omega (arith, x));
+  below = c.below;
+  above = λ h k l less. let up = rise h (from + (left - left / 2) - 1) k (omega (arith, l, some)) less in omega (arith, up, lt);
+}
+
+-- it ends where none are left
+pub counted_parted : (starts : ℕ → ℕ) (known : Type 0) (m a n : ℕ) → known → IsCountedBy starts known m a n 0
+    → IsPartedAt (λ k. starts k ≤ a) (λ k. starts k ≤ a → ⊥) m n
+counted_parted starts known m a n h c = record {
+  within = (let x = c.within in omega (arith, x));
+  before = c.below h;
+  after = λ k l lt le. let more = c.above h k (omega (arith, l)) lt in omega (arith, more, le);
+}

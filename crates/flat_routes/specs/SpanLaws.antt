@@ -1,6 +1,6 @@
 -- Spans that rise are columns that a search takes.
 use Rattle.std.proofs.Common.{◌≡◌, ℕ, zero, suc, ◌+◌, ◌^◌, ◌<◌, ◌≤◌, inl, inr, Bool, List, Option, Some, None, arith, subst}
-use Rattle.std.specs.Prelude.{◌-◌, MatchOption, min}
+use Rattle.std.specs.Prelude.{◌-◌, MatchOption, min, slice_index}
 use Rattle.std.proofs.lemmas.Bool.{cases_lt}
 use Rattle.flat_routes.specs.Images.{AreSpans, IsImage, answer_in, bases, end_of, sizes, span_count, start_in, width}
 
@@ -33,6 +33,12 @@ spans_rise s a j k image l lt le =
     let up = starts_rise (width s.wide) (bases s.wide s.bytes) (sizes s.wide s.bytes) (start_in s.wide s.bytes) (answer_in s.wide s.bytes) (span_count s.wide s.bytes) image.spans j k l lt in
     omega (arith, up, le)
 
+-- of m spans so many begin by the number a, or up to `left` more; where `known` holds
+pub record IsCountedBy (starts : ℕ → ℕ) (known : Type 0) (m a from left : ℕ) : Type 0 where
+  pub within : from + left ≤ m
+  pub below : known → (k : ℕ) → k < from → starts k ≤ a
+  pub above : known → (k : ℕ) → from + left ≤ k → k < m → a < starts k
+
 -- the address behind the network of the index and one more r; None where no address lies behind it, and at 0
 abbrev pub IsEnd : ℕ → (fs bs : List ℕ) → (r : ℕ) → Option ℕ → Type 0
 IsEnd w fs bs r end = MatchOption end (0 < r → 2 ^ w ≤ end_of w fs bs (r - 1))
@@ -43,3 +49,8 @@ abbrev pub earlier : Option ℕ → Option ℕ → Option ℕ
 earlier (Some a) (Some b) = Some (min a b)
 earlier (Some a) None = Some a
 earlier None b = b
+
+-- of m spans, as many as `from` says at i begin by the i-th of eight numbers, or up to `left` more; where `known` holds
+abbrev pub IsCounted : (starts : ℕ → ℕ) → (known : Type 0) → (m : ℕ) → (numbers from : List ℕ) → (left : ℕ) → Type 0
+IsCounted starts known m numbers from left = (i : ℕ) → i < 8
+    → IsCountedBy starts known m (slice_index numbers i) (slice_index from i) left

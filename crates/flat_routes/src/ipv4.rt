@@ -9,11 +9,11 @@ ghost use Rattle.frozen_routes.specs.Routes.{AreInFront, IsLongestRow, IsOwnRow,
 ghost use Rattle.image_parts.specs.Parts.{HoldsPayload, row_count};
 ghost use Rattle.flat_routes.specs.Faults.{IsRouteFault};
 ghost use Rattle.flat_routes.specs.Written.{CanWrite, ChangesWithin, IsImageOf, IsWriteFault, image_size};
-ghost use Rattle.flat_routes.specs.Images.{IsImage, bases, first_in, found_row, found_value, image_rows, link_in, network, numbered_row, of_ipv4, row4_of, row_in, sizes};
+ghost use Rattle.flat_routes.specs.Images.{IsImage, IsPlanOf, bases, first_in, found_row, found_value, image_rows, link_in, network, numbered_row, of_ipv4, row4_of, row_in, sizes};
 
-use crate::head::{plan_of, row_plan_of};
+use crate::head::{Plan, plan_of, row_plan_of};
 use crate::rows::{bits_at, first_at, found_value, link_at, value_at};
-use crate::search::find;
+use crate::search::{find, find_eight};
 use crate::tables::TableRow;
 use crate::write::FlatRow;
 use crate::{check, layout, networks, search, tables, write};
@@ -142,6 +142,43 @@ pub fn longest_match(image: &[u8], address: u32) -> Option<usize>
     search::longest_match(image, false, u128::from(address))
 }
 
+/// The numbers of eight addresses.
+#[inline(always)]
+fn numbers_at(addresses: &[u32], at: usize) -> [u128; 8]
+    requires { at + 8 ≤ length addresses.now }
+    ensures { (i : ℕ) → i < 8 → slice_index result i
+        ≡ slice_index addresses.now (at + i) }
+{
+    let mut numbers = [0u128; 8];
+    for i in 0..8 {
+        numbers[i] = u128::from(addresses[at + i]);
+    }
+    numbers
+}
+
+/// Looks up so many addresses, eight side by side as long as there are as many.
+#[inline(always)]
+fn find_many(image: &[u8], plan: Plan, addresses: &[u32], found: &mut [u32], count: usize)
+    requires plan { IsPlanOf of_ipv4 image.now plan }
+    requires asked { count ≤ length addresses.now }
+    requires room { count ≤ length found.old }
+    ensures within { (k : ℕ) → k < count → slice_index found.new k ≤ row_count image.now }
+    ensures rest { (k : ℕ) → count ≤ k → slice_index found.new k ≡ slice_index found.old k }
+    ensures rows { IsImage of_ipv4 image.now → (k : ℕ) → k < count
+        → IsLongestRow 32 (λ n. n) (image_rows of_ipv4 image.now)
+        (slice_index addresses.now k) (found_row of_ipv4 image.now (slice_index found.new k)) }
+    ensures length { length found.new ≡ length found.old }
+{
+    let mut at = 0;
+    while count - at >= 8 {
+        find_eight(image, false, plan, &numbers_at(addresses, at), found, at);
+        at += 8;
+    }
+    for i in at..count {
+        found[i] = find(image, false, plan, u128::from(addresses[i])) as u32;
+    }
+}
+
 /// Looks up addresses as `longest_match` does, as many as there are of both, and puts for each the
 /// index of its row and one more, or 0, into `found`. It returns how many.
 pub fn longest_matches(image: &[u8], addresses: &[u32], found: &mut [u32]) -> usize
@@ -159,9 +196,7 @@ pub fn longest_matches(image: &[u8], addresses: &[u32], found: &mut [u32]) -> us
         return 0;
     };
     let count = addresses.len().min(found.len());
-    for i in 0..count {
-        found[i] = find(image, false, plan, u128::from(addresses[i])) as u32;
-    }
+    find_many(image, plan, addresses, found, count);
     count
 }
 
@@ -192,10 +227,9 @@ pub fn longest_values(
         return 0;
     };
     let count = addresses.len().min(found.len()).min(values.len());
+    find_many(image, plan, addresses, found, count);
     for i in 0..count {
-        let row = find(image, false, plan, u128::from(addresses[i]));
-        found[i] = row as u32;
-        values[i] = found_value(image, false, plan.rows, row) as u32;
+        values[i] = found_value(image, false, plan.rows, found[i] as usize) as u32;
     }
     count
 }

@@ -1,5 +1,7 @@
 //! Searches in an image. Each is total: whatever the bytes are, it ends, and reads none but them.
-ghost use Rattle.std.specs.Prelude.{◌-◌, ◌^◌, ◌<◌, ◌≤◌, ℕ, IfSome, IsNone, option_map, slice_index, take};
+ghost use Rattle.std.specs.Prelude.{◌≡◌, ◌+◌, ◌-◌, ◌/◌, ◌^◌, ◌<◌, ◌≤◌, ℕ, IfSome, IsNone, length, option_map, slice_index, take};
+ghost use Rattle.sorted_tables.specs.Tables.{IsPartedAt};
+ghost use Rattle.flat_routes.specs.SpanLaws.{IsCounted, IsCountedBy};
 ghost use Rattle.frozen_routes.specs.Routes.{IsLastHolder, IsLongestRow};
 ghost use Rattle.image_parts.specs.Parts.{row_count};
 ghost use Rattle.flat_routes.specs.Images.{AreLinkedTo, IsImage, IsPlanOf, IsRowPlan, bases, first_in, found_row, image_rows, links, row_in, sizes, start_in, width};
@@ -7,7 +9,7 @@ ghost use Rattle.flat_routes.specs.Images.{AreLinkedTo, IsImage, IsPlanOf, IsRow
 use crate::columns::Rows;
 use crate::head::{Plan, RowPlan, plan_of, row_plan_of};
 use crate::rows::link_at;
-use crate::spans::{Spans, answer_at, cell_at};
+use crate::spans::{Spans, answer_at, cell_at, start_at};
 use crate::turns::Begun;
 use sorted_columns::count_in_front;
 
@@ -102,6 +104,116 @@ pub(crate) fn follow_on(
     follow_parents(image, wide, plan, from, floor, number)
 }
 
+/// Between which counts the searches of eight addresses begin, and how many spans each goes over: as
+/// many as the longest of them, so that all take the same steps.
+#[inline(always)]
+fn blocks_of(image: &[u8], wide: bool, plan: Plan, numbers: &[u128; 8]) -> ([usize; 8], usize)
+    requires plan { IsPlanOf wide image.now plan }
+    ensures length { length result.0 ≡ 8 }
+    ensures bounds { IsCounted (start_in wide image.now) (IsImage wide image.now)
+        plan.spans.count numbers.now result.0 result.1 }
+{
+    let mut from = [0usize; 8];
+    let mut left = 0;
+    for i in 0..8 {
+        let (lo, hi) = block_of(image, wide, plan, numbers[i]);
+        from[i] = lo;
+        left += (hi - lo).saturating_sub(left);
+    }
+    for at in 0..8 {
+        from[at] = from[at].min(plan.spans.count - left);
+    }
+    (from, left)
+}
+
+/// One step of the search of an address among the spans from one on: how many begin by it, or up to
+/// half as many more.
+#[inline(always)]
+fn halved(image: &[u8], wide: bool, plan: Plan, number: u128, from: usize, left: usize) -> usize
+    requires plan { IsPlanOf wide image.now plan }
+    requires some { 0 < left }
+    requires within { from + left ≤ plan.spans.count }
+    ensures { IsCountedBy (start_in wide image.now) (IsImage wide image.now) plan.spans.count
+        number from left
+        → IsCountedBy (start_in wide image.now) (IsImage wide image.now) plan.spans.count number
+        result (left / 2) }
+{
+    let half = left - left / 2;
+    if start_at(image, wide, plan.spans, from + half - 1) <= number {
+        return from + half;
+    }
+    from
+}
+
+/// How many spans begin by each of eight addresses, whose searches go side by side.
+#[inline(always)]
+fn counts_of(image: &[u8], wide: bool, plan: Plan, numbers: &[u128; 8]) -> [usize; 8]
+    requires plan { IsPlanOf wide image.now plan }
+    ensures length { length result ≡ 8 }
+    ensures counts { IsCounted (start_in wide image.now) (IsImage wide image.now)
+        plan.spans.count numbers.now result 0 }
+{
+    let (mut from, mut left) = blocks_of(image, wide, plan, numbers);
+    while left > 0 {
+        for i in 0..8 {
+            from[i] = halved(image, wide, plan, numbers[i], from[i], left);
+        }
+        left /= 2;
+    }
+    from
+}
+
+/// The answer of the span before a count, or 0 before the first one.
+#[inline(always)]
+fn answer_before(image: &[u8], wide: bool, plan: Plan, count: usize) -> usize
+    requires plan { IsPlanOf wide image.now plan }
+    requires within { count ≤ plan.spans.count }
+    ensures within { result ≤ plan.rows.rows }
+    ensures row { (a : ℕ) → a < 2 ^ width wide → IsImage wide image.now
+        → IsPartedAt (λ k. start_in wide image.now k ≤ a)
+        (λ k. start_in wide image.now k ≤ a → ⊥) plan.spans.count count
+        → IsLongestRow (width wide) (λ n. n) (image_rows wide image.now) a
+        (found_row wide image.now result) }
+{
+    if count == 0 {
+        return 0;
+    }
+    let found = answer_at(image, wide, plan.spans, count - 1);
+    if found > plan.rows.rows {
+        return 0;
+    }
+    found
+}
+
+/// Puts the rows of the longest networks that hold eight addresses, as `find` finds each of them,
+/// into `found` from a place on.
+#[inline(always)]
+pub(crate) fn find_eight(
+    image: &[u8],
+    wide: bool,
+    plan: Plan,
+    numbers: &[u128; 8],
+    found: &mut [u32],
+    at: usize,
+)
+    requires plan { IsPlanOf wide image.now plan }
+    requires fit { (i : ℕ) → i < 8 → slice_index numbers.now i < 2 ^ width wide }
+    requires room { at + 8 ≤ length found.old }
+    ensures within { (k : ℕ) → at ≤ k → k < at + 8
+        → slice_index found.new k ≤ plan.rows.rows }
+    ensures rows { IsImage wide image.now → (k : ℕ) → at ≤ k → k < at + 8
+        → IsLongestRow (width wide) (λ n. n) (image_rows wide image.now)
+        (slice_index numbers.now (k - at)) (found_row wide image.now (slice_index found.new k)) }
+    ensures before { (k : ℕ) → k < at → slice_index found.new k ≡ slice_index found.old k }
+    ensures behind { (k : ℕ) → at + 8 ≤ k → slice_index found.new k ≡ slice_index found.old k }
+    ensures length { length found.new ≡ length found.old }
+{
+    let counts = counts_of(image, wide, plan, numbers);
+    for i in 0..8 {
+        found[at + i] = answer_before(image, wide, plan, counts[i]) as u32;
+    }
+}
+
 /// The row of the longest network that holds an address, by its index and one more, or 0 where none
 /// does.
 #[inline(always)]
@@ -115,14 +227,7 @@ pub(crate) fn find(image: &[u8], wide: bool, plan: Plan, number: u128) -> usize
     let (from, to) = block_of(image, wide, plan, number);
     let spans = Spans::of(image, wide, plan.spans);
     let count = count_in_front(&spans, &number, from, to);
-    if count == 0 {
-        return 0;
-    }
-    let found = answer_at(image, wide, plan.spans, count - 1);
-    if found > plan.rows.rows {
-        return 0;
-    }
-    found
+    answer_before(image, wide, plan, count)
 }
 
 /// The index of the row of the longest network that holds an address, by its number.

@@ -1,0 +1,27 @@
+use Rattle.std.proofs.Common.{◌≡◌, ℕ, ◌-◌, ◌<◌, ◌≤◌, true, length, get_or, map as each}
+use Rattle.frozen_routes.specs.Routes.{IsLongestRow}
+use Rattle.image_parts.specs.Parts.{row_count}
+use Rattle.flat_routes.specs.Images.{IsImage, found_row, image_rows, octet_number}
+use Rattle.flat_routes.proofs.ipv6.find_many.Given as goal
+
+abbrev pub invariant-loop-at : goal.invariant-loop-at
+invariant-loop-at l = record {
+  within : (k : ℕ) → k < l.at → get_or l.found k 0 ≤ row_count l.image;
+  rest : (k : ℕ) → l.at ≤ k → get_or l.found k 0 ≡ get_or l.fn.found k 0;
+  rows : IsImage true l.image → (k : ℕ) → k < l.at
+      → IsLongestRow 128 (λ n. n) (image_rows true l.image) (get_or (each octet_number l.addresses) k 0) (found_row true l.image (get_or l.found k 0));
+  long : length l.found ≡ length l.fn.found;
+  most : l.at ≤ l.count;
+}
+
+abbrev pub decreases-loop-at : goal.decreases-loop-at
+decreases-loop-at l = l.count - l.at
+
+abbrev pub invariant-loop-i : goal.invariant-loop-i
+invariant-loop-i l = record {
+  within : (k : ℕ) → k < l.i → get_or l.found k 0 ≤ row_count l.image;
+  rest : (k : ℕ) → l.i ≤ k → get_or l.found k 0 ≡ get_or l.fn.found k 0;
+  rows : IsImage true l.image → (k : ℕ) → k < l.i
+      → IsLongestRow 128 (λ n. n) (image_rows true l.image) (get_or (each octet_number l.addresses) k 0) (found_row true l.image (get_or l.found k 0));
+  long : length l.found ≡ length l.fn.found;
+}

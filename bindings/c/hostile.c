@@ -339,7 +339,7 @@ static void try_many_parts(void) {
 static size_t changed(uint8_t *to, const uint8_t *from, size_t len) {
     memcpy(to, from, len);
     for (uint64_t times = draw() % 8; times-- && len;) {
-        size_t most = draw() % 2 && len > 88 ? 88 : len;
+        size_t most = draw() % 2 && len > 112 ? 112 : len;
         to[draw() % most] = draw() % 4 ? (uint8_t)draw() : (uint8_t)(draw() % 3 - 1);
     }
     return draw() % 4 ? len : draw() % (len + 1);

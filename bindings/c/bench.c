@@ -127,11 +127,10 @@ static void opened(uint32_t (*check)(const uint8_t *, size_t, size_t *), const c
 static void bench4(const network *rows, size_t n, const wide *asked, size_t count, int rounds) {
     nifazombi_ipv4_row *each = made(n * sizeof *each);
     for (size_t k = 0; k < n; k++) each[k] = (nifazombi_ipv4_row){(uint32_t)rows[k].first, rows[k].bits, 0, k + 1};
-    len = nifazombi_ipv4_image_len(n, 0);
-    image = made(len);
-    size_t at;
+    size_t most = nifazombi_ipv4_image_len(n, 0);
+    image = made(most);
     double start = now();
-    if (nifazombi_ipv4_write(each, n, NULL, 0, image, len, &at)) exit(1);
+    if (nifazombi_ipv4_write(each, n, NULL, 0, image, most, &len)) exit(1);
     printf("%-28s %7.1f ns a row\n", "IPv4 write", (now() - start) / n);
     opened(nifazombi_ipv4_check, "IPv4 open");
     uint32_t *numbers = made(4 * count), *found = made(4 * count);
@@ -160,11 +159,10 @@ static void bench6(const network *rows, size_t n, const wide *asked, size_t coun
         each[k] = (nifazombi_ipv6_row){.bits = rows[k].bits, .value = k + 1};
         octets_of(rows[k].first, each[k].first);
     }
-    len = nifazombi_ipv6_image_len(n, 0);
-    image = made(len);
-    size_t at;
+    size_t most = nifazombi_ipv6_image_len(n, 0);
+    image = made(most);
     double start = now();
-    if (nifazombi_ipv6_write(each, n, NULL, 0, image, len, &at)) exit(1);
+    if (nifazombi_ipv6_write(each, n, NULL, 0, image, most, &len)) exit(1);
     printf("%-28s %7.1f ns a row\n", "IPv6 write", (now() - start) / n);
     opened(nifazombi_ipv6_check, "IPv6 open");
     uint8_t(*addresses)[16] = made(16 * count);

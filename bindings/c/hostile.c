@@ -216,50 +216,60 @@ static uint32_t write6(const void *rows, size_t count, uint8_t *out, size_t room
     return nifazombi_ipv6_write(rows, count, front, 0, out, room, at);
 }
 
+// An image of texts takes all the bytes that `nifazombi_texts_image_len` says.
 static uint32_t write_texts(const void *pairs, size_t count, uint8_t *out, size_t room, size_t *at) {
-    return nifazombi_texts_write(pairs, count, front, 0, out, room, at);
+    uint32_t wrong = nifazombi_texts_write(pairs, count, front, 0, out, room, at);
+    if (!wrong) *at = room;
+    return wrong;
 }
 
 static void swap(uint8_t *one, uint8_t *other, size_t size) {
     for (uint8_t kept; size--; kept = one[size], one[size] = other[size], other[size] = kept) {}
 }
 
-// Writes rows that rise into their very room, where memory ends. One byte less is too short, and of two rows that change
-// places the second is out of order; nothing is written then.
-static void try_writer(writer *write, uint8_t *rows, size_t size, size_t count, size_t room) {
+// Writes rows that rise into the least room that is taken, where memory ends, and asks that whole and the image alone,
+// which stands where memory ends then. It returns how many bytes the image takes: those behind them stay. One byte less
+// of room is too short, and of two rows that change places the second is out of order; nothing is written then.
+static size_t try_writer(writer *write, uint8_t *rows, size_t size, size_t count, size_t room) {
     uint8_t *out = end - room;
-    size_t at = 0, second = 1 + draw() % (count - 1);
+    size_t at = 0, second = 1 + draw() % (count - 1), len = SIZE_MAX;
     memset(out, 0xa5, room);
     need(write(rows, count, out + 1, room - 1, &at) == NIFAZOMBI_ERROR_SHORT, "a short buffer isn't told");
     swap(rows + second * size, rows + (second - 1) * size, size);
     need(write(rows, count, out, room, &at) == NIFAZOMBI_ERROR_OUT_OF_ORDER && at == second, "another row is out of order");
     for (size_t k = 0; k < room; k++) need(out[k] == 0xa5, "a write that failed has written");
     swap(rows + second * size, rows + (second - 1) * size, size);
-    need(!write(rows, count, out, room, &at), "rows in order aren't written");
+    need(!write(rows, count, out, room, &len), "rows in order aren't written");
+    need(len <= room, "more is written than there is room for");
+    for (size_t k = len; k < room; k++) need(out[k] == 0xa5, "bytes behind the image don't stay");
+    add(len);
     ask(out, room, true);
+    memmove(end - len, out, len);
+    ask(end - len, len, true);
+    return len;
 }
 
 // Writes the rows of an image again, and reads them back.
 static void write_again4(const uint8_t *image, size_t len) {
     static nifazombi_ipv4_row rows[MOST / 16], row;
-    size_t count = 0, room;
+    size_t count = 0, wrong;
     while (nifazombi_ipv4_row_at(image, len, count, &rows[count])) count++;
-    room = nifazombi_ipv4_image_len(count, 0);
-    try_writer(write4, (uint8_t *)rows, sizeof row, count, room);
+    len = try_writer(write4, (uint8_t *)rows, sizeof row, count, nifazombi_ipv4_image_len(count, 0));
+    need(!nifazombi_ipv4_check(end - len, len, &wrong), "what is written is no image");
     for (size_t at = 0; at < count; at++) {
-        bool is_there = nifazombi_ipv4_row_at(end - room, room, at, &row);
+        bool is_there = nifazombi_ipv4_row_at(end - len, len, at, &row);
         need(is_there && memcmp(&row, &rows[at], sizeof row) == 0, "another row is written");
     }
 }
 
 static void write_again6(const uint8_t *image, size_t len) {
     static nifazombi_ipv6_row rows[MOST / 32], row;
-    size_t count = 0, room;
+    size_t count = 0, wrong;
     while (nifazombi_ipv6_row_at(image, len, count, &rows[count])) count++;
-    room = nifazombi_ipv6_image_len(count, 0);
-    try_writer(write6, (uint8_t *)rows, sizeof row, count, room);
+    len = try_writer(write6, (uint8_t *)rows, sizeof row, count, nifazombi_ipv6_image_len(count, 0));
+    need(!nifazombi_ipv6_check(end - len, len, &wrong), "what is written is no image");
     for (size_t at = 0; at < count; at++) {
-        bool is_there = nifazombi_ipv6_row_at(end - room, room, at, &row);
+        bool is_there = nifazombi_ipv6_row_at(end - len, len, at, &row);
         need(is_there && memcmp(&row, &rows[at], sizeof row) == 0, "another row is written");
     }
 }
@@ -267,14 +277,14 @@ static void write_again6(const uint8_t *image, size_t len) {
 static void write_texts_again(const uint8_t *image, size_t len) {
     static nifazombi_texts_pair pairs[MOST / 24];
     nifazombi_texts_place place;
-    size_t count = 0, room;
+    size_t count = 0, wrong;
     for (; nifazombi_texts_pair_at(image, len, count, &place); count++)
         pairs[count] = (nifazombi_texts_pair){image + place.first, place.len, place.value};
-    room = nifazombi_texts_image_len(pairs, count, 0);
-    try_writer(write_texts, (uint8_t *)pairs, sizeof *pairs, count, room);
+    len = try_writer(write_texts, (uint8_t *)pairs, sizeof *pairs, count, nifazombi_texts_image_len(pairs, count, 0));
+    need(!nifazombi_texts_check(end - len, len, &wrong), "what is written is no image");
     for (size_t at = 0; at < count; at++) {
-        bool is_there = nifazombi_texts_pair_at(end - room, room, at, &place) && place.value == pairs[at].value;
-        need(is_there && has_key(end - room, room, at, pairs[at].key, pairs[at].key_len), "another pair is written");
+        bool is_there = nifazombi_texts_pair_at(end - len, len, at, &place) && place.value == pairs[at].value;
+        need(is_there && has_key(end - len, len, at, pairs[at].key, pairs[at].key_len), "another pair is written");
     }
 }
 
@@ -290,14 +300,22 @@ static void write_again(const uint8_t *image, size_t len) {
     }
 }
 
-// What is too much for an image, rows, bytes or bytes of keys, has the length 0; the last that isn't has one.
+// The most bytes that an image takes, by how many rows there are. What is too much for one, rows, bytes or bytes of keys,
+// has the length 0; the last that isn't has one.
 static void try_lengths(void) {
-    size_t many = (size_t)1 << 32, cells = 8 * (((size_t)1 << 21) + 1);
+    size_t many = (size_t)1 << 32;
+    static const struct {
+        size_t rows, cells;
+    } each[] = {{0, 0}, {255, 0}, {256, 1 << 9}, {511, 1 << 9}, {512, 1 << 10}, {(1 << 20) - 1, 1 << 20},
+                {1 << 20, 1 << 21}, {1 << 21, 1 << 21}, {(1u << 31) - 1, 1 << 21}, {1u << 31, 0}, {(1ull << 32) - 1, 0}};
+    for (size_t k = 0; k < sizeof each / sizeof *each; k++) {
+        size_t n = each[k].rows, cells = 4 * each[k].cells, spans = 2 * n + 1;
+        need(nifazombi_ipv4_image_len(n, k) == 112 + 16 * n + 8 * spans + cells + k, "rows of IPv4 have another length");
+        need(nifazombi_ipv6_image_len(n, k) == 112 + 32 * n + 20 * spans + cells + k, "rows of IPv6 have another length");
+    }
     uint8_t *keys = mmap(NULL, many / 2, PROT_READ, MAP_PRIVATE | MAP_ANONYMOUS | MAP_NORESERVE, -1, 0);
     nifazombi_texts_pair pairs[] = {{keys, many / 2, 0}, {keys, many / 2, 0}};
     need(keys != MAP_FAILED, "no memory");
-    need(nifazombi_ipv4_image_len(many - 1, 0) == 88 + 16 * (many - 1) + cells, "rows that fit have no length");
-    need(nifazombi_ipv6_image_len(many - 1, 0) == 88 + 32 * (many - 1) + cells, "rows that fit have no length");
     need(!nifazombi_ipv4_image_len(many, 0) && !nifazombi_ipv6_image_len(many, 0), "too many rows have a length");
     need(!nifazombi_ipv4_image_len(1, SIZE_MAX) && !nifazombi_ipv6_image_len(1, SIZE_MAX), "too many bytes have a length");
     need(!nifazombi_texts_image_len(pairs, 2, 0), "too many bytes of keys have a length");
@@ -321,7 +339,7 @@ static void try_many_parts(void) {
 static size_t changed(uint8_t *to, const uint8_t *from, size_t len) {
     memcpy(to, from, len);
     for (uint64_t times = draw() % 8; times-- && len;) {
-        size_t most = draw() % 2 && len > 88 ? 88 : len;
+        size_t most = draw() % 2 && len > 112 ? 112 : len;
         to[draw() % most] = draw() % 4 ? (uint8_t)draw() : (uint8_t)(draw() % 3 - 1);
     }
     return draw() % 4 ? len : draw() % (len + 1);

@@ -35,7 +35,7 @@ extern "C" {
 // The row at this index isn't valid, doesn't come after the row before it, or has another link.
 #define NIFAZOMBI_ERROR_ROW 5
 
-// The cell at this index counts wrongly.
+// The cell at this index counts wrongly, or leads to another span.
 #define NIFAZOMBI_ERROR_CELL 6
 
 // There are 2^32 rows or more, or so many bytes of keys.
@@ -43,6 +43,9 @@ extern "C" {
 
 // The row at this index isn't valid, or doesn't come after the row before it.
 #define NIFAZOMBI_ERROR_OUT_OF_ORDER 8
+
+// The span at this index doesn't begin behind the one before it, or has another answer.
+#define NIFAZOMBI_ERROR_SPAN 9
 
 // A row as it lies in an image, in 16 bytes: a network by its first address and how many bits its
 // addresses share, the index and one more of the row of the network around it, or 0, and the
@@ -125,13 +128,14 @@ void nifazombi_ipv4_below(const uint8_t *image, size_t image_len, uint32_t first
 // by its index and one more, or 0 where there is none. It is at most `at`, so a walk upward ends.
 size_t nifazombi_ipv4_above(const uint8_t *image, size_t image_len, size_t at);
 
-// How many bytes the image of so many rows takes, with so many bytes of the user's own, or 0 of
-// 2^32 rows or more, and where these are 2^64 bytes or more.
+// How many bytes the image of so many rows takes at most, with so many bytes of the user's own, or
+// 0 of 2^32 rows or more, and where these are 2^64 bytes or more.
 size_t nifazombi_ipv4_image_len(size_t rows, size_t payload);
 
 // Writes the image of rows in order, by first address and then by bits, whose links count for
-// nothing, and of the user's own bytes into `out`. Returns 0, or why it couldn't: one of the
-// numbers above; an index that belongs to it is put into `at`, and `out` is as before then.
+// nothing, and of the user's own bytes into `out`. Returns 0, and puts into `at` how many bytes the
+// image takes; or why it couldn't: one of the numbers above; an index that belongs to it is put
+// into `at`, and `out` is as before then.
 uint32_t nifazombi_ipv4_write(
     const nifazombi_ipv4_row *rows, size_t rows_len,
     const uint8_t *payload, size_t payload_len,
@@ -183,13 +187,14 @@ void nifazombi_ipv6_below(
 // by its index and one more, or 0 where there is none. It is at most `at`, so a walk upward ends.
 size_t nifazombi_ipv6_above(const uint8_t *image, size_t image_len, size_t at);
 
-// How many bytes the image of so many rows takes, with so many bytes of the user's own, or 0 of
-// 2^32 rows or more, and where these are 2^64 bytes or more.
+// How many bytes the image of so many rows takes at most, with so many bytes of the user's own, or
+// 0 of 2^32 rows or more, and where these are 2^64 bytes or more.
 size_t nifazombi_ipv6_image_len(size_t rows, size_t payload);
 
 // Writes the image of rows in order, by first address and then by bits, whose links count for
-// nothing, and of the user's own bytes into `out`. Returns 0, or why it couldn't: one of the
-// numbers above; an index that belongs to it is put into `at`, and `out` is as before then.
+// nothing, and of the user's own bytes into `out`. Returns 0, and puts into `at` how many bytes the
+// image takes; or why it couldn't: one of the numbers above; an index that belongs to it is put
+// into `at`, and `out` is as before then.
 uint32_t nifazombi_ipv6_write(
     const nifazombi_ipv6_row *rows, size_t rows_len,
     const uint8_t *payload, size_t payload_len,

@@ -19,10 +19,10 @@ static const nifazombi_ipv4_row ROWS[] = {  // in order; the links are found by 
 static int save(const char *path) {
     char made[4096];
     int is_named = snprintf(made, sizeof made, "%s.new", path) < (int)sizeof made;
-    size_t len = nifazombi_ipv4_image_len(3, 0), at;
-    uint8_t *image = malloc(len);
+    size_t most = nifazombi_ipv4_image_len(3, 0), len;
+    uint8_t *image = malloc(most);
     FILE *file = is_named ? fopen(made, "wb") : NULL;
-    int is_saved = image && file && nifazombi_ipv4_write(ROWS, 3, NULL, 0, image, len, &at) == 0 &&
+    int is_saved = image && file && nifazombi_ipv4_write(ROWS, 3, NULL, 0, image, most, &len) == 0 &&
                    fwrite(image, 1, len, file) == len;
     free(image);
     is_saved = file && fclose(file) == 0 && is_saved && rename(made, path) == 0;

@@ -87,9 +87,10 @@ UNTRIED = {
         "trie_set": "TrieSet::insert.Full"},
     "refused memory alone makes it, which the sessions refused_*.txt try": {"radix_trie": "Trie::merge.Stopped"},
     "both families have the same body, and tests make it by ipv4": {
-        "flat_routes": "ipv6::check.Cell ipv6::check.Part ipv6::check.Row ipv6::check.Short ipv6::check.Version "
-                       "ipv6::write.OutOfOrder ipv6::write.Short ipv6::from_image.Image"},
-    "it is of another call, whose errors have the same type": {"flat_tries": "from_image.Shared from_image.Value"},
+        "flat_routes": "ipv6::check.Cell ipv6::check.Part ipv6::check.Row ipv6::check.Short ipv6::check.Span "
+                       "ipv6::check.Version ipv6::write.OutOfOrder ipv6::write.Short ipv6::from_image.Image"},
+    "it is of another call, whose errors have the same type": {
+        "flat_texts": "check.Span", "flat_tries": "from_image.Shared from_image.Value"},
     "clauses alone tell of it: the call has the tests of its neighbour for numbers": {
         "flat_tries": "to_image_of_values.Odd from_image_of_values.Image from_image_of_values.Key"},
 }

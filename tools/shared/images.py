@@ -2,7 +2,7 @@
 import bisect
 import struct
 
-ROWS, CELLS, PAYLOAD, MAP = 1, 2, 3, 4
+ROWS, SPANS, PAYLOAD, MAP, CELLS = 1, 2, 3, 4, 5
 
 
 def image_of(mark, count, parts):
@@ -26,18 +26,31 @@ def links(items, is_around):
     return found
 
 
-def cells_of(networks, width):
-    """How many bits of an address come behind the first ones, and the cells."""
-    if len(networks) < 256:
+def spans_of(networks, up, width):
+    """The fewest spans of addresses with one answer each: their first addresses, and the index and one more of the longest
+    of some networks in order that holds each of a span's addresses, or 0."""
+    firsts = [int(it.network_address) for it in networks]
+    ends = [first + it.num_addresses for first, it in zip(firsts, networks)]
+    spans = []
+    for address in sorted({0, *firsts, *ends} - {2**width}):
+        answer = bisect.bisect_right(firsts, address)
+        while answer and ends[answer - 1] <= address:
+            answer = up[answer - 1]
+        if not spans or spans[-1][1] != answer:
+            spans.append((address, answer))
+    return spans
+
+
+def cells_of(networks, starts):
+    """How many bits of an address, counted from the first network's on, come behind those that a cell is of, and the
+    cells."""
+    if not 256 <= len(networks) < 2**31:
         return 0, b""
-    bits = min(max(len(networks).bit_length(), 9), 21)
-    rest, firsts, cells = width - bits, [int(it.network_address) for it in networks], b""
-    for value in range(2**bits + 1):
-        start = value << rest
-        count = bisect.bisect_left(firsts, start)
-        around = next((at + 1 for at in reversed(range(count)) if firsts[at] + networks[at].num_addresses > start), 0)
-        cells += struct.pack("<II", count, around)
-    return rest, cells
+    bits, low = min(max(len(networks).bit_length(), 9), 21), int(networks[0].network_address)
+    reach = max(0, starts[-1] - low)
+    rest = max(0, reach.bit_length() - bits)
+    places = range(low, low + min((reach >> rest) + 1, 2**bits) * 2**rest, 2**rest)
+    return rest, b"".join(struct.pack("<I", bisect.bisect_right(starts, it) - 1) for it in places)
 
 
 def routes_image(routes, payload=b"", is_wide=None):
@@ -50,9 +63,14 @@ def routes_image(routes, payload=b"", is_wide=None):
         first = int(network.network_address)
         rows += (struct.pack("<QQIIQ", first % 2**64, first >> 64, network.prefixlen, link, value) if is_wide
                  else struct.pack("<IIII", first, network.prefixlen, link, value))
-    rest, cells = cells_of(networks, 128 if is_wide else 32)
-    mark = b"NZIPV6.1" if is_wide else b"NZIPV4.1"
-    return image_of(mark, len(each), [(ROWS, 0, rows), (CELLS, rest, cells), (PAYLOAD, 0, payload)])
+    # Where no network has more than 64 bits, spans begin at addresses of which the upper halves tell.
+    width, size = (128, 8 if all(it.prefixlen <= 64 for it in networks) else 16) if is_wide else (32, 4)
+    spans = spans_of(networks, up, width)
+    starts = b"".join((start >> (64 if size == 8 else 0)).to_bytes(size, "little")
+                      + struct.pack("<I", answer) for start, answer in spans)
+    rest, cells = cells_of(networks, [start for start, _ in spans])
+    mark = b"NZIPV6.2" if is_wide else b"NZIPV4.2"
+    return image_of(mark, len(each), [(ROWS, 0, rows), (SPANS, size, starts), (CELLS, rest, cells), (PAYLOAD, 0, payload)])
 
 
 def longest(routes, address):

@@ -9,6 +9,7 @@ ERROR_ROW = 5
 ERROR_CELL = 6
 ERROR_FULL = 7
 ERROR_OUT_OF_ORDER = 8
+ERROR_SPAN = 9
 
 
 class Ipv4Row(Structure):

@@ -17,6 +17,7 @@ REASONS = {
     exports.ERROR_PART: "part {} is missing, or isn't where the head says",
     exports.ERROR_ROW: "row {} is out of order, or its link is wrong",
     exports.ERROR_CELL: "cell {} is wrong",
+    exports.ERROR_SPAN: "span {} is out of order, or its answer is wrong",
 }
 
 
@@ -159,8 +160,9 @@ def number_of(key, value, bits):
     return number
 
 
-def built(len_of, write, rows, pairs, payload):
-    """The image of pairs in order, of which these are the rows, and of the user's own bytes."""
+def built(len_of, write, rows, pairs, payload, is_at_most=False):
+    """The image of pairs in order, of which these are the rows, and of the user's own bytes. It takes as many bytes as
+    `len_of` says, or where that is the most that it may take, as many as `write` tells."""
     own = memoryview(payload).tobytes()
     image, place = bytearray(len_of(len(own))), ctypes.c_size_t()
     code = write(rows, len(pairs), own, len(own), place_of(memoryview(image)), len(image), place)
@@ -168,7 +170,7 @@ def built(len_of, write, rows, pairs, payload):
         raise ValueError(f"{_shown(pairs[place.value][0])} is there twice")
     if code:
         raise ValueError("there are too many rows, or too many bytes of keys")
-    return bytes(image)
+    return bytes(memoryview(image)[: place.value if is_at_most else len(image)])
 
 
 def _shown(key):

@@ -127,7 +127,8 @@ class Routes(Table):
         family = _Ipv4 if version == 4 else _Ipv6
         each.sort(key=lambda it: (int(it[0].network_address), it[0].prefixlen))
         rows = b"".join(family.packed(network, number_of(network, value, family.value_bits)) for network, value in each)
-        return built(lambda own: family.calls.image_len(len(each), own), family.calls.write, rows, each, payload)
+        return built(lambda own: family.calls.image_len(len(each), own), family.calls.write, rows, each, payload,
+                     is_at_most=True)
 
     def __len__(self) -> int:
         return self._family.calls.len(self._at, self._len)

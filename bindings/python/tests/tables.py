@@ -21,14 +21,14 @@ ROUTES, ASKED, HOSTILE = 400, 2_000, 3_000
 FAMILIES = {4: (32, ipaddress.IPv4Address), 6: (128, ipaddress.IPv6Address)}
 
 
-def drawn(version):
-    """Networks near to one another, each with a number, in no order."""
+def drawn(version, most=128):
+    """Networks of at most so many bits, near to one another, each with a number, in no order."""
     width, found = FAMILIES[version][0], {}
     while len(found) < ROUTES:
         number = random.getrandbits(width)
         if found and random.random() < 0.7:
             number = int(random.choice([*found]).network_address) ^ random.getrandbits(random.randrange(1, width))
-        bits = random.randrange(width + 1)
+        bits = random.randrange(min(width, most) + 1)
         network = ipaddress.ip_network((number >> (width - bits) << (width - bits), bits))
         if network.version == version:
             found[network] = random.getrandbits(32)
@@ -44,8 +44,8 @@ def near(version, networks):
         yield kind((at + random.randrange(-1, 2)) % 2**width)
 
 
-def try_routes(version):
-    found = drawn(version)
+def try_routes(version, most=128):
+    found = drawn(version, most)
     image = Routes.build(found, payload=b"own bytes")
     assert image == Routes.build(found.items(), b"own bytes")
     assert image == images.routes_image(found.items(), b"own bytes"), "the image isn't by the format"
@@ -60,6 +60,9 @@ def try_routes(version):
     numbers = [array.array("I", map(int, addresses))] if version == 4 else []
     for many in (packed, bytearray(packed), memoryview(packed), *numbers, *map(memoryview, numbers)):
         assert routes.longest_matches(many) == [it and it[1] for it in longest]
+    assert Routes.build([], version=version) == images.routes_image([], is_wide=version == 6)
+    few = [*found.items()][:255]
+    assert Routes.build(few) == images.routes_image(few)
     empty = Routes(Routes.build([], version=version))
     assert [*empty] == routes.longest_matches([]) == [] and empty.longest_matches(addresses[:2]) == [None, None]
     assert [routes.longest_match_value(it, "none") for it in addresses] == [it[1] if it else "none" for it in longest]
@@ -110,10 +113,11 @@ def refused(call, error, said):
 def try_refusals():
     image = Routes.build([("10.0.0.0/8", 1), ("10.1.0.0/16", 2)])
     wide = Routes.build([("fe80::1", 1)])
-    later, gone, turned = bytearray(image), bytearray(image), bytearray(image)
-    later[7:8], gone[40:44], turned[88:104], turned[104:120] = b"2", b"\t\0\0\0", image[104:120], image[88:104]
-    for wrong, why in ((b"", "too short"), (image[:-1], "part "), (b"x" * 200, "another kind"), (later, "another version"),
-                       (gone, "part 1"), (turned, "row 0")):
+    older, later, gone, turned, other = (bytearray(image) for _ in range(5))
+    older[7:8], later[7:8], gone[40:44], other[156:160] = b"1", b"3", b"\t\0\0\0", bytes(4)
+    turned[112:128], turned[128:144] = image[128:144], image[112:128]
+    for wrong, why in ((b"", "too short"), (image[:-1], "part "), (b"x" * 200, "another kind"), (older, "another version"),
+                       (later, "another version"), (gone, "part 1"), (turned, "row 0"), (other, "span 1")):
         refused(lambda wrong=wrong: Routes(bytes(wrong)), ImageError, why)
     refused(lambda: Texts(image), ImageError, "another kind")
     refused(lambda: Routes.build([("10.0.0.0/8", 1), ("10.0.0.0/8", 2)]), ValueError, "10.0.0.0/8 is there twice")
@@ -248,6 +252,7 @@ def main():
     random.seed(1)
     try_routes(4)
     try_routes(6)
+    try_routes(6, 64)
     try_texts()
     try_refusals()
     try_payload()

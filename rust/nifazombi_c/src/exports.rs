@@ -191,16 +191,17 @@ pub unsafe extern "C" fn nifazombi_ipv4_above(
     unsafe { ipv4::nifazombi_ipv4_above(slice(image, image_len), at) }
 }
 
-/// How many bytes the image of so many rows takes, with so many bytes of the user's own, or 0 of
-/// 2^32 rows or more, and where these are 2^64 bytes or more.
+/// How many bytes the image of so many rows takes at most, with so many bytes of the user's own, or
+/// 0 of 2^32 rows or more, and where these are 2^64 bytes or more.
 #[unsafe(no_mangle)]
 pub unsafe extern "C" fn nifazombi_ipv4_image_len(rows: usize, payload: usize) -> usize {
     ipv4::nifazombi_ipv4_image_len(rows, payload)
 }
 
 /// Writes the image of rows in order, by first address and then by bits, whose links count for
-/// nothing, and of the user's own bytes into `out`. Returns 0, or why it couldn't: one of the
-/// numbers above; an index that belongs to it is put into `at`, and `out` is as before then.
+/// nothing, and of the user's own bytes into `out`. Returns 0, and puts into `at` how many bytes the
+/// image takes; or why it couldn't: one of the numbers above; an index that belongs to it is put
+/// into `at`, and `out` is as before then.
 #[unsafe(no_mangle)]
 pub unsafe extern "C" fn nifazombi_ipv4_write(
     rows: *const Ipv4Row,
@@ -349,16 +350,17 @@ pub unsafe extern "C" fn nifazombi_ipv6_above(
     unsafe { ipv6::nifazombi_ipv6_above(slice(image, image_len), at) }
 }
 
-/// How many bytes the image of so many rows takes, with so many bytes of the user's own, or 0 of
-/// 2^32 rows or more, and where these are 2^64 bytes or more.
+/// How many bytes the image of so many rows takes at most, with so many bytes of the user's own, or
+/// 0 of 2^32 rows or more, and where these are 2^64 bytes or more.
 #[unsafe(no_mangle)]
 pub unsafe extern "C" fn nifazombi_ipv6_image_len(rows: usize, payload: usize) -> usize {
     ipv6::nifazombi_ipv6_image_len(rows, payload)
 }
 
 /// Writes the image of rows in order, by first address and then by bits, whose links count for
-/// nothing, and of the user's own bytes into `out`. Returns 0, or why it couldn't: one of the
-/// numbers above; an index that belongs to it is put into `at`, and `out` is as before then.
+/// nothing, and of the user's own bytes into `out`. Returns 0, and puts into `at` how many bytes the
+/// image takes; or why it couldn't: one of the numbers above; an index that belongs to it is put
+/// into `at`, and `out` is as before then.
 #[unsafe(no_mangle)]
 pub unsafe extern "C" fn nifazombi_ipv6_write(
     rows: *const Ipv6Row,

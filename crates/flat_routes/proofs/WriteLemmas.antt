@@ -55,17 +55,17 @@ head_kept wide xs ys plan same head = record {
 }
 
 -- a row by its place
-row_placed : (wide : Bool) (bs : List ℕ) (plan : RowPlan) (k : ℕ) → IsRowPlan wide bs plan → row_in wide bs k ≡ row_from wide bs (plan.rows_at + row_size wide * k)
+pub row_placed : (wide : Bool) (bs : List ℕ) (plan : RowPlan) (k : ℕ) → IsRowPlan wide bs plan → row_in wide bs k ≡ row_from wide bs (plan.rows_at + row_size wide * k)
 row_placed false bs plan k of = ap (λ a. row_from false bs (a + 16 * k)) (sym of.rows_at)
 row_placed true bs plan k of = ap (λ a. row_from true bs (a + 32 * k)) (sym of.rows_at)
 
 -- a link by its row's
-link_placed : (wide : Bool) (bs : List ℕ) (plan : RowPlan) (k : ℕ) → IsRowPlan wide bs plan → link_in wide bs k ≡ link_from wide bs (plan.rows_at + row_size wide * k)
+pub link_placed : (wide : Bool) (bs : List ℕ) (plan : RowPlan) (k : ℕ) → IsRowPlan wide bs plan → link_in wide bs k ≡ link_from wide bs (plan.rows_at + row_size wide * k)
 link_placed false bs plan k of = ap (λ a. link_from false bs (a + 16 * k)) (sym of.rows_at)
 link_placed true bs plan k of = ap (λ a. link_from true bs (a + 32 * k)) (sym of.rows_at)
 
 -- they stay where their bytes do
-row_from_kept : (wide : Bool) (xs ys : List ℕ) (lo hi a : ℕ) → ((k : ℕ) → lo ≤ k → k < hi → slice_index ys k ≡ slice_index xs k) → lo ≤ a → a + row_size wide ≤ hi
+pub row_from_kept : (wide : Bool) (xs ys : List ℕ) (lo hi a : ℕ) → ((k : ℕ) → lo ≤ k → k < hi → slice_index ys k ≡ slice_index xs k) → lo ≤ a → a + row_size wide ≤ hi
     → row_from wide ys a ≡ row_from wide xs a
 row_from_kept false xs ys lo hi a same least le =
     let first = u32_stays xs ys lo hi same a least (omega (arith, le)) in
@@ -80,7 +80,7 @@ row_from_kept true xs ys lo hi a same least le =
     cc (low, high, bits, value)
 
 -- and a link
-link_from_kept : (wide : Bool) (xs ys : List ℕ) (lo hi a : ℕ) → ((k : ℕ) → lo ≤ k → k < hi → slice_index ys k ≡ slice_index xs k) → lo ≤ a → a + row_size wide ≤ hi
+pub link_from_kept : (wide : Bool) (xs ys : List ℕ) (lo hi a : ℕ) → ((k : ℕ) → lo ≤ k → k < hi → slice_index ys k ≡ slice_index xs k) → lo ≤ a → a + row_size wide ≤ hi
     → link_from wide ys a ≡ link_from wide xs a
 link_from_kept false xs ys lo hi a same least le = u32_stays xs ys lo hi same (a + 8) (omega (arith, least)) (omega (arith, le))
 link_from_kept true xs ys lo hi a same least le = u32_stays xs ys lo hi same (a + 20) (omega (arith, least)) (omega (arith, le))

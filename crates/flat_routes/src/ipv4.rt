@@ -8,15 +8,17 @@ ghost use Rattle.radix_keys.specs.Networks.{Net};
 ghost use Rattle.frozen_routes.specs.Routes.{AreInFront, IsLongestRow, IsOwnRow, is_inside};
 ghost use Rattle.image_parts.specs.Parts.{HoldsPayload, row_count};
 ghost use Rattle.flat_routes.specs.Faults.{IsRouteFault};
+ghost use Rattle.flat_routes.specs.Merged.{AreRowsAfter, CanMerge, IsMergeFault, is_removal4, merged_size, row_of_change4};
 ghost use Rattle.flat_routes.specs.Written.{CanWrite, ChangesWithin, IsImageOf, IsWriteFault, image_size};
 ghost use Rattle.flat_routes.specs.Images.{IsImage, IsPlanOf, bases, first_in, found_row, found_value, image_rows, link_in, network, numbered_row, of_ipv4, row4_of, row_in, sizes};
 
 use crate::head::{Plan, plan_of, row_plan_of};
+use crate::merge::FlatChange;
 use crate::rows::{bits_at, first_at, found_value, link_at, value_at};
 use crate::search::{find, find_eight};
 use crate::tables::TableRow;
 use crate::write::FlatRow;
-use crate::{check, layout, networks, search, tables, write};
+use crate::{check, layout, merge, networks, search, tables, write};
 use frozen_routes::FrozenRoutes;
 use image_parts::{ImageError, TableError, WriteError, put_u32};
 use radix_keys::{Address, Memory, Network};
@@ -310,6 +312,114 @@ pub fn write(rows: &[Row], payload: &[u8], out: &mut [u8]) -> Result<usize, Writ
     ensures unchanged { OnErr result (out.new ≡ out.old) }
 {
     write::write(rows, payload, out)
+}
+
+/// A change of a routing table: its row is stored from now on, or its network goes, and then the
+/// row's value and link count for nothing.
+#[repr(C)]
+#[derive(Clone, Copy)]
+pub struct Change {
+    pub row: Row,
+    pub is_removed: bool,
+}
+
+impl FlatRow for Change {
+    ghost use Rattle.flat_routes.specs.Merged.{row_of_change4};
+
+    ghost WIDE = { false };
+
+    ghost shown = { row_of_change4 };
+
+    const WIDE: bool = false;
+
+    fn first(self) -> u128 {
+        self.row.first()
+    }
+
+    fn bits(self) -> u32 {
+        self.row.bits
+    }
+
+    fn put(self, out: &mut [u8], place: usize, link: u32) {
+        self.row.put(out, place, link);
+    }
+}
+
+impl FlatChange for Change {
+    ghost use Rattle.flat_routes.specs.Merged.{is_removal4};
+
+    ghost removes = { is_removal4 };
+
+    fn is_removed(self) -> bool {
+        self.is_removed
+    }
+}
+
+/// How many bytes the image takes at most that so many changes make of one, with so many bytes of
+/// the user's own, or None where there may be 2^32 rows or more, or where a `usize` doesn't count
+/// the bytes. It is `image_len` of all rows and changes, and 2^23 more of 2^31 or more.
+pub fn merge_len(image: &[u8], changes: usize, payload: usize) -> Option<usize>
+    ensures { IsImage of_ipv4 image.now
+        → SomeIff result ((length (image_rows of_ipv4 image.now) + changes < 2 ^ 32)
+        × (merged_size of_ipv4 (length (image_rows of_ipv4 image.now) + changes) payload
+        < 2 ^ 64))
+        (merged_size of_ipv4 (length (image_rows of_ipv4 image.now) + changes) payload) }
+{
+    merge::merge_len(image, false, changes, payload)
+}
+
+/// Writes the image that changes make of another one, with the user's own bytes, into a buffer of
+/// `merge_len` bytes or more, and returns how many bytes it takes. The changes rise as the rows of
+/// `write` do, and no network has two. A row that isn't removed is stored with its value, whether
+/// its network has a row or not; a network that is removed needs none. Bytes behind the new image
+/// stay as they are. It takes linear time and allocates nothing.
+///
+/// Of bytes that are no image it takes the first rows that are in order, and none where there is no
+/// head.
+///
+/// # Errors
+///
+/// In this order: there may be too many rows, the buffer is shorter than `merge_len`, or a change
+/// is of no network or doesn't come after the one before it. The buffer is as before.
+///
+/// # Examples
+///
+/// ```
+/// use nifazombi::flat_routes::ipv4::{self, Change, Row};
+///
+/// let row = |value| Row { first: 0x0a00_0000, bits: 8, link: 0, value };
+/// let mut image = [0u8; 400];
+/// assert!(ipv4::write(&[row(7)], &[], &mut image).is_ok());
+/// let change = Change { row: row(8), is_removed: false };
+/// let mut changed = [0u8; 400];
+/// assert!(ipv4::merge(&image, &[change], &[], &mut changed).is_ok());
+/// assert!(ipv4::row_at(&changed, 0).is_some_and(|row| row.value == 8));
+/// ```
+pub fn merge(
+    image: &[u8],
+    changes: &[Change],
+    payload: &[u8],
+    out: &mut [u8],
+) -> Result<usize, WriteError>
+    ensures ok { IsImage of_ipv4 image.now → IsOk result ↔ CanMerge of_ipv4
+        (length (image_rows of_ipv4 image.now)) (each row_of_change4 changes.now)
+        (length payload.now) (length out.old) }
+    ensures fault { IsImage of_ipv4 image.now → IfErr result (IsMergeFault of_ipv4
+        (length (image_rows of_ipv4 image.now)) (each row_of_change4 changes.now)
+        (length payload.now) (length out.old)) }
+    ensures image { OnOk result (IsImage of_ipv4 out.new) }
+    ensures rows { OnOk result (IsImage of_ipv4 image.now → AreRowsAfter row_of_change4
+        is_removal4 changes.now (image_rows of_ipv4 image.now)
+        (image_rows of_ipv4 out.new)) }
+    ensures payload { OnOk result (HoldsPayload out.new payload.now) }
+    ensures front { IfOk result (λ len. IsImageOf of_ipv4 (image_rows of_ipv4 out.new)
+        payload.now (take len out.new)) }
+    ensures most { IfOk result (λ len. len ≤ merged_size of_ipv4
+        (row_count image.now + length changes.now) (length payload.now)) }
+    ensures change { IfOk result (λ len. ChangesWithin 0 len out.old out.new) }
+    ensures unchanged { OnErr result (out.new ≡ out.old) }
+{
+    merge::merge(image, false, changes, payload, out)
 }
 
 impl FlatRow for (Network<Ipv4Addr>, u32) {

@@ -10,6 +10,7 @@ pub mod ipv4;
 pub mod ipv6;
 mod laws;
 mod layout;
+mod merge;
 mod networks;
 mod rows;
 mod search;

@@ -59,7 +59,7 @@ fn is_in_place<R: FlatRow>(rows: &[R], at: usize) -> bool
 }
 
 /// The index of the first row that is of no network, or doesn't come after the row before it.
-fn unsorted<R: FlatRow>(rows: &[R]) -> Option<usize>
+pub(crate) fn unsorted<R: FlatRow>(rows: &[R]) -> Option<usize>
     ensures { MatchOption result
         (AreRowsInOrder (width R.WIDE) (λ n. n) (each R.shown rows.now))
         (IsFirstOutOfOrder (width R.WIDE) (λ n. n) (each R.shown rows.now)) }
@@ -90,7 +90,7 @@ fn are_half<R: FlatRow>(rows: &[R]) -> bool
 }
 
 /// Puts in the head up to the part of the rows.
-fn put_row_head(out: &mut [u8], wide: bool, plan: RowPlan)
+pub(crate) fn put_row_head(out: &mut [u8], wide: bool, plan: RowPlan)
     requires few { plan.rows < 2 ^ 32 }
     requires place { plan.rows_at ≡ 112 }
     requires room { 112 ≤ length out.old }

@@ -1,0 +1,182 @@
+//! Images of networks and changes merged into new ones, beside a map.
+mod common;
+
+use common::{Random, flipped};
+use nifazombi::flat_routes::{WriteError, ipv4, ipv6, payload};
+use std::collections::BTreeMap;
+use std::hint::black_box;
+use std::time::{Duration, Instant};
+
+/// Networks and values: a network by its first address and its bits.
+type Table<A, V> = BTreeMap<(A, u32), V>;
+
+/// What the calls of a family are, under one name.
+macro_rules! family {
+    ($name:ident, $module:ident, $address:ty, $width:expr, $value:ty, $bytes:expr, $number:expr) => {
+        mod $name {
+            use super::*;
+            use $module::{Change, Row};
+
+            fn row(&((first, bits), value): &(($address, u32), $value)) -> Row {
+                Row { first: $bytes(first), bits, link: 99, value }
+            }
+
+            /// A network of few addresses, so that networks lie within one another and come again.
+            fn network(random: &mut Random) -> ($address, u32) {
+                let bits = [0, 1, 2, 3, 4, 6, $width - 2, $width - 1, $width][random.below(9)];
+                let low = (random.next() % 4) as $address;
+                let first = (random.below(16) as $address) << ($width - 4) | low;
+                if bits == 0 { (0, 0) } else { (first >> ($width - bits) << ($width - bits), bits) }
+            }
+
+            pub fn written(table: &Table<$address, $value>, own: &[u8]) -> Vec<u8> {
+                let rows: Vec<Row> =
+                    table.iter().map(|(&net, &value)| row(&(net, value))).collect();
+                let mut image = vec![0; $module::image_len(rows.len(), own.len()).unwrap()];
+                let len = $module::write(&rows, own, &mut image).unwrap();
+                image.truncate(len);
+                image
+            }
+
+            fn changes(random: &mut Random, most: usize) -> Table<$address, Option<$value>> {
+                (0..random.below(most + 1))
+                    .map(|_| {
+                        let value = random.next() as $value;
+                        (network(random), (random.below(3) > 0).then_some(value))
+                    })
+                    .collect()
+            }
+
+            pub fn change((&net, &value): (&($address, u32), &Option<$value>)) -> Change {
+                let row = row(&(net, value.unwrap_or(77)));
+                Change { row, is_removed: value.is_none() }
+            }
+
+            #[test]
+            fn is_the_image_of_the_changed_map() {
+                let mut random = Random::new(7);
+                for round in 0..6000 {
+                    let most = if round % 50 == 0 { 600 } else { 12 };
+                    let mut table = Table::new();
+                    for (net, value) in changes(&mut random, most) {
+                        table.insert(net, value.unwrap_or(5));
+                    }
+                    let image = written(&table, b"old bytes");
+                    let changed = changes(&mut random, most);
+                    for (&net, &value) in &changed {
+                        match value {
+                            Some(value) => table.insert(net, value),
+                            None => table.remove(&net),
+                        };
+                    }
+                    let list: Vec<Change> = changed.iter().map(change).collect();
+                    let own = &b"new"[..random.below(4)];
+                    let room = $module::merge_len(&image, list.len(), own.len()).unwrap();
+                    let mut out = vec![0xaa; room + random.below(3)];
+                    let len = $module::merge(&image, &list, own, &mut out).unwrap();
+                    assert!(len <= room && out[len..].iter().all(|&byte| byte == 0xaa));
+                    assert_eq!($module::check(&out), Ok(()));
+                    assert_eq!(payload(&out).map(|(at, len)| &out[at..at + len]), Some(own));
+                    assert_eq!(out[..len], written(&table, own), "{round}");
+                }
+            }
+
+            #[test]
+            fn errors_leave_the_buffer() {
+                let table = Table::from([((1 << ($width - 1), 1), 1), ((1 << ($width - 1), 2), 2)]);
+                let image = written(&table, b"own");
+                let net =
+                    |first, bits| Change { row: row(&((first, bits), 3)), is_removed: bits == 2 };
+                let top = 1 << ($width - 1);
+                let changes = [net(0, 1), net(top, 1), net(top, 2)];
+                let room = $module::merge_len(&image, 3, 2).unwrap();
+                assert_eq!(room, $module::image_len(5, 2).unwrap());
+                let mut out = vec![0xaa; room - 1];
+                let merged = $module::merge(&image, &changes, b"it", &mut out);
+                assert_eq!(merged, Err(WriteError::Short));
+                out.push(0xaa);
+                for (wrong, at) in [
+                    (vec![net(top, 1), net(0, 1)], 1),
+                    (vec![net(0, 1), net(0, 1)], 1),
+                    (vec![net(0, 0), net(top, 2), net(top, 1)], 2),
+                    (vec![net(1, 2)], 0),
+                    (vec![net(0, $width + 1)], 0),
+                ] {
+                    let merged = $module::merge(&image, &wrong, b"it", &mut out);
+                    assert_eq!(merged, Err(WriteError::OutOfOrder(at)));
+                }
+                assert!(out.iter().all(|&byte| byte == 0xaa));
+                assert!($module::merge(&image, &changes, b"it", &mut out).is_ok());
+                let rows: Vec<_> = (0..3).map_while(|at| $module::row_at(&out, at)).collect();
+                let rows: Vec<_> =
+                    rows.iter().map(|row| ($number(row.first), row.bits, row.value)).collect();
+                assert_eq!(rows, [(0, 1, 3), (top, 1, 3)]);
+                assert_eq!($module::merge_len(&image, usize::MAX, 0), None);
+                assert_eq!($module::merge_len(&image, (1 << 32) - 2, 0), None);
+                assert!($module::merge_len(&image, (1 << 32) - 3, 0).is_some());
+                assert_eq!($module::merge_len(&image, 2, usize::MAX), None);
+            }
+
+            #[test]
+            fn bytes_that_are_no_image() {
+                let mut random = Random::new(9);
+                for _ in 0..3000 {
+                    let table: Table<_, _> =
+                        changes(&mut random, 9).into_keys().map(|net| (net, 6)).collect();
+                    let mut image = written(&table, b"");
+                    for _ in 0..1 + random.below(3) {
+                        image = flipped(&image, random.below(8 * image.len()));
+                    }
+                    let list: Vec<Change> = changes(&mut random, 9).iter().map(change).collect();
+                    let Some(room) = $module::merge_len(&image, list.len(), 2) else {
+                        continue;
+                    };
+                    if room > 1 << 24 {
+                        continue;
+                    }
+                    let mut out = vec![0xaa; room + 8];
+                    let len = $module::merge(&image, &list, b"it", &mut out).unwrap();
+                    assert!(len <= room && out[len..].iter().all(|&byte| byte == 0xaa));
+                    assert_eq!($module::check(&out), Ok(()));
+                    assert_eq!(payload(&out).map(|(at, len)| &out[at..at + len]), Some(&b"it"[..]));
+                }
+                let list = [Change { row: row(&((0, 1), 4)), is_removed: false }];
+                let mut out = vec![0; 400];
+                for none in [&b""[..], b"NZIPV", &[0xff; 200]] {
+                    let len = $module::merge(none, &list, b"", &mut out).unwrap();
+                    assert_eq!(out[..len], written(&Table::from([((0, 1), 4)]), b""));
+                }
+            }
+        }
+    };
+}
+
+family!(narrow, ipv4, u32, 32, u32, |first: u32| first, |first: u32| first);
+family!(wide, ipv6, u128, 128, u64, u128::to_be_bytes, u128::from_be_bytes);
+
+/// The least time of some calls.
+fn least(mut call: impl FnMut() -> usize) -> Duration {
+    let time = |_| {
+        let start = Instant::now();
+        black_box(call());
+        start.elapsed()
+    };
+    (0..50).map(time).min().unwrap()
+}
+
+/// Prints how long 100 changes of 10^5 rows take, beside `write` of all rows.
+#[test]
+#[ignore = "it measures"]
+fn time_of_few_changes() {
+    let table: Table<u32, u32> = (0..100_000).map(|n| ((n * 40_000 & !255, 24), n)).collect();
+    let image = narrow::written(&table, b"");
+    let changed: Table<u32, Option<u32>> =
+        (0..100).map(|n| ((n * 40_000_000, 26), (n % 2 == 0).then_some(n))).collect();
+    let list: Vec<ipv4::Change> = changed.iter().map(narrow::change).collect();
+    let rows: Vec<ipv4::Row> =
+        (0..ipv4::len(&image)).map_while(|at| ipv4::row_at(&image, at)).collect();
+    let mut out = vec![0; ipv4::merge_len(&image, 100, 0).unwrap()];
+    let merged = least(|| ipv4::merge(&image, &list, b"", &mut out).unwrap());
+    let wrote = least(|| ipv4::write(&rows, b"", &mut out).unwrap());
+    println!("merge {merged:?}, write {wrote:?}");
+}

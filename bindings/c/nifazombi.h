@@ -44,7 +44,8 @@ extern "C" {
 // The row at this index isn't valid, or doesn't come after the row before it.
 #define NIFAZOMBI_ERROR_OUT_OF_ORDER 8
 
-// The span at this index doesn't begin behind the one before it, or has another answer.
+// The first span doesn't begin at 0, or the span at this index doesn't begin before the next one,
+// or has another answer than some of its addresses.
 #define NIFAZOMBI_ERROR_SPAN 9
 
 // A row as it lies in an image, in 16 bytes: a network by its first address and how many bits its
@@ -57,6 +58,13 @@ typedef struct {
     uint32_t value;
 } nifazombi_ipv4_row;
 
+// A change of a routing table: its row is stored from now on, or its network goes, and then the
+// row's value and link count for nothing.
+typedef struct {
+    nifazombi_ipv4_row row;
+    bool is_removed;
+} nifazombi_ipv4_change;
+
 // A row: a network by its first address, in network order, and how many bits its addresses share,
 // the index and one more of the row of the network around it, or 0, and the network's value.
 typedef struct {
@@ -65,6 +73,13 @@ typedef struct {
     uint32_t link;
     uint64_t value;
 } nifazombi_ipv6_row;
+
+// A change of a routing table: its row is stored from now on, or its network goes, and then the
+// row's value and link count for nothing.
+typedef struct {
+    nifazombi_ipv6_row row;
+    bool is_removed;
+} nifazombi_ipv6_change;
 
 // A key and its value.
 typedef struct {
@@ -133,9 +148,9 @@ size_t nifazombi_ipv4_above(const uint8_t *image, size_t image_len, size_t at);
 size_t nifazombi_ipv4_image_len(size_t rows, size_t payload);
 
 // Writes the image of rows in order, by first address and then by bits, whose links count for
-// nothing, and of the user's own bytes into `out`. Returns 0, and puts into `at` how many bytes the
-// image takes; or why it couldn't: one of the numbers above; an index that belongs to it is put
-// into `at`, and `out` is as before then.
+// nothing, and of the user's own bytes into `out`. Returns 0, and puts into `at` how many bytes
+// the image takes; or why it couldn't: one of the numbers above; an index that belongs to it is
+// put into `at`, and `out` is as before then.
 uint32_t nifazombi_ipv4_write(
     const nifazombi_ipv4_row *rows, size_t rows_len,
     const uint8_t *payload, size_t payload_len,
@@ -192,9 +207,9 @@ size_t nifazombi_ipv6_above(const uint8_t *image, size_t image_len, size_t at);
 size_t nifazombi_ipv6_image_len(size_t rows, size_t payload);
 
 // Writes the image of rows in order, by first address and then by bits, whose links count for
-// nothing, and of the user's own bytes into `out`. Returns 0, and puts into `at` how many bytes the
-// image takes; or why it couldn't: one of the numbers above; an index that belongs to it is put
-// into `at`, and `out` is as before then.
+// nothing, and of the user's own bytes into `out`. Returns 0, and puts into `at` how many bytes
+// the image takes; or why it couldn't: one of the numbers above; an index that belongs to it is
+// put into `at`, and `out` is as before then.
 uint32_t nifazombi_ipv6_write(
     const nifazombi_ipv6_row *rows, size_t rows_len,
     const uint8_t *payload, size_t payload_len,

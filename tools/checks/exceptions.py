@@ -83,12 +83,12 @@ UNTRIED = {
                       "Trie::from_iter.Full Trie::extend.Full Trie::graft.Full Entry::insert.Full Entry::or_insert.Full "
                       "Entry::or_insert_with.Full SubTrieMut::insert.Full",
         "frozen_trie": "freeze.Full frozen_copy.Full", "frozen_networks": "freeze.Full frozen_copy.Full",
-        "flat_routes": "ipv4::write.Full ipv6::write.Full", "flat_texts": "write.Full",
+        "flat_routes": "ipv4::write.Full ipv6::write.Full ipv4::merge.Full ipv6::merge.Full", "flat_texts": "write.Full",
         "trie_set": "TrieSet::insert.Full"},
     "refused memory alone makes it, which the sessions refused_*.txt try": {"radix_trie": "Trie::merge.Stopped"},
     "both families have the same body, and tests make it by ipv4": {
-        "flat_routes": "ipv6::check.Cell ipv6::check.Part ipv6::check.Row ipv6::check.Short ipv6::check.Span "
-                       "ipv6::check.Version ipv6::write.OutOfOrder ipv6::write.Short ipv6::from_image.Image"},
+        "flat_routes": "ipv6::check.Cell ipv6::check.Short ipv6::check.Span ipv6::check.Version ipv6::write.OutOfOrder "
+                       "ipv6::write.Short ipv6::merge.OutOfOrder ipv6::merge.Short ipv6::from_image.Image"},
     "it is of another call, whose errors have the same type": {
         "flat_texts": "check.Span", "flat_tries": "from_image.Shared from_image.Value"},
     "clauses alone tell of it: the call has the tests of its neighbour for numbers": {

@@ -16,8 +16,16 @@ class Ipv4Row(Structure):
     _fields_ = [("first", c_uint32), ("bits", c_uint32), ("link", c_uint32), ("value", c_uint32)]
 
 
+class Ipv4Change(Structure):
+    _fields_ = [("row", Ipv4Row), ("is_removed", c_bool)]
+
+
 class Ipv6Row(Structure):
     _fields_ = [("first", c_uint8 * 16), ("bits", c_uint32), ("link", c_uint32), ("value", c_uint64)]
+
+
+class Ipv6Change(Structure):
+    _fields_ = [("row", Ipv6Row), ("is_removed", c_bool)]
 
 
 class TextsPair(Structure):

@@ -11,7 +11,7 @@ use Rattle.flat_routes.specs.declared.head.CellPlan.{CellPlan}
 use Rattle.flat_routes.specs.declared.head.RowPlan.{RowPlan}
 use Rattle.flat_routes.specs.declared.head.SpanPlan.{SpanPlan}
 use Rattle.flat_routes.specs.declared.turns.Begun.{Begun}
-use Rattle.flat_routes.specs.Images.{AreCells, AreLinkedTo, AreSpans, HasHead, HasNoTurn, IsBegun, IsImage, IsRowPlan, IsSpanOf, IsTurn, answer_in, answer_of, bases, cell_count, cell_in, image_rows, is_half, links, low_of, rest_of, row_size, sizes, span_count, span_plan, start_from, start_in, start_of, start_size, width}
+use Rattle.flat_routes.specs.Images.{AreCells, AreLinkedTo, AreSpans, HasHead, HasNoTurn, IsKnownAt, IsImage, IsRowPlan, IsSpanOf, IsTurn, answer_in, answer_of, bases, cell_count, cell_in, image_rows, is_half, links, low_of, rest_of, row_size, sizes, span_count, span_plan, start_from, start_in, begin_of, start_size, width}
 use Rattle.flat_routes.specs.SpanLaws.{AreStarts}
 use Rattle.flat_routes.specs.Written.{AreListed, ChangesWithin, IsImageOf, IsRowHead, most_span}
 use Rattle.flat_routes.proofs.ImageLemmas.{all_rise, length-firsts, length-links}
@@ -61,12 +61,12 @@ rows_before wide old new plan at place end same room of =
 -- what is known at an address by the rows of other bytes is known by the same rows
 pub begun_there : (wide : Bool) (old out : List ℕ) (before new : Begun) (start : ℕ) → image_rows wide out ≡ image_rows wide old
     → ((a : ℕ) → a ≤ start → ((k : ℕ) → k < before.count → get_or (bases wide out) k 0 ≤ a)
-    → IsLastHolder (width wide) (bases wide out) (sizes wide out) before.count a before.around → IsBegun (width wide) (bases wide out) (sizes wide out) start new)
+    → IsLastHolder (width wide) (bases wide out) (sizes wide out) before.count a before.around → IsKnownAt (width wide) (bases wide out) (sizes wide out) start new)
     → ((a : ℕ) × (a ≤ start) × ((k : ℕ) → k < before.count → get_or (bases wide old) k 0 ≤ a) × IsLastHolder (width wide) (bases wide old) (sizes wide old) before.count a before.around)
-    → IsBegun (width wide) (bases wide old) (sizes wide old) start new
+    → IsKnownAt (width wide) (bases wide old) (sizes wide old) start new
 begun_there wide old out before new start same made known =
     subst (λ (rs : List (Net ℕ × ℕ)). (a : ℕ) → a ≤ start → ((k : ℕ) → k < before.count → get_or (base_numbers (λ n. n) rs) k 0 ≤ a)
-    → IsLastHolder (width wide) (base_numbers (λ n. n) rs) (bit_counts rs) before.count a before.around → IsBegun (width wide) (base_numbers (λ n. n) rs) (bit_counts rs) start new)
+    → IsLastHolder (width wide) (base_numbers (λ n. n) rs) (bit_counts rs) before.count a before.around → IsKnownAt (width wide) (base_numbers (λ n. n) rs) (bit_counts rs) start new)
     same made known.0 known.1 known.2 known.3
 
 -- the first n spans with these starts and answers are right, and the start of the next one is put
@@ -159,10 +159,10 @@ span_there starts others m a i e of = record {
 
 -- of the spans from the place `at` on, n are put, and the start of that at n; then its answer r is put
 module _ (wide half : Bool) (fs bs : List ℕ) (at n r start : ℕ) (out mid : List ℕ) (same : (k : ℕ) → k < at + (start_size wide half + 4) * n + start_size wide half → slice_index mid k ≡ slice_index out k)
-    (put : ArePut (width wide) fs bs (start_of wide (spans_at at half) out) (answer_of wide (spans_at at half) out) n)
-    (first : start_of wide (spans_at at half) out n ≡ start) (answer : u32_in mid (at + (start_size wide half + 4) * n + start_size wide half) ≡ r) where
+    (put : ArePut (width wide) fs bs (begin_of wide (spans_at at half) out) (answer_of wide (spans_at at half) out) n)
+    (first : begin_of wide (spans_at at half) out n ≡ start) (answer : u32_in mid (at + (start_size wide half + 4) * n + start_size wide half) ≡ r) where
   -- the starts up to it stay
-  starts_stay : (i : ℕ) → i ≤ n → start_of wide (spans_at at half) mid i ≡ start_of wide (spans_at at half) out i
+  starts_stay : (i : ℕ) → i ≤ n → begin_of wide (spans_at at half) mid i ≡ begin_of wide (spans_at at half) out i
   starts_stay i le =
       start_kept wide half out mid at (at + (start_size wide half + 4) * n + start_size wide half) (at + (start_size wide half + 4) * i) (λ k _ l. same k l) (omega arith)
       (omega (arith, place_up (start_size wide half + 4) i n le))
@@ -174,12 +174,12 @@ module _ (wide half : Bool) (fs bs : List ℕ) (at n r start : ℕ) (out mid : L
       (omega (arith, place_next (start_size wide half + 4) i, place_up (start_size wide half + 4) (i + 1) n (omega (arith, lt))))
 
   -- so the first n are right
-  put_there : ArePut (width wide) fs bs (start_of wide (spans_at at half) mid) (answer_of wide (spans_at at half) mid) n
-  put_there = put_same (width wide) fs bs _ _ n put (start_of wide (spans_at at half) mid) (answer_of wide (spans_at at half) mid) starts_stay answers_stay
+  put_there : ArePut (width wide) fs bs (begin_of wide (spans_at at half) mid) (answer_of wide (spans_at at half) mid) n
+  put_there = put_same (width wide) fs bs _ _ n put (begin_of wide (spans_at at half) mid) (answer_of wide (spans_at at half) mid) starts_stay answers_stay
 
   -- and it is the last where no other network is the last holder from there on
   pub one_last_put : HasNoTurn (width wide) fs bs start r
-      → AreSpans (width wide) fs bs (start_of wide (spans_at at half) mid) (answer_of wide (spans_at at half) mid) (n + 1)
+      → AreSpans (width wide) fs bs (begin_of wide (spans_at at half) mid) (answer_of wide (spans_at at half) mid) (n + 1)
   one_last_put none =
       put_last (width wide) fs bs _ _ n put_there
       (subst (λ a. HasNoTurn (width wide) fs bs a (answer_of wide (spans_at at half) mid n)) (sym (starts_stay n (omega arith) ∙ first))
@@ -188,25 +188,25 @@ module _ (wide half : Bool) (fs bs : List ℕ) (at n r start : ℕ) (out mid : L
   module _ (new : List ℕ) (also : (k : ℕ) → k < at + (start_size wide half + 4) * n + start_size wide half + 4 → slice_index new k ≡ slice_index mid k) (next : ℕ)
       (follows : start_from wide half new (at + (start_size wide half + 4) * n + start_size wide half + 4) ≡ next) where
     -- the start of the next one is there
-    pub next_start : start_of wide (spans_at at half) new (n + 1) ≡ next
+    pub next_start : begin_of wide (spans_at at half) new (n + 1) ≡ next
     next_start =
         let place : at + (start_size wide half + 4) * (n + 1) ≡ at + (start_size wide half + 4) * n + start_size wide half + 4 = omega (arith, place_next (start_size wide half + 4) n) in
         ap (start_from wide half new) place ∙ follows
 
     -- and one more is right where it begins at the next turn
     pub one_more_put : IsTurn (width wide) fs bs start r next
-        → ArePut (width wide) fs bs (start_of wide (spans_at at half) new) (answer_of wide (spans_at at half) new) (n + 1)
+        → ArePut (width wide) fs bs (begin_of wide (spans_at at half) new) (answer_of wide (spans_at at half) new) (n + 1)
     one_more_put turn =
         let own = λ (i : ℕ) (le : i ≤ n). start_kept wide half mid new at (at + (start_size wide half + 4) * n + start_size wide half + 4) (at + (start_size wide half + 4) * i) (λ k _ l. also k l) (omega arith)
         (omega (arith, place_up (start_size wide half + 4) i n le)) in
         let told = λ (i : ℕ) (le : i ≤ n). u32_stays mid new at (at + (start_size wide half + 4) * n + start_size wide half + 4) (λ k _ l. also k l) (at + (start_size wide half + 4) * i + start_size wide half)
         (omega arith) (omega (arith, place_up (start_size wide half + 4) i n le)) in
-        let kept = put_same (width wide) fs bs _ _ n put_there (start_of wide (spans_at at half) new) (answer_of wide (spans_at at half) new)
+        let kept = put_same (width wide) fs bs _ _ n put_there (begin_of wide (spans_at at half) new) (answer_of wide (spans_at at half) new)
         own (λ i l. told i (omega (arith, l))) in
         put_more (width wide) fs bs _ _ n kept
-        (subst (λ a. IsTurn (width wide) fs bs a (answer_of wide (spans_at at half) new n) (start_of wide (spans_at at half) new (n + 1)))
+        (subst (λ a. IsTurn (width wide) fs bs a (answer_of wide (spans_at at half) new n) (begin_of wide (spans_at at half) new (n + 1)))
         (sym (own n (omega arith) ∙ starts_stay n (omega arith) ∙ first))
-        (subst (λ t. IsTurn (width wide) fs bs start t (start_of wide (spans_at at half) new (n + 1))) (sym (told n (omega arith) ∙ answer))
+        (subst (λ t. IsTurn (width wide) fs bs start t (begin_of wide (spans_at at half) new (n + 1))) (sym (told n (omega arith) ∙ answer))
         (subst (IsTurn (width wide) fs bs start r) (sym next_start) turn)))
 
 -- plans that say the same are the same
@@ -226,10 +226,10 @@ half_told true true h = refl
 module _ (wide : Bool) (plan : RowPlan) (spans : SpanPlan) (cells : CellPlan) (payload b0 b1 b2 b3 ys : List ℕ) (end : ℕ)
     (place : plan.rows_at ≡ 112) (of : IsRowPlan wide b0 plan) (head : IsRowHead wide b0 plan) (linked : AreLinkedTo (width wide) (bases wide b0) (sizes wide b0) (links wide b0) plan.rows)
     (spans_at : spans.at ≡ plan.rows_at + row_size wide * plan.rows) (is_wide : spans.is_half ≡ true → wide ≡ true)
-    (right : AreSpans (width wide) (bases wide b0) (sizes wide b0) (start_of wide spans b1) (answer_of wide spans b1) spans.count)
+    (right : AreSpans (width wide) (bases wide b0) (sizes wide b0) (begin_of wide spans b1) (answer_of wide spans b1) spans.count)
     (spans_put : ChangesWithin spans.at (spans.at + (start_size wide spans.is_half + 4) * spans.count) b0 b1)
     (cells_at : cells.at ≡ spans.at + (start_size wide spans.is_half + 4) * spans.count) (rest : cells.rest < 128) (low : cells.low ≡ low_of wide b0)
-    (led : AreCells (start_of wide spans b1) spans.count cells.low cells.rest (λ t. u32_in b2 (cells.at + 4 * t)) cells.count)
+    (led : AreCells (begin_of wide spans b1) spans.count cells.low cells.rest (λ t. u32_in b2 (cells.at + 4 * t)) cells.count)
     (cells_put : ChangesWithin cells.at (cells.at + 4 * cells.count) b1 b2) (listed : AreListed wide b3 spans cells (length payload)) (parts_put : ChangesWithin 40 112 b2 b3)
     (is_end : end ≡ cells.at + 4 * cells.count + length payload) (room : end ≤ length ys)
     (same : (k : ℕ) → k < cells.at + 4 * cells.count → slice_index ys k ≡ slice_index b3 k) (own : take (length payload) (drop (cells.at + 4 * cells.count) ys) ≡ payload) where
@@ -289,9 +289,9 @@ module _ (wide : Bool) (plan : RowPlan) (spans : SpanPlan) (cells : CellPlan) (p
   same_plan = same_fields (span_plan wide ys) spans same_count spans_listed.place_is is_same_half
 
   -- and each span stays
-  same_start : (i : ℕ) → i < spans.count → start_in wide ys i ≡ start_of wide spans b1 i
+  same_start : (i : ℕ) → i < spans.count → start_in wide ys i ≡ begin_of wide spans b1 i
   same_start i l =
-      ap (λ s. start_of wide s ys i) same_plan
+      ap (λ s. begin_of wide s ys i) same_plan
       ∙ start_kept wide spans.is_half b1 ys spans.at cells.at _ starts (omega arith)
       (omega (arith, cells_at, place_next (start_size wide spans.is_half + 4) i, place_up (start_size wide spans.is_half + 4) (i + 1) spans.count (omega (arith, l))))
 
@@ -305,13 +305,13 @@ module _ (wide : Bool) (plan : RowPlan) (spans : SpanPlan) (cells : CellPlan) (p
   same_spans =
       subst (AreSpans (width wide) (bases wide ys) (sizes wide ys) (start_in wide ys) (answer_in wide ys)) (sym same_count)
       (subst (λ (rs : List (Net ℕ × ℕ)). AreSpans (width wide) (base_numbers (λ n. n) rs) (bit_counts rs) (start_in wide ys) (answer_in wide ys) spans.count) (sym same_rows)
-      (spans_same (width wide) (bases wide b0) (sizes wide b0) (start_of wide spans b1) (answer_of wide spans b1) (start_in wide ys) (answer_in wide ys) spans.count same_start same_answer right))
+      (spans_same (width wide) (bases wide b0) (sizes wide b0) (begin_of wide spans b1) (answer_of wide spans b1) (start_in wide ys) (answer_in wide ys) spans.count same_start same_answer right))
 
   -- and each cell
   same_cells : AreCells (start_in wide ys) (span_count wide ys) (low_of wide ys) (rest_of ys) (cell_in ys) (cell_count ys)
   same_cells t l =
       let few : t < cells.count = (let size = cells_listed.size_is in omega (arith, l, size)) in
-      let there = span_there (start_of wide spans b1) (start_in wide ys) spans.count _ _ same_start (led t few) in
+      let there = span_there (begin_of wide spans b1) (start_in wide ys) spans.count _ _ same_start (led t few) in
       let own_low : cells.low ≡ low_of wide ys = low ∙ ap (λ (rs : List (Net ℕ × ℕ)). get_or (base_numbers (λ n. n) rs) 0 0) (sym same_rows) in
       let cell : u32_in b2 (cells.at + 4 * t) ≡ cell_in ys t =
       sym (ap (λ p. u32_in ys (p + 4 * t)) cells_listed.place_is ∙ u32_stays b2 ys cells.at (cells.at + 4 * cells.count) leads (cells.at + 4 * t) (omega arith) (omega (arith, few))) in

@@ -17,13 +17,13 @@ use Rattle.frozen_routes.proofs.RouteLemmas.Growing.{earlier_through}
 use Rattle.flat_routes.specs.declared.head.RowPlan.{RowPlan}
 use Rattle.flat_routes.specs.Images.{IsNext, IsRowPlan, bases, image_rows, link_in, network, row_in, row_size, sizes, width}
 use Rattle.flat_routes.specs.RowLaws.{ordered}
-use Rattle.flat_routes.specs.Merged.{AreMerged, AreRowsAfter, IsAmong, IsBefore, IsOfChange, IsOfOld, IsUnnamed, gone_at, link_place, merged_size, no_row, put_place, put_row_at, row_at}
+use Rattle.flat_routes.specs.Merged.{AreMerged, AreRowsAfter, IsAmong, IsRowBefore, IsOfChange, IsOfOld, IsUnnamed, gone_at, link_place, merged_size, no_row, put_place, put_row_at, row_at}
 use Rattle.flat_routes.specs.Written.{ChangesWithin, cell_bits, image_size, link_from, most_cells, most_span, row_from}
 use Rattle.flat_routes.proofs.ImageLemmas.{first_stored, size_stored}
 use Rattle.flat_routes.proofs.WriteLemmas.{link_from_kept, link_placed, next_by, plan_kept, row_from_kept, row_placed, row_room}
 
 -- a row doesn't come before one of the same network
-not_same : (r s : Net ℕ × ℕ) → IsBefore r s → s.0 ≡ r.0 → ⊥
+not_same : (r s : Net ℕ × ℕ) → IsRowBefore r s → s.0 ≡ r.0 → ⊥
 not_same r s before same =
     let first = ap (λ (n : Net ℕ). n.base) same in
     let bits = ap (λ (n : Net ℕ). n.bits) same in
@@ -36,31 +36,18 @@ same_net x y base bits = ap (λ n. network n x.bits) base ∙ ap (λ n. network 
 -- what is known of n old rows and m changes when the first a and c of these have become so many new rows
 pub record IsSoFar (old changed : ℕ → Net ℕ × ℕ) (gone : ℕ → Bool) (new : ℕ → Net ℕ × ℕ) (n m a c count : ℕ) : Type 0 where
   pub merged : AreMerged old changed gone new a c count
-  pub passed : (i j : ℕ) → i < a → c ≤ j → j < m → IsBefore (old i) (changed j)
-  pub ahead : (i j : ℕ) → a ≤ i → i < n → j < c → IsBefore (changed j) (old i)
+  pub passed : (i j : ℕ) → i < a → c ≤ j → j < m → IsRowBefore (old i) (changed j)
+  pub ahead : (i j : ℕ) → a ≤ i → i < n → j < c → IsRowBefore (changed j) (old i)
 
-module _ (old changed : ℕ → Net ℕ × ℕ) (gone : ℕ → Bool) (n m : ℕ) (old_rise : (i k : ℕ) → i < k → k < n → IsBefore (old i) (old k))
-    (changes_rise : (j k : ℕ) → j < k → k < m → IsBefore (changed j) (changed k)) where
-  -- at the start
-  pub none_yet : (new : ℕ → Net ℕ × ℕ) → IsSoFar old changed gone new n m 0 0 0
-  none_yet new = record {
-    merged = record {
-      from = λ k l. absurd (omega (arith, l));
-      given = λ j l. absurd (omega (arith, l));
-      kept = λ i l. absurd (omega (arith, l));
-      rising = λ j k l q. absurd (omega (arith, q));
-    };
-    passed = λ i j l. absurd (omega (arith, l));
-    ahead = λ i j l q r. absurd (omega (arith, r));
-  }
-
+module _ (old changed : ℕ → Net ℕ × ℕ) (gone : ℕ → Bool) (n m : ℕ) (old_rise : (i k : ℕ) → i < k → k < n → IsRowBefore (old i) (old k))
+    (changes_rise : (j k : ℕ) → j < k → k < m → IsRowBefore (changed j) (changed k)) where
   module _ (new next : ℕ → Net ℕ × ℕ) (a c count : ℕ) (so_far : IsSoFar old changed gone new n m a c count) (same : (k : ℕ) → k < count → next k ≡ new k) where
     -- what was among the new rows is among more
     among_more : (more : ℕ) → count ≤ more → (r : Net ℕ × ℕ) → IsAmong new count r → IsAmong next more r
     among_more more le r among = let l = among.1 in (among.0, omega (arith, l, le), same among.0 l ∙ among.2)
 
     -- the old rows from a up to b follow, which come before all changes that are left
-    module _ (b : ℕ) (order : a ≤ b) (within : b ≤ n) (upto : c ≤ m) (before : (i j : ℕ) → a ≤ i → i < b → c ≤ j → j < m → IsBefore (old i) (changed j))
+    module _ (b : ℕ) (order : a ≤ b) (within : b ≤ n) (upto : c ≤ m) (before : (i j : ℕ) → a ≤ i → i < b → c ≤ j → j < m → IsRowBefore (old i) (changed j))
         (run : (i : ℕ) → a ≤ i → i < b → next (count + (i - a)) ≡ old i) where
       -- none of the changes so far names one of them
       run_unnamed : (i : ℕ) → a ≤ i → i < n → IsUnnamed changed c (old i)
@@ -81,27 +68,27 @@ module _ (old changed : ℕ → Net ℕ × ℕ) (gone : ℕ → Bool) (n m : ℕ
       ]
 
       -- the rows so far come before them
-      run_after : (j i : ℕ) → j < count → a ≤ i → i < b → IsBefore (next j) (old i)
+      run_after : (j i : ℕ) → j < count → a ≤ i → i < b → IsRowBefore (next j) (old i)
       run_after j i l least most = elim (so_far.merged.from j l) [
-        | inl of ↦ subst (λ r. IsBefore r (old i)) (sym (same j l ∙ of.3)) (so_far.ahead i of.0 least (omega (arith, most, within)) of.1)
-        | inr of ↦ let w = of.1 in subst (λ r. IsBefore r (old i)) (sym (same j l ∙ of.2)) (old_rise of.0 i (omega (arith, w, least)) (omega (arith, most, within)))
+        | inl of ↦ subst (λ r. IsRowBefore r (old i)) (sym (same j l ∙ of.3)) (so_far.ahead i of.0 least (omega (arith, most, within)) of.1)
+        | inr of ↦ let w = of.1 in subst (λ r. IsRowBefore r (old i)) (sym (same j l ∙ of.2)) (old_rise of.0 i (omega (arith, w, least)) (omega (arith, most, within)))
       ]
 
-      run_rising : (j k : ℕ) → j < k → k < count + (b - a) → IsBefore (next j) (next k)
+      run_rising : (j k : ℕ) → j < k → k < count + (b - a) → IsRowBefore (next j) (next k)
       run_rising j k l most = elim (cases_lt k count) [
-        | inl lt ↦ subst (λ r. IsBefore r (next k)) (sym (same j (omega (arith, l, lt)))) (subst (IsBefore (new j)) (sym (same k lt)) (so_far.merged.rising j k l lt))
+        | inl lt ↦ subst (λ r. IsRowBefore r (next k)) (sym (same j (omega (arith, l, lt)))) (subst (IsRowBefore (new j)) (sym (same k lt)) (so_far.merged.rising j k l lt))
         | inr ge ↦
             let i = a + (k - count) in
             let is : count + (i - a) ≡ k = omega (arith, ge) in
             let inside : i < b = omega (arith, ge, most) in
             let here = subst (λ x. next x ≡ old i) is (run i (omega arith) inside) in
             elim (cases_lt j count) [
-              | inl lt ↦ subst (IsBefore (next j)) (sym here) (run_after j i lt (omega arith) inside)
+              | inl lt ↦ subst (IsRowBefore (next j)) (sym here) (run_after j i lt (omega arith) inside)
               | inr from ↦
                   let h = a + (j - count) in
                   let at : count + (h - a) ≡ j = omega (arith, from) in
                   let there = subst (λ x. next x ≡ old h) at (run h (omega arith) (omega (arith, l, inside, from, ge))) in
-                  subst (IsBefore (next j)) (sym here) (subst (λ r. IsBefore r (old i)) (sym there) (old_rise h i (omega (arith, l, from, ge)) (omega (arith, inside, within))))
+                  subst (IsRowBefore (next j)) (sym here) (subst (λ r. IsRowBefore r (old i)) (sym there) (old_rise h i (omega (arith, l, from, ge)) (omega (arith, inside, within))))
             ]
       ]
 
@@ -124,13 +111,13 @@ module _ (old changed : ℕ → Net ℕ × ℕ) (gone : ℕ → Bool) (n m : ℕ
       }
 
     -- one more change follows, behind whose network are the old rows from b on
-    module _ (b : ℕ) (order : a ≤ b) (inside : c < m) (behind : (i : ℕ) → b ≤ i → i < n → IsBefore (changed c) (old i))
+    module _ (b : ℕ) (order : a ≤ b) (inside : c < m) (behind : (i : ℕ) → b ≤ i → i < n → IsRowBefore (changed c) (old i))
         (own : (i : ℕ) → a ≤ i → i < b → (old i).0 ≡ (changed c).0) where
       -- the rows so far come before it
-      change_after : (k : ℕ) → k < count → IsBefore (next k) (changed c)
+      change_after : (k : ℕ) → k < count → IsRowBefore (next k) (changed c)
       change_after k l = elim (so_far.merged.from k l) [
-        | inl of ↦ subst (λ r. IsBefore r (changed c)) (sym (same k l ∙ of.3)) (changes_rise of.0 c of.1 inside)
-        | inr of ↦ subst (λ r. IsBefore r (changed c)) (sym (same k l ∙ of.2)) (so_far.passed of.0 c of.1 (omega arith) inside)
+        | inl of ↦ subst (λ r. IsRowBefore r (changed c)) (sym (same k l ∙ of.3)) (changes_rise of.0 c of.1 inside)
+        | inr of ↦ subst (λ r. IsRowBefore r (changed c)) (sym (same k l ∙ of.2)) (so_far.passed of.0 c of.1 (omega arith) inside)
       ]
 
       -- each of them is what it was
@@ -156,19 +143,19 @@ module _ (old changed : ℕ → Net ℕ × ℕ) (gone : ℕ → Bool) (n m : ℕ
         | inr ge ↦ absurd (free c (omega arith) (sym (own i ge l)))
       ]
 
-      change_rising : (j k : ℕ) → j < k → k < count → IsBefore (next j) (next k)
-      change_rising j k l lt = subst (λ r. IsBefore r (next k)) (sym (same j (omega (arith, l, lt)))) (subst (IsBefore (new j)) (sym (same k lt)) (so_far.merged.rising j k l lt))
+      change_rising : (j k : ℕ) → j < k → k < count → IsRowBefore (next j) (next k)
+      change_rising j k l lt = subst (λ r. IsRowBefore r (next k)) (sym (same j (omega (arith, l, lt)))) (subst (IsRowBefore (new j)) (sym (same k lt)) (so_far.merged.rising j k l lt))
 
-      change_passed : (i j : ℕ) → i < b → c + 1 ≤ j → j < m → IsBefore (old i) (changed j)
+      change_passed : (i j : ℕ) → i < b → c + 1 ≤ j → j < m → IsRowBefore (old i) (changed j)
       change_passed i j l from to = elim (cases_lt i a) [
         | inl lt ↦ so_far.passed i j lt (omega (arith, from)) to
         | inr ge ↦ subst (λ (x : Net ℕ). IsEarlier x.base x.bits (changed j).0.base (changed j).0.bits) (sym (own i ge l)) (changes_rise c j (omega (arith, from)) to)
       ]
 
-      change_ahead : (i j : ℕ) → b ≤ i → i < n → j < c + 1 → IsBefore (changed j) (old i)
+      change_ahead : (i j : ℕ) → b ≤ i → i < n → j < c + 1 → IsRowBefore (changed j) (old i)
       change_ahead i j l w lt = elim (cases_lt j c) [
         | inl less ↦ so_far.ahead i j (omega (arith, l, order)) w less
-        | inr ge ↦ let is : c ≡ j = omega (arith, lt, ge) in subst (λ x. IsBefore (changed x) (old i)) is (behind i l w)
+        | inr ge ↦ let is : c ≡ j = omega (arith, lt, ge) in subst (λ x. IsRowBefore (changed x) (old i)) is (behind i l w)
       ]
 
       -- where it removes
@@ -202,7 +189,7 @@ module _ (old changed : ℕ → Net ℕ × ℕ) (gone : ℕ → Bool) (n m : ℕ
           kept = change_kept (count + 1) (omega arith);
           rising = λ j k l most. elim (cases_lt k count) [
             | inl lt ↦ change_rising j k l lt
-            | inr ge ↦ let is : count ≡ k = omega (arith, most, ge) in subst (λ x. IsBefore (next j) (next x)) is (subst (IsBefore (next j)) (sym put) (change_after j (omega (arith, l, is))))
+            | inr ge ↦ let is : count ≡ k = omega (arith, most, ge) in subst (λ x. IsRowBefore (next j) (next x)) is (subst (IsRowBefore (next j)) (sym put) (change_after j (omega (arith, l, is))))
           ];
         };
         passed = change_passed;
@@ -216,18 +203,18 @@ module _ (old changed : ℕ → Net ℕ × ℕ) (gone : ℕ → Bool) (n m : ℕ
       one_more false more is removed given put = subst (IsSoFar old changed gone next n m b (c + 1)) (sym (given refl)) (given_more is (put refl))
 
   -- what comes before one change comes before the later ones
-  pub before_all : (c i : ℕ) → c < m → IsBefore (old i) (changed c) → (j : ℕ) → c ≤ j → j < m → IsBefore (old i) (changed j)
+  pub before_all : (c i : ℕ) → c < m → IsRowBefore (old i) (changed c) → (j : ℕ) → c ≤ j → j < m → IsRowBefore (old i) (changed j)
   before_all c i inside before j from to = elim (cases_lt c j) [
     | inl lt ↦ earlier_through _ _ _ _ _ _ before (changes_rise c j lt to)
-    | inr ge ↦ let is : c ≡ j = omega (arith, from, ge) in subst (λ x. IsBefore (old i) (changed x)) is before
+    | inr ge ↦ let is : c ≡ j = omega (arith, from, ge) in subst (λ x. IsRowBefore (old i) (changed x)) is before
   ]
 
   -- a change comes before the old rows behind those of its network
   module _ (c e b : ℕ) (own : (b ≡ e) ⊎ ((b ≡ e + 1) × ((old e).0.base ≡ (changed c).0.base) × ((old e).0.bits ≡ (changed c).0.bits)))
-      (end : e < n → IsBefore (old e) (changed c) → ⊥)
+      (end : e < n → IsRowBefore (old e) (changed c) → ⊥)
       (other : b ≡ e → e < n → (old e).0.base ≡ (changed c).0.base → (old e).0.bits ≡ (changed c).0.bits → ⊥) where
     -- the first of these, where it isn't of that network
-    next_behind : b ≡ e → e < n → IsBefore (changed c) (old e)
+    next_behind : b ≡ e → e < n → IsRowBefore (changed c) (old e)
     next_behind is inside = elim (three_ways (changed c).0.base (old e).0.base) [
       | inl lt ↦ inl lt
       | inr (inl same) ↦ elim (three_ways (changed c).0.bits (old e).0.bits) [
@@ -238,11 +225,11 @@ module _ (old changed : ℕ → Net ℕ × ℕ) (gone : ℕ → Bool) (n m : ℕ
       | inr (inr gt) ↦ absurd (end inside (inl gt))
     ]
 
-    pub behind_all : (i : ℕ) → b ≤ i → i < n → IsBefore (changed c) (old i)
+    pub behind_all : (i : ℕ) → b ≤ i → i < n → IsRowBefore (changed c) (old i)
     behind_all i from to = elim own [
       | inl is ↦ elim (cases_lt e i) [
         | inl lt ↦ earlier_through _ _ _ _ _ _ (next_behind is (omega (arith, lt, to))) (old_rise e i lt to)
-        | inr ge ↦ let at : e ≡ i = omega (arith, ge, from, is) in subst (λ x. IsBefore (changed c) (old x)) at (next_behind is (omega (arith, at, to)))
+        | inr ge ↦ let at : e ≡ i = omega (arith, ge, from, is) in subst (λ x. IsRowBefore (changed c) (old x)) at (next_behind is (omega (arith, at, to)))
       ]
       | inr of ↦
           let is = of.0 in
@@ -264,11 +251,11 @@ module _ (old changed : ℕ → Net ℕ × ℕ) (gone : ℕ → Bool) (n m : ℕ
     ]
 
 -- a row comes before another one by their numbers
-pub before_by : (f b g a : ℕ) (r s : Net ℕ × ℕ) → f ≡ r.0.base → b ≡ r.0.bits → g ≡ s.0.base → a ≡ s.0.bits → IsEarlier f b g a → IsBefore r s
+pub before_by : (f b g a : ℕ) (r s : Net ℕ × ℕ) → f ≡ r.0.base → b ≡ r.0.bits → g ≡ s.0.base → a ≡ s.0.bits → IsEarlier f b g a → IsRowBefore r s
 before_by f b g a r s e1 e2 e3 e4 p = rw (← e1, ← e2, ← e3, ← e4) p
 
 -- and back
-pub before_from : (f b g a : ℕ) (r s : Net ℕ × ℕ) → f ≡ r.0.base → b ≡ r.0.bits → g ≡ s.0.base → a ≡ s.0.bits → IsBefore r s → IsEarlier f b g a
+pub before_from : (f b g a : ℕ) (r s : Net ℕ × ℕ) → f ≡ r.0.base → b ≡ r.0.bits → g ≡ s.0.base → a ≡ s.0.bits → IsRowBefore r s → IsEarlier f b g a
 before_from f b g a r s e1 e2 e3 e4 p = rw (e1, e2, e3, e4) p
 
 -- with one change there is one more row at most
@@ -283,7 +270,7 @@ row_number f (r ∷ rows) zero none = refl
 row_number f (r ∷ rows) (suc k) none = row_number f rows k none
 
 -- changes in order rise
-pub changes_in_order : (w : ℕ) (rows : List (Net ℕ × ℕ)) → AreRowsInOrder w (λ n. n) rows → (j k : ℕ) → j < k → k < length rows → IsBefore (row_at rows j) (row_at rows k)
+pub changes_in_order : (w : ℕ) (rows : List (Net ℕ × ℕ)) → AreRowsInOrder w (λ n. n) rows → (j k : ℕ) → j < k → k < length rows → IsRowBefore (row_at rows j) (row_at rows k)
 changes_in_order w rows rising j k l inside =
     let e = rising.order j k l (omega (arith, inside, length-map rows (λ r. r.0.base))) in
     let e1 = row_number (λ r. r.0.base) rows j refl in
@@ -294,7 +281,7 @@ changes_in_order w rows rising j k l inside =
 
 -- the rows of bytes that are in order rise
 pub rows_in_order : (wide : Bool) (bs : List ℕ) (n : ℕ) → n ≤ row_count bs → ((k : ℕ) → k < n → IsNext (width wide) (bases wide bs) (sizes wide bs) k)
-    → (i k : ℕ) → i < k → k < n → IsBefore (row_in wide bs i) (row_in wide bs k)
+    → (i k : ℕ) → i < k → k < n → IsRowBefore (row_in wide bs i) (row_in wide bs k)
 rows_in_order wide bs n within next i k l inside =
     let e = ordered (width wide) (bases wide bs) (sizes wide bs) n next i k l inside in
     let e1 = first_stored wide bs i (omega (arith, l, inside, within)) in

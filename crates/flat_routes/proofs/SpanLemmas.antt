@@ -10,7 +10,7 @@ use Rattle.frozen_routes.specs.Routes.{AreRising, AreUpTo, IsLastHolder}
 use Rattle.frozen_routes.proofs.RouteLemmas.Blocks.{base_first, finer, sandwich}
 use Rattle.frozen_routes.proofs.RouteLemmas.Links.{among_all, firsts_to}
 use Rattle.flat_routes.specs.declared.turns.Begun.{Begun}
-use Rattle.flat_routes.specs.Images.{AreLinkedTo, HasNoTurn, IsBegun, IsEdge, IsSpanOf, IsSpanRight, IsTurn, end_of, start_from}
+use Rattle.flat_routes.specs.Images.{AreLinkedTo, HasNoTurn, IsKnownAt, IsEdge, IsSpanOf, IsSpanRight, IsTurn, end_of, start_from}
 use Rattle.image_parts.proofs.ByteLemmas.{u32_fits, u64_fits}
 use Rattle.flat_routes.specs.SpanLaws.{IsCountedBy, IsEnd, earlier}
 use Rattle.flat_routes.proofs.ImageLemmas.{all_rise, one_last}
@@ -119,7 +119,7 @@ span_counted starts m a n parted some =
     }
 
 -- so much is known at the start of a span
-module _ (w : ℕ) (fs bs : List ℕ) (starts answers : ℕ → ℕ) (m i : ℕ) (rising : AreRising w fs bs) (begun : Begun) (known : IsBegun w fs bs (starts i) begun) where
+module _ (w : ℕ) (fs bs : List ℕ) (starts answers : ℕ → ℕ) (m i : ℕ) (rising : AreRising w fs bs) (begun : Begun) (known : IsKnownAt w fs bs (starts i) begun) where
   -- a right one has that answer
   pub right_answer : i < m → starts i < 2 ^ w → IsSpanRight w fs bs starts answers m i → begun.around ≡ answers i
   right_answer l fits right =

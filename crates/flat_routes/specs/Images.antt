@@ -64,8 +64,8 @@ start_from true true bs a = 2 ^ 64 * u64_in bs a
 start_from true false bs a = u128_in bs a
 
 -- the address that the span at i begins with
-abbrev pub start_of : Bool → SpanPlan → List ℕ → ℕ → ℕ
-start_of wide spans bs i = start_from wide spans.is_half bs (spans.at + (start_size wide spans.is_half + 4) * i)
+abbrev pub begin_of : Bool → SpanPlan → List ℕ → ℕ → ℕ
+begin_of wide spans bs i = start_from wide spans.is_half bs (spans.at + (start_size wide spans.is_half + 4) * i)
 
 -- its answer: the index and one more of the row of the longest network that holds its addresses, or 0
 abbrev pub answer_of : Bool → SpanPlan → List ℕ → ℕ → ℕ
@@ -77,7 +77,7 @@ abbrev pub span_count : Bool → List ℕ → ℕ
 span_count wide bs = (span_plan wide bs).count
 
 abbrev pub start_in : Bool → List ℕ → ℕ → ℕ
-start_in wide bs i = start_of wide (span_plan wide bs) bs i
+start_in wide bs i = begin_of wide (span_plan wide bs) bs i
 
 abbrev pub answer_in : Bool → List ℕ → ℕ → ℕ
 answer_in wide bs i = answer_of wide (span_plan wide bs) bs i
@@ -254,7 +254,7 @@ pub record AreLinkedTo (w : ℕ) (fs bs parents : List ℕ) (n : ℕ) : Type 0 w
   pub links : (k : ℕ) → k < n → IsLastHolder w fs bs k (slice_index fs k) (slice_index parents k)
 
 -- so many networks begin by the address a, and the last of these that holds it is that of the index and one more, or 0
-pub record IsBegun (w : ℕ) (fs bs : List ℕ) (a : ℕ) (begun : Begun) : Type 0 where
+pub record IsKnownAt (w : ℕ) (fs bs : List ℕ) (a : ℕ) (begun : Begun) : Type 0 where
   pub count : AreUpTo fs a begun.count
   pub around : IsLastHolder w fs bs begun.count a begun.around
 

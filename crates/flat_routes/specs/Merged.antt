@@ -58,8 +58,8 @@ IsMergeFault wide rows changes payload room (OutOfOrder i) = (rows + length chan
     × (merged_size wide (rows + length changes) payload ≤ room) × IsFirstOutOfOrder (width wide) (λ n. n) changes i
 
 -- the network of one row comes before that of another one
-abbrev pub IsBefore : (r s : Net ℕ × ℕ) → Type 0
-IsBefore r s = IsEarlier r.0.base r.0.bits s.0.base s.0.bits
+abbrev pub IsRowBefore : (r s : Net ℕ × ℕ) → Type 0
+IsRowBefore r s = IsEarlier r.0.base r.0.bits s.0.base s.0.bits
 
 -- a row that no list has
 abbrev pub no_row : Net ℕ × ℕ
@@ -106,4 +106,4 @@ pub record AreMerged (old changed : ℕ → Net ℕ × ℕ) (gone : ℕ → Bool
   pub from : (k : ℕ) → k < n → IsOfChange changed gone c (new k) ⊎ IsOfOld old changed a c (new k)
   pub given : (j : ℕ) → j < c → gone j ≡ false → IsAmong new n (changed j)
   pub kept : (i : ℕ) → i < a → IsUnnamed changed c (old i) → IsAmong new n (old i)
-  pub rising : (j k : ℕ) → j < k → k < n → IsBefore (new j) (new k)
+  pub rising : (j k : ℕ) → j < k → k < n → IsRowBefore (new j) (new k)

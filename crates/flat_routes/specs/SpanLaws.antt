@@ -51,6 +51,6 @@ earlier (Some a) None = Some a
 earlier None b = b
 
 -- of m spans, as many as `from` says at i begin by the i-th of eight numbers, or up to `left` more; where `known` holds
-abbrev pub IsCounted : (starts : ℕ → ℕ) → (known : Type 0) → (m : ℕ) → (numbers from : List ℕ) → (left : ℕ) → Type 0
-IsCounted starts known m numbers from left = (i : ℕ) → i < 8
+abbrev pub AreCounted : (starts : ℕ → ℕ) → (known : Type 0) → (m : ℕ) → (numbers from : List ℕ) → (left : ℕ) → Type 0
+AreCounted starts known m numbers from left = (i : ℕ) → i < 8
     → IsCountedBy starts known m (slice_index numbers i) (slice_index from i) left

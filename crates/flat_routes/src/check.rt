@@ -3,7 +3,7 @@ ghost use Rattle.std.specs.Prelude.{◌≡◌, ◌↔◌, ◌+◌, ◌*◌, ◌-
 ghost use Rattle.radix_keys.specs.Networks.{IsBase};
 ghost use Rattle.frozen_routes.specs.Routes.{IsEarlier, IsLastHolder};
 ghost use Rattle.flat_routes.specs.Faults.{AreRowsRight, IsCellRight, IsRouteFault, IsRoutePart, IsRowsPart, IsSpanRightIn, IsSpansPart};
-ghost use Rattle.flat_routes.specs.Images.{AreLinkedTo, AreSpansInside, IsBegun, IsImage, IsNext, IsPlanOf, IsRowPlan, bases, links, sizes, start_in, start_of, width};
+ghost use Rattle.flat_routes.specs.Images.{AreLinkedTo, AreSpansInside, IsKnownAt, IsImage, IsNext, IsPlanOf, IsRowPlan, bases, links, sizes, start_in, begin_of, width};
 
 use crate::head::{CellPlan, Plan, RowPlan, SpanPlan, mark_of, plan_of, size_of_rows, start_size};
 use crate::rows::{bits_at, bits_of, first_at, link_at};
@@ -61,9 +61,9 @@ fn is_next(image: &[u8], wide: bool, plan: RowPlan, at: usize) -> bool
 fn is_in_order(image: &[u8], wide: bool, spans: SpanPlan, at: usize) -> bool
     requires inside { AreSpansInside wide image.now spans }
     requires within { at < spans.count }
-    ensures { IsTrue result ↔ ((at ≡ 0 → start_of wide spans image.now 0 ≡ 0)
+    ensures { IsTrue result ↔ ((at ≡ 0 → begin_of wide spans image.now 0 ≡ 0)
         × (at + 1 < spans.count
-        → start_of wide spans image.now at < start_of wide spans image.now (at + 1))) }
+        → begin_of wide spans image.now at < begin_of wide spans image.now (at + 1))) }
 {
     let start = start_at(image, wide, spans, at);
     if at == 0 && start != 0 {
@@ -77,7 +77,7 @@ fn ends_by(image: &[u8], wide: bool, spans: SpanPlan, at: usize, end: Option<u12
     requires inside { AreSpansInside wide image.now spans }
     requires within { at < spans.count }
     ensures { IsTrue result ↔ IfSome end (λ t. (at + 1 < spans.count)
-        × (start_of wide spans image.now (at + 1) ≤ t)) }
+        × (begin_of wide spans image.now (at + 1) ≤ t)) }
 {
     let Some(end) = end else {
         return true;
@@ -101,7 +101,7 @@ fn right_span(image: &[u8], wide: bool, plan: Plan, at: usize, before: Begun) ->
     ensures right { MatchOption result (IsSpanRightIn wide image.now at → ⊥)
         (λ _. IsSpanRightIn wide image.now at) }
     ensures count { IfSome result (λ begun. begun.count ≤ plan.rows.rows) }
-    ensures begun { IfSome result (λ begun. IsBegun (width wide) (bases wide image.now)
+    ensures begun { IfSome result (λ begun. IsKnownAt (width wide) (bases wide image.now)
         (sizes wide image.now) (start_in wide image.now at) begun) }
 {
     if !is_in_order(image, wide, plan.spans, at) {

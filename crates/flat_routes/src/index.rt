@@ -1,7 +1,7 @@
 //! The spans and the cells of an image are written, where its rows stand.
 ghost use Rattle.std.specs.Prelude.{◌≡◌, ◌+◌, ◌*◌, ◌%◌, ◌^◌, ◌<◌, ◌≤◌, ℕ, false, true, length, slice_index, take};
 ghost use Rattle.image_parts.specs.Parts.{u32_in};
-ghost use Rattle.flat_routes.specs.Images.{AreCells, AreLinkedTo, AreSpans, AreSpansInside, IsRowPlan, IsSpanOf, answer_of, bases, image_rows, links, low_of, row_size, sizes, start_from, start_of, start_size, width};
+ghost use Rattle.flat_routes.specs.Images.{AreCells, AreLinkedTo, AreSpans, AreSpansInside, IsRowPlan, IsSpanOf, answer_of, bases, image_rows, links, low_of, row_size, sizes, start_from, begin_of, start_size, width};
 ghost use Rattle.flat_routes.specs.SpanLaws.{AreStarts};
 ghost use Rattle.flat_routes.specs.Written.{AreListed, ChangesWithin, IsImageOf, IsRowHead, MayBeHalf, image_size, most_cells, most_span};
 
@@ -45,7 +45,7 @@ fn put_spans(out: &mut [u8], wide: bool, plan: RowPlan, is_half: bool) -> SpanPl
     ensures at { result.at ≡ plan.rows_at + row_size wide * plan.rows }
     ensures most { result.count ≤ 2 * plan.rows + 1 }
     ensures spans { AreSpans (width wide) (bases wide out.old) (sizes wide out.old)
-        (start_of wide result out.new) (answer_of wide result out.new) result.count }
+        (begin_of wide result out.new) (answer_of wide result out.new) result.count }
     ensures change { ChangesWithin result.at
         (result.at + (start_size wide is_half + 4) * result.count) out.old out.new }
 {
@@ -108,8 +108,8 @@ fn cells_for(image: &[u8], wide: bool, plan: RowPlan, spans: SpanPlan) -> CellPl
 fn span_from(image: &[u8], wide: bool, spans: SpanPlan, from: usize, number: u128) -> usize
     requires inside { AreSpansInside wide image.now spans }
     requires within { from < spans.count }
-    requires before { start_of wide spans image.now from ≤ number }
-    ensures { IsSpanOf (start_of wide spans image.now) spans.count number result }
+    requires before { begin_of wide spans image.now from ≤ number }
+    ensures { IsSpanOf (begin_of wide spans image.now) spans.count number result }
 {
     let mut span = from;
     while span + 1 < spans.count && start_at(image, wide, spans, span + 1) <= number {
@@ -121,13 +121,13 @@ fn span_from(image: &[u8], wide: bool, spans: SpanPlan, from: usize, number: u12
 /// Puts the cells in behind the spans.
 fn put_cells(out: &mut [u8], wide: bool, spans: SpanPlan, cells: CellPlan)
     requires inside { AreSpansInside wide out.old spans }
-    requires starts { AreStarts (start_of wide spans out.old) spans.count }
+    requires starts { AreStarts (begin_of wide spans out.old) spans.count }
     requires few { 0 < cells.count → spans.count < 2 ^ 32 }
     requires at { cells.at ≡ spans.at + (start_size wide spans.is_half + 4) * spans.count }
     requires room { cells.at + 4 * cells.count ≤ length out.old }
     requires rest { cells.rest < 128 }
     requires fits { (t : ℕ) → t < cells.count → cells.low + t * 2 ^ cells.rest < 2 ^ 128 }
-    ensures cells { AreCells (start_of wide spans out.old) spans.count cells.low cells.rest
+    ensures cells { AreCells (begin_of wide spans out.old) spans.count cells.low cells.rest
         (λ t. u32_in out.new (cells.at + 4 * t)) cells.count }
     ensures change { ChangesWithin cells.at (cells.at + 4 * cells.count) out.old out.new }
 {
@@ -161,8 +161,8 @@ fn put_parts(out: &mut [u8], wide: bool, spans: SpanPlan, cells: CellPlan, paylo
     put_part(out, 88, 3, 0, cells.at + 4 * cells.count, payload);
 }
 
-/// Puts in all that is behind the rows, and lists it: the spans, the cells, and the user's own bytes.
-/// It returns how many bytes the image takes.
+/// Puts in all that is behind the rows, and lists it: the spans, the cells, and the user's own
+/// bytes. It returns how many bytes the image takes.
 pub(crate) fn put_index(
     out: &mut [u8],
     wide: bool,

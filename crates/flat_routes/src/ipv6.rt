@@ -300,9 +300,9 @@ pub fn image_len(rows: usize, payload: usize) -> Option<usize>
 }
 
 /// Writes the image of rows, which rise by their first addresses, and of one first address by their
-/// bits, with the user's own bytes, into a buffer of `image_len` bytes or more, and returns how many
-/// bytes it takes. Of a row's link it takes no notice. Bytes behind the image stay as they are. It
-/// takes linear time and allocates nothing.
+/// bits, with the user's own bytes, into a buffer of `image_len` bytes or more, and returns how
+/// many bytes it takes. Of a row's link it takes no notice. Bytes behind the image stay as they
+/// are. It takes linear time and allocates nothing.
 ///
 /// # Errors
 ///

@@ -1,7 +1,7 @@
 //! Searches in an image. Each is total: whatever the bytes are, it ends, and reads none but them.
 ghost use Rattle.std.specs.Prelude.{◌≡◌, ◌+◌, ◌-◌, ◌/◌, ◌^◌, ◌<◌, ◌≤◌, ℕ, IfSome, IsNone, length, option_map, slice_index, take};
 ghost use Rattle.sorted_tables.specs.Tables.{IsPartedAt};
-ghost use Rattle.flat_routes.specs.SpanLaws.{IsCounted, IsCountedBy};
+ghost use Rattle.flat_routes.specs.SpanLaws.{AreCounted, IsCountedBy};
 ghost use Rattle.frozen_routes.specs.Routes.{IsLastHolder, IsLongestRow};
 ghost use Rattle.image_parts.specs.Parts.{row_count};
 ghost use Rattle.flat_routes.specs.Images.{AreLinkedTo, IsImage, IsPlanOf, IsRowPlan, bases, first_in, found_row, image_rows, links, row_in, sizes, start_in, width};
@@ -104,13 +104,13 @@ pub(crate) fn follow_on(
     follow_parents(image, wide, plan, from, floor, number)
 }
 
-/// Between which counts the searches of eight addresses begin, and how many spans each goes over: as
-/// many as the longest of them, so that all take the same steps.
+/// Between which counts the searches of eight addresses begin, and how many spans each goes over:
+/// as many as the longest of them, so that all take the same steps.
 #[inline(always)]
 fn blocks_of(image: &[u8], wide: bool, plan: Plan, numbers: &[u128; 8]) -> ([usize; 8], usize)
     requires plan { IsPlanOf wide image.now plan }
     ensures length { length result.0 ≡ 8 }
-    ensures bounds { IsCounted (start_in wide image.now) (IsImage wide image.now)
+    ensures bounds { AreCounted (start_in wide image.now) (IsImage wide image.now)
         plan.spans.count numbers.now result.0 result.1 }
 {
     let mut from = [0usize; 8];
@@ -150,7 +150,7 @@ fn halved(image: &[u8], wide: bool, plan: Plan, number: u128, from: usize, left:
 fn counts_of(image: &[u8], wide: bool, plan: Plan, numbers: &[u128; 8]) -> [usize; 8]
     requires plan { IsPlanOf wide image.now plan }
     ensures length { length result ≡ 8 }
-    ensures counts { IsCounted (start_in wide image.now) (IsImage wide image.now)
+    ensures counts { AreCounted (start_in wide image.now) (IsImage wide image.now)
         plan.spans.count numbers.now result 0 }
 {
     let (mut from, mut left) = blocks_of(image, wide, plan, numbers);

@@ -1,7 +1,7 @@
 //! The spans of an image by their numbers, and its cells.
 ghost use Rattle.std.specs.Prelude.{◌≡◌, ◌+◌, ◌*◌, ◌^◌, ◌<◌, ◌≤◌, length};
 ghost use Rattle.image_parts.specs.Parts.{u32_in};
-ghost use Rattle.flat_routes.specs.Images.{AreSpansInside, answer_of, span_plan, start_from, start_of, start_size, width};
+ghost use Rattle.flat_routes.specs.Images.{AreSpansInside, answer_of, span_plan, start_from, begin_of, start_size, width};
 
 use crate::head::{CellPlan, SpanPlan, start_size};
 use image_parts::{u32_at, u64_at, u128_at};
@@ -29,7 +29,7 @@ pub(crate) fn start_from(image: &[u8], wide: bool, is_half: bool, place: usize) 
 pub(crate) fn start_at(image: &[u8], wide: bool, spans: SpanPlan, at: usize) -> u128
     requires inside { AreSpansInside wide image.now spans }
     requires within { at < spans.count }
-    ensures value { result ≡ start_of wide spans image.now at }
+    ensures value { result ≡ begin_of wide spans image.now at }
     ensures fits { result < 2 ^ width wide }
 {
     let size = start_size(wide, spans.is_half) + 4;

@@ -2,7 +2,7 @@
 ghost use Rattle.std.specs.Prelude.{◌≡◌, ◌+◌, ◌-◌, ◌^◌, ◌<◌, ◌≤◌, ℕ, MatchOption, None, Option, Some, length, slice_index};
 ghost use Rattle.radix_keys.specs.Networks.{IsBase};
 ghost use Rattle.frozen_routes.specs.Routes.{AreUpTo, IsLastHolder};
-ghost use Rattle.flat_routes.specs.Images.{AreLinkedTo, HasNoTurn, IsBegun, IsRowPlan, IsTurn, bases, end_of, links, sizes, width};
+ghost use Rattle.flat_routes.specs.Images.{AreLinkedTo, HasNoTurn, IsKnownAt, IsRowPlan, IsTurn, bases, end_of, links, sizes, width};
 ghost use Rattle.flat_routes.specs.SpanLaws.{IsEnd, earlier};
 
 use crate::head::RowPlan;
@@ -64,7 +64,7 @@ pub(crate) fn begun_at(
         → ((k : ℕ) → k < before.count → slice_index (bases wide image.now) k ≤ a)
         → IsLastHolder (width wide) (bases wide image.now) (sizes wide image.now) before.count a
         before.around
-        → IsBegun (width wide) (bases wide image.now) (sizes wide image.now) number result }
+        → IsKnownAt (width wide) (bases wide image.now) (sizes wide image.now) number result }
 {
     let count = count_up_to(image, wide, plan, before.count, number);
     let around = follow_on(image, wide, plan, count, before, number);
@@ -128,7 +128,7 @@ pub(crate) fn turn(image: &[u8], wide: bool, plan: RowPlan, begun: Begun) -> Opt
     requires within { begun.count ≤ plan.rows }
     requires around { begun.around ≤ begun.count }
     ensures turn { (a : ℕ)
-        → IsBegun (width wide) (bases wide image.now) (sizes wide image.now) a begun
+        → IsKnownAt (width wide) (bases wide image.now) (sizes wide image.now) a begun
         → MatchOption result
         (HasNoTurn (width wide) (bases wide image.now) (sizes wide image.now) a begun.around)
         (IsTurn (width wide) (bases wide image.now) (sizes wide image.now) a begun.around) }

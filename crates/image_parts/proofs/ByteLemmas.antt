@@ -170,13 +170,6 @@ listed_all f xs n many stored =
     let inside : k < n = omega (arith, l, length-listed f n) in
     sym (unwrap_or-slice_get (listed f n) k d) ∙ ap (λ o. unwrap_or o d) (listed_at f n k inside ∙ sym (stored k inside)) ∙ unwrap_or-slice_get xs k d)
 
--- an item of a list is a value at an index that it has
-pub listed_is : {X : Type 0} (f : ℕ → X) (n i : ℕ) (x : X) → slice_get (listed f n) i ≡ Some x → (i < n) × (f i ≡ x)
-listed_is f n i x at = elim (cases_lt i n) [
-  | inl lt ↦ (lt, let own = listed_at f n i lt in cc (own, at))
-  | inr ge ↦ absurd (past (listed f n) i x (omega (arith, ge, length-listed f n)) at)
-]
-
 -- the first ones are fewer that are listed
 pub take_listed : {X : Type 0} (f : ℕ → X) (m n : ℕ) → m ≤ n → take m (listed f n) ≡ listed f m
 unfolding listed

@@ -14,7 +14,8 @@ pub enum ImageError {
     Part(usize),
     /// The row at this index is none, doesn't come after the row before it, or has another link.
     Row(usize),
-    /// The span at this index doesn't begin behind the one before it, or has another answer.
+    /// The first span doesn't begin at 0, or the span at this index doesn't begin before the next
+    /// one, or has another answer than some of its addresses.
     Span(usize),
     /// The cell at this index counts wrongly, or leads to another span.
     Cell(usize),

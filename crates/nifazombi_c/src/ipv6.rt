@@ -180,9 +180,9 @@ pub extern "C" fn nifazombi_ipv6_image_len(rows: usize, payload: usize) -> usize
 }
 
 /// Writes the image of rows in order, by first address and then by bits, whose links count for
-/// nothing, and of the user's own bytes into `out`. Returns 0, and puts into `at` how many bytes the
-/// image takes; or why it couldn't: one of the numbers above; an index that belongs to it is put
-/// into `at`, and `out` is as before then.
+/// nothing, and of the user's own bytes into `out`. Returns 0, and puts into `at` how many bytes
+/// the image takes; or why it couldn't: one of the numbers above; an index that belongs to it is
+/// put into `at`, and `out` is as before then.
 #[unsafe(no_mangle)]
 pub extern "C" fn nifazombi_ipv6_write(
     rows: &[Row],

@@ -30,7 +30,8 @@ pub const NIFAZOMBI_ERROR_FULL: u32 = 7;
 /// The row at this index isn't valid, or doesn't come after the row before it.
 pub const NIFAZOMBI_ERROR_OUT_OF_ORDER: u32 = 8;
 
-/// The span at this index doesn't begin behind the one before it, or has another answer.
+/// The first span doesn't begin at 0, or the span at this index doesn't begin before the next one,
+/// or has another answer than some of its addresses.
 pub const NIFAZOMBI_ERROR_SPAN: u32 = 9;
 
 /// Some rows that stand one behind the other, or some bytes: the first, and how many there are.

@@ -15,8 +15,8 @@ pub(crate) fn payload(image: &[u8]) -> &[u8] {
     place.and_then(|it| image.get(it)).unwrap_or_default()
 }
 
-/// The image that `write` writes into a buffer of so many bytes, which are none of too many rows: as
-/// many of them as it returns.
+/// The image that `write` writes into a buffer of so many bytes, which are none of too many rows:
+/// as many of them as it returns.
 pub(crate) fn written(
     len: Option<usize>,
     write: impl FnOnce(&mut [u8]) -> Result<usize, image_parts::WriteError>,

@@ -154,6 +154,21 @@ macro_rules! family {
 family!(narrow, ipv4, u32, 32, u32, |first: u32| first, |first: u32| first);
 family!(wide, ipv6, u128, 128, u64, u128::to_be_bytes, u128::from_be_bytes);
 
+#[test]
+fn ipv4_merge_refuses_a_short_buffer_and_changes_out_of_order() {
+    let row = |first, value| ipv4::Row { first, bits: 8, link: 0, value };
+    let change = |first, value| ipv4::Change { row: row(first, value), is_removed: false };
+    let mut image = [0; 200];
+    let len = ipv4::write(&[row(0x0a00_0000, 7)], b"", &mut image).unwrap();
+    let changes = [change(0x0b00_0000, 8), change(0x0a00_0000, 9)];
+    let most = ipv4::merge_len(&image[..len], 2, 0).unwrap();
+    let mut out = vec![7; most];
+    let short = ipv4::merge(&image[..len], &changes, b"", &mut out[1..]);
+    assert_eq!(short, Err(WriteError::Short));
+    let refused = ipv4::merge(&image[..len], &changes, b"", &mut out);
+    assert_eq!((refused, out), (Err(WriteError::OutOfOrder(1)), vec![7; most]));
+}
+
 /// The least time of some calls.
 fn least(mut call: impl FnMut() -> usize) -> Duration {
     let time = |_| {

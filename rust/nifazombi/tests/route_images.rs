@@ -391,7 +391,7 @@ fn write_makes_cells_for_many_rows() {
     let len = ipv4::write(&rows, b"end", &mut out).unwrap();
     assert!(ipv4::is_image(&out) && out[..len].ends_with(b"end"));
     assert_eq!(payload(&out), Some((len - 3, 3)));
-    // A span for each row and one behind, and cells of 2^8 addresses: as few bits as 10 leave of 18.
+    // A span for each row and one behind, and cells of 2^8 addresses: what 10 bits leave of 18.
     assert_eq!(len, 112 + 16 * 600 + 8 * 601 + 4 * 601 + 3);
     for at in 0..600 {
         assert_eq!(ipv4::longest_match(&out, (at << 8) + 255), Some(at as usize));

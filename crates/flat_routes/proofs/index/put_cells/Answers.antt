@@ -2,7 +2,7 @@ use Rattle.std.proofs.Common.{◌≡◌, ℕ, ◌+◌, ◌-◌, ◌*◌, ◌%◌
 use Rattle.std.proofs.lemmas.Bool.{cases_lt}
 use Rattle.std.proofs.lemmas.Nat.{mul-le, shl_whole}
 use Rattle.image_parts.specs.Parts.{u32_in}
-use Rattle.flat_routes.specs.Images.{IsSpanOf, start_of, start_size}
+use Rattle.flat_routes.specs.Images.{IsSpanOf, begin_of, start_size}
 use Rattle.flat_routes.specs.Written.{ChangesWithin}
 use Rattle.flat_routes.proofs.IndexLemmas.{place_next, place_up, span_there, start_kept}
 use Rattle.flat_routes.proofs.WriteLemmas.{change_through, u32_stays}
@@ -36,19 +36,19 @@ loop-at-preserved c =
     let same = λ (i : ℕ) (l : i < spans.count). start_kept wide spans.is_half old out spans.at cells.at (spans.at + s * i) (λ k _ m. so_far.before k m) (omega arith)
     (omega (arith, place_next s i, place_up s (i + 1) spans.count (omega (arith, l)), c.requires.at)) in
     let whole = ap (λ n. cells.low + at * n) (shl_whole 1 1 e 128 (omega arith) (omega (arith, c.requires.rest)) ∙ one-mul (2 ^ e)) in
-    let found = subst (λ a. IsSpanOf (start_of wide spans out) spans.count a c.span_from-span.result) whole c.span_from-span.ensures in
-    let here = span_there (start_of wide spans out) (start_of wide spans old) spans.count (cells.low + at * 2 ^ e) c.span_from-span.result (λ i l. sym (same i l)) found in
+    let found = subst (λ a. IsSpanOf (begin_of wide spans out) spans.count a c.span_from-span.result) whole c.span_from-span.ensures in
+    let here = span_there (begin_of wide spans out) (begin_of wide spans old) spans.count (cells.low + at * 2 ^ e) c.span_from-span.result (λ i l. sym (same i l)) found in
     let back : at ≡ at + 1 - 1 = omega arith in
     record {
       change = change_through cells.at (cells.at + 4 * cells.count) _ _ cells.at (cells.at + 4 * cells.count) old out new so_far put (omega arith) (omega arith) (omega arith) (omega (arith, c.loop-at-test.true));
       within = here.within;
       before = (let from = here.from in let number = ap (λ n. n * 2 ^ e) back in omega (arith, from, number));
       cells = λ t l. elim (cases_lt t at) [
-        | inl lt ↦ subst (IsSpanOf (start_of wide spans old) spans.count (cells.low + t * 2 ^ e))
+        | inl lt ↦ subst (IsSpanOf (begin_of wide spans old) spans.count (cells.low + t * 2 ^ e))
             (sym (u32_stays out new cells.at (cells.at + 4 * at) (λ k _ m. put.before k m) (cells.at + 4 * t) (omega arith) (omega (arith, lt)))) (c.loop-at.invariant.cells t lt)
         | inr ge ↦
             let is : at ≡ t = omega (arith, l, ge) in
-            subst (λ u. IsSpanOf (start_of wide spans old) spans.count (cells.low + u * 2 ^ e) (u32_in new (cells.at + 4 * u))) is
-            (subst (IsSpanOf (start_of wide spans old) spans.count (cells.low + at * 2 ^ e)) (sym c.put_u32.ensures.number) here)
+            subst (λ u. IsSpanOf (begin_of wide spans old) spans.count (cells.low + u * 2 ^ e) (u32_in new (cells.at + 4 * u))) is
+            (subst (IsSpanOf (begin_of wide spans old) spans.count (cells.low + at * 2 ^ e)) (sym c.put_u32.ensures.number) here)
       ];
     }

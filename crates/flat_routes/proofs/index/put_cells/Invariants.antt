@@ -1,6 +1,6 @@
 use Rattle.std.proofs.Common.{◌≡◌, ℕ, ◌+◌, ◌-◌, ◌*◌, ◌^◌, ◌<◌, ◌≤◌}
 use Rattle.image_parts.specs.Parts.{u32_in}
-use Rattle.flat_routes.specs.Images.{AreCells, start_of}
+use Rattle.flat_routes.specs.Images.{AreCells, begin_of}
 use Rattle.flat_routes.specs.Written.{ChangesWithin}
 use Rattle.flat_routes.proofs.index.put_cells.Given as goal
 
@@ -8,6 +8,6 @@ abbrev pub invariant-loop-at : goal.invariant-loop-at
 invariant-loop-at l = record {
   change : ChangesWithin l.cells.at (l.cells.at + 4 * l.cells.count) l.fn.out l.out;
   within : l.span < l.spans.count;
-  before : start_of l.wide l.spans l.fn.out l.span ≤ l.cells.low + (l.at - 1) * 2 ^ l.cells.rest;
-  cells : AreCells (start_of l.wide l.spans l.fn.out) l.spans.count l.cells.low l.cells.rest (λ t. u32_in l.out (l.cells.at + 4 * t)) l.at;
+  before : begin_of l.wide l.spans l.fn.out l.span ≤ l.cells.low + (l.at - 1) * 2 ^ l.cells.rest;
+  cells : AreCells (begin_of l.wide l.spans l.fn.out) l.spans.count l.cells.low l.cells.rest (λ t. u32_in l.out (l.cells.at + 4 * t)) l.at;
 }

@@ -4,7 +4,7 @@ use Rattle.std.proofs.lemmas.Nat.{mul-le}
 use Rattle.std.proofs.Math.Seq.{take-length}
 use Rattle.radix_keys.specs.Networks.{Net}
 use Rattle.frozen_routes.specs.Routes.{base_numbers}
-use Rattle.flat_routes.specs.Images.{answer_of, bases, sizes, start_of, start_size, width}
+use Rattle.flat_routes.specs.Images.{answer_of, bases, sizes, begin_of, start_size, width}
 use Rattle.flat_routes.specs.Written.{ChangesWithin, most_span}
 use Rattle.flat_routes.proofs.IndexLemmas.{image_of_all, rows_before, span_most, spans_start}
 use Rattle.flat_routes.proofs.WriteLemmas.{plan_kept}
@@ -21,7 +21,7 @@ put_cells-requires-clause-starts c =
     let wide = c.args.wide in
     let spans = c.put_spans-spans.result in
     let out = c.put_spans-spans.new.out in
-    spans_start (width wide) (bases wide c.args.out.now) (sizes wide c.args.out.now) (start_of wide spans out) (answer_of wide spans out) spans.count c.put_spans-spans.ensures.spans
+    spans_start (width wide) (bases wide c.args.out.now) (sizes wide c.args.out.now) (begin_of wide spans out) (answer_of wide spans out) spans.count c.put_spans-spans.ensures.spans
 
 pub returns-clause-written : goal.returns-clause-written
 returns-clause-written c =

@@ -3,7 +3,7 @@ use Rattle.std.proofs.lemmas.Nat.{mul-le}
 use Rattle.radix_keys.specs.Networks.{Net}
 use Rattle.image_parts.specs.Parts.{u32_in}
 use Rattle.frozen_routes.specs.Routes.{AreRising, base_numbers, bit_counts}
-use Rattle.flat_routes.specs.Images.{HasNoTurn, IsBegun, IsEdge, IsTurn, bases, image_rows, sizes, start_from, start_size, width}
+use Rattle.flat_routes.specs.Images.{HasNoTurn, IsKnownAt, IsEdge, IsTurn, bases, image_rows, sizes, start_from, start_size, width}
 use Rattle.flat_routes.specs.Written.{ChangesWithin, most_span}
 use Rattle.flat_routes.proofs.ImageLemmas.{all_rise, length-firsts}
 use Rattle.flat_routes.proofs.IndexLemmas.{begun_there, next_start, one_last_put, one_more_put, place_next, place_up, rows_before, span_most}
@@ -70,7 +70,7 @@ returns-in_default-clause-spans c =
     let known = begun_there wide old out c.loop-span.begun begun start same_out c.begun_at-begun.ensures.begun c.loop-span.invariant.known in
     let n = c.loop-span.span in
     let place = ap (λ k. at + (k + 4) * n + k) c.start_size-size.ensures.value in
-    let none = turn_there (image_rows wide old) (image_rows wide mid) same_mid (λ rs. IsBegun w (base_numbers (λ n. n) rs) (bit_counts rs) start begun)
+    let none = turn_there (image_rows wide old) (image_rows wide mid) same_mid (λ rs. IsKnownAt w (base_numbers (λ n. n) rs) (bit_counts rs) start begun)
     (λ rs. HasNoTurn w (base_numbers (λ n. n) rs) (bit_counts rs) start begun.around) (c.in_default.ensures.turn start) known in
     one_last_put wide c.args.is_half (bases wide old) (sizes wide old) at n begun.around start out mid (λ k l. put.before k (omega (arith, l, place))) c.loop-span.invariant.put
     c.loop-span.invariant.start (ap (u32_in mid) (sym place) ∙ put.number) none
@@ -93,7 +93,7 @@ put_start-requires-in-loop-span-clause-room c =
     let same_mid = rows_before wide old mid plan at c.requires.place end (λ k l. put.before k (omega (arith, l)) ∙ change.before k l)
     (omega (arith, c.requires.plan.inside, change.same_length, put.length)) c.requires.plan in
     let known = begun_there wide old out c.loop-span.begun begun start same_out c.begun_at-begun.ensures.begun c.loop-span.invariant.known in
-    let turn = turn_there (image_rows wide old) (image_rows wide mid) same_mid (λ rs. IsBegun w (base_numbers (λ n. n) rs) (bit_counts rs) start begun)
+    let turn = turn_there (image_rows wide old) (image_rows wide mid) same_mid (λ rs. IsKnownAt w (base_numbers (λ n. n) rs) (bit_counts rs) start begun)
     (λ rs. IsTurn w (base_numbers (λ n. n) rs) (bit_counts rs) start begun.around c.in-Some.next) (c.in-Some.ensures.turn start) known in
     let n = c.loop-span.span in
     let s = start_size wide c.args.is_half + 4 in
@@ -121,7 +121,7 @@ put_start-requires-in-loop-span-clause-fits c =
     let same_mid = rows_before wide old mid plan at c.requires.place end (λ k l. put.before k (omega (arith, l)) ∙ change.before k l)
     (omega (arith, c.requires.plan.inside, change.same_length, put.length)) c.requires.plan in
     let known = begun_there wide old out c.loop-span.begun begun start same_out c.begun_at-begun.ensures.begun c.loop-span.invariant.known in
-    let turn = turn_there (image_rows wide old) (image_rows wide mid) same_mid (λ rs. IsBegun w (base_numbers (λ n. n) rs) (bit_counts rs) start begun)
+    let turn = turn_there (image_rows wide old) (image_rows wide mid) same_mid (λ rs. IsKnownAt w (base_numbers (λ n. n) rs) (bit_counts rs) start begun)
     (λ rs. IsTurn w (base_numbers (λ n. n) rs) (bit_counts rs) start begun.around c.in-Some.next) (c.in-Some.ensures.turn start) known in
     turn.inside
 
@@ -143,7 +143,7 @@ put_start-requires-in-loop-span-clause-half c = λ is_half.
     let same_mid = rows_before wide old mid plan at c.requires.place end (λ k l. put.before k (omega (arith, l)) ∙ change.before k l)
     (omega (arith, c.requires.plan.inside, change.same_length, put.length)) c.requires.plan in
     let known = begun_there wide old out c.loop-span.begun begun start same_out c.begun_at-begun.ensures.begun c.loop-span.invariant.known in
-    let turn = turn_there (image_rows wide old) (image_rows wide mid) same_mid (λ rs. IsBegun w (base_numbers (λ n. n) rs) (bit_counts rs) start begun)
+    let turn = turn_there (image_rows wide old) (image_rows wide mid) same_mid (λ rs. IsKnownAt w (base_numbers (λ n. n) rs) (bit_counts rs) start begun)
     (λ rs. IsTurn w (base_numbers (λ n. n) rs) (bit_counts rs) start begun.around c.in-Some.next) (c.in-Some.ensures.turn start) known in
     let may = c.requires.half is_half in
     let bits = ap width may.0 in
@@ -171,7 +171,7 @@ loop-span-preserved c =
     let same_mid = rows_before wide old mid plan at c.requires.place end (λ k l. put.before k (omega (arith, l)) ∙ change.before k l)
     (omega (arith, c.requires.plan.inside, change.same_length, put.length)) c.requires.plan in
     let known = begun_there wide old out c.loop-span.begun begun start same_out c.begun_at-begun.ensures.begun c.loop-span.invariant.known in
-    let turn = turn_there (image_rows wide old) (image_rows wide mid) same_mid (λ rs. IsBegun w (base_numbers (λ n. n) rs) (bit_counts rs) start begun)
+    let turn = turn_there (image_rows wide old) (image_rows wide mid) same_mid (λ rs. IsKnownAt w (base_numbers (λ n. n) rs) (bit_counts rs) start begun)
     (λ rs. IsTurn w (base_numbers (λ n. n) rs) (bit_counts rs) start begun.around c.in-Some.next) (c.in-Some.ensures.turn start) known in
     let half = c.args.is_half in
     let n = c.loop-span.span in

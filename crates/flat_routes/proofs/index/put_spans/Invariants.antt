@@ -1,6 +1,6 @@
 use Rattle.std.proofs.Common.{◌≡◌, ℕ, ◌+◌, ◌*◌, ◌%◌, ◌^◌, ◌<◌, ◌≤◌, true, get_or}
 use Rattle.frozen_routes.specs.Routes.{IsLastHolder}
-use Rattle.flat_routes.specs.Images.{answer_of, bases, sizes, start_of, start_size, width}
+use Rattle.flat_routes.specs.Images.{answer_of, bases, sizes, begin_of, start_size, width}
 use Rattle.flat_routes.specs.Written.{ChangesWithin}
 use Rattle.flat_routes.proofs.IndexLemmas.{ArePut, spans_at}
 use Rattle.flat_routes.proofs.SpanLemmas.{edges}
@@ -14,8 +14,8 @@ invariant-loop-span l =
     let bs = sizes l.wide l.fn.out in
     record {
       change : ChangesWithin l.at (l.at + (start_size l.wide l.is_half + 4) * l.span + start_size l.wide l.is_half) l.fn.out l.out;
-      start : start_of l.wide spans l.out l.span ≡ l.start;
-      put : ArePut w fs bs (start_of l.wide spans l.out) (answer_of l.wide spans l.out) l.span;
+      start : begin_of l.wide spans l.out l.span ≡ l.start;
+      put : ArePut w fs bs (begin_of l.wide spans l.out) (answer_of l.wide spans l.out) l.span;
       count : l.begun.count ≤ l.plan.rows;
       around : l.begun.around ≤ l.begun.count;
       known : (a : ℕ) × (a ≤ l.start) × ((k : ℕ) → k < l.begun.count → get_or fs k 0 ≤ a) × IsLastHolder w fs bs l.begun.count a l.begun.around;

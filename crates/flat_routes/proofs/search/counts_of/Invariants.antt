@@ -1,12 +1,12 @@
 use Rattle.std.proofs.Common.{◌≡◌, ℕ, ◌/◌, ◌<◌, ◌≤◌, length, get_or}
 use Rattle.flat_routes.specs.Images.{IsImage, start_in}
-use Rattle.flat_routes.specs.SpanLaws.{IsCounted, IsCountedBy}
+use Rattle.flat_routes.specs.SpanLaws.{AreCounted, IsCountedBy}
 use Rattle.flat_routes.proofs.search.counts_of.Given as goal
 
 abbrev pub invariant-loop-left : goal.invariant-loop-left
 invariant-loop-left l = record {
   long : length l.from ≡ 8;
-  counted : IsCounted (start_in l.wide l.image) (IsImage l.wide l.image) l.plan.spans.count l.numbers l.from l.left;
+  counted : AreCounted (start_in l.wide l.image) (IsImage l.wide l.image) l.plan.spans.count l.numbers l.from l.left;
 }
 
 abbrev pub decreases-loop-left : goal.decreases-loop-left

@@ -32,9 +32,10 @@ impl Error for ImageError {}
 pub enum WriteError {
     /// There are 2^32 rows or more, or so many bytes of keys.
     Full,
-    /// The row at this index is of no network, or doesn't come after the one before it.
+    /// The row or change at this index is of no network, or doesn't come after the one before it.
     OutOfOrder(usize),
-    /// The value of the row at this index is too large: those of IPv4 networks are below 2^32.
+    /// The value of the row or change at this index is too large: those of IPv4 networks are below
+    /// 2^32.
     Value(usize),
 }
 

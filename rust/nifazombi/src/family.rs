@@ -2,7 +2,7 @@
 
 use crate::flat_routes::{ipv4, ipv6};
 use crate::image::{range, written};
-use crate::{ImageError, Route, WriteError};
+use crate::{Change, ImageError, Route, WriteError};
 use std::fmt::{Debug, Display};
 use std::net::{Ipv4Addr, Ipv6Addr};
 use std::ops::Range;
@@ -20,6 +20,8 @@ pub trait Family: Sized {
     fn below(image: &[u8], network: Self, bits: u8) -> Range<usize>;
     fn above(image: &[u8], at: usize) -> Option<usize>;
     fn write(routes: &[Route<Self>], payload: &[u8]) -> Result<Vec<u8>, WriteError>;
+    fn merge(image: &[u8], changes: &[Change<Self>], payload: &[u8])
+    -> Result<Vec<u8>, WriteError>;
 }
 
 /// Has a type of addresses call a module, whose rows have them by their call `$first`.
@@ -68,18 +70,38 @@ macro_rules! family {
             }
 
             fn write(routes: &[Route<$address>], payload: &[u8]) -> Result<Vec<u8>, WriteError> {
-                let row = |(at, route): (usize, &Route<$address>)| {
-                    Ok($module::Row {
-                        first: route.network.$first(),
-                        bits: route.bits.into(),
-                        link: 0,
-                        value: route.value.try_into().map_err(|_| WriteError::Value(at))?,
-                    })
-                };
-                let rows = routes.iter().enumerate().map(row);
+                let rows = routes.iter().enumerate().map(|(at, route)| route.row(at));
                 let rows = rows.collect::<Result<Vec<_>, WriteError>>()?;
                 let len = $module::image_len(rows.len(), payload.len());
                 written(len, |out| $module::write(&rows, payload, out))
+            }
+
+            fn merge(
+                image: &[u8],
+                changes: &[Change<$address>],
+                payload: &[u8],
+            ) -> Result<Vec<u8>, WriteError> {
+                let change = |(at, change): (usize, &Change<$address>)| {
+                    let value = change.value.unwrap_or(0);
+                    let row = Route::new(change.network, change.bits, value).row(at)?;
+                    Ok($module::Change { row, is_removed: change.value.is_none() })
+                };
+                let changes = changes.iter().enumerate().map(change);
+                let changes = changes.collect::<Result<Vec<_>, WriteError>>()?;
+                let len = $module::merge_len(image, changes.len(), payload.len());
+                written(len, |out| $module::merge(image, &changes, payload, out))
+            }
+        }
+
+        impl Route<$address> {
+            /// The row of a route, which is at an index of a list.
+            fn row(&self, at: usize) -> Result<$module::Row, WriteError> {
+                Ok($module::Row {
+                    first: self.network.$first(),
+                    bits: self.bits.into(),
+                    link: 0,
+                    value: self.value.try_into().map_err(|_| WriteError::Value(at))?,
+                })
             }
         }
     };

@@ -17,7 +17,7 @@ mod texts;
 
 pub use error::{ImageError, WriteError};
 pub use family::Address;
-pub use routes::{CommonPrefixes, Route, Routes, Rows, routes_image};
+pub use routes::{Change, CommonPrefixes, Route, Routes, Rows, routes_image};
 pub use texts::{Pairs, Prefixes, Texts, texts_image};
 
 include!(concat!(env!("OUT_DIR"), "/modules.rs"));

@@ -38,6 +38,18 @@ impl<A: fmt::Display> fmt::Display for Route<A> {
     }
 }
 
+/// A change of a table: the value that a network has from then on, or none. Changes are ordered as
+/// routes are.
+#[derive(Clone, Copy, Debug, PartialEq, Eq, PartialOrd, Ord, Hash)]
+pub struct Change<A> {
+    /// The network's first address.
+    pub network: A,
+    /// How many first bits its addresses share.
+    pub bits: u8,
+    /// The network's value from then on, or `None` where its route goes, if it has one.
+    pub value: Option<u64>,
+}
+
 /// A routing table in an image, searched in place. `A` is `Ipv4Addr` or `Ipv6Addr`.
 ///
 /// ```
@@ -166,6 +178,31 @@ impl<'a, A: Address> Routes<'a, A> {
     /// All routes, in order.
     pub fn iter(&self) -> Rows<'a, A> {
         Rows { routes: *self, rest: 0..self.len() }
+    }
+
+    /// The image of the table after changes in order, no two of one network, with bytes of the
+    /// user's own in place of those that it has. It takes the time of `routes_image`.
+    ///
+    /// # Errors
+    ///
+    /// A change is of no network or out of order, a value of an IPv4 network is too large, or there
+    /// may be 2^32 routes or more: as many as routes and changes together.
+    ///
+    /// ```
+    /// # use nifazombi::{Change, Route, Routes, routes_image};
+    /// # use std::net::Ipv4Addr;
+    /// let [wide, long] = [8, 16].map(|bits| Route::new(Ipv4Addr::new(10, 0, 0, 0), bits, 1));
+    /// let image = routes_image(&[wide, long], b"")?;
+    /// let changes = [
+    ///     Change { network: wide.network, bits: 8, value: None },
+    ///     Change { network: wide.network, bits: 24, value: Some(2) },
+    /// ];
+    /// let image = Routes::new(&image)?.merge(&changes, b"")?;
+    /// assert!(Routes::new(&image)?.iter().eq([long, Route::new(wide.network, 24, 2)]));
+    /// # Ok::<(), Box<dyn std::error::Error>>(())
+    /// ```
+    pub fn merge(&self, changes: &[Change<A>], payload: &[u8]) -> Result<Vec<u8>, WriteError> {
+        A::merge(self.image, changes, payload)
     }
 
     /// The user's own bytes in the image: those that were passed to [`routes_image`]. In bytes that

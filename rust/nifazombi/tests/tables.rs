@@ -2,7 +2,7 @@
 mod common;
 
 use common::{Random, assert_both_ends, assert_kept, flipped, image, image_of_many_parts, spoilt};
-use nifazombi::{Address, ImageError, Route, Routes, WriteError, routes_image};
+use nifazombi::{Address, Change, ImageError, Route, Routes, WriteError, routes_image};
 use std::net::{Ipv4Addr, Ipv6Addr};
 
 /// 10.0.0.0/8, 10.1.0.0/16 and 192.0.2.0/24: each by its first address, its bits, the index and one
@@ -443,4 +443,41 @@ fn routes_image_refuses_what_is_no_table() {
     assert_eq!(refused(&[wide, route("10.0.0.0", 9, 1 << 32)]), Some(Value(1)));
     let far = Route::new(Ipv6Addr::UNSPECIFIED, 129, u64::MAX);
     assert_eq!(routes_image(&[far], b"").err(), Some(OutOfOrder(0)));
+}
+
+#[test]
+fn merge_inserts_replaces_and_removes() {
+    let change = |route: Route<Ipv4Addr>, value| Change { value, ..at(route) };
+    let [wide, long, last] =
+        [("10.0.0.0", 8), ("10.0.0.0", 16), ("10.1.0.0", 16)].map(|(it, bits)| route(it, bits, 1));
+    let image = routes_image(&[wide, long], b"old").unwrap();
+    let changes = [change(wide, None), change(long, Some(2)), change(last, Some(3))];
+    let merged = Routes::new(&image).unwrap().merge(&changes, b"new").unwrap();
+    let table = [Route { value: 2, ..long }, Route { value: 3, ..last }];
+    assert_eq!(merged, routes_image(&table, b"new").unwrap());
+    let none = Routes::unchecked(b"no image").merge(&changes, b"new");
+    assert_eq!(none, Ok(merged));
+
+    let all = Change { network: Ipv6Addr::UNSPECIFIED, bits: 0, value: Some(u64::MAX) };
+    let image = Routes::unchecked(b"").merge(&[all], b"").unwrap();
+    assert!(Routes::new(&image).unwrap().iter().eq([Route::new(all.network, 0, u64::MAX)]));
+}
+
+#[test]
+fn merge_refuses_what_are_no_changes() {
+    use WriteError::*;
+    let (wide, long) = (at(route("10.0.0.0", 8, 0)), at(route("10.0.0.0", 16, 0)));
+    let image = routes_image::<Ipv4Addr>(&[], b"").unwrap();
+    let refused = |changes: &[_]| Routes::new(&image).unwrap().merge(changes, b"").err();
+    assert_eq!(refused(&[]), None);
+    assert_eq!(refused(&[wide, long]), None);
+    assert_eq!(refused(&[long, wide]), Some(OutOfOrder(1)));
+    assert_eq!(refused(&[wide, wide]), Some(OutOfOrder(1)));
+    assert_eq!(refused(&[Change { bits: 33, ..wide }]), Some(OutOfOrder(0)));
+    assert_eq!(refused(&[wide, Change { value: Some(1 << 32), ..long }]), Some(Value(1)));
+}
+
+/// The change that removes a route.
+fn at(route: Route<Ipv4Addr>) -> Change<Ipv4Addr> {
+    Change { network: route.network, bits: route.bits, value: None }
 }

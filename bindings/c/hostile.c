@@ -70,7 +70,10 @@ static void ask4(const uint8_t *image, size_t len, bool is_searched) {
     need(!nifazombi_ipv4_above(image, len, SIZE_MAX), "a row is around one past the end");
     need(wrong || !nifazombi_ipv4_above(image, len, count), "a row is around the one behind the last");
     size_t looked = nifazombi_ipv4_longest_matches(image, len, asked, ASKED, found, ASKED);
-    for (size_t i = 0; i < looked; i++) need(found[i] == nifazombi_ipv4_longest_match(image, len, asked[i]), "many aren't one by one");
+    for (size_t i = 0; i < looked; i++) {
+        need(found[i] <= count, "an index of many that isn't there");
+        need(wrong || found[i] == nifazombi_ipv4_longest_match(image, len, asked[i]), "many aren't one by one");
+    }
     add(looked);
     uint32_t again[ASKED];
     uint32_t values[ASKED];
@@ -121,7 +124,10 @@ static void ask6(const uint8_t *image, size_t len, bool is_searched) {
     need(!nifazombi_ipv6_above(image, len, SIZE_MAX), "a row is around one past the end");
     need(wrong || !nifazombi_ipv6_above(image, len, count), "a row is around the one behind the last");
     size_t looked = nifazombi_ipv6_longest_matches(image, len, asked, ASKED, found, ASKED);
-    for (size_t i = 0; i < looked; i++) need(found[i] == nifazombi_ipv6_longest_match(image, len, asked[i]), "many aren't one by one");
+    for (size_t i = 0; i < looked; i++) {
+        need(found[i] <= count, "an index of many that isn't there");
+        need(wrong || found[i] == nifazombi_ipv6_longest_match(image, len, asked[i]), "many aren't one by one");
+    }
     add(looked);
     uint32_t again[ASKED];
     uint64_t values[ASKED];

@@ -46,7 +46,7 @@ def cells_of(networks, starts):
     cells."""
     if not 256 <= len(networks) < 2**31:
         return 0, b""
-    bits, low = min(max(len(networks).bit_length(), 9), 21), int(networks[0].network_address)
+    bits, low = min(len(networks).bit_length() - 2, 21), int(networks[0].network_address)
     reach = max(0, starts[-1] - low)
     rest = max(0, reach.bit_length() - bits)
     places = range(low, low + min((reach >> rest) + 1, 2**bits) * 2**rest, 2**rest)

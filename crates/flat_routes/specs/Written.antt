@@ -11,10 +11,10 @@ use Rattle.flat_routes.specs.declared.head.RowPlan.{RowPlan}
 use Rattle.flat_routes.specs.declared.head.SpanPlan.{SpanPlan}
 use Rattle.flat_routes.specs.Images.{IsImage, image_rows, link_in, mark, network, row_in, row_size, start_size, width}
 
--- of how many blocks the cells of so many rows are at most, as a power of two: as many as the count has binary digits, but
--- at least 9 and at most 21
+-- of how many blocks the cells of so many rows are at most, as a power of two: two less than the count has binary digits, but
+-- at least 7 and at most 21
 unfoldable pub cell_bits : ℕ → ℕ
-cell_bits n = max 9 (min (64 - leading_zeros w64 n) 21)
+cell_bits n = max 7 (min (64 - leading_zeros w64 n - 2) 21)
 
 -- how many cells an image of so many rows has at most
 abbrev pub most_cells : ℕ → ℕ

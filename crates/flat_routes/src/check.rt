@@ -39,7 +39,7 @@ pub(crate) fn is_earlier(first: u128, bits: u32, next_first: u128, next_bits: u3
 }
 
 /// Whether the network at an index is one, and comes after the one before it.
-fn is_next(image: &[u8], wide: bool, plan: RowPlan, at: usize) -> bool
+pub(crate) fn is_next(image: &[u8], wide: bool, plan: RowPlan, at: usize) -> bool
     requires plan { IsRowPlan wide image.now plan }
     requires within { at < plan.rows }
     ensures { IsTrue result

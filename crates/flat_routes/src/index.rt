@@ -1,5 +1,5 @@
 //! The spans and the cells of an image are written, where its rows stand.
-ghost use Rattle.std.specs.Prelude.{◌≡◌, ◌+◌, ◌*◌, ◌%◌, ◌^◌, ◌<◌, ◌≤◌, ℕ, false, true, length, slice_index, take};
+ghost use Rattle.std.specs.Prelude.{◌≡◌, ◌+◌, ◌*◌, ◌%◌, ◌^◌, ◌<◌, ◌≤◌, ℕ, IsTrue, false, true, length, slice_index, take};
 ghost use Rattle.image_parts.specs.Parts.{u32_in};
 ghost use Rattle.flat_routes.specs.Images.{AreCells, AreLinkedTo, AreSpans, AreSpansInside, IsRowPlan, IsSpanOf, answer_of, bases, image_rows, links, low_of, row_size, sizes, start_from, begin_of, start_size, width};
 ghost use Rattle.flat_routes.specs.SpanLaws.{AreStarts};
@@ -7,10 +7,27 @@ ghost use Rattle.flat_routes.specs.Written.{AreListed, ChangesWithin, IsImageOf,
 
 use crate::head::{CellPlan, RowPlan, SpanPlan, size_of_rows, start_size};
 use crate::layout::{bits_for, most_cells};
-use crate::rows::first_of_all;
+use crate::rows::{bits_at, first_of_all};
 use crate::spans::start_at;
 use crate::turns::{Begun, begun_at, turn};
 use image_parts::{put_bytes, put_part, put_u32, put_u64};
+
+/// Whether all networks are of IPv6 and have at most 64 bits, so that of an address at which one of
+/// them begins or ends the upper half is enough.
+fn are_half(image: &[u8], wide: bool, plan: RowPlan) -> bool
+    requires plan { IsRowPlan wide image.now plan }
+    ensures { IsTrue result → MayBeHalf wide (sizes wide image.now) plan.rows }
+{
+    if !wide {
+        return false;
+    }
+    for at in 0..plan.rows {
+        if bits_at(image, wide, plan, at) > 64 {
+            return false;
+        }
+    }
+    true
+}
 
 /// Puts in the start of a span.
 fn put_start(out: &mut [u8], wide: bool, is_half: bool, place: usize, start: u128)
@@ -167,7 +184,6 @@ pub(crate) fn put_index(
     out: &mut [u8],
     wide: bool,
     plan: RowPlan,
-    is_half: bool,
     payload: &[u8],
 ) -> usize
     requires plan { IsRowPlan wide out.old plan }
@@ -175,7 +191,6 @@ pub(crate) fn put_index(
     requires head { IsRowHead wide out.old plan }
     requires linked { AreLinkedTo (width wide) (bases wide out.old) (sizes wide out.old)
         (links wide out.old) plan.rows }
-    requires half { is_half ≡ true → MayBeHalf wide (sizes wide out.old) plan.rows }
     requires room { image_size wide plan.rows (length payload.now) ≤ length out.old }
     ensures written { IsImageOf wide (image_rows wide out.old) payload.now out.new }
     ensures front { IsImageOf wide (image_rows wide out.old) payload.now (take result out.new) }
@@ -183,6 +198,7 @@ pub(crate) fn put_index(
     ensures most { result ≤ image_size wide plan.rows (length payload.now) }
     ensures change { ChangesWithin 40 result out.old out.new }
 {
+    let is_half = are_half(out, wide, plan);
     let spans = put_spans(out, wide, plan, is_half);
     let cells = cells_for(out, wide, plan, spans);
     put_cells(out, wide, spans, cells);

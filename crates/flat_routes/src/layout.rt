@@ -5,15 +5,17 @@ ghost use Rattle.flat_routes.specs.Written.{cell_bits, image_size, most_cells};
 
 use crate::head::{HEAD, size_of_rows};
 
-/// Of how many blocks the cells of so many rows are at most, as a power of two: as many as the
-/// count has binary digits, but at least 9 and at most 21.
+/// Of how many blocks the cells of so many rows are at most, as a power of two: two less than the
+/// count has binary digits, but at least 7 and at most 21.
 #[tactic(auto, unfolding(crate::specs::Written::cell_bits))]
 pub(crate) fn bits_for(rows: usize) -> u32
     ensures value { result ≡ cell_bits rows }
-    ensures some { 9 ≤ result }
+    ensures some { 7 ≤ result }
     ensures few { result ≤ 21 }
 {
-    (usize::BITS - rows.leading_zeros()).clamp(9, 21)
+    (usize::BITS - rows.leading_zeros())
+        .saturating_sub(2)
+        .clamp(7, 21)
 }
 
 /// How many cells an image of so many rows has at most. Below 256 rows it has none, and none where

@@ -8,7 +8,7 @@ ghost use Rattle.flat_routes.specs.Images.{AreLinkedTo, IsImage, IsNext, IsRowPl
 ghost use Rattle.flat_routes.specs.Merged.{AreMerged, AreRowsAfter, CanMerge, IsMergeFault, gone_at, link_place, merged_size, put_place, put_row_at, row_at};
 ghost use Rattle.flat_routes.specs.Written.{ChangesWithin, IsImageOf, MayBeHalf};
 
-use crate::check::{is_base, is_earlier};
+use crate::check::{is_earlier, is_next};
 use crate::head::{HEAD, RowPlan, row_plan_of, size_of_rows};
 use crate::index::put_index;
 use crate::layout::most_bytes;
@@ -64,25 +64,6 @@ pub(crate) fn merge_len(image: &[u8], wide: bool, changes: usize, payload: usize
         return None;
     };
     most.checked_add(payload)
-}
-
-/// Whether the row at an index is of a network, which comes after the one before it.
-fn is_next(image: &[u8], wide: bool, plan: RowPlan, at: usize) -> bool
-    requires plan { IsRowPlan wide image.now plan }
-    requires within { at < plan.rows }
-    ensures { IsTrue result
-        ↔ IsNext (width wide) (bases wide image.now) (sizes wide image.now) at }
-{
-    let first = first_at(image, wide, plan, at);
-    let bits = bits_at(image, wide, plan, at);
-    if !is_base(wide, bits, first) {
-        return false;
-    }
-    if at == 0 {
-        return true;
-    }
-    let last = first_at(image, wide, plan, at - 1);
-    is_earlier(last, bits_at(image, wide, plan, at - 1), first, bits)
 }
 
 /// How many of the first rows are in order: all of an image.
@@ -247,23 +228,6 @@ fn put_merged<C: FlatChange>(
     count + (rows - at)
 }
 
-/// Whether all networks are of IPv6 and have at most 64 bits, so that of an address at which one of
-/// them begins or ends the upper half is enough.
-fn are_half(image: &[u8], wide: bool, plan: RowPlan) -> bool
-    requires plan { IsRowPlan wide image.now plan }
-    ensures { IsTrue result → MayBeHalf wide (sizes wide image.now) plan.rows }
-{
-    if !wide {
-        return false;
-    }
-    for at in 0..plan.rows {
-        if bits_at(image, wide, plan, at) > 64 {
-            return false;
-        }
-    }
-    true
-}
-
 /// How many bytes of a row are before its link.
 fn link_place(wide: bool) -> usize
     ensures value { result ≡ link_place wide }
@@ -351,8 +315,7 @@ fn merge_rows<C: FlatChange>(
     };
     put_row_head(out, wide, plan);
     put_links(out, wide, plan);
-    let is_half = are_half(out, wide, plan);
-    Ok(put_index(out, wide, plan, is_half, payload))
+    Ok(put_index(out, wide, plan, payload))
 }
 
 /// Writes the image that changes make of an image, with the user's own bytes, into a buffer, and

@@ -12,10 +12,11 @@ use crate::rows::link_at;
 use crate::spans::{Spans, answer_at, cell_at, start_at};
 use crate::turns::Begun;
 use sorted_columns::count_in_front;
+use std::hint::select_unpredictable;
 
 /// Between which counts that of the spans lies that begin by an address: those that begin by the
-/// first address of its block, and by the first one of the next block. Where there is no cell of
-/// the block they are none and all.
+/// first address of its block, and by the first one of the next block. In front of the first block
+/// they are none, and behind the last one all; both where there is no cell.
 #[inline(always)]
 fn block_of(image: &[u8], wide: bool, plan: Plan, number: u128) -> (usize, usize)
     requires plan { IsPlanOf wide image.now plan }
@@ -26,16 +27,20 @@ fn block_of(image: &[u8], wide: bool, plan: Plan, number: u128) -> (usize, usize
     ensures above { IsImage wide image.now → (k : ℕ) → result.1 ≤ k → k < plan.spans.count
         → number < start_in wide image.now k }
 {
-    let spans = plan.spans.count;
-    let Some(behind) = number.checked_sub(plan.cells.low) else {
+    let (spans, cells) = (plan.spans.count, plan.cells);
+    let Some(last) = cells.count.checked_sub(1) else {
         return (0, spans);
     };
-    let block = behind >> plan.cells.rest;
-    if block >= plan.cells.count.saturating_sub(1) as u128 {
-        return (0, spans);
-    }
-    let from = cell_at(image, plan.cells, block as usize) + 1;
-    let to = cell_at(image, plan.cells, block as usize + 1) + 1;
+    let Some(behind) = number.checked_sub(cells.low) else {
+        return (0, spans.min(cell_at(image, cells, 0) + 1));
+    };
+    let block = (behind >> cells.rest).min(last as u128) as usize;
+    let from = cell_at(image, cells, block) + 1;
+    let to = if block == last {
+        spans
+    } else {
+        cell_at(image, cells, block + 1) + 1
+    };
     if from > to || to > spans {
         return (0, spans);
     }
@@ -139,10 +144,8 @@ fn halved(image: &[u8], wide: bool, plan: Plan, number: u128, from: usize, left:
         result (left / 2) }
 {
     let half = left - left / 2;
-    if start_at(image, wide, plan.spans, from + half - 1) <= number {
-        return from + half;
-    }
-    from
+    let is_front = start_at(image, wide, plan.spans, from + half - 1) <= number;
+    select_unpredictable(is_front, from + half, from)
 }
 
 /// How many spans begin by each of eight addresses, whose searches go side by side.

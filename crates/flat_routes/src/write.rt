@@ -72,23 +72,6 @@ pub(crate) fn unsorted<R: FlatRow>(rows: &[R]) -> Option<usize>
     None
 }
 
-/// Whether all networks are of IPv6 and have at most 64 bits, so that of an address at which one of
-/// them begins or ends the upper half is enough.
-fn are_half<R: FlatRow>(rows: &[R]) -> bool
-    ensures { IsTrue result → MayBeHalf R.WIDE (bit_counts (each R.shown rows.now))
-        (length rows.now) }
-{
-    if !R::WIDE {
-        return false;
-    }
-    for at in 0..rows.len() {
-        if rows[at].bits() > 64 {
-            return false;
-        }
-    }
-    true
-}
-
 /// Puts in the head up to the part of the rows.
 pub(crate) fn put_row_head(out: &mut [u8], wide: bool, plan: RowPlan)
     requires few { plan.rows < 2 ^ 32 }
@@ -157,5 +140,5 @@ pub(crate) fn write<R: FlatRow>(
     };
     put_row_head(out, wide, plan);
     put_rows(out, plan, rows);
-    Ok(put_index(out, wide, plan, are_half(rows), payload))
+    Ok(put_index(out, wide, plan, payload))
 }

@@ -3,6 +3,7 @@ ghost use Rattle.std.specs.Prelude.{◌≡◌, ◌+◌, ◌-◌, ◌<◌, ◌≤
 ghost use Rattle.sorted_tables.specs.Tables.{IsLastOf, IsPartedAt};
 
 use crate::columns::{Fronts, Links};
+use std::hint::select_unpredictable;
 
 /// How many items come in front of what is sought, where the first `lo` do, and none from `hi` on.
 ///
@@ -24,9 +25,8 @@ pub fn count_in_front<Q, C: Fronts<Q>>(columns: &C, query: &Q, lo: usize, hi: us
     let (mut from, mut left) = (lo, hi - lo);
     while left > 0 {
         let half = left - left / 2;
-        if columns.is_in_front(from + half - 1, query) {
-            from += half;
-        }
+        let is_front = columns.is_in_front(from + half - 1, query);
+        from = select_unpredictable(is_front, from + half, from);
         left /= 2;
     }
     from

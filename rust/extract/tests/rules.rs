@@ -9,7 +9,7 @@ const ROWS: &[(&str, &str, &str)] = &[
     ("requirements", "pub fn get(&self, i: usize) -> u8 requires { i < length self.now } { 1 }",
      "pub fn get(&self, i: usize) -> u8 { ::core::assert!(i < self.len()); 1 }"),
     ("requirements", "pub fn u32_at(bytes: &[u8], at: usize) -> u32 requires { at + 4 ≤ length bytes.now } {}",
-     "pub fn u32_at(bytes: &[u8], at: usize) -> u32 { ::core::assert!(at.saturating_add(4) <= bytes.len()); }"),
+     "pub fn u32_at(bytes: &[u8], at: usize) -> u32 { ::core::assert!(bytes.len() >= 4 && at <= bytes.len() - 4); }"),
     ("requirements",
      "fn is_table(r: &[u8]) -> bool { true } pub fn least(r: &[u8]) -> u8 requires rows { IsTable r.now } {}",
      "fn is_table(r: &[u8]) -> bool { true } pub fn least(r: &[u8]) -> u8 { ::core::assert!(is_table(r)); }"),

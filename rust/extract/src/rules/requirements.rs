@@ -164,6 +164,14 @@ fn comparison(words: &[String]) -> Option<String> {
         let bits = self::number(std::slice::from_ref(bits))?;
         return Some(format!("{number}.checked_shr({bits} as u32).unwrap_or(0) == 0"));
     }
+    if let [place, plus, bytes, sign, length @ ..] = words
+        && [plus, sign] == ["+", "≤"]
+        && bytes.parse::<usize>().is_ok()
+    {
+        // What reads so many bytes at a place asks nothing more then.
+        let (place, len) = (self::number(std::slice::from_ref(place))?, self::number(length)?);
+        return Some(format!("{len} >= {bytes} && {place} <= {len} - {bytes}"));
+    }
     let at = words.iter().position(|word| matches!(word.as_str(), "<" | "≤" | "≡"))?;
     let sign = match words[at].as_str() {
         "<" => "<",

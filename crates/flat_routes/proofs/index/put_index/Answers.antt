@@ -56,7 +56,7 @@ returns-clause-written c =
       c.put_parts.ensures.change.same_length,
       whole.length,
     ) in
-    image_of_all wide plan spans cells payload old b1 b2 b3 b4 end c.requires.place c.requires.plan c.requires.head c.requires.linked put.at (λ h. (c.requires.half (sym put.half ∙ h)).0)
+    image_of_all wide plan spans cells payload old b1 b2 b3 b4 end c.requires.place c.requires.plan c.requires.head c.requires.linked put.at (λ h. (c.are_half-is_half.ensures (sym put.half ∙ h)).0)
     put.spans spans_put laid.at laid.rest low c.put_cells.ensures.cells c.put_cells.ensures.change c.put_parts.ensures.listed c.put_parts.ensures.change refl room (λ k l. whole.before k l) whole.bytes
 
 pub returns-clause-front : goal.returns-clause-front
@@ -94,5 +94,5 @@ returns-clause-front c =
     ) in
     let at = cells.at + 4 * cells.count in
     let long = length-take-le end b4 room in
-    image_of_all wide plan spans cells payload old b1 b2 b3 (take end b4) end c.requires.place c.requires.plan c.requires.head c.requires.linked put.at (λ h. (c.requires.half (sym put.half ∙ h)).0)
+    image_of_all wide plan spans cells payload old b1 b2 b3 (take end b4) end c.requires.place c.requires.plan c.requires.head c.requires.linked put.at (λ h. (c.are_half-is_half.ensures (sym put.half ∙ h)).0)
     put.spans spans_put laid.at laid.rest low c.put_cells.ensures.cells c.put_cells.ensures.change c.put_parts.ensures.listed c.put_parts.ensures.change refl (omega (arith, long)) (λ k l. get_or-take end b4 k 0 (omega (arith, l)) ∙ whole.before k l) (ap (take (length payload)) (drop-take at (length payload) b4 ∙ whole.bytes) ∙ take-length payload)

@@ -63,29 +63,6 @@ put_index-requires-clause-linked g c =
     let counted = of.rows in
     rows_linked wide b2 rows n holds (omega (arith, counted)) rising (omega (arith, many))
 
-pub put_index-requires-clause-half : goal.put_index-requires-clause-half
-put_index-requires-clause-half g c = λ yes.
-    let wide = c.WIDE-wide.result in
-    let is = c.WIDE-wide.ensures in
-    let given = c.args.rows.now in
-    let shown = g.R.FlatRow.shown in
-    let rows = each shown given in
-    let n = length given in
-    let plan : RowPlan = record { rows = n; rows_at = 112 } in
-    let b1 = c.put_row_head.new.out in
-    let b2 = c.put_rows.new.out in
-    let many = length-map given shown in
-    let put = subst (λ b. ChangesWithin 112 (112 + row_size b * n) b1 b2) (sym is) c.put_rows.ensures.change in
-    let holds = subst (λ b. HoldsRows b b2 rows n) (sym is) c.put_rows.ensures.rows in
-    let rising = subst (λ b. AreRowsInOrder (width b) (λ m. m) rows) (sym is) c.in_default-unsorted.ensures in
-    let room : 112 + row_size wide * n ≤ length b1 = omega (arith, c.in-Some.ensures.value, c.if-out-most.false, c.put_row_head.ensures.change.same_length) in
-    let few = c.in-Some.ensures.value.0 in
-    let first = plan_written wide b1 plan few room c.put_row_head.ensures.head in
-    let of = plan_kept wide b1 b2 plan (λ k l. put.before k (omega (arith, l))) (omega (arith, room, put.same_length)) first in
-    let counted = of.rows in
-    let may = c.are_half.ensures yes in
-    (is ∙ may.0, λ k l. let own = sizes_hold wide b2 rows n holds (omega (arith, counted)) k l in let le = may.1 k l in omega (arith, own, le))
-
 pub returns-clause-written : goal.returns-clause-written
 returns-clause-written g c =
     let wide = c.WIDE-wide.result in

@@ -303,15 +303,16 @@ fn write_of_no_row() {
 #[test]
 fn image_len_by_rows_and_payload() {
     const MOST: usize = usize::MAX;
-    const LENGTHS: [(usize, usize, Option<usize>); 14] = [
+    const LENGTHS: [(usize, usize, Option<usize>); 15] = [
         (0, 0, Some(120)),
         (7, 5, Some(349)),
         (255, 0, Some(8_280)),
-        (256, 0, Some(10_360)),
-        (511, 0, Some(18_520)),
-        (512, 0, Some(20_600)),
-        (600, 3, Some(23_419)),
-        (2_097_152, 0, Some(75_497_592)),
+        (256, 0, Some(8_824)),
+        (511, 0, Some(16_984)),
+        (512, 0, Some(17_528)),
+        (600, 3, Some(20_347)),
+        (2_097_152, 0, Some(71_303_288)),
+        (4_194_304, 0, Some(142_606_456)),
         (2_147_483_647, 0, Some(68_727_865_432)),
         (2_147_483_648, 0, Some(68_719_476_856)),
         (4_294_967_295, 0, Some(137_438_953_560)),
@@ -391,8 +392,8 @@ fn write_makes_cells_for_many_rows() {
     let len = ipv4::write(&rows, b"end", &mut out).unwrap();
     assert!(ipv4::is_image(&out) && out[..len].ends_with(b"end"));
     assert_eq!(payload(&out), Some((len - 3, 3)));
-    // A span for each row and one behind, and cells of 2^8 addresses: what 10 bits leave of 18.
-    assert_eq!(len, 112 + 16 * 600 + 8 * 601 + 4 * 601 + 3);
+    // A span for each row and one behind, and cells of 2^10 addresses: what 8 bits leave of 18.
+    assert_eq!(len, 112 + 16 * 600 + 8 * 601 + 4 * 151 + 3);
     for at in 0..600 {
         assert_eq!(ipv4::longest_match(&out, (at << 8) + 255), Some(at as usize));
     }

@@ -232,12 +232,7 @@ one_last P n r s x y = elim (three_ways r s) [
   | inr (inr gt) ↦ absurd (y.none (r - 1) (omega (arith, gt)) (let le = x.within in omega (arith, gt, le)) (x.holds (omega (arith, gt))))
 ]
 
--- the row on whose index and one more is r
-pub found_back : (wide : Bool) (bs : List ℕ) (r : ℕ) → 0 < r → found_row wide bs r ≡ Some (row_in wide bs (r - 1))
-found_back wide bs zero some = absurd (omega (arith, some))
-found_back wide bs (suc i) some = let back : i ≡ suc i - 1 = omega arith in ap (λ j. Some (row_in wide bs j)) back
-
--- and what a number less one makes of it
+-- the row whose index and one more is a number, and what the number less one makes of it
 pub found_less : (wide : Bool) (bs : List ℕ) (r : ℕ) (o : Option ℕ) → SomeIff o (1 ≤ r) (r - 1) → found_row wide bs r ≡ option_map (row_in wide bs) o
 found_less wide bs zero None one = refl
 found_less wide bs zero (Some i) one = absurd (let some = one.0 in omega (arith, some))

@@ -11,6 +11,7 @@ use Rattle.flat_routes.specs.declared.head.SpanPlan.{SpanPlan}
 use Rattle.flat_routes.specs.declared.turns.Begun.{Begun}
 use Rattle.flat_routes.specs.declared.ipv4.Row.{Row as Row4}
 use Rattle.flat_routes.specs.declared.ipv6.Row.{Row as Row6}
+use Rattle.flat_routes.specs.declared.table.Route.{Route}
 
 -- the family of IPv4
 abbrev pub of_ipv4 : Bool
@@ -141,6 +142,10 @@ octet_number octets = from_be_bytes w128 octets
 -- a row of IPv6
 abbrev pub row6_of : Row6 → Net ℕ × ℕ
 row6_of r = (network (octet_number r.first) r.bits, r.value)
+
+-- a row of either family
+abbrev pub row_of : {A : Type 0} → (A → ℕ) → Route A → Net ℕ × ℕ
+row_of number r = (network (number r.first) r.bits, r.value)
 
 -- the row whose index and one more is r, or None at 0
 abbrev pub found_row : Bool → List ℕ → ℕ → Option (Net ℕ × ℕ)

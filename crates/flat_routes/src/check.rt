@@ -172,7 +172,7 @@ fn is_spans_part(image: &[u8], wide: bool) -> bool
 }
 
 /// Where the parts of an image lie, by its head alone.
-fn check_head(image: &[u8], wide: bool) -> Result<Plan, ImageError>
+pub(crate) fn check_head(image: &[u8], wide: bool) -> Result<Plan, ImageError>
     ensures plan { IfOk result (IsPlanOf wide image.now) }
     ensures parts { OnOk result ((j : ℕ) → j < 3 → IsRoutePart wide image.now j) }
     ensures fault { IfErr result (IsRouteFault wide image.now) }

@@ -1,24 +1,22 @@
 //! Images of IPv4 networks. Each call is total: whatever the bytes are, it ends, and reads none but
 //! them.
-ghost use Rattle.std.specs.Prelude.{◌≡◌, ◌↔◌, ◌+◌, ◌-◌, ◌/◌, ◌^◌, ◌<◌, ◌≤◌, ℕ, IfErr, IfOk, IfSome, IsNone, IsOk, IsTrue, MatchOption, OnErr, OnOk, false, drop, length, min, option_map, slice_get, slice_index, take, vec_len, map as each};
-ghost use Rattle.std.specs.List.{filter};
+ghost use Rattle.std.specs.Prelude.{◌≡◌, ◌↔◌, ◌+◌, ◌-◌, ◌^◌, ◌<◌, ◌≤◌, ℕ, IfErr, IfOk, IsOk, IsTrue, OnErr, OnOk, false, length, min, slice_index, take, vec_len, map as each};
 ghost use Rattle.std.specs.Net.Addr.{ipv4_bits};
 ghost use Rattle.std.specs.Option.{SomeIff};
-ghost use Rattle.radix_keys.specs.Networks.{Net};
-ghost use Rattle.frozen_routes.specs.Routes.{AreInFront, IsLongestRow, IsOwnRow, is_inside};
+ghost use Rattle.frozen_routes.specs.Routes.{IsLongestRow};
 ghost use Rattle.image_parts.specs.Parts.{HoldsPayload, row_count};
 ghost use Rattle.flat_routes.specs.Faults.{IsRouteFault};
 ghost use Rattle.flat_routes.specs.Merged.{AreRowsAfter, CanMerge, IsMergeFault, is_removal4, merged_size, row_of_change4};
 ghost use Rattle.flat_routes.specs.Written.{CanWrite, ChangesWithin, IsImageOf, IsWriteFault, image_size};
-ghost use Rattle.flat_routes.specs.Images.{IsImage, IsPlanOf, bases, first_in, found_row, found_value, image_rows, link_in, network, numbered_row, of_ipv4, row4_of, row_in, sizes};
+ghost use Rattle.flat_routes.specs.Images.{IsImage, IsPlanOf, found_row, found_value, image_rows, network, numbered_row, of_ipv4, row4_of};
 
-use crate::head::{Plan, plan_of, row_plan_of};
+use crate::head::{Plan, plan_of};
 use crate::merge::FlatChange;
-use crate::rows::{bits_at, first_at, found_value, link_at, value_at};
+use crate::rows::found_value;
 use crate::search::{find, find_eight};
 use crate::tables::TableRow;
 use crate::write::FlatRow;
-use crate::{check, layout, merge, networks, search, tables, write};
+use crate::{check, layout, merge, tables, write};
 use frozen_routes::FrozenRoutes;
 use image_parts::{ImageError, TableError, WriteError, put_u32};
 use radix_keys::{Address, Memory, Network};
@@ -87,63 +85,6 @@ pub fn is_image(image: &[u8]) -> bool
     check(image).is_ok()
 }
 
-/// The count of rows. Of bytes that are no image it is 0, or what their head says.
-pub fn len(image: &[u8]) -> usize
-    ensures count { IsImage of_ipv4 image.now
-        → result ≡ length (image_rows of_ipv4 image.now) }
-    ensures within { result ≤ row_count image.now }
-{
-    match row_plan_of(image, false) {
-        Some(plan) => plan.rows,
-        None => 0,
-    }
-}
-
-/// The row at an index, or None where there is none.
-pub fn row_at(image: &[u8], at: usize) -> Option<Row>
-    ensures row { IsImage of_ipv4 image.now
-        → slice_get (image_rows of_ipv4 image.now) at ≡ option_map row4_of result }
-    ensures link { IfSome result (λ r. r.link ≡ link_in of_ipv4 image.now at) }
-{
-    let Some(plan) = row_plan_of(image, false) else {
-        return None;
-    };
-    if at >= plan.rows {
-        return None;
-    }
-    Some(Row {
-        first: first_at(image, false, plan, at) as u32,
-        bits: bits_at(image, false, plan, at),
-        link: link_at(image, false, plan, at),
-        value: value_at(image, false, plan, at) as u32,
-    })
-}
-
-/// The index of the row of the longest network that holds an address, or None where none does.
-///
-/// It takes as many comparisons as the spans of the address's block have binary digits, and no step
-/// more, however deep networks lie within one another. Of bytes that are no image it returns None
-/// or the index of some row.
-///
-/// # Examples
-///
-/// ```
-/// use nifazombi::flat_routes::ipv4;
-///
-/// let mut image = [0u8; 152];
-/// let rows = [ipv4::Row { first: 0x0a00_0000, bits: 8, link: 0, value: 7 }];
-/// assert!(ipv4::write(&rows, &[], &mut image).is_ok() && ipv4::is_image(&image));
-/// assert_eq!(ipv4::longest_match(&image, 0x0a01_0203), Some(0));
-/// assert!(ipv4::row_at(&image, 0).is_some_and(|row| row.value == 7));
-/// ```
-pub fn longest_match(image: &[u8], address: u32) -> Option<usize>
-    ensures within { IfSome result (λ at. at < row_count image.now) }
-    ensures row { IsImage of_ipv4 image.now → IsLongestRow 32 (λ n. n)
-        (image_rows of_ipv4 image.now) address (option_map (row_in of_ipv4 image.now) result) }
-{
-    search::longest_match(image, false, u128::from(address))
-}
-
 /// The numbers of eight addresses.
 #[inline(always)]
 fn numbers_at(addresses: &[u32], at: usize) -> [u128; 8]
@@ -181,8 +122,8 @@ fn find_many(image: &[u8], plan: Plan, addresses: &[u32], found: &mut [u32], cou
     }
 }
 
-/// Looks up addresses as `longest_match` does, as many as there are of both, and puts for each the
-/// index of its row and one more, or 0, into `found`. It returns how many.
+/// Looks up addresses as `Table::longest_match` does, as many as there are of both, and puts for
+/// each the index of its row and one more, or 0, into `found`. It returns how many.
 pub fn longest_matches(image: &[u8], addresses: &[u32], found: &mut [u32]) -> usize
     ensures count { result ≤ min (length addresses.now) (length found.new) }
     ensures all { IsImage of_ipv4 image.now
@@ -234,48 +175,6 @@ pub fn longest_values(
         values[i] = found_value(image, false, plan.rows, found[i] as usize) as u32;
     }
     count
-}
-
-/// The index of the row of this very network, by its first address and how many bits its addresses
-/// share, or None where no row is of it. It takes as many comparisons as the count of rows has
-/// binary digits.
-pub fn get(image: &[u8], first: u32, bits: u32) -> Option<usize>
-    ensures within { IfSome result (λ at. at < row_count image.now) }
-    ensures row { IsImage of_ipv4 image.now → MatchOption result
-        ((r : Net ℕ × ℕ) → IsOwnRow (λ n. n) (image_rows of_ipv4 image.now) (network first bits) r
-        → ⊥)
-        (λ at. IsOwnRow (λ n. n) (image_rows of_ipv4 image.now) (network first bits)
-        (row_in of_ipv4 image.now at)) }
-{
-    networks::get(image, false, u128::from(first), bits)
-}
-
-/// The rows whose networks lie within a network, itself among them: the index of the first, or the
-/// one that it would have where there is none, and how many there are. It takes twice as many
-/// comparisons as the count of rows has binary digits.
-pub fn below(image: &[u8], first: u32, bits: u32) -> (usize, usize)
-    ensures within { result.0 + result.1 ≤ row_count image.now }
-    ensures first { IsImage of_ipv4 image.now → AreInFront 32 false bits
-        (first / 2 ^ (32 - bits)) (bases of_ipv4 image.now) (sizes of_ipv4 image.now)
-        result.0 }
-    ensures rows { IsImage of_ipv4 image.now
-        → take result.1 (drop result.0 (image_rows of_ipv4 image.now))
-        ≡ filter (is_inside 32 (λ n. n) (network first bits)) (image_rows of_ipv4 image.now) }
-{
-    networks::below(image, false, u128::from(first), bits)
-}
-
-/// The index of the row of the network around that of the row at an index: of the longest other one
-/// that holds it. It is None where no other one holds it, and where there is no such row. It takes
-/// constant time. Whatever the bytes are, a result is less than the index, so a walk upward ends.
-pub fn above(image: &[u8], at: usize) -> Option<usize>
-    ensures within { IfSome result (λ parents. parents < at) }
-    ensures past { row_count image.now ≤ at → IsNone result }
-    ensures row { IsImage of_ipv4 image.now → at < row_count image.now
-        → IsLongestRow 32 (λ n. n) (take at (image_rows of_ipv4 image.now))
-        (first_in of_ipv4 image.now at) (option_map (row_in of_ipv4 image.now) result) }
-{
-    search::above(image, false, at)
 }
 
 /// How many bytes the image of so many rows takes at most, with so many bytes of the user's own, or
@@ -385,7 +284,9 @@ pub fn merge_len(image: &[u8], changes: usize, payload: usize) -> Option<usize>
 /// # Examples
 ///
 /// ```
+/// use nifazombi::flat_routes::Table;
 /// use nifazombi::flat_routes::ipv4::{self, Change, Row};
+/// use std::net::Ipv4Addr;
 ///
 /// let row = |value| Row { first: 0x0a00_0000, bits: 8, link: 0, value };
 /// let mut image = [0u8; 400];
@@ -393,7 +294,9 @@ pub fn merge_len(image: &[u8], changes: usize, payload: usize) -> Option<usize>
 /// let change = Change { row: row(8), is_removed: false };
 /// let mut changed = [0u8; 400];
 /// assert!(ipv4::merge(&image, &[change], &[], &mut changed).is_ok());
-/// assert!(ipv4::row_at(&changed, 0).is_some_and(|row| row.value == 8));
+/// let table = Table::<Ipv4Addr>::checked(&changed)?;
+/// assert!(table.row_at(0).is_some_and(|row| row.value == 8));
+/// # Ok::<(), nifazombi::flat_routes::ImageError>(())
 /// ```
 pub fn merge(
     image: &[u8],

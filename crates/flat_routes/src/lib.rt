@@ -11,13 +11,14 @@ pub mod ipv6;
 mod laws;
 mod layout;
 mod merge;
-mod networks;
 mod rows;
 mod search;
 mod spans;
+mod table;
 mod tables;
 mod turns;
 mod write;
 
 pub use image_parts::{ImageError, TableError, WriteError, payload};
 pub use laws::images_answer_as_tables;
+pub use table::{Family, Route, Table};

@@ -1,14 +1,12 @@
 //! Searches in an image. Each is total: whatever the bytes are, it ends, and reads none but them.
-ghost use Rattle.std.specs.Prelude.{◌≡◌, ◌+◌, ◌-◌, ◌/◌, ◌^◌, ◌<◌, ◌≤◌, ℕ, IfSome, IsNone, length, option_map, slice_index, take};
+ghost use Rattle.std.specs.Prelude.{◌≡◌, ◌+◌, ◌-◌, ◌/◌, ◌^◌, ◌<◌, ◌≤◌, ℕ, length, slice_index};
 ghost use Rattle.sorted_tables.specs.Tables.{IsPartedAt};
 ghost use Rattle.flat_routes.specs.SpanLaws.{AreCounted, IsCountedBy};
 ghost use Rattle.frozen_routes.specs.Routes.{IsLastHolder, IsLongestRow};
-ghost use Rattle.image_parts.specs.Parts.{row_count};
-ghost use Rattle.flat_routes.specs.Images.{AreLinkedTo, IsImage, IsPlanOf, IsRowPlan, bases, first_in, found_row, image_rows, links, row_in, sizes, start_in, width};
+ghost use Rattle.flat_routes.specs.Images.{AreLinkedTo, IsImage, IsPlanOf, IsRowPlan, bases, found_row, image_rows, links, sizes, start_in, width};
 
 use crate::columns::Rows;
-use crate::head::{Plan, RowPlan, plan_of, row_plan_of};
-use crate::rows::link_at;
+use crate::head::{Plan, RowPlan};
 use crate::spans::{Spans, answer_at, cell_at, start_at};
 use crate::turns::Begun;
 use sorted_columns::count_in_front;
@@ -231,43 +229,4 @@ pub(crate) fn find(image: &[u8], wide: bool, plan: Plan, number: u128) -> usize
     let spans = Spans::of(image, wide, plan.spans);
     let count = count_in_front(&spans, &number, from, to);
     answer_before(image, wide, plan, count)
-}
-
-/// The index of the row of the longest network that holds an address, by its number.
-#[inline(always)]
-pub(crate) fn longest_match(image: &[u8], wide: bool, number: u128) -> Option<usize>
-    requires { number < 2 ^ width wide }
-    ensures within { IfSome result (λ at. at < row_count image.now) }
-    ensures row { IsImage wide image.now → IsLongestRow (width wide) (λ n. n)
-        (image_rows wide image.now) number (option_map (row_in wide image.now) result) }
-{
-    let Some(plan) = plan_of(image, wide) else {
-        return None;
-    };
-    let found = find(image, wide, plan, number);
-    if found == 0 {
-        return None;
-    }
-    Some(found - 1)
-}
-
-/// The index of the row of the longest network around that of the row at an index.
-pub(crate) fn above(image: &[u8], wide: bool, at: usize) -> Option<usize>
-    ensures within { IfSome result (λ parents. parents < at) }
-    ensures past { row_count image.now ≤ at → IsNone result }
-    ensures row { IsImage wide image.now → at < row_count image.now
-        → IsLongestRow (width wide) (λ n. n) (take at (image_rows wide image.now))
-        (first_in wide image.now at) (option_map (row_in wide image.now) result) }
-{
-    let Some(plan) = row_plan_of(image, wide) else {
-        return None;
-    };
-    if at >= plan.rows {
-        return None;
-    }
-    let link = link_at(image, wide, plan, at) as usize;
-    if link > at {
-        return None;
-    }
-    link.checked_sub(1)
 }

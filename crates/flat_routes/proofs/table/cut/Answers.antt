@@ -1,11 +1,11 @@
-use Rattle.std.proofs.Common.{◌≡◌, true, length, subst, sym, ◌∙◌}
+use Rattle.std.proofs.Common.{◌≡◌, length, subst, sym, ◌∙◌}
 use Rattle.sorted_tables.specs.Tables.{IsPartedAt}
 use Rattle.frozen_routes.specs.Routes.{AreInFront}
 use Rattle.flat_routes.specs.declared.columns.Within.{Within}
 use Rattle.flat_routes.specs.Images.{bases, sizes, width}
 use Rattle.flat_routes.specs.RowLaws.{AreSorted, FirstRows, IsFrontIn}
 use Rattle.flat_routes.proofs.ImageLemmas.{all_sorted, length-firsts}
-use Rattle.flat_routes.proofs.networks.cut.Goals as goal
+use Rattle.flat_routes.proofs.table.cut.Goals as goal
 
 pub returns-clause-front : goal.returns-clause-front
 returns-clause-front c = λ image.

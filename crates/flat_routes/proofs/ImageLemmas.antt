@@ -1,24 +1,22 @@
 -- The numbers of an image, and what they say of its rows.
-use Rattle.std.proofs.Common.{◌≡◌, ℕ, zero, suc, ◌+◌, ◌-◌, ◌*◌, ◌/◌, ◌^◌, ◌<◌, ◌≤◌, inl, inr, Bool, true, false, List, [], ◌∷◌, Option, Some, None, length, get_or, slice_get, take, map as each, option_map, refl, ap, sym, subst, ◌∙◌, arith}
+use Rattle.std.proofs.Common.{◌≡◌, ℕ, zero, suc, ◌+◌, ◌-◌, ◌*◌, ◌<◌, ◌≤◌, inl, inr, Bool, true, false, List, [], ◌∷◌, Option, Some, None, length, get_or, slice_get, take, map as each, option_map, refl, ap, sym, subst, ◌∙◌, arith}
 use Rattle.std.specs.Option.{SomeIff}
 use Rattle.std.proofs.lemmas.Bool.{cases_lt}
-use Rattle.std.proofs.lemmas.Nat.{mul-le}
 use Rattle.std.proofs.lemmas.List.{get_or-take, length-map, length-take-le, take-map}
 use Rattle.radix_keys.specs.Networks.{AgreeIn, IsBase, Net}
-use Rattle.image_parts.specs.Parts.{row_count, u128_in, u32_in, u64_in}
+use Rattle.image_parts.specs.Parts.{row_count, u128_in, u32_in}
 use Rattle.image_parts.proofs.ByteLemmas.{length-listed, listed_at, none_past, take_listed}
-use Rattle.frozen_routes.specs.Routes.{AreRising, AreRowsInOrder, AreUpTo, IsFirstTop, IsHolderAt, IsLastHolder, IsLongestRow, base_numbers, bit_counts}
+use Rattle.frozen_routes.specs.Routes.{AreRising, AreRowsInOrder, IsHolderAt, IsLastHolder, IsLongestRow, base_numbers, bit_counts}
 use Rattle.frozen_routes.proofs.RouteLemmas.Blocks.{earlier_le}
-use Rattle.frozen_routes.proofs.RouteLemmas.Links.{among_all, firsts_to}
 use Rattle.frozen_routes.proofs.RouteLemmas.Rows.{last_is_longest, none_holds, stored_at}
 use Rattle.radix_keys.proofs.KeyLemmas.Order.{three_ways}
-use Rattle.sorted_tables.specs.Tables.{IsLastOf, IsPartedAt}
+use Rattle.sorted_tables.specs.Tables.{IsLastOf}
 use Rattle.image_parts.specs.declared.errors.ImageError.{ImageError}
 use Rattle.image_parts.specs.declared.errors.ImageError.TheVariants.{Short, Mark, Version, Part, Row, Span, Cell}
 use Rattle.flat_routes.specs.declared.head.RowPlan.{RowPlan}
 use Rattle.flat_routes.specs.Faults.{IsRouteFault, IsRoutePart, family}
 use Rattle.flat_routes.specs.RowLaws.{AreSorted, ordered}
-use Rattle.flat_routes.specs.Images.{AreLinkedTo, HasHead, IsImage, IsNext, IsRowPlan, bits_in, cell_count, cell_in, first_in, bases, found_row, image_rows, link_in, links, network, rest_of, row_in, sizes, value_in, width}
+use Rattle.flat_routes.specs.Images.{AreLinkedTo, IsImage, IsNext, IsRowPlan, bits_in, first_in, bases, found_row, image_rows, link_in, links, network, row_in, sizes, value_in, width}
 
 -- as many rows as the head says
 pub length-rows : (wide : Bool) (bs : List ℕ) → length (image_rows wide bs) ≡ row_count bs

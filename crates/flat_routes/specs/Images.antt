@@ -4,7 +4,6 @@ use Rattle.std.specs.Int.{w64, w128, from_le_bytes, from_be_bytes}
 use Rattle.radix_keys.specs.Networks.{Net, IsBase}
 use Rattle.image_parts.specs.Parts.{IsListed, listed, part_count, row_count, u128_in, u32_in, u64_in}
 use Rattle.frozen_routes.specs.Routes.{AreRising, AreUpTo, AreUplinks, IsEarlier, IsLastHolder, base_numbers, bit_counts}
-use Rattle.flat_routes.specs.declared.head.CellPlan.{CellPlan}
 use Rattle.flat_routes.specs.declared.head.Plan.{Plan}
 use Rattle.flat_routes.specs.declared.head.RowPlan.{RowPlan}
 use Rattle.flat_routes.specs.declared.head.SpanPlan.{SpanPlan}

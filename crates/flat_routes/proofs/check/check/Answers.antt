@@ -1,11 +1,11 @@
-use Rattle.std.proofs.Common.{◌≡◌, ◌+◌, ◌-◌, ◌<◌, ◌≤◌, inl, inr, Result, Ok, Err, IsOk, IsErr, ap, get_or, length, refl, arith, subst, sym}
+use Rattle.std.proofs.Common.{◌≡◌, ◌+◌, ◌-◌, ◌<◌, ◌≤◌, inl, inr, Result, Ok, Err, IsOk, IsErr, ap, get_or, length, refl, arith, subst}
 use Rattle.image_parts.specs.declared.errors.ImageError.TheVariants.{Cell, Row, Span}
 use Rattle.std.proofs.lemmas.Bool.{cases_lt}
 use Rattle.frozen_routes.specs.Routes.{IsLastHolder}
 use Rattle.image_parts.specs.Parts.{row_count}
 use Rattle.flat_routes.specs.declared.head.SpanPlan.{SpanPlan}
 use Rattle.flat_routes.specs.Faults.{AreRowsRight, IsCellRight, IsSpanRightIn}
-use Rattle.flat_routes.specs.Images.{bases, sizes, span_count, start_in, width}
+use Rattle.flat_routes.specs.Images.{bases, sizes, start_in, width}
 use Rattle.flat_routes.proofs.ImageLemmas.{all_rise, length-firsts, length-links, no_fault, none_of_none}
 use Rattle.flat_routes.proofs.check.check.Goals as goal
 

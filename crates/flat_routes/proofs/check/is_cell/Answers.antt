@@ -1,7 +1,7 @@
-use Rattle.std.proofs.Common.{◌≡◌, ℕ, ◌+◌, ◌*◌, ◌^◌, ◌<◌, ◌≤◌, inl, inr, ap, arith, ◌∙◌}
+use Rattle.std.proofs.Common.{◌≡◌, ℕ, ◌+◌, ◌*◌, ◌^◌, ◌≤◌, inl, inr, ap, arith, ◌∙◌}
 use Rattle.std.proofs.lemmas.Bool.{cases_lt, eq-eqb, eqb-true}
 use Rattle.image_parts.specs.Parts.{u32_in}
-use Rattle.flat_routes.specs.Images.{cell_in, is_half, low_of, rest_of, span_plan, start_in, start_size}
+use Rattle.flat_routes.specs.Images.{cell_in, low_of, rest_of, span_plan, start_size}
 use Rattle.flat_routes.proofs.SpanLemmas.{start_fits}
 use Rattle.flat_routes.proofs.check.is_cell.Goals as goal
 

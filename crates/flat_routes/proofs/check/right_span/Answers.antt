@@ -1,4 +1,4 @@
-use Rattle.std.proofs.Common.{◌≡◌, ◌+◌, ◌-◌, ◌<◌, ◌≤◌, ℕ, ap, arith, subst, sym, ◌∙◌}
+use Rattle.std.proofs.Common.{◌≡◌, ◌+◌, ◌-◌, ◌<◌, ◌≤◌, ap, arith, subst, sym, ◌∙◌}
 use Rattle.std.specs.Prelude.{IfSome}
 use Rattle.flat_routes.specs.Images.{IsKnownAt, answer_in, answer_of, bases, sizes, span_count, start_in, begin_of, width}
 use Rattle.flat_routes.specs.declared.head.SpanPlan.{SpanPlan}

@@ -1,4 +1,4 @@
-use Rattle.std.proofs.Common.{◌≡◌, ℕ, ◌+◌, ◌-◌, ◌*◌, ◌^◌, ◌<◌, ◌≤◌}
+use Rattle.std.proofs.Common.{◌+◌, ◌-◌, ◌*◌, ◌^◌, ◌<◌, ◌≤◌}
 use Rattle.image_parts.specs.Parts.{u32_in}
 use Rattle.flat_routes.specs.Images.{AreCells, begin_of}
 use Rattle.flat_routes.specs.Written.{ChangesWithin}

@@ -1,4 +1,4 @@
-use Rattle.std.proofs.Common.{◌*◌, ◌+◌, ◌^◌, arith, ◌∙◌}
+use Rattle.std.proofs.Common.{arith, ◌∙◌}
 use Rattle.std.proofs.lemmas.Nat.{shr_split}
 use Rattle.image_parts.proofs.ByteLemmas.{u64_kept}
 use Rattle.flat_routes.proofs.IndexLemmas.{full_start}

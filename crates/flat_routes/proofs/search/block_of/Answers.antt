@@ -1,9 +1,9 @@
-use Rattle.std.proofs.Common.{◌≡◌, ◌+◌, ◌*◌, ◌/◌, ◌^◌, ◌<◌, ◌≤◌, ap, arith, subst, sym, ◌∙◌}
+use Rattle.std.proofs.Common.{◌≡◌, ◌+◌, ◌*◌, ◌/◌, ◌^◌, ap, arith, ◌∙◌}
 use Rattle.std.proofs.Math.Nat.{div-mul-le_self}
 use Rattle.std.proofs.lemmas.Nat.{mul-le}
 use Rattle.frozen_routes.proofs.RouteLemmas.Directory.{quotient_less}
 use Rattle.image_parts.specs.Parts.{u32_in}
-use Rattle.flat_routes.specs.Images.{answer_in, bases, cell_count, cell_in, sizes, span_count, start_in, width}
+use Rattle.flat_routes.specs.Images.{answer_in, bases, cell_in, sizes, span_count, start_in, width}
 use Rattle.flat_routes.specs.SpanLaws.{starts_rise}
 use Rattle.flat_routes.proofs.search.block_of.Goals.{then-block-last, else-block-last}
 use Rattle.flat_routes.proofs.search.block_of.Goals as goal

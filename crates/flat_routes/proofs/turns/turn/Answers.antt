@@ -1,4 +1,4 @@
-use Rattle.std.proofs.Common.{◌≡◌, ◌<◌, ℕ, arith, length, get_or, subst, sym, ◌∙◌}
+use Rattle.std.proofs.Common.{◌≡◌, ◌<◌, arith, length, get_or, subst, sym, ◌∙◌}
 use Rattle.std.specs.Prelude.{MatchOption}
 use Rattle.flat_routes.specs.Images.{HasNoTurn, IsTurn, bases, sizes, width}
 use Rattle.flat_routes.proofs.ImageLemmas.{all_rise, length-firsts}

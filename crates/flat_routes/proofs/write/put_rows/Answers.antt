@@ -1,4 +1,4 @@
-use Rattle.std.proofs.Common.{◌≡◌, ℕ, ◌+◌, ◌*◌, ◌<◌, ◌≤◌, Some, ap, get_or, map as each, length, subst, sym, arith, ◌∙◌}
+use Rattle.std.proofs.Common.{◌≡◌, ℕ, ◌+◌, ◌*◌, ◌<◌, ◌≤◌, Some, ap, get_or, map as each, subst, sym, arith, ◌∙◌}
 use Rattle.std.proofs.lemmas.List.{length-map}
 use Rattle.frozen_routes.specs.Routes.{IsLastHolder, base_numbers, bit_counts}
 use Rattle.frozen_routes.proofs.RouteLemmas.Links.{firsts_up}

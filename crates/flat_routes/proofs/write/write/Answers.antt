@@ -1,11 +1,11 @@
-use Rattle.std.proofs.Common.{◌≡◌, ℕ, ◌+◌, ◌*◌, ◌≤◌, List, length, map as each, take, subst, sym, arith, ◌∙◌}
+use Rattle.std.proofs.Common.{ℕ, ◌+◌, ◌*◌, ◌≤◌, List, length, map as each, take, subst, sym, arith}
 use Rattle.std.proofs.lemmas.List.{length-map}
 use Rattle.radix_keys.specs.Networks.{Net}
 use Rattle.frozen_routes.specs.Routes.{AreRowsInOrder}
 use Rattle.flat_routes.specs.declared.head.RowPlan.{RowPlan}
-use Rattle.flat_routes.specs.Images.{image_rows, row_size, width}
+use Rattle.flat_routes.specs.Images.{row_size, width}
 use Rattle.flat_routes.specs.Written.{ChangesWithin, HoldsRows, IsImageOf}
-use Rattle.flat_routes.proofs.WriteLemmas.{change_through, head_kept, no_disorder, plan_kept, plan_written, rows_are, rows_linked, sizes_hold}
+use Rattle.flat_routes.proofs.WriteLemmas.{change_through, head_kept, no_disorder, plan_kept, plan_written, rows_are, rows_linked}
 use Rattle.flat_routes.proofs.write.write.Goals as goal
 
 pub returns-in-Some-unsorted-clause-ok : goal.returns-in-Some-unsorted-clause-ok

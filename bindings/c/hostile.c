@@ -1,5 +1,5 @@
 // Tries the library on images, on all their beginnings, on all that differ from them in one bit, and on many that are
-// changed at random, each behind and before memory that nobody may read; and writes the images again.
+// changed at random, each behind and before memory that nobody may read; writes the images again, and merges changes.
 //
 // usage: hostile COUNT IMAGE..
 //
@@ -13,7 +13,9 @@
 
 #include "nifazombi.h"
 
-enum { MOST = 1 << 16, ASKED = 8 };
+enum { MOST = 1 << 16, MOST_MERGED = 1 << 18, ASKED = 8 };
+
+static uint8_t *merged_end;
 
 static uint64_t sum = 14695981039346656037u, state = 88172645463325252u;
 
@@ -43,6 +45,77 @@ static size_t longest4(const uint8_t *image, size_t len, uint32_t address) {
     return found;
 }
 
+// Whether a network comes before another one, is it, or comes behind it: a number below 0, 0, or one above.
+static int order4(const nifazombi_ipv4_row *one, const nifazombi_ipv4_row *other) {
+    if (one->first != other->first) return one->first < other->first ? -1 : 1;
+    return (one->bits > other->bits) - (one->bits < other->bits);
+}
+
+// Needs the rows of an image to be those of another one after changes, by a walk over both of these.
+static void need_merged4(const uint8_t *image, size_t len, const nifazombi_ipv4_change *changes, size_t count,
+                         const uint8_t *made, size_t made_len) {
+    nifazombi_ipv4_row row, found;
+    size_t from = 0, to = 0, next = 0;
+    for (;;) {
+        bool is_old = nifazombi_ipv4_row_at(image, len, from, &row);
+        if (!is_old && next == count) break;
+        int order = next == count ? -1 : is_old ? order4(&row, &changes[next].row) : 1;
+        from += order <= 0;
+        if (order >= 0) row = changes[next].row;
+        if (order >= 0 && changes[next++].removes) continue;
+        bool is_there = nifazombi_ipv4_row_at(made, made_len, to++, &found);
+        need(is_there && !order4(&row, &found) && row.value == found.value, "another row is merged");
+    }
+    need(!nifazombi_ipv4_row_at(made, made_len, to, &found), "a row more is merged");
+}
+
+static void need_lengths4(const uint8_t *image, size_t len, size_t count, size_t changes, size_t own) {
+    size_t many = (size_t)1 << 32, most = nifazombi_ipv4_image_len(many - 1, 0) + (1 << 23);
+    need(nifazombi_ipv4_merge_len(image, len, changes, own) == nifazombi_ipv4_image_len(count + changes, own),
+         "another length of what is merged");
+    need(nifazombi_ipv4_merge_len(image, len, many - 1 - count, 0) == most, "what fits has another length");
+    need(!nifazombi_ipv4_merge_len(image, len, many - count, 0), "too many changes have a length");
+    need(!nifazombi_ipv4_merge_len(image, len, 1, SIZE_MAX), "too many bytes have a length");
+}
+
+// Merges changes of the first network, of a row's and of the last one into an image, or into other bytes, of which an
+// image comes too, unless that row's network is none. All of `removes` but 0 says that the network goes.
+static void merge4(const uint8_t *image, size_t len, bool is_image) {
+    nifazombi_ipv4_change changes[3] = {{.row = {.value = 5}}}, last = {.row = {.bits = 32, .value = 6}};
+    memset(&last.row.first, 0xff, sizeof last.row.first);
+    size_t count = nifazombi_ipv4_len(image, len), times = 1, own = draw() % 4, at = SIZE_MAX;
+    nifazombi_ipv4_row *row = &changes[1].row;
+    if (count && nifazombi_ipv4_row_at(image, len, draw() % count, row) && order4(&changes[0].row, row) < 0 &&
+        order4(row, &last.row) < 0)
+        times++, row->value++, row->link = (uint32_t)draw();
+    changes[times++] = last;
+    for (size_t k = 0; k < times; k++) changes[k].removes = draw() % 2 ? 1u << draw() % 32 : 0;
+    if (is_image) need_lengths4(image, len, count, times, own);
+    size_t room = nifazombi_ipv4_merge_len(image, len, times, own);
+    need(room && room <= MOST_MERGED, "another length of a few changes");
+    const uint8_t *payload = (const uint8_t *)"own";
+    uint8_t *out = merged_end - room;
+    memset(out, 0xa5, room);
+    need(nifazombi_ipv4_merge(image, len, changes, times, payload, own, out + 1, room - 1, &at) == NIFAZOMBI_ERROR_SHORT,
+         "a short buffer isn't told");
+    uint32_t wrong = nifazombi_ipv4_merge(image, len, changes, times, payload, own, out, room, &at);
+    need(!wrong || (!is_image && wrong == NIFAZOMBI_ERROR_OUT_OF_ORDER && at == 1), "changes in order aren't merged");
+    size_t made = wrong ? 0 : at;
+    need(made <= room, "more is merged than there is room for");
+    for (size_t k = made; k < room; k++) need(out[k] == 0xa5, "bytes behind what is merged don't stay");
+    add(made);
+    if (!wrong) {
+        nifazombi_span kept = {0, 0};
+        need(!nifazombi_ipv4_check(out, made, &at), "what is merged is no image");
+        need(nifazombi_payload(out, made, &kept) && kept.count == own && !memcmp(out + kept.first, payload, own),
+             "another payload is merged");
+        if (is_image) need_merged4(image, len, changes, times, out, made);
+    }
+    changes[0] = changes[times - 1];
+    need(nifazombi_ipv4_merge(image, len, changes, times, payload, own, out, room, &at) == NIFAZOMBI_ERROR_OUT_OF_ORDER &&
+             at == 1, "a change out of order is merged");
+}
+
 static void ask4(const uint8_t *image, size_t len, bool is_searched) {
     size_t at = 0, count = nifazombi_ipv4_len(image, len);
     uint32_t wrong = nifazombi_ipv4_check(image, len, &at), asked[ASKED], found[ASKED] = {0};
@@ -67,6 +140,7 @@ static void ask4(const uint8_t *image, size_t len, bool is_searched) {
         need(span.first + span.count <= count, "rows that aren't there");
         add(span.first), add(span.count);
     }
+    if (is_searched) merge4(image, len, !wrong);
     need(!nifazombi_ipv4_above(image, len, SIZE_MAX), "a row is around one past the end");
     need(wrong || !nifazombi_ipv4_above(image, len, count), "a row is around the one behind the last");
     size_t looked = nifazombi_ipv4_longest_matches(image, len, asked, ASKED, found, ASKED);
@@ -95,6 +169,77 @@ static size_t longest6(const uint8_t *image, size_t len, const uint8_t *address)
     return found;
 }
 
+// Whether a network comes before another one, is it, or comes behind it: a number below 0, 0, or one above.
+static int order6(const nifazombi_ipv6_row *one, const nifazombi_ipv6_row *other) {
+    int order = memcmp(one->first, other->first, sizeof one->first);
+    return order ? order : (one->bits > other->bits) - (one->bits < other->bits);
+}
+
+// Needs the rows of an image to be those of another one after changes, by a walk over both of these.
+static void need_merged6(const uint8_t *image, size_t len, const nifazombi_ipv6_change *changes, size_t count,
+                         const uint8_t *made, size_t made_len) {
+    nifazombi_ipv6_row row, found;
+    size_t from = 0, to = 0, next = 0;
+    for (;;) {
+        bool is_old = nifazombi_ipv6_row_at(image, len, from, &row);
+        if (!is_old && next == count) break;
+        int order = next == count ? -1 : is_old ? order6(&row, &changes[next].row) : 1;
+        from += order <= 0;
+        if (order >= 0) row = changes[next].row;
+        if (order >= 0 && changes[next++].removes) continue;
+        bool is_there = nifazombi_ipv6_row_at(made, made_len, to++, &found);
+        need(is_there && !order6(&row, &found) && row.value == found.value, "another row is merged");
+    }
+    need(!nifazombi_ipv6_row_at(made, made_len, to, &found), "a row more is merged");
+}
+
+static void need_lengths6(const uint8_t *image, size_t len, size_t count, size_t changes, size_t own) {
+    size_t many = (size_t)1 << 32, most = nifazombi_ipv6_image_len(many - 1, 0) + (1 << 23);
+    need(nifazombi_ipv6_merge_len(image, len, changes, own) == nifazombi_ipv6_image_len(count + changes, own),
+         "another length of what is merged");
+    need(nifazombi_ipv6_merge_len(image, len, many - 1 - count, 0) == most, "what fits has another length");
+    need(!nifazombi_ipv6_merge_len(image, len, many - count, 0), "too many changes have a length");
+    need(!nifazombi_ipv6_merge_len(image, len, 1, SIZE_MAX), "too many bytes have a length");
+}
+
+// Merges changes of the first network, of a row's and of the last one into an image, or into other bytes, of which an
+// image comes too, unless that row's network is none. All of `removes` but 0 says that the network goes.
+static void merge6(const uint8_t *image, size_t len, bool is_image) {
+    nifazombi_ipv6_change changes[3] = {{.row = {.value = 5}}}, last = {.row = {.bits = 128, .value = 6}};
+    memset(&last.row.first, 0xff, sizeof last.row.first);
+    size_t count = nifazombi_ipv6_len(image, len), times = 1, own = draw() % 4, at = SIZE_MAX;
+    nifazombi_ipv6_row *row = &changes[1].row;
+    if (count && nifazombi_ipv6_row_at(image, len, draw() % count, row) && order6(&changes[0].row, row) < 0 &&
+        order6(row, &last.row) < 0)
+        times++, row->value++, row->link = (uint32_t)draw();
+    changes[times++] = last;
+    for (size_t k = 0; k < times; k++) changes[k].removes = draw() % 2 ? 1u << draw() % 32 : 0;
+    if (is_image) need_lengths6(image, len, count, times, own);
+    size_t room = nifazombi_ipv6_merge_len(image, len, times, own);
+    need(room && room <= MOST_MERGED, "another length of a few changes");
+    const uint8_t *payload = (const uint8_t *)"own";
+    uint8_t *out = merged_end - room;
+    memset(out, 0xa5, room);
+    need(nifazombi_ipv6_merge(image, len, changes, times, payload, own, out + 1, room - 1, &at) == NIFAZOMBI_ERROR_SHORT,
+         "a short buffer isn't told");
+    uint32_t wrong = nifazombi_ipv6_merge(image, len, changes, times, payload, own, out, room, &at);
+    need(!wrong || (!is_image && wrong == NIFAZOMBI_ERROR_OUT_OF_ORDER && at == 1), "changes in order aren't merged");
+    size_t made = wrong ? 0 : at;
+    need(made <= room, "more is merged than there is room for");
+    for (size_t k = made; k < room; k++) need(out[k] == 0xa5, "bytes behind what is merged don't stay");
+    add(made);
+    if (!wrong) {
+        nifazombi_span kept = {0, 0};
+        need(!nifazombi_ipv6_check(out, made, &at), "what is merged is no image");
+        need(nifazombi_payload(out, made, &kept) && kept.count == own && !memcmp(out + kept.first, payload, own),
+             "another payload is merged");
+        if (is_image) need_merged6(image, len, changes, times, out, made);
+    }
+    changes[0] = changes[times - 1];
+    need(nifazombi_ipv6_merge(image, len, changes, times, payload, own, out, room, &at) == NIFAZOMBI_ERROR_OUT_OF_ORDER &&
+             at == 1, "a change out of order is merged");
+}
+
 static void ask6(const uint8_t *image, size_t len, bool is_searched) {
     size_t at = 0, count = nifazombi_ipv6_len(image, len);
     uint32_t wrong = nifazombi_ipv6_check(image, len, &at), found[ASKED] = {0};
@@ -121,6 +266,7 @@ static void ask6(const uint8_t *image, size_t len, bool is_searched) {
         need(span.first + span.count <= count, "rows that aren't there");
         add(span.first), add(span.count);
     }
+    if (is_searched) merge6(image, len, !wrong);
     need(!nifazombi_ipv6_above(image, len, SIZE_MAX), "a row is around one past the end");
     need(wrong || !nifazombi_ipv6_above(image, len, count), "a row is around the one behind the last");
     size_t looked = nifazombi_ipv6_longest_matches(image, len, asked, ASKED, found, ASKED);
@@ -356,6 +502,9 @@ int main(int count, char **words) {
     uint8_t *all = mmap(NULL, MOST + 2 * page, PROT_NONE, MAP_PRIVATE | MAP_ANONYMOUS, -1, 0);
     need(all != MAP_FAILED && count > 2 && !mprotect(all + page, MOST, PROT_READ | PROT_WRITE), "no memory");
     front = all + page, end = front + MOST;
+    all = mmap(NULL, MOST_MERGED + page, PROT_NONE, MAP_PRIVATE | MAP_ANONYMOUS, -1, 0);
+    need(all != MAP_FAILED && !mprotect(all, MOST_MERGED, PROT_READ | PROT_WRITE), "no memory");
+    merged_end = all + MOST_MERGED;
     static uint8_t image[MOST], other[MOST];
     try_lengths();
     try_many_parts();

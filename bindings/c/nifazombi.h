@@ -38,10 +38,10 @@ extern "C" {
 // The cell at this index counts wrongly, or leads to another span.
 #define NIFAZOMBI_ERROR_CELL 6
 
-// There are 2^32 rows or more, or so many bytes of keys.
+// There are 2^32 rows or more, with the changes if any, or so many bytes of keys.
 #define NIFAZOMBI_ERROR_FULL 7
 
-// The row at this index isn't valid, or doesn't come after the row before it.
+// The row or change at this index isn't valid, or doesn't come after the one before it.
 #define NIFAZOMBI_ERROR_OUT_OF_ORDER 8
 
 // The first span doesn't begin at 0, or the span at this index doesn't begin before the next one,
@@ -58,11 +58,11 @@ typedef struct {
     uint32_t value;
 } nifazombi_ipv4_row;
 
-// A change of a routing table: its row is stored from now on, or its network goes, and then the
-// row's value and link count for nothing.
+// A change of a routing table: its row is stored from now on where `removes` is 0; else its
+// network goes, and the row's value and link count for nothing.
 typedef struct {
     nifazombi_ipv4_row row;
-    bool is_removed;
+    uint32_t removes;
 } nifazombi_ipv4_change;
 
 // A row: a network by its first address, in network order, and how many bits its addresses share,
@@ -74,11 +74,11 @@ typedef struct {
     uint64_t value;
 } nifazombi_ipv6_row;
 
-// A change of a routing table: its row is stored from now on, or its network goes, and then the
-// row's value and link count for nothing.
+// A change of a routing table: its row is stored from now on where `removes` is 0; else its
+// network goes, and the row's value and link count for nothing.
 typedef struct {
     nifazombi_ipv6_row row;
-    bool is_removed;
+    uint32_t removes;
 } nifazombi_ipv6_change;
 
 // A key and its value.
@@ -157,6 +157,23 @@ uint32_t nifazombi_ipv4_write(
     uint8_t *out, size_t out_len,
     size_t *at);
 
+// How many bytes the image takes at most that so many changes make of one, with so many bytes of
+// the user's own, or 0 where all rows and changes are 2^32 or more, and where these are 2^64 bytes
+// or more.
+size_t nifazombi_ipv4_merge_len(const uint8_t *image, size_t image_len, size_t changes, size_t payload);
+
+// Writes the image that changes make of another one, with the user's own bytes, into `out`. The
+// changes are in order as rows are for `nifazombi_ipv4_write`, and no network has two; one that is
+// removed needs no row. Returns 0, and puts into `at` how many bytes the new image takes; or why
+// it couldn't: one of the numbers above; an index that belongs to it is put into `at`, and `out`
+// is as before then. Of bytes that are no image it takes the first rows that are in order.
+uint32_t nifazombi_ipv4_merge(
+    const uint8_t *image, size_t image_len,
+    const nifazombi_ipv4_change *changes, size_t changes_len,
+    const uint8_t *payload, size_t payload_len,
+    uint8_t *out, size_t out_len,
+    size_t *at);
+
 // Checks whether bytes are an image of IPv6 networks, in linear time. Returns 0 of an image, and
 // else why they are none: one of the numbers above; an index that belongs to it is put into `at`.
 uint32_t nifazombi_ipv6_check(const uint8_t *image, size_t image_len, size_t *at);
@@ -212,6 +229,23 @@ size_t nifazombi_ipv6_image_len(size_t rows, size_t payload);
 // put into `at`, and `out` is as before then.
 uint32_t nifazombi_ipv6_write(
     const nifazombi_ipv6_row *rows, size_t rows_len,
+    const uint8_t *payload, size_t payload_len,
+    uint8_t *out, size_t out_len,
+    size_t *at);
+
+// How many bytes the image takes at most that so many changes make of one, with so many bytes of
+// the user's own, or 0 where all rows and changes are 2^32 or more, and where these are 2^64 bytes
+// or more.
+size_t nifazombi_ipv6_merge_len(const uint8_t *image, size_t image_len, size_t changes, size_t payload);
+
+// Writes the image that changes make of another one, with the user's own bytes, into `out`. The
+// changes are in order as rows are for `nifazombi_ipv6_write`, and no network has two; one that is
+// removed needs no row. Returns 0, and puts into `at` how many bytes the new image takes; or why
+// it couldn't: one of the numbers above; an index that belongs to it is put into `at`, and `out`
+// is as before then. Of bytes that are no image it takes the first rows that are in order.
+uint32_t nifazombi_ipv6_merge(
+    const uint8_t *image, size_t image_len,
+    const nifazombi_ipv6_change *changes, size_t changes_len,
     const uint8_t *payload, size_t payload_len,
     uint8_t *out, size_t out_len,
     size_t *at);

@@ -49,8 +49,8 @@ RUST_HEAD = """//! Made by `tools/checks/texts --write` of the sources of crates
 
 use crate::nifazombi_c::results::{NIFAZOMBI_ERROR_FULL, Span};
 use crate::nifazombi_c::{ipv4, ipv6, results, texts};
-use nifazombi::flat_routes::ipv4::Row as Ipv4Row;
-use nifazombi::flat_routes::ipv6::Row as Ipv6Row;
+use nifazombi::flat_routes::ipv4::{Change as Ipv4Change, Row as Ipv4Row};
+use nifazombi::flat_routes::ipv6::{Change as Ipv6Change, Row as Ipv6Row};
 use nifazombi::flat_texts::{Pair, Place as TextsPlace};
 use std::slice::{from_raw_parts, from_raw_parts_mut};
 

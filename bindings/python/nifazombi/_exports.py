@@ -17,7 +17,7 @@ class Ipv4Row(Structure):
 
 
 class Ipv4Change(Structure):
-    _fields_ = [("row", Ipv4Row), ("is_removed", c_bool)]
+    _fields_ = [("row", Ipv4Row), ("removes", c_uint32)]
 
 
 class Ipv6Row(Structure):
@@ -25,7 +25,7 @@ class Ipv6Row(Structure):
 
 
 class Ipv6Change(Structure):
-    _fields_ = [("row", Ipv6Row), ("is_removed", c_bool)]
+    _fields_ = [("row", Ipv6Row), ("removes", c_uint32)]
 
 
 class TextsPair(Structure):
@@ -53,6 +53,8 @@ EXPORTS = [
     ("nifazombi_ipv4_above", c_size_t, [c_void_p, c_size_t, c_size_t]),
     ("nifazombi_ipv4_image_len", c_size_t, [c_size_t, c_size_t]),
     ("nifazombi_ipv4_write", c_uint32, [c_void_p, c_size_t, c_void_p, c_size_t, c_void_p, c_size_t, POINTER(c_size_t)]),
+    ("nifazombi_ipv4_merge_len", c_size_t, [c_void_p, c_size_t, c_size_t, c_size_t]),
+    ("nifazombi_ipv4_merge", c_uint32, [c_void_p, c_size_t, c_void_p, c_size_t, c_void_p, c_size_t, c_void_p, c_size_t, POINTER(c_size_t)]),
     ("nifazombi_ipv6_check", c_uint32, [c_void_p, c_size_t, POINTER(c_size_t)]),
     ("nifazombi_ipv6_len", c_size_t, [c_void_p, c_size_t]),
     ("nifazombi_ipv6_row_at", c_bool, [c_void_p, c_size_t, c_size_t, POINTER(Ipv6Row)]),
@@ -64,6 +66,8 @@ EXPORTS = [
     ("nifazombi_ipv6_above", c_size_t, [c_void_p, c_size_t, c_size_t]),
     ("nifazombi_ipv6_image_len", c_size_t, [c_size_t, c_size_t]),
     ("nifazombi_ipv6_write", c_uint32, [c_void_p, c_size_t, c_void_p, c_size_t, c_void_p, c_size_t, POINTER(c_size_t)]),
+    ("nifazombi_ipv6_merge_len", c_size_t, [c_void_p, c_size_t, c_size_t, c_size_t]),
+    ("nifazombi_ipv6_merge", c_uint32, [c_void_p, c_size_t, c_void_p, c_size_t, c_void_p, c_size_t, c_void_p, c_size_t, POINTER(c_size_t)]),
     ("nifazombi_payload", c_bool, [c_void_p, c_size_t, POINTER(Span)]),
     ("nifazombi_texts_check", c_uint32, [c_void_p, c_size_t, POINTER(c_size_t)]),
     ("nifazombi_texts_len", c_size_t, [c_void_p, c_size_t]),

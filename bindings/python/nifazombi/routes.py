@@ -12,6 +12,7 @@ from ._table import REASONS, ImageError, Items, Pairs, Table, built, items_of, n
 
 Address = typing.Union[str, int, bytes, ipaddress.IPv4Address, ipaddress.IPv6Address]
 Network = typing.Union[str, ipaddress.IPv4Network, ipaddress.IPv6Network]
+Change = typing.Tuple[Network, typing.Optional[int]]
 
 
 class Route(typing.NamedTuple):
@@ -38,6 +39,7 @@ def _calls(start):
 class _Ipv4:
     version, network, row, width = 4, ipaddress.IPv4Network, exports.Ipv4Row, 32
     calls, rows, values, value_bits = _calls("nifazombi_ipv4_"), struct.Struct("=IIII"), "I", 32
+    changes = struct.Struct("=16sI")  # a row, and whether its network goes
 
     @staticmethod
     def passed(address):
@@ -70,6 +72,7 @@ class _Ipv4:
 class _Ipv6:
     version, network, row, width = 6, ipaddress.IPv6Network, exports.Ipv6Row, 128
     calls, rows, values, value_bits = _calls("nifazombi_ipv6_"), struct.Struct("=16sIIQ"), "Q", 64
+    changes = struct.Struct("=32sI4x")
 
     @staticmethod
     def passed(address):
@@ -98,6 +101,19 @@ class _Ipv6:
         return bytes(row.first)
 
 
+def _in_order(pairs, version):
+    """Pairs of a network and anything else in order, and the family of the networks: of this version, or without one of
+    the first one's."""
+    each = [(ipaddress.ip_network(network), value) for network, value in pairs_of(pairs)]
+    version = version or (each[0][0].version if each else 4)
+    if version not in (4, 6):
+        raise ValueError(f"there is no IPv{version}")
+    if any(network.version != version for network, _ in each):
+        raise ValueError("the networks aren't of one family")
+    each.sort(key=lambda it: (int(it[0].network_address), it[0].prefixlen))
+    return each, _Ipv4 if version == 4 else _Ipv6
+
+
 class Routes(Table):
     """A routing table of one family: `longest_match(address)` is the route of the longest network that holds an
     address, and `routes[network]` the value of one very network.
@@ -118,17 +134,25 @@ class Routes(Table):
         one's own. A network is a text or one of `ipaddress`. `version` says of which family the networks have to be:
         without it that is the first one's, and IPv4 where there is none. Raises ValueError where a network comes
         twice."""
-        each = [(ipaddress.ip_network(network), value) for network, value in pairs_of(routes)]
-        version = version or (each[0][0].version if each else 4)
-        if version not in (4, 6):
-            raise ValueError(f"there is no IPv{version}")
-        if any(network.version != version for network, _ in each):
-            raise ValueError("the networks aren't of one family")
-        family = _Ipv4 if version == 4 else _Ipv6
-        each.sort(key=lambda it: (int(it[0].network_address), it[0].prefixlen))
+        each, family = _in_order(routes, version)
         rows = b"".join(family.packed(network, number_of(network, value, family.value_bits)) for network, value in each)
         return built(lambda own: family.calls.image_len(len(each), own), family.calls.write, rows, each, payload,
                      is_at_most=True)
+
+    def merge(self, changes: typing.Union[typing.Mapping[Network, typing.Optional[int]], typing.Iterable[Change]],
+              payload=b"") -> bytes:
+        """The image of the table after changes, with bytes of one's own in place of those that it has. The changes are
+        pairs of a network and its value from now on, or None where the network goes, whether it is there or not; or a
+        mapping, in any order. Raises ValueError where a network comes twice, or is of the other family."""
+        each, family = _in_order(changes, self.version)
+        calls, table = family.calls, (self._at, self._len)
+
+        def packed(network, value):
+            number = 0 if value is None else number_of(network, value, family.value_bits)
+            return family.changes.pack(family.packed(network, number), value is None)
+
+        return built(lambda own: calls.merge_len(*table, len(each), own), lambda *passed: calls.merge(*table, *passed),
+                     b"".join(packed(*it) for it in each), each, payload, is_at_most=True)
 
     def __len__(self) -> int:
         return self._family.calls.len(self._at, self._len)

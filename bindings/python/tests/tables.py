@@ -81,6 +81,30 @@ def try_routes(version, most=128):
         assert below[-1].network == within[-1] and len(below[1:]) == len(within) - 1 and below.index(below[0]) == 0
 
 
+def try_merges(version, most=128):
+    """Tables change as a map does that is edited by hand."""
+    found, others = drawn(version, most), [*drawn(version, most).items()]
+    routes = Routes(Routes.build(found, payload=b"old bytes"))
+    for count in (0, 1, 2, 9, ROUTES):
+        again = [(it, random.getrandbits(32)) for it in random.sample([*found], count)]
+        changes = {network: random.choice((None, value)) for network, value in [*random.sample(others, count), *again]}
+        after = dict(found)
+        for network, value in changes.items():
+            if value is None:
+                after.pop(network, None)
+            else:
+                after[network] = value
+        image = routes.merge(changes, payload=b"new"[:count])
+        assert image == images.routes_image(after.items(), b"new"[:count], is_wide=version == 6)
+        pairs = [(str(network), value) for network, value in changes.items()]
+        assert image == routes.merge(random.sample(pairs, len(pairs)), memoryview(b"new")[:count])
+        assert {it.network: it.value for it in Routes(image)} == after
+    none = images.routes_image([], is_wide=version == 6)
+    assert routes.merge(dict.fromkeys(found)) == none == Routes(none).merge(dict.fromkeys(found))
+    assert Routes(none).merge(iter(found.items())) == images.routes_image(found.items())
+    assert routes.payload == b"old bytes" and {it.network: it.value for it in routes} == found
+
+
 def try_texts():
     found = {bytes(random.choices(b"ab\0\xff", k=random.randrange(20))): random.getrandbits(64) for _ in range(ROUTES)}
     image = Texts.build(found, payload=b"own")
@@ -127,6 +151,20 @@ def try_refusals():
     refused(lambda: Routes.build([], version=5), ValueError, "no IPv5")
     refused(lambda: Routes.build([("10.0.0.0/8", 1.5)]), TypeError, "integer")
     refused(lambda: Routes.build([("10.0.0.1/8", 1)]), ValueError, "host bits")
+    routes, net = Routes(image), "10.0.0.0/8"
+    for changes, error, why in (
+            ([(net, 1), ("9.0.0.0/8", 2), (net, None)], ValueError, f"{net} is there twice"),
+            ([("::/0", None)], ValueError, "one family"), ([("10.0.0.1/8", None)], ValueError, "host bits"),
+            ({net: 1 << 32}, ValueError, "doesn't fit into 32 bits"), ({net: -1}, ValueError, "doesn't fit"),
+            ({net: 1.5}, TypeError, "integer"), ({"10.0.0.0/33": 1}, ValueError, "10.0.0.0/33")):
+        refused(lambda changes=changes: routes.merge(changes), error, why)
+    refused(lambda: routes.merge({}, payload="own"), TypeError, "bytes-like")
+    refused(lambda: Routes(wide).merge({net: 1}), ValueError, "one family")
+    refused(lambda: Routes(wide).merge({"fe80::1%eth0": 1}), ValueError, "fe80::1%eth0 has a scope")
+    refused(lambda: Routes(wide).merge({"::/0": 1 << 64}), ValueError, "doesn't fit into 64 bits")
+    refused(lambda: Routes(bytes(turned)).merge({net: 1}), ImageError, "row 0")
+    routes.close()
+    refused(lambda: routes.merge({}), ValueError, "closed")
     refused(lambda: Texts.build([("a", 1), (b"a", 2)]), ValueError, "b'a' is there twice")
     refused(lambda: Texts.build({"a": -1}), ValueError, "b'a' doesn't fit into 64 bits")
     refused(lambda: Texts.build({5: 1}), TypeError, "bytes-like")
@@ -244,6 +282,7 @@ def try_hostile():
             elif table.version == 6:
                 address = ipaddress.IPv6Address(random.getrandbits(128))
                 table._family.calls.longest_match(table._at, table._len, table._family.passed(address))
+                assert Routes(table.merge({"::/1": 5, "::/2": None})).get("::/1") == 5
 
 
 def main():
@@ -253,6 +292,8 @@ def main():
     try_routes(4)
     try_routes(6)
     try_routes(6, 64)
+    for version, most in ((4, 32), (6, 128), (6, 64)):
+        try_merges(version, most)
     try_texts()
     try_refusals()
     try_payload()

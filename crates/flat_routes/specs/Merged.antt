@@ -1,5 +1,5 @@
 -- What becomes of the rows of an image by changes.
-use Rattle.std.specs.Prelude.{◌≡◌, ℕ, ◌+◌, ◌*◌, ◌^◌, ◌<◌, ◌≤◌, ◌⊎◌, ◌↔◌, Bool, true, false, List, if◌then◌else◌, length, nat_lt, slice_index_or}
+use Rattle.std.specs.Prelude.{◌≡◌, ℕ, ◌+◌, ◌*◌, ◌^◌, ◌<◌, ◌≤◌, ◌⊎◌, ◌↔◌, ◌==◌, Bool, true, false, not, List, if◌then◌else◌, length, nat_lt, slice_index_or}
 use Rattle.std.specs.List.{Contains}
 use Rattle.radix_keys.specs.Networks.{Net}
 use Rattle.image_parts.specs.declared.errors.WriteError.{WriteError}
@@ -15,13 +15,13 @@ abbrev pub row_of_change4 : Change4 → Net ℕ × ℕ
 row_of_change4 c = row4_of c.row
 
 abbrev pub is_removal4 : Change4 → Bool
-is_removal4 c = c.is_removed
+is_removal4 c = not (c.removes == 0)
 
 abbrev pub row_of_change6 : Change6 → Net ℕ × ℕ
 row_of_change6 c = row6_of c.row
 
 abbrev pub is_removal6 : Change6 → Bool
-is_removal6 c = c.is_removed
+is_removal6 c = not (c.removes == 0)
 
 -- how many bytes an image of at most so many rows takes at most, with so many of the user's own: one of less than 2^31 rows
 -- has cells, one of more none

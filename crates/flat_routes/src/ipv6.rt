@@ -225,13 +225,14 @@ pub fn write(rows: &[Row], payload: &[u8], out: &mut [u8]) -> Result<usize, Writ
     write::write(rows, payload, out)
 }
 
-/// A change of a routing table: its row is stored from now on, or its network goes, and then the
-/// row's value and link count for nothing.
+/// A change of a routing table: its row is stored from now on where `removes` is 0; else its
+/// network goes, and the row's value and link count for nothing.
 #[repr(C)]
 #[derive(Clone, Copy)]
 pub struct Change {
     pub row: Row,
-    pub is_removed: bool,
+    // In a `bool` of C any byte may stand.
+    pub removes: u32,
 }
 
 impl FlatRow for Change {
@@ -262,7 +263,7 @@ impl FlatChange for Change {
     ghost removes = { is_removal6 };
 
     fn is_removed(self) -> bool {
-        self.is_removed
+        self.removes != 0
     }
 }
 
@@ -303,7 +304,7 @@ pub fn merge_len(image: &[u8], changes: usize, payload: usize) -> Option<usize>
 /// let row = |value| Row { first: [0xfd; 16], bits: 128, link: 0, value };
 /// let mut image = [0u8; 400];
 /// assert!(ipv6::write(&[row(7)], &[], &mut image).is_ok());
-/// let change = Change { row: row(8), is_removed: false };
+/// let change = Change { row: row(8), removes: 0 };
 /// let mut changed = [0u8; 400];
 /// assert!(ipv6::merge(&image, &[change], &[], &mut changed).is_ok());
 /// let table = Table::<Ipv6Addr>::checked(&changed)?;

@@ -1,16 +1,17 @@
 //! Images of IPv6 networks. An address is its 16 octets in network order, as in `struct in6_addr`.
-ghost use Rattle.std.specs.Prelude.{◌≡◌, ◌↔◌, ◌⊎◌, ◌<◌, ◌≤◌, ◌+◌, ◌-◌, ◌/◌, ℕ, false, IsFalse, IsSomeAnd, IsTrue, MatchOption, None, Some, drop, length, min, slice_get, slice_index, take, map as each, ◌^◌};
+ghost use Rattle.std.specs.Prelude.{◌≡◌, ◌↔◌, ◌⊎◌, ◌<◌, ◌≤◌, ◌+◌, ◌-◌, ◌/◌, ℕ, false, IsFalse, IsSome, IsSomeAnd, IsTrue, MatchOption, None, Some, drop, length, min, slice_get, slice_index, take, map as each, ◌^◌};
 ghost use Rattle.std.specs.List.{filter};
 ghost use Rattle.radix_keys.specs.Networks.{Net};
 ghost use Rattle.image_parts.specs.Parts.{HoldsPayload, row_count};
 ghost use Rattle.frozen_routes.specs.Routes.{AreInFront, IsLongestRow, IsOwnRow, is_inside};
+ghost use Rattle.flat_routes.specs.Merged.{AreRowsAfter, CanMerge, IsMergeFault, is_removal6, merged_size, row_of_change6};
 ghost use Rattle.flat_routes.specs.Written.{CanWrite, ChangesWithin, IsImageOf, IsWriteFault, image_size};
 ghost use Rattle.flat_routes.specs.Faults.{IsRouteFault};
 ghost use Rattle.flat_routes.specs.Images.{IsImage, bases, first_in, found_row, found_value, image_rows, link_in, network, octet_number, of_ipv6, row6_of, sizes};
 ghost use Rattle.nifazombi_c.specs.Results.{told_error, told_write};
 
 use crate::results::{Span, code_of, length_of};
-use flat_routes::ipv6::{self, Row};
+use flat_routes::ipv6::{self, Change, Row};
 
 /// Checks whether bytes are an image of IPv6 networks, in linear time. Returns 0 of an image, and
 /// else why they are none: one of the numbers above; an index that belongs to it is put into `at`.
@@ -205,4 +206,61 @@ pub extern "C" fn nifazombi_ipv6_write(
     ensures unchanged { (result ≡ 0 → ⊥) → out.new ≡ out.old }
 {
     length_of(ipv6::write(rows, payload, out), at)
+}
+
+/// How many bytes the image takes at most that so many changes make of one, with so many bytes of
+/// the user's own, or 0 where all rows and changes are 2^32 or more, and where these are 2^64 bytes
+/// or more.
+#[unsafe(no_mangle)]
+pub extern "C" fn nifazombi_ipv6_merge_len(image: &[u8], changes: usize, payload: usize) -> usize
+    ensures len { IsImage of_ipv6 image.now
+        → length (image_rows of_ipv6 image.now) + changes < 2 ^ 32
+        → merged_size of_ipv6 (length (image_rows of_ipv6 image.now) + changes) payload < 2 ^ 64
+        → result
+        ≡ merged_size of_ipv6 (length (image_rows of_ipv6 image.now) + changes) payload }
+    ensures none { IsImage of_ipv6 image.now
+        → (2 ^ 32 ≤ length (image_rows of_ipv6 image.now) + changes) ⊎ (2 ^ 64
+        ≤ merged_size of_ipv6 (length (image_rows of_ipv6 image.now) + changes) payload)
+        → result ≡ 0 }
+{
+    match ipv6::merge_len(image, changes, payload) {
+        Some(len) => len,
+        None => 0,
+    }
+}
+
+/// Writes the image that changes make of another one, with the user's own bytes, into `out`. The
+/// changes are in order as rows are for `nifazombi_ipv6_write`, and no network has two; one that is
+/// removed needs no row. Returns 0, and puts into `at` how many bytes the new image takes; or why
+/// it couldn't: one of the numbers above; an index that belongs to it is put into `at`, and `out`
+/// is as before then. Of bytes that are no image it takes the first rows that are in order.
+#[unsafe(no_mangle)]
+pub extern "C" fn nifazombi_ipv6_merge(
+    image: &[u8],
+    changes: &[Change],
+    payload: &[u8],
+    out: &mut [u8],
+    at: &mut usize,
+) -> u32
+    ensures ok { IsImage of_ipv6 image.now → (result ≡ 0) ↔ CanMerge of_ipv6
+        (length (image_rows of_ipv6 image.now)) (each row_of_change6 changes.now)
+        (length payload.now) (length out.old) }
+    ensures fault { IsImage of_ipv6 image.now → (result ≡ 0)
+        ⊎ IsSomeAnd (told_write result at.new) (IsMergeFault of_ipv6
+        (length (image_rows of_ipv6 image.now)) (each row_of_change6 changes.now)
+        (length payload.now) (length out.old)) }
+    ensures told { (result ≡ 0) ⊎ IsSome (told_write result at.new) }
+    ensures image { result ≡ 0 → IsImage of_ipv6 out.new }
+    ensures rows { result ≡ 0 → IsImage of_ipv6 image.now → AreRowsAfter row_of_change6
+        is_removal6 changes.now (image_rows of_ipv6 image.now)
+        (image_rows of_ipv6 out.new) }
+    ensures payload { result ≡ 0 → HoldsPayload out.new payload.now }
+    ensures front { result ≡ 0 → IsImageOf of_ipv6 (image_rows of_ipv6 out.new) payload.now
+        (take at.new out.new) }
+    ensures most { result ≡ 0 → at.new ≤ merged_size of_ipv6
+        (row_count image.now + length changes.now) (length payload.now) }
+    ensures change { result ≡ 0 → ChangesWithin 0 at.new out.old out.new }
+    ensures unchanged { (result ≡ 0 → ⊥) → out.new ≡ out.old }
+{
+    length_of(ipv6::merge(image, changes, payload, out), at)
 }

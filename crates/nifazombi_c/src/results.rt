@@ -24,10 +24,10 @@ pub const NIFAZOMBI_ERROR_ROW: u32 = 5;
 /// The cell at this index counts wrongly, or leads to another span.
 pub const NIFAZOMBI_ERROR_CELL: u32 = 6;
 
-/// There are 2^32 rows or more, or so many bytes of keys.
+/// There are 2^32 rows or more, with the changes if any, or so many bytes of keys.
 pub const NIFAZOMBI_ERROR_FULL: u32 = 7;
 
-/// The row at this index isn't valid, or doesn't come after the row before it.
+/// The row or change at this index isn't valid, or doesn't come after the one before it.
 pub const NIFAZOMBI_ERROR_OUT_OF_ORDER: u32 = 8;
 
 /// The first span doesn't begin at 0, or the span at this index doesn't begin before the next one,

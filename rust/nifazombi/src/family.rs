@@ -84,7 +84,7 @@ macro_rules! family {
                 let change = |(at, change): (usize, &Change<$address>)| {
                     let value = change.value.unwrap_or(0);
                     let row = Route::new(change.network, change.bits, value).row(at)?;
-                    Ok($module::Change { row, is_removed: change.value.is_none() })
+                    Ok($module::Change { row, removes: change.value.is_none().into() })
                 };
                 let changes = changes.iter().enumerate().map(change);
                 let changes = changes.collect::<Result<Vec<_>, WriteError>>()?;

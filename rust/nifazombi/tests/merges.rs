@@ -49,7 +49,7 @@ macro_rules! family {
 
             pub fn change((&net, &value): (&($address, u32), &Option<$value>)) -> Change {
                 let row = row(&(net, value.unwrap_or(77)));
-                Change { row, is_removed: value.is_none() }
+                Change { row, removes: value.is_none().into() }
             }
 
             #[test]
@@ -85,8 +85,10 @@ macro_rules! family {
             fn errors_leave_the_buffer() {
                 let table = Table::from([((1 << ($width - 1), 1), 1), ((1 << ($width - 1), 2), 2)]);
                 let image = written(&table, b"own");
-                let net =
-                    |first, bits| Change { row: row(&((first, bits), 3)), is_removed: bits == 2 };
+                let net = |first, bits| Change {
+                    row: row(&((first, bits), 3)),
+                    removes: if bits == 2 { 7 } else { 0 },
+                };
                 let top = 1 << ($width - 1);
                 let changes = [net(0, 1), net(top, 1), net(top, 2)];
                 let room = $module::merge_len(&image, 3, 2).unwrap();
@@ -140,7 +142,7 @@ macro_rules! family {
                     assert_eq!($module::check(&out), Ok(()));
                     assert_eq!(payload(&out).map(|(at, len)| &out[at..at + len]), Some(&b"it"[..]));
                 }
-                let list = [Change { row: row(&((0, 1), 4)), is_removed: false }];
+                let list = [Change { row: row(&((0, 1), 4)), removes: 0 }];
                 let mut out = vec![0; 400];
                 for none in [&b""[..], b"NZIPV", &[0xff; 200]] {
                     let len = $module::merge(none, &list, b"", &mut out).unwrap();
@@ -157,7 +159,7 @@ family!(wide, ipv6, u128, 128, u64, u128::to_be_bytes, u128::from_be_bytes);
 #[test]
 fn ipv4_merge_refuses_a_short_buffer_and_changes_out_of_order() {
     let row = |first, value| ipv4::Row { first, bits: 8, link: 0, value };
-    let change = |first, value| ipv4::Change { row: row(first, value), is_removed: false };
+    let change = |first, value| ipv4::Change { row: row(first, value), removes: 0 };
     let mut image = [0; 200];
     let len = ipv4::write(&[row(0x0a00_0000, 7)], b"", &mut image).unwrap();
     let changes = [change(0x0b00_0000, 8), change(0x0a00_0000, 9)];

@@ -6,8 +6,8 @@
 
 use crate::nifazombi_c::results::{NIFAZOMBI_ERROR_FULL, Span};
 use crate::nifazombi_c::{ipv4, ipv6, results, texts};
-use nifazombi::flat_routes::ipv4::Row as Ipv4Row;
-use nifazombi::flat_routes::ipv6::Row as Ipv6Row;
+use nifazombi::flat_routes::ipv4::{Change as Ipv4Change, Row as Ipv4Row};
+use nifazombi::flat_routes::ipv6::{Change as Ipv6Change, Row as Ipv6Row};
 use nifazombi::flat_texts::{Pair, Place as TextsPlace};
 use std::slice::{from_raw_parts, from_raw_parts_mut};
 
@@ -223,6 +223,49 @@ pub unsafe extern "C" fn nifazombi_ipv4_write(
     }
 }
 
+/// How many bytes the image takes at most that so many changes make of one, with so many bytes of
+/// the user's own, or 0 where all rows and changes are 2^32 or more, and where these are 2^64 bytes
+/// or more.
+#[unsafe(no_mangle)]
+pub unsafe extern "C" fn nifazombi_ipv4_merge_len(
+    image: *const u8,
+    image_len: usize,
+    changes: usize,
+    payload: usize,
+) -> usize {
+    // SAFETY: callers pass live memory, and share only what is read, as the header asks.
+    unsafe { ipv4::nifazombi_ipv4_merge_len(slice(image, image_len), changes, payload) }
+}
+
+/// Writes the image that changes make of another one, with the user's own bytes, into `out`. The
+/// changes are in order as rows are for `nifazombi_ipv4_write`, and no network has two; one that is
+/// removed needs no row. Returns 0, and puts into `at` how many bytes the new image takes; or why
+/// it couldn't: one of the numbers above; an index that belongs to it is put into `at`, and `out`
+/// is as before then. Of bytes that are no image it takes the first rows that are in order.
+#[unsafe(no_mangle)]
+pub unsafe extern "C" fn nifazombi_ipv4_merge(
+    image: *const u8,
+    image_len: usize,
+    changes: *const Ipv4Change,
+    changes_len: usize,
+    payload: *const u8,
+    payload_len: usize,
+    out: *mut u8,
+    out_len: usize,
+    at: *mut usize,
+) -> u32 {
+    // SAFETY: callers pass live memory, and share only what is read, as the header asks.
+    unsafe {
+        ipv4::nifazombi_ipv4_merge(
+            slice(image, image_len),
+            slice(changes, changes_len),
+            slice(payload, payload_len),
+            slice_mut(out, out_len),
+            &mut *at,
+        )
+    }
+}
+
 /// Checks whether bytes are an image of IPv6 networks, in linear time. Returns 0 of an image, and
 /// else why they are none: one of the numbers above; an index that belongs to it is put into `at`.
 #[unsafe(no_mangle)]
@@ -375,6 +418,49 @@ pub unsafe extern "C" fn nifazombi_ipv6_write(
     unsafe {
         ipv6::nifazombi_ipv6_write(
             slice(rows, rows_len),
+            slice(payload, payload_len),
+            slice_mut(out, out_len),
+            &mut *at,
+        )
+    }
+}
+
+/// How many bytes the image takes at most that so many changes make of one, with so many bytes of
+/// the user's own, or 0 where all rows and changes are 2^32 or more, and where these are 2^64 bytes
+/// or more.
+#[unsafe(no_mangle)]
+pub unsafe extern "C" fn nifazombi_ipv6_merge_len(
+    image: *const u8,
+    image_len: usize,
+    changes: usize,
+    payload: usize,
+) -> usize {
+    // SAFETY: callers pass live memory, and share only what is read, as the header asks.
+    unsafe { ipv6::nifazombi_ipv6_merge_len(slice(image, image_len), changes, payload) }
+}
+
+/// Writes the image that changes make of another one, with the user's own bytes, into `out`. The
+/// changes are in order as rows are for `nifazombi_ipv6_write`, and no network has two; one that is
+/// removed needs no row. Returns 0, and puts into `at` how many bytes the new image takes; or why
+/// it couldn't: one of the numbers above; an index that belongs to it is put into `at`, and `out`
+/// is as before then. Of bytes that are no image it takes the first rows that are in order.
+#[unsafe(no_mangle)]
+pub unsafe extern "C" fn nifazombi_ipv6_merge(
+    image: *const u8,
+    image_len: usize,
+    changes: *const Ipv6Change,
+    changes_len: usize,
+    payload: *const u8,
+    payload_len: usize,
+    out: *mut u8,
+    out_len: usize,
+    at: *mut usize,
+) -> u32 {
+    // SAFETY: callers pass live memory, and share only what is read, as the header asks.
+    unsafe {
+        ipv6::nifazombi_ipv6_merge(
+            slice(image, image_len),
+            slice(changes, changes_len),
             slice(payload, payload_len),
             slice_mut(out, out_len),
             &mut *at,

@@ -11,7 +11,10 @@ ghost use Rattle.flat_routes.specs.Images.{IsImage, bases, first_in, found_row, 
 ghost use Rattle.nifazombi_c.specs.Results.{told_error, told_write};
 
 use crate::results::{Span, code_of, length_of};
+use flat_routes::Table;
 use flat_routes::ipv4::{self, Change, Row};
+use radix_keys::Address;
+use std::net::Ipv4Addr;
 
 /// Checks whether bytes are an image of IPv4 networks, in linear time. Returns 0 of an image, and
 /// else why they are none: one of the numbers above; an index that belongs to it is put into `at`.
@@ -31,7 +34,10 @@ pub extern "C" fn nifazombi_ipv4_len(image: &[u8]) -> usize
         → result ≡ length (image_rows of_ipv4 image.now) }
     ensures within { result ≤ row_count image.now }
 {
-    ipv4::len(image)
+    match Table::<Ipv4Addr>::open(image) {
+        Ok(table) => table.len(),
+        Err(_) => 0,
+    }
 }
 
 /// Puts the row at an index into `row`, and returns whether there is one.
@@ -44,10 +50,18 @@ pub extern "C" fn nifazombi_ipv4_row_at(image: &[u8], at: usize, row: &mut Row) 
     ensures link { IsTrue result → row.new.link ≡ link_in of_ipv4 image.now at }
     ensures unchanged { IsFalse result → row.new ≡ row.old }
 {
-    let Some(found) = ipv4::row_at(image, at) else {
+    let Ok(table) = Table::<Ipv4Addr>::open(image) else {
         return false;
     };
-    *row = found;
+    let Some(found) = table.row_at(at) else {
+        return false;
+    };
+    *row = Row {
+        first: found.first.to_bits(),
+        bits: found.bits,
+        link: found.link,
+        value: found.value as u32,
+    };
     true
 }
 
@@ -59,7 +73,10 @@ pub extern "C" fn nifazombi_ipv4_longest_match(image: &[u8], address: u32) -> us
     ensures row { IsImage of_ipv4 image.now → IsLongestRow 32 (λ n. n)
         (image_rows of_ipv4 image.now) address (found_row of_ipv4 image.now result) }
 {
-    match ipv4::longest_match(image, address) {
+    let Ok(table) = Table::open(image) else {
+        return 0;
+    };
+    match table.longest_match(Ipv4Addr::from_number(u128::from(address))) {
         Some(at) => at + 1,
         None => 0,
     }
@@ -124,7 +141,10 @@ pub extern "C" fn nifazombi_ipv4_get(image: &[u8], first: u32, bits: u32) -> usi
         (network first bits) r → ⊥)
         (IsOwnRow (λ n. n) (image_rows of_ipv4 image.now) (network first bits)) }
 {
-    match ipv4::get(image, first, bits) {
+    let Ok(table) = Table::open(image) else {
+        return 0;
+    };
+    match table.get(Ipv4Addr::from_number(u128::from(first)), bits) {
         Some(at) => at + 1,
         None => 0,
     }
@@ -142,7 +162,10 @@ pub extern "C" fn nifazombi_ipv4_below(image: &[u8], first: u32, bits: u32, span
         → take span.new.count (drop span.new.first (image_rows of_ipv4 image.now))
         ≡ filter (is_inside 32 (λ n. n) (network first bits)) (image_rows of_ipv4 image.now) }
 {
-    let (first, count) = ipv4::below(image, first, bits);
+    let (first, count) = match Table::open(image) {
+        Ok(table) => table.below(Ipv4Addr::from_number(u128::from(first)), bits),
+        Err(_) => (0, 0),
+    };
     *span = Span { first, count };
 }
 
@@ -156,7 +179,10 @@ pub extern "C" fn nifazombi_ipv4_above(image: &[u8], at: usize) -> usize
         → IsLongestRow 32 (λ n. n) (take at (image_rows of_ipv4 image.now))
         (first_in of_ipv4 image.now at) (found_row of_ipv4 image.now result) }
 {
-    match ipv4::above(image, at) {
+    let Ok(table) = Table::<Ipv4Addr>::open(image) else {
+        return 0;
+    };
+    match table.above(at) {
         Some(up) => up + 1,
         None => 0,
     }

@@ -11,7 +11,10 @@ ghost use Rattle.flat_routes.specs.Images.{IsImage, bases, first_in, found_row, 
 ghost use Rattle.nifazombi_c.specs.Results.{told_error, told_write};
 
 use crate::results::{Span, code_of, length_of};
+use flat_routes::Table;
 use flat_routes::ipv6::{self, Change, Row};
+use radix_keys::Address;
+use std::net::Ipv6Addr;
 
 /// Checks whether bytes are an image of IPv6 networks, in linear time. Returns 0 of an image, and
 /// else why they are none: one of the numbers above; an index that belongs to it is put into `at`.
@@ -31,7 +34,10 @@ pub extern "C" fn nifazombi_ipv6_len(image: &[u8]) -> usize
         → result ≡ length (image_rows of_ipv6 image.now) }
     ensures within { result ≤ row_count image.now }
 {
-    ipv6::len(image)
+    match Table::<Ipv6Addr>::open(image) {
+        Ok(table) => table.len(),
+        Err(_) => 0,
+    }
 }
 
 /// Puts the row at an index into `row`, and returns whether there is one.
@@ -44,10 +50,18 @@ pub extern "C" fn nifazombi_ipv6_row_at(image: &[u8], at: usize, row: &mut Row) 
     ensures link { IsTrue result → row.new.link ≡ link_in of_ipv6 image.now at }
     ensures unchanged { IsFalse result → row.new ≡ row.old }
 {
-    let Some(found) = ipv6::row_at(image, at) else {
+    let Ok(table) = Table::<Ipv6Addr>::open(image) else {
         return false;
     };
-    *row = found;
+    let Some(found) = table.row_at(at) else {
+        return false;
+    };
+    *row = Row {
+        first: found.first.octets(),
+        bits: found.bits,
+        link: found.link,
+        value: found.value,
+    };
     true
 }
 
@@ -60,7 +74,10 @@ pub extern "C" fn nifazombi_ipv6_longest_match(image: &[u8], address: &[u8; 16])
         (image_rows of_ipv6 image.now) (octet_number address.now)
         (found_row of_ipv6 image.now result) }
 {
-    match ipv6::longest_match(image, u128::from_be_bytes(*address)) {
+    let Ok(table) = Table::open(image) else {
+        return 0;
+    };
+    match table.longest_match(Ipv6Addr::from_number(u128::from_be_bytes(*address))) {
         Some(at) => at + 1,
         None => 0,
     }
@@ -126,7 +143,10 @@ pub extern "C" fn nifazombi_ipv6_get(image: &[u8], first: &[u8; 16], bits: u32) 
         (network (octet_number first.now) bits) r → ⊥)
         (IsOwnRow (λ n. n) (image_rows of_ipv6 image.now) (network (octet_number first.now) bits)) }
 {
-    match ipv6::get(image, u128::from_be_bytes(*first), bits) {
+    let Ok(table) = Table::open(image) else {
+        return 0;
+    };
+    match table.get(Ipv6Addr::from_number(u128::from_be_bytes(*first)), bits) {
         Some(at) => at + 1,
         None => 0,
     }
@@ -145,7 +165,10 @@ pub extern "C" fn nifazombi_ipv6_below(image: &[u8], first: &[u8; 16], bits: u32
         ≡ filter (is_inside 128 (λ n. n) (network (octet_number first.now) bits))
         (image_rows of_ipv6 image.now) }
 {
-    let (first, count) = ipv6::below(image, u128::from_be_bytes(*first), bits);
+    let (first, count) = match Table::open(image) {
+        Ok(table) => table.below(Ipv6Addr::from_number(u128::from_be_bytes(*first)), bits),
+        Err(_) => (0, 0),
+    };
     *span = Span { first, count };
 }
 
@@ -159,7 +182,10 @@ pub extern "C" fn nifazombi_ipv6_above(image: &[u8], at: usize) -> usize
         → IsLongestRow 128 (λ n. n) (take at (image_rows of_ipv6 image.now))
         (first_in of_ipv6 image.now at) (found_row of_ipv6 image.now result) }
 {
-    match ipv6::above(image, at) {
+    let Ok(table) = Table::<Ipv6Addr>::open(image) else {
+        return 0;
+    };
+    match table.above(at) {
         Some(up) => up + 1,
         None => 0,
     }

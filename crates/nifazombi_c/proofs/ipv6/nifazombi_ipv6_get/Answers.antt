@@ -1,16 +1,16 @@
-use Rattle.std.proofs.Common.{ℕ, subst, arith}
-use Rattle.radix_keys.specs.Networks.{Net}
-use Rattle.frozen_routes.specs.Routes.{IsOwnRow}
-use Rattle.flat_routes.specs.Images.{image_rows, network, of_ipv6}
+use Rattle.std.proofs.Common.{rules, ap, arith}
+use Rattle.image_parts.specs.Parts.{row_count}
 use Rattle.image_parts.proofs.ByteLemmas.{u32_fits}
 use Rattle.nifazombi_c.proofs.ipv6.nifazombi_ipv6_get.Goals as goal
 
 pub overflow_add-result : goal.overflow_add-result
 overflow_add-result c =
     let few = u32_fits c.args.image.now 8 c.type_inv.image in
-    record { fits = omega (arith, few, c.in-Some.ensures.within) }
+    let same = ap row_count c.in-Ok.ensures.image in
+    record { fits = omega (arith, few, same, c.in-Some.ensures.within) }
+
+pub returns-in-Some-clause-row : goal.returns-in-Some-clause-row
+returns-in-Some-clause-row c = rw (← c.in-Ok.ensures.image, ← c.from_be_bytes.ensures, ← c.from_number.ensures) (λ image. let own = c.in-Some.ensures.row image in search rules)
 
 pub returns-in-None-clause-row : goal.returns-in-None-clause-row
-returns-in-None-clause-row c = λ image.
-    subst (λ a. (r : Net ℕ × ℕ) → IsOwnRow (λ n. n) (image_rows of_ipv6 c.args.image.now) (network a c.args.bits) r → ⊥) c.from_be_bytes.ensures
-    (c.in-None.ensures.row image)
+returns-in-None-clause-row c = rw (← c.in-Ok.ensures.image, ← c.from_be_bytes.ensures, ← c.from_number.ensures) (λ image. c.in-None.ensures.row image)

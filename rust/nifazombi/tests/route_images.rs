@@ -234,7 +234,9 @@ fn check_tells_what_a_spoilt_byte_breaks() {
         (353, 12, Cell(7)),
     ];
     for (at, byte, error) in SPOILT {
-        assert_eq!(ipv4::check(&spoilt(&stored(), at, byte)), Err(error), "{at} {byte}");
+        let spoilt = spoilt(&stored(), at, byte);
+        assert_eq!(ipv4::check(&spoilt), Err(error), "{at} {byte}");
+        assert_eq!(Table::<Ipv4Addr>::checked(&spoilt).err(), Some(error), "{at} {byte}");
     }
 }
 

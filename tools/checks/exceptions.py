@@ -90,13 +90,16 @@ UNTRIED = {
         "flat_routes": "ipv6::check.Cell ipv6::check.Short ipv6::check.Span ipv6::check.Version ipv6::write.OutOfOrder "
                        "ipv6::write.Short ipv6::merge.OutOfOrder ipv6::merge.Short ipv6::from_image.Image"},
     "it is of another call, whose errors have the same type": {
-        "flat_texts": "check.Span", "flat_tries": "from_image.Shared from_image.Value"},
+        "flat_routes": "Table::open.Cell Table::open.Span", "flat_texts": "check.Span",
+        "flat_tries": "from_image.Shared from_image.Value"},
     "clauses alone tell of it: the call has the tests of its neighbour for numbers": {
         "flat_tries": "to_image_of_values.Odd from_image_of_values.Image from_image_of_values.Key"},
 }
 
 # Labels of exports that say what those of the calls behind them do, which return an index, or a place, or None.
-OTHER_LABELS = {"nifazombi_payload": "found for part", "nifazombi_texts_above": "within for before"}
+OTHER_LABELS = {"nifazombi_payload": "found for part", "nifazombi_texts_above": "within for before",
+                **{f"nifazombi_{of}_len": "within for stored" for of in ("ipv4", "ipv6")},
+                **{f"nifazombi_{of}_row_at": "row for narrow" for of in ("ipv4", "ipv6")}}
 
 # Functions that make an error for memory where no call was refused: a tree of more levels than `usize` counts, which
 # no memory holds; encodings of 2^31 bytes; a network with bits behind its first ones, which there is none of; and what

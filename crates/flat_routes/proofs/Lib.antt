@@ -5,5 +5,3 @@ pub mod IndexLemmas
 pub mod TableLemmas
 pub mod WriteLemmas
 pub mod MergeLemmas
--- The octets of an address, and its number.
-pub mod AddressLemmas

@@ -143,8 +143,8 @@ abbrev pub row6_of : Row6 → Net ℕ × ℕ
 row6_of r = (network (octet_number r.first) r.bits, r.value)
 
 -- a row of either family
-abbrev pub row_of : {A : Type 0} → (A → ℕ) → Route A → Net ℕ × ℕ
-row_of number r = (network (number r.first) r.bits, r.value)
+abbrev pub read_row : {A : Type 0} → (A → ℕ) → Route A → Net ℕ × ℕ
+read_row number r = (network (number r.first) r.bits, r.value)
 
 -- the row whose index and one more is r, or None at 0
 abbrev pub found_row : Bool → List ℕ → ℕ → Option (Net ℕ × ℕ)

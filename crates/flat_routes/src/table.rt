@@ -5,7 +5,7 @@ ghost use Rattle.radix_keys.specs.Networks.{Net};
 ghost use Rattle.frozen_routes.specs.Routes.{AreInFront, IsLongestRow, IsOwnRow, is_inside};
 ghost use Rattle.image_parts.specs.Parts.{row_count};
 ghost use Rattle.flat_routes.specs.Faults.{IsRouteFault};
-ghost use Rattle.flat_routes.specs.Images.{HasHead, IsImage, IsRowPlan, bases, first_in, image_rows, link_in, network, row_in, row_of, sizes, width};
+ghost use Rattle.flat_routes.specs.Images.{HasHead, IsImage, IsRowPlan, bases, first_in, image_rows, link_in, network, read_row, row_in, sizes, width};
 
 use crate::check::{check, check_head};
 use crate::columns::{Rows, Within};
@@ -188,7 +188,7 @@ impl<'a, A: Family> Table<'a, A> {
     #[inline]
     pub fn row_at(&self, at: usize) -> Option<Route<A>>
         ensures row { slice_get (image_rows A.WIDE self.now) at
-            ≡ option_map (row_of A.number) result }
+            ≡ option_map (read_row A.number) result }
         ensures link { IfSome result (λ r. r.link ≡ link_in A.WIDE self.now at) }
         ensures narrow { IfSome result (λ r. A.WIDE ≡ false → r.value < 2 ^ 32) }
     {

@@ -1,12 +1,11 @@
 //! Routing tables.
 
 use crate::family::Address;
-use crate::flat_routes::{ipv4, ipv6};
-use crate::image::payload;
+use crate::flat_routes::{self, Table, ipv4, ipv6};
+use crate::image::{payload, range};
 use crate::{ImageError, WriteError};
 use std::fmt;
 use std::iter::{FusedIterator, successors};
-use std::marker::PhantomData;
 use std::net::{Ipv4Addr, Ipv6Addr};
 use std::ops::Range;
 
@@ -22,6 +21,13 @@ pub struct Route<A> {
     pub bits: u8,
     /// The network's value: a number, or a place in the user's own bytes. Below 2^32 for IPv4.
     pub value: u64,
+}
+
+impl<A: Address> From<flat_routes::Route<A>> for Route<A> {
+    fn from(row: flat_routes::Route<A>) -> Route<A> {
+        // Where the bytes are no image there may be any number of bits.
+        Route::new(row.first, row.bits.try_into().unwrap_or(u8::MAX), row.value)
+    }
 }
 
 impl<A> Route<A> {
@@ -64,12 +70,22 @@ pub struct Change<A> {
 /// # Ok::<(), Box<dyn std::error::Error>>(())
 /// ```
 #[derive(Clone, Copy)]
-pub struct Routes<'a, A> {
+pub struct Routes<'a, A: Address> {
     image: &'a [u8],
     /// What `payload` returns, where the bytes were checked.
     own: Option<&'a [u8]>,
-    family: PhantomData<A>,
+    /// The table, where the bytes were checked.
+    table: Option<Table<'a, A>>,
 }
+
+// In Rattle a struct with a lifetime that contracts see by its model can't be `Copy` yet.
+impl<A: flat_routes::Family> Clone for Table<'_, A> {
+    fn clone(&self) -> Self {
+        *self
+    }
+}
+
+impl<A: flat_routes::Family> Copy for Table<'_, A> {}
 
 impl<'a, A: Address> Routes<'a, A> {
     /// The table in an image, which is checked whole. It takes linear time and allocates nothing.
@@ -78,12 +94,13 @@ impl<'a, A: Address> Routes<'a, A> {
     ///
     /// The bytes are no image of such a table.
     pub fn new(image: &'a [u8]) -> Result<Self, ImageError> {
-        A::check(image)?;
-        Ok(Routes { own: Some(payload(image)), ..Routes::unchecked(image) })
+        let table = Table::checked(image)?;
+        Ok(Routes { image, own: Some(payload(image)), table: Some(table) })
     }
 
-    /// The table in bytes that were checked before. It reads nothing. Whatever the bytes are, each
-    /// call is safe and returns; but what it returns means nothing where they are no image.
+    /// The table in bytes that were checked before. It reads nothing, and each call reads the head
+    /// anew, which `new` does once. Whatever the bytes are, each call is safe and returns; but what
+    /// it returns means nothing where they are no image.
     ///
     /// A struct that keeps its image checks it once, and has its table so:
     ///
@@ -107,12 +124,18 @@ impl<'a, A: Address> Routes<'a, A> {
     /// # Ok::<(), Box<dyn std::error::Error>>(())
     /// ```
     pub const fn unchecked(image: &'a [u8]) -> Self {
-        Routes { image, own: None, family: PhantomData }
+        Routes { image, own: None, table: None }
+    }
+
+    /// The table, which is none where the bytes weren't checked and have no head of one.
+    #[inline]
+    fn table(&self) -> Option<Table<'a, A>> {
+        self.table.or_else(|| Table::open(self.image).ok())
     }
 
     /// The count of routes.
     pub fn len(&self) -> usize {
-        A::len(self.image)
+        self.table().map_or(0, |table| table.len())
     }
 
     /// Whether there is no route.
@@ -123,30 +146,33 @@ impl<'a, A: Address> Routes<'a, A> {
     /// The route of the longest network that holds an address.
     #[inline]
     pub fn longest_match(&self, address: A) -> Option<Route<A>> {
-        self.route_at(self.longest_match_index(address)?)
+        let table = self.table()?;
+        table.row_at(table.longest_match(address)?).map(Route::from)
     }
 
     /// The index of the route that `longest_match` returns.
     #[inline]
     pub fn longest_match_index(&self, address: A) -> Option<usize> {
-        A::longest_match(self.image, address)
+        self.table()?.longest_match(address)
     }
 
     /// The route at an index.
     #[inline]
     pub fn route_at(&self, index: usize) -> Option<Route<A>> {
-        A::route(self.image, index)
+        self.table()?.row_at(index).map(Route::from)
     }
 
     /// The route of this very network.
     pub fn get(&self, network: A, bits: u8) -> Option<Route<A>> {
-        self.route_at(A::get(self.image, network, bits)?)
+        let table = self.table()?;
+        table.row_at(table.get(network, bits.into())?).map(Route::from)
     }
 
     /// The routes of the networks within a network, itself among them, in order. Bits of its
     /// address behind the shared ones don't count.
     pub fn below(&self, network: A, bits: u8) -> Rows<'a, A> {
-        Rows { routes: *self, rest: A::below(self.image, network, bits) }
+        let within = self.table().map(|table| table.below(network, bits.into()));
+        Rows { routes: *self, rest: range(within.unwrap_or_default()) }
     }
 
     /// The routes of all networks that hold an address, the shortest first; from the other end, by
@@ -163,8 +189,8 @@ impl<'a, A: Address> Routes<'a, A> {
     /// # Ok::<(), Box<dyn std::error::Error>>(())
     /// ```
     pub fn common_prefixes(&self, address: A) -> CommonPrefixes<'a, A> {
-        let last = A::longest_match(self.image, address);
-        let left = climb::<A>(self.image, last).take(MOST_AROUND).count();
+        let last = self.longest_match_index(address);
+        let left = self.climb(last).take(MOST_AROUND).count();
         CommonPrefixes { routes: *self, last, left }
     }
 
@@ -172,7 +198,12 @@ impl<'a, A: Address> Routes<'a, A> {
     /// `None` where there is none. It is less than the index, whatever the bytes are.
     #[inline]
     pub fn above(&self, index: usize) -> Option<usize> {
-        A::above(self.image, index)
+        self.table()?.above(index)
+    }
+
+    /// The indices from one up, by the links.
+    fn climb(&self, last: Option<usize>) -> impl Iterator<Item = usize> {
+        successors(last, |at| self.above(*at))
     }
 
     /// All routes, in order.
@@ -334,11 +365,6 @@ impl<A: Address> FusedIterator for Rows<'_, A> {}
 /// The most networks that hold one address: one for each count of bits of an IPv6 address.
 const MOST_AROUND: usize = 129;
 
-/// The indices from one up, by the links.
-fn climb<A: Address>(image: &[u8], last: Option<usize>) -> impl Iterator<Item = usize> {
-    successors(last, |at| A::above(image, *at))
-}
-
 /// The routes of the networks that hold an address, the shortest first. A step from the front takes
 /// the time of as many links as routes are left, and one from the back that of one.
 #[derive(Clone, Debug)]
@@ -356,7 +382,7 @@ impl<A: Address> Iterator for CommonPrefixes<'_, A> {
     #[inline]
     fn next(&mut self) -> Option<Route<A>> {
         self.left = self.left.checked_sub(1)?;
-        let first = climb::<A>(self.routes.image, self.last).nth(self.left)?;
+        let first = self.routes.climb(self.last).nth(self.left)?;
         self.routes.route_at(first)
     }
 

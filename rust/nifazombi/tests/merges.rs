@@ -2,9 +2,10 @@
 mod common;
 
 use common::{Random, flipped};
-use nifazombi::flat_routes::{WriteError, ipv4, ipv6, payload};
+use nifazombi::flat_routes::{self, WriteError, ipv4, ipv6, payload};
 use std::collections::BTreeMap;
 use std::hint::black_box;
+use std::net::{Ipv4Addr, Ipv6Addr};
 use std::time::{Duration, Instant};
 
 /// Networks and values: a network by its first address and its bits.
@@ -12,12 +13,12 @@ type Table<A, V> = BTreeMap<(A, u32), V>;
 
 /// What the calls of a family are, under one name.
 macro_rules! family {
-    ($name:ident, $module:ident, $address:ty, $width:expr, $value:ty, $bytes:expr, $number:expr) => {
+    ($name:ident, $module:ident, $address:ty, $width:expr, $value:ty, $bytes:expr, $family:ty) => {
         mod $name {
             use super::*;
             use $module::{Change, Row};
 
-            fn row(&((first, bits), value): &(($address, u32), $value)) -> Row {
+            pub fn row(&((first, bits), value): &(($address, u32), $value)) -> Row {
                 Row { first: $bytes(first), bits, link: 99, value }
             }
 
@@ -109,9 +110,10 @@ macro_rules! family {
                 }
                 assert!(out.iter().all(|&byte| byte == 0xaa));
                 assert!($module::merge(&image, &changes, b"it", &mut out).is_ok());
-                let rows: Vec<_> = (0..3).map_while(|at| $module::row_at(&out, at)).collect();
+                let table = flat_routes::Table::<$family>::open(&out).unwrap();
+                let rows: Vec<_> = (0..3).map_while(|at| table.row_at(at)).collect();
                 let rows: Vec<_> =
-                    rows.iter().map(|row| ($number(row.first), row.bits, row.value)).collect();
+                    rows.iter().map(|row| (row.first.to_bits(), row.bits, row.value)).collect();
                 assert_eq!(rows, [(0, 1, 3), (top, 1, 3)]);
                 assert_eq!($module::merge_len(&image, usize::MAX, 0), None);
                 assert_eq!($module::merge_len(&image, (1 << 32) - 2, 0), None);
@@ -153,8 +155,8 @@ macro_rules! family {
     };
 }
 
-family!(narrow, ipv4, u32, 32, u32, |first: u32| first, |first: u32| first);
-family!(wide, ipv6, u128, 128, u64, u128::to_be_bytes, u128::from_be_bytes);
+family!(narrow, ipv4, u32, 32, u32, |first: u32| first, Ipv4Addr);
+family!(wide, ipv6, u128, 128, u64, u128::to_be_bytes, Ipv6Addr);
 
 #[test]
 fn ipv4_merge_refuses_a_short_buffer_and_changes_out_of_order() {
@@ -191,7 +193,7 @@ fn time_of_few_changes() {
         (0..100).map(|n| ((n * 40_000_000, 26), (n % 2 == 0).then_some(n))).collect();
     let list: Vec<ipv4::Change> = changed.iter().map(narrow::change).collect();
     let rows: Vec<ipv4::Row> =
-        (0..ipv4::len(&image)).map_while(|at| ipv4::row_at(&image, at)).collect();
+        table.iter().map(|(&network, &value)| narrow::row(&(network, value))).collect();
     let mut out = vec![0; ipv4::merge_len(&image, 100, 0).unwrap()];
     let merged = least(|| ipv4::merge(&image, &list, b"", &mut out).unwrap());
     let wrote = least(|| ipv4::write(&rows, b"", &mut out).unwrap());

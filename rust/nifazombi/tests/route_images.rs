@@ -3,11 +3,11 @@
 mod common;
 
 use common::{bytes_of, image, list, spoilt};
-use nifazombi::flat_routes::{ImageError, TableError, WriteError, ipv4, ipv6, payload};
+use nifazombi::flat_routes::{ImageError, Table, TableError, WriteError, ipv4, ipv6, payload};
 use nifazombi::frozen_routes::FrozenRoutes;
 use nifazombi::radix_keys::Network;
 use nifazombi::rattle_std::alloc::Global;
-use std::net::Ipv6Addr;
+use std::net::{Ipv4Addr, Ipv6Addr};
 
 /// 10.0.0.0/8, 10.0.0.0/16, 10.1.0.0/16, 10.1.2.0/24, 128.0.0.0/2, 192.0.2.0/24 and
 /// 255.255.255.255/32: each by its first address, its bits, the index and one more of the row of
@@ -89,6 +89,33 @@ fn stored_wide() -> Vec<u8> {
     image(b"NZIPV6.2", &[&head[..], rows, WIDE_SPANS.as_flattened(), &cells].concat())
 }
 
+/// The table in an image of IPv4.
+fn table4(image: &[u8]) -> Table<'_, Ipv4Addr> {
+    Table::checked(image).unwrap()
+}
+
+/// The table in one of IPv6.
+fn table6(image: &[u8]) -> Table<'_, Ipv6Addr> {
+    Table::open(image).unwrap()
+}
+
+/// Why bytes have no head of an image of IPv4.
+fn open_error(image: &[u8]) -> Option<ImageError> {
+    Table::<Ipv4Addr>::open(image).err()
+}
+
+#[test]
+fn open_tells_what_is_wrong_with_a_head() {
+    let stored = stored();
+    let told = [&stored[..87], &stored_wide()].map(open_error);
+    assert_eq!(told, [Some(ImageError::Short), Some(ImageError::Mark)]);
+    assert_eq!(open_error(&spoilt(&stored, 7, b'1')), Some(ImageError::Version));
+    assert_eq!(open_error(&spoilt(&stored, 12, 2)), Some(ImageError::Part(2)));
+    // A row that `checked` refuses.
+    let wrong = spoilt(&stored, 141, 0);
+    assert!(open_error(&wrong).is_none() && Table::<Ipv4Addr>::checked(&wrong).is_err());
+}
+
 #[test]
 fn longest_match_in_a_stored_image() {
     const LOOKS: [(u32, Option<usize>); 13] = [
@@ -109,20 +136,22 @@ fn longest_match_in_a_stored_image() {
     let stored = stored();
     assert!(ipv4::is_image(&stored) && !ipv6::is_image(&stored));
     for (address, index) in LOOKS {
-        assert_eq!(ipv4::longest_match(&stored, address), index, "{address:x}");
+        assert_eq!(table4(&stored).longest_match(address.into()), index, "{address:x}");
     }
 }
 
 #[test]
 fn row_at_and_above_in_a_stored_image() {
     let stored = stored();
-    assert_eq!(ipv4::len(&stored), 7);
-    let row = ipv4::row_at(&stored, 3).unwrap();
-    assert_eq!([row.first, row.bits, row.link, row.value], ROWS[3]);
-    assert!(ipv4::row_at(&stored, 7).is_none());
+    let table = table4(&stored);
+    assert!(table.len() == 7 && !table.is_empty() && table.image() == stored);
+    let row = table.row_at(3).unwrap();
+    assert_eq!([row.first.to_bits(), row.bits, row.link], ROWS[3][..3]);
+    assert_eq!(row.value, ROWS[3][3].into());
+    assert!(table.row_at(7).is_none());
     let around = [None, Some(0), Some(0), Some(2), None, None, None, None];
     for (at, up) in around.into_iter().enumerate() {
-        assert_eq!(ipv4::above(&stored, at), up, "{at}");
+        assert_eq!(table.above(at), up, "{at}");
     }
 }
 
@@ -139,16 +168,17 @@ fn longest_match_in_a_stored_image_of_ipv6() {
         (0xffff << 112, Some(0)),
     ];
     let stored = stored_wide();
-    assert!(ipv6::is_image(&stored) && ipv6::len(&stored) == 5);
+    let table = table6(&stored);
+    assert!(ipv6::is_image(&stored) && table.len() == 5);
     for (address, index) in LOOKS {
-        assert_eq!(ipv6::longest_match(&stored, address), index, "{address:x}");
+        assert_eq!(table.longest_match(address.into()), index, "{address:x}");
     }
-    let row = ipv6::row_at(&stored, 4).unwrap();
-    assert_eq!(u128::from_be_bytes(row.first), 0xfe80 << 112);
+    let row = table.row_at(4).unwrap();
+    assert_eq!(row.first.to_bits(), 0xfe80 << 112);
     assert_eq!((row.bits, row.link, row.value), (10, 1, 104));
-    assert_eq!(ipv6::get(&stored, DOCUMENTS, 48), Some(2));
-    assert_eq!([3, 0].map(|at| ipv6::above(&stored, at)), [Some(2), None]);
-    assert_eq!(ipv6::below(&stored, DOCUMENTS, 32), (1, 3));
+    assert_eq!(table.get(DOCUMENTS.into(), 48), Some(2));
+    assert_eq!([3, 0].map(|at| table.above(at)), [Some(2), None]);
+    assert_eq!(table.below(DOCUMENTS.into(), 32), (1, 3));
 }
 
 #[test]
@@ -204,7 +234,9 @@ fn check_tells_what_a_spoilt_byte_breaks() {
         (353, 12, Cell(7)),
     ];
     for (at, byte, error) in SPOILT {
-        assert_eq!(ipv4::check(&spoilt(&stored(), at, byte)), Err(error), "{at} {byte}");
+        let spoilt = spoilt(&stored(), at, byte);
+        assert_eq!(ipv4::check(&spoilt), Err(error), "{at} {byte}");
+        assert_eq!(Table::<Ipv4Addr>::checked(&spoilt).err(), Some(error), "{at} {byte}");
     }
 }
 
@@ -244,11 +276,12 @@ fn payload_is_the_first_part_of_the_users_own() {
 #[test]
 fn get_below_and_longest_matches_in_a_stored_image() {
     let stored = stored();
-    let found = [8, 16, 9].map(|bits| ipv4::get(&stored, 0x0a00_0000, bits));
+    let (table, first) = (table4(&stored), Ipv4Addr::new(10, 0, 0, 0));
+    let found = [8, 16, 9].map(|bits| table.get(first, bits));
     assert_eq!(found, [Some(0), Some(1), None]);
-    assert_eq!(ipv4::below(&stored, 0x0a00_0000, 8), (0, 4));
-    assert_eq!(ipv4::below(&stored, 0x0a00_0000, 15), (1, 3));
-    assert_eq!(ipv4::below(&stored, 0, 0), (0, 7));
+    assert_eq!(table.below(first, 8), (0, 4));
+    assert_eq!(table.below(first, 15), (1, 3));
+    assert_eq!(table.below(Ipv4Addr::UNSPECIFIED, 0), (0, 7));
     let mut found = [9; 4];
     let count = ipv4::longest_matches(&stored, &[0xffff_ffff, 1, 0x0a01_0203], &mut found);
     assert_eq!((count, found), (3, [7, 0, 4, 9]));
@@ -290,12 +323,13 @@ fn write_lays_out_rows_and_a_payload() {
 fn write_of_no_row() {
     let mut out = [0; 120];
     assert_eq!(ipv4::write(&[], b"", &mut out), Ok(120));
-    assert_eq!((ipv4::check(&out), ipv4::len(&out)), (Ok(()), 0));
-    assert_eq!(ipv4::longest_match(&out, 0), None);
+    assert!(ipv4::check(&out) == Ok(()) && table4(&out).is_empty());
+    assert_eq!(table4(&out).longest_match(Ipv4Addr::UNSPECIFIED), None);
     assert_eq!(ipv6::check(&out), Err(ImageError::Mark));
     let mut out = [0; 132];
     assert_eq!(ipv6::write(&[], b"", &mut out), Ok(124));
-    assert_eq!((ipv6::check(&out[..124]), ipv6::longest_match(&out, 0)), (Ok(()), None));
+    assert_eq!(ipv6::check(&out[..124]), Ok(()));
+    assert_eq!(table6(&out).longest_match(Ipv6Addr::UNSPECIFIED), None);
 }
 
 /// The most bytes that so many rows of IPv4 take: those of the head, a row, two spans for each and
@@ -380,7 +414,8 @@ fn write_of_ipv6_rows_of_more_than_64_bits() {
     // Three spans, of whole addresses: up to the host, itself, and behind it.
     let spans = [0, 0, 0, 0, 0, 1, 0, 0, 0x2001_0db8, 1, 2, 0, 0, 0x2001_0db8, 0];
     assert_eq!((&out[44..45], &out[144..]), (&[16][..], &bytes_of(&spans)[..]));
-    let found = [DOCUMENTS, DOCUMENTS + 1, DOCUMENTS + 2].map(|it| ipv6::longest_match(&out, it));
+    let asked = [DOCUMENTS, DOCUMENTS + 1, DOCUMENTS + 2].map(Ipv6Addr::from);
+    let found = asked.map(|address| table6(&out).longest_match(address));
     assert_eq!(found, [None, Some(0), None]);
     assert_eq!(ipv6::check(&spoilt(&out, 44, 4)), Err(ImageError::Part(1)));
 }
@@ -394,10 +429,11 @@ fn write_makes_cells_for_many_rows() {
     assert_eq!(payload(&out), Some((len - 3, 3)));
     // A span for each row and one behind, and cells of 2^10 addresses: what 8 bits leave of 18.
     assert_eq!(len, 112 + 16 * 600 + 8 * 601 + 4 * 151 + 3);
-    for at in 0..600 {
-        assert_eq!(ipv4::longest_match(&out, (at << 8) + 255), Some(at as usize));
+    let table = table4(&out);
+    for at in 0..600u32 {
+        assert_eq!(table.longest_match(((at << 8) + 255).into()), Some(at as usize));
     }
-    assert_eq!(ipv4::longest_match(&out, 600 << 8), None);
+    assert_eq!(table.longest_match((600 << 8).into()), None);
 }
 
 #[test]

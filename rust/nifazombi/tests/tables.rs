@@ -241,13 +241,13 @@ fn new_tells_each_flipped_bit_of_the_rows() {
 
 /// An address as a number.
 trait Number: Address {
-    const BITS: u32;
+    const WIDTH: u32;
     fn of(number: u128) -> Self;
     fn number(self) -> u128;
 }
 
 impl Number for Ipv4Addr {
-    const BITS: u32 = 32;
+    const WIDTH: u32 = 32;
 
     fn of(number: u128) -> Ipv4Addr {
         (number as u32).into()
@@ -259,7 +259,7 @@ impl Number for Ipv4Addr {
 }
 
 impl Number for Ipv6Addr {
-    const BITS: u32 = 128;
+    const WIDTH: u32 = 128;
 
     fn of(number: u128) -> Ipv6Addr {
         number.into()
@@ -272,7 +272,7 @@ impl Number for Ipv6Addr {
 
 /// The first address of the network of so many bits that holds an address.
 fn network_of<A: Number>(address: A, bits: u8) -> A {
-    let first_bits = u128::MAX.checked_shl(A::BITS - u32::from(bits)).unwrap_or(0);
+    let first_bits = u128::MAX.checked_shl(A::WIDTH - u32::from(bits)).unwrap_or(0);
     A::of(address.number() & first_bits)
 }
 
@@ -284,11 +284,11 @@ fn holds<A: Number>(route: &Route<A>, address: A) -> bool {
 fn random_address<A: Number>(random: &mut Random) -> A {
     let near = [0, u128::MAX, 0xc0a8 << 112, 0x2001_0db8 << 96][random.below(4)];
     let number = u128::from(random.next()) << 64 | u128::from(random.next());
-    A::of((near ^ number >> random.below(128)) >> (128 - A::BITS))
+    A::of((near ^ number >> random.below(128)) >> (128 - A::WIDTH))
 }
 
 fn random_bits<A: Number>(random: &mut Random) -> u8 {
-    random.below(A::BITS as usize + 1) as u8
+    random.below(A::WIDTH as usize + 1) as u8
 }
 
 /// So many routes of random networks, or somewhat fewer, in order.

@@ -127,15 +127,19 @@ impl<'a, A: Address> Routes<'a, A> {
         Routes { image, own: None, table: None }
     }
 
-    /// The table, which is none where the bytes weren't checked and have no head of one.
+    /// What a call finds in the table, which is none where the bytes weren't checked and have no
+    /// head of one.
     #[inline]
-    fn table(&self) -> Option<Table<'a, A>> {
-        self.table.or_else(|| Table::open(self.image).ok())
+    fn find<T>(&self, call: impl FnOnce(&Table<'a, A>) -> Option<T>) -> Option<T> {
+        match &self.table {
+            Some(table) => call(table),
+            None => call(&Table::open(self.image).ok()?),
+        }
     }
 
     /// The count of routes.
     pub fn len(&self) -> usize {
-        self.table().map_or(0, |table| table.len())
+        self.find(|table| Some(table.len())).unwrap_or(0)
     }
 
     /// Whether there is no route.
@@ -146,32 +150,30 @@ impl<'a, A: Address> Routes<'a, A> {
     /// The route of the longest network that holds an address.
     #[inline]
     pub fn longest_match(&self, address: A) -> Option<Route<A>> {
-        let table = self.table()?;
-        table.row_at(table.longest_match(address)?).map(Route::from)
+        self.find(|table| table.row_at(table.longest_match(address)?)).map(Route::from)
     }
 
     /// The index of the route that `longest_match` returns.
     #[inline]
     pub fn longest_match_index(&self, address: A) -> Option<usize> {
-        self.table()?.longest_match(address)
+        self.find(|table| table.longest_match(address))
     }
 
     /// The route at an index.
     #[inline]
     pub fn route_at(&self, index: usize) -> Option<Route<A>> {
-        self.table()?.row_at(index).map(Route::from)
+        self.find(|table| table.row_at(index)).map(Route::from)
     }
 
     /// The route of this very network.
     pub fn get(&self, network: A, bits: u8) -> Option<Route<A>> {
-        let table = self.table()?;
-        table.row_at(table.get(network, bits.into())?).map(Route::from)
+        self.find(|table| table.row_at(table.get(network, bits.into())?)).map(Route::from)
     }
 
     /// The routes of the networks within a network, itself among them, in order. Bits of its
     /// address behind the shared ones don't count.
     pub fn below(&self, network: A, bits: u8) -> Rows<'a, A> {
-        let within = self.table().map(|table| table.below(network, bits.into()));
+        let within = self.find(|table| Some(table.below(network, bits.into())));
         Rows { routes: *self, rest: range(within.unwrap_or_default()) }
     }
 
@@ -198,7 +200,7 @@ impl<'a, A: Address> Routes<'a, A> {
     /// `None` where there is none. It is less than the index, whatever the bytes are.
     #[inline]
     pub fn above(&self, index: usize) -> Option<usize> {
-        self.table()?.above(index)
+        self.find(|table| table.above(index))
     }
 
     /// The indices from one up, by the links.

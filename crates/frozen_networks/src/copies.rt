@@ -13,7 +13,8 @@ use std::alloc::Global;
 /// The table of a trie's networks, each with a clone of its value, in linear time but for the
 /// climbs of `FrozenRoutes::from_sorted`. The trie stays as it is.
 ///
-/// Clones of values have to be equal to them.
+/// Clones of values have to be equal to them as a contract sees them: those of numbers are, and
+/// those of values that hold a pointer aren't.
 ///
 /// # Errors
 ///
@@ -69,7 +70,8 @@ fn cloned_rows<A: Address, V: Clone>(
 /// The trie of a table's networks, each with a clone of its value. The table stays as it is. Each
 /// row takes an insertion.
 ///
-/// Clones of values have to be equal to them.
+/// Clones of values have to be equal to them as a contract sees them: those of numbers are, and
+/// those of values that hold a pointer aren't.
 ///
 /// # Errors
 ///

@@ -33,7 +33,9 @@ pub mod texts;
 pub mod ucd_derived;
 pub mod vec;
 
-pub use std::{array, char, cmp, convert, error, fmt, hash, hint, iter, mem, net, num, ops, slice, str};
+pub use std::{
+    array, char, cmp, convert, error, fmt, hash, hint, iter, mem, net, num, ops, slice, str,
+};
 
 /// Rust's `Drop`, for a type that has more to do than to be taken apart.
 pub use std::ops::Drop as RustDrop;

@@ -1,6 +1,7 @@
 //! What is left where memory is refused: for each call, each of its allocations is refused in turn,
 //! and all from each on. It answers `Err`, and leaves what was as it was.
 mod common;
+mod refusing;
 use common::Random;
 use rattle_std::alloc::{AllocError, Global};
 use rattle_std::boxed::Box as Boxed;
@@ -13,107 +14,7 @@ use rattle_std::smallvec::SmallVec;
 use rattle_std::string::{String as Text, ToString};
 use rattle_std::texts::ReplaceIn as _;
 use rattle_std::vec::{CollectIn as _, ToVecIn as _, Vec as List};
-use std::alloc::{GlobalAlloc, Layout, System};
-use std::cell::Cell;
-
-thread_local! {
-    /// How many allocations are granted before one is refused: all, if it is the highest number.
-    static GRANTED: Cell<usize> = const { Cell::new(usize::MAX) };
-    /// Whether all behind that one are refused too.
-    static IS_REST: Cell<bool> = const { Cell::new(false) };
-    /// Whether one was refused.
-    static WAS_REFUSED: Cell<bool> = const { Cell::new(false) };
-}
-
-/// The system's allocator, which refuses what a test says.
-struct Refusing;
-
-impl Refusing {
-    fn refuses() -> bool {
-        let granted = GRANTED.get();
-        if granted > 0 {
-            GRANTED.set(if granted == usize::MAX { granted } else { granted - 1 });
-            return false;
-        }
-        WAS_REFUSED.set(true);
-        GRANTED.set(if IS_REST.get() { 0 } else { usize::MAX });
-        true
-    }
-}
-
-// SAFETY: each call is the system allocator's, with what the caller gave, or returns null, which
-// says that there is no memory. The other calls of the trait go by these.
-unsafe impl GlobalAlloc for Refusing {
-    unsafe fn alloc(&self, layout: Layout) -> *mut u8 {
-        if Refusing::refuses() {
-            return std::ptr::null_mut();
-        }
-        // SAFETY: the caller gives a layout that has a size.
-        unsafe { System.alloc(layout) }
-    }
-    unsafe fn dealloc(&self, place: *mut u8, layout: Layout) {
-        // SAFETY: the caller gives what `alloc` or `realloc` returned, which was the system's.
-        unsafe { System.dealloc(place, layout) }
-    }
-    unsafe fn realloc(&self, place: *mut u8, layout: Layout, size: usize) -> *mut u8 {
-        if Refusing::refuses() {
-            return std::ptr::null_mut();
-        }
-        // SAFETY: the caller gives what `alloc` or `realloc` returned, and a size that isn't zero.
-        unsafe { System.realloc(place, layout, size) }
-    }
-}
-
-#[global_allocator]
-static REFUSING: Refusing = Refusing;
-
-/// After how many allocations one is refused, and whether all behind it are too.
-#[derive(Clone, Copy)]
-struct Refusal {
-    granted: usize,
-    is_rest: bool,
-}
-
-impl Refusal {
-    /// What a call gives, and whether it was refused memory.
-    fn run<R>(self, call: impl FnOnce() -> R) -> (R, bool) {
-        WAS_REFUSED.set(false);
-        IS_REST.set(self.is_rest);
-        GRANTED.set(self.granted);
-        let given = call();
-        GRANTED.set(usize::MAX);
-        (given, WAS_REFUSED.get())
-    }
-    /// What a call gives, which has to be an error where it was refused memory, and only there.
-    fn fails<T, E>(self, call: impl FnOnce() -> Result<T, E>) -> Result<T, E> {
-        let (given, was_refused) = self.run(call);
-        assert_eq!(given.is_err(), was_refused);
-        given
-    }
-}
-
-/// What a call gives that may take no memory.
-fn without_memory<R>(call: impl FnOnce() -> R) -> R {
-    let (given, was_refused) = Refusal { granted: 0, is_rest: true }.run(call);
-    assert!(!was_refused, "it takes no memory");
-    given
-}
-
-/// Runs a check with each allocation refused in turn, and with all from each on, until none is.
-/// Gives how many there are.
-fn each_refused(mut check: impl FnMut(Refusal)) -> usize {
-    for granted in 0..1000 {
-        let mut was_refused = false;
-        for is_rest in [false, true] {
-            check(Refusal { granted, is_rest });
-            was_refused |= WAS_REFUSED.get();
-        }
-        if !was_refused {
-            return granted;
-        }
-    }
-    panic!("there is an end to the allocations");
-}
+use refusing::{Refusal, each_refused, without_memory};
 
 /// The lengths of lists that are grown: about the places where there is no more room.
 const LENGTHS: [usize; 8] = [0, 1, 4, 7, 8, 15, 16, 40];

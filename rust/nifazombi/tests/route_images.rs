@@ -436,6 +436,33 @@ fn write_makes_cells_for_many_rows() {
     assert_eq!(table.longest_match((600 << 8).into()), None);
 }
 
+/// The cells begin with 10.0.0.0, and the last one's block holds all that lies behind.
+#[test]
+fn addresses_in_front_of_the_cells_and_behind_them() {
+    const FOUND: [(u32, u32); 9] = [
+        (0, 0),
+        (0x09ff_ffff, 0),
+        (0x0a00_0000, 1),
+        (0x0a00_01ff, 2),
+        (0x0a02_57ff, 600),
+        (0x0a02_5800, 0),
+        (0x0aff_ffff, 0),
+        (0x8000_0000, 0),
+        (u32::MAX, 0),
+    ];
+    let rows: Vec<_> = (0..600).map(|at| row(0x0a00_0000 + (at << 8), 24, at)).collect();
+    let mut out = vec![0; ipv4::image_len(600, 0).unwrap()];
+    let len = ipv4::write(&rows, b"", &mut out).unwrap();
+    let table = table4(&out[..len]);
+    for (address, found) in FOUND {
+        let index = table.longest_match(address.into());
+        assert_eq!(index, found.checked_sub(1).map(|at| at as usize), "{address:x}");
+    }
+    let mut found = [9; 9];
+    assert_eq!(ipv4::longest_matches(&out[..len], &FOUND.map(|it| it.0), &mut found), 9);
+    assert_eq!(found, FOUND.map(|it| it.1));
+}
+
 #[test]
 fn to_image_and_from_image_of_a_table() {
     let row = |[first, bits, _, value]: [u32; 4]| {

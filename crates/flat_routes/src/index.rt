@@ -180,12 +180,7 @@ fn put_parts(out: &mut [u8], wide: bool, spans: SpanPlan, cells: CellPlan, paylo
 
 /// Puts in all that is behind the rows, and lists it: the spans, the cells, and the user's own
 /// bytes. It returns how many bytes the image takes.
-pub(crate) fn put_index(
-    out: &mut [u8],
-    wide: bool,
-    plan: RowPlan,
-    payload: &[u8],
-) -> usize
+pub(crate) fn put_index(out: &mut [u8], wide: bool, plan: RowPlan, payload: &[u8]) -> usize
     requires plan { IsRowPlan wide out.old plan }
     requires place { plan.rows_at ≡ 112 }
     requires head { IsRowHead wide out.old plan }

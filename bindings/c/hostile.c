@@ -458,8 +458,8 @@ static void try_lengths(void) {
     size_t many = (size_t)1 << 32;
     static const struct {
         size_t rows, cells;
-    } each[] = {{0, 0}, {255, 0}, {256, 1 << 9}, {511, 1 << 9}, {512, 1 << 10}, {(1 << 20) - 1, 1 << 20},
-                {1 << 20, 1 << 21}, {1 << 21, 1 << 21}, {(1u << 31) - 1, 1 << 21}, {1u << 31, 0}, {(1ull << 32) - 1, 0}};
+    } each[] = {{0, 0}, {255, 0}, {256, 1 << 7}, {511, 1 << 7}, {512, 1 << 8}, {(1 << 20) - 1, 1 << 18},
+                {1 << 22, 1 << 21}, {1 << 23, 1 << 21}, {(1u << 31) - 1, 1 << 21}, {1u << 31, 0}, {(1ull << 32) - 1, 0}};
     for (size_t k = 0; k < sizeof each / sizeof *each; k++) {
         size_t n = each[k].rows, cells = 4 * each[k].cells, spans = 2 * n + 1;
         need(nifazombi_ipv4_image_len(n, k) == 112 + 16 * n + 8 * spans + cells + k, "rows of IPv4 have another length");

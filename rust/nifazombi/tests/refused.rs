@@ -1,5 +1,4 @@
 //! Calls that no session makes: each of their allocations is refused in turn, and all from each on.
-#[path = "../../rattle_std/tests/refusing/mod.rs"]
 mod refusing;
 use nifazombi::address_ranges::{RangesError, rows_of_ranges};
 use nifazombi::flat_routes::{TableError, ipv4};

@@ -1,6 +1,7 @@
 //! What is left where memory is refused: for each call, each of its allocations is refused in turn,
 //! and all from each on. It answers `Err`, and leaves what was as it was.
 mod common;
+#[path = "../../nifazombi/tests/refusing/mod.rs"]
 mod refusing;
 use common::Random;
 use rattle_std::alloc::{AllocError, Global};

@@ -51,70 +51,13 @@ static int order4(const nifazombi_ipv4_row *one, const nifazombi_ipv4_row *other
     return (one->bits > other->bits) - (one->bits < other->bits);
 }
 
-// Needs the rows of an image to be those of another one after changes, by a walk over both of these.
-static void need_merged4(const uint8_t *image, size_t len, const nifazombi_ipv4_change *changes, size_t count,
-                         const uint8_t *made, size_t made_len) {
-    nifazombi_ipv4_row row, found;
-    size_t from = 0, to = 0, next = 0;
-    for (;;) {
-        bool is_old = nifazombi_ipv4_row_at(image, len, from, &row);
-        if (!is_old && next == count) break;
-        int order = next == count ? -1 : is_old ? order4(&row, &changes[next].row) : 1;
-        from += order <= 0;
-        if (order >= 0) row = changes[next].row;
-        if (order >= 0 && changes[next++].removes) continue;
-        bool is_there = nifazombi_ipv4_row_at(made, made_len, to++, &found);
-        need(is_there && !order4(&row, &found) && row.value == found.value, "another row is merged");
-    }
-    need(!nifazombi_ipv4_row_at(made, made_len, to, &found), "a row more is merged");
-}
-
-static void need_lengths4(const uint8_t *image, size_t len, size_t count, size_t changes, size_t own) {
-    size_t many = (size_t)1 << 32, most = nifazombi_ipv4_image_len(many - 1, 0) + (1 << 23);
-    need(nifazombi_ipv4_merge_len(image, len, changes, own) == nifazombi_ipv4_image_len(count + changes, own),
-         "another length of what is merged");
-    need(nifazombi_ipv4_merge_len(image, len, many - 1 - count, 0) == most, "what fits has another length");
-    need(!nifazombi_ipv4_merge_len(image, len, many - count, 0), "too many changes have a length");
-    need(!nifazombi_ipv4_merge_len(image, len, 1, SIZE_MAX), "too many bytes have a length");
-}
-
-// Merges changes of the first network, of a row's and of the last one into an image, or into other bytes, of which an
-// image comes too, unless that row's network is none. All of `removes` but 0 says that the network goes.
-static void merge4(const uint8_t *image, size_t len, bool is_image) {
-    nifazombi_ipv4_change changes[3] = {{.row = {.value = 5}}}, last = {.row = {.bits = 32, .value = 6}};
-    memset(&last.row.first, 0xff, sizeof last.row.first);
-    size_t count = nifazombi_ipv4_len(image, len), times = 1, own = draw() % 4, at = SIZE_MAX;
-    nifazombi_ipv4_row *row = &changes[1].row;
-    if (count && nifazombi_ipv4_row_at(image, len, draw() % count, row) && order4(&changes[0].row, row) < 0 &&
-        order4(row, &last.row) < 0)
-        times++, row->value++, row->link = (uint32_t)draw();
-    changes[times++] = last;
-    for (size_t k = 0; k < times; k++) changes[k].removes = draw() % 2 ? 1u << draw() % 32 : 0;
-    if (is_image) need_lengths4(image, len, count, times, own);
-    size_t room = nifazombi_ipv4_merge_len(image, len, times, own);
-    need(room && room <= MOST_MERGED, "another length of a few changes");
-    const uint8_t *payload = (const uint8_t *)"own";
-    uint8_t *out = merged_end - room;
-    memset(out, 0xa5, room);
-    need(nifazombi_ipv4_merge(image, len, changes, times, payload, own, out + 1, room - 1, &at) == NIFAZOMBI_ERROR_SHORT,
-         "a short buffer isn't told");
-    uint32_t wrong = nifazombi_ipv4_merge(image, len, changes, times, payload, own, out, room, &at);
-    need(!wrong || (!is_image && wrong == NIFAZOMBI_ERROR_OUT_OF_ORDER && at == 1), "changes in order aren't merged");
-    size_t made = wrong ? 0 : at;
-    need(made <= room, "more is merged than there is room for");
-    for (size_t k = made; k < room; k++) need(out[k] == 0xa5, "bytes behind what is merged don't stay");
-    add(made);
-    if (!wrong) {
-        nifazombi_span kept = {0, 0};
-        need(!nifazombi_ipv4_check(out, made, &at), "what is merged is no image");
-        need(nifazombi_payload(out, made, &kept) && kept.count == own && !memcmp(out + kept.first, payload, own),
-             "another payload is merged");
-        if (is_image) need_merged4(image, len, changes, times, out, made);
-    }
-    changes[0] = changes[times - 1];
-    need(nifazombi_ipv4_merge(image, len, changes, times, payload, own, out, room, &at) == NIFAZOMBI_ERROR_OUT_OF_ORDER &&
-             at == 1, "a change out of order is merged");
-}
+#define CALL(name) nifazombi_ipv4_##name
+#define OWN(name) name##4
+#define BITS 32
+#include "hostile_merges.h"
+#undef CALL
+#undef OWN
+#undef BITS
 
 static void ask4(const uint8_t *image, size_t len, bool is_searched) {
     size_t at = 0, count = nifazombi_ipv4_len(image, len);
@@ -175,70 +118,13 @@ static int order6(const nifazombi_ipv6_row *one, const nifazombi_ipv6_row *other
     return order ? order : (one->bits > other->bits) - (one->bits < other->bits);
 }
 
-// Needs the rows of an image to be those of another one after changes, by a walk over both of these.
-static void need_merged6(const uint8_t *image, size_t len, const nifazombi_ipv6_change *changes, size_t count,
-                         const uint8_t *made, size_t made_len) {
-    nifazombi_ipv6_row row, found;
-    size_t from = 0, to = 0, next = 0;
-    for (;;) {
-        bool is_old = nifazombi_ipv6_row_at(image, len, from, &row);
-        if (!is_old && next == count) break;
-        int order = next == count ? -1 : is_old ? order6(&row, &changes[next].row) : 1;
-        from += order <= 0;
-        if (order >= 0) row = changes[next].row;
-        if (order >= 0 && changes[next++].removes) continue;
-        bool is_there = nifazombi_ipv6_row_at(made, made_len, to++, &found);
-        need(is_there && !order6(&row, &found) && row.value == found.value, "another row is merged");
-    }
-    need(!nifazombi_ipv6_row_at(made, made_len, to, &found), "a row more is merged");
-}
-
-static void need_lengths6(const uint8_t *image, size_t len, size_t count, size_t changes, size_t own) {
-    size_t many = (size_t)1 << 32, most = nifazombi_ipv6_image_len(many - 1, 0) + (1 << 23);
-    need(nifazombi_ipv6_merge_len(image, len, changes, own) == nifazombi_ipv6_image_len(count + changes, own),
-         "another length of what is merged");
-    need(nifazombi_ipv6_merge_len(image, len, many - 1 - count, 0) == most, "what fits has another length");
-    need(!nifazombi_ipv6_merge_len(image, len, many - count, 0), "too many changes have a length");
-    need(!nifazombi_ipv6_merge_len(image, len, 1, SIZE_MAX), "too many bytes have a length");
-}
-
-// Merges changes of the first network, of a row's and of the last one into an image, or into other bytes, of which an
-// image comes too, unless that row's network is none. All of `removes` but 0 says that the network goes.
-static void merge6(const uint8_t *image, size_t len, bool is_image) {
-    nifazombi_ipv6_change changes[3] = {{.row = {.value = 5}}}, last = {.row = {.bits = 128, .value = 6}};
-    memset(&last.row.first, 0xff, sizeof last.row.first);
-    size_t count = nifazombi_ipv6_len(image, len), times = 1, own = draw() % 4, at = SIZE_MAX;
-    nifazombi_ipv6_row *row = &changes[1].row;
-    if (count && nifazombi_ipv6_row_at(image, len, draw() % count, row) && order6(&changes[0].row, row) < 0 &&
-        order6(row, &last.row) < 0)
-        times++, row->value++, row->link = (uint32_t)draw();
-    changes[times++] = last;
-    for (size_t k = 0; k < times; k++) changes[k].removes = draw() % 2 ? 1u << draw() % 32 : 0;
-    if (is_image) need_lengths6(image, len, count, times, own);
-    size_t room = nifazombi_ipv6_merge_len(image, len, times, own);
-    need(room && room <= MOST_MERGED, "another length of a few changes");
-    const uint8_t *payload = (const uint8_t *)"own";
-    uint8_t *out = merged_end - room;
-    memset(out, 0xa5, room);
-    need(nifazombi_ipv6_merge(image, len, changes, times, payload, own, out + 1, room - 1, &at) == NIFAZOMBI_ERROR_SHORT,
-         "a short buffer isn't told");
-    uint32_t wrong = nifazombi_ipv6_merge(image, len, changes, times, payload, own, out, room, &at);
-    need(!wrong || (!is_image && wrong == NIFAZOMBI_ERROR_OUT_OF_ORDER && at == 1), "changes in order aren't merged");
-    size_t made = wrong ? 0 : at;
-    need(made <= room, "more is merged than there is room for");
-    for (size_t k = made; k < room; k++) need(out[k] == 0xa5, "bytes behind what is merged don't stay");
-    add(made);
-    if (!wrong) {
-        nifazombi_span kept = {0, 0};
-        need(!nifazombi_ipv6_check(out, made, &at), "what is merged is no image");
-        need(nifazombi_payload(out, made, &kept) && kept.count == own && !memcmp(out + kept.first, payload, own),
-             "another payload is merged");
-        if (is_image) need_merged6(image, len, changes, times, out, made);
-    }
-    changes[0] = changes[times - 1];
-    need(nifazombi_ipv6_merge(image, len, changes, times, payload, own, out, room, &at) == NIFAZOMBI_ERROR_OUT_OF_ORDER &&
-             at == 1, "a change out of order is merged");
-}
+#define CALL(name) nifazombi_ipv6_##name
+#define OWN(name) name##6
+#define BITS 128
+#include "hostile_merges.h"
+#undef CALL
+#undef OWN
+#undef BITS
 
 static void ask6(const uint8_t *image, size_t len, bool is_searched) {
     size_t at = 0, count = nifazombi_ipv6_len(image, len);

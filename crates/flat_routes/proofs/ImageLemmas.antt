@@ -6,9 +6,9 @@ use Rattle.std.proofs.lemmas.List.{get_or-take, length-map, length-take-le, take
 use Rattle.radix_keys.specs.Networks.{AgreeIn, IsBase, Net}
 use Rattle.image_parts.specs.Parts.{row_count, u128_in, u32_in}
 use Rattle.image_parts.proofs.ByteLemmas.{length-listed, listed_at, none_past, take_listed}
-use Rattle.frozen_routes.specs.Routes.{AreRising, AreRowsInOrder, IsHolderAt, IsLastHolder, IsLongestRow, base_numbers, bit_counts}
+use Rattle.frozen_routes.specs.Routes.{AreRising, AreRowsInOrder, IsHolderAt, IsLastAround, IsLastHolder, IsLongestAround, IsLongestRow, base_numbers, bit_counts}
 use Rattle.frozen_routes.proofs.RouteLemmas.Blocks.{earlier_le}
-use Rattle.frozen_routes.proofs.RouteLemmas.Rows.{last_is_longest, none_holds, stored_at}
+use Rattle.frozen_routes.proofs.RouteLemmas.Rows.{last_around_is_longest, last_is_longest, none_around, none_holds, stored_at}
 use Rattle.radix_keys.proofs.KeyLemmas.Order.{three_ways}
 use Rattle.sorted_tables.specs.Tables.{IsLastOf}
 use Rattle.image_parts.specs.declared.errors.ImageError.{ImageError}
@@ -16,7 +16,7 @@ use Rattle.image_parts.specs.declared.errors.ImageError.TheVariants.{Short, Mark
 use Rattle.flat_routes.specs.declared.head.RowPlan.{RowPlan}
 use Rattle.flat_routes.specs.Faults.{IsRouteFault, IsRoutePart, family}
 use Rattle.flat_routes.specs.RowLaws.{AreSorted, ordered}
-use Rattle.flat_routes.specs.Images.{AreLinkedTo, IsImage, IsNext, IsRowPlan, bits_in, first_in, bases, found_row, image_rows, link_in, links, network, row_in, sizes, value_in, width}
+use Rattle.flat_routes.specs.Images.{AreLinkedTo, IsImage, IsNext, IsRowPlan, bases, bits_in, first_in, found_row, image_rows, link_in, links, network, row_in, sizes, value_in, width}
 
 -- as many rows as the head says
 pub length-rows : (wide : Bool) (bs : List ℕ) → length (image_rows wide bs) ≡ row_count bs
@@ -171,6 +171,26 @@ longest wide bs a r image last =
     let rows = image_rows wide bs in
     found_longest wide bs rows a r image.rising (λ i l. listed_at (row_in wide bs) (row_count bs) i (omega (arith, l, length-rows wide bs)))
     (subst (λ k. IsLastHolder (width wide) (bases wide bs) (sizes wide bs) k a r) (length-map rows (λ s. s.0.base)) last)
+
+-- the last of some rising networks that holds all of a network is the longest of these
+found_longest_around : (wide : Bool) (bs : List ℕ) (rows : List (Net ℕ × ℕ)) (net : Net ℕ) (r : ℕ) → AreRowsInOrder (width wide) (λ m. m) rows
+    → ((i : ℕ) → i < length rows → slice_get rows i ≡ Some (row_in wide bs i))
+    → IsLastAround (width wide) (base_numbers (λ m. m) rows) (bit_counts rows) (length rows) net.base net.bits r
+    → IsLongestAround (width wide) (λ m. m) rows net (found_row wide bs r)
+found_longest_around wide bs rows net zero rising stored last = none_around (width wide) (λ m. m) rows rising net 0 refl last
+found_longest_around wide bs rows net (suc i) rising stored last =
+    let back : i ≡ suc i - 1 = omega arith in
+    last_around_is_longest (width wide) (λ m. m) rows rising net (suc i) (row_in wide bs i) (omega arith) last
+    (subst (λ k. slice_get rows k ≡ Some (row_in wide bs i)) back (stored i (let le = last.within in omega (arith, le))))
+
+-- the last of all networks that holds all of a network is the longest
+pub longest_around : (wide : Bool) (bs : List ℕ) (net : Net ℕ) (r : ℕ) → IsImage wide bs
+    → IsLastAround (width wide) (bases wide bs) (sizes wide bs) (row_count bs) net.base net.bits r
+    → IsLongestAround (width wide) (λ m. m) (image_rows wide bs) net (found_row wide bs r)
+longest_around wide bs net r image last =
+    let rows = image_rows wide bs in
+    found_longest_around wide bs rows net r image.rising (λ i l. listed_at (row_in wide bs) (row_count bs) i (omega (arith, l, length-rows wide bs)))
+    (subst (λ k. IsLastAround (width wide) (bases wide bs) (sizes wide bs) k net.base net.bits r) (sym (length-rows wide bs)) last)
 
 -- the first n of some rows have their numbers
 pub front_number : {X : Type 0} (f : X → ℕ) (xs : List X) (n k : ℕ) → k < n → get_or (each f (take n xs)) k 0 ≡ get_or (each f xs) k 0

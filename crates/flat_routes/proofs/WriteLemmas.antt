@@ -237,3 +237,9 @@ no_disorder w rows i rising first =
     let inside = first.within in
     first.unsorted (front_rises w rows (i + 1) (omega (arith, inside))
     (λ k l. rising_next w (base_numbers (λ m. m) rows) (bit_counts rows) rising k (omega (arith, l, inside, length-map rows (λ r. r.0.base)))))
+
+-- the number of an item at an index
+pub numbered_at : {N : Type 0} (number : N → ℕ) (xs : List N) (i : ℕ) (x : N) → i < length xs → x ≡ get_or xs i x → get_or (each number xs) i 0 ≡ number x
+numbered_at number [] i x l is = absurd (omega (arith, l))
+numbered_at number (y ∷ ys) zero x l is = ap number (sym is)
+numbered_at number (y ∷ ys) (suc i) x l is = numbered_at number ys i x (omega (arith, l)) is

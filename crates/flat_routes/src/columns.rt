@@ -1,7 +1,6 @@
 //! The rows of an image as columns that are searched.
-ghost use Rattle.std.specs.Prelude.{◌≡◌, ◌↔◌, ◌<◌, ◌≤◌, ℕ, Bool, true, false, IsTrue, slice_index};
-ghost use Rattle.frozen_routes.specs.Routes.{IsLastHolder};
-ghost use Rattle.flat_routes.specs.Images.{IsRowPlan, bases, links, sizes, width};
+ghost use Rattle.std.specs.Prelude.{◌≡◌, ◌<◌, ◌≤◌, slice_index};
+ghost use Rattle.flat_routes.specs.Images.{IsRowPlan, bases, links};
 ghost use Rattle.flat_routes.specs.RowLaws.{FirstRows, IsFrontIn, IsHolderIn};
 
 use crate::head::RowPlan;

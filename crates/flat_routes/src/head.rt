@@ -39,7 +39,7 @@ pub(crate) struct CellPlan {
     pub(crate) low: u128,
 }
 
-/// Where the parts of an image lie.
+/// Where the parts of an image lie, as its head says.
 #[derive(Clone, Copy)]
 pub(crate) struct Plan {
     pub(crate) rows: RowPlan,

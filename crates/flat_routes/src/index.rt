@@ -1,5 +1,5 @@
 //! The spans and the cells of an image are written, where its rows stand.
-ghost use Rattle.std.specs.Prelude.{◌≡◌, ◌+◌, ◌*◌, ◌%◌, ◌^◌, ◌<◌, ◌≤◌, ℕ, IsTrue, false, true, length, slice_index, take};
+ghost use Rattle.std.specs.Prelude.{◌≡◌, ◌+◌, ◌*◌, ◌%◌, ◌^◌, ◌<◌, ◌≤◌, ℕ, IsTrue, false, true, length, take};
 ghost use Rattle.image_parts.specs.Parts.{u32_in};
 ghost use Rattle.flat_routes.specs.Images.{AreCells, AreLinkedTo, AreSpans, AreSpansInside, IsRowPlan, IsSpanOf, answer_of, bases, image_rows, links, low_of, row_size, sizes, start_from, begin_of, start_size, width};
 ghost use Rattle.flat_routes.specs.SpanLaws.{AreStarts};

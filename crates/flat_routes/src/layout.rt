@@ -4,6 +4,7 @@ ghost use Rattle.std.specs.Option.{SomeIff};
 ghost use Rattle.flat_routes.specs.Written.{cell_bits, image_size, most_cells};
 
 use crate::head::{HEAD, size_of_rows};
+use crate::writing::FlatRow;
 
 /// Of how many blocks the cells of so many rows are at most, as a power of two: two less than the
 /// count has binary digits, but at least 7 and at most 21.
@@ -44,12 +45,13 @@ pub(crate) fn most_bytes(wide: bool, rows: usize) -> Option<usize>
     Some(HEAD + size_of_rows(wide, rows) + span * (2 * rows + 1) + 4 * most_cells(rows))
 }
 
-/// How many bytes an image of so many rows takes at most, with so many bytes of the user's own.
-pub(crate) fn image_len(wide: bool, rows: usize, payload: usize) -> Option<usize>
-    ensures { SomeIff result ((rows < 2 ^ 32) × (image_size wide rows payload < 2 ^ 64))
-        (image_size wide rows payload) }
+/// How many bytes the image of so many rows takes at most, with so many bytes of the user's own, or
+/// None of 2^32 rows or more, or where a `usize` doesn't count them.
+pub fn image_len<R: FlatRow>(rows: usize, payload: usize) -> Option<usize>
+    ensures { SomeIff result ((rows < 2 ^ 32) × (image_size R.WIDE rows payload < 2 ^ 64))
+        (image_size R.WIDE rows payload) }
 {
-    let Some(len) = most_bytes(wide, rows) else {
+    let Some(len) = most_bytes(R::WIDE, rows) else {
         return None;
     };
     len.checked_add(payload)

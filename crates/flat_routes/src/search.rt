@@ -2,11 +2,12 @@
 ghost use Rattle.std.specs.Prelude.{◌≡◌, ◌+◌, ◌-◌, ◌/◌, ◌^◌, ◌<◌, ◌≤◌, ℕ, length, slice_index};
 ghost use Rattle.sorted_tables.specs.Tables.{IsPartedAt};
 ghost use Rattle.flat_routes.specs.SpanLaws.{AreCounted, IsCountedBy};
-ghost use Rattle.frozen_routes.specs.Routes.{IsLastHolder, IsLongestRow};
+ghost use Rattle.frozen_routes.specs.Routes.{IsLastAround, IsLastHolder, IsLongestRow};
 ghost use Rattle.flat_routes.specs.Images.{AreLinkedTo, IsImage, IsPlanOf, IsRowPlan, bases, found_row, image_rows, links, sizes, start_in, width};
 
 use crate::columns::Rows;
 use crate::head::{Plan, RowPlan};
+use crate::rows::{bits_at, bits_of, link_at};
 use crate::spans::{Spans, answer_at, cell_at, start_at};
 use crate::turns::Begun;
 use sorted_columns::count_in_front;
@@ -175,6 +176,11 @@ fn answer_before(image: &[u8], wide: bool, plan: Plan, count: usize) -> usize
         (λ k. start_in wide image.now k ≤ a → ⊥) plan.spans.count count
         → IsLongestRow (width wide) (λ n. n) (image_rows wide image.now) a
         (found_row wide image.now result) }
+    ensures last { (a : ℕ) → a < 2 ^ width wide → IsImage wide image.now
+        → IsPartedAt (λ k. start_in wide image.now k ≤ a)
+        (λ k. start_in wide image.now k ≤ a → ⊥) plan.spans.count count
+        → IsLastHolder (width wide) (bases wide image.now) (sizes wide image.now) plan.rows.rows
+        a result }
 {
     if count == 0 {
         return 0;
@@ -224,9 +230,35 @@ pub(crate) fn find(image: &[u8], wide: bool, plan: Plan, number: u128) -> usize
     ensures within { result ≤ plan.rows.rows }
     ensures row { IsImage wide image.now → IsLongestRow (width wide) (λ n. n)
         (image_rows wide image.now) number (found_row wide image.now result) }
+    ensures last { IsImage wide image.now → IsLastHolder (width wide) (bases wide image.now)
+        (sizes wide image.now) plan.rows.rows number result }
 {
     let (from, to) = block_of(image, wide, plan, number);
     let spans = Spans::of(image, wide, plan.spans);
     let count = count_in_front(&spans, &number, from, to);
     answer_before(image, wide, plan, count)
+}
+
+/// The row of the longest network that holds all of another one, by its index and one more, or 0
+/// where none does.
+///
+/// From that of its first address it goes up the links for as long as they have more bits than it.
+/// None has more than an address alone.
+#[inline(always)]
+pub(crate) fn find_around(image: &[u8], wide: bool, plan: Plan, number: u128, bits: u32) -> usize
+    requires plan { IsPlanOf wide image.now plan }
+    requires fits { number < 2 ^ width wide }
+    ensures within { result ≤ plan.rows.rows }
+    ensures last { IsImage wide image.now → IsLastAround (width wide) (bases wide image.now)
+        (sizes wide image.now) plan.rows.rows number bits result }
+{
+    let mut at = find(image, wide, plan, number);
+    'up: while bits < bits_of(wide) && at > 0 && bits_at(image, wide, plan.rows, at - 1) > bits {
+        let link = link_at(image, wide, plan.rows, at - 1) as usize;
+        if link >= at {
+            return 0;
+        }
+        at = link;
+    }
+    at
 }

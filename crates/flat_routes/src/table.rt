@@ -1,51 +1,21 @@
 //! The one reader of images of both families.
-ghost use Rattle.std.specs.Prelude.{◌≡◌, ◌↔◌, ◌+◌, ◌-◌, ◌/◌, ◌^◌, ◌<◌, ◌≤◌, ℕ, Bool, IfErr, IfOk, IfSome, IsNone, IsOk, IsTrue, MatchOption, false, drop, length, option_map, refl, slice_get, take};
+ghost use Rattle.std.specs.Prelude.{◌≡◌, ◌↔◌, ◌+◌, ◌-◌, ◌/◌, ◌^◌, ◌<◌, ◌≤◌, ℕ, IfErr, IfOk, IfSome, IsNone, IsOk, IsTrue, MatchOption, false, drop, length, option_map, slice_get, take, true};
 ghost use Rattle.std.specs.List.{filter};
 ghost use Rattle.radix_keys.specs.Networks.{Net};
-ghost use Rattle.frozen_routes.specs.Routes.{AreInFront, IsLongestRow, IsOwnRow, is_inside};
+ghost use Rattle.frozen_routes.specs.Routes.{AreInFront, IsLongestAround, IsLongestRow, IsOwnRow, is_inside};
 ghost use Rattle.image_parts.specs.Parts.{row_count};
 ghost use Rattle.flat_routes.specs.Faults.{IsRouteFault};
 ghost use Rattle.flat_routes.specs.Images.{HasHead, IsImage, IsRowPlan, bases, first_in, image_rows, link_in, network, read_row, row_in, sizes, width};
 
 use crate::check::{check, check_head};
 use crate::columns::{Rows, Within};
+use crate::family::Family;
 use crate::head::{Plan, RowPlan, plan_of};
 use crate::rows::{bits_at, first_at, first_bits, link_at, value_at};
-use crate::search::find;
+use crate::search::{find, find_around};
 use image_parts::ImageError;
-use radix_keys::Address;
 use sorted_columns::count_in_front;
 use std::marker::{Model, PhantomData};
-use std::net::{Ipv4Addr, Ipv6Addr};
-
-/// A family of addresses, of whose networks there are images: `Ipv4Addr` or `Ipv6Addr`.
-pub trait Family: Address {
-    // Whether it is IPv6.
-    ghost WIDE: { Bool };
-
-    /// Whether it is IPv6.
-    const WIDE: bool;
-
-    ghost wide_bits: { width WIDE ≡ Self.BITS };
-}
-
-impl Family for Ipv4Addr {
-    ghost WIDE = { false };
-
-    const WIDE: bool = false;
-
-    ghost wide_bits = { refl };
-}
-
-impl Family for Ipv6Addr {
-    ghost use Rattle.std.specs.Prelude.{true, refl};
-
-    ghost WIDE = { true };
-
-    const WIDE: bool = true;
-
-    ghost wide_bits = { refl };
-}
 
 /// A row of an image.
 #[derive(Clone, Copy)]
@@ -68,12 +38,12 @@ pub struct Route<A> {
 /// # Examples
 ///
 /// ```
-/// use nifazombi::flat_routes::{Table, ipv4};
+/// use nifazombi::flat_routes::{Table, ipv4, write};
 /// use std::net::Ipv4Addr;
 ///
 /// let mut image = [0u8; 152];
 /// let rows = [ipv4::Row { first: 0x0a00_0000, bits: 8, link: 0, value: 7 }];
-/// assert!(ipv4::write(&rows, &[], &mut image).is_ok());
+/// assert!(write(&rows, &[], &mut image).is_ok());
 /// let table = Table::<Ipv4Addr>::checked(&image)?;
 /// assert_eq!(table.longest_match(Ipv4Addr::new(10, 1, 2, 3)), Some(0));
 /// assert!(table.row_at(0).is_some_and(|row| row.value == 7));
@@ -219,6 +189,21 @@ impl<'a, A: Family> Table<'a, A> {
         find(self.image, A::WIDE, self.plan, address.to_number()).checked_sub(1)
     }
 
+    /// The index of the row of the longest network that holds all of a network, by its first
+    /// address and how many bits its addresses share, or None where none does: the network's own
+    /// row, where there is one, or else that of the network around it.
+    ///
+    /// It takes the time of `longest_match` for its first address, and a step for each longer
+    /// network that holds this.
+    pub fn longest_around(&self, first: A, bits: u32) -> Option<usize>
+        ensures within { IfSome result (λ at. at < row_count self.now) }
+        ensures row { IsImage A.WIDE self.now → IsLongestAround (width A.WIDE) (λ n. n)
+            (image_rows A.WIDE self.now) (network (A.number first) bits)
+            (option_map (row_in A.WIDE self.now) result) }
+    {
+        find_around(self.image, A::WIDE, self.plan, first.to_number(), bits).checked_sub(1)
+    }
+
     /// The index of the row of this very network, by its first address and how many bits its
     /// addresses share, or None where no row is of it. It takes as many comparisons as the count of
     /// rows has binary digits.
@@ -249,6 +234,9 @@ impl<'a, A: Family> Table<'a, A> {
         ensures first { IsImage A.WIDE self.now → AreInFront (width A.WIDE) false bits
             (A.number first / 2 ^ (width A.WIDE - bits)) (bases A.WIDE self.now)
             (sizes A.WIDE self.now) result.0 }
+        ensures behind { IsImage A.WIDE self.now → AreInFront (width A.WIDE) true bits
+            (A.number first / 2 ^ (width A.WIDE - bits)) (bases A.WIDE self.now)
+            (sizes A.WIDE self.now) (result.0 + result.1) }
         ensures rows { IsImage A.WIDE self.now
             → take result.1 (drop result.0 (image_rows A.WIDE self.now))
             ≡ filter (is_inside (width A.WIDE) (λ n. n) (network (A.number first) bits))

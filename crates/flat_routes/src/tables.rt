@@ -9,7 +9,7 @@ ghost use Rattle.flat_routes.specs.Written.{IsImageOf, image_size};
 use crate::check::check;
 use crate::layout::image_len;
 use crate::rows::{bits_at, first_at, value_at};
-use crate::write::{FlatRow, write};
+use crate::writing::{FlatRow, write};
 use image_parts::{ImageError, TableError};
 use radix_keys::Memory;
 use std::alloc::Global;
@@ -36,7 +36,7 @@ pub(crate) fn image_of<R: FlatRow>(
     ensures length { IfOk result (λ image. vec_len image
         ≤ image_size R.WIDE (length rows.now) (length payload.now)) }
 {
-    let Some(len) = image_len(R::WIDE, rows.len(), payload.len()) else {
+    let Some(len) = image_len::<R>(rows.len(), payload.len()) else {
         // No memory has so many bytes.
         return Err(Memory);
     };

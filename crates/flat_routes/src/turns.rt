@@ -1,8 +1,7 @@
 //! Where the longest network changes from one address to the next.
-ghost use Rattle.std.specs.Prelude.{◌≡◌, ◌+◌, ◌-◌, ◌^◌, ◌<◌, ◌≤◌, ℕ, MatchOption, None, Option, Some, length, slice_index};
-ghost use Rattle.radix_keys.specs.Networks.{IsBase};
+ghost use Rattle.std.specs.Prelude.{◌≡◌, ◌+◌, ◌-◌, ◌<◌, ◌≤◌, ℕ, MatchOption, None, Option, Some, slice_index};
 ghost use Rattle.frozen_routes.specs.Routes.{AreUpTo, IsLastHolder};
-ghost use Rattle.flat_routes.specs.Images.{AreLinkedTo, HasNoTurn, IsKnownAt, IsRowPlan, IsTurn, bases, end_of, links, sizes, width};
+ghost use Rattle.flat_routes.specs.Images.{AreLinkedTo, HasNoTurn, IsKnownAt, IsRowPlan, IsTurn, bases, links, sizes, width};
 ghost use Rattle.flat_routes.specs.SpanLaws.{IsEnd, earlier};
 
 use crate::head::RowPlan;

@@ -11,8 +11,8 @@ ghost use Rattle.flat_routes.specs.Images.{IsImage, bases, first_in, found_row, 
 ghost use Rattle.nifazombi_c.specs.Results.{told_error, told_write};
 
 use crate::results::{Span, code_of, length_of};
-use flat_routes::Table;
 use flat_routes::ipv4::{self, Change, Row};
+use flat_routes::{Table, image_len, longest_matches, merge, merge_len, write};
 use radix_keys::Address;
 use std::net::Ipv4Addr;
 
@@ -24,7 +24,7 @@ pub extern "C" fn nifazombi_ipv4_check(image: &[u8], at: &mut usize) -> u32
     ensures fault { (result ≡ 0)
         ⊎ IsSomeAnd (told_error result at.new) (IsRouteFault of_ipv4 image.now) }
 {
-    code_of(ipv4::check(image), at)
+    code_of(Table::<Ipv4Addr>::checked(image), at)
 }
 
 /// The count of rows.
@@ -100,7 +100,7 @@ pub extern "C" fn nifazombi_ipv4_longest_matches(
         → IsLongestRow 32 (λ n. n) (image_rows of_ipv4 image.now) (slice_index addresses.now k)
         (found_row of_ipv4 image.now (slice_index found.new k)) }
 {
-    ipv4::longest_matches(image, addresses, found)
+    longest_matches(image, addresses, found)
 }
 
 /// Looks up addresses as `nifazombi_ipv4_longest_matches` does, and puts for each the value of its
@@ -158,6 +158,9 @@ pub extern "C" fn nifazombi_ipv4_below(image: &[u8], first: u32, bits: u32, span
     ensures first { IsImage of_ipv4 image.now → AreInFront 32 false bits
         (first / 2 ^ (32 - bits)) (bases of_ipv4 image.now) (sizes of_ipv4 image.now)
         span.new.first }
+    ensures behind { IsImage of_ipv4 image.now → AreInFront 32 true bits
+        (first / 2 ^ (32 - bits)) (bases of_ipv4 image.now) (sizes of_ipv4 image.now)
+        (span.new.first + span.new.count) }
     ensures rows { IsImage of_ipv4 image.now
         → take span.new.count (drop span.new.first (image_rows of_ipv4 image.now))
         ≡ filter (is_inside 32 (λ n. n) (network first bits)) (image_rows of_ipv4 image.now) }
@@ -197,7 +200,7 @@ pub extern "C" fn nifazombi_ipv4_image_len(rows: usize, payload: usize) -> usize
     ensures none { (2 ^ 32 ≤ rows) ⊎ (2 ^ 64 ≤ image_size of_ipv4 rows payload)
         → result ≡ 0 }
 {
-    match ipv4::image_len(rows, payload) {
+    match image_len::<Row>(rows, payload) {
         Some(len) => len,
         None => 0,
     }
@@ -228,7 +231,7 @@ pub extern "C" fn nifazombi_ipv4_write(
     ensures change { result ≡ 0 → ChangesWithin 0 at.new out.old out.new }
     ensures unchanged { (result ≡ 0 → ⊥) → out.new ≡ out.old }
 {
-    length_of(ipv4::write(rows, payload, out), at)
+    length_of(write(rows, payload, out), at)
 }
 
 /// How many bytes the image takes at most that so many changes make of one, with so many bytes of
@@ -246,7 +249,7 @@ pub extern "C" fn nifazombi_ipv4_merge_len(image: &[u8], changes: usize, payload
         ≤ merged_size of_ipv4 (length (image_rows of_ipv4 image.now) + changes) payload)
         → result ≡ 0 }
 {
-    match ipv4::merge_len(image, changes, payload) {
+    match merge_len::<Change>(image, changes, payload) {
         Some(len) => len,
         None => 0,
     }
@@ -285,5 +288,5 @@ pub extern "C" fn nifazombi_ipv4_merge(
     ensures change { result ≡ 0 → ChangesWithin 0 at.new out.old out.new }
     ensures unchanged { (result ≡ 0 → ⊥) → out.new ≡ out.old }
 {
-    length_of(ipv4::merge(image, changes, payload, out), at)
+    length_of(merge(image, changes, payload, out), at)
 }

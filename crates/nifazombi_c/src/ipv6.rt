@@ -11,8 +11,8 @@ ghost use Rattle.flat_routes.specs.Images.{IsImage, bases, first_in, found_row, 
 ghost use Rattle.nifazombi_c.specs.Results.{told_error, told_write};
 
 use crate::results::{Span, code_of, length_of};
-use flat_routes::Table;
 use flat_routes::ipv6::{self, Change, Row};
+use flat_routes::{Table, image_len, longest_matches, merge, merge_len, write};
 use radix_keys::Address;
 use std::net::Ipv6Addr;
 
@@ -24,7 +24,7 @@ pub extern "C" fn nifazombi_ipv6_check(image: &[u8], at: &mut usize) -> u32
     ensures fault { (result ≡ 0)
         ⊎ IsSomeAnd (told_error result at.new) (IsRouteFault of_ipv6 image.now) }
 {
-    code_of(ipv6::check(image), at)
+    code_of(Table::<Ipv6Addr>::checked(image), at)
 }
 
 /// The count of rows.
@@ -102,7 +102,7 @@ pub extern "C" fn nifazombi_ipv6_longest_matches(
         (slice_index (each octet_number addresses.now) k)
         (found_row of_ipv6 image.now (slice_index found.new k)) }
 {
-    ipv6::longest_matches(image, addresses, found)
+    longest_matches(image, addresses, found)
 }
 
 /// Looks up addresses as `nifazombi_ipv6_longest_matches` does, and puts for each the value of its
@@ -160,6 +160,9 @@ pub extern "C" fn nifazombi_ipv6_below(image: &[u8], first: &[u8; 16], bits: u32
     ensures first { IsImage of_ipv6 image.now → AreInFront 128 false bits
         (octet_number first.now / 2 ^ (128 - bits)) (bases of_ipv6 image.now) (sizes of_ipv6 image.now)
         span.new.first }
+    ensures behind { IsImage of_ipv6 image.now → AreInFront 128 true bits
+        (octet_number first.now / 2 ^ (128 - bits)) (bases of_ipv6 image.now) (sizes of_ipv6 image.now)
+        (span.new.first + span.new.count) }
     ensures rows { IsImage of_ipv6 image.now
         → take span.new.count (drop span.new.first (image_rows of_ipv6 image.now))
         ≡ filter (is_inside 128 (λ n. n) (network (octet_number first.now) bits))
@@ -200,7 +203,7 @@ pub extern "C" fn nifazombi_ipv6_image_len(rows: usize, payload: usize) -> usize
     ensures none { (2 ^ 32 ≤ rows) ⊎ (2 ^ 64 ≤ image_size of_ipv6 rows payload)
         → result ≡ 0 }
 {
-    match ipv6::image_len(rows, payload) {
+    match image_len::<Row>(rows, payload) {
         Some(len) => len,
         None => 0,
     }
@@ -231,7 +234,7 @@ pub extern "C" fn nifazombi_ipv6_write(
     ensures change { result ≡ 0 → ChangesWithin 0 at.new out.old out.new }
     ensures unchanged { (result ≡ 0 → ⊥) → out.new ≡ out.old }
 {
-    length_of(ipv6::write(rows, payload, out), at)
+    length_of(write(rows, payload, out), at)
 }
 
 /// How many bytes the image takes at most that so many changes make of one, with so many bytes of
@@ -249,7 +252,7 @@ pub extern "C" fn nifazombi_ipv6_merge_len(image: &[u8], changes: usize, payload
         ≤ merged_size of_ipv6 (length (image_rows of_ipv6 image.now) + changes) payload)
         → result ≡ 0 }
 {
-    match ipv6::merge_len(image, changes, payload) {
+    match merge_len::<Change>(image, changes, payload) {
         Some(len) => len,
         None => 0,
     }
@@ -288,5 +291,5 @@ pub extern "C" fn nifazombi_ipv6_merge(
     ensures change { result ≡ 0 → ChangesWithin 0 at.new out.old out.new }
     ensures unchanged { (result ≡ 0 → ⊥) → out.new ≡ out.old }
 {
-    length_of(ipv6::merge(image, changes, payload, out), at)
+    length_of(merge(image, changes, payload, out), at)
 }

@@ -1,5 +1,5 @@
 //! What calls put into their callers' memory, and what the numbers mean that they return.
-ghost use Rattle.std.specs.Prelude.{◌≡◌, ◌↔◌, ◌+◌, ◌≤◌, ℕ, IfErr, IfOk, IsOk, Some, IsFalse, IsTrue, MatchOption, length};
+ghost use Rattle.std.specs.Prelude.{◌≡◌, ◌↔◌, ◌+◌, ◌≤◌, ℕ, IfErr, IfOk, IsOk, Some, IsFalse, IsTrue, length};
 ghost use Rattle.image_parts.specs.Parts.{IsPayload};
 ghost use Rattle.nifazombi_c.specs.Results.{told_error, told_write};
 
@@ -44,12 +44,12 @@ pub struct Span {
 
 /// The number of what a check has found, 0 of an image. Where it tells an index, that is put into
 /// `at`.
-pub(crate) fn code_of(found: Result<(), ImageError>, at: &mut usize) -> u32
+pub(crate) fn code_of<T: Drop>(found: Result<T, ImageError>, at: &mut usize) -> u32
     ensures ok { (result ≡ 0) ↔ IsOk found }
     ensures error { IfErr found (λ e. told_error result at.new ≡ Some e) }
 {
     match found {
-        Ok(()) => 0,
+        Ok(_) => 0,
         Err(ImageError::Short) => NIFAZOMBI_ERROR_SHORT,
         Err(ImageError::Mark) => NIFAZOMBI_ERROR_MARK,
         Err(ImageError::Version) => NIFAZOMBI_ERROR_VERSION,

@@ -10,10 +10,10 @@ unreachable-requires g c =
     let room = length c.deref_mut.result.now in
     let many = length-map given g.R.FlatRow.shown in
     let few = c.in-Some.ensures.0.0 in
-    let fits : image_size c.WIDE.result (length given) size ≤ room = omega (arith, c.in-Some.ensures.1, c.deref_mut.ensures.len, c.in_ok-image.ensures.len) in
+    let fits : image_size g.R.FlatRow.WIDE (length given) size ≤ room = omega (arith, c.in-Some.ensures.1, c.deref_mut.ensures.len, c.in_ok-image.ensures.len) in
     let can : CanWrite g.R.FlatRow.WIDE (each g.R.FlatRow.shown given) size room = record {
       few = omega (arith, few, many);
-      fits = subst (λ n. image_size g.R.FlatRow.WIDE n size ≤ room) (sym many) (subst (λ b. image_size b (length given) size ≤ room) c.WIDE.ensures fits);
+      fits = subst (λ n. image_size g.R.FlatRow.WIDE n size ≤ room) (sym many) fits;
       rising = c.requires;
     } in
     let no = c.in_default-write.ensures.ok.1 can in

@@ -50,7 +50,7 @@ extern "C" {
 
 // A row as it lies in an image, in 16 bytes: a network by its first address and how many bits its
 // addresses share, the index and one more of the row of the network around it, or 0, and the
-// network's value.
+// network's value. Of the link `write` takes no notice.
 typedef struct {
     uint32_t first;
     uint32_t bits;
@@ -65,8 +65,9 @@ typedef struct {
     uint32_t removes;
 } nifazombi_ipv4_change;
 
-// A row: a network by its first address, in network order, and how many bits its addresses share,
-// the index and one more of the row of the network around it, or 0, and the network's value.
+// A row as it lies in an image, in 32 bytes: a network by its first address, in network order, and
+// how many bits its addresses share, the index and one more of the row of the network around it,
+// or 0, and the network's value. Of the link `write` takes no notice.
 typedef struct {
     uint8_t first[16];
     uint32_t bits;

@@ -83,12 +83,9 @@ UNTRIED = {
                       "Trie::from_iter.Full Trie::extend.Full Trie::graft.Full Entry::insert.Full Entry::or_insert.Full "
                       "Entry::or_insert_with.Full SubTrieMut::insert.Full",
         "frozen_trie": "freeze.Full frozen_copy.Full", "frozen_networks": "freeze.Full frozen_copy.Full",
-        "flat_routes": "ipv4::write.Full ipv6::write.Full ipv4::merge.Full ipv6::merge.Full", "flat_texts": "write.Full",
+        "flat_routes": "write.Full merge.Full", "flat_texts": "write.Full",
         "trie_set": "TrieSet::insert.Full"},
     "refused memory alone makes it, which the sessions refused_*.txt try": {"radix_trie": "Trie::merge.Stopped"},
-    "both families have the same body, and tests make it by ipv4": {
-        "flat_routes": "ipv6::check.Cell ipv6::check.Short ipv6::check.Span ipv6::check.Version ipv6::write.OutOfOrder "
-                       "ipv6::write.Short ipv6::merge.OutOfOrder ipv6::merge.Short ipv6::from_image.Image"},
     "it is of another call, whose errors have the same type": {
         "flat_routes": "Table::open.Cell Table::open.Span", "flat_texts": "check.Span",
         "flat_tries": "from_image.Shared from_image.Value"},
@@ -99,6 +96,8 @@ UNTRIED = {
 # Labels of exports that say what those of the calls behind them do, which return an index, or a place, or None.
 OTHER_LABELS = {"nifazombi_payload": "found for part", "nifazombi_texts_above": "within for before",
                 **{f"nifazombi_{of}_len": "within for stored" for of in ("ipv4", "ipv6")},
+                **{f"nifazombi_{of}_check": "image for ok" for of in ("ipv4", "ipv6")},
+                **{f"nifazombi_{of}_{it}": "image for written" for of in ("ipv4", "ipv6") for it in ("write", "merge")},
                 **{f"nifazombi_{of}_row_at": "row for narrow" for of in ("ipv4", "ipv6")}}
 
 # Functions that make an error for memory where no call was refused: a tree of more levels than `usize` counts, which

@@ -1,5 +1,5 @@
 //! Images of IPv4 networks. An address is a number: 192.0.2.1 is 0xc0000201.
-ghost use Rattle.std.specs.Prelude.{◌≡◌, ◌↔◌, ◌⊎◌, ◌<◌, ◌≤◌, ◌+◌, ◌-◌, ◌/◌, ℕ, false, IsFalse, IsSome, IsSomeAnd, IsTrue, MatchOption, drop, length, min, slice_get, slice_index, take, None, Some, ◌^◌, map as each};
+ghost use Rattle.std.specs.Prelude.{◌≡◌, ◌↔◌, ◌⊎◌, ◌<◌, ◌≤◌, ◌+◌, ◌-◌, ◌/◌, ℕ, false, true, IsFalse, IsSome, IsSomeAnd, IsTrue, MatchOption, drop, length, min, slice_get, slice_index, take, None, Some, ◌^◌, map as each};
 ghost use Rattle.std.specs.List.{filter};
 ghost use Rattle.radix_keys.specs.Networks.{Net};
 ghost use Rattle.image_parts.specs.Parts.{HoldsPayload, row_count};

@@ -1,5 +1,5 @@
 //! Images of IPv6 networks. An address is its 16 octets in network order, as in `struct in6_addr`.
-ghost use Rattle.std.specs.Prelude.{◌≡◌, ◌↔◌, ◌⊎◌, ◌<◌, ◌≤◌, ◌+◌, ◌-◌, ◌/◌, ℕ, false, IsFalse, IsSome, IsSomeAnd, IsTrue, MatchOption, None, Some, drop, length, min, slice_get, slice_index, take, map as each, ◌^◌};
+ghost use Rattle.std.specs.Prelude.{◌≡◌, ◌↔◌, ◌⊎◌, ◌<◌, ◌≤◌, ◌+◌, ◌-◌, ◌/◌, ℕ, false, true, IsFalse, IsSome, IsSomeAnd, IsTrue, MatchOption, None, Some, drop, length, min, slice_get, slice_index, take, map as each, ◌^◌};
 ghost use Rattle.std.specs.List.{filter};
 ghost use Rattle.radix_keys.specs.Networks.{Net};
 ghost use Rattle.image_parts.specs.Parts.{HoldsPayload, row_count};

@@ -1,6 +1,6 @@
 //! Routing tables.
 
-use crate::family::Address;
+use crate::family::{self, Address};
 use crate::flat_routes::{self, Table, ipv4, ipv6};
 use crate::image::{payload, range};
 use crate::{ImageError, WriteError};
@@ -235,7 +235,7 @@ impl<'a, A: Address> Routes<'a, A> {
     /// # Ok::<(), Box<dyn std::error::Error>>(())
     /// ```
     pub fn merge(&self, changes: &[Change<A>], payload: &[u8]) -> Result<Vec<u8>, WriteError> {
-        A::merge(self.image, changes, payload)
+        family::merge(self.image, changes, payload)
     }
 
     /// The user's own bytes in the image: those that were passed to [`routes_image`]. In bytes that
@@ -262,7 +262,7 @@ impl Routes<'_, Ipv4Addr> {
     /// ```
     #[inline]
     pub fn longest_matches(&self, addresses: &[u32], found: &mut [u32]) -> usize {
-        ipv4::longest_matches(self.image, addresses, found)
+        flat_routes::longest_matches(self.image, addresses, found)
     }
 
     /// Looks up addresses as `longest_matches` does, and puts for each its value too, or 0 where no
@@ -283,7 +283,7 @@ impl Routes<'_, Ipv6Addr> {
     /// index of its route and one more, or 0, into `found`. Returns how many.
     #[inline]
     pub fn longest_matches(&self, addresses: &[[u8; 16]], found: &mut [u32]) -> usize {
-        ipv6::longest_matches(self.image, addresses, found)
+        flat_routes::longest_matches(self.image, addresses, found)
     }
 
     /// Looks up addresses as `longest_matches` does, and puts for each its value too, or 0 where no
@@ -427,5 +427,5 @@ pub fn routes_image<A: Address>(
     routes: &[Route<A>],
     payload: &[u8],
 ) -> Result<Vec<u8>, WriteError> {
-    A::write(routes, payload)
+    family::write(routes, payload)
 }

@@ -2,7 +2,9 @@
 mod common;
 
 use common::{Random, flipped};
-use nifazombi::flat_routes::{self, WriteError, ipv4, ipv6, payload};
+use nifazombi::flat_routes::{
+    self, ImageError, WriteError, image_len, ipv4, ipv6, merge, merge_len, payload, write,
+};
 use std::collections::BTreeMap;
 use std::hint::black_box;
 use std::net::{Ipv4Addr, Ipv6Addr};
@@ -17,6 +19,10 @@ macro_rules! family {
         mod $name {
             use super::*;
             use $module::{Change, Row};
+
+            fn checked(image: &[u8]) -> Result<(), ImageError> {
+                flat_routes::Table::<$family>::checked(image).map(|_| ())
+            }
 
             pub fn row(&((first, bits), value): &(($address, u32), $value)) -> Row {
                 Row { first: $bytes(first), bits, link: 99, value }
@@ -33,8 +39,8 @@ macro_rules! family {
             pub fn written(table: &Table<$address, $value>, own: &[u8]) -> Vec<u8> {
                 let rows: Vec<Row> =
                     table.iter().map(|(&net, &value)| row(&(net, value))).collect();
-                let mut image = vec![0; $module::image_len(rows.len(), own.len()).unwrap()];
-                let len = $module::write(&rows, own, &mut image).unwrap();
+                let mut image = vec![0; image_len::<Row>(rows.len(), own.len()).unwrap()];
+                let len = write(&rows, own, &mut image).unwrap();
                 image.truncate(len);
                 image
             }
@@ -72,11 +78,11 @@ macro_rules! family {
                     }
                     let list: Vec<Change> = changed.iter().map(change).collect();
                     let own = &b"new"[..random.below(4)];
-                    let room = $module::merge_len(&image, list.len(), own.len()).unwrap();
+                    let room = merge_len::<Change>(&image, list.len(), own.len()).unwrap();
                     let mut out = vec![0xaa; room + random.below(3)];
-                    let len = $module::merge(&image, &list, own, &mut out).unwrap();
+                    let len = merge(&image, &list, own, &mut out).unwrap();
                     assert!(len <= room && out[len..].iter().all(|&byte| byte == 0xaa));
-                    assert_eq!($module::check(&out), Ok(()));
+                    assert_eq!(checked(&out), Ok(()));
                     assert_eq!(payload(&out).map(|(at, len)| &out[at..at + len]), Some(own));
                     assert_eq!(out[..len], written(&table, own), "{round}");
                 }
@@ -92,10 +98,10 @@ macro_rules! family {
                 };
                 let top = 1 << ($width - 1);
                 let changes = [net(0, 1), net(top, 1), net(top, 2)];
-                let room = $module::merge_len(&image, 3, 2).unwrap();
-                assert_eq!(room, $module::image_len(5, 2).unwrap());
+                let room = merge_len::<Change>(&image, 3, 2).unwrap();
+                assert_eq!(room, image_len::<Row>(5, 2).unwrap());
                 let mut out = vec![0xaa; room - 1];
-                let merged = $module::merge(&image, &changes, b"it", &mut out);
+                let merged = merge(&image, &changes, b"it", &mut out);
                 assert_eq!(merged, Err(WriteError::Short));
                 out.push(0xaa);
                 for (wrong, at) in [
@@ -105,20 +111,20 @@ macro_rules! family {
                     (vec![net(1, 2)], 0),
                     (vec![net(0, $width + 1)], 0),
                 ] {
-                    let merged = $module::merge(&image, &wrong, b"it", &mut out);
+                    let merged = merge(&image, &wrong, b"it", &mut out);
                     assert_eq!(merged, Err(WriteError::OutOfOrder(at)));
                 }
                 assert!(out.iter().all(|&byte| byte == 0xaa));
-                assert!($module::merge(&image, &changes, b"it", &mut out).is_ok());
+                assert!(merge(&image, &changes, b"it", &mut out).is_ok());
                 let table = flat_routes::Table::<$family>::open(&out).unwrap();
                 let rows: Vec<_> = (0..3).map_while(|at| table.row_at(at)).collect();
                 let rows: Vec<_> =
                     rows.iter().map(|row| (row.first.to_bits(), row.bits, row.value)).collect();
                 assert_eq!(rows, [(0, 1, 3), (top, 1, 3)]);
-                assert_eq!($module::merge_len(&image, usize::MAX, 0), None);
-                assert_eq!($module::merge_len(&image, (1 << 32) - 2, 0), None);
-                assert!($module::merge_len(&image, (1 << 32) - 3, 0).is_some());
-                assert_eq!($module::merge_len(&image, 2, usize::MAX), None);
+                assert_eq!(merge_len::<Change>(&image, usize::MAX, 0), None);
+                assert_eq!(merge_len::<Change>(&image, (1 << 32) - 2, 0), None);
+                assert!(merge_len::<Change>(&image, (1 << 32) - 3, 0).is_some());
+                assert_eq!(merge_len::<Change>(&image, 2, usize::MAX), None);
             }
 
             #[test]
@@ -132,22 +138,22 @@ macro_rules! family {
                         image = flipped(&image, random.below(8 * image.len()));
                     }
                     let list: Vec<Change> = changes(&mut random, 9).iter().map(change).collect();
-                    let Some(room) = $module::merge_len(&image, list.len(), 2) else {
+                    let Some(room) = merge_len::<Change>(&image, list.len(), 2) else {
                         continue;
                     };
                     if room > 1 << 24 {
                         continue;
                     }
                     let mut out = vec![0xaa; room + 8];
-                    let len = $module::merge(&image, &list, b"it", &mut out).unwrap();
+                    let len = merge(&image, &list, b"it", &mut out).unwrap();
                     assert!(len <= room && out[len..].iter().all(|&byte| byte == 0xaa));
-                    assert_eq!($module::check(&out), Ok(()));
+                    assert_eq!(checked(&out), Ok(()));
                     assert_eq!(payload(&out).map(|(at, len)| &out[at..at + len]), Some(&b"it"[..]));
                 }
                 let list = [Change { row: row(&((0, 1), 4)), removes: 0 }];
                 let mut out = vec![0; 400];
                 for none in [&b""[..], b"NZIPV", &[0xff; 200]] {
-                    let len = $module::merge(none, &list, b"", &mut out).unwrap();
+                    let len = merge(none, &list, b"", &mut out).unwrap();
                     assert_eq!(out[..len], written(&Table::from([((0, 1), 4)]), b""));
                 }
             }
@@ -163,13 +169,13 @@ fn ipv4_merge_refuses_a_short_buffer_and_changes_out_of_order() {
     let row = |first, value| ipv4::Row { first, bits: 8, link: 0, value };
     let change = |first, value| ipv4::Change { row: row(first, value), removes: 0 };
     let mut image = [0; 200];
-    let len = ipv4::write(&[row(0x0a00_0000, 7)], b"", &mut image).unwrap();
+    let len = write(&[row(0x0a00_0000, 7)], b"", &mut image).unwrap();
     let changes = [change(0x0b00_0000, 8), change(0x0a00_0000, 9)];
-    let most = ipv4::merge_len(&image[..len], 2, 0).unwrap();
+    let most = merge_len::<ipv4::Change>(&image[..len], 2, 0).unwrap();
     let mut out = vec![7; most];
-    let short = ipv4::merge(&image[..len], &changes, b"", &mut out[1..]);
+    let short = merge(&image[..len], &changes, b"", &mut out[1..]);
     assert_eq!(short, Err(WriteError::Short));
-    let refused = ipv4::merge(&image[..len], &changes, b"", &mut out);
+    let refused = merge(&image[..len], &changes, b"", &mut out);
     assert_eq!((refused, out), (Err(WriteError::OutOfOrder(1)), vec![7; most]));
 }
 
@@ -194,8 +200,8 @@ fn time_of_few_changes() {
     let list: Vec<ipv4::Change> = changed.iter().map(narrow::change).collect();
     let rows: Vec<ipv4::Row> =
         table.iter().map(|(&network, &value)| narrow::row(&(network, value))).collect();
-    let mut out = vec![0; ipv4::merge_len(&image, 100, 0).unwrap()];
-    let merged = least(|| ipv4::merge(&image, &list, b"", &mut out).unwrap());
-    let wrote = least(|| ipv4::write(&rows, b"", &mut out).unwrap());
+    let mut out = vec![0; merge_len::<ipv4::Change>(&image, 100, 0).unwrap()];
+    let merged = least(|| merge(&image, &list, b"", &mut out).unwrap());
+    let wrote = least(|| write(&rows, b"", &mut out).unwrap());
     println!("merge {merged:?}, write {wrote:?}");
 }

@@ -3,7 +3,10 @@
 mod common;
 
 use common::{bytes_of, image, list, spoilt};
-use nifazombi::flat_routes::{ImageError, Table, TableError, WriteError, ipv4, ipv6, payload};
+use nifazombi::flat_routes::{
+    ImageError, Table, TableError, WriteError, image_len, ipv4, ipv6, longest_matches, payload,
+    write,
+};
 use nifazombi::frozen_routes::FrozenRoutes;
 use nifazombi::radix_keys::Network;
 use nifazombi::rattle_std::alloc::Global;
@@ -99,6 +102,16 @@ fn table6(image: &[u8]) -> Table<'_, Ipv6Addr> {
     Table::open(image).unwrap()
 }
 
+/// What is wrong with bytes that are to be an image of IPv4.
+fn checked4(image: &[u8]) -> Result<(), ImageError> {
+    Table::<Ipv4Addr>::checked(image).map(|_| ())
+}
+
+/// The same of IPv6.
+fn checked6(image: &[u8]) -> Result<(), ImageError> {
+    Table::<Ipv6Addr>::checked(image).map(|_| ())
+}
+
 /// Why bytes have no head of an image of IPv4.
 fn open_error(image: &[u8]) -> Option<ImageError> {
     Table::<Ipv4Addr>::open(image).err()
@@ -134,7 +147,7 @@ fn longest_match_in_a_stored_image() {
         (0xffff_ffff, Some(6)),
     ];
     let stored = stored();
-    assert!(ipv4::is_image(&stored) && !ipv6::is_image(&stored));
+    assert_eq!((checked4(&stored), checked6(&stored)), (Ok(()), Err(ImageError::Mark)));
     for (address, index) in LOOKS {
         assert_eq!(table4(&stored).longest_match(address.into()), index, "{address:x}");
     }
@@ -169,7 +182,7 @@ fn longest_match_in_a_stored_image_of_ipv6() {
     ];
     let stored = stored_wide();
     let table = table6(&stored);
-    assert!(ipv6::is_image(&stored) && table.len() == 5);
+    assert!(checked6(&stored).is_ok() && table.len() == 5);
     for (address, index) in LOOKS {
         assert_eq!(table.longest_match(address.into()), index, "{address:x}");
     }
@@ -235,8 +248,7 @@ fn check_tells_what_a_spoilt_byte_breaks() {
     ];
     for (at, byte, error) in SPOILT {
         let spoilt = spoilt(&stored(), at, byte);
-        assert_eq!(ipv4::check(&spoilt), Err(error), "{at} {byte}");
-        assert_eq!(Table::<Ipv4Addr>::checked(&spoilt).err(), Some(error), "{at} {byte}");
+        assert_eq!(checked4(&spoilt), Err(error), "{at} {byte}");
     }
 }
 
@@ -251,7 +263,7 @@ fn check_tells_where_an_image_is_cut() {
             229..325 => ImageError::Part(1),
             _ => ImageError::Part(2),
         };
-        assert_eq!(ipv4::check(&stored[..end]), Err(error), "{end}");
+        assert_eq!(checked4(&stored[..end]), Err(error), "{end}");
     }
 }
 
@@ -283,7 +295,7 @@ fn get_below_and_longest_matches_in_a_stored_image() {
     assert_eq!(table.below(first, 15), (1, 3));
     assert_eq!(table.below(Ipv4Addr::UNSPECIFIED, 0), (0, 7));
     let mut found = [9; 4];
-    let count = ipv4::longest_matches(&stored, &[0xffff_ffff, 1, 0x0a01_0203], &mut found);
+    let count = longest_matches(&stored, &[0xffff_ffff, 1, 0x0a01_0203], &mut found);
     assert_eq!((count, found), (3, [7, 0, 4, 9]));
 }
 
@@ -309,26 +321,26 @@ fn rows() -> [ipv4::Row; 7] {
 #[test]
 fn write_lays_out_rows_and_a_payload() {
     let mut out = [7; 353];
-    assert_eq!(ipv4::write(&rows(), b"hello", &mut out), Ok(325));
+    assert_eq!(write(&rows(), b"hello", &mut out), Ok(325));
     assert!(out.starts_with(&plain()) && out[325..] == [7; 28]);
     assert_eq!(payload(&out), Some((320, 5)));
-    assert!([&out[..], &out[..325]].iter().all(|it| ipv4::is_image(it)));
-    assert_eq!(ipv4::write(&rows(), b"hello", &mut [0; 348]), Err(WriteError::Short));
+    assert!([&out[..], &out[..325]].iter().all(|it| checked4(it).is_ok()));
+    assert_eq!(write(&rows(), b"hello", &mut [0; 348]), Err(WriteError::Short));
     let mut whole = [0; 344];
-    assert_eq!(ipv4::write(&rows(), b"", &mut whole), Ok(320));
-    assert!(payload(&whole) == Some((320, 0)) && ipv4::is_image(&whole[..320]));
+    assert_eq!(write(&rows(), b"", &mut whole), Ok(320));
+    assert!(payload(&whole) == Some((320, 0)) && checked4(&whole[..320]).is_ok());
 }
 
 #[test]
 fn write_of_no_row() {
     let mut out = [0; 120];
-    assert_eq!(ipv4::write(&[], b"", &mut out), Ok(120));
-    assert!(ipv4::check(&out) == Ok(()) && table4(&out).is_empty());
+    assert_eq!(write::<ipv4::Row>(&[], b"", &mut out), Ok(120));
+    assert!(checked4(&out) == Ok(()) && table4(&out).is_empty());
     assert_eq!(table4(&out).longest_match(Ipv4Addr::UNSPECIFIED), None);
-    assert_eq!(ipv6::check(&out), Err(ImageError::Mark));
+    assert_eq!(checked6(&out), Err(ImageError::Mark));
     let mut out = [0; 132];
-    assert_eq!(ipv6::write(&[], b"", &mut out), Ok(124));
-    assert_eq!(ipv6::check(&out[..124]), Ok(()));
+    assert_eq!(write::<ipv6::Row>(&[], b"", &mut out), Ok(124));
+    assert_eq!(checked6(&out[..124]), Ok(()));
     assert_eq!(table6(&out).longest_match(Ipv6Addr::UNSPECIFIED), None);
 }
 
@@ -355,9 +367,9 @@ fn image_len_by_rows_and_payload() {
         (0, MOST - 119, None),
     ];
     for (rows, own, len) in LENGTHS {
-        assert_eq!(ipv4::image_len(rows, own), len, "{rows} {own}");
+        assert_eq!(image_len::<ipv4::Row>(rows, own), len, "{rows} {own}");
     }
-    assert_eq!(ipv6::image_len(5, 1), Some(493));
+    assert_eq!(image_len::<ipv6::Row>(5, 1), Some(493));
 }
 
 #[test]
@@ -375,7 +387,7 @@ fn write_refuses_rows_out_of_order() {
         let mut rows = rows();
         rows[at] = row(first, bits, 0);
         let refused = Err(WriteError::OutOfOrder(at));
-        assert_eq!(ipv4::write(&rows, b"hello", &mut out), refused, "{at}");
+        assert_eq!(write(&rows, b"hello", &mut out), refused, "{at}");
     }
     assert_eq!(out, [7; 349]);
 }
@@ -394,11 +406,11 @@ fn write_of_ipv6_rows() {
         ipv6::Row { first: u128::to_be_bytes(first), bits, link: 0, value: 100 + at as u64 }
     });
     let mut out = [0; 492];
-    assert_eq!(ipv6::write(&rows, b"", &mut out), Ok(368));
+    assert_eq!(write(&rows, b"", &mut out), Ok(368));
     assert_eq!(out[112..368], stored_wide()[88..344]);
     let addresses = [0, DOCUMENTS + (1 << 64)].map(u128::to_be_bytes);
     let mut found = [9; 2];
-    let count = ipv6::longest_matches(&out, &addresses, &mut found);
+    let count = longest_matches(&out, &addresses, &mut found);
     assert_eq!((count, found), (2, [1, 4]));
     let (mut again, mut values) = ([9; 2], [9; 2]);
     let count = ipv6::longest_values(&out, &addresses, &mut again, &mut values);
@@ -410,22 +422,22 @@ fn write_of_ipv6_rows_of_more_than_64_bits() {
     let host = (DOCUMENTS + 1).to_be_bytes();
     let rows = [ipv6::Row { first: host, bits: 128, link: 0, value: 9 }];
     let mut out = [0; 204];
-    assert_eq!(ipv6::write(&rows, b"", &mut out), Ok(204));
+    assert_eq!(write(&rows, b"", &mut out), Ok(204));
     // Three spans, of whole addresses: up to the host, itself, and behind it.
     let spans = [0, 0, 0, 0, 0, 1, 0, 0, 0x2001_0db8, 1, 2, 0, 0, 0x2001_0db8, 0];
     assert_eq!((&out[44..45], &out[144..]), (&[16][..], &bytes_of(&spans)[..]));
     let asked = [DOCUMENTS, DOCUMENTS + 1, DOCUMENTS + 2].map(Ipv6Addr::from);
     let found = asked.map(|address| table6(&out).longest_match(address));
     assert_eq!(found, [None, Some(0), None]);
-    assert_eq!(ipv6::check(&spoilt(&out, 44, 4)), Err(ImageError::Part(1)));
+    assert_eq!(checked6(&spoilt(&out, 44, 4)), Err(ImageError::Part(1)));
 }
 
 #[test]
 fn write_makes_cells_for_many_rows() {
     let rows: Vec<_> = (0..600).map(|at| row(at << 8, 24, at)).collect();
-    let mut out = vec![0; ipv4::image_len(600, 3).unwrap()];
-    let len = ipv4::write(&rows, b"end", &mut out).unwrap();
-    assert!(ipv4::is_image(&out) && out[..len].ends_with(b"end"));
+    let mut out = vec![0; image_len::<ipv4::Row>(600, 3).unwrap()];
+    let len = write(&rows, b"end", &mut out).unwrap();
+    assert!(checked4(&out).is_ok() && out[..len].ends_with(b"end"));
     assert_eq!(payload(&out), Some((len - 3, 3)));
     // A span for each row and one behind, and cells of 2^10 addresses: what 8 bits leave of 18.
     assert_eq!(len, 112 + 16 * 600 + 8 * 601 + 4 * 151 + 3);
@@ -451,15 +463,15 @@ fn addresses_in_front_of_the_cells_and_behind_them() {
         (u32::MAX, 0),
     ];
     let rows: Vec<_> = (0..600).map(|at| row(0x0a00_0000 + (at << 8), 24, at)).collect();
-    let mut out = vec![0; ipv4::image_len(600, 0).unwrap()];
-    let len = ipv4::write(&rows, b"", &mut out).unwrap();
+    let mut out = vec![0; image_len::<ipv4::Row>(600, 0).unwrap()];
+    let len = write(&rows, b"", &mut out).unwrap();
     let table = table4(&out[..len]);
     for (address, found) in FOUND {
         let index = table.longest_match(address.into());
         assert_eq!(index, found.checked_sub(1).map(|at| at as usize), "{address:x}");
     }
     let mut found = [9; 9];
-    assert_eq!(ipv4::longest_matches(&out[..len], &FOUND.map(|it| it.0), &mut found), 9);
+    assert_eq!(longest_matches(&out[..len], &FOUND.map(|it| it.0), &mut found), 9);
     assert_eq!(found, FOUND.map(|it| it.1));
 }
 
@@ -484,4 +496,6 @@ fn from_image_and_to_image_of_a_table_of_ipv6() {
     assert!(table.len() == 5 && found.is_some_and(|(_, value)| *value == 104));
     let image = ipv6::to_image(Global, &table, b"").unwrap();
     assert_eq!((image.len(), &image[112..]), (368, &stored_wide()[88..344]));
+    let refused = ipv6::from_image(Global, &stored()).err();
+    assert_eq!(refused, Some(TableError::Image(ImageError::Mark)));
 }
